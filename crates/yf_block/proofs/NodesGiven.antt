@@ -1,6 +1,7 @@
 -- What the reader of block nodes answers, from what a run of it gives.
 use Rattle.std.proofs.Common.{◌≡◌, ℕ, ◌<◌, ◌≤◌, ◌^◌, ℤ, pos, ◌+ℤ◌, ◌≤ℤ◌, true, false, List, [], ◌++◌, length, take, Option, Some, None, refl, sym, ap, ◌∙◌, subst, true≢false, arith}
 use Rattle.std.proofs.lemmas.Int.{ints}
+use Rattle.std.proofs.lemmas.Option.{same_Some}
 use Rattle.std.specs.Str.{IsUtf8}
 use Rattle.yf_chars.specs.declared.context.Ctx.{Ctx}
 use Rattle.yf_chars.specs.Chain.{Stuck, Chosen}
@@ -37,9 +38,6 @@ floor_noted : {t : List ℕ} {floor : ℕ} {x y : List Placed} (f : ℕ) → Not
 floor_noted f no_event = refl
 floor_noted f (without_entry {e = e} q r) = floor_noted (floor_behind f e e.event) r
 floor_noted f (with_entry {e = e} entry q s r) = floor_noted (floor_behind f e e.event) r
-
-some_same : {x y : ℕ} → Some x ≡ Some y → x ≡ y
-some_same e = cc
 
 -- the last halt of a run, however it stopped
 pub record RunHalts (t : List ℕ) (d : ℕ) (root : BlockTask) (r : Stopped) : Type 0 where
@@ -100,7 +98,7 @@ module _ {t : List ℕ} {d at : ℕ} {n : ℤ} {c : Ctx} (u : IsUtf8 t) (block :
       → Unfinished t d (Awaited false n c Nothing at)
   run_unfinished {before} {part} {end} {r} a e m = go r.stop a.gives m where
     go : (s : Stop) → StopGives t d (Awaited false n c Nothing at) before s r part → (s ≡ Done end → ⊥) → Unfinished t d (Awaited false n c Nothing at)
-    go (Done p) b m = absurd (m (ap (λ z. Done z) (some_same (sym (done_ends b) ∙ e))))
+    go (Done p) b m = absurd (m (ap (λ z. Done z) (same_Some _ _ (sym (done_ends b) ∙ e))))
     go (Failed p) b m = b.unfinished
     go (TooDeep p) b m = b.unfinished
 

@@ -4,6 +4,7 @@ use Rattle.std.proofs.Common.{◌≡◌, ◌≢◌, ℕ, zero, suc, ◌+◌, ◌
 use Rattle.std.specs.Prelude.{slice_get}
 use Rattle.std.specs.Str.{IsUtf8}
 use Rattle.std.proofs.lemmas.Bool.{cases_eq, cases_lt}
+use Rattle.std.proofs.lemmas.Option.{same_Some}
 use Rattle.yf_chars.specs.Chain.{Many}
 use Rattle.yf_chars.specs.Chain.Chain.{done, step}
 use Rattle.yf_chars.specs.Chain.One.{one}
@@ -185,10 +186,7 @@ pub record LineText (t : List ℕ) (xs : List (List ℕ)) (k : ℕ) (l : Line) :
 nothing_there : (k : ℕ) (l : Line) → slice_get [] k ≡ Some l → ⊥
 nothing_there k l e = cc
 
-some_same : {a b : Line} → Some a ≡ Some b → a ≡ b
-some_same e = cc
-
 pub line_text : {t : List ℕ} {ls : List Line} {xs : List (List ℕ)} (k : ℕ) (l : Line) → LinesAre t ls xs → slice_get ls k ≡ Some l → LineText t xs k l
 line_text k l no_lines e = absurd (nothing_there k l e)
-line_text {t} zero l (more_lines {l = m} {x = x} {xs = xs} a f more) e = subst (λ w. LineText t (x ∷ xs) 0 w) (some_same e) (record { text = x; among = refl; is = a })
+line_text {t} zero l (more_lines {l = m} {x = x} {xs = xs} a f more) e = subst (λ w. LineText t (x ∷ xs) 0 w) (same_Some _ _ e) (record { text = x; among = refl; is = a })
 line_text (suc k) l (more_lines a f more) e = let r = line_text k l more e in record { text = r.text; among = r.among; is = r.is }

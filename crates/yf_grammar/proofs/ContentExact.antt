@@ -1,6 +1,7 @@
 -- A quoted scalar or flow collection is found as it is derived, but for a quoted scalar before a quote.
 use Rattle.std.proofs.Common.{◌≡◌, ℕ, ℤ, suc, ◌+◌, ◌<◌, ◌≤◌, Bool, true, false, ⊎_elim, List, [], Option, Some, None, refl, sym, ap, ◌∙◌, subst, arith, encode_utf8_all}
 use Rattle.std.proofs.lemmas.Bool.{cases_lt}
+use Rattle.std.proofs.lemmas.Option.{same_Some}
 use Rattle.yf_chars.specs.declared.context.Ctx.{Ctx}
 use Rattle.yf_chars.specs.Text.{code}
 use Rattle.yf_lines.specs.Basic.{is_block}
@@ -87,11 +88,8 @@ module _ {t : List ℕ} {c : Ctx} (b : is_block c ≡ false) where
 entries_same : {f : Found} {j h : ℕ} {x : Meaning} (s : Bool) (i : ℕ) (cs : List CommentValue) → EntriesFound (Some f) j h x
     → bracketed s i cs f ≡ found (j + 1) (suc h) true (collection s true i (j + 1) (behind cs x))
 entries_same {f} {j} {h} {x} s i cs a =
-    let e : f ≡ a.answer = some_same a.is in
+    let e : f ≡ a.answer = same_Some _ _ a.is in
     ap (bracketed s i cs) e ∙ bracketed_is s i cs a.answer j h x a.end a.height a.events a.comments a.escapes
-  where
-    some_same : {f g : Found} → Some f ≡ Some g → f ≡ g
-    some_same e = cc
 
 not_none : {j h : ℕ} {x : Meaning} → EntriesFound None j h x → ⊥
 not_none a = none_some a.is where

@@ -1,5 +1,6 @@
 -- Entries of a flow collection, where each entry is found: the reader goes on from one to the next as they are derived.
 use Rattle.std.proofs.Common.{◌≡◌, ℕ, ℤ, max, ◌+◌, Bool, true, false, List, ◌++◌, Option, Some, None, refl, sym, ap, ◌∙◌, subst, arith, append_assoc}
+use Rattle.std.proofs.lemmas.Option.{same_Some}
 use Rattle.yf_chars.specs.declared.context.Ctx.{Ctx}
 use Rattle.yf_chars.specs.Text.{code}
 use Rattle.yf_comments.specs.Comment.{CommentValue}
@@ -9,9 +10,6 @@ use Rattle.yf_grammar.specs.Parser.{Found, found, TheEntries, AnEntry, Parses, G
 use Rattle.yf_grammar.specs.Parser.Parses.{entries_end, entry_missed, entry_last, entry_then, entry_then_missed, entry_unclosed}
 use Rattle.yf_grammar.proofs.GapLemmas.{Visible, gap_is}
 use Rattle.yf_grammar.proofs.ContentExact.{EntriesFound, EntryFound}
-
-some_same : {f g : Found} → Some f ≡ Some g → f ≡ g
-some_same e = cc
 
 none_some : {f : Found} → None ≡ Some f → ⊥
 none_some e = cc
@@ -58,22 +56,22 @@ module _ {t : List ℕ} {n : ℤ} {c : Ctx} where
   last_exact a b f (entry_missed m d) = absurd (none_some (f None d).is)
   last_exact {j = j} {h = h} {y = y} a b f (entry_last {k = k} {cs = cs} {f = r} m d g q) =
       let w = f (Some r) d in
-      let e : w.answer ≡ r = sym (some_same w.is) in
+      let e : w.answer ≡ r = sym (same_Some _ _ w.is) in
       let p = w.rest k cs (subst (λ (v : Found). Gap t n c v.end k cs) (sym e) g) in
       last_found j h y r k cs (ap (λ (v : Found). v.height) (sym e) ∙ w.height) p.0 (ap (λ (v : Found). noting v.meaning cs) (sym e) ∙ p.1)
   last_exact {s = s} a b f (entry_then {k = k} {cs = cs} {f = r} m d g q o z) =
       let w = f (Some r) d in
-      let e : w.answer ≡ r = sym (some_same w.is) in
+      let e : w.answer ≡ r = sym (same_Some _ _ w.is) in
       let p = w.rest k cs (subst (λ (v : Found). Gap t n c v.end k cs) (sym e) g) in
       absurd (closing_not s (sym b ∙ ap (code t) (sym p.0) ∙ q))
   last_exact {s = s} a b f (entry_then_missed {k = k} cs ds {f = r} m d g q o z) =
       let w = f (Some r) d in
-      let e : w.answer ≡ r = sym (some_same w.is) in
+      let e : w.answer ≡ r = sym (same_Some _ _ w.is) in
       let p = w.rest k cs (subst (λ (v : Found). Gap t n c v.end k cs) (sym e) g) in
       absurd (closing_not s (sym b ∙ ap (code t) (sym p.0) ∙ q))
   last_exact a b f (entry_unclosed {k = k} cs {f = r} m d g q o) =
       let w = f (Some r) d in
-      let e : w.answer ≡ r = sym (some_same w.is) in
+      let e : w.answer ≡ r = sym (same_Some _ _ w.is) in
       let p = w.rest k cs (subst (λ (v : Found). Gap t n c v.end k cs) (sym e) g) in
       absurd (q (ap (code t) p.0 ∙ b))
 
@@ -87,16 +85,16 @@ module _ {t : List ℕ} {n : ℤ} {c : Ctx} where
   more_exact a b x v f k (entry_missed m d) = absurd (none_some (f None d).is)
   more_exact {s = s} a b x v f k (entry_last {k = p} {cs = cs} {f = r} m d u q) =
       let w = f (Some r) d in
-      let e : w.answer ≡ r = sym (some_same w.is) in
+      let e : w.answer ≡ r = sym (same_Some _ _ w.is) in
       let same = w.rest p cs (subst (λ (v : Found). Gap t n c v.end p cs) (sym e) u) in
       absurd (closing_not s (sym q ∙ ap (code t) same.0 ∙ b))
   more_exact {e = d} {j = j} {l = l} {m = m} {h = h} {g = g} {s = s} {y = y} {z = z} {ds = ds} a b x v f k (entry_then {k = p} {m = q} {cs = cs} {ds = es} {f = r} {g = last} a' d' u c' o' z') =
       let w = f (Some r) d' in
-      let e : w.answer ≡ r = sym (some_same w.is) in
+      let e : w.answer ≡ r = sym (same_Some _ _ w.is) in
       let same = w.rest p cs (subst (λ (v : Found). Gap t n c v.end p cs) (sym e) u) in
       let next = gap_is v x (subst (λ v. Gap t n c (v + 1) q es) same.0 o') in
       let others = k (Some last) (subst (λ v. Parses t d (TheEntries s n c v) (Some last)) next.0 z') in
-      let e' : others.answer ≡ last = sym (some_same others.is) in
+      let e' : others.answer ≡ last = sym (same_Some _ _ others.is) in
       subst (λ v. EntriesFound (joined r (cs ++ v) last) j (max h g) (noting y ds ⊕ z)) (sym next.1)
       (joined_found j h g y z r last cs ds (ap (λ (v : Found). v.height) (sym e) ∙ w.height) (ap (λ (v : Found). v.height) (sym e') ∙ others.height)
       (ap (λ (v : Found). v.end) (sym e') ∙ others.end) (ap (λ (v : Found). noting v.meaning cs) (sym e) ∙ same.1)
@@ -104,12 +102,12 @@ module _ {t : List ℕ} {n : ℤ} {c : Ctx} where
       (ap (λ (v : Found). v.meaning.escapes) (sym e') ∙ others.escapes))
   more_exact {e = d} {s = s} a b x v f k (entry_then_missed {k = p} {m = q} cs es {f = r} a' d' u c' o' z') =
       let w = f (Some r) d' in
-      let e : w.answer ≡ r = sym (some_same w.is) in
+      let e : w.answer ≡ r = sym (same_Some _ _ w.is) in
       let same = w.rest p cs (subst (λ (v : Found). Gap t n c v.end p cs) (sym e) u) in
       let next = gap_is v x (subst (λ v. Gap t n c (v + 1) q es) same.0 o') in
       absurd (none_some (k None (subst (λ v. Parses t d (TheEntries s n c v) None) next.0 z')).is)
   more_exact a b x v f k (entry_unclosed {k = p} cs {f = r} m d u q o) =
       let w = f (Some r) d in
-      let e : w.answer ≡ r = sym (some_same w.is) in
+      let e : w.answer ≡ r = sym (same_Some _ _ w.is) in
       let same = w.rest p cs (subst (λ (v : Found). Gap t n c v.end p cs) (sym e) u) in
       absurd (o (ap (code t) same.0 ∙ b))

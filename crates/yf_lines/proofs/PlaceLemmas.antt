@@ -2,7 +2,7 @@
 use Rattle.std.proofs.Common.{◌≡◌, ◌≢◌, ℕ, ◌+◌, ◌-◌, ◌<◌, ◌≤◌, true, List, [], ◌∷◌, ◌++◌, length, get_or, take, drop, Some, refl, sym, ap, ◌∙◌, subst, ⊎_elim, arith, true≢false, append_assoc, append-nil, length-append, length-drop, take-append-drop}
 use Rattle.std.proofs.lemmas.Bool.{cases_lt, cases_eq, lt-ltb}
 use Rattle.std.proofs.lemmas.List.{length-take-le}
-use Rattle.std.proofs.lemmas.Option.{slice_get-get_or, slice_get_within}
+use Rattle.std.proofs.lemmas.Option.{same_Some, slice_get-get_or, slice_get_within}
 use Rattle.std.proofs.lemmas.Str as S
 use Rattle.std.proofs.lemmas.Str.{length-encode}
 use Rattle.std.specs.List.{slice_get}
@@ -25,7 +25,7 @@ use Rattle.yf_lines.specs.Lines.PlaceOf.{in_line, behind_lines}
 use Rattle.yf_lines.proofs.BasicLemmas.{break_end, break_forward}
 use Rattle.yf_lines.proofs.LineLemmas.{end_within, lines_unique}
 use Rattle.yf_lines.proofs.MarkLemmas.{marks_unique, ends_by_break}
-use Rattle.yf_lines.proofs.TableLemmas.{Follow, follow, line_at, line_before, some_same}
+use Rattle.yf_lines.proofs.TableLemmas.{Follow, follow, line_at, line_before}
 
 -- no character begins inside of another
 first_part : (c n : ℕ) (rest cs : List ℕ) (xs : List ℕ) → xs ≡ encode c ++ rest → encodes cs ≡ take n xs → 0 < n → n ≤ length xs → length (encode c) ≤ n
@@ -173,7 +173,7 @@ same_held : (t : List ℕ) (o : ℕ) (ls ms : List Line) (k m c d : ℕ) (l n : 
 same_held t o ls ms k m c d l n a b e f p q x y =
     let g : slice_get ls m ≡ Some n = ap (λ w. slice_get w m) (lines_unique t ls ms a b) ∙ f in
     let i : k ≡ m = same_index t ls o a k m l n e g p q in
-    let same : l ≡ n = some_same (sym e ∙ ap (λ w. slice_get ls w) i ∙ g) in
+    let same : l ≡ n = same_Some _ _ (sym e ∙ ap (λ w. slice_get ls w) i ∙ g) in
     (ap (λ w. w + 1) i, column_unique x (subst (λ (w : Line). ColumnOf t w.start o d) (sym same) y))
 
 pub place_unique : {t : List ℕ} {o a b c d : ℕ} → PlaceOf t o a b → PlaceOf t o c d → (a ≡ c) × (b ≡ d)

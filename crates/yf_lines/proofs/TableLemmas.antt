@@ -1,7 +1,7 @@
 -- Laws of the list of a text's lines: the line at an index, and how the lines lie.
 use Rattle.std.proofs.Common.{◌≡◌, ℕ, zero, suc, ◌+◌, ◌<◌, ◌≤◌, List, [], ◌∷◌, ◌++◌, length, Some, refl, sym, ap, subst, inl, inr, ◌⊎◌, ⊎_elim, arith, get_or}
 use Rattle.std.proofs.lemmas.Bool.{cases_lt}
-use Rattle.std.proofs.lemmas.Option.{slice_get-get_or}
+use Rattle.std.proofs.lemmas.Option.{same_Some, slice_get-get_or}
 use Rattle.std.proofs.lemmas.Str.{IsCharBoundary-start}
 use Rattle.std.specs.List.{slice_get}
 use Rattle.std.specs.List.Sorted.{IsNonDecreasingBy}
@@ -40,9 +40,6 @@ pub record LineAt (t : List ℕ) (i j : ℕ) (ls : List Line) (k : ℕ) (l : Lin
   pub first : k ≡ 0 → l.start ≡ i
   pub last : k + 1 ≡ length ls → l.next ≡ j
 
-pub some_same : {a b : Line} → Some a ≡ Some b → a ≡ b
-some_same e = cc
-
 nothing_there : (k : ℕ) (l : Line) → slice_get [] k ≡ Some l → ⊥
 nothing_there k l e = cc
 
@@ -53,7 +50,7 @@ last_end t (l ∷ ls) i j f e = absurd (omega (arith, e))
 pub line_at : (t : List ℕ) (ls : List Line) (i j k : ℕ) (l : Line) → Follow t i j ls → slice_get ls k ≡ Some l → LineAt t i j ls k l
 line_at t [] i j k l f e = absurd (nothing_there k l e)
 line_at t (m ∷ ls) i j zero l f e =
-    let q : m ≡ l = some_same e in
+    let q : m ≡ l = same_Some _ _ e in
     subst (λ w. LineAt t i j (m ∷ ls) 0 w) q (record {
       made = f.1;
       from = omega (arith, f.0);
@@ -79,7 +76,7 @@ line_before t [] i j k m a b f e g l = absurd (nothing_there k a e)
 line_before t (c ∷ ls) i j k zero a b f e g l = absurd (omega arith)
 line_before t (c ∷ ls) i j zero (suc m) a b f e g l =
     let r : LineAt t c.next j ls m b = line_at t ls c.next j m b f.2 g in
-    let q : c ≡ a = some_same e in
+    let q : c ≡ a = same_Some _ _ e in
     let n : c.next ≡ a.next = ap (λ w. w.next) q in
     (omega (arith, r.from), λ h. let s = r.first (omega arith) in omega arith)
 line_before t (c ∷ ls) i j (suc k) (suc m) a b f e g l =
@@ -102,7 +99,7 @@ starts_ascend t ls a k m d o w =
 follow_cut : (t : List ℕ) (ls : List Line) (i j k : ℕ) (l : Line) → IsUtf8 t → IsCharBoundary t i → Follow t i j ls → slice_get ls k ≡ Some l → IsCutAt t l
 follow_cut t [] i j k l u b f e = absurd (nothing_there k l e)
 follow_cut t (m ∷ ls) i j zero l u b f e =
-    subst (λ w. IsCutAt t w) (some_same e) (line_cut t m u f.1 (subst (λ w. IsCharBoundary t w) (sym f.0) b))
+    subst (λ w. IsCutAt t w) (same_Some _ _ e) (line_cut t m u f.1 (subst (λ w. IsCharBoundary t w) (sym f.0) b))
 follow_cut t (m ∷ ls) i j (suc k) l u b f e =
     let c = line_cut t m u f.1 (subst (λ w. IsCharBoundary t w) (sym f.0) b) in
     follow_cut t ls m.next j k l u c.next f.2 e
@@ -124,7 +121,7 @@ start_of_line t i l m e (inr s) = let o = m.order in let w = end_within m.ends i
 
 follow_start : (t : List ℕ) (ls : List Line) (i j k : ℕ) (l : Line) → (LineStart t i) ⊎ (length t ≤ i) → Follow t i j ls → slice_get ls k ≡ Some l → LineStart t l.start
 follow_start t [] i j k l s f e = absurd (nothing_there k l e)
-follow_start t (m ∷ ls) i j zero l s f e = subst (λ w. LineStart t w.start) (some_same e) (start_of_line t i m f.1 f.0 s)
+follow_start t (m ∷ ls) i j zero l s f e = subst (λ w. LineStart t w.start) (same_Some _ _ e) (start_of_line t i m f.1 f.0 s)
 follow_start t (m ∷ ls) i j (suc k) l s f e = follow_start t ls m.next j k l (next_start f.1.ends) f.2 e
 
 pub table_start : (t : List ℕ) (ls : List Line) (k : ℕ) (l : Line) → AreLines t ls → slice_get ls k ≡ Some l → LineStart t l.start

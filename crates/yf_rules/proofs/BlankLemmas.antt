@@ -3,7 +3,7 @@ use Rattle.std.proofs.Common.{◌≡◌, ◌≢◌, ℕ, ◌+◌, ◌-◌, ◌<�
 use Rattle.std.specs.Prelude.{slice_get, IfSome, MatchBool}
 use Rattle.std.proofs.lemmas.Bool.{cases_Bool, cases_lt, cases_eq}
 use Rattle.std.proofs.lemmas.List.{get_or-set_same, get_or-set_other, get_or_past, length-map, length-set}
-use Rattle.std.proofs.lemmas.Option.{slice_get_cases, slice_get_within, slice_get-get_or}
+use Rattle.std.proofs.lemmas.Option.{same_Some, slice_get_cases, slice_get_within, slice_get-get_or}
 use Rattle.yf_emit.specs.ContentStart.{content_start}
 use Rattle.yf_events.specs.Event.{scalar_node}
 use Rattle.yf_events.specs.Reading.{events_of}
@@ -14,7 +14,7 @@ use Rattle.yf_events.specs.declared.event.Span.{Span}
 use Rattle.yf_events.specs.declared.lists.Lists.{Lists}
 use Rattle.yf_lines.specs.declared.line.Line.{Line}
 use Rattle.yf_lines.specs.Lines.{AreLines, Begun, IsForbiddenLine, Table}
-use Rattle.yf_lines.proofs.TableLemmas.{follow, line_before, some_same}
+use Rattle.yf_lines.proofs.TableLemmas.{follow, line_before}
 use Rattle.yf_props.specs.Props.{PropsValue}
 use Rattle.yf_rules.specs.BlankLines.{DirectiveIn, DirectiveOf, HasOffset, IsBlank, MarkerOf, MisplacedBlank, ScalarLine, WrongPlace}
 use Rattle.yf_rules.specs.BlankLines.DirectiveIn.{is_directive}
@@ -92,7 +92,7 @@ pub no_line_holds : (src : Table) (old : List Bool) (offset begun : ℕ) (l : Li
 no_line_holds src old offset begun l a w b e h = none_noted old (HasOffset src offset) (λ k q.
     let z = last_begun src offset begun k a w b q in
     let j : k ≡ begun - 1 = omega (arith, z) in
-    let same : q.line ≡ l = some_same (sym q.at ∙ subst (λ m. slice_get src.lines m ≡ Some l) (sym j) e) in
+    let same : q.line ≡ l = same_Some _ _ (sym q.at ∙ subst (λ m. slice_get src.lines m ≡ Some l) (sym j) e) in
     let x = ap (λ (v : Line). v.next) same in
     let t = q.to in
     omega (arith, x, t, h))
@@ -154,7 +154,7 @@ pub blank_unless : (src : Table) (k : ℕ) (b : Bool) (l : Line) → b ≡ false
 blank_unless src k b l e f w = subst (BlankUnless src k) (sym e) (is_white f w)
 
 unless_parts : {src : Table} {k : ℕ} {b : Bool} (l : Line) → slice_get src.lines k ≡ Some l → BlankUnless src k b → (b ≡ false) × WhitesEnd src.text l.start l.end l.start
-unless_parts {src} l e (is_white {l = m} f w) = (refl, subst (λ (x : Line). WhitesEnd src.text x.start x.end x.start) (some_same (sym f ∙ e)) w)
+unless_parts {src} l e (is_white {l = m} f w) = (refl, subst (λ (x : Line). WhitesEnd src.text x.start x.end x.start) (same_Some _ _ (sym f ∙ e)) w)
 
 pub other_no_blank : (src : Table) (k : ℕ) (b : Bool) (l : Line) → slice_get src.lines k ≡ Some l → (WhitesEnd src.text l.start l.end l.start → ⊥) → BlankUnless src k b → ⊥
 other_no_blank src k b l e n u = n (unless_parts l e u).1
@@ -252,7 +252,7 @@ module _ (src : Table) (r : Lists) (bs ms ds : List Bool) (notes : AreNotes src 
       (λ q h. none q h)
     where
       none : b ≡ false → Precedes src r k → ⊥
-      none q (marker_next {l = x} g h) = n (subst (λ (y : Line). IsForbiddenLine src.text y.start) (some_same (sym g ∙ e)) h)
+      none q (marker_next {l = x} g h) = n (subst (λ (y : Line). IsForbiddenLine src.text y.start) (same_Some _ _ (sym g ∙ e)) h)
       none q (directive_next {m} h) = true≢false (sym (notes.has_directive.all (k + 1) (m, h)) ∙ sym f ∙ q)
 
   pub no_blank : (k : ℕ) → get_or bs k false ≡ false → (o : ℕ) → MisplacedBlank src r k o → ⊥
@@ -264,7 +264,7 @@ module _ (src : Table) (r : Lists) (bs ms ds : List Bool) (notes : AreNotes src 
   pub misplaced_there : (k : ℕ) (l : Line) → get_or bs k false ≡ true → slice_get src.lines k ≡ Some l → WrongPlace src r k → Sole (MisplacedBlank src r k) l.start
   misplaced_there k l e f w = record { holds = misplaced f (notes.is_blank.only k e) w; only = λ o h. there h } where
     there : {o : ℕ} → MisplacedBlank src r k o → o ≡ l.start
-    there (misplaced {l = x} g b w) = ap (λ (y : Line). y.start) (some_same (sym g ∙ f))
+    there (misplaced {l = x} g b w) = ap (λ (y : Line). y.start) (same_Some _ _ (sym g ∙ f))
 
   -- before the last line that is not blank, only what stands directly before and after counts
   pub well_placed : (k last : ℕ) → LastLine bs last → k < last → get_or bs k false ≡ true → (Follows src r k → ⊥) → (Precedes src r k → ⊥) → (o : ℕ) → MisplacedBlank src r k o → ⊥

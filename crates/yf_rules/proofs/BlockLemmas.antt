@@ -2,7 +2,7 @@
 use Rattle.std.proofs.Common.{◌≡◌, ℕ, ◌+◌, ◌-◌, ◌<◌, ◌≤◌, true, false, List, Option, Some, length, drop, sym, subst, ap, ◌∙◌, ⊎_elim, arith, true≢false}
 use Rattle.std.specs.Prelude.{slice_get}
 use Rattle.std.proofs.lemmas.Bool.{cases_lt}
-use Rattle.std.proofs.lemmas.Option.{slice_get_within}
+use Rattle.std.proofs.lemmas.Option.{same_Some, slice_get_within}
 use Rattle.yf_emit.specs.ContentStart.{content_start}
 use Rattle.yf_events.specs.Event.{EventValue, scalar_node}
 use Rattle.yf_events.specs.declared.event.ScalarStyle.{ScalarStyle}
@@ -10,7 +10,6 @@ use Rattle.yf_events.specs.declared.event.Span.{Span}
 use Rattle.yf_events.specs.declared.lists.Lists.{Lists}
 use Rattle.yf_lines.specs.declared.line.Line.{Line}
 use Rattle.yf_lines.specs.Lines.{Begun, Table}
-use Rattle.yf_lines.proofs.TableLemmas.{some_same}
 use Rattle.yf_props.specs.Props.{PropsValue}
 use Rattle.yf_rules.specs.Scalars.{IsScalar, BlockContent, InBlock, ContentLine, head_count, is_block_style}
 use Rattle.yf_rules.specs.Scalars.ContentLine.{of_block}
@@ -20,7 +19,7 @@ use Rattle.yf_rules.proofs.BegunLemmas.{begun_same}
 pub content_same : (ls : List Line) (text : List ℕ) (behind f n g m : ℕ) → BlockContent ls text behind f n → BlockContent ls text behind g m → (f ≡ g) × (n ≡ m)
 content_same ls text behind f n g m a b =
     let same : f ≡ g = a.empty ∙ sym b.empty in
-    let line : a.line ≡ b.line = some_same (sym (subst (λ k. slice_get ls k ≡ Some a.line) same a.at) ∙ b.at) in
+    let line : a.line ≡ b.line = same_Some _ _ (sym (subst (λ k. slice_get ls k ≡ Some a.line) same a.at) ∙ b.at) in
     (same, a.spaces ∙ ap (λ (l : Line). l.indent - head_count 32 (drop (head_count 10 text) text)) line ∙ sym b.spaces)
 
 -- two numbers of lines begun at one offset are one, if there is a line after the second

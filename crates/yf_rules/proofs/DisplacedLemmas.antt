@@ -5,7 +5,7 @@ use Rattle.std.specs.Prelude.{◌==◌, MatchBool, if◌then◌else◌, slice_ge
 use Rattle.std.proofs.lemmas.Bool.{cases_Bool, cases_lt}
 use Rattle.std.proofs.lemmas.List.{length-append, length-drop, length-map, take_all}
 use Rattle.std.proofs.lemmas.Bool.Decides.{nat_tests}
-use Rattle.std.proofs.lemmas.Option.{slice_get_within}
+use Rattle.std.proofs.lemmas.Option.{same_Some, slice_get_within}
 use Rattle.yf_emit.specs.Keys.{NodeAt, kept_text_of}
 use Rattle.yf_emit.specs.Normal.{Setting, setting_of}
 use Rattle.yf_emit.specs.OneLine.{bare}
@@ -24,9 +24,6 @@ use Rattle.yf_rules.specs.OuterFlow.{FlowsDone, StandsOutside, bracketed, bracke
 use Rattle.yf_rules.proofs.ColumnLemmas.{column_one}
 use Rattle.yf_rules.proofs.FlowLemmas.{event_there, flow_begun, is_inside, item_at, node_size, span_there}
 use Rattle.yf_rules.proofs.NodeLemmas.{none_first, same_node}
-
-some_same : {X : Type 0} {a b : X} → Some a ≡ Some b → a ≡ b
-some_same e = cc
 
 some_none : {X : Type 0} {a : X} → Some a ≡ None → ⊥
 some_none e = cc
@@ -127,7 +124,7 @@ module _ (src : Table) (c : Setting) (x : Node) (inside : Span) where
   empty_same f e (too_wide g b) = true≢false (sym g ∙ f)
 
   pub empty_other : is_filled_flow x ≡ false → slice_range src.text inside.start inside.end ≢ bare x → IsDisplaced src c x inside
-  empty_other f n = other_text (λ e. n (some_same (sym e ∙ wanted_empty f)))
+  empty_other f n = other_text (λ e. n (same_Some _ _ (sym e ∙ wanted_empty f)))
 
   pub kept_same : (text : List ℕ) (b : Bool) → is_filled_flow x ≡ true → Some text ≡ kept_text_of src.text c x → slice_range src.text inside.start inside.end ≡ text
       → MatchBool b (EndsBehind src c.style.max_line inside.end) (EndsBehind src c.style.max_line inside.end → ⊥)
@@ -139,7 +136,7 @@ module _ (src : Table) (c : Setting) (x : Node) (inside : Span) where
     by (too_wide g b) = m b
 
   pub kept_other : (text : List ℕ) → is_filled_flow x ≡ true → Some text ≡ kept_text_of src.text c x → slice_range src.text inside.start inside.end ≢ text → IsDisplaced src c x inside
-  kept_other text f k n = other_text (λ e. n (some_same (sym e ∙ wanted_filled f ∙ sym k)))
+  kept_other text f k n = other_text (λ e. n (same_Some _ _ (sym e ∙ wanted_filled f ∙ sym k)))
 
   pub not_kept : is_filled_flow x ≡ true → None ≡ kept_text_of src.text c x → IsDisplaced src c x inside
   not_kept f k = other_text (λ e. some_none (sym e ∙ wanted_filled f ∙ sym k))
@@ -213,14 +210,14 @@ module _ (src : Table) (r : Lists) (house : Style) (i : ℕ) where
     bracketed_at trees inside t n =
         let b = brackets_begin src.text e o inside n in
         let f = flow_begun r trees i e t v b.0 in
-        let same : e ≡ event_of f.0 = some_same (sym v ∙ event_there f.1) in
+        let same : e ≡ event_of f.0 = same_Some _ _ (sym v ∙ event_there f.1) in
         record {
           x = f.0;
           s = b.1;
           node = f.1;
           flow = f.2;
-          span = some_same (sym (span_there f.1) ∙ p) ∙ b.2;
-          is = some_same (sym n ∙ ap (λ z. brackets src.text z o) same ∙ ap (λ z. brackets src.text (event_of f.0) z) b.2 ∙ brackets_there src.text f.0 b.1 f.2);
+          span = same_Some _ _ (sym (span_there f.1) ∙ p) ∙ b.2;
+          is = same_Some _ _ (sym n ∙ ap (λ z. brackets src.text z o) same ∙ ap (λ z. brackets src.text (event_of f.0) z) b.2 ∙ brackets_there src.text f.0 b.1 f.2);
         }
 
   pub brackets_begun : (trees : List DocumentTree) (inside : Span) → TreesOf r trees → i < length r.events
@@ -235,7 +232,7 @@ module _ (src : Table) (r : Lists) (house : Style) (i : ℕ) where
     same_place : {x : Node} {s : Span} → NodeAt r.events i x → (standing x).span ≡ Some s → bracketed src.text (props_of x) s ≡ inside
     same_place {x} {s} n q =
         let node : x ≡ b.x = same_node n b.node in
-        let span : s ≡ b.s = some_same (sym q ∙ ap (λ z. (standing z).span) node ∙ b.span) in
+        let span : s ≡ b.s = same_Some _ _ (sym q ∙ ap (λ z. (standing z).span) node ∙ b.span) in
         ap (λ z. bracketed src.text (props_of z) s) node ∙ ap (λ z. bracketed src.text (props_of b.x) z) span ∙ sym b.is
 
     pub displaced_here : StandsOutside r.events i → IsDisplaced src (setting_of r house) b.x inside → Sole (Displaced src r house i) inside.start

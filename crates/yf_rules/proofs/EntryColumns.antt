@@ -5,7 +5,7 @@ use Rattle.std.specs.Str.{IsCharBoundary}
 use Rattle.std.proofs.lemmas.Bool.{cases_Bool}
 use Rattle.std.proofs.lemmas.Bool.Decides.{nat_tests}
 use Rattle.std.proofs.lemmas.List.{length-map}
-use Rattle.std.proofs.lemmas.Option.{slice_get_within}
+use Rattle.std.proofs.lemmas.Option.{same_Some, slice_get_within}
 use Rattle.yf_emit.specs.Keys.{NodeAt}
 use Rattle.yf_emit.proofs.ValueLemmas.{event_of}
 use Rattle.yf_events.specs.Event.{Placed}
@@ -22,9 +22,6 @@ use Rattle.yf_rules.specs.Stands.{is_other}
 use Rattle.yf_rules.proofs.EntryLemmas.{boundary_true, column_there, mark_test, true_boundary}
 use Rattle.yf_rules.proofs.FlowLemmas.{event_there}
 use Rattle.yf_rules.proofs.NodeLemmas.{events_behind}
-
-pub some_same : {X : Type 0} {a b : X} → Some a ≡ Some b → a ≡ b
-some_same e = cc
 
 pub none_some : {X : Type 0} {a : X} → None ≡ Some a → ⊥
 none_some e = cc
@@ -83,8 +80,8 @@ begins_at src y start e = by (is_block_collection y) (first_in y) (entry_in (fir
     is_block = h;
     is_first = g;
     begins = q;
-    start_is = some_same e;
-    boundary = subst (IsCharBoundary src.text) (some_same e) (true_boundary src.text entry.start b);
+    start_is = same_Some _ _ e;
+    boundary = subst (IsCharBoundary src.text) (same_Some _ _ e) (true_boundary src.text entry.start b);
   }
   at_entry f entry false h g q b e = absurd (none_some e)
 
@@ -139,7 +136,7 @@ module _ (src : Table) (r : Lists) (columns : List ℕ) (is : ColumnsTo src.text
     by (Some start) q =
         let s = sym (starts_there src.text r.events i y n) ∙ q in
         let c = its_column start q (begins_at src y start s).boundary in
-        (start, q, entries_begin src y start column s (subst (IsColumn src.text start) (some_same (sym c.1 ∙ e)) c.2))
+        (start, q, entries_begin src y start column s (subst (IsColumn src.text start) (same_Some _ _ (sym c.1 ∙ e)) c.2))
 
   pub found_column : {column start : ℕ} → EntriesAt src y column start → (column_at src.text r.events columns i ≡ Some column) × (entries_from src.text (drop i r.events) ≡ Some start)
   found_column {column} {start} e =

@@ -6,6 +6,7 @@ use Rattle.std.specs.Str.{IsCharBoundary}
 use Rattle.std.proofs.lemmas.Bool.{and_parts, cases_Bool}
 use Rattle.std.proofs.lemmas.Bool.Decides.{nat_tests}
 use Rattle.std.proofs.lemmas.List.{append-nil, drop_all, get_or-append-add, length-append}
+use Rattle.std.proofs.lemmas.Option.{same_Some}
 use Rattle.yf_chars.specs.Class.{is_white_or_end}
 use Rattle.yf_chars.specs.Text.{code}
 use Rattle.yf_events.specs.Event.{EventValue, Placed}
@@ -13,9 +14,6 @@ use Rattle.yf_events.specs.declared.event.Entry.{Entry}
 use Rattle.yf_rules.specs.Columns.{ColumnsTo, IsColumn}
 use Rattle.yf_rules.specs.Entries.{all_entries, and_those, entries_from, first_entry, is_boundary, is_unmarked, start_at, starts_block, unmarked_at}
 use Rattle.yf_rules.specs.QuestionMarks.{HasQuestionMark}
-
-some_same : {X : Type 0} {a b : X} → Some a ≡ Some b → a ≡ b
-some_same e = cc
 
 none_some : {X : Type 0} {a : X} → None ≡ Some a → ⊥
 none_some e = cc
@@ -45,7 +43,7 @@ boundary_false t i n = ⊎_elim (λ (h : is_boundary t i ≡ true). absurd (n (t
 
 pub entry_there : (es : List Placed) (i : ℕ) (o : Option Entry) → slice_get (map (λ (e : Placed). e.entry) es) i ≡ Some o → first_entry (drop i es) ≡ o
 entry_there [] i o e = absurd (none_some e)
-entry_there (x ∷ es) zero o e = some_same e
+entry_there (x ∷ es) zero o e = same_Some _ _ e
 entry_there (x ∷ es) (suc i) o e = entry_there es i o e
 
 module _ (t bytes : List ℕ) (es : List Placed) (i : ℕ) where
@@ -66,7 +64,7 @@ module _ (t bytes : List ℕ) (es : List Placed) (i : ℕ) where
 entries_at : (t : List ℕ) (es : List Placed) (i : ℕ) (e : EventValue) → slice_get (map (λ (e : Placed). e.event) es) i ≡ Some e
     → entries_from t (drop i es) ≡ (if starts_block e then start_at t (first_entry (drop (suc i) es)) else None)
 entries_at t [] i e q = absurd (none_some q)
-entries_at t (x ∷ es) zero e q = ap (λ (v : EventValue). if starts_block v then start_at t (first_entry es) else None) (some_same q)
+entries_at t (x ∷ es) zero e q = ap (λ (v : EventValue). if starts_block v then start_at t (first_entry es) else None) (same_Some _ _ q)
 entries_at t (x ∷ es) (suc i) e q = entries_at t es i e q
 
 pub in_block : (t : List ℕ) (es : List Placed) (i next : ℕ) (e : EventValue) (b : Bool) → slice_get (map (λ (e : Placed). e.event) es) i ≡ Some e → b ≡ starts_block e → b ≡ true

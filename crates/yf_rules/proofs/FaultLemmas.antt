@@ -5,7 +5,7 @@ use Rattle.std.specs.Option.{option_to_list}
 use Rattle.std.specs.Prelude.{slice_get}
 use Rattle.std.proofs.lemmas.List.{append-nil, drop_all}
 use Rattle.std.proofs.lemmas.List.Elements.{Contains-append_left, Contains-push, Contains-push_cases}
-use Rattle.std.proofs.lemmas.Option.{get_or_from_slice_get, slice_get_within}
+use Rattle.std.proofs.lemmas.Option.{get_or_from_slice_get, same_Some, slice_get_within}
 use Rattle.std.proofs.Math.Seq.{drop-cons}
 use Rattle.yf_emit.specs.ContentStart.{content_start}
 use Rattle.yf_emit.specs.declared.style.Style.{Style}
@@ -75,9 +75,6 @@ answers_same P None (Some y) h k = absurd (h y k.holds)
 answers_same P (Some x) None h k = absurd (k x h.holds)
 answers_same P (Some x) (Some y) h k = ap (λ z. Some z) (k.only x h.holds)
 
-some_same : {X : Type 0} {a b : X} → Some a ≡ Some b → a ≡ b
-some_same e = cc
-
 none_some : {X : Type 0} {a : X} → None ≡ Some a → ⊥
 none_some e = cc
 
@@ -91,7 +88,7 @@ module _ (src : Table) (r : Lists) (house : Style) (columns : List ℕ) (s : Sto
   pub fault_answers : (content : Option (ℕ × ℕ)) (answer : Option ℕ) → Answers (ContentAt src r s.at) content
       → answer ≡ fault_of house e (standing_at src.text r columns s) content → Answers (AtFault src r house columns s) answer
   fault_answers content None a f = λ o h. none_some (f ∙ its_fault content a h)
-  fault_answers content (Some o) a f = record { holds = at_fault content q a (sym f); only = λ p h. some_same (sym (its_fault content a h) ∙ sym f) }
+  fault_answers content (Some o) a f = record { holds = at_fault content q a (sym f); only = λ p h. same_Some _ _ (sym (its_fault content a h) ∙ sym f) }
 
 -- one more node, and none
 

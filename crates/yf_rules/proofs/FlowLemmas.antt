@@ -3,7 +3,7 @@ use Rattle.std.proofs.Common.{◌≡◌, ℕ, ◌+◌, ◌<◌, ◌≤◌, ◌�
 use Rattle.std.specs.Prelude.{option_map, slice_get}
 use Rattle.std.proofs.lemmas.Bool.{cases_lt}
 use Rattle.std.proofs.lemmas.List.{length-map}
-use Rattle.std.proofs.lemmas.Option.{get_or_from_slice_get, slice_get-map, slice_get_cases}
+use Rattle.std.proofs.lemmas.Option.{get_or_from_slice_get, same_Some, slice_get-map, slice_get_cases}
 use Rattle.yf_emit.specs.Keys.{NodeAt}
 use Rattle.yf_emit.specs.FlowsAlone as FlowsAlone
 use Rattle.yf_emit.specs.FlowsAlone.{flows_alone}
@@ -57,15 +57,12 @@ flow_begins mapping_ends h = absurd (true≢false (sym h))
 flow_begins (scalar_node props style text) h = absurd (true≢false (sym h))
 flow_begins (alias_node name) h = absurd (true≢false (sym h))
 
-some_same : {X : Type 0} {a b : X} → Some a ≡ Some b → a ≡ b
-some_same e = cc
-
 -- an event of a list with places
 pub placed_at : (es : List Placed) (i : ℕ) (v : EventValue) → slice_get (map (λ e. e.event) es) i ≡ Some v → (e : Placed) × (slice_get es i ≡ Some e) × (e.event ≡ v)
 placed_at es i v q = by (slice_get es i) (sym (slice_get-map (λ (e : Placed). e.event) es i) ∙ q) refl where
   by : (o : Option Placed) → option_map (λ (e : Placed). e.event) o ≡ Some v → slice_get es i ≡ o → (e : Placed) × (slice_get es i ≡ Some e) × (e.event ≡ v)
   by None h s = absurd cc
-  by (Some e) h s = (e, s, some_same h)
+  by (Some e) h s = (e, s, same_Some _ _ h)
 
 -- an event that begins a flow collection, and a node whose event does
 pub flow_begun : (r : Lists) (trees : List DocumentTree) (i : ℕ) (e : EventValue) → TreesOf r trees → slice_get (events_of r) i ≡ Some e → starts_flow e ≡ true
@@ -73,11 +70,11 @@ pub flow_begun : (r : Lists) (trees : List DocumentTree) (i : ℕ) (e : EventVal
 flow_begun r trees i e t q h =
     let p = placed_at r.events i e q in
     let n = begins_at r trees i p.0 t p.1 (ap begins_node p.2 ∙ flow_begins e h) in
-    (n.0, n.1, sym (flow_event n.0) ∙ ap starts_flow (some_same (sym (event_there n.1) ∙ q)) ∙ h)
+    (n.0, n.1, sym (flow_event n.0) ∙ ap starts_flow (same_Some _ _ (sym (event_there n.1) ∙ q)) ∙ h)
 
 pub no_flow_begun : (es : List Placed) (i : ℕ) (e : EventValue) → slice_get (map (λ d. d.event) es) i ≡ Some e → starts_flow e ≡ false → (x : Node) → NodeAt es i x
     → is_flow x ≡ true → ⊥
-no_flow_begun es i e q h x n f = true≢false (sym f ∙ sym (flow_event x) ∙ ap starts_flow (some_same (sym (event_there n) ∙ q)) ∙ h)
+no_flow_begun es i e q h x n f = true≢false (sym f ∙ sym (flow_event x) ∙ ap starts_flow (same_Some _ _ (sym (event_there n) ∙ q)) ∙ h)
 
 -- one event more
 

@@ -3,6 +3,7 @@ use Rattle.std.proofs.Common.{◌≡◌, ℕ, ◌+◌, ◌-◌, ◌<◌, ◌≤�
 use Rattle.std.specs.Prelude.{slice_get}
 use Rattle.std.specs.Str.{IsUtf8}
 use Rattle.std.proofs.lemmas.Bool.{cases_Bool}
+use Rattle.std.proofs.lemmas.Option.{same_Some}
 use Rattle.yf_chars.specs.Class.{is_white}
 use Rattle.yf_chars.specs.Text.{code}
 use Rattle.yf_chars.proofs.TextLemmas.{byte_from_code, code_from_byte}
@@ -49,12 +50,9 @@ line_in_text t l u is w n a b =
     (omega (arith, e, w), subst (λ k. is_white (code t k) ≡ false) same (not_white t (l.next - 2) u b))
 
 -- the line of an index is one
-some_same : {a b : Line} → Some a ≡ Some b → a ≡ b
-some_same e = cc
-
 pub same_line : (src : Table) (k : ℕ) (a b : Line) → slice_get src.lines k ≡ Some a → slice_get src.lines k ≡ Some b
     → (a.start < a.end) × (is_white (code src.text (a.end - 1)) ≡ false) → (b.start < b.end) × (is_white (code src.text (b.end - 1)) ≡ false)
-same_line src k a b e f h = subst (λ (l : Line). (l.start < l.end) × (is_white (code src.text (l.end - 1)) ≡ false)) (some_same (sym e ∙ f)) h
+same_line src k a b e f h = subst (λ (l : Line). (l.start < l.end) × (is_white (code src.text (l.end - 1)) ≡ false)) (same_Some _ _ (sym e ∙ f)) h
 
 -- white space ends no such line
 pub no_white_end : (t : List ℕ) (start end o : ℕ) → is_white (code t (end - 1)) ≡ false → WhitesEnd t start end o → o < end → ⊥
@@ -69,7 +67,7 @@ text_no_blank_end src k b f o (at_line_end {l} e w h) = no_white_end src.text l.
 -- the line of that index has no text, or a last character that is no white space
 pub empty_no_blank_end : (src : Table) (k : ℕ) (l : Line) → slice_get src.lines k ≡ Some l → l.end ≤ l.start → (o : ℕ) → BlankEnd src k false o → ⊥
 empty_no_blank_end src k l e n o (at_line_end {l = m} f w h) =
-    let same : l ≡ m = some_same (sym e ∙ f) in
+    let same : l ≡ m = same_Some _ _ (sym e ∙ f) in
     let z : m.end ≤ m.start = subst (λ (x : Line). x.end ≤ x.start) same n in
     let from = w.from in
     omega (arith, from, h, z)
@@ -77,5 +75,5 @@ empty_no_blank_end src k l e n o (at_line_end {l = m} f w h) =
 pub last_no_blank_end : (src : Table) (k : ℕ) (l : Line) → slice_get src.lines k ≡ Some l → is_white (code src.text (l.end - 1)) ≡ false
     → (o : ℕ) → BlankEnd src k false o → ⊥
 last_no_blank_end src k l e n o (at_line_end {l = m} f w h) =
-    let same : l ≡ m = some_same (sym e ∙ f) in
+    let same : l ≡ m = same_Some _ _ (sym e ∙ f) in
     no_white_end src.text m.start m.end o (subst (λ (x : Line). is_white (code src.text (x.end - 1)) ≡ false) same n) w h

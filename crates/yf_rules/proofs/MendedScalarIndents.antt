@@ -3,14 +3,14 @@ use Rattle.std.proofs.Common.{◌≡◌, ◌≢◌, ℕ, zero, suc, ◌+◌, ◌
 use Rattle.std.specs.Prelude.{slice_get}
 use Rattle.std.specs.Str.{IsUtf8}
 use Rattle.std.proofs.lemmas.Bool.{cases_eq, cases_lt}
-use Rattle.std.proofs.lemmas.Option.{slice_get-get_or, slice_get_within}
+use Rattle.std.proofs.lemmas.Option.{same_Some, slice_get-get_or, slice_get_within}
 use Rattle.yf_chars.specs.Text.{code}
 use Rattle.yf_lines.specs.declared.line.Line.{Line}
 use Rattle.yf_lines.specs.Lines.{AreLines, Begun, IsLine, Table}
 use Rattle.yf_lines.specs.Rest.{Rest}
 use Rattle.yf_lines.proofs.MarkLemmas.{marks_stop, start_in_line}
 use Rattle.yf_lines.proofs.RestLemmas.{rest_break, rest_text}
-use Rattle.yf_lines.proofs.TableLemmas.{Follow, follow, line_before, line_of, some_same, table_cut, table_line, table_start}
+use Rattle.yf_lines.proofs.TableLemmas.{Follow, follow, line_before, line_of, table_cut, table_line, table_start}
 use Rattle.yf_props.specs.Props.{PropsValue}
 use Rattle.yf_events.specs.Event.{EventValue, scalar_node}
 use Rattle.yf_events.specs.declared.event.ScalarStyle.{ScalarStyle}
@@ -115,7 +115,7 @@ module _ (src : Table) (u : IsUtf8 src.text) (are : AreLines src.text src.lines)
       let found = first_content_of {lines = a.lines} column u made a.fit (λ i x g. body_there (drop behind src.lines) z u texts flow a.rest x i (subst (λ b. slice_get b i ≡ Some x) (sym a.are) g)) in
       let number : behind + found.number ≡ first = ap (λ k. behind + k) (sym found.is) ∙ sym c.empty in
       let there : slice_get src.lines first ≡ Some found.line = ap (λ k. slice_get src.lines k) (sym number) ∙ (sym (got_drop behind found.number src.lines) ∙ found.at) in
-      let one : c.line ≡ found.line = some_same (sym c.at ∙ there) in
+      let one : c.line ≡ found.line = same_Some _ _ (sym c.at ∙ there) in
       let wide : c.line.indent ≡ column + head_count 32 (drop (head_count 10 a.text) a.text) = ap (λ (w : Line). w.indent) one ∙ found.indent in
       let spaces = c.spaces in
       omega (arith, wide, spaces)
@@ -127,7 +127,7 @@ module _ (src : Table) (u : IsUtf8 src.text) (are : AreLines src.text src.lines)
 
         by : (ls : List Line) → drop behind src.lines ≡ ls → slice_get ls 0 ≡ Some l → (others : List Line) × (drop behind src.lines ≡ l ∷ others)
         by [] e g = absurd cc
-        by (m ∷ ms) e g = (ms, e ∙ ap (λ w. w ∷ ms) (some_same g))
+        by (m ∷ ms) e g = (ms, e ∙ ap (λ w. w ∷ ms) (same_Some _ _ g))
 
   -- as the rule looks at it
   pub content_stands : (l : ℕ) (x : Node) (props : PropsValue) (style : ScalarStyle) (text : List ℕ) (lines : List (List ℕ)) (span : Span) (behind first indent : ℕ) → BlockAt src.text l x

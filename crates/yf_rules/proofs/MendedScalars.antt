@@ -3,7 +3,7 @@ use Rattle.std.proofs.Common.{◌≡◌, ◌≢◌, ℕ, zero, suc, ◌+◌, ◌
 use Rattle.std.specs.Prelude.{slice_get}
 use Rattle.std.specs.Str.{IsUtf8}
 use Rattle.std.proofs.lemmas.Bool.{cases_eq, cases_lt}
-use Rattle.std.proofs.lemmas.Option.{slice_get_within}
+use Rattle.std.proofs.lemmas.Option.{same_Some, slice_get_within}
 use Rattle.yf_chars.specs.Chain.{Chain}
 use Rattle.yf_chars.specs.Chain.Chain.{done, step}
 use Rattle.yf_chars.proofs.ChainLemmas.{chain_forward}
@@ -11,7 +11,7 @@ use Rattle.yf_lines.specs.declared.line.Line.{Line}
 use Rattle.yf_lines.specs.Lines.{AreLines, Begun, OneLine, Table}
 use Rattle.yf_lines.specs.Lines.OneLine.{one_line}
 use Rattle.yf_lines.proofs.LineLemmas.{line_functional, same_line}
-use Rattle.yf_lines.proofs.TableLemmas.{Follow, follow, line_before, some_same, table_line, table_start}
+use Rattle.yf_lines.proofs.TableLemmas.{Follow, follow, line_before, table_line, table_start}
 use Rattle.yf_events.specs.Event.{EventValue, Placed}
 use Rattle.yf_events.specs.declared.event.Span.{Span}
 use Rattle.yf_events.specs.declared.lists.Lists.{Lists}
@@ -62,7 +62,7 @@ chain_past {t} j (a ∷ ms) zero l (step (one_line {l = b} made) c) f m g =
     let far = chain_forward (line_functional t) c in
     let order = made.order in
     let start : a.start ≡ b.start = f.0 in
-    let got : a.start ≡ l.start = ap (λ (w : Line). w.start) (some_same g) in
+    let got : a.start ≡ l.start = ap (λ (w : Line). w.start) (same_Some _ _ g) in
     omega (arith, far, order, start, got)
 chain_past {t} j (a ∷ ms) (suc n) l (step {y = y} (one_line {l = b} made) c) f m g =
     let same : a ≡ b = same_line t a b f.1 made f.0 in
@@ -87,7 +87,7 @@ module _ (src : Table) (r : Lists) (utf8 : IsUtf8 src.text) (lines : AreLines sr
   later_start : {k : ℕ} {x : List ℕ} (a : InScalar src.text r.events src.lines k x) (m : ℕ) (l : Line) → slice_get src.lines m ≡ Some l → a.head ≤ m → a.scalar.place ≤ l.start
   later_start a m l e h =
       let place : a.line.start ≡ a.scalar.place = a.start in
-      ⊎_elim (λ (q : a.head ≡ m). let same : a.line ≡ l = some_same (sym (head_line a) ∙ (ap (λ n. slice_get src.lines n) q ∙ e)) in
+      ⊎_elim (λ (q : a.head ≡ m). let same : a.line ≡ l = same_Some _ _ (sym (head_line a) ∙ (ap (λ n. slice_get src.lines n) q ∙ e)) in
       let start : a.line.start ≡ l.start = ap (λ (w : Line). w.start) same in omega (arith, place, start))
       (λ (q : a.head ≢ m).
       let apart = line_before src.text src.lines 0 (length src.text) a.head m a.line l (follow lines) (head_line a) e (omega (arith, h, q)) in

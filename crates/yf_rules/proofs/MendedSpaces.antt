@@ -2,14 +2,14 @@
 use Rattle.std.proofs.Common.{◌≡◌, ◌≢◌, ℕ, zero, suc, ◌+◌, ◌-◌, ◌<◌, true, false, true≢false, List, [], map, Some, sym, ap, ◌∙◌, subst, arith}
 use Rattle.std.specs.Prelude.{slice_get}
 use Rattle.std.specs.Str.{IsUtf8}
-use Rattle.std.proofs.lemmas.Option.{slice_get_within}
+use Rattle.std.proofs.lemmas.Option.{same_Some, slice_get_within}
 use Rattle.yf_chars.specs.Class.{is_white}
 use Rattle.yf_chars.specs.Text.{code}
 use Rattle.yf_lines.specs.Basic.{Forbidden, LineStart, is_marker}
 use Rattle.yf_lines.specs.Lines.{IsForbiddenLine, Table}
 use Rattle.yf_lines.specs.declared.line.Line.{Line}
 use Rattle.yf_lines.proofs.MarkLemmas.{start_in_line}
-use Rattle.yf_lines.proofs.TableLemmas.{some_same, table_cut, table_line, table_start}
+use Rattle.yf_lines.proofs.TableLemmas.{table_cut, table_line, table_start}
 use Rattle.yf_events.specs.declared.directive.Directive.{Directive}
 use Rattle.yf_events.specs.declared.document.Doc.{Doc}
 use Rattle.yf_events.specs.declared.lists.Lists.{Lists}
@@ -39,7 +39,7 @@ use Rattle.yf_rules.proofs.WhitesLemmas.{white_within}
 
 not_seen : {src : Table} {r : Lists} (k : ℕ) (l : Line) → slice_get src.lines k ≡ Some l → is_white (code src.text (l.end - 1)) ≡ false → l.start < l.end → IsBlank src r k → ⊥
 not_seen {src} k l e v h b =
-    let same : b.line ≡ l = some_same (sym b.at ∙ e) in
+    let same : b.line ≡ l = same_Some _ _ (sym b.at ∙ e) in
     let start : b.line.start ≡ l.start = ap (λ (w : Line). w.start) same in
     let end : b.line.end ≡ l.end = ap (λ (w : Line). w.end) same in
     let white : is_white (code src.text (b.line.end - 1)) ≡ true = white_within (b.line.end - 1) b.white.run (omega (arith, h, start, end)) (omega (arith, h, start, end)) in
@@ -97,7 +97,7 @@ module _ {src : Table} {r : Lists} {s : Style} (w : IsFormatted src r s) where
       let q : ReadingOf src.text r = w.reads in
       let u = (formed w.utf8 w.formats).utf8 in
       let start = start_at m d (stream_markers u q.reads.shapes.derived) (formats_meant w.utf8 w.formats q) (subst (λ (ds : List Doc). slice_get ds m ≡ Some d) q.documents f) in
-      let same : l.start ≡ d.start = ap (λ (v : Line). v.start) (some_same (sym e ∙ at.at)) ∙ starts_there w d.start j start.0.start at in
+      let same : l.start ≡ d.start = ap (λ (v : Line). v.start) (same_Some _ _ (sym e ∙ at.at)) ∙ starts_there w d.start j start.0.start at in
       n (subst (λ i. Forbidden src.text i) (sym same) start.0) (ap (code src.text) same ∙ start.1)
 
   not_directive : (j m : ℕ) (l : Line) → slice_get src.lines j ≡ Some l → code src.text l.start ≢ 37 → DirectiveOf src r m j → ⊥
@@ -105,7 +105,7 @@ module _ {src : Table} {r : Lists} {s : Style} (w : IsFormatted src r s) where
       let q : ReadingOf src.text r = w.reads in
       let u = (formed w.utf8 w.formats).utf8 in
       let stand = directive_at i v (document_at m d (stream_directed u q.reads.shapes.derived) (subst (λ (ds : List Doc). slice_get ds m ≡ Some d) q.documents f)) g in
-      let same : l.start ≡ v.offset = ap (λ (z : Line). z.start) (some_same (sym e ∙ at.at)) ∙ starts_there w v.offset j stand.0 at in
+      let same : l.start ≡ v.offset = ap (λ (z : Line). z.start) (same_Some _ _ (sym e ∙ at.at)) ∙ starts_there w v.offset j stand.0 at in
       n (ap (code src.text) same ∙ stand.1)
 
   right_place : (k : ℕ) → LineBefore src.text r.events src.lines k → LineAfter src.text src.lines (suc k) → WrongPlace src r k → ⊥
@@ -121,7 +121,7 @@ module _ {src : Table} {r : Lists} {s : Style} (w : IsFormatted src r s) where
   right_place k before after (before_marker {l = l} e f) =
       let one : k + 1 ≡ suc k = omega arith in
       let there : slice_get src.lines (suc k) ≡ Some l = ap (λ i. slice_get src.lines i) (sym one) ∙ e in
-      after.unmarked (subst (λ (v : Line). Forbidden src.text v.start) (some_same (sym there ∙ after.at)) (forbidden_there w (suc k) l there f))
+      after.unmarked (subst (λ (v : Line). Forbidden src.text v.start) (same_Some _ _ (sym there ∙ after.at)) (forbidden_there w (suc k) l there f))
   right_place k before after (before_directive {m = m} b) =
       let one : k + 1 ≡ suc k = omega arith in
       not_directive (suc k) m after.line after.at after.no_percent (subst (λ i. DirectiveOf src r m i) one b)

@@ -3,6 +3,7 @@ use Rattle.std.proofs.Common.{◌≡◌, ℕ, ◌+◌, ◌≤◌, Bool, true, fa
 use Rattle.std.specs.List.{Contains}
 use Rattle.std.specs.Prelude.{◌&&◌, if◌then◌else◌, slice_get}
 use Rattle.std.proofs.lemmas.Bool.{and_parts, cases_Bool}
+use Rattle.std.proofs.lemmas.Option.{same_Some}
 use Rattle.yf_emit.specs.ContentStart.{content_start}
 use Rattle.yf_emit.specs.declared.style.Style.{Style}
 use Rattle.yf_emit.proofs.ValueLemmas.{event_of}
@@ -28,7 +29,7 @@ use Rattle.yf_rules.specs.declared.facts.stands.Around.TheVariants.{Nothing}
 use Rattle.yf_rules.specs.declared.facts.stands.OpenCollection.{OpenCollection}
 use Rattle.yf_rules.specs.declared.facts.stands.Stand.{Stand}
 use Rattle.yf_rules.proofs.BlockLemmas.{event_same, part_same}
-use Rattle.yf_rules.proofs.EntryColumns.{some_same, none_some, entries_found, column_found, found_column, unmarked_found, not_true, unmarked_key, key_unmarked, other, other_wanted}
+use Rattle.yf_rules.proofs.EntryColumns.{none_some, entries_found, column_found, found_column, unmarked_found, not_true, unmarked_key, key_unmarked, other, other_wanted}
 use Rattle.yf_rules.proofs.FaultLemmas.{all_reached, content_sole, no_scalar}
 use Rattle.yf_rules.proofs.FlowLemmas.{event_there, span_there}
 use Rattle.yf_rules.proofs.NodePlaceLemmas.{node_there}
@@ -67,10 +68,10 @@ module _ (src : Table) (r : Lists) (house : Style) (columns : List ℕ) (is : Co
       ⊎_elim
       (λ (b : (flag && not house.seq_indent) ≡ true).
       let p = and_parts flag (not house.seq_indent) b in
-      subst (WantedColumn src house trees y) (some_same (ap (λ b. Some (if b then column else column + house.indent)) (sym b) ∙ q))
+      subst (WantedColumn src house trees y) (same_Some _ _ (ap (λ b. Some (if b then column else column + house.indent)) (sym b) ∙ q))
       (at_key n (is_off house.seq_indent p.1) (g p.0 (entries_found w.2).is_block) w.2))
       (λ (b : (flag && not house.seq_indent) ≡ false).
-      subst (WantedColumn src house trees y) (some_same (ap (λ b. Some (if b then column else column + house.indent)) (sym b) ∙ q))
+      subst (WantedColumn src house trees y) (same_Some _ _ (ap (λ b. Some (if b then column else column + house.indent)) (sym b) ∙ q))
       (further n h w.2 (λ s i. true≢false (sym (both flag house.seq_indent (f i) s) ∙ b))))
       (cases_Bool (flag && not house.seq_indent))
     where
@@ -87,7 +88,7 @@ module _ (src : Table) (r : Lists) (house : Style) (columns : List ℕ) (is : Co
 
   column_wanted : {y : Numbered} {a : Around} {b : Bool} {column start : ℕ} (wanted : ℕ) → IsHeld C M trees y a b → EntriesAt src y.1 column start
       → wanted_column house (is_sequence y.1 && b) a ≡ Some wanted → WantedColumn src house trees y wanted
-  column_wanted {y} wanted (by_nothing h) e q = subst (WantedColumn src house trees y) (some_same q) (of_root h)
+  column_wanted {y} wanted (by_nothing h) e q = subst (WantedColumn src house trees y) (same_Some _ _ q) (of_root h)
   column_wanted {y} wanted (by_sequence {x = x} n h) e q = by_column n (as_item h) (is_sequence y.1 && false) wanted
       (λ i. absurd (item_no_value x.1 x.0 i.key y h i.in_mapping)) (λ f b. absurd (no_flag (is_sequence y.1) f)) (C x.0) refl q
   column_wanted {y} wanted (as_its_key {x = x} {v = v} n h) e q = by_column n (as_key h) (is_sequence y.1 && false) wanted
@@ -168,10 +169,10 @@ module _ (src : Table) (r : Lists) (house : Style) (columns : List ℕ) (is : Co
   -- the indentation that is wanted
   by_indent : {x y : Numbered} (n : StandsIn trees x) (h : Holds x y) (wanted : ℕ) (o : Option ℕ) → C x.0 ≡ o → wanted_indent house (held o) ≡ Some wanted → WantedIndent src house trees y wanted
   by_indent n h wanted None e q = absurd (none_some q)
-  by_indent {x} {y} n h wanted (Some column) e q = subst (WantedIndent src house trees y) (some_same q) (in_entry n h (col_found x n column e).2)
+  by_indent {x} {y} n h wanted (Some column) e q = subst (WantedIndent src house trees y) (same_Some _ _ q) (in_entry n h (col_found x n column e).2)
 
   indent_wanted : {y : Numbered} {a : Around} {b : Bool} (wanted : ℕ) → IsHeld C M trees y a b → wanted_indent house a ≡ Some wanted → WantedIndent src house trees y wanted
-  indent_wanted {y} wanted (by_nothing h) q = subst (WantedIndent src house trees y) (some_same q) (at_root h)
+  indent_wanted {y} wanted (by_nothing h) q = subst (WantedIndent src house trees y) (same_Some _ _ q) (at_root h)
   indent_wanted wanted (by_sequence {x = x} n h) q = by_indent n (as_item h) wanted (C x.0) refl q
   indent_wanted wanted (as_its_key {x = x} n h) q = by_indent n (as_key h) wanted (C x.0) refl q
   indent_wanted wanted (as_its_value {x = x} n h) q = by_indent n (as_value h) wanted (C x.0) refl q
@@ -196,7 +197,7 @@ module _ (src : Table) (r : Lists) (house : Style) (columns : List ℕ) (is : Co
         by start e i false v q = absurd (none_some q)
         by start e i true v q =
             let z = other_wanted column (wanted_column house (flag && b) a) v in
-            subst (Misindented src house trees y.0) (ap (λ x. unwrap_or x 0) (sym e) ∙ some_same q)
+            subst (Misindented src house trees y.0) (ap (λ x. unwrap_or x 0) (sym e) ∙ same_Some _ _ q)
             (entries (held_stands h) refl i (column_wanted z.0 h i (ap (λ f. wanted_column house (f && b) a) s ∙ z.1)) z.2)
 
     content_out : {k : ℕ × ℕ} → ContentAt src r y.0 k → is_other k.1 (wanted_indent house a) ≡ true → Misindented src house trees y.0 k.0
@@ -221,7 +222,7 @@ module _ (src : Table) (r : Lists) (house : Style) (columns : List ℕ) (is : Co
     fault_out (scalar at props style text lines) o (Some k) e n q = by (is_other k.1 (wanted_indent house a)) refl q where
       by : (v : Bool) → is_other k.1 (wanted_indent house a) ≡ v → (if v then Some k.0 else None) ≡ Some o → Misindented src house trees y.0 o
       by false v q = absurd (none_some q)
-      by true v q = subst (Misindented src house trees y.0) (some_same q) (content_out n.holds v)
+      by true v q = subst (Misindented src house trees y.0) (same_Some _ _ q) (content_out n.holds v)
     fault_out (alias at name) o k e n q = absurd (none_some q)
     fault_out (sequence at flow props items) o k e n q = entry_out true o (C y.0) (ap is_sequence e) refl q
     fault_out (mapping at flow props pairs) o k e n q = entry_out false o (C y.0) (ap is_sequence e) refl q

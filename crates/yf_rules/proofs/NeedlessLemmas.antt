@@ -5,7 +5,7 @@ use Rattle.std.specs.Prelude.{◌||◌, ◌==◌, slice_get}
 use Rattle.std.proofs.lemmas.Bool.{and_parts, cases_lt}
 use Rattle.std.proofs.lemmas.Bool.Decides.{nat_tests}
 use Rattle.std.proofs.lemmas.List.{length-map}
-use Rattle.std.proofs.lemmas.Option.{slice_get_within}
+use Rattle.std.proofs.lemmas.Option.{same_Some, slice_get_within}
 use Rattle.yf_emit.specs.Forms.{no_form, stream_forms}
 use Rattle.yf_emit.specs.ImplicitKeys.{begins_implicit}
 use Rattle.yf_emit.specs.Keys.{block_keys}
@@ -75,9 +75,6 @@ pub marked_within : {t : List ℕ} {r : Lists} {i o : ℕ} → IsMarked t r i o 
 marked_within {r = r} {i = i} (marked {entry = entry} at mark) =
     let w = slice_get_within (entries_of r) i (Some entry) at in omega (arith, w, length-map r.events (λ e. e.entry))
 
-some_same : {X : Type 0} {a b : X} → Some a ≡ Some b → a ≡ b
-some_same e = cc
-
 some_none : {X : Type 0} {a : X} → Some a ≡ None → ⊥
 some_none e = cc
 
@@ -85,13 +82,13 @@ module _ (t : List ℕ) (r : Lists) (i : ℕ) where
   pub marked_here : (entry : Entry) → slice_get (entries_of r) i ≡ Some (Some entry) → HasQuestionMark t entry.start → Sole (IsMarked t r i) entry.start
   marked_here entry e m = record { holds = marked e m; only = λ o q. only q } where
     only : {o : ℕ} → IsMarked t r i o → o ≡ entry.start
-    only (marked f n) = ap (λ (w : Entry). w.start) (some_same (some_same (sym f ∙ e)))
+    only (marked f n) = ap (λ (w : Entry). w.start) (same_Some _ _ (same_Some _ _ (sym f ∙ e)))
 
   pub not_marked : (entry : Entry) → slice_get (entries_of r) i ≡ Some (Some entry) → (HasQuestionMark t entry.start → ⊥) → (o : ℕ) → IsMarked t r i o → ⊥
-  not_marked entry e n o (marked f m) = n (subst (λ (w : Entry). HasQuestionMark t w.start) (some_same (some_same (sym f ∙ e))) m)
+  not_marked entry e n o (marked f m) = n (subst (λ (w : Entry). HasQuestionMark t w.start) (same_Some _ _ (same_Some _ _ (sym f ∙ e))) m)
 
   pub no_entry : slice_get (entries_of r) i ≡ Some None → (o : ℕ) → IsMarked t r i o → ⊥
-  no_entry e o (marked f m) = some_none (some_same (sym f ∙ e))
+  no_entry e o (marked f m) = some_none (same_Some _ _ (sym f ∙ e))
 
 -- what is answered of one event
 

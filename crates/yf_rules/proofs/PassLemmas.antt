@@ -2,6 +2,7 @@
 use Rattle.std.proofs.Common.{◌≡◌, ℕ, suc, ◌+◌, ◌-◌, ◌<◌, Bool, true, false, List, [], ◌∷◌, ◌++◌, Option, Some, None, drop, get_or, length, map, reverse, set, take, unwrap_or, refl, sym, ap, subst, ◌∙◌, arith}
 use Rattle.std.specs.Prelude.{◌&&◌, if◌then◌else◌, slice_get}
 use Rattle.std.proofs.lemmas.List.{drop_all, length-take-le, reverse-append, take-append-drop}
+use Rattle.std.proofs.lemmas.Option.{same_Some}
 use Rattle.std.proofs.Math.Seq.{drop-cons, set-append_seam}
 use Rattle.yf_events.specs.Event.{EventValue, Placed}
 use Rattle.yf_rules.specs.Entries.{all_entries, column_at, entries_from, if_any, starts_block, unmarked_at}
@@ -79,15 +80,13 @@ module _ (t : List ℕ) (es : List Placed) (i : ℕ) (l : i < length es) (old ne
       → reverse new.stack.items ≡ next v (column_at t es old.columns.items i) (unmarked_at t es i) (reverse old.stack.items)
       → stand ≡ stand_of v (reverse old.stack.items) (column_at t es old.columns.items i) (unwrap_or (entries_from t (drop i es)) 0)
       → new.columns.items ≡ old.columns.items → new.begun ≡ old.begun → Passes t es i e old new stand
-  passed_by v e q f b st sd k n = subst (λ e. Passes t es i e old new stand) (some_same (sym q ∙ f)) (λ p. record {
+  passed_by v e q f b st sd k n = subst (λ e. Passes t es i e old new stand) (same_Some _ _ (sym q ∙ f)) (λ p. record {
     stack = st;
     tells = sd;
     kept = k;
     later = subst (λ cs. IsPass t es cs new.begun (i + 1)) (sym k) (subst (λ m. IsPass t es old.columns.items m (i + 1)) (sym n)
         (none_begun t es old.columns.items old.begun i l p (in_none t es i v (starts_block v) q refl b)));
-  }) where
-    some_same : {a b : EventValue} → Some a ≡ Some b → a ≡ b
-    some_same e = cc
+  })
 
 -- without the innermost open collection
 pub rest_reversed : (xs : List OpenCollection) → reverse (take (length xs - 1) xs) ≡ drop 1 (reverse xs)

@@ -1,9 +1,10 @@
 -- Laws of scalars of which the rule indentation finds nothing.
-use Rattle.std.proofs.Common.{◌≡◌, ℕ, ◌+◌, ◌<◌, Bool, true, false, List, Some, None, length, reverse, refl, sym, ap, subst, ◌∙◌}
+use Rattle.std.proofs.Common.{◌≡◌, ℕ, ◌+◌, ◌<◌, Bool, true, false, List, None, length, reverse, refl, sym, ap, subst, ◌∙◌}
 use Rattle.std.specs.Prelude.{not}
 use Rattle.std.proofs.lemmas.List.{append-nil}
+use Rattle.std.proofs.lemmas.Option.{same_Some}
 use Rattle.yf_emit.specs.declared.style.Style.{Style}
-use Rattle.yf_events.specs.Event.{EventValue, scalar_node}
+use Rattle.yf_events.specs.Event.{scalar_node}
 use Rattle.yf_events.specs.declared.lists.Lists.{Lists}
 use Rattle.yf_lines.specs.Lines.{Table}
 use Rattle.yf_rules.specs.IndentFaults.{Reached, fault_of}
@@ -14,9 +15,6 @@ use Rattle.yf_rules.specs.declared.facts.stands.Pass.{Pass}
 use Rattle.yf_rules.proofs.FaultLemmas.{one_reached}
 use Rattle.yf_rules.proofs.KeyPassLemmas.{event_at}
 use Rattle.yf_rules.proofs.ScalarPasses.{block_told, passed_style}
-
-some_same : {a b : EventValue} → Some a ≡ Some b → a ≡ b
-some_same e = cc
 
 pub not_true : (b : Bool) → not b ≡ true → b ≡ false
 not_true true e = absurd cc
@@ -29,6 +27,6 @@ pub quiet_reached : (src : Table) (r : Lists) (house : Style) (i : ℕ) (old aft
 quiet_reached src r house i old after os q l p m =
     let x = event_at r i l in
     let stand = stand_in (reverse old.stack.items) None 0 in
-    let same : scalar_node q.props q.style q.text ≡ x.0.event = some_same (sym q.event ∙ x.2) in
+    let same : scalar_node q.props q.style q.text ≡ x.0.event = same_Some _ _ (sym q.event ∙ x.2) in
     one_reached src r house i old after stand os os None None x.0 x.1 x.2 m (subst (λ v. Passes src.text r.events i v old after stand) same p)
     (block_told (passed_style src r i q.props q.style q.text q.event q.other)) (ap (λ v. fault_of house v stand None) same) (sym (append-nil os))

@@ -1,7 +1,7 @@
 -- Laws of runs of characters, and of the first character after the longest line that is allowed.
 use Rattle.std.proofs.Common.{◌≡◌, ℕ, ◌+◌, ◌-◌, ◌<◌, ◌≤◌, Bool, List, Option, Some, None, length, sym, subst, ap, ◌∙◌, arith, length-append}
 use Rattle.std.specs.Prelude.{slice_get}
-use Rattle.std.proofs.lemmas.Option.{slice_get_within}
+use Rattle.std.proofs.lemmas.Option.{same_Some, slice_get_within}
 use Rattle.yf_chars.specs.Chain.{Many, One}
 use Rattle.yf_chars.specs.Chain.Chain.{done, step}
 use Rattle.yf_chars.specs.Chain.One.{one}
@@ -9,7 +9,6 @@ use Rattle.yf_chars.proofs.ChainLemmas.{Meets, chain_meet, chain_forward, one_fu
 use Rattle.yf_chars.proofs.ChainLemmas.Meets.{goes_on, falls_short}
 use Rattle.yf_chars.proofs.TextLemmas.{next_later}
 use Rattle.yf_lines.proofs.MarkLemmas.{marks_unique}
-use Rattle.yf_lines.proofs.TableLemmas.{some_same}
 use Rattle.yf_lines.specs.declared.line.Line.{Line}
 use Rattle.yf_lines.specs.Lines.{Marks, Table, is_char, is_mark}
 use Rattle.yf_rules.specs.ByLine.{IsBehind, BeyondLimit}
@@ -59,7 +58,7 @@ behind_all t start end count at passed x m l w e = record {
 in_line : {src : Table} {max k o : ℕ} → BeyondLimit src max k o → (l : Line) (start : ℕ) → slice_get src.lines k ≡ Some l → Marks src.text l.start start
     → IsBehind src.text start l.end max o
 in_line {src} {max} {k} {o} (beyond {l = n} {start = s} e m b) l start f q =
-    let same : n ≡ l = some_same (sym e ∙ f) in
+    let same : n ≡ l = same_Some _ _ (sym e ∙ f) in
     let m' : Marks src.text l.start s = subst (λ (v : Line). Marks src.text v.start s) same m in
     let b' : IsBehind src.text s l.end max o = subst (λ (v : Line). IsBehind src.text s v.end max o) same b in
     subst (λ v. IsBehind src.text v l.end max o) (marks_unique src.text l.start s start m' q) b'
@@ -72,7 +71,7 @@ line_answers src max k l start (Some o) e m a = record { holds = beyond e m a.ho
 -- a line that has no more bytes with its break
 pub short_line : (src : Table) (max k : ℕ) (l : Line) → slice_get src.lines k ≡ Some l → l.end ≤ l.next → l.next - l.start ≤ max → (o : ℕ) → BeyondLimit src max k o → ⊥
 short_line src max k l e w h o (beyond {l = n} {start = s} f m b) =
-    let same : n ≡ l = some_same (sym f ∙ e) in
+    let same : n ≡ l = same_Some _ _ (sym f ∙ e) in
     let start = ap (λ (v : Line). v.start) same in
     let end = ap (λ (v : Line). v.end) same in
     let later : n.start ≤ s = chain_forward (one_functional src.text is_mark) m.run in

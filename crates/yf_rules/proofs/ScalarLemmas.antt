@@ -3,6 +3,7 @@ use Rattle.std.proofs.Common.{◌≡◌, ℕ, ◌<◌, ◌≤◌, true, List, Op
 use Rattle.std.specs.Borrow.{Bor}
 use Rattle.std.specs.Prelude.{slice_get}
 use Rattle.std.proofs.lemmas.Bool.{cases_lt}
+use Rattle.std.proofs.lemmas.Option.{same_Some}
 use Rattle.yf_emit.specs.ContentStart.{content_start}
 use Rattle.yf_events.specs.Event.{event_value, scalar_node}
 use Rattle.yf_events.specs.Reading.{events_of, spans_of}
@@ -13,7 +14,6 @@ use Rattle.yf_events.specs.declared.event.Span.{Span}
 use Rattle.yf_events.specs.declared.lists.Lists.{Lists}
 use Rattle.yf_lines.specs.declared.line.Line.{Line}
 use Rattle.yf_lines.specs.Lines.{AreLines, Begun, Table}
-use Rattle.yf_lines.proofs.TableLemmas.{some_same}
 use Rattle.yf_props.specs.Props.{PropsValue}
 use Rattle.yf_props.specs.declared.props.Props.{Props}
 use Rattle.yf_rules.specs.BlankLines.{ScalarLine}
@@ -120,7 +120,7 @@ pub in_range : (ls : List Line) (range : LineRange) (k : ℕ) (l : Line) → sli
 in_range ls range k l e f s h = record { line = l; at = e; from = f; to = s; longer = h }
 
 pub not_longer : (ls : List Line) (range : LineRange) (k : ℕ) (l : Line) → slice_get ls k ≡ Some l → (IsLonger l range.indent → ⊥) → InRange ls range k → ⊥
-not_longer ls range k l e f p = f (subst (λ w. IsLonger w range.indent) (some_same (sym p.at ∙ e)) p.longer)
+not_longer ls range k l e f p = f (subst (λ w. IsLonger w range.indent) (same_Some _ _ (sym p.at ∙ e)) p.longer)
 
 pub past_range : (t : List ℕ) (ls : List Line) (range : LineRange) (k : ℕ) (l : Line) → AreLines t ls → slice_get ls k ≡ Some l → range.end ≤ l.start
     → (m : ℕ) → InRange ls range m → m < k

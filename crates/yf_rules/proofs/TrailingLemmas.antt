@@ -3,13 +3,12 @@ use Rattle.std.proofs.Common.{◌≡◌, ℕ, ◌<◌, ◌≤◌, Bool, true, fa
 use Rattle.std.specs.Prelude.{slice_get}
 use Rattle.std.proofs.lemmas.Bool.{cases_Bool}
 use Rattle.std.proofs.lemmas.List.{length-map}
-use Rattle.std.proofs.lemmas.Option.{slice_get_within}
+use Rattle.std.proofs.lemmas.Option.{same_Some, slice_get_within}
 use Rattle.yf_events.specs.Event.{scalar_node}
 use Rattle.yf_events.specs.Reading.{events_of}
 use Rattle.yf_events.specs.declared.lists.Lists.{Lists}
 use Rattle.yf_lines.specs.declared.line.Line.{Line}
 use Rattle.yf_lines.specs.Lines.{Table}
-use Rattle.yf_lines.proofs.TableLemmas.{some_same}
 use Rattle.yf_rules.specs.ByLine.{BlankEnd, TrailingBlank}
 use Rattle.yf_rules.specs.ByLine.BlankEnd.{at_line_end}
 use Rattle.yf_rules.specs.ByLine.TrailingBlank.{trailing}
@@ -29,7 +28,7 @@ content_has_none src k b e o h = true≢false (sym e ∙ not_of_content h)
 
 ends_there : {src : Table} {k o : ℕ} {b : Bool} (l : Line) (at : ℕ) → slice_get src.lines k ≡ Some l → WhitesEnd src.text l.start l.end at → BlankEnd src k b o → (o ≡ at) × (o < l.end)
 ends_there {src} {k} {o} l at e w (at_line_end {l = m} f v h) =
-    let same : m ≡ l = some_same (sym f ∙ e) in
+    let same : m ≡ l = same_Some _ _ (sym f ∙ e) in
     let v' : WhitesEnd src.text l.start l.end o = subst (λ (x : Line). WhitesEnd src.text x.start x.end o) same v in
     (whites_unique src.text l.start l.end o at v' w, subst (λ (x : Line). o < x.end) same h)
 

@@ -3,7 +3,7 @@ use Rattle.std.proofs.Common.{◌≡◌, ◌≢◌, ℕ, zero, suc, ◌+◌, ◌
 use Rattle.std.proofs.Math.ListN.{drop_of_length-le}
 use Rattle.std.proofs.lemmas.Bool.{cases_lt}
 use Rattle.std.proofs.lemmas.Bool.Decides.{nat_tests}
-use Rattle.std.proofs.lemmas.Option.{get_or_from_slice_get, slice_get-map, slice_get_within}
+use Rattle.std.proofs.lemmas.Option.{get_or_from_slice_get, same_Some, slice_get-map, slice_get_within}
 use Rattle.std.specs.List.{list_any}
 use Rattle.yf_chars.specs.Chain.{Chain}
 use Rattle.yf_chars.specs.Chain.Chain.{done, step}
@@ -219,14 +219,11 @@ dropped (suc k) no_events = no_events
 dropped (suc k) (no_place n b) = dropped k b
 dropped (suc k) (begins s n m b) = dropped k (sooner m b)
 
-some_same : {s r : Span} → Some s ≡ Some r → s ≡ r
-some_same e = cc
-
 none_from : {i : ℕ} {es : List Placed} (found : Option ℕ) (o : ℕ) → StopsAt o es → BeginInOrder i es → last_end found o (leaf_spans es) ≡ found
 none_from found o none_left b = refl
 none_from found o (stops s e l) (no_place n b) = absurd (let p : None ≡ Some s = sym n ∙ e in cc)
 none_from found o (stops {e = x} {es = es} s e l) (begins r n m b) =
-    let same = some_same (sym e ∙ n) in none_left_before found o l (begins {e = x} s e (omega arith) (subst (λ (z : Span). BeginInOrder z.start es) (sym same) b))
+    let same = same_Some _ _ (sym e ∙ n) in none_left_before found o l (begins {e = x} s e (omega arith) (subst (λ (z : Span). BeginInOrder z.start es) (sym same) b))
 
 -- What has been noted of the comments so far.
 pub record NotedSoFar (t : List ℕ) (es : List Placed) (cs : List CommentValue) (i : ℕ) (found : Option ℕ) (notes : List Bool) : Type 0 where

@@ -3,7 +3,7 @@ use Rattle.std.proofs.Common.{◌≡◌, ℕ, zero, suc, ◌+◌, ◌-◌, ◌<�
 use Rattle.std.proofs.lemmas.Bool.{cases_lt}
 use Rattle.std.proofs.lemmas.Bool.Decides.{nat_tests}
 use Rattle.std.proofs.lemmas.List.{length-map}
-use Rattle.std.proofs.lemmas.Option.{slice_get_within}
+use Rattle.std.proofs.lemmas.Option.{same_Some, slice_get_within}
 use Rattle.std.specs.Bool.{MatchBool}
 use Rattle.yf_events.specs.Event.{Placed}
 use Rattle.yf_events.specs.Reading.{begins_leaf, first_begins_leaf}
@@ -43,9 +43,6 @@ reaches (suc n) es i j found offset o e l h =
     let rest = reaches n es (i + 1) j one.mid offset o (omega (arith, e)) l (λ k m q. h k (omega (arith, m)) q) in
     record { mid = rest.mid; same = one.same ∙ rest.same }
 
-some_same : {A : Type 0} {x y : A} → Some x ≡ Some y → x ≡ y
-some_same e = cc
-
 -- from an index on no leaf is left
 pub record NoneFrom (es : List Placed) (i j : ℕ) : Type 0 where
   pub none : (found : Option ℕ) (o : ℕ) → last_end found o (leaf_spans (drop i es)) ≡ last_end found o (leaf_spans (drop j es))
@@ -63,7 +60,7 @@ pub leaf_found : {es : List Placed} {i at j : ℕ} {found : Option ℕ} (k : ℕ
 leaf_found {es} {i} {at} {j} {found} k {s} e l m f leaf n = record {
   same = λ offset o h q.
       let b = h k l m in
-      let before : s.start < offset = subst (BeginsBefore offset) (some_same (sym b.there ∙ f)) b.before in
+      let before : s.start < offset = subst (BeginsBefore offset) (same_Some _ _ (sym b.there ∙ f)) b.before in
       let front = reaches (k - i) es i k found offset o (omega (arith, l)) q (λ x y z. h x y (omega (arith, z, m))) in
       front.same ∙ past_span es k front.mid offset o f before q
       ∙ ap (λ (b : Bool). last_end (if b then Some s.end else front.mid) o (leaf_spans (drop (k + 1) es))) leaf

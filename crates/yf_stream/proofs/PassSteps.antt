@@ -1,7 +1,7 @@
 -- The steps of the pass over the events of a stream: what its look-ups give.
 use Rattle.std.proofs.Common.{◌≡◌, ℕ, ◌+◌, ◌≤◌, ◌<◌, Bool, true, false, List, [], ◌∷◌, ◌++◌, drop, length, map, Option, Some, None, refl, sym, ap, ◌∙◌, subst, slice_get, option_map, get_or, is_ok, if◌then◌else◌, Result, Ok, Err}
 use Rattle.std.proofs.Math.ListN.{drop_of_length-le}
-use Rattle.std.proofs.lemmas.Option.{slice_get-get_or, slice_get-map, slice_get_read}
+use Rattle.std.proofs.lemmas.Option.{same_Some, slice_get-get_or, slice_get-map, slice_get_read}
 use Rattle.std.specs.Borrow.{Bor}
 use Rattle.std.specs.Result.{IfOk}
 use Rattle.std.specs.Slice.{IsItemAt}
@@ -39,12 +39,9 @@ written mapping_ends = refl
 written (scalar_node props style text) = refl
 written (alias_node name) = refl
 
-some_same : {A : Type 0} {x y : A} → Some x ≡ Some y → x ≡ y
-some_same e = cc
-
 -- what a list that is made of the events has at an index
 same_at : {A : Type 0} (f : Placed → A) (es : List Placed) (j : ℕ) {e : Placed} {x : A} → slice_get es j ≡ Some e → slice_get (map f es) j ≡ Some x → f e ≡ x
-same_at f es j h g = sym (some_same (sym g ∙ slice_get-map f es j ∙ ap (option_map f) h))
+same_at f es j h g = sym (same_Some _ _ (sym g ∙ slice_get-map f es j ∙ ap (option_map f) h))
 
 pub event_at : (es : List Placed) (j : ℕ) {v : EventValue} → j < length es → slice_get (map (λ (e : Placed). e.event) es) j ≡ Some v → EventAt es j (λ e. e.event ≡ v)
 event_at es j l f =
@@ -101,8 +98,8 @@ pub named_passed : {es : List Placed} {j offset : ℕ} {v : EventValue} {first m
     → EventAt es j (λ e. Passed ds e first after names others a b)
 named_passed {offset = offset} {v = v} {names = names} {others = others} t h s r n =
     let e = t.event in
-    let event : e.event ≡ v = ap (λ (e : Placed). e.event) (some_same (sym t.there ∙ h.there)) ∙ h.holds in
-    let start : offset ≡ start_or 0 e.span = s.holds ∙ ap (λ (e : Placed). start_or 0 e.span) (some_same (sym s.there ∙ t.there)) in
+    let event : e.event ≡ v = ap (λ (e : Placed). e.event) (same_Some _ _ (sym t.there ∙ h.there)) ∙ h.holds in
+    let start : offset ≡ start_or 0 e.span = s.holds ∙ ap (λ (e : Placed). start_or 0 e.span) (same_Some _ _ (sym s.there ∙ t.there)) in
     record {
       event = e;
       there = t.there;
@@ -126,7 +123,7 @@ pub passing_step : {es : List Placed} {i j : ℕ} {before first after : Option B
     → EventAt es j (λ e. starts ≡ starts_document e.event) → starts ≡ false → EventAt es j (λ e. Passed ds e first after between others b c)
     → AllPassed es ds i (j + 1) before after names others a c
 passing_step p s n q =
-    one_passed p q.there (sym (s.holds ∙ ap (λ (e : Placed). starts_document e.event) (some_same (sym s.there ∙ q.there))) ∙ n) q.holds
+    one_passed p q.there (sym (s.holds ∙ ap (λ (e : Placed). starts_document e.event) (same_Some _ _ (sym s.there ∙ q.there))) ∙ n) q.holds
 
 -- where a growth was not refused
 pub if_pushed : {T E A : Type 0} (r : Result T E) {x : A} (y z : A) {P : T → Type 0} → x ≡ (if is_ok r then y else z) → (x ≡ y → (t : T) → P t) → IfOk r P
