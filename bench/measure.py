@@ -1,6 +1,7 @@
 #!/usr/bin/env python3
 """Measures yamlfmt on text of 1 and 16 MB: processor seconds (user and system), their ratio, the peak of memory, and, where
-valgrind is installed, the instructions a byte on 300 KB, by phase. Of three runs the one with the least seconds counts.
+valgrind is installed, the instructions a byte on 300 KB, by phase. Of three runs the one with the least seconds counts. Real files differ,
+so with --real the 16 MB are measured beside the sixteen parts that they consist of too: their seconds over the mean of those.
 
 Usage: bench/measure.py [--dense | --real FOLDER..] [--program PROGRAM]     (default: the program that ./yamlfmt builds; build it first)
 
@@ -56,6 +57,12 @@ def text_of(size):
 
 def dense_text(size):
     return b'- a: 1\n' * (size // 7 + 1)
+
+
+def parts_of(text):
+    """The sixteen parts of a text of many documents, each cut before a document."""
+    cuts = [0] + [text.rfind(b'\n---\n', 0, len(text) * k // 16) + 1 for k in range(1, 16)] + [len(text)]
+    return [text[start:end] for start, end in zip(cuts, cuts[1:])]
 
 
 def is_accepted(program, text):
@@ -141,18 +148,27 @@ def instructions(verb, program, path):
     print('    %-20s %26.0f' % ('the rest', left / size))
 
 
-def measure(name, words, files, good=(0,)):
+def least(words, path, good):
+    """The run with the least seconds: of three, but of one where that takes ten seconds or more."""
+    best = run(words, path, good)
+    if best[0] is None or best[0] >= 10:
+        return best
+    return min(best, run(words, path, good), run(words, path, good))
+
+
+def measure(name, words, files, good=(0,), parts=()):
     seconds = []
     for path, size in files:
-        best = run(words, path, good)
+        best = least(words, path, good)
         if best[0] is None:
             print('%-24s %9d bytes  more than %d s' % (name, size, LIMIT))
             return
-        if best[0] < 10:
-            best = min(best, run(words, path, good), run(words, path, good))
         seconds.append(best[0])
         print('%-24s %9d bytes  %7.2f s  %6.1f bytes of memory a byte of input' % (name, size, best[0], best[1] / size))
     print('%-24s ratio of the times %.1f' % (name, seconds[1] / seconds[0]))
+    if parts:
+        mean = sum(least(words, path, good)[0] for path in parts) / len(parts)
+        print('%-24s ratio to its parts %.1f' % (name, seconds[1] / mean))
 
 
 ROUND_TRIP = 'import sys; from ruamel.yaml import YAML; y = YAML(); y.dump(y.load(sys.stdin), sys.stdout)'
@@ -186,17 +202,21 @@ def write_texts(given, folder):
     for size in SIZES:
         with open(os.path.join(folder, '%d.yaml' % size), 'wb') as out:
             out.write(text(size))
+    for k, part in enumerate(parts_of(text(SIZES[-1])) if given.real else []):
+        with open(os.path.join(folder, 'part%d.yaml' % k), 'wb') as out:
+            out.write(part)
 
 
 def written(given, folder):
-    """The paths of the texts. They are made in a process of its own: the memory of this one counts for each that it starts."""
+    """The paths of the texts, and of the parts. They are made in a process of its own: the memory of this one counts for each that it starts."""
     child = os.fork()
     if child == 0:
         write_texts(given, folder)
         sys.stdout.flush()
         os._exit(0)
     os.waitpid(child, 0)
-    return [os.path.join(folder, '%d.yaml' % size) for size in SIZES]
+    parts = [os.path.join(folder, 'part%d.yaml' % k) for k in range(16)] if given.real else []
+    return [os.path.join(folder, '%d.yaml' % size) for size in SIZES], parts
 
 
 def arguments():
@@ -213,11 +233,11 @@ def main():
     if not os.access(program, os.X_OK):
         sys.exit('there is no program %s: run ./yamlfmt once, which builds it' % program)
     with tempfile.TemporaryDirectory() as folder:
-        small, *paths = written(given, folder)
+        (small, *paths), parts = written(given, folder)
         files = [(path, os.path.getsize(path)) for path in paths]
-        measure('yamlfmt events', [program, 'events'], files)
-        measure('yamlfmt check', [program, 'check'], files, good=(0, 1))
-        measure('yamlfmt fmt', [program, 'fmt'], files)
+        measure('yamlfmt events', [program, 'events'], files, parts=parts)
+        measure('yamlfmt check', [program, 'check'], files, good=(0, 1), parts=parts)
+        measure('yamlfmt fmt', [program, 'fmt'], files, parts=parts)
         for verb in ('events', 'check', 'fmt'):
             instructions(verb, program, small)
         for name, words, good in peers(given.dense):

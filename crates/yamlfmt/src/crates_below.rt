@@ -9,6 +9,8 @@ mod events;
 mod flow;
 mod lines;
 mod node_text;
+mod older_writes;
 mod plain;
 mod props;
 mod quoted;
+mod writes;

@@ -163,7 +163,7 @@ fn following(seed: u64) -> u64 {
 }
 
 /// A text of so many pieces.
-fn generated(alloc: Global, seed: u64, count: usize) -> Result<String, AllocError> {
+pub fn generated(alloc: Global, seed: u64, count: usize) -> Result<String, AllocError> {
     let mut text = String::new(alloc);
     let mut number = seed;
     for _ in 0..count {

@@ -7,6 +7,7 @@ pub mod InlineLemmas
 pub mod KeyEndLemmas
 pub mod ShortLines
 pub mod SpacesBack
+pub mod WalkLemmas
 pub mod KeyNodes
 pub mod LookLemmas
 pub mod EntryLineLemmas

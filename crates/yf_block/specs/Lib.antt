@@ -27,3 +27,4 @@ pub mod ScalarTied
 pub mod RootTied
 pub mod RunTied
 pub mod StepAnswers
+pub mod WalksBack

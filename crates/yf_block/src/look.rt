@@ -5,7 +5,7 @@ ghost use Rattle.std.specs.Simd.Lanes.{chunk};
 ghost use Rattle.std.specs.Str.{IsCharBoundary};
 ghost use Rattle.yf_chars.specs.Text.{code};
 ghost use Rattle.yf_lines.specs.Basic.{Break, Spaces};
-ghost use Rattle.yf_comments.specs.Comments.{Blank, BlankBefore};
+ghost use Rattle.yf_comments.specs.Comments.{Blank};
 ghost use Rattle.yf_grammar.specs.BlockParser.{DashAt, LineText, LinesEnd, SignAt};
 ghost use Rattle.yf_grammar.specs.BlockScalar.{LinesBetween};
 ghost use Rattle.yf_grammar.specs.Part.{NotedSince};
@@ -15,6 +15,7 @@ ghost use Rattle.yf_block.specs.InlineAnswers.{KeyEnds};
 ghost use Rattle.yf_block.specs.InlineTied.{EntrySignAt};
 ghost use Rattle.yf_block.specs.LastStarts.{LastStartIs};
 ghost use Rattle.yf_block.specs.Looks.{EntryPlace, LineEndsAt, NotWithinBreak};
+ghost use Rattle.yf_block.specs.WalksBack.{WalksBack};
 
 use std::simd::prelude::*;
 use yf_chars::classes::is_ns_char;
@@ -198,8 +199,9 @@ pub(crate) fn entry_place(text: &str, at: usize) -> Option<usize>
 ///
 /// The walk ends at the first other character, so walks from different entries do not overlap.
 pub fn is_blank_after(text: &str, floor: usize, at: usize) -> bool
-    ensures { (code text.now at ≡ 10 → code text.now (at - 1) ≢ 13) → (floor < at → Blank text.now floor)
+    ensures noted { (code text.now at ≡ 10 → code text.now (at - 1) ≢ 13) → (floor < at → Blank text.now floor)
         → NotedSince text.now floor at result }
+    ensures walks { WalksBack text.now floor at false result }
 {
     if follows_text(text, floor, at) {
         return false;
@@ -210,7 +212,7 @@ pub fn is_blank_after(text: &str, floor: usize, at: usize) -> bool
 // Whether after the floor a visible ASCII character stands before the offset, and between them spaces alone, or a line feed and
 // then spaces alone.
 fn follows_text(text: &str, floor: usize, at: usize) -> bool
-    ensures { MatchBool result (BlankBefore text.now at → ⊥) ⊤ }
+    ensures { MatchBool result (WalksBack text.now floor at false false) ⊤ }
 {
     let bytes = text.as_bytes();
     if at > bytes.len() {
@@ -261,8 +263,7 @@ fn is_visible(byte: u8) -> bool
 // Whether a line of white space alone is met going back from the offset.
 #[inline(never)]
 fn walk_back(text: &str, floor: usize, at: usize) -> bool
-    ensures { (code text.now at ≡ 10 → code text.now (at - 1) ≢ 13) → (floor < at → Blank text.now floor)
-        → NotedSince text.now floor at result }
+    ensures { WalksBack text.now floor at false result }
 {
     let mut place = at;
     // whether white space alone stands between the place and a line break

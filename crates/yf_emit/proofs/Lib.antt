@@ -187,6 +187,8 @@ pub mod FixedRows
 pub mod FixedFormats
 pub mod PlacedRows
 pub mod HalvingLemmas
+pub mod HalvingEnds
+pub mod SearchLemmas
 pub mod HeadRows
 pub mod FoundNodes
 -- the lines of what formatting gives, which the rules of style look at

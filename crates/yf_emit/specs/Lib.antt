@@ -56,3 +56,4 @@ pub mod AlikeBlocks
 pub mod FixedLaws
 pub mod FlowsAlone
 pub mod FlowTexts
+pub mod Halving

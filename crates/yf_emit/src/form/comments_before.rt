@@ -1,9 +1,10 @@
 //! Where comments stand among the nodes.
-ghost use Rattle.std.specs.Prelude.{◌≡◌, ◌+◌, ◌<◌, ◌≤◌, drop, false, length, map, nat_lt, true, ℕ, IfSome, MatchOption};
+ghost use Rattle.std.specs.Prelude.{◌≡◌, ◌+◌, ◌<◌, ◌≤◌, ◌⊎◌, drop, false, length, map, nat_lt, true, ℕ, IfSome, MatchOption};
 ghost use Rattle.std.specs.List.{AllWithin, HoldsAt};
 ghost use Rattle.std.specs.List.Sorted.{IsNonDecreasingBy, IsPartitionPoint};
 ghost use Rattle.yf_comments.specs.Comment.{comment_value};
 ghost use Rattle.yf_emit.specs.Drafts.{count_to};
+ghost use Rattle.yf_emit.specs.Halving.{Halves, HalvesBetween, MayBegin, StaysUnknown};
 ghost use Rattle.yf_emit.specs.Kept.{is_within};
 
 use yf_comments::comment::Comment;
@@ -14,7 +15,8 @@ const UNKNOWN: usize = usize::MAX;
 /// Where the first search for an offset begins: at the first comment, where the comments are in the order of the text. Where they
 /// are not, which no reading of a text has, what a search finds would depend on where it begins.
 pub(crate) fn first_search(comments: &[Comment]) -> usize
-    ensures { result ≡ 0 → IsNonDecreasingBy (λ c. c.offset) comments.now }
+    ensures rising { result ≡ 0 → IsNonDecreasingBy (λ c. c.offset) comments.now }
+    ensures either { (result ≡ 0) ⊎ (result ≡ UNKNOWN) }
 {
     let mut k = 1;
     while k < comments.len() {
@@ -32,6 +34,7 @@ fn low_by(comments: &[Comment], near: usize, offset: usize) -> usize
     ensures near { result ≤ near }
     ensures within { result ≤ length comments.now }
     ensures before { IsNonDecreasingBy (λ c. c.offset) comments.now → AllWithin (λ c. nat_lt c.offset offset ≡ true) comments.now 0 result }
+    ensures unknown { length comments.now < near → result ≡ 0 }
 {
     if near > 0 {
         if near <= comments.len() {
@@ -50,6 +53,7 @@ fn high_by(comments: &[Comment], near: usize, offset: usize) -> usize
     ensures within { result ≤ length comments.now }
     ensures behind { IsNonDecreasingBy (λ c. c.offset) comments.now
         → AllWithin (λ c. nat_lt c.offset offset ≡ false) comments.now result (length comments.now) }
+    ensures unknown { length comments.now < near → result ≡ length comments.now }
 {
     if near < comments.len() {
         if offset <= comments[near].offset {
@@ -63,9 +67,11 @@ fn high_by(comments: &[Comment], near: usize, offset: usize) -> usize
 /// the order of the text.
 #[inline(always)]
 pub(crate) fn count_near(comments: &[Comment], near: usize, offset: usize) -> usize
+    requires { MayBegin (λ c. c.offset) comments.now near }
     ensures within { result ≤ length comments.now }
     ensures halves { IsNonDecreasingBy (λ c. c.offset) comments.now
         → IsPartitionPoint (λ c. nat_lt c.offset offset ≡ true) (λ c. nat_lt c.offset offset ≡ false) comments.now result }
+    ensures ends { Halves (map (λ c. c.offset) comments.now) offset 0 (length comments.now) result }
 {
     let mut low = low_by(comments, near, offset);
     let mut high = high_by(comments, near, offset);
@@ -85,6 +91,7 @@ pub fn count_before(comments: &[Comment], offset: usize) -> usize
     ensures within { result ≤ length comments.now }
     ensures halves { IsNonDecreasingBy (λ c. c.offset) comments.now
         → IsPartitionPoint (λ c. nat_lt c.offset offset ≡ true) (λ c. nat_lt c.offset offset ≡ false) comments.now result }
+    ensures ends { Halves (map (λ c. c.offset) comments.now) offset 0 (length comments.now) result }
 {
     count_near(comments, UNKNOWN, offset)
 }
@@ -98,11 +105,14 @@ pub(crate) fn first_near(
     from: usize,
     to: usize,
 ) -> Option<usize>
+    requires { MayBegin (λ c. c.offset) comments.now near.old }
     ensures within { IfSome result (λ k. k < length comments.now) }
     ensures first { IsNonDecreasingBy (λ c. c.offset) comments.now
         → MatchOption result (AllWithin (λ c. is_within from to (comment_value c) ≡ false) comments.now 0 (length comments.now))
         (λ k. AllWithin (λ c. is_within from to (comment_value c) ≡ false) comments.now 0 k
         × HoldsAt (λ c. is_within from to (comment_value c) ≡ true) comments.now k) }
+    ensures ends { HalvesBetween (map (λ c. c.offset) comments.now) from to result }
+    ensures near { StaysUnknown near.old near.new }
 {
     let k = count_near(comments, *near, from);
     if *near != UNKNOWN {
@@ -123,6 +133,7 @@ pub fn first_between(comments: &[Comment], from: usize, to: usize) -> Option<usi
         → MatchOption result (AllWithin (λ c. is_within from to (comment_value c) ≡ false) comments.now 0 (length comments.now))
         (λ k. AllWithin (λ c. is_within from to (comment_value c) ≡ false) comments.now 0 k
         × HoldsAt (λ c. is_within from to (comment_value c) ≡ true) comments.now k) }
+    ensures ends { HalvesBetween (map (λ c. c.offset) comments.now) from to result }
 {
     let mut near = UNKNOWN;
     first_near(comments, &mut near, from, to)

@@ -7,6 +7,7 @@ ghost use Rattle.yf_emit.specs.Deciding as Deciding;
 ghost use Rattle.yf_emit.specs.Deciding.{given, state};
 ghost use Rattle.yf_emit.specs.EventsGiven.{given_in};
 ghost use Rattle.yf_emit.specs.Forms.{no_form, Decided};
+ghost use Rattle.yf_emit.specs.Halving.{MayBegin, StaysUnknown};
 ghost use Rattle.yf_emit.specs.ImplicitKeys.{TellsImplicit};
 
 use crate::form::comments_before::first_search;
@@ -77,10 +78,12 @@ fn node(
     facts: &EventFacts,
     is_map: bool,
 ) -> Result<usize, AllocError>
-    requires { facts.now.i < length facts.now.reading.now.events }
-    ensures { IfOk result (λ done. IsNonDecreasingBy (λ c. c.offset) facts.now.reading.now.comments
+    requires within { facts.now.i < length facts.now.reading.now.events }
+    requires begins { MayBegin (λ c. c.offset) facts.now.reading.now.comments near.old }
+    ensures forms { IfOk result (λ done. IsNonDecreasingBy (λ c. c.offset) facts.now.reading.now.comments
         → state list.new (reverse stack.new.items) done ≡ Deciding.node (given_in facts.now) (event_value facts.now.event.now) facts.now.i
         facts.now.measure.now is_map list.old (reverse stack.old.items)) }
+    ensures near { StaysUnknown near.old near.new }
 {
     let measure = facts.measure;
     let place = place_node(stack, near, facts);
@@ -110,10 +113,12 @@ fn pass(
     near: &mut usize,
     facts: &EventFacts,
 ) -> Result<usize, AllocError>
-    requires { facts.now.i < length facts.now.reading.now.events }
-    ensures { IfOk result (λ done. IsNonDecreasingBy (λ c. c.offset) facts.now.reading.now.comments
+    requires within { facts.now.i < length facts.now.reading.now.events }
+    requires begins { MayBegin (λ c. c.offset) facts.now.reading.now.comments near.old }
+    ensures forms { IfOk result (λ done. IsNonDecreasingBy (λ c. c.offset) facts.now.reading.now.comments
         → state list.new (reverse stack.new.items) done ≡ Deciding.past (given_in facts.now) (event_value facts.now.event.now) facts.now.i
         facts.now.measure.now list.old (reverse stack.old.items)) }
+    ensures near { StaysUnknown near.old near.new }
 {
     match facts.event {
         Event::Scalar { .. } => node(list, stack, near, facts, false),
@@ -148,11 +153,13 @@ fn advance(
     i: usize,
     done: usize,
 ) -> Result<usize, AllocError>
-    requires { i < length measured.now.reading.now.events }
-    ensures { IfOk result (λ r. IsNonDecreasingBy (λ c. c.offset) measured.now.reading.now.comments → length list.old ≡ i
+    requires within { i < length measured.now.reading.now.events }
+    requires begins { MayBegin (λ c. c.offset) measured.now.reading.now.comments near.old }
+    ensures forms { IfOk result (λ r. IsNonDecreasingBy (λ c. c.offset) measured.now.reading.now.comments → length list.old ≡ i
         → state list.new (reverse stack.new.items) r ≡ Deciding.next
         (given measured.now.style.now measured.now.reading.now.comments measured.now.reading.now.events) measured.now.measures.now
         (event_value event.now) (state list.old (reverse stack.old.items) done)) }
+    ensures near { StaysUnknown near.old near.new }
 {
     if done < i {
         let measure = measured.measures.at(i);

@@ -202,7 +202,8 @@ fn push_between(
 /// The text on one line, from bracket to bracket, of the flow collection that the event at an index begins. `None` where
 /// it cannot be kept, wherever it stands: where a comment stands between its brackets, or it holds an empty scalar or a
 /// plain one that does not stay plain. `None` too of an empty collection, and of an event that begins no flow collection.
-/// The measures are those of the reading.
+/// The measures are those of the reading; of an event that begins a flow collection they may be those of flow collections
+/// alone.
 pub fn kept_text_of(
     alloc: Global,
     measures: &Measures,
@@ -210,25 +211,7 @@ pub fn kept_text_of(
     i: usize,
     style: &Style,
 ) -> Result<Option<String>, AllocError>
-    ensures { IfOk result (λ o. TellsKept reading.now.events style.now measures.now i (option_map string_bytes o)) }
-{
-    let measure = measures.at(i);
-    if !measure.can_be_kept {
-        return Ok(None);
-    }
-    let mut text = String::new(alloc);
-    push_kept(alloc, &mut text, reading, i, measure.last, style)?;
-    Ok(Some(text))
-}
-
-/// The same of an event that begins a flow collection. The measures may be those of flow collections alone.
-pub fn kept_flow_text(
-    alloc: Global,
-    measures: &Measures,
-    reading: &Reading,
-    i: usize,
-    style: &Style,
-) -> Result<Option<String>, AllocError>
+    ensures kept { IfOk result (λ o. TellsKept reading.now.events style.now measures.now i (option_map string_bytes o)) }
     ensures exact { IfOk result (λ o. option_map string_bytes o
         ≡ text_measured style.now.quotes reading.now.events i (get_or measures.now i no_measure)) }
     ensures tells { IfOk result (λ o. TellsFlow reading.now.events style.now measures.now i (option_map string_bytes o)) }

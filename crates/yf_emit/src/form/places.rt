@@ -5,6 +5,7 @@ ghost use Rattle.yf_comments.specs.Comment.{comment_value};
 ghost use Rattle.yf_events.specs.Event.{event_value};
 ghost use Rattle.yf_emit.specs.Deciding as Deciding;
 ghost use Rattle.yf_emit.specs.EventsGiven.{given_in};
+ghost use Rattle.yf_emit.specs.Halving.{MayBegin, StaysUnknown};
 
 use crate::form::comments_before::first_near;
 use crate::form::keys::{Key, is_implicit_key, key_of, leaf_start};
@@ -70,8 +71,10 @@ pub(crate) fn fits(column: usize, width: Option<usize>, style: &Style) -> bool
 /// The first comment after the one byte offset and before the other; `near` is where the last search ended.
 #[inline(always)]
 fn comment_between(comments: &[Comment], near: &mut usize, from: usize, to: usize) -> Option<usize>
-    ensures { IsNonDecreasingBy (λ c. c.offset) (map comment_value comments.now)
+    requires { MayBegin (λ c. c.offset) comments.now near.old }
+    ensures between { IsNonDecreasingBy (λ c. c.offset) (map comment_value comments.now)
         → result ≡ Deciding.comment_between (map comment_value comments.now) from (Some to) }
+    ensures near { StaysUnknown near.old near.new }
 {
     first_near(comments, near, from.saturating_add(1), to)
 }
@@ -84,8 +87,10 @@ fn comment_before(
     from: usize,
     to: Option<usize>,
 ) -> Option<usize>
-    ensures { IsNonDecreasingBy (λ c. c.offset) (map comment_value comments.now)
+    requires { MayBegin (λ c. c.offset) comments.now near.old }
+    ensures between { IsNonDecreasingBy (λ c. c.offset) (map comment_value comments.now)
         → result ≡ Deciding.comment_between (map comment_value comments.now) from to }
+    ensures near { StaysUnknown near.old near.new }
 {
     match to {
         Some(to) => comment_between(comments, near, from, to),
@@ -103,8 +108,10 @@ fn trailing_comment(
     i: usize,
     measure: &Measure,
 ) -> Option<usize>
-    ensures { IsNonDecreasingBy (λ c. c.offset) reading.now.comments
+    requires { MayBegin (λ c. c.offset) reading.now.comments near.old }
+    ensures trailing { IsNonDecreasingBy (λ c. c.offset) reading.now.comments
         → result ≡ Deciding.trailing_comment reading.now.comments reading.now.events start i measure.now }
+    ensures near { StaysUnknown near.old near.new }
 {
     let to = leaf_start(reading, measure.first_leaf);
     if measure.is_leaf(i) {
@@ -151,8 +158,10 @@ fn comment_if(
 /// Where the value of an implicit key stands.
 #[inline(always)]
 fn value_place(facts: &EventFacts, near: &mut usize, key: &Key, column: usize) -> Place
-    ensures { IsNonDecreasingBy (λ c. c.offset) facts.now.reading.now.comments
+    requires { MayBegin (λ c. c.offset) facts.now.reading.now.comments near.old }
+    ensures place { IsNonDecreasingBy (λ c. c.offset) facts.now.reading.now.comments
         → result ≡ Deciding.value_place (given_in facts.now) (event_value facts.now.event.now) facts.now.i facts.now.measure.now key.now column }
+    ensures near { StaysUnknown near.old near.new }
 {
     let entries = value_entries(facts.event, column, facts.style);
     match trailing_comment(facts.reading, near, key.start, facts.i, facts.measure) {
@@ -191,7 +200,8 @@ fn key_place(column: usize, is_implicit: bool, style: &Style) -> Place
 /// Where a key or a value stands that is the next node of a mapping. A key waits there for its value from here on.
 #[inline(always)]
 fn place_in_map(level: &mut Level, near: &mut usize, facts: &EventFacts) -> Place
-    requires { facts.now.i < length facts.now.reading.now.events }
+    requires within { facts.now.i < length facts.now.reading.now.events }
+    requires begins { MayBegin (λ c. c.offset) facts.now.reading.now.comments near.old }
     ensures place { IsNonDecreasingBy (λ c. c.offset) facts.now.reading.now.comments
         → result ≡ Deciding.place_in_map (given_in facts.now) (event_value facts.now.event.now) facts.now.i facts.now.measure.now
         level.old.column level.old.key }
@@ -201,6 +211,7 @@ fn place_in_map(level: &mut Level, near: &mut usize, facts: &EventFacts) -> Plac
       key = Deciding.key_behind (given_in facts.now) (event_value facts.now.event.now) facts.now.i facts.now.measure.now
           level.old.column level.old.key;
     } }
+    ensures near { StaysUnknown near.old near.new }
 {
     match level.key {
         Some(key) => {
@@ -221,13 +232,15 @@ fn place_in_map(level: &mut Level, near: &mut usize, facts: &EventFacts) -> Plac
 /// Where the next node of a collection stands, which is noted there.
 #[inline(always)]
 fn place_within(level: &mut Level, near: &mut usize, facts: &EventFacts) -> Place
-    requires { facts.now.i < length facts.now.reading.now.events }
+    requires within { facts.now.i < length facts.now.reading.now.events }
+    requires begins { MayBegin (λ c. c.offset) facts.now.reading.now.comments near.old }
     ensures place { (others : List Level) → IsNonDecreasingBy (λ c. c.offset) facts.now.reading.now.comments
         → result ≡ Deciding.next_place (given_in facts.now) (event_value facts.now.event.now) facts.now.i facts.now.measure.now
         (level.old ∷ others) }
     ensures level { (others : List Level) → level.new ∷ others
         ≡ Deciding.next_stack (given_in facts.now) (event_value facts.now.event.now) facts.now.i facts.now.measure.now
         (level.old ∷ others) }
+    ensures near { StaysUnknown near.old near.new }
 {
     if level.is_map {
         return place_in_map(level, near, facts);
@@ -239,12 +252,14 @@ fn place_within(level: &mut Level, near: &mut usize, facts: &EventFacts) -> Plac
 /// Among the comments `near` is where the last search ended.
 #[inline(always)]
 pub(crate) fn place_node(stack: &mut Vec<Level>, near: &mut usize, facts: &EventFacts) -> Place
-    requires { facts.now.i < length facts.now.reading.now.events }
+    requires within { facts.now.i < length facts.now.reading.now.events }
+    requires begins { MayBegin (λ c. c.offset) facts.now.reading.now.comments near.old }
     ensures place { IsNonDecreasingBy (λ c. c.offset) facts.now.reading.now.comments
         → result ≡ Deciding.next_place (given_in facts.now) (event_value facts.now.event.now) facts.now.i facts.now.measure.now
         (reverse stack.old.items) }
     ensures stack { reverse stack.new.items ≡ Deciding.next_stack (given_in facts.now) (event_value facts.now.event.now) facts.now.i
         facts.now.measure.now (reverse stack.old.items) }
+    ensures near { StaysUnknown near.old near.new }
 {
     let count = stack.len();
     if count > 0 {

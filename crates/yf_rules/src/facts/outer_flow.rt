@@ -1,5 +1,6 @@
 //! Which events stand in a flow collection, told in one pass over the events of a reading that was measured.
 ghost use Rattle.std.specs.Prelude.{◌≡◌, ◌<◌, ◌+◌, ℕ, List, Some, length, slice_get};
+ghost use Rattle.yf_emit.specs.FlowsAlone.{flows_alone};
 ghost use Rattle.yf_emit.specs.Measures.{Measured};
 ghost use Rattle.yf_emit.specs.Normal.{Setting};
 ghost use Rattle.yf_events.specs.Event.{EventValue};
@@ -26,12 +27,15 @@ pub fn starts_flow(reading: &Reading, i: usize) -> bool
 }
 
 /// Goes past the event at an index: `done` is the index of the last event of the flow collections before it, and so is what is
-/// answered of those up to it. It is 0 where there is none.
+/// answered of those up to it. It is 0 where there is none. The measures are those of the reading, or of flow collections alone.
 #[inline(always)]
 pub fn past_flow(reading: &Reading, measures: &Measures, i: usize, done: usize) -> usize
     requires { i < length reading.now.events }
-    ensures { (t : List ℕ) (c : Setting) (trees : List DocumentTree) → TreesOf reading.now trees
+    ensures measured { (t : List ℕ) (c : Setting) (trees : List DocumentTree) → TreesOf reading.now trees
         → Measured t c reading.now.events measures.now → FlowsDone reading.now.events i done → FlowsDone reading.now.events (i + 1) result }
+    ensures alone { (t : List ℕ) (c : Setting) (trees : List DocumentTree) → TreesOf reading.now trees
+        → Measured t c (flows_alone 0 reading.now.events) measures.now → FlowsDone reading.now.events i done
+        → FlowsDone reading.now.events (i + 1) result }
 {
     if i <= done {
         return done;

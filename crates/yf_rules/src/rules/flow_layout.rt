@@ -1,5 +1,5 @@
 //! Rule 9, flow-layout.
-ghost use Rattle.std.specs.Prelude.{◌≡◌, ◌≢◌, ◌<◌, ◌+◌, ℕ, true, false, List, Option, Some, length, slice_get, slice_range, IfOk, MatchBool};
+ghost use Rattle.std.specs.Prelude.{◌≡◌, ◌≢◌, ◌<◌, ℕ, true, false, List, Option, Some, length, slice_get, slice_range, IfOk, MatchBool};
 ghost use Rattle.yf_emit.specs.FlowsAlone.{flows_alone};
 ghost use Rattle.yf_emit.specs.Keys.{NodeAt};
 ghost use Rattle.yf_emit.specs.Measures.{Measured};
@@ -15,10 +15,10 @@ ghost use Rattle.yf_rules.specs.OuterFlow as OuterFlow;
 ghost use Rattle.yf_rules.specs.OuterFlow.{FlowsDone, is_flow};
 ghost use Rattle.yf_rules.specs.Sets.{flow_layout_at};
 
-use crate::facts::outer_flow::starts_flow;
+use crate::facts::outer_flow::{past_flow, starts_flow};
 use crate::rule::{AllocError, Global, Offsets, Reading, Src, Style, push_found};
 pub use crate::rules::StyleRule::FlowLayout;
-use yf_emit::form::kept::kept_flow_text;
+use yf_emit::form::kept::kept_text_of;
 use yf_emit::form::measure_flows::measure_flows;
 use yf_emit::form::measures::Measures;
 use yf_emit::text::content_start::content_start;
@@ -39,26 +39,9 @@ pub fn offsets(alloc: Global, src: &Src, reading: &Reading, style: &Style) -> Of
             &mut offsets,
             displaced(alloc, src, reading, &measures, i, done, style)?,
         )?;
-        done = past_alone(reading, &measures, i, done);
+        done = past_flow(reading, &measures, i, done);
     }
     Ok(offsets)
-}
-
-/// Goes past the event at an index as `past_flow` does, with the measures of flow collections alone.
-#[inline(always)]
-fn past_alone(reading: &Reading, measures: &Measures, i: usize, done: usize) -> usize
-    requires { i < length reading.now.events }
-    ensures { (t : List ℕ) (c : Setting) (trees : List DocumentTree) → TreesOf reading.now trees
-        → Measured t c (flows_alone 0 reading.now.events) measures.now → FlowsDone reading.now.events i done
-        → FlowsDone reading.now.events (i + 1) result }
-{
-    if i <= done {
-        return done;
-    }
-    if starts_flow(reading, i) {
-        return measures.at(i).last;
-    }
-    done
 }
 
 /// Whether that text is this part of the text, which ends with the text at the latest.
@@ -136,7 +119,7 @@ fn is_displaced(
         }
         return Ok(true);
     }
-    match kept_flow_text(alloc, measures, reading, i, style)? {
+    match kept_text_of(alloc, measures, reading, i, style)? {
         Some(text) => {
             if is_text(src.text(), inside, text.as_str()) {
                 return Ok(ends_behind(src, inside.end, style));

@@ -9,7 +9,7 @@ loop-comment-init c =
 
 pub loop-comment-preserved : goal.loop-comment-preserved
 loop-comment-preserved c = record {
-  kept = kept_next c.as_slice-comment-items.result.now c.loop-comment.comment-index _ c.is_blank_after.result c.loop-comment-test.true (record { since = c.is_blank_after.ensures }) c.loop-comment.invariant.kept c.in_ok-push.ensures;
+  kept = kept_next c.as_slice-comment-items.result.now c.loop-comment.comment-index _ c.is_blank_after.result c.loop-comment-test.true (record { since = c.is_blank_after.ensures.noted }) c.loop-comment.invariant.kept c.in_ok-push.ensures;
   escapes = c.loop-comment.invariant.escapes;
   documents = c.loop-comment.invariant.documents;
   events = c.loop-comment.invariant.events;

@@ -1,5 +1,7 @@
-use Rattle.std.proofs.Common.{arith}
+use Rattle.std.proofs.Common.{arith, ⊎_elim}
 use Rattle.yf_emit.proofs.HalvingLemmas.{all_before, all_behind}
+use Rattle.yf_emit.proofs.HalvingEnds.{ends_at_point, all_halved, halved_behind, halved_before}
+use Rattle.yf_emit.specs.Halving.{none_left}
 use Rattle.yf_emit.proofs.form.comments_before.count_near.Goals as goal
 
 pub loop-low-init : goal.loop-low-init
@@ -8,6 +10,7 @@ loop-low-init c = record {
   within = c.high_by-high.ensures.within;
   before = c.low_by-low.ensures.before;
   behind = c.high_by-high.ensures.behind;
+  halved = λ l. all_halved c.args.comments.now c.args.offset _ _ (c.low_by-low.ensures.unknown l) (c.high_by-high.ensures.unknown l);
 }
 
 pub loop-low-preserved-then-comments-middle : goal.loop-low-preserved-then-comments-middle
@@ -16,6 +19,8 @@ loop-low-preserved-then-comments-middle c = record {
   within = c.loop-low.invariant.within;
   before = λ s k d a b. all_before c.args.comments.now _ c.args.offset _ s (omega arith) c.if-comments-middle.true k d b;
   behind = c.loop-low.invariant.behind;
+  halved = λ l end h. c.loop-low.invariant.halved l end
+      (halved_behind c.args.comments.now c.args.offset c.loop-low.low c.loop-low.high end _ c.loop-low-test.true c.loop-low.invariant.within c.if-comments-middle.true h);
 }
 
 pub loop-low-preserved : goal.loop-low-preserved
@@ -24,4 +29,14 @@ loop-low-preserved c = record {
   within = omega arith;
   before = c.loop-low.invariant.before;
   behind = λ s k d a b. all_behind c.args.comments.now _ c.args.offset _ s (omega arith) c.if-comments-middle.false k d a b;
+  halved = λ l end h. c.loop-low.invariant.halved l end
+      (halved_before c.args.comments.now c.args.offset c.loop-low.low c.loop-low.high end _ c.loop-low-test.true c.loop-low.invariant.within c.if-comments-middle.false h);
 }
+
+pub returns-clause-ends : goal.returns-clause-ends
+returns-clause-ends c =
+    ⊎_elim (λ u. c.loop-low.invariant.halved (omega arith) _ (none_left c.loop-low-test.false))
+    (λ s.
+    ends_at_point c.args.comments.now c.args.offset _ (omega arith)
+    (c.loop-low.invariant.before s, λ k d a b. c.loop-low.invariant.behind s k d (omega (arith, a)) b))
+    c.requires

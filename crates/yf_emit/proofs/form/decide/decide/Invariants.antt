@@ -2,6 +2,7 @@ use Rattle.std.proofs.Common.{◌≡◌, [], length, reverse}
 use Rattle.std.specs.Prelude.{drop}
 use Rattle.std.specs.List.Sorted.{IsNonDecreasingBy}
 use Rattle.yf_emit.specs.Deciding.{given, state, pass}
+use Rattle.yf_emit.specs.Halving.{MayBegin}
 use Rattle.yf_emit.proofs.form.decide.decide.Given as goal
 
 abbrev pub invariant-loop-i : goal.invariant-loop-i
@@ -10,4 +11,5 @@ invariant-loop-i l = record {
   runs : IsNonDecreasingBy (λ c. c.offset) l.reading.comments
       → pass (given l.style l.reading.comments l.reading.events) l.measures (drop l.i l.reading.events) (state l.list (reverse l.stack.items) l.done)
       ≡ pass (given l.style l.reading.comments l.reading.events) l.measures l.reading.events (state [] [] 0);
+  begins : MayBegin (λ c. c.offset) l.reading.comments l.near;
 }

@@ -10,7 +10,7 @@ loop-i-preserved c = λ trees of order.
     let m = c.in_ok-measures.ensures.measured order in (
       answer_found (Displaced c.args.src.now c.args.reading.now c.args.style.now) c.loop-i.i _ _ c.in_ok-displaced.field-0 v.0
           (c.in_ok-displaced.ensures trees of m v.1) c.in_ok-push_found.ensures,
-      c.past_alone-done.ensures _ _ trees of m v.1,
+      c.past_flow-done.ensures.alone _ _ trees of m v.1,
     )
 
 pub returns : goal.returns

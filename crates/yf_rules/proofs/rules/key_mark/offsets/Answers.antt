@@ -17,7 +17,7 @@ loop-i-preserved c = λ w.
     let k : TellsKeys t r s w.trees c.in_ok-forms.forms = tells_keys t r s w.trees c.in_ok-forms.forms
     (c.in_ok-forms.ensures.are w.comments t (setting_of r s) w.trees w.of_reading w.placed m) in (
       answer_found (NeedlessMark c.args.src.now r s w.trees) i _ _ c.needless.result v.0 (c.needless.ensures s w.trees k v.1) c.in_ok-push_found.ensures,
-      c.past_flow-done.ensures _ _ w.trees w.of_reading m v.1,
+      c.past_flow-done.ensures.measured _ _ w.trees w.of_reading m v.1,
     )
 
 pub returns : goal.returns

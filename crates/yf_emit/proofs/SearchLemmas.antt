@@ -1,0 +1,34 @@
+-- Where a search among comments may begin: for the comments, and for what a reading knows of them.
+use Rattle.std.proofs.Common.{arith, ◌≡◌, ◌⊎◌, ap, inl, inr, length, List, [], ◌∷◌, map, subst, sym, ℕ, ⊎_elim}
+use Rattle.std.proofs.lemmas.List.{get_or-map, length-map}
+use Rattle.std.specs.List.Sorted.{IsNonDecreasingBy}
+use Rattle.yf_comments.specs.Comment.{CommentValue, comment_value}
+use Rattle.yf_comments.specs.declared.comment.Comment.{Comment}
+use Rattle.yf_emit.specs.Halving.{MayBegin, StaysUnknown}
+use Rattle.yf_emit.specs.declared.form.comments_before.TheConstants.{UNKNOWN}
+use Rattle.yf_emit.proofs.OffsetLemmas.{same_order}
+
+pub begins_in_comments : (xs : List Comment) (cs : List CommentValue) (near : ℕ) → map comment_value xs ≡ cs
+    → MayBegin (λ (c : CommentValue). c.offset) cs near → MayBegin (λ (c : Comment). c.offset) xs near
+begins_in_comments xs cs near e m =
+    ⊎_elim (λ u. inl u) (λ s. inr (same_order xs (subst (λ zs. IsNonDecreasingBy (λ (c : CommentValue). c.offset) zs) (sym e) s))) m
+
+values_in_order : (xs : List Comment) → IsNonDecreasingBy (λ (c : Comment). c.offset) xs → IsNonDecreasingBy (λ (c : CommentValue). c.offset) (map comment_value xs)
+values_in_order [] s i j d a b = absurd (omega arith)
+values_in_order (x ∷ xs) s i j d a b =
+    let long : length (map comment_value (x ∷ xs)) ≡ length (x ∷ xs) = length-map (x ∷ xs) comment_value in
+    let h = s i j x a (omega (arith, long, b)) in
+    let e = ap (λ (c : CommentValue). c.offset) (get_or-map comment_value (x ∷ xs) i x d (omega (arith, long, a, b))) in
+    let f = ap (λ (c : CommentValue). c.offset) (get_or-map comment_value (x ∷ xs) j x d (omega (arith, long, b))) in
+    omega (arith, h, e, f)
+
+-- the first search
+pub begins_first : (xs : List Comment) (cs : List CommentValue) (near : ℕ) → map comment_value xs ≡ cs → (near ≡ 0 → IsNonDecreasingBy (λ (c : Comment). c.offset) xs)
+    → (near ≡ 0) ⊎ (near ≡ UNKNOWN) → MayBegin (λ (c : CommentValue). c.offset) cs near
+begins_first xs cs near e s b =
+    ⊎_elim (λ z. inr (subst (λ zs. IsNonDecreasingBy (λ (c : CommentValue). c.offset) zs) e (values_in_order xs (s z)))) (λ u. inl u) b
+
+-- the next one
+pub begins_next : (cs : List CommentValue) (near next : ℕ) → StaysUnknown near next → MayBegin (λ (c : CommentValue). c.offset) cs near
+    → MayBegin (λ (c : CommentValue). c.offset) cs next
+begins_next cs near next k m = ⊎_elim (λ u. inl (k u)) (λ s. inr s) m
