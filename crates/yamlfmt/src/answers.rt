@@ -4,6 +4,8 @@ use crate::command_line::{Cmd, Verb};
 use crate::program::run;
 use crate::report::report;
 use std::alloc::{AllocError, Global};
+use std::io;
+use std::process::Abort;
 use yf_emit::format::format;
 use yf_emit::style::Style;
 use yf_events::reading::Reading;
@@ -103,14 +105,24 @@ pub fn formatted(alloc: Global, text: &str, style: &Style) -> Result<String, Fau
     format(alloc, text, style)
 }
 
-/// The lines, which stand between ` / ` in a table.
-pub fn lines_of(alloc: Global, lines: &str) -> Result<String, AllocError> {
-    let mut text = String::new(alloc);
+/// Whether the text is those lines, which stand between ` / ` in a table.
+pub fn are_lines(text: &[u8], lines: &str) -> bool {
+    let mut rest = text;
     for line in lines.split(" / ") {
-        text.push_str(line)?;
-        text.push('\n')?;
+        match after_line(rest, line.as_bytes()) {
+            Some(after) => rest = after,
+            None => return false,
+        }
     }
-    Ok(text)
+    rest.is_empty()
+}
+
+/// What follows the line that begins a text.
+fn after_line<'a>(text: &'a [u8], line: &[u8]) -> Option<&'a [u8]> {
+    match text.strip_prefix(line) {
+        Some(rest) => rest.strip_prefix(b"\n".as_slice()),
+        None => None,
+    }
 }
 
 /// A text so many times between two others, the second of which stands so many times as well.
@@ -130,4 +142,14 @@ pub fn repeated(
         text.push_str(rest)?;
     }
     Ok(text)
+}
+
+/// Whether work on files was done, and what was asked of it holds.
+pub fn is_true(answer: &io::Result<bool>) -> bool {
+    matches!(answer, Ok(true))
+}
+
+/// Ends a test unless that holds. The text tells for which row of a table it should.
+pub fn must_hold<A: Abort>(rt: &A, holds: bool, row: &str) {
+    assert!(rt; holds, "{row}");
 }

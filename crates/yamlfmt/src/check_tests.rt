@@ -1,61 +1,74 @@
 //! What the checker finds, in tables of data.
 
-use crate::answers::{Answer, answer_to, lines_of};
+use crate::answers::{answer_to, are_lines, must_hold};
 use crate::command_line::Verb;
 use crate::rules::{WithRules, with_all_rules};
 use crate::settings::style_from_toml;
-use std::alloc::Global;
-use std::test::Fail;
+use std::alloc::{AllocError, Global};
+use std::process::Abort;
 use yf_emit::style::Style;
 use yf_rules::rule::Rule;
 
-/// A text that is checked in a style.
+/// A text, and what is found in it, between ` / `; of a text that is refused what is said of it, with its line feed.
+type Row = (&'static str, &'static str);
+
+/// Texts that are checked in a style.
 #[derive(Drop)]
-struct CheckOf<'a> {
+struct Checks<'a> {
     alloc: Global,
     style: &'a Style,
-    input: &'a str,
+    rows: &'static [Row],
 }
 
-impl WithRules for CheckOf<'_> {
-    type Answer = Answer;
-
-    /// What the checker answers with these rules.
-    fn with_rules(self, rules: &[Box<dyn Rule>]) -> Answer {
-        answer_to(
-            self.alloc,
-            Verb::Check,
-            rules,
-            self.style,
-            self.input.as_bytes(),
-        )
-    }
-}
-
-/// What the checker answers with all rules.
-fn checked(alloc: Global, style: &Style, input: &str) -> Result<Answer, Fail> {
-    Ok(with_all_rules(
-        alloc,
-        CheckOf {
-            alloc,
-            style,
-            input,
-        },
-    )?)
-}
-
-/// Whether the checker finds those, which stand between ` / `, and answers the status for it.
-fn finds(alloc: Global, style: &Style, input: &str, findings: &str) -> Result<bool, Fail> {
-    let found = checked(alloc, style, input)?;
+/// Whether the checker finds those in a text, and answers the status for it.
+fn finds(
+    alloc: Global,
+    rules: &[Box<dyn Rule>],
+    style: &Style,
+    input: &str,
+    findings: &str,
+) -> bool {
+    let found = answer_to(alloc, Verb::Check, rules, style, input.as_bytes());
     if findings.is_empty() {
-        return Ok(found.status == 0 && found.output.is_empty());
+        return found.status == 0 && found.output.is_empty();
     }
-    let wanted = lines_of(alloc, findings)?;
-    Ok(found.status == 1 && found.output.as_slice() == wanted.as_str().as_bytes())
+    if findings.ends_with('\n') {
+        return found.is(2, "", findings);
+    }
+    found.status == 1 && are_lines(found.output.as_slice(), findings)
+}
+
+impl WithRules for Checks<'_> {
+    type Answer = Option<&'static str>;
+
+    /// The first text in which the checker finds something else with these rules.
+    fn with_rules(self, rules: &[Box<dyn Rule>]) -> Option<&'static str> {
+        let Checks { alloc, style, rows } = self;
+        for (input, findings) in rows {
+            if !finds(alloc, rules, style, input, findings) {
+                return Some(*input);
+            }
+        }
+        None
+    }
+}
+
+/// The first text in which the checker finds something else with all rules.
+fn first_wrong(alloc: Global, style: &Style, rows: &'static [Row]) -> Option<&'static str> {
+    match with_all_rules(alloc, Checks { alloc, style, rows }) {
+        Ok(wrong) => wrong,
+        Err(AllocError) => Some("no memory for rules"),
+    }
+}
+
+/// Ends a test unless the checker finds that in all of these texts.
+fn must_find<A: Abort>(rt: &A, alloc: Global, style: &Style, rows: &'static [Row]) {
+    let wrong = first_wrong(alloc, style, rows);
+    must_hold(rt, wrong.is_none(), wrong.unwrap_or(""));
 }
 
 /// Streams, and what is found in them.
-const MENDED: [(&str, &str); 8] = [
+static MENDED: [(&str, &str); 8] = [
     ("- a\n- b\n", "1:1 document-start (fixable)"),
     (
         "foo: &a x\nbar: {*a : y, &b: z}\n",
@@ -85,18 +98,12 @@ const MENDED: [(&str, &str); 8] = [
 ];
 
 #[test]
-fn finds_what_the_house_style_mends(rt: HostRuntime) -> Result<(), Fail> {
-    for (input, findings) in MENDED {
-        assert!(rt;
-            finds(rt.alloc(), &Style::house(), input, findings)?,
-            "{input}"
-        );
-    }
-    Ok(())
+fn finds_what_the_house_style_mends(rt: HostRuntime) {
+    must_find(&rt, rt.alloc(), &Style::house(), &MENDED);
 }
 
 /// Streams with faults in lines and keys, and what is found in them.
-const LINES_AND_KEYS: [(&str, &str); 6] = [
+static LINES_AND_KEYS: [(&str, &str); 6] = [
     (
         "# c\n\n\n# d",
         "3:1 blank-lines (fixable) / 4:4 final-break (fixable)",
@@ -124,57 +131,50 @@ const LINES_AND_KEYS: [(&str, &str); 6] = [
 ];
 
 #[test]
-fn finds_lines_and_keys(rt: HostRuntime) -> Result<(), Fail> {
-    for (input, findings) in LINES_AND_KEYS {
-        assert!(rt;
-            finds(rt.alloc(), &Style::house(), input, findings)?,
-            "{input}"
-        );
-    }
-    Ok(())
+fn finds_lines_and_keys(rt: HostRuntime) {
+    must_find(&rt, rt.alloc(), &Style::house(), &LINES_AND_KEYS);
 }
 
 /// Streams in which nothing is found.
-const IN_HOUSE_STYLE: [&str; 7] = [
-    "",
-    "---\n# c\n",
-    "---\n|+\n  a\n\n",
-    "---\n- |\n  ---\n\n- b\n",
-    "---\na:\n  b: 1\n\n  # c\n\n  d: 2\n---\ne\n",
-    "---\n? |\n  x\n: y\n",
-    "---\na:\n  - x\n",
+static IN_HOUSE_STYLE: [Row; 7] = [
+    ("", ""),
+    ("---\n# c\n", ""),
+    ("---\n|+\n  a\n\n", ""),
+    ("---\n- |\n  ---\n\n- b\n", ""),
+    ("---\na:\n  b: 1\n\n  # c\n\n  d: 2\n---\ne\n", ""),
+    ("---\n? |\n  x\n: y\n", ""),
+    ("---\na:\n  - x\n", ""),
 ];
 
 #[test]
-fn finds_nothing_in_the_house_style(rt: HostRuntime) -> Result<(), Fail> {
-    for input in IN_HOUSE_STYLE {
-        assert!(rt; finds(rt.alloc(), &Style::house(), input, "")?, "{input}");
+fn finds_nothing_in_the_house_style(rt: HostRuntime) {
+    must_find(&rt, rt.alloc(), &Style::house(), &IN_HOUSE_STYLE);
+}
+
+/// Streams with sequences, and what is found in them where sequences stand at their keys.
+static SEQUENCES: [Row; 2] = [
+    ("---\na:\n  - x\n", "3:3 indentation (fixable)"),
+    ("---\na:\n- x\n", ""),
+];
+
+/// The same as `first_wrong`, in the style that settings make.
+fn first_wrong_under(alloc: Global, settings: &str, rows: &'static [Row]) -> Option<&'static str> {
+    match style_from_toml(alloc, settings) {
+        Ok(style) => first_wrong(alloc, &style, rows),
+        Err(_) => Some("settings"),
     }
-    Ok(())
 }
 
 #[test]
-fn checks_sequences_at_their_keys(rt: HostRuntime) -> Result<(), Fail> {
-    let style = match style_from_toml(rt.alloc(), "seq_indent = false\n") {
-        Ok(style) => style,
-        Err(fault) => panic!(rt; "{fault}"),
-    };
-    assert!(rt;
-        finds(
-            rt.alloc(),
-            &style,
-            "---\na:\n  - x\n",
-            "3:3 indentation (fixable)"
-        )?
-    );
-    assert!(rt; finds(rt.alloc(), &style, "---\na:\n- x\n", "")?);
-    Ok(())
+fn checks_sequences_at_their_keys(rt: HostRuntime) {
+    let wrong = first_wrong_under(rt.alloc(), "seq_indent = false\n", &SEQUENCES);
+    must_hold(&rt, wrong.is_none(), wrong.unwrap_or(""));
 }
 
+/// A stream that is refused.
+static REFUSED: [Row; 1] = [("- *a \n", "1:3 refused: unknown-alias\n")];
+
 #[test]
-fn checks_accepted_streams_alone(rt: HostRuntime) -> Result<(), Fail> {
-    let refused = checked(rt.alloc(), &Style::house(), "- *a \n")?;
-    assert!(rt; refused.status == 2 && refused.output.is_empty());
-    assert!(rt; refused.line.as_slice() == b"1:3 refused: unknown-alias\n".as_slice());
-    Ok(())
+fn checks_accepted_streams_alone(rt: HostRuntime) {
+    must_find(&rt, rt.alloc(), &Style::house(), &REFUSED);
 }

@@ -1,8 +1,8 @@
 //! Command lines: what they ask for, and the texts of help and of refusals.
 
+use crate::answers::must_hold;
 use crate::command_line::{Cmd, Usage, Verb, parse_line};
 use std::alloc::{AllocError, Global};
-use std::test::Fail;
 use yf_lines::text::OwnedText;
 
 fn words_of(alloc: Global, line: &str) -> Result<Vec<String>, AllocError> {
@@ -15,42 +15,43 @@ fn words_of(alloc: Global, line: &str) -> Result<Vec<String>, AllocError> {
     Ok(words)
 }
 
-/// What the words of a line ask for.
-fn parsed(alloc: Global, line: &str) -> Result<Result<Cmd, Usage>, AllocError> {
-    let words = words_of(alloc, line)?;
-    Ok(parse_line(alloc, words.as_slice()))
-}
-
-/// The text, and nothing where there is none.
-fn text_or_empty(text: &Option<OwnedText>) -> &str {
-    match text {
-        Some(text) => text.as_str(),
-        None => "",
+/// What the words of a line ask for, unless memory for them was refused.
+fn parsed(alloc: Global, line: &str) -> Result<Cmd, Usage> {
+    match words_of(alloc, line) {
+        Ok(words) => parse_line(alloc, words.as_slice()),
+        Err(AllocError) => Err(Usage::Memory),
     }
 }
 
-/// Whether a line asks for that command.
-fn asks_for(
-    alloc: Global,
-    line: &str,
-    verb: Verb,
-    config: &str,
-    file: &str,
-    write: bool,
-) -> Result<bool, AllocError> {
-    match parsed(alloc, line)? {
-        Ok(command) => Ok(
-            command.verb == verb
-                && command.write == write
-                && text_or_empty(&command.config) == config
-                && text_or_empty(&command.file) == file,
-        ),
-        Err(_) => Ok(false),
+/// Whether there is that text, or none where it is empty.
+fn is_text(found: &Option<OwnedText>, text: &str) -> bool {
+    match found {
+        Some(found) => found.as_str() == text,
+        None => text.is_empty(),
     }
 }
 
-/// Lines, and the command for which they ask: the settings file, the file, and whether it is rewritten.
-const COMMANDS: [(&str, Verb, &str, &str, bool); 7] = [
+/// A line, and the command for which it asks: the settings file, the file, and whether it is rewritten.
+type Asked = (&'static str, Verb, &'static str, &'static str, bool);
+
+/// Whether that command is asked for.
+fn is_asked(command: &Cmd, asked: &Asked) -> bool {
+    command.verb == asked.1
+        && command.write == asked.4
+        && is_text(&command.config, asked.2)
+        && is_text(&command.file, asked.3)
+}
+
+/// Whether a line asks for its command.
+fn asks(alloc: Global, asked: &Asked) -> bool {
+    match &parsed(alloc, asked.0) {
+        Ok(command) => is_asked(command, asked),
+        Err(_) => false,
+    }
+}
+
+/// Lines with their commands.
+static COMMANDS: [Asked; 7] = [
     ("events", Verb::Events, "", "", false),
     ("events a.yaml", Verb::Events, "", "a.yaml", false),
     ("check a.yaml", Verb::Check, "", "a.yaml", false),
@@ -73,30 +74,28 @@ const COMMANDS: [(&str, Verb, &str, &str, bool); 7] = [
 ];
 
 #[test]
-fn reads_commands(rt: HostRuntime) -> Result<(), Fail> {
-    for (line, verb, config, file, write) in COMMANDS {
-        assert!(rt;
-            asks_for(rt.alloc(), line, verb, config, file, write)?,
-            "{line}"
-        );
+fn reads_commands(rt: HostRuntime) {
+    for asked in &COMMANDS {
+        must_hold(&rt, asks(rt.alloc(), asked), asked.0);
     }
-    Ok(())
 }
 
-/// What is printed for a line: `0` and the text of help, `3` and why it is refused, and nothing for a command.
-fn said(alloc: Global, line: &str) -> Result<String, AllocError> {
-    let (sign, text) = match parsed(alloc, line)? {
-        Err(Usage::Help(text)) => ("0", text),
-        Err(Usage::Wrong(text)) => ("3", text),
-        _ => return Ok(String::new(alloc)),
-    };
-    let mut shown = String::from_str(alloc, sign)?;
-    shown.push_str(text.as_str())?;
-    Ok(shown)
+/// Whether that is printed for what was asked, as in `SAID`.
+fn is_said(parsed: &Result<Cmd, Usage>, wanted: &str) -> bool {
+    match parsed {
+        Err(Usage::Help(text)) => wanted.strip_prefix('0') == Some(text.as_str()),
+        Err(Usage::Wrong(text)) => wanted.strip_prefix('3') == Some(text.as_str()),
+        _ => false,
+    }
+}
+
+/// Whether a line is refused.
+fn is_refused(alloc: Global, line: &str) -> bool {
+    matches!(&parsed(alloc, line), Err(Usage::Wrong(_)))
 }
 
 /// Lines that are refused.
-const REFUSED: [&str; 15] = [
+static REFUSED: [&str; 15] = [
     "",
     "a.yaml",
     "print",
@@ -115,11 +114,10 @@ const REFUSED: [&str; 15] = [
 ];
 
 #[test]
-fn refuses_other_words(rt: HostRuntime) -> Result<(), Fail> {
-    for line in REFUSED {
-        assert!(rt; said(rt.alloc(), line)?.as_str().starts_with('3'), "{line}");
+fn refuses_other_words(rt: HostRuntime) {
+    for line in &REFUSED {
+        must_hold(&rt, is_refused(rt.alloc(), line), line);
     }
-    Ok(())
 }
 
 const OVERVIEW: &str =
@@ -138,8 +136,8 @@ Options:
   -V, --version  Print version
 ";
 
-/// Lines, and what is said of them, as `said` gives it.
-const SAID: [(&str, &str); 10] = [
+/// Lines, and what is printed for them: `0` and the text of help, `3` and why they are refused.
+static SAID: [(&str, &str); 10] = [
     ("--help", OVERVIEW),
     ("help", OVERVIEW),
     (
@@ -209,10 +207,8 @@ For more information, try '--help'.
 ];
 
 #[test]
-fn says_how_it_is_used_and_what_is_wrong(rt: HostRuntime) -> Result<(), Fail> {
-    for (line, wanted) in SAID {
-        let said = said(rt.alloc(), line)?;
-        assert!(rt; said.as_str() == wanted, "{line}");
+fn says_how_it_is_used_and_what_is_wrong(rt: HostRuntime) {
+    for (line, wanted) in &SAID {
+        must_hold(&rt, is_said(&parsed(rt.alloc(), line), wanted), line);
     }
-    Ok(())
 }

@@ -1,10 +1,10 @@
 //! Files that are rewritten, in a folder of their own.
 
+use crate::answers::{is_true, must_hold};
 use crate::failing_files::{FailingFiles, Step};
 use crate::files::rewrite;
 use std::fs::Permissions;
 use std::os::unix::fs::{MetadataExt, PermissionsExt};
-use std::test::Fail;
 use std::{fs, io};
 use yf_emit::style::Style;
 use yf_lines::fault::Fault;
@@ -51,9 +51,11 @@ const PATH: &str = "yamlfmt_rewrites/a.yaml";
 const NEW_PATH: &str = "yamlfmt_rewrites/a.yaml.yamlfmt-new";
 
 /// Whether the file has that text, and nothing stands at the path of the new file.
-fn has_text(rt: &HostRuntime, text: &str) -> io::Result<bool> {
-    let held = fs::read_to_string(rt, PATH)?;
-    Ok(held.as_str() == text && !fs::exists(rt, NEW_PATH)?)
+fn has_text(rt: &HostRuntime, text: &str) -> bool {
+    match &fs::read_to_string(rt, PATH) {
+        Ok(held) => held.as_str() == text && matches!(fs::exists(rt, NEW_PATH), Ok(false)),
+        Err(_) => false,
+    }
 }
 
 /// Whether that is the answer for a file with the first text where a step fails, and the file has then the second one. One
@@ -70,11 +72,11 @@ fn ends_with(
     let before = fs::metadata(rt, PATH)?.ino();
     let is_answered = answers(rt, PATH, fails, wanted);
     let is_same = fs::metadata(rt, PATH)?.ino() == before;
-    Ok(is_answered && has_text(rt, new)? && is_same == (old == new))
+    Ok(is_answered && has_text(rt, new) && is_same == (old == new))
 }
 
 /// Texts of a file, the step that fails, the answer, and the text of the file after it.
-const TEXTS: [(&str, Step, Answer, &str); 7] = [
+static TEXTS: [(&str, Step, Answer, &str); 7] = [
     // a text that is refused
     ("a: b: c\n", Step::Nothing, Answer::Syntax, "a: b: c\n"),
     // the new file fails
@@ -116,33 +118,47 @@ fn keeps_permissions(rt: &HostRuntime) -> io::Result<bool> {
     fs::write(rt, NEW_PATH, [b'x'; 100].as_slice())?;
     let is_rewritten = host_answers(rt, PATH, Answer::Rewritten);
     let mode = fs::metadata(rt, PATH)?.permissions().mode();
-    Ok(is_rewritten && has_text(rt, "---\n- a\n- b\n")? && mode & 0o777 == 0o640)
+    Ok(is_rewritten && has_text(rt, "---\n- a\n- b\n") && mode & 0o777 == 0o640)
 }
 
 #[test]
-fn rewrites_files_or_leaves_them(rt: HostRuntime) -> Result<(), Fail> {
-    for (old, fails, wanted, new) in TEXTS {
-        assert!(rt; ends_with(&rt, old, fails, wanted, new)?, "{old}");
+fn rewrites_files_or_leaves_them(rt: HostRuntime) {
+    for (old, fails, wanted, new) in &TEXTS {
+        must_hold(
+            &rt,
+            is_true(&ends_with(&rt, old, *fails, *wanted, new)),
+            old,
+        );
     }
-    assert!(rt; keeps_permissions(&rt)?);
-    fs::remove_dir_all(&rt, "yamlfmt_rewrites")?;
-    Ok(())
+    must_hold(&rt, is_true(&keeps_permissions(&rt)), "permissions");
+    must_hold(
+        &rt,
+        fs::remove_dir_all(&rt, "yamlfmt_rewrites").is_ok(),
+        "remove",
+    );
 }
 
 /// Paths at which no regular file stands, and one at which then nothing may stand.
-const NO_FILES: [(&str, &str); 3] = [
+static NO_FILES: [(&str, &str); 3] = [
     ("yamlfmt_kinds", "yamlfmt_kinds.yamlfmt-new"),
     ("/dev/null", "yamlfmt_kinds.yamlfmt-new"),
     ("yamlfmt_kinds/b.yaml", "yamlfmt_kinds/b.yaml"),
 ];
 
+/// Whether a path is no regular file, and nothing stands at the other one then.
+fn is_no_file(rt: &HostRuntime, path: &str, missing: &str) -> bool {
+    host_answers(rt, path, Answer::ReadFailed) && matches!(fs::exists(rt, missing), Ok(false))
+}
+
 #[test]
-fn refuses_what_is_no_regular_file(rt: HostRuntime) -> Result<(), Fail> {
-    make_folder(&rt, "yamlfmt_kinds")?;
-    for (path, missing) in NO_FILES {
-        assert!(rt; host_answers(&rt, path, Answer::ReadFailed), "{path}");
-        assert!(rt; !fs::exists(&rt, missing)?, "{path}");
+fn refuses_what_is_no_regular_file(rt: HostRuntime) {
+    must_hold(&rt, make_folder(&rt, "yamlfmt_kinds").is_ok(), "make");
+    for (path, missing) in &NO_FILES {
+        must_hold(&rt, is_no_file(&rt, path, missing), path);
     }
-    fs::remove_dir_all(&rt, "yamlfmt_kinds")?;
-    Ok(())
+    must_hold(
+        &rt,
+        fs::remove_dir_all(&rt, "yamlfmt_kinds").is_ok(),
+        "remove",
+    );
 }

@@ -1,10 +1,9 @@
 //! What the formatter writes, in tables of data.
 
-use crate::answers::{answer_to, repeated};
+use crate::answers::{answer_to, must_hold, repeated};
 use crate::command_line::Verb;
 use crate::settings::style_from_toml;
 use std::alloc::{AllocError, Global};
-use std::test::Fail;
 use yf_emit::style::Style;
 
 /// Whether the formatter writes that text of a stream, and nothing else of what it wrote.
@@ -18,7 +17,7 @@ fn formats(alloc: Global, style: &Style, input: &str, text: &str) -> bool {
 }
 
 /// Sequences, documents, directives and markers.
-pub const PLAIN_STREAMS: [(&str, &str); 9] = [
+pub static PLAIN_STREAMS: [(&str, &str); 9] = [
     // a sequence
     ("- a\n- b\n", "---\n- a\n- b\n"),
     // an empty stream
@@ -52,7 +51,7 @@ pub const PLAIN_STREAMS: [(&str, &str); 9] = [
 ];
 
 /// Keys, flow collections and scalars.
-pub const NODES: [(&str, &str); 15] = [
+pub static NODES: [(&str, &str); 15] = [
     // an explicit key
     ("? k\n: v\n", "---\nk: v\n"),
     // aliases and properties as keys
@@ -95,7 +94,7 @@ pub const NODES: [(&str, &str); 15] = [
 ];
 
 /// Comments and blank lines.
-pub const COMMENTED: [(&str, &str); 10] = [
+pub static COMMENTED: [(&str, &str); 10] = [
     // comments alone
     ("# c\n\n\n# d", "# c\n\n# d\n"),
     // a comment between brackets
@@ -134,7 +133,7 @@ pub const COMMENTED: [(&str, &str); 10] = [
 ];
 
 /// Streams under other settings.
-pub const WITH_SETTINGS: [(&str, &str, &str); 10] = [
+pub static WITH_SETTINGS: [(&str, &str, &str); 10] = [
     // the same in single quotes
     ("quotes = \"single\"", " ...\n", "---\n'...'\n"),
     // steps of four
@@ -192,24 +191,24 @@ pub const WITH_SETTINGS: [(&str, &str, &str); 10] = [
 #[test]
 fn formats_documents_and_directives(rt: HostRuntime) {
     let style = Style::house();
-    for (input, text) in PLAIN_STREAMS {
-        assert!(rt; formats(rt.alloc(), &style, input, text), "{input}");
+    for (input, text) in &PLAIN_STREAMS {
+        must_hold(&rt, formats(rt.alloc(), &style, input, text), input);
     }
 }
 
 #[test]
 fn formats_keys_collections_and_scalars(rt: HostRuntime) {
     let style = Style::house();
-    for (input, text) in NODES {
-        assert!(rt; formats(rt.alloc(), &style, input, text), "{input}");
+    for (input, text) in &NODES {
+        must_hold(&rt, formats(rt.alloc(), &style, input, text), input);
     }
 }
 
 #[test]
 fn formats_comments_and_blank_lines(rt: HostRuntime) {
     let style = Style::house();
-    for (input, text) in COMMENTED {
-        assert!(rt; formats(rt.alloc(), &style, input, text), "{input}");
+    for (input, text) in &COMMENTED {
+        must_hold(&rt, formats(rt.alloc(), &style, input, text), input);
     }
 }
 
@@ -223,8 +222,8 @@ fn formats_under(alloc: Global, settings: &str, input: &str, text: &str) -> bool
 
 #[test]
 fn formats_under_settings(rt: HostRuntime) {
-    for (settings, input, text) in WITH_SETTINGS {
-        assert!(rt; formats_under(rt.alloc(), settings, input, text), "{input}");
+    for (settings, input, text) in &WITH_SETTINGS {
+        must_hold(&rt, formats_under(rt.alloc(), settings, input, text), input);
     }
 }
 
@@ -232,7 +231,7 @@ fn formats_under_settings(rt: HostRuntime) {
 type Repeated = (&'static str, &'static str, usize, &'static str, usize);
 
 /// Streams with long keys and deep sequences, and what is written of them.
-const LONG: [(Repeated, Repeated); 5] = [
+static LONG: [(Repeated, Repeated); 5] = [
     (
         ("", "k", 1023, ": v\n", 1),
         ("---\n", "k", 1023, ": v\n", 1),
@@ -249,23 +248,28 @@ const LONG: [(Repeated, Repeated); 5] = [
     (("", "[", 1024, "]", 1024), ("---\n", "- ", 1023, "[]\n", 1)),
 ];
 
+/// The text that is repeated so.
+fn text_of(alloc: Global, parts: &Repeated) -> Result<String, AllocError> {
+    repeated(alloc, parts.0, parts.1, parts.2, parts.3, parts.4)
+}
+
 /// Whether the formatter writes the second text of the first one.
-fn formats_long(alloc: Global, input: Repeated, text: Repeated) -> Result<bool, AllocError> {
-    let input = repeated(alloc, input.0, input.1, input.2, input.3, input.4)?;
-    let text = repeated(alloc, text.0, text.1, text.2, text.3, text.4)?;
-    Ok(formats(alloc, &Style::house(), input.as_str(), text.as_str()))
+fn formats_long(alloc: Global, input: &Repeated, text: &Repeated) -> bool {
+    match (text_of(alloc, input), text_of(alloc, text)) {
+        (Ok(input), Ok(text)) => formats(alloc, &Style::house(), input.as_str(), text.as_str()),
+        _ => false,
+    }
 }
 
 #[test]
-fn formats_long_keys_and_deep_sequences(rt: HostRuntime) -> Result<(), Fail> {
-    for (input, text) in LONG {
-        assert!(rt; formats_long(rt.alloc(), input, text)?, "{}", text.0);
+fn formats_long_keys_and_deep_sequences(rt: HostRuntime) {
+    for (input, text) in &LONG {
+        must_hold(&rt, formats_long(rt.alloc(), input, text), text.0);
     }
-    Ok(())
 }
 
 /// Refused streams, and what is said of them.
-const REFUSED: [(&str, &str); 4] = [
+static REFUSED: [(&str, &str); 4] = [
     ("a: b: c\n", "1:5 refused: syntax\n"),
     (
         "{a: [1, 2], *a : # c\n &b x}\n",
@@ -275,11 +279,14 @@ const REFUSED: [(&str, &str); 4] = [
     ("%YAML 2.0\n---\n", "1:1 refused: bad-version\n"),
 ];
 
+/// Whether the formatter refuses a stream, and says that of it.
+fn refuses(alloc: Global, input: &str, line: &str) -> bool {
+    answer_to(alloc, Verb::Fmt, &[], &Style::house(), input.as_bytes()).is(2, "", line)
+}
+
 #[test]
 fn refuses_streams(rt: HostRuntime) {
-    let style = Style::house();
-    for (input, line) in REFUSED {
-        let answer = answer_to(rt.alloc(), Verb::Fmt, &[], &style, input.as_bytes());
-        assert!(rt; answer.is(2, "", line), "{input}");
+    for (input, line) in &REFUSED {
+        must_hold(&rt, refuses(rt.alloc(), input, line), input);
     }
 }

@@ -1,20 +1,19 @@
 //! Readers, writers and memory that fail, and streams that are cut: each run answers in full, or says why it can't.
 
-use crate::answers::{answer_over, answer_to, command};
+use crate::answers::{answer_over, answer_to, command, must_hold};
 use crate::command_line::Verb;
 use crate::faulty::{FaultyReader, FaultyWriter};
 use crate::program::run;
 use crate::rules::{WithRules, with_all_rules};
 use std::alloc::{AllocError, Global};
-use std::test::Fail;
 use yf_emit::style::Style;
 use yf_lines::watched::{Sink, Source, Watched};
 use yf_rules::rule::Rule;
 
-const VERBS: [Verb; 3] = [Verb::Events, Verb::Check, Verb::Fmt];
+static VERBS: [Verb; 3] = [Verb::Events, Verb::Check, Verb::Fmt];
 
 /// Accepted streams that together hold each kind of node, comments, marks and directives.
-const INPUTS: [&str; 5] = [
+static INPUTS: [&str; 5] = [
     "\u{FEFF}a: 'x'  # c \r\nb: |\r\n  y \r\na: 1\r\n",
     "[a, # c\n # d\n b, {k: # e\n v}] # f\n",
     "? [a, {b: }]\n: - c\n  - d\n? |\n  x\n: y\n",
@@ -53,7 +52,7 @@ impl WithRules for Failures {
     /// Whether each command answers as it should on each input, with these rules.
     fn with_rules(self, rules: &[Box<dyn Rule>]) -> bool {
         let Failures { alloc, failing } = self;
-        for input in INPUTS {
+        for input in &INPUTS {
             if !holds_on(alloc, rules, failing, input.as_bytes()) {
                 return false;
             }
@@ -69,16 +68,20 @@ impl WithRules for Failures {
 }
 
 /// Whether each command answers as it should on each input where that fails.
-fn holds(alloc: Global, failing: Failing) -> Result<bool, AllocError> {
-    with_all_rules(alloc, Failures { alloc, failing })
+fn holds(alloc: Global, failing: Failing) -> bool {
+    match with_all_rules(alloc, Failures { alloc, failing }) {
+        Ok(good) => good,
+        // there may be no memory for the rules where it is refused
+        Err(AllocError) => matches!(failing, Failing::Memory),
+    }
 }
 
 fn holds_on(alloc: Global, rules: &[Box<dyn Rule>], failing: Failing, input: &[u8]) -> bool {
-    for verb in VERBS {
+    for verb in &VERBS {
         let good = match failing {
-            Failing::Reads => is_refused_by_each_read(alloc, verb, rules, input),
-            Failing::Writes => is_refused_by_each_write(alloc, verb, rules, input),
-            Failing::Memory => is_refused_by_memory_alone(alloc, verb, rules, input),
+            Failing::Reads => is_refused_by_each_read(alloc, *verb, rules, input),
+            Failing::Writes => is_refused_by_each_write(alloc, *verb, rules, input),
+            Failing::Memory => is_refused_by_memory_alone(alloc, *verb, rules, input),
         };
         if !good {
             return false;
@@ -196,34 +199,36 @@ fn is_refused_by_memory_alone(
 }
 
 #[test]
-fn answers_where_a_read_fails(rt: HostRuntime) -> Result<(), Fail> {
-    assert!(rt; holds(rt.alloc(), Failing::Reads)?);
-    Ok(())
+fn answers_where_a_read_fails(rt: HostRuntime) {
+    must_hold(&rt, holds(rt.alloc(), Failing::Reads), "reads");
 }
 
 #[test]
-fn answers_where_a_write_fails(rt: HostRuntime) -> Result<(), Fail> {
-    assert!(rt; holds(rt.alloc(), Failing::Writes)?);
-    Ok(())
+fn answers_where_a_write_fails(rt: HostRuntime) {
+    must_hold(&rt, holds(rt.alloc(), Failing::Writes), "writes");
 }
 
 #[test]
 fn answers_where_memory_is_refused(rt: HostRuntime) {
-    assert!(rt; holds(rt.alloc(), Failing::Memory).unwrap_or(true));
+    must_hold(&rt, holds(rt.alloc(), Failing::Memory), "memory");
+}
+
+/// Whether the formatter writes a front to a writer that has room for three bytes.
+fn formats_a_front(alloc: Global) -> bool {
+    let mut room = [0; 3];
+    let mut reader = Watched::new(b"- a\n- b\n".as_slice());
+    let mut writer = Watched::new(room.as_mut_slice());
+    let (status, line) = answer_over(alloc, Verb::Fmt, &[], &mut reader, &mut writer);
+    status == 3 && line.as_slice() == b"write failed\n".as_slice() && room == *b"---"
 }
 
 #[test]
 fn formats_a_front_for_a_writer_that_takes_no_more(rt: HostRuntime) {
-    let mut room = [0; 3];
-    let mut reader = Watched::new(b"- a\n- b\n".as_slice());
-    let mut writer = Watched::new(room.as_mut_slice());
-    let (status, line) = answer_over(rt.alloc(), Verb::Fmt, &[], &mut reader, &mut writer);
-    assert!(rt; status == 3 && line.as_slice() == b"write failed\n".as_slice());
-    assert!(rt; room == *b"---");
+    must_hold(&rt, formats_a_front(rt.alloc()), "a front");
 }
 
 /// Streams of each part of the grammar, accepted and refused.
-const STREAMS: [&str; 42] = [
+static STREAMS: [&str; 42] = [
     "",
     "- a\n- b\n",
     "# c\n\n\n# d",
@@ -268,17 +273,23 @@ const STREAMS: [&str; 42] = [
     "{a: [1, 2], *a : # c\n &b x}\n",
 ];
 
-/// Whether each prefix of the stream is accepted, or refused with nothing written.
-fn answers_each_front(alloc: Global, verb: Verb, stream: &[u8]) -> bool {
+/// Whether the command accepts the text, or refuses it with nothing written.
+fn answers_front(alloc: Global, verb: Verb, text: &[u8]) -> bool {
+    let answer = answer_to(alloc, verb, &[], &Style::house(), text);
+    match answer.status {
+        0 => answer.line.is_empty(),
+        2 => answer.output.is_empty(),
+        _ => false,
+    }
+}
+
+/// Whether each command does so with each prefix of the stream.
+fn answers_each_front(alloc: Global, stream: &[u8]) -> bool {
     for end in 0..=stream.len() {
-        let answer = answer_to(alloc, verb, &[], &Style::house(), &stream[..end]);
-        let good = match answer.status {
-            0 => answer.line.is_empty(),
-            2 => answer.output.is_empty(),
-            _ => false,
-        };
-        if !good {
-            return false;
+        for verb in &VERBS {
+            if !answers_front(alloc, *verb, &stream[..end]) {
+                return false;
+            }
         }
     }
     true
@@ -286,12 +297,11 @@ fn answers_each_front(alloc: Global, verb: Verb, stream: &[u8]) -> bool {
 
 #[test]
 fn answers_each_front_of_a_stream(rt: HostRuntime) {
-    for stream in STREAMS {
-        for verb in VERBS {
-            assert!(rt;
-                answers_each_front(rt.alloc(), verb, stream.as_bytes()),
-                "{stream}"
-            );
-        }
+    for stream in &STREAMS {
+        must_hold(
+            &rt,
+            answers_each_front(rt.alloc(), stream.as_bytes()),
+            stream,
+        );
     }
 }

@@ -2,15 +2,13 @@
 //! that can be fixed, and formatting it again changes nothing.
 ghost use Rattle.std.specs.Prelude.{◌≤◌};
 
-use crate::answers::{formatted, reading_of};
+use crate::answers::{formatted, must_hold, reading_of};
 use crate::fmt_tests::{COMMENTED, NODES, PLAIN_STREAMS, WITH_SETTINGS};
 use crate::rules::{WithRules, with_all_rules};
 use std::alloc::{AllocError, Global};
-use std::test::Fail;
 use yf_comments::comment::Comment;
 use yf_emit::style::Style;
 use yf_events::reading::Reading;
-use yf_lines::fault::Fault;
 use yf_lines::quotes::Quotes;
 use yf_lines::source_text::Src;
 use yf_rules::check::check;
@@ -39,72 +37,76 @@ fn has_same_comments(one: &Reading, other: &Reading) -> bool {
 }
 
 /// Whether two readings say the same.
-fn has_same_content(alloc: Global, one: &Reading, other: &Reading) -> Result<bool, Fault> {
-    let content = one.content(alloc)?;
-    let other_content = other.content(alloc)?;
-    Ok(content == other_content)
+fn has_same_content(alloc: Global, one: &Reading, other: &Reading) -> bool {
+    match (&one.content(alloc), &other.content(alloc)) {
+        (Ok(content), Ok(other_content)) => content == other_content,
+        _ => false,
+    }
 }
 
-/// Whether the rules find something in the text that can be fixed.
-fn has_fixable(
+/// What all texts are tried with.
+#[derive(Clone, Copy)]
+struct Trial<'a> {
     alloc: Global,
-    rules: &[Box<dyn Rule>],
-    style: &Style,
-    text: &str,
-    reading: &Reading,
-) -> Result<bool, Fault> {
-    let src = match Src::new(alloc, text) {
-        Ok(src) => src,
-        Err(AllocError) => return Err(Fault::Memory),
-    };
-    let findings = check(alloc, rules, &src, reading, style)?;
-    Ok(findings.iter().any(|finding| finding.fixable))
+    rules: &'a [Box<dyn Rule>],
+    style: &'a Style,
+}
+
+/// Whether the rules find nothing in the source that can be fixed.
+fn has_no_fixable(trial: Trial, src: &Src, reading: &Reading) -> bool {
+    match &check(trial.alloc, trial.rules, src, reading, trial.style) {
+        Ok(findings) => !findings.iter().any(|finding| finding.fixable),
+        Err(_) => false,
+    }
+}
+
+/// The same of a text.
+fn is_mended(trial: Trial, reading: &Reading, text: &str) -> bool {
+    match &Src::new(trial.alloc, text) {
+        Ok(src) => has_no_fixable(trial, src, reading),
+        Err(AllocError) => false,
+    }
+}
+
+/// Whether formatting a text again changes nothing.
+fn is_fixed(trial: Trial, text: &str) -> bool {
+    match &formatted(trial.alloc, text, trial.style) {
+        Ok(again) => again.as_str() == text,
+        Err(_) => false,
+    }
 }
 
 /// Whether all that is asked of a formatted stream holds of this one: the text in the house style, of a reading.
-fn is_in_order(
-    alloc: Global,
-    rules: &[Box<dyn Rule>],
-    style: &Style,
-    reading: &Reading,
-    text: &str,
-) -> Result<bool, Fault> {
-    let read = reading_of(alloc, text)?;
-    if !has_same_content(alloc, reading, &read)? {
-        return Ok(false);
+fn is_in_order(trial: Trial, reading: &Reading, text: &str) -> bool {
+    match &reading_of(trial.alloc, text) {
+        Ok(read) => {
+            has_same_content(trial.alloc, reading, read)
+                && has_same_comments(reading, read)
+                && is_mended(trial, read, text)
+                && is_fixed(trial, text)
+        }
+        Err(_) => false,
     }
-    if !has_same_comments(reading, &read) {
-        return Ok(false);
+}
+
+/// Whether what is formatted of a text with this reading is in order.
+fn is_formatted(trial: Trial, reading: &Reading, text: &str) -> bool {
+    match &formatted(trial.alloc, text, trial.style) {
+        Ok(written) => is_in_order(trial, reading, written.as_str()),
+        Err(_) => false,
     }
-    if has_fixable(alloc, rules, style, text, &read)? {
-        return Ok(false);
-    }
-    Ok(formatted(alloc, text, style)?.as_str() == text)
 }
 
 /// Whether the laws hold of a text: it is refused by the formatter too, or what is formatted is in order.
-fn holds_of(
-    alloc: Global,
-    rules: &[Box<dyn Rule>],
-    style: &Style,
-    text: &str,
-) -> Result<bool, Fault> {
-    match reading_of(alloc, text) {
-        Ok(reading) => {
-            let written = formatted(alloc, text, style)?;
-            is_in_order(alloc, rules, style, &reading, written.as_str())
-        }
-        Err(_) => Ok(formatted(alloc, text, style).is_err()),
+fn holds_of(trial: Trial, text: &str) -> bool {
+    match &reading_of(trial.alloc, text) {
+        Ok(reading) => is_formatted(trial, reading, text),
+        Err(_) => formatted(trial.alloc, text, trial.style).is_err(),
     }
 }
 
 /// Whether the laws hold under both quotes, both widths and both places of sequences.
-fn holds_at(
-    alloc: Global,
-    rules: &[Box<dyn Rule>],
-    indent: usize,
-    text: &str,
-) -> Result<bool, Fault>
+fn holds_at(alloc: Global, rules: &[Box<dyn Rule>], indent: usize, text: &str) -> bool
     requires from { 2 ≤ indent }
     requires to { indent ≤ 8 }
 {
@@ -117,39 +119,44 @@ fn holds_at(
                     quotes,
                     seq_indent,
                 };
-                if !holds_of(alloc, rules, &style, text)? {
-                    return Ok(false);
+                let trial = Trial {
+                    alloc,
+                    rules,
+                    style: &style,
+                };
+                if !holds_of(trial, text) {
+                    return false;
                 }
             }
         }
     }
-    Ok(true)
+    true
 }
 
 /// Whether the laws hold of a text under all indentations.
-fn holds_of_row(alloc: Global, rules: &[Box<dyn Rule>], text: &str) -> Result<bool, Fault> {
+fn holds_of_row(alloc: Global, rules: &[Box<dyn Rule>], text: &str) -> bool {
     for indent in 2..=8 {
-        if !holds_at(alloc, rules, indent, text)? {
-            return Ok(false);
+        if !holds_at(alloc, rules, indent, text) {
+            return false;
         }
     }
-    Ok(true)
+    true
 }
 
 /// Whether the laws hold of a text that is cut at each character.
-fn holds_of_cuts(alloc: Global, rules: &[Box<dyn Rule>], text: &str) -> Result<bool, Fault> {
+fn holds_of_cuts(alloc: Global, rules: &[Box<dyn Rule>], text: &str) -> bool {
     for at in 0..text.len() {
         if text.is_char_boundary(at) {
-            if !holds_at(alloc, rules, 2, &text[..at])? {
-                return Ok(false);
+            if !holds_at(alloc, rules, 2, &text[..at]) {
+                return false;
             }
         }
     }
-    Ok(true)
+    true
 }
 
 /// What texts are made of by chance.
-const PIECES: [&str; 40] = [
+static PIECES: [&str; 40] = [
     "a", "b c", "- ", "- ", "-", "? ", ": ", ":", "\n", "\n", "\n", "\n  ", "\n  ", "\n    ", "  ",
     "# c\n", " # d", "\n\n", "[", "]", "{", "}", ", ", "&x ", "*x", "!t ", "\"q\"", "'s'", "|\n",
     ">\n", "|+\n", " x\n", "---\n", "--- ", "...\n", "%FOO a\n", "k: v\n", "a:", "[x, y]",
@@ -174,19 +181,22 @@ pub fn generated(alloc: Global, seed: u64, count: usize) -> Result<String, Alloc
     Ok(text)
 }
 
+/// Whether the laws hold of a text made by chance.
+fn holds_of_seed(alloc: Global, rules: &[Box<dyn Rule>], seed: u64) -> bool {
+    match &generated(alloc, following(seed), 2 + (seed % 11) as usize) {
+        Ok(text) => holds_at(alloc, rules, 2, text.as_str()),
+        Err(AllocError) => false,
+    }
+}
+
 /// Whether the laws hold of texts made by chance.
-fn holds_of_generated(alloc: Global, rules: &[Box<dyn Rule>]) -> Result<bool, Fault> {
+fn holds_of_generated(alloc: Global, rules: &[Box<dyn Rule>]) -> bool {
     for seed in 0..2000u64 {
-        match generated(alloc, following(seed), 2 + (seed % 11) as usize) {
-            Ok(text) => {
-                if !holds_at(alloc, rules, 2, text.as_str())? {
-                    return Ok(false);
-                }
-            }
-            Err(AllocError) => return Err(Fault::Memory),
+        if !holds_of_seed(alloc, rules, seed) {
+            return false;
         }
     }
-    Ok(true)
+    true
 }
 
 /// The texts of which the laws are tried.
@@ -203,34 +213,38 @@ fn holds_of_table(
     rules: &[Box<dyn Rule>],
     texts: Texts,
     table: &[(&str, &str)],
-) -> Result<bool, Fault> {
+) -> bool {
     for (input, _) in table {
         let holds = match texts {
-            Texts::Rows => holds_of_row(alloc, rules, input)?,
-            Texts::Cuts | Texts::Generated => holds_of_cuts(alloc, rules, input)?,
+            Texts::Rows => holds_of_row(alloc, rules, input),
+            Texts::Cuts | Texts::Generated => holds_of_cuts(alloc, rules, input),
         };
         if !holds {
-            return Ok(false);
+            return false;
         }
     }
-    Ok(true)
+    true
+}
+
+/// Whether the laws hold of the streams under other settings.
+fn holds_of_settings(alloc: Global, rules: &[Box<dyn Rule>]) -> bool {
+    for (_, input, _) in &WITH_SETTINGS {
+        if !holds_of_row(alloc, rules, input) {
+            return false;
+        }
+    }
+    true
 }
 
 /// Whether the laws hold of all of these texts.
-fn holds_of_texts(alloc: Global, rules: &[Box<dyn Rule>], texts: Texts) -> Result<bool, Fault> {
+fn holds_of_texts(alloc: Global, rules: &[Box<dyn Rule>], texts: Texts) -> bool {
     if matches!(texts, Texts::Generated) {
         return holds_of_generated(alloc, rules);
     }
-    for (_, input, _) in WITH_SETTINGS {
-        if !holds_of_row(alloc, rules, input)? {
-            return Ok(false);
-        }
-    }
-    Ok(
-        holds_of_table(alloc, rules, texts, &PLAIN_STREAMS)?
-            && holds_of_table(alloc, rules, texts, &NODES)?
-            && holds_of_table(alloc, rules, texts, &COMMENTED)?,
-    )
+    holds_of_settings(alloc, rules)
+        && holds_of_table(alloc, rules, texts, &PLAIN_STREAMS)
+        && holds_of_table(alloc, rules, texts, &NODES)
+        && holds_of_table(alloc, rules, texts, &COMMENTED)
 }
 
 /// The texts of which the laws are asked.
@@ -245,29 +259,29 @@ impl WithRules for Laws {
 
     /// Whether the laws hold of all texts, with these rules.
     fn with_rules(self, rules: &[Box<dyn Rule>]) -> bool {
-        matches!(holds_of_texts(self.alloc, rules, self.texts), Ok(true))
+        holds_of_texts(self.alloc, rules, self.texts)
     }
 }
 
 /// Whether the laws hold of all of these texts, with all rules.
-fn laws_hold(alloc: Global, texts: Texts) -> Result<bool, AllocError> {
-    with_all_rules(alloc, Laws { alloc, texts })
+fn laws_hold(alloc: Global, texts: Texts) -> bool {
+    match with_all_rules(alloc, Laws { alloc, texts }) {
+        Ok(holds) => holds,
+        Err(AllocError) => false,
+    }
 }
 
 #[test]
-fn laws_of_rows(rt: HostRuntime) -> Result<(), Fail> {
-    assert!(rt; laws_hold(rt.alloc(), Texts::Rows)?);
-    Ok(())
+fn laws_of_rows(rt: HostRuntime) {
+    must_hold(&rt, laws_hold(rt.alloc(), Texts::Rows), "rows");
 }
 
 #[test]
-fn laws_of_cuts(rt: HostRuntime) -> Result<(), Fail> {
-    assert!(rt; laws_hold(rt.alloc(), Texts::Cuts)?);
-    Ok(())
+fn laws_of_cuts(rt: HostRuntime) {
+    must_hold(&rt, laws_hold(rt.alloc(), Texts::Cuts), "cuts");
 }
 
 #[test]
-fn laws_of_generated_texts(rt: HostRuntime) -> Result<(), Fail> {
-    assert!(rt; laws_hold(rt.alloc(), Texts::Generated)?);
-    Ok(())
+fn laws_of_generated_texts(rt: HostRuntime) {
+    must_hold(&rt, laws_hold(rt.alloc(), Texts::Generated), "generated");
 }

@@ -1,19 +1,18 @@
 //! Runs over readers and writers in memory: statuses, and what is written to which stream.
 
-use crate::answers::answer_to;
+use crate::answers::{answer_to, must_hold};
 use crate::command_line::{Usage, Verb};
 use crate::faulty::FaultyWriter;
 use crate::program::{answer_usage, read_style, written_out};
-use std::alloc::Global;
+use std::alloc::{AllocError, Global};
 use std::io::BufWriter;
-use std::test::Fail;
 use yf_emit::style::Style;
 use yf_lines::fault::Fault;
 use yf_lines::text::OwnedText;
 use yf_lines::watched::{Sink, Watched};
 
 /// Commands, inputs, and their status, output and line of faults.
-const RUNS: [(Verb, &[u8], u8, &str, &str); 3] = [
+static RUNS: [(Verb, &[u8], u8, &str, &str); 3] = [
     (
         Verb::Events,
         b"- a\n",
@@ -37,12 +36,16 @@ const RUNS: [(Verb, &[u8], u8, &str, &str); 3] = [
     ),
 ];
 
+/// Whether a command answers that.
+fn is_run(alloc: Global, row: &(Verb, &[u8], u8, &str, &str)) -> bool {
+    let (verb, input, status, output, line) = *row;
+    answer_to(alloc, verb, &[], &Style::house(), input).is(status, output, line)
+}
+
 #[test]
 fn runs_commands(rt: HostRuntime) {
-    let style = Style::house();
-    for (verb, input, status, output, line) in RUNS {
-        let answer = answer_to(rt.alloc(), verb, &[], &style, input);
-        assert!(rt; answer.is(status, output, line), "{line}");
+    for row in &RUNS {
+        must_hold(&rt, is_run(rt.alloc(), row), row.4);
     }
 }
 
@@ -64,8 +67,8 @@ fn is_refused(alloc: Global, bytes: &[u8]) -> bool {
 
 #[test]
 fn reads_settings_files(rt: HostRuntime) {
-    assert!(rt; sets_four(rt.alloc(), b"indent = 4\n"));
-    assert!(rt; is_refused(rt.alloc(), b"indent = 4\xFF"));
+    must_hold(&rt, sets_four(rt.alloc(), b"indent = 4\n"), "4");
+    must_hold(&rt, is_refused(rt.alloc(), b"indent = 4\xFF"), "no text");
 }
 
 /// Whether a usage is answered with that status, and these texts on the two streams.
@@ -77,31 +80,57 @@ fn answers(alloc: Global, usage: &Usage, status: u8, output: &str, line: &str) -
         && error_stream.get_ref().as_slice() == line.as_bytes()
 }
 
-#[test]
-fn answers_usage(rt: HostRuntime) -> Result<(), Fail> {
-    let help = Usage::Help(OwnedText::new(String::from_str(rt.alloc(), "help\n")?));
-    assert!(rt; answers(rt.alloc(), &help, 0, "help\n", ""));
-    let wrong = Usage::Wrong(OwnedText::new(String::from_str(rt.alloc(), "error\n")?));
-    assert!(rt; answers(rt.alloc(), &wrong, 3, "", "error\n"));
-    assert!(rt; answers(rt.alloc(), &Usage::Memory, 3, "", "no memory\n"));
-    Ok(())
+/// Whether help is answered with its text.
+fn answers_help(alloc: Global, text: &str) -> bool {
+    match String::from_str(alloc, text) {
+        Ok(help) => answers(alloc, &Usage::Help(OwnedText::new(help)), 0, text, ""),
+        Err(AllocError) => false,
+    }
 }
 
-/// Whether a run that has ended well with one byte held back, before a writer that takes so many writes, has that status and
-/// that line of faults.
-fn ends(alloc: Global, writes_left: usize, status: u8, line: &str) -> Result<bool, Fail> {
-    let taken = Vec::new(alloc);
-    let faulty = FaultyWriter { taken, writes_left };
-    let mut writer = Watched::new(BufWriter::with_capacity(alloc, 8, faulty)?);
+/// Whether a wrong usage is answered with its text.
+fn answers_wrong(alloc: Global, text: &str) -> bool {
+    match String::from_str(alloc, text) {
+        Ok(wrong) => answers(alloc, &Usage::Wrong(OwnedText::new(wrong)), 3, "", text),
+        Err(AllocError) => false,
+    }
+}
+
+#[test]
+fn answers_usage(rt: HostRuntime) {
+    must_hold(&rt, answers_help(rt.alloc(), "help\n"), "help");
+    must_hold(&rt, answers_wrong(rt.alloc(), "error\n"), "error");
+    must_hold(
+        &rt,
+        answers(rt.alloc(), &Usage::Memory, 3, "", "no memory\n"),
+        "memory",
+    );
+}
+
+/// Whether a run that has ended well with one byte held back, before such a writer, has that status and that line of faults.
+fn ends_before(alloc: Global, held_back: BufWriter<FaultyWriter>, status: u8, line: &str) -> bool {
+    let mut writer = Watched::new(held_back);
     let mut error_stream = Watched::new(Vec::new(alloc));
     let _ = writer.write_watched(b"a");
     let answer = written_out(0, &mut writer, &mut error_stream);
-    Ok(answer == status && error_stream.get_ref().as_slice() == line.as_bytes())
+    answer == status && error_stream.get_ref().as_slice() == line.as_bytes()
+}
+
+/// The same before a writer that takes so many writes.
+fn ends(alloc: Global, writes_left: usize, status: u8, line: &str) -> bool {
+    let taken = Vec::new(alloc);
+    match BufWriter::with_capacity(alloc, 8, FaultyWriter { taken, writes_left }) {
+        Ok(held_back) => ends_before(alloc, held_back, status, line),
+        Err(_) => false,
+    }
 }
 
 #[test]
-fn a_flush_that_fails_is_a_write_that_fails(rt: HostRuntime) -> Result<(), Fail> {
-    assert!(rt; ends(rt.alloc(), 0, 3, "write failed\n")?);
-    assert!(rt; ends(rt.alloc(), 1, 0, "")?);
-    Ok(())
+fn a_flush_that_fails_is_a_write_that_fails(rt: HostRuntime) {
+    must_hold(
+        &rt,
+        ends(rt.alloc(), 0, 3, "write failed\n"),
+        "a flush fails",
+    );
+    must_hold(&rt, ends(rt.alloc(), 1, 0, ""), "no flush fails");
 }

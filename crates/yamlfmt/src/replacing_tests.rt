@@ -1,11 +1,11 @@
 //! Files that get another text, in a folder of their own: what stands at the path of the new file, and each step that fails.
 
+use crate::answers::must_hold;
 use crate::failing_files::{FailingFiles, Step};
 use crate::replacing::{Held, Opened, mode_of, open_regular, replace};
 use std::fs::{File, Permissions};
 use std::os::unix::fs::{MetadataExt, PermissionsExt, chown, symlink};
 use std::rt::Files;
-use std::test::Fail;
 use std::{fs, io};
 
 const OLD: &str = "- a\n- b\n";
@@ -14,33 +14,25 @@ const NEW: &str = "---\n- a\n- b\n";
 
 const OTHER: &str = "another text, which is longer than both\n";
 
-/// A file with the old text in a new folder, and the paths of it, of the new file and of a file beside it.
-#[derive(Drop)]
-struct Folder<'a> {
-    name: &'a str,
-    path: String,
-    new_path: String,
-    other: String,
+/// A folder, and the paths of a file in it, of the new file and of a file beside it.
+#[derive(Clone, Copy)]
+struct Folder {
+    name: &'static str,
+    path: &'static str,
+    new_path: &'static str,
+    other: &'static str,
 }
 
-fn make_folder<'a>(rt: &HostRuntime, name: &'a str) -> io::Result<Folder<'a>> {
-    let _ = fs::remove_dir_all(rt, name);
-    fs::create_dir(rt, name)?;
-    let path = format!(in rt.alloc(); "{name}/a.yaml")?;
-    let new_path = format!(in rt.alloc(); "{name}/a.yaml.yamlfmt-new")?;
-    let other = format!(in rt.alloc(); "{name}/other")?;
-    fs::write(rt, path.as_str(), OLD)?;
-    fs::write(rt, other.as_str(), OTHER)?;
-    Ok(Folder {
-        name,
-        path,
-        new_path,
-        other,
-    })
+/// Makes the folder, with the old text in the file, and another one in the file beside it.
+fn make_folder(rt: &HostRuntime, folder: &Folder) -> io::Result<()> {
+    let _ = fs::remove_dir_all(rt, folder.name);
+    fs::create_dir(rt, folder.name)?;
+    fs::write(rt, folder.path, OLD)?;
+    fs::write(rt, folder.other, OTHER)
 }
 
 /// Puts the new text in the place of the file that is open.
-fn put_over<R: Files>(rt: &R, folder: &Folder<'_>, opened: &Opened<R::File>) -> io::Result<()>
+fn put_over<R: Files>(rt: &R, folder: &Folder, opened: &Opened<R::File>) -> io::Result<()>
 where
     R::File: Held,
 {
@@ -48,30 +40,50 @@ where
         rt,
         &opened.file,
         &opened.metadata,
-        folder.path.as_str(),
-        folder.new_path.as_str(),
+        folder.path,
+        folder.new_path,
         NEW,
     )
 }
 
 /// Puts the new text in the place of the old one.
-fn put<R: Files>(rt: &R, folder: &Folder<'_>) -> io::Result<()>
+fn put<R: Files>(rt: &R, folder: &Folder) -> io::Result<()>
 where
     R::File: Held,
 {
-    let opened = open_regular(rt, folder.path.as_str())?;
+    let opened = open_regular(rt, folder.path)?;
     put_over(rt, folder, &opened)
+}
+
+/// Whether a file holds that text.
+fn holds(rt: &HostRuntime, path: &str, text: &str) -> bool {
+    match &fs::read_to_string(rt, path) {
+        Ok(held) => held.as_str() == text,
+        Err(_) => false,
+    }
+}
+
+/// Whether a path is that of a regular file, and not of a link.
+fn is_regular(rt: &HostRuntime, path: &str) -> bool {
+    match &fs::symlink_metadata(rt, path) {
+        Ok(metadata) => metadata.is_file(),
+        Err(_) => false,
+    }
 }
 
 /// Whether the file is a regular one that holds the text, something stands at the path of the new file, and the file beside
 /// it is as it was.
-fn stands(rt: &HostRuntime, folder: &Folder<'_>, text: &str, has_new: bool) -> io::Result<bool> {
-    let path = folder.path.as_str();
-    let held = fs::read_to_string(rt, path)?;
-    let other = fs::read_to_string(rt, folder.other.as_str())?;
-    let is_file = fs::symlink_metadata(rt, path)?.is_file();
-    let stands = fs::symlink_metadata(rt, folder.new_path.as_str()).is_ok();
-    Ok(held.as_str() == text && other.as_str() == OTHER && is_file && stands == has_new)
+fn stands(rt: &HostRuntime, folder: &Folder, text: &str, has_new: bool) -> bool {
+    let path = folder.path;
+    holds(rt, path, text)
+        && holds(rt, folder.other, OTHER)
+        && is_regular(rt, path)
+        && fs::symlink_metadata(rt, folder.new_path).is_ok() == has_new
+}
+
+/// Whether the folder is removed.
+fn is_removed(rt: &HostRuntime, folder: &Folder) -> bool {
+    fs::remove_dir_all(rt, folder.name).is_ok()
 }
 
 /// What stands at the path of the new file.
@@ -87,34 +99,48 @@ enum Left {
 }
 
 /// Puts it there.
-fn leave(rt: &HostRuntime, folder: &Folder<'_>, left: Left) -> io::Result<()> {
-    let path = folder.new_path.as_str();
+fn leave(rt: &HostRuntime, folder: &Folder, left: Left) -> io::Result<()> {
+    let path = folder.new_path;
     match left {
         Left::Nothing => Ok(()),
         Left::File => fs::write(rt, path, OTHER),
         Left::Link(target) => symlink(rt, target, path),
         Left::Folder => fs::create_dir(rt, path),
-        Left::SecondName => fs::hard_link(rt, folder.other.as_str(), path),
+        Left::SecondName => fs::hard_link(rt, folder.other, path),
     }
 }
+
+/// A name, what stands at the path of the new file, the step that fails, whether the new text is put, and whether something
+/// stays at the path of the new file.
+type Row = (&'static str, Left, Step, bool, bool);
+
+/// Whether the new text is put in a folder as a row says.
+fn is_put_in(rt: &HostRuntime, folder: &Folder, row: &Row) -> bool {
+    let (_, left, fails, is_put, stays) = *row;
+    let text = if is_put { NEW } else { OLD };
+    leave(rt, folder, left).is_ok()
+        && put(&FailingFiles { host: rt, fails }, folder).is_ok() == is_put
+        && stands(rt, folder, text, stays)
+        && matches!(fs::exists(rt, "replacing_rows/missing"), Ok(false))
+}
+
+static ROWS_FOLDER: Folder = Folder {
+    name: "replacing_rows",
+    path: "replacing_rows/a.yaml",
+    new_path: "replacing_rows/a.yaml.yamlfmt-new",
+    other: "replacing_rows/other",
+};
 
 /// Whether the new text is put where that stands and that step fails, or not; and whether all is then as it should be: what
 /// stands at the path of the new file is gone, but for some of what stood there where nothing was put.
-fn puts(rt: &HostRuntime, left: Left, fails: Step, is_put: bool, stays: bool) -> io::Result<bool> {
-    let folder = make_folder(rt, "replacing_rows")?;
-    leave(rt, &folder, left)?;
-    if put(&FailingFiles { host: rt, fails }, &folder).is_ok() != is_put {
-        return Ok(false);
-    }
-    let is_right = stands(rt, &folder, if is_put { NEW } else { OLD }, stays)?;
-    let is_missing = !fs::exists(rt, "replacing_rows/missing")?;
-    fs::remove_dir_all(rt, folder.name)?;
-    Ok(is_right && is_missing)
+fn puts(rt: &HostRuntime, row: &Row) -> bool {
+    make_folder(rt, &ROWS_FOLDER).is_ok()
+        && is_put_in(rt, &ROWS_FOLDER, row)
+        && is_removed(rt, &ROWS_FOLDER)
 }
 
-/// What stands at the path of the new file, the step that fails, whether the new text is put, and whether something stays at
-/// the path of the new file.
-const ROWS: [(&str, Left, Step, bool, bool); 18] = [
+/// What is put, and what is left.
+static ROWS: [Row; 18] = [
     // each step fails
     ("hold", Left::Nothing, Step::Hold, false, false),
     ("look", Left::Nothing, Step::Look, false, false),
@@ -152,48 +178,79 @@ const ROWS: [(&str, Left, Step, bool, bool); 18] = [
 ];
 
 #[test]
-fn puts_the_new_text_or_leaves_the_old(rt: HostRuntime) -> Result<(), Fail> {
-    for (name, left, fails, is_put, stays) in ROWS {
-        assert!(rt; puts(&rt, left, fails, is_put, stays)?, "{name}");
+fn puts_the_new_text_or_leaves_the_old(rt: HostRuntime) {
+    for row in &ROWS {
+        must_hold(&rt, puts(&rt, row), row.0);
     }
-    Ok(())
 }
+
+/// Whether the file that another run holds is left.
+fn leaves_a_held_file(rt: &HostRuntime, folder: &Folder) -> bool {
+    match &File::open(rt, folder.path) {
+        Ok(first) => {
+            matches!(first.hold(), Ok(true))
+                && put(rt, folder).is_err()
+                && stands(rt, folder, OLD, false)
+        }
+        Err(_) => false,
+    }
+}
+
+static SECOND: Folder = Folder {
+    name: "replacing_second",
+    path: "replacing_second/a.yaml",
+    new_path: "replacing_second/a.yaml.yamlfmt-new",
+    other: "replacing_second/other",
+};
 
 /// Whether a run leaves a file that another one holds, and rewrites it later.
-fn waits_for_another_run(rt: &HostRuntime) -> io::Result<bool> {
-    let folder = make_folder(rt, "replacing_second")?;
-    let first = File::open(rt, folder.path.as_str())?;
-    let is_refused = first.hold()? && put(rt, &folder).is_err();
-    let is_left = is_refused && stands(rt, &folder, OLD, false)?;
-    drop(first);
-    let is_put = put(rt, &folder).is_ok();
-    fs::remove_dir_all(rt, folder.name)?;
-    Ok(is_left && is_put)
+fn waits_for_another_run(rt: &HostRuntime) -> bool {
+    make_folder(rt, &SECOND).is_ok()
+        && leaves_a_held_file(rt, &SECOND)
+        && put(rt, &SECOND).is_ok()
+        && is_removed(rt, &SECOND)
 }
 
-/// Whether a file is left that was written, or made anew, since it was read.
-fn leaves_a_changed_file(rt: &HostRuntime, is_new: bool) -> io::Result<bool> {
-    let folder = make_folder(rt, "replacing_changed")?;
-    let path = folder.path.as_str();
-    let opened = open_regular(rt, path)?;
+/// Writes another text over a file, or puts a new file with it in its place.
+fn change(rt: &HostRuntime, path: &str, is_new: bool) -> io::Result<()> {
     if is_new {
         fs::write(rt, "replacing_changed/b.yaml", OTHER)?;
-        fs::rename(rt, "replacing_changed/b.yaml", path)?;
-    } else {
-        fs::write(rt, path, OTHER)?;
+        return fs::rename(rt, "replacing_changed/b.yaml", path);
     }
-    let is_refused = put_over(rt, &folder, &opened).is_err();
-    let is_left = is_refused && stands(rt, &folder, OTHER, false)?;
-    fs::remove_dir_all(rt, folder.name)?;
-    Ok(is_left)
+    fs::write(rt, path, OTHER)
+}
+
+/// Whether a file is left that was changed since it was read.
+fn leaves_changed(rt: &HostRuntime, folder: &Folder, is_new: bool) -> bool {
+    match &open_regular(rt, folder.path) {
+        Ok(opened) => {
+            change(rt, folder.path, is_new).is_ok()
+                && put_over(rt, folder, opened).is_err()
+                && stands(rt, folder, OTHER, false)
+        }
+        Err(_) => false,
+    }
+}
+
+static CHANGED: Folder = Folder {
+    name: "replacing_changed",
+    path: "replacing_changed/a.yaml",
+    new_path: "replacing_changed/a.yaml.yamlfmt-new",
+    other: "replacing_changed/other",
+};
+
+/// Whether a file is left that was written, or made anew, since it was read.
+fn leaves_a_changed_file(rt: &HostRuntime, is_new: bool) -> bool {
+    make_folder(rt, &CHANGED).is_ok()
+        && leaves_changed(rt, &CHANGED, is_new)
+        && is_removed(rt, &CHANGED)
 }
 
 #[test]
-fn leaves_what_others_hold_or_change(rt: HostRuntime) -> Result<(), Fail> {
-    assert!(rt; waits_for_another_run(&rt)?);
-    assert!(rt; leaves_a_changed_file(&rt, false)?);
-    assert!(rt; leaves_a_changed_file(&rt, true)?);
-    Ok(())
+fn leaves_what_others_hold_or_change(rt: HostRuntime) {
+    must_hold(&rt, waits_for_another_run(&rt), "another run");
+    must_hold(&rt, leaves_a_changed_file(&rt, false), "changed");
+    must_hold(&rt, leaves_a_changed_file(&rt, true), "new");
 }
 
 /// Whether there is a regular file at the path, or a link to one, that is opened.
@@ -202,7 +259,7 @@ fn is_opened(rt: &HostRuntime, path: &str) -> bool {
 }
 
 /// Paths, and whether what stands there is opened.
-const OPENED: [(&str, bool); 5] = [
+static OPENED: [(&str, bool); 5] = [
     ("replacing_kinds/a.yaml", true),
     ("replacing_kinds/link", true),
     ("replacing_kinds", false),
@@ -210,70 +267,115 @@ const OPENED: [(&str, bool); 5] = [
     ("/dev/null", false),
 ];
 
+static KINDS: Folder = Folder {
+    name: "replacing_kinds",
+    path: "replacing_kinds/a.yaml",
+    new_path: "replacing_kinds/a.yaml.yamlfmt-new",
+    other: "replacing_kinds/other",
+};
+
+/// Makes a folder with a link to its file.
+fn make_link(rt: &HostRuntime) -> io::Result<()> {
+    make_folder(rt, &KINDS)?;
+    symlink(rt, "a.yaml", "replacing_kinds/link")
+}
+
 #[test]
-fn opens_regular_files_alone(rt: HostRuntime) -> Result<(), Fail> {
-    let folder = make_folder(&rt, "replacing_kinds")?;
-    symlink(&rt, "a.yaml", "replacing_kinds/link")?;
-    for (path, wanted) in OPENED {
-        assert!(rt; is_opened(&rt, path) == wanted, "{path}");
+fn opens_regular_files_alone(rt: HostRuntime) {
+    must_hold(&rt, make_link(&rt).is_ok(), "make");
+    for (path, wanted) in &OPENED {
+        must_hold(&rt, is_opened(&rt, path) == *wanted, path);
     }
-    fs::remove_dir_all(&rt, folder.name)?;
-    Ok(())
+    must_hold(&rt, is_removed(&rt, &KINDS), "remove");
 }
 
 /// The permissions after it was rewritten of a file that had those.
-fn mode_after(rt: &HostRuntime, mode: u32) -> io::Result<u32> {
-    let folder = make_folder(rt, "replacing_bits")?;
-    let path = folder.path.as_str();
+fn mode_in(rt: &HostRuntime, folder: &Folder, mode: u32) -> io::Result<u32> {
+    let path = folder.path;
     fs::set_permissions(rt, path, Permissions::from_mode(mode))?;
-    put(rt, &folder)?;
-    let after = fs::metadata(rt, path)?.mode() & 0o7777;
-    fs::remove_dir_all(rt, folder.name)?;
-    Ok(after)
+    put(rt, folder)?;
+    Ok(fs::metadata(rt, path)?.mode() & 0o7777)
+}
+
+static BITS: Folder = Folder {
+    name: "replacing_bits",
+    path: "replacing_bits/a.yaml",
+    new_path: "replacing_bits/a.yaml.yamlfmt-new",
+    other: "replacing_bits/other",
+};
+
+/// Whether a file that had those permissions has these after it was rewritten.
+fn has_mode_after(rt: &HostRuntime, mode: u32, wanted: u32) -> bool {
+    make_folder(rt, &BITS).is_ok()
+        && matches!(mode_in(rt, &BITS, mode), Ok(after) if after == wanted)
+        && is_removed(rt, &BITS)
 }
 
 /// Permissions, whether the new file has the group of the old one, and its permissions.
-const MODES: [(u32, bool, u32); 3] = [
+static MODES: [(u32, bool, u32); 3] = [
     (0o104_755, true, 0o755),
     (0o100_664, false, 0o644),
     (0o100_640, false, 0o600),
 ];
 
 #[test]
-fn set_user_bits_go(rt: HostRuntime) -> Result<(), Fail> {
-    assert!(rt; mode_after(&rt, 0o6751)? == 0o751);
-    for (mode, has_group, wanted) in MODES {
-        assert!(rt; mode_of(mode, has_group) == wanted, "{wanted}");
+fn set_user_bits_go(rt: HostRuntime) {
+    must_hold(&rt, has_mode_after(&rt, 0o6751, 0o751), "rewritten");
+    for (mode, has_group, wanted) in &MODES {
+        assert!(rt; mode_of(*mode, *has_group) == *wanted, "{wanted}");
     }
-    Ok(())
 }
 
 /// The owner and the group of a file of another user, and what its group may do, after it was rewritten.
-fn owned_after(rt: &HostRuntime, fails: Step) -> io::Result<(u32, u32, u32)> {
-    let folder = make_folder(rt, "replacing_owner")?;
-    let path = folder.path.as_str();
+fn owned_after(rt: &HostRuntime, folder: &Folder, fails: Step) -> io::Result<(u32, u32, u32)> {
+    let path = folder.path;
     fs::set_permissions(rt, path, Permissions::from_mode(0o640))?;
     chown(rt, path, Some(1234), Some(2345))?;
-    put(&FailingFiles { host: rt, fails }, &folder)?;
+    put(&FailingFiles { host: rt, fails }, folder)?;
     let metadata = fs::metadata(rt, path)?;
-    fs::remove_dir_all(rt, folder.name)?;
     Ok((metadata.uid(), metadata.gid(), metadata.mode() & 0o070))
 }
 
+static OWNER: Folder = Folder {
+    name: "replacing_owner",
+    path: "replacing_owner/a.yaml",
+    new_path: "replacing_owner/a.yaml.yamlfmt-new",
+    other: "replacing_owner/other",
+};
+
+/// Whether owner and group stay; where the file can't be given away, whether the group may do nothing.
+fn is_kept(owned: (u32, u32, u32), fails: Step) -> bool {
+    match fails {
+        Step::Give => owned.2 == 0,
+        _ => owned == (1234, 2345, 0o040),
+    }
+}
+
+/// Whether that is so after the file was rewritten.
+fn keeps_owner(rt: &HostRuntime, fails: Step) -> bool {
+    make_folder(rt, &OWNER).is_ok()
+        && matches!(owned_after(rt, &OWNER, fails), Ok(owned) if is_kept(owned, fails))
+        && is_removed(rt, &OWNER)
+}
+
+static OWN: Folder = Folder {
+    name: "replacing_own",
+    path: "replacing_own/a.yaml",
+    new_path: "replacing_own/a.yaml.yamlfmt-new",
+    other: "replacing_own/other",
+};
+
 /// Whether a file may be given away: only root may.
-fn may_give(rt: &HostRuntime) -> io::Result<bool> {
-    let folder = make_folder(rt, "replacing_own")?;
-    let may = chown(rt, folder.path.as_str(), Some(1234), Some(2345)).is_ok();
-    fs::remove_dir_all(rt, folder.name)?;
-    Ok(may)
+fn may_give(rt: &HostRuntime) -> bool {
+    chown(rt, OWN.path, Some(1234), Some(2345)).is_ok()
 }
 
 #[test]
-fn owner_and_group_stay(rt: HostRuntime) -> Result<(), Fail> {
-    if may_give(&rt)? {
-        assert!(rt; owned_after(&rt, Step::Nothing)? == (1234, 2345, 0o040));
-        let (_, _, group) = owned_after(&rt, Step::Give)?;
-        assert!(rt; group == 0);
+fn owner_and_group_stay(rt: HostRuntime) {
+    must_hold(&rt, make_folder(&rt, &OWN).is_ok(), "make");
+    if may_give(&rt) {
+        must_hold(&rt, keeps_owner(&rt, Step::Nothing), "nothing fails");
+        must_hold(&rt, keeps_owner(&rt, Step::Give), "give fails");
     }
-    Ok(())
+    must_hold(&rt, is_removed(&rt, &OWN), "remove");
 }

@@ -1,6 +1,6 @@
 //! Settings files, by their text, and the lines that are printed for those that are refused.
 
-use crate::answers::reports;
+use crate::answers::{must_hold, reports};
 use crate::settings::style_from_toml;
 use std::alloc::Global;
 use yf_lines::quotes::Quotes;
@@ -26,7 +26,7 @@ fn sets(
 }
 
 /// Settings files, and what they set: `indent`, `max_line`, `quotes` and `seq_indent`.
-const SET: [(&str, usize, usize, Quotes, bool); 5] = [
+static SET: [(&str, usize, usize, Quotes, bool); 5] = [
     ("", 2, 100, Quotes::Double, true),
     ("indent = 4", 4, 100, Quotes::Double, true),
     ("# none\n", 2, 100, Quotes::Double, true),
@@ -48,11 +48,9 @@ const SET: [(&str, usize, usize, Quotes, bool); 5] = [
 
 #[test]
 fn sets_what_is_named(rt: HostRuntime) {
-    for (text, indent, max_line, quotes, seq_indent) in SET {
-        assert!(rt;
-            sets(rt.alloc(), text, indent, max_line, quotes, seq_indent),
-            "{text}"
-        );
+    for (text, indent, max_line, quotes, seq_indent) in &SET {
+        let is_set = sets(rt.alloc(), text, *indent, *max_line, *quotes, *seq_indent);
+        must_hold(&rt, is_set, text);
     }
 }
 
@@ -65,7 +63,7 @@ fn is_refused(alloc: Global, text: &str, line: &str) -> bool {
 }
 
 /// Settings files that are refused, and the line that is printed.
-const REFUSED: [(&str, &str); 17] = [
+static REFUSED: [(&str, &str); 17] = [
     ("indent = 9", "config: indent\n"),
     ("tabs = 1", "config: tabs\n"),
     ("indent =", "config: \n"),
@@ -87,7 +85,7 @@ const REFUSED: [(&str, &str); 17] = [
 
 #[test]
 fn names_the_least_wrong_key(rt: HostRuntime) {
-    for (text, line) in REFUSED {
-        assert!(rt; is_refused(rt.alloc(), text, line), "{text}");
+    for (text, line) in &REFUSED {
+        must_hold(&rt, is_refused(rt.alloc(), text, line), text);
     }
 }

@@ -1,23 +1,45 @@
 //! Keys of the settings that hold control characters. Words of the command line that do stand in `command_line_tests`.
 
-use crate::answers::reports;
+use crate::answers::{must_hold, reports};
 use crate::shown::shown_text;
 use std::alloc::{AllocError, Global};
-use std::test::Fail;
 use yf_lines::fault::Fault;
 use yf_lines::text::OwnedText;
 
+/// Whether a text is that which stands between `config: ` and the line feed of a line.
+fn stands_in(shown: &str, line: &str) -> bool {
+    match line.strip_prefix("config: ") {
+        Some(rest) => rest.strip_suffix('\n') == Some(shown),
+        None => false,
+    }
+}
+
+/// Whether a text of its own shows the key as that line does.
+fn is_shown_alone(alloc: Global, key: &str, line: &str) -> bool {
+    match &shown_text(alloc, key) {
+        Ok(shown) => stands_in(shown.as_str(), line),
+        Err(AllocError) => false,
+    }
+}
+
+/// Whether that line is printed for a key of the settings.
+fn is_printed(alloc: Global, key: &str, line: &str) -> bool {
+    match String::from_str(alloc, key) {
+        Ok(key) => {
+            let key = OwnedText::new(key);
+            reports(alloc, &Fault::Config { key }, 3, line)
+        }
+        Err(AllocError) => false,
+    }
+}
+
 /// Whether that line is printed for a key of the settings, and a text of its own shows the key so.
-fn is_shown(alloc: Global, key: &str, line: &str) -> Result<bool, AllocError> {
-    let mut wanted = String::from_str(alloc, "config: ")?;
-    wanted.push_str(shown_text(alloc, key)?.as_str())?;
-    wanted.push('\n')?;
-    let key = OwnedText::new(String::from_str(alloc, key)?);
-    Ok(wanted.as_str() == line && reports(alloc, &Fault::Config { key }, 3, line))
+fn is_shown(alloc: Global, key: &str, line: &str) -> bool {
+    is_shown_alone(alloc, key, line) && is_printed(alloc, key, line)
 }
 
 /// Keys, and the lines that are printed for them.
-const KEYS: [(&str, &str); 5] = [
+static KEYS: [(&str, &str); 5] = [
     ("indent", "config: indent\n"),
     ("a\u{1b}[2J\n", "config: a\\x1B[2J\\x0A\n"),
     ("\0\t\u{7f}", "config: \\x00\\x09\\x7F\n"),
@@ -29,9 +51,8 @@ const KEYS: [(&str, &str); 5] = [
 ];
 
 #[test]
-fn keys_are_shown(rt: HostRuntime) -> Result<(), Fail> {
-    for (key, line) in KEYS {
-        assert!(rt; is_shown(rt.alloc(), key, line)?, "{line}");
+fn keys_are_shown(rt: HostRuntime) {
+    for (key, line) in &KEYS {
+        must_hold(&rt, is_shown(rt.alloc(), key, line), line);
     }
-    Ok(())
 }

@@ -1,6 +1,6 @@
 //! What the contracts leave to the system: that reading and writing succeed, and what a failing reader or writer gives.
 
-use crate::answers::{answer_over, reports};
+use crate::answers::{answer_over, must_hold, reports};
 use crate::command_line::Verb;
 use crate::faulty::FaultyReader;
 use crate::input::read_all;
@@ -75,15 +75,29 @@ fn is_read(alloc: Global, bytes: &[u8], limit: usize) -> bool {
     }
 }
 
+/// Whether bytes are not read that are more than so many, of a reader that has these.
+fn is_refused(alloc: Global, bytes: &[u8], limit: usize) -> bool {
+    fails_to_read(alloc, &mut Watched::new(bytes), limit)
+}
+
+/// Whether bytes that never end are not read, and the reader has not failed.
+fn leaves_an_endless_reader(alloc: Global) -> bool {
+    let mut reader = Watched::new(EndlessReader);
+    fails_to_read(alloc, &mut reader, 10) && !reader.failed()
+}
+
+/// Whether a reader that fails is told so.
+fn tells_a_broken_reader(alloc: Global) -> bool {
+    let mut reader = Watched::new(broken_reader());
+    fails_to_read(alloc, &mut reader, 10) && reader.failed()
+}
+
 #[test]
 fn reads_up_to_the_limit(rt: HostRuntime) {
-    assert!(rt; is_read(rt.alloc(), b"0123456789", 10));
-    let mut reader = Watched::new(b"0123456789".as_slice());
-    assert!(rt; fails_to_read(rt.alloc(), &mut reader, 9));
-    let mut reader = Watched::new(EndlessReader);
-    assert!(rt; fails_to_read(rt.alloc(), &mut reader, 10) && !reader.failed());
-    let mut reader = Watched::new(broken_reader());
-    assert!(rt; fails_to_read(rt.alloc(), &mut reader, 10) && reader.failed());
+    must_hold(&rt, is_read(rt.alloc(), b"0123456789", 10), "ten");
+    must_hold(&rt, is_refused(rt.alloc(), b"0123456789", 9), "nine");
+    must_hold(&rt, leaves_an_endless_reader(rt.alloc()), "endless");
+    must_hold(&rt, tells_a_broken_reader(rt.alloc()), "broken");
 }
 
 /// A reader that fails at once.
@@ -107,19 +121,35 @@ fn fails_to_write<W: Sink>(writer: &mut W, bytes: &[u8]) -> bool {
     matches!(write_text(writer, bytes), Err(Fault::WriteFailed))
 }
 
+/// Whether a writer that takes three bytes takes these, and fails.
+fn takes_a_front(alloc: Global) -> bool {
+    let mut writer = full_writer(alloc);
+    fails_to_write(&mut writer, b"---\n- a\n")
+        && writer.failed()
+        && writer.get_ref().taken.as_slice() == b"---".as_slice()
+}
+
 #[test]
 fn writes_a_front_and_fails(rt: HostRuntime) {
-    let mut writer = full_writer(rt.alloc());
-    assert!(rt; fails_to_write(&mut writer, b"---\n- a\n") && writer.failed());
-    assert!(rt; writer.get_ref().taken.as_slice() == b"---".as_slice());
+    must_hold(&rt, takes_a_front(rt.alloc()), "a front");
+}
+
+/// Whether a writer that takes nothing is told so.
+fn tells_a_stuck_writer() -> bool {
+    let mut writer = Watched::new(StuckWriter);
+    fails_to_write(&mut writer, b"a") && writer.failed()
+}
+
+/// Whether nothing is written to it where there is nothing.
+fn leaves_an_idle_writer() -> bool {
+    let mut idle = Watched::new(StuckWriter);
+    write_text(&mut idle, b"").is_ok() && !idle.failed()
 }
 
 #[test]
 fn leaves_a_writer_that_takes_nothing(rt: HostRuntime) {
-    let mut writer = Watched::new(StuckWriter);
-    assert!(rt; fails_to_write(&mut writer, b"a") && writer.failed());
-    let mut idle = Watched::new(StuckWriter);
-    assert!(rt; write_text(&mut idle, b"").is_ok() && !idle.failed());
+    must_hold(&rt, tells_a_stuck_writer(), "stuck");
+    must_hold(&rt, leaves_an_idle_writer(), "idle");
 }
 
 const PLACE: Place = Place {
@@ -179,16 +209,20 @@ const FAULTS: [(Fault, u8, &str); 11] = [
 
 #[test]
 fn reports_faults(rt: HostRuntime) {
-    for (fault, status, line) in FAULTS {
-        assert!(rt; reports(rt.alloc(), &fault, status, line), "{line}");
+    for (fault, status, line) in &FAULTS {
+        must_hold(&rt, reports(rt.alloc(), fault, *status, line), line);
     }
+}
+
+/// Whether the status is kept where the report fails, and the stream is told to have failed.
+fn keeps_the_status() -> bool {
+    let mut stream = Watched::new(StuckWriter);
+    report(&Fault::Memory, &mut stream) == 3 && stream.failed()
 }
 
 #[test]
 fn keeps_the_status_where_the_report_fails(rt: HostRuntime) {
-    let mut stream = Watched::new(StuckWriter);
-    assert_eq!(rt; report(&Fault::Memory, &mut stream), 3);
-    assert!(rt; stream.failed());
+    must_hold(&rt, keeps_the_status(), "status");
 }
 
 /// The status of a run that prints events, and what it writes to the stream of faults.
@@ -196,13 +230,20 @@ fn events_over<R: Source, W: Sink>(alloc: Global, reader: &mut R, writer: &mut W
     answer_over(alloc, Verb::Events, &[], reader, writer)
 }
 
+/// Whether a run tells a writer that takes three bytes, and these are the first.
+fn tells_a_full_writer(alloc: Global) -> bool {
+    let mut reader = Watched::new(b"- a\n- b\n".as_slice());
+    let mut writer = full_writer(alloc);
+    let (status, line) = events_over(alloc, &mut reader, &mut writer);
+    status == 3
+        && line.as_slice() == b"write failed\n".as_slice()
+        && writer.failed()
+        && writer.get_ref().taken.as_slice() == b"+ST".as_slice()
+}
+
 #[test]
 fn answers_a_writer_that_fails_in_the_lines(rt: HostRuntime) {
-    let mut reader = Watched::new(b"- a\n- b\n".as_slice());
-    let mut writer = full_writer(rt.alloc());
-    let (status, line) = events_over(rt.alloc(), &mut reader, &mut writer);
-    assert!(rt; status == 3 && line.as_slice() == b"write failed\n".as_slice());
-    assert!(rt; writer.failed() && writer.get_ref().taken.as_slice() == b"+ST".as_slice());
+    must_hold(&rt, tells_a_full_writer(rt.alloc()), "a writer");
 }
 
 /// Whether nothing is written where that reader fails.
@@ -216,11 +257,11 @@ fn writes_nothing(alloc: Global, faulty: FaultyReader) -> bool {
 
 #[test]
 fn writes_nothing_where_the_reader_fails(rt: HostRuntime) {
-    assert!(rt; writes_nothing(rt.alloc(), broken_reader()));
+    must_hold(&rt, writes_nothing(rt.alloc(), broken_reader()), "broken");
     // behind a line
     let cut = FaultyReader {
         rest: b"- a\n",
         reads_left: 1,
     };
-    assert!(rt; writes_nothing(rt.alloc(), cut));
+    must_hold(&rt, writes_nothing(rt.alloc(), cut), "cut");
 }

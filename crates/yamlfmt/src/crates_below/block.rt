@@ -1,9 +1,8 @@
 //! Block nodes, whose events were worked out from the productions.
 
-use crate::answers::repeated;
-use crate::crates_below::node_text::{places, shown};
-use std::alloc::Global;
-use std::test::Fail;
+use crate::answers::{must_hold, repeated};
+use crate::crates_below::node_text::{are_places, is_shown};
+use std::alloc::{AllocError, Global};
 use yf_block::block::{read_block_node, scan_block_node};
 use yf_block::nodes::{Found, Outcome, block_node_in};
 use yf_chars::context::Ctx;
@@ -15,7 +14,7 @@ use yf_lines::fault::Fault;
 use yf_lines::source_text::Src;
 
 /// Texts, the events of the block node that begins the text at indentation -1 in block-in, and where the node ends.
-const NODES: [(&str, &str, usize); 34] = [
+static NODES: [(&str, &str, usize); 34] = [
     ("? k\n: v\n", "+MAP / =VAL :k / =VAL :v / -MAP", 8),
     (
         "a:\n- x\n- - y\n  - z\n",
@@ -126,7 +125,7 @@ const NODES: [(&str, &str, usize); 34] = [
 ];
 
 /// Texts that no block node begins.
-const REFUSED: [&str; 9] = [
+static REFUSED: [&str; 9] = [
     "a: b: c\n",
     "key: [\n  1\n]\n",
     "# c\n",
@@ -152,75 +151,94 @@ enum Wanted {
 }
 
 /// Whether a node with these events that ends there is the one that is wanted.
-fn is_wanted(alloc: Global, events: &Events, end: usize, wanted: Wanted) -> Result<bool, Fail> {
+fn is_wanted(alloc: Global, events: &Events, end: usize, wanted: Wanted) -> bool {
     match wanted {
-        Wanted::Node(text, wanted_end) => {
-            Ok(end == wanted_end && shown(alloc, events)?.as_str() == text)
-        }
-        Wanted::End(wanted_end) => Ok(end == wanted_end),
-        Wanted::Nothing | Wanted::TooDeep => Ok(false),
+        Wanted::Node(text, wanted_end) => end == wanted_end && is_shown(alloc, events, text),
+        Wanted::End(wanted_end) => end == wanted_end,
+        Wanted::Nothing | Wanted::TooDeep => false,
+    }
+}
+
+/// Whether the block node that begins the source is the one that is wanted.
+fn is_node(alloc: Global, src: &Src, wanted: Wanted) -> bool {
+    if !src.text().is_char_boundary(0) {
+        return false;
+    }
+    match &scan_block_node(alloc, src, 0, -1, Ctx::BlockIn) {
+        Ok(Some(node)) => is_wanted(alloc, &node.part.events, node.end, wanted),
+        Ok(None) => matches!(wanted, Wanted::Nothing),
+        Err(Fault::TooDeep { .. }) => matches!(wanted, Wanted::TooDeep),
+        Err(_) => false,
     }
 }
 
 /// Whether the block node that begins the text is the one that is wanted.
-fn is_scanned(alloc: Global, text: &str, wanted: Wanted) -> Result<bool, Fail> {
-    let src = Src::new(alloc, text)?;
-    if !src.text().is_char_boundary(0) {
-        return Ok(false);
-    }
-    match scan_block_node(alloc, &src, 0, -1, Ctx::BlockIn) {
-        Ok(Some(node)) => is_wanted(alloc, &node.part.events, node.end, wanted),
-        Ok(None) => Ok(matches!(wanted, Wanted::Nothing)),
-        Err(Fault::TooDeep { .. }) => Ok(matches!(wanted, Wanted::TooDeep)),
-        Err(fault) => Err(fault.into()),
+fn is_scanned(alloc: Global, text: &str, wanted: Wanted) -> bool {
+    match &Src::new(alloc, text) {
+        Ok(src) => is_node(alloc, src, wanted),
+        Err(AllocError) => false,
     }
 }
 
 /// Texts of sequences and of keys: a part, how many times it stands, what follows, and the node that begins the text.
-const LIMITS: [(&str, usize, &str, Wanted); 4] = [
+static LIMITS: [(&str, usize, &str, Wanted); 4] = [
     ("- ", 1024, "a", Wanted::End(2049)),
     ("- ", 1025, "a", Wanted::TooDeep),
     ("k", 1024, ": v", Wanted::End(1027)),
     ("k", 1025, ": v", Wanted::Nothing),
 ];
 
+/// Whether the node that begins such a text is the one that is wanted.
+fn is_limit(alloc: Global, part: &str, count: usize, rest: &str, wanted: Wanted) -> bool {
+    match &repeated(alloc, "", part, count, rest, 1) {
+        Ok(text) => is_scanned(alloc, text.as_str(), wanted),
+        Err(AllocError) => false,
+    }
+}
+
 #[test]
-fn scans_nodes(rt: HostRuntime) -> Result<(), Fail> {
-    for (text, wanted, end) in NODES {
-        assert!(rt;
-            is_scanned(rt.alloc(), text, Wanted::Node(wanted, end))?,
-            "{text}"
+fn scans_nodes(rt: HostRuntime) {
+    for (text, wanted, end) in &NODES {
+        must_hold(
+            &rt,
+            is_scanned(rt.alloc(), text, Wanted::Node(wanted, *end)),
+            text,
         );
     }
-    for text in REFUSED {
-        assert!(rt; is_scanned(rt.alloc(), text, Wanted::Nothing)?, "{text}");
+    for text in &REFUSED {
+        must_hold(&rt, is_scanned(rt.alloc(), text, Wanted::Nothing), text);
     }
-    for (part, count, rest, wanted) in LIMITS {
-        let text = repeated(rt.alloc(), "", part, count, rest, 1)?;
+    for (part, count, rest, wanted) in &LIMITS {
         assert!(rt;
-            is_scanned(rt.alloc(), text.as_str(), wanted)?,
+            is_limit(rt.alloc(), part, *count, rest, *wanted),
             "{part} {count}"
         );
     }
-    Ok(())
 }
 
-/// Whether the reader refuses the text for an escape in that column of the first line.
-fn is_refused(alloc: Global, text: &str, column: usize) -> Result<bool, Fail> {
-    let src = Src::new(alloc, text)?;
+/// Whether the reader refuses the source for an escape in that column of the first line.
+fn is_refused_at(alloc: Global, src: &Src, column: usize) -> bool {
     if !src.text().is_char_boundary(0) {
-        return Ok(false);
+        return false;
     }
-    match read_block_node(alloc, &src, 0, -1, Ctx::BlockIn) {
-        Err(Fault::EscapeValue { place }) => Ok(place.line == 1 && place.column == column),
-        _ => Ok(false),
+    match &read_block_node(alloc, src, 0, -1, Ctx::BlockIn) {
+        Err(Fault::EscapeValue { place }) => place.line == 1 && place.column == column,
+        _ => false,
+    }
+}
+
+/// The same of a text.
+fn is_refused(alloc: Global, text: &str, column: usize) -> bool {
+    match &Src::new(alloc, text) {
+        Ok(src) => is_refused_at(alloc, src, column),
+        Err(AllocError) => false,
     }
 }
 
 /// A text that goes wrong at its end, and the places of its events, as `places` tells them.
 const CUT: &str = "&a\n\nk: |+\n x\n\nl:\n\n - b # c\n - ? d\n   : [";
 
-const PLACES: [[usize; 5]; 6] = [
+static PLACES: [[usize; 5]; 6] = [
     [0, 22, 0, 0, 0],
     [4, 5, 4, 5, 1],
     [7, 14, 0, 0, 0],
@@ -230,37 +248,42 @@ const PLACES: [[usize; 5]; 6] = [
 ];
 
 /// Whether what is found in that text ends and goes wrong where it should.
-fn is_cut(found: Outcome) -> bool {
+fn is_cut(found: &Result<Outcome, AllocError>) -> bool {
     match found {
-        Outcome::Found(
-            Found {
-                end,
-                reached,
-                floor,
-                whole,
-            },
-        ) => end == 27 && reached == 39 && floor == 14 && !whole,
+        Ok(
+            Outcome::Found(
+                Found {
+                    end,
+                    reached,
+                    floor,
+                    whole,
+                },
+            ),
+        ) => *end == 27 && *reached == 39 && *floor == 14 && !*whole,
         _ => false,
     }
 }
 
 /// Whether a node is read from that text up to where it goes wrong, with those places.
-fn reads_cut(alloc: Global) -> Result<bool, Fail> {
+fn reads_cut(alloc: Global) -> bool {
     if !CUT.is_char_boundary(0) {
-        return Ok(false);
+        return false;
     }
     let mut part = Part {
         events: Events::new(alloc),
         comments: Comments::new(alloc),
         escapes: Row::new(alloc),
     };
-    let found = block_node_in(alloc, CUT, 0, -1, Ctx::BlockIn, 1024, &mut part)?;
-    Ok(is_cut(found) && places(alloc, &part.events)?.as_slice() == PLACES.as_slice())
+    is_cut(&block_node_in(alloc, CUT, 0, -1, Ctx::BlockIn, 1024, &mut part))
+        && are_places(&part.events, &PLACES)
 }
 
 #[test]
-fn keeps_places_and_the_first_bad_escape(rt: HostRuntime) -> Result<(), Fail> {
-    assert!(rt; is_refused(rt.alloc(), "- \"\\ud83d\"\n- [", 4)?);
-    assert!(rt; reads_cut(rt.alloc())?);
-    Ok(())
+fn keeps_places_and_the_first_bad_escape(rt: HostRuntime) {
+    must_hold(
+        &rt,
+        is_refused(rt.alloc(), "- \"\\ud83d\"\n- [", 4),
+        "an escape",
+    );
+    must_hold(&rt, reads_cut(rt.alloc()), CUT);
 }

@@ -1,28 +1,25 @@
 //! Block scalars whose lines and content were worked out from the productions.
 
-use std::alloc::Global;
-use std::test::Fail;
-use yf_block_scalar::body::BlockText;
+use crate::answers::must_hold;
+use std::alloc::{AllocError, Global};
+use yf_block_scalar::body::{BlockText, Found};
 use yf_block_scalar::content::content;
 use yf_block_scalar::header_reader::HeaderLine;
 use yf_block_scalar::read::{read_body, read_header};
 use yf_block_scalar::write::write_block;
+use yf_lines::fault::Fault;
 use yf_lines::source_text::Src;
 
-/// The header that begins the source.
-fn header_of<'a>(src: &Src<'a>) -> Option<HeaderLine<'a>> {
-    read_header(src, 0)
-}
-
-/// The scalar whose header begins the source, and nothing where a header begins it and no scalar follows.
-fn block_of<'a>(alloc: Global, src: &Src<'a>, n: i32) -> Result<Option<BlockText<'a>>, Fail> {
-    let head = header_of(src).ok_or("no header")?;
-    let line = src.lines().len().min(1);
-    Ok(read_body(alloc, src, line, n.min(9), head.header)?)
+/// The scalar whose header begins the source; nothing where no header begins it, or a header and no scalar.
+fn block_of<'a>(alloc: Global, src: &Src<'a>, n: i32) -> Found<'a, Fault> {
+    match &read_header(src, 0) {
+        Some(head) => read_body(alloc, src, src.lines().len().min(1), n.min(9), head.header),
+        None => Ok(None),
+    }
 }
 
 /// Texts that a header begins, the indentation, and the content.
-const CONTENTS: [(&str, i32, &str); 11] = [
+static CONTENTS: [(&str, i32, &str); 11] = [
     ("|2\n    x\n\n- >", 0, "  x\n"),
     (">\n a\n b\n\n   c\n", 0, "a b\n\n  c\n"),
     ("|\n\n", 0, ""),
@@ -44,19 +41,35 @@ const CONTENTS: [(&str, i32, &str); 11] = [
     (">\n\ta\n", -1, "\ta\n"),
 ];
 
+/// Whether a text is that.
+fn is_text(text: &Result<String, Fault>, wanted: &str) -> bool {
+    match text {
+        Ok(text) => text.as_str() == wanted,
+        Err(_) => false,
+    }
+}
+
+/// Whether the scalar that begins a source has that content.
+fn is_content(alloc: Global, src: &Src, n: i32, wanted: &str) -> bool {
+    match &block_of(alloc, src, n) {
+        Ok(Some(block)) => is_text(&content(alloc, block), wanted),
+        _ => false,
+    }
+}
+
 /// Whether the scalar that begins a text has that content.
-fn has_content(alloc: Global, text: &str, n: i32, wanted: &str) -> Result<bool, Fail> {
-    let src = Src::new(alloc, text)?;
-    let block = block_of(alloc, &src, n)?.ok_or("no scalar")?;
-    Ok(content(alloc, &block)?.as_str() == wanted)
+fn has_content(alloc: Global, text: &str, n: i32, wanted: &str) -> bool {
+    match &Src::new(alloc, text) {
+        Ok(src) => is_content(alloc, src, n, wanted),
+        Err(AllocError) => false,
+    }
 }
 
 #[test]
-fn reads_contents(rt: HostRuntime) -> Result<(), Fail> {
-    for (text, n, wanted) in CONTENTS {
-        assert!(rt; has_content(rt.alloc(), text, n, wanted)?, "{text}");
+fn reads_contents(rt: HostRuntime) {
+    for (text, n, wanted) in &CONTENTS {
+        must_hold(&rt, has_content(rt.alloc(), text, *n, wanted), text);
     }
-    Ok(())
 }
 
 /// Whether the scalar has one line and one blank line in its tail, and then a comment after another blank line.
@@ -74,22 +87,26 @@ fn has_comment(block: &BlockText) -> bool {
 }
 
 /// Whether comments behind the tail are read.
-fn reads_tail(alloc: Global) -> Result<bool, Fail> {
-    let src = Src::new(alloc, "|-\n x\n\n# c\n- y\n")?;
-    match block_of(alloc, &src, 0)? {
-        Some(block) => Ok(has_comment(&block)),
-        None => Ok(false),
+fn reads_tail(alloc: Global, text: &str) -> bool {
+    match &Src::new(alloc, text) {
+        Ok(src) => match &block_of(alloc, src, 0) {
+            Ok(Some(block)) => has_comment(block),
+            _ => false,
+        },
+        Err(AllocError) => false,
     }
 }
 
 /// Whether no scalar follows the header that begins a text.
-fn is_refused(alloc: Global, text: &str) -> Result<bool, Fail> {
-    let src = Src::new(alloc, text)?;
-    Ok(block_of(alloc, &src, 0)?.is_none())
+fn is_refused(alloc: Global, text: &str) -> bool {
+    match &Src::new(alloc, text) {
+        Ok(src) => read_header(src, 0).is_some() && matches!(&block_of(alloc, src, 0), Ok(None)),
+        Err(AllocError) => false,
+    }
 }
 
 /// Texts, and where the header ends that begins them and has the comment `# c`; `None` where no header begins.
-const HEADERS: [(&str, Option<usize>); 6] = [
+static HEADERS: [(&str, Option<usize>); 6] = [
     ("|#c\n a\n", None),
     ("|10\n a\n", None),
     ("|-1+\n", None),
@@ -98,12 +115,19 @@ const HEADERS: [(&str, Option<usize>); 6] = [
     ("|  # c\n a\n", Some(7)),
 ];
 
+/// Whether a header with the comment `# c` is found and ends there, or no header is.
+fn is_header(found: &Option<HeaderLine>, wanted: Option<usize>) -> bool {
+    match found {
+        Some(head) => wanted == Some(head.end) && is_commented(head),
+        None => wanted.is_none(),
+    }
+}
+
 /// Whether a header with the comment `# c` begins a text and ends there, or no header does.
-fn has_header(alloc: Global, text: &str, wanted: Option<usize>) -> Result<bool, Fail> {
-    let src = Src::new(alloc, text)?;
-    match header_of(&src) {
-        Some(head) => Ok(wanted == Some(head.end) && is_commented(&head)),
-        None => Ok(wanted.is_none()),
+fn has_header(alloc: Global, text: &str, wanted: Option<usize>) -> bool {
+    match &Src::new(alloc, text) {
+        Ok(src) => is_header(&read_header(src, 0), wanted),
+        Err(AllocError) => false,
     }
 }
 
@@ -119,18 +143,25 @@ fn is_commented(head: &HeaderLine) -> bool {
 }
 
 #[test]
-fn reads_headers_and_tails(rt: HostRuntime) -> Result<(), Fail> {
-    for (text, wanted) in HEADERS {
-        assert!(rt; has_header(rt.alloc(), text, wanted)?, "{text}");
+fn reads_headers_and_tails(rt: HostRuntime) {
+    for (text, wanted) in &HEADERS {
+        must_hold(&rt, has_header(rt.alloc(), text, *wanted), text);
     }
-    assert!(rt; reads_tail(rt.alloc())?);
+    must_hold(
+        &rt,
+        reads_tail(rt.alloc(), "|-\n x\n\n# c\n- y\n"),
+        "a tail",
+    );
     // a longer empty line before the content
-    assert!(rt; is_refused(rt.alloc(), "|\n   \n  a\n")?);
-    Ok(())
+    must_hold(
+        &rt,
+        is_refused(rt.alloc(), "|\n   \n  a\n"),
+        "a longer empty line",
+    );
 }
 
 /// Texts that a header begins, and the scalar as it is written at column 2.
-const WRITTEN: [(&str, &str); 5] = [
+static WRITTEN: [(&str, &str); 5] = [
     ("|2\n    x\n\n- >", "|2\n    x\n"),
     (">\n a\n b\n\n   c\n", ">\n  a\n  b\n\n    c\n"),
     ("|+\n a\n\n", "|+\n  a\n\n"),
@@ -138,19 +169,26 @@ const WRITTEN: [(&str, &str); 5] = [
     ("|-\n x", "|-\n  x\n"),
 ];
 
-/// Whether the scalar that begins a text is written so.
-fn is_written(alloc: Global, text: &str, wanted: &str) -> Result<bool, Fail> {
-    let src = Src::new(alloc, text)?;
-    let block = block_of(alloc, &src, 0)?.ok_or("no scalar")?;
+/// Whether a scalar is written so.
+fn writes(alloc: Global, block: &BlockText, wanted: &str) -> bool {
     let mut out = String::new(alloc);
-    write_block(alloc, &mut out, &block, 2, 0)?;
-    Ok(out.as_str() == wanted)
+    write_block(alloc, &mut out, block, 2, 0).is_ok() && out.as_str() == wanted
+}
+
+/// Whether the scalar that begins a text is written so.
+fn is_written(alloc: Global, text: &str, wanted: &str) -> bool {
+    match &Src::new(alloc, text) {
+        Ok(src) => match &block_of(alloc, src, 0) {
+            Ok(Some(block)) => writes(alloc, block, wanted),
+            _ => false,
+        },
+        Err(AllocError) => false,
+    }
 }
 
 #[test]
-fn writes_scalars(rt: HostRuntime) -> Result<(), Fail> {
-    for (text, wanted) in WRITTEN {
-        assert!(rt; is_written(rt.alloc(), text, wanted)?, "{text}");
+fn writes_scalars(rt: HostRuntime) {
+    for (text, wanted) in &WRITTEN {
+        must_hold(&rt, is_written(rt.alloc(), text, wanted), text);
     }
-    Ok(())
 }

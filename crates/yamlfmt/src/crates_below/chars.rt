@@ -1,12 +1,13 @@
 //! Bytes, and escapes as they are read and written.
 
+use crate::answers::must_hold;
 use std::alloc::Global;
 use yf_chars::classes::{is_break_char, is_white};
 use yf_chars::escapes::{Escape, push_escaped, read_escape};
 use yf_chars::utf8::check_utf8;
 
 /// Bytes, the text that they are, and else the offset of the first that is none.
-const TEXTS: [(&[u8], Option<&str>, usize); 6] = [
+static TEXTS: [(&[u8], Option<&str>, usize); 6] = [
     (b"a\xC3\xA9\n", Some("a\u{E9}\n"), 0),
     (b"", Some(""), 0),
     (b"a\xFF", None, 1),
@@ -25,13 +26,13 @@ fn is_taken(bytes: &[u8], wanted: Option<&str>, offset: usize) -> bool {
 
 #[test]
 fn takes_text(rt: HostRuntime) {
-    for (bytes, wanted, offset) in TEXTS {
-        assert!(rt; is_taken(bytes, wanted, offset), "{offset}");
+    for (bytes, wanted, offset) in &TEXTS {
+        assert!(rt; is_taken(bytes, *wanted, *offset), "{offset}");
     }
 }
 
 /// Escapes, with the numbers that they write and where they end. The last one is none.
-const ESCAPES: [(&str, Option<(u32, usize)>); 4] = [
+static ESCAPES: [(&str, Option<(u32, usize)>); 4] = [
     ("\\ud83d\\ude00", Some((0x1F600, 12))),
     ("\\ud83d", Some((0xD83D, 6))),
     ("\\/", Some((0x2F, 2))),
@@ -47,7 +48,7 @@ fn is_escape(text: &str, wanted: Option<(u32, usize)>) -> bool {
 }
 
 /// Characters.
-const CHARACTERS: [char; 4] = ['\u{7}', '\u{2028}', '"', 'e'];
+static CHARACTERS: [char; 4] = ['\u{7}', '\u{2028}', '"', 'e'];
 
 /// How they are written one after another in double quotes.
 const WRITTEN: &str = "\\x07\\u2028\\\"e";
@@ -55,8 +56,8 @@ const WRITTEN: &str = "\\x07\\u2028\\\"e";
 /// Whether they are written so.
 fn are_written(alloc: Global) -> bool {
     let mut out = String::new(alloc);
-    for c in CHARACTERS {
-        if push_escaped(&mut out, c).is_err() {
+    for c in &CHARACTERS {
+        if push_escaped(&mut out, *c).is_err() {
             return false;
         }
     }
@@ -65,14 +66,14 @@ fn are_written(alloc: Global) -> bool {
 
 #[test]
 fn reads_and_writes_escapes(rt: HostRuntime) {
-    for (text, wanted) in ESCAPES {
-        assert!(rt; is_escape(text, wanted), "{text}");
+    for (text, wanted) in &ESCAPES {
+        must_hold(&rt, is_escape(text, *wanted), text);
     }
-    assert!(rt; are_written(rt.alloc()));
+    must_hold(&rt, are_written(rt.alloc()), WRITTEN);
 }
 
 /// Characters, whether they are white space within a line, and whether they are breaks.
-const SPACES: [(char, bool, bool); 6] = [
+static SPACES: [(char, bool, bool); 6] = [
     (' ', true, false),
     ('\t', true, false),
     ('\n', false, true),
@@ -83,7 +84,7 @@ const SPACES: [(char, bool, bool); 6] = [
 
 #[test]
 fn tells_white_space_from_breaks(rt: HostRuntime) {
-    for (c, white, ends_line) in SPACES {
-        assert!(rt; is_white(c) == white && is_break_char(c) == ends_line);
+    for (c, white, ends_line) in &SPACES {
+        assert!(rt; is_white(*c) == *white && is_break_char(*c) == *ends_line);
     }
 }

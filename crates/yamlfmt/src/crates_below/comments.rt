@@ -1,7 +1,7 @@
 //! Separation and ends of lines, at texts whose ends and comments were worked out by hand from the productions.
 
-use std::alloc::Global;
-use std::test::Fail;
+use crate::answers::must_hold;
+use std::alloc::{AllocError, Global};
 use yf_chars::context::Ctx;
 use yf_comments::comments::{Comments, Separation};
 use yf_comments::lines::line_end;
@@ -32,75 +32,54 @@ fn is_one(comments: &Comments, offset: usize, blank_before: bool) -> bool {
 }
 
 /// Whether what is wanted was found.
-fn is_wanted(found: &Option<Separation>, wanted: Wanted) -> bool {
+fn is_wanted<E>(found: &Result<Option<Separation>, E>, wanted: Wanted) -> bool {
     match found {
-        Some(found) => match wanted {
+        Ok(Some(found)) => match wanted {
             Wanted::Nothing => false,
             Wanted::End(end) => found.end == end && found.comments.len() == 0,
             Wanted::Comment(end, offset, blank_before) => {
                 found.end == end && is_one(&found.comments, offset, blank_before)
             }
         },
-        None => matches!(wanted, Wanted::Nothing),
+        Ok(None) => matches!(wanted, Wanted::Nothing),
+        Err(_) => false,
     }
 }
 
-/// Whether `read_separation` finds what is wanted behind the first character of a text, in flow-out.
-fn reads_separation(alloc: Global, text: &str, n: i32, wanted: Wanted) -> Result<bool, Fail> {
-    let src = Src::new(alloc, text)?;
-    if !src.text().is_char_boundary(1) {
-        return Ok(false);
-    }
-    let found = read_separation(alloc, &src, 1, n, Ctx::FlowOut)?;
-    Ok(is_wanted(&found, wanted))
+/// Whether `read_separation`, in flow-out, and `read_line_end` find what is wanted behind the first character of a source.
+fn reads_behind(alloc: Global, src: &Src, n: i32, separation: Wanted, line_end: Wanted) -> bool {
+    src.text().is_char_boundary(1)
+        && is_wanted(&read_separation(alloc, src, 1, n, Ctx::FlowOut), separation)
+        && is_wanted(&read_line_end(alloc, src, 1), line_end)
 }
 
-/// Whether `read_line_end` finds what is wanted behind the first character of a text.
-fn reads_line_end(alloc: Global, text: &str, wanted: Wanted) -> Result<bool, Fail> {
-    let src = Src::new(alloc, text)?;
-    if !src.text().is_char_boundary(1) {
-        return Ok(false);
+/// Whether both find the comment behind the first character of a text.
+fn reads_comment(alloc: Global, text: &str) -> bool {
+    let separation = Wanted::Comment(8, 2, false);
+    let line_end = Wanted::Comment(6, 2, false);
+    match &Src::new(alloc, text) {
+        Ok(src) => reads_behind(alloc, src, 2, separation, line_end),
+        Err(AllocError) => false,
     }
-    let found = read_line_end(alloc, &src, 1)?;
-    Ok(is_wanted(&found, wanted))
 }
 
 #[test]
-fn reads_over_a_comment(rt: HostRuntime) -> Result<(), Fail> {
-    let wanted = Wanted::Comment(8, 2, false);
-    assert!(rt; reads_separation(rt.alloc(), "x # c\n  y", 2, wanted)?);
-    let wanted = Wanted::Comment(6, 2, false);
-    assert!(rt; reads_line_end(rt.alloc(), "x # c\n  y", wanted)?);
-    Ok(())
+fn reads_over_a_comment(rt: HostRuntime) {
+    must_hold(&rt, reads_comment(rt.alloc(), "x # c\n  y"), "a comment");
 }
 
 /// Whether `separate` finds what is wanted at a place of a text.
-fn separates_at(
-    alloc: Global,
-    text: &str,
-    at: usize,
-    n: i32,
-    ctx: Ctx,
-    wanted: Wanted,
-) -> Result<bool, Fail> {
-    if !text.is_char_boundary(at) {
-        return Ok(false);
-    }
-    let found = separate(alloc, text, at, n, ctx)?;
-    Ok(is_wanted(&found, wanted))
+fn separates_at(alloc: Global, text: &str, at: usize, n: i32, ctx: Ctx, wanted: Wanted) -> bool {
+    text.is_char_boundary(at) && is_wanted(&separate(alloc, text, at, n, ctx), wanted)
 }
 
 /// Whether `separate_lines` finds what is wanted behind the first character of a text.
-fn separates_lines(alloc: Global, text: &str, width: usize, wanted: Wanted) -> Result<bool, Fail> {
-    if !text.is_char_boundary(1) {
-        return Ok(false);
-    }
-    let found = separate_lines(alloc, text, 1, width)?;
-    Ok(is_wanted(&found, wanted))
+fn separates_lines(alloc: Global, text: &str, width: usize, wanted: Wanted) -> bool {
+    text.is_char_boundary(1) && is_wanted(&separate_lines(alloc, text, 1, width), wanted)
 }
 
 /// Texts, a place, the indentation, the context, and the separation that begins there.
-const SEPARATED: [(&str, usize, i32, Ctx, Wanted); 3] = [
+static SEPARATED: [(&str, usize, i32, Ctx, Wanted); 3] = [
     // in the indentation of a comment line
     (" \n  # c\nx", 0, 1, Ctx::BlockIn, Wanted::End(4)),
     // before a comment that no indentation follows
@@ -110,15 +89,19 @@ const SEPARATED: [(&str, usize, i32, Ctx, Wanted); 3] = [
 ];
 
 #[test]
-fn separates(rt: HostRuntime) -> Result<(), Fail> {
-    for (text, at, n, ctx, wanted) in SEPARATED {
-        assert!(rt;
-            separates_at(rt.alloc(), text, at, n, ctx, wanted)?,
-            "{text}"
+fn separates(rt: HostRuntime) {
+    for (text, at, n, ctx, wanted) in &SEPARATED {
+        must_hold(
+            &rt,
+            separates_at(rt.alloc(), text, *at, *n, *ctx, *wanted),
+            text,
         );
     }
-    assert!(rt; separates_lines(rt.alloc(), "x\n\n  y", 2, Wanted::End(5))?);
-    Ok(())
+    must_hold(
+        &rt,
+        separates_lines(rt.alloc(), "x\n\n  y", 2, Wanted::End(5)),
+        "lines",
+    );
 }
 
 /// Where white space within a line ends that begins at a place of a text.
@@ -138,23 +121,23 @@ fn flow_prefix(text: &str, width: usize) -> Option<usize> {
 }
 
 /// Texts, and where white space within a line ends that begins behind the first character.
-const IN_LINE: [(&str, Option<usize>); 2] = [("a \tb", Some(3)), ("ab", None)];
+static IN_LINE: [(&str, Option<usize>); 2] = [("a \tb", Some(3)), ("ab", None)];
 
 /// Texts, and where the prefix of a flow line of two spaces ends that begins the text.
-const PREFIXES: [(&str, Option<usize>); 2] = [("  \tb", Some(3)), (" \tb", None)];
+static PREFIXES: [(&str, Option<usize>); 2] = [("  \tb", Some(3)), (" \tb", None)];
 
 #[test]
 fn separates_in_a_line(rt: HostRuntime) {
-    for (text, wanted) in IN_LINE {
-        assert!(rt; separated_in_line(text, 1) == wanted, "{text}");
+    for (text, wanted) in &IN_LINE {
+        must_hold(&rt, separated_in_line(text, 1) == *wanted, text);
     }
-    for (text, wanted) in PREFIXES {
-        assert!(rt; flow_prefix(text, 2) == wanted, "{text}");
+    for (text, wanted) in &PREFIXES {
+        must_hold(&rt, flow_prefix(text, 2) == *wanted, text);
     }
 }
 
 /// Texts, a place, and the end of a line that begins there.
-const LINE_ENDS: [(&str, usize, Wanted); 4] = [
+static LINE_ENDS: [(&str, usize, Wanted); 4] = [
     // after a mark
     ("\u{FEFF}# c\n", 3, Wanted::Comment(7, 3, false)),
     ("a\n \t\n# c", 1, Wanted::Comment(8, 5, true)),
@@ -165,18 +148,13 @@ const LINE_ENDS: [(&str, usize, Wanted); 4] = [
 ];
 
 /// Whether `line_end` finds what is wanted at a place of a text.
-fn ends_line(alloc: Global, text: &str, at: usize, wanted: Wanted) -> Result<bool, Fail> {
-    if !text.is_char_boundary(at) {
-        return Ok(false);
-    }
-    let found = line_end(alloc, text, at)?;
-    Ok(is_wanted(&found, wanted))
+fn ends_line(alloc: Global, text: &str, at: usize, wanted: Wanted) -> bool {
+    text.is_char_boundary(at) && is_wanted(&line_end(alloc, text, at), wanted)
 }
 
 #[test]
-fn ends_lines(rt: HostRuntime) -> Result<(), Fail> {
-    for (text, at, wanted) in LINE_ENDS {
-        assert!(rt; ends_line(rt.alloc(), text, at, wanted)?, "{text}");
+fn ends_lines(rt: HostRuntime) {
+    for (text, at, wanted) in &LINE_ENDS {
+        must_hold(&rt, ends_line(rt.alloc(), text, *at, *wanted), text);
     }
-    Ok(())
 }

@@ -1,8 +1,7 @@
 //! The house style, and a text that is formatted at once and in steps.
 
-use crate::answers::{formatted, reading_of};
-use std::alloc::Global;
-use std::test::Fail;
+use crate::answers::{formatted, must_hold, reading_of};
+use std::alloc::{AllocError, Global};
 use yf_emit::form::decide::implicit_key;
 use yf_emit::form::kept::kept_text;
 use yf_emit::normal::normal;
@@ -11,7 +10,6 @@ use yf_emit::style::Style;
 use yf_emit::text::wanted::wanted_style;
 use yf_events::event::ScalarStyle;
 use yf_events::reading::Reading;
-use yf_lines::fault::Fault;
 use yf_lines::quotes::Quotes;
 use yf_lines::source_text::Src;
 use yf_lines::watched::Watched;
@@ -19,41 +17,65 @@ use yf_lines::watched::Watched;
 #[test]
 fn the_house_style(rt: HostRuntime) {
     let style = Style::house();
-    assert!(rt; style.indent == 2 && style.max_line == 100);
-    assert!(rt; style.quotes == Quotes::Double && style.seq_indent);
+    must_hold(&rt, style.indent == 2 && style.max_line == 100, "columns");
+    must_hold(
+        &rt,
+        style.quotes == Quotes::Double && style.seq_indent,
+        "quotes and sequences",
+    );
 }
 
 const BROKEN: &str = "a: ['x', # c\n y]\n";
 
 const MENDED: &str = "---\na:\n  - \"x\"  # c\n  - y\n";
 
-/// Prints a reading that is in normal form.
-fn written(alloc: Global, normal: &Reading, style: &Style) -> Result<Vec<u8>, Fault> {
+/// Whether a reading in normal form is printed so.
+fn is_written(alloc: Global, normal: &Reading, wanted: &str) -> bool {
     let mut writer = Watched::new(Vec::new(alloc));
-    print(alloc, normal, style, &mut writer)?;
-    Ok(writer.into_inner())
+    print(alloc, normal, &Style::house(), &mut writer).is_ok()
+        && writer.get_ref().as_slice() == wanted.as_bytes()
 }
 
-/// Prints the normal form of a reading of the text.
-fn printed(alloc: Global, src: &Src, reading: &Reading, style: &Style) -> Result<Vec<u8>, Fault> {
-    let normal = normal(alloc, src, reading, style)?;
-    written(alloc, &normal, style)
+/// Whether the normal form of a reading is printed so.
+fn is_normal(alloc: Global, src: &Src, reading: &Reading, wanted: &str) -> bool {
+    match &normal(alloc, src, reading, &Style::house()) {
+        Ok(normal) => is_written(alloc, normal, wanted),
+        Err(_) => false,
+    }
 }
 
-/// Whether the text is printed so in steps.
-fn is_printed(alloc: Global, text: &str, wanted: &str) -> Result<bool, Fail> {
-    let src = Src::new(alloc, text)?;
-    let reading = reading_of(alloc, text)?;
-    let bytes = printed(alloc, &src, &reading, &Style::house())?;
-    Ok(bytes.as_slice() == wanted.as_bytes())
+/// Whether a source is printed so in steps.
+fn is_printed(alloc: Global, src: &Src, wanted: &str) -> bool {
+    match &reading_of(alloc, src.text()) {
+        Ok(reading) => is_normal(alloc, src, reading, wanted),
+        Err(_) => false,
+    }
+}
+
+/// Whether a text is printed so in steps.
+fn is_printed_in_steps(alloc: Global, text: &str, wanted: &str) -> bool {
+    match &Src::new(alloc, text) {
+        Ok(src) => is_printed(alloc, src, wanted),
+        Err(AllocError) => false,
+    }
+}
+
+/// Whether a text is formatted so at once.
+fn is_formatted(alloc: Global, text: &str, wanted: &str) -> bool {
+    match &formatted(alloc, text, &Style::house()) {
+        Ok(formatted) => formatted.as_str() == wanted,
+        Err(_) => false,
+    }
 }
 
 #[test]
-fn formats_at_once_and_in_steps(rt: HostRuntime) -> Result<(), Fail> {
-    let text = formatted(rt.alloc(), BROKEN, &Style::house())?;
-    assert!(rt; text.as_str() == MENDED);
-    assert!(rt; is_printed(rt.alloc(), BROKEN, MENDED)?);
-    Ok(())
+fn formats_at_once_and_in_steps(rt: HostRuntime) {
+    must_hold(&rt, is_formatted(rt.alloc(), BROKEN, MENDED), "at once");
+    must_hold(
+        &rt,
+        is_printed_in_steps(rt.alloc(), BROKEN, MENDED),
+        "in steps",
+    );
 }
 
 /// What is asked of an event.
@@ -79,46 +101,54 @@ fn style_word(reading: &Reading, i: usize) -> &'static str {
 }
 
 /// Whether the key that an event begins is written without `?`.
-fn key_word(alloc: Global, src: &Src, reading: &Reading, i: usize) -> Result<&'static str, Fail> {
-    if implicit_key(alloc, src, reading, i, &Style::house())? {
-        return Ok("implicit");
-    }
-    Ok("explicit")
-}
-
-/// The text on one line of the flow collection that an event begins.
-fn kept(alloc: Global, src: &Src, reading: &Reading, i: usize) -> Result<String, Fail> {
-    match kept_text(alloc, src, reading, i, &Style::house())? {
-        Some(text) => Ok(text),
-        None => Ok(String::from_str(alloc, "not kept")?),
+fn key_word(alloc: Global, src: &Src, reading: &Reading, i: usize) -> &'static str {
+    match implicit_key(alloc, src, reading, i, &Style::house()) {
+        Ok(true) => "implicit",
+        Ok(false) => "explicit",
+        Err(_) => "no memory",
     }
 }
 
-/// What is told of an event, as a text.
-fn told(
-    alloc: Global,
-    asked: Asked,
-    src: &Src,
-    reading: &Reading,
-    i: usize,
-) -> Result<String, Fail> {
-    let word = match asked {
-        Asked::Kept => return kept(alloc, src, reading, i),
-        Asked::Style => style_word(reading, i),
-        Asked::Implicit => key_word(alloc, src, reading, i)?,
-    };
-    Ok(String::from_str(alloc, word)?)
+/// Whether that is the text on one line of the flow collection that an event begins.
+fn is_kept(alloc: Global, src: &Src, reading: &Reading, i: usize, wanted: &str) -> bool {
+    match &kept_text(alloc, src, reading, i, &Style::house()) {
+        Ok(Some(text)) => text.as_str() == wanted,
+        Ok(None) => wanted == "not kept",
+        Err(_) => false,
+    }
+}
+
+/// A text, an event of it, what is asked of it, and what is told.
+type Row = (&'static str, usize, Asked, &'static str);
+
+/// Whether that is told of an event.
+fn is_told_of(alloc: Global, src: &Src, reading: &Reading, row: &Row) -> bool {
+    let (_, i, asked, wanted) = *row;
+    match asked {
+        Asked::Kept => is_kept(alloc, src, reading, i, wanted),
+        Asked::Style => style_word(reading, i) == wanted,
+        Asked::Implicit => key_word(alloc, src, reading, i) == wanted,
+    }
+}
+
+/// Whether that is told of an event of a source.
+fn is_told_in(alloc: Global, src: &Src, row: &Row) -> bool {
+    match &reading_of(alloc, src.text()) {
+        Ok(reading) => is_told_of(alloc, src, reading, row),
+        Err(_) => false,
+    }
 }
 
 /// Whether that is told of an event of a text.
-fn is_told(alloc: Global, text: &str, i: usize, asked: Asked, wanted: &str) -> Result<bool, Fail> {
-    let src = Src::new(alloc, text)?;
-    let reading = reading_of(alloc, text)?;
-    Ok(told(alloc, asked, &src, &reading, i)?.as_str() == wanted)
+fn is_told(alloc: Global, row: &Row) -> bool {
+    match &Src::new(alloc, row.0) {
+        Ok(src) => is_told_in(alloc, src, row),
+        Err(AllocError) => false,
+    }
 }
 
-/// Texts, an event of each, what is asked of it, and what is told.
-const TOLD: [(&str, usize, Asked, &str); 5] = [
+/// What is told of events.
+static TOLD: [Row; 5] = [
     (" ...\n", 2, Asked::Style, "double"),
     ("[a: b, c]\n", 2, Asked::Kept, "[{a: b}, c]"),
     ("[ # c\n]\n", 2, Asked::Kept, "not kept"),
@@ -127,9 +157,8 @@ const TOLD: [(&str, usize, Asked, &str); 5] = [
 ];
 
 #[test]
-fn tells_how_one_event_is_written(rt: HostRuntime) -> Result<(), Fail> {
-    for (text, i, asked, wanted) in TOLD {
-        assert!(rt; is_told(rt.alloc(), text, i, asked, wanted)?, "{text}");
+fn tells_how_one_event_is_written(rt: HostRuntime) {
+    for row in &TOLD {
+        must_hold(&rt, is_told(rt.alloc(), row), row.0);
     }
-    Ok(())
 }

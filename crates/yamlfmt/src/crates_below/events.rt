@@ -2,8 +2,8 @@
 ghost use Rattle.std.specs.Prelude.{IfOk};
 ghost use Rattle.yf_events.specs.Reading.{Fits};
 
-use std::alloc::Global;
-use std::test::Fail;
+use crate::answers::must_hold;
+use std::alloc::{AllocError, Global};
 use yf_comments::comment::Comment;
 use yf_events::directive::{Directive, Directives};
 use yf_events::document::Doc;
@@ -41,7 +41,7 @@ const NONE: Props<'static> = Props {
 };
 
 /// Adds an event with no tag and no place.
-fn add<'a>(alloc: Global, lists: &mut Lists<'a>, event: NewEvent<'a>) -> Result<(), Fail>
+fn add<'a>(alloc: Global, lists: &mut Lists<'a>, event: NewEvent<'a>) -> Result<(), AllocError>
     requires { Fits lists.old }
     ensures { IfOk result (λ _. Fits lists.new) }
 {
@@ -52,12 +52,11 @@ fn add<'a>(alloc: Global, lists: &mut Lists<'a>, event: NewEvent<'a>) -> Result<
         entry: None,
         folded: Slices::new(alloc),
     };
-    lists.push_event(placed, None)?;
-    Ok(())
+    lists.push_event(placed, None)
 }
 
 /// The scalar of the stream of the lines `%FOO a`, `---`, `- &x !!str > # c` and `  b`.
-fn block<'a>(alloc: Global) -> Result<PlacedEvent<'a>, Fail> {
+fn block<'a>(alloc: Global) -> Result<PlacedEvent<'a>, AllocError> {
     let mut folded = Slices::new(alloc);
     folded.push("b")?;
     let tag = Some(Tag::Short {
@@ -85,7 +84,7 @@ fn block<'a>(alloc: Global) -> Result<PlacedEvent<'a>, Fail> {
 }
 
 /// Adds the event of a node.
-fn add_node<'a>(alloc: Global, lists: &mut Lists<'a>, node: Node) -> Result<(), Fail>
+fn add_node<'a>(alloc: Global, lists: &mut Lists<'a>, node: Node) -> Result<(), AllocError>
     requires { Fits lists.old }
     ensures { IfOk result (λ _. Fits lists.new) }
 {
@@ -109,26 +108,30 @@ fn add_node<'a>(alloc: Global, lists: &mut Lists<'a>, node: Node) -> Result<(), 
         },
         Node::Tagged(tag) => {
             let resolved = ResolvedTag::new(tag, Text::Part(""));
-            lists.push_event(block(alloc)?, Some(resolved))?;
-            return Ok(());
+            return lists.push_event(block(alloc)?, Some(resolved));
         }
     };
     add(alloc, lists, event)
 }
 
-/// The lists of a stream of one document with these nodes, whose start and end are written or not.
-fn lists_of<'a>(alloc: Global, starts: bool, nodes: &[Node], ends: bool) -> Result<Lists<'a>, Fail>
-    ensures { IfOk result (λ lists. Fits lists) }
+/// Adds the events of a stream of one document with these nodes, whose start and end are written or not.
+fn fill(
+    alloc: Global,
+    lists: &mut Lists<'_>,
+    starts: bool,
+    nodes: &[Node],
+    ends: bool,
+) -> Result<(), AllocError>
+    requires { Fits lists.old }
+    ensures { IfOk result (λ _. Fits lists.new) }
 {
-    let mut lists = Lists::new(alloc);
-    add(alloc, &mut lists, NewEvent::StreamStart)?;
-    add(alloc, &mut lists, NewEvent::DocStart { explicit: starts })?;
+    add(alloc, lists, NewEvent::StreamStart)?;
+    add(alloc, lists, NewEvent::DocStart { explicit: starts })?;
     for node in nodes {
-        add_node(alloc, &mut lists, *node)?;
+        add_node(alloc, lists, *node)?;
     }
-    add(alloc, &mut lists, NewEvent::DocEnd { explicit: ends })?;
-    add(alloc, &mut lists, NewEvent::StreamEnd)?;
-    Ok(lists)
+    add(alloc, lists, NewEvent::DocEnd { explicit: ends })?;
+    add(alloc, lists, NewEvent::StreamEnd)
 }
 
 /// The reading of such a stream.
@@ -137,22 +140,29 @@ fn reading_of<'a>(
     starts: bool,
     nodes: &[Node],
     ends: bool,
-) -> Result<Option<Reading<'a>>, Fail> {
-    let lists = lists_of(alloc, starts, nodes, ends)?;
-    let reading = Reading::build(alloc, lists)?;
-    Ok(reading)
+) -> Result<Option<Reading<'a>>, Fault> {
+    let mut lists = Lists::new(alloc);
+    match fill(alloc, &mut lists, starts, nodes, ends) {
+        Ok(()) => Reading::build(alloc, lists),
+        Err(AllocError) => Err(Fault::Memory),
+    }
+}
+
+/// Whether a stream of a sequence that does not end is no reading.
+fn is_no_reading(alloc: Global) -> bool {
+    matches!(
+        &reading_of(alloc, false, &[Node::Sequence(true)], false),
+        Ok(None)
+    )
 }
 
 #[test]
-fn an_open_sequence_is_no_reading(rt: HostRuntime) -> Result<(), Fail> {
-    let nodes = [Node::Sequence(true)];
-    let reading = reading_of(rt.alloc(), false, &nodes, false)?;
-    assert!(rt; reading.is_none());
-    Ok(())
+fn an_open_sequence_is_no_reading(rt: HostRuntime) {
+    must_hold(&rt, is_no_reading(rt.alloc()), "an open sequence");
 }
 
 /// Nodes, whether their document's start and end are written, and the notation of the stream.
-const WRITTEN: [(&[Node], bool, &str); 2] = [
+static WRITTEN: [(&[Node], bool, &str); 2] = [
     (
         &[
             Node::Sequence(false),
@@ -178,58 +188,85 @@ const WRITTEN: [(&[Node], bool, &str); 2] = [
     ),
 ];
 
-/// The notation of a reading.
-fn written(alloc: Global, reading: &Reading) -> Result<Vec<u8>, Fail> {
+/// Whether that is the notation of a reading.
+fn is_notation(alloc: Global, reading: &Reading, wanted: &str) -> bool {
     let mut writer = Watched::new(Vec::new(alloc));
-    write_events(reading, &mut writer)?;
-    Ok(writer.into_inner())
+    write_events(reading, &mut writer).is_ok() && writer.get_ref().as_slice() == wanted.as_bytes()
 }
 
-/// The reading of the stream of `block`.
-fn block_reading<'a>(alloc: Global) -> Result<Option<Reading<'a>>, Fail> {
-    let nodes = [
-        Node::Sequence(false),
-        Node::Tagged("tag:yaml.org,2002:str"),
-        Node::EndOfSequence,
-    ];
-    let mut lists = lists_of(alloc, true, &nodes, false)?;
-    lists.push_comment(
-        Comment {
-            text: "# c",
-            offset: 24,
-            blank_before: false,
-        },
-        false,
-    )?;
+/// Whether that is the notation of the stream of these nodes.
+fn is_written(alloc: Global, nodes: &[Node], explicit: bool, wanted: &str) -> bool {
+    match &reading_of(alloc, explicit, nodes, explicit) {
+        Ok(Some(reading)) => is_notation(alloc, reading, wanted),
+        _ => false,
+    }
+}
+
+/// The directive of the stream of `block`.
+fn directives<'a>(alloc: Global) -> Result<Directives<'a>, AllocError> {
     let mut words = Slices::new(alloc);
     words.push("FOO")?;
     words.push("a")?;
     let mut directives = Directives::new(alloc);
     directives.push(Directive { offset: 0, words })?;
+    Ok(directives)
+}
+
+/// Adds what stands in that stream.
+fn fill_block(alloc: Global, lists: &mut Lists<'_>) -> Result<(), AllocError>
+    requires { Fits lists.old }
+    ensures { IfOk result (λ _. Fits lists.new) }
+{
+    let nodes = [
+        Node::Sequence(false),
+        Node::Tagged("tag:yaml.org,2002:str"),
+        Node::EndOfSequence,
+    ];
+    fill(alloc, lists, true, &nodes, false)?;
+    let comment = Comment {
+        text: "# c",
+        offset: 24,
+        blank_before: false,
+    };
+    lists.push_comment(comment, false)?;
+    let directives = directives(alloc)?;
     lists.documents.push(Doc {
         start: 7,
         directives,
-    })?;
-    let reading = Reading::build(alloc, lists)?;
-    Ok(reading)
+    })
+}
+
+/// The reading of that stream.
+fn block_reading<'a>(alloc: Global) -> Result<Option<Reading<'a>>, Fault> {
+    let mut lists = Lists::new(alloc);
+    match fill_block(alloc, &mut lists) {
+        Ok(()) => Reading::build(alloc, lists),
+        Err(AllocError) => Err(Fault::Memory),
+    }
 }
 
 /// The notation of that reading.
 const BLOCK: &str =
     "+STR\n+DOC ---\n+SEQ\n=VAL &x <tag:yaml.org,2002:str> >b\\n\n-SEQ\n-DOC\n-STR\n";
 
-#[test]
-fn writes_readings(rt: HostRuntime) -> Result<(), Fail> {
-    for (nodes, explicit, wanted) in WRITTEN {
-        let found = reading_of(rt.alloc(), explicit, nodes, explicit)?;
-        let reading = found.ok_or("no reading")?;
-        let bytes = written(rt.alloc(), &reading)?;
-        assert!(rt; bytes.as_slice() == wanted.as_bytes(), "{wanted}");
+/// Whether that is the notation of the stream of `block`.
+fn is_block_written(alloc: Global, wanted: &str) -> bool {
+    match &block_reading(alloc) {
+        Ok(Some(reading)) => is_notation(alloc, reading, wanted),
+        _ => false,
     }
-    let reading = block_reading(rt.alloc())?.ok_or("no reading")?;
-    let bytes = written(rt.alloc(), &reading)?;
-    assert!(rt; bytes.as_slice() == BLOCK.as_bytes());
-    Ok(())
+}
+
+#[test]
+fn writes_readings(rt: HostRuntime) {
+    for (nodes, explicit, wanted) in &WRITTEN {
+        must_hold(
+            &rt,
+            is_written(rt.alloc(), nodes, *explicit, wanted),
+            wanted,
+        );
+    }
+    must_hold(&rt, is_block_written(rt.alloc(), BLOCK), BLOCK);
 }
 
 /// Whether the fourth event of the reading of `block` is told as it is.
@@ -263,23 +300,29 @@ fn tells_the_document(reading: &Reading) -> bool {
         && reading.place_of(0) == (1, 1)
 }
 
-#[test]
-fn a_reading_tells_what_it_holds(rt: HostRuntime) -> Result<(), Fail> {
-    let reading = block_reading(rt.alloc())?.ok_or("no reading")?;
-    assert!(rt; tells_the_scalar(&reading));
-    assert!(rt; tells_the_document(&reading));
-    Ok(())
+/// Whether that reading tells what it holds.
+fn tells_block(alloc: Global) -> bool {
+    match &block_reading(alloc) {
+        Ok(Some(reading)) => tells_the_scalar(reading) && tells_the_document(reading),
+        _ => false,
+    }
 }
 
-/// Whether two readings have the same content.
-fn have_same_content(alloc: Global, one: &Reading, other: &Reading) -> Result<bool, Fault> {
-    let content = one.content(alloc)?;
-    let other_content = other.content(alloc)?;
-    Ok(content == other_content)
+#[test]
+fn a_reading_tells_what_it_holds(rt: HostRuntime) {
+    must_hold(&rt, tells_block(rt.alloc()), "a reading");
+}
+
+/// Whether two readings have the same content, or have not.
+fn is_same_content(alloc: Global, one: &Reading, other: &Reading, wanted: bool) -> bool {
+    match (&one.content(alloc), &other.content(alloc)) {
+        (Ok(content), Ok(other_content)) => (content == other_content) == wanted,
+        _ => false,
+    }
 }
 
 /// The nodes of two documents, the first of which has markers, and whether they have the same content.
-const CONTENTS: [(&[Node], &[Node], bool); 5] = [
+static CONTENTS: [(&[Node], &[Node], bool); 6] = [
     // whatever the styles and markers are
     (
         &[
@@ -317,17 +360,29 @@ const CONTENTS: [(&[Node], &[Node], bool); 5] = [
         &[Node::Anchored("b"), Node::EndOfMapping],
         false,
     ),
+    (&[Node::Tagged("!a")], &[Node::Tagged("!b")], false),
 ];
 
-#[test]
-fn tells_contents_apart(rt: HostRuntime) -> Result<(), Fail> {
-    for (nodes, other_nodes, wanted) in CONTENTS {
-        let one = reading_of(rt.alloc(), true, nodes, true)?.ok_or("no reading")?;
-        let other = reading_of(rt.alloc(), false, other_nodes, false)?.ok_or("no reading")?;
-        assert!(rt; have_same_content(rt.alloc(), &one, &other)? == wanted);
+/// Whether a reading, and one of a stream of a document with these nodes and no markers, have the same content, or have not.
+fn is_told_from(alloc: Global, one: &Reading, nodes: &[Node], wanted: bool) -> bool {
+    match &reading_of(alloc, false, nodes, false) {
+        Ok(Some(other)) => is_same_content(alloc, one, other, wanted),
+        _ => false,
     }
-    let one = reading_of(rt.alloc(), true, &[Node::Tagged("!a")], false)?.ok_or("no reading")?;
-    let other = reading_of(rt.alloc(), true, &[Node::Tagged("!b")], false)?.ok_or("no reading")?;
-    assert!(rt; !have_same_content(rt.alloc(), &one, &other)?);
-    Ok(())
+}
+
+/// Whether streams of these nodes, the first with markers, have the same content, or have not.
+fn are_told(alloc: Global, nodes: &[Node], other_nodes: &[Node], wanted: bool) -> bool {
+    match &reading_of(alloc, true, nodes, true) {
+        Ok(Some(one)) => is_told_from(alloc, one, other_nodes, wanted),
+        _ => false,
+    }
+}
+
+#[test]
+fn tells_contents_apart(rt: HostRuntime) {
+    for i in 0..CONTENTS.len() {
+        let (nodes, other_nodes, wanted) = CONTENTS[i];
+        assert!(rt; are_told(rt.alloc(), nodes, other_nodes, wanted), "{i}");
+    }
 }

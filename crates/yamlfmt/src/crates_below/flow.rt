@@ -1,9 +1,8 @@
 //! Flow nodes and implicit keys, whose events were worked out from the productions.
 
-use crate::answers::repeated;
-use crate::crates_below::node_text::{places, shown};
-use std::alloc::Global;
-use std::test::Fail;
+use crate::answers::{must_hold, repeated};
+use crate::crates_below::node_text::{are_places, is_shown};
+use std::alloc::{AllocError, Global};
 use yf_chars::context::Ctx;
 use yf_events::part::Part;
 use yf_flow::flow::{
@@ -12,8 +11,8 @@ use yf_flow::flow::{
 use yf_lines::fault::Fault;
 use yf_lines::source_text::Src;
 
-/// Texts, the indentation, the events of the flow node that begins the text, and where the node ends.
-const NODES: [(&str, i32, &str, usize); 18] = [
+/// Flow nodes.
+static NODES: [Row; 18] = [
     (
         "[a: b, c]",
         0,
@@ -90,34 +89,47 @@ const NODES: [(&str, i32, &str, usize); 18] = [
 ];
 
 /// Whether these are the events.
-fn has_events(alloc: Global, part: &Part, wanted: &str) -> Result<bool, Fail> {
-    Ok(shown(alloc, &part.events)?.as_str() == wanted)
+fn has_events(alloc: Global, part: &Part, wanted: &str) -> bool {
+    is_shown(alloc, &part.events, wanted)
 }
 
-/// Whether the flow node that begins the text has these events and ends there; without events, whether it is refused for an
+/// A text, the indentation, the events of the flow node that begins the text, and where the node ends.
+type Row = (&'static str, i32, &'static str, usize);
+
+/// Whether the flow node that begins the source has these events and ends there; without events, whether it is refused for an
 /// escape in that column of the first line.
-fn is_read(alloc: Global, text: &str, n: i32, wanted: &str, at: usize) -> Result<bool, Fail> {
-    let src = Src::new(alloc, text)?;
+fn is_node(alloc: Global, src: &Src, row: &Row) -> bool {
+    let (_, n, wanted, at) = *row;
     if !src.text().is_char_boundary(0) {
-        return Ok(false);
+        return false;
     }
-    match read_flow_node(alloc, &src, 0, n, Ctx::FlowOut) {
-        Ok(Some(node)) => Ok(node.end == at && has_events(alloc, &node.part, wanted)?),
-        Ok(None) => Ok(false),
+    match &read_flow_node(alloc, src, 0, n, Ctx::FlowOut) {
+        Ok(Some(node)) => node.end == at && has_events(alloc, &node.part, wanted),
         Err(Fault::EscapeValue { place }) => {
-            Ok(wanted.is_empty() && place.line == 1 && place.column == at)
+            wanted.is_empty() && place.line == 1 && place.column == at
         }
-        Err(fault) => Err(fault.into()),
+        _ => false,
+    }
+}
+
+/// The same of a text.
+fn is_read(alloc: Global, row: &Row) -> bool {
+    match &Src::new(alloc, row.0) {
+        Ok(src) => is_node(alloc, src, row),
+        Err(AllocError) => false,
     }
 }
 
 #[test]
-fn reads_nodes(rt: HostRuntime) -> Result<(), Fail> {
-    for (text, n, wanted, end) in NODES {
-        assert!(rt; is_read(rt.alloc(), text, n, wanted, end)?, "{text}");
+fn reads_nodes(rt: HostRuntime) {
+    for row in &NODES {
+        must_hold(&rt, is_read(rt.alloc(), row), row.0);
     }
-    assert!(rt; is_read(rt.alloc(), "\"\\ud83dA\"", 0, "", 2)?);
-    Ok(())
+    must_hold(
+        &rt,
+        is_read(rt.alloc(), &("\"\\ud83dA\"", 0, "", 2)),
+        "an escape",
+    );
 }
 
 /// What is wanted of a flow node that is scanned.
@@ -136,34 +148,43 @@ enum Wanted {
 }
 
 /// Whether the node is one that is wanted.
-fn is_wanted(alloc: Global, node: &ScannedPart, wanted: Wanted) -> Result<bool, Fail> {
+fn is_wanted(alloc: Global, node: &ScannedPart, wanted: Wanted) -> bool {
     match wanted {
-        Wanted::End(end) => Ok(node.end == end),
-        Wanted::Escape(events, end, column) => {
-            let is_told = node
-                .escape
-                .is_some_and(|place| place.line == 1 && place.column == column);
-            Ok(is_told && node.end == end && has_events(alloc, &node.part, events)?)
-        }
+        Wanted::End(end) => node.end == end,
+        Wanted::Escape(events, end, column) => match node.escape {
+            Some(place) => {
+                place.line == 1
+                    && place.column == column
+                    && node.end == end
+                    && has_events(alloc, &node.part, events)
+            }
+            None => false,
+        },
         Wanted::Places(rows, comments) => {
-            let found = places(alloc, &node.part.events)?;
-            Ok(found.as_slice() == rows && node.part.comments.len() == comments)
+            are_places(&node.part.events, rows) && node.part.comments.len() == comments
         }
-        Wanted::Nothing | Wanted::TooDeep => Ok(false),
+        Wanted::Nothing | Wanted::TooDeep => false,
+    }
+}
+
+/// Whether the flow node that begins the source is the one that is wanted.
+fn is_node_wanted(alloc: Global, src: &Src, n: i32, wanted: Wanted) -> bool {
+    if !src.text().is_char_boundary(0) {
+        return false;
+    }
+    match &scan_flow_node(alloc, src, 0, n, Ctx::FlowOut) {
+        Ok(Some(node)) => is_wanted(alloc, node, wanted),
+        Ok(None) => matches!(wanted, Wanted::Nothing),
+        Err(Fault::TooDeep { .. }) => matches!(wanted, Wanted::TooDeep),
+        Err(_) => false,
     }
 }
 
 /// Whether the flow node that begins the text is the one that is wanted.
-fn is_scanned(alloc: Global, text: &str, n: i32, wanted: Wanted) -> Result<bool, Fail> {
-    let src = Src::new(alloc, text)?;
-    if !src.text().is_char_boundary(0) {
-        return Ok(false);
-    }
-    match scan_flow_node(alloc, &src, 0, n, Ctx::FlowOut) {
-        Ok(Some(node)) => is_wanted(alloc, &node, wanted),
-        Ok(None) => Ok(matches!(wanted, Wanted::Nothing)),
-        Err(Fault::TooDeep { .. }) => Ok(matches!(wanted, Wanted::TooDeep)),
-        Err(fault) => Err(fault.into()),
+fn is_scanned(alloc: Global, text: &str, n: i32, wanted: Wanted) -> bool {
+    match &Src::new(alloc, text) {
+        Ok(src) => is_node_wanted(alloc, src, n, wanted),
+        Err(AllocError) => false,
     }
 }
 
@@ -177,7 +198,7 @@ const PLACES: [[usize; 5]; 5] = [
 ];
 
 /// Texts, the indentation, and the flow node that begins the text.
-const SCANNED: [(&str, i32, Wanted); 9] = [
+static SCANNED: [(&str, i32, Wanted); 9] = [
     ("[\n  1\n]", 1, Wanted::Nothing),
     ("[a", 0, Wanted::Nothing),
     ("[a\n: b]", 0, Wanted::Nothing),
@@ -189,8 +210,18 @@ const SCANNED: [(&str, i32, Wanted); 9] = [
     ("[a,\n\n &a k : # c\n v]", 0, Wanted::Places(&PLACES, 1)),
 ];
 
-/// Texts of brackets and of keys: the parts of `repeated`, and the node that begins the text.
-const LIMITS: [(&str, &str, usize, &str, usize, Wanted); 6] = [
+/// The parts of `repeated`, and the node that begins the text.
+type Limit = (
+    &'static str,
+    &'static str,
+    usize,
+    &'static str,
+    usize,
+    Wanted,
+);
+
+/// Texts of brackets and of keys.
+static LIMITS: [Limit; 6] = [
     ("", "[", 1024, "]", 1024, Wanted::End(2048)),
     ("", "[", 1025, "]", 1025, Wanted::TooDeep),
     ("&a ", "[", 1025, "]", 1025, Wanted::End(2)),
@@ -199,45 +230,61 @@ const LIMITS: [(&str, &str, usize, &str, usize, Wanted); 6] = [
     ("{", "k", 1025, ": v}", 1, Wanted::End(1030)),
 ];
 
-#[test]
-fn scans_nodes(rt: HostRuntime) -> Result<(), Fail> {
-    for (text, n, wanted) in SCANNED {
-        assert!(rt; is_scanned(rt.alloc(), text, n, wanted)?, "{text}");
+/// Whether the node that begins the text is scanned so.
+fn is_limit(alloc: Global, row: &Limit) -> bool {
+    let (before, part, count, rest, more, wanted) = *row;
+    match &repeated(alloc, before, part, count, rest, more) {
+        Ok(text) => is_scanned(alloc, text.as_str(), 0, wanted),
+        Err(AllocError) => false,
     }
-    for (before, part, count, rest, more, wanted) in LIMITS {
-        let text = repeated(rt.alloc(), before, part, count, rest, more)?;
-        assert!(rt;
-            is_scanned(rt.alloc(), text.as_str(), 0, wanted)?,
-            "{before}{part} {count}"
-        );
-    }
-    Ok(())
 }
 
-/// Whether an implicit key with these events begins the text and ends there.
-fn is_key(alloc: Global, text: &str, wanted: &str, end: usize) -> Result<bool, Fail> {
-    let src = Src::new(alloc, text)?;
-    if !src.text().is_char_boundary(0) {
-        return Ok(false);
+#[test]
+fn scans_nodes(rt: HostRuntime) {
+    for (text, n, wanted) in &SCANNED {
+        must_hold(&rt, is_scanned(rt.alloc(), text, *n, *wanted), text);
     }
-    match read_implicit_key(alloc, &src, 0, Ctx::BlockKey)? {
-        Some(key) => Ok(key.end == end && has_events(alloc, &key.part, wanted)?),
-        None => Ok(false),
+    for row in &LIMITS {
+        assert!(rt; is_limit(rt.alloc(), row), "{}{} {}", row.0, row.1, row.2);
+    }
+}
+
+/// Whether an implicit key with these events begins the source and ends there.
+fn is_key_of(alloc: Global, src: &Src, wanted: &str, end: usize) -> bool {
+    if !src.text().is_char_boundary(0) {
+        return false;
+    }
+    match &read_implicit_key(alloc, src, 0, Ctx::BlockKey) {
+        Ok(Some(key)) => key.end == end && has_events(alloc, &key.part, wanted),
+        _ => false,
+    }
+}
+
+/// The same of a text.
+fn is_key(alloc: Global, text: &str, wanted: &str, end: usize) -> bool {
+    match &Src::new(alloc, text) {
+        Ok(src) => is_key_of(alloc, src, wanted, end),
+        Err(AllocError) => false,
     }
 }
 
 /// Whether no implicit key begins the text.
-fn is_no_key(alloc: Global, text: &str) -> Result<bool, Fail> {
-    let src = Src::new(alloc, text)?;
-    if !src.text().is_char_boundary(0) {
-        return Ok(false);
+fn is_no_key(alloc: Global, text: &str) -> bool {
+    match &Src::new(alloc, text) {
+        Ok(src) => {
+            src.text().is_char_boundary(0)
+                && matches!(&scan_implicit_key(alloc, src, 0, Ctx::BlockKey), Ok(None))
+        }
+        Err(AllocError) => false,
     }
-    Ok(scan_implicit_key(alloc, &src, 0, Ctx::BlockKey)?.is_none())
 }
 
 #[test]
-fn reads_keys(rt: HostRuntime) -> Result<(), Fail> {
-    assert!(rt; is_key(rt.alloc(), "[a]: b", "+SEQ [] / =VAL :a / -SEQ", 3)?);
-    assert!(rt; is_no_key(rt.alloc(), "[a,\nb]: c")?);
-    Ok(())
+fn reads_keys(rt: HostRuntime) {
+    must_hold(
+        &rt,
+        is_key(rt.alloc(), "[a]: b", "+SEQ [] / =VAL :a / -SEQ", 3),
+        "[a]: b",
+    );
+    must_hold(&rt, is_no_key(rt.alloc(), "[a,\nb]: c"), "[a,\nb]: c");
 }

@@ -1,14 +1,14 @@
 //! Lines and places of texts, worked out by hand, and watched readers and writers.
 
+use crate::answers::must_hold;
 use std::alloc::{AllocError, Global};
 use std::io::Write;
-use std::test::Fail;
 use yf_lines::source_text::Src;
 use yf_lines::table::LineTable;
 use yf_lines::watched::{Sink, Source, Watched};
 
 /// Texts, and of each line where it starts and ends, where the next line starts, and how many spaces it begins with.
-const LINES: [(&str, &[[usize; 4]]); 6] = [
+static LINES: [(&str, &[[usize; 4]]); 6] = [
     ("", &[]),
     ("\n\n", &[[0, 0, 1, 0], [1, 1, 2, 0]]),
     ("a\r\nb", &[[0, 1, 3, 0], [3, 4, 4, 0]]),
@@ -31,30 +31,36 @@ fn table_of(alloc: Global, text: &str) -> Result<LineTable<'_>, AllocError> {
     LineTable::build(alloc, text)
 }
 
-/// Whether the text has these lines.
-fn has_lines(alloc: Global, text: &str, lines: &[[usize; 4]]) -> Result<bool, AllocError> {
-    let table = table_of(alloc, text)?;
+/// Whether a table is that of a text with these lines.
+fn is_table(table: &LineTable, text: &str, lines: &[[usize; 4]]) -> bool {
     if table.text() != text || table.len() != lines.len() {
-        return Ok(false);
+        return false;
     }
     for i in 0..lines.len() {
-        if !has_line(&table, i, lines[i]) {
-            return Ok(false);
+        if !has_line(table, i, lines[i]) {
+            return false;
         }
     }
-    Ok(table.is_empty() == text.is_empty())
+    table.is_empty() == text.is_empty()
+}
+
+/// Whether the text has these lines.
+fn has_lines(alloc: Global, text: &str, lines: &[[usize; 4]]) -> bool {
+    match &table_of(alloc, text) {
+        Ok(table) => is_table(table, text, lines),
+        Err(AllocError) => false,
+    }
 }
 
 #[test]
-fn finds_the_lines(rt: HostRuntime) -> Result<(), Fail> {
-    for (text, lines) in LINES {
-        assert!(rt; has_lines(rt.alloc(), text, lines)?, "{text:?}");
+fn finds_the_lines(rt: HostRuntime) {
+    for (text, lines) in &LINES {
+        must_hold(&rt, has_lines(rt.alloc(), text, lines), text);
     }
-    Ok(())
 }
 
 /// Texts, and byte offsets in them with their lines and columns.
-const PLACES: [(&str, &[[usize; 3]]); 7] = [
+static PLACES: [(&str, &[[usize; 3]]); 7] = [
     ("", &[[0, 1, 1]]),
     ("a\r\nb", &[[0, 1, 1], [2, 1, 3], [3, 2, 1], [4, 2, 2]]),
     ("a\n", &[[1, 1, 2], [2, 2, 1]]),
@@ -87,29 +93,35 @@ fn has_place(table: &LineTable, offset: usize, line: usize, column: usize) -> bo
     place.line == line && place.column == column
 }
 
-/// Whether the text has these places.
-fn has_places(alloc: Global, text: &str, places: &[[usize; 3]]) -> Result<bool, AllocError> {
-    let table = table_of(alloc, text)?;
+/// Whether a table has these places.
+fn are_places(table: &LineTable, places: &[[usize; 3]]) -> bool {
     for [offset, line, column] in places {
-        if !has_place(&table, *offset, *line, *column) {
-            return Ok(false);
+        if !has_place(table, *offset, *line, *column) {
+            return false;
         }
     }
-    Ok(true)
+    true
+}
+
+/// Whether the text has these places.
+fn has_places(alloc: Global, text: &str, places: &[[usize; 3]]) -> bool {
+    match &table_of(alloc, text) {
+        Ok(table) => are_places(table, places),
+        Err(AllocError) => false,
+    }
 }
 
 #[test]
-fn finds_places(rt: HostRuntime) -> Result<(), Fail> {
-    for (text, places) in PLACES {
-        assert!(rt; has_places(rt.alloc(), text, places)?, "{text:?}");
+fn finds_places(rt: HostRuntime) {
+    for (text, places) in &PLACES {
+        must_hold(&rt, has_places(rt.alloc(), text, places), text);
     }
-    Ok(())
 }
 
 /// A text, and which of its lines are forbidden in scalars.
 const MARKERS: &str = "--- a\n---a\n...\n\u{feff}---\n----\n ---\n...\u{a0}\n..";
 
-const FORBIDDEN: [bool; 8] = [true, false, true, true, false, false, false, false];
+static FORBIDDEN: [bool; 8] = [true, false, true, true, false, false, false, false];
 
 /// Whether the line is one of the table, and forbidden or not.
 fn is_forbidden_so(table: &LineTable, i: usize, wanted: bool) -> bool {
@@ -119,32 +131,45 @@ fn is_forbidden_so(table: &LineTable, i: usize, wanted: bool) -> bool {
     table.is_forbidden(i) == wanted
 }
 
-/// Whether those lines of that text are forbidden.
-fn forbids(alloc: Global) -> Result<bool, AllocError> {
-    let table = table_of(alloc, MARKERS)?;
+/// Whether those lines of a table are forbidden.
+fn are_forbidden(table: &LineTable) -> bool {
     for i in 0..FORBIDDEN.len() {
-        if !is_forbidden_so(&table, i, FORBIDDEN[i]) {
-            return Ok(false);
+        if !is_forbidden_so(table, i, FORBIDDEN[i]) {
+            return false;
         }
     }
-    Ok(table.len() == 8)
+    table.len() == 8
+}
+
+/// Whether those lines of that text are forbidden.
+fn forbids(alloc: Global) -> bool {
+    match &table_of(alloc, MARKERS) {
+        Ok(table) => are_forbidden(table),
+        Err(AllocError) => false,
+    }
+}
+
+/// Whether a source has that text of two lines, and its place of the second one.
+fn is_source(src: &Src, text: &str) -> bool {
+    if src.text() != text || src.lines().len() != 2 || !src.text().is_char_boundary(3) {
+        return false;
+    }
+    let place = src.place(3);
+    place.line == 2 && place.column == 1
 }
 
 /// Whether a source has its text, its lines and its places.
-fn keeps(alloc: Global, text: &str) -> Result<bool, AllocError> {
-    let src = Src::new(alloc, text)?;
-    if src.text() != text || src.lines().len() != 2 || !src.text().is_char_boundary(3) {
-        return Ok(false);
+fn keeps(alloc: Global, text: &str) -> bool {
+    match &Src::new(alloc, text) {
+        Ok(src) => is_source(src, text),
+        Err(AllocError) => false,
     }
-    let place = src.place(3);
-    Ok(place.line == 2 && place.column == 1)
 }
 
 #[test]
-fn finds_forbidden_lines_and_keeps_text(rt: HostRuntime) -> Result<(), Fail> {
-    assert!(rt; forbids(rt.alloc())?);
-    assert!(rt; keeps(rt.alloc(), "a\r\nb")?);
-    Ok(())
+fn finds_forbidden_lines_and_keeps_text(rt: HostRuntime) {
+    must_hold(&rt, forbids(rt.alloc()), MARKERS);
+    must_hold(&rt, keeps(rt.alloc(), "a\r\nb"), "source");
 }
 
 /// Whether a writer that writes is given back with what was written.
@@ -168,6 +193,6 @@ fn gives_reader_back() -> bool {
 
 #[test]
 fn gives_reader_and_writer_back(rt: HostRuntime) {
-    assert!(rt; gives_writer_back(rt.alloc()));
-    assert!(rt; gives_reader_back());
+    must_hold(&rt, gives_writer_back(rt.alloc()), "writer");
+    must_hold(&rt, gives_reader_back(), "reader");
 }

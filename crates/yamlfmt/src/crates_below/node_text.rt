@@ -1,7 +1,7 @@
 //! How the tests of the readers of nodes write what they read.
 
 use std::alloc::{AllocError, Global};
-use yf_events::event::{Event, ScalarStyle};
+use yf_events::event::{Entry, Event, ScalarStyle, Span};
 use yf_events::events::Events;
 use yf_props::props::Props;
 
@@ -62,7 +62,7 @@ fn push_event(out: &mut String, event: &Event) -> Result<(), AllocError> {
 }
 
 /// The events of a node as in the YAML test suite, with ` / ` between lines.
-pub fn shown(alloc: Global, events: &Events) -> Result<String, AllocError> {
+fn shown(alloc: Global, events: &Events) -> Result<String, AllocError> {
     let mut out = String::new(alloc);
     for i in 0..events.len() {
         if !out.is_empty() {
@@ -73,24 +73,44 @@ pub fn shown(alloc: Global, events: &Events) -> Result<String, AllocError> {
     Ok(out)
 }
 
-/// For each event with a place where it starts and ends, where its entry and the `:` of that stand (0 for none), and
-/// whether a blank line stands before it.
-pub fn places(alloc: Global, events: &Events) -> Result<Vec<[usize; 5]>, AllocError> {
-    let mut out = Vec::new(alloc);
+/// Whether these are the events, as `shown` gives them.
+pub fn is_shown(alloc: Global, events: &Events, wanted: &str) -> bool {
+    match &shown(alloc, events) {
+        Ok(text) => text.as_str() == wanted,
+        Err(AllocError) => false,
+    }
+}
+
+/// A place of an event: where it starts and ends, where its entry and the `:` of that stand (0 for none), and whether a blank
+/// line stands before it.
+fn place_of(span: Span, entry: Option<Entry>) -> [usize; 5] {
+    match entry {
+        Some(entry) => [
+            span.start,
+            span.end,
+            entry.start,
+            entry.colon.unwrap_or(0),
+            entry.blank_before as usize,
+        ],
+        None => [span.start, span.end, 0, 0, 0],
+    }
+}
+
+/// Whether these are the places of the events that have one.
+pub fn are_places(events: &Events, wanted: &[[usize; 5]]) -> bool {
+    let mut rest = wanted;
     for i in 0..events.len() {
         if let Some(span) = events.span(i) {
-            let row = match events.entry(i) {
-                Some(entry) => [
-                    span.start,
-                    span.end,
-                    entry.start,
-                    entry.colon.unwrap_or(0),
-                    entry.blank_before as usize,
-                ],
-                None => [span.start, span.end, 0, 0, 0],
-            };
-            out.push(row)?;
+            match rest.split_first() {
+                Some((row, after)) => {
+                    if place_of(span, events.entry(i)) != *row {
+                        return false;
+                    }
+                    rest = after;
+                }
+                None => return false,
+            }
         }
     }
-    Ok(out)
+    rest.is_empty()
 }

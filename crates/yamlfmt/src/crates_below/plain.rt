@@ -1,44 +1,43 @@
 //! Plain scalars with the values that the standard's productions give.
 
-use std::alloc::Global;
-use std::test::Fail;
+use crate::answers::must_hold;
+use std::alloc::{AllocError, Global};
 use yf_chars::context::Ctx;
 use yf_lines::source_text::Src;
 use yf_plain::plain::{read_plain, read_plain_line};
 
 /// Texts, a place at which a plain scalar begins, the indentation, what the scalar means and where it ends.
-const SCALARS: [(&str, usize, i32, &str, usize); 3] = [
+static SCALARS: [(&str, usize, i32, &str, usize); 3] = [
     // before a comment
     ("a b # c", 0, 0, "a b", 3),
     ("- a\n  b\n\n  c\n", 2, 1, "a b\nc", 12),
     ("- a\r\n  b\r\n", 2, 1, "a b", 8),
 ];
 
-/// Whether the plain scalar that begins at a place of a text means that and ends there.
-fn is_read(
-    alloc: Global,
-    text: &str,
-    at: usize,
-    n: i32,
-    wanted: &str,
-    wanted_end: usize,
-) -> Result<bool, Fail> {
-    let src = Src::new(alloc, text)?;
+/// Whether the plain scalar that begins at a place of a source means that and ends there.
+fn is_plain(alloc: Global, src: &Src, at: usize, n: i32, wanted: &str, wanted_end: usize) -> bool {
     if !src.text().is_char_boundary(at) {
-        return Ok(false);
+        return false;
     }
-    match read_plain(alloc, &src, at, n, Ctx::FlowOut)? {
-        Some((text, end)) => Ok(text.as_str() == wanted && end == wanted_end),
-        None => Ok(false),
+    match &read_plain(alloc, src, at, n, Ctx::FlowOut) {
+        Ok(Some((text, end))) => text.as_str() == wanted && *end == wanted_end,
+        _ => false,
+    }
+}
+
+/// The same of a row of `SCALARS`.
+fn is_read(alloc: Global, row: &(&str, usize, i32, &str, usize)) -> bool {
+    match &Src::new(alloc, row.0) {
+        Ok(src) => is_plain(alloc, src, row.1, row.2, row.3, row.4),
+        Err(AllocError) => false,
     }
 }
 
 #[test]
-fn reads_plain_scalars(rt: HostRuntime) -> Result<(), Fail> {
-    for (text, at, n, wanted, end) in SCALARS {
-        assert!(rt; is_read(rt.alloc(), text, at, n, wanted, end)?, "{wanted}");
+fn reads_plain_scalars(rt: HostRuntime) {
+    for row in &SCALARS {
+        must_hold(&rt, is_read(rt.alloc(), row), row.3);
     }
-    Ok(())
 }
 
 /// Where the first line of a plain scalar ends that begins the text.
@@ -50,7 +49,7 @@ fn line_end_of(text: &str, ctx: Ctx) -> Option<usize> {
 }
 
 /// Texts, the context, and where the first line of a plain scalar ends that begins the text.
-const LINES: [(&str, Ctx, Option<usize>); 3] = [
+static LINES: [(&str, Ctx, Option<usize>); 3] = [
     ("x:y: z", Ctx::BlockKey, Some(3)),
     ("--- a", Ctx::FlowOut, None),
     ("a, b", Ctx::FlowKey, Some(1)),
@@ -58,7 +57,7 @@ const LINES: [(&str, Ctx, Option<usize>); 3] = [
 
 #[test]
 fn a_key_ends_on_its_line(rt: HostRuntime) {
-    for (text, ctx, wanted) in LINES {
-        assert!(rt; line_end_of(text, ctx) == wanted, "{text}");
+    for (text, ctx, wanted) in &LINES {
+        must_hold(&rt, line_end_of(text, *ctx) == *wanted, text);
     }
 }

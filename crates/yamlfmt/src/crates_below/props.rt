@@ -1,7 +1,7 @@
 //! Properties, aliases and tag handles, at texts whose names and ends were worked out by hand from the productions.
 
-use std::alloc::Global;
-use std::test::Fail;
+use crate::answers::must_hold;
+use std::alloc::{AllocError, Global};
 use yf_chars::context::Ctx;
 use yf_lines::fault::Fault;
 use yf_lines::place::Place;
@@ -18,15 +18,6 @@ const PLACE: Place = Place { line: 1, column: 3 };
 
 const STREAM: &str = "- &a x # c\n- *a\n- !!str y\n- # d\n";
 
-/// The properties that begin at the offset.
-fn props_at<'a>(alloc: Global, text: &'a str, at: usize, n: i32) -> Result<Properties<'a>, Fail> {
-    let src = Src::new(alloc, text)?;
-    match read_props(alloc, &src, at, n, Ctx::FlowIn)? {
-        Some(found) => Ok(found),
-        None => Err("no properties".into()),
-    }
-}
-
 /// A tag's handle and suffix; for a verbatim tag `<>` and its text.
 fn parts_of<'a>(tag: Option<Tag<'a>>) -> (&'a str, &'a str) {
     match tag {
@@ -37,18 +28,21 @@ fn parts_of<'a>(tag: Option<Tag<'a>>) -> (&'a str, &'a str) {
     }
 }
 
-/// Texts, a place at which properties begin, the indentation, where the properties end, their anchor, where their tag
+/// A text, a place at which properties begin, the indentation, where the properties end, their anchor, where their tag
 /// begins, the tag, and how many comments there are.
-const PROPERTIES: [(
-    &str,
+type Row = (
+    &'static str,
     usize,
     i32,
     usize,
-    Option<&str>,
+    Option<&'static str>,
     Option<usize>,
-    (&str, &str),
+    (&'static str, &'static str),
     usize,
-); 6] = [
+);
+
+/// Texts with properties.
+static PROPERTIES: [Row; 6] = [
     ("&a !!str x", 0, 0, 8, Some("a"), Some(3), ("!!", "str"), 0),
     (
         "!<a%21> # c\n  &b: x",
@@ -70,92 +64,106 @@ const PROPERTIES: [(
 ];
 
 /// Whether the properties end there and have these parts, where their tag begins, and so many comments.
-fn are(
-    found: &Properties,
-    end: usize,
-    anchor: Option<&str>,
-    tag_offset: Option<usize>,
-    tag: (&str, &str),
-    comments: usize,
-) -> bool {
-    found.end == end
-        && found.props.anchor == anchor
-        && found.tag_offset == tag_offset
-        && parts_of(found.props.tag) == tag
-        && found.comments.len() == comments
+fn are(found: &Properties, row: &Row) -> bool {
+    found.end == row.3
+        && found.props.anchor == row.4
+        && found.tag_offset == row.5
+        && parts_of(found.props.tag) == row.6
+        && found.comments.len() == row.7
 }
 
-/// Where the properties end that `node_properties` finds at the start of a text; 0 where there are none.
-fn properties_end(alloc: Global, text: &str) -> Result<usize, Fail> {
+/// Whether the properties of a row begin at its place of a source.
+fn are_read(alloc: Global, src: &Src, row: &Row) -> bool {
+    match &read_props(alloc, src, row.1, row.2, Ctx::FlowIn) {
+        Ok(Some(found)) => are(found, row),
+        _ => false,
+    }
+}
+
+/// Whether the properties of a row are read.
+fn has_properties(alloc: Global, row: &Row) -> bool {
+    match &Src::new(alloc, row.0) {
+        Ok(src) => are_read(alloc, src, row),
+        Err(AllocError) => false,
+    }
+}
+
+/// Whether `node_properties` finds properties at the start of a text that end there.
+fn properties_end(alloc: Global, text: &str, end: usize) -> bool {
     if !text.is_char_boundary(0) {
-        return Ok(0);
+        return false;
     }
-    match node_properties(alloc, text, 0, -1, Ctx::BlockIn)? {
-        Some(found) => Ok(found.end),
-        None => Ok(0),
+    match &node_properties(alloc, text, 0, -1, Ctx::BlockIn) {
+        Ok(Some(found)) => found.end == end,
+        _ => false,
     }
 }
 
 #[test]
-fn reads_properties(rt: HostRuntime) -> Result<(), Fail> {
-    for (text, at, n, end, anchor, tag_offset, tag, comments) in PROPERTIES {
-        let found = props_at(rt.alloc(), text, at, n)?;
-        assert!(rt;
-            are(&found, end, anchor, tag_offset, tag, comments),
-            "{text}"
-        );
+fn reads_properties(rt: HostRuntime) {
+    for row in &PROPERTIES {
+        must_hold(&rt, has_properties(rt.alloc(), row), row.0);
     }
-    assert!(rt; properties_end(rt.alloc(), "&a")? == 2);
-    Ok(())
+    must_hold(&rt, properties_end(rt.alloc(), "&a", 2), "&a");
 }
 
-/// The alias of that stream at a place.
-fn alias_at(alloc: Global, at: usize) -> Result<Option<(&'static str, usize)>, Fail> {
-    let src = Src::new(alloc, STREAM)?;
-    Ok(read_alias(&src, at))
+/// Whether that is the alias of that stream at a place.
+fn is_alias(alloc: Global, at: usize, wanted: Option<(&str, usize)>) -> bool {
+    match &Src::new(alloc, STREAM) {
+        Ok(src) => read_alias(src, at) == wanted,
+        Err(AllocError) => false,
+    }
 }
 
 #[test]
-fn reads_aliases(rt: HostRuntime) -> Result<(), Fail> {
-    assert!(rt; alias_node("*\u{E9} x", 0) == Some(("\u{E9}", 3)));
-    assert!(rt; alias_at(rt.alloc(), 13)? == Some(("a", 15)));
-    assert!(rt; alias_at(rt.alloc(), 2)?.is_none());
-    Ok(())
+fn reads_aliases(rt: HostRuntime) {
+    must_hold(
+        &rt,
+        alias_node("*\u{E9} x", 0) == Some(("\u{E9}", 3)),
+        "\u{E9}",
+    );
+    must_hold(&rt, is_alias(rt.alloc(), 13, Some(("a", 15))), "a");
+    must_hold(&rt, is_alias(rt.alloc(), 2, None), "no alias");
 }
 
 /// Whether the tag stands for that text; where none is wanted, whether its handle is unknown.
-fn stands_for(alloc: Global, handles: &Handles, tag: &Tag, wanted: &str) -> Result<bool, Fail> {
-    match handles.resolve(alloc, tag, PLACE) {
-        Ok(resolved) => Ok(resolved == ResolvedTag::new(wanted, Text::Part(""))),
-        Err(Fault::UnknownHandle { place }) => Ok(wanted.is_empty() && place == PLACE),
-        Err(fault) => Err(fault.into()),
+fn stands_for(alloc: Global, handles: &Handles, tag: &Tag, wanted: &str) -> bool {
+    match &handles.resolve(alloc, tag, PLACE) {
+        Ok(resolved) => *resolved == ResolvedTag::new(wanted, Text::Part("")),
+        Err(Fault::UnknownHandle { place }) => wanted.is_empty() && *place == PLACE,
+        Err(_) => false,
     }
 }
 
-/// The same of the tag at a place of a text.
-fn stands_at(
-    alloc: Global,
-    handles: &Handles,
-    text: &str,
-    at: usize,
-    wanted: &str,
-) -> Result<bool, Fail> {
-    match props_at(alloc, text, at, 0)?.props.tag {
-        Some(tag) => stands_for(alloc, handles, &tag, wanted),
-        None => Ok(false),
+/// The same of the tag at a place of a source.
+fn stands_at(alloc: Global, handles: &Handles, src: &Src, at: usize, wanted: &str) -> bool {
+    match &read_props(alloc, src, at, 0, Ctx::FlowIn) {
+        Ok(Some(found)) => match &found.props.tag {
+            Some(tag) => stands_for(alloc, handles, tag, wanted),
+            None => false,
+        },
+        _ => false,
+    }
+}
+
+/// The same of the tag at a place of a text, where no handle is declared.
+fn stands_undeclared(alloc: Global, text: &str, at: usize, wanted: &str) -> bool {
+    match &Src::new(alloc, text) {
+        Ok(src) => stands_at(alloc, &Handles::new(alloc), src, at, wanted),
+        Err(AllocError) => false,
     }
 }
 
 /// Handles and prefixes as they are declared one after another, and whether the handle was free. A default is no
 /// declaration, and a declared prefix is kept.
-const DECLARED: [(&str, &str, bool); 3] = [
+static DECLARED: [(&str, &str, bool); 3] = [
     ("!e!", "tag:e.com,2000:", true),
     ("!e!", "tag:other,2000:", false),
     ("!!", "tag:f.com,2000:", true),
 ];
 
 /// Tags, and what they stand for after these declarations.
-const TAGS: [(Tag, &str); 5] = [
+static TAGS: [(Tag, &str); 5] = [
     (
         Tag::Short {
             handle: "!e!",
@@ -181,16 +189,33 @@ const TAGS: [(Tag, &str); 5] = [
     (Tag::NonSpecific, "!"),
 ];
 
+/// Whether handles are declared as `DECLARED` says.
+fn are_declared(handles: &mut Handles<'static>) -> bool {
+    for (handle, prefix, free) in &DECLARED {
+        match handles.declare(handle, prefix) {
+            Ok(was_free) => {
+                if was_free != *free {
+                    return false;
+                }
+            }
+            Err(_) => return false,
+        }
+    }
+    true
+}
+
 #[test]
-fn resolves_tags(rt: HostRuntime) -> Result<(), Fail> {
-    let mut handles = Handles::new(rt.alloc());
-    assert!(rt; stands_at(rt.alloc(), &handles, STREAM, 18, "tag:yaml.org,2002:str")?);
-    assert!(rt; stands_at(rt.alloc(), &handles, "- !x!t v\n", 2, "")?);
-    for (handle, prefix, free) in DECLARED {
-        assert!(rt; handles.declare(handle, prefix)? == free, "{prefix}");
+fn resolves_tags(rt: HostRuntime) {
+    let alloc = rt.alloc();
+    must_hold(
+        &rt,
+        stands_undeclared(alloc, STREAM, 18, "tag:yaml.org,2002:str"),
+        STREAM,
+    );
+    must_hold(&rt, stands_undeclared(alloc, "- !x!t v\n", 2, ""), "!x!t");
+    let mut handles = Handles::new(alloc);
+    must_hold(&rt, are_declared(&mut handles), "declarations");
+    for (tag, wanted) in &TAGS {
+        must_hold(&rt, stands_for(alloc, &handles, tag, wanted), wanted);
     }
-    for (tag, wanted) in TAGS {
-        assert!(rt; stands_for(rt.alloc(), &handles, &tag, wanted)?, "{wanted}");
-    }
-    Ok(())
 }

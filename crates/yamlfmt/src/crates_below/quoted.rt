@@ -1,12 +1,12 @@
 //! Quoted scalars with the values that the standard's productions give.
 
-use std::alloc::Global;
-use std::test::Fail;
+use crate::answers::must_hold;
+use std::alloc::{AllocError, Global};
 use yf_chars::context::Ctx;
 use yf_lines::fault::Fault;
 use yf_lines::quotes::Quotes;
 use yf_lines::source_text::Src;
-use yf_lines::text::Text;
+use yf_lines::text::{FoundText, Text};
 use yf_quoted::double::{read_double, scan_double};
 use yf_quoted::single::read_single;
 use yf_quoted::write::{choose, write_double, write_single};
@@ -25,41 +25,58 @@ enum Wanted {
 }
 
 /// Whether a scalar was read as it is wanted.
-fn is_wanted(read: &Option<(Text<'_>, usize)>, wanted: Wanted) -> bool {
+fn is_wanted(read: &FoundText, wanted: Wanted) -> bool {
     match (read, wanted) {
-        (Some((text, end)), Wanted::Value(value, wanted_end)) => {
+        (Ok(Some((text, end))), Wanted::Value(value, wanted_end)) => {
             text.as_str() == value && *end == wanted_end
         }
-        (Some((Text::Part(text), end)), Wanted::Slice(value, wanted_end)) => {
+        (Ok(Some((Text::Part(text), end))), Wanted::Slice(value, wanted_end)) => {
             *text == value && *end == wanted_end
         }
-        (None, Wanted::Nothing) => true,
+        (Ok(None), Wanted::Nothing) => true,
+        (Err(Fault::EscapeValue { place }), Wanted::BadEscape(column)) => {
+            place.line == 1 && place.column == column
+        }
         _ => false,
     }
 }
 
-/// Whether single quotes are read so at a place of a text.
-fn is_single(
-    alloc: Global,
-    text: &str,
-    at: usize,
-    n: i32,
-    ctx: Ctx,
-    wanted: Wanted,
-) -> Result<bool, Fail> {
-    let src = Src::new(alloc, text)?;
-    if !src.text().is_char_boundary(at) {
-        return Ok(false);
+/// A text, a place, the indentation, the context, and the scalar that begins there.
+type Row = (&'static str, usize, i32, Ctx, Wanted);
+
+/// Whether single quotes are read so of a source.
+fn are_single(alloc: Global, src: &Src, row: &Row) -> bool {
+    src.text().is_char_boundary(row.1)
+        && is_wanted(&read_single(alloc, src, row.1, row.2, row.3), row.4)
+}
+
+/// Whether double quotes are read so of a source.
+fn are_double(alloc: Global, src: &Src, row: &Row) -> bool {
+    src.text().is_char_boundary(row.1)
+        && is_wanted(&read_double(alloc, src, row.1, row.2, row.3), row.4)
+}
+
+/// Whether single quotes are read so.
+fn is_single(alloc: Global, row: &Row) -> bool {
+    match &Src::new(alloc, row.0) {
+        Ok(src) => are_single(alloc, src, row),
+        Err(AllocError) => false,
     }
-    let read = read_single(alloc, &src, at, n, ctx)?;
-    Ok(is_wanted(&read, wanted))
+}
+
+/// Whether double quotes are read so.
+fn is_double(alloc: Global, row: &Row) -> bool {
+    match &Src::new(alloc, row.0) {
+        Ok(src) => are_double(alloc, src, row),
+        Err(AllocError) => false,
+    }
 }
 
 /// Two scalars that are slices of their line, and one that is not.
 const SLICES: &str = "'b' \"e\" 'c''d'";
 
-/// Texts, a place, the indentation, the context, and the single-quoted scalar that begins there.
-const SINGLE: [(&str, usize, i32, Ctx, Wanted); 8] = [
+/// Single-quoted scalars.
+static SINGLE: [Row; 8] = [
     ("'it''s'", 0, 0, Ctx::FlowOut, Wanted::Value("it's", 7)),
     // where no quote is left, the last pair closes
     ("'a''b", 0, 0, Ctx::FlowOut, Wanted::Value("a", 3)),
@@ -85,83 +102,96 @@ const SINGLE: [(&str, usize, i32, Ctx, Wanted); 8] = [
 ];
 
 #[test]
-fn reads_single_quotes(rt: HostRuntime) -> Result<(), Fail> {
-    for (text, at, n, ctx, wanted) in SINGLE {
-        assert!(rt; is_single(rt.alloc(), text, at, n, ctx, wanted)?, "{text}");
+fn reads_single_quotes(rt: HostRuntime) {
+    for row in &SINGLE {
+        must_hold(&rt, is_single(rt.alloc(), row), row.0);
     }
-    let slice = Wanted::Slice("c'd", 14);
-    assert!(rt; !is_single(rt.alloc(), SLICES, 8, 1, Ctx::FlowOut, slice)?);
-    Ok(())
+    let slice = (SLICES, 8, 1, Ctx::FlowOut, Wanted::Slice("c'd", 14));
+    must_hold(&rt, !is_single(rt.alloc(), &slice), "a slice");
 }
 
-/// Whether double quotes are read so at a place of a text.
-fn is_double(alloc: Global, text: &str, at: usize, n: i32, wanted: Wanted) -> Result<bool, Fail> {
-    let src = Src::new(alloc, text)?;
-    if !src.text().is_char_boundary(at) {
-        return Ok(false);
-    }
-    match read_double(alloc, &src, at, n, Ctx::FlowOut) {
-        Ok(read) => Ok(is_wanted(&read, wanted)),
-        Err(Fault::EscapeValue { place }) => {
-            Ok(
-                place.line == 1
-                    && matches!(wanted, Wanted::BadEscape(column) if column == place.column),
-            )
-        }
-        Err(fault) => Err(fault.into()),
-    }
-}
-
-/// The same of double-quoted scalars, in a flow-out context.
-const DOUBLE: [(&str, usize, i32, Wanted); 8] = [
-    ("\"a\\\n  b\"", 0, 0, Wanted::Value("ab", 8)),
-    ("\"a\r\n  b\"", 0, 1, Wanted::Value("a b", 8)),
+/// Double-quoted scalars.
+static DOUBLE: [Row; 8] = [
+    ("\"a\\\n  b\"", 0, 0, Ctx::FlowOut, Wanted::Value("ab", 8)),
+    ("\"a\r\n  b\"", 0, 1, Ctx::FlowOut, Wanted::Value("a b", 8)),
     // two halves of a pair
     (
         "\"\\ud83d\\ude00 \\x41\"",
         0,
         1,
+        Ctx::FlowOut,
         Wanted::Value("\u{1F600} A", 19),
     ),
     // an escaped break does not begin a line
-    ("\"\n\\\n\"", 0, 0, Wanted::Nothing),
-    (SLICES, 4, 1, Wanted::Slice("e", 7)),
+    ("\"\n\\\n\"", 0, 0, Ctx::FlowOut, Wanted::Nothing),
+    (SLICES, 4, 1, Ctx::FlowOut, Wanted::Slice("e", 7)),
     // two halves in the other order
-    ("\"\\ude00\\ud83d\"", 0, 1, Wanted::BadEscape(2)),
-    ("- \"\\U00110000\"", 2, 1, Wanted::BadEscape(4)),
+    (
+        "\"\\ude00\\ud83d\"",
+        0,
+        1,
+        Ctx::FlowOut,
+        Wanted::BadEscape(2),
+    ),
+    (
+        "- \"\\U00110000\"",
+        2,
+        1,
+        Ctx::FlowOut,
+        Wanted::BadEscape(4),
+    ),
     // two halves by eight digits each
-    ("- \"\\U0000d83d\\U0000de00\"", 2, 1, Wanted::BadEscape(4)),
+    (
+        "- \"\\U0000d83d\\U0000de00\"",
+        2,
+        1,
+        Ctx::FlowOut,
+        Wanted::BadEscape(4),
+    ),
 ];
 
 #[test]
-fn reads_double_quotes(rt: HostRuntime) -> Result<(), Fail> {
-    for (text, at, n, wanted) in DOUBLE {
-        assert!(rt; is_double(rt.alloc(), text, at, n, wanted)?, "{text}");
+fn reads_double_quotes(rt: HostRuntime) {
+    for row in &DOUBLE {
+        must_hold(&rt, is_double(rt.alloc(), row), row.0);
     }
-    Ok(())
+}
+
+/// Whether a scalar with a bad escape is scanned to its end, and the escape is told.
+fn is_scanned(alloc: Global, src: &Src) -> bool {
+    if !src.text().is_char_boundary(0) {
+        return false;
+    }
+    match &scan_double(alloc, src, 0, 0, Ctx::FlowOut) {
+        Ok(Some((text, Some(place), end))) => {
+            text.as_str() == "\u{FFFD}A" && *end == 9 && place.line == 1 && place.column == 2
+        }
+        _ => false,
+    }
+}
+
+/// Whether that is so of a text.
+fn goes_on(alloc: Global, text: &str) -> bool {
+    match &Src::new(alloc, text) {
+        Ok(src) => is_scanned(alloc, src),
+        Err(AllocError) => false,
+    }
 }
 
 #[test]
-fn goes_on_past_a_bad_escape(rt: HostRuntime) -> Result<(), Fail> {
-    let src = Src::new(rt.alloc(), "\"\\ud83dA\"")?;
-    assert!(rt; src.text().is_char_boundary(0));
-    let found = scan_double(rt.alloc(), &src, 0, 0, Ctx::FlowOut)?;
-    let (text, place, end) = found.ok_or("no scalar")?;
-    assert!(rt; text.as_str() == "\u{FFFD}A" && end == 9);
-    let place = place.ok_or("no place")?;
-    assert!(rt; place.line == 1 && place.column == 2);
-    Ok(())
+fn goes_on_past_a_bad_escape(rt: HostRuntime) {
+    must_hold(&rt, goes_on(rt.alloc(), "\"\\ud83dA\""), "a bad escape");
 }
 
 /// Texts, the quotes that are preferred, and those that are chosen: single ones hold printable characters alone.
-const CHOSEN: [(&str, Quotes, Quotes); 3] = [
+static CHOSEN: [(&str, Quotes, Quotes); 3] = [
     ("it's", Quotes::Single, Quotes::Single),
     ("it's\n", Quotes::Single, Quotes::Double),
     ("it's", Quotes::Double, Quotes::Double),
 ];
 
 /// Texts, and how they are written in double quotes.
-const WRITTEN: [(&str, &str); 2] = [
+static WRITTEN: [(&str, &str); 2] = [
     ("it's\n", "\"it's\\n\""),
     (
         "\0\t\r\u{7}\u{A0}\u{2028}\u{FEFF}\"\\\u{E9}",
@@ -169,21 +199,32 @@ const WRITTEN: [(&str, &str); 2] = [
     ),
 ];
 
+/// Whether a text is written so in single quotes, where these are chosen.
+fn is_written_single(alloc: Global, text: &str, wanted: &str) -> bool {
+    let mut out = String::new(alloc);
+    match choose(text, Quotes::Single) {
+        Quotes::Single => write_single(&mut out, text).is_ok() && out.as_str() == wanted,
+        Quotes::Double => false,
+    }
+}
+
+/// Whether a text is written so in double quotes.
+fn is_written_double(alloc: Global, text: &str, wanted: &str) -> bool {
+    let mut out = String::new(alloc);
+    write_double(&mut out, text).is_ok() && out.as_str() == wanted
+}
+
 #[test]
-fn writes_quotes(rt: HostRuntime) -> Result<(), Fail> {
-    for (text, preferred, wanted) in CHOSEN {
-        assert!(rt; choose(text, preferred) == wanted, "{text}");
+fn writes_quotes(rt: HostRuntime) {
+    for (text, preferred, wanted) in &CHOSEN {
+        must_hold(&rt, choose(text, *preferred) == *wanted, text);
     }
-    let mut out = String::new(rt.alloc());
-    match choose("it's", Quotes::Single) {
-        Quotes::Single => write_single(&mut out, "it's")?,
-        Quotes::Double => assert!(rt; false),
+    must_hold(
+        &rt,
+        is_written_single(rt.alloc(), "it's", "'it''s'"),
+        "single",
+    );
+    for (text, wanted) in &WRITTEN {
+        must_hold(&rt, is_written_double(rt.alloc(), text, wanted), wanted);
     }
-    assert!(rt; out.as_str() == "'it''s'");
-    for (text, wanted) in WRITTEN {
-        let mut out = String::new(rt.alloc());
-        write_double(&mut out, text)?;
-        assert!(rt; out.as_str() == wanted, "{wanted}");
-    }
-    Ok(())
 }
