@@ -5,9 +5,5 @@ pub mod SettingsLemmas
 pub mod ProgramLemmas
 -- `parse_line`
 pub mod CommandLineLemmas
--- `run_fmt`
-pub mod FormattedLemmas
--- `run_check`
-pub mod FindingLemmas
 -- `report`
 pub mod ShownLemmas

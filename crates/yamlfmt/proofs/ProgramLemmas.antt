@@ -4,7 +4,7 @@ use Rattle.std.specs.Str.{IsUtf8}
 use Rattle.yf_lines.specs.declared.fault.Fault.{Fault}
 use Rattle.yf_lines.specs.declared.fault.Fault.TheVariants.{NotUtf8, Syntax, TooDeep, UnknownHandle, UnknownAlias, RepeatedDirective, BadVersion, EscapeValue, Memory, ReadFailed, WriteFailed, Config}
 use Rattle.yamlfmt.specs.Program.{FileRefused}
-use Rattle.yamlfmt.specs.Run.{Gave}
+use Rattle.yf_rules.specs.Run.{Gave}
 use Rattle.yamlfmt.specs.Settings.{RefusesSettings}
 
 pub text_refused : (known : Option (List ℕ)) (before after : Bool) (text : List ℕ) (f : Fault) → after ≡ before → Gave known text → IsUtf8 text

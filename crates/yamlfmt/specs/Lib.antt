@@ -1,9 +1,5 @@
-pub mod Input
-pub mod Laws
 pub mod Report
 pub mod Shown
-pub mod Run
-pub mod Findings
 pub mod Files
 pub mod Settings
 pub mod CommandLine

@@ -12,10 +12,10 @@ use Rattle.yamlfmt.specs.declared.command_line.Usage.{Usage}
 use Rattle.yamlfmt.specs.declared.command_line.Usage.TheVariants as usage
 use Rattle.yamlfmt.specs.declared.command_line.Verb.{Verb}
 use Rattle.yamlfmt.specs.declared.command_line.Verb.TheVariants.{Events, Check, Fmt}
-use Rattle.yamlfmt.specs.declared.run.TheConstants.{INPUT_LIMIT}
-use Rattle.yamlfmt.specs.Input.{ReadRefusal}
+use Rattle.yf_rules.specs.declared.run.TheConstants.{INPUT_LIMIT}
+use Rattle.yf_rules.specs.Input.{ReadRefusal}
 use Rattle.yamlfmt.specs.Report.{fault_line, fault_status}
-use Rattle.yamlfmt.specs.Run.{Gave, Printed, Refused, RefusedCheck, RefusedFmt, Restyled, Told, Untouched}
+use Rattle.yf_rules.specs.Run.{Gave, Printed, Refused, RefusedCheck, RefusedFmt, Restyled, Told, Untouched}
 use Rattle.yamlfmt.specs.Settings.{SetsStyle, RefusesSettings}
 
 -- the text was written to the stream, or the stream has failed after a prefix of it

@@ -3,9 +3,7 @@ ghost use Rattle.std.specs.Prelude.{◌≡◌, IfErr};
 ghost use Rattle.yf_lines.specs.declared.fault.Fault.TheVariants.{ReadFailed};
 ghost use Rattle.yamlfmt.specs.Files.{IsRewriteFault};
 
-use crate::input::read_all;
 use crate::replacing::{Held, Opened, open_regular, replace};
-use crate::run::INPUT_LIMIT;
 use std::alloc::Global;
 use std::fs::{File, Metadata};
 use std::rt::Files;
@@ -14,6 +12,8 @@ use yf_emit::format::format;
 use yf_emit::style::Style;
 use yf_lines::fault::Fault;
 use yf_lines::watched::{Source, Watched};
+use yf_rules::input::read_all;
+use yf_rules::run::INPUT_LIMIT;
 
 /// Opens a file for reading. One that cannot be opened is one that cannot be read (`Fault::ReadFailed`).
 pub fn open<R: Files>(rt: &R, path: &str) -> Result<R::File, Fault>

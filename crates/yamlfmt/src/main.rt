@@ -23,7 +23,6 @@ mod files_tests;
 mod fmt_tests;
 #[cfg(test)]
 mod hostile_tests;
-mod input;
 #[cfg(test)]
 mod laws_tests;
 mod program;
@@ -34,7 +33,6 @@ mod replacing;
 mod replacing_tests;
 mod report;
 mod rules;
-mod run;
 mod settings;
 #[cfg(test)]
 mod settings_tests;

@@ -6,9 +6,7 @@ ghost use Rattle.yamlfmt.specs.Program.{Answered, FileRefused, FileSets, Ran, Wr
 ghost use Rattle.std.specs.Io.KnownBytes.{Keeps};
 
 use crate::command_line::{Cmd, Usage, Verb};
-use crate::input::read_all;
 use crate::report::report;
-use crate::run::{INPUT_LIMIT, run_check, run_events, run_fmt};
 use crate::settings::{no_key, style_from_toml};
 use std::alloc::Global;
 use yf_chars::utf8::check_utf8;
@@ -16,7 +14,9 @@ use yf_emit::style::Style;
 use yf_lines::fault::Fault;
 use yf_lines::output::write_text;
 use yf_lines::watched::{Sink, Source};
+use yf_rules::input::read_all;
 use yf_rules::rule::Rule;
+use yf_rules::run::{INPUT_LIMIT, run_check, run_events, run_fmt};
 
 /// The status of a run that ended well.
 pub const GOOD: u8 = 0;

@@ -3,7 +3,6 @@
 use crate::answers::{answer_over, must_hold, reports};
 use crate::command_line::Verb;
 use crate::faulty::FaultyReader;
-use crate::input::read_all;
 use crate::report::report;
 use std::alloc::Global;
 use std::io;
@@ -12,6 +11,7 @@ use yf_lines::fault::Fault;
 use yf_lines::output::write_text;
 use yf_lines::place::Place;
 use yf_lines::watched::{Sink, Source, Watched};
+use yf_rules::input::read_all;
 
 /// Gives the same byte for ever.
 #[derive(Drop)]

@@ -73,3 +73,7 @@ pub mod MendedLayouts
 pub mod MendedBrackets
 pub mod MendedFindings
 pub mod RulesMended
+-- `run_fmt`
+pub mod FormattedLemmas
+-- `run_check`
+pub mod FindingLemmas

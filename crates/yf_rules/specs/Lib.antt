@@ -32,3 +32,7 @@ pub mod Rules
 pub mod RuleOf
 pub mod Check
 pub mod Mended
+pub mod Input
+pub mod Run
+pub mod Findings
+pub mod Laws

@@ -1,8 +1,10 @@
-//! The rules of style, and the check of a text by several of them.
+//! The rules of style, the check of a text by several of them, and the runs that print events, findings and a formatted text.
 #![tactic(auto)]
 
 pub mod check;
 pub mod facts;
 pub mod finding;
+pub mod input;
 pub mod rule;
 pub mod rules;
+pub mod run;

@@ -1,7 +1,7 @@
 use Rattle.std.proofs.Common.{◌≡◌, ◌∙◌, List, ℕ, inl, refl, subst, sym}
 use Rattle.std.specs.Str.{IsUtf8}
 use Rattle.yamlfmt.proofs.ProgramLemmas.{text_refused}
-use Rattle.yamlfmt.specs.Run.{Gave}
+use Rattle.yf_rules.specs.Run.{Gave}
 use Rattle.yamlfmt.proofs.program.read_style.Goals as goal
 
 pub returns-in-Err : goal.returns-in-Err

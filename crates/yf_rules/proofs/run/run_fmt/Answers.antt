@@ -1,6 +1,6 @@
 use Rattle.std.proofs.Common.{◌∙◌}
-use Rattle.yamlfmt.proofs.FormattedLemmas.{broke_formatted, wrote_formatted}
-use Rattle.yamlfmt.proofs.run.run_fmt.Goals as goal
+use Rattle.yf_rules.proofs.FormattedLemmas.{broke_formatted, wrote_formatted}
+use Rattle.yf_rules.proofs.run.run_fmt.Goals as goal
 
 pub returns-clause-formatted : goal.returns-clause-formatted
 returns-clause-formatted g c =

@@ -1,7 +1,7 @@
 -- The bytes so far are what the reader has lost, and none of its reads has failed.
 use Rattle.std.proofs.Common.{◌≡◌, ◌+◌, ◌-◌, vec_len}
 use Rattle.std.specs.Io.KnownBytes.{Consumes}
-use Rattle.yamlfmt.proofs.input.read_all.Given as goal
+use Rattle.yf_rules.proofs.input.read_all.Given as goal
 
 abbrev pub invariant-loop-buffer : goal.invariant-loop-buffer
 invariant-loop-buffer g l = record {

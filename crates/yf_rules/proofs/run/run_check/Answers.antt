@@ -1,7 +1,7 @@
 use Rattle.std.proofs.Common.{◌≡◌, ◌∙◌, List, ℕ, subst, sym}
 use Rattle.std.specs.Str.{IsUtf8}
-use Rattle.yamlfmt.proofs.FindingLemmas.{found_in, wrote_same, broke_same, any_same}
-use Rattle.yamlfmt.proofs.run.run_check.Goals as goal
+use Rattle.yf_rules.proofs.FindingLemmas.{found_in, wrote_same, broke_same, any_same}
+use Rattle.yf_rules.proofs.run.run_check.Goals as goal
 
 pub returns-in-Ok-write_findings-clause-findings : goal.returns-in-Ok-write_findings-clause-findings
 returns-in-Ok-write_findings-clause-findings g c =

@@ -17,8 +17,8 @@ use Rattle.yf_emit.specs.Formatted.{Formatted}
 use Rattle.yf_rules.specs.declared.finding.Finding.{Finding}
 use Rattle.yf_stream.specs.Refusal.{IsStreamFault}
 use Rattle.yf_stream.specs.StreamReader.{StreamFault, TheReading}
-use Rattle.yamlfmt.specs.declared.run.TheConstants.{INPUT_LIMIT}
-use Rattle.yamlfmt.specs.Input.{ReadRefusal}
+use Rattle.yf_rules.specs.declared.run.TheConstants.{INPUT_LIMIT}
+use Rattle.yf_rules.specs.Input.{ReadRefusal}
 
 -- the bytes that were read: all that the reader had, where that is known
 abbrev pub Gave : Option (List ℕ) → List ℕ → Type 0

@@ -4,11 +4,14 @@ ghost use Rattle.yf_lines.specs.Output.{Writes};
 ghost use Rattle.yf_rules.specs.Check.{Checked, RuleFindings};
 ghost use Rattle.yf_stream.specs.Refusal.{IsStreamFault};
 ghost use Rattle.yf_stream.specs.StreamReader.{StreamFault};
-ghost use Rattle.yamlfmt.specs.Findings.{FoundIn};
-ghost use Rattle.yamlfmt.specs.Run.{Printed, Refused, RefusedCheck, RefusedFmt, RefusedText, Rendered, Restyled, Told};
-ghost use Rattle.yamlfmt.specs.Run.{finding_line, findings_text, has_any};
+ghost use Rattle.yf_rules.specs.Findings.{FoundIn};
+ghost use Rattle.yf_rules.specs.Run.{Printed, Refused, RefusedCheck, RefusedFmt, RefusedText, Rendered, Restyled, Told};
+ghost use Rattle.yf_rules.specs.Run.{finding_line, findings_text, has_any};
 
+use crate::check::check;
+use crate::finding::Finding;
 use crate::input::read_all;
+use crate::rule::Rule;
 use itoa::Buffer;
 use std::alloc::{AllocError, Global};
 use yf_chars::utf8::{BadByte, check_utf8};
@@ -19,9 +22,6 @@ use yf_lines::fault::Fault;
 use yf_lines::output::{write_text, write_texts};
 use yf_lines::source_text::Src;
 use yf_lines::watched::{Sink, Source};
-use yf_rules::check::check;
-use yf_rules::finding::Finding;
-use yf_rules::rule::Rule;
 use yf_stream::stream::read_stream;
 
 /// More bytes than these are not read.

@@ -1,8 +1,8 @@
 -- What is left of the findings is what is still to be written.
 use Rattle.std.proofs.Common.{drop}
 use Rattle.yf_lines.proofs.OutputLemmas.{Progress}
-use Rattle.yamlfmt.specs.Run.{findings_text}
-use Rattle.yamlfmt.proofs.run.write_findings.Given as goal
+use Rattle.yf_rules.specs.Run.{findings_text}
+use Rattle.yf_rules.proofs.run.write_findings.Given as goal
 
 abbrev pub invariant-loop-finding : goal.invariant-loop-finding
 invariant-loop-finding g l = Progress (g.W.Write.contents l.initial.writer) (g.W.Write.contents l.writer)

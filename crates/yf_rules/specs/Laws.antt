@@ -14,9 +14,9 @@ use Rattle.yf_emit.specs.declared.style.Style.{Style}
 use Rattle.yf_rules.specs.declared.finding.Finding.{Finding}
 use Rattle.yf_stream.specs.ReadingOf.{ReadingOf}
 use Rattle.yf_stream.specs.StreamReader.{StreamFault}
-use Rattle.yamlfmt.specs.declared.run.TheConstants.{INPUT_LIMIT}
-use Rattle.yamlfmt.specs.Input.{ReadRefusal}
-use Rattle.yamlfmt.specs.Run.{Gave, GaveNoText, Untouched, findings_text, has_any}
+use Rattle.yf_rules.specs.declared.run.TheConstants.{INPUT_LIMIT}
+use Rattle.yf_rules.specs.Input.{ReadRefusal}
+use Rattle.yf_rules.specs.Run.{Gave, GaveNoText, Untouched, findings_text, has_any}
 
 -- A text was read, and this is its reading.
 pub record ReadsText (known : Option (List ℕ)) (text : List ℕ) (reading : Lists) : Type 0 where

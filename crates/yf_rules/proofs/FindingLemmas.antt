@@ -9,9 +9,9 @@ use Rattle.yf_events.specs.Nested.{IsStream}
 use Rattle.yf_events.specs.Reading.{events_of}
 use Rattle.yf_lines.proofs.OutputLemmas.{Progress}
 use Rattle.yf_rules.specs.declared.finding.Finding.{Finding}
-use Rattle.yamlfmt.specs.Run.{Found, Gave, finding_line, findings_text, has_any}
+use Rattle.yf_rules.specs.Run.{Found, Gave, finding_line, findings_text, has_any}
 use Rattle.yf_stream.specs.StreamReader.{TheReading}
-use Rattle.yamlfmt.specs.Findings.{FoundIn}
+use Rattle.yf_rules.specs.Findings.{FoundIn}
 
 pub next_finding : (old new : Option (List ℕ)) (before after : Bool) (text : List ℕ) (findings : List Finding) (i : ℕ) (d : Finding)
     → i < length findings → Progress old new before after text (findings_text (drop i findings))

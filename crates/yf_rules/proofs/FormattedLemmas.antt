@@ -4,7 +4,7 @@ use Rattle.std.specs.Prelude.{Option, Result, Ok, Err, IfErr, OnOk}
 use Rattle.yf_emit.specs.declared.style.Style.{Style}
 use Rattle.yf_lines.specs.Output.{Broke, Writes, Wrote}
 use Rattle.yf_lines.specs.declared.fault.Fault.{Fault}
-use Rattle.yamlfmt.specs.Run.{RefusedFmt, Rendered, Restyled}
+use Rattle.yf_rules.specs.Run.{RefusedFmt, Rendered, Restyled}
 
 pub wrote_formatted : (style : Style) (known old new : Option (List ℕ)) (before after : Bool) (formatted text : List ℕ) (outcome : Result Unit Fault)
     → Rendered style known formatted → text ≡ formatted → Writes old new before after text outcome → OnOk outcome (Restyled style known old new before after)
