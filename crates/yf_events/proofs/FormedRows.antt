@@ -1,13 +1,15 @@
 -- A row that is given another form, and the entry of the table that it has then.
-use Rattle.std.proofs.Common.{◌≡◌, ℕ, zero, suc, ◌<◌, ◌≤◌, Bool, true, false, List, [], ◌∷◌, Option, Some, None, length, map, get_or, refl, sym, ap, ◌∙◌, subst, arith}
+use Rattle.std.proofs.Common.{◌≡◌, ℕ, zero, suc, ◌<◌, ◌≤◌, Bool, true, false, List, [], ◌∷◌, Option, Some, None, length, map, get_or, refl, sym, ap, ◌∙◌, ◌++◌, ◌==◌, slice_get, length-append, subst, arith}
 use Rattle.std.proofs.Math.ListN.{set}
+use Rattle.std.proofs.lemmas.Bool.{eqb-true, false≢true}
 use Rattle.std.proofs.lemmas.List.{length-map}
+use Rattle.std.specs.Borrow.{Bor}
 use Rattle.yf_props.specs.Props.{PropsValue}
 use Rattle.yf_events.specs.Event.{EventValue, Placed}
 use Rattle.yf_events.specs.Edit.{edited}
 use Rattle.yf_events.specs.Formed.{Relined, formed, is_folded, is_folded_shape, lined, lines_if, shape_formed, with_form}
 use Rattle.yf_events.specs.Packed.{Grown, RowsFit, entry_at, folded_in, more_at, props_in, row_value, row_with, shape_value, span_at, tag_offset_in, text_in}
-use Rattle.yf_events.proofs.PackedRows.{edited_seen, grown_fits, grown_rows, grown_seen}
+use Rattle.yf_events.proofs.PackedRows.{edited_seen, got_last, grown_fits, grown_rows, grown_seen}
 use Rattle.yf_events.specs.declared.event.Entry.{Entry}
 use Rattle.yf_events.specs.declared.event.ScalarStyle.{ScalarStyle}
 use Rattle.yf_events.specs.declared.event.ScalarStyle.TheVariants.{Plain, Single, Double, Literal, Folded}
@@ -136,3 +138,37 @@ formed_seen old new flow style rows vs i r s n keeps g f lines e k l is seen =
     (ap (row_with (record r { shape = s; more = n })) lines.is
     ∙ row_formed flow style r (more_at old r.more) n s keeps e k
     ∙ ap (formed flow style) (sym (same_row old new r g (fit_at old rows i r long is f)))) (grown_seen old new rows vs g f seen)
+
+-- an entry that keeps its lines, has none, or is put into the table again without them
+
+pub lines_kept : (more : List More) (keeps : Bool) (number : ℕ) → keeps ≡ true → number ≤ length more → Relined more more keeps number number
+lines_kept more true number e l = record { fits = l; is = refl }
+lines_kept more false number e l = absurd (false≢true e)
+
+pub no_lines : (lent : List (Bor (List ℕ))) (lines : List (List ℕ)) (empty : Bool) → map (λ line. line.now) lent ≡ lines → empty ≡ (length lent == 0)
+    → empty ≡ true → lines ≡ []
+no_lines [] lines empty e is t = sym e
+no_lines (x ∷ lent) lines empty e is t = absurd (omega (arith, eqb-true (suc (length lent)) 0 (sym is ∙ t)))
+
+bare_already : (keeps : Bool) (m : Option More) → folded_in m ≡ [] → m ≡ lined keeps m
+bare_already true m e = refl
+bare_already false None e = refl
+bare_already false (Some m) e = ap (λ w. Some (record m { folded = w })) e
+
+pub lines_absent : (lent more : List More) (keeps : Bool) (number : ℕ) (m : Option More) → lent ≡ more → m ≡ more_at lent number → folded_in m ≡ []
+    → number ≤ length more → Relined more more keeps number number
+lines_absent lent more keeps number m same is e l =
+    let at : m ≡ more_at more number = is ∙ ap (λ w. more_at w number) same in
+    record { fits = l; is = subst (λ w. w ≡ lined keeps w) at (bare_already keeps m e) }
+
+pub lines_taken : (lent old new : List More) (keeps : Bool) (number n : ℕ) (m : Option More) (more bare : More) → lent ≡ old → m ≡ more_at lent number → m ≡ Some more
+    → bare ≡ record more { folded = [] } → new ≡ old ++ bare ∷ [] → keeps ≡ false → n ≡ length new → Relined old new keeps number n
+lines_taken lent old new true number n m more bare same at is bared added k len = absurd (false≢true (sym k))
+lines_taken lent old new false number n m more bare same at is bared added k len =
+    let here : suc (length old) ≡ n = omega (arith, len, ap length added, length-append old (bare ∷ [])) in
+    record {
+      fits = omega (arith, len);
+      is =
+          ap (more_at new) (sym here) ∙ ap (λ w. slice_get w (length old)) added ∙ got_last old bare ∙ ap Some bared
+          ∙ ap (lined false) (sym is ∙ at ∙ ap (λ w. more_at w number) same);
+    }

@@ -218,7 +218,7 @@ seen_at part more rows vs i r l is seen =
 
 -- what was put into the table
 
-got_last : {X : Type 0} (xs : List X) (x : X) → slice_get (xs ++ x ∷ []) (length xs) ≡ Some x
+pub got_last : {X : Type 0} (xs : List X) (x : X) → slice_get (xs ++ x ∷ []) (length xs) ≡ Some x
 got_last [] x = refl
 got_last (y ∷ xs) x = got_last xs x
 
