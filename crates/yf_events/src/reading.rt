@@ -49,21 +49,17 @@ impl<'a> Reading<'a> {
         ensures { MatchResult result (λ o. MatchOption o (IsStream DEPTH (events_of lists.entry) → ⊥)
             (λ r. (r ≡ lists.entry) × IsStream DEPTH (events_of r))) (λ fault. fault ≡ Fault.Memory) }
     {
-        match Reading::build_within(alloc, lists) {
-            Ok(reading) => Ok(reading),
-            Err(AllocError) => Err(Fault::Memory),
+        match is_stream(alloc, &lists.events, DEPTH) {
+            Ok(true) => Ok(Some(Reading { lists })),
+            Ok(false) => {
+                leave(lists);
+                Ok(None)
+            }
+            Err(AllocError) => {
+                leave(lists);
+                Err(Fault::Memory)
+            }
         }
-    }
-
-    fn build_within(alloc: Global, lists: Lists<'a>) -> Result<Option<Reading<'a>>, AllocError>
-        requires { Fits lists }
-        ensures { IfOk result (λ o. MatchOption o (IsStream DEPTH (events_of lists.entry) → ⊥)
-            (λ r. (r ≡ lists.entry) × IsStream DEPTH (events_of r))) }
-    {
-        if is_stream(alloc, &lists.events, DEPTH)? {
-            return Ok(Some(Reading { lists }));
-        }
-        Ok(None)
     }
 
     /// The lists that the reading was made of.
@@ -181,6 +177,9 @@ impl<'a> Reading<'a> {
         (documents, leaves)
     }
 }
+
+// Lists that are no reading are dropped here, since a drop of each part is long where it is written out at each exit.
+fn leave(_lists: Lists) {}
 
 fn documents_before(documents: &[Doc], offset: usize) -> usize
     ensures { result ≡ count_by (λ d. nat_lt d.start offset) documents.now }
