@@ -1,12 +1,13 @@
 -- Lists of items that grow as their sources are passed.
-use Rattle.std.proofs.Common.{ℕ, ◌+◌, ◌≤◌, ◌≡◌, List, [], ◌∷◌, ◌++◌, Option, Some, length, map, drop, refl, sym, ap, ◌∙◌, append_assoc, add-one, arith}
+use Rattle.std.proofs.Common.{ℕ, ◌+◌, ◌<◌, ◌≤◌, ◌≡◌, List, [], ◌∷◌, ◌++◌, Option, Some, length, map, drop, drop-cons, get_or, refl, sym, ap, ◌∙◌, append_assoc, add-one, arith}
 use Rattle.std.specs.List.{flat_map, zip}
 use Rattle.std.specs.Prelude.{slice_get}
 use Rattle.std.proofs.lemmas.List.{length-map, map-append}
 use Rattle.std.proofs.lemmas.Simd.{map-map}
 use Rattle.std.specs.Borrow.{Bor}
 use Rattle.yf_events.specs.declared.directive.Directive.{Directive}
-use Rattle.yf_events.specs.Content.{ContentValue, items_of_event, nodes_of, BeforeValue, a_directive, a_word, items_of_directive}
+use Rattle.yf_events.specs.declared.document.Doc.{Doc}
+use Rattle.yf_events.specs.Content.{ContentValue, items_of_event, nodes_of, BeforeValue, a_directive, a_word, before_document, items_of_directive, items_of_document}
 use Rattle.yf_events.specs.Event.{EventValue}
 use Rattle.yf_events.specs.Reading.{events_of}
 use Rattle.yf_events.specs.declared.lists.Lists.{Lists}
@@ -49,3 +50,18 @@ pub directive_begins : (d : Directive) (words : List (Bor (List ℕ))) (m n : Li
 directive_begins d words m n e more =
     ap (λ w. w ++ map (λ word. a_word word.now) words) more ∙ append_assoc m (a_directive ∷ []) (map (λ word. a_word word.now) words)
     ∙ ap (λ w. m ++ (a_directive ∷ w)) (sym (map-map (λ w. a_word w) (λ word. word.now) words) ∙ ap (map (λ w. a_word w)) e)
+
+-- a document's beginning, and then its directives
+pub document_begins : (d : Doc) (lent : List Directive) (m n : List BeforeValue) → lent ≡ d.directives → n ≡ m ++ (before_document ∷ [])
+    → n ++ flat_map items_of_directive lent ≡ m ++ items_of_document d
+document_begins d lent m n e more =
+    ap (λ w. w ++ flat_map items_of_directive lent) more ∙ append_assoc m (before_document ∷ []) (flat_map items_of_directive lent)
+    ∙ ap (λ w. m ++ (before_document ∷ flat_map items_of_directive w)) e
+
+-- what is left is what the next item adds, and then what those after it add
+pub one_added : {A B : Type 0} (f : A → List B) (xs : List A) (i : ℕ) (x : A) (m n t : List B) → i < length xs → x ≡ get_or xs i x → n ≡ m ++ f x
+    → m ++ flat_map f (drop i xs) ≡ t → n ++ flat_map f (drop (i + 1) xs) ≡ t
+one_added f xs i x m n t within at more is =
+    let cut : drop i xs ≡ get_or xs i x ∷ drop (i + 1) xs = rw add-one (drop-cons xs i x within) in
+    ap (λ w. w ++ flat_map f (drop (i + 1) xs)) more ∙ append_assoc m (f x) (flat_map f (drop (i + 1) xs))
+    ∙ ap (λ w. m ++ flat_map f w) (ap (λ w. w ∷ drop (i + 1) xs) at ∙ sym cut) ∙ is
