@@ -213,8 +213,7 @@ fn kept<'a>(list: &mut Vec<More<'a>>, more: More<'a>) -> Result<u32, AllocError>
         return Ok(0);
     }
     list.push(more)?;
-    let number = narrow(list.len())?;
-    Ok(number)
+    narrow(list.len())
 }
 
 /// The row of an event, whose properties and the like are put into the table.

@@ -1,9 +1,20 @@
-use Rattle.std.proofs.Common.{arith}
-use Rattle.yf_events.proofs.PackedRows.{stored, not_stored}
+use Rattle.std.proofs.Common.{◌∙◌}
+use Rattle.std.proofs.lemmas.Result.{IfOk-weaker, err_from_is_err_and}
+use Rattle.yf_events.specs.Packed.{Kept}
+use Rattle.yf_events.proofs.PackedRows.{not_stored, same_table, stored}
 use Rattle.yf_events.proofs.packing.kept.Goals as goal
 
-pub returns-then-lacks-clause-kept : goal.returns-then-lacks-clause-kept
-returns-then-lacks-clause-kept c = not_stored _ _ c.if-lacks.ensures
+pub returns-then-lacks : goal.returns-then-lacks
+returns-then-lacks c = record { grown = same_table _; kept = not_stored _ _ c.if-lacks.ensures }
 
-pub returns-clause-kept : goal.returns-clause-kept
-returns-clause-kept c = stored _ _ _ _ c.in_ok-push.ensures.items (omega (arith, c.in_ok-number.ensures, c.len.ensures, c.push.new.self.ok.0))
+pub returns-in_err-push : goal.returns-in_err-push
+returns-in_err-push c =
+    let p = err_from_is_err_and c.from_residual.result c.from_residual.ensures.1 in
+    record { grown = rw c.in_err-push.ensures.items (same_table _); kept = rw p.1 tt }
+
+pub returns : goal.returns
+returns c = record {
+  grown = record { added = _; is = c.in_ok-push.ensures.items };
+  kept =
+      IfOk-weaker c.narrow.result _ (λ n. Kept _ n _) (λ n e. stored _ _ _ n c.in_ok-push.ensures.items (e ∙ c.len.ensures ∙ c.push.new.self.ok.0)) c.narrow.ensures;
+}
