@@ -1,7 +1,6 @@
 -- What holds between two steps of the reader: the places that it keeps lie between characters, the events that it will
 -- change are there, and less of the text is left at each step.
 use Rattle.std.specs.Prelude.{ℕ, ◌+◌, ◌-◌, ◌*◌, ◌<◌, ◌≤◌, List}
-use Rattle.std.specs.List.{All}
 use Rattle.std.specs.Str.{IsCharBoundary}
 use Rattle.yf_lines.specs.declared.fault.Fault.{Fault}
 use Rattle.yf_lines.specs.declared.fault.Fault.TheVariants.{Memory, EscapeValue, TooDeep as TooDeepFault}
@@ -11,8 +10,6 @@ use Rattle.yf_flow.specs.declared.frame.Step.{Step}
 use Rattle.yf_flow.specs.declared.frame.Step.TheVariants.{Node, Entry, Ended, Done, Failed, TooDeep}
 use Rattle.yf_flow.specs.declared.nodes.Ending.{Ending}
 use Rattle.yf_flow.specs.declared.nodes.Ending.TheVariants.{End, Nothing as NoEnd, TooDeep as TooDeepThere}
-use Rattle.yf_flow.specs.declared.nodes.Outcome.{Outcome}
-use Rattle.yf_flow.specs.declared.nodes.Outcome.TheVariants.{Found, Nothing as NoNode, TooDeep as TooDeepHere}
 use Rattle.yf_flow.specs.declared.node.Begun.{Begun}
 use Rattle.yf_flow.specs.declared.node.Begun.TheVariants.{Leaf, Opened, Nothing, TooDeep as TooDeepAt}
 
@@ -63,11 +60,6 @@ abbrev pub EndingAt : List ℕ → ℕ → Ending → Type 0
 EndingAt t at (End node) = Place t at node.end
 EndingAt t at NoEnd = Unit {0}
 EndingAt t at (TooDeepThere p) = IsCharBoundary t p
-
-abbrev pub OutcomeAt : List ℕ → ℕ → Outcome → Type 0
-OutcomeAt t at (Found part end) = Place t (at + 1) end × All (IsCharBoundary t) part.escapes
-OutcomeAt t at NoNode = Unit {0}
-OutcomeAt t at (TooDeepHere p) = IsCharBoundary t p
 
 -- the faults of the readers, with places in the text: of the scan forms, and of those that answer a bad escape too
 abbrev pub IsScanFault : List ℕ → Fault → Type 0

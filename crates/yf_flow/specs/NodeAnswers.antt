@@ -1,6 +1,7 @@
 -- What the readers of a node within a limit answer, in terms of the recursive reader: how a node ends that was written after what was
 -- written before it, and the node with its part alone.
-use Rattle.std.specs.Prelude.{◌≡◌, ℕ, ◌<◌, ℤ, false, List, Some, None}
+use Rattle.std.specs.Prelude.{◌≡◌, ℕ, ◌+◌, ◌<◌, ℤ, false, List, Some, None}
+use Rattle.std.specs.Str.{IsCharBoundary}
 use Rattle.yf_chars.specs.declared.context.Ctx.{Ctx}
 use Rattle.yf_lines.specs.Basic.{is_block}
 use Rattle.yf_events.specs.declared.part.Part.{Part}
@@ -12,6 +13,7 @@ use Rattle.yf_flow.specs.declared.nodes.Ending.TheVariants.{End, Nothing as NoEn
 use Rattle.yf_flow.specs.declared.nodes.Outcome.{Outcome}
 use Rattle.yf_flow.specs.declared.nodes.Outcome.TheVariants.{Found as NodeThere, Nothing as NoNode, TooDeep as TooDeepHere}
 use Rattle.yf_flow.specs.Counted.{openers_from}
+use Rattle.yf_flow.specs.Machine.{Place}
 use Rattle.yf_flow.specs.NodeRead.{NodeRead, NodeLost}
 use Rattle.yf_flow.specs.Tied.{Written}
 
@@ -35,7 +37,13 @@ pub record NodeFound (t : List ℕ) (n : ℤ) (c : Ctx) (limit i : ℕ) (part : 
   pub ends : end ≡ answer.end
   pub written : Written t 0 answer.meaning part
 
-abbrev pub NodeAnswers : List ℕ → ℤ → Ctx → ℕ → ℕ → Outcome → Type 0
-NodeAnswers t n c limit i (NodeThere part end) = NodeFound t n c limit i part end
-NodeAnswers t n c limit i NoNode = Parses t limit (ANode n c i) None
-NodeAnswers t n c limit i (TooDeepHere p) = Parses t limit (ANode n c i) None × (limit < openers_from t i)
+abbrev pub NodeAnswers : List ℕ → ℤ → Ctx → ℕ → ℕ → Part → Outcome → Type 0
+NodeAnswers t n c limit i part (NodeThere end) = NodeFound t n c limit i part end
+NodeAnswers t n c limit i part NoNode = Parses t limit (ANode n c i) None
+NodeAnswers t n c limit i part (TooDeepHere p) = Parses t limit (ANode n c i) None × (limit < openers_from t i)
+
+-- the places of what was found
+abbrev pub OutcomeAt : List ℕ → ℕ → Outcome → Type 0
+OutcomeAt t at (NodeThere end) = Place t (at + 1) end
+OutcomeAt t at NoNode = Unit {0}
+OutcomeAt t at (TooDeepHere p) = IsCharBoundary t p

@@ -7,8 +7,10 @@ ghost use Rattle.yf_lines.specs.FaultPlaces.{IsFirstPlace};
 ghost use Rattle.yf_flow.specs.Machine.{IsReadFault, IsScanFault, Place};
 ghost use Rattle.yf_flow.specs.NodeReaders.{ReadsFlowNode, ReadsKey, ScansFlowNode, ScansKey};
 
-use crate::nodes::{Outcome, read_node};
+use crate::frame::Scene;
+use crate::nodes::{Outcome, new_part, read_node};
 use std::alloc::{AllocError, Global};
+use std::mem::drop;
 use yf_chars::context::Ctx;
 use yf_events::part::Part;
 use yf_events::reading::DEPTH;
@@ -60,7 +62,10 @@ pub fn read_flow_node<'a>(alloc: Global, src: &Src<'a>, at: usize, n: i32, ctx: 
         Ok(None) => Ok(None),
         Ok(Some(ScannedPart { part, escape, end })) => match escape {
             None => Ok(Some(NodePart { part, end })),
-            Some(place) => Err(Fault::EscapeValue { place }),
+            Some(place) => {
+                drop(part);
+                Err(Fault::EscapeValue { place })
+            }
         },
         Err(fault) => Err(fault),
     }
@@ -81,16 +86,31 @@ pub fn scan_flow_node<'a>(alloc: Global, src: &Src<'a>, at: usize, n: i32, ctx: 
     if is_block(ctx) {
         return Ok(None);
     }
-    match read_node(alloc, src.text(), at, n, ctx, DEPTH) {
-        Ok(Outcome::Found { part, end }) => {
+    let scene = Scene {
+        text: src.text(),
+        indentation: n,
+        context: ctx,
+        limit: DEPTH,
+    };
+    let mut part = new_part(alloc);
+    match read_node(alloc, scene, at, &mut part) {
+        Ok(Outcome::Found(end)) => {
             let escape = first_escape(src, &part);
             Ok(Some(ScannedPart { part, escape, end }))
         }
-        Ok(Outcome::Nothing) => Ok(None),
-        Ok(Outcome::TooDeep(offset)) => Err(Fault::TooDeep {
-            place: src.place(offset),
-        }),
-        Err(AllocError) => Err(Fault::Memory),
+        Ok(Outcome::Nothing) => {
+            drop(part);
+            Ok(None)
+        }
+        Ok(Outcome::TooDeep(offset)) => {
+            drop(part);
+            let place = src.place(offset);
+            Err(Fault::TooDeep { place })
+        }
+        Err(AllocError) => {
+            drop(part);
+            Err(Fault::Memory)
+        }
     }
 }
 

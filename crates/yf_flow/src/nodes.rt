@@ -1,18 +1,18 @@
 //! The reader of flow nodes: one forward pass, with a stack of the open collections.
-ghost use Rattle.std.specs.Prelude.{◌≡◌, ℕ, [], ◌+◌, ◌≤◌, length, true, false, None, IfOk, MatchOption};
+ghost use Rattle.std.specs.Prelude.{◌≡◌, ℕ, [], ◌+◌, ◌≤◌, length, true, false, IfOk, MatchOption};
 ghost use Rattle.std.specs.List.{All};
 ghost use Rattle.std.specs.Str.{IsCharBoundary, IsUtf8};
 ghost use Rattle.yf_lines.specs.Basic.{is_block};
 ghost use Rattle.yf_chars.specs.Text.{code};
-ghost use Rattle.yf_grammar.specs.Parser.{ANode, Parses, begins_content};
+ghost use Rattle.yf_grammar.specs.Parser.{begins_content, only};
 ghost use Rattle.yf_flow.specs.ContentAnswers.{ContentEnds};
 ghost use Rattle.yf_flow.specs.Counted.{AllCounted, BegunCounted, EndCounted, openers_from};
 ghost use Rattle.yf_flow.specs.Ends.{BegunTied, EndTied, EndsAs};
-ghost use Rattle.yf_flow.specs.Machine.{Awaiting, BegunAt, EndingAt, OutcomeAt};
-ghost use Rattle.yf_flow.specs.NodeAnswers.{InnerContext, NodeAnswers};
-ghost use Rattle.yf_flow.specs.NodeRead.{NodeLost};
+ghost use Rattle.yf_flow.specs.Machine.{Awaiting, BegunAt, EndingAt};
+ghost use Rattle.yf_flow.specs.NodeAnswers.{InnerContext, NodeAnswers, NodeEnds, OutcomeAt};
 ghost use Rattle.yf_flow.specs.Stepped.{CollectionEnds, Standing};
-ghost use Rattle.yf_flow.specs.Spots.{Awaited, Begins, SpotContent};
+ghost use Rattle.yf_flow.specs.NodeRead.{NodeLost};
+ghost use Rattle.yf_flow.specs.Spots.{Awaited, Begins, PropertiesAt, SpotContent};
 ghost use Rattle.yf_flow.specs.EndsAlone.{begun_of};
 ghost use Rattle.yf_flow.specs.Steps.{Reading};
 ghost use Rattle.yf_flow.specs.Tied.{AtEntry, Base};
@@ -21,10 +21,10 @@ use crate::frame::{Frame, Node, Reader, Scene, Spot, Step};
 use crate::json::json_content;
 use crate::leaf::{Scalar, read_plain, read_properties};
 use crate::look::content_begins;
-use crate::node::{Begun, Lead, begin_node, push_scalar, push_scalar_with};
+use crate::node::{Begun, Lead, begin_node, push_scalar_with};
 use smallvec::SmallVec;
 use std::alloc::{AllocError, Global};
-use std::mem::swap;
+use std::mem::{drop, replace, swap};
 use yf_chars::context::Ctx;
 use yf_events::comments::Comments;
 use yf_events::event::ScalarStyle;
@@ -35,10 +35,10 @@ use yf_lines::text::Text;
 use yf_props::properties::Properties;
 
 /// What a reader of flow nodes found.
-#[derive(Drop)]
-pub(crate) enum Outcome<'a> {
+#[derive(Clone, Copy)]
+pub(crate) enum Outcome {
     /// A node, and the byte offset after it.
-    Found { part: Part<'a>, end: usize },
+    Found(usize),
     Nothing,
     /// Nothing within the limit of open collections; the bracket or entry at the offset would open a further one.
     TooDeep(usize),
@@ -53,36 +53,33 @@ pub enum Ending {
     TooDeep(usize),
 }
 
-/// Reads a flow node (ns-flow-node, production 161) in which no more collections are open at once than the limit.
+/// Reads a flow node (ns-flow-node, production 161) in which no more collections are open at once than the limit, into a
+/// part with nothing in it.
 pub(crate) fn read_node<'a>(
     alloc: Global,
-    text: &'a str,
+    scene: Scene<'a>,
     at: usize,
-    indentation: i32,
-    context: Ctx,
-    limit: usize,
-) -> Result<Outcome<'a>, AllocError>
-    requires { IsCharBoundary text.now at }
-    ensures place { IfOk result (λ o. OutcomeAt text.now at o) }
-    ensures answers { is_block context ≡ false → IfOk result (λ o. NodeAnswers text.now indentation context limit at o) }
+    part: &mut Part<'a>,
+) -> Result<Outcome, AllocError>
+    requires boundary { IsCharBoundary scene.text.now at }
+    requires events { part.old.events ≡ [] }
+    requires comments { part.old.comments ≡ [] }
+    requires escapes { part.old.escapes ≡ [] }
+    ensures place { IfOk result (λ o. OutcomeAt scene.entry.text.now at o) }
+    ensures escapes { IfOk result (λ _. All (IsCharBoundary scene.entry.text.now) part.new.escapes) }
+    ensures answers { IsUtf8 scene.entry.text.now → is_block scene.entry.context ≡ false
+        → IfOk result (λ o. NodeAnswers scene.entry.text.now scene.entry.indentation scene.entry.context scene.entry.limit at part.new o) }
 {
-    match inner_context(context) {
+    match inner_context(scene.context) {
         None => Ok(Outcome::Nothing),
         Some(inner) => {
-            let scene = Scene {
-                text,
-                indentation,
-                context,
-                limit,
-            };
-            let mut part = new_part(alloc);
             let spot = Spot {
                 alloc,
                 scene,
                 at,
                 depth: 0,
             };
-            let begun = begin_node(spot, None, &mut part)?;
+            let begun = begin_node(spot, None, part)?;
             let inside = Spot {
                 scene: Scene {
                     context: inner,
@@ -90,19 +87,8 @@ pub(crate) fn read_node<'a>(
                 },
                 ..spot
             };
-            match end_node(inside, begun, &mut part)? {
-                Ending::End(node) => Ok(Outcome::Found {
-                    part,
-                    end: node.end,
-                }),
-                Ending::Nothing => properties_alone(alloc, scene, at, Outcome::Nothing),
-                Ending::TooDeep(place) => properties_alone(
-                    alloc,
-                    scene,
-                    at,
-                    Outcome::TooDeep(place),
-                ),
-            }
+            let ending = end_node(inside, begun, part)?;
+            node_found(spot, ending, part)
         }
     }
 }
@@ -297,49 +283,72 @@ impl<'a> Reader<'a> {
     }
 }
 
-// Where the content after properties is not derived, the node is empty and the properties are all of it.
-fn properties_alone<'a>(
-    alloc: Global,
-    scene: Scene<'a>,
-    at: usize,
-    otherwise: Outcome<'a>,
-) -> Result<Outcome<'a>, AllocError>
-    requires boundary { IsCharBoundary scene.text.now at }
-    requires otherwise { OutcomeAt scene.text.now at otherwise }
-    ensures place { IfOk result (λ o. OutcomeAt scene.entry.text.now at o) }
-    ensures answers { IsUtf8 scene.entry.text.now → is_block scene.entry.context ≡ false
-        → NodeLost scene.entry.text.now scene.entry.limit scene.entry.indentation scene.entry.context at
-        → (Parses scene.entry.text.now scene.entry.limit (ANode scene.entry.indentation scene.entry.context at) None
-        → NodeAnswers scene.entry.text.now scene.entry.indentation scene.entry.context scene.entry.limit at otherwise.entry)
-        → IfOk result (λ o. NodeAnswers scene.entry.text.now scene.entry.indentation scene.entry.context scene.entry.limit at o) }
+// What is found of a node that ends so. Where the content after properties is not derived, the node is empty and the
+// properties are all of it.
+fn node_found<'a>(
+    spot: Spot<'a>,
+    ending: Ending,
+    part: &mut Part<'a>,
+) -> Result<Outcome, AllocError>
+    requires boundary { IsCharBoundary spot.scene.text.now spot.at }
+    requires ending { EndingAt spot.scene.text.now (spot.at + 1) ending }
+    requires escapes { All (IsCharBoundary spot.scene.text.now) part.old.escapes }
+    ensures place { IfOk result (λ o. OutcomeAt spot.entry.scene.text.now spot.entry.at o) }
+    ensures escapes { IfOk result (λ _. All (IsCharBoundary spot.entry.scene.text.now) part.new.escapes) }
+    ensures answers { IsUtf8 spot.entry.scene.text.now → is_block spot.entry.scene.context ≡ false
+        → NodeEnds spot.entry.scene.text.now spot.entry.scene.indentation spot.entry.scene.context spot.entry.scene.limit spot.entry.at (only [] 0) part.old ending
+        → EndCounted spot.entry.scene.text.now spot.entry.scene.limit (openers_from spot.entry.scene.text.now spot.entry.at) ending
+        → IfOk result (λ o. NodeAnswers spot.entry.scene.text.now spot.entry.scene.indentation spot.entry.scene.context spot.entry.scene.limit spot.entry.at part.new o) }
 {
-    match read_properties(alloc, scene, at)? {
-        None => Ok(otherwise),
-        Some(
-            Properties {
-                props,
-                tag_offset,
-                comments,
-                end,
-            },
-        ) => {
-            let mut part = new_part(alloc);
-            part.comments.append(comments)?;
-            let lead = Lead {
-                start: at,
-                props,
-                tag_offset,
-                entry: None,
-            };
-            push_scalar(
-                alloc,
-                lead,
-                ScalarStyle::Plain,
-                Text::Part(""),
-                end,
-                &mut part,
-            )?;
-            Ok(Outcome::Found { part, end })
-        }
+    let otherwise = match ending {
+        Ending::End(node) => return Ok(Outcome::Found(node.end)),
+        Ending::Nothing => Outcome::Nothing,
+        Ending::TooDeep(place) => Outcome::TooDeep(place),
+    };
+    match read_properties(spot.alloc, spot.scene, spot.at) {
+        Ok(Some(properties)) => lone_node(spot, properties, part),
+        Ok(None) => Ok(otherwise),
+        Err(error) => Err(error),
     }
+}
+
+// The properties alone, as an empty node, in place of what the part holds.
+fn lone_node<'a>(
+    spot: Spot<'a>,
+    properties: Properties<'a>,
+    part: &mut Part<'a>,
+) -> Result<Outcome, AllocError>
+    requires { PropertiesAt spot properties }
+    ensures place { IfOk result (λ o. OutcomeAt spot.entry.scene.text.now spot.entry.at o) }
+    ensures escapes { IfOk result (λ _. part.new.escapes ≡ []) }
+    ensures answers { IsUtf8 spot.entry.scene.text.now → is_block spot.entry.scene.context ≡ false
+        → NodeLost spot.entry.scene.text.now spot.entry.scene.limit spot.entry.scene.indentation spot.entry.scene.context spot.entry.at
+        → IfOk result (λ o. NodeAnswers spot.entry.scene.text.now spot.entry.scene.indentation spot.entry.scene.context spot.entry.scene.limit spot.entry.at part.new o) }
+{
+    let Properties {
+        props,
+        tag_offset,
+        comments,
+        end,
+    } = properties;
+    empty(spot.alloc, part);
+    part.comments.append(comments)?;
+    let lead = Lead {
+        start: spot.at,
+        props,
+        tag_offset,
+        entry: None,
+    };
+    let text = Text::Part("");
+    push_scalar_with(spot.alloc, &lead, ScalarStyle::Plain, text, end, part)?;
+    Ok(Outcome::Found(end))
+}
+
+// Takes out of a part all that it holds.
+fn empty<'a>(alloc: Global, part: &mut Part<'a>)
+    ensures events { part.new.events ≡ [] }
+    ensures comments { part.new.comments ≡ [] }
+    ensures escapes { part.new.escapes ≡ [] }
+{
+    drop(replace(part, new_part(alloc)));
 }

@@ -4,20 +4,24 @@ use Rattle.yf_grammar.specs.Refusal.{for_memory}
 use Rattle.yf_flow.proofs.ReadersLemmas.{found_chosen, too_deep_there}
 use Rattle.yf_flow.proofs.flow.scan_flow_node.Goals as goal
 
+pub read_node-requires-clause-boundary : goal.read_node-requires-clause-boundary
+read_node-requires-clause-boundary c = rw c.text.ensures c.requires
+
 pub returns-in-Ok-Found-clause-reads : goal.returns-in-Ok-Found-clause-reads
 returns-in-Ok-Found-clause-reads c = λ b.
+    let u = rw c.text.ensures at c.text.utf8 in
     let e = rw (c.text.ensures, c.in-Ok-Found.field-0-is) at c.in-Ok-Found.ensures.place in
-    let node = rw (c.text.ensures, to_z-of_z c.ranges.n, c.in-Ok-Found.field-0-is) at (c.in-Ok-Found.ensures.answers b) in
-    record { chosen = found_chosen (rw c.text.ensures at c.text.utf8) b node; escape = c.first_escape-escape.ensures; boundary = e.0.boundary }
+    let node = rw (c.text.ensures, to_z-of_z c.ranges.n, c.in-Ok-Found.field-0-is) at (c.in-Ok-Found.ensures.answers c.text.utf8 b) in
+    record { chosen = found_chosen u b node; escape = c.first_escape-escape.ensures; boundary = e.boundary }
 
 pub returns-in-Ok-Nothing-clause-reads : goal.returns-in-Ok-Nothing-clause-reads
 returns-in-Ok-Nothing-clause-reads c = λ b.
-    none_is_stuck (rw c.text.ensures at c.text.utf8) b (rw (c.text.ensures, to_z-of_z c.ranges.n, c.in-Ok-Nothing.field-0-is) at (c.in-Ok-Nothing.ensures.answers b))
+    none_is_stuck (rw c.text.ensures at c.text.utf8) b (rw (c.text.ensures, to_z-of_z c.ranges.n, c.in-Ok-Nothing.field-0-is) at (c.in-Ok-Nothing.ensures.answers c.text.utf8 b))
 
 pub returns-in-Ok-TooDeep-clause-reads : goal.returns-in-Ok-TooDeep-clause-reads
 returns-in-Ok-TooDeep-clause-reads c = λ b.
-    too_deep_there (rw c.text.ensures at c.text.utf8) b (rw (c.text.ensures, to_z-of_z c.ranges.n, c.in-Ok-TooDeep.field-0-is) at (c.in-Ok-TooDeep.ensures.answers b))
-    (c.in-Ok-TooDeep.offset, c.place.ensures.place)
+    too_deep_there (rw c.text.ensures at c.text.utf8) b (rw (c.text.ensures, to_z-of_z c.ranges.n, c.in-Ok-TooDeep.field-0-is) at (c.in-Ok-TooDeep.ensures.answers c.text.utf8 b))
+    (c.in-Ok-TooDeep.offset, c.place-place.ensures.place)
 
 pub returns-in-Err-clause-reads : goal.returns-in-Err-clause-reads
 returns-in-Err-clause-reads c = λ b. for_memory
