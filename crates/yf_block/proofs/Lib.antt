@@ -22,6 +22,7 @@ pub mod TiedFrames
 pub mod TiedFits
 pub mod CountedSteps
 pub mod MovedLemmas
+pub mod WorkedLemmas
 -- the steps on a line
 pub mod ContentNodes
 pub mod ContentFails

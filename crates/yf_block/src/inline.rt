@@ -3,7 +3,10 @@ ghost use Rattle.std.specs.Prelude.{◌≡◌, ℕ, ℤ, ◌+◌, ◌^◌, ◌<�
 ghost use Rattle.std.specs.List.{All};
 ghost use Rattle.std.specs.Str.{IsCharBoundary, IsUtf8};
 ghost use Rattle.yf_chars.specs.Text.{code};
-ghost use Rattle.yf_events.specs.Event.{Placed, placed_value};
+ghost use Rattle.yf_events.specs.Event.{Placed};
+ghost use Rattle.yf_props.specs.Props.{props_value};
+ghost use Rattle.yf_grammar.specs.Meaning.{event_with, start_of};
+ghost use Rattle.yf_flow.specs.Begun.{lead_event};
 ghost use Rattle.yf_flow.specs.Machine.{Place, EndingAt};
 ghost use Rattle.yf_flow.specs.Counted.{EndCounted, openers_from};
 ghost use Rattle.yf_block.specs.ContentTied.{AtKeyEnd, AtNodeEnd, KeyOrLost, KeyRead, LeafEnding};
@@ -20,11 +23,11 @@ use crate::halt::{note_node, note_shorter};
 use crate::line::read_line_end;
 use crate::look::{key_ends, sign_stands};
 use crate::properties::{PlacedProperties, copied, lead_of};
-use std::alloc::AllocError;
+use std::alloc::{AllocError, Global};
 use yf_chars::context::Ctx;
 use yf_chars::text::stands;
 use yf_comments::comments::Separation;
-use yf_events::event::{Entry, NewEvent, PlacedEvent, ScalarStyle};
+use yf_events::event::{Entry, NewEvent, ScalarStyle};
 use yf_events::part::Part;
 use yf_flow::frame::{Node, Scene};
 use yf_flow::node::{Lead, push_scalar_with};
@@ -314,9 +317,8 @@ fn begin_mapping<'a>(
         Some(_) => begin_held_mapping(scope, after, facts, entry, wanted, depth, part),
         None => {
             let at = after.node_start.at;
-            let start = start_with(scope.alloc, Kind::Mapping, at, Lead::bare(at, wanted.entry));
-            put_before(facts.before.events, start, entry, part)?;
-            Ok(())
+            let lead = Lead::bare(at, wanted.entry);
+            put_before(scope.alloc, facts.before.events, at, lead, entry, part)
         }
     }
 }
@@ -342,11 +344,12 @@ fn begin_held_mapping<'a>(
         (started Kind.Mapping after.now.node_start.at wanted.now) earlier part.new) }
     ensures escapes { IfOk result (λ _. All (IsCharBoundary scope.entry.text.now) part.new.escapes) }
 {
-    let start = collection_start(scope.alloc, Kind::Mapping, after.node_start.at, wanted);
+    let at = after.node_start.at;
     if is_joined(facts.belonging) {
         facts.before.cut(part);
-        part.events.push(start)?;
-        let lead = lead_of(after.node_start.at, after.inner, Some(entry));
+        part.events
+            .push(collection_start(scope.alloc, Kind::Mapping, at, wanted))?;
+        let lead = lead_of(at, after.inner, Some(entry));
         let _again = read_inline(
             scope,
             wanted.least,
@@ -358,31 +361,32 @@ fn begin_held_mapping<'a>(
         )?;
         return Ok(());
     }
-    put_before(facts.before.events, start, entry, part)?;
-    Ok(())
+    let lead = lead_of(at, wanted.outer, wanted.entry);
+    put_before(scope.alloc, facts.before.events, at, lead, entry, part)
 }
 
-// Puts an event before the one at an index, which begins that entry. Past the end nothing is changed.
+// Puts the beginning of a mapping before the event at an index, which begins that entry. Where there is none, nothing is changed.
 #[inline(always)]
 fn put_before<'a>(
+    alloc: Global,
     event: usize,
-    start: PlacedEvent<'a>,
+    at: usize,
+    lead: Lead<'a>,
     entry: Entry,
     part: &mut Part<'a>,
 ) -> Result<(), AllocError>
     ensures events { (earlier : List Placed) → (first : Placed) → (others : List Placed) → event ≡ length earlier
         → part.old.events ≡ earlier ++ first ∷ others
-        → IfOk result (λ _. part.new.events ≡ earlier ++ placed_value start.entry ∷ record first { entry = Some entry } ∷ others) }
-    ensures comments { IfOk result (λ _. part.new.comments ≡ part.old.comments) }
-    ensures escapes { IfOk result (λ _. part.new.escapes ≡ part.old.escapes) }
+        → IfOk result (λ _. part.new.events ≡ earlier ++ lead_event lead.entry (event_with (props_value lead.entry.props) (start_of false false)) at
+        ∷ record first { entry = Some entry } ∷ others) }
+    ensures comments { part.new.comments ≡ part.old.comments }
+    ensures escapes { part.new.escapes ≡ part.old.escapes }
 {
     if event < part.events.len() {
         part.events.set_entry(event, entry)?;
-        part.events.insert(event, start)?;
-        return Ok(());
-    }
-    if event == part.events.len() {
-        part.events.insert(event, start)?;
+        return part
+            .events
+            .insert(event, start_with(alloc, Kind::Mapping, at, lead));
     }
     Ok(())
 }

@@ -179,18 +179,40 @@ fn run_from<'a>(scope: Scope<'a>, root: Root, part: &mut Part<'a>) -> Result<Sto
         frames: SmallVec::new(scope.alloc),
         part: new_part(scope.alloc),
     };
-    mem::swap(&mut reader.part, part);
-    let step = reader.begin(scope, root.at)?;
-    let stop = reader.run(scope, step)?;
-    mem::swap(&mut reader.part, part);
-    Ok(Stopped {
-        stop,
-        halt: reader.progress.halt,
-        floor: reader.progress.floor,
-    })
+    reader.fill(scope, root.at, part)
 }
 
 impl<'a> Reader<'a> {
+    // Reads the awaited node from an offset on, and adds it to the part, which is swapped into the reader meanwhile.
+    fn fill(
+        &mut self,
+        scope: Scope<'a>,
+        at: usize,
+        part: &mut Part<'a>,
+    ) -> Result<Stopped, AllocError>
+        requires boundary { IsCharBoundary scope.text.now at }
+        requires progress { ProgressAt scope.text.now self.old.progress }
+        requires escapes { All (IsCharBoundary scope.text.now) part.old.escapes }
+        ensures tied { (d : ℕ) → (root : BlockTask) → d < 2 ^ 64 → d ≡ scope.entry.limit
+            → AtBegin scope.entry.text.now d root part.old (reverse self.old.frames.items) at self.old.progress part.old
+            → IfOk result (λ r. RunTied scope.entry.text.now d root part.old r part.new) }
+        ensures stopped { IfOk result (λ r. StoppedAt scope.entry.text.now r) }
+        ensures escapes { IfOk result (λ _. All (IsCharBoundary scope.entry.text.now) part.new.escapes) }
+        ensures counted { IsUtf8 scope.entry.text.now → (total : ℕ)
+            → CountedAt scope.entry.text.now total (length self.old.frames.items) at
+            → IfOk result (λ r. StopCounted scope.entry.limit total r.stop) }
+    {
+        mem::swap(&mut self.part, part);
+        let step = self.begin(scope, at)?;
+        let stop = self.run(scope, step)?;
+        mem::swap(&mut self.part, part);
+        Ok(Stopped {
+            stop,
+            halt: self.progress.halt,
+            floor: self.progress.floor,
+        })
+    }
+
     // The first step: at the start of a line, or within one.
     fn begin(&mut self, scope: Scope<'a>, at: usize) -> Result<Step, AllocError>
         requires { Standing scope.text.now at self.old }

@@ -290,6 +290,5 @@ fn end_collection<'a>(
         part.events.push(empty_node(alloc, None))?;
     }
     part.events.push(unplaced(alloc, event, None))?;
-    part.events.set_end(frame.event, last)?;
-    Ok(())
+    part.events.set_end(frame.event, last)
 }

@@ -1,11 +1,10 @@
 //! Block scalars as nodes (YAML 1.2.2, section 8.1).
-ghost use Rattle.std.specs.Prelude.{◌≡◌, IfOk, IfSome, MatchBool, MatchOption, ℤ, pos, ◌+ℤ◌, ◌+◌, ◌≤◌, ◌≤ℤ◌, length, ◌^◌, ◌<◌, ◌++◌};
+ghost use Rattle.std.specs.Prelude.{◌≡◌, IfOk, IfSome, MatchBool, MatchOption, ℤ, pos, ◌+ℤ◌, ◌+◌, ◌≤◌, ◌≤ℤ◌, length, ◌^◌, ◌<◌, ◌++◌, ◌∷◌, [], Ok};
 ghost use Rattle.std.specs.Str.{IsCharBoundary};
 ghost use Rattle.yf_chars.specs.Chain.{Chosen, Stuck};
 ghost use Rattle.yf_lines.specs.Basic.{LineStart};
 ghost use Rattle.yf_comments.specs.Comment.{row_comments};
 ghost use Rattle.yf_block_scalar.specs.Body.{Body, body_value};
-ghost use Rattle.yf_events.specs.Event.{placed_value};
 ghost use Rattle.yf_grammar.specs.BlockScalar.{kept_lines as kept_of, reach as reach_of, style_of as style_by};
 ghost use Rattle.yf_flow.specs.Machine.{Place};
 ghost use Rattle.yf_block.specs.ContentTied.{ScalarSignAt};
@@ -27,6 +26,7 @@ use yf_block_scalar::lines::Lines;
 use yf_block_scalar::reader::block_body;
 use yf_chars::text::stands;
 use yf_comments::comment::Comment;
+use yf_comments::comments::Comments;
 use yf_events::event::{NewEvent, PlacedEvent, ScalarStyle, Span};
 use yf_events::part::Part;
 use yf_events::slices::Slices;
@@ -78,14 +78,17 @@ impl<'a> Reader<'a> {
         let text = scope.text;
         let finish = skip_lines(text, at, reach(&block));
         let next = block.next;
-        let scalar = placed_scalar(scope.alloc, lead, &block, finish)?;
-        self.part.events.push(scalar)?;
+        let pushed = push_block(scope.alloc, lead, &block, finish, &mut self.part);
         let BlockText { comments, .. } = block;
-        self.part.comments.append(comments)?;
-        self.progress.last = finish;
-        self.progress.floor = finish;
-        note_node(text, None, next, next, &mut self.progress, &self.frames);
-        Ok(Step::Resume(next))
+        match add_comments(pushed, comments, &mut self.part) {
+            Ok(()) => {
+                self.progress.last = finish;
+                self.progress.floor = finish;
+                note_node(text, None, next, next, &mut self.progress, &self.frames);
+                Ok(Step::Resume(next))
+            }
+            Err(refused) => Err(refused),
+        }
     }
 }
 
@@ -158,14 +161,17 @@ fn reach(block: &BlockText) -> usize
     }
 }
 
-// The event of a block scalar that ends at an offset.
-fn placed_scalar<'a>(
+// Adds the event of a block scalar that ends at an offset.
+fn push_block<'a>(
     alloc: Global,
     lead: &Lead<'a>,
     block: &BlockText<'a>,
     finish: usize,
-) -> Result<PlacedEvent<'a>, AllocError>
-    ensures { IfOk result (λ e. placed_value e ≡ scalar_event lead.now block.now finish) }
+    part: &mut Part<'a>,
+) -> Result<(), AllocError>
+    ensures events { IfOk result (λ _. part.new.events ≡ part.old.events ++ scalar_event lead.now block.now finish ∷ []) }
+    ensures comments { part.new.comments ≡ part.old.comments }
+    ensures escapes { part.new.escapes ≡ part.old.escapes }
 {
     let text = match content(alloc, block) {
         Ok(text) => Text::Owned(OwnedText::new(text)),
@@ -173,7 +179,7 @@ fn placed_scalar<'a>(
     };
     let style = style_of(block.header.folded);
     let folded = kept_lines(alloc, block.header.folded, &block.lines)?;
-    Ok(PlacedEvent {
+    part.events.push(PlacedEvent {
         event: NewEvent::Scalar {
             props: lead.props,
             style,
@@ -187,6 +193,23 @@ fn placed_scalar<'a>(
         entry: lead.entry,
         folded,
     })
+}
+
+// Adds comments after an event, if it could be added.
+fn add_comments<'a>(
+    pushed: Result<(), AllocError>,
+    comments: Comments<'a>,
+    part: &mut Part<'a>,
+) -> Result<(), AllocError>
+    ensures pushed { IfOk result (λ _. pushed ≡ Ok tt) }
+    ensures events { part.new.events ≡ part.old.events }
+    ensures comments { IfOk result (λ _. part.new.comments ≡ part.old.comments ++ comments.entry) }
+    ensures escapes { part.new.escapes ≡ part.old.escapes }
+{
+    match pushed {
+        Ok(()) => part.comments.append(comments),
+        Err(refused) => Err(refused),
+    }
 }
 
 fn style_of(folded: bool) -> ScalarStyle

@@ -1,6 +1,8 @@
-use Rattle.std.proofs.Common.{◌≤◌, length, take, drop, ◌++◌, ◌∷◌, sym, ap, ◌∙◌, subst, arith}
+use Rattle.std.proofs.Common.{◌≤◌, length, take, drop, Some, ◌++◌, ◌∷◌, sym, ap, ◌∙◌, subst, arith}
+use Rattle.std.proofs.lemmas.Result.{IfOk-equal}
 use Rattle.yf_events.specs.Event.{placed_value}
 use Rattle.yf_block.proofs.ContentMappings.{entry_within, put_there}
+use Rattle.yf_block.proofs.WorkedLemmas.{if_worked}
 use Rattle.yf_block.proofs.inline.put_before.Goals as goal
 
 pub insert-requires : goal.insert-requires
@@ -9,5 +11,7 @@ insert-requires c =
 
 pub returns-then-event-len-clause-events : goal.returns-then-event-len-clause-events
 returns-then-event-len-clause-events c = λ xs x ys e q.
-    c.in_ok-insert.ensures ∙ ap (λ z. take c.args.event z ++ placed_value c.args.start ∷ drop c.args.event z) c.in_ok-set_entry.ensures
-    ∙ put_there (placed_value c.args.start) c.args.entry xs x ys e q
+    let start = placed_value c.start_with.result in
+    IfOk-equal c.insert.result _ _ _ (if_worked c.insert.result _ _ c.insert.ensures)
+    (ap (λ z. take c.args.event z ++ start ∷ drop c.args.event z) c.in_ok-set_entry.ensures ∙ put_there start c.args.entry xs x ys e q
+    ∙ ap (λ z. xs ++ z ∷ record x { entry = Some c.args.entry } ∷ ys) c.start_with.ensures)

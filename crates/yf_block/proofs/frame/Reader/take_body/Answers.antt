@@ -1,4 +1,6 @@
-use Rattle.std.proofs.Common.{length, ℕ, ◌++◌, ◌∷◌, [], refl, sym, ap, ◌∙◌, subst, arith}
+use Rattle.std.proofs.Common.{length, ℕ, ◌++◌, ap, sym, ◌∙◌, subst, arith}
+use Rattle.std.proofs.lemmas.List.Elements.{All-same}
+use Rattle.std.specs.Str.{IsCharBoundary}
 use Rattle.yf_block.specs.declared.frame.Progress.{Progress}
 use Rattle.yf_grammar.specs.BlockScalar.{LinesBetween}
 use Rattle.yf_block.proofs.LineHalts.{colons_counted}
@@ -7,15 +9,19 @@ use Rattle.yf_block.proofs.CountedSteps.{later}
 use Rattle.yf_block.proofs.MovedLemmas.{resume_moved}
 use Rattle.yf_block.proofs.frame.Reader.take_body.Goals as goal
 
-pub returns : goal.returns
-returns c = record {
-  tied = λ d root before j r a.
-      let inside = c.requires.standing.boundary.0 in
-      let count = c.reach.ensures (few_lines a inside) in
-      let e = c.skip_lines-finish.ensures.lines (to a inside).end (subst (λ (n : ℕ). LinesBetween c.args.scope.text.now n c.args.at (to a inside).end) (sym count) (scalar_ends a inside)) in
-      scalar_was_read a inside e (c.note_node.ensures.noted (scalar_outside a inside) (colons_counted a.scalar.stack))
-      (c.in_ok-push.ensures ∙ ap (λ z. c.args.self.now.part.events ++ z ∷ []) c.in_ok-scalar.ensures) c.in_ok-append.ensures refl
-      (ap (λ (p : Progress). p.last) c.note_node.ensures.others) (ap (λ (p : Progress). p.floor) c.note_node.ensures.others) (ap (λ (p : Progress). p.colons) c.note_node.ensures.others);
-  stepped = resume_moved c.note_node.ensures.progress c.requires.standing.escapes (omega arith) c.requires.next;
-  counted = λ u total q. later _ (length c.args.self.now.frames.items) total c.args.at c.args.block.next c.requires.next.order q;
-}
+pub returns-in-Ok : goal.returns-in-Ok
+returns-in-Ok c =
+    let pushed = c.push_block-pushed.ensures in
+    let added = c.in-Ok.ensures in
+    let escapes = added.escapes ∙ pushed.escapes in
+    record {
+      tied = λ d root before j r a.
+          let inside = c.requires.standing.boundary.0 in
+          let count = c.reach.ensures (few_lines a inside) in
+          let e = c.skip_lines-finish.ensures.lines (to a inside).end (subst (λ (n : ℕ). LinesBetween c.args.scope.text.now n c.args.at (to a inside).end) (sym count) (scalar_ends a inside)) in
+          scalar_was_read a inside e (c.note_node.ensures.noted (scalar_outside a inside) (colons_counted a.scalar.stack))
+          (added.events ∙ rw added.pushed at pushed.events) (added.comments ∙ ap (λ z. z ++ c.args.block.comments) pushed.comments) escapes
+          (ap (λ (p : Progress). p.last) c.note_node.ensures.others) (ap (λ (p : Progress). p.floor) c.note_node.ensures.others) (ap (λ (p : Progress). p.colons) c.note_node.ensures.others);
+      stepped = resume_moved c.note_node.ensures.progress (All-same (IsCharBoundary c.args.scope.text.now) _ _ escapes c.requires.standing.escapes) (omega arith) c.requires.next;
+      counted = λ u total q. later _ (length c.args.self.now.frames.items) total c.args.at c.args.block.next c.requires.next.order q;
+    }
