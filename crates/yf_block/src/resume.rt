@@ -279,8 +279,8 @@ fn end_collection<'a>(
     part: &mut Part<'a>,
 ) -> Result<(), AllocError>
     ensures events { IfOk result (λ _. part.new.events ≡ edited (ended last) frame.event (part.old.events ++ closing frame)) }
-    ensures comments { IfOk result (λ _. part.new.comments ≡ part.old.comments) }
-    ensures escapes { IfOk result (λ _. part.new.escapes ≡ part.old.escapes) }
+    ensures comments { part.new.comments ≡ part.old.comments }
+    ensures escapes { part.new.escapes ≡ part.old.escapes }
 {
     let event = match frame.kind {
         Kind::Sequence => NewEvent::SeqEnd,

@@ -28,3 +28,15 @@ pub returns-clause-reads : goal.returns-clause-reads
 returns-clause-reads c = λ b i l.
     let f = rw (to_z-of_z c.ranges.n) at c.in-Err.ensures.reads in
     as_scanned (f b i l)
+
+pub returns-in-Ok-None-clause-place : goal.returns-in-Ok-None-clause-place
+returns-in-Ok-None-clause-place c = tt
+
+pub returns-in-None-clause-place : goal.returns-in-None-clause-place
+returns-in-None-clause-place c = rw c.in-Ok-Some.field-0-is at c.in-Ok-Some.ensures.place
+
+pub returns-in-None-clause-escapes : goal.returns-in-None-clause-escapes
+returns-in-None-clause-escapes c = none_first _ _ (rw c.in-None.is at (rw c.in-Ok-Some.field-0-is at c.in-Ok-Some.ensures.escapes))
+
+pub returns-in-Ok-None-clause-other : goal.returns-in-Ok-None-clause-other
+returns-in-Ok-None-clause-other c = λ _. refl

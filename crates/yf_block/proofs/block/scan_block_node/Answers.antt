@@ -1,4 +1,4 @@
-use Rattle.std.proofs.Common.{to_z-of_z}
+use Rattle.std.proofs.Common.{refl, to_z-of_z}
 use Rattle.std.proofs.lemmas.List.Elements.{All-nil, All-same}
 use Rattle.std.specs.Str.{IsCharBoundary}
 use Rattle.yf_grammar.specs.Refusal.{for_memory}
@@ -34,3 +34,24 @@ returns-clause-reads c = λ b i l. for_memory
 pub block_node_in-requires-clause-escapes : goal.block_node_in-requires-clause-escapes
 block_node_in-requires-clause-escapes c =
     All-same (IsCharBoundary c.text.result.now) _ _ c.new_part-part.ensures.escapes (All-nil (IsCharBoundary c.text.result.now))
+
+pub block_node_in-requires-clause-boundary : goal.block_node_in-requires-clause-boundary
+block_node_in-requires-clause-boundary c = rw c.text.ensures c.requires
+
+pub first_escape-escape-requires : goal.first_escape-escape-requires
+first_escape-escape-requires c = rw c.text.ensures at c.in-Ok-Found.ensures.escapes
+
+pub place-requires : goal.place-requires
+place-requires c = rw (c.text.ensures, c.in-Ok-TooDeep.field-0-is) at c.in-Ok-TooDeep.ensures.place
+
+pub returns-in-Ok-Found-clause-place : goal.returns-in-Ok-Found-clause-place
+returns-in-Ok-Found-clause-place c = (rw (c.text.ensures, c.in-Ok-Found.field-0-is) at c.in-Ok-Found.ensures.place).0
+
+pub returns-in-Ok-Found-clause-escapes : goal.returns-in-Ok-Found-clause-escapes
+returns-in-Ok-Found-clause-escapes c = c.first_escape-escape.ensures
+
+pub returns-in-Ok-Nothing-clause-place : goal.returns-in-Ok-Nothing-clause-place
+returns-in-Ok-Nothing-clause-place c = tt
+
+pub returns-in-Ok-Nothing-clause-other : goal.returns-in-Ok-Nothing-clause-other
+returns-in-Ok-Nothing-clause-other c = λ _. refl

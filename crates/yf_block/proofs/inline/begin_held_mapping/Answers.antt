@@ -1,5 +1,7 @@
 use Rattle.std.proofs.Common.{false, take, ◌++◌, ◌∷◌, [], Some, ◌∙◌, ap}
+use Rattle.std.proofs.lemmas.List.Elements.{All-same, All-take}
 use Rattle.std.proofs.lemmas.Result.{IfOk-at_ok}
+use Rattle.std.specs.Str.{IsCharBoundary}
 use Rattle.yf_events.specs.Event.{placed_value}
 use Rattle.yf_props.specs.Props.{props_value}
 use Rattle.yf_grammar.specs.Meaning.{event_with, start_of}
@@ -21,3 +23,12 @@ returns-clause-key c = λ earlier room u l o r.
     where_worked c.put_before.result (λ done works. put_again r c.args.entry c.if-is_joined.ensures
     (λ before x xs e q. IfOk-at_ok _ works (p.events before x xs e q) ∙ ap (λ z. before ++ z ∷ record x { entry = Some c.args.entry } ∷ xs)
     (ap (λ (l : Lead). lead_event l (event_with (props_value l.props) (start_of false false)) c.args.after.now.node_start.at) c.lead_of-lead-2.ensures)) p.comments p.escapes)
+
+pub read_inline-requires : goal.read_inline-requires
+read_inline-requires c = record { boundary = c.requires.place; properties = c.requires.properties; escapes = All-same (IsCharBoundary c.args.scope.text.now) _ _ c.cut.ensures.escapes (All-take (IsCharBoundary c.args.scope.text.now) c.args.facts.now.before.escapes c.args.part.now.escapes c.requires.escapes) }
+
+pub returns-then-is_joined-clause-escapes : goal.returns-then-is_joined-clause-escapes
+returns-then-is_joined-clause-escapes c = c.in_ok-_again.ensures.escapes
+
+pub returns-clause-escapes : goal.returns-clause-escapes
+returns-clause-escapes c = where_worked c.put_before.result (λ _ _. All-same (IsCharBoundary c.args.scope.text.now) _ _ c.put_before.ensures.escapes c.requires.escapes)

@@ -1,5 +1,7 @@
 use Rattle.std.proofs.Common.{◌≡◌, ℕ, false, None, Some, ◌++◌, ◌∷◌, ◌∙◌, ap, sym}
+use Rattle.std.proofs.lemmas.List.Elements.{All-same}
 use Rattle.std.proofs.lemmas.Result.{IfOk-at_ok}
+use Rattle.std.specs.Str.{IsCharBoundary}
 use Rattle.yf_props.specs.Props.{props_value}
 use Rattle.yf_grammar.specs.Meaning.{event_with, start_of}
 use Rattle.yf_flow.specs.Begun.{bare_lead, lead_event}
@@ -23,3 +25,12 @@ returns-in-None-clause-key c = λ earlier room u l o r.
     where_worked c.put_before.result (λ done works. put_again r c.args.entry c.if-is_joined.ensures
     (λ before x xs e q. IfOk-at_ok _ works (p.events before x xs e q) ∙ ap (λ z. before ++ z ∷ record x { entry = Some c.args.entry } ∷ xs)
     (bare_started c.args.after.now.node_start.at c.args.wanted.now c.in-None.is c.bare-lead.ensures)) p.comments p.escapes)
+
+pub begin_held_mapping-requires : goal.begin_held_mapping-requires
+begin_held_mapping-requires c = record { place = c.requires.place; properties = c.requires.properties; escapes = c.requires.escapes }
+
+pub begin_held_mapping-requires-in-Some : goal.begin_held_mapping-requires-in-Some
+begin_held_mapping-requires-in-Some c = record { place = c.requires.place; properties = c.requires.properties; escapes = c.requires.escapes }
+
+pub returns-in-None-clause-escapes : goal.returns-in-None-clause-escapes
+returns-in-None-clause-escapes c = where_worked c.put_before.result (λ _ _. All-same (IsCharBoundary c.args.scope.text.now) _ _ c.put_before.ensures.escapes c.requires.escapes)

@@ -19,3 +19,15 @@ returns-in_ok-push-in-Some-clause-counted c = λ limit total q.
     let f = alias_forward c.in-Some.ensures.reads.derived in
     let k : c.args.at ≤ c.in-Some.end = omega (arith, f) in
     rw c.inline_end.ensures (later c.args.scope.text.now c.args.depth total c.args.at c.in-Some.end k q)
+
+pub returns-in-None-clause-escapes : goal.returns-in-None-clause-escapes
+returns-in-None-clause-escapes c = refl
+
+pub returns-in-None-clause-found : goal.returns-in-None-clause-found
+returns-in-None-clause-found c = tt
+
+pub returns-in-None-clause-counted : goal.returns-in-None-clause-counted
+returns-in-None-clause-counted c = λ limit total q. tt
+
+pub returns-in_ok-push-in-Some-clause-escapes : goal.returns-in_ok-push-in-Some-clause-escapes
+returns-in_ok-push-in-Some-clause-escapes c = refl

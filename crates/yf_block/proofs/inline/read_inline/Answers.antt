@@ -1,5 +1,7 @@
 use Rattle.std.proofs.Common.{rules, pos, refl, arith, ◌≤◌, to_z-of_z, SFits, w32}
+use Rattle.std.proofs.lemmas.List.Elements.{All-same}
 use Rattle.std.proofs.lemmas.Result.{IfOk-weaker}
+use Rattle.std.specs.Str.{IsCharBoundary}
 use Rattle.yf_block.specs.InlineAnswers.{alias_after, empty_key_read}
 use Rattle.yf_block.proofs.InlineLemmas.{alias_there, content_ends, empty_written}
 use Rattle.yf_block.proofs.CountedSteps.{later, held_below}
@@ -34,3 +36,34 @@ returns-in-None-inner-clause-counted c = λ u total start l q.
 pub returns-else-stands-clause-counted : goal.returns-else-stands-clause-counted
 returns-else-stands-clause-counted c = λ u total start l q.
     c.read_content_with.ensures.counted u total (later _ c.args.depth total start c.args.at (held_below _ _ _ c.args.inner.now c.requires.properties l) q)
+
+pub empty_key_end-requires : goal.empty_key_end-requires
+empty_key_end-requires c = c.requires.properties
+
+pub read_alias-requires : goal.read_alias-requires
+read_alias-requires c = c.if-stands.ensures.cases.char
+
+pub read_content_with-requires : goal.read_content_with-requires
+read_content_with-requires c = record { boundary = c.requires.boundary; escapes = c.requires.escapes }
+
+pub returns-in_ok-push_scalar_with-in-Some-clause-escapes : goal.returns-in_ok-push_scalar_with-in-Some-clause-escapes
+returns-in_ok-push_scalar_with-in-Some-clause-escapes c = All-same (IsCharBoundary c.args.scope.text.now) _ _ c.in_ok-push_scalar_with-in-Some.ensures.escapes c.requires.escapes
+
+pub returns-in-Some-inner-clause-escapes : goal.returns-in-Some-inner-clause-escapes
+returns-in-Some-inner-clause-escapes c = c.requires.escapes
+
+pub returns-in-None-inner-clause-escapes : goal.returns-in-None-inner-clause-escapes
+returns-in-None-inner-clause-escapes c =
+    IfOk-weaker c.read_alias.result _ _ (λ _ e. All-same (IsCharBoundary c.args.scope.text.now) _ _ e c.requires.escapes) c.read_alias.ensures.escapes
+
+pub returns-else-stands-clause-escapes : goal.returns-else-stands-clause-escapes
+returns-else-stands-clause-escapes c = c.read_content_with.ensures.escapes
+
+pub returns-in_ok-push_scalar_with-in-Some-clause-found : goal.returns-in_ok-push_scalar_with-in-Some-clause-found
+returns-in_ok-push_scalar_with-in-Some-clause-found c = rw c.inline_end.ensures c.in-Some.ensures.place
+
+pub returns-in-Some-inner-clause-found : goal.returns-in-Some-inner-clause-found
+returns-in-Some-inner-clause-found c = tt
+
+pub returns-in-None-inner-clause-found : goal.returns-in-None-inner-clause-found
+returns-in-None-inner-clause-found c = rw c.in-None-inner.is c.read_alias.ensures.found

@@ -26,3 +26,21 @@ returns-in_ok-stopped-in-Some-clause-tied c = λ b i l.
     (c.in_ok-stopped-in-Some.ensures.tied c.args.n c.args.ctx c.ranges.limit.fits root)
     (c.in_ok-stopped-in-Some.ensures.counted c.utf8.text)
     (record { events = c.of-before.ensures.events; comments = c.of-before.ensures.comments; escapes = c.of-before.ensures.escapes })
+
+pub run_from-requires : goal.run_from-requires
+run_from-requires c = record { boundary = c.requires.boundary; escapes = c.requires.escapes }
+
+pub conclude-requires : goal.conclude-requires
+conclude-requires c = record { boundary = c.requires.boundary; stopped = c.in_ok-stopped-in-Some.ensures.stopped; escapes = c.in_ok-stopped-in-Some.ensures.escapes }
+
+pub returns-in-None-clause-place : goal.returns-in-None-clause-place
+returns-in-None-clause-place c = c.requires.boundary
+
+pub returns-in-None-clause-escapes : goal.returns-in-None-clause-escapes
+returns-in-None-clause-escapes c = c.requires.escapes
+
+pub returns-in_ok-stopped-in-Some-clause-place : goal.returns-in_ok-stopped-in-Some-clause-place
+returns-in_ok-stopped-in-Some-clause-place c = c.conclude.ensures.place
+
+pub returns-in_ok-stopped-in-Some-clause-escapes : goal.returns-in_ok-stopped-in-Some-clause-escapes
+returns-in_ok-stopped-in-Some-clause-escapes c = c.conclude.ensures.escapes

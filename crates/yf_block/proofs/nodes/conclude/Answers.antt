@@ -1,4 +1,4 @@
-use Rattle.std.proofs.Common.{refl, true≢false}
+use Rattle.std.proofs.Common.{refl, true≢false, arith}
 use Rattle.std.proofs.lemmas.List.Elements.{All-take, All-same}
 use Rattle.std.specs.Str.{IsCharBoundary}
 use Rattle.yf_block.proofs.NodesGiven.{run_halts, halt_at, whole_given, run_unfinished, run_unended, unmoved_given, found_again, cut_to_nothing}
@@ -38,3 +38,21 @@ returns-in-None-clause-place c = none_place c.args.scope.text.now c.args.root.at
 
 pub returns-in-None-clause-escapes : goal.returns-in-None-clause-escapes
 returns-in-None-clause-escapes c = All-same (IsCharBoundary c.args.scope.text.now) _ _ c.cut-in-None.ensures.escapes (All-take (IsCharBoundary c.args.scope.text.now) c.args.before.escapes c.args.part.now.escapes c.requires.escapes)
+
+pub read_prefix-requires-clause-boundary : goal.read_prefix-requires-clause-boundary
+read_prefix-requires-clause-boundary c = c.requires.boundary
+
+pub read_prefix-requires-clause-end : goal.read_prefix-requires-clause-end
+read_prefix-requires-clause-end c = rw c.in-Some.ensures.0 at c.requires.stopped.halt
+
+pub read_prefix-requires-clause-order : goal.read_prefix-requires-clause-order
+read_prefix-requires-clause-order c = omega (arith, c.in-Some.ensures.1)
+
+pub returns-then-ends_whole-clause-escapes : goal.returns-then-ends_whole-clause-escapes
+returns-then-ends_whole-clause-escapes c = c.requires.escapes
+
+pub returns-in-Some-2-clause-escapes : goal.returns-in-Some-2-clause-escapes
+returns-in-Some-2-clause-escapes c = c.in_ok-floor-in-Some.ensures.escapes
+
+pub returns-in-None-2-clause-escapes : goal.returns-in-None-2-clause-escapes
+returns-in-None-2-clause-escapes c = c.in_ok-floor-in-Some.ensures.escapes

@@ -1,8 +1,8 @@
-use Rattle.std.proofs.Common.{◌∙◌}
+use Rattle.std.proofs.Common.{◌∙◌, subst}
 use Rattle.std.proofs.lemmas.List.Elements.{All-nil, All-same}
 use Rattle.std.specs.Str.{IsCharBoundary}
 use Rattle.yf_block.proofs.NodesGiven.{prefix_text, prefix_stops, prefix_given, given_after}
-use Rattle.yf_block.proofs.PrefixLemmas.{prefix_of, uncut_boundaries}
+use Rattle.yf_block.proofs.PrefixLemmas.{prefix_of, uncut_boundary, uncut_boundaries}
 use Rattle.yf_block.proofs.nodes.read_prefix.Goals as goal
 
 pub returns-clause-escapes : goal.returns-clause-escapes
@@ -27,3 +27,12 @@ returns-clause-tied c = λ n ctx j r h.
 pub run_from-requires-clause-escapes : goal.run_from-requires-clause-escapes
 run_from-requires-clause-escapes c =
     All-same (IsCharBoundary c.range.result.now) _ _ c.new_part-read.ensures.escapes (All-nil (IsCharBoundary c.range.result.now))
+
+pub returns-then-not-ends_whole-clause-floor : goal.returns-then-not-ends_whole-clause-floor
+returns-then-not-ends_whole-clause-floor c = tt
+
+pub returns-then-not-ends_whole-clause-escapes : goal.returns-then-not-ends_whole-clause-escapes
+returns-then-not-ends_whole-clause-escapes c = c.requires.escapes
+
+pub returns-clause-floor : goal.returns-clause-floor
+returns-clause-floor c = uncut_boundary c.args.scope.text.now c.args.end c.in_ok-stopped.stopped.floor c.requires.end (subst (λ z. IsCharBoundary z c.in_ok-stopped.stopped.floor) (c.range.ensures.value ∙ prefix_of c.args.scope.text.now c.args.end) c.in_ok-stopped.ensures.stopped.floor)

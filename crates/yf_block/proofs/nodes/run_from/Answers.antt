@@ -14,3 +14,12 @@ pub returns-clause-counted : goal.returns-clause-counted
 returns-clause-counted c = λ u.
     let none = ap (λ (z : List Frame). length z) c.new.ensures.items in
     c.fill.ensures.counted u (openers_from c.args.scope.text.now c.args.root.at) (omega (arith, none))
+
+pub fill-requires : goal.fill-requires
+fill-requires c = record { boundary = c.requires.boundary; progress = c.no_progress.ensures.progress; escapes = c.requires.escapes }
+
+pub returns-clause-stopped : goal.returns-clause-stopped
+returns-clause-stopped c = c.fill.ensures.stopped
+
+pub returns-clause-escapes : goal.returns-clause-escapes
+returns-clause-escapes c = c.fill.ensures.escapes

@@ -9,3 +9,12 @@ returns-then-column-frame-clause-line c e = fits_before c.args.frame.now (subst 
 pub returns-else-dash_stands-clause-line : goal.returns-else-dash_stands-clause-line
 returns-else-dash_stands-clause-line c e = fits_no_item c.args.frame.now (subst (λ z. PlaceTied c.args.text.now c.args.at z) c.in-Some.is e)
     (omega (arith, c.if-column-frame.false, c.if-column-frame-2.false)) c.in-Sequence.is c.if-dash_stands.ensures.cases
+
+pub returns-in-None-clause-places : goal.returns-in-None-clause-places
+returns-in-None-clause-places c = tt
+
+pub returns-then-column-frame-clause-places : goal.returns-then-column-frame-clause-places
+returns-then-column-frame-clause-places c = tt
+
+pub returns-else-dash_stands-clause-places : goal.returns-else-dash_stands-clause-places
+returns-else-dash_stands-clause-places c = tt

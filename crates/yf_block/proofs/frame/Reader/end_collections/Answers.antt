@@ -42,3 +42,18 @@ pub returns-in_default-fit-clause-standing : goal.returns-in_default-fit-clause-
 returns-in_default-fit-clause-standing c =
     let v = c.frames.invariant.standing in
     record { boundary = v.boundary; progress = record { floor = v.progress.floor; from = v.progress.from; halt = v.progress.halt }; escapes = v.escapes }
+
+pub fit_of-fit-requires : goal.fit_of-fit-requires
+fit_of-fit-requires c = c.requires.place
+
+pub returns-in_default-fit-clause-places : goal.returns-in_default-fit-clause-places
+returns-in_default-fit-clause-places c = c.fit_of-fit.ensures.places
+
+pub returns-clause-places : goal.returns-clause-places
+returns-clause-places c = tt
+
+pub returns-clause-fewer : goal.returns-clause-fewer
+returns-clause-fewer c = tt
+
+pub returns-clause-standing : goal.returns-clause-standing
+returns-clause-standing c = let v = c.frames.invariant.standing in record { boundary = v.boundary; progress = v.progress; escapes = v.escapes }

@@ -22,3 +22,15 @@ returns-in-None c = record {
   stepped = failed_moved c.note_shorter.ensures.progress c.requires.standing.escapes c.skip_whites.ensures.boundary;
   counted = λ u total q. tt;
 }
+
+pub read_line_end-requires : goal.read_line_end-requires
+read_line_end-requires c = c.requires.standing.boundary
+
+pub note_node-requires : goal.note_node-requires
+note_node-requires c = let p = rw c.in-Some.is at c.in_ok-comments.ensures.place in record { from = c.requires.standing.boundary; place = p.boundary; plain = c.requires.plain; progress = c.requires.standing.progress }
+
+pub note_shorter-requires : goal.note_shorter-requires
+note_shorter-requires c = record { plain = c.requires.plain; progress = c.requires.standing.progress }
+
+pub skip_whites-requires : goal.skip_whites-requires
+skip_whites-requires c = c.requires.standing.boundary

@@ -36,3 +36,6 @@ returns-clause-tied c = λ d root j k a.
 
 pub returns-clause-counted : goal.returns-clause-counted
 returns-clause-counted c = λ u total none. c.in_ok-stop.ensures.counted u total (c.in_ok-step.ensures.counted u total none)
+
+pub returns-clause-stopped : goal.returns-clause-stopped
+returns-clause-stopped c = let p = c.in_ok-stop.ensures.progress in record { stop = c.in_ok-stop.ensures.stop; halt = p.halt; floor = p.floor }

@@ -56,3 +56,9 @@ returns-else-is_apart c = record {
       let l : c.args.after.now.node_start.at ≤ c.args.node.end = omega (arith, c.requires.node.order) in
       c.end_inline.ensures.counted u total (later _ (length c.args.self.now.frames.items) total c.args.after.now.node_start.at c.args.node.end l q.opened);
 }
+
+pub skip_whites-colon-requires : goal.skip_whites-colon-requires
+skip_whites-colon-requires c = c.requires.node.boundary
+
+pub keyed_column-requires : goal.keyed_column-requires
+keyed_column-requires c = c.requires.standing.start

@@ -1,5 +1,6 @@
 use Rattle.std.proofs.Common.{ℕ, ◌+◌, ◌-◌, true, false, Some, None, length, ap, ◌∙◌, arith, ◌≤◌}
 use Rattle.yf_block.specs.BlockTied.{wanted_after}
+use Rattle.yf_block.proofs.LookLemmas.{may_place}
 use Rattle.yf_block.proofs.TiedNext.{next_item, next_key}
 use Rattle.yf_block.proofs.TiedNodes.{node_tied, entry_same, floor_blank, item_awaited}
 use Rattle.yf_block.proofs.TiedResume.{place_tied}
@@ -42,3 +43,15 @@ returns-in-Some-item_below c =
 
 pub resume_below-requires-clause-entry : goal.resume_below-requires-clause-entry
 resume_below-requires-clause-entry c = λ b. place_tied _ b c.entry_place-place.ensures.entry
+
+pub resume_below-requires-clause-standing : goal.resume_below-requires-clause-standing
+resume_below-requires-clause-standing c = c.requires
+
+pub resume_below-requires-clause-place : goal.resume_below-requires-clause-place
+resume_below-requires-clause-place c = may_place c.args.scope.text.now c.args.at c.entry_place-place.result c.entry_place-place.ensures.place
+
+pub key_below-requires : goal.key_below-requires
+key_below-requires c = may_place c.args.scope.text.now c.args.at c.entry_place-place.result c.entry_place-place.ensures.place
+
+pub item_below-requires : goal.item_below-requires
+item_below-requires c = may_place c.args.scope.text.now c.args.at c.entry_place-place.result c.entry_place-place.ensures.place

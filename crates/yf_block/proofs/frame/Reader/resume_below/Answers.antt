@@ -61,3 +61,18 @@ take_item-requires-clause-after c = (rw c.in-Item.is at (rw c.in-Some.is at c.in
 
 pub take_item-requires-clause-dash : goal.take_item-requires-clause-dash
 take_item-requires-clause-dash c = (rw c.in-Item.is at (rw c.in-Some.is at c.in_ok-end_collections.ensures.places)).2
+
+pub end_collections-requires : goal.end_collections-requires
+end_collections-requires c = record { standing = c.requires.standing; place = c.requires.place; entry = c.requires.entry }
+
+pub take_item-requires-clause-standing : goal.take_item-requires-clause-standing
+take_item-requires-clause-standing c =
+    let v = c.in_ok-end_collections.ensures.standing in
+    let p = rw c.in-Item.is at (rw c.in-Some.is at c.in_ok-end_collections.ensures.places) in
+    record { boundary = p.0.boundary; progress = v.progress; escapes = v.escapes }
+
+pub next_entry-requires : goal.next_entry-requires
+next_entry-requires c =
+    let v = c.in_ok-end_collections.ensures.standing in
+    let p = rw c.in-Entry.is at (rw c.in-Some.is at c.in_ok-end_collections.ensures.places) in
+    record { boundary = p.boundary; progress = v.progress; escapes = v.escapes }

@@ -54,3 +54,39 @@ returns-in-Failed-clause-counted c = λ u total q. tt
 
 pub returns-in-TooDeep-clause-counted : goal.returns-in-TooDeep-clause-counted
 returns-in-TooDeep-clause-counted c = λ u total q. rw c.in-TooDeep.is at (c.steps.invariant.counted u total q)
+
+pub take_node-requires : goal.take_node-requires
+take_node-requires c = let v = c.steps.invariant in let p = rw c.in-Node.is at v.ready in record { boundary = p.boundary; progress = v.progress; escapes = v.escapes }
+
+pub take_line-requires : goal.take_line-requires
+take_line-requires c = let v = c.steps.invariant in let p = rw c.in-Line.is at v.ready in record { boundary = p.boundary; progress = v.progress; escapes = v.escapes }
+
+pub resume-requires : goal.resume-requires
+resume-requires c = let v = c.steps.invariant in let p = rw c.in-Resume.is at v.ready in record { boundary = p.boundary; progress = v.progress; escapes = v.escapes }
+
+pub returns-in-Done-clause-progress : goal.returns-in-Done-clause-progress
+returns-in-Done-clause-progress c = c.steps.invariant.progress
+
+pub returns-in-Failed-clause-progress : goal.returns-in-Failed-clause-progress
+returns-in-Failed-clause-progress c = c.steps.invariant.progress
+
+pub returns-in-TooDeep-clause-progress : goal.returns-in-TooDeep-clause-progress
+returns-in-TooDeep-clause-progress c = c.steps.invariant.progress
+
+pub returns-in-Done-clause-stop : goal.returns-in-Done-clause-stop
+returns-in-Done-clause-stop c = rw c.in-Done.is at c.steps.invariant.ready
+
+pub returns-in-Failed-clause-stop : goal.returns-in-Failed-clause-stop
+returns-in-Failed-clause-stop c = rw c.in-Failed.is at c.steps.invariant.ready
+
+pub returns-in-TooDeep-clause-stop : goal.returns-in-TooDeep-clause-stop
+returns-in-TooDeep-clause-stop c = rw c.in-TooDeep.is at c.steps.invariant.ready
+
+pub returns-in-Done-clause-escapes : goal.returns-in-Done-clause-escapes
+returns-in-Done-clause-escapes c = c.steps.invariant.escapes
+
+pub returns-in-Failed-clause-escapes : goal.returns-in-Failed-clause-escapes
+returns-in-Failed-clause-escapes c = c.steps.invariant.escapes
+
+pub returns-in-TooDeep-clause-escapes : goal.returns-in-TooDeep-clause-escapes
+returns-in-TooDeep-clause-escapes c = c.steps.invariant.escapes

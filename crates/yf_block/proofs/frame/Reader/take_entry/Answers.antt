@@ -1,4 +1,5 @@
 use Rattle.std.proofs.Common.{◌≡◌, ℕ, ◌+◌, true, Some, None, reverse, ◌++◌, ◌∷◌, [], sym, ap, ◌∙◌, subst, arith, refl, length, inl, inr, ⊎_elim}
+use Rattle.std.specs.Str.{IsCharBoundary}
 use Rattle.yf_props.specs.Props.{no_props}
 use Rattle.yf_events.specs.Event.{scalar_node}
 use Rattle.yf_events.specs.declared.event.ScalarStyle.TheVariants.{Plain}
@@ -81,3 +82,6 @@ returns c = record {
       let k = q.keyed (⊎_elim c.if-sign_stands.ensures.cases c.if-sign_stands-2.ensures.cases) in
       c.take_key.ensures.counted u total (within_counted c.args.scope.text.now total _ _ _ _ _ c.in_ok-push-2.ensures.ok c.entry_at-entry.ensures.start k);
 }
+
+pub take_key-requires : goal.take_key-requires
+take_key-requires c = record { boundary = subst (λ (z : ℕ). IsCharBoundary c.args.scope.text.now z) (sym c.entry_at-entry.ensures.start) c.requires.boundary; progress = c.requires.progress; escapes = c.requires.escapes }

@@ -96,3 +96,15 @@ returns-then-key_ends c = record {
       let l : c.args.key.start ≤ c.skip_whites-colon.result + 1 = omega (arith, p.2, f.order, c.skip_whites-colon.ensures.order) in
       node_counted c.args.scope.text.now c.args.scope.limit total _ _ _ c.await_value.ensures.step (later _ (length c.args.self.now.frames.items) total c.args.key.start _ l q);
 }
+
+pub key_text-requires : goal.key_text-requires
+key_text-requires c = record { start = c.requires.standing.boundary; properties = c.requires.place }
+
+pub read_inline-requires : goal.read_inline-requires
+read_inline-requires c = let p = rw c.in-At.is at c.in_ok-place.ensures.place in record { boundary = p.0; properties = p.1; escapes = c.requires.standing.escapes }
+
+pub skip_whites-colon-requires : goal.skip_whites-colon-requires
+skip_whites-colon-requires c = let f = rw c.in-End.is at c.in_ok-node-in-At.ensures.found in f.boundary
+
+pub key_ends-requires : goal.key_ends-requires
+key_ends-requires c = c.requires.standing.boundary

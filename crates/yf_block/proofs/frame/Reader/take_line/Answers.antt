@@ -119,3 +119,12 @@ returns c = record {
 
 pub open_collection-requires-clause-sign : goal.open_collection-requires-clause-sign
 open_collection-requires-clause-sign c = (c.sequence_begins.ensures.stands c.if-sequence_begins.true, c.sequence_begins.ensures.boundary c.if-sequence_begins.true)
+
+pub note_empty-requires : goal.note_empty-requires
+note_empty-requires c = record { place = c.requires.boundary; progress = c.requires.progress }
+
+pub end_empty-requires : goal.end_empty-requires
+end_empty-requires c = record { boundary = c.requires.boundary; progress = c.note_empty.ensures.progress; escapes = c.requires.escapes }
+
+pub take_content-requires : goal.take_content-requires
+take_content-requires c = record { boundary = c.skip_whites-place.ensures.boundary; progress = c.note_empty.ensures.progress; escapes = c.requires.escapes }

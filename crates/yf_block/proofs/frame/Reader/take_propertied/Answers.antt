@@ -56,3 +56,15 @@ returns-in-Some-place_after c = record {
   stepped = c.take_after_properties.ensures.stepped;
   counted = c.take_after_properties.ensures.counted;
 }
+
+pub skip_whites-place-requires : goal.skip_whites-place-requires
+skip_whites-place-requires c = c.requires.inner.boundary
+
+pub read_line_end-requires : goal.read_line_end-requires
+read_line_end-requires c = c.requires.inner.boundary
+
+pub end_line-requires : goal.end_line-requires
+end_line-requires c = let p = c.requires.standing.progress in record { boundary = c.requires.inner.boundary; progress = record { floor = p.floor; from = p.from; halt = p.halt }; escapes = c.requires.standing.escapes }
+
+pub place_after-requires : goal.place_after-requires
+place_after-requires c = c.requires.inner.boundary

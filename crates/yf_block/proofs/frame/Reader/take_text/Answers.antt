@@ -80,3 +80,15 @@ returns-in-TooDeep c = record {
   counted = λ u total q.
       rw c.in-TooDeep.is at (c.in_ok-node.ensures.counted u total c.args.after.now.node_start.at (held_later _ _ _ c.args.after.now.inner c.requires.properties) (omega (arith, q, c.len.ensures.value)));
 }
+
+pub take_block_scalar-requires : goal.take_block_scalar-requires
+take_block_scalar-requires c = c.requires.standing
+
+pub read_inline-requires-clause-boundary : goal.read_inline-requires-clause-boundary
+read_inline-requires-clause-boundary c = c.requires.standing.boundary
+
+pub read_inline-requires-clause-escapes : goal.read_inline-requires-clause-escapes
+read_inline-requires-clause-escapes c = c.requires.standing.escapes
+
+pub finish_inline-requires-clause-standing : goal.finish_inline-requires-clause-standing
+finish_inline-requires-clause-standing c = record { standing = record { boundary = c.requires.standing.boundary; progress = c.requires.standing.progress; escapes = c.in_ok-node.ensures.escapes }; start = c.requires.start; properties = c.requires.properties }
