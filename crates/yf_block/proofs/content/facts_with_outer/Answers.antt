@@ -18,3 +18,9 @@ returns-in-Some-joined-clause-belonging c = λ a w l.
     let line = l c.in-Some.inner c.in-Some.is in
     let both = rw c.in-Some-joined.is at (c.joined.ensures.reads w.value line.value w.tied (line_tied line)) in
     belonging_of_both c.args.text.now c.args.after.now.node_start.at c.args.after.now.at w c.args.entry c.args.after.now.inner c.in-Some.is line both c.if-stands.ensures.cases c.joined_facts-in-Some-joined.ensures.lead c.joined_facts-in-Some-joined.ensures.belonging
+
+pub returns-then-stands-clause-before : goal.returns-then-stands-clause-before
+returns-then-stands-clause-before c = c.apart_facts.ensures.before
+
+pub returns-in-None-clause-before : goal.returns-in-None-clause-before
+returns-in-None-clause-before c = c.joined_facts.ensures.before

@@ -1,8 +1,8 @@
-use Rattle.std.proofs.Common.{◌∙◌, subst}
+use Rattle.std.proofs.Common.{◌∙◌, sym, subst}
 use Rattle.std.proofs.lemmas.List.Elements.{All-nil, All-same}
 use Rattle.std.specs.Str.{IsCharBoundary}
 use Rattle.yf_block.proofs.NodesGiven.{prefix_text, prefix_stops, prefix_given, given_after}
-use Rattle.yf_block.proofs.PrefixLemmas.{prefix_of, uncut_boundary, uncut_boundaries}
+use Rattle.yf_block.proofs.PrefixLemmas.{prefix_of, cut_boundary, uncut_boundary, uncut_boundaries}
 use Rattle.yf_block.proofs.nodes.read_prefix.Goals as goal
 
 pub returns-clause-escapes : goal.returns-clause-escapes
@@ -36,3 +36,9 @@ returns-then-not-ends_whole-clause-escapes c = c.requires.escapes
 
 pub returns-clause-floor : goal.returns-clause-floor
 returns-clause-floor c = uncut_boundary c.args.scope.text.now c.args.end c.in_ok-stopped.stopped.floor c.requires.end (subst (λ z. IsCharBoundary z c.in_ok-stopped.stopped.floor) (c.range.ensures.value ∙ prefix_of c.args.scope.text.now c.args.end) c.in_ok-stopped.ensures.stopped.floor)
+
+pub range-requires-clause-end_boundary : goal.range-requires-clause-end_boundary
+range-requires-clause-end_boundary c = c.requires.end
+
+pub run_from-requires-clause-boundary : goal.run_from-requires-clause-boundary
+run_from-requires-clause-boundary c = subst (λ z. IsCharBoundary z c.args.root.at) (sym (c.range.ensures.value ∙ prefix_of c.args.scope.text.now c.args.end)) (cut_boundary c.args.scope.text.now c.args.end c.args.root.at c.requires.end.0 c.requires.order c.requires.boundary)

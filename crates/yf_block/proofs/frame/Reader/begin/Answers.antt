@@ -16,3 +16,6 @@ returns c = record {
   stepped = node_moved c.requires.progress c.requires.escapes (omega arith) (record { boundary = c.requires.boundary; order = omega arith });
   counted = λ u total q. q;
 }
+
+pub end_line-requires : goal.end_line-requires
+end_line-requires c = c.requires

@@ -62,3 +62,15 @@ skip_whites-colon-requires c = c.requires.node.boundary
 
 pub keyed_column-requires : goal.keyed_column-requires
 keyed_column-requires c = c.requires.standing.start
+
+pub take_first_key-requires-clause-standing : goal.take_first_key-requires-clause-standing
+take_first_key-requires-clause-standing c = c.requires.standing
+
+pub take_first_key-requires-clause-order : goal.take_first_key-requires-clause-order
+take_first_key-requires-clause-order c = omega (arith, c.requires.node.order, c.skip_whites-colon.ensures.order)
+
+pub take_first_key-requires-clause-next : goal.take_first_key-requires-clause-next
+take_first_key-requires-clause-next c = c.in-Some.ensures.boundary
+
+pub end_inline-requires-clause-standing : goal.end_inline-requires-clause-standing
+end_inline-requires-clause-standing c = let s = c.requires.standing.standing in record { boundary = c.requires.node.boundary; progress = record { floor = s.progress.floor; from = s.progress.from; halt = s.progress.halt }; escapes = s.escapes }

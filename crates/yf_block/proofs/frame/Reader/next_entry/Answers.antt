@@ -42,3 +42,6 @@ returns c = record {
   stepped = c.take_entry-2.ensures.stepped;
   counted = λ u total q. c.take_entry-2.ensures.counted u total (later_counted _ (length c.args.self.now.frames.items) total c.args.slot.at q);
 }
+
+pub take_entry-requires : goal.take_entry-requires
+take_entry-requires c = record { boundary = c.requires.boundary; progress = c.requires.progress; escapes = c.requires.escapes }

@@ -1,4 +1,5 @@
-use Rattle.std.proofs.Common.{ℕ, ◌+◌, ◌-◌, true, false, Some, None, length, ap, ◌∙◌, arith, ◌≤◌}
+use Rattle.std.proofs.Common.{ℕ, ◌+◌, ◌-◌, true, false, Some, None, length, ap, sym, subst, ◌∙◌, arith, ◌≤◌}
+use Rattle.std.specs.Str.{IsCharBoundary}
 use Rattle.yf_block.specs.BlockTied.{wanted_after}
 use Rattle.yf_block.proofs.LookLemmas.{may_place}
 use Rattle.yf_block.proofs.TiedNext.{next_item, next_key}
@@ -55,3 +56,9 @@ key_below-requires c = may_place c.args.scope.text.now c.args.at c.entry_place-p
 
 pub item_below-requires : goal.item_below-requires
 item_below-requires c = may_place c.args.scope.text.now c.args.at c.entry_place-place.result c.entry_place-place.ensures.place
+
+pub take_key-requires : goal.take_key-requires
+take_key-requires c = let b = c.in-Some.ensures in let p = rw b.starts at c.entry_place-place.ensures.place in record { boundary = subst (λ (z : ℕ). IsCharBoundary c.args.scope.text.now z) (sym c.entry_at-entry.ensures.start) p.boundary; progress = c.requires.progress; escapes = c.requires.escapes }
+
+pub entry_place-place-requires : goal.entry_place-place-requires
+entry_place-place-requires c = c.requires.boundary

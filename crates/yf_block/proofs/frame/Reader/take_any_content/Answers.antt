@@ -1,4 +1,4 @@
-use Rattle.std.proofs.Common.{sym, ◌∙◌}
+use Rattle.std.proofs.Common.{refl, sym, ◌∙◌}
 use Rattle.yf_block.specs.ContentTied.{text_alone}
 use Rattle.yf_block.proofs.ContentSteps.{signless_there}
 use Rattle.yf_block.proofs.PropertiesLemmas.{no_properties}
@@ -21,3 +21,12 @@ returns-in-None c = record {
   stepped = c.take_after_properties.ensures.stepped;
   counted = c.take_after_properties.ensures.counted;
 }
+
+pub take_held_content-requires : goal.take_held_content-requires
+take_held_content-requires c = c.requires
+
+pub open_collection-requires-clause-standing : goal.open_collection-requires-clause-standing
+open_collection-requires-clause-standing c = c.requires
+
+pub take_after_properties-requires : goal.take_after_properties-requires
+take_after_properties-requires c = record { standing = c.requires; start = c.requires.boundary; properties = refl }

@@ -55,3 +55,6 @@ take_body-requires-clause-standing c = record {
   progress = c.requires.progress;
   escapes = All-same (IsCharBoundary c.args.scope.text.now) _ _ c.in_ok-push_comment-in-Some.ensures.escapes c.requires.escapes;
 }
+
+pub take_body-requires-clause-next : goal.take_body-requires-clause-next
+take_body-requires-clause-next c = rw c.in-Some-2.is at c.in_ok-read_lines-in-Some.ensures.place

@@ -38,3 +38,9 @@ returns c = record {
   stepped = awaited_moved c.await_value.ensures c.requires.standing.standing.progress c.in_ok-begin_mapping.ensures.escapes c.requires.order c.requires.next;
   counted = λ u total q. pushed_counted c.args.scope.text.now c.args.scope.limit total _ _ _ _ _ c.await_value.ensures.step c.in_ok-push.ensures.ok q;
 }
+
+pub begin_mapping-requires-clause-place : goal.begin_mapping-requires-clause-place
+begin_mapping-requires-clause-place c = c.requires.standing.standing.boundary
+
+pub begin_mapping-requires-clause-escapes : goal.begin_mapping-requires-clause-escapes
+begin_mapping-requires-clause-escapes c = c.requires.standing.standing.escapes

@@ -1,4 +1,4 @@
-use Rattle.std.proofs.Common.{◌∙◌}
+use Rattle.std.proofs.Common.{refl, ◌∙◌}
 use Rattle.yf_block.specs.ContentTied.{text_alone}
 use Rattle.yf_block.proofs.ContentSteps.{signless_there}
 use Rattle.yf_block.proofs.frame.Reader.take_held_content.Goals as goal
@@ -31,3 +31,15 @@ returns-in-None-2 c = record {
   stepped = c.take_after_properties.ensures.stepped;
   counted = c.take_after_properties.ensures.counted;
 }
+
+pub open_collection-requires-clause-standing : goal.open_collection-requires-clause-standing
+open_collection-requires-clause-standing c = c.requires
+
+pub take_propertied-requires-clause-standing : goal.take_propertied-requires-clause-standing
+take_propertied-requires-clause-standing c = c.requires
+
+pub take_after_properties-requires : goal.take_after_properties-requires
+take_after_properties-requires c = record { standing = c.requires; start = c.requires.boundary; properties = refl }
+
+pub take_propertied-requires-clause-inner : goal.take_propertied-requires-clause-inner
+take_propertied-requires-clause-inner c = rw c.in-Some-2.is at c.in_ok-inner-in-None.ensures.place

@@ -128,3 +128,12 @@ end_empty-requires c = record { boundary = c.requires.boundary; progress = c.not
 
 pub take_content-requires : goal.take_content-requires
 take_content-requires c = record { boundary = c.skip_whites-place.ensures.boundary; progress = c.note_empty.ensures.progress; escapes = c.requires.escapes }
+
+pub skip_spaces-start-requires : goal.skip_spaces-start-requires
+skip_spaces-start-requires c = c.requires.boundary
+
+pub skip_whites-place-requires : goal.skip_whites-place-requires
+skip_whites-place-requires c = c.skip_spaces-start.ensures.boundary
+
+pub open_collection-requires-clause-standing : goal.open_collection-requires-clause-standing
+open_collection-requires-clause-standing c = record { boundary = c.skip_spaces-start.ensures.boundary; progress = c.note_empty.ensures.progress; escapes = c.requires.escapes }

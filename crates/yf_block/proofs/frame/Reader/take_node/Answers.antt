@@ -51,3 +51,18 @@ returns-in-None c = record {
 
 pub open_collection-requires-clause-sign : goal.open_collection-requires-clause-sign
 open_collection-requires-clause-sign c = (c.in-Some.ensures.dash.1, c.in-Some.ensures.boundary)
+
+pub skip_whites-place-requires : goal.skip_whites-place-requires
+skip_whites-place-requires c = c.requires.boundary
+
+pub end_line-requires : goal.end_line-requires
+end_line-requires c = c.requires
+
+pub compact_column-column-requires : goal.compact_column-column-requires
+compact_column-column-requires c = record { boundary = c.requires.boundary; order = c.skip_whites-place.ensures.order }
+
+pub open_collection-requires-clause-standing : goal.open_collection-requires-clause-standing
+open_collection-requires-clause-standing c = record { boundary = c.skip_whites-place.ensures.boundary; progress = c.requires.progress; escapes = c.requires.escapes }
+
+pub take_content-requires : goal.take_content-requires
+take_content-requires c = record { boundary = c.skip_whites-place.ensures.boundary; progress = c.requires.progress; escapes = c.requires.escapes }

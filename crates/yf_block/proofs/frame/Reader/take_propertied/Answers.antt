@@ -68,3 +68,6 @@ end_line-requires c = let p = c.requires.standing.progress in record { boundary 
 
 pub place_after-requires : goal.place_after-requires
 place_after-requires c = c.requires.inner.boundary
+
+pub take_after_properties-requires : goal.take_after_properties-requires
+take_after_properties-requires c = let p = c.in-Some-place_after.ensures.place in record { standing = record { boundary = p.boundary; progress = c.requires.standing.progress; escapes = c.requires.standing.escapes }; start = c.requires.standing.boundary; properties = (c.requires.inner, p.order) }

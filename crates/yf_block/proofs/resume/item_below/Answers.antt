@@ -1,0 +1,19 @@
+use Rattle.std.proofs.Common.{ℕ, reverse, sym, subst}
+use Rattle.yf_block.specs.NextItems.{TopSequence}
+use Rattle.yf_block.proofs.resume.item_below.Goals as goal
+
+pub returns-in-None-clause-item : goal.returns-in-None-clause-item
+returns-in-None-clause-item c = tt
+
+pub returns-in-None-clause-boundary : goal.returns-in-None-clause-boundary
+returns-in-None-clause-boundary c = tt
+
+pub returns-then-dash_stands-clause-item : goal.returns-then-dash_stands-clause-item
+returns-then-dash_stands-clause-item c = record {
+  starts = c.in-Some.is;
+  top = subst (λ (z : ℕ). TopSequence (reverse c.args.frames.now.items) z) (sym c.if-start-at.true) c.in-Some-top_sequence.ensures;
+  dash = c.if-dash_stands.ensures.cases;
+}
+
+pub returns-then-dash_stands-clause-boundary : goal.returns-then-dash_stands-clause-boundary
+returns-then-dash_stands-clause-boundary c = c.dash_stands.ensures.boundary c.if-dash_stands.true
