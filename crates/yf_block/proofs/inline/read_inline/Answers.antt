@@ -4,6 +4,7 @@ use Rattle.std.proofs.lemmas.Result.{IfOk-weaker}
 use Rattle.std.specs.Str.{IsCharBoundary}
 use Rattle.yf_block.specs.InlineAnswers.{alias_after, empty_key_read}
 use Rattle.yf_block.proofs.InlineLemmas.{alias_there, content_ends, empty_written}
+use Rattle.yf_block.proofs.LookLemmas.{found_after}
 use Rattle.yf_block.proofs.CountedSteps.{later, held_below}
 use Rattle.yf_block.proofs.inline.read_inline.Goals as goal
 
@@ -67,3 +68,6 @@ returns-in-Some-inner-clause-found c = tt
 
 pub returns-in-None-inner-clause-found : goal.returns-in-None-inner-clause-found
 returns-in-None-inner-clause-found c = rw c.in-None-inner.is c.read_alias.ensures.found
+
+pub returns-else-stands-clause-found : goal.returns-else-stands-clause-found
+returns-else-stands-clause-found c = IfOk-weaker c.read_content_with.result _ _ (λ e. found_after c.args.scope.text.now c.args.at c.args.inner.now e c.requires.properties) c.read_content_with.ensures.found

@@ -45,3 +45,6 @@ returns c = record {
 
 pub take_entry-requires : goal.take_entry-requires
 take_entry-requires c = record { boundary = c.requires.boundary; progress = c.requires.progress; escapes = c.requires.escapes }
+
+pub await_node-requires : goal.await_node-requires
+await_node-requires c = let b = c.sign_stands.ensures.boundary c.if-sign_stands.true in omega (arith, b.0)

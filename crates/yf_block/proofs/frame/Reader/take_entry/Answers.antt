@@ -85,3 +85,9 @@ returns c = record {
 
 pub take_key-requires : goal.take_key-requires
 take_key-requires c = record { boundary = subst (λ (z : ℕ). IsCharBoundary c.args.scope.text.now z) (sym c.entry_at-entry.ensures.start) c.requires.boundary; progress = c.requires.progress; escapes = c.requires.escapes }
+
+pub await_node-requires : goal.await_node-requires
+await_node-requires c = let b = c.sign_stands.ensures.boundary c.if-sign_stands.true in omega (arith, b.0)
+
+pub await_value-requires : goal.await_value-requires
+await_value-requires c = let b = c.sign_stands-2.ensures.boundary c.if-sign_stands-2.true in omega (arith, b.0)

@@ -6,6 +6,7 @@ use Rattle.yf_block.specs.declared.frame.Kind.TheVariants.{Mapping}
 use Rattle.yf_block.specs.ContentTied.{AtFirstKey}
 use Rattle.yf_block.proofs.ContentMappings.{key_reads, key_no_feed, key_within, first_key_awaits}
 use Rattle.yf_block.proofs.TiedNodes.{node_tied, entry_same}
+use Rattle.yf_block.proofs.LookLemmas.{properties_before}
 use Rattle.yf_block.proofs.TiedOpenings.{room_there}
 use Rattle.yf_block.proofs.CountedSteps.{pushed_counted}
 use Rattle.yf_block.proofs.MovedLemmas.{awaited_moved}
@@ -44,3 +45,9 @@ begin_mapping-requires-clause-place c = c.requires.standing.standing.boundary
 
 pub begin_mapping-requires-clause-escapes : goal.begin_mapping-requires-clause-escapes
 begin_mapping-requires-clause-escapes c = c.requires.standing.standing.escapes
+
+pub begin_mapping-requires-clause-properties : goal.begin_mapping-requires-clause-properties
+begin_mapping-requires-clause-properties c = properties_before c.args.scope.text.now c.args.after.now.node_start.at c.args.after.now.at c.args.after.now.inner c.requires.standing.properties
+
+pub await_value-requires : goal.await_value-requires
+await_value-requires c = omega (arith, c.requires.next.0)

@@ -108,3 +108,6 @@ skip_whites-colon-requires c = let f = rw c.in-End.is at c.in_ok-node-in-At.ensu
 
 pub key_ends-requires : goal.key_ends-requires
 key_ends-requires c = c.requires.standing.boundary
+
+pub await_value-requires : goal.await_value-requires
+await_value-requires c = let b = c.key_ends.ensures.boundary c.if-key_ends.true in omega (arith, b.0)

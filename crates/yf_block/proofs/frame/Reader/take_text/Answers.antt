@@ -1,6 +1,7 @@
 use Rattle.std.proofs.Common.{◌≡◌, ◌+◌, reverse, length, arith}
 use Rattle.std.proofs.lemmas.List.{length-reverse}
 use Rattle.yf_block.proofs.ContentSteps.{text_properties, scalar_apart, scalar_there, nothing_read}
+use Rattle.yf_block.proofs.LookLemmas.{properties_before}
 use Rattle.yf_block.proofs.TiedOpenings.{room_there}
 use Rattle.yf_block.proofs.CountedSteps.{later, held_later, held_after}
 use Rattle.yf_block.proofs.MovedLemmas.{deep_moved, failed_moved, moved_later}
@@ -92,3 +93,9 @@ read_inline-requires-clause-escapes c = c.requires.standing.escapes
 
 pub finish_inline-requires-clause-standing : goal.finish_inline-requires-clause-standing
 finish_inline-requires-clause-standing c = record { standing = record { boundary = c.requires.standing.boundary; progress = c.requires.standing.progress; escapes = c.in_ok-node.ensures.escapes }; start = c.requires.start; properties = c.requires.properties }
+
+pub read_inline-requires-clause-properties : goal.read_inline-requires-clause-properties
+read_inline-requires-clause-properties c = properties_before c.args.scope.text.now c.args.after.now.node_start.at c.args.after.now.at c.args.after.now.inner c.requires.properties
+
+pub finish_inline-requires-clause-node : goal.finish_inline-requires-clause-node
+finish_inline-requires-clause-node c = let f = rw c.in-End.is at c.in_ok-node.ensures.found in let l = held_later c.args.scope.text.now c.args.after.now.node_start.at c.args.after.now.at c.args.after.now.inner c.requires.properties in record { boundary = f.boundary; order = omega (arith, f.order, l) }
