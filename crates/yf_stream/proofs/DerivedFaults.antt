@@ -1,23 +1,19 @@
 -- Refusals and their faults: what has been read of a stream is its reading, or tells why it has none.
-use Rattle.std.proofs.Common.{◌≡◌, ℕ, List, Option, None, Some, Result, Ok, Err, IfOk, MatchOption, sym, subst}
+use Rattle.std.proofs.Common.{◌≡◌, ℕ, List, Option, Result, Ok, Err, IfOk, subst}
 use Rattle.std.specs.List.{All}
 use Rattle.std.specs.Str.{IsCharBoundary, IsUtf8}
 use Rattle.std.specs.declared.alloc.AllocError.{AllocError}
 use Rattle.yf_lines.specs.declared.fault.Fault.{Fault}
-use Rattle.yf_events.specs.Nested.{IsStream}
-use Rattle.yf_events.specs.Reading.{events_of}
 use Rattle.yf_events.specs.declared.lists.Lists.{Lists}
-use Rattle.yf_events.specs.declared.reading.TheConstants.{DEPTH}
 use Rattle.yf_stream.specs.DerivedStreams.{ListsDerived, NotDerived, RefusalDerived, ShapeOr, ShapeRead}
 use Rattle.yf_stream.specs.NotedLists.{FaultAt, IsFirstBreach, NotedOr, breached as told_at, for_memory, no_stream as no_stream_at, too_deep as too_deep_at}
 use Rattle.yf_stream.specs.Refusal.{IsStreamFault}
 use Rattle.yf_stream.specs.RefusalPlaces.{DocumentsAt}
-use Rattle.yf_stream.specs.StreamReader.{StreamFault, TheReading, breached, for_memory as memory_refused, no_stream, too_deep}
+use Rattle.yf_stream.specs.StreamReader.{StreamFault, breached, for_memory as memory_refused, no_stream, too_deep}
 use Rattle.yf_stream.specs.declared.documents.Parts.{Parts}
 use Rattle.yf_stream.specs.declared.stream.Refusal.{Refusal}
 use Rattle.yf_stream.specs.declared.stream.Refusal.TheVariants as Refusals
 use Rattle.yf_stream.proofs.BreachBoundaries.{first_told}
-use Rattle.yf_stream.proofs.NestedStreams.{reading_nests}
 use Rattle.yf_stream.proofs.ReadingMade.{first_breach, reading_made}
 
 first_derived : {t : List ℕ} (p : Parts) (refusal : Refusal) → IsUtf8 t → ShapeRead t p → DocumentsAt t p.documents → All (IsCharBoundary t) p.part.escapes → IsFirstBreach p refusal
@@ -41,23 +37,8 @@ not_derived_refusal t (Refusals.TooDeep offset) n = n
 pub shape_of : (t : List ℕ) (q : Parts) {r : Result (Option Refusal) AllocError} {o p : Option Refusal} → IfOk r (λ o. ShapeOr t q o) → r ≡ Ok o → o ≡ p → ShapeOr t q p
 shape_of t q i e f = subst (λ w. ShapeOr t q w) f (subst (λ z. IfOk z (λ o. ShapeOr t q o)) e i)
 
-pub lists_of : (t : List ℕ) {r : Result (Result Lists Refusal) AllocError} {o p : Result Lists Refusal} → IfOk r (λ o. ListsDerived t o) → r ≡ Ok o → o ≡ p → ListsDerived t p
-lists_of t i e f = subst (λ w. ListsDerived t w) f (subst (λ z. IfOk z (λ o. ListsDerived t o)) e i)
-
 pub fault_derived : {t : List ℕ} {refusal : Refusal} {fault : Fault} → FaultAt t refusal fault → IsStreamFault t fault → RefusalDerived t refusal → StreamFault t fault
 fault_derived for_memory i d = memory_refused
 fault_derived (no_stream_at p) i d = no_stream d i
 fault_derived (too_deep_at p) i d = too_deep d.0 d.1 i
 fault_derived (told_at f e) i d = breached d.shapes d.first (f d.place) e
-
--- a reading that is made of lists
-pub is_built : {t : List ℕ} {lists r : Lists} {o : Option Lists} → MatchOption o (IsStream DEPTH (events_of lists) → ⊥) (λ r. (r ≡ lists) × IsStream DEPTH (events_of r)) → o ≡ Some r
-    → TheReading t lists → TheReading t r
-is_built {t} {lists} b e l =
-    let c = subst (λ z. MatchOption z (IsStream DEPTH (events_of lists) → ⊥) (λ r. (r ≡ lists) × IsStream DEPTH (events_of r))) e b in
-    subst (λ z. TheReading t z) (sym c.0) l
-
--- of the lists of a text's reading a reading is built
-pub not_unbuilt : {t : List ℕ} {lists : Lists} {o : Option Lists} → MatchOption o (IsStream DEPTH (events_of lists) → ⊥) (λ r. (r ≡ lists) × IsStream DEPTH (events_of r)) → o ≡ None
-    → TheReading t lists → ⊥
-not_unbuilt {t} {lists} b e l = subst (λ z. MatchOption z (IsStream DEPTH (events_of lists) → ⊥) (λ r. (r ≡ lists) × IsStream DEPTH (events_of r))) e b (reading_nests l.reads)

@@ -13,6 +13,7 @@ pub mod OneReading
 pub mod DirectiveOrder
 pub mod BrokenEnds
 pub mod DocumentPlaces
+pub mod DraftedReadings
 pub mod ReadingOrder
 pub mod ReadingTrees
 -- these laws hold

@@ -6,6 +6,7 @@ pub mod DerivedStreams
 pub mod DirectiveReaders
 pub mod DocumentReaders
 pub mod DocumentSteps
+pub mod Drafts
 pub mod EmptyDocument
 pub mod HasReading
 pub mod InLine

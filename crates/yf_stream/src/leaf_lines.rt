@@ -1,12 +1,12 @@
 //! Which comments stand on the line on which a leaf ends. A leaf is a scalar, an alias or an empty collection.
-ghost use Rattle.std.specs.Prelude.{◌≡◌, ℕ, ◌<◌, ◌≤◌, List, None, drop, length, map, IfOk, MatchBool};
+ghost use Rattle.std.specs.Prelude.{◌≡◌, ℕ, ◌<◌, ◌≤◌, [], List, None, drop, length, map, IfOk, MatchBool};
 ghost use Rattle.yf_comments.specs.Comment.{comment_value};
 ghost use Rattle.yf_lines.specs.Lines.{AreLines};
 ghost use Rattle.yf_lines.specs.declared.line.Line.{Line};
 ghost use Rattle.yf_stream.specs.LeafSearch.{BegunAt, LastLeaf};
 ghost use Rattle.yf_stream.specs.LeafPass.{BeginsLine, NextLine, StandInOrder, StandsInLine, StopsAt, end_on_line, last_end, leaf_spans};
 
-use std::alloc::{AllocError, Global};
+use std::alloc::AllocError;
 use yf_comments::comment::Comment;
 use yf_comments::comments::Comments;
 use yf_events::events::Events;
@@ -23,16 +23,16 @@ struct Seen {
 
 /// For each comment, whether it stands on the line on which the last leaf with characters that begins before it ends.
 pub(crate) fn on_leaf_lines(
-    alloc: Global,
     text: &str,
     events: &Events,
     comments: &Comments,
-) -> Result<Row<bool>, AllocError>
-    ensures count { IfOk result (λ notes. length notes ≡ length comments.now) }
-    ensures notes { IfOk result (λ notes. (ls : List Line) → AreLines text.now ls → StandInOrder text.now events.now comments.now
-        → notes ≡ map (λ c. end_on_line ls (last_end None c.offset (leaf_spans events.now)) c.offset) comments.now) }
+    notes: &mut Row<bool>,
+) -> Result<(), AllocError>
+    requires { notes.old ≡ [] }
+    ensures count { IfOk result (λ _. length notes.new ≡ length comments.now) }
+    ensures notes { IfOk result (λ _. (ls : List Line) → AreLines text.now ls → StandInOrder text.now events.now comments.now
+        → notes.new ≡ map (λ c. end_on_line ls (last_end None c.offset (leaf_spans events.now)) c.offset) comments.now) }
 {
-    let mut notes = Row::new(alloc);
     let mut seen = Seen {
         events: 0,
         leaf_end: None,
@@ -42,7 +42,7 @@ pub(crate) fn on_leaf_lines(
         seen = leaves_before(events, comment.offset, seen);
         notes.push(ends_on_line(text, seen.leaf_end, comment))?;
     }
-    Ok(notes)
+    Ok(())
 }
 
 // Goes on to the last leaf that begins before the offset.

@@ -34,24 +34,22 @@ pub(crate) fn resolve<'a>(
     events: &Events<'a>,
     documents: &Documents<'a>,
     escapes: &Row<usize>,
-) -> Result<Resolved<'a>, AllocError>
-    ensures first { IfOk result (λ r. FirstOf (stream_breaches documents.now events.now escapes.now) r.first) }
-    ensures tags { IfOk result (λ r. r.first ≡ None → PassTags documents.now [] events.now r.tags) }
+    resolved: &mut Resolved<'a>,
+) -> Result<(), AllocError>
+    requires nothing { resolved.old ≡ record { tags = []; first = None } }
+    ensures first { IfOk result (λ _. FirstOf (stream_breaches documents.now events.now escapes.now) resolved.new.first) }
+    ensures tags { IfOk result (λ _. resolved.new.first ≡ None → PassTags documents.now [] events.now resolved.new.tags) }
 {
-    let mut resolved = Resolved {
-        tags: Tags::new(alloc),
-        first: None,
-    };
     keep_escapes(&mut resolved.first, escapes.as_slice());
     let documents = documents.as_slice();
-    let mut at = resolve_events(alloc, events, 0, None, &mut resolved)?;
+    let mut at = resolve_events(alloc, events, 0, None, resolved)?;
     let mut begun = 0;
     'documents: while at < events.len() {
         resolved.tags.push(None)?;
-        at = resolve_events(alloc, events, at + 1, documents.get(begun), &mut resolved)?;
+        at = resolve_events(alloc, events, at + 1, documents.get(begun), resolved)?;
         begun += 1;
     }
-    Ok(resolved)
+    Ok(())
 }
 
 // Resolves the tags of the events from an index on, in a document with these directives, up to where the next one starts, and gives the
@@ -70,26 +68,37 @@ fn resolve_events<'e, 'a>(
         resolved.old.first resolved.new.first resolved.old.tags resolved.new.tags) }
 {
     let mut handles = Prefixes::new(alloc);
-    declare_handles(document, &mut handles, &mut resolved.first)?;
     let mut anchors = Anchors::new(alloc);
-    resolve_from(alloc, events, start, &handles, &mut anchors, resolved)
+    resolve_from(
+        alloc,
+        events,
+        start,
+        document,
+        &mut handles,
+        &mut anchors,
+        resolved,
+    )
 }
 
-// The same with the handles of the document, and with the anchors that have occurred in it. Most events have nothing that is to be noted.
+// The same with the names of the document, of which there are none yet. Most events have nothing that is to be noted.
 fn resolve_from<'e, 'a>(
     alloc: Global,
     events: &'e Events<'a>,
     start: usize,
-    handles: &Prefixes<'a>,
+    document: Option<&Doc<'a>>,
+    handles: &mut Prefixes<'a>,
     anchors: &mut Anchors<'e>,
     resolved: &mut Resolved<'a>,
 ) -> Result<usize, AllocError>
-    requires { start ≤ length events.now }
+    requires start { start ≤ length events.now }
+    requires handles { handles.old ≡ [] }
+    requires anchors { anchors.old ≡ [] }
     ensures end { IfOk result (λ end. (start ≤ end) × (end ≤ length events.now)) }
     ensures next { IfOk result (λ end. StartsDocument (drop end events.now)) }
-    ensures passes { IfOk result (λ end. AllPassed events.now handles.now start end resolved.old.first resolved.new.first
-        anchors.old anchors.new resolved.old.tags resolved.new.tags) }
+    ensures resolves { IfOk result (λ end. Resolves events.now (directives_of document.entry) start end
+        resolved.old.first resolved.new.first resolved.old.tags resolved.new.tags) }
 {
+    declare_handles(document, handles, &mut resolved.first)?;
     let mut at = pass_bare(events, start, &mut resolved.tags)?;
     'events: while at < events.len() {
         if document_starts(events, at) {

@@ -1,11 +1,13 @@
 //! The reader of whole streams.
-ghost use Rattle.std.specs.Prelude.{◌≡◌, ◌+◌, ◌-◌, ◌<◌, ◌≤◌, ◌^◌, length, IfErr, IfOk, IfSome, MatchResult};
+ghost use Rattle.std.specs.Prelude.{◌≡◌, ◌+◌, ◌-◌, ◌<◌, ◌≤◌, ◌^◌, [], length, IfErr, IfOk, IfSome, MatchOption, MatchResult};
 ghost use Rattle.std.specs.Str.{IsCharBoundary};
-ghost use Rattle.yf_events.specs.Reading.{Fits};
+ghost use Rattle.yf_events.specs.Nested.{IsStream};
+ghost use Rattle.yf_events.specs.Reading.{Fits, events_of};
 ghost use Rattle.yf_lines.specs.FaultPlaces.{InText, IsPlaceOf};
 ghost use Rattle.yf_stream.specs.DerivedParts.{no_parts};
 ghost use Rattle.yf_stream.specs.DerivedStreams.{ListsDerived, ShapeOr};
 ghost use Rattle.yf_stream.specs.MadeReadings.{MadeOr, MadeReading, NoBreach};
+ghost use Rattle.yf_stream.specs.Drafts.{drafted, lists_of, nothing_drafted};
 ghost use Rattle.yf_stream.specs.NotedLists.{FaultAt, NotedOr};
 ghost use Rattle.yf_stream.specs.PartsPlaces.{PartsAt};
 ghost use Rattle.yf_stream.specs.Refusal.{IsStreamFault};
@@ -21,7 +23,9 @@ use std::alloc::{AllocError, Global};
 use yf_events::event::NewEvent;
 use yf_events::lists::Lists;
 use yf_events::part::Part;
-use yf_events::reading::Reading;
+use yf_events::reading::{DEPTH, Reading};
+use yf_events::row::Row;
+use yf_events::tags::Tags;
 use yf_lines::fault::Fault;
 use yf_lines::place::Place;
 use yf_lines::table::LineTable;
@@ -32,6 +36,14 @@ enum Refusal {
     Syntax(usize),
     TooDeep(usize),
     Breach(Breach),
+}
+
+// What is made of a text: the parts that are read of it, and what is noted of them.
+#[derive(Drop)]
+struct Draft<'a> {
+    parts: Parts<'a>,
+    resolved: Resolved<'a>,
+    on_leaf_line: Row<bool>,
 }
 
 /// The most bytes that a text may have of which a reading is made: 1 GiB. A reading keeps offsets in 32 bits, and no column is larger.
@@ -57,15 +69,62 @@ pub fn read_stream<'a>(alloc: Global, text: &'a str) -> Result<Reading<'a>, Faul
     if text.len() > LONGEST {
         return Err(Fault::Memory);
     }
-    match read_lists(alloc, text) {
-        Ok(Ok(lists)) => match Reading::build(alloc, lists) {
-            Ok(Some(reading)) => Ok(reading),
-            // The events of a stream are well nested, within the limit: so there is a reading.
-            Ok(None) => unreachable!(),
-            Err(_) => Err(Fault::Memory),
+    let mut draft = Draft {
+        parts: Parts::new(alloc),
+        resolved: Resolved {
+            tags: Tags::new(alloc),
+            first: None,
         },
-        Ok(Err(refusal)) => Err(fault_at(alloc, text, refusal)),
-        Err(AllocError) => Err(Fault::Memory),
+        on_leaf_line: Row::new(alloc),
+    };
+    match fill(alloc, text, &mut draft) {
+        Ok(None) => built(alloc, into_lists(draft)),
+        Ok(Some(refusal)) => {
+            drop(draft);
+            Err(fault_at(alloc, text, refusal))
+        }
+        Err(AllocError) => {
+            drop(draft);
+            Err(Fault::Memory)
+        }
+    }
+}
+
+// The reading of these lists. The events of a stream are well nested, within the limit: so there is one.
+fn built<'a>(alloc: Global, lists: Lists<'a>) -> Result<Reading<'a>, Fault>
+    requires fits { Fits lists }
+    requires nested { IsStream DEPTH (events_of lists) }
+    ensures { MatchResult result (λ reading. reading ≡ lists.entry) (λ fault. fault ≡ Fault.Memory) }
+{
+    match Reading::build(alloc, lists) {
+        Ok(Some(reading)) => Ok(reading),
+        Ok(None) => unreachable!(),
+        Err(_) => Err(Fault::Memory),
+    }
+}
+
+fn into_lists<'a>(draft: Draft<'a>) -> Lists<'a>
+    ensures { result ≡ lists_of draft.entry }
+{
+    let Draft {
+        parts: Parts {
+            part: Part {
+                events,
+                comments,
+                escapes,
+            },
+            documents,
+        },
+        resolved: Resolved { tags, .. },
+        on_leaf_line,
+    } = draft;
+    Lists {
+        events,
+        resolved: tags,
+        comments,
+        on_leaf_line,
+        documents,
+        escapes,
     }
 }
 
@@ -116,51 +175,50 @@ fn place_of(table: &LineTable, text: &str, offset: usize) -> Place
     table.place(0)
 }
 
-// The lists of the stream's reading, or why there is none.
-fn read_lists<'a>(alloc: Global, text: &'a str) -> Result<Result<Lists<'a>, Refusal>, AllocError>
-    ensures made { IfOk result (λ r. MadeOr text.now r) }
-    ensures reads { length text.now ≤ 2 ^ 30 → IfOk result (λ r. ListsDerived text.now r) }
-    ensures refusal { IfOk result (λ r. MatchResult r (λ lists. Fits lists) (λ refusal. RefusalAt text.now refusal)) }
-{
-    let mut parts = Parts::new(alloc);
-    if let Some(refusal) = read_documents(alloc, text, &mut parts)? {
-        return Ok(Err(refusal));
-    }
-    noted_lists(alloc, text, parts)
-}
-
-// The lists of the parts with resolved tags and the notes of comments, or the first breach.
-fn noted_lists<'a>(
+// Drafts the stream's reading, or says why there is none.
+fn fill<'a>(
     alloc: Global,
     text: &'a str,
-    parts: Parts<'a>,
-) -> Result<Result<Lists<'a>, Refusal>, AllocError>
-    requires { PartsAt text.now parts }
-    ensures noted { IfOk result (λ r. NotedOr text.now parts.entry r) }
-    ensures refusal { IfOk result (λ r. MatchResult r (λ lists. Fits lists) (λ refusal. RefusalAt text.now refusal)) }
+    draft: &mut Draft<'a>,
+) -> Result<Option<Refusal>, AllocError>
+    requires nothing { draft.old ≡ nothing_drafted }
+    ensures made { IfOk result (λ o. MadeOr text.now (drafted draft.new o)) }
+    ensures reads { length text.now ≤ 2 ^ 30 → IfOk result (λ o. ListsDerived text.now (drafted draft.new o)) }
+    ensures refusal { IfOk result (λ o. MatchOption o (Fits (lists_of draft.new)) (λ refusal. RefusalAt text.now refusal)) }
 {
-    let Parts {
-        part: Part {
-            events,
-            comments,
-            escapes,
-        },
-        documents,
-    } = parts;
-    let Resolved { tags, first } = resolve(alloc, &events, &documents, &escapes)?;
-    match first {
-        Some(breach) => return Ok(Err(Refusal::Breach(breach))),
+    if let Some(refusal) = read_documents(alloc, text, &mut draft.parts)? {
+        return Ok(Some(refusal));
+    }
+    note(alloc, text, draft)
+}
+
+// Resolves the tags of the parts and notes which comments stand on the lines of leaves, or tells of the first breach.
+fn note<'a>(
+    alloc: Global,
+    text: &'a str,
+    draft: &mut Draft<'a>,
+) -> Result<Option<Refusal>, AllocError>
+    requires parts { PartsAt text.now draft.old.parts }
+    requires resolved { draft.old.resolved ≡ record { tags = []; first = None } }
+    requires notes { draft.old.on_leaf_line ≡ [] }
+    ensures noted { IfOk result (λ o. NotedOr text.now draft.old.parts (drafted draft.new o)) }
+    ensures refusal { IfOk result (λ o. MatchOption o (Fits (lists_of draft.new)) (λ refusal. RefusalAt text.now refusal)) }
+{
+    let parts = &draft.parts;
+    let part = &parts.part;
+    resolve(
+        alloc,
+        &part.events,
+        &parts.documents,
+        &part.escapes,
+        &mut draft.resolved,
+    )?;
+    match draft.resolved.first {
+        Some(breach) => return Ok(Some(Refusal::Breach(breach))),
         None => {}
     }
-    let on_leaf_line = on_leaf_lines(alloc, text, &events, &comments)?;
-    Ok(Ok(Lists {
-        events,
-        resolved: tags,
-        comments,
-        on_leaf_line,
-        documents,
-        escapes,
-    }))
+    on_leaf_lines(text, &part.events, &part.comments, &mut draft.on_leaf_line)?;
+    Ok(None)
 }
 
 // Reads all documents, or says why the text is no stream.

@@ -4,7 +4,7 @@ use Rattle.yf_stream.proofs.LeafLemmas.{all_noted, noted_nothing, noted_on}
 use Rattle.yf_stream.proofs.leaf_lines.on_leaf_lines.Goals as goal
 
 pub comments-init : goal.comments-init
-comments-init c = noted_nothing c.args.text.now c.args.events.now c.args.comments.now c.new-notes.ensures
+comments-init c = noted_nothing c.args.text.now c.args.events.now c.args.comments.now c.requires
 
 pub comments-preserved : goal.comments-preserved
 comments-preserved c =

@@ -1,11 +1,12 @@
 use Rattle.std.proofs.Common.{arith}
 use Rattle.yf_stream.proofs.BareRuns.{all_then}
+use Rattle.yf_stream.proofs.PassLemmas.{document_passed}
 use Rattle.yf_stream.proofs.PassSteps.{event_at, named_passed, none_starts, passing_step, starts_at}
 use Rattle.yf_stream.proofs.resolve.resolve_from.Goals as goal
 
 pub events-init : goal.events-init
 events-init c = record {
-  passed = c.in_ok-at.ensures.passed.passed c.args.handles.now _ _;
+  passed = c.in_ok-at.ensures.passed.passed c.declare_handles.new.handles _ _;
   later = c.in_ok-at.ensures.end.0;
   within = c.in_ok-at.ensures.end.1;
 }
@@ -16,13 +17,25 @@ events-preserved c =
     record {
       passed = all_then (passing_step c.events.invariant.passed c.document_starts.ensures c.if-document_starts.false
           (named_passed c.in_ok-add_tag.ensures event c.start_of.ensures c.in_ok-note_event.ensures.found c.in_ok-note_event.ensures.names))
-          (c.in_ok-at-2.ensures.passed.passed c.args.handles.now _ _);
+          (c.in_ok-at-2.ensures.passed.passed c.declare_handles.new.handles _ _);
       later = omega (arith, c.in_ok-at-2.ensures.end.0, c.events.invariant.later);
       within = c.in_ok-at-2.ensures.end.1;
     }
 
-pub returns-then-document_starts-clause-next : goal.returns-then-document_starts-clause-next
-returns-then-document_starts-clause-next c = starts_at c.document_starts.ensures c.if-document_starts.true
+pub returns-then-document_starts : goal.returns-then-document_starts
+returns-then-document_starts c =
+    let next = starts_at c.document_starts.ensures c.if-document_starts.true in
+    record {
+      end = (c.events.invariant.later, c.events.invariant.within);
+      next = next;
+      resolves = document_passed c.requires.handles c.requires.anchors c.in_ok-declare_handles.ensures.handles c.in_ok-declare_handles.ensures.found next c.events.invariant.passed;
+    }
 
-pub returns-clause-next : goal.returns-clause-next
-returns-clause-next c = none_starts c.args.events.now c.events.at (omega (arith, c.len.ensures, c.events-test.false))
+pub returns : goal.returns
+returns c =
+    let next = none_starts c.args.events.now c.events.at (omega (arith, c.len.ensures, c.events-test.false)) in
+    record {
+      end = (c.events.invariant.later, c.events.invariant.within);
+      next = next;
+      resolves = document_passed c.requires.handles c.requires.anchors c.in_ok-declare_handles.ensures.handles c.in_ok-declare_handles.ensures.found next c.events.invariant.passed;
+    }

@@ -4,7 +4,7 @@ use Rattle.yf_stream.proofs.resolve.resolve_from.Given as goal
 
 abbrev pub invariant-events : goal.invariant-events
 invariant-events l = record {
-  passed : AllPassed l.events l.handles l.start l.at l.fn.resolved.first l.resolved.first l.fn.anchors l.anchors l.fn.resolved.tags l.resolved.tags;
+  passed : AllPassed l.events l.handles l.start l.at l.initial.resolved.first l.resolved.first l.fn.anchors l.anchors l.fn.resolved.tags l.resolved.tags;
   later : l.start ≤ l.at;
   within : l.at ≤ length l.events;
 }

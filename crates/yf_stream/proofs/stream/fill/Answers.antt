@@ -1,9 +1,10 @@
 use Rattle.std.proofs.Common.{IfSome, subst}
 use Rattle.std.proofs.lemmas.Result.{IfOk-weaker}
+use Rattle.yf_stream.specs.Drafts.{drafted}
 use Rattle.yf_stream.specs.MadeReadings.{NoBreach}
 use Rattle.yf_stream.proofs.DerivedFaults.{lists_derived, not_derived_refusal, shape_of}
 use Rattle.yf_stream.proofs.MadeReadings.{made_or, not_derived}
-use Rattle.yf_stream.proofs.stream.read_lists.Goals as goal
+use Rattle.yf_stream.proofs.stream.fill.Goals as goal
 
 pub returns-in-Some-clause-made : goal.returns-in-Some-clause-made
 returns-in-Some-clause-made c =
@@ -14,9 +15,10 @@ returns-in-Some-clause-reads c = λ l.
     not_derived_refusal c.args.text.now c.in-Some.refusal (shape_of c.args.text.now c.read_documents.new.parts (c.read_documents.ensures.derived l) c.in_ok-refusal.was c.in-Some.is)
 
 pub returns-clause-made : goal.returns-clause-made
-returns-clause-made c = IfOk-weaker _ _ _ (λ r n. made_or _ r c.utf8.text c.in_ok-refusal.ensures.parts.documents c.in_ok-refusal.ensures.parts.escapes n) c.noted_lists.ensures.noted
+returns-clause-made c =
+    IfOk-weaker _ _ _ (λ o n. made_or _ (drafted c.note.new.draft o) c.utf8.text c.in_ok-refusal.ensures.parts.documents c.in_ok-refusal.ensures.parts.escapes n) c.note.ensures.noted
 
 pub returns-clause-reads : goal.returns-clause-reads
 returns-clause-reads c = λ l.
     let s = shape_of c.args.text.now c.read_documents.new.parts (c.read_documents.ensures.derived l) c.in_ok-refusal.was c.in_default.is in
-    IfOk-weaker _ _ _ (λ r n. lists_derived c.args.text.now _ r c.utf8.text s c.in_ok-refusal.ensures.parts.documents c.in_ok-refusal.ensures.parts.escapes n) c.noted_lists.ensures.noted
+    IfOk-weaker _ _ _ (λ o n. lists_derived c.args.text.now _ (drafted c.note.new.draft o) c.utf8.text s c.in_ok-refusal.ensures.parts.documents c.in_ok-refusal.ensures.parts.escapes n) c.note.ensures.noted
