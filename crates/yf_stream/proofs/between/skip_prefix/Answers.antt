@@ -28,10 +28,17 @@ lines-preserved-then-mark_stands c =
       events = c.lines.invariant.events;
     }
 
-pub returns-then-end-at-clause-reads : goal.returns-then-end-at-clause-reads
-returns-then-end-at-clause-reads c =
+pub returns-then-end-at : goal.returns-then-end-at
+returns-then-end-at c =
     let line = rw c.in-Some.is at c.in_ok-comments.ensures.reads in
-    prefix_settled c.lines.invariant.read c.if-mark_stands.ensures line c.in_ok-keep_comments-in-Some.ensures.kept c.if-end-at.true
+    record {
+      reads = prefix_settled c.lines.invariant.read c.if-mark_stands.ensures line c.in_ok-keep_comments-in-Some.ensures.kept c.if-end-at.true;
+      spot = refl;
+      place = c.lines.invariant.place;
+      events = c.in_ok-keep_comments-in-Some.ensures.events ∙ c.lines.invariant.events;
+      escapes = c.in_ok-keep_comments-in-Some.ensures.escapes ∙ c.lines.invariant.escapes;
+      documents = c.in_ok-keep_comments-in-Some.ensures.documents ∙ c.lines.invariant.documents;
+    }
 
 pub lines-preserved : goal.lines-preserved
 lines-preserved c =
@@ -45,7 +52,14 @@ lines-preserved c =
       events = c.in_ok-keep_comments-in-Some.ensures.events ∙ c.lines.invariant.events;
     }
 
-pub returns-in-None-clause-reads : goal.returns-in-None-clause-reads
-returns-in-None-clause-reads c =
+pub returns-in-None : goal.returns-in-None
+returns-in-None c =
     let line = rw c.in-None.is at c.in_ok-comments.ensures.reads in
-    record { upto = c.lines.invariant.read; no_mark = c.if-mark_stands.ensures; no_row = no_row line }
+    record {
+      reads = record { upto = c.lines.invariant.read; no_mark = c.if-mark_stands.ensures; no_row = no_row line };
+      spot = refl;
+      place = c.lines.invariant.place;
+      events = c.lines.invariant.events;
+      escapes = c.lines.invariant.escapes;
+      documents = c.lines.invariant.documents;
+    }

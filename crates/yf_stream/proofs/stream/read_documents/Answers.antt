@@ -28,20 +28,19 @@ documents-init c =
       derived = λ l. record { documents = only_comments []; read = reading_begins c.utf8.text; parts = events_begin _ refl refl c.requires.nothing c.in_ok-push_unplaced.ensures.parts; comments = comments_begin _ refl c.requires.nothing c.in_ok-push_unplaced.ensures.parts };
     }
 
-pub read_next-requires-clause-parts : goal.read_next-requires-clause-parts
-read_next-requires-clause-parts c =
-    let t = c.args.text.now in
-    record {
-      escapes = subst (All (IsCharBoundary t)) (sym c.in_ok-spot.ensures.escapes) c.documents.invariant.parts.escapes;
-      documents = subst (DocumentsAt t) (sym c.in_ok-spot.ensures.documents) c.documents.invariant.parts.documents;
-    }
+pub skip_prefix-requires : goal.skip_prefix-requires
+skip_prefix-requires c = c.documents.invariant.place
 
-pub returns-then-spot-text-clause-parts : goal.returns-then-spot-text-clause-parts
-returns-then-spot-text-clause-parts c =
+pub read_next-requires : goal.read_next-requires
+read_next-requires c =
     let t = c.args.text.now in
     record {
-      escapes = subst (All (IsCharBoundary t)) (sym (c.in_ok-push_unplaced-2.ensures.escapes ∙ c.in_ok-close.ensures.escapes ∙ c.in_ok-spot.ensures.escapes)) c.documents.invariant.parts.escapes;
-      documents = subst (DocumentsAt t) (sym (c.in_ok-push_unplaced-2.ensures.documents ∙ c.in_ok-close.ensures.documents ∙ c.in_ok-spot.ensures.documents)) c.documents.invariant.parts.documents;
+      boundary = c.in_ok-spot.ensures.place.boundary;
+      reached = subst (λ z. IsCharBoundary t z.reached) (sym c.in_ok-spot.ensures.spot) c.documents.invariant.reached;
+      parts = record {
+        escapes = subst (All (IsCharBoundary t)) (sym c.in_ok-spot.ensures.escapes) c.documents.invariant.parts.escapes;
+        documents = subst (DocumentsAt t) (sym c.in_ok-spot.ensures.documents) c.documents.invariant.parts.documents;
+      };
     }
 
 pub documents-preserved : goal.documents-preserved
@@ -63,27 +62,47 @@ documents-preserved c =
           record { documents = n.documents; read = n.read; parts = events_go_on c.utf8.text e pre.no_mark pre.no_row n.step; comments = comments_go_on c.utf8.text k n.step };
     }
 
-pub returns-then-spot-text-clause-derived : goal.returns-then-spot-text-clause-derived
-returns-then-spot-text-clause-derived c = λ l.
-    let i = c.documents.invariant.derived l in
-    let pre = c.in_ok-spot.ensures.reads in
-    let g = spot_on c.documents.spot c.in_ok-spot.spot c.utf8.text c.in_ok-spot.ensures.spot pre i.read in
-    let e = events_past_prefix c.in_ok-spot.ensures.spot pre c.in_ok-spot.ensures.events c.in_ok-spot.ensures.documents c.in_ok-spot.ensures.escapes i.parts in
-    let k = comments_past_prefix c.utf8.text c.in_ok-spot.ensures.spot pre c.in_ok-spot.ensures.events i.comments in
+pub returns-then-spot-text : goal.returns-then-spot-text
+returns-then-spot-text c =
+    let t = c.args.text.now in
     record {
-      documents = _;
-      shapes = reading_ends c.utf8.text c.if-spot-text.true g;
-      parts = stream_written c.if-spot-text.true pre.no_mark pre.no_row e k c.in_ok-close.ensures.parts c.in_ok-push_unplaced-2.ensures.parts;
+      refusal = tt;
+      underived = tt;
+      derived = λ l.
+          let i = c.documents.invariant.derived l in
+          let pre = c.in_ok-spot.ensures.reads in
+          let g = spot_on c.documents.spot c.in_ok-spot.spot c.utf8.text c.in_ok-spot.ensures.spot pre i.read in
+          let e = events_past_prefix c.in_ok-spot.ensures.spot pre c.in_ok-spot.ensures.events c.in_ok-spot.ensures.documents c.in_ok-spot.ensures.escapes i.parts in
+          let k = comments_past_prefix c.utf8.text c.in_ok-spot.ensures.spot pre c.in_ok-spot.ensures.events i.comments in
+          record {
+            documents = _;
+            shapes = reading_ends c.utf8.text c.if-spot-text.true g;
+            parts = stream_written c.if-spot-text.true pre.no_mark pre.no_row e k c.in_ok-close.ensures.parts c.in_ok-push_unplaced-2.ensures.parts;
+          };
+      parts = record {
+        escapes = subst (All (IsCharBoundary t)) (sym (c.in_ok-push_unplaced-2.ensures.escapes ∙ c.in_ok-close.ensures.escapes ∙ c.in_ok-spot.ensures.escapes)) c.documents.invariant.parts.escapes;
+        documents = subst (DocumentsAt t) (sym (c.in_ok-push_unplaced-2.ensures.documents ∙ c.in_ok-close.ensures.documents ∙ c.in_ok-spot.ensures.documents)) c.documents.invariant.parts.documents;
+      };
     }
 
-pub returns-in-Syntax-clause-derived : goal.returns-in-Syntax-clause-derived
-returns-in-Syntax-clause-derived c = λ l.
-    let g = spot_on c.documents.spot c.in_ok-spot.spot c.utf8.text c.in_ok-spot.ensures.spot c.in_ok-spot.ensures.reads (c.documents.invariant.derived l).read in
-    no_stream_read c.utf8.text c.in_ok-spot.spot c.in_ok-spot.ensures.reads c.if-spot-text.false g
-    (next_of c.args.text.now c.in_ok-spot.spot c.skip_prefix.new.parts c.read_next.new.self (c.read_next.ensures.reads l) c.in_ok-next.was c.in-Syntax.is)
+pub returns-in-Syntax : goal.returns-in-Syntax
+returns-in-Syntax c = record {
+  refusal = subst (NextAt c.args.text.now (c.in_ok-spot.spot.at + 1)) c.in-Syntax.is c.in_ok-next.ensures.next;
+  underived = tt;
+  derived = λ l.
+      let g = spot_on c.documents.spot c.in_ok-spot.spot c.utf8.text c.in_ok-spot.ensures.spot c.in_ok-spot.ensures.reads (c.documents.invariant.derived l).read in
+      no_stream_read c.utf8.text c.in_ok-spot.spot c.in_ok-spot.ensures.reads c.if-spot-text.false g
+      (next_of c.args.text.now c.in_ok-spot.spot c.skip_prefix.new.parts c.read_next.new.self (c.read_next.ensures.reads l) c.in_ok-next.was c.in-Syntax.is);
+  parts = c.in_ok-next.ensures.parts;
+}
 
-pub returns-in-TooDeep-clause-derived : goal.returns-in-TooDeep-clause-derived
-returns-in-TooDeep-clause-derived c = λ l.
-    let g = spot_on c.documents.spot c.in_ok-spot.spot c.utf8.text c.in_ok-spot.ensures.spot c.in_ok-spot.ensures.reads (c.documents.invariant.derived l).read in
-    too_deep_there c.utf8.text c.in_ok-spot.spot c.in_ok-spot.ensures.reads c.if-spot-text.false g
-    (next_of c.args.text.now c.in_ok-spot.spot c.skip_prefix.new.parts c.read_next.new.self (c.read_next.ensures.reads l) c.in_ok-next.was c.in-TooDeep.is)
+pub returns-in-TooDeep : goal.returns-in-TooDeep
+returns-in-TooDeep c = record {
+  refusal = subst (NextAt c.args.text.now (c.in_ok-spot.spot.at + 1)) c.in-TooDeep.is c.in_ok-next.ensures.next;
+  underived = tt;
+  derived = λ l.
+      let g = spot_on c.documents.spot c.in_ok-spot.spot c.utf8.text c.in_ok-spot.ensures.spot c.in_ok-spot.ensures.reads (c.documents.invariant.derived l).read in
+      too_deep_there c.utf8.text c.in_ok-spot.spot c.in_ok-spot.ensures.reads c.if-spot-text.false g
+      (next_of c.args.text.now c.in_ok-spot.spot c.skip_prefix.new.parts c.read_next.new.self (c.read_next.ensures.reads l) c.in_ok-next.was c.in-TooDeep.is);
+  parts = c.in_ok-next.ensures.parts;
+}

@@ -7,10 +7,22 @@ use Rattle.yf_stream.specs.DocumentSteps.{MarkedRead, at_dashes, at_dots, not_ba
 use Rattle.yf_stream.proofs.DocumentAnswers.{bare_of, documents_opened, no_directives_at, turned_false, turned_true}
 use Rattle.yf_stream.proofs.documents.Parts.read_next.Goals as goal
 
+pub returns-in-Some-DocumentEnd-clause-next : goal.returns-in-Some-DocumentEnd-clause-next
+returns-in-Some-DocumentEnd-clause-next c = c.read_suffix.ensures.next
+
+pub returns-in-Some-DocumentEnd-clause-parts : goal.returns-in-Some-DocumentEnd-clause-parts
+returns-in-Some-DocumentEnd-clause-parts c = c.read_suffix.ensures.parts
+
 pub returns-in-Some-DocumentEnd-clause-reads : goal.returns-in-Some-DocumentEnd-clause-reads
 returns-in-Some-DocumentEnd-clause-reads c = λ l.
     let m = subst (λ z. IsMarker c.args.source.text.now c.args.spot.at (Some z)) c.in-Some-DocumentEnd.field-0-is (subst (IsMarker c.args.source.text.now c.args.spot.at) c.in-Some-DocumentEnd.is c.marker_at.ensures.marker) in
     IfOk-weaker _ _ _ (λ next s. at_dots m.0 m.1 s) c.read_suffix.ensures.reads
+
+pub returns-in-Some-DocumentStart-clause-next : goal.returns-in-Some-DocumentStart-clause-next
+returns-in-Some-DocumentStart-clause-next c = c.explicit_document.ensures.next
+
+pub returns-in-Some-DocumentStart-clause-parts : goal.returns-in-Some-DocumentStart-clause-parts
+returns-in-Some-DocumentStart-clause-parts c = c.explicit_document.ensures.parts
 
 pub returns-in-Some-DocumentStart-clause-reads : goal.returns-in-Some-DocumentStart-clause-reads
 returns-in-Some-DocumentStart-clause-reads c = λ l.
@@ -34,6 +46,12 @@ root_node-requires-clause-parts c =
       escapes = subst (All (IsCharBoundary t)) (sym c.in_ok-open.ensures.escapes) c.requires.parts.escapes;
       documents = documents_opened t c.args.self.now c.skip_whites-start.result false c.new-2.result c.in_ok-open.ensures.parts c.requires.parts.documents (no_directives_at t c.new-2.ensures);
     }
+
+pub returns-clause-next : goal.returns-clause-next
+returns-clause-next c = c.root_node.ensures.next
+
+pub returns-clause-parts : goal.returns-clause-parts
+returns-clause-parts c = c.root_node.ensures.parts
 
 pub returns-clause-reads : goal.returns-clause-reads
 returns-clause-reads c = λ l.
