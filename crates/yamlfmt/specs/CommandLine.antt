@@ -2,8 +2,11 @@
 -- options is the command-line library's definition of a parse.
 use Rattle.std.specs.Prelude.{◌≡◌, ◌≢◌, ◌⊎◌, ⊤, Bool, true, false, List, [], Option, Some, None, IsSome, codes, MatchOption, IsSomeAnd}
 use Rattle.std.specs.Str.{bytes_eq}
-use Rattle.clap.specs.Words.{App, Row, Rule, Shape, Text, first_of, new_app, new_rule, subcommand_of, with_rule, with_subcommand, IsAmong, fault_of}
+use Rattle.clap.specs.Words.{app_of, rule_of, App, Row, Rule, Shape, Text, first_of, new_app, new_rule, subcommand_of, with_rule, with_subcommand, IsAmong, fault_of}
 use Rattle.clap.specs.Simple.{on_top}
+use Rattle.clap.specs.declared.builder.arg.Arg.{Arg}
+use Rattle.clap.specs.declared.builder.command.Command.{Command}
+use Rattle.clap.specs.declared.builder.command.Command.TheViews.{out-Command}
 use Rattle.clap.specs.declared.builder.action.ArgAction.TheVariants.{SetTrue}
 use Rattle.clap.specs.declared.error.kind.ErrorKind.{ErrorKind}
 use Rattle.clap.specs.declared.error.kind.ErrorKind.TheVariants.{DisplayHelp, DisplayVersion, OutOfMemory}
@@ -25,13 +28,17 @@ write_flag = record (new_rule (codes "write")) { long = Some (codes "write"); ac
 abbrev pub file_word : Rule
 file_word = record (new_rule (codes "file")) { value_names = 1 }
 
+-- `NAME [--config FILE]`
+abbrev pub configured : Text → App
+configured name = with_rule (new_app name) config_option
+
 -- `NAME [--config FILE] [FILE]`
 abbrev pub reading_command : Text → App
-reading_command name = with_rule (with_rule (new_app name) config_option) file_word
+reading_command name = with_rule (configured name) file_word
 
 -- `fmt [--config FILE] [--write] [FILE]`
 abbrev pub writing_command : App
-writing_command = with_rule (with_rule (with_rule (new_app (codes "fmt")) config_option) write_flag) file_word
+writing_command = with_rule (with_rule (configured (codes "fmt")) write_flag) file_word
 
 -- one of the commands is wanted; without any word, the help is the refusal; the program's name is not among the words;
 -- there is a version
@@ -49,6 +56,13 @@ yamlfmt =
     (reading_command (codes "events")).top)
     (reading_command (codes "check")).top)
     writing_command.top
+
+-- an option as a command takes it, and a command as part of another one: nothing of them is for other commands too
+abbrev pub IsOption : Arg → Rule → Type 0
+IsOption arg rule = (rule_of arg ≡ rule) × (arg.global ≡ false)
+
+abbrev pub IsPart : Command → App → Type 0
+IsPart command app = (app_of command ≡ app) × ((out-Command command).has_globals ≡ false)
 
 -- ---- what is asked for
 
@@ -87,10 +101,11 @@ Lacks met (Help text) = ⊥
 Lacks met (Wrong text) = NamesNoVerb met ⊎ WritesNoFile met
 Lacks met Memory = ⊤
 
-abbrev pub IsWrong : Usage → Type 0
-IsWrong (Help text) = ⊥
-IsWrong (Wrong text) = ⊤
-IsWrong Memory = ⊥
+-- the words are wrong, or there is no memory to say so
+abbrev pub IsRefusal : Usage → Type 0
+IsRefusal (Help text) = ⊥
+IsRefusal (Wrong text) = ⊤
+IsRefusal Memory = ⊤
 
 -- help or the version is asked for
 abbrev pub AsksText : ErrorKind → Type 0

@@ -1,9 +1,8 @@
 //! The command line: which command the words ask for.
-ghost use Rattle.std.specs.Prelude.{◌≡◌, ◌≢◌, false, map, IfOk, MatchOption, MatchResult, string_bytes};
-ghost use Rattle.clap.specs.Words.{app_of, first_of, found_of, kind_of, rows_of, rule_of, subcommand_rows_of};
-ghost use Rattle.clap.specs.declared.builder.command.Command.TheViews.{out-Command};
-ghost use Rattle.yamlfmt.specs.CommandLine.{bare_command, config_option, file_word, write_flag, reading_command, writing_command, yamlfmt};
-ghost use Rattle.yamlfmt.specs.CommandLine.{Answers, Asks, AsksFor, IsWrong, Lacks, RefusesWords, is_set, verb_word};
+ghost use Rattle.std.specs.Prelude.{◌≡◌, ◌≢◌, map, IfOk, MatchOption, MatchResult, string_bytes};
+ghost use Rattle.clap.specs.Words.{App, Rule, app_of, with_rule, with_subcommand, first_of, found_of, kind_of, rows_of, subcommand_rows_of};
+ghost use Rattle.yamlfmt.specs.CommandLine.{bare_command, config_option, configured, file_word, write_flag, reading_command, writing_command, yamlfmt};
+ghost use Rattle.yamlfmt.specs.CommandLine.{Answers, Asks, AsksFor, IsOption, IsPart, IsRefusal, Lacks, RefusesWords, is_set, verb_word};
 
 use crate::shown::shown_text;
 use clap::error::ErrorKind;
@@ -25,6 +24,22 @@ const FILE: &str = "file";
 
 /// The version: that of the newest part of CHANGELOG.md.
 const VERSION: &str = "0.2.0";
+
+/// The refusal of words that name no command.
+const NO_COMMAND: &str = "error: a command is missing
+
+Usage: yamlfmt <COMMAND>
+
+For more information, try '--help'.
+";
+
+/// The refusal of `--write` without a file.
+const NO_FILE: &str = "error: the argument '--write' needs a FILE
+
+Usage: yamlfmt fmt [OPTIONS] [FILE]
+
+For more information, try '--help'.
+";
 
 /// What is to be done with a stream.
 #[derive(Clone, Copy, PartialEq, Eq)]
@@ -91,34 +106,47 @@ pub fn parse_line(alloc: Global, words: &[String]) -> Result<Cmd, Usage>
 fn yamlfmt_command<'a>(alloc: Global) -> Result<Command<'a>, AllocError>
     ensures { IfOk result (λ c. app_of c ≡ yamlfmt) }
 {
-    let bare = bare_command(alloc)?;
-    let events = reading_command(alloc, EVENTS, "Print the events of a YAML stream")?;
-    let with_events = bare.subcommand(events)?;
+    let events = reading_command(alloc, EVENTS, "Print the events of a YAML stream");
     let check = reading_command(
         alloc,
         CHECK,
         "Print where a YAML stream departs from the house style",
-    )?;
-    let with_check = with_events.subcommand(check)?;
-    let fmt = fmt_command(alloc)?;
-    with_check.subcommand(fmt)
+    );
+    let with_events = with_part(bare_command(alloc), events);
+    let with_check = with_part(with_events, check);
+    with_part(with_check, fmt_command(alloc))
 }
 
 // The program's command before its subcommands.
 fn bare_command<'a>(alloc: Global) -> Result<Command<'a>, AllocError>
     ensures { IfOk result (λ c. app_of c ≡ bare_command) }
 {
-    let named = Command::new(alloc, "yamlfmt").bin_name("yamlfmt")?;
-    Ok(
-        named
-            .version(VERSION)
-            .about(
-                "Prints the events of a YAML stream, checks its style and rewrites it in one house style",
-            )
-            .no_binary_name(true)
-            .subcommand_required(true)
-            .arg_required_else_help(true),
-    )
+    Command::new(alloc, "yamlfmt")
+        .version(VERSION)
+        .about(
+            "Prints the events of a YAML stream, checks its style and rewrites it in one house style",
+        )
+        .no_binary_name(true)
+        .subcommand_required(true)
+        .arg_required_else_help(true)
+        .bin_name("yamlfmt")
+}
+
+// The command with one more subcommand, where both were made.
+fn with_part<'a>(
+    command: Result<Command<'a>, AllocError>,
+    part: Result<Command<'a>, AllocError>,
+) -> Result<Command<'a>, AllocError>
+    ensures { (a p : App) → IfOk command.entry (λ c. app_of c ≡ a) → IfOk part.entry (λ c. IsPart c p)
+        → IfOk result (λ c. app_of c ≡ with_subcommand a p.top) }
+{
+    match part {
+        Ok(part) => match command {
+            Ok(command) => command.subcommand(part),
+            Err(error) => Err(error),
+        },
+        Err(error) => Err(error),
+    }
 }
 
 fn reading_command<'a>(
@@ -126,34 +154,47 @@ fn reading_command<'a>(
     name: &'a str,
     about: &'a str,
 ) -> Result<Command<'a>, AllocError>
-    ensures shape { IfOk result (λ c. app_of c ≡ reading_command name.entry.now) }
-    ensures local { IfOk result (λ c. (out-Command c).has_globals ≡ false) }
+    ensures { IfOk result (λ c. IsPart c (reading_command name.entry.now)) }
 {
-    let config = config_option(alloc);
-    let file = file_word(alloc);
-    Command::new(alloc, name)
-        .about(about)
-        .arg(config)?
-        .arg(file)
+    with_arg(configured(alloc, name, about), file_word(alloc))
 }
 
 fn fmt_command<'a>(alloc: Global) -> Result<Command<'a>, AllocError>
-    ensures shape { IfOk result (λ c. app_of c ≡ writing_command) }
-    ensures local { IfOk result (λ c. (out-Command c).has_globals ≡ false) }
+    ensures { IfOk result (λ c. IsPart c writing_command) }
 {
-    let config = config_option(alloc);
-    let write = write_flag(alloc);
-    let file = file_word(alloc);
-    Command::new(alloc, FMT)
-        .about("Print a YAML stream in the house style")
-        .arg(config)?
-        .arg(write)?
-        .arg(file)
+    let command = configured(alloc, FMT, "Print a YAML stream in the house style");
+    let writing = with_arg(command, write_flag(alloc));
+    with_arg(writing, file_word(alloc))
+}
+
+// A command that may be given its settings file.
+fn configured<'a>(
+    alloc: Global,
+    name: &'a str,
+    about: &'a str,
+) -> Result<Command<'a>, AllocError>
+    ensures { IfOk result (λ c. IsPart c (configured name.entry.now)) }
+{
+    let command = Command::new(alloc, name).about(about);
+    command.arg(config_option(alloc))
+}
+
+// The command with one more argument, where it was made.
+fn with_arg<'a>(
+    command: Result<Command<'a>, AllocError>,
+    arg: Arg<'a>,
+) -> Result<Command<'a>, AllocError>
+    ensures { (a : App) (r : Rule) → IfOk command.entry (λ c. IsPart c a) → IsOption arg.entry r
+        → IfOk result (λ c. IsPart c (with_rule a r)) }
+{
+    match command {
+        Ok(command) => command.arg(arg),
+        Err(error) => Err(error),
+    }
 }
 
 fn config_option<'a>(alloc: Global) -> Arg<'a>
-    ensures rule { rule_of result ≡ config_option }
-    ensures local { result.global ≡ false }
+    ensures { IsOption result config_option }
 {
     Arg::new(alloc, CONFIG)
         .long(CONFIG)
@@ -162,8 +203,7 @@ fn config_option<'a>(alloc: Global) -> Arg<'a>
 }
 
 fn write_flag<'a>(alloc: Global) -> Arg<'a>
-    ensures rule { rule_of result ≡ write_flag }
-    ensures local { result.global ≡ false }
+    ensures { IsOption result write_flag }
 {
     Arg::new(alloc, WRITE)
         .long(WRITE)
@@ -172,8 +212,7 @@ fn write_flag<'a>(alloc: Global) -> Arg<'a>
 }
 
 fn file_word<'a>(alloc: Global) -> Arg<'a>
-    ensures rule { rule_of result ≡ file_word }
-    ensures local { result.global ≡ false }
+    ensures { IsOption result file_word }
 {
     Arg::new(alloc, FILE)
         .value_name("FILE")
@@ -239,18 +278,18 @@ fn command_met(alloc: Global, matches: &ArgMatches<'_>) -> Result<Cmd, Usage>
 {
     let (name, given) = match matches.subcommand() {
         Some(met) => met,
-        None => return Err(no_command(alloc)?),
+        None => return Err(refusal(alloc, NO_COMMAND)),
     };
     let verb = match verb_of(name) {
         Some(verb) => verb,
-        None => return Err(no_command(alloc)?),
+        None => return Err(refusal(alloc, NO_COMMAND)),
     };
     let config = text_given(alloc, given, CONFIG)?;
     let file = text_given(alloc, given, FILE)?;
     let write = is_given(given, WRITE);
     if write {
         if file.is_none() {
-            return Err(no_file(alloc)?);
+            return Err(refusal(alloc, NO_FILE));
         }
     }
     Ok(Cmd {
@@ -300,41 +339,12 @@ fn is_given(given: &ArgMatches<'_>, id: &str) -> bool
     }
 }
 
-// The refusal of words that name no command.
-fn no_command(alloc: Global) -> Result<Usage, AllocError>
-    ensures { IfOk result IsWrong }
+// The refusal that says that.
+fn refusal(alloc: Global, text: &str) -> Usage
+    ensures { IsRefusal result }
 {
-    let command = yamlfmt_command(alloc)?;
-    refusal(
-        alloc,
-        command,
-        ErrorKind::MissingSubcommand,
-        "a command is missing",
-    )
-}
-
-// The refusal of `--write` without a file.
-fn no_file(alloc: Global) -> Result<Usage, AllocError>
-    ensures { IfOk result IsWrong }
-{
-    let command = fmt_command(alloc)?.bin_name("yamlfmt fmt")?;
-    refusal(
-        alloc,
-        command,
-        ErrorKind::MissingRequiredArgument,
-        "the argument '--write' needs a FILE",
-    )
-}
-
-// A refusal with a message and the usage of the command.
-fn refusal(
-    alloc: Global,
-    mut command: Command<'_>,
-    kind: ErrorKind,
-    message: &str,
-) -> Result<Usage, AllocError>
-    ensures { IfOk result IsWrong }
-{
-    let error = command.error(kind, message)?;
-    Ok(Usage::Wrong(text_of(alloc, &error)?))
+    match String::from_str(alloc, text) {
+        Ok(text) => Usage::Wrong(OwnedText::new(text)),
+        Err(_) => Usage::Memory,
+    }
 }
