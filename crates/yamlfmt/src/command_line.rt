@@ -168,11 +168,7 @@ fn fmt_command<'a>(alloc: Global) -> Result<Command<'a>, AllocError>
 }
 
 // A command that may be given its settings file.
-fn configured<'a>(
-    alloc: Global,
-    name: &'a str,
-    about: &'a str,
-) -> Result<Command<'a>, AllocError>
+fn configured<'a>(alloc: Global, name: &'a str, about: &'a str) -> Result<Command<'a>, AllocError>
     ensures { IfOk result (λ c. IsPart c (configured name.entry.now)) }
 {
     let command = Command::new(alloc, name).about(about);

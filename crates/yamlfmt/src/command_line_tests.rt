@@ -42,12 +42,17 @@ fn is_asked(command: &Cmd, asked: &Asked) -> bool {
         && is_text(&command.file, asked.3)
 }
 
-/// Whether a line asks for its command.
-fn asks(alloc: Global, asked: &Asked) -> bool {
-    match &parsed(alloc, asked.0) {
+/// Whether words are taken, and ask for that command.
+fn are_asking(parsed: &Result<Cmd, Usage>, asked: &Asked) -> bool {
+    match parsed {
         Ok(command) => is_asked(command, asked),
         Err(_) => false,
     }
+}
+
+/// Whether a line asks for its command.
+fn asks(alloc: Global, asked: &Asked) -> bool {
+    are_asking(&parsed(alloc, asked.0), asked)
 }
 
 /// Lines with their commands.
@@ -89,9 +94,14 @@ fn is_said(parsed: &Result<Cmd, Usage>, wanted: &str) -> bool {
     }
 }
 
+/// Whether words are wrong.
+fn are_wrong(parsed: &Result<Cmd, Usage>) -> bool {
+    matches!(parsed, Err(Usage::Wrong(_)))
+}
+
 /// Whether a line is refused.
 fn is_refused(alloc: Global, line: &str) -> bool {
-    matches!(&parsed(alloc, line), Err(Usage::Wrong(_)))
+    are_wrong(&parsed(alloc, line))
 }
 
 /// Lines that are refused.
@@ -206,9 +216,14 @@ For more information, try '--help'.
     ),
 ];
 
+/// Whether that is printed for a line.
+fn says(alloc: Global, line: &str, wanted: &str) -> bool {
+    is_said(&parsed(alloc, line), wanted)
+}
+
 #[test]
 fn says_how_it_is_used_and_what_is_wrong(rt: HostRuntime) {
     for (line, wanted) in &SAID {
-        must_hold(&rt, is_said(&parsed(rt.alloc(), line), wanted), line);
+        must_hold(&rt, says(rt.alloc(), line, wanted), line);
     }
 }

@@ -1,6 +1,6 @@
 //! Readers, writers and memory that fail, and streams that are cut: each run answers in full, or says why it can't.
 
-use crate::answers::{answer_over, answer_to, command, must_hold};
+use crate::answers::{Answer, answer_over, answer_to, command, must_hold};
 use crate::command_line::Verb;
 use crate::faulty::{FaultyReader, FaultyWriter};
 use crate::program::run;
@@ -79,8 +79,9 @@ fn holds(alloc: Global, failing: Failing) -> bool {
 fn holds_on(alloc: Global, rules: &[Box<dyn Rule>], failing: Failing, input: &[u8]) -> bool {
     for verb in &VERBS {
         let good = match failing {
-            Failing::Reads => is_refused_by_each_read(alloc, *verb, rules, input),
-            Failing::Writes => is_refused_by_each_write(alloc, *verb, rules, input),
+            Failing::Reads | Failing::Writes => {
+                is_refused_by_calls(alloc, *verb, rules, input, failing)
+            }
             Failing::Memory => is_refused_by_memory_alone(alloc, *verb, rules, input),
         };
         if !good {
@@ -90,55 +91,129 @@ fn holds_on(alloc: Global, rules: &[Box<dyn Rule>], failing: Failing, input: &[u
     true
 }
 
-fn is_refused_by_each_read(
+/// How a command ends where a read or a write may fail.
+#[derive(Clone, Copy)]
+enum Ended {
+    /// It has failed, and says so.
+    Refused,
+    /// It has not, and answers in full.
+    Whole,
+    /// It answers something else.
+    Wrong,
+}
+
+/// How it ends that answered in full, or did not.
+fn whole_if(holds: bool) -> Ended {
+    if holds {
+        return Ended::Whole;
+    }
+    Ended::Wrong
+}
+
+/// How it ends that failed and said so, or did not.
+fn refused_if(holds: bool) -> Ended {
+    if holds {
+        return Ended::Refused;
+    }
+    Ended::Wrong
+}
+
+/// A command, and what it answers in full.
+#[derive(Clone, Copy)]
+struct Trial<'a> {
     alloc: Global,
     verb: Verb,
-    rules: &[Box<dyn Rule>],
-    input: &[u8],
-) -> bool {
-    let full = answer_to(alloc, verb, rules, &Style::house(), input);
-    for reads in 0..=input.len() + 1 {
-        let mut reader = Watched::new(FaultyReader {
-            rest: input,
-            reads_left: reads,
-        });
-        let mut writer = Watched::new(Vec::new(alloc));
-        let (status, line) = answer_over(alloc, verb, rules, &mut reader, &mut writer);
-        if !reader.failed() {
-            return status == full.status && writer.get_ref().as_slice() == full.output.as_slice();
-        }
+    rules: &'a [Box<dyn Rule>],
+    input: &'a [u8],
+    full: &'a Answer,
+}
+
+/// How the command ends where so many reads succeed.
+fn ended_after_reads(trial: Trial, reads: usize) -> Ended {
+    let mut reader = Watched::new(FaultyReader {
+        rest: trial.input,
+        reads_left: reads,
+    });
+    let mut writer = Watched::new(Vec::new(trial.alloc));
+    let (status, line) = answer_over(
+        trial.alloc,
+        trial.verb,
+        trial.rules,
+        &mut reader,
+        &mut writer,
+    );
+    let output = writer.get_ref().as_slice();
+    if reader.failed() {
         let says_so = line.as_slice() == b"read failed\n".as_slice();
-        if status != 3 || !says_so || !writer.get_ref().is_empty() {
-            return false;
+        return refused_if(status == 3 && says_so && output.is_empty());
+    }
+    whole_if(status == trial.full.status && output == trial.full.output.as_slice())
+}
+
+/// How the command ends where so many writes succeed.
+fn ended_after_writes(trial: Trial, writes: usize) -> Ended {
+    let mut writer = Watched::new(FaultyWriter {
+        taken: Vec::new(trial.alloc),
+        writes_left: writes,
+    });
+    let (status, line) = answer_over(
+        trial.alloc,
+        trial.verb,
+        trial.rules,
+        &mut Watched::new(trial.input),
+        &mut writer,
+    );
+    let taken = writer.get_ref().taken.as_slice();
+    let wanted = trial.full.output.as_slice();
+    if writer.failed() {
+        let says_so = line.as_slice() == b"write failed\n".as_slice();
+        return refused_if(status == 3 && says_so && wanted.starts_with(taken));
+    }
+    whole_if(status == trial.full.status && taken == wanted)
+}
+
+/// How the command ends where so many calls succeed of those that fail.
+fn ended_after(trial: Trial, failing: Failing, count: usize) -> Ended {
+    match failing {
+        Failing::Reads => ended_after_reads(trial, count),
+        Failing::Writes => ended_after_writes(trial, count),
+        Failing::Memory => Ended::Wrong,
+    }
+}
+
+/// Whether the command is refused by each call that fails, up to the first run in which none does, of so many runs at most.
+fn is_refused_by_each(trial: Trial, failing: Failing, most: usize) -> bool {
+    for count in 0..=most {
+        match ended_after(trial, failing, count) {
+            Ended::Refused => {}
+            Ended::Whole => return true,
+            Ended::Wrong => return false,
         }
     }
     false
 }
 
-fn is_refused_by_each_write(
+/// Whether the command is refused by each read, or by each write.
+fn is_refused_by_calls(
     alloc: Global,
     verb: Verb,
     rules: &[Box<dyn Rule>],
     input: &[u8],
+    failing: Failing,
 ) -> bool {
-    let full = answer_to(alloc, verb, rules, &Style::house(), input);
-    for writes in 0..=full.output.len() {
-        let mut reader = Watched::new(input);
-        let mut writer = Watched::new(FaultyWriter {
-            taken: Vec::new(alloc),
-            writes_left: writes,
-        });
-        let (status, line) = answer_over(alloc, verb, rules, &mut reader, &mut writer);
-        let taken = writer.get_ref().taken.as_slice();
-        if !writer.failed() {
-            return status == full.status && taken == full.output.as_slice();
-        }
-        let says_so = line.as_slice() == b"write failed\n".as_slice();
-        if status != 3 || !says_so || !full.output.as_slice().starts_with(taken) {
-            return false;
-        }
-    }
-    false
+    let full = &answer_to(alloc, verb, rules, &Style::house(), input);
+    let trial = Trial {
+        alloc,
+        verb,
+        rules,
+        input,
+        full,
+    };
+    let most = match failing {
+        Failing::Writes => full.output.len(),
+        Failing::Reads | Failing::Memory => input.len() + 1,
+    };
+    is_refused_by_each(trial, failing, most)
 }
 
 /// The bytes that a command may write here.

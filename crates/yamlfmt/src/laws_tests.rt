@@ -8,10 +8,13 @@ use crate::rules::{WithRules, with_all_rules};
 use std::alloc::{AllocError, Global};
 use yf_comments::comment::Comment;
 use yf_emit::style::Style;
+use yf_events::content::Content;
 use yf_events::reading::Reading;
+use yf_lines::fault::Fault;
 use yf_lines::quotes::Quotes;
 use yf_lines::source_text::Src;
 use yf_rules::check::check;
+use yf_rules::finding::Finding;
 use yf_rules::rule::Rule;
 
 /// The text of a comment without the white space at its end.
@@ -36,12 +39,17 @@ fn has_same_comments(one: &Reading, other: &Reading) -> bool {
     true
 }
 
-/// Whether two readings say the same.
-fn has_same_content(alloc: Global, one: &Reading, other: &Reading) -> bool {
-    match (&one.content(alloc), &other.content(alloc)) {
+/// Whether there are two contents, and they are the same.
+fn are_same(one: &Result<Content, Fault>, other: &Result<Content, Fault>) -> bool {
+    match (one, other) {
         (Ok(content), Ok(other_content)) => content == other_content,
         _ => false,
     }
+}
+
+/// Whether two readings say the same.
+fn has_same_content(alloc: Global, one: &Reading, other: &Reading) -> bool {
+    are_same(&one.content(alloc), &other.content(alloc))
 }
 
 /// What all texts are tried with.
@@ -52,12 +60,17 @@ struct Trial<'a> {
     style: &'a Style,
 }
 
-/// Whether the rules find nothing in the source that can be fixed.
-fn has_no_fixable(trial: Trial, src: &Src, reading: &Reading) -> bool {
-    match &check(trial.alloc, trial.rules, src, reading, trial.style) {
+/// Whether nothing is found that can be fixed.
+fn are_none_fixable(found: &Result<Vec<Finding>, Fault>) -> bool {
+    match found {
         Ok(findings) => !findings.iter().any(|finding| finding.fixable),
         Err(_) => false,
     }
+}
+
+/// Whether the rules find nothing in the source that can be fixed.
+fn has_no_fixable(trial: Trial, src: &Src, reading: &Reading) -> bool {
+    are_none_fixable(&check(trial.alloc, trial.rules, src, reading, trial.style))
 }
 
 /// The same of a text.
@@ -76,9 +89,13 @@ fn is_fixed(trial: Trial, text: &str) -> bool {
     }
 }
 
-/// Whether all that is asked of a formatted stream holds of this one: the text in the house style, of a reading.
-fn is_in_order(trial: Trial, reading: &Reading, text: &str) -> bool {
-    match &reading_of(trial.alloc, text) {
+/// What was read.
+type Read<'a> = Result<Reading<'a>, Fault>;
+
+/// Whether all that is asked of a formatted stream holds of this one: the text in the house style, of a reading, and what is
+/// read of it.
+fn is_in_order(trial: Trial, reading: &Reading, text: &str, read: &Read) -> bool {
+    match read {
         Ok(read) => {
             has_same_content(trial.alloc, reading, read)
                 && has_same_comments(reading, read)
@@ -89,20 +106,30 @@ fn is_in_order(trial: Trial, reading: &Reading, text: &str) -> bool {
     }
 }
 
+/// The same of a text alone.
+fn is_text_in_order(trial: Trial, reading: &Reading, text: &str) -> bool {
+    is_in_order(trial, reading, text, &reading_of(trial.alloc, text))
+}
+
 /// Whether what is formatted of a text with this reading is in order.
 fn is_formatted(trial: Trial, reading: &Reading, text: &str) -> bool {
     match &formatted(trial.alloc, text, trial.style) {
-        Ok(written) => is_in_order(trial, reading, written.as_str()),
+        Ok(written) => is_text_in_order(trial, reading, written.as_str()),
         Err(_) => false,
     }
 }
 
-/// Whether the laws hold of a text: it is refused by the formatter too, or what is formatted is in order.
-fn holds_of(trial: Trial, text: &str) -> bool {
-    match &reading_of(trial.alloc, text) {
+/// Whether the laws hold of a text and what is read of it: it is refused by the formatter too, or what is formatted is in order.
+fn holds_of(trial: Trial, text: &str, read: &Read) -> bool {
+    match read {
         Ok(reading) => is_formatted(trial, reading, text),
         Err(_) => formatted(trial.alloc, text, trial.style).is_err(),
     }
+}
+
+/// Whether the laws hold of a text.
+fn holds_in(trial: Trial, text: &str) -> bool {
+    holds_of(trial, text, &reading_of(trial.alloc, text))
 }
 
 /// Whether the laws hold under both quotes, both widths and both places of sequences.
@@ -124,7 +151,7 @@ fn holds_at(alloc: Global, rules: &[Box<dyn Rule>], indent: usize, text: &str) -
                     rules,
                     style: &style,
                 };
-                if !holds_of(trial, text) {
+                if !holds_in(trial, text) {
                     return false;
                 }
             }

@@ -43,10 +43,16 @@ pub struct Opened<F> {
 /// Opens a regular file, or a link to one. Anything else fails, and is not opened: a FIFO would wait for its other end.
 pub fn open_regular<R: Files>(rt: &R, path: &str) -> io::Result<Opened<R::File>> {
     require(fs::metadata(rt, path)?.is_file())?;
-    let file = File::open(rt, path)?;
-    let metadata = file.metadata()?;
-    require(metadata.is_file())?;
-    Ok(Opened { file, metadata })
+    regular(File::open(rt, path)?)
+}
+
+// What the system tells of an open file, if that is a regular one.
+fn regular<F: OpenFile + Drop>(file: F) -> io::Result<Opened<F>> {
+    match file.metadata() {
+        Ok(metadata) if metadata.is_file() => Ok(Opened { file, metadata }),
+        Ok(_) => Err(io::Error::from(ErrorKind::InvalidInput)),
+        Err(error) => Err(error),
+    }
 }
 
 /// Puts the text in the place of the file that is open, whose path it is, by way of a new file at the other path.

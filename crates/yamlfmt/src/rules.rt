@@ -14,7 +14,7 @@ pub trait WithRules: Drop {
 }
 
 /// All rules of style. A new rule is a new line of this list.
-const RULES: [StyleRule; 13] = [
+static RULES: [StyleRule; 13] = [
     StyleRule::TrailingBlanks,
     StyleRule::Indentation,
     StyleRule::Quoting,
@@ -33,8 +33,8 @@ const RULES: [StyleRule; 13] = [
 /// Does work with all rules of style, unless memory for them was refused.
 pub fn with_all_rules<W: WithRules>(alloc: Global, work: W) -> Result<W::Answer, AllocError> {
     let mut rules: Vec<Box<dyn Rule>> = Vec::with_capacity(alloc, RULES.len())?;
-    for rule in RULES {
-        rules.push(Box::new(alloc, rule)?)?;
+    for rule in &RULES {
+        rules.push(Box::new(alloc, *rule)?)?;
     }
     Ok(work.with_rules(rules.as_slice()))
 }

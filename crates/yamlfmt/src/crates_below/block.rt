@@ -10,6 +10,7 @@ use yf_events::comments::Comments;
 use yf_events::events::Events;
 use yf_events::part::Part;
 use yf_events::row::Row;
+use yf_flow::flow::{Answer, Scanned};
 use yf_lines::fault::Fault;
 use yf_lines::source_text::Src;
 
@@ -159,17 +160,24 @@ fn is_wanted(alloc: Global, events: &Events, end: usize, wanted: Wanted) -> bool
     }
 }
 
-/// Whether the block node that begins the source is the one that is wanted.
-fn is_node(alloc: Global, src: &Src, wanted: Wanted) -> bool {
-    if !src.text().is_char_boundary(0) {
-        return false;
-    }
-    match &scan_block_node(alloc, src, 0, -1, Ctx::BlockIn) {
+/// Whether what is found is what is wanted.
+fn is_found(alloc: Global, found: &Scanned, wanted: Wanted) -> bool {
+    match found {
         Ok(Some(node)) => is_wanted(alloc, &node.part.events, node.end, wanted),
         Ok(None) => matches!(wanted, Wanted::Nothing),
         Err(Fault::TooDeep { .. }) => matches!(wanted, Wanted::TooDeep),
         Err(_) => false,
     }
+}
+
+/// Whether the block node that begins the source is the one that is wanted.
+fn is_node(alloc: Global, src: &Src, wanted: Wanted) -> bool {
+    src.text().is_char_boundary(0)
+        && is_found(
+            alloc,
+            &scan_block_node(alloc, src, 0, -1, Ctx::BlockIn),
+            wanted,
+        )
 }
 
 /// Whether the block node that begins the text is the one that is wanted.
@@ -209,22 +217,22 @@ fn scans_nodes(rt: HostRuntime) {
         must_hold(&rt, is_scanned(rt.alloc(), text, Wanted::Nothing), text);
     }
     for (part, count, rest, wanted) in &LIMITS {
-        assert!(rt;
-            is_limit(rt.alloc(), part, *count, rest, *wanted),
-            "{part} {count}"
-        );
+        must_hold(&rt, is_limit(rt.alloc(), part, *count, rest, *wanted), part);
     }
 }
 
-/// Whether the reader refuses the source for an escape in that column of the first line.
-fn is_refused_at(alloc: Global, src: &Src, column: usize) -> bool {
-    if !src.text().is_char_boundary(0) {
-        return false;
-    }
-    match &read_block_node(alloc, src, 0, -1, Ctx::BlockIn) {
+/// Whether that is the refusal for an escape in that column of the first line.
+fn is_refusal_at(found: &Answer, column: usize) -> bool {
+    match found {
         Err(Fault::EscapeValue { place }) => place.line == 1 && place.column == column,
         _ => false,
     }
+}
+
+/// Whether the reader refuses the source so.
+fn is_refused_at(alloc: Global, src: &Src, column: usize) -> bool {
+    src.text().is_char_boundary(0)
+        && is_refusal_at(&read_block_node(alloc, src, 0, -1, Ctx::BlockIn), column)
 }
 
 /// The same of a text.

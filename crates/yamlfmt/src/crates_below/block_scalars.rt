@@ -41,6 +41,19 @@ static CONTENTS: [(&str, i32, &str); 11] = [
     (">\n\ta\n", -1, "\ta\n"),
 ];
 
+/// What is wanted of a source that a header begins.
+#[derive(Clone, Copy)]
+enum Wanted {
+    /// There is no scalar.
+    Nothing,
+    /// The content of the scalar.
+    Content(&'static str),
+    /// The scalar as it is written at column 2.
+    Written(&'static str),
+    /// The scalar has a tail, and a comment after it.
+    Tail,
+}
+
 /// Whether a text is that.
 fn is_text(text: &Result<String, Fault>, wanted: &str) -> bool {
     match text {
@@ -49,18 +62,34 @@ fn is_text(text: &Result<String, Fault>, wanted: &str) -> bool {
     }
 }
 
-/// Whether the scalar that begins a source has that content.
-fn is_content(alloc: Global, src: &Src, n: i32, wanted: &str) -> bool {
-    match &block_of(alloc, src, n) {
-        Ok(Some(block)) => is_text(&content(alloc, block), wanted),
-        _ => false,
+/// Whether the scalar is the one that is wanted.
+fn is_wanted(alloc: Global, block: &BlockText, wanted: Wanted) -> bool {
+    match wanted {
+        Wanted::Nothing => false,
+        Wanted::Content(text) => is_text(&content(alloc, block), text),
+        Wanted::Written(text) => writes(alloc, block, text),
+        Wanted::Tail => has_comment(block),
     }
 }
 
-/// Whether the scalar that begins a text has that content.
-fn has_content(alloc: Global, text: &str, n: i32, wanted: &str) -> bool {
+/// Whether what is found is what is wanted.
+fn is_found(alloc: Global, found: &Found<Fault>, wanted: Wanted) -> bool {
+    match found {
+        Ok(Some(block)) => is_wanted(alloc, block, wanted),
+        Ok(None) => matches!(wanted, Wanted::Nothing),
+        Err(_) => false,
+    }
+}
+
+/// Whether a header begins a source, and what is wanted follows it.
+fn is_block(alloc: Global, src: &Src, n: i32, wanted: Wanted) -> bool {
+    read_header(src, 0).is_some() && is_found(alloc, &block_of(alloc, src, n), wanted)
+}
+
+/// The same of a text.
+fn is_read(alloc: Global, text: &str, n: i32, wanted: Wanted) -> bool {
     match &Src::new(alloc, text) {
-        Ok(src) => is_content(alloc, src, n, wanted),
+        Ok(src) => is_block(alloc, src, n, wanted),
         Err(AllocError) => false,
     }
 }
@@ -68,7 +97,11 @@ fn has_content(alloc: Global, text: &str, n: i32, wanted: &str) -> bool {
 #[test]
 fn reads_contents(rt: HostRuntime) {
     for (text, n, wanted) in &CONTENTS {
-        must_hold(&rt, has_content(rt.alloc(), text, *n, wanted), text);
+        must_hold(
+            &rt,
+            is_read(rt.alloc(), text, *n, Wanted::Content(wanted)),
+            text,
+        );
     }
 }
 
@@ -83,25 +116,6 @@ fn has_comment(block: &BlockText) -> bool {
             text == "# c" && comment.blank_before
         }
         None => false,
-    }
-}
-
-/// Whether comments behind the tail are read.
-fn reads_tail(alloc: Global, text: &str) -> bool {
-    match &Src::new(alloc, text) {
-        Ok(src) => match &block_of(alloc, src, 0) {
-            Ok(Some(block)) => has_comment(block),
-            _ => false,
-        },
-        Err(AllocError) => false,
-    }
-}
-
-/// Whether no scalar follows the header that begins a text.
-fn is_refused(alloc: Global, text: &str) -> bool {
-    match &Src::new(alloc, text) {
-        Ok(src) => read_header(src, 0).is_some() && matches!(&block_of(alloc, src, 0), Ok(None)),
-        Err(AllocError) => false,
     }
 }
 
@@ -149,13 +163,13 @@ fn reads_headers_and_tails(rt: HostRuntime) {
     }
     must_hold(
         &rt,
-        reads_tail(rt.alloc(), "|-\n x\n\n# c\n- y\n"),
+        is_read(rt.alloc(), "|-\n x\n\n# c\n- y\n", 0, Wanted::Tail),
         "a tail",
     );
     // a longer empty line before the content
     must_hold(
         &rt,
-        is_refused(rt.alloc(), "|\n   \n  a\n"),
+        is_read(rt.alloc(), "|\n   \n  a\n", 0, Wanted::Nothing),
         "a longer empty line",
     );
 }
@@ -175,20 +189,13 @@ fn writes(alloc: Global, block: &BlockText, wanted: &str) -> bool {
     write_block(alloc, &mut out, block, 2, 0).is_ok() && out.as_str() == wanted
 }
 
-/// Whether the scalar that begins a text is written so.
-fn is_written(alloc: Global, text: &str, wanted: &str) -> bool {
-    match &Src::new(alloc, text) {
-        Ok(src) => match &block_of(alloc, src, 0) {
-            Ok(Some(block)) => writes(alloc, block, wanted),
-            _ => false,
-        },
-        Err(AllocError) => false,
-    }
-}
-
 #[test]
 fn writes_scalars(rt: HostRuntime) {
     for (text, wanted) in &WRITTEN {
-        must_hold(&rt, is_written(rt.alloc(), text, wanted), text);
+        must_hold(
+            &rt,
+            is_read(rt.alloc(), text, 0, Wanted::Written(wanted)),
+            text,
+        );
     }
 }

@@ -10,6 +10,7 @@ use yf_emit::style::Style;
 use yf_emit::text::wanted::wanted_style;
 use yf_events::event::ScalarStyle;
 use yf_events::reading::Reading;
+use yf_lines::fault::Fault;
 use yf_lines::quotes::Quotes;
 use yf_lines::source_text::Src;
 use yf_lines::watched::Watched;
@@ -29,6 +30,9 @@ const BROKEN: &str = "a: ['x', # c\n y]\n";
 
 const MENDED: &str = "---\na:\n  - \"x\"  # c\n  - y\n";
 
+/// What was read, or made of what was read.
+type Read<'a> = Result<Reading<'a>, Fault>;
+
 /// Whether a reading in normal form is printed so.
 fn is_written(alloc: Global, normal: &Reading, wanted: &str) -> bool {
     let mut writer = Watched::new(Vec::new(alloc));
@@ -36,18 +40,23 @@ fn is_written(alloc: Global, normal: &Reading, wanted: &str) -> bool {
         && writer.get_ref().as_slice() == wanted.as_bytes()
 }
 
-/// Whether the normal form of a reading is printed so.
-fn is_normal(alloc: Global, src: &Src, reading: &Reading, wanted: &str) -> bool {
-    match &normal(alloc, src, reading, &Style::house()) {
+/// Whether there is a normal form, and it is printed so.
+fn is_normal(alloc: Global, normal: &Read, wanted: &str) -> bool {
+    match normal {
         Ok(normal) => is_written(alloc, normal, wanted),
         Err(_) => false,
     }
 }
 
-/// Whether a source is printed so in steps.
-fn is_printed(alloc: Global, src: &Src, wanted: &str) -> bool {
-    match &reading_of(alloc, src.text()) {
-        Ok(reading) => is_normal(alloc, src, reading, wanted),
+/// Whether the normal form of a reading is printed so.
+fn is_normal_printed(alloc: Global, src: &Src, reading: &Reading, wanted: &str) -> bool {
+    is_normal(alloc, &normal(alloc, src, reading, &Style::house()), wanted)
+}
+
+/// Whether there is a reading, and its normal form is printed so.
+fn is_printed(alloc: Global, src: &Src, read: &Read, wanted: &str) -> bool {
+    match read {
+        Ok(reading) => is_normal_printed(alloc, src, reading, wanted),
         Err(_) => false,
     }
 }
@@ -55,7 +64,7 @@ fn is_printed(alloc: Global, src: &Src, wanted: &str) -> bool {
 /// Whether a text is printed so in steps.
 fn is_printed_in_steps(alloc: Global, text: &str, wanted: &str) -> bool {
     match &Src::new(alloc, text) {
-        Ok(src) => is_printed(alloc, src, wanted),
+        Ok(src) => is_printed(alloc, src, &reading_of(alloc, src.text()), wanted),
         Err(AllocError) => false,
     }
 }
@@ -109,13 +118,18 @@ fn key_word(alloc: Global, src: &Src, reading: &Reading, i: usize) -> &'static s
     }
 }
 
-/// Whether that is the text on one line of the flow collection that an event begins.
-fn is_kept(alloc: Global, src: &Src, reading: &Reading, i: usize, wanted: &str) -> bool {
-    match &kept_text(alloc, src, reading, i, &Style::house()) {
+/// Whether that is the text on one line.
+fn is_on_one_line(kept: &Result<Option<String>, Fault>, wanted: &str) -> bool {
+    match kept {
         Ok(Some(text)) => text.as_str() == wanted,
         Ok(None) => wanted == "not kept",
         Err(_) => false,
     }
+}
+
+/// Whether that is the text on one line of the flow collection that an event begins.
+fn is_kept(alloc: Global, src: &Src, reading: &Reading, i: usize, wanted: &str) -> bool {
+    is_on_one_line(&kept_text(alloc, src, reading, i, &Style::house()), wanted)
 }
 
 /// A text, an event of it, what is asked of it, and what is told.
@@ -131,9 +145,9 @@ fn is_told_of(alloc: Global, src: &Src, reading: &Reading, row: &Row) -> bool {
     }
 }
 
-/// Whether that is told of an event of a source.
-fn is_told_in(alloc: Global, src: &Src, row: &Row) -> bool {
-    match &reading_of(alloc, src.text()) {
+/// Whether there is a reading, and that is told of its event.
+fn is_told_in(alloc: Global, src: &Src, read: &Read, row: &Row) -> bool {
+    match read {
         Ok(reading) => is_told_of(alloc, src, reading, row),
         Err(_) => false,
     }
@@ -142,7 +156,7 @@ fn is_told_in(alloc: Global, src: &Src, row: &Row) -> bool {
 /// Whether that is told of an event of a text.
 fn is_told(alloc: Global, row: &Row) -> bool {
     match &Src::new(alloc, row.0) {
-        Ok(src) => is_told_in(alloc, src, row),
+        Ok(src) => is_told_in(alloc, src, &reading_of(alloc, src.text()), row),
         Err(AllocError) => false,
     }
 }

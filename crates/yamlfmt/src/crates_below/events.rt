@@ -5,6 +5,7 @@ ghost use Rattle.yf_events.specs.Reading.{Fits};
 use crate::answers::must_hold;
 use std::alloc::{AllocError, Global};
 use yf_comments::comment::Comment;
+use yf_events::content::Content;
 use yf_events::directive::{Directive, Directives};
 use yf_events::document::Doc;
 use yf_events::event::{Entry, Event, NewEvent, PlacedEvent, ScalarStyle, Span};
@@ -134,13 +135,40 @@ fn fill(
     add(alloc, lists, NewEvent::StreamEnd)
 }
 
+/// What is wanted of lists.
+#[derive(Clone, Copy)]
+enum Wanted {
+    /// They are no reading.
+    Nothing,
+    /// The notation of their reading.
+    Notation(&'static str),
+    /// The reading of `block`.
+    Block,
+}
+
+/// What is built of lists.
+type Built<'a> = Result<Option<Reading<'a>>, Fault>;
+
+/// Whether what was built is what is wanted.
+fn is_wanted(alloc: Global, built: &Built, wanted: Wanted) -> bool {
+    match built {
+        Ok(Some(reading)) => is_reading(alloc, reading, wanted),
+        Ok(None) => matches!(wanted, Wanted::Nothing),
+        Err(_) => false,
+    }
+}
+
+/// Whether that is the reading that is wanted.
+fn is_reading(alloc: Global, reading: &Reading, wanted: Wanted) -> bool {
+    match wanted {
+        Wanted::Nothing => false,
+        Wanted::Notation(text) => is_notation(alloc, reading, text),
+        Wanted::Block => tells_the_scalar(reading) && tells_the_document(reading),
+    }
+}
+
 /// The reading of such a stream.
-fn reading_of<'a>(
-    alloc: Global,
-    starts: bool,
-    nodes: &[Node],
-    ends: bool,
-) -> Result<Option<Reading<'a>>, Fault> {
+fn reading_of<'a>(alloc: Global, starts: bool, nodes: &[Node], ends: bool) -> Built<'a> {
     let mut lists = Lists::new(alloc);
     match fill(alloc, &mut lists, starts, nodes, ends) {
         Ok(()) => Reading::build(alloc, lists),
@@ -148,21 +176,22 @@ fn reading_of<'a>(
     }
 }
 
-/// Whether a stream of a sequence that does not end is no reading.
-fn is_no_reading(alloc: Global) -> bool {
-    matches!(
-        &reading_of(alloc, false, &[Node::Sequence(true)], false),
-        Ok(None)
-    )
+/// Whether the stream of these nodes, whose document's start and end are written or not, is read so.
+fn is_read(alloc: Global, nodes: &[Node], explicit: bool, wanted: Wanted) -> bool {
+    is_wanted(alloc, &reading_of(alloc, explicit, nodes, explicit), wanted)
 }
 
 #[test]
 fn an_open_sequence_is_no_reading(rt: HostRuntime) {
-    must_hold(&rt, is_no_reading(rt.alloc()), "an open sequence");
+    must_hold(
+        &rt,
+        is_read(rt.alloc(), &[Node::Sequence(true)], false, Wanted::Nothing),
+        "an open sequence",
+    );
 }
 
 /// Nodes, whether their document's start and end are written, and the notation of the stream.
-static WRITTEN: [(&[Node], bool, &str); 2] = [
+static WRITTEN: [(&[Node], bool, &'static str); 2] = [
     (
         &[
             Node::Sequence(false),
@@ -192,14 +221,6 @@ static WRITTEN: [(&[Node], bool, &str); 2] = [
 fn is_notation(alloc: Global, reading: &Reading, wanted: &str) -> bool {
     let mut writer = Watched::new(Vec::new(alloc));
     write_events(reading, &mut writer).is_ok() && writer.get_ref().as_slice() == wanted.as_bytes()
-}
-
-/// Whether that is the notation of the stream of these nodes.
-fn is_written(alloc: Global, nodes: &[Node], explicit: bool, wanted: &str) -> bool {
-    match &reading_of(alloc, explicit, nodes, explicit) {
-        Ok(Some(reading)) => is_notation(alloc, reading, wanted),
-        _ => false,
-    }
 }
 
 /// The directive of the stream of `block`.
@@ -237,7 +258,7 @@ fn fill_block(alloc: Global, lists: &mut Lists<'_>) -> Result<(), AllocError>
 }
 
 /// The reading of that stream.
-fn block_reading<'a>(alloc: Global) -> Result<Option<Reading<'a>>, Fault> {
+fn block_reading<'a>(alloc: Global) -> Built<'a> {
     let mut lists = Lists::new(alloc);
     match fill_block(alloc, &mut lists) {
         Ok(()) => Reading::build(alloc, lists),
@@ -249,12 +270,9 @@ fn block_reading<'a>(alloc: Global) -> Result<Option<Reading<'a>>, Fault> {
 const BLOCK: &str =
     "+STR\n+DOC ---\n+SEQ\n=VAL &x <tag:yaml.org,2002:str> >b\\n\n-SEQ\n-DOC\n-STR\n";
 
-/// Whether that is the notation of the stream of `block`.
-fn is_block_written(alloc: Global, wanted: &str) -> bool {
-    match &block_reading(alloc) {
-        Ok(Some(reading)) => is_notation(alloc, reading, wanted),
-        _ => false,
-    }
+/// Whether the stream of `block` is read so.
+fn is_block(alloc: Global, wanted: Wanted) -> bool {
+    is_wanted(alloc, &block_reading(alloc), wanted)
 }
 
 #[test]
@@ -262,11 +280,11 @@ fn writes_readings(rt: HostRuntime) {
     for (nodes, explicit, wanted) in &WRITTEN {
         must_hold(
             &rt,
-            is_written(rt.alloc(), nodes, *explicit, wanted),
+            is_read(rt.alloc(), nodes, *explicit, Wanted::Notation(wanted)),
             wanted,
         );
     }
-    must_hold(&rt, is_block_written(rt.alloc(), BLOCK), BLOCK);
+    must_hold(&rt, is_block(rt.alloc(), Wanted::Notation(BLOCK)), BLOCK);
 }
 
 /// Whether the fourth event of the reading of `block` is told as it is.
@@ -300,23 +318,30 @@ fn tells_the_document(reading: &Reading) -> bool {
         && reading.place_of(0) == (1, 1)
 }
 
-/// Whether that reading tells what it holds.
-fn tells_block(alloc: Global) -> bool {
-    match &block_reading(alloc) {
-        Ok(Some(reading)) => tells_the_scalar(reading) && tells_the_document(reading),
+#[test]
+fn a_reading_tells_what_it_holds(rt: HostRuntime) {
+    must_hold(&rt, is_block(rt.alloc(), Wanted::Block), "a reading");
+}
+
+/// Whether two contents are the same, or are not.
+fn are_same(one: &Result<Content, Fault>, other: &Result<Content, Fault>, wanted: bool) -> bool {
+    match (one, other) {
+        (Ok(content), Ok(other_content)) => (content == other_content) == wanted,
         _ => false,
     }
 }
 
-#[test]
-fn a_reading_tells_what_it_holds(rt: HostRuntime) {
-    must_hold(&rt, tells_block(rt.alloc()), "a reading");
+/// Whether two readings have the same content, or have not.
+fn have_same(alloc: Global, one: &Reading, other: &Reading, wanted: bool) -> bool {
+    are_same(&one.content(alloc), &other.content(alloc), wanted)
 }
 
-/// Whether two readings have the same content, or have not.
-fn is_same_content(alloc: Global, one: &Reading, other: &Reading, wanted: bool) -> bool {
-    match (&one.content(alloc), &other.content(alloc)) {
-        (Ok(content), Ok(other_content)) => (content == other_content) == wanted,
+/// Whether there are two readings, and they have the same content, or have not.
+fn are_told(alloc: Global, one: &Built, other: &Built, wanted: bool) -> bool {
+    match (one, other) {
+        (Ok(Some(reading)), Ok(Some(other_reading))) => {
+            have_same(alloc, reading, other_reading, wanted)
+        }
         _ => false,
     }
 }
@@ -363,26 +388,20 @@ static CONTENTS: [(&[Node], &[Node], bool); 6] = [
     (&[Node::Tagged("!a")], &[Node::Tagged("!b")], false),
 ];
 
-/// Whether a reading, and one of a stream of a document with these nodes and no markers, have the same content, or have not.
-fn is_told_from(alloc: Global, one: &Reading, nodes: &[Node], wanted: bool) -> bool {
-    match &reading_of(alloc, false, nodes, false) {
-        Ok(Some(other)) => is_same_content(alloc, one, other, wanted),
-        _ => false,
-    }
-}
-
 /// Whether streams of these nodes, the first with markers, have the same content, or have not.
-fn are_told(alloc: Global, nodes: &[Node], other_nodes: &[Node], wanted: bool) -> bool {
-    match &reading_of(alloc, true, nodes, true) {
-        Ok(Some(one)) => is_told_from(alloc, one, other_nodes, wanted),
-        _ => false,
-    }
+fn tells(alloc: Global, nodes: &[Node], other_nodes: &[Node], wanted: bool) -> bool {
+    are_told(
+        alloc,
+        &reading_of(alloc, true, nodes, true),
+        &reading_of(alloc, false, other_nodes, false),
+        wanted,
+    )
 }
 
 #[test]
 fn tells_contents_apart(rt: HostRuntime) {
     for i in 0..CONTENTS.len() {
         let (nodes, other_nodes, wanted) = CONTENTS[i];
-        assert!(rt; are_told(rt.alloc(), nodes, other_nodes, wanted), "{i}");
+        assert!(rt; tells(rt.alloc(), nodes, other_nodes, wanted), "{i}");
     }
 }

@@ -6,7 +6,8 @@ use std::alloc::{AllocError, Global};
 use yf_chars::context::Ctx;
 use yf_events::part::Part;
 use yf_flow::flow::{
-    ScannedPart, read_flow_node, read_implicit_key, scan_flow_node, scan_implicit_key,
+    Answer, Scanned, ScannedPart, read_flow_node, read_implicit_key, scan_flow_node,
+    scan_implicit_key,
 };
 use yf_lines::fault::Fault;
 use yf_lines::source_text::Src;
@@ -96,20 +97,27 @@ fn has_events(alloc: Global, part: &Part, wanted: &str) -> bool {
 /// A text, the indentation, the events of the flow node that begins the text, and where the node ends.
 type Row = (&'static str, i32, &'static str, usize);
 
-/// Whether the flow node that begins the source has these events and ends there; without events, whether it is refused for an
-/// escape in that column of the first line.
-fn is_node(alloc: Global, src: &Src, row: &Row) -> bool {
-    let (_, n, wanted, at) = *row;
-    if !src.text().is_char_boundary(0) {
-        return false;
-    }
-    match &read_flow_node(alloc, src, 0, n, Ctx::FlowOut) {
+/// Whether the node that is found has these events and ends there; without events, whether it is refused for an escape in that
+/// column of the first line.
+fn is_in(alloc: Global, found: &Answer, row: &Row) -> bool {
+    let (_, _, wanted, at) = *row;
+    match found {
         Ok(Some(node)) => node.end == at && has_events(alloc, &node.part, wanted),
         Err(Fault::EscapeValue { place }) => {
             wanted.is_empty() && place.line == 1 && place.column == at
         }
         _ => false,
     }
+}
+
+/// Whether the flow node that begins the source is that of the row.
+fn is_node(alloc: Global, src: &Src, row: &Row) -> bool {
+    src.text().is_char_boundary(0)
+        && is_in(
+            alloc,
+            &read_flow_node(alloc, src, 0, row.1, Ctx::FlowOut),
+            row,
+        )
 }
 
 /// The same of a text.
@@ -167,17 +175,24 @@ fn is_wanted(alloc: Global, node: &ScannedPart, wanted: Wanted) -> bool {
     }
 }
 
-/// Whether the flow node that begins the source is the one that is wanted.
-fn is_node_wanted(alloc: Global, src: &Src, n: i32, wanted: Wanted) -> bool {
-    if !src.text().is_char_boundary(0) {
-        return false;
-    }
-    match &scan_flow_node(alloc, src, 0, n, Ctx::FlowOut) {
+/// Whether what is found is what is wanted.
+fn is_found(alloc: Global, found: &Scanned, wanted: Wanted) -> bool {
+    match found {
         Ok(Some(node)) => is_wanted(alloc, node, wanted),
         Ok(None) => matches!(wanted, Wanted::Nothing),
         Err(Fault::TooDeep { .. }) => matches!(wanted, Wanted::TooDeep),
         Err(_) => false,
     }
+}
+
+/// Whether the flow node that begins the source is the one that is wanted.
+fn is_node_wanted(alloc: Global, src: &Src, n: i32, wanted: Wanted) -> bool {
+    src.text().is_char_boundary(0)
+        && is_found(
+            alloc,
+            &scan_flow_node(alloc, src, 0, n, Ctx::FlowOut),
+            wanted,
+        )
 }
 
 /// Whether the flow node that begins the text is the one that is wanted.
@@ -245,46 +260,46 @@ fn scans_nodes(rt: HostRuntime) {
         must_hold(&rt, is_scanned(rt.alloc(), text, *n, *wanted), text);
     }
     for row in &LIMITS {
-        assert!(rt; is_limit(rt.alloc(), row), "{}{} {}", row.0, row.1, row.2);
+        must_hold(&rt, is_limit(rt.alloc(), row), row.1);
     }
 }
 
-/// Whether an implicit key with these events begins the source and ends there.
-fn is_key_of(alloc: Global, src: &Src, wanted: &str, end: usize) -> bool {
-    if !src.text().is_char_boundary(0) {
-        return false;
-    }
-    match &read_implicit_key(alloc, src, 0, Ctx::BlockKey) {
-        Ok(Some(key)) => key.end == end && has_events(alloc, &key.part, wanted),
-        _ => false,
-    }
+/// Whether the implicit key that begins the source is the node of the row.
+fn is_key_of(alloc: Global, src: &Src, row: &Row) -> bool {
+    src.text().is_char_boundary(0)
+        && is_in(alloc, &read_implicit_key(alloc, src, 0, Ctx::BlockKey), row)
 }
 
 /// The same of a text.
-fn is_key(alloc: Global, text: &str, wanted: &str, end: usize) -> bool {
-    match &Src::new(alloc, text) {
-        Ok(src) => is_key_of(alloc, src, wanted, end),
+fn is_key(alloc: Global, row: &Row) -> bool {
+    match &Src::new(alloc, row.0) {
+        Ok(src) => is_key_of(alloc, src, row),
         Err(AllocError) => false,
     }
 }
 
-/// Whether no implicit key begins the text.
+/// Whether no implicit key begins the source.
+fn is_no_key_of(alloc: Global, src: &Src) -> bool {
+    let wanted = Wanted::Nothing;
+    src.text().is_char_boundary(0)
+        && is_found(
+            alloc,
+            &scan_implicit_key(alloc, src, 0, Ctx::BlockKey),
+            wanted,
+        )
+}
+
+/// The same of a text.
 fn is_no_key(alloc: Global, text: &str) -> bool {
     match &Src::new(alloc, text) {
-        Ok(src) => {
-            src.text().is_char_boundary(0)
-                && matches!(&scan_implicit_key(alloc, src, 0, Ctx::BlockKey), Ok(None))
-        }
+        Ok(src) => is_no_key_of(alloc, src),
         Err(AllocError) => false,
     }
 }
 
 #[test]
 fn reads_keys(rt: HostRuntime) {
-    must_hold(
-        &rt,
-        is_key(rt.alloc(), "[a]: b", "+SEQ [] / =VAL :a / -SEQ", 3),
-        "[a]: b",
-    );
+    let key = ("[a]: b", 0, "+SEQ [] / =VAL :a / -SEQ", 3);
+    must_hold(&rt, is_key(rt.alloc(), &key), "[a]: b");
     must_hold(&rt, is_no_key(rt.alloc(), "[a,\nb]: c"), "[a,\nb]: c");
 }

@@ -4,31 +4,37 @@ use crate::answers::must_hold;
 use std::alloc::{AllocError, Global};
 use yf_chars::context::Ctx;
 use yf_lines::source_text::Src;
+use yf_lines::text::FoundText;
 use yf_plain::plain::{read_plain, read_plain_line};
 
 /// Texts, a place at which a plain scalar begins, the indentation, what the scalar means and where it ends.
-static SCALARS: [(&str, usize, i32, &str, usize); 3] = [
+static SCALARS: [Row; 3] = [
     // before a comment
     ("a b # c", 0, 0, "a b", 3),
     ("- a\n  b\n\n  c\n", 2, 1, "a b\nc", 12),
     ("- a\r\n  b\r\n", 2, 1, "a b", 8),
 ];
 
-/// Whether the plain scalar that begins at a place of a source means that and ends there.
-fn is_plain(alloc: Global, src: &Src, at: usize, n: i32, wanted: &str, wanted_end: usize) -> bool {
-    if !src.text().is_char_boundary(at) {
-        return false;
-    }
-    match &read_plain(alloc, src, at, n, Ctx::FlowOut) {
-        Ok(Some((text, end))) => text.as_str() == wanted && *end == wanted_end,
+type Row = (&'static str, usize, i32, &'static str, usize);
+
+/// Whether a plain scalar is found that means what the row says and ends there.
+fn is_in(found: &FoundText, row: &Row) -> bool {
+    match found {
+        Ok(Some((text, end))) => text.as_str() == row.3 && *end == row.4,
         _ => false,
     }
 }
 
-/// The same of a row of `SCALARS`.
-fn is_read(alloc: Global, row: &(&str, usize, i32, &str, usize)) -> bool {
+/// Whether the plain scalar that begins at the row's place of a source is that of the row.
+fn is_plain(alloc: Global, src: &Src, row: &Row) -> bool {
+    src.text().is_char_boundary(row.1)
+        && is_in(&read_plain(alloc, src, row.1, row.2, Ctx::FlowOut), row)
+}
+
+/// The same of a text.
+fn is_read(alloc: Global, row: &Row) -> bool {
     match &Src::new(alloc, row.0) {
-        Ok(src) => is_plain(alloc, src, row.1, row.2, row.3, row.4),
+        Ok(src) => is_plain(alloc, src, row),
         Err(AllocError) => false,
     }
 }

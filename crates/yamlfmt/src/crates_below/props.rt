@@ -72,12 +72,17 @@ fn are(found: &Properties, row: &Row) -> bool {
         && found.comments.len() == row.7
 }
 
-/// Whether the properties of a row begin at its place of a source.
-fn are_read(alloc: Global, src: &Src, row: &Row) -> bool {
-    match &read_props(alloc, src, row.1, row.2, Ctx::FlowIn) {
+/// Whether the properties of a row are found.
+fn are_found(found: &Result<Option<Properties>, Fault>, row: &Row) -> bool {
+    match found {
         Ok(Some(found)) => are(found, row),
         _ => false,
     }
+}
+
+/// Whether the properties of a row begin at its place of a source.
+fn are_read(alloc: Global, src: &Src, row: &Row) -> bool {
+    are_found(&read_props(alloc, src, row.1, row.2, Ctx::FlowIn), row)
 }
 
 /// Whether the properties of a row are read.
@@ -126,23 +131,33 @@ fn reads_aliases(rt: HostRuntime) {
     must_hold(&rt, is_alias(rt.alloc(), 2, None), "no alias");
 }
 
-/// Whether the tag stands for that text; where none is wanted, whether its handle is unknown.
-fn stands_for(alloc: Global, handles: &Handles, tag: &Tag, wanted: &str) -> bool {
-    match &handles.resolve(alloc, tag, PLACE) {
+/// Whether a tag is resolved to that text; where none is wanted, whether its handle is unknown.
+fn is_resolved(resolved: &Result<ResolvedTag, Fault>, wanted: &str) -> bool {
+    match resolved {
         Ok(resolved) => *resolved == ResolvedTag::new(wanted, Text::Part("")),
         Err(Fault::UnknownHandle { place }) => wanted.is_empty() && *place == PLACE,
         Err(_) => false,
     }
 }
 
-/// The same of the tag at a place of a source.
+/// Whether the tag stands for that text; where none is wanted, whether its handle is unknown.
+fn stands_for(alloc: Global, handles: &Handles, tag: &Tag, wanted: &str) -> bool {
+    is_resolved(&handles.resolve(alloc, tag, PLACE), wanted)
+}
+
+/// The tag that is found.
+fn tag_of<'a>(found: &Result<Option<Properties<'a>>, Fault>) -> Option<Tag<'a>> {
+    match found {
+        Ok(Some(found)) => found.props.tag,
+        _ => None,
+    }
+}
+
+/// Whether the tag at a place of a source stands for that text.
 fn stands_at(alloc: Global, handles: &Handles, src: &Src, at: usize, wanted: &str) -> bool {
-    match &read_props(alloc, src, at, 0, Ctx::FlowIn) {
-        Ok(Some(found)) => match &found.props.tag {
-            Some(tag) => stands_for(alloc, handles, tag, wanted),
-            None => false,
-        },
-        _ => false,
+    match &tag_of(&read_props(alloc, src, at, 0, Ctx::FlowIn)) {
+        Some(tag) => stands_for(alloc, handles, tag, wanted),
+        None => false,
     }
 }
 
@@ -204,18 +219,25 @@ fn are_declared(handles: &mut Handles<'static>) -> bool {
     true
 }
 
+/// Whether the tag stands for that text after these declarations.
+fn stands_declared(alloc: Global, tag: &Tag, wanted: &str) -> bool {
+    let mut handles = Handles::new(alloc);
+    are_declared(&mut handles) && stands_for(alloc, &handles, tag, wanted)
+}
+
 #[test]
 fn resolves_tags(rt: HostRuntime) {
-    let alloc = rt.alloc();
     must_hold(
         &rt,
-        stands_undeclared(alloc, STREAM, 18, "tag:yaml.org,2002:str"),
+        stands_undeclared(rt.alloc(), STREAM, 18, "tag:yaml.org,2002:str"),
         STREAM,
     );
-    must_hold(&rt, stands_undeclared(alloc, "- !x!t v\n", 2, ""), "!x!t");
-    let mut handles = Handles::new(alloc);
-    must_hold(&rt, are_declared(&mut handles), "declarations");
+    must_hold(
+        &rt,
+        stands_undeclared(rt.alloc(), "- !x!t v\n", 2, ""),
+        "!x!t",
+    );
     for (tag, wanted) in &TAGS {
-        must_hold(&rt, stands_for(alloc, &handles, tag, wanted), wanted);
+        must_hold(&rt, stands_declared(rt.alloc(), tag, wanted), wanted);
     }
 }

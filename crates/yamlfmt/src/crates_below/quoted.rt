@@ -4,6 +4,7 @@ use crate::answers::must_hold;
 use std::alloc::{AllocError, Global};
 use yf_chars::context::Ctx;
 use yf_lines::fault::Fault;
+use yf_lines::place::Place;
 use yf_lines::quotes::Quotes;
 use yf_lines::source_text::Src;
 use yf_lines::text::{FoundText, Text};
@@ -24,20 +25,26 @@ enum Wanted {
     BadEscape(usize),
 }
 
+/// Whether a scalar that means that, and ends there, is the one that is wanted.
+fn is_value(text: &Text, end: usize, wanted: Wanted) -> bool {
+    match wanted {
+        Wanted::Value(value, wanted_end) => text.as_str() == value && end == wanted_end,
+        Wanted::Slice(value, wanted_end) => {
+            matches!(text, Text::Part(_)) && text.as_str() == value && end == wanted_end
+        }
+        Wanted::Nothing | Wanted::BadEscape(_) => false,
+    }
+}
+
 /// Whether a scalar was read as it is wanted.
 fn is_wanted(read: &FoundText, wanted: Wanted) -> bool {
-    match (read, wanted) {
-        (Ok(Some((text, end))), Wanted::Value(value, wanted_end)) => {
-            text.as_str() == value && *end == wanted_end
+    match read {
+        Ok(Some((text, end))) => is_value(text, *end, wanted),
+        Ok(None) => matches!(wanted, Wanted::Nothing),
+        Err(Fault::EscapeValue { place }) => {
+            place.line == 1 && matches!(wanted, Wanted::BadEscape(column) if place.column == column)
         }
-        (Ok(Some((Text::Part(text), end))), Wanted::Slice(value, wanted_end)) => {
-            *text == value && *end == wanted_end
-        }
-        (Ok(None), Wanted::Nothing) => true,
-        (Err(Fault::EscapeValue { place }), Wanted::BadEscape(column)) => {
-            place.line == 1 && place.column == column
-        }
-        _ => false,
+        Err(_) => false,
     }
 }
 
@@ -157,17 +164,22 @@ fn reads_double_quotes(rt: HostRuntime) {
     }
 }
 
-/// Whether a scalar with a bad escape is scanned to its end, and the escape is told.
-fn is_scanned(alloc: Global, src: &Src) -> bool {
-    if !src.text().is_char_boundary(0) {
-        return false;
-    }
-    match &scan_double(alloc, src, 0, 0, Ctx::FlowOut) {
+/// What `scan_double` answers.
+type Scanned<'a> = Result<Option<(Text<'a>, Option<Place>, usize)>, Fault>;
+
+/// Whether the scalar with a bad escape is found whole, and the escape is told.
+fn is_whole(found: &Scanned) -> bool {
+    match found {
         Ok(Some((text, Some(place), end))) => {
             text.as_str() == "\u{FFFD}A" && *end == 9 && place.line == 1 && place.column == 2
         }
         _ => false,
     }
+}
+
+/// Whether a scalar with a bad escape is scanned to its end, and the escape is told.
+fn is_scanned(alloc: Global, src: &Src) -> bool {
+    src.text().is_char_boundary(0) && is_whole(&scan_double(alloc, src, 0, 0, Ctx::FlowOut))
 }
 
 /// Whether that is so of a text.
