@@ -48,7 +48,7 @@ fn are_same(one: &Result<Content, Fault>, other: &Result<Content, Fault>) -> boo
 }
 
 /// Whether two readings say the same.
-fn has_same_content(alloc: Global, one: &Reading, other: &Reading) -> bool {
+pub fn has_same_content(alloc: Global, one: &Reading, other: &Reading) -> bool {
     are_same(&one.content(alloc), &other.content(alloc))
 }
 

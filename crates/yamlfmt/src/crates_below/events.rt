@@ -3,9 +3,9 @@ ghost use Rattle.std.specs.Prelude.{IfOk};
 ghost use Rattle.yf_events.specs.Reading.{Fits};
 
 use crate::answers::must_hold;
+use crate::laws_tests::has_same_content;
 use std::alloc::{AllocError, Global};
 use yf_comments::comment::Comment;
-use yf_events::content::Content;
 use yf_events::directive::{Directive, Directives};
 use yf_events::document::Doc;
 use yf_events::event::{Entry, Event, NewEvent, PlacedEvent, ScalarStyle, Span};
@@ -323,24 +323,11 @@ fn a_reading_tells_what_it_holds(rt: HostRuntime) {
     must_hold(&rt, is_block(rt.alloc(), Wanted::Block), "a reading");
 }
 
-/// Whether two contents are the same, or are not.
-fn are_same(one: &Result<Content, Fault>, other: &Result<Content, Fault>, wanted: bool) -> bool {
-    match (one, other) {
-        (Ok(content), Ok(other_content)) => (content == other_content) == wanted,
-        _ => false,
-    }
-}
-
-/// Whether two readings have the same content, or have not.
-fn have_same(alloc: Global, one: &Reading, other: &Reading, wanted: bool) -> bool {
-    are_same(&one.content(alloc), &other.content(alloc), wanted)
-}
-
 /// Whether there are two readings, and they have the same content, or have not.
 fn are_told(alloc: Global, one: &Built, other: &Built, wanted: bool) -> bool {
     match (one, other) {
         (Ok(Some(reading)), Ok(Some(other_reading))) => {
-            have_same(alloc, reading, other_reading, wanted)
+            has_same_content(alloc, reading, other_reading) == wanted
         }
         _ => false,
     }
