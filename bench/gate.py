@@ -1,106 +1,73 @@
 #!/usr/bin/env python3
-"""Measures what `rt ci` costs in processor seconds (user and system, so it doesn't matter how busy the machine is), by crate.
+"""Times whole commands of the kit: what `rt ci`, or one part of it, costs in processor seconds and by the clock.
 
-Usage: bench/gate.py [--in FOLDER] [--edits N] [--only proof|tests|edits] [CRATE..]
+Usage: bench/gate.py [--in FOLDER] [COMMAND..]
 
-It clones the last commit into FOLDER (default: one that it removes again) and does there what `rt ci` does, crate by crate, with
-one job: proves the crate from nothing, proves and builds its tests, and tries its must-fail edits over one kept folder. Of the
-edits it tries N spread over the names (default 3, 0: all) and reckons the others from them: the first of a crate checks the whole
-crate, and at the end the crate as it is is checked once more. With CRATE.. it measures these alone; what stands below
-them must have been measured in the same FOLDER, or is proved first. The sum of all crates is what docs/PROVING.md calls the gate.
+It clones the last commit into FOLDER (default: one that it removes again; one that is there is taken as it is) and runs there
+one COMMAND after another, each as `rt` has it and nothing else:
+
+    ci                the merge gate (the default)
+    ci:NAME           the gate of one crate and those below it
+    must-fail:NAME    the must-fail edits of one crate
+    check:NAME        the proof of one crate, over what earlier commands kept
+    test:NAME         the proof and run of its tests, likewise
+
+For each it prints the processor seconds (user and system, of the command and all that it started and waited for), the seconds
+by the clock, the command and its last line. It ends with status 1 where a command did.
 """
 import argparse
-import importlib.machinery
-import importlib.util
 import os
 import resource
-import shutil
 import subprocess
 import sys
 import tempfile
+import time
 
 TOP = os.path.dirname(os.path.dirname(os.path.abspath(__file__)))
+AT_THE_TOP = ("ci", "must-fail")
+IN_A_CRATE = ("check", "test")
 
 
-def load_rt():
-    sys.dont_write_bytecode = True
-    loader = importlib.machinery.SourceFileLoader("rt", os.path.realpath(shutil.which("rt")))
-    made = importlib.util.module_from_spec(importlib.util.spec_from_loader("rt", loader))
-    loader.exec_module(made)
-    return made
+def words_of(command):
+    """The words of a command, and the folder below the top in which it is run."""
+    verb, _, name = command.partition(":")
+    if verb in AT_THE_TOP and (name or verb == "ci"):
+        return ["rt", verb, *([name] if name else [])], "."
+    if verb in IN_A_CRATE and name:
+        return ["rt", verb], os.path.join("crates", name)
+    sys.exit(f"{command}: no such command\n\n{__doc__}")
 
 
-def seconds(call):
-    """Returns the processor seconds that the call's commands took, and what it returned."""
-    before = resource.getrusage(resource.RUSAGE_CHILDREN)
-    result = call()
-    after = resource.getrusage(resource.RUSAGE_CHILDREN)
-    return after.ru_utime + after.ru_stime - before.ru_utime - before.ru_stime, result
+def processor_seconds():
+    used = resource.getrusage(resource.RUSAGE_CHILDREN)
+    return used.ru_utime + used.ru_stime
 
 
-def proof(crate, tests=False):
-    os.makedirs(f"{crate.folder}/out", exist_ok=True)
-    spent, status = seconds(lambda: crate.ci(["--jobs", "1"], tests))
-    if status:
-        sys.exit(f"{crate.name}{' (tests)' if tests else ''}: not proved")
-    return spent
-
-
-def edits(rt, crate, wanted):
-    """Returns how many edits the crate has, and what all of them cost together."""
-    every, _ = rt.edits_of(crate)
-    if not every:
-        return 0, 0
-    step = len(every) / wanted if 0 < wanted < len(every) else 1
-    tried = [every[int(step * k)] for k in range(int(len(every) / step))]
-    spent = []
-    with tempfile.TemporaryDirectory(prefix="gate-edits-") as kept:
-        for edit in tried:
-            cost, (refused, text) = seconds(lambda: rt.must_fail(crate, edit, ["--jobs", "1"], kept))
-            spent.append(cost)
-            print(f"  {cost:6.0f}  {text[:200]}", flush=True)
-        last, _ = seconds(lambda: rt.checked(crate, {}, ["--jobs", "1"], kept))
-    print(f"  {last:6.0f}  the crate as it is, over what the edits left", flush=True)
-    each = sum(spent[1:]) / max(len(spent) - 1, 1)
-    return len(every), spent[0] + each * (len(every) - 1) + last
+def timed(words, folder):
+    """Processor seconds, seconds by the clock, the status and the last line of a command."""
+    spent, begun = processor_seconds(), time.monotonic()
+    done = subprocess.run(words, cwd=folder, stdout=subprocess.PIPE, stderr=subprocess.STDOUT, text=True)
+    lines = done.stdout.strip().splitlines() or [""]
+    return processor_seconds() - spent, time.monotonic() - begun, done.returncode, lines[-1]
 
 
 def main():
-    asked = argparse.ArgumentParser()
+    asked = argparse.ArgumentParser(usage=__doc__)
     asked.add_argument("--in", dest="folder")
-    asked.add_argument("--edits", type=int, default=3)
-    asked.add_argument("--only")
-    asked.add_argument("crates", nargs="*")
+    asked.add_argument("commands", nargs="*")
     given = asked.parse_args()
-    rt = load_rt()
-    rt.Crate.cuts_libraries = True
-    rt.rtlib.Crate = rt.Crate
-    # (its first call sets a signal's handler, which only the main thread may)
-    rt.rtlib.guarded()
+    commands = [words_of(command) for command in given.commands or ["ci"]]
+    failed = False
     with tempfile.TemporaryDirectory(prefix="gate-") as room:
-        folder = os.path.abspath(given.folder or f"{room}/clone")
+        folder = os.path.abspath(given.folder or os.path.join(room, "clone"))
         if not os.path.isdir(folder):
             subprocess.run(["git", "clone", "-q", TOP, folder], check=True)
-        rt.Crate.allowed = rt.handles_of(folder)
-        total = 0
-        crates = sorted(rt.rtlib.crates_below(folder), key=lambda it: len(it.below()))
-        asked_for = [it for it in crates if not given.crates or it.name in given.crates]
-        for crate in crates:
-            is_asked = crate in asked_for
-            is_missing = any(crate in it.below() for it in asked_for) and not os.path.isdir(crate.rlib)
-            proved = tested = tried = number = 0
-            with open(os.devnull, "w", encoding="utf-8") as crate.out:
-                if is_missing or is_asked and given.only in (None, "proof"):
-                    proved = proof(crate)
-                if is_asked and given.only in (None, "tests") and crate.has_tests():
-                    tested = proof(crate, True)
-            if not is_asked:
-                continue
-            if given.only in (None, "edits"):
-                number, tried = edits(rt, crate, given.edits)
-            total += proved + tested + tried
-            print(f"{crate.name:16} proof {proved:6.0f}  tests {tested:6.0f}  {number:3} edits {tried:6.0f}", flush=True)
-        print(f"{'together':16} {total:6.0f}")
+        for words, below in commands:
+            spent, passed, status, last = timed(words, os.path.join(folder, below))
+            failed = failed or status != 0
+            where = "" if below == "." else f" in {below}"
+            print(f"{spent:8.0f} {passed:8.0f}  {' '.join(words)}{where}: {last}", flush=True)
+    sys.exit(1 if failed else 0)
 
 
 if __name__ == "__main__":
