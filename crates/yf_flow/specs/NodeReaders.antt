@@ -1,5 +1,5 @@
--- What the readers of nodes answer in the flow and key contexts. In the two block contexts they answer that there is no node, though
--- `FlowNode` derives an alias in each context: no other production has a flow node there.
+-- What the readers of nodes answer in the flow and key contexts. In the two block contexts they answer that there is no node, and
+-- `FlowNode` derives none there.
 use Rattle.std.specs.Prelude.{◌≡◌, ℕ, ℤ, List, [], Option, Result, MatchOption, MatchResult}
 use Rattle.std.specs.Str.{IsCharBoundary}
 use Rattle.yf_chars.specs.declared.context.Ctx.{Ctx}
