@@ -12,12 +12,16 @@ use yf_comments::comment::Comment;
 /// Where a search begins that goes by halving alone: no list has as many comments.
 const UNKNOWN: usize = usize::MAX;
 
-/// Where the first search for an offset begins: at the first comment, where the comments are in the order of the text. Where they
-/// are not, which no reading of a text has, what a search finds would depend on where it begins.
-pub(crate) fn first_search(comments: &[Comment]) -> usize
+/// Where the first search for an offset begins in a pass over so many events: at the first comment, where there are no more comments
+/// than events and they are in the order of the text. Where they are not, which no reading of a text has, what a search finds would
+/// depend on where it begins; and more comments than events are not all looked at.
+pub(crate) fn first_search(comments: &[Comment], events: usize) -> usize
     ensures rising { result ≡ 0 → IsNonDecreasingBy (λ c. c.offset) comments.now }
     ensures either { (result ≡ 0) ⊎ (result ≡ UNKNOWN) }
 {
+    if comments.len() > events {
+        return UNKNOWN;
+    }
     let mut k = 1;
     while k < comments.len() {
         if comments[k].offset < comments[k - 1].offset {

@@ -188,7 +188,7 @@ pub fn decide(
     let mut list = Forms::new(alloc);
     let mut stack: Vec<Level> = Vec::new(alloc);
     let mut done = 0;
-    let mut near = first_search(reading.comments());
+    let mut near = first_search(reading.comments(), reading.len());
     let measured = MeasuredReading {
         reading,
         measures,
