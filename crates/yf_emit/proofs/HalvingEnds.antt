@@ -1,11 +1,13 @@
 -- Where a search by halving ends: at one index alone, and among offsets in order at the one before which they stand.
-use Rattle.std.proofs.Common.{arith, None, Some, ◌≡◌, ◌+◌, ◌<◌, ◌≤◌, false, get_or, length, lit<, lit≤, List, [], ◌∷◌, map, nat_lt, refl, slice_index, subst, sym, true, zero, suc, ℕ, ⊎_elim}
+use Rattle.std.proofs.Common.{ap, arith, Bool, None, Option, Some, ◌∙◌, ◌≡◌, ◌+◌, ◌<◌, ◌≤◌, false, get_or, length, lit<, lit≤, List, [], ◌∷◌, map, nat_lt, refl, slice_index, subst, sym, true, zero, suc, ℕ, ⊎_elim}
 use Rattle.std.proofs.lemmas.Bool.{cases_lt}
 use Rattle.std.proofs.lemmas.Bool.Decides.{nat_tests}
 use Rattle.std.proofs.lemmas.List.{get_or-map, length-map}
 use Rattle.std.specs.List.Sorted.{IsPartitionPoint}
+use Rattle.std.specs.Prelude.{is_some}
 use Rattle.yf_comments.specs.declared.comment.Comment.{Comment}
 use Rattle.yf_emit.specs.Halving.{Halves, none_left, behind_middle, before_middle, HalvesBetween, found, not_found, middle}
+use Rattle.yf_emit.specs.Searches.{TellsHalving}
 
 pub offset_at : (xs : List Comment) (k : ℕ) (d : Comment) → k < length xs → slice_index (map (λ (c : Comment). c.offset) xs) k ≡ (get_or xs k d).offset
 offset_at xs k d l = get_or-map (λ (c : Comment). c.offset) xs k d 0 l
@@ -96,3 +98,17 @@ pub halved_past : (xs : List Comment) (from to k : ℕ) → Halves (map (λ (c :
 halved_past xs from to k h l =
     let e : length (map (λ (c : Comment). c.offset) xs) ≡ length xs = length-map xs (λ (c : Comment). c.offset) in
     not_found {k = k} (rw e h) (λ b. absurd (omega arith))
+
+-- What is found is one alone.
+
+before_both : (os : List ℕ) (to j k : ℕ) → j ≡ k → slice_index os j < to → to ≤ slice_index os k → ⊥
+before_both os to j k e l g = let f = ap (λ n. slice_index os n) e in omega arith
+
+pub one_between : {os : List ℕ} {from to : ℕ} {o p : Option ℕ} → HalvesBetween os from to o → HalvesBetween os from to p → o ≡ p
+one_between (found h l b) (found i m d) = ap Some (one_end h i)
+one_between {os} {from} {to} (found h l b) (not_found i n) = absurd (before_both os to _ _ (one_end h i) b (n (rw (sym (one_end h i)) l)))
+one_between {os} {from} {to} (not_found h n) (found i m d) = absurd (before_both os to _ _ (one_end i h) d (n (rw (sym (one_end i h)) m)))
+one_between (not_found h n) (not_found i m) = refl
+
+pub tells_halving : {os : List ℕ} {from to : ℕ} {b : Bool} {o : Option ℕ} → b ≡ is_some o → HalvesBetween os from to o → TellsHalving os from to b
+tells_halving e h p i = e ∙ ap is_some (one_between h i)

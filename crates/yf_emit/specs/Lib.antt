@@ -44,6 +44,7 @@ pub mod Restyled
 pub mod RowShapes
 pub mod Rows
 pub mod SameComments
+pub mod Searches
 pub mod Steps
 pub mod StillLeaves
 pub mod Textual

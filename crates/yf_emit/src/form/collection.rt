@@ -1,11 +1,13 @@
 //! What is known of a collection whose nodes are measured, from its beginning to its end.
-ghost use Rattle.std.specs.Prelude.{◌≡◌, ◌&&◌, map, not};
+ghost use Rattle.std.specs.Prelude.{◌≡◌, ◌&&◌, false, map, not, MatchOption};
 ghost use Rattle.std.specs.List.Sorted.{IsNonDecreasingBy};
 ghost use Rattle.std.specs.Str.{IsUtf8};
 ghost use Rattle.yf_comments.specs.Comment.{comment_value};
+ghost use Rattle.yf_emit.specs.ContentStart as ContentStart;
 ghost use Rattle.yf_emit.specs.Kept as Kept;
 ghost use Rattle.yf_emit.specs.Measuring as Measuring;
 ghost use Rattle.yf_emit.specs.OneLine.{props_text};
+ghost use Rattle.yf_emit.specs.Searches.{TellsHalving};
 ghost use Rattle.yf_props.specs.Props.{props_value};
 
 use crate::form::comments_before::first_between;
@@ -34,8 +36,10 @@ pub(crate) struct Open {
 
 /// Whether a comment stands between the brackets of a collection with these properties.
 fn has_comment(text: &str, comments: &[Comment], span: Option<Span>, props: &Props) -> bool
-    ensures { IsNonDecreasingBy (λ c. c.offset) comments.now
+    ensures has { IsNonDecreasingBy (λ c. c.offset) comments.now
         → result ≡ Kept.has_comment text.now (map comment_value comments.now) span (props_value props.now) }
+    ensures ends { MatchOption span (result ≡ false) (λ span. TellsHalving (map (λ c. c.offset) comments.now)
+        (ContentStart.content_start text.now span (props_value props.now)) span.end result) }
 {
     match span {
         Some(span) => {

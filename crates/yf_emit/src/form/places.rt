@@ -1,11 +1,12 @@
 //! Where each node stands in the block collections that are open round it. Columns count from 0 here.
-ghost use Rattle.std.specs.Prelude.{◌<◌, ◌≡◌, ◌∷◌, ◌||◌, length, map, reverse, List};
+ghost use Rattle.std.specs.Prelude.{◌<◌, ◌≡◌, ◌∷◌, ◌||◌, length, map, reverse, List, Some};
 ghost use Rattle.std.specs.List.Sorted.{IsNonDecreasingBy};
 ghost use Rattle.yf_comments.specs.Comment.{comment_value};
 ghost use Rattle.yf_events.specs.Event.{event_value};
 ghost use Rattle.yf_emit.specs.Deciding as Deciding;
 ghost use Rattle.yf_emit.specs.EventsGiven.{given_in};
 ghost use Rattle.yf_emit.specs.Halving.{MayBegin, StaysUnknown};
+ghost use Rattle.yf_emit.specs.Searches.{trail_limit, HalvesBehind};
 
 use crate::form::comments_before::first_near;
 use crate::form::keys::{Key, is_implicit_key, key_of, leaf_start};
@@ -74,6 +75,7 @@ fn comment_between(comments: &[Comment], near: &mut usize, from: usize, to: usiz
     requires { MayBegin (λ c. c.offset) comments.now near.old }
     ensures between { IsNonDecreasingBy (λ c. c.offset) (map comment_value comments.now)
         → result ≡ Deciding.comment_between (map comment_value comments.now) from (Some to) }
+    ensures ends { HalvesBehind (map (λ c. c.offset) comments.now) from (Some to) result }
     ensures near { StaysUnknown near.old near.new }
 {
     first_near(comments, near, from.saturating_add(1), to)
@@ -90,6 +92,7 @@ fn comment_before(
     requires { MayBegin (λ c. c.offset) comments.now near.old }
     ensures between { IsNonDecreasingBy (λ c. c.offset) (map comment_value comments.now)
         → result ≡ Deciding.comment_between (map comment_value comments.now) from to }
+    ensures ends { HalvesBehind (map (λ c. c.offset) comments.now) from to result }
     ensures near { StaysUnknown near.old near.new }
 {
     match to {
@@ -111,6 +114,7 @@ fn trailing_comment(
     requires { MayBegin (λ c. c.offset) reading.now.comments near.old }
     ensures trailing { IsNonDecreasingBy (λ c. c.offset) reading.now.comments
         → result ≡ Deciding.trailing_comment reading.now.comments reading.now.events start i measure.now }
+    ensures ends { HalvesBehind (map (λ c. c.offset) reading.now.comments) start (trail_limit reading.now.events i measure.now) result }
     ensures near { StaysUnknown near.old near.new }
 {
     let to = leaf_start(reading, measure.first_leaf);
