@@ -9,9 +9,32 @@ ghost use Rattle.yf_emit.specs.Layout.{ended};
 use std::alloc::AllocError;
 use yf_events::event::ScalarStyle;
 
-/// Appends spaces.
+/// Appends spaces. Where a growth of memory is refused, all the room that there was is filled.
 #[inline(always)]
 pub fn push_spaces(out: &mut String, count: usize) -> Result<(), AllocError>
+    ensures { OnOk result (string_bytes out.new ≡ string_bytes out.old ++ replicate count 32) }
+{
+    if count <= out.capacity().saturating_sub(out.len()) {
+        return push_by_eight(out, count);
+    }
+    push_each_space(out, count)
+}
+
+/// Appends spaces one by one, where there is not room for all.
+#[cold]
+#[inline(never)]
+fn push_each_space(out: &mut String, count: usize) -> Result<(), AllocError>
+    ensures { OnOk result (string_bytes out.new ≡ string_bytes out.old ++ replicate count 32) }
+{
+    for _done in 0..count {
+        out.push(' ')?;
+    }
+    Ok(())
+}
+
+/// Appends spaces eight at a time.
+#[inline(always)]
+fn push_by_eight(out: &mut String, count: usize) -> Result<(), AllocError>
     ensures { OnOk result (string_bytes out.new ≡ string_bytes out.old ++ replicate count 32) }
 {
     let mut left = count;
