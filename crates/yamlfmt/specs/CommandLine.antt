@@ -28,17 +28,13 @@ write_flag = record (new_rule (codes "write")) { long = Some (codes "write"); ac
 abbrev pub file_word : Rule
 file_word = record (new_rule (codes "file")) { value_names = 1 }
 
--- `NAME [--config FILE]`
-abbrev pub configured : Text → App
-configured name = with_rule (new_app name) config_option
-
 -- `NAME [--config FILE] [FILE]`
 abbrev pub reading_command : Text → App
-reading_command name = with_rule (configured name) file_word
+reading_command name = with_rule (with_rule (new_app name) config_option) file_word
 
 -- `fmt [--config FILE] [--write] [FILE]`
 abbrev pub writing_command : App
-writing_command = with_rule (with_rule (configured (codes "fmt")) write_flag) file_word
+writing_command = with_rule (with_rule (with_rule (new_app (codes "fmt")) config_option) write_flag) file_word
 
 -- one of the commands is wanted; without any word, the help is the refusal; the program's name is not among the words;
 -- there is a version
@@ -56,6 +52,10 @@ yamlfmt =
     (reading_command (codes "events")).top)
     (reading_command (codes "check")).top)
     writing_command.top
+
+-- what both kinds of command are made from: `NAME [--config FILE]`
+abbrev pub configured : Text → App
+configured name = with_rule (new_app name) config_option
 
 -- an option as a command takes it, and a command as part of another one: nothing of them is for other commands too
 abbrev pub IsOption : Arg → Rule → Type 0
