@@ -39,16 +39,16 @@ fn has_same_comments(one: &Reading, other: &Reading) -> bool {
     true
 }
 
-/// Whether there are two contents, and they are the same.
-fn are_same(one: &Result<Content, Fault>, other: &Result<Content, Fault>) -> bool {
+/// Whether two contents are the same; None where one is refused.
+fn are_same(one: &Result<Content, Fault>, other: &Result<Content, Fault>) -> Option<bool> {
     match (one, other) {
-        (Ok(content), Ok(other_content)) => content == other_content,
-        _ => false,
+        (Ok(content), Ok(other_content)) => Some(content == other_content),
+        _ => None,
     }
 }
 
-/// Whether two readings say the same.
-pub fn has_same_content(alloc: Global, one: &Reading, other: &Reading) -> bool {
+/// Whether two readings say the same; None where the content of one is refused.
+pub fn has_same_content(alloc: Global, one: &Reading, other: &Reading) -> Option<bool> {
     are_same(&one.content(alloc), &other.content(alloc))
 }
 
@@ -97,7 +97,7 @@ type Read<'a> = Result<Reading<'a>, Fault>;
 fn is_in_order(trial: Trial, reading: &Reading, text: &str, read: &Read) -> bool {
     match read {
         Ok(read) => {
-            has_same_content(trial.alloc, reading, read)
+            matches!(has_same_content(trial.alloc, reading, read), Some(true))
                 && has_same_comments(reading, read)
                 && is_mended(trial, read, text)
                 && is_fixed(trial, text)

@@ -327,14 +327,14 @@ fn a_reading_tells_what_it_holds(rt: HostRuntime) {
 fn are_told(alloc: Global, one: &Built, other: &Built, wanted: bool) -> bool {
     match (one, other) {
         (Ok(Some(reading)), Ok(Some(other_reading))) => {
-            has_same_content(alloc, reading, other_reading) == wanted
+            has_same_content(alloc, reading, other_reading) == Some(wanted)
         }
         _ => false,
     }
 }
 
 /// The nodes of two documents, the first of which has markers, and whether they have the same content.
-static CONTENTS: [(&[Node], &[Node], bool); 6] = [
+static CONTENTS: [(&[Node], &[Node], bool); 5] = [
     // whatever the styles and markers are
     (
         &[
@@ -372,7 +372,6 @@ static CONTENTS: [(&[Node], &[Node], bool); 6] = [
         &[Node::Anchored("b"), Node::EndOfMapping],
         false,
     ),
-    (&[Node::Tagged("!a")], &[Node::Tagged("!b")], false),
 ];
 
 /// Whether streams of these nodes, the first with markers, have the same content, or have not.
@@ -385,10 +384,21 @@ fn tells(alloc: Global, nodes: &[Node], other_nodes: &[Node], wanted: bool) -> b
     )
 }
 
+/// Whether streams of one scalar each, whose starts are written, have not the same content where their tags differ.
+fn tells_tags(alloc: Global) -> bool {
+    are_told(
+        alloc,
+        &reading_of(alloc, true, &[Node::Tagged("!a")], false),
+        &reading_of(alloc, true, &[Node::Tagged("!b")], false),
+        false,
+    )
+}
+
 #[test]
 fn tells_contents_apart(rt: HostRuntime) {
     for i in 0..CONTENTS.len() {
         let (nodes, other_nodes, wanted) = CONTENTS[i];
         assert!(rt; tells(rt.alloc(), nodes, other_nodes, wanted), "{i}");
     }
+    assert!(rt; tells_tags(rt.alloc()));
 }

@@ -19,6 +19,8 @@ enum Wanted {
     Value(&'static str, usize),
     /// The same of a scalar that is a slice of its line.
     Slice(&'static str, usize),
+    /// The same of one that is a text of its own.
+    Own(&'static str, usize),
     /// There is none.
     Nothing,
     /// An escape of the first line that is no character, by its column.
@@ -31,6 +33,9 @@ fn is_value(text: &Text, end: usize, wanted: Wanted) -> bool {
         Wanted::Value(value, wanted_end) => text.as_str() == value && end == wanted_end,
         Wanted::Slice(value, wanted_end) => {
             matches!(text, Text::Part(_)) && text.as_str() == value && end == wanted_end
+        }
+        Wanted::Own(value, wanted_end) => {
+            matches!(text, Text::Owned(_)) && text.as_str() == value && end == wanted_end
         }
         Wanted::Nothing | Wanted::BadEscape(_) => false,
     }
@@ -83,7 +88,7 @@ fn is_double(alloc: Global, row: &Row) -> bool {
 const SLICES: &str = "'b' \"e\" 'c''d'";
 
 /// Single-quoted scalars.
-static SINGLE: [Row; 8] = [
+static SINGLE: [Row; 9] = [
     ("'it''s'", 0, 0, Ctx::FlowOut, Wanted::Value("it's", 7)),
     // where no quote is left, the last pair closes
     ("'a''b", 0, 0, Ctx::FlowOut, Wanted::Value("a", 3)),
@@ -106,6 +111,7 @@ static SINGLE: [Row; 8] = [
     ),
     (SLICES, 0, 1, Ctx::FlowOut, Wanted::Slice("b", 3)),
     (SLICES, 8, 1, Ctx::FlowOut, Wanted::Value("c'd", 14)),
+    (SLICES, 8, 1, Ctx::FlowOut, Wanted::Own("c'd", 14)),
 ];
 
 #[test]
@@ -113,8 +119,6 @@ fn reads_single_quotes(rt: HostRuntime) {
     for row in &SINGLE {
         must_hold(&rt, is_single(rt.alloc(), row), row.0);
     }
-    let slice = (SLICES, 8, 1, Ctx::FlowOut, Wanted::Slice("c'd", 14));
-    must_hold(&rt, !is_single(rt.alloc(), &slice), "a slice");
 }
 
 /// Double-quoted scalars.
