@@ -5,7 +5,6 @@ use crate::program::run;
 use crate::report::report;
 use std::alloc::{AllocError, Global};
 use std::io;
-use std::process::Abort;
 use yf_emit::format::format;
 use yf_emit::style::Style;
 use yf_events::reading::Reading;
@@ -147,9 +146,4 @@ pub fn repeated(
 /// Whether work on files was done, and what was asked of it holds.
 pub fn is_true(answer: &io::Result<bool>) -> bool {
     matches!(answer, Ok(true))
-}
-
-/// Ends a test unless that holds. The text tells for which row of a table it should.
-pub fn must_hold<A: Abort>(rt: &A, holds: bool, row: &str) {
-    assert!(rt; holds, "{row}");
 }

@@ -1,11 +1,10 @@
 //! What the checker finds, in tables of data.
 
-use crate::answers::{answer_to, are_lines, must_hold};
+use crate::answers::{answer_to, are_lines};
 use crate::command_line::Verb;
 use crate::rules::{WithRules, with_all_rules};
 use crate::settings::style_from_toml;
 use std::alloc::{AllocError, Global};
-use std::process::Abort;
 use yf_emit::style::Style;
 use yf_rules::rule::Rule;
 
@@ -61,12 +60,6 @@ fn first_wrong(alloc: Global, style: &Style, rows: &'static [Row]) -> Option<&'s
     }
 }
 
-/// Ends a test unless the checker finds that in all of these texts.
-fn must_find<A: Abort>(rt: &A, alloc: Global, style: &Style, rows: &'static [Row]) {
-    let wrong = first_wrong(alloc, style, rows);
-    must_hold(rt, wrong.is_none(), wrong.unwrap_or(""));
-}
-
 /// Streams, and what is found in them.
 static MENDED: [(&str, &str); 8] = [
     ("- a\n- b\n", "1:1 document-start (fixable)"),
@@ -99,7 +92,8 @@ static MENDED: [(&str, &str); 8] = [
 
 #[test]
 fn finds_what_the_house_style_mends(rt: HostRuntime) {
-    must_find(&rt, rt.alloc(), &Style::house(), &MENDED);
+    let wrong = first_wrong(rt.alloc(), &Style::house(), &MENDED);
+    assert!(rt; wrong.is_none(), "{}", wrong.unwrap_or(""));
 }
 
 /// Streams with faults in lines and keys, and what is found in them.
@@ -132,7 +126,8 @@ static LINES_AND_KEYS: [(&str, &str); 6] = [
 
 #[test]
 fn finds_lines_and_keys(rt: HostRuntime) {
-    must_find(&rt, rt.alloc(), &Style::house(), &LINES_AND_KEYS);
+    let wrong = first_wrong(rt.alloc(), &Style::house(), &LINES_AND_KEYS);
+    assert!(rt; wrong.is_none(), "{}", wrong.unwrap_or(""));
 }
 
 /// Streams in which nothing is found.
@@ -148,7 +143,8 @@ static IN_HOUSE_STYLE: [Row; 7] = [
 
 #[test]
 fn finds_nothing_in_the_house_style(rt: HostRuntime) {
-    must_find(&rt, rt.alloc(), &Style::house(), &IN_HOUSE_STYLE);
+    let wrong = first_wrong(rt.alloc(), &Style::house(), &IN_HOUSE_STYLE);
+    assert!(rt; wrong.is_none(), "{}", wrong.unwrap_or(""));
 }
 
 /// Streams with sequences, and what is found in them where sequences stand at their keys.
@@ -168,7 +164,7 @@ fn first_wrong_under(alloc: Global, settings: &str, rows: &'static [Row]) -> Opt
 #[test]
 fn checks_sequences_at_their_keys(rt: HostRuntime) {
     let wrong = first_wrong_under(rt.alloc(), "seq_indent = false\n", &SEQUENCES);
-    must_hold(&rt, wrong.is_none(), wrong.unwrap_or(""));
+    assert!(rt; wrong.is_none(), "{}", wrong.unwrap_or(""));
 }
 
 /// A stream that is refused.
@@ -176,5 +172,6 @@ static REFUSED: [Row; 1] = [("- *a \n", "1:3 refused: unknown-alias\n")];
 
 #[test]
 fn checks_accepted_streams_alone(rt: HostRuntime) {
-    must_find(&rt, rt.alloc(), &Style::house(), &REFUSED);
+    let wrong = first_wrong(rt.alloc(), &Style::house(), &REFUSED);
+    assert!(rt; wrong.is_none(), "{}", wrong.unwrap_or(""));
 }

@@ -1,6 +1,5 @@
 //! Command lines: what they ask for, and the texts of help and of refusals.
 
-use crate::answers::must_hold;
 use crate::command_line::{Cmd, Usage, Verb, parse_line};
 use std::alloc::{AllocError, Global};
 use yf_lines::text::OwnedText;
@@ -81,7 +80,7 @@ static COMMANDS: [Asked; 7] = [
 #[test]
 fn reads_commands(rt: HostRuntime) {
     for asked in &COMMANDS {
-        must_hold(&rt, asks(rt.alloc(), asked), asked.0);
+        assert!(rt; asks(rt.alloc(), asked), "{}", asked.0);
     }
 }
 
@@ -126,7 +125,7 @@ static REFUSED: [&str; 15] = [
 #[test]
 fn refuses_other_words(rt: HostRuntime) {
     for line in &REFUSED {
-        must_hold(&rt, is_refused(rt.alloc(), line), line);
+        assert!(rt; is_refused(rt.alloc(), line), "{line}");
     }
 }
 
@@ -224,6 +223,6 @@ fn says(alloc: Global, line: &str, wanted: &str) -> bool {
 #[test]
 fn says_how_it_is_used_and_what_is_wrong(rt: HostRuntime) {
     for (line, wanted) in &SAID {
-        must_hold(&rt, says(rt.alloc(), line, wanted), line);
+        assert!(rt; says(rt.alloc(), line, wanted), "{line}");
     }
 }

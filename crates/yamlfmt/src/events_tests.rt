@@ -1,6 +1,6 @@
 //! The events of streams, and why streams are refused, in tables of data.
 
-use crate::answers::{Answer, answer_to, are_lines, must_hold, repeated};
+use crate::answers::{Answer, answer_to, are_lines, repeated};
 use crate::command_line::Verb;
 use std::alloc::{AllocError, Global};
 use yf_emit::style::Style;
@@ -70,7 +70,7 @@ static BLOCK_COLLECTIONS: [(&str, &str); 8] = [
 #[test]
 fn prints_block_collections(rt: HostRuntime) {
     for (input, node) in &BLOCK_COLLECTIONS {
-        must_hold(&rt, prints_node(rt.alloc(), input, node), input);
+        assert!(rt; prints_node(rt.alloc(), input, node), "{input}");
     }
 }
 
@@ -101,7 +101,7 @@ static SCALARS: [(&str, &str); 11] = [
 #[test]
 fn prints_scalars(rt: HostRuntime) {
     for (input, node) in &SCALARS {
-        must_hold(&rt, prints_node(rt.alloc(), input, node), input);
+        assert!(rt; prints_node(rt.alloc(), input, node), "{input}");
     }
 }
 
@@ -129,7 +129,7 @@ static FLOW_COLLECTIONS: [(&str, &str); 5] = [
 #[test]
 fn prints_flow_collections(rt: HostRuntime) {
     for (input, node) in &FLOW_COLLECTIONS {
-        must_hold(&rt, prints_node(rt.alloc(), input, node), input);
+        assert!(rt; prints_node(rt.alloc(), input, node), "{input}");
     }
 }
 
@@ -159,7 +159,7 @@ static STREAMS: [(&str, &str); 7] = [
 #[test]
 fn prints_streams(rt: HostRuntime) {
     for (input, lines) in &STREAMS {
-        must_hold(&rt, prints(rt.alloc(), input, lines), input);
+        assert!(rt; prints(rt.alloc(), input, lines), "{input}");
     }
 }
 
@@ -184,15 +184,14 @@ static NO_STREAMS: [&str; 14] = [
 #[test]
 fn refuses_what_is_no_stream(rt: HostRuntime) {
     for input in &NO_STREAMS {
-        must_hold(
-            &rt,
+        assert!(rt;
             refuses(
                 rt.alloc(),
                 input.as_bytes(),
                 " refused: syntax
 ",
             ),
-            input,
+            "{input}"
         );
     }
 }
@@ -223,7 +222,7 @@ static BREACHES: [(&str, &str); 13] = [
 #[test]
 fn refuses_breaches(rt: HostRuntime) {
     for (input, line) in &BREACHES {
-        must_hold(&rt, refuses(rt.alloc(), input.as_bytes(), line), input);
+        assert!(rt; refuses(rt.alloc(), input.as_bytes(), line), "{input}");
     }
 }
 
@@ -236,7 +235,7 @@ static NO_TEXTS: [(&[u8], &str); 2] = [
 #[test]
 fn refuses_bytes_that_are_no_text(rt: HostRuntime) {
     for (input, line) in &NO_TEXTS {
-        must_hold(&rt, refuses(rt.alloc(), input, line), line);
+        assert!(rt; refuses(rt.alloc(), input, line), "{line}");
     }
 }
 

@@ -1,6 +1,6 @@
 //! Files that are rewritten, in a folder of their own.
 
-use crate::answers::{is_true, must_hold};
+use crate::answers::is_true;
 use crate::failing_files::{FailingFiles, Step};
 use crate::files::rewrite;
 use std::fs::Permissions;
@@ -124,18 +124,13 @@ fn keeps_permissions(rt: &HostRuntime) -> io::Result<bool> {
 #[test]
 fn rewrites_files_or_leaves_them(rt: HostRuntime) {
     for (old, fails, wanted, new) in &TEXTS {
-        must_hold(
-            &rt,
+        assert!(rt;
             is_true(&ends_with(&rt, old, *fails, *wanted, new)),
-            old,
+            "{old}"
         );
     }
-    must_hold(&rt, is_true(&keeps_permissions(&rt)), "permissions");
-    must_hold(
-        &rt,
-        fs::remove_dir_all(&rt, "yamlfmt_rewrites").is_ok(),
-        "remove",
-    );
+    assert!(rt; is_true(&keeps_permissions(&rt)));
+    assert!(rt; fs::remove_dir_all(&rt, "yamlfmt_rewrites").is_ok());
 }
 
 /// Paths at which no regular file stands, and one at which then nothing may stand.
@@ -152,13 +147,9 @@ fn is_no_file(rt: &HostRuntime, path: &str, missing: &str) -> bool {
 
 #[test]
 fn refuses_what_is_no_regular_file(rt: HostRuntime) {
-    must_hold(&rt, make_folder(&rt, "yamlfmt_kinds").is_ok(), "make");
+    assert!(rt; make_folder(&rt, "yamlfmt_kinds").is_ok());
     for (path, missing) in &NO_FILES {
-        must_hold(&rt, is_no_file(&rt, path, missing), path);
+        assert!(rt; is_no_file(&rt, path, missing), "{path}");
     }
-    must_hold(
-        &rt,
-        fs::remove_dir_all(&rt, "yamlfmt_kinds").is_ok(),
-        "remove",
-    );
+    assert!(rt; fs::remove_dir_all(&rt, "yamlfmt_kinds").is_ok());
 }

@@ -1,6 +1,6 @@
 //! What the formatter writes, in tables of data.
 
-use crate::answers::{answer_to, must_hold, repeated};
+use crate::answers::{answer_to, repeated};
 use crate::command_line::Verb;
 use crate::settings::style_from_toml;
 use std::alloc::{AllocError, Global};
@@ -192,7 +192,7 @@ pub static WITH_SETTINGS: [(&str, &str, &str); 10] = [
 fn formats_documents_and_directives(rt: HostRuntime) {
     let style = Style::house();
     for (input, text) in &PLAIN_STREAMS {
-        must_hold(&rt, formats(rt.alloc(), &style, input, text), input);
+        assert!(rt; formats(rt.alloc(), &style, input, text), "{input}");
     }
 }
 
@@ -200,7 +200,7 @@ fn formats_documents_and_directives(rt: HostRuntime) {
 fn formats_keys_collections_and_scalars(rt: HostRuntime) {
     let style = Style::house();
     for (input, text) in &NODES {
-        must_hold(&rt, formats(rt.alloc(), &style, input, text), input);
+        assert!(rt; formats(rt.alloc(), &style, input, text), "{input}");
     }
 }
 
@@ -208,7 +208,7 @@ fn formats_keys_collections_and_scalars(rt: HostRuntime) {
 fn formats_comments_and_blank_lines(rt: HostRuntime) {
     let style = Style::house();
     for (input, text) in &COMMENTED {
-        must_hold(&rt, formats(rt.alloc(), &style, input, text), input);
+        assert!(rt; formats(rt.alloc(), &style, input, text), "{input}");
     }
 }
 
@@ -223,7 +223,7 @@ fn formats_under(alloc: Global, settings: &str, input: &str, text: &str) -> bool
 #[test]
 fn formats_under_settings(rt: HostRuntime) {
     for (settings, input, text) in &WITH_SETTINGS {
-        must_hold(&rt, formats_under(rt.alloc(), settings, input, text), input);
+        assert!(rt; formats_under(rt.alloc(), settings, input, text), "{input}");
     }
 }
 
@@ -264,7 +264,7 @@ fn formats_long(alloc: Global, input: &Repeated, text: &Repeated) -> bool {
 #[test]
 fn formats_long_keys_and_deep_sequences(rt: HostRuntime) {
     for (input, text) in &LONG {
-        must_hold(&rt, formats_long(rt.alloc(), input, text), text.0);
+        assert!(rt; formats_long(rt.alloc(), input, text), "{}", text.0);
     }
 }
 
@@ -287,6 +287,6 @@ fn refuses(alloc: Global, input: &str, line: &str) -> bool {
 #[test]
 fn refuses_streams(rt: HostRuntime) {
     for (input, line) in &REFUSED {
-        must_hold(&rt, refuses(rt.alloc(), input, line), input);
+        assert!(rt; refuses(rt.alloc(), input, line), "{input}");
     }
 }

@@ -1,6 +1,6 @@
 //! Readers, writers and memory that fail, and streams that are cut: each run answers in full, or says why it can't.
 
-use crate::answers::{Answer, answer_over, answer_to, command, must_hold};
+use crate::answers::{Answer, answer_over, answer_to, command};
 use crate::command_line::Verb;
 use crate::faulty::{FaultyReader, FaultyWriter};
 use crate::program::run;
@@ -275,17 +275,17 @@ fn is_refused_by_memory_alone(
 
 #[test]
 fn answers_where_a_read_fails(rt: HostRuntime) {
-    must_hold(&rt, holds(rt.alloc(), Failing::Reads), "reads");
+    assert!(rt; holds(rt.alloc(), Failing::Reads));
 }
 
 #[test]
 fn answers_where_a_write_fails(rt: HostRuntime) {
-    must_hold(&rt, holds(rt.alloc(), Failing::Writes), "writes");
+    assert!(rt; holds(rt.alloc(), Failing::Writes));
 }
 
 #[test]
 fn answers_where_memory_is_refused(rt: HostRuntime) {
-    must_hold(&rt, holds(rt.alloc(), Failing::Memory), "memory");
+    assert!(rt; holds(rt.alloc(), Failing::Memory));
 }
 
 /// Whether the formatter writes a front to a writer that has room for three bytes.
@@ -299,7 +299,7 @@ fn formats_a_front(alloc: Global) -> bool {
 
 #[test]
 fn formats_a_front_for_a_writer_that_takes_no_more(rt: HostRuntime) {
-    must_hold(&rt, formats_a_front(rt.alloc()), "a front");
+    assert!(rt; formats_a_front(rt.alloc()));
 }
 
 /// Streams of each part of the grammar, accepted and refused.
@@ -373,10 +373,9 @@ fn answers_each_front(alloc: Global, stream: &[u8]) -> bool {
 #[test]
 fn answers_each_front_of_a_stream(rt: HostRuntime) {
     for stream in &STREAMS {
-        must_hold(
-            &rt,
+        assert!(rt;
             answers_each_front(rt.alloc(), stream.as_bytes()),
-            stream,
+            "{stream}"
         );
     }
 }

@@ -2,7 +2,7 @@
 //! that can be fixed, and formatting it again changes nothing.
 ghost use Rattle.std.specs.Prelude.{◌≤◌};
 
-use crate::answers::{formatted, must_hold, reading_of};
+use crate::answers::{formatted, reading_of};
 use crate::fmt_tests::{COMMENTED, NODES, PLAIN_STREAMS, WITH_SETTINGS};
 use crate::rules::{WithRules, with_all_rules};
 use std::alloc::{AllocError, Global};
@@ -300,15 +300,15 @@ fn laws_hold(alloc: Global, texts: Texts) -> bool {
 
 #[test]
 fn laws_of_rows(rt: HostRuntime) {
-    must_hold(&rt, laws_hold(rt.alloc(), Texts::Rows), "rows");
+    assert!(rt; laws_hold(rt.alloc(), Texts::Rows));
 }
 
 #[test]
 fn laws_of_cuts(rt: HostRuntime) {
-    must_hold(&rt, laws_hold(rt.alloc(), Texts::Cuts), "cuts");
+    assert!(rt; laws_hold(rt.alloc(), Texts::Cuts));
 }
 
 #[test]
 fn laws_of_generated_texts(rt: HostRuntime) {
-    must_hold(&rt, laws_hold(rt.alloc(), Texts::Generated), "generated");
+    assert!(rt; laws_hold(rt.alloc(), Texts::Generated));
 }

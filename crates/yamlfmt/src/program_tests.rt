@@ -1,6 +1,6 @@
 //! Runs over readers and writers in memory: statuses, and what is written to which stream.
 
-use crate::answers::{answer_to, must_hold};
+use crate::answers::answer_to;
 use crate::command_line::{Usage, Verb};
 use crate::faulty::FaultyWriter;
 use crate::program::{answer_usage, read_style, written_out};
@@ -45,7 +45,7 @@ fn is_run(alloc: Global, row: &(Verb, &[u8], u8, &str, &str)) -> bool {
 #[test]
 fn runs_commands(rt: HostRuntime) {
     for row in &RUNS {
-        must_hold(&rt, is_run(rt.alloc(), row), row.4);
+        assert!(rt; is_run(rt.alloc(), row), "{}", row.4);
     }
 }
 
@@ -67,8 +67,8 @@ fn is_refused(alloc: Global, bytes: &[u8]) -> bool {
 
 #[test]
 fn reads_settings_files(rt: HostRuntime) {
-    must_hold(&rt, sets_four(rt.alloc(), b"indent = 4\n"), "4");
-    must_hold(&rt, is_refused(rt.alloc(), b"indent = 4\xFF"), "no text");
+    assert!(rt; sets_four(rt.alloc(), b"indent = 4\n"));
+    assert!(rt; is_refused(rt.alloc(), b"indent = 4\xFF"));
 }
 
 /// Whether a usage is answered with that status, and these texts on the two streams.
@@ -98,13 +98,9 @@ fn answers_wrong(alloc: Global, text: &str) -> bool {
 
 #[test]
 fn answers_usage(rt: HostRuntime) {
-    must_hold(&rt, answers_help(rt.alloc(), "help\n"), "help");
-    must_hold(&rt, answers_wrong(rt.alloc(), "error\n"), "error");
-    must_hold(
-        &rt,
-        answers(rt.alloc(), &Usage::Memory, 3, "", "no memory\n"),
-        "memory",
-    );
+    assert!(rt; answers_help(rt.alloc(), "help\n"));
+    assert!(rt; answers_wrong(rt.alloc(), "error\n"));
+    assert!(rt; answers(rt.alloc(), &Usage::Memory, 3, "", "no memory\n"));
 }
 
 /// Whether a run that has ended well with one byte held back, before such a writer, has that status and that line of faults.
@@ -127,10 +123,6 @@ fn ends(alloc: Global, writes_left: usize, status: u8, line: &str) -> bool {
 
 #[test]
 fn a_flush_that_fails_is_a_write_that_fails(rt: HostRuntime) {
-    must_hold(
-        &rt,
-        ends(rt.alloc(), 0, 3, "write failed\n"),
-        "a flush fails",
-    );
-    must_hold(&rt, ends(rt.alloc(), 1, 0, ""), "no flush fails");
+    assert!(rt; ends(rt.alloc(), 0, 3, "write failed\n"));
+    assert!(rt; ends(rt.alloc(), 1, 0, ""));
 }

@@ -1,6 +1,5 @@
 //! Files that get another text, in a folder of their own: what stands at the path of the new file, and each step that fails.
 
-use crate::answers::must_hold;
 use crate::failing_files::{FailingFiles, Step};
 use crate::replacing::{Held, Opened, mode_of, open_regular, replace};
 use std::fs::{File, Permissions};
@@ -180,7 +179,7 @@ static ROWS: [Row; 18] = [
 #[test]
 fn puts_the_new_text_or_leaves_the_old(rt: HostRuntime) {
     for row in &ROWS {
-        must_hold(&rt, puts(&rt, row), row.0);
+        assert!(rt; puts(&rt, row), "{}", row.0);
     }
 }
 
@@ -248,9 +247,9 @@ fn leaves_a_changed_file(rt: &HostRuntime, is_new: bool) -> bool {
 
 #[test]
 fn leaves_what_others_hold_or_change(rt: HostRuntime) {
-    must_hold(&rt, waits_for_another_run(&rt), "another run");
-    must_hold(&rt, leaves_a_changed_file(&rt, false), "changed");
-    must_hold(&rt, leaves_a_changed_file(&rt, true), "new");
+    assert!(rt; waits_for_another_run(&rt));
+    assert!(rt; leaves_a_changed_file(&rt, false));
+    assert!(rt; leaves_a_changed_file(&rt, true));
 }
 
 /// Whether there is a regular file at the path, or a link to one, that is opened.
@@ -282,11 +281,11 @@ fn make_link(rt: &HostRuntime) -> io::Result<()> {
 
 #[test]
 fn opens_regular_files_alone(rt: HostRuntime) {
-    must_hold(&rt, make_link(&rt).is_ok(), "make");
+    assert!(rt; make_link(&rt).is_ok());
     for (path, wanted) in &OPENED {
-        must_hold(&rt, is_opened(&rt, path) == *wanted, path);
+        assert!(rt; is_opened(&rt, path) == *wanted, "{path}");
     }
-    must_hold(&rt, is_removed(&rt, &KINDS), "remove");
+    assert!(rt; is_removed(&rt, &KINDS));
 }
 
 /// The permissions after it was rewritten of a file that had those.
@@ -320,7 +319,7 @@ static MODES: [(u32, bool, u32); 3] = [
 
 #[test]
 fn set_user_bits_go(rt: HostRuntime) {
-    must_hold(&rt, has_mode_after(&rt, 0o6751, 0o751), "rewritten");
+    assert!(rt; has_mode_after(&rt, 0o6751, 0o751));
     for (mode, has_group, wanted) in &MODES {
         assert!(rt; mode_of(*mode, *has_group) == *wanted, "{wanted}");
     }
@@ -372,10 +371,10 @@ fn may_give(rt: &HostRuntime) -> bool {
 
 #[test]
 fn owner_and_group_stay(rt: HostRuntime) {
-    must_hold(&rt, make_folder(&rt, &OWN).is_ok(), "make");
+    assert!(rt; make_folder(&rt, &OWN).is_ok());
     if may_give(&rt) {
-        must_hold(&rt, keeps_owner(&rt, Step::Nothing), "nothing fails");
-        must_hold(&rt, keeps_owner(&rt, Step::Give), "give fails");
+        assert!(rt; keeps_owner(&rt, Step::Nothing));
+        assert!(rt; keeps_owner(&rt, Step::Give));
     }
-    must_hold(&rt, is_removed(&rt, &OWN), "remove");
+    assert!(rt; is_removed(&rt, &OWN));
 }

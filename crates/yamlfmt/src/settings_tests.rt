@@ -1,6 +1,6 @@
 //! Settings files, by their text, and the lines that are printed for those that are refused.
 
-use crate::answers::{must_hold, reports};
+use crate::answers::reports;
 use crate::settings::style_from_toml;
 use std::alloc::Global;
 use yf_lines::quotes::Quotes;
@@ -50,7 +50,7 @@ static SET: [(&str, usize, usize, Quotes, bool); 5] = [
 fn sets_what_is_named(rt: HostRuntime) {
     for (text, indent, max_line, quotes, seq_indent) in &SET {
         let is_set = sets(rt.alloc(), text, *indent, *max_line, *quotes, *seq_indent);
-        must_hold(&rt, is_set, text);
+        assert!(rt; is_set, "{text}");
     }
 }
 
@@ -86,6 +86,6 @@ static REFUSED: [(&str, &str); 17] = [
 #[test]
 fn names_the_least_wrong_key(rt: HostRuntime) {
     for (text, line) in &REFUSED {
-        must_hold(&rt, is_refused(rt.alloc(), text, line), text);
+        assert!(rt; is_refused(rt.alloc(), text, line), "{text}");
     }
 }

@@ -1,6 +1,6 @@
 //! Keys of the settings that hold control characters. Words of the command line that do stand in `command_line_tests`.
 
-use crate::answers::{must_hold, reports};
+use crate::answers::reports;
 use crate::shown::shown_text;
 use std::alloc::{AllocError, Global};
 use yf_lines::fault::Fault;
@@ -53,6 +53,6 @@ static KEYS: [(&str, &str); 5] = [
 #[test]
 fn keys_are_shown(rt: HostRuntime) {
     for (key, line) in &KEYS {
-        must_hold(&rt, is_shown(rt.alloc(), key, line), line);
+        assert!(rt; is_shown(rt.alloc(), key, line), "{line}");
     }
 }

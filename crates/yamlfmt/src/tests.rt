@@ -1,6 +1,6 @@
 //! What the contracts leave to the system: that reading and writing succeed, and what a failing reader or writer gives.
 
-use crate::answers::{answer_over, must_hold, reports};
+use crate::answers::{answer_over, reports};
 use crate::command_line::Verb;
 use crate::faulty::FaultyReader;
 use crate::report::report;
@@ -94,10 +94,10 @@ fn tells_a_broken_reader(alloc: Global) -> bool {
 
 #[test]
 fn reads_up_to_the_limit(rt: HostRuntime) {
-    must_hold(&rt, is_read(rt.alloc(), b"0123456789", 10), "ten");
-    must_hold(&rt, is_refused(rt.alloc(), b"0123456789", 9), "nine");
-    must_hold(&rt, leaves_an_endless_reader(rt.alloc()), "endless");
-    must_hold(&rt, tells_a_broken_reader(rt.alloc()), "broken");
+    assert!(rt; is_read(rt.alloc(), b"0123456789", 10));
+    assert!(rt; is_refused(rt.alloc(), b"0123456789", 9));
+    assert!(rt; leaves_an_endless_reader(rt.alloc()));
+    assert!(rt; tells_a_broken_reader(rt.alloc()));
 }
 
 /// A reader that fails at once.
@@ -131,7 +131,7 @@ fn takes_a_front(alloc: Global) -> bool {
 
 #[test]
 fn writes_a_front_and_fails(rt: HostRuntime) {
-    must_hold(&rt, takes_a_front(rt.alloc()), "a front");
+    assert!(rt; takes_a_front(rt.alloc()));
 }
 
 /// Whether a writer that takes nothing is told so.
@@ -148,8 +148,8 @@ fn leaves_an_idle_writer() -> bool {
 
 #[test]
 fn leaves_a_writer_that_takes_nothing(rt: HostRuntime) {
-    must_hold(&rt, tells_a_stuck_writer(), "stuck");
-    must_hold(&rt, leaves_an_idle_writer(), "idle");
+    assert!(rt; tells_a_stuck_writer());
+    assert!(rt; leaves_an_idle_writer());
 }
 
 const PLACE: Place = Place {
@@ -210,7 +210,7 @@ const FAULTS: [(Fault, u8, &str); 11] = [
 #[test]
 fn reports_faults(rt: HostRuntime) {
     for (fault, status, line) in &FAULTS {
-        must_hold(&rt, reports(rt.alloc(), fault, *status, line), line);
+        assert!(rt; reports(rt.alloc(), fault, *status, line), "{line}");
     }
 }
 
@@ -222,7 +222,7 @@ fn keeps_the_status() -> bool {
 
 #[test]
 fn keeps_the_status_where_the_report_fails(rt: HostRuntime) {
-    must_hold(&rt, keeps_the_status(), "status");
+    assert!(rt; keeps_the_status());
 }
 
 /// The status of a run that prints events, and what it writes to the stream of faults.
@@ -243,7 +243,7 @@ fn tells_a_full_writer(alloc: Global) -> bool {
 
 #[test]
 fn answers_a_writer_that_fails_in_the_lines(rt: HostRuntime) {
-    must_hold(&rt, tells_a_full_writer(rt.alloc()), "a writer");
+    assert!(rt; tells_a_full_writer(rt.alloc()));
 }
 
 /// Whether nothing is written where that reader fails.
@@ -257,11 +257,11 @@ fn writes_nothing(alloc: Global, faulty: FaultyReader) -> bool {
 
 #[test]
 fn writes_nothing_where_the_reader_fails(rt: HostRuntime) {
-    must_hold(&rt, writes_nothing(rt.alloc(), broken_reader()), "broken");
+    assert!(rt; writes_nothing(rt.alloc(), broken_reader()));
     // behind a line
     let cut = FaultyReader {
         rest: b"- a\n",
         reads_left: 1,
     };
-    must_hold(&rt, writes_nothing(rt.alloc(), cut), "cut");
+    assert!(rt; writes_nothing(rt.alloc(), cut));
 }

@@ -1,6 +1,6 @@
 //! Block nodes, whose events were worked out from the productions.
 
-use crate::answers::{must_hold, repeated};
+use crate::answers::repeated;
 use crate::crates_below::node_text::{are_places, is_shown};
 use std::alloc::{AllocError, Global};
 use yf_block::block::{read_block_node, scan_block_node};
@@ -207,17 +207,16 @@ fn is_limit(alloc: Global, part: &str, count: usize, rest: &str, wanted: Wanted)
 #[test]
 fn scans_nodes(rt: HostRuntime) {
     for (text, wanted, end) in &NODES {
-        must_hold(
-            &rt,
+        assert!(rt;
             is_scanned(rt.alloc(), text, Wanted::Node(wanted, *end)),
-            text,
+            "{text}"
         );
     }
     for text in &REFUSED {
-        must_hold(&rt, is_scanned(rt.alloc(), text, Wanted::Nothing), text);
+        assert!(rt; is_scanned(rt.alloc(), text, Wanted::Nothing), "{text}");
     }
     for (part, count, rest, wanted) in &LIMITS {
-        must_hold(&rt, is_limit(rt.alloc(), part, *count, rest, *wanted), part);
+        assert!(rt; is_limit(rt.alloc(), part, *count, rest, *wanted), "{part}");
     }
 }
 
@@ -288,10 +287,6 @@ fn reads_cut(alloc: Global) -> bool {
 
 #[test]
 fn keeps_places_and_the_first_bad_escape(rt: HostRuntime) {
-    must_hold(
-        &rt,
-        is_refused(rt.alloc(), "- \"\\ud83d\"\n- [", 4),
-        "an escape",
-    );
-    must_hold(&rt, reads_cut(rt.alloc()), CUT);
+    assert!(rt; is_refused(rt.alloc(), "- \"\\ud83d\"\n- [", 4));
+    assert!(rt; reads_cut(rt.alloc()));
 }

@@ -1,6 +1,5 @@
 //! Block scalars whose lines and content were worked out from the productions.
 
-use crate::answers::must_hold;
 use std::alloc::{AllocError, Global};
 use yf_block_scalar::body::{BlockText, Found};
 use yf_block_scalar::content::content;
@@ -97,10 +96,9 @@ fn is_read(alloc: Global, text: &str, n: i32, wanted: Wanted) -> bool {
 #[test]
 fn reads_contents(rt: HostRuntime) {
     for (text, n, wanted) in &CONTENTS {
-        must_hold(
-            &rt,
+        assert!(rt;
             is_read(rt.alloc(), text, *n, Wanted::Content(wanted)),
-            text,
+            "{text}"
         );
     }
 }
@@ -159,19 +157,11 @@ fn is_commented(head: &HeaderLine) -> bool {
 #[test]
 fn reads_headers_and_tails(rt: HostRuntime) {
     for (text, wanted) in &HEADERS {
-        must_hold(&rt, has_header(rt.alloc(), text, *wanted), text);
+        assert!(rt; has_header(rt.alloc(), text, *wanted), "{text}");
     }
-    must_hold(
-        &rt,
-        is_read(rt.alloc(), "|-\n x\n\n# c\n- y\n", 0, Wanted::Tail),
-        "a tail",
-    );
+    assert!(rt; is_read(rt.alloc(), "|-\n x\n\n# c\n- y\n", 0, Wanted::Tail));
     // a longer empty line before the content
-    must_hold(
-        &rt,
-        is_read(rt.alloc(), "|\n   \n  a\n", 0, Wanted::Nothing),
-        "a longer empty line",
-    );
+    assert!(rt; is_read(rt.alloc(), "|\n   \n  a\n", 0, Wanted::Nothing));
 }
 
 /// Texts that a header begins, and the scalar as it is written at column 2.
@@ -192,10 +182,9 @@ fn writes(alloc: Global, block: &BlockText, wanted: &str) -> bool {
 #[test]
 fn writes_scalars(rt: HostRuntime) {
     for (text, wanted) in &WRITTEN {
-        must_hold(
-            &rt,
+        assert!(rt;
             is_read(rt.alloc(), text, 0, Wanted::Written(wanted)),
-            text,
+            "{text}"
         );
     }
 }

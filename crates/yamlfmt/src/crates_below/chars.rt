@@ -1,6 +1,5 @@
 //! Bytes, and escapes as they are read and written.
 
-use crate::answers::must_hold;
 use std::alloc::Global;
 use yf_chars::classes::{is_break_char, is_white};
 use yf_chars::escapes::{Escape, push_escaped, read_escape};
@@ -67,9 +66,9 @@ fn are_written(alloc: Global) -> bool {
 #[test]
 fn reads_and_writes_escapes(rt: HostRuntime) {
     for (text, wanted) in &ESCAPES {
-        must_hold(&rt, is_escape(text, *wanted), text);
+        assert!(rt; is_escape(text, *wanted), "{text}");
     }
-    must_hold(&rt, are_written(rt.alloc()), WRITTEN);
+    assert!(rt; are_written(rt.alloc()));
 }
 
 /// Characters, whether they are white space within a line, and whether they are breaks.

@@ -1,6 +1,5 @@
 //! Separation and ends of lines, at texts whose ends and comments were worked out by hand from the productions.
 
-use crate::answers::must_hold;
 use std::alloc::{AllocError, Global};
 use yf_chars::context::Ctx;
 use yf_comments::comments::{Comments, Separation};
@@ -65,7 +64,7 @@ fn reads_comment(alloc: Global, text: &str) -> bool {
 
 #[test]
 fn reads_over_a_comment(rt: HostRuntime) {
-    must_hold(&rt, reads_comment(rt.alloc(), "x # c\n  y"), "a comment");
+    assert!(rt; reads_comment(rt.alloc(), "x # c\n  y"));
 }
 
 /// Whether `separate` finds what is wanted at a place of a text.
@@ -91,17 +90,12 @@ static SEPARATED: [(&str, usize, i32, Ctx, Wanted); 3] = [
 #[test]
 fn separates(rt: HostRuntime) {
     for (text, at, n, ctx, wanted) in &SEPARATED {
-        must_hold(
-            &rt,
+        assert!(rt;
             separates_at(rt.alloc(), text, *at, *n, *ctx, *wanted),
-            text,
+            "{text}"
         );
     }
-    must_hold(
-        &rt,
-        separates_lines(rt.alloc(), "x\n\n  y", 2, Wanted::End(5)),
-        "lines",
-    );
+    assert!(rt; separates_lines(rt.alloc(), "x\n\n  y", 2, Wanted::End(5)));
 }
 
 /// Where white space within a line ends that begins at a place of a text.
@@ -129,10 +123,10 @@ static PREFIXES: [(&str, Option<usize>); 2] = [("  \tb", Some(3)), (" \tb", None
 #[test]
 fn separates_in_a_line(rt: HostRuntime) {
     for (text, wanted) in &IN_LINE {
-        must_hold(&rt, separated_in_line(text, 1) == *wanted, text);
+        assert!(rt; separated_in_line(text, 1) == *wanted, "{text}");
     }
     for (text, wanted) in &PREFIXES {
-        must_hold(&rt, flow_prefix(text, 2) == *wanted, text);
+        assert!(rt; flow_prefix(text, 2) == *wanted, "{text}");
     }
 }
 
@@ -155,6 +149,6 @@ fn ends_line(alloc: Global, text: &str, at: usize, wanted: Wanted) -> bool {
 #[test]
 fn ends_lines(rt: HostRuntime) {
     for (text, at, wanted) in &LINE_ENDS {
-        must_hold(&rt, ends_line(rt.alloc(), text, *at, *wanted), text);
+        assert!(rt; ends_line(rt.alloc(), text, *at, *wanted), "{text}");
     }
 }

@@ -1,6 +1,6 @@
 //! The house style, and a text that is formatted at once and in steps.
 
-use crate::answers::{formatted, must_hold, reading_of};
+use crate::answers::{formatted, reading_of};
 use std::alloc::{AllocError, Global};
 use yf_emit::form::decide::implicit_key;
 use yf_emit::form::kept::kept_text;
@@ -18,12 +18,8 @@ use yf_lines::watched::Watched;
 #[test]
 fn the_house_style(rt: HostRuntime) {
     let style = Style::house();
-    must_hold(&rt, style.indent == 2 && style.max_line == 100, "columns");
-    must_hold(
-        &rt,
-        style.quotes == Quotes::Double && style.seq_indent,
-        "quotes and sequences",
-    );
+    assert!(rt; style.indent == 2 && style.max_line == 100);
+    assert!(rt; style.quotes == Quotes::Double && style.seq_indent);
 }
 
 const BROKEN: &str = "a: ['x', # c\n y]\n";
@@ -79,12 +75,8 @@ fn is_formatted(alloc: Global, text: &str, wanted: &str) -> bool {
 
 #[test]
 fn formats_at_once_and_in_steps(rt: HostRuntime) {
-    must_hold(&rt, is_formatted(rt.alloc(), BROKEN, MENDED), "at once");
-    must_hold(
-        &rt,
-        is_printed_in_steps(rt.alloc(), BROKEN, MENDED),
-        "in steps",
-    );
+    assert!(rt; is_formatted(rt.alloc(), BROKEN, MENDED));
+    assert!(rt; is_printed_in_steps(rt.alloc(), BROKEN, MENDED));
 }
 
 /// What is asked of an event.
@@ -173,6 +165,6 @@ static TOLD: [Row; 5] = [
 #[test]
 fn tells_how_one_event_is_written(rt: HostRuntime) {
     for row in &TOLD {
-        must_hold(&rt, is_told(rt.alloc(), row), row.0);
+        assert!(rt; is_told(rt.alloc(), row), "{}", row.0);
     }
 }

@@ -2,7 +2,6 @@
 ghost use Rattle.std.specs.Prelude.{IfOk};
 ghost use Rattle.yf_events.specs.Reading.{Fits};
 
-use crate::answers::must_hold;
 use crate::laws_tests::has_same_content;
 use std::alloc::{AllocError, Global};
 use yf_comments::comment::Comment;
@@ -183,11 +182,7 @@ fn is_read(alloc: Global, nodes: &[Node], explicit: bool, wanted: Wanted) -> boo
 
 #[test]
 fn an_open_sequence_is_no_reading(rt: HostRuntime) {
-    must_hold(
-        &rt,
-        is_read(rt.alloc(), &[Node::Sequence(true)], false, Wanted::Nothing),
-        "an open sequence",
-    );
+    assert!(rt; is_read(rt.alloc(), &[Node::Sequence(true)], false, Wanted::Nothing));
 }
 
 /// Nodes, whether their document's start and end are written, and the notation of the stream.
@@ -278,13 +273,12 @@ fn is_block(alloc: Global, wanted: Wanted) -> bool {
 #[test]
 fn writes_readings(rt: HostRuntime) {
     for (nodes, explicit, wanted) in &WRITTEN {
-        must_hold(
-            &rt,
+        assert!(rt;
             is_read(rt.alloc(), nodes, *explicit, Wanted::Notation(wanted)),
-            wanted,
+            "{wanted}"
         );
     }
-    must_hold(&rt, is_block(rt.alloc(), Wanted::Notation(BLOCK)), BLOCK);
+    assert!(rt; is_block(rt.alloc(), Wanted::Notation(BLOCK)));
 }
 
 /// Whether the fourth event of the reading of `block` is told as it is.
@@ -320,7 +314,7 @@ fn tells_the_document(reading: &Reading) -> bool {
 
 #[test]
 fn a_reading_tells_what_it_holds(rt: HostRuntime) {
-    must_hold(&rt, is_block(rt.alloc(), Wanted::Block), "a reading");
+    assert!(rt; is_block(rt.alloc(), Wanted::Block));
 }
 
 /// Whether there are two readings, and they have the same content, or have not.

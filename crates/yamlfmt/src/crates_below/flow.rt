@@ -1,6 +1,6 @@
 //! Flow nodes and implicit keys, whose events were worked out from the productions.
 
-use crate::answers::{must_hold, repeated};
+use crate::answers::repeated;
 use crate::crates_below::node_text::{are_places, is_shown};
 use std::alloc::{AllocError, Global};
 use yf_chars::context::Ctx;
@@ -131,13 +131,9 @@ fn is_read(alloc: Global, row: &Row) -> bool {
 #[test]
 fn reads_nodes(rt: HostRuntime) {
     for row in &NODES {
-        must_hold(&rt, is_read(rt.alloc(), row), row.0);
+        assert!(rt; is_read(rt.alloc(), row), "{}", row.0);
     }
-    must_hold(
-        &rt,
-        is_read(rt.alloc(), &("\"\\ud83dA\"", 0, "", 2)),
-        "an escape",
-    );
+    assert!(rt; is_read(rt.alloc(), &("\"\\ud83dA\"", 0, "", 2)));
 }
 
 /// What is wanted of a flow node that is scanned.
@@ -257,10 +253,10 @@ fn is_limit(alloc: Global, row: &Limit) -> bool {
 #[test]
 fn scans_nodes(rt: HostRuntime) {
     for (text, n, wanted) in &SCANNED {
-        must_hold(&rt, is_scanned(rt.alloc(), text, *n, *wanted), text);
+        assert!(rt; is_scanned(rt.alloc(), text, *n, *wanted), "{text}");
     }
     for row in &LIMITS {
-        must_hold(&rt, is_limit(rt.alloc(), row), row.1);
+        assert!(rt; is_limit(rt.alloc(), row), "{}", row.1);
     }
 }
 
@@ -300,6 +296,6 @@ fn is_no_key(alloc: Global, text: &str) -> bool {
 #[test]
 fn reads_keys(rt: HostRuntime) {
     let key = ("[a]: b", 0, "+SEQ [] / =VAL :a / -SEQ", 3);
-    must_hold(&rt, is_key(rt.alloc(), &key), "[a]: b");
-    must_hold(&rt, is_no_key(rt.alloc(), "[a,\nb]: c"), "[a,\nb]: c");
+    assert!(rt; is_key(rt.alloc(), &key));
+    assert!(rt; is_no_key(rt.alloc(), "[a,\nb]: c"));
 }

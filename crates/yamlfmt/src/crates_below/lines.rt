@@ -1,6 +1,5 @@
 //! Lines and places of texts, worked out by hand, and watched readers and writers.
 
-use crate::answers::must_hold;
 use std::alloc::{AllocError, Global};
 use std::io::Write;
 use yf_lines::source_text::Src;
@@ -55,7 +54,7 @@ fn has_lines(alloc: Global, text: &str, lines: &[[usize; 4]]) -> bool {
 #[test]
 fn finds_the_lines(rt: HostRuntime) {
     for (text, lines) in &LINES {
-        must_hold(&rt, has_lines(rt.alloc(), text, lines), text);
+        assert!(rt; has_lines(rt.alloc(), text, lines), "{text}");
     }
 }
 
@@ -114,7 +113,7 @@ fn has_places(alloc: Global, text: &str, places: &[[usize; 3]]) -> bool {
 #[test]
 fn finds_places(rt: HostRuntime) {
     for (text, places) in &PLACES {
-        must_hold(&rt, has_places(rt.alloc(), text, places), text);
+        assert!(rt; has_places(rt.alloc(), text, places), "{text}");
     }
 }
 
@@ -168,8 +167,8 @@ fn keeps(alloc: Global, text: &str) -> bool {
 
 #[test]
 fn finds_forbidden_lines_and_keeps_text(rt: HostRuntime) {
-    must_hold(&rt, forbids(rt.alloc()), MARKERS);
-    must_hold(&rt, keeps(rt.alloc(), "a\r\nb"), "source");
+    assert!(rt; forbids(rt.alloc()));
+    assert!(rt; keeps(rt.alloc(), "a\r\nb"));
 }
 
 /// Whether a writer that writes is given back with what was written.
@@ -193,6 +192,6 @@ fn gives_reader_back() -> bool {
 
 #[test]
 fn gives_reader_and_writer_back(rt: HostRuntime) {
-    must_hold(&rt, gives_writer_back(rt.alloc()), "writer");
-    must_hold(&rt, gives_reader_back(), "reader");
+    assert!(rt; gives_writer_back(rt.alloc()));
+    assert!(rt; gives_reader_back());
 }

@@ -1,6 +1,5 @@
 //! Plain scalars with the values that the standard's productions give.
 
-use crate::answers::must_hold;
 use std::alloc::{AllocError, Global};
 use yf_chars::context::Ctx;
 use yf_lines::source_text::Src;
@@ -42,7 +41,7 @@ fn is_read(alloc: Global, row: &Row) -> bool {
 #[test]
 fn reads_plain_scalars(rt: HostRuntime) {
     for row in &SCALARS {
-        must_hold(&rt, is_read(rt.alloc(), row), row.3);
+        assert!(rt; is_read(rt.alloc(), row), "{}", row.3);
     }
 }
 
@@ -64,6 +63,6 @@ static LINES: [(&str, Ctx, Option<usize>); 3] = [
 #[test]
 fn a_key_ends_on_its_line(rt: HostRuntime) {
     for (text, ctx, wanted) in &LINES {
-        must_hold(&rt, line_end_of(text, *ctx) == *wanted, text);
+        assert!(rt; line_end_of(text, *ctx) == *wanted, "{text}");
     }
 }

@@ -1,6 +1,5 @@
 //! Properties, aliases and tag handles, at texts whose names and ends were worked out by hand from the productions.
 
-use crate::answers::must_hold;
 use std::alloc::{AllocError, Global};
 use yf_chars::context::Ctx;
 use yf_lines::fault::Fault;
@@ -107,9 +106,9 @@ fn properties_end(alloc: Global, text: &str, end: usize) -> bool {
 #[test]
 fn reads_properties(rt: HostRuntime) {
     for row in &PROPERTIES {
-        must_hold(&rt, has_properties(rt.alloc(), row), row.0);
+        assert!(rt; has_properties(rt.alloc(), row), "{}", row.0);
     }
-    must_hold(&rt, properties_end(rt.alloc(), "&a", 2), "&a");
+    assert!(rt; properties_end(rt.alloc(), "&a", 2));
 }
 
 /// Whether that is the alias of that stream at a place.
@@ -122,13 +121,9 @@ fn is_alias(alloc: Global, at: usize, wanted: Option<(&str, usize)>) -> bool {
 
 #[test]
 fn reads_aliases(rt: HostRuntime) {
-    must_hold(
-        &rt,
-        alias_node("*\u{E9} x", 0) == Some(("\u{E9}", 3)),
-        "\u{E9}",
-    );
-    must_hold(&rt, is_alias(rt.alloc(), 13, Some(("a", 15))), "a");
-    must_hold(&rt, is_alias(rt.alloc(), 2, None), "no alias");
+    assert!(rt; alias_node("*\u{E9} x", 0) == Some(("\u{E9}", 3)));
+    assert!(rt; is_alias(rt.alloc(), 13, Some(("a", 15))));
+    assert!(rt; is_alias(rt.alloc(), 2, None));
 }
 
 /// Whether a tag is resolved to that text; where none is wanted, whether its handle is unknown.
@@ -227,17 +222,9 @@ fn stands_declared(alloc: Global, tag: &Tag, wanted: &str) -> bool {
 
 #[test]
 fn resolves_tags(rt: HostRuntime) {
-    must_hold(
-        &rt,
-        stands_undeclared(rt.alloc(), STREAM, 18, "tag:yaml.org,2002:str"),
-        STREAM,
-    );
-    must_hold(
-        &rt,
-        stands_undeclared(rt.alloc(), "- !x!t v\n", 2, ""),
-        "!x!t",
-    );
+    assert!(rt; stands_undeclared(rt.alloc(), STREAM, 18, "tag:yaml.org,2002:str"));
+    assert!(rt; stands_undeclared(rt.alloc(), "- !x!t v\n", 2, ""));
     for (tag, wanted) in &TAGS {
-        must_hold(&rt, stands_declared(rt.alloc(), tag, wanted), wanted);
+        assert!(rt; stands_declared(rt.alloc(), tag, wanted), "{wanted}");
     }
 }

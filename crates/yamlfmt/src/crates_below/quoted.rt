@@ -1,6 +1,5 @@
 //! Quoted scalars with the values that the standard's productions give.
 
-use crate::answers::must_hold;
 use std::alloc::{AllocError, Global};
 use yf_chars::context::Ctx;
 use yf_lines::fault::Fault;
@@ -117,7 +116,7 @@ static SINGLE: [Row; 9] = [
 #[test]
 fn reads_single_quotes(rt: HostRuntime) {
     for row in &SINGLE {
-        must_hold(&rt, is_single(rt.alloc(), row), row.0);
+        assert!(rt; is_single(rt.alloc(), row), "{}", row.0);
     }
 }
 
@@ -164,7 +163,7 @@ static DOUBLE: [Row; 8] = [
 #[test]
 fn reads_double_quotes(rt: HostRuntime) {
     for row in &DOUBLE {
-        must_hold(&rt, is_double(rt.alloc(), row), row.0);
+        assert!(rt; is_double(rt.alloc(), row), "{}", row.0);
     }
 }
 
@@ -196,7 +195,7 @@ fn goes_on(alloc: Global, text: &str) -> bool {
 
 #[test]
 fn goes_on_past_a_bad_escape(rt: HostRuntime) {
-    must_hold(&rt, goes_on(rt.alloc(), "\"\\ud83dA\""), "a bad escape");
+    assert!(rt; goes_on(rt.alloc(), "\"\\ud83dA\""));
 }
 
 /// Texts, the quotes that are preferred, and those that are chosen: single ones hold printable characters alone.
@@ -233,14 +232,10 @@ fn is_written_double(alloc: Global, text: &str, wanted: &str) -> bool {
 #[test]
 fn writes_quotes(rt: HostRuntime) {
     for (text, preferred, wanted) in &CHOSEN {
-        must_hold(&rt, choose(text, *preferred) == *wanted, text);
+        assert!(rt; choose(text, *preferred) == *wanted, "{text}");
     }
-    must_hold(
-        &rt,
-        is_written_single(rt.alloc(), "it's", "'it''s'"),
-        "single",
-    );
+    assert!(rt; is_written_single(rt.alloc(), "it's", "'it''s'"));
     for (text, wanted) in &WRITTEN {
-        must_hold(&rt, is_written_double(rt.alloc(), text, wanted), wanted);
+        assert!(rt; is_written_double(rt.alloc(), text, wanted), "{wanted}");
     }
 }
