@@ -1,5 +1,5 @@
--- Characters that may stand in a plain scalar whatever stands beside them: letters, digits and - . / _, and those after which its line
--- ends whatever the context
+-- ASCII characters of which one test tells what they are to a plain scalar: those that may stand in it whatever stands beside them,
+-- letters, digits and _, which may begin it, and those after which its line ends whatever the context
 use Rattle.std.specs.Prelude.{◌≡◌, ℕ, ◌+◌, Bool, true, false, ◌==◌, ◌||◌, List}
 use Rattle.yf_chars.specs.declared.context.Ctx.{Ctx}
 use Rattle.yf_chars.specs.Class.{is_between}
@@ -8,15 +8,24 @@ use Rattle.yf_chars.specs.Text.{code, Reads}
 use Rattle.yf_lines.specs.Basic.{Forbidden, is_block}
 use Rattle.yf_plain.specs.Plain.{is_plain_char, is_plain_first, PlainItem}
 
+-- outside of flow collections: from $ on all that are printed, but :
+unfoldable pub is_outer : ℕ → Bool
+is_outer c = is_between 0x24 0x39 c || is_between 0x3B 0x7E c
+
+-- within them too: the same but , [ ] { and }
 unfoldable pub is_ordinary : ℕ → Bool
-is_ordinary c = is_between 0x61 0x7A c || is_between 0x41 0x5A c || is_between 0x30 0x39 c || is_between 0x2D 0x2F c || (c == 0x5F)
+is_ordinary c = is_between 0x24 0x2B c || is_between 0x2D 0x39 c || is_between 0x3B 0x5A c || (c == 0x5C) || is_between 0x5E 0x7A c || (c == 0x7C) || (c == 0x7E)
 
--- such a character begins at i
-pub record OrdinaryAt (t : List ℕ) (i : ℕ) : Type 0 where
+-- a letter, a digit or _
+unfoldable pub is_letter : ℕ → Bool
+is_letter c = is_between 0x61 0x7A c || is_between 0x41 0x5A c || is_between 0x30 0x39 c || (c == 0x5F)
+
+-- a character in one byte begins at i that may stand in a plain scalar in the context
+pub record OrdinaryAt (t : List ℕ) (c : Ctx) (i : ℕ) : Type 0 where
   pub reads : Reads t i (code t i) (i + 1)
-  pub plain : (c : Ctx) → is_block c ≡ false → is_plain_char t c i ≡ true
+  pub plain : is_plain_char t c i ≡ true
 
--- a letter or a digit begins at i: it may begin a plain scalar, and begins no forbidden line
+-- a letter, a digit or _ begins at i: it may begin a plain scalar, and begins no forbidden line
 pub record LetterAt (t : List ℕ) (i : ℕ) : Type 0 where
   pub reads : Reads t i (code t i) (i + 1)
   pub first : (c : Ctx) → is_plain_first t c i ≡ true

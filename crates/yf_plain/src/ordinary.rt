@@ -1,29 +1,31 @@
 //! Characters of which one test tells what they are to a plain scalar. Offsets count bytes.
-ghost use Rattle.std.specs.Prelude.{◌≡◌, ◌+◌, ◌≤◌, length, true};
+ghost use Rattle.std.specs.Prelude.{◌≡◌, ◌+◌, ◌≤◌, length, false, true};
+ghost use Rattle.yf_chars.specs.Class.{is_between};
 ghost use Rattle.yf_chars.specs.Lanes.{LaneRun};
-ghost use Rattle.yf_plain.specs.Ordinary.{is_ordinary, EndAt, LetterAt, OrdinaryAt};
+ghost use Rattle.yf_chars.specs.declared.context.Ctx.{Ctx};
+ghost use Rattle.yf_lines.specs.Basic.{is_block};
+ghost use Rattle.yf_plain.specs.Ordinary.{is_letter, is_ordinary, is_outer, EndAt, LetterAt, OrdinaryAt};
 
 use std::simd::prelude::*;
 use yf_chars::lanes::lanes_before;
 use yf_chars::text::stands;
 
-// Whether the ASCII character may stand in a plain scalar, whatever stands beside it. Most are lower-case letters, which take two
-// tests.
+// Whether the ASCII character may stand in a plain scalar, whatever stands beside it and in whatever context of scalars.
 #[tactic(auto, unfolding(crate::specs::Ordinary::is_ordinary, yf_chars::specs::Class::is_between))]
 #[inline(always)]
 fn is_ordinary(byte: u8) -> bool
     ensures { result ≡ is_ordinary byte }
 {
-    if byte < b'a' {
-        return matches!(byte, b'-'..=b'9' | b'A'..=b'Z' | b'_');
+    if byte < b'[' {
+        return matches!(byte, b'$'..=b'+' | b'-'..=b'9' | b';'..=b'Z');
     }
-    byte <= b'z'
+    matches!(byte, b'\\' | b'^'..=b'z' | b'|' | b'~')
 }
 
 /// Whether such a character begins at the offset.
 #[inline(always)]
 pub(crate) fn ordinary_stands(s: &str, at: usize) -> bool
-    ensures { result ≡ true → OrdinaryAt s.now at }
+    ensures { result ≡ true → (c : Ctx) → is_block c ≡ false → OrdinaryAt s.now c at }
 {
     let bytes = s.as_bytes();
     if at < bytes.len() {
@@ -39,24 +41,57 @@ pub(crate) fn ordinary_lanes(bytes: &[u8], at: usize) -> usize
     ensures { LaneRun is_ordinary bytes.now at result }
 {
     let lanes = u8x16::from_slice(&bytes[at..]);
-    let from_letter = (lanes | u8x16::splat(0x20)) - u8x16::splat(b'a');
-    let from_dash = lanes - u8x16::splat(b'-');
-    let others = from_letter.simd_ge(u8x16::splat(26))
-        & from_dash.simd_ge(u8x16::splat(13))
-        & lanes.simd_ne(u8x16::splat(b'_'));
+    let lower = lanes | u8x16::splat(0x20);
+    let from_dollar = lanes - u8x16::splat(b'$');
+    let others = from_dollar.simd_ge(u8x16::splat(91))
+        | lanes.simd_eq(u8x16::splat(b':'))
+        | lanes.simd_eq(u8x16::splat(b','))
+        | lower.simd_eq(u8x16::splat(b'{'))
+        | lower.simd_eq(u8x16::splat(b'}'));
     lanes_before(others.to_bitmask())
 }
 
-/// Whether a letter or a digit stands there, which may begin a plain scalar.
+/// The same outside of flow collections, where commas and brackets may stand too.
+#[inline(always)]
+pub(crate) fn outer_lanes(bytes: &[u8], at: usize) -> usize
+    requires { at + 16 ≤ length bytes.now }
+    ensures { LaneRun is_outer bytes.now at result }
+{
+    let lanes = u8x16::from_slice(&bytes[at..]);
+    let from_dollar = lanes - u8x16::splat(b'$');
+    let others = from_dollar.simd_ge(u8x16::splat(91)) | lanes.simd_eq(u8x16::splat(b':'));
+    lanes_before(others.to_bitmask())
+}
+
+/// Whether the byte is no white space, no break and no part of a wider character: only there 16 bytes are worth a look.
+#[tactic(auto, unfolding(yf_chars::specs::Class::is_between))]
+#[inline(always)]
+pub(crate) fn is_worth_a_look(byte: u8) -> bool
+    ensures { result ≡ is_between 0x24 0x7E byte }
+{
+    matches!(byte, b'$'..=b'~')
+}
+
+// A letter, a digit or `_`. Most are lower-case letters, which take two tests.
+#[tactic(auto, unfolding(crate::specs::Ordinary::is_letter, yf_chars::specs::Class::is_between))]
+#[inline(always)]
+fn is_letter(byte: u8) -> bool
+    ensures { result ≡ is_letter byte }
+{
+    if byte < b'a' {
+        return matches!(byte, b'0'..=b'9' | b'A'..=b'Z' | b'_');
+    }
+    byte <= b'z'
+}
+
+/// Whether a letter, a digit or `_` stands there, which may begin a plain scalar.
 #[inline(always)]
 pub(crate) fn letter_stands(s: &str, at: usize) -> bool
     ensures { result ≡ true → LetterAt s.now at }
 {
     let bytes = s.as_bytes();
     if at < bytes.len() {
-        if bytes[at] >= b'0' {
-            return is_ordinary(bytes[at]);
-        }
+        return is_letter(bytes[at]);
     }
     false
 }

@@ -8,15 +8,18 @@ ghost use Rattle.yf_chars.specs.Text.{code, before, Reads};
 ghost use Rattle.yf_lines.specs.Basic.{Forbidden, is_block, is_flow, is_key};
 ghost use Rattle.yf_lines.specs.Fold.{fold_text};
 ghost use Rattle.yf_lines.specs.Text.{text_bytes};
+ghost use Rattle.yf_plain.specs.Kept.{is_inside};
 ghost use Rattle.yf_plain.specs.Plain as P;
 ghost use Rattle.yf_plain.specs.Plain.{is_plain_first, is_plain_char, is_sign, Plain, PlainItem, PlainLine, PlainFront, NoNextLine};
 
-use crate::ordinary::{end_stands, letter_stands, ordinary_lanes, ordinary_stands};
+use crate::ordinary::{
+    end_stands, is_worth_a_look, letter_stands, ordinary_lanes, ordinary_stands, outer_lanes,
+};
 use std::alloc::{AllocError, Global};
 use yf_chars::classes::{is_indicator, is_ns_char, is_plain_safe};
 use yf_chars::context::Ctx;
 use yf_chars::text::peek;
-use yf_lines::basic::{is_forbidden_at, skip_whites};
+use yf_lines::basic::{is_forbidden_at, skip_whites, white_stands};
 use yf_lines::fault::Fault;
 use yf_lines::fold::{flow_folded, indent_width};
 use yf_lines::source_text::Src;
@@ -80,6 +83,13 @@ fn is_block(ctx: Ctx) -> bool
     ensures { result ≡ is_block ctx }
 {
     matches!(ctx, Ctx::BlockOut | Ctx::BlockIn)
+}
+
+// Whether it is a context within flow collections.
+fn is_inside(ctx: Ctx) -> bool
+    ensures { result ≡ is_inside ctx }
+{
+    matches!(ctx, Ctx::FlowIn | Ctx::FlowKey)
 }
 
 // Whether a scalar in that context stands on one line.
@@ -235,7 +245,7 @@ fn plain_in_line(s: &str, at: usize, ctx: Ctx) -> usize
 }
 
 // The offset after ordinary characters that stand there after a character of content: after all, or after those among the next 16
-// bytes. In block contexts, in which no scalar stands, none is looked for.
+// bytes. Outside of flow collections commas and brackets are some too. In block contexts, in which no scalar stands, none is looked for.
 #[inline(always)]
 fn ordinary_run(s: &str, at: usize, ctx: Ctx) -> usize
     requires boundary { IsCharBoundary s.now at }
@@ -248,12 +258,15 @@ fn ordinary_run(s: &str, at: usize, ctx: Ctx) -> usize
     if is_block(ctx) {
         return at;
     }
-    if !ordinary_stands(s, at) {
-        return at;
-    }
     let bytes = s.as_bytes();
     if bytes.len() - at >= 16 {
-        return at + ordinary_lanes(bytes, at);
+        if !is_worth_a_look(bytes[at]) {
+            return at;
+        }
+        if is_inside(ctx) {
+            return at + ordinary_lanes(bytes, at);
+        }
+        return at + outer_lanes(bytes, at);
     }
     let mut end = at;
     while ordinary_stands(s, end) {
@@ -275,8 +288,14 @@ fn plain_item(s: &str, at: usize, ctx: Ctx) -> Option<usize>
     if end_stands(s, at) {
         return None;
     }
-    let start = skip_whites(s, at);
-    match plain_char(s, start, ctx, start == at) {
+    if !white_stands(s, at) {
+        return match plain_char(s, at, ctx, true) {
+            None => None,
+            Some(end) => Some(end),
+        };
+    }
+    let start = skip_whites(s, at + 1);
+    match plain_char(s, start, ctx, false) {
         None => None,
         Some(end) => Some(end),
     }

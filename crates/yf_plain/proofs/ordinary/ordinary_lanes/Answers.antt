@@ -1,4 +1,4 @@
-use Rattle.std.proofs.Common.{ℕ, leb, cond, bit_and, refl}
+use Rattle.std.proofs.Common.{ℕ, leb, cond, bit_or, refl}
 use Rattle.std.proofs.lemmas.Simd.{length-chunk, splat_is_map, zip2_of_maps, zip2_splat}
 use lib.Lanes.{chunk}
 use Rattle.yf_chars.specs.Class.{is_between}
@@ -12,9 +12,12 @@ returns c =
     let v = chunk c.args.at 16 c.args.bytes.now in
     let long = length-chunk c.args.at 16 c.args.bytes.now c.requires in
     lane_run is_ordinary c.args.bytes.now c.args.at _ _ _ c.requires c.type_inv.bytes c.lanes_before.ensures
-    (zip2_of_maps bit_and _ _ v
-    (zip2_of_maps bit_and _ _ v
-    (zip2_of_maps (λ a b. cond (leb a b) 255 0) _ _ v (splat_is_map v 16 _ long)
+    (zip2_of_maps bit_or _ _ v
+    (zip2_of_maps bit_or _ _ v
+    (zip2_of_maps bit_or _ _ v
+    (zip2_of_maps bit_or _ _ v
+    (zip2_of_maps (λ a b. cond (leb a b) 255 0) _ _ v (splat_is_map v 16 _ long) (zip2_splat {Y = ℕ} _ v 16 _ long))
+    (zip2_splat {Y = ℕ} _ v 16 _ long))
+    (zip2_splat {Y = ℕ} _ v 16 _ long))
     (zip2_of_maps _ _ _ v (zip2_splat {Y = ℕ} _ v 16 _ long) (splat_is_map v 16 _ long)))
-    (zip2_of_maps (λ a b. cond (leb a b) 255 0) _ _ v (splat_is_map v 16 _ long) (zip2_splat {Y = ℕ} _ v 16 _ long)))
-    (zip2_splat {Y = ℕ} _ v 16 _ long)) refl
+    (zip2_of_maps _ _ _ v (zip2_splat {Y = ℕ} _ v 16 _ long) (splat_is_map v 16 _ long))) refl

@@ -2,38 +2,53 @@ use Rattle.std.proofs.Common.{arith, ap, ◌∙◌, sym}
 use Rattle.yf_chars.specs.Chain.Chain.{done}
 use Rattle.yf_chars.specs.Class.{is_ns_char}
 use Rattle.yf_chars.proofs.ChainLemmas.{chain_more}
-use Rattle.yf_plain.proofs.OrdinaryLemmas.{run_found}
+use Rattle.yf_plain.proofs.OrdinaryLemmas.{ordinary_class, outer_class, run_found}
 use Rattle.yf_plain.proofs.PlainLemmas.{item_found, plain_is_ns}
 use Rattle.yf_plain.proofs.plain.ordinary_run.Goals as goal
 
 pub returns-then-is_block-clause-reads : goal.returns-then-is_block-clause-reads
 returns-then-is_block-clause-reads c = (_, done)
 
-pub returns-then-not-ordinary_stands-clause-reads : goal.returns-then-not-ordinary_stands-clause-reads
-returns-then-not-ordinary_stands-clause-reads c = (_, done)
+pub returns-then-not-is_worth_a_look-clause-reads : goal.returns-then-not-is_worth_a_look-clause-reads
+returns-then-not-is_worth_a_look-clause-reads c = (_, done)
+
+pub returns-then-is_inside-clause-reads : goal.returns-then-is_inside-clause-reads
+returns-then-is_inside-clause-reads c =
+    (run_found (ordinary_class c.args.ctx (sym c.is_block.ensures ∙ c.if-is_block.false)) c.args.s.now c.as_bytes-bytes.result.now c.args.at _ c.as_bytes-bytes.ensures.value c.utf8.s
+    (omega (arith, c.as_bytes-bytes.ensures.len)) c.ordinary_lanes.ensures c.requires.behind c.requires.boundary).reads
+
+pub returns-then-is_inside-clause-behind : goal.returns-then-is_inside-clause-behind
+returns-then-is_inside-clause-behind c =
+    (run_found (ordinary_class c.args.ctx (sym c.is_block.ensures ∙ c.if-is_block.false)) c.args.s.now c.as_bytes-bytes.result.now c.args.at _ c.as_bytes-bytes.ensures.value c.utf8.s
+    (omega (arith, c.as_bytes-bytes.ensures.len)) c.ordinary_lanes.ensures c.requires.behind c.requires.boundary).behind
+
+pub returns-then-is_inside-clause-boundary : goal.returns-then-is_inside-clause-boundary
+returns-then-is_inside-clause-boundary c =
+    (run_found (ordinary_class c.args.ctx (sym c.is_block.ensures ∙ c.if-is_block.false)) c.args.s.now c.as_bytes-bytes.result.now c.args.at _ c.as_bytes-bytes.ensures.value c.utf8.s
+    (omega (arith, c.as_bytes-bytes.ensures.len)) c.ordinary_lanes.ensures c.requires.behind c.requires.boundary).boundary
 
 pub returns-then-bytes-at-ge16-clause-reads : goal.returns-then-bytes-at-ge16-clause-reads
 returns-then-bytes-at-ge16-clause-reads c =
-    (run_found c.args.s.now c.as_bytes-bytes.result.now c.args.ctx c.args.at _ c.as_bytes-bytes.ensures.value c.utf8.s (sym c.is_block.ensures ∙ c.if-is_block.false)
-    (omega (arith, c.as_bytes-bytes.ensures.len)) c.ordinary_lanes.ensures c.requires.behind c.requires.boundary).reads
+    (run_found (outer_class c.args.ctx (sym c.is_block.ensures ∙ c.if-is_block.false) (sym c.is_inside.ensures ∙ c.if-is_inside.false)) c.args.s.now c.as_bytes-bytes.result.now c.args.at _ c.as_bytes-bytes.ensures.value c.utf8.s
+    (omega (arith, c.as_bytes-bytes.ensures.len)) c.outer_lanes.ensures c.requires.behind c.requires.boundary).reads
 
 pub returns-then-bytes-at-ge16-clause-behind : goal.returns-then-bytes-at-ge16-clause-behind
 returns-then-bytes-at-ge16-clause-behind c =
-    (run_found c.args.s.now c.as_bytes-bytes.result.now c.args.ctx c.args.at _ c.as_bytes-bytes.ensures.value c.utf8.s (sym c.is_block.ensures ∙ c.if-is_block.false)
-    (omega (arith, c.as_bytes-bytes.ensures.len)) c.ordinary_lanes.ensures c.requires.behind c.requires.boundary).behind
+    (run_found (outer_class c.args.ctx (sym c.is_block.ensures ∙ c.if-is_block.false) (sym c.is_inside.ensures ∙ c.if-is_inside.false)) c.args.s.now c.as_bytes-bytes.result.now c.args.at _ c.as_bytes-bytes.ensures.value c.utf8.s
+    (omega (arith, c.as_bytes-bytes.ensures.len)) c.outer_lanes.ensures c.requires.behind c.requires.boundary).behind
 
 pub returns-then-bytes-at-ge16-clause-boundary : goal.returns-then-bytes-at-ge16-clause-boundary
 returns-then-bytes-at-ge16-clause-boundary c =
-    (run_found c.args.s.now c.as_bytes-bytes.result.now c.args.ctx c.args.at _ c.as_bytes-bytes.ensures.value c.utf8.s (sym c.is_block.ensures ∙ c.if-is_block.false)
-    (omega (arith, c.as_bytes-bytes.ensures.len)) c.ordinary_lanes.ensures c.requires.behind c.requires.boundary).boundary
+    (run_found (outer_class c.args.ctx (sym c.is_block.ensures ∙ c.if-is_block.false) (sym c.is_inside.ensures ∙ c.if-is_inside.false)) c.args.s.now c.as_bytes-bytes.result.now c.args.at _ c.as_bytes-bytes.ensures.value c.utf8.s
+    (omega (arith, c.as_bytes-bytes.ensures.len)) c.outer_lanes.ensures c.requires.behind c.requires.boundary).boundary
 
 pub loop-end-init : goal.loop-end-init
 loop-end-init c = record { flowing = sym c.is_block.ensures ∙ c.if-is_block.false; so_far = (_, done); behind = c.requires.behind; boundary = c.requires.boundary; order = omega arith }
 
 pub loop-end-preserved : goal.loop-end-preserved
 loop-end-preserved c =
-    let o = c.ordinary_stands-in-loop-end.ensures c.loop-end-test.true in
-    let e = o.plain c.args.ctx c.loop-end.invariant.flowing in
+    let o = c.ordinary_stands.ensures c.loop-end-test.true c.args.ctx c.loop-end.invariant.flowing in
+    let e = o.plain in
     record {
       flowing = c.loop-end.invariant.flowing;
       so_far = (_, chain_more c.loop-end.invariant.so_far.1 (item_found done e o.reads).1);
