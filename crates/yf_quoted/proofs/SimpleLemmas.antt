@@ -62,7 +62,20 @@ ordinary_at t i u l e =
       allowed = not_forbidden t i (ordinary_no_dash (code t i) o) (ordinary_no_dot (code t i) o);
     }
 
--- of bytes that are ASCII characters other than " and \, of which the first is one: after such a byte no line starts
+-- where an ASCII character that is printed ends, no forbidden line begins
+visible_from : (c : ℕ) → is_between 0x20 0x7E c ≡ true → 32 ≤ c
+unfolding is_between
+visible_from c e = grind (arith, nat_tests)
+
+visible_upto : (c : ℕ) → is_between 0x20 0x7E c ≡ true → c ≤ 126
+unfolding is_between
+visible_upto c e = grind (arith, nat_tests)
+
+pub allowed_behind : (t : List ℕ) (i : ℕ) → IsUtf8 t → i ≢ 0 → i ≤ length t → is_between 0x20 0x7E (get_or t (i - 1) 0) ≡ true → Forbidden t i → ⊥
+allowed_behind t i u z w e f =
+    no_start_behind t i u z w (visible_from (get_or t (i - 1) 0) e) (visible_upto (get_or t (i - 1) 0) e) f.start
+
+-- of bytes that are ASCII characters other than " and \, where no forbidden line begins: after such a byte no line starts
 common_json : (c : ℕ) → is_common c ≡ true → is_nb_json c ≡ true
 unfolding is_common is_between is_nb_json
 common_json c e = grind (arith, nat_tests)
@@ -102,11 +115,11 @@ pub record SimpleRun (t : List ℕ) (i j : ℕ) : Type 0 where
 simple_more : {t : List ℕ} {i j : ℕ} → SimpleRun t i j → Simple t j (j + 1) → SimpleRun t i (j + 1)
 simple_more r s = record { reads = (_, chain_more r.reads.1 (simply s)); boundary = s.reads.boundary }
 
-module _ (t : List ℕ) (i : ℕ) (u : IsUtf8 t) (first : is_ordinary (get_or t i 0) ≡ true) where
+module _ (t : List ℕ) (i : ℕ) (u : IsUtf8 t) (first : Forbidden t i → ⊥) where
   allowed_on : (n : ℕ) → i + n < length t → ((k : ℕ) → i ≤ k → k < i + n → is_common (get_or t k 0) ≡ true) → Forbidden t (i + n) → ⊥
   allowed_on zero l p f =
       let same : i + 0 ≡ i = omega arith in
-      (ordinary_at t i u (omega arith) first).allowed (subst (λ k. Forbidden t k) same f)
+      first (subst (λ k. Forbidden t k) same f)
   allowed_on (suc n) l p f =
       let same : i + suc n - 1 ≡ i + n = omega arith in
       let last = ap (λ k. get_or t k 0) same in
@@ -124,11 +137,11 @@ module _ (t : List ℕ) (i : ℕ) (u : IsUtf8 t) (first : is_ordinary (get_or t 
       subst (λ j. SimpleRun t i j) next
       (simple_more here (common_at t (i + n) u (omega arith) (p (i + n) (omega arith) (omega arith)) (allowed_on n (omega arith) before)))
 
-pub run_found : (t b : List ℕ) (i n : ℕ) → b ≡ t → IsUtf8 t → i + 16 ≤ length t → is_ordinary (get_or b i 0) ≡ true → LaneRun is_common b i n → IsCharBoundary t i
+pub run_found : (t b : List ℕ) (i n : ℕ) → b ≡ t → IsUtf8 t → i + 16 ≤ length t → (Forbidden t i → ⊥) → LaneRun is_common b i n → IsCharBoundary t i
     → SimpleRun t i (i + n)
 run_found t b i n e u w f r z =
     let few = r.few in
-    run_on t i u (sym (ap (λ v. is_ordinary (get_or v i 0)) e) ∙ f) n (omega arith) (λ k l m. sym (ap (λ v. is_common (get_or v k 0)) e) ∙ r.pass k l m)
+    run_on t i u f n (omega arith) (λ k l m. sym (ap (λ v. is_common (get_or v k 0)) e) ∙ r.pass k l m)
     (record { reads = (_, done); boundary = z })
 
 -- the words so far

@@ -13,7 +13,7 @@ ghost use Rattle.yf_chars.specs.Text.{Reads};
 use crate::filled::push_if_filled;
 use crate::gap::{Found, double_gap, is_block, lines_width, push_gap};
 use crate::offsets::Offsets;
-use crate::simple::{ordinary_run, simple_char, words_end};
+use crate::simple::{ordinary_run, simple_char, wide_stands, words_end};
 use std::alloc::{AllocError, Global};
 use yf_chars::context::Ctx;
 use yf_chars::escapes::read_escape;
@@ -133,13 +133,20 @@ fn simple_end(s: &str, at: usize) -> Option<usize>
 {
     let mut end = at;
     'chars: loop {
-        let run_end = ordinary_run(s, end);
-        if stands(s, run_end, b'"') {
-            return Some(run_end);
-        }
-        match simple_char(s, run_end) {
-            None => return None,
-            Some(next) => end = next,
+        if wide_stands(s, end) {
+            match simple_char(s, end) {
+                None => return None,
+                Some(next) => end = next,
+            }
+        } else {
+            let run_end = ordinary_run(s, end);
+            if stands(s, run_end, b'"') {
+                return Some(run_end);
+            }
+            match simple_char(s, run_end) {
+                None => return None,
+                Some(next) => end = next,
+            }
         }
     }
 }

@@ -8,6 +8,7 @@ ghost use Rattle.yf_chars.specs.Text.{code};
 ghost use Rattle.yf_lines.specs.Basic.{Break, is_block, is_key};
 ghost use Rattle.yf_quoted.specs.Body.{gap_bytes, PlainGap, NoPlainGap, DoubleGap, NoDoubleGap, WidthOf};
 
+use crate::filled::push_if_filled;
 use std::alloc::AllocError;
 use yf_chars::context::Ctx;
 use yf_chars::text::stands;
@@ -113,7 +114,7 @@ pub fn push_gap(text: &mut String, s: &str, at: usize, gap: Gap) -> Result<(), A
     requires end { IsCharBoundary s.now gap.blank_end }
     ensures { OnOk result (string_bytes text.new ≡ string_bytes text.old ++ gap_bytes s.now at gap.blank_end gap.space gap.feeds) }
 {
-    text.push_str(&s[at..gap.blank_end])?;
+    push_if_filled(text, &s[at..gap.blank_end])?;
     push_space(text, gap.space)?;
     push_feeds(text, gap.feeds)
 }

@@ -1,5 +1,5 @@
 //! Characters that are spelled by themselves in double quotes, in runs. Offsets count bytes.
-ghost use Rattle.std.specs.Prelude.{◌≡◌, ◌∷◌, [], ◌+◌, ◌≤◌, true, IfSome, IsCharBoundary};
+ghost use Rattle.std.specs.Prelude.{◌≡◌, ◌∷◌, [], ◌+◌, ◌<◌, ◌≤◌, true, length, IfSome, IsCharBoundary};
 ghost use Rattle.yf_chars.specs.Escape.{spelled};
 ghost use Rattle.yf_quoted.specs.Own.{OwnAt, OwnRun};
 
@@ -68,4 +68,18 @@ pub(crate) fn own_run(text: &str, at: usize) -> usize
             }
         }
     }
+}
+
+/// Whether an ASCII character begins there that is spelled by an escape.
+#[inline(always)]
+pub(crate) fn escape_stands(text: &str, at: usize) -> bool
+    ensures { result ≡ true → at < length text.now }
+{
+    let bytes = text.as_bytes();
+    if at < bytes.len() {
+        if bytes[at] < 128 {
+            return !is_common(bytes[at]);
+        }
+    }
+    false
 }

@@ -1,8 +1,10 @@
 //! Characters that stand for themselves in double quotes, one by one and in runs. Offsets count bytes.
 ghost use Rattle.std.specs.Prelude.{◌≡◌, ◌+◌, ◌<◌, ◌≤◌, ℕ, Bool, true, List, IfSome, IsCharBoundary, MatchOption, length};
 ghost use Rattle.yf_chars.specs.Chain.{Chain};
+ghost use Rattle.yf_chars.specs.Class.{is_between};
 ghost use Rattle.yf_chars.specs.Common.{is_common};
 ghost use Rattle.yf_chars.specs.Lanes.{LaneRun};
+ghost use Rattle.yf_lines.specs.Basic.{Forbidden};
 ghost use Rattle.yf_quoted.specs.Body.{Simple, NoSimple, SimpleChar};
 ghost use Rattle.yf_quoted.specs.Ordinary.{is_ordinary, Words};
 
@@ -50,8 +52,30 @@ fn common_lanes(bytes: &[u8], at: usize) -> usize
     lanes_before(others.to_bitmask())
 }
 
-// The offset after such characters that stand there: after all, or where one begins 16 bytes after all of these, among which - and .
-// may stand then.
+// Whether the byte is an ASCII character that is printed.
+#[tactic(auto, unfolding(yf_chars::specs::Class::is_between))]
+#[inline(always)]
+fn is_visible(byte: u8) -> bool
+    ensures { result ≡ is_between 0x20 0x7E byte }
+{
+    matches!(byte, b' '..=b'~')
+}
+
+// Whether such a character ends at the offset: no line starts there.
+#[inline(always)]
+fn text_ends(s: &str, at: usize) -> bool
+    requires { at ≤ length s.now }
+    ensures { result ≡ true → Forbidden s.now at → ⊥ }
+{
+    if at == 0 {
+        return false;
+    }
+    let bytes = s.as_bytes();
+    is_visible(bytes[at - 1])
+}
+
+// The offset after such characters that stand there: where 16 bytes follow, after all of these, among which - and . may stand where text
+// ends before them; else after all.
 #[inline(always)]
 pub(crate) fn ordinary_run(s: &str, at: usize) -> usize
     requires { IsCharBoundary s.now at }
@@ -61,7 +85,7 @@ pub(crate) fn ordinary_run(s: &str, at: usize) -> usize
 {
     let bytes = s.as_bytes();
     if bytes.len() - at >= 16 {
-        if is_ordinary(bytes[at]) {
+        if text_ends(s, at) {
             return at + common_lanes(bytes, at);
         }
         return at;
@@ -71,6 +95,18 @@ pub(crate) fn ordinary_run(s: &str, at: usize) -> usize
         end += 1;
     }
     end
+}
+
+// Whether a character begins there that is not ASCII. Before such a one no run is looked for.
+#[inline(always)]
+pub(crate) fn wide_stands(s: &str, at: usize) -> bool
+    ensures { result ≡ true → at < length s.now }
+{
+    let bytes = s.as_bytes();
+    if at < bytes.len() {
+        return bytes[at] >= 128;
+    }
+    false
 }
 
 // The offset after a character that stands for itself.
@@ -102,7 +138,7 @@ pub(crate) fn simple_char(s: &str, at: usize) -> Option<usize>
 }
 
 // The offset after the last of all characters that stand for themselves there, with white space between them. None stand where an
-// escape begins.
+// escape begins. The clause holds of fewer characters too, as of none at all: that is slower, and reads the same.
 pub(crate) fn words_end(s: &str, at: usize) -> usize
     requires { IsCharBoundary s.now at }
     ensures reads { Words s.now at result }

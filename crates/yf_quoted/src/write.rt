@@ -1,14 +1,15 @@
 //! Writes quoted scalars on one line (YAML 1.2.2, sections 7.3.1 and 7.3.2).
-ghost use Rattle.std.specs.Prelude.{◌≡◌, ◌++◌, ◌∷◌, [], IfErr, IsCharBoundary, OnErr, OnOk, chars, drop, encode_utf8_all, flat_map};
+ghost use Rattle.std.specs.Prelude.{◌≡◌, ◌++◌, ◌∷◌, [], IfErr, OnErr, OnOk, chars, encode_utf8_all, flat_map};
 ghost use Rattle.std.specs.String.{string_bytes};
 ghost use Rattle.yf_chars.specs.Escape.{spelled};
 ghost use Rattle.yf_quoted.specs.Written.{DoubleBack, Grown, SingleBack, all_nb, double_bytes, quotes_for, single_bytes, twice};
 
-use crate::own::own_run;
+use crate::filled::push_if_filled;
+use crate::own::{escape_stands, own_run};
 use std::alloc::AllocError;
 use yf_chars::classes::is_nb_char;
 use yf_chars::error::NoMemory;
-use yf_chars::escapes::push_escaped;
+use yf_chars::escapes::{are_common, push_escaped};
 use yf_chars::text::peek;
 use yf_lines::fault::Fault;
 use yf_lines::quotes::Quotes;
@@ -130,31 +131,31 @@ fn push_spelled(out: &mut String, text: &str) -> Result<(), NoMemory>
     ensures written { OnOk result (string_bytes out.new ≡ string_bytes out.old ++ encode_utf8_all (flat_map spelled (chars text.now))) }
     ensures grown { Grown (string_bytes out.old) (string_bytes out.new) }
 {
-    let end = own_run(text, 0);
-    if end == text.len() {
+    if are_common(text) {
         out.push_str(text)?;
         return Ok(());
     }
-    out.push_str(&text[..end])?;
-    push_runs(out, text, end)?;
-    Ok(())
+    push_runs(out, text)
 }
 
-// The same for what stands from that place on: runs of characters that are spelled by themselves at once.
-fn push_runs(out: &mut String, text: &str, at: usize) -> Result<(), NoMemory>
-    requires { IsCharBoundary text.now at }
-    ensures written { OnOk result
-        (string_bytes out.new ≡ string_bytes out.old ++ encode_utf8_all (flat_map spelled (chars (drop at text.now)))) }
+// The same where some character may be spelled otherwise: after each such one, what is spelled by itself at once. No run is looked for
+// between two escapes.
+fn push_runs(out: &mut String, text: &str) -> Result<(), NoMemory>
+    ensures written { OnOk result (string_bytes out.new ≡ string_bytes out.old ++ encode_utf8_all (flat_map spelled (chars text.now))) }
     ensures grown { Grown (string_bytes out.old) (string_bytes out.new) }
 {
-    let mut end = at;
+    let mut end = 0;
     'runs: loop {
         match peek(text, end) {
             None => return Ok(()),
             Some((c, next)) => {
                 push_escaped(out, c)?;
-                end = own_run(text, next);
-                out.push_str(&text[next..end])?;
+                if escape_stands(text, next) {
+                    end = next;
+                } else {
+                    end = own_run(text, next);
+                    push_if_filled(out, &text[next..end])?;
+                }
             }
         }
     }

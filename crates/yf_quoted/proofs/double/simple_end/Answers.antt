@@ -10,9 +10,16 @@ chars-init c = record { read = (_, done); boundary = c.requires; order = omega a
 pub returns-then-stands-clause-reads : goal.returns-then-stands-clause-reads
 returns-then-stands-clause-reads c = (_, chain_append c.chars.invariant.read.1 c.ordinary_run-run_end.ensures.reads.1)
 
+pub chars-preserved-in-Some : goal.chars-preserved-in-Some
+chars-preserved-in-Some c = record {
+  read = (_, chain_more c.chars.invariant.read.1 (simply c.in-Some.ensures.reads));
+  boundary = c.in-Some.ensures.boundary;
+  order = omega (arith, c.chars.invariant.order, c.in-Some.ensures.order);
+}
+
 pub chars-preserved : goal.chars-preserved
 chars-preserved c = record {
-  read = (_, chain_more (chain_append c.chars.invariant.read.1 c.ordinary_run-run_end.ensures.reads.1) (simply c.in-Some.ensures.reads));
-  boundary = c.in-Some.ensures.boundary;
-  order = omega (arith, c.chars.invariant.order, c.ordinary_run-run_end.ensures.order, c.in-Some.ensures.order);
+  read = (_, chain_more (chain_append c.chars.invariant.read.1 c.ordinary_run-run_end.ensures.reads.1) (simply c.in-Some-simple_char.ensures.reads));
+  boundary = c.in-Some-simple_char.ensures.boundary;
+  order = omega (arith, c.chars.invariant.order, c.ordinary_run-run_end.ensures.order, c.in-Some-simple_char.ensures.order);
 }

@@ -5,15 +5,15 @@ use Rattle.yf_quoted.specs.Body.SimpleChar.{simply}
 use Rattle.yf_quoted.proofs.SimpleLemmas.{run_found}
 use Rattle.yf_quoted.proofs.simple.ordinary_run.Goals as goal
 
-pub returns-then-is_ordinary-clause-reads : goal.returns-then-is_ordinary-clause-reads
-returns-then-is_ordinary-clause-reads c =
+pub returns-then-text_ends-clause-reads : goal.returns-then-text_ends-clause-reads
+returns-then-text_ends-clause-reads c =
     (run_found c.args.s.now c.as_bytes-bytes.result.now c.args.at _ c.as_bytes-bytes.ensures.value c.utf8.s (omega (arith, c.as_bytes-bytes.ensures.len))
-    (sym c.is_ordinary.ensures ∙ c.if-is_ordinary.true) c.common_lanes.ensures c.requires).reads
+    (c.text_ends.ensures c.if-text_ends.true) c.common_lanes.ensures c.requires).reads
 
-pub returns-then-is_ordinary-clause-boundary : goal.returns-then-is_ordinary-clause-boundary
-returns-then-is_ordinary-clause-boundary c =
+pub returns-then-text_ends-clause-boundary : goal.returns-then-text_ends-clause-boundary
+returns-then-text_ends-clause-boundary c =
     (run_found c.args.s.now c.as_bytes-bytes.result.now c.args.at _ c.as_bytes-bytes.ensures.value c.utf8.s (omega (arith, c.as_bytes-bytes.ensures.len))
-    (sym c.is_ordinary.ensures ∙ c.if-is_ordinary.true) c.common_lanes.ensures c.requires).boundary
+    (c.text_ends.ensures c.if-text_ends.true) c.common_lanes.ensures c.requires).boundary
 
 pub returns-then-bytes-at-ge16-clause-reads : goal.returns-then-bytes-at-ge16-clause-reads
 returns-then-bytes-at-ge16-clause-reads c = (_, done)

@@ -7,7 +7,7 @@ use Rattle.yf_quoted.proofs.write.push_runs.Given as goal
 
 abbrev pub invariant-runs : goal.invariant-runs
 invariant-runs l = record {
-  written : string_bytes l.out ++ encode_utf8_all (flat_map spelled (chars (drop l.end l.text))) ≡ string_bytes l.initial.out ++ encode_utf8_all (flat_map spelled (chars (drop l.fn.at l.text)));
+  written : string_bytes l.out ++ encode_utf8_all (flat_map spelled (chars (drop l.end l.text))) ≡ string_bytes l.initial.out ++ encode_utf8_all (flat_map spelled (chars l.text));
   grown : Grown (string_bytes l.initial.out) (string_bytes l.out);
   boundary : IsCharBoundary l.text l.end;
 }
