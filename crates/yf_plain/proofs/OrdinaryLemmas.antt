@@ -8,8 +8,8 @@ use Rattle.yf_chars.specs.declared.context.Ctx.TheVariants.{BlockOut, BlockIn, F
 use Rattle.yf_chars.specs.Class.{is_indicator, is_ns_char, is_nb_char, is_printable, is_between, is_break_char, is_white, is_plain_safe, is_flow_indicator}
 use Rattle.yf_chars.specs.Lanes.{LaneRun}
 use Rattle.yf_chars.specs.Text.{before, code, Reads}
-use Rattle.yf_chars.proofs.ChainLemmas.{chain_append, chain_more, many_more}
-use Rattle.yf_chars.proofs.TextLemmas.{reads_ascii}
+use Rattle.yf_chars.proofs.ChainLemmas.{chain_more, many_more}
+use Rattle.yf_chars.proofs.TextLemmas.{byte_from_code, reads_ascii}
 use Rattle.yf_chars.specs.Chain.{Chain, Many}
 use Rattle.yf_chars.specs.Chain.Chain.{done}
 use Rattle.yf_lines.specs.Basic.{is_block}
@@ -145,10 +145,41 @@ letter_at t i u l e =
       allowed = not_forbidden t i (λ q. absurd (omega arith)) (λ q. absurd (omega arith));
     }
 
--- white space that begins with a first one
-pub white_first : {t : List ℕ} {i j : ℕ} {x : List ℕ} → is_white (code t i) ≡ true → Reads t i (code t i) (i + 1) → Many t is_white (i + 1) j x
-    → (y : List ℕ) × Many t is_white i j y
-white_first {t} {i} e r m = (_, chain_append (subst (λ k. Many t is_white i k (code t i ∷ [])) r.end (many_more t is_white done e)) m)
+-- a byte above : is no white space
+white_upto : (c : ℕ) → is_white c ≡ true → c ≤ 32
+unfolding is_white
+white_upto c e = grind (arith, nat_tests)
+
+pub no_white_above : (t : List ℕ) (i : ℕ) → IsUtf8 t → 58 < get_or t i 0 → is_white (code t i) ≡ false
+no_white_above t i u l =
+    ⊎_elim
+    (λ (h : is_white (code t i) ≡ true).
+    let w = white_upto (code t i) h in
+    let b = (byte_from_code t i u (omega (arith, w))).1 in
+    absurd (omega (arith, b, w, l)))
+    (λ (h : is_white (code t i) ≡ false). h) (cases_Bool (is_white (code t i)))
+
+-- a space, and an ordinary character after it
+space_white : is_white 32 ≡ true
+unfolding is_white
+space_white = refl
+
+pub word_item : (t : List ℕ) (c : Ctx) (i : ℕ) → Reads t i 32 (i + 1) → OrdinaryAt t c (i + 1) → (y : List ℕ) × PlainItem t c i (i + 2) y
+word_item t c i r o =
+    let white : is_white (code t i) ≡ true = ap is_white r.char ∙ space_white in
+    let space : Many t is_white i (i + 1) (code t i ∷ []) = subst (λ k. Many t is_white i k (code t i ∷ [])) r.end (many_more t is_white done white) in
+    let end : i + 1 + 1 ≡ i + 2 = omega arith in
+    item_found space o.plain (subst (λ k. Reads t (i + 1) (code t (i + 1)) k) end o.reads)
+
+pub word_behind : (t : List ℕ) (c : Ctx) (i : ℕ) → OrdinaryAt t c (i + 1) → is_ns_char (before t (i + 2)) ≡ true
+word_behind t c i o =
+    let end : i + 1 + 1 ≡ i + 2 = omega arith in
+    subst (λ k. is_ns_char (before t k) ≡ true) end (ap is_ns_char o.reads.back ∙ plain_is_ns t c (i + 1) o.plain)
+
+pub word_boundary : (t : List ℕ) (c : Ctx) (i : ℕ) → OrdinaryAt t c (i + 1) → IsCharBoundary t (i + 2)
+word_boundary t c i o =
+    let end : i + 1 + 1 ≡ i + 2 = omega arith in
+    subst (λ k. IsCharBoundary t k) end o.reads.boundary
 
 -- a character that is no character of content is not safe
 no_content_unsafe : (c : ℕ) (x : Ctx) → is_ns_char c ≡ false → is_plain_safe c x ≡ false

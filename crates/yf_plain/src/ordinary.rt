@@ -1,7 +1,8 @@
 //! Characters of which one test tells what they are to a plain scalar. Offsets count bytes.
 ghost use Rattle.std.specs.Prelude.{◌≡◌, ◌+◌, ◌≤◌, length, false, true};
-ghost use Rattle.yf_chars.specs.Class.{is_between};
+ghost use Rattle.yf_chars.specs.Class.{is_between, is_white};
 ghost use Rattle.yf_chars.specs.Lanes.{LaneRun};
+ghost use Rattle.yf_chars.specs.Text.{code};
 ghost use Rattle.yf_chars.specs.declared.context.Ctx.{Ctx};
 ghost use Rattle.yf_lines.specs.Basic.{is_block};
 ghost use Rattle.yf_plain.specs.Ordinary.{is_letter, is_ordinary, is_outer, EndAt, LetterAt, OrdinaryAt};
@@ -63,7 +64,7 @@ pub(crate) fn outer_lanes(bytes: &[u8], at: usize) -> usize
     lanes_before(others.to_bitmask())
 }
 
-/// Whether the byte is no white space, no break and no part of a wider character: only there 16 bytes are worth a look.
+/// Whether the byte may be one of these: before white space, breaks and wider characters 16 bytes are not looked at.
 #[tactic(auto, unfolding(yf_chars::specs::Class::is_between))]
 #[inline(always)]
 pub(crate) fn is_worth_a_look(byte: u8) -> bool
@@ -92,6 +93,20 @@ pub(crate) fn letter_stands(s: &str, at: usize) -> bool
     let bytes = s.as_bytes();
     if at < bytes.len() {
         return is_letter(bytes[at]);
+    }
+    false
+}
+
+/// Whether a character above `:` stands there, and so no white space and no end of a line. None beyond ASCII needs other tests.
+#[inline(always)]
+pub(crate) fn text_stands(s: &str, at: usize) -> bool
+    ensures { result ≡ true → is_white (code s.now at) ≡ false }
+{
+    let bytes = s.as_bytes();
+    if at < bytes.len() {
+        if bytes[at] > b':' {
+            return true;
+        }
     }
     false
 }

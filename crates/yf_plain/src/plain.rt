@@ -9,17 +9,19 @@ ghost use Rattle.yf_lines.specs.Basic.{Forbidden, is_block, is_flow, is_key};
 ghost use Rattle.yf_lines.specs.Fold.{fold_text};
 ghost use Rattle.yf_lines.specs.Text.{text_bytes};
 ghost use Rattle.yf_plain.specs.Kept.{is_inside};
+ghost use Rattle.yf_plain.specs.Ordinary.{OrdinaryAt};
 ghost use Rattle.yf_plain.specs.Plain as P;
 ghost use Rattle.yf_plain.specs.Plain.{is_plain_first, is_plain_char, is_sign, Plain, PlainItem, PlainLine, PlainFront, NoNextLine};
 
 use crate::ordinary::{
     end_stands, is_worth_a_look, letter_stands, ordinary_lanes, ordinary_stands, outer_lanes,
+    text_stands,
 };
 use std::alloc::{AllocError, Global};
 use yf_chars::classes::{is_indicator, is_ns_char, is_plain_safe};
 use yf_chars::context::Ctx;
-use yf_chars::text::peek;
-use yf_lines::basic::{is_forbidden_at, skip_whites, white_stands};
+use yf_chars::text::{peek, stands};
+use yf_lines::basic::{is_forbidden_at, skip_whites};
 use yf_lines::fault::Fault;
 use yf_lines::fold::{flow_folded, indent_width};
 use yf_lines::source_text::Src;
@@ -275,7 +277,7 @@ fn ordinary_run(s: &str, at: usize, ctx: Ctx) -> usize
     end
 }
 
-// White space and one character after them: the offset after it.
+// White space and one character after them: the offset after it. Most often it is one space, and an ordinary character.
 #[inline(always)]
 fn plain_item(s: &str, at: usize, ctx: Ctx) -> Option<usize>
     requires boundary { IsCharBoundary s.now at }
@@ -285,20 +287,36 @@ fn plain_item(s: &str, at: usize, ctx: Ctx) -> Option<usize>
     ensures boundary { IfSome result (λ j. IsCharBoundary s.now j) }
     ensures order { IfSome result (λ j. at < j) }
 {
-    if end_stands(s, at) {
-        return None;
-    }
-    if !white_stands(s, at) {
+    if text_stands(s, at) {
         return match plain_char(s, at, ctx, true) {
             None => None,
             Some(end) => Some(end),
         };
     }
-    let start = skip_whites(s, at + 1);
-    match plain_char(s, start, ctx, false) {
+    if stands(s, at, b' ') {
+        if word_stands(s, at + 1, ctx) {
+            return Some(at + 2);
+        }
+    }
+    if end_stands(s, at) {
+        return None;
+    }
+    let start = skip_whites(s, at);
+    match plain_char(s, start, ctx, start == at) {
         None => None,
         Some(end) => Some(end),
     }
+}
+
+// Whether an ordinary character begins there, in a context of scalars.
+#[inline(always)]
+fn word_stands(s: &str, at: usize, ctx: Ctx) -> bool
+    ensures { result ≡ true → OrdinaryAt s.now ctx at }
+{
+    if is_block(ctx) {
+        return false;
+    }
+    ordinary_stands(s, at)
 }
 
 // The offset after the character that begins there, where it may stand in a plain scalar (ns-plain-char(c), production
