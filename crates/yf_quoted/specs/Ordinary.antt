@@ -12,7 +12,8 @@ use Rattle.yf_quoted.specs.Body.{Step, DoubleBreaks}
 unfoldable pub is_ordinary : ℕ → Bool
 is_ordinary c = is_between 0x20 0x21 c || is_between 0x23 0x2C c || is_between 0x2F 0x5B c || is_between 0x5D 0x7E c
 
--- characters that stand for themselves in double quotes, each after white space or none: their steps, and their bytes
+-- characters that stand for themselves in double quotes, each after white space or none: their steps, and their bytes. None at all, from i
+-- to i, are some too
 pub record Words (t : List ℕ) (i j : ℕ) : Type 0 where
   pub text : List ℕ
   pub steps : (o : Option ℕ) → Chain (Step t goods (DoubleChar t) (DoubleBreaks t o)) i j (goods text)
