@@ -13,9 +13,8 @@ use Rattle.yf_chars.specs.Text.{code}
 use Rattle.yf_chars.proofs.TextLemmas.{reads_byte}
 use Rattle.yf_lines.proofs.PlaceLemmas.{characters_more}
 use Rattle.yf_lines.specs.Basic.{Spaces}
-use Rattle.yf_lines.specs.Lines.{AreLines, Marks, PlaceOf, ColumnOf, is_char, is_mark}
+use Rattle.yf_lines.specs.Lines.{AreLines, Holds, Marks, PlaceOf, ColumnOf, is_char, is_mark}
 use Rattle.yf_lines.specs.Lines.ColumnOf.{among_marks, behind_marks}
-use Rattle.yf_lines.specs.Lines.Holds.{inside}
 use Rattle.yf_lines.specs.Lines.PlaceOf.{in_line}
 use Rattle.yf_rules.specs.declared.facts.cursor.Cursor.{Cursor}
 use Rattle.yf_rules.specs.Places.{Reached, IsCursor}
@@ -76,10 +75,10 @@ reached_more t start at column offset d x r m e b room = record {
 }
 
 pub place_reached : (t : List ℕ) (ls : List Line) (l : Line) (k number offset d : ℕ) → AreLines t ls → slice_get ls k ≡ Some l → number ≡ k + 1
-    → l.start ≤ offset → offset < l.next → Reached t l.start offset d → PlaceOf t offset number d
-place_reached t ls l k number offset d a e n o w r =
+    → Holds l offset → Reached t l.start offset d → PlaceOf t offset number d
+place_reached t ls l k number offset d a e n h r =
     let column : ColumnOf t l.start offset d = subst (ColumnOf t l.start offset) (sym r.count) (behind_marks r.marks r.run) in
-    subst (λ m. PlaceOf t offset m d) (sym n) (in_line k a e (inside o w) column)
+    subst (λ m. PlaceOf t offset m d) (sym n) (in_line k a e h column)
 
 -- no characters end where they begin
 pub many_none : {t : List ℕ} {p : ℕ → Bool} {i j : ℕ} {x : List ℕ} → Many t p i j x → length x ≡ 0 → i ≡ j
@@ -88,8 +87,8 @@ many_none (step (one h) rest) e = let none : ⊥ = omega (arith, e) in absurd no
 
 -- an offset before a cursor in column 1 is one of the marks of the line
 pub place_among : (t : List ℕ) (ls : List Line) (l : Line) (k number at column offset : ℕ) → AreLines t ls → slice_get ls k ≡ Some l
-    → number ≡ k + 1 → l.start ≤ offset → offset < l.next → Reached t l.start at column → column ≡ 1 → offset < at → PlaceOf t offset number 1
-place_among t ls l k number at column offset a e n o w r first before =
+    → number ≡ k + 1 → Holds l offset → Reached t l.start at column → column ≡ 1 → offset < at → PlaceOf t offset number 1
+place_among t ls l k number at column offset a e n h r first before =
     let none : length r.characters ≡ 0 = let c = r.count in omega (arith, c, first) in
     let there : offset < r.behind = let j = many_none r.run none in omega (arith, j, before) in
-    subst (λ m. PlaceOf t offset m 1) (sym n) (in_line k a e (inside o w) (among_marks r.marks there))
+    subst (λ m. PlaceOf t offset m 1) (sym n) (in_line k a e h (among_marks r.marks there))

@@ -5,6 +5,7 @@ pub mod CheckLemmas
 pub mod FoundLemmas
 pub mod PlacesLemmas
 pub mod CursorLemmas
+pub mod BackLemmas
 -- what is known of texts and readings, for several rules
 pub mod ExactLemmas
 pub mod BegunLemmas

@@ -1,13 +1,14 @@
 //! The places of byte offsets, in one pass over the text.
-ghost use Rattle.std.specs.Prelude.{◌≡◌, ◌<◌, ◌≤◌, ◌+◌, length, IfOk, IfSome, slice_get};
+ghost use Rattle.std.specs.Prelude.{◌≡◌, ◌<◌, ◌≤◌, ◌+◌, true, length, IfOk, IfSome, slice_get};
 ghost use Rattle.std.specs.Str.{IsCharBoundary};
-ghost use Rattle.yf_lines.specs.Lines.{PlaceOf};
+ghost use Rattle.yf_lines.specs.Lines.{Holds, PlaceOf};
 ghost use Rattle.yf_rules.specs.Columns.{ColumnsTo, IsColumn};
 ghost use Rattle.yf_rules.specs.Places.{IsCursor, PlacesOf};
 
 use crate::facts::begun::lines_begun;
 use crate::facts::cursor::{Cursor, Located};
 use std::alloc::{AllocError, Global};
+use yf_lines::line::Line;
 use yf_lines::place::Place;
 use yf_lines::source_text::Src;
 use yf_lines::table::{column_from, skip_marks};
@@ -31,7 +32,7 @@ fn line_cursor(src: &Src, line: usize) -> Cursor
 }
 
 /// The cursor in the line of that index, for a byte offset in it: after the spaces with which the line begins, unless the
-/// offset stands among them.
+/// offset stands among them, or is the end of the text.
 #[inline(always)]
 fn indent_cursor(src: &Src, line: usize, offset: usize) -> Cursor
     ensures { IsCursor src.now.text src.now.lines result }
@@ -39,7 +40,7 @@ fn indent_cursor(src: &Src, line: usize, offset: usize) -> Cursor
     if line < src.lines().len() {
         let _text = src.text();
         let found = src.lines().line(line);
-        if 0 < found.indent && found.indent < offset && found.start <= offset {
+        if 0 < found.indent && offset < found.next && found.start <= offset {
             if found.indent <= offset - found.start {
                 return Cursor {
                     line,
@@ -64,25 +65,47 @@ fn forward(src: &Src, cursor: Cursor, offset: usize) -> Cursor
     indent_cursor(src, line, offset)
 }
 
-/// The place of a byte offset, from a cursor before it on.
-fn place_from(src: &Src, from: Cursor, offset: usize) -> Located
+/// Whether the line holds the byte offset. A last line without a break holds the end of the text too.
+#[inline(always)]
+fn holds(line: Line, offset: usize) -> bool
+    ensures { result ≡ true → Holds line offset }
+{
+    if offset < line.start {
+        return false;
+    }
+    if offset < line.next {
+        return true;
+    }
+    if line.end == line.next {
+        return offset == line.next;
+    }
+    false
+}
+
+/// The place of a byte offset, from the first cursor on. An offset that its line holds before that cursor, and one at the
+/// end of the text, is found from the second one, which stays at the last of these: so it takes one pass over a line where
+/// they descend.
+fn place_from(src: &Src, from: Cursor, back: &mut Cursor, offset: usize) -> Located
     requires boundary { IsCharBoundary src.now.text offset }
     requires cursor { IsCursor src.now.text src.now.lines from }
+    requires back { IsCursor src.now.text src.now.lines back.old }
     ensures place { PlaceOf src.now.text offset result.place.line result.place.column }
     ensures cursor { IsCursor src.now.text src.now.lines result.cursor }
+    ensures back { IsCursor src.now.text src.now.lines back.new }
 {
     let cursor = forward(src, from, offset);
     if cursor.line < src.lines().len() {
         let line = src.lines().line(cursor.line);
-        if line.start <= offset {
-            if offset < line.next {
-                if cursor.at <= offset {
-                    return place_in_line(src, cursor, cursor.line + 1, offset);
-                }
-                if cursor.column == 1 {
-                    return place_at_mark(src, cursor, cursor.line + 1, offset);
-                }
+        if holds(line, offset) {
+            if cursor.at <= offset && offset < line.next {
+                return place_in_line(src, cursor, cursor.line + 1, offset);
             }
+            let located = place_back(src, cursor, *back, cursor.line + 1, offset);
+            *back = located.cursor;
+            return Located {
+                place: located.place,
+                cursor,
+            };
         }
     }
     Located {
@@ -91,13 +114,50 @@ fn place_from(src: &Src, from: Cursor, offset: usize) -> Located
     }
 }
 
+/// The place of a byte offset in the line of the first cursor, which has that number: from the second cursor, if it stands
+/// in that line, and else from the first.
+fn place_back(src: &Src, cursor: Cursor, back: Cursor, number: usize, offset: usize) -> Located
+    requires boundary { IsCharBoundary src.now.text offset }
+    requires cursor { IsCursor src.now.text src.now.lines cursor }
+    requires back { IsCursor src.now.text src.now.lines back }
+    requires line { cursor.line < length src.now.lines }
+    requires number { number ≡ cursor.line + 1 }
+    requires within { IfSome (slice_get src.now.lines cursor.line) (λ l. Holds l offset) }
+    ensures place { PlaceOf src.now.text offset result.place.line result.place.column }
+    ensures cursor { IsCursor src.now.text src.now.lines result.cursor }
+{
+    if back.line == cursor.line {
+        return place_near(src, back, number, offset);
+    }
+    place_near(src, cursor, number, offset)
+}
+
+/// The place of a byte offset before or after a cursor in its line, which has that number.
+fn place_near(src: &Src, cursor: Cursor, number: usize, offset: usize) -> Located
+    requires boundary { IsCharBoundary src.now.text offset }
+    requires cursor { IsCursor src.now.text src.now.lines cursor }
+    requires line { cursor.line < length src.now.lines }
+    requires number { number ≡ cursor.line + 1 }
+    requires within { IfSome (slice_get src.now.lines cursor.line) (λ l. Holds l offset) }
+    ensures place { PlaceOf src.now.text offset result.place.line result.place.column }
+    ensures cursor { IsCursor src.now.text src.now.lines result.cursor }
+{
+    if cursor.at <= offset {
+        return place_in_line(src, cursor, number, offset);
+    }
+    if cursor.column == 1 {
+        return place_at_mark(src, cursor, number, offset);
+    }
+    place_before(src, cursor, number, offset)
+}
+
 /// The place of a byte offset after a cursor in its line, which has that number.
 fn place_in_line(src: &Src, cursor: Cursor, number: usize, offset: usize) -> Located
     requires boundary { IsCharBoundary src.now.text offset }
     requires cursor { IsCursor src.now.text src.now.lines cursor }
     requires line { cursor.line < length src.now.lines }
     requires number { number ≡ cursor.line + 1 }
-    requires within { IfSome (slice_get src.now.lines cursor.line) (λ l. (l.start ≤ offset) × (offset < l.next)) }
+    requires within { IfSome (slice_get src.now.lines cursor.line) (λ l. Holds l offset) }
     requires order { cursor.at ≤ offset }
     ensures place { PlaceOf src.now.text offset result.place.line result.place.column }
     ensures cursor { IsCursor src.now.text src.now.lines result.cursor }
@@ -122,7 +182,7 @@ fn place_at_mark(src: &Src, cursor: Cursor, number: usize, offset: usize) -> Loc
     requires cursor { IsCursor src.now.text src.now.lines cursor }
     requires line { cursor.line < length src.now.lines }
     requires number { number ≡ cursor.line + 1 }
-    requires within { IfSome (slice_get src.now.lines cursor.line) (λ l. (l.start ≤ offset) × (offset < l.next)) }
+    requires within { IfSome (slice_get src.now.lines cursor.line) (λ l. Holds l offset) }
     requires order { offset < cursor.at }
     requires first { cursor.column ≡ 1 }
     ensures place { PlaceOf src.now.text offset result.place.line result.place.column }
@@ -138,43 +198,84 @@ fn place_at_mark(src: &Src, cursor: Cursor, number: usize, offset: usize) -> Loc
     }
 }
 
-/// The column, from 0, of a byte offset, from a cursor before it on, and the cursor that the next pass begins with. An offset within a character
-/// has 0.
-fn column_after(src: &Src, from: Cursor, offset: usize) -> (usize, Cursor)
-    requires { IsCursor src.now.text src.now.lines from }
+/// The place of a byte offset before a cursor in its line, which has that number. The characters between them are counted:
+/// where they are fewer than its column, the offset stands after the marks of the line, and else among them.
+fn place_before(src: &Src, cursor: Cursor, number: usize, offset: usize) -> Located
+    requires boundary { IsCharBoundary src.now.text offset }
+    requires cursor { IsCursor src.now.text src.now.lines cursor }
+    requires line { cursor.line < length src.now.lines }
+    requires number { number ≡ cursor.line + 1 }
+    requires within { IfSome (slice_get src.now.lines cursor.line) (λ l. Holds l offset) }
+    requires order { offset < cursor.at }
+    ensures place { PlaceOf src.now.text offset result.place.line result.place.column }
+    ensures cursor { IsCursor src.now.text src.now.lines result.cursor }
+{
+    let _line = src.lines().line(cursor.line);
+    let count = column_from(src.text(), offset, 0, cursor.at);
+    if count < cursor.column {
+        let column = cursor.column - count;
+        return Located {
+            place: Place {
+                line: number,
+                column,
+            },
+            cursor: Cursor {
+                line: cursor.line,
+                at: offset,
+                column,
+            },
+        };
+    }
+    Located {
+        place: Place {
+            line: number,
+            column: 1,
+        },
+        cursor: line_cursor(src, cursor.line),
+    }
+}
+
+/// The column, from 0, of a byte offset, from these cursors on, and the first cursor for the next pass. An offset within a
+/// character has 0.
+fn column_after(src: &Src, from: Cursor, back: &mut Cursor, offset: usize) -> (usize, Cursor)
+    requires cursor { IsCursor src.now.text src.now.lines from }
+    requires back { IsCursor src.now.text src.now.lines back.old }
     ensures column { IsCharBoundary src.now.text offset → IsColumn src.now.text offset result.0 }
     ensures cursor { IsCursor src.now.text src.now.lines result.1 }
+    ensures back { IsCursor src.now.text src.now.lines back.new }
 {
     if src.text().is_char_boundary(offset) {
-        let located = place_from(src, from, offset);
+        let located = place_from(src, from, back, offset);
         return (located.place.column.saturating_sub(1), located.cursor);
     }
     (0, from)
 }
 
-/// The column, from 0, of each byte offset, in its place. It takes one pass where the offsets ascend. An offset within a
-/// character has 0.
+/// The column, from 0, of each byte offset, in its place. It takes one pass where the offsets ascend or descend. An offset
+/// within a character has 0.
 pub fn columns_of(src: &Src, mut offsets: Vec<usize>) -> Vec<usize>
     ensures { ColumnsTo src.now.text offsets.items result.items (length offsets.items) }
 {
     let mut cursor = line_cursor(src, 0);
+    let mut back = cursor;
     for k in 0..offsets.len() {
-        let (column, next) = column_after(src, cursor, offsets[k]);
+        let (column, next) = column_after(src, cursor, &mut back, offsets[k]);
         offsets[k] = column;
         cursor = next;
     }
     offsets
 }
 
-/// The places of the byte offsets that have one, in their order and in one pass where the offsets ascend.
+/// The places of the byte offsets that have one, in their order and in one pass where the offsets ascend or descend.
 pub fn known_places(alloc: Global, src: &Src, offsets: &[usize]) -> Result<Vec<Place>, AllocError>
     ensures { IfOk result (λ places. PlacesOf src.now.text offsets.now places.items) }
 {
     let mut places = Vec::new(alloc);
     let mut cursor = line_cursor(src, 0);
+    let mut back = cursor;
     for offset in offsets {
         if src.text().is_char_boundary(*offset) {
-            let located = place_from(src, cursor, *offset);
+            let located = place_from(src, cursor, &mut back, *offset);
             cursor = located.cursor;
             places.push(located.place)?;
         }

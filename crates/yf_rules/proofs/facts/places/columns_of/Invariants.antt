@@ -5,5 +5,6 @@ use Rattle.yf_rules.proofs.facts.places.columns_of.Given as goal
 abbrev pub invariant-loop-k : goal.invariant-loop-k
 invariant-loop-k l = record {
   cursor : IsCursor l.src.text l.src.lines l.cursor;
+  back : IsCursor l.src.text l.src.lines l.back;
   columns : ColumnsTo l.src.text l.fn.offsets.items l.offsets.items l.k;
 }

@@ -5,8 +5,8 @@ use Rattle.yf_lines.specs.Lines.{IsLine}
 use Rattle.yf_rules.proofs.CursorLemmas.{cursor_of, reached_indent}
 use Rattle.yf_rules.proofs.facts.places.indent_cursor.Goals as goal
 
-pub returns-then-found-offset-3 : goal.returns-then-found-offset-3
-returns-then-found-offset-3 c =
+pub returns-then-found-offset-2 : goal.returns-then-found-offset-2
+returns-then-found-offset-2 c =
     let v = c.args.src.now in
     let l = c.line-found.result in
     let s = c.lines-then-line-len.ensures in

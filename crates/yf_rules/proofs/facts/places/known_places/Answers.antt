@@ -9,6 +9,7 @@ pub loop-offset-init : goal.loop-offset-init
 loop-offset-init c = record {
   places = no_places c.args.src.now.text c.new-places.result.items c.new-places.ensures.items;
   cursor = c.line_cursor-cursor.ensures;
+  back = c.line_cursor-cursor.ensures;
 }
 
 pub loop-offset-preserved : goal.loop-offset-preserved
@@ -25,6 +26,7 @@ loop-offset-preserved c =
           record {
             places = places_more t os i c.loop-offset.places.items c.if-is_char_boundary.places.items w.place_from-located.result.place lt before b w.place_from-located.ensures.place e;
             cursor = subst (λ s. IsCursor t c.args.src.now.lines s) (sym w.cursor-is) w.place_from-located.ensures.cursor;
+            back = subst (λ s. IsCursor t c.args.src.now.lines s) (sym w.back-is) w.place_from-located.ensures.back;
           }
       | else-is_char_boundary w ↦
           let n : IsCharBoundary t (get_or os i 0) → ⊥ = λ b. true≢false (sym (w.if-is_char_boundary.ensures.test.1 (subst (λ x. IsCharBoundary x (get_or os i 0)) (sym c.text.ensures) b))) in
@@ -32,5 +34,6 @@ loop-offset-preserved c =
           record {
             places = subst (λ ps. PlacesOf t (take (i + 1) os) ps) (sym e) (places_passed t os i c.loop-offset.places.items lt before n);
             cursor = subst (λ s. IsCursor t c.args.src.now.lines s) (sym w.cursor-is) c.loop-offset.invariant.cursor;
+            back = subst (λ s. IsCursor t c.args.src.now.lines s) (sym w.back-is) c.loop-offset.invariant.back;
           }
     ]

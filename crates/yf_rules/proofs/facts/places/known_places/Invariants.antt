@@ -6,4 +6,5 @@ abbrev pub invariant-loop-offset : goal.invariant-loop-offset
 invariant-loop-offset l = record {
   places : PlacesOf l.src.text (take l.offset-index l.offsets) l.places.items;
   cursor : IsCursor l.src.text l.src.lines l.cursor;
+  back : IsCursor l.src.text l.src.lines l.back;
 }
