@@ -1,12 +1,11 @@
 //! Runs of characters within a line (nb-char, production 27), ASCII byte by byte.
-ghost use Rattle.std.specs.Prelude.{◌≡◌, ◌+◌, ◌≤◌, ℕ, List, true, false, MatchBool, ⊤};
+ghost use Rattle.std.specs.Prelude.{◌≡◌, ◌+◌, ◌≤◌, ℕ, List, true, false, length, MatchBool, MatchOption, ⊤};
 ghost use Rattle.std.specs.Str.{IsCharBoundary};
 ghost use Rattle.yf_chars.specs.Chain.{Many};
 ghost use Rattle.yf_chars.specs.Class as Class;
-ghost use Rattle.yf_chars.specs.Text.{code, Reads};
+ghost use Rattle.yf_chars.specs.Text.{code, no_char, Reads};
 
 use crate::classes::is_nb_char;
-use crate::text::peek;
 
 // Whether a printable ASCII character stands there, from the space to `~`.
 #[inline(always)]
@@ -42,6 +41,19 @@ fn ascii_run(s: &str, at: usize) -> usize
     end
 }
 
+// The character that begins at the offset, and the offset after it; `None` at the end of the text. A character of ASCII
+// is decoded as any other.
+#[inline(always)]
+fn decoded(s: &str, at: usize) -> Option<(char, usize)>
+    requires { IsCharBoundary s.now at }
+    ensures { MatchOption result ((code s.now at ≡ no_char) × (at ≡ length s.now)) (λ p. Reads s.now at p.0 p.1) }
+{
+    match s[at..].chars().next() {
+        Some(c) => Some((c, at + c.len_utf8())),
+        None => None,
+    }
+}
+
 /// The offset after all characters within a line (nb-char, production 27) that stand at the offset.
 #[inline]
 pub fn skip_nb_chars(s: &str, at: usize) -> usize
@@ -53,7 +65,7 @@ pub fn skip_nb_chars(s: &str, at: usize) -> usize
 {
     let mut end = ascii_run(s, at);
     'chars: loop {
-        match peek(s, end) {
+        match decoded(s, end) {
             Some((c, next)) => {
                 if is_nb_char(c) {
                     end = ascii_run(s, next);

@@ -1,4 +1,4 @@
-use Rattle.std.proofs.Common.{◌≤◌, sym, subst, get_or, arith}
+use Rattle.std.proofs.Common.{◌≤◌, subst, get_or, arith}
 use Rattle.yf_chars.proofs.NbLemmas.{ascii_class, ascii_reads}
 use Rattle.yf_chars.proofs.nb_runs.ascii_stands.Goals as goal
 
