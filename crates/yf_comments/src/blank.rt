@@ -3,7 +3,7 @@ ghost use Rattle.std.specs.Prelude.{◌≡◌, ◌≢◌, ◌-◌, ◌<◌, ◌�
 ghost use Rattle.yf_chars.specs.Signs.{CARRIAGE_RETURN, LINE_FEED};
 ghost use Rattle.yf_chars.specs.Text.{code};
 ghost use Rattle.yf_lines.specs.Basic.{Break};
-ghost use Rattle.yf_comments.specs.Comments.{BlankBefore};
+ghost use Rattle.yf_comments.specs.Comments.{Blank, BlankBefore};
 
 use yf_chars::text::stands;
 use yf_lines::basic::{mark_ends, white_stands};
@@ -44,8 +44,11 @@ pub fn is_blank_before(s: &str, at: usize) -> bool
     if at == 0 {
         return false;
     }
-    if stands(s, at - 1, b' ') {
-        if visible_ends(s, at - 1) {
+    if visible_ends(s, at - 1) {
+        if stands(s, at - 1, b' ') {
+            return false;
+        }
+        if stands(s, at - 1, b'\n') {
             return false;
         }
     }
@@ -55,7 +58,9 @@ pub fn is_blank_before(s: &str, at: usize) -> bool
 // Whether a visible ASCII character ends at the offset.
 #[inline(always)]
 fn visible_ends(s: &str, at: usize) -> bool
-    ensures { MatchBool result (BlankBefore s.now at → ⊥) ⊤ }
+    ensures before { MatchBool result (BlankBefore s.now at → ⊥) ⊤ }
+    ensures blank { MatchBool result (Blank s.now at → ⊥) ⊤ }
+    ensures sign { MatchBool result (code s.now (at - 1) ≢ CARRIAGE_RETURN) ⊤ }
 {
     let bytes = s.as_bytes();
     if at == 0 {

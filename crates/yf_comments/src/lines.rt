@@ -1,8 +1,8 @@
 //! Comments, and the lines that hold nothing else (YAML 1.2.2, section 6.6).
-ghost use Rattle.std.specs.Prelude.{◌≡◌, ◌≢◌, ◌+◌, ◌-◌, ◌<◌, ◌≤◌, List, [], ◌∷◌, ◌++◌, Bool, true, false, Option, Some, None, length, IfOk, IfSome, IfNone, MatchOption, MatchBool};
+ghost use Rattle.std.specs.Prelude.{◌≡◌, ◌≢◌, ◌+◌, ◌-◌, ◌<◌, ◌≤◌, ℕ, List, [], ◌∷◌, ◌++◌, Bool, true, false, Option, Some, None, length, IfOk, IfSome, IfNone, MatchOption, MatchBool};
 ghost use Rattle.std.specs.Str.{IsCharBoundary};
 ghost use Rattle.yf_chars.specs.Signs.{NUMBER_SIGN};
-ghost use Rattle.yf_chars.specs.Chain.{Chosen, Stuck, Nowhere, Farthest};
+ghost use Rattle.yf_chars.specs.Chain.{Chosen, Many, Stuck, Nowhere, Farthest};
 ghost use Rattle.yf_chars.specs.Class.{is_nb_char, is_white};
 ghost use Rattle.yf_chars.specs.Text.{code};
 ghost use Rattle.yf_lines.specs.Basic.{LineStart, SeparateInLine};
@@ -116,6 +116,29 @@ fn past_whites<'a>(s: &'a str, at: usize, place: usize) -> Option<Row<'a>>
     }
 }
 
+// Reads what is left of a line whose white space ends at the place: a comment where white space or the start of the line
+// stands before it, and a break or the end of the text.
+#[inline(always)]
+fn rest_from<'a>(s: &'a str, at: usize, place: usize, starts: bool) -> Option<Row<'a>>
+    requires boundary { IsCharBoundary s.now place }
+    requires whites { (x : List ℕ) × Many s.now is_white at place x }
+    requires all { is_white (code s.now place) ≡ false }
+    requires starts { MatchBool starts (LineStart s.now at) (LineStart s.now at → ⊥) }
+    ensures reads { MatchOption result (Stuck (LineRest s.now at)) (λ r. LineRest s.now at r.end (row_comments r.comment)) }
+    ensures boundary { IfSome result (λ r. IsCharBoundary s.now r.end) }
+{
+    if starts || place > at {
+        return past_whites(s, at, place);
+    }
+    match break_or_end(s, place) {
+        Some(next) => Some(Row {
+            comment: None,
+            end: next,
+        }),
+        None => None,
+    }
+}
+
 /// Reads what is left of a line: white space, a comment where white space or the start of the line stands before it, and a
 /// break or the end of the text (s-b-comment, production 77).
 #[inline(always)]
@@ -126,41 +149,32 @@ pub fn line_rest<'a>(s: &'a str, at: usize, starts: bool) -> Option<Row<'a>>
     ensures boundary { IfSome result (λ r. IsCharBoundary s.now r.end) }
 {
     let place = skip_whites(s, at);
-    if starts {
-        return past_whites(s, at, place);
-    }
-    if place > at {
-        return past_whites(s, at, place);
-    }
-    match break_or_end(s, at) {
-        Some(next) => Some(Row {
-            comment: None,
-            end: next,
-        }),
-        None => None,
-    }
+    rest_from(s, at, place, starts)
 }
 
-// Reads what is left of a line, and keeps its comment; the offset after it, or `None`, with no comment kept.
+// Reads what is left of a line whose white space ends at the place, and keeps its comment; the offset after it, or `None`,
+// with no comment kept.
 //
-// Most lines have no comment: then the white space is all that is passed before the break.
+// Most lines have no comment: then a break or the end of the text is all that is looked for.
 #[inline(always)]
 pub(crate) fn next_row<'a>(
     s: &'a str,
     at: usize,
+    place: usize,
     starts: bool,
     comments: &mut Comments<'a>,
 ) -> Result<Option<usize>, AllocError>
-    requires boundary { IsCharBoundary s.now at }
+    requires boundary { IsCharBoundary s.now place }
+    requires whites { (x : List ℕ) × Many s.now is_white at place x }
+    requires all { is_white (code s.now place) ≡ false }
     requires starts { MatchBool starts (LineStart s.now at) (LineStart s.now at → ⊥) }
     ensures reads { IfOk result (λ o. MatchOption o (Stuck (LineRest s.now at))
         (λ e. (x : List CommentValue) × LineRest s.now at e x × (comments.new ≡ comments.old ++ x))) }
     ensures unchanged { IfOk result (λ o. IfNone o (comments.new ≡ comments.old)) }
     ensures boundary { IfOk result (λ o. IfSome o (λ e. IsCharBoundary s.now e)) }
 {
-    let place = skip_whites(s, at);
     if stands(s, place, b'#') {
-        return comment_row(s, at, starts, comments);
+        return comment_row(s, at, place, starts, comments);
     }
     match break_or_end(s, place) {
         Some(end) => Ok(Some(end)),
@@ -173,17 +187,20 @@ pub(crate) fn next_row<'a>(
 fn comment_row<'a>(
     s: &'a str,
     at: usize,
+    place: usize,
     starts: bool,
     comments: &mut Comments<'a>,
 ) -> Result<Option<usize>, AllocError>
-    requires boundary { IsCharBoundary s.now at }
+    requires boundary { IsCharBoundary s.now place }
+    requires whites { (x : List ℕ) × Many s.now is_white at place x }
+    requires all { is_white (code s.now place) ≡ false }
     requires starts { MatchBool starts (LineStart s.now at) (LineStart s.now at → ⊥) }
     ensures reads { IfOk result (λ o. MatchOption o (Stuck (LineRest s.now at))
         (λ e. (x : List CommentValue) × LineRest s.now at e x × (comments.new ≡ comments.old ++ x))) }
     ensures unchanged { IfOk result (λ o. IfNone o (comments.new ≡ comments.old)) }
     ensures boundary { IfOk result (λ o. IfSome o (λ e. IsCharBoundary s.now e)) }
 {
-    match line_rest(s, at, starts) {
+    match rest_from(s, at, place, starts) {
         Some(Row { comment, end }) => {
             match comment {
                 Some(text) => {
@@ -198,23 +215,29 @@ fn comment_row<'a>(
 }
 
 // Reads comment lines (l-comment, production 78) as long as there are any, from the start of a line or the end of the
-// text on.
+// text on, where white space ends at the first place.
 fn comment_lines<'a>(
     s: &'a str,
     at: usize,
+    first: usize,
     comments: &mut Comments<'a>,
 ) -> Result<usize, AllocError>
     requires boundary { IsCharBoundary s.now at }
     requires starts { at < length s.now → LineStart s.now at }
+    requires first { IsCharBoundary s.now first }
+    requires whites { (x : List ℕ) × Many s.now is_white at first x }
+    requires all { is_white (code s.now first) ≡ false }
     ensures reads { IfOk result (λ e. Kept s.now at e comments.old comments.new) }
     ensures all { IfOk result (λ e. Stuck (IsRow s.now e)) }
     ensures boundary { IfOk result (λ e. IsCharBoundary s.now e) }
 {
     let mut end = at;
+    let mut place = first;
     'lines: while end < s.len() {
-        match next_row(s, end, true, comments)? {
+        match next_row(s, end, place, true, comments)? {
             Some(next) => {
                 end = next;
+                place = skip_whites(s, next);
             }
             None => return Ok(end),
         }
@@ -247,29 +270,55 @@ pub fn line_end<'a>(
                     end: next,
                 }));
             }
+            lines_far(alloc, s, next, first)
         }
-        None => {}
+        None => line_end_far(alloc, s, at, place),
     }
-    line_end_far(alloc, s, at)
 }
 
-// The same, where more than white space may stand before the break, or comment lines follow.
+// Reads the comment lines after a line that has ended, where white space ends at the first place.
+#[inline(never)]
+fn lines_far<'a>(
+    alloc: Global,
+    s: &'a str,
+    at: usize,
+    first: usize,
+) -> Result<Option<Separation<'a>>, AllocError>
+    requires boundary { IsCharBoundary s.now at }
+    requires starts { at < length s.now → LineStart s.now at }
+    requires first { IsCharBoundary s.now first }
+    requires whites { (x : List ℕ) × Many s.now is_white at first x }
+    requires all { is_white (code s.now first) ≡ false }
+    ensures reads { IfOk result (λ o. MatchOption o ⊥ (λ p. Kept s.now at p.end [] p.comments × Stuck (IsRow s.now p.end))) }
+    ensures boundary { IfOk result (λ o. IfSome o (λ p. IsCharBoundary s.now p.end)) }
+{
+    let mut comments = Comments::new(alloc);
+    let end = comment_lines(s, at, first, &mut comments)?;
+    Ok(Some(Separation { comments, end }))
+}
+
+// The end of a line and the comment lines after it, where a comment may stand before the break, and white space ends at
+// the place.
 #[inline(never)]
 fn line_end_far<'a>(
     alloc: Global,
     s: &'a str,
     at: usize,
+    place: usize,
 ) -> Result<Option<Separation<'a>>, AllocError>
-    requires { IsCharBoundary s.now at }
+    requires boundary { IsCharBoundary s.now at }
+    requires place { IsCharBoundary s.now place }
+    requires whites { (x : List ℕ) × Many s.now is_white at place x }
+    requires all { is_white (code s.now place) ≡ false }
     ensures reads { IfOk result (λ o. MatchOption o (Stuck (LineEnd s.now at)) (λ p. Chosen (LineEnd s.now at) p.end p.comments)) }
     ensures boundary { IfOk result (λ o. IfSome o (λ p. IsCharBoundary s.now p.end)) }
     ensures order { IfOk result (λ o. IfSome o (λ p. at ≤ p.end)) }
 {
     let starts = is_line_start(s, at);
     let mut comments = Comments::new(alloc);
-    match next_row(s, at, starts, &mut comments)? {
+    match next_row(s, at, place, starts, &mut comments)? {
         Some(next) => {
-            let end = comment_lines(s, next, &mut comments)?;
+            let end = comment_lines(s, next, skip_whites(s, next), &mut comments)?;
             Ok(Some(Separation { comments, end }))
         }
         None => {

@@ -1,10 +1,10 @@
 //! Separation (YAML 1.2.2, section 6.7).
 ghost use Rattle.std.specs.Prelude.{◌≡◌, ◌+◌, ◌-◌, ◌<◌, ◌≤◌, ℕ, ℤ, pos, ◌<ℤ◌, List, [], ◌++◌, take, Bool, true, false, Option, Some, None, length, IfOk, IfSome, IfNone, MatchOption, MatchBool, ◌⊎◌};
 ghost use Rattle.std.specs.Str.{IsCharBoundary};
-ghost use Rattle.yf_chars.specs.Chain.{Chain, Chosen, Stuck, Nowhere, Farthest};
+ghost use Rattle.yf_chars.specs.Chain.{Chain, Chosen, Many, Stuck, Nowhere, Farthest};
 ghost use Rattle.yf_chars.specs.Class.{is_white};
 ghost use Rattle.yf_chars.specs.Text.{code};
-ghost use Rattle.yf_lines.specs.Basic.{is_key, LineStart, SeparateInLine, FlowPrefix};
+ghost use Rattle.yf_lines.specs.Basic.{is_key, LineStart, SeparateInLine, FlowPrefix, Spaces};
 ghost use Rattle.yf_comments.specs.Comment.{CommentValue};
 ghost use Rattle.yf_comments.specs.Comments.{Row, Separate, SeparateLines, Upto};
 
@@ -30,13 +30,39 @@ pub fn separate_in_line(s: &str, at: usize) -> Option<usize>
     ensures boundary { IfSome result (λ e. IsCharBoundary s.now e) }
 {
     let end = skip_whites(s, at);
-    if end > at {
-        return Some(end);
+    in_line_from(s, at, end)
+}
+
+// The same, where the white space ends at the place.
+#[inline(always)]
+fn in_line_from(s: &str, at: usize, place: usize) -> Option<usize>
+    requires boundary { IsCharBoundary s.now place }
+    requires whites { (x : List ℕ) × Many s.now is_white at place x }
+    requires all { is_white (code s.now place) ≡ false }
+    ensures reads { MatchOption result (Nowhere (SeparateInLine s.now at)) (λ e. Farthest (SeparateInLine s.now at) e) }
+    ensures all { MatchOption result (is_white (code s.now at) ≡ false) (λ e. is_white (code s.now e) ≡ false) }
+    ensures boundary { IfSome result (λ e. IsCharBoundary s.now e) }
+    ensures place { MatchOption result (at ≡ place) (λ e. e ≡ place) }
+{
+    if place > at {
+        return Some(place);
     }
     if is_line_start(s, at) {
-        return Some(end);
+        return Some(place);
     }
     None
+}
+
+// Whether so many spaces stand there.
+fn is_indented(s: &str, at: usize, width: usize) -> bool
+    requires { IsCharBoundary s.now at }
+    ensures { MatchBool result (Spaces s.now at width) (Nowhere (FlowPrefix s.now (pos width) at)) }
+{
+    let spaces = skip_spaces(s, at);
+    if spaces - at < width {
+        return false;
+    }
+    true
 }
 
 /// Reads the prefix of a line in flow (s-flow-line-prefix(n), production 69), with all white space after the indentation.
@@ -46,11 +72,10 @@ pub fn flow_line_prefix(s: &str, at: usize, width: usize) -> Option<usize>
     ensures all { IfSome result (λ e. is_white (code s.now e) ≡ false) }
     ensures boundary { IfSome result (λ e. IsCharBoundary s.now e) }
 {
-    let spaces = skip_spaces(s, at);
-    if spaces - at < width {
-        return None;
+    if is_indented(s, at, width) {
+        return Some(skip_whites(s, at));
     }
-    Some(skip_whites(s, at))
+    None
 }
 
 // The indentation that a separation over lines has, if it may go over lines: not in keys, and not where n is negative.
@@ -67,14 +92,17 @@ fn line_width(n: i32, ctx: Ctx) -> Option<usize>
     Some(n as usize)
 }
 
-// The longest separation that passes no line.
-fn first_reach(s: &str, at: usize, width: usize) -> Option<Reach>
-    requires { IsCharBoundary s.now at }
+// The longest separation that passes no line, where white space ends at the place.
+fn first_reach(s: &str, at: usize, place: usize, width: usize) -> Option<Reach>
+    requires boundary { IsCharBoundary s.now at }
+    requires place { IsCharBoundary s.now place }
+    requires whites { (x : List ℕ) × Many s.now is_white at place x }
+    requires all { is_white (code s.now place) ≡ false }
     ensures reads { MatchOption result (Stuck (Upto s.now (pos width) at at)) (λ r. Chosen (Upto s.now (pos width) at at) r.end []) }
     ensures none { IfSome result (λ r. r.count ≡ 0) }
     ensures boundary { IfSome result (λ r. IsCharBoundary s.now r.end) }
 {
-    match separate_in_line(s, at) {
+    match in_line_from(s, at, place) {
         Some(end) => return Some(Reach { end, count: 0 }),
         None => {}
     }
@@ -86,36 +114,40 @@ fn first_reach(s: &str, at: usize, width: usize) -> Option<Reach>
     None
 }
 
-// How far a separation goes from there, after rows of comments, which it keeps all.
+// How far a separation goes from there, after rows of comments, which it keeps all, where white space ends at the first
+// place.
 fn last_reach<'a>(
     s: &'a str,
     at: usize,
+    first: usize,
     width: usize,
     comments: &mut Comments<'a>,
 ) -> Result<Option<Reach>, AllocError>
     requires fresh { comments.old ≡ [] }
     requires boundary { IsCharBoundary s.now at }
+    requires first { IsCharBoundary s.now first }
+    requires whites { (x : List ℕ) × Many s.now is_white at first x }
+    requires all { is_white (code s.now first) ≡ false }
     ensures reads { IfOk result (λ o. (p : ℕ) × Chain (Row s.now) at p comments.new × Stuck (Row s.now p)
         × MatchOption o (Stuck (Upto s.now (pos width) at p))
         (λ r. Chosen (Upto s.now (pos width) at p) r.end (take r.count comments.new))) }
     ensures boundary { IfOk result (λ o. IfSome o (λ r. IsCharBoundary s.now r.end)) }
 {
-    let mut reach = first_reach(s, at, width);
+    let mut reach = first_reach(s, at, first, width);
     let mut place = at;
+    let mut end = first;
     let mut starts = is_line_start(s, at);
     'rows: while place < s.len() {
-        match next_row(s, place, starts, comments)? {
+        match next_row(s, place, end, starts, comments)? {
             Some(next) => {
                 place = next;
+                end = skip_whites(s, next);
                 starts = true;
-                match flow_line_prefix(s, place, width) {
-                    Some(end) => {
-                        reach = Some(Reach {
-                            end,
-                            count: comments.len(),
-                        });
-                    }
-                    None => {}
+                if is_indented(s, next, width) {
+                    reach = Some(Reach {
+                        end,
+                        count: comments.len(),
+                    });
                 }
             }
             None => return Ok(reach),
@@ -138,8 +170,28 @@ pub fn separate_lines<'a>(
         (λ p. Chosen (SeparateLines s.now (pos width) at) p.end p.comments)) }
     ensures boundary { IfOk result (λ o. IfSome o (λ p. IsCharBoundary s.now p.end)) }
 {
+    let place = skip_whites(s, at);
+    lines_from(alloc, s, at, place, width)
+}
+
+// The same, where white space ends at the place.
+fn lines_from<'a>(
+    alloc: Global,
+    s: &'a str,
+    at: usize,
+    place: usize,
+    width: usize,
+) -> Result<Option<Separation<'a>>, AllocError>
+    requires boundary { IsCharBoundary s.now at }
+    requires place { IsCharBoundary s.now place }
+    requires whites { (x : List ℕ) × Many s.now is_white at place x }
+    requires all { is_white (code s.now place) ≡ false }
+    ensures reads { IfOk result (λ o. MatchOption o (Stuck (SeparateLines s.now (pos width) at))
+        (λ p. Chosen (SeparateLines s.now (pos width) at) p.end p.comments)) }
+    ensures boundary { IfOk result (λ o. IfSome o (λ p. IsCharBoundary s.now p.end)) }
+{
     let mut comments = Comments::new(alloc);
-    match last_reach(s, at, width, &mut comments)? {
+    match last_reach(s, at, place, width, &mut comments)? {
         Some(reach) => {
             comments.truncate(reach.count);
             Ok(Some(Separation {
@@ -168,45 +220,44 @@ pub fn separate<'a>(
     ensures boundary { IfOk result (λ o. IfSome o (λ p. IsCharBoundary s.now p.end)) }
     ensures order { IfOk result (λ o. IfSome o (λ p. at ≤ p.end)) }
 {
-    match separate_in_line(s, at) {
-        Some(end) => {
-            if solid_stands(s, end) {
-                return Ok(Some(Separation {
-                    comments: Comments::new(alloc),
-                    end,
-                }));
-            }
-        }
-        None => {
-            if solid_stands(s, at) {
-                return Ok(None);
-            }
-        }
+    let place = skip_whites(s, at);
+    if !solid_stands(s, place) {
+        return separate_far(alloc, s, at, place, n, ctx);
     }
-    separate_far(alloc, s, at, n, ctx)
+    match in_line_from(s, at, place) {
+        Some(end) => Ok(Some(Separation {
+            comments: Comments::new(alloc),
+            end,
+        })),
+        None => Ok(None),
+    }
 }
 
-// The same, where the line may end, or a comment may stand there.
+// The same, where the line may end, or a comment may stand there, and white space ends at the place.
 #[inline(never)]
 fn separate_far<'a>(
     alloc: Global,
     s: &'a str,
     at: usize,
+    place: usize,
     n: i32,
     ctx: Ctx,
 ) -> Result<Option<Separation<'a>>, AllocError>
-    requires { IsCharBoundary s.now at }
+    requires boundary { IsCharBoundary s.now at }
+    requires place { IsCharBoundary s.now place }
+    requires whites { (x : List ℕ) × Many s.now is_white at place x }
+    requires all { is_white (code s.now place) ≡ false }
     ensures reads { IfOk result (λ o. MatchOption o (Stuck (Separate s.now n ctx at))
         (λ p. Chosen (Separate s.now n ctx at) p.end p.comments)) }
     ensures boundary { IfOk result (λ o. IfSome o (λ p. IsCharBoundary s.now p.end)) }
     ensures order { IfOk result (λ o. IfSome o (λ p. at ≤ p.end)) }
 {
     match line_width(n, ctx) {
-        Some(width) => match separate_lines(alloc, s, at, width)? {
+        Some(width) => match lines_from(alloc, s, at, place, width)? {
             Some(separation) => Ok(Some(separation)),
             None => Ok(None),
         },
-        None => match separate_in_line(s, at) {
+        None => match in_line_from(s, at, place) {
             Some(end) => Ok(Some(Separation {
                 comments: Comments::new(alloc),
                 end,

@@ -8,6 +8,9 @@ lines-init c = record {
   rows = kept_none c.args.s.now c.args.at c.args.comments.now;
   boundary = c.requires.boundary;
   starts = c.requires.starts;
+  place = c.requires.first;
+  whites = c.requires.whites;
+  all = c.requires.all;
 }
 
 pub lines-smaller : goal.lines-smaller
@@ -24,6 +27,9 @@ lines-preserved c =
       rows = kept_more c.lines.invariant.rows c.lines-test.true f;
       boundary = rw c.in-Some.is at c.in_ok-next.ensures.boundary;
       starts = next_starts f.1;
+      place = c.skip_whites-place.ensures.boundary;
+      whites = c.skip_whites-place.ensures.whites;
+      all = c.skip_whites-place.ensures.all;
     }
 
 pub returns-in-None-clause-all : goal.returns-in-None-clause-all

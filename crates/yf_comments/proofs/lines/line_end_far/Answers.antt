@@ -1,5 +1,5 @@
 use Rattle.std.proofs.Common.{◌∙◌}
-use Rattle.yf_comments.proofs.LineEndLemmas.{next_starts, line_end_from, line_end_start}
+use Rattle.yf_comments.proofs.LineEndLemmas.{next_starts, line_end_from, line_end_start, line_end_stuck}
 use Rattle.yf_comments.proofs.LineOrder.{line_end_forward}
 use Rattle.yf_comments.proofs.lines.line_end_far.Goals as goal
 
@@ -18,6 +18,9 @@ returns-then-starts-clause-reads c =
     let s = rw c.in-None.is at c.in_ok-next.ensures.reads in
     let e = rw c.in-None.is at c.in_ok-next.ensures.unchanged in
     line_end_start c.if-starts.ensures s (e ∙ c.new-comments.ensures)
+
+pub returns-clause-reads : goal.returns-clause-reads
+returns-clause-reads c = line_end_stuck c.if-starts.ensures (rw c.in-None.is at c.in_ok-next.ensures.reads)
 
 pub returns-in-Some-clause-order : goal.returns-in-Some-clause-order
 returns-in-Some-clause-order c = line_end_forward (returns-in-Some-clause-reads c).derived

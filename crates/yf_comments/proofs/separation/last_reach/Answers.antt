@@ -1,4 +1,4 @@
-use Rattle.std.proofs.Common.{◌≡◌, ℕ, Option, Some, None, MatchOption, IfSome, pos, ◌+◌, ◌++◌, ◌<◌, ◌≤◌, List, length, take, [], ap, sym, ◌∙◌, subst, arith, length-append}
+use Rattle.std.proofs.Common.{◌≡◌, refl, ℕ, Option, Some, None, MatchOption, IfSome, pos, ◌+◌, ◌++◌, ◌<◌, ◌≤◌, List, length, take, [], ap, sym, ◌∙◌, subst, arith, length-append}
 use Rattle.std.proofs.lemmas.List.{take-append-le, take_all}
 use Rattle.std.specs.Str.{IsCharBoundary}
 use Rattle.yf_chars.specs.Chain.{Chain, Chosen, Stuck, Nowhere}
@@ -9,7 +9,7 @@ use Rattle.yf_comments.specs.Comments.{Row, LineRest, Upto}
 use Rattle.yf_comments.specs.declared.separation.Reach.{Reach}
 use Rattle.yf_comments.proofs.RowLemmas.{rest_moves}
 use Rattle.yf_comments.proofs.LineEndLemmas.{next_starts, row_stuck, row_stuck_end}
-use Rattle.yf_comments.proofs.SeparateLemmas.{rows_next, best_here, best_still, stuck_still}
+use Rattle.yf_comments.proofs.SeparateLemmas.{rows_next, best_here, best_still, stuck_still, prefix_from, prefix_farthest}
 use Rattle.yf_comments.proofs.separation.last_reach.Goals as goal
 
 abbrev Reached : List ℕ → ℕ → ℕ → ℕ → List CommentValue → Option Reach → Type 0
@@ -46,32 +46,39 @@ pub rows-init : goal.rows-init
 rows-init c = record {
   rows = subst (λ v. Chain (Row c.args.s.now) c.args.at c.args.at v) (sym c.requires.fresh) done;
   boundary = c.requires.boundary;
+  end = c.requires.first;
+  whites = c.requires.whites;
+  all = c.requires.all;
   starts = λ l. c.is_line_start-starts.ensures;
   best = reached_first c.args.s.now c.args.width c.args.at c.args.comments.now c.first_reach-reach.result c.requires.fresh
       c.first_reach-reach.ensures.reads c.first_reach-reach.ensures.none c.first_reach-reach.ensures.boundary;
 }
 
-pub rows-smaller-in-Some-flow_line_prefix : goal.rows-smaller-in-Some-flow_line_prefix
-rows-smaller-in-Some-flow_line_prefix c =
+pub rows-smaller-then-is_indented : goal.rows-smaller-then-is_indented
+rows-smaller-then-is_indented c =
     let f = rw c.in-Some.is at c.in_ok-next.ensures.reads in
     let b = rw c.in-Some.is at c.in_ok-next.ensures.boundary in
     let m = rest_moves f.1 c.rows-test.true in
     omega (arith, b.0)
 
-pub rows-preserved-in-Some-flow_line_prefix : goal.rows-preserved-in-Some-flow_line_prefix
-rows-preserved-in-Some-flow_line_prefix c =
+pub rows-preserved-then-is_indented : goal.rows-preserved-then-is_indented
+rows-preserved-then-is_indented c =
     let f = rw c.in-Some.is at c.in_ok-next.ensures.reads in
-    let p = c.in-Some-flow_line_prefix.ensures in
+    let w = c.skip_whites-end.ensures in
+    let p = prefix_farthest (prefix_from c.args.width refl c.if-is_indented.ensures w.whites.1 w.all) w.all in
     let all : take c.len.result c.next_row.new.comments ≡ c.next_row.new.comments = take_all c.len.result c.next_row.new.comments (omega (arith, c.len.ensures)) in
     record {
       rows = rows_next c.rows.invariant.rows c.rows-test.true f;
       boundary = rw c.in-Some.is at c.in_ok-next.ensures.boundary;
+      end = c.skip_whites-end.ensures.boundary;
+      whites = c.skip_whites-end.ensures.whites;
+      all = c.skip_whites-end.ensures.all;
       starts = next_starts f.1;
       best = (
-        subst (λ v. Chosen (Upto c.args.s.now (pos c.args.width) c.args.at c.in-Some.next) c.in-Some-flow_line_prefix.end v) (sym all)
-            (best_here c.rows.invariant.rows c.rows-test.true f p.reads p.all),
+        subst (λ v. Chosen (Upto c.args.s.now (pos c.args.width) c.args.at c.in-Some.next) c.skip_whites-end.result v) (sym all)
+            (best_here c.rows.invariant.rows c.rows-test.true f p w.all),
         omega (arith, c.len.ensures),
-        p.boundary,
+        w.boundary,
       );
     }
 
@@ -88,9 +95,12 @@ rows-preserved c =
     record {
       rows = rows_next c.rows.invariant.rows c.rows-test.true f;
       boundary = rw c.in-Some.is at c.in_ok-next.ensures.boundary;
+      end = c.skip_whites-end.ensures.boundary;
+      whites = c.skip_whites-end.ensures.whites;
+      all = c.skip_whites-end.ensures.all;
       starts = next_starts f.1;
       best = reached_still c.args.s.now c.args.width c.args.at c.rows.place c.in-Some.next c.rows.comments c.next_row.new.comments c.rows.reach
-          c.rows.invariant.rows c.rows-test.true f c.in-None-flow_line_prefix.ensures.reads c.rows.invariant.best;
+          c.rows.invariant.rows c.rows-test.true f c.if-is_indented.ensures c.rows.invariant.best;
     }
 
 pub returns-clause-reads : goal.returns-clause-reads

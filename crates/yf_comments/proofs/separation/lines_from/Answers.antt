@@ -2,7 +2,7 @@ use Rattle.std.proofs.Common.{pos, sym, subst}
 use Rattle.yf_chars.specs.Chain.{Chosen}
 use Rattle.yf_comments.specs.Comments.{SeparateLines}
 use Rattle.yf_comments.proofs.SeparateLemmas.{lines_chosen, lines_stuck}
-use Rattle.yf_comments.proofs.separation.separate_lines.Goals as goal
+use Rattle.yf_comments.proofs.separation.lines_from.Goals as goal
 
 pub returns-in-Some-clause-reads : goal.returns-in-Some-clause-reads
 returns-in-Some-clause-reads c =
