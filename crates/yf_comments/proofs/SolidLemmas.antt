@@ -1,7 +1,6 @@
 -- Where a line goes on with a character that begins neither white space nor a comment nor the end of the line.
-use Rattle.std.proofs.Common.{◌≡◌, ◌≢◌, ℕ, ℤ, ◌<◌, ◌≤◌, true, false, inl, ⊎_elim, List, [], length, Option, Some, None, Result, Ok, Err, IfOk, IfSome, MatchOption, refl, subst, arith}
+use Rattle.std.proofs.Common.{◌≡◌, ◌≢◌, ℕ, ℤ, ◌<◌, ◌≤◌, true, false, inl, ⊎_elim, List, [], length, refl, subst, arith}
 use Rattle.std.proofs.lemmas.Bool.{cases_lt, cases_Bool}
-use Rattle.std.specs.declared.alloc.AllocError.{AllocError}
 use Rattle.yf_chars.specs.declared.context.Ctx.{Ctx}
 use Rattle.yf_chars.specs.Text.{code}
 use Rattle.yf_chars.specs.Class.{is_white}
@@ -11,13 +10,11 @@ use Rattle.yf_chars.proofs.ChainLemmas.{chain_forward, one_functional}
 use Rattle.yf_lines.specs.Basic.{is_key, SeparateInLine}
 use Rattle.yf_lines.specs.Basic.SeparateInLine.{by_whites}
 use Rattle.yf_lines.proofs.BasicLemmas.{break_char}
-use Rattle.yf_comments.specs.declared.comments.Separation.{Separation}
-use Rattle.yf_comments.specs.Comments.{BreakOrEnd, LineEnd, LineRest, Separate, Row, Kept}
+use Rattle.yf_comments.specs.Comments.{BreakOrEnd, LineEnd, LineRest, Separate}
 use Rattle.yf_comments.specs.Comments.BreakOrEnd.{by_break, by_end}
 use Rattle.yf_comments.specs.Comments.LineRest.{nothing, whites}
 use Rattle.yf_comments.proofs.RowLemmas.{separate_whites, stuck_at_solid}
 use Rattle.yf_comments.proofs.LineEndLemmas.{kept_none, line_end_from, row_stuck}
-use Rattle.yf_comments.proofs.LineOrder.{line_end_forward}
 use Rattle.yf_comments.proofs.SeparateLemmas.{upto_first, stuck_first, lines_chosen, lines_stuck, alone_chosen, alone_stuck, node_chosen, node_stuck}
 
 module _ {t : List ℕ} where
@@ -41,21 +38,6 @@ module _ {t : List ℕ} where
   pub ended_chosen : {i h e : ℕ} {w : List ℕ} → LineRest t i h [] → Many t is_white h e w → is_white (code t e) ≡ false → code t e ≢ 35
       → Nowhere (BreakOrEnd t e) → Chosen (LineEnd t i) h []
   ended_chosen {h = h} r m s n none = line_end_from refl ([], r, refl) (kept_none t h []) (row_stuck (stuck_at_solid m s n none))
-
-  -- or lines of comments follow it, as they are read
-  pub lines_chosen_after : {i h : ℕ} → LineRest t i h [] → (r : Result (Option Separation) AllocError)
-      → IfOk r (λ o. MatchOption o ⊥ (λ p. Kept t h p.end [] p.comments × Stuck (Row t p.end)))
-      → IfOk r (λ o. MatchOption o (Stuck (LineEnd t i)) (λ p. Chosen (LineEnd t i) p.end p.comments))
-  lines_chosen_after rest (Ok None) k = absurd k
-  lines_chosen_after rest (Ok (Some p)) k = line_end_from refl ([], rest, refl) k.0 k.1
-  lines_chosen_after rest (Err e) k = tt
-
-  pub lines_forward_after : {i h : ℕ} → LineRest t i h [] → (r : Result (Option Separation) AllocError)
-      → IfOk r (λ o. MatchOption o ⊥ (λ p. Kept t h p.end [] p.comments × Stuck (Row t p.end)))
-      → IfOk r (λ o. IfSome o (λ p. i ≤ p.end))
-  lines_forward_after rest (Ok None) k = absurd k
-  lines_forward_after rest (Ok (Some p)) k = line_end_forward (line_end_from refl ([], rest, refl) k.0 k.1).derived
-  lines_forward_after rest (Err e) k = tt
 
 module _ {t : List ℕ} {n : ℤ} {c : Ctx} {i : ℕ} where
   -- white space alone, before such a character

@@ -261,61 +261,51 @@ pub fn line_end<'a>(
     ensures order { IfOk result (λ o. IfSome o (λ p. at ≤ p.end)) }
 {
     let place = skip_whites(s, at);
+    let mut from = at;
+    let mut first = place;
     match line_break(s, place) {
         Some(next) => {
-            let first = skip_whites(s, next);
+            from = next;
+            first = skip_whites(s, next);
             if solid_stands(s, first) {
                 return Ok(Some(Separation {
                     comments: Comments::new(alloc),
                     end: next,
                 }));
             }
-            lines_far(alloc, s, next, first)
         }
-        None => line_end_far(alloc, s, at, place),
+        None => {}
     }
+    line_end_far(alloc, s, at, from, first)
 }
 
-// Reads the comment lines after a line that has ended, where white space ends at the first place.
-#[inline(never)]
-fn lines_far<'a>(
-    alloc: Global,
-    s: &'a str,
-    at: usize,
-    first: usize,
-) -> Result<Option<Separation<'a>>, AllocError>
-    requires boundary { IsCharBoundary s.now at }
-    requires starts { at < length s.now → LineStart s.now at }
-    requires first { IsCharBoundary s.now first }
-    requires whites { (x : List ℕ) × Many s.now is_white at first x }
-    requires all { is_white (code s.now first) ≡ false }
-    ensures reads { IfOk result (λ o. MatchOption o ⊥ (λ p. Kept s.now at p.end [] p.comments × Stuck (IsRow s.now p.end))) }
-    ensures boundary { IfOk result (λ o. IfSome o (λ p. IsCharBoundary s.now p.end)) }
-{
-    let mut comments = Comments::new(alloc);
-    let end = comment_lines(s, at, first, &mut comments)?;
-    Ok(Some(Separation { comments, end }))
-}
-
-// The end of a line and the comment lines after it, where a comment may stand before the break, and white space ends at
-// the place.
+// The same, where a comment may stand before the break, or comment lines follow. It goes on from a line that has ended, if
+// one has, and where white space ends at the place.
 #[inline(never)]
 fn line_end_far<'a>(
     alloc: Global,
     s: &'a str,
     at: usize,
+    from: usize,
     place: usize,
 ) -> Result<Option<Separation<'a>>, AllocError>
     requires boundary { IsCharBoundary s.now at }
+    requires order { at ≤ from }
+    requires from { IsCharBoundary s.now from }
+    requires rest { at < from → LineRest s.now at from [] }
     requires place { IsCharBoundary s.now place }
-    requires whites { (x : List ℕ) × Many s.now is_white at place x }
+    requires whites { (x : List ℕ) × Many s.now is_white from place x }
     requires all { is_white (code s.now place) ≡ false }
     ensures reads { IfOk result (λ o. MatchOption o (Stuck (LineEnd s.now at)) (λ p. Chosen (LineEnd s.now at) p.end p.comments)) }
     ensures boundary { IfOk result (λ o. IfSome o (λ p. IsCharBoundary s.now p.end)) }
     ensures order { IfOk result (λ o. IfSome o (λ p. at ≤ p.end)) }
 {
-    let starts = is_line_start(s, at);
     let mut comments = Comments::new(alloc);
+    if from > at {
+        let end = comment_lines(s, from, place, &mut comments)?;
+        return Ok(Some(Separation { comments, end }));
+    }
+    let starts = is_line_start(s, at);
     match next_row(s, at, place, starts, &mut comments)? {
         Some(next) => {
             let end = comment_lines(s, next, skip_whites(s, next), &mut comments)?;

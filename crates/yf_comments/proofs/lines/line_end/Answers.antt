@@ -1,14 +1,18 @@
-use Rattle.std.proofs.Common.{sym, subst}
+use Rattle.std.proofs.Common.{sym, subst, arith}
 use Rattle.yf_chars.specs.Chain.{Chosen}
 use Rattle.yf_comments.specs.Comments.{LineEnd}
-use Rattle.yf_lines.specs.Basic.LineStart.{after_break}
 use Rattle.yf_comments.specs.Comments.BreakOrEnd.{by_break}
 use Rattle.yf_comments.proofs.LineOrder.{line_end_forward}
-use Rattle.yf_comments.proofs.SolidLemmas.{rest_bare, ended_chosen, lines_chosen_after, lines_forward_after}
+use Rattle.yf_comments.proofs.SolidLemmas.{rest_bare, ended_chosen}
 use Rattle.yf_comments.proofs.lines.line_end.Goals as goal
+use Rattle.yf_comments.proofs.lines.line_end.Goals.{in-Some+else-solid_stands, in-None}
 
-pub lines_far-requires-clause-starts : goal.lines_far-requires-clause-starts
-lines_far-requires-clause-starts c = λ _. after_break c.in-Some.ensures.reads
+pub line_end_far-requires-clause-rest : goal.line_end_far-requires-clause-rest
+line_end_far-requires-clause-rest c = λ l.
+    elim c.match-line_break.branch [
+      | in-Some+else-solid_stands w ↦ rw w.from-is (rest_bare c.skip_whites-place.ensures.whites.1 (by_break w.in-Some.ensures.reads))
+      | in-None w ↦ absurd (omega (arith, w.from-is))
+    ]
 
 pub returns-then-solid_stands-clause-reads : goal.returns-then-solid_stands-clause-reads
 returns-then-solid_stands-clause-reads c =
@@ -20,11 +24,3 @@ returns-then-solid_stands-clause-reads c =
 
 pub returns-then-solid_stands-clause-order : goal.returns-then-solid_stands-clause-order
 returns-then-solid_stands-clause-order c = line_end_forward (returns-then-solid_stands-clause-reads c).derived
-
-pub returns-else-solid_stands-clause-reads : goal.returns-else-solid_stands-clause-reads
-returns-else-solid_stands-clause-reads c =
-    lines_chosen_after (rest_bare c.skip_whites-place.ensures.whites.1 (by_break c.in-Some.ensures.reads)) c.lines_far.result c.lines_far.ensures.reads
-
-pub returns-else-solid_stands-clause-order : goal.returns-else-solid_stands-clause-order
-returns-else-solid_stands-clause-order c =
-    lines_forward_after (rest_bare c.skip_whites-place.ensures.whites.1 (by_break c.in-Some.ensures.reads)) c.lines_far.result c.lines_far.ensures.reads
