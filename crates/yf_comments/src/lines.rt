@@ -245,6 +245,33 @@ fn comment_lines<'a>(
     Ok(end)
 }
 
+// The offset after all white space that stands at the offset, where mostly none does.
+#[inline(always)]
+fn past_white(s: &str, at: usize) -> usize
+    requires { IsCharBoundary s.now at }
+    ensures whites { (x : List ℕ) × Many s.now is_white at result x }
+    ensures all { is_white (code s.now result) ≡ false }
+    ensures boundary { IsCharBoundary s.now result }
+    ensures order { at ≤ result }
+{
+    if white_stands(s, at) {
+        return white_end(s, at);
+    }
+    at
+}
+
+// The same, where some does.
+#[inline(never)]
+fn white_end(s: &str, at: usize) -> usize
+    requires { IsCharBoundary s.now at }
+    ensures whites { (x : List ℕ) × Many s.now is_white at result x }
+    ensures all { is_white (code s.now result) ≡ false }
+    ensures boundary { IsCharBoundary s.now result }
+    ensures order { at ≤ result }
+{
+    skip_whites(s, at)
+}
+
 /// Reads the end of a line and the comment lines after it (s-l-comments, production 79): as much as there is.
 ///
 /// What is left of the line may hold a comment; at the start of a line there need be nothing at all.
@@ -260,7 +287,7 @@ pub fn line_end<'a>(
     ensures boundary { IfOk result (λ o. IfSome o (λ p. IsCharBoundary s.now p.end)) }
     ensures order { IfOk result (λ o. IfSome o (λ p. at ≤ p.end)) }
 {
-    let place = skip_whites(s, at);
+    let place = past_white(s, at);
     let mut from = at;
     let mut first = place;
     match line_break(s, place) {

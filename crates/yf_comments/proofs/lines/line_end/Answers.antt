@@ -10,7 +10,7 @@ use Rattle.yf_comments.proofs.lines.line_end.Goals.{in-Some+else-solid_stands, i
 pub line_end_far-requires-clause-rest : goal.line_end_far-requires-clause-rest
 line_end_far-requires-clause-rest c = λ l.
     elim c.match-line_break.branch [
-      | in-Some+else-solid_stands w ↦ rw w.from-is (rest_bare c.skip_whites-place.ensures.whites.1 (by_break w.in-Some.ensures.reads))
+      | in-Some+else-solid_stands w ↦ rw w.from-is (rest_bare c.past_white-place.ensures.whites.1 (by_break w.in-Some.ensures.reads))
       | in-None w ↦ absurd (omega (arith, w.from-is))
     ]
 
@@ -18,7 +18,7 @@ pub returns-then-solid_stands-clause-reads : goal.returns-then-solid_stands-clau
 returns-then-solid_stands-clause-reads c =
     let solid = c.solid_stands.ensures in
     let is = c.if-solid_stands.true in
-    let rest = rest_bare c.skip_whites-place.ensures.whites.1 (by_break c.in-Some.ensures.reads) in
+    let rest = rest_bare c.past_white-place.ensures.whites.1 (by_break c.in-Some.ensures.reads) in
     subst (λ v. Chosen (LineEnd c.args.s.now c.args.at) c.in-Some.next v) (sym c.new.ensures)
     (ended_chosen rest c.skip_whites-first.ensures.whites.1 (solid.white is) (solid.sign is) (solid.rest is))
 
