@@ -55,6 +55,8 @@ fn decoded(s: &str, at: usize) -> Option<(char, usize)>
 }
 
 /// The offset after all characters within a line (nb-char, production 27) that stand at the offset.
+///
+/// After a character beyond ASCII mostly another one follows, and after one of ASCII a run.
 #[inline]
 pub fn skip_nb_chars(s: &str, at: usize) -> usize
     requires { IsCharBoundary s.now at }
@@ -67,10 +69,13 @@ pub fn skip_nb_chars(s: &str, at: usize) -> usize
     'chars: loop {
         match decoded(s, end) {
             Some((c, next)) => {
-                if is_nb_char(c) {
-                    end = ascii_run(s, next);
-                } else {
+                if !is_nb_char(c) {
                     return end;
+                }
+                if c > '~' {
+                    end = next;
+                } else {
+                    end = ascii_run(s, next);
                 }
             }
             None => return end,
