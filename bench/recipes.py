@@ -1,10 +1,12 @@
 #!/usr/bin/env python3
-"""Tries each recipe of docs/RECIPES.md as it stands there, each in a scratch folder, where its tool is installed; and the
-examples of README.md and docs/STYLE.md; and whether `--version` is the newest version of CHANGELOG.md. Says `tried`, `FAILED` or `no TOOL` of each, and ends with 1 where one failed.
+"""Tries each recipe of docs/RECIPES.md as it stands there, each in a scratch folder, where its tool is installed; then what
+went wrong with the hooks once (bench/faults.py); and the examples of README.md and docs/STYLE.md; and whether `--version` is
+the newest version of CHANGELOG.md. Says `tried`, `FAILED` or `no TOOL` of each, and ends with 1 where one failed.
 
 Usage: bench/recipes.py [PROGRAM]     (default: the program that ./yamlfmt builds; build it first)
 
-The hooks are copies of those here that run PROGRAM, so that nothing is built.
+The hooks are copies of those here that run PROGRAM, so that nothing is built. As in a first call that builds, they say something
+on standard error.
 
 Not part of rt ci.
 """
@@ -16,49 +18,13 @@ import subprocess
 import sys
 import tempfile
 
-TOP = os.path.dirname(os.path.dirname(os.path.abspath(__file__)))
-BAD = '---\na: "x" # c\n'
-GOOD = '---\na: "x"  # c\n'
-FOUND = '2:8 comment-space (fixable)'
+import faults
+from scratch import BAD, GOOD, NOISE, TOP, read, repository, script, sh, with_hooks, write
 
 
 def recipes(clone):
     found = re.findall(r'<!-- recipe: ([a-z-]+) -->\n```\w+\n(.*?)```', read(TOP + '/docs/RECIPES.md'), re.S)
     return {name: text.replace('YAMLFMT', clone) for name, text in found}
-
-
-def with_hooks(clone, program):
-    """Puts the hooks into the folder, with a hooks/program that names the program."""
-    os.makedirs(clone + '/hooks')
-    for name in ('each_file', 'pre-commit'):
-        shutil.copy(TOP + '/hooks/' + name, clone + '/hooks/' + name)
-    write(clone + '/hooks/program', "#!/bin/sh\necho '%s'\n" % program)
-    os.chmod(clone + '/hooks/program', 0o755)
-
-
-def sh(words, room, **more):
-    env = dict(os.environ, PATH=room + '/bin:' + os.environ['PATH'], HOME=room, GIT_CONFIG_NOSYSTEM='1')
-    return subprocess.run(words, cwd=room, env=env, stdout=subprocess.PIPE, stderr=subprocess.STDOUT, text=True, **more)
-
-
-def repository(room):
-    """A repository with a file that is not in the house style, committed, and one more that is no YAML file."""
-    for line in ('git init -q .', 'git config user.email a@example.com', 'git config user.name a'):
-        sh(line.split(), room)
-    write(room + '/a b.yaml', BAD)
-    write(room + '/c.txt', 'text\n')
-    sh(['git', 'add', 'a b.yaml', 'c.txt'], room)
-
-
-def write(path, text):
-    os.makedirs(os.path.dirname(path), exist_ok=True)
-    with open(path, 'w', encoding='utf-8', newline='') as file:
-        file.write(text)
-
-
-def read(path):
-    with open(path, encoding='utf-8', newline='') as file:
-        return file.read()
 
 
 def matched(pattern, output):
@@ -85,8 +51,8 @@ def git(room, text, clone):
     return refused.returncode and 'a b.yaml' in refused.stdout and still.returncode and not taken.returncode
 
 
-def pre_commit(room, text, clone):
-    """pre-commit clones the repository: here one of the hooks alone."""
+def with_tool(room, text, clone):
+    """A repository with the configuration, for which pre-commit clones this one: here one of the hooks alone."""
     tool = room + '/tool'
     shutil.copytree(clone, tool)
     shutil.copy(TOP + '/.pre-commit-hooks.yaml', tool)
@@ -94,21 +60,44 @@ def pre_commit(room, text, clone):
         sh(line.split(), tool)
     commit = sh(['git', 'rev-parse', 'HEAD'], tool).stdout.strip()
     repository(room)
-    write(room + '/yamlfmt.toml', 'quotes = "single"\n')
     write(room + '/.pre-commit-config.yaml', text.replace('https://example.com/team/yamlfmt', tool).replace('COMMIT', commit))
-    done = sh(['pre-commit', 'run', '--files', 'a b.yaml', 'c.txt'], room)
-    return done.returncode == 1 and read(room + '/a b.yaml') == GOOD.replace('"', "'")
+
+
+def pre_commit(room, text, clone):
+    with_tool(room, text, clone)
+    write(room + '/yamlfmt.toml', 'quotes = "single"\n')
+    write(room + '/template.yaml', 'a: {{ x }}\n')
+    os.symlink('a b.yaml', room + '/link.yaml')
+    done = sh(['pre-commit', 'run', '--files', 'a b.yaml', 'c.txt', 'template.yaml', 'link.yaml'], room)
+    stays = read(room + '/template.yaml') == 'a: {{ x }}\n' and os.path.islink(room + '/link.yaml')
+    return stays and done.returncode == 1 and read(room + '/a b.yaml') == GOOD.replace('"', "'")
+
+
+def pre_commit_templates(room, text, clone):
+    with_tool(room, text, clone)
+    names = ['charts/one/templates/a.yaml', 'charts/one/values.yaml']
+    for name in names:
+        write(room + '/' + name, BAD)
+    sh(['pre-commit', 'run', '--files', *names], room)
+    return [read(room + '/' + name) for name in names] == [BAD, GOOD]
 
 
 def vim(room, text, clone):
+    """The buffer gets the formatted text alone, by the settings of its file; and stays where there is none."""
     write(room + '/vimrc', 'filetype on\n' + text)
-    write(room + '/a.yaml', BAD)
-    write(room + '/bad.yaml', 'a: b: c\n')
+    os.makedirs(room + '/.git')
+    write(room + '/.yamlfmt.toml', 'quotes = "single"\n')
+    texts = {'a b.yaml': BAD, 'deep/a.yaml': BAD, 'bad.yaml': 'a: b: c\n', 'template.yaml': 'a: {{ x }}\n'}
+    for name, before in texts.items():
+        write(room + '/' + name, before)
     words = ['vim', '-N', '-u', room + '/vimrc', '-i', 'NONE', '-es']
-    sh(words + ['-c', 'set ft=yaml | silent make % | call writefile([string(getqflist())], "found")', '-c', 'YamlFormat', '-c', 'wq', 'a.yaml'], room)
-    sh(words + ['-c', 'YamlFormat', '-c', 'wq', 'bad.yaml'], room)
+    sh(words + ['-c', 'set ft=yaml | silent make % | call writefile([string(getqflist())], "found")', '-c', 'q', 'deep/a.yaml'], room)
+    for name in texts:
+        sh(words + ['-c', 'redir! > said', '-c', 'YamlFormat', '-c', 'redir END', '-c', 'wq', name], room)
     found = read(room + '/found')
-    return "'lnum': 2" in found and "'col': 8" in found and read(room + '/a.yaml') == GOOD and read(room + '/bad.yaml') == 'a: b: c\n'
+    wanted = dict(texts, **{'a b.yaml': GOOD.replace('"', "'"), 'deep/a.yaml': GOOD.replace('"', "'")})
+    return ("'lnum': 2" in found and "'col': 8" in found and all(read(room + '/' + name) == after for name, after in wanted.items())
+            and 'looks like a template' in read(room + '/said'))
 
 
 def vscode(room, text, clone):
@@ -121,14 +110,15 @@ def vscode(room, text, clone):
 def workflow(room, text, clone):
     repository(room)
     write(room + '/w.yaml', text)
-    sound = sh([room + '/bin/yamlfmt', 'events', 'w.yaml'], room)
+    sound = sh(['yamlfmt', 'events', 'w.yaml'], room)
     script = '\n'.join(line.strip() for line in text.split('- run: |\n')[1].splitlines())
     done = sh(['sh', '-c', script], room)
     pattern = json.loads(recipes(clone)['matcher'])['problemMatcher'][0]['pattern'][0]
     return not sound.returncode and ('a b.yaml', '2', '8', 'comment-space (fixable)') in matched(pattern, done.stdout)
 
 
-TOOLS = {'folder': ('git', folder), 'git': ('git', git), 'pre-commit': ('pre-commit', pre_commit), 'vim': ('vim', vim),
+TOOLS = {'folder': ('git', folder), 'git': ('git', git), 'pre-commit': ('pre-commit', pre_commit),
+         'pre-commit-templates': ('pre-commit', pre_commit_templates), 'vim': ('vim', vim),
          'vscode': ('git', vscode), 'workflow': ('git', workflow)}
 
 
@@ -177,10 +167,21 @@ def is_good(name, text, clone, program):
         print('%s: no %s' % (name, tool))
         return True
     with tempfile.TemporaryDirectory() as room:
-        os.makedirs(room + '/bin')
-        os.symlink(program, room + '/bin/yamlfmt')
+        script(room + '/bin/yamlfmt', "echo '%s' >&2\nexec '%s' \"$@\"\n" % (NOISE, program))
         good = tried(room, text, clone)
     print('%s: %s' % (name, 'tried' if good else 'FAILED'), flush=True)
+    return good
+
+
+def is_gone(tried, clone):
+    """Tries what went wrong once, and tells."""
+    with tempfile.TemporaryDirectory() as room:
+        os.makedirs(room + '/bin')
+        try:
+            good = tried(room, clone, recipes(clone))
+        except OSError:
+            good = False
+    print('%s: %s' % (tried.__name__, 'tried' if good else 'FAILED'), flush=True)
     return good
 
 
@@ -192,6 +193,7 @@ def main():
     with tempfile.TemporaryDirectory() as clone:
         with_hooks(clone, program)
         failed += sum(not is_good(name, text, clone, program) for name, text in recipes(clone).items())
+        failed += sum(not is_gone(tried, clone) for tried in faults.EACH)
     good = all([*style_rows(program)])
     print('docs/STYLE.md: %s' % ('tried' if good else 'FAILED'))
     failed += not good

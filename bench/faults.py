@@ -1,0 +1,332 @@
+"""What went wrong with the hooks once, each tried as bench/recipes.py runs: files that were destroyed, passed by, or built anew."""
+import os
+import re
+import resource
+import signal
+import subprocess
+
+from scratch import BAD, GOOD, TOP, environment, read, repository, script, sh, write
+
+LEFT = 'left alone: looks like a template'
+TEMPLATES = {
+    'value.yaml': 'name: {{ x }}\n',
+    'key.yaml': '{{ x }}: 1\n',
+    'item.yaml': '- [{{ x }}]\n',
+    'inside.yaml': 'name: app-{{ .Release.Name }}\n',
+    'helm.yaml': '{{- if .Values.a }}\na: "{{ b }}"\n{{- end }}\n',
+    'jinja.yaml': '{% for x in y %}\n- a\n{% endfor %}\n',
+    'apostrophe.yaml': "a: don't {{ x }} and won't\n",
+    'block.yaml': 'config: |\n  name: {{ x | nindent 4 }}\n',
+    'after.yaml': 'a: "{{ x }}" # {{ y }}\nb: {{ z }}\n',
+    'two.yaml': 'run: ${{ github.ref }}\nb: x {{ z }}\n',
+}
+NO_TEMPLATES = {
+    'workflow.yaml': 'on: push # c\nrun: ${{ github.ref }}\ntest: |\n  echo ${{ matrix.a }}\n',
+    'quotes.yaml': 'a: "{{ x }}" # c\nb: \'{% x %}\'\nc: "two\n  {{ lines }}"\n',
+    'comment.yaml': 'a: 1 # {{ x }}\n# {% y %}\n',
+    'docker.yaml': "run: |  # c\n  docker ps --format '{{.Names}}' -f \"{{.Id}}\"\nx: 1 # c\n",
+    'spaced.yaml': 'a: {b: {c: d}} # c\n',
+}
+
+
+def each_file(clone, room, *words, **more):
+    return sh([clone + '/hooks/each_file', *words], room, **more)
+
+
+def commit(room, *names, env=None):
+    """Stages the files, or what is named by options, and commits."""
+    sh(['git', 'add', *names], room)
+    return sh(['git', 'commit', '-qm', 'message'], room, env=env)
+
+
+def hooked(room, clone, recipe):
+    """A repository with the Git hook, whose first commit is made."""
+    repository(room)
+    commit(room)
+    return sh(['sh', '-c', recipe], room)
+
+
+def links_stay(room, clone, recipes):
+    repository(room)
+    os.symlink('b.yaml', room + '/a.yaml')
+    os.symlink('b.yaml', room + '/c.yaml')
+    write(room + '/b.yaml', BAD)
+    sh(['git', 'add', '.'], room)
+    done = sh(['sh', '-c', recipes['folder']], room)
+    stay = os.path.islink(room + '/a.yaml') and os.path.islink(room + '/c.yaml') and read(room + '/b.yaml') == GOOD
+    return stay and done.returncode == 0 and done.stdout.count('symbolic links are left alone: a.yaml and 1 more') == 1
+
+
+def templates_stay(room, clone, recipes):
+    for name, text in {**TEMPLATES, **NO_TEMPLATES}.items():
+        write(room + '/' + name, text)
+    names = [*TEMPLATES, *NO_TEMPLATES]
+    checked = each_file(clone, room, 'check', '--', *names)
+    shown = each_file(clone, room, 'fmt', '--diff', '--', *names)
+    written = each_file(clone, room, 'fmt', '--write', '--', *names)
+    good = all((name + ': ' + LEFT in done.stdout) == (name in TEMPLATES) for name in names for done in (checked, shown, written))
+    good = good and all(read(room + '/' + name) == text for name, text in TEMPLATES.items())
+    good = good and all(read(room + '/' + name) != text for name, text in NO_TEMPLATES.items())
+    anyway = each_file(clone, room, 'fmt', '--write', '--templates', 'inside.yaml')
+    return good and written.returncode == 0 and anyway.returncode == 0 and read(room + '/inside.yaml') == '---\n' + TEMPLATES['inside.yaml']
+
+
+def templates_are_not_committed_changed(room, clone, recipes):
+    """The Git hook lets them pass, and says so."""
+    hooked(room, clone, recipes['git'])
+    write(room + '/value.yaml', TEMPLATES['value.yaml'])
+    done = commit(room, 'value.yaml')
+    return done.returncode == 0 and 'value.yaml: ' + LEFT in done.stdout
+
+
+def templates_by_pathspec(room, clone, recipes):
+    repository(room)
+    write(room + '/charts/one/templates/a.yaml', BAD)
+    write(room + '/charts/one/values.yaml', BAD)
+    sh(['git', 'add', '.'], room)
+    sh(['sh', '-c', recipes.get('folder-templates', 'true')], room)
+    return read(room + '/charts/one/templates/a.yaml') == BAD and read(room + '/charts/one/values.yaml') == GOOD
+
+
+def names_like_stages(room, clone, recipes):
+    """`:0:x.yaml` names what is staged of x.yaml."""
+    hooked(room, clone, recipes['git'])
+    write(room + '/x.yaml', GOOD)
+    write(room + '/0:x.yaml', BAD)
+    done = commit(room, 'x.yaml', '0:x.yaml')
+    return done.returncode != 0 and '+++ 0:x.yaml (formatted)' in done.stdout
+
+
+def hook_by_relative_path(room, clone, recipes):
+    """The recipe, in which the clone is named from where it stands; and in a linked worktree."""
+    hooked(room, clone, recipes['git'].replace(clone, os.path.relpath(clone, room)))
+    write(room + '/a b.yaml', BAD + 'b: 1 # c\n')
+    sh(['git', 'worktree', 'add', '-q', room + '/linked'], room)
+    write(room + '/linked/b.yaml', BAD)
+    return commit(room, 'a b.yaml').returncode and commit(room + '/linked', 'b.yaml').returncode
+
+
+def hook_in_worktree(room, clone, recipes):
+    """The recipe, followed in a linked worktree of a repository without a folder for hooks."""
+    repository(room)
+    commit(room)
+    sh(['rm', '-rf', '.git/hooks'], room)
+    sh(['git', 'worktree', 'add', '-q', room + '/linked'], room)
+    sh(['sh', '-c', recipes['git']], room + '/linked')
+    write(room + '/linked/b.yaml', BAD)
+    return commit(room + '/linked', 'b.yaml').returncode
+
+
+def hook_without_git(room, clone, recipes):
+    """Where Git does not say what is staged, nothing passes."""
+    repository(room)
+    done = sh([clone + '/hooks/pre-commit'], room, env={'GIT_TEST_ASSUME_DIFFERENT_OWNER': '1'})
+    literal = sh([clone + '/hooks/pre-commit'], room, env={'GIT_LITERAL_PATHSPECS': '1'})
+    return done.returncode == 3 and literal.returncode == 1
+
+
+def settings_of_another_owner(room, clone, recipes):
+    repository(room)
+    write(room + '/.yamlfmt.toml', 'quotes = "single"\n')
+    done = each_file(clone, room, 'fmt', '--diff', 'a b.yaml', env={'GIT_TEST_ASSUME_DIFFERENT_OWNER': '1'})
+    return done.returncode == 1 and "+a: 'x'" in done.stdout
+
+
+def settings_by_pipe(room, clone, recipes):
+    write(room + '/a.yaml', BAD)
+    write(room + '/b.yaml', BAD)
+    line = "'%s' fmt --diff --config <(echo 'quotes = \"single\"') a.yaml b.yaml" % (clone + '/hooks/each_file')
+    return sh(['bash', '-c', line], room).stdout.count("+a: 'x'") == 2
+
+
+def settings_from_elsewhere(room, clone, recipes):
+    """They are those of the work tree of each file, or of the folder where there is no work tree."""
+    for name in ('one', 'two'):
+        write(room + '/%s/deep/a.yaml' % name, BAD)
+    repository(room + '/one')
+    write(room + '/one/.yamlfmt.toml', 'quotes = "single"\n')
+    write(room + '/export/.yamlfmt.toml', 'quotes = "single"\n')
+    write(room + '/export/deep/a.yaml', BAD)
+    words = [room + '/%s/deep/a.yaml' % name for name in ('one', 'two', 'export')]
+    done = sh([clone + '/hooks/each_file', 'fmt', '--diff', '--', *words], '/')
+    return re.findall(r'^\+a: (.)', done.stdout, re.M) == ["'", '"', "'"]
+
+
+def settings_not_found_out(room, clone, recipes):
+    repository(room)
+    os.symlink('nothing', room + '/.yamlfmt.toml')
+    dangling = each_file(clone, room, 'check', 'a b.yaml')
+    empty = each_file(clone, room, 'check', '--config=', 'a b.yaml')
+    missing = each_file(clone, room, 'check', '--config', 'none.toml', 'a b.yaml')
+    says = '.yamlfmt.toml can\'t be read' in dangling.stdout and 'none.toml' in missing.stdout
+    return says and [done.returncode for done in (dangling, empty, missing)] == [3, 3, 3]
+
+
+def without_room():
+    """Lets no file grow, as on a full disk."""
+    signal.signal(signal.SIGXFSZ, signal.SIG_IGN)
+    resource.setrlimit(resource.RLIMIT_FSIZE, (0, 0))
+
+
+def full_folder(room, clone, recipes):
+    write(room + '/a.yaml', BAD)
+    checked = each_file(clone, room, 'check', 'a.yaml', preexec_fn=without_room)
+    shown = each_file(clone, room, 'fmt', '--diff', 'a.yaml', preexec_fn=without_room)
+    told = checked.returncode == 1 and 'a.yaml:2:8 comment-space (fixable)\n' in checked.stdout
+    return told and shown.returncode == 3 and 'a.yaml: no room' in shown.stdout
+
+
+def names_of_bytes(room, clone, recipes):
+    """Names that are no UTF-8."""
+    bad, good = b'\xe9.yaml', b'\xe8.yaml'
+    for name, text in ((bad, BAD), (good, GOOD)):
+        with open(os.fsencode(room) + b'/' + name, 'w', encoding='utf-8') as file:
+            file.write(text)
+    said = [each_file(clone, room, *words, '--', bad, good, text=False) for words in (['check'], ['fmt', '--diff'], ['fmt', '--write'])]
+    return ([done.returncode for done in said] == [1, 1, 3] and bad + b':2:8 comment-space (fixable)\n' in said[0].stdout
+            and b'not rewritten: its name is no UTF-8' in said[2].stdout and good + b':' not in said[2].stdout)
+
+
+def help_is_there(room, clone, recipes):
+    done = each_file(clone, room, '--help')
+    return done.returncode == 0 and all(word in done.stdout for word in ('--config', '--staged', '--stdin', '--templates', 'Status'))
+
+
+def one_buffer(room, clone, recipes):
+    """Standard input in the place of a file."""
+    repository(room)
+    write(room + '/.yamlfmt.toml', 'quotes = "single"\n')
+    said = [each_file(clone, room, 'fmt', '--stdin', 'new/x.yaml', input=text, stderr=subprocess.PIPE) for text in (BAD, 'a: b: c\n', 'a: {{ x }}\n')]
+    return ([done.returncode for done in said] == [0, 2, 3] and [done.stdout for done in said] == [GOOD.replace('"', "'"), '', '']
+            and 'new/x.yaml:1:5 refused: syntax' in said[1].stderr and LEFT in said[2].stderr)
+
+
+RT = r"""echo run >> "$COUNT"
+sleep 1
+[ -z "${FAILS-}" ] || { echo 'error: not proved'; exit 1; }
+echo 'rt: chose --jobs 4 for yf_one'
+echo 'so far: 1 of 2 functions checked'
+echo 'crate yf_one: modules loaded=1 checked=2'
+echo 'logic=proved functions=2 sum=0'
+mkdir -p out
+printf '#!/bin/sh\necho built "$@"\n' > out/yamlfmt
+chmod +x out/yamlfmt
+"""
+
+
+class Builder:
+    """A clone with two small crates, and an rt that counts its calls."""
+
+    def __init__(self, room):
+        self.room, self.top, self.count = room, room + '/clone', room + '/count'
+        for name in ('hooks/program', 'yamlfmt'):
+            write(self.top + '/' + name, read(TOP + '/' + name))
+            os.chmod(self.top + '/' + name, 0o755)
+        write(self.top + '/crates.txt', 'yf_one: std\nyf_two: yf_one\nyamlfmt: yf_one clap\n')
+        for crate in ('yf_one', 'yf_two', 'yamlfmt'):
+            for name in ('src/lib.rt', 'src/lib_tests.rt', 'specs/Lib.antt', 'proofs/Lib.antt'):
+                write(self.top + '/crates/%s/%s' % (crate, name), crate + name)
+        write(self.top + '/crates/yamlfmt/stdin', 'a\n')
+        script(room + '/bin/rt', RT)
+        write(self.count, '')
+
+    def run(self, *words, **more):
+        env = dict({'COUNT': self.count}, **more.pop('env', {}))
+        return sh(['bash', self.top + '/' + (words[0] if words else 'hooks/program'), *words[1:]], self.room, env=env, **more)
+
+    def builds(self):
+        return read(self.count).count('run')
+
+
+def build_by_content(room, clone, recipes):
+    """Times alone build nothing; a text that the program is built from does, and no test and no proof."""
+    builder = Builder(room)
+    source = builder.top + '/crates/yf_one/src/lib.rt'
+    told = [builder.run().returncode, builder.builds()]
+    os.utime(source)
+    builder.run()
+    sh(['cp', '-r', builder.top, builder.top + '2'], room)
+    builder.top += '2'
+    builder.run()
+    for name in ('yf_one/src/lib_tests.rt', 'yf_one/proofs/Lib.antt', 'yf_two/src/lib.rt'):
+        write(builder.top + '/crates/' + name, 'changed')
+        builder.run()
+    told.append(builder.builds())
+    write(builder.top + '/crates/yf_one/src/lib.rt', 'changed')
+    os.utime(builder.top + '/crates/yf_one/src/lib.rt', (0, 0))
+    builder.run()
+    return told == [0, 1, 1] and builder.builds() == 2 and builder.run('yamlfmt', 'x').stdout == 'built x\n'
+
+
+def build_restored_from_elsewhere(room, clone, recipes):
+    """What was built from other sources is not taken, be it as new as it may."""
+    builder = Builder(room)
+    builder.run()
+    write(builder.top + '/crates/yf_one/src/lib.rt', 'changed')
+    sh(['cp', '-r', 'crates/yamlfmt/out', room + '/kept'], builder.top)
+    sh(['rm', '-rf', 'crates/yamlfmt/out'], builder.top)
+    sh(['cp', '-r', room + '/kept', 'crates/yamlfmt/out'], builder.top)
+    builder.run()
+    stamps = [builder.run('hooks/program', '--stamp').stdout, read(builder.top + '/crates/yamlfmt/out/yamlfmt.stamp').split('\n')[0] + '\n']
+    return builder.builds() == 2 and stamps[0] == stamps[1]
+
+
+def build_made_by_hand(room, clone, recipes):
+    """A program that rt has built without the hooks is taken where it is newer than the sources."""
+    builder = Builder(room)
+    script(builder.top + '/crates/yamlfmt/out/yamlfmt', 'echo by hand\n')
+    said = builder.run('yamlfmt').stdout
+    write(builder.top + '/crates/yf_one/src/lib.rt', 'changed')
+    return said == 'by hand\n' and builder.run().returncode == 0 and builder.builds() == 1
+
+
+def four_first_calls(room, clone, recipes):
+    builder = Builder(room)
+    env = dict(environment(room), COUNT=builder.count)
+    calls = [subprocess.Popen(['bash', builder.top + '/yamlfmt'], env=env, cwd=room, text=True, start_new_session=True,
+                              stdout=subprocess.PIPE, stderr=subprocess.PIPE) for _ in range(4)]
+    ends = [call.communicate() for call in calls]
+    waited = sum('another call builds the program' in said for _, said in ends)
+    return [text for text, _ in ends] == ['built\n'] * 4 and builder.builds() == 1 and waited == 3
+
+
+def failed_build(room, clone, recipes):
+    builder = Builder(room)
+    done = builder.run(env={'FAILS': '1'}, start_new_session=True)
+    again = builder.run()
+    return done.returncode == 3 and 'error: not proved' in done.stdout and again.returncode == 0 and builder.builds() == 2
+
+
+def build_is_told(room, clone, recipes):
+    """On the terminal, though standard error is held back, as pre-commit does; and where there is none, on standard error."""
+    builder = Builder(room)
+    line = "COUNT='%s' '%s/yamlfmt' > said 2> held" % (builder.count, builder.top)
+    shown = sh(['script', '-qec', "bash -c \"%s\"" % line, '/dev/null'], room).stdout
+    sh(['rm', '-rf', 'crates/yamlfmt/out'], builder.top)
+    piped = builder.run(start_new_session=True, stdout=subprocess.DEVNULL, stderr=subprocess.PIPE).stderr
+    lines = ('building the program', 'yf_one: 1 of 2 functions checked', 'yf_one is proved, 1 of at most 2')
+    return read(room + '/said') == 'built\n' and all(line in shown and line in piped for line in lines)
+
+
+def program_elsewhere(room, clone, recipes):
+    """YAMLFMT_PROGRAM, by a path, by a name of the path, and where it is no program or the script that asks for it."""
+    builder = Builder(room)
+    script(room + '/there', 'echo there\n')
+    script(room + '/bin/there', 'echo there\n')
+    named = (room + '/there', './there', 'there', room + '/none', room + '/count', builder.top + '/yamlfmt')
+    ends = [builder.run('yamlfmt', env={'YAMLFMT_PROGRAM': name}) for name in named]
+    good = [done.stdout for done in ends[:3]] == ['there\n'] * 3 and [done.returncode for done in ends[3:]] == [3, 3, 3]
+    return good and builder.builds() == 0
+
+
+def buffer_builds_nothing(room, clone, recipes):
+    builder = Builder(room)
+    write(builder.top + '/hooks/each_file', read(TOP + '/hooks/each_file'))
+    done = builder.run('hooks/each_file', 'fmt', '--stdin', 'a.yaml', input=BAD)
+    return done.returncode == 3 and 'the program is not built' in done.stdout and builder.builds() == 0
+
+
+EACH = [links_stay, templates_stay, templates_are_not_committed_changed, templates_by_pathspec, names_like_stages, hook_by_relative_path,
+        hook_in_worktree, hook_without_git, settings_of_another_owner, settings_by_pipe, settings_from_elsewhere, settings_not_found_out,
+        full_folder, names_of_bytes, help_is_there, one_buffer, build_by_content, build_restored_from_elsewhere, build_made_by_hand,
+        four_first_calls, failed_build, build_is_told, program_elsewhere, buffer_builds_nothing]
