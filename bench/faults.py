@@ -53,7 +53,8 @@ def links_stay(room, clone, recipes):
     write(room + '/b.yaml', BAD)
     sh(['git', 'add', '.'], room)
     done = sh(['sh', '-c', recipes['folder']], room)
-    stay = os.path.islink(room + '/a.yaml') and os.path.islink(room + '/c.yaml') and read(room + '/b.yaml') == GOOD
+    staged = each_file(clone, room, 'check', '--staged', 'a.yaml')
+    stay = staged.returncode == 0 and os.path.islink(room + '/a.yaml') and os.path.islink(room + '/c.yaml') and read(room + '/b.yaml') == GOOD
     return stay and done.returncode == 0 and done.stdout.count('symbolic links are left alone: a.yaml and 1 more') == 1
 
 
