@@ -2,6 +2,7 @@
 import os
 import re
 import resource
+import shutil
 import signal
 import subprocess
 
@@ -309,6 +310,22 @@ def build_is_told(room, clone, recipes):
     return read(room + '/said') == 'built\n' and all(line in shown and line in piped for line in lines)
 
 
+def build_is_told_under_pre_commit(room, clone, recipes):
+    """On the terminal, though the hook passes, of which pre-commit shows nothing."""
+    if not shutil.which('pre-commit'):
+        return True
+    builder = Builder(room)
+    for path in ('hooks/each_file', '.pre-commit-hooks.yaml'):
+        shutil.copy(TOP + '/' + path, builder.top + '/' + path)
+    for line in ('git init -q .', 'git config user.email a@example.com', 'git config user.name a', 'git add -f .', 'git commit -qm tool'):
+        sh(line.split(), builder.top)
+    repository(room)
+    rev = sh(['git', 'rev-parse', 'HEAD'], builder.top).stdout.strip()
+    write(room + '/.pre-commit-config.yaml', 'repos:\n  - repo: %s\n    rev: %s\n    hooks:\n      - id: yamlfmt\n' % (builder.top, rev))
+    shown = sh(['script', '-qec', "COUNT='%s' pre-commit run --files 'a b.yaml'" % builder.count, '/dev/null'], room)
+    return shown.returncode == 0 and 'yf_one is proved' in shown.stdout
+
+
 def program_elsewhere(room, clone, recipes):
     """YAMLFMT_PROGRAM, by a path, by a name of the path, and where it is no program or the script that asks for it."""
     builder = Builder(room)
@@ -330,4 +347,5 @@ def buffer_builds_nothing(room, clone, recipes):
 EACH = [links_stay, templates_stay, templates_are_not_committed_changed, templates_by_pathspec, names_like_stages, hook_by_relative_path,
         hook_in_worktree, hook_without_git, settings_of_another_owner, settings_by_pipe, settings_from_elsewhere, settings_not_found_out,
         full_folder, names_of_bytes, help_is_there, one_buffer, build_by_content, build_restored_from_elsewhere, build_made_by_hand,
-        four_first_calls, failed_build, build_is_told, program_elsewhere, buffer_builds_nothing]
+        four_first_calls, failed_build, build_is_told, build_is_told_under_pre_commit,
+        program_elsewhere, buffer_builds_nothing]
