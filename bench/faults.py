@@ -5,6 +5,7 @@ import resource
 import shutil
 import signal
 import subprocess
+import time
 
 from scratch import BAD, GOOD, TOP, environment, read, repository, script, sh, write
 
@@ -274,12 +275,16 @@ def build_restored_from_elsewhere(room, clone, recipes):
 
 
 def build_made_by_hand(room, clone, recipes):
-    """A program that rt has built without the hooks is taken where it is newer than the sources."""
+    """A program that rt has built without the hooks is taken where it is newer than the sources, the first and any other."""
     builder = Builder(room)
-    script(builder.top + '/crates/yamlfmt/out/yamlfmt', 'echo by hand\n')
-    said = builder.run('yamlfmt').stdout
+    said = []
+    for text in ('first', 'second'):
+        write(builder.top + '/crates/yf_one/src/lib.rt', text)
+        time.sleep(0.05)
+        script(builder.top + '/crates/yamlfmt/out/yamlfmt', 'echo %s\n' % text)
+        said.append(builder.run('yamlfmt').stdout)
     write(builder.top + '/crates/yf_one/src/lib.rt', 'changed')
-    return said == 'by hand\n' and builder.run().returncode == 0 and builder.builds() == 1
+    return said == ['first\n', 'second\n'] and builder.builds() == 0 and builder.run().returncode == 0 and builder.builds() == 1
 
 
 def four_first_calls(room, clone, recipes):
