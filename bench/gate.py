@@ -7,8 +7,9 @@ It clones the last commit into FOLDER (default: one that it removes again; one t
 one COMMAND after another, each as `rt` has it and nothing else:
 
     ci                the merge gate (the default)
-    ci:NAME           the gate of one crate and those below it
+    ci:NAME           the gate of one crate, with a kit whose `rt ci` takes a name
     must-fail:NAME    the must-fail edits of one crate
+    verdict:NAME      the proofs of one crate and those below it, and of its tests, from nothing
     check:NAME        the proof of one crate, over what earlier commands kept
     test:NAME         the proof and run of its tests, likewise
 
@@ -25,7 +26,7 @@ import time
 
 TOP = os.path.dirname(os.path.dirname(os.path.abspath(__file__)))
 AT_THE_TOP = ("ci", "must-fail")
-IN_A_CRATE = ("check", "test")
+IN_A_CRATE = ("verdict", "check", "test")
 
 
 def words_of(command):
