@@ -256,7 +256,7 @@ fn scans_nodes(rt: HostRuntime) {
         assert!(rt; is_scanned(rt.alloc(), text, *n, *wanted), "{text}");
     }
     for row in &LIMITS {
-        assert!(rt; is_limit(rt.alloc(), row), "{}", row.1);
+        assert!(rt; is_limit(rt.alloc(), row), "{}{} {}", row.0, row.1, row.2);
     }
 }
 
