@@ -216,7 +216,10 @@ fn scans_nodes(rt: HostRuntime) {
         assert!(rt; is_scanned(rt.alloc(), text, Wanted::Nothing), "{text}");
     }
     for (part, count, rest, wanted) in &LIMITS {
-        assert!(rt; is_limit(rt.alloc(), part, *count, rest, *wanted), "{part} {count}");
+        assert!(rt;
+            is_limit(rt.alloc(), part, *count, rest, *wanted),
+            "{part} {count}"
+        );
     }
 }
 
