@@ -260,7 +260,7 @@ fn past_white(s: &str, at: usize) -> usize
     at
 }
 
-// The same, where some does.
+// The same, where some does: a call of its own, so that `line_end` stays small where it is inlined.
 #[inline(never)]
 fn white_end(s: &str, at: usize) -> usize
     requires { IsCharBoundary s.now at }

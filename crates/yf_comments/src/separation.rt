@@ -114,8 +114,8 @@ fn first_reach(s: &str, at: usize, place: usize, width: usize) -> Option<Reach>
     None
 }
 
-// How far a separation goes from there, after rows of comments, which it keeps all, where white space ends at the first
-// place.
+// How far a separation goes from there, after rows of comments, which it keeps all, where white space ends at `first`. Of each row
+// `place` is where it begins, and `end` where the white space there ends.
 fn last_reach<'a>(
     s: &'a str,
     at: usize,

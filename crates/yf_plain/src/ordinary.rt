@@ -97,7 +97,8 @@ pub(crate) fn letter_stands(s: &str, at: usize) -> bool
     false
 }
 
-/// Whether a character above `:` stands there, and so no white space and no end of a line. None beyond ASCII needs other tests.
+/// Whether a character above `:` stands there, and so no white space and no end of a line. Of a character beyond ASCII its first byte is above `:` too, and the
+/// tests for white space and for the end of a line, which are all of ASCII, are spared.
 #[inline(always)]
 pub(crate) fn text_stands(s: &str, at: usize) -> bool
     ensures { result ≡ true → is_white (code s.now at) ≡ false }

@@ -74,8 +74,8 @@ fn text_ends(s: &str, at: usize) -> bool
     is_visible(bytes[at - 1])
 }
 
-// The offset after such characters that stand there: where 16 bytes follow, after all of these, among which - and . may stand where text
-// ends before them; else after all.
+// The offset after such characters that stand there. Where fewer than 16 bytes follow, after all of them. Where 16 follow, after those of the
+// 16, among which - and . may be, if a printed ASCII character stands before the offset; else none is passed, so that the caller looks at one.
 #[inline(always)]
 pub(crate) fn ordinary_run(s: &str, at: usize) -> usize
     requires { IsCharBoundary s.now at }

@@ -138,8 +138,8 @@ fn push_spelled(out: &mut String, text: &str) -> Result<(), NoMemory>
     push_runs(out, text)
 }
 
-// The same where some character may be spelled otherwise: after each such one, what is spelled by itself at once. No run is looked for
-// between two escapes.
+// The same where some character may be spelled otherwise: the first character and each escape by itself, and after it what is spelled by
+// itself at once. No run is looked for between two escapes.
 fn push_runs(out: &mut String, text: &str) -> Result<(), NoMemory>
     ensures written { OnOk result (string_bytes out.new ≡ string_bytes out.old ++ encode_utf8_all (flat_map spelled (chars text.now))) }
     ensures grown { Grown (string_bytes out.old) (string_bytes out.new) }
