@@ -1,0 +1,277 @@
+#!/usr/bin/env python3
+"""Makes the man page and the shell completions of yamlfmt from what the program prints for --help.
+
+Usage: dist/pages.py PROGRAM FOLDER
+
+Writes yamlfmt.1, yamlfmt.bash, _yamlfmt (for zsh) and yamlfmt.fish into FOLDER. All commands, options and arguments in them are read
+off the program's own help; a line of help that is not understood ends the script. What else the man page says stands in
+dist/yamlfmt.1.in, and its date is that of SOURCE_DATE_EPOCH.
+"""
+import dataclasses
+import os
+import re
+import subprocess
+import sys
+import time
+
+HERE = os.path.dirname(os.path.abspath(__file__))
+
+
+@dataclasses.dataclass
+class Option:
+    short: str  # '-h', or nothing
+    long: str  # '--help'
+    value: str  # 'FILE', or nothing
+    about: str
+
+    def names(self):
+        return [name for name in (self.short, self.long) if name]
+
+
+@dataclasses.dataclass
+class Command:
+    name: str
+    about: str
+    options: list
+    arguments: list  # pairs of a name and what it is
+
+
+def said(program, *words):
+    return subprocess.run([program, *words], check=True, stdout=subprocess.PIPE, text=True, stdin=subprocess.DEVNULL).stdout
+
+
+def parts(text):
+    """The first line of a help text, and the lines below each of its headings."""
+    found, heading = {}, None
+    about, *lines = text.splitlines()
+    for line in lines:
+        if re.fullmatch(r'[A-Z][a-z]+:', line):
+            heading = line[:-1]
+            found[heading] = []
+        elif line and not line.startswith('Usage: '):
+            if heading is None:
+                sys.exit('a line of help below no heading: %r' % line)
+            found[heading].append(line)
+    return about, found
+
+
+def rows(pattern, lines):
+    for line in lines:
+        row = re.fullmatch(pattern, line)
+        if not row:
+            sys.exit('a line of help that is not understood: %r' % line)
+        yield row
+
+
+def options(lines):
+    pattern = r' +(?:(-\w), )?(--[\w-]+)(?: <(\w+)>)?  +(.+)'
+    return [Option(row[1] or '', row[2], row[3] or '', row[4]) for row in rows(pattern, lines)]
+
+
+def command(program, name, about):
+    # `help` is clap's own: its arguments are the names of the others.
+    if name == 'help':
+        return Command(name, about, [], [])
+    _, found = parts(said(program, name, '--help'))
+    arguments = [(row[1], row[2]) for row in rows(r' +\[(\w+)\]  +(.+)', found.get('Arguments', []))]
+    return Command(name, about, options(found.get('Options', [])), arguments)
+
+
+def whole(program):
+    """What the program is for, its options and its commands."""
+    about, found = parts(said(program, '--help'))
+    named = [(row[1], row[2]) for row in rows(r' +(\w+)  +(.+)', found['Commands'])]
+    return about, options(found['Options']), [command(program, name, text) for name, text in named]
+
+
+# The man page.
+
+def roff(text):
+    text = text.replace('\\', '\\e').replace('-', '\\-')
+    return '\\&' + text if text[:1] in ('.', "'") else text
+
+
+def roff_option(option):
+    names = ', '.join('\\fB%s\\fR' % roff(name) for name in option.names())
+    return names + (' \\fI%s\\fR' % option.value if option.value else '')
+
+
+def synopsis(commands):
+    for one in commands:
+        words = ['\\fByamlfmt %s\\fR' % one.name]
+        words += ['[%s]' % roff_option(dataclasses.replace(option, short='')) for option in one.options if option.long != '--help']
+        words += ['[\\fI%s\\fR]' % name for name, _ in one.arguments] or ['[\\fICOMMAND\\fR]']
+        yield from (' '.join(words), '.br')
+    yield '\\fByamlfmt\\fR \\fB\\-\\-version\\fR'
+
+
+def described(option):
+    return ['.TP', roff_option(option), roff(option.about) + '.']
+
+
+def man_commands(commands):
+    for one in commands:
+        yield from ('.SS yamlfmt ' + one.name, roff(one.about) + '.')
+        for name, about in one.arguments:
+            yield from ('.TP', '\\fI%s\\fR' % name, roff(about) + '.')
+        for option in one.options:
+            yield from described(option)
+
+
+def man(program):
+    _, own, commands = whole(program)
+    day = time.strftime('%Y-%m-%d', time.gmtime(int(os.environ.get('SOURCE_DATE_EPOCH') or time.time())))
+    fill = {
+        '@HEAD@': ['.TH YAMLFMT 1 %s "%s" "User Commands"' % (day, said(program, '--version').strip())],
+        '@SYNOPSIS@': synopsis(commands),
+        '@COMMANDS@': man_commands(commands),
+        '@OPTIONS@': [line for option in own for line in described(option)],
+    }
+    with open(HERE + '/yamlfmt.1.in', encoding='utf-8') as frame:
+        lines = [line.rstrip('\n') for line in frame]
+    return '\n'.join(line for given in lines for line in fill.get(given, [given])) + '\n'
+
+
+# The completions.
+
+def names_of(given):
+    return ' '.join(name for option in given for name in option.names())
+
+
+def bash(program):
+    _, own, commands = whole(program)
+    names = [one.name for one in commands]
+    cases = ["        '') offered='%s %s' ;;" % (' '.join(names), names_of(own))]
+    for one in commands:
+        files = ' files=yes' if one.arguments else ''
+        cases.append("        %s) offered='%s'%s ;;" % (one.name, names_of(one.options) or ' '.join(names), files))
+    valued = sorted({option.long for one in commands for option in one.options if option.value})
+    return '''\
+# Completes the command line of yamlfmt in bash. Made from `yamlfmt --help`.
+_yamlfmt() {
+    local word=$2 previous=$3 verb='' offered='' files='' place
+    COMPREPLY=()
+    for ((place = 1; place < COMP_CWORD; place++)); do
+        case ${COMP_WORDS[place]} in
+            %s)
+                verb=${COMP_WORDS[place]}
+                break
+                ;;
+        esac
+    done
+    case $verb in
+%s
+    esac
+    # After an option with a value stands a file; `--config=` comes in three words.
+    [[ $word != = ]] || word=''
+    case $previous in
+        %s | =) files=yes ;;
+    esac
+    if [[ $files && $word != -* ]]; then
+        compopt -o filenames 2> /dev/null
+        mapfile -t COMPREPLY < <(compgen -f -- "$word")
+    else
+        mapfile -t COMPREPLY < <(compgen -W "$offered" -- "$word")
+    fi
+}
+complete -F _yamlfmt yamlfmt
+''' % (' | '.join(names), '\n'.join(cases), ' | '.join(valued))
+
+
+def quoted(text):
+    """The text as a word of bash and zsh."""
+    return "'%s'" % text.replace("'", "'\\''")
+
+
+def zsh_option(option):
+    about = quoted('[%s]' % option.about.replace(']', '\\]'))[1:-1]
+    if option.value:
+        return "'%s=%s:%s:_files'" % (option.long, about, option.value)
+    if len(option.names()) == 2:
+        return "'(- *)'{%s}'%s'" % (','.join(option.names()), about)
+    return "'%s%s'" % (option.long, about)
+
+
+def zsh(program):
+    _, own, commands = whole(program)
+    listed = '\n'.join('        ' + quoted('%s:%s' % (one.name, one.about)) for one in commands)
+    cases = []
+    for one in commands:
+        if not one.arguments:
+            cases.append('                %s) _describe -t commands command commands ;;' % one.name)
+            continue
+        words = [zsh_option(option) for option in one.options]
+        words += ["'%d:%s:_files'" % (place + 1, name) for place, (name, _) in enumerate(one.arguments)]
+        cases.append('                %s)\n                    _arguments \\\n                        %s\n                    ;;'
+                     % (one.name, ' \\\n                        '.join(words)))
+    return '''\
+#compdef yamlfmt
+# Completes the command line of yamlfmt in zsh. Made from `yamlfmt --help`.
+_yamlfmt() {
+    local curcontext=$curcontext state line
+    typeset -A opt_args
+    local -a commands=(
+%s
+    )
+    _arguments -C \\
+        %s \\
+        '1:command:->command' \\
+        '*::argument:->argument'
+    case $state in
+        command) _describe -t commands command commands ;;
+        argument)
+            case $words[1] in
+%s
+            esac
+            ;;
+    esac
+}
+_yamlfmt "$@"
+''' % (listed, ' \\\n        '.join(zsh_option(option) for option in own), '\n'.join(cases))
+
+
+def fish_option(when, option):
+    words = ['complete -c yamlfmt', '-n ' + fish_quoted(when)]
+    if option.short:
+        words.append('-s ' + option.short[1:])
+    words.append('-l ' + option.long[2:])
+    if option.value:
+        words.append('-r -F')
+    return ' '.join([*words, '-d ' + fish_quoted(option.about)])
+
+
+def fish_quoted(text):
+    return "'%s'" % text.replace('\\', '\\\\').replace("'", "\\'")
+
+
+def fish(program):
+    _, own, commands = whole(program)
+    lines = ['# Completes the command line of yamlfmt in fish. Made from `yamlfmt --help`.', 'complete -c yamlfmt -f']
+    lines += [fish_option('__fish_use_subcommand', option) for option in own]
+    for one in commands:
+        lines.append('complete -c yamlfmt -n __fish_use_subcommand -a %s -d %s' % (one.name, fish_quoted(one.about)))
+    for one in commands:
+        when = '__fish_seen_subcommand_from ' + one.name
+        lines += [fish_option(when, option) for option in one.options]
+        if one.arguments:
+            lines.append('complete -c yamlfmt -n %s -F' % fish_quoted(when))
+        else:
+            others = ' '.join(other.name for other in commands if other is not one)
+            lines.append('complete -c yamlfmt -n %s -a %s' % (fish_quoted(when), fish_quoted(others)))
+    return '\n'.join(lines) + '\n'
+
+
+PAGES = {'yamlfmt.1': man, 'yamlfmt.bash': bash, '_yamlfmt': zsh, 'yamlfmt.fish': fish}
+
+
+def main():
+    if len(sys.argv) != 3:
+        sys.exit(__doc__)
+    program, folder = os.path.abspath(sys.argv[1]), sys.argv[2]
+    for name, made in PAGES.items():
+        with open(os.path.join(folder, name), 'w', encoding='utf-8', newline='\n') as page:
+            page.write(made(program))
+
+
+if __name__ == '__main__':
+    main()
