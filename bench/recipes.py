@@ -1,7 +1,11 @@
 #!/usr/bin/env python3
 """Tries each recipe of docs/RECIPES.md as it stands there, each in a scratch folder, where its tool is installed; then what
 went wrong with the hooks once (bench/faults.py); and the examples of README.md and docs/STYLE.md; and whether `--version` is
-the newest version of CHANGELOG.md. Says `tried`, `FAILED` or `no TOOL` of each, and ends with 1 where one failed.
+the newest version of CHANGELOG.md. Says `tried`, `FAILED`, `no TOOL` or `not tried` of each, and ends with 1 where one failed.
+
+Of VS Code, JetBrains, GitHub and GitLab the commands and patterns are tried (the matchers by bench/lines.py, the workflows by
+bench/workflows.py, the other editors by bench/editors.py), but not these programs themselves: not how they read their settings, nor
+GitHub's own actions and cache. Of the Dockerfile nothing is.
 
 Usage: bench/recipes.py [PROGRAM]     (default: the program that ./yamlfmt builds; build it first)
 
@@ -10,7 +14,6 @@ on standard error.
 
 Not part of rt ci.
 """
-import json
 import os
 import re
 import shutil
@@ -18,20 +21,11 @@ import subprocess
 import sys
 import tempfile
 
+import editors
 import faults
-from scratch import BAD, GOOD, NOISE, TOP, read, repository, script, sh, with_hooks, write
-
-
-def recipes(clone):
-    found = re.findall(r'<!-- recipe: ([a-z-]+) -->\n```\w+\n(.*?)```', read(TOP + '/docs/RECIPES.md'), re.S)
-    return {name: text.replace('YAMLFMT', clone) for name, text in found}
-
-
-def matched(pattern, output):
-    """What the matcher's pattern finds in the output."""
-    rule = pattern['regexp']
-    hits = [re.search(rule, line) for line in output.splitlines()]
-    return [(h[pattern['file']], h[pattern['line']], h[pattern['column']], h[pattern['message']]) for h in hits if h]
+import lines
+import workflows
+from scratch import BAD, GOOD, NOISE, TOP, read, recipes, repository, script, sh, with_hooks, write
 
 
 def folder(room, text, clone):
@@ -82,44 +76,52 @@ def pre_commit_templates(room, text, clone):
     return [read(room + '/' + name) for name in names] == [BAD, GOOD]
 
 
-def vim(room, text, clone):
-    """The buffer gets the formatted text alone, by the settings of its file; and stays where there is none."""
-    write(room + '/vimrc', 'filetype on\n' + text)
-    os.makedirs(room + '/.git')
-    write(room + '/.yamlfmt.toml', 'quotes = "single"\n')
-    texts = {'a b.yaml': BAD, 'deep/a.yaml': BAD, 'bad.yaml': 'a: b: c\n', 'template.yaml': 'a: {{ x }}\n'}
-    for name, before in texts.items():
-        write(room + '/' + name, before)
-    words = ['vim', '-N', '-u', room + '/vimrc', '-i', 'NONE', '-es']
-    sh(words + ['-c', 'set ft=yaml | silent make % | call writefile([string(getqflist())], "found")', '-c', 'q', 'deep/a.yaml'], room)
-    for name in texts:
-        sh(words + ['-c', 'redir! > said', '-c', 'YamlFormat', '-c', 'redir END', '-c', 'wq', name], room)
-    found = read(room + '/found')
-    wanted = dict(texts, **{'a b.yaml': GOOD.replace('"', "'"), 'deep/a.yaml': GOOD.replace('"', "'")})
-    return ("'lnum': 2" in found and "'col': 8" in found and all(read(room + '/' + name) == after for name, after in wanted.items())
-            and 'looks like a template' in read(room + '/said'))
-
-
-def vscode(room, text, clone):
+def pre_commit_package(room, text, clone):
     repository(room)
-    task = json.loads(text)['tasks'][0]
-    done = sh(['sh', '-c', task['command']], room)
-    return ('a b.yaml', '2', '8', 'comment-space (fixable)') in matched(task['problemMatcher']['pattern'], done.stdout)
+    write(room + '/.pre-commit-config.yaml', text)
+    done = sh(['pre-commit', 'run', '--files', 'a b.yaml', 'c.txt'], room)
+    return done.returncode == 1 and read(room + '/a b.yaml') == GOOD and read(room + '/c.txt') == 'text\n'
 
 
-def workflow(room, text, clone):
+def changed(room, text, clone):
+    """Names what the branch changed, from the top and from a folder; and fails where that can't be found out."""
     repository(room)
-    write(room + '/w.yaml', text)
-    sound = sh(['yamlfmt', 'events', 'w.yaml'], room)
-    script = '\n'.join(line.strip() for line in text.split('- run: |\n')[1].splitlines())
-    done = sh(['sh', '-c', script], room)
-    pattern = json.loads(recipes(clone)['matcher'])['problemMatcher'][0]['pattern'][0]
-    return not sound.returncode and ('a b.yaml', '2', '8', 'comment-space (fixable)') in matched(pattern, done.stdout)
+    for name in ('old.yaml', 'gone.yaml', 'deep/old.yaml'):
+        write(room + '/' + name, BAD)
+    for line in ('git add .', 'git commit -qm main', 'git update-ref refs/remotes/origin/main HEAD', 'git rm -q gone.yaml'):
+        sh(line.split(), room)
+    write(room + '/a b.yaml', BAD + 'b: 1\n')
+    write(room + '/deep/new.yaml', BAD)
+    sh(['git', 'add', '.'], room)
+    sh(['git', 'commit', '-qm', 'branch'], room)
+    said = [sh(['sh', '-c', text], room + at, stderr=subprocess.DEVNULL) for at in ('', '/deep')]
+    sh(['git', 'update-ref', '-d', 'refs/remotes/origin/main'], room)
+    lost = sh(['sh', '-c', text], room)
+    found = ':2:8 comment-space (fixable)\n'
+    return ([done.stdout for done in said] == ['a b.yaml' + found + 'deep/new.yaml' + found, 'new.yaml' + found]
+            and said[0].returncode and lost.returncode and 'comment-space' not in lost.stdout)
 
 
-TOOLS = {'folder': ('git', folder), 'git': ('git', git), 'pre-commit': ('pre-commit', pre_commit),
-         'pre-commit-templates': ('pre-commit', pre_commit_templates), 'vim': ('vim', vim),
-         'vscode': ('git', vscode), 'workflow': ('git', workflow)}
+def make(room, text, clone):
+    """Tells, formats, and has nothing more to tell; and fails where Git does."""
+    repository(room)
+    write(room + '/Makefile', text)
+    before, done, after = (sh(['make', goal], room) for goal in ('yaml-check', 'yaml', 'yaml-check'))
+    sh(['rm', '-rf', '.git'], room)
+    lost = sh(['make', 'yaml-check'], room, env={'GIT_CEILING_DIRECTORIES': os.path.dirname(room)})
+    return (before.returncode and '+a: "x"  # c' in before.stdout and not done.returncode and not after.returncode
+            and read(room + '/a b.yaml') == GOOD and lost.returncode)
+
+
+TOOLS = {'folder': ('git', folder), 'changed': ('git', changed), 'make': ('make', make), 'git': ('git', git),
+         'pre-commit': ('pre-commit', pre_commit), 'pre-commit-package': ('pre-commit', pre_commit_package),
+         'pre-commit-templates': ('pre-commit', pre_commit_templates), 'vim': ('vim', editors.vim), 'neovim': ('nvim', editors.neovim),
+         'neovim-save': ('nvim', editors.neovim_save), 'emacs': ('emacs', editors.emacs), 'emacs-save': ('emacs', editors.emacs_save),
+         'vscode': ('git', editors.vscode), 'jetbrains': ('git', editors.jetbrains), 'workflow-build': ('git', workflows.build),
+         'workflow': ('git', workflows.check), 'matcher': ('git', lines.matcher), 'gitlab': ('git', workflows.gitlab),
+         'gitlab-changed': ('git', workflows.gitlab_changed)}
+UNTRIED = ('dockerfile', 'dockerfile-copy')
+TRIED_BY_FAULTS = ('folder-templates',)
 
 
 def cell(text):
@@ -159,8 +161,11 @@ def version(program):
 
 
 def is_good(name, text, clone, program):
-    """Tries a recipe, where it is one and its tool is there, and tells."""
-    if name not in TOOLS:
+    """Tries a recipe, where its tool is there, and tells."""
+    if name in TRIED_BY_FAULTS:
+        return True
+    if name in UNTRIED:
+        print('%s: not tried' % name)
         return True
     tool, tried = TOOLS[name]
     if not shutil.which(tool):

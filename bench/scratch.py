@@ -1,5 +1,6 @@
-"""Scratch folders for bench/recipes.py and bench/faults.py: hooks that build nothing, and repositories to try them in."""
+"""Scratch folders for bench/recipes.py and what it tries: hooks that build nothing, repositories to try them in, and the recipes."""
 import os
+import re
 import shutil
 import subprocess
 
@@ -7,6 +8,12 @@ TOP = os.path.dirname(os.path.dirname(os.path.abspath(__file__)))
 BAD = '---\na: "x" # c\n'
 GOOD = '---\na: "x"  # c\n'
 NOISE = 'yamlfmt: building the program'
+
+
+def recipes(clone):
+    """The recipes of docs/RECIPES.md by name, with the hooks of the clone."""
+    found = re.findall(r'<!-- recipe: ([a-z-]+) -->\n```\w+\n(.*?)```', read(TOP + '/docs/RECIPES.md'), re.S)
+    return {name: text.replace('YAMLFMT/', clone + '/').replace('/usr/share/yamlfmt/', clone + '/') for name, text in found}
 
 
 def with_hooks(clone, program):

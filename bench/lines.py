@@ -1,0 +1,111 @@
+"""The lines that hooks/each_file prints, of every kind, each tried with the matchers of docs/RECIPES.md as bench/recipes.py runs.
+
+The kinds are read where they are made: refusals in docs/GRAMMAR.md, rules in docs/STYLE.md, what the hooks say in their own texts. So a
+new kind is tried, too.
+"""
+import json
+import os
+import re
+
+from scratch import TOP, read
+
+FILES = ('a.yaml', 'deep folder/a b.yaml', 'x: y.yaml')
+
+
+def section(page, title):
+    return read(TOP + '/docs/' + page).split('\n## %s\n' % title)[1].split('\n## ')[0]
+
+
+def refusals():
+    """The program's lines on standard error."""
+    cells = re.findall(r'^\| (`.*?`) \| [23] \|', section('GRAMMAR.md', 'The lines of refusals'), re.M)
+    for name in re.findall(r'`(.*?)`', ' '.join(cells)):
+        yield name.replace('L:C', '3:15').replace('byte N', 'byte 70').replace('KEY', 'max_line')
+    yield 'config: '
+    yield 'error: the command line cannot be read'
+
+
+def findings():
+    for name, fixable in re.findall(r'^\| \d+ \| ([a-z-]+) \| .* \| (yes|no) \|$', section('STYLE.md', 'Rules'), re.M):
+        yield '12:3 ' + name + (' (fixable)' if fixable == 'yes' else '')
+
+
+def said(word, *names):
+    """The texts that the hooks say by that word, with something in the place of what the shell puts in."""
+    for name in names:
+        for text in re.findall(r'(?<![\w-])%s"([^"]*)"' % word, read(TOP + name)):
+            yield re.sub(r'\$\{?\w+\}?(%%[^}]*\})?', 'a word', text)
+
+
+def of_a_file():
+    """What each_file says of a file by itself."""
+    own = [*said(r'say "\$name" ', '/hooks/each_file'), *said('message=', '/hooks/each_file')]
+    return [text for text in own if text not in ('a word', '') and not text.startswith('$(')]
+
+
+def of_hooks():
+    for text in said('refuse ', '/hooks/each_file'):
+        yield 'each_file: ' + text
+    for text in said('refuse ', '/hooks/program', '/dist/program'):
+        if not text.startswith('hooks/program '):
+            yield 'yamlfmt: ' + text
+    yield "yamlfmt: what is staged can't be found out"
+
+
+def progress():
+    """What is told of a build, which is no fault."""
+    for text in said('tell ', '/hooks/program'):
+        yield 'yamlfmt: ' + text
+    yield 'yamlfmt: yf_one: 100 of 200 functions checked'
+
+
+def matches(patterns, line):
+    """Which of the patterns take the line, and what they find in it."""
+    for owner, pattern in patterns.items():
+        hit = re.search(pattern['regexp'], line)
+        if hit:
+            yield owner, *(hit[pattern[part]] if part in pattern else None for part in ('file', 'line', 'column', 'message'))
+
+
+def rows():
+    """Each line, and what is to be found in it by which matcher alone."""
+    for file in FILES:
+        for text in [*refusals(), *findings(), *of_a_file()]:
+            place = re.match(r'(\d+):(\d+) (.*)', text)
+            if place:
+                yield '%s:%s' % (file, text), [('yamlfmt', file, *place.groups())]
+            else:
+                yield '%s: %s' % (file, text), [('yamlfmt-file', file, None, None, text)]
+        line = file + ': left alone: looks like a template'
+        yield line, [('yamlfmt-left', file, None, None, line)]
+    for line in ('each_file: symbolic links are left alone: a.yaml', 'each_file: symbolic links are left alone: a.yaml and 3 more'):
+        yield line, [('yamlfmt-left', None, None, None, line)]
+    for line in of_hooks():
+        yield line, [('yamlfmt-hooks', None, None, None, line)]
+    for line in [*progress(), 'Run git ls-files', 'fatal: not a git repository', 'xargs: each_file: No such file or directory', '']:
+        yield line, []
+
+
+def patterns_of(matchers):
+    found = {}
+    for matcher in matchers:
+        pattern = matcher['pattern']
+        found[matcher['owner']] = pattern[0] if isinstance(pattern, list) else pattern
+    return found
+
+
+def matcher(room, text, clone):
+    """Each line is taken by the one matcher that is meant, and read right; what is no fault is taken by none."""
+    patterns = patterns_of(json.loads(text)['problemMatcher'])
+    good = len(patterns) == 4
+    kinds = [[*refusals()], [*findings()], of_a_file(), [*of_hooks()], [*progress()]]
+    for kind, least in zip(kinds, (12, 13, 5, 20, 5)):
+        if len(kind) < least:
+            print('  only %d of a kind of line: %s' % (len(kind), kind))
+            good = False
+    for line, wanted in rows():
+        found = [*matches(patterns, line)]
+        if found != wanted:
+            print('  %r gives %r, and not %r' % (line, found, wanted))
+            good = False
+    return good

@@ -1,0 +1,121 @@
+"""The recipes for GitHub and GitLab: the commands of each step, run one after another as their runners run them, with the cache of the
+GitHub recipe played by tar and a small rt in the place of the real one. GitHub and GitLab themselves are not tried.
+"""
+import json
+import os
+import re
+import shutil
+
+import lines
+from editors import FOUND
+from faults import Builder
+from scratch import BAD, GOOD, TOP, read, recipes, repository, script, sh, write
+
+# What GitHub runs for `run:`, and for `run:` with `shell: bash`; and what GitLab runs for all of `script:`.
+RUN = ['bash', '-e', '-c']
+RUN_BASH = ['bash', '--noprofile', '--norc', '-eo', 'pipefail', '-c']
+
+
+def is_yaml(room, text):
+    write(room + '/workflow-itself', text)
+    return sh(['yamlfmt', 'events', 'workflow-itself'], room).returncode == 0
+
+
+class Clone:
+    """A repository, and below it the clone of this one that a workflow makes, in which nothing is built."""
+
+    def __init__(self, room, rt):
+        self.room = room
+        os.makedirs(room)
+        repository(room)
+        builder = Builder(room)
+        for name in ('each_file', 'templates.awk'):
+            shutil.copy(TOP + '/hooks/' + name, builder.top + '/hooks/' + name)
+        os.rename(builder.top, room + '/.yamlfmt')
+        script(room + '/bin/rt', rt)
+
+    def run(self, words, text):
+        return sh([*words, text], self.room, env={'GITHUB_OUTPUT': self.room + '/output'}, start_new_session=True)
+
+    def key(self, text):
+        """The key of the cache, for which the step with the stamp is run."""
+        write(self.room + '/output', '')
+        self.run(RUN, step(text, 'id: program\n +run: '))
+        stamp = re.fullmatch('stamp=([0-9a-f]{64})\n', read(self.room + '/output'))
+        return step(text, 'key: ').replace('${{ steps.program.outputs.stamp }}', stamp[1])
+
+
+def step(text, words):
+    """What stands after the words on their line."""
+    return re.search(r'%s(.*)' % words, text)[1]
+
+
+def block(text, words):
+    """The lines of the block scalar after the words."""
+    lines_of = re.search(r'^( *)(?:- )?%s\|\n((?:\1  +.*\n)+)' % words, text, re.M)[2]
+    return [line.strip() for line in lines_of.splitlines()]
+
+
+def built(room, text, clone):
+    """Runs the workflow that builds, puts what it keeps into a tarball, and gives the key; how often rt has run stands in `count`."""
+    made = Clone(room + '/made', "echo run >> '%s/count'\nmkdir -p out\ncp \"$('%s/hooks/program' 2> /dev/null)\" out/yamlfmt\n" % (room, clone))
+    key = made.key(text)
+    done = made.run(RUN, step(text, '- run: '))
+    made.run(RUN, step(text, '- run: '))
+    packed = made.run(RUN, "tar -czf '%s/cache' %s" % (room, ' '.join(block(text, 'path: '))))
+    return key, done.returncode == 0 and packed.returncode == 0 and read(room + '/count') == 'run\n'
+
+
+def is_safe(text):
+    """Whether it may read the repository and no more, and runs on no machine of ours where anybody's pull request starts it."""
+    return '\npermissions:\n  contents: read\n' in text and not ('pull_request' in text and 'self-hosted' in text)
+
+
+def build(room, text, clone):
+    return is_safe(text) and is_yaml(room, text) and built(room, text, clone)[1]
+
+
+def check(room, text, clone):
+    """The program is taken from the cache under the same key, and its findings are marked; without the cache, that is marked."""
+    maker = recipes(clone)['workflow-build']
+    key, good = built(room, maker, clone)
+    patterns = lines.patterns_of(json.loads(recipes(clone)['matcher'])['problemMatcher'])
+    script_of = '\n'.join(block(text, 'run: '))
+    fresh = Clone(room + '/fresh', 'exit 1\n')
+    good = good and fresh.key(text) == key and block(text, 'path: ') == block(maker, 'path: ')
+
+    def marked():
+        done = fresh.run(RUN_BASH, script_of)
+        return done.returncode and [hit for line in done.stdout.splitlines() for hit in lines.matches(patterns, line)]
+
+    without = marked()
+    fresh.run(RUN, "tar -xzf '%s/cache'" % room)
+    with_cache = marked()
+    return (good and is_safe(text) and is_yaml(room, text) and without and without[0][0] == 'yamlfmt-hooks'
+            and with_cache == [('yamlfmt', *FOUND)])
+
+
+def script_lines(text):
+    return '\n'.join(re.findall(r'^    - (.*)', text.split('  script:\n')[1], re.M))
+
+
+def gitlab(room, text, clone):
+    """Shows what is not formatted, and fails; passes where all is; and fails where Git does."""
+    repository(room)
+    before = sh([*RUN_BASH, script_lines(text)], room)
+    write(room + '/a b.yaml', GOOD)
+    after = sh([*RUN_BASH, script_lines(text)], room)
+    lost = sh([*RUN_BASH, script_lines(text)], room, env={'GIT_TEST_ASSUME_DIFFERENT_OWNER': '1'})
+    return is_yaml(room, text) and before.returncode and '+a: "x"  # c' in before.stdout and not after.returncode and lost.returncode
+
+
+def gitlab_changed(room, text, clone):
+    repository(room)
+    sh(['git', 'commit', '-qm', 'base'], room)
+    base = sh(['git', 'rev-parse', 'HEAD'], room).stdout.strip()
+    write(room + '/new.yaml', BAD)
+    sh(['git', 'add', 'new.yaml'], room)
+    sh(['git', 'commit', '-qm', 'merge request'], room)
+    said, lost = (sh([*RUN_BASH, script_lines(text)], room, env={'CI_MERGE_REQUEST_DIFF_BASE_SHA': name}) for name in (base, 'f' * 40))
+    return (is_yaml(room, text) and said.returncode == 123 and '+++ new.yaml (formatted)' in said.stdout and 'a b.yaml' not in said.stdout
+            and lost.returncode not in (0, 123))
