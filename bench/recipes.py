@@ -86,8 +86,8 @@ def pre_commit_package(room, text, clone):
 def changed(room, text, clone):
     """Names what the branch changed, from the top and from a folder; and fails where that can't be found out."""
     repository(room)
-    for name in ('old.yaml', 'gone.yaml', 'deep/old.yaml'):
-        write(room + '/' + name, BAD)
+    for name, before in (('old.yaml', BAD), ('gone.yaml', 'other: text\n'), ('deep/old.yaml', BAD)):
+        write(room + '/' + name, before)
     for line in ('git add .', 'git commit -qm main', 'git update-ref refs/remotes/origin/main HEAD', 'git rm -q gone.yaml'):
         sh(line.split(), room)
     write(room + '/a b.yaml', BAD + 'b: 1\n')
@@ -160,6 +160,14 @@ def version(program):
     return all(sh([program, word], TOP).stdout == 'yamlfmt %s\n' % newest for word in ('--version', '-V'))
 
 
+def is_in_style(text, program):
+    """Whether a recipe that is YAML is in the house style, so that it passes the check that it sets up."""
+    if not text.startswith('---'):
+        return True
+    said = [subprocess.run([program, verb], input=text, stdout=subprocess.PIPE, text=True).stdout for verb in ('check', 'fmt')]
+    return said == ['', text]
+
+
 def is_good(name, text, clone, program):
     """Tries a recipe, where its tool is there, and tells."""
     if name in TRIED_BY_FAULTS:
@@ -173,7 +181,11 @@ def is_good(name, text, clone, program):
         return True
     with tempfile.TemporaryDirectory() as room:
         script(room + '/bin/yamlfmt', "echo '%s' >&2\nexec '%s' \"$@\"\n" % (NOISE, program))
-        good = tried(room, text, clone)
+        try:
+            good = tried(room, text, clone) and is_in_style(text, program)
+        except Exception as fault:
+            print('  %r' % fault)
+            good = False
     print('%s: %s' % (name, 'tried' if good else 'FAILED'), flush=True)
     return good
 

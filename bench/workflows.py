@@ -16,11 +16,6 @@ RUN = ['bash', '-e', '-c']
 RUN_BASH = ['bash', '--noprofile', '--norc', '-eo', 'pipefail', '-c']
 
 
-def is_yaml(room, text):
-    write(room + '/workflow-itself', text)
-    return sh(['yamlfmt', 'events', 'workflow-itself'], room).returncode == 0
-
-
 class Clone:
     """A repository, and below it the clone of this one that a workflow makes, in which nothing is built."""
 
@@ -72,7 +67,7 @@ def is_safe(text):
 
 
 def build(room, text, clone):
-    return is_safe(text) and is_yaml(room, text) and built(room, text, clone)[1]
+    return is_safe(text) and built(room, text, clone)[1]
 
 
 def check(room, text, clone):
@@ -91,12 +86,13 @@ def check(room, text, clone):
     without = marked()
     fresh.run(RUN, "tar -xzf '%s/cache'" % room)
     with_cache = marked()
-    return (good and is_safe(text) and is_yaml(room, text) and without and without[0][0] == 'yamlfmt-hooks'
+    return (good and is_safe(text) and without and without[0][0] == 'yamlfmt-hooks'
             and with_cache == [('yamlfmt', *FOUND)])
 
 
 def script_lines(text):
-    return '\n'.join(re.findall(r'^    - (.*)', text.split('  script:\n')[1], re.M))
+    """The commands below `script:`, each in a block scalar."""
+    return '\n'.join(line.strip() for line in text.split('  script:\n    - |\n')[1].splitlines())
 
 
 def gitlab(room, text, clone):
@@ -106,7 +102,7 @@ def gitlab(room, text, clone):
     write(room + '/a b.yaml', GOOD)
     after = sh([*RUN_BASH, script_lines(text)], room)
     lost = sh([*RUN_BASH, script_lines(text)], room, env={'GIT_TEST_ASSUME_DIFFERENT_OWNER': '1'})
-    return is_yaml(room, text) and before.returncode and '+a: "x"  # c' in before.stdout and not after.returncode and lost.returncode
+    return before.returncode and '+a: "x"  # c' in before.stdout and not after.returncode and lost.returncode
 
 
 def gitlab_changed(room, text, clone):
@@ -117,5 +113,5 @@ def gitlab_changed(room, text, clone):
     sh(['git', 'add', 'new.yaml'], room)
     sh(['git', 'commit', '-qm', 'merge request'], room)
     said, lost = (sh([*RUN_BASH, script_lines(text)], room, env={'CI_MERGE_REQUEST_DIFF_BASE_SHA': name}) for name in (base, 'f' * 40))
-    return (is_yaml(room, text) and said.returncode == 123 and '+++ new.yaml (formatted)' in said.stdout and 'a b.yaml' not in said.stdout
+    return (said.returncode == 123 and '+++ new.yaml (formatted)' in said.stdout and 'a b.yaml' not in said.stdout
             and lost.returncode not in (0, 123))
