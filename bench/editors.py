@@ -74,7 +74,7 @@ NARROWED = '(progn (goto-char (point-max)) (forward-line -1) (narrow-to-region (
 
 
 def emacs(room, text, clone):
-    """Whole buffers, one of which a part is shown, and the first finding of a file."""
+    """Formats whole buffers, also one of which only a part is shown, and visits the first finding of a file."""
     def edit(name, by='(progn (yamlfmt-buffer) (save-buffer))'):
         return sh(emacs_words(room, text, name) + [by], room, timeout=60).stdout
 

@@ -52,7 +52,7 @@ def block(text, words):
 
 
 def built(room, text, clone):
-    """Runs the workflow that builds, puts what it keeps into a tarball, and gives the key; how often rt has run stands in `count`."""
+    """Runs the workflow that builds, twice, and packs what is to be kept. Gives the key, and whether that went well and built once."""
     made = Clone(room + '/made', "echo run >> '%s/count'\nmkdir -p out\ncp \"$('%s/hooks/program' 2> /dev/null)\" out/yamlfmt\n" % (room, clone))
     key = made.key(text)
     done = made.run(RUN, step(text, '- run: '))
