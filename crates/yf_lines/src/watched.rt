@@ -26,7 +26,7 @@ pub trait Source: Read {
 
 /// A writer that tells whether a call of it has failed. A write that takes none of its bytes counts as failed.
 pub trait Sink: Write {
-    ghost use Rattle.yf_lines.specs.Watched.{WriteNotes};
+    ghost use Rattle.yf_lines.specs.Watched.{Notes, WriteNotes};
 
     // A call has failed.
     ghost has_failed: { Self → Bool };
@@ -36,6 +36,11 @@ pub trait Sink: Write {
         ensures bound { WritesAtMost result bytes.now }
         ensures bytes { WriteAppends (Self.contents self.old) (Self.contents self.new) result bytes.now }
         ensures note { WriteNotes (has_failed self.old) (has_failed self.new) result bytes.now };
+
+    /// Writes out what is held back, as `flush` does, and notes a failure.
+    fn flush_watched(&mut self) -> io::Result<()>
+        ensures bytes { Keeps (Self.contents self.old) (Self.contents self.new) }
+        ensures note { Notes (has_failed self.old) (has_failed self.new) result };
 
     /// True from the first call on that failed.
     fn failed(&self) -> bool
@@ -165,6 +170,10 @@ impl<T: Write> Sink for Watched<T> {
 
     fn write_watched(&mut self, bytes: &[u8]) -> io::Result<usize> {
         self.write(bytes)
+    }
+
+    fn flush_watched(&mut self) -> io::Result<()> {
+        self.flush()
     }
 
     fn failed(&self) -> bool {
