@@ -1,3 +1,4 @@
+pub mod Answer
 pub mod Report
 pub mod Shown
 pub mod Files

@@ -30,10 +30,11 @@ EndsWell status old new before after = (status ≡ 0) × Untouched old new befor
 abbrev pub EndsBy : Fault → ℕ → Option (List ℕ) → Option (List ℕ) → Bool → Bool → Type 0
 EndsBy f status old new before after = (status ≡ fault_status f) × Reached old new before after (fault_line f)
 
--- all that was held back is written, and the run's status stays; or a write has failed
-abbrev pub WrittenOut : ℕ → ℕ → Option (List ℕ) → Option (List ℕ) → Bool → Bool → Type 0
-WrittenOut run status old new before after =
-    ((status ≡ run) × Untouched old new before after) ⊎ EndsBy fault.WriteFailed status old new before after
+-- all that was held back is written, and the run's status stays; or the writer has failed
+-- (before, after: the note that the writer has failed; at, to, was, is: those of the stream of faults)
+abbrev pub WrittenOut : ℕ → ℕ → Bool → Bool → Option (List ℕ) → Option (List ℕ) → Bool → Bool → Type 0
+WrittenOut run status before after at to was is =
+    ((status ≡ run) × (after ≡ before) × Untouched at to was is) ⊎ ((after ≡ true) × EndsBy fault.WriteFailed status at to was is)
 
 -- the bytes that were read set the style
 abbrev pub FileSets : Option (List ℕ) → Style → Type 0

@@ -1,6 +1,11 @@
 //! yamlfmt: prints the events of a YAML stream, checks its style and rewrites it in one house style.
 #![tactic(auto)]
 
+ghost use Rattle.std.specs.Prelude.{[], None, ⊥};
+
+mod answer;
+#[cfg(test)]
+mod answer_tests;
 #[cfg(test)]
 mod answers;
 #[cfg(test)]
@@ -23,6 +28,7 @@ mod files_tests;
 mod fmt_tests;
 #[cfg(test)]
 mod hostile_tests;
+mod inputs;
 #[cfg(test)]
 mod laws_tests;
 mod program;
@@ -32,7 +38,6 @@ mod replacing;
 #[cfg(test)]
 mod replacing_tests;
 mod report;
-mod rules;
 mod settings;
 #[cfg(test)]
 mod settings_tests;
@@ -42,27 +47,31 @@ mod shown_tests;
 #[cfg(test)]
 mod tests;
 
-use command_line::{Cmd, parse_line};
+use answer::{Rewriter, answer};
 use files::{open, rewrite};
-use program::{GOOD, answer_usage, read_style, run, written_out};
+use inputs::Inputs;
 use report::report;
-use rules::{WithRules, with_all_rules};
 use std::alloc::AllocError;
-use std::io::BufWriter;
+use std::fs::File;
+use std::io::{BufWriter, Input};
 use std::process::ExitCode;
 use std::{env, io};
 use yf_emit::style::Style;
 use yf_lines::fault::Fault;
-use yf_lines::watched::{Sink, Source, Watched};
+use yf_lines::watched::{Sink, Watched};
 use yf_rules::rule::Rule;
+use yf_rules::with_rules::{WithRules, with_all_rules};
 
 /// The status for a command line that cannot be read.
 const UNREADABLE: u8 = 3;
 
+/// How many bytes of output are held back before they are written.
+const HELD_BACK: usize = 65_536;
+
 fn main(rt: HostRuntime) -> ExitCode {
     let mut error_stream = Watched::new(rt.stderr());
     let status = match words_given(&rt) {
-        Ok(words) => do_words(&rt, words.as_slice(), &mut error_stream),
+        Ok(words) => answer_words(&rt, words.as_slice(), &mut error_stream),
         Err(error) if error.kind() == io::ErrorKind::OutOfMemory => {
             report(&Fault::Memory, &mut error_stream)
         }
@@ -74,20 +83,6 @@ fn main(rt: HostRuntime) -> ExitCode {
     ExitCode::from(status)
 }
 
-/// How many bytes of output are held back before they are written.
-const HELD_BACK: usize = 65_536;
-
-/// Does what the words ask for, and answers the status.
-fn do_words<E: Sink>(rt: &HostRuntime, words: &[String], error_stream: &mut E) -> u8 {
-    match parse_line(rt.alloc(), words) {
-        Ok(command) => match run_files(rt, &command) {
-            Ok(status) => status,
-            Err(fault) => report(&fault, error_stream),
-        },
-        Err(usage) => answer_usage(&usage, &mut Watched::new(rt.stdout()), error_stream),
-    }
-}
-
 /// The words after the program's name.
 fn words_given(rt: &HostRuntime) -> io::Result<Vec<String>> {
     let mut words = env::args(rt)?;
@@ -95,83 +90,79 @@ fn words_given(rt: &HostRuntime) -> io::Result<Vec<String>> {
     Ok(words.collect(rt.alloc())?)
 }
 
-/// Does a command over its files: the settings are read first. A file that is to be rewritten is read and written whole.
-fn run_files(rt: &HostRuntime, command: &Cmd) -> Result<u8, Fault> {
-    let style = match &command.config {
-        Some(path) => read_style(rt.alloc(), &mut Watched::new(open(rt, path.as_str())?))?,
-        None => Style::house(),
+/// Does what the words ask for, over the system's files and streams, and answers the status.
+fn answer_words<E: Sink>(rt: &HostRuntime, words: &[String], error_stream: &mut E) -> u8 {
+    let program = Program {
+        rt,
+        words,
+        error_stream,
     };
-    let answer = match &command.file {
-        Some(path) if command.write => return rewritten(rt, path.as_str(), &style),
-        Some(path) => {
-            run_with_rules(
-                rt,
-                command,
-                &style,
-                &mut Watched::new(open(rt, path.as_str())?),
-            )
-        }
-        None => run_with_rules(rt, command, &style, &mut Watched::new(rt.reader())),
-    };
-    match answer {
-        Ok(status) => Ok(status),
-        Err(AllocError) => Err(Fault::Memory),
+    match with_all_rules(rt.alloc(), program) {
+        Ok(status) => status,
+        Err(AllocError) => report(&Fault::Memory, &mut Watched::new(rt.stderr())),
     }
 }
 
-/// Rewrites a file, and answers the status.
-fn rewritten(rt: &HostRuntime, path: &str, style: &Style) -> Result<u8, Fault> {
-    rewrite(rt, path, style)?;
-    Ok(GOOD)
-}
-
-/// Does a command with all rules of style, and answers its status.
-fn run_with_rules<R: Source>(
-    rt: &HostRuntime,
-    command: &Cmd,
-    style: &Style,
-    reader: &mut R,
-) -> Result<u8, AllocError> {
-    with_all_rules(
-        rt.alloc(),
-        Command {
-            rt,
-            command,
-            style,
-            reader,
-        },
-    )?
-}
-
-/// A command in a style, over what it reads.
+/// The words of the command line, and the stream for faults.
 #[derive(Drop)]
-struct Command<'a, R: Source> {
+struct Program<'a, E: Sink> {
     rt: &'a HostRuntime,
-    command: &'a Cmd,
-    style: &'a Style,
-    reader: &'a mut R,
+    words: &'a [String],
+    error_stream: &'a mut E,
 }
 
-impl<R: Source> WithRules for Command<'_, R> {
-    type Answer = Result<u8, AllocError>;
+impl<E: Sink> WithRules for Program<'_, E> {
+    type Answer = u8;
 
-    /// Does the command, and answers its status.
-    fn with_rules(self, rules: &[Box<dyn Rule>]) -> Result<u8, AllocError> {
+    /// Answers the words, and gives the status.
+    fn with_rules(self, rules: &[Box<dyn Rule>]) -> u8 {
         let alloc = self.rt.alloc();
-        let Ok(output) = BufWriter::with_capacity(alloc, HELD_BACK, self.rt.stdout()) else {
-            return Err(AllocError);
-        };
-        let mut writer = Watched::new(output);
-        let mut error_stream = Watched::new(self.rt.stderr());
-        let status = run(
-            alloc,
-            self.command,
-            rules,
-            self.style,
-            self.reader,
-            &mut writer,
-            &mut error_stream,
-        );
-        Ok(written_out(status, &mut writer, &mut error_stream))
+        match BufWriter::with_capacity(alloc, HELD_BACK, self.rt.stdout()) {
+            Ok(output) => answer(
+                alloc,
+                self.words,
+                rules,
+                &mut System { rt: self.rt },
+                &mut System { rt: self.rt },
+                &mut Watched::new(output),
+                self.error_stream,
+            ),
+            Err(_) => report(&Fault::Memory, self.error_stream),
+        }
+    }
+}
+
+/// The files and the standard input of the system.
+#[derive(Drop)]
+struct System<'a> {
+    rt: &'a HostRuntime,
+}
+
+impl Inputs for System<'_> {
+    type File = Watched<File>;
+
+    type Standard = Watched<<HostRuntime as Input>::Reader>;
+
+    ghost tells = { ⊥ };
+
+    ghost opened = { λ _. [] };
+
+    ghost holds = { λ _ _. None };
+
+    fn open_file(&mut self, name: &str) -> Result<Watched<File>, Fault> {
+        match open(self.rt, name) {
+            Ok(file) => Ok(Watched::new(file)),
+            Err(fault) => Err(fault),
+        }
+    }
+
+    fn open_standard(&mut self) -> Watched<<HostRuntime as Input>::Reader> {
+        Watched::new(self.rt.reader())
+    }
+}
+
+impl Rewriter for System<'_> {
+    fn rewrite(&mut self, name: &str, style: &Style) -> Result<(), Fault> {
+        rewrite(self.rt, name, style)
     }
 }

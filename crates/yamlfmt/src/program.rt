@@ -66,13 +66,13 @@ pub fn run<R: Source, W: Sink, E: Sink>(
 /// write that fails, whose line was written to the stream of faults.
 pub fn written_out<W: Sink, E: Sink>(status: u8, writer: &mut W, error_stream: &mut E) -> u8
     ensures kept { Keeps (W.contents writer.old) (W.contents writer.new) }
-    ensures told { WrittenOut status result (E.contents error_stream.old) (E.contents error_stream.new)
-        (E.has_failed error_stream.old) (E.has_failed error_stream.new) }
+    ensures told { WrittenOut status result (W.has_failed writer.old) (W.has_failed writer.new)
+        (E.contents error_stream.old) (E.contents error_stream.new) (E.has_failed error_stream.old) (E.has_failed error_stream.new) }
 {
     if status > FINDINGS {
         return status;
     }
-    match writer.flush() {
+    match writer.flush_watched() {
         Ok(()) => status,
         Err(_) => report(&Fault::WriteFailed, error_stream),
     }

@@ -1,0 +1,39 @@
+//! What a command reads.
+ghost use Rattle.std.specs.Prelude.{◌≡◌, ◌∷◌, ◌++◌, [], ℕ, List, Option, Some, None, false, IfOk, IfErr};
+ghost use Rattle.yf_lines.specs.declared.fault.Fault.TheVariants.{ReadFailed};
+
+use yf_lines::fault::Fault;
+use yf_lines::watched::Source;
+
+/// What a command reads: files by their names, and standard input.
+pub trait Inputs {
+    /// A file that is open for reading.
+    type File: Source + Drop;
+
+    /// Standard input.
+    type Standard: Source + Drop;
+
+    /// Whether the type tells what it holds and what was opened. Where it doesn't, as at the system's own files, nothing is
+    /// claimed of these.
+    ghost tells: { Type 0 };
+
+    /// What was opened so far, in order: a file by its name, standard input as none.
+    ghost opened: { Self → List (Option (List ℕ)) };
+
+    /// The bytes that reading a file of that name gives, or standard input, where no name is given.
+    ghost holds: { Self → Option (List ℕ) → Option (List ℕ) };
+
+    /// Opens a file for reading. One that cannot be opened is one that cannot be read (`Fault::ReadFailed`).
+    fn open_file(&mut self, name: &str) -> Result<Self::File, Fault>
+        ensures opened { tells → opened self.new ≡ opened self.old ++ Some name.now ∷ [] }
+        ensures same { tells → (input : Option (List ℕ)) → holds self.new input ≡ holds self.old input }
+        ensures bytes { tells → IfOk result (λ file. Self.File.remaining file ≡ holds self.old (Some name.now)) }
+        ensures works { IfOk result (λ file. Self.File.has_failed file ≡ false) }
+        ensures fault { IfErr result (λ fault. fault ≡ ReadFailed) };
+
+    /// Gives standard input.
+    fn open_standard(&mut self) -> Self::Standard
+        ensures opened { tells → opened self.new ≡ opened self.old ++ None ∷ [] }
+        ensures bytes { tells → Self.Standard.remaining result ≡ holds self.old None }
+        ensures works { Self.Standard.has_failed result ≡ false };
+}
