@@ -3,6 +3,7 @@
 
 #[cfg(test)]
 mod answers;
+mod build;
 #[cfg(test)]
 mod check_tests;
 mod command_line;
