@@ -204,7 +204,9 @@ def one_buffer(room, clone, recipes):
             and 'new/x.yaml:1:5 refused: syntax' in said[1].stderr and LEFT in said[2].stderr)
 
 
-RT = r"""echo run >> "$COUNT"
+LOGIC = '0123456789abcdef'
+SAYS_LOGIC = '[ "$1" != version ] || { echo "kit-1 logic ${LOGIC-%s}"; exit; }\n' % LOGIC
+RT = SAYS_LOGIC + r"""echo run >> "$COUNT"
 sleep 1
 [ -z "${FAILS-}" ] || { echo 'error: not proved'; exit 1; }
 echo 'rt: chose --jobs 4 for yf_one'
@@ -229,6 +231,7 @@ class Builder:
         for crate in ('yf_one', 'yf_two', 'yamlfmt'):
             for name in ('src/lib.rt', 'src/lib_tests.rt', 'specs/Lib.antt', 'proofs/Lib.antt'):
                 write(self.top + '/crates/%s/%s' % (crate, name), crate + name)
+        write(self.top + '/crates/yamlfmt/src/build.rt', 'pub const LOGIC: &str = "%s";\n' % LOGIC)
         write(self.top + '/crates/yamlfmt/stdin', 'a\n')
         script(room + '/bin/rt', RT)
         write(self.count, '')
@@ -304,6 +307,13 @@ def failed_build(room, clone, recipes):
     return done.returncode == 3 and 'error: not proved' in done.stdout and again.returncode == 0 and builder.builds() == 2
 
 
+def another_logic(room, clone, recipes):
+    """A kit of another logic, and one that tells none, build nothing."""
+    builder = Builder(room)
+    said = [builder.run(env={'LOGIC': logic}, start_new_session=True) for logic in ('fedcba9876543210', LOGIC + '0', '')]
+    return all(done.returncode == 3 and 'the logic ' + LOGIC in done.stdout for done in said) and builder.builds() == 0
+
+
 def build_is_told(room, clone, recipes):
     """On the terminal, though standard error is held back, as pre-commit does; and where there is none, on standard error."""
     builder = Builder(room)
@@ -352,5 +362,5 @@ def buffer_builds_nothing(room, clone, recipes):
 EACH = [links_stay, templates_stay, templates_are_not_committed_changed, templates_by_pathspec, names_like_stages, hook_by_relative_path,
         hook_in_worktree, hook_without_git, settings_of_another_owner, settings_by_pipe, settings_from_elsewhere, settings_not_found_out,
         full_folder, names_of_bytes, help_is_there, one_buffer, build_by_content, build_restored_from_elsewhere, build_made_by_hand,
-        four_first_calls, failed_build, build_is_told, build_is_told_under_pre_commit,
+        four_first_calls, failed_build, another_logic, build_is_told, build_is_told_under_pre_commit,
         program_elsewhere, buffer_builds_nothing]

@@ -1,7 +1,8 @@
 #!/usr/bin/env python3
 """Tries each recipe of docs/RECIPES.md as it stands there, each in a scratch folder, where its tool is installed; then what
-went wrong with the hooks once (bench/faults.py); and the examples of README.md and docs/STYLE.md; and whether `--version` is
-the newest version of CHANGELOG.md. Says `tried`, `FAILED`, `no TOOL` or `not tried` of each, and ends with 1 where one failed.
+went wrong with the hooks once (bench/faults.py); and the examples of README.md and docs/STYLE.md; and whether `--version` tells
+the newest version of CHANGELOG.md, and the logic of README.md, of docs/PROVED.md and of `rt version`. Says `tried`, `FAILED`, `no TOOL`
+or `not tried` of each, and ends with 1 where one failed.
 
 Of VS Code, JetBrains, GitHub and GitLab the commands and patterns are tried (the matchers by bench/lines.py, the workflows by
 bench/workflows.py, the other editors by bench/editors.py), but not these programs themselves: not how they read their settings, nor
@@ -155,9 +156,18 @@ def readme(program):
     return said == after
 
 
+def logics():
+    """The hash of the logic wherever it is told beside the program: two documents, and the kit where there is one."""
+    for page in ('README.md', 'docs/PROVED.md'):
+        yield re.search('hash `([0-9a-f]+)`', read(TOP + '/' + page))[1]
+    if shutil.which('rt'):
+        yield sh(['rt', 'version'], TOP).stdout.split()[-1]
+
+
 def version(program):
     newest = re.search(r'^## (\S+)', read(TOP + '/CHANGELOG.md'), re.M)[1]
-    return all(sh([program, word], TOP).stdout == 'yamlfmt %s\n' % newest for word in ('--version', '-V'))
+    wanted = [re.compile(r'yamlfmt %s\n(built from a checkout|commit [0-9a-f]{40,})\nlogic %s\n' % (re.escape(newest), logic)) for logic in logics()]
+    return all(line.fullmatch(sh([program, word], TOP).stdout) for line in wanted for word in ('--version', '-V'))
 
 
 def is_in_style(text, program):

@@ -8,7 +8,7 @@ import shutil
 
 import lines
 from editors import FOUND
-from faults import Builder
+from faults import SAYS_LOGIC, Builder
 from scratch import BAD, GOOD, TOP, read, recipes, repository, script, sh, write
 
 # What GitHub runs for `run:`, and for `run:` with `shell: bash`; and what GitLab runs for all of `script:`.
@@ -53,7 +53,7 @@ def block(text, words):
 
 def built(room, text, clone):
     """Runs the workflow that builds, twice, and packs what is to be kept. Gives the key, and whether that went well and built once."""
-    made = Clone(room + '/made', "echo run >> '%s/count'\nmkdir -p out\ncp \"$('%s/hooks/program' 2> /dev/null)\" out/yamlfmt\n" % (room, clone))
+    made = Clone(room + '/made', SAYS_LOGIC + "echo run >> '%s/count'\nmkdir -p out\ncp \"$('%s/hooks/program' 2> /dev/null)\" out/yamlfmt\n" % (room, clone))
     key = made.key(text)
     done = made.run(RUN, step(text, '- run: '))
     made.run(RUN, step(text, '- run: '))

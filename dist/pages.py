@@ -122,7 +122,7 @@ def man(program):
     _, own, commands = whole(program)
     day = time.strftime('%Y-%m-%d', time.gmtime(int(os.environ.get('SOURCE_DATE_EPOCH') or time.time())))
     fill = {
-        '@HEAD@': ['.TH YAMLFMT 1 %s "%s" "User Commands"' % (day, said(program, '--version').strip())],
+        '@HEAD@': ['.TH YAMLFMT 1 %s "%s" "User Commands"' % (day, said(program, '--version').splitlines()[0])],
         '@SYNOPSIS@': synopsis(commands),
         '@COMMANDS@': man_commands(commands),
         '@OPTIONS@': [line for option in own for line in described(option)],

@@ -4,6 +4,7 @@ ghost use Rattle.clap.specs.Words.{App, Rule, app_of, with_rule, with_subcommand
 ghost use Rattle.yamlfmt.specs.CommandLine.{bare_command, config_option, configured, file_word, write_flag, reading_command, writing_command, yamlfmt};
 ghost use Rattle.yamlfmt.specs.CommandLine.{Answers, Asks, AsksFor, IsOption, IsPart, IsRefusal, Lacks, RefusesWords, is_set, verb_word};
 
+use crate::build::build_lines;
 use crate::shown::shown_text;
 use clap::error::ErrorKind;
 use clap::{Arg, ArgAction, ArgMatches, Command, Error};
@@ -221,7 +222,11 @@ fn usage_of(alloc: Global, words: &[String], error: &Error) -> Usage
 {
     match error.kind() {
         ErrorKind::OutOfMemory => Usage::Memory,
-        ErrorKind::DisplayHelp | ErrorKind::DisplayVersion => match text_of(alloc, error) {
+        ErrorKind::DisplayHelp => match text_of(alloc, error) {
+            Ok(text) => Usage::Help(text),
+            Err(_) => Usage::Memory,
+        },
+        ErrorKind::DisplayVersion => match version_text(alloc, error) {
             Ok(text) => Usage::Help(text),
             Err(_) => Usage::Memory,
         },
@@ -234,6 +239,12 @@ fn usage_of(alloc: Global, words: &[String], error: &Error) -> Usage
 
 fn text_of(alloc: Global, error: &Error) -> Result<OwnedText, AllocError> {
     Ok(OwnedText::new(format!(in alloc; "{error}")?))
+}
+
+// The name and the version, and on lines of their own what was built.
+fn version_text(alloc: Global, error: &Error) -> Result<OwnedText, AllocError> {
+    let lines = build_lines(alloc)?;
+    Ok(OwnedText::new(format!(in alloc; "{error}{lines}")?))
 }
 
 // Why the words are refused. They stand in it without their control characters, so it is the refusal of the words that show

@@ -146,7 +146,7 @@ Options:
 ";
 
 /// Lines, and what is printed for them: `0` and the text of help, `3` and why they are refused.
-static SAID: [(&str, &str); 10] = [
+static SAID: [(&str, &str); 8] = [
     ("--help", OVERVIEW),
     ("help", OVERVIEW),
     (
@@ -163,8 +163,6 @@ Options:
   -h, --help           Print help
 ",
     ),
-    ("--version", "0yamlfmt 0.2.0\n"),
-    ("-V", "0yamlfmt 0.2.0\n"),
     (
         "fmt --write",
         "3error: the argument '--write' needs a FILE
@@ -224,5 +222,44 @@ fn says(alloc: Global, line: &str, wanted: &str) -> bool {
 fn says_how_it_is_used_and_what_is_wrong(rt: HostRuntime) {
     for (line, wanted) in &SAID {
         assert!(rt; says(rt.alloc(), line, wanted), "{line}");
+    }
+}
+
+/// Whether a line names a commit by its hash, or says that there was none.
+fn tells_commit(line: &str) -> bool {
+    match line.strip_prefix("commit ") {
+        Some(hash) => hash.len() >= 40 && hash.bytes().all(|byte| byte.is_ascii_hexdigit()),
+        None => line == "built from a checkout",
+    }
+}
+
+/// Whether a text is the name and the version, the commit and the logic, each on a line.
+fn is_version(text: &str) -> bool {
+    let Some(built) = text.strip_prefix("yamlfmt 0.2.0\n") else {
+        return false;
+    };
+    match built.strip_suffix("\nlogic dac8208d650f15bf\n") {
+        Some(line) => tells_commit(line),
+        None => false,
+    }
+}
+
+/// Whether words ask for the version.
+fn are_asking_version(parsed: &Result<Cmd, Usage>) -> bool {
+    match parsed {
+        Err(Usage::Help(text)) => is_version(text.as_str()),
+        _ => false,
+    }
+}
+
+/// Whether a line asks for the version.
+fn asks_version(alloc: Global, line: &str) -> bool {
+    are_asking_version(&parsed(alloc, line))
+}
+
+#[test]
+fn tells_version_commit_and_logic(rt: HostRuntime) {
+    for line in &["--version", "-V"] {
+        assert!(rt; asks_version(rt.alloc(), line), "{line}");
     }
 }

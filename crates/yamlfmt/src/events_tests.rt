@@ -32,12 +32,9 @@ fn prints_node(alloc: Global, input: &str, node: &str) -> bool {
     answer.status == 0 && is_document(answer.output.as_slice(), node)
 }
 
-/// Whether the input is refused with a line that ends so, and nothing is printed.
-fn refuses(alloc: Global, input: &[u8], line_end: &str) -> bool {
-    let answer = events(alloc, input);
-    answer.status == 2
-        && answer.output.is_empty()
-        && answer.line.as_slice().ends_with(line_end.as_bytes())
+/// Whether the input is refused with that line, and nothing is printed.
+fn refuses(alloc: Global, input: &[u8], line: &str) -> bool {
+    events(alloc, input).is(2, "", line)
 }
 
 /// Streams of a bare block collection, and the events of it.
@@ -163,36 +160,29 @@ fn prints_streams(rt: HostRuntime) {
     }
 }
 
-/// Texts that are no streams.
-static NO_STREAMS: [&str; 14] = [
-    "a: b: c\n",
-    "a\nb: c\n",
-    "key: [\n  1\n]\n",
-    "a:\n\tb: 1\n",
-    "- \"\\ud83d\"\n]",
-    "%YAML 1.2\nx\n",
-    "\"a",
-    "[a",
-    "{a: b",
-    "a\0b",
-    "\"a\0b\"",
-    "a\u{FEFF}b",
-    "&a x\n...\n- *a: b\n",
-    "? k\n:- a\n",
+/// Texts that are no streams, and the line of the fault: the leaf, bracket or entry at which reading ended.
+static NO_STREAMS: [(&str, &str); 15] = [
+    ("a: b: c\n", "1:5 refused: syntax\n"),
+    ("a\nb: c\n", "2:2 refused: syntax\n"),
+    ("key: [\n  1\n]\n", "1:6 refused: syntax\n"),
+    ("a:\n\tb: 1\n", "2:1 refused: syntax\n"),
+    ("- \"\\ud83d\"\n]", "2:1 refused: syntax\n"),
+    ("%YAML 1.2\nx\n", "2:1 refused: syntax\n"),
+    ("a: \"x", "1:4 refused: syntax\n"),
+    ("\"a", "1:1 refused: syntax\n"),
+    ("[a", "1:1 refused: syntax\n"),
+    ("{a: b", "1:1 refused: syntax\n"),
+    ("a\0b", "1:2 refused: syntax\n"),
+    ("\"a\0b\"", "1:1 refused: syntax\n"),
+    ("a\u{FEFF}b", "1:2 refused: syntax\n"),
+    ("&a x\n...\n- *a: b\n", "3:7 refused: syntax\n"),
+    ("? k\n:- a\n", "2:5 refused: syntax\n"),
 ];
 
 #[test]
 fn refuses_what_is_no_stream(rt: HostRuntime) {
-    for input in &NO_STREAMS {
-        assert!(rt;
-            refuses(
-                rt.alloc(),
-                input.as_bytes(),
-                " refused: syntax
-",
-            ),
-            "{input}"
-        );
+    for (input, line) in &NO_STREAMS {
+        assert!(rt; refuses(rt.alloc(), input.as_bytes(), line), "{input}");
     }
 }
 
@@ -239,7 +229,7 @@ fn refuses_bytes_that_are_no_text(rt: HostRuntime) {
     }
 }
 
-/// The parts of `repeated`, and the end of the line of a fault, where there is one.
+/// The parts of `repeated`, and the line of the fault, where there is one.
 type Limit = (
     &'static str,
     &'static str,
@@ -252,29 +242,36 @@ type Limit = (
 /// Streams that hold a long key or many open collections.
 static LIMITS: [Limit; 9] = [
     ("", "k", 1024, ": v", 1, None),
-    ("", "k", 1025, ": v", 1, Some("\n")),
-    ("[", "k", 1025, ": v]", 1, Some("\n")),
+    ("", "k", 1025, ": v", 1, Some("1:1026 refused: syntax\n")),
+    ("[", "k", 1025, ": v]", 1, Some("1:1 refused: syntax\n")),
     ("{", "k", 1025, ": v}", 1, None),
     ("", "- ", 1024, "a", 1, None),
     ("", "[", 1024, "]", 1024, None),
-    ("", "- ", 1025, "", 0, Some(" refused: too-deep\n")),
-    ("", "[", 1025, "", 0, Some(" refused: too-deep\n")),
-    ("", "[", 1_000_000, "", 0, Some(" refused: too-deep\n")),
+    ("", "- ", 1025, "", 0, Some("1:2049 refused: too-deep\n")),
+    ("", "[", 1025, "", 0, Some("1:1025 refused: too-deep\n")),
+    (
+        "",
+        "[",
+        1_000_000,
+        "",
+        0,
+        Some("1:1025 refused: too-deep\n"),
+    ),
 ];
 
-/// Whether an input is accepted, or refused with a line that ends so.
-fn is_answered(alloc: Global, input: &[u8], line_end: Option<&str>) -> bool {
-    match line_end {
-        Some(line_end) => refuses(alloc, input, line_end),
+/// Whether an input is accepted, or refused with that line.
+fn is_answered(alloc: Global, input: &[u8], line: Option<&str>) -> bool {
+    match line {
+        Some(line) => refuses(alloc, input, line),
         None => events(alloc, input).status == 0,
     }
 }
 
 /// The same of a row of `LIMITS`.
 fn is_limit(alloc: Global, row: &Limit) -> bool {
-    let (before, part, count, rest, more, line_end) = *row;
+    let (before, part, count, rest, more, line) = *row;
     match repeated(alloc, before, part, count, rest, more) {
-        Ok(input) => is_answered(alloc, input.as_str().as_bytes(), line_end),
+        Ok(input) => is_answered(alloc, input.as_str().as_bytes(), line),
         Err(AllocError) => false,
     }
 }

@@ -8,6 +8,7 @@ mod answer;
 mod answer_tests;
 #[cfg(test)]
 mod answers;
+mod build;
 #[cfg(test)]
 mod check_tests;
 mod command_line;
