@@ -81,7 +81,7 @@ struct Stopped {
 }
 
 /// Reads the longest block node (s-l+block-node(n,c), production 196) from a byte offset on in which no more collections are
-/// open at once than the limit. `n` is the indentation of the collection around it, from -1. Its events, comments and
+/// open at once than the limit. `n` is the indentation of the collection around it, from -1 to 2^30. Its events, comments and
 /// escapes are added to the part; where there is none, the part is cut back to what was there before.
 ///
 /// In other contexts than block-out and block-in there is none.
@@ -143,7 +143,7 @@ fn least_of(n: i32) -> usize
 // Nothing has been read yet of the text, which is read from an offset on.
 fn no_progress<'a>(_text: &str, at: usize, least: usize, out: bool) -> Progress<'a>
     ensures progress { ProgressAt _text.now result }
-    ensures root { (n : ℤ) → (c : Ctx) → TextTied _text.now → pos least ≡ n +ℤ pos 1 → least ≤ 2 ^ 30 → out ≡ is_out c
+    ensures root { (n : ℤ) → (c : Ctx) → TextTied _text.now → pos least ≡ n +ℤ pos 1 → least ≤ 2 ^ 30 + 1 → out ≡ is_out c
         → AtRoot _text.now n c at result }
 {
     Progress {
