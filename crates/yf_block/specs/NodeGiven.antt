@@ -27,10 +27,12 @@ pub record NodeGiven (t : List ℕ) (limit : ℕ) (n : ℤ) (c : Ctx) (at end fl
   pub added : Added before part node.events node.comments node.escapes
   pub floor_is : floor ≡ floor_after 0 node.events
 
--- a node that was found: what the part has more is known where nothing went wrong after it, or where the part had nothing before
+-- a node that was found: what the part has more is known where nothing went wrong after it, or where the part had nothing before; a collection
+-- too many is told only where more openers than the limit stand from the place on
 pub record FoundTied (t : List ℕ) (limit : ℕ) (n : ℤ) (c : Ctx) (at : ℕ) (before : Part) (f : FoundNode) (part : Part) : Type 0 where
   pub whole : f.whole ≡ true → NodeGiven t limit n c at f.end f.floor before part
   pub broken : f.whole ≡ false → Unfinished t limit (Awaited false n c Nothing at)
+  pub deep : f.too_deep ≡ true → limit < openers_from t at
   pub alone : before.events ≡ [] → before.comments ≡ [] → before.escapes ≡ [] → NodeGiven t limit n c at f.end f.floor before part
 
 -- none is derived there

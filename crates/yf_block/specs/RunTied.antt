@@ -26,6 +26,12 @@ StopCounted limit total (Done p) = Unit {0}
 StopCounted limit total (Failed p) = Unit {0}
 StopCounted limit total (TooDeep p) = limit < total
 
+-- whether the limit of open collections is passed
+abbrev pub is_too_deep : Stop → Bool
+is_too_deep (Done p) = false
+is_too_deep (Failed p) = false
+is_too_deep (TooDeep p) = true
+
 -- what is told where no node ends
 abbrev pub StopsAs : Stop → Outcome → Type 0
 StopsAs (Done p) o = o ≡ NoNode p

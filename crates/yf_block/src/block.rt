@@ -65,6 +65,7 @@ pub fn scan_block_node<'a>(alloc: Global, src: &Src<'a>, at: usize, n: i32, ctx:
                     reached: _,
                     floor: _,
                     whole: _,
+                    too_deep: _,
                 },
             ),
         ) => {

@@ -12,7 +12,7 @@ ghost use Rattle.yf_block.specs.Counted.{CountedAt, StepCounted};
 ghost use Rattle.yf_block.specs.Machine.{Standing, MayBoundary, ProgressAt, StoppedAt, StepReady, StopAt, OutcomeAt};
 ghost use Rattle.yf_block.specs.NodeGiven.{Indentation, OutcomeTied, PrefixGiven};
 ghost use Rattle.yf_block.specs.RootTied.{AtBegin, AtRoot};
-ghost use Rattle.yf_block.specs.RunTied.{HaltAt, ReadRoot, RunTied, StopCounted, StopTied, StopsAs};
+ghost use Rattle.yf_block.specs.RunTied.{HaltAt, ReadRoot, RunTied, StopCounted, StopTied, StopsAs, is_too_deep};
 ghost use Rattle.yf_block.specs.StepAnswers.{Answers};
 
 use crate::frame::{Progress, Reader, Scope, Step, Wanted};
@@ -37,6 +37,8 @@ pub struct Found {
     pub floor: usize,
     /// Whether nothing went wrong: the reading came to the node's end, and no more of the text was read.
     pub whole: bool,
+    /// Whether it went wrong because the collection that begins at `reached` would be one more than the limit.
+    pub too_deep: bool,
 }
 
 /// What a reader of block nodes found.
@@ -283,6 +285,7 @@ fn conclude<'a>(
                     reached,
                     floor,
                     whole: true,
+                    too_deep: false,
                 }));
             }
             before.cut(part);
@@ -292,6 +295,7 @@ fn conclude<'a>(
                     reached,
                     floor,
                     whole: false,
+                    too_deep: passes_limit(stopped.stop),
                 })),
                 None => Ok(Outcome::Nothing { reached }),
             }
@@ -311,6 +315,16 @@ fn none_from(stop: Stop) -> Outcome
         Stop::Done(reached) => Outcome::Nothing { reached },
         Stop::Failed(reached) => Outcome::Nothing { reached },
         Stop::TooDeep(place) => Outcome::TooDeep(place),
+    }
+}
+
+// Whether the limit is passed.
+fn passes_limit(stop: Stop) -> bool
+    ensures { result ≡ is_too_deep stop }
+{
+    match stop {
+        Stop::Done(_) | Stop::Failed(_) => false,
+        Stop::TooDeep(_) => true,
     }
 }
 
