@@ -25,6 +25,8 @@ mod fmt_tests;
 mod hostile_tests;
 #[cfg(test)]
 mod laws_tests;
+#[cfg(test)]
+mod limits_tests;
 mod program;
 #[cfg(test)]
 mod program_tests;
