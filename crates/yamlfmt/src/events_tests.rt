@@ -1,11 +1,11 @@
 //! The events of streams, and why streams are refused, in tables of data.
 
-use crate::answers::{Answer, answer_to, are_lines, repeated};
+use crate::answers::{Answer, answer_to, are_lines};
 use crate::command_line::Verb;
-use std::alloc::{AllocError, Global};
+use std::alloc::Global;
 use yf_emit::style::Style;
 
-fn events(alloc: Global, input: &[u8]) -> Answer {
+pub fn events(alloc: Global, input: &[u8]) -> Answer {
     answer_to(alloc, Verb::Events, &[], &Style::house(), input)
 }
 
@@ -226,59 +226,5 @@ static NO_TEXTS: [(&[u8], &str); 2] = [
 fn refuses_bytes_that_are_no_text(rt: HostRuntime) {
     for (input, line) in &NO_TEXTS {
         assert!(rt; refuses(rt.alloc(), input, line), "{line}");
-    }
-}
-
-/// The parts of `repeated`, and the line of the fault, where there is one.
-type Limit = (
-    &'static str,
-    &'static str,
-    usize,
-    &'static str,
-    usize,
-    Option<&'static str>,
-);
-
-/// Streams that hold a long key or many open collections.
-static LIMITS: [Limit; 9] = [
-    ("", "k", 1024, ": v", 1, None),
-    ("", "k", 1025, ": v", 1, Some("1:1026 refused: syntax\n")),
-    ("[", "k", 1025, ": v]", 1, Some("1:1 refused: syntax\n")),
-    ("{", "k", 1025, ": v}", 1, None),
-    ("", "- ", 1024, "a", 1, None),
-    ("", "[", 1024, "]", 1024, None),
-    ("", "- ", 1025, "", 0, Some("1:2049 refused: too-deep\n")),
-    ("", "[", 1025, "", 0, Some("1:1025 refused: too-deep\n")),
-    (
-        "",
-        "[",
-        1_000_000,
-        "",
-        0,
-        Some("1:1025 refused: too-deep\n"),
-    ),
-];
-
-/// Whether an input is accepted, or refused with that line.
-fn is_answered(alloc: Global, input: &[u8], line: Option<&str>) -> bool {
-    match line {
-        Some(line) => refuses(alloc, input, line),
-        None => events(alloc, input).status == 0,
-    }
-}
-
-/// The same of a row of `LIMITS`.
-fn is_limit(alloc: Global, row: &Limit) -> bool {
-    let (before, part, count, rest, more, line) = *row;
-    match repeated(alloc, before, part, count, rest, more) {
-        Ok(input) => is_answered(alloc, input.as_str().as_bytes(), line),
-        Err(AllocError) => false,
-    }
-}
-
-#[test]
-fn counts_characters_of_keys_and_open_collections(rt: HostRuntime) {
-    for row in &LIMITS {
-        assert!(rt; is_limit(rt.alloc(), row), "{} {}", row.1, row.2);
     }
 }

@@ -32,6 +32,8 @@ mod hostile_tests;
 mod inputs;
 #[cfg(test)]
 mod laws_tests;
+#[cfg(test)]
+mod limits_tests;
 mod program;
 #[cfg(test)]
 mod program_tests;

@@ -205,11 +205,13 @@ cut_to_nothing k xs ys zs e f g = g ∙ ap (λ (z : ℕ). take z xs) (e ∙ ap (
 
 -- what the reader answers where it found a node, and the prefix up to it was read again
 pub found_again : {t : List ℕ} {d at : ℕ} {n : ℤ} {c : Ctx} {start cut part : Part} {f : FoundNode} → f.whole ≡ false → Unfinished t d (Awaited false n c Nothing at)
+    → (f.too_deep ≡ true → d < openers_from t at)
     → (start.events ≡ [] → cut.events ≡ start.events) → (start.comments ≡ [] → cut.comments ≡ start.comments) → (start.escapes ≡ [] → cut.escapes ≡ start.escapes)
     → NodeGiven t d n c at f.end f.floor cut part → FoundTied t d n c at start f part
-found_again e z a b g q = record {
+found_again e z o a b g q = record {
   whole = λ w. absurd (true≢false (sym w ∙ e));
   broken = λ w. z;
+  deep = o;
   alone = λ x y w. given_over (a x) (b y) (g w) q;
 }
 

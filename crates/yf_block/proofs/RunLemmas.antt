@@ -1,5 +1,5 @@
 -- A run of the reader of block nodes, from what holds where it stops.
-use Rattle.std.proofs.Common.{◌≡◌, ℕ, ℤ, List, sym, ◌∙◌, subst, arith}
+use Rattle.std.proofs.Common.{◌≡◌, ℕ, ◌<◌, ℤ, true, List, sym, ◌∙◌, subst, true≢false, arith}
 use Rattle.yf_chars.specs.declared.context.Ctx.{Ctx}
 use Rattle.yf_events.specs.declared.part.Part.{Part}
 use Rattle.yf_grammar.specs.BlockParser.{BlockTask}
@@ -13,7 +13,7 @@ use Rattle.yf_flow.specs.Counted.{openers_from}
 use Rattle.yf_block.specs.declared.nodes.Outcome.{Outcome}
 use Rattle.yf_block.specs.Machine.{StepReady, StopAt, OutcomeAt}
 use Rattle.yf_block.specs.NodeGiven.{NoneTied, OutcomeTied}
-use Rattle.yf_block.specs.RunTied.{StopTied, StopCounted, StopGives, StopsAs}
+use Rattle.yf_block.specs.RunTied.{StopTied, StopCounted, StopGives, StopsAs, is_too_deep}
 
 module _ (t : List ℕ) (d : ℕ) (root : BlockTask) (before part : Part) (progress : Progress) (r : Stopped) where
   pub stop_gives : (s : Stop) → r.halt ≡ progress.halt → r.floor ≡ progress.floor → StopTied t d root before s progress part → StopGives t d root before s r part
@@ -36,6 +36,12 @@ pub none_outcome : {t : List ℕ} {limit : ℕ} {n : ℤ} {c : Ctx} {at : ℕ} (
 none_outcome {t} {limit} {n} {c} {at} before part (Done p) o e a q = subst (λ z. OutcomeTied t limit n c at before z part) (sym e) a
 none_outcome {t} {limit} {n} {c} {at} before part (Failed p) o e a q = subst (λ z. OutcomeTied t limit n c at before z part) (sym e) a
 none_outcome {t} {limit} {n} {c} {at} before part (TooDeep p) o e a q = subst (λ z. OutcomeTied t limit n c at before z part) (sym e) (a, q)
+
+-- the limit is passed only where so many openers stand
+pub deep_stop : {limit total : ℕ} (s : Stop) → StopCounted limit total s → is_too_deep s ≡ true → limit < total
+deep_stop (Done p) q e = absurd (true≢false (sym e))
+deep_stop (Failed p) q e = absurd (true≢false (sym e))
+deep_stop (TooDeep p) q e = q
 
 pub none_place : (t : List ℕ) (at : ℕ) (s : Stop) (o : Outcome) → StopsAs s o → StopAt t s → OutcomeAt t at o
 none_place t at (Done p) o e a = subst (λ z. OutcomeAt t at z) (sym e) a

@@ -1,6 +1,6 @@
 -- What holds between two steps of the reader of block nodes: its stack and what it has written are tied to what the recursive reader has read.
 -- The last place at which all may end is where the last halt ends.
-use Rattle.std.specs.Prelude.{◌≡◌, ℕ, ◌^◌, ◌<◌, ◌≤◌, ℤ, pos, ◌+ℤ◌, ◌≤ℤ◌, Bool, true, false, List, [], ◌∷◌, ◌++◌, length, Option, Some, None, ◌⊎◌}
+use Rattle.std.specs.Prelude.{◌≡◌, ℕ, ◌+◌, ◌^◌, ◌<◌, ◌≤◌, ℤ, pos, ◌+ℤ◌, ◌≤ℤ◌, Bool, true, false, List, [], ◌∷◌, ◌++◌, length, Option, Some, None, ◌⊎◌}
 use Rattle.yf_chars.specs.declared.context.Ctx.{Ctx}
 use Rattle.yf_chars.specs.declared.context.Ctx.TheVariants.{BlockOut}
 use Rattle.yf_chars.specs.Chain.{Stuck, Chosen}
@@ -53,7 +53,7 @@ pub record WantedTied (t : List ℕ) (floor : ℕ) (ls : List Layer) (n : ℤ) (
   pub within : (m : ℕ) → n ≤ℤ pos m → AllWithin m ls
   pub nested : a ≡ Nothing → ls ≡ []
   pub rooted : (i : ℕ) → a ≡ Indicator i → ls ≡ [] → ⊥
-  pub narrow : wanted.least ≤ 2 ^ 30
+  pub narrow : wanted.least ≤ 2 ^ 30 + 1
 
 -- a node is awaited after an indicator, which ends there
 pub record AtNode (t : List ℕ) (d : ℕ) (root : BlockTask) (before : Part) (frames : List Frame) (p : ℕ) (progress : Progress) (part : Part) : Type 0 where

@@ -1,6 +1,6 @@
 -- What the reader of block nodes answers: the longest block node within the limit of open collections, written after what a part had; or
 -- that none is derived there.
-use Rattle.std.specs.Prelude.{◌≡◌, ℕ, ◌<◌, ◌^◌, ◌≤◌, ℤ, pos, ◌+ℤ◌, true, false, List, [], Option, Some, None}
+use Rattle.std.specs.Prelude.{◌≡◌, ℕ, ◌+◌, ◌<◌, ◌^◌, ◌≤◌, ℤ, pos, ◌+ℤ◌, true, false, List, [], Option, Some, None}
 use Rattle.yf_chars.specs.declared.context.Ctx.{Ctx}
 use Rattle.yf_chars.specs.Chain.{Stuck, Chosen}
 use Rattle.yf_events.specs.declared.part.Part.{Part}
@@ -14,11 +14,11 @@ use Rattle.yf_block.specs.declared.nodes.Outcome.TheVariants.{Found, Nothing as 
 use Rattle.yf_block.specs.BlockTied.{floor_after}
 use Rattle.yf_block.specs.BlockStepTied.{Unfinished}
 
--- an indentation of a node, from -1; no text of 1 GiB has a column that is not less than 2^30
+-- an indentation of a node, from -1 to 2^30; no text of 1 GiB has a column that is not less than 2^30
 pub record Indentation (n : ℤ) : Type 0 where
   pub least : ℕ
   pub is : pos least ≡ n +ℤ pos 1
-  pub narrow : least ≤ 2 ^ 30
+  pub narrow : least ≤ 2 ^ 30 + 1
 
 -- the node that ends there, as a part of its own, and where its last block scalar ends
 pub record NodeGiven (t : List ℕ) (limit : ℕ) (n : ℤ) (c : Ctx) (at end floor : ℕ) (before part : Part) : Type 0 where
@@ -27,10 +27,12 @@ pub record NodeGiven (t : List ℕ) (limit : ℕ) (n : ℤ) (c : Ctx) (at end fl
   pub added : Added before part node.events node.comments node.escapes
   pub floor_is : floor ≡ floor_after 0 node.events
 
--- a node that was found: what the part has more is known where nothing went wrong after it, or where the part had nothing before
+-- a node that was found: what the part has more is known where nothing went wrong after it, or where the part had nothing before; a collection
+-- too many is told only where more openers than the limit stand from the place on
 pub record FoundTied (t : List ℕ) (limit : ℕ) (n : ℤ) (c : Ctx) (at : ℕ) (before : Part) (f : FoundNode) (part : Part) : Type 0 where
   pub whole : f.whole ≡ true → NodeGiven t limit n c at f.end f.floor before part
   pub broken : f.whole ≡ false → Unfinished t limit (Awaited false n c Nothing at)
+  pub deep : f.too_deep ≡ true → limit < openers_from t at
   pub alone : before.events ≡ [] → before.comments ≡ [] → before.escapes ≡ [] → NodeGiven t limit n c at f.end f.floor before part
 
 -- none is derived there

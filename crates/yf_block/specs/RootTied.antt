@@ -1,5 +1,5 @@
 -- What is known where the reader of block nodes begins, before it has read anything.
-use Rattle.std.specs.Prelude.{◌≡◌, ℕ, ◌^◌, ◌≤◌, ℤ, pos, ◌+ℤ◌, false, List, [], None}
+use Rattle.std.specs.Prelude.{◌≡◌, ℕ, ◌+◌, ◌^◌, ◌≤◌, ℤ, pos, ◌+ℤ◌, false, List, [], None}
 use Rattle.yf_chars.specs.declared.context.Ctx.{Ctx}
 use Rattle.yf_events.specs.declared.part.Part.{Part}
 use Rattle.yf_grammar.specs.BlockParser.{Nothing, BlockTask, Awaited}
@@ -11,7 +11,7 @@ use Rattle.yf_block.specs.BlockStepTied.{is_out}
 pub record AtRoot (t : List ℕ) (n : ℤ) (c : Ctx) (at : ℕ) (progress : Progress) : Type 0 where
   pub text : TextTied t
   pub least : pos progress.wanted.least ≡ n +ℤ pos 1
-  pub narrow : progress.wanted.least ≤ 2 ^ 30
+  pub narrow : progress.wanted.least ≤ 2 ^ 30 + 1
   pub out : progress.wanted.out ≡ is_out c
   pub compact : progress.wanted.compact ≡ false
   pub entry : progress.wanted.entry ≡ None

@@ -1,5 +1,5 @@
 -- What a run of the reader of block nodes gives, from its first step until it stops, in terms of the recursive reader.
-use Rattle.std.specs.Prelude.{◌≡◌, ℕ, ◌<◌, ◌≤◌, ◌^◌, ℤ, pos, ◌+ℤ◌, true, List, [], Option, Some}
+use Rattle.std.specs.Prelude.{◌≡◌, ℕ, ◌+◌, ◌<◌, ◌≤◌, ◌^◌, ℤ, pos, ◌+ℤ◌, Bool, true, false, List, [], Option, Some}
 use Rattle.yf_chars.specs.declared.context.Ctx.{Ctx}
 use Rattle.yf_lines.specs.Basic.{is_block}
 use Rattle.yf_events.specs.declared.part.Part.{Part}
@@ -25,6 +25,12 @@ abbrev pub StopCounted : ℕ → ℕ → Stop → Type 0
 StopCounted limit total (Done p) = Unit {0}
 StopCounted limit total (Failed p) = Unit {0}
 StopCounted limit total (TooDeep p) = limit < total
+
+-- whether the limit of open collections is passed
+abbrev pub is_too_deep : Stop → Bool
+is_too_deep (Done p) = false
+is_too_deep (Failed p) = false
+is_too_deep (TooDeep p) = true
 
 -- what is told where no node ends
 abbrev pub StopsAs : Stop → Outcome → Type 0
@@ -63,7 +69,7 @@ pub record ReadRoot (t : List ℕ) (root : Root) (n : ℤ) (c : Ctx) : Type 0 wh
   pub text : TextTied t
   pub block : is_block c ≡ true
   pub least : pos root.least ≡ n +ℤ pos 1
-  pub narrow : root.least ≤ 2 ^ 30
+  pub narrow : root.least ≤ 2 ^ 30 + 1
   pub out : root.out ≡ is_out c
 
 -- the last place at which all open nodes may end

@@ -1,5 +1,5 @@
 -- A block scalar as a node: its header stands where the node is awaited; and its lines after the header, as the reader has them.
-use Rattle.std.specs.Prelude.{◌≡◌, ℕ, ◌^◌, ◌≤◌, ℤ, pos, ◌+ℤ◌, List, ◌++◌, length, Option}
+use Rattle.std.specs.Prelude.{◌≡◌, ℕ, ◌+◌, ◌^◌, ◌≤◌, ℤ, pos, ◌+ℤ◌, List, ◌++◌, length, Option}
 use Rattle.yf_chars.specs.Chain.{Chosen}
 use Rattle.yf_lines.specs.Lines.{Unbroken}
 use Rattle.yf_comments.specs.Comment.{CommentValue}
@@ -31,7 +31,7 @@ pub record AtScalar (t : List ℕ) (d : ℕ) (root : BlockTask) (before : Part) 
   pub halt : Option Found
   pub node : NodeAt t d root layers room comments (Leaf indentation ahead p) halt
   pub least_is : pos least ≡ indentation +ℤ pos 1
-  pub narrow : least ≤ 2 ^ 30
+  pub narrow : least ≤ 2 ^ 30 + 1
   pub sign : ScalarSignAt t p
   pub lead_is : LeadTied ahead p lead
   pub entry : EntryTied t progress.floor (layers_entry layers) lead.entry

@@ -17,7 +17,7 @@ use yf_lines::fault::Fault;
 use yf_lines::source_text::Src;
 
 /// Reads a block node (s-l+block-node(n,c), production 196) from a byte offset on: its events and comments, each with its
-/// place, and the offset after it. `n` is the indentation of the collection around it, from -1.
+/// place, and the offset after it. `n` is the indentation of the collection around it, from -1 to 2^30.
 ///
 /// The node is the longest that stands there: where the text goes wrong later, it ends at the last place at which all open
 /// nodes may end. `None` where no block node begins there in that context. In other contexts than block-out and block-in
@@ -65,6 +65,7 @@ pub fn scan_block_node<'a>(alloc: Global, src: &Src<'a>, at: usize, n: i32, ctx:
                     reached: _,
                     floor: _,
                     whole: _,
+                    too_deep: _,
                 },
             ),
         ) => {

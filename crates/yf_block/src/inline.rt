@@ -51,7 +51,7 @@ pub(crate) fn read_inline<'a>(
     requires boundary { IsCharBoundary scope.text.now at }
     requires properties { PropertiesBefore scope.text.now at inner.now }
     requires escapes { All (IsCharBoundary scope.text.now) part.old.escapes }
-    ensures answers { IsUtf8 scope.entry.text.now → least ≤ 2 ^ 30 → (room : ℕ) → depth + room ≡ scope.entry.limit
+    ensures answers { IsUtf8 scope.entry.text.now → least ≤ 2 ^ 30 + 1 → (room : ℕ) → depth + room ≡ scope.entry.limit
         → IfOk result (λ e. InlineEnds scope.entry.text.now room (pos least) at depth inner.now lead.now part.old part.new e) }
     ensures escapes { IfOk result (λ _. All (IsCharBoundary scope.entry.text.now) part.new.escapes) }
     ensures found { IfOk result (λ e. EndingAt scope.entry.text.now (earliest_end at inner.now) e) }
@@ -136,13 +136,13 @@ fn inline_end(end: usize, depth: usize) -> Ending
     })
 }
 
-// More columns than any text of 1 GiB has.
-const WIDEST: usize = 1 << 30;
+// One more than the largest indentation of a collection, which is more than any text of 1 GiB has columns.
+const WIDEST: usize = (1 << 30) + 1;
 
-/// The indentation of that many spaces as a number; past 2^30 it is 2^30.
+/// The indentation of that many spaces as a number; past 2^30 + 1 it is 2^30 + 1.
 pub(crate) fn flow_indentation(least: usize) -> i32
-    ensures same { least ≤ 2 ^ 30 → result ≡ pos least }
-    ensures upper { result ≤ℤ pos (2 ^ 30) }
+    ensures same { least ≤ 2 ^ 30 + 1 → result ≡ pos least }
+    ensures upper { result ≤ℤ pos (2 ^ 30 + 1) }
     ensures lower { pos 0 ≤ℤ result }
 {
     least.min(WIDEST) as i32
@@ -303,7 +303,7 @@ fn begin_mapping<'a>(
     requires place { IsCharBoundary scope.text.now after.now.at }
     requires properties { PropertiesBefore scope.text.now after.now.at after.now.inner }
     requires escapes { All (IsCharBoundary scope.text.now) part.old.escapes }
-    ensures key { (earlier : Part) → (room : ℕ) → IsUtf8 scope.entry.text.now → wanted.now.least ≤ 2 ^ 30
+    ensures key { (earlier : Part) → (room : ℕ) → IsUtf8 scope.entry.text.now → wanted.now.least ≤ 2 ^ 30 + 1
         → depth + room ≡ scope.entry.limit
         → KeyRead scope.entry.text.now room (pos wanted.now.least) depth after.now facts.now wanted.now earlier part.old
         → IfOk result (λ _. KeyOrLost scope.entry.text.now room (pos wanted.now.least) depth after.now entry
@@ -337,7 +337,7 @@ fn begin_held_mapping<'a>(
     requires place { IsCharBoundary scope.text.now after.now.at }
     requires properties { PropertiesBefore scope.text.now after.now.at after.now.inner }
     requires escapes { All (IsCharBoundary scope.text.now) part.old.escapes }
-    ensures key { (earlier : Part) → (room : ℕ) → IsUtf8 scope.entry.text.now → wanted.now.least ≤ 2 ^ 30
+    ensures key { (earlier : Part) → (room : ℕ) → IsUtf8 scope.entry.text.now → wanted.now.least ≤ 2 ^ 30 + 1
         → depth + room ≡ scope.entry.limit
         → KeyRead scope.entry.text.now room (pos wanted.now.least) depth after.now facts.now wanted.now earlier part.old
         → IfOk result (λ _. KeyOrLost scope.entry.text.now room (pos wanted.now.least) depth after.now entry

@@ -12,7 +12,7 @@ ghost use Rattle.yf_block.specs.Counted.{CountedAt, StepCounted};
 ghost use Rattle.yf_block.specs.Machine.{Standing, MayBoundary, ProgressAt, StoppedAt, StepReady, StopAt, OutcomeAt};
 ghost use Rattle.yf_block.specs.NodeGiven.{Indentation, OutcomeTied, PrefixGiven};
 ghost use Rattle.yf_block.specs.RootTied.{AtBegin, AtRoot};
-ghost use Rattle.yf_block.specs.RunTied.{HaltAt, ReadRoot, RunTied, StopCounted, StopTied, StopsAs};
+ghost use Rattle.yf_block.specs.RunTied.{HaltAt, ReadRoot, RunTied, StopCounted, StopTied, StopsAs, is_too_deep};
 ghost use Rattle.yf_block.specs.StepAnswers.{Answers};
 
 use crate::frame::{Progress, Reader, Scope, Step, Wanted};
@@ -37,6 +37,8 @@ pub struct Found {
     pub floor: usize,
     /// Whether nothing went wrong: the reading came to the node's end, and no more of the text was read.
     pub whole: bool,
+    /// Whether it went wrong because the collection that begins at `reached` would be one more than the limit.
+    pub too_deep: bool,
 }
 
 /// What a reader of block nodes found.
@@ -81,7 +83,7 @@ struct Stopped {
 }
 
 /// Reads the longest block node (s-l+block-node(n,c), production 196) from a byte offset on in which no more collections are
-/// open at once than the limit. `n` is the indentation of the collection around it, from -1. Its events, comments and
+/// open at once than the limit. `n` is the indentation of the collection around it, from -1 to 2^30. Its events, comments and
 /// escapes are added to the part; where there is none, the part is cut back to what was there before.
 ///
 /// In other contexts than block-out and block-in there is none.
@@ -143,7 +145,7 @@ fn least_of(n: i32) -> usize
 // Nothing has been read yet of the text, which is read from an offset on.
 fn no_progress<'a>(_text: &str, at: usize, least: usize, out: bool) -> Progress<'a>
     ensures progress { ProgressAt _text.now result }
-    ensures root { (n : ℤ) → (c : Ctx) → TextTied _text.now → pos least ≡ n +ℤ pos 1 → least ≤ 2 ^ 30 → out ≡ is_out c
+    ensures root { (n : ℤ) → (c : Ctx) → TextTied _text.now → pos least ≡ n +ℤ pos 1 → least ≤ 2 ^ 30 + 1 → out ≡ is_out c
         → AtRoot _text.now n c at result }
 {
     Progress {
@@ -283,6 +285,7 @@ fn conclude<'a>(
                     reached,
                     floor,
                     whole: true,
+                    too_deep: false,
                 }));
             }
             before.cut(part);
@@ -292,6 +295,7 @@ fn conclude<'a>(
                     reached,
                     floor,
                     whole: false,
+                    too_deep: passes_limit(stopped.stop),
                 })),
                 None => Ok(Outcome::Nothing { reached }),
             }
@@ -311,6 +315,16 @@ fn none_from(stop: Stop) -> Outcome
         Stop::Done(reached) => Outcome::Nothing { reached },
         Stop::Failed(reached) => Outcome::Nothing { reached },
         Stop::TooDeep(place) => Outcome::TooDeep(place),
+    }
+}
+
+// Whether the limit is passed.
+fn passes_limit(stop: Stop) -> bool
+    ensures { result ≡ is_too_deep stop }
+{
+    match stop {
+        Stop::Done(_) | Stop::Failed(_) => false,
+        Stop::TooDeep(_) => true,
     }
 }
 

@@ -126,7 +126,7 @@ fn read_lines<'a>(
     requires boundary { IsCharBoundary scope.text.now at }
     requires starts { at < length scope.text.now → LineStart scope.text.now at }
     ensures place { IfOk result (λ o. IfSome o (λ b. Place scope.entry.text.now at b.next)) }
-    ensures reads { least ≤ 2 ^ 30 → (n : ℤ) → pos least ≡ n +ℤ pos 1
+    ensures reads { least ≤ 2 ^ 30 + 1 → (n : ℤ) → pos least ≡ n +ℤ pos 1
         → IfOk result (λ o. MatchOption o (Stuck (Body scope.entry.text.now n header at))
         (λ b. (b.header ≡ header) × Chosen (Body scope.entry.text.now n header at) b.next (body_value b))) }
 {
@@ -144,7 +144,7 @@ fn read_lines<'a>(
 
 // The indentation of the collection around a node whose lines are indented by that many spaces at least.
 fn outer_indentation(least: usize) -> i32
-    ensures same { least ≤ 2 ^ 30 → pos least ≡ result +ℤ pos 1 }
+    ensures same { least ≤ 2 ^ 30 + 1 → pos least ≡ result +ℤ pos 1 }
     ensures upper { result ≤ℤ pos (2 ^ 30) }
 {
     flow_indentation(least) - 1

@@ -58,19 +58,19 @@ module _ (t : List ℕ) where
         parts = grown_by a g.node g.added.events g.added.comments g.added.escapes d;
       }
 
-  pub root_found : {at : ℕ} {a b : Parts} {f : FoundNode} (next : Next) → FoundTied t DEPTH (pos 0 -ℤ pos 1) BlockIn at a.part f b.part → b.documents ≡ a.documents → FoundRead f next
-      → RootRead t at a b next
-  root_found {a = a} {b = b} (Go after) x d e = root_read (node_ends a b x d e)
-  root_found (Syntax place) x d e = no_root (no_node_of (x.broken e.0))
-  root_found (TooDeep place) x d e = absurd e
-
-  pub root_none : {at place : ℕ} {a b : Parts} → NoneTied t DEPTH (pos 0 -ℤ pos 1) BlockIn at → RootRead t at a b (Syntax place)
-  root_none n = no_root (none_derived n.none)
-
   fewer_openers : (i : ℕ) → openers_from t i ≤ openers t
   unfolding openers_from
   fewer_openers i =
       let all : sum_by (λ c. cond (is_opener c) 1 0) (take i t) + openers (drop i t) ≡ openers t = sum_by-take-drop (λ c. cond (is_opener c) 1 0) t i in omega arith
+
+  pub root_found : {at : ℕ} {a b : Parts} {f : FoundNode} (next : Next) → FoundTied t DEPTH (pos 0 -ℤ pos 1) BlockIn at a.part f b.part → b.documents ≡ a.documents → FoundRead f next
+      → RootRead t at a b next
+  root_found {a = a} {b = b} (Go after) x d e = root_read (node_ends a b x d e)
+  root_found (Syntax place) x d e = no_root (no_node_of (x.broken e.0))
+  root_found {at = at} (TooDeep place) x d e = let l = x.deep e.1 in let m = fewer_openers at in root_too_deep (no_node_of (x.broken e.0)) (omega arith)
+
+  pub root_none : {at place : ℕ} {a b : Parts} → NoneTied t DEPTH (pos 0 -ℤ pos 1) BlockIn at → RootRead t at a b (Syntax place)
+  root_none n = no_root (none_derived n.none)
 
   pub root_deep : {at place : ℕ} {a b : Parts} → NoneTied t DEPTH (pos 0 -ℤ pos 1) BlockIn at → DEPTH < openers_from t at → RootRead t at a b (TooDeep place)
   root_deep {at} n l = let m = fewer_openers at in root_too_deep (none_derived n.none) (omega arith)

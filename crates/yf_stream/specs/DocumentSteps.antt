@@ -83,7 +83,7 @@ EmptyAdded end cs a b (Go after) = EmptyTo end cs a b after
 EmptyAdded end cs a b (Syntax place) = ⊥
 EmptyAdded end cs a b (TooDeep place) = ⊥
 
--- a node was found: the reading goes on after it where nothing went wrong
+-- a node was found: the reading goes on after it where nothing went wrong; else it went wrong there, as too deep or not
 pub record FoundTo (f : FoundNode) (after : Spot) : Type 0 where
   pub whole : f.whole ≡ true
   pub at : after.at ≡ f.end
@@ -93,8 +93,8 @@ pub record FoundTo (f : FoundNode) (after : Spot) : Type 0 where
 
 abbrev pub FoundRead : FoundNode → Next → Type 0
 FoundRead f (Go after) = FoundTo f after
-FoundRead f (Syntax place) = (f.whole ≡ false) × (place ≡ f.reached)
-FoundRead f (TooDeep place) = ⊥
+FoundRead f (Syntax place) = (f.whole ≡ false) × (f.too_deep ≡ false) × (place ≡ f.reached)
+FoundRead f (TooDeep place) = (f.whole ≡ false) × (f.too_deep ≡ true) × (place ≡ f.reached)
 
 -- a document from its `---` on, with these directives
 pub data MarkedRead (t : List ℕ) (at : ℕ) (ds : List Directive) (a b : Parts) : Next → Type 0 where

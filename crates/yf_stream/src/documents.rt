@@ -259,7 +259,7 @@ impl<'a> Parts<'a> {
         Ok(Next::Go(Spot::behind_node(end, 0, end)))
     }
 
-    // Reads the node of a document. Where it was found, and nothing was left of it where its reading went wrong, the next line follows.
+    // Reads the node of a document. Where it was found, and its reading did not go wrong after it, the next line follows.
     fn root_node(&mut self, source: Source<'a>, at: usize) -> Result<Next, AllocError>
         requires boundary { IsCharBoundary source.text.now at }
         requires parts { PartsAt source.text.now self.old }
@@ -330,12 +330,15 @@ fn empty_end<'a>(source: Source<'a>, at: usize) -> Result<Option<Separation<'a>>
     }
 }
 
-// What comes after a node that was found: the next line, if nothing was left of the node where its reading went wrong.
+// What comes after a node that was found: the next line, if its reading did not go wrong after it.
 fn behind_found(found: Found) -> Next
     ensures { FoundRead found result }
 {
     if found.whole {
         return Next::Go(Spot::behind_node(found.end, found.floor, found.reached));
+    }
+    if found.too_deep {
+        return Next::TooDeep(found.reached);
     }
     Next::Syntax(found.reached)
 }

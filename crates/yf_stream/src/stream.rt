@@ -1,5 +1,5 @@
 //! The reader of whole streams.
-ghost use Rattle.std.specs.Prelude.{◌≡◌, ◌+◌, ◌-◌, ◌<◌, ◌≤◌, ◌^◌, [], length, IfErr, IfOk, IfSome, MatchOption, MatchResult};
+ghost use Rattle.std.specs.Prelude.{◌≡◌, ◌+◌, ◌-◌, ◌<◌, ◌≤◌, ◌^◌, [], length, Err, IfErr, IfOk, IfSome, MatchOption, MatchResult};
 ghost use Rattle.std.specs.Str.{IsCharBoundary};
 ghost use Rattle.yf_events.specs.Nested.{IsStream};
 ghost use Rattle.yf_events.specs.Reading.{Fits, events_of};
@@ -60,11 +60,13 @@ pub const LONGEST: usize = 1 << 30;
 /// (`EscapeValue`). `Fault::Memory` may come in the place of each answer, where a growth of memory was refused; a text of more than `LONGEST`
 /// bytes is always answered so.
 ///
-/// A reading is the text's and its only one, and a fault comes only for its cause (`reads`).
+/// A reading is the text's and its only one, and a fault comes only for its cause (`reads`). So a reading is given of texts of `LONGEST` bytes at
+/// most (`long`).
 pub fn read_stream<'a>(alloc: Global, text: &'a str) -> Result<Reading<'a>, Fault>
     ensures faults { IfErr result (λ fault. IsStreamFault text.now fault) }
     ensures made { MadeReading text.now result }
     ensures reads { StreamReader.ReadsStream text.now result }
+    ensures long { 2 ^ 30 < length text.now → result ≡ Err Fault.Memory }
 {
     if text.len() > LONGEST {
         return Err(Fault::Memory);

@@ -188,18 +188,49 @@ fn is_scanned(alloc: Global, text: &str, wanted: Wanted) -> bool {
     }
 }
 
-/// Texts of sequences and of keys: a part, how many times it stands, what follows, and the node that begins the text.
-static LIMITS: [(&str, usize, &str, Wanted); 4] = [
-    ("- ", 1024, "a", Wanted::End(2049)),
-    ("- ", 1025, "a", Wanted::TooDeep),
-    ("k", 1024, ": v", Wanted::End(1027)),
-    ("k", 1025, ": v", Wanted::Nothing),
+/// What stands first, a part, how many times it stands, what follows, and the node that begins the text.
+type Limit = (&'static str, &'static str, usize, &'static str, Wanted);
+
+/// Texts of sequences and of keys. What is good before a collection that is one too many is a node.
+static LIMITS: [Limit; 6] = [
+    ("", "- ", 1024, "a", Wanted::End(2049)),
+    ("", "- ", 1025, "a", Wanted::TooDeep),
+    ("", "k", 1024, ": v", Wanted::End(1027)),
+    ("", "k", 1025, ": v", Wanted::Nothing),
+    ("- a\n- ", "[", 1024, "]", Wanted::End(4)),
+    ("a: b\nc: ", "[", 1024, "]", Wanted::End(5)),
 ];
 
-/// Whether the node that begins such a text is the one that is wanted.
-fn is_limit(alloc: Global, part: &str, count: usize, rest: &str, wanted: Wanted) -> bool {
-    match &repeated(alloc, "", part, count, rest, 1) {
-        Ok(text) => is_scanned(alloc, text.as_str(), wanted),
+/// Whether what is read ends where it is wanted, is nothing, or is nested too deep.
+fn is_end(found: &Answer, wanted: Wanted) -> bool {
+    match found {
+        Ok(Some(node)) => matches!(wanted, Wanted::End(end) if end == node.end),
+        Ok(None) => matches!(wanted, Wanted::Nothing),
+        Err(Fault::TooDeep { .. }) => matches!(wanted, Wanted::TooDeep),
+        Err(_) => false,
+    }
+}
+
+/// Whether the node that begins the source is read so, and scanned so.
+fn is_limit_of(alloc: Global, src: &Src, wanted: Wanted) -> bool {
+    src.text().is_char_boundary(0)
+        && is_end(&read_block_node(alloc, src, 0, -1, Ctx::BlockIn), wanted)
+        && is_node(alloc, src, wanted)
+}
+
+/// The same of a text.
+fn is_at_limit(alloc: Global, text: &str, wanted: Wanted) -> bool {
+    match &Src::new(alloc, text) {
+        Ok(src) => is_limit_of(alloc, src, wanted),
+        Err(AllocError) => false,
+    }
+}
+
+/// The same of the text of a row.
+fn is_limit(alloc: Global, row: &Limit) -> bool {
+    let (before, part, count, rest, wanted) = *row;
+    match &repeated(alloc, before, part, count, rest, 1) {
+        Ok(text) => is_at_limit(alloc, text.as_str(), wanted),
         Err(AllocError) => false,
     }
 }
@@ -215,11 +246,8 @@ fn scans_nodes(rt: HostRuntime) {
     for text in &REFUSED {
         assert!(rt; is_scanned(rt.alloc(), text, Wanted::Nothing), "{text}");
     }
-    for (part, count, rest, wanted) in &LIMITS {
-        assert!(rt;
-            is_limit(rt.alloc(), part, *count, rest, *wanted),
-            "{part} {count}"
-        );
+    for row in &LIMITS {
+        assert!(rt; is_limit(rt.alloc(), row), "{}{} {}", row.0, row.1, row.2);
     }
 }
 
@@ -257,8 +285,8 @@ static PLACES: [[usize; 5]; 6] = [
     [21, 22, 19, 0, 1],
 ];
 
-/// Whether what is found in that text ends and goes wrong where it should.
-fn is_cut(found: &Result<Outcome, AllocError>) -> bool {
+/// Whether what is found in that text ends and goes wrong where it should, as too deep or not.
+fn is_cut(found: &Result<Outcome, AllocError>, deep: bool) -> bool {
     match found {
         Ok(
             Outcome::Found(
@@ -267,15 +295,16 @@ fn is_cut(found: &Result<Outcome, AllocError>) -> bool {
                     reached,
                     floor,
                     whole,
+                    too_deep,
                 },
             ),
-        ) => *end == 27 && *reached == 39 && *floor == 14 && !*whole,
+        ) => *end == 27 && *reached == 39 && *floor == 14 && !*whole && *too_deep == deep,
         _ => false,
     }
 }
 
-/// Whether a node is read from that text up to where it goes wrong, with those places.
-fn reads_cut(alloc: Global) -> bool {
+/// Whether a node is read from that text up to where it goes wrong, with those places, where so many collections may be open.
+fn reads_cut(alloc: Global, limit: usize, deep: bool) -> bool {
     if !CUT.is_char_boundary(0) {
         return false;
     }
@@ -284,12 +313,15 @@ fn reads_cut(alloc: Global) -> bool {
         comments: Comments::new(alloc),
         escapes: Row::new(alloc),
     };
-    is_cut(&block_node_in(alloc, CUT, 0, -1, Ctx::BlockIn, 1024, &mut part))
-        && are_places(&part.events, &PLACES)
+    is_cut(
+        &block_node_in(alloc, CUT, 0, -1, Ctx::BlockIn, limit, &mut part),
+        deep,
+    ) && are_places(&part.events, &PLACES)
 }
 
 #[test]
 fn keeps_places_and_the_first_bad_escape(rt: HostRuntime) {
     assert!(rt; is_refused(rt.alloc(), "- \"\\ud83d\"\n- [", 4));
-    assert!(rt; reads_cut(rt.alloc()));
+    assert!(rt; reads_cut(rt.alloc(), 4, false));
+    assert!(rt; reads_cut(rt.alloc(), 3, true));
 }

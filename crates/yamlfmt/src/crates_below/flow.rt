@@ -241,11 +241,36 @@ static LIMITS: [Limit; 6] = [
     ("{", "k", 1025, ": v}", 1, Wanted::End(1030)),
 ];
 
-/// Whether the node that begins the text is scanned so.
+/// Whether what is read ends where it is wanted, is nothing, or is nested too deep.
+fn is_end(found: &Answer, wanted: Wanted) -> bool {
+    match found {
+        Ok(Some(node)) => matches!(wanted, Wanted::End(end) if end == node.end),
+        Ok(None) => matches!(wanted, Wanted::Nothing),
+        Err(Fault::TooDeep { .. }) => matches!(wanted, Wanted::TooDeep),
+        Err(_) => false,
+    }
+}
+
+/// Whether the node that begins the source is read so, and scanned so.
+fn is_limit_of(alloc: Global, src: &Src, wanted: Wanted) -> bool {
+    src.text().is_char_boundary(0)
+        && is_end(&read_flow_node(alloc, src, 0, 0, Ctx::FlowOut), wanted)
+        && is_node_wanted(alloc, src, 0, wanted)
+}
+
+/// The same of a text.
+fn is_at_limit(alloc: Global, text: &str, wanted: Wanted) -> bool {
+    match &Src::new(alloc, text) {
+        Ok(src) => is_limit_of(alloc, src, wanted),
+        Err(AllocError) => false,
+    }
+}
+
+/// The same of the text of a row.
 fn is_limit(alloc: Global, row: &Limit) -> bool {
     let (before, part, count, rest, more, wanted) = *row;
     match &repeated(alloc, before, part, count, rest, more) {
-        Ok(text) => is_scanned(alloc, text.as_str(), 0, wanted),
+        Ok(text) => is_at_limit(alloc, text.as_str(), wanted),
         Err(AllocError) => false,
     }
 }

@@ -19,7 +19,7 @@ returns-in_ok-stopped-in-Some-clause-tied c = λ b i l.
       text = record { utf8 = c.utf8.text; size = l };
       block = b;
       least = ap (λ (z : ℕ). pos z) e ∙ i.is;
-      narrow = subst (λ (z : ℕ). z ≤ 1073741824) (sym e) i.narrow;
+      narrow = subst (λ (z : ℕ). z ≤ 1073741825) (sym e) i.narrow;
       out = c.in-Some.ensures.1;
     } in
     c.conclude.ensures.tied c.args.n c.args.ctx c.args.part.now c.ranges.limit.fits root

@@ -1,14 +1,14 @@
-use Rattle.std.proofs.Common.{refl, true≢false, arith}
+use Rattle.std.proofs.Common.{◌∙◌, refl, sym, true≢false, arith}
 use Rattle.std.proofs.lemmas.List.Elements.{All-take, All-same}
 use Rattle.std.specs.Str.{IsCharBoundary}
 use Rattle.yf_block.proofs.NodesGiven.{run_halts, halt_at, whole_given, run_unfinished, run_unended, unmoved_given, found_again, cut_to_nothing}
-use Rattle.yf_block.proofs.RunLemmas.{none_outcome, none_place}
+use Rattle.yf_block.proofs.RunLemmas.{none_outcome, none_place, deep_stop}
 use Rattle.yf_block.proofs.nodes.conclude.Goals as goal
 
 pub returns-then-ends_whole-clause-tied : goal.returns-then-ends_whole-clause-tied
 returns-then-ends_whole-clause-tied c = λ n ctx start j r run count before.
     let given = whole_given r.text.utf8 r.block c.args.root.least r.least c.if-ends_whole.ensures run in
-    record { whole = λ _. given; broken = λ q. absurd (true≢false q); alone = λ _ _ _. given }
+    record { whole = λ _. given; broken = λ q. absurd (true≢false q); deep = λ q. absurd (true≢false (sym q)); alone = λ _ _ _. given }
 
 pub read_prefix-requires-clause-escapes : goal.read_prefix-requires-clause-escapes
 read_prefix-requires-clause-escapes c = All-same (IsCharBoundary c.args.scope.text.now) _ _ c.cut.ensures.escapes (All-take (IsCharBoundary c.args.scope.text.now) c.args.before.escapes c.args.part.now.escapes c.requires.escapes)
@@ -17,6 +17,7 @@ pub returns-in-Some-2-clause-tied : goal.returns-in-Some-2-clause-tied
 returns-in-Some-2-clause-tied c = λ n ctx start j r run count before.
     let h = halt_at (run_halts run) c.in-Some.ensures.0 in
     found_again refl (run_unfinished r.text.utf8 r.block c.args.root.least r.least run c.in-Some.ensures.0 c.if-ends_whole.ensures)
+    (λ e. deep_stop c.args.stopped.stop count (sym c.passes_limit.ensures ∙ e))
     (λ x. cut_to_nothing c.args.before.events c.args.part.now.events start.events c.cut.new.part.events before.events x c.cut.ensures.events)
     (λ x. cut_to_nothing c.args.before.comments c.args.part.now.comments start.comments c.cut.new.part.comments before.comments x c.cut.ensures.comments)
     (λ x. cut_to_nothing c.args.before.escapes c.args.part.now.escapes start.escapes c.cut.new.part.escapes before.escapes x c.cut.ensures.escapes)
