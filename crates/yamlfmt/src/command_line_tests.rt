@@ -228,7 +228,9 @@ fn says_how_it_is_used_and_what_is_wrong(rt: HostRuntime) {
 /// Whether a line names a commit by its hash, or says that there was none.
 fn tells_commit(line: &str) -> bool {
     match line.strip_prefix("commit ") {
-        Some(hash) => hash.len() >= 40 && hash.bytes().all(|byte| byte.is_ascii_hexdigit()),
+        Some(hash) => {
+            hash.len() >= 40 && hash.as_bytes().iter().all(|byte| byte.is_ascii_hexdigit())
+        }
         None => line == "built from a checkout",
     }
 }
@@ -259,7 +261,6 @@ fn asks_version(alloc: Global, line: &str) -> bool {
 
 #[test]
 fn tells_version_commit_and_logic(rt: HostRuntime) {
-    for line in &["--version", "-V"] {
-        assert!(rt; asks_version(rt.alloc(), line), "{line}");
-    }
+    assert!(rt; asks_version(rt.alloc(), "--version"));
+    assert!(rt; asks_version(rt.alloc(), "-V"));
 }
