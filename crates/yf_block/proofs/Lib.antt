@@ -37,6 +37,7 @@ pub mod TiedScalar
 pub mod ContentSteps
 -- for further theorems
 pub mod NodesGiven
+pub mod OtherContexts
 pub mod NotingLemmas
 pub mod RunLemmas
 pub mod HashNodes

@@ -1,4 +1,4 @@
--- What the readers of block nodes answer in the two block contexts, as those of flow nodes do in theirs.
+-- What the readers of block nodes answer, as those of flow nodes do. In other contexts than the two block contexts there is none.
 use Rattle.std.specs.Prelude.{ℕ, ℤ, List, Option, Result}
 use Rattle.yf_chars.specs.declared.context.Ctx.{Ctx}
 use Rattle.yf_lines.specs.declared.fault.Fault.{Fault}

@@ -31,7 +31,7 @@ pub fn read_block_node<'a>(alloc: Global, src: &Src<'a>, at: usize, n: i32, ctx:
     requires { IsCharBoundary src.now.text at }
     ensures place { MatchResult result (λ o. IfSome o (λ p. Place src.now.text (at + 1) p.end)) (IsReadFault src.now.text) }
     ensures escapes { IfOk result (λ o. IfSome o (λ p. p.part.escapes ≡ [])) }
-    ensures reads { is_block ctx ≡ true → Indentation n → length src.now.text ≤ 2 ^ 30 → ReadsBlockNode src.now.text n ctx at result }
+    ensures reads { Indentation n → length src.now.text ≤ 2 ^ 30 → ReadsBlockNode src.now.text n ctx at result }
     ensures other { is_block ctx ≡ false → result ≡ Ok None }
 {
     match scan_block_node(alloc, src, at, n, ctx) {
@@ -53,7 +53,7 @@ pub fn scan_block_node<'a>(alloc: Global, src: &Src<'a>, at: usize, n: i32, ctx:
     requires { IsCharBoundary src.now.text at }
     ensures place { MatchResult result (λ o. IfSome o (λ p. Place src.now.text (at + 1) p.end)) (IsScanFault src.now.text) }
     ensures escapes { IfOk result (λ o. IfSome o (λ p. IsFirstPlace src.now.text p.part.escapes p.escape)) }
-    ensures reads { is_block ctx ≡ true → Indentation n → length src.now.text ≤ 2 ^ 30 → ScansBlockNode src.now.text n ctx at result }
+    ensures reads { Indentation n → length src.now.text ≤ 2 ^ 30 → ScansBlockNode src.now.text n ctx at result }
     ensures other { is_block ctx ≡ false → result ≡ Ok None }
 {
     let mut part = new_part(alloc);

@@ -36,4 +36,5 @@ pub mod TiedValues
 -- for further theorems
 pub mod CountLemmas
 pub mod NodeEnds
+pub mod OtherContexts
 pub mod ReadersLemmas

@@ -1,5 +1,4 @@
--- What the readers of nodes answer in the flow and key contexts. In the two block contexts they answer that there is no node, and
--- `FlowNode` derives none there.
+-- What the readers of nodes answer. In the two block contexts `FlowNode` derives no node, and they answer that there is none.
 use Rattle.std.specs.Prelude.{◌≡◌, ℕ, ℤ, List, [], Option, Result, MatchOption, MatchResult}
 use Rattle.std.specs.Str.{IsCharBoundary}
 use Rattle.yf_chars.specs.declared.context.Ctx.{Ctx}

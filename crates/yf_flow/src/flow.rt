@@ -55,7 +55,7 @@ pub fn read_flow_node<'a>(alloc: Global, src: &Src<'a>, at: usize, n: i32, ctx: 
     requires { IsCharBoundary src.now.text at }
     ensures place { MatchResult result (λ o. IfSome o (λ p. Place src.now.text (at + 1) p.end)) (IsReadFault src.now.text) }
     ensures escapes { IfOk result (λ o. IfSome o (λ p. p.part.escapes ≡ [])) }
-    ensures reads { is_block ctx ≡ false → ReadsFlowNode src.now.text n ctx at result }
+    ensures reads { ReadsFlowNode src.now.text n ctx at result }
     ensures block { is_block ctx ≡ true → result ≡ Ok None }
 {
     match scan_flow_node(alloc, src, at, n, ctx) {
@@ -80,7 +80,7 @@ pub fn scan_flow_node<'a>(alloc: Global, src: &Src<'a>, at: usize, n: i32, ctx: 
     requires { IsCharBoundary src.now.text at }
     ensures place { MatchResult result (λ o. IfSome o (λ p. Place src.now.text (at + 1) p.end)) (IsScanFault src.now.text) }
     ensures escapes { IfOk result (λ o. IfSome o (λ p. IsFirstPlace src.now.text p.part.escapes p.escape)) }
-    ensures reads { is_block ctx ≡ false → ScansFlowNode src.now.text n ctx at result }
+    ensures reads { ScansFlowNode src.now.text n ctx at result }
     ensures block { is_block ctx ≡ true → result ≡ Ok None }
 {
     if is_block(ctx) {
@@ -138,7 +138,7 @@ pub fn read_implicit_key<'a>(alloc: Global, src: &Src<'a>, at: usize, ctx: Ctx) 
     requires { IsCharBoundary src.now.text at }
     ensures place { MatchResult result (λ o. IfSome o (λ p. Place src.now.text (at + 1) p.end)) (IsReadFault src.now.text) }
     ensures escapes { IfOk result (λ o. IfSome o (λ p. p.part.escapes ≡ [])) }
-    ensures reads { is_block ctx ≡ false → ReadsKey src.now.text ctx at result }
+    ensures reads { ReadsKey src.now.text ctx at result }
     ensures block { is_block ctx ≡ true → result ≡ Ok None }
 {
     read_flow_node(alloc, src, at, 0, ctx)
@@ -153,7 +153,7 @@ pub fn scan_implicit_key<'a>(alloc: Global, src: &Src<'a>, at: usize, ctx: Ctx) 
     requires { IsCharBoundary src.now.text at }
     ensures place { MatchResult result (λ o. IfSome o (λ p. Place src.now.text (at + 1) p.end)) (IsScanFault src.now.text) }
     ensures escapes { IfOk result (λ o. IfSome o (λ p. IsFirstPlace src.now.text p.part.escapes p.escape)) }
-    ensures reads { is_block ctx ≡ false → ScansKey src.now.text ctx at result }
+    ensures reads { ScansKey src.now.text ctx at result }
     ensures block { is_block ctx ≡ true → result ≡ Ok None }
 {
     scan_flow_node(alloc, src, at, 0, ctx)

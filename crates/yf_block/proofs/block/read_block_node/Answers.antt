@@ -9,25 +9,25 @@ none_first t [] p = refl
 none_first t (e ∷ es) p = absurd p
 
 pub returns-in-Ok-None-clause-reads : goal.returns-in-Ok-None-clause-reads
-returns-in-Ok-None-clause-reads c = λ b i l.
+returns-in-Ok-None-clause-reads c = λ i l.
     let f = rw (c.in-Ok-None.field-0-is, to_z-of_z c.ranges.n) at c.in-Ok-None.ensures.reads in
-    f b i l
+    f i l
 
 pub returns-in-None-clause-reads : goal.returns-in-None-clause-reads
-returns-in-None-clause-reads c = λ b i l.
+returns-in-None-clause-reads c = λ i l.
     let f = rw (c.in-Ok-Some.field-0-is, to_z-of_z c.ranges.n) at c.in-Ok-Some.ensures.reads in
-    let s = f b i l in
+    let s = f i l in
     record { chosen = s.chosen; good = none_first _ _ (rw c.in-None.is at s.escape); boundary = s.boundary }
 
 pub returns-in-Ok-Some-clause-reads : goal.returns-in-Ok-Some-clause-reads
-returns-in-Ok-Some-clause-reads c = λ b i l.
+returns-in-Ok-Some-clause-reads c = λ i l.
     let f = rw (c.in-Ok-Some.field-0-is, to_z-of_z c.ranges.n) at c.in-Ok-Some.ensures.reads in
-    scanned_stops c.in-Ok-Some.field-0-0 c.in-Some.place c.in-Some.is (f b i l)
+    scanned_stops c.in-Ok-Some.field-0-0 c.in-Some.place c.in-Some.is (f i l)
 
 pub returns-clause-reads : goal.returns-clause-reads
-returns-clause-reads c = λ b i l.
+returns-clause-reads c = λ i l.
     let f = rw (to_z-of_z c.ranges.n) at c.in-Err.ensures.reads in
-    as_scanned (f b i l)
+    as_scanned (f i l)
 
 pub returns-in-Ok-None-clause-place : goal.returns-in-Ok-None-clause-place
 returns-in-Ok-None-clause-place c = tt
