@@ -136,7 +136,6 @@ pub mod CommentsFit
 pub mod ContentFound
 pub mod DirectivesFit
 pub mod DocumentTrails
-pub mod FormatHolds
 pub mod FormatKeeps
 pub mod FormatLawsHold
 pub mod FormatTrails

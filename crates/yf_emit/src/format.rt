@@ -1,11 +1,9 @@
 //! Formatting a text.
-ghost use Rattle.std.specs.Prelude.{◌≡◌, IfErr, IfOk};
+ghost use Rattle.std.specs.Prelude.{IfErr, IfOk};
 ghost use Rattle.std.specs.Str.{IsUtf8};
 ghost use Rattle.std.specs.String.{string_bytes};
 ghost use Rattle.yf_emit.specs.FormatKept.{FormatKept};
-ghost use Rattle.yf_emit.specs.Formatted.{Formatted};
 ghost use Rattle.yf_stream.specs.ReadingOf.{ReadingOf};
-ghost use Rattle.yf_stream.specs.Refusal.{IsStreamFault};
 ghost use Rattle.yf_stream.specs.StreamReader.{StreamFault};
 
 use crate::form::decide::decide;
@@ -26,8 +24,6 @@ fn formatted(
     reading: Reading,
     style: &Style,
 ) -> Result<String, AllocError>
-    ensures formatted { IsUtf8 text.now → ReadingOf text.now reading.entry
-        → IfOk result (λ formatted. Formatted text.now style.now (string_bytes formatted)) }
     ensures keeps { IsUtf8 text.now → ReadingOf text.now reading.entry
         → IfOk result (λ formatted. FormatKept text.now style.now (string_bytes formatted)) }
 {
@@ -44,9 +40,7 @@ fn formatted(
 ///
 /// Those of `read_stream`.
 pub fn format(alloc: Global, text: &str, style: &Style) -> Result<String, Fault>
-    ensures formatted { IfOk result (λ formatted. Formatted text.now style.now (string_bytes formatted)) }
     ensures keeps { IfOk result (λ formatted. FormatKept text.now style.now (string_bytes formatted)) }
-    ensures refused { IfErr result (λ fault. IsStreamFault text.now fault) }
     ensures refuses { IfErr result (StreamFault text.now) }
 {
     let reading = read_stream(alloc, text)?;
