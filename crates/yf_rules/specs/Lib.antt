@@ -35,4 +35,3 @@ pub mod Mended
 pub mod Input
 pub mod Run
 pub mod Findings
-pub mod Laws
