@@ -15,4 +15,4 @@ returns-clause-keeps c = λ utf8 reads.
       events = c.in_ok-normal.ensures.events;
       nested = c.in_ok-normal.ensures.nested;
     }) (string_bytes text) h)
-    c.layout_by.ensures
+    c.layout_by.ensures.printed
