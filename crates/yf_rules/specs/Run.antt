@@ -13,7 +13,6 @@ use Rattle.yf_events.specs.Notation.{notation_of}
 use Rattle.yf_events.specs.Reading.{events_of}
 use Rattle.yf_emit.specs.declared.style.Style.{Style}
 use Rattle.yf_emit.specs.FormatKept.{FormatKept}
-use Rattle.yf_emit.specs.Formatted.{Formatted}
 use Rattle.yf_rules.specs.declared.finding.Finding.{Finding}
 use Rattle.yf_stream.specs.Refusal.{IsStreamFault}
 use Rattle.yf_stream.specs.StreamReader.{StreamFault, TheReading}
@@ -110,7 +109,6 @@ pub record Rendered (style : Style) (known : Option (List ℕ)) (formatted : Lis
   pub text : List ℕ
   pub gave : Gave known text
   pub utf8 : IsUtf8 text
-  pub is : Formatted text style formatted
   pub kept : FormatKept text style formatted
 
 -- the same, and what is given was written, once and with nothing beside it
