@@ -74,6 +74,7 @@ pub mod MendedLayouts
 pub mod MendedBrackets
 pub mod MendedFindings
 pub mod RulesMended
+pub mod HeadlineHolds
 -- `run_fmt`
 pub mod FormattedLemmas
 -- `run_check`

@@ -31,6 +31,7 @@ pub mod Definition
 pub mod Rules
 pub mod RuleOf
 pub mod Check
+pub mod Headline
 pub mod Mended
 pub mod Input
 pub mod Run

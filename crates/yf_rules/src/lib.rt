@@ -4,6 +4,7 @@
 pub mod check;
 pub mod facts;
 pub mod finding;
+pub mod headline;
 pub mod input;
 pub mod rule;
 pub mod rules;
