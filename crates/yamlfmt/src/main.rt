@@ -32,7 +32,6 @@ mod replacing;
 #[cfg(test)]
 mod replacing_tests;
 mod report;
-mod rules;
 mod settings;
 #[cfg(test)]
 mod settings_tests;
@@ -46,7 +45,6 @@ use command_line::{Cmd, parse_line};
 use files::{open, rewrite};
 use program::{GOOD, answer_usage, read_style, run, written_out};
 use report::report;
-use rules::{WithRules, with_all_rules};
 use std::alloc::AllocError;
 use std::io::BufWriter;
 use std::process::ExitCode;
@@ -55,6 +53,7 @@ use yf_emit::style::Style;
 use yf_lines::fault::Fault;
 use yf_lines::watched::{Sink, Source, Watched};
 use yf_rules::rule::Rule;
+use yf_rules::with_rules::{WithRules, with_all_rules};
 
 /// The status for a command line that cannot be read.
 const UNREADABLE: u8 = 3;
@@ -134,7 +133,7 @@ fn run_with_rules<R: Source>(
 ) -> Result<u8, AllocError> {
     with_all_rules(
         rt.alloc(),
-        Command {
+        &mut Command {
             rt,
             command,
             style,
@@ -156,7 +155,7 @@ impl<R: Source> WithRules for Command<'_, R> {
     type Answer = Result<u8, AllocError>;
 
     /// Does the command, and answers its status.
-    fn with_rules(self, rules: &[Box<dyn Rule>]) -> Result<u8, AllocError> {
+    fn with_rules(&mut self, rules: &[Box<dyn Rule>]) -> Result<u8, AllocError> {
         let alloc = self.rt.alloc();
         let Ok(output) = BufWriter::with_capacity(alloc, HELD_BACK, self.rt.stdout()) else {
             return Err(AllocError);

@@ -11,6 +11,7 @@ use Rattle.yf_emit.specs.declared.style.Style.{Style}
 use Rattle.yf_emit.proofs.FormatKeeps.{format_keeps}
 use Rattle.yf_emit.proofs.FormatLawsHold.{formats_exist}
 use Rattle.yf_rules.specs.Headline.{Headline, IsMended, ReadTextsAreFormatted, RefusedTextsHaveNoReading}
+use Rattle.yf_rules.specs.Rechecked.{FormattedTextsAreClean}
 use Rattle.yf_rules.specs.declared.run.TheConstants.{INPUT_LIMIT}
 use Rattle.yf_rules.proofs.RulesMended.{rule_mended}
 
@@ -43,3 +44,8 @@ pub read_texts_are_formatted : ReadTextsAreFormatted
 read_texts_are_formatted t s r utf8 reads =
     let f = formats_exist t s r reads in
     (f.0, format_keeps t s f.0 utf8 f.1, formats_are_mended t f.0 s utf8 f.1)
+
+pub formatted_texts_are_clean : FormattedTextsAreClean
+formatted_texts_are_clean style known formatted findings rendered found =
+    let of_source = subst (λ v. Formats rendered.text style v) (sym found.gave) rendered.headline.kept.formats in
+    found.mends rendered.text rendered.headline.utf8 of_source

@@ -75,6 +75,8 @@ pub mod MendedBrackets
 pub mod MendedFindings
 pub mod RulesMended
 pub mod HeadlineHolds
+-- all rules at once
+pub mod AllRulesLemmas
 -- `run_fmt`
 pub mod FormattedLemmas
 -- `run_check`

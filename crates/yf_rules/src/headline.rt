@@ -1,5 +1,7 @@
 //! What holds of every text, for every style.
+ghost use Rattle.yf_rules.specs.AllRules.{RulesAreListed};
 ghost use Rattle.yf_rules.specs.Headline.{ReadTextsAreFormatted, RefusedTextsHaveNoReading};
+ghost use Rattle.yf_rules.specs.Rechecked.{FormattedTextsAreClean};
 ghost use Rattle.yf_stream.specs.HasReading.{WellFormedTextsHaveReadings};
 ghost use Rattle.yf_stream.specs.Laws.{ReadTextsHaveNoFault, ReadingsAreOne};
 
@@ -14,4 +16,6 @@ pub fn headline()
     ensures accepted { ReadTextsHaveNoFault }
     ensures refused { RefusedTextsHaveNoReading }
     ensures formatted { ReadTextsAreFormatted }
+    ensures clean { FormattedTextsAreClean }
+    ensures listed { RulesAreListed }
 {}

@@ -9,3 +9,4 @@ pub mod input;
 pub mod rule;
 pub mod rules;
 pub mod run;
+pub mod with_rules;
