@@ -1,5 +1,5 @@
 -- What the program does for a command, over a reader, a writer and a stream for its faults.
-use Rattle.std.specs.Prelude.{◌≡◌, ◌⊎◌, ℕ, List, [], Bool, true, false, Option, codes}
+use Rattle.std.specs.Prelude.{◌≡◌, ◌≤◌, ◌⊎◌, ℕ, List, [], length, Bool, true, false, Option, codes}
 use Rattle.std.specs.Str.{IsUtf8}
 use Rattle.yf_emit.specs.declared.style.Style.{Style}
 use Rattle.yf_lines.specs.declared.fault.Fault.{Fault}
@@ -38,13 +38,13 @@ WrittenOut run status before after at to was is =
 
 -- the bytes that were read set the style
 abbrev pub FileSets : Option (List ℕ) → Style → Type 0
-FileSets known style = (text : List ℕ) × Gave known text × IsUtf8 text × SetsStyle text style
+FileSets known style = (text : List ℕ) × Gave known text × (length text ≤ INPUT_LIMIT) × IsUtf8 text × SetsStyle text style
 
 -- why a settings file is refused: it could not be read; it is no text, where the key is empty; its text is refused
 -- (before, after: the note that the reader has failed)
 abbrev pub FileRefused : Option (List ℕ) → Bool → Bool → Fault → Type 0
 FileRefused known before after fault.Memory = after ≡ before
-FileRefused known before after (fault.Config key) = (after ≡ before) × ((text : List ℕ) × Gave known text
+FileRefused known before after (fault.Config key) = (after ≡ before) × ((text : List ℕ) × Gave known text × (length text ≤ INPUT_LIMIT)
     × (((¬ IsUtf8 text) × (key ≡ [])) ⊎ (IsUtf8 text × RefusesSettings text (fault.Config key))))
 FileRefused known before after fault.ReadFailed = ReadRefusal known INPUT_LIMIT before after fault.ReadFailed
 FileRefused known before after _ = ⊥
@@ -74,8 +74,8 @@ Ran C style Events status known read_before read_after old new before after at t
     (Printed known old new before after × (read_after ≡ read_before) × EndsWell status at to was is)
     ⊎ ((f : Fault) × Refused known read_before read_after old new before after f × EndsBy f status at to was is)
 Ran C style Check status known read_before read_after old new before after at to was is =
-    ((any : Bool) × Told C known old new before after any × (read_after ≡ read_before) × (status ≡ check_status any) × Untouched at to was is)
-    ⊎ ((f : Fault) × RefusedCheck C known read_before read_after old new before after f × EndsBy f status at to was is)
+    ((any : Bool) × Told C style known old new before after any × (read_after ≡ read_before) × (status ≡ check_status any) × Untouched at to was is)
+    ⊎ ((f : Fault) × RefusedCheck C style known read_before read_after old new before after f × EndsBy f status at to was is)
 Ran C style Fmt status known read_before read_after old new before after at to was is =
     (Restyled style known old new before after × (read_after ≡ read_before) × EndsWell status at to was is)
     ⊎ ((f : Fault) × RefusedFmt style known read_before read_after old new before after f × EndsBy f status at to was is)

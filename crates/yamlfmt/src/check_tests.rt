@@ -2,11 +2,11 @@
 
 use crate::answers::{answer_to, are_lines};
 use crate::command_line::Verb;
-use crate::rules::{WithRules, with_all_rules};
 use crate::settings::style_from_toml;
 use std::alloc::{AllocError, Global};
 use yf_emit::style::Style;
 use yf_rules::rule::Rule;
+use yf_rules::with_rules::{WithRules, with_all_rules};
 
 /// A text, and what is found in it, between ` / `; of a text that is refused what is said of it, with its line feed.
 type Row = (&'static str, &'static str);
@@ -41,10 +41,9 @@ impl WithRules for Checks<'_> {
     type Answer = Option<&'static str>;
 
     /// The first text in which the checker finds something else with these rules.
-    fn with_rules(self, rules: &[Box<dyn Rule>]) -> Option<&'static str> {
-        let Checks { alloc, style, rows } = self;
-        for (input, findings) in rows {
-            if !finds(alloc, rules, style, input, findings) {
+    fn with_rules(&mut self, rules: &[Box<dyn Rule>]) -> Option<&'static str> {
+        for (input, findings) in self.rows {
+            if !finds(self.alloc, rules, self.style, input, findings) {
                 return Some(*input);
             }
         }
@@ -54,7 +53,7 @@ impl WithRules for Checks<'_> {
 
 /// The first text in which the checker finds something else with all rules.
 fn first_wrong(alloc: Global, style: &Style, rows: &'static [Row]) -> Option<&'static str> {
-    match with_all_rules(alloc, Checks { alloc, style, rows }) {
+    match with_all_rules(alloc, &mut Checks { alloc, style, rows }) {
         Ok(wrong) => wrong,
         Err(AllocError) => Some("no memory for rules"),
     }

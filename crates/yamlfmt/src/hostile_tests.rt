@@ -4,11 +4,11 @@ use crate::answers::{Answer, answer_over, answer_to, command};
 use crate::command_line::Verb;
 use crate::faulty::{FaultyReader, FaultyWriter};
 use crate::program::run;
-use crate::rules::{WithRules, with_all_rules};
 use std::alloc::{AllocError, Global};
 use yf_emit::style::Style;
 use yf_lines::watched::{Sink, Source, Watched};
 use yf_rules::rule::Rule;
+use yf_rules::with_rules::{WithRules, with_all_rules};
 
 static VERBS: [Verb; 3] = [Verb::Events, Verb::Check, Verb::Fmt];
 
@@ -50,8 +50,8 @@ impl WithRules for Failures {
     type Answer = bool;
 
     /// Whether each command answers as it should on each input, with these rules.
-    fn with_rules(self, rules: &[Box<dyn Rule>]) -> bool {
-        let Failures { alloc, failing } = self;
+    fn with_rules(&mut self, rules: &[Box<dyn Rule>]) -> bool {
+        let Failures { alloc, failing } = *self;
         for input in &INPUTS {
             if !holds_on(alloc, rules, failing, input.as_bytes()) {
                 return false;
@@ -69,7 +69,7 @@ impl WithRules for Failures {
 
 /// Whether each command answers as it should on each input where that fails.
 fn holds(alloc: Global, failing: Failing) -> bool {
-    match with_all_rules(alloc, Failures { alloc, failing }) {
+    match with_all_rules(alloc, &mut Failures { alloc, failing }) {
         Ok(good) => good,
         // there may be no memory for the rules where it is refused
         Err(AllocError) => matches!(failing, Failing::Memory),

@@ -4,7 +4,6 @@ ghost use Rattle.std.specs.Prelude.{◌≤◌};
 
 use crate::answers::{formatted, reading_of};
 use crate::fmt_tests::{COMMENTED, NODES, PLAIN_STREAMS, WITH_SETTINGS};
-use crate::rules::{WithRules, with_all_rules};
 use std::alloc::{AllocError, Global};
 use yf_comments::comment::Comment;
 use yf_emit::style::Style;
@@ -16,6 +15,7 @@ use yf_lines::source_text::Src;
 use yf_rules::check::check;
 use yf_rules::finding::Finding;
 use yf_rules::rule::Rule;
+use yf_rules::with_rules::{WithRules, with_all_rules};
 
 /// The text of a comment without the white space at its end.
 fn trimmed<'a>(comment: &Comment<'a>) -> &'a str {
@@ -285,14 +285,14 @@ impl WithRules for Laws {
     type Answer = bool;
 
     /// Whether the laws hold of all texts, with these rules.
-    fn with_rules(self, rules: &[Box<dyn Rule>]) -> bool {
+    fn with_rules(&mut self, rules: &[Box<dyn Rule>]) -> bool {
         holds_of_texts(self.alloc, rules, self.texts)
     }
 }
 
 /// Whether the laws hold of all of these texts, with all rules.
 fn laws_hold(alloc: Global, texts: Texts) -> bool {
-    match with_all_rules(alloc, Laws { alloc, texts }) {
+    match with_all_rules(alloc, &mut Laws { alloc, texts }) {
         Ok(holds) => holds,
         Err(AllocError) => false,
     }

@@ -95,12 +95,12 @@ fn words_given(rt: &HostRuntime) -> io::Result<Vec<String>> {
 
 /// Does what the words ask for, over the system's files and streams, and answers the status.
 fn answer_words<E: Sink>(rt: &HostRuntime, words: &[String], error_stream: &mut E) -> u8 {
-    let program = Program {
+    let mut program = Program {
         rt,
         words,
         error_stream,
     };
-    match with_all_rules(rt.alloc(), program) {
+    match with_all_rules(rt.alloc(), &mut program) {
         Ok(status) => status,
         Err(AllocError) => report(&Fault::Memory, &mut Watched::new(rt.stderr())),
     }
@@ -118,7 +118,7 @@ impl<E: Sink> WithRules for Program<'_, E> {
     type Answer = u8;
 
     /// Answers the words, and gives the status.
-    fn with_rules(self, rules: &[Box<dyn Rule>]) -> u8 {
+    fn with_rules(&mut self, rules: &[Box<dyn Rule>]) -> u8 {
         let alloc = self.rt.alloc();
         match BufWriter::with_capacity(alloc, HELD_BACK, self.rt.stdout()) {
             Ok(output) => answer(

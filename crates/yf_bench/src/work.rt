@@ -8,30 +8,32 @@ use yf_chars::utf8::check_utf8;
 use yf_emit::format::format;
 use yf_emit::style::Style;
 use yf_events::notation::write_events;
+use yf_events::reading::Reading;
 use yf_lines::fault::Fault;
 use yf_lines::source_text::Src;
 use yf_lines::watched::Watched;
 use yf_rules::check::check;
+use yf_rules::finding::Finding;
 use yf_rules::rule::Rule;
-use yf_rules::rules::StyleRule;
+use yf_rules::with_rules::{WithRules, with_all_rules};
 use yf_stream::stream::read_stream;
 
-/// All rules of style.
-const RULES: [StyleRule; 13] = [
-    StyleRule::TrailingBlanks,
-    StyleRule::Indentation,
-    StyleRule::Quoting,
-    StyleRule::DocumentStart,
-    StyleRule::FinalBreak,
-    StyleRule::LineBreaks,
-    StyleRule::ByteOrderMark,
-    StyleRule::BlankLines,
-    StyleRule::FlowLayout,
-    StyleRule::CommentSpace,
-    StyleRule::LineLength,
-    StyleRule::RepeatedKeys,
-    StyleRule::KeyMark,
-];
+/// The check of a text with its reading, in the house style.
+#[derive(Drop)]
+struct Checking<'a, 't> {
+    alloc: Global,
+    src: &'a Src<'t>,
+    reading: &'a Reading<'t>,
+}
+
+impl WithRules for Checking<'_, '_> {
+    type Answer = Result<Vec<Finding>, Fault>;
+
+    /// What the rules find.
+    fn with_rules(&mut self, rules: &[Box<dyn Rule>]) -> Result<Vec<Finding>, Fault> {
+        check(self.alloc, rules, self.src, self.reading, &Style::house())
+    }
+}
 
 /// What was done so far.
 #[derive(Drop)]
@@ -89,20 +91,19 @@ impl Work {
     }
 
     fn take_findings(&mut self, alloc: Global, text: &str) -> Result<(), Fault> {
-        let mut rules: Vec<Box<dyn Rule>> = Vec::new(alloc);
-        for rule in RULES {
-            let Ok(boxed) = Box::new(alloc, rule) else {
-                return Err(Fault::Memory);
-            };
-            let Ok(()) = rules.push(boxed) else {
-                return Err(Fault::Memory);
-            };
-        }
         let Ok(src) = Src::new(alloc, text) else {
             return Err(Fault::Memory);
         };
         let reading = read_stream(alloc, text)?;
-        let findings = check(alloc, rules.as_slice(), &src, &reading, &Style::house())?;
+        let mut checking = Checking {
+            alloc,
+            src: &src,
+            reading: &reading,
+        };
+        let Ok(found) = with_all_rules(alloc, &mut checking) else {
+            return Err(Fault::Memory);
+        };
+        let findings = found?;
         for finding in findings.as_slice() {
             self.digest.add_number(finding.place.line as u64);
             self.digest.add_number(finding.place.column as u64);

@@ -1,5 +1,5 @@
 -- What the run that formats has written, told by what was formatted and how its writing ended, and why nothing could be formatted.
-use Rattle.std.proofs.Common.{◌≡◌, ℕ, List, Bool, subst, sym}
+use Rattle.std.proofs.Common.{◌≡◌, ◌≤◌, ℕ, List, length, Bool, subst, sym}
 use Rattle.std.specs.Prelude.{Option, Result, Ok, Err, IfErr, OnOk}
 use Rattle.std.specs.Str.{IsUtf8}
 use Rattle.yf_emit.specs.declared.style.Style.{Style}
@@ -9,6 +9,7 @@ use Rattle.yf_lines.specs.declared.fault.Fault.TheVariants.{Syntax, TooDeep, Unk
 use Rattle.yf_stream.specs.Refusal.{IsStreamFault}
 use Rattle.yf_stream.specs.StreamReader.{StreamFault}
 use Rattle.yf_stream.proofs.FaultsPlaced.{faults_are_placed}
+use Rattle.yf_rules.specs.declared.run.TheConstants.{INPUT_LIMIT}
 use Rattle.yf_rules.specs.Run.{Gave, GaveNoStream, RefusedFmt, RefusedText, Rendered, Restyled}
 
 pub wrote_formatted : (style : Style) (known old new : Option (List ℕ)) (before after : Bool) (formatted text : List ℕ) (outcome : Result Unit Fault)
@@ -35,9 +36,9 @@ broke_formatted style known old new before after read_before read_after formatte
     )
 
 -- a text that the reader of streams refuses
-module _ (known : Option (List ℕ)) {before after : Bool} {t : List ℕ} (g : Gave known t) (u : IsUtf8 t) (s : after ≡ before) where
+module _ (known : Option (List ℕ)) {before after : Bool} {t : List ℕ} (g : Gave known t) (within : length t ≤ INPUT_LIMIT) (u : IsUtf8 t) (s : after ≡ before) where
   no_stream_in : (fault : Fault) → StreamFault t fault → IsStreamFault t fault → GaveNoStream known fault
-  no_stream_in fault w i = record { text = t; gave = g; utf8 = u; is = i; why = w }
+  no_stream_in fault w i = record { text = t; gave = g; within = within; utf8 = u; is = i; why = w }
 
   refused_for : (fault : Fault) → StreamFault t fault → IsStreamFault t fault → RefusedText known before after fault
   refused_for (Syntax place what) w i = (no_stream_in (Syntax place what) w i, s)

@@ -74,6 +74,9 @@ pub mod MendedLayouts
 pub mod MendedBrackets
 pub mod MendedFindings
 pub mod RulesMended
+pub mod HeadlineHolds
+-- all rules at once
+pub mod AllRulesLemmas
 -- `run_fmt`
 pub mod FormattedLemmas
 -- `run_check`

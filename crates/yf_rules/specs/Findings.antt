@@ -1,16 +1,20 @@
 -- What the rules find in a text, before it is known where the text comes from.
 use Rattle.std.specs.Prelude.{◌≡◌, ℕ, List}
+use Rattle.std.specs.Str.{IsUtf8}
 use Rattle.yf_lines.specs.Lines.{AreLines, Table}
 use Rattle.yf_events.specs.declared.lists.Lists.{Lists}
 use Rattle.yf_events.specs.declared.reading.TheConstants.{DEPTH}
 use Rattle.yf_events.specs.Nested.{IsStream}
 use Rattle.yf_events.specs.Reading.{events_of}
+use Rattle.yf_emit.specs.Format.{Formats}
+use Rattle.yf_emit.specs.declared.style.Style.{Style}
+use Rattle.yf_rules.specs.Mended.{NoneFixable}
 use Rattle.yf_rules.specs.declared.finding.Finding.{Finding}
 use Rattle.yf_stream.specs.StreamReader.{TheReading}
 
 -- the lines are those of the text, and in a reading whose events are a well nested stream the rules find this; C tells what the rules
--- find. It is the reading of the text
-pub record FoundIn (C : Table → Lists → List Finding → Type 0) (text : List ℕ) (findings : List Finding) : Type 0 where
+-- find. It is the reading of the text. Where the text is the formatting of some text in the style, the house style fixes none of it
+pub record FoundIn (C : Table → Lists → List Finding → Type 0) (style : Style) (text : List ℕ) (findings : List Finding) : Type 0 where
   pub src : Table
   pub reading : Lists
   pub of_text : src.text ≡ text
@@ -18,3 +22,4 @@ pub record FoundIn (C : Table → Lists → List Finding → Type 0) (text : Lis
   pub nested : IsStream DEPTH (events_of reading)
   pub reads : TheReading text reading
   pub checked : C src reading findings
+  pub mends : (source : List ℕ) → IsUtf8 source → Formats source style text → NoneFixable findings

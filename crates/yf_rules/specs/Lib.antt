@@ -31,7 +31,10 @@ pub mod Definition
 pub mod Rules
 pub mod RuleOf
 pub mod Check
+pub mod AllRules
+pub mod Headline
 pub mod Mended
 pub mod Input
 pub mod Run
 pub mod Findings
+pub mod Rechecked

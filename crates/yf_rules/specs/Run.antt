@@ -1,5 +1,5 @@
 -- What the runs do, by what their reader gave: of the text that was read they use its reading, and there is no other.
-use Rattle.std.specs.Prelude.{◌≡◌, ℕ, List, [], ◌∷◌, Bool, true, false, Option, IfSome, codes, decimal}
+use Rattle.std.specs.Prelude.{◌≡◌, ◌≤◌, ℕ, List, [], ◌∷◌, length, Bool, true, false, Option, IfSome, codes, decimal}
 use Rattle.std.specs.List.{concat, flat_map}
 use Rattle.std.specs.Str.{IsUtf8, IsValidUpTo}
 use Rattle.yf_lines.specs.declared.fault.Fault.{Fault}
@@ -12,12 +12,14 @@ use Rattle.yf_events.specs.Nested.{IsStream}
 use Rattle.yf_events.specs.Notation.{notation_of}
 use Rattle.yf_events.specs.Reading.{events_of}
 use Rattle.yf_emit.specs.declared.style.Style.{Style}
-use Rattle.yf_emit.specs.FormatKept.{FormatKept}
+use Rattle.yf_emit.specs.Format.{Formats}
 use Rattle.yf_rules.specs.declared.finding.Finding.{Finding}
 use Rattle.yf_stream.specs.Refusal.{IsStreamFault}
 use Rattle.yf_stream.specs.StreamReader.{StreamFault, TheReading}
 use Rattle.yf_rules.specs.declared.run.TheConstants.{INPUT_LIMIT}
+use Rattle.yf_rules.specs.Headline.{Headline}
 use Rattle.yf_rules.specs.Input.{ReadRefusal}
+use Rattle.yf_rules.specs.Mended.{NoneFixable}
 
 -- the bytes that were read: all that the reader had, where that is known
 abbrev pub Gave : Option (List ℕ) → List ℕ → Type 0
@@ -28,6 +30,7 @@ pub record Printed (known old new : Option (List ℕ)) (before after : Bool) : T
   pub text : List ℕ
   pub reading : Lists
   pub gave : Gave known text
+  pub within : length text ≤ INPUT_LIMIT
   pub utf8 : IsUtf8 text
   pub nested : IsStream DEPTH (events_of reading)
   pub reads : TheReading text reading
@@ -38,6 +41,7 @@ pub record BrokeOff (known old new : Option (List ℕ)) (after : Bool) : Type 0 
   pub text : List ℕ
   pub reading : Lists
   pub gave : Gave known text
+  pub within : length text ≤ INPUT_LIMIT
   pub utf8 : IsUtf8 text
   pub nested : IsStream DEPTH (events_of reading)
   pub reads : TheReading text reading
@@ -47,6 +51,7 @@ pub record BrokeOff (known old new : Option (List ℕ)) (after : Bool) : Type 0 
 pub record GaveNoText (known : Option (List ℕ)) (offset : ℕ) : Type 0 where
   pub bytes : List ℕ
   pub gave : Gave known bytes
+  pub within : length bytes ≤ INPUT_LIMIT
   pub none : ¬ IsUtf8 bytes
   pub front : IsValidUpTo bytes offset
 
@@ -55,6 +60,7 @@ pub record GaveNoText (known : Option (List ℕ)) (offset : ℕ) : Type 0 where
 pub record GaveNoStream (known : Option (List ℕ)) (fault : Fault) : Type 0 where
   pub text : List ℕ
   pub gave : Gave known text
+  pub within : length text ≤ INPUT_LIMIT
   pub utf8 : IsUtf8 text
   pub is : IsStreamFault text fault
   pub why : StreamFault text fault
@@ -80,36 +86,37 @@ has_any [] = false
 has_any (f ∷ rest) = true
 
 -- a text was read, its lines are these, and in its reading, whose events are a well nested stream, the rules find this; C tells what the
--- rules find
-pub record Found (C : Table → Lists → List Finding → Type 0) (known : Option (List ℕ)) (findings : List Finding) : Type 0 where
+-- rules find. Where the text is the formatting of some text in the style, none of it is what the house style fixes
+pub record Found (C : Table → Lists → List Finding → Type 0) (style : Style) (known : Option (List ℕ)) (findings : List Finding) : Type 0 where
   pub src : Table
   pub reading : Lists
   pub gave : Gave known src.text
+  pub within : length src.text ≤ INPUT_LIMIT
   pub utf8 : IsUtf8 src.text
   pub lines : AreLines src.text src.lines
   pub nested : IsStream DEPTH (events_of reading)
   pub reads : TheReading src.text reading
   pub checked : C src reading findings
+  pub mends : (source : List ℕ) → IsUtf8 source → Formats source style src.text → NoneFixable findings
 
 -- a line was written for each finding, and the answer is whether there is one
-pub record Told (C : Table → Lists → List Finding → Type 0) (known old new : Option (List ℕ)) (before after : Bool) (any : Bool) : Type 0 where
+pub record Told (C : Table → Lists → List Finding → Type 0) (style : Style) (known old new : Option (List ℕ)) (before after : Bool) (any : Bool) : Type 0 where
   pub findings : List Finding
-  pub found : Found C known findings
+  pub found : Found C style known findings
   pub wrote : Wrote old new before after (findings_text findings)
   pub answer : any ≡ has_any findings
 
 -- the same, but the writer failed, and a prefix of the lines was written
-pub record BrokeOffLines (C : Table → Lists → List Finding → Type 0) (known old new : Option (List ℕ)) (after : Bool) : Type 0 where
+pub record BrokeOffLines (C : Table → Lists → List Finding → Type 0) (style : Style) (known old new : Option (List ℕ)) (after : Bool) : Type 0 where
   pub findings : List Finding
-  pub found : Found C known findings
+  pub found : Found C style known findings
   pub broke : Broke old new after (findings_text findings)
 
--- a text was read, and what is given for it is its formatting, of which the laws hold that `FormatKept` names
+-- a text was read, and what is given for it is its formatting, with all that `Headline` says of the two
 pub record Rendered (style : Style) (known : Option (List ℕ)) (formatted : List ℕ) : Type 0 where
   pub text : List ℕ
   pub gave : Gave known text
-  pub utf8 : IsUtf8 text
-  pub kept : FormatKept text style formatted
+  pub headline : Headline text style formatted
 
 -- the same, and what is given was written, once and with nothing beside it
 pub record Restyled (style : Style) (known old new : Option (List ℕ)) (before after : Bool) : Type 0 where
@@ -151,9 +158,10 @@ Refused known read_before read_after old new before after fault =
     RefusedRun (BrokeOff known old new after) known read_before read_after old new before after fault
 
 -- of the run that checks
-abbrev pub RefusedCheck : (Table → Lists → List Finding → Type 0) → Option (List ℕ) → Bool → Bool → Option (List ℕ) → Option (List ℕ) → Bool → Bool → Fault → Type 0
-RefusedCheck C known read_before read_after old new before after fault =
-    RefusedRun (BrokeOffLines C known old new after) known read_before read_after old new before after fault
+abbrev pub RefusedCheck : (Table → Lists → List Finding → Type 0) → Style → Option (List ℕ) → Bool → Bool
+    → Option (List ℕ) → Option (List ℕ) → Bool → Bool → Fault → Type 0
+RefusedCheck C style known read_before read_after old new before after fault =
+    RefusedRun (BrokeOffLines C style known old new after) known read_before read_after old new before after fault
 
 -- of the run that formats
 abbrev pub RefusedFmt : Style → Option (List ℕ) → Bool → Bool → Option (List ℕ) → Option (List ℕ) → Bool → Bool → Fault → Type 0

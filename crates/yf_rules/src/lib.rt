@@ -4,7 +4,9 @@
 pub mod check;
 pub mod facts;
 pub mod finding;
+pub mod headline;
 pub mod input;
 pub mod rule;
 pub mod rules;
 pub mod run;
+pub mod with_rules;

@@ -55,7 +55,8 @@ pub fn run_events<R: Source, W: Sink>(
 }
 
 /// Reads all there is, and writes a line for each finding of the rules, in the order of their places: line and column, the
-/// rule's name, and ` (fixable)` where the house style fixes it. The answer is whether there is a finding.
+/// rule's name, and ` (fixable)` where the house style fixes it. The answer is whether there is a finding. In a text that
+/// formatting gives with the same settings, none of them is one that the house style fixes.
 ///
 /// Refused is what `run_events` refuses, and nothing has then been written but, after `Fault::WriteFailed`, a prefix of the
 /// lines.
@@ -68,11 +69,11 @@ pub fn run_check<R: Source, W: Sink>(
 ) -> Result<bool, Fault>
     ensures findings { IfOk result (λ any. Told (λ src reading findings. Checked
         (λ rule found. RuleFindings (definition rule) src reading style.now found) rules.now findings)
-        (R.remaining reader.old) (W.contents writer.old) (W.contents writer.new) (W.has_failed writer.old) (W.has_failed writer.new) any) }
+        style.now (R.remaining reader.old) (W.contents writer.old) (W.contents writer.new) (W.has_failed writer.old) (W.has_failed writer.new) any) }
     ensures reader { OnOk result (R.has_failed reader.new ≡ R.has_failed reader.old) }
     ensures refusals { IfErr result (λ fault. RefusedCheck
         (λ src reading findings. Checked (λ rule found. RuleFindings (definition rule) src reading style.now found) rules.now findings)
-        (R.remaining reader.old) (R.has_failed reader.old) (R.has_failed reader.new)
+        style.now (R.remaining reader.old) (R.has_failed reader.old) (R.has_failed reader.new)
         (W.contents writer.old) (W.contents writer.new) (W.has_failed writer.old) (W.has_failed writer.new) fault) }
 {
     let bytes = read_all(alloc, reader, INPUT_LIMIT)?;
@@ -96,7 +97,7 @@ fn findings_in(
 ) -> Result<Vec<Finding>, Fault>
     ensures found { IfOk result (λ findings. FoundIn (λ src reading findings. Checked
         (λ rule found. RuleFindings (definition rule) src reading style.now found) rules.now findings)
-        text.now findings.items) }
+        style.now text.now findings.items) }
     ensures refused { IfErr result (λ fault. IsStreamFault text.now fault) }
     ensures refuses { IfErr result (StreamFault text.now) }
 {

@@ -1,5 +1,5 @@
 use Rattle.std.proofs.Common.{◌≡◌, sym, subst}
-use Rattle.std.proofs.lemmas.Result.{IfErr-weaker, IfOk-weaker}
+use Rattle.std.proofs.lemmas.Result.{IfErr-weaker}
 use Rattle.yf_lines.specs.declared.fault.Fault.TheVariants.{Memory}
 use Rattle.yf_stream.specs.StreamReader.{StreamFault, for_memory}
 use Rattle.yf_rules.proofs.FindingLemmas.{found_text, nested_same}
@@ -7,10 +7,8 @@ use Rattle.yf_rules.proofs.run.findings_in.Goals as goal
 
 pub returns-clause-found : goal.returns-clause-found
 returns-clause-found g c =
-    IfOk-weaker c.check.result _ _
-    (λ findings checked. found_text c.in-Ok.src c.in_ok-stream.stream c.in-Ok.ensures.text c.in-Ok.ensures.lines
-    (nested_same c.stream.view_is c.stream.invariant.stream) c.in_ok-stream.ensures.reads checked)
-    c.check.ensures.findings
+    found_text _ c.args.style.now c.in-Ok.src c.in_ok-stream.stream (λ v. v.items) c.check.result c.in-Ok.ensures.text c.in-Ok.ensures.lines
+    (nested_same c.stream.view_is c.stream.invariant.stream) c.in_ok-stream.ensures.reads c.check.ensures.findings c.check.ensures.mends
 
 pub returns-in-Err-clause-refuses : goal.returns-in-Err-clause-refuses
 returns-in-Err-clause-refuses g c = for_memory

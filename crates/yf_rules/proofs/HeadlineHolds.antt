@@ -1,0 +1,61 @@
+-- What is proved of a text and its formatting holds.
+use Rattle.std.proofs.Common.{◌≡◌, ◌≤◌, ℕ, List, length, sym, subst}
+use Rattle.std.specs.Prelude.{Option, Result, Ok, Err, IfOk}
+use Rattle.std.specs.Str.{IsUtf8}
+use Rattle.yf_lines.specs.Lines.{AreLines}
+use Rattle.yf_stream.specs.ReadingOf.{ReadingOf}
+use Rattle.yf_stream.proofs.LawsHold.{read_texts_have_no_fault, readings_are_the_reading}
+use Rattle.yf_stream.proofs.NestedStreams.{reading_nests}
+use Rattle.yf_emit.specs.Format.{Formats}
+use Rattle.yf_emit.specs.FormatKept.{FormatKept}
+use Rattle.yf_emit.specs.declared.style.Style.{Style}
+use Rattle.yf_emit.proofs.FormatKeeps.{format_keeps}
+use Rattle.yf_emit.proofs.FormatLawsHold.{formats_exist}
+use Rattle.yf_rules.specs.Headline.{Headline, IsMended, ReadTextsAreFormatted, RefusedTextsHaveNoReading}
+use Rattle.yf_rules.specs.Rechecked.{FormattedTextsAreClean}
+use Rattle.yf_rules.specs.Run.{Gave, Rendered}
+use Rattle.yf_stream.specs.declared.stream.TheConstants.{LONGEST}
+use Rattle.yf_rules.specs.declared.run.TheConstants.{INPUT_LIMIT}
+use Rattle.yf_rules.proofs.RulesMended.{rule_mended}
+
+-- nothing in what formatting gives is at fault that the house style fixes
+pub formats_are_mended : (t u : List ℕ) (s : Style) → IsUtf8 t → Formats t s u → IsMended u s
+formats_are_mended t u s utf8 formats = λ rule fixable src q same lines reads offsets at.
+    rule_mended rule fixable src q s (record {
+      source = t;
+      utf8 = utf8;
+      formats = subst (λ v. Formats t s v) (sym same) formats;
+      lines = subst (λ v. AreLines v src.lines) (sym same) lines;
+      reads = subst (λ v. ReadingOf v q) (sym same) reads;
+    }) offsets at
+
+headline_holds : {t u : List ℕ} {s : Style} → length t ≤ INPUT_LIMIT → IsUtf8 t → FormatKept t s u → length u ≤ LONGEST → Headline t s u
+headline_holds {t} {u} {s} within utf8 kept fits = record {
+  within = within;
+  utf8 = utf8;
+  reading = kept.formats.reading;
+  reads = readings_are_the_reading t kept.formats.reading kept.formats.reads;
+  nested = reading_nests kept.formats.reads;
+  kept = kept;
+  mended = formats_are_mended t u s utf8 kept.formats;
+  fits = fits;
+}
+
+-- what is given of a text that was read, where it is a formatting of it that is not too long
+pub rendered_holds : {B E : Type 0} (s : Style) {known : Option (List ℕ)} {t : List ℕ} → Gave known t → length t ≤ INPUT_LIMIT → IsUtf8 t → (bytes : B → List ℕ)
+    → (given : Result B E) → IfOk given (λ f. FormatKept t s (bytes f)) → IfOk given (λ f. length (bytes f) ≤ LONGEST) → IfOk given (λ f. Rendered s known (bytes f))
+rendered_holds s {known} {t} gave within utf8 bytes (Ok f) kept fits = record { text = t; gave = gave; headline = headline_holds within utf8 kept fits }
+rendered_holds s gave within utf8 bytes (Err e) kept fits = tt
+
+pub refused_texts_have_no_reading : RefusedTextsHaveNoReading
+refused_texts_have_no_reading t fault refused other r reads = other (read_texts_have_no_fault t r fault reads refused)
+
+pub read_texts_are_formatted : ReadTextsAreFormatted
+read_texts_are_formatted t s r utf8 reads =
+    let f = formats_exist t s r reads in
+    (f.0, format_keeps t s f.0 utf8 f.1, formats_are_mended t f.0 s utf8 f.1)
+
+pub formatted_texts_are_clean : FormattedTextsAreClean
+formatted_texts_are_clean style known formatted findings rendered found =
+    let of_source = subst (λ v. Formats rendered.text style v) (sym found.gave) rendered.headline.kept.formats in
+    found.mends rendered.text rendered.headline.utf8 of_source

@@ -1,0 +1,41 @@
+-- All rules of style, and when values are those rules.
+use Rattle.std.specs.Prelude.{◌≡◌, ℕ, List, [], ◌∷◌, ⊤}
+use Rattle.std.specs.List.{Contains}
+use Rattle.yf_emit.specs.declared.style.Style.{Style}
+use Rattle.yf_events.specs.declared.lists.Lists.{Lists}
+use Rattle.yf_lines.specs.Lines.{Table}
+use Rattle.yf_rules.specs.declared.rules.StyleRule.{StyleRule}
+use Rattle.yf_rules.specs.declared.rules.StyleRule.TheVariants.{TrailingBlanks, Indentation, Quoting, DocumentStart, FinalBreak, LineBreaks, ByteOrderMark, BlankLines, FlowLayout, CommentSpace, LineLength, RepeatedKeys, KeyMark}
+use Rattle.yf_rules.specs.declared.finding.Finding.{Finding}
+use Rattle.yf_rules.specs.Check.{Checked, RuleFindings}
+use Rattle.yf_rules.specs.Definition.{RuleDefinition}
+use Rattle.yf_rules.specs.RuleOf.{definition_of}
+
+-- all rules, in the order of their numbers
+abbrev pub all_rules : List StyleRule
+all_rules =
+    TrailingBlanks ∷ Indentation ∷ Quoting ∷ DocumentStart ∷ FinalBreak ∷ LineBreaks ∷ ByteOrderMark ∷ BlankLines
+    ∷ FlowLayout ∷ CommentSpace ∷ LineLength ∷ RepeatedKeys ∷ KeyMark ∷ []
+
+-- Each rule is listed.
+abbrev pub RulesAreListed : Type 0
+RulesAreListed = (rule : StyleRule) → Contains all_rules rule
+
+-- the definition says what that of the rule says: it has its number, its name and whether the house style fixes what it finds, and the same is at fault by it
+pub record IsDefinition (d : RuleDefinition) (rule : StyleRule) : Type 0 where
+  pub number : d.number ≡ (definition_of rule).number
+  pub id : d.id ≡ (definition_of rule).id
+  pub fixable : d.fixable ≡ (definition_of rule).fixable
+  pub no_more : (src : Table) (r : Lists) (s : Style) (offsets : List ℕ) → d.faults src r s offsets → (definition_of rule).faults src r s offsets
+  pub no_fewer : (src : Table) (r : Lists) (s : Style) (offsets : List ℕ) → (definition_of rule).faults src r s offsets → d.faults src r s offsets
+
+-- the values, by their definitions, are those rules, one by one
+abbrev pub Are : {B : Type 0} → (B → RuleDefinition) → List B → List StyleRule → Type 0
+Are definition [] [] = ⊤
+Are definition (b ∷ bs) (rule ∷ rules) = IsDefinition (definition b) rule × Are definition bs rules
+Are definition [] (rule ∷ rules) = ⊥
+Are definition (b ∷ bs) [] = ⊥
+
+-- what a check by all rules answers
+abbrev pub FoundByAll : Style → Table → Lists → List Finding → Type 0
+FoundByAll style src reading findings = Checked (λ rule found. RuleFindings (definition_of rule) src reading style found) all_rules findings

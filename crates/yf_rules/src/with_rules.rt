@@ -1,0 +1,45 @@
+//! Work with all rules of style.
+ghost use Rattle.std.specs.Prelude.{◌≡◌, IfOk, OnErr};
+ghost use Rattle.yf_rules.specs.AllRules.{Are, all_rules};
+
+use crate::rule::Rule;
+use crate::rules::StyleRule;
+use std::alloc::{AllocError, Global};
+
+/// Work that takes all rules of style.
+pub trait WithRules {
+    /// What the work gives.
+    type Answer: Drop;
+
+    /// What is true of what it gives: of itself before and after, and its answer.
+    ghost Gives: { Self → Self → Self.Answer → Type 0 } = { λ _ _ _. Unit {0} };
+
+    /// Does the work with these rules, which are all of them, in the order of their numbers.
+    fn with_rules(&mut self, rules: &[Box<dyn Rule>]) -> Self::Answer
+        requires { Are (λ rule. definition rule) rules.now all_rules }
+        ensures { Gives self.old self.new result };
+}
+
+/// Does work with all rules of style, unless memory for them was refused: then none of it is done. A new rule is a new line
+/// of this list, and of `all_rules` in the specs.
+pub fn with_all_rules<W: WithRules>(alloc: Global, work: &mut W) -> Result<W::Answer, AllocError>
+    ensures given { IfOk result (λ answer. W.Gives work.old work.new answer) }
+    ensures kept { OnErr result (work.new ≡ work.old) }
+{
+    let rules: [Box<dyn Rule>; 13] = [
+        Box::new(alloc, StyleRule::TrailingBlanks)?,
+        Box::new(alloc, StyleRule::Indentation)?,
+        Box::new(alloc, StyleRule::Quoting)?,
+        Box::new(alloc, StyleRule::DocumentStart)?,
+        Box::new(alloc, StyleRule::FinalBreak)?,
+        Box::new(alloc, StyleRule::LineBreaks)?,
+        Box::new(alloc, StyleRule::ByteOrderMark)?,
+        Box::new(alloc, StyleRule::BlankLines)?,
+        Box::new(alloc, StyleRule::FlowLayout)?,
+        Box::new(alloc, StyleRule::CommentSpace)?,
+        Box::new(alloc, StyleRule::LineLength)?,
+        Box::new(alloc, StyleRule::RepeatedKeys)?,
+        Box::new(alloc, StyleRule::KeyMark)?,
+    ];
+    Ok(work.with_rules(&rules))
+}
