@@ -1,0 +1,10 @@
+//! Files that are rewritten by a formatter: each holds its old text or its formatting, whole, at any moment.
+#![tactic(auto)]
+
+mod file_system;
+mod replacing;
+mod rewriting;
+
+pub use file_system::{Failed, FileSystem, ReadError};
+pub use replacing::ReplaceError;
+pub use rewriting::{Formatter, RewriteError, rewrite};
