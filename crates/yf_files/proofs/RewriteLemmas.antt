@@ -3,11 +3,9 @@ use Rattle.std.proofs.Common.{◌≡◌, ◌≢◌, ◌⊎◌, inl, inr, ⊎_eli
 use Rattle.std.specs.Prelude.{if◌then◌else◌, codes, option_map}
 use Rattle.std.specs.Str.{bytes_eq}
 use Rattle.std.proofs.lemmas.Slice.Eq.{bytes_eq-Decides}
-use Rattle.yf_files.specs.Calls.{HasCause, Stays}
-use Rattle.yf_files.specs.Replaced.{AtAnyMoment, IsText, Leaves, Replaced}
+use Rattle.yf_files.specs.Calls.{Stays}
+use Rattle.yf_files.specs.Replaced.{AtAnyMoment, IsText, Replaced}
 use Rattle.yf_files.specs.Rewritten.{IsFormatting, IsUntouched, Rewrote, new_name_of}
-use Rattle.yf_files.specs.declared.replacing.ReplaceError.{ReplaceError}
-use Rattle.yf_files.specs.declared.replacing.ReplaceError.TheVariants.{Untouched, Left, Unsure}
 use Rattle.yf_files.specs.Tree.{Elapses, Finds, IsAt, IsSound, Name, Node, State, at, folder_of, has_slash, regular}
 
 -- what may be found in an inode may be found there by another relation
@@ -74,23 +72,6 @@ module _ (Formats : List ℕ → List ℕ → Type 0) (old s new : State) (file 
       },
     ),
   )
-
-  leaves_read : (e : ReplaceError) → Leaves s new file n u e → Leaves old new file (new_name_of file) u e
-  leaves_read Untouched h = (
-    λ q other. h.0 q (λ one. other (one ∙ name)) ∙ at_all_stays q,
-    ⊎_elim (λ none. inl (subst (λ (v : Name). at new v ≡ None) name none))
-        (λ same. inr (subst (λ (v : Name). at new v ≡ at old v) name (same ∙ at_all_stays n))) h.1,
-  )
-  leaves_read Left h = λ q other. h q (λ one. other (one ∙ name)) ∙ at_all_stays q
-  leaves_read Unsure h = (
-    h.0,
-    subst (λ (v : Name). at new v ≡ None) name h.1,
-    λ q no_file no_new. h.2 q no_file (λ one. no_new (one ∙ name)) ∙ at_all_stays q,
-  )
-
-  pub unwritten : (e : ReplaceError) → HasCause s new → Leaves s new file n u e
-      → HasCause old new × ((t u : List ℕ) × (at old file ≡ Some (regular t)) × Formats t u × Leaves old new file (new_name_of file) u e)
-  unwritten e cause h = (omega (arith, cause, time.faults), (t, u, is, formats_read, leaves_read e h))
 
 -- an end without a slash changes no folder
 has_slash_more : (xs suffix : Name) → has_slash suffix ≡ false → has_slash (xs ++ suffix) ≡ has_slash xs

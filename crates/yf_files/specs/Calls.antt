@@ -1,10 +1,10 @@
 -- What the calls of a file system do, each a relation of the states before and after it.
-use Rattle.std.specs.Prelude.{◌≡◌, ◌≢◌, ◌⊎◌, ℕ, ◌<◌, Option, Some, None}
+use Rattle.std.specs.Prelude.{◌≡◌, ◌≢◌, ◌⊎◌, ℕ, true, Option, Some, None}
 use Rattle.yf_files.specs.Tree.{Name, Node, State, folder_of}
 
--- a call failed
-abbrev pub HasCause : State → State → Type 0
-HasCause old new = old.faults < new.faults
+-- a call has failed
+abbrev pub HasFailed : State → Type 0
+HasFailed s = s.failed ≡ true
 
 -- nothing changes, and nothing else may be found
 pub record Stays (old new : State) : Type 0 where

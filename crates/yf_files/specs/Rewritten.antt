@@ -1,7 +1,7 @@
 -- What a file holds that is rewritten by a formatter, at any moment.
 use Rattle.std.specs.Prelude.{◌≡◌, ◌≢◌, ◌⊎◌, ℕ, ◌≤◌, List, ◌++◌, Option, Some, codes}
 use Rattle.yf_files.specs.Tree.{Name, Node, regular, State, Finds, at}
-use Rattle.yf_files.specs.Calls.{Stays, HasCause}
+use Rattle.yf_files.specs.Calls.{Stays, HasFailed}
 use Rattle.yf_files.specs.Replaced.{Leaves, Replaced}
 use Rattle.yf_files.specs.declared.rewriting.RewriteError.{RewriteError}
 use Rattle.yf_files.specs.declared.rewriting.RewriteError.TheVariants.{Memory, Unreadable, Refused, Unwritten}
@@ -28,7 +28,7 @@ Rewrote Formats old new file = (t : List ℕ) × (at old file ≡ Some (regular 
 -- what a refusal leaves, and why it came
 abbrev pub LeavesRefused : {E : Type 0} → (List ℕ → List ℕ → Type 0) → (List ℕ → E → Type 0) → State → State → Name → RewriteError E → Type 0
 LeavesRefused Formats Refuses old new file Memory = IsUntouched old new
-LeavesRefused Formats Refuses old new file Unreadable = IsUntouched old new × HasCause old new
+LeavesRefused Formats Refuses old new file Unreadable = IsUntouched old new × HasFailed new
 LeavesRefused Formats Refuses old new file (Refused e) = IsUntouched old new × ((t : List ℕ) × (at old file ≡ Some (regular t)) × Refuses t e)
-LeavesRefused Formats Refuses old new file (Unwritten e) = HasCause old new
+LeavesRefused Formats Refuses old new file (Unwritten e) = HasFailed new
     × ((t u : List ℕ) × (at old file ≡ Some (regular t)) × Formats t u × Leaves old new file (new_name_of file) u e)

@@ -20,8 +20,8 @@ pub record State : Type 1 where
   pub holds : ℕ → Node → Type 0
   -- the inodes that have stood somewhere so far: no number is used twice
   pub used : ℕ → Type 0
-  -- how often a call has failed
-  pub faults : ℕ
+  -- whether a call has failed so far
+  pub failed : Bool
   -- the inode of the file that was made last
   pub made : ℕ
   -- a number that does not fall, and what may have been found at a name if everything stopped at some moment from that one on
@@ -53,7 +53,7 @@ Finds s name x = (o : Option ℕ) × s.stands name o × IsAt s.holds o x
 -- time goes on: what may have been found since a moment might have been found before, or may be found now
 pub record Elapses (old new : State) : Type 0 where
   pub later : old.moment ≤ new.moment
-  pub faults : old.faults ≤ new.faults
+  pub failed : old.failed ≡ true → new.failed ≡ true
   pub used : (i : ℕ) → old.used i → new.used i
   pub nothing_else : (t : ℕ) (name : Name) (x : Option Node) → t ≤ old.moment → new.since t name x → old.since t name x ⊎ Finds new name x
   pub keeps : (t : ℕ) (name : Name) (x : Option Node) → t ≤ old.moment → old.since t name x → new.since t name x
@@ -75,7 +75,7 @@ unknown = record {
   stands = λ _ _. ⊥;
   holds = λ _ _. ⊥;
   used = λ _. ⊥;
-  faults = 0;
+  failed = false;
   made = 0;
   moment = 0;
   since = λ _ _ _. ⊥;

@@ -1,6 +1,6 @@
 use Rattle.std.proofs.Common.{◌≡◌, ◌∙◌, ap, sym}
 use Rattle.yf_files.specs.Tree.{folder_of}
-use Rattle.yf_files.proofs.RewriteLemmas.{beside, differs, rewritten, rewrote, unwritten}
+use Rattle.yf_files.proofs.RewriteLemmas.{beside, differs, rewritten, rewrote}
 use Rattle.yf_files.proofs.rewriting.rewrite.Goals as goal
 
 pub replace-requires-clause-beside : goal.replace-requires-clause-beside
