@@ -5,3 +5,5 @@ pub mod Calls
 pub mod Aside
 pub mod Replaced
 pub mod Rewritten
+pub mod Memory
+pub mod MemoryLaws

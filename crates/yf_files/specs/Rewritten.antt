@@ -1,6 +1,6 @@
 -- What a file holds that is rewritten by a formatter, at any moment.
 use Rattle.std.specs.Prelude.{◌≡◌, ◌≢◌, ◌⊎◌, ℕ, ◌≤◌, List, ◌++◌, Option, Some, codes}
-use Rattle.yf_files.specs.Tree.{Name, Node, regular, State, Finds, at}
+use Rattle.yf_files.specs.Tree.{Name, Node, regular, State, at}
 use Rattle.yf_files.specs.Calls.{Stays, HasFailed}
 use Rattle.yf_files.specs.Replaced.{Leaves, Replaced}
 use Rattle.yf_files.specs.declared.rewriting.RewriteError.{RewriteError}

@@ -2,9 +2,12 @@
 #![tactic(auto)]
 
 mod file_system;
+mod logs;
+mod memory;
 mod replacing;
 mod rewriting;
 
 pub use file_system::{Failed, FileSystem, ReadError};
+pub use memory::MemoryFiles;
 pub use replacing::ReplaceError;
 pub use rewriting::{Formatter, RewriteError, rewrite};

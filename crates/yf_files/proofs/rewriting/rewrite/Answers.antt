@@ -1,4 +1,4 @@
-use Rattle.std.proofs.Common.{◌≡◌, ◌∙◌, ap, sym}
+use Rattle.std.proofs.Common.{◌∙◌, ap, sym}
 use Rattle.yf_files.specs.Tree.{folder_of}
 use Rattle.yf_files.proofs.RewriteLemmas.{beside, differs, rewritten, rewrote}
 use Rattle.yf_files.proofs.rewriting.rewrite.Goals as goal
