@@ -8,6 +8,7 @@ mod replacing;
 mod rewriting;
 
 pub use file_system::{Failed, FileSystem, ReadError};
+pub use logs::Moment;
 pub use memory::MemoryFiles;
 pub use replacing::ReplaceError;
 pub use rewriting::{Formatter, RewriteError, rewrite};

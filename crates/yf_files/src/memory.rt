@@ -1,11 +1,11 @@
 //! A file system in memory, which can be stopped at any moment.
-ghost use Rattle.std.specs.Prelude.{◌≡◌, IfOk, IsErrOf, OnErr, ⊤};
+ghost use Rattle.std.specs.Prelude.{◌≡◌, ℕ, take, Some, IfOk, IfSome, IsErrOf, OnErr, ⊤};
 ghost use Rattle.yf_files.specs.Calls.{HasFailed, Stays};
-ghost use Rattle.yf_files.specs.Memory.{IsWell, state_of};
+ghost use Rattle.yf_files.specs.Memory.{IsWell, entry_of, state_of, text_of};
 ghost use Rattle.yf_files.specs.Tree.{Elapses};
 
 use crate::file_system::{Failed, FileSystem, ReadError};
-use crate::logs::Logs;
+use crate::logs::{Logs, Moment};
 use std::alloc::Global;
 
 /// Files in memory, and all that happened to them.
@@ -27,6 +27,33 @@ impl MemoryFiles {
             alloc,
             logs: Logs::new(alloc),
             fails_at,
+        }
+    }
+
+    /// The number of this moment.
+    pub fn moment(&self) -> usize {
+        self.logs.moments.len()
+    }
+
+    /// How much there was of the logs at a moment, and how much of it was stored.
+    pub fn at_moment(&self, moment: usize) -> Moment {
+        match self.logs.moments.get(moment) {
+            Some(past) => *past,
+            None => self.logs.now(),
+        }
+    }
+
+    /// What the file at a name holds after a stop at which these fronts of the logs are found.
+    pub fn found(&self, name: &str, changes: usize, contents: usize) -> Option<&[u8]>
+        ensures { IfSome result (λ text. (i : ℕ) × (entry_of (take changes self.now.logs.changes.items) name.now ≡ Some i)
+            × (text.now ≡ text_of (take contents self.now.logs.contents.items) i)) }
+    {
+        if changes > self.logs.changes.len() || contents > self.logs.contents.len() {
+            return None;
+        }
+        match self.logs.inode_at(name, changes) {
+            Some(inode) => Some(self.logs.text_of(inode, contents)),
+            None => None,
         }
     }
 
