@@ -1,0 +1,143 @@
+-- The state of a file system in memory: a log of the names that were given and taken away, and a log of what files were given to hold. At a stop
+-- some front of each log is found, no shorter than what was stored of it.
+use Rattle.std.specs.Prelude.{◌≡◌, ◌⊎◌, ℕ, ◌+◌, ◌<◌, ◌≤◌, ◌==◌, true, if◌then◌else◌, List, [], ◌∷◌, ◌++◌, length, take, Option, Some, None, string_bytes, slice_get}
+use Rattle.std.specs.Str.{bytes_eq}
+use Rattle.yf_files.specs.Tree.{Name, Node, regular, State, IsAt}
+use Rattle.yf_files.specs.declared.logs.Change.{Change}
+use Rattle.yf_files.specs.declared.logs.Content.{Content}
+use Rattle.yf_files.specs.declared.logs.Logs.{Logs}
+use Rattle.yf_files.specs.declared.logs.Moment.{Moment}
+
+-- the inode at a name after a change, where that one stood there before it
+abbrev pub changed : Change → Name → Option ℕ → Option ℕ
+changed c q before = if bytes_eq (string_bytes c.name) q then c.inode else (if bytes_eq (string_bytes c.freed) q then None else before)
+
+abbrev pub entry_from : Option ℕ → Name → List Change → Option ℕ
+entry_from before q [] = before
+entry_from before q (c ∷ changes) = entry_from (changed c q before) q changes
+
+-- the inode at a name after all changes
+abbrev pub entry_of : List Change → Name → Option ℕ
+entry_of changes q = entry_from None q changes
+
+abbrev pub text_from : List ℕ → ℕ → List Content → List ℕ
+text_from before i [] = before
+text_from before i (c ∷ contents) = text_from (if c.inode == i then c.bytes.items else before) i contents
+
+-- what an inode holds after all that files were given to hold; at first nothing
+abbrev pub text_of : List Content → ℕ → List ℕ
+text_of contents i = text_from [] i contents
+
+-- a front of a log, no shorter than what was stored of it
+abbrev pub IsFront : ℕ → ℕ → ℕ → Type 0
+IsFront stored all k = (stored ≤ k) × (k ≤ all)
+
+abbrev pub Stands : List Change → Moment → Name → Option ℕ → Type 0
+Stands changes m q o = (k : ℕ) × IsFront m.stored_changes m.changes k × (o ≡ entry_of (take k changes) q)
+
+abbrev pub Holds : List Content → Moment → ℕ → Node → Type 0
+Holds contents m i n = (k : ℕ) × IsFront m.stored_contents m.contents k × (n ≡ regular (text_of (take k contents) i))
+
+abbrev pub FoundAt : List Change → List Content → Moment → Name → Option Node → Type 0
+FoundAt changes contents m q x = (o : Option ℕ) × Stands changes m q o × IsAt (Holds contents m) o x
+
+-- now, or at one of the moments before
+abbrev pub FoundSince : List Change → List Content → List Moment → Moment → ℕ → Name → Option Node → Type 0
+FoundSince changes contents moments now t q x = FoundAt changes contents now q x
+    ⊎ ((j : ℕ) × (m : Moment) × (t ≤ j) × (slice_get moments j ≡ Some m) × FoundAt changes contents m q x)
+
+abbrev pub now_of : Logs → Moment
+now_of l = record {
+  changes = length l.changes.items;
+  contents = length l.contents.items;
+  stored_changes = l.stored_changes;
+  stored_contents = l.stored_contents;
+}
+
+abbrev pub state_of : Logs → State
+state_of l = record {
+  entry = entry_of l.changes.items;
+  node = λ i. regular (text_of l.contents.items i);
+  stands = Stands l.changes.items (now_of l);
+  holds = Holds l.contents.items (now_of l);
+  used = λ i. i < l.next;
+  failed = l.failed;
+  made = l.made;
+  moment = length l.moments.items;
+  since = FoundSince l.changes.items l.contents.items l.moments.items (now_of l);
+}
+
+-- no more is stored than there is, no moment had more than there is now, and an inode that ever stood somewhere is not used again
+pub record IsWell (l : Logs) : Type 0 where
+  pub changes : l.stored_changes ≤ length l.changes.items
+  pub contents : l.stored_contents ≤ length l.contents.items
+  pub past_changes : (j : ℕ) (m : Moment) → slice_get l.moments.items j ≡ Some m → m.changes ≤ length l.changes.items
+  pub past_contents : (j : ℕ) (m : Moment) → slice_get l.moments.items j ≡ Some m → m.contents ≤ length l.contents.items
+  pub used : (k : ℕ) (q : Name) (i : ℕ) → entry_of (take k l.changes.items) q ≡ Some i → i < l.next
+
+-- a moment has passed, in which nothing happened
+pub record Passes (old new : Logs) : Type 0 where
+  pub changes : new.changes.items ≡ old.changes.items
+  pub contents : new.contents.items ≡ old.contents.items
+  pub moments : new.moments.items ≡ old.moments.items ++ now_of old ∷ []
+  pub stored_changes : new.stored_changes ≡ old.stored_changes
+  pub stored_contents : new.stored_contents ≡ old.stored_contents
+  pub next : new.next ≡ old.next
+  pub made : new.made ≡ old.made
+  pub failed : new.failed ≡ old.failed
+
+-- nothing has happened, but that a call failed
+pub record Fails (old new : Logs) : Type 0 where
+  pub changes : new.changes.items ≡ old.changes.items
+  pub contents : new.contents.items ≡ old.contents.items
+  pub moments : new.moments.items ≡ old.moments.items
+  pub stored_changes : new.stored_changes ≡ old.stored_changes
+  pub stored_contents : new.stored_contents ≡ old.stored_contents
+  pub next : new.next ≡ old.next
+  pub made : new.made ≡ old.made
+  pub failed : new.failed ≡ true
+
+-- one change more
+pub record Changes (old new : Logs) (name freed : Name) (inode : Option ℕ) : Type 0 where
+  pub change : Change
+  pub named : string_bytes change.name ≡ name
+  pub frees : string_bytes change.freed ≡ freed
+  pub inode_is : change.inode ≡ inode
+  pub changes : new.changes.items ≡ old.changes.items ++ change ∷ []
+  pub contents : new.contents.items ≡ old.contents.items
+  pub moments : new.moments.items ≡ old.moments.items
+  pub stored_changes : new.stored_changes ≡ old.stored_changes
+  pub stored_contents : new.stored_contents ≡ old.stored_contents
+  pub next : new.next ≡ old.next
+  pub made : new.made ≡ old.made
+  pub failed : new.failed ≡ old.failed
+
+-- a name at which nothing stood is given to an inode that was not used
+pub record Makes (old new : Logs) (name : Name) : Type 0 where
+  pub was : entry_of old.changes.items name ≡ None
+  pub change : Change
+  pub named : string_bytes change.name ≡ name
+  pub frees : string_bytes change.freed ≡ name
+  pub inode_is : change.inode ≡ Some old.next
+  pub changes : new.changes.items ≡ old.changes.items ++ change ∷ []
+  pub contents : new.contents.items ≡ old.contents.items
+  pub moments : new.moments.items ≡ old.moments.items
+  pub stored_changes : new.stored_changes ≡ old.stored_changes
+  pub stored_contents : new.stored_contents ≡ old.stored_contents
+  pub next : new.next ≡ old.next + 1
+  pub made : new.made ≡ old.next
+  pub failed : new.failed ≡ old.failed
+
+-- one content more
+pub record Gives (old new : Logs) (i : ℕ) (text : List ℕ) : Type 0 where
+  pub content : Content
+  pub inode_is : content.inode ≡ i
+  pub has : content.bytes.items ≡ text
+  pub changes : new.changes.items ≡ old.changes.items
+  pub contents : new.contents.items ≡ old.contents.items ++ content ∷ []
+  pub moments : new.moments.items ≡ old.moments.items
+  pub stored_changes : new.stored_changes ≡ old.stored_changes
+  pub stored_contents : new.stored_contents ≡ old.stored_contents
+  pub next : new.next ≡ old.next
+  pub made : new.made ≡ old.made
+  pub failed : new.failed ≡ old.failed

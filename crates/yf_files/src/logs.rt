@@ -1,0 +1,217 @@
+//! What a file system in memory keeps: all that happened to its names and files, in order.
+ghost use Rattle.std.specs.Prelude.{◌≡◌, ◌≤◌, length, take, IfSome, OnOk, OnErr, Some};
+ghost use Rattle.yf_files.specs.Memory.{Changes, Fails, Gives, IsWell, Makes, Passes, changed, entry_of, now_of, state_of, text_of};
+ghost use Rattle.yf_files.specs.Tree.{at, regular};
+
+use crate::file_system::Failed;
+use std::alloc::Global;
+
+/// A name that was given to a file or taken away, and another one that was taken away with it.
+#[derive(Drop)]
+pub struct Change {
+    pub name: String,
+    pub inode: Option<usize>,
+    pub freed: String,
+}
+
+impl Change {
+    /// The inode at a name after the change, where that one stood there before.
+    fn inode_after(&self, name: &str, before: Option<usize>) -> Option<usize>
+        ensures { result ≡ changed self.now name.now before }
+    {
+        if self.name.as_str() == name {
+            return self.inode;
+        }
+        if self.freed.as_str() == name {
+            return None;
+        }
+        before
+    }
+}
+
+/// What a file was given to hold.
+#[derive(Drop)]
+pub struct Content {
+    pub inode: usize,
+    pub bytes: Vec<u8>,
+}
+
+/// How much there was of the two logs at a moment, and how much of it was stored.
+#[derive(Clone, Copy, Drop)]
+pub struct Moment {
+    pub changes: usize,
+    pub contents: usize,
+    pub stored_changes: usize,
+    pub stored_contents: usize,
+}
+
+/// The two logs, the moments before this one, and what is told of now.
+#[derive(Drop)]
+pub struct Logs {
+    pub changes: Vec<Change>,
+    pub contents: Vec<Content>,
+    pub moments: Vec<Moment>,
+    pub stored_changes: usize,
+    pub stored_contents: usize,
+    /// The next inode: those below it have stood somewhere.
+    pub next: usize,
+    /// The inode of the file that was made last.
+    pub made: usize,
+    /// Whether a call has failed.
+    pub failed: bool,
+}
+
+impl Logs {
+    /// Nothing has happened.
+    pub fn new(alloc: Global) -> Logs
+        ensures { IsWell result }
+    {
+        Logs {
+            changes: Vec::new(alloc),
+            contents: Vec::new(alloc),
+            moments: Vec::new(alloc),
+            stored_changes: 0,
+            stored_contents: 0,
+            next: 0,
+            made: 0,
+            failed: false,
+        }
+    }
+
+    /// How much there is now.
+    pub fn now(&self) -> Moment
+        ensures { result ≡ now_of self.now }
+    {
+        Moment {
+            changes: self.changes.len(),
+            contents: self.contents.len(),
+            stored_changes: self.stored_changes,
+            stored_contents: self.stored_contents,
+        }
+    }
+
+    /// Lets a moment pass. Where memory is refused, or the number of the moment is that of the call that is to fail, it fails.
+    pub fn pass(&mut self, fails_at: usize) -> Result<(), Failed>
+        ensures ok { OnOk result (Passes self.old self.new) }
+        ensures err { OnErr result (Fails self.old self.new) }
+    {
+        let now = self.now();
+        if self.moments.len() == fails_at {
+            return Err(self.fail());
+        }
+        match self.moments.push(now) {
+            Ok(()) => Ok(()),
+            Err(_) => Err(self.fail()),
+        }
+    }
+
+    /// Notes that a call has failed.
+    pub fn fail(&mut self) -> Failed
+        ensures { Fails self.old self.new }
+    {
+        self.failed = true;
+        Failed
+    }
+
+    /// The inode that stands at a name.
+    pub fn inode_at(&self, name: &str, front: usize) -> Option<usize>
+        requires { front ≤ length self.now.changes.items }
+        ensures { result ≡ entry_of (take front self.now.changes.items) name.now }
+    {
+        let changes = &self.changes.as_slice()[..front];
+        let mut inode = None;
+        for change in changes {
+            inode = change.inode_after(name, inode);
+        }
+        inode
+    }
+
+    /// The inode that stands at a name now.
+    pub fn inode_now(&self, name: &str) -> Option<usize>
+        ensures { result ≡ entry_of self.now.changes.items name.now }
+    {
+        self.inode_at(name, self.changes.len())
+    }
+
+    /// What the file at a name holds now.
+    pub fn text_at(&self, name: &str) -> Option<&[u8]>
+        ensures { IfSome result (λ text. at (state_of self.now) name.now ≡ Some (regular text.now)) }
+    {
+        match self.inode_now(name) {
+            Some(inode) => Some(self.text_of(inode, self.contents.len())),
+            None => None,
+        }
+    }
+
+    /// What a file holds.
+    pub fn text_of(&self, inode: usize, front: usize) -> &[u8]
+        requires { front ≤ length self.now.contents.items }
+        ensures { result.now ≡ text_of (take front self.now.contents.items) inode }
+    {
+        let contents = &self.contents.as_slice()[..front];
+        let mut text: &[u8] = &[];
+        for content in contents {
+            if content.inode == inode {
+                text = content.bytes.as_slice();
+            }
+        }
+        text
+    }
+
+    /// Gives a name to an inode or takes it away, and takes the other name away.
+    pub fn change(
+        &mut self,
+        alloc: Global,
+        name: &str,
+        inode: Option<usize>,
+        freed: &str,
+    ) -> Result<(), Failed>
+        ensures ok { OnOk result (Changes self.old self.new name.now freed.now inode) }
+        ensures err { OnErr result (Fails self.old self.new) }
+    {
+        let Ok(name) = String::from_str(alloc, name) else {
+            return Err(self.fail());
+        };
+        let Ok(freed) = String::from_str(alloc, freed) else {
+            return Err(self.fail());
+        };
+        let change = Change { name, inode, freed };
+        if self.changes.push(change).is_err() {
+            return Err(self.fail());
+        }
+        Ok(())
+    }
+
+    /// Gives a name at which nothing stands to an inode that was never used.
+    pub fn make(&mut self, alloc: Global, name: &str) -> Result<(), Failed>
+        ensures ok { OnOk result (Makes self.old self.new name.now) }
+        ensures err { OnErr result (Fails self.old self.new) }
+    {
+        let inode = self.next;
+        if inode == usize::MAX || self.inode_now(name).is_some() {
+            return Err(self.fail());
+        }
+        match self.change(alloc, name, Some(inode), name) {
+            Ok(()) => {}
+            Err(Failed) => return Err(Failed),
+        }
+        self.made = inode;
+        self.next = inode + 1;
+        Ok(())
+    }
+
+    /// Gives a file a text to hold.
+    pub fn give(&mut self, alloc: Global, inode: usize, text: &[u8]) -> Result<(), Failed>
+        ensures ok { OnOk result (Gives self.old self.new inode text.now) }
+        ensures err { OnErr result (Fails self.old self.new) }
+    {
+        let Ok(bytes) = text.to_vec(alloc) else {
+            return Err(self.fail());
+        };
+        let content = Content { inode, bytes };
+        if self.contents.push(content).is_err() {
+            return Err(self.fail());
+        }
+        Ok(())
+    }
+}

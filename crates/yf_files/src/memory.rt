@@ -1,0 +1,186 @@
+//! A file system in memory, which can be stopped at any moment.
+ghost use Rattle.std.specs.Prelude.{◌≡◌, ℕ, take, Some, IfOk, IfSome, IsErrOf, OnErr, ⊤};
+ghost use Rattle.yf_files.specs.Calls.{HasFailed, Stays};
+ghost use Rattle.yf_files.specs.Memory.{IsWell, entry_of, state_of, text_of};
+ghost use Rattle.yf_files.specs.Tree.{Elapses};
+
+use crate::file_system::{Failed, FileSystem, ReadError};
+use crate::logs::{Logs, Moment};
+use std::alloc::Global;
+
+/// Files in memory, and all that happened to them.
+///
+/// It loses at a stop what a real one may lose: what was not stored of names and of what files hold, each from some step on. A
+/// file is written in two steps.
+#[derive(Drop)]
+pub struct MemoryFiles {
+    alloc: Global,
+    logs: Logs,
+    fails_at: usize,
+    ghost well: { IsWell logs },
+}
+
+impl MemoryFiles {
+    /// No files. The call of that number, from 0 on, fails.
+    pub fn new(alloc: Global, fails_at: usize) -> MemoryFiles {
+        MemoryFiles {
+            alloc,
+            logs: Logs::new(alloc),
+            fails_at,
+        }
+    }
+
+    /// The number of this moment.
+    pub fn moment(&self) -> usize {
+        self.logs.moments.len()
+    }
+
+    /// How much there was of the logs at a moment, and how much of it was stored.
+    pub fn at_moment(&self, moment: usize) -> Moment {
+        match self.logs.moments.get(moment) {
+            Some(past) => *past,
+            None => self.logs.now(),
+        }
+    }
+
+    /// What the file at a name holds after a stop at which these fronts of the logs are found.
+    pub fn found(&self, name: &str, changes: usize, contents: usize) -> Option<&[u8]>
+        ensures { IfSome result (λ text. (i : ℕ) × (entry_of (take changes self.now.logs.changes.items) name.now ≡ Some i)
+            × (text.now ≡ text_of (take contents self.now.logs.contents.items) i)) }
+    {
+        if changes > self.logs.changes.len() || contents > self.logs.contents.len() {
+            return None;
+        }
+        match self.logs.inode_at(name, changes) {
+            Some(inode) => Some(self.logs.text_of(inode, contents)),
+            None => None,
+        }
+    }
+
+    // Lets a moment pass.
+    fn pass(&mut self) -> Result<(), Failed>
+        ensures stays { Stays (state_of self.old.logs) (state_of self.new.logs) }
+        ensures cause { OnErr result (HasFailed (state_of self.new.logs)) }
+        ensures time { Elapses (state_of self.old.logs) (state_of self.new.logs) }
+    {
+        match self.logs.pass(self.fails_at) {
+            Ok(()) => Ok(()),
+            Err(Failed) => Err(Failed),
+        }
+    }
+}
+
+impl FileSystem for MemoryFiles {
+    ghost use Rattle.yf_files.specs.MemoryLaws.{sound_of};
+
+    ghost tells = { ⊤ };
+
+    ghost state = { λ files. state_of files.logs };
+
+    ghost sound = { λ files _. sound_of files.logs files.well };
+
+    fn read(&mut self, alloc: Global, name: &str) -> Result<Vec<u8>, ReadError> {
+        match self.logs.pass(self.fails_at) {
+            Ok(()) => {}
+            Err(Failed) => return Err(ReadError::Failed),
+        }
+        match self.logs.text_at(name) {
+            Some(text) => copied(alloc, text),
+            None => {
+                let Failed = self.logs.fail();
+                Err(ReadError::Failed)
+            }
+        }
+    }
+
+    fn lock(&mut self) -> Result<(), Failed> {
+        self.pass()
+    }
+
+    fn confirm(&mut self, _name: &str) -> Result<(), Failed> {
+        self.pass()
+    }
+
+    fn remove(&mut self, name: &str) -> Result<(), Failed> {
+        match self.logs.pass(self.fails_at) {
+            Ok(()) => {}
+            Err(Failed) => return Err(Failed),
+        }
+        match self.logs.change(self.alloc, name, None, name) {
+            Ok(()) => Ok(()),
+            Err(Failed) => Err(Failed),
+        }
+    }
+
+    fn make(&mut self, name: &str) -> Result<(), Failed> {
+        match self.logs.pass(self.fails_at) {
+            Ok(()) => {}
+            Err(Failed) => return Err(Failed),
+        }
+        match self.logs.make(self.alloc, name) {
+            Ok(()) => Ok(()),
+            Err(Failed) => Err(Failed),
+        }
+    }
+
+    fn write(&mut self, bytes: &[u8]) -> Result<(), Failed> {
+        match self.logs.pass(self.fails_at) {
+            Ok(()) => {}
+            Err(Failed) => return Err(Failed),
+        }
+        let made = self.logs.made;
+        match self.logs.give(self.alloc, made, &bytes[..bytes.len() / 2]) {
+            Ok(()) => {}
+            Err(Failed) => return Err(Failed),
+        }
+        match self.logs.give(self.alloc, made, bytes) {
+            Ok(()) => Ok(()),
+            Err(Failed) => Err(Failed),
+        }
+    }
+
+    fn adopt(&mut self) -> Result<(), Failed> {
+        self.pass()
+    }
+
+    fn store(&mut self) -> Result<(), Failed> {
+        match self.logs.pass(self.fails_at) {
+            Ok(()) => {}
+            Err(Failed) => return Err(Failed),
+        }
+        self.logs.stored_contents = self.logs.contents.len();
+        Ok(())
+    }
+
+    fn rename(&mut self, from: &str, to: &str) -> Result<(), Failed> {
+        match self.logs.pass(self.fails_at) {
+            Ok(()) => {}
+            Err(Failed) => return Err(Failed),
+        }
+        let inode = self.logs.inode_now(from);
+        match self.logs.change(self.alloc, to, inode, from) {
+            Ok(()) => Ok(()),
+            Err(Failed) => Err(Failed),
+        }
+    }
+
+    fn store_folder(&mut self, _name: &str) -> Result<(), Failed> {
+        match self.logs.pass(self.fails_at) {
+            Ok(()) => {}
+            Err(Failed) => return Err(Failed),
+        }
+        self.logs.stored_changes = self.logs.changes.len();
+        Ok(())
+    }
+}
+
+// A copy of a text.
+fn copied(alloc: Global, text: &[u8]) -> Result<Vec<u8>, ReadError>
+    ensures ok { IfOk result (λ bytes. bytes.items ≡ text.now) }
+    ensures err { IsErrOf result ReadError.Failed → ⊥ }
+{
+    match text.to_vec(alloc) {
+        Ok(bytes) => Ok(bytes),
+        Err(_) => Err(ReadError::Memory),
+    }
+}

@@ -1,0 +1,96 @@
+//! A file that is rewritten by a formatter.
+ghost use Rattle.std.specs.Prelude.{◌≡◌, ℕ, List, IfOk, IfErr, OnOk, string_bytes};
+ghost use Rattle.yf_files.specs.Replaced.{AtAnyMoment};
+ghost use Rattle.yf_files.specs.Rewritten.{IsFormatting, LeavesRefused, Rewrote, new_name_of};
+
+use crate::file_system::{FileSystem, ReadError};
+use crate::replacing::{ReplaceError, replace};
+use std::alloc::{AllocError, Global};
+
+/// What gives a text in the house style.
+pub trait Formatter {
+    /// Why it gives none.
+    type Refusal: Drop;
+
+    /// The second text is a formatting of the first.
+    ghost Formats: { Self → List ℕ → List ℕ → Type 0 };
+
+    /// That is why the text has no formatting.
+    ghost Refuses: { Self → List ℕ → Self.Refusal → Type 0 };
+
+    /// The formatting of the text that the bytes are.
+    fn format(&self, alloc: Global, bytes: &[u8]) -> Result<String, Self::Refusal>
+        ensures formats { IfOk result (λ formatted. Formats self.now bytes.now (string_bytes formatted)) }
+        ensures refuses { IfErr result (Refuses self.now bytes.now) };
+}
+
+/// Why a file is not rewritten.
+#[derive(Drop)]
+pub enum RewriteError<E: Drop> {
+    /// Memory was refused. Nothing was touched.
+    Memory,
+    /// The file can't be read, or is no regular file. Nothing was touched.
+    Unreadable,
+    /// Its text has no formatting. Nothing was touched.
+    Refused(E),
+    /// The new text can't be put in its place.
+    Unwritten(ReplaceError),
+}
+
+/// Rewrites the file of that name by the formatter, by way of a new file with `.yamlfmt-new` after its name.
+///
+/// At any moment, also where the run or the machine stops, the file holds what it held or its formatting, whole. Where its text
+/// is its own formatting, nothing is touched.
+///
+/// # Errors
+///
+/// Those of reading; that of the formatter, where the text has no formatting; and `Unwritten`, which tells what is left, where
+/// another run rewrites the file, where it has changed since it was read, where nobody may write to it or its owner would
+/// change, or where a call failed. After each of them but `Unwritten(Unsure)` the file is as it was.
+pub fn rewrite<S: FileSystem, F: Formatter>(
+    alloc: Global,
+    files: &mut S,
+    formatter: &F,
+    file: &str,
+) -> Result<(), RewriteError<F::Refusal>>
+    ensures any_moment { S.tells → AtAnyMoment (S.state files.old) (S.state files.new) (new_name_of file.now)
+        (IsFormatting (F.Formats formatter.now) (S.state files.old) file.now) }
+    ensures rewrote { S.tells → OnOk result (Rewrote (F.Formats formatter.now) (S.state files.old) (S.state files.new) file.now) }
+    ensures refused { S.tells → IfErr result (LeavesRefused (F.Formats formatter.now) (F.Refuses formatter.now)
+        (S.state files.old) (S.state files.new) file.now) }
+{
+    let bytes = match files.read(alloc, file) {
+        Ok(bytes) => bytes,
+        Err(ReadError::Failed) => return Err(RewriteError::Unreadable),
+        Err(ReadError::Memory) => return Err(RewriteError::Memory),
+    };
+    let formatted = match formatter.format(alloc, bytes.as_slice()) {
+        Ok(formatted) => formatted,
+        Err(refusal) => return Err(RewriteError::Refused(refusal)),
+    };
+    if formatted.as_str().as_bytes() == bytes.as_slice() {
+        return Ok(());
+    }
+    let new_name = match new_name_of(alloc, file) {
+        Ok(new_name) => new_name,
+        Err(AllocError) => return Err(RewriteError::Memory),
+    };
+    match replace(
+        files,
+        file,
+        new_name.as_str(),
+        formatted.as_str().as_bytes(),
+    ) {
+        Ok(()) => Ok(()),
+        Err(error) => Err(RewriteError::Unwritten(error)),
+    }
+}
+
+// The name of the new file beside a file.
+fn new_name_of(alloc: Global, file: &str) -> Result<String, AllocError>
+    ensures { IfOk result (λ name. string_bytes name ≡ new_name_of file.now) }
+{
+    let mut name = String::from_str(alloc, file)?;
+    name.push_str(".yamlfmt-new")?;
+    Ok(name)
+}
