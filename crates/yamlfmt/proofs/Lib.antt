@@ -9,5 +9,3 @@ pub mod CommandLineLemmas
 pub mod ShownLemmas
 -- `answer`
 pub mod AnswerLemmas
--- `rewrite`
-pub mod FilesLemmas

@@ -1,11 +1,12 @@
 //! The whole program, over whatever it reads and writes: from the words of the command line to the status.
-ghost use Rattle.std.specs.Prelude.{◌≡◌, ℕ, List, Option, map, string_bytes, IfErr, MatchResult};
+ghost use Rattle.std.specs.Prelude.{◌≡◌, ℕ, List, Option, map, string_bytes, MatchResult};
 ghost use Rattle.yf_rules.specs.AllRules.{Are, FoundByAll, all_rules};
-ghost use Rattle.yamlfmt.specs.Answer.{Answers, Does, DoesIn, Opens, Rewritten, Sets, Unset, settings_of};
-ghost use Rattle.yamlfmt.specs.Files.{IsRewriteFault};
+ghost use Rattle.yamlfmt.specs.Answer.{Answers, Does, DoesIn, Opens, Sets, Unset, settings_of};
+ghost use Rattle.yamlfmt.specs.Files.{Rewritten};
 ghost use Rattle.yamlfmt.specs.Program.{Ran};
 
 use crate::command_line::{Cmd, parse_line};
+use crate::files::{Links, report_rewrite, rewrite};
 use crate::inputs::Inputs;
 use crate::program::{GOOD, answer_usage, read_style, run, written_out};
 use crate::report::report;
@@ -16,28 +17,23 @@ use yf_lines::text::OwnedText;
 use yf_lines::watched::{Sink, Source};
 use yf_rules::rule::Rule;
 
-/// What rewrites files.
-pub trait Rewriter {
-    /// Rewrites the file of that name in the house style.
-    fn rewrite(&mut self, name: &str, style: &Style) -> Result<(), Fault>
-        ensures { IfErr result IsRewriteFault };
-}
-
 /// Does what the words after the program's name ask for, with all rules of style, and answers the status.
 ///
 /// The settings are read first, and the input is opened only where they are taken. Nothing is held back in the writer at the
 /// end.
-pub fn answer<I: Inputs, F: Rewriter, W: Sink, E: Sink>(
+pub fn answer<I: Inputs, S: Links, W: Sink, E: Sink>(
     alloc: Global,
     words: &[String],
     rules: &[Box<dyn Rule>],
     inputs: &mut I,
-    files: &mut F,
+    files: &mut S,
     writer: &mut W,
     error_stream: &mut E,
 ) -> u8
     requires all { Are (λ rule. definition rule) rules.now all_rules }
-    ensures { Answers I.tells (I.holds inputs.old) (I.opened inputs.old) (I.opened inputs.new) (map string_bytes words.now) result
+    ensures { Answers I.tells (I.holds inputs.old) (I.opened inputs.old) (I.opened inputs.new)
+        (files.new ≡ files.old) (λ name style. Rewritten S.tells (S.state files.old) (S.state files.new) (S.leads files.old name) style)
+        (map string_bytes words.now) result
         (W.contents writer.old) (W.contents writer.new) (W.has_failed writer.old) (W.has_failed writer.new)
         (E.contents error_stream.old) (E.contents error_stream.new) (E.has_failed error_stream.old) (E.has_failed error_stream.new) }
 {
@@ -49,17 +45,19 @@ pub fn answer<I: Inputs, F: Rewriter, W: Sink, E: Sink>(
 }
 
 // Does a command, in the style that its settings set.
-fn do_command<I: Inputs, F: Rewriter, W: Sink, E: Sink>(
+fn do_command<I: Inputs, S: Links, W: Sink, E: Sink>(
     alloc: Global,
     command: &Cmd,
     rules: &[Box<dyn Rule>],
     inputs: &mut I,
-    files: &mut F,
+    files: &mut S,
     writer: &mut W,
     error_stream: &mut E,
 ) -> u8
     requires all { Are (λ rule. definition rule) rules.now all_rules }
-    ensures { Does I.tells (I.holds inputs.old) (I.opened inputs.old) (I.opened inputs.new) command.now result
+    ensures { Does I.tells (I.holds inputs.old) (I.opened inputs.old) (I.opened inputs.new)
+        (files.new ≡ files.old) (λ name style. Rewritten S.tells (S.state files.old) (S.state files.new) (S.leads files.old name) style)
+        command.now result
         (W.contents writer.old) (W.contents writer.new) (W.has_failed writer.old) (W.has_failed writer.new)
         (E.contents error_stream.old) (E.contents error_stream.new) (E.has_failed error_stream.old) (E.has_failed error_stream.new) }
 {
@@ -99,18 +97,20 @@ fn style_set<I: Inputs>(
 }
 
 // Does a command in a style: rewrites its file, or opens its input.
-fn do_in_style<I: Inputs, F: Rewriter, W: Sink, E: Sink>(
+fn do_in_style<I: Inputs, S: Links, W: Sink, E: Sink>(
     alloc: Global,
     command: &Cmd,
     rules: &[Box<dyn Rule>],
     style: &Style,
     inputs: &mut I,
-    files: &mut F,
+    files: &mut S,
     writer: &mut W,
     error_stream: &mut E,
 ) -> u8
     requires all { Are (λ rule. definition rule) rules.now all_rules }
-    ensures { DoesIn I.tells (I.holds inputs.old) (I.opened inputs.old) (I.opened inputs.new) command.now style.now result
+    ensures { DoesIn I.tells (I.holds inputs.old) (I.opened inputs.old) (I.opened inputs.new)
+        (files.new ≡ files.old) (λ name style. Rewritten S.tells (S.state files.old) (S.state files.new) (S.leads files.old name) style)
+        command.now style.now result
         (W.contents writer.old) (W.contents writer.new) (W.has_failed writer.old) (W.has_failed writer.new)
         (E.contents error_stream.old) (E.contents error_stream.new) (E.has_failed error_stream.old) (E.has_failed error_stream.new) }
 {
@@ -127,7 +127,7 @@ fn do_in_style<I: Inputs, F: Rewriter, W: Sink, E: Sink>(
         );
     };
     if command.write {
-        return rewrite_file(files, name.as_str(), style, error_stream);
+        return rewrite_named(alloc, files, name.as_str(), style, error_stream);
     }
     match inputs.open_file(name.as_str()) {
         Ok(mut file) => do_over(
@@ -143,19 +143,20 @@ fn do_in_style<I: Inputs, F: Rewriter, W: Sink, E: Sink>(
     }
 }
 
-// Rewrites a file, and answers the status.
-fn rewrite_file<F: Rewriter, E: Sink>(
-    files: &mut F,
+// Rewrites a file by its name, and answers the status.
+fn rewrite_named<S: Links, E: Sink>(
+    alloc: Global,
+    files: &mut S,
     name: &str,
     style: &Style,
     error_stream: &mut E,
 ) -> u8
-    ensures { Rewritten result (E.contents error_stream.old) (E.contents error_stream.new)
-        (E.has_failed error_stream.old) (E.has_failed error_stream.new) }
+    ensures { Rewritten S.tells (S.state files.old) (S.state files.new) (S.leads files.old name.now) style.now result
+        (E.contents error_stream.old) (E.contents error_stream.new) (E.has_failed error_stream.old) (E.has_failed error_stream.new) }
 {
-    match files.rewrite(name, style) {
+    match rewrite(alloc, files, name, style) {
         Ok(()) => GOOD,
-        Err(fault) => report(&fault, error_stream),
+        Err(why) => report_rewrite(&why, error_stream),
     }
 }
 

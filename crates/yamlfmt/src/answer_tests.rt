@@ -1,11 +1,12 @@
 //! The whole program over inputs in memory: its status, what it writes, and what it opens, in order.
-ghost use Rattle.std.specs.Prelude.{[], None, ⊥};
+ghost use Rattle.std.specs.Prelude.{◌≡◌, [], None, ⊥};
 ghost use Rattle.yf_rules.specs.AllRules.{Are, all_rules};
 
-use crate::answer::{Rewriter, answer};
+use crate::answer::answer;
+use crate::files::Links;
 use crate::inputs::Inputs;
 use std::alloc::{AllocError, Global};
-use yf_emit::style::Style;
+use yf_files::{FileSystem, MemoryFiles, RewriteError};
 use yf_lines::fault::Fault;
 use yf_lines::watched::Watched;
 use yf_rules::rule::Rule;
@@ -64,24 +65,35 @@ impl Inputs for Shelf {
     }
 }
 
-/// Notes the name of the file that is to be rewritten, and fails for one.
-#[derive(Drop)]
-struct Notes {
-    rewritten: Vec<u8>,
-}
+impl Links for MemoryFiles {
+    ghost leads = { λ _ name file. file ≡ name };
 
-impl Rewriter for Notes {
-    fn rewrite(&mut self, name: &str, style: &Style) -> Result<(), Fault> {
-        let _ = self.rewritten.extend_from_slice(name.as_bytes());
-        let _ = self.rewritten.push(b'0' + style.indent as u8);
-        if name == "locked.yaml" {
-            return Err(Fault::WriteFailed);
-        }
-        Ok(())
+    fn followed(&self, _alloc: Global, _name: &str) -> Result<Option<String>, RewriteError<Fault>> {
+        Ok(None)
     }
 }
 
-/// A command line, the status, the two streams' texts, what was opened, and what was rewritten.
+/// The file that may be rewritten, and what it holds before.
+const FILE: &str = "b.yaml";
+
+const BEFORE: &str = "- 'a'\n";
+
+/// A file system in memory with that file, or nothing where memory was refused.
+fn one_file(alloc: Global) -> Option<MemoryFiles> {
+    let mut files = MemoryFiles::new(alloc, usize::MAX);
+    if files.make(FILE).is_ok() && files.write(BEFORE.as_bytes()).is_ok() {
+        return Some(files);
+    }
+    None
+}
+
+/// Whether the file holds that text in the end.
+fn ends_with(files: &MemoryFiles, text: &str) -> bool {
+    let now = files.at_moment(files.moment());
+    files.found(FILE, now.changes, now.contents) == Some(text.as_bytes())
+}
+
+/// A command line, the status, the two streams' texts, what was opened, and what the file holds then.
 type Row = (
     &'static str,
     u8,
@@ -91,15 +103,15 @@ type Row = (
     &'static str,
 );
 
-static ROWS: [Row; 16] = [
-    ("fmt", 0, "---\n- \"a\"\n", "", "- ", ""),
+static ROWS: [Row; 17] = [
+    ("fmt", 0, "---\n- \"a\"\n", "", "- ", BEFORE),
     (
         "fmt --config good.toml",
         0,
         "---\n- 'a'\n",
         "",
         "good.toml - ",
-        "",
+        BEFORE,
     ),
     (
         "fmt --config good.toml a.yaml",
@@ -107,7 +119,7 @@ static ROWS: [Row; 16] = [
         "---\na: 'x'  # c\n",
         "",
         "good.toml a.yaml ",
-        "",
+        BEFORE,
     ),
     (
         "check a.yaml",
@@ -115,7 +127,7 @@ static ROWS: [Row; 16] = [
         "2:8 comment-space (fixable)\n",
         "",
         "a.yaml ",
-        "",
+        BEFORE,
     ),
     (
         "check a.yaml --config good.toml",
@@ -123,7 +135,7 @@ static ROWS: [Row; 16] = [
         "2:4 quoting (fixable)\n2:8 comment-space (fixable)\n",
         "",
         "good.toml a.yaml ",
-        "",
+        BEFORE,
     ),
     (
         "events refused.yaml",
@@ -131,16 +143,23 @@ static ROWS: [Row; 16] = [
         "",
         "2:6 refused: unknown-alias\n",
         "refused.yaml ",
-        "",
+        BEFORE,
     ),
-    ("fmt none.yaml", 3, "", "read failed\n", "none.yaml ", ""),
+    (
+        "fmt none.yaml",
+        3,
+        "",
+        "read failed\n",
+        "none.yaml ",
+        BEFORE,
+    ),
     (
         "fmt --config none.toml a.yaml",
         3,
         "",
         "read failed\n",
         "none.toml ",
-        "",
+        BEFORE,
     ),
     (
         "fmt --config bad.toml a.yaml",
@@ -148,7 +167,7 @@ static ROWS: [Row; 16] = [
         "",
         "config: a\n",
         "bad.toml ",
-        "",
+        BEFORE,
     ),
     (
         "fmt --config bad.toml none.yaml",
@@ -156,7 +175,7 @@ static ROWS: [Row; 16] = [
         "",
         "config: a\n",
         "bad.toml ",
-        "",
+        BEFORE,
     ),
     (
         "fmt --config no.toml a.yaml",
@@ -164,40 +183,34 @@ static ROWS: [Row; 16] = [
         "",
         "config: \n",
         "no.toml ",
-        "",
+        BEFORE,
     ),
     (
-        "fmt --write --config bad.toml a.yaml",
+        "fmt --write --config bad.toml b.yaml",
         3,
         "",
         "config: a\n",
         "bad.toml ",
-        "",
+        BEFORE,
     ),
-    ("fmt --write a.yaml", 0, "", "", "", "a.yaml2"),
+    ("fmt --write b.yaml", 0, "", "", "", "---\n- \"a\"\n"),
+    ("fmt --write none.yaml", 3, "", "read failed\n", "", BEFORE),
     (
-        "fmt --write locked.yaml",
-        3,
-        "",
-        "write failed\n",
-        "",
-        "locked.yaml2",
-    ),
-    (
-        "fmt --config good.toml --write a.yaml",
+        "fmt --config good.toml --write b.yaml",
         0,
         "",
         "",
         "good.toml ",
-        "a.yaml2",
+        "---\n- 'a'\n",
     ),
+    ("check b.yaml", 3, "", "read failed\n", "b.yaml ", BEFORE),
     (
         "fmt --write",
         3,
         "",
         "error: the argument '--write' needs a FILE\n\nUsage: yamlfmt fmt [OPTIONS] [FILE]\n\nFor more information, try '--help'.\n",
         "",
-        "",
+        BEFORE,
     ),
 ];
 
@@ -217,8 +230,8 @@ fn is_answered(alloc: Global, words: &[String], rules: &[Box<dyn Rule>], row: &R
     let mut shelf = Shelf {
         opened: Vec::new(alloc),
     };
-    let mut notes = Notes {
-        rewritten: Vec::new(alloc),
+    let Some(mut files) = one_file(alloc) else {
+        return false;
     };
     let mut writer = Watched::new(Vec::new(alloc));
     let mut error_stream = Watched::new(Vec::new(alloc));
@@ -227,7 +240,7 @@ fn is_answered(alloc: Global, words: &[String], rules: &[Box<dyn Rule>], row: &R
         words,
         rules,
         &mut shelf,
-        &mut notes,
+        &mut files,
         &mut writer,
         &mut error_stream,
     );
@@ -235,7 +248,7 @@ fn is_answered(alloc: Global, words: &[String], rules: &[Box<dyn Rule>], row: &R
         && writer.get_ref().as_slice() == row.2.as_bytes()
         && error_stream.get_ref().as_slice() == row.3.as_bytes()
         && shelf.opened.as_slice() == row.4.as_bytes()
-        && notes.rewritten.as_slice() == row.5.as_bytes()
+        && ends_with(&files, row.5)
 }
 
 /// Whether the row holds.
@@ -258,7 +271,7 @@ struct Answers {
 impl WithRules for Answers {
     type Answer = bool;
 
-    fn with_rules(self, rules: &[Box<dyn Rule>]) -> bool {
+    fn with_rules(&mut self, rules: &[Box<dyn Rule>]) -> bool {
         holds(self.alloc, rules, self.row)
     }
 }
@@ -268,7 +281,7 @@ fn answers_command_lines(rt: HostRuntime) {
     for row in &ROWS {
         let alloc = rt.alloc();
         assert!(rt;
-            matches!(with_all_rules(alloc, Answers { alloc, row }), Ok(true)),
+            matches!(with_all_rules(alloc, &mut Answers { alloc, row }), Ok(true)),
             "{}",
             row.0
         );

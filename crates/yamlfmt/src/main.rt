@@ -34,6 +34,8 @@ mod inputs;
 mod laws_tests;
 #[cfg(test)]
 mod limits_tests;
+#[cfg(test)]
+mod memory_tests;
 mod program;
 #[cfg(test)]
 mod program_tests;
@@ -50,16 +52,16 @@ mod shown_tests;
 #[cfg(test)]
 mod tests;
 
-use answer::{Rewriter, answer};
-use files::{open, rewrite};
+use answer::answer;
+use files::open;
 use inputs::Inputs;
+use replacing::SystemFiles;
 use report::report;
 use std::alloc::AllocError;
 use std::fs::File;
 use std::io::{BufWriter, Input};
 use std::process::ExitCode;
 use std::{env, io};
-use yf_emit::style::Style;
 use yf_lines::fault::Fault;
 use yf_lines::watched::{Sink, Watched};
 use yf_rules::rule::Rule;
@@ -126,7 +128,7 @@ impl<E: Sink> WithRules for Program<'_, E> {
                 self.words,
                 rules,
                 &mut System { rt: self.rt },
-                &mut System { rt: self.rt },
+                &mut SystemFiles::new(self.rt),
                 &mut Watched::new(output),
                 self.error_stream,
             ),
@@ -161,11 +163,5 @@ impl Inputs for System<'_> {
 
     fn open_standard(&mut self) -> Watched<<HostRuntime as Input>::Reader> {
         Watched::new(self.rt.reader())
-    }
-}
-
-impl Rewriter for System<'_> {
-    fn rewrite(&mut self, name: &str, style: &Style) -> Result<(), Fault> {
-        rewrite(self.rt, name, style)
     }
 }
