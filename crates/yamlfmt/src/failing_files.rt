@@ -6,6 +6,7 @@ use std::fs::{File, Files, Metadata, OpenFile, OpenOptions, Permissions};
 use std::io;
 use std::io::{Read, Seek, SeekFrom, Write};
 use std::os::unix::fs::MetadataExt;
+use std::path::PathBuf;
 
 /// What fails: of all files, or of a new one alone.
 #[derive(Clone, Copy, PartialEq, Eq)]
@@ -24,6 +25,10 @@ pub enum Step {
     Permit,
     Store,
     Rename,
+    /// The new file is neither renamed nor removed.
+    RenameAndRemove,
+    /// To have the folder stored.
+    StoreFolder,
 }
 
 fn failure() -> io::Error {
@@ -80,11 +85,13 @@ impl Files for FailingFiles<'_> {
 
     fn rename(&self, from: &str, to: &str) -> io::Result<()> {
         fail_at(self.fails, Step::Rename)?;
+        fail_at(self.fails, Step::RenameAndRemove)?;
         self.host.rename(from, to)
     }
 
     fn remove_file(&self, path: &str) -> io::Result<()> {
         fail_at(self.fails, Step::Remove)?;
+        fail_at(self.fails, Step::RenameAndRemove)?;
         self.host.remove_file(path)
     }
 
@@ -94,6 +101,10 @@ impl Files for FailingFiles<'_> {
 
     fn remove_dir(&self, path: &str) -> io::Result<()> {
         self.host.remove_dir(path)
+    }
+
+    fn canonicalize<B: Allocator>(&self, alloc: B, path: &str) -> io::Result<PathBuf<B>> {
+        self.host.canonicalize(alloc, path)
     }
 
     fn remove_dir_all<B: Allocator>(&self, alloc: B, path: &str) -> io::Result<()> {
@@ -151,7 +162,12 @@ impl OpenFile for FailingFile {
     }
 
     fn sync_all(&self) -> io::Result<()> {
-        fail_at(self.fails, Step::Store)?;
+        let step = if self.is_new {
+            Step::Store
+        } else {
+            Step::StoreFolder
+        };
+        fail_at(self.fails, step)?;
         self.file.sync_all()
     }
 

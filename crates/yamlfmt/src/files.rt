@@ -1,19 +1,26 @@
 //! The files of the program: what is read from them, and the one that is rewritten.
-ghost use Rattle.std.specs.Prelude.{◌≡◌, IfErr};
+ghost use Rattle.std.specs.Prelude.{◌≡◌, IfErr, OnOk};
+ghost use Rattle.yf_files.specs.Replaced.{AtAnyMoment};
+ghost use Rattle.yf_files.specs.Rewritten.{IsFormatting, LeavesRefused, Rewrote, new_name_of};
 ghost use Rattle.yf_lines.specs.declared.fault.Fault.TheVariants.{ReadFailed};
-ghost use Rattle.yamlfmt.specs.Files.{IsRewriteFault};
+ghost use Rattle.yamlfmt.specs.Files.{FormatsBytes, RefusesBytes, fault_of, rewrite_line};
+ghost use Rattle.yamlfmt.specs.Program.{Reached};
+ghost use Rattle.yamlfmt.specs.Report.{fault_status};
 
-use crate::replacing::{Held, Opened, open_regular, replace};
+use crate::replacing::{Held, SystemFiles};
+use crate::report::report;
 use std::alloc::Global;
-use std::fs::{File, Metadata};
+use std::fs::File;
+use std::path::PathBuf;
 use std::rt::Files;
+use std::{fs, io};
 use yf_chars::utf8::{BadByte, check_utf8};
 use yf_emit::format::format;
 use yf_emit::style::Style;
+use yf_files::{FileSystem, Formatter, ReplaceError, RewriteError};
 use yf_lines::fault::Fault;
-use yf_lines::watched::{Source, Watched};
-use yf_rules::input::read_all;
-use yf_rules::run::INPUT_LIMIT;
+use yf_lines::output::write_text;
+use yf_lines::watched::Sink;
 
 /// Opens a file for reading. One that cannot be opened is one that cannot be read (`Fault::ReadFailed`).
 pub fn open<R: Files>(rt: &R, path: &str) -> Result<R::File, Fault>
@@ -25,76 +32,116 @@ pub fn open<R: Files>(rt: &R, path: &str) -> Result<R::File, Fault>
     }
 }
 
-/// Rewrites the file at the path in the house style.
+/// Rewrites the file at the path in the house style; of a link, the file that it leads to.
 ///
 /// The whole text is read and formatted first. Where it is in the house style already, that is all. Else it is written to a
-/// new file, of the path with `.yamlfmt-new` after it, which is renamed to the path (`replace`). So the file holds its old
+/// new file, of the path with `.yamlfmt-new` after it, which is renamed to the path (`rewrite_in`). So the file holds its old
 /// text or the new one, whole, at any time.
 ///
 /// # Errors
 ///
-/// `Fault::ReadFailed` where there is no regular file at the path, nor a link to one, that can be read; those of
-/// `read_formatted`; `Fault::Memory`; and `Fault::WriteFailed` where another run rewrites the file, where it has changed
-/// since it was read, or where the new file can't be made, written or renamed. After each of them the file is as it was.
-pub fn rewrite<R: Files + AllocGlobal>(rt: &R, path: &str, style: &Style) -> Result<(), Fault>
-where
-    R::File: Held,
-    ensures { IfErr result IsRewriteFault }
-{
-    let Ok(Opened { file, metadata }) = open_regular(rt, path) else {
-        return Err(Fault::ReadFailed);
-    };
-    let mut reader = Watched::new(file);
-    match changed_text(rt.alloc(), &mut reader, style)? {
-        Some(text) => replace_text(rt, reader.get_ref(), &metadata, path, text.as_str()),
-        None => Ok(()),
-    }
-}
-
-// The text that is read, in the house style; nothing where it is in it already.
-fn changed_text<R: Source>(
-    alloc: Global,
-    reader: &mut R,
-    style: &Style,
-) -> Result<Option<String>, Fault>
-    ensures { IfErr result IsRewriteFault }
-{
-    let bytes = read_all(alloc, reader, INPUT_LIMIT)?;
-    let formatted = format_bytes(alloc, bytes.as_slice(), style)?;
-    if formatted.as_str().as_bytes() == bytes.as_slice() {
-        return Ok(None);
-    }
-    Ok(Some(formatted))
-}
-
-// Puts the text in the place of the open file, by way of a new file beside it.
-fn replace_text<R: Files + AllocGlobal>(
+/// `Unreadable` where there is no regular file at the path, nor a link to one, that can be read; `Refused` with the faults of
+/// `format`, and `Fault::NotUtf8`; `Memory`; and `Unwritten` where another run rewrites the file, where it has changed since it
+/// was read, where nobody may write to it or its owner would change, or where the new file can't be made, written or renamed.
+/// After each of them but `Unwritten(Unsure)` the file is as it was.
+pub fn rewrite<R: Files + AllocGlobal>(
     rt: &R,
-    file: &R::File,
-    metadata: &Metadata,
     path: &str,
-    text: &str,
-) -> Result<(), Fault>
+    style: &Style,
+) -> Result<(), RewriteError<Fault>>
 where
     R::File: Held,
-    ensures { IfErr result IsRewriteFault }
 {
-    let Ok(new_path) = format!(in rt.alloc(); "{path}.yamlfmt-new") else {
-        return Err(Fault::Memory);
-    };
-    match replace(rt, file, metadata, path, new_path.as_str(), text) {
-        Ok(()) => Ok(()),
-        Err(_) => Err(Fault::WriteFailed),
+    match resolved(rt, path) {
+        Ok(None) => rewrite_in(rt.alloc(), &mut SystemFiles::new(rt), path, style),
+        Ok(Some(file)) => {
+            rewrite_in(rt.alloc(), &mut SystemFiles::new(rt), file.as_str(), style)
+        }
+        Err(error) if error.kind() == io::ErrorKind::OutOfMemory => Err(RewriteError::Memory),
+        Err(_) => Err(RewriteError::Unreadable),
     }
 }
 
-// The text that the bytes are, in the house style.
-fn format_bytes(alloc: Global, bytes: &[u8], style: &Style) -> Result<String, Fault>
-    ensures { IfErr result IsRewriteFault }
-{
-    let text = match check_utf8(bytes) {
-        Ok(text) => text,
-        Err(BadByte { offset }) => return Err(Fault::NotUtf8 { offset }),
-    };
-    format(alloc, text, style)
+// The path of what a link leads to; nothing where the path is none of a link.
+fn resolved<R: Files + AllocGlobal>(rt: &R, path: &str) -> io::Result<Option<PathBuf>> {
+    if fs::symlink_metadata(rt, path)?.is_symlink() {
+        return Ok(Some(fs::canonicalize(rt, path)?));
+    }
+    Ok(None)
 }
+
+/// Rewrites a file of a file system in the house style.
+///
+/// At any moment, also where the run or the machine stops, the file holds what it held or exactly the formatting of its text,
+/// whole, and each name but the new one holds what it held.
+pub fn rewrite_in<S: FileSystem>(
+    alloc: Global,
+    files: &mut S,
+    file: &str,
+    style: &Style,
+) -> Result<(), RewriteError<Fault>>
+    ensures any_moment { S.tells → AtAnyMoment (S.state files.old) (S.state files.new) (new_name_of file.now)
+        (IsFormatting (FormatsBytes style.now) (S.state files.old) file.now) }
+    ensures rewrote { S.tells → OnOk result (Rewrote (FormatsBytes style.now) (S.state files.old) (S.state files.new) file.now) }
+    ensures refused { S.tells → IfErr result (LeavesRefused (FormatsBytes style.now) RefusesBytes
+        (S.state files.old) (S.state files.new) file.now) }
+{
+    yf_files::rewrite(alloc, files, &InStyle { style }, file)
+}
+
+/// What gives the bytes of a text in a style.
+#[derive(Clone, Copy)]
+struct InStyle<'a> {
+    style: &'a Style,
+}
+
+impl Formatter for InStyle<'_> {
+    type Refusal = Fault;
+
+    ghost Formats = { λ it bytes text. FormatsBytes it.style.now bytes text };
+
+    ghost Refuses = { λ _ bytes fault. RefusesBytes bytes fault };
+
+    fn format(&self, alloc: Global, bytes: &[u8]) -> Result<String, Fault> {
+        let text = match check_utf8(bytes) {
+            Ok(text) => text,
+            Err(BadByte { offset }) => return Err(Fault::NotUtf8 { offset }),
+        };
+        format(alloc, text, self.style)
+    }
+}
+
+/// Writes the line of a file that is not rewritten to the error stream, and answers the status of its fault. Where the new file
+/// is left, or the new text may not survive a crash, the line says so.
+pub fn report_rewrite<E: Sink>(error: &RewriteError<Fault>, error_stream: &mut E) -> u8
+    ensures status { result ≡ fault_status (fault_of error.now) }
+    ensures line { Reached (E.contents error_stream.old) (E.contents error_stream.new)
+        (E.has_failed error_stream.old) (E.has_failed error_stream.new) (rewrite_line error.now) }
+{
+    match error {
+        RewriteError::Memory => report(&Fault::Memory, error_stream),
+        RewriteError::Unreadable => report(&Fault::ReadFailed, error_stream),
+        RewriteError::Refused(fault) => report(fault, error_stream),
+        RewriteError::Unwritten(ReplaceError::Untouched) => report(
+            &Fault::WriteFailed,
+            error_stream,
+        ),
+        RewriteError::Unwritten(ReplaceError::Left) => {
+            let _ = write_text(
+                error_stream,
+                b"write failed: the .yamlfmt-new file is left\n",
+            );
+            UNWRITTEN
+        }
+        RewriteError::Unwritten(ReplaceError::Unsure) => {
+            let _ = write_text(
+                error_stream,
+                b"write failed: the new text may not survive a crash\n",
+            );
+            UNWRITTEN
+        }
+    }
+}
+
+/// The status of a write that fails.
+const UNWRITTEN: u8 = 3;

@@ -4,9 +4,10 @@ use crate::answers::is_true;
 use crate::failing_files::{FailingFiles, Step};
 use crate::files::rewrite;
 use std::fs::Permissions;
-use std::os::unix::fs::{MetadataExt, PermissionsExt};
+use std::os::unix::fs::{MetadataExt, PermissionsExt, symlink};
 use std::{fs, io};
 use yf_emit::style::Style;
+use yf_files::{ReplaceError, RewriteError};
 use yf_lines::fault::Fault;
 
 /// Makes an empty folder.
@@ -22,16 +23,29 @@ enum Answer {
     Syntax,
     ReadFailed,
     WriteFailed,
+    /// The new file is left.
+    Left,
+    /// The new text may not survive a crash.
+    Unsure,
 }
 
 /// Whether that is the answer.
-fn is_answer(answer: &Result<(), Fault>, wanted: Answer) -> bool {
+fn is_answer(answer: &Result<(), RewriteError<Fault>>, wanted: Answer) -> bool {
     match answer {
         Ok(()) => matches!(wanted, Answer::Rewritten),
-        Err(Fault::Syntax { .. }) => matches!(wanted, Answer::Syntax),
-        Err(Fault::ReadFailed) => matches!(wanted, Answer::ReadFailed),
-        Err(Fault::WriteFailed) => matches!(wanted, Answer::WriteFailed),
+        Err(RewriteError::Refused(Fault::Syntax { .. })) => matches!(wanted, Answer::Syntax),
+        Err(RewriteError::Unreadable) => matches!(wanted, Answer::ReadFailed),
+        Err(RewriteError::Unwritten(error)) => is_left(*error, wanted),
         Err(_) => false,
+    }
+}
+
+/// Whether that is the answer where a file was not written.
+fn is_left(error: ReplaceError, wanted: Answer) -> bool {
+    match error {
+        ReplaceError::Untouched => matches!(wanted, Answer::WriteFailed),
+        ReplaceError::Left => matches!(wanted, Answer::Left),
+        ReplaceError::Unsure => matches!(wanted, Answer::Unsure),
     }
 }
 
@@ -76,7 +90,7 @@ fn ends_with(
 }
 
 /// Texts of a file, the step that fails, the answer, and the text of the file after it.
-static TEXTS: [(&str, Step, Answer, &str); 7] = [
+static TEXTS: [(&str, Step, Answer, &str); 8] = [
     // a text that is refused
     ("a: b: c\n", Step::Nothing, Answer::Syntax, "a: b: c\n"),
     // the new file fails
@@ -87,6 +101,13 @@ static TEXTS: [(&str, Step, Answer, &str); 7] = [
         Step::Rename,
         Answer::WriteFailed,
         "- a\n- b\n",
+    ),
+    // the folder can't be stored
+    (
+        "- a\n- b\n",
+        Step::StoreFolder,
+        Answer::Unsure,
+        "---\n- a\n- b\n",
     ),
     // once and twice
     (
@@ -121,6 +142,44 @@ fn keeps_permissions(rt: &HostRuntime) -> io::Result<bool> {
     Ok(is_rewritten && has_text(rt, "---\n- a\n- b\n") && mode & 0o777 == 0o640)
 }
 
+/// Whether the new file is left where it can be neither renamed nor removed, and the file is as it was.
+fn leaves_the_new_file(rt: &HostRuntime) -> io::Result<bool> {
+    make_folder(rt, "yamlfmt_rewrites")?;
+    fs::write(rt, PATH, "- a\n- b\n")?;
+    let is_left = answers(rt, PATH, Step::RenameAndRemove, Answer::Left);
+    let is_same = fs::read_to_string(rt, PATH)?.as_str() == "- a\n- b\n";
+    Ok(is_left && is_same && fs::exists(rt, NEW_PATH)?)
+}
+
+/// Whether a file that nobody may write to is left as it was, but for one in the house style, which needs no writing.
+fn leaves_read_only(rt: &HostRuntime, text: &str, wanted: Answer) -> io::Result<bool> {
+    make_folder(rt, "yamlfmt_rewrites")?;
+    fs::write(rt, PATH, text)?;
+    fs::set_permissions(rt, PATH, Permissions::from_mode(0o444))?;
+    Ok(host_answers(rt, PATH, wanted) && has_text(rt, text))
+}
+
+/// Whether a link stays, and the file that it leads to is rewritten in its own folder.
+fn follows_links(rt: &HostRuntime) -> io::Result<bool> {
+    make_folder(rt, "yamlfmt_rewrites")?;
+    fs::create_dir(rt, "yamlfmt_rewrites/links")?;
+    fs::write(rt, PATH, "- a\n- b\n")?;
+    symlink(rt, "../a.yaml", "yamlfmt_rewrites/links/b.yaml")?;
+    symlink(rt, "b.yaml", "yamlfmt_rewrites/links/c.yaml")?;
+    let is_rewritten = host_answers(rt, "yamlfmt_rewrites/links/c.yaml", Answer::Rewritten);
+    let is_link = fs::symlink_metadata(rt, "yamlfmt_rewrites/links/c.yaml")?.is_symlink()
+        && fs::symlink_metadata(rt, "yamlfmt_rewrites/links/b.yaml")?.is_symlink();
+    let is_alone = !fs::exists(rt, "yamlfmt_rewrites/links/c.yaml.yamlfmt-new")?;
+    Ok(is_rewritten && is_link && is_alone && has_text(rt, "---\n- a\n- b\n"))
+}
+
+/// Whether a link that leads nowhere is refused.
+fn refuses_a_broken_link(rt: &HostRuntime) -> io::Result<bool> {
+    make_folder(rt, "yamlfmt_rewrites")?;
+    symlink(rt, "missing", PATH)?;
+    Ok(host_answers(rt, PATH, Answer::ReadFailed) && !fs::exists(rt, NEW_PATH)?)
+}
+
 #[test]
 fn rewrites_files_or_leaves_them(rt: HostRuntime) {
     for (old, fails, wanted, new) in &TEXTS {
@@ -130,6 +189,11 @@ fn rewrites_files_or_leaves_them(rt: HostRuntime) {
         );
     }
     assert!(rt; is_true(&keeps_permissions(&rt)));
+    assert!(rt; is_true(&leaves_the_new_file(&rt)));
+    assert!(rt; is_true(&leaves_read_only(&rt, "- a\n", Answer::WriteFailed)));
+    assert!(rt; is_true(&leaves_read_only(&rt, "---\n- a\n", Answer::Rewritten)));
+    assert!(rt; is_true(&follows_links(&rt)));
+    assert!(rt; is_true(&refuses_a_broken_link(&rt)));
     assert!(rt; fs::remove_dir_all(&rt, "yamlfmt_rewrites").is_ok());
 }
 

@@ -25,6 +25,8 @@ mod fmt_tests;
 mod hostile_tests;
 #[cfg(test)]
 mod laws_tests;
+#[cfg(test)]
+mod memory_tests;
 mod program;
 #[cfg(test)]
 mod program_tests;
@@ -43,7 +45,7 @@ mod shown_tests;
 mod tests;
 
 use command_line::{Cmd, parse_line};
-use files::{open, rewrite};
+use files::{open, report_rewrite, rewrite};
 use program::{GOOD, answer_usage, read_style, run, written_out};
 use report::report;
 use rules::{WithRules, with_all_rules};
@@ -102,7 +104,7 @@ fn run_files(rt: &HostRuntime, command: &Cmd) -> Result<u8, Fault> {
         None => Style::house(),
     };
     let answer = match &command.file {
-        Some(path) if command.write => return rewritten(rt, path.as_str(), &style),
+        Some(path) if command.write => return Ok(rewritten(rt, path.as_str(), &style)),
         Some(path) => {
             run_with_rules(
                 rt,
@@ -120,9 +122,11 @@ fn run_files(rt: &HostRuntime, command: &Cmd) -> Result<u8, Fault> {
 }
 
 /// Rewrites a file, and answers the status.
-fn rewritten(rt: &HostRuntime, path: &str, style: &Style) -> Result<u8, Fault> {
-    rewrite(rt, path, style)?;
-    Ok(GOOD)
+fn rewritten(rt: &HostRuntime, path: &str, style: &Style) -> u8 {
+    match rewrite(rt, path, style) {
+        Ok(()) => GOOD,
+        Err(error) => report_rewrite(&error, &mut Watched::new(rt.stderr())),
+    }
 }
 
 /// Does a command with all rules of style, and answers its status.

@@ -1,10 +1,17 @@
-//! A file that gets another text, by a new file beside it that is renamed to it.
+//! The files of the system, by the calls with which a file is rewritten.
+ghost use Rattle.yf_files.specs.Tree.{unknown};
 
+use std::alloc::Global;
 use std::fs::{File, Metadata, OpenFile, OpenOptions, Permissions, TryLockError};
 use std::io::{ErrorKind, Write};
 use std::os::unix::fs::{MetadataExt, OpenOptionsExt, PermissionsExt, fchown};
 use std::rt::Files;
 use std::{fs, io};
+use yf_files::{Failed, FileSystem, ReadError};
+use yf_lines::fault::Fault;
+use yf_lines::watched::Watched;
+use yf_rules::input::read_all;
+use yf_rules::run::INPUT_LIMIT;
 
 /// The permissions of a file that its owner alone may read.
 const PRIVATE: u32 = 0o600;
@@ -55,51 +62,6 @@ fn regular<F: OpenFile + Drop>(file: F) -> io::Result<Opened<F>> {
     }
 }
 
-/// Puts the text in the place of the file that is open, whose path it is, by way of a new file at the other path.
-///
-/// The file is locked first. Whatever then stands at the path of the new file was left by a run that ended early, and is
-/// removed: a link itself, not what it leads to; a folder fails. The new file is made only where nothing stands, for its
-/// owner alone to read. It gets the owner and the group of the old file where the system allows, the text, and the
-/// permissions of the old file; then it is stored and renamed. After a failure it is removed.
-///
-/// It fails where the file is no more what it was as it was opened.
-pub fn replace<R: Files>(
-    rt: &R,
-    file: &R::File,
-    metadata: &Metadata,
-    path: &str,
-    new_path: &str,
-    text: &str,
-) -> io::Result<()>
-where
-    R::File: Held,
-{
-    let is_alone = file.hold()?;
-    require_unchanged(rt, path, metadata)?;
-    clear(rt, new_path, is_alone)?;
-    let mut new_file = make(rt, new_path)?;
-    match fill(&mut new_file, metadata, text) {
-        Ok(()) => {}
-        Err(error) => return Err(removed(rt, new_path, error)),
-    }
-    match put(rt, path, metadata, new_path) {
-        Ok(()) => Ok(()),
-        Err(error) => Err(removed(rt, new_path, error)),
-    }
-}
-
-// Renames the new file to the path, where the old one still stands as it was read.
-fn put<R: Files>(rt: &R, path: &str, metadata: &Metadata, new_path: &str) -> io::Result<()> {
-    require_unchanged(rt, path, metadata)?;
-    fs::rename(rt, new_path, path)
-}
-
-// Removes the new file after an error.
-fn removed<R: Files>(rt: &R, new_path: &str, error: io::Error) -> io::Error {
-    let _ = fs::remove_file(rt, new_path);
-    error
-}
-
 fn require(condition: bool) -> io::Result<()> {
     if condition {
         return Ok(());
@@ -107,9 +69,146 @@ fn require(condition: bool) -> io::Result<()> {
     Err(io::Error::from(ErrorKind::InvalidInput))
 }
 
-// Fails where another file stands at the path, or this one was written since.
+// What a call of the system answered, without its error.
+fn answer(outcome: io::Result<()>) -> Result<(), Failed> {
+    match outcome {
+        Ok(()) => Ok(()),
+        Err(_) => Err(Failed),
+    }
+}
+
+/// The files of the system, the one of them that was read last, and the one that was made last.
+///
+/// Each method makes the calls of the system that it is named for. What the system holds is not told, so nothing is claimed of
+/// it: that its calls do what `FileSystem` says is trusted.
+#[derive(Drop)]
+pub struct SystemFiles<'a, R: Files> {
+    rt: &'a R,
+    opened: Option<Opened<R::File>>,
+    made: Option<R::File>,
+    /// Whether no other run is at work on the file, or what stands at the new name is ours.
+    is_alone: bool,
+}
+
+impl<'a, R: Files> SystemFiles<'a, R> {
+    pub fn new(rt: &'a R) -> SystemFiles<'a, R> {
+        SystemFiles {
+            rt,
+            opened: None,
+            made: None,
+            is_alone: false,
+        }
+    }
+}
+
+impl<R: Files> FileSystem for SystemFiles<'_, R>
+where
+    R::File: Held,
+{
+    ghost tells = { ⊥ };
+
+    ghost state = { λ _. unknown };
+
+    ghost sound = { λ _ told. absurd told };
+
+    fn read(&mut self, alloc: Global, name: &str) -> Result<Vec<u8>, ReadError> {
+        let Ok(Opened { file, metadata }) = open_regular(self.rt, name) else {
+            return Err(ReadError::Failed);
+        };
+        let mut reader = Watched::new(file);
+        let bytes = match read_all(alloc, &mut reader, INPUT_LIMIT) {
+            Ok(bytes) => bytes,
+            Err(Fault::Memory) => return Err(ReadError::Memory),
+            Err(_) => return Err(ReadError::Failed),
+        };
+        let file = reader.into_inner();
+        self.opened = Some(Opened { file, metadata });
+        Ok(bytes)
+    }
+
+    fn lock(&mut self) -> Result<(), Failed> {
+        let Some(opened) = &self.opened else {
+            return Err(Failed);
+        };
+        if opened.metadata.permissions().readonly() {
+            return Err(Failed);
+        }
+        match opened.file.hold() {
+            Ok(is_alone) => {
+                self.is_alone = is_alone;
+                Ok(())
+            }
+            Err(_) => Err(Failed),
+        }
+    }
+
+    fn confirm(&mut self, name: &str) -> Result<(), Failed> {
+        match &self.opened {
+            Some(opened) => answer(require_unchanged(self.rt, name, &opened.metadata)),
+            None => Err(Failed),
+        }
+    }
+
+    fn remove(&mut self, name: &str) -> Result<(), Failed> {
+        answer(clear(self.rt, name, self.is_alone))
+    }
+
+    fn make(&mut self, name: &str) -> Result<(), Failed> {
+        match make(self.rt, name) {
+            Ok(file) => {
+                self.made = Some(file);
+                self.is_alone = true;
+                Ok(())
+            }
+            Err(_) => Err(Failed),
+        }
+    }
+
+    fn write(&mut self, bytes: &[u8]) -> Result<(), Failed> {
+        match &mut self.made {
+            Some(file) => answer(file.write_all(bytes)),
+            None => Err(Failed),
+        }
+    }
+
+    fn adopt(&mut self) -> Result<(), Failed> {
+        match (&self.made, &self.opened) {
+            (Some(made), Some(opened)) => answer(give(made, &opened.metadata)),
+            _ => Err(Failed),
+        }
+    }
+
+    fn store(&mut self) -> Result<(), Failed> {
+        match &self.made {
+            Some(file) => answer(file.sync_all()),
+            None => Err(Failed),
+        }
+    }
+
+    fn rename(&mut self, from: &str, to: &str) -> Result<(), Failed> {
+        answer(fs::rename(self.rt, from, to))
+    }
+
+    fn store_folder(&mut self, name: &str) -> Result<(), Failed> {
+        match File::open(self.rt, folder_of(name)) {
+            Ok(folder) => answer(folder.sync_all()),
+            Err(_) => Err(Failed),
+        }
+    }
+}
+
+// The path of the folder in which a file stands.
+fn folder_of(path: &str) -> &str {
+    match path.rsplit_once('/') {
+        Some(("", _)) => "/",
+        Some((folder, _)) => folder,
+        None => ".",
+    }
+}
+
+// Fails where another file stands at the path, or a link, or this one was written since.
 fn require_unchanged<R: Files>(rt: &R, path: &str, metadata: &Metadata) -> io::Result<()> {
-    let now = fs::metadata(rt, path)?;
+    let now = fs::symlink_metadata(rt, path)?;
     require(is_same_file(&now, metadata))?;
     require(is_same_text(&now, metadata))
 }
@@ -145,16 +244,14 @@ fn make<R: Files>(rt: &R, new_path: &str) -> io::Result<R::File> {
         .open(rt, new_path)
 }
 
-// Gives the new file its owner, its text and its permissions, and has it stored.
-fn fill<F: Held + Write>(new_file: &mut F, old: &Metadata, text: &str) -> io::Result<()> {
+// Gives the new file the owner, the group and the permissions of the old one.
+fn give<F: Held>(new_file: &F, old: &Metadata) -> io::Result<()> {
     let has_group = keep_owner(new_file, old)?;
-    new_file.write_all(text.as_bytes())?;
     let mode = mode_of(old.mode(), has_group);
-    new_file.set_permissions(Permissions::from_mode(mode))?;
-    new_file.sync_all()
+    new_file.set_permissions(Permissions::from_mode(mode))
 }
 
-// Gives the new file the owner and the group of the old one where the system allows, and answers whether it has that group.
+// Gives the new file the owner of the old one, and its group where the system allows, and answers whether it has that group.
 fn keep_owner<F: Held>(new_file: &F, old: &Metadata) -> io::Result<bool> {
     let new = new_file.metadata()?;
     if new.uid() == old.uid() && new.gid() == old.gid() {
@@ -162,6 +259,9 @@ fn keep_owner<F: Held>(new_file: &F, old: &Metadata) -> io::Result<bool> {
     }
     if new_file.give_to(Some(old.uid()), Some(old.gid())).is_ok() {
         return Ok(true);
+    }
+    if new.uid() != old.uid() {
+        new_file.give_to(Some(old.uid()), None)?;
     }
     Ok(new.gid() == old.gid() || new_file.give_to(None, Some(old.gid())).is_ok())
 }

@@ -1,11 +1,15 @@
 //! Files that get another text, in a folder of their own: what stands at the path of the new file, and each step that fails.
 
+ghost use Rattle.std.specs.Prelude.{⊤};
+
 use crate::failing_files::{FailingFiles, Step};
-use crate::replacing::{Held, Opened, mode_of, open_regular, replace};
+use crate::replacing::{Held, SystemFiles, mode_of, open_regular};
+use std::alloc::Global;
 use std::fs::{File, Permissions};
 use std::os::unix::fs::{MetadataExt, PermissionsExt, chown, symlink};
 use std::rt::Files;
 use std::{fs, io};
+use yf_files::{Formatter, rewrite};
 
 const OLD: &str = "- a\n- b\n";
 
@@ -30,28 +34,54 @@ fn make_folder(rt: &HostRuntime, folder: &Folder) -> io::Result<()> {
     fs::write(rt, folder.other, OTHER)
 }
 
-/// Puts the new text in the place of the file that is open.
-fn put_over<R: Files>(rt: &R, folder: &Folder, opened: &Opened<R::File>) -> io::Result<()>
-where
-    R::File: Held,
-{
-    replace(
-        rt,
-        &opened.file,
-        &opened.metadata,
-        folder.path,
-        folder.new_path,
-        NEW,
-    )
+/// What another process does to the file once it is read.
+#[derive(Clone, Copy)]
+enum Meanwhile {
+    Nothing,
+    /// It writes another text over the file.
+    Writes,
+    /// It puts a new file in its place.
+    Renames,
 }
 
-/// Puts the new text in the place of the old one.
-fn put<R: Files>(rt: &R, folder: &Folder) -> io::Result<()>
+/// Gives the new text for any, while another process is at work.
+#[derive(Clone, Copy)]
+struct Gives<'a> {
+    rt: &'a HostRuntime,
+    path: &'static str,
+    meanwhile: Meanwhile,
+}
+
+impl Formatter for Gives<'_> {
+    type Refusal = ();
+
+    ghost Formats = { λ _ _ _. ⊤ };
+
+    ghost Refuses = { λ _ _ _. ⊤ };
+
+    fn format(&self, alloc: Global, _bytes: &[u8]) -> Result<String, ()> {
+        if change(self.rt, self.path, self.meanwhile).is_err() {
+            return Err(());
+        }
+        match String::from_str(alloc, NEW) {
+            Ok(text) => Ok(text),
+            Err(_) => Err(()),
+        }
+    }
+}
+
+/// Whether the new text is put in the place of the old one, while another process is at work.
+fn is_put<R: Files>(rt: &HostRuntime, files: &R, folder: &Folder, meanwhile: Meanwhile) -> bool
 where
     R::File: Held,
 {
-    let opened = open_regular(rt, folder.path)?;
-    put_over(rt, folder, &opened)
+    let path = folder.path;
+    let formatter = Gives {
+        rt,
+        path,
+        meanwhile,
+    };
+    rewrite(rt.alloc(), &mut SystemFiles::new(files), &formatter, path).is_ok()
 }
 
 /// Whether a file holds that text.
@@ -115,10 +145,15 @@ type Row = (&'static str, Left, Step, bool, bool);
 
 /// Whether the new text is put in a folder as a row says.
 fn is_put_in(rt: &HostRuntime, folder: &Folder, row: &Row) -> bool {
-    let (_, left, fails, is_put, stays) = *row;
-    let text = if is_put { NEW } else { OLD };
+    let (_, left, fails, puts, stays) = *row;
+    let text = if puts { NEW } else { OLD };
     leave(rt, folder, left).is_ok()
-        && put(&FailingFiles { host: rt, fails }, folder).is_ok() == is_put
+        && is_put(
+            rt,
+            &FailingFiles { host: rt, fails },
+            folder,
+            Meanwhile::Nothing,
+        ) == puts
         && stands(rt, folder, text, stays)
         && matches!(fs::exists(rt, "replacing_rows/missing"), Ok(false))
 }
@@ -188,7 +223,7 @@ fn leaves_a_held_file(rt: &HostRuntime, folder: &Folder) -> bool {
     match &File::open(rt, folder.path) {
         Ok(first) => {
             matches!(first.hold(), Ok(true))
-                && put(rt, folder).is_err()
+                && !is_put(rt, rt, folder, Meanwhile::Nothing)
                 && stands(rt, folder, OLD, false)
         }
         Err(_) => false,
@@ -206,28 +241,19 @@ static SECOND: Folder = Folder {
 fn waits_for_another_run(rt: &HostRuntime) -> bool {
     make_folder(rt, &SECOND).is_ok()
         && leaves_a_held_file(rt, &SECOND)
-        && put(rt, &SECOND).is_ok()
+        && is_put(rt, rt, &SECOND, Meanwhile::Nothing)
         && is_removed(rt, &SECOND)
 }
 
-/// Writes another text over a file, or puts a new file with it in its place.
-fn change(rt: &HostRuntime, path: &str, is_new: bool) -> io::Result<()> {
-    if is_new {
-        fs::write(rt, "replacing_changed/b.yaml", OTHER)?;
-        return fs::rename(rt, "replacing_changed/b.yaml", path);
-    }
-    fs::write(rt, path, OTHER)
-}
-
-/// Whether a file is left that was changed since it was read.
-fn leaves_changed(rt: &HostRuntime, folder: &Folder, is_new: bool) -> bool {
-    match &open_regular(rt, folder.path) {
-        Ok(opened) => {
-            change(rt, folder.path, is_new).is_ok()
-                && put_over(rt, folder, opened).is_err()
-                && stands(rt, folder, OTHER, false)
+/// Does that to the file at the path.
+fn change(rt: &HostRuntime, path: &str, meanwhile: Meanwhile) -> io::Result<()> {
+    match meanwhile {
+        Meanwhile::Nothing => Ok(()),
+        Meanwhile::Writes => fs::write(rt, path, OTHER),
+        Meanwhile::Renames => {
+            fs::write(rt, "replacing_changed/b.yaml", OTHER)?;
+            fs::rename(rt, "replacing_changed/b.yaml", path)
         }
-        Err(_) => false,
     }
 }
 
@@ -239,17 +265,18 @@ static CHANGED: Folder = Folder {
 };
 
 /// Whether a file is left that was written, or made anew, since it was read.
-fn leaves_a_changed_file(rt: &HostRuntime, is_new: bool) -> bool {
+fn leaves_a_changed_file(rt: &HostRuntime, meanwhile: Meanwhile) -> bool {
     make_folder(rt, &CHANGED).is_ok()
-        && leaves_changed(rt, &CHANGED, is_new)
+        && !is_put(rt, rt, &CHANGED, meanwhile)
+        && stands(rt, &CHANGED, OTHER, false)
         && is_removed(rt, &CHANGED)
 }
 
 #[test]
 fn leaves_what_others_hold_or_change(rt: HostRuntime) {
     assert!(rt; waits_for_another_run(&rt));
-    assert!(rt; leaves_a_changed_file(&rt, false));
-    assert!(rt; leaves_a_changed_file(&rt, true));
+    assert!(rt; leaves_a_changed_file(&rt, Meanwhile::Writes));
+    assert!(rt; leaves_a_changed_file(&rt, Meanwhile::Renames));
 }
 
 /// Whether there is a regular file at the path, or a link to one, that is opened.
@@ -292,7 +319,9 @@ fn opens_regular_files_alone(rt: HostRuntime) {
 fn mode_in(rt: &HostRuntime, folder: &Folder, mode: u32) -> io::Result<u32> {
     let path = folder.path;
     fs::set_permissions(rt, path, Permissions::from_mode(mode))?;
-    put(rt, folder)?;
+    if !is_put(rt, rt, folder, Meanwhile::Nothing) {
+        return Err(io::Error::from(io::ErrorKind::Other));
+    }
     Ok(fs::metadata(rt, path)?.mode() & 0o7777)
 }
 
@@ -325,14 +354,22 @@ fn set_user_bits_go(rt: HostRuntime) {
     }
 }
 
-/// The owner and the group of a file of another user, and what its group may do, after it was rewritten.
-fn owned_after(rt: &HostRuntime, folder: &Folder, fails: Step) -> io::Result<(u32, u32, u32)> {
-    let path = folder.path;
-    fs::set_permissions(rt, path, Permissions::from_mode(0o640))?;
-    chown(rt, path, Some(1234), Some(2345))?;
-    put(&FailingFiles { host: rt, fails }, folder)?;
-    let metadata = fs::metadata(rt, path)?;
-    Ok((metadata.uid(), metadata.gid(), metadata.mode() & 0o070))
+/// Gives the file to another user, and answers whether the new text is put where a step fails.
+fn put_in_place_of_another(rt: &HostRuntime, folder: &Folder, fails: Step) -> io::Result<bool> {
+    fs::set_permissions(rt, folder.path, Permissions::from_mode(0o640))?;
+    chown(rt, folder.path, Some(1234), Some(2345))?;
+    let files = FailingFiles { host: rt, fails };
+    Ok(is_put(rt, &files, folder, Meanwhile::Nothing))
+}
+
+/// Whether the file is that user's, with its permissions.
+fn is_of_another(rt: &HostRuntime, path: &str) -> bool {
+    match &fs::metadata(rt, path) {
+        Ok(metadata) => {
+            metadata.uid() == 1234 && metadata.gid() == 2345 && metadata.mode() & 0o777 == 0o640
+        }
+        Err(_) => false,
+    }
 }
 
 static OWNER: Folder = Folder {
@@ -342,18 +379,12 @@ static OWNER: Folder = Folder {
     other: "replacing_owner/other",
 };
 
-/// Whether owner and group stay; where the file can't be given away, whether the group may do nothing.
-fn is_kept(owned: (u32, u32, u32), fails: Step) -> bool {
-    match fails {
-        Step::Give => owned.2 == 0,
-        _ => owned == (1234, 2345, 0o040),
-    }
-}
-
-/// Whether that is so after the file was rewritten.
-fn keeps_owner(rt: &HostRuntime, fails: Step) -> bool {
+/// Whether owner, group and permissions stay; where the new file can't be given away, the old one stays.
+fn keeps_owner(rt: &HostRuntime, fails: Step, puts: bool) -> bool {
     make_folder(rt, &OWNER).is_ok()
-        && matches!(owned_after(rt, &OWNER, fails), Ok(owned) if is_kept(owned, fails))
+        && matches!(put_in_place_of_another(rt, &OWNER, fails), Ok(is_put) if is_put == puts)
+        && stands(rt, &OWNER, if puts { NEW } else { OLD }, false)
+        && is_of_another(rt, OWNER.path)
         && is_removed(rt, &OWNER)
 }
 
@@ -373,8 +404,8 @@ fn may_give(rt: &HostRuntime) -> bool {
 fn owner_and_group_stay(rt: HostRuntime) {
     assert!(rt; make_folder(&rt, &OWN).is_ok());
     if may_give(&rt) {
-        assert!(rt; keeps_owner(&rt, Step::Nothing));
-        assert!(rt; keeps_owner(&rt, Step::Give));
+        assert!(rt; keeps_owner(&rt, Step::Nothing, true));
+        assert!(rt; keeps_owner(&rt, Step::Give, false));
     }
     assert!(rt; is_removed(&rt, &OWN));
 }
