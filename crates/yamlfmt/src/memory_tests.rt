@@ -111,9 +111,13 @@ fn allowed_after(answer: &Result<(), RewriteError<Fault>>) -> Allowed {
     }
 }
 
+/// How many calls a run makes where none fails.
+const CALLS: usize = 11;
+
 /// Whether a file is rewritten as is promised where the call of that number fails, over what another run may have left.
-fn is_rewritten(alloc: Global, fails_at: usize, is_left: bool) -> bool {
-    let mut files = MemoryFiles::new(alloc, fails_at);
+fn is_rewritten(alloc: Global, call: usize, is_left: bool) -> bool {
+    let made = if is_left { 8 } else { 4 };
+    let mut files = MemoryFiles::new(alloc, made + call);
     if !put(&mut files, FILE, OLD) || is_left && !put(&mut files, NEW_NAME, OTHER) {
         return false;
     }
@@ -122,13 +126,13 @@ fn is_rewritten(alloc: Global, fails_at: usize, is_left: bool) -> bool {
     leaves_either(&files, first)
         && leaves(&files, files.moment(), allowed_after(&answer))
         && is_told(&files, &answer)
-        && answer.is_ok() == (fails_at >= files.moment())
+        && answer.is_ok() == (call >= CALLS)
 }
 
 #[test]
 fn stops_leave_the_old_text_or_the_new_one(rt: HostRuntime) {
-    for call in 0..13 {
-        assert!(rt; is_rewritten(rt.alloc(), 4 + call, false), "{call}");
-        assert!(rt; is_rewritten(rt.alloc(), 8 + call, true), "{call}");
+    for call in 0..=CALLS {
+        assert!(rt; is_rewritten(rt.alloc(), call, false), "{call}");
+        assert!(rt; is_rewritten(rt.alloc(), call, true), "{call}");
     }
 }

@@ -1,7 +1,7 @@
 //! A file system in memory, which can be stopped at any moment.
-ghost use Rattle.std.specs.Prelude.{◌≡◌, ℕ, take, Some, IfOk, IfSome, IsErrOf, OnErr, ⊤};
+ghost use Rattle.std.specs.Prelude.{◌≡◌, ℕ, take, Some, IfOk, IfSome, IsErrOf, OnErr, OnOk, ⊤};
 ghost use Rattle.yf_files.specs.Calls.{HasFailed, Stays};
-ghost use Rattle.yf_files.specs.Memory.{IsWell, entry_of, state_of, text_of};
+ghost use Rattle.yf_files.specs.Memory.{Fails, IsWell, Passes, entry_of, state_of, text_of};
 ghost use Rattle.yf_files.specs.Tree.{Elapses};
 
 use crate::file_system::{Failed, FileSystem, ReadError};
@@ -21,7 +21,7 @@ pub struct MemoryFiles {
 }
 
 impl MemoryFiles {
-    /// No files. The call of that number, from 0 on, fails.
+    /// No files. The call of that number, from 0 on, fails, and no other.
     pub fn new(alloc: Global, fails_at: usize) -> MemoryFiles {
         MemoryFiles {
             alloc,
@@ -57,13 +57,27 @@ impl MemoryFiles {
         }
     }
 
-    // Lets a moment pass.
+    // A call begins: a moment passes, or the call fails.
+    fn begin(&mut self) -> Result<(), Failed>
+        ensures ok { OnOk result (Passes self.old.logs self.new.logs) }
+        ensures err { OnErr result (Fails self.old.logs self.new.logs) }
+    {
+        match self.logs.pass(self.fails_at) {
+            Ok(()) => Ok(()),
+            Err(Failed) => {
+                self.fails_at = usize::MAX;
+                Err(Failed)
+            }
+        }
+    }
+
+    // A call that changes nothing.
     fn pass(&mut self) -> Result<(), Failed>
         ensures stays { Stays (state_of self.old.logs) (state_of self.new.logs) }
         ensures cause { OnErr result (HasFailed (state_of self.new.logs)) }
         ensures time { Elapses (state_of self.old.logs) (state_of self.new.logs) }
     {
-        match self.logs.pass(self.fails_at) {
+        match self.begin() {
             Ok(()) => Ok(()),
             Err(Failed) => Err(Failed),
         }
@@ -80,7 +94,7 @@ impl FileSystem for MemoryFiles {
     ghost sound = { λ files _. sound_of files.logs files.well };
 
     fn read(&mut self, alloc: Global, name: &str) -> Result<Vec<u8>, ReadError> {
-        match self.logs.pass(self.fails_at) {
+        match self.begin() {
             Ok(()) => {}
             Err(Failed) => return Err(ReadError::Failed),
         }
@@ -102,7 +116,7 @@ impl FileSystem for MemoryFiles {
     }
 
     fn remove(&mut self, name: &str) -> Result<(), Failed> {
-        match self.logs.pass(self.fails_at) {
+        match self.begin() {
             Ok(()) => {}
             Err(Failed) => return Err(Failed),
         }
@@ -113,7 +127,7 @@ impl FileSystem for MemoryFiles {
     }
 
     fn make(&mut self, name: &str) -> Result<(), Failed> {
-        match self.logs.pass(self.fails_at) {
+        match self.begin() {
             Ok(()) => {}
             Err(Failed) => return Err(Failed),
         }
@@ -124,7 +138,7 @@ impl FileSystem for MemoryFiles {
     }
 
     fn write(&mut self, bytes: &[u8]) -> Result<(), Failed> {
-        match self.logs.pass(self.fails_at) {
+        match self.begin() {
             Ok(()) => {}
             Err(Failed) => return Err(Failed),
         }
@@ -144,7 +158,7 @@ impl FileSystem for MemoryFiles {
     }
 
     fn store(&mut self) -> Result<(), Failed> {
-        match self.logs.pass(self.fails_at) {
+        match self.begin() {
             Ok(()) => {}
             Err(Failed) => return Err(Failed),
         }
@@ -153,7 +167,7 @@ impl FileSystem for MemoryFiles {
     }
 
     fn rename(&mut self, from: &str, to: &str) -> Result<(), Failed> {
-        match self.logs.pass(self.fails_at) {
+        match self.begin() {
             Ok(()) => {}
             Err(Failed) => return Err(Failed),
         }
@@ -165,7 +179,7 @@ impl FileSystem for MemoryFiles {
     }
 
     fn store_folder(&mut self, _name: &str) -> Result<(), Failed> {
-        match self.logs.pass(self.fails_at) {
+        match self.begin() {
             Ok(()) => {}
             Err(Failed) => return Err(Failed),
         }

@@ -1,19 +1,19 @@
 use Rattle.std.proofs.Common.{None}
 use Rattle.std.proofs.lemmas.Option.{none-some}
-use Rattle.yf_files.proofs.MemoryLemmas.{either, removed, time_changes, time_failing, well_changes, well_fails, well_passes}
+use Rattle.yf_files.proofs.MemoryLemmas.{either, removed, time_changes, time_failing, well_changes, well_fails}
 use Rattle.yf_files.proofs.memory.MemoryFilesFileSystem.remove.Goals as goal
 
-pub invariant_of-self-2 : goal.invariant_of-self-2
-invariant_of-self-2 c = let mid = c.pass.new.self in let new = c.change.new.self in let n = c.args.name.now in
-    let well = well_passes c.args.self.now.logs mid c.args.self.now.well c.in-Ok.ensures.ok in
+pub invariant_of-self : goal.invariant_of-self
+invariant_of-self c = let mid = c.begin.new.self.logs in let new = c.change.new.self in let n = c.args.name.now in
+    let well = c.begin.new.self.well in
     record { well = either c.change.result c.change.ensures.ok c.change.ensures.err (λ h. well_changes mid new n n None well h (λ i is. absurd (none-some i is))) (well_fails mid new well) }
 
 pub returns-in-Ok-change-clause-ok : goal.returns-in-Ok-change-clause-ok
-returns-in-Ok-change-clause-ok c told = removed c.args.self.now.logs c.pass.new.self c.change.new.self c.args.name.now c.args.self.now.well c.in-Ok.ensures.ok c.in-Ok-change.ensures.ok
+returns-in-Ok-change-clause-ok c told = removed c.args.self.now.logs c.begin.new.self.logs c.change.new.self c.args.name.now c.args.self.now.well c.in-Ok.ensures.ok c.in-Ok-change.ensures.ok
 
 pub returns-in-Ok-change-clause-time : goal.returns-in-Ok-change-clause-time
-returns-in-Ok-change-clause-time c told = time_changes c.args.self.now.logs c.pass.new.self c.change.new.self c.args.name.now c.args.name.now None c.args.self.now.well
+returns-in-Ok-change-clause-time c told = time_changes c.args.self.now.logs c.begin.new.self.logs c.change.new.self c.args.name.now c.args.name.now None c.args.self.now.well
     c.in-Ok.ensures.ok c.in-Ok-change.ensures.ok
 
 pub returns-in-Err-change-clause-time : goal.returns-in-Err-change-clause-time
-returns-in-Err-change-clause-time c told = time_failing c.args.self.now.logs c.pass.new.self c.change.new.self c.args.self.now.well c.in-Ok.ensures.ok c.in-Err-change.ensures.err
+returns-in-Err-change-clause-time c told = time_failing c.args.self.now.logs c.begin.new.self.logs c.change.new.self c.args.self.now.well c.in-Ok.ensures.ok c.in-Err-change.ensures.err
