@@ -3,7 +3,7 @@ use Rattle.std.specs.Prelude.{◌≡◌, ◌⊎◌, ℕ, List, Bool, Option, Res
 use Rattle.std.specs.Str.{IsUtf8, IsValidUpTo}
 use Rattle.yf_emit.specs.declared.style.Style.{Style}
 use Rattle.yf_files.specs.Replaced.{AtAnyMoment}
-use Rattle.yf_files.specs.Rewritten.{IsFormatting, IsUntouched, LeavesRefused, Rewrote, new_name_of}
+use Rattle.yf_files.specs.Rewritten.{IsFormatting, IsUntouched, LeavesRefused, Rewrote, WhyRefused, new_name_of}
 use Rattle.yf_files.specs.Tree.{State}
 use Rattle.yf_files.specs.declared.replacing.ReplaceError.TheVariants.{Untouched, Left, Unsure}
 use Rattle.yf_files.specs.declared.rewriting.RewriteError.{RewriteError}
@@ -27,13 +27,13 @@ RefusesBytes bytes why = IsUtf8 bytes × IsStreamFault bytes why × StreamFault 
 
 -- What a rewriting does to a file. At any moment, also where the run or the machine stops, the file holds what it held or exactly the formatting of its
 -- text, whole, and no other name than the new one ever has anything else. Where all is well it has its formatting, whatever may be found after a crash,
--- or it had it before and nothing was touched; else it is as it was, or the error says what is left.
+-- or it had it before and nothing was touched; else it is as it was, or the error says what is left. Whatever is told, a refusal of the formatter is one of some bytes.
 -- (tells: whether the file system tells what is in it; old, new: its states)
 abbrev pub RewritesFile : Type 0 → State → State → List ℕ → Style → Result Unit (RewriteError Fault) → Type 0
 RewritesFile tells old new file style result =
     (tells → AtAnyMoment old new (new_name_of file) (IsFormatting (FormatsBytes style) old file))
     × MatchResult result (λ _. tells → Rewrote (FormatsBytes style) old new file)
-    (λ why. tells → LeavesRefused (FormatsBytes style) RefusesBytes old new file why)
+    (λ why. WhyRefused RefusesBytes why × (tells → LeavesRefused (FormatsBytes style) RefusesBytes old new file why))
 
 -- why a file is not rewritten that is not found
 abbrev pub IsUnread : RewriteError Fault → Type 0

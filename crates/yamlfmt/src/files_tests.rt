@@ -52,11 +52,11 @@ fn is_left(error: ReplaceError, wanted: Answer) -> bool {
 
 /// Whether that is the answer for the file at the path in the house style, where a step fails.
 fn answers(rt: &HostRuntime, path: &str, fails: Step, wanted: Answer) -> bool {
-    let files = (FailingFiles { host: rt, fails }, rt.alloc());
+    let files = FailingFiles { host: rt, fails };
     is_answer(
         &rewrite(
             rt.alloc(),
-            &mut SystemFiles::new(&files),
+            &mut SystemFiles::new(files),
             path,
             &Style::house(),
         ),

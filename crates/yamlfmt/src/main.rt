@@ -97,12 +97,12 @@ fn words_given(rt: &HostRuntime) -> io::Result<Vec<String>> {
 
 /// Does what the words ask for, over the system's files and streams, and answers the status.
 fn answer_words<E: Sink>(rt: &HostRuntime, words: &[String], error_stream: &mut E) -> u8 {
-    let mut program = Program {
+    let mut given = Words {
         rt,
         words,
         error_stream,
     };
-    match with_all_rules(rt.alloc(), &mut program) {
+    match with_all_rules(rt.alloc(), &mut given) {
         Ok(status) => status,
         Err(AllocError) => report(&Fault::Memory, &mut Watched::new(rt.stderr())),
     }
@@ -110,13 +110,13 @@ fn answer_words<E: Sink>(rt: &HostRuntime, words: &[String], error_stream: &mut 
 
 /// The words of the command line, and the stream for faults.
 #[derive(Drop)]
-struct Program<'a, E: Sink> {
+struct Words<'a, E: Sink> {
     rt: &'a HostRuntime,
     words: &'a [String],
     error_stream: &'a mut E,
 }
 
-impl<E: Sink> WithRules for Program<'_, E> {
+impl<E: Sink> WithRules for Words<'_, E> {
     type Answer = u8;
 
     /// Answers the words, and gives the status.

@@ -83,16 +83,16 @@ fn answer(outcome: io::Result<()>) -> Result<(), Failed> {
 /// Each method makes the calls of the system that it is named for. What the system holds is not told, so nothing is claimed of
 /// it: that its calls do what `FileSystem` says is trusted.
 #[derive(Drop)]
-pub struct SystemFiles<'a, R: Files> {
-    rt: &'a R,
+pub struct SystemFiles<R: Files + Drop> {
+    rt: R,
     opened: Option<Opened<R::File>>,
     made: Option<R::File>,
     /// Whether no other run is at work on the file, or what stands at the new name is ours.
     is_alone: bool,
 }
 
-impl<'a, R: Files> SystemFiles<'a, R> {
-    pub fn new(rt: &'a R) -> SystemFiles<'a, R> {
+impl<R: Files + Drop> SystemFiles<R> {
+    pub fn new(rt: R) -> SystemFiles<R> {
         SystemFiles {
             rt,
             opened: None,
@@ -102,7 +102,7 @@ impl<'a, R: Files> SystemFiles<'a, R> {
     }
 }
 
-impl<R: Files> FileSystem for SystemFiles<'_, R>
+impl<R: Files + Drop> FileSystem for SystemFiles<R>
 where
     R::File: Held,
 {
@@ -113,7 +113,7 @@ where
     ghost sound = { λ _ told. absurd told };
 
     fn read(&mut self, alloc: Global, name: &str) -> Result<Vec<u8>, ReadError> {
-        let Ok(Opened { file, metadata }) = open_regular(self.rt, name) else {
+        let Ok(Opened { file, metadata }) = open_regular(&self.rt, name) else {
             return Err(ReadError::Failed);
         };
         let mut reader = Watched::new(file);
@@ -145,17 +145,17 @@ where
 
     fn confirm(&mut self, name: &str) -> Result<(), Failed> {
         match &self.opened {
-            Some(opened) => answer(require_unchanged(self.rt, name, &opened.metadata)),
+            Some(opened) => answer(require_unchanged(&self.rt, name, &opened.metadata)),
             None => Err(Failed),
         }
     }
 
     fn remove(&mut self, name: &str) -> Result<(), Failed> {
-        answer(clear(self.rt, name, self.is_alone))
+        answer(clear(&self.rt, name, self.is_alone))
     }
 
     fn make(&mut self, name: &str) -> Result<(), Failed> {
-        match make(self.rt, name) {
+        match make(&self.rt, name) {
             Ok(file) => {
                 self.made = Some(file);
                 self.is_alone = true;
@@ -187,25 +187,25 @@ where
     }
 
     fn rename(&mut self, from: &str, to: &str) -> Result<(), Failed> {
-        answer(fs::rename(self.rt, from, to))
+        answer(fs::rename(&self.rt, from, to))
     }
 
     fn store_folder(&mut self, name: &str) -> Result<(), Failed> {
-        match File::open(self.rt, folder_of(name)) {
+        match File::open(&self.rt, folder_of(name)) {
             Ok(folder) => answer(folder.sync_all()),
             Err(_) => Err(Failed),
         }
     }
 }
 
-impl<R: Files + AllocGlobal> Links for SystemFiles<'_, R>
+impl<R: Files + Drop> Links for SystemFiles<R>
 where
     R::File: Held,
 {
     ghost leads = { λ _ _ _. Unit {0} };
 
     fn followed(&self, alloc: Global, name: &str) -> Result<Option<String>, RewriteError<Fault>> {
-        match resolved(self.rt, alloc, name) {
+        match resolved(&self.rt, alloc, name) {
             Ok(found) => Ok(found),
             Err(error) if error.kind() == ErrorKind::OutOfMemory => Err(RewriteError::Memory),
             Err(_) => Err(RewriteError::Unreadable),
@@ -214,15 +214,11 @@ where
 }
 
 // The path of what a link leads to; nothing where the path is none of a link.
-fn resolved<R: Files + AllocGlobal>(
-    rt: &R,
-    alloc: Global,
-    path: &str,
-) -> io::Result<Option<String>> {
+fn resolved<R: Files>(rt: &R, alloc: Global, path: &str) -> io::Result<Option<String>> {
     if !fs::symlink_metadata(rt, path)?.is_symlink() {
         return Ok(None);
     }
-    let file = fs::canonicalize(rt, path)?;
+    let file = rt.canonicalize(alloc, path)?;
     Ok(Some(String::from_str(alloc, file.as_str())?))
 }
 
