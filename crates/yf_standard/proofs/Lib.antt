@@ -1,0 +1,15 @@
+pub mod Monotone
+pub mod Reading
+pub mod Sets
+pub mod Basics
+pub mod BasicsMade
+pub mod Plains
+pub mod Flows
+pub mod Properties
+pub mod PropertiesMade
+pub mod QuotedMade
+pub mod Texts
+pub mod ScalarsMade
+pub mod NodesMade
+pub mod DirectiveNames
+pub mod StreamsMade
