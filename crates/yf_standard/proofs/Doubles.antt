@@ -31,20 +31,20 @@ pub data Lone (t : List ℕ) : ℕ → ℕ → Type 0 where
 scalar_known : (v : ℕ) → IsScalar v ⊎ (IsScalar v → ⊥)
 scalar_known v = ⊎_elim (λ (s : scalar v ≡ true). inl s) (λ (n : scalar v ≡ false). inr (λ s. true≢false (sym s ∙ n))) (cases_Bool (scalar v))
 
-as_char : {t : List ℕ} {i j v : ℕ} → Escape t i j v → SomeOf (DoubleChar t) i j
+pub as_char : {t : List ℕ} {i j v : ℕ} → Escape t i j v → SomeOf (DoubleChar t) i j
 as_char {t} {i} {j} {v} e = ⊎_elim (λ (s : IsScalar v). (good v ∷ [], escaped e s)) (λ (n : IsScalar v → ⊥). (bad i ∷ [], wrong e n)) (scalar_known v)
 
-no_low_of : {t : List ℕ} {i : ℕ} → (code t i ≡ BACKSLASH → code t (i + 1) ≢ 117) → NoLow t i
+pub no_low_of : {t : List ℕ} {i : ℕ} → (code t i ≡ BACKSLASH → code t (i + 1) ≢ 117) → NoLow t i
 no_low_of f = record { none = λ v n l. f n.backslash n.letter }
 
-four_read : {t : List ℕ} {i v : ℕ} → Numbered t i 117 4 v → NoLow t (i + 6) → SomeOf (DoubleChar t) i (i + 6)
+pub four_read : {t : List ℕ} {i v : ℕ} → Numbered t i 117 4 v → NoLow t (i + 6) → SomeOf (DoubleChar t) i (i + 6)
 four_read {t} {i} {v} a n = ⊎_elim (λ (h : is_high v ≡ true). as_char (by_half a h n)) (λ (l : is_high v ≡ false). as_char (by_four a l)) (cases_Bool (is_high v))
 
 -- the first half of a pair, or an escape of its own
 abbrev Paired : List ℕ → ℕ → ℕ → ℕ → Type 0
 Paired t i v w = ((is_high v ≡ true) × (is_low w ≡ true)) ⊎ NoLow t (i + 6)
 
-pair_known : {t : List ℕ} {i v w : ℕ} → Numbered t i 117 4 v → Numbered t (i + 6) 117 4 w → ((is_high v ≡ true) × (is_low w ≡ true)) ⊎ ((is_high v ≡ false) ⊎ NoLow t (i + 6))
+pub pair_known : {t : List ℕ} {i v w : ℕ} → Numbered t i 117 4 v → Numbered t (i + 6) 117 4 w → ((is_high v ≡ true) × (is_low w ≡ true)) ⊎ ((is_high v ≡ false) ⊎ NoLow t (i + 6))
 pair_known {t} {i} {v} {w} a b =
     ⊎_elim (λ (h : is_high v ≡ true).
     ⊎_elim (λ (l : is_low w ≡ true). inl (h, l)) (λ (m : is_low w ≡ false). inr (inr (not_low b m))) (cases_Bool (is_low w)))

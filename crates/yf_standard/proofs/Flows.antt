@@ -22,11 +22,15 @@ use Rattle.yf_standard.specs.Productions.{in-flow-context}
 use Rattle.yf_standard.proofs.Basics.{SomeOf, CharOf, char_is}
 use Rattle.yf_standard.proofs.Sets.{plain_safe_is}
 
-abbrev pub SomeNode : List ℕ → Production → ℕ → ℕ → Type 0
-SomeNode t p i j = (h : ℕ) × ((m : Meaning) × Derives t h p i j m)
+-- a node with some meaning, with room for e open collections
+pub record SomeNode (t : List ℕ) (e : ℕ) (p : Production) (i j : ℕ) : Type 0 where
+  pub height : ℕ
+  pub meaning : Meaning
+  pub node : Derives t height p i j meaning
+  pub fits : height ≤ e
 
-pub node_is : {t : List ℕ} {p : Production} {i j h : ℕ} {m : Meaning} → Derives t h p i j m → SomeNode t p i j
-node_is {h = h} {m = m} d = (h, (m, d))
+pub node_is : {t : List ℕ} {p : Production} {i j h e : ℕ} {m : Meaning} → Derives t h p i j m → h ≤ e → SomeNode t e p i j
+node_is {h = h} {m = m} d l = record { height = h; meaning = m; node = d; fits = l }
 
 -- s-separate(n,c)?
 abbrev pub May : List ℕ → ℤ → Ctx → ℕ → ℕ → Type 0
@@ -41,16 +45,16 @@ abbrev pub SignOf : List ℕ → ℕ → ℕ → ℕ → Type 0
 SignOf t d i j = (code t i ≡ d) × (i + 1 ≡ j)
 
 -- a node, in a context in which the standard has flow nodes
-abbrev pub NodeIn : List ℕ → Ctx → Production → ℕ → ℕ → Type 0
-NodeIn t c p i j = is_block c ≡ false → SomeNode t p i j
+abbrev pub NodeIn : List ℕ → ℕ → Ctx → Production → ℕ → ℕ → Type 0
+NodeIn t e c p i j = is_block c ≡ false → SomeNode t e p i j
 
 -- brackets with entries or none between
-abbrev pub Between : List ℕ → Bool → ℤ → Ctx → ℕ → ℕ → Type 0
-Between t s n c k j = (m : ℕ) × (((k ≡ m) ⊎ NodeIn t c (Entries s n (in_flow c)) k m) × SignOf t (closing s) m j)
+abbrev pub Between : List ℕ → ℕ → Bool → ℤ → Ctx → ℕ → ℕ → Type 0
+Between t e s n c k j = (m : ℕ) × (((k ≡ m) ⊎ NodeIn t e c (Entries s n (in_flow c)) k m) × SignOf t (closing s) m j)
 
-pub brackets_read : (t : List ℕ) (s : Bool) (n : ℤ) (c : Ctx) (i j : ℕ) → is_block c ≡ false
-    → (g : ℕ) × (SignOf t (opening s) i g × ((k : ℕ) × (May t n c g k × Between t s n c k j))) → SomeNode t (JsonContent n c) i j
-brackets_read t s n c i j b d = go d.1.1.1.1.1.0 where
+pub brackets_read : (t : List ℕ) (e r : ℕ) (s : Bool) (n : ℤ) (c : Ctx) (i j : ℕ) → r < e → is_block c ≡ false
+    → (g : ℕ) × (SignOf t (opening s) i g × ((k : ℕ) × (May t n c g k × Between t r s n c k j))) → SomeNode t e (JsonContent n c) i j
+brackets_read t e r s n c i j w b d = go d.1.1.1.1.1.0 where
   k : ℕ
   k = d.1.1.0
 
@@ -58,78 +62,79 @@ brackets_read t s n c i j b d = go d.1.1.1.1.1.0 where
   m = d.1.1.1.1.0
 
   sep : SomeOf (MaySeparate t n c) (i + 1) k
-  sep = let r = may_read t n c d.0 k d.1.1.1.0 in (r.0, subst (λ p. MaySeparate t n c p k r.0) (sym d.1.0.1) r.1)
+  sep = let y = may_read t n c d.0 k d.1.1.1.0 in (y.0, subst (λ p. MaySeparate t n c p k y.0) (sym d.1.0.1) y.1)
 
   close : (code t m ≡ closing s) × (m + 1 ≡ j)
   close = d.1.1.1.1.1.1
 
-  go : ((k ≡ m) ⊎ NodeIn t c (Entries s n (in_flow c)) k m) → SomeNode t (JsonContent n c) i j
-  go (inl e) =
-      let q : SomeOf (MaySeparate t n c) (i + 1) m = (sep.0, subst (λ p. MaySeparate t n c (i + 1) p sep.0) e sep.1) in
-      subst (λ p. SomeNode t (JsonContent n c) i p) close.1 (node_is (an_empty_collection s b d.1.0.0 q.1 close.0))
-  go (inr e) = subst (λ p. SomeNode t (JsonContent n c) i p) close.1 (node_is (a_collection s b d.1.0.0 sep.1 (e b).1.1 close.0))
+  go : ((k ≡ m) ⊎ NodeIn t r c (Entries s n (in_flow c)) k m) → SomeNode t e (JsonContent n c) i j
+  go (inl z) =
+      let q : SomeOf (MaySeparate t n c) (i + 1) m = (sep.0, subst (λ p. MaySeparate t n c (i + 1) p sep.0) z sep.1) in
+      subst (λ p. SomeNode t e (JsonContent n c) i p) close.1 (node_is (an_empty_collection s b d.1.0.0 q.1 close.0) (omega (arith, w)))
+  go (inr f) = let x = f b in let l = x.fits in subst (λ p. SomeNode t e (JsonContent n c) i p) close.1 (node_is (a_collection s b d.1.0.0 sep.1 x.node close.0) (omega (arith, l, w)))
 
 -- [138] and [141]
-abbrev pub More : List ℕ → Bool → ℤ → Ctx → ℕ → ℕ → Type 0
-More t s n c k j = (l : ℕ) × (SignOf t 44 k l × ((m : ℕ) × (May t n c l m × ((m ≡ j) ⊎ NodeIn t c (Entries s n c) m j))))
+abbrev pub More : List ℕ → ℕ → Bool → ℤ → Ctx → ℕ → ℕ → Type 0
+More t e s n c k j = (l : ℕ) × (SignOf t 44 k l × ((m : ℕ) × (May t n c l m × ((m ≡ j) ⊎ NodeIn t e c (Entries s n c) m j))))
 
-pub entries_read : (t : List ℕ) (s : Bool) (n : ℤ) (c : Ctx) (i j : ℕ) → is_block c ≡ false
-    → (g : ℕ) × (NodeIn t c (Entry s n c) i g × ((k : ℕ) × (May t n c g k × ((k ≡ j) ⊎ More t s n c k j)))) → SomeNode t (Entries s n c) i j
-entries_read t s n c i j b d = go d.1.1.1.1 where
+pub entries_read : (t : List ℕ) (e : ℕ) (s : Bool) (n : ℤ) (c : Ctx) (i j : ℕ) → is_block c ≡ false
+    → (g : ℕ) × (NodeIn t e c (Entry s n c) i g × ((k : ℕ) × (May t n c g k × ((k ≡ j) ⊎ More t e s n c k j)))) → SomeNode t e (Entries s n c) i j
+entries_read t e s n c i j b d = go d.1.1.1.1 where
   k : ℕ
   k = d.1.1.0
 
   sep : SomeOf (MaySeparate t n c) d.0 k
   sep = may_read t n c d.0 k d.1.1.1.0
 
-  behind_comma : (l m : ℕ) → SignOf t 44 k l → May t n c l m → ((m ≡ j) ⊎ NodeIn t c (Entries s n c) m j) → SomeNode t (Entries s n c) i j
-  behind_comma l m e w (inl q) =
+  behind_comma : (l m : ℕ) → SignOf t 44 k l → May t n c l m → ((m ≡ j) ⊎ NodeIn t e c (Entries s n c) m j) → SomeNode t e (Entries s n c) i j
+  behind_comma l m o w (inl q) =
       let r = may_read t n c l m w in
-      let v : MaySeparate t n c (k + 1) j r.0 = subst (λ p. MaySeparate t n c (k + 1) p r.0) q (subst (λ p. MaySeparate t n c p m r.0) (sym e.1) r.1) in
-      node_is (last_entry_with_comma (d.1.0 b).1.1 sep.1 e.0 v)
-  behind_comma l m e w (inr q) =
+      let v : MaySeparate t n c (k + 1) j r.0 = subst (λ p. MaySeparate t n c (k + 1) p r.0) q (subst (λ p. MaySeparate t n c p m r.0) (sym o.1) r.1) in
+      let x = d.1.0 b in node_is (last_entry_with_comma x.node sep.1 o.0 v) x.fits
+  behind_comma l m o w (inr q) =
       let r = may_read t n c l m w in
-      let v : MaySeparate t n c (k + 1) m r.0 = subst (λ p. MaySeparate t n c p m r.0) (sym e.1) r.1 in
-      node_is (more_entries (d.1.0 b).1.1 sep.1 e.0 v (q b).1.1)
+      let v : MaySeparate t n c (k + 1) m r.0 = subst (λ p. MaySeparate t n c p m r.0) (sym o.1) r.1 in
+      let x = d.1.0 b in let y = q b in let f = x.fits in let g = y.fits in node_is (more_entries x.node sep.1 o.0 v y.node) (omega (arith, f, g))
 
-  go : ((k ≡ j) ⊎ More t s n c k j) → SomeNode t (Entries s n c) i j
-  go (inl e) = node_is (last_entry (d.1.0 b).1.1 (subst (λ p. MaySeparate t n c d.0 p sep.0) e sep.1))
+  go : ((k ≡ j) ⊎ More t e s n c k j) → SomeNode t e (Entries s n c) i j
+  go (inl z) = let x = d.1.0 b in node_is (last_entry x.node (subst (λ p. MaySeparate t n c d.0 p sep.0) z sep.1)) x.fits
   go (inr r) = behind_comma r.0 r.1.1.0 r.1.0 r.1.1.1.0 r.1.1.1.1
 
 -- [142] and [150]: ? and an explicit entry
-abbrev pub Marked : List ℕ → ℤ → Ctx → ℕ → ℕ → Type 0
-Marked t n c i j = (g : ℕ) × (SignOf t 63 i g × ((k : ℕ) × (SomeOf (Separate t n c) g k × (is_block c ≡ false → (s : ℕ) → SomeNode t (Explicit n c s) k j))))
+abbrev pub Marked : List ℕ → ℕ → ℤ → Ctx → ℕ → ℕ → Type 0
+Marked t e n c i j = (g : ℕ) × (SignOf t 63 i g × ((k : ℕ) × (SomeOf (Separate t n c) g k × (is_block c ≡ false → (s : ℕ) → SomeNode t e (Explicit n c s) k j))))
 
-marked_separate : (t : List ℕ) (n : ℤ) (c : Ctx) (i j : ℕ) (d : Marked t n c i j) → Separate t n c (i + 1) d.1.1.0 d.1.1.1.0.0
-marked_separate t n c i j d = subst (λ p. Separate t n c p d.1.1.0 d.1.1.1.0.0) (sym d.1.0.1) d.1.1.1.0.1
+marked_separate : (t : List ℕ) (e : ℕ) (n : ℤ) (c : Ctx) (i j : ℕ) (d : Marked t e n c i j) → Separate t n c (i + 1) d.1.1.0 d.1.1.1.0.0
+marked_separate t e n c i j d = subst (λ p. Separate t n c p d.1.1.0 d.1.1.1.0.0) (sym d.1.0.1) d.1.1.1.0.1
 
-pub map_entry_read : (t : List ℕ) (n : ℤ) (c : Ctx) (i j : ℕ) → is_block c ≡ false → Marked t n c i j ⊎ (is_block c ≡ false → (s : ℕ) → SomeNode t (Implicit n c s) i j) → SomeNode t (Entry false n c) i j
-map_entry_read t n c i j b (inl d) = let e = d.1.1.1.1 b i in node_is (an_explicit_entry d.1.0.0 (marked_separate t n c i j d) e.1.1)
-map_entry_read t n c i j b (inr e) = let d = e b i in node_is (an_implicit_entry d.1.1)
+pub map_entry_read : (t : List ℕ) (e : ℕ) (n : ℤ) (c : Ctx) (i j : ℕ) → is_block c ≡ false → Marked t e n c i j ⊎ (is_block c ≡ false → (s : ℕ) → SomeNode t e (Implicit n c s) i j) → SomeNode t e (Entry false n c) i j
+map_entry_read t e n c i j b (inl d) = let x = d.1.1.1.1 b i in node_is (an_explicit_entry d.1.0.0 (marked_separate t e n c i j d) x.node) x.fits
+map_entry_read t e n c i j b (inr f) = let d = f b i in node_is (an_implicit_entry d.node) d.fits
 
-pub pair_read : (t : List ℕ) (n : ℤ) (c : Ctx) (i j : ℕ) → is_block c ≡ false → Marked t n c i j ⊎ NodeIn t c (Pair n c) i j → SomeNode t (Pair n c) i j
-pair_read t n c i j b (inl d) = let e = d.1.1.1.1 b i in node_is (an_explicit_pair d.1.0.0 (marked_separate t n c i j d) e.1.1)
-pair_read t n c i j b (inr e) = e b
+-- with room for what a single pair holds
+pub pair_read : (t : List ℕ) (e : ℕ) (n : ℤ) (c : Ctx) (i j : ℕ) → is_block c ≡ false → Marked t e n c i j ⊎ NodeIn t e c (Pair n c) i j → SomeNode t e (Pair n c) i j
+pair_read t e n c i j b (inl d) = let x = d.1.1.1.1 b i in node_is (an_explicit_pair d.1.0.0 (marked_separate t e n c i j d) x.node) x.fits
+pair_read t e n c i j b (inr f) = f b
 
 -- [143]
-pub explicit_read : (t : List ℕ) (n : ℤ) (c : Ctx) (i j s : ℕ) → is_block c ≡ false
-    → (is_block c ≡ false → (s : ℕ) → SomeNode t (Implicit n c s) i j) ⊎ ((k : ℕ) × ((i ≡ k) × (k ≡ j))) → SomeNode t (Explicit n c s) i j
-explicit_read t n c i j s b (inl e) = let d = e b s in node_is (explicit_with d.1.1)
-explicit_read t n c i j s b (inr e) = subst (λ p. SomeNode t (Explicit n c s) i p) (e.1.0 ∙ e.1.1) (node_is (explicit_without b))
+pub explicit_read : (t : List ℕ) (e : ℕ) (n : ℤ) (c : Ctx) (i j s : ℕ) → is_block c ≡ false
+    → (is_block c ≡ false → (s : ℕ) → SomeNode t e (Implicit n c s) i j) ⊎ ((k : ℕ) × ((i ≡ k) × (k ≡ j))) → SomeNode t e (Explicit n c s) i j
+explicit_read t e n c i j s b (inl f) = let d = f b s in node_is (explicit_with d.node) d.fits
+explicit_read t e n c i j s b (inr z) = subst (λ p. SomeNode t e (Explicit n c s) i p) (z.1.0 ∙ z.1.1) (node_is (explicit_without b) (omega arith))
 
 -- [145] and [148]
-pub key_entry_read : (t : List ℕ) (json : Bool) (n : ℤ) (c : Ctx) (i j s : ℕ) → is_block c ≡ false
-    → (l : ℕ) × (NodeIn t c (NodeOf json n c) i l × (((k : ℕ) × (May t n c l k × NodeIn t c (ValueOf json n c) k j)) ⊎ (l ≡ j))) → SomeNode t (Implicit n c s) i j
-key_entry_read t json n c i j s b d = go d.1.1 where
-  go : ((k : ℕ) × (May t n c d.0 k × NodeIn t c (ValueOf json n c) k j)) ⊎ (d.0 ≡ j) → SomeNode t (Implicit n c s) i j
-  go (inl v) = let w = may_read t n c d.0 v.0 v.1.0 in node_is (key_and_value (d.1.0 b).1.1 w.1 (v.1.1 b).1.1)
-  go (inr e) = subst (λ p. SomeNode t (Implicit n c s) i p) e (node_is (key_alone (d.1.0 b).1.1))
+pub key_entry_read : (t : List ℕ) (e : ℕ) (json : Bool) (n : ℤ) (c : Ctx) (i j s : ℕ) → is_block c ≡ false
+    → (l : ℕ) × (NodeIn t e c (NodeOf json n c) i l × (((k : ℕ) × (May t n c l k × NodeIn t e c (ValueOf json n c) k j)) ⊎ (l ≡ j))) → SomeNode t e (Implicit n c s) i j
+key_entry_read t e json n c i j s b d = go d.1.1 where
+  go : ((k : ℕ) × (May t n c d.0 k × NodeIn t e c (ValueOf json n c) k j)) ⊎ (d.0 ≡ j) → SomeNode t e (Implicit n c s) i j
+  go (inl v) = let w = may_read t n c d.0 v.0 v.1.0 in let x = d.1.0 b in let y = v.1.1 b in let f = x.fits in let g = y.fits in node_is (key_and_value x.node w.1 y.node) (omega (arith, f, g))
+  go (inr z) = let x = d.1.0 b in subst (λ p. SomeNode t e (Implicit n c s) i p) z (node_is (key_alone x.node) x.fits)
 
 -- [147] and [149]
-pub separate_value_read : (t : List ℕ) (n : ℤ) (c : Ctx) (i j : ℕ) → is_block c ≡ false
+pub separate_value_read : (t : List ℕ) (e : ℕ) (n : ℤ) (c : Ctx) (i j : ℕ) → is_block c ≡ false
     → (g : ℕ) × (SignOf t 58 i g × ((f : ℕ) × (((ns-plain-safe c (code t g) ≡ false) × (g ≡ f))
-    × (((k : ℕ) × (SomeOf (Separate t n c) f k × NodeIn t c (FlowNode n c) k j)) ⊎ (f ≡ j))))) → SomeNode t (ValueOf false n c) i j
-separate_value_read t n c i j b d = go d.1.1.1.1 where
+    × (((k : ℕ) × (SomeOf (Separate t n c) f k × NodeIn t e c (FlowNode n c) k j)) ⊎ (f ≡ j))))) → SomeNode t e (ValueOf false n c) i j
+separate_value_read t e n c i j b d = go d.1.1.1.1 where
   f : ℕ
   f = d.1.1.0
 
@@ -139,78 +144,78 @@ separate_value_read t n c i j b d = go d.1.1.1.1 where
   free : is_plain_safe (code t (i + 1)) c ≡ false
   free = sym (plain_safe_is c (code t (i + 1))) ∙ ap (λ p. ns-plain-safe c (code t p)) d.1.0.1 ∙ d.1.1.1.0.0
 
-  go : ((k : ℕ) × (SomeOf (Separate t n c) f k × NodeIn t c (FlowNode n c) k j)) ⊎ (f ≡ j) → SomeNode t (ValueOf false n c) i j
+  go : ((k : ℕ) × (SomeOf (Separate t n c) f k × NodeIn t e c (FlowNode n c) k j)) ⊎ (f ≡ j) → SomeNode t e (ValueOf false n c) i j
   go (inl v) =
-      node_is (a_value v.1.0.0 d.1.0.0 free (subst (λ p. Separate t n c p v.0 v.1.0.0) (sym same) v.1.0.1) (v.1.1 b).1.1)
-  go (inr e) = subst (λ p. SomeNode t (ValueOf false n c) i p) (same ∙ e) (node_is (empty_value b d.1.0.0 free))
+      let x = v.1.1 b in node_is (a_value v.1.0.0 d.1.0.0 free (subst (λ p. Separate t n c p v.0 v.1.0.0) (sym same) v.1.0.1) x.node) x.fits
+  go (inr z) = subst (λ p. SomeNode t e (ValueOf false n c) i p) (same ∙ z) (node_is (empty_value b d.1.0.0 free) (omega arith))
 
-pub adjacent_value_read : (t : List ℕ) (n : ℤ) (c : Ctx) (i j : ℕ) → is_block c ≡ false
-    → (g : ℕ) × (SignOf t 58 i g × (((k : ℕ) × (May t n c g k × NodeIn t c (FlowNode n c) k j)) ⊎ (g ≡ j))) → SomeNode t (ValueOf true n c) i j
-adjacent_value_read t n c i j b d = go d.1.1 where
-  go : ((k : ℕ) × (May t n c d.0 k × NodeIn t c (FlowNode n c) k j)) ⊎ (d.0 ≡ j) → SomeNode t (ValueOf true n c) i j
+pub adjacent_value_read : (t : List ℕ) (e : ℕ) (n : ℤ) (c : Ctx) (i j : ℕ) → is_block c ≡ false
+    → (g : ℕ) × (SignOf t 58 i g × (((k : ℕ) × (May t n c g k × NodeIn t e c (FlowNode n c) k j)) ⊎ (g ≡ j))) → SomeNode t e (ValueOf true n c) i j
+adjacent_value_read t e n c i j b d = go d.1.1 where
+  go : ((k : ℕ) × (May t n c d.0 k × NodeIn t e c (FlowNode n c) k j)) ⊎ (d.0 ≡ j) → SomeNode t e (ValueOf true n c) i j
   go (inl v) =
       let w = may_read t n c d.0 v.0 v.1.0 in
-      node_is (a_value w.0 d.1.0.0 tt (subst (λ p. MaySeparate t n c p v.0 w.0) (sym d.1.0.1) w.1) (v.1.1 b).1.1)
-  go (inr e) = subst (λ p. SomeNode t (ValueOf true n c) i p) (d.1.0.1 ∙ e) (node_is (empty_value b d.1.0.0 tt))
+      let x = v.1.1 b in node_is (a_value w.0 d.1.0.0 tt (subst (λ p. MaySeparate t n c p v.0 w.0) (sym d.1.0.1) w.1) x.node) x.fits
+  go (inr z) = subst (λ p. SomeNode t e (ValueOf true n c) i p) (d.1.0.1 ∙ z) (node_is (empty_value b d.1.0.0 tt) (omega arith))
 
 -- [151] to [153]
-pub keyed_pair_read : (t : List ℕ) (json : Bool) (n : ℤ) (c : Ctx) (i j : ℕ) → is_block c ≡ false
-    → (k : ℕ) × (NodeIn t FlowKey (KeyOf json FlowKey) i k × NodeIn t c (ValueOf json n c) k j) → SomeNode t (Pair n c) i j
-keyed_pair_read t json n c i j b d = node_is (a_keyed_pair (d.1.0 refl).1.1 (d.1.1 b).1.1)
+pub keyed_pair_read : (t : List ℕ) (e : ℕ) (json : Bool) (n : ℤ) (c : Ctx) (i j : ℕ) → is_block c ≡ false
+    → (k : ℕ) × (NodeIn t e FlowKey (KeyOf json FlowKey) i k × NodeIn t e c (ValueOf json n c) k j) → SomeNode t e (Pair n c) i j
+keyed_pair_read t e json n c i j b d = let x = d.1.0 refl in let y = d.1.1 b in let f = x.fits in let g = y.fits in node_is (a_keyed_pair x.node y.node) (omega (arith, f, g))
 
 -- [154] and [155]
-pub key_read : (t : List ℕ) (json : Bool) (c : Ctx) (i j : ℕ) → is_block c ≡ false
-    → ((k : ℕ) × (NodeIn t c (NodeOf json (pos 0) c) i k × ((k ≡ j) ⊎ SeparateInLine t k j))) × (length (chars (take (j - i) (drop i t))) ≤ 1024)
-    → SomeNode t (KeyOf json c) i j
+pub key_read : (t : List ℕ) (e : ℕ) (json : Bool) (c : Ctx) (i j : ℕ) → is_block c ≡ false
+    → ((k : ℕ) × (NodeIn t e c (NodeOf json (pos 0) c) i k × ((k ≡ j) ⊎ SeparateInLine t k j))) × (length (chars (take (j - i) (drop i t))) ≤ 1024)
+    → SomeNode t e (KeyOf json c) i j
 unfolding characters_between
-key_read t json c i j b d = go d.0.1.1 where
-  go : ((d.0.0 ≡ j) ⊎ SeparateInLine t d.0.0 j) → SomeNode t (KeyOf json c) i j
-  go (inl e) = node_is (a_key (d.0.1.0 b).1.1 (subst (λ p. MaySeparateInLine t d.0.0 p) e unseparated_in_line) d.1)
-  go (inr s) = node_is (a_key (d.0.1.0 b).1.1 (separated_in_line s) d.1)
+key_read t e json c i j b d = go d.0.1.1 where
+  go : ((d.0.0 ≡ j) ⊎ SeparateInLine t d.0.0 j) → SomeNode t e (KeyOf json c) i j
+  go (inl z) = let x = d.0.1.0 b in node_is (a_key x.node (subst (λ p. MaySeparateInLine t d.0.0 p) z unseparated_in_line) d.1) x.fits
+  go (inr s) = let x = d.0.1.0 b in node_is (a_key x.node (separated_in_line s) d.1) x.fits
 
 -- [159] to [161]
-pub yaml_node_read : (t : List ℕ) (n : ℤ) (c : Ctx) (i j : ℕ) → is_block c ≡ false
+pub yaml_node_read : (t : List ℕ) (e : ℕ) (n : ℤ) (c : Ctx) (i j : ℕ) → is_block c ≡ false
     → SomeOf (Alias t) i j ⊎ (SomeOf (PlainText t n c) i j
     ⊎ ((g : ℕ) × (SomeOf (Properties t n c) i g × (((k : ℕ) × (SomeOf (Separate t n c) g k × SomeOf (PlainText t n c) k j)) ⊎ (g ≡ j)))))
-    → SomeNode t (NodeOf false n c) i j
-yaml_node_read t n c i j b (inl a) = node_is (an_alias b a.1)
-yaml_node_read t n c i j b (inr (inl p)) = node_is (a_plain p.1)
-yaml_node_read t n c i j b (inr (inr d)) = go d.1.1 where
-  go : ((k : ℕ) × (SomeOf (Separate t n c) d.0 k × SomeOf (PlainText t n c) k j)) ⊎ (d.0 ≡ j) → SomeNode t (NodeOf false n c) i j
-  go (inl v) = node_is (a_plain_with d.1.0.1 v.1.0.1 v.1.1.1)
-  go (inr e) = subst (λ p. SomeNode t (NodeOf false n c) i p) e (node_is (properties_alone b d.1.0.1))
+    → SomeNode t e (NodeOf false n c) i j
+yaml_node_read t e n c i j b (inl a) = node_is (an_alias b a.1) (omega arith)
+yaml_node_read t e n c i j b (inr (inl p)) = node_is (a_plain p.1) (omega arith)
+yaml_node_read t e n c i j b (inr (inr d)) = go d.1.1 where
+  go : ((k : ℕ) × (SomeOf (Separate t n c) d.0 k × SomeOf (PlainText t n c) k j)) ⊎ (d.0 ≡ j) → SomeNode t e (NodeOf false n c) i j
+  go (inl v) = node_is (a_plain_with d.1.0.1 v.1.0.1 v.1.1.1) (omega arith)
+  go (inr z) = subst (λ p. SomeNode t e (NodeOf false n c) i p) z (node_is (properties_alone b d.1.0.1) (omega arith))
 
-pub json_node_read : (t : List ℕ) (n : ℤ) (c : Ctx) (i j : ℕ) → is_block c ≡ false
-    → (k : ℕ) × (((i ≡ k) ⊎ ((g : ℕ) × (SomeOf (Properties t n c) i g × SomeOf (Separate t n c) g k))) × NodeIn t c (JsonContent n c) k j)
-    → SomeNode t (NodeOf true n c) i j
-json_node_read t n c i j b d = go d.1.0 where
-  go : ((i ≡ d.0) ⊎ ((g : ℕ) × (SomeOf (Properties t n c) i g × SomeOf (Separate t n c) g d.0))) → SomeNode t (NodeOf true n c) i j
-  go (inl e) = subst (λ p. SomeNode t (NodeOf true n c) p j) (sym e) (node_is (a_json (d.1.1 b).1.1))
-  go (inr p) = node_is (a_json_with p.1.0.1 p.1.1.1 (d.1.1 b).1.1)
+pub json_node_read : (t : List ℕ) (e : ℕ) (n : ℤ) (c : Ctx) (i j : ℕ) → is_block c ≡ false
+    → (k : ℕ) × (((i ≡ k) ⊎ ((g : ℕ) × (SomeOf (Properties t n c) i g × SomeOf (Separate t n c) g k))) × NodeIn t e c (JsonContent n c) k j)
+    → SomeNode t e (NodeOf true n c) i j
+json_node_read t e n c i j b d = go d.1.0 where
+  go : ((i ≡ d.0) ⊎ ((g : ℕ) × (SomeOf (Properties t n c) i g × SomeOf (Separate t n c) g d.0))) → SomeNode t e (NodeOf true n c) i j
+  go (inl z) = let x = d.1.1 b in subst (λ p. SomeNode t e (NodeOf true n c) p j) (sym z) (node_is (a_json x.node) x.fits)
+  go (inr p) = let x = d.1.1 b in node_is (a_json_with p.1.0.1 p.1.1.1 x.node) x.fits
 
-abbrev pub ContentOf : List ℕ → ℤ → Ctx → ℕ → ℕ → Type 0
-ContentOf t n c i j = SomeOf (PlainText t n c) i j ⊎ NodeIn t c (JsonContent n c) i j
+abbrev pub ContentOf : List ℕ → ℕ → ℤ → Ctx → ℕ → ℕ → Type 0
+ContentOf t e n c i j = SomeOf (PlainText t n c) i j ⊎ NodeIn t e c (JsonContent n c) i j
 
-abbrev pub ContentIn : List ℕ → ℤ → Ctx → ℕ → ℕ → Type 0
-ContentIn t n c i j = is_block c ≡ false → ContentOf t n c i j
+abbrev pub ContentIn : List ℕ → ℕ → ℤ → Ctx → ℕ → ℕ → Type 0
+ContentIn t e n c i j = is_block c ≡ false → ContentOf t e n c i j
 
-pub flow_node_read : (t : List ℕ) (n : ℤ) (c : Ctx) (i j : ℕ) → is_block c ≡ false
-    → SomeOf (Alias t) i j ⊎ (ContentIn t n c i j
-    ⊎ ((g : ℕ) × (SomeOf (Properties t n c) i g × (((k : ℕ) × (SomeOf (Separate t n c) g k × ContentIn t n c k j)) ⊎ (g ≡ j)))))
-    → SomeNode t (FlowNode n c) i j
-flow_node_read t n c i j b (inl a) = node_is (flow_node (an_alias b a.1))
-flow_node_read t n c i j b (inr (inl d)) = alone (d b) where
-  alone : ContentOf t n c i j → SomeNode t (FlowNode n c) i j
-  alone (inl p) = node_is (flow_node (a_plain p.1))
-  alone (inr d) = node_is (flow_node (a_json (d b).1.1))
-flow_node_read t n c i j b (inr (inr d)) = go d.1.1 where
-  content : (k : ℕ) → SomeOf (Separate t n c) d.0 k → ContentOf t n c k j → SomeNode t (FlowNode n c) i j
-  content k s (inl p) = node_is (flow_node (a_plain_with d.1.0.1 s.1 p.1))
-  content k s (inr q) = node_is (flow_node (a_json_with d.1.0.1 s.1 (q b).1.1))
+pub flow_node_read : (t : List ℕ) (e : ℕ) (n : ℤ) (c : Ctx) (i j : ℕ) → is_block c ≡ false
+    → SomeOf (Alias t) i j ⊎ (ContentIn t e n c i j
+    ⊎ ((g : ℕ) × (SomeOf (Properties t n c) i g × (((k : ℕ) × (SomeOf (Separate t n c) g k × ContentIn t e n c k j)) ⊎ (g ≡ j)))))
+    → SomeNode t e (FlowNode n c) i j
+flow_node_read t e n c i j b (inl a) = node_is (flow_node (an_alias b a.1)) (omega arith)
+flow_node_read t e n c i j b (inr (inl d)) = alone (d b) where
+  alone : ContentOf t e n c i j → SomeNode t e (FlowNode n c) i j
+  alone (inl p) = node_is (flow_node (a_plain p.1)) (omega arith)
+  alone (inr d) = let x = d b in node_is (flow_node (a_json x.node)) x.fits
+flow_node_read t e n c i j b (inr (inr d)) = go d.1.1 where
+  content : (k : ℕ) → SomeOf (Separate t n c) d.0 k → ContentOf t e n c k j → SomeNode t e (FlowNode n c) i j
+  content k s (inl p) = node_is (flow_node (a_plain_with d.1.0.1 s.1 p.1)) (omega arith)
+  content k s (inr q) = let x = q b in node_is (flow_node (a_json_with d.1.0.1 s.1 x.node)) x.fits
 
-  go : ((k : ℕ) × (SomeOf (Separate t n c) d.0 k × ContentIn t n c k j)) ⊎ (d.0 ≡ j) → SomeNode t (FlowNode n c) i j
+  go : ((k : ℕ) × (SomeOf (Separate t n c) d.0 k × ContentIn t e n c k j)) ⊎ (d.0 ≡ j) → SomeNode t e (FlowNode n c) i j
   go (inl v) = content v.0 v.1.0 (v.1.1 b)
-  go (inr e) = subst (λ p. SomeNode t (FlowNode n c) i p) e (node_is (flow_node (properties_alone b d.1.0.1)))
+  go (inr z) = subst (λ p. SomeNode t e (FlowNode n c) i p) z (node_is (flow_node (properties_alone b d.1.0.1)) (omega arith))
 
 -- characters of sets with one element, as signs
 pub flow_still : (c : Ctx) → is_block c ≡ false → is_block (in-flow-context c) ≡ false
@@ -229,47 +234,51 @@ flow_same FlowIn = refl
 flow_same BlockKey = refl
 flow_same FlowKey = refl
 
-pub sequence_read : (t : List ℕ) (n : ℤ) (c : Ctx) (i j : ℕ)
-    → (g : ℕ) × (CharOf t c-sequence-start i g × ((k : ℕ) × (May t n c g k × ((m : ℕ) × (((k ≡ m) ⊎ (is_block c ≡ false → SomeNode t (Entries true n (in_flow c)) k m)) × CharOf t c-sequence-end m j)))))
-    → (g : ℕ) × (SignOf t 91 i g × ((k : ℕ) × (May t n c g k × Between t true n c k j)))
+pub sequence_read : (t : List ℕ) (e : ℕ) (n : ℤ) (c : Ctx) (i j : ℕ)
+    → (g : ℕ) × (CharOf t c-sequence-start i g × ((k : ℕ) × (May t n c g k × ((m : ℕ) × (((k ≡ m) ⊎ (is_block c ≡ false → SomeNode t e (Entries true n (in_flow c)) k m)) × CharOf t c-sequence-end m j)))))
+    → (g : ℕ) × (SignOf t 91 i g × ((k : ℕ) × (May t n c g k × Between t e true n c k j)))
 unfolding c-sequence-start c-sequence-end
-sequence_read t n c i j d =
+sequence_read t e n c i j d =
     (d.0, (char_is t i d.0 91 (omega arith) d.1.0, (d.1.1.0, (d.1.1.1.0, (d.1.1.1.1.0, (d.1.1.1.1.1.0, char_is t d.1.1.1.1.0 j 93 (omega arith) d.1.1.1.1.1.1))))))
 
-pub mapping_read : (t : List ℕ) (n : ℤ) (c : Ctx) (i j : ℕ)
-    → (g : ℕ) × (CharOf t c-mapping-start i g × ((k : ℕ) × (May t n c g k × ((m : ℕ) × (((k ≡ m) ⊎ NodeIn t (in-flow-context c) (Entries false n (in-flow-context c)) k m) × CharOf t c-mapping-end m j)))))
-    → (g : ℕ) × (SignOf t 123 i g × ((k : ℕ) × (May t n c g k × Between t false n c k j)))
+pub mapping_read : (t : List ℕ) (e : ℕ) (n : ℤ) (c : Ctx) (i j : ℕ)
+    → (g : ℕ) × (CharOf t c-mapping-start i g × ((k : ℕ) × (May t n c g k × ((m : ℕ) × (((k ≡ m) ⊎ NodeIn t e (in-flow-context c) (Entries false n (in-flow-context c)) k m) × CharOf t c-mapping-end m j)))))
+    → (g : ℕ) × (SignOf t 123 i g × ((k : ℕ) × (May t n c g k × Between t e false n c k j)))
 unfolding c-mapping-start c-mapping-end
-mapping_read t n c i j d =
+mapping_read t e n c i j d =
     (d.0, (char_is t i d.0 123 (omega arith) d.1.0, (d.1.1.0, (d.1.1.1.0, (d.1.1.1.1.0, (go d.1.1.1.1.1.0, char_is t d.1.1.1.1.0 j 125 (omega arith) d.1.1.1.1.1.1)))))) where
-      go : {k m : ℕ} → (k ≡ m) ⊎ NodeIn t (in-flow-context c) (Entries false n (in-flow-context c)) k m → (k ≡ m) ⊎ NodeIn t c (Entries false n (in_flow c)) k m
+      go : {k m : ℕ} → (k ≡ m) ⊎ NodeIn t e (in-flow-context c) (Entries false n (in-flow-context c)) k m → (k ≡ m) ⊎ NodeIn t e c (Entries false n (in_flow c)) k m
       go (inl e) = inl e
-      go {k} {m} (inr e) = inr (λ b. subst (λ x. SomeNode t (Entries false n x) k m) (flow_same c) (e (flow_still c b)))
+      go {k} {m} (inr f) = inr (λ b. subst (λ x. SomeNode t e (Entries false n x) k m) (flow_same c) (f (flow_still c b)))
 
-pub entries_signs : (t : List ℕ) (s : Bool) (n : ℤ) (c : Ctx) (i j : ℕ)
-    → (g : ℕ) × (NodeIn t c (Entry s n c) i g × ((k : ℕ) × (May t n c g k
-    × ((k ≡ j) ⊎ ((l : ℕ) × (CharOf t c-collect-entry k l × ((m : ℕ) × (May t n c l m × ((m ≡ j) ⊎ NodeIn t c (Entries s n c) m j)))))))))
-    → (g : ℕ) × (NodeIn t c (Entry s n c) i g × ((k : ℕ) × (May t n c g k × ((k ≡ j) ⊎ More t s n c k j))))
+pub entries_signs : (t : List ℕ) (e : ℕ) (s : Bool) (n : ℤ) (c : Ctx) (i j : ℕ)
+    → (g : ℕ) × (NodeIn t e c (Entry s n c) i g × ((k : ℕ) × (May t n c g k
+    × ((k ≡ j) ⊎ ((l : ℕ) × (CharOf t c-collect-entry k l × ((m : ℕ) × (May t n c l m × ((m ≡ j) ⊎ NodeIn t e c (Entries s n c) m j)))))))))
+    → (g : ℕ) × (NodeIn t e c (Entry s n c) i g × ((k : ℕ) × (May t n c g k × ((k ≡ j) ⊎ More t e s n c k j))))
 unfolding c-collect-entry
-entries_signs t s n c i j d = (d.0, (d.1.0, (d.1.1.0, (d.1.1.1.0, go d.1.1.1.1)))) where
-  go : {k : ℕ} → (k ≡ j) ⊎ ((l : ℕ) × (CharOf t (x 44) k l × ((m : ℕ) × (May t n c l m × ((m ≡ j) ⊎ NodeIn t c (Entries s n c) m j))))) → (k ≡ j) ⊎ More t s n c k j
+entries_signs t e s n c i j d = (d.0, (d.1.0, (d.1.1.0, (d.1.1.1.0, go d.1.1.1.1)))) where
+  go : {k : ℕ} → (k ≡ j) ⊎ ((l : ℕ) × (CharOf t (x 44) k l × ((m : ℕ) × (May t n c l m × ((m ≡ j) ⊎ NodeIn t e c (Entries s n c) m j))))) → (k ≡ j) ⊎ More t e s n c k j
   go (inl e) = inl e
   go {k} (inr r) = inr (r.0, (char_is t k r.0 44 (omega arith) r.1.0, r.1.1))
 
-pub seq_entry_read : (t : List ℕ) (n : ℤ) (c : Ctx) (i j : ℕ) → is_block c ≡ false → NodeIn t c (Pair n c) i j ⊎ NodeIn t c (FlowNode n c) i j → SomeNode t (Entry true n c) i j
-seq_entry_read t n c i j b (inl d) = node_is (a_pair_entry (d b).1.1)
-seq_entry_read t n c i j b (inr d) = node_is (a_node_entry (d b).1.1)
+-- a single pair is a collection, of what needs less room
+abbrev pub PairIn : List ℕ → ℕ → ℤ → Ctx → ℕ → ℕ → Type 0
+PairIn t e n c i j = is_block c ≡ false → (r : ℕ) × ((r < e) × SomeNode t r (Pair n c) i j)
 
-pub marked_signs : (t : List ℕ) (n : ℤ) (c : Ctx) (i j : ℕ)
-    → (g : ℕ) × (CharOf t c-mapping-key i g × ((k : ℕ) × (SomeOf (Separate t n c) g k × (is_block c ≡ false → (s : ℕ) → SomeNode t (Explicit n c s) k j)))) → Marked t n c i j
+pub seq_entry_read : (t : List ℕ) (e : ℕ) (n : ℤ) (c : Ctx) (i j : ℕ) → is_block c ≡ false → PairIn t e n c i j ⊎ NodeIn t e c (FlowNode n c) i j → SomeNode t e (Entry true n c) i j
+seq_entry_read t e n c i j b (inl d) = let r = d b in let l = r.1.0 in let x = r.1.1 in let f = x.fits in node_is (a_pair_entry x.node) (omega (arith, f, l))
+seq_entry_read t e n c i j b (inr d) = let x = d b in node_is (a_node_entry x.node) x.fits
+
+pub marked_signs : (t : List ℕ) (e : ℕ) (n : ℤ) (c : Ctx) (i j : ℕ)
+    → (g : ℕ) × (CharOf t c-mapping-key i g × ((k : ℕ) × (SomeOf (Separate t n c) g k × (is_block c ≡ false → (s : ℕ) → SomeNode t e (Explicit n c s) k j)))) → Marked t e n c i j
 unfolding c-mapping-key
-marked_signs t n c i j d = (d.0, (char_is t i d.0 63 (omega arith) d.1.0, d.1.1))
+marked_signs t e n c i j d = (d.0, (char_is t i d.0 63 (omega arith) d.1.0, d.1.1))
 
-pub empty_key_read : (t : List ℕ) (n : ℤ) (c : Ctx) (i j s : ℕ) → is_block c ≡ false → NodeIn t c (ValueOf false n c) i j → SomeNode t (Implicit n c s) i j
-empty_key_read t n c i j s b d = node_is (value_alone (d b).1.1)
+pub empty_key_read : (t : List ℕ) (e : ℕ) (n : ℤ) (c : Ctx) (i j s : ℕ) → is_block c ≡ false → NodeIn t e c (ValueOf false n c) i j → SomeNode t e (Implicit n c s) i j
+empty_key_read t e n c i j s b d = let x = d b in node_is (value_alone x.node) x.fits
 
-pub unkeyed_read : (t : List ℕ) (n : ℤ) (c : Ctx) (i j : ℕ) → is_block c ≡ false → NodeIn t c (ValueOf false n c) i j → SomeNode t (Pair n c) i j
-unkeyed_read t n c i j b d = node_is (an_unkeyed_pair (d b).1.1)
+pub unkeyed_read : (t : List ℕ) (e : ℕ) (n : ℤ) (c : Ctx) (i j : ℕ) → is_block c ≡ false → NodeIn t e c (ValueOf false n c) i j → SomeNode t e (Pair n c) i j
+unkeyed_read t e n c i j b d = let x = d b in node_is (an_unkeyed_pair x.node) x.fits
 
 pub colon_sign : {R : ℕ → Type 0} (t : List ℕ) (i j : ℕ) → (g : ℕ) × (CharOf t c-mapping-value i g × R g) → (g : ℕ) × (SignOf t 58 i g × R g)
 unfolding c-mapping-value

@@ -13,3 +13,8 @@ pub mod ScalarsMade
 pub mod NodesMade
 pub mod DirectiveNames
 pub mod StreamsMade
+pub mod Blocks
+pub mod Doubles
+pub mod QuotedRead
+pub mod LiteralLines
+pub mod ScalarsRead
