@@ -18,3 +18,4 @@ pub mod Doubles
 pub mod QuotedRead
 pub mod LiteralLines
 pub mod ScalarsRead
+pub mod ScalarsWhole
