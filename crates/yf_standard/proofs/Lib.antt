@@ -19,3 +19,5 @@ pub mod QuotedRead
 pub mod LiteralLines
 pub mod ScalarsRead
 pub mod ScalarsWhole
+pub mod DirectivesRead
+pub mod StreamsRead
