@@ -21,3 +21,5 @@ pub mod ScalarsRead
 pub mod ScalarsWhole
 pub mod DirectivesRead
 pub mod StreamsRead
+pub mod PartsRead
+pub mod Standing

@@ -142,6 +142,15 @@ may_in_line_made {room = room} (separated_in_line s) = present (in_line_made s)
 no_plain : (t : List ℕ) (i : ℕ) (c : Ctx) → is_plain_safe (code t i) c ≡ false → ns-plain-safe c (code t i) ≡ false
 no_plain t i c e = plain_safe_is c (code t i) ∙ e
 
+in_flow_made : {t : List ℕ} {h : ℕ} {n : ℤ} {k j : ℕ} (c : Ctx) → is_block c ≡ false → Read t h (ns-s-flow-seq-entries n (flow_within c)) k j → Read t h (in-flow n c) k j
+unfolding rule kind
+in_flow_made BlockOut b d = absurd (true≢false b)
+in_flow_made BlockIn b d = absurd (true≢false b)
+in_flow_made FlowOut b d = by_rule refl d
+in_flow_made FlowIn b d = by_rule refl d
+in_flow_made BlockKey b d = by_rule refl d
+in_flow_made FlowKey b d = by_rule refl d
+
 module _ (t : List ℕ) where
   pub made : {h : ℕ} {p : Production} {i j : ℕ} {m : Meaning} → Derives t h p i j m → {room : ℕ} → h ≤ room → Read t room (form p) i j
   unfolding rule kind read characters_between c-mapping-key c-mapping-value c-collect-entry c-sequence-start c-sequence-end c-mapping-start c-mapping-end c-sequence-entry
@@ -166,7 +175,7 @@ module _ (t : List ℕ) where
   made (an_empty_collection {i = i} {j = j} false b o s e) {room = room} le =
       by_rule refl (in_right (in_left (by_collection {d = 0} refl (omega (arith, le)) (one_then (one_char t i 123 (omega arith) o) (one_then (may_made s) (one_then absent (one_char t j 125 (omega arith) e)))))))
   made (a_collection {h = h} {i = i} {k = k} {j = j} true {n = n} {c = c} b o s d e) {room = room} le =
-      let q : Read t h (in-flow n c) k j = by_rule refl (subst (λ z. Read t h (ns-s-flow-seq-entries n z) k j) (sym (flow_same c)) (made d (omega arith))) in
+      let q : Read t h (in-flow n c) k j = in_flow_made c b (made d (omega arith)) in
       by_rule refl (in_left (by_collection {d = h} refl (omega (arith, le)) (one_then (one_char t i 91 (omega arith) o) (one_then (may_made s) (one_then (present q) (one_char t j 93 (omega arith) e))))))
   made (a_collection {h = h} {i = i} {k = k} {j = j} false {n = n} {c = c} b o s d e) {room = room} le =
       let q : Read t h (ns-s-flow-map-entries n (in-flow-context c)) k j = subst (λ z. Read t h (ns-s-flow-map-entries n z) k j) (sym (flow_same c)) (made d (omega arith)) in

@@ -153,9 +153,9 @@ directives_read t i k j d none = d
 directives_read t i k j d (more {k = h} e r) = let rest = directives_read t k h j e r in (_, more_directives d.1 rest.1)
 
 -- [208]
-pub explicit_read : (t : List ℕ) (e i j : ℕ) → is_three t i 45 ≡ true → SomeRoot t e (i + 3) j ⊎ ((k : ℕ) × ((i + 3 ≡ k) × SomeOf (LineEnd t) k j)) → SomeExplicit t e i j
-explicit_read t e i j q (inl r) = (r.0, (r.1.0, (marked_node q r.1.1.0, r.1.1.1)))
-explicit_read t e i j q (inr r) = (0, (_, (marked_nothing q (subst (λ z. LineEnd t z j r.1.1.0) (sym r.1.0) r.1.1.1), omega arith)))
+pub explicit_node_read : (t : List ℕ) (e i j : ℕ) → is_three t i 45 ≡ true → SomeRoot t e (i + 3) j ⊎ ((k : ℕ) × ((i + 3 ≡ k) × SomeOf (LineEnd t) k j)) → SomeExplicit t e i j
+explicit_node_read t e i j q (inl r) = (r.0, (r.1.0, (marked_node q r.1.1.0, r.1.1.1)))
+explicit_node_read t e i j q (inr r) = (0, (_, (marked_nothing q (subst (λ z. LineEnd t z j r.1.1.0) (sym r.1.0) r.1.1.1), omega arith)))
 
 module _ (t : List ℕ) (e : ℕ) (u : IsUtf8 t) where
   explicit_ends : {h i j : ℕ} {x : Meaning} → ExplicitNode t h i j x → Begins t j

@@ -245,7 +245,10 @@ rule (s-ns-plain-next-line n c) = s-flow-folded n ∙ ns-plain-char c ∙ nb-ns-
 rule (ns-plain-multi-line n c) = ns-plain-one-line c ∙ s-ns-plain-next-line n c ⋆
 -- 7.4 Flow Collection Styles
 -- [136]
-rule (in-flow n c) = ns-s-flow-seq-entries n (in-flow-context c)
+rule (in-flow n FlowOut) = ns-s-flow-seq-entries n FlowIn
+rule (in-flow n FlowIn) = ns-s-flow-seq-entries n FlowIn
+rule (in-flow n BlockKey) = ns-s-flow-seq-entries n FlowKey
+rule (in-flow n FlowKey) = ns-s-flow-seq-entries n FlowKey
 -- [137]
 rule (c-flow-sequence n c) = ‹ c-sequence-start › ∙ s-separate n c ⁇ ∙ in-flow n c ⁇ ∙ ‹ c-sequence-end ›
 -- [138]
