@@ -1,10 +1,10 @@
 -- The productions of chapters 5 and 6, read as forms, are the relations of `Basic` and `Comments`: from the standard's form to the relation.
-use Rattle.std.proofs.Common.{◌≡◌, ◌≢◌, ℕ, zero, suc, ◌+◌, ◌-◌, ◌<◌, ◌≤◌, ℤ, pos, negsuc, nat_abs, ◌<ℤ◌, Bool, true, false, List, [], ◌∷◌, ◌++◌, length, refl, sym, ap, ◌∙◌, subst, ◌⊎◌, inl, inr, ⊎_elim, arith, slice_range}
-use Rattle.std.proofs.lemmas.Bool.{cases_lt, eqb-true, eq-eqb}
+use Rattle.std.proofs.Common.{◌≡◌, ◌≢◌, ℕ, zero, suc, ◌+◌, ◌-◌, ◌<◌, ◌≤◌, ℤ, pos, nat_abs, ◌<ℤ◌, Bool, true, List, [], ◌∷◌, ◌++◌, length, refl, sym, ap, ◌∙◌, subst, ◌⊎◌, inl, inr, arith, slice_range}
+use Rattle.std.proofs.lemmas.Bool.{eqb-true}
 use Rattle.std.proofs.lemmas.Int.{ints}
 use Rattle.std.specs.Str.{IsUtf8}
 use Rattle.yf_chars.specs.declared.context.Ctx.{Ctx}
-use Rattle.yf_chars.specs.declared.context.Ctx.TheVariants.{BlockOut, BlockIn, FlowOut, FlowIn, BlockKey, FlowKey}
+use Rattle.yf_chars.specs.declared.context.Ctx.TheVariants.{FlowIn}
 use Rattle.yf_chars.specs.Text.{code, next}
 use Rattle.yf_chars.specs.Class.{is_white, is_nb_char}
 use Rattle.yf_chars.specs.Chain.{Chain, One, Many}
@@ -16,28 +16,21 @@ use Rattle.yf_lines.specs.Basic.Indent.{exactly}
 use Rattle.yf_lines.specs.Basic.IndentLess.{fewer}
 use Rattle.yf_lines.specs.Basic.SeparateInLine.{by_whites, at_start}
 use Rattle.yf_lines.specs.Basic.FlowPrefix.{indented, set_off}
-use Rattle.yf_lines.specs.Basic.LinePrefix.{in_block, in_flow}
 use Rattle.yf_lines.specs.Basic.Empty.{prefixed, shorter}
 use Rattle.yf_lines.specs.Basic.Folded.{trimmed, as_space}
 use Rattle.yf_lines.specs.Basic.FlowFolded.{at_break, past_whites}
-use Rattle.yf_comments.specs.Comment.{CommentValue}
-use Rattle.yf_comments.specs.Comments.{Noted, CommentText, BreakOrEnd, LineRest, CommentLine, LineEnd, SeparateLines, Separate}
+use Rattle.yf_comments.specs.Comments.{CommentText, BreakOrEnd, LineRest, CommentLine, LineEnd, SeparateLines}
 use Rattle.yf_comments.specs.Comments.CommentText.{comment_text}
 use Rattle.yf_comments.specs.Comments.BreakOrEnd.{by_break, by_end}
 use Rattle.yf_comments.specs.Comments.LineRest.{nothing, whites, comment}
 use Rattle.yf_comments.specs.Comments.CommentLine.{whites_line, comment_line}
 use Rattle.yf_comments.specs.Comments.LineEnd.{past_rest, from_start}
 use Rattle.yf_comments.specs.Comments.SeparateLines.{in_line, over_lines}
-use Rattle.yf_comments.specs.Comments.Separate.{in_key, in_node}
 use Rattle.yf_standard.specs.Characters.{x, s-space, s-white, c-comment, nb-char, b-carriage-return, b-line-feed}
-use Rattle.yf_standard.specs.Notation.{Form, Condition}
-use Rattle.yf_standard.specs.Notation.Form.{ε, never, ‹◌›, ◌∣◌, ◌⁇, ◌⋆, ◌⁺, ◌less◌, ⟨◌⟩, some-m, some-k, at-most, excluding-c-forbidden, ◌∙◌ as ◌then◌}
-use Rattle.yf_standard.specs.Rules.{read}
 use Rattle.yf_standard.proofs.Reading.{Star}
 use Rattle.yf_standard.proofs.Reading.Star.{none, more}
 use Rattle.yf_standard.proofs.Sets.{white_is, nb_char_is}
 use Rattle.yf_chars.proofs.TextLemmas.{next_ascii, next_later}
-use Rattle.yf_chars.proofs.ChainLemmas.{chain_append}
 use Rattle.yf_comments.proofs.NoteKnown.{note_known}
 
 -- with some meaning

@@ -1,15 +1,14 @@
 -- What the relations of `Basic` and `Comments` derive, the standard's productions of chapters 5 and 6 derive with the reading rules.
-use Rattle.std.proofs.Common.{◌≡◌, ◌≢◌, ℕ, zero, suc, ◌+◌, ◌-◌, ◌<◌, ◌≤◌, ℤ, pos, negsuc, nat_abs, ◌<ℤ◌, Bool, true, false, true≢false, List, [], ◌∷◌, length, refl, sym, ap, ◌∙◌, subst, ◌⊎◌, inl, inr, arith}
+use Rattle.std.proofs.Common.{◌≡◌, ℕ, zero, suc, ◌+◌, ◌<◌, ℤ, pos, negsuc, Bool, true≢false, List, refl, sym, ap, ◌∙◌, subst, arith}
 use Rattle.std.proofs.lemmas.Bool.{eq-eqb}
 use Rattle.std.proofs.lemmas.Int.{ints}
 use Rattle.yf_chars.specs.declared.context.Ctx.{Ctx}
 use Rattle.yf_chars.specs.declared.context.Ctx.TheVariants.{BlockOut, BlockIn, FlowOut, FlowIn, BlockKey, FlowKey}
-use Rattle.yf_chars.specs.Text.{code, next}
-use Rattle.yf_chars.specs.Class.{is_white, is_nb_char}
+use Rattle.yf_chars.specs.Text.{code}
 use Rattle.yf_chars.specs.Chain.{Chain, One, Many}
 use Rattle.yf_chars.specs.Chain.Chain.{done, step}
 use Rattle.yf_chars.specs.Chain.One.{one}
-use Rattle.yf_lines.specs.Basic.{is_key, is_block, is_flow, Break, LineStart, Spaces, Indent, IndentLess, SeparateInLine, FlowPrefix, LinePrefix, Empty, Folded, FlowFolded}
+use Rattle.yf_lines.specs.Basic.{Break, Spaces, Indent, IndentLess, SeparateInLine, FlowPrefix, LinePrefix, Empty, Folded, FlowFolded}
 use Rattle.yf_lines.specs.Basic.Break.{cr_lf, lone_cr, lone_lf}
 use Rattle.yf_lines.specs.Basic.Indent.{exactly}
 use Rattle.yf_lines.specs.Basic.IndentLess.{fewer}
@@ -28,16 +27,15 @@ use Rattle.yf_comments.specs.Comments.CommentLine.{whites_line, comment_line}
 use Rattle.yf_comments.specs.Comments.LineEnd.{past_rest, from_start}
 use Rattle.yf_comments.specs.Comments.SeparateLines.{in_line, over_lines}
 use Rattle.yf_comments.specs.Comments.Separate.{in_key, in_node}
-use Rattle.yf_standard.specs.Characters.{Set, x, s-space, s-white, c-comment, nb-char, b-carriage-return, b-line-feed}
-use Rattle.yf_standard.specs.Notation.{Form, Condition}
-use Rattle.yf_standard.specs.Notation.Condition.{start-of-line, end-of-input}
-use Rattle.yf_standard.specs.Notation.Form.{‹◌›, ◌⋆, ◌⁺, ⟨◌⟩, b-break, b-as-line-feed, b-non-content, s-indent, s-indent-less-than, s-separate-in-line, s-line-prefix, s-block-line-prefix, s-flow-line-prefix, l-empty, b-l-trimmed, b-as-space, b-l-folded, s-flow-folded, c-nb-comment-text, b-comment, s-b-comment, l-comment, s-l-comments, s-separate, s-separate-lines}
+use Rattle.yf_standard.specs.Characters.{x, s-space, c-comment, b-carriage-return, b-line-feed}
+use Rattle.yf_standard.specs.Notation.{Form}
+use Rattle.yf_standard.specs.Notation.Form.{‹◌›, ◌⋆, ◌⁺, b-break, b-as-line-feed, b-non-content, s-indent, s-indent-less-than, s-separate-in-line, s-line-prefix, s-flow-line-prefix, l-empty, b-l-folded, s-flow-folded, c-nb-comment-text, b-comment, s-b-comment, l-comment, s-l-comments, s-separate, s-separate-lines}
 use Rattle.yf_standard.specs.Productions.{rule}
 use Rattle.yf_standard.specs.Rules.{read}
 use Rattle.yf_standard.specs.Literal.{Derived, kind}
-use Rattle.yf_standard.specs.Literal.Derived.{by_rule, by_collection, nothing, one_of, one_then, in_left, in_right, absent, present, no_more, one_more, at_least_one, where_holds}
+use Rattle.yf_standard.specs.Literal.Derived.{by_rule, nothing, one_of, one_then, in_left, in_right, absent, present, no_more, one_more, at_least_one, where_holds}
 use Rattle.yf_standard.proofs.Sets.{white_is, nb_char_is}
-use Rattle.yf_chars.proofs.TextLemmas.{next_ascii, next_later}
+use Rattle.yf_chars.proofs.TextLemmas.{next_ascii}
 
 abbrev pub Read : List ℕ → ℕ → Form → ℕ → ℕ → Type 0
 Read t = Derived (read t) t

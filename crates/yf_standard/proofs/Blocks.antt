@@ -1,17 +1,16 @@
 -- Block nodes (8.2): from the standard's productions to the relation `Node` of `Grammar`.
-use Rattle.std.proofs.Common.{◌≡◌, ◌≢◌, ℕ, suc, max, ◌+◌, ◌-◌, ◌<◌, ◌≤◌, ℤ, pos, negsuc, nat_abs, ◌+ℤ◌, ◌-ℤ◌, ◌≤ℤ◌, Bool, true, false, true≢false, List, [], ◌∷◌, ◌++◌, Some, None, refl, sym, ap, ◌∙◌, subst, ◌⊎◌, inl, inr, arith}
+use Rattle.std.proofs.Common.{◌≡◌, ℕ, ◌+◌, ◌<◌, ℤ, pos, nat_abs, ◌+ℤ◌, ◌-ℤ◌, ◌≤ℤ◌, Bool, true, false, List, refl, sym, ap, ◌∙◌, subst, ◌⊎◌, inl, inr, arith}
 use Rattle.std.proofs.lemmas.Int.{ints}
 use Rattle.yf_chars.specs.declared.context.Ctx.{Ctx}
-use Rattle.yf_chars.specs.declared.context.Ctx.TheVariants.{BlockOut, BlockIn, FlowOut, FlowIn, BlockKey, FlowKey}
-use Rattle.yf_chars.specs.Text.{code, next}
+use Rattle.yf_chars.specs.declared.context.Ctx.TheVariants.{BlockOut, BlockIn, FlowOut, BlockKey}
+use Rattle.yf_chars.specs.Text.{code}
 use Rattle.yf_chars.specs.Class.{is_ns_char, is_white_or_end}
 use Rattle.yf_lines.specs.Basic.{is_block, Spaces, Indent}
 use Rattle.yf_lines.specs.Basic.Indent.{exactly}
 use Rattle.yf_comments.specs.Comments.{Separate, LineEnd}
 use Rattle.yf_props.specs.Names.{Properties}
-use Rattle.yf_grammar.specs.Meaning.{Meaning}
 use Rattle.yf_grammar.specs.BlockScalar.{BlockScalar}
-use Rattle.yf_grammar.specs.Grammar.{Production, Derives, ColonLine, least_column}
+use Rattle.yf_grammar.specs.Grammar.{ColonLine, least_column}
 use Rattle.yf_grammar.specs.Grammar.Production.{FlowNode, KeyOf, BlockNode, BlockEntries, BlockEntry, BlockIndented, BlockValue}
 use Rattle.yf_grammar.specs.Grammar.Derives.{a_block_scalar, a_block_scalar_with, a_block_collection, a_block_collection_with, flow_in_block, a_last_entry, an_entry_before, a_dash_entry, an_explicit_entry_with, an_explicit_key_alone, a_keyed_entry, an_unkeyed_entry, a_block_value, an_empty_block_value, a_compact_collection, an_indented_node, nothing_indented}
 use Rattle.yf_standard.specs.Characters.{ns-char, c-sequence-entry, c-mapping-key}

@@ -1,18 +1,17 @@
 -- The names YAML and TAG of directives (6.8), as bytes and as characters.
-use Rattle.std.proofs.Common.{◌≡◌, ◌≢◌, ℕ, zero, suc, min, ◌+◌, ◌-◌, ◌<◌, ◌≤◌, Bool, true, false, true≢false, ◌&&◌, ◌==◌, List, [], ◌∷◌, length, take, drop, get_or, codes, slice_range, refl, sym, ap, ◌∙◌, subst, ◌⊎◌, inl, inr, ⊎_elim, arith}
-use Rattle.std.proofs.lemmas.Bool.{cases_lt, cases_Bool, and_parts, eqb-true, eq-eqb}
+use Rattle.std.proofs.Common.{◌≡◌, ℕ, min, ◌+◌, ◌-◌, ◌<◌, ◌≤◌, Bool, true, false, true≢false, List, [], ◌∷◌, length, take, drop, get_or, codes, slice_range, refl, sym, ap, ◌∙◌, subst, ◌⊎◌, inl, inr, ⊎_elim, arith}
+use Rattle.std.proofs.lemmas.Bool.{cases_lt}
 use Rattle.std.proofs.lemmas.List.{get_or-take, get_or-drop, length-take, length-drop, drop_more}
 use Rattle.std.proofs.lemmas.Bool.Decides.{nat_tests}
 use Rattle.std.specs.Str.{IsUtf8}
-use Rattle.yf_chars.specs.Text.{code, next, no_char}
+use Rattle.yf_chars.specs.Text.{code, no_char}
 use Rattle.yf_chars.specs.Class.{is_ns_char, is_nb_char, is_white, is_break_char, is_white_or_end, is_printable, is_between}
-use Rattle.yf_chars.specs.Chain.{Chain, One, Many, Stuck}
+use Rattle.yf_chars.specs.Chain.{One, Many}
 use Rattle.yf_chars.specs.Chain.Chain.{done, step}
 use Rattle.yf_chars.specs.Chain.One.{one}
 use Rattle.yf_props.specs.Names.{Run}
-use Rattle.yf_standard.specs.Rules.{is_name_yaml, is_name_tag}
 use Rattle.yf_standard.proofs.Texts.{some_first}
-use Rattle.yf_chars.proofs.TextLemmas.{next_ascii, code-past, code_from_byte, byte_from_code, within_from_code}
+use Rattle.yf_chars.proofs.TextLemmas.{next_ascii, code-past, code_from_byte, byte_from_code}
 use Rattle.yf_block_scalar.proofs.BodyLemmas.{no_nb_end}
 
 yaml_codes : codes "YAML" ≡ 89 ∷ 65 ∷ 77 ∷ 76 ∷ []

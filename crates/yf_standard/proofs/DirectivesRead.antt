@@ -1,6 +1,6 @@
 -- Directives (6.8), from what the standard's productions are read as to `DirectiveLines`. A name, a number and a word end where the line
 -- goes on with white space or ends, so each is as long as it can be.
-use Rattle.std.proofs.Common.{◌≡◌, ◌≢◌, ℕ, ◌+◌, ◌<◌, ◌≤◌, Bool, true, false, true≢false, ◌&&◌, ◌==◌, not, List, [], ◌∷◌, codes, slice_range, refl, sym, ap, ◌∙◌, subst, ◌⊎◌, inl, inr, ⊎_elim, arith}
+use Rattle.std.proofs.Common.{◌≡◌, ◌≢◌, ℕ, ◌+◌, ◌<◌, Bool, true, false, true≢false, List, [], ◌∷◌, codes, slice_range, refl, sym, ap, ◌∙◌, subst, ◌⊎◌, inl, inr, ⊎_elim, arith}
 use Rattle.std.proofs.lemmas.Bool.{cases_Bool, eq-eqb}
 use Rattle.std.proofs.Math.Bool.{and-false}
 use Rattle.std.specs.Str.{IsUtf8}
@@ -9,7 +9,7 @@ use Rattle.yf_chars.specs.Class.{is_ns_char, is_nb_char, is_printable, is_betwee
 use Rattle.yf_chars.specs.Chain.{Chain, One, Many}
 use Rattle.yf_chars.specs.Chain.Chain.{done, step}
 use Rattle.yf_chars.specs.Chain.One.{one}
-use Rattle.yf_lines.specs.Basic.{LineStart, SeparateInLine}
+use Rattle.yf_lines.specs.Basic.{SeparateInLine}
 use Rattle.yf_lines.specs.Basic.SeparateInLine.{by_whites, at_start}
 use Rattle.yf_comments.specs.Comment.{CommentValue}
 use Rattle.yf_comments.specs.Comments.{LineEnd}
@@ -24,13 +24,13 @@ use Rattle.yf_standard.proofs.Reading.{Star}
 use Rattle.yf_standard.proofs.Reading.Star.{none, more}
 use Rattle.yf_standard.proofs.Basics.{SomeOf}
 use Rattle.yf_standard.proofs.Texts.{some_first}
-use Rattle.yf_standard.proofs.DirectiveNames.{YamlName, TagName, yaml_name, tag_name, yaml_slice, tag_slice, end_no_ns}
+use Rattle.yf_standard.proofs.DirectiveNames.{yaml_name, tag_name, yaml_slice, tag_slice, end_no_ns}
 use Rattle.yf_chars.proofs.TextLemmas.{next_ascii}
 use Rattle.yf_lines.proofs.BasicLemmas.{ends_by_white}
 use Rattle.yf_props.proofs.NameLemmas.{run_of}
 use Rattle.yf_block_scalar.proofs.HeaderLemmas.{rest_stop}
 use Rattle.yf_grammar.proofs.BlankRuns.{Behind, behind_byte, no_start_behind}
-use Rattle.yf_stream.proofs.OneDirective.{run_behind, handle_behind, digit_ns}
+use Rattle.yf_stream.proofs.OneDirective.{run_behind, digit_ns}
 
 -- one character or more of a class
 abbrev pub SomeChars : List ℕ → (ℕ → Bool) → ℕ → ℕ → Type 0

@@ -1,19 +1,18 @@
 -- Double-quoted scalars (7.3.1): where the standard has one escape after another, two halves of a pair are one escape here.
-use Rattle.std.proofs.Common.{◌≡◌, ◌≢◌, ℕ, ◌+◌, ◌<◌, ◌≤◌, Bool, true, false, true≢false, List, [], ◌∷◌, ◌++◌, Some, None, refl, sym, ap, ◌∙◌, subst, ◌⊎◌, inl, inr, ⊎_elim, arith}
+use Rattle.std.proofs.Common.{◌≡◌, ◌≢◌, ℕ, ◌+◌, true, false, true≢false, List, [], ◌∷◌, ◌++◌, Some, sym, ◌∙◌, subst, ◌⊎◌, inl, inr, ⊎_elim, arith}
 use Rattle.std.proofs.lemmas.Bool.{cases_Bool}
 use Rattle.std.specs.Char.{IsScalar}
 use lib.Utf8.{scalar}
 use Rattle.yf_chars.specs.Signs.{BACKSLASH, DOUBLE_QUOTE}
 use Rattle.yf_chars.specs.Text.{code, next}
-use Rattle.yf_chars.specs.Class.{is_nb_json, is_white}
-use Rattle.yf_chars.specs.Chain.{Chain, Many}
+use Rattle.yf_chars.specs.Class.{is_nb_json}
+use Rattle.yf_chars.specs.Chain.{Chain}
 use Rattle.yf_chars.specs.Chain.Chain.{done, step}
-use Rattle.yf_chars.specs.Escape.{named, Numbered, is_high, is_low, joined, NoLow, Escape}
+use Rattle.yf_chars.specs.Escape.{named, Numbered, is_high, is_low, NoLow, Escape}
 use Rattle.yf_chars.specs.Escape.Escape.{by_letter, by_two, by_four, by_half, by_pair, by_eight}
-use Rattle.yf_quoted.specs.Quoted.{Piece, DoubleChar, Item, goods}
+use Rattle.yf_quoted.specs.Quoted.{DoubleChar}
 use Rattle.yf_quoted.specs.Quoted.Piece.{good, bad}
 use Rattle.yf_quoted.specs.Quoted.DoubleChar.{unescaped, escaped, wrong}
-use Rattle.yf_quoted.specs.Quoted.Item.{set_off}
 use Rattle.yf_standard.proofs.Reading.{Star}
 use Rattle.yf_standard.proofs.Reading.Star.{none, more}
 use Rattle.yf_standard.proofs.Basics.{SomeOf}

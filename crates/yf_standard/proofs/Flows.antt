@@ -1,22 +1,20 @@
 -- Flow nodes (7.4 and 7.5): from the standard's productions to the relation `Node` of `Grammar`.
-use Rattle.std.proofs.Common.{◌≡◌, ◌≢◌, ℕ, suc, max, ◌+◌, ◌-◌, ◌<◌, ◌≤◌, ℤ, pos, Bool, true, false, true≢false, List, [], ◌∷◌, ◌++◌, Some, None, length, take, drop, refl, sym, ap, ◌∙◌, subst, ◌⊎◌, inl, inr, arith}
+use Rattle.std.proofs.Common.{◌≡◌, ℕ, ◌+◌, ◌-◌, ◌<◌, ◌≤◌, ℤ, pos, Bool, true, false, List, [], length, take, drop, refl, sym, ap, ◌∙◌, subst, ◌⊎◌, inl, inr, arith}
 use Rattle.std.specs.Str.{chars}
 use Rattle.yf_chars.specs.declared.context.Ctx.{Ctx}
 use Rattle.yf_chars.specs.declared.context.Ctx.TheVariants.{BlockOut, BlockIn, FlowOut, FlowIn, BlockKey, FlowKey}
-use Rattle.yf_chars.specs.Text.{code, next}
+use Rattle.yf_chars.specs.Text.{code}
 use Rattle.yf_chars.specs.Class.{is_plain_safe}
 use Rattle.yf_lines.specs.Basic.{SeparateInLine, is_block}
 use Rattle.yf_comments.specs.Comments.{Separate}
-use Rattle.yf_comments.specs.Comment.{CommentValue}
 use Rattle.yf_plain.specs.Plain.{PlainText}
 use Rattle.yf_props.specs.Names.{Alias, Properties}
-use Rattle.yf_quoted.specs.Quoted.{SingleQuoted, DoubleQuoted}
 use Rattle.yf_grammar.specs.Meaning.{Meaning}
-use Rattle.yf_grammar.specs.Grammar.{Production, Derives, MaySeparate, MaySeparateInLine, MayBeColon, in_flow, characters_between, opening, closing}
+use Rattle.yf_grammar.specs.Grammar.{Production, Derives, MaySeparate, MaySeparateInLine, in_flow, characters_between, opening, closing}
 use Rattle.yf_grammar.specs.Grammar.Production.{FlowNode, NodeOf, JsonContent, Entries, Entry, Pair, Explicit, Implicit, ValueOf, KeyOf}
 use Rattle.yf_grammar.specs.Grammar.MaySeparate.{unseparated, separated}
 use Rattle.yf_grammar.specs.Grammar.MaySeparateInLine.{unseparated_in_line, separated_in_line}
-use Rattle.yf_grammar.specs.Grammar.Derives.{flow_node, an_alias, a_plain, a_plain_with, properties_alone, a_json, a_json_with, a_single, a_double, an_empty_collection, a_collection, last_entry, last_entry_with_comma, more_entries, a_node_entry, a_pair_entry, an_explicit_entry, an_implicit_entry, an_explicit_pair, a_keyed_pair, an_unkeyed_pair, explicit_with, explicit_without, key_alone, key_and_value, value_alone, empty_value, a_value, a_key}
+use Rattle.yf_grammar.specs.Grammar.Derives.{flow_node, an_alias, a_plain, a_plain_with, properties_alone, a_json, a_json_with, an_empty_collection, a_collection, last_entry, last_entry_with_comma, more_entries, a_node_entry, a_pair_entry, an_explicit_entry, an_implicit_entry, an_explicit_pair, a_keyed_pair, an_unkeyed_pair, explicit_with, explicit_without, key_alone, key_and_value, value_alone, empty_value, a_value, a_key}
 use Rattle.yf_standard.specs.Characters.{x, ns-plain-safe, c-mapping-key, c-mapping-value, c-collect-entry, c-sequence-start, c-sequence-end, c-mapping-start, c-mapping-end}
 use Rattle.yf_standard.specs.Productions.{in-flow-context}
 use Rattle.yf_standard.proofs.Basics.{SomeOf, CharOf, char_is}

@@ -23,3 +23,4 @@ pub mod DirectivesRead
 pub mod StreamsRead
 pub mod PartsRead
 pub mod Standing
+pub mod LawsHold

@@ -1,19 +1,18 @@
 -- l-literal-content(k,t), 173: from the standard's productions to the lines of `Lines`.
-use Rattle.std.proofs.Common.{◌≡◌, ◌≢◌, ℕ, suc, ◌+◌, ◌-◌, ◌<◌, ◌≤◌, ℤ, pos, negsuc, nat_abs, ◌<ℤ◌, max, Bool, true, false, true≢false, List, [], ◌∷◌, ◌++◌, length, refl, sym, ap, ◌∙◌, subst, ◌⊎◌, inl, inr, arith, append_assoc, slice_range}
+use Rattle.std.proofs.Common.{◌≡◌, ℕ, ◌+◌, ◌<◌, ◌≤◌, pos, nat_abs, Bool, false, true≢false, List, [], ◌∷◌, ◌++◌, sym, ap, subst, arith, slice_range}
 use Rattle.std.proofs.lemmas.Int.{ints}
 use Rattle.yf_chars.specs.declared.context.Ctx.TheVariants.{BlockIn}
-use Rattle.yf_chars.specs.Text.{code, next}
 use Rattle.yf_chars.specs.Class.{is_nb_char}
 use Rattle.yf_chars.specs.Chain.{Chain, Many}
 use Rattle.yf_chars.specs.Chain.Chain.{done, step}
-use Rattle.yf_lines.specs.Basic.{Break, LineStart, Spaces, Indent, IndentLess, Empty, LinePrefix, is_marker}
+use Rattle.yf_lines.specs.Basic.{Break, LineStart, Spaces, Indent, Empty, is_marker}
 use Rattle.yf_lines.specs.Basic.LineStart.{after_break}
 use Rattle.yf_lines.specs.Basic.Indent.{exactly}
 use Rattle.yf_lines.specs.Basic.IndentLess.{fewer}
 use Rattle.yf_lines.specs.Basic.LinePrefix.{in_block, in_flow}
 use Rattle.yf_lines.specs.Basic.Empty.{prefixed, shorter}
 use Rattle.yf_block_scalar.specs.Body.{SpaceLine, Ends, Content, Line, Lines}
-use Rattle.yf_block_scalar.specs.Body.Ends.{by_break, by_text}
+use Rattle.yf_block_scalar.specs.Body.Ends.{by_break}
 use Rattle.yf_block_scalar.specs.Body.Content.{content}
 use Rattle.yf_block_scalar.specs.Body.Line.{empty_line, content_line}
 use Rattle.yf_block_scalar.specs.Body.Lines.{up_to}

@@ -1,16 +1,14 @@
 -- What is derived under stronger conditions is derived under weaker ones; and a production moves on.
-use Rattle.std.proofs.Common.{◌≡◌, ℕ, ◌≤◌, List, arith}
+use Rattle.std.proofs.Common.{ℕ, ◌≤◌, List, arith}
 use Rattle.std.proofs.lemmas.Int.{ints}
 use Rattle.std.proofs.Common.{ℤ, pos, ◌≤ℤ◌}
 use Rattle.yf_standard.specs.Rules.{read, letter, AutoDetect}
 use Rattle.yf_standard.specs.Rules.AutoDetect.{by_first_line, without_content}
-use Rattle.yf_block_scalar.specs.Body.{least, Detected}
+use Rattle.yf_block_scalar.specs.Body.{least}
 use Rattle.yf_standard.specs.Notation.Condition.{start-of-line, end-of-input, lookahead=, lookahead≠, lookbehind=, auto-detect, is-sum}
-use Rattle.yf_standard.specs.Notation.Form.{l-yaml-stream}
 use Rattle.yf_standard.specs.Notation.{Form, Condition}
 use Rattle.yf_standard.specs.Literal.{Derived}
 use Rattle.yf_standard.specs.Literal.Derived.{by_rule, by_collection, nothing, one_of, one_then, in_left, in_right, absent, present, no_more, one_more, at_least_one, without, where_holds, for_some_m, for_some_k, within, clear_of_markers}
-use Rattle.yf_chars.specs.Text.{code, next}
 use Rattle.yf_chars.proofs.TextLemmas.{next_later}
 
 pub weaker : {L M : Condition → ℕ → Type 0} {t : List ℕ} {e : ℕ} {f : Form} {i j : ℕ} → ((c : Condition) (i : ℕ) → L c i → M c i) → Derived L t e f i j → Derived M t e f i j

@@ -1,39 +1,35 @@
 -- Flow nodes (7.4 and 7.5): from the relation `Node` of `Grammar` to the standard's productions.
-use Rattle.std.proofs.Common.{◌≡◌, ◌≢◌, ℕ, suc, max, ◌+◌, ◌-◌, ◌<◌, ◌≤◌, ℤ, pos, Bool, true, false, true≢false, List, [], ◌∷◌, ◌++◌, Some, None, length, take, drop, refl, sym, ap, ◌∙◌, subst, arith}
-use Rattle.std.specs.Str.{chars}
+use Rattle.std.proofs.Common.{◌≡◌, ℕ, ◌+◌, ◌<◌, ◌≤◌, ℤ, pos, Bool, true, false, true≢false, List, refl, sym, ap, ◌∙◌, subst, arith}
 use Rattle.yf_chars.specs.declared.context.Ctx.{Ctx}
 use Rattle.yf_chars.specs.declared.context.Ctx.TheVariants.{FlowKey}
-use Rattle.yf_chars.specs.Text.{code, next}
+use Rattle.yf_chars.specs.Text.{code}
 use Rattle.yf_chars.specs.Class.{is_plain_safe}
-use Rattle.yf_lines.specs.Basic.{SeparateInLine, is_block}
+use Rattle.yf_lines.specs.Basic.{is_block}
 use Rattle.yf_comments.specs.Comment.{CommentValue}
-use Rattle.yf_props.specs.Names.{Alias, Properties, PropertiesValue}
-use Rattle.yf_quoted.specs.Quoted.{SingleQuoted, DoubleQuoted, Piece}
 use Rattle.yf_grammar.specs.Meaning.{Meaning}
-use Rattle.yf_grammar.specs.Grammar.{Production, Derives, MaySeparate, MaySeparateInLine, MayBeColon, characters_between, opening, closing, in_flow as flow_within}
+use Rattle.yf_grammar.specs.Grammar.{Production, Derives, MaySeparate, MaySeparateInLine, characters_between, in_flow as flow_within}
 use Rattle.yf_grammar.specs.Grammar.Production.{FlowNode, NodeOf, JsonContent, Entries, Entry, Pair, Explicit, Implicit, ValueOf, KeyOf, BlockNode, BlockEntries, BlockEntry, BlockIndented, BlockValue}
 use Rattle.yf_grammar.specs.Grammar.MaySeparate.{unseparated, separated}
 use Rattle.yf_grammar.specs.Grammar.MaySeparateInLine.{unseparated_in_line, separated_in_line}
 use Rattle.yf_grammar.specs.Grammar.Derives.{a_block_scalar, a_block_scalar_with, a_block_collection, a_block_collection_with, flow_in_block, a_last_entry, an_entry_before, a_dash_entry, an_explicit_entry_with, an_explicit_key_alone, a_keyed_entry, an_unkeyed_entry, a_block_value, an_empty_block_value, a_compact_collection, an_indented_node, nothing_indented, flow_node, an_alias, a_plain, a_plain_with, properties_alone, a_json, a_json_with, a_single, a_double, an_empty_collection, a_collection, last_entry, last_entry_with_comma, more_entries, a_node_entry, a_pair_entry, an_explicit_entry, an_implicit_entry, an_explicit_pair, a_keyed_pair, an_unkeyed_pair, explicit_with, explicit_without, key_alone, key_and_value, value_alone, empty_value, a_value, a_key}
-use Rattle.yf_standard.specs.Characters.{x, ns-plain-safe, c-mapping-key, c-mapping-value, c-collect-entry, c-sequence-start, c-sequence-end, c-mapping-start, c-mapping-end}
+use Rattle.yf_standard.specs.Characters.{ns-plain-safe, c-mapping-key, c-mapping-value, c-collect-entry, c-sequence-start, c-sequence-end, c-mapping-start, c-mapping-end}
 use Rattle.yf_standard.specs.Notation.{Form}
-use Rattle.yf_standard.specs.Notation.Form.{ε, ‹◌›, ◌⁇, s-separate, s-separate-in-line, c-ns-alias-node, c-ns-properties, c-single-quoted, c-double-quoted, in-flow, ns-s-flow-seq-entries, ns-flow-seq-entry, ns-s-flow-map-entries, ns-flow-map-entry, ns-flow-map-explicit-entry, ns-flow-map-implicit-entry, c-ns-flow-map-separate-value, c-ns-flow-map-adjacent-value, ns-flow-pair, ns-s-implicit-yaml-key, c-s-implicit-json-key, c-flow-json-content, ns-flow-yaml-node, c-flow-json-node, ns-flow-node}
+use Rattle.yf_standard.specs.Notation.Form.{◌⁇, s-separate, s-separate-in-line, in-flow, ns-s-flow-seq-entries, ns-flow-seq-entry, ns-s-flow-map-entries, ns-flow-map-entry, ns-flow-map-explicit-entry, ns-flow-map-implicit-entry, c-ns-flow-map-separate-value, c-ns-flow-map-adjacent-value, ns-flow-pair, ns-s-implicit-yaml-key, c-s-implicit-json-key, c-flow-json-content, ns-flow-yaml-node, c-flow-json-node, ns-flow-node}
 use Rattle.std.proofs.lemmas.Int.{ints}
-use Rattle.std.proofs.Common.{◌+ℤ◌, ◌-ℤ◌, ◌≤ℤ◌, negsuc, nat_abs}
+use Rattle.std.proofs.Common.{◌+ℤ◌, ◌-ℤ◌, ◌≤ℤ◌, nat_abs}
 use Rattle.yf_chars.specs.declared.context.Ctx.TheVariants.{BlockOut, BlockIn, FlowOut, FlowIn, BlockKey}
 use Rattle.yf_lines.specs.Basic.{Spaces}
-use Rattle.yf_chars.specs.Class.{is_ns_char, is_white_or_end}
-use Rattle.yf_grammar.specs.BlockScalar.{BlockScalar}
+use Rattle.yf_chars.specs.Class.{is_white_or_end}
 use Rattle.yf_grammar.specs.Grammar.{ColonLine, least_column}
 use Rattle.yf_standard.specs.Characters.{c-sequence-entry}
 use Rattle.yf_standard.specs.Rules.{ValueLine}
 use Rattle.yf_standard.proofs.BasicsMade.{indent_made, comments_made}
 use Rattle.yf_standard.proofs.Sets.{ns_char_is}
-use Rattle.yf_standard.specs.Notation.Form.{◌∙◌ as ◌then◌, ◌⁺, ◌⋆, ◌∣◌, c-l+literal, c-l+folded, s-indent, l+block-sequence, l+block-mapping, c-l-block-seq-entry, ns-l-block-map-entry, s-l+block-indented, ns-l-compact-sequence, ns-l-compact-mapping, l-block-map-explicit-value, c-l-block-map-implicit-value, s-l+block-node, seq-space}
+use Rattle.yf_standard.specs.Notation.Form.{◌∙◌ as ◌then◌, ◌⁺, ◌⋆, ◌∣◌, s-indent, l+block-sequence, l+block-mapping, c-l-block-seq-entry, ns-l-block-map-entry, s-l+block-indented, ns-l-compact-sequence, ns-l-compact-mapping, c-l-block-map-implicit-value, s-l+block-node, seq-space}
 use Rattle.yf_standard.specs.Productions.{rule, in-flow-context, plus}
 use Rattle.yf_standard.specs.Rules.{read}
 use Rattle.yf_standard.specs.Literal.{kind}
-use Rattle.yf_standard.specs.Literal.Derived.{for_some_m, by_rule, by_collection, nothing, one_of, one_then, in_left, in_right, absent, present, no_more, one_more, at_least_one, where_holds, within}
+use Rattle.yf_standard.specs.Literal.Derived.{for_some_m, by_rule, by_collection, nothing, one_then, in_left, in_right, absent, present, no_more, one_more, at_least_one, where_holds, within}
 use Rattle.yf_standard.proofs.BasicsMade.{Read, one_char, separate_made, in_line_made}
 use Rattle.yf_standard.proofs.Plains.{plain_made}
 use Rattle.yf_standard.proofs.Reading.{no_operator, no_operator_opens}

@@ -1,7 +1,6 @@
 -- What the standard's productions of escaped breaks, directives and documents are read as, in the words of the lemmas on them.
-use Rattle.std.proofs.Common.{◌≡◌, ◌≢◌, ℕ, zero, suc, ◌+◌, ◌<◌, ◌≤◌, ℤ, pos, negsuc, Bool, true, false, true≢false, ◌&&◌, ◌==◌, List, [], ◌∷◌, ◌++◌, length, refl, sym, ap, ◌∙◌, subst, ◌⊎◌, inl, inr, ⊎_elim, arith}
+use Rattle.std.proofs.Common.{◌≡◌, ◌≢◌, ℕ, ◌+◌, ◌<◌, ℤ, true, false, List, [], refl, sym, ap, ◌∙◌, subst, ◌⊎◌, inl, inr, arith}
 use Rattle.std.proofs.lemmas.Bool.{eqb-true, eq-eqb}
-use Rattle.std.specs.Str.{IsUtf8}
 use Rattle.yf_chars.specs.declared.context.Ctx.TheVariants.{FlowIn}
 use Rattle.yf_chars.specs.Text.{code, next}
 use Rattle.yf_chars.specs.Class.{is_ns_char, is_digit, is_white}
@@ -13,16 +12,16 @@ use Rattle.yf_props.specs.Names.{Handle, TagPrefix, UriChar, TagChar}
 use Rattle.yf_props.specs.Names.TagPrefix.{local_prefix, global_prefix}
 use Rattle.yf_quoted.specs.Quoted.{DoubleBreak}
 use Rattle.yf_quoted.specs.Quoted.DoubleBreak.{escaped_break}
-use Rattle.yf_stream.specs.Stream.{PrefixPart, Prefixes}
+use Rattle.yf_stream.specs.Stream.{Prefixes}
 use Rattle.yf_stream.specs.Stream.PrefixPart.{order_mark, prefix_comment}
-use Rattle.yf_standard.specs.Characters.{x, s-white, ns-char, ns-dec-digit, c-escape, c-tag, c-directive, c-byte-order-mark}
+use Rattle.yf_standard.specs.Characters.{x, s-white, ns-char, ns-dec-digit, c-byte-order-mark}
 use Rattle.yf_standard.specs.Rules.{is_name_yaml, is_name_tag}
 use Rattle.yf_standard.proofs.Reading.{Star}
 use Rattle.yf_standard.proofs.Reading.Star.{none, more}
 use Rattle.yf_standard.proofs.Basics.{SomeOf, CharOf, char_is, star_chain, chars_many, chars_some}
 use Rattle.yf_standard.proofs.Flows.{SignOf}
 use Rattle.yf_standard.proofs.Sets.{white_is, ns_char_is, dec_digit_is}
-use Rattle.yf_standard.proofs.DirectivesRead.{SomeChars, Word, YamlRead, TagRead, ReservedRead}
+use Rattle.yf_standard.proofs.DirectivesRead.{SomeChars, YamlRead, TagRead, ReservedRead}
 use Rattle.yf_standard.proofs.StreamsRead.{Suffix, Round, Any, SomeExplicit}
 
 pub star_map : {R S : ℕ → ℕ → Type 0} {i j : ℕ} → ((i j : ℕ) → R i j → S i j) → Star R i j → Star S i j

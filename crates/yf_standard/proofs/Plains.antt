@@ -1,26 +1,25 @@
 -- Plain scalars (7.3.3): the standard's productions and `PlainText` derive the same.
-use Rattle.std.proofs.Common.{◌≡◌, ◌≢◌, ℕ, ◌+◌, ◌<◌, ◌≤◌, ℤ, Bool, true, false, true≢false, ◌&&◌, ◌||◌, ◌==◌, not, List, [], ◌∷◌, ◌++◌, length, refl, sym, ap, ◌∙◌, subst, ◌⊎◌, inl, inr, arith}
+use Rattle.std.proofs.Common.{◌≡◌, ℕ, ◌+◌, ◌<◌, ℤ, Bool, true, false, true≢false, ◌&&◌, ◌||◌, ◌==◌, not, List, [], ◌∷◌, ◌++◌, refl, sym, ap, ◌∙◌, subst, ◌⊎◌, inl, inr, arith}
 use Rattle.std.proofs.Math.Bool.{and_assoc, or_assoc, or-true, or-false}
-use Rattle.std.proofs.lemmas.Bool.{cases_Bool, and_parts, eqb-true, eq-eqb}
+use Rattle.std.proofs.lemmas.Bool.{and_parts, eqb-true}
 use Rattle.std.proofs.lemmas.Bool.Decides.{nat_tests}
 use Rattle.yf_chars.specs.declared.context.Ctx.{Ctx}
 use Rattle.yf_chars.specs.declared.context.Ctx.TheVariants.{BlockOut, BlockIn, FlowOut, FlowIn, BlockKey, FlowKey}
 use Rattle.yf_chars.specs.Text.{code, next, before}
 use Rattle.yf_chars.specs.Class.{is_white, is_ns_char, is_indicator, is_flow_indicator, is_plain_safe}
-use Rattle.yf_chars.specs.Chain.{Chain, Many}
-use Rattle.yf_lines.specs.Basic.{FlowFolded, is_key, is_flow}
+use Rattle.yf_chars.specs.Chain.{Chain}
+use Rattle.yf_lines.specs.Basic.{FlowFolded, is_flow}
 use Rattle.yf_plain.specs.Plain.{is_sign, is_plain_first, is_plain_char, PlainItem, PlainLine, PlainNext, PlainText}
 use Rattle.yf_plain.specs.Plain.PlainItem.{set_off}
 use Rattle.yf_plain.specs.Plain.PlainLine.{one_line}
 use Rattle.yf_plain.specs.Plain.PlainNext.{next_line}
 use Rattle.yf_plain.specs.Plain.PlainText.{as_key, as_lines}
 use Rattle.yf_standard.specs.Characters.{x, ◌∪◌, ◌∖◌, s-white, ns-char, c-indicator, ns-plain-safe, c-mapping-key, c-mapping-value, c-sequence-entry, c-comment, c-collect-entry, c-sequence-start, c-sequence-end, c-mapping-start, c-mapping-end, c-anchor, c-alias, c-tag, c-literal, c-folded, c-single-quote, c-double-quote, c-directive, c-reserved}
-use Rattle.yf_standard.specs.Notation.{Form, Condition}
-use Rattle.yf_standard.specs.Notation.Form.{ns-plain, ns-plain-first, ns-plain-char, nb-ns-plain-in-line, ns-plain-one-line, s-ns-plain-next-line, ns-plain-multi-line, ‹◌›, ◌⋆, ◌∙◌ as ◌then◌}
+use Rattle.yf_standard.specs.Notation.Form.{ns-plain, ns-plain-first, ns-plain-char, nb-ns-plain-in-line, ns-plain-one-line, s-ns-plain-next-line, ‹◌›, ◌⋆, ◌∙◌ as ◌then◌}
 use Rattle.yf_standard.specs.Productions.{rule}
 use Rattle.yf_standard.specs.Rules.{read}
-use Rattle.yf_standard.specs.Literal.{Derived, kind}
-use Rattle.yf_standard.specs.Literal.Derived.{by_rule, by_collection, nothing, one_of, one_then, in_left, in_right, no_more, one_more, where_holds}
+use Rattle.yf_standard.specs.Literal.{kind}
+use Rattle.yf_standard.specs.Literal.Derived.{by_rule, one_of, one_then, in_left, in_right, where_holds}
 use Rattle.yf_standard.proofs.Reading.{Star}
 use Rattle.yf_standard.proofs.Basics.{SomeOf, CharOf, star_chain, chars_many}
 use Rattle.yf_standard.proofs.BasicsMade.{Read, chars_made, many_made, flow_folded_made}

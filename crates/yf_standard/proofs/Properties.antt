@@ -1,15 +1,14 @@
 -- Aliases, anchors, tags and properties (5.6, 6.8.2, 6.9, 7.1), from the standard's productions to the relations of `Names`.
-use Rattle.std.proofs.Common.{◌≡◌, ◌≢◌, ℕ, ◌+◌, ◌<◌, ◌≤◌, ℤ, Bool, true, false, true≢false, ◌&&◌, ◌||◌, ◌==◌, not, List, [], ◌∷◌, ◌++◌, Option, Some, None, refl, sym, ap, ◌∙◌, subst, ◌⊎◌, inl, inr, arith, slice_range}
-use Rattle.std.proofs.lemmas.Bool.{eqb-true, and_parts}
+use Rattle.std.proofs.Common.{◌≡◌, ◌≢◌, ℕ, ◌+◌, ◌<◌, ◌≤◌, ℤ, Bool, true, false, true≢false, ◌||◌, ◌==◌, List, ◌++◌, refl, sym, ap, ◌∙◌, subst, ◌⊎◌, inl, inr, arith, slice_range}
 use Rattle.std.proofs.lemmas.Bool.Decides.{nat_tests}
 use Rattle.yf_chars.specs.declared.context.Ctx.{Ctx}
-use Rattle.yf_chars.specs.Text.{code, next}
+use Rattle.yf_chars.specs.Text.{code}
 use Rattle.yf_chars.specs.Class.{is_anchor_char, is_word_char, is_uri_char, is_tag_char, is_hex_digit, is_flow_indicator, is_digit, is_between}
 use Rattle.yf_chars.specs.Chain.{Chain, Stuck, One, Many}
 use Rattle.yf_chars.specs.Chain.One.{one}
 use Rattle.yf_chars.specs.Chain.Chain.{done, step}
 use Rattle.yf_comments.specs.Comments.{Separate}
-use Rattle.yf_props.specs.Names.{Spelled, AnchorChar, WordChar, UriChar, TagChar, Run, Anchor, Alias, Handle, VerbatimTag, ShorthandTag, TagProperty, Properties}
+use Rattle.yf_props.specs.Names.{Spelled, AnchorChar, WordChar, UriChar, TagChar, Run, Anchor, Alias, Handle, VerbatimTag, TagProperty, Properties}
 use Rattle.yf_props.specs.Names.Spelled.{as_itself, as_escape}
 use Rattle.yf_props.specs.Names.Anchor.{ampersand_name}
 use Rattle.yf_props.specs.Names.Alias.{asterisk_name}
@@ -18,9 +17,9 @@ use Rattle.yf_props.specs.Names.VerbatimTag.{in_brackets}
 use Rattle.yf_props.specs.Names.ShorthandTag.{handle_suffix}
 use Rattle.yf_props.specs.Names.TagProperty.{verbatim_tag, shorthand_tag, non_specific_tag}
 use Rattle.yf_props.specs.Names.Properties.{by_tag, by_anchor, tag_first, anchor_first}
-use Rattle.yf_standard.specs.Characters.{x, ◌∪◌, c-anchor, c-alias, c-tag, c-flow-indicator, ns-anchor-char, ns-word-char, ns-hex-digit}
+use Rattle.yf_standard.specs.Characters.{x, ◌∪◌, c-tag, c-flow-indicator, ns-anchor-char, ns-word-char, ns-hex-digit}
 use Rattle.yf_standard.proofs.Reading.{Star}
-use Rattle.yf_standard.proofs.Basics.{SomeOf, CharOf, char_is, char_one, chars_some, star_chain}
+use Rattle.yf_standard.proofs.Basics.{SomeOf, CharOf, chars_some, star_chain}
 use Rattle.yf_standard.proofs.Sets.{anchor_char_is, word_char_is, hex_digit_is, flow_indicator_is}
 use Rattle.yf_standard.proofs.Flows.{SignOf}
 use Rattle.yf_chars.proofs.TextLemmas.{next_ascii, next_later}

@@ -1,14 +1,14 @@
 -- Aliases, anchors, tags and properties (5.6, 6.8.2, 6.9, 7.1), from the relations of `Names` to the standard's productions.
-use Rattle.std.proofs.Common.{◌≡◌, ◌≢◌, ℕ, ◌+◌, ◌<◌, ◌≤◌, ℤ, Bool, true, false, true≢false, ◌&&◌, ◌||◌, ◌==◌, not, List, [], ◌∷◌, refl, sym, ap, ◌∙◌, subst, ◌⊎◌, inl, inr, ⊎_elim, arith}
-use Rattle.std.proofs.lemmas.Bool.{cases_Bool, eqb-true, and_parts}
+use Rattle.std.proofs.Common.{◌≡◌, ℕ, ◌+◌, ◌<◌, ℤ, Bool, true, false, true≢false, ◌&&◌, ◌==◌, not, List, [], ◌∷◌, refl, sym, ap, ◌∙◌, subst, ⊎_elim, arith}
+use Rattle.std.proofs.lemmas.Bool.{cases_Bool, and_parts}
 use Rattle.yf_chars.specs.declared.context.Ctx.{Ctx}
 use Rattle.yf_chars.specs.Text.{code, next}
 use Rattle.yf_chars.specs.Class.{is_anchor_char, is_word_char, is_uri_char, is_tag_char, is_hex_digit, is_flow_indicator}
-use Rattle.yf_chars.specs.Chain.{Chain, Stuck, One}
+use Rattle.yf_chars.specs.Chain.{Chain, Stuck}
 use Rattle.yf_chars.specs.Chain.One.{one}
 use Rattle.yf_chars.specs.Chain.Chain.{done, step}
 use Rattle.yf_props.specs.Props.{TagValue}
-use Rattle.yf_props.specs.Names.{Spelled, AnchorChar, UriChar, TagChar, Run, Anchor, Alias, Handle, TagPrefix, VerbatimTag, ShorthandTag, TagProperty, PropertiesValue, Properties}
+use Rattle.yf_props.specs.Names.{AnchorChar, UriChar, TagChar, Run, Anchor, Alias, Handle, TagPrefix, VerbatimTag, ShorthandTag, TagProperty, PropertiesValue, Properties}
 use Rattle.yf_props.specs.Names.Spelled.{as_itself, as_escape}
 use Rattle.yf_props.specs.Names.Anchor.{ampersand_name}
 use Rattle.yf_props.specs.Names.Alias.{asterisk_name}
@@ -18,18 +18,18 @@ use Rattle.yf_props.specs.Names.VerbatimTag.{in_brackets}
 use Rattle.yf_props.specs.Names.ShorthandTag.{handle_suffix}
 use Rattle.yf_props.specs.Names.TagProperty.{verbatim_tag, shorthand_tag, non_specific_tag}
 use Rattle.yf_props.specs.Names.Properties.{by_tag, by_anchor, tag_first, anchor_first}
-use Rattle.yf_standard.specs.Characters.{x, ◌∪◌, c-anchor, c-alias, c-tag, c-flow-indicator, ns-hex-digit}
+use Rattle.yf_standard.specs.Characters.{x, c-anchor, c-alias, c-tag, ns-hex-digit}
 use Rattle.yf_standard.specs.Notation.{Form}
-use Rattle.yf_standard.specs.Notation.Form.{‹◌›, ◌⋆, ◌⁺, ns-uri-char, ns-tag-char, c-tag-handle, ns-tag-prefix, c-ns-properties, c-ns-tag-property, c-verbatim-tag, c-ns-shorthand-tag, c-ns-anchor-property, ns-anchor-name, c-ns-alias-node}
-use Rattle.yf_standard.specs.Productions.{rule, times}
+use Rattle.yf_standard.specs.Notation.Form.{‹◌›, ◌⁺, ns-uri-char, ns-tag-char, c-tag-handle, ns-tag-prefix, c-ns-properties, c-ns-tag-property, c-verbatim-tag, c-ns-shorthand-tag, c-ns-anchor-property, ns-anchor-name, c-ns-alias-node}
+use Rattle.yf_standard.specs.Productions.{rule}
 use Rattle.yf_standard.specs.Rules.{read}
 use Rattle.yf_standard.specs.Literal.{kind}
-use Rattle.yf_standard.specs.Literal.Derived.{by_rule, nothing, one_of, one_then, in_left, in_right, absent, present, no_more, one_more, at_least_one, without, where_holds}
+use Rattle.yf_standard.specs.Literal.Derived.{by_rule, nothing, one_of, one_then, in_left, in_right, absent, present, at_least_one, without, where_holds}
 use Rattle.yf_standard.proofs.BasicsMade.{Read, one_char, many_made, some_chars_made, separate_made}
 use Rattle.yf_standard.proofs.Properties.{uri_signs, uri_is, hex_below}
 use Rattle.yf_standard.proofs.Plains.{or_cases}
 use Rattle.yf_standard.proofs.Sets.{anchor_char_is, word_char_is, hex_digit_is, flow_indicator_is}
-use Rattle.yf_chars.proofs.TextLemmas.{next_ascii, next_later}
+use Rattle.yf_chars.proofs.TextLemmas.{next_ascii}
 
 -- one step or more of a chain
 pub some_made : {room : ℕ} {A : Type 0} {S : ℕ → ℕ → List A → Type 0} {t : List ℕ} {a : Form} {i j : ℕ} {w : List A}

@@ -1,18 +1,18 @@
 -- Quoted scalars (7.3.1, 7.3.2), from the relations of `Quoted` to the standard's productions. A pair of surrogates is two escapes there.
-use Rattle.std.proofs.Common.{◌≡◌, ◌≢◌, ℕ, zero, suc, ◌+◌, ◌<◌, ◌≤◌, ℤ, Bool, true, false, true≢false, ◌&&◌, ◌||◌, ◌==◌, not, List, [], ◌∷◌, Option, Some, None, if◌then◌else◌, refl, sym, ap, ◌∙◌, subst, ◌⊎◌, inl, inr, ⊎_elim, arith}
-use Rattle.std.proofs.lemmas.Bool.{eqb-true, eq-eqb, ne_eqb}
+use Rattle.std.proofs.Common.{◌≡◌, ◌≢◌, ℕ, zero, suc, ◌+◌, ◌<◌, ℤ, Bool, true, false, true≢false, ◌||◌, ◌==◌, List, Option, Some, None, if◌then◌else◌, refl, sym, ap, ◌∙◌, subst, arith}
+use Rattle.std.proofs.lemmas.Bool.{ne_eqb}
 use Rattle.std.proofs.lemmas.Bool.Decides.{nat_tests}
 use Rattle.std.specs.Char.{digit_value}
 use Rattle.yf_chars.specs.declared.context.Ctx.{Ctx}
 use Rattle.yf_chars.specs.declared.context.Ctx.TheVariants.{BlockOut, BlockIn, FlowOut, FlowIn, BlockKey, FlowKey}
-use Rattle.yf_chars.specs.Text.{code, next}
+use Rattle.yf_chars.specs.Text.{code}
 use Rattle.yf_chars.specs.Class.{is_white, is_nb_json, is_hex_digit, is_digit, is_between}
-use Rattle.yf_chars.specs.Chain.{Chain, Many}
+use Rattle.yf_chars.specs.Chain.{Chain}
 use Rattle.yf_chars.specs.Chain.Chain.{done, step}
-use Rattle.yf_chars.specs.Escape.{named, Digits, Numbered, Escape}
+use Rattle.yf_chars.specs.Escape.{named, Numbered, Escape}
 use Rattle.yf_chars.specs.Escape.Escape.{by_letter, by_two, by_four, by_half, by_pair, by_eight}
-use Rattle.yf_lines.specs.Basic.{is_flow, is_key, FlowFolded}
-use Rattle.yf_quoted.specs.Quoted.{Item, Rest, Inside, Quoted, SingleChar, as_they_are, SingleQuoted, Piece, goods, DoubleChar, DoubleBreak, DoubleQuoted}
+use Rattle.yf_lines.specs.Basic.{FlowFolded}
+use Rattle.yf_quoted.specs.Quoted.{Item, Rest, Inside, SingleChar, as_they_are, SingleQuoted, Piece, goods, DoubleChar, DoubleBreak, DoubleQuoted}
 use Rattle.yf_quoted.specs.Quoted.Item.{set_off}
 use Rattle.yf_quoted.specs.Quoted.Rest.{blank, last_break, next_line}
 use Rattle.yf_quoted.specs.Quoted.Inside.{as_key, as_lines}
@@ -21,11 +21,10 @@ use Rattle.yf_quoted.specs.Quoted.DoubleChar.{unescaped, escaped, wrong}
 use Rattle.yf_quoted.specs.Quoted.DoubleBreak.{folded_break, escaped_break}
 use Rattle.yf_standard.specs.Characters.{x, ◌∪◌, ◌∖◌, s-white, nb-json, c-escape, c-single-quote, c-double-quote, ns-hex-digit, ns-esc-null, ns-esc-bell, ns-esc-backspace, ns-esc-horizontal-tab, ns-esc-line-feed, ns-esc-vertical-tab, ns-esc-form-feed, ns-esc-carriage-return, ns-esc-escape, ns-esc-space, ns-esc-double-quote, ns-esc-slash, ns-esc-backslash, ns-esc-next-line, ns-esc-non-breaking-space, ns-esc-line-separator, ns-esc-paragraph-separator}
 use Rattle.yf_standard.specs.Notation.{Form}
-use Rattle.yf_standard.specs.Notation.Form.{‹◌›, ◌∣◌, ◌⁇, ◌⋆, ◌⁺, ◌less◌, ◌∙◌ as ◌then◌, ns-esc-8-bit, ns-esc-16-bit, ns-esc-32-bit, c-ns-esc-char, nb-double-char, ns-double-char, c-double-quoted, nb-double-text, nb-double-one-line, s-double-escaped, s-double-break, nb-ns-double-in-line, s-double-next-line, nb-double-multi-line, c-quoted-quote, nb-single-char, ns-single-char, c-single-quoted, nb-single-text, nb-single-one-line, nb-ns-single-in-line, s-single-next-line, nb-single-multi-line, s-flow-folded}
+use Rattle.yf_standard.specs.Notation.Form.{‹◌›, ◌∣◌, ◌⁇, ◌⋆, ◌∙◌ as ◌then◌, ns-esc-8-bit, ns-esc-16-bit, ns-esc-32-bit, nb-double-char, ns-double-char, c-double-quoted, nb-double-text, s-double-break, nb-ns-double-in-line, s-double-next-line, nb-single-char, ns-single-char, c-single-quoted, nb-single-text, nb-ns-single-in-line, s-single-next-line, s-flow-folded}
 use Rattle.yf_standard.specs.Productions.{rule, times}
-use Rattle.yf_standard.specs.Rules.{read}
 use Rattle.yf_standard.specs.Literal.{kind}
-use Rattle.yf_standard.specs.Literal.Derived.{by_rule, by_collection, nothing, one_of, one_then, in_left, in_right, absent, present, no_more, one_more, at_least_one, without, where_holds}
+use Rattle.yf_standard.specs.Literal.Derived.{by_rule, by_collection, nothing, one_of, one_then, in_left, in_right, absent, present, no_more, one_more, without}
 use Rattle.yf_standard.proofs.Reading.{no_operator, no_operator_opens}
 use Rattle.yf_standard.proofs.BasicsMade.{Read, one_char, many_made, chars_made, non_content_made, empty_made, flow_prefix_made, flow_folded_made}
 use Rattle.yf_standard.proofs.Sets.{white_is, nb_json_is, hex_digit_is}

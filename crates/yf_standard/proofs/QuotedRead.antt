@@ -1,36 +1,35 @@
 -- Quoted scalars (7.3.1, 7.3.2), from what the standard's productions are read as to the relations of `Quoted`. Two halves of a pair of
 -- surrogates, one after the other, are one character there.
-use Rattle.std.proofs.Common.{◌≡◌, ◌≢◌, ℕ, zero, suc, ◌+◌, ◌<◌, ◌≤◌, ℤ, Bool, true, false, true≢false, ◌&&◌, ◌||◌, ◌==◌, not, List, [], ◌∷◌, ◌++◌, Option, Some, None, if◌then◌else◌, refl, sym, ap, ◌∙◌, subst, ◌⊎◌, inl, inr, ⊎_elim, arith}
-use Rattle.std.proofs.lemmas.Bool.{cases_Bool, cases_lt, and_parts, eqb-true, eq-eqb}
+use Rattle.std.proofs.Common.{◌≡◌, ◌≢◌, ℕ, zero, suc, ◌+◌, ◌<◌, ◌≤◌, ℤ, Bool, true, false, true≢false, ◌&&◌, ◌||◌, ◌==◌, not, List, [], Some, None, if◌then◌else◌, refl, sym, ap, ◌∙◌, subst, ◌⊎◌, inl, inr, ⊎_elim, arith}
+use Rattle.std.proofs.lemmas.Bool.{and_parts, eq-eqb}
 use Rattle.std.proofs.lemmas.Bool.Decides.{nat_tests}
 use Rattle.std.specs.Char.{digit_value}
 use Rattle.yf_chars.specs.declared.context.Ctx.{Ctx}
-use Rattle.yf_chars.specs.Text.{code, next}
+use Rattle.yf_chars.specs.Text.{code}
 use Rattle.yf_chars.specs.Class.{is_white, is_nb_json, is_hex_digit, is_digit, is_between}
 use Rattle.yf_chars.specs.Chain.{Chain, Many}
 use Rattle.yf_chars.specs.Chain.Chain.{done, step}
 use Rattle.yf_chars.specs.Chain.One.{one}
-use Rattle.yf_chars.specs.Escape.{named, number, Digits, Numbered, is_high, is_low, NoLow, Escape}
-use Rattle.yf_chars.specs.Escape.Escape.{by_letter, by_two, by_four, by_half, by_pair, by_eight}
-use Rattle.yf_lines.specs.Basic.{Break, SeparateInLine, Folded, FlowFolded, Empty, FlowPrefix, Clear, is_flow, is_key}
+use Rattle.yf_chars.specs.Escape.{named, number, Numbered, is_high, is_low, NoLow}
+use Rattle.yf_chars.specs.Escape.Escape.{by_letter, by_two, by_four, by_pair, by_eight}
+use Rattle.yf_lines.specs.Basic.{Break, Folded, FlowFolded, Clear, is_flow, is_key}
 use Rattle.yf_lines.specs.Basic.SeparateInLine.{by_whites, at_start}
 use Rattle.yf_lines.specs.Basic.Folded.{trimmed, as_space}
 use Rattle.yf_lines.specs.Basic.FlowFolded.{at_break, past_whites}
-use Rattle.yf_chars.specs.declared.context.Ctx.TheVariants.{FlowIn}
-use Rattle.yf_quoted.specs.Quoted.{Item, Rest, Inside, Quoted, SingleChar, as_they_are, SingleQuoted, Piece, goods, DoubleChar, DoubleBreak, DoubleQuoted}
+use Rattle.yf_quoted.specs.Quoted.{Item, Rest, Inside, SingleChar, as_they_are, SingleQuoted, Piece, goods, DoubleChar, DoubleBreak, DoubleQuoted}
 use Rattle.yf_quoted.specs.Quoted.Item.{set_off}
 use Rattle.yf_quoted.specs.Quoted.Rest.{blank, last_break, next_line}
 use Rattle.yf_quoted.specs.Quoted.Inside.{as_key, as_lines}
 use Rattle.yf_quoted.specs.Quoted.SingleChar.{doubled, unquoted}
 use Rattle.yf_quoted.specs.Quoted.DoubleChar.{unescaped}
 use Rattle.yf_quoted.specs.Quoted.DoubleBreak.{folded_break, escaped_break}
-use Rattle.yf_standard.specs.Characters.{Set, x, ◌∪◌, ◌∖◌, s-white, nb-json, c-escape, c-single-quote, c-double-quote, ns-hex-digit, ns-esc-null, ns-esc-bell, ns-esc-backspace, ns-esc-horizontal-tab, ns-esc-line-feed, ns-esc-vertical-tab, ns-esc-form-feed, ns-esc-carriage-return, ns-esc-escape, ns-esc-space, ns-esc-double-quote, ns-esc-slash, ns-esc-backslash, ns-esc-next-line, ns-esc-non-breaking-space, ns-esc-line-separator, ns-esc-paragraph-separator}
+use Rattle.yf_standard.specs.Characters.{x, ◌∪◌, ◌∖◌, s-white, nb-json, c-escape, c-double-quote, ns-hex-digit, ns-esc-null, ns-esc-bell, ns-esc-backspace, ns-esc-horizontal-tab, ns-esc-line-feed, ns-esc-vertical-tab, ns-esc-form-feed, ns-esc-carriage-return, ns-esc-escape, ns-esc-space, ns-esc-double-quote, ns-esc-slash, ns-esc-backslash, ns-esc-next-line, ns-esc-non-breaking-space, ns-esc-line-separator, ns-esc-paragraph-separator}
 use Rattle.yf_standard.specs.Notation.{Form, Condition}
 use Rattle.yf_standard.specs.Notation.Form.{‹◌›}
 use Rattle.yf_standard.specs.Productions.{times}
 use Rattle.yf_standard.proofs.Reading.{Star, FormRead}
 use Rattle.yf_standard.proofs.Reading.Star.{none, more}
-use Rattle.yf_standard.proofs.Basics.{SomeOf, CharOf, char_is, star_chain, chars_many}
+use Rattle.yf_standard.proofs.Basics.{SomeOf, CharOf, char_is, chars_many}
 use Rattle.yf_standard.proofs.Flows.{SignOf}
 use Rattle.yf_standard.proofs.Sets.{white_is, nb_json_is, hex_digit_is}
 use Rattle.yf_standard.proofs.Doubles.{Lone, chars_read, as_char, four_read, pair_known, no_low_of}

@@ -1,11 +1,10 @@
 -- A form read as a relation, where K says what each production stands for; and that what is derived is so read wherever K is closed under the
 -- productions.
-use Rattle.std.proofs.Common.{◌≡◌, ℕ, ◌≤◌, ◌-◌, ℤ, Bool, true, false, true≢false, List, length, take, drop, refl, ap, sym, ◌∙◌, subst, ◌<◌, ◌⊎◌, inl, inr, arith}
+use Rattle.std.proofs.Common.{◌≡◌, ℕ, ◌≤◌, ◌-◌, ℤ, Bool, true, false, true≢false, List, length, take, drop, refl, ap, ◌<◌, ◌⊎◌, inl, inr, arith}
 use Rattle.yf_standard.proofs.Monotone.{forward}
 use Rattle.std.specs.Str.{chars}
 use Rattle.yf_chars.specs.Text.{code, next}
 use Rattle.yf_lines.specs.Basic.{Clear}
-use Rattle.yf_standard.specs.Characters.{Set}
 use Rattle.yf_standard.specs.Notation.{Form, Condition}
 use Rattle.yf_standard.specs.Notation.Form.{ε, never, ‹◌›, ◌∣◌, ◌⁇, ◌⋆, ◌⁺, ◌less◌, ⟨◌⟩, some-m, some-k, at-most, excluding-c-forbidden, ◌∙◌ as ◌then◌}
 use Rattle.yf_standard.specs.Productions.{rule}

@@ -1,5 +1,5 @@
 -- Block scalars (8.1), from the relations of `Header` and `Body` to the standard's productions.
-use Rattle.std.proofs.Common.{◌≡◌, ◌≢◌, ℕ, zero, suc, ◌+◌, ◌-◌, ◌<◌, ◌≤◌, ℤ, pos, negsuc, max, Bool, true, false, true≢false, ◌&&◌, ◌==◌, ◌<ℤ◌, List, [], ◌∷◌, ◌++◌, length, Option, Some, None, leb, refl, sym, ap, ◌∙◌, subst, ◌⊎◌, inl, inr, ⊎_elim, arith}
+use Rattle.std.proofs.Common.{◌≡◌, ◌≢◌, ℕ, zero, suc, ◌+◌, ◌-◌, ◌<◌, ◌≤◌, ℤ, pos, max, Bool, true, false, true≢false, ◌<ℤ◌, List, [], ◌∷◌, ◌++◌, length, Option, Some, None, leb, refl, sym, ap, ◌∙◌, subst, ◌⊎◌, inl, inr, ⊎_elim, arith}
 use Rattle.std.proofs.lemmas.Bool.{cases_lt, cases_Bool, and_parts, eq-eqb, leb-true}
 use Rattle.std.proofs.lemmas.Int.{ints}
 use Rattle.yf_chars.specs.declared.context.Ctx.TheVariants.{BlockIn}
@@ -8,7 +8,7 @@ use Rattle.yf_chars.specs.Class.{is_nb_char, is_ns_char, is_white, is_between}
 use Rattle.yf_chars.specs.Chain.{Chain, Many, Stuck, Chosen}
 use Rattle.yf_chars.specs.Chain.Chain.{done, step}
 use Rattle.yf_chars.specs.Chain.One.{one}
-use Rattle.yf_lines.specs.Basic.{Break, LineStart, Spaces, Empty, SeparateInLine}
+use Rattle.yf_lines.specs.Basic.{LineStart, Spaces, SeparateInLine}
 use Rattle.yf_lines.specs.Basic.SeparateInLine.{by_whites, at_start}
 use Rattle.yf_comments.specs.Comment.{CommentValue}
 use Rattle.yf_comments.specs.Comments.{CommentText, BreakOrEnd, LineRest, CommentLine, LineEnd, Row}
@@ -28,12 +28,12 @@ use Rattle.yf_grammar.specs.BlockScalar.{BlockScalar}
 use Rattle.yf_grammar.specs.BlockScalar.BlockScalar.{block_scalar}
 use Rattle.yf_block_scalar.specs.declared.header.Chomp.{Chomp}
 use Rattle.yf_block_scalar.specs.declared.header.Chomp.TheVariants.{Strip, Clip, Keep}
-use Rattle.yf_block_scalar.specs.Header.{Style, Digit, Sign, Indicators, BlockHeader}
+use Rattle.yf_block_scalar.specs.Header.{Digit, Sign, Indicators, BlockHeader}
 use Rattle.yf_block_scalar.specs.Header.Style.{literal_sign, folded_sign}
 use Rattle.yf_block_scalar.specs.Header.Digit.{digit}
 use Rattle.yf_block_scalar.specs.Header.Sign.{strip_sign, keep_sign}
 use Rattle.yf_block_scalar.specs.Header.Indicators.{neither, digit_alone, sign_alone, digit_sign, sign_digit}
-use Rattle.yf_block_scalar.specs.Body.{base, least, largest, SpaceLine, Bare, Ends, Content, Line, Lines, Tail, Taken, Other, Detected, MarkerLine, Shallow, Trail}
+use Rattle.yf_block_scalar.specs.Body.{base, least, largest, Bare, Ends, Content, Line, Lines, Taken, MarkerLine, Shallow, Trail}
 use Rattle.yf_block_scalar.specs.Body.Bare.{bare}
 use Rattle.yf_block_scalar.specs.Body.Ends.{by_break as ends_by_break, by_text}
 use Rattle.yf_block_scalar.specs.Body.Line.{empty_line, content_line}
@@ -41,28 +41,28 @@ use Rattle.yf_block_scalar.specs.Body.Lines.{no_content, up_to}
 use Rattle.yf_block_scalar.specs.Body.MarkerLine.{marker_here, past_mark}
 use Rattle.yf_block_scalar.specs.Body.Shallow.{missing, left_of, forbidden}
 use Rattle.yf_block_scalar.specs.Body.Trail.{comments, no_comment}
-use Rattle.yf_standard.specs.Characters.{x, ◌to◌, s-space, s-white, ns-char, nb-char, c-comment, c-literal, c-folded}
-use Rattle.yf_standard.specs.Notation.{Form, Chomping, Indicator, Condition}
+use Rattle.yf_standard.specs.Characters.{x, ◌to◌, s-space, c-literal, c-folded}
+use Rattle.yf_standard.specs.Notation.{Form, Chomping, Indicator}
 use Rattle.yf_standard.specs.Notation.Chomping.{STRIP, CLIP, KEEP}
 use Rattle.yf_standard.specs.Notation.Indicator.{GIVEN, DETECTED}
-use Rattle.yf_standard.specs.Notation.Condition.{no-line, no-comment-line, no-trail, auto-detect, is-sum, end-of-input}
-use Rattle.yf_standard.specs.Notation.Form.{‹◌›, ◌∣◌, ◌⁇, ◌⋆, ◌⁺, ⟨◌⟩, some-m, some-k, ◌∙◌ as ◌then◌, s-indent, s-indent-less-or-equal, b-as-line-feed, b-non-content, l-empty, l-comment, c-b-block-header, c-indentation-indicator, c-chomping-indicator, b-chomped-last, l-chomped-empty, l-strip-empty, l-keep-empty, l-trail-comments, c-l+literal, l-nb-literal-text, b-nb-literal-next, l-literal-content, c-l+folded, s-nb-folded-text, l-nb-folded-lines, s-nb-spaced-text, l-nb-spaced-lines, l-nb-same-lines, l-nb-diff-lines, l-folded-content}
+use Rattle.yf_standard.specs.Notation.Condition.{no-trail, auto-detect, is-sum}
+use Rattle.yf_standard.specs.Notation.Form.{‹◌›, ◌∣◌, ◌⋆, ⟨◌⟩, some-m, some-k, ◌∙◌ as ◌then◌, s-indent-less-or-equal, b-as-line-feed, b-non-content, l-empty, l-comment, c-b-block-header, c-indentation-indicator, c-chomping-indicator, b-chomped-last, l-chomped-empty, l-trail-comments, c-l+literal, l-nb-literal-text, b-nb-literal-next, l-literal-content, c-l+folded, l-nb-folded-lines, l-nb-spaced-lines, l-nb-same-lines, l-folded-content}
 use Rattle.yf_standard.specs.Productions.{rule, digit-of, some-t}
-use Rattle.yf_standard.specs.Rules.{read, NoLine, NoTrail, NoCommentLine, AutoDetect}
+use Rattle.yf_standard.specs.Rules.{read, NoLine, NoCommentLine}
 use Rattle.yf_standard.specs.Rules.AutoDetect.{by_first_line, without_content}
 use Rattle.yf_standard.specs.Literal.{kind}
-use Rattle.yf_standard.specs.Literal.Derived.{by_rule, nothing, one_of, one_then, in_left, in_right, absent, present, no_more, one_more, at_least_one, where_holds, for_some_m, for_some_k}
-use Rattle.yf_standard.proofs.BasicsMade.{Read, one_char, many_made, chars_made, some_chars_made, feed_made, non_content_made, empty_made, indent_made, less_made, comment_made, b_comment_made, l_comment_made, rest_made, fewer_made}
-use Rattle.yf_standard.proofs.Basics.{SomeOf, pos_inj, many_forward}
+use Rattle.yf_standard.specs.Literal.Derived.{by_rule, nothing, one_of, one_then, in_left, in_right, absent, present, no_more, one_more, where_holds, for_some_m, for_some_k}
+use Rattle.yf_standard.proofs.BasicsMade.{Read, one_char, many_made, chars_made, some_chars_made, feed_made, non_content_made, empty_made, indent_made, comment_made, b_comment_made, l_comment_made, rest_made, fewer_made}
+use Rattle.yf_standard.proofs.Basics.{pos_inj, many_forward}
 use Rattle.yf_standard.proofs.Sets.{nb_char_is, ns_char_is, white_is}
-use Rattle.yf_standard.proofs.Texts.{Empties, Texts, lines_texts, bare_empties, some_first}
+use Rattle.yf_standard.proofs.Texts.{Empties, Texts, lines_texts, bare_empties}
 use Rattle.yf_standard.proofs.Texts.Texts.{last_text, more_texts}
 use Rattle.yf_chars.proofs.TextLemmas.{next_ascii, code-past, within_from_code}
 use Rattle.yf_chars.proofs.ChainLemmas.{chain_append}
 use Rattle.yf_lines.proofs.BasicLemmas.{break_char, break_forward, white_below}
 use Rattle.yf_comments.proofs.GapLinesLemmas.{spaces_in_line}
 use Rattle.yf_comments.proofs.LineEndLemmas.{line_end_rows, rows_lines, rows_ended, rest_next, next_starts}
-use Rattle.yf_block_scalar.proofs.BodyLemmas.{spaces_bound, spaces_unique, shallow_stuck, marker_code, taken_starts}
+use Rattle.yf_block_scalar.proofs.BodyLemmas.{spaces_unique, shallow_stuck, marker_code, taken_starts}
 
 -- the standard's words for a chomping and for an indicator
 abbrev pub chomping : Chomp → Chomping

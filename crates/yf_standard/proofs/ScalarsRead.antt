@@ -1,69 +1,43 @@
 -- Block scalars (8.1), from what the standard's productions are read as to the relations of `Header` and `Body`.
-use Rattle.std.proofs.Common.{◌≡◌, ◌≢◌, ℕ, zero, suc, ◌+◌, ◌-◌, ◌<◌, ◌≤◌, ℤ, pos, negsuc, ◌<ℤ◌, ◌≤ℤ◌, max, Bool, true, false, true≢false, leb, ◌&&◌, ◌||◌, ◌==◌, not, List, [], ◌∷◌, ◌++◌, length, slice_range, Option, Some, None, refl, sym, ap, ◌∙◌, subst, ◌⊎◌, inl, inr, ⊎_elim, arith}
-use Rattle.std.proofs.lemmas.Bool.{cases_lt, cases_eq, cases_Bool, and_parts, eqb-true, leb-true}
+use Rattle.std.proofs.Common.{◌≡◌, ℕ, suc, ◌+◌, ◌-◌, ◌<◌, ◌≤◌, ℤ, pos, ◌≤ℤ◌, Bool, true, false, leb, ◌||◌, ◌==◌, not, List, [], ◌∷◌, length, Option, Some, None, sym, ap, ◌∙◌, subst, ◌⊎◌, inl, inr, arith}
+use Rattle.std.proofs.lemmas.Bool.{and_parts, eqb-true, leb-true}
 use Rattle.std.proofs.lemmas.Int.{ints}
 use Rattle.std.proofs.lemmas.Bool.Decides.{nat_tests}
-use Rattle.std.specs.Str.{IsUtf8}
 use Rattle.yf_chars.specs.declared.context.Ctx.TheVariants.{BlockIn}
-use Rattle.yf_chars.specs.Text.{code, next, no_char}
+use Rattle.yf_chars.specs.Text.{code, next}
 use Rattle.yf_chars.specs.Class.{is_nb_char, is_ns_char, is_white, is_printable, is_between, is_break_char}
-use Rattle.yf_chars.specs.Chain.{Chain, Many, Stuck, Chosen}
+use Rattle.yf_chars.specs.Chain.{Chain, Many, Stuck}
 use Rattle.yf_chars.specs.Chain.Chain.{done, step}
 use Rattle.yf_chars.specs.Chain.One.{one}
-use Rattle.yf_lines.specs.Basic.{Break, LineStart, Spaces, Indent, IndentLess, Empty, Folded, Forbidden, Clear, SeparateInLine, is_marker}
-use Rattle.yf_lines.specs.Basic.LineStart.{after_break}
+use Rattle.yf_lines.specs.Basic.{Break, Spaces, Indent, IndentLess, Empty, Folded}
 use Rattle.yf_lines.specs.Basic.Indent.{exactly}
 use Rattle.yf_lines.specs.Basic.IndentLess.{fewer}
 use Rattle.yf_lines.specs.Basic.Folded.{trimmed, as_space}
-use Rattle.yf_comments.specs.Comment.{CommentValue}
-use Rattle.yf_comments.specs.Comments.{CommentText, BreakOrEnd, LineRest, CommentLine, LineEnd, Row}
-use Rattle.yf_comments.specs.Comments.CommentText.{comment_text}
-use Rattle.yf_comments.specs.Comments.BreakOrEnd.{by_break, by_end}
-use Rattle.yf_comments.specs.Comments.LineRest.{nothing as empty_rest, whites, comment}
-use Rattle.yf_comments.specs.Comments.LineEnd.{past_rest, from_start}
+use Rattle.yf_comments.specs.Comments.{CommentText, BreakOrEnd, LineRest, CommentLine}
 use Rattle.yf_block_scalar.specs.declared.header.Chomp.{Chomp}
 use Rattle.yf_block_scalar.specs.declared.header.Chomp.TheVariants.{Strip, Clip, Keep}
-use Rattle.yf_block_scalar.specs.declared.header.Header.{Header}
-use Rattle.yf_block_scalar.specs.Header.{Style, Digit, Sign, Indicators, BlockHeader, HeaderValue}
-use Rattle.yf_block_scalar.specs.Header.Style.{literal_sign, folded_sign}
+use Rattle.yf_block_scalar.specs.Header.{Digit, Sign, Indicators}
 use Rattle.yf_block_scalar.specs.Header.Digit.{digit}
 use Rattle.yf_block_scalar.specs.Header.Sign.{strip_sign, keep_sign}
 use Rattle.yf_block_scalar.specs.Header.Indicators.{neither, digit_alone, sign_alone, digit_sign, sign_digit}
-use Rattle.yf_block_scalar.specs.Header.BlockHeader.{block_header}
-use Rattle.yf_block_scalar.specs.Body.{base, least, largest, SpaceLine, Bare, Ends, Content, Line, Lines, Tail, Taken, Detected, Shallow, Trail, Body, BodyValue}
+use Rattle.yf_block_scalar.specs.Body.{largest, SpaceLine, Bare, Ends, Line}
 use Rattle.yf_block_scalar.specs.Body.Bare.{bare}
 use Rattle.yf_block_scalar.specs.Body.Ends.{by_break as ends_by_break, by_text}
-use Rattle.yf_block_scalar.specs.Body.Content.{content}
-use Rattle.yf_block_scalar.specs.Body.Line.{empty_line, content_line}
-use Rattle.yf_block_scalar.specs.Body.Lines.{no_content, up_to}
-use Rattle.yf_block_scalar.specs.Body.Trail.{comments, no_comment}
-use Rattle.yf_block_scalar.specs.Body.Body.{indicated, detected, without_content as body_without_content}
-use Rattle.yf_grammar.specs.Meaning.{Meaning}
-use Rattle.yf_grammar.specs.BlockScalar.{BlockScalar}
-use Rattle.yf_grammar.specs.BlockScalar.BlockScalar.{block_scalar}
 use Rattle.yf_standard.specs.Characters.{x, ◌to◌, s-white, nb-char, ns-char, s-space}
 use Rattle.yf_standard.specs.Notation.{Chomping, Indicator}
 use Rattle.yf_standard.specs.Notation.Chomping.{STRIP, CLIP, KEEP}
 use Rattle.yf_standard.specs.Notation.Indicator.{GIVEN, DETECTED}
 use Rattle.yf_standard.specs.Productions.{digit-of}
-use Rattle.yf_standard.specs.Rules.{NoLine, NoTrail, NoCommentLine, AutoDetect}
-use Rattle.yf_standard.specs.Rules.AutoDetect.{by_first_line, without_content}
+use Rattle.yf_standard.specs.Rules.{NoLine, NoTrail, NoCommentLine}
 use Rattle.yf_standard.proofs.Reading.{Star}
 use Rattle.yf_standard.proofs.Reading.Star.{none, more}
 use Rattle.yf_standard.proofs.Basics.{SomeOf, CharOf, char_is, star_chain, chars_many, chars_some, pos_inj, spaces_more, many_forward}
-use Rattle.yf_standard.proofs.Flows.{SignOf}
 use Rattle.yf_standard.proofs.Sets.{nb_char_is, ns_char_is, white_is}
-use Rattle.yf_standard.proofs.Texts.{Empties, Texts, empties_before, texts_join, some_first, no_empties, empties_join}
-use Rattle.yf_standard.proofs.Texts.Texts.{last_text, more_texts}
+use Rattle.yf_standard.proofs.Texts.{Empties, Texts, empties_before, texts_join, no_empties}
+use Rattle.yf_standard.proofs.Texts.Texts.{last_text}
 use Rattle.yf_standard.proofs.LiteralLines.{empty_line_read}
-use Rattle.yf_standard.proofs.ScalarsMade.{HashRest, hash_rest, spaces_separated, hash_shallow}
-use Rattle.yf_chars.proofs.TextLemmas.{next_ascii, next_later, code-past}
-use Rattle.yf_chars.proofs.ChainLemmas.{chain_append}
-use Rattle.yf_lines.proofs.BasicLemmas.{break_forward}
-use Rattle.yf_comments.proofs.LineEndLemmas.{rest_line, rest_next, next_starts, line_end_chosen, row_stuck_end}
-use Rattle.yf_block_scalar.proofs.BodyLemmas.{no_nb_end, taken_starts, bares_starts}
-use Rattle.yf_block_scalar.proofs.UniqueLemmas.{taken_unique}
-use Rattle.yf_block.proofs.ScalarLines.{body_between}
+use Rattle.yf_standard.proofs.ScalarsMade.{HashRest}
+use Rattle.yf_chars.proofs.TextLemmas.{next_ascii, next_later}
 
 -- what n is, where it is a number of spaces
 abbrev pub AtWidth : (ℕ → ℕ → ℕ → Type 0) → ℤ → ℕ → ℕ → Type 0

@@ -3,11 +3,11 @@ use Rattle.std.proofs.Common.{◌≡◌, ◌≢◌, ℕ, zero, suc, ◌+◌, ◌
 use Rattle.std.proofs.lemmas.Bool.{cases_lt, cases_eq, cases_Bool}
 use Rattle.std.specs.Str.{IsUtf8}
 use Rattle.yf_chars.specs.declared.context.Ctx.TheVariants.{BlockIn}
-use Rattle.yf_chars.specs.Text.{code, no_char}
+use Rattle.yf_chars.specs.Text.{code}
 use Rattle.yf_chars.specs.Class.{is_nb_char}
-use Rattle.yf_chars.specs.Chain.{Chain, Many, Stuck, Chosen}
+use Rattle.yf_chars.specs.Chain.{Chain, Many, Stuck}
 use Rattle.yf_chars.specs.Chain.Chain.{done, step}
-use Rattle.yf_lines.specs.Basic.{Break, LineStart, Spaces, Empty, Forbidden, Clear, SeparateInLine, is_marker}
+use Rattle.yf_lines.specs.Basic.{LineStart, Spaces, Empty, Clear, SeparateInLine, is_marker}
 use Rattle.yf_lines.specs.Basic.LineStart.{after_break}
 use Rattle.yf_lines.specs.Basic.SeparateInLine.{by_whites, at_start}
 use Rattle.yf_comments.specs.Comment.{CommentValue}
@@ -17,10 +17,9 @@ use Rattle.yf_comments.specs.Comments.BreakOrEnd.{by_break, by_end}
 use Rattle.yf_comments.specs.Comments.LineRest.{nothing as empty_rest, whites, comment}
 use Rattle.yf_comments.specs.Comments.CommentLine.{whites_line, comment_line}
 use Rattle.yf_comments.specs.Comments.LineEnd.{past_rest, from_start}
-use Rattle.yf_block_scalar.specs.declared.header.Header.{Header}
-use Rattle.yf_block_scalar.specs.Header.{Style, Indicators, BlockHeader, HeaderValue}
+use Rattle.yf_block_scalar.specs.Header.{Style, Indicators}
 use Rattle.yf_block_scalar.specs.Header.BlockHeader.{block_header}
-use Rattle.yf_block_scalar.specs.Body.{base, least, largest, SpaceLine, Bare, Ends, Content, Line, Lines, Tail, Taken, Detected, Shallow, Trail, Body, BodyValue}
+use Rattle.yf_block_scalar.specs.Body.{base, least, Bare, Ends, Content, Line, Tail, Taken, Shallow, Trail, Body, BodyValue}
 use Rattle.yf_block_scalar.specs.Body.Bare.{bare}
 use Rattle.yf_block_scalar.specs.Body.Ends.{by_break as ends_by_break, by_text}
 use Rattle.yf_block_scalar.specs.Body.Content.{content}
@@ -28,24 +27,23 @@ use Rattle.yf_block_scalar.specs.Body.Line.{empty_line, content_line}
 use Rattle.yf_block_scalar.specs.Body.Lines.{no_content, up_to}
 use Rattle.yf_block_scalar.specs.Body.Trail.{comments, no_comment}
 use Rattle.yf_block_scalar.specs.Body.Body.{indicated, detected, without_content as body_without_content}
-use Rattle.yf_grammar.specs.Meaning.{Meaning}
 use Rattle.yf_grammar.specs.BlockScalar.{BlockScalar}
 use Rattle.yf_grammar.specs.BlockScalar.BlockScalar.{block_scalar}
-use Rattle.yf_standard.specs.Notation.{Chomping, Indicator}
+use Rattle.yf_standard.specs.Notation.{Chomping}
 use Rattle.yf_standard.specs.Notation.Indicator.{GIVEN, DETECTED}
 use Rattle.yf_standard.specs.Rules.{NoTrail, NoCommentLine, AutoDetect}
 use Rattle.yf_standard.specs.Rules.AutoDetect.{by_first_line, without_content}
-use Rattle.yf_standard.proofs.Basics.{SomeOf, many_forward, pos_inj}
-use Rattle.yf_standard.proofs.Texts.{Empties, Texts, some_first}
+use Rattle.yf_standard.proofs.Basics.{SomeOf, many_forward}
+use Rattle.yf_standard.proofs.Texts.{Texts, some_first}
 use Rattle.yf_standard.proofs.Texts.Texts.{last_text, more_texts}
 use Rattle.yf_standard.proofs.LiteralLines.{empty_line_read}
-use Rattle.yf_standard.proofs.ScalarsMade.{HashRest, hash_rest, spaces_separated, hash_shallow}
-use Rattle.yf_standard.proofs.ScalarsRead.{AtWidth, chomp_of, digit_of, HeaderRead, SomeEnd, TrailComments, Ending, ContentRead}
+use Rattle.yf_standard.proofs.ScalarsMade.{hash_rest, spaces_separated, hash_shallow}
+use Rattle.yf_standard.proofs.ScalarsRead.{AtWidth, chomp_of, HeaderRead, SomeEnd, TrailComments, Ending, ContentRead}
 use Rattle.yf_chars.proofs.TextLemmas.{code-past, within_from_code}
 use Rattle.yf_chars.proofs.ChainLemmas.{chain_append}
 use Rattle.yf_lines.proofs.BasicLemmas.{break_forward}
 use Rattle.yf_lines.proofs.LineLemmas.{break_within}
-use Rattle.yf_comments.proofs.LineEndLemmas.{rest_line, rest_next, next_starts, line_end_chosen, row_stuck_end}
+use Rattle.yf_comments.proofs.LineEndLemmas.{rest_line, next_starts, line_end_chosen, row_stuck_end}
 use Rattle.yf_block_scalar.proofs.BodyLemmas.{no_nb_end, taken_starts}
 use Rattle.yf_block_scalar.proofs.UniqueLemmas.{taken_unique}
 use Rattle.yf_block.proofs.ScalarLines.{body_between}

@@ -1,10 +1,10 @@
 -- The sets of the standard's productions are the classes of `Class`.
-use Rattle.std.proofs.Common.{◌≡◌, ℕ, Bool, true, false, ◌==◌, ◌&&◌, ◌||◌, not, nat_le, refl, sym, ap, ◌∙◌, subst}
+use Rattle.std.proofs.Common.{◌≡◌, ℕ, ◌==◌, ◌||◌, not, refl, sym, ap}
 use Rattle.std.proofs.Math.Bool.{and_assoc, or_assoc}
 use Rattle.yf_chars.specs.declared.context.Ctx.{Ctx}
 use Rattle.yf_chars.specs.declared.context.Ctx.TheVariants.{BlockOut, BlockIn, FlowOut, FlowIn, BlockKey, FlowKey}
-use Rattle.yf_standard.specs.Characters.{Set, x, ◌to◌, ◌∪◌, ◌∖◌, no-character, c-printable, nb-json, b-char, b-line-feed, b-carriage-return, c-byte-order-mark, nb-char, s-white, s-space, s-tab, ns-char, ns-dec-digit, ns-hex-digit, ns-ascii-letter, ns-word-char, c-flow-indicator, c-indicator, ns-plain-safe, ns-plain-safe-in, ns-plain-safe-out, ns-anchor-char, c-collect-entry, c-sequence-start, c-sequence-end, c-mapping-start, c-mapping-end}
-use Rattle.yf_chars.specs.Class.{is_between, is_printable, is_nb_json, is_break_char, is_nb_char, is_white, is_ns_char, is_digit, is_hex_digit, is_word_char, is_flow_indicator, is_indicator, is_plain_safe, is_anchor_char}
+use Rattle.yf_standard.specs.Characters.{x, ◌to◌, ◌∪◌, ◌∖◌, no-character, c-printable, nb-json, b-char, b-line-feed, b-carriage-return, c-byte-order-mark, nb-char, s-white, s-space, s-tab, ns-char, ns-dec-digit, ns-hex-digit, ns-ascii-letter, ns-word-char, c-flow-indicator, ns-plain-safe, ns-plain-safe-in, ns-plain-safe-out, ns-anchor-char, c-collect-entry, c-sequence-start, c-sequence-end, c-mapping-start, c-mapping-end}
+use Rattle.yf_chars.specs.Class.{is_between, is_printable, is_nb_json, is_break_char, is_nb_char, is_white, is_ns_char, is_digit, is_hex_digit, is_word_char, is_flow_indicator, is_plain_safe, is_anchor_char}
 
 pub white_is : (c : ℕ) → s-white c ≡ is_white c
 unfolding s-white s-space s-tab x ◌∪◌ is_white

@@ -1,14 +1,14 @@
 -- Directives and streams (6.8, 9), from the relations of `Stream` to the standard's productions.
-use Rattle.std.proofs.Common.{◌≡◌, ◌≢◌, ℕ, zero, suc, max, ◌+◌, ◌-◌, ◌<◌, ◌≤◌, ℤ, pos, negsuc, ◌-ℤ◌, Bool, true, false, true≢false, ◌&&◌, ◌==◌, List, [], ◌∷◌, length, codes, slice_range, refl, sym, ap, ◌∙◌, subst, ◌⊎◌, inl, inr, ⊎_elim, arith}
+use Rattle.std.proofs.Common.{◌≡◌, ◌≢◌, ℕ, ◌+◌, ◌<◌, ◌≤◌, Bool, true, false, true≢false, ◌&&◌, ◌==◌, List, [], ◌∷◌, length, codes, slice_range, refl, sym, ap, ◌∙◌, subst, ⊎_elim, arith}
 use Rattle.std.proofs.lemmas.Bool.{cases_lt, cases_Bool, and_parts, eqb-true, eq-eqb}
 use Rattle.std.specs.Str.{IsUtf8}
 use Rattle.yf_chars.specs.Text.{code, next}
 use Rattle.yf_chars.specs.Class.{is_ns_char, is_nb_char, is_printable, is_between, is_break_char, is_white, is_digit, is_white_or_end}
-use Rattle.yf_chars.specs.Chain.{Chain, One, Many, Stuck}
+use Rattle.yf_chars.specs.Chain.{One}
 use Rattle.yf_chars.specs.Chain.One.{one}
 use Rattle.yf_lines.specs.Basic.{SeparateInLine, is_three}
 use Rattle.yf_comments.specs.Comment.{CommentValue}
-use Rattle.yf_comments.specs.Comments.{CommentLine, LineEnd}
+use Rattle.yf_comments.specs.Comments.{LineEnd}
 use Rattle.yf_props.specs.Names.{Run}
 use Rattle.yf_grammar.specs.Meaning.{Meaning}
 use Rattle.yf_stream.specs.Stream.{ReservedParameter, Parameters, Directives, DirectiveLines, Document, Documents, RootNode, ExplicitNode, AnyDocument, PrefixPart, Prefixes, Suffixes, StreamRest, Stream}
@@ -21,15 +21,14 @@ use Rattle.yf_stream.specs.Stream.PrefixPart.{order_mark, prefix_comment}
 use Rattle.yf_stream.specs.Stream.Suffixes.{last_suffix, more_suffixes}
 use Rattle.yf_stream.specs.Stream.StreamRest.{stream_ended, past_prefix, past_suffixes, past_suffixes_and_document, past_explicit}
 use Rattle.yf_stream.specs.Stream.Stream.{begins_with_document, without_document}
-use Rattle.yf_standard.specs.Characters.{x, c-directive, c-byte-order-mark, ns-char, ns-dec-digit, ◌to◌}
+use Rattle.yf_standard.specs.Characters.{x, c-directive, c-byte-order-mark}
 use Rattle.yf_standard.specs.Notation.{Form}
-use Rattle.yf_standard.specs.Notation.Condition.{reserved-name, no-comment}
-use Rattle.yf_standard.specs.Notation.Form.{ε, ‹◌›, ◌∣◌, ◌⁇, ◌⋆, ◌⁺, ⟨◌⟩, ◌∙◌ as ◌then◌, s-separate-in-line, l-comment, l-directive, ns-reserved-directive, ns-directive-name, ns-directive-parameter, ns-yaml-directive, ns-yaml-version, ns-tag-directive, l-document-prefix, c-directives-end, c-document-end, l-document-suffix, l-bare-document, l-explicit-document, l-directive-document, l-any-document, l-yaml-stream}
+use Rattle.yf_standard.specs.Notation.Form.{ε, ‹◌›, ◌∣◌, ◌⁇, ◌⋆, ◌⁺, ◌∙◌ as ◌then◌, s-separate-in-line, l-comment, l-directive, ns-reserved-directive, ns-directive-parameter, ns-yaml-directive, ns-tag-directive, l-document-prefix, l-document-suffix, l-bare-document, l-explicit-document, l-any-document, l-yaml-stream}
 use Rattle.yf_standard.specs.Productions.{rule}
 use Rattle.yf_standard.specs.Rules.{read, is_name_yaml, is_name_tag}
 use Rattle.yf_standard.specs.Literal.{kind}
 use Rattle.yf_standard.specs.Literal.Derived.{by_rule, nothing, one_of, one_then, in_left, in_right, absent, present, no_more, one_more, at_least_one, where_holds, clear_of_markers}
-use Rattle.yf_standard.proofs.BasicsMade.{Read, one_char, many_made, chars_made, some_chars_made, in_line_made, l_comment_made, comments_made}
+use Rattle.yf_standard.proofs.BasicsMade.{Read, one_char, many_made, some_chars_made, in_line_made, l_comment_made, comments_made}
 use Rattle.yf_standard.proofs.PropertiesMade.{handle_made, prefix_made}
 use Rattle.yf_standard.proofs.QuotedMade.{star_then}
 use Rattle.yf_standard.proofs.NodesMade.{made}

@@ -1,19 +1,17 @@
 -- Streams (9), from what the standard's productions are read as to `Stream`.
-use Rattle.std.proofs.Common.{◌≡◌, ◌≢◌, ℕ, zero, suc, max, ◌+◌, ◌<◌, ◌≤◌, ℤ, pos, negsuc, ◌-ℤ◌, ◌+ℤ◌, Bool, true, false, List, [], ◌∷◌, ◌++◌, length, refl, sym, ap, ◌∙◌, subst, ◌⊎◌, inl, inr, ⊎_elim, arith}
-use Rattle.std.proofs.lemmas.Bool.{cases_Bool, cases_lt}
+use Rattle.std.proofs.Common.{◌≡◌, ℕ, zero, suc, ◌+◌, ◌≤◌, true, false, List, [], ◌∷◌, ◌++◌, length, refl, sym, ap, ◌∙◌, subst, ◌⊎◌, inl, inr, ⊎_elim, arith}
+use Rattle.std.proofs.lemmas.Bool.{cases_Bool}
 use Rattle.std.specs.Str.{IsUtf8}
-use Rattle.yf_chars.specs.declared.context.Ctx.TheVariants.{BlockIn}
 use Rattle.yf_chars.specs.Text.{code, next, no_char}
 use Rattle.yf_chars.specs.Class.{is_white}
 use Rattle.yf_chars.specs.Chain.{Chain, Many, Stuck}
 use Rattle.yf_chars.specs.Chain.Chain.{done, step}
 use Rattle.yf_chars.specs.Chain.One.{one}
-use Rattle.yf_lines.specs.Basic.{LineStart, Clear, is_three}
+use Rattle.yf_lines.specs.Basic.{LineStart, is_three}
 use Rattle.yf_lines.specs.Basic.LineStart.{at_text, after_break, after_mark}
 use Rattle.yf_comments.specs.Comment.{CommentValue}
-use Rattle.yf_comments.specs.Comments.{CommentLine, LineEnd, LineRest, Row}
+use Rattle.yf_comments.specs.Comments.{CommentLine, LineEnd, Row}
 use Rattle.yf_comments.specs.Comments.LineEnd.{past_rest, from_start}
-use Rattle.yf_grammar.specs.Grammar.{BlockNode, Derives}
 use Rattle.yf_grammar.specs.Meaning.{Meaning}
 use Rattle.yf_stream.specs.Stream.{Directives, DirectiveLines, Document, Documents, RootNode, ContentAt, ExplicitNode, AnyDocument, PrefixPart, Prefixes, Suffixes, StreamRest, Stream}
 use Rattle.yf_stream.specs.Stream.DirectiveLines.{more_directives}
@@ -26,18 +24,18 @@ use Rattle.yf_stream.specs.Stream.Stream.{begins_with_document, without_document
 use Rattle.yf_stream.specs.DocumentReaders.{PrefixRow, line_row, mark_row}
 use Rattle.yf_standard.proofs.Reading.{Star}
 use Rattle.yf_standard.proofs.Reading.Star.{none, more}
-use Rattle.yf_standard.proofs.Basics.{SomeOf, star_chain}
+use Rattle.yf_standard.proofs.Basics.{SomeOf}
 use Rattle.yf_standard.proofs.ScalarsWhole.{line_begins, lines_begin}
 use Rattle.yf_chars.proofs.ChainLemmas.{chain_append}
 use Rattle.yf_chars.proofs.TextLemmas.{code-past, next_later, reads_real}
 use Rattle.yf_lines.proofs.BasicLemmas.{clear_back}
 use Rattle.yf_lines.proofs.LineLemmas.{break_within}
-use Rattle.yf_comments.proofs.LineEndLemmas.{rest_line, rest_next, rows_lines}
+use Rattle.yf_comments.proofs.LineEndLemmas.{rest_next, rows_lines}
 use Rattle.yf_grammar.proofs.BlockEnds.{block_ends}
 use Rattle.yf_grammar.proofs.BlockStarts.{block_starts}
-use Rattle.yf_grammar.proofs.BlockLeading.{LeadingLines, Shed, shed}
+use Rattle.yf_grammar.proofs.BlockLeading.{shed}
 use Rattle.yf_stream.proofs.BareStarts.{bare_start}
-use Rattle.yf_stream.proofs.RowsKnown.{PrefixesFrom, prefixes_from}
+use Rattle.yf_stream.proofs.RowsKnown.{prefixes_from}
 use Rattle.yf_stream.proofs.StreamPath.{mark_still}
 
 abbrev pub Begins : List ℕ → ℕ → Type 0

@@ -1,6 +1,6 @@
 -- What may stand on the right of a production (4.1 of the standard), by the name of a production or made of other forms. ‹ s › is one
 -- character of a set, a ∙ b a then b, a ∣ b either, a ⁇ a or nothing, a ⋆ any number of a, a ⁺ one a or more.
-use Rattle.std.specs.Prelude.{ℕ, ℤ, Bool}
+use Rattle.std.specs.Prelude.{ℕ, ℤ}
 use Rattle.yf_chars.specs.declared.context.Ctx.{Ctx}
 use Rattle.yf_standard.specs.Characters.{Set}
 

@@ -2,15 +2,14 @@
 -- `read` with the reading rules of docs/GRAMMAR.md.
 use Rattle.std.specs.Prelude.{◌≡◌, ◌≢◌, ℕ, ◌+◌, ◌-◌, ℤ, pos, ◌≤ℤ◌, ◌<◌, ◌≤◌, ⊤, Bool, true, false, ◌==◌, ◌&&◌, List, length}
 use Rattle.yf_chars.specs.Text.{code, before}
-use Rattle.yf_chars.specs.Class.{is_anchor_char, is_tag_char, is_white_or_end}
+use Rattle.yf_chars.specs.Class.{is_anchor_char, is_white_or_end}
 use Rattle.yf_chars.specs.Chain.{Chain, Stuck}
 use Rattle.yf_lines.specs.Basic.{LineStart, Spaces}
 use Rattle.yf_comments.specs.Comments.{CommentText, BreakOrEnd, CommentLine}
 use Rattle.yf_comments.specs.Comment.{CommentValue}
 use Rattle.yf_props.specs.Names.{TagChar}
 use Rattle.yf_block_scalar.specs.Body.{base, least, largest, Line, Detected, Bare, Shallow}
-use Rattle.yf_standard.specs.Characters.{b-char, b-carriage-return, b-line-feed, c-comment}
-use Rattle.yf_standard.specs.Notation.{Form, Condition}
+use Rattle.yf_standard.specs.Notation.{Condition}
 use Rattle.yf_standard.specs.Notation.Condition.{start-of-line, end-of-input, lookahead=, lookahead≠, lookbehind=, not-before-line-feed, not-behind-carriage-return, name-ends, tag-ends, reserved-name, no-line, no-comment-line, no-trail, auto-detect, is-sum, no-value, sign-ends, no-comment}
 
 -- a `:` of an explicit entry at n stands on the line that begins at the place
