@@ -118,8 +118,8 @@ single_made {room = room} {t = t} {n = n} {c = c} {i = i} q =
 -- [42] to [62]
 names : (a b c d u e f g h k l m n o p q r s : Bool) (z0 z1 z2 z3 z4 z5 z6 z7 z8 z9 y0 y1 y2 y3 y4 y5 y6 v : ℕ)
     → (if a then Some z0 else if b then Some z1 else if c then Some z2 else if d || u then Some z3 else if e then Some z4 else if f then Some z5 else if g then Some z6 else if h then Some z7
-      else if k then Some z8 else if l then Some z9 else if m then Some y0 else if n then Some y1 else if o then Some y2 else if p then Some y3 else if q then Some y4 else if r then Some y5
-      else if s then Some y6 else None) ≡ Some v
+    else if k then Some z8 else if l then Some z9 else if m then Some y0 else if n then Some y1 else if o then Some y2 else if p then Some y3 else if q then Some y4 else if r then Some y5
+    else if s then Some y6 else None) ≡ Some v
     → (a || b || c || (d || u) || e || f || g || h || k || l || m || n || o || p || q || r || s) ≡ true
 names true b c d u e f g h k l m n o p q r s z0 z1 z2 z3 z4 z5 z6 z7 z8 z9 y0 y1 y2 y3 y4 y5 y6 v w = refl
 names false true c d u e f g h k l m n o p q r s z0 z1 z2 z3 z4 z5 z6 z7 z8 z9 y0 y1 y2 y3 y4 y5 y6 v w = refl

@@ -101,21 +101,24 @@ single_as_key t n c i j e d = (_, as_key e d.1)
 
 -- [120], where it covers no forbidden line
 pub single_quoted_read : (t : List ℕ) (n : ℤ) (c : Ctx) (i j : ℕ) → Clear t i j → (g : ℕ) × (SignOf t 39 i g × ((k : ℕ) × (SomeOf (SingleInside t n c) g k × SignOf t 39 k j))) → SomeOf (SingleQuoted t n c) i j
-single_quoted_read t n c i j w d = (d.1.1.1.0.0, record {
-  close = d.1.1.0;
-  opening = d.1.0.0;
-  inside = subst (λ z. SingleInside t n c z d.1.1.0 d.1.1.1.0.0) (sym d.1.0.1) d.1.1.1.0.1;
-  closing = d.1.1.1.1.0;
-  end = d.1.1.1.1.1;
-  clear = w;
-})
+single_quoted_read t n c i j w d = (
+  d.1.1.1.0.0,
+  record {
+    close = d.1.1.0;
+    opening = d.1.0.0;
+    inside = subst (λ z. SingleInside t n c z d.1.1.0 d.1.1.1.0.0) (sym d.1.0.1) d.1.1.1.0.1;
+    closing = d.1.1.1.1.0;
+    end = d.1.1.1.1.1;
+    clear = w;
+  },
+)
 
 -- [42] to [58]
 named_back : (a b c d u e f g h k l m n o p q r s : Bool) (z0 z1 z2 z3 z4 z5 z6 z7 z8 z9 y0 y1 y2 y3 y4 y5 y6 : ℕ)
     → (a || b || c || (d || u) || e || f || g || h || k || l || m || n || o || p || q || r || s) ≡ true
     → (v : ℕ) × ((if a then Some z0 else if b then Some z1 else if c then Some z2 else if d || u then Some z3 else if e then Some z4 else if f then Some z5 else if g then Some z6 else if h then Some z7
-      else if k then Some z8 else if l then Some z9 else if m then Some y0 else if n then Some y1 else if o then Some y2 else if p then Some y3 else if q then Some y4 else if r then Some y5
-      else if s then Some y6 else None) ≡ Some v)
+    else if k then Some z8 else if l then Some z9 else if m then Some y0 else if n then Some y1 else if o then Some y2 else if p then Some y3 else if q then Some y4 else if r then Some y5
+    else if s then Some y6 else None) ≡ Some v)
 named_back true b c d u e f g h k l m n o p q r s z0 z1 z2 z3 z4 z5 z6 z7 z8 z9 y0 y1 y2 y3 y4 y5 y6 w = (z0, refl)
 named_back false true c d u e f g h k l m n o p q r s z0 z1 z2 z3 z4 z5 z6 z7 z8 z9 y0 y1 y2 y3 y4 y5 y6 w = (z1, refl)
 named_back false false true d u e f g h k l m n o p q r s z0 z1 z2 z3 z4 z5 z6 z7 z8 z9 y0 y1 y2 y3 y4 y5 y6 w = (z2, refl)
@@ -352,11 +355,14 @@ pub double_quoted_read : (t : List ℕ) (n : ℤ) (c : Ctx) (i j : ℕ) → Clea
     → SomeOf (DoubleQuoted t n c) i j
 double_quoted_read t n c i j w d =
     let s = d.1.1.1.1 in
-    let r = d.1.1.1.0 (no_low_of (λ e. absurd (omega (arith, e, s.0)))) in (r.0, record {
-      close = d.1.1.0;
-      opening = d.1.0.0;
-      inside = subst (λ z. DoubleInside t n c z d.1.1.0 r.0) (sym d.1.0.1) r.1;
-      closing = s.0;
-      end = s.1;
-      clear = w;
-    })
+    let r = d.1.1.1.0 (no_low_of (λ e. absurd (omega (arith, e, s.0)))) in (
+      r.0,
+      record {
+        close = d.1.1.0;
+        opening = d.1.0.0;
+        inside = subst (λ z. DoubleInside t n c z d.1.1.0 r.0) (sym d.1.0.1) r.1;
+        closing = s.0;
+        end = s.1;
+        clear = w;
+      },
+    )

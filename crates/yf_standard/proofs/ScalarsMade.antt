@@ -293,10 +293,12 @@ trail_made {room = room} {t = t} {k = k} {i = i} f (comments {j = j} {x = w} m l
   chain_of {h} {j} (inr q) c = let a = rows_ended c q in subst (λ z. Read t room (l-comment ⋆) h z) a.0 no_more
 
   go : {j : ℕ} {w : List CommentValue} → Chain (Row t) i j w → Chosen (LineEnd t i) j w → Read t room (l-trail-comments (pos k) ∣ ⟨ no-trail (pos k) ⟩) i j
-  go done c = in_right (where_holds (record { none = λ q d h j v z b p o x.
-      let hash : code t (i + d) ≡ 35 = hash_in o in
-      let le : j ≤ i = c.longest j (v ++ []) (past_rest (comment (spaces_separated f p hash) o x) done) in
-      let a = comment_later o in let y = end_later x in omega (arith, le, a, y) }))
+  go done c = in_right (where_holds (record {
+    none = λ q d h j v z b p o x.
+        let hash : code t (i + d) ≡ 35 = hash_in o in
+        let le : j ≤ i = c.longest j (v ++ []) (past_rest (comment (spaces_separated f p hash) o x) done) in
+        let a = comment_later o in let y = end_later x in omega (arith, le, a, y);
+  }))
   go (step {h = h} r d) c =
       let a = hash_rest s e r.rest in
       let q : pos m <ℤ pos k = omega (arith, ints, l) in

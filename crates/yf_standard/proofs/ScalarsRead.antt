@@ -138,7 +138,6 @@ pub trail_comments_read : (t : List ℕ) (n : ℤ) (i j : ℕ)
     → (a : ℕ) × (IndentLess t n i a × ((b : ℕ) × (SomeOf (CommentText t) a b × ((c : ℕ) × (BreakOrEnd t b c × ((d : ℕ) × (Star (SomeOf (CommentLine t)) c d × (NoCommentLine t d × (d ≡ j)))))))))
     → AtWidth (TrailComments t) n i j
 trail_comments_read t n i j d = λ k e. go k e d.1.0 d.1.1.1.0 where
-
   go : {a : ℕ} (k : ℕ) → n ≡ pos k → IndentLess t n i a → SomeOf (CommentText t) a d.1.1.0 → TrailComments t k i j
   go k e (fewer m l s) c = record {
     spaces = m;
@@ -149,7 +148,6 @@ trail_comments_read t n i j d = λ k e. go k e d.1.0 d.1.1.1.0 where
     further = subst (λ z. SomeOf (Chain (CommentLine t)) d.1.1.1.1.0 z) d.1.1.1.1.1.1.1.1.1 (star_chain {S = CommentLine t} (λ i j s. s) d.1.1.1.1.1.1.1.0);
     all = subst (λ z. NoCommentLine t z) d.1.1.1.1.1.1.1.1.1 d.1.1.1.1.1.1.1.1.0;
   }
-
 
 -- [166] to [168]
 pub record Ending (t : List ℕ) (k i j : ℕ) : Type 0 where

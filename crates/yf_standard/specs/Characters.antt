@@ -252,10 +252,11 @@ unfoldable pub ns-anchor-char : Set
 ns-anchor-char = ns-char ∖ c-flow-indicator
 
 -- 7.3.3
--- [128] and [129], before [127]
+-- [128]
 unfoldable pub ns-plain-safe-out : Set
 ns-plain-safe-out = ns-char
 
+-- [129]
 unfoldable pub ns-plain-safe-in : Set
 ns-plain-safe-in = ns-char ∖ c-flow-indicator
 

@@ -15,32 +15,34 @@ pub data Indicator : Type 0 where
   GIVEN : ℕ → Indicator
   DETECTED : Indicator
 
--- conditions on the text at a place: the standard's, and the reading rules (docs/GRAMMAR.md)
+-- conditions on the text at a place: the standard's, and the reading rules (docs/STANDARD.md)
 pub data Condition : Type 0 where
   start-of-line : Condition
   end-of-input : Condition
   lookahead= : Set → Condition
   lookahead≠ : Set → Condition
   lookbehind= : Set → Condition
-  -- L1: CR LF is one break
+  -- one break: CR LF is one, and neither of the two is a break alone
   not-before-line-feed : Condition
   not-behind-carriage-return : Condition
-  -- RR1: names are as long as their characters go
+  -- longest names: no character of the name, of a tag's suffix, follows
   name-ends : Condition
   tag-ends : Condition
-  -- a reserved name is neither YAML nor TAG: it begins at the place
+  -- reserved names: the name that begins here is neither YAML nor TAG
   reserved-name : Condition
-  -- RR2: no further line of a block scalar with that indentation can be taken; no further comment line
+  -- longest scalars: no further line with that indentation, no comment line with fewer spaces, no further comment line can be taken
   no-line : ℤ → Condition
-  no-comment-line : Condition
   no-trail : ℤ → Condition
-  -- 8.1.1.1 and RR4: the lines from the place on, in a collection at n, are indented by k; RR3: k is n + m
+  no-comment-line : Condition
+  -- detected indentation (8.1.1.1): the lines from here on, in a collection at n, are indented by k
   auto-detect : ℤ → ℤ → Condition
+  -- indicated indentation: k is n + m, where n counts as 0 if it is -1
   is-sum : ℤ → ℕ → ℤ → Condition
-  -- RR5: no `:` of the entry at n follows; RR6
+  -- explicit values: no `:` of the entry at n follows
   no-value : ℤ → Condition
+  -- signs of explicit entries: white space, a break or the end follows
   sign-ends : Condition
-  -- RR8
+  -- words of directives: none begins with a comment's sign
   no-comment : Condition
 
 infixr 40 ◌∣◌

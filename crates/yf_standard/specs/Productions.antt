@@ -28,7 +28,7 @@ plus n m = n +ℤ pos m
 abbrev pub some-t : (Chomping → Form) → Form
 some-t f = f STRIP ∣ f CLIP ∣ f KEEP
 
--- in-flow(c), as 1.2.1 has it; none in the block contexts
+-- in-flow(c) of 140: the context that 136 goes on with
 abbrev pub in-flow-context : Ctx → Ctx
 in-flow-context FlowOut = FlowIn
 in-flow-context FlowIn = FlowIn
@@ -420,5 +420,5 @@ rule l-any-document = l-directive-document ∣ l-explicit-document ∣ l-bare-do
 -- [211]
 rule l-yaml-stream = l-document-prefix ⋆ ∙ l-any-document ⁇
     ∙ (l-document-suffix ⁺ ∙ l-document-prefix ⋆ ∙ l-any-document ⁇ ∣ ‹ c-byte-order-mark › ∣ l-comment ∣ l-explicit-document) ⋆
--- what is no production, and a production in a context in which the standard has none
+-- no production, and a production in a context for which the standard has no line
 rule e = never

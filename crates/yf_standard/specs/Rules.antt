@@ -1,5 +1,5 @@
 -- What the conditions of the productions mean: `letter` as the standard's text alone has them, where a reading rule asks nothing, and
--- `read` with the reading rules of docs/GRAMMAR.md.
+-- `read` with the reading rules (docs/STANDARD.md).
 use Rattle.std.specs.Prelude.{◌≡◌, ◌≢◌, ℕ, ◌+◌, ◌-◌, ℤ, pos, ◌≤ℤ◌, ◌<◌, ◌≤◌, ⊤, Bool, true, false, ◌==◌, ◌&&◌, List, length}
 use Rattle.yf_chars.specs.Text.{code, before}
 use Rattle.yf_chars.specs.Class.{is_anchor_char, is_white_or_end}

@@ -10,5 +10,4 @@ pub fn standard_laws()
     ensures refused { RefusedStreamsAreNone }
     ensures restrict { RulesOnlyRestrict }
     ensures read { ReadTextsAreStandard }
-{
-}
+{}
