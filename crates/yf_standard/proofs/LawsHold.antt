@@ -1,7 +1,7 @@
 -- The laws of the standard's productions hold.
 use Rattle.yf_standard.specs.Laws.{StreamsAreStandard, StandardStreamsAreDerived, RefusedStreamsAreNone, RulesOnlyRestrict, ReadTextsAreStandard}
 use Rattle.yf_standard.proofs.Monotone.{rules_only_restrict}
-use Rattle.yf_standard.proofs.Standing.{stream_known}
+use Rattle.yf_standard.proofs.Closed.{stream_known}
 use Rattle.yf_standard.proofs.StreamsMade.{stream_made}
 
 pub streams_are_standard : StreamsAreStandard

@@ -16,11 +16,11 @@ pub mod StreamsMade
 pub mod Blocks
 pub mod Doubles
 pub mod QuotedRead
-pub mod LiteralLines
 pub mod ScalarsRead
 pub mod ScalarsWhole
 pub mod DirectivesRead
 pub mod StreamsRead
 pub mod PartsRead
 pub mod Standing
+pub mod Closed
 pub mod LawsHold

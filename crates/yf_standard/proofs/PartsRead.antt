@@ -1,12 +1,16 @@
 -- What the standard's productions of escaped breaks, directives and documents are read as, in the words of the lemmas on them.
-use Rattle.std.proofs.Common.{◌≡◌, ◌≢◌, ℕ, ◌+◌, ◌<◌, ℤ, true, false, List, [], refl, sym, ap, ◌∙◌, subst, ◌⊎◌, inl, inr, arith}
+use Rattle.std.proofs.Common.{◌≡◌, ◌≢◌, ℕ, ◌+◌, ◌<◌, ℤ, true, false, ◌&&◌, ◌||◌, length, List, [], refl, sym, ap, ◌∙◌, subst, ◌⊎◌, inl, inr, arith}
 use Rattle.std.proofs.lemmas.Bool.{eqb-true, eq-eqb}
 use Rattle.yf_chars.specs.declared.context.Ctx.TheVariants.{FlowIn}
 use Rattle.yf_chars.specs.Text.{code, next}
 use Rattle.yf_chars.specs.Class.{is_ns_char, is_digit, is_white}
 use Rattle.yf_chars.specs.Chain.{Chain}
 use Rattle.yf_chars.specs.Chain.Chain.{done, step}
-use Rattle.yf_lines.specs.Basic.{Break, SeparateInLine, Empty, FlowPrefix, is_three}
+use Rattle.yf_chars.specs.Class.{is_white_or_end, is_break_char}
+use Rattle.yf_lines.specs.Basic.{Break, LineStart, SeparateInLine, Empty, FlowPrefix, Forbidden, is_three, is_marker}
+use Rattle.std.proofs.Math.Bool.{or-true}
+use Rattle.yf_chars.proofs.TextLemmas.{code-end}
+use Rattle.yf_lines.proofs.BasicLemmas.{ends_by_white, ends_at_end}
 use Rattle.yf_comments.specs.Comments.{CommentLine, LineEnd}
 use Rattle.yf_props.specs.Names.{Handle, TagPrefix, UriChar, TagChar}
 use Rattle.yf_props.specs.Names.TagPrefix.{local_prefix, global_prefix}
@@ -14,13 +18,13 @@ use Rattle.yf_quoted.specs.Quoted.{DoubleBreak}
 use Rattle.yf_quoted.specs.Quoted.DoubleBreak.{escaped_break}
 use Rattle.yf_stream.specs.Stream.{Prefixes}
 use Rattle.yf_stream.specs.Stream.PrefixPart.{order_mark, prefix_comment}
-use Rattle.yf_standard.specs.Characters.{x, s-white, ns-char, ns-dec-digit, c-byte-order-mark}
+use Rattle.yf_standard.specs.Characters.{x, b-char, s-white, ns-char, ns-dec-digit, c-byte-order-mark}
 use Rattle.yf_standard.specs.Rules.{is_name_yaml, is_name_tag}
 use Rattle.yf_standard.proofs.Reading.{Star}
 use Rattle.yf_standard.proofs.Reading.Star.{none, more}
 use Rattle.yf_standard.proofs.Basics.{SomeOf, CharOf, char_is, star_chain, chars_many, chars_some}
 use Rattle.yf_standard.proofs.Flows.{SignOf}
-use Rattle.yf_standard.proofs.Sets.{white_is, ns_char_is, dec_digit_is}
+use Rattle.yf_standard.proofs.Sets.{white_is, break_char_is, ns_char_is, dec_digit_is}
 use Rattle.yf_standard.proofs.DirectivesRead.{SomeChars, YamlRead, TagRead, ReservedRead}
 use Rattle.yf_standard.proofs.StreamsRead.{Suffix, Round, Any, SomeExplicit}
 
@@ -173,3 +177,25 @@ pub round_read : (t : List ℕ) (e i j : ℕ)
 round_read t e i j (inl d) = inl d
 round_read t e i j (inr (inl d)) = inr (inl (mark_is t i j d))
 round_read t e i j (inr (inr d)) = inr (inr d)
+
+-- [206]
+ends_by_break : (c : ℕ) → is_break_char c ≡ true → is_white_or_end c ≡ true
+unfolding is_white_or_end
+ends_by_break c e = rw (e, or-true (is_white c)) refl
+
+pub forbidden_read : (t : List ℕ) (i j : ℕ)
+    → (k : ℕ) × ((LineStart t i × (i ≡ k)) × ((m : ℕ) × ((Three t 45 k m ⊎ Three t 46 k m) × (CharOf t b-char m j ⊎ (CharOf t s-white m j ⊎ ((m ≡ length t) × (m ≡ j))))))) → Forbidden t i
+unfolding is_marker
+forbidden_read t i j d = record { start = d.1.0.0; marker = three d.1.1.1.0 } where
+  ended : {m : ℕ} → i + 3 ≡ m → CharOf t b-char m j ⊎ (CharOf t s-white m j ⊎ ((m ≡ length t) × (m ≡ j))) → is_white_or_end (code t (i + 3)) ≡ true
+  ended {m} q (inl c) = ap (λ z. is_white_or_end (code t z)) q ∙ ends_by_break (code t m) (sym (break_char_is (code t m)) ∙ c.0)
+  ended {m} q (inr (inl c)) = ap (λ z. is_white_or_end (code t z)) q ∙ ends_by_white (code t m) (sym (white_is (code t m)) ∙ c.0)
+  ended {m} q (inr (inr c)) = ap (λ z. is_white_or_end (code t z)) (q ∙ c.0) ∙ ap is_white_or_end (code-end t) ∙ ends_at_end
+
+  three : Three t 45 d.0 d.1.1.0 ⊎ Three t 46 d.0 d.1.1.0 → ((is_three t i 45 || is_three t i 46) && is_white_or_end (code t (i + 3))) ≡ true
+  three (inl h) =
+      let a : is_three t i 45 ≡ true = ap (λ z. is_three t z 45) d.1.0.1 ∙ h.0 in
+      let q : i + 3 ≡ d.1.1.0 = ap (λ z. z + 3) d.1.0.1 ∙ h.1 in rw (a, ended q d.1.1.1.1) refl
+  three (inr h) =
+      let a : is_three t i 46 ≡ true = ap (λ z. is_three t z 46) d.1.0.1 ∙ h.0 in
+      let q : i + 3 ≡ d.1.1.0 = ap (λ z. z + 3) d.1.0.1 ∙ h.1 in rw (a, ended q d.1.1.1.1, or-true (is_three t i 45)) refl

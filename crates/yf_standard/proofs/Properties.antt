@@ -32,7 +32,7 @@ none_of t p j e = record { none = λ k y d. no d } where
 run_is : (t : List ℕ) (p : ℕ → Bool) (i j : ℕ) → ((w : List ℕ) × (Many t p i j w × (i < j))) → p (code t j) ≡ false → Run (One t p) i j
 run_is t p i j d e = record { characters = d.0; chain = d.1.0; some = d.1.1; all = none_of t p j e }
 
--- [103], RR1
+-- [103]
 pub name_read : (t : List ℕ) (i j : ℕ)
     → (k : ℕ) × (((g : ℕ) × (CharOf t ns-anchor-char i g × Star (CharOf t ns-anchor-char) g k)) × ((is_anchor_char (code t k) ≡ false) × (k ≡ j))) → Run (AnchorChar t) i j
 name_read t i j d =
@@ -160,7 +160,7 @@ handle_read t i j (inr (inl d)) =
     subst (λ z. Handle t i z) e (secondary_handle d.1.0.0 (ap (code t) d.1.0.1 ∙ d.1.1.0))
 handle_read t i j (inr (inr d)) = subst (λ z. Handle t i z) d.1 (primary_handle d.0)
 
--- [99], [100] and [97], RR1
+-- [99], [100] and [97]
 pub tag_read : (t : List ℕ) (i j : ℕ)
     → SomeOf (VerbatimTag t) i j
     ⊎ (((h : ℕ) × (Handle t i h × ((k : ℕ) × (((f : ℕ) × (SomeOf (TagChar t) h f × Star (SomeOf (TagChar t)) f k)) × (Stuck (TagChar t k) × (k ≡ j))))))

@@ -33,9 +33,8 @@ use Rattle.yf_standard.proofs.Reading.{Star}
 use Rattle.yf_standard.proofs.Reading.Star.{none, more}
 use Rattle.yf_standard.proofs.Basics.{SomeOf, CharOf, char_is, star_chain, chars_many, chars_some, pos_inj, spaces_more, many_forward}
 use Rattle.yf_standard.proofs.Sets.{nb_char_is, ns_char_is, white_is}
-use Rattle.yf_standard.proofs.Texts.{Empties, Texts, empties_before, texts_join, no_empties}
+use Rattle.yf_standard.proofs.Texts.{Empties, Texts, empty_line_read, empties_before, texts_join, no_empties}
 use Rattle.yf_standard.proofs.Texts.Texts.{last_text}
-use Rattle.yf_standard.proofs.LiteralLines.{empty_line_read}
 use Rattle.yf_standard.proofs.ScalarsMade.{HashRest}
 use Rattle.yf_chars.proofs.TextLemmas.{next_ascii, next_later}
 

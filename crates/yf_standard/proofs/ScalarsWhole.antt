@@ -34,9 +34,8 @@ use Rattle.yf_standard.specs.Notation.Indicator.{GIVEN, DETECTED}
 use Rattle.yf_standard.specs.Rules.{NoTrail, NoCommentLine, AutoDetect}
 use Rattle.yf_standard.specs.Rules.AutoDetect.{by_first_line, without_content}
 use Rattle.yf_standard.proofs.Basics.{SomeOf, many_forward}
-use Rattle.yf_standard.proofs.Texts.{Texts, some_first}
+use Rattle.yf_standard.proofs.Texts.{Texts, empty_line_read, some_first}
 use Rattle.yf_standard.proofs.Texts.Texts.{last_text, more_texts}
-use Rattle.yf_standard.proofs.LiteralLines.{empty_line_read}
 use Rattle.yf_standard.proofs.ScalarsMade.{hash_rest, spaces_separated, hash_shallow}
 use Rattle.yf_standard.proofs.ScalarsRead.{AtWidth, chomp_of, HeaderRead, SomeEnd, TrailComments, Ending, ContentRead}
 use Rattle.yf_chars.proofs.TextLemmas.{code-past, within_from_code}

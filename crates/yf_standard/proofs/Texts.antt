@@ -11,7 +11,7 @@ use Rattle.yf_chars.specs.Chain.Chain.{done, step}
 use Rattle.yf_lines.specs.Basic.{Break, Spaces, Empty}
 use Rattle.yf_lines.specs.Basic.Indent.{exactly}
 use Rattle.yf_lines.specs.Basic.IndentLess.{fewer}
-use Rattle.yf_lines.specs.Basic.LinePrefix.{in_block}
+use Rattle.yf_lines.specs.Basic.LinePrefix.{in_block, in_flow}
 use Rattle.yf_lines.specs.Basic.Empty.{prefixed, shorter}
 use Rattle.yf_block_scalar.specs.Body.{SpaceLine, Bare, largest, Ends, Content, Line}
 use Rattle.yf_block_scalar.specs.Body.Bare.{bare}
@@ -22,7 +22,13 @@ use Rattle.yf_chars.proofs.ChainLemmas.{chain_append}
 use Rattle.yf_chars.proofs.TextLemmas.{code-past}
 use Rattle.yf_lines.proofs.BasicLemmas.{break_char}
 use Rattle.yf_block_scalar.proofs.BodyLemmas.{no_nb_end}
-use Rattle.yf_standard.proofs.Basics.{SomeOf}
+use Rattle.yf_standard.proofs.Basics.{SomeOf, pos_inj}
+
+-- l-empty(k,block-in)
+pub empty_line_read : (t : List ℕ) (k i j : ℕ) (x : List ℕ) → Empty t (pos k) BlockIn i j x → (m : ℕ) × (SpaceLine t i m j × (m ≤ k))
+empty_line_read t k i j x (prefixed (in_block e (exactly m q s)) b) = let p = pos_inj q in (m, (record { spaces = s; ends = b }, omega arith))
+empty_line_read t k i j x (prefixed (in_flow e p) b) = absurd (true≢false (sym e))
+empty_line_read t k i j x (shorter (fewer m l s) b) = (m, (record { spaces = s; ends = b }, omega (arith, ints)))
 
 -- l-empty(k,block-in), any number of times
 abbrev pub Empties : List ℕ → ℕ → ℕ → ℕ → Type 0

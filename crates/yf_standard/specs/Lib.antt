@@ -3,5 +3,4 @@ pub mod Notation
 pub mod Productions
 pub mod Literal
 pub mod Rules
-pub mod Agree
 pub mod Laws

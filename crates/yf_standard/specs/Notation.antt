@@ -1,8 +1,9 @@
 -- What may stand on the right of a production (4.1 of the standard), by the name of a production or made of other forms. ‹ s › is one
 -- character of a set, a ∙ b a then b, a ∣ b either, a ⁇ a or nothing, a ⋆ any number of a, a ⁺ one a or more.
-use Rattle.std.specs.Prelude.{ℕ, ℤ}
+use Rattle.std.specs.Prelude.{ℕ, zero, suc, ◌+◌, ℤ, pos, ◌+ℤ◌, ◌==◌, ◌&&◌}
 use Rattle.yf_chars.specs.declared.context.Ctx.{Ctx}
-use Rattle.yf_standard.specs.Characters.{Set}
+use Rattle.yf_chars.specs.declared.context.Ctx.TheVariants.{BlockOut, BlockIn, FlowOut, FlowIn, BlockKey, FlowKey}
+use Rattle.yf_standard.specs.Characters.{Set, ◌to◌}
 
 -- t of 8.1.1.2
 pub data Chomping : Type 0 where
@@ -227,3 +228,29 @@ pub data Form : Type 0 where
   l-directive-document : Form
   l-any-document : Form
   l-yaml-stream : Form
+
+-- a{k}
+abbrev pub times : ℕ → Form → Form
+times zero a = ε
+times (suc k) a = a ∙ times k a
+
+-- n + m, n - 1
+abbrev pub plus : ℤ → ℕ → ℤ
+plus n m = n +ℤ pos m
+
+-- for one t
+abbrev pub some-t : (Chomping → Form) → Form
+some-t f = f STRIP ∣ f CLIP ∣ f KEEP
+
+-- in-flow(c) of 140: the context that 136 goes on with
+abbrev pub in-flow-context : Ctx → Ctx
+in-flow-context FlowOut = FlowIn
+in-flow-context FlowIn = FlowIn
+in-flow-context BlockKey = FlowKey
+in-flow-context FlowKey = FlowKey
+in-flow-context BlockOut = BlockOut
+in-flow-context BlockIn = BlockIn
+
+-- [x31-x39], whose value is m
+unfoldable pub digit-of : ℕ → Set
+digit-of m c = (0x31 to 0x39) c && (c == 48 + m)

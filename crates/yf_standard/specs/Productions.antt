@@ -14,32 +14,8 @@ use Rattle.yf_standard.specs.Notation.Form.{s-indent, s-indent-less-than, s-inde
 use Rattle.yf_standard.specs.Notation.Form.{c-ns-alias-node, e-scalar, e-node, nb-double-char, ns-double-char, c-double-quoted, nb-double-text, nb-double-one-line, s-double-escaped, s-double-break, nb-ns-double-in-line, s-double-next-line, nb-double-multi-line, c-quoted-quote, nb-single-char, ns-single-char, c-single-quoted, nb-single-text, nb-single-one-line, nb-ns-single-in-line, s-single-next-line, nb-single-multi-line, ns-plain-first, ns-plain-char, ns-plain, nb-ns-plain-in-line, ns-plain-one-line, s-ns-plain-next-line, ns-plain-multi-line, in-flow, c-flow-sequence, ns-s-flow-seq-entries, ns-flow-seq-entry, c-flow-mapping, ns-s-flow-map-entries, ns-flow-map-entry, ns-flow-map-explicit-entry, ns-flow-map-implicit-entry, ns-flow-map-yaml-key-entry, c-ns-flow-map-empty-key-entry, c-ns-flow-map-separate-value, c-ns-flow-map-json-key-entry, c-ns-flow-map-adjacent-value, ns-flow-pair, ns-flow-pair-entry, ns-flow-pair-yaml-key-entry, c-ns-flow-pair-json-key-entry, ns-s-implicit-yaml-key, c-s-implicit-json-key, ns-flow-yaml-content, c-flow-json-content, ns-flow-content, ns-flow-yaml-node, c-flow-json-node, ns-flow-node}
 use Rattle.yf_standard.specs.Notation.Form.{c-b-block-header, c-indentation-indicator, c-chomping-indicator, b-chomped-last, l-chomped-empty, l-strip-empty, l-keep-empty, l-trail-comments, c-l+literal, l-nb-literal-text, b-nb-literal-next, l-literal-content, c-l+folded, s-nb-folded-text, l-nb-folded-lines, s-nb-spaced-text, b-l-spaced, l-nb-spaced-lines, l-nb-same-lines, l-nb-diff-lines, l-folded-content, l+block-sequence, c-l-block-seq-entry, s-l+block-indented, ns-l-compact-sequence, l+block-mapping, ns-l-block-map-entry, c-l-block-map-explicit-entry, c-l-block-map-explicit-key, l-block-map-explicit-value, ns-l-block-map-implicit-entry, ns-s-block-map-implicit-key, c-l-block-map-implicit-value, ns-l-compact-mapping, s-l+block-node, s-l+flow-in-block, s-l+block-in-block, s-l+block-scalar, s-l+block-collection, seq-space}
 use Rattle.yf_standard.specs.Notation.Form.{l-document-prefix, c-directives-end, c-document-end, l-document-suffix, c-forbidden, l-bare-document, l-explicit-document, l-directive-document, l-any-document, l-yaml-stream}
-
--- a{k}
-abbrev pub times : ℕ → Form → Form
-times zero a = ε
-times (suc k) a = a ∙ times k a
-
--- n + m, n - 1
-abbrev pub plus : ℤ → ℕ → ℤ
-plus n m = n +ℤ pos m
-
--- for one t
-abbrev pub some-t : (Chomping → Form) → Form
-some-t f = f STRIP ∣ f CLIP ∣ f KEEP
-
--- in-flow(c) of 140: the context that 136 goes on with
-abbrev pub in-flow-context : Ctx → Ctx
-in-flow-context FlowOut = FlowIn
-in-flow-context FlowIn = FlowIn
-in-flow-context BlockKey = FlowKey
-in-flow-context FlowKey = FlowKey
-in-flow-context BlockOut = BlockOut
-in-flow-context BlockIn = BlockIn
-
--- [x31-x39], whose value is m
-unfoldable pub digit-of : ℕ → Set
-digit-of m c = (0x31 to 0x39) c && (c == 48 + m)
+pub use Rattle.yf_standard.specs.Notation.{times, plus, some-t, in-flow-context}
+unfoldable pub use Rattle.yf_standard.specs.Notation.{digit-of}
 
 unfoldable pub rule : Form → Form
 -- 5.4 Line Break Characters
