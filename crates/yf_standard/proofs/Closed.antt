@@ -69,7 +69,6 @@ use Rattle.yf_standard.proofs.ScalarsWhole.{HeaderPart, scalar_read}
 use Rattle.yf_standard.proofs.DirectivesRead.{SomeChars, YamlRead, TagRead, ReservedRead, directive_read}
 use Rattle.yf_standard.proofs.PartsRead.{star_map, forbidden_read, names_read, VersionRead, version_read, parameter_read, reserved_directive_read, yaml_directive_read, tag_directive_read, local_prefix_read, global_prefix_read, double_escaped_read, prefix_read, Three, three_read, suffix_read, round_read}
 use Rattle.yf_standard.proofs.StreamsRead.{SomeRoot, SomeExplicit, SomeDirectives, Suffix, Any, Round, directives_read, explicit_node_read, stream_read}
-
 use Rattle.yf_standard.proofs.Standing.{Stands, On, Off}
 
 is_collection : Kind → Bool
@@ -421,3 +420,10 @@ unfolding Stands
 stream_known t u e d =
     let z : Zone t false = record { utf = u; low = 0; high = length t; clear = λ q. absurd (true≢false (sym q)); root = λ q. root_known t u } in
     known (closed t false z) (omega arith) (omega arith) d refl refl
+
+-- [206]
+pub forbidden_known : (t : List ℕ) → IsUtf8 t → (e i j : ℕ) → Derived (read t) t e c-forbidden i j → Forbidden t i
+unfolding Stands
+forbidden_known t u e i j d =
+    let z : Zone t false = record { utf = u; low = 0; high = j; clear = λ q. absurd (true≢false (sym q)); root = λ q. root_known t u } in
+    known (closed t false z) (omega arith) (omega arith) d

@@ -1,8 +1,8 @@
 -- The laws of the standard's productions hold.
-use Rattle.yf_standard.specs.Laws.{StreamsAreStandard, StandardStreamsAreDerived, RefusedStreamsAreNone, RulesOnlyRestrict, ReadTextsAreStandard}
+use Rattle.yf_standard.specs.Laws.{StreamsAreStandard, StandardStreamsAreDerived, RefusedStreamsAreNone, RulesOnlyRestrict, ReadTextsAreStandard, ForbiddenLinesAreStandard}
 use Rattle.yf_standard.proofs.Monotone.{rules_only_restrict}
-use Rattle.yf_standard.proofs.Closed.{stream_known}
-use Rattle.yf_standard.proofs.StreamsMade.{stream_made}
+use Rattle.yf_standard.proofs.Closed.{stream_known, forbidden_known}
+use Rattle.yf_standard.proofs.StreamsMade.{stream_made, forbidden_made}
 
 pub streams_are_standard : StreamsAreStandard
 streams_are_standard t h x u d l = stream_made t _ u l d
@@ -18,3 +18,6 @@ restrict t e i j f d = rules_only_restrict d
 
 pub read_texts_are_standard : ReadTextsAreStandard
 read_texts_are_standard t r u a = let s = a.reads.shapes in rules_only_restrict (stream_made t _ u s.within s.derived)
+
+pub forbidden_lines_are_standard : ForbiddenLinesAreStandard
+forbidden_lines_are_standard t i u = (λ f. forbidden_made t _ u i f, λ j d. forbidden_known t u _ i j d)

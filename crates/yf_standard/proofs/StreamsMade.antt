@@ -23,7 +23,16 @@ use Rattle.yf_stream.specs.Stream.StreamRest.{stream_ended, past_prefix, past_su
 use Rattle.yf_stream.specs.Stream.Stream.{begins_with_document, without_document}
 use Rattle.yf_standard.specs.Characters.{x, c-directive, c-byte-order-mark}
 use Rattle.yf_standard.specs.Notation.{Form}
-use Rattle.yf_standard.specs.Notation.Form.{ε, ‹◌›, ◌∣◌, ◌⁇, ◌⋆, ◌⁺, ◌∙◌ as ◌then◌, s-separate-in-line, l-comment, l-directive, ns-reserved-directive, ns-directive-parameter, ns-yaml-directive, ns-tag-directive, l-document-prefix, l-document-suffix, l-bare-document, l-explicit-document, l-any-document, l-yaml-stream}
+use Rattle.yf_standard.specs.Notation.Condition.{end-of-input}
+use Rattle.yf_standard.specs.Characters.{b-char, s-white}
+use Rattle.yf_standard.proofs.Plains.{or_cases}
+use Rattle.yf_standard.proofs.Sets.{white_is, break_char_is}
+use Rattle.yf_chars.proofs.TextLemmas.{reads_byte, code_at_boundary}
+use Rattle.std.specs.Str.{IsCharBoundary}
+use Rattle.yf_chars.specs.Text.{no_char}
+use Rattle.yf_lines.specs.Basic.{Forbidden, is_marker}
+use Rattle.std.proofs.Common.{◌||◌, ◌⊎◌, inl, inr}
+use Rattle.yf_standard.specs.Notation.Form.{⟨◌⟩, c-forbidden, ε, ‹◌›, ◌∣◌, ◌⁇, ◌⋆, ◌⁺, ◌∙◌ as ◌then◌, s-separate-in-line, l-comment, l-directive, ns-reserved-directive, ns-directive-parameter, ns-yaml-directive, ns-tag-directive, l-document-prefix, l-document-suffix, l-bare-document, l-explicit-document, l-any-document, l-yaml-stream}
 use Rattle.yf_standard.specs.Productions.{rule}
 use Rattle.yf_standard.specs.Rules.{read, is_name_yaml, is_name_tag}
 use Rattle.yf_standard.specs.Literal.{kind}
@@ -173,6 +182,42 @@ module _ (t : List ℕ) (room : ℕ) (u : IsUtf8 t) where
       let two : i + 1 + 1 ≡ i + 2 = omega arith in
       let three : i + 2 + 1 ≡ i + 3 = omega arith in
       one_then (one_char t i c l (eqb-true (code t i) c p.0)) (one_then (char_to (i + 1) (i + 2) c two l (eqb-true (code t (i + 1)) c q.0)) (one_then (char_to (i + 2) (i + 3) c three l (eqb-true (code t (i + 2)) c q.1)) nothing))
+
+  -- [206]
+  after_three : (i c : ℕ) → c < 128 → is_three t i c ≡ true → code t (i + 3) ≡ no_char → i + 3 ≡ length t
+  unfolding is_three
+  after_three i c l e n =
+      let p = and_parts (code t i == c) ((code t (i + 1) == c) && (code t (i + 2) == c)) e in
+      let q = and_parts (code t (i + 1) == c) (code t (i + 2) == c) p.1 in
+      let r = reads_byte t (i + 2) c u (eqb-true (code t (i + 2)) c q.1) l in
+      let three : i + 2 + 1 ≡ i + 3 = omega arith in
+      let b : IsCharBoundary t (i + 3) = subst (λ z. IsCharBoundary t z) three r.boundary in
+      let w = r.within in
+      ⊎_elim (λ (f : i + 3 < length t). let z = code_at_boundary t (i + 3) u b f in absurd (omega (arith, z, n))) (λ (f : length t ≤ i + 3). omega (arith, f, w)) (cases_lt (i + 3) (length t))
+
+  marker_end : (i c : ℕ) → c < 128 → is_three t i c ≡ true → is_white_or_end (code t (i + 3)) ≡ true → (j : ℕ) × Read t room (‹ b-char › ∣ ‹ s-white › ∣ ⟨ end-of-input ⟩) (i + 3) j
+  unfolding is_white_or_end read
+  marker_end i c l e n = go (or_cases (is_white (code t (i + 3)) || is_break_char (code t (i + 3))) (code t (i + 3) == no_char) n) where
+    go : ((is_white (code t (i + 3)) || is_break_char (code t (i + 3))) ≡ true) ⊎ ((code t (i + 3) == no_char) ≡ true) → (j : ℕ) × Read t room (‹ b-char › ∣ ‹ s-white › ∣ ⟨ end-of-input ⟩) (i + 3) j
+    go (inl a) =
+        ⊎_elim (λ (w : is_white (code t (i + 3)) ≡ true). (next t (i + 3), in_right (in_left (one_of (white_is (code t (i + 3)) ∙ w)))))
+        (λ (w : is_break_char (code t (i + 3)) ≡ true). (next t (i + 3), in_left (one_of (break_char_is (code t (i + 3)) ∙ w))))
+        (or_cases (is_white (code t (i + 3))) (is_break_char (code t (i + 3))) a)
+    go (inr a) = (i + 3, in_right (in_right (where_holds (after_three i c l e (eqb-true (code t (i + 3)) no_char a)))))
+
+  pub forbidden_made : (i : ℕ) → Forbidden t i → (j : ℕ) × Read t room c-forbidden i j
+  unfolding rule kind read is_marker
+  forbidden_made i f = go (or_cases (is_three t i 45) (is_three t i 46) p.0) where
+    p : ((is_three t i 45 || is_three t i 46) ≡ true) × (is_white_or_end (code t (i + 3)) ≡ true)
+    p = and_parts (is_three t i 45 || is_three t i 46) (is_white_or_end (code t (i + 3))) f.marker
+
+    go : (is_three t i 45 ≡ true) ⊎ (is_three t i 46 ≡ true) → (j : ℕ) × Read t room c-forbidden i j
+    go (inl a) =
+        let e = marker_end i 45 (omega arith) a p.1 in
+        (e.0, by_rule refl (one_then (where_holds f.start) (one_then (in_left (by_rule refl (three_made i 45 (omega arith) a))) e.1)))
+    go (inr a) =
+        let e = marker_end i 46 (omega arith) a p.1 in
+        (e.0, by_rule refl (one_then (where_holds f.start) (one_then (in_right (by_rule refl (three_made i 46 (omega arith) a))) e.1)))
 
   -- [202]
   mark_made : (i : ℕ) → code t i ≡ 0xFEFF → Read t room (‹ c-byte-order-mark ›) i (next t i)

@@ -2,13 +2,14 @@
 -- `proofs/LawsHold.antt` proves them, and `laws` has them as its contract.
 use Rattle.std.specs.Prelude.{ℕ, ◌≤◌, List, length}
 use Rattle.std.specs.Str.{IsUtf8}
+use Rattle.yf_lines.specs.Basic.{Forbidden}
 use Rattle.yf_events.specs.declared.lists.Lists.{Lists}
 use Rattle.yf_events.specs.declared.reading.TheConstants.{DEPTH}
 use Rattle.yf_stream.specs.ReadingOf.{ReadingOf}
 use Rattle.yf_stream.specs.Stream.{Documents, Stream}
 use Rattle.yf_stream.specs.StreamReader.{NoStream}
 use Rattle.yf_standard.specs.Notation.{Form}
-use Rattle.yf_standard.specs.Notation.Form.{l-yaml-stream}
+use Rattle.yf_standard.specs.Notation.Form.{c-forbidden, l-yaml-stream}
 use Rattle.yf_standard.specs.Literal.{Derived}
 use Rattle.yf_standard.specs.Rules.{read, letter}
 
@@ -36,3 +37,7 @@ RulesOnlyRestrict = (t : List ℕ) (e i j : ℕ) (f : Form) → Derived (read t)
 -- So a text that has a reading the standard's text alone derives as a stream.
 abbrev pub ReadTextsAreStandard : Type 0
 ReadTextsAreStandard = (t : List ℕ) (r : Lists) → IsUtf8 t → ReadingOf t r → Derived (letter t) t DEPTH l-yaml-stream 0 (length t)
+
+-- A forbidden line, which a document's node covers none of, is where c-forbidden of the standard is derived.
+abbrev pub ForbiddenLinesAreStandard : Type 0
+ForbiddenLinesAreStandard = (t : List ℕ) (i : ℕ) → IsUtf8 t → (Forbidden t i → (j : ℕ) × Derived (read t) t DEPTH c-forbidden i j) × ((j : ℕ) → Derived (read t) t DEPTH c-forbidden i j → Forbidden t i)

@@ -1,4 +1,4 @@
-use Rattle.yf_standard.proofs.LawsHold.{streams_are_standard, standard_streams_are_derived, refused_streams_are_none, restrict, read_texts_are_standard}
+use Rattle.yf_standard.proofs.LawsHold.{streams_are_standard, standard_streams_are_derived, refused_streams_are_none, restrict, read_texts_are_standard, forbidden_lines_are_standard}
 use Rattle.yf_standard.proofs.laws.standard_laws.Goals as goal
 
 pub returns-clause-accepted : goal.returns-clause-accepted
@@ -15,3 +15,6 @@ returns-clause-restrict c = restrict
 
 pub returns-clause-read : goal.returns-clause-read
 returns-clause-read c = read_texts_are_standard
+
+pub returns-clause-forbidden : goal.returns-clause-forbidden
+returns-clause-forbidden c = forbidden_lines_are_standard
