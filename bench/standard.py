@@ -74,9 +74,9 @@ NOTES = {
 HEAD = """# The standard's productions, letter by letter
 
 Made by `bench/standard.py` from `crates/yf_standard/specs` and `bench/standard.txt`; `bench/standard.py --check` fails where this
-page is not as they are. The second column is the production as YAML 1.2.2 prints it, as far as it was known by heart to who wrote it
-down: the published text was not at hand, so compare it once more. The third is the clause of `Characters` or `Productions`. The fourth is what the production
-is proved to derive: a relation of the crates below (`proofs/Standing.antt`).
+page is not as they are. The second column is the production as YAML 1.2.2 prints it, from memory: the published text was not at hand
+to who wrote it down, so compare it once more. The third is the clause of `Characters` or `Productions`. The fourth is what all that it
+derives with the reading rules is proved to be (`proofs/Standing.antt`, `Closed.antt`): a relation of the crates below, or what the lemmas speak of.
 
 **What is proved** (`standard_laws` of `yf_standard`, `specs/Laws.antt`): a text that is UTF-8 has a height of at most `DEPTH` and a meaning
 with which `Stream` derives it exactly where production 211, with the reading rules and with at most `DEPTH` collections open at
