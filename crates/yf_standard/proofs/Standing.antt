@@ -1,0 +1,239 @@
+-- What every production of the standard stands for: a relation of the crates below, or what the lemmas on it speak of.
+use Rattle.std.proofs.Common.{◌≡◌, ◌≢◌, ℕ, zero, suc, ◌<◌, ◌≤◌, ℤ, pos, negsuc, ◌+ℤ◌, Bool, true, false, List, [], length, refl, sym, subst, ◌⊎◌, inl, inr, arith}
+use Rattle.std.specs.Prelude.{⊤}
+use Rattle.std.specs.Str.{IsUtf8}
+use Rattle.yf_chars.specs.declared.context.Ctx.{Ctx}
+use Rattle.yf_chars.specs.declared.context.Ctx.TheVariants.{BlockOut, BlockIn, FlowOut, FlowIn, BlockKey, FlowKey}
+use Rattle.yf_chars.specs.Text.{code, next}
+use Rattle.yf_lines.specs.Basic.{Break, Indent, IndentLess, SeparateInLine, FlowPrefix, LinePrefix, Empty, Folded, FlowFolded}
+use Rattle.yf_lines.specs.Basic.LinePrefix.{in_block, in_flow}
+use Rattle.yf_comments.specs.Comments.{CommentText, BreakOrEnd, LineRest, CommentLine, LineEnd, SeparateLines, Separate}
+use Rattle.yf_comments.specs.Comments.Separate.{in_key, in_node}
+use Rattle.yf_standard.specs.Notation.{Form}
+use Rattle.yf_standard.specs.Notation.Form.{b-break, b-as-line-feed, b-non-content, s-indent, s-indent-less-than, s-separate-in-line, s-line-prefix, s-block-line-prefix, s-flow-line-prefix, l-empty, b-l-trimmed, b-as-space, b-l-folded, s-flow-folded, c-nb-comment-text, b-comment, s-b-comment, l-comment, s-l-comments, s-separate, s-separate-lines, ns-plain, ns-plain-first, ns-plain-char, nb-ns-plain-in-line, ns-plain-one-line, s-ns-plain-next-line, ns-plain-multi-line}
+use Rattle.yf_standard.specs.Notation.Form.{c-ns-alias-node, c-ns-properties, e-scalar, e-node, c-single-quoted, c-double-quoted, in-flow, c-flow-sequence, ns-s-flow-seq-entries, ns-flow-seq-entry, c-flow-mapping, ns-s-flow-map-entries, ns-flow-map-entry, ns-flow-map-explicit-entry, ns-flow-map-implicit-entry, ns-flow-map-yaml-key-entry, c-ns-flow-map-empty-key-entry, c-ns-flow-map-separate-value, c-ns-flow-map-json-key-entry, c-ns-flow-map-adjacent-value, ns-flow-pair, ns-flow-pair-entry, ns-flow-pair-yaml-key-entry, c-ns-flow-pair-json-key-entry, ns-s-implicit-yaml-key, c-s-implicit-json-key, ns-flow-yaml-content, c-flow-json-content, ns-flow-content, ns-flow-yaml-node, c-flow-json-node, ns-flow-node}
+use Rattle.yf_standard.specs.Notation.Form.{c-l+literal, c-l+folded, l+block-sequence, c-l-block-seq-entry, s-l+block-indented, ns-l-compact-sequence, l+block-mapping, ns-l-block-map-entry, c-l-block-map-explicit-entry, c-l-block-map-explicit-key, l-block-map-explicit-value, ns-l-block-map-implicit-entry, ns-s-block-map-implicit-key, c-l-block-map-implicit-value, ns-l-compact-mapping, s-l+block-node, s-l+flow-in-block, s-l+block-in-block, s-l+block-scalar, s-l+block-collection, seq-space}
+use Rattle.yf_standard.specs.Productions.{rule}
+use Rattle.yf_standard.specs.Rules.{read}
+use Rattle.yf_standard.specs.Literal.{Derived}
+use Rattle.yf_standard.proofs.Reading.{FormRead, Closed, known}
+use Rattle.yf_chars.specs.Chain.{Chain}
+use Rattle.yf_lines.specs.Basic.{is_flow}
+use Rattle.yf_plain.specs.Plain.{is_plain_first, is_plain_char, PlainItem, PlainLine, PlainNext, PlainText}
+use Rattle.yf_plain.specs.Plain.PlainText.{as_key}
+use Rattle.yf_standard.proofs.Plains.{first_read, char_read, item_read, line_read, next_read, multi_read}
+use Rattle.yf_lines.specs.Basic.{is_block}
+use Rattle.yf_props.specs.Names.{Alias, Properties, AnchorChar, UriChar, TagChar, Run, Anchor, Handle, VerbatimTag, TagProperty}
+use Rattle.yf_chars.specs.Chain.{Stuck}
+use Rattle.yf_standard.specs.Characters.{c-anchor, c-alias, c-tag, ns-word-char}
+use Rattle.yf_standard.specs.Notation.Form.{ns-uri-char, ns-tag-char, c-tag-handle, c-primary-tag-handle, c-secondary-tag-handle, c-named-tag-handle, c-ns-tag-property, c-verbatim-tag, c-ns-shorthand-tag, c-non-specific-tag, c-ns-anchor-property, ns-anchor-name}
+use Rattle.yf_standard.proofs.Reading.{Star}
+use Rattle.yf_standard.proofs.Flows.{SignOf}
+use Rattle.yf_standard.proofs.Basics.{CharOf, char_is}
+use Rattle.yf_standard.proofs.Properties.{uri_signs, uri_read, tag_char_read, handle_read, verbatim_read, tag_read, name_read, anchor_read, alias_read, properties_read}
+use Rattle.yf_quoted.specs.Quoted.{SingleQuoted, DoubleQuoted}
+use Rattle.yf_grammar.specs.Grammar.{in_flow as flow_within}
+use Rattle.yf_grammar.specs.Grammar.Production.{FlowNode, NodeOf, JsonContent, Entries, Entry, Pair, Explicit, Implicit, ValueOf, KeyOf}
+use Rattle.yf_grammar.specs.Grammar.Derives.{a_single, a_double}
+use Rattle.yf_grammar.specs.BlockScalar.{BlockScalar}
+use Rattle.yf_grammar.specs.Grammar.{least_column}
+use Rattle.yf_grammar.specs.Grammar.Production.{BlockNode, BlockIndented, BlockValue}
+use Rattle.yf_standard.proofs.Blocks.{ColumnFrom, EntryAt, EntriesAt, Question, Colon, column_read, dash_read, explicit_entry_read, implicit_entry_read, indented_read, compact_read, question_read, colon_read, value_read, flow_in_block_read, block_scalar_read, collection_read, seq_space_out_read, dash_sign, question_sign, either_key, either_scalar, either_column}
+use Rattle.yf_standard.proofs.Flows.{SomeNode, ContentOf, node_is, brackets_read, entries_read, map_entry_read, pair_read, explicit_read, key_entry_read, separate_value_read, adjacent_value_read, keyed_pair_read, key_read, yaml_node_read, json_node_read, flow_node_read, sequence_read, mapping_read, entries_signs, seq_entry_read, marked_signs, empty_key_read, colon_sign, unkeyed_read}
+use Rattle.yf_standard.proofs.Basics.{star_chain, SomeOf, Trimmed, break_read, indent_none, indent_more, less_none, less_more, separate_in_line_read, flow_prefix_read, empty_read, trimmed_read, folded_read, flow_folded_read, comment_read, b_comment_read, rest_read, l_comment_read, comments_read, separate_lines_read}
+use Rattle.std.specs.Prelude.{⊤}
+use Rattle.std.proofs.Common.{true≢false, ap, ◌+◌, ◌∙◌}
+use Rattle.yf_chars.specs.Class.{is_ns_char}
+use Rattle.yf_chars.specs.Escape.{NoLow}
+use Rattle.yf_lines.specs.Basic.{Clear, Forbidden}
+use Rattle.yf_lines.proofs.BasicLemmas.{clear_front, clear_back}
+use Rattle.yf_props.specs.Names.{TagPrefix}
+use Rattle.yf_block_scalar.specs.Header.{Style}
+use Rattle.yf_block_scalar.specs.Header.Style.{literal_sign, folded_sign}
+use Rattle.yf_quoted.specs.Quoted.{SingleChar, DoubleBreak}
+use Rattle.yf_quoted.specs.Quoted.DoubleBreak.{folded_break}
+use Rattle.yf_stream.specs.Stream.{Prefixes, Documents, Stream}
+use Rattle.yf_standard.specs.Characters.{c-literal, c-folded, c-byte-order-mark, c-directive, c-escape, c-double-quote, c-single-quote}
+use Rattle.yf_standard.specs.Notation.{Chomping}
+use Rattle.yf_standard.specs.Notation.Chomping.{STRIP, CLIP, KEEP}
+use Rattle.yf_standard.specs.Notation.Indicator.{GIVEN, DETECTED}
+use Rattle.yf_standard.specs.Literal.{Kind, kind}
+use Rattle.yf_standard.specs.Literal.Kind.{OPERATOR, PRODUCTION, COLLECTION}
+use Rattle.yf_standard.specs.Notation.Form.{s-indent-less-or-equal, ns-tag-prefix, c-ns-local-tag-prefix, ns-global-tag-prefix, ns-directive-name, ns-directive-parameter, ns-yaml-version, ns-yaml-directive, ns-tag-directive, ns-reserved-directive, l-directive, ns-esc-8-bit, ns-esc-16-bit, ns-esc-32-bit, c-ns-esc-char, nb-double-char, ns-double-char, nb-double-one-line, nb-ns-double-in-line, s-double-escaped, s-double-break, s-double-next-line, nb-double-multi-line, nb-double-text, c-quoted-quote, nb-single-char, ns-single-char, nb-single-one-line, nb-ns-single-in-line, s-single-next-line, nb-single-multi-line, nb-single-text, c-b-block-header, c-indentation-indicator, c-chomping-indicator, b-chomped-last, l-chomped-empty, l-strip-empty, l-keep-empty, l-trail-comments, l-nb-literal-text, s-nb-folded-text, s-nb-spaced-text, l-nb-folded-lines, l-nb-spaced-lines, l-nb-same-lines, l-nb-diff-lines, b-nb-literal-next, b-l-spaced, l-literal-content, l-folded-content, l-document-prefix, c-directives-end, c-document-end, c-forbidden, l-document-suffix, l-bare-document, l-explicit-document, l-directive-document, l-any-document, l-yaml-stream}
+use Rattle.yf_standard.proofs.Blocks.{Smaller}
+use Rattle.yf_standard.proofs.Doubles.{Lone}
+use Rattle.yf_standard.proofs.QuotedRead.{HexOf, LoneNs, LoneItems, NextRead, DoubleLines, DoubleInside, SingleNs, SingleItem, SingleRest, SingleLines, SingleInside, hex_of_read, escape_read, double_char_read, lone_items, double_next_read, double_lines_read, double_as_lines, double_as_key, double_quoted_read, single_char_read, single_item_read, single_next_read, single_lines_read, single_as_lines, single_as_key, single_quoted_read}
+use Rattle.yf_standard.proofs.Texts.{Texts}
+use Rattle.yf_standard.proofs.ScalarsRead.{AtWidth, UpTo, up_to_none, up_to_more, IndicatorRead, ChompingRead, digit_read, strip_read, keep_read, HeaderRead, header_read, SomeEnd, last_read, TrailComments, trail_comments_read, Ending, strip_empty_read, keep_empty_read, literal_text_read, NextText, next_text_read, folded_text_read, spaced_text_read, BreakEmpties, spaced_break_read, folded_lines_read, spaced_lines_read, same_lines_read, diff_lines_read, ContentRead, literal_content_read, folded_content_read}
+use Rattle.yf_standard.proofs.ScalarsWhole.{HeaderPart, scalar_read}
+use Rattle.yf_standard.proofs.DirectivesRead.{SomeChars, YamlRead, TagRead, ReservedRead, directive_read}
+use Rattle.yf_standard.proofs.PartsRead.{star_map, names_read, VersionRead, version_read, parameter_read, reserved_directive_read, yaml_directive_read, tag_directive_read, local_prefix_read, global_prefix_read, double_escaped_read, prefix_read, Three, three_read, suffix_read, round_read}
+use Rattle.yf_standard.proofs.StreamsRead.{SomeRoot, SomeExplicit, SomeDirectives, Suffix, Any, Round, directives_read, explicit_node_read, stream_read}
+
+-- within a document's node, and outside of it
+abbrev pub On : Bool → Type 0 → Type 0
+On true X = X
+On false X = ⊤
+
+abbrev pub Off : Bool → Type 0 → Type 0
+Off true X = ⊤
+Off false X = X
+
+-- what the productions stand for
+unfoldable pub Stands : (t : List ℕ) (low : ℕ) (s : Bool) → ℕ → Form → ℕ → ℕ → Type 0
+Stands t low s e b-break i j = Break t i j
+Stands t low s e b-as-line-feed i j = Break t i j
+Stands t low s e b-non-content i j = Break t i j
+Stands t low s e (s-indent n) i j = Indent t n i j
+Stands t low s e (s-indent-less-than n) i j = IndentLess t n i j
+Stands t low s e s-separate-in-line i j = SeparateInLine t i j
+Stands t low s e (s-line-prefix n c) i j = LinePrefix t n c i j
+Stands t low s e (s-block-line-prefix n) i j = Indent t n i j
+Stands t low s e (s-flow-line-prefix n) i j = FlowPrefix t n i j
+Stands t low s e (l-empty n c) i j = SomeOf (Empty t n c) i j
+Stands t low s e (b-l-trimmed n c) i j = SomeOf (Trimmed t n c) i j
+Stands t low s e b-as-space i j = Break t i j
+Stands t low s e (b-l-folded n c) i j = SomeOf (Folded t n c) i j
+Stands t low s e (s-flow-folded n) i j = SomeOf (FlowFolded t n) i j
+Stands t low s e c-nb-comment-text i j = SomeOf (CommentText t) i j
+Stands t low s e b-comment i j = BreakOrEnd t i j
+Stands t low s e s-b-comment i j = SomeOf (LineRest t) i j
+Stands t low s e l-comment i j = SomeOf (CommentLine t) i j
+Stands t low s e s-l-comments i j = SomeOf (LineEnd t) i j
+Stands t low s e (s-separate n c) i j = SomeOf (Separate t n c) i j
+Stands t low s e (s-separate-lines n) i j = SomeOf (SeparateLines t n) i j
+Stands t low s e (ns-plain-first c) i j = (is_plain_first t c i ≡ true) × (next t i ≡ j)
+Stands t low s e (ns-plain-char c) i j = (is_plain_char t c i ≡ true) × (next t i ≡ j)
+Stands t low s e (nb-ns-plain-in-line c) i j = SomeOf (Chain (PlainItem t c)) i j
+Stands t low s e (ns-plain-one-line c) i j = SomeOf (PlainLine t c) i j
+Stands t low s e (s-ns-plain-next-line n c) i j = SomeOf (PlainNext t n c) i j
+Stands t low s e (ns-plain-multi-line n c) i j = is_flow c ≡ true → SomeOf (PlainText t n c) i j
+Stands t low s e (ns-plain n c) i j = SomeOf (PlainText t n c) i j
+Stands t low s e ns-uri-char i j = SomeOf (UriChar t) i j
+Stands t low s e ns-tag-char i j = SomeOf (TagChar t) i j
+Stands t low s e c-primary-tag-handle i j = SignOf t 33 i j
+Stands t low s e c-secondary-tag-handle i j = (g : ℕ) × (SignOf t 33 i g × SignOf t 33 g j)
+Stands t low s e c-named-tag-handle i j = (g : ℕ) × (SignOf t 33 i g × ((k : ℕ) × (((f : ℕ) × (CharOf t ns-word-char g f × Star (CharOf t ns-word-char) f k)) × SignOf t 33 k j)))
+Stands t low s e c-tag-handle i j = Handle t i j
+Stands t low s e c-verbatim-tag i j = SomeOf (VerbatimTag t) i j
+Stands t low s e c-ns-shorthand-tag i j = (h : ℕ) × (Handle t i h × ((k : ℕ) × (((f : ℕ) × (SomeOf (TagChar t) h f × Star (SomeOf (TagChar t)) f k)) × (Stuck (TagChar t k) × (k ≡ j)))))
+Stands t low s e c-non-specific-tag i j = (g : ℕ) × (SignOf t 33 i g × (Stuck (TagChar t g) × (g ≡ j)))
+Stands t low s e c-ns-tag-property i j = SomeOf (TagProperty t) i j
+Stands t low s e ns-anchor-name i j = Run (AnchorChar t) i j
+Stands t low s e c-ns-anchor-property i j = SomeOf (Anchor t) i j
+Stands t low s e c-ns-alias-node i j = SomeOf (Alias t) i j
+Stands t low s e (c-ns-properties n c) i j = SomeOf (Properties t n c) i j
+Stands t low s e (c-single-quoted n c) i j = On s (SomeOf (SingleQuoted t n c) i j)
+Stands t low s e (c-double-quoted n c) i j = On s (SomeOf (DoubleQuoted t n c) i j)
+Stands t low s e e-scalar i j = i ≡ j
+Stands t low s e e-node i j = i ≡ j
+Stands t low s e (in-flow n c) i j = On s (is_block c ≡ false → SomeNode t e (Entries true n (flow_within c)) i j)
+Stands t low s e (c-flow-sequence n c) i j = On s (is_block c ≡ false → SomeNode t e (JsonContent n c) i j)
+Stands t low s e (ns-s-flow-seq-entries n c) i j = On s (is_block c ≡ false → SomeNode t e (Entries true n c) i j)
+Stands t low s e (ns-flow-seq-entry n c) i j = On s (is_block c ≡ false → SomeNode t e (Entry true n c) i j)
+Stands t low s e (c-flow-mapping n c) i j = On s (is_block c ≡ false → SomeNode t e (JsonContent n c) i j)
+Stands t low s e (ns-s-flow-map-entries n c) i j = On s (is_block c ≡ false → SomeNode t e (Entries false n c) i j)
+Stands t low s e (ns-flow-map-entry n c) i j = On s (is_block c ≡ false → SomeNode t e (Entry false n c) i j)
+Stands t low s e (ns-flow-map-explicit-entry n c) i j = On s (is_block c ≡ false → (s : ℕ) → SomeNode t e (Explicit n c s) i j)
+Stands t low s e (ns-flow-map-implicit-entry n c) i j = On s (is_block c ≡ false → (s : ℕ) → SomeNode t e (Implicit n c s) i j)
+Stands t low s e (ns-flow-map-yaml-key-entry n c) i j = On s (is_block c ≡ false → (s : ℕ) → SomeNode t e (Implicit n c s) i j)
+Stands t low s e (c-ns-flow-map-empty-key-entry n c) i j = On s (is_block c ≡ false → SomeNode t e (ValueOf false n c) i j)
+Stands t low s e (c-ns-flow-map-separate-value n c) i j = On s (is_block c ≡ false → SomeNode t e (ValueOf false n c) i j)
+Stands t low s e (c-ns-flow-map-json-key-entry n c) i j = On s (is_block c ≡ false → (s : ℕ) → SomeNode t e (Implicit n c s) i j)
+Stands t low s e (c-ns-flow-map-adjacent-value n c) i j = On s (is_block c ≡ false → SomeNode t e (ValueOf true n c) i j)
+Stands t low s e (ns-flow-pair n c) i j = On s (is_block c ≡ false → (d : ℕ) × ((d < e) × SomeNode t d (Pair n c) i j))
+Stands t low s e (ns-flow-pair-entry n c) i j = On s (is_block c ≡ false → SomeNode t e (Pair n c) i j)
+Stands t low s e (ns-flow-pair-yaml-key-entry n c) i j = On s (is_block c ≡ false → SomeNode t e (Pair n c) i j)
+Stands t low s e (c-ns-flow-pair-json-key-entry n c) i j = On s (is_block c ≡ false → SomeNode t e (Pair n c) i j)
+Stands t low s e (ns-s-implicit-yaml-key c) i j = On s (is_block c ≡ false → SomeNode t e (KeyOf false c) i j)
+Stands t low s e (c-s-implicit-json-key c) i j = On s (is_block c ≡ false → SomeNode t e (KeyOf true c) i j)
+Stands t low s e (ns-flow-yaml-content n c) i j = SomeOf (PlainText t n c) i j
+Stands t low s e (c-flow-json-content n c) i j = On s (is_block c ≡ false → SomeNode t e (JsonContent n c) i j)
+Stands t low s e (ns-flow-content n c) i j = On s (is_block c ≡ false → ContentOf t e n c i j)
+Stands t low s e (ns-flow-yaml-node n c) i j = On s (is_block c ≡ false → SomeNode t e (NodeOf false n c) i j)
+Stands t low s e (c-flow-json-node n c) i j = On s (is_block c ≡ false → SomeNode t e (NodeOf true n c) i j)
+Stands t low s e (ns-flow-node n c) i j = On s (is_block c ≡ false → SomeNode t e (FlowNode n c) i j)
+Stands t low s e (c-l+literal n) i j = On s (SomeOf (BlockScalar t n) i j)
+Stands t low s e (c-l+folded n) i j = On s (SomeOf (BlockScalar t n) i j)
+Stands t low s e (l+block-sequence n) i j = On s (Smaller (λ d. ColumnFrom t d true (n +ℤ pos 1) i j) e)
+Stands t low s e (l+block-mapping n) i j = On s (Smaller (λ d. ColumnFrom t d false (n +ℤ pos 1) i j) e)
+Stands t low s e (c-l-block-seq-entry n) i j = On s (EntryAt t e true n i j)
+Stands t low s e (ns-l-block-map-entry n) i j = On s (EntryAt t e false n i j)
+Stands t low s e (c-l-block-map-explicit-entry n) i j = On s (EntryAt t e false n i j)
+Stands t low s e (ns-l-block-map-implicit-entry n) i j = On s (EntryAt t e false n i j)
+Stands t low s e (s-l+block-indented n BlockOut) i j = On s ((m : ℕ) → n ≡ pos m → SomeNode t e (BlockIndented m BlockOut) i j)
+Stands t low s e (s-l+block-indented n BlockIn) i j = On s ((m : ℕ) → n ≡ pos m → SomeNode t e (BlockIndented m BlockIn) i j)
+Stands t low s e (ns-l-compact-sequence n) i j = On s (Smaller (λ d. EntriesAt t d true n i j) e)
+Stands t low s e (ns-l-compact-mapping n) i j = On s (Smaller (λ d. EntriesAt t d false n i j) e)
+Stands t low s e (c-l-block-map-explicit-key n) i j = On s (Question t e n i j)
+Stands t low s e (l-block-map-explicit-value n) i j = On s (Colon t e n i j)
+Stands t low s e ns-s-block-map-implicit-key i j = On s (SomeNode t e (KeyOf true BlockKey) i j ⊎ SomeNode t e (KeyOf false BlockKey) i j)
+Stands t low s e (c-l-block-map-implicit-value n) i j = On s ((m : ℕ) → n ≡ pos m → SomeNode t e (BlockValue m) i j)
+Stands t low s e (s-l+block-node n c) i j = On s (is_block c ≡ true → SomeNode t e (BlockNode n c) i j)
+Stands t low s e (s-l+flow-in-block n) i j = On s ((c : Ctx) → is_block c ≡ true → SomeNode t e (BlockNode n c) i j)
+Stands t low s e (s-l+block-in-block n c) i j = On s (is_block c ≡ true → SomeNode t e (BlockNode n c) i j)
+Stands t low s e (s-l+block-scalar n c) i j = On s (is_block c ≡ true → SomeNode t e (BlockNode n c) i j)
+Stands t low s e (s-l+block-collection n c) i j = On s (is_block c ≡ true → SomeNode t e (BlockNode n c) i j)
+Stands t low s e (seq-space n c) i j = On s (is_block c ≡ true → Smaller (λ d. ColumnFrom t d true (least_column true n c) i j) e)
+Stands t low s e (s-indent-less-or-equal n) i j = UpTo t n i j
+Stands t low s e ns-tag-prefix i j = SomeOf (TagPrefix t) i j
+Stands t low s e c-ns-local-tag-prefix i j = SomeOf (TagPrefix t) i j
+Stands t low s e ns-global-tag-prefix i j = SomeOf (TagPrefix t) i j
+Stands t low s e ns-directive-name i j = SomeChars t is_ns_char i j
+Stands t low s e ns-directive-parameter i j = (code t i ≢ 35) × SomeChars t is_ns_char i j
+Stands t low s e ns-yaml-version i j = VersionRead t i j
+Stands t low s e ns-yaml-directive i j = YamlRead t i j
+Stands t low s e ns-tag-directive i j = TagRead t i j
+Stands t low s e ns-reserved-directive i j = ReservedRead t i j
+Stands t low s e l-directive i j = SomeDirectives t i j
+Stands t low s e ns-esc-8-bit i j = HexOf t 120 2 i j
+Stands t low s e ns-esc-16-bit i j = HexOf t 117 4 i j
+Stands t low s e ns-esc-32-bit i j = HexOf t 85 8 i j
+Stands t low s e c-ns-esc-char i j = Lone t i j
+Stands t low s e nb-double-char i j = Lone t i j
+Stands t low s e ns-double-char i j = LoneNs t i j
+Stands t low s e nb-double-one-line i j = Star (Lone t) i j
+Stands t low s e nb-ns-double-in-line i j = LoneItems t i j
+Stands t low s e (s-double-escaped n) i j = SomeOf (DoubleBreak t n) i j
+Stands t low s e (s-double-break n) i j = SomeOf (DoubleBreak t n) i j
+Stands t low s e (s-double-next-line n) i j = NextRead t n i j
+Stands t low s e (nb-double-multi-line n) i j = DoubleLines t n i j
+Stands t low s e (nb-double-text n c) i j = NoLow t j → SomeOf (DoubleInside t n c) i j
+Stands t low s e c-quoted-quote i j = (g : ℕ) × (SignOf t 39 i g × SignOf t 39 g j)
+Stands t low s e nb-single-char i j = SomeOf (SingleChar t) i j
+Stands t low s e ns-single-char i j = SingleNs t i j
+Stands t low s e nb-single-one-line i j = SomeOf (Chain (SingleChar t)) i j
+Stands t low s e nb-ns-single-in-line i j = SomeOf (Chain (SingleItem t)) i j
+Stands t low s e (s-single-next-line n) i j = SomeOf (SingleRest t n) i j
+Stands t low s e (nb-single-multi-line n) i j = SingleLines t n i j
+Stands t low s e (nb-single-text n c) i j = SomeOf (SingleInside t n c) i j
+Stands t low s e (c-b-block-header m c) i j = HeaderRead t m c i j
+Stands t low s e (c-indentation-indicator m) i j = IndicatorRead t m i j
+Stands t low s e (c-chomping-indicator c) i j = ChompingRead t c i j
+Stands t low s e (b-chomped-last c) i j = SomeEnd t i j
+Stands t low s e (l-chomped-empty n c) i j = AtWidth (Ending t) n i j
+Stands t low s e (l-strip-empty n) i j = AtWidth (Ending t) n i j
+Stands t low s e (l-keep-empty n) i j = AtWidth (Ending t) n i j
+Stands t low s e (l-trail-comments n) i j = AtWidth (TrailComments t) n i j
+Stands t low s e (l-nb-literal-text n) i j = AtWidth (Texts t) n i j
+Stands t low s e (s-nb-folded-text n) i j = AtWidth (Texts t) n i j
+Stands t low s e (s-nb-spaced-text n) i j = AtWidth (Texts t) n i j
+Stands t low s e (l-nb-folded-lines n) i j = AtWidth (Texts t) n i j
+Stands t low s e (l-nb-spaced-lines n) i j = AtWidth (Texts t) n i j
+Stands t low s e (l-nb-same-lines n) i j = AtWidth (Texts t) n i j
+Stands t low s e (l-nb-diff-lines n) i j = AtWidth (Texts t) n i j
+Stands t low s e (b-nb-literal-next n) i j = AtWidth (NextText t) n i j
+Stands t low s e (b-l-spaced n) i j = AtWidth (BreakEmpties t) n i j
+Stands t low s e (l-literal-content n c) i j = AtWidth (ContentRead t) n i j × (low ≤ i)
+Stands t low s e (l-folded-content n c) i j = AtWidth (ContentRead t) n i j × (low ≤ i)
+Stands t low s e l-document-prefix i j = SomeOf (Prefixes t) i j
+Stands t low s e c-directives-end i j = Three t 45 i j
+Stands t low s e c-document-end i j = Three t 46 i j
+Stands t low s e l-document-suffix i j = Suffix t i j
+Stands t low s e l-bare-document i j = Off s (SomeRoot t e i j)
+Stands t low s e l-explicit-document i j = Off s (SomeExplicit t e i j)
+Stands t low s e l-directive-document i j = Off s ((k : ℕ) × (SomeDirectives t i k × SomeExplicit t e k j))
+Stands t low s e l-any-document i j = Off s (Any t e i j)
+Stands t low s e l-yaml-stream i j = Off s (i ≡ 0 → j ≡ length t → (h : ℕ) × ((x : Documents) × (Stream t h x × (h ≤ e))))
+Stands t low s e c-forbidden i j = Forbidden t i
+Stands t low s e f i j = ⊤

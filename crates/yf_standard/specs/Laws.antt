@@ -1,0 +1,43 @@
+-- The laws that tie what is read here to the standard's productions, each with the plain sentence that it stands for.
+-- `proofs/LawsHold.antt` proves them, and `laws` has them as its contract.
+use Rattle.std.specs.Prelude.{ℕ, ◌≤◌, List, length}
+use Rattle.std.specs.Str.{IsUtf8}
+use Rattle.yf_lines.specs.Basic.{Forbidden}
+use Rattle.yf_events.specs.declared.lists.Lists.{Lists}
+use Rattle.yf_events.specs.declared.reading.TheConstants.{DEPTH}
+use Rattle.yf_stream.specs.ReadingOf.{ReadingOf}
+use Rattle.yf_stream.specs.Stream.{Documents, Stream}
+use Rattle.yf_stream.specs.StreamReader.{NoStream}
+use Rattle.yf_standard.specs.Notation.{Form}
+use Rattle.yf_standard.specs.Notation.Form.{c-forbidden, l-yaml-stream}
+use Rattle.yf_standard.specs.Literal.{Derived}
+use Rattle.yf_standard.specs.Rules.{read, letter}
+
+-- all of the text is an l-yaml-stream of the standard, with the reading rules and at most DEPTH collections open at once
+abbrev pub IsStandardStream : List ℕ → Type 0
+IsStandardStream t = Derived (read t) t DEPTH l-yaml-stream 0 (length t)
+
+-- What is derived here as a stream within the limit, the standard derives with the reading rules.
+abbrev pub StreamsAreStandard : Type 0
+StreamsAreStandard = (t : List ℕ) (h : ℕ) (x : Documents) → IsUtf8 t → Stream t h x → h ≤ DEPTH → IsStandardStream t
+
+-- What the standard derives so, is derived here as a stream within the limit.
+abbrev pub StandardStreamsAreDerived : Type 0
+StandardStreamsAreDerived = (t : List ℕ) → IsUtf8 t → IsStandardStream t → (h : ℕ) × ((x : Documents) × (Stream t h x × (h ≤ DEPTH)))
+
+-- So a text that is refused since nothing derives it as a stream is none of the standard's.
+abbrev pub RefusedStreamsAreNone : Type 0
+RefusedStreamsAreNone = (t : List ℕ) → IsUtf8 t → NoStream t → IsStandardStream t → ⊥
+
+-- The reading rules only restrict: what is derived with them, the standard's text alone derives, but for the start of a line and the sum
+-- of an indentation, which `letter` reads as `read` does.
+abbrev pub RulesOnlyRestrict : Type 0
+RulesOnlyRestrict = (t : List ℕ) (e i j : ℕ) (f : Form) → Derived (read t) t e f i j → Derived (letter t) t e f i j
+
+-- So a text that has a reading the standard's text alone derives as a stream.
+abbrev pub ReadTextsAreStandard : Type 0
+ReadTextsAreStandard = (t : List ℕ) (r : Lists) → IsUtf8 t → ReadingOf t r → Derived (letter t) t DEPTH l-yaml-stream 0 (length t)
+
+-- A forbidden line, which a document's node covers none of, is where c-forbidden of the standard is derived.
+abbrev pub ForbiddenLinesAreStandard : Type 0
+ForbiddenLinesAreStandard = (t : List ℕ) (i : ℕ) → IsUtf8 t → (Forbidden t i → (j : ℕ) × Derived (read t) t DEPTH c-forbidden i j) × ((j : ℕ) → Derived (read t) t DEPTH c-forbidden i j → Forbidden t i)

@@ -1,0 +1,15 @@
+//! The laws that tie what is read here to the standard's productions.
+ghost use Rattle.yf_standard.specs.Laws.{ForbiddenLinesAreStandard, ReadTextsAreStandard, RefusedStreamsAreNone, RulesOnlyRestrict, StandardStreamsAreDerived, StreamsAreStandard};
+
+/// Does nothing: its contract is what holds of every text. What is derived here as a stream, within the limit of
+/// open collections, is by the reading rules a stream of the standard (`l-yaml-stream`, production 211), and what is
+/// one is derived here; so no text that is refused for its syntax is one. The rules only restrict what the standard's
+/// text alone derives, so a text that is read is a stream by that too. Forbidden lines are those of production 206.
+pub fn standard_laws()
+    ensures accepted { StreamsAreStandard }
+    ensures derived { StandardStreamsAreDerived }
+    ensures refused { RefusedStreamsAreNone }
+    ensures restrict { RulesOnlyRestrict }
+    ensures read { ReadTextsAreStandard }
+    ensures forbidden { ForbiddenLinesAreStandard }
+{}
