@@ -211,11 +211,15 @@ fn is_end(found: &Answer, wanted: Wanted) -> bool {
     }
 }
 
-/// Whether the node that begins the source is read so, and scanned so.
-fn is_limit_of(alloc: Global, src: &Src, wanted: Wanted) -> bool {
+/// Whether the node that begins the source is read so.
+fn is_read_so(alloc: Global, src: &Src, wanted: Wanted) -> bool {
     src.text().is_char_boundary(0)
         && is_end(&read_block_node(alloc, src, 0, -1, Ctx::BlockIn), wanted)
-        && is_node(alloc, src, wanted)
+}
+
+/// Whether it is read so, and scanned so.
+fn is_limit_of(alloc: Global, src: &Src, wanted: Wanted) -> bool {
+    is_read_so(alloc, src, wanted) && is_node(alloc, src, wanted)
 }
 
 /// The same of a text.

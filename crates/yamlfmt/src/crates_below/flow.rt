@@ -251,11 +251,15 @@ fn is_end(found: &Answer, wanted: Wanted) -> bool {
     }
 }
 
-/// Whether the node that begins the source is read so, and scanned so.
-fn is_limit_of(alloc: Global, src: &Src, wanted: Wanted) -> bool {
+/// Whether the node that begins the source is read so.
+fn is_read_so(alloc: Global, src: &Src, wanted: Wanted) -> bool {
     src.text().is_char_boundary(0)
         && is_end(&read_flow_node(alloc, src, 0, 0, Ctx::FlowOut), wanted)
-        && is_node_wanted(alloc, src, 0, wanted)
+}
+
+/// Whether it is read so, and scanned so.
+fn is_limit_of(alloc: Global, src: &Src, wanted: Wanted) -> bool {
+    is_read_so(alloc, src, wanted) && is_node_wanted(alloc, src, 0, wanted)
 }
 
 /// The same of a text.
