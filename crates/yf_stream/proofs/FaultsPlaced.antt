@@ -6,7 +6,6 @@ use Rattle.yf_lines.specs.declared.fault.Fault.TheVariants.{Syntax}
 use Rattle.yf_lines.specs.declared.place.Place.{Place}
 use Rattle.yf_stream.specs.Refusal.{IsStreamFault}
 use Rattle.yf_stream.specs.StreamReader.{IsSyntax, StreamFault, for_memory, no_stream, too_deep, breached, fault_of}
-use Rattle.yf_stream.specs.declared.breaches.Breach.{Breach}
 use Rattle.yf_stream.specs.declared.breaches.Kind.{Kind}
 use Rattle.yf_stream.specs.declared.breaches.Kind.TheVariants as Breaches
 
