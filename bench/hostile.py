@@ -6,8 +6,8 @@ Usage: bench/hostile.py [--program PROGRAM] [--list] [NAME..]
 PROGRAM is the one that ./yamlfmt builds unless another is named; build it first. With NAMEs, only those shapes. Run by hand,
 not part of rt ci; what is known of the shapes stands in docs/HOSTILE.md. Each shape is a text of a size; each of the three
 verbs is timed (in processor seconds) at a size, at twice and at four times that. It is a fault where the time grows more than
-2.5-fold twice in a row, where more bytes of memory are taken a byte of input than LIMIT says, where a run takes more than two
-minutes, or where it ends with a signal or with another status than 0, 1 and 2.
+2.5-fold twice in a row, where more bytes of memory are taken a byte of input than LIMIT says (and, of shapes that `fmt` writes much
+longer, WRITTEN), where a run takes more than two minutes, or where it ends with a signal or with another status than 0, 1 and 2.
 """
 import os
 import subprocess
@@ -22,15 +22,26 @@ VERBS = ('events', 'check', 'fmt')
 # Bytes of memory a byte of input.
 LIMIT = {'events': 150, 'check': 250, 'fmt': 1000}
 
+# The shapes of which `fmt` writes much more than it reads, with the bytes that it writes a byte of input. It holds all of them before it
+# writes the first, and twice as many where their room grows: so much memory it may take beside LIMIT.
+WRITTEN = {}
+
 RATIO = 2.5
 
 # Each shape by its name: a function from a number of bytes to a text of about that size.
 SHAPES = {}
 
 
-def shape(name, make):
+def shape(name, make, written=0):
     assert name not in SHAPES, name
     SHAPES[name] = make
+    if written:
+        WRITTEN[name] = written
+
+
+def limit(name, verb):
+    """Bytes of memory a byte of input."""
+    return LIMIT[verb] + (2 * WRITTEN.get(name, 0) if verb == 'fmt' else 0)
 
 
 def repeated(name, part, front='', end=''):
@@ -95,6 +106,10 @@ repeated('wide-flow-empties', ', ', '{a', '}')
 repeated('flow-never-closed', '[a, ')
 repeated('flow-mapping-never-closed', '{a: b, ')
 repeated('flow-lines-never-closed', '- [a\n')
+
+# Short lines that are laid out at the column of the deepest entry.
+shape('deep-comments', lambda n: '- ' * 1000 + 'a\n' + '#\n' * max(1, n // 2 - 2000) + ' ' * 1998 + '- b\n', 1000)
+shape('deep-wide-flow-comment', lambda n: '[' * 1000 + 'a,' * max(1, n // 2 - 1000) + ' #\n' + ']' * 1000 + '\n', 1001)
 
 # Block scalars.
 repeated('literal-without-content', 'k: |\n')
@@ -319,7 +334,7 @@ class Measure:
             wrong.append('status %s' % status)
         if min(one, two) > RATIO:
             wrong.append('ratios %.1f, %.1f' % (one, two))
-        if a_byte > LIMIT[verb]:
+        if a_byte > limit(name, verb):
             wrong.append('%.0f bytes a byte' % a_byte)
         self.rows.append((name, verb, length, seconds, two, a_byte))
         print('%-30s %-6s %9d bytes %7.2f s %5.1f %5.1f %7.1f bytes a byte  %s'

@@ -7,3 +7,5 @@ pub mod ProgramLemmas
 pub mod CommandLineLemmas
 -- `report`
 pub mod ShownLemmas
+-- `rewrite`
+pub mod FilesLemmas

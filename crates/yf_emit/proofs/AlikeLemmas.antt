@@ -5,7 +5,7 @@ use Rattle.std.proofs.lemmas.List.{length-append, map-append}
 use Rattle.yf_comments.specs.Comment.{CommentValue}
 use Rattle.yf_props.specs.Props.{PropsValue}
 use Rattle.yf_events.specs.Alike.{Alike, alike_scalars, alike_aliases, alike_sequences, alike_mappings, AlikeItems, alike_nothing, alike_item, AlikePairs, alike_no_pairs, alike_pair}
-use Rattle.yf_events.specs.Tree.{Standing, Node, scalar, alias, sequence, mapping, Items, Pairs, props_of, leaves, leaves_of_items, leaves_of_pairs, spans_of_leaf, is_text, is_filled_flow, is_block_collection, is_sequence}
+use Rattle.yf_events.specs.Tree.{Standing, Node, scalar, Items, Pairs, props_of, leaves, leaves_of_items, leaves_of_pairs, spans_of_leaf, is_text, is_filled_flow, is_block_collection, is_sequence}
 use Rattle.yf_events.specs.declared.event.ScalarStyle.{ScalarStyle}
 use Rattle.yf_events.specs.declared.event.ScalarStyle.TheVariants.{Plain, Single, Double, Literal, Folded}
 use Rattle.yf_events.specs.declared.event.Span.{Span}
@@ -14,7 +14,7 @@ use Rattle.yf_emit.specs.Normal.{Setting, Spot, inner_spot, fits, is_one_line_ke
 use Rattle.yf_emit.specs.OneLine.{width, spaced, props_text, bare, more_items, more_pairs, written, colon_behind}
 use Rattle.yf_emit.specs.RowShapes.{RowShape, shape_of, joined_shapes, shapes_behind_key, KeysAgree}
 use Rattle.yf_emit.specs.BlockLines.{header_text, block_lines, final_feeds, is_kept_tail}
-use Rattle.yf_emit.specs.Rows.{Row, anywhere, tail_ending, block_scalar, joined, one_line_row, one_line, scalar_rows, props_row, entry_row, colon_row, key_row, behind_sign, begins_below, is_empty_text, behind_key, explicit_pair, implicit_pair, pair_rows, rows, rows_of_items, rows_of_pairs}
+use Rattle.yf_emit.specs.Rows.{Row, anywhere, tail_ending, block_scalar, joined, one_line_row, one_line, scalar_rows, entry_row, colon_row, key_row, behind_sign, begins_below, is_empty_text, behind_key, explicit_pair, implicit_pair, pair_rows}
 
 -- Texts on one line.
 
@@ -327,44 +327,3 @@ same_pair_rows {cs = cs} {ds = ds} {k = k} {l = l} {v = v} {w = w} s column kr l
   by_form false h =
       ap (λ z. shapes (if z then implicit_pair (setting s cs) column k v vr else explicit_pair s column k kr vr)) h
       ∙ (explicit ∙ sym (ap (λ z. shapes (if z then implicit_pair (setting s ds) column l w wr else explicit_pair s column l lr wr)) (sym (same_implicit s column a) ∙ h)))
-
--- where the key of a pair is implicit, a comment trails it in both trees or in neither
-abbrev pub Agrees : (Node → Node → Node → Node → Type 0) → Style → List CommentValue → List CommentValue → Type 0
-Agrees K s cs ds = (k v l w : Node) → K k v l w → KeysAgree s cs ds k v l w
-
-mutual
-  pub same_rows : {K : Node → Node → Node → Node → Type 0} {x y : Node} {cs ds : List CommentValue} (s : Style) (g : Agrees K s cs ds) (spot : Spot) → Alike K x y
-      → shapes (rows (setting s cs) spot x) ≡ shapes (rows (setting s ds) spot y)
-  same_rows {K = K} s g spot (alike_scalars {at = at} {bt = bt} {props = props} {style = style} {text = text} {lines = lines} e) =
-      same_scalar {K = K} {at = at} {bt = bt} {props = props} {text = text} {lines = lines} s spot style (alike_scalars e)
-  same_rows {K = K} s g spot (alike_aliases {at = at} {bt = bt} {name = name} e) =
-      same_row {K = K} {x = alias at name} {y = alias bt name} spot (alike_aliases e)
-  same_rows {K = K} s g spot (alike_sequences {at = at} {bt = bt} {flow = true} {props = props} {xs = xs} {ys = ys} e a) =
-      same_row {K = K} {x = sequence at true props xs} {y = sequence bt true props ys} spot (alike_sequences e a)
-  same_rows s g spot (alike_sequences {flow = false} {props = props} e a) =
-      both_shapes (props_row spot.column (props_text props)) _ (props_row spot.column (props_text props)) _ refl (same_item_rows s g spot.entries a)
-  same_rows {K = K} s g spot (alike_mappings {at = at} {bt = bt} {flow = true} {props = props} {ps = ps} {qs = qs} e a) =
-      same_row {K = K} {x = mapping at true props ps} {y = mapping bt true props qs} spot (alike_mappings e a)
-  same_rows s g spot (alike_mappings {flow = false} {props = props} e a) =
-      both_shapes (props_row spot.column (props_text props)) _ (props_row spot.column (props_text props)) _ refl (same_pairs_rows s g spot.entries a)
-
-  same_item_rows : {K : Node → Node → Node → Node → Type 0} {xs ys : Items} {cs ds : List CommentValue} (s : Style) (g : Agrees K s cs ds) (column : ℕ) → AlikeItems K xs ys
-      → shapes (rows_of_items (setting s cs) column xs) ≡ shapes (rows_of_items (setting s ds) column ys)
-  same_item_rows s g column alike_nothing = refl
-  same_item_rows {cs = cs} {ds = ds} s g column (alike_item {x = x} {y = y} {xs = xs} {ys = ys} a rest) =
-      both_shapes (behind_sign s (entry_row column (codes "-") x) (rows (setting s cs) (inner_spot s column) x)) (rows_of_items (setting s cs) column xs)
-      (behind_sign s (entry_row column (codes "-") y) (rows (setting s ds) (inner_spot s column) y)) (rows_of_items (setting s ds) column ys)
-      (same_joined (entry_row column (codes "-") x) (entry_row column (codes "-") y) (s.indent - 1) _ _ refl (same_rows s g (inner_spot s column) a))
-      (same_item_rows s g column rest)
-
-  same_pairs_rows : {K : Node → Node → Node → Node → Type 0} {ps qs : Pairs} {cs ds : List CommentValue} (s : Style) (g : Agrees K s cs ds) (column : ℕ) → AlikePairs K ps qs
-      → shapes (rows_of_pairs (setting s cs) column ps) ≡ shapes (rows_of_pairs (setting s ds) column qs)
-  same_pairs_rows s g column alike_no_pairs = refl
-  same_pairs_rows {cs = cs} {ds = ds} s g column (alike_pair {k = k} {l = l} {v = v} {w = w} {ps = ps} {qs = qs} a b h rest) =
-      let key : shapes (rows (setting s cs) (key_spot s column k) k) ≡ shapes (rows (setting s ds) (key_spot s column l) l) =
-      same_rows s g (key_spot s column k) a ∙ ap (λ z. shapes (rows (setting s ds) z l)) (same_key_spot s column a) in
-      let value : shapes (rows (setting s cs) (value_spot (setting s cs) column k v) v) ≡ shapes (rows (setting s ds) (value_spot (setting s ds) column l w) w) =
-      same_rows s g (value_spot (setting s cs) column k v) b ∙ ap (λ z. shapes (rows (setting s ds) z w)) (same_value_spot s column a b (g k v l w h)) in
-      both_shapes (pair_rows (setting s cs) column k v _ _) (rows_of_pairs (setting s cs) column ps)
-      (pair_rows (setting s ds) column l w _ _) (rows_of_pairs (setting s ds) column qs)
-      (same_pair_rows s column _ _ _ _ a b (g k v l w h) key value) (same_pairs_rows s g column rest)

@@ -2,7 +2,6 @@
 -- far as the printer asks.
 use Rattle.std.proofs.Common.{◌≡◌, ℕ, true, List, [], map, sym, ap, ◌∙◌, subst}
 use Rattle.std.specs.Str.{IsUtf8}
-use Rattle.yf_events.specs.Content.{content_of}
 use Rattle.yf_events.specs.Nested.{IsStream}
 use Rattle.yf_events.specs.Reading.{events_of}
 use Rattle.yf_events.specs.declared.lists.Lists.{Lists}
@@ -13,7 +12,6 @@ use Rattle.yf_emit.specs.declared.form.decide.Form.{Form}
 use Rattle.yf_emit.specs.declared.form.measure.Measure.{Measure}
 use Rattle.yf_emit.specs.declared.style.Style.{Style}
 use Rattle.yf_emit.specs.FormatKept.{FormatKept}
-use Rattle.yf_emit.specs.Formatted.{Formatted}
 use Rattle.yf_emit.specs.Forms.{Decided, documents_are_placed, stream_forms}
 use Rattle.yf_emit.specs.FoundInPass.{FoundInPass}
 use Rattle.yf_emit.specs.Layout.{layout}
@@ -23,13 +21,11 @@ use Rattle.yf_emit.specs.Normal.{Normal, setting_of}
 use Rattle.yf_emit.specs.NormalEvents.{normal_from}
 use Rattle.yf_emit.specs.NormalForm.{NormalForm}
 use Rattle.yf_emit.specs.Printing.{printed, work_of}
-use Rattle.yf_emit.specs.Printout.{IsPrinted}
 use Rattle.yf_emit.specs.Restyled.{IsRestyled}
 use Rattle.yf_emit.specs.Textual.{CommentsAscend, IsTextual}
 use Rattle.yf_emit.specs.Trailing.{all_found}
-use Rattle.yf_emit.proofs.FormatHolds.{printed_formats}
 use Rattle.yf_emit.proofs.FormatKeeps.{format_keeps}
-use Rattle.yf_emit.proofs.LayoutHolds.{is_printed, printed_lays_out}
+use Rattle.yf_emit.proofs.LayoutHolds.{printed_lays_out}
 use Rattle.yf_emit.proofs.MeasuredLemmas.{measured_all}
 use Rattle.yf_emit.proofs.NormalLemmas.{normal_reading}
 use Rattle.yf_emit.proofs.NormalParts.{trees_in, trees_of}
@@ -37,7 +33,6 @@ use Rattle.yf_emit.proofs.ReadingsOfTexts.{reading_is_textual}
 use Rattle.yf_emit.proofs.SameMeasures.{same_measures, same_texts}
 use Rattle.yf_emit.proofs.SettledForms.{stream_stays}
 use Rattle.yf_emit.proofs.StepLemmas.{measured_in_pass}
-use Rattle.yf_emit.proofs.StreamLemmas.{decides}
 use Rattle.yf_emit.proofs.ToldMeasures.{Told, asked, measured_tells, told_alike}
 
 -- the events that are made by measures and forms of a reading are those of its normal form
@@ -99,37 +94,15 @@ module _ {t : List ℕ} {r m : Lists} {s : Style} {ms : List Measure} {fs : List
   told : Told m.events ms
   told = told_alike (ap (map asked) in_pass.is ∙ same_measures t [] (setting_of r s) (setting s []) h.restyled.events) (measured_tells own_measured)
 
-  own_decided : Decided m s own fs
-  own_decided = record {
-    are = λ ascend u c ds trees is_placed measured.
-        same_forms
-        ∙ (ap (stream_forms [] (setting s []) (setting_of m s)) (trees_unique m (trees_in normal) ds (trees_of normal) trees)
-        ∙ (sym (decides m s own [] (setting s []) ds trees is_placed own_measured) ∙ decides m s own u c ds trees is_placed measured));
-  }
-
-  pub printed_once : (u : List ℕ) → u ≡ printed (work_of m s ms fs (all_found m ms fs)) → IsPrinted m s u
-  printed_once u e =
-      let one : printed (work_of m s ms fs (all_found m ms fs)) ≡ layout m s (trees_in normal) =
-      printed_lays_out m s ms fs normal (trees_in normal) (trees_of normal) told same_forms in
-      let other : printed (work_of m s own fs (all_found m own fs)) ≡ layout m s (trees_in normal) =
-      printed_lays_out m s own fs normal (trees_in normal) (trees_of normal) (measured_tells own_measured) same_forms in
-      is_printed m s u (record { measures = own; forms = fs; measured = own_measured; decided = own_decided; is = e ∙ (one ∙ sym other) })
+  lays_out : printed (work_of m s ms fs (all_found m ms fs)) ≡ layout m s (trees_in normal)
+  lays_out = printed_lays_out m s ms fs normal (trees_in normal) (trees_of normal) told same_forms
 
   -- so it is what formatting the text gives
   pub kept_so : (u : List ℕ) → u ≡ printed (work_of m s ms fs (all_found m ms fs)) → FormatKept t s u
-  kept_so u e =
-      format_keeps t s u h.utf8 (printed_formats t s u r m h.nested (λ w. normal_made t r m s ms fs w h.measured h.decided h.restyled h.events)
-      (printed_once u e) h.utf8 h.reads)
-
-  pub formatted_so : (u : List ℕ) → content_of m ≡ content_of r → IsUtf8 u → u ≡ printed (work_of m s ms fs (all_found m ms fs)) → Formatted t s u
-  formatted_so u content utf8 e = record {
+  kept_so u e = format_keeps t s u h.utf8 (record {
     reading = r;
     normal = m;
-    nested = h.nested;
-    restyled = h.restyled;
-    is_normal = λ w. normal_made t r m s ms fs w h.measured h.decided h.restyled h.events;
-    same = content;
-    is = printed_once u e;
-    formats = λ g reads. kept_so u e;
-    utf8 = utf8;
-  }
+    reads = h.reads;
+    is_normal = made;
+    writes = record { trees = trees_in normal; of_reading = trees_of normal; is = e ∙ lays_out };
+  })

@@ -121,7 +121,6 @@ pub mod StreamsLaid
 pub mod LayoutLawsHold
 -- trees that are alike up to places are laid out alike (a second run changes nothing)
 pub mod AlikeLemmas
-pub mod AlikeForms
 -- the definitions by small readings
 mod Examples
 mod ShownNodes
@@ -136,7 +135,6 @@ pub mod CommentsFit
 pub mod ContentFound
 pub mod DirectivesFit
 pub mod DocumentTrails
-pub mod FormatHolds
 pub mod FormatKeeps
 pub mod FormatLawsHold
 pub mod FormatTrails

@@ -1,13 +1,12 @@
--- A scalar as the value of which yf_block_scalar says how it is written. Its header and lines there are those of `BlockLines`
--- (`proofs/BlockTexts.antt`), so that what is read again is what is laid out.
-use Rattle.std.specs.Prelude.{ℕ, zero, suc, ◌-◌, Bool, true, false, List, [], Option, Some, None, if◌then◌else◌}
-use Rattle.yf_block_scalar.specs.declared.body.BlockText.{BlockText}
+-- The header of a scalar as the value of which yf_block_scalar says how it is written. It is there that of `BlockLines`, and so are its lines
+-- (`proofs/BlockTexts.antt`, `ScalarBytes.antt`), so that what is read again is what is laid out.
+use Rattle.std.specs.Prelude.{ℕ, zero, suc, Bool, true, false, List, Option, Some, None, if◌then◌else◌}
 use Rattle.yf_block_scalar.specs.declared.header.Chomp.{Chomp}
 use Rattle.yf_block_scalar.specs.declared.header.Chomp.TheVariants.{Strip, Clip, Keep}
 use Rattle.yf_block_scalar.specs.declared.header.Header.{Header}
 use Rattle.yf_events.specs.declared.event.ScalarStyle.{ScalarStyle}
 use Rattle.yf_events.specs.declared.event.ScalarStyle.TheVariants.{Folded}
-use Rattle.yf_emit.specs.BlockLines.{begins_with_space, content_lines, final_feeds}
+use Rattle.yf_emit.specs.BlockLines.{begins_with_space, final_feeds}
 
 abbrev pub is_folded : ScalarStyle → Bool
 is_folded Folded = true
@@ -25,15 +24,3 @@ digit_of indent text = if begins_with_space text then Some indent else None
 
 abbrev pub header_of : ScalarStyle → ℕ → List ℕ → Header
 header_of style indent text = record { folded = is_folded style; digit = digit_of indent text; chomp = chomp_of (final_feeds text) }
-
--- the scalar without a comment, whose last line has a break
-abbrev pub block_of : ScalarStyle → ℕ → List ℕ → List (List ℕ) → BlockText
-block_of style indent text lines = record {
-  header = header_of style indent text;
-  comment = None;
-  lines = content_lines style text lines;
-  tail = final_feeds text - 1;
-  open_end = false;
-  comments = [];
-  next = 0;
-}

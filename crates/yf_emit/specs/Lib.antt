@@ -16,7 +16,6 @@ pub mod Format
 pub mod FormatLaws
 pub mod FormatKept
 pub mod FoundInPass
-pub mod Formatted
 pub mod Forms
 pub mod ImplicitKeys
 pub mod Kept

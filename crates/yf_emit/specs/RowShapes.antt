@@ -1,10 +1,8 @@
--- What of a row, and of a form, does not depend on where the nodes stand in the text.
+-- What of a row does not depend on where the nodes stand in the text.
 use Rattle.std.specs.Prelude.{◌≡◌, ℕ, ◌+◌, Bool, true, false, is_some, List, [], ◌∷◌, ◌++◌, length, replicate}
 use Rattle.yf_comments.specs.Comment.{CommentValue}
 use Rattle.yf_events.specs.Tree.{Node}
-use Rattle.yf_emit.specs.declared.form.decide.Form.{Form}
 use Rattle.yf_emit.specs.declared.style.Style.{Style}
-use Rattle.yf_emit.specs.Forms.{value_comment}
 use Rattle.yf_emit.specs.Normal.{is_implicit, key_comment}
 use Rattle.yf_emit.specs.Rows.{Row, Ending, before_node}
 
@@ -48,22 +46,6 @@ shapes_behind_key head true below rows = record head { is_commented = true; endi
 shapes_behind_key head false true rows = record head { ending = before_node } ∷ rows
 shapes_behind_key head false false rows = joined_shapes head 1 rows
 
--- a form: whether a comment trails the key
-pub record FormShape : Type 0 where
-  pub is_kept : Bool
-  pub is_implicit : Bool
-  pub is_commented : Bool
-  pub column : ℕ
-
-abbrev pub form_shape : Form → FormShape
-form_shape f = record { is_kept = f.is_kept; is_implicit = f.is_implicit; is_commented = is_some f.key_comment; column = f.column }
-
 -- All that rows take of comments: where the key is implicit, a comment trails it in both or in neither.
 pub record KeysAgree (s : Style) (cs ds : List CommentValue) (k v l w : Node) : Type 0 where
   pub comment : (column : ℕ) → is_implicit s column k ≡ true → is_some (key_comment cs k v) ≡ is_some (key_comment ds l w)
-
--- and all that forms take: the same, at each column, of a value whose form is settled
-pub record ValuesAgree (s : Style) (cs ds : List CommentValue) (k v l w : Node) : Type 0 where
-  pub keys : KeysAgree s cs ds k v l w
-  pub comment : (column : ℕ) → is_some (value_comment (record { style = s; comments = cs }) column k v)
-      ≡ is_some (value_comment (record { style = s; comments = ds }) column l w)

@@ -1,12 +1,11 @@
 //! Formatting a text.
-ghost use Rattle.std.specs.Prelude.{◌≡◌, IfErr, IfOk};
+ghost use Rattle.std.specs.Prelude.{◌≤◌, length, IfErr, IfOk};
 ghost use Rattle.std.specs.Str.{IsUtf8};
 ghost use Rattle.std.specs.String.{string_bytes};
 ghost use Rattle.yf_emit.specs.FormatKept.{FormatKept};
-ghost use Rattle.yf_emit.specs.Formatted.{Formatted};
 ghost use Rattle.yf_stream.specs.ReadingOf.{ReadingOf};
-ghost use Rattle.yf_stream.specs.Refusal.{IsStreamFault};
 ghost use Rattle.yf_stream.specs.StreamReader.{StreamFault};
+ghost use Rattle.yf_stream.specs.declared.stream.TheConstants.{LONGEST};
 
 use crate::form::decide::decide;
 use crate::form::measure::measure_text;
@@ -26,10 +25,9 @@ fn formatted(
     reading: Reading,
     style: &Style,
 ) -> Result<String, AllocError>
-    ensures formatted { IsUtf8 text.now → ReadingOf text.now reading.entry
-        → IfOk result (λ formatted. Formatted text.now style.now (string_bytes formatted)) }
     ensures keeps { IsUtf8 text.now → ReadingOf text.now reading.entry
         → IfOk result (λ formatted. FormatKept text.now style.now (string_bytes formatted)) }
+    ensures within { IfOk result (λ formatted. length (string_bytes formatted) ≤ LONGEST) }
 {
     let measures = measure_text(alloc, text, &reading, style)?;
     let forms = decide(alloc, &measures, &reading, style)?;
@@ -38,15 +36,15 @@ fn formatted(
 }
 
 /// The stream of the text in the house style: the layout of the normal form of the text's reading, and nothing else is that. It is
-/// accepted, has the same content and the same comments at the same places, and formatting it again changes nothing (`FormatKept`).
+/// accepted, has the same content and the same comments at the same places, and formatting it again changes nothing (`FormatKept`). It has
+/// at most `LONGEST` bytes, so that it can be read again.
 ///
 /// # Errors
 ///
-/// Those of `read_stream`.
+/// Those of `read_stream`, and `Fault::Memory` where the formatted text would have more than `LONGEST` bytes.
 pub fn format(alloc: Global, text: &str, style: &Style) -> Result<String, Fault>
-    ensures formatted { IfOk result (λ formatted. Formatted text.now style.now (string_bytes formatted)) }
     ensures keeps { IfOk result (λ formatted. FormatKept text.now style.now (string_bytes formatted)) }
-    ensures refused { IfErr result (λ fault. IsStreamFault text.now fault) }
+    ensures within { IfOk result (λ formatted. length (string_bytes formatted) ≤ LONGEST) }
     ensures refuses { IfErr result (StreamFault text.now) }
 {
     let reading = read_stream(alloc, text)?;

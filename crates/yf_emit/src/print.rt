@@ -24,8 +24,8 @@ use yf_lines::watched::Sink;
 ///
 /// # Errors
 ///
-/// `Fault::Memory` where a growth of memory was refused, and `Fault::WriteFailed` where the writer failed; a prefix of the text
-/// has then been written.
+/// `Fault::Memory` where a growth of memory was refused or the text would have more than `LONGEST` bytes, and `Fault::WriteFailed` where
+/// the writer failed; a prefix of the text has then been written.
 pub fn print<W: Sink>(
     alloc: Global,
     reading: &Reading,

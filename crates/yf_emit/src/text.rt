@@ -2,6 +2,7 @@
 
 pub mod block;
 pub mod content_start;
+pub mod limit;
 pub mod wanted;
 pub mod width;
 pub mod written;

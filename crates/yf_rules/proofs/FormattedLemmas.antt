@@ -1,10 +1,18 @@
--- What the run that formats has written, told by what was formatted and how its writing ended.
-use Rattle.std.proofs.Common.{◌≡◌, ℕ, List, Bool, subst, sym}
-use Rattle.std.specs.Prelude.{Option, Result, Ok, Err, IfErr, OnOk}
+-- What the run that formats has written, told by what was formatted and how its writing ended, and why nothing could be formatted.
+use Rattle.std.proofs.Common.{◌≡◌, ◌≤◌, ℕ, List, Bool, length, subst, sym}
+use Rattle.std.specs.Prelude.{Option, Result, Ok, Err, IfErr, IfOk, OnOk}
+use Rattle.std.specs.Str.{IsUtf8}
+use Rattle.yf_emit.specs.FormatKept.{FormatKept}
 use Rattle.yf_emit.specs.declared.style.Style.{Style}
 use Rattle.yf_lines.specs.Output.{Broke, Writes, Wrote}
 use Rattle.yf_lines.specs.declared.fault.Fault.{Fault}
-use Rattle.yf_rules.specs.Run.{RefusedFmt, Rendered, Restyled}
+use Rattle.yf_lines.specs.declared.fault.Fault.TheVariants.{Syntax, TooDeep, UnknownHandle, UnknownAlias, RepeatedDirective, BadVersion, EscapeValue, Memory}
+use Rattle.yf_stream.specs.Refusal.{IsStreamFault}
+use Rattle.yf_stream.specs.StreamReader.{StreamFault}
+use Rattle.yf_stream.proofs.FaultsPlaced.{faults_are_placed}
+use Rattle.yf_rules.specs.declared.run.TheConstants.{INPUT_LIMIT}
+use Rattle.yf_rules.proofs.HeadlineHolds.{headline_holds}
+use Rattle.yf_rules.specs.Run.{Gave, GaveNoStream, RefusedFmt, RefusedText, Rendered, Restyled}
 
 pub wrote_formatted : (style : Style) (known old new : Option (List ℕ)) (before after : Bool) (formatted text : List ℕ) (outcome : Result Unit Fault)
     → Rendered style known formatted → text ≡ formatted → Writes old new before after text outcome → OnOk outcome (Restyled style known old new before after)
@@ -28,3 +36,30 @@ broke_formatted style known old new before after read_before read_after formatte
       },
       s,
     )
+
+-- a text that was read
+module _ (known : Option (List ℕ)) {t : List ℕ} (g : Gave known t) (w : length t ≤ INPUT_LIMIT) (u : IsUtf8 t) where
+  -- what is given for it
+  pub rendered : {V E : Type 0} {style : Style} (bytes : V → List ℕ) (outcome : Result V E) → IfOk outcome (λ v. FormatKept t style (bytes v))
+      → IfOk outcome (λ v. length (bytes v) ≤ INPUT_LIMIT) → IfOk outcome (λ v. Rendered style known (bytes v))
+  rendered bytes (Ok v) kept fits = record { text = t; gave = g; headline = headline_holds w u kept fits }
+  rendered bytes (Err e) kept fits = tt
+
+-- a text that the reader of streams refuses
+module _ (known : Option (List ℕ)) {before after : Bool} {t : List ℕ} (g : Gave known t) (l : length t ≤ INPUT_LIMIT) (u : IsUtf8 t) (s : after ≡ before) where
+  no_stream_in : (fault : Fault) → StreamFault t fault → IsStreamFault t fault → GaveNoStream known fault
+  no_stream_in fault w i = record { text = t; gave = g; within = l; utf8 = u; is = i; why = w }
+
+  refused_for : (fault : Fault) → StreamFault t fault → IsStreamFault t fault → RefusedText known before after fault
+  refused_for (Syntax place what) w i = (no_stream_in (Syntax place what) w i, s)
+  refused_for (TooDeep place) w i = (no_stream_in (TooDeep place) w i, s)
+  refused_for (UnknownHandle place) w i = (no_stream_in (UnknownHandle place) w i, s)
+  refused_for (UnknownAlias place) w i = (no_stream_in (UnknownAlias place) w i, s)
+  refused_for (RepeatedDirective place) w i = (no_stream_in (RepeatedDirective place) w i, s)
+  refused_for (BadVersion place) w i = (no_stream_in (BadVersion place) w i, s)
+  refused_for (EscapeValue place) w i = (no_stream_in (EscapeValue place) w i, s)
+  refused_for Memory w i = s
+  refused_for _ w i = absurd i
+
+  pub refused_text : (fault : Fault) → StreamFault t fault → RefusedText known before after fault
+  refused_text fault w = refused_for fault w (faults_are_placed t fault w)

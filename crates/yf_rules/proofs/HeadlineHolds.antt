@@ -26,8 +26,8 @@ formats_are_mended t u s utf8 formats = λ rule fixable src q same lines reads o
       reads = subst (λ v. ReadingOf v q) (sym same) reads;
     }) offsets at
 
-pub headline_holds : {t u : List ℕ} {s : Style} → length t ≤ INPUT_LIMIT → IsUtf8 t → FormatKept t s u → Headline t s u
-headline_holds {t} {u} {s} within utf8 kept = record {
+pub headline_holds : {t u : List ℕ} {s : Style} → length t ≤ INPUT_LIMIT → IsUtf8 t → FormatKept t s u → length u ≤ INPUT_LIMIT → Headline t s u
+headline_holds {t} {u} {s} within utf8 kept fits = record {
   within = within;
   utf8 = utf8;
   reading = kept.formats.reading;
@@ -35,6 +35,7 @@ headline_holds {t} {u} {s} within utf8 kept = record {
   nested = reading_nests kept.formats.reads;
   kept = kept;
   mended = formats_are_mended t u s utf8 kept.formats;
+  fits = fits;
 }
 
 pub refused_texts_have_no_reading : RefusedTextsHaveNoReading

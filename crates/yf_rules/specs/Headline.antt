@@ -28,7 +28,7 @@ IsMended u s = (rule : StyleRule) → (definition_of rule).fixable ≡ true → 
 
 -- A text t of at most 1 GiB is accepted with its only reading, whose events are a well nested stream within the limit of open collections; u is
 -- its formatting, and nothing else is; u is accepted, with the same content and the same comments at the same places; formatting it again changes
--- nothing; and nothing in it is at fault that the house style fixes.
+-- nothing; nothing in it is at fault that the house style fixes; and it has at most 1 GiB, so it can be read again.
 pub record Headline (t : List ℕ) (s : Style) (u : List ℕ) : Type 0 where
   pub within : length t ≤ INPUT_LIMIT
   pub utf8 : IsUtf8 t
@@ -37,6 +37,7 @@ pub record Headline (t : List ℕ) (s : Style) (u : List ℕ) : Type 0 where
   pub nested : IsStream DEPTH (events_of reading)
   pub kept : FormatKept t s u
   pub mended : IsMended u s
+  pub fits : length u ≤ INPUT_LIMIT
 
 -- The same for every text, of any length, each law with its sentence.
 

@@ -43,6 +43,7 @@ pub mod ShownLaws
 -- for further theorems
 pub mod NameSets
 pub mod DeclaredLemmas
+pub mod FaultsPlaced
 pub mod FirstLemmas
 pub mod PassLemmas
 pub mod PassSteps

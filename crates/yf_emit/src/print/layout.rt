@@ -1,5 +1,5 @@
 //! The layout of a normal reading: one pass over its events. Columns count from 0 here.
-ghost use Rattle.std.specs.Prelude.{◌<◌, ◌≡◌, length, OnOk, IfOk};
+ghost use Rattle.std.specs.Prelude.{◌<◌, ◌≡◌, ◌≤◌, length, OnOk, IfOk};
 ghost use Rattle.std.specs.String.{string_bytes};
 ghost use Rattle.yf_stream.specs.WellFormed.{props_of};
 ghost use Rattle.yf_events.specs.Event.{event_value};
@@ -9,6 +9,7 @@ ghost use Rattle.yf_emit.specs.Printing.{work_of};
 ghost use Rattle.yf_emit.specs.Printers.{state_of};
 ghost use Rattle.yf_emit.specs.Printout.{IsPrinted};
 ghost use Rattle.yf_emit.specs.Trailing.{all_found};
+ghost use Rattle.yf_stream.specs.declared.stream.TheConstants.{LONGEST};
 
 use crate::form::decide::decide;
 use crate::form::forms::Forms;
@@ -149,7 +150,8 @@ impl Printer {
 
 /// The text that is printed of a page.
 fn text_of(page: &Page) -> Result<String, AllocError>
-    ensures { IfOk result (λ text. string_bytes text ≡ Printing.printed (work_on page.now)) }
+    ensures printed { IfOk result (λ text. string_bytes text ≡ Printing.printed (work_on page.now)) }
+    ensures within { IfOk result (λ text. length (string_bytes text) ≤ LONGEST) }
 {
     let mut printer = Printer {
         output: Output::new(page.alloc),
@@ -172,8 +174,9 @@ pub(crate) fn layout_by(
     forms: Forms,
     style: &Style,
 ) -> Result<String, AllocError>
-    ensures { IfOk result (λ text. string_bytes text
+    ensures printed { IfOk result (λ text. string_bytes text
         ≡ Printing.printed (work_of reading.now style.now measures forms (all_found reading.now measures forms))) }
+    ensures within { IfOk result (λ text. length (string_bytes text) ≤ LONGEST) }
 {
     let trails = find_trails(alloc, reading, &measures, &forms)?;
     let plan = Plan {
@@ -190,9 +193,10 @@ pub(crate) fn layout_by(
 }
 
 /// The text of a normal reading in the house style: of the normal form of a text's reading, its layout; of any other reading, what one
-/// pass over its events prints of it.
+/// pass over its events prints of it. A text of more than `LONGEST` bytes is refused as a growth of memory is.
 pub fn layout(alloc: Global, reading: &Reading, style: &Style) -> Result<String, AllocError>
-    ensures { IfOk result (λ text. IsPrinted reading.now style.now (string_bytes text)) }
+    ensures printed { IfOk result (λ text. IsPrinted reading.now style.now (string_bytes text)) }
+    ensures within { IfOk result (λ text. length (string_bytes text) ≤ LONGEST) }
 {
     let measures = measure_normal(alloc, reading, style)?;
     let forms = decide(alloc, &measures, reading, style)?;

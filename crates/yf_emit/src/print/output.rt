@@ -5,16 +5,22 @@ ghost use Rattle.yf_comments.specs.Comment.{comment_value};
 ghost use Rattle.yf_emit.specs.Drafts as Drafts;
 ghost use Rattle.yf_emit.specs.Drafts.{behind_if, between, blank_text, closed, count_to, draft, fresh, met_lines, no_draft, opened, own_line, own_line_if, own_lines, remarks, with_blank, with_trail, without_blank};
 ghost use Rattle.yf_emit.specs.Layout.{behind_two_spaces, trimmed};
+ghost use Rattle.yf_stream.specs.declared.stream.TheConstants.{LONGEST};
 
 use crate::form::comments_before::first_behind;
 use crate::print::trails::Trails;
 use crate::text::block::push_spaces;
+use crate::text::limit::limited;
 use std::alloc::{AllocError, Global};
 use yf_comments::comment::Comment;
 use yf_events::reading::Reading;
 use yf_quoted::filled::push_if_filled;
 
 /// What has been printed, and the line that is being made: comments that are met meanwhile stand before that line.
+///
+/// A text of more than `LONGEST` bytes is refused where its next line begins, and so are the lines of a block scalar: what is held has at
+/// most twice that and two lines. A line has at most `indent` bytes for each open collection, which are its column and its signs, and beside
+/// these a few for each byte of the source that stands on it: four where U+007F is written as `\x7F`.
 #[derive(Drop)]
 pub struct Output {
     text: String,
@@ -78,10 +84,11 @@ fn push_behind_if(
     Ok(())
 }
 
-/// Appends a line feed where a blank line stands.
+/// Appends a line feed where a blank line stands before the next line. A text of more than `LONGEST` bytes gets no next line.
 fn push_blank(out: &mut String, is_blank: bool) -> Result<(), AllocError>
     ensures { OnOk result (string_bytes out.new ≡ string_bytes out.old ++ blank_text is_blank) }
 {
+    limited(out.len())?;
     if is_blank {
         return out.push('\n');
     }
@@ -254,14 +261,16 @@ impl Output {
         Ok(())
     }
 
-    /// The whole text: with the last line, and after it the comments that are left.
+    /// The whole text: with the last line, and after it the comments that are left. A text of more than `LONGEST` bytes is refused.
     pub fn finish(mut self, reading: &Reading, trails: &Trails) -> Result<String, AllocError>
-        ensures { IfOk result (λ text. string_bytes text ≡ Drafts.finished
+        ensures finished { IfOk result (λ text. string_bytes text ≡ Drafts.finished
             (remarks reading.now.comments trails.now.is_trailing.items) (draft self)) }
+        ensures within { IfOk result (λ text. length (string_bytes text) ≤ LONGEST) }
     {
         self.close_line(reading, trails)?;
         self.met = reading.comments().len();
         self.push_own_lines(reading, trails, 0)?;
+        limited(self.text.len())?;
         let Output { text, .. } = self;
         Ok(text)
     }

@@ -6,6 +6,7 @@ ghost use Rattle.yf_emit.specs.BlockLines as BlockLines;
 ghost use Rattle.yf_emit.specs.BlockLines.{begins_with_space, block_lines, chomping_sign, cut_at_feeds, digit_text, header_text, is_kept_tail, line_at, style_sign, tail_lines, without_final_feeds};
 ghost use Rattle.yf_emit.specs.Layout.{ended};
 
+use crate::text::limit::limited;
 use std::alloc::AllocError;
 use yf_events::event::ScalarStyle;
 
@@ -143,10 +144,11 @@ fn push_sign(out: &mut String, text: &str) -> Result<(), AllocError>
     }
 }
 
-/// Appends a line of a block scalar at the column; an empty one has no spaces.
+/// Appends a line of a block scalar at the column; an empty one has no spaces. Lines of more than `LONGEST` bytes get no further one.
 fn push_line(out: &mut String, line: &str, column: usize) -> Result<(), AllocError>
     ensures { OnOk result (string_bytes out.new ≡ string_bytes out.old ++ ended (line_at column line.now)) }
 {
+    limited(out.len())?;
     if !line.is_empty() {
         push_spaces(out, column)?;
         out.push_str(line)?;

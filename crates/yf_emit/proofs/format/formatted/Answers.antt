@@ -1,22 +1,7 @@
 use Rattle.std.proofs.lemmas.Result.{IfOk-weaker}
-use Rattle.std.proofs.lemmas.Str.{IsUtf8-string_bytes}
 use Rattle.std.specs.String.{string_bytes}
-use Rattle.yf_emit.proofs.FormsHandedOn.{formatted_so, kept_so}
+use Rattle.yf_emit.proofs.FormsHandedOn.{kept_so}
 use Rattle.yf_emit.proofs.format.formatted.Goals as goal
-
-pub returns-clause-formatted : goal.returns-clause-formatted
-returns-clause-formatted c = λ utf8 reads.
-    IfOk-weaker c.layout_by.result _ _
-    (λ text h. formatted_so (record {
-      utf8 = utf8;
-      reads = reads;
-      measured = c.in_ok-measures.ensures;
-      decided = c.in_ok-forms.ensures;
-      restyled = c.in_ok-normal.ensures.restyled;
-      events = c.in_ok-normal.ensures.events;
-      nested = c.in_ok-normal.ensures.nested;
-    }) (string_bytes text) c.in_ok-normal.ensures.content (IsUtf8-string_bytes text) h)
-    c.layout_by.ensures
 
 pub returns-clause-keeps : goal.returns-clause-keeps
 returns-clause-keeps c = λ utf8 reads.
@@ -30,4 +15,4 @@ returns-clause-keeps c = λ utf8 reads.
       events = c.in_ok-normal.ensures.events;
       nested = c.in_ok-normal.ensures.nested;
     }) (string_bytes text) h)
-    c.layout_by.ensures
+    c.layout_by.ensures.printed

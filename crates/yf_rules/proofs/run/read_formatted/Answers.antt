@@ -1,9 +1,9 @@
-use Rattle.std.proofs.Common.{◌≡◌, ◌≤◌, ◌∙◌, List, ℕ, length, rules, subst, sym}
-use Rattle.std.proofs.lemmas.Result.{IfOk-weaker}
+use Rattle.std.proofs.Common.{◌≡◌, ◌≤◌, ◌∙◌, List, ℕ, length, rules, string_bytes, subst, sym}
+use Rattle.std.proofs.lemmas.Result.{IfErr-weaker}
 use Rattle.std.specs.Str.{IsUtf8}
 use Rattle.yf_rules.specs.Run.{Gave}
 use Rattle.yf_rules.specs.declared.run.TheConstants.{INPUT_LIMIT}
-use Rattle.yf_rules.proofs.HeadlineHolds.{headline_holds}
+use Rattle.yf_rules.proofs.FormattedLemmas.{refused_text, rendered}
 use Rattle.yf_rules.proofs.run.read_formatted.Goals as goal
 
 pub returns-clause-formatted : goal.returns-clause-formatted
@@ -13,5 +13,13 @@ returns-clause-formatted g c =
     let within_bytes : length c.in_ok-bytes.bytes.items ≤ INPUT_LIMIT = search rules in
     let within = subst (λ (t : List ℕ). length t ≤ INPUT_LIMIT) (sym same) within_bytes in
     let utf8 = subst (λ (t : List ℕ). IsUtf8 t) (sym c.in-Ok.ensures.1) c.in-Ok.ensures.0 in
-    IfOk-weaker c.format.result _ _ (λ formatted kept. record { text = c.in-Ok.text.now; gave = gave; headline = headline_holds within utf8 kept })
-    c.format.ensures.keeps
+    rendered (g.R.Read.remaining c.args.reader.now) gave within utf8 (λ formatted. string_bytes formatted) c.format.result c.format.ensures.keeps c.format.ensures.within
+
+pub returns-clause-refusals : goal.returns-clause-refusals
+returns-clause-refusals g c =
+    let same : c.in-Ok.text.now ≡ c.in_ok-bytes.bytes.items = c.in-Ok.ensures.1 ∙ c.as_slice.ensures.value in
+    let gave = subst (λ (t : List ℕ). Gave (g.R.Read.remaining c.args.reader.now) t) (sym same) c.in_ok-bytes.ensures.whole in
+    let within_bytes : length c.in_ok-bytes.bytes.items ≤ INPUT_LIMIT = search rules in
+    let within = subst (λ (t : List ℕ). length t ≤ INPUT_LIMIT) (sym same) within_bytes in
+    let utf8 = subst (λ (t : List ℕ). IsUtf8 t) (sym c.in-Ok.ensures.1) c.in-Ok.ensures.0 in
+    IfErr-weaker c.format.result _ _ (refused_text (g.R.Read.remaining c.args.reader.now) gave within utf8 c.in_ok-bytes.ensures.works) c.format.ensures.refuses

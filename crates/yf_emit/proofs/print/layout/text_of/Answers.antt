@@ -14,9 +14,9 @@ loop-i-preserved c =
     passed_on (work_on c.args.page.now) c.loop-i.i c.args.page.now.reading.now.events (placed_at c.args.page.now c.loop-i.i) _ _ _
     (stands c.args.page.now.reading.now.events c.loop-i.i no_event (omega arith)) c.in_ok-advance.ensures c.loop-i.invariant
 
-pub returns : goal.returns
-returns c =
+pub returns-clause-printed : goal.returns-clause-printed
+returns-clause-printed c =
     let past : length c.args.page.now.reading.now.events ≤ c.loop-i.i = omega arith in
     let end = passed_end (work_on c.args.page.now) c.loop-i.i c.args.page.now.reading.now.events (state_of c.loop-i.printer) _ past c.loop-i.invariant in
     subst (λ w. IfOk c.finish.result (λ text. string_bytes text ≡ finished (remarks_of (work_on c.args.page.now)) w))
-    (ap (λ (w : State). w.draft) end) c.finish.ensures
+    (ap (λ (w : State). w.draft) end) c.finish.ensures.finished
