@@ -2,7 +2,6 @@
 use Rattle.std.proofs.Common.{◌≡◌, ◌≤◌, ℕ, List, length, Bool, subst, sym}
 use Rattle.std.specs.Prelude.{Option, Result, Ok, Err, IfErr, OnOk}
 use Rattle.std.specs.Str.{IsUtf8}
-use Rattle.yf_emit.specs.FormatKept.{FormatKept}
 use Rattle.yf_emit.specs.declared.style.Style.{Style}
 use Rattle.yf_lines.specs.Output.{Broke, Writes, Wrote}
 use Rattle.yf_lines.specs.declared.fault.Fault.{Fault}
@@ -35,14 +34,6 @@ broke_formatted style known old new before after read_before read_after formatte
       },
       s,
     )
-
--- a text that was read
-module _ (known : Option (List ℕ)) {t : List ℕ} (g : Gave known t) (w : length t ≤ INPUT_LIMIT) (u : IsUtf8 t) where
-  -- what is given for it
-  pub rendered : {V E : Type 0} (style : Style) (bytes : V → List ℕ) (outcome : Result V E) → IfOk outcome (λ v. FormatKept t style (bytes v))
-      → IfOk outcome (λ v. length (bytes v) ≤ INPUT_LIMIT) → IfOk outcome (λ v. Rendered style known (bytes v))
-  rendered style bytes (Ok v) kept fits = record { text = t; gave = g; headline = headline_holds w u kept fits }
-  rendered style bytes (Err e) kept fits = tt
 
 -- a text that the reader of streams refuses
 module _ (known : Option (List ℕ)) {before after : Bool} {t : List ℕ} (g : Gave known t) (within : length t ≤ INPUT_LIMIT) (u : IsUtf8 t) (s : after ≡ before) where
