@@ -1,7 +1,7 @@
 //! The files of the program: what is read from them, and the one that is rewritten.
 ghost use Rattle.std.specs.Prelude.{◌≡◌, IfErr, OnOk};
 ghost use Rattle.yf_files.specs.Replaced.{AtAnyMoment};
-ghost use Rattle.yf_files.specs.Rewritten.{IsFormatting, LeavesRefused, Rewrote, new_name_of};
+ghost use Rattle.yf_files.specs.Rewritten.{IsFormatting, LeavesRefused, Rewrote, WhyRefused, new_name_of};
 ghost use Rattle.yf_lines.specs.declared.fault.Fault.TheVariants.{ReadFailed};
 ghost use Rattle.yamlfmt.specs.Files.{FormatsBytes, RefusesBytes, fault_of, rewrite_line};
 ghost use Rattle.yamlfmt.specs.Program.{Reached};
@@ -44,28 +44,28 @@ pub fn open<R: Files>(rt: &R, path: &str) -> Result<R::File, Fault>
 /// `format`, and `Fault::NotUtf8`; `Memory`; and `Unwritten` where another run rewrites the file, where it has changed since it
 /// was read, where nobody may write to it or its owner would change, or where the new file can't be made, written or renamed.
 /// After each of them but `Unwritten(Unsure)` the file is as it was.
-pub fn rewrite<R: Files + AllocGlobal>(
-    rt: &R,
+pub fn rewrite<R: Files + Drop>(
+    alloc: Global,
+    rt: R,
     path: &str,
     style: &Style,
 ) -> Result<(), RewriteError<Fault>>
 where
     R::File: Held,
+    ensures { IfErr result (WhyRefused RefusesBytes) }
 {
-    match resolved(rt, path) {
-        Ok(None) => rewrite_in(rt.alloc(), &mut SystemFiles::new(rt), path, style),
-        Ok(Some(file)) => {
-            rewrite_in(rt.alloc(), &mut SystemFiles::new(rt), file.as_str(), style)
-        }
+    match resolved(alloc, &rt, path) {
+        Ok(None) => rewrite_in(alloc, &mut SystemFiles::new(rt), path, style),
+        Ok(Some(file)) => rewrite_in(alloc, &mut SystemFiles::new(rt), file.as_str(), style),
         Err(error) if error.kind() == io::ErrorKind::OutOfMemory => Err(RewriteError::Memory),
         Err(_) => Err(RewriteError::Unreadable),
     }
 }
 
 // The path of what a link leads to; nothing where the path is none of a link.
-fn resolved<R: Files + AllocGlobal>(rt: &R, path: &str) -> io::Result<Option<PathBuf>> {
+fn resolved<R: Files>(alloc: Global, rt: &R, path: &str) -> io::Result<Option<PathBuf>> {
     if fs::symlink_metadata(rt, path)?.is_symlink() {
-        return Ok(Some(fs::canonicalize(rt, path)?));
+        return Ok(Some(rt.canonicalize(alloc, path)?));
     }
     Ok(None)
 }
@@ -85,6 +85,7 @@ pub fn rewrite_in<S: FileSystem>(
     ensures rewrote { S.tells → OnOk result (Rewrote (FormatsBytes style.now) (S.state files.old) (S.state files.new) file.now) }
     ensures refused { S.tells → IfErr result (LeavesRefused (FormatsBytes style.now) RefusesBytes
         (S.state files.old) (S.state files.new) file.now) }
+    ensures why { IfErr result (WhyRefused RefusesBytes) }
 {
     yf_files::rewrite(alloc, files, &InStyle { style }, file)
 }

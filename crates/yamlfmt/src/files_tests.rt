@@ -51,13 +51,13 @@ fn is_left(error: ReplaceError, wanted: Answer) -> bool {
 
 /// Whether that is the answer for the file at the path in the house style, where a step fails.
 fn answers(rt: &HostRuntime, path: &str, fails: Step, wanted: Answer) -> bool {
-    let files = (FailingFiles { host: rt, fails }, rt.alloc());
-    is_answer(&rewrite(&files, path, &Style::house()), wanted)
+    let files = FailingFiles { host: rt, fails };
+    is_answer(&rewrite(rt.alloc(), files, path, &Style::house()), wanted)
 }
 
 /// The same of the files of the system, of which no step fails.
 fn host_answers(rt: &HostRuntime, path: &str, wanted: Answer) -> bool {
-    is_answer(&rewrite(rt, path, &Style::house()), wanted)
+    is_answer(&rewrite(rt.alloc(), rt, path, &Style::house()), wanted)
 }
 
 const PATH: &str = "yamlfmt_rewrites/a.yaml";

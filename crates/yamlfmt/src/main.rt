@@ -123,7 +123,7 @@ fn run_files(rt: &HostRuntime, command: &Cmd) -> Result<u8, Fault> {
 
 /// Rewrites a file, and answers the status.
 fn rewritten(rt: &HostRuntime, path: &str, style: &Style) -> u8 {
-    match rewrite(rt, path, style) {
+    match rewrite(rt.alloc(), rt, path, style) {
         Ok(()) => GOOD,
         Err(error) => report_rewrite(&error, &mut Watched::new(rt.stderr())),
     }

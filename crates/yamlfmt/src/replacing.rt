@@ -82,16 +82,16 @@ fn answer(outcome: io::Result<()>) -> Result<(), Failed> {
 /// Each method makes the calls of the system that it is named for. What the system holds is not told, so nothing is claimed of
 /// it: that its calls do what `FileSystem` says is trusted.
 #[derive(Drop)]
-pub struct SystemFiles<'a, R: Files> {
-    rt: &'a R,
+pub struct SystemFiles<R: Files + Drop> {
+    rt: R,
     opened: Option<Opened<R::File>>,
     made: Option<R::File>,
     /// Whether no other run is at work on the file, or what stands at the new name is ours.
     is_alone: bool,
 }
 
-impl<'a, R: Files> SystemFiles<'a, R> {
-    pub fn new(rt: &'a R) -> SystemFiles<'a, R> {
+impl<R: Files + Drop> SystemFiles<R> {
+    pub fn new(rt: R) -> SystemFiles<R> {
         SystemFiles {
             rt,
             opened: None,
@@ -101,7 +101,7 @@ impl<'a, R: Files> SystemFiles<'a, R> {
     }
 }
 
-impl<R: Files> FileSystem for SystemFiles<'_, R>
+impl<R: Files + Drop> FileSystem for SystemFiles<R>
 where
     R::File: Held,
 {
@@ -112,7 +112,7 @@ where
     ghost sound = { λ _ told. absurd told };
 
     fn read(&mut self, alloc: Global, name: &str) -> Result<Vec<u8>, ReadError> {
-        let Ok(Opened { file, metadata }) = open_regular(self.rt, name) else {
+        let Ok(Opened { file, metadata }) = open_regular(&self.rt, name) else {
             return Err(ReadError::Failed);
         };
         let mut reader = Watched::new(file);
@@ -144,17 +144,17 @@ where
 
     fn confirm(&mut self, name: &str) -> Result<(), Failed> {
         match &self.opened {
-            Some(opened) => answer(require_unchanged(self.rt, name, &opened.metadata)),
+            Some(opened) => answer(require_unchanged(&self.rt, name, &opened.metadata)),
             None => Err(Failed),
         }
     }
 
     fn remove(&mut self, name: &str) -> Result<(), Failed> {
-        answer(clear(self.rt, name, self.is_alone))
+        answer(clear(&self.rt, name, self.is_alone))
     }
 
     fn make(&mut self, name: &str) -> Result<(), Failed> {
-        match make(self.rt, name) {
+        match make(&self.rt, name) {
             Ok(file) => {
                 self.made = Some(file);
                 self.is_alone = true;
@@ -186,11 +186,11 @@ where
     }
 
     fn rename(&mut self, from: &str, to: &str) -> Result<(), Failed> {
-        answer(fs::rename(self.rt, from, to))
+        answer(fs::rename(&self.rt, from, to))
     }
 
     fn store_folder(&mut self, name: &str) -> Result<(), Failed> {
-        match File::open(self.rt, folder_of(name)) {
+        match File::open(&self.rt, folder_of(name)) {
             Ok(folder) => answer(folder.sync_all()),
             Err(_) => Err(Failed),
         }

@@ -32,3 +32,8 @@ LeavesRefused Formats Refuses old new file Unreadable = IsUntouched old new × H
 LeavesRefused Formats Refuses old new file (Refused e) = IsUntouched old new × ((t : List ℕ) × (at old file ≡ Some (regular t)) × Refuses t e)
 LeavesRefused Formats Refuses old new file (Unwritten e) = HasFailed new
     × ((t u : List ℕ) × (at old file ≡ Some (regular t)) × Formats t u × Leaves old new file (new_name_of file) u e)
+
+-- why a formatter refuses, whatever the file system tells
+abbrev pub WhyRefused : {E : Type 0} → (List ℕ → E → Type 0) → RewriteError E → Type 0
+WhyRefused Refuses (Refused e) = (t : List ℕ) × Refuses t e
+WhyRefused Refuses _ = Unit {0}

@@ -1,7 +1,7 @@
 //! A file that is rewritten by a formatter.
 ghost use Rattle.std.specs.Prelude.{◌≡◌, ℕ, List, IfOk, IfErr, OnOk, string_bytes};
 ghost use Rattle.yf_files.specs.Replaced.{AtAnyMoment};
-ghost use Rattle.yf_files.specs.Rewritten.{IsFormatting, LeavesRefused, Rewrote, new_name_of};
+ghost use Rattle.yf_files.specs.Rewritten.{IsFormatting, LeavesRefused, Rewrote, WhyRefused, new_name_of};
 
 use crate::file_system::{FileSystem, ReadError};
 use crate::replacing::{ReplaceError, replace};
@@ -58,6 +58,7 @@ pub fn rewrite<S: FileSystem, F: Formatter>(
     ensures rewrote { S.tells → OnOk result (Rewrote (F.Formats formatter.now) (S.state files.old) (S.state files.new) file.now) }
     ensures refused { S.tells → IfErr result (LeavesRefused (F.Formats formatter.now) (F.Refuses formatter.now)
         (S.state files.old) (S.state files.new) file.now) }
+    ensures why { IfErr result (WhyRefused (F.Refuses formatter.now)) }
 {
     let bytes = match files.read(alloc, file) {
         Ok(bytes) => bytes,
