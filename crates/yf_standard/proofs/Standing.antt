@@ -1,74 +1,51 @@
 -- What every production of the standard stands for: a relation of the crates below, or what the lemmas on it speak of.
-use Rattle.std.proofs.Common.{◌≡◌, ◌≢◌, ℕ, zero, suc, ◌<◌, ◌≤◌, ℤ, pos, negsuc, ◌+ℤ◌, Bool, true, false, List, [], length, refl, sym, subst, ◌⊎◌, inl, inr, arith}
+use Rattle.std.proofs.Common.{◌≡◌, ◌≢◌, ℕ, ◌<◌, ◌≤◌, pos, ◌+ℤ◌, Bool, true, false, List, length, ◌⊎◌}
 use Rattle.std.specs.Prelude.{⊤}
-use Rattle.std.specs.Str.{IsUtf8}
 use Rattle.yf_chars.specs.declared.context.Ctx.{Ctx}
-use Rattle.yf_chars.specs.declared.context.Ctx.TheVariants.{BlockOut, BlockIn, FlowOut, FlowIn, BlockKey, FlowKey}
+use Rattle.yf_chars.specs.declared.context.Ctx.TheVariants.{BlockOut, BlockIn, BlockKey}
 use Rattle.yf_chars.specs.Text.{code, next}
 use Rattle.yf_lines.specs.Basic.{Break, Indent, IndentLess, SeparateInLine, FlowPrefix, LinePrefix, Empty, Folded, FlowFolded}
-use Rattle.yf_lines.specs.Basic.LinePrefix.{in_block, in_flow}
 use Rattle.yf_comments.specs.Comments.{CommentText, BreakOrEnd, LineRest, CommentLine, LineEnd, SeparateLines, Separate}
-use Rattle.yf_comments.specs.Comments.Separate.{in_key, in_node}
 use Rattle.yf_standard.specs.Notation.{Form}
 use Rattle.yf_standard.specs.Notation.Form.{b-break, b-as-line-feed, b-non-content, s-indent, s-indent-less-than, s-separate-in-line, s-line-prefix, s-block-line-prefix, s-flow-line-prefix, l-empty, b-l-trimmed, b-as-space, b-l-folded, s-flow-folded, c-nb-comment-text, b-comment, s-b-comment, l-comment, s-l-comments, s-separate, s-separate-lines, ns-plain, ns-plain-first, ns-plain-char, nb-ns-plain-in-line, ns-plain-one-line, s-ns-plain-next-line, ns-plain-multi-line}
 use Rattle.yf_standard.specs.Notation.Form.{c-ns-alias-node, c-ns-properties, e-scalar, e-node, c-single-quoted, c-double-quoted, in-flow, c-flow-sequence, ns-s-flow-seq-entries, ns-flow-seq-entry, c-flow-mapping, ns-s-flow-map-entries, ns-flow-map-entry, ns-flow-map-explicit-entry, ns-flow-map-implicit-entry, ns-flow-map-yaml-key-entry, c-ns-flow-map-empty-key-entry, c-ns-flow-map-separate-value, c-ns-flow-map-json-key-entry, c-ns-flow-map-adjacent-value, ns-flow-pair, ns-flow-pair-entry, ns-flow-pair-yaml-key-entry, c-ns-flow-pair-json-key-entry, ns-s-implicit-yaml-key, c-s-implicit-json-key, ns-flow-yaml-content, c-flow-json-content, ns-flow-content, ns-flow-yaml-node, c-flow-json-node, ns-flow-node}
 use Rattle.yf_standard.specs.Notation.Form.{c-l+literal, c-l+folded, l+block-sequence, c-l-block-seq-entry, s-l+block-indented, ns-l-compact-sequence, l+block-mapping, ns-l-block-map-entry, c-l-block-map-explicit-entry, c-l-block-map-explicit-key, l-block-map-explicit-value, ns-l-block-map-implicit-entry, ns-s-block-map-implicit-key, c-l-block-map-implicit-value, ns-l-compact-mapping, s-l+block-node, s-l+flow-in-block, s-l+block-in-block, s-l+block-scalar, s-l+block-collection, seq-space}
-use Rattle.yf_standard.specs.Productions.{rule}
-use Rattle.yf_standard.specs.Rules.{read}
-use Rattle.yf_standard.specs.Literal.{Derived}
-use Rattle.yf_standard.proofs.Reading.{FormRead, Closed, known}
 use Rattle.yf_chars.specs.Chain.{Chain}
 use Rattle.yf_lines.specs.Basic.{is_flow}
 use Rattle.yf_plain.specs.Plain.{is_plain_first, is_plain_char, PlainItem, PlainLine, PlainNext, PlainText}
-use Rattle.yf_plain.specs.Plain.PlainText.{as_key}
-use Rattle.yf_standard.proofs.Plains.{first_read, char_read, item_read, line_read, next_read, multi_read}
 use Rattle.yf_lines.specs.Basic.{is_block}
 use Rattle.yf_props.specs.Names.{Alias, Properties, AnchorChar, UriChar, TagChar, Run, Anchor, Handle, VerbatimTag, TagProperty}
 use Rattle.yf_chars.specs.Chain.{Stuck}
-use Rattle.yf_standard.specs.Characters.{c-anchor, c-alias, c-tag, ns-word-char}
+use Rattle.yf_standard.specs.Characters.{ns-word-char}
 use Rattle.yf_standard.specs.Notation.Form.{ns-uri-char, ns-tag-char, c-tag-handle, c-primary-tag-handle, c-secondary-tag-handle, c-named-tag-handle, c-ns-tag-property, c-verbatim-tag, c-ns-shorthand-tag, c-non-specific-tag, c-ns-anchor-property, ns-anchor-name}
 use Rattle.yf_standard.proofs.Reading.{Star}
 use Rattle.yf_standard.proofs.Flows.{SignOf}
-use Rattle.yf_standard.proofs.Basics.{CharOf, char_is}
-use Rattle.yf_standard.proofs.Properties.{uri_signs, uri_read, tag_char_read, handle_read, verbatim_read, tag_read, name_read, anchor_read, alias_read, properties_read}
+use Rattle.yf_standard.proofs.Basics.{CharOf}
 use Rattle.yf_quoted.specs.Quoted.{SingleQuoted, DoubleQuoted}
 use Rattle.yf_grammar.specs.Grammar.{in_flow as flow_within}
 use Rattle.yf_grammar.specs.Grammar.Production.{FlowNode, NodeOf, JsonContent, Entries, Entry, Pair, Explicit, Implicit, ValueOf, KeyOf}
-use Rattle.yf_grammar.specs.Grammar.Derives.{a_single, a_double}
 use Rattle.yf_grammar.specs.BlockScalar.{BlockScalar}
 use Rattle.yf_grammar.specs.Grammar.{least_column}
 use Rattle.yf_grammar.specs.Grammar.Production.{BlockNode, BlockIndented, BlockValue}
-use Rattle.yf_standard.proofs.Blocks.{ColumnFrom, EntryAt, EntriesAt, Question, Colon, column_read, dash_read, explicit_entry_read, implicit_entry_read, indented_read, compact_read, question_read, colon_read, value_read, flow_in_block_read, block_scalar_read, collection_read, seq_space_out_read, dash_sign, question_sign, either_key, either_scalar, either_column}
-use Rattle.yf_standard.proofs.Flows.{SomeNode, ContentOf, node_is, brackets_read, entries_read, map_entry_read, pair_read, explicit_read, key_entry_read, separate_value_read, adjacent_value_read, keyed_pair_read, key_read, yaml_node_read, json_node_read, flow_node_read, sequence_read, mapping_read, entries_signs, seq_entry_read, marked_signs, empty_key_read, colon_sign, unkeyed_read}
-use Rattle.yf_standard.proofs.Basics.{star_chain, SomeOf, Trimmed, break_read, indent_none, indent_more, less_none, less_more, separate_in_line_read, flow_prefix_read, empty_read, trimmed_read, folded_read, flow_folded_read, comment_read, b_comment_read, rest_read, l_comment_read, comments_read, separate_lines_read}
+use Rattle.yf_standard.proofs.Blocks.{ColumnFrom, EntryAt, EntriesAt, Question, Colon}
+use Rattle.yf_standard.proofs.Flows.{SomeNode, ContentOf}
+use Rattle.yf_standard.proofs.Basics.{SomeOf, Trimmed}
 use Rattle.std.specs.Prelude.{⊤}
-use Rattle.std.proofs.Common.{true≢false, ap, ◌+◌, ◌∙◌}
 use Rattle.yf_chars.specs.Class.{is_ns_char}
 use Rattle.yf_chars.specs.Escape.{NoLow}
-use Rattle.yf_lines.specs.Basic.{Clear, Forbidden}
-use Rattle.yf_lines.proofs.BasicLemmas.{clear_front, clear_back}
+use Rattle.yf_lines.specs.Basic.{Forbidden}
 use Rattle.yf_props.specs.Names.{TagPrefix}
-use Rattle.yf_block_scalar.specs.Header.{Style}
-use Rattle.yf_block_scalar.specs.Header.Style.{literal_sign, folded_sign}
 use Rattle.yf_quoted.specs.Quoted.{SingleChar, DoubleBreak}
-use Rattle.yf_quoted.specs.Quoted.DoubleBreak.{folded_break}
 use Rattle.yf_stream.specs.Stream.{Prefixes, Documents, Stream}
-use Rattle.yf_standard.specs.Characters.{c-literal, c-folded, c-byte-order-mark, c-directive, c-escape, c-double-quote, c-single-quote}
-use Rattle.yf_standard.specs.Notation.{Chomping}
-use Rattle.yf_standard.specs.Notation.Chomping.{STRIP, CLIP, KEEP}
-use Rattle.yf_standard.specs.Notation.Indicator.{GIVEN, DETECTED}
-use Rattle.yf_standard.specs.Literal.{Kind, kind}
-use Rattle.yf_standard.specs.Literal.Kind.{OPERATOR, PRODUCTION, COLLECTION}
 use Rattle.yf_standard.specs.Notation.Form.{s-indent-less-or-equal, ns-tag-prefix, c-ns-local-tag-prefix, ns-global-tag-prefix, ns-directive-name, ns-directive-parameter, ns-yaml-version, ns-yaml-directive, ns-tag-directive, ns-reserved-directive, l-directive, ns-esc-8-bit, ns-esc-16-bit, ns-esc-32-bit, c-ns-esc-char, nb-double-char, ns-double-char, nb-double-one-line, nb-ns-double-in-line, s-double-escaped, s-double-break, s-double-next-line, nb-double-multi-line, nb-double-text, c-quoted-quote, nb-single-char, ns-single-char, nb-single-one-line, nb-ns-single-in-line, s-single-next-line, nb-single-multi-line, nb-single-text, c-b-block-header, c-indentation-indicator, c-chomping-indicator, b-chomped-last, l-chomped-empty, l-strip-empty, l-keep-empty, l-trail-comments, l-nb-literal-text, s-nb-folded-text, s-nb-spaced-text, l-nb-folded-lines, l-nb-spaced-lines, l-nb-same-lines, l-nb-diff-lines, b-nb-literal-next, b-l-spaced, l-literal-content, l-folded-content, l-document-prefix, c-directives-end, c-document-end, c-forbidden, l-document-suffix, l-bare-document, l-explicit-document, l-directive-document, l-any-document, l-yaml-stream}
 use Rattle.yf_standard.proofs.Blocks.{Smaller}
 use Rattle.yf_standard.proofs.Doubles.{Lone}
-use Rattle.yf_standard.proofs.QuotedRead.{HexOf, LoneNs, LoneItems, NextRead, DoubleLines, DoubleInside, SingleNs, SingleItem, SingleRest, SingleLines, SingleInside, hex_of_read, escape_read, double_char_read, lone_items, double_next_read, double_lines_read, double_as_lines, double_as_key, double_quoted_read, single_char_read, single_item_read, single_next_read, single_lines_read, single_as_lines, single_as_key, single_quoted_read}
+use Rattle.yf_standard.proofs.QuotedRead.{HexOf, LoneNs, LoneItems, NextRead, DoubleLines, DoubleInside, SingleNs, SingleItem, SingleRest, SingleLines, SingleInside}
 use Rattle.yf_standard.proofs.Texts.{Texts}
-use Rattle.yf_standard.proofs.ScalarsRead.{AtWidth, UpTo, up_to_none, up_to_more, IndicatorRead, ChompingRead, digit_read, strip_read, keep_read, HeaderRead, header_read, SomeEnd, last_read, TrailComments, trail_comments_read, Ending, strip_empty_read, keep_empty_read, literal_text_read, NextText, next_text_read, folded_text_read, spaced_text_read, BreakEmpties, spaced_break_read, folded_lines_read, spaced_lines_read, same_lines_read, diff_lines_read, ContentRead, literal_content_read, folded_content_read}
-use Rattle.yf_standard.proofs.ScalarsWhole.{HeaderPart, scalar_read}
-use Rattle.yf_standard.proofs.DirectivesRead.{SomeChars, YamlRead, TagRead, ReservedRead, directive_read}
-use Rattle.yf_standard.proofs.PartsRead.{star_map, names_read, VersionRead, version_read, parameter_read, reserved_directive_read, yaml_directive_read, tag_directive_read, local_prefix_read, global_prefix_read, double_escaped_read, prefix_read, Three, three_read, suffix_read, round_read}
-use Rattle.yf_standard.proofs.StreamsRead.{SomeRoot, SomeExplicit, SomeDirectives, Suffix, Any, Round, directives_read, explicit_node_read, stream_read}
+use Rattle.yf_standard.proofs.ScalarsRead.{AtWidth, UpTo, IndicatorRead, ChompingRead, HeaderRead, SomeEnd, TrailComments, Ending, NextText, BreakEmpties, ContentRead}
+use Rattle.yf_standard.proofs.DirectivesRead.{SomeChars, YamlRead, TagRead, ReservedRead}
+use Rattle.yf_standard.proofs.PartsRead.{VersionRead, Three}
+use Rattle.yf_standard.proofs.StreamsRead.{SomeRoot, SomeExplicit, SomeDirectives, Suffix, Any}
 
 -- within a document's node, and outside of it
 abbrev pub On : Bool → Type 0 → Type 0

@@ -1,10 +1,9 @@
 -- The productions of YAML 1.2.2, chapters 5 to 9, in the standard's order, by its names and numbers. Those that derive one character of a
 -- set stand in `Characters`. What is not the standard's own text stands in ⟨ ⟩: a condition with a name, whose meaning is in `Rules`.
-use Rattle.std.specs.Prelude.{ℕ, zero, suc, ◌+◌, ℤ, pos, negsuc, ◌+ℤ◌, ◌-ℤ◌, ◌==◌, ◌&&◌}
-use Rattle.yf_chars.specs.declared.context.Ctx.{Ctx}
+use Rattle.std.specs.Prelude.{zero, suc, ◌+◌, pos, negsuc, ◌-ℤ◌}
 use Rattle.yf_chars.specs.declared.context.Ctx.TheVariants.{BlockOut, BlockIn, FlowOut, FlowIn, BlockKey, FlowKey}
-use Rattle.yf_standard.specs.Characters.{Set, x, ◌to◌, ◌∪◌, ◌∖◌, c-sequence-entry, c-mapping-key, c-mapping-value, c-collect-entry, c-sequence-start, c-sequence-end, c-mapping-start, c-mapping-end, c-comment, c-anchor, c-alias, c-tag, c-literal, c-folded, c-single-quote, c-double-quote, c-directive, c-indicator, c-flow-indicator, b-line-feed, b-carriage-return, b-char, nb-char, nb-json, c-byte-order-mark, s-space, s-white, ns-char, ns-dec-digit, ns-hex-digit, ns-word-char, c-escape, ns-esc-null, ns-esc-bell, ns-esc-backspace, ns-esc-horizontal-tab, ns-esc-line-feed, ns-esc-vertical-tab, ns-esc-form-feed, ns-esc-carriage-return, ns-esc-escape, ns-esc-space, ns-esc-double-quote, ns-esc-slash, ns-esc-backslash, ns-esc-next-line, ns-esc-non-breaking-space, ns-esc-line-separator, ns-esc-paragraph-separator, ns-anchor-char, ns-plain-safe}
-use Rattle.yf_standard.specs.Notation.{Form, Chomping}
+use Rattle.yf_standard.specs.Characters.{x, ◌∪◌, ◌∖◌, c-sequence-entry, c-mapping-key, c-mapping-value, c-collect-entry, c-sequence-start, c-sequence-end, c-mapping-start, c-mapping-end, c-comment, c-anchor, c-alias, c-tag, c-literal, c-folded, c-single-quote, c-double-quote, c-directive, c-indicator, c-flow-indicator, b-line-feed, b-carriage-return, b-char, nb-char, nb-json, c-byte-order-mark, s-space, s-white, ns-char, ns-dec-digit, ns-hex-digit, ns-word-char, c-escape, ns-esc-null, ns-esc-bell, ns-esc-backspace, ns-esc-horizontal-tab, ns-esc-line-feed, ns-esc-vertical-tab, ns-esc-form-feed, ns-esc-carriage-return, ns-esc-escape, ns-esc-space, ns-esc-double-quote, ns-esc-slash, ns-esc-backslash, ns-esc-next-line, ns-esc-non-breaking-space, ns-esc-line-separator, ns-esc-paragraph-separator, ns-anchor-char, ns-plain-safe}
+use Rattle.yf_standard.specs.Notation.{Form}
 use Rattle.yf_standard.specs.Notation.Chomping.{STRIP, CLIP, KEEP}
 use Rattle.yf_standard.specs.Notation.Indicator.{GIVEN, DETECTED}
 use Rattle.yf_standard.specs.Notation.Condition.{start-of-line, end-of-input, lookahead=, lookahead≠, lookbehind=, not-before-line-feed, not-behind-carriage-return, name-ends, tag-ends, reserved-name, no-line, no-comment-line, no-trail, auto-detect, is-sum, no-value, sign-ends, no-comment}
