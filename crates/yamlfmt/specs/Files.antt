@@ -4,6 +4,7 @@ use Rattle.std.specs.Str.{IsUtf8, IsValidUpTo}
 use Rattle.yf_emit.specs.declared.style.Style.{Style}
 use Rattle.yf_emit.specs.FormatKept.{FormatKept}
 use Rattle.yf_emit.specs.Formatted.{Formatted}
+use Rattle.yf_files.specs.declared.replacing.ReplaceError.{ReplaceError}
 use Rattle.yf_files.specs.declared.replacing.ReplaceError.TheVariants.{Untouched, Left, Unsure}
 use Rattle.yf_files.specs.declared.rewriting.RewriteError.{RewriteError}
 use Rattle.yf_files.specs.declared.rewriting.RewriteError.TheVariants as error
@@ -31,8 +32,14 @@ fault_of error.Unreadable = fault.ReadFailed
 fault_of (error.Refused why) = why
 fault_of (error.Unwritten _) = fault.WriteFailed
 
--- the line that is written for it
+-- the line that is written for it: what is left of a file that is not written, or not for sure
+abbrev pub unwritten_line : ReplaceError → List ℕ
+unwritten_line Untouched = fault_line fault.WriteFailed
+unwritten_line Left = codes "write failed: the .yamlfmt-new file is left\n"
+unwritten_line Unsure = codes "write failed: the new text may not survive a crash\n"
+
 abbrev pub rewrite_line : RewriteError Fault → List ℕ
-rewrite_line (error.Unwritten Left) = codes "write failed: the .yamlfmt-new file is left\n"
-rewrite_line (error.Unwritten Unsure) = codes "write failed: the new text may not survive a crash\n"
-rewrite_line why = fault_line (fault_of why)
+rewrite_line (error.Unwritten left) = unwritten_line left
+rewrite_line error.Memory = fault_line fault.Memory
+rewrite_line error.Unreadable = fault_line fault.ReadFailed
+rewrite_line (error.Refused why) = fault_line why
