@@ -56,7 +56,12 @@ fault_of error.Unreadable = fault.ReadFailed
 fault_of (error.Refused why) = why
 fault_of (error.Unwritten _) = fault.WriteFailed
 
--- the line that is written for it
+-- the line that is written for it: what is left of a file that is not written, or not for sure
+abbrev pub unwritten_line : ReplaceError → List ℕ
+unwritten_line Untouched = fault_line fault.WriteFailed
+unwritten_line Left = codes "write failed: the .yamlfmt-new file is left\n"
+unwritten_line Unsure = codes "write failed: the new text may not survive a crash\n"
+
 abbrev pub rewrite_line : RewriteError Fault → List ℕ
 rewrite_line (error.Unwritten Left) = codes "write failed: the .yamlfmt-new file is left\n"
 rewrite_line (error.Unwritten Unsure) = codes "write failed: the new text may not survive a crash\n"

@@ -116,26 +116,38 @@ pub fn report_rewrite<E: Sink>(error: &RewriteError<Fault>, error_stream: &mut E
         RewriteError::Memory => report(&Fault::Memory, error_stream),
         RewriteError::Unreadable => report(&Fault::ReadFailed, error_stream),
         RewriteError::Refused(fault) => report(fault, error_stream),
-        RewriteError::Unwritten(ReplaceError::Untouched) => report(
-            &Fault::WriteFailed,
+        RewriteError::Unwritten(left) => report_unwritten(*left, error_stream),
+    }
+}
+
+// The same of a file whose new text is not put in its place, or not for sure.
+fn report_unwritten<E: Sink>(left: ReplaceError, error_stream: &mut E) -> u8
+    ensures status { result ≡ 3 }
+    ensures line { Reached (E.contents error_stream.old) (E.contents error_stream.new)
+        (E.has_failed error_stream.old) (E.has_failed error_stream.new) (unwritten_line left) }
+{
+    match left {
+        ReplaceError::Untouched => report(&Fault::WriteFailed, error_stream),
+        ReplaceError::Left => tell(
+            b"write failed: the .yamlfmt-new file is left\n",
             error_stream,
         ),
-        RewriteError::Unwritten(ReplaceError::Left) => {
-            let _ = write_text(
-                error_stream,
-                b"write failed: the .yamlfmt-new file is left\n",
-            );
-            UNWRITTEN
-        }
-        RewriteError::Unwritten(ReplaceError::Unsure) => {
-            let _ = write_text(
-                error_stream,
-                b"write failed: the new text may not survive a crash\n",
-            );
-            UNWRITTEN
-        }
+        ReplaceError::Unsure => tell(
+            b"write failed: the new text may not survive a crash\n",
+            error_stream,
+        ),
     }
 }
 
 /// The status of a write that fails.
 const UNWRITTEN: u8 = 3;
+
+// Writes a line, and answers the status of a write that fails.
+fn tell<E: Sink>(line: &[u8], error_stream: &mut E) -> u8
+    ensures status { result ≡ 3 }
+    ensures line { Reached (E.contents error_stream.old) (E.contents error_stream.new)
+        (E.has_failed error_stream.old) (E.has_failed error_stream.new) line.now }
+{
+    let _ = write_text(error_stream, line);
+    UNWRITTEN
+}

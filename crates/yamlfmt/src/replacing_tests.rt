@@ -359,7 +359,7 @@ fn put_in_place_of_another(rt: &HostRuntime, folder: &Folder, fails: Step) -> io
     fs::set_permissions(rt, folder.path, Permissions::from_mode(0o640))?;
     chown(rt, folder.path, Some(1234), Some(2345))?;
     let files = FailingFiles { host: rt, fails };
-    Ok(is_put(rt, files, folder, Meanwhile::Nothing))
+    Ok(is_put(rt, &files, folder, Meanwhile::Nothing))
 }
 
 /// Whether the file is that user's, with its permissions.
