@@ -68,9 +68,9 @@ DoesOver tells holds input verb style status old new before after at to was is =
 abbrev pub DoesIn : Type 0 → (Input → Option (List ℕ)) → List Input → List Input → Type 0 → Rewriting → Cmd → Style → ℕ → Option (List ℕ) → Option (List ℕ) → Bool → Bool
     → Option (List ℕ) → Option (List ℕ) → Bool → Bool → Type 0
 DoesIn tells holds log opened Same Rewritten cmd style status old new before after at to was is =
-    ((cmd.write ≡ true) × ((name : List ℕ) × (cmd.file ≡ Some name) × Opens tells log opened (settings_of cmd.config) × Untouched old new before after
+    ((cmd.write ≡ true) × ((name : List ℕ) × (cmd.file ≡ Some name) × (tells → opened ≡ log) × Untouched old new before after
     × Rewritten name style status at to was is))
-    ⊎ ((cmd.write ≡ true → cmd.file ≡ None) × Same × Opens tells log opened (settings_of cmd.config ++ cmd.file ∷ [])
+    ⊎ ((cmd.write ≡ true → cmd.file ≡ None) × Same × Opens tells log opened (cmd.file ∷ [])
     × ((IsSome cmd.file × Untouched old new before after × EndsBy fault.ReadFailed status at to was is)
     ⊎ DoesOver tells holds cmd.file cmd.verb style status old new before after at to was is))
 
@@ -80,14 +80,15 @@ abbrev pub Does : Type 0 → (Input → Option (List ℕ)) → List Input → Li
 Does tells holds log opened Same Rewritten cmd status old new before after at to was is =
     ((f : Fault) × Unset tells holds cmd.config f × Same × Opens tells log opened (settings_of cmd.config) × Untouched old new before after
     × EndsBy f status at to was is)
-    ⊎ ((style : Style) × Sets tells holds cmd.config style × DoesIn tells holds log opened Same Rewritten cmd style status old new before after at to was is)
+    ⊎ ((style : Style) × (between : List Input) × Sets tells holds cmd.config style × Opens tells log between (settings_of cmd.config)
+    × DoesIn tells holds between opened Same Rewritten cmd style status old new before after at to was is)
 
 -- the words ask for a command, which is done; or for help, or they are wrong, and nothing is opened
 abbrev pub Follows : Type 0 → (Input → Option (List ℕ)) → List Input → List Input → Type 0 → Rewriting → List Text → ℕ → Option (List ℕ) → Option (List ℕ) → Bool → Bool
     → Option (List ℕ) → Option (List ℕ) → Bool → Bool → Type 0
 Follows tells holds log opened Same Rewritten words status old new before after at to was is =
     ((cmd : Cmd) × AsksFor words cmd × Does tells holds log opened Same Rewritten cmd status old new before after at to was is)
-    ⊎ ((usage : Usage) × RefusesWords words usage × Same × Opens tells log opened [] × Answered usage status old new before after at to was is)
+    ⊎ ((usage : Usage) × RefusesWords words usage × Same × (tells → opened ≡ log) × Answered usage status old new before after at to was is)
 
 -- the words are followed, and then what the writer holds back is written out
 pub record Answers (tells : Type 0) (holds : Input → Option (List ℕ)) (log opened : List Input) (Same : Type 0) (Rewritten : Rewriting) (words : List Text) (status : ℕ)

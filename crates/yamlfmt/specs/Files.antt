@@ -5,6 +5,7 @@ use Rattle.yf_emit.specs.declared.style.Style.{Style}
 use Rattle.yf_files.specs.Replaced.{AtAnyMoment}
 use Rattle.yf_files.specs.Rewritten.{IsFormatting, IsUntouched, LeavesRefused, Rewrote, WhyRefused, new_name_of}
 use Rattle.yf_files.specs.Tree.{State}
+use Rattle.yf_files.specs.declared.replacing.ReplaceError.{ReplaceError}
 use Rattle.yf_files.specs.declared.replacing.ReplaceError.TheVariants.{Untouched, Left, Unsure}
 use Rattle.yf_files.specs.declared.rewriting.RewriteError.{RewriteError}
 use Rattle.yf_files.specs.declared.rewriting.RewriteError.TheVariants as error
@@ -63,9 +64,10 @@ unwritten_line Left = codes "write failed: the .yamlfmt-new file is left\n"
 unwritten_line Unsure = codes "write failed: the new text may not survive a crash\n"
 
 abbrev pub rewrite_line : RewriteError Fault → List ℕ
-rewrite_line (error.Unwritten Left) = codes "write failed: the .yamlfmt-new file is left\n"
-rewrite_line (error.Unwritten Unsure) = codes "write failed: the new text may not survive a crash\n"
-rewrite_line why = fault_line (fault_of why)
+rewrite_line (error.Unwritten left) = unwritten_line left
+rewrite_line error.Memory = fault_line fault.Memory
+rewrite_line error.Unreadable = fault_line fault.ReadFailed
+rewrite_line (error.Refused why) = fault_line why
 
 -- what is told of a rewriting, and the status
 -- (at, to, was, is: what the stream of faults holds, and the note that it has failed)

@@ -1,7 +1,7 @@
 //! The whole program, over whatever it reads and writes: from the words of the command line to the status.
 ghost use Rattle.std.specs.Prelude.{◌≡◌, ℕ, List, Option, map, string_bytes, MatchResult};
 ghost use Rattle.yf_rules.specs.AllRules.{Are, FoundByAll, all_rules};
-ghost use Rattle.yamlfmt.specs.Answer.{Answers, Does, DoesIn, Opens, Sets, Unset, settings_of};
+ghost use Rattle.yamlfmt.specs.Answer.{Answers, Does, DoesIn, Follows, Opens, Sets, Unset, settings_of};
 ghost use Rattle.yamlfmt.specs.Files.{Rewritten};
 ghost use Rattle.yamlfmt.specs.Program.{Ran};
 
@@ -37,11 +37,31 @@ pub fn answer<I: Inputs, S: Links, W: Sink, E: Sink>(
         (W.contents writer.old) (W.contents writer.new) (W.has_failed writer.old) (W.has_failed writer.new)
         (E.contents error_stream.old) (E.contents error_stream.new) (E.has_failed error_stream.old) (E.has_failed error_stream.new) }
 {
-    let status = match parse_line(alloc, words) {
+    let status = follow(alloc, words, rules, inputs, files, writer, error_stream);
+    written_out(status, writer, error_stream)
+}
+
+// Does what the words ask for, and answers the status.
+fn follow<I: Inputs, S: Links, W: Sink, E: Sink>(
+    alloc: Global,
+    words: &[String],
+    rules: &[Box<dyn Rule>],
+    inputs: &mut I,
+    files: &mut S,
+    writer: &mut W,
+    error_stream: &mut E,
+) -> u8
+    requires all { Are (λ rule. definition rule) rules.now all_rules }
+    ensures { Follows I.tells (I.holds inputs.old) (I.opened inputs.old) (I.opened inputs.new)
+        (files.new ≡ files.old) (λ name style. Rewritten S.tells (S.state files.old) (S.state files.new) (S.leads files.old name) style)
+        (map string_bytes words.now) result
+        (W.contents writer.old) (W.contents writer.new) (W.has_failed writer.old) (W.has_failed writer.new)
+        (E.contents error_stream.old) (E.contents error_stream.new) (E.has_failed error_stream.old) (E.has_failed error_stream.new) }
+{
+    match parse_line(alloc, words) {
         Ok(command) => do_command(alloc, &command, rules, inputs, files, writer, error_stream),
         Err(usage) => answer_usage(&usage, writer, error_stream),
-    };
-    written_out(status, writer, error_stream)
+    }
 }
 
 // Does a command, in the style that its settings set.

@@ -1,7 +1,7 @@
 //! The files of the program: what is read from them, and the one that is rewritten.
 ghost use Rattle.std.specs.Prelude.{◌≡◌, ℕ, List, string_bytes, IfErr, IfOk, MatchOption};
 ghost use Rattle.yf_lines.specs.declared.fault.Fault.TheVariants.{ReadFailed};
-ghost use Rattle.yamlfmt.specs.Files.{FormatsBytes, IsUnread, RefusesBytes, Rewrites, RewritesFile, fault_of, rewrite_line};
+ghost use Rattle.yamlfmt.specs.Files.{FormatsBytes, IsUnread, RefusesBytes, Rewrites, RewritesFile, fault_of, rewrite_line, unwritten_line};
 ghost use Rattle.yamlfmt.specs.Program.{Reached};
 ghost use Rattle.yamlfmt.specs.Report.{fault_status};
 

@@ -42,10 +42,10 @@ headline_holds {t} {u} {s} within utf8 kept fits = record {
 }
 
 -- what is given of a text that was read, where it is a formatting of it that is not too long
-pub rendered_holds : {B E : Type 0} (s : Style) {known : Option (List ℕ)} {t : List ℕ} → Gave known t → length t ≤ INPUT_LIMIT → IsUtf8 t → (bytes : B → List ℕ)
+pub rendered_holds : {B E : Type 0} (s : Style) (known : Option (List ℕ)) (t : List ℕ) → Gave known t → length t ≤ INPUT_LIMIT → IsUtf8 t → (bytes : B → List ℕ)
     → (given : Result B E) → IfOk given (λ f. FormatKept t s (bytes f)) → IfOk given (λ f. length (bytes f) ≤ LONGEST) → IfOk given (λ f. Rendered s known (bytes f))
-rendered_holds s {known} {t} gave within utf8 bytes (Ok f) kept fits = record { text = t; gave = gave; headline = headline_holds within utf8 kept fits }
-rendered_holds s gave within utf8 bytes (Err e) kept fits = tt
+rendered_holds s known t gave within utf8 bytes (Ok f) kept fits = record { text = t; gave = gave; headline = headline_holds within utf8 kept fits }
+rendered_holds s known t gave within utf8 bytes (Err e) kept fits = tt
 
 pub refused_texts_have_no_reading : RefusedTextsHaveNoReading
 refused_texts_have_no_reading t fault refused other r reads = other (read_texts_have_no_fault t r fault reads refused)
