@@ -1,5 +1,5 @@
 //! The whole program over inputs in memory: its status, what it writes, and what it opens, in order.
-ghost use Rattle.std.specs.Prelude.{◌≡◌, [], None, ⊥};
+ghost use Rattle.std.specs.Prelude.{◌≡◌, [], None};
 ghost use Rattle.yf_rules.specs.AllRules.{Are, all_rules};
 
 use crate::answer::answer;

@@ -1,7 +1,7 @@
 //! yamlfmt: prints the events of a YAML stream, checks its style and rewrites it in one house style.
 #![tactic(auto)]
 
-ghost use Rattle.std.specs.Prelude.{[], None, ⊥};
+ghost use Rattle.std.specs.Prelude.{[], None};
 
 mod answer;
 #[cfg(test)]
