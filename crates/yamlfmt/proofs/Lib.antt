@@ -9,3 +9,5 @@ pub mod CommandLineLemmas
 pub mod ShownLemmas
 -- `answer`
 pub mod AnswerLemmas
+-- `rewrite`
+pub mod FilesLemmas

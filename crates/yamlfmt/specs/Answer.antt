@@ -63,16 +63,21 @@ DoesOver tells holds input verb style status old new before after at to was is =
     (known : Option (List ℕ)) × (failed : Bool) × Holds tells holds input known
     × Ran (FoundByAll style) style verb status known false failed old new before after at to was is
 
--- a command is done in a style: its file is rewritten where it asks for that, and else its input is opened. A file that can't be opened
--- can't be read.
+-- an input can't be opened, and so can't be read; or a command is done over it
+abbrev pub OpensInput : Type 0 → (Input → Option (List ℕ)) → Cmd → Style → ℕ → Option (List ℕ) → Option (List ℕ) → Bool → Bool
+    → Option (List ℕ) → Option (List ℕ) → Bool → Bool → Type 0
+OpensInput tells holds cmd style status old new before after at to was is =
+    (IsSome cmd.file × Untouched old new before after × EndsBy fault.ReadFailed status at to was is)
+    ⊎ DoesOver tells holds cmd.file cmd.verb style status old new before after at to was is
+
+-- a command is done in a style: its file is rewritten where it asks for that, and else its input is opened
 abbrev pub DoesIn : Type 0 → (Input → Option (List ℕ)) → List Input → List Input → Type 0 → Rewriting → Cmd → Style → ℕ → Option (List ℕ) → Option (List ℕ) → Bool → Bool
     → Option (List ℕ) → Option (List ℕ) → Bool → Bool → Type 0
 DoesIn tells holds log opened Same Rewritten cmd style status old new before after at to was is =
     ((cmd.write ≡ true) × ((name : List ℕ) × (cmd.file ≡ Some name) × (tells → opened ≡ log) × Untouched old new before after
     × Rewritten name style status at to was is))
     ⊎ ((cmd.write ≡ true → cmd.file ≡ None) × Same × Opens tells log opened (cmd.file ∷ [])
-    × ((IsSome cmd.file × Untouched old new before after × EndsBy fault.ReadFailed status at to was is)
-    ⊎ DoesOver tells holds cmd.file cmd.verb style status old new before after at to was is))
+    × OpensInput tells holds cmd style status old new before after at to was is)
 
 -- a command is done: its settings are refused, and its input is not opened; or it is done in the style that they set
 abbrev pub Does : Type 0 → (Input → Option (List ℕ)) → List Input → List Input → Type 0 → Rewriting → Cmd → ℕ → Option (List ℕ) → Option (List ℕ) → Bool → Bool
