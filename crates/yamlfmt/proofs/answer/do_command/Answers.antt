@@ -12,4 +12,4 @@ returns-in-Ok g c =
     (g.E.Sink.has_failed c.args.error_stream.now) (g.E.Sink.has_failed c.do_in_style.new.error_stream) now (g.I.Inputs.opened c.do_in_style.new.inputs)
     (c.do_in_style.new.files ≡ c.args.files.now) (λ name style. Rewritten g.S.FileSystem.tells (g.S.FileSystem.state c.args.files.now)
     (g.S.FileSystem.state c.do_in_style.new.files) (g.S.Links.leads c.args.files.now name) style) c.do_in_style.ensures in
-    inr (c.in-Ok.style, (now, (c.in-Ok.ensures.set, (c.in-Ok.ensures.opened, done))))
+    inr (c.in-Ok.style, now, c.in-Ok.ensures.set, c.in-Ok.ensures.opened, done)
