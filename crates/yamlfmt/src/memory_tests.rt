@@ -117,7 +117,7 @@ const CALLS: usize = 11;
 /// Whether a file is rewritten as is promised where the call of that number fails, over what another run may have left.
 fn is_rewritten(alloc: Global, call: usize, is_left: bool) -> bool {
     let made = if is_left { 8 } else { 4 };
-    let mut files = MemoryFiles::new(alloc, made + call);
+    let mut files = MemoryFiles::new(alloc, call.wrapping_add(made));
     if !put(&mut files, FILE, OLD) || is_left && !put(&mut files, NEW_NAME, OTHER) {
         return false;
     }
