@@ -36,6 +36,8 @@ mod laws_tests;
 mod limits_tests;
 #[cfg(test)]
 mod memory_tests;
+#[cfg(test)]
+mod owner_tests;
 mod program;
 #[cfg(test)]
 mod program_tests;
