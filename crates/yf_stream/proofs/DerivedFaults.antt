@@ -7,8 +7,7 @@ use Rattle.yf_lines.specs.declared.fault.Fault.{Fault}
 use Rattle.yf_events.specs.declared.lists.Lists.{Lists}
 use Rattle.yf_stream.specs.DerivedStreams.{ListsDerived, NotDerived, RefusalDerived, ShapeOr, ShapeRead}
 use Rattle.yf_stream.specs.NotedLists.{FaultAt, IsFirstBreach, NotedOr, breached as told_at, for_memory, no_stream as no_stream_at, too_deep as too_deep_at}
-use Rattle.yf_stream.specs.Refusal.{IsStreamFault}
-use Rattle.yf_stream.specs.RefusalPlaces.{DocumentsAt}
+use Rattle.yf_stream.specs.RefusalPlaces.{DocumentsAt, RefusalAt, offset_of}
 use Rattle.yf_stream.specs.StreamReader.{StreamFault, breached, for_memory as memory_refused, no_stream, too_deep}
 use Rattle.yf_stream.specs.declared.documents.Parts.{Parts}
 use Rattle.yf_stream.specs.declared.stream.Refusal.{Refusal}
@@ -37,8 +36,14 @@ not_derived_refusal t (Refusals.TooDeep offset) n = n
 pub shape_of : (t : List ℕ) (q : Parts) {r : Result (Option Refusal) AllocError} {o p : Option Refusal} → IfOk r (λ o. ShapeOr t q o) → r ≡ Ok o → o ≡ p → ShapeOr t q p
 shape_of t q i e f = subst (λ w. ShapeOr t q w) f (subst (λ z. IfOk z (λ o. ShapeOr t q o)) e i)
 
-pub fault_derived : {t : List ℕ} {refusal : Refusal} {fault : Fault} → FaultAt t refusal fault → IsStreamFault t fault → RefusalDerived t refusal → StreamFault t fault
-fault_derived for_memory i d = memory_refused
-fault_derived (no_stream_at p) i d = no_stream d i
-fault_derived (too_deep_at p) i d = too_deep d.0 d.1 i
-fault_derived (told_at f e) i d = breached d.shapes d.first (f d.place) e
+pub fault_derived : {t : List ℕ} {refusal : Refusal} {fault : Fault} → FaultAt t refusal fault → RefusalDerived t refusal → StreamFault t fault
+fault_derived for_memory d = memory_refused
+fault_derived (no_stream_at {offset = i} p) d = no_stream d (i, p)
+fault_derived (too_deep_at {offset = i} p) d = too_deep d.0 d.1 (i, p)
+fault_derived (told_at p e) d = breached d.shapes d.first p e
+
+-- a refusal is told of between characters
+pub refusal_placed : {t : List ℕ} (refusal : Refusal) → RefusalAt t refusal → RefusalDerived t refusal → IsCharBoundary t (offset_of refusal)
+refusal_placed (Refusals.Syntax offset) a d = a
+refusal_placed (Refusals.TooDeep offset) a d = a
+refusal_placed (Refusals.Breach b) a d = d.place

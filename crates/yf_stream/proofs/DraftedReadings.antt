@@ -3,13 +3,7 @@ use Rattle.std.proofs.Common.{◌≡◌, ◌∙◌, ℕ, List, Result, Ok, Err, 
 use Rattle.yf_lines.specs.declared.fault.Fault.{Fault}
 use Rattle.yf_lines.specs.declared.fault.Fault.TheVariants.{Memory}
 use Rattle.yf_events.specs.declared.lists.Lists.{Lists}
-use Rattle.yf_stream.specs.MadeReadings.{MadeOf, MadeReading}
 use Rattle.yf_stream.specs.StreamReader.{ReadsStream, TheReading, for_memory}
-use Rattle.yf_stream.proofs.MadeReadings.{refused_memory}
-
-pub made_built : (t : List ℕ) {lists draft : Lists} (r : Result Lists Fault) → MatchResult r (λ r. r ≡ lists) (λ fault. fault ≡ Memory) → lists ≡ draft → MadeOf t draft → MadeReading t r
-made_built t (Ok r) b e m = subst (λ z. MadeOf t z) (sym (b ∙ e)) m
-made_built t (Err fault) b e m = refused_memory b
 
 pub read_built : (t : List ℕ) {lists draft : Lists} (r : Result Lists Fault) → MatchResult r (λ r. r ≡ lists) (λ fault. fault ≡ Memory) → lists ≡ draft → TheReading t draft → ReadsStream t r
 read_built t (Ok r) b e m = subst (λ z. TheReading t z) (sym (b ∙ e)) m

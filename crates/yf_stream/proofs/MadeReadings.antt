@@ -1,18 +1,11 @@
 -- The lists and the breach that are made of parts, and what they are where these are those of the one shape of the text.
-use Rattle.std.proofs.Common.{◌≡◌, List, ℕ, Result, Ok, Err, sym, subst}
+use Rattle.std.proofs.Common.{List, ℕ, Result, Ok, Err}
 use Rattle.std.specs.List.{All}
 use Rattle.std.specs.Str.{IsCharBoundary, IsUtf8}
-use Rattle.yf_lines.specs.declared.fault.Fault.{Fault}
-use Rattle.yf_lines.specs.declared.fault.Fault.TheVariants.{Memory}
 use Rattle.yf_events.specs.declared.lists.Lists.{Lists}
-use Rattle.yf_stream.specs.MadeReadings.{BreachIn, MadeOf, MadeOr, NoBreach, RefusalIn, RefusedIn, refused_in}
-use Rattle.yf_stream.specs.NotedLists.{FaultAt, IsFirstBreach, Noted, NotedOr, breached as told_at, for_memory}
+use Rattle.yf_stream.specs.MadeReadings.{MadeOf, MadeOr, NoBreach, RefusalIn}
+use Rattle.yf_stream.specs.NotedLists.{IsFirstBreach, Noted, NotedOr}
 use Rattle.yf_stream.specs.RefusalPlaces.{DocumentsAt}
-use Rattle.yf_stream.specs.Stream.{Documents}
-use Rattle.yf_stream.specs.StreamReader.{StreamFault, breached, for_memory as memory_refused}
-use Rattle.yf_stream.specs.WellFormed.{Shapes}
-use Rattle.yf_stream.specs.WrittenParts.{Written}
-use Rattle.yf_stream.specs.declared.breaches.Breach.{Breach}
 use Rattle.yf_stream.specs.declared.documents.Parts.{Parts}
 use Rattle.yf_stream.specs.declared.stream.Refusal.{Refusal}
 use Rattle.yf_stream.specs.declared.stream.Refusal.TheVariants as Refusals
@@ -40,11 +33,3 @@ pub not_derived : (t : List ℕ) (refusal : Refusal) → NoBreach refusal → Re
 not_derived t (Refusals.Breach b) n = absurd n
 not_derived t (Refusals.Syntax offset) n = tt
 not_derived t (Refusals.TooDeep offset) n = tt
-
-pub refused_memory : {t : List ℕ} {fault : Fault} → fault ≡ Memory → RefusedIn t fault
-refused_memory {t} e = subst (λ z. RefusedIn t z) (sym e) (refused_in (Refusals.TooDeep 0) tt for_memory)
-
--- a fault that tells of the first breach is the one with which the text is to be refused
-pub breach_refused : {t : List ℕ} {b : Breach} {fault : Fault} {x : Documents} (i : BreachIn t b) → Shapes t x → Written t x i.parts → FaultAt t (Refusals.Breach b) fault → StreamFault t fault
-breach_refused i s w for_memory = memory_refused
-breach_refused {x = x} i s w (told_at f e) = breached s (i.told x s w) (f (i.place x s w)) e

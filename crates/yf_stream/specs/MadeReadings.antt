@@ -2,9 +2,8 @@
 -- those of the one shape of the text, the lists are its reading, and the breach is the first one in it.
 use Rattle.std.specs.Prelude.{ℕ, List, Result, MatchResult}
 use Rattle.std.specs.Str.{IsCharBoundary}
-use Rattle.yf_lines.specs.declared.fault.Fault.{Fault}
 use Rattle.yf_events.specs.declared.lists.Lists.{Lists}
-use Rattle.yf_stream.specs.NotedLists.{FaultAt, Noted}
+use Rattle.yf_stream.specs.NotedLists.{Noted}
 use Rattle.yf_stream.specs.Stream.{Documents}
 use Rattle.yf_stream.specs.StreamReader.{TheReading}
 use Rattle.yf_stream.specs.TagPass.{stream_breaches}
@@ -41,10 +40,3 @@ NoBreach (Refusals.TooDeep offset) = Unit {0}
 
 abbrev pub MadeOr : List ℕ → Result Lists Refusal → Type 0
 MadeOr t r = MatchResult r (MadeOf t) (RefusalIn t)
-
--- the fault tells of the refusal
-pub data RefusedIn (t : List ℕ) (fault : Fault) : Type 0 where
-  refused_in : (refusal : Refusal) → RefusalIn t refusal → FaultAt t refusal fault → RefusedIn t fault
-
-abbrev pub MadeReading : List ℕ → Result Lists Fault → Type 0
-MadeReading t r = MatchResult r (MadeOf t) (RefusedIn t)

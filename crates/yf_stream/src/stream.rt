@@ -3,15 +3,13 @@ ghost use Rattle.std.specs.Prelude.{◌≡◌, ◌+◌, ◌-◌, ◌<◌, ◌≤
 ghost use Rattle.std.specs.Str.{IsCharBoundary};
 ghost use Rattle.yf_events.specs.Nested.{IsStream};
 ghost use Rattle.yf_events.specs.Reading.{Fits, events_of};
-ghost use Rattle.yf_lines.specs.FaultPlaces.{InText, IsPlaceOf};
 ghost use Rattle.yf_stream.specs.DerivedParts.{no_parts};
 ghost use Rattle.yf_stream.specs.DerivedStreams.{ListsDerived, ShapeOr};
-ghost use Rattle.yf_stream.specs.MadeReadings.{MadeOr, MadeReading, NoBreach};
+ghost use Rattle.yf_stream.specs.MadeReadings.{MadeOr, NoBreach};
 ghost use Rattle.yf_stream.specs.Drafts.{drafted, lists_of, nothing_drafted};
 ghost use Rattle.yf_stream.specs.NotedLists.{FaultAt, NotedOr};
 ghost use Rattle.yf_stream.specs.PartsPlaces.{PartsAt};
-ghost use Rattle.yf_stream.specs.Refusal.{IsStreamFault};
-ghost use Rattle.yf_stream.specs.RefusalPlaces.{RefusalAt};
+ghost use Rattle.yf_stream.specs.RefusalPlaces.{RefusalAt, offset_of};
 ghost use Rattle.yf_stream.specs.StreamReader as StreamReader;
 
 use crate::between::skip_prefix;
@@ -63,8 +61,6 @@ pub const LONGEST: usize = 1 << 30;
 /// A reading is the text's and its only one, and a fault comes only for its cause (`reads`). So a reading is given of texts of `LONGEST` bytes at
 /// most (`long`).
 pub fn read_stream<'a>(alloc: Global, text: &'a str) -> Result<Reading<'a>, Fault>
-    ensures faults { IfErr result (λ fault. IsStreamFault text.now fault) }
-    ensures made { MadeReading text.now result }
     ensures reads { StreamReader.ReadsStream text.now result }
     ensures long { 2 ^ 30 < length text.now → result ≡ Err Fault.Memory }
 {
@@ -132,9 +128,8 @@ fn into_lists<'a>(draft: Draft<'a>) -> Lists<'a>
 
 // The fault with its place.
 fn fault_at(alloc: Global, text: &str, refusal: Refusal) -> Fault
-    requires { RefusalAt text.now refusal }
-    ensures stream { IsStreamFault text.now result }
-    ensures told { FaultAt text.now refusal result }
+    requires { IsCharBoundary text.now (offset_of refusal) }
+    ensures { FaultAt text.now refusal result }
 {
     let Ok(table) = LineTable::build(alloc, text) else {
         return Fault::Memory;
@@ -147,7 +142,7 @@ fn fault_at(alloc: Global, text: &str, refusal: Refusal) -> Fault
         Refusal::TooDeep(offset) => Fault::TooDeep {
             place: table.place(offset),
         },
-        Refusal::Breach(breach) => fault_of(breach, place_of(&table, text, breach.offset)),
+        Refusal::Breach(breach) => fault_of(breach, table.place(breach.offset)),
     }
 }
 
@@ -162,19 +157,6 @@ fn fault_of(breach: Breach, place: Place) -> Fault
         Kind::BadVersion => Fault::BadVersion { place },
         Kind::EscapeValue => Fault::EscapeValue { place },
     }
-}
-
-// The place of a breach. Its offset stands between characters; where the parts are not known to be those of the text, a tag's or an
-// alias's is not known to, so it is asked.
-fn place_of(table: &LineTable, text: &str, offset: usize) -> Place
-    requires { table.now.text ≡ text.now }
-    ensures within { InText text.now result }
-    ensures place { IsCharBoundary text.now offset → IsPlaceOf text.now offset result }
-{
-    if text.is_char_boundary(offset) {
-        return table.place(offset);
-    }
-    table.place(0)
 }
 
 // Drafts the stream's reading, or says why there is none.

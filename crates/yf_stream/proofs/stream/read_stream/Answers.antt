@@ -4,12 +4,10 @@ use Rattle.yf_events.specs.Reading.{Fits, events_of}
 use Rattle.yf_events.specs.declared.reading.TheConstants.{DEPTH}
 use Rattle.yf_stream.specs.DerivedStreams.{ListsDerived}
 use Rattle.yf_stream.specs.Drafts.{drafted, lists_of}
-use Rattle.yf_stream.specs.MadeReadings.{MadeOr, refused_in}
 use Rattle.yf_stream.specs.RefusalPlaces.{RefusalAt}
 use Rattle.yf_stream.specs.StreamReader.{for_memory}
-use Rattle.yf_stream.proofs.DerivedFaults.{fault_derived}
-use Rattle.yf_stream.proofs.DraftedReadings.{made_built, read_built}
-use Rattle.yf_stream.proofs.MadeReadings.{refused_memory}
+use Rattle.yf_stream.proofs.DerivedFaults.{fault_derived, refusal_placed}
+use Rattle.yf_stream.proofs.DraftedReadings.{read_built}
 use Rattle.yf_stream.proofs.NestedStreams.{reading_nests}
 use Rattle.yf_stream.proofs.stream.read_stream.Goals as goal
 
@@ -23,29 +21,22 @@ built-requires-clause-nested c =
     let read = subst (λ z. ListsDerived c.args.text.now (drafted c.fill.new.draft z)) c.in-Ok-None.field-0-is (c.in-Ok-None.ensures.reads (omega arith)) in
     subst (λ z. IsStream DEPTH (events_of z)) (sym c.into_lists.ensures) (reading_nests read.reads)
 
-pub returns-in-Ok-None-clause-made : goal.returns-in-Ok-None-clause-made
-returns-in-Ok-None-clause-made c =
-    made_built c.args.text.now c.built.result c.built.ensures c.into_lists.ensures (subst (λ z. MadeOr c.args.text.now (drafted c.fill.new.draft z)) c.in-Ok-None.field-0-is c.in-Ok-None.ensures.made)
-
 pub returns-in-Ok-None-clause-reads : goal.returns-in-Ok-None-clause-reads
 returns-in-Ok-None-clause-reads c =
     read_built c.args.text.now c.built.result c.built.ensures c.into_lists.ensures (subst (λ z. ListsDerived c.args.text.now (drafted c.fill.new.draft z)) c.in-Ok-None.field-0-is (c.in-Ok-None.ensures.reads (omega arith)))
 
-pub returns-in-Ok-Some-clause-made : goal.returns-in-Ok-Some-clause-made
-returns-in-Ok-Some-clause-made c = refused_in c.in-Ok-Some.refusal (subst (λ z. MadeOr c.args.text.now (drafted c.fill.new.draft z)) c.in-Ok-Some.field-0-is c.in-Ok-Some.ensures.made) c.fault_at.ensures.told
+pub fault_at-requires : goal.fault_at-requires
+fault_at-requires c =
+    refusal_placed c.in-Ok-Some.refusal
+    (subst (λ o. MatchOption o (Fits (lists_of c.fill.new.draft)) (λ refusal. RefusalAt c.args.text.now refusal)) c.in-Ok-Some.field-0-is c.in-Ok-Some.ensures.refusal)
+    (subst (λ z. ListsDerived c.args.text.now (drafted c.fill.new.draft z)) c.in-Ok-Some.field-0-is (c.in-Ok-Some.ensures.reads (omega arith)))
 
 pub returns-in-Ok-Some-clause-reads : goal.returns-in-Ok-Some-clause-reads
 returns-in-Ok-Some-clause-reads c =
-    fault_derived c.fault_at.ensures.told c.fault_at.ensures.stream (subst (λ z. ListsDerived c.args.text.now (drafted c.fill.new.draft z)) c.in-Ok-Some.field-0-is (c.in-Ok-Some.ensures.reads (omega arith)))
-
-pub returns-in-Err-clause-made : goal.returns-in-Err-clause-made
-returns-in-Err-clause-made c = refused_memory refl
+    fault_derived c.fault_at.ensures (subst (λ z. ListsDerived c.args.text.now (drafted c.fill.new.draft z)) c.in-Ok-Some.field-0-is (c.in-Ok-Some.ensures.reads (omega arith)))
 
 pub returns-in-Err-clause-reads : goal.returns-in-Err-clause-reads
 returns-in-Err-clause-reads c = for_memory
-
-pub returns-then-text-gt-LONGEST-clause-made : goal.returns-then-text-gt-LONGEST-clause-made
-returns-then-text-gt-LONGEST-clause-made c = refused_memory refl
 
 pub returns-then-text-gt-LONGEST-clause-reads : goal.returns-then-text-gt-LONGEST-clause-reads
 returns-then-text-gt-LONGEST-clause-reads c = for_memory
