@@ -1,9 +1,8 @@
 -- A run of events that have nothing that is to be noted, and what has been gone past before it and with it.
-use Rattle.std.proofs.Common.{◌≡◌, ℕ, zero, suc, ◌+◌, ◌≤◌, ◌<◌, Bool, true, false, List, [], ◌∷◌, ◌++◌, Option, None, drop, length, refl, sym, ap, ◌∙◌, subst, arith, append_assoc, append-nil, replicate}
+use Rattle.std.proofs.Common.{◌≡◌, ℕ, zero, suc, ◌+◌, ◌≤◌, ◌<◌, false, List, [], ◌∷◌, ◌++◌, Option, None, drop, length, refl, sym, ap, ◌∙◌, subst, arith, append_assoc, append-nil, replicate}
 use Rattle.yf_props.specs.Handles.{Declaration}
 use Rattle.yf_events.specs.Event.{EventValue, Placed, alias_node, document_ends, document_starts, mapping_ends, mapping_starts, scalar_node, sequence_ends, sequence_starts, stream_ends, stream_starts}
 use Rattle.yf_events.specs.Silent.{NamesNothing, NothingAt}
-use Rattle.yf_stream.specs.BareRun.{BarePassed}
 use Rattle.yf_stream.specs.TagPass.{AllPassed, Bare, PassTags, pass_breaches, starts_document}
 use Rattle.yf_stream.specs.declared.breaches.Breach.{Breach}
 use Rattle.yf_stream.proofs.FirstLemmas.{finds_then, found_nothing}

@@ -43,7 +43,7 @@ fault_derived (too_deep_at {offset = i} p) d = too_deep d.0 d.1 (i, p)
 fault_derived (told_at p e) d = breached d.shapes d.first p e
 
 -- a refusal is told of between characters
-pub refusal_placed : {t : List ℕ} (refusal : Refusal) → RefusalAt t refusal → RefusalDerived t refusal → IsCharBoundary t (offset_of refusal)
-refusal_placed (Refusals.Syntax offset) a d = a
-refusal_placed (Refusals.TooDeep offset) a d = a
-refusal_placed (Refusals.Breach b) a d = d.place
+pub refusal_placed : (t : List ℕ) (refusal : Refusal) → RefusalAt t refusal → RefusalDerived t refusal → IsCharBoundary t (offset_of refusal)
+refusal_placed t (Refusals.Syntax offset) a d = a
+refusal_placed t (Refusals.TooDeep offset) a d = a
+refusal_placed t (Refusals.Breach b) a d = d.place

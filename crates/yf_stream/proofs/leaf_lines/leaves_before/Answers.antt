@@ -1,4 +1,3 @@
-use Rattle.yf_stream.proofs.LeafSearches.{begun_within}
 use Rattle.yf_stream.proofs.leaf_lines.leaves_before.Goals as goal
 
 pub returns-clause-passed : goal.returns-clause-passed

@@ -1,4 +1,4 @@
-use Rattle.std.proofs.Common.{MatchOption, arith, refl, subst, sym}
+use Rattle.std.proofs.Common.{MatchOption, arith, subst, sym}
 use Rattle.yf_events.specs.Nested.{IsStream}
 use Rattle.yf_events.specs.Reading.{Fits, events_of}
 use Rattle.yf_events.specs.declared.reading.TheConstants.{DEPTH}
@@ -27,7 +27,7 @@ returns-in-Ok-None-clause-reads c =
 
 pub fault_at-requires : goal.fault_at-requires
 fault_at-requires c =
-    refusal_placed c.in-Ok-Some.refusal
+    refusal_placed c.args.text.now c.in-Ok-Some.refusal
     (subst (λ o. MatchOption o (Fits (lists_of c.fill.new.draft)) (λ refusal. RefusalAt c.args.text.now refusal)) c.in-Ok-Some.field-0-is c.in-Ok-Some.ensures.refusal)
     (subst (λ z. ListsDerived c.args.text.now (drafted c.fill.new.draft z)) c.in-Ok-Some.field-0-is (c.in-Ok-Some.ensures.reads (omega arith)))
 
