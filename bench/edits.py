@@ -5,12 +5,12 @@ Usage: bench/edits.py            writes the page
        bench/edits.py --check    fails where the page isn't as the edits are
 
 An edit, crates/NAME/must-fail/*.edit, has one line `# promise: TEXT`; edits with one text share a row. What no edit shows stands in
-docs/proving/promises.txt, a line `NAME, tab, TEXT, tab, what holds it` for each promise, where `-` for the last says that there is
-nothing to hold. With or without --check it fails where
+docs/proving/promises.txt, a line `NAME, tab, TEXT, tab, what holds it` for each promise. The last is `-` where there is nothing to
+hold, or begins with `as ` where an edit of the crate answers for it, by the same clause. With or without --check it fails where
 
 - an edit has no promise, or two; or its `old:` text isn't in its file exactly once;
 - a function in backticks isn't in the sources of the crate that promises it;
-- what should hold a promise isn't there: a test of yamlfmt, a file of them, or a file of the repository;
+- what should hold a promise isn't there: an edit of the crate, a test of yamlfmt, a file of them, or a file of the repository;
 - a crate has no row.
 
 It proves nothing: that each edit is refused is for `rt must-fail`. Not part of rt ci.
@@ -86,8 +86,10 @@ def edits(crate, wrong):
     return rows
 
 
-def is_there(holder, tests):
-    """Whether a file of the repository, a file of tests or a test has the name."""
+def is_there(holder, tests, edit_of):
+    """Whether an edit of the crate (if one is asked for), a file of the repository, a file of tests or a test has the name."""
+    if edit_of:
+        return os.path.exists(os.path.join(TOP, 'crates', edit_of, 'must-fail', holder + '.edit'))
     if '/' in holder:
         return os.path.exists(os.path.join(TOP, holder))
     below = os.path.join(TOP, 'crates', 'yamlfmt', 'src', '**', holder + '.rt')
@@ -109,8 +111,10 @@ def others(wrong):
         holders = re.findall('`([^`]+)`', held)
         if held != '-' and not holders:
             wrong.append(f'{PROMISES}:{number}: what holds it is named in backticks')
-        wrong.extend(f'{PROMISES}:{number}: there is no {holder}' for holder in holders if not is_there(holder, tests))
-        rows.setdefault(crate, []).append((promise, 'nothing to hold' if held == '-' else 'none: ' + held))
+        edit_of = crate if held.startswith('as ') else None
+        wrong.extend(f'{PROMISES}:{number}: there is no {holder}' for holder in holders if not is_there(holder, tests, edit_of))
+        shown = 'nothing to hold' if held == '-' else held if edit_of else 'none: ' + held
+        rows.setdefault(crate, []).append((promise, shown))
     return rows
 
 
