@@ -29,8 +29,9 @@ HEAD = """# Which edit shows which promise
 Made by `bench/edits.py` from the edits and from `promises.txt`; `bench/edits.py --check` fails where this page isn't as they are.
 
 An edit's name is the function and what is wrong with it. One edit answers for each promise, or for a family whose clauses have one
-shape. A function that another one's exact clause rests on needs none of its own: a wrong answer of it is refused there. How to write
-one, and what it costs: [COST](COST.md#edits).
+shape. A function that another one's exact clause rests on needs none of its own: a wrong answer of it is refused there. Where a row says
+`as ..`, such an edit was refused by the same clause when it was tried by hand; `none: ..` names what holds a promise without an edit. How
+to write one, and what it costs: [COST](COST.md#edits).
 """
 
 
