@@ -1,5 +1,5 @@
 -- The laws of what is accepted by the standard's productions hold.
-use Rattle.std.proofs.Common.{◌≡◌, ◌≤◌, ℕ, Bool, true, false, List, [], sym, ap, ◌∙◌, subst, arith, true≢false}
+use Rattle.std.proofs.Common.{◌≡◌, ℕ, Bool, true, false, List, sym, ap, ◌∙◌, subst, arith, true≢false}
 use Rattle.std.specs.Str.{IsUtf8}
 use Rattle.yf_lines.specs.FaultPlaces.{IsPlaceOf}
 use Rattle.yf_lines.specs.declared.fault.Fault.{Fault}
