@@ -25,3 +25,4 @@ pub mod Standing
 pub mod Closed
 pub mod LawsHold
 pub mod AcceptanceHolds
+pub mod AcceptanceShown
