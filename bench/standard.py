@@ -74,15 +74,18 @@ NOTES = {
 HEAD = """# The standard's productions, letter by letter
 
 Made by `bench/standard.py` from `crates/yf_standard/specs` and `bench/standard.txt`; `bench/standard.py --check` fails where this
-page is not as they are. The second column is the production as YAML 1.2.2 prints it, from memory: the published text was not at hand
-to who wrote it down, so compare it once more. The third is the clause of `Characters` or `Productions`. The fourth is what all that it
-derives with the reading rules is proved to be (`proofs/Standing.antt`, `Closed.antt`): a relation of the crates below, or what the lemmas speak of.
+page is not as they are. The second column is the production as YAML 1.2.2 prints it. It was written down from memory, since the published
+text was not at hand, and then compared with two transcriptions of the edition before by others ([DECISIONS](DECISIONS.md), "The standard's
+productions"). The third is the clause of `Characters` or `Productions`; that it is the second, operator by operator, but for the reading
+rules' conditions and six clauses, `bench/standard_lines.py` finds. The fourth is what all that it derives with the reading rules is
+proved to be (`proofs/Standing.antt`, `Closed.antt`): a relation of the crates below, or what the lemmas speak of.
 
 **What is proved** (`standard_laws` of `yf_standard`, `specs/Laws.antt`): a text that is UTF-8 has a height of at most `DEPTH` and a meaning
 with which `Stream` derives it exactly where production 211, with the reading rules and with at most `DEPTH` collections open at
 once, derives all of it. What is derived with the rules, the standard's text alone derives too (`letter` of `specs/Rules.antt`), but for
 two readings that both share: N2, and the sum n + m for n = -1. Meanings, and what must hold besides (handles, aliases,
-versions, escapes), are no matter of productions.
+versions, escapes), are no matter of productions. A text is accepted exactly where 211 so derives it and its one meaning breaches nothing
+of that (`IsStandardText` of `specs/Acceptance.antt`; `headline` of `yf_rules`).
 
 ## Notation
 
@@ -235,4 +238,5 @@ def main():
         file.write(text)
 
 
-main()
+if __name__ == "__main__":
+    main()

@@ -11,7 +11,10 @@ use Rattle.yf_emit.specs.FormatKept.{FormatKept}
 use Rattle.yf_emit.specs.declared.style.Style.{Style}
 use Rattle.yf_emit.proofs.FormatKeeps.{format_keeps}
 use Rattle.yf_emit.proofs.FormatLawsHold.{formats_exist}
-use Rattle.yf_rules.specs.Headline.{Headline, IsMended, ReadTextsAreFormatted, RefusedTextsHaveNoReading}
+use Rattle.yf_emit.proofs.FormatsRead.{formats_well}
+use Rattle.yf_standard.specs.Acceptance.{IsStandardText}
+use Rattle.yf_standard.proofs.AcceptanceHolds.{reading_is_standard, standard_texts_are_read}
+use Rattle.yf_rules.specs.Headline.{Headline, IsMended, RefusedTextsHaveNoReading, StandardTextsAreFormatted}
 use Rattle.yf_rules.specs.Rechecked.{FormattedTextsAreClean}
 use Rattle.yf_rules.specs.Run.{Gave, Rendered}
 use Rattle.yf_stream.specs.declared.stream.TheConstants.{LONGEST}
@@ -29,14 +32,20 @@ formats_are_mended t u s utf8 formats = λ rule fixable src q same lines reads o
       reads = subst (λ v. ReadingOf v q) (sym same) reads;
     }) offsets at
 
+-- what formatting gives is a stream of the standard
+formats_are_standard : (t u : List ℕ) (s : Style) → IsUtf8 t → FormatKept t s u → IsStandardText u
+formats_are_standard t u s utf8 kept = reading_is_standard (formats_well t u s utf8 kept.formats).utf8 kept.accepted.1
+
 headline_holds : {t u : List ℕ} {s : Style} → length t ≤ INPUT_LIMIT → IsUtf8 t → FormatKept t s u → length u ≤ LONGEST → Headline t s u
 headline_holds {t} {u} {s} within utf8 kept fits = record {
   within = within;
   utf8 = utf8;
+  standard = reading_is_standard utf8 kept.formats.reads;
   reading = kept.formats.reading;
   reads = readings_are_the_reading t kept.formats.reading kept.formats.reads;
   nested = reading_nests kept.formats.reads;
   kept = kept;
+  still_standard = formats_are_standard t u s utf8 kept;
   mended = formats_are_mended t u s utf8 kept.formats;
   fits = fits;
 }
@@ -50,10 +59,12 @@ rendered_holds s known t gave within utf8 bytes (Err e) kept fits = tt
 pub refused_texts_have_no_reading : RefusedTextsHaveNoReading
 refused_texts_have_no_reading t fault refused other r reads = other (read_texts_have_no_fault t r fault reads refused)
 
-pub read_texts_are_formatted : ReadTextsAreFormatted
-read_texts_are_formatted t s r utf8 reads =
-    let f = formats_exist t s r reads in
-    (f.0, format_keeps t s f.0 utf8 f.1, formats_are_mended t f.0 s utf8 f.1)
+pub standard_texts_are_formatted : StandardTextsAreFormatted
+standard_texts_are_formatted t s standard =
+    let read = (standard_texts_are_read t).0 standard in
+    let f = formats_exist t s read.0 read.1 in
+    let kept = format_keeps t s f.0 standard.utf8 f.1 in
+    (f.0, kept, formats_are_standard t f.0 s standard.utf8 kept, formats_are_mended t f.0 s standard.utf8 f.1)
 
 pub formatted_texts_are_clean : FormattedTextsAreClean
 formatted_texts_are_clean style known formatted findings rendered found =

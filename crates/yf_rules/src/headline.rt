@@ -1,21 +1,30 @@
 //! What holds of every text, for every style.
 ghost use Rattle.yf_rules.specs.AllRules.{RulesAreListed};
-ghost use Rattle.yf_rules.specs.Headline.{ReadTextsAreFormatted, RefusedTextsHaveNoReading};
+ghost use Rattle.yf_rules.specs.Headline.{RefusedTextsHaveNoReading, StandardTextsAreFormatted};
 ghost use Rattle.yf_rules.specs.Rechecked.{FormattedTextsAreClean};
+ghost use Rattle.yf_standard.specs.Acceptance.{FaultsTellOfTheStandard, StandardStreamsMeanOne, StandardTextsAreRead};
+ghost use Rattle.yf_standard.specs.Laws.{ReadTextsAreStandard};
 ghost use Rattle.yf_stream.specs.HasReading.{WellFormedTextsHaveReadings};
 ghost use Rattle.yf_stream.specs.Laws.{ReadTextsHaveNoFault, ReadingsAreOne};
 
 /// The laws of reading and of formatting, of every text and every style. It does nothing: its contract is what it is for.
 ///
-/// A text that is derived as one stream and is well-formed has a reading, and one alone. Where it has one, `read_stream` refuses
-/// it for want of memory alone; where that refuses it for another cause, it has none. Each text with a reading has a formatting in
-/// each style, which is accepted, keeps content and comments, is its own formatting, and has nothing at fault that the house style fixes.
+/// A text has a reading exactly where the standard's productions (YAML 1.2.2, chapters 5 to 9), with the reading rules, derive
+/// all of it as `l-yaml-stream` with at most `DEPTH` collections open at once, and what it means, which is one thing, breaches nothing
+/// that must hold besides (sections 5.7, 6.8, 6.9 and 7.1). Without the reading rules they derive it too. A refusal tells which
+/// of the two is wanting. A text has one reading alone. Where it has one, `read_stream` refuses it for want of memory alone; where
+/// that refuses it for another cause, it has none. Each such text has a formatting in each style, which is such a text too, keeps
+/// content and comments, is its own formatting, and has nothing at fault that the house style fixes.
 pub fn headline()
+    ensures standard { StandardTextsAreRead }
+    ensures meant { StandardStreamsMeanOne }
+    ensures letter { ReadTextsAreStandard }
+    ensures told { FaultsTellOfTheStandard }
     ensures derived { WellFormedTextsHaveReadings }
     ensures one { ReadingsAreOne }
     ensures accepted { ReadTextsHaveNoFault }
     ensures refused { RefusedTextsHaveNoReading }
-    ensures formatted { ReadTextsAreFormatted }
+    ensures formatted { StandardTextsAreFormatted }
     ensures clean { FormattedTextsAreClean }
     ensures listed { RulesAreListed }
 {}

@@ -24,3 +24,5 @@ pub mod PartsRead
 pub mod Standing
 pub mod Closed
 pub mod LawsHold
+pub mod AcceptanceHolds
+pub mod AcceptanceShown

@@ -4,3 +4,4 @@ pub mod Productions
 pub mod Literal
 pub mod Rules
 pub mod Laws
+pub mod Acceptance

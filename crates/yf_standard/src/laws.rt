@@ -1,10 +1,14 @@
 //! The laws that tie what is read here to the standard's productions.
+ghost use Rattle.yf_standard.specs.Acceptance.{FaultsTellOfTheStandard, StandardStreamsMeanOne, StandardTextsAreRead};
 ghost use Rattle.yf_standard.specs.Laws.{ForbiddenLinesAreStandard, ReadTextsAreStandard, RefusedStreamsAreNone, RulesOnlyRestrict, StandardStreamsAreDerived, StreamsAreStandard};
 
 /// Does nothing: its contract is what holds of every text. What is derived here as a stream, within the limit of
 /// open collections, is by the reading rules a stream of the standard (`l-yaml-stream`, production 211), and what is
 /// one is derived here; so no text that is refused for its syntax is one. The rules only restrict what the standard's
 /// text alone derives, so a text that is read is a stream by that too. Forbidden lines are those of production 206.
+/// What the standard derives means one thing here. A text has a reading exactly where the standard derives it and what
+/// it means breaches nothing (sections 5.7, 6.8, 6.9 and 7.1); a text that is refused with `Syntax` or `TooDeep` the
+/// standard doesn't derive, and one that is refused with another fault it does, but the text breaches what that tells.
 pub fn standard_laws()
     ensures accepted { StreamsAreStandard }
     ensures derived { StandardStreamsAreDerived }
@@ -12,4 +16,7 @@ pub fn standard_laws()
     ensures restrict { RulesOnlyRestrict }
     ensures read { ReadTextsAreStandard }
     ensures forbidden { ForbiddenLinesAreStandard }
+    ensures means { StandardStreamsMeanOne }
+    ensures texts { StandardTextsAreRead }
+    ensures faults { FaultsTellOfTheStandard }
 {}
