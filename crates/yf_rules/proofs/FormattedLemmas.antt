@@ -10,7 +10,7 @@ use Rattle.yf_stream.specs.Refusal.{IsStreamFault}
 use Rattle.yf_stream.specs.StreamReader.{StreamFault}
 use Rattle.yf_stream.proofs.FaultsPlaced.{faults_are_placed}
 use Rattle.yf_rules.specs.declared.run.TheConstants.{INPUT_LIMIT}
-use Rattle.yf_rules.specs.Run.{Gave, GaveNoStream, RefusedFmt, RefusedText, Rendered, Restyled}
+use Rattle.yf_rules.specs.Run.{Gave, GaveNoStream, RefusedFmt, RefusedRun, RefusedText, Rendered, Restyled, Untouched}
 
 pub wrote_formatted : (style : Style) (known old new : Option (List ℕ)) (before after : Bool) (formatted text : List ℕ) (outcome : Result Unit Fault)
     → Rendered style known formatted → text ≡ formatted → Writes old new before after text outcome → OnOk outcome (Restyled style known old new before after)
@@ -53,3 +53,20 @@ module _ (known : Option (List ℕ)) {before after : Bool} {t : List ℕ} (g : G
 
   pub refused_text : (fault : Fault) → StreamFault t fault → RefusedText known before after fault
   refused_text fault w = refused_for fault w (faults_are_placed t fault w)
+
+  refused_by : (Broken : Type 0) (old new : Option (List ℕ)) (was is : Bool) (fault : Fault) → StreamFault t fault → IsStreamFault t fault → Untouched old new was is
+      → RefusedRun Broken known before after old new was is fault
+  refused_by B old new was is (Syntax place what) w i n = (refused_for (Syntax place what) w i, n)
+  refused_by B old new was is (TooDeep place) w i n = (refused_for (TooDeep place) w i, n)
+  refused_by B old new was is (UnknownHandle place) w i n = (refused_for (UnknownHandle place) w i, n)
+  refused_by B old new was is (UnknownAlias place) w i n = (refused_for (UnknownAlias place) w i, n)
+  refused_by B old new was is (RepeatedDirective place) w i n = (refused_for (RepeatedDirective place) w i, n)
+  refused_by B old new was is (BadVersion place) w i n = (refused_for (BadVersion place) w i, n)
+  refused_by B old new was is (EscapeValue place) w i n = (refused_for (EscapeValue place) w i, n)
+  refused_by B old new was is Memory w i n = (refused_for Memory w i, n)
+  refused_by B old new was is _ w i n = absurd i
+
+  -- a run that has written nothing is refused so
+  pub run_refused : (Broken : Type 0) (old new : Option (List ℕ)) (was is : Bool) (fault : Fault) → StreamFault t fault → Untouched old new was is
+      → RefusedRun Broken known before after old new was is fault
+  run_refused B old new was is fault w n = refused_by B old new was is fault w (faults_are_placed t fault w) n
