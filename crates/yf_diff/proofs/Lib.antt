@@ -1,0 +1,10 @@
+-- The lemmas, each group under the function that it serves.
+
+-- `first_line`
+pub mod LineLemmas
+-- `script`
+pub mod ScriptLemmas
+-- `push_hunks`
+pub mod HunkLemmas
+-- `push_diff`
+pub mod ScriptsKept

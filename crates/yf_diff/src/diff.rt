@@ -1,0 +1,55 @@
+//! The unified diff of two texts.
+ghost use Rattle.std.specs.Prelude.{◌≡◌, ◌++◌, [], ℕ, List, IfOk};
+ghost use Rattle.yf_diff.specs.Diff.{Wrote};
+ghost use Rattle.yf_diff.specs.Unified.{unified};
+
+use crate::hunks::{any_change, push_hunks};
+use crate::line::lines;
+use crate::script::script;
+use crate::step::Step;
+use std::alloc::{AllocError, Global};
+
+/// Adds the unified diff of a script, under two names.
+fn push_script(
+    out: &mut Vec<u8>,
+    old_name: &str,
+    new_name: &str,
+    steps: &[Step<'_>],
+) -> Result<(), AllocError>
+    ensures { IfOk result (λ _. out.new.items ≡ out.old.items ++ unified old_name.now new_name.now steps.now) }
+{
+    if !any_change(steps) {
+        return Ok(());
+    }
+    out.extend_from_slice(b"--- ")?;
+    out.extend_from_slice(old_name.as_bytes())?;
+    out.extend_from_slice(b"\n+++ ")?;
+    out.extend_from_slice(new_name.as_bytes())?;
+    out.extend_from_slice(b"\n")?;
+    push_hunks(out, steps)
+}
+
+/// Adds the unified diff of an old text and a new one, as GNU `diff -u` writes it but for the times: each name stands
+/// behind its sign, `---` or `+++`. Where both texts are the same, nothing is added.
+///
+/// After an error, which tells that memory was refused, a part of the diff may have been added.
+pub fn push_diff(
+    alloc: Global,
+    out: &mut Vec<u8>,
+    old_name: &str,
+    new_name: &str,
+    old: &[u8],
+    new: &[u8],
+) -> Result<(), AllocError>
+    ensures written { IfOk result (λ _. Wrote old_name.now new_name.now old.now new.now out.old.items out.new.items) }
+    ensures same { old.now ≡ new.now → IfOk result (λ _. out.new.items ≡ out.old.items) }
+{
+    if old == new {
+        return Ok(());
+    }
+    let old_lines = lines(alloc, old)?;
+    let new_lines = lines(alloc, new)?;
+    let steps = script(alloc, &old_lines, &new_lines)?;
+    push_script(out, old_name, new_name, &steps)?;
+    Ok(())
+}

@@ -1,0 +1,13 @@
+//! Unified diffs of two texts, with three lines of context.
+//!
+//! What is written is the notation of an edit script that leads from the lines of the one text to those of the other.
+//! So it gives the new text where it is applied to the old one, whatever script was chosen.
+#![tactic(auto)]
+
+pub mod diff;
+pub mod fate;
+pub mod guide;
+pub mod hunks;
+pub mod line;
+pub mod script;
+pub mod step;

@@ -1,0 +1,93 @@
+//! Edit scripts between two texts.
+ghost use Rattle.std.specs.Prelude.{◌≡◌, ◌+◌, ◌<◌, ◌≤◌, ◌++◌, ◌∷◌, [], length, IsTrue, IfOk, is_ok, if◌then◌else◌};
+ghost use Rattle.yf_diff.specs.Script.{news, olds};
+ghost use Rattle.yf_diff.specs.Walk.{IsCommon, May};
+
+use crate::fate::Fate;
+use crate::guide::Guide;
+use crate::line::Line;
+use crate::step::Step;
+use std::alloc::{AllocError, Global};
+
+/// Whether both texts have the same line there.
+fn is_common(old: &[Line<'_>], i: usize, new: &[Line<'_>], j: usize) -> bool
+    ensures { IsTrue result → IsCommon old.now i new.now j }
+{
+    if i >= old.len() {
+        return false;
+    }
+    if j >= new.len() {
+        return false;
+    }
+    old[i].resembles(&new[j]) && old[i].text() == new[j].text()
+}
+
+/// How many lines at the ends of both texts are the same.
+fn common_end(old: &[Line<'_>], new: &[Line<'_>]) -> usize {
+    let most = old.len().min(new.len());
+    for count in 0..most {
+        if !old[old.len() - count - 1].resembles(&new[new.len() - count - 1]) {
+            return count;
+        }
+    }
+    most
+}
+
+/// What becomes of the lines at which both texts stand, one of them before its end.
+fn fate(guide: &Guide, old: &[Line<'_>], i: usize, new: &[Line<'_>], j: usize) -> Fate
+    requires left { i + j < length old.now + length new.now }
+    requires in_old { i ≤ length old.now }
+    requires in_new { j ≤ length new.now }
+    ensures { May result old.now i new.now j }
+{
+    if is_common(old, i, new, j) {
+        return Fate::Kept;
+    }
+    if i >= old.len() {
+        return Fate::Added;
+    }
+    if j >= new.len() {
+        return Fate::Dropped;
+    }
+    if guide.drops(i, j) {
+        return Fate::Dropped;
+    }
+    Fate::Added
+}
+
+/// A script that leads from the lines of one text to those of another.
+pub fn script<'a>(
+    alloc: Global,
+    old: &[Line<'a>],
+    new: &[Line<'a>],
+) -> Result<Vec<Step<'a>>, AllocError>
+    ensures olds { IfOk result (λ steps. olds steps.items ≡ old.now) }
+    ensures news { IfOk result (λ steps. news steps.items ≡ new.now) }
+{
+    let left_out = common_end(old, new);
+    let mut steps = Vec::new(alloc);
+    let mut guide = Guide::new(alloc);
+    let mut i = 0;
+    let mut j = 0;
+    while i < old.len() || j < new.len() {
+        if !guide.covers(i, j) {
+            guide = Guide::look(alloc, old, i, new, j, left_out)?;
+        }
+        match fate(&guide, old, i, new, j) {
+            Fate::Kept => {
+                steps.push(Step::new(Fate::Kept, old[i].text()))?;
+                i += 1;
+                j += 1;
+            }
+            Fate::Dropped => {
+                steps.push(Step::new(Fate::Dropped, old[i].text()))?;
+                i += 1;
+            }
+            Fate::Added => {
+                steps.push(Step::new(Fate::Added, new[j].text()))?;
+                j += 1;
+            }
+        }
+    }
+    Ok(steps)
+}
