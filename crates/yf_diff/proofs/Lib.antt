@@ -8,3 +8,5 @@ pub mod ScriptLemmas
 pub mod HunkLemmas
 -- `push_diff`
 pub mod ScriptsKept
+-- examples of the definitions, written out by hand
+mod ShownDiffs

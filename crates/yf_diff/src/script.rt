@@ -34,13 +34,21 @@ fn common_end(old: &[Line<'_>], new: &[Line<'_>]) -> usize {
 }
 
 /// What becomes of the lines at which both texts stand, one of them before its end.
-fn fate(guide: &Guide, old: &[Line<'_>], i: usize, new: &[Line<'_>], j: usize) -> Fate
+fn fate(
+    is_same: bool,
+    guide: &Guide,
+    old: &[Line<'_>],
+    i: usize,
+    new: &[Line<'_>],
+    j: usize,
+) -> Fate
     requires left { i + j < length old.now + length new.now }
     requires in_old { i ≤ length old.now }
     requires in_new { j ≤ length new.now }
+    requires same { IsTrue is_same → IsCommon old.now i new.now j }
     ensures { May result old.now i new.now j }
 {
-    if is_common(old, i, new, j) {
+    if is_same {
         return Fate::Kept;
     }
     if i >= old.len() {
@@ -70,10 +78,11 @@ pub fn script<'a>(
     let mut i = 0;
     let mut j = 0;
     while i < old.len() || j < new.len() {
-        if !guide.covers(i, j) {
+        let is_same = is_common(old, i, new, j);
+        if !is_same && !guide.covers(i, j) {
             guide = Guide::look(alloc, old, i, new, j, left_out)?;
         }
-        match fate(&guide, old, i, new, j) {
+        match fate(is_same, &guide, old, i, new, j) {
             Fate::Kept => {
                 steps.push(Step::new(Fate::Kept, old[i].text()))?;
                 i += 1;
