@@ -1,11 +1,12 @@
 //! Which lines go and come where two texts differ: by a longest common subsequence of a part of both. Nothing is
 //! promised of it: what is written is a diff of both texts whatever it answers.
 
+use crate::anchors::Anchor;
 use crate::line::Line;
 use std::alloc::{AllocError, Global};
 
 /// So many lines of each text are looked at together.
-const WINDOW: usize = 512;
+const WINDOW: usize = 256;
 
 /// The part of both texts that is looked at, and for all ends of it how many lines they have in common, in order.
 #[derive(Drop)]
@@ -41,7 +42,7 @@ fn push_row(
     let mut left = new.len();
     while left > 0 {
         left -= 1;
-        let cell = if line.resembles(&new[left]) {
+        let cell = if line.hash() == new[left].hash() {
             cell_at(cells, column).saturating_add(1)
         } else {
             before.max(cell_at(cells, column.saturating_add(1)))
@@ -92,23 +93,21 @@ impl Guide {
         }
     }
 
-    /// Looks at the old text from the line of one index on and at the new text from that of another on; so many lines at
-    /// the ends of both are left out.
+    /// Looks at the old text from one index up to another, and at the new text so.
     pub fn look(
         alloc: Global,
         old: &[Line<'_>],
-        old_from: usize,
         new: &[Line<'_>],
-        new_from: usize,
-        left_out: usize,
+        from: Anchor,
+        to: Anchor,
     ) -> Result<Guide, AllocError> {
-        let old_part = part(old, old_from, old.len().saturating_sub(left_out));
-        let new_part = part(new, new_from, new.len().saturating_sub(left_out));
+        let old_part = part(old, from.old, to.old);
+        let new_part = part(new, from.new, to.new);
         let cells = cells_of(alloc, old_part, new_part)?;
         let is_apart = cell_at(&cells, cells.len().saturating_sub(1)) == 0;
         Ok(Guide {
-            old_end: old_from.saturating_add(old_part.len()),
-            new_end: new_from.saturating_add(new_part.len()),
+            old_end: from.old.saturating_add(old_part.len()),
+            new_end: from.new.saturating_add(new_part.len()),
             width: new_part.len().saturating_add(1),
             cells,
             is_apart,

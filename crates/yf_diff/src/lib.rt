@@ -4,10 +4,12 @@
 //! So it gives the new text where it is applied to the old one, whatever script was chosen.
 #![tactic(auto)]
 
+pub mod anchors;
 pub mod diff;
 pub mod fate;
 pub mod guide;
 pub mod hunks;
 pub mod line;
 pub mod script;
+pub mod search;
 pub mod step;

@@ -6,7 +6,7 @@ use memchr::memchr;
 use std::alloc::{AllocError, Global};
 use std::marker::Model;
 
-/// A line of a text with its line feed, and a number by which lines are told apart quickly.
+/// A line of a text with its line feed, and its hash, by which lines are told apart quickly.
 #[derive(Drop)]
 pub struct Line<'a> {
     text: &'a [u8],
@@ -38,9 +38,9 @@ impl<'a> Line<'a> {
         self.text
     }
 
-    /// Whether the lines may be the same: where they are, this is true, and else it seldom is.
-    pub fn resembles(&self, other: &Line<'_>) -> bool {
-        self.hash == other.hash
+    /// A number that is the same for the same lines, and seldom else.
+    pub fn hash(&self) -> u64 {
+        self.hash
     }
 }
 

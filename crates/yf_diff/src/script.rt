@@ -3,9 +3,10 @@ ghost use Rattle.std.specs.Prelude.{◌≡◌, ◌+◌, ◌<◌, ◌≤◌, ◌+
 ghost use Rattle.yf_diff.specs.Script.{news, olds};
 ghost use Rattle.yf_diff.specs.Walk.{IsCommon, May};
 
+use crate::anchors::Anchor;
 use crate::fate::Fate;
-use crate::guide::Guide;
 use crate::line::Line;
+use crate::search::Search;
 use crate::step::Step;
 use std::alloc::{AllocError, Global};
 
@@ -19,29 +20,12 @@ fn is_common(old: &[Line<'_>], i: usize, new: &[Line<'_>], j: usize) -> bool
     if j >= new.len() {
         return false;
     }
-    old[i].resembles(&new[j]) && old[i].text() == new[j].text()
+    old[i].hash() == new[j].hash() && old[i].text() == new[j].text()
 }
 
-/// How many lines at the ends of both texts are the same.
-fn common_end(old: &[Line<'_>], new: &[Line<'_>]) -> usize {
-    let most = old.len().min(new.len());
-    for count in 0..most {
-        if !old[old.len() - count - 1].resembles(&new[new.len() - count - 1]) {
-            return count;
-        }
-    }
-    most
-}
-
-/// What becomes of the lines at which both texts stand, one of them before its end.
-fn fate(
-    is_same: bool,
-    guide: &Guide,
-    old: &[Line<'_>],
-    i: usize,
-    new: &[Line<'_>],
-    j: usize,
-) -> Fate
+/// What becomes of the lines at which both texts stand, one of them before its end: whether they are the same, and whether
+/// the old one goes before a new one comes.
+fn fate(is_same: bool, goes: bool, old: &[Line<'_>], i: usize, new: &[Line<'_>], j: usize) -> Fate
     requires left { i + j < length old.now + length new.now }
     requires in_old { i ≤ length old.now }
     requires in_new { j ≤ length new.now }
@@ -57,7 +41,7 @@ fn fate(
     if j >= new.len() {
         return Fate::Dropped;
     }
-    if guide.drops(i, j) {
+    if goes {
         return Fate::Dropped;
     }
     Fate::Added
@@ -72,17 +56,18 @@ pub fn script<'a>(
     ensures olds { IfOk result (λ steps. olds steps.items ≡ old.now) }
     ensures news { IfOk result (λ steps. news steps.items ≡ new.now) }
 {
-    let left_out = common_end(old, new);
     let mut steps = Vec::new(alloc);
-    let mut guide = Guide::new(alloc);
+    let mut search = Search::new(alloc, old, new)?;
     let mut i = 0;
     let mut j = 0;
     while i < old.len() || j < new.len() {
         let is_same = is_common(old, i, new, j);
-        if !is_same && !guide.covers(i, j) {
-            guide = Guide::look(alloc, old, i, new, j, left_out)?;
-        }
-        match fate(is_same, &guide, old, i, new, j) {
+        let goes = if is_same {
+            false
+        } else {
+            search.drops(alloc, old, new, Anchor { old: i, new: j })?
+        };
+        match fate(is_same, goes, old, i, new, j) {
             Fate::Kept => {
                 steps.push(Step::new(Fate::Kept, old[i].text()))?;
                 i += 1;

@@ -12,8 +12,8 @@ loop-i-preserved-in-Kept c =
     record {
       in_old = omega (arith, c.in-Kept.ensures.in_old);
       in_new = omega (arith, c.in-Kept.ensures.in_new);
-      old_all = old_passed c.loop-i.steps.items c.push.new.self.items c.new.result c.text.result.now c.args.old.now c.loop-i.i items (ap old_part c.new.ensures) here c.in-Kept.ensures.in_old c.loop-i.invariant.old_all;
-      new_all = new_passed c.loop-i.steps.items c.push.new.self.items c.new.result c.text.result.now c.args.new.now c.loop-i.j items (ap new_part c.new.ensures) (here ∙ c.in-Kept.ensures.same) c.in-Kept.ensures.in_new c.loop-i.invariant.new_all;
+      old_all = old_passed c.loop-i.steps.items c.push.new.self.items c.new-in-Kept.result c.text.result.now c.args.old.now c.loop-i.i items (ap old_part c.new-in-Kept.ensures) here c.in-Kept.ensures.in_old c.loop-i.invariant.old_all;
+      new_all = new_passed c.loop-i.steps.items c.push.new.self.items c.new-in-Kept.result c.text.result.now c.args.new.now c.loop-i.j items (ap new_part c.new-in-Kept.ensures) (here ∙ c.in-Kept.ensures.same) c.in-Kept.ensures.in_new c.loop-i.invariant.new_all;
     }
 
 pub loop-i-preserved-in-Dropped : goal.loop-i-preserved-in-Dropped
