@@ -11,11 +11,12 @@ pub struct Anchor {
     pub new: usize,
 }
 
-/// A line by its hash, and where it stands.
+/// A line by its hash, and where it stands in which text.
 #[derive(Clone, Copy)]
 struct Mark {
     hash: u64,
     index: usize,
+    is_old: bool,
 }
 
 /// The last of a run of anchors: its index in the new text, and its number among all.
@@ -25,63 +26,42 @@ struct Tail {
     number: usize,
 }
 
-/// The lines of these indices, by their hashes.
-fn marks(
-    alloc: Global,
-    lines: &[Line<'_>],
-    from: usize,
-    to: usize,
-) -> Result<Vec<Mark>, AllocError> {
-    let mut marks = Vec::new(alloc);
-    for index in from..to {
-        if let Some(line) = lines.get(index) {
-            marks.push(Mark {
-                hash: line.hash(),
-                index,
-            })?;
-        }
+/// Adds the lines of one text.
+fn push_marks(marks: &mut Vec<Mark>, lines: &[Line<'_>], is_old: bool) -> Result<(), AllocError> {
+    for (index, line) in lines.iter().enumerate() {
+        let hash = line.hash();
+        marks.push(Mark {
+            hash,
+            index,
+            is_old,
+        })?;
     }
-    marks.sort_by_key(|mark| mark.hash)?;
-    Ok(marks)
+    Ok(())
 }
 
-/// Whether no mark beside it has the same hash.
-fn is_single(marks: &[Mark], at: usize, hash: u64) -> bool {
-    if let Some(next) = marks.get(at.saturating_add(1)) {
-        if next.hash == hash {
-            return false;
-        }
-    }
-    if at == 0 {
-        return true;
-    }
-    match marks.get(at - 1) {
-        Some(before) => before.hash != hash,
+/// Whether there is no mark of that number with that hash.
+fn lacks(marks: &[Mark], number: usize, hash: u64) -> bool {
+    match marks.get(number) {
+        Some(mark) => mark.hash != hash,
         None => true,
     }
 }
 
-/// The lines that stand once on both sides, as they stand in the old text.
-fn pairs(alloc: Global, old: &[Mark], new: &[Mark]) -> Result<Vec<Anchor>, AllocError> {
+/// The lines that stand once in each text, of marks by rising hash, those of the old text before others.
+fn pairs(alloc: Global, marks: &[Mark]) -> Result<Vec<Anchor>, AllocError> {
     let mut pairs = Vec::new(alloc);
-    let mut i = 0;
-    let mut j = 0;
-    while i < old.len() && j < new.len() {
-        let left = old[i];
-        let right = new[j];
-        if left.hash == right.hash && is_single(old, i, left.hash) && is_single(new, j, left.hash) {
+    for number in 1..marks.len() {
+        let left = marks[number - 1];
+        let right = marks[number];
+        let is_alone = (number < 2 || lacks(marks, number - 2, left.hash))
+            && lacks(marks, number.saturating_add(1), left.hash);
+        if is_alone && left.hash == right.hash && left.is_old && !right.is_old {
             pairs.push(Anchor {
                 old: left.index,
                 new: right.index,
             })?;
         }
-        if left.hash <= right.hash {
-            i += 1;
-        } else {
-            j += 1;
-        }
     }
-    pairs.sort_by_key(|pair| pair.old)?;
     Ok(pairs)
 }
 
@@ -137,17 +117,17 @@ fn run_back(
     Ok(run)
 }
 
-/// The lines that stand once in each text between so many lines at its front and so many at its end, as many as go up
-/// in both; the last one first.
+/// The lines that stand once in each text, as many as go up in both; the last one first.
 pub fn anchors(
     alloc: Global,
     old: &[Line<'_>],
     new: &[Line<'_>],
-    front: usize,
-    end: usize,
 ) -> Result<Vec<Anchor>, AllocError> {
-    let old_marks = marks(alloc, old, front, old.len().saturating_sub(end))?;
-    let new_marks = marks(alloc, new, front, new.len().saturating_sub(end))?;
-    let pairs = pairs(alloc, &old_marks, &new_marks)?;
+    let mut marks = Vec::new(alloc);
+    push_marks(&mut marks, old, true)?;
+    push_marks(&mut marks, new, false)?;
+    marks.sort_by_key(|mark| mark.hash)?;
+    let mut pairs = pairs(alloc, &marks)?;
+    pairs.sort_by_key(|pair| pair.old)?;
     rising(alloc, &pairs)
 }

@@ -10,43 +10,18 @@ use std::alloc::{AllocError, Global};
 pub struct Search {
     /// The lines to be kept that are still ahead, the next one last.
     ahead: Vec<Anchor>,
-    /// Where the lines begin with which both texts end.
+    /// Where both texts end.
     ends: Anchor,
     guide: Guide,
 }
 
-/// How many lines at the fronts of both texts are the same.
-fn common_front(old: &[Line<'_>], new: &[Line<'_>]) -> usize {
-    let most = old.len().min(new.len());
-    for count in 0..most {
-        if old[count].hash() != new[count].hash() {
-            return count;
-        }
-    }
-    most
-}
-
-/// How many of so many lines at the ends of both texts are the same.
-fn common_end(old: &[Line<'_>], new: &[Line<'_>], most: usize) -> usize {
-    let most = most.min(old.len()).min(new.len());
-    for count in 0..most {
-        if old[old.len() - count - 1].hash() != new[new.len() - count - 1].hash() {
-            return count;
-        }
-    }
-    most
-}
-
 impl Search {
     pub fn new(alloc: Global, old: &[Line<'_>], new: &[Line<'_>]) -> Result<Search, AllocError> {
-        let front = common_front(old, new);
-        let rest = old.len().min(new.len()).saturating_sub(front);
-        let end = common_end(old, new, rest);
         Ok(Search {
-            ahead: anchors(alloc, old, new, front, end)?,
+            ahead: anchors(alloc, old, new)?,
             ends: Anchor {
-                old: old.len().saturating_sub(end),
-                new: new.len().saturating_sub(end),
+                old: old.len(),
+                new: new.len(),
             },
             guide: Guide::new(alloc),
         })
