@@ -8,5 +8,6 @@ pub mod ScriptLemmas
 pub mod HunkLemmas
 -- `push_diff`
 pub mod ScriptsKept
+pub mod SilentDiffs
 -- examples of the definitions, written out by hand
 mod ShownDiffs

@@ -2,7 +2,7 @@
 use Rattle.std.proofs.Common.{◌≡◌, ℕ, false, List, [], ◌∷◌, refl, ap, append-nil}
 use Rattle.yf_diff.specs.Script.{Edit, kept, olds, news, has_change}
 use Rattle.yf_diff.specs.Texts.{lines_of}
-use Rattle.yf_diff.specs.Diff.{Wrote}
+use Rattle.yf_diff.specs.Diff.{AddsDiff}
 
 all_kept : List (List ℕ) → List Edit
 all_kept [] = []
@@ -24,8 +24,8 @@ none_changed [] = refl
 none_changed (line ∷ lines) = none_changed lines
 
 -- of one text nothing is written
-pub nothing_wrote : (old_name new_name old new before : List ℕ) → old ≡ new → Wrote old_name new_name old new before before
-nothing_wrote old_name new_name old new before e = record {
+pub nothing_added : (old_name new_name old new before : List ℕ) → old ≡ new → AddsDiff old_name new_name old new before before
+nothing_added old_name new_name old new before e = record {
   script = all_kept (lines_of old);
   olds = olds_kept (lines_of old);
   news = rw (← e) (news_kept (lines_of old));

@@ -1,6 +1,6 @@
 //! The unified diff of two texts.
 ghost use Rattle.std.specs.Prelude.{◌≡◌, ◌++◌, [], ℕ, List, IfOk};
-ghost use Rattle.yf_diff.specs.Diff.{Wrote};
+ghost use Rattle.yf_diff.specs.Diff.{AddsDiff};
 ghost use Rattle.yf_diff.specs.Unified.{unified};
 
 use crate::hunks::{any_change, push_hunks};
@@ -30,7 +30,7 @@ fn push_script(
 }
 
 /// Adds the unified diff of an old text and a new one, as GNU `diff -u` writes it but for the times: each name stands
-/// behind its sign, `---` or `+++`. Where both texts are the same, nothing is added.
+/// behind its sign, `---` or `+++`. Exactly where both texts are the same, nothing is added.
 ///
 /// After an error, which tells that memory was refused, a part of the diff may have been added.
 pub fn push_diff(
@@ -41,7 +41,8 @@ pub fn push_diff(
     old: &[u8],
     new: &[u8],
 ) -> Result<(), AllocError>
-    ensures written { IfOk result (λ _. Wrote old_name.now new_name.now old.now new.now out.old.items out.new.items) }
+    ensures written { IfOk result (λ _. AddsDiff old_name.now new_name.now old.now new.now out.old.items out.new.items) }
+    ensures told { IfOk result (λ _. out.new.items ≡ out.old.items → old.now ≡ new.now) }
     ensures same { old.now ≡ new.now → IfOk result (λ _. out.new.items ≡ out.old.items) }
 {
     if old == new {
