@@ -18,4 +18,4 @@ shown_at script at old_before new_before x l e is =
     rw (split, e) refl
 
 pub text_shown : (before middle after : List ℕ) (script : List Edit) (at old_before new_before : ℕ) (x : Edit) → at < length script → is_shown script at ≡ true → x ≡ get_or script at x → middle ≡ before ++ head_text script at old_before new_before (drop at script) → after ≡ middle ++ edit_text x → after ≡ before ++ text_at script at old_before new_before (drop at script)
-text_shown before middle after script at old_before new_before x l e is head text = rw (text, head, append_assoc, shown_at script at old_before new_before x l e is) refl
+text_shown before middle after script at old_before new_before x l e is head text = rw (text, head, shown_at script at old_before new_before x l e is) (append_assoc before (head_text script at old_before new_before (drop at script)) (edit_text x))

@@ -3,8 +3,8 @@ ghost use Rattle.std.specs.Prelude.{◌≡◌, ◌++◌, [], ℕ, List, IfOk};
 ghost use Rattle.yf_diff.specs.Diff.{AddsDiff};
 ghost use Rattle.yf_diff.specs.Unified.{unified};
 
+use crate::hashed_line::hashed_lines;
 use crate::hunks::{any_change, push_hunks};
-use crate::line::lines;
 use crate::script::script;
 use crate::step::Step;
 use std::alloc::{AllocError, Global};
@@ -48,8 +48,8 @@ pub fn push_diff(
     if old == new {
         return Ok(());
     }
-    let old_lines = lines(alloc, old)?;
-    let new_lines = lines(alloc, new)?;
+    let old_lines = hashed_lines(alloc, old)?;
+    let new_lines = hashed_lines(alloc, new)?;
     let steps = script(alloc, &old_lines, &new_lines)?;
     push_script(out, old_name, new_name, &steps)?;
     Ok(())

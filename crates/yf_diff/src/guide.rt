@@ -1,8 +1,8 @@
 //! Which lines go and come where two texts differ: by a longest common subsequence of a part of both. Nothing is
 //! promised of it: what is written is a diff of both texts whatever it answers.
 
-use crate::anchors::Anchor;
-use crate::line::Line;
+use crate::hashed_line::HashedLine;
+use crate::single_lines::Indices;
 use std::alloc::{AllocError, Global};
 
 /// So many lines of each text are looked at together.
@@ -33,8 +33,8 @@ fn cell_at(cells: &[u16], index: usize) -> u16 {
 fn push_row(
     cells: &mut Vec<u16>,
     above: usize,
-    line: &Line<'_>,
-    new: &[Line<'_>],
+    line: &HashedLine<'_>,
+    new: &[HashedLine<'_>],
 ) -> Result<(), AllocError> {
     cells.push(0)?;
     let mut before = 0;
@@ -55,7 +55,11 @@ fn push_row(
 }
 
 /// The cells of two parts.
-fn cells_of(alloc: Global, old: &[Line<'_>], new: &[Line<'_>]) -> Result<Vec<u16>, AllocError> {
+fn cells_of(
+    alloc: Global,
+    old: &[HashedLine<'_>],
+    new: &[HashedLine<'_>],
+) -> Result<Vec<u16>, AllocError> {
     let mut cells = Vec::new(alloc);
     for _ in 0..new.len() {
         cells.push(0)?;
@@ -73,7 +77,7 @@ fn cells_of(alloc: Global, old: &[Line<'_>], new: &[Line<'_>]) -> Result<Vec<u16
 }
 
 /// At most `WINDOW` of the lines from that index on, and none from `end` on.
-fn part<'a, 'b>(lines: &'b [Line<'a>], from: usize, end: usize) -> &'b [Line<'a>] {
+fn part<'a, 'b>(lines: &'b [HashedLine<'a>], from: usize, end: usize) -> &'b [HashedLine<'a>] {
     let to = lines.len().min(end).min(from.saturating_add(WINDOW));
     if from > to {
         return &lines[..0];
@@ -96,10 +100,10 @@ impl Guide {
     /// Looks at the old text from one index up to another, and at the new text so.
     pub fn look(
         alloc: Global,
-        old: &[Line<'_>],
-        new: &[Line<'_>],
-        from: Anchor,
-        to: Anchor,
+        old: &[HashedLine<'_>],
+        new: &[HashedLine<'_>],
+        from: Indices,
+        to: Indices,
     ) -> Result<Guide, AllocError> {
         let old_part = part(old, from.old, to.old);
         let new_part = part(new, from.new, to.new);

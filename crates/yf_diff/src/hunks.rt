@@ -44,14 +44,14 @@ fn begins_hunk(steps: &[Step<'_>], at: usize) -> bool
 
 /// How many lines of both texts a hunk has.
 #[derive(Clone, Copy)]
-struct Counts {
+struct LineCounts {
     old: usize,
     new: usize,
 }
 
 /// How many lines of both texts the hunk has that begins at a step.
 #[tactic(auto, using(crate::proofs::HunkLemmas::hunk_ended))]
-fn counts_from(steps: &[Step<'_>], first: usize) -> Counts
+fn counts_from(steps: &[Step<'_>], first: usize) -> LineCounts
     requires { first < length steps.now }
     ensures old { result.old ≡ length (olds (hunk steps.now first (drop first steps.now))) }
     ensures new { result.new ≡ length (news (hunk steps.now first (drop first steps.now))) }
@@ -61,13 +61,13 @@ fn counts_from(steps: &[Step<'_>], first: usize) -> Counts
     let mut at = first;
     while at < steps.len() {
         if !is_written(steps, at) {
-            return Counts { old, new };
+            return LineCounts { old, new };
         }
         old += steps[at].old_count();
         new += steps[at].new_count();
         at += 1;
     }
-    Counts { old, new }
+    LineCounts { old, new }
 }
 
 /// Adds a number in decimal digits.

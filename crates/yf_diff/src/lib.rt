@@ -4,12 +4,12 @@
 //! So it gives the new text where it is applied to the old one, whatever script was chosen.
 #![tactic(auto)]
 
-pub mod anchors;
 pub mod diff;
 pub mod fate;
 pub mod guide;
+pub mod hashed_line;
 pub mod hunks;
-pub mod line;
 pub mod script;
 pub mod search;
+pub mod single_lines;
 pub mod step;

@@ -3,15 +3,15 @@ ghost use Rattle.std.specs.Prelude.{◌≡◌, ◌+◌, ◌<◌, ◌≤◌, ◌+
 ghost use Rattle.yf_diff.specs.Script.{news, olds};
 ghost use Rattle.yf_diff.specs.Walk.{IsCommon, May};
 
-use crate::anchors::Anchor;
 use crate::fate::Fate;
-use crate::line::Line;
+use crate::hashed_line::HashedLine;
 use crate::search::Search;
+use crate::single_lines::Indices;
 use crate::step::Step;
 use std::alloc::{AllocError, Global};
 
 /// Whether both texts have the same line there.
-fn is_common(old: &[Line<'_>], i: usize, new: &[Line<'_>], j: usize) -> bool
+fn is_common(old: &[HashedLine<'_>], i: usize, new: &[HashedLine<'_>], j: usize) -> bool
     ensures { IsTrue result → IsCommon old.now i new.now j }
 {
     if i >= old.len() {
@@ -25,7 +25,14 @@ fn is_common(old: &[Line<'_>], i: usize, new: &[Line<'_>], j: usize) -> bool
 
 /// What becomes of the lines at which both texts stand, one of them before its end: whether they are the same, and whether
 /// the old one goes before a new one comes.
-fn fate(is_same: bool, goes: bool, old: &[Line<'_>], i: usize, new: &[Line<'_>], j: usize) -> Fate
+fn fate(
+    is_same: bool,
+    goes: bool,
+    old: &[HashedLine<'_>],
+    i: usize,
+    new: &[HashedLine<'_>],
+    j: usize,
+) -> Fate
     requires left { i + j < length old.now + length new.now }
     requires in_old { i ≤ length old.now }
     requires in_new { j ≤ length new.now }
@@ -50,8 +57,8 @@ fn fate(is_same: bool, goes: bool, old: &[Line<'_>], i: usize, new: &[Line<'_>],
 /// A script that leads from the lines of one text to those of another.
 pub fn script<'a>(
     alloc: Global,
-    old: &[Line<'a>],
-    new: &[Line<'a>],
+    old: &[HashedLine<'a>],
+    new: &[HashedLine<'a>],
 ) -> Result<Vec<Step<'a>>, AllocError>
     ensures olds { IfOk result (λ steps. olds steps.items ≡ old.now) }
     ensures news { IfOk result (λ steps. news steps.items ≡ new.now) }
@@ -65,7 +72,7 @@ pub fn script<'a>(
         let goes = if is_same {
             false
         } else {
-            search.drops(alloc, old, new, Anchor { old: i, new: j })?
+            search.drops(alloc, old, new, Indices { old: i, new: j })?
         };
         match fate(is_same, goes, old, i, new, j) {
             Fate::Kept => {

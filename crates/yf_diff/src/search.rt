@@ -1,25 +1,29 @@
 //! The search for lines that two texts have in common. Nothing is promised of it.
 
-use crate::anchors::{Anchor, anchors};
 use crate::guide::Guide;
-use crate::line::Line;
+use crate::hashed_line::HashedLine;
+use crate::single_lines::{Indices, single_lines};
 use std::alloc::{AllocError, Global};
 
 /// How the search stands.
 #[derive(Drop)]
 pub struct Search {
     /// The lines to be kept that are still ahead, the next one last.
-    ahead: Vec<Anchor>,
+    ahead: Vec<Indices>,
     /// Where both texts end.
-    ends: Anchor,
+    ends: Indices,
     guide: Guide,
 }
 
 impl Search {
-    pub fn new(alloc: Global, old: &[Line<'_>], new: &[Line<'_>]) -> Result<Search, AllocError> {
+    pub fn new(
+        alloc: Global,
+        old: &[HashedLine<'_>],
+        new: &[HashedLine<'_>],
+    ) -> Result<Search, AllocError> {
         Ok(Search {
-            ahead: anchors(alloc, old, new)?,
-            ends: Anchor {
+            ahead: single_lines(alloc, old, new)?,
+            ends: Indices {
                 old: old.len(),
                 new: new.len(),
             },
@@ -27,12 +31,12 @@ impl Search {
         })
     }
 
-    /// The next lines to be kept from a place on, or else the ends.
-    fn next(&mut self, place: Anchor) -> Anchor {
+    /// The next line to be kept from a place on, or else where both texts end.
+    fn next(&mut self, place: Indices) -> Indices {
         for _ in 0..self.ahead.len() {
-            if let Some(anchor) = self.ahead.last() {
-                if anchor.old >= place.old && anchor.new >= place.new {
-                    return *anchor;
+            if let Some(line) = self.ahead.last() {
+                if line.old >= place.old && line.new >= place.new {
+                    return *line;
                 }
             }
             let _passed = self.ahead.pop();
@@ -44,9 +48,9 @@ impl Search {
     pub fn drops(
         &mut self,
         alloc: Global,
-        old: &[Line<'_>],
-        new: &[Line<'_>],
-        place: Anchor,
+        old: &[HashedLine<'_>],
+        new: &[HashedLine<'_>],
+        place: Indices,
     ) -> Result<bool, AllocError> {
         if !self.guide.covers(place.old, place.new) {
             let to = self.next(place);

@@ -2,7 +2,7 @@
 use Rattle.std.proofs.Common.{add-one, length, arith}
 use Rattle.std.proofs.lemmas.List.{take_all, drop_all}
 use Rattle.yf_diff.proofs.LineLemmas.{line_to_feed, line_to_end}
-use Rattle.yf_diff.proofs.line.first_line.Goals as goal
+use Rattle.yf_diff.proofs.hashed_line.first_line.Goals as goal
 
 pub returns-in-Some-clause-line : goal.returns-in-Some-clause-line
 returns-in-Some-clause-line c = rw add-one (line_to_feed c.args.text.now c.in-Some.at c.in-Some.ensures.0.high c.in-Some.ensures.0.before c.in-Some.ensures.1)

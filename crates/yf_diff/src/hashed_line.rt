@@ -8,12 +8,12 @@ use std::marker::Model;
 
 /// A line of a text with its line feed, and its hash, by which lines are told apart quickly.
 #[derive(Drop)]
-pub struct Line<'a> {
+pub struct HashedLine<'a> {
     text: &'a [u8],
     hash: u64,
 }
 
-impl<'a> Model for Line<'a> {
+impl<'a> Model for HashedLine<'a> {
     ghost use Rattle.std.specs.Prelude.{List, ℕ};
 
     ghost Value = { List ℕ };
@@ -21,15 +21,15 @@ impl<'a> Model for Line<'a> {
     ghost view = { λ line. line.text.now };
 }
 
-impl<'a> Line<'a> {
-    pub fn new(text: &'a [u8]) -> Line<'a>
+impl<'a> HashedLine<'a> {
+    pub fn new(text: &'a [u8]) -> HashedLine<'a>
         ensures { result ≡ text.now }
     {
         let mut hash: u64 = 0xCBF2_9CE4_8422_2325;
         for byte in text {
             hash = (hash ^ *byte as u64).wrapping_mul(0x100_0000_01B3);
         }
-        Line { text, hash }
+        HashedLine { text, hash }
     }
 
     pub fn text(&self) -> &'a [u8]
@@ -58,14 +58,14 @@ fn first_line(text: &[u8]) -> usize
 }
 
 /// The lines of a text, in order.
-pub fn lines<'a>(alloc: Global, text: &'a [u8]) -> Result<Vec<Line<'a>>, AllocError>
+pub fn hashed_lines<'a>(alloc: Global, text: &'a [u8]) -> Result<Vec<HashedLine<'a>>, AllocError>
     ensures { IfOk result (λ lines. lines.items ≡ lines_of text.now) }
 {
     let mut lines = Vec::new(alloc);
     let mut rest = text;
     while !rest.is_empty() {
         let size = first_line(rest);
-        lines.push(Line::new(&rest[..size]))?;
+        lines.push(HashedLine::new(&rest[..size]))?;
         rest = &rest[size..];
     }
     Ok(lines)

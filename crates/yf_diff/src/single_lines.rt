@@ -1,36 +1,40 @@
-//! Lines that stand once in each of two texts, by which the search for common lines keeps its way. Nothing is promised
-//! of them.
+//! Lines that stand once in each of two texts, by which the search for common lines keeps its way. Nothing is promised of
+//! them.
 
-use crate::line::Line;
+use crate::hashed_line::HashedLine;
 use std::alloc::{AllocError, Global};
 
-/// A line that both texts have, by its index in each.
+/// A place in both texts: the indices of the lines that begin there.
 #[derive(Clone, Copy)]
-pub struct Anchor {
+pub struct Indices {
     pub old: usize,
     pub new: usize,
 }
 
 /// A line by its hash, and where it stands in which text.
 #[derive(Clone, Copy)]
-struct Mark {
+struct LineMark {
     hash: u64,
     index: usize,
     is_old: bool,
 }
 
-/// The last of a run of anchors: its index in the new text, and its number among all.
+/// The last pair of a run: its index in the new text, and its number among all pairs.
 #[derive(Clone, Copy)]
-struct Tail {
+struct RunEnd {
     new: usize,
     number: usize,
 }
 
 /// Adds the lines of one text.
-fn push_marks(marks: &mut Vec<Mark>, lines: &[Line<'_>], is_old: bool) -> Result<(), AllocError> {
+fn push_marks(
+    marks: &mut Vec<LineMark>,
+    lines: &[HashedLine<'_>],
+    is_old: bool,
+) -> Result<(), AllocError> {
     for (index, line) in lines.iter().enumerate() {
         let hash = line.hash();
-        marks.push(Mark {
+        marks.push(LineMark {
             hash,
             index,
             is_old,
@@ -40,7 +44,7 @@ fn push_marks(marks: &mut Vec<Mark>, lines: &[Line<'_>], is_old: bool) -> Result
 }
 
 /// Whether there is no mark of that number with that hash.
-fn lacks(marks: &[Mark], number: usize, hash: u64) -> bool {
+fn lacks(marks: &[LineMark], number: usize, hash: u64) -> bool {
     match marks.get(number) {
         Some(mark) => mark.hash != hash,
         None => true,
@@ -48,7 +52,7 @@ fn lacks(marks: &[Mark], number: usize, hash: u64) -> bool {
 }
 
 /// The lines that stand once in each text, of marks by rising hash, those of the old text before others.
-fn pairs(alloc: Global, marks: &[Mark]) -> Result<Vec<Anchor>, AllocError> {
+fn pairs(alloc: Global, marks: &[LineMark]) -> Result<Vec<Indices>, AllocError> {
     let mut pairs = Vec::new(alloc);
     for number in 1..marks.len() {
         let left = marks[number - 1];
@@ -56,7 +60,7 @@ fn pairs(alloc: Global, marks: &[Mark]) -> Result<Vec<Anchor>, AllocError> {
         let is_alone = (number < 2 || lacks(marks, number - 2, left.hash))
             && lacks(marks, number.saturating_add(1), left.hash);
         if is_alone && left.hash == right.hash && left.is_old && !right.is_old {
-            pairs.push(Anchor {
+            pairs.push(Indices {
                 old: left.index,
                 new: right.index,
             })?;
@@ -66,31 +70,31 @@ fn pairs(alloc: Global, marks: &[Mark]) -> Result<Vec<Anchor>, AllocError> {
 }
 
 /// A longest run of the pairs that goes up in the new text too, the last one first.
-fn rising(alloc: Global, pairs: &[Anchor]) -> Result<Vec<Anchor>, AllocError> {
-    let mut tails: Vec<Tail> = Vec::new(alloc);
+fn rising(alloc: Global, pairs: &[Indices]) -> Result<Vec<Indices>, AllocError> {
+    let mut ends: Vec<RunEnd> = Vec::new(alloc);
     let mut before: Vec<usize> = Vec::new(alloc);
     for (number, pair) in pairs.iter().enumerate() {
-        let tail = Tail {
+        let end = RunEnd {
             new: pair.new,
             number,
         };
-        let rank = tails.partition_point(|other| other.new < tail.new);
-        before.push(number_before(&tails, rank))?;
-        match tails.get_mut(rank) {
-            Some(place) => *place = tail,
-            None => tails.push(tail)?,
+        let rank = ends.partition_point(|other| other.new < end.new);
+        before.push(number_before(&ends, rank))?;
+        match ends.get_mut(rank) {
+            Some(place) => *place = end,
+            None => ends.push(end)?,
         }
     }
-    run_back(alloc, pairs, &before, number_before(&tails, tails.len()))
+    run_back(alloc, pairs, &before, number_before(&ends, ends.len()))
 }
 
-/// The number of the tail before a rank. There is no pair of that number where there is no such tail.
-fn number_before(tails: &[Tail], rank: usize) -> usize {
+/// The number of the pair that ends the run before that of a rank. No pair has the number that is answered where there is no such run.
+fn number_before(ends: &[RunEnd], rank: usize) -> usize {
     if rank == 0 {
         return usize::MAX;
     }
-    match tails.get(rank - 1) {
-        Some(tail) => tail.number,
+    match ends.get(rank - 1) {
+        Some(end) => end.number,
         None => usize::MAX,
     }
 }
@@ -98,10 +102,10 @@ fn number_before(tails: &[Tail], rank: usize) -> usize {
 /// The pairs from one number on, each followed by the one before it in its run.
 fn run_back(
     alloc: Global,
-    pairs: &[Anchor],
+    pairs: &[Indices],
     before: &[usize],
     last: usize,
-) -> Result<Vec<Anchor>, AllocError> {
+) -> Result<Vec<Indices>, AllocError> {
     let mut run = Vec::new(alloc);
     let mut number = last;
     for _ in 0..pairs.len() {
@@ -118,11 +122,11 @@ fn run_back(
 }
 
 /// The lines that stand once in each text, as many as go up in both; the last one first.
-pub fn anchors(
+pub fn single_lines(
     alloc: Global,
-    old: &[Line<'_>],
-    new: &[Line<'_>],
-) -> Result<Vec<Anchor>, AllocError> {
+    old: &[HashedLine<'_>],
+    new: &[HashedLine<'_>],
+) -> Result<Vec<Indices>, AllocError> {
     let mut marks = Vec::new(alloc);
     push_marks(&mut marks, old, true)?;
     push_marks(&mut marks, new, false)?;
