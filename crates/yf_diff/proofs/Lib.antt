@@ -11,3 +11,5 @@ pub mod ScriptsKept
 pub mod SilentDiffs
 -- examples of the definitions, written out by hand
 mod ShownDiffs
+-- `scripts_apply`
+pub mod AppliedLemmas

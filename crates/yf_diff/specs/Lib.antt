@@ -4,3 +4,4 @@ pub mod Fates
 pub mod Unified
 pub mod Walk
 pub mod Diff
+pub mod Applied

@@ -9,6 +9,7 @@ pub mod fate;
 pub mod guide;
 pub mod hashed_line;
 pub mod hunks;
+pub mod laws;
 pub mod script;
 pub mod search;
 pub mod single_lines;
