@@ -62,3 +62,7 @@ seven_lines_between = refl
 nothing_where_nothing_changes : shown six_lines ≡ []
 unfolding shown six_lines no_feed_note digits
 nothing_where_nothing_changes = refl
+
+a_tab_ends_a_name_with_a_space : unified (codes "a b") (codes "c") (added (codes "1\n") ∷ []) ≡ codes "--- a b\t\n+++ c\n@@ -0,0 +1 @@\n+1\n"
+unfolding no_feed_note digits
+a_tab_ends_a_name_with_a_space = refl

@@ -1,5 +1,5 @@
 -- Unified diffs: how an edit script is written, with three lines of context.
-use Rattle.std.specs.Prelude.{ℕ, ◌+◌, ◌-◌, ◌==◌, Bool, ◌||◌, not, List, [], ◌∷◌, ◌++◌, length, slice_index, slice_range, codes, decimal, if◌then◌else◌}
+use Rattle.std.specs.Prelude.{ℕ, ◌+◌, ◌-◌, ◌==◌, Bool, false, ◌||◌, not, List, [], ◌∷◌, ◌++◌, length, slice_index, slice_range, codes, decimal, if◌then◌else◌}
 use Rattle.yf_diff.specs.Script.{Edit, kept, dropped, added, olds, news, old_part, new_part, has_change}
 
 -- the sign before a line
@@ -60,6 +60,14 @@ abbrev pub hunks : List Edit → ℕ → ℕ → ℕ → List Edit → List ℕ
 hunks script at old_before new_before [] = []
 hunks script at old_before new_before (x ∷ rest) = text_at script at old_before new_before (x ∷ rest) ++ hunks script (at + 1) (old_before + length (old_part x)) (new_before + length (new_part x)) rest
 
+abbrev pub has_space : List ℕ → Bool
+has_space [] = false
+has_space (c ∷ rest) = c == 32 || has_space rest
+
+-- the name of a text; a tab ends one with a space in it, which would end at that space else
+abbrev pub name_text : List ℕ → List ℕ
+name_text name = name ++ (if has_space name then codes "\t" else [])
+
 -- A script without changes is not written at all.
 abbrev pub unified : List ℕ → List ℕ → List Edit → List ℕ
-unified old_name new_name script = if has_change script then codes "--- " ++ old_name ++ codes "\n+++ " ++ new_name ++ codes "\n" ++ hunks script 0 0 0 script else []
+unified old_name new_name script = if has_change script then codes "--- " ++ name_text old_name ++ codes "\n+++ " ++ name_text new_name ++ codes "\n" ++ hunks script 0 0 0 script else []

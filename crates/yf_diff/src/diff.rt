@@ -1,13 +1,36 @@
 //! The unified diff of two texts.
 ghost use Rattle.std.specs.Prelude.{◌≡◌, ◌++◌, [], ℕ, List, IfOk};
 ghost use Rattle.yf_diff.specs.Diff.{AddsDiff};
-ghost use Rattle.yf_diff.specs.Unified.{unified};
+ghost use Rattle.yf_diff.specs.Unified.{has_space, name_text, unified};
 
 use crate::hashed_line::hashed_lines;
 use crate::hunks::{any_change, push_hunks};
 use crate::script::script;
 use crate::step::Step;
 use std::alloc::{AllocError, Global};
+
+/// Whether a space stands in a name.
+fn has_space(name: &[u8]) -> bool
+    ensures { result ≡ has_space name.now }
+{
+    for byte in name {
+        if *byte == b' ' {
+            return true;
+        }
+    }
+    false
+}
+
+/// Adds the name of a text.
+fn push_name(out: &mut Vec<u8>, name: &[u8]) -> Result<(), AllocError>
+    ensures { IfOk result (λ _. out.new.items ≡ out.old.items ++ name_text name.now) }
+{
+    out.extend_from_slice(name)?;
+    if has_space(name) {
+        return out.extend_from_slice(b"\t");
+    }
+    Ok(())
+}
 
 /// Adds the unified diff of a script, under two names.
 fn push_script(
@@ -22,15 +45,15 @@ fn push_script(
         return Ok(());
     }
     out.extend_from_slice(b"--- ")?;
-    out.extend_from_slice(old_name.as_bytes())?;
+    push_name(out, old_name.as_bytes())?;
     out.extend_from_slice(b"\n+++ ")?;
-    out.extend_from_slice(new_name.as_bytes())?;
+    push_name(out, new_name.as_bytes())?;
     out.extend_from_slice(b"\n")?;
     push_hunks(out, steps)
 }
 
 /// Adds the unified diff of an old text and a new one, as GNU `diff -u` writes it but for the times: each name stands
-/// behind its sign, `---` or `+++`. Exactly where both texts are the same, nothing is added.
+/// behind its sign, `---` or `+++`, and a tab ends one that has a space. Exactly where both texts are the same, nothing is added.
 ///
 /// After an error, which tells that memory was refused, a part of the diff may have been added.
 pub fn push_diff(
