@@ -1,5 +1,5 @@
 //! Edit scripts between two texts.
-ghost use Rattle.std.specs.Prelude.{◌≡◌, ◌+◌, ◌<◌, ◌≤◌, ◌++◌, ◌∷◌, [], length, IsTrue, IfOk, is_ok, if◌then◌else◌};
+ghost use Rattle.std.specs.Prelude.{◌≡◌, ◌+◌, ◌<◌, ◌≤◌, ◌++◌, ◌∷◌, [], length, drop, IsTrue, IfOk, is_ok, if◌then◌else◌};
 ghost use Rattle.yf_diff.specs.Script.{news, olds};
 ghost use Rattle.yf_diff.specs.Walk.{IsCommon, May};
 
@@ -54,7 +54,28 @@ fn fate(
     Fate::Added
 }
 
-/// A script that leads from the lines of one text to those of another.
+/// Adds steps by which the lines of the new text from one index up to another come.
+fn push_added<'a>(
+    steps: &mut Vec<Step<'a>>,
+    new: &[HashedLine<'a>],
+    from: usize,
+    to: usize,
+) -> Result<(), AllocError>
+    requires order { from ≤ to }
+    requires within { to ≤ length new.now }
+    ensures olds { IfOk result (λ _. olds steps.new.items ≡ olds steps.old.items) }
+    ensures news { IfOk result (λ _. news steps.new.items ++ drop to new.now ≡ news steps.old.items ++ drop from new.now) }
+{
+    let mut index = from;
+    while index < to {
+        steps.push(Step::new(Fate::Added, new[index].text()))?;
+        index += 1;
+    }
+    Ok(())
+}
+
+/// A script that leads from the lines of one text to those of another. Between two lines that stay, lines go before others
+/// come.
 pub fn script<'a>(
     alloc: Global,
     old: &[HashedLine<'a>],
@@ -67,6 +88,7 @@ pub fn script<'a>(
     let mut search = Search::new(alloc, old, new)?;
     let mut i = 0;
     let mut j = 0;
+    let mut from = 0;
     while i < old.len() || j < new.len() {
         let is_same = is_common(old, i, new, j);
         let goes = if is_same {
@@ -76,19 +98,21 @@ pub fn script<'a>(
         };
         match fate(is_same, goes, old, i, new, j) {
             Fate::Kept => {
+                push_added(&mut steps, new, from, j)?;
                 steps.push(Step::new(Fate::Kept, old[i].text()))?;
                 i += 1;
                 j += 1;
+                from = j;
             }
             Fate::Dropped => {
                 steps.push(Step::new(Fate::Dropped, old[i].text()))?;
                 i += 1;
             }
             Fate::Added => {
-                steps.push(Step::new(Fate::Added, new[j].text()))?;
                 j += 1;
             }
         }
     }
+    push_added(&mut steps, new, from, j)?;
     Ok(steps)
 }

@@ -7,8 +7,9 @@ abbrev pub invariant-loop-i : goal.invariant-loop-i
 invariant-loop-i l = record {
   in_old : l.i ≤ length l.old;
   in_new : l.j ≤ length l.new;
+  from_j : l.from ≤ l.j;
   old_all : olds l.steps.items ++ drop l.i l.old ≡ l.old;
-  new_all : news l.steps.items ++ drop l.j l.new ≡ l.new;
+  new_all : news l.steps.items ++ drop l.from l.new ≡ l.new;
 }
 
 abbrev pub decreases-loop-i : goal.decreases-loop-i
