@@ -4,6 +4,7 @@
 pub mod LineLemmas
 -- `script`
 pub mod ScriptLemmas
+pub mod OrderLemmas
 -- `push_hunks`
 pub mod HunkLemmas
 -- `push_diff`

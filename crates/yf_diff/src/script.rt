@@ -1,6 +1,6 @@
 //! Edit scripts between two texts.
-ghost use Rattle.std.specs.Prelude.{◌≡◌, ◌+◌, ◌<◌, ◌≤◌, ◌++◌, ◌∷◌, [], length, drop, IsTrue, IfOk, is_ok, if◌then◌else◌};
-ghost use Rattle.yf_diff.specs.Script.{news, olds};
+ghost use Rattle.std.specs.Prelude.{◌≡◌, ◌+◌, ◌<◌, ◌≤◌, ◌++◌, ◌∷◌, [], length, drop, true, IsTrue, IfOk, is_ok, if◌then◌else◌};
+ghost use Rattle.yf_diff.specs.Script.{in_order, news, olds};
 ghost use Rattle.yf_diff.specs.Walk.{IsCommon, May};
 
 use crate::fate::Fate;
@@ -65,6 +65,7 @@ fn push_added<'a>(
     requires within { to ≤ length new.now }
     ensures olds { IfOk result (λ _. olds steps.new.items ≡ olds steps.old.items) }
     ensures news { IfOk result (λ _. news steps.new.items ++ drop to new.now ≡ news steps.old.items ++ drop from new.now) }
+    ensures order { IfOk result (λ _. in_order steps.new.items ≡ in_order steps.old.items) }
 {
     let mut index = from;
     while index < to {
@@ -83,6 +84,7 @@ pub fn script<'a>(
 ) -> Result<Vec<Step<'a>>, AllocError>
     ensures olds { IfOk result (λ steps. olds steps.items ≡ old.now) }
     ensures news { IfOk result (λ steps. news steps.items ≡ new.now) }
+    ensures order { IfOk result (λ steps. in_order steps.items ≡ true) }
 {
     let mut steps = Vec::new(alloc);
     let mut search = Search::new(alloc, old, new)?;

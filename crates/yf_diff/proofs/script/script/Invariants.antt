@@ -1,6 +1,6 @@
 -- The script so far and what is left of both texts.
-use Rattle.std.proofs.Common.{◌≡◌, ◌++◌, ◌+◌, ◌-◌, ◌≤◌, length, drop}
-use Rattle.yf_diff.specs.Script.{olds, news}
+use Rattle.std.proofs.Common.{◌≡◌, true, false, ◌++◌, ◌+◌, ◌-◌, ◌≤◌, length, drop}
+use Rattle.yf_diff.specs.Script.{olds, news, in_order, came_last}
 use Rattle.yf_diff.proofs.script.script.Given as goal
 
 abbrev pub invariant-loop-i : goal.invariant-loop-i
@@ -10,6 +10,8 @@ invariant-loop-i l = record {
   from_j : l.from ≤ l.j;
   old_all : olds l.steps.items ++ drop l.i l.old ≡ l.old;
   new_all : news l.steps.items ++ drop l.from l.new ≡ l.new;
+  order : in_order l.steps.items ≡ true;
+  last : came_last false l.steps.items ≡ false;
 }
 
 abbrev pub decreases-loop-i : goal.decreases-loop-i
