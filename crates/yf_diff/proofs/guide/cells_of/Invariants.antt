@@ -1,0 +1,9 @@
+-- Within the lines.
+use Rattle.std.proofs.Common.{◌≤◌, length}
+use Rattle.yf_diff.proofs.guide.cells_of.Given as goal
+
+abbrev pub invariant-loop-left : goal.invariant-loop-left
+invariant-loop-left l = l.left ≤ length l.old
+
+abbrev pub decreases-loop-left : goal.decreases-loop-left
+decreases-loop-left l = l.left
