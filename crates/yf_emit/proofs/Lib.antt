@@ -135,6 +135,9 @@ pub mod CommentsFit
 pub mod ContentFound
 pub mod DirectivesFit
 pub mod DocumentTrails
+pub mod EventsTold
+pub mod KeepsHold
+pub mod SpellingsKept
 pub mod FormatKeeps
 pub mod FormatLawsHold
 pub mod FormatTrails

@@ -1,0 +1,12 @@
+-- What formatting leaves as it was.
+use Rattle.std.proofs.Common.{List, ℕ}
+use Rattle.std.specs.Str.{IsUtf8}
+use Rattle.yf_emit.specs.declared.style.Style.{Style}
+use Rattle.yf_emit.specs.Format.{Formats}
+use Rattle.yf_emit.specs.Keeps.{Keeps}
+use Rattle.yf_emit.proofs.SpellingsKept.{types_kept}
+
+pub keeps_hold : (t u : List ℕ) (s : Style) → IsUtf8 t → Formats t s u → Keeps t s u
+keeps_hold t u s utf8 f = record {
+  types = types_kept t u s utf8 f;
+}
