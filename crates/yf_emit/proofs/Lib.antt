@@ -137,6 +137,8 @@ pub mod DirectivesFit
 pub mod DocumentTrails
 pub mod EventsTold
 pub mod KeepsHold
+pub mod RowColumns
+pub mod LinesTidy
 pub mod SpellingsKept
 pub mod FormatKeeps
 pub mod FormatLawsHold

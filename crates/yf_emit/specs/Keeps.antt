@@ -2,8 +2,10 @@
 use Rattle.std.specs.Prelude.{ℕ, List}
 use Rattle.yf_emit.specs.declared.style.Style.{Style}
 use Rattle.yf_emit.specs.Spellings.{SameSpellings}
+use Rattle.yf_emit.specs.TidyLines.{IsTidyText}
 use Rattle.yf_emit.specs.Types.{SameTypes}
 
 pub record Keeps (t : List ℕ) (s : Style) (u : List ℕ) : Type 0 where
   pub types : SameTypes t u
   pub spellings : SameSpellings s t u
+  pub lines : IsTidyText s u
