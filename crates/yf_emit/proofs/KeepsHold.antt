@@ -4,6 +4,7 @@ use Rattle.std.specs.Str.{IsUtf8}
 use Rattle.yf_emit.specs.declared.style.Style.{Style}
 use Rattle.yf_emit.specs.Format.{Formats}
 use Rattle.yf_emit.specs.Keeps.{Keeps}
+use Rattle.yf_emit.proofs.BlanksKept.{blanks_kept}
 use Rattle.yf_emit.proofs.LinesTidy.{lines_tidy}
 use Rattle.yf_emit.proofs.SpellingsKept.{spellings_kept, types_kept}
 
@@ -12,4 +13,5 @@ keeps_hold t u s utf8 f = record {
   types = types_kept t u s utf8 f;
   spellings = spellings_kept t u s utf8 f;
   lines = lines_tidy t u s utf8 f;
+  blanks = blanks_kept t u s utf8 f;
 }

@@ -136,6 +136,7 @@ pub mod ContentFound
 pub mod DirectivesFit
 pub mod DocumentTrails
 pub mod EventsTold
+pub mod BlanksKept
 pub mod KeepsHold
 pub mod RowColumns
 pub mod LinesTidy
