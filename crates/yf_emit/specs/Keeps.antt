@@ -1,6 +1,7 @@
 -- What formatting leaves as it was, said as people mean it: u is a formatting of the text t.
 use Rattle.std.specs.Prelude.{ℕ, List}
 use Rattle.yf_emit.specs.declared.style.Style.{Style}
+use Rattle.yf_emit.specs.LayoutKey.{DependsOnKey}
 use Rattle.yf_emit.specs.SpacedLines.{SameBlanks}
 use Rattle.yf_emit.specs.Spellings.{SameSpellings}
 use Rattle.yf_emit.specs.TidyLines.{IsTidyText}
@@ -11,3 +12,4 @@ pub record Keeps (t : List ℕ) (s : Style) (u : List ℕ) : Type 0 where
   pub spellings : SameSpellings s t u
   pub lines : IsTidyText s u
   pub blanks : SameBlanks t s u
+  pub key : DependsOnKey t s u
