@@ -5,6 +5,7 @@ use Rattle.yf_emit.specs.declared.style.Style.{Style}
 use Rattle.yf_emit.specs.Format.{Formats}
 use Rattle.yf_emit.specs.Keeps.{Keeps}
 use Rattle.yf_emit.proofs.BlanksKept.{blanks_kept}
+use Rattle.yf_emit.proofs.CommentsStay.{comments_stay}
 use Rattle.yf_emit.proofs.KeyDecides.{key_decides}
 use Rattle.yf_emit.proofs.LinesTidy.{lines_tidy}
 use Rattle.yf_emit.proofs.SpellingsKept.{spellings_kept, types_kept}
@@ -16,4 +17,5 @@ keeps_hold t u s utf8 f = record {
   lines = lines_tidy t u s utf8 f;
   blanks = blanks_kept t u s utf8 f;
   key = key_decides t u s;
+  comments = comments_stay t u s utf8;
 }

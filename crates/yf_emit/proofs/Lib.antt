@@ -137,6 +137,7 @@ pub mod DirectivesFit
 pub mod DocumentTrails
 pub mod EventsTold
 pub mod BlanksKept
+pub mod CommentsStay
 pub mod KeyDecides
 pub mod KeepsHold
 pub mod RowColumns

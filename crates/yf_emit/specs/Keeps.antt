@@ -1,6 +1,7 @@
 -- What formatting leaves as it was, said as people mean it: u is a formatting of the text t.
 use Rattle.std.specs.Prelude.{ℕ, List}
 use Rattle.yf_emit.specs.declared.style.Style.{Style}
+use Rattle.yf_emit.specs.CommentsPlaced.{CommentsPlaced}
 use Rattle.yf_emit.specs.LayoutKey.{DependsOnKey}
 use Rattle.yf_emit.specs.SpacedLines.{SameBlanks}
 use Rattle.yf_emit.specs.Spellings.{SameSpellings}
@@ -13,3 +14,4 @@ pub record Keeps (t : List ℕ) (s : Style) (u : List ℕ) : Type 0 where
   pub lines : IsTidyText s u
   pub blanks : SameBlanks t s u
   pub key : DependsOnKey t s u
+  pub comments : CommentsPlaced t s u

@@ -45,6 +45,7 @@ pub mod RowShapes
 pub mod Rows
 pub mod SameComments
 pub mod Searches
+pub mod CommentsPlaced
 pub mod LayoutKey
 pub mod SpacedLines
 pub mod Spellings
