@@ -1,5 +1,5 @@
 -- The lines of a formatted text.
-use Rattle.std.specs.Prelude.{◌≡◌, ℕ, ◌*◌, true, false, List, [], ◌∷◌, ◌++◌, encode_utf8, replicate}
+use Rattle.std.specs.Prelude.{◌≡◌, ℕ, ◌*◌, ◌≤◌, suc, true, false, List, [], ◌∷◌, ◌++◌, encode_utf8, replicate}
 use Rattle.yf_chars.specs.Class.{is_ns_char, is_white}
 use Rattle.yf_chars.specs.Text.{last_or}
 use Rattle.yf_lines.specs.LineText.{IsLineText}
@@ -11,6 +11,7 @@ use Rattle.yf_stream.specs.ReadingOf.{ReadingOf}
 use Rattle.yf_emit.specs.declared.style.Style.{Style}
 use Rattle.yf_emit.specs.BlockLines.{block_lines}
 use Rattle.yf_emit.specs.Decorated.{body_then}
+use Rattle.yf_emit.specs.FitDocuments.{tall_documents}
 use Rattle.yf_emit.specs.Fits.{is_block_style}
 
 -- among the events is a scalar of that style with that text, and with these lines where it is folded
@@ -26,14 +27,15 @@ pub record IsStripped (x : List ℕ) : Type 0 where
   pub is : x ≡ encode_utf8 char ++ behind
   pub ends : is_white (last_or 0 x) ≡ false
 
--- blank lines have no character; each other line is indented by spaces alone, as many as a multiple of the style's indentation, and ends with no
--- white space; but that all lines of a literal or folded scalar among the events stand together, with its own white space, at such a column
-pub data TidyLines (indent : ℕ) (es : List Placed) : List (List ℕ) → Type 0 where
-  no_more_lines : TidyLines indent es []
-  a_blank_line : {xs : List (List ℕ)} → TidyLines indent es xs → TidyLines indent es ([] ∷ xs)
-  a_text_line : {x : List ℕ} {xs : List (List ℕ)} (n : ℕ) → IsStripped x → TidyLines indent es xs → TidyLines indent es ((replicate (n * indent) 32 ++ x) ∷ xs)
-  scalar_lines : {style : ScalarStyle} {text : List ℕ} {lines : List (List ℕ)} {xs : List (List ℕ)} (n : ℕ) → is_block_style style ≡ true → HasScalar style text lines es
-      → TidyLines indent es xs → TidyLines indent es (block_lines style (n * indent) text lines ++ xs)
+-- blank lines have no character; each other line is indented by spaces alone, as many as a multiple of the style's indentation, which is no greater
+-- than the limit, and ends with no white space; but that all lines of a literal or folded scalar among the events stand together, with its own
+-- white space, at such a column
+pub data TidyLines (indent limit : ℕ) (es : List Placed) : List (List ℕ) → Type 0 where
+  no_more_lines : TidyLines indent limit es []
+  a_blank_line : {xs : List (List ℕ)} → TidyLines indent limit es xs → TidyLines indent limit es ([] ∷ xs)
+  a_text_line : {x : List ℕ} {xs : List (List ℕ)} (n : ℕ) → n ≤ limit → IsStripped x → TidyLines indent limit es xs → TidyLines indent limit es ((replicate (n * indent) 32 ++ x) ∷ xs)
+  scalar_lines : {style : ScalarStyle} {text : List ℕ} {lines : List (List ℕ)} {xs : List (List ℕ)} (n : ℕ) → n ≤ limit → is_block_style style ≡ true → HasScalar style text lines es
+      → TidyLines indent limit es xs → TidyLines indent limit es (block_lines style (n * indent) text lines ++ xs)
 
 -- each is a text within a line: printable characters and tabs, no break, no byte order mark
 pub data LineTexts : List (List ℕ) → Type 0 where
@@ -45,4 +47,5 @@ pub record IsTidyText (s : Style) (u : List ℕ) : Type 0 where
   -- a line feed ends each, and there is no other break
   pub is : u ≡ body_then lines []
   pub texts : LineTexts lines
-  pub tidy : (q : Lists) → ReadingOf u q → TidyLines s.indent q.events lines
+  -- none is indented more than the most collections that are open at once, and one more, times the style's indentation
+  pub tidy : (q : Lists) (b : ReadingOf u q) → TidyLines s.indent (suc (tall_documents b.trees)) q.events lines
