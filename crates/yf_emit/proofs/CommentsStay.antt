@@ -1,23 +1,24 @@
 -- A comment ends a line of the layout exactly where it is the first one at a leaf or after an implicit key.
-use Rattle.std.proofs.Common.{◌≡◌, ℕ, Bool, true, false, List, [], ◌∷◌, ◌++◌, map, flat_map, Option, Some, None, refl, sym, ap, ◌∙◌}
-use Rattle.std.specs.Prelude.{◌&&◌, ◌||◌, ◌==◌, not, nat_lt, if◌then◌else◌, option_to_list}
+use Rattle.std.proofs.Common.{◌≡◌, ℕ, zero, suc, Bool, true, false, List, [], ◌∷◌, ◌++◌, map, flat_map, Option, Some, None, refl, sym, ap, ◌∙◌}
+use Rattle.std.specs.Prelude.{◌&&◌, ◌||◌, ◌==◌, not, nat_lt, slice_get, if◌then◌else◌, option_to_list}
 use Rattle.std.specs.List.{list_any}
 use Rattle.std.specs.Str.{IsUtf8}
 use Rattle.std.proofs.lemmas.Bool.{eqb-true}
+use Rattle.std.proofs.lemmas.Option.{same_Some}
 use Rattle.std.proofs.lemmas.List.Folds.{list_any-append}
 use Rattle.yf_comments.specs.Comment.{CommentValue}
 use Rattle.yf_events.specs.Tree.{DocumentTree}
 use Rattle.yf_events.specs.declared.event.Span.{Span}
 use Rattle.yf_events.specs.declared.lists.Lists.{Lists}
 use Rattle.yf_emit.specs.declared.style.Style.{Style}
-use Rattle.yf_emit.specs.CommentsPlaced.{CommentsPlaced, at_leaf, ends_line, rows_in}
+use Rattle.yf_emit.specs.CommentsPlaced.{CommentsPlaced, at_leaf, ends_line, rows_in, source_in}
 use Rattle.yf_emit.specs.Decorated.{rows_of}
 use Rattle.yf_emit.specs.Format.{Formats}
 use Rattle.yf_emit.specs.Layout.{Remark, Source, first_comment, is_among, source_of, trailing, trailing_leaf}
 use Rattle.yf_emit.specs.Normal.{normal_document, setting_of}
 use Rattle.yf_emit.specs.Rows.{Row}
 use Rattle.yf_emit.proofs.BlanksAgain.{blanks_found}
-use Rattle.yf_emit.proofs.CommentsCut.{among_join}
+use Rattle.yf_emit.proofs.CommentsCut.{among_join, itself}
 use Rattle.yf_emit.proofs.DecoratedLemmas.{layout_then}
 use Rattle.yf_emit.proofs.DocumentTrails.{leaves_of}
 use Rattle.yf_emit.proofs.FixedLawsHold.{found_reading}
@@ -131,6 +132,19 @@ rows_exact m rows d =
     let c : Source = source_of m rows in
     all_rows c d rows ∙ absorb (is_among c.key_comments d) (list_any (λ leaf. is_among (at_leaf leaf (first_comment c leaf)) d) c.leaves)
 
+either_late : (b : Bool) → (b || true) ≡ true
+either_late true = refl
+either_late false = refl
+
+any_at : (p : Span → Bool) (xs : List Span) (i : ℕ) (x : Span) → slice_get xs i ≡ Some x → p x ≡ true → list_any p xs ≡ true
+any_at p [] i x e f = absurd cc
+any_at p (y ∷ xs) zero x e f = let same : y ≡ x = same_Some _ _ e in ap (λ b. b || list_any p xs) (ap p same ∙ f)
+any_at p (y ∷ xs) (suc i) x e f = ap (λ b. p y || b) (any_at p xs i x e f) ∙ either_late (p y)
+
+none_at : (p : Span → Bool) (xs : List Span) → ((i : ℕ) (x : Span) → slice_get xs i ≡ Some x → p x ≡ false) → list_any p xs ≡ false
+none_at p [] f = refl
+none_at p (x ∷ xs) f = ap (λ b. b || list_any p xs) (f 0 x refl) ∙ none_at p xs (λ i y e. f (suc i) y e)
+
 -- The law.
 
 source_leaves : {t u : List ℕ} {s : Style} → IsUtf8 t → (f : Formats t s u) → leaves_on (rows_in f) ≡ leaves_of f.is_normal.trees
@@ -143,6 +157,16 @@ pub comments_stay : (t u : List ℕ) (s : Style) → IsUtf8 t → CommentsPlaced
 comments_stay t u s utf8 = record {
   leaves = λ f. source_leaves utf8 f;
   exact = λ f d. rows_exact f.normal (rows_in f) d;
+  stays_at_end = λ f i leaf d on_line got first near.
+      let c : Source = source_in f in
+      let here : is_among (at_leaf leaf (first_comment c leaf)) d ≡ true =
+      ap (λ o. is_among (at_leaf leaf o) d) first ∙ (ap (λ b. is_among (if b then d ∷ [] else []) d) near ∙ ap (λ b. b || false) (itself d.offset)) in
+      rows_exact f.normal (rows_in f) d
+      ∙ (ap (λ b. is_among c.key_comments d || b) (any_at (λ l. is_among (at_leaf l (first_comment c l)) d) c.leaves i leaf got here) ∙ either_late (is_among c.key_comments d));
+  stays_alone = λ f d no_key nowhere.
+      let c : Source = source_in f in
+      rows_exact f.normal (rows_in f) d
+      ∙ (ap (λ b. b || list_any (λ l. is_among (at_leaf l (first_comment c l)) d) c.leaves) no_key ∙ none_at (λ l. is_among (at_leaf l (first_comment c l)) d) c.leaves nowhere);
   once = λ f. formats_trail t u s utf8 f;
   printed = λ f. f.writes.is ∙ layout_then f.normal s f.writes.trees;
   before = λ f q b. let w = found_reading t u s q utf8 f b in (again_same q utf8 f b w (blanks_found t u s q utf8 f b w)).gap;

@@ -1,5 +1,5 @@
 -- Which comments stand at the end of a line of what formatting gives, and which on a line of their own.
-use Rattle.std.specs.Prelude.{◌≡◌, ℕ, Bool, ◌||◌, nat_lt, if◌then◌else◌, List, [], ◌∷◌, Option, Some, None}
+use Rattle.std.specs.Prelude.{◌≡◌, ℕ, Bool, true, false, slice_get, ◌||◌, nat_lt, if◌then◌else◌, List, [], ◌∷◌, Option, Some, None}
 use Rattle.std.specs.List.{flat_map, list_any}
 use Rattle.yf_comments.specs.Comment.{CommentValue}
 use Rattle.yf_events.specs.Tree.{leaves}
@@ -34,6 +34,13 @@ pub record CommentsPlaced (t : List ℕ) (s : Style) (u : List ℕ) : Type 0 whe
   pub leaves : (f : Formats t s u) → (source_in f).leaves ≡ flat_map (λ d. leaves d.root) f.is_normal.trees
   -- those comments end a line of u, and no others
   pub exact : (f : Formats t s u) (d : CommentValue) → is_among (flat_map (trailing (source_in f)) (rows_in f)) d ≡ ends_line (source_in f) d
+  -- so the first comment since a leaf began does that stands within it or on the line on which it ends
+  pub stays_at_end : (f : Formats t s u) (i : ℕ) (leaf : Span) (d : CommentValue) (on_line : Bool) → slice_get (source_in f).leaves i ≡ Some leaf
+      → first_comment (source_in f) leaf ≡ Some (d, on_line) → (nat_lt d.offset leaf.end || on_line) ≡ true → is_among (flat_map (trailing (source_in f)) (rows_in f)) d ≡ true
+  -- and one does not that is so at no leaf and stands between no key and such a value
+  pub stays_alone : (f : Formats t s u) (d : CommentValue) → is_among (source_in f).key_comments d ≡ false
+      → ((i : ℕ) (leaf : Span) → slice_get (source_in f).leaves i ≡ Some leaf → is_among (at_leaf leaf (first_comment (source_in f) leaf)) d ≡ false)
+      → is_among (flat_map (trailing (source_in f)) (rows_in f)) d ≡ false
   -- one at most ends each line, and its text is the comment's without the white space at its end
   pub once : (f : Formats t s u) → TrailsFitIn f
   -- u are its rows, each with the comment that ends it and those on lines of their own after it
