@@ -127,6 +127,7 @@ mod ShownNodes
 mod ShownKeys
 mod ShownComments
 mod ShownDecos
+mod ShownCore
 mod ShownScalars
 mod ShownLayouts
 -- for further theorems
