@@ -92,7 +92,7 @@ module _ (b c : Source) where
 -- Layouts.
 
 -- each comment of a normal form has its note
-as_many_notes : {t u : List ℕ} {s : Style} (f : Formats t s u) → length f.normal.on_leaf_line ≡ length f.normal.comments
+pub as_many_notes : {t u : List ℕ} {s : Style} (f : Formats t s u) → length f.normal.on_leaf_line ≡ length f.normal.comments
 as_many_notes f =
     ap (λ (m : Lists). length m.on_leaf_line) f.is_normal.is ∙ (ap length f.reads.notes ∙ (length-map f.reading.comments _ ∙ sym (ap (λ (m : Lists). length m.comments) f.is_normal.is)))
 

@@ -140,6 +140,7 @@ pub mod EventsTold
 pub mod BlanksKept
 pub mod CommentsStay
 pub mod KeyDecides
+pub mod EmptyTexts
 pub mod KeepsHold
 pub mod RowColumns
 pub mod LinesTidy

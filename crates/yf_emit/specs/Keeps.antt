@@ -2,6 +2,7 @@
 use Rattle.std.specs.Prelude.{ℕ, List}
 use Rattle.yf_emit.specs.declared.style.Style.{Style}
 use Rattle.yf_emit.specs.CommentsPlaced.{CommentsPlaced}
+use Rattle.yf_emit.specs.EmptyTexts.{IsEmptyAlike}
 use Rattle.yf_emit.specs.LayoutKey.{DependsOnKey}
 use Rattle.yf_emit.specs.SpacedLines.{SameBlanks}
 use Rattle.yf_emit.specs.Spellings.{SameSpellings}
@@ -12,6 +13,7 @@ pub record Keeps (t : List ℕ) (s : Style) (u : List ℕ) : Type 0 where
   pub types : SameTypes t u
   pub spellings : SameSpellings s t u
   pub lines : IsTidyText s u
+  pub empty : IsEmptyAlike t u
   pub blanks : SameBlanks t s u
   pub key : DependsOnKey t s u
   pub comments : CommentsPlaced t s u

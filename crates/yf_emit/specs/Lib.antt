@@ -47,6 +47,7 @@ pub mod SameComments
 pub mod Searches
 pub mod CommentsPlaced
 pub mod LayoutKey
+pub mod EmptyTexts
 pub mod SpacedLines
 pub mod Spellings
 pub mod Steps
