@@ -187,9 +187,6 @@ module _ (c : Setting) (limit : ℕ) (all : List Placed) where
     here : AtStep limit column
     here = wider limit (omega (arith, room)) d
 
-    spot : Spot
-    spot = value_of_implicit c column k v
-
     entries : AtStep (suc n) (value_entries c.style column v)
     entries = entries_step c.style n column v d
 
