@@ -1,5 +1,5 @@
 -- In each reading of what formatting gives the notes on blank lines are those of the blank lines that were printed.
-use Rattle.std.proofs.Common.{◌≡◌, ℕ, ◌+◌, ◌<◌, Bool, true, false, true≢false, List, [], ◌∷◌, ◌++◌, flat_map, length, refl, sym, ap, ◌∙◌, subst, arith, add-zero}
+use Rattle.std.proofs.Common.{◌≡◌, ℕ, ◌+◌, ◌<◌, Bool, true, false, List, [], ◌∷◌, ◌++◌, flat_map, length, refl, sym, ap, ◌∙◌, subst, arith, add-zero}
 use Rattle.std.specs.Prelude.{filter}
 use Rattle.std.specs.Str.{IsUtf8}
 use Rattle.yf_chars.specs.Chain.{Chain}
@@ -39,7 +39,7 @@ use Rattle.yf_emit.proofs.FoundStreams.{StreamIn, no_stream, stream_in}
 use Rattle.yf_emit.proofs.EntriesMade.{begins, lines_begin}
 use Rattle.yf_emit.proofs.GapsAgain.{Blanks, gap_at_end, gap_with}
 use Rattle.yf_emit.proofs.GapsNoted.{HeadNote, bare_head, gap_noted}
-use Rattle.yf_emit.proofs.GapsStand.{GapStands, gap_placed, place_of}
+use Rattle.yf_emit.proofs.GapsStand.{GapStands, gap_placed, place_of, since_later}
 use Rattle.yf_emit.proofs.HeldLemmas.{BodiesHeld}
 use Rattle.yf_emit.proofs.NoteStreams.{documents_noted}
 use Rattle.yf_emit.proofs.NoteTrees.{start_unlined}
@@ -59,7 +59,7 @@ first_found {t} {es} {line} {gap = gap} {firsts = firsts} {own = own} {z = z} ot
     let parts = noted_split firsts own (as_many firsts own told mine) (subst (λ w. NotedComments t es (firsts ++ others) w) split noted) in
     let over = noted_gap stands (λ o l m. floor o m) parts.0 in
     subst (λ w. Blanks false false w own b) (sym shape)
-    (gap_noted at_text_start column hs a u (subst (λ w. GapStands t 0 w firsts line) shape stands) text_begins (omega arith) (λ w. absurd (true≢false (sym w))) over k s head)
+    (gap_noted at_text_start column hs a u (subst (λ w. GapStands t 0 w firsts line) shape stands) text_begins (omega arith) (λ w. let l = since_later w in omega (arith, l)) over k s head)
 
 -- what stands at the first row
 head_of : {t : List ℕ} {f i j : ℕ} {ps : List PlacedRow} {x : Row} {xs ys : List Row} {ds : List Deco} {cs : List CommentValue} {r : List ℕ} {gs : List ℕ} → RowsIn t (x ∷ xs) ps ds i cs j r → RowNotes t f ps (x ∷ xs) ys gs

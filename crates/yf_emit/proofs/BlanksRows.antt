@@ -128,7 +128,7 @@ row_noted : {t : List ℕ} {es : List Placed} {f place : ℕ} {body : List (List
 row_noted {t} {es} {f} {place} {d = d} {ns = ns} e to column hs a u g w notes same shape k s b head =
     let over : NotedOver t f g.comments (standing_of d ns) = noted_gap g.stands w.at (as_noted g.same (noted_drop (length d.trails) notes)) in
     let here : Blanks (may_be_blank_behind e) false (gap_with e column hs a) (standing_of d ns) b =
-    gap_noted e column hs a u (subst (λ z. GapStands t g.gap z g.comments place) shape g.stands) g.blank w.low (λ z. w.none) over k s head in
+    gap_noted e column hs a u (subst (λ z. GapStands t g.gap z g.comments place) shape g.stands) g.blank w.low w.none over k s head in
     subst (λ z. Blanks (may_be_blank_behind z) false d.gap (standing_of d ns) b) same (subst (λ z. Blanks (may_be_blank_behind e) false z (standing_of d ns) b) (sym shape) here)
 
 -- without a block scalar, and with one

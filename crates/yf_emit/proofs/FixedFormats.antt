@@ -8,6 +8,7 @@ use Rattle.yf_stream.specs.ReadingOf.{ReadingOf}
 use Rattle.yf_emit.specs.declared.style.Style.{Style}
 use Rattle.yf_emit.specs.Decorated.{decorated, first_gap, gap_then, lines_then, row_decos, rows_of}
 use Rattle.yf_emit.specs.Format.{Formats}
+use Rattle.yf_emit.specs.Layout.{layout}
 use Rattle.yf_emit.specs.FoundTrees.{FoundSame, FoundTrees, none_found, one_found}
 use Rattle.yf_emit.specs.Normal.{Normal, Setting, normal_document, root_spot, setting_of, settled, styled}
 use Rattle.yf_emit.proofs.AlikeLemmas.{setting}
@@ -59,8 +60,9 @@ found_normal {u = u} {s = s} f q found of_reading alike =
     let roots : map (normal_document u (setting_of q s)) found ≡ found = roots_fixed f q found alike in
     record { trees = found; of_reading = of_reading; is = ap (λ z. record q { events = z }) of_reading.events ∙ ap (λ z. record q { events = flat_stream z }) (sym roots) }
 
-pub found_fixed : {t u : List ℕ} {s : Style} (f : Formats t s u) (q : Lists) (found : List DocumentTree) → ReadingOf u q → FoundSame f.normal s f.writes.trees u q found → Formats u s u
-found_fixed {s = s} f q found a same =
+-- the text is the layout of what is found in it
+pub found_layout : {t u : List ℕ} {s : Style} (f : Formats t s u) (q : Lists) (found : List DocumentTree) → FoundSame f.normal s f.writes.trees u q found → u ≡ layout q s found
+found_layout {s = s} f q found same =
     let m : Lists = f.normal in
     let trees : List DocumentTree = f.writes.trees in
     let shaped = found_rows true same.alike in
@@ -68,10 +70,13 @@ found_fixed {s = s} f q found a same =
     ap (λ z. gap_then z (lines_then (rows_of m s trees) (row_decos m (rows_of m s trees)) [])) (sym same.gap)
     ∙ (ap (λ z. gap_then (first_gap q (rows_of q s found)) (lines_then (rows_of m s trees) z [])) (sym same.decos)
     ∙ ap (λ z. gap_then (first_gap q (rows_of q s found)) z) (same_lines (rows_of m s trees) (rows_of q s found) (row_decos q (rows_of q s found)) [] shaped)) in
-    record {
-      reading = q;
-      normal = q;
-      reads = a;
-      is_normal = found_normal f q found same.of_reading same.alike;
-      writes = record { trees = found; of_reading = same.of_reading; is = f.writes.is ∙ (layout_then m s trees ∙ (lines ∙ sym (layout_then q s found))) };
-    }
+    f.writes.is ∙ (layout_then m s trees ∙ (lines ∙ sym (layout_then q s found)))
+
+pub found_fixed : {t u : List ℕ} {s : Style} (f : Formats t s u) (q : Lists) (found : List DocumentTree) → ReadingOf u q → FoundSame f.normal s f.writes.trees u q found → Formats u s u
+found_fixed f q found a same = record {
+  reading = q;
+  normal = q;
+  reads = a;
+  is_normal = found_normal f q found same.of_reading same.alike;
+  writes = record { trees = found; of_reading = same.of_reading; is = found_layout f q found same };
+}

@@ -8,6 +8,7 @@ use Rattle.yf_events.specs.declared.document.Doc.{Doc}
 use Rattle.yf_emit.specs.declared.style.Style.{Style}
 use Rattle.yf_emit.specs.Decorated.{Deco, first, after, end_then, lines_then}
 use Rattle.yf_emit.specs.FoundTrees.{FoundTrees, none_found, one_found, words_of}
+use Rattle.yf_emit.specs.LayoutKey.{SameDocuments, no_documents, same_document}
 use Rattle.yf_emit.specs.Normal.{root_spot}
 use Rattle.yf_emit.specs.RowShapes.{RowShape, shape_of}
 use Rattle.yf_emit.specs.Rows.{Row, beginning_at, directive_row, document_rows, end_rows, joined_words, plain_row, rows, start_row, stream_rows}
@@ -59,12 +60,20 @@ head_shaped is_first start other ds es e =
     (both_shapes (map directive_row ds) (start_row ∷ []) (map directive_row es) (start_row ∷ []) words refl)
     ∙ sym (beginning_shaped other (end_rows is_first es ++ (map directive_row es ++ (start_row ∷ [])))))
 
-pub found_rows : {s : Style} {cs es : List CommentValue} {u : List ℕ} {ds fs : List Doc} {xs ys : List DocumentTree} (is_first : Bool) → FoundTrees s cs u es ds xs fs ys
+pub same_rows : {s : Style} {cs es : List CommentValue} {ds fs : List Doc} {xs ys : List DocumentTree} (is_first : Bool) → SameDocuments s cs es ds xs fs ys
     → shapes (stream_rows (setting s cs) is_first ds xs) ≡ shapes (stream_rows (setting s es) is_first fs ys)
-found_rows is_first none_found = refl
-found_rows {s} {cs} {es} is_first (one_found {d = d} {e = e} {ds = ds} {fs = fs} {x = x} {y = y} {xs = xs} {ys = ys} w a f more) =
+same_rows is_first no_documents = refl
+same_rows {s} {cs} {es} is_first (same_document {d = d} {e = e} {ds = ds} {fs = fs} {x = x} {y = y} {xs = xs} {ys = ys} w a more) =
     both_shapes (document_rows (setting s cs) is_first d x) (stream_rows (setting s cs) false ds xs) (document_rows (setting s es) is_first e y) (stream_rows (setting s es) false fs ys)
     (both_shapes (beginning_at d.start (end_rows is_first d.directives ++ (map directive_row d.directives ++ (start_row ∷ [])))) (rows (setting s cs) (root_spot s) x.root)
     (beginning_at e.start (end_rows is_first e.directives ++ (map directive_row e.directives ++ (start_row ∷ [])))) (rows (setting s es) (root_spot s) y.root)
     (head_shaped is_first d.start e.start d.directives e.directives w) (same_block_rows s (root_spot s) a))
-    (found_rows false more)
+    (same_rows false more)
+
+found_same : {s : Style} {cs es : List CommentValue} {u : List ℕ} {ds fs : List Doc} {xs ys : List DocumentTree} → FoundTrees s cs u es ds xs fs ys → SameDocuments s cs es ds xs fs ys
+found_same none_found = no_documents
+found_same (one_found w a f more) = same_document w a (found_same more)
+
+pub found_rows : {s : Style} {cs es : List CommentValue} {u : List ℕ} {ds fs : List Doc} {xs ys : List DocumentTree} (is_first : Bool) → FoundTrees s cs u es ds xs fs ys
+    → shapes (stream_rows (setting s cs) is_first ds xs) ≡ shapes (stream_rows (setting s es) is_first fs ys)
+found_rows is_first found = same_rows is_first (found_same found)

@@ -8,6 +8,7 @@ use Rattle.yf_emit.specs.FormatKept.{FormatKept}
 use Rattle.yf_emit.proofs.FixedLawsHold.{formats_normal}
 use Rattle.yf_emit.proofs.FormatsFixed.{formats_fixed}
 use Rattle.yf_emit.proofs.FormatLawsHold.{formats_accepted, formats_are_one}
+use Rattle.yf_emit.proofs.KeepsHold.{keeps_hold}
 use Rattle.yf_emit.proofs.SameComments.{formats_comments}
 use Rattle.yf_emit.proofs.SameContent.{formats_content}
 
@@ -20,4 +21,5 @@ format_keeps t s u utf8 f = record {
   comments = formats_comments t u s utf8 f;
   normal = formats_normal t u s utf8 f;
   unchanged = formats_fixed t u s utf8 f;
+  keeps = keeps_hold t u s utf8 f;
 }

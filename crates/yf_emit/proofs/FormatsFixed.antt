@@ -134,18 +134,24 @@ carried_again {u} {es = es} {q = q} mc own (x ∷ xs) (row ∷ found) {ps = p �
 
 -- Where the notes on blank lines are right.
 
-pub again_same : {t u : List ℕ} {s : Style} (q : Lists) → IsUtf8 t → (f : Formats t s u) → (a : ReadingOf u q) → (w : FoundReading f q a)
+pub again_carried : {t u : List ℕ} {s : Style} (q : Lists) → IsUtf8 t → (f : Formats t s u) → (a : ReadingOf u q) → (w : FoundReading f q a)
     → BlanksFound q.comments (first_gap f.normal (rows_of f.normal s f.writes.trees)) (row_decos f.normal (rows_of f.normal s f.writes.trees)) (rows_of q s a.trees) w.laid.found_rows w.laid.line (length u)
-    → FoundSame f.normal s f.writes.trees u q a.trees
-again_same {t} {u} {s} q utf8 f a w blanks =
+    → CarriedSame q (rows_of q s a.trees) (first_gap f.normal (rows_of f.normal s f.writes.trees)) (row_decos f.normal (rows_of f.normal s f.writes.trees))
+again_carried {t} {u} {s} q utf8 f a w blanks =
     let m : Lists = f.normal in
     let xs : List Row = rows_of m s f.writes.trees in
     let form = formed utf8 f in
     let fixed : map (normal_document u (setting_of q s)) a.trees ≡ a.trees = roots_fixed f q a.trees w.alike in
     let noted : NotedComments u q.events (w.laid.firsts ++ w.laid.others) q.comments =
     subst (λ z. NotedComments u q.events z q.comments) (ap (λ (v : Documents). v.comments) w.derived ∙ w.laid.are) a.comments in
-    let carried = carried_again {es = q.events} (source_of m xs) (own_line_comments (source_of m xs) xs) xs (rows_of q s a.trees) w.laid.firsts w.laid.others form.utf8 (rows_known u s q form.utf8 a fixed)
-    (found_rows true w.alike) form.rows form.decos w.laid.begin w.laid.placed w.laid.ascend w.laid.told noted (λ left. stream_ties a.trees w.roots w.same w.alike left) w.quiet blanks in
+    carried_again {es = q.events} (source_of m xs) (own_line_comments (source_of m xs) xs) xs (rows_of q s a.trees) w.laid.firsts w.laid.others form.utf8 (rows_known u s q form.utf8 a fixed)
+    (found_rows true w.alike) form.rows form.decos w.laid.begin w.laid.placed w.laid.ascend w.laid.told noted (λ left. stream_ties a.trees w.roots w.same w.alike left) w.quiet blanks
+
+pub again_same : {t u : List ℕ} {s : Style} (q : Lists) → IsUtf8 t → (f : Formats t s u) → (a : ReadingOf u q) → (w : FoundReading f q a)
+    → BlanksFound q.comments (first_gap f.normal (rows_of f.normal s f.writes.trees)) (row_decos f.normal (rows_of f.normal s f.writes.trees)) (rows_of q s a.trees) w.laid.found_rows w.laid.line (length u)
+    → FoundSame f.normal s f.writes.trees u q a.trees
+again_same q utf8 f a w blanks =
+    let carried = again_carried q utf8 f a w blanks in
     record { of_reading = a.of_reading; alike = w.alike; gap = carried.gap_is; decos = carried.decos_are }
 
 -- The law: they are right.

@@ -55,7 +55,7 @@ two_tall : {a b c d : ℕ} → a ≡ c → b ≡ d → max a b ≡ max c d
 two_tall {a} {b} {c} {d} e f = ap (λ w. max w b) e ∙ ap (λ w. max c w) f
 
 mutual
-  alike_tall : {K : Node → Node → Node → Node → Type 0} {x y : Node} → Alike K x y → tall x ≡ tall y
+  pub alike_tall : {K : Node → Node → Node → Node → Type 0} {x y : Node} → Alike K x y → tall x ≡ tall y
   alike_tall (alike_scalars e) = refl
   alike_tall (alike_aliases e) = refl
   alike_tall (alike_sequences e a) = ap suc (items_tall a)

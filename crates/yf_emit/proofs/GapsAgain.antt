@@ -26,36 +26,38 @@ trimmed_twice (b ∷ bs) = go (is_white b && list_all is_white bs) refl (trimmed
       ap (λ z. if is_white b && z then [] else b ∷ trimmed (trimmed bs)) (whites_left bs)
       ∙ (ap (λ z. if z then [] else b ∷ trimmed (trimmed bs)) e ∙ ap (λ z. b ∷ z) f)
 
--- the lines of a gap, the comments that are found on them, and the note of what stands after it. may: whether a blank line may stand there, else the
--- next note may be any; is: whether one stands directly before
+-- the lines of a gap, the comments that are found on them, and the note of what stands after it. may: whether a blank line may stand there;
+-- is: whether one stands directly before
 pub data Blanks : Bool → Bool → List GapLine → List CommentValue → Bool → Type 0 where
-  gap_ends : {may is b : Bool} → (may ≡ true → b ≡ is) → Blanks may is [] [] b
+  gap_ends : {may is b : Bool} → b ≡ is → Blanks may is [] [] b
   gap_blank : {may b : Bool} {gs : List GapLine} {cs : List CommentValue} → Blanks may true gs cs b → Blanks may false (blank ∷ gs) cs b
-  gap_remark : {may is b : Bool} {column : ℕ} {text : List ℕ} {c : CommentValue} {gs : List GapLine} {cs : List CommentValue} → trimmed c.text ≡ text → (may ≡ true → c.blank_before ≡ is) → Blanks true false gs cs b
+  gap_remark : {may is b : Bool} {column : ℕ} {text : List ℕ} {c : CommentValue} {gs : List GapLine} {cs : List CommentValue} → trimmed c.text ≡ text → c.blank_before ≡ is → Blanks true false gs cs b
       → Blanks may is (remark column text ∷ gs) (c ∷ cs) b
 
-record LastLine (may a b : Bool) (rest : List CommentValue) : Type 0 where
-  none : rest ≡ []
-  note : (may && b) ≡ (may && a)
+pub record LastLine (may a b : Bool) (rest : List CommentValue) : Type 0 where
+  pub none : rest ≡ []
+  pub note : (may && b) ≡ (may && a)
+  pub exact : b ≡ (may && a)
 
-last_line : (may a : Bool) {b : Bool} {rest : List CommentValue} → Blanks may false (blank_if (may && a)) rest b → LastLine may a b rest
-last_line true true (gap_blank (gap_ends f)) = record { none = refl; note = f refl }
-last_line true false (gap_ends f) = record { none = refl; note = f refl }
-last_line false a (gap_ends f) = record { none = refl; note = refl }
+pub last_line : (may a : Bool) {b : Bool} {rest : List CommentValue} → Blanks may false (blank_if (may && a)) rest b → LastLine may a b rest
+last_line true true (gap_blank (gap_ends f)) = record { none = refl; note = f; exact = f }
+last_line true false (gap_ends f) = record { none = refl; note = f; exact = f }
+last_line false a (gap_ends f) = record { none = refl; note = refl; exact = f }
 
-record FirstRemark (may a b : Bool) (text : List ℕ) (gs : List GapLine) (rest : List CommentValue) : Type 0 where
-  c : CommentValue
-  cs : List CommentValue
-  are : rest ≡ c ∷ cs
-  text_is : trimmed c.text ≡ text
-  note : (may && c.blank_before) ≡ (may && a)
-  more : Blanks true false gs cs b
+pub record FirstRemark (may a b : Bool) (text : List ℕ) (gs : List GapLine) (rest : List CommentValue) : Type 0 where
+  pub c : CommentValue
+  pub cs : List CommentValue
+  pub are : rest ≡ c ∷ cs
+  pub text_is : trimmed c.text ≡ text
+  pub note : (may && c.blank_before) ≡ (may && a)
+  pub exact : c.blank_before ≡ (may && a)
+  pub more : Blanks true false gs cs b
 
-first_remark : (may a : Bool) (column : ℕ) {b : Bool} {text : List ℕ} {gs : List GapLine} {rest : List CommentValue} → Blanks may false (blank_if (may && a) ++ (remark column text ∷ gs)) rest b
+pub first_remark : (may a : Bool) (column : ℕ) {b : Bool} {text : List ℕ} {gs : List GapLine} {rest : List CommentValue} → Blanks may false (blank_if (may && a) ++ (remark column text ∷ gs)) rest b
     → FirstRemark may a b text gs rest
-first_remark true true column (gap_blank (gap_remark {c = c} {cs = cs} e f more)) = record { c = c; cs = cs; are = refl; text_is = e; note = f refl; more = more }
-first_remark true false column (gap_remark {c = c} {cs = cs} e f more) = record { c = c; cs = cs; are = refl; text_is = e; note = f refl; more = more }
-first_remark false a column (gap_remark {c = c} {cs = cs} e f more) = record { c = c; cs = cs; are = refl; text_is = e; note = refl; more = more }
+first_remark true true column (gap_blank (gap_remark {c = c} {cs = cs} e f more)) = record { c = c; cs = cs; are = refl; text_is = e; note = f; exact = f; more = more }
+first_remark true false column (gap_remark {c = c} {cs = cs} e f more) = record { c = c; cs = cs; are = refl; text_is = e; note = f; exact = f; more = more }
+first_remark false a column (gap_remark {c = c} {cs = cs} e f more) = record { c = c; cs = cs; are = refl; text_is = e; note = refl; exact = f; more = more }
 
 -- comments at a column, and a blank line after them or none
 abbrev pub gap_with : Ending → ℕ → List CommentValue → Bool → List GapLine

@@ -1,5 +1,5 @@
 -- Each comment of a gap, as it stands in a text, and what stands after it carry the note whether a blank line was printed before them.
-use Rattle.std.proofs.Common.{◌≡◌, ℕ, zero, suc, ◌+◌, ◌≤◌, Bool, true, false, true≢false, List, [], ◌∷◌, ◌++◌, refl, sym, ap, ◌∙◌, subst, arith, add-zero}
+use Rattle.std.proofs.Common.{◌≡◌, ℕ, zero, suc, ◌+◌, ◌≤◌, Bool, true, false, List, [], ◌∷◌, ◌++◌, refl, sym, ap, ◌∙◌, subst, arith, add-zero}
 use Rattle.std.specs.Prelude.{◌&&◌}
 use Rattle.std.specs.Str.{IsUtf8}
 use Rattle.yf_chars.specs.Class.{is_white, is_break_char}
@@ -84,31 +84,32 @@ since_back {t} {f} (suc k) i u s d =
 
 -- The last line.
 
-last_noted : {t : List ℕ} {f i j : ℕ} {b : Bool} {cs ns : List CommentValue} (may a : Bool) → IsUtf8 t → GapStands t i (blank_if (may && a)) cs j → Blank t i → f ≤ i → (may ≡ true → BlankSince t f i → ⊥) → NotedOver t f cs ns
+last_noted : {t : List ℕ} {f i j : ℕ} {b : Bool} {cs ns : List CommentValue} (may a : Bool) → IsUtf8 t → GapStands t i (blank_if (may && a)) cs j → Blank t i → f ≤ i → (BlankSince t f i → ⊥) → NotedOver t f cs ns
     → (k : ℕ) → Spaces t j k → HeadNote t f (j + k) a b → Blanks may false (blank_if (may && a)) ns b
-last_noted {i = i} true true u (blank_stands br gap_over) line l none none_over k s (entry_head n) = gap_blank (gap_ends (λ z. noted_true n (since_past k (i + 1) s (blank_line l line br))))
-last_noted true false u gap_over line l none none_over k s bare_head = gap_ends (λ z. refl)
-last_noted {i = i} true false u gap_over line l none none_over k s (entry_head n) = gap_ends (λ z. noted_false n (λ d. none refl (since_back k i u s d)))
-last_noted false a u gap_over line l none none_over k s n = gap_ends (λ z. absurd (true≢false (sym z)))
+last_noted {i = i} true true u (blank_stands br gap_over) line l none none_over k s (entry_head n) = gap_blank (gap_ends (noted_true n (since_past k (i + 1) s (blank_line l line br))))
+last_noted true false u gap_over line l none none_over k s bare_head = gap_ends refl
+last_noted {i = i} true false u gap_over line l none none_over k s (entry_head n) = gap_ends (noted_false n (λ d. none (since_back k i u s d)))
+last_noted false a u gap_over line l none none_over k s bare_head = gap_ends refl
+last_noted {i = i} false a u gap_over line l none none_over k s (entry_head n) = gap_ends (noted_false n (λ d. none (since_back k i u s d)))
 
 -- A comment, after a blank line or none.
 
 remark_noted : {t : List ℕ} {f i j : ℕ} {b : Bool} {text : List ℕ} {gs : List GapLine} {cs ns : List CommentValue} (column : ℕ) (may a : Bool) → IsUtf8 t → trimmed text ≡ text → GapStands t i (blank_if (may && a) ++ (remark column text ∷ gs)) cs j
-    → Blank t i → f ≤ i → (may ≡ true → BlankSince t f i → ⊥) → NotedOver t f cs ns
+    → Blank t i → f ≤ i → (BlankSince t f i → ⊥) → NotedOver t f cs ns
     → ((k : ℕ) (es ms : List CommentValue) → GapStands t k gs es j → Blank t k → f ≤ k → (BlankSince t f k → ⊥) → NotedOver t f es ms → Blanks true false gs ms b)
     → Blanks may false (blank_if (may && a) ++ (remark column text ∷ gs)) ns b
 remark_noted {t} {f} {i} column true true u e (blank_stands br (remark_stands {k = k} s o q m z n rest)) line l none (one_over {cs = es} {ns = ms} {b = note} d ds) more =
-    gap_blank (gap_remark (ap trimmed q ∙ e) (λ w. noted_true (subst (λ p. NotedSince t f p note) o d) (since_past column (i + 1) s (blank_line l line br))) (more k es ms rest z (omega (arith, l, m)) (λ w. n (since_before w)) ds))
+    gap_blank (gap_remark (ap trimmed q ∙ e) (noted_true (subst (λ p. NotedSince t f p note) o d) (since_past column (i + 1) s (blank_line l line br))) (more k es ms rest z (omega (arith, l, m)) (λ w. n (since_before w)) ds))
 remark_noted {t} {f} {i} column true false u e (remark_stands {k = k} s o q m z n rest) line l none (one_over {cs = es} {ns = ms} {b = note} d ds) more =
-    gap_remark (ap trimmed q ∙ e) (λ w. noted_false (subst (λ p. NotedSince t f p note) o d) (λ y. none refl (since_back column i u s y))) (more k es ms rest z (omega (arith, l, m)) (λ w. n (since_before w)) ds)
-remark_noted {f = f} column false a u e (remark_stands {k = k} s o q m z n rest) line l none (one_over {cs = es} {ns = ms} d ds) more =
-    gap_remark (ap trimmed q ∙ e) (λ w. absurd (true≢false (sym w))) (more k es ms rest z (omega (arith, l, m)) (λ w. n (since_before w)) ds)
+    gap_remark (ap trimmed q ∙ e) (noted_false (subst (λ p. NotedSince t f p note) o d) (λ y. none (since_back column i u s y))) (more k es ms rest z (omega (arith, l, m)) (λ w. n (since_before w)) ds)
+remark_noted {t} {f} {i} column false a u e (remark_stands {k = k} s o q m z n rest) line l none (one_over {cs = es} {ns = ms} {b = note} d ds) more =
+    gap_remark (ap trimmed q ∙ e) (noted_false (subst (λ p. NotedSince t f p note) o d) (λ y. none (since_back column i u s y))) (more k es ms rest z (omega (arith, l, m)) (λ w. n (since_before w)) ds)
 
 -- of a gap that was laid out so, before a row that stands k spaces after it
 pub gap_noted : {t : List ℕ} {f i j : ℕ} {b : Bool} {cs ns : List CommentValue} (e : Ending) (column : ℕ) (hs : List CommentValue) (a : Bool) → IsUtf8 t → GapStands t i (gap_with e column hs a) cs j → Blank t i → f ≤ i
-    → (may_be_blank_behind e ≡ true → BlankSince t f i → ⊥) → NotedOver t f cs ns → (k : ℕ) → Spaces t j k → HeadNote t f (j + k) a b → Blanks (may_be_blank_behind e) false (gap_with e column hs a) ns b
+    → (BlankSince t f i → ⊥) → NotedOver t f cs ns → (k : ℕ) → Spaces t j k → HeadNote t f (j + k) a b → Blanks (may_be_blank_behind e) false (gap_with e column hs a) ns b
 gap_noted e column [] a u stands line l none notes k s n = last_noted (may_be_blank_behind e) a u stands line l none notes k s n
 gap_noted {t} {f} {i} {j} {b} {cs} {ns} e column (h ∷ hs) a u stands line l none notes k s n =
     subst (λ z. Blanks (may_be_blank_behind e) false z ns b) (sym (gap_more e column h hs a))
     (remark_noted column (may_be_blank_behind e) h.blank_before u (trimmed_twice h.text) (subst (λ z. GapStands t i z cs j) (gap_more e column h hs a) stands) line l none notes
-    (λ p es ms rest w m nothing others. gap_noted anywhere column hs a u rest w m (λ z. nothing) others k s n))
+    (λ p es ms rest w m nothing others. gap_noted anywhere column hs a u rest w m nothing others k s n))

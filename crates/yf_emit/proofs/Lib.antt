@@ -127,6 +127,7 @@ mod ShownNodes
 mod ShownKeys
 mod ShownComments
 mod ShownDecos
+mod ShownCore
 mod ShownScalars
 mod ShownLayouts
 -- for further theorems
@@ -135,6 +136,15 @@ pub mod CommentsFit
 pub mod ContentFound
 pub mod DirectivesFit
 pub mod DocumentTrails
+pub mod EventsTold
+pub mod BlanksKept
+pub mod CommentsStay
+pub mod KeyDecides
+pub mod EmptyTexts
+pub mod KeepsHold
+pub mod RowColumns
+pub mod LinesTidy
+pub mod SpellingsKept
 pub mod FormatKeeps
 pub mod FormatLawsHold
 pub mod FormatTrails

@@ -40,7 +40,7 @@ remark_some e f = cc
 same_text : {p q : List ℕ} → Some p ≡ Some q → p ≡ q
 same_text e = cc
 
-seen_long : {w : List ℕ} → IsSeen w → 0 < length w
+pub seen_long : {w : List ℕ} → IsSeen w → 0 < length w
 seen_long a = let l = ap length a.is in let b = len_utf8_bounds a.char in omega (arith, l, length-append (encode_utf8 a.char) a.behind, length-encode a.char, b)
 
 own_trail : (x : Row) (d : Deco) (y : List ℕ) → d.trails ≡ y ∷ [] → own_line x d ≡ (replicate x.column 32 ++ (x.text ++ (32 ∷ 32 ∷ []))) ++ y
@@ -64,18 +64,18 @@ untrailed {t} {l} x d r u a e f seen =
     let here : Rest t (l.start + length (own_line x d)) (10 ∷ z) = subst (λ v. Rest t (l.start + length (own_line x d)) (10 ∷ v)) e text.rest in
     subst (λ i. Behind t i) (place_of_rest there here ∙ sym a.end) seen.behind
 
-first_tidy : {ds : List Deco} → TidyDecos ds → TidyTrails (first ds).trails × TidyGap (first ds).gap
+pub first_tidy : {ds : List Deco} → TidyDecos ds → TidyTrails (first ds).trails × TidyGap (first ds).gap
 first_tidy none_tidy = (tt, tt)
 first_tidy (more_tidy a b more) = (a, b)
 
-after_tidy : {ds : List Deco} → TidyDecos ds → TidyDecos (after ds)
+pub after_tidy : {ds : List Deco} → TidyDecos ds → TidyDecos (after ds)
 after_tidy none_tidy = none_tidy
 after_tidy (more_tidy a b more) = more
 
 -- Single lines.
 
 -- a line that ends with a visible character
-record SeenLine (t : List ℕ) (l : Line) : Type 0 where
+pub record SeenLine (t : List ℕ) (l : Line) : Type 0 where
   pub ends : is_white (code t (l.end - 1)) ≡ false
   pub some : l.start < l.end
 
@@ -127,7 +127,7 @@ record LastLine (t : List ℕ) (ls : List Line) (z : List ℕ) (zs : List (List 
   pub is : LineIs t line text
   pub unmarked : Unmarked text
 
-some_long : {w : List ℕ} → 0 < length w → w ≡ [] → ⊥
+pub some_long : {w : List ℕ} → 0 < length w → w ≡ [] → ⊥
 some_long {w} l e = let n : length w ≡ 0 = ap length e in omega (arith, l, n)
 
 last_body : {t : List ℕ} (z : List ℕ) (zs texts : List (List ℕ)) (ls : List Line) → LinesAre t ls ((z ∷ zs) ++ texts) → AreBodyTexts (z ∷ zs) → LastLine t ls z zs
@@ -143,7 +143,7 @@ gap_behind xs ds =
     body_append (gap_lines (first ds).gap) (row_lines xs (after ds)) []
     ∙ (ap (λ w. body_then (gap_lines (first ds).gap) w) (sym (rows_are xs (after ds) [])) ∙ sym (gap_is (first ds).gap (lines_then xs (after ds) [])))
 
-own_behind : (x : Row) (xs : List Row) (ds : List Deco) (z : List ℕ) → z ≡ body_then (x.body ++ (gap_lines (first ds).gap ++ row_lines xs (after ds))) []
+pub own_behind : (x : Row) (xs : List Row) (ds : List Deco) (z : List ℕ) → z ≡ body_then (x.body ++ (gap_lines (first ds).gap ++ row_lines xs (after ds))) []
     → z ≡ body_then x.body (gap_then (first ds).gap (lines_then xs (after ds) []))
 own_behind x xs ds z e = e ∙ (body_append x.body (gap_lines (first ds).gap ++ row_lines xs (after ds)) [] ∙ ap (λ w. body_then x.body w) (gap_behind xs ds))
 
@@ -152,7 +152,7 @@ module _ {t : List ℕ} (u : IsUtf8 t) (es : List Placed) (all : List Line) wher
   seen_text {x = []} a some n = absurd (some refl)
   seen_text {x = c ∷ x} a some n = let end = a.end in record { ends = line_tidy u a some n; some = omega (arith, end) }
 
-  joined_some : (w y : List ℕ) → y ≢ [] → w ++ y ≢ []
+  pub joined_some : (w y : List ℕ) → y ≢ [] → w ++ y ≢ []
   joined_some [] y n e = n e
   joined_some (c ∷ w) y n e = cc
 
@@ -208,7 +208,7 @@ module _ {t : List ℕ} (u : IsUtf8 t) (es : List Placed) (all : List Line) wher
       lined_more (between_rows refl (before refl) (after (suc k) ls further are refl)) (more (suc k) ls further are)
 
   -- the line that a row begins
-  own_seen : {l : Line} (x : Row) (d : Deco) (r : List ℕ) (a : LineIs t l (own_line x d)) → a.behind ≡ body_then x.body (gap_then d.gap r) → 0 < length x.text → AreTrails d.trails
+  pub own_seen : {l : Line} (x : Row) (d : Deco) (r : List ℕ) (a : LineIs t l (own_line x d)) → a.behind ≡ body_then x.body (gap_then d.gap r) → 0 < length x.text → AreTrails d.trails
       → TidyTrails d.trails → SeenEnd t (end_then d x.body r) → SeenLine t l
   own_seen {l} x d r a e some trails tidy seen = by d.trails refl trails tidy where
     by : (w : List (List ℕ)) → d.trails ≡ w → AreTrails w → TidyTrails w → SeenLine t l

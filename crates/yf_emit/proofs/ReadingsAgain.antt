@@ -12,12 +12,19 @@ use Rattle.yf_emit.specs.Rows.{Row, at_text_start}
 use Rattle.yf_emit.proofs.CommentsCut.{each_none, Under, Upward, upward_none, upward_more, own_of}
 use Rattle.yf_emit.proofs.GapsAgain.{Blanks, gap_at_end, gap_with}
 use Rattle.yf_emit.proofs.PlacedRows.{PlacedRow}
-use Rattle.yf_emit.proofs.RowsAgain.{Apart, apart_gap, apart_left, decos_again, gap_is, merged_own, merged_stand}
+use Rattle.yf_emit.proofs.RowsAgain.{Apart, Carry, apart_gap, apart_left, decos_again, gap_is, merged_own, merged_stand}
 use Rattle.yf_emit.proofs.CarriedAgain.{CarryAgain, NextTied, Owns, Tied, all_of, all_standing, carry_again, cut_over, first_from, first_over, next_apart, none_stands, owns_upward, upward_join}
+
+-- The comments of q on lines of their own, as they stand between its rows: those before the first row, and those after each.
+pub data OwnCarried (q : Lists) : List Row → List GapLine → List Deco → Type 0 where
+  alone_carried : {gap : List GapLine} (firsts : List CommentValue) → own_line_comments (source_of q []) [] ≡ firsts → Blanks false false gap firsts false → OwnCarried q [] gap []
+  rows_carried : {row : Row} {rows : List Row} {gap : List GapLine} {ds : List Deco} (firsts others : List CommentValue) → own_line_comments (source_of q (row ∷ rows)) (row ∷ rows) ≡ firsts ++ others
+      → Blanks false false gap firsts row.blank_before → Apart row firsts others → Carry (source_of q (row ∷ rows)) (row ∷ rows) ds others → OwnCarried q (row ∷ rows) gap ds
 
 pub record CarriedSame (q : Lists) (rows : List Row) (gap : List GapLine) (ds : List Deco) : Type 0 where
   pub gap_is : first_gap q rows ≡ gap
   pub decos_are : row_decos q rows ≡ ds
+  pub own : OwnCarried q rows gap ds
 
 abbrev pub remarks : Lists → List Row → List CommentValue
 remarks q rows = map (λ r. r.0) (source_of q rows).remarks
@@ -42,6 +49,7 @@ carried_same q row rows {p} {ps} {ds} {gap} {i} {j} {owns} firsts hs b all up un
     record {
       gap_is = ap (λ z. gap_of at_text_start z (row ∷ rows)) own ∙ (apart_gap at_text_start rows apart ∙ gap_is at_text_start row.column hs b shape blanks);
       decos_are = decos_again (own_line_comments c (row ∷ rows)) again.carry (ap (comments_left row) own ∙ apart_left apart);
+      own = rows_carried firsts (all_standing ds owns) own blanks apart again.carry;
     }
 
 -- where no row is laid out
@@ -51,6 +59,7 @@ alone_same q firsts hs all up shape blanks =
     record {
       gap_is = ap (λ z. gap_of at_text_start z []) own ∙ (gap_at_end at_text_start firsts ∙ gap_is at_text_start 0 hs false shape blanks);
       decos_are = refl;
+      own = alone_carried firsts own blanks;
     } where
       own_alone : {k : ℕ} {cs : List CommentValue} → Upward k cs → filter (own_of []) cs ≡ cs
       own_alone upward_none = refl

@@ -58,10 +58,10 @@ turn_each : {p : CommentValue → Bool} {b : Bool} {xs : List CommentValue} → 
 turn_each each_none = each_none
 turn_each (each_more e a) = each_more (ap not e) (turn_each a)
 
-kept_first : (p : CommentValue → Bool) (xs ys : List CommentValue) → Each (λ d. p d ≡ true) xs → Each (λ d. p d ≡ false) ys → filter p (xs ++ ys) ≡ xs
+pub kept_first : (p : CommentValue → Bool) (xs ys : List CommentValue) → Each (λ d. p d ≡ true) xs → Each (λ d. p d ≡ false) ys → filter p (xs ++ ys) ≡ xs
 kept_first p xs ys a b = filter-append p xs ys ∙ (ap (λ z. z ++ filter p ys) (keep_all p a) ∙ (ap (λ z. xs ++ z) (drop_all p b) ∙ append-nil xs))
 
-kept_others : (p : CommentValue → Bool) (xs ys : List CommentValue) → Each (λ d. p d ≡ true) xs → Each (λ d. p d ≡ false) ys → filter (λ d. not (p d)) (xs ++ ys) ≡ ys
+pub kept_others : (p : CommentValue → Bool) (xs ys : List CommentValue) → Each (λ d. p d ≡ true) xs → Each (λ d. p d ≡ false) ys → filter (λ d. not (p d)) (xs ++ ys) ≡ ys
 kept_others p xs ys a b =
     let q : CommentValue → Bool = λ d. not (p d) in
     filter-append q xs ys ∙ (ap (λ z. z ++ filter q ys) (drop_all q (turn_each a)) ∙ keep_all q (turn_each b))

@@ -125,14 +125,18 @@ formats_values utf8 f b =
     (bare_joined b.derived_events (unplaced stream_ends ∷ []) (flat_map flat_document f.writes.trees) (unplaced stream_ends ∷ []) (documents_bare (formats_meant utf8 f b) b.events) refl)
     ∙ ap bare (sym f.writes.of_reading.events))
 
+-- and its resolved tags
+pub formats_tags : {t u : List ℕ} {s : Style} {q : Lists} → IsUtf8 t → (f : Formats t s u) → ReadingOf u q → q.resolved ≡ f.normal.resolved
+formats_tags utf8 f b =
+    let tags = same_tags (same_in_documents utf8 f (formats_meant utf8 f b)) f.reads.events b.events in
+    b.resolved ∙ (ap (λ w. None ∷ (w ++ (None ∷ []))) (sym tags) ∙ (sym f.reads.resolved ∙ ap (λ (w : Lists). w.resolved) (sym f.is_normal.is)))
+
 pub formats_content : FormatsKeepContent
 formats_content t u s utf8 f r q a b =
     let m : Lists = f.normal in
     let meant : DocumentsMeant m.documents f.writes.trees b.derived.documents = formats_meant utf8 f b in
-    let tags = same_tags (same_in_documents utf8 f meant) f.reads.events b.events in
     let events : bare q.events ≡ bare m.events = formats_values utf8 f b in
-    let resolved : q.resolved ≡ m.resolved =
-    b.resolved ∙ (ap (λ w. None ∷ (w ++ (None ∷ []))) (sym tags) ∙ (sym f.reads.resolved ∙ ap (λ (w : Lists). w.resolved) (sym f.is_normal.is))) in
+    let resolved : q.resolved ≡ m.resolved = formats_tags utf8 f b in
     let nodes : said (values q.events) q.resolved ≡ said (values m.events) m.resolved =
     sym (unmarked_said (values q.events) q.resolved) ∙ (ap (λ w. said w q.resolved) events ∙ (unmarked_said (values m.events) q.resolved ∙ ap (said (values m.events)) resolved)) in
     let directives : flat_map items_of_document q.documents ≡ flat_map items_of_document m.documents = ap (λ w. flat_map items_of_document w) b.documents ∙ documents_items meant in

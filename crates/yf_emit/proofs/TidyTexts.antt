@@ -1,12 +1,13 @@
 -- Texts that end with no white space: comments as they are printed; and lines of a text with such a text.
-use Rattle.std.proofs.Common.{◌≡◌, ◌≢◌, ℕ, zero, suc, ◌+◌, ◌-◌, ◌<◌, ◌⊎◌, inl, inr, ⊎_elim, Bool, true, false, true≢false, List, [], ◌∷◌, ◌++◌, length, get_or, get_or-drop, refl, sym, ap, ◌∙◌, arith}
+use Rattle.std.proofs.Common.{◌≡◌, ◌≢◌, ℕ, zero, suc, ◌+◌, ◌-◌, ◌<◌, ◌⊎◌, inl, inr, ⊎_elim, Bool, true, false, true≢false, List, [], ◌∷◌, ◌++◌, length, get_or, get_or-drop, length-append, refl, sym, ap, ◌∙◌, arith}
 use Rattle.std.specs.Prelude.{◌&&◌, if◌then◌else◌, map}
 use Rattle.std.specs.List.{list_all}
 use Rattle.std.specs.Str.{IsUtf8}
 use Rattle.std.proofs.lemmas.Bool.{cases_Bool}
+use Rattle.std.proofs.lemmas.List.{length-drop}
 use Rattle.yf_chars.specs.Class.{is_white}
 use Rattle.yf_chars.specs.Text.{code, last_or}
-use Rattle.yf_chars.proofs.TextLemmas.{byte_from_code}
+use Rattle.yf_chars.proofs.TextLemmas.{byte_from_code, code_from_byte}
 use Rattle.yf_lines.specs.declared.line.Line.{Line}
 use Rattle.yf_lines.proofs.BasicLemmas.{white_below}
 use Rattle.yf_comments.specs.Comment.{CommentValue}
@@ -106,16 +107,33 @@ last_byte : (c : ℕ) (w : List ℕ) → get_or (c ∷ w) (length w) 0 ≡ last_
 last_byte c [] = refl
 last_byte c (b ∷ w) = last_byte b w
 
+-- the last byte of a line
+line_last : {t : List ℕ} {l : Line} (c : ℕ) (w : List ℕ) → LineIs t l (c ∷ w) → get_or t (l.end - 1) 0 ≡ last_or c w
+line_last {t} {l} c w a =
+    let end = a.end in
+    let place : l.start + length w ≡ l.end - 1 = omega (arith, end) in
+    ap (λ k. get_or t k 0) (sym place)
+    ∙ (sym (get_or-drop l.start t (length w) 0) ∙ (ap (λ z. get_or z (length w) 0) a.there.bytes ∙ (first_bytes (c ∷ w) (10 ∷ a.behind) (length w) (omega arith) ∙ last_byte c w)))
+
 -- a line whose text ends with no white
 pub line_tidy : {t : List ℕ} {l : Line} {x : List ℕ} → IsUtf8 t → LineIs t l x → x ≢ [] → is_white (last_or 0 x) ≡ false → is_white (code t (l.end - 1)) ≡ false
 line_tidy {x = []} u a some n = absurd (some refl)
 line_tidy {t} {l} {x = c ∷ w} u a some n =
     ⊎_elim (λ (e : is_white (code t (l.end - 1)) ≡ true).
     let byte = byte_from_code t (l.end - 1) u (white_below (code t (l.end - 1)) e) in
-    let end = a.end in
-    let place : l.start + length w ≡ l.end - 1 = omega (arith, end) in
-    let there : get_or t (l.start + length w) 0 ≡ last_or c w =
-    sym (get_or-drop l.start t (length w) 0) ∙ (ap (λ z. get_or z (length w) 0) a.there.bytes ∙ (first_bytes (c ∷ w) (10 ∷ a.behind) (length w) (omega arith) ∙ last_byte c w)) in
-    let same : code t (l.end - 1) ≡ last_or c w = sym byte.1 ∙ (ap (λ k. get_or t k 0) (sym place) ∙ there) in
-    absurd (true≢false (sym e ∙ (ap is_white same ∙ n))))
+    absurd (true≢false (sym e ∙ (ap is_white (sym byte.1 ∙ line_last c w a) ∙ n))))
     (λ (e : is_white (code t (l.end - 1)) ≡ false). e) (cases_Bool (is_white (code t (l.end - 1))))
+
+-- and the other way round
+pub tidy_line : {t : List ℕ} {l : Line} {x : List ℕ} → IsUtf8 t → LineIs t l x → x ≢ [] → is_white (code t (l.end - 1)) ≡ false → is_white (last_or 0 x) ≡ false
+tidy_line {x = []} u a some n = absurd (some refl)
+tidy_line {t} {l} {x = c ∷ w} u a some n =
+    ⊎_elim (λ (e : is_white (last_or c w) ≡ true).
+    let low = white_below (last_or c w) e in
+    let last = line_last c w a in
+    let end = a.end in
+    let size : length t - l.start ≡ length ((c ∷ w) ++ (10 ∷ a.behind)) = sym (length-drop l.start t) ∙ ap length a.there.bytes in
+    let within : l.end - 1 < length t = omega (arith, end, size, length-append (c ∷ w) (10 ∷ a.behind)) in
+    let byte : get_or t (l.end - 1) 0 < 128 = omega (arith, low, last) in
+    absurd (true≢false (sym e ∙ (ap is_white (sym last ∙ sym (code_from_byte t (l.end - 1) u within byte)) ∙ n))))
+    (λ (e : is_white (last_or c w) ≡ false). e) (cases_Bool (is_white (last_or c w)))

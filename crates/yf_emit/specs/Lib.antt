@@ -19,6 +19,7 @@ pub mod FoundInPass
 pub mod Forms
 pub mod ImplicitKeys
 pub mod Kept
+pub mod Keeps
 pub mod Keys
 pub mod Laws
 pub mod LayoutLaws
@@ -44,11 +45,18 @@ pub mod RowShapes
 pub mod Rows
 pub mod SameComments
 pub mod Searches
+pub mod CommentsPlaced
+pub mod LayoutKey
+pub mod EmptyTexts
+pub mod SpacedLines
+pub mod Spellings
 pub mod Steps
 pub mod StillLeaves
 pub mod Textual
 pub mod Trailing
 pub mod TrailsOf
+pub mod TidyLines
+pub mod Types
 pub mod Wanted
 pub mod Undisturbed
 pub mod FoundTrees

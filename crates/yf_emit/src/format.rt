@@ -36,8 +36,9 @@ fn formatted(
 }
 
 /// The stream of the text in the house style: the layout of the normal form of the text's reading, and nothing else is that. It is
-/// accepted, has the same content and the same comments at the same places, and formatting it again changes nothing (`FormatKept`). It has
-/// at most `LONGEST` bytes, so that it can be read again.
+/// accepted, has the same content and the same comments at the same places, and formatting it again changes nothing (`FormatKept`). Types,
+/// spellings, blank lines and what else people look for are kept as `Keeps` says. It has at most `LONGEST` bytes, so that it can be read
+/// again.
 ///
 /// # Errors
 ///

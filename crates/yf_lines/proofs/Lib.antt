@@ -15,6 +15,7 @@ pub mod PlaceLemmas
 pub mod OutputLemmas
 -- what is written is read again (the laws of layouts of yf_emit)
 pub mod RestLemmas
+pub mod CoreSteady
 pub mod VisibleLines
 -- `LineTable::build` and `is_line_start` by bytes
 pub mod SearchLemmas

@@ -1,4 +1,5 @@
 pub mod Basic
+pub mod CoreSchema
 pub mod FaultPlaces
 pub mod Lines
 pub mod Output

@@ -1,0 +1,19 @@
+-- What formatting leaves as it was, said as people mean it: u is a formatting of the text t.
+use Rattle.std.specs.Prelude.{ℕ, List}
+use Rattle.yf_emit.specs.declared.style.Style.{Style}
+use Rattle.yf_emit.specs.CommentsPlaced.{CommentsPlaced}
+use Rattle.yf_emit.specs.EmptyTexts.{IsEmptyAlike}
+use Rattle.yf_emit.specs.LayoutKey.{DependsOnKey}
+use Rattle.yf_emit.specs.SpacedLines.{SameBlanks}
+use Rattle.yf_emit.specs.Spellings.{SameSpellings}
+use Rattle.yf_emit.specs.TidyLines.{IsTidyText}
+use Rattle.yf_emit.specs.Types.{SameTypes}
+
+pub record Keeps (t : List ℕ) (s : Style) (u : List ℕ) : Type 0 where
+  pub types : SameTypes t u
+  pub spellings : SameSpellings s t u
+  pub lines : IsTidyText s u
+  pub empty : IsEmptyAlike t u
+  pub blanks : SameBlanks t s u
+  pub key : DependsOnKey t s u
+  pub comments : CommentsPlaced t s u
