@@ -1,0 +1,20 @@
+-- What a second reading of a part of a text answers.
+use Rattle.std.specs.Prelude.{ℕ, List, ◌<◌, ◌≤◌, Result, MatchResult}
+use Rattle.std.specs.Str.{IsCharBoundary}
+use Rattle.yf_diagnose.specs.declared.diagnosis.Diagnosis.{Diagnosis}
+
+-- a place between characters of the text, not before another one
+abbrev pub NotBefore : List ℕ → ℕ → ℕ → Type 0
+NotBefore t at i = IsCharBoundary t i × (at ≤ i)
+
+-- the same, and after it
+abbrev pub Behind : List ℕ → ℕ → ℕ → Type 0
+Behind t at i = IsCharBoundary t i × (at < i)
+
+-- what begins at a place ends after it, or is refused at a place that is not before it
+abbrev pub Told : List ℕ → ℕ → Result ℕ Diagnosis → Type 0
+Told t at answer = MatchResult answer (Behind t at) (λ d. NotBefore t at d.at)
+
+-- the same of what may be empty
+abbrev pub Passed : List ℕ → ℕ → Result ℕ Diagnosis → Type 0
+Passed t at answer = MatchResult answer (NotBefore t at) (λ d. NotBefore t at d.at)
