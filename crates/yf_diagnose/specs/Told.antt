@@ -2,6 +2,7 @@
 use Rattle.std.specs.Prelude.{ℕ, List, ◌<◌, ◌≤◌, Result, MatchResult}
 use Rattle.std.specs.Str.{IsCharBoundary}
 use Rattle.yf_diagnose.specs.declared.diagnosis.Diagnosis.{Diagnosis}
+use Rattle.yf_diagnose.specs.declared.diagnosis.Refusal.{Refusal}
 
 -- a place between characters of the text, not before another one
 abbrev pub NotBefore : List ℕ → ℕ → ℕ → Type 0
@@ -18,3 +19,7 @@ Told t at answer = MatchResult answer (Behind t at) (λ d. NotBefore t at d.at)
 -- the same of what may be empty
 abbrev pub Passed : List ℕ → ℕ → Result ℕ Diagnosis → Type 0
 Passed t at answer = MatchResult answer (NotBefore t at) (λ d. NotBefore t at d.at)
+
+-- a refusal is told between characters, not before what was refused
+abbrev pub IsRefusal : List ℕ → Refusal → Type 0
+IsRefusal t refusal = IsCharBoundary t refusal.from × NotBefore t refusal.from refusal.at

@@ -4,11 +4,17 @@
 mod brackets;
 mod diagnosis;
 mod gap;
+mod guess;
 mod lines;
+mod look;
 mod plain;
 mod property;
 mod quoted;
+mod reading;
+mod rest;
+mod standing;
 mod why;
 
-pub use diagnosis::Diagnosis;
+pub use diagnosis::Refusal;
+pub use reading::diagnose;
 pub use why::Why;

@@ -1,4 +1,5 @@
 //! The lines of quoted text and of brackets. Offsets count bytes.
+ghost use Rattle.std.specs.Prelude.{◌+◌, ◌<◌, MatchBool, ⊤, length};
 ghost use Rattle.std.specs.Str.{IsCharBoundary};
 ghost use Rattle.yf_diagnose.specs.Told.{Passed};
 ghost use Rattle.yf_diagnose.specs.Lines.{NextLineAt};
@@ -73,7 +74,9 @@ pub(crate) fn comment_end(text: &str, at: usize) -> Result<usize, Diagnosis>
 }
 
 /// Whether the text or the line ends there.
-pub(crate) fn line_ends(text: &str, at: usize) -> bool {
+pub(crate) fn line_ends(text: &str, at: usize) -> bool
+    ensures { MatchBool result ⊤ (at < length text.now) }
+{
     if at >= text.len() {
         return true;
     }
@@ -109,7 +112,9 @@ pub(crate) fn is_long(text: &str, from: usize, to: usize) -> bool {
 }
 
 /// Whether a character of a line break stands there.
-pub(crate) fn is_break(text: &str, at: usize) -> bool {
+pub(crate) fn is_break(text: &str, at: usize) -> bool
+    ensures { MatchBool result (IsCharBoundary text.now (at + 1)) ⊤ }
+{
     if stands(text, at, b'\n') {
         return true;
     }

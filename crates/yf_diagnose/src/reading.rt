@@ -1,0 +1,437 @@
+//! The second reading of what was refused. Offsets count bytes.
+ghost use Rattle.std.specs.Prelude.{◌≡◌, ◌+◌, IfSome};
+ghost use Rattle.std.specs.Str.{IsCharBoundary};
+ghost use Rattle.yf_diagnose.specs.Told.{IsRefusal, Passed};
+
+use crate::brackets::{brackets_end, quote_stands};
+use crate::diagnosis::{Diagnosis, Refusal};
+use crate::guess::guessed;
+use crate::lines::{Margin, comment_end, line_ends};
+use crate::look::{
+    begun_line, first_tab, indicator_stands, line_start, whites_before, word_before,
+};
+use crate::plain::{plain_begun, plain_end};
+use crate::property::{name_end, property_end, property_stands};
+use crate::quoted::quoted_end;
+use crate::rest::{blank_lines_end, directive_end, header_end, rest_end};
+use crate::standing::{Standing, closes, key_line, standing_at};
+use crate::why::Why;
+use yf_chars::classes::is_printable;
+use yf_chars::context::Ctx;
+use yf_chars::text::{peek, stands};
+use yf_lines::basic::{marker_stands, skip_whites};
+use yf_lines::table::skip_marks;
+
+/// Where and why a text is no stream whose reading stopped at an offset. What was refused there is read again: the node or the key, the header, the
+/// directive, or the line.
+pub fn diagnose(text: &str, stop: usize) -> Refusal
+    requires { IsCharBoundary text.now stop }
+    ensures { IsRefusal text.now result }
+{
+    let refusal = refusal_at(text, stop);
+    Refusal {
+        why: guessed(text, refusal.at, refusal.why),
+        ..refusal
+    }
+}
+
+fn refusal_at(text: &str, stop: usize) -> Refusal
+    requires { IsCharBoundary text.now stop }
+    ensures { IsRefusal text.now result }
+{
+    let start = line_start(text, stop);
+    let base = skip_marks(text, start);
+    let first = skip_whites(text, base);
+    if first >= stop {
+        return at_first(text, start, skip_whites(text, stop));
+    }
+    if marker_stands(text, base) {
+        if stop == base + 3 {
+            return told(
+                text,
+                stop,
+                rest_end(text, stop, Why::AfterDocumentEnd),
+                Why::AfterDocumentEnd,
+            );
+        }
+    }
+    if comment_stands(text, stop) {
+        return match comment_end(text, stop) {
+            Err(wrong) => behind(stop, wrong),
+            Ok(_) => without_colon(text, start, stop),
+        };
+    }
+    if line_ends(text, stop) {
+        return without_colon(text, start, stop);
+    }
+    let word = word_before(text, stop);
+    if word < stop {
+        if property_stands(text, word) {
+            return match property_end(text, word) {
+                Err(wrong) => behind(word, wrong),
+                Ok(_) => here(stop, Why::PropertyUnspaced),
+            };
+        }
+    }
+    at_sign(text, start, stop)
+}
+
+// What is told of a place of which a reading begins, where it ends well for another reason.
+fn told(text: &str, at: usize, read: Result<usize, Diagnosis>, why: Why) -> Refusal
+    requires boundary { IsCharBoundary text.now at }
+    requires read { Passed text.now at read }
+    ensures { IsRefusal text.now result }
+{
+    match read {
+        Err(wrong) => behind(at, wrong),
+        Ok(_) => here(at, why),
+    }
+}
+
+fn here(at: usize, why: Why) -> Refusal
+    ensures { result ≡ record { from = at; at = at; why = why } }
+{
+    Refusal { from: at, at, why }
+}
+
+fn behind(from: usize, wrong: Diagnosis) -> Refusal
+    ensures { result ≡ record { from = from; at = wrong.at; why = wrong.why } }
+{
+    Refusal {
+        from,
+        at: wrong.at,
+        why: wrong.why,
+    }
+}
+
+// Whether a comment begins there, behind white space.
+fn comment_stands(text: &str, at: usize) -> bool {
+    if stands(text, at, b'#') {
+        return whites_before(text, at) < at;
+    }
+    false
+}
+
+// The first sign of a line.
+fn at_first(text: &str, start: usize, at: usize) -> Refusal
+    requires start { IsCharBoundary text.now start }
+    requires boundary { IsCharBoundary text.now at }
+    ensures { IsRefusal text.now result }
+{
+    if line_ends(text, at) {
+        return told(text, start, blank_lines_end(text, start), Why::NodeEnded);
+    }
+    if stands(text, at, b'#') {
+        return told(text, at, comment_end(text, at), Why::LeftInScalar);
+    }
+    if stands(text, at, b'%') {
+        if at == skip_marks(text, start) {
+            return at_percent(text, at);
+        }
+    }
+    at_sign(text, start, at)
+}
+
+// A `%` at the start of a line.
+fn at_percent(text: &str, at: usize) -> Refusal
+    requires boundary { IsCharBoundary text.now at }
+    requires inside { IsCharBoundary text.now (at + 1) }
+    ensures { IsRefusal text.now result }
+{
+    match standing_at(text, at) {
+        Standing::Node(_) | Standing::Beyond(Why::NoDocumentStart) => match directive_end(
+            text, at,
+        ) {
+            Err(wrong) => behind(at, wrong),
+            Ok(_) => here(at, Why::NoPlain),
+        },
+        Standing::Key(_) | Standing::Beyond(_) => here(at, Why::DirectivePlace),
+    }
+}
+
+// Any other sign of a line.
+fn at_sign(text: &str, start: usize, at: usize) -> Refusal
+    requires start { IsCharBoundary text.now start }
+    requires boundary { IsCharBoundary text.now at }
+    ensures { IsRefusal text.now result }
+{
+    if let Some((c, _)) = peek(text, at) {
+        if c == '\u{FEFF}' {
+            return here(at, Why::Mark);
+        }
+        if !is_printable(c) {
+            return here(at, Why::Control);
+        }
+    }
+    let standing = standing_at(text, at);
+    if let Some(tab) = tab_of(text, start, at, standing) {
+        return tab;
+    }
+    let refusal = standing_refusal(text, at, standing);
+    if refusal.at > at {
+        return refusal;
+    }
+    match tab_before(text, start, at) {
+        Some(tab) => here(tab, Why::TabBeforeEntry),
+        None => refusal,
+    }
+}
+
+// The first tab of a line whose first sign stands there, where spaces must stand.
+fn tab_of(text: &str, start: usize, at: usize, standing: Standing) -> Option<Refusal>
+    requires { IsCharBoundary text.now start }
+    ensures { IfSome result (IsRefusal text.now) }
+{
+    let base = skip_marks(text, start);
+    match first_tab(text, base, at) {
+        None => None,
+        Some(tab) => {
+            if skip_whites(text, tab) < at {
+                return None;
+            }
+            if is_indented(standing, tab.saturating_sub(base)) {
+                return None;
+            }
+            Some(here(tab, Why::TabIndents))
+        }
+    }
+}
+
+// Whether so many spaces indent what stands so.
+fn is_indented(standing: Standing, width: usize) -> bool {
+    match standing {
+        Standing::Node(least) => width >= least,
+        Standing::Key(_) | Standing::Beyond(_) => false,
+    }
+}
+
+// The first tab before an entry, or its key, on its line.
+fn tab_before(text: &str, start: usize, at: usize) -> Option<usize>
+    requires { IsCharBoundary text.now start }
+    ensures { IfSome result (IsCharBoundary text.now) }
+{
+    if !indicator_stands(text, at) {
+        return None;
+    }
+    let line = begun_line(text, start, at);
+    if line.at < at {
+        if !stands(text, at, b':') {
+            return None;
+        }
+    }
+    line.tab
+}
+
+// What is told of what stands there so.
+fn standing_refusal(text: &str, at: usize, standing: Standing) -> Refusal
+    requires { IsCharBoundary text.now at }
+    ensures { IsRefusal text.now result }
+{
+    match standing {
+        Standing::Beyond(why) => here(at, beyond_why(text, at, why)),
+        Standing::Node(least) => told(
+            text,
+            at,
+            node_end(text, at, Margin { least, key: false }),
+            node_why(text, at, false),
+        ),
+        Standing::Key(least) => told(
+            text,
+            at,
+            node_end(text, at, Margin { least, key: true }),
+            node_why(text, at, true),
+        ),
+    }
+}
+
+// The same with a reason that the sign itself gives.
+fn beyond_why(text: &str, at: usize, why: Why) -> Why {
+    match why {
+        Why::KeyInSequence => {
+            if stands(text, at, b'-') {
+                return Why::DashUnspaced;
+            }
+            why
+        }
+        Why::AfterBrackets | Why::AfterNode => {
+            if closes(text, at) {
+                return Why::NoBracketOpen;
+            }
+            why
+        }
+        _ => why,
+    }
+}
+
+// The end of the node that begins there, or of its properties.
+fn node_end(text: &str, at: usize, margin: Margin) -> Result<usize, Diagnosis>
+    requires { IsCharBoundary text.now at }
+    ensures { Passed text.now at result }
+{
+    if property_stands(text, at) {
+        return match property_end(text, at) {
+            Ok(end) => Ok(end),
+            Err(wrong) => Err(wrong),
+        };
+    }
+    if stands(text, at, b'|') {
+        return scalar_end(text, at, margin);
+    }
+    if stands(text, at, b'>') {
+        return scalar_end(text, at, margin);
+    }
+    content_end(text, at, margin)
+}
+
+// The end of a block scalar's header, which is no key.
+fn scalar_end(text: &str, at: usize, margin: Margin) -> Result<usize, Diagnosis>
+    requires boundary { IsCharBoundary text.now at }
+    requires inside { IsCharBoundary text.now (at + 1) }
+    ensures { Passed text.now at result }
+{
+    if margin.key {
+        return Ok(at);
+    }
+    match header_end(text, at) {
+        Ok(end) => Ok(end),
+        Err(wrong) => Err(wrong),
+    }
+}
+
+// The end of a node without properties that is no block scalar.
+fn content_end(text: &str, at: usize, margin: Margin) -> Result<usize, Diagnosis>
+    requires { IsCharBoundary text.now at }
+    ensures { Passed text.now at result }
+{
+    let read = if stands(text, at, b'"') {
+        quoted_end(text, at, margin)
+    } else if stands(text, at, b'\'') {
+        quoted_end(text, at, margin)
+    } else if stands(text, at, b'[') {
+        brackets_end(text, at, margin)
+    } else if stands(text, at, b'{') {
+        brackets_end(text, at, margin)
+    } else if stands(text, at, b'*') {
+        name_end(text, at)
+    } else {
+        return Ok(plain_end(text, at, Ctx::FlowOut));
+    };
+    match read {
+        Ok(end) => Ok(end),
+        Err(wrong) => Err(wrong),
+    }
+}
+
+// Why a node or a key with that sign, which is read to its end, can't stand there.
+fn node_why(text: &str, at: usize, key: bool) -> Why
+    requires { IsCharBoundary text.now at }
+{
+    if closes(text, at) {
+        return Why::NoBracketOpen;
+    }
+    if indicator_stands(text, at) {
+        return indicator_why(text, at, key);
+    }
+    if stands(text, at, b'*') {
+        return Why::AliasProperties;
+    }
+    if property_stands(text, at) {
+        return Why::PropertyTwice;
+    }
+    if stands(text, at, b'|') {
+        return Why::KeyWithoutColon;
+    }
+    if stands(text, at, b'>') {
+        return Why::KeyWithoutColon;
+    }
+    if begins_leaf(text, at) {
+        return Why::NodeEnded;
+    }
+    Why::NoPlain
+}
+
+// Whether a leaf or brackets begin there.
+fn begins_leaf(text: &str, at: usize) -> bool
+    requires { IsCharBoundary text.now at }
+{
+    if quote_stands(text, at) {
+        return true;
+    }
+    if stands(text, at, b'[') {
+        return true;
+    }
+    if stands(text, at, b'{') {
+        return true;
+    }
+    plain_begun(text, at, Ctx::FlowOut).is_some()
+}
+
+// Why no collection can begin there with its indicator.
+fn indicator_why(text: &str, at: usize, key: bool) -> Why {
+    if key {
+        if stands(text, at, b'-') {
+            return Why::DashInMapping;
+        }
+        return Why::NodeEnded;
+    }
+    if property_stands(text, word_before(text, whites_before(text, at))) {
+        return Why::CollectionAfterProperty;
+    }
+    if begun_line(text, line_start(text, at), at).marker {
+        return Why::OnDocumentLine;
+    }
+    Why::SequenceInLine
+}
+
+// A key behind which its line ends, with no `:`. It may have begun on a line before.
+fn without_colon(text: &str, start: usize, stop: usize) -> Refusal
+    requires start { IsCharBoundary text.now start }
+    requires stop { IsCharBoundary text.now stop }
+    ensures { IsRefusal text.now result }
+{
+    match key_line(text, start) {
+        None => here(stop, Why::KeyWithoutColon),
+        Some(line) => {
+            let at = skip_whites(text, skip_marks(text, line));
+            match key_end(text, at) {
+                Err(wrong) => behind(at, wrong),
+                Ok(end) => Refusal {
+                    from: at,
+                    at: skip_whites(text, end),
+                    why: Why::KeyWithoutColon,
+                },
+            }
+        }
+    }
+}
+
+// The end of a key on its line.
+fn key_end(text: &str, at: usize) -> Result<usize, Diagnosis>
+    requires { IsCharBoundary text.now at }
+    ensures { Passed text.now at result }
+{
+    let margin = Margin {
+        least: 0,
+        key: true,
+    };
+    let mut here = at;
+    'properties: while property_stands(text, here) {
+        match property_end(text, here) {
+            Err(wrong) => return Err(wrong),
+            Ok(end) => {
+                let next = skip_whites(text, end);
+                if line_ends(text, next) {
+                    return Ok(end);
+                }
+                if stands(text, next, b'#') {
+                    return Ok(end);
+                }
+                here = next;
+            }
+        }
+    }
+    match content_end(text, here, margin) {
+        Ok(end) => Ok(end),
+        Err(wrong) => Err(wrong),
+    }
+}
