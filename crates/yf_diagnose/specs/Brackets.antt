@@ -1,8 +1,8 @@
 -- Brackets that are open.
 use Rattle.std.specs.Prelude.{ℕ, List, ◌≤◌, Result, MatchResult}
 use Rattle.yf_diagnose.specs.Told.{Behind, NotBefore}
-use Rattle.yf_diagnose.specs.declared.brackets.Held.{Held}
-use Rattle.yf_diagnose.specs.declared.brackets.Held.TheVariants.{Content, Empty}
+use Rattle.yf_diagnose.specs.declared.leaves.Held.{Held}
+use Rattle.yf_diagnose.specs.declared.leaves.Held.TheVariants.{Content, Empty}
 use Rattle.yf_diagnose.specs.declared.diagnosis.Diagnosis.{Diagnosis}
 
 -- some are open, and no more than the limit

@@ -1,17 +1,14 @@
 //! Nodes in brackets (flow collections, productions 136 to 161): where their reading ends. Offsets count bytes.
-ghost use Rattle.std.specs.Prelude.{◌≡◌, ◌+◌, ◌<◌, ◌≤◌, IfOk, MatchBool, ⊤};
+ghost use Rattle.std.specs.Prelude.{◌≡◌, ◌+◌, ◌<◌, ◌≤◌, IfOk};
 ghost use Rattle.std.specs.Str.{IsCharBoundary};
-ghost use Rattle.yf_diagnose.specs.Brackets.{HeldAt, IsOpen};
-ghost use Rattle.yf_diagnose.specs.Told.{Passed, Told};
+ghost use Rattle.yf_diagnose.specs.Brackets.{IsOpen};
+ghost use Rattle.yf_diagnose.specs.Told.{Told};
 
 use crate::diagnosis::{Diagnosis, refused};
 use crate::gap::gap_end;
+use crate::leaves::{Held, colon_stands, held_content, leaf_end, quote_stands};
 use crate::lines::{Margin, breaks_between, is_long};
-use crate::plain::{plain_begun, plain_lines_end, safe_stands};
-use crate::property::{name_end, property_end, property_stands};
-use crate::quoted::quoted_end;
 use crate::why::Why;
-use yf_chars::context::Ctx;
 use yf_chars::text::stands;
 use yf_lines::basic::{skip_whites, white_or_end_stands};
 
@@ -42,13 +39,6 @@ struct Level {
 struct Levels {
     items: [Level; LEVELS],
     count: usize,
-}
-
-// The content of a node, or the end of its properties where it has none.
-#[derive(Clone, Copy)]
-enum Held {
-    Content(usize),
-    Empty(usize),
 }
 
 /// The end of the brackets of which the opening one stands there.
@@ -332,88 +322,6 @@ impl Levels {
     }
 }
 
-// The content of a node behind its properties.
-fn held_content(text: &str, at: usize, margin: Margin) -> Result<Held, Diagnosis>
-    requires { IsCharBoundary text.now at }
-    ensures { HeldAt text.now at result }
-{
-    let mut here = at;
-    let mut anchor = false;
-    let mut tag = false;
-    'properties: while property_stands(text, here) {
-        let is_anchor = stands(text, here, b'&');
-        if is_second(is_anchor, anchor, tag) {
-            return Err(Diagnosis {
-                at: here,
-                why: Why::PropertyTwice,
-            });
-        }
-        if is_anchor {
-            anchor = true;
-        } else {
-            tag = true;
-        }
-        match property_end(text, here) {
-            Err(told) => return Err(told),
-            Ok(end) => match gap_end(text, end, margin) {
-                Err(told) => return Err(told),
-                Ok(next) => {
-                    if node_ends(text, next) {
-                        return Ok(Held::Empty(end));
-                    }
-                    if next == end {
-                        return Err(Diagnosis {
-                            at: end,
-                            why: Why::PropertyUnspaced,
-                        });
-                    }
-                    here = next;
-                }
-            },
-        }
-    }
-    Ok(Held::Content(here))
-}
-
-// Whether a property is the second of its kind.
-fn is_second(is_anchor: bool, anchor: bool, tag: bool) -> bool {
-    if is_anchor {
-        return anchor;
-    }
-    tag
-}
-
-// The end of the leaf that begins there; with properties before it, it can't be an alias.
-fn leaf_end(text: &str, at: usize, held: bool, margin: Margin) -> Result<usize, Diagnosis>
-    requires { IsCharBoundary text.now at }
-    ensures { Told text.now at result }
-{
-    if stands(text, at, b'"') {
-        return quoted_end(text, at, margin);
-    }
-    if stands(text, at, b'\'') {
-        return quoted_end(text, at, margin);
-    }
-    if stands(text, at, b'*') {
-        if held {
-            return refused(at, Why::AliasProperties);
-        }
-        return name_end(text, at);
-    }
-    match plain_begun(text, at, Ctx::FlowIn) {
-        Some(next) => Ok(plain_lines_end(text, next, margin)),
-        None => refused(at, leaf_why(text, at)),
-    }
-}
-
-// Why no leaf begins with that sign.
-fn leaf_why(text: &str, at: usize) -> Why {
-    if stands(text, at, b'-') {
-        return Why::DashInBrackets;
-    }
-    Why::NoPlain
-}
-
 // Why no comma stands there.
 fn comma_why(text: &str, at: usize) -> Why {
     if stands(text, at, b':') {
@@ -422,45 +330,10 @@ fn comma_why(text: &str, at: usize) -> Why {
     Why::CommaExpected
 }
 
-/// Whether a quote stands there.
-pub(crate) fn quote_stands(text: &str, at: usize) -> bool {
-    if stands(text, at, b'"') {
-        return true;
-    }
-    stands(text, at, b'\'')
-}
-
 // Whether an opening bracket stands there.
 fn bracket_stands(text: &str, at: usize) -> bool {
     if stands(text, at, b'[') {
         return true;
     }
     stands(text, at, b'{')
-}
-
-// Whether the `:` of a value stands there; behind quotes and brackets it needs no white space after it.
-fn colon_stands(text: &str, at: usize, json: bool) -> bool
-    ensures { MatchBool result (IsCharBoundary text.now (at + 1)) ⊤ }
-{
-    if stands(text, at, b':') {
-        if json {
-            return true;
-        }
-        return !safe_stands(text, at + 1, Ctx::FlowIn);
-    }
-    false
-}
-
-// Whether what stands there ends a node that has properties alone.
-fn node_ends(text: &str, at: usize) -> bool {
-    if stands(text, at, b',') {
-        return true;
-    }
-    if stands(text, at, b']') {
-        return true;
-    }
-    if stands(text, at, b'}') {
-        return true;
-    }
-    colon_stands(text, at, false)
 }

@@ -1,5 +1,7 @@
 //! What is told of a refusal.
 ghost use Rattle.std.specs.Prelude.{◌≡◌, Err};
+ghost use Rattle.std.specs.Str.{IsCharBoundary};
+ghost use Rattle.yf_diagnose.specs.Told.{IsRefusal, Passed};
 
 use crate::why::Why;
 
@@ -25,4 +27,34 @@ pub(crate) fn refused(at: usize, why: Why) -> Result<usize, Diagnosis>
     ensures { result ≡ Err (record { at = at; why = why }) }
 {
     Err(Diagnosis { at, why })
+}
+
+/// What is told of a reading that begins at a place: where it ends well, that something else is wrong with what begins there.
+pub(crate) fn told(text: &str, at: usize, read: Result<usize, Diagnosis>, why: Why) -> Refusal
+    requires boundary { IsCharBoundary text.now at }
+    requires read { Passed text.now at read }
+    ensures { IsRefusal text.now result }
+{
+    match read {
+        Err(wrong) => behind(at, wrong),
+        Ok(_) => here(at, why),
+    }
+}
+
+/// What is told of the place itself.
+pub(crate) fn here(at: usize, why: Why) -> Refusal
+    ensures { result ≡ record { from = at; at = at; why = why } }
+{
+    Refusal { from: at, at, why }
+}
+
+/// What is told of a reading that begins at a place and goes wrong.
+pub(crate) fn behind(from: usize, wrong: Diagnosis) -> Refusal
+    ensures { result ≡ record { from = from; at = wrong.at; why = wrong.why } }
+{
+    Refusal {
+        from,
+        at: wrong.at,
+        why: wrong.why,
+    }
 }

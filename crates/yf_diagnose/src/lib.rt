@@ -5,6 +5,8 @@ mod brackets;
 mod diagnosis;
 mod gap;
 mod guess;
+mod keys;
+mod leaves;
 mod lines;
 mod look;
 mod plain;

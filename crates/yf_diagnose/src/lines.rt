@@ -8,7 +8,7 @@ use crate::diagnosis::{Diagnosis, refused};
 use crate::why::Why;
 use yf_chars::nb_runs::skip_nb_chars;
 use yf_chars::text::stands;
-use yf_lines::basic::{line_break, marker_stands, skip_spaces, skip_whites};
+use yf_lines::basic::{line_break, mark_stands, marker_stands, skip_spaces, skip_whites};
 use yf_lines::table::skip_marks;
 
 /// How the lines of a node are held: how many spaces they begin with at least, and whether it must stand on one line, as a key.
@@ -69,6 +69,9 @@ pub(crate) fn comment_end(text: &str, at: usize) -> Result<usize, Diagnosis>
     let end = skip_nb_chars(text, at);
     if line_ends(text, end) {
         return Ok(end);
+    }
+    if mark_stands(text, end) {
+        return refused(end, Why::Mark);
     }
     refused(end, Why::Control)
 }

@@ -3,9 +3,10 @@ ghost use Rattle.std.specs.Prelude.{◌≡◌, ◌+◌, IfSome};
 ghost use Rattle.std.specs.Str.{IsCharBoundary};
 ghost use Rattle.yf_diagnose.specs.Told.{IsRefusal, Passed};
 
-use crate::brackets::{brackets_end, quote_stands};
-use crate::diagnosis::{Diagnosis, Refusal};
+use crate::diagnosis::{Diagnosis, Refusal, behind, here, told};
 use crate::guess::guessed;
+use crate::keys::{comment_stands, content_end, key_refusal, without_colon};
+use crate::leaves::quote_stands;
 use crate::lines::{Margin, comment_end, line_ends};
 use crate::look::{
     begun_line, first_tab, indicator_stands, line_start, whites_before, word_before,
@@ -55,61 +56,34 @@ fn refusal_at(text: &str, stop: usize) -> Refusal
             );
         }
     }
-    if comment_stands(text, stop) {
-        return match comment_end(text, stop) {
-            Err(wrong) => behind(stop, wrong),
-            Ok(_) => without_colon(text, start, stop),
+    behind_text(text, start, skip_whites(text, stop))
+}
+
+// A sign behind other text of its line.
+fn behind_text(text: &str, start: usize, at: usize) -> Refusal
+    requires start { IsCharBoundary text.now start }
+    requires boundary { IsCharBoundary text.now at }
+    ensures { IsRefusal text.now result }
+{
+    if comment_stands(text, at) {
+        return match comment_end(text, at) {
+            Err(wrong) => behind(at, wrong),
+            Ok(_) => without_colon(text, start, at),
         };
     }
-    if line_ends(text, stop) {
-        return without_colon(text, start, stop);
+    if line_ends(text, at) {
+        return without_colon(text, start, at);
     }
-    let word = word_before(text, stop);
-    if word < stop {
+    let word = word_before(text, at);
+    if word < at {
         if property_stands(text, word) {
             return match property_end(text, word) {
                 Err(wrong) => behind(word, wrong),
-                Ok(_) => here(stop, Why::PropertyUnspaced),
+                Ok(_) => here(at, Why::PropertyUnspaced),
             };
         }
     }
-    at_sign(text, start, stop)
-}
-
-// What is told of a place of which a reading begins, where it ends well for another reason.
-fn told(text: &str, at: usize, read: Result<usize, Diagnosis>, why: Why) -> Refusal
-    requires boundary { IsCharBoundary text.now at }
-    requires read { Passed text.now at read }
-    ensures { IsRefusal text.now result }
-{
-    match read {
-        Err(wrong) => behind(at, wrong),
-        Ok(_) => here(at, why),
-    }
-}
-
-fn here(at: usize, why: Why) -> Refusal
-    ensures { result ≡ record { from = at; at = at; why = why } }
-{
-    Refusal { from: at, at, why }
-}
-
-fn behind(from: usize, wrong: Diagnosis) -> Refusal
-    ensures { result ≡ record { from = from; at = wrong.at; why = wrong.why } }
-{
-    Refusal {
-        from,
-        at: wrong.at,
-        why: wrong.why,
-    }
-}
-
-// Whether a comment begins there, behind white space.
-fn comment_stands(text: &str, at: usize) -> bool {
-    if stands(text, at, b'#') {
-        return whites_before(text, at) < at;
-    }
-    false
+    at_sign(text, start, at)
 }
 
 // The first sign of a line.
@@ -235,12 +209,17 @@ fn standing_refusal(text: &str, at: usize, standing: Standing) -> Refusal
             node_end(text, at, Margin { least, key: false }),
             node_why(text, at, false),
         ),
-        Standing::Key(least) => told(
-            text,
-            at,
-            node_end(text, at, Margin { least, key: true }),
-            node_why(text, at, true),
-        ),
+        Standing::Key(least) => {
+            if property_stands(text, at) {
+                return key_refusal(text, at);
+            }
+            told(
+                text,
+                at,
+                node_end(text, at, Margin { least, key: true }),
+                node_why(text, at, true),
+            )
+        }
     }
 }
 
@@ -293,30 +272,6 @@ fn scalar_end(text: &str, at: usize, margin: Margin) -> Result<usize, Diagnosis>
         return Ok(at);
     }
     match header_end(text, at) {
-        Ok(end) => Ok(end),
-        Err(wrong) => Err(wrong),
-    }
-}
-
-// The end of a node without properties that is no block scalar.
-fn content_end(text: &str, at: usize, margin: Margin) -> Result<usize, Diagnosis>
-    requires { IsCharBoundary text.now at }
-    ensures { Passed text.now at result }
-{
-    let read = if stands(text, at, b'"') {
-        quoted_end(text, at, margin)
-    } else if stands(text, at, b'\'') {
-        quoted_end(text, at, margin)
-    } else if stands(text, at, b'[') {
-        brackets_end(text, at, margin)
-    } else if stands(text, at, b'{') {
-        brackets_end(text, at, margin)
-    } else if stands(text, at, b'*') {
-        name_end(text, at)
-    } else {
-        return Ok(plain_end(text, at, Ctx::FlowOut));
-    };
-    match read {
         Ok(end) => Ok(end),
         Err(wrong) => Err(wrong),
     }
@@ -381,57 +336,4 @@ fn indicator_why(text: &str, at: usize, key: bool) -> Why {
         return Why::OnDocumentLine;
     }
     Why::SequenceInLine
-}
-
-// A key behind which its line ends, with no `:`. It may have begun on a line before.
-fn without_colon(text: &str, start: usize, stop: usize) -> Refusal
-    requires start { IsCharBoundary text.now start }
-    requires stop { IsCharBoundary text.now stop }
-    ensures { IsRefusal text.now result }
-{
-    match key_line(text, start) {
-        None => here(stop, Why::KeyWithoutColon),
-        Some(line) => {
-            let at = skip_whites(text, skip_marks(text, line));
-            match key_end(text, at) {
-                Err(wrong) => behind(at, wrong),
-                Ok(end) => Refusal {
-                    from: at,
-                    at: skip_whites(text, end),
-                    why: Why::KeyWithoutColon,
-                },
-            }
-        }
-    }
-}
-
-// The end of a key on its line.
-fn key_end(text: &str, at: usize) -> Result<usize, Diagnosis>
-    requires { IsCharBoundary text.now at }
-    ensures { Passed text.now at result }
-{
-    let margin = Margin {
-        least: 0,
-        key: true,
-    };
-    let mut here = at;
-    'properties: while property_stands(text, here) {
-        match property_end(text, here) {
-            Err(wrong) => return Err(wrong),
-            Ok(end) => {
-                let next = skip_whites(text, end);
-                if line_ends(text, next) {
-                    return Ok(end);
-                }
-                if stands(text, next, b'#') {
-                    return Ok(end);
-                }
-                here = next;
-            }
-        }
-    }
-    match content_end(text, here, margin) {
-        Ok(end) => Ok(end),
-        Err(wrong) => Err(wrong),
-    }
 }

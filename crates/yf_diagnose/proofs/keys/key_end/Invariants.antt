@@ -1,6 +1,6 @@
 use Rattle.std.proofs.Common.{◌≤◌, ◌-◌, length}
 use Rattle.std.specs.Str.{IsCharBoundary}
-use Rattle.yf_diagnose.proofs.brackets.held_content.Given as goal
+use Rattle.yf_diagnose.proofs.keys.key_end.Given as goal
 
 abbrev pub invariant-properties : goal.invariant-properties
 invariant-properties l = record {
