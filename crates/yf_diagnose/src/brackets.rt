@@ -7,7 +7,7 @@ ghost use Rattle.yf_diagnose.specs.Told.{Told};
 use crate::diagnosis::{Diagnosis, refused};
 use crate::gap::gap_end;
 use crate::leaves::{Held, colon_stands, held_content, leaf_end, quote_stands};
-use crate::lines::{Margin, breaks_between, is_long};
+use crate::lines::{Margin, breaks_between, is_long, sign_why};
 use crate::why::Why;
 use yf_chars::text::stands;
 use yf_lines::basic::{skip_whites, white_or_end_stands};
@@ -323,11 +323,13 @@ impl Levels {
 }
 
 // Why no comma stands there.
-fn comma_why(text: &str, at: usize) -> Why {
+fn comma_why(text: &str, at: usize) -> Why
+    requires { IsCharBoundary text.now at }
+{
     if stands(text, at, b':') {
         return Why::SecondColon;
     }
-    Why::CommaExpected
+    sign_why(text, at, Why::CommaExpected)
 }
 
 // Whether an opening bracket stands there.

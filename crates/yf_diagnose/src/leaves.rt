@@ -6,7 +6,7 @@ ghost use Rattle.yf_diagnose.specs.Told.{Told};
 
 use crate::diagnosis::{Diagnosis, refused};
 use crate::gap::gap_end;
-use crate::lines::Margin;
+use crate::lines::{Margin, sign_why};
 use crate::plain::{plain_begun, plain_lines_end, safe_stands};
 use crate::property::{name_end, property_end, property_stands};
 use crate::quoted::quoted_end;
@@ -101,11 +101,13 @@ pub(crate) fn leaf_end(
 }
 
 // Why no leaf begins with that sign.
-fn leaf_why(text: &str, at: usize) -> Why {
+fn leaf_why(text: &str, at: usize) -> Why
+    requires { IsCharBoundary text.now at }
+{
     if stands(text, at, b'-') {
         return Why::DashInBrackets;
     }
-    Why::NoPlain
+    sign_why(text, at, Why::NoPlain)
 }
 
 /// Whether a quote stands there.

@@ -6,9 +6,10 @@ ghost use Rattle.yf_diagnose.specs.Lines.{NextLineAt};
 
 use crate::diagnosis::{Diagnosis, refused};
 use crate::why::Why;
+use yf_chars::classes::is_printable;
 use yf_chars::nb_runs::skip_nb_chars;
-use yf_chars::text::stands;
-use yf_lines::basic::{line_break, mark_stands, marker_stands, skip_spaces, skip_whites};
+use yf_chars::text::{peek, stands};
+use yf_lines::basic::{line_break, marker_stands, skip_spaces, skip_whites};
 use yf_lines::table::skip_marks;
 
 /// How the lines of a node are held: how many spaces they begin with at least, and whether it must stand on one line, as a key.
@@ -70,10 +71,25 @@ pub(crate) fn comment_end(text: &str, at: usize) -> Result<usize, Diagnosis>
     if line_ends(text, end) {
         return Ok(end);
     }
-    if mark_stands(text, end) {
-        return refused(end, Why::Mark);
+    refused(end, sign_why(text, end, Why::Control))
+}
+
+/// Why a sign is refused: for itself where it may stand nowhere, else for a reason that is known.
+pub(crate) fn sign_why(text: &str, at: usize, why: Why) -> Why
+    requires { IsCharBoundary text.now at }
+{
+    match peek(text, at) {
+        None => why,
+        Some((c, _)) => {
+            if c == '\u{FEFF}' {
+                return Why::Mark;
+            }
+            if is_printable(c) {
+                return why;
+            }
+            Why::Control
+        }
     }
-    refused(end, Why::Control)
 }
 
 /// Whether the text or the line ends there.

@@ -7,7 +7,7 @@ use crate::diagnosis::{Diagnosis, Refusal, behind, here, told};
 use crate::guess::guessed;
 use crate::keys::{comment_stands, content_end, key_refusal, without_colon};
 use crate::leaves::quote_stands;
-use crate::lines::{Margin, comment_end, line_ends};
+use crate::lines::{Margin, comment_end, line_ends, sign_why};
 use crate::look::{
     begun_line, first_tab, indicator_stands, line_start, whites_before, word_before,
 };
@@ -17,9 +17,8 @@ use crate::quoted::quoted_end;
 use crate::rest::{blank_lines_end, directive_end, header_end, rest_end};
 use crate::standing::{Standing, closes, key_line, standing_at};
 use crate::why::Why;
-use yf_chars::classes::is_printable;
 use yf_chars::context::Ctx;
-use yf_chars::text::{peek, stands};
+use yf_chars::text::stands;
 use yf_lines::basic::{marker_stands, skip_whites};
 use yf_lines::table::skip_marks;
 
@@ -129,14 +128,6 @@ fn at_sign(text: &str, start: usize, at: usize) -> Refusal
     requires boundary { IsCharBoundary text.now at }
     ensures { IsRefusal text.now result }
 {
-    if let Some((c, _)) = peek(text, at) {
-        if c == '\u{FEFF}' {
-            return here(at, Why::Mark);
-        }
-        if !is_printable(c) {
-            return here(at, Why::Control);
-        }
-    }
     let standing = standing_at(text, at);
     if let Some(tab) = tab_of(text, start, at, standing) {
         return tab;
@@ -147,7 +138,7 @@ fn at_sign(text: &str, start: usize, at: usize) -> Refusal
     }
     match tab_before(text, start, at) {
         Some(tab) => here(tab, Why::TabBeforeEntry),
-        None => refusal,
+        None => here(at, sign_why(text, at, refusal.why)),
     }
 }
 

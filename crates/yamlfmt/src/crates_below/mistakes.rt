@@ -1,6 +1,7 @@
 //! Mistakes that people make, and where and why each is told. The places were worked out by hand: the first sign with which no stream begins, but of an open
 //! quote the quote, of open brackets the end of the last sign in them, and of a tab among the indentation the tab.
 
+use crate::answers::repeated;
 use std::alloc::Global;
 use yf_diagnose::Why;
 use yf_lines::fault::Fault;
@@ -8,7 +9,7 @@ use yf_lines::place::Place;
 use yf_stream::stream::read_stream;
 
 /// Texts that are no streams, the line and column that is told, and why.
-static MISTAKES: [(&str, (usize, usize), Why); 139] = [
+static MISTAKES: [(&str, (usize, usize), Why); 160] = [
     (
         "{\"name\": \"x\",\n \"deps\": [\"a\" \"b\"],\n \"v\": 1}\n",
         (2, 15),
@@ -184,12 +185,42 @@ static MISTAKES: [(&str, (usize, usize), Why); 139] = [
     ("a: 1\n\"b\nc\": 2\n", (2, 1), Why::QuotedKeyOpen),
     ("a: \"b\n  \\\n  c\"\n", (2, 3), Why::EscapedBreakFirst),
     ("a: &x[b]\n", (1, 6), Why::PropertyUnspaced),
+    ("a: 1\n=======\nb: 2\n", (2, 8), Why::Conflict),
+    ("a: 1\n>>>>>>> x\n", (2, 1), Why::Conflict),
+    ("a: 1\n||||||| base\nb: 2\n", (2, 1), Why::Conflict),
+    ("a: {% x %}\n", (1, 5), Why::Template),
+    ("- {{ a }}: {{ b }} c\n", (1, 20), Why::Template),
+    ("key: {\n  a: 1\n}\n", (3, 1), Why::BracketLeft),
+    ("- [\n  1\n]\n", (3, 1), Why::BracketLeft),
+    ("a: {b: [1\n]}\n", (2, 1), Why::BracketLeft),
+    ("a: \u{7F}\n", (1, 4), Why::Control),
+    ("a: 'x\u{8}y'\n", (1, 6), Why::Control),
+    ("a: [x\u{1}]\n", (1, 6), Why::Control),
+    ("a: b # c\u{1}\n", (1, 9), Why::Control),
+    ("a: # c\u{1}\n", (1, 7), Why::Control),
+    ("a: # c\u{FEFF}\n", (1, 7), Why::Mark),
+    ("a: [x\u{FEFF}]\n", (1, 6), Why::Mark),
+    ("\u{FEFF}a: b: c\n", (1, 5), Why::MappingInLine),
+    ("a: {b\r\nc: 1\r\n", (2, 1), Why::LeftInBrackets),
+    ("a: \"x\r\nb: y\r\n", (1, 4), Why::QuoteLeft),
+    ("a: é\nb: [é, é}\n", (2, 9), Why::WrongBracket),
+    ("a: 1\n&x &y b: 2\n", (2, 4), Why::PropertyTwice),
+    ("a: 1\n&x\nb: 2\n", (2, 3), Why::KeyWithoutColon),
 ];
 
 #[test]
 fn tells_mistakes(rt: HostRuntime) {
     for (text, place, why) in &MISTAKES {
         assert!(rt; is_told(rt.alloc(), text, *place, *why), "{text}");
+    }
+    assert!(rt; tells_a_long_key(rt.alloc()));
+}
+
+// Whether a key of more than 1,024 characters is told at its `:`.
+fn tells_a_long_key(alloc: Global) -> bool {
+    match repeated(alloc, "", "k", 1030, ": v", 1) {
+        Ok(text) => is_told(alloc, text.as_str(), (1, 1031), Why::LongKey),
+        Err(_) => false,
     }
 }
 
