@@ -1,5 +1,4 @@
-use Rattle.std.proofs.Common.{◌≤◌, ◌-◌, length}
-use Rattle.std.specs.Str.{IsCharBoundary}
+use Rattle.std.proofs.Common.{◌-◌, length}
 use Rattle.yf_diagnose.proofs.guess.pair_stands.Given as goal
 
 abbrev pub invariant-bytes : goal.invariant-bytes

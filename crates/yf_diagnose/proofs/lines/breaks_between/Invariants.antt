@@ -1,4 +1,4 @@
-use Rattle.std.proofs.Common.{◌≤◌, ◌-◌}
+use Rattle.std.proofs.Common.{◌-◌}
 use Rattle.yf_diagnose.proofs.lines.breaks_between.Given as goal
 
 abbrev pub invariant-bytes : goal.invariant-bytes

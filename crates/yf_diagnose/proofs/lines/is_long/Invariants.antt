@@ -1,4 +1,4 @@
-use Rattle.std.proofs.Common.{◌≤◌, ◌-◌}
+use Rattle.std.proofs.Common.{◌-◌}
 use Rattle.yf_diagnose.proofs.lines.is_long.Given as goal
 
 abbrev pub invariant-bytes : goal.invariant-bytes

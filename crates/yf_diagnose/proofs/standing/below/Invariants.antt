@@ -1,4 +1,3 @@
-use Rattle.std.proofs.Common.{◌≤◌, ◌-◌, length}
 use Rattle.std.specs.Str.{IsCharBoundary}
 use Rattle.yf_diagnose.proofs.standing.below.Given as goal
 

@@ -1,5 +1,3 @@
-use Rattle.std.proofs.Common.{◌≤◌, ◌-◌, length}
-use Rattle.std.specs.Str.{IsCharBoundary}
 use Rattle.yf_diagnose.proofs.standing.standing_at.Given as goal
 
 abbrev pub invariant-properties : goal.invariant-properties
