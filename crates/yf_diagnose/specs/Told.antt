@@ -1,6 +1,8 @@
 -- What a second reading of a part of a text answers.
 use Rattle.std.specs.Prelude.{ℕ, List, ◌<◌, ◌≤◌, Result, MatchResult}
 use Rattle.std.specs.Str.{IsCharBoundary}
+use Rattle.yf_chars.specs.Chain.{Many}
+use Rattle.yf_chars.specs.Class.{is_white}
 use Rattle.yf_diagnose.specs.declared.diagnosis.Diagnosis.{Diagnosis}
 use Rattle.yf_diagnose.specs.declared.diagnosis.Refusal.{Refusal}
 
@@ -20,6 +22,10 @@ Told t at answer = MatchResult answer (Behind t at) (λ d. NotBefore t at d.at)
 abbrev pub Passed : List ℕ → ℕ → Result ℕ Diagnosis → Type 0
 Passed t at answer = MatchResult answer (NotBefore t at) (λ d. NotBefore t at d.at)
 
--- a refusal is told between characters, not before what was refused
-abbrev pub IsRefusal : List ℕ → Refusal → Type 0
-IsRefusal t refusal = IsCharBoundary t refusal.from × NotBefore t refusal.from refusal.at
+-- what was refused begins between characters, at a sign or before it, and is told of between characters, not before its beginning
+abbrev pub IsRefusal : List ℕ → ℕ → Refusal → Type 0
+IsRefusal t sign refusal = IsCharBoundary t refusal.from × (refusal.from ≤ sign) × NotBefore t refusal.from refusal.at
+
+-- the same of a sign with no more than white space before it, from a place on
+abbrev pub IsDiagnosis : List ℕ → ℕ → Refusal → Type 0
+IsDiagnosis t stop refusal = (sign : ℕ) × ((x : List ℕ) × Many t is_white stop sign x) × IsRefusal t sign refusal

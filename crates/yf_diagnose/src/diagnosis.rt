@@ -33,7 +33,7 @@ pub(crate) fn refused(at: usize, why: Why) -> Result<usize, Diagnosis>
 pub(crate) fn told(text: &str, at: usize, read: Result<usize, Diagnosis>, why: Why) -> Refusal
     requires boundary { IsCharBoundary text.now at }
     requires read { Passed text.now at read }
-    ensures { IsRefusal text.now result }
+    ensures { IsRefusal text.now at result }
 {
     match read {
         Err(wrong) => behind(at, wrong),

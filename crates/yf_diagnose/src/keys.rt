@@ -21,12 +21,15 @@ use yf_lines::table::skip_marks;
 pub(crate) fn without_colon(text: &str, start: usize, stop: usize) -> Refusal
     requires start { IsCharBoundary text.now start }
     requires stop { IsCharBoundary text.now stop }
-    ensures { IsRefusal text.now result }
+    ensures { IsRefusal text.now stop result }
 {
     match key_line(text, start) {
         None => here(stop, Why::KeyWithoutColon),
         Some(line) => {
             let at = skip_whites(text, skip_marks(text, line));
+            if at > stop {
+                return here(stop, Why::KeyWithoutColon);
+            }
             key_refusal(text, at)
         }
     }
@@ -35,7 +38,7 @@ pub(crate) fn without_colon(text: &str, start: usize, stop: usize) -> Refusal
 /// What is told of a key that begins there.
 pub(crate) fn key_refusal(text: &str, at: usize) -> Refusal
     requires { IsCharBoundary text.now at }
-    ensures { IsRefusal text.now result }
+    ensures { IsRefusal text.now at result }
 {
     match key_end(text, at) {
         Err(wrong) => behind(at, wrong),

@@ -1,7 +1,7 @@
 //! The second reading of what was refused. Offsets count bytes.
-ghost use Rattle.std.specs.Prelude.{◌≡◌, ◌+◌, IfSome};
+ghost use Rattle.std.specs.Prelude.{◌+◌, ◌<◌, ◌≤◌, IfSome};
 ghost use Rattle.std.specs.Str.{IsCharBoundary};
-ghost use Rattle.yf_diagnose.specs.Told.{IsRefusal, Passed};
+ghost use Rattle.yf_diagnose.specs.Told.{IsDiagnosis, IsRefusal, Passed};
 
 use crate::diagnosis::{Diagnosis, Refusal, behind, here, told};
 use crate::guess::guessed;
@@ -26,24 +26,27 @@ use yf_lines::table::skip_marks;
 /// directive, or the line.
 pub fn diagnose(text: &str, stop: usize) -> Refusal
     requires { IsCharBoundary text.now stop }
-    ensures { IsRefusal text.now result }
+    ensures { IsDiagnosis text.now stop result }
 {
-    let refusal = refusal_at(text, stop);
+    let sign = skip_whites(text, stop);
+    let refusal = refusal_at(text, stop, sign);
     Refusal {
         why: guessed(text, refusal.at, refusal.why),
         ..refusal
     }
 }
 
-fn refusal_at(text: &str, stop: usize) -> Refusal
-    requires { IsCharBoundary text.now stop }
-    ensures { IsRefusal text.now result }
+// The same where the first sign from the offset on is known.
+fn refusal_at(text: &str, stop: usize, sign: usize) -> Refusal
+    requires stop { IsCharBoundary text.now stop }
+    requires sign { IsCharBoundary text.now sign }
+    requires order { stop ≤ sign }
+    ensures { IsRefusal text.now sign result }
 {
     let start = line_start(text, stop);
     let base = skip_marks(text, start);
-    let first = skip_whites(text, base);
-    if first >= stop {
-        return at_first(text, start, skip_whites(text, stop));
+    if skip_whites(text, base) >= stop {
+        return at_first(text, start, sign);
     }
     if marker_stands(text, base) {
         if stop == base + 3 {
@@ -55,14 +58,14 @@ fn refusal_at(text: &str, stop: usize) -> Refusal
             );
         }
     }
-    behind_text(text, start, skip_whites(text, stop))
+    behind_text(text, start, sign)
 }
 
 // A sign behind other text of its line.
 fn behind_text(text: &str, start: usize, at: usize) -> Refusal
     requires start { IsCharBoundary text.now start }
     requires boundary { IsCharBoundary text.now at }
-    ensures { IsRefusal text.now result }
+    ensures { IsRefusal text.now at result }
 {
     if comment_stands(text, at) {
         return match comment_end(text, at) {
@@ -89,7 +92,8 @@ fn behind_text(text: &str, start: usize, at: usize) -> Refusal
 fn at_first(text: &str, start: usize, at: usize) -> Refusal
     requires start { IsCharBoundary text.now start }
     requires boundary { IsCharBoundary text.now at }
-    ensures { IsRefusal text.now result }
+    requires order { start ≤ at }
+    ensures { IsRefusal text.now at result }
 {
     if line_ends(text, at) {
         return told(text, start, blank_lines_end(text, start), Why::NodeEnded);
@@ -109,7 +113,7 @@ fn at_first(text: &str, start: usize, at: usize) -> Refusal
 fn at_percent(text: &str, at: usize) -> Refusal
     requires boundary { IsCharBoundary text.now at }
     requires inside { IsCharBoundary text.now (at + 1) }
-    ensures { IsRefusal text.now result }
+    ensures { IsRefusal text.now at result }
 {
     match standing_at(text, at) {
         Standing::Node(_) | Standing::Beyond(Why::NoDocumentStart) => match directive_end(
@@ -126,7 +130,7 @@ fn at_percent(text: &str, at: usize) -> Refusal
 fn at_sign(text: &str, start: usize, at: usize) -> Refusal
     requires start { IsCharBoundary text.now start }
     requires boundary { IsCharBoundary text.now at }
-    ensures { IsRefusal text.now result }
+    ensures { IsRefusal text.now at result }
 {
     let standing = standing_at(text, at);
     if let Some(tab) = tab_of(text, start, at, standing) {
@@ -145,7 +149,7 @@ fn at_sign(text: &str, start: usize, at: usize) -> Refusal
 // The first tab of a line whose first sign stands there, where spaces must stand.
 fn tab_of(text: &str, start: usize, at: usize, standing: Standing) -> Option<Refusal>
     requires { IsCharBoundary text.now start }
-    ensures { IfSome result (IsRefusal text.now) }
+    ensures { IfSome result (IsRefusal text.now at) }
 {
     let base = skip_marks(text, start);
     match first_tab(text, base, at) {
@@ -173,7 +177,8 @@ fn is_indented(standing: Standing, width: usize) -> bool {
 // The first tab before an entry, or its key, on its line.
 fn tab_before(text: &str, start: usize, at: usize) -> Option<usize>
     requires { IsCharBoundary text.now start }
-    ensures { IfSome result (IsCharBoundary text.now) }
+    ensures boundary { IfSome result (IsCharBoundary text.now) }
+    ensures order { IfSome result (λ tab. tab < at) }
 {
     if !indicator_stands(text, at) {
         return None;
@@ -184,13 +189,21 @@ fn tab_before(text: &str, start: usize, at: usize) -> Option<usize>
             return None;
         }
     }
-    line.tab
+    match line.tab {
+        None => None,
+        Some(tab) => {
+            if tab < at {
+                return Some(tab);
+            }
+            None
+        }
+    }
 }
 
 // What is told of what stands there so.
 fn standing_refusal(text: &str, at: usize, standing: Standing) -> Refusal
     requires { IsCharBoundary text.now at }
-    ensures { IsRefusal text.now result }
+    ensures { IsRefusal text.now at result }
 {
     match standing {
         Standing::Beyond(why) => here(at, beyond_why(text, at, why)),
