@@ -39,6 +39,6 @@ shape_of t q i e f = subst (λ w. ShapeOr t q w) f (subst (λ z. IfOk z (λ o. S
 
 pub fault_derived : {t : List ℕ} {refusal : Refusal} {fault : Fault} → FaultAt t refusal fault → IsStreamFault t fault → RefusalDerived t refusal → StreamFault t fault
 fault_derived for_memory i d = memory_refused
-fault_derived (no_stream_at p) i d = no_stream d i
+fault_derived (no_stream_at told diagnosis p) i d = no_stream d i
 fault_derived (too_deep_at p) i d = too_deep d.0 d.1 i
 fault_derived (told_at f e) i d = breached d.shapes d.first (f d.place) e

@@ -9,7 +9,8 @@ returns-in_default-clause-told c = for_memory
 pub returns-in-Syntax-clause-told : goal.returns-in-Syntax-clause-told
 returns-in-Syntax-clause-told c =
     rw c.in-Syntax.is
-    (no_stream (subst (λ z. IsPlaceOf z c.diagnose-told.result.at c.place.result) c.in-Ok.ensures.text c.place.ensures.place))
+    (no_stream c.diagnose-told.result c.diagnose-told.ensures
+    (subst (λ z. IsPlaceOf z c.diagnose-told.result.at c.place.result) c.in-Ok.ensures.text c.place.ensures.place))
 
 pub returns-in-TooDeep-clause-told : goal.returns-in-TooDeep-clause-told
 returns-in-TooDeep-clause-told c =
