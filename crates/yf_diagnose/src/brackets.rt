@@ -4,7 +4,7 @@ ghost use Rattle.std.specs.Str.{IsCharBoundary};
 ghost use Rattle.yf_diagnose.specs.Brackets.{IsOpen};
 ghost use Rattle.yf_diagnose.specs.Told.{Told};
 
-use crate::diagnosis::{Diagnosis, refused};
+use crate::diagnosis::{Mistake, refused};
 use crate::gap::gap_end;
 use crate::leaves::{Held, colon_stands, held_content, leaf_end, quote_stands};
 use crate::lines::{Margin, breaks_between, is_long, sign_why};
@@ -42,7 +42,7 @@ struct Levels {
 }
 
 /// The end of the brackets of which the opening one stands there.
-pub(crate) fn brackets_end(text: &str, at: usize, margin: Margin) -> Result<usize, Diagnosis>
+pub(crate) fn brackets_end(text: &str, at: usize, margin: Margin) -> Result<usize, Mistake>
     requires boundary { IsCharBoundary text.now at }
     requires inside { IsCharBoundary text.now (at + 1) }
     ensures { Told text.now at result }
@@ -94,7 +94,7 @@ impl Levels {
     }
 
     // What begins with the sign that stands there.
-    fn read(&mut self, text: &str, at: usize, margin: Margin) -> Result<usize, Diagnosis>
+    fn read(&mut self, text: &str, at: usize, margin: Margin) -> Result<usize, Mistake>
         requires levels { IsOpen self.old.count }
         requires boundary { IsCharBoundary text.now at }
         ensures levels { IfOk result (λ _. self.new.count ≤ 1024) }
@@ -137,7 +137,7 @@ impl Levels {
         at: usize,
         mapping: bool,
         margin: Margin,
-    ) -> Result<usize, Diagnosis>
+    ) -> Result<usize, Mistake>
         requires levels { IsOpen self.old.count }
         requires boundary { IsCharBoundary text.now at }
         requires inside { IsCharBoundary text.now (at + 1) }
@@ -156,7 +156,7 @@ impl Levels {
     }
 
     // A key or an item, or the `:` of an empty key.
-    fn key(&mut self, text: &str, at: usize, margin: Margin) -> Result<usize, Diagnosis>
+    fn key(&mut self, text: &str, at: usize, margin: Margin) -> Result<usize, Mistake>
         requires levels { IsOpen self.old.count }
         requires boundary { IsCharBoundary text.now at }
         ensures levels { IfOk result (λ _. self.new.count ≤ 1024) }
@@ -169,7 +169,7 @@ impl Levels {
     }
 
     // A node, from its properties on.
-    fn entry(&mut self, text: &str, at: usize, margin: Margin) -> Result<usize, Diagnosis>
+    fn entry(&mut self, text: &str, at: usize, margin: Margin) -> Result<usize, Mistake>
         requires levels { IsOpen self.old.count }
         requires boundary { IsCharBoundary text.now at }
         ensures levels { IfOk result (λ _. self.new.count ≤ 1024) }
@@ -191,7 +191,7 @@ impl Levels {
         start: usize,
         at: usize,
         margin: Margin,
-    ) -> Result<usize, Diagnosis>
+    ) -> Result<usize, Mistake>
         requires levels { IsOpen self.old.count }
         requires boundary { IsCharBoundary text.now at }
         requires order { start ≤ at }
@@ -217,7 +217,7 @@ impl Levels {
         start: usize,
         at: usize,
         mapping: bool,
-    ) -> Result<usize, Diagnosis>
+    ) -> Result<usize, Mistake>
         requires levels { IsOpen self.old.count }
         requires boundary { IsCharBoundary text.now at }
         requires inside { IsCharBoundary text.now (at + 1) }
@@ -245,7 +245,7 @@ impl Levels {
         at: usize,
         json: bool,
         margin: Margin,
-    ) -> Result<usize, Diagnosis>
+    ) -> Result<usize, Mistake>
         requires levels { IsOpen self.old.count }
         requires boundary { IsCharBoundary text.now at }
         requires order { start < at }
@@ -281,7 +281,7 @@ impl Levels {
         start: usize,
         at: usize,
         json: bool,
-    ) -> Result<usize, Diagnosis>
+    ) -> Result<usize, Mistake>
         requires levels { IsOpen self.old.count }
         requires boundary { IsCharBoundary text.now at }
         requires order { start < at }
@@ -304,7 +304,7 @@ impl Levels {
     }
 
     // The `:` behind a key that begins at a place.
-    fn colon(&mut self, text: &str, start: usize, at: usize, json: bool) -> Result<usize, Diagnosis>
+    fn colon(&mut self, text: &str, start: usize, at: usize, json: bool) -> Result<usize, Mistake>
         requires levels { IsOpen self.old.count }
         requires boundary { IsCharBoundary text.now at }
         requires inside { IsCharBoundary text.now (at + 1) }

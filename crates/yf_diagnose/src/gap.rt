@@ -4,14 +4,14 @@ ghost use Rattle.std.specs.Str.{IsCharBoundary};
 ghost use Rattle.yf_diagnose.specs.Lines.{NextLineAt};
 ghost use Rattle.yf_diagnose.specs.Told.{NotBefore, Passed};
 
-use crate::diagnosis::{Diagnosis, refused};
+use crate::diagnosis::{Mistake, refused};
 use crate::lines::{Margin, NextLine, comment_end, next_line};
 use crate::why::Why;
 use yf_chars::text::stands;
 use yf_lines::basic::{line_break, skip_whites};
 
 /// The next sign in brackets. Where there is none, the place behind the last one is told.
-pub(crate) fn gap_end(text: &str, at: usize, margin: Margin) -> Result<usize, Diagnosis>
+pub(crate) fn gap_end(text: &str, at: usize, margin: Margin) -> Result<usize, Mistake>
     requires { IsCharBoundary text.now at }
     ensures { Passed text.now at result }
 {
@@ -36,7 +36,7 @@ pub(crate) fn gap_end(text: &str, at: usize, margin: Margin) -> Result<usize, Di
 }
 
 // The same from a comment on, where the last sign ends at a place.
-fn comment_passed(text: &str, last: usize, at: usize, margin: Margin) -> Result<usize, Diagnosis>
+fn comment_passed(text: &str, last: usize, at: usize, margin: Margin) -> Result<usize, Mistake>
     requires last { IsCharBoundary text.now last }
     requires boundary { IsCharBoundary text.now at }
     requires order { last ≤ at }
@@ -57,7 +57,7 @@ fn comment_passed(text: &str, last: usize, at: usize, margin: Margin) -> Result<
 }
 
 // The same from the start of a line on.
-fn lines_passed(text: &str, last: usize, at: usize, least: usize) -> Result<usize, Diagnosis>
+fn lines_passed(text: &str, last: usize, at: usize, least: usize) -> Result<usize, Mistake>
     requires last { IsCharBoundary text.now last }
     requires boundary { IsCharBoundary text.now at }
     requires order { last ≤ at }
@@ -96,7 +96,7 @@ fn comment_of(text: &str, at: usize, line: NextLine) -> Option<usize>
 }
 
 // The first sign of a line that is no comment.
-fn sign_of(text: &str, last: usize, at: usize, line: NextLine) -> Result<usize, Diagnosis>
+fn sign_of(text: &str, last: usize, at: usize, line: NextLine) -> Result<usize, Mistake>
     requires last { IsCharBoundary text.now last }
     requires order { last ≤ at }
     requires line { NextLineAt text.now at line }

@@ -1,9 +1,9 @@
 //! Keys on their lines, and nodes that are no block scalars. Offsets count bytes.
 ghost use Rattle.std.specs.Str.{IsCharBoundary};
-ghost use Rattle.yf_diagnose.specs.Told.{IsRefusal, Passed};
+ghost use Rattle.yf_diagnose.specs.Told.{IsDiagnosed, Passed};
 
 use crate::brackets::brackets_end;
-use crate::diagnosis::{Diagnosis, Refusal, behind, here, refused};
+use crate::diagnosis::{Diagnosis, Mistake, behind, here, refused};
 use crate::leaves::is_second;
 use crate::lines::{Margin, line_ends};
 use crate::look::whites_before;
@@ -18,10 +18,10 @@ use yf_lines::basic::skip_whites;
 use yf_lines::table::skip_marks;
 
 /// A key behind which its line ends, with no `:`. It may have begun on a line before.
-pub(crate) fn without_colon(text: &str, start: usize, stop: usize) -> Refusal
+pub(crate) fn without_colon(text: &str, start: usize, stop: usize) -> Diagnosis
     requires start { IsCharBoundary text.now start }
     requires stop { IsCharBoundary text.now stop }
-    ensures { IsRefusal text.now stop result }
+    ensures { IsDiagnosed text.now stop result }
 {
     match key_line(text, start) {
         None => here(stop, Why::KeyWithoutColon),
@@ -30,19 +30,19 @@ pub(crate) fn without_colon(text: &str, start: usize, stop: usize) -> Refusal
             if at > stop {
                 return here(stop, Why::KeyWithoutColon);
             }
-            key_refusal(text, at)
+            key_diagnosis(text, at)
         }
     }
 }
 
 /// What is told of a key that begins there.
-pub(crate) fn key_refusal(text: &str, at: usize) -> Refusal
+pub(crate) fn key_diagnosis(text: &str, at: usize) -> Diagnosis
     requires { IsCharBoundary text.now at }
-    ensures { IsRefusal text.now at result }
+    ensures { IsDiagnosed text.now at result }
 {
     match key_end(text, at) {
         Err(wrong) => behind(at, wrong),
-        Ok(end) => Refusal {
+        Ok(end) => Diagnosis {
             from: at,
             at: skip_whites(text, end),
             why: Why::KeyWithoutColon,
@@ -51,7 +51,7 @@ pub(crate) fn key_refusal(text: &str, at: usize) -> Refusal
 }
 
 // The end of a key on its line.
-fn key_end(text: &str, at: usize) -> Result<usize, Diagnosis>
+fn key_end(text: &str, at: usize) -> Result<usize, Mistake>
     requires { IsCharBoundary text.now at }
     ensures { Passed text.now at result }
 {
@@ -96,7 +96,7 @@ fn key_end(text: &str, at: usize) -> Result<usize, Diagnosis>
 }
 
 /// The end of a node without properties that is no block scalar.
-pub(crate) fn content_end(text: &str, at: usize, margin: Margin) -> Result<usize, Diagnosis>
+pub(crate) fn content_end(text: &str, at: usize, margin: Margin) -> Result<usize, Mistake>
     requires { IsCharBoundary text.now at }
     ensures { Passed text.now at result }
 {

@@ -4,7 +4,7 @@ ghost use Rattle.std.specs.Str.{IsCharBoundary};
 ghost use Rattle.yf_diagnose.specs.Brackets.{HeldAt};
 ghost use Rattle.yf_diagnose.specs.Told.{Told};
 
-use crate::diagnosis::{Diagnosis, refused};
+use crate::diagnosis::{Mistake, refused};
 use crate::gap::gap_end;
 use crate::lines::{Margin, sign_why};
 use crate::plain::{plain_begun, plain_lines_end, safe_stands};
@@ -22,7 +22,7 @@ pub(crate) enum Held {
 }
 
 /// The content of a node behind its properties.
-pub(crate) fn held_content(text: &str, at: usize, margin: Margin) -> Result<Held, Diagnosis>
+pub(crate) fn held_content(text: &str, at: usize, margin: Margin) -> Result<Held, Mistake>
     requires { IsCharBoundary text.now at }
     ensures { HeldAt text.now at result }
 {
@@ -32,7 +32,7 @@ pub(crate) fn held_content(text: &str, at: usize, margin: Margin) -> Result<Held
     'properties: while property_stands(text, here) {
         let is_anchor = stands(text, here, b'&');
         if is_second(is_anchor, anchor, tag) {
-            return Err(Diagnosis {
+            return Err(Mistake {
                 at: here,
                 why: Why::PropertyTwice,
             });
@@ -51,7 +51,7 @@ pub(crate) fn held_content(text: &str, at: usize, margin: Margin) -> Result<Held
                         return Ok(Held::Empty(end));
                     }
                     if next == end {
-                        return Err(Diagnosis {
+                        return Err(Mistake {
                             at: end,
                             why: Why::PropertyUnspaced,
                         });
@@ -73,12 +73,7 @@ pub(crate) fn is_second(is_anchor: bool, anchor: bool, tag: bool) -> bool {
 }
 
 /// The end of the leaf that begins there; with properties before it, it can't be an alias.
-pub(crate) fn leaf_end(
-    text: &str,
-    at: usize,
-    held: bool,
-    margin: Margin,
-) -> Result<usize, Diagnosis>
+pub(crate) fn leaf_end(text: &str, at: usize, held: bool, margin: Margin) -> Result<usize, Mistake>
     requires { IsCharBoundary text.now at }
     ensures { Told text.now at result }
 {

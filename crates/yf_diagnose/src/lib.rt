@@ -17,6 +17,6 @@ mod rest;
 mod standing;
 mod why;
 
-pub use diagnosis::Refusal;
+pub use diagnosis::Diagnosis;
 pub use reading::diagnose;
 pub use why::Why;

@@ -4,7 +4,7 @@ ghost use Rattle.std.specs.Str.{IsCharBoundary};
 ghost use Rattle.yf_diagnose.specs.Told.{Passed};
 ghost use Rattle.yf_diagnose.specs.Lines.{NextLineAt};
 
-use crate::diagnosis::{Diagnosis, refused};
+use crate::diagnosis::{Mistake, refused};
 use crate::why::Why;
 use yf_chars::classes::is_printable;
 use yf_chars::nb_runs::skip_nb_chars;
@@ -63,7 +63,7 @@ pub(crate) fn next_line(text: &str, at: usize, least: usize) -> NextLine
 }
 
 /// The end of the comment that begins there.
-pub(crate) fn comment_end(text: &str, at: usize) -> Result<usize, Diagnosis>
+pub(crate) fn comment_end(text: &str, at: usize) -> Result<usize, Mistake>
     requires { IsCharBoundary text.now at }
     ensures { Passed text.now at result }
 {

@@ -3,7 +3,7 @@ ghost use Rattle.std.specs.Prelude.{◌+◌, IfSome, MatchBool, ⊤};
 ghost use Rattle.std.specs.Str.{IsCharBoundary};
 ghost use Rattle.yf_diagnose.specs.Told.{Behind, Passed, Told};
 
-use crate::diagnosis::{Diagnosis, refused};
+use crate::diagnosis::{Mistake, refused};
 use crate::why::Why;
 use yf_chars::classes::{is_hex_digit, is_tag_char, is_uri_char};
 use yf_chars::runs::{AnchorChars, WordChars, skip_while};
@@ -20,7 +20,7 @@ pub(crate) fn property_stands(text: &str, at: usize) -> bool
 }
 
 /// The end of the anchor or the tag that begins there.
-pub(crate) fn property_end(text: &str, at: usize) -> Result<usize, Diagnosis>
+pub(crate) fn property_end(text: &str, at: usize) -> Result<usize, Mistake>
     requires boundary { IsCharBoundary text.now at }
     requires behind { IsCharBoundary text.now (at + 1) }
     ensures { Told text.now at result }
@@ -32,7 +32,7 @@ pub(crate) fn property_end(text: &str, at: usize) -> Result<usize, Diagnosis>
 }
 
 /// The end of the anchor or the alias whose sign stands there.
-pub(crate) fn name_end(text: &str, at: usize) -> Result<usize, Diagnosis>
+pub(crate) fn name_end(text: &str, at: usize) -> Result<usize, Mistake>
     requires { IsCharBoundary text.now (at + 1) }
     ensures { Told text.now at result }
 {
@@ -44,7 +44,7 @@ pub(crate) fn name_end(text: &str, at: usize) -> Result<usize, Diagnosis>
 }
 
 // The end of the tag whose `!` stands there.
-fn tag_end(text: &str, at: usize) -> Result<usize, Diagnosis>
+fn tag_end(text: &str, at: usize) -> Result<usize, Mistake>
     requires { IsCharBoundary text.now (at + 1) }
     ensures { Told text.now at result }
 {
@@ -70,7 +70,7 @@ fn tag_end(text: &str, at: usize) -> Result<usize, Diagnosis>
 }
 
 // The end of a verbatim tag whose address begins there.
-fn verbatim_end(text: &str, at: usize) -> Result<usize, Diagnosis>
+fn verbatim_end(text: &str, at: usize) -> Result<usize, Mistake>
     requires { IsCharBoundary text.now at }
     ensures { Told text.now at result }
 {
@@ -89,7 +89,7 @@ fn verbatim_end(text: &str, at: usize) -> Result<usize, Diagnosis>
 }
 
 /// The end of the characters of an address, or of a tag's name, with their escapes.
-pub(crate) fn uri_end(text: &str, at: usize, address: bool) -> Result<usize, Diagnosis>
+pub(crate) fn uri_end(text: &str, at: usize, address: bool) -> Result<usize, Mistake>
     requires { IsCharBoundary text.now at }
     ensures { Passed text.now at result }
 {

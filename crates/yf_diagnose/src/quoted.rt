@@ -5,7 +5,7 @@ ghost use Rattle.yf_chars.specs.Text.{Reads};
 ghost use Rattle.yf_diagnose.specs.Quoted.{SignAt};
 ghost use Rattle.yf_diagnose.specs.Told.{NotBefore, Told};
 
-use crate::diagnosis::{Diagnosis, refused};
+use crate::diagnosis::{Mistake, refused};
 use crate::lines::{Margin, NextLine, next_line};
 use crate::why::Why;
 use yf_chars::classes::{is_nb_json, is_white};
@@ -29,7 +29,7 @@ pub(crate) enum Sign {
 }
 
 /// The end of the quoted text whose opening quote stands there. A quote that isn't closed is told at the opening one.
-pub(crate) fn quoted_end(text: &str, at: usize, margin: Margin) -> Result<usize, Diagnosis>
+pub(crate) fn quoted_end(text: &str, at: usize, margin: Margin) -> Result<usize, Mistake>
     requires inside { IsCharBoundary text.now (at + 1) }
     requires boundary { IsCharBoundary text.now at }
     ensures { Told text.now at result }
@@ -79,7 +79,7 @@ fn turned(
     at: usize,
     least: usize,
     further: bool,
-) -> Result<usize, Diagnosis>
+) -> Result<usize, Mistake>
     requires quote { IsCharBoundary text.now quote }
     requires line { IsCharBoundary text.now at }
     requires order { quote < at }

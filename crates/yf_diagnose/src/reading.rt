@@ -1,11 +1,11 @@
 //! The second reading of what was refused. Offsets count bytes.
 ghost use Rattle.std.specs.Prelude.{◌+◌, ◌<◌, ◌≤◌, IfSome};
 ghost use Rattle.std.specs.Str.{IsCharBoundary};
-ghost use Rattle.yf_diagnose.specs.Told.{IsDiagnosis, IsRefusal, Passed};
+ghost use Rattle.yf_diagnose.specs.Told.{IsDiagnosis, IsDiagnosed, Passed};
 
-use crate::diagnosis::{Diagnosis, Refusal, behind, here, told};
+use crate::diagnosis::{Diagnosis, Mistake, behind, here, told};
 use crate::guess::guessed;
-use crate::keys::{comment_stands, content_end, key_refusal, without_colon};
+use crate::keys::{comment_stands, content_end, key_diagnosis, without_colon};
 use crate::leaves::quote_stands;
 use crate::lines::{Margin, comment_end, line_ends, sign_why};
 use crate::look::{
@@ -24,24 +24,24 @@ use yf_lines::table::skip_marks;
 
 /// Where and why a text is no stream whose reading stopped at an offset. What was refused there is read again: the node or the key, the header, the
 /// directive, or the line.
-pub fn diagnose(text: &str, stop: usize) -> Refusal
+pub fn diagnose(text: &str, stop: usize) -> Diagnosis
     requires { IsCharBoundary text.now stop }
     ensures { IsDiagnosis text.now stop result }
 {
     let sign = skip_whites(text, stop);
-    let refusal = refusal_at(text, stop, sign);
-    Refusal {
-        why: guessed(text, refusal.at, refusal.why),
-        ..refusal
+    let diagnosis = diagnosis_at(text, stop, sign);
+    Diagnosis {
+        why: guessed(text, diagnosis.at, diagnosis.why),
+        ..diagnosis
     }
 }
 
 // The same where the first sign from the offset on is known.
-fn refusal_at(text: &str, stop: usize, sign: usize) -> Refusal
+fn diagnosis_at(text: &str, stop: usize, sign: usize) -> Diagnosis
     requires stop { IsCharBoundary text.now stop }
     requires sign { IsCharBoundary text.now sign }
     requires order { stop ≤ sign }
-    ensures { IsRefusal text.now sign result }
+    ensures { IsDiagnosed text.now sign result }
 {
     let start = line_start(text, stop);
     let base = skip_marks(text, start);
@@ -62,10 +62,10 @@ fn refusal_at(text: &str, stop: usize, sign: usize) -> Refusal
 }
 
 // A sign behind other text of its line.
-fn behind_text(text: &str, start: usize, at: usize) -> Refusal
+fn behind_text(text: &str, start: usize, at: usize) -> Diagnosis
     requires start { IsCharBoundary text.now start }
     requires boundary { IsCharBoundary text.now at }
-    ensures { IsRefusal text.now at result }
+    ensures { IsDiagnosed text.now at result }
 {
     if comment_stands(text, at) {
         return match comment_end(text, at) {
@@ -89,11 +89,11 @@ fn behind_text(text: &str, start: usize, at: usize) -> Refusal
 }
 
 // The first sign of a line.
-fn at_first(text: &str, start: usize, at: usize) -> Refusal
+fn at_first(text: &str, start: usize, at: usize) -> Diagnosis
     requires start { IsCharBoundary text.now start }
     requires boundary { IsCharBoundary text.now at }
     requires order { start ≤ at }
-    ensures { IsRefusal text.now at result }
+    ensures { IsDiagnosed text.now at result }
 {
     if line_ends(text, at) {
         return told(text, start, blank_lines_end(text, start), Why::NodeEnded);
@@ -110,10 +110,10 @@ fn at_first(text: &str, start: usize, at: usize) -> Refusal
 }
 
 // A `%` at the start of a line.
-fn at_percent(text: &str, at: usize) -> Refusal
+fn at_percent(text: &str, at: usize) -> Diagnosis
     requires boundary { IsCharBoundary text.now at }
     requires inside { IsCharBoundary text.now (at + 1) }
-    ensures { IsRefusal text.now at result }
+    ensures { IsDiagnosed text.now at result }
 {
     match standing_at(text, at) {
         Standing::Node(_) | Standing::Beyond(Why::NoDocumentStart) => match directive_end(
@@ -127,29 +127,29 @@ fn at_percent(text: &str, at: usize) -> Refusal
 }
 
 // Any other sign of a line.
-fn at_sign(text: &str, start: usize, at: usize) -> Refusal
+fn at_sign(text: &str, start: usize, at: usize) -> Diagnosis
     requires start { IsCharBoundary text.now start }
     requires boundary { IsCharBoundary text.now at }
-    ensures { IsRefusal text.now at result }
+    ensures { IsDiagnosed text.now at result }
 {
     let standing = standing_at(text, at);
     if let Some(tab) = tab_of(text, start, at, standing) {
         return tab;
     }
-    let refusal = standing_refusal(text, at, standing);
-    if refusal.at > at {
-        return refusal;
+    let diagnosis = standing_diagnosis(text, at, standing);
+    if diagnosis.at > at {
+        return diagnosis;
     }
     match tab_before(text, start, at) {
         Some(tab) => here(tab, Why::TabBeforeEntry),
-        None => here(at, sign_why(text, at, refusal.why)),
+        None => here(at, sign_why(text, at, diagnosis.why)),
     }
 }
 
 // The first tab of a line whose first sign stands there, where spaces must stand.
-fn tab_of(text: &str, start: usize, at: usize, standing: Standing) -> Option<Refusal>
+fn tab_of(text: &str, start: usize, at: usize, standing: Standing) -> Option<Diagnosis>
     requires { IsCharBoundary text.now start }
-    ensures { IfSome result (IsRefusal text.now at) }
+    ensures { IfSome result (IsDiagnosed text.now at) }
 {
     let base = skip_marks(text, start);
     match first_tab(text, base, at) {
@@ -201,9 +201,9 @@ fn tab_before(text: &str, start: usize, at: usize) -> Option<usize>
 }
 
 // What is told of what stands there so.
-fn standing_refusal(text: &str, at: usize, standing: Standing) -> Refusal
+fn standing_diagnosis(text: &str, at: usize, standing: Standing) -> Diagnosis
     requires { IsCharBoundary text.now at }
-    ensures { IsRefusal text.now at result }
+    ensures { IsDiagnosed text.now at result }
 {
     match standing {
         Standing::Beyond(why) => here(at, beyond_why(text, at, why)),
@@ -215,7 +215,7 @@ fn standing_refusal(text: &str, at: usize, standing: Standing) -> Refusal
         ),
         Standing::Key(least) => {
             if property_stands(text, at) {
-                return key_refusal(text, at);
+                return key_diagnosis(text, at);
             }
             told(
                 text,
@@ -247,7 +247,7 @@ fn beyond_why(text: &str, at: usize, why: Why) -> Why {
 }
 
 // The end of the node that begins there, or of its properties.
-fn node_end(text: &str, at: usize, margin: Margin) -> Result<usize, Diagnosis>
+fn node_end(text: &str, at: usize, margin: Margin) -> Result<usize, Mistake>
     requires { IsCharBoundary text.now at }
     ensures { Passed text.now at result }
 {
@@ -267,7 +267,7 @@ fn node_end(text: &str, at: usize, margin: Margin) -> Result<usize, Diagnosis>
 }
 
 // The end of a block scalar's header, which is no key.
-fn scalar_end(text: &str, at: usize, margin: Margin) -> Result<usize, Diagnosis>
+fn scalar_end(text: &str, at: usize, margin: Margin) -> Result<usize, Mistake>
     requires boundary { IsCharBoundary text.now at }
     requires inside { IsCharBoundary text.now (at + 1) }
     ensures { Passed text.now at result }

@@ -4,7 +4,7 @@ ghost use Rattle.std.specs.Prelude.{◌+◌};
 ghost use Rattle.std.specs.Str.{IsCharBoundary};
 ghost use Rattle.yf_diagnose.specs.Told.{NotBefore, Passed, Told};
 
-use crate::diagnosis::{Diagnosis, refused};
+use crate::diagnosis::{Mistake, refused};
 use crate::lines::{comment_end, line_ends};
 use crate::property::uri_end;
 use crate::why::Why;
@@ -14,7 +14,7 @@ use yf_chars::text::{peek, stands};
 use yf_lines::basic::{line_break, skip_spaces, skip_whites};
 
 /// The end of a line that holds white space and a comment at most.
-pub(crate) fn rest_end(text: &str, at: usize, why: Why) -> Result<usize, Diagnosis>
+pub(crate) fn rest_end(text: &str, at: usize, why: Why) -> Result<usize, Mistake>
     requires { IsCharBoundary text.now at }
     ensures { Passed text.now at result }
 {
@@ -35,7 +35,7 @@ pub(crate) fn rest_end(text: &str, at: usize, why: Why) -> Result<usize, Diagnos
 }
 
 /// The end of the line of a block scalar's header, whose `|` or `>` stands there.
-pub(crate) fn header_end(text: &str, at: usize) -> Result<usize, Diagnosis>
+pub(crate) fn header_end(text: &str, at: usize) -> Result<usize, Mistake>
     requires { IsCharBoundary text.now (at + 1) }
     ensures { Told text.now at result }
 {
@@ -79,7 +79,7 @@ fn chomp_passed(text: &str, at: usize) -> usize
 }
 
 /// Where the first blank line from a line's start on has one space more than the first line that is not blank.
-pub(crate) fn blank_lines_end(text: &str, at: usize) -> Result<usize, Diagnosis>
+pub(crate) fn blank_lines_end(text: &str, at: usize) -> Result<usize, Mistake>
     requires { IsCharBoundary text.now at }
     ensures { Passed text.now at result }
 {
@@ -129,7 +129,7 @@ fn space_at(text: &str, at: usize, count: usize) -> usize
 }
 
 /// The end of the line of the directive whose `%` stands there.
-pub(crate) fn directive_end(text: &str, at: usize) -> Result<usize, Diagnosis>
+pub(crate) fn directive_end(text: &str, at: usize) -> Result<usize, Mistake>
     requires { IsCharBoundary text.now (at + 1) }
     ensures { Told text.now at result }
 {
@@ -150,7 +150,7 @@ pub(crate) fn directive_end(text: &str, at: usize) -> Result<usize, Diagnosis>
 }
 
 // The end of the version behind `%YAML`.
-fn version_end(text: &str, at: usize) -> Result<usize, Diagnosis>
+fn version_end(text: &str, at: usize) -> Result<usize, Mistake>
     requires { IsCharBoundary text.now at }
     ensures { Passed text.now at result }
 {
@@ -173,7 +173,7 @@ fn version_end(text: &str, at: usize) -> Result<usize, Diagnosis>
 }
 
 // The end of the handle and the prefix behind `%TAG`.
-fn handle_end(text: &str, at: usize) -> Result<usize, Diagnosis>
+fn handle_end(text: &str, at: usize) -> Result<usize, Mistake>
     requires { IsCharBoundary text.now at }
     ensures { Passed text.now at result }
 {
@@ -201,7 +201,7 @@ fn handle_end(text: &str, at: usize) -> Result<usize, Diagnosis>
 }
 
 // The end of the prefix behind a handle.
-fn prefix_end(text: &str, at: usize) -> Result<usize, Diagnosis>
+fn prefix_end(text: &str, at: usize) -> Result<usize, Mistake>
     requires { IsCharBoundary text.now at }
     ensures { Passed text.now at result }
 {

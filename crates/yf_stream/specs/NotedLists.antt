@@ -17,7 +17,7 @@ use Rattle.yf_stream.specs.declared.breaches.Breach.{Breach}
 use Rattle.yf_stream.specs.declared.documents.Parts.{Parts}
 use Rattle.yf_stream.specs.declared.stream.Refusal.{Refusal}
 use Rattle.yf_stream.specs.declared.stream.Refusal.TheVariants as Refusals
-use Rattle.yf_diagnose.specs.declared.diagnosis.Refusal.{Refusal as Told}
+use Rattle.yf_diagnose.specs.declared.diagnosis.Diagnosis.{Diagnosis as Told}
 use Rattle.yf_diagnose.specs.Told.{IsDiagnosis}
 
 -- nothing is breached in the parts, and the lists hold them with their resolved tags; and where events and comments stand in order, with the
