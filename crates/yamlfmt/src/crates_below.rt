@@ -8,6 +8,7 @@ mod emit;
 mod events;
 mod flow;
 mod lines;
+mod mistakes;
 mod node_text;
 mod older_writes;
 mod plain;

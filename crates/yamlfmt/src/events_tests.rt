@@ -160,20 +160,20 @@ fn prints_streams(rt: HostRuntime) {
     }
 }
 
-/// Texts that are no streams, and the line of the fault: the leaf, bracket or entry at which reading ended.
+/// Texts that are no streams, and the line of the fault: the first sign with which no stream begins.
 static NO_STREAMS: [(&str, &str); 15] = [
     ("a: b: c\n", "1:5 refused: syntax\n"),
     ("a\nb: c\n", "2:2 refused: syntax\n"),
-    ("key: [\n  1\n]\n", "1:6 refused: syntax\n"),
+    ("key: [\n  1\n]\n", "3:1 refused: syntax\n"),
     ("a:\n\tb: 1\n", "2:1 refused: syntax\n"),
     ("- \"\\ud83d\"\n]", "2:1 refused: syntax\n"),
     ("%YAML 1.2\nx\n", "2:1 refused: syntax\n"),
     ("a: \"x", "1:4 refused: syntax\n"),
     ("\"a", "1:1 refused: syntax\n"),
-    ("[a", "1:1 refused: syntax\n"),
-    ("{a: b", "1:1 refused: syntax\n"),
+    ("[a", "1:3 refused: syntax\n"),
+    ("{a: b", "1:6 refused: syntax\n"),
     ("a\0b", "1:2 refused: syntax\n"),
-    ("\"a\0b\"", "1:1 refused: syntax\n"),
+    ("\"a\0b\"", "1:3 refused: syntax\n"),
     ("a\u{FEFF}b", "1:2 refused: syntax\n"),
     ("&a x\n...\n- *a: b\n", "3:7 refused: syntax\n"),
     ("? k\n:- a\n", "2:5 refused: syntax\n"),

@@ -19,7 +19,7 @@ type Limit = (
 static LIMITS: [Limit; 38] = [
     ("", "k", 1024, ": v", 1, None),
     ("", "k", 1025, ": v", 1, Some("1:1026 refused: syntax\n")),
-    ("[", "k", 1025, ": v]", 1, Some("1:1 refused: syntax\n")),
+    ("[", "k", 1025, ": v]", 1, Some("1:1027 refused: syntax\n")),
     ("{", "k", 1025, ": v}", 1, None),
     ("", "- ", 1024, "a", 1, None),
     ("", "[", 1024, "]", 1024, None),

@@ -38,7 +38,7 @@ shape_of t q i e f = subst (λ w. ShapeOr t q w) f (subst (λ z. IfOk z (λ o. S
 
 pub fault_derived : {t : List ℕ} {refusal : Refusal} {fault : Fault} → FaultAt t refusal fault → RefusalDerived t refusal → StreamFault t fault
 fault_derived for_memory d = memory_refused
-fault_derived (no_stream_at {offset = i} p) d = no_stream d (i, p)
+fault_derived (no_stream_at told diagnosis p) d = no_stream d (told.at, p)
 fault_derived (too_deep_at {offset = i} p) d = too_deep d.0 d.1 (i, p)
 fault_derived (told_at p e) d = breached d.shapes d.first p e
 

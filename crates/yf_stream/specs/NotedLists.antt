@@ -16,6 +16,8 @@ use Rattle.yf_stream.specs.declared.breaches.Breach.{Breach}
 use Rattle.yf_stream.specs.declared.documents.Parts.{Parts}
 use Rattle.yf_stream.specs.declared.stream.Refusal.{Refusal}
 use Rattle.yf_stream.specs.declared.stream.Refusal.TheVariants as Refusals
+use Rattle.yf_diagnose.specs.declared.diagnosis.Diagnosis.{Diagnosis as Told}
+use Rattle.yf_diagnose.specs.Told.{IsDiagnosis}
 
 -- nothing is breached in the parts, and the lists hold them with their resolved tags; and where events and comments stand in order, with the
 -- notes which comments stand on the lines of leaves
@@ -38,10 +40,12 @@ IsFirstBreach p (Refusals.TooDeep offset) = ⊥
 abbrev pub NotedOr : List ℕ → Parts → Result Lists Refusal → Type 0
 NotedOr t p r = MatchResult r (Noted t p) (IsFirstBreach p)
 
--- the fault is for memory, or tells why the text is refused, at the place of the offset
+-- the fault is for memory, or tells why the text is refused: that it is no stream, at the place of what is told of the offset; else at the place
+-- of the offset
 pub data FaultAt (t : List ℕ) : Refusal → Fault → Type 0 where
   for_memory : {refusal : Refusal} → FaultAt t refusal Memory
-  no_stream : {offset : ℕ} {place : Place} {what : Bor (List ℕ)} → IsPlaceOf t offset place → FaultAt t (Refusals.Syntax offset) (Syntax place what)
+  no_stream : {offset : ℕ} {place : Place} {what : Bor (List ℕ)} (told : Told) → IsDiagnosis t offset told → IsPlaceOf t told.at place
+      → FaultAt t (Refusals.Syntax offset) (Syntax place what)
   too_deep : {offset : ℕ} {place : Place} → IsPlaceOf t offset place → FaultAt t (Refusals.TooDeep offset) (TooDeep place)
   breached : {b : Breach} {place : Place} {fault : Fault} → IsPlaceOf t b.offset place → fault ≡ fault_of b.kind place
       → FaultAt t (Refusals.Breach b) fault

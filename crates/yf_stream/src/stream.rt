@@ -18,6 +18,7 @@ use crate::documents::{Next, Parts, Source, Spot};
 use crate::leaf_lines::on_leaf_lines;
 use crate::resolve::{Resolved, resolve};
 use std::alloc::{AllocError, Global};
+use yf_diagnose::diagnose;
 use yf_events::event::NewEvent;
 use yf_events::lists::Lists;
 use yf_events::part::Part;
@@ -135,10 +136,13 @@ fn fault_at(alloc: Global, text: &str, refusal: Refusal) -> Fault
         return Fault::Memory;
     };
     match refusal {
-        Refusal::Syntax(offset) => Fault::Syntax {
-            place: table.place(offset),
-            what: "no production derives the text",
-        },
+        Refusal::Syntax(offset) => {
+            let told = diagnose(text, offset);
+            Fault::Syntax {
+                place: table.place(told.at),
+                what: told.why.words(),
+            }
+        }
         Refusal::TooDeep(offset) => Fault::TooDeep {
             place: table.place(offset),
         },

@@ -8,7 +8,9 @@ returns-in_default c = for_memory
 
 pub returns-in-Syntax : goal.returns-in-Syntax
 returns-in-Syntax c =
-    rw c.in-Syntax.is (no_stream (subst (λ z. IsPlaceOf z c.in-Syntax.offset c.place.result) c.in-Ok.ensures.text c.place.ensures.place))
+    rw c.in-Syntax.is
+    (no_stream c.diagnose-told.result c.diagnose-told.ensures
+    (subst (λ z. IsPlaceOf z c.diagnose-told.result.at c.place.result) c.in-Ok.ensures.text c.place.ensures.place))
 
 pub returns-in-TooDeep : goal.returns-in-TooDeep
 returns-in-TooDeep c =

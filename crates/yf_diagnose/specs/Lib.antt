@@ -1,0 +1,4 @@
+pub mod Brackets
+pub mod Lines
+pub mod Quoted
+pub mod Told

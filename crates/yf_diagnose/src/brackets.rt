@@ -1,0 +1,341 @@
+//! Nodes in brackets (flow collections, productions 136 to 161): where their reading ends. Offsets count bytes.
+ghost use Rattle.std.specs.Prelude.{◌≡◌, ◌+◌, ◌<◌, ◌≤◌, IfOk};
+ghost use Rattle.std.specs.Str.{IsCharBoundary};
+ghost use Rattle.yf_diagnose.specs.Brackets.{IsOpen};
+ghost use Rattle.yf_diagnose.specs.Told.{Told};
+
+use crate::diagnosis::{Mistake, refused};
+use crate::gap::gap_end;
+use crate::leaves::{Held, colon_stands, held_content, leaf_end, quote_stands};
+use crate::lines::{Margin, breaks_between, is_long, sign_why};
+use crate::why::Why;
+use yf_chars::text::stands;
+use yf_lines::basic::{skip_whites, white_or_end_stands};
+
+/// How many brackets may be open at once.
+pub const LEVELS: usize = 1024;
+
+// What may come next in brackets, but for their closing one.
+#[derive(Clone, Copy)]
+enum Awaits {
+    Entry,
+    // The key of an entry with a `?`.
+    Key,
+    Value,
+    Comma,
+}
+
+// Brackets that are open.
+#[derive(Clone, Copy)]
+struct Level {
+    mapping: bool,
+    awaits: Awaits,
+    // Where the last entry begins.
+    start: usize,
+}
+
+// All brackets that are open, the innermost last.
+#[derive(Drop)]
+struct Levels {
+    items: [Level; LEVELS],
+    count: usize,
+}
+
+/// The end of the brackets of which the opening one stands there.
+pub(crate) fn brackets_end(text: &str, at: usize, margin: Margin) -> Result<usize, Mistake>
+    requires boundary { IsCharBoundary text.now at }
+    requires inside { IsCharBoundary text.now (at + 1) }
+    ensures { Told text.now at result }
+{
+    let outermost = Level {
+        mapping: stands(text, at, b'{'),
+        awaits: Awaits::Entry,
+        start: at,
+    };
+    let mut levels = Levels {
+        items: [outermost; LEVELS],
+        count: 1,
+    };
+    let mut here = at + 1;
+    'signs: loop {
+        match gap_end(text, here, margin) {
+            Err(told) => return Err(told),
+            Ok(sign) => match levels.read(text, sign, margin) {
+                Err(told) => return Err(told),
+                Ok(next) => here = next,
+            },
+        }
+        if levels.count == 0 {
+            return Ok(here);
+        }
+    }
+}
+
+impl Levels {
+    fn top(&self) -> Level
+        requires { IsOpen self.now.count }
+    {
+        self.items[self.count - 1]
+    }
+
+    fn set(&mut self, level: Level)
+        requires { IsOpen self.old.count }
+        ensures { self.new.count ≡ self.old.count }
+    {
+        self.items[self.count - 1] = level;
+    }
+
+    fn awaits(&mut self, awaits: Awaits)
+        requires { IsOpen self.old.count }
+        ensures { self.new.count ≡ self.old.count }
+    {
+        let top = self.top();
+        self.set(Level { awaits, ..top });
+    }
+
+    // What begins with the sign that stands there.
+    fn read(&mut self, text: &str, at: usize, margin: Margin) -> Result<usize, Mistake>
+        requires levels { IsOpen self.old.count }
+        requires boundary { IsCharBoundary text.now at }
+        ensures levels { IfOk result (λ _. self.new.count ≤ 1024) }
+        ensures told { Told text.now at result }
+    {
+        if stands(text, at, b']') {
+            return self.close(text, at, false, margin);
+        }
+        if stands(text, at, b'}') {
+            return self.close(text, at, true, margin);
+        }
+        let top = self.top();
+        if stands(text, at, b',') {
+            if matches!(top.awaits, Awaits::Entry) {
+                return refused(at, Why::NoEntryBeforeComma);
+            }
+            self.awaits(Awaits::Entry);
+            return Ok(at + 1);
+        }
+        match top.awaits {
+            Awaits::Comma => refused(at, comma_why(text, at)),
+            Awaits::Value => self.entry(text, at, margin),
+            Awaits::Key => self.key(text, at, margin),
+            Awaits::Entry => {
+                if stands(text, at, b'?') {
+                    if white_or_end_stands(text, at + 1) {
+                        self.awaits(Awaits::Key);
+                        return Ok(at + 1);
+                    }
+                }
+                self.key(text, at, margin)
+            }
+        }
+    }
+
+    // The closing bracket of a mapping or a sequence.
+    fn close(
+        &mut self,
+        text: &str,
+        at: usize,
+        mapping: bool,
+        margin: Margin,
+    ) -> Result<usize, Mistake>
+        requires levels { IsOpen self.old.count }
+        requires boundary { IsCharBoundary text.now at }
+        requires inside { IsCharBoundary text.now (at + 1) }
+        ensures levels { IfOk result (λ _. self.new.count ≤ 1024) }
+        ensures told { Told text.now at result }
+    {
+        let top = self.top();
+        if top.mapping != mapping {
+            return refused(at, Why::WrongBracket);
+        }
+        self.count -= 1;
+        if self.count == 0 {
+            return Ok(at + 1);
+        }
+        self.behind(text, at, at + 1, true, margin)
+    }
+
+    // A key or an item, or the `:` of an empty key.
+    fn key(&mut self, text: &str, at: usize, margin: Margin) -> Result<usize, Mistake>
+        requires levels { IsOpen self.old.count }
+        requires boundary { IsCharBoundary text.now at }
+        ensures levels { IfOk result (λ _. self.new.count ≤ 1024) }
+        ensures told { Told text.now at result }
+    {
+        if colon_stands(text, at, false) {
+            return self.colon(text, at, at, false);
+        }
+        self.entry(text, at, margin)
+    }
+
+    // A node, from its properties on.
+    fn entry(&mut self, text: &str, at: usize, margin: Margin) -> Result<usize, Mistake>
+        requires levels { IsOpen self.old.count }
+        requires boundary { IsCharBoundary text.now at }
+        ensures levels { IfOk result (λ _. self.new.count ≤ 1024) }
+        ensures told { Told text.now at result }
+    {
+        let top = self.top();
+        self.set(Level { start: at, ..top });
+        match held_content(text, at, margin) {
+            Err(told) => Err(told),
+            Ok(Held::Empty(end)) => self.behind(text, at, end, false, margin),
+            Ok(Held::Content(content)) => self.content(text, at, content, margin),
+        }
+    }
+
+    // The content of a node that begins at a place.
+    fn content(
+        &mut self,
+        text: &str,
+        start: usize,
+        at: usize,
+        margin: Margin,
+    ) -> Result<usize, Mistake>
+        requires levels { IsOpen self.old.count }
+        requires boundary { IsCharBoundary text.now at }
+        requires order { start ≤ at }
+        ensures levels { IfOk result (λ _. self.new.count ≤ 1024) }
+        ensures told { Told text.now start result }
+    {
+        if stands(text, at, b'[') {
+            return self.begin(text, start, at, false);
+        }
+        if stands(text, at, b'{') {
+            return self.begin(text, start, at, true);
+        }
+        match leaf_end(text, at, start < at, margin) {
+            Err(told) => Err(told),
+            Ok(end) => self.behind(text, start, end, quote_stands(text, at), margin),
+        }
+    }
+
+    // The opening bracket of a node that begins at a place.
+    fn begin(
+        &mut self,
+        text: &str,
+        start: usize,
+        at: usize,
+        mapping: bool,
+    ) -> Result<usize, Mistake>
+        requires levels { IsOpen self.old.count }
+        requires boundary { IsCharBoundary text.now at }
+        requires inside { IsCharBoundary text.now (at + 1) }
+        requires order { start ≤ at }
+        ensures levels { IfOk result (λ _. self.new.count ≤ 1024) }
+        ensures told { Told text.now start result }
+    {
+        if self.count >= LEVELS {
+            return refused(at, Why::NodeEnded);
+        }
+        self.items[self.count] = Level {
+            mapping,
+            awaits: Awaits::Entry,
+            start: at,
+        };
+        self.count += 1;
+        Ok(at + 1)
+    }
+
+    // What may stand behind a node that begins and ends at places.
+    fn behind(
+        &mut self,
+        text: &str,
+        start: usize,
+        at: usize,
+        json: bool,
+        margin: Margin,
+    ) -> Result<usize, Mistake>
+        requires levels { IsOpen self.old.count }
+        requires boundary { IsCharBoundary text.now at }
+        requires order { start < at }
+        ensures levels { IfOk result (λ _. self.new.count ≤ 1024) }
+        ensures told { Told text.now start result }
+    {
+        let top = self.top();
+        if matches!(top.awaits, Awaits::Value) {
+            self.awaits(Awaits::Comma);
+            return Ok(at);
+        }
+        if matches!(top.awaits, Awaits::Entry) {
+            if !top.mapping {
+                return self.behind_item(text, start, at, json);
+            }
+        }
+        match gap_end(text, at, margin) {
+            Err(told) => Err(told),
+            Ok(next) => {
+                if colon_stands(text, next, json) {
+                    return self.colon(text, start, next, json);
+                }
+                self.awaits(Awaits::Comma);
+                Ok(next)
+            }
+        }
+    }
+
+    // The same of an item of a sequence, which may be the key of a single pair (production 150).
+    fn behind_item(
+        &mut self,
+        text: &str,
+        start: usize,
+        at: usize,
+        json: bool,
+    ) -> Result<usize, Mistake>
+        requires levels { IsOpen self.old.count }
+        requires boundary { IsCharBoundary text.now at }
+        requires order { start < at }
+        ensures levels { IfOk result (λ _. self.new.count ≤ 1024) }
+        ensures told { Told text.now start result }
+    {
+        let colon = skip_whites(text, at);
+        if !colon_stands(text, colon, json) {
+            self.awaits(Awaits::Comma);
+            return Ok(at);
+        }
+        let top = self.top();
+        if breaks_between(text, top.start, colon) {
+            return refused(colon, Why::PairOverLines);
+        }
+        if is_long(text, top.start, colon) {
+            return refused(colon, Why::LongKey);
+        }
+        self.colon(text, start, colon, json)
+    }
+
+    // The `:` behind a key that begins at a place.
+    fn colon(&mut self, text: &str, start: usize, at: usize, json: bool) -> Result<usize, Mistake>
+        requires levels { IsOpen self.old.count }
+        requires boundary { IsCharBoundary text.now at }
+        requires inside { IsCharBoundary text.now (at + 1) }
+        requires order { start ≤ at }
+        ensures levels { IfOk result (λ _. self.new.count ≤ 1024) }
+        ensures told { Told text.now start result }
+    {
+        self.awaits(Awaits::Value);
+        if !json {
+            if bracket_stands(text, at + 1) {
+                return refused(at, Why::ColonUnspaced);
+            }
+        }
+        Ok(at + 1)
+    }
+}
+
+// Why no comma stands there.
+fn comma_why(text: &str, at: usize) -> Why
+    requires { IsCharBoundary text.now at }
+{
+    if stands(text, at, b':') {
+        return Why::SecondColon;
+    }
+    sign_why(text, at, Why::CommaExpected)
+}
+
+// Whether an opening bracket stands there.
+fn bracket_stands(text: &str, at: usize) -> bool {
+    if stands(text, at, b'[') {
+        return true;
+    }
+    stands(text, at, b'{')
+}

@@ -1,0 +1,122 @@
+//! White space, line breaks and comments in brackets (s-separate, production 80). Offsets count bytes.
+ghost use Rattle.std.specs.Prelude.{◌≤◌, IfSome};
+ghost use Rattle.std.specs.Str.{IsCharBoundary};
+ghost use Rattle.yf_diagnose.specs.Lines.{NextLineAt};
+ghost use Rattle.yf_diagnose.specs.Told.{NotBefore, Passed};
+
+use crate::diagnosis::{Mistake, refused};
+use crate::lines::{Margin, NextLine, comment_end, next_line};
+use crate::why::Why;
+use yf_chars::text::stands;
+use yf_lines::basic::{line_break, skip_whites};
+
+/// The next sign in brackets. Where there is none, the place behind the last one is told.
+pub(crate) fn gap_end(text: &str, at: usize, margin: Margin) -> Result<usize, Mistake>
+    requires { IsCharBoundary text.now at }
+    ensures { Passed text.now at result }
+{
+    let sign = skip_whites(text, at);
+    if stands(text, sign, b'#') {
+        if sign > at {
+            return comment_passed(text, at, sign, margin);
+        }
+    }
+    if sign == text.len() {
+        return refused(at, Why::BracketsOpen);
+    }
+    match line_break(text, sign) {
+        None => Ok(sign),
+        Some(next) => {
+            if margin.key {
+                return refused(sign, Why::KeyWithoutColon);
+            }
+            lines_passed(text, at, next, margin.least)
+        }
+    }
+}
+
+// The same from a comment on, where the last sign ends at a place.
+fn comment_passed(text: &str, last: usize, at: usize, margin: Margin) -> Result<usize, Mistake>
+    requires last { IsCharBoundary text.now last }
+    requires boundary { IsCharBoundary text.now at }
+    requires order { last ≤ at }
+    ensures { Passed text.now last result }
+{
+    match comment_end(text, at) {
+        Err(told) => Err(told),
+        Ok(end) => {
+            if margin.key {
+                return refused(at, Why::KeyWithoutColon);
+            }
+            match line_break(text, end) {
+                None => refused(last, Why::BracketsOpen),
+                Some(next) => lines_passed(text, last, next, margin.least),
+            }
+        }
+    }
+}
+
+// The same from the start of a line on.
+fn lines_passed(text: &str, last: usize, at: usize, least: usize) -> Result<usize, Mistake>
+    requires last { IsCharBoundary text.now last }
+    requires boundary { IsCharBoundary text.now at }
+    requires order { last ≤ at }
+    ensures { Passed text.now last result }
+{
+    let mut start = at;
+    'lines: loop {
+        let line = next_line(text, start, least);
+        match comment_of(text, start, line) {
+            None => return sign_of(text, last, start, line),
+            Some(sign) => match comment_end(text, sign) {
+                Err(told) => return Err(told),
+                Ok(end) => match line_break(text, end) {
+                    None => return refused(last, Why::BracketsOpen),
+                    Some(next) => start = next,
+                },
+            },
+        }
+    }
+}
+
+// The `#` of a line that is a comment.
+fn comment_of(text: &str, at: usize, line: NextLine) -> Option<usize>
+    requires { NextLineAt text.now at line }
+    ensures { IfSome result (λ sign. NotBefore text.now at sign) }
+{
+    let sign = match line {
+        NextLine::Ends => return None,
+        NextLine::Goes(sign) | NextLine::Left(sign) => sign,
+        NextLine::Tab(tab) => skip_whites(text, tab),
+    };
+    if stands(text, sign, b'#') {
+        return Some(sign);
+    }
+    None
+}
+
+// The first sign of a line that is no comment.
+fn sign_of(text: &str, last: usize, at: usize, line: NextLine) -> Result<usize, Mistake>
+    requires last { IsCharBoundary text.now last }
+    requires order { last ≤ at }
+    requires line { NextLineAt text.now at line }
+    ensures { Passed text.now last result }
+{
+    match line {
+        NextLine::Goes(sign) => Ok(sign),
+        NextLine::Ends => refused(last, Why::BracketsOpen),
+        NextLine::Tab(tab) => refused(tab, Why::TabIndents),
+        NextLine::Left(sign) => refused(sign, left_why(text, sign)),
+    }
+}
+
+// Why a line in brackets can't begin with that sign so far to the left.
+fn left_why(text: &str, at: usize) -> Why {
+    if stands(text, at, b']') {
+        return Why::BracketLeft;
+    }
+    if stands(text, at, b'}') {
+        return Why::BracketLeft;
+    }
+    Why::LeftInBrackets
+}

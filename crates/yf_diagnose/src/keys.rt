@@ -1,0 +1,128 @@
+//! Keys on their lines, and nodes that are no block scalars. Offsets count bytes.
+ghost use Rattle.std.specs.Str.{IsCharBoundary};
+ghost use Rattle.yf_diagnose.specs.Told.{IsDiagnosed, Passed};
+
+use crate::brackets::brackets_end;
+use crate::diagnosis::{Diagnosis, Mistake, behind, here, refused};
+use crate::leaves::is_second;
+use crate::lines::{Margin, line_ends};
+use crate::look::whites_before;
+use crate::plain::plain_end;
+use crate::property::{name_end, property_end, property_stands};
+use crate::quoted::quoted_end;
+use crate::standing::key_line;
+use crate::why::Why;
+use yf_chars::context::Ctx;
+use yf_chars::text::stands;
+use yf_lines::basic::skip_whites;
+use yf_lines::table::skip_marks;
+
+/// A key behind which its line ends, with no `:`. It may have begun on a line before.
+pub(crate) fn without_colon(text: &str, start: usize, stop: usize) -> Diagnosis
+    requires start { IsCharBoundary text.now start }
+    requires stop { IsCharBoundary text.now stop }
+    ensures { IsDiagnosed text.now stop result }
+{
+    match key_line(text, start) {
+        None => here(stop, Why::KeyWithoutColon),
+        Some(line) => {
+            let at = skip_whites(text, skip_marks(text, line));
+            if at > stop {
+                return here(stop, Why::KeyWithoutColon);
+            }
+            key_diagnosis(text, at)
+        }
+    }
+}
+
+/// What is told of a key that begins there.
+pub(crate) fn key_diagnosis(text: &str, at: usize) -> Diagnosis
+    requires { IsCharBoundary text.now at }
+    ensures { IsDiagnosed text.now at result }
+{
+    match key_end(text, at) {
+        Err(wrong) => behind(at, wrong),
+        Ok(end) => Diagnosis {
+            from: at,
+            at: skip_whites(text, end),
+            why: Why::KeyWithoutColon,
+        },
+    }
+}
+
+// The end of a key on its line.
+fn key_end(text: &str, at: usize) -> Result<usize, Mistake>
+    requires { IsCharBoundary text.now at }
+    ensures { Passed text.now at result }
+{
+    let margin = Margin {
+        least: 0,
+        key: true,
+    };
+    let mut here = at;
+    let mut anchor = false;
+    let mut tag = false;
+    'properties: while property_stands(text, here) {
+        let is_anchor = stands(text, here, b'&');
+        if is_second(is_anchor, anchor, tag) {
+            return refused(here, Why::PropertyTwice);
+        }
+        if is_anchor {
+            anchor = true;
+        } else {
+            tag = true;
+        }
+        match property_end(text, here) {
+            Err(wrong) => return Err(wrong),
+            Ok(end) => {
+                let next = skip_whites(text, end);
+                if line_ends(text, next) {
+                    return Ok(end);
+                }
+                if comment_stands(text, next) {
+                    return Ok(end);
+                }
+                if next == end {
+                    return refused(end, Why::PropertyUnspaced);
+                }
+                here = next;
+            }
+        }
+    }
+    match content_end(text, here, margin) {
+        Ok(end) => Ok(end),
+        Err(wrong) => Err(wrong),
+    }
+}
+
+/// The end of a node without properties that is no block scalar.
+pub(crate) fn content_end(text: &str, at: usize, margin: Margin) -> Result<usize, Mistake>
+    requires { IsCharBoundary text.now at }
+    ensures { Passed text.now at result }
+{
+    let read = if stands(text, at, b'"') {
+        quoted_end(text, at, margin)
+    } else if stands(text, at, b'\'') {
+        quoted_end(text, at, margin)
+    } else if stands(text, at, b'[') {
+        brackets_end(text, at, margin)
+    } else if stands(text, at, b'{') {
+        brackets_end(text, at, margin)
+    } else if stands(text, at, b'*') {
+        name_end(text, at)
+    } else {
+        return Ok(plain_end(text, at, Ctx::FlowOut));
+    };
+    match read {
+        Ok(end) => Ok(end),
+        Err(wrong) => Err(wrong),
+    }
+}
+
+/// Whether a comment begins there, behind white space.
+pub(crate) fn comment_stands(text: &str, at: usize) -> bool {
+    if stands(text, at, b'#') {
+        return whites_before(text, at) < at;
+    }
+    false
+}

@@ -1,0 +1,141 @@
+//! Leaves in brackets, with their properties. Offsets count bytes.
+ghost use Rattle.std.specs.Prelude.{◌+◌, MatchBool, ⊤};
+ghost use Rattle.std.specs.Str.{IsCharBoundary};
+ghost use Rattle.yf_diagnose.specs.Brackets.{HeldAt};
+ghost use Rattle.yf_diagnose.specs.Told.{Told};
+
+use crate::diagnosis::{Mistake, refused};
+use crate::gap::gap_end;
+use crate::lines::{Margin, sign_why};
+use crate::plain::{plain_begun, plain_lines_end, safe_stands};
+use crate::property::{name_end, property_end, property_stands};
+use crate::quoted::quoted_end;
+use crate::why::Why;
+use yf_chars::context::Ctx;
+use yf_chars::text::stands;
+
+/// The content of a node, or the end of its properties where it has none.
+#[derive(Clone, Copy)]
+pub(crate) enum Held {
+    Content(usize),
+    Empty(usize),
+}
+
+/// The content of a node behind its properties.
+pub(crate) fn held_content(text: &str, at: usize, margin: Margin) -> Result<Held, Mistake>
+    requires { IsCharBoundary text.now at }
+    ensures { HeldAt text.now at result }
+{
+    let mut here = at;
+    let mut anchor = false;
+    let mut tag = false;
+    'properties: while property_stands(text, here) {
+        let is_anchor = stands(text, here, b'&');
+        if is_second(is_anchor, anchor, tag) {
+            return Err(Mistake {
+                at: here,
+                why: Why::PropertyTwice,
+            });
+        }
+        if is_anchor {
+            anchor = true;
+        } else {
+            tag = true;
+        }
+        match property_end(text, here) {
+            Err(told) => return Err(told),
+            Ok(end) => match gap_end(text, end, margin) {
+                Err(told) => return Err(told),
+                Ok(next) => {
+                    if node_ends(text, next) {
+                        return Ok(Held::Empty(end));
+                    }
+                    if next == end {
+                        return Err(Mistake {
+                            at: end,
+                            why: Why::PropertyUnspaced,
+                        });
+                    }
+                    here = next;
+                }
+            },
+        }
+    }
+    Ok(Held::Content(here))
+}
+
+/// Whether a property is the second of its kind.
+pub(crate) fn is_second(is_anchor: bool, anchor: bool, tag: bool) -> bool {
+    if is_anchor {
+        return anchor;
+    }
+    tag
+}
+
+/// The end of the leaf that begins there; with properties before it, it can't be an alias.
+pub(crate) fn leaf_end(text: &str, at: usize, held: bool, margin: Margin) -> Result<usize, Mistake>
+    requires { IsCharBoundary text.now at }
+    ensures { Told text.now at result }
+{
+    if stands(text, at, b'"') {
+        return quoted_end(text, at, margin);
+    }
+    if stands(text, at, b'\'') {
+        return quoted_end(text, at, margin);
+    }
+    if stands(text, at, b'*') {
+        if held {
+            return refused(at, Why::AliasProperties);
+        }
+        return name_end(text, at);
+    }
+    match plain_begun(text, at, Ctx::FlowIn) {
+        Some(next) => Ok(plain_lines_end(text, next, margin)),
+        None => refused(at, leaf_why(text, at)),
+    }
+}
+
+// Why no leaf begins with that sign.
+fn leaf_why(text: &str, at: usize) -> Why
+    requires { IsCharBoundary text.now at }
+{
+    if stands(text, at, b'-') {
+        return Why::DashInBrackets;
+    }
+    sign_why(text, at, Why::NoPlain)
+}
+
+/// Whether a quote stands there.
+pub(crate) fn quote_stands(text: &str, at: usize) -> bool {
+    if stands(text, at, b'"') {
+        return true;
+    }
+    stands(text, at, b'\'')
+}
+
+/// Whether the `:` of a value stands there; behind quotes and brackets it needs no white space after it.
+pub(crate) fn colon_stands(text: &str, at: usize, json: bool) -> bool
+    ensures { MatchBool result (IsCharBoundary text.now (at + 1)) ⊤ }
+{
+    if stands(text, at, b':') {
+        if json {
+            return true;
+        }
+        return !safe_stands(text, at + 1, Ctx::FlowIn);
+    }
+    false
+}
+
+// Whether what stands there ends a node that has properties alone.
+fn node_ends(text: &str, at: usize) -> bool {
+    if stands(text, at, b',') {
+        return true;
+    }
+    if stands(text, at, b']') {
+        return true;
+    }
+    if stands(text, at, b'}') {
+        return true;
+    }
+    colon_stands(text, at, false)
+}

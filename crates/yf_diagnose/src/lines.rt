@@ -1,0 +1,141 @@
+//! The lines of quoted text and of brackets. Offsets count bytes.
+ghost use Rattle.std.specs.Prelude.{◌+◌, ◌<◌, MatchBool, ⊤, length};
+ghost use Rattle.std.specs.Str.{IsCharBoundary};
+ghost use Rattle.yf_diagnose.specs.Told.{Passed};
+ghost use Rattle.yf_diagnose.specs.Lines.{NextLineAt};
+
+use crate::diagnosis::{Mistake, refused};
+use crate::why::Why;
+use yf_chars::classes::is_printable;
+use yf_chars::nb_runs::skip_nb_chars;
+use yf_chars::text::{peek, stands};
+use yf_lines::basic::{line_break, marker_stands, skip_spaces, skip_whites};
+use yf_lines::table::skip_marks;
+
+/// How the lines of a node are held: how many spaces they begin with at least, and whether it must stand on one line, as a key.
+#[derive(Clone, Copy)]
+pub(crate) struct Margin {
+    pub(crate) least: usize,
+    pub(crate) key: bool,
+}
+
+/// What the next line is that is not blank.
+#[derive(Clone, Copy)]
+pub(crate) enum NextLine {
+    /// Its first sign stands there, and it is indented as it must be.
+    Goes(usize),
+    /// The text ends, or the document.
+    Ends,
+    /// A tab stands where it must be indented.
+    Tab(usize),
+    /// Its first sign stands too far to the left.
+    Left(usize),
+}
+
+/// The next line that is not blank, from the start of a line on.
+pub(crate) fn next_line(text: &str, at: usize, least: usize) -> NextLine
+    requires { IsCharBoundary text.now at }
+    ensures { NextLineAt text.now at result }
+{
+    let mut start = at;
+    'lines: loop {
+        let indented = skip_spaces(text, start);
+        let sign = skip_whites(text, indented);
+        match line_break(text, sign) {
+            Some(next) => start = next,
+            None => {
+                if sign == text.len() {
+                    return NextLine::Ends;
+                }
+                if marker_stands(text, skip_marks(text, start)) {
+                    return NextLine::Ends;
+                }
+                if indented - start >= least {
+                    return NextLine::Goes(sign);
+                }
+                if sign > indented {
+                    return NextLine::Tab(indented);
+                }
+                return NextLine::Left(sign);
+            }
+        }
+    }
+}
+
+/// The end of the comment that begins there.
+pub(crate) fn comment_end(text: &str, at: usize) -> Result<usize, Mistake>
+    requires { IsCharBoundary text.now at }
+    ensures { Passed text.now at result }
+{
+    let end = skip_nb_chars(text, at);
+    if line_ends(text, end) {
+        return Ok(end);
+    }
+    refused(end, sign_why(text, end, Why::Control))
+}
+
+/// Why a sign is refused: for itself where it may stand nowhere, else for a reason that is known.
+pub(crate) fn sign_why(text: &str, at: usize, why: Why) -> Why
+    requires { IsCharBoundary text.now at }
+{
+    match peek(text, at) {
+        None => why,
+        Some((c, _)) => {
+            if c == '\u{FEFF}' {
+                return Why::Mark;
+            }
+            if is_printable(c) {
+                return why;
+            }
+            Why::Control
+        }
+    }
+}
+
+/// Whether the text or the line ends there.
+pub(crate) fn line_ends(text: &str, at: usize) -> bool
+    ensures { MatchBool result ⊤ (at < length text.now) }
+{
+    if at >= text.len() {
+        return true;
+    }
+    is_break(text, at)
+}
+
+/// Whether a character of a line break stands between two places.
+pub(crate) fn breaks_between(text: &str, from: usize, to: usize) -> bool {
+    let mut at = from;
+    'bytes: while at < to {
+        if is_break(text, at) {
+            return true;
+        }
+        at += 1;
+    }
+    false
+}
+
+/// Whether more than 1,024 characters stand between two places.
+pub(crate) fn is_long(text: &str, from: usize, to: usize) -> bool {
+    let bytes = text.as_bytes();
+    let mut count: usize = 0;
+    let mut at = from;
+    'bytes: while at < to {
+        if at < bytes.len() {
+            if bytes[at] & 0xC0 != 0x80 {
+                count = count.saturating_add(1);
+            }
+        }
+        at += 1;
+    }
+    count > 1024
+}
+
+/// Whether a character of a line break stands there.
+pub(crate) fn is_break(text: &str, at: usize) -> bool
+    ensures { MatchBool result (IsCharBoundary text.now (at + 1)) ⊤ }
+{
+    if stands(text, at, b'\n') {
+        return true;
+    }
+    stands(text, at, b'\r')
+}

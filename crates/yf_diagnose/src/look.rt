@@ -1,0 +1,263 @@
+//! What stands before a place, and on a line. Offsets count bytes.
+ghost use Rattle.std.specs.Prelude.{◌≤◌, ◌<◌, ◌+◌, IfSome, MatchBool, ⊤, length};
+ghost use Rattle.std.specs.Str.{IsCharBoundary};
+ghost use Rattle.yf_diagnose.specs.Told.{NotBefore};
+
+use crate::lines::{is_break, line_ends};
+use yf_chars::text::stands;
+use yf_lines::basic::{marker_stands, skip_spaces, skip_whites, white_or_end_stands, white_stands};
+use yf_lines::table::skip_marks;
+
+/// The start of the line to which the place belongs, before its byte order marks.
+pub(crate) fn line_start(text: &str, at: usize) -> usize
+    ensures boundary { IsCharBoundary text.now result }
+    ensures order { result ≤ at }
+{
+    let mut start = at;
+    'bytes: while start > 0 {
+        let last = start - 1;
+        if is_break(text, last) {
+            return last + 1;
+        }
+        start = last;
+    }
+    0
+}
+
+/// The start of the line before the one that begins there.
+pub(crate) fn line_before(text: &str, start: usize) -> usize
+    requires { 0 < start }
+    ensures boundary { IsCharBoundary text.now result }
+    ensures order { result < start }
+{
+    let last = start - 1;
+    if last > 0 {
+        if stands(text, last, b'\n') {
+            if stands(text, last - 1, b'\r') {
+                return line_start(text, last - 1);
+            }
+        }
+    }
+    line_start(text, last)
+}
+
+/// The start of the white space that ends at the place.
+pub(crate) fn whites_before(text: &str, at: usize) -> usize
+    ensures { result ≤ at }
+{
+    let mut start = at;
+    'bytes: while start > 0 {
+        if !white_stands(text, start - 1) {
+            return start;
+        }
+        start -= 1;
+    }
+    0
+}
+
+/// The start of the run without white space that ends at the place.
+pub(crate) fn word_before(text: &str, at: usize) -> usize
+    ensures boundary { IsCharBoundary text.now result }
+    ensures order { result ≤ at }
+{
+    let mut start = at;
+    'bytes: while start > 0 {
+        let last = start - 1;
+        if is_break(text, last) {
+            return last + 1;
+        }
+        if white_stands(text, last) {
+            return last + 1;
+        }
+        start = last;
+    }
+    0
+}
+
+/// Whether a `-`, `?` or `:` stands there that white space, a break or the end of the text follows.
+pub(crate) fn indicator_stands(text: &str, at: usize) -> bool
+    ensures { MatchBool result (IsCharBoundary text.now (at + 1)) ⊤ }
+{
+    if stands(text, at, b'-') {
+        return white_or_end_stands(text, at + 1);
+    }
+    if stands(text, at, b'?') {
+        return white_or_end_stands(text, at + 1);
+    }
+    if stands(text, at, b':') {
+        return white_or_end_stands(text, at + 1);
+    }
+    false
+}
+
+/// The first tab in white space from one place to another.
+pub(crate) fn first_tab(text: &str, from: usize, to: usize) -> Option<usize>
+    requires { IsCharBoundary text.now from }
+    ensures boundary { IfSome result (λ tab. IsCharBoundary text.now tab) }
+    ensures order { IfSome result (λ tab. tab < to) }
+{
+    let mut at = from;
+    'whites: while at < to {
+        if stands(text, at, b'\t') {
+            return Some(at);
+        }
+        if !stands(text, at, b' ') {
+            return None;
+        }
+        at += 1;
+    }
+    None
+}
+
+/// Whether a `:` that white space, a break or the end of the text follows stands on a line from one place up to another.
+pub(crate) fn has_colon(text: &str, from: usize, to: usize) -> bool {
+    let mut at = from;
+    'bytes: while at < to {
+        if is_break(text, at) {
+            return false;
+        }
+        if stands(text, at, b':') {
+            if indicator_stands(text, at) {
+                return true;
+            }
+        }
+        at += 1;
+    }
+    false
+}
+
+/// The end of the text on the line from a place on, before white space and a comment.
+pub(crate) fn text_end(text: &str, from: usize) -> usize {
+    let mut end = from;
+    let mut at = from;
+    'bytes: while !line_ends(text, at) {
+        if stands(text, at, b'#') {
+            if at > end {
+                return end;
+            }
+        }
+        let white = white_stands(text, at);
+        at += 1;
+        if !white {
+            end = at;
+        }
+    }
+    end
+}
+
+// The offset behind the document marker that stands there, or the place itself.
+fn behind_marker(text: &str, at: usize) -> usize
+    requires { IsCharBoundary text.now at }
+    ensures { NotBefore text.now at result }
+{
+    if marker_stands(text, at) {
+        if stands(text, at + 2, b'-') {
+            return at + 3;
+        }
+        if stands(text, at + 2, b'.') {
+            return at + 3;
+        }
+    }
+    at
+}
+
+/// How a line begins.
+#[derive(Clone, Copy)]
+pub(crate) struct Beginning {
+    /// The offset after its byte order marks.
+    pub(crate) base: usize,
+    /// The first sign that is no indicator, or that stands not before the place up to which it was asked.
+    pub(crate) at: usize,
+    /// The bytes between both, so the column of the sign, from 0, where no tab stands before it.
+    pub(crate) column: usize,
+    /// The column, from 1, of the last indicator; 0 if there is none.
+    pub(crate) least: usize,
+    /// The first tab after the last indicator, or at the start of the line.
+    pub(crate) tab: Option<usize>,
+    /// Whether no sign stands before it.
+    pub(crate) first: bool,
+    /// Whether the line begins with a document marker.
+    pub(crate) marker: bool,
+}
+
+/// How the line that starts there begins, up to a place.
+pub(crate) fn begun_line(text: &str, start: usize, to: usize) -> Beginning
+    requires { IsCharBoundary text.now start }
+    ensures tab { IfSome result.tab (λ tab. IsCharBoundary text.now tab) }
+    ensures order { IfSome result.tab (λ tab. tab < result.at) }
+    ensures base { result.base ≤ result.at }
+    ensures boundary { IsCharBoundary text.now result.at }
+{
+    let base = skip_marks(text, start);
+    let mut from = behind_marker(text, base);
+    let marker = from > base;
+    let mut at = skip_whites(text, from);
+    let mut least = 0;
+    let mut first = !marker;
+    'indicators: while at < to {
+        if !indicator_stands(text, at) {
+            break;
+        }
+        least = at - base + 1;
+        first = false;
+        from = at + 1;
+        at = skip_whites(text, from);
+    }
+    Beginning {
+        base,
+        at,
+        column: at - base,
+        least,
+        tab: first_tab(text, from, at),
+        first,
+        marker,
+    }
+}
+
+/// What stands in a column of a line's beginning.
+#[derive(Clone, Copy)]
+pub(crate) enum Entry {
+    Key,
+    Item,
+    Nothing,
+}
+
+/// Which entry of a block collection stands in that column of the line that starts there.
+pub(crate) fn entry_in(text: &str, start: usize, column: usize) -> Entry
+    requires { IsCharBoundary text.now start }
+{
+    let base = skip_marks(text, start);
+    let mut at = skip_spaces(text, base);
+    'indicators: loop {
+        if at - base > column {
+            return Entry::Nothing;
+        }
+        let reached = at - base == column;
+        if !indicator_stands(text, at) {
+            if reached {
+                if has_colon(text, at, text.len()) {
+                    return Entry::Key;
+                }
+            }
+            return Entry::Nothing;
+        }
+        if reached {
+            if stands(text, at, b'-') {
+                return Entry::Item;
+            }
+            return Entry::Key;
+        }
+        at = skip_spaces(text, at + 1);
+    }
+}
+
+/// Whether a line that starts there is blank, or a comment.
+pub(crate) fn is_passed(text: &str, start: usize) -> bool
+    requires { IsCharBoundary text.now start }
+{
+    let sign = skip_whites(text, skip_marks(text, start));
+    if line_ends(text, sign) {
+        return true;
+    }
+    stands(text, sign, b'#')
+}

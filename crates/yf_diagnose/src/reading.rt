@@ -1,0 +1,343 @@
+//! The second reading of what was refused. Offsets count bytes.
+ghost use Rattle.std.specs.Prelude.{◌+◌, ◌<◌, ◌≤◌, IfSome};
+ghost use Rattle.std.specs.Str.{IsCharBoundary};
+ghost use Rattle.yf_diagnose.specs.Told.{IsDiagnosis, IsDiagnosed, Passed};
+
+use crate::diagnosis::{Diagnosis, Mistake, behind, here, told};
+use crate::guess::guessed;
+use crate::keys::{comment_stands, content_end, key_diagnosis, without_colon};
+use crate::leaves::quote_stands;
+use crate::lines::{Margin, comment_end, line_ends, sign_why};
+use crate::look::{
+    begun_line, first_tab, indicator_stands, line_start, whites_before, word_before,
+};
+use crate::plain::{plain_begun, plain_end};
+use crate::property::{name_end, property_end, property_stands};
+use crate::quoted::quoted_end;
+use crate::rest::{blank_lines_end, directive_end, header_end, rest_end};
+use crate::standing::{Standing, closes, key_line, standing_at};
+use crate::why::Why;
+use yf_chars::context::Ctx;
+use yf_chars::text::stands;
+use yf_lines::basic::{marker_stands, skip_whites};
+use yf_lines::table::skip_marks;
+
+/// Where and why a text is no stream whose reading stopped at an offset. What was refused there is read again: the node or the key, the header, the
+/// directive, or the line.
+pub fn diagnose(text: &str, stop: usize) -> Diagnosis
+    requires { IsCharBoundary text.now stop }
+    ensures { IsDiagnosis text.now stop result }
+{
+    let sign = skip_whites(text, stop);
+    let diagnosis = diagnosis_at(text, stop, sign);
+    Diagnosis {
+        why: guessed(text, diagnosis.at, diagnosis.why),
+        ..diagnosis
+    }
+}
+
+// The same where the first sign from the offset on is known.
+fn diagnosis_at(text: &str, stop: usize, sign: usize) -> Diagnosis
+    requires stop { IsCharBoundary text.now stop }
+    requires sign { IsCharBoundary text.now sign }
+    requires order { stop ≤ sign }
+    ensures { IsDiagnosed text.now sign result }
+{
+    let start = line_start(text, stop);
+    let base = skip_marks(text, start);
+    if skip_whites(text, base) >= stop {
+        return at_first(text, start, sign);
+    }
+    if marker_stands(text, base) {
+        if stop == base + 3 {
+            return told(
+                text,
+                stop,
+                rest_end(text, stop, Why::AfterDocumentEnd),
+                Why::AfterDocumentEnd,
+            );
+        }
+    }
+    behind_text(text, start, sign)
+}
+
+// A sign behind other text of its line.
+fn behind_text(text: &str, start: usize, at: usize) -> Diagnosis
+    requires start { IsCharBoundary text.now start }
+    requires boundary { IsCharBoundary text.now at }
+    ensures { IsDiagnosed text.now at result }
+{
+    if comment_stands(text, at) {
+        return match comment_end(text, at) {
+            Err(wrong) => behind(at, wrong),
+            Ok(_) => without_colon(text, start, at),
+        };
+    }
+    if line_ends(text, at) {
+        return without_colon(text, start, at);
+    }
+    let word = word_before(text, at);
+    if word < at {
+        if property_stands(text, word) {
+            return match property_end(text, word) {
+                Err(wrong) => behind(word, wrong),
+                Ok(_) => here(at, Why::PropertyUnspaced),
+            };
+        }
+    }
+    at_sign(text, start, at)
+}
+
+// The first sign of a line.
+fn at_first(text: &str, start: usize, at: usize) -> Diagnosis
+    requires start { IsCharBoundary text.now start }
+    requires boundary { IsCharBoundary text.now at }
+    requires order { start ≤ at }
+    ensures { IsDiagnosed text.now at result }
+{
+    if line_ends(text, at) {
+        return told(text, start, blank_lines_end(text, start), Why::NodeEnded);
+    }
+    if stands(text, at, b'#') {
+        return told(text, at, comment_end(text, at), Why::LeftInScalar);
+    }
+    if stands(text, at, b'%') {
+        if at == skip_marks(text, start) {
+            return at_percent(text, at);
+        }
+    }
+    at_sign(text, start, at)
+}
+
+// A `%` at the start of a line.
+fn at_percent(text: &str, at: usize) -> Diagnosis
+    requires boundary { IsCharBoundary text.now at }
+    requires inside { IsCharBoundary text.now (at + 1) }
+    ensures { IsDiagnosed text.now at result }
+{
+    match standing_at(text, at) {
+        Standing::Node(_) | Standing::Beyond(Why::NoDocumentStart) => match directive_end(
+            text, at,
+        ) {
+            Err(wrong) => behind(at, wrong),
+            Ok(_) => here(at, Why::NoPlain),
+        },
+        Standing::Key(_) | Standing::Beyond(_) => here(at, Why::DirectivePlace),
+    }
+}
+
+// Any other sign of a line.
+fn at_sign(text: &str, start: usize, at: usize) -> Diagnosis
+    requires start { IsCharBoundary text.now start }
+    requires boundary { IsCharBoundary text.now at }
+    ensures { IsDiagnosed text.now at result }
+{
+    let standing = standing_at(text, at);
+    if let Some(tab) = tab_of(text, start, at, standing) {
+        return tab;
+    }
+    let diagnosis = standing_diagnosis(text, at, standing);
+    if diagnosis.at > at {
+        return diagnosis;
+    }
+    match tab_before(text, start, at) {
+        Some(tab) => here(tab, Why::TabBeforeEntry),
+        None => here(at, sign_why(text, at, diagnosis.why)),
+    }
+}
+
+// The first tab of a line whose first sign stands there, where spaces must stand.
+fn tab_of(text: &str, start: usize, at: usize, standing: Standing) -> Option<Diagnosis>
+    requires { IsCharBoundary text.now start }
+    ensures { IfSome result (IsDiagnosed text.now at) }
+{
+    let base = skip_marks(text, start);
+    match first_tab(text, base, at) {
+        None => None,
+        Some(tab) => {
+            if skip_whites(text, tab) < at {
+                return None;
+            }
+            if is_indented(standing, tab.saturating_sub(base)) {
+                return None;
+            }
+            Some(here(tab, Why::TabIndents))
+        }
+    }
+}
+
+// Whether so many spaces indent what stands so.
+fn is_indented(standing: Standing, width: usize) -> bool {
+    match standing {
+        Standing::Node(least) => width >= least,
+        Standing::Key(_) | Standing::Beyond(_) => false,
+    }
+}
+
+// The first tab before an entry, or its key, on its line.
+fn tab_before(text: &str, start: usize, at: usize) -> Option<usize>
+    requires { IsCharBoundary text.now start }
+    ensures boundary { IfSome result (IsCharBoundary text.now) }
+    ensures order { IfSome result (λ tab. tab < at) }
+{
+    if !indicator_stands(text, at) {
+        return None;
+    }
+    let line = begun_line(text, start, at);
+    if line.at < at {
+        if !stands(text, at, b':') {
+            return None;
+        }
+    }
+    match line.tab {
+        None => None,
+        Some(tab) => {
+            if tab < at {
+                return Some(tab);
+            }
+            None
+        }
+    }
+}
+
+// What is told of what stands there so.
+fn standing_diagnosis(text: &str, at: usize, standing: Standing) -> Diagnosis
+    requires { IsCharBoundary text.now at }
+    ensures { IsDiagnosed text.now at result }
+{
+    match standing {
+        Standing::Beyond(why) => here(at, beyond_why(text, at, why)),
+        Standing::Node(least) => told(
+            text,
+            at,
+            node_end(text, at, Margin { least, key: false }),
+            node_why(text, at, false),
+        ),
+        Standing::Key(least) => {
+            if property_stands(text, at) {
+                return key_diagnosis(text, at);
+            }
+            told(
+                text,
+                at,
+                node_end(text, at, Margin { least, key: true }),
+                node_why(text, at, true),
+            )
+        }
+    }
+}
+
+// The same with a reason that the sign itself gives.
+fn beyond_why(text: &str, at: usize, why: Why) -> Why {
+    match why {
+        Why::KeyInSequence => {
+            if stands(text, at, b'-') {
+                return Why::DashUnspaced;
+            }
+            why
+        }
+        Why::AfterBrackets | Why::AfterNode => {
+            if closes(text, at) {
+                return Why::NoBracketOpen;
+            }
+            why
+        }
+        _ => why,
+    }
+}
+
+// The end of the node that begins there, or of its properties.
+fn node_end(text: &str, at: usize, margin: Margin) -> Result<usize, Mistake>
+    requires { IsCharBoundary text.now at }
+    ensures { Passed text.now at result }
+{
+    if property_stands(text, at) {
+        return match property_end(text, at) {
+            Ok(end) => Ok(end),
+            Err(wrong) => Err(wrong),
+        };
+    }
+    if stands(text, at, b'|') {
+        return scalar_end(text, at, margin);
+    }
+    if stands(text, at, b'>') {
+        return scalar_end(text, at, margin);
+    }
+    content_end(text, at, margin)
+}
+
+// The end of a block scalar's header, which is no key.
+fn scalar_end(text: &str, at: usize, margin: Margin) -> Result<usize, Mistake>
+    requires boundary { IsCharBoundary text.now at }
+    requires inside { IsCharBoundary text.now (at + 1) }
+    ensures { Passed text.now at result }
+{
+    if margin.key {
+        return Ok(at);
+    }
+    match header_end(text, at) {
+        Ok(end) => Ok(end),
+        Err(wrong) => Err(wrong),
+    }
+}
+
+// Why a node or a key with that sign, which is read to its end, can't stand there.
+fn node_why(text: &str, at: usize, key: bool) -> Why
+    requires { IsCharBoundary text.now at }
+{
+    if closes(text, at) {
+        return Why::NoBracketOpen;
+    }
+    if indicator_stands(text, at) {
+        return indicator_why(text, at, key);
+    }
+    if stands(text, at, b'*') {
+        return Why::AliasProperties;
+    }
+    if property_stands(text, at) {
+        return Why::PropertyTwice;
+    }
+    if stands(text, at, b'|') {
+        return Why::KeyWithoutColon;
+    }
+    if stands(text, at, b'>') {
+        return Why::KeyWithoutColon;
+    }
+    if begins_leaf(text, at) {
+        return Why::NodeEnded;
+    }
+    Why::NoPlain
+}
+
+// Whether a leaf or brackets begin there.
+fn begins_leaf(text: &str, at: usize) -> bool
+    requires { IsCharBoundary text.now at }
+{
+    if quote_stands(text, at) {
+        return true;
+    }
+    if stands(text, at, b'[') {
+        return true;
+    }
+    if stands(text, at, b'{') {
+        return true;
+    }
+    plain_begun(text, at, Ctx::FlowOut).is_some()
+}
+
+// Why no collection can begin there with its indicator.
+fn indicator_why(text: &str, at: usize, key: bool) -> Why {
+    if key {
+        if stands(text, at, b'-') {
+            return Why::DashInMapping;
+        }
+        return Why::NodeEnded;
+    }
+    if property_stands(text, word_before(text, whites_before(text, at))) {
+        return Why::CollectionAfterProperty;
+    }
+    if begun_line(text, line_start(text, at), at).marker {
+        return Why::OnDocumentLine;
+    }
+    Why::SequenceInLine
+}

@@ -1,0 +1,233 @@
+//! What stands on a line of its own kind: headers of block scalars (production 162), directives (production 82), and the rest of a line. Offsets
+//! count bytes.
+ghost use Rattle.std.specs.Prelude.{◌+◌};
+ghost use Rattle.std.specs.Str.{IsCharBoundary};
+ghost use Rattle.yf_diagnose.specs.Told.{NotBefore, Passed, Told};
+
+use crate::diagnosis::{Mistake, refused};
+use crate::lines::{comment_end, line_ends};
+use crate::property::uri_end;
+use crate::why::Why;
+use yf_chars::classes::is_tag_char;
+use yf_chars::runs::{Digits, NsChars, WordChars, skip_while};
+use yf_chars::text::{peek, stands};
+use yf_lines::basic::{line_break, skip_spaces, skip_whites};
+
+/// The end of a line that holds white space and a comment at most.
+pub(crate) fn rest_end(text: &str, at: usize, why: Why) -> Result<usize, Mistake>
+    requires { IsCharBoundary text.now at }
+    ensures { Passed text.now at result }
+{
+    let sign = skip_whites(text, at);
+    if stands(text, sign, b'#') {
+        if sign == at {
+            return refused(sign, Why::CommentUnspaced);
+        }
+        return match comment_end(text, sign) {
+            Ok(end) => Ok(end),
+            Err(told) => Err(told),
+        };
+    }
+    if line_ends(text, sign) {
+        return Ok(sign);
+    }
+    refused(sign, why)
+}
+
+/// The end of the line of a block scalar's header, whose `|` or `>` stands there.
+pub(crate) fn header_end(text: &str, at: usize) -> Result<usize, Mistake>
+    requires { IsCharBoundary text.now (at + 1) }
+    ensures { Told text.now at result }
+{
+    match rest_end(text, header_signs_end(text, at + 1), Why::HeaderSign) {
+        Ok(end) => Ok(end),
+        Err(told) => Err(told),
+    }
+}
+
+// The end of a digit and a `+` or `-`, in either order; each may be missing.
+fn header_signs_end(text: &str, at: usize) -> usize
+    requires { IsCharBoundary text.now at }
+    ensures { NotBefore text.now at result }
+{
+    let digit = digit_passed(text, at);
+    let chomp = chomp_passed(text, digit);
+    if digit > at {
+        return chomp;
+    }
+    digit_passed(text, chomp)
+}
+
+fn digit_passed(text: &str, at: usize) -> usize
+    requires { IsCharBoundary text.now at }
+    ensures { NotBefore text.now at result }
+{
+    match peek(text, at) {
+        Some(('1'..='9', next)) => next,
+        _ => at,
+    }
+}
+
+fn chomp_passed(text: &str, at: usize) -> usize
+    requires { IsCharBoundary text.now at }
+    ensures { NotBefore text.now at result }
+{
+    match peek(text, at) {
+        Some(('+' | '-', next)) => next,
+        _ => at,
+    }
+}
+
+/// Where the first blank line from a line's start on has one space more than the first line that is not blank.
+pub(crate) fn blank_lines_end(text: &str, at: usize) -> Result<usize, Mistake>
+    requires { IsCharBoundary text.now at }
+    ensures { Passed text.now at result }
+{
+    let width = first_width(text, at);
+    let mut start = at;
+    'lines: loop {
+        let sign = skip_spaces(text, start);
+        match line_break(text, sign) {
+            None => return Ok(sign),
+            Some(next) => {
+                if sign - start > width {
+                    return refused(space_at(text, start, width), Why::LongBlankLine);
+                }
+                start = next;
+            }
+        }
+    }
+}
+
+// How many spaces stand before the first line that is not blank.
+fn first_width(text: &str, at: usize) -> usize
+    requires { IsCharBoundary text.now at }
+{
+    let mut start = at;
+    'lines: loop {
+        let sign = skip_spaces(text, start);
+        match line_break(text, sign) {
+            None => return sign - start,
+            Some(next) => start = next,
+        }
+    }
+}
+
+// The offset behind so many spaces, or behind all of them.
+fn space_at(text: &str, at: usize, count: usize) -> usize
+    requires { IsCharBoundary text.now at }
+    ensures { NotBefore text.now at result }
+{
+    let mut end = at;
+    'spaces: while stands(text, end, b' ') {
+        if end - at >= count {
+            return end;
+        }
+        end += 1;
+    }
+    end
+}
+
+/// The end of the line of the directive whose `%` stands there.
+pub(crate) fn directive_end(text: &str, at: usize) -> Result<usize, Mistake>
+    requires { IsCharBoundary text.now (at + 1) }
+    ensures { Told text.now at result }
+{
+    let end = skip_while::<NsChars>(text, at + 1);
+    let name = &text[at + 1..end];
+    let parameters = match name {
+        "YAML" => version_end(text, end),
+        "TAG" => handle_end(text, end),
+        _ => Ok(end),
+    };
+    match parameters {
+        Err(told) => Err(told),
+        Ok(behind) => match rest_end(text, behind, Why::AfterDirective) {
+            Ok(last) => Ok(last),
+            Err(told) => Err(told),
+        },
+    }
+}
+
+// The end of the version behind `%YAML`.
+fn version_end(text: &str, at: usize) -> Result<usize, Mistake>
+    requires { IsCharBoundary text.now at }
+    ensures { Passed text.now at result }
+{
+    let start = skip_whites(text, at);
+    let major = skip_while::<Digits>(text, start);
+    if start == at {
+        return refused(start, Why::Version);
+    }
+    if major == start {
+        return refused(start, Why::Version);
+    }
+    if !stands(text, major, b'.') {
+        return refused(major, Why::Version);
+    }
+    let minor = skip_while::<Digits>(text, major + 1);
+    if minor == major + 1 {
+        return refused(minor, Why::Version);
+    }
+    Ok(minor)
+}
+
+// The end of the handle and the prefix behind `%TAG`.
+fn handle_end(text: &str, at: usize) -> Result<usize, Mistake>
+    requires { IsCharBoundary text.now at }
+    ensures { Passed text.now at result }
+{
+    let start = skip_whites(text, at);
+    if start == at {
+        return refused(start, Why::Handle);
+    }
+    if !stands(text, start, b'!') {
+        return refused(start, Why::Handle);
+    }
+    let word = skip_while::<WordChars>(text, start + 1);
+    if stands(text, word, b'!') {
+        return match prefix_end(text, word + 1) {
+            Ok(end) => Ok(end),
+            Err(told) => Err(told),
+        };
+    }
+    if word > start + 1 {
+        return refused(word, Why::Handle);
+    }
+    match prefix_end(text, word) {
+        Ok(end) => Ok(end),
+        Err(told) => Err(told),
+    }
+}
+
+// The end of the prefix behind a handle.
+fn prefix_end(text: &str, at: usize) -> Result<usize, Mistake>
+    requires { IsCharBoundary text.now at }
+    ensures { Passed text.now at result }
+{
+    let start = skip_whites(text, at);
+    if start == at {
+        return refused(start, Why::Handle);
+    }
+    if !begins_prefix(text, start) {
+        return refused(start, Why::Handle);
+    }
+    match uri_end(text, start, true) {
+        Ok(end) => Ok(end),
+        Err(told) => Err(told),
+    }
+}
+
+fn begins_prefix(text: &str, at: usize) -> bool
+    requires { IsCharBoundary text.now at }
+{
+    match peek(text, at) {
+        None => false,
+        Some((c, _)) => {
+            if matches!(c, '!' | '%') {
+                return true;
+            }
+            is_tag_char(c)
+        }
+    }
+}

@@ -1,0 +1,339 @@
+//! How a part of a text stands among the block collections around it, as far as the lines before it tell. Offsets count bytes.
+ghost use Rattle.std.specs.Prelude.{◌≤◌, IfSome};
+ghost use Rattle.std.specs.Str.{IsCharBoundary};
+
+use crate::lines::is_long;
+use crate::look::{
+    Beginning, Entry, begun_line, entry_in, has_colon, is_passed, line_before, line_start,
+    text_end, whites_before, word_before,
+};
+use crate::property::property_stands;
+use crate::why::Why;
+use yf_chars::text::stands;
+use yf_lines::basic::{marker_stands, skip_spaces};
+use yf_lines::table::skip_marks;
+
+/// How something stands.
+#[derive(Clone, Copy)]
+pub(crate) enum Standing {
+    /// It is a node, whose lines begin with so many spaces at least.
+    Node(usize),
+    /// It is a key of a mapping, and its lines begin with so many spaces at least.
+    Key(usize),
+    /// Nothing may stand there.
+    Beyond(Why),
+}
+
+/// How what begins at a place stands.
+pub(crate) fn standing_at(text: &str, at: usize) -> Standing
+    requires { IsCharBoundary text.now at }
+{
+    let start = line_start(text, at);
+    let mut from = at;
+    'properties: loop {
+        let line = begun_line(text, start, from);
+        if line.at >= from {
+            if line.first {
+                return below(text, start, from.saturating_sub(line.base));
+            }
+            return Standing::Node(line.least);
+        }
+        let before = whites_before(text, from);
+        if before == from {
+            return Standing::Beyond(unspaced_why(text, line, at));
+        }
+        let word = word_before(text, before);
+        if !property_stands(text, word) {
+            return behind_word(text, line, word, before, at);
+        }
+        from = word;
+    }
+}
+
+// How what begins at a place stands on its line, behind a word that is no property, which ends at another.
+fn behind_word(text: &str, line: Beginning, word: usize, end: usize, at: usize) -> Standing {
+    if end == 0 {
+        return Standing::Beyond(Why::AfterNode);
+    }
+    if stands(text, end - 1, b':') {
+        if is_named(text, word, end) {
+            return Standing::Beyond(Why::ColonOfAlias);
+        }
+        return Standing::Node(line.column.saturating_add(1));
+    }
+    if stands(text, at, b':') {
+        return Standing::Beyond(colon_why(text, line, at));
+    }
+    if closes(text, end - 1) {
+        return Standing::Beyond(Why::AfterBrackets);
+    }
+    Standing::Beyond(Why::AfterNode)
+}
+
+// Whether an alias's name begins at a place and ends at another.
+fn is_named(text: &str, word: usize, end: usize) -> bool {
+    if stands(text, word, b'*') {
+        return end > word.saturating_add(1);
+    }
+    false
+}
+
+/// Whether a closing bracket stands there.
+pub(crate) fn closes(text: &str, at: usize) -> bool {
+    if stands(text, at, b']') {
+        return true;
+    }
+    stands(text, at, b'}')
+}
+
+// Why nothing may stand there, where no white space stands before it.
+fn unspaced_why(text: &str, line: Beginning, at: usize) -> Why {
+    if stands(text, at, b'#') {
+        return Why::CommentUnspaced;
+    }
+    if stands(text, at, b':') {
+        return colon_why(text, line, at);
+    }
+    if at == 0 {
+        return Why::AfterNode;
+    }
+    if stands(text, at - 1, b'\'') {
+        return Why::AfterSingle;
+    }
+    if closes(text, at - 1) {
+        return Why::AfterBrackets;
+    }
+    Why::AfterNode
+}
+
+// Why no `:` may stand there.
+fn colon_why(text: &str, line: Beginning, at: usize) -> Why {
+    if line.marker {
+        return Why::OnDocumentLine;
+    }
+    if is_long(text, line.at, at) {
+        return Why::LongKey;
+    }
+    let word = word_before(text, at);
+    if stands(text, word, b'*') {
+        if stands(text, at.saturating_sub(1), b':') {
+            return Why::ColonOfAlias;
+        }
+    }
+    if !line.first {
+        return Why::MappingInLine;
+    }
+    if has_colon(text, line.at, at) {
+        return Why::MappingInLine;
+    }
+    Why::LineJoined
+}
+
+// What is known of the lines between a line and the one that was looked at last.
+#[derive(Clone, Copy)]
+struct Above {
+    // Whether none of them has text.
+    adjacent: bool,
+    // Whether an item stands in the column.
+    dashed: bool,
+    // Whether all that have text begin to the right of it.
+    left: bool,
+}
+
+// How the first sign of a line stands, in a column.
+fn below(text: &str, start: usize, column: usize) -> Standing
+    requires { IsCharBoundary text.now start }
+{
+    let mut above = Above {
+        adjacent: true,
+        dashed: false,
+        left: true,
+    };
+    let mut wanted = column;
+    let mut line = start;
+    'lines: while line > 0 {
+        line = line_before(text, line);
+        if is_passed(text, line) {
+            continue;
+        }
+        match below_line(text, line, wanted, above) {
+            Step::Found(standing) => return standing,
+            Step::Column(indent) => wanted = indent,
+            Step::Above(further) => above = further,
+        }
+    }
+    at_top(above)
+}
+
+// What a line tells of what stands below it in a column.
+#[derive(Clone, Copy)]
+enum Step {
+    Found(Standing),
+    // It has properties alone: what is asked of is asked of its column.
+    Column(usize),
+    Above(Above),
+}
+
+fn below_line(text: &str, line: usize, column: usize, above: Above) -> Step
+    requires { IsCharBoundary text.now line }
+{
+    let begun = begun_line(text, line, text.len());
+    if begun.marker {
+        return Step::Found(below_marker(text, begun, above));
+    }
+    let indent = indent_of(text, line);
+    if indent > column {
+        return Step::Above(Above {
+            adjacent: false,
+            ..above
+        });
+    }
+    match entry_in(text, line, column) {
+        Entry::Key => return Step::Found(Standing::Key(column.saturating_add(1))),
+        Entry::Item => {
+            if indent == column {
+                return Step::Above(Above {
+                    adjacent: false,
+                    dashed: true,
+                    left: false,
+                });
+            }
+        }
+        Entry::Nothing => {}
+    }
+    if above.adjacent {
+        if stands(text, begun.base, b'%') {
+            return Step::Found(Standing::Beyond(Why::NoDocumentStart));
+        }
+        if awaits(text, begun) {
+            return awaited(text, begun, indent);
+        }
+    }
+    if indent < column {
+        return Step::Found(Standing::Beyond(right_why(text, begun, column, above)));
+    }
+    Step::Above(Above {
+        adjacent: false,
+        left: false,
+        ..above
+    })
+}
+
+// How many spaces a line begins with.
+fn indent_of(text: &str, line: usize) -> usize
+    requires { IsCharBoundary text.now line }
+{
+    let base = skip_marks(text, line);
+    skip_spaces(text, base) - base
+}
+
+// What stands below a document marker.
+fn below_marker(text: &str, line: Beginning, above: Above) -> Standing {
+    if above.adjacent {
+        if stands(text, line.base, b'.') {
+            return Standing::Node(0);
+        }
+        if awaits(text, line) {
+            return Standing::Node(0);
+        }
+    }
+    at_top(Above {
+        adjacent: false,
+        left: false,
+        ..above
+    })
+}
+
+// What stands where no line is above it that tells.
+fn at_top(above: Above) -> Standing {
+    if above.dashed {
+        return Standing::Beyond(Why::KeyInSequence);
+    }
+    if above.adjacent {
+        return Standing::Node(0);
+    }
+    if above.left {
+        return Standing::Beyond(Why::LeftOfRoot);
+    }
+    Standing::Beyond(Why::NodeEnded)
+}
+
+// Whether a line ends with an indicator or a property, so that a node may follow below.
+fn awaits(text: &str, line: Beginning) -> bool {
+    let end = text_end(text, line.base);
+    if line.at >= end {
+        return true;
+    }
+    if stands(text, end.saturating_sub(1), b':') {
+        return true;
+    }
+    property_stands(text, word_before(text, end))
+}
+
+// The node that a line awaits, which has spaces before it.
+fn awaited(text: &str, line: Beginning, indent: usize) -> Step {
+    if line.at >= text_end(text, line.base) {
+        return Step::Found(Standing::Node(line.least));
+    }
+    if line.first {
+        if property_stands(text, line.at) {
+            if !has_colon(text, line.at, text.len()) {
+                return Step::Column(indent);
+            }
+        }
+    }
+    Step::Found(Standing::Node(line.column.saturating_add(1)))
+}
+
+// Why nothing may stand in a column below a line that begins to the left of it.
+fn right_why(text: &str, line: Beginning, column: usize, above: Above) -> Why {
+    let end = text_end(text, line.base);
+    let word = word_before(text, end);
+    if stands(text, word, b'|') {
+        return Why::LeftInScalar;
+    }
+    if stands(text, word, b'>') {
+        return Why::LeftInScalar;
+    }
+    if above.adjacent {
+        if line.column <= column {
+            return Why::RightOfEntries;
+        }
+    }
+    Why::NoSuchColumn
+}
+
+/// The start of the line on which the key begins that goes on over all lines to the one that starts there.
+pub(crate) fn key_line(text: &str, start: usize) -> Option<usize>
+    requires { IsCharBoundary text.now start }
+    ensures { IfSome result (λ line. IsCharBoundary text.now line × (line ≤ start)) }
+{
+    let mut key = start;
+    let mut column = indent_of(text, start);
+    let mut line = start;
+    'lines: while line > 0 {
+        line = line_before(text, line);
+        if is_passed(text, line) {
+            continue;
+        }
+        if marker_stands(text, skip_marks(text, line)) {
+            return None;
+        }
+        let indent = indent_of(text, line);
+        if indent > column {
+            continue;
+        }
+        match entry_in(text, line, column) {
+            Entry::Key => return Some(key),
+            Entry::Item => {
+                if indent == column {
+                    continue;
+                }
+            }
+            Entry::Nothing => {}
+        }
+        key = line;
+        column = indent;
+    }
+    None
+}
