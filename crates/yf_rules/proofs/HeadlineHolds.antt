@@ -1,5 +1,5 @@
 -- What is proved of a text and its formatting holds.
-use Rattle.std.proofs.Common.{◌≡◌, ◌≤◌, ℕ, List, length, sym, subst}
+use Rattle.std.proofs.Common.{◌≤◌, ℕ, List, length, sym, subst}
 use Rattle.std.specs.Prelude.{Option, Result, Ok, Err, IfOk}
 use Rattle.std.specs.Str.{IsUtf8}
 use Rattle.yf_lines.specs.Lines.{AreLines}
@@ -36,7 +36,7 @@ formats_are_mended t u s utf8 formats = λ rule fixable src q same lines reads o
 formats_are_standard : (t u : List ℕ) (s : Style) → IsUtf8 t → FormatKept t s u → IsStandardText u
 formats_are_standard t u s utf8 kept = reading_is_standard (formats_well t u s utf8 kept.formats).utf8 kept.accepted.1
 
-headline_holds : {t u : List ℕ} {s : Style} → length t ≤ INPUT_LIMIT → IsUtf8 t → FormatKept t s u → length u ≤ LONGEST → Headline t s u
+pub headline_holds : {t u : List ℕ} {s : Style} → length t ≤ INPUT_LIMIT → IsUtf8 t → FormatKept t s u → length u ≤ LONGEST → Headline t s u
 headline_holds {t} {u} {s} within utf8 kept fits = record {
   within = within;
   utf8 = utf8;

@@ -81,3 +81,5 @@ pub mod AllRulesLemmas
 pub mod FormattedLemmas
 -- `run_check`
 pub mod FindingLemmas
+-- `run_fmt_check`
+pub mod CompareLemmas

@@ -38,3 +38,4 @@ pub mod Input
 pub mod Run
 pub mod Findings
 pub mod Rechecked
+pub mod Compare

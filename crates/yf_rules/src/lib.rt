@@ -2,6 +2,7 @@
 #![tactic(auto)]
 
 pub mod check;
+pub mod compare;
 pub mod facts;
 pub mod finding;
 pub mod headline;

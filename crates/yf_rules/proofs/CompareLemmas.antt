@@ -1,0 +1,66 @@
+-- How far two texts are the same, and what the run that compares a text with its formatting has read and written.
+use Rattle.std.proofs.Common.{◌≡◌, ◌≢◌, ◌∙◌, ℕ, ◌<◌, ◌≤◌, List, length, take, refl, ap, sym, subst, ⊎_elim, arith}
+use Rattle.std.specs.Prelude.{Option, Some, None, Result, Ok, Err, IfOk, IfSome, MatchOption}
+use Rattle.std.proofs.Math.Seq.{take-length}
+use Rattle.std.specs.Str.{IsUtf8}
+use Rattle.std.proofs.lemmas.Str.{IsCharBoundary-start}
+use Rattle.std.proofs.lemmas.Bool.{cases_lt}
+use Rattle.yf_chars.specs.Text.{code, no_char}
+use Rattle.yf_chars.proofs.TextLemmas.{code_at_boundary}
+use Rattle.yf_lines.specs.declared.place.Place.{Place}
+use Rattle.yf_emit.specs.Format.{Formats}
+use Rattle.yf_emit.specs.FormatKept.{FormatKept}
+use Rattle.yf_emit.specs.declared.style.Style.{Style}
+use Rattle.yf_rules.specs.declared.run.TheConstants.{INPUT_LIMIT}
+use Rattle.yf_rules.specs.Compare.{DifferAt, Difference, DifferenceIn, DiffersFirst, IsClean, SameUpTo}
+use Rattle.yf_rules.specs.Compare.DiffersFirst.{differs_first}
+use Rattle.yf_rules.specs.Run.{Gave, Rendered}
+use Rattle.yf_rules.proofs.HeadlineHolds.{formatted_texts_are_clean, headline_holds}
+
+-- texts that both end where they are the same so far are the same
+both_end : (t u : List ℕ) (at : ℕ) → SameUpTo t u at → at ≡ length t → at ≡ length u → t ≡ u
+both_end t u at s e f = sym (subst (λ k. take k t ≡ t) (sym e) (take-length t)) ∙ (s.same ∙ subst (λ k. take k u ≡ u) (sym f) (take-length u))
+
+-- where the first text ends, the other one goes on, or they are the same
+pub ends_before : (t u : List ℕ) (at : ℕ) → IsUtf8 u → SameUpTo t u at → code t at ≡ no_char → at ≡ length t → t ≢ u → DifferAt t u at
+ends_before t u at utf8 s none e other = record {
+  before = s;
+  differ = λ same. ⊎_elim
+      (λ (h : at < length u). let below = code_at_boundary u at utf8 s.other_boundary h in omega (arith, below, same, none))
+      (λ (h : length u ≤ at). other (both_end t u at s e (omega (arith, h, s.other_boundary.0))))
+      (cases_lt at (length u));
+}
+
+-- at the beginning
+pub at_start : (t u : List ℕ) → IsUtf8 t → IsUtf8 u → SameUpTo t u 0
+at_start t u utf8 other = record { boundary = IsCharBoundary-start t utf8; other_boundary = IsCharBoundary-start u other; same = refl }
+
+-- a text that is its formatting is one that formatting gives of it, with all that is said of that; and one that is not is not
+module _ {t u : List ℕ} {style : Style} (kept : FormatKept t style u) where
+  own_formatting : t ≡ u → FormatKept t style t
+  own_formatting same = subst (λ v. FormatKept t style v) (sym same) kept
+
+  other_formatting : {place : Place} → DiffersFirst t u place → Formats t style t → ⊥
+  other_formatting (differs_first {at = offset} d p) formats = d.differ (ap (λ v. code v offset) (kept.only t formats))
+
+  exactly : (place : Option Place) → MatchOption place (t ≡ u) (DiffersFirst t u) → MatchOption place (FormatKept t style t) (λ _. Formats t style t → ⊥)
+  exactly None same = own_formatting same
+  exactly (Some place) differs = other_formatting differs
+
+-- what is found of a text that was read
+pub difference_holds : {E : Type 0} (style : Style) (known : Option (List ℕ)) (t : List ℕ) → Gave known t → length t ≤ INPUT_LIMIT → IsUtf8 t
+    → (given : Result (Option Place) E) → IfOk given (DifferenceIn t style) → IfOk given (Difference style known)
+difference_holds style known t gave within utf8 (Ok place) d = record {
+  formatted = d.formatted;
+  rendered = record { text = t; gave = gave; headline = headline_holds within utf8 d.kept d.within };
+  first = d.first;
+  exact = exactly d.kept place d.first;
+}
+difference_holds style known t gave within utf8 (Err e) d = tt
+
+-- what formatting gives has nothing that the house style fixes
+pub same_is_clean : {style : Style} {known : Option (List ℕ)} → Difference style known None → IfSome known (IsClean style)
+same_is_clean {style} {known = None} d = tt
+same_is_clean {style} {known = Some text} d =
+    let formatted_is : d.formatted ≡ text = sym d.first ∙ d.rendered.gave in
+    λ findings found. formatted_texts_are_clean style (Some text) text findings (subst (λ v. Rendered style (Some text) v) formatted_is d.rendered) found

@@ -1,0 +1,26 @@
+use Rattle.std.proofs.Common.{◌≡◌, ◌≤◌, ◌∙◌, List, ℕ, length, rules, subst, sym}
+use Rattle.std.proofs.lemmas.Result.{IfErr-weaker}
+use Rattle.std.specs.Str.{IsUtf8}
+use Rattle.yf_rules.specs.Run.{Gave}
+use Rattle.yf_rules.specs.declared.run.TheConstants.{INPUT_LIMIT}
+use Rattle.yf_rules.proofs.CompareLemmas.{difference_holds}
+use Rattle.yf_rules.proofs.FormattedLemmas.{refused_text}
+use Rattle.yf_rules.proofs.compare.read_difference.Goals as goal
+
+pub returns-clause-difference : goal.returns-clause-difference
+returns-clause-difference g c =
+    let same : c.in-Ok.text.now ≡ c.in_ok-bytes.bytes.items = c.in-Ok.ensures.1 ∙ c.as_slice.ensures.value in
+    let gave = subst (λ (t : List ℕ). Gave (g.R.Read.remaining c.args.reader.now) t) (sym same) c.in_ok-bytes.ensures.whole in
+    let within_bytes : length c.in_ok-bytes.bytes.items ≤ INPUT_LIMIT = search rules in
+    let within = subst (λ (t : List ℕ). length t ≤ INPUT_LIMIT) (sym same) within_bytes in
+    let utf8 = subst (λ (t : List ℕ). IsUtf8 t) (sym c.in-Ok.ensures.1) c.in-Ok.ensures.0 in
+    difference_holds c.args.style.now (g.R.Read.remaining c.args.reader.now) c.in-Ok.text.now gave within utf8 c.difference_in.result c.difference_in.ensures.difference
+
+pub returns-clause-refusals : goal.returns-clause-refusals
+returns-clause-refusals g c =
+    let same : c.in-Ok.text.now ≡ c.in_ok-bytes.bytes.items = c.in-Ok.ensures.1 ∙ c.as_slice.ensures.value in
+    let gave = subst (λ (t : List ℕ). Gave (g.R.Read.remaining c.args.reader.now) t) (sym same) c.in_ok-bytes.ensures.whole in
+    let within_bytes : length c.in_ok-bytes.bytes.items ≤ INPUT_LIMIT = search rules in
+    let within = subst (λ (t : List ℕ). length t ≤ INPUT_LIMIT) (sym same) within_bytes in
+    let utf8 = subst (λ (t : List ℕ). IsUtf8 t) (sym c.in-Ok.ensures.1) c.in-Ok.ensures.0 in
+    IfErr-weaker c.difference_in.result _ _ (refused_text (g.R.Read.remaining c.args.reader.now) gave within utf8 c.in_ok-bytes.ensures.works) c.difference_in.ensures.refuses

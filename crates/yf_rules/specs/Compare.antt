@@ -1,0 +1,77 @@
+-- Whether a text is its own formatting, and where it differs from that first.
+use Rattle.std.specs.Prelude.{◌≡◌, ◌≢◌, ◌≤◌, ℕ, List, [], ◌∷◌, length, take, Bool, Option, Some, None, MatchOption, codes, decimal}
+use Rattle.std.specs.List.{concat}
+use Rattle.std.specs.Option.{is_none}
+use Rattle.std.specs.Str.{IsCharBoundary}
+use Rattle.yf_chars.specs.Text.{code}
+use Rattle.yf_lines.specs.FaultPlaces.{IsPlaceOf}
+use Rattle.yf_lines.specs.Output.{Wrote, Broke}
+use Rattle.yf_lines.specs.declared.fault.Fault.{Fault}
+use Rattle.yf_lines.specs.declared.place.Place.{Place}
+use Rattle.yf_emit.specs.Format.{Formats}
+use Rattle.yf_emit.specs.FormatKept.{FormatKept}
+use Rattle.yf_emit.specs.declared.style.Style.{Style}
+use Rattle.yf_stream.specs.declared.stream.TheConstants.{LONGEST}
+use Rattle.yf_rules.specs.declared.finding.Finding.{Finding}
+use Rattle.yf_rules.specs.AllRules.{FoundByAll}
+use Rattle.yf_rules.specs.Mended.{NoneFixable}
+use Rattle.yf_rules.specs.Run.{Found, RefusedRun, Rendered}
+
+-- the texts are the same before the offset, at which no character of either is cut
+pub record SameUpTo (t u : List ℕ) (at : ℕ) : Type 0 where
+  pub boundary : IsCharBoundary t at
+  pub other_boundary : IsCharBoundary u at
+  pub same : take at t ≡ take at u
+
+-- the same, and at the offset they have different characters, or one of them ends
+pub record DifferAt (t u : List ℕ) (at : ℕ) : Type 0 where
+  pub before : SameUpTo t u at
+  pub differ : code t at ≢ code u at
+
+-- the place in t of the first character in which t and u differ, or of its end
+pub data DiffersFirst (t u : List ℕ) (place : Place) : Type 0 where
+  differs_first : {at : ℕ} → DifferAt t u at → IsPlaceOf t at place → DiffersFirst t u place
+
+-- a text was read, and the place is where it first differs from its formatting; there is none where it is its own formatting, and only there
+pub record Difference (style : Style) (known : Option (List ℕ)) (place : Option Place) : Type 0 where
+  pub formatted : List ℕ
+  pub rendered : Rendered style known formatted
+  pub first : MatchOption place (rendered.text ≡ formatted) (DiffersFirst rendered.text formatted)
+  pub exact : MatchOption place (FormatKept rendered.text style rendered.text) (λ _. Formats rendered.text style rendered.text → ⊥)
+
+-- the same of a text, before it is known where it comes from
+pub record DifferenceIn (t : List ℕ) (style : Style) (place : Option Place) : Type 0 where
+  pub formatted : List ℕ
+  pub kept : FormatKept t style formatted
+  pub within : length formatted ≤ LONGEST
+  pub first : MatchOption place (t ≡ formatted) (DiffersFirst t formatted)
+
+-- the line of a text that is not its own formatting
+abbrev pub difference_line : Place → List ℕ
+difference_line place = concat (decimal place.line ∷ codes ":" ∷ decimal place.column ∷ codes " not formatted\n" ∷ [])
+
+abbrev pub difference_text : Option Place → List ℕ
+difference_text None = []
+difference_text (Some place) = difference_line place
+
+-- a text was read, it was answered whether it is its own formatting, and where it is not, the line with the place was written, and nothing else
+pub record Compared (style : Style) (known old new : Option (List ℕ)) (before after : Bool) (same : Bool) : Type 0 where
+  pub place : Option Place
+  pub difference : Difference style known place
+  pub wrote : Wrote old new before after (difference_text place)
+  pub answer : same ≡ is_none place
+
+-- a check of the text with the same settings finds nothing that the house style fixes
+abbrev pub IsClean : Style → List ℕ → Type 0
+IsClean style text = (findings : List Finding) → Found (FoundByAll style) style (Some text) findings → NoneFixable findings
+
+-- a text was read that is not its own formatting, but the writer failed, and a prefix of the line was written
+pub record BrokeOffDifference (style : Style) (known old new : Option (List ℕ)) (after : Bool) : Type 0 where
+  pub place : Place
+  pub difference : Difference style known (Some place)
+  pub broke : Broke old new after (difference_line place)
+
+-- why the run that compares is refused
+abbrev pub RefusedCompare : Style → Option (List ℕ) → Bool → Bool → Option (List ℕ) → Option (List ℕ) → Bool → Bool → Fault → Type 0
+RefusedCompare style known read_before read_after old new before after fault =
+    RefusedRun (BrokeOffDifference style known old new after) known read_before read_after old new before after fault
