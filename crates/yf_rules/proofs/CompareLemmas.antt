@@ -1,18 +1,20 @@
 -- How far two texts are the same, and what the run that compares a text with its formatting has read and written.
-use Rattle.std.proofs.Common.{◌≡◌, ◌≢◌, ◌∙◌, ℕ, ◌<◌, ◌≤◌, List, length, take, refl, ap, sym, subst, ⊎_elim, arith}
+use Rattle.std.proofs.Common.{◌≡◌, ◌≢◌, ◌∙◌, ℕ, Bool, [], true, ◌<◌, ◌≤◌, List, length, take, refl, ap, sym, subst, ⊎_elim, arith}
 use Rattle.std.specs.Prelude.{Option, Some, None, Result, Ok, Err, IfOk, IfSome, MatchOption}
 use Rattle.std.proofs.Math.Seq.{take-length}
 use Rattle.std.specs.Str.{IsUtf8}
 use Rattle.std.proofs.lemmas.Str.{IsCharBoundary-start}
 use Rattle.std.proofs.lemmas.Bool.{cases_lt}
+use Rattle.std.proofs.KnownBytes.{Appends-nil}
 use Rattle.yf_chars.specs.Text.{code, no_char}
 use Rattle.yf_chars.proofs.TextLemmas.{code_at_boundary}
+use Rattle.yf_lines.specs.Output.{Wrote}
 use Rattle.yf_lines.specs.declared.place.Place.{Place}
 use Rattle.yf_emit.specs.Format.{Formats}
 use Rattle.yf_emit.specs.FormatKept.{FormatKept}
 use Rattle.yf_emit.specs.declared.style.Style.{Style}
 use Rattle.yf_rules.specs.declared.run.TheConstants.{INPUT_LIMIT}
-use Rattle.yf_rules.specs.Compare.{DifferAt, Difference, DifferenceIn, DiffersFirst, IsClean, SameUpTo}
+use Rattle.yf_rules.specs.Compare.{Compared, DifferAt, Difference, DifferenceIn, DiffersFirst, IsClean, SameUpTo}
 use Rattle.yf_rules.specs.Compare.DiffersFirst.{differs_first}
 use Rattle.yf_rules.specs.Run.{Gave, Rendered}
 use Rattle.yf_rules.proofs.HeadlineHolds.{formatted_texts_are_clean, headline_holds}
@@ -35,17 +37,21 @@ ends_before t u at utf8 s none e other = record {
 pub at_start : (t u : List ℕ) → IsUtf8 t → IsUtf8 u → SameUpTo t u 0
 at_start t u utf8 other = record { boundary = IsCharBoundary-start t utf8; other_boundary = IsCharBoundary-start u other; same = refl }
 
+-- texts that differ somewhere are not the same
+are_apart : {t u : List ℕ} {place : Place} → DiffersFirst t u place → t ≢ u
+are_apart (differs_first {at = offset} d p) same = d.differ (ap (λ v. code v offset) same)
+
 -- a text that is its formatting is one that formatting gives of it, with all that is said of that; and one that is not is not
 module _ {t u : List ℕ} {style : Style} (kept : FormatKept t style u) where
-  own_formatting : t ≡ u → FormatKept t style t
+  pub own_formatting : t ≡ u → FormatKept t style t
   own_formatting same = subst (λ v. FormatKept t style v) (sym same) kept
 
-  other_formatting : {place : Place} → DiffersFirst t u place → Formats t style t → ⊥
-  other_formatting (differs_first {at = offset} d p) formats = d.differ (ap (λ v. code v offset) (kept.only t formats))
+  pub other_formatting : t ≢ u → Formats t style t → ⊥
+  other_formatting other formats = other (kept.only t formats)
 
   exactly : (place : Option Place) → MatchOption place (t ≡ u) (DiffersFirst t u) → MatchOption place (FormatKept t style t) (λ _. Formats t style t → ⊥)
   exactly None same = own_formatting same
-  exactly (Some place) differs = other_formatting differs
+  exactly (Some place) differs = other_formatting (are_apart differs)
 
 -- what is found of a text that was read
 pub difference_holds : {E : Type 0} (style : Style) (known : Option (List ℕ)) (t : List ℕ) → Gave known t → length t ≤ INPUT_LIMIT → IsUtf8 t
@@ -59,8 +65,19 @@ difference_holds style known t gave within utf8 (Ok place) d = record {
 difference_holds style known t gave within utf8 (Err e) d = tt
 
 -- what formatting gives has nothing that the house style fixes
+pub own_is_clean : {style : Style} {known : Option (List ℕ)} {formatted : List ℕ} (rendered : Rendered style known formatted) → rendered.text ≡ formatted
+    → IfSome known (IsClean style)
+own_is_clean {style} {known = None} rendered same = tt
+own_is_clean {style} {known = Some text} rendered same =
+    let formatted_is = sym same ∙ rendered.gave in
+    λ findings found. formatted_texts_are_clean style (Some text) text findings (subst (λ v. Rendered style (Some text) v) formatted_is rendered) found
+
 pub same_is_clean : {style : Style} {known : Option (List ℕ)} → Difference style known None → IfSome known (IsClean style)
-same_is_clean {style} {known = None} d = tt
-same_is_clean {style} {known = Some text} d =
-    let formatted_is : d.formatted ≡ text = sym d.first ∙ d.rendered.gave in
-    λ findings found. formatted_texts_are_clean style (Some text) text findings (subst (λ v. Rendered style (Some text) v) formatted_is d.rendered) found
+same_is_clean d = own_is_clean d.rendered d.first
+
+-- nothing was written
+pub wrote_nothing : (old : Option (List ℕ)) (failed : Bool) → Wrote old old failed failed []
+wrote_nothing old failed = record { appended = Appends-nil old; same = refl }
+
+pub same_told : {style : Style} {known : Option (List ℕ)} (old : Option (List ℕ)) (failed : Bool) → Difference style known None → Compared style known old old failed failed true
+same_told old failed d = record { place = None; difference = d; wrote = wrote_nothing old failed; answer = refl }

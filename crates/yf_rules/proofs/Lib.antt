@@ -83,3 +83,5 @@ pub mod FormattedLemmas
 pub mod FindingLemmas
 -- `run_fmt_check`
 pub mod CompareLemmas
+-- `run_fmt_diff`
+pub mod DiffLemmas

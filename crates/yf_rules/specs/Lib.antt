@@ -39,3 +39,4 @@ pub mod Run
 pub mod Findings
 pub mod Rechecked
 pub mod Compare
+pub mod Diffed

@@ -3,6 +3,7 @@
 
 pub mod check;
 pub mod compare;
+pub mod diff;
 pub mod facts;
 pub mod finding;
 pub mod headline;

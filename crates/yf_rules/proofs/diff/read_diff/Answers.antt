@@ -1,0 +1,26 @@
+use Rattle.std.proofs.Common.{◌≡◌, ◌≤◌, ◌∙◌, List, ℕ, length, rules, subst, sym}
+use Rattle.std.proofs.lemmas.Result.{IfErr-weaker}
+use Rattle.std.specs.Str.{IsUtf8}
+use Rattle.yf_rules.specs.Run.{Gave}
+use Rattle.yf_rules.specs.declared.run.TheConstants.{INPUT_LIMIT}
+use Rattle.yf_rules.proofs.DiffLemmas.{diff_holds}
+use Rattle.yf_rules.proofs.FormattedLemmas.{refused_text}
+use Rattle.yf_rules.proofs.diff.read_diff.Goals as goal
+
+pub returns-clause-diff : goal.returns-clause-diff
+returns-clause-diff g c =
+    let same : c.in-Ok.text.now ≡ c.in_ok-bytes.bytes.items = c.in-Ok.ensures.1 ∙ c.as_slice.ensures.value in
+    let gave = subst (λ (t : List ℕ). Gave (g.R.Read.remaining c.args.reader.now) t) (sym same) c.in_ok-bytes.ensures.whole in
+    let within_bytes : length c.in_ok-bytes.bytes.items ≤ INPUT_LIMIT = search rules in
+    let within = subst (λ (t : List ℕ). length t ≤ INPUT_LIMIT) (sym same) within_bytes in
+    let utf8 = subst (λ (t : List ℕ). IsUtf8 t) (sym c.in-Ok.ensures.1) c.in-Ok.ensures.0 in
+    diff_holds c.args.style.now c.args.name.now (g.R.Read.remaining c.args.reader.now) c.in-Ok.text.now gave within utf8 (λ d. d.items) c.diff_in.result c.diff_in.ensures.diff
+
+pub returns-clause-refusals : goal.returns-clause-refusals
+returns-clause-refusals g c =
+    let same : c.in-Ok.text.now ≡ c.in_ok-bytes.bytes.items = c.in-Ok.ensures.1 ∙ c.as_slice.ensures.value in
+    let gave = subst (λ (t : List ℕ). Gave (g.R.Read.remaining c.args.reader.now) t) (sym same) c.in_ok-bytes.ensures.whole in
+    let within_bytes : length c.in_ok-bytes.bytes.items ≤ INPUT_LIMIT = search rules in
+    let within = subst (λ (t : List ℕ). length t ≤ INPUT_LIMIT) (sym same) within_bytes in
+    let utf8 = subst (λ (t : List ℕ). IsUtf8 t) (sym c.in-Ok.ensures.1) c.in-Ok.ensures.0 in
+    IfErr-weaker c.diff_in.result _ _ (refused_text (g.R.Read.remaining c.args.reader.now) gave within utf8 c.in_ok-bytes.ensures.works) c.diff_in.ensures.refuses
