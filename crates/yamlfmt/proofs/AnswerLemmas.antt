@@ -16,19 +16,19 @@ use Rattle.yamlfmt.specs.Named.{named_lines}
 use Rattle.yamlfmt.specs.Program.{Ran, RanBy}
 
 module _ {B : Type 0} (definition : B → RuleDefinition) (bs : List B) (are : Are definition bs all_rules) (style : Style) where
-  ran_by_all_rules : (verb : Verb) (check : Bool) (status : ℕ) (known : Option (List ℕ)) (read_before read_after : Bool) (old new : Option (List ℕ)) (before after : Bool)
-      (at to : Option (List ℕ)) (was is : Bool) → RanBy (ByValues definition bs are style) style verb check status known read_before read_after old new before after at to was is
-      → RanBy (FoundByAll style) style verb check status known read_before read_after old new before after at to was is
-  ran_by_all_rules Events check status known read_before read_after old new before after at to was is r = r
-  ran_by_all_rules Check check status known read_before read_after old new before after at to was is (inl r) = inl (r.0, told_by_all definition bs are style r.1, r.2, r.3, r.4)
-  ran_by_all_rules Check check status known read_before read_after old new before after at to was is (inr r) =
+  ran_by_all_rules : (verb : Verb) (diff check : Bool) (named : Option (List ℕ)) (status : ℕ) (known : Option (List ℕ)) (read_before read_after : Bool) (old new : Option (List ℕ)) (before after : Bool)
+      (at to : Option (List ℕ)) (was is : Bool) → RanBy (ByValues definition bs are style) style verb diff check named status known read_before read_after old new before after at to was is
+      → RanBy (FoundByAll style) style verb diff check named status known read_before read_after old new before after at to was is
+  ran_by_all_rules Events diff check named status known read_before read_after old new before after at to was is r = r
+  ran_by_all_rules Check diff check named status known read_before read_after old new before after at to was is (inl r) = inl (r.0, told_by_all definition bs are style r.1, r.2, r.3, r.4)
+  ran_by_all_rules Check diff check named status known read_before read_after old new before after at to was is (inr r) =
       inr (r.0, refused_by_all definition bs are style known read_before read_after old new before after r.0 r.1, r.2)
-  ran_by_all_rules Fmt check status known read_before read_after old new before after at to was is r = r
+  ran_by_all_rules Fmt diff check named status known read_before read_after old new before after at to was is r = r
 
   pub ran_by_all : (cmd : Cmd) (status : ℕ) (known : Option (List ℕ)) (read_before read_after : Bool) (old new : Option (List ℕ)) (before after : Bool)
       (at to : Option (List ℕ)) (was is : Bool) → Ran (ByValues definition bs are style) style cmd status known read_before read_after old new before after at to was is
       → Ran (FoundByAll style) style cmd status known read_before read_after old new before after at to was is
-  ran_by_all cmd status = ran_by_all_rules cmd.verb cmd.check status
+  ran_by_all cmd status = ran_by_all_rules cmd.verb cmd.diff cmd.check cmd.file status
 
 module _ (tells : Type 0) (holds now : Input → Option (List ℕ)) (same : tells → (input : Input) → now input ≡ holds input) (cmd : Cmd) (style : Style) where
   over_before : (input : Input) (status : ℕ) (old new : Option (List ℕ)) (before after : Bool) (at to : Option (List ℕ)) (was is : Bool)

@@ -1,6 +1,6 @@
 -- The commands of the program, and what the words of a command line ask for. How words are read as a command with
 -- options is the command-line library's definition of a parse.
-use Rattle.std.specs.Prelude.{◌≡◌, ◌≢◌, ◌⊎◌, ⊤, Bool, true, false, not, ◌&&◌, List, [], drop, unwrap_or, Option, Some, None, IsSome, codes, MatchOption, IsSomeAnd}
+use Rattle.std.specs.Prelude.{◌≡◌, ◌≢◌, ◌⊎◌, ⊤, Bool, true, false, not, ◌&&◌, ◌||◌, List, [], drop, unwrap_or, Option, Some, None, IsSome, codes, MatchOption, IsSomeAnd}
 use Rattle.std.specs.Str.{bytes_eq}
 use Rattle.clap.specs.Words.{app_of, rule_of, App, Row, Rule, Shape, Text, all_of, first_of, new_app, new_rule, subcommand_of, with_rule, with_subcommand, IsAmong, fault_of}
 use Rattle.clap.specs.Simple.{on_top}
@@ -28,6 +28,10 @@ write_flag = record (new_rule (codes "write")) { long = Some (codes "write"); ac
 abbrev pub check_flag : Rule
 check_flag = record (new_rule (codes "check")) { long = Some (codes "check"); action = Some SetTrue }
 
+-- `--diff`
+abbrev pub diff_flag : Rule
+diff_flag = record (new_rule (codes "diff")) { long = Some (codes "diff"); action = Some SetTrue }
+
 -- `FILE`
 abbrev pub file_word : Rule
 file_word = record (new_rule (codes "file")) { value_names = 1 }
@@ -44,9 +48,9 @@ reading_command name = with_rule (with_rule (new_app name) config_option) file_w
 abbrev pub checking_command : App
 checking_command = with_rule (with_rule (new_app (codes "check")) config_option) file_words
 
--- `fmt [--config FILE] [--write] [--check] [FILE..]`
+-- `fmt [--config FILE] [--write] [--check] [--diff] [FILE..]`
 abbrev pub writing_command : App
-writing_command = with_rule (with_rule (with_rule (with_rule (new_app (codes "fmt")) config_option) write_flag) check_flag) file_words
+writing_command = with_rule (with_rule (with_rule (with_rule (with_rule (new_app (codes "fmt")) config_option) write_flag) check_flag) diff_flag) file_words
 
 -- one of the commands is wanted; without any word, the help is the refusal; the program's name is not among the words;
 -- there is a version
@@ -99,14 +103,14 @@ is_flag id given = is_set (first_of id given)
 abbrev pub all_given : Text → List Row → List Text
 all_given id given = unwrap_or (all_of id given) []
 
--- whether a command prints what it formats
-abbrev pub prints : Verb → Bool → Bool → Bool
-prints Fmt write check = not write && not check
-prints Events write check = false
-prints Check write check = false
+-- whether a command prints what it formats, or how that differs
+abbrev pub prints : Verb → Bool → Bool → Bool → Bool
+prints Fmt write check diff = not write && (diff || not check)
+prints Events write check diff = false
+prints Check write check diff = false
 
--- the command line has this command, with these files and these flags, and `--write` only where there is a file and no `--check`; what
--- prints what it formats has one file at most
+-- the command line has this command, with these files and these flags, and `--write` only where there is a file and neither `--check` nor
+-- `--diff`; what prints what it formats, or how that differs, has one file at most
 pub record Asks (met : Met) (cmd : Cmd) : Type 0 where
   pub given : List Row
   pub command : met ≡ Some (verb_word cmd.verb, given)
@@ -114,10 +118,12 @@ pub record Asks (met : Met) (cmd : Cmd) : Type 0 where
   pub file : cmd.file ≡ first_of (codes "file") given
   pub write : cmd.write ≡ is_flag (codes "write") given
   pub check : cmd.check ≡ is_flag (codes "check") given
+  pub diff : cmd.diff ≡ is_flag (codes "diff") given
   pub written : cmd.write ≡ true → IsSome cmd.file
   pub unchecked : cmd.write ≡ true → cmd.check ≡ false
+  pub untold : cmd.write ≡ true → cmd.diff ≡ false
   pub more : cmd.more.items ≡ drop 1 (all_given (codes "file") given)
-  pub alone : prints cmd.verb cmd.write cmd.check ≡ true → cmd.more.items ≡ []
+  pub alone : prints cmd.verb cmd.write cmd.check cmd.diff ≡ true → cmd.more.items ≡ []
 
 abbrev pub NamesNoVerb : Met → Type 0
 NamesNoVerb met = MatchOption met ⊤ (λ m. (verb : Verb) → m.0 ≢ verb_word verb)
@@ -129,13 +135,16 @@ WritesNoFile met =
 abbrev pub WritesAndChecks : Met → Type 0
 WritesAndChecks met = IsSomeAnd met (λ m. (is_flag (codes "write") m.1 ≡ true) × (is_flag (codes "check") m.1 ≡ true))
 
+abbrev pub WritesAndDiffs : Met → Type 0
+WritesAndDiffs met = IsSomeAnd met (λ m. (is_flag (codes "write") m.1 ≡ true) × (is_flag (codes "diff") m.1 ≡ true))
+
 abbrev pub PrintsSeveral : Met → Type 0
 PrintsSeveral met = IsSomeAnd met (λ m. (verb : Verb) × (m.0 ≡ verb_word verb)
-    × (prints verb (is_flag (codes "write") m.1) (is_flag (codes "check") m.1) ≡ true) × (drop 1 (all_given (codes "file") m.1) ≢ []))
+    × (prints verb (is_flag (codes "write") m.1) (is_flag (codes "check") m.1) (is_flag (codes "diff") m.1) ≡ true) × (drop 1 (all_given (codes "file") m.1) ≢ []))
 
--- what the words name is no command, or has `--write` without a file or with `--check`, or several files to be printed
+-- what the words name is no command, or has `--write` without a file or with `--check` or `--diff`, or several files to be printed
 abbrev pub IsNoCommand : Met → Type 0
-IsNoCommand met = NamesNoVerb met ⊎ (WritesNoFile met ⊎ (WritesAndChecks met ⊎ PrintsSeveral met))
+IsNoCommand met = NamesNoVerb met ⊎ (WritesNoFile met ⊎ (WritesAndChecks met ⊎ (WritesAndDiffs met ⊎ PrintsSeveral met)))
 
 -- the same is refused
 abbrev pub Lacks : Met → Usage → Type 0

@@ -1,5 +1,5 @@
 -- What the program does for a command, over a reader, a writer and a stream for its faults.
-use Rattle.std.specs.Prelude.{◌≡◌, ◌≤◌, ◌⊎◌, ℕ, List, [], length, Bool, true, false, Option, IfSome}
+use Rattle.std.specs.Prelude.{◌≡◌, ◌≤◌, ◌⊎◌, ℕ, List, [], length, Bool, true, false, Option, Some, None, IfSome, codes}
 use Rattle.std.specs.Str.{IsUtf8}
 use Rattle.yf_emit.specs.declared.style.Style.{Style}
 use Rattle.yf_lines.specs.declared.fault.Fault.{Fault}
@@ -15,6 +15,7 @@ use Rattle.yamlfmt.specs.declared.command_line.Verb.{Verb}
 use Rattle.yamlfmt.specs.declared.command_line.Verb.TheVariants.{Events, Check, Fmt}
 use Rattle.yf_rules.specs.declared.run.TheConstants.{INPUT_LIMIT}
 use Rattle.yf_rules.specs.Compare.{Compared, IsClean, RefusedCompare}
+use Rattle.yf_rules.specs.Diffed.{Diffed, RefusedDiff}
 use Rattle.yf_rules.specs.Input.{ReadRefusal}
 use Rattle.yamlfmt.specs.Report.{fault_line, fault_status}
 use Rattle.yf_rules.specs.Run.{Gave, Printed, Refused, RefusedCheck, RefusedFmt, Restyled, Told, Untouched}
@@ -73,32 +74,41 @@ abbrev pub format_status : Bool → ℕ
 format_status true = 0
 format_status false = 1
 
--- what the formatter does, by whether it is only to be told if a text is its own formatting
-abbrev pub RanFormatter : Bool → Style → ℕ → Option (List ℕ) → Bool → Bool → Option (List ℕ) → Option (List ℕ)
+-- the name of an input in the heads of its diff
+abbrev pub diff_name : Option (List ℕ) → List ℕ
+diff_name (Some name) = name
+diff_name None = codes "-"
+
+-- what the formatter does, by whether it is only to be told how a text differs from its formatting, and if it does; and by the input's name
+abbrev pub RanFormatter : Bool → Bool → Option (List ℕ) → Style → ℕ → Option (List ℕ) → Bool → Bool → Option (List ℕ) → Option (List ℕ)
     → Bool → Bool → Option (List ℕ) → Option (List ℕ) → Bool → Bool → Type 0
-RanFormatter false style status known read_before read_after old new before after at to was is =
+RanFormatter true check input style status known read_before read_after old new before after at to was is =
+    ((same : Bool) × Diffed style (diff_name input) known old new before after same × (same ≡ true → IfSome known (IsClean style)) × (read_after ≡ read_before)
+    × (status ≡ format_status same) × Untouched at to was is)
+    ⊎ ((f : Fault) × RefusedDiff style (diff_name input) known read_before read_after old new before after f × EndsBy f status at to was is)
+RanFormatter false false input style status known read_before read_after old new before after at to was is =
     (Restyled style known old new before after × (read_after ≡ read_before) × EndsWell status at to was is)
     ⊎ ((f : Fault) × RefusedFmt style known read_before read_after old new before after f × EndsBy f status at to was is)
-RanFormatter true style status known read_before read_after old new before after at to was is =
+RanFormatter false true input style status known read_before read_after old new before after at to was is =
     ((same : Bool) × Compared style known old new before after same × (same ≡ true → IfSome known (IsClean style)) × (read_after ≡ read_before)
     × (status ≡ format_status same) × Untouched at to was is)
     ⊎ ((f : Fault) × RefusedCompare style known read_before read_after old new before after f × EndsBy f status at to was is)
 
--- what a verb does, by the flags; C tells what the rules find
+-- what a verb does, by the flags and the input's name; C tells what the rules find
 -- (known, read_before, read_after: what the reader had, and the note that it has failed; the others as above)
-abbrev pub RanBy : (Table → Lists → List Finding → Type 0) → Style → Verb → Bool → ℕ → Option (List ℕ) → Bool → Bool → Option (List ℕ) → Option (List ℕ)
+abbrev pub RanBy : (Table → Lists → List Finding → Type 0) → Style → Verb → Bool → Bool → Option (List ℕ) → ℕ → Option (List ℕ) → Bool → Bool → Option (List ℕ) → Option (List ℕ)
     → Bool → Bool → Option (List ℕ) → Option (List ℕ) → Bool → Bool → Type 0
-RanBy C style Events check status known read_before read_after old new before after at to was is =
+RanBy C style Events diff check input status known read_before read_after old new before after at to was is =
     (Printed known old new before after × (read_after ≡ read_before) × EndsWell status at to was is)
     ⊎ ((f : Fault) × Refused known read_before read_after old new before after f × EndsBy f status at to was is)
-RanBy C style Check check status known read_before read_after old new before after at to was is =
+RanBy C style Check diff check input status known read_before read_after old new before after at to was is =
     ((any : Bool) × Told C style known old new before after any × (read_after ≡ read_before) × (status ≡ check_status any) × Untouched at to was is)
     ⊎ ((f : Fault) × RefusedCheck C style known read_before read_after old new before after f × EndsBy f status at to was is)
-RanBy C style Fmt check status known read_before read_after old new before after at to was is =
-    RanFormatter check style status known read_before read_after old new before after at to was is
+RanBy C style Fmt diff check input status known read_before read_after old new before after at to was is =
+    RanFormatter diff check input style status known read_before read_after old new before after at to was is
 
 -- what a command does, over its input
 abbrev pub Ran : (Table → Lists → List Finding → Type 0) → Style → Cmd → ℕ → Option (List ℕ) → Bool → Bool → Option (List ℕ) → Option (List ℕ)
     → Bool → Bool → Option (List ℕ) → Option (List ℕ) → Bool → Bool → Type 0
 Ran C style cmd status known read_before read_after old new before after at to was is =
-    RanBy C style cmd.verb cmd.check status known read_before read_after old new before after at to was is
+    RanBy C style cmd.verb cmd.diff cmd.check cmd.file status known read_before read_after old new before after at to was is

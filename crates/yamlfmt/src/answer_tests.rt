@@ -103,7 +103,7 @@ type Row = (
     &'static str,
 );
 
-static ROWS: [Row; 22] = [
+static ROWS: [Row; 23] = [
     ("fmt", 0, "---\n- \"a\"\n", "", "- ", BEFORE),
     (
         "fmt --config good.toml",
@@ -208,6 +208,14 @@ static ROWS: [Row; 22] = [
         "fmt --check a.yaml",
         1,
         "2:8 not formatted\n",
+        "",
+        "a.yaml ",
+        BEFORE,
+    ),
+    (
+        "fmt --diff a.yaml",
+        1,
+        "--- a.yaml\n+++ a.yaml\n@@ -1,2 +1,2 @@\n ---\n-a: \"x\" # c\n+a: \"x\"  # c\n",
         "",
         "a.yaml ",
         BEFORE,

@@ -38,18 +38,20 @@ pub fn command(alloc: Global, verb: Verb) -> Cmd {
         file: None,
         write: false,
         check: false,
+        diff: false,
         more: Vec::new(alloc),
     }
 }
 
-/// The command `fmt --check` over standard input.
-fn comparing(alloc: Global) -> Cmd {
+/// The command `fmt --check` over standard input, or `fmt --diff`.
+fn comparing(alloc: Global, diff: bool) -> Cmd {
     Cmd {
         verb: Verb::Fmt,
         config: None,
         file: None,
         write: false,
-        check: true,
+        check: !diff,
+        diff,
         more: Vec::new(alloc),
     }
 }
@@ -67,7 +69,12 @@ pub fn answer_to(
 
 /// What `fmt --check` answers for an input.
 pub fn answer_fmt_check(alloc: Global, style: &Style, input: &[u8]) -> Answer {
-    answered(alloc, &comparing(alloc), &[], style, input)
+    answered(alloc, &comparing(alloc, false), &[], style, input)
+}
+
+/// What `fmt --diff` answers for an input.
+pub fn answer_fmt_diff(alloc: Global, style: &Style, input: &[u8]) -> Answer {
+    answered(alloc, &comparing(alloc, true), &[], style, input)
 }
 
 fn answered(

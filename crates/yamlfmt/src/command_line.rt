@@ -1,7 +1,7 @@
 //! The command line: which command the words ask for.
 ghost use Rattle.std.specs.Prelude.{◌≡◌, ◌≢◌, drop, map, IfOk, MatchOption, MatchResult, string_bytes};
 ghost use Rattle.clap.specs.Words.{App, Rule, app_of, with_rule, with_subcommand, first_of, found_of, kind_of, rows_of, subcommand_rows_of};
-ghost use Rattle.yamlfmt.specs.CommandLine.{bare_command, check_flag, checking_command, config_option, configured, file_word, file_words, write_flag, reading_command, writing_command, yamlfmt};
+ghost use Rattle.yamlfmt.specs.CommandLine.{bare_command, check_flag, checking_command, config_option, configured, diff_flag, file_word, file_words, write_flag, reading_command, writing_command, yamlfmt};
 ghost use Rattle.yamlfmt.specs.CommandLine.{Answers, Asks, AsksFor, IsOption, IsPart, IsRefusal, Lacks, RefusesWords, all_given, is_set, prints, verb_word};
 
 use crate::build::build_lines;
@@ -20,6 +20,8 @@ const FMT: &str = "fmt";
 const CONFIG: &str = "config";
 
 const WRITE: &str = "write";
+
+const DIFF: &str = "diff";
 
 const FILE: &str = "file";
 
@@ -50,8 +52,24 @@ Usage: yamlfmt fmt [OPTIONS] [FILE]...
 For more information, try '--help'.
 ";
 
+/// The refusal of `--write` with `--diff`.
+const NOT_SHOWN: &str = "error: the argument '--write' cannot be used with '--diff'
+
+Usage: yamlfmt fmt [OPTIONS] [FILE]...
+
+For more information, try '--help'.
+";
+
 /// The refusal of several files that are neither rewritten nor told of.
 const SEVERAL_FILES: &str = "error: several FILEs need '--write' or '--check'
+
+Usage: yamlfmt fmt [OPTIONS] [FILE]...
+
+For more information, try '--help'.
+";
+
+/// The refusal of several files with `--diff`.
+const SEVERAL_DIFFS: &str = "error: the argument '--diff' takes one FILE
 
 Usage: yamlfmt fmt [OPTIONS] [FILE]...
 
@@ -81,6 +99,8 @@ pub struct Cmd {
     pub write: bool,
     /// Whether it is only to be told whether the stream is in the house style. No file is to be rewritten then.
     pub check: bool,
+    /// Whether only a diff of the stream and its formatting is to be printed. No file is to be rewritten then.
+    pub diff: bool,
     /// The files after the first, in order. There are none where the stream is to be printed.
     pub more: Vec<OwnedText>,
 }
@@ -110,8 +130,8 @@ impl From<AllocError> for Usage {
 ///
 /// - `events [--config FILE] [FILE]`
 /// - `check [--config FILE] [FILE..]`
-/// - `fmt [--config FILE] [--write] [--check] [FILE..]`, where `--write` needs FILE and goes with no `--check`, and several
-///   files need one of the two.
+/// - `fmt [--config FILE] [--write] [--check] [--diff] [FILE..]`, where `--write` needs FILE and goes with neither `--check`
+///   nor `--diff`, and several files need `--write`, or `--check` without `--diff`.
 ///
 /// `--help`, `help` and `--version` are `Usage::Help`, and any other words `Usage::Wrong`, with a text that says why.
 /// `Usage::Memory` may come in the place of each answer, where a growth of memory was refused.
@@ -193,7 +213,8 @@ fn fmt_command<'a>(alloc: Global) -> Result<Command<'a>, AllocError>
     let command = configured(alloc, FMT, "Print a YAML stream in the house style");
     let writing = with_arg(command, write_flag(alloc));
     let checking = with_arg(writing, check_flag(alloc));
-    with_arg(checking, file_words(alloc))
+    let telling = with_arg(checking, diff_flag(alloc));
+    with_arg(telling, file_words(alloc))
 }
 
 // A command that may be given its settings file.
@@ -243,6 +264,15 @@ fn check_flag<'a>(alloc: Global) -> Arg<'a>
         .long(CHECK)
         .action(ArgAction::SetTrue)
         .help("Print only where the stream is not in the house style first")
+}
+
+fn diff_flag<'a>(alloc: Global) -> Arg<'a>
+    ensures { IsOption result diff_flag }
+{
+    Arg::new(alloc, DIFF)
+        .long(DIFF)
+        .action(ArgAction::SetTrue)
+        .help("Print a unified diff of the stream and its formatting")
 }
 
 fn file_word<'a>(alloc: Global) -> Arg<'a>
@@ -341,6 +371,7 @@ fn command_met(alloc: Global, matches: &ArgMatches<'_>) -> Result<Cmd, Usage>
     let file = text_given(alloc, given, FILE)?;
     let write = is_given(given, WRITE);
     let check = is_given(given, CHECK);
+    let diff = is_given(given, DIFF);
     if write {
         if file.is_none() {
             return Err(refusal(alloc, NO_FILE));
@@ -348,11 +379,14 @@ fn command_met(alloc: Global, matches: &ArgMatches<'_>) -> Result<Cmd, Usage>
         if check {
             return Err(refusal(alloc, NOTHING_WRITTEN));
         }
+        if diff {
+            return Err(refusal(alloc, NOT_SHOWN));
+        }
     }
     let more = more_given(alloc, given, FILE)?;
-    if prints(verb, write, check) {
+    if prints(verb, write, check, diff) {
         if !more.is_empty() {
-            return Err(refusal(alloc, SEVERAL_FILES));
+            return Err(refusal_of_several(alloc, diff));
         }
     }
     Ok(Cmd {
@@ -361,6 +395,7 @@ fn command_met(alloc: Global, matches: &ArgMatches<'_>) -> Result<Cmd, Usage>
         file,
         write,
         check,
+        diff,
         more,
     })
 }
@@ -415,12 +450,12 @@ fn texts_after_first(alloc: Global, words: &[&str]) -> Result<Vec<OwnedText>, Al
     Ok(texts)
 }
 
-// Whether a command prints what it formats.
-fn prints(verb: Verb, write: bool, check: bool) -> bool
-    ensures { result ≡ prints verb write check }
+// Whether a command prints what it formats, or how that differs.
+fn prints(verb: Verb, write: bool, check: bool, diff: bool) -> bool
+    ensures { result ≡ prints verb write check diff }
 {
     match verb {
-        Verb::Fmt => !write && !check,
+        Verb::Fmt => !write && (diff || !check),
         Verb::Events | Verb::Check => false,
     }
 }
@@ -433,6 +468,16 @@ fn is_given(given: &ArgMatches<'_>, id: &str) -> bool
         Some(value) => value == "true",
         None => false,
     }
+}
+
+// The refusal of several files where one is printed.
+fn refusal_of_several(alloc: Global, diff: bool) -> Usage
+    ensures { IsRefusal result }
+{
+    if diff {
+        return refusal(alloc, SEVERAL_DIFFS);
+    }
+    refusal(alloc, SEVERAL_FILES)
 }
 
 // The refusal that says that.

@@ -30,13 +30,14 @@ fn is_text(found: &Option<OwnedText>, text: &str) -> bool {
     }
 }
 
-/// A line, and the command for which it asks: the settings file, the file, whether it is rewritten, whether it is only told of, and how
-/// many more files there are.
+/// A line, and the command for which it asks: the settings file, the file, whether it is rewritten, whether it is only told of, whether
+/// by a diff, and how many more files there are.
 type Asked = (
     &'static str,
     Verb,
     &'static str,
     &'static str,
+    bool,
     bool,
     bool,
     usize,
@@ -47,7 +48,8 @@ fn is_asked(command: &Cmd, asked: &Asked) -> bool {
     command.verb == asked.1
         && command.write == asked.4
         && command.check == asked.5
-        && command.more.len() == asked.6
+        && command.diff == asked.6
+        && command.more.len() == asked.7
         && is_text(&command.config, asked.2)
         && is_text(&command.file, asked.3)
 }
@@ -66,12 +68,30 @@ fn asks(alloc: Global, asked: &Asked) -> bool {
 }
 
 /// Lines with their commands.
-static COMMANDS: [Asked; 12] = [
-    ("events", Verb::Events, "", "", false, false, 0),
-    ("events a.yaml", Verb::Events, "", "a.yaml", false, false, 0),
-    ("check a.yaml", Verb::Check, "", "a.yaml", false, false, 0),
-    ("fmt", Verb::Fmt, "", "", false, false, 0),
-    ("fmt --check", Verb::Fmt, "", "", false, true, 0),
+static COMMANDS: [Asked; 14] = [
+    ("events", Verb::Events, "", "", false, false, false, 0),
+    (
+        "events a.yaml",
+        Verb::Events,
+        "",
+        "a.yaml",
+        false,
+        false,
+        false,
+        0,
+    ),
+    (
+        "check a.yaml",
+        Verb::Check,
+        "",
+        "a.yaml",
+        false,
+        false,
+        false,
+        0,
+    ),
+    ("fmt", Verb::Fmt, "", "", false, false, false, 0),
+    ("fmt --check", Verb::Fmt, "", "", false, true, false, 0),
     (
         "fmt a.yaml --check",
         Verb::Fmt,
@@ -79,17 +99,39 @@ static COMMANDS: [Asked; 12] = [
         "a.yaml",
         false,
         true,
+        false,
         0,
     ),
-    ("check a b", Verb::Check, "", "a", false, false, 1),
-    ("fmt --check a b c", Verb::Fmt, "", "a", false, true, 2),
-    ("fmt a --write b", Verb::Fmt, "", "a", true, false, 1),
+    ("fmt --diff", Verb::Fmt, "", "", false, false, true, 0),
+    (
+        "fmt a --check --diff",
+        Verb::Fmt,
+        "",
+        "a",
+        false,
+        true,
+        true,
+        0,
+    ),
+    ("check a b", Verb::Check, "", "a", false, false, false, 1),
+    (
+        "fmt --check a b c",
+        Verb::Fmt,
+        "",
+        "a",
+        false,
+        true,
+        false,
+        2,
+    ),
+    ("fmt a --write b", Verb::Fmt, "", "a", true, false, false, 1),
     (
         "fmt --write a.yaml",
         Verb::Fmt,
         "",
         "a.yaml",
         true,
+        false,
         false,
         0,
     ),
@@ -100,6 +142,7 @@ static COMMANDS: [Asked; 12] = [
         "a.yaml",
         true,
         false,
+        false,
         0,
     ),
     (
@@ -107,6 +150,7 @@ static COMMANDS: [Asked; 12] = [
         Verb::Events,
         "s.toml",
         "--write",
+        false,
         false,
         false,
         0,
@@ -140,7 +184,7 @@ fn is_refused(alloc: Global, line: &str) -> bool {
 }
 
 /// Lines that are refused.
-static REFUSED: [&str; 17] = [
+static REFUSED: [&str; 19] = [
     "",
     "a.yaml",
     "print",
@@ -153,6 +197,8 @@ static REFUSED: [&str; 17] = [
     "check --write a",
     "check --check a",
     "events --check a",
+    "check --diff a",
+    "fmt --diff --check a b",
     "events --config s --config t",
     "fmt --write",
     "fmt --write=a a",
@@ -184,7 +230,7 @@ Options:
 ";
 
 /// Lines, and what is printed for them: `0` and the text of help, `3` and why they are refused.
-static SAID: [(&str, &str); 10] = [
+static SAID: [(&str, &str); 11] = [
     ("--help", OVERVIEW),
     ("help", OVERVIEW),
     (
@@ -213,6 +259,15 @@ For more information, try '--help'.
     (
         "fmt --write --check a",
         "3error: the argument '--write' cannot be used with '--check'
+
+Usage: yamlfmt fmt [OPTIONS] [FILE]...
+
+For more information, try '--help'.
+",
+    ),
+    (
+        "fmt --write --diff a",
+        "3error: the argument '--write' cannot be used with '--diff'
 
 Usage: yamlfmt fmt [OPTIONS] [FILE]...
 

@@ -1,6 +1,6 @@
-//! What `fmt --check` tells, in tables of data.
+//! What `fmt --check` and `fmt --diff` tell, in tables of data.
 
-use crate::answers::{answer_fmt_check, answer_to};
+use crate::answers::{answer_fmt_check, answer_fmt_diff, answer_to};
 use crate::command_line::Verb;
 use std::alloc::{AllocError, Global};
 use yf_emit::style::Style;
@@ -120,9 +120,68 @@ fn tells_what_the_rules_find_too(rt: HostRuntime) {
     }
 }
 
+/// Texts, their formatting, and the diff of both.
+static DIFFS: [Row; 4] = [
+    // two hunks
+    (
+        "---\na:  1\nb: 2\nc: 3\nd: 4\ne: 5\nf: 6\ng: 7\nh: 8\ni:  9\n",
+        "---\na: 1\nb: 2\nc: 3\nd: 4\ne: 5\nf: 6\ng: 7\nh: 8\ni: 9\n",
+        "--- -
++++ -
+@@ -1,5 +1,5 @@
+ ---
+-a:  1
++a: 1
+ b: 2
+ c: 3
+ d: 4
+@@ -7,4 +7,4 @@
+ f: 6
+ g: 7
+ h: 8
+-i:  9
++i: 9
+",
+    ),
+    // fewer lines
+    (
+        "---\na\nb\n",
+        "---\na b\n",
+        "--- -\n+++ -\n@@ -1,3 +1,2 @@\n ---\n-a\n-b\n+a b\n",
+    ),
+    // another line break, and none
+    (
+        "- a\r\n- b",
+        "---\n- a\n- b\n",
+        "--- -\n+++ -\n@@ -1,2 +1,3 @@\n-- a\r\n-- b\n\\ No newline at end of file\n+---\n+- a\n+- b\n",
+    ),
+    (
+        "---\na",
+        "---\na\n",
+        "--- -\n+++ -\n@@ -1,2 +1,2 @@\n ---\n-a\n\\ No newline at end of file\n+a\n",
+    ),
+];
+
+/// Whether a text has this formatting, and that diff of both is told of it, and none of its formatting.
+fn shows(alloc: Global, row: &Row) -> bool {
+    let style = Style::house();
+    let (text, formatted, diff) = *row;
+    answer_to(alloc, Verb::Fmt, &[], &style, text.as_bytes()).is(0, formatted, "")
+        && answer_fmt_diff(alloc, &style, text.as_bytes()).is(1, diff, "")
+        && answer_fmt_diff(alloc, &style, formatted.as_bytes()).is(0, "", "")
+}
+
+#[test]
+fn shows_diffs(rt: HostRuntime) {
+    for row in &DIFFS {
+        assert!(rt; shows(rt.alloc(), row), "{}", row.0);
+    }
+}
+
 /// Whether nothing is told of a stream that is refused but why.
 fn refuses(alloc: Global, text: &str, line: &str) -> bool {
     answer_fmt_check(alloc, &Style::house(), text.as_bytes()).is(2, "", line)
+        && answer_fmt_diff(alloc, &Style::house(), text.as_bytes()).is(2, "", line)
 }
 
 #[test]

@@ -2,7 +2,7 @@
 ghost use Rattle.std.specs.Prelude.{◌≡◌, MatchResult};
 ghost use Rattle.yf_lines.specs.Output.{Writes};
 ghost use Rattle.yf_rules.specs.Check.{Checked, RuleFindings};
-ghost use Rattle.yamlfmt.specs.Program.{Answered, FileRefused, FileSets, Ran, RanFormatter, WrittenOut};
+ghost use Rattle.yamlfmt.specs.Program.{Answered, FileRefused, FileSets, Ran, RanFormatter, WrittenOut, diff_name};
 ghost use Rattle.std.specs.Io.KnownBytes.{Keeps};
 
 use crate::command_line::{Cmd, Usage, Verb};
@@ -15,6 +15,7 @@ use yf_lines::fault::Fault;
 use yf_lines::output::write_text;
 use yf_lines::watched::{Sink, Source};
 use yf_rules::compare::run_fmt_check;
+use yf_rules::diff::run_fmt_diff;
 use yf_rules::input::read_all;
 use yf_rules::rule::Rule;
 use yf_rules::run::{INPUT_LIMIT, run_check, run_events, run_fmt};
@@ -29,8 +30,8 @@ const FINDINGS: u8 = 1;
 const USAGE: u8 = 3;
 
 /// Does the command, and answers the status: that of the run, or of the fault whose line was written to the stream of
-/// faults. Of the command only its verb and its flags count: reader and writer are those of its files, and what is to be
-/// written over its file is not done here.
+/// faults. Of the command only its verb and its flags count, and for a diff its file's name: reader and writer are those of its
+/// files, and what is to be written over its file is not done here.
 pub fn run<R: Source, W: Sink, E: Sink>(
     alloc: Global,
     command: &Cmd,
@@ -60,7 +61,7 @@ pub fn run<R: Source, W: Sink, E: Sink>(
     }
 }
 
-// Formats, or tells whether that is needed, and answers the status.
+// Formats, or tells whether that is needed or what it changes, and answers the status.
 fn run_formatter<R: Source, W: Sink, E: Sink>(
     alloc: Global,
     command: &Cmd,
@@ -69,10 +70,17 @@ fn run_formatter<R: Source, W: Sink, E: Sink>(
     writer: &mut W,
     error_stream: &mut E,
 ) -> u8
-    ensures { RanFormatter command.now.check style.now result (R.remaining reader.old) (R.has_failed reader.old) (R.has_failed reader.new)
+    ensures { RanFormatter command.now.diff command.now.check command.now.file style.now result (R.remaining reader.old) (R.has_failed reader.old) (R.has_failed reader.new)
         (W.contents writer.old) (W.contents writer.new) (W.has_failed writer.old) (W.has_failed writer.new)
         (E.contents error_stream.old) (E.contents error_stream.new) (E.has_failed error_stream.old) (E.has_failed error_stream.new) }
 {
+    if command.diff {
+        return match run_fmt_diff(alloc, diff_name(command), reader, writer, style) {
+            Ok(true) => GOOD,
+            Ok(false) => FINDINGS,
+            Err(fault) => report(&fault, error_stream),
+        };
+    }
     if command.check {
         return match run_fmt_check(alloc, reader, writer, style) {
             Ok(true) => GOOD,
@@ -83,6 +91,16 @@ fn run_formatter<R: Source, W: Sink, E: Sink>(
     match run_fmt(alloc, reader, writer, style) {
         Ok(()) => GOOD,
         Err(fault) => report(&fault, error_stream),
+    }
+}
+
+// The name of a command's input in the heads of its diff.
+fn diff_name(command: &Cmd) -> &str
+    ensures { result.now ≡ diff_name command.now.file }
+{
+    match &command.file {
+        Some(name) => name.as_str(),
+        None => "-",
     }
 }
 
