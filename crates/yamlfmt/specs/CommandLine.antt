@@ -1,13 +1,13 @@
 -- The commands of the program, and what the words of a command line ask for. How words are read as a command with
 -- options is the command-line library's definition of a parse.
-use Rattle.std.specs.Prelude.{◌≡◌, ◌≢◌, ◌⊎◌, ⊤, Bool, true, false, List, [], Option, Some, None, IsSome, codes, MatchOption, IsSomeAnd}
+use Rattle.std.specs.Prelude.{◌≡◌, ◌≢◌, ◌⊎◌, ⊤, Bool, true, false, not, ◌&&◌, List, [], drop, unwrap_or, Option, Some, None, IsSome, codes, MatchOption, IsSomeAnd}
 use Rattle.std.specs.Str.{bytes_eq}
-use Rattle.clap.specs.Words.{app_of, rule_of, App, Row, Rule, Shape, Text, first_of, new_app, new_rule, subcommand_of, with_rule, with_subcommand, IsAmong, fault_of}
+use Rattle.clap.specs.Words.{app_of, rule_of, App, Row, Rule, Shape, Text, all_of, first_of, new_app, new_rule, subcommand_of, with_rule, with_subcommand, IsAmong, fault_of}
 use Rattle.clap.specs.Simple.{on_top}
 use Rattle.clap.specs.declared.builder.arg.Arg.{Arg}
 use Rattle.clap.specs.declared.builder.command.Command.{Command}
 use Rattle.clap.specs.declared.builder.command.Command.TheViews.{out-Command}
-use Rattle.clap.specs.declared.builder.action.ArgAction.TheVariants.{SetTrue}
+use Rattle.clap.specs.declared.builder.action.ArgAction.TheVariants.{Append, SetTrue}
 use Rattle.clap.specs.declared.error.kind.ErrorKind.{ErrorKind}
 use Rattle.clap.specs.declared.error.kind.ErrorKind.TheVariants.{DisplayHelp, DisplayVersion, OutOfMemory}
 use Rattle.yamlfmt.specs.declared.command_line.Cmd.{Cmd}
@@ -24,17 +24,29 @@ config_option = record (new_rule (codes "config")) { long = Some (codes "config"
 abbrev pub write_flag : Rule
 write_flag = record (new_rule (codes "write")) { long = Some (codes "write"); action = Some SetTrue }
 
+-- `--check`
+abbrev pub check_flag : Rule
+check_flag = record (new_rule (codes "check")) { long = Some (codes "check"); action = Some SetTrue }
+
 -- `FILE`
 abbrev pub file_word : Rule
 file_word = record (new_rule (codes "file")) { value_names = 1 }
+
+-- `FILE..`
+abbrev pub file_words : Rule
+file_words = record (new_rule (codes "file")) { value_names = 1; action = Some Append }
 
 -- `NAME [--config FILE] [FILE]`
 abbrev pub reading_command : Text → App
 reading_command name = with_rule (with_rule (new_app name) config_option) file_word
 
--- `fmt [--config FILE] [--write] [FILE]`
+-- `check [--config FILE] [FILE..]`
+abbrev pub checking_command : App
+checking_command = with_rule (with_rule (new_app (codes "check")) config_option) file_words
+
+-- `fmt [--config FILE] [--write] [--check] [FILE..]`
 abbrev pub writing_command : App
-writing_command = with_rule (with_rule (with_rule (new_app (codes "fmt")) config_option) write_flag) file_word
+writing_command = with_rule (with_rule (with_rule (with_rule (new_app (codes "fmt")) config_option) write_flag) check_flag) file_words
 
 -- one of the commands is wanted; without any word, the help is the refusal; the program's name is not among the words;
 -- there is a version
@@ -50,7 +62,7 @@ unfoldable pub yamlfmt : App
 yamlfmt =
     with_subcommand (with_subcommand (with_subcommand bare_command
     (reading_command (codes "events")).top)
-    (reading_command (codes "check")).top)
+    checking_command.top)
     writing_command.top
 
 -- what both kinds of command are made from: `NAME [--config FILE]`
@@ -79,26 +91,56 @@ abbrev pub is_set : Option Text → Bool
 is_set (Some value) = bytes_eq value (codes "true")
 is_set None = false
 
--- the command line has this command, with these files and this flag, and `--write` only where there is a file
+-- whether a flag is given
+abbrev pub is_flag : Text → List Row → Bool
+is_flag id given = is_set (first_of id given)
+
+-- all values that are given
+abbrev pub all_given : Text → List Row → List Text
+all_given id given = unwrap_or (all_of id given) []
+
+-- whether a command prints what it formats
+abbrev pub prints : Verb → Bool → Bool → Bool
+prints Fmt write check = not write && not check
+prints Events write check = false
+prints Check write check = false
+
+-- the command line has this command, with these files and these flags, and `--write` only where there is a file and no `--check`; what
+-- prints what it formats has one file at most
 pub record Asks (met : Met) (cmd : Cmd) : Type 0 where
   pub given : List Row
   pub command : met ≡ Some (verb_word cmd.verb, given)
   pub config : cmd.config ≡ first_of (codes "config") given
   pub file : cmd.file ≡ first_of (codes "file") given
-  pub write : cmd.write ≡ is_set (first_of (codes "write") given)
+  pub write : cmd.write ≡ is_flag (codes "write") given
+  pub check : cmd.check ≡ is_flag (codes "check") given
   pub written : cmd.write ≡ true → IsSome cmd.file
+  pub unchecked : cmd.write ≡ true → cmd.check ≡ false
+  pub more : cmd.more.items ≡ drop 1 (all_given (codes "file") given)
+  pub alone : prints cmd.verb cmd.write cmd.check ≡ true → cmd.more.items ≡ []
 
 abbrev pub NamesNoVerb : Met → Type 0
 NamesNoVerb met = MatchOption met ⊤ (λ m. (verb : Verb) → m.0 ≢ verb_word verb)
 
 abbrev pub WritesNoFile : Met → Type 0
 WritesNoFile met =
-    IsSomeAnd met (λ m. (is_set (first_of (codes "write") m.1) ≡ true) × (first_of (codes "file") m.1 ≡ None))
+    IsSomeAnd met (λ m. (is_flag (codes "write") m.1 ≡ true) × (first_of (codes "file") m.1 ≡ None))
 
--- what the words name is no command, or has `--write` without a file
+abbrev pub WritesAndChecks : Met → Type 0
+WritesAndChecks met = IsSomeAnd met (λ m. (is_flag (codes "write") m.1 ≡ true) × (is_flag (codes "check") m.1 ≡ true))
+
+abbrev pub PrintsSeveral : Met → Type 0
+PrintsSeveral met = IsSomeAnd met (λ m. (verb : Verb) × (m.0 ≡ verb_word verb)
+    × (prints verb (is_flag (codes "write") m.1) (is_flag (codes "check") m.1) ≡ true) × (drop 1 (all_given (codes "file") m.1) ≢ []))
+
+-- what the words name is no command, or has `--write` without a file or with `--check`, or several files to be printed
+abbrev pub IsNoCommand : Met → Type 0
+IsNoCommand met = NamesNoVerb met ⊎ (WritesNoFile met ⊎ (WritesAndChecks met ⊎ PrintsSeveral met))
+
+-- the same is refused
 abbrev pub Lacks : Met → Usage → Type 0
 Lacks met (Help text) = ⊥
-Lacks met (Wrong text) = NamesNoVerb met ⊎ WritesNoFile met
+Lacks met (Wrong text) = IsNoCommand met
 Lacks met Memory = ⊤
 
 -- the words are wrong, or there is no memory to say so
@@ -122,10 +164,10 @@ abbrev pub AsksFor : List Text → Cmd → Type 0
 AsksFor words cmd = (fault_of yamlfmt words ≡ []) × Asks (subcommand_of yamlfmt words) cmd
 
 -- help or the version is answered where it is asked for; the words are wrong where they are not taken and ask for neither,
--- or are taken, and name no command or have `--write` without a file
+-- or are taken, and are no command
 abbrev pub RefusesWords : List Text → Usage → Type 0
 RefusesWords words (Help text) = (kind : ErrorKind) × AsksText kind × IsAmong kind (fault_of yamlfmt words)
 RefusesWords words (Wrong text) =
     ((kind : ErrorKind) × (¬ AsksText kind) × IsAmong kind (fault_of yamlfmt words))
-    ⊎ ((fault_of yamlfmt words ≡ []) × (NamesNoVerb (subcommand_of yamlfmt words) ⊎ WritesNoFile (subcommand_of yamlfmt words)))
+    ⊎ ((fault_of yamlfmt words ≡ []) × IsNoCommand (subcommand_of yamlfmt words))
 RefusesWords words Memory = ⊤

@@ -1,5 +1,5 @@
 -- What the program does for a command, over a reader, a writer and a stream for its faults.
-use Rattle.std.specs.Prelude.{◌≡◌, ◌≤◌, ◌⊎◌, ℕ, List, [], length, Bool, true, false, Option, codes}
+use Rattle.std.specs.Prelude.{◌≡◌, ◌≤◌, ◌⊎◌, ℕ, List, [], length, Bool, true, false, Option, IfSome}
 use Rattle.std.specs.Str.{IsUtf8}
 use Rattle.yf_emit.specs.declared.style.Style.{Style}
 use Rattle.yf_lines.specs.declared.fault.Fault.{Fault}
@@ -8,11 +8,13 @@ use Rattle.yf_lines.specs.Lines.{Table}
 use Rattle.yf_lines.specs.Output.{Wrote, Broke}
 use Rattle.yf_events.specs.declared.lists.Lists.{Lists}
 use Rattle.yf_rules.specs.declared.finding.Finding.{Finding}
+use Rattle.yamlfmt.specs.declared.command_line.Cmd.{Cmd}
 use Rattle.yamlfmt.specs.declared.command_line.Usage.{Usage}
 use Rattle.yamlfmt.specs.declared.command_line.Usage.TheVariants as usage
 use Rattle.yamlfmt.specs.declared.command_line.Verb.{Verb}
 use Rattle.yamlfmt.specs.declared.command_line.Verb.TheVariants.{Events, Check, Fmt}
 use Rattle.yf_rules.specs.declared.run.TheConstants.{INPUT_LIMIT}
+use Rattle.yf_rules.specs.Compare.{Compared, IsClean, RefusedCompare}
 use Rattle.yf_rules.specs.Input.{ReadRefusal}
 use Rattle.yamlfmt.specs.Report.{fault_line, fault_status}
 use Rattle.yf_rules.specs.Run.{Gave, Printed, Refused, RefusedCheck, RefusedFmt, Restyled, Told, Untouched}
@@ -66,16 +68,37 @@ abbrev pub check_status : Bool → ℕ
 check_status true = 1
 check_status false = 0
 
--- what a command does; C tells what the rules find
--- (known, read_before, read_after: what the reader had, and the note that it has failed; the others as above)
-abbrev pub Ran : (Table → Lists → List Finding → Type 0) → Style → Verb → ℕ → Option (List ℕ) → Bool → Bool → Option (List ℕ) → Option (List ℕ)
+-- the status of the run that tells whether a text is its own formatting
+abbrev pub format_status : Bool → ℕ
+format_status true = 0
+format_status false = 1
+
+-- what the formatter does, by whether it is only to be told if a text is its own formatting
+abbrev pub RanFormatter : Bool → Style → ℕ → Option (List ℕ) → Bool → Bool → Option (List ℕ) → Option (List ℕ)
     → Bool → Bool → Option (List ℕ) → Option (List ℕ) → Bool → Bool → Type 0
-Ran C style Events status known read_before read_after old new before after at to was is =
-    (Printed known old new before after × (read_after ≡ read_before) × EndsWell status at to was is)
-    ⊎ ((f : Fault) × Refused known read_before read_after old new before after f × EndsBy f status at to was is)
-Ran C style Check status known read_before read_after old new before after at to was is =
-    ((any : Bool) × Told C style known old new before after any × (read_after ≡ read_before) × (status ≡ check_status any) × Untouched at to was is)
-    ⊎ ((f : Fault) × RefusedCheck C style known read_before read_after old new before after f × EndsBy f status at to was is)
-Ran C style Fmt status known read_before read_after old new before after at to was is =
+RanFormatter false style status known read_before read_after old new before after at to was is =
     (Restyled style known old new before after × (read_after ≡ read_before) × EndsWell status at to was is)
     ⊎ ((f : Fault) × RefusedFmt style known read_before read_after old new before after f × EndsBy f status at to was is)
+RanFormatter true style status known read_before read_after old new before after at to was is =
+    ((same : Bool) × Compared style known old new before after same × (same ≡ true → IfSome known (IsClean style)) × (read_after ≡ read_before)
+    × (status ≡ format_status same) × Untouched at to was is)
+    ⊎ ((f : Fault) × RefusedCompare style known read_before read_after old new before after f × EndsBy f status at to was is)
+
+-- what a verb does, by the flags; C tells what the rules find
+-- (known, read_before, read_after: what the reader had, and the note that it has failed; the others as above)
+abbrev pub RanBy : (Table → Lists → List Finding → Type 0) → Style → Verb → Bool → ℕ → Option (List ℕ) → Bool → Bool → Option (List ℕ) → Option (List ℕ)
+    → Bool → Bool → Option (List ℕ) → Option (List ℕ) → Bool → Bool → Type 0
+RanBy C style Events check status known read_before read_after old new before after at to was is =
+    (Printed known old new before after × (read_after ≡ read_before) × EndsWell status at to was is)
+    ⊎ ((f : Fault) × Refused known read_before read_after old new before after f × EndsBy f status at to was is)
+RanBy C style Check check status known read_before read_after old new before after at to was is =
+    ((any : Bool) × Told C style known old new before after any × (read_after ≡ read_before) × (status ≡ check_status any) × Untouched at to was is)
+    ⊎ ((f : Fault) × RefusedCheck C style known read_before read_after old new before after f × EndsBy f status at to was is)
+RanBy C style Fmt check status known read_before read_after old new before after at to was is =
+    RanFormatter check style status known read_before read_after old new before after at to was is
+
+-- what a command does, over its input
+abbrev pub Ran : (Table → Lists → List Finding → Type 0) → Style → Cmd → ℕ → Option (List ℕ) → Bool → Bool → Option (List ℕ) → Option (List ℕ)
+    → Bool → Bool → Option (List ℕ) → Option (List ℕ) → Bool → Bool → Type 0
+Ran C style cmd status known read_before read_after old new before after at to was is =
+    RanBy C style cmd.verb cmd.check status known read_before read_after old new before after at to was is

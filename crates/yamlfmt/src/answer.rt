@@ -1,20 +1,20 @@
 //! The whole program, over whatever it reads and writes: from the words of the command line to the status.
 ghost use Rattle.std.specs.Prelude.{◌≡◌, ℕ, List, Option, map, string_bytes, MatchResult};
-ghost use Rattle.yf_rules.specs.AllRules.{Are, FoundByAll, all_rules};
+ghost use Rattle.yf_rules.specs.AllRules.{Are, all_rules};
 ghost use Rattle.yamlfmt.specs.Answer.{Answers, Does, DoesIn, Follows, Opens, Sets, Unset, settings_of};
 ghost use Rattle.yamlfmt.specs.Files.{Rewritten};
-ghost use Rattle.yamlfmt.specs.Program.{Ran};
 
 use crate::command_line::{Cmd, parse_line};
-use crate::files::{Links, report_rewrite, rewrite};
+use crate::each::{do_each, do_file, do_over};
+use crate::files::Links;
 use crate::inputs::Inputs;
-use crate::program::{GOOD, answer_usage, read_style, run, written_out};
+use crate::program::{answer_usage, read_style, written_out};
 use crate::report::report;
 use std::alloc::Global;
 use yf_emit::style::Style;
 use yf_lines::fault::Fault;
 use yf_lines::text::OwnedText;
-use yf_lines::watched::{Sink, Source};
+use yf_lines::watched::Sink;
 use yf_rules::rule::Rule;
 
 /// Does what the words after the program's name ask for, with all rules of style, and answers the status.
@@ -32,7 +32,7 @@ pub fn answer<I: Inputs, S: Links, W: Sink, E: Sink>(
 ) -> u8
     requires all { Are (λ rule. definition rule) rules.now all_rules }
     ensures { Answers I.tells (I.holds inputs.old) (I.opened inputs.old) (I.opened inputs.new)
-        (files.new ≡ files.old) (λ name style. Rewritten S.tells (S.state files.old) (S.state files.new) (S.leads files.old name) style)
+        files.old files.new (λ first last name style. Rewritten S.tells (S.state first) (S.state last) (S.leads first name) style)
         (map string_bytes words.now) result
         (W.contents writer.old) (W.contents writer.new) (W.has_failed writer.old) (W.has_failed writer.new)
         (E.contents error_stream.old) (E.contents error_stream.new) (E.has_failed error_stream.old) (E.has_failed error_stream.new) }
@@ -53,7 +53,7 @@ fn follow<I: Inputs, S: Links, W: Sink, E: Sink>(
 ) -> u8
     requires all { Are (λ rule. definition rule) rules.now all_rules }
     ensures { Follows I.tells (I.holds inputs.old) (I.opened inputs.old) (I.opened inputs.new)
-        (files.new ≡ files.old) (λ name style. Rewritten S.tells (S.state files.old) (S.state files.new) (S.leads files.old name) style)
+        files.old files.new (λ first last name style. Rewritten S.tells (S.state first) (S.state last) (S.leads first name) style)
         (map string_bytes words.now) result
         (W.contents writer.old) (W.contents writer.new) (W.has_failed writer.old) (W.has_failed writer.new)
         (E.contents error_stream.old) (E.contents error_stream.new) (E.has_failed error_stream.old) (E.has_failed error_stream.new) }
@@ -76,7 +76,7 @@ fn do_command<I: Inputs, S: Links, W: Sink, E: Sink>(
 ) -> u8
     requires all { Are (λ rule. definition rule) rules.now all_rules }
     ensures { Does I.tells (I.holds inputs.old) (I.opened inputs.old) (I.opened inputs.new)
-        (files.new ≡ files.old) (λ name style. Rewritten S.tells (S.state files.old) (S.state files.new) (S.leads files.old name) style)
+        files.old files.new (λ first last name style. Rewritten S.tells (S.state first) (S.state last) (S.leads first name) style)
         command.now result
         (W.contents writer.old) (W.contents writer.new) (W.has_failed writer.old) (W.has_failed writer.new)
         (E.contents error_stream.old) (E.contents error_stream.new) (E.has_failed error_stream.old) (E.has_failed error_stream.new) }
@@ -116,7 +116,7 @@ fn style_set<I: Inputs>(
     read_style(alloc, &mut file)
 }
 
-// Does a command in a style: rewrites its file, or opens its input.
+// Does a command in a style: over standard input, over its file, or over each of its files.
 fn do_in_style<I: Inputs, S: Links, W: Sink, E: Sink>(
     alloc: Global,
     command: &Cmd,
@@ -129,7 +129,7 @@ fn do_in_style<I: Inputs, S: Links, W: Sink, E: Sink>(
 ) -> u8
     requires all { Are (λ rule. definition rule) rules.now all_rules }
     ensures { DoesIn I.tells (I.holds inputs.old) (I.opened inputs.old) (I.opened inputs.new)
-        (files.new ≡ files.old) (λ name style. Rewritten S.tells (S.state files.old) (S.state files.new) (S.leads files.old name) style)
+        files.old files.new (λ first last name style. Rewritten S.tells (S.state first) (S.state last) (S.leads first name) style)
         command.now style.now result
         (W.contents writer.old) (W.contents writer.new) (W.has_failed writer.old) (W.has_failed writer.new)
         (E.contents error_stream.old) (E.contents error_stream.new) (E.has_failed error_stream.old) (E.has_failed error_stream.new) }
@@ -146,55 +146,28 @@ fn do_in_style<I: Inputs, S: Links, W: Sink, E: Sink>(
             error_stream,
         );
     };
-    if command.write {
-        return rewrite_named(alloc, files, name.as_str(), style, error_stream);
-    }
-    match inputs.open_file(name.as_str()) {
-        Ok(mut file) => do_over(
+    if command.more.is_empty() {
+        return do_file(
             alloc,
             command,
             rules,
             style,
-            &mut file,
+            name.as_str(),
+            inputs,
+            files,
             writer,
             error_stream,
-        ),
-        Err(fault) => report(&fault, error_stream),
+        );
     }
-}
-
-// Rewrites a file by its name, and answers the status.
-fn rewrite_named<S: Links, E: Sink>(
-    alloc: Global,
-    files: &mut S,
-    name: &str,
-    style: &Style,
-    error_stream: &mut E,
-) -> u8
-    ensures { Rewritten S.tells (S.state files.old) (S.state files.new) (S.leads files.old name.now) style.now result
-        (E.contents error_stream.old) (E.contents error_stream.new) (E.has_failed error_stream.old) (E.has_failed error_stream.new) }
-{
-    match rewrite(alloc, files, name, style) {
-        Ok(()) => GOOD,
-        Err(why) => report_rewrite(&why, error_stream),
-    }
-}
-
-// Does a command over its input.
-fn do_over<R: Source, W: Sink, E: Sink>(
-    alloc: Global,
-    command: &Cmd,
-    rules: &[Box<dyn Rule>],
-    style: &Style,
-    reader: &mut R,
-    writer: &mut W,
-    error_stream: &mut E,
-) -> u8
-    requires all { Are (λ rule. definition rule) rules.now all_rules }
-    ensures { Ran (FoundByAll style.now) style.now command.now.verb result
-        (R.remaining reader.old) (R.has_failed reader.old) (R.has_failed reader.new)
-        (W.contents writer.old) (W.contents writer.new) (W.has_failed writer.old) (W.has_failed writer.new)
-        (E.contents error_stream.old) (E.contents error_stream.new) (E.has_failed error_stream.old) (E.has_failed error_stream.new) }
-{
-    run(alloc, command, rules, style, reader, writer, error_stream)
+    do_each(
+        alloc,
+        command,
+        rules,
+        style,
+        name.as_str(),
+        inputs,
+        files,
+        writer,
+        error_stream,
+    )
 }

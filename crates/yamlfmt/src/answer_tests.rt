@@ -103,7 +103,7 @@ type Row = (
     &'static str,
 );
 
-static ROWS: [Row; 17] = [
+static ROWS: [Row; 22] = [
     ("fmt", 0, "---\n- \"a\"\n", "", "- ", BEFORE),
     (
         "fmt --config good.toml",
@@ -205,10 +205,51 @@ static ROWS: [Row; 17] = [
     ),
     ("check b.yaml", 3, "", "read failed\n", "b.yaml ", BEFORE),
     (
+        "fmt --check a.yaml",
+        1,
+        "2:8 not formatted\n",
+        "",
+        "a.yaml ",
+        BEFORE,
+    ),
+    // each of several files is told of by its name, whatever becomes of the others
+    (
+        "check a.yaml refused.yaml none.yaml a.yaml",
+        3,
+        "a.yaml:2:8 comment-space (fixable)\na.yaml:2:8 comment-space (fixable)\n",
+        "refused.yaml:2:6 refused: unknown-alias\nnone.yaml: read failed\n",
+        "a.yaml refused.yaml none.yaml a.yaml ",
+        BEFORE,
+    ),
+    (
+        "fmt --check --config good.toml refused.yaml a.yaml",
+        2,
+        "a.yaml:2:4 not formatted\n",
+        "refused.yaml:2:6 refused: unknown-alias\n",
+        "good.toml refused.yaml a.yaml ",
+        BEFORE,
+    ),
+    (
+        "fmt --write none.yaml b.yaml",
+        3,
+        "",
+        "none.yaml: read failed\n",
+        "",
+        "---\n- \"a\"\n",
+    ),
+    (
+        "fmt a.yaml b.yaml",
+        3,
+        "",
+        "error: several FILEs need '--write' or '--check'\n\nUsage: yamlfmt fmt [OPTIONS] [FILE]...\n\nFor more information, try '--help'.\n",
+        "",
+        BEFORE,
+    ),
+    (
         "fmt --write",
         3,
         "",
-        "error: the argument '--write' needs a FILE\n\nUsage: yamlfmt fmt [OPTIONS] [FILE]\n\nFor more information, try '--help'.\n",
+        "error: the argument '--write' needs a FILE\n\nUsage: yamlfmt fmt [OPTIONS] [FILE]...\n\nFor more information, try '--help'.\n",
         "",
         BEFORE,
     ),

@@ -31,12 +31,26 @@ impl Answer {
 }
 
 /// A command over standard input.
-pub fn command(verb: Verb) -> Cmd {
+pub fn command(alloc: Global, verb: Verb) -> Cmd {
     Cmd {
         verb,
         config: None,
         file: None,
         write: false,
+        check: false,
+        more: Vec::new(alloc),
+    }
+}
+
+/// The command `fmt --check` over standard input.
+fn comparing(alloc: Global) -> Cmd {
+    Cmd {
+        verb: Verb::Fmt,
+        config: None,
+        file: None,
+        write: false,
+        check: true,
+        more: Vec::new(alloc),
     }
 }
 
@@ -48,12 +62,27 @@ pub fn answer_to(
     style: &Style,
     input: &[u8],
 ) -> Answer {
+    answered(alloc, &command(alloc, verb), rules, style, input)
+}
+
+/// What `fmt --check` answers for an input.
+pub fn answer_fmt_check(alloc: Global, style: &Style, input: &[u8]) -> Answer {
+    answered(alloc, &comparing(alloc), &[], style, input)
+}
+
+fn answered(
+    alloc: Global,
+    command: &Cmd,
+    rules: &[Box<dyn Rule>],
+    style: &Style,
+    input: &[u8],
+) -> Answer {
     let mut reader = Watched::new(input);
     let mut writer = Watched::new(Vec::new(alloc));
     let mut error_stream = Watched::new(Vec::new(alloc));
     let status = run(
         alloc,
-        &command(verb),
+        command,
         rules,
         style,
         &mut reader,
@@ -78,7 +107,7 @@ pub fn answer_over<R: Source, W: Sink>(
     let mut error_stream = Watched::new(Vec::new(alloc));
     let status = run(
         alloc,
-        &command(verb),
+        &command(alloc, verb),
         rules,
         &Style::house(),
         reader,

@@ -1,8 +1,8 @@
 //! The command line: which command the words ask for.
-ghost use Rattle.std.specs.Prelude.{◌≡◌, ◌≢◌, map, IfOk, MatchOption, MatchResult, string_bytes};
+ghost use Rattle.std.specs.Prelude.{◌≡◌, ◌≢◌, drop, map, IfOk, MatchOption, MatchResult, string_bytes};
 ghost use Rattle.clap.specs.Words.{App, Rule, app_of, with_rule, with_subcommand, first_of, found_of, kind_of, rows_of, subcommand_rows_of};
-ghost use Rattle.yamlfmt.specs.CommandLine.{bare_command, config_option, configured, file_word, write_flag, reading_command, writing_command, yamlfmt};
-ghost use Rattle.yamlfmt.specs.CommandLine.{Answers, Asks, AsksFor, IsOption, IsPart, IsRefusal, Lacks, RefusesWords, is_set, verb_word};
+ghost use Rattle.yamlfmt.specs.CommandLine.{bare_command, check_flag, checking_command, config_option, configured, file_word, file_words, write_flag, reading_command, writing_command, yamlfmt};
+ghost use Rattle.yamlfmt.specs.CommandLine.{Answers, Asks, AsksFor, IsOption, IsPart, IsRefusal, Lacks, RefusesWords, all_given, is_set, prints, verb_word};
 
 use crate::build::build_lines;
 use crate::shown::shown_text;
@@ -37,7 +37,23 @@ For more information, try '--help'.
 /// The refusal of `--write` without a file.
 const NO_FILE: &str = "error: the argument '--write' needs a FILE
 
-Usage: yamlfmt fmt [OPTIONS] [FILE]
+Usage: yamlfmt fmt [OPTIONS] [FILE]...
+
+For more information, try '--help'.
+";
+
+/// The refusal of `--write` with `--check`.
+const NOTHING_WRITTEN: &str = "error: the argument '--write' cannot be used with '--check'
+
+Usage: yamlfmt fmt [OPTIONS] [FILE]...
+
+For more information, try '--help'.
+";
+
+/// The refusal of several files that are neither rewritten nor told of.
+const SEVERAL_FILES: &str = "error: several FILEs need '--write' or '--check'
+
+Usage: yamlfmt fmt [OPTIONS] [FILE]...
 
 For more information, try '--help'.
 ";
@@ -63,6 +79,10 @@ pub struct Cmd {
     pub file: Option<OwnedText>,
     /// Whether the file is to be rewritten. There is a file then.
     pub write: bool,
+    /// Whether it is only to be told whether the stream is in the house style. No file is to be rewritten then.
+    pub check: bool,
+    /// The files after the first, in order. There are none where the stream is to be printed.
+    pub more: Vec<OwnedText>,
 }
 
 /// Why the words of a command line give no command.
@@ -89,8 +109,9 @@ impl From<AllocError> for Usage {
 /// The command that the words after the program's name ask for:
 ///
 /// - `events [--config FILE] [FILE]`
-/// - `check [--config FILE] [FILE]`
-/// - `fmt [--config FILE] [--write] [FILE]`, where `--write` needs FILE.
+/// - `check [--config FILE] [FILE..]`
+/// - `fmt [--config FILE] [--write] [--check] [FILE..]`, where `--write` needs FILE and goes with no `--check`, and several
+///   files need one of the two.
 ///
 /// `--help`, `help` and `--version` are `Usage::Help`, and any other words `Usage::Wrong`, with a text that says why.
 /// `Usage::Memory` may come in the place of each answer, where a growth of memory was refused.
@@ -108,13 +129,8 @@ fn yamlfmt_command<'a>(alloc: Global) -> Result<Command<'a>, AllocError>
     ensures { IfOk result (λ c. app_of c ≡ yamlfmt) }
 {
     let events = reading_command(alloc, EVENTS, "Print the events of a YAML stream");
-    let check = reading_command(
-        alloc,
-        CHECK,
-        "Print where a YAML stream departs from the house style",
-    );
     let with_events = with_part(bare_command(alloc), events);
-    let with_check = with_part(with_events, check);
+    let with_check = with_part(with_events, check_command(alloc));
     with_part(with_check, fmt_command(alloc))
 }
 
@@ -160,12 +176,24 @@ fn reading_command<'a>(
     with_arg(configured(alloc, name, about), file_word(alloc))
 }
 
+fn check_command<'a>(alloc: Global) -> Result<Command<'a>, AllocError>
+    ensures { IfOk result (λ c. IsPart c checking_command) }
+{
+    let command = configured(
+        alloc,
+        CHECK,
+        "Print where a YAML stream departs from the house style",
+    );
+    with_arg(command, file_words(alloc))
+}
+
 fn fmt_command<'a>(alloc: Global) -> Result<Command<'a>, AllocError>
     ensures { IfOk result (λ c. IsPart c writing_command) }
 {
     let command = configured(alloc, FMT, "Print a YAML stream in the house style");
     let writing = with_arg(command, write_flag(alloc));
-    with_arg(writing, file_word(alloc))
+    let checking = with_arg(writing, check_flag(alloc));
+    with_arg(checking, file_words(alloc))
 }
 
 // A command that may be given its settings file.
@@ -208,12 +236,30 @@ fn write_flag<'a>(alloc: Global) -> Arg<'a>
         .help("Rewrite FILE in place of printing")
 }
 
+fn check_flag<'a>(alloc: Global) -> Arg<'a>
+    ensures { IsOption result check_flag }
+{
+    Arg::new(alloc, CHECK)
+        .long(CHECK)
+        .action(ArgAction::SetTrue)
+        .help("Print only where the stream is not in the house style first")
+}
+
 fn file_word<'a>(alloc: Global) -> Arg<'a>
     ensures { IsOption result file_word }
 {
     Arg::new(alloc, FILE)
         .value_name("FILE")
         .help("The stream to read, in place of standard input")
+}
+
+fn file_words<'a>(alloc: Global) -> Arg<'a>
+    ensures { IsOption result file_words }
+{
+    Arg::new(alloc, FILE)
+        .value_name("FILE")
+        .action(ArgAction::Append)
+        .help("The streams to read, in place of standard input")
 }
 
 // How a refusal of the words is answered.
@@ -294,9 +340,19 @@ fn command_met(alloc: Global, matches: &ArgMatches<'_>) -> Result<Cmd, Usage>
     let config = text_given(alloc, given, CONFIG)?;
     let file = text_given(alloc, given, FILE)?;
     let write = is_given(given, WRITE);
+    let check = is_given(given, CHECK);
     if write {
         if file.is_none() {
             return Err(refusal(alloc, NO_FILE));
+        }
+        if check {
+            return Err(refusal(alloc, NOTHING_WRITTEN));
+        }
+    }
+    let more = more_given(alloc, given, FILE)?;
+    if prints(verb, write, check) {
+        if !more.is_empty() {
+            return Err(refusal(alloc, SEVERAL_FILES));
         }
     }
     Ok(Cmd {
@@ -304,6 +360,8 @@ fn command_met(alloc: Global, matches: &ArgMatches<'_>) -> Result<Cmd, Usage>
         config,
         file,
         write,
+        check,
+        more,
     })
 }
 
@@ -333,6 +391,37 @@ fn text_given(
     match given.get_str(id) {
         Some(text) => Ok(Some(OwnedText::new(String::from_str(alloc, text)?))),
         None => Ok(None),
+    }
+}
+
+// The values of a word but the first, as texts of their own.
+fn more_given(alloc: Global, given: &ArgMatches<'_>, id: &str) -> Result<Vec<OwnedText>, AllocError>
+    ensures { IfOk result (λ more. more.items ≡ drop 1 (all_given id.now (rows_of (found_of given.now)))) }
+{
+    match given.get_strs(id) {
+        Some(words) => texts_after_first(alloc, words),
+        None => Ok(Vec::new(alloc)),
+    }
+}
+
+// The words but the first, as texts of their own.
+fn texts_after_first(alloc: Global, words: &[&str]) -> Result<Vec<OwnedText>, AllocError>
+    ensures { IfOk result (λ texts. texts.items ≡ drop 1 (map (λ w. w.now) words.now)) }
+{
+    let mut texts = Vec::new(alloc);
+    for k in 1..words.len() {
+        texts.push(OwnedText::new(String::from_str(alloc, words[k])?))?;
+    }
+    Ok(texts)
+}
+
+// Whether a command prints what it formats.
+fn prints(verb: Verb, write: bool, check: bool) -> bool
+    ensures { result ≡ prints verb write check }
+{
+    match verb {
+        Verb::Fmt => !write && !check,
+        Verb::Events | Verb::Check => false,
     }
 }
 

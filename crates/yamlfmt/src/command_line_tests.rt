@@ -30,13 +30,24 @@ fn is_text(found: &Option<OwnedText>, text: &str) -> bool {
     }
 }
 
-/// A line, and the command for which it asks: the settings file, the file, and whether it is rewritten.
-type Asked = (&'static str, Verb, &'static str, &'static str, bool);
+/// A line, and the command for which it asks: the settings file, the file, whether it is rewritten, whether it is only told of, and how
+/// many more files there are.
+type Asked = (
+    &'static str,
+    Verb,
+    &'static str,
+    &'static str,
+    bool,
+    bool,
+    usize,
+);
 
 /// Whether that command is asked for.
 fn is_asked(command: &Cmd, asked: &Asked) -> bool {
     command.verb == asked.1
         && command.write == asked.4
+        && command.check == asked.5
+        && command.more.len() == asked.6
         && is_text(&command.config, asked.2)
         && is_text(&command.file, asked.3)
 }
@@ -55,18 +66,41 @@ fn asks(alloc: Global, asked: &Asked) -> bool {
 }
 
 /// Lines with their commands.
-static COMMANDS: [Asked; 7] = [
-    ("events", Verb::Events, "", "", false),
-    ("events a.yaml", Verb::Events, "", "a.yaml", false),
-    ("check a.yaml", Verb::Check, "", "a.yaml", false),
-    ("fmt", Verb::Fmt, "", "", false),
-    ("fmt --write a.yaml", Verb::Fmt, "", "a.yaml", true),
+static COMMANDS: [Asked; 12] = [
+    ("events", Verb::Events, "", "", false, false, 0),
+    ("events a.yaml", Verb::Events, "", "a.yaml", false, false, 0),
+    ("check a.yaml", Verb::Check, "", "a.yaml", false, false, 0),
+    ("fmt", Verb::Fmt, "", "", false, false, 0),
+    ("fmt --check", Verb::Fmt, "", "", false, true, 0),
+    (
+        "fmt a.yaml --check",
+        Verb::Fmt,
+        "",
+        "a.yaml",
+        false,
+        true,
+        0,
+    ),
+    ("check a b", Verb::Check, "", "a", false, false, 1),
+    ("fmt --check a b c", Verb::Fmt, "", "a", false, true, 2),
+    ("fmt a --write b", Verb::Fmt, "", "a", true, false, 1),
+    (
+        "fmt --write a.yaml",
+        Verb::Fmt,
+        "",
+        "a.yaml",
+        true,
+        false,
+        0,
+    ),
     (
         "fmt a.yaml --write --config=s.toml",
         Verb::Fmt,
         "s.toml",
         "a.yaml",
         true,
+        false,
+        0,
     ),
     (
         "events --config s.toml -- --write",
@@ -74,6 +108,8 @@ static COMMANDS: [Asked; 7] = [
         "s.toml",
         "--write",
         false,
+        false,
+        0,
     ),
 ];
 
@@ -104,17 +140,19 @@ fn is_refused(alloc: Global, line: &str) -> bool {
 }
 
 /// Lines that are refused.
-static REFUSED: [&str; 15] = [
+static REFUSED: [&str; 17] = [
     "",
     "a.yaml",
     "print",
     "--config s.toml events",
     "events a b",
-    "check a b",
+    "fmt a b",
     "events --config",
     "events --write a",
     "events --version",
     "check --write a",
+    "check --check a",
+    "events --check a",
     "events --config s --config t",
     "fmt --write",
     "fmt --write=a a",
@@ -146,7 +184,7 @@ Options:
 ";
 
 /// Lines, and what is printed for them: `0` and the text of help, `3` and why they are refused.
-static SAID: [(&str, &str); 8] = [
+static SAID: [(&str, &str); 10] = [
     ("--help", OVERVIEW),
     ("help", OVERVIEW),
     (
@@ -167,7 +205,25 @@ Options:
         "fmt --write",
         "3error: the argument '--write' needs a FILE
 
-Usage: yamlfmt fmt [OPTIONS] [FILE]
+Usage: yamlfmt fmt [OPTIONS] [FILE]...
+
+For more information, try '--help'.
+",
+    ),
+    (
+        "fmt --write --check a",
+        "3error: the argument '--write' cannot be used with '--check'
+
+Usage: yamlfmt fmt [OPTIONS] [FILE]...
+
+For more information, try '--help'.
+",
+    ),
+    (
+        "fmt a b",
+        "3error: several FILEs need '--write' or '--check'
+
+Usage: yamlfmt fmt [OPTIONS] [FILE]...
 
 For more information, try '--help'.
 ",

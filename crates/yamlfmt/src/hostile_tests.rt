@@ -232,7 +232,7 @@ fn held_answer(alloc: Global, verb: Verb, rules: &[Box<dyn Rule>], input: &[u8])
     let mut line = [0; 32];
     let status = run(
         alloc,
-        &command(verb),
+        &command(alloc, verb),
         rules,
         &Style::house(),
         &mut Watched::new(input),

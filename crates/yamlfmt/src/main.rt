@@ -16,6 +16,7 @@ mod command_line;
 mod command_line_tests;
 #[cfg(test)]
 mod crates_below;
+mod each;
 #[cfg(test)]
 mod events_tests;
 #[cfg(test)]
@@ -25,6 +26,8 @@ mod faulty;
 mod files;
 #[cfg(test)]
 mod files_tests;
+#[cfg(test)]
+mod fmt_check_tests;
 #[cfg(test)]
 mod fmt_tests;
 #[cfg(test)]
@@ -36,6 +39,7 @@ mod laws_tests;
 mod limits_tests;
 #[cfg(test)]
 mod memory_tests;
+mod named;
 #[cfg(test)]
 mod owner_tests;
 mod program;

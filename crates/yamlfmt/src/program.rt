@@ -2,7 +2,7 @@
 ghost use Rattle.std.specs.Prelude.{◌≡◌, MatchResult};
 ghost use Rattle.yf_lines.specs.Output.{Writes};
 ghost use Rattle.yf_rules.specs.Check.{Checked, RuleFindings};
-ghost use Rattle.yamlfmt.specs.Program.{Answered, FileRefused, FileSets, Ran, WrittenOut};
+ghost use Rattle.yamlfmt.specs.Program.{Answered, FileRefused, FileSets, Ran, RanFormatter, WrittenOut};
 ghost use Rattle.std.specs.Io.KnownBytes.{Keeps};
 
 use crate::command_line::{Cmd, Usage, Verb};
@@ -14,6 +14,7 @@ use yf_emit::style::Style;
 use yf_lines::fault::Fault;
 use yf_lines::output::write_text;
 use yf_lines::watched::{Sink, Source};
+use yf_rules::compare::run_fmt_check;
 use yf_rules::input::read_all;
 use yf_rules::rule::Rule;
 use yf_rules::run::{INPUT_LIMIT, run_check, run_events, run_fmt};
@@ -21,15 +22,15 @@ use yf_rules::run::{INPUT_LIMIT, run_check, run_events, run_fmt};
 /// The status of a run that ended well.
 pub const GOOD: u8 = 0;
 
-/// The status of a check that found something.
+/// The status of a check that found something, and of a text that is not in the house style.
 const FINDINGS: u8 = 1;
 
 /// The status for words on the command line that are refused.
 const USAGE: u8 = 3;
 
 /// Does the command, and answers the status: that of the run, or of the fault whose line was written to the stream of
-/// faults. Of the command only its verb counts: reader and writer are those of its files, and what is to be written over
-/// its file is not done here.
+/// faults. Of the command only its verb and its flags count: reader and writer are those of its files, and what is to be
+/// written over its file is not done here.
 pub fn run<R: Source, W: Sink, E: Sink>(
     alloc: Global,
     command: &Cmd,
@@ -41,7 +42,7 @@ pub fn run<R: Source, W: Sink, E: Sink>(
 ) -> u8
     ensures { Ran (λ src reading findings. Checked
         (λ rule found. RuleFindings (definition rule) src reading style.now found) rules.now findings)
-        style.now command.now.verb result (R.remaining reader.old) (R.has_failed reader.old) (R.has_failed reader.new)
+        style.now command.now result (R.remaining reader.old) (R.has_failed reader.old) (R.has_failed reader.new)
         (W.contents writer.old) (W.contents writer.new) (W.has_failed writer.old) (W.has_failed writer.new)
         (E.contents error_stream.old) (E.contents error_stream.new) (E.has_failed error_stream.old) (E.has_failed error_stream.new) }
 {
@@ -55,21 +56,44 @@ pub fn run<R: Source, W: Sink, E: Sink>(
             Ok(true) => FINDINGS,
             Err(fault) => report(&fault, error_stream),
         },
-        Verb::Fmt => match run_fmt(alloc, reader, writer, style) {
-            Ok(()) => GOOD,
-            Err(fault) => report(&fault, error_stream),
-        },
+        Verb::Fmt => run_formatter(alloc, command, style, reader, writer, error_stream),
     }
 }
 
-/// Writes out what the writer holds back of a run that has ended well, and answers the status: that of the run, or of a
+// Formats, or tells whether that is needed, and answers the status.
+fn run_formatter<R: Source, W: Sink, E: Sink>(
+    alloc: Global,
+    command: &Cmd,
+    style: &Style,
+    reader: &mut R,
+    writer: &mut W,
+    error_stream: &mut E,
+) -> u8
+    ensures { RanFormatter command.now.check style.now result (R.remaining reader.old) (R.has_failed reader.old) (R.has_failed reader.new)
+        (W.contents writer.old) (W.contents writer.new) (W.has_failed writer.old) (W.has_failed writer.new)
+        (E.contents error_stream.old) (E.contents error_stream.new) (E.has_failed error_stream.old) (E.has_failed error_stream.new) }
+{
+    if command.check {
+        return match run_fmt_check(alloc, reader, writer, style) {
+            Ok(true) => GOOD,
+            Ok(false) => FINDINGS,
+            Err(fault) => report(&fault, error_stream),
+        };
+    }
+    match run_fmt(alloc, reader, writer, style) {
+        Ok(()) => GOOD,
+        Err(fault) => report(&fault, error_stream),
+    }
+}
+
+/// Writes out what the writer holds back, unless it has failed, which was told, and answers the status: that of the run, or of a
 /// write that fails, whose line was written to the stream of faults.
 pub fn written_out<W: Sink, E: Sink>(status: u8, writer: &mut W, error_stream: &mut E) -> u8
     ensures kept { Keeps (W.contents writer.old) (W.contents writer.new) }
     ensures told { WrittenOut status result (W.has_failed writer.old) (W.has_failed writer.new)
         (E.contents error_stream.old) (E.contents error_stream.new) (E.has_failed error_stream.old) (E.has_failed error_stream.new) }
 {
-    if status > FINDINGS {
+    if writer.failed() {
         return status;
     }
     match writer.flush_watched() {

@@ -1,4 +1,3 @@
-use Rattle.std.proofs.Common.{◌≡◌, codes}
 use Rattle.yamlfmt.specs.CommandLine.{yamlfmt}
 use Rattle.yamlfmt.proofs.command_line.yamlfmt_command.Goals as goal
 
@@ -6,4 +5,4 @@ pub returns : goal.returns
 unfolding yamlfmt
 returns c =
     c.with_part.ensures _ _ (c.with_part-with_check.ensures _ _ (c.with_part-with_events.ensures _ _ c.bare_command.ensures c.reading_command-events.ensures)
-    c.reading_command-check.ensures) c.fmt_command.ensures
+    c.check_command.ensures) c.fmt_command.ensures
