@@ -73,7 +73,8 @@ def command(program, name, about):
     if name == 'help':
         return Command(name, about, [], [])
     _, found = parts(said(program, name, '--help'))
-    arguments = [(row[1], row[2]) for row in rows(r' +\[(\w+)\]  +(.+)', found.get('Arguments', []))]
+    arguments = [(row[1] + (' ...' if row[2] else ''), row[3])
+                 for row in rows(r' +\[(\w+)\](\.\.\.)?  +(.+)', found.get('Arguments', []))]
     return Command(name, about, options(found.get('Options', [])), arguments)
 
 
@@ -201,7 +202,8 @@ def zsh(program):
             cases.append('                %s) _describe -t commands command commands ;;' % one.name)
             continue
         words = [zsh_option(option) for option in one.options]
-        words += ["'%d:%s:_files'" % (place + 1, name) for place, (name, _) in enumerate(one.arguments)]
+        words += ["'%s:%s:_files'" % ('*' if name.endswith(' ...') else place + 1, name.removesuffix(' ...'))
+                  for place, (name, _) in enumerate(one.arguments)]
         cases.append('                %s)\n                    _arguments \\\n                        %s\n                    ;;'
                      % (one.name, ' \\\n                        '.join(words)))
     return '''\

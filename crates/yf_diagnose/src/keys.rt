@@ -6,7 +6,7 @@ use crate::brackets::brackets_end;
 use crate::diagnosis::{Diagnosis, Mistake, behind, here, refused};
 use crate::leaves::is_second;
 use crate::lines::{Margin, line_ends};
-use crate::look::whites_before;
+use crate::look::{indicator_stands, line_start, whites_before};
 use crate::plain::plain_end;
 use crate::property::{name_end, property_end, property_stands};
 use crate::quoted::quoted_end;
@@ -31,6 +31,30 @@ pub(crate) fn without_colon(text: &str, start: usize, stop: usize) -> Diagnosis
                 return here(stop, Why::KeyWithoutColon);
             }
             key_diagnosis(text, at)
+        }
+    }
+}
+
+/// A `:` behind a text of several lines, which may be meant as a key of its first line alone.
+pub(crate) fn joined(text: &str, at: usize) -> Diagnosis
+    requires { IsCharBoundary text.now at }
+    ensures { IsDiagnosed text.now at result }
+{
+    let start = line_start(text, at);
+    match key_line(text, start) {
+        None => here(at, Why::LineJoined),
+        Some(line) => {
+            if line == start {
+                return here(at, Why::LineJoined);
+            }
+            let first = skip_whites(text, skip_marks(text, line));
+            if indicator_stands(text, first) {
+                return here(at, Why::LineJoined);
+            }
+            if first > at {
+                return here(at, Why::LineJoined);
+            }
+            key_diagnosis(text, first)
         }
     }
 }

@@ -5,7 +5,7 @@ ghost use Rattle.yf_diagnose.specs.Told.{IsDiagnosis, IsDiagnosed, Passed};
 
 use crate::diagnosis::{Diagnosis, Mistake, behind, here, told};
 use crate::guess::guessed;
-use crate::keys::{comment_stands, content_end, key_diagnosis, without_colon};
+use crate::keys::{comment_stands, content_end, joined, key_diagnosis, without_colon};
 use crate::leaves::quote_stands;
 use crate::lines::{Margin, comment_end, line_ends, sign_why};
 use crate::look::{
@@ -137,7 +137,7 @@ fn at_sign(text: &str, start: usize, at: usize) -> Diagnosis
         return tab;
     }
     let diagnosis = standing_diagnosis(text, at, standing);
-    if diagnosis.at > at {
+    if diagnosis.at != at {
         return diagnosis;
     }
     match tab_before(text, start, at) {
@@ -206,6 +206,7 @@ fn standing_diagnosis(text: &str, at: usize, standing: Standing) -> Diagnosis
     ensures { IsDiagnosed text.now at result }
 {
     match standing {
+        Standing::Beyond(Why::LineJoined) => joined(text, at),
         Standing::Beyond(why) => here(at, beyond_why(text, at, why)),
         Standing::Node(least) => told(
             text,

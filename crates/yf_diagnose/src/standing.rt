@@ -332,6 +332,9 @@ pub(crate) fn key_line(text: &str, start: usize) -> Option<usize>
             }
             Entry::Nothing => {}
         }
+        if has_colon(text, line, text.len()) {
+            return None;
+        }
         key = line;
         column = indent;
     }

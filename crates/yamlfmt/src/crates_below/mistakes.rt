@@ -9,7 +9,7 @@ use yf_lines::place::Place;
 use yf_stream::stream::read_stream;
 
 /// Texts that are no streams, the line and column that is told, and why.
-static MISTAKES: [(&str, (usize, usize), Why); 160] = [
+static MISTAKES: [(&str, (usize, usize), Why); 163] = [
     (
         "{\"name\": \"x\",\n \"deps\": [\"a\" \"b\"],\n \"v\": 1}\n",
         (2, 15),
@@ -206,6 +206,9 @@ static MISTAKES: [(&str, (usize, usize), Why); 160] = [
     ("a: é\nb: [é, é}\n", (2, 9), Why::WrongBracket),
     ("a: 1\n&x &y b: 2\n", (2, 4), Why::PropertyTwice),
     ("a: 1\n&x\nb: 2\n", (2, 3), Why::KeyWithoutColon),
+    ("a: 1\nkey\n  b: c\nd: 1\n", (2, 4), Why::KeyWithoutColon),
+    ("- x: 1\n  key\n    b: c\n", (2, 6), Why::KeyWithoutColon),
+    ("x: 1\ny:\n  - p\n    q: 2\n", (4, 6), Why::LineJoined),
 ];
 
 #[test]
