@@ -176,7 +176,7 @@ def full_folder(room, clone, recipes):
     checked = each_file(clone, room, 'check', 'a.yaml', preexec_fn=without_room)
     shown = each_file(clone, room, 'fmt', '--diff', 'a.yaml', preexec_fn=without_room)
     told = checked.returncode == 1 and 'a.yaml:2:8 comment-space (fixable)\n' in checked.stdout
-    return told and shown.returncode == 3 and 'a.yaml: no room' in shown.stdout
+    return told and shown.returncode == 1 and '+++ a.yaml (formatted)\n' in shown.stdout and '+a: "x"  # c\n' in shown.stdout
 
 
 def names_of_bytes(room, clone, recipes):

@@ -1,7 +1,8 @@
 #!/usr/bin/env python3
 """Tries each recipe of docs/RECIPES.md as it stands there, each in a scratch folder, where its tool is installed; then what
 went wrong with the hooks once (bench/faults.py); and the examples of README.md and docs/STYLE.md; and whether `--version` tells
-the newest version of CHANGELOG.md, and the logic of README.md, of docs/PROVED.md and of `rt version`. Says `tried`, `FAILED`, `no TOOL`
+the newest version of CHANGELOG.md, and the logic of README.md, of docs/PROVED.md and of `rt version`; and whether `patch`, given what
+`fmt --diff` prints of a hundred texts, makes their formatting of them. Says `tried`, `FAILED`, `no TOOL`
 or `not tried` of each, and ends with 1 where one failed.
 
 Of VS Code, JetBrains, GitHub and GitLab the commands and patterns are tried (the matchers by bench/lines.py, the workflows by
@@ -16,6 +17,7 @@ on standard error.
 Not part of rt ci.
 """
 import os
+import random
 import re
 import shutil
 import subprocess
@@ -170,6 +172,37 @@ def version(program):
     return all(line.fullmatch(sh([program, word], TOP).stdout) for line in wanted for word in ('--version', '-V'))
 
 
+LINES = ('k%d:  v', 'k%d: v', "k%d: 'v'", 'k%d: v  # %d', 'k%d: [1,2]', 'k%d: "v" # c', 'k%d:\n    a: \u00e4\n    b: 2', 'k%d:\n- a\n- b', '# %d', '')
+
+
+def texts():
+    """A hundred texts with line breaks of each kind and none at the end, some of them in the house style."""
+    for seed in range(100):
+        dice = random.Random(seed)
+        few = dice.sample(LINES, dice.randint(1, len(LINES)))
+        lines = [line.replace('%d', str(at)) for at in range(dice.randint(1, 40)) for line in (dice.choice(few),)]
+        text = '---\n' * dice.randrange(2) + '\n'.join(lines) + '\n' * dice.randrange(2)
+        yield text.replace('\n', '\r\n' if seed % 3 == 1 else '\n')
+
+
+def patched(program):
+    """Whether `patch` makes of each text its formatting, by what `fmt --diff` prints, and nothing is printed where they are the same."""
+    if not shutil.which('patch'):
+        print('no patch')
+        return True
+    with tempfile.TemporaryDirectory() as room:
+        for text in texts():
+            write(room + '/a b.yaml', text)
+            wanted = sh([program, 'fmt', 'a b.yaml'], room).stdout
+            shown = sh([program, 'fmt', '--diff', 'a b.yaml'], room, text=False)
+            if shown.stdout:
+                sh(['patch', '-s', 'a b.yaml'], room, text=False, input=shown.stdout)
+            if read(room + '/a b.yaml') != wanted or shown.returncode != (text != wanted) or bool(shown.stdout) != (text != wanted):
+                print('  %r' % text)
+                return False
+    return True
+
+
 def is_in_style(text, program):
     """Whether a recipe that is YAML is in the house style, so that it passes the check that it sets up."""
     if not text.startswith('---'):
@@ -224,7 +257,7 @@ def main():
     good = all([*style_rows(program)])
     print('docs/STYLE.md: %s' % ('tried' if good else 'FAILED'))
     failed += not good
-    for page, tried in (('README.md', readme), ('CHANGELOG.md', version)):
+    for page, tried in (('README.md', readme), ('CHANGELOG.md', version), ('fmt --diff', patched)):
         good = tried(program)
         print('%s: %s' % (page, 'tried' if good else 'FAILED'))
         failed += not good

@@ -153,8 +153,8 @@ def main():
     with tempfile.TemporaryDirectory() as folder:
         runs = Runs(program, folder)
         for stream in STREAMS:
-            for verb in ('events', 'check', 'fmt'):
-                runs.in_turn([verb], stream.encode())
+            for words in (['events'], ['check'], ['fmt'], ['fmt', '--diff']):
+                runs.in_turn(words, stream.encode())
         for line in ('indent = 9\n', 'indent = 4\n', 'tabs = 1\n'):
             write(os.path.join(folder, 's.toml'), line.encode())
             runs.in_turn(['fmt', '--config', 's.toml'], b'- a\n')
