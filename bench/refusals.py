@@ -160,7 +160,7 @@ def main():
             runs.in_turn(['fmt', '--config', 's.toml'], b'- a\n')
         write(os.path.join(folder, 'a.yaml'), b'- a\n')
         runs.in_turn(['check', 'a.yaml'], b'')
-        for words in (['check', 'a', 'b'], ['fmt', '--write'], ['--help'], ['fmt', '--help']):
+        for words in (['events', 'a', 'b'], ['fmt', '--write'], ['--help'], ['fmt', '--help']):
             runs.in_turn(words, b'')
         rewrites(runs)
         devices(runs)
