@@ -1,6 +1,9 @@
-//! What the program was built from: the commit, and the logic that its proofs were checked in.
+//! What the program was built from: the version, the commit, and the logic that its proofs were checked in.
 
 use std::alloc::{AllocError, Global};
+
+/// The version: that of the newest part of CHANGELOG.md.
+pub const VERSION: &str = "0.2.0";
 
 /// The commit. `git archive` writes its hash in place of these words (.gitattributes); in a checkout they stand as they are.
 pub const COMMIT: &str = "$Format:%H$";

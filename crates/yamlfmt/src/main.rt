@@ -14,6 +14,7 @@ mod check_tests;
 mod command_line;
 #[cfg(test)]
 mod command_line_tests;
+mod commands;
 #[cfg(test)]
 mod crates_below;
 mod each;

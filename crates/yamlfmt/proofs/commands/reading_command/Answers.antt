@@ -1,4 +1,4 @@
-use Rattle.yamlfmt.proofs.command_line.reading_command.Goals as goal
+use Rattle.yamlfmt.proofs.commands.reading_command.Goals as goal
 
 pub returns : goal.returns
 returns c = c.with_arg.ensures _ _ c.configured.ensures c.file_word.ensures

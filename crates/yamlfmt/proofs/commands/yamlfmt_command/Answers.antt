@@ -1,5 +1,5 @@
 use Rattle.yamlfmt.specs.CommandLine.{yamlfmt}
-use Rattle.yamlfmt.proofs.command_line.yamlfmt_command.Goals as goal
+use Rattle.yamlfmt.proofs.commands.yamlfmt_command.Goals as goal
 
 pub returns : goal.returns
 unfolding yamlfmt

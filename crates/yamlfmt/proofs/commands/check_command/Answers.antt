@@ -1,4 +1,4 @@
-use Rattle.yamlfmt.proofs.command_line.check_command.Goals as goal
+use Rattle.yamlfmt.proofs.commands.check_command.Goals as goal
 
 pub returns : goal.returns
 returns c = c.with_arg.ensures _ _ c.configured-command.ensures c.file_words.ensures

@@ -1,4 +1,4 @@
-use Rattle.yamlfmt.proofs.command_line.fmt_command.Goals as goal
+use Rattle.yamlfmt.proofs.commands.fmt_command.Goals as goal
 
 pub returns : goal.returns
 returns c =
