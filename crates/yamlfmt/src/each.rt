@@ -106,18 +106,21 @@ fn do_named<I: Inputs, S: Links, W: Sink, E: Sink>(
         status,
         output.get_ref().as_slice(),
         faults.get_ref().as_slice(),
+        faults.failed(),
         writer,
         error_stream,
     )
 }
 
-// Tells what a command gave for one file among several, and answers its status; or that this can't be told.
+// Tells what a command gave for one file among several, and answers its status; or that this can't be told, as where a line for
+// the stream of faults was lost for want of memory.
 fn tell_named<W: Sink, E: Sink>(
     alloc: Global,
     name: &str,
     status: u8,
     output: &[u8],
     faults: &[u8],
+    is_lost: bool,
     writer: &mut W,
     error_stream: &mut E,
 ) -> u8
@@ -125,6 +128,9 @@ fn tell_named<W: Sink, E: Sink>(
         (W.contents writer.old) (W.contents writer.new) (W.has_failed writer.old) (W.has_failed writer.new)
         (E.contents error_stream.old) (E.contents error_stream.new) (E.has_failed error_stream.old) (E.has_failed error_stream.new) }
 {
+    if is_lost {
+        return report(&Fault::Memory, error_stream);
+    }
     match named_lines(alloc, name, output) {
         Ok(output) => match named_lines(alloc, name, faults) {
             Ok(faults) => tell(
