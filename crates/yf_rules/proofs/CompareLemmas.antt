@@ -16,8 +16,9 @@ use Rattle.yf_emit.specs.declared.style.Style.{Style}
 use Rattle.yf_rules.specs.declared.run.TheConstants.{INPUT_LIMIT}
 use Rattle.yf_rules.specs.Compare.{Compared, DifferAt, Difference, DifferenceIn, DiffersFirst, IsClean, SameUpTo}
 use Rattle.yf_rules.specs.Compare.DiffersFirst.{differs_first}
+use Rattle.yf_rules.specs.Headline.{IsMended}
 use Rattle.yf_rules.specs.Run.{Gave, Rendered}
-use Rattle.yf_rules.proofs.HeadlineHolds.{formatted_texts_are_clean, headline_holds}
+use Rattle.yf_rules.proofs.HeadlineHolds.{headline_holds}
 
 -- texts that both end where they are the same so far are the same
 both_end : (t u : List ℕ) (at : ℕ) → SameUpTo t u at → at ≡ length t → at ≡ length u → t ≡ u
@@ -53,24 +54,31 @@ module _ {t u : List ℕ} {style : Style} (kept : FormatKept t style u) where
   exactly None same = own_formatting same
   exactly (Some place) differs = other_formatting (are_apart differs)
 
+-- where a text is its formatting, nothing in it is at fault that the house style fixes
+mended_where : (t u : List ℕ) (style : Style) (place : Option Place) → MatchOption place (t ≡ u) (DiffersFirst t u) → IsMended u style
+    → MatchOption place (IsMended t style) (λ _. Unit {0})
+mended_where t u style None same m = subst (λ v. IsMended v style) (sym same) m
+mended_where t u style (Some place) differs m = tt
+
 -- what is found of a text that was read
 pub difference_holds : {E : Type 0} (style : Style) (known : Option (List ℕ)) (t : List ℕ) → Gave known t → length t ≤ INPUT_LIMIT → IsUtf8 t
     → (given : Result (Option Place) E) → IfOk given (DifferenceIn t style) → IfOk given (Difference style known)
-difference_holds style known t gave within utf8 (Ok place) d = record {
-  formatted = d.formatted;
-  rendered = record { text = t; gave = gave; headline = headline_holds within utf8 d.kept d.within };
-  first = d.first;
-  exact = exactly d.kept place d.first;
-}
+difference_holds style known t gave within utf8 (Ok place) d =
+    let headline = headline_holds within utf8 d.kept d.within in
+    record {
+      formatted = d.formatted;
+      rendered = record { text = t; gave = gave; headline = headline };
+      first = d.first;
+      exact = exactly d.kept place d.first;
+      mended = mended_where t d.formatted style place d.first headline.mended;
+    }
 difference_holds style known t gave within utf8 (Err e) d = tt
 
 -- what formatting gives has nothing that the house style fixes
 pub own_is_clean : {style : Style} {known : Option (List ℕ)} {formatted : List ℕ} (rendered : Rendered style known formatted) → rendered.text ≡ formatted
     → IfSome known (IsClean style)
 own_is_clean {style} {known = None} rendered same = tt
-own_is_clean {style} {known = Some text} rendered same =
-    let formatted_is = sym same ∙ rendered.gave in
-    λ findings found. formatted_texts_are_clean style (Some text) text findings (subst (λ v. Rendered style (Some text) v) formatted_is rendered) found
+own_is_clean {style} {known = Some text} rendered same = subst (λ v. IsMended v style) (sym same ∙ rendered.gave) rendered.headline.mended
 
 pub same_is_clean : {style : Style} {known : Option (List ℕ)} → Difference style known None → IfSome known (IsClean style)
 same_is_clean d = own_is_clean d.rendered d.first

@@ -7,6 +7,7 @@ use Rattle.yf_lines.specs.Output.{Wrote}
 use Rattle.yf_rules.specs.declared.run.TheConstants.{INPUT_LIMIT}
 use Rattle.yf_rules.specs.Compare.{IsClean}
 use Rattle.yf_rules.specs.Diffed.{DiffIn, DiffOf, Diffed, is_same}
+use Rattle.yf_rules.specs.Headline.{IsMended}
 use Rattle.yf_rules.specs.Run.{Gave}
 use Rattle.yf_rules.proofs.CompareLemmas.{other_formatting, own_formatting, own_is_clean, wrote_nothing}
 use Rattle.yf_rules.proofs.HeadlineHolds.{headline_holds}
@@ -14,14 +15,17 @@ use Rattle.yf_rules.proofs.HeadlineHolds.{headline_holds}
 -- what is told of a text that was read
 pub diff_holds : {B E : Type 0} (style : Style) (name : List ℕ) (known : Option (List ℕ)) (t : List ℕ) → Gave known t → length t ≤ INPUT_LIMIT → IsUtf8 t
     → (bytes : B → List ℕ) (given : Result B E) → IfOk given (λ diff. DiffIn t style name (bytes diff)) → IfOk given (λ diff. DiffOf style name known (bytes diff))
-diff_holds style name known t gave within utf8 bytes (Ok diff) d = record {
-  formatted = d.formatted;
-  rendered = record { text = t; gave = gave; headline = headline_holds within utf8 d.kept d.within };
-  written = d.written;
-  told = d.told;
-  own = λ none. own_formatting d.kept (d.told none);
-  other = λ some. other_formatting d.kept (λ same. some (d.same same));
-}
+diff_holds style name known t gave within utf8 bytes (Ok diff) d =
+    let headline = headline_holds within utf8 d.kept d.within in
+    record {
+      formatted = d.formatted;
+      rendered = record { text = t; gave = gave; headline = headline };
+      written = d.written;
+      told = d.told;
+      own = λ none. own_formatting d.kept (d.told none);
+      other = λ some. other_formatting d.kept (λ same. some (d.same same));
+      mended = λ none. subst (λ v. IsMended v style) (sym (d.told none)) headline.mended;
+    }
 diff_holds style name known t gave within utf8 bytes (Err e) d = tt
 
 -- where nothing differs, there is nothing that the house style fixes

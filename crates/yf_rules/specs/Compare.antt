@@ -12,10 +12,8 @@ use Rattle.yf_emit.specs.Format.{Formats}
 use Rattle.yf_emit.specs.FormatKept.{FormatKept}
 use Rattle.yf_emit.specs.declared.style.Style.{Style}
 use Rattle.yf_stream.specs.declared.stream.TheConstants.{LONGEST}
-use Rattle.yf_rules.specs.declared.finding.Finding.{Finding}
-use Rattle.yf_rules.specs.AllRules.{FoundByAll}
-use Rattle.yf_rules.specs.Mended.{NoneFixable}
-use Rattle.yf_rules.specs.Run.{Found, RefusedRun, Rendered}
+use Rattle.yf_rules.specs.Headline.{IsMended}
+use Rattle.yf_rules.specs.Run.{RefusedRun, Rendered}
 
 -- the texts are the same before the offset, at which no character of either is cut
 pub record SameUpTo (t u : List ℕ) (at : ℕ) : Type 0 where
@@ -32,12 +30,14 @@ pub record DifferAt (t u : List ℕ) (at : ℕ) : Type 0 where
 pub data DiffersFirst (t u : List ℕ) (place : Place) : Type 0 where
   differs_first : {at : ℕ} → DifferAt t u at → IsPlaceOf t at place → DiffersFirst t u place
 
--- a text was read, and the place is where it first differs from its formatting; there is none where it is its own formatting, and only there
+-- a text was read, and the place is where it first differs from its formatting; there is none where it is its own formatting, and only there.
+-- Then nothing in it is at fault that the house style fixes
 pub record Difference (style : Style) (known : Option (List ℕ)) (place : Option Place) : Type 0 where
   pub formatted : List ℕ
   pub rendered : Rendered style known formatted
   pub first : MatchOption place (rendered.text ≡ formatted) (DiffersFirst rendered.text formatted)
   pub exact : MatchOption place (FormatKept rendered.text style rendered.text) (λ _. Formats rendered.text style rendered.text → ⊥)
+  pub mended : MatchOption place (IsMended rendered.text style) (λ _. Unit {0})
 
 -- the same of a text, before it is known where it comes from
 pub record DifferenceIn (t : List ℕ) (style : Style) (place : Option Place) : Type 0 where
@@ -61,9 +61,9 @@ pub record Compared (style : Style) (known old new : Option (List ℕ)) (before 
   pub wrote : Wrote old new before after (difference_text place)
   pub answer : same ≡ is_none place
 
--- a check of the text with the same settings finds nothing that the house style fixes
+-- nothing in the text is at fault that the house style fixes
 abbrev pub IsClean : Style → List ℕ → Type 0
-IsClean style text = (findings : List Finding) → Found (FoundByAll style) style (Some text) findings → NoneFixable findings
+IsClean style text = IsMended text style
 
 -- a text was read that is not its own formatting, but the writer failed, and a prefix of the line was written
 pub record BrokeOffDifference (style : Style) (known old new : Option (List ℕ)) (after : Bool) : Type 0 where

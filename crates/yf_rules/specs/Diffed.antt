@@ -7,6 +7,7 @@ use Rattle.yf_emit.specs.Format.{Formats}
 use Rattle.yf_emit.specs.FormatKept.{FormatKept}
 use Rattle.yf_emit.specs.declared.style.Style.{Style}
 use Rattle.yf_stream.specs.declared.stream.TheConstants.{LONGEST}
+use Rattle.yf_rules.specs.Headline.{IsMended}
 use Rattle.yf_rules.specs.Run.{RefusedRun, Rendered}
 
 -- that is the diff of a text and its formatting, both under the name; it is empty where they are the same, and only there
@@ -18,7 +19,8 @@ pub record DiffIn (t : List ℕ) (style : Style) (name diff : List ℕ) : Type 0
   pub told : diff ≡ [] → t ≡ formatted
   pub same : t ≡ formatted → diff ≡ []
 
--- The same of a text that was read. The diff is empty where the text is its own formatting, and only there.
+-- The same of a text that was read. The diff is empty where the text is its own formatting, and only there; then nothing in it is at fault that the
+-- house style fixes.
 pub record DiffOf (style : Style) (name : List ℕ) (known : Option (List ℕ)) (diff : List ℕ) : Type 0 where
   pub formatted : List ℕ
   pub rendered : Rendered style known formatted
@@ -26,6 +28,7 @@ pub record DiffOf (style : Style) (name : List ℕ) (known : Option (List ℕ)) 
   pub told : diff ≡ [] → rendered.text ≡ formatted
   pub own : diff ≡ [] → FormatKept rendered.text style rendered.text
   pub other : diff ≢ [] → Formats rendered.text style rendered.text → ⊥
+  pub mended : diff ≡ [] → IsMended rendered.text style
 
 -- whether nothing differs
 abbrev pub is_same : List ℕ → Bool
