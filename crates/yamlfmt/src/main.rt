@@ -3,67 +3,9 @@
 
 ghost use Rattle.std.specs.Prelude.{[], None};
 
-mod answer;
-#[cfg(test)]
-mod answer_tests;
-#[cfg(test)]
-mod answers;
-mod build;
-#[cfg(test)]
-mod check_tests;
-mod command_line;
-#[cfg(test)]
-mod command_line_tests;
-mod commands;
-#[cfg(test)]
-mod crates_below;
-mod each;
-#[cfg(test)]
-mod events_tests;
-#[cfg(test)]
-mod failing_files;
-#[cfg(test)]
-mod faulty;
-mod files;
-#[cfg(test)]
-mod files_tests;
-#[cfg(test)]
-mod fmt_check_tests;
-#[cfg(test)]
-mod fmt_tests;
-#[cfg(test)]
-mod hostile_tests;
-mod inputs;
-#[cfg(test)]
-mod laws_tests;
-#[cfg(test)]
-mod limits_tests;
-#[cfg(test)]
-mod memory_tests;
-mod named;
-#[cfg(test)]
-mod owner_tests;
-mod program;
-#[cfg(test)]
-mod program_tests;
-mod replacing;
-#[cfg(test)]
-mod replacing_tests;
-mod report;
-mod settings;
-#[cfg(test)]
-mod settings_tests;
-mod shown;
-#[cfg(test)]
-mod shown_tests;
 #[cfg(test)]
 mod tests;
 
-use answer::answer;
-use files::open;
-use inputs::Inputs;
-use replacing::SystemFiles;
-use report::report;
 use std::alloc::AllocError;
 use std::fs::File;
 use std::io::{BufWriter, Input};
@@ -71,6 +13,11 @@ use std::process::ExitCode;
 use std::{env, io};
 use yf_lines::fault::Fault;
 use yf_lines::watched::{Sink, Watched};
+use yf_program::answer::answer;
+use yf_program::files::open;
+use yf_program::inputs::Inputs;
+use yf_program::replacing::SystemFiles;
+use yf_program::report::report;
 use yf_rules::rule::Rule;
 use yf_rules::with_rules::{WithRules, with_all_rules};
 

@@ -1,4 +1,0 @@
-use Rattle.yamlfmt.proofs.commands.check_command.Goals as goal
-
-pub returns : goal.returns
-returns c = c.with_arg.ensures _ _ c.configured-command.ensures c.file_words.ensures

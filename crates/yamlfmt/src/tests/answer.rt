@@ -1,0 +1,329 @@
+//! The whole program over inputs in memory: its status, what it writes, and what it opens, in order.
+ghost use Rattle.std.specs.Prelude.{[], None};
+ghost use Rattle.yf_rules.specs.AllRules.{Are, all_rules};
+
+use std::alloc::{AllocError, Global};
+use yf_files::{FileSystem, MemoryFiles};
+use yf_lines::fault::Fault;
+use yf_lines::watched::Watched;
+use yf_program::answer::answer;
+use yf_program::inputs::Inputs;
+use yf_rules::rule::Rule;
+use yf_rules::with_rules::{WithRules, with_all_rules};
+
+/// The files, and what they hold.
+static FILES: [(&str, &[u8]); 5] = [
+    ("good.toml", b"quotes = \"single\"\n"),
+    ("bad.toml", b"indent = 9\na = 1\n"),
+    ("no.toml", b"\xFF"),
+    ("a.yaml", b"---\na: \"x\" # c\n"),
+    ("refused.yaml", b"- a\n- b: *x\n"),
+];
+
+/// Standard input.
+static STANDARD: &[u8] = b"- 'a'\n";
+
+/// Inputs in memory, and the names of those that were opened, a space after each.
+#[derive(Drop)]
+struct Shelf {
+    opened: Vec<u8>,
+}
+
+impl Shelf {
+    /// Notes a name. Memory that is refused for it ends in a name that is missing, which a test tells.
+    fn note(&mut self, name: &str) {
+        let _ = self.opened.extend_from_slice(name.as_bytes());
+        let _ = self.opened.push(b' ');
+    }
+}
+
+impl Inputs for Shelf {
+    type File = Watched<&'static [u8]>;
+
+    type Standard = Watched<&'static [u8]>;
+
+    ghost tells = { ⊥ };
+
+    ghost opened = { λ _. [] };
+
+    ghost holds = { λ _ _. None };
+
+    fn open_file(&mut self, name: &str) -> Result<Watched<&'static [u8]>, Fault> {
+        self.note(name);
+        for (known, bytes) in &FILES {
+            if *known == name {
+                return Ok(Watched::new(*bytes));
+            }
+        }
+        Err(Fault::ReadFailed)
+    }
+
+    fn open_standard(&mut self) -> Watched<&'static [u8]> {
+        self.note("-");
+        Watched::new(STANDARD)
+    }
+}
+
+/// The file that may be rewritten, and what it holds before.
+const FILE: &str = "b.yaml";
+
+const BEFORE: &str = "- 'a'\n";
+
+/// A file system in memory with that file, or nothing where memory was refused.
+fn one_file(alloc: Global) -> Option<MemoryFiles> {
+    let mut files = MemoryFiles::new(alloc, usize::MAX);
+    if files.make(FILE).is_ok() && files.write(BEFORE.as_bytes()).is_ok() {
+        return Some(files);
+    }
+    None
+}
+
+/// Whether the file holds that text in the end.
+fn ends_with(files: &MemoryFiles, text: &str) -> bool {
+    let now = files.at_moment(files.moment());
+    files.found(FILE, now.changes, now.contents) == Some(text.as_bytes())
+}
+
+/// A command line, the status, the two streams' texts, what was opened, and what the file holds then.
+type Row = (
+    &'static str,
+    u8,
+    &'static str,
+    &'static str,
+    &'static str,
+    &'static str,
+);
+
+static ROWS: [Row; 23] = [
+    ("fmt", 0, "---\n- \"a\"\n", "", "- ", BEFORE),
+    (
+        "fmt --config good.toml",
+        0,
+        "---\n- 'a'\n",
+        "",
+        "good.toml - ",
+        BEFORE,
+    ),
+    (
+        "fmt --config good.toml a.yaml",
+        0,
+        "---\na: 'x'  # c\n",
+        "",
+        "good.toml a.yaml ",
+        BEFORE,
+    ),
+    (
+        "check a.yaml",
+        1,
+        "2:8 comment-space (fixable)\n",
+        "",
+        "a.yaml ",
+        BEFORE,
+    ),
+    (
+        "check a.yaml --config good.toml",
+        1,
+        "2:4 quoting (fixable)\n2:8 comment-space (fixable)\n",
+        "",
+        "good.toml a.yaml ",
+        BEFORE,
+    ),
+    (
+        "events refused.yaml",
+        2,
+        "",
+        "2:6 refused: unknown-alias\n",
+        "refused.yaml ",
+        BEFORE,
+    ),
+    (
+        "fmt none.yaml",
+        3,
+        "",
+        "read failed\n",
+        "none.yaml ",
+        BEFORE,
+    ),
+    (
+        "fmt --config none.toml a.yaml",
+        3,
+        "",
+        "read failed\n",
+        "none.toml ",
+        BEFORE,
+    ),
+    (
+        "fmt --config bad.toml a.yaml",
+        3,
+        "",
+        "config: a\n",
+        "bad.toml ",
+        BEFORE,
+    ),
+    (
+        "fmt --config bad.toml none.yaml",
+        3,
+        "",
+        "config: a\n",
+        "bad.toml ",
+        BEFORE,
+    ),
+    (
+        "fmt --config no.toml a.yaml",
+        3,
+        "",
+        "config: \n",
+        "no.toml ",
+        BEFORE,
+    ),
+    (
+        "fmt --write --config bad.toml b.yaml",
+        3,
+        "",
+        "config: a\n",
+        "bad.toml ",
+        BEFORE,
+    ),
+    ("fmt --write b.yaml", 0, "", "", "", "---\n- \"a\"\n"),
+    ("fmt --write none.yaml", 3, "", "read failed\n", "", BEFORE),
+    (
+        "fmt --config good.toml --write b.yaml",
+        0,
+        "",
+        "",
+        "good.toml ",
+        "---\n- 'a'\n",
+    ),
+    ("check b.yaml", 3, "", "read failed\n", "b.yaml ", BEFORE),
+    (
+        "fmt --check a.yaml",
+        1,
+        "2:8 not formatted\n",
+        "",
+        "a.yaml ",
+        BEFORE,
+    ),
+    (
+        "fmt --diff a.yaml",
+        1,
+        "--- a.yaml\n+++ a.yaml\n@@ -1,2 +1,2 @@\n ---\n-a: \"x\" # c\n+a: \"x\"  # c\n",
+        "",
+        "a.yaml ",
+        BEFORE,
+    ),
+    // each of several files is told of by its name, whatever becomes of the others
+    (
+        "check a.yaml refused.yaml none.yaml a.yaml",
+        3,
+        "a.yaml:2:8 comment-space (fixable)\na.yaml:2:8 comment-space (fixable)\n",
+        "refused.yaml:2:6 refused: unknown-alias\nnone.yaml: read failed\n",
+        "a.yaml refused.yaml none.yaml a.yaml ",
+        BEFORE,
+    ),
+    (
+        "fmt --check --config good.toml refused.yaml a.yaml",
+        2,
+        "a.yaml:2:4 not formatted\n",
+        "refused.yaml:2:6 refused: unknown-alias\n",
+        "good.toml refused.yaml a.yaml ",
+        BEFORE,
+    ),
+    (
+        "fmt --write none.yaml b.yaml",
+        3,
+        "",
+        "none.yaml: read failed\n",
+        "",
+        "---\n- \"a\"\n",
+    ),
+    (
+        "fmt a.yaml b.yaml",
+        3,
+        "",
+        "error: several FILEs need '--write' or '--check'\n\nUsage: yamlfmt fmt [OPTIONS] [FILE]...\n\nFor more information, try '--help'.\n",
+        "",
+        BEFORE,
+    ),
+    (
+        "fmt --write",
+        3,
+        "",
+        "error: the argument '--write' needs a FILE\n\nUsage: yamlfmt fmt [OPTIONS] [FILE]...\n\nFor more information, try '--help'.\n",
+        "",
+        BEFORE,
+    ),
+];
+
+/// The words of a command line.
+fn words_of(alloc: Global, line: &str) -> Result<Vec<String>, AllocError> {
+    let mut words = Vec::new(alloc);
+    for word in line.split(' ') {
+        words.push(String::from_str(alloc, word)?)?;
+    }
+    Ok(words)
+}
+
+/// Whether the words are answered as the row says.
+fn is_answered(alloc: Global, words: &[String], rules: &[Box<dyn Rule>], row: &Row) -> bool
+    requires { Are (λ rule. definition rule) rules.now all_rules }
+{
+    let mut shelf = Shelf {
+        opened: Vec::new(alloc),
+    };
+    let Some(mut files) = one_file(alloc) else {
+        return false;
+    };
+    let mut writer = Watched::new(Vec::new(alloc));
+    let mut error_stream = Watched::new(Vec::new(alloc));
+    let status = answer(
+        alloc,
+        words,
+        rules,
+        &mut shelf,
+        &mut files,
+        &mut writer,
+        &mut error_stream,
+    );
+    status == row.1
+        && writer.get_ref().as_slice() == row.2.as_bytes()
+        && error_stream.get_ref().as_slice() == row.3.as_bytes()
+        && shelf.opened.as_slice() == row.4.as_bytes()
+        && ends_with(&files, row.5)
+}
+
+/// Whether the row holds.
+fn holds(alloc: Global, rules: &[Box<dyn Rule>], row: &Row) -> bool
+    requires { Are (λ rule. definition rule) rules.now all_rules }
+{
+    match words_of(alloc, row.0) {
+        Ok(words) => is_answered(alloc, words.as_slice(), rules, row),
+        Err(AllocError) => false,
+    }
+}
+
+/// Answers the command line of a row.
+#[derive(Drop)]
+struct Answers {
+    alloc: Global,
+    row: &'static Row,
+}
+
+impl WithRules for Answers {
+    type Answer = bool;
+
+    fn with_rules(&mut self, rules: &[Box<dyn Rule>]) -> bool {
+        holds(self.alloc, rules, self.row)
+    }
+}
+
+#[test]
+fn answers_command_lines(rt: HostRuntime) {
+    for row in &ROWS {
+        let alloc = rt.alloc();
+        assert!(rt;
+            matches!(with_all_rules(alloc, &mut Answers { alloc, row }), Ok(true)),
+            "{}",
+            row.0
+        );
+    }
+}

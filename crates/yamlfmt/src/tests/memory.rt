@@ -1,0 +1,138 @@
+//! A file in memory that is rewritten, where a call fails, and where the run or the machine stops at each moment.
+
+use std::alloc::Global;
+use yf_emit::style::Style;
+use yf_files::{FileSystem, MemoryFiles, ReplaceError, RewriteError};
+use yf_lines::fault::Fault;
+use yf_program::files::rewrite_in;
+
+const FILE: &str = "folder/a.yaml";
+
+const NEW_NAME: &str = "folder/a.yaml.yamlfmt-new";
+
+const OLD: &str = "- a\n- b\n";
+
+const NEW: &str = "---\n- a\n- b\n";
+
+const OTHER: &str = "what another run has left";
+
+/// Which texts a file may be found to hold.
+#[derive(Clone, Copy)]
+struct Allowed {
+    old: bool,
+    new: bool,
+}
+
+impl Allowed {
+    /// Whether that is one of them.
+    fn has(self, text: Option<&[u8]>) -> bool {
+        match text {
+            Some(text) => {
+                self.old && text == OLD.as_bytes() || self.new && text == NEW.as_bytes()
+            }
+            None => false,
+        }
+    }
+}
+
+/// Whether a stop at which that front of the names is found leaves only what is allowed, whatever front of the contents is
+/// found.
+fn leaves_by(files: &MemoryFiles, moment: usize, changes: usize, allowed: Allowed) -> bool {
+    let there = files.at_moment(moment);
+    for contents in there.stored_contents..=there.contents {
+        if !allowed.has(files.found(FILE, changes, contents)) {
+            return false;
+        }
+    }
+    true
+}
+
+/// Whether a stop at a moment leaves only what is allowed.
+fn leaves(files: &MemoryFiles, moment: usize, allowed: Allowed) -> bool {
+    let there = files.at_moment(moment);
+    for changes in there.stored_changes..=there.changes {
+        if !leaves_by(files, moment, changes, allowed) {
+            return false;
+        }
+    }
+    true
+}
+
+/// Whether a stop at any moment from that one on leaves the old text or the new one, whole.
+fn leaves_either(files: &MemoryFiles, first: usize) -> bool {
+    for moment in first..=files.moment() {
+        if !leaves(
+            files,
+            moment,
+            Allowed {
+                old: true,
+                new: true,
+            },
+        ) {
+            return false;
+        }
+    }
+    true
+}
+
+/// Makes a file that holds a text, which survives a crash.
+fn put(files: &mut MemoryFiles, name: &str, text: &str) -> bool {
+    files.make(name).is_ok()
+        && files.write(text.as_bytes()).is_ok()
+        && files.store().is_ok()
+        && files.store_folder(name).is_ok()
+}
+
+/// Whether nothing is left of a new file, or the answer tells it.
+fn is_told(files: &MemoryFiles, answer: &Result<(), RewriteError<Fault>>) -> bool {
+    let now = files.at_moment(files.moment());
+    match files.found(NEW_NAME, now.changes, now.contents) {
+        None => true,
+        Some(text) if text == OTHER.as_bytes() => true,
+        Some(_) => matches!(answer, Err(RewriteError::Unwritten(ReplaceError::Left))),
+    }
+}
+
+/// What may be found at the end after an answer.
+fn allowed_after(answer: &Result<(), RewriteError<Fault>>) -> Allowed {
+    match answer {
+        Ok(()) => Allowed {
+            old: false,
+            new: true,
+        },
+        Err(RewriteError::Unwritten(ReplaceError::Unsure)) => Allowed {
+            old: true,
+            new: true,
+        },
+        Err(_) => Allowed {
+            old: true,
+            new: false,
+        },
+    }
+}
+
+/// How many calls a run makes where none fails.
+const CALLS: usize = 11;
+
+/// Whether a file is rewritten as is promised where the call of that number fails, over what another run may have left.
+fn is_rewritten(alloc: Global, call: usize, is_left: bool) -> bool {
+    let made = if is_left { 8 } else { 4 };
+    let mut files = MemoryFiles::new(alloc, call.wrapping_add(made));
+    if !put(&mut files, FILE, OLD) || is_left && !put(&mut files, NEW_NAME, OTHER) {
+        return false;
+    }
+    let first = files.moment();
+    let answer = rewrite_in(alloc, &mut files, FILE, &Style::house());
+    leaves_either(&files, first)
+        && leaves(&files, files.moment(), allowed_after(&answer))
+        && is_told(&files, &answer)
+        && answer.is_ok() == (call >= CALLS)
+}
+
+#[test]
+fn stops_leave_the_old_text_or_the_new_one(rt: HostRuntime) {
+    for call in 0..=CALLS {
+        assert!(rt; is_rewritten(rt.alloc(), call, false), "{call}");
+        assert!(rt; is_rewritten(rt.alloc(), call, true), "{call}");
+    }
+}

@@ -1,0 +1,316 @@
+//! Files that get another text, in a folder of their own: what stands at the path of the new file, and each step that fails.
+
+ghost use Rattle.std.specs.Prelude.{⊤};
+
+use crate::tests::failing_files::{FailingFiles, Step};
+use std::alloc::Global;
+use std::fs::File;
+use std::os::unix::fs::symlink;
+use std::rt::Files;
+use std::{fs, io};
+use yf_files::{Formatter, rewrite};
+use yf_program::replacing::{Held, SystemFiles, open_regular};
+
+pub const OLD: &str = "- a\n- b\n";
+
+pub const NEW: &str = "---\n- a\n- b\n";
+
+const OTHER: &str = "another text, which is longer than both\n";
+
+/// A folder, and the paths of a file in it, of the new file and of a file beside it.
+#[derive(Clone, Copy)]
+pub struct Folder {
+    pub name: &'static str,
+    pub path: &'static str,
+    pub new_path: &'static str,
+    pub other: &'static str,
+}
+
+/// Makes the folder, with the old text in the file, and another one in the file beside it.
+pub fn make_folder(rt: &HostRuntime, folder: &Folder) -> io::Result<()> {
+    let _ = fs::remove_dir_all(rt, folder.name);
+    fs::create_dir(rt, folder.name)?;
+    fs::write(rt, folder.path, OLD)?;
+    fs::write(rt, folder.other, OTHER)
+}
+
+/// What another process does to the file once it is read.
+#[derive(Clone, Copy)]
+pub enum Meanwhile {
+    Nothing,
+    /// It writes another text over the file.
+    Writes,
+    /// It puts a new file in its place.
+    Renames,
+}
+
+/// Gives the new text for any, while another process is at work.
+#[derive(Clone, Copy)]
+struct Gives<'a> {
+    rt: &'a HostRuntime,
+    path: &'static str,
+    meanwhile: Meanwhile,
+}
+
+impl Formatter for Gives<'_> {
+    type Refusal = ();
+
+    ghost Formats = { λ _ _ _. ⊤ };
+
+    ghost Refuses = { λ _ _ _. ⊤ };
+
+    fn format(&self, alloc: Global, _bytes: &[u8]) -> Result<String, ()> {
+        if change(self.rt, self.path, self.meanwhile).is_err() {
+            return Err(());
+        }
+        match String::from_str(alloc, NEW) {
+            Ok(text) => Ok(text),
+            Err(_) => Err(()),
+        }
+    }
+}
+
+/// Whether the new text is put in the place of the old one, while another process is at work.
+pub fn is_put<R: Files>(rt: &HostRuntime, files: &R, folder: &Folder, meanwhile: Meanwhile) -> bool
+where
+    R::File: Held,
+{
+    let path = folder.path;
+    let formatter = Gives {
+        rt,
+        path,
+        meanwhile,
+    };
+    rewrite(rt.alloc(), &mut SystemFiles::new(files), &formatter, path).is_ok()
+}
+
+/// Whether a file holds that text.
+fn holds(rt: &HostRuntime, path: &str, text: &str) -> bool {
+    match &fs::read_to_string(rt, path) {
+        Ok(held) => held.as_str() == text,
+        Err(_) => false,
+    }
+}
+
+/// Whether a path is that of a regular file, and not of a link.
+fn is_regular(rt: &HostRuntime, path: &str) -> bool {
+    match &fs::symlink_metadata(rt, path) {
+        Ok(metadata) => metadata.is_file(),
+        Err(_) => false,
+    }
+}
+
+/// Whether the file is a regular one that holds the text, something stands at the path of the new file, and the file beside
+/// it is as it was.
+pub fn stands(rt: &HostRuntime, folder: &Folder, text: &str, has_new: bool) -> bool {
+    let path = folder.path;
+    holds(rt, path, text)
+        && holds(rt, folder.other, OTHER)
+        && is_regular(rt, path)
+        && fs::symlink_metadata(rt, folder.new_path).is_ok() == has_new
+}
+
+/// Whether the folder is removed.
+pub fn is_removed(rt: &HostRuntime, folder: &Folder) -> bool {
+    fs::remove_dir_all(rt, folder.name).is_ok()
+}
+
+/// What stands at the path of the new file.
+#[derive(Clone, Copy)]
+enum Left {
+    Nothing,
+    File,
+    /// A link to that.
+    Link(&'static str),
+    Folder,
+    /// A second name of the file beside it.
+    SecondName,
+}
+
+/// Puts it there.
+fn leave(rt: &HostRuntime, folder: &Folder, left: Left) -> io::Result<()> {
+    let path = folder.new_path;
+    match left {
+        Left::Nothing => Ok(()),
+        Left::File => fs::write(rt, path, OTHER),
+        Left::Link(target) => symlink(rt, target, path),
+        Left::Folder => fs::create_dir(rt, path),
+        Left::SecondName => fs::hard_link(rt, folder.other, path),
+    }
+}
+
+/// A name, what stands at the path of the new file, the step that fails, whether the new text is put, and whether something
+/// stays at the path of the new file.
+type Row = (&'static str, Left, Step, bool, bool);
+
+/// Whether the new text is put in a folder as a row says.
+fn is_put_in(rt: &HostRuntime, folder: &Folder, row: &Row) -> bool {
+    let (_, left, fails, puts, stays) = *row;
+    let text = if puts { NEW } else { OLD };
+    leave(rt, folder, left).is_ok()
+        && is_put(
+            rt,
+            &FailingFiles { host: rt, fails },
+            folder,
+            Meanwhile::Nothing,
+        ) == puts
+        && stands(rt, folder, text, stays)
+        && matches!(fs::exists(rt, "replacing_rows/missing"), Ok(false))
+}
+
+static ROWS_FOLDER: Folder = Folder {
+    name: "replacing_rows",
+    path: "replacing_rows/a.yaml",
+    new_path: "replacing_rows/a.yaml.yamlfmt-new",
+    other: "replacing_rows/other",
+};
+
+/// Whether the new text is put where that stands and that step fails, or not; and whether all is then as it should be: what
+/// stands at the path of the new file is gone, but for some of what stood there where nothing was put.
+fn puts(rt: &HostRuntime, row: &Row) -> bool {
+    make_folder(rt, &ROWS_FOLDER).is_ok()
+        && is_put_in(rt, &ROWS_FOLDER, row)
+        && is_removed(rt, &ROWS_FOLDER)
+}
+
+/// What is put, and what is left.
+static ROWS: [Row; 18] = [
+    // each step fails
+    ("hold", Left::Nothing, Step::Hold, false, false),
+    ("look", Left::Nothing, Step::Look, false, false),
+    ("make", Left::Nothing, Step::Make, false, false),
+    ("write", Left::Nothing, Step::Write, false, false),
+    ("permit", Left::Nothing, Step::Permit, false, false),
+    ("store", Left::Nothing, Step::Store, false, false),
+    ("rename", Left::Nothing, Step::Rename, false, false),
+    // no step fails, or the file system has no locks
+    ("nothing", Left::Nothing, Step::Nothing, true, false),
+    ("locks", Left::Nothing, Step::Locks, true, false),
+    // a file that was left by another run
+    ("file", Left::File, Step::Nothing, true, false),
+    ("file, remove", Left::File, Step::Remove, false, true),
+    ("file, hold", Left::File, Step::Hold, false, true),
+    ("file, locks", Left::File, Step::Locks, false, true),
+    // a link is removed, and not its target
+    ("link", Left::Link("other"), Step::Nothing, true, false),
+    (
+        "link to the file",
+        Left::Link("a.yaml"),
+        Step::Nothing,
+        true,
+        false,
+    ),
+    (
+        "link to nothing",
+        Left::Link("missing"),
+        Step::Nothing,
+        true,
+        false,
+    ),
+    ("folder", Left::Folder, Step::Nothing, false, true),
+    ("second name", Left::SecondName, Step::Nothing, true, false),
+];
+
+#[test]
+fn puts_the_new_text_or_leaves_the_old(rt: HostRuntime) {
+    for row in &ROWS {
+        assert!(rt; puts(&rt, row), "{}", row.0);
+    }
+}
+
+/// Whether the file that another run holds is left.
+fn leaves_a_held_file(rt: &HostRuntime, folder: &Folder) -> bool {
+    match &File::open(rt, folder.path) {
+        Ok(first) => {
+            matches!(first.hold(), Ok(true))
+                && !is_put(rt, rt, folder, Meanwhile::Nothing)
+                && stands(rt, folder, OLD, false)
+        }
+        Err(_) => false,
+    }
+}
+
+static SECOND: Folder = Folder {
+    name: "replacing_second",
+    path: "replacing_second/a.yaml",
+    new_path: "replacing_second/a.yaml.yamlfmt-new",
+    other: "replacing_second/other",
+};
+
+/// Whether a run leaves a file that another one holds, and rewrites it later.
+fn waits_for_another_run(rt: &HostRuntime) -> bool {
+    make_folder(rt, &SECOND).is_ok()
+        && leaves_a_held_file(rt, &SECOND)
+        && is_put(rt, rt, &SECOND, Meanwhile::Nothing)
+        && is_removed(rt, &SECOND)
+}
+
+/// Does that to the file at the path.
+fn change(rt: &HostRuntime, path: &str, meanwhile: Meanwhile) -> io::Result<()> {
+    match meanwhile {
+        Meanwhile::Nothing => Ok(()),
+        Meanwhile::Writes => fs::write(rt, path, OTHER),
+        Meanwhile::Renames => {
+            fs::write(rt, "replacing_changed/b.yaml", OTHER)?;
+            fs::rename(rt, "replacing_changed/b.yaml", path)
+        }
+    }
+}
+
+static CHANGED: Folder = Folder {
+    name: "replacing_changed",
+    path: "replacing_changed/a.yaml",
+    new_path: "replacing_changed/a.yaml.yamlfmt-new",
+    other: "replacing_changed/other",
+};
+
+/// Whether a file is left that was written, or made anew, since it was read.
+fn leaves_a_changed_file(rt: &HostRuntime, meanwhile: Meanwhile) -> bool {
+    make_folder(rt, &CHANGED).is_ok()
+        && !is_put(rt, rt, &CHANGED, meanwhile)
+        && stands(rt, &CHANGED, OTHER, false)
+        && is_removed(rt, &CHANGED)
+}
+
+#[test]
+fn leaves_what_others_hold_or_change(rt: HostRuntime) {
+    assert!(rt; waits_for_another_run(&rt));
+    assert!(rt; leaves_a_changed_file(&rt, Meanwhile::Writes));
+    assert!(rt; leaves_a_changed_file(&rt, Meanwhile::Renames));
+}
+
+/// Whether there is a regular file at the path, or a link to one, that is opened.
+fn is_opened(rt: &HostRuntime, path: &str) -> bool {
+    open_regular(rt, path).is_ok()
+}
+
+/// Paths, and whether what stands there is opened.
+static OPENED: [(&str, bool); 5] = [
+    ("replacing_kinds/a.yaml", true),
+    ("replacing_kinds/link", true),
+    ("replacing_kinds", false),
+    ("replacing_kinds/missing", false),
+    ("/dev/null", false),
+];
+
+static KINDS: Folder = Folder {
+    name: "replacing_kinds",
+    path: "replacing_kinds/a.yaml",
+    new_path: "replacing_kinds/a.yaml.yamlfmt-new",
+    other: "replacing_kinds/other",
+};
+
+/// Makes a folder with a link to its file.
+fn make_link(rt: &HostRuntime) -> io::Result<()> {
+    make_folder(rt, &KINDS)?;
+    symlink(rt, "a.yaml", "replacing_kinds/link")
+}
+
+#[test]
+fn opens_regular_files_alone(rt: HostRuntime) {
+    assert!(rt; make_link(&rt).is_ok());
+    for (path, wanted) in &OPENED {
+        assert!(rt; is_opened(&rt, path) == *wanted, "{path}");
+    }
+    assert!(rt; is_removed(&rt, &KINDS));
+}

@@ -1,0 +1,40 @@
+-- What the formatter of `rewrite` gives of bytes, and why it refuses them, by what `format` says of the text that they are.
+use Rattle.std.proofs.Common.{◌≡◌, ◌≤◌, ℕ, List, length, refl, subst}
+use Rattle.std.proofs.lemmas.Result.{IfErr-weaker, IfOk-weaker}
+use Rattle.std.specs.Prelude.{Result, Some, IfErr, IfOk}
+use Rattle.std.specs.Str.{IsUtf8}
+use Rattle.yf_emit.specs.FormatKept.{FormatKept}
+use Rattle.yf_emit.specs.declared.style.Style.{Style}
+use Rattle.yf_lines.specs.declared.fault.Fault.{Fault}
+use Rattle.yf_lines.specs.declared.fault.Fault.TheVariants.{NotUtf8, Syntax, TooDeep, UnknownHandle, UnknownAlias, RepeatedDirective, BadVersion, EscapeValue, Memory, ReadFailed, WriteFailed, Config}
+use Rattle.yf_rules.proofs.HeadlineHolds.{rendered_holds}
+use Rattle.yf_rules.specs.Headline.{Headline}
+use Rattle.yf_rules.specs.declared.run.TheConstants.{INPUT_LIMIT}
+use Rattle.yf_stream.proofs.FaultsPlaced.{faults_are_placed}
+use Rattle.yf_stream.specs.StreamReader.{StreamFault}
+use Rattle.yf_stream.specs.declared.stream.TheConstants.{LONGEST}
+use Rattle.yf_program.specs.Files.{RefusesBytes}
+
+refuses : (t : List ℕ) → IsUtf8 t → (f : Fault) → StreamFault t f → RefusesBytes t f
+refuses t u (NotUtf8 offset) w = absurd (faults_are_placed t (NotUtf8 offset) w)
+refuses t u (Syntax place what) w = (u, faults_are_placed t (Syntax place what) w, w)
+refuses t u (TooDeep place) w = (u, faults_are_placed t (TooDeep place) w, w)
+refuses t u (UnknownHandle place) w = (u, faults_are_placed t (UnknownHandle place) w, w)
+refuses t u (UnknownAlias place) w = (u, faults_are_placed t (UnknownAlias place) w, w)
+refuses t u (RepeatedDirective place) w = (u, faults_are_placed t (RepeatedDirective place) w, w)
+refuses t u (BadVersion place) w = (u, faults_are_placed t (BadVersion place) w, w)
+refuses t u (EscapeValue place) w = (u, faults_are_placed t (EscapeValue place) w, w)
+refuses t u Memory w = (u, faults_are_placed t Memory w, w)
+refuses t u ReadFailed w = (u, faults_are_placed t ReadFailed w, w)
+refuses t u WriteFailed w = (u, faults_are_placed t WriteFailed w, w)
+refuses t u (Config key) w = (u, faults_are_placed t (Config key) w, w)
+
+module _ (text t : List ℕ) (same : text ≡ t) (u : IsUtf8 t) {B : Type 0} (given : Result B Fault) where
+  pub refuses_bytes : IfErr given (StreamFault text) → IfErr given (RefusesBytes t)
+  refuses_bytes w = IfErr-weaker given (StreamFault text) (RefusesBytes t) (λ f v. refuses t u f (subst (λ (x : List ℕ). StreamFault x f) same v)) w
+
+  pub formats_bytes : (s : Style) (bytes : B → List ℕ) → length t ≤ INPUT_LIMIT → IfOk given (λ f. FormatKept text s (bytes f))
+      → IfOk given (λ f. length (bytes f) ≤ LONGEST) → IfOk given (λ f. Headline t s (bytes f))
+  formats_bytes s bytes within kept fits =
+      IfOk-weaker given _ (λ f. Headline t s (bytes f)) (λ f r. subst (λ (x : List ℕ). Headline x s (bytes f)) r.gave r.headline)
+      (rendered_holds s (Some t) t refl within u bytes given (subst (λ (x : List ℕ). IfOk given (λ f. FormatKept x s (bytes f))) same kept) fits)

@@ -1,0 +1,39 @@
+-- The refusals of a settings text are those of its file; and what a run says that finds nothing to tell.
+use Rattle.std.proofs.Common.{◌≡◌, ◌≤◌, ℕ, List, length, Bool, true, Option, inl, inr, refl, subst, sym}
+use Rattle.std.specs.Prelude.{IfSome}
+use Rattle.std.specs.Str.{IsUtf8}
+use Rattle.yf_lines.specs.declared.fault.Fault.{Fault}
+use Rattle.yf_lines.specs.declared.fault.Fault.TheVariants.{NotUtf8, Syntax, TooDeep, UnknownHandle, UnknownAlias, RepeatedDirective, BadVersion, EscapeValue, Memory, ReadFailed, WriteFailed, Config}
+use Rattle.yf_program.specs.Program.{FileRefused, RanFormatter, diff_name}
+use Rattle.yf_rules.specs.declared.run.TheConstants.{INPUT_LIMIT}
+use Rattle.yf_emit.specs.declared.style.Style.{Style}
+use Rattle.yf_rules.specs.Compare.{IsClean}
+use Rattle.yf_rules.specs.Diffed.{Diffed}
+use Rattle.yf_rules.specs.Run.{Gave}
+use Rattle.yf_program.specs.Settings.{RefusesSettings}
+
+pub text_refused : (known : Option (List ℕ)) (before after : Bool) (text : List ℕ) (f : Fault) → after ≡ before → Gave known text
+    → length text ≤ INPUT_LIMIT → IsUtf8 text → RefusesSettings text f → FileRefused known before after f
+text_refused known before after text (Config key) same gave within utf8 refuses = (same, (text, gave, within, inr (utf8, refuses)))
+text_refused known before after text Memory same gave within utf8 refuses = same
+text_refused known before after text (NotUtf8 offset) same gave within utf8 refuses = absurd refuses
+text_refused known before after text (Syntax place what) same gave within utf8 refuses = absurd refuses
+text_refused known before after text (TooDeep place) same gave within utf8 refuses = absurd refuses
+text_refused known before after text (UnknownHandle place) same gave within utf8 refuses = absurd refuses
+text_refused known before after text (UnknownAlias place) same gave within utf8 refuses = absurd refuses
+text_refused known before after text (RepeatedDirective place) same gave within utf8 refuses = absurd refuses
+text_refused known before after text (BadVersion place) same gave within utf8 refuses = absurd refuses
+text_refused known before after text (EscapeValue place) same gave within utf8 refuses = absurd refuses
+text_refused known before after text ReadFailed same gave within utf8 refuses = absurd refuses
+text_refused known before after text WriteFailed same gave within utf8 refuses = absurd refuses
+
+-- a text that is its own formatting has no diff
+pub no_diff : {diff : Bool} {style : Style} {known old new : Option (List ℕ)} {read_before read_after before after : Bool} (check : Bool) (input at : Option (List ℕ)) (was : Bool)
+    (name : List ℕ) (same : Bool) → diff ≡ true → name ≡ diff_name input → same ≡ true → Diffed style name known old new before after same
+    → (same ≡ true → IfSome known (IsClean style)) → read_after ≡ read_before → RanFormatter diff check input style 0 known read_before read_after old new before after at at was was
+no_diff {style = style} {known = known} {old = old} {new = new} {read_before = read_before} {read_after = read_after} {before = before} {after = after} check input at was
+    name same asked named is_same diffed clean read =
+    let of_same = subst (λ (b : Bool). Diffed style name known old new before after b) is_same diffed in
+    let of_input = subst (λ (t : List ℕ). Diffed style t known old new before after true) named of_same in
+    subst (λ (b : Bool). RanFormatter b check input style 0 known read_before read_after old new before after at at was was) (sym asked)
+    (inl (true, of_input, λ _. clean is_same, read, refl, record { contents = refl; same = refl }))

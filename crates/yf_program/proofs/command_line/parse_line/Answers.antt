@@ -1,0 +1,23 @@
+use Rattle.std.proofs.Common.{◌≡◌, ◌∙◌, ap, List, [], map, subst, string_bytes}
+use Rattle.clap.specs.Words.{App, HasKind, Text, app_of, fault_of, is_simple, is_simple_and_free, kind_of, subcommand_of, subcommand_rows_of}
+use Rattle.yf_program.specs.CommandLine.{yamlfmt}
+use Rattle.yf_program.proofs.CommandLineLemmas.{yamlfmt_is_simple, yamlfmt_is_free, taken, refused}
+use Rattle.yf_program.proofs.command_line.parse_line.Goals as goal
+
+pub returns-in-Ok : goal.returns-in-Ok
+returns-in-Ok c =
+    let words : List Text = map string_bytes c.args.words.now in
+    let is : app_of c.in_ok-command.command ≡ yamlfmt = c.in_ok-command.ensures in
+    let met : subcommand_rows_of c.in-Ok.matches ≡ subcommand_of yamlfmt words =
+    (c.in-Ok.ensures.matches (ap is_simple is ∙ yamlfmt_is_simple)).1 ∙ ap (λ (a : App). subcommand_of a words) is in
+    let none : fault_of yamlfmt words ≡ [] =
+    subst (λ (a : App). fault_of a words ≡ []) is (c.in-Ok.ensures.kinds (ap is_simple_and_free is ∙ yamlfmt_is_free)) in
+    taken _ words c.command_met.result met none c.command_met.ensures
+
+pub returns-in-Err : goal.returns-in-Err
+returns-in-Err c =
+    let words : List Text = map string_bytes c.args.words.now in
+    let is : app_of c.in_ok-command.command ≡ yamlfmt = c.in_ok-command.ensures in
+    let kinds : HasKind (fault_of yamlfmt words) c.in-Err.error =
+    subst (λ (a : App). HasKind (fault_of a words) c.in-Err.error) is (c.in-Err.ensures.kinds (ap is_simple_and_free is ∙ yamlfmt_is_free)) in
+    refused (kind_of c.in-Err.error) words c.usage_of.result kinds c.usage_of.ensures

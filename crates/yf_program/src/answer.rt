@@ -1,0 +1,173 @@
+//! The whole program, over whatever it reads and writes: from the words of the command line to the status.
+ghost use Rattle.std.specs.Prelude.{◌≡◌, ℕ, List, Option, map, string_bytes, MatchResult};
+ghost use Rattle.yf_rules.specs.AllRules.{Are, all_rules};
+ghost use Rattle.yf_program.specs.Answer.{Answers, Does, DoesIn, Follows, Opens, Sets, Unset, settings_of};
+ghost use Rattle.yf_program.specs.Files.{Rewritten};
+
+use crate::command_line::{Cmd, parse_line};
+use crate::each::{do_each, do_file, do_over};
+use crate::files::Links;
+use crate::inputs::Inputs;
+use crate::program::{answer_usage, read_style, written_out};
+use crate::report::report;
+use std::alloc::Global;
+use yf_emit::style::Style;
+use yf_lines::fault::Fault;
+use yf_lines::text::OwnedText;
+use yf_lines::watched::Sink;
+use yf_rules::rule::Rule;
+
+/// Does what the words after the program's name ask for, with all rules of style, and answers the status.
+///
+/// The settings are read first, and the input is opened only where they are taken. Nothing is held back in the writer at the
+/// end.
+pub fn answer<I: Inputs, S: Links, W: Sink, E: Sink>(
+    alloc: Global,
+    words: &[String],
+    rules: &[Box<dyn Rule>],
+    inputs: &mut I,
+    files: &mut S,
+    writer: &mut W,
+    error_stream: &mut E,
+) -> u8
+    requires all { Are (λ rule. definition rule) rules.now all_rules }
+    ensures { Answers I.tells (I.holds inputs.old) (I.opened inputs.old) (I.opened inputs.new)
+        files.old files.new (λ first last name style. Rewritten S.tells (S.state first) (S.state last) (S.leads first name) style)
+        (map string_bytes words.now) result
+        (W.contents writer.old) (W.contents writer.new) (W.has_failed writer.old) (W.has_failed writer.new)
+        (E.contents error_stream.old) (E.contents error_stream.new) (E.has_failed error_stream.old) (E.has_failed error_stream.new) }
+{
+    let status = follow(alloc, words, rules, inputs, files, writer, error_stream);
+    written_out(status, writer, error_stream)
+}
+
+// Does what the words ask for, and answers the status.
+fn follow<I: Inputs, S: Links, W: Sink, E: Sink>(
+    alloc: Global,
+    words: &[String],
+    rules: &[Box<dyn Rule>],
+    inputs: &mut I,
+    files: &mut S,
+    writer: &mut W,
+    error_stream: &mut E,
+) -> u8
+    requires all { Are (λ rule. definition rule) rules.now all_rules }
+    ensures { Follows I.tells (I.holds inputs.old) (I.opened inputs.old) (I.opened inputs.new)
+        files.old files.new (λ first last name style. Rewritten S.tells (S.state first) (S.state last) (S.leads first name) style)
+        (map string_bytes words.now) result
+        (W.contents writer.old) (W.contents writer.new) (W.has_failed writer.old) (W.has_failed writer.new)
+        (E.contents error_stream.old) (E.contents error_stream.new) (E.has_failed error_stream.old) (E.has_failed error_stream.new) }
+{
+    match parse_line(alloc, words) {
+        Ok(command) => do_command(alloc, &command, rules, inputs, files, writer, error_stream),
+        Err(usage) => answer_usage(&usage, writer, error_stream),
+    }
+}
+
+// Does a command, in the style that its settings set.
+fn do_command<I: Inputs, S: Links, W: Sink, E: Sink>(
+    alloc: Global,
+    command: &Cmd,
+    rules: &[Box<dyn Rule>],
+    inputs: &mut I,
+    files: &mut S,
+    writer: &mut W,
+    error_stream: &mut E,
+) -> u8
+    requires all { Are (λ rule. definition rule) rules.now all_rules }
+    ensures { Does I.tells (I.holds inputs.old) (I.opened inputs.old) (I.opened inputs.new)
+        files.old files.new (λ first last name style. Rewritten S.tells (S.state first) (S.state last) (S.leads first name) style)
+        command.now result
+        (W.contents writer.old) (W.contents writer.new) (W.has_failed writer.old) (W.has_failed writer.new)
+        (E.contents error_stream.old) (E.contents error_stream.new) (E.has_failed error_stream.old) (E.has_failed error_stream.new) }
+{
+    match style_set(alloc, &command.config, inputs) {
+        Ok(style) => do_in_style(
+            alloc,
+            command,
+            rules,
+            &style,
+            inputs,
+            files,
+            writer,
+            error_stream,
+        ),
+        Err(fault) => report(&fault, error_stream),
+    }
+}
+
+// The style that the settings file sets, or the house style.
+fn style_set<I: Inputs>(
+    alloc: Global,
+    config: &Option<OwnedText>,
+    inputs: &mut I,
+) -> Result<Style, Fault>
+    ensures opened { Opens I.tells (I.opened inputs.old) (I.opened inputs.new) (settings_of config.now) }
+    ensures same { I.tells → (input : Option (List ℕ)) → I.holds inputs.new input ≡ I.holds inputs.old input }
+    ensures set { MatchResult result (Sets I.tells (I.holds inputs.old) config.now) (Unset I.tells (I.holds inputs.old) config.now) }
+{
+    let mut file = match config {
+        Some(name) => match inputs.open_file(name.as_str()) {
+            Ok(file) => file,
+            Err(fault) => return Err(fault),
+        },
+        None => return Ok(Style::house()),
+    };
+    read_style(alloc, &mut file)
+}
+
+// Does a command in a style: over standard input, over its file, or over each of its files.
+fn do_in_style<I: Inputs, S: Links, W: Sink, E: Sink>(
+    alloc: Global,
+    command: &Cmd,
+    rules: &[Box<dyn Rule>],
+    style: &Style,
+    inputs: &mut I,
+    files: &mut S,
+    writer: &mut W,
+    error_stream: &mut E,
+) -> u8
+    requires all { Are (λ rule. definition rule) rules.now all_rules }
+    ensures { DoesIn I.tells (I.holds inputs.old) (I.opened inputs.old) (I.opened inputs.new)
+        files.old files.new (λ first last name style. Rewritten S.tells (S.state first) (S.state last) (S.leads first name) style)
+        command.now style.now result
+        (W.contents writer.old) (W.contents writer.new) (W.has_failed writer.old) (W.has_failed writer.new)
+        (E.contents error_stream.old) (E.contents error_stream.new) (E.has_failed error_stream.old) (E.has_failed error_stream.new) }
+{
+    let Some(name) = &command.file else {
+        let mut reader = inputs.open_standard();
+        return do_over(
+            alloc,
+            command,
+            rules,
+            style,
+            &mut reader,
+            writer,
+            error_stream,
+        );
+    };
+    if command.more.is_empty() {
+        return do_file(
+            alloc,
+            command,
+            rules,
+            style,
+            name.as_str(),
+            inputs,
+            files,
+            writer,
+            error_stream,
+        );
+    }
+    do_each(
+        alloc,
+        command,
+        rules,
+        style,
+        name.as_str(),
+        inputs,
+        files,
+        writer,
+        error_stream,
+    )
+}

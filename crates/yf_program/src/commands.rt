@@ -1,0 +1,171 @@
+//! The commands of the program and their options, as the library for command lines takes them.
+ghost use Rattle.std.specs.Prelude.{◌≡◌, IfOk};
+ghost use Rattle.clap.specs.Words.{App, Rule, app_of, with_rule, with_subcommand};
+ghost use Rattle.yf_program.specs.CommandLine.{bare_command, check_flag, checking_command, config_option, configured, diff_flag, file_word, file_words, write_flag, reading_command, writing_command, yamlfmt};
+ghost use Rattle.yf_program.specs.CommandLine.{IsOption, IsPart};
+
+use crate::build::VERSION;
+use clap::{Arg, ArgAction, Command};
+use std::alloc::{AllocError, Global};
+
+pub const EVENTS: &str = "events";
+
+pub const CHECK: &str = "check";
+
+pub const FMT: &str = "fmt";
+
+pub const CONFIG: &str = "config";
+
+pub const WRITE: &str = "write";
+
+pub const DIFF: &str = "diff";
+
+pub const FILE: &str = "file";
+
+/// The command of the program, with its subcommands.
+pub fn yamlfmt_command<'a>(alloc: Global) -> Result<Command<'a>, AllocError>
+    ensures { IfOk result (λ c. app_of c ≡ yamlfmt) }
+{
+    let events = reading_command(alloc, EVENTS, "Print the events of a YAML stream");
+    let with_events = with_part(bare_command(alloc), events);
+    let with_check = with_part(with_events, check_command(alloc));
+    with_part(with_check, fmt_command(alloc))
+}
+
+// The program's command before its subcommands.
+fn bare_command<'a>(alloc: Global) -> Result<Command<'a>, AllocError>
+    ensures { IfOk result (λ c. app_of c ≡ bare_command) }
+{
+    Command::new(alloc, "yamlfmt")
+        .version(VERSION)
+        .about(
+            "Prints the events of a YAML stream, checks its style and rewrites it in one house style",
+        )
+        .no_binary_name(true)
+        .subcommand_required(true)
+        .arg_required_else_help(true)
+        .bin_name("yamlfmt")
+}
+
+// The command with one more subcommand, where both were made.
+fn with_part<'a>(
+    command: Result<Command<'a>, AllocError>,
+    part: Result<Command<'a>, AllocError>,
+) -> Result<Command<'a>, AllocError>
+    ensures { (a p : App) → IfOk command.entry (λ c. app_of c ≡ a) → IfOk part.entry (λ c. IsPart c p)
+        → IfOk result (λ c. app_of c ≡ with_subcommand a p.top) }
+{
+    match part {
+        Ok(part) => match command {
+            Ok(command) => command.subcommand(part),
+            Err(error) => Err(error),
+        },
+        Err(error) => Err(error),
+    }
+}
+
+fn reading_command<'a>(
+    alloc: Global,
+    name: &'a str,
+    about: &'a str,
+) -> Result<Command<'a>, AllocError>
+    ensures { IfOk result (λ c. IsPart c (reading_command name.entry.now)) }
+{
+    with_arg(configured(alloc, name, about), file_word(alloc))
+}
+
+fn check_command<'a>(alloc: Global) -> Result<Command<'a>, AllocError>
+    ensures { IfOk result (λ c. IsPart c checking_command) }
+{
+    let command = configured(
+        alloc,
+        CHECK,
+        "Print where a YAML stream departs from the house style",
+    );
+    with_arg(command, file_words(alloc))
+}
+
+fn fmt_command<'a>(alloc: Global) -> Result<Command<'a>, AllocError>
+    ensures { IfOk result (λ c. IsPart c writing_command) }
+{
+    let command = configured(alloc, FMT, "Print a YAML stream in the house style");
+    let writing = with_arg(command, write_flag(alloc));
+    let checking = with_arg(writing, check_flag(alloc));
+    let telling = with_arg(checking, diff_flag(alloc));
+    with_arg(telling, file_words(alloc))
+}
+
+// A command that may be given its settings file.
+fn configured<'a>(alloc: Global, name: &'a str, about: &'a str) -> Result<Command<'a>, AllocError>
+    ensures { IfOk result (λ c. IsPart c (configured name.entry.now)) }
+{
+    let command = Command::new(alloc, name).about(about);
+    command.arg(config_option(alloc))
+}
+
+// The command with one more argument, where it was made.
+fn with_arg<'a>(
+    command: Result<Command<'a>, AllocError>,
+    arg: Arg<'a>,
+) -> Result<Command<'a>, AllocError>
+    ensures { (a : App) (r : Rule) → IfOk command.entry (λ c. IsPart c a) → IsOption arg.entry r
+        → IfOk result (λ c. IsPart c (with_rule a r)) }
+{
+    match command {
+        Ok(command) => command.arg(arg),
+        Err(error) => Err(error),
+    }
+}
+
+fn config_option<'a>(alloc: Global) -> Arg<'a>
+    ensures { IsOption result config_option }
+{
+    Arg::new(alloc, CONFIG)
+        .long(CONFIG)
+        .value_name("FILE")
+        .help("Read the settings of the house style from this TOML file")
+}
+
+fn write_flag<'a>(alloc: Global) -> Arg<'a>
+    ensures { IsOption result write_flag }
+{
+    Arg::new(alloc, WRITE)
+        .long(WRITE)
+        .action(ArgAction::SetTrue)
+        .help("Rewrite FILE in place of printing")
+}
+
+fn check_flag<'a>(alloc: Global) -> Arg<'a>
+    ensures { IsOption result check_flag }
+{
+    Arg::new(alloc, CHECK)
+        .long(CHECK)
+        .action(ArgAction::SetTrue)
+        .help("Print only where the stream is not in the house style first")
+}
+
+fn diff_flag<'a>(alloc: Global) -> Arg<'a>
+    ensures { IsOption result diff_flag }
+{
+    Arg::new(alloc, DIFF)
+        .long(DIFF)
+        .action(ArgAction::SetTrue)
+        .help("Print a unified diff of the stream and its formatting")
+}
+
+fn file_word<'a>(alloc: Global) -> Arg<'a>
+    ensures { IsOption result file_word }
+{
+    Arg::new(alloc, FILE)
+        .value_name("FILE")
+        .help("The stream to read, in place of standard input")
+}
+
+fn file_words<'a>(alloc: Global) -> Arg<'a>
+    ensures { IsOption result file_words }
+{
+    Arg::new(alloc, FILE)
+        .value_name("FILE")
+        .action(ArgAction::Append)
+        .help("The streams to read, in place of standard input")
+}

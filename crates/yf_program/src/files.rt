@@ -1,0 +1,162 @@
+//! The files of the program: what is read from them, and the one that is rewritten.
+ghost use Rattle.std.specs.Prelude.{◌≡◌, ℕ, List, string_bytes, IfErr, IfOk, MatchOption};
+ghost use Rattle.yf_lines.specs.declared.fault.Fault.TheVariants.{ReadFailed};
+ghost use Rattle.yf_program.specs.Files.{FormatsBytes, IsUnread, RefusesBytes, Rewrites, RewritesFile, fault_of, rewrite_line, unwritten_line};
+ghost use Rattle.yf_program.specs.Program.{Reached};
+ghost use Rattle.yf_program.specs.Report.{fault_status};
+
+use crate::report::report;
+use std::alloc::Global;
+use std::fs::File;
+use std::rt::Files;
+use yf_chars::utf8::{BadByte, check_utf8};
+use yf_emit::format::format;
+use yf_emit::style::Style;
+use yf_files::{FileSystem, Formatter, MemoryFiles, ReplaceError, RewriteError};
+use yf_lines::fault::Fault;
+use yf_lines::output::write_text;
+use yf_lines::watched::Sink;
+use yf_rules::run::INPUT_LIMIT;
+
+/// Opens a file for reading. One that cannot be opened is one that cannot be read (`Fault::ReadFailed`).
+pub fn open<R: Files>(rt: &R, path: &str) -> Result<R::File, Fault>
+    ensures { IfErr result (λ fault. fault ≡ ReadFailed) }
+{
+    match File::open(rt, path) {
+        Ok(file) => Ok(file),
+        Err(_) => Err(Fault::ReadFailed),
+    }
+}
+
+/// Files that are rewritten, and links to them.
+pub trait Links: FileSystem {
+    /// The second name is that of the file at the first one, or of the file to which a link there leads.
+    ghost leads: { Self → List ℕ → List ℕ → Type 0 };
+
+    /// The name of the file to which a link at the name leads; nothing where no link stands there. A link that leads nowhere, and
+    /// a name at which nothing stands, are `RewriteError::Unreadable`.
+    fn followed(&self, alloc: Global, name: &str) -> Result<Option<String>, RewriteError<Fault>>
+        ensures leads { IfOk result (λ found. MatchOption found (leads self.now name.now name.now) (λ file. leads self.now name.now (string_bytes file))) }
+        ensures error { IfErr result IsUnread };
+}
+
+/// Files in memory: there are no links among them.
+impl Links for MemoryFiles {
+    ghost leads = { λ _ name file. file ≡ name };
+
+    fn followed(&self, _alloc: Global, _name: &str) -> Result<Option<String>, RewriteError<Fault>> {
+        Ok(None)
+    }
+}
+
+/// Rewrites the file of that name in the house style; of a link, the file that it leads to.
+///
+/// The whole text is read and formatted first. Where it is in the house style already, that is all. Else it is written to a
+/// new file, of the file's name with `.yamlfmt-new` after it, which is renamed to the file. So at any moment, also where the
+/// run or the machine stops, the file holds its old text or exactly the formatting of it, whole, and each name but the new one
+/// has what it had.
+///
+/// # Errors
+///
+/// `Unreadable` where there is no regular file of that name, nor a link to one, that can be read; `Refused` with the faults of
+/// `format`, and `Fault::NotUtf8`; `Memory`; and `Unwritten` where another run rewrites the file, where it has changed since it
+/// was read, where nobody may write to it or its owner would change, or where the new file can't be made, written or renamed.
+/// After each of them but `Unwritten(Unsure)` the file is as it was.
+pub fn rewrite<S: Links>(
+    alloc: Global,
+    files: &mut S,
+    name: &str,
+    style: &Style,
+) -> Result<(), RewriteError<Fault>>
+    ensures { Rewrites S.tells (S.state files.old) (S.state files.new) (S.leads files.old name.now) style.now result }
+{
+    match files.followed(alloc, name) {
+        Ok(None) => rewrite_in(alloc, files, name, style),
+        Ok(Some(file)) => rewrite_in(alloc, files, file.as_str(), style),
+        Err(error) => Err(error),
+    }
+}
+
+/// Rewrites a file of a file system in the house style, as `rewrite` does.
+pub fn rewrite_in<S: FileSystem>(
+    alloc: Global,
+    files: &mut S,
+    file: &str,
+    style: &Style,
+) -> Result<(), RewriteError<Fault>>
+    ensures { RewritesFile S.tells (S.state files.old) (S.state files.new) file.now style.now result }
+{
+    yf_files::rewrite(alloc, files, &InStyle { style }, file)
+}
+
+// What gives the bytes of a text in a style.
+#[derive(Clone, Copy)]
+struct InStyle<'a> {
+    style: &'a Style,
+}
+
+impl Formatter for InStyle<'_> {
+    type Refusal = Fault;
+
+    ghost Formats = { λ it bytes text. FormatsBytes it.style.now bytes text };
+
+    ghost Refuses = { λ _ bytes fault. RefusesBytes bytes fault };
+
+    fn format(&self, alloc: Global, bytes: &[u8]) -> Result<String, Fault> {
+        let text = match check_utf8(bytes) {
+            Ok(text) => text,
+            Err(BadByte { offset }) => return Err(Fault::NotUtf8 { offset }),
+        };
+        if bytes.len() > INPUT_LIMIT {
+            return Err(Fault::Memory);
+        }
+        format(alloc, text, self.style)
+    }
+}
+
+/// Writes the line of a file that is not rewritten to the error stream, and answers the status of its fault. Where the new file
+/// is left, or the new text may not survive a crash, the line says so.
+pub fn report_rewrite<E: Sink>(error: &RewriteError<Fault>, error_stream: &mut E) -> u8
+    ensures status { result ≡ fault_status (fault_of error.now) }
+    ensures line { Reached (E.contents error_stream.old) (E.contents error_stream.new)
+        (E.has_failed error_stream.old) (E.has_failed error_stream.new) (rewrite_line error.now) }
+{
+    match error {
+        RewriteError::Memory => report(&Fault::Memory, error_stream),
+        RewriteError::Unreadable => report(&Fault::ReadFailed, error_stream),
+        RewriteError::Refused(fault) => report(fault, error_stream),
+        RewriteError::Unwritten(left) => report_unwritten(*left, error_stream),
+    }
+}
+
+// The same of a file whose new text is not put in its place, or not for sure.
+fn report_unwritten<E: Sink>(left: ReplaceError, error_stream: &mut E) -> u8
+    ensures status { result ≡ 3 }
+    ensures line { Reached (E.contents error_stream.old) (E.contents error_stream.new)
+        (E.has_failed error_stream.old) (E.has_failed error_stream.new) (unwritten_line left) }
+{
+    match left {
+        ReplaceError::Untouched => report(&Fault::WriteFailed, error_stream),
+        ReplaceError::Left => tell(
+            b"write failed: the .yamlfmt-new file is left\n",
+            error_stream,
+        ),
+        ReplaceError::Unsure => tell(
+            b"write failed: the new text may not survive a crash\n",
+            error_stream,
+        ),
+    }
+}
+
+/// The status of a write that fails.
+const UNWRITTEN: u8 = 3;
+
+// Writes a line, and answers the status of a write that fails.
+fn tell<E: Sink>(line: &[u8], error_stream: &mut E) -> u8
+    ensures status { result ≡ 3 }
+    ensures line { Reached (E.contents error_stream.old) (E.contents error_stream.new)
+        (E.has_failed error_stream.old) (E.has_failed error_stream.new) line.now }
+{
+    let _ = write_text(error_stream, line);
+    UNWRITTEN
+}

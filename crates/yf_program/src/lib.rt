@@ -1,0 +1,16 @@
+//! The program, as a library: from the words of a command line to the status, over whatever it reads and writes.
+#![tactic(auto)]
+
+pub mod answer;
+pub mod build;
+pub mod command_line;
+pub mod commands;
+pub mod each;
+pub mod files;
+pub mod inputs;
+pub mod named;
+pub mod program;
+pub mod replacing;
+pub mod report;
+pub mod settings;
+pub mod shown;

@@ -1,0 +1,93 @@
+//! What the program prints for a fault, and the status with which it then ends.
+ghost use Rattle.std.specs.Prelude.{◌≡◌, ◌⊎◌};
+ghost use Rattle.yf_lines.specs.Output.{Writes, Wrote, Broke};
+ghost use Rattle.yf_program.specs.Report.{fault_line, fault_status, refusal_line};
+
+use crate::shown::write_shown;
+use itoa::Buffer;
+use yf_lines::fault::Fault;
+use yf_lines::output::{write_text, write_texts};
+use yf_lines::place::Place;
+use yf_lines::watched::Sink;
+
+/// Writes the fault's line to the error stream and answers the fault's status: 2 where the stream is refused, 3 for
+/// memory, files and settings.
+///
+/// A failure of the error stream leaves the status as it is; a prefix of the line has then been written. No memory is
+/// taken.
+pub fn report<E: Sink>(fault: &Fault, error_stream: &mut E) -> u8
+    ensures status { result ≡ fault_status fault.now }
+    ensures line { Wrote (E.contents error_stream.old) (E.contents error_stream.new)
+        (E.has_failed error_stream.old) (E.has_failed error_stream.new) (fault_line fault.now)
+        ⊎ Broke (E.contents error_stream.old) (E.contents error_stream.new)
+        (E.has_failed error_stream.new) (fault_line fault.now) }
+{
+    let _ = write_line(fault, error_stream);
+    status_of(fault)
+}
+
+fn status_of(fault: &Fault) -> u8
+    ensures { result ≡ fault_status fault.now }
+{
+    match fault {
+        Fault::Memory | Fault::ReadFailed | Fault::WriteFailed | Fault::Config { .. } => 3,
+        Fault::NotUtf8 { .. }
+        | Fault::Syntax { .. }
+        | Fault::TooDeep { .. }
+        | Fault::UnknownHandle { .. }
+        | Fault::UnknownAlias { .. }
+        | Fault::RepeatedDirective { .. }
+        | Fault::BadVersion { .. }
+        | Fault::EscapeValue { .. } => 2,
+    }
+}
+
+fn write_line<E: Sink>(fault: &Fault, stream: &mut E) -> Result<(), Fault>
+    ensures { Writes (E.contents stream.old) (E.contents stream.new)
+        (E.has_failed stream.old) (E.has_failed stream.new) (fault_line fault.now) result }
+{
+    match fault {
+        Fault::NotUtf8 { offset } => write_bad_byte(*offset, stream),
+        Fault::Syntax { place, .. } => write_refusal(place, "syntax", stream),
+        Fault::TooDeep { place } => write_refusal(place, "too-deep", stream),
+        Fault::UnknownHandle { place } => write_refusal(place, "unknown-handle", stream),
+        Fault::UnknownAlias { place } => write_refusal(place, "unknown-alias", stream),
+        Fault::RepeatedDirective { place } => write_refusal(place, "repeated-directive", stream),
+        Fault::BadVersion { place } => write_refusal(place, "bad-version", stream),
+        Fault::EscapeValue { place } => write_refusal(place, "escape-value", stream),
+        Fault::Memory => write_text(stream, b"no memory\n"),
+        Fault::ReadFailed => write_text(stream, b"read failed\n"),
+        Fault::WriteFailed => write_text(stream, b"write failed\n"),
+        Fault::Config { key } => write_config(key.as_str(), stream),
+    }
+}
+
+// Writes the line of a wrong key of the settings.
+fn write_config<E: Sink>(key: &str, stream: &mut E) -> Result<(), Fault>
+    ensures { Writes (E.contents stream.old) (E.contents stream.new)
+        (E.has_failed stream.old) (E.has_failed stream.new) (fault_line (Fault.Config key.now)) result }
+{
+    write_text(stream, b"config: ")?;
+    write_shown(stream, key)?;
+    write_text(stream, b"\n")
+}
+
+fn write_refusal<E: Sink>(place: &Place, reason: &str, stream: &mut E) -> Result<(), Fault>
+    ensures { Writes (E.contents stream.old) (E.contents stream.new)
+        (E.has_failed stream.old) (E.has_failed stream.new) (refusal_line place.now reason.now) result }
+{
+    let mut line_buffer = Buffer::new();
+    let mut column_buffer = Buffer::new();
+    let line = line_buffer.format(place.line);
+    let column = column_buffer.format(place.column);
+    write_texts(stream, &[line, ":", column, " refused: ", reason, "\n"])
+}
+
+fn write_bad_byte<E: Sink>(offset: usize, stream: &mut E) -> Result<(), Fault>
+    ensures { Writes (E.contents stream.old) (E.contents stream.new)
+        (E.has_failed stream.old) (E.has_failed stream.new) (fault_line (Fault.NotUtf8 offset)) result }
+{
+    let mut buffer = Buffer::new();
+    let digits = buffer.format(offset);
+    write_texts(stream, &["byte ", digits, " refused: not-utf8\n"])
+}

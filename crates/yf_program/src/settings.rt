@@ -1,0 +1,193 @@
+//! The settings file: which style its TOML text sets.
+ghost use Rattle.std.specs.Prelude.{◌≡◌, ◌⊎◌, ℕ, ◌≤◌, [], Some, codes, true, MatchOption, MatchResult};
+ghost use Rattle.std.specs.Prelude.{List, option_map};
+ghost use Rattle.toml.specs.Data.{get_member};
+ghost use Rattle.toml.specs.View.{view, table_view};
+ghost use Rattle.yf_program.specs.Settings.{number_between, indent_of, max_line_of, quotes_of, seq_indent_of, is_right, IsRight, IsLeastWrong};
+ghost use Rattle.yf_program.specs.Settings.{setting, SetsStyle, RefusesSettings, Sets};
+ghost use Rattle.yf_lines.specs.declared.quotes.Quotes.TheVariants.{Double};
+
+use std::alloc::Global;
+use toml::{Table, Value};
+use yf_emit::style::Style;
+use yf_lines::fault::Fault;
+use yf_lines::quotes::Quotes;
+use yf_lines::text::OwnedText;
+
+const INDENT: &str = "indent";
+
+const MAX_LINE: &str = "max_line";
+
+const QUOTES: &str = "quotes";
+
+const SEQ_INDENT: &str = "seq_indent";
+
+/// The style that a settings text sets: a TOML document with the keys `indent` (an integer from 2 to 8), `max_line` (an
+/// integer from 40 to 1000), `quotes` (`"double"` or `"single"`) and `seq_indent` (a boolean). A key that is not there
+/// has the value of the house style.
+///
+/// Answers `Fault::Config` with the least key, by its bytes, that is none of these or has another value, and with the
+/// empty key where the text is no TOML; `Fault::Memory` in the place of each answer, where a growth of memory was
+/// refused.
+pub fn style_from_toml(alloc: Global, text: &str) -> Result<Style, Fault>
+    ensures { MatchResult result (λ style. SetsStyle text.now style) (λ fault. RefusesSettings text.now fault) }
+{
+    match toml::table_from_str(alloc, text) {
+        Ok(table) => match least_wrong_key(&table) {
+            Some(key) => Err(wrong_key(alloc, key)),
+            None => Ok(style_of(&table)),
+        },
+        Err(error) => {
+            if error.is_memory() {
+                return Err(Fault::Memory);
+            }
+            Err(no_key(alloc))
+        }
+    }
+}
+
+// The fault of a text that is no TOML.
+pub fn no_key(alloc: Global) -> Fault
+    ensures { result ≡ Fault.Config [] }
+{
+    Fault::Config {
+        key: OwnedText::new(String::new(alloc)),
+    }
+}
+
+// The fault of a key.
+fn wrong_key(alloc: Global, key: &str) -> Fault
+    ensures { (result ≡ Fault.Config key.now) ⊎ (result ≡ Fault.Memory) }
+{
+    match String::from_str(alloc, key) {
+        Ok(copy) => Fault::Config {
+            key: OwnedText::new(copy),
+        },
+        Err(_) => Fault::Memory,
+    }
+}
+
+// The least key of the table that is no setting, or whose value the setting may not have.
+fn least_wrong_key<'t>(table: &'t Table) -> Option<&'t str>
+    ensures { MatchOption result ((key : List ℕ) → IsRight (table_view table.now) key)
+        (λ key. IsLeastWrong (table_view table.now) key.now) }
+{
+    for (key, value) in table {
+        if !is_right(key.as_str(), value) {
+            return Some(key.as_str());
+        }
+    }
+    None
+}
+
+// Whether the key is a setting, and the value one that the setting may have.
+fn is_right(key: &str, value: &Value) -> bool
+    ensures { result ≡ is_right key.now (view value.now) }
+{
+    if key == INDENT {
+        return number_between(value, 2, 8).is_some();
+    }
+    if key == MAX_LINE {
+        return number_between(value, 40, 1000).is_some();
+    }
+    if key == QUOTES {
+        return quotes_of(value).is_some();
+    }
+    if key == SEQ_INDENT {
+        return value.as_bool().is_some();
+    }
+    false
+}
+
+fn number_between(value: &Value, least: usize, most: usize) -> Option<usize>
+    ensures { result ≡ number_between least most (view value.now) }
+{
+    let integer = match value.as_integer() {
+        Some(integer) => integer,
+        None => return None,
+    };
+    match usize::try_from(integer) {
+        Ok(number) => {
+            if least <= number {
+                if number <= most {
+                    return Some(number);
+                }
+            }
+            None
+        }
+        Err(_) => None,
+    }
+}
+
+fn quotes_of(value: &Value) -> Option<Quotes>
+    ensures { result ≡ quotes_of (view value.now) }
+{
+    match value.as_str() {
+        Some(word) => {
+            if word == "double" {
+                return Some(Quotes::Double);
+            }
+            if word == "single" {
+                return Some(Quotes::Single);
+            }
+            None
+        }
+        None => None,
+    }
+}
+
+// The style that the table sets, where its keys are right.
+fn style_of(table: &Table) -> Style
+    ensures indent { result.indent ≡ setting indent_of (codes "indent") 2 (table_view table.now) }
+    ensures max_line { result.max_line ≡ setting max_line_of (codes "max_line") 100 (table_view table.now) }
+    ensures quotes { result.quotes ≡ setting quotes_of (codes "quotes") Double (table_view table.now) }
+    ensures seq_indent { result.seq_indent ≡ setting seq_indent_of (codes "seq_indent") true (table_view table.now) }
+{
+    let house = Style::house();
+    Style {
+        indent: number_at(table, INDENT, 2, 8, house.indent),
+        max_line: number_at(table, MAX_LINE, 40, 1000, house.max_line),
+        quotes: quotes_at(table, house.quotes),
+        seq_indent: seq_indent_at(table, house.seq_indent),
+    }
+}
+
+fn number_at(table: &Table, key: &str, least: usize, most: usize, house: usize) -> usize
+    requires house_from { least ≤ house }
+    requires house_to { house ≤ most }
+    ensures value { result ≡ setting (number_between least most) key.now house (table_view table.now) }
+    ensures from { least ≤ result }
+    ensures to { result ≤ most }
+{
+    match value_at(table, key) {
+        Some(value) => match number_between(value, least, most) {
+            Some(number) => number,
+            None => house,
+        },
+        None => house,
+    }
+}
+
+fn quotes_at(table: &Table, house: Quotes) -> Quotes
+    ensures { result ≡ setting quotes_of (codes "quotes") house (table_view table.now) }
+{
+    match value_at(table, QUOTES) {
+        Some(value) => quotes_of(value).unwrap_or(house),
+        None => house,
+    }
+}
+
+fn seq_indent_at(table: &Table, house: bool) -> bool
+    ensures { result ≡ setting seq_indent_of (codes "seq_indent") house (table_view table.now) }
+{
+    match value_at(table, SEQ_INDENT) {
+        Some(value) => value.as_bool().unwrap_or(house),
+        None => house,
+    }
+}
+
+fn value_at<'t>(table: &'t Table, key: &str) -> Option<&'t Value>
+    ensures { option_map (λ v. view v.now) result ≡ get_member key.now (table_view table.now) }
+{
+    table.get(key)
+}
