@@ -142,8 +142,15 @@ pub mod CommentsStay
 pub mod KeyDecides
 pub mod EmptyTexts
 pub mod KeepsHold
+pub mod ScalarsAmong
 pub mod RowColumns
+pub mod RowTokens
+pub mod TokenTabs
+pub mod PiecesRead
+pub mod StreamPieces
+pub mod DirectiveTabs
 pub mod LinesTidy
+mod ShownTidy
 pub mod SpellingsKept
 pub mod FormatKeeps
 pub mod FormatLawsHold

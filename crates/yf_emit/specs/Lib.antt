@@ -56,6 +56,7 @@ pub mod Textual
 pub mod Trailing
 pub mod TrailsOf
 pub mod TidyLines
+pub mod Tokens
 pub mod Types
 pub mod Wanted
 pub mod Undisturbed
