@@ -138,6 +138,7 @@ pub mod DirectivesFit
 pub mod DocumentTrails
 pub mod EventsTold
 pub mod BlanksKept
+pub mod KeysTold
 pub mod CommentsStay
 pub mod KeyDecides
 pub mod EmptyTexts

@@ -20,6 +20,7 @@ pub mod Forms
 pub mod ImplicitKeys
 pub mod Kept
 pub mod Keeps
+pub mod KeyComments
 pub mod Keys
 pub mod Laws
 pub mod LayoutLaws
