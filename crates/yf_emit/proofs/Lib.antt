@@ -141,6 +141,9 @@ pub mod BlanksKept
 pub mod KeysTold
 pub mod CommentsStay
 pub mod KeyDecides
+pub mod MatchedLemmas
+pub mod MatchedRows
+pub mod ReadingsDecide
 pub mod EmptyTexts
 pub mod KeepsHold
 pub mod ScalarsAmong

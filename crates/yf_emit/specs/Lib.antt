@@ -48,6 +48,7 @@ pub mod SameComments
 pub mod Searches
 pub mod CommentsPlaced
 pub mod LayoutKey
+pub mod ReadingKey
 pub mod EmptyTexts
 pub mod SpacedLines
 pub mod Spellings
