@@ -24,6 +24,7 @@ use Rattle.yf_emit.proofs.DocumentTrails.{leaves_of}
 use Rattle.yf_emit.proofs.FixedLawsHold.{found_reading}
 use Rattle.yf_emit.proofs.FormatTrails.{formats_trail}
 use Rattle.yf_emit.proofs.FormatsFixed.{again_same}
+use Rattle.yf_emit.proofs.KeysTold.{keys_told}
 use Rattle.yf_emit.proofs.LeavesTold.{laid_trees}
 use Rattle.yf_emit.proofs.RowLeaves.{leaves_on}
 use Rattle.yf_emit.proofs.SourceStands.{source_stands}
@@ -156,6 +157,7 @@ source_leaves {t} {u} {s} utf8 f =
 pub comments_stay : (t u : List ℕ) (s : Style) → IsUtf8 t → CommentsPlaced t s u
 comments_stay t u s utf8 = record {
   leaves = λ f. source_leaves utf8 f;
+  keys = λ f. keys_told (setting_of f.normal s) true f.normal.documents f.writes.trees f.writes.of_reading.documents;
   exact = λ f d. rows_exact f.normal (rows_in f) d;
   stays_at_end = λ f i leaf d on_line got first near.
       let c : Source = source_in f in

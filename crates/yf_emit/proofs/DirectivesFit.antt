@@ -43,27 +43,27 @@ abbrev NoHash : List ℕ → Type 0
 NoHash [] = Unit {0}
 NoHash (c ∷ cs) = c ≢ 35
 
-record IsParameter (w : List ℕ) : Type 0 where
-  text : RunText is_ns_char w
+pub record IsParameter (w : List ℕ) : Type 0 where
+  pub text : RunText is_ns_char w
   first : NoHash text.chars
 
-data AreParameters : List (List ℕ) → Type 0 where
+pub data AreParameters : List (List ℕ) → Type 0 where
   no_parameters : AreParameters []
   a_parameter : {w : List ℕ} {ws : List (List ℕ)} → IsParameter w → AreParameters ws → AreParameters (w ∷ ws)
 
-record IsVersion (w : List ℕ) : Type 0 where
-  major : List ℕ
-  minor : List ℕ
-  major_is : RunText is_digit major
-  minor_is : RunText is_digit minor
-  bytes : w ≡ major ++ (46 ∷ minor)
+pub record IsVersion (w : List ℕ) : Type 0 where
+  pub major : List ℕ
+  pub minor : List ℕ
+  pub major_is : RunText is_digit major
+  pub minor_is : RunText is_digit minor
+  pub bytes : w ≡ major ++ (46 ∷ minor)
 
-data IsPrefix : List ℕ → Type 0 where
+pub data IsPrefix : List ℕ → Type 0 where
   local_text : {x : List ℕ} → IsSpelled is_uri_char x → IsPrefix (33 ∷ x)
   itself_text : {c : ℕ} {x : List ℕ} → is_tag_char c ≡ true → IsSpelled is_uri_char x → IsPrefix (c ∷ x)
   escape_text : {a b : ℕ} {x : List ℕ} → is_hex_digit a ≡ true → is_hex_digit b ≡ true → IsSpelled is_uri_char x → IsPrefix (37 ∷ a ∷ b ∷ x)
 
-data AreWords (name : List ℕ) : List (List ℕ) → Type 0 where
+pub data AreWords (name : List ℕ) : List (List ℕ) → Type 0 where
   version_words : {w : List ℕ} → name ≡ codes "YAML" → IsVersion w → AreWords name (w ∷ [])
   tag_words : {h w : List ℕ} → name ≡ codes "TAG" → IsHandle h → IsPrefix w → AreWords name (h ∷ w ∷ [])
   other_words : {ws : List (List ℕ)} → name ≢ codes "YAML" → name ≢ codes "TAG" → AreParameters ws → AreWords name ws
@@ -80,7 +80,7 @@ run_within {t} {p} {i} {j} u b r = go r.chain r.some where
   go done l = absurd (omega arith)
   go (step (one {i = i} e) m) l = let a = reads_real t i u (b (code t i) e) in let k = a.within in let n = a.later in omega arith
 
-word_made : {t : List ℕ} {i j : ℕ} → IsUtf8 t → Run (One t is_ns_char) i j → RunText is_ns_char (slice_range t i j)
+pub word_made : {t : List ℕ} {i j : ℕ} → IsUtf8 t → Run (One t is_ns_char) i j → RunText is_ns_char (slice_range t i j)
 word_made u r = run_made u ns_below (run_within u ns_below r) r
 
 first_made : {t : List ℕ} {i j : ℕ} {x : List ℕ} → code t i ≢ 35 → Many t is_ns_char i j x → NoHash x
@@ -143,7 +143,7 @@ prefix_made {t} u (global_prefix {j = j} {c = c} {x = x} (as_escape {i = i} e f 
     stretch_slice whole ∙ low_bytes (37 ∷ code t (i + 1) ∷ code t (i + 2) ∷ x) (first.low.0, (first.low.1.0, (first.low.1.1.0, made.low))) in
     subst (λ w. IsPrefix w) (sym bytes) (escape_text f g made.text)
 
-words_made : {t name : List ℕ} {i j : ℕ} {ws : List (List ℕ)} → IsUtf8 t → Parameters t name i j ws → AreWords name ws
+pub words_made : {t name : List ℕ} {i j : ℕ} {ws : List (List ℕ)} → IsUtf8 t → Parameters t name i j ws → AreWords name ws
 words_made u (version_parameter e s a d b) = version_words e (version_made u a d b)
 words_made u (tag_parameters e s a q b) = tag_words e (handle_made u a).text (prefix_made u b)
 words_made u (reserved_parameters e f c) = other_words e f (parameters_made u c)

@@ -2,20 +2,19 @@
 use Rattle.std.proofs.Common.{◌≡◌, ℕ, false, List, [], ◌∷◌, ◌++◌, map, flat_map, refl, sym, ap, ◌∙◌}
 use Rattle.std.specs.Str.{IsUtf8}
 use Rattle.yf_comments.specs.Comment.{CommentValue}
-use Rattle.yf_props.specs.Props.{PropsValue}
 use Rattle.yf_events.specs.Alike.{Alike, alike_scalars, alike_aliases, alike_sequences, alike_mappings, AlikeItems, alike_nothing, alike_item, AlikePairs, alike_no_pairs, alike_pair}
 use Rattle.yf_events.specs.Event.{EventValue, Placed, stream_starts, stream_ends, document_starts, document_ends, sequence_starts, sequence_ends, mapping_starts, mapping_ends, scalar_node, alias_node}
 use Rattle.yf_events.specs.Tree.{DocumentTree, Node, Items, Pairs, flat, flat_items, flat_pairs, flat_document, unplaced}
 use Rattle.yf_events.specs.declared.document.Doc.{Doc}
-use Rattle.yf_events.specs.declared.event.ScalarStyle.{ScalarStyle}
 use Rattle.yf_events.specs.declared.lists.Lists.{Lists}
 use Rattle.yf_stream.specs.ReadingOf.{ReadingOf}
 use Rattle.yf_emit.specs.declared.style.Style.{Style}
 use Rattle.yf_emit.specs.Format.{Formats}
 use Rattle.yf_emit.specs.FoundTrees.{FoundTrees, none_found, one_found}
-use Rattle.yf_emit.specs.TidyLines.{HasScalar, has_first, has_later}
+use Rattle.yf_emit.specs.TidyLines.{block_scalar_of, block_scalars}
 use Rattle.yf_emit.proofs.FixedBlocks.{blocks_alike}
 use Rattle.yf_emit.proofs.FixedLawsHold.{found_reading}
+use Rattle.yf_emit.proofs.RowTokens.{pieces_in, pieces_of_event}
 use Rattle.yf_emit.proofs.SameContent.{unmarked_value}
 
 abbrev Told : Type 0
@@ -85,28 +84,43 @@ folded_of_told (e ∷ es) = ap (λ w. e.folded ∷ w) (folded_of_told es)
 pub told_folded : (es fs : List Placed) → told_in es ≡ told_in fs → folded_in es ≡ folded_in fs
 told_folded es fs e = sym (folded_of_told es) ∙ (ap (map (λ (w : Told). w.1)) e ∙ folded_of_told fs)
 
-scalar_back : {props : PropsValue} {style : ScalarStyle} {text : List ℕ} (v : EventValue) → unmarked_value v ≡ scalar_node props style text → v ≡ scalar_node props style text
-scalar_back stream_starts e = e
-scalar_back stream_ends e = e
-scalar_back (document_starts marked) e = absurd cc
-scalar_back (document_ends marked) e = absurd cc
-scalar_back (sequence_starts flow p) e = e
-scalar_back sequence_ends e = e
-scalar_back (mapping_starts flow p) e = e
-scalar_back mapping_ends e = e
-scalar_back (scalar_node p style text) e = e
-scalar_back (alias_node name) e = e
+unmarked_scalars : (v : EventValue) (lines : List (List ℕ)) → block_scalar_of (unmarked_value v) lines ≡ block_scalar_of v lines
+unmarked_scalars stream_starts lines = refl
+unmarked_scalars stream_ends lines = refl
+unmarked_scalars (document_starts marked) lines = refl
+unmarked_scalars (document_ends marked) lines = refl
+unmarked_scalars (sequence_starts flow props) lines = refl
+unmarked_scalars sequence_ends lines = refl
+unmarked_scalars (mapping_starts flow props) lines = refl
+unmarked_scalars mapping_ends lines = refl
+unmarked_scalars (scalar_node props style text) lines = refl
+unmarked_scalars (alias_node name) lines = refl
 
-head_told : (e f : Placed) (es fs : List Placed) → told_in (e ∷ es) ≡ told_in (f ∷ fs) → (unmarked_value e.event ≡ unmarked_value f.event) × ((e.folded ≡ f.folded) × (told_in es ≡ told_in fs))
-head_told e f es fs a =
-    let one : ◌≡◌ {A = Told} (told e) (told f) = cc in
-    let more : told_in es ≡ told_in fs = cc in
-    (ap (λ (w : Told). w.0) one, (ap (λ (w : Told). w.1) one, more))
+scalars_of_told : (es : List Placed) → flat_map (λ (w : Told). block_scalar_of w.0 w.1) (told_in es) ≡ block_scalars es
+scalars_of_told [] = refl
+scalars_of_told (e ∷ es) =
+    ap (λ w. w ++ flat_map (λ (w : Told). block_scalar_of w.0 w.1) (told_in es)) (unmarked_scalars e.event e.folded) ∙ ap (λ w. block_scalar_of e.event e.folded ++ w) (scalars_of_told es)
 
-pub told_scalar : {style : ScalarStyle} {text : List ℕ} {lines : List (List ℕ)} (es fs : List Placed) → told_in es ≡ told_in fs → HasScalar style text lines es → HasScalar style text lines fs
-told_scalar [] fs a h = elim h [ ]
-told_scalar (e ∷ es) [] a h = absurd cc
-told_scalar (e ∷ es) (f ∷ fs) a (has_first b c) =
-    let one = head_told e f es fs a in
-    has_first (scalar_back f.event (sym one.0 ∙ ap unmarked_value b)) (sym one.1.0 ∙ c)
-told_scalar (e ∷ es) (f ∷ fs) a (has_later h) = has_later (told_scalar es fs (head_told e f es fs a).1.1 h)
+pub told_scalars : (es fs : List Placed) → told_in es ≡ told_in fs → block_scalars es ≡ block_scalars fs
+told_scalars es fs e = sym (scalars_of_told es) ∙ (ap (λ ws. flat_map (λ (w : Told). block_scalar_of w.0 w.1) ws) e ∙ scalars_of_told fs)
+
+-- and the pieces that are written
+unmarked_pieces : (v : EventValue) → pieces_of_event (unmarked_value v) ≡ pieces_of_event v
+unmarked_pieces stream_starts = refl
+unmarked_pieces stream_ends = refl
+unmarked_pieces (document_starts marked) = refl
+unmarked_pieces (document_ends marked) = refl
+unmarked_pieces (sequence_starts flow props) = refl
+unmarked_pieces sequence_ends = refl
+unmarked_pieces (mapping_starts flow props) = refl
+unmarked_pieces mapping_ends = refl
+unmarked_pieces (scalar_node props style text) = refl
+unmarked_pieces (alias_node name) = refl
+
+pieces_of_told : (es : List Placed) → flat_map (λ (w : Told). pieces_of_event w.0) (told_in es) ≡ pieces_in es
+pieces_of_told [] = refl
+pieces_of_told (e ∷ es) =
+    ap (λ w. w ++ flat_map (λ (w : Told). pieces_of_event w.0) (told_in es)) (unmarked_pieces e.event) ∙ ap (λ w. pieces_of_event e.event ++ w) (pieces_of_told es)
+
+pub told_pieces : (es fs : List Placed) → told_in es ≡ told_in fs → pieces_in es ≡ pieces_in fs
+told_pieces es fs e = sym (pieces_of_told es) ∙ (ap (λ ws. flat_map (λ (w : Told). pieces_of_event w.0) ws) e ∙ pieces_of_told fs)

@@ -9,6 +9,7 @@ use Rattle.yf_emit.proofs.CommentsStay.{comments_stay}
 use Rattle.yf_emit.proofs.EmptyTexts.{empty_alike}
 use Rattle.yf_emit.proofs.KeyDecides.{key_decides}
 use Rattle.yf_emit.proofs.LinesTidy.{lines_tidy}
+use Rattle.yf_emit.proofs.ReadingsDecide.{readings_decide}
 use Rattle.yf_emit.proofs.SpellingsKept.{spellings_kept, types_kept}
 
 pub keeps_hold : (t u : List ℕ) (s : Style) → IsUtf8 t → Formats t s u → Keeps t s u
@@ -19,5 +20,6 @@ keeps_hold t u s utf8 f = record {
   empty = empty_alike t u s f;
   blanks = blanks_kept t u s utf8 f;
   key = key_decides t u s;
+  reading = readings_decide t u s;
   comments = comments_stay t u s utf8;
 }

@@ -138,12 +138,23 @@ pub mod DirectivesFit
 pub mod DocumentTrails
 pub mod EventsTold
 pub mod BlanksKept
+pub mod KeysTold
 pub mod CommentsStay
 pub mod KeyDecides
+pub mod MatchedLemmas
+pub mod MatchedRows
+pub mod ReadingsDecide
 pub mod EmptyTexts
 pub mod KeepsHold
+pub mod ScalarsAmong
 pub mod RowColumns
+pub mod RowTokens
+pub mod TokenTabs
+pub mod PiecesRead
+pub mod StreamPieces
+pub mod DirectiveTabs
 pub mod LinesTidy
+mod ShownTidy
 pub mod SpellingsKept
 pub mod FormatKeeps
 pub mod FormatLawsHold

@@ -58,14 +58,14 @@ flow_values (e ∷ es) (f ∷ fs) q a =
     let others : values es ≡ values fs = cc in
     (subst (λ v. IsFlowEvent v) first a.0, flow_values es fs others a.1)
 
-line_flow : {x y : Node} → LineNode FlowOut x → Alike Anywhere x y → AllFlow (flat y)
-line_flow {x} {y} node a =
+line_flow : {x : Node} → LineNode FlowOut x → AllFlow (flat x)
+line_flow {x} node =
     let u : IsUtf8 (written x) = line_utf8 node.back.line in
     let there : Rest (written x) 0 (written x ++ []) = subst (λ z. Rest (written x) 0 z) (sym (append-nil (written x))) (rest_start (written x) u) in
     let derived = node.back.made (pos 0) 0 [] u nothing_follows there in
     let flow = flow_means derived tt in
     let meant = node.meant 0 in
-    flow_values (flat meant.node) (flat y) (sym (alike_values meant.alike) ∙ alike_values a) (subst (λ z. AllFlow z) meant.events flow.all)
+    flow_values (flat meant.node) (flat x) (sym (alike_values meant.alike)) (subst (λ z. AllFlow z) meant.events flow.all)
 
 block_not_inline : (at : Standing) (p : PropsValue) (text : List ℕ) (lines : List (List ℕ)) (style : ScalarStyle) → is_block_style style ≡ true → is_inline (scalar at p style text lines) ≡ true → ⊥
 block_not_inline at p text lines Plain e f = true≢false (sym e)
@@ -74,31 +74,34 @@ block_not_inline at p text lines Double e f = true≢false (sym e)
 block_not_inline at p text lines Literal e f = true≢false (sym f)
 block_not_inline at p text lines Folded e f = true≢false (sym f)
 
-inline_flow : {x y : Node} → Fit x → is_inline x ≡ true → Alike Anywhere x y → AllFlow (flat y)
-inline_flow (fit_nothing f) e (alike_scalars q) = (refl, tt)
-inline_flow (fit_line inline some node key) e a = line_flow node a
-inline_flow (fit_scalar {at = at} {p = p} {style = style} {text = text} {lines = lines} f g h) e a = absurd (block_not_inline at p text lines style h.block e)
-inline_flow (fit_sequence f p g gs) e a = absurd (true≢false (sym e))
-inline_flow (fit_mapping f p g h gs) e a = absurd (true≢false (sym e))
+pub inline_flow : {x : Node} → Fit x → is_inline x ≡ true → AllFlow (flat x)
+inline_flow (fit_nothing f) e = (refl, tt)
+inline_flow (fit_line inline some node key) e = line_flow node
+inline_flow (fit_scalar {at = at} {p = p} {style = style} {text = text} {lines = lines} f g h) e = absurd (block_not_inline at p text lines style h.block e)
+inline_flow (fit_sequence f p g gs) e = absurd (true≢false (sym e))
+inline_flow (fit_mapping f p g h gs) e = absurd (true≢false (sym e))
 
-key_flow : {k l : Node} (c : Setting) (column : ℕ) → Fit k → is_implicit c.style column k ≡ true → Alike Anywhere k l → AllFlow (flat l)
-key_flow c column (fit_nothing f) e (alike_scalars q) = (refl, tt)
-key_flow c column (fit_line inline some node key) e a = line_flow node a
-key_flow c column (fit_scalar {at = at} {p = p} {style = style} {text = text} {lines = lines} f g h) e a =
+pub key_flow : {k : Node} (c : Setting) (column : ℕ) → Fit k → is_implicit c.style column k ≡ true → AllFlow (flat k)
+key_flow c column (fit_nothing f) e = (refl, tt)
+key_flow c column (fit_line inline some node key) e = line_flow node
+key_flow c column (fit_scalar {at = at} {p = p} {style = style} {text = text} {lines = lines} f g h) e =
     absurd (not_implicit c column (scalar at p style text lines) (block_is_no_key c column at p text lines style h.block) e)
-key_flow c column (fit_sequence {at = at} {p = p} {x = x} {xs = xs} f q g gs) e a = absurd (not_implicit c column (sequence at false p (item x xs)) refl e)
-key_flow c column (fit_mapping {at = at} {p = p} {k = k} {v = v} {ps = ps} f q g h gs) e a = absurd (not_implicit c column (mapping at false p (pair k v ps)) refl e)
+key_flow c column (fit_sequence {at = at} {p = p} {x = x} {xs = xs} f q g gs) e = absurd (not_implicit c column (sequence at false p (item x xs)) refl e)
+key_flow c column (fit_mapping {at = at} {p = p} {k = k} {v = v} {ps = ps} f q g h gs) e = absurd (not_implicit c column (mapping at false p (pair k v ps)) refl e)
+
+alike_flow : {x y : Node} → Alike Anywhere x y → AllFlow (flat x) → AllFlow (flat y)
+alike_flow {x} {y} a b = flow_values (flat x) (flat y) (alike_values a) b
 
 scalar_fits : {at : Standing} {p : PropsValue} {text : List ℕ} {lines : List (List ℕ)} {style : ScalarStyle} → is_block_style style ≡ true → Fit (scalar at p style text lines) → (is_some at.span ≡ true) × FitScalar style text lines
 scalar_fits e (fit_nothing f) = absurd (true≢false (sym e))
 scalar_fits {at} {p} {text} {lines} {style} e (fit_line inline some node key) = absurd (block_not_inline at p text lines style e inline)
 scalar_fits e (fit_scalar f g h) = (f, h)
 
-items_fit : {at : Standing} {p : PropsValue} {xs : Items} → Fit (sequence at false p xs) → FitItems xs
+pub items_fit : {at : Standing} {p : PropsValue} {xs : Items} → Fit (sequence at false p xs) → FitItems xs
 items_fit (fit_line inline some node key) = absurd (true≢false (sym inline))
 items_fit (fit_sequence f p g gs) = fit_item g gs
 
-pairs_fit : {at : Standing} {p : PropsValue} {ps : Pairs} → Fit (mapping at false p ps) → FitPairs ps
+pub pairs_fit : {at : Standing} {p : PropsValue} {ps : Pairs} → Fit (mapping at false p ps) → FitPairs ps
 pairs_fit (fit_line inline some node key) = absurd (true≢false (sym inline))
 pairs_fit (fit_mapping f p g h gs) = fit_pair g h gs
 
@@ -168,7 +171,7 @@ mutual
   node_notes {t} {c} {f = f} {x = x} cs spot to e g a (line_rows {y = y} {p = p} inline some h i k st l m o w) fit rest n =
       let alike : Alike Anywhere x y = blocks_alike a in
       let within : is_inline x ≡ true = same_inline alike ∙ inline in
-      let flow : AllFlow (flat y) = inline_flow fit within alike in
+      let flow : AllFlow (flat y) = alike_flow alike (inline_flow fit within) in
       let base : RowNotes t f (p ∷ []) (one_line_row spot.column x (written x)) (one_line_row to.column y (written y)) [] =
       line_notes spot.column to.column x y (written x) (written y) (λ z. some (sym (same_written alike) ∙ z)) some in
       record {
@@ -259,7 +262,7 @@ mutual
   pair_notes {t} {c} {m} {f} {k} {v} {l} {w} {ps} cs column to e g a b agree (implicit_rows flag q n on d j) fit fits rest noted =
       let here : is_implicit c.style to l ≡ true = ap (λ z. is_implicit c.style z l) g ∙ n in
       let there : is_implicit c.style column k ≡ true = ap (λ z. is_implicit c.style z k) e ∙ (same_implicit c.style m (blocks_alike a) ∙ n) in
-      let flow : AllFlow (flat l) = key_flow c column fit there (blocks_alike a) in
+      let flow : AllFlow (flat l) = alike_flow (blocks_alike a) (key_flow c column fit there) in
       let told : is_some (key_comment cs l w) ≡ flag = sym (agree.comment column there) ∙ sym q in
       let second : value_entries c.style to w ≡ value_entries c.style m v =
       ap (λ z. value_entries c.style z w) g ∙ ap (λ z. if z && not c.style.seq_indent then m else m + c.style.indent) (sym (same_sequence (blocks_alike b))) in

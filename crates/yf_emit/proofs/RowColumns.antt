@@ -1,26 +1,29 @@
--- Each row of a layout stands at a multiple of the indentation, which the open collections limit, and so do the lines of block scalars, which are scalars of the trees.
-use Rattle.std.proofs.Common.{◌≡◌, ℕ, ◌+◌, ◌*◌, ◌≤◌, suc, Bool, true, false, true≢false, List, [], ◌∷◌, ◌++◌, map, Option, Some, None, refl, sym, ap, ◌∙◌, subst, arith, flat_map}
+-- Each row of a layout stands at a multiple of the indentation, which the open collections limit, and so do the lines of block scalars: of those of the trees, in
+-- order and each once, below its header.
+use Rattle.std.proofs.Common.{◌≡◌, ℕ, ◌+◌, ◌*◌, ◌≤◌, suc, Bool, true, false, true≢false, List, [], ◌∷◌, ◌++◌, map, Option, Some, None, refl, sym, ap, ◌∙◌, subst, arith, flat_map, append_assoc, append-nil, replicate}
 use Rattle.std.specs.Prelude.{◌&&◌, ◌-◌, filter, if◌then◌else◌, not, is_some, max}
 use Rattle.std.proofs.Math.Nat.{add-mul, le-max_left, le-max_right}
 use Rattle.yf_comments.specs.Comment.{CommentValue}
 use Rattle.yf_comments.specs.GapLines.{GapLine, blank, remark}
 use Rattle.yf_events.specs.Event.{Placed, document_ends, mapping_ends, sequence_ends}
-use Rattle.yf_events.specs.Tree.{DocumentTree, Node, scalar, alias, sequence, mapping, Items, no_items, item, Pairs, no_pairs, pair, flat, flat_items, flat_pairs, flat_document, is_sequence, unplaced}
+use Rattle.yf_events.specs.Tree.{DocumentTree, Node, scalar, alias, sequence, mapping, Items, no_items, item, Pairs, no_pairs, pair, flat, flat_items, flat_pairs, flat_document, is_sequence}
 use Rattle.yf_events.specs.declared.directive.Directive.{Directive}
 use Rattle.yf_events.specs.declared.document.Doc.{Doc}
-use Rattle.yf_events.specs.declared.event.ScalarStyle.{ScalarStyle}
 use Rattle.yf_events.specs.declared.event.ScalarStyle.TheVariants.{Plain, Single, Double, Literal, Folded}
 use Rattle.yf_grammar.specs.Meant.{tall, tall_items, tall_pairs}
 use Rattle.yf_emit.specs.declared.style.Style.{Style}
-use Rattle.yf_emit.specs.BlockLines.{block_lines}
+use Rattle.yf_emit.specs.BlockLines.{block_lines, header_text}
 use Rattle.yf_emit.specs.Decorated.{Deco, blank_if, comments_left, decos_of, ending_behind, gap_of, remarks_behind}
-use Rattle.yf_emit.specs.FitDocuments.{tall_documents}
-use Rattle.yf_emit.specs.Fits.{is_block_style}
+use Rattle.yf_emit.specs.FitDocuments.{FitDocuments, fit_no_documents, fit_document, tall_documents}
+use Rattle.yf_emit.specs.Fits.{Fit, FitItems, fit_item, FitPairs, fit_pair}
 use Rattle.yf_emit.specs.Layout.{Source, may_be_blank_behind, precedes_item}
 use Rattle.yf_emit.specs.Normal.{Setting, Spot, inner_spot, is_implicit, key_comment, key_spot, root_spot, value_column, value_entries, value_of_implicit, value_spot}
-use Rattle.yf_emit.specs.OneLine.{colon_behind, props_text, width, written}
-use Rattle.yf_emit.specs.Rows.{Ending, Row, anywhere, begins_below, beginning_at, behind_key, colon_row, directive_row, end_rows, entry_row, explicit_pair, is_empty_text, joined, key_row, one_line, one_line_row, pair_rows, props_row, rows, rows_of_items, rows_of_pairs, stream_rows}
-use Rattle.yf_emit.specs.TidyLines.{HasScalar, has_first, has_later}
+use Rattle.yf_emit.specs.OneLine.{colon_behind, props_text, spaced, width, written}
+use Rattle.yf_emit.specs.Rows.{Ending, Row, anywhere, begins_below, beginning_at, behind_key, colon_row, directive_row, document_rows, end_rows, entry_row, explicit_pair, is_empty_text, joined, key_row, one_line, one_line_row, pair_rows, props_row, rows, rows_of_items, rows_of_pairs, stream_rows}
+use Rattle.yf_emit.specs.TidyLines.{BlockScalar, block_scalars}
+use Rattle.yf_emit.proofs.FlowEvents.{AllFlow}
+use Rattle.yf_emit.proofs.NoteTrees.{inline_flow, items_fit, key_flow, pairs_fit}
+use Rattle.yf_emit.proofs.ScalarsAmong.{flow_none, scalars_append, scalars_ended}
 use Rattle.yf_emit.proofs.TreesMade.{either_pair}
 
 -- Columns.
@@ -54,70 +57,63 @@ entries_step s limit column v a = by (is_sequence v && not s.seq_indent) where
   by true = wider (suc limit) (omega arith) a
   by false = one_on a
 
--- Scalars among events.
+-- Rows.
 
-pub has_left : {style : ScalarStyle} {text : List ℕ} {lines : List (List ℕ)} {es : List Placed} (fs : List Placed) → HasScalar style text lines es → HasScalar style text lines (es ++ fs)
-has_left fs (has_first e f) = has_first e f
-has_left fs (has_later a) = has_later (has_left fs a)
+module _ (indent limit : ℕ) where
+  -- a text ends with the header of a block scalar
+  pub record HeaderEnds (b : BlockScalar) (text : List ℕ) : Type 0 where
+    pub before : List ℕ
+    pub is : text ≡ before ++ header_text b.style indent b.text
 
-has_right : {style : ScalarStyle} {text : List ℕ} {lines : List (List ℕ)} (es : List Placed) {fs : List Placed} → HasScalar style text lines fs → HasScalar style text lines (es ++ fs)
-has_right [] a = a
-has_right (e ∷ es) a = has_later (has_right es a)
+  -- no lines of a block scalar, or those of the first of these, of which others are left
+  pub data StepBody (text : List ℕ) (rest : List BlockScalar) : List BlockScalar → List (List ℕ) → Type 0 where
+    bare_body : StepBody text rest rest []
+    step_body : {b : BlockScalar} {column : ℕ} → IsStep indent limit column → HeaderEnds b text → StepBody text rest (b ∷ rest) (block_lines b.style column b.text b.lines)
 
--- those of the one list are among the other
-pub record AreAmong (es fs : List Placed) : Type 0 where
-  pub scalar : {style : ScalarStyle} {text : List ℕ} {lines : List (List ℕ)} → HasScalar style text lines es → HasScalar style text lines fs
-
-left_among : {es all : List Placed} (fs : List Placed) → AreAmong (es ++ fs) all → AreAmong es all
-left_among fs a = record { scalar = λ h. a.scalar (has_left fs h) }
-
-right_among : {fs all : List Placed} (es : List Placed) → AreAmong (es ++ fs) all → AreAmong fs all
-right_among es a = record { scalar = λ h. a.scalar (has_right es h) }
-
-later_among : {e : Placed} {es all : List Placed} → AreAmong (e ∷ es) all → AreAmong es all
-later_among a = record { scalar = λ h. a.scalar (has_later h) }
-
-module _ (indent limit : ℕ) (all : List Placed) where
-  -- no lines of a block scalar, or those of one among the events
-  pub data StepBody : List (List ℕ) → Type 0 where
-    bare_body : StepBody []
-    step_body : {style : ScalarStyle} {text : List ℕ} {lines : List (List ℕ)} {column : ℕ} → IsStep indent limit column → is_block_style style ≡ true → HasScalar style text lines all
-        → StepBody (block_lines style column text lines)
-
-  pub data Stepped : List Row → Type 0 where
-    none_stepped : Stepped []
-    row_stepped : {x : Row} {xs : List Row} → IsStep indent limit x.column → StepBody x.body → Stepped xs → Stepped (x ∷ xs)
+  pub data Stepped : List BlockScalar → List Row → Type 0 where
+    none_stepped : Stepped [] []
+    row_stepped : {rest bs : List BlockScalar} {x : Row} {xs : List Row} → IsStep indent limit x.column → StepBody x.text rest bs x.body → Stepped rest xs → Stepped bs (x ∷ xs)
 
   -- the same, where the first row may stand anywhere
-  data Loose : List Row → Type 0 where
-    no_loose : Loose []
-    one_loose : {x : Row} {xs : List Row} → StepBody x.body → Stepped xs → Loose (x ∷ xs)
+  data Loose : List BlockScalar → List Row → Type 0 where
+    no_loose : Loose [] []
+    one_loose : {rest bs : List BlockScalar} {x : Row} {xs : List Row} → StepBody x.text rest bs x.body → Stepped rest xs → Loose bs (x ∷ xs)
 
   data FirstStep : List Row → Type 0 where
     no_first : FirstStep []
     one_first : {x : Row} {xs : List Row} → IsStep indent limit x.column → FirstStep (x ∷ xs)
 
-  whole : {xs : List Row} → Loose xs → FirstStep xs → Stepped xs
+  whole : {bs : List BlockScalar} {xs : List Row} → Loose bs xs → FirstStep xs → Stepped bs xs
   whole no_loose b = none_stepped
   whole (one_loose a more) (one_first b) = row_stepped b a more
 
-  loose : {xs : List Row} → Stepped xs → Loose xs
+  loose : {bs : List BlockScalar} {xs : List Row} → Stepped bs xs → Loose bs xs
   loose none_stepped = no_loose
   loose (row_stepped a b more) = one_loose b more
 
-  first_of : {xs : List Row} → Stepped xs → FirstStep xs
+  first_of : {bs : List BlockScalar} {xs : List Row} → Stepped bs xs → FirstStep xs
   first_of none_stepped = no_first
   first_of (row_stepped a b more) = one_first a
 
-  stepped_append : {xs ys : List Row} → Stepped xs → Stepped ys → Stepped (xs ++ ys)
+  -- with other scalars after them, and with a text before theirs
+  body_append : {text : List ℕ} {rest bs : List BlockScalar} {body : List (List ℕ)} (cs : List BlockScalar) → StepBody text rest bs body → StepBody text (rest ++ cs) (bs ++ cs) body
+  body_append cs bare_body = bare_body
+  body_append cs (step_body a h) = step_body a h
+
+  body_before : {text : List ℕ} {rest bs : List BlockScalar} {body : List (List ℕ)} (w : List ℕ) → StepBody text rest bs body → StepBody (w ++ text) rest bs body
+  body_before w bare_body = bare_body
+  body_before w (step_body {b = b} a h) =
+      step_body a (record { before = w ++ h.before; is = ap (λ z. w ++ z) h.is ∙ sym (append_assoc w h.before (header_text b.style indent b.text)) })
+
+  stepped_append : {bs cs : List BlockScalar} {xs ys : List Row} → Stepped bs xs → Stepped cs ys → Stepped (bs ++ cs) (xs ++ ys)
   stepped_append none_stepped b = b
-  stepped_append (row_stepped a c more) b = row_stepped a c (stepped_append more b)
+  stepped_append {cs = cs} (row_stepped a c more) b = row_stepped a (body_append cs c) (stepped_append more b)
 
-  joined_stepped : (head : Row) (n : ℕ) {rs : List Row} → IsStep indent limit head.column → head.body ≡ [] → Loose rs → Stepped (joined head n rs)
-  joined_stepped head n a e no_loose = row_stepped a (subst (λ z. StepBody z) (sym e) bare_body) none_stepped
-  joined_stepped head n a e (one_loose b more) = row_stepped a b more
+  joined_stepped : (head : Row) (n : ℕ) {bs : List BlockScalar} {rs : List Row} → IsStep indent limit head.column → head.body ≡ [] → Loose bs rs → Stepped bs (joined head n rs)
+  joined_stepped head n a e no_loose = row_stepped a (subst (λ z. StepBody head.text [] [] z) (sym e) bare_body) none_stepped
+  joined_stepped head n a e (one_loose b more) = row_stepped a (body_before head.text (body_before (replicate n 32) b)) more
 
-  line_loose : (column : ℕ) (x : Node) (w : List ℕ) → Loose (one_line_row column x w)
+  line_loose : (column : ℕ) (x : Node) (w : List ℕ) → Loose [] (one_line_row column x w)
   line_loose column x [] = no_loose
   line_loose column x (b ∷ w) = one_loose bare_body none_stepped
 
@@ -125,7 +121,7 @@ module _ (indent limit : ℕ) (all : List Placed) where
   line_first column x [] a = no_first
   line_first column x (b ∷ w) a = one_first a
 
-  props_loose : (column : ℕ) (w : List ℕ) {rs : List Row} → Stepped rs → Loose (props_row column w ++ rs)
+  props_loose : (column : ℕ) (w : List ℕ) {bs : List BlockScalar} {rs : List Row} → Stepped bs rs → Loose bs (props_row column w ++ rs)
   props_loose column [] a = loose a
   props_loose column (b ∷ w) a = one_loose bare_body a
 
@@ -137,18 +133,26 @@ module _ (indent limit : ℕ) (all : List Placed) where
   unprefixed column [] e b = b
   unprefixed column (c ∷ w) e b = absurd cc
 
+  -- a header after properties
+  header_spaced : (w : List ℕ) (b : BlockScalar) → HeaderEnds b (spaced w (header_text b.style indent b.text))
+  header_spaced w b = by w (header_text b.style indent b.text) refl where
+    by : (w h : List ℕ) → header_text b.style indent b.text ≡ h → HeaderEnds b (spaced w h)
+    by [] h e = record { before = []; is = sym e }
+    by (c ∷ w) [] e = record { before = c ∷ w; is = sym (append-nil (c ∷ w)) ∙ ap (λ z. (c ∷ w) ++ z) (sym e) }
+    by (c ∷ w) (d ∷ h) e = record { before = (c ∷ w) ++ (32 ∷ []); is = sym (append_assoc (c ∷ w) (32 ∷ []) (d ∷ h)) ∙ ap (λ z. ((c ∷ w) ++ (32 ∷ [])) ++ z) (sym e) }
+
 -- Trees.
 
 -- the limit counts the collections that are open
-module _ (c : Setting) (limit : ℕ) (all : List Placed) where
-  abbrev AreStepped : List Row → Type 0
-  AreStepped rs = Stepped c.style.indent limit all rs
+module _ (c : Setting) (limit : ℕ) where
+  abbrev AreStepped : List BlockScalar → List Row → Type 0
+  AreStepped bs rs = Stepped c.style.indent limit bs rs
 
-  abbrev AreLoose : List Row → Type 0
-  AreLoose rs = Loose c.style.indent limit all rs
+  abbrev AreLoose : List BlockScalar → List Row → Type 0
+  AreLoose bs rs = Loose c.style.indent limit bs rs
 
   abbrev BeginAtStep : List Row → Type 0
-  BeginAtStep rs = FirstStep c.style.indent limit all rs
+  BeginAtStep rs = FirstStep c.style.indent limit rs
 
   abbrev AtStep : ℕ → ℕ → Type 0
   AtStep n column = IsStep c.style.indent n column
@@ -156,30 +160,30 @@ module _ (c : Setting) (limit : ℕ) (all : List Placed) where
   -- wherever its entries stand, n steps at most to the right
   record NodeStepped (n : ℕ) (x : Node) : Type 0 where
     room : suc n ≤ limit
-    rows_loose : (spot : Spot) → AtStep n spot.entries → AtStep (suc n) spot.lines → AreLoose (rows c spot x)
+    rows_loose : (spot : Spot) → AtStep n spot.entries → AtStep (suc n) spot.lines → AreLoose (block_scalars (flat x)) (rows c spot x)
     first : (spot : Spot) → AtStep limit spot.column → AtStep n spot.entries → BeginAtStep (rows c spot x)
     below : (spot : Spot) → begins_below x ≡ true → AtStep n spot.entries → BeginAtStep (rows c spot x)
 
-  node_whole : {n : ℕ} {x : Node} (spot : Spot) → NodeStepped n x → AtStep limit spot.column → AtStep n spot.entries → AtStep (suc n) spot.lines → AreStepped (rows c spot x)
-  node_whole spot a d e f = whole c.style.indent limit all (a.rows_loose spot e f) (a.first spot d e)
+  node_whole : {n : ℕ} {x : Node} (spot : Spot) → NodeStepped n x → AtStep limit spot.column → AtStep n spot.entries → AtStep (suc n) spot.lines → AreStepped (block_scalars (flat x)) (rows c spot x)
+  node_whole spot a d e f = whole c.style.indent limit (a.rows_loose spot e f) (a.first spot d e)
 
   -- its lines stand at the column of its entries
-  inner_loose : {n : ℕ} {x : Node} (spot : Spot) → NodeStepped n x → AtStep n spot.entries → spot.lines ≡ spot.entries → AreLoose (rows c spot x)
+  inner_loose : {n : ℕ} {x : Node} (spot : Spot) → NodeStepped n x → AtStep n spot.entries → spot.lines ≡ spot.entries → AreLoose (block_scalars (flat x)) (rows c spot x)
   inner_loose {n} spot a d e = a.rows_loose spot d (subst (λ k. AtStep (suc n) k) (sym e) (wider (suc n) (omega arith) d))
 
   -- entries at a column of n steps at most, with a sign
   explicit_stepped : {n : ℕ} {k v : Node} (column : ℕ) → NodeStepped (suc n) k → NodeStepped (suc n) v → AtStep n column
-      → AreStepped (explicit_pair c.style column k (rows c (key_spot c.style column k) k) (rows c (inner_spot c.style column) v))
+      → AreStepped (block_scalars (flat k) ++ block_scalars (flat v)) (explicit_pair c.style column k (rows c (key_spot c.style column k) k) (rows c (inner_spot c.style column) v))
   explicit_stepped {n} {k} {v} column a b d =
       let room : suc (suc n) ≤ limit = a.room in
       let here : AtStep limit column = wider limit (omega (arith, room)) d in
-      stepped_append c.style.indent limit all
-      (joined_stepped c.style.indent limit all (entry_row column (63 ∷ []) k) (c.style.indent - 1) here refl (inner_loose (key_spot c.style column k) a (one_on d) refl))
-      (joined_stepped c.style.indent limit all (colon_row column k) (c.style.indent - 1) here refl (inner_loose (inner_spot c.style column) b (one_on d) refl))
+      stepped_append c.style.indent limit
+      (joined_stepped c.style.indent limit (entry_row column (63 ∷ []) k) (c.style.indent - 1) here refl (inner_loose (key_spot c.style column k) a (one_on d) refl))
+      (joined_stepped c.style.indent limit (colon_row column k) (c.style.indent - 1) here refl (inner_loose (inner_spot c.style column) b (one_on d) refl))
 
   -- the value after an implicit key
   value_rows : {n : ℕ} (k : Node) {v : Node} (column : ℕ) → NodeStepped (suc n) v → AtStep n column → (o : Option CommentValue) → key_comment c.comments k v ≡ o → (below : Bool) → begins_below v ≡ below
-      → AreStepped (behind_key (key_row column k) o below (rows c (value_of_implicit c column k v) v))
+      → AreStepped (block_scalars (flat v)) (behind_key (key_row column k) o below (rows c (value_of_implicit c column k v) v))
   value_rows {n} k {v} column b d o e below f = by o e below f where
     room : suc (suc n) ≤ limit
     room = b.room
@@ -190,30 +194,32 @@ module _ (c : Setting) (limit : ℕ) (all : List Placed) where
     entries : AtStep (suc n) (value_entries c.style column v)
     entries = entries_step c.style n column v d
 
-    inner : AreLoose (rows c (value_of_implicit c column k v) v)
+    inner : AreLoose (block_scalars (flat v)) (rows c (value_of_implicit c column k v) v)
     inner = b.rows_loose (value_of_implicit c column k v) entries (wider (suc (suc n)) (omega arith) (one_on d))
 
-    by : (o : Option CommentValue) → key_comment c.comments k v ≡ o → (below : Bool) → begins_below v ≡ below → AreStepped (behind_key (key_row column k) o below (rows c (value_of_implicit c column k v) v))
+    by : (o : Option CommentValue) → key_comment c.comments k v ≡ o → (below : Bool) → begins_below v ≡ below
+        → AreStepped (block_scalars (flat v)) (behind_key (key_row column k) o below (rows c (value_of_implicit c column k v) v))
     by (Some comment) e below f =
         let at : value_column c column k v ≡ column + c.style.indent =
         ap (λ (z : Option CommentValue). if is_some z then column + c.style.indent else column + width (written k) + width (colon_behind k) + 1) e in
         row_stepped here bare_body
-        (whole c.style.indent limit all inner (b.first (value_of_implicit c column k v) (subst (λ z. AtStep limit z) (sym at) (wider limit (omega (arith, room)) (one_on d))) entries))
-    by None e true f = row_stepped here bare_body (whole c.style.indent limit all inner (b.below (value_of_implicit c column k v) f entries))
-    by None e false f = joined_stepped c.style.indent limit all (key_row column k) 1 here refl inner
+        (whole c.style.indent limit inner (b.first (value_of_implicit c column k v) (subst (λ z. AtStep limit z) (sym at) (wider limit (omega (arith, room)) (one_on d))) entries))
+    by None e true f = row_stepped here bare_body (whole c.style.indent limit inner (b.below (value_of_implicit c column k v) f entries))
+    by None e false f = joined_stepped c.style.indent limit (key_row column k) 1 here refl inner
 
-  pair_stepped : {n : ℕ} {k v : Node} (column : ℕ) → NodeStepped (suc n) k → NodeStepped (suc n) v → AtStep n column
-      → AreStepped (pair_rows c column k v (rows c (key_spot c.style column k) k) (rows c (value_spot c column k v) v))
-  pair_stepped {k = k} {v = v} column a b d = by (is_implicit c.style column k) where
-    by : (p : Bool) → AreStepped (either_pair p c column k v)
-    by true = value_rows k column b d (key_comment c.comments k v) refl (begins_below v) refl
-    by false = explicit_stepped column a b d
+  pair_stepped : {n : ℕ} {k v : Node} (column : ℕ) → Fit k → NodeStepped (suc n) k → NodeStepped (suc n) v → AtStep n column
+      → AreStepped (block_scalars (flat k) ++ block_scalars (flat v)) (pair_rows c column k v (rows c (key_spot c.style column k) k) (rows c (value_spot c column k v) v))
+  pair_stepped {k = k} {v = v} column fit a b d = by (is_implicit c.style column k) refl where
+    by : (p : Bool) → is_implicit c.style column k ≡ p → AreStepped (block_scalars (flat k) ++ block_scalars (flat v)) (either_pair p c column k v)
+    by true e = subst (λ z. AreStepped (z ++ block_scalars (flat v)) (either_pair true c column k v)) (sym (flow_none (flat k) (key_flow c column fit e))) (value_rows k column b d (key_comment c.comments k v) refl (begins_below v) refl)
+    by false e = explicit_stepped column a b d
 
-  line_stepped : {n : ℕ} {x : Node} → suc n ≤ limit → ((spot : Spot) → rows c spot x ≡ one_line spot x) → (begins_below x ≡ true → ⊥) → NodeStepped n x
-  line_stepped {x = x} l e n = record {
+  line_stepped : {n : ℕ} {x : Node} → suc n ≤ limit → AllFlow (flat x) → ((spot : Spot) → rows c spot x ≡ one_line spot x) → (begins_below x ≡ true → ⊥) → NodeStepped n x
+  line_stepped {x = x} l flow e n = record {
     room = l;
-    rows_loose = λ spot a b. subst (λ z. AreLoose z) (sym (e spot)) (line_loose c.style.indent limit all spot.column x (written x));
-    first = λ spot a b. subst (λ z. BeginAtStep z) (sym (e spot)) (line_first c.style.indent limit all spot.column x (written x) a);
+    rows_loose = λ spot a b.
+        subst (λ z. AreLoose z (rows c spot x)) (sym (flow_none (flat x) flow)) (subst (λ z. AreLoose [] z) (sym (e spot)) (line_loose c.style.indent limit spot.column x (written x)));
+    first = λ spot a b. subst (λ z. BeginAtStep z) (sym (e spot)) (line_first c.style.indent limit spot.column x (written x) a);
     below = λ spot f a. absurd (n f);
   }
 
@@ -226,99 +232,114 @@ module _ (c : Setting) (limit : ℕ) (all : List Placed) where
       let two : b ≤ max a b = le-max_right a b in
       (omega (arith, one, l), omega (arith, two, l))
 
+  -- two or three nodes after one another
+  two_scalars : (xs ys : List Placed) {rs : List Row} → AreStepped (block_scalars xs ++ block_scalars ys) rs → AreStepped (block_scalars (xs ++ ys)) rs
+  two_scalars xs ys {rs} a = subst (λ z. AreStepped z rs) (sym (scalars_append xs ys)) a
+
+  three_scalars : (xs ys zs : List Placed) {rs : List Row} → AreStepped ((block_scalars xs ++ block_scalars ys) ++ block_scalars zs) rs → AreStepped (block_scalars (xs ++ (ys ++ zs))) rs
+  three_scalars xs ys zs {rs} a =
+      two_scalars xs (ys ++ zs) (subst (λ z. AreStepped (block_scalars xs ++ z) rs) (sym (scalars_append ys zs)) (subst (λ z. AreStepped z rs) (append_assoc (block_scalars xs) (block_scalars ys) (block_scalars zs)) a))
+
   mutual
-    node_stepped : (n : ℕ) (x : Node) → suc (n + tall x) ≤ limit → AreAmong (flat x) all → NodeStepped n x
-    node_stepped n (scalar at props Plain text lines) l w = line_stepped (omega (arith, l)) (λ spot. refl) no_below
-    node_stepped n (scalar at props Single text lines) l w = line_stepped (omega (arith, l)) (λ spot. refl) no_below
-    node_stepped n (scalar at props Double text lines) l w = line_stepped (omega (arith, l)) (λ spot. refl) no_below
-    node_stepped n (scalar at props Literal text lines) l w = record {
+    node_stepped : (n : ℕ) (x : Node) → suc (n + tall x) ≤ limit → Fit x → NodeStepped n x
+    node_stepped n (scalar at props Plain text lines) l fit = line_stepped (omega (arith, l)) (inline_flow fit refl) (λ spot. refl) no_below
+    node_stepped n (scalar at props Single text lines) l fit = line_stepped (omega (arith, l)) (inline_flow fit refl) (λ spot. refl) no_below
+    node_stepped n (scalar at props Double text lines) l fit = line_stepped (omega (arith, l)) (inline_flow fit refl) (λ spot. refl) no_below
+    node_stepped n (scalar at props Literal text lines) l fit = record {
       room = omega (arith, l);
-      rows_loose = λ spot a b. one_loose (step_body (wider limit (omega (arith, l)) b) refl (w.scalar (has_first refl refl))) none_stepped;
+      rows_loose = λ spot a b.
+          one_loose (step_body {b = record { style = Literal; text = text; lines = lines }} (wider limit (omega (arith, l)) b) (header_spaced c.style.indent limit (props_text props) (record { style = Literal; text = text; lines = lines }))) none_stepped;
       first = λ spot a b. one_first a;
       below = λ spot f a. absurd (no_below f);
     }
-    node_stepped n (scalar at props Folded text lines) l w = record {
+    node_stepped n (scalar at props Folded text lines) l fit = record {
       room = omega (arith, l);
-      rows_loose = λ spot a b. one_loose (step_body (wider limit (omega (arith, l)) b) refl (w.scalar (has_first refl refl))) none_stepped;
+      rows_loose = λ spot a b.
+          one_loose (step_body {b = record { style = Folded; text = text; lines = lines }} (wider limit (omega (arith, l)) b) (header_spaced c.style.indent limit (props_text props) (record { style = Folded; text = text; lines = lines }))) none_stepped;
       first = λ spot a b. one_first a;
       below = λ spot f a. absurd (no_below f);
     }
-    node_stepped n (alias at name) l w = line_stepped (omega (arith, l)) (λ spot. refl) no_below
-    node_stepped n (sequence at true props no_items) l w = line_stepped (omega (arith, l)) (λ spot. refl) no_below
-    node_stepped n (sequence at true props (item x xs)) l w = line_stepped (omega (arith, l)) (λ spot. refl) no_below
-    node_stepped n (sequence at false props xs) l w =
-        let inner : AreAmong (flat_items xs) all = left_among (unplaced sequence_ends ∷ []) (later_among w) in
+    node_stepped n (alias at name) l fit = line_stepped (omega (arith, l)) (inline_flow fit refl) (λ spot. refl) no_below
+    node_stepped n (sequence at true props no_items) l fit = line_stepped (omega (arith, l)) (inline_flow fit refl) (λ spot. refl) no_below
+    node_stepped n (sequence at true props (item x xs)) l fit = line_stepped (omega (arith, l)) (inline_flow fit refl) (λ spot. refl) no_below
+    node_stepped n (sequence at false props xs) l fit =
         let less : suc (suc n + tall_items xs) ≤ limit = omega (arith, l) in
+        let inside : FitItems xs = items_fit fit in
         record {
           room = omega (arith, l);
-          rows_loose = λ spot a b. props_loose c.style.indent limit all spot.column (props_text props) (items_stepped n spot.entries xs a less inner);
-          first = λ spot a b. props_first c.style.indent limit all spot.column (props_text props) a (first_of c.style.indent limit all (items_stepped n spot.entries xs b less inner));
-          below = λ spot f a. unprefixed c.style.indent limit all spot.column (props_text props) (below_bare xs f) (first_of c.style.indent limit all (items_stepped n spot.entries xs a less inner));
+          rows_loose = λ spot a b.
+              subst (λ z. AreLoose z (rows c spot (sequence at false props xs))) (sym (scalars_ended (flat_items xs) sequence_ends refl))
+              (props_loose c.style.indent limit spot.column (props_text props) (items_stepped n spot.entries xs a less inside));
+          first = λ spot a b. props_first c.style.indent limit spot.column (props_text props) a (first_of c.style.indent limit (items_stepped n spot.entries xs b less inside));
+          below = λ spot f a. unprefixed c.style.indent limit spot.column (props_text props) (below_bare xs f) (first_of c.style.indent limit (items_stepped n spot.entries xs a less inside));
         } where
           below_bare : (xs : Items) → begins_below (sequence at false props xs) ≡ true → is_empty_text (props_text props) ≡ true
           below_bare no_items e = absurd (no_below e)
           below_bare (item x xs) e = e
-    node_stepped n (mapping at true props no_pairs) l w = line_stepped (omega (arith, l)) (λ spot. refl) no_below
-    node_stepped n (mapping at true props (pair k v ps)) l w = line_stepped (omega (arith, l)) (λ spot. refl) no_below
-    node_stepped n (mapping at false props ps) l w =
-        let inner : AreAmong (flat_pairs ps) all = left_among (unplaced mapping_ends ∷ []) (later_among w) in
+    node_stepped n (mapping at true props no_pairs) l fit = line_stepped (omega (arith, l)) (inline_flow fit refl) (λ spot. refl) no_below
+    node_stepped n (mapping at true props (pair k v ps)) l fit = line_stepped (omega (arith, l)) (inline_flow fit refl) (λ spot. refl) no_below
+    node_stepped n (mapping at false props ps) l fit =
         let less : suc (suc n + tall_pairs ps) ≤ limit = omega (arith, l) in
+        let inside : FitPairs ps = pairs_fit fit in
         record {
           room = omega (arith, l);
-          rows_loose = λ spot a b. props_loose c.style.indent limit all spot.column (props_text props) (pairs_stepped n spot.entries ps a less inner);
-          first = λ spot a b. props_first c.style.indent limit all spot.column (props_text props) a (first_of c.style.indent limit all (pairs_stepped n spot.entries ps b less inner));
-          below = λ spot f a. unprefixed c.style.indent limit all spot.column (props_text props) (below_bare ps f) (first_of c.style.indent limit all (pairs_stepped n spot.entries ps a less inner));
+          rows_loose = λ spot a b.
+              subst (λ z. AreLoose z (rows c spot (mapping at false props ps))) (sym (scalars_ended (flat_pairs ps) mapping_ends refl))
+              (props_loose c.style.indent limit spot.column (props_text props) (pairs_stepped n spot.entries ps a less inside));
+          first = λ spot a b. props_first c.style.indent limit spot.column (props_text props) a (first_of c.style.indent limit (pairs_stepped n spot.entries ps b less inside));
+          below = λ spot f a. unprefixed c.style.indent limit spot.column (props_text props) (below_bare ps f) (first_of c.style.indent limit (pairs_stepped n spot.entries ps a less inside));
         } where
           below_bare : (ps : Pairs) → begins_below (mapping at false props ps) ≡ true → is_empty_text (props_text props) ≡ true
           below_bare no_pairs e = absurd (no_below e)
           below_bare (pair k v ps) e = e
 
-    items_stepped : (n column : ℕ) (xs : Items) → AtStep n column → suc (suc n + tall_items xs) ≤ limit → AreAmong (flat_items xs) all → AreStepped (rows_of_items c column xs)
-    items_stepped n column no_items a l w = none_stepped
-    items_stepped n column (item x xs) a l w =
+    items_stepped : (n column : ℕ) (xs : Items) → AtStep n column → suc (suc n + tall_items xs) ≤ limit → FitItems xs → AreStepped (block_scalars (flat_items xs)) (rows_of_items c column xs)
+    items_stepped n column no_items a l fit = none_stepped
+    items_stepped n column (item x xs) a l (fit_item f fs) =
         let less = two_less (suc n) (tall x) (tall_items xs) l in
-        stepped_append c.style.indent limit all
-        (joined_stepped c.style.indent limit all (entry_row column (45 ∷ []) x) (c.style.indent - 1) (wider limit (omega (arith, l)) a) refl
-        (inner_loose (inner_spot c.style column) (node_stepped (suc n) x less.0 (left_among (flat_items xs) w)) (one_on a) refl))
-        (items_stepped n column xs a less.1 (right_among (flat x) w))
+        two_scalars (flat x) (flat_items xs)
+        (stepped_append c.style.indent limit
+        (joined_stepped c.style.indent limit (entry_row column (45 ∷ []) x) (c.style.indent - 1) (wider limit (omega (arith, l)) a) refl
+        (inner_loose (inner_spot c.style column) (node_stepped (suc n) x less.0 f) (one_on a) refl))
+        (items_stepped n column xs a less.1 fs))
 
-    pairs_stepped : (n column : ℕ) (ps : Pairs) → AtStep n column → suc (suc n + tall_pairs ps) ≤ limit → AreAmong (flat_pairs ps) all → AreStepped (rows_of_pairs c column ps)
-    pairs_stepped n column no_pairs a l w = none_stepped
-    pairs_stepped n column (pair k v ps) a l w =
+    pairs_stepped : (n column : ℕ) (ps : Pairs) → AtStep n column → suc (suc n + tall_pairs ps) ≤ limit → FitPairs ps → AreStepped (block_scalars (flat_pairs ps)) (rows_of_pairs c column ps)
+    pairs_stepped n column no_pairs a l fit = none_stepped
+    pairs_stepped n column (pair k v ps) a l (fit_pair f g fs) =
         let less = two_less (suc n) (max (tall k) (tall v)) (tall_pairs ps) l in
         let both = two_less (suc n) (tall k) (tall v) less.0 in
-        stepped_append c.style.indent limit all
-        (pair_stepped column (node_stepped (suc n) k both.0 (left_among (flat v ++ flat_pairs ps) w)) (node_stepped (suc n) v both.1 (left_among (flat_pairs ps) (right_among (flat k) w))) a)
-        (pairs_stepped n column ps a less.1 (right_among (flat v) (right_among (flat k) w)))
+        three_scalars (flat k) (flat v) (flat_pairs ps)
+        (stepped_append c.style.indent limit (pair_stepped column f (node_stepped (suc n) k both.0 f) (node_stepped (suc n) v both.1 g) a) (pairs_stepped n column ps a less.1 fs))
 
   -- Documents.
 
-  beginning_stepped : (start : ℕ) {xs : List Row} → AreStepped xs → AreStepped (beginning_at start xs)
+  beginning_stepped : (start : ℕ) {bs : List BlockScalar} {xs : List Row} → AreStepped bs xs → AreStepped bs (beginning_at start xs)
   beginning_stepped start none_stepped = none_stepped
   beginning_stepped start (row_stepped a b more) = row_stepped a b more
 
-  ends_stepped : (b : Bool) (ds : List Directive) → AreStepped (end_rows b ds)
+  ends_stepped : (b : Bool) (ds : List Directive) → AreStepped [] (end_rows b ds)
   ends_stepped true ds = none_stepped
   ends_stepped false [] = none_stepped
   ends_stepped false (d ∷ ds) = row_stepped no_step bare_body none_stepped
 
-  directives_stepped : (ds : List Directive) → AreStepped (map directive_row ds)
+  directives_stepped : (ds : List Directive) → AreStepped [] (map directive_row ds)
   directives_stepped [] = none_stepped
   directives_stepped (d ∷ ds) = row_stepped no_step bare_body (directives_stepped ds)
 
-  pub stream_stepped : (b : Bool) (ds : List Doc) (xs : List DocumentTree) → suc (tall_documents xs) ≤ limit → AreAmong (flat_map flat_document xs) all → AreStepped (stream_rows c b ds xs)
-  stream_stepped b [] xs l w = none_stepped
-  stream_stepped b (d ∷ ds) [] l w = none_stepped
-  stream_stepped b (d ∷ ds) (x ∷ xs) l w =
+  pub stream_stepped : {ds : List Doc} {xs : List DocumentTree} (b : Bool) → suc (tall_documents xs) ≤ limit → FitDocuments ds xs → AreStepped (block_scalars (flat_map flat_document xs)) (stream_rows c b ds xs)
+  stream_stepped b l fit_no_documents = none_stepped
+  stream_stepped b l (fit_document {d = d} {ds = ds} {x = x} {xs = xs} directives fit fits) =
       let room : suc (0 + max (tall x.root) (tall_documents xs)) ≤ limit = omega (arith, l) in
       let less = two_less 0 (tall x.root) (tall_documents xs) room in
       let others : suc (0 + tall_documents xs) ≤ limit = less.1 in
-      stepped_append c.style.indent limit all
-      (stepped_append c.style.indent limit all
-      (beginning_stepped d.start (stepped_append c.style.indent limit all (ends_stepped b d.directives)
-      (stepped_append c.style.indent limit all (directives_stepped d.directives) (row_stepped no_step bare_body none_stepped))))
-      (node_whole (root_spot c.style) (node_stepped 0 x.root less.0 (left_among (unplaced (document_ends x.closed) ∷ []) (later_among (left_among (flat_map flat_document xs) w)))) no_step no_step one_step))
-      (stream_stepped false ds xs (omega (arith, others)) (right_among (flat_document x) w))
+      let here : AreStepped (block_scalars (flat x.root)) (document_rows c b d x) =
+      stepped_append c.style.indent limit
+      (beginning_stepped d.start (stepped_append c.style.indent limit (ends_stepped b d.directives)
+      (stepped_append c.style.indent limit (directives_stepped d.directives) (row_stepped no_step bare_body none_stepped))))
+      (node_whole (root_spot c.style) (node_stepped 0 x.root less.0 fit) no_step no_step one_step) in
+      two_scalars (flat_document x) (flat_map flat_document xs)
+      (stepped_append c.style.indent limit (subst (λ z. AreStepped z (document_rows c b d x)) (sym (scalars_ended (flat x.root) (document_ends x.closed) refl)) here)
+      (stream_stepped false (omega (arith, others)) fits))
 
 -- Comments between rows.
 
@@ -345,12 +366,12 @@ module _ (indent limit : ℕ) where
   remarks_stepped before column [] a = no_gap
   remarks_stepped before column (c ∷ cs) a = gaps_append (blank_stepped (may_be_blank_behind before && c.blank_before)) (remark_step a (remarks_stepped anywhere column cs a))
 
-  pub gap_stepped : {all : List Placed} (before : Ending) (cs : List CommentValue) {xs : List Row} → Stepped indent limit all xs → GapSteps (gap_of before cs xs)
+  pub gap_stepped : {bs : List BlockScalar} (before : Ending) (cs : List CommentValue) {xs : List Row} → Stepped indent limit bs xs → GapSteps (gap_of before cs xs)
   gap_stepped before cs none_stepped = remarks_stepped before 0 cs no_step
   gap_stepped before cs (row_stepped {x = x} a b more) =
       gaps_append (remarks_stepped before x.column (filter (precedes_item x) cs) a)
       (blank_stepped (may_be_blank_behind (ending_behind before (filter (precedes_item x) cs)) && x.blank_before))
 
-  pub decos_stepped : {all : List Placed} (c : Source) (cs : List CommentValue) {xs : List Row} → Stepped indent limit all xs → DecoSteps (decos_of c cs xs)
+  pub decos_stepped : {bs : List BlockScalar} (c : Source) (cs : List CommentValue) {xs : List Row} → Stepped indent limit bs xs → DecoSteps (decos_of c cs xs)
   decos_stepped c cs none_stepped = no_decos
   decos_stepped c cs (row_stepped {x = x} a b more) = more_decos (gap_stepped x.ending (comments_left x cs) more) (decos_stepped c (comments_left x cs) more)

@@ -27,7 +27,7 @@ use Rattle.yf_emit.proofs.ReadParts.{NodeRead, node_noting, nothing_read}
 -- What is read of a tree is so of each one alike.
 
 mutual
-  read_alike : {K : Node → Node → Node → Node → Type 0} {b : Bool} {x y : Node} → Alike K x y → ReadNode b x → ReadNode b y
+  pub read_alike : {K : Node → Node → Node → Node → Type 0} {b : Bool} {x y : Node} → Alike K x y → ReadNode b x → ReadNode b y
   read_alike (alike_scalars e) (read_nothing s) = read_nothing (sym e ∙ s)
   read_alike (alike_scalars e) (read_props s p n) = read_props (sym e ∙ s) p n
   read_alike (alike_scalars e) (read_scalar s f u r) = read_scalar (sym e ∙ s) f u r

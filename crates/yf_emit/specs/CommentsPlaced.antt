@@ -10,7 +10,9 @@ use Rattle.yf_emit.specs.declared.style.Style.{Style}
 use Rattle.yf_emit.specs.Decorated.{decorated, first_gap, row_decos, rows_of}
 use Rattle.yf_emit.specs.Format.{Formats}
 use Rattle.yf_emit.specs.FormatLaws.{TrailsFitIn}
+use Rattle.yf_emit.specs.KeyComments.{keyed_in_documents}
 use Rattle.yf_emit.specs.Layout.{Remark, Source, first_comment, is_among, source_of, trailing}
+use Rattle.yf_emit.specs.Normal.{setting_of}
 use Rattle.yf_emit.specs.Rows.{Row}
 
 -- the first comment since a leaf began, and before the next one begins, where it stands within the leaf or on the line on which the leaf ends
@@ -32,6 +34,8 @@ source_in f = source_of f.normal (rows_in f)
 pub record CommentsPlaced (t : List ℕ) (s : Style) (u : List ℕ) : Type 0 where
   -- the leaves that count are those of the text, in its order
   pub leaves : (f : Formats t s u) → (source_in f).leaves ≡ flat_map (λ d. leaves d.root) f.is_normal.trees
+  -- and the comments that count as those of keys are those of the entries of block mappings, in its order
+  pub keys : (f : Formats t s u) → (source_in f).key_comments ≡ keyed_in_documents (setting_of f.normal s) f.writes.trees
   -- those comments end a line of u, and no others
   pub exact : (f : Formats t s u) (d : CommentValue) → is_among (flat_map (trailing (source_in f)) (rows_in f)) d ≡ ends_line (source_in f) d
   -- so the first comment since a leaf began does that stands within it or on the line on which it ends

@@ -4,6 +4,7 @@ use Rattle.yf_emit.specs.declared.style.Style.{Style}
 use Rattle.yf_emit.specs.CommentsPlaced.{CommentsPlaced}
 use Rattle.yf_emit.specs.EmptyTexts.{IsEmptyAlike}
 use Rattle.yf_emit.specs.LayoutKey.{DependsOnKey}
+use Rattle.yf_emit.specs.ReadingKey.{DependsOnReading}
 use Rattle.yf_emit.specs.SpacedLines.{SameBlanks}
 use Rattle.yf_emit.specs.Spellings.{SameSpellings}
 use Rattle.yf_emit.specs.TidyLines.{IsTidyText}
@@ -16,4 +17,6 @@ pub record Keeps (t : List ℕ) (s : Style) (u : List ℕ) : Type 0 where
   pub empty : IsEmptyAlike t u
   pub blanks : SameBlanks t s u
   pub key : DependsOnKey t s u
+  -- the same by the texts' readings
+  pub reading : DependsOnReading t s u
   pub comments : CommentsPlaced t s u

@@ -20,6 +20,7 @@ pub mod Forms
 pub mod ImplicitKeys
 pub mod Kept
 pub mod Keeps
+pub mod KeyComments
 pub mod Keys
 pub mod Laws
 pub mod LayoutLaws
@@ -47,6 +48,7 @@ pub mod SameComments
 pub mod Searches
 pub mod CommentsPlaced
 pub mod LayoutKey
+pub mod ReadingKey
 pub mod EmptyTexts
 pub mod SpacedLines
 pub mod Spellings
@@ -56,6 +58,7 @@ pub mod Textual
 pub mod Trailing
 pub mod TrailsOf
 pub mod TidyLines
+pub mod Tokens
 pub mod Types
 pub mod Wanted
 pub mod Undisturbed
