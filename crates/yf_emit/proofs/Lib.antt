@@ -139,6 +139,7 @@ pub mod DocumentTrails
 pub mod EventsTold
 pub mod BlanksKept
 pub mod KeysTold
+pub mod CommentTokens
 pub mod CommentsStay
 pub mod KeyDecides
 pub mod MatchedLemmas

@@ -12,7 +12,7 @@ use Rattle.yf_emit.specs.declared.style.Style.{Style}
 use Rattle.yf_emit.specs.FoundTrees.{words_of}
 use Rattle.yf_emit.specs.Normal.{Spot, fits, inner_spot, is_implicit, key_spot, settled, settled_items, settled_pairs, value_spot}
 use Rattle.yf_emit.specs.OneLine.{props_text, written}
-use Rattle.yf_emit.specs.ReadingKey.{Each, none_each, one_each, Either, in_neither, in_both, SameSide, SameSpan, SameEntry, SameComment, Matched, matched_scalars, matched_aliases, matched_empty_sequences, matched_empty_mappings, matched_sequences, matched_mappings, MatchedItems, no_matched_items, matched_item, MatchedPairs, no_matched_pairs, matched_pair}
+use Rattle.yf_emit.specs.ReadingKey.{Each, none_each, one_each, Either, in_neither, in_both, SameSide, SameSpan, SameEntry, SameComment, NodesMatch, matched_scalars, matched_aliases, matched_empty_sequences, matched_empty_mappings, matched_sequences, matched_mappings, ItemsMatch, no_matched_items, matched_item, PairsMatch, no_matched_pairs, matched_pair}
 use Rattle.yf_emit.specs.Rows.{Row, begins_below, beginning_at, behind_key, blank_before_entry, colon_offset, colon_row, directive_row, end_rows, entry_row, explicit_pair, implicit_pair, joined, key_row, one_line, one_line_row, pair_rows, props_row, rows, rows_of_items, rows_of_pairs, start_row}
 use Rattle.yf_emit.proofs.AlikeLemmas.{same_below, same_fit, same_implicit, same_key_spot, same_value_spot, same_written, setting}
 use Rattle.yf_emit.proofs.MatchedLemmas.{each_append, entry_each, entry_of, items_each, key_each, keys_agree, leaves_each, matched_alike}
@@ -24,7 +24,7 @@ standing_either true x y e f = e
 standing_either false x y e f = f
 
 module _ {ps : List (ℕ × ℕ)} {cs ds : List CommentValue} (s : Style) (same : Each (SameComment ps) cs ds) where
-  either_node : (p q : Bool) {x y z w : Node} → p ≡ q → Matched ps x y → Matched ps z w → Matched ps (if p then x else z) (if q then y else w)
+  either_node : (p q : Bool) {x y z w : Node} → p ≡ q → NodesMatch ps x y → NodesMatch ps z w → NodesMatch ps (if p then x else z) (if q then y else w)
   either_node true true e a b = a
   either_node false false e a b = b
   either_node true false e a b = absurd (true≢false e)
@@ -46,7 +46,7 @@ module _ {ps : List (ℕ × ℕ)} {cs ds : List CommentValue} (s : Style) (same 
   entry_kept spot k e = ap (λ (z : Standing). is_some z.entry) (standing_settled cs spot k) ∙ e
 
   mutual
-    pub settled_matched : (spot : Spot) {x y : Node} → Matched ps x y → Matched ps (settled (setting s cs) spot x) (settled (setting s ds) spot y)
+    pub settled_matched : (spot : Spot) {x y : Node} → NodesMatch ps x y → NodesMatch ps (settled (setting s cs) spot x) (settled (setting s ds) spot y)
     settled_matched spot (matched_scalars a e) = matched_scalars a e
     settled_matched spot (matched_aliases a e) = matched_aliases a e
     settled_matched spot (matched_empty_sequences a e) = matched_empty_sequences a e
@@ -59,21 +59,21 @@ module _ {ps : List (ℕ × ℕ)} {cs ds : List CommentValue} (s : Style) (same 
         either_node (flow && fits s spot.column (mapping at flow props (pair k v qs))) (flow && fits s spot.column (mapping bt flow props (pair l w rs)))
         (ap (λ b. flow && b) (same_fit s spot.column (matched_alike (matched_mappings {at = at} {bt = bt} {flow = flow} {props = props} a e i m n more)))) (matched_mappings a e i m n more)
         (matched_mappings a e (entry_kept (key_spot s spot.entries k) k i)
-        (subst (λ z. Matched ps (settled (setting s cs) (key_spot s spot.entries k) k) (settled (setting s ds) z l)) (same_key_spot s spot.entries (matched_alike m)) (settled_matched (key_spot s spot.entries k) m))
-        (subst (λ z. Matched ps (settled (setting s cs) (value_spot (setting s cs) spot.entries k v) v) (settled (setting s ds) z w)) (same_value_spot s spot.entries (matched_alike m) (matched_alike n) (keys_agree s same i m n))
+        (subst (λ z. NodesMatch ps (settled (setting s cs) (key_spot s spot.entries k) k) (settled (setting s ds) z l)) (same_key_spot s spot.entries (matched_alike m)) (settled_matched (key_spot s spot.entries k) m))
+        (subst (λ z. NodesMatch ps (settled (setting s cs) (value_spot (setting s cs) spot.entries k v) v) (settled (setting s ds) z w)) (same_value_spot s spot.entries (matched_alike m) (matched_alike n) (keys_agree s same i m n))
         (settled_matched (value_spot (setting s cs) spot.entries k v) n))
         (pairs_settled spot.entries more))
 
-    items_settled : (column : ℕ) {xs ys : Items} → MatchedItems ps xs ys → MatchedItems ps (settled_items (setting s cs) column xs) (settled_items (setting s ds) column ys)
+    items_settled : (column : ℕ) {xs ys : Items} → ItemsMatch ps xs ys → ItemsMatch ps (settled_items (setting s cs) column xs) (settled_items (setting s ds) column ys)
     items_settled column no_matched_items = no_matched_items
     items_settled column (matched_item m more) = matched_item (settled_matched (inner_spot s column) m) (items_settled column more)
 
-    pairs_settled : (column : ℕ) {qs rs : Pairs} → MatchedPairs ps qs rs → MatchedPairs ps (settled_pairs (setting s cs) column qs) (settled_pairs (setting s ds) column rs)
+    pairs_settled : (column : ℕ) {qs rs : Pairs} → PairsMatch ps qs rs → PairsMatch ps (settled_pairs (setting s cs) column qs) (settled_pairs (setting s ds) column rs)
     pairs_settled column no_matched_pairs = no_matched_pairs
     pairs_settled column (matched_pair {k = k} {v = v} {l = l} {w = w} i m n more) =
         matched_pair (entry_kept (key_spot s column k) k i)
-        (subst (λ z. Matched ps (settled (setting s cs) (key_spot s column k) k) (settled (setting s ds) z l)) (same_key_spot s column (matched_alike m)) (settled_matched (key_spot s column k) m))
-        (subst (λ z. Matched ps (settled (setting s cs) (value_spot (setting s cs) column k v) v) (settled (setting s ds) z w)) (same_value_spot s column (matched_alike m) (matched_alike n) (keys_agree s same i m n))
+        (subst (λ z. NodesMatch ps (settled (setting s cs) (key_spot s column k) k) (settled (setting s ds) z l)) (same_key_spot s column (matched_alike m)) (settled_matched (key_spot s column k) m))
+        (subst (λ z. NodesMatch ps (settled (setting s cs) (value_spot (setting s cs) column k v) v) (settled (setting s ds) z w)) (same_value_spot s column (matched_alike m) (matched_alike n) (keys_agree s same i m n))
         (settled_matched (value_spot (setting s cs) column k v) n))
         (pairs_settled column more)
 
@@ -106,7 +106,7 @@ module _ {ps : List (ℕ × ℕ)} where
   line_match column x y [] a b = none_each
   line_match column x y (c ∷ w) a b = one_each (record { items = a; leaves = b; key = in_neither; blank = refl }) none_each
 
-  one_match : (spot : Spot) (x y : Node) → Matched ps x y → Each (RowMatch ps) (one_line spot x) (one_line spot y)
+  one_match : (spot : Spot) (x y : Node) → NodesMatch ps x y → Each (RowMatch ps) (one_line spot x) (one_line spot y)
   one_match spot x y m = subst (λ w. Each (RowMatch ps) (one_line spot x) (one_line_row spot.column y w)) (same_written (matched_alike m)) (line_match spot.column x y (written x) (items_each m) (leaves_each m))
 
   bare_row : {x y : Row} → x.items ≡ [] → y.items ≡ [] → x.leaves ≡ [] → y.leaves ≡ [] → x.key_comment ≡ None → y.key_comment ≡ None → x.blank_before ≡ y.blank_before → RowMatch ps x y
@@ -121,13 +121,13 @@ module _ {ps : List (ℕ × ℕ)} where
   props_match column [] a = a
   props_match column (b ∷ w) a = one_each (bare_row refl refl refl refl refl refl refl) a
 
-  entry_match : (column : ℕ) (w : List ℕ) {x y : Node} → Matched ps x y → RowMatch ps (entry_row column w x) (entry_row column w y)
+  entry_match : (column : ℕ) (w : List ℕ) {x y : Node} → NodesMatch ps x y → RowMatch ps (entry_row column w x) (entry_row column w y)
   entry_match column w m = record { items = entry_each m; leaves = none_each; key = in_neither; blank = blank_same (entry_of m) }
 
-  key_match : (column : ℕ) {k l : Node} → Matched ps k l → RowMatch ps (key_row column k) (key_row column l)
+  key_match : (column : ℕ) {k l : Node} → NodesMatch ps k l → RowMatch ps (key_row column k) (key_row column l)
   key_match column m = record { items = each_append (entry_each m) (items_each m); leaves = leaves_each m; key = in_neither; blank = blank_same (entry_of m) }
 
-  behind_match : (column : ℕ) {k l : Node} {o p : Option CommentValue} (a b : Bool) {xs ys : List Row} → Matched ps k l → Either (SameComment ps) o p → a ≡ b → Each (RowMatch ps) xs ys
+  behind_match : (column : ℕ) {k l : Node} {o p : Option CommentValue} (a b : Bool) {xs ys : List Row} → NodesMatch ps k l → Either (SameComment ps) o p → a ≡ b → Each (RowMatch ps) xs ys
       → Each (RowMatch ps) (behind_key (key_row column k) o a xs) (behind_key (key_row column l) p b ys)
   behind_match column a b m (in_both c) e more =
       let head = key_match column m in one_each (record { items = head.items; leaves = head.leaves; key = in_both c; blank = head.blank }) more
@@ -137,7 +137,7 @@ module _ {ps : List (ℕ × ℕ)} where
   behind_match column false true m in_neither e more = absurd (true≢false (sym e))
 
   block_match : {at bt : Standing} {props : PropsValue} {text : List ℕ} {lines : List (List ℕ)} (s : Style) (cs ds : List CommentValue) (spot : Spot) (style : ScalarStyle)
-      → Matched ps (scalar at props style text lines) (scalar bt props style text lines)
+      → NodesMatch ps (scalar at props style text lines) (scalar bt props style text lines)
       → Each (RowMatch ps) (rows (setting s cs) spot (scalar at props style text lines)) (rows (setting s ds) spot (scalar bt props style text lines))
   block_match {at} {bt} {props} {text} {lines} s cs ds spot Plain m = one_match spot (scalar at props Plain text lines) (scalar bt props Plain text lines) m
   block_match {at} {bt} {props} {text} {lines} s cs ds spot Single m = one_match spot (scalar at props Single text lines) (scalar bt props Single text lines) m
@@ -149,7 +149,7 @@ module _ {ps : List (ℕ × ℕ)} {cs ds : List CommentValue} (s : Style) (same 
   abbrev Match : List Row → List Row → Type 0
   Match xs ys = Each (RowMatch ps) xs ys
 
-  pair_match : (column : ℕ) {k l v w : Node} {xs ys us vs : List Row} → is_some (standing k).entry ≡ true → Matched ps k l → Matched ps v w → Match xs ys → Match us vs
+  pair_match : (column : ℕ) {k l v w : Node} {xs ys us vs : List Row} → is_some (standing k).entry ≡ true → NodesMatch ps k l → NodesMatch ps v w → Match xs ys → Match us vs
       → Match (pair_rows (setting s cs) column k v xs us) (pair_rows (setting s ds) column l w ys vs)
   pair_match column {k} {l} {v} {w} {xs} {ys} {us} {vs} i m n a b = by (is_implicit s column k) (is_implicit s column l) (same_implicit s column (matched_alike m)) where
     by : (p q : Bool) → p ≡ q → Match (if p then implicit_pair (setting s cs) column k v us else explicit_pair s column k xs us) (if q then implicit_pair (setting s ds) column l w vs else explicit_pair s column l ys vs)
@@ -161,7 +161,7 @@ module _ {ps : List (ℕ × ℕ)} {cs ds : List CommentValue} (s : Style) (same 
     by false true e = absurd (true≢false (sym e))
 
   mutual
-    pub rows_match : (spot : Spot) {x y : Node} → Matched ps x y → Match (rows (setting s cs) spot x) (rows (setting s ds) spot y)
+    pub rows_match : (spot : Spot) {x y : Node} → NodesMatch ps x y → Match (rows (setting s cs) spot x) (rows (setting s ds) spot y)
     rows_match spot (matched_scalars {at = at} {bt = bt} {props = props} {style = style} {text = text} {lines = lines} a e) =
         block_match {at = at} {bt = bt} {props = props} {text = text} {lines = lines} s cs ds spot style (matched_scalars {at = at} {bt = bt} a e)
     rows_match spot (matched_aliases {at = at} {bt = bt} {name = name} a e) = one_match spot (alias at name) (alias bt name) (matched_aliases a e)
@@ -186,12 +186,12 @@ module _ {ps : List (ℕ × ℕ)} {cs ds : List CommentValue} (s : Style) (same 
         (rows_match (value_spot (setting s cs) spot.entries k v) n)))
         (pairs_match spot.entries more))
 
-    items_match : (column : ℕ) {xs ys : Items} → MatchedItems ps xs ys → Match (rows_of_items (setting s cs) column xs) (rows_of_items (setting s ds) column ys)
+    items_match : (column : ℕ) {xs ys : Items} → ItemsMatch ps xs ys → Match (rows_of_items (setting s cs) column xs) (rows_of_items (setting s ds) column ys)
     items_match column no_matched_items = none_each
     items_match column (matched_item {x = x} {y = y} m more) =
         each_append (joined_match (entry_row column (45 ∷ []) x) (entry_row column (45 ∷ []) y) (s.indent - 1) (entry_match column (45 ∷ []) m) (rows_match (inner_spot s column) m)) (items_match column more)
 
-    pairs_match : (column : ℕ) {qs rs : Pairs} → MatchedPairs ps qs rs → Match (rows_of_pairs (setting s cs) column qs) (rows_of_pairs (setting s ds) column rs)
+    pairs_match : (column : ℕ) {qs rs : Pairs} → PairsMatch ps qs rs → Match (rows_of_pairs (setting s cs) column qs) (rows_of_pairs (setting s ds) column rs)
     pairs_match column no_matched_pairs = none_each
     pairs_match column (matched_pair {k = k} {v = v} {l = l} {w = w} i m n more) =
         each_append

@@ -15,7 +15,7 @@ use Rattle.yf_emit.specs.Format.{Formats}
 use Rattle.yf_emit.specs.Layout.{Remark, Source, first_comment, is_among, is_before, next_leaf, trailing, trailing_leaf, trimmed}
 use Rattle.yf_emit.specs.LayoutKey.{SameDocuments, no_documents, same_document, SameEnds, no_ends, same_end, SameKey, SamePlace, no_place, same_place, SamePlaces, no_comments, same_comment, SameRows, no_more_rows, same_row}
 use Rattle.yf_emit.specs.Normal.{normal_document, root_spot, setting_of}
-use Rattle.yf_emit.specs.ReadingKey.{DependsOnReading, Each, none_each, one_each, Either, in_neither, in_both, SameSpan, SameComment, SameRemark, Matched, matched_scalars, matched_aliases, matched_empty_sequences, matched_empty_mappings, matched_sequences, matched_mappings, MatchedItems, no_matched_items, matched_item, MatchedPairs, no_matched_pairs, matched_pair, MatchedDocuments, no_matched_documents, matched_document, SameReadings}
+use Rattle.yf_emit.specs.ReadingKey.{DependsOnReading, Each, none_each, one_each, Either, in_neither, in_both, SameSpan, SameComment, SameRemark, NodesMatch, matched_scalars, matched_aliases, matched_empty_sequences, matched_empty_mappings, matched_sequences, matched_mappings, ItemsMatch, no_matched_items, matched_item, PairsMatch, no_matched_pairs, matched_pair, DocumentsMatch, no_matched_documents, matched_document, SameReadings}
 use Rattle.yf_emit.specs.Rows.{Row, stream_rows}
 use Rattle.yf_emit.proofs.CommentsTold.{firsts}
 use Rattle.yf_emit.proofs.KeyDecides.{as_many_notes, key_decides}
@@ -37,7 +37,7 @@ module _ {ps : List (ℕ × ℕ)} where
   among_each : {xs ys : List CommentValue} {d e : CommentValue} → Each (SameComment ps) xs ys → SameComment ps d e → is_among xs d ≡ is_among ys e
   among_each {d = d} {e = e} more a =
       any_each (λ (c : CommentValue). c.offset == d.offset) (λ (c : CommentValue). c.offset == e.offset)
-      (λ c k b. same_eq c.offset d.offset k.offset e.offset (b.side.before d.offset e.offset a.paired) (b.side.behind d.offset e.offset a.paired)) more
+      (λ c k b. same_eq c.offset d.offset k.offset e.offset (b.side.before d.offset e.offset a.paired) (b.side.after d.offset e.offset a.paired)) more
 
   texts_each : {xs ys : List CommentValue} → Each (SameComment ps) xs ys → map (λ (d : CommentValue). trimmed d.text) xs ≡ map (λ (d : CommentValue). trimmed d.text) ys
   texts_each none_each = refl
@@ -53,10 +53,10 @@ module _ {ps : List (ℕ × ℕ)} where
   next_each : {xs ys : List Span} {a b : Span} {d e : CommentValue} → Each (SameSpan ps) xs ys → SameSpan ps a b → SameComment ps d e
       → is_before d.offset (next_leaf xs a.start) ≡ is_before e.offset (next_leaf ys b.start)
   next_each {xs} {ys} {a} {b} {d} {e} more s k =
-      by (find_each (λ (l : Span). nat_lt a.start l.start) (λ (l : Span). nat_lt b.start l.start) (λ l n c. c.start.behind a.start b.start s.paired) more) where
+      by (find_each (λ (l : Span). nat_lt a.start l.start) (λ (l : Span). nat_lt b.start l.start) (λ l n c. c.start.after a.start b.start s.paired) more) where
         by : {o p : Option Span} → Either (SameSpan ps) o p → is_before d.offset (option_map (λ (l : Span). l.start) o) ≡ is_before e.offset (option_map (λ (l : Span). l.start) p)
         by in_neither = refl
-        by (in_both c) = c.start.behind d.offset e.offset k.paired
+        by (in_both c) = c.start.after d.offset e.offset k.paired
 
   module _ {b c : Source} (m : SourcesMatch ps b c) where
     first_each : {x y : Span} → SameSpan ps x y → Either (SameRemark ps) (first_comment b x) (first_comment c y)
@@ -71,7 +71,7 @@ module _ {ps : List (ℕ × ℕ)} where
     one_if false true e a = absurd (true≢false (sym e))
 
     near : {x y : Span} {r q : Remark} → SameSpan ps x y → SameRemark ps r q → (nat_lt r.0.offset x.end || r.1) ≡ (nat_lt q.0.offset y.end || q.1)
-    near {x} {y} {r} {q} s a = ap (λ z. z || r.1) (s.end.behind r.0.offset q.0.offset a.comment.paired) ∙ ap (λ z. nat_lt q.0.offset y.end || z) a.on_line
+    near {x} {y} {r} {q} s a = ap (λ z. z || r.1) (s.end.after r.0.offset q.0.offset a.comment.paired) ∙ ap (λ z. nat_lt q.0.offset y.end || z) a.on_line
 
     leaf_each : {x y : Span} {o p : Option Remark} → SameSpan ps x y → Either (SameRemark ps) o p → Each (SameComment ps) (at_leaf x o) (at_leaf y p)
     leaf_each s in_neither = none_each
@@ -117,7 +117,7 @@ module _ {ps : List (ℕ × ℕ)} where
   place_same : {c d : CommentValue} {xs ys : List Row} → SameComment ps c d → Each (RowMatch ps) xs ys → SamePlace c d xs ys
   place_same a none_each = no_place
   place_same {c} {d} a (one_each r more) =
-      same_place (any_each (λ item. nat_lt c.offset item) (λ item. nat_lt d.offset item) (λ i j s. s.behind c.offset d.offset a.paired) r.items) (place_same a more)
+      same_place (any_each (λ item. nat_lt c.offset item) (λ item. nat_lt d.offset item) (λ i j s. s.after c.offset d.offset a.paired) r.items) (place_same a more)
 
   places_same : {cs ds : List CommentValue} {xs ys : List Row} → Each (SameComment ps) cs ds → Each (RowMatch ps) xs ys → SamePlaces xs ys cs ds
   places_same none_each rows = no_comments
@@ -131,7 +131,7 @@ module _ {ps : List (ℕ × ℕ)} where
 
 module _ {ps : List (ℕ × ℕ)} {cs ds : List CommentValue} (s : Style) (same : Each (SameComment ps) cs ds) where
   mutual
-    blocks : {x y : Node} → Matched ps x y → AlikeBlocks s cs ds x y
+    blocks : {x y : Node} → NodesMatch ps x y → AlikeBlocks s cs ds x y
     blocks (matched_scalars {at = at} {bt = bt} a e) = alike_lines (matched_alike (matched_scalars {at = at} {bt = bt} a e)) refl
     blocks (matched_aliases {at = at} {bt = bt} a e) = alike_lines (matched_alike (matched_aliases {at = at} {bt = bt} a e)) refl
     blocks (matched_empty_sequences {at = at} {bt = bt} a e) = alike_lines (matched_alike (matched_empty_sequences {at = at} {bt = bt} a e)) refl
@@ -141,21 +141,21 @@ module _ {ps : List (ℕ × ℕ)} {cs ds : List CommentValue} (s : Style) (same 
     blocks (matched_mappings {at = at} {bt = bt} {flow = true} a e i m n more) = alike_lines (matched_alike (matched_mappings {at = at} {bt = bt} a e i m n more)) refl
     blocks (matched_mappings {flow = false} a e i m n more) = alike_block_mappings a (block_pair (blocks m) (blocks n) (keys_agree s same i m n) (pair_blocks more))
 
-    item_blocks : {xs ys : Items} → MatchedItems ps xs ys → AlikeBlockItems s cs ds xs ys
+    item_blocks : {xs ys : Items} → ItemsMatch ps xs ys → AlikeBlockItems s cs ds xs ys
     item_blocks no_matched_items = no_block_items
     item_blocks (matched_item m more) = block_item (blocks m) (item_blocks more)
 
-    pair_blocks : {qs rs : Pairs} → MatchedPairs ps qs rs → AlikeBlockPairs s cs ds qs rs
+    pair_blocks : {qs rs : Pairs} → PairsMatch ps qs rs → AlikeBlockPairs s cs ds qs rs
     pair_blocks no_matched_pairs = no_block_pairs
     pair_blocks (matched_pair i m n more) = block_pair (blocks m) (blocks n) (keys_agree s same i m n) (pair_blocks more)
 
 module _ {ps : List (ℕ × ℕ)} (s : Style) (t v : List ℕ) (r q : Lists) (same : Each (SameComment ps) r.comments q.comments) where
-  laid_documents : {ds es : List Doc} {xs ys : List DocumentTree} → MatchedDocuments ps s t r v q ds xs es ys
+  laid_documents : {ds es : List Doc} {xs ys : List DocumentTree} → DocumentsMatch ps s t r v q ds xs es ys
       → SameDocuments s r.comments q.comments ds (map (normal_document t (setting_of r s)) xs) es (map (normal_document v (setting_of q s)) ys)
   laid_documents no_matched_documents = no_documents
   laid_documents (matched_document w b m more) = same_document w (blocks s same (settled_matched s same (root_spot s) m)) (laid_documents more)
 
-  laid_rows : {ds es : List Doc} {xs ys : List DocumentTree} (first : Bool) → MatchedDocuments ps s t r v q ds xs es ys
+  laid_rows : {ds es : List Doc} {xs ys : List DocumentTree} (first : Bool) → DocumentsMatch ps s t r v q ds xs es ys
       → Each (RowMatch ps) (stream_rows (setting_of r s) first ds (map (normal_document t (setting_of r s)) xs)) (stream_rows (setting_of q s) first es (map (normal_document v (setting_of q s)) ys))
   laid_rows first no_matched_documents = none_each
   laid_rows first (matched_document {d = d} {e = e} w b m more) =

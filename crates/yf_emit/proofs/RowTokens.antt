@@ -14,7 +14,7 @@ use Rattle.yf_emit.specs.BlockLines.{begins_with_space, chomping_sign, final_fee
 use Rattle.yf_emit.specs.Normal.{Setting, Spot, inner_spot, is_implicit, key_comment, key_spot, root_spot, value_spot}
 use Rattle.yf_emit.specs.OneLine.{bare, colon_behind, colon_behind_props, more_items, more_pairs, props_text, scalar_text, spaced, written}
 use Rattle.yf_emit.specs.Rows.{Row, begins_below, beginning_at, behind_key, colon_row, directive_row, end_rows, entry_row, explicit_pair, implicit_pair, joined, joined_words, key_row, one_line_row, pair_rows, props_row, rows, rows_of_items, rows_of_pairs, stream_rows}
-use Rattle.yf_emit.specs.Tokens.{HasText, first_text, later_text, TabsWithin, at_end, at_comment, no_tab, a_token}
+use Rattle.yf_emit.specs.Tokens.{HasText, first_text, later_text, TabsWithin, at_end, no_tab, a_token}
 
 -- The pieces that are written of an event: properties, a scalar in its style, the name of an alias.
 
@@ -68,7 +68,6 @@ module _ (Token : List ℕ → Type 0) where
 
   pub tabs_append : {x y : List ℕ} → Tabs x → Tabs y → Tabs (x ++ y)
   tabs_append at_end b = b
-  tabs_append at_comment b = at_comment
   tabs_append (no_tab n a) b = no_tab n (tabs_append a b)
   tabs_append {y = y} (a_token {w = w} {x = x} t a) b = subst (λ z. Tabs z) (sym (append_assoc w x y)) (a_token t (tabs_append a b))
 

@@ -6,7 +6,7 @@ use Rattle.yf_comments.specs.Comment.{CommentValue}
 use Rattle.yf_events.specs.Tree.{DocumentTree, Node, scalar, alias, sequence, mapping, Items, no_items, item, Pairs, no_pairs, pair}
 use Rattle.yf_emit.specs.Normal.{Setting, Spot, inner_spot, is_implicit, key_comment, key_spot, root_spot, value_spot}
 
--- in a node that stands there; an implicit key has no entries of its own
+-- in a node at that spot; an implicit key has no entries of its own
 abbrev mutual
   pub keyed_in : Setting → Spot → Node → List CommentValue
   keyed_in c spot (scalar at props style text lines) = []

@@ -37,20 +37,20 @@ pub record IsStripped (x : List ℕ) : Type 0 where
   pub ends : is_white (last_or 0 x) ≡ false
 
 -- nothing, or a comment after two spaces
-pub data CommentBehind : List ℕ → Type 0 where
-  no_comment_behind : CommentBehind []
-  comment_behind : {x : List ℕ} → CommentBehind (32 ∷ 32 ∷ 35 ∷ x)
+pub data CommentAfter : List ℕ → Type 0 where
+  no_comment_after : CommentAfter []
+  comment_after : {x : List ℕ} → CommentAfter (32 ∷ 32 ∷ 35 ∷ x)
 
 -- a line's text ends with that header, or with that header and a comment
 pub record EndsWithHeader (header x : List ℕ) : Type 0 where
   pub before : List ℕ
-  pub behind : List ℕ
-  pub is : x ≡ before ++ (header ++ behind)
-  pub comment : CommentBehind behind
+  pub after : List ℕ
+  pub is : x ≡ before ++ (header ++ after)
+  pub comment : CommentAfter after
 
 -- blank lines have no character; each other line is indented by spaces alone, as many as a multiple of the style's indentation, which is no greater
 -- than the limit, ends with no white space, and has no tab but in tokens and in a comment; but that the lines of each of these block scalars, in this
--- order and each once, stand together at such a column, with their own white space, directly below the line that ends with its header
+-- order and each once, are together at such a column, with their own white space, directly below the line that ends with its header
 pub data TidyLines (indent limit : ℕ) (Token : List ℕ → Type 0) : List BlockScalar → List (List ℕ) → Type 0 where
   no_more_lines : TidyLines indent limit Token [] []
   a_blank_line : {bs : List BlockScalar} {xs : List (List ℕ)} → TidyLines indent limit Token bs xs → TidyLines indent limit Token bs ([] ∷ xs)

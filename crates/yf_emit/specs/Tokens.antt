@@ -1,8 +1,9 @@
--- Where a tab may stand in a line of a formatted text that is none of a block scalar's lines.
-use Rattle.std.specs.Prelude.{◌≡◌, ◌≢◌, ℕ, List, [], ◌∷◌, ◌++◌, flat_map}
+-- Where a tab may be in a line of a formatted text that is none of a block scalar's lines.
+use Rattle.std.specs.Prelude.{◌≡◌, ◌≢◌, ℕ, List, [], ◌∷◌, ◌++◌, flat_map, map}
 use Rattle.yf_events.specs.Event.{EventValue, Placed, scalar_node}
 use Rattle.yf_events.specs.declared.event.ScalarStyle.TheVariants.{Plain, Single}
 use Rattle.yf_events.specs.declared.lists.Lists.{Lists}
+use Rattle.yf_emit.specs.Layout.{trimmed}
 use Rattle.yf_emit.specs.OneLine.{scalar_text}
 
 -- a text is among these
@@ -19,12 +20,15 @@ tokens_of_event e = []
 abbrev pub tokens_in : List Placed → List (List ℕ)
 tokens_in es = flat_map (λ (e : Placed). tokens_of_event e.event) es
 
-abbrev pub IsToken : Lists → List ℕ → Type 0
-IsToken q w = HasText w (tokens_in q.events)
+-- the comments, without the white space at their ends
+abbrev pub comment_texts : Lists → List (List ℕ)
+comment_texts q = map (λ c. trimmed c.text) q.comments
 
--- a line's text is made of tokens and of other bytes, of which none is a tab, up to its end or to the `#` of a comment
+abbrev pub IsToken : Lists → List ℕ → Type 0
+IsToken q w = HasText w (tokens_in q.events ++ comment_texts q)
+
+-- a line's text is made of tokens and of other bytes, of which none is a tab
 pub data TabsWithin (Token : List ℕ → Type 0) : List ℕ → Type 0 where
   at_end : TabsWithin Token []
-  at_comment : {x : List ℕ} → TabsWithin Token (35 ∷ x)
   no_tab : {b : ℕ} {x : List ℕ} → b ≢ 9 → TabsWithin Token x → TabsWithin Token (b ∷ x)
   a_token : {w x : List ℕ} → Token w → TabsWithin Token x → TabsWithin Token (w ++ x)

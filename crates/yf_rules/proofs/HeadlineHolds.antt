@@ -1,8 +1,9 @@
 -- What is proved of a text and its formatting holds.
-use Rattle.std.proofs.Common.{◌≤◌, ℕ, List, length, sym, subst}
+use Rattle.std.proofs.Common.{◌≤◌, ℕ, List, [], ◌++◌, length, refl, sym, subst}
 use Rattle.std.specs.Prelude.{Option, Result, Ok, Err, IfOk}
 use Rattle.std.specs.Str.{IsUtf8}
-use Rattle.yf_lines.specs.Lines.{AreLines}
+use Rattle.yf_lines.specs.Lines.{AreLines, Table}
+use Rattle.yf_events.specs.declared.lists.Lists.{Lists}
 use Rattle.yf_stream.specs.ReadingOf.{ReadingOf}
 use Rattle.yf_stream.proofs.LawsHold.{read_texts_have_no_fault, readings_are_the_reading}
 use Rattle.yf_stream.proofs.NestedStreams.{reading_nests}
@@ -14,11 +15,22 @@ use Rattle.yf_emit.proofs.FormatLawsHold.{formats_exist}
 use Rattle.yf_emit.proofs.FormatsRead.{formats_well}
 use Rattle.yf_standard.specs.Acceptance.{IsStandardText}
 use Rattle.yf_standard.proofs.AcceptanceHolds.{reading_is_standard, standard_texts_are_read}
+use Rattle.yf_rules.specs.Check.{InOrder, RuleFindings}
+use Rattle.yf_rules.specs.Check.Checked.{checked}
+use Rattle.yf_rules.specs.Check.FindingsOf.{at_places}
+use Rattle.yf_rules.specs.Check.InOrder.{no_rules, one_more}
+use Rattle.yf_rules.specs.declared.finding.Finding.{Finding}
+use Rattle.yf_rules.specs.declared.rules.StyleRule.{StyleRule}
 use Rattle.yf_rules.specs.Headline.{Headline, IsMended, RefusedTextsHaveNoReading, StandardTextsAreFormatted}
+use Rattle.yf_rules.specs.Mended.{IsFormatted, NoneFixable}
+use Rattle.yf_rules.specs.Places.{PlacesOf}
+use Rattle.yf_rules.specs.Places.FoundAt.{found_at}
 use Rattle.yf_rules.specs.Rechecked.{FormattedTextsAreClean}
+use Rattle.yf_rules.specs.RuleOf.{definition_of}
 use Rattle.yf_rules.specs.Run.{Gave, Rendered}
 use Rattle.yf_stream.specs.declared.stream.TheConstants.{LONGEST}
 use Rattle.yf_rules.specs.declared.run.TheConstants.{INPUT_LIMIT}
+use Rattle.yf_rules.proofs.MendedFindings.{both_silent, none_silent, places_none, rule_silent, sorted_silent}
 use Rattle.yf_rules.proofs.RulesMended.{rule_mended}
 
 -- nothing in what formatting gives is at fault that the house style fixes
@@ -66,7 +78,17 @@ standard_texts_are_formatted t s standard =
     let kept = format_keeps t s f.0 standard.utf8 f.1 in
     (f.0, kept, formats_are_standard t f.0 s standard.utf8 kept, formats_are_mended t f.0 s standard.utf8 f.1)
 
+-- What rules find in what formatting gives.
+
+one_rule : {src : Table} {reading : Lists} {style : Style} {findings : List Finding} (rule : StyleRule) → IsFormatted src reading style → RuleFindings (definition_of rule) src reading style findings → NoneFixable findings
+one_rule {src} {reading} {style} {findings} rule w (at_places {places = places} number id fixable n i f (found_at {os = os} at are) lines) =
+    rule_silent number id fixable (definition_of rule).fixable places places findings f refl
+    (λ fixed v. places_none src.text places (subst (λ z. PlacesOf src.text z places) (rule_mended rule fixed src reading style v os at) are)) lines w
+
+in_order : {src : Table} {reading : Lists} {style : Style} {rules : List StyleRule} {findings : List Finding} → IsFormatted src reading style
+    → InOrder (λ rule found. RuleFindings (definition_of rule) src reading style found) rules findings → NoneFixable findings
+in_order w no_rules = none_silent [] refl w
+in_order w (one_more {b = rule} {x = x} {y = y} front last) = both_silent x y (x ++ y) (λ v. in_order v front) (λ v. one_rule rule v last) refl w
+
 pub formatted_texts_are_clean : FormattedTextsAreClean
-formatted_texts_are_clean style known formatted findings rendered found =
-    let of_source = subst (λ v. Formats rendered.text style v) (sym found.gave) rendered.headline.kept.formats in
-    found.mends rendered.text rendered.headline.utf8 of_source
+formatted_texts_are_clean src reading style findings w (checked {all = all} order sorted) = sorted_silent all findings (λ v. in_order v order) sorted w

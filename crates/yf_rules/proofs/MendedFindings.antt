@@ -16,7 +16,7 @@ use Rattle.yf_rules.proofs.KeySetLemmas.{head_or_later, is_head, nothing_in}
 -- Places.
 
 -- no offsets have no places
-places_none : (t : List ℕ) (ps : List Place) → PlacesOf t [] ps → ps ≡ []
+pub places_none : (t : List ℕ) (ps : List Place) → PlacesOf t [] ps → ps ≡ []
 places_none t [] a = refl
 places_none t (p ∷ ps) a = let w = a.only p (is_head p ps) in absurd (nothing_in w.offset w.among)
 

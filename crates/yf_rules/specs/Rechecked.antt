@@ -1,12 +1,13 @@
--- A check of what the run that formats gives.
-use Rattle.std.specs.Prelude.{ℕ, List, Option, Some}
+-- A check of what formatting gives.
+use Rattle.std.specs.Prelude.{List}
+use Rattle.yf_events.specs.declared.lists.Lists.{Lists}
+use Rattle.yf_lines.specs.Lines.{Table}
 use Rattle.yf_emit.specs.declared.style.Style.{Style}
 use Rattle.yf_rules.specs.declared.finding.Finding.{Finding}
 use Rattle.yf_rules.specs.AllRules.{FoundByAll}
-use Rattle.yf_rules.specs.Mended.{NoneFixable}
-use Rattle.yf_rules.specs.Run.{Found, Rendered}
+use Rattle.yf_rules.specs.Mended.{IsFormatted, NoneFixable}
 
--- Where the bytes that a run with these settings gives are checked with the same settings, none of the findings is one that the house style fixes.
+-- Of a text that formatting gives in a style, whatever table of its lines and whatever reading of it is taken: none of what all rules find in it with
+-- that style is what the house style fixes.
 abbrev pub FormattedTextsAreClean : Type 0
-FormattedTextsAreClean = (style : Style) (known : Option (List ℕ)) (formatted : List ℕ) (findings : List Finding) → Rendered style known formatted
-    → Found (FoundByAll style) style (Some formatted) findings → NoneFixable findings
+FormattedTextsAreClean = (src : Table) (reading : Lists) (style : Style) (findings : List Finding) → IsFormatted src reading style → FoundByAll style src reading findings → NoneFixable findings
