@@ -20,5 +20,4 @@ mod owner;
 mod program;
 mod replacing;
 mod settings;
-mod shown;
 mod system;

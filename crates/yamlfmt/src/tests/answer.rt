@@ -2,6 +2,8 @@
 ghost use Rattle.std.specs.Prelude.{[], None};
 ghost use Rattle.yf_rules.specs.AllRules.{Are, all_rules};
 
+use crate::tests::answers::words_of;
+use crate::tests::command_line::OVERVIEW;
 use std::alloc::{AllocError, Global};
 use yf_files::{FileSystem, MemoryFiles};
 use yf_lines::fault::Fault;
@@ -12,12 +14,18 @@ use yf_rules::rule::Rule;
 use yf_rules::with_rules::{WithRules, with_all_rules};
 
 /// The files, and what they hold.
-static FILES: [(&str, &[u8]); 5] = [
+static FILES: [(&str, &[u8]); 11] = [
     ("good.toml", b"quotes = \"single\"\n"),
     ("bad.toml", b"indent = 9\na = 1\n"),
     ("no.toml", b"\xFF"),
     ("a.yaml", b"---\na: \"x\" # c\n"),
     ("refused.yaml", b"- a\n- b: *x\n"),
+    ("e.yaml", b"a\xC3\xA9\n"),
+    ("at0", b"\xF0\x9F\x98"),
+    ("at1", b"a\xFF"),
+    ("at2", b"a\n\xFF"),
+    ("ab2", b"ab\xED\xA0\x80c"),
+    ("at4", b"- a\n\xFF"),
 ];
 
 /// Standard input.
@@ -94,7 +102,7 @@ type Row = (
     &'static str,
 );
 
-static ROWS: [Row; 23] = [
+static ROWS: [Row; 30] = [
     ("fmt", 0, "---\n- \"a\"\n", "", "- ", BEFORE),
     (
         "fmt --config good.toml",
@@ -211,6 +219,56 @@ static ROWS: [Row; 23] = [
         "a.yaml ",
         BEFORE,
     ),
+    ("--help", 0, OVERVIEW, "", "", BEFORE),
+    // bytes that are a text, and bytes that are none
+    (
+        "events e.yaml",
+        0,
+        "+STR\n+DOC\n=VAL :a\u{E9}\n-DOC\n-STR\n",
+        "",
+        "e.yaml ",
+        BEFORE,
+    ),
+    (
+        "events at0",
+        2,
+        "",
+        "byte 0 refused: not-utf8\n",
+        "at0 ",
+        BEFORE,
+    ),
+    (
+        "check at1",
+        2,
+        "",
+        "byte 1 refused: not-utf8\n",
+        "at1 ",
+        BEFORE,
+    ),
+    (
+        "fmt at2",
+        2,
+        "",
+        "byte 2 refused: not-utf8\n",
+        "at2 ",
+        BEFORE,
+    ),
+    (
+        "events ab2",
+        2,
+        "",
+        "byte 2 refused: not-utf8\n",
+        "ab2 ",
+        BEFORE,
+    ),
+    (
+        "events at4",
+        2,
+        "",
+        "byte 4 refused: not-utf8\n",
+        "at4 ",
+        BEFORE,
+    ),
     // each of several files is told of by its name, whatever becomes of the others
     (
         "check a.yaml refused.yaml none.yaml a.yaml",
@@ -254,15 +312,6 @@ static ROWS: [Row; 23] = [
     ),
 ];
 
-/// The words of a command line.
-fn words_of(alloc: Global, line: &str) -> Result<Vec<String>, AllocError> {
-    let mut words = Vec::new(alloc);
-    for word in line.split(' ') {
-        words.push(String::from_str(alloc, word)?)?;
-    }
-    Ok(words)
-}
-
 /// Whether the words are answered as the row says.
 fn is_answered(alloc: Global, words: &[String], rules: &[Box<dyn Rule>], row: &Row) -> bool
     requires { Are (λ rule. definition rule) rules.now all_rules }
@@ -291,16 +340,6 @@ fn is_answered(alloc: Global, words: &[String], rules: &[Box<dyn Rule>], row: &R
         && ends_with(&files, row.5)
 }
 
-/// Whether the row holds.
-fn holds(alloc: Global, rules: &[Box<dyn Rule>], row: &Row) -> bool
-    requires { Are (λ rule. definition rule) rules.now all_rules }
-{
-    match words_of(alloc, row.0) {
-        Ok(words) => is_answered(alloc, words.as_slice(), rules, row),
-        Err(AllocError) => false,
-    }
-}
-
 /// Answers the command line of a row.
 #[derive(Drop)]
 struct Answers {
@@ -311,8 +350,12 @@ struct Answers {
 impl WithRules for Answers {
     type Answer = bool;
 
+    /// Whether the command line of the row is answered as the row says.
     fn with_rules(&mut self, rules: &[Box<dyn Rule>]) -> bool {
-        holds(self.alloc, rules, self.row)
+        match &words_of(self.alloc, self.row.0) {
+            Ok(words) => is_answered(self.alloc, words.as_slice(), rules, self.row),
+            Err(AllocError) => false,
+        }
     }
 }
 

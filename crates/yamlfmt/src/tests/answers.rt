@@ -1,4 +1,4 @@
-//! What a command answers, for the tests.
+//! What commands answer, for the tests.
 
 use std::alloc::{AllocError, Global};
 use std::io;
@@ -10,8 +10,21 @@ use yf_lines::watched::{Sink, Source, Watched};
 use yf_program::command_line::{Cmd, Verb};
 use yf_program::program::run;
 use yf_program::report::report;
+use yf_program::settings::style_from_toml;
 use yf_rules::rule::Rule;
 use yf_stream::stream::read_stream;
+
+/// A command over standard input.
+#[derive(Clone, Copy)]
+pub enum Asked {
+    Events,
+    Check,
+    Fmt,
+    /// `fmt --check`
+    FmtCheck,
+    /// `fmt --diff`
+    FmtDiff,
+}
 
 /// The status of a command, and what it writes to the two streams.
 #[derive(Drop)]
@@ -22,36 +35,32 @@ pub struct Answer {
 }
 
 impl Answer {
-    /// Whether the status is that, and the two streams are these texts.
-    pub fn is(&self, status: u8, output: &str, line: &str) -> bool {
-        self.status == status
-            && self.output.as_slice() == output.as_bytes()
-            && self.line.as_slice() == line.as_bytes()
+    /// Whether the status is that, and the text is all that is written: to standard output, and of a status above 1 to the
+    /// stream of faults.
+    fn is(&self, status: u8, text: &str) -> bool {
+        let (written, other) = if status < 2 {
+            (&self.output, &self.line)
+        } else {
+            (&self.line, &self.output)
+        };
+        self.status == status && written.as_slice() == text.as_bytes() && other.is_empty()
     }
 }
 
-/// A command over standard input.
-pub fn command(alloc: Global, verb: Verb) -> Cmd {
+/// The command as it is parsed.
+pub fn command(alloc: Global, asked: Asked) -> Cmd {
+    let verb = match asked {
+        Asked::Events => Verb::Events,
+        Asked::Check => Verb::Check,
+        Asked::Fmt | Asked::FmtCheck | Asked::FmtDiff => Verb::Fmt,
+    };
     Cmd {
         verb,
         config: None,
         file: None,
         write: false,
-        check: false,
-        diff: false,
-        more: Vec::new(alloc),
-    }
-}
-
-/// The command `fmt --check` over standard input, or `fmt --diff`.
-fn comparing(alloc: Global, diff: bool) -> Cmd {
-    Cmd {
-        verb: Verb::Fmt,
-        config: None,
-        file: None,
-        write: false,
-        check: !diff,
-        diff,
+        check: matches!(asked, Asked::FmtCheck),
+        diff: matches!(asked, Asked::FmtDiff),
         more: Vec::new(alloc),
     }
 }
@@ -59,40 +68,19 @@ fn comparing(alloc: Global, diff: bool) -> Cmd {
 /// What a command answers for an input.
 pub fn answer_to(
     alloc: Global,
-    verb: Verb,
+    asked: Asked,
     rules: &[Box<dyn Rule>],
     style: &Style,
     input: &[u8],
 ) -> Answer {
-    answered(alloc, &command(alloc, verb), rules, style, input)
-}
-
-/// What `fmt --check` answers for an input.
-pub fn answer_fmt_check(alloc: Global, style: &Style, input: &[u8]) -> Answer {
-    answered(alloc, &comparing(alloc, false), &[], style, input)
-}
-
-/// What `fmt --diff` answers for an input.
-pub fn answer_fmt_diff(alloc: Global, style: &Style, input: &[u8]) -> Answer {
-    answered(alloc, &comparing(alloc, true), &[], style, input)
-}
-
-fn answered(
-    alloc: Global,
-    command: &Cmd,
-    rules: &[Box<dyn Rule>],
-    style: &Style,
-    input: &[u8],
-) -> Answer {
-    let mut reader = Watched::new(input);
     let mut writer = Watched::new(Vec::new(alloc));
     let mut error_stream = Watched::new(Vec::new(alloc));
     let status = run(
         alloc,
-        command,
+        &command(alloc, asked),
         rules,
         style,
-        &mut reader,
+        &mut Watched::new(input),
         &mut writer,
         &mut error_stream,
     );
@@ -103,10 +91,23 @@ fn answered(
     }
 }
 
+/// What is asked, the settings, the input, the status, and the text that is written: to standard output, and of a status above 1
+/// to the stream of faults.
+pub type Run<'a> = (Asked, &'a str, &'a str, u8, &'a str);
+
+/// Whether a run is answered so.
+pub fn is_run(alloc: Global, rules: &[Box<dyn Rule>], row: &Run) -> bool {
+    let (asked, settings, input, status, text) = *row;
+    match &style_from_toml(alloc, settings) {
+        Ok(style) => answer_to(alloc, asked, rules, style, input.as_bytes()).is(status, text),
+        Err(fault) => status == 3 && reports(alloc, fault, 3, text),
+    }
+}
+
 /// The status of a command in the house style over a reader and a writer, and what it writes to the stream of faults.
 pub fn answer_over<R: Source, W: Sink>(
     alloc: Global,
-    verb: Verb,
+    asked: Asked,
     rules: &[Box<dyn Rule>],
     reader: &mut R,
     writer: &mut W,
@@ -114,7 +115,7 @@ pub fn answer_over<R: Source, W: Sink>(
     let mut error_stream = Watched::new(Vec::new(alloc));
     let status = run(
         alloc,
-        &command(alloc, verb),
+        &command(alloc, asked),
         rules,
         &Style::house(),
         reader,
@@ -140,43 +141,30 @@ pub fn formatted(alloc: Global, text: &str, style: &Style) -> Result<String, Fau
     format(alloc, text, style)
 }
 
-/// Whether the text is those lines, which stand between ` / ` in a table.
-pub fn are_lines(text: &[u8], lines: &str) -> bool {
-    let mut rest = text;
-    for line in lines.split(" / ") {
-        match after_line(rest, line.as_bytes()) {
-            Some(after) => rest = after,
-            None => return false,
-        }
-    }
-    rest.is_empty()
-}
+/// A text, a part so many times, and another part so many times.
+pub type Repeated = (&'static str, &'static str, usize, &'static str, usize);
 
-/// What follows the line that begins a text.
-fn after_line<'a>(text: &'a [u8], line: &[u8]) -> Option<&'a [u8]> {
-    match text.strip_prefix(line) {
-        Some(rest) => rest.strip_prefix(b"\n".as_slice()),
-        None => None,
+/// These in one text.
+pub fn repeated(alloc: Global, parts: &Repeated) -> Result<String, AllocError> {
+    let mut text = String::from_str(alloc, parts.0)?;
+    for _ in 0..parts.2 {
+        text.push_str(parts.1)?;
     }
-}
-
-/// A text so many times between two others, the second of which stands so many times as well.
-pub fn repeated(
-    alloc: Global,
-    before: &str,
-    part: &str,
-    count: usize,
-    rest: &str,
-    more: usize,
-) -> Result<String, AllocError> {
-    let mut text = String::from_str(alloc, before)?;
-    for _ in 0..count {
-        text.push_str(part)?;
-    }
-    for _ in 0..more {
-        text.push_str(rest)?;
+    for _ in 0..parts.4 {
+        text.push_str(parts.3)?;
     }
     Ok(text)
+}
+
+/// The words of a command line, which spaces part.
+pub fn words_of(alloc: Global, line: &str) -> Result<Vec<String>, AllocError> {
+    let mut words = Vec::new(alloc);
+    for word in line.split(' ') {
+        if !word.is_empty() {
+            words.push(String::from_str(alloc, word)?)?;
+        }
+    }
+    Ok(words)
 }
 
 /// Whether work on files was done, and what was asked of it holds.

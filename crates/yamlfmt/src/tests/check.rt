@@ -1,176 +1,149 @@
-//! What the checker finds, in tables of data.
+//! What the checker finds.
 
-use crate::tests::answers::{answer_to, are_lines};
-use std::alloc::{AllocError, Global};
-use yf_emit::style::Style;
-use yf_program::command_line::Verb;
-use yf_program::settings::style_from_toml;
+use crate::tests::answers::{Asked, is_run};
+use std::alloc::Global;
 use yf_rules::rule::Rule;
 use yf_rules::with_rules::{WithRules, with_all_rules};
 
-/// A text, and what is found in it, between ` / `; of a text that is refused what is said of it, with its line feed.
-type Row = (&'static str, &'static str);
+/// Settings, a text that is checked, the status, and what is found or why the text is refused.
+type Row = (&'static str, &'static str, u8, &'static str);
 
-/// Texts that are checked in a style.
-#[derive(Drop)]
-struct Checks<'a> {
-    alloc: Global,
-    style: &'a Style,
-    rows: &'static [Row],
-}
-
-/// Whether the checker finds those in a text, and answers the status for it.
-fn finds(
-    alloc: Global,
-    rules: &[Box<dyn Rule>],
-    style: &Style,
-    input: &str,
-    findings: &str,
-) -> bool {
-    let found = answer_to(alloc, Verb::Check, rules, style, input.as_bytes());
-    if findings.is_empty() {
-        return found.status == 0 && found.output.is_empty();
-    }
-    if findings.ends_with('\n') {
-        return found.is(2, "", findings);
-    }
-    found.status == 1 && are_lines(found.output.as_slice(), findings)
-}
-
-impl WithRules for Checks<'_> {
-    type Answer = Option<&'static str>;
-
-    /// The first text in which the checker finds something else with these rules.
-    fn with_rules(&mut self, rules: &[Box<dyn Rule>]) -> Option<&'static str> {
-        for (input, findings) in self.rows {
-            if !finds(self.alloc, rules, self.style, input, findings) {
-                return Some(*input);
-            }
-        }
-        None
-    }
-}
-
-/// The first text in which the checker finds something else with all rules.
-fn first_wrong(alloc: Global, style: &Style, rows: &'static [Row]) -> Option<&'static str> {
-    match with_all_rules(alloc, &mut Checks { alloc, style, rows }) {
-        Ok(wrong) => wrong,
-        Err(AllocError) => Some("no memory for rules"),
-    }
-}
-
-/// Streams, and what is found in them.
-static MENDED: [(&str, &str); 8] = [
-    ("- a\n- b\n", "1:1 document-start (fixable)"),
+static ROWS: [Row; 37] = [
+    ("", "- a\n- b\n", 1, "1:1 document-start (fixable)\n"),
     (
+        "",
         "foo: &a x\nbar: {*a : y, &b: z}\n",
-        "1:1 document-start (fixable) / 2:6 flow-layout (fixable)",
+        1,
+        "1:1 document-start (fixable)\n2:6 flow-layout (fixable)\n",
     ),
     (
+        "",
         "{\"a\":1,b: [x, # c\n y]}\n",
-        "1:1 document-start (fixable) / 1:1 flow-layout (fixable) / 1:15 comment-space (fixable)",
+        1,
+        "1:1 document-start (fixable)\n1:1 flow-layout (fixable)\n1:15 comment-space (fixable)\n",
     ),
     (
+        "",
         "- |\n x",
-        "1:1 document-start (fixable) / 1:3 indentation (fixable) / 2:3 final-break (fixable)",
+        1,
+        "1:1 document-start (fixable)\n1:3 indentation (fixable)\n2:3 final-break (fixable)\n",
     ),
     (
+        "",
         " ...\n",
-        "1:2 quoting (fixable) / 1:2 document-start (fixable)",
+        1,
+        "1:2 quoting (fixable)\n1:2 document-start (fixable)\n",
     ),
     (
+        "",
         "? k\n: v\n",
-        "1:1 document-start (fixable) / 1:1 key-mark (fixable)",
+        1,
+        "1:1 document-start (fixable)\n1:1 key-mark (fixable)\n",
     ),
     (
+        "",
         "? [a]\n: v\n",
-        "1:1 document-start (fixable) / 1:1 key-mark (fixable)",
+        1,
+        "1:1 document-start (fixable)\n1:1 key-mark (fixable)\n",
     ),
-    ("---\n?\n: v\n", "2:1 key-mark (fixable)"),
-];
-
-#[test]
-fn finds_what_the_house_style_mends(rt: HostRuntime) {
-    let wrong = first_wrong(rt.alloc(), &Style::house(), &MENDED);
-    assert!(rt; wrong.is_none(), "{}", wrong.unwrap_or(""));
-}
-
-/// Streams with faults in lines and keys, and what is found in them.
-static LINES_AND_KEYS: [(&str, &str); 6] = [
+    ("", "---\n?\n: v\n", 1, "2:1 key-mark (fixable)\n"),
     (
+        "",
         "# c\n\n\n# d",
-        "3:1 blank-lines (fixable) / 4:4 final-break (fixable)",
+        1,
+        "3:1 blank-lines (fixable)\n4:4 final-break (fixable)\n",
     ),
     (
+        "",
         "a: 1 \na: 2 # c",
-        "1:1 document-start (fixable) / 1:5 trailing-blanks (fixable) / 2:1 repeated-keys / 2:6 comment-space (fixable) / 2:9 final-break (fixable)",
+        1,
+        "1:1 document-start (fixable)\n1:5 trailing-blanks (fixable)\n2:1 repeated-keys\n2:6 comment-space (fixable)\n2:9 final-break (fixable)\n",
     ),
     (
+        "",
         "\u{FEFF}a: 'x'  # c \r\nb: |\r\n  y \r\na: 1\r\n",
-        "1:1 document-start (fixable) / 1:1 byte-order-mark (fixable) / 1:4 quoting (fixable) / 1:12 trailing-blanks (fixable) / 1:13 line-breaks (fixable) / 4:1 repeated-keys",
+        1,
+        "1:1 document-start (fixable)\n1:1 byte-order-mark (fixable)\n1:4 quoting (fixable)\n1:12 trailing-blanks (fixable)\n1:13 line-breaks (fixable)\n4:1 repeated-keys\n",
     ),
     (
+        "",
         "a:\n\n  b: 1\n\n\n  # c\n\n  d: 2\n\n---\n\ne\n",
-        "1:1 document-start (fixable) / 5:1 blank-lines (fixable) / 9:1 blank-lines (fixable) / 11:1 blank-lines (fixable)",
+        1,
+        "1:1 document-start (fixable)\n5:1 blank-lines (fixable)\n9:1 blank-lines (fixable)\n11:1 blank-lines (fixable)\n",
     ),
     (
+        "",
         "---\na: \"x\"  # c\nb: |\n  y \na: 1\n",
-        "5:1 repeated-keys",
+        1,
+        "5:1 repeated-keys\n",
     ),
     (
+        "",
         "a: 'x' # c",
-        "1:1 document-start (fixable) / 1:4 quoting (fixable) / 1:8 comment-space (fixable) / 1:11 final-break (fixable)",
+        1,
+        "1:1 document-start (fixable)\n1:4 quoting (fixable)\n1:8 comment-space (fixable)\n1:11 final-break (fixable)\n",
     ),
+    ("", "", 0, ""),
+    ("", "---\n# c\n", 0, ""),
+    ("", "---\n|+\n  a\n\n", 0, ""),
+    ("", "---\n- |\n  ---\n\n- b\n", 0, ""),
+    ("", "---\na:\n  b: 1\n\n  # c\n\n  d: 2\n---\ne\n", 0, ""),
+    ("", "---\n? |\n  x\n: y\n", 0, ""),
+    ("", "---\na:\n  - x\n", 0, ""),
+    ("", "- *a \n", 2, "1:3 refused: unknown-alias\n"),
+    // sequences stand at their keys
+    (
+        "seq_indent = false\n",
+        "---\na:\n  - x\n",
+        1,
+        "3:3 indentation (fixable)\n",
+    ),
+    ("seq_indent = false\n", "---\na:\n- x\n", 0, ""),
+    // what `fmt` changes beyond the rules
+    ("", "---\na:  b\n", 0, ""),
+    ("", "---\na : b\n", 0, ""),
+    ("", "---\n-\n  - x\n", 0, ""),
+    ("", "---\na:\n    # c\n  b: 1\n", 0, ""),
+    ("", "---\na:\n\n  b: 1\n", 0, ""),
+    ("", "---\na\n...\n", 0, ""),
+    ("", "---\n!t &a b\n", 0, ""),
+    ("", "---\n&a\n!t b\n", 0, ""),
+    ("", "---\na: |2\n  b\n", 0, ""),
+    ("", "---\n\"\\x41\"\n", 0, ""),
+    ("", "---\na\nb\n", 0, ""),
+    ("", "%YAML  1.2\n---\na\n", 0, ""),
+    ("", "---\n\u{E4}:  b\n", 0, ""),
 ];
 
-#[test]
-fn finds_lines_and_keys(rt: HostRuntime) {
-    let wrong = first_wrong(rt.alloc(), &Style::house(), &LINES_AND_KEYS);
-    assert!(rt; wrong.is_none(), "{}", wrong.unwrap_or(""));
+/// Checks a text with all rules.
+#[derive(Drop)]
+struct Check {
+    alloc: Global,
+    row: &'static Row,
 }
 
-/// Streams in which nothing is found.
-static IN_HOUSE_STYLE: [Row; 7] = [
-    ("", ""),
-    ("---\n# c\n", ""),
-    ("---\n|+\n  a\n\n", ""),
-    ("---\n- |\n  ---\n\n- b\n", ""),
-    ("---\na:\n  b: 1\n\n  # c\n\n  d: 2\n---\ne\n", ""),
-    ("---\n? |\n  x\n: y\n", ""),
-    ("---\na:\n  - x\n", ""),
-];
+impl WithRules for Check {
+    type Answer = bool;
 
-#[test]
-fn finds_nothing_in_the_house_style(rt: HostRuntime) {
-    let wrong = first_wrong(rt.alloc(), &Style::house(), &IN_HOUSE_STYLE);
-    assert!(rt; wrong.is_none(), "{}", wrong.unwrap_or(""));
-}
-
-/// Streams with sequences, and what is found in them where sequences stand at their keys.
-static SEQUENCES: [Row; 2] = [
-    ("---\na:\n  - x\n", "3:3 indentation (fixable)"),
-    ("---\na:\n- x\n", ""),
-];
-
-/// The same as `first_wrong`, in the style that settings make.
-fn first_wrong_under(alloc: Global, settings: &str, rows: &'static [Row]) -> Option<&'static str> {
-    match style_from_toml(alloc, settings) {
-        Ok(style) => first_wrong(alloc, &style, rows),
-        Err(_) => Some("settings"),
+    /// Whether the checker answers as the row says.
+    fn with_rules(&mut self, rules: &[Box<dyn Rule>]) -> bool {
+        let (settings, input, status, text) = *self.row;
+        is_run(
+            self.alloc,
+            rules,
+            &(Asked::Check, settings, input, status, text),
+        )
     }
 }
 
 #[test]
-fn checks_sequences_at_their_keys(rt: HostRuntime) {
-    let wrong = first_wrong_under(rt.alloc(), "seq_indent = false\n", &SEQUENCES);
-    assert!(rt; wrong.is_none(), "{}", wrong.unwrap_or(""));
-}
-
-/// A stream that is refused.
-static REFUSED: [Row; 1] = [("- *a \n", "1:3 refused: unknown-alias\n")];
-
-#[test]
-fn checks_accepted_streams_alone(rt: HostRuntime) {
-    let wrong = first_wrong(rt.alloc(), &Style::house(), &REFUSED);
-    assert!(rt; wrong.is_none(), "{}", wrong.unwrap_or(""));
+fn finds_faults_of_style(rt: HostRuntime) {
+    for row in &ROWS {
+        let alloc = rt.alloc();
+        assert!(rt;
+            matches!(with_all_rules(alloc, &mut Check { alloc, row }), Ok(true)),
+            "{}",
+            row.1
+        );
+    }
 }

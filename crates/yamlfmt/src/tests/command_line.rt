@@ -1,220 +1,28 @@
 //! Command lines: what they ask for, and the texts of help and of refusals.
 
-use std::alloc::{AllocError, Global};
+use crate::tests::answers::words_of;
+use std::alloc::Global;
 use yf_lines::text::OwnedText;
 use yf_program::command_line::{Cmd, Usage, Verb, parse_line};
 
-fn words_of(alloc: Global, line: &str) -> Result<Vec<String>, AllocError> {
-    let mut words = Vec::new(alloc);
-    for word in line.split(' ') {
-        if !word.is_empty() {
-            words.push(String::from_str(alloc, word)?)?;
-        }
-    }
-    Ok(words)
+/// What is found in a command line.
+#[derive(Clone, Copy)]
+enum Wanted {
+    /// A command: the settings file, the file, whether it is rewritten, whether it is only told of, whether by a diff, and how many
+    /// more files there are.
+    Command(Verb, &'static str, &'static str, bool, bool, bool, usize),
+    /// Wrong words.
+    Wrong,
+    /// Wrong words, and why.
+    Refused(&'static str),
+    /// Help with that text.
+    Help(&'static str),
+    /// What the program was built of.
+    Version,
 }
 
-/// What the words of a line ask for, unless memory for them was refused.
-fn parsed(alloc: Global, line: &str) -> Result<Cmd, Usage> {
-    match words_of(alloc, line) {
-        Ok(words) => parse_line(alloc, words.as_slice()),
-        Err(AllocError) => Err(Usage::Memory),
-    }
-}
-
-/// Whether there is that text, or none where it is empty.
-fn is_text(found: &Option<OwnedText>, text: &str) -> bool {
-    match found {
-        Some(found) => found.as_str() == text,
-        None => text.is_empty(),
-    }
-}
-
-/// A line, and the command for which it asks: the settings file, the file, whether it is rewritten, whether it is only told of, whether
-/// by a diff, and how many more files there are.
-type Asked = (
-    &'static str,
-    Verb,
-    &'static str,
-    &'static str,
-    bool,
-    bool,
-    bool,
-    usize,
-);
-
-/// Whether that command is asked for.
-fn is_asked(command: &Cmd, asked: &Asked) -> bool {
-    command.verb == asked.1
-        && command.write == asked.4
-        && command.check == asked.5
-        && command.diff == asked.6
-        && command.more.len() == asked.7
-        && is_text(&command.config, asked.2)
-        && is_text(&command.file, asked.3)
-}
-
-/// Whether words are taken, and ask for that command.
-fn are_asking(parsed: &Result<Cmd, Usage>, asked: &Asked) -> bool {
-    match parsed {
-        Ok(command) => is_asked(command, asked),
-        Err(_) => false,
-    }
-}
-
-/// Whether a line asks for its command.
-fn asks(alloc: Global, asked: &Asked) -> bool {
-    are_asking(&parsed(alloc, asked.0), asked)
-}
-
-/// Lines with their commands.
-static COMMANDS: [Asked; 14] = [
-    ("events", Verb::Events, "", "", false, false, false, 0),
-    (
-        "events a.yaml",
-        Verb::Events,
-        "",
-        "a.yaml",
-        false,
-        false,
-        false,
-        0,
-    ),
-    (
-        "check a.yaml",
-        Verb::Check,
-        "",
-        "a.yaml",
-        false,
-        false,
-        false,
-        0,
-    ),
-    ("fmt", Verb::Fmt, "", "", false, false, false, 0),
-    ("fmt --check", Verb::Fmt, "", "", false, true, false, 0),
-    (
-        "fmt a.yaml --check",
-        Verb::Fmt,
-        "",
-        "a.yaml",
-        false,
-        true,
-        false,
-        0,
-    ),
-    ("fmt --diff", Verb::Fmt, "", "", false, false, true, 0),
-    (
-        "fmt a --check --diff",
-        Verb::Fmt,
-        "",
-        "a",
-        false,
-        true,
-        true,
-        0,
-    ),
-    ("check a b", Verb::Check, "", "a", false, false, false, 1),
-    (
-        "fmt --check a b c",
-        Verb::Fmt,
-        "",
-        "a",
-        false,
-        true,
-        false,
-        2,
-    ),
-    ("fmt a --write b", Verb::Fmt, "", "a", true, false, false, 1),
-    (
-        "fmt --write a.yaml",
-        Verb::Fmt,
-        "",
-        "a.yaml",
-        true,
-        false,
-        false,
-        0,
-    ),
-    (
-        "fmt a.yaml --write --config=s.toml",
-        Verb::Fmt,
-        "s.toml",
-        "a.yaml",
-        true,
-        false,
-        false,
-        0,
-    ),
-    (
-        "events --config s.toml -- --write",
-        Verb::Events,
-        "s.toml",
-        "--write",
-        false,
-        false,
-        false,
-        0,
-    ),
-];
-
-#[test]
-fn reads_commands(rt: HostRuntime) {
-    for asked in &COMMANDS {
-        assert!(rt; asks(rt.alloc(), asked), "{}", asked.0);
-    }
-}
-
-/// Whether that is printed for what was asked, as in `SAID`.
-fn is_said(parsed: &Result<Cmd, Usage>, wanted: &str) -> bool {
-    match parsed {
-        Err(Usage::Help(text)) => wanted.strip_prefix('0') == Some(text.as_str()),
-        Err(Usage::Wrong(text)) => wanted.strip_prefix('3') == Some(text.as_str()),
-        _ => false,
-    }
-}
-
-/// Whether words are wrong.
-fn are_wrong(parsed: &Result<Cmd, Usage>) -> bool {
-    matches!(parsed, Err(Usage::Wrong(_)))
-}
-
-/// Whether a line is refused.
-fn is_refused(alloc: Global, line: &str) -> bool {
-    are_wrong(&parsed(alloc, line))
-}
-
-/// Lines that are refused.
-static REFUSED: [&str; 19] = [
-    "",
-    "a.yaml",
-    "print",
-    "--config s.toml events",
-    "events a b",
-    "fmt a b",
-    "events --config",
-    "events --write a",
-    "events --version",
-    "check --write a",
-    "check --check a",
-    "events --check a",
-    "check --diff a",
-    "fmt --diff --check a b",
-    "events --config s --config t",
-    "fmt --write",
-    "fmt --write=a a",
-    "fmt --write --write a",
-    "fmt -w a",
-];
-
-#[test]
-fn refuses_other_words(rt: HostRuntime) {
-    for line in &REFUSED {
-        assert!(rt; is_refused(rt.alloc(), line), "{line}");
-    }
-}
-
-const OVERVIEW: &str =
-    "0Prints the events of a YAML stream, checks its style and rewrites it in one house style
+pub const OVERVIEW: &str =
+    "Prints the events of a YAML stream, checks its style and rewrites it in one house style
 
 Usage: yamlfmt <COMMAND>
 
@@ -229,13 +37,85 @@ Options:
   -V, --version  Print version
 ";
 
-/// Lines, and what is printed for them: `0` and the text of help, `3` and why they are refused.
-static SAID: [(&str, &str); 11] = [
-    ("--help", OVERVIEW),
-    ("help", OVERVIEW),
+static LINES: [(&str, Wanted); 43] = [
+    (
+        "events",
+        Wanted::Command(Verb::Events, "", "", false, false, false, 0),
+    ),
+    (
+        "events a.yaml",
+        Wanted::Command(Verb::Events, "", "a.yaml", false, false, false, 0),
+    ),
+    (
+        "check a.yaml",
+        Wanted::Command(Verb::Check, "", "a.yaml", false, false, false, 0),
+    ),
+    (
+        "fmt",
+        Wanted::Command(Verb::Fmt, "", "", false, false, false, 0),
+    ),
+    (
+        "fmt --check",
+        Wanted::Command(Verb::Fmt, "", "", false, true, false, 0),
+    ),
+    (
+        "fmt a.yaml --check",
+        Wanted::Command(Verb::Fmt, "", "a.yaml", false, true, false, 0),
+    ),
+    (
+        "fmt --diff",
+        Wanted::Command(Verb::Fmt, "", "", false, false, true, 0),
+    ),
+    (
+        "fmt a --check --diff",
+        Wanted::Command(Verb::Fmt, "", "a", false, true, true, 0),
+    ),
+    (
+        "check a b",
+        Wanted::Command(Verb::Check, "", "a", false, false, false, 1),
+    ),
+    (
+        "fmt --check a b c",
+        Wanted::Command(Verb::Fmt, "", "a", false, true, false, 2),
+    ),
+    (
+        "fmt a --write b",
+        Wanted::Command(Verb::Fmt, "", "a", true, false, false, 1),
+    ),
+    (
+        "fmt --write a.yaml",
+        Wanted::Command(Verb::Fmt, "", "a.yaml", true, false, false, 0),
+    ),
+    (
+        "fmt a.yaml --write --config=s.toml",
+        Wanted::Command(Verb::Fmt, "s.toml", "a.yaml", true, false, false, 0),
+    ),
+    (
+        "events --config s.toml -- --write",
+        Wanted::Command(Verb::Events, "s.toml", "--write", false, false, false, 0),
+    ),
+    ("", Wanted::Wrong),
+    ("a.yaml", Wanted::Wrong),
+    ("print", Wanted::Wrong),
+    ("--config s.toml events", Wanted::Wrong),
+    ("events --config", Wanted::Wrong),
+    ("events --write a", Wanted::Wrong),
+    ("events --version", Wanted::Wrong),
+    ("check --write a", Wanted::Wrong),
+    ("check --check a", Wanted::Wrong),
+    ("events --check a", Wanted::Wrong),
+    ("check --diff a", Wanted::Wrong),
+    ("fmt --diff --check a b", Wanted::Wrong),
+    ("events --config s --config t", Wanted::Wrong),
+    ("fmt --write=a a", Wanted::Wrong),
+    ("fmt --write --write a", Wanted::Wrong),
+    ("fmt -w a", Wanted::Wrong),
+    ("--help", Wanted::Help(OVERVIEW)),
+    ("help", Wanted::Help(OVERVIEW)),
     (
         "events -h",
-        "0Print the events of a YAML stream
+        Wanted::Help(
+            "Print the events of a YAML stream
 
 Usage: yamlfmt events [OPTIONS] [FILE]
 
@@ -246,55 +126,67 @@ Options:
       --config <FILE>  Read the settings of the house style from this TOML file
   -h, --help           Print help
 ",
+        ),
     ),
     (
         "fmt --write",
-        "3error: the argument '--write' needs a FILE
+        Wanted::Refused(
+            "error: the argument '--write' needs a FILE
 
 Usage: yamlfmt fmt [OPTIONS] [FILE]...
 
 For more information, try '--help'.
 ",
+        ),
     ),
     (
         "fmt --write --check a",
-        "3error: the argument '--write' cannot be used with '--check'
+        Wanted::Refused(
+            "error: the argument '--write' cannot be used with '--check'
 
 Usage: yamlfmt fmt [OPTIONS] [FILE]...
 
 For more information, try '--help'.
 ",
+        ),
     ),
     (
         "fmt --write --diff a",
-        "3error: the argument '--write' cannot be used with '--diff'
+        Wanted::Refused(
+            "error: the argument '--write' cannot be used with '--diff'
 
 Usage: yamlfmt fmt [OPTIONS] [FILE]...
 
 For more information, try '--help'.
 ",
+        ),
     ),
     (
         "fmt a b",
-        "3error: several FILEs need '--write' or '--check'
+        Wanted::Refused(
+            "error: several FILEs need '--write' or '--check'
 
 Usage: yamlfmt fmt [OPTIONS] [FILE]...
 
 For more information, try '--help'.
 ",
+        ),
     ),
     (
         "events a b",
-        "3error: unexpected argument 'b' found
+        Wanted::Refused(
+            "error: unexpected argument 'b' found
 
 Usage: yamlfmt events [OPTIONS] [FILE]
 
 For more information, try '--help'.
 ",
+        ),
     ),
     (
         "evnts",
-        "3error: unrecognized subcommand 'evnts'
+        Wanted::Refused(
+            "error: unrecognized subcommand 'evnts'
 
   tip: a similar subcommand exists: 'events'
 
@@ -302,42 +194,50 @@ Usage: yamlfmt <COMMAND>
 
 For more information, try '--help'.
 ",
+        ),
     ),
-    // control characters are shown
     (
         "events a b\u{1b}[2J\n",
-        "3error: unexpected argument 'b\\x1B[2J\\x0A' found
+        Wanted::Refused(
+            "error: unexpected argument 'b\\x1B[2J\\x0A' found
 
 Usage: yamlfmt events [OPTIONS] [FILE]
 
 For more information, try '--help'.
 ",
+        ),
     ),
     (
-        "x\u{9b}y",
-        "3error: unrecognized subcommand 'x\\x9By'
+        "x\u{9B}y",
+        Wanted::Refused(
+            "error: unrecognized subcommand 'x\\x9By'
 
 Usage: yamlfmt <COMMAND>
 
 For more information, try '--help'.
 ",
+        ),
     ),
+    ("--version", Wanted::Version),
+    ("-V", Wanted::Version),
 ];
 
-/// Whether that is printed for a line.
-fn says(alloc: Global, line: &str, wanted: &str) -> bool {
-    is_said(&parsed(alloc, line), wanted)
-}
-
-#[test]
-fn says_how_it_is_used_and_what_is_wrong(rt: HostRuntime) {
-    for (line, wanted) in &SAID {
-        assert!(rt; says(rt.alloc(), line, wanted), "{line}");
+/// Whether there is that text, or none where it is empty.
+fn is_text(found: &Option<OwnedText>, text: &str) -> bool {
+    match found {
+        Some(found) => found.as_str() == text,
+        None => text.is_empty(),
     }
 }
 
-/// Whether a line names a commit by its hash, or says that there was none.
-fn tells_commit(line: &str) -> bool {
+/// Whether a text is the name and the version, the commit or that there was none, and the logic, each on a line.
+fn is_version(text: &str) -> bool {
+    let Some(built) = text.strip_prefix("yamlfmt 0.2.0\n") else {
+        return false;
+    };
+    let Some(line) = built.strip_suffix("\nlogic dac8208d650f15bf\n") else {
+        return false;
+    };
     match line.strip_prefix("commit ") {
         Some(hash) => {
             hash.len() >= 40 && hash.as_bytes().iter().all(|byte| byte.is_ascii_hexdigit())
@@ -346,32 +246,37 @@ fn tells_commit(line: &str) -> bool {
     }
 }
 
-/// Whether a text is the name and the version, the commit and the logic, each on a line.
-fn is_version(text: &str) -> bool {
-    let Some(built) = text.strip_prefix("yamlfmt 0.2.0\n") else {
-        return false;
-    };
-    match built.strip_suffix("\nlogic dac8208d650f15bf\n") {
-        Some(line) => tells_commit(line),
-        None => false,
-    }
-}
-
-/// Whether words ask for the version.
-fn are_asking_version(parsed: &Result<Cmd, Usage>) -> bool {
-    match parsed {
-        Err(Usage::Help(text)) => is_version(text.as_str()),
+/// Whether that is found.
+fn is_found(parsed: &Result<Cmd, Usage>, wanted: Wanted) -> bool {
+    match (parsed, wanted) {
+        (Ok(command), Wanted::Command(verb, config, file, write, check, diff, more)) => {
+            command.verb == verb
+                && command.write == write
+                && command.check == check
+                && command.diff == diff
+                && command.more.len() == more
+                && is_text(&command.config, config)
+                && is_text(&command.file, file)
+        }
+        (Err(Usage::Wrong(_)), Wanted::Wrong) => true,
+        (Err(Usage::Wrong(text)), Wanted::Refused(wanted)) => text.as_str() == wanted,
+        (Err(Usage::Help(text)), Wanted::Help(wanted)) => text.as_str() == wanted,
+        (Err(Usage::Help(text)), Wanted::Version) => is_version(text.as_str()),
         _ => false,
     }
 }
 
-/// Whether a line asks for the version.
-fn asks_version(alloc: Global, line: &str) -> bool {
-    are_asking_version(&parsed(alloc, line))
+/// Whether that is found in a line.
+fn asks(alloc: Global, line: &str, wanted: Wanted) -> bool {
+    match &words_of(alloc, line) {
+        Ok(words) => is_found(&parse_line(alloc, words.as_slice()), wanted),
+        Err(_) => false,
+    }
 }
 
 #[test]
-fn tells_version_commit_and_logic(rt: HostRuntime) {
-    assert!(rt; asks_version(rt.alloc(), "--version"));
-    assert!(rt; asks_version(rt.alloc(), "-V"));
+fn command_lines_ask_for_commands_or_are_refused(rt: HostRuntime) {
+    for (line, wanted) in &LINES {
+        assert!(rt; asks(rt.alloc(), line, *wanted), "{line}");
+    }
 }

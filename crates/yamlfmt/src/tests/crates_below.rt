@@ -1,17 +1,10 @@
-//! Tests of the crates below, a file for each crate.
+//! Calls of the crates below that no run of the program tells of: that each is answered, at texts that hold more than what it reads.
 
-mod block;
 mod block_scalars;
-mod chars;
 mod comments;
-mod emit;
-mod events;
-mod flow;
 mod lines;
 mod mistakes;
-mod node_text;
-mod older_writes;
-mod plain;
+mod nodes;
 mod props;
-mod quoted;
-mod writes;
+mod readings;
+mod scalars;

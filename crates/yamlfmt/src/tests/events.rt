@@ -1,167 +1,198 @@
-//! The events of streams, and why streams are refused, in tables of data.
+//! The events of streams, and why streams are refused.
 
-use crate::tests::answers::{Answer, answer_to, are_lines};
-use std::alloc::Global;
-use yf_emit::style::Style;
-use yf_program::command_line::Verb;
+use crate::tests::answers::{Asked, is_run};
 
-pub fn events(alloc: Global, input: &[u8]) -> Answer {
-    answer_to(alloc, Verb::Events, &[], &Style::house(), input)
-}
-
-/// Whether the input is accepted, and its events are those lines.
-fn prints(alloc: Global, input: &str, lines: &str) -> bool {
-    let answer = events(alloc, input.as_bytes());
-    answer.status == 0 && are_lines(answer.output.as_slice(), lines)
-}
-
-/// Whether those are the events of a stream of one bare document with that node.
-fn is_document(output: &[u8], node: &str) -> bool {
-    match output.strip_prefix(b"+STR\n+DOC\n".as_slice()) {
-        Some(rest) => match rest.strip_suffix(b"-DOC\n-STR\n".as_slice()) {
-            Some(lines) => are_lines(lines, node),
-            None => false,
-        },
-        None => false,
-    }
-}
-
-/// Whether the input is accepted, and its events are those of one bare document with that node.
-fn prints_node(alloc: Global, input: &str, node: &str) -> bool {
-    let answer = events(alloc, input.as_bytes());
-    answer.status == 0 && is_document(answer.output.as_slice(), node)
-}
-
-/// Whether the input is refused with that line, and nothing is printed.
-fn refuses(alloc: Global, input: &[u8], line: &str) -> bool {
-    events(alloc, input).is(2, "", line)
-}
-
-/// Streams of a bare block collection, and the events of it.
-static BLOCK_COLLECTIONS: [(&str, &str); 8] = [
-    ("- a\n- b\n", "+SEQ / =VAL :a / =VAL :b / -SEQ"),
+/// Streams, and their events.
+pub static ACCEPTED: [(&str, &str); 51] = [
+    // block collections, anchors and aliases
+    (
+        "- a\n- b\n",
+        "+STR\n+DOC\n+SEQ\n=VAL :a\n=VAL :b\n-SEQ\n-DOC\n-STR\n",
+    ),
     (
         "-\ta \n- b-c#d\n- x:y",
-        "+SEQ / =VAL :a / =VAL :b-c#d / =VAL :x:y / -SEQ",
+        "+STR\n+DOC\n+SEQ\n=VAL :a\n=VAL :b-c#d\n=VAL :x:y\n-SEQ\n-DOC\n-STR\n",
     ),
-    ("? k\n: v\n", "+MAP / =VAL :k / =VAL :v / -MAP"),
+    (
+        "? k\n: v\n",
+        "+STR\n+DOC\n+MAP\n=VAL :k\n=VAL :v\n-MAP\n-DOC\n-STR\n",
+    ),
     (
         "a:\n- x\n- - y\n  - z\n",
-        "+MAP / =VAL :a / +SEQ / =VAL :x / +SEQ / =VAL :y / =VAL :z / -SEQ / -SEQ / -MAP",
+        "+STR\n+DOC\n+MAP\n=VAL :a\n+SEQ\n=VAL :x\n+SEQ\n=VAL :y\n=VAL :z\n-SEQ\n-SEQ\n-MAP\n-DOC\n-STR\n",
     ),
     (
         "- &a x # c\n- *a\n- !!str y\n- # d\n",
-        "+SEQ / =VAL &a :x / =ALI *a / =VAL <tag:yaml.org,2002:str> :y / =VAL : / -SEQ",
+        "+STR\n+DOC\n+SEQ\n=VAL &a :x\n=ALI *a\n=VAL <tag:yaml.org,2002:str> :y\n=VAL :\n-SEQ\n-DOC\n-STR\n",
     ),
-    ("-", "+SEQ / =VAL : / -SEQ"),
+    ("-", "+STR\n+DOC\n+SEQ\n=VAL :\n-SEQ\n-DOC\n-STR\n"),
     (
         "-: a\na:: b\nc: 12\n",
-        "+MAP / =VAL :- / =VAL :a / =VAL :a: / =VAL :b / =VAL :c / =VAL :12 / -MAP",
+        "+STR\n+DOC\n+MAP\n=VAL :-\n=VAL :a\n=VAL :a:\n=VAL :b\n=VAL :c\n=VAL :12\n-MAP\n-DOC\n-STR\n",
     ),
     (
         "foo: &a x\nbar: {*a : y, &b: z}\n",
-        "+MAP / =VAL :foo / =VAL &a :x / =VAL :bar / +MAP {} / =ALI *a / =VAL :y / =VAL &b: :z / =VAL : / -MAP / -MAP",
+        "+STR\n+DOC\n+MAP\n=VAL :foo\n=VAL &a :x\n=VAL :bar\n+MAP {}\n=ALI *a\n=VAL :y\n=VAL &b: :z\n=VAL :\n-MAP\n-MAP\n-DOC\n-STR\n",
     ),
-];
-
-#[test]
-fn prints_block_collections(rt: HostRuntime) {
-    for (input, node) in &BLOCK_COLLECTIONS {
-        assert!(rt; prints_node(rt.alloc(), input, node), "{input}");
-    }
-}
-
-/// Streams of a bare node that holds scalars, and its events.
-static SCALARS: [(&str, &str); 11] = [
-    (" ...\n", "=VAL :..."),
-    ("a\n%YAML 1.1\n", "=VAL :a %YAML 1.1"),
-    ("\"\\ud83d\\ude00 \\x41\"", "=VAL \"\u{1F600} A"),
-    ("\"\\0\"", "=VAL \"\\x00"),
-    ("\"a\u{FEFF}b\"", "=VAL \"a\u{FEFF}b"),
-    ("- |\n x", "+SEQ / =VAL |x / -SEQ"),
-    ("- a\n  b\n\n  c\n", "+SEQ / =VAL :a b\\nc / -SEQ"),
-    ("- a\r\n  b\r\n", "+SEQ / =VAL :a b / -SEQ"),
+    (
+        "? a # c\nb: 1\n",
+        "+STR\n+DOC\n+MAP\n=VAL :a\n=VAL :\n=VAL :b\n=VAL :1\n-MAP\n-DOC\n-STR\n",
+    ),
+    (
+        "- &x\n  # c\n  k: # d\n    v\n",
+        "+STR\n+DOC\n+SEQ\n+MAP &x\n=VAL :k\n=VAL :v\n-MAP\n-SEQ\n-DOC\n-STR\n",
+    ),
+    (
+        "a: [1, {b: }]\nc:\n- - x\n  - y\n",
+        "+STR\n+DOC\n+MAP\n=VAL :a\n+SEQ []\n=VAL :1\n+MAP {}\n=VAL :b\n=VAL :\n-MAP\n-SEQ\n=VAL :c\n+SEQ\n+SEQ\n=VAL :x\n=VAL :y\n-SEQ\n-SEQ\n-MAP\n-DOC\n-STR\n",
+    ),
+    (
+        "? [a, {b: }]\n: - c\n  - d\n? |\n  x\n: y\n",
+        "+STR\n+DOC\n+MAP\n+SEQ []\n=VAL :a\n+MAP {}\n=VAL :b\n=VAL :\n-MAP\n-SEQ\n+SEQ\n=VAL :c\n=VAL :d\n-SEQ\n=VAL |x\\n\n=VAL :y\n-MAP\n-DOC\n-STR\n",
+    ),
+    (
+        "- &a x\n- &c y\n- *a : !!map\n    &b k : *c\n",
+        "+STR\n+DOC\n+SEQ\n=VAL &a :x\n=VAL &c :y\n+MAP\n=ALI *a\n+MAP <tag:yaml.org,2002:map>\n=VAL &b :k\n=ALI *c\n-MAP\n-MAP\n-SEQ\n-DOC\n-STR\n",
+    ),
+    (
+        "&a\n&b k: v\n",
+        "+STR\n+DOC\n+MAP &a\n=VAL &b :k\n=VAL :v\n-MAP\n-DOC\n-STR\n",
+    ),
+    (
+        "- &\u{E9} x\n- *\u{E9} \n",
+        "+STR\n+DOC\n+SEQ\n=VAL &\u{E9} :x\n=ALI *\u{E9}\n-SEQ\n-DOC\n-STR\n",
+    ),
+    // scalars
+    (" ...\n", "+STR\n+DOC\n=VAL :...\n-DOC\n-STR\n"),
+    (
+        "a\n%YAML 1.1\n",
+        "+STR\n+DOC\n=VAL :a %YAML 1.1\n-DOC\n-STR\n",
+    ),
+    (
+        "\"\\ud83d\\ude00 \\x41\"",
+        "+STR\n+DOC\n=VAL \"\u{1F600} A\n-DOC\n-STR\n",
+    ),
+    ("\"\\0\"", "+STR\n+DOC\n=VAL \"\\x00\n-DOC\n-STR\n"),
+    (
+        "\"a\u{FEFF}b\"",
+        "+STR\n+DOC\n=VAL \"a\u{FEFF}b\n-DOC\n-STR\n",
+    ),
+    ("- |\n x", "+STR\n+DOC\n+SEQ\n=VAL |x\n-SEQ\n-DOC\n-STR\n"),
+    (
+        "- a\n  b\n\n  c\n",
+        "+STR\n+DOC\n+SEQ\n=VAL :a b\\nc\n-SEQ\n-DOC\n-STR\n",
+    ),
+    (
+        "- a\r\n  b\r\n",
+        "+STR\n+DOC\n+SEQ\n=VAL :a b\n-SEQ\n-DOC\n-STR\n",
+    ),
     (
         "- 'it''s'\n- \"\\r\"\n",
-        "+SEQ / =VAL 'it's / =VAL \"\\r / -SEQ",
+        "+STR\n+DOC\n+SEQ\n=VAL 'it's\n=VAL \"\\r\n-SEQ\n-DOC\n-STR\n",
     ),
     (
         "- |2\n    x\n\n- >\n a\n b\n\n   c\n- |\n\n",
-        "+SEQ / =VAL |  x\\n / =VAL >a b\\n\\n  c\\n / =VAL | / -SEQ",
+        "+STR\n+DOC\n+SEQ\n=VAL |  x\\n\n=VAL >a b\\n\\n  c\\n\n=VAL |\n-SEQ\n-DOC\n-STR\n",
     ),
     (
         "- >2-\n   a\n  b\n\n- |-\n x\n\n# c\n- y\n",
-        "+SEQ / =VAL > a\\nb / =VAL |x / =VAL :y / -SEQ",
+        "+STR\n+DOC\n+SEQ\n=VAL > a\\nb\n=VAL |x\n=VAL :y\n-SEQ\n-DOC\n-STR\n",
     ),
-];
-
-#[test]
-fn prints_scalars(rt: HostRuntime) {
-    for (input, node) in &SCALARS {
-        assert!(rt; prints_node(rt.alloc(), input, node), "{input}");
-    }
-}
-
-/// Streams of a bare node that holds flow collections, and its events.
-static FLOW_COLLECTIONS: [(&str, &str); 5] = [
+    (
+        "- &x # c\n\n  # d\n  |+\n  a\n\n",
+        "+STR\n+DOC\n+SEQ\n=VAL &x |a\\n\\n\n-SEQ\n-DOC\n-STR\n",
+    ),
+    (
+        "a: 'x'  # c \r\nb: |\r\n  y \r\na: 1\r\n",
+        "+STR\n+DOC\n+MAP\n=VAL :a\n=VAL 'x\n=VAL :b\n=VAL |y \\n\n=VAL :a\n=VAL :1\n-MAP\n-DOC\n-STR\n",
+    ),
+    (
+        "- 'it''s'\n- \"\\r \\\\ \\n \\t \\b \\0 \\x1f \u{E9}\"\n-\n",
+        "+STR\n+DOC\n+SEQ\n=VAL 'it's\n=VAL \"\\r \\\\ \\n \\t \\b \\x00 \\x1F \u{E9}\n=VAL :\n-SEQ\n-DOC\n-STR\n",
+    ),
+    (
+        "\"\\0\\a\\b\\t\\\t\\n\\v\\f\\r\\e\\ \\\"\\/\\\\\\N\\_\\L\\P\\x41\\u0042\\U00000043\"",
+        "+STR\n+DOC\n=VAL \"\\x00\\x07\\b\\t\\t\\n\\x0B\\x0C\\r\\x1B \"/\\\\\u{85}\u{A0}\u{2028}\u{2029}ABC\n-DOC\n-STR\n",
+    ),
+    (
+        "- \u{A0}a\u{85}\n- b\r- c\n",
+        "+STR\n+DOC\n+SEQ\n=VAL :\u{A0}a\u{85}\n=VAL :b\n=VAL :c\n-SEQ\n-DOC\n-STR\n",
+    ),
+    // flow collections
     (
         "[a: b, c]\n",
-        "+SEQ [] / +MAP {} / =VAL :a / =VAL :b / -MAP / =VAL :c / -SEQ",
+        "+STR\n+DOC\n+SEQ []\n+MAP {}\n=VAL :a\n=VAL :b\n-MAP\n=VAL :c\n-SEQ\n-DOC\n-STR\n",
     ),
     (
         "- {a: 1, \"b\":2, ? c}\n- []\n",
-        "+SEQ / +MAP {} / =VAL :a / =VAL :1 / =VAL \"b / =VAL :2 / =VAL :c / =VAL : / -MAP / +SEQ [] / -SEQ / -SEQ",
+        "+STR\n+DOC\n+SEQ\n+MAP {}\n=VAL :a\n=VAL :1\n=VAL \"b\n=VAL :2\n=VAL :c\n=VAL :\n-MAP\n+SEQ []\n-SEQ\n-SEQ\n-DOC\n-STR\n",
     ),
-    ("[ # c\n]\n", "+SEQ [] / -SEQ"),
+    ("[ # c\n]\n", "+STR\n+DOC\n+SEQ []\n-SEQ\n-DOC\n-STR\n"),
     (
         "{a: x, : # c\n v}\n",
-        "+MAP {} / =VAL :a / =VAL :x / =VAL : / =VAL :v / -MAP",
+        "+STR\n+DOC\n+MAP {}\n=VAL :a\n=VAL :x\n=VAL :\n=VAL :v\n-MAP\n-DOC\n-STR\n",
     ),
     (
         "key: [\n  1\n ]\n",
-        "+MAP / =VAL :key / +SEQ [] / =VAL :1 / -SEQ / -MAP",
+        "+STR\n+DOC\n+MAP\n=VAL :key\n+SEQ []\n=VAL :1\n-SEQ\n-MAP\n-DOC\n-STR\n",
     ),
-];
-
-#[test]
-fn prints_flow_collections(rt: HostRuntime) {
-    for (input, node) in &FLOW_COLLECTIONS {
-        assert!(rt; prints_node(rt.alloc(), input, node), "{input}");
-    }
-}
-
-/// Streams, and all their events.
-static STREAMS: [(&str, &str); 7] = [
-    ("", "+STR / -STR"),
-    ("# c\n\n\n# d", "+STR / -STR"),
-    ("---\n# c\n", "+STR / +DOC --- / =VAL : / -DOC / -STR"),
+    (
+        "{\"a\":1,b: [x, # c\n y]}\n",
+        "+STR\n+DOC\n+MAP {}\n=VAL \"a\n=VAL :1\n=VAL :b\n+SEQ []\n=VAL :x\n=VAL :y\n-SEQ\n-MAP\n-DOC\n-STR\n",
+    ),
+    (
+        "[a, # c\n # d\n b, {k: # e\n v}] # f\n",
+        "+STR\n+DOC\n+SEQ []\n=VAL :a\n=VAL :b\n+MAP {}\n=VAL :k\n=VAL :v\n-MAP\n-SEQ\n-DOC\n-STR\n",
+    ),
+    (
+        "[? a\n: b, ? , : c]",
+        "+STR\n+DOC\n+SEQ []\n+MAP {}\n=VAL :a\n=VAL :b\n-MAP\n+MAP {}\n=VAL :\n=VAL :\n-MAP\n+MAP {}\n=VAL :\n=VAL :c\n-MAP\n-SEQ\n-DOC\n-STR\n",
+    ),
+    (
+        "{a b\n c: d, \"e\":f}",
+        "+STR\n+DOC\n+MAP {}\n=VAL :a b c\n=VAL :d\n=VAL \"e\n=VAL :f\n-MAP\n-DOC\n-STR\n",
+    ),
+    (
+        "[[a]: b, 'c d' : &e !!str f]",
+        "+STR\n+DOC\n+SEQ []\n+MAP {}\n+SEQ []\n=VAL :a\n-SEQ\n=VAL :b\n-MAP\n+MAP {}\n=VAL 'c d\n=VAL &e <tag:yaml.org,2002:str> :f\n-MAP\n-SEQ\n-DOC\n-STR\n",
+    ),
+    // streams and documents
+    ("", "+STR\n-STR\n"),
+    ("# c\n\n\n# d", "+STR\n-STR\n"),
+    ("---\n# c\n", "+STR\n+DOC ---\n=VAL :\n-DOC\n-STR\n"),
     (
         "--- |+\n a\n\n",
-        "+STR / +DOC --- / =VAL |a\\n\\n / -DOC / -STR",
+        "+STR\n+DOC ---\n=VAL |a\\n\\n\n-DOC\n-STR\n",
     ),
     (
         "%TAG !e! tag:e.com,2000:\n---\n!e!t%21 v\n",
-        "+STR / +DOC --- / =VAL <tag:e.com,2000:t!> :v / -DOC / -STR",
+        "+STR\n+DOC ---\n=VAL <tag:e.com,2000:t!> :v\n-DOC\n-STR\n",
     ),
     (
         "a\n...\n# c\n%YAML 1.1\n--- b\n",
-        "+STR / +DOC / =VAL :a / -DOC ... / +DOC --- / =VAL :b / -DOC / -STR",
+        "+STR\n+DOC\n=VAL :a\n-DOC ...\n+DOC ---\n=VAL :b\n-DOC\n-STR\n",
     ),
     (
         "%FOO a # c\n---\nx\n",
-        "+STR / +DOC --- / =VAL :x / -DOC / -STR",
+        "+STR\n+DOC ---\n=VAL :x\n-DOC\n-STR\n",
+    ),
+    (
+        "--- [&a x, {*a : y}]\n...\n",
+        "+STR\n+DOC ---\n+SEQ []\n=VAL &a :x\n+MAP {}\n=ALI *a\n=VAL :y\n-MAP\n-SEQ\n-DOC ...\n-STR\n",
+    ),
+    (
+        "%FOO a\n---\n- &x !!str > # c\n  b\n",
+        "+STR\n+DOC ---\n+SEQ\n=VAL &x <tag:yaml.org,2002:str> >b\\n\n-SEQ\n-DOC\n-STR\n",
+    ),
+    (
+        "a:\n\n  b: 1\n\n\n  # c\n\n  d: 2\n\n---\n\ne\n",
+        "+STR\n+DOC\n+MAP\n=VAL :a\n+MAP\n=VAL :b\n=VAL :1\n=VAL :d\n=VAL :2\n-MAP\n-MAP\n-DOC\n+DOC ---\n=VAL :e\n-DOC\n-STR\n",
     ),
 ];
 
-#[test]
-fn prints_streams(rt: HostRuntime) {
-    for (input, lines) in &STREAMS {
-        assert!(rt; prints(rt.alloc(), input, lines), "{input}");
-    }
-}
-
-/// Texts that are no streams, and the line of the fault: the first sign with which no stream begins.
-static NO_STREAMS: [(&str, &str); 15] = [
+/// Texts that are refused, and the line of the fault.
+pub static REFUSED: [(&str, &str); 28] = [
+    // no stream: the first sign with which no stream begins
     ("a: b: c\n", "1:5 refused: syntax\n"),
     ("a\nb: c\n", "2:2 refused: syntax\n"),
     ("key: [\n  1\n]\n", "3:1 refused: syntax\n"),
@@ -177,17 +208,7 @@ static NO_STREAMS: [(&str, &str); 15] = [
     ("a\u{FEFF}b", "1:2 refused: syntax\n"),
     ("&a x\n...\n- *a: b\n", "3:7 refused: syntax\n"),
     ("? k\n:- a\n", "2:5 refused: syntax\n"),
-];
-
-#[test]
-fn refuses_what_is_no_stream(rt: HostRuntime) {
-    for (input, line) in &NO_STREAMS {
-        assert!(rt; refuses(rt.alloc(), input.as_bytes(), line), "{input}");
-    }
-}
-
-/// Streams that are not well-formed, and the line of the fault.
-static BREACHES: [(&str, &str); 13] = [
+    // not well-formed: the first breach
     ("\"\\ud83d\"", "1:2 refused: escape-value\n"),
     ("- \"\\ud83d\"\n", "1:4 refused: escape-value\n"),
     ("- \"\\ude00\\ud83d\"", "1:4 refused: escape-value\n"),
@@ -210,21 +231,17 @@ static BREACHES: [(&str, &str); 13] = [
 ];
 
 #[test]
-fn refuses_breaches(rt: HostRuntime) {
-    for (input, line) in &BREACHES {
-        assert!(rt; refuses(rt.alloc(), input.as_bytes(), line), "{input}");
+fn prints_events_or_refuses(rt: HostRuntime) {
+    for (input, events) in &ACCEPTED {
+        assert!(rt;
+            is_run(rt.alloc(), &[], &(Asked::Events, "", input, 0, events)),
+            "{input}"
+        );
     }
-}
-
-/// Bytes that are no text, and the line of the fault.
-static NO_TEXTS: [(&[u8], &str); 2] = [
-    (b"a\n\xFF", "byte 2 refused: not-utf8\n"),
-    (b"\xF0\x9F\x98", "byte 0 refused: not-utf8\n"),
-];
-
-#[test]
-fn refuses_bytes_that_are_no_text(rt: HostRuntime) {
-    for (input, line) in &NO_TEXTS {
-        assert!(rt; refuses(rt.alloc(), input, line), "{line}");
+    for (input, line) in &REFUSED {
+        assert!(rt;
+            is_run(rt.alloc(), &[], &(Asked::Events, "", input, 2, line)),
+            "{input}"
+        );
     }
 }

@@ -4,12 +4,13 @@ use crate::tests::answers::is_true;
 use crate::tests::failing_files::{FailingFiles, Step};
 use std::fs::Permissions;
 use std::os::unix::fs::{MetadataExt, PermissionsExt, symlink};
+use std::rt::Files;
 use std::{fs, io};
 use yf_emit::style::Style;
 use yf_files::{ReplaceError, RewriteError};
 use yf_lines::fault::Fault;
 use yf_program::files::rewrite;
-use yf_program::replacing::SystemFiles;
+use yf_program::replacing::{Held, SystemFiles};
 
 /// Makes an empty folder.
 fn make_folder(rt: &HostRuntime, folder: &str) -> io::Result<()> {
@@ -32,42 +33,28 @@ enum Answer {
 
 /// Whether that is the answer.
 fn is_answer(answer: &Result<(), RewriteError<Fault>>, wanted: Answer) -> bool {
-    match answer {
-        Ok(()) => matches!(wanted, Answer::Rewritten),
-        Err(RewriteError::Refused(Fault::Syntax { .. })) => matches!(wanted, Answer::Syntax),
-        Err(RewriteError::Unreadable) => matches!(wanted, Answer::ReadFailed),
-        Err(RewriteError::Unwritten(error)) => is_left(*error, wanted),
-        Err(_) => false,
+    match (answer, wanted) {
+        (Ok(()), Answer::Rewritten) => true,
+        (Err(RewriteError::Refused(Fault::Syntax { .. })), Answer::Syntax) => true,
+        (Err(RewriteError::Unreadable), Answer::ReadFailed) => true,
+        (Err(RewriteError::Unwritten(error)), wanted) => match (error, wanted) {
+            (ReplaceError::Untouched, Answer::WriteFailed) => true,
+            (ReplaceError::Left, Answer::Left) => true,
+            (ReplaceError::Unsure, Answer::Unsure) => true,
+            _ => false,
+        },
+        _ => false,
     }
 }
 
-/// Whether that is the answer where a file was not written.
-fn is_left(error: ReplaceError, wanted: Answer) -> bool {
-    match error {
-        ReplaceError::Untouched => matches!(wanted, Answer::WriteFailed),
-        ReplaceError::Left => matches!(wanted, Answer::Left),
-        ReplaceError::Unsure => matches!(wanted, Answer::Unsure),
-    }
-}
-
-/// Whether that is the answer for the file at the path in the house style, where a step fails.
-fn answers(rt: &HostRuntime, path: &str, fails: Step, wanted: Answer) -> bool {
-    let files = FailingFiles { host: rt, fails };
+/// Whether that is the answer for the file at the path in the house style.
+fn answers<R: Files + Drop>(rt: &HostRuntime, files: R, path: &str, wanted: Answer) -> bool
+where
+    R::File: Held,
+{
+    let mut files = SystemFiles::new(files);
     is_answer(
-        &rewrite(
-            rt.alloc(),
-            &mut SystemFiles::new(files),
-            path,
-            &Style::house(),
-        ),
-        wanted,
-    )
-}
-
-/// The same of the files of the system, of which no step fails.
-fn host_answers(rt: &HostRuntime, path: &str, wanted: Answer) -> bool {
-    is_answer(
-        &rewrite(rt.alloc(), &mut SystemFiles::new(rt), path, &Style::house()),
+        &rewrite(rt.alloc(), &mut files, path, &Style::house()),
         wanted,
     )
 }
@@ -76,47 +63,89 @@ const PATH: &str = "yamlfmt_rewrites/a.yaml";
 
 const NEW_PATH: &str = "yamlfmt_rewrites/a.yaml.yamlfmt-new";
 
-/// Whether the file has that text, and nothing stands at the path of the new file.
+/// Whether the file has that text.
 fn has_text(rt: &HostRuntime, text: &str) -> bool {
     match &fs::read_to_string(rt, PATH) {
-        Ok(held) => held.as_str() == text && matches!(fs::exists(rt, NEW_PATH), Ok(false)),
+        Ok(held) => held.as_str() == text,
         Err(_) => false,
     }
 }
 
-/// Whether that is the answer for a file with the first text where a step fails, and the file has then the second one. One
-/// whose text stays is the same file.
-fn ends_with(
-    rt: &HostRuntime,
-    old: &str,
-    fails: Step,
-    wanted: Answer,
-    new: &str,
-) -> io::Result<bool> {
+/// The text of a file, its permissions, whether another run has left a new file, the step that fails, the answer, and the text of
+/// the file after it.
+type Row = (&'static str, u32, bool, Step, Answer, &'static str);
+
+/// Whether that is the answer for a file, and what stands then at both paths. The file keeps its permissions; one whose text stays
+/// is the same file.
+fn ends_with(rt: &HostRuntime, row: &Row) -> io::Result<bool> {
+    let (old, mode, is_left, fails, wanted, new) = *row;
     make_folder(rt, "yamlfmt_rewrites")?;
     fs::write(rt, PATH, old)?;
+    fs::set_permissions(rt, PATH, Permissions::from_mode(mode))?;
+    if is_left {
+        fs::write(rt, NEW_PATH, [b'x'; 100].as_slice())?;
+    }
     let before = fs::metadata(rt, PATH)?.ino();
-    let is_answered = answers(rt, PATH, fails, wanted);
-    let is_same = fs::metadata(rt, PATH)?.ino() == before;
-    Ok(is_answered && has_text(rt, new) && is_same == (old == new))
+    let is_answered = match fails {
+        Step::Nothing => answers(rt, rt, PATH, wanted),
+        _ => answers(rt, FailingFiles { host: rt, fails }, PATH, wanted),
+    };
+    let after = fs::metadata(rt, PATH)?;
+    let is_kept = after.permissions().mode() & 0o777 == mode
+        && (after.ino() == before) == (old == new);
+    let has_new = fs::exists(rt, NEW_PATH)?;
+    Ok(is_answered && is_kept && has_text(rt, new) && has_new == matches!(wanted, Answer::Left))
 }
 
-/// Texts of a file, the step that fails, the answer, and the text of the file after it.
-static TEXTS: [(&str, Step, Answer, &str); 8] = [
+static ROWS: [Row; 12] = [
     // a text that is refused
-    ("a: b: c\n", Step::Nothing, Answer::Syntax, "a: b: c\n"),
+    (
+        "a: b: c\n",
+        0o644,
+        false,
+        Step::Nothing,
+        Answer::Syntax,
+        "a: b: c\n",
+    ),
     // the new file fails
-    ("- a\n- b\n", Step::Make, Answer::WriteFailed, "- a\n- b\n"),
-    ("- a\n- b\n", Step::Write, Answer::WriteFailed, "- a\n- b\n"),
     (
         "- a\n- b\n",
+        0o644,
+        false,
+        Step::Make,
+        Answer::WriteFailed,
+        "- a\n- b\n",
+    ),
+    (
+        "- a\n- b\n",
+        0o644,
+        false,
+        Step::Write,
+        Answer::WriteFailed,
+        "- a\n- b\n",
+    ),
+    (
+        "- a\n- b\n",
+        0o644,
+        false,
         Step::Rename,
         Answer::WriteFailed,
+        "- a\n- b\n",
+    ),
+    // it can be neither renamed nor removed
+    (
+        "- a\n- b\n",
+        0o644,
+        false,
+        Step::RenameAndRemove,
+        Answer::Left,
         "- a\n- b\n",
     ),
     // the folder can't be stored
     (
         "- a\n- b\n",
+        0o644,
+        false,
         Step::StoreFolder,
         Answer::Unsure,
         "---\n- a\n- b\n",
@@ -124,12 +153,16 @@ static TEXTS: [(&str, Step, Answer, &str); 8] = [
     // once and twice
     (
         "- a\n- b\n",
+        0o644,
+        false,
         Step::Nothing,
         Answer::Rewritten,
         "---\n- a\n- b\n",
     ),
     (
         "---\n- a\n- b\n",
+        0o644,
+        false,
         Step::Nothing,
         Answer::Rewritten,
         "---\n- a\n- b\n",
@@ -137,39 +170,39 @@ static TEXTS: [(&str, Step, Answer, &str); 8] = [
     // no new file is made
     (
         "---\n- a\n- b\n",
+        0o644,
+        false,
         Step::Make,
         Answer::Rewritten,
         "---\n- a\n- b\n",
     ),
+    // over what another run left
+    (
+        "- a\n- b\n",
+        0o640,
+        true,
+        Step::Nothing,
+        Answer::Rewritten,
+        "---\n- a\n- b\n",
+    ),
+    // nobody may write to it; one in the house style needs no writing
+    (
+        "- a\n",
+        0o444,
+        false,
+        Step::Nothing,
+        Answer::WriteFailed,
+        "- a\n",
+    ),
+    (
+        "---\n- a\n",
+        0o444,
+        false,
+        Step::Nothing,
+        Answer::Rewritten,
+        "---\n- a\n",
+    ),
 ];
-
-/// Whether a file of the system is rewritten over what another run left, and keeps its permissions.
-fn keeps_permissions(rt: &HostRuntime) -> io::Result<bool> {
-    make_folder(rt, "yamlfmt_rewrites")?;
-    fs::write(rt, PATH, "- a\n- b\n")?;
-    fs::set_permissions(rt, PATH, Permissions::from_mode(0o640))?;
-    fs::write(rt, NEW_PATH, [b'x'; 100].as_slice())?;
-    let is_rewritten = host_answers(rt, PATH, Answer::Rewritten);
-    let mode = fs::metadata(rt, PATH)?.permissions().mode();
-    Ok(is_rewritten && has_text(rt, "---\n- a\n- b\n") && mode & 0o777 == 0o640)
-}
-
-/// Whether the new file is left where it can be neither renamed nor removed, and the file is as it was.
-fn leaves_the_new_file(rt: &HostRuntime) -> io::Result<bool> {
-    make_folder(rt, "yamlfmt_rewrites")?;
-    fs::write(rt, PATH, "- a\n- b\n")?;
-    let is_left = answers(rt, PATH, Step::RenameAndRemove, Answer::Left);
-    let is_same = fs::read_to_string(rt, PATH)?.as_str() == "- a\n- b\n";
-    Ok(is_left && is_same && fs::exists(rt, NEW_PATH)?)
-}
-
-/// Whether a file that nobody may write to is left as it was, but for one in the house style, which needs no writing.
-fn leaves_read_only(rt: &HostRuntime, text: &str, wanted: Answer) -> io::Result<bool> {
-    make_folder(rt, "yamlfmt_rewrites")?;
-    fs::write(rt, PATH, text)?;
-    fs::set_permissions(rt, PATH, Permissions::from_mode(0o444))?;
-    Ok(host_answers(rt, PATH, wanted) && has_text(rt, text))
-}
 
 /// Whether a link stays, and the file that it leads to is rewritten in its own folder.
 fn follows_links(rt: &HostRuntime) -> io::Result<bool> {
@@ -178,10 +211,11 @@ fn follows_links(rt: &HostRuntime) -> io::Result<bool> {
     fs::write(rt, PATH, "- a\n- b\n")?;
     symlink(rt, "../a.yaml", "yamlfmt_rewrites/links/b.yaml")?;
     symlink(rt, "b.yaml", "yamlfmt_rewrites/links/c.yaml")?;
-    let is_rewritten = host_answers(rt, "yamlfmt_rewrites/links/c.yaml", Answer::Rewritten);
+    let is_rewritten = answers(rt, rt, "yamlfmt_rewrites/links/c.yaml", Answer::Rewritten);
     let is_link = fs::symlink_metadata(rt, "yamlfmt_rewrites/links/c.yaml")?.is_symlink()
         && fs::symlink_metadata(rt, "yamlfmt_rewrites/links/b.yaml")?.is_symlink();
-    let is_alone = !fs::exists(rt, "yamlfmt_rewrites/links/c.yaml.yamlfmt-new")?;
+    let is_alone = !fs::exists(rt, "yamlfmt_rewrites/links/c.yaml.yamlfmt-new")?
+        && !fs::exists(rt, NEW_PATH)?;
     Ok(is_rewritten && is_link && is_alone && has_text(rt, "---\n- a\n- b\n"))
 }
 
@@ -189,21 +223,14 @@ fn follows_links(rt: &HostRuntime) -> io::Result<bool> {
 fn refuses_a_broken_link(rt: &HostRuntime) -> io::Result<bool> {
     make_folder(rt, "yamlfmt_rewrites")?;
     symlink(rt, "missing", PATH)?;
-    Ok(host_answers(rt, PATH, Answer::ReadFailed) && !fs::exists(rt, NEW_PATH)?)
+    Ok(answers(rt, rt, PATH, Answer::ReadFailed) && !fs::exists(rt, NEW_PATH)?)
 }
 
 #[test]
 fn rewrites_files_or_leaves_them(rt: HostRuntime) {
-    for (old, fails, wanted, new) in &TEXTS {
-        assert!(rt;
-            is_true(&ends_with(&rt, old, *fails, *wanted, new)),
-            "{old}"
-        );
+    for row in &ROWS {
+        assert!(rt; is_true(&ends_with(&rt, row)), "{}", row.0);
     }
-    assert!(rt; is_true(&keeps_permissions(&rt)));
-    assert!(rt; is_true(&leaves_the_new_file(&rt)));
-    assert!(rt; is_true(&leaves_read_only(&rt, "- a\n", Answer::WriteFailed)));
-    assert!(rt; is_true(&leaves_read_only(&rt, "---\n- a\n", Answer::Rewritten)));
     assert!(rt; is_true(&follows_links(&rt)));
     assert!(rt; is_true(&refuses_a_broken_link(&rt)));
     assert!(rt; fs::remove_dir_all(&rt, "yamlfmt_rewrites").is_ok());
@@ -218,7 +245,7 @@ static NO_FILES: [(&str, &str); 3] = [
 
 /// Whether a path is no regular file, and nothing stands at the other one then.
 fn is_no_file(rt: &HostRuntime, path: &str, missing: &str) -> bool {
-    host_answers(rt, path, Answer::ReadFailed) && matches!(fs::exists(rt, missing), Ok(false))
+    answers(rt, rt, path, Answer::ReadFailed) && matches!(fs::exists(rt, missing), Ok(false))
 }
 
 #[test]

@@ -3,9 +3,8 @@
 ghost use Rattle.std.specs.Prelude.{◌≤◌};
 
 use crate::tests::answers::{formatted, reading_of};
-use crate::tests::fmt::{COMMENTED, NODES, PLAIN_STREAMS, WITH_SETTINGS};
+use crate::tests::fmt::FORMATTED;
 use std::alloc::{AllocError, Global};
-use yf_comments::comment::Comment;
 use yf_emit::style::Style;
 use yf_events::content::Content;
 use yf_events::reading::Reading;
@@ -17,22 +16,16 @@ use yf_rules::finding::Finding;
 use yf_rules::rule::Rule;
 use yf_rules::with_rules::{WithRules, with_all_rules};
 
-/// The text of a comment without the white space at its end.
-fn trimmed<'a>(comment: &Comment<'a>) -> &'a str {
-    comment.text.trim_end_matches([' ', '\t'])
-}
-
-/// Whether two readings have the same comments at the same places.
+/// Whether two readings have the same comments, but for white space at their ends, at the same places.
 fn has_same_comments(one: &Reading, other: &Reading) -> bool {
     let count = one.comments().len();
     if other.comments().len() != count {
         return false;
     }
     for k in 0..count {
-        if trimmed(&one.comments()[k]) != trimmed(&other.comments()[k]) {
-            return false;
-        }
-        if one.place_of(k) != other.place_of(k) {
+        let text = one.comments()[k].text.trim_end_matches([' ', '\t']);
+        let other_text = other.comments()[k].text.trim_end_matches([' ', '\t']);
+        if text != other_text || one.place_of(k) != other.place_of(k) {
             return false;
         }
     }
@@ -68,22 +61,9 @@ fn are_none_fixable(found: &Result<Vec<Finding>, Fault>) -> bool {
     }
 }
 
-/// Whether the rules find nothing in the source that can be fixed.
-fn has_no_fixable(trial: Trial, src: &Src, reading: &Reading) -> bool {
-    are_none_fixable(&check(trial.alloc, trial.rules, src, reading, trial.style))
-}
-
-/// The same of a text.
-fn is_mended(trial: Trial, reading: &Reading, text: &str) -> bool {
-    match &Src::new(trial.alloc, text) {
-        Ok(src) => has_no_fixable(trial, src, reading),
-        Err(AllocError) => false,
-    }
-}
-
 /// Whether formatting a text again changes nothing.
-fn is_fixed(trial: Trial, text: &str) -> bool {
-    match &formatted(trial.alloc, text, trial.style) {
+fn is_fixed(again: &Result<String, Fault>, text: &str) -> bool {
+    match again {
         Ok(again) => again.as_str() == text,
         Err(_) => false,
     }
@@ -92,48 +72,52 @@ fn is_fixed(trial: Trial, text: &str) -> bool {
 /// What was read.
 type Read<'a> = Result<Reading<'a>, Fault>;
 
-/// Whether all that is asked of a formatted stream holds of this one: the text in the house style, of a reading, and what is
-/// read of it.
-fn is_in_order(trial: Trial, reading: &Reading, text: &str, read: &Read) -> bool {
+/// Whether all that is asked of a formatted stream holds of this source: the house style of a reading, and what is read of it.
+fn is_in_order(trial: Trial, reading: &Reading, src: &Src, read: &Read) -> bool {
+    let Trial {
+        alloc,
+        rules,
+        style,
+    } = trial;
     match read {
         Ok(read) => {
-            matches!(has_same_content(trial.alloc, reading, read), Some(true))
+            matches!(has_same_content(alloc, reading, read), Some(true))
                 && has_same_comments(reading, read)
-                && is_mended(trial, read, text)
-                && is_fixed(trial, text)
+                && are_none_fixable(&check(alloc, rules, src, read, style))
+                && is_fixed(&formatted(alloc, src.text(), style), src.text())
         }
         Err(_) => false,
     }
 }
 
-/// The same of a text alone.
+/// The same of a text.
 fn is_text_in_order(trial: Trial, reading: &Reading, text: &str) -> bool {
-    is_in_order(trial, reading, text, &reading_of(trial.alloc, text))
-}
-
-/// Whether what is formatted of a text with this reading is in order.
-fn is_formatted(trial: Trial, reading: &Reading, text: &str) -> bool {
-    match &formatted(trial.alloc, text, trial.style) {
-        Ok(written) => is_text_in_order(trial, reading, written.as_str()),
-        Err(_) => false,
+    match &Src::new(trial.alloc, text) {
+        Ok(src) => is_in_order(trial, reading, src, &reading_of(trial.alloc, src.text())),
+        Err(AllocError) => false,
     }
 }
 
-/// Whether the laws hold of a text and what is read of it: it is refused by the formatter too, or what is formatted is in order.
-fn holds_of(trial: Trial, text: &str, read: &Read) -> bool {
-    match read {
-        Ok(reading) => is_formatted(trial, reading, text),
-        Err(_) => formatted(trial.alloc, text, trial.style).is_err(),
+/// Whether the laws hold of what is read of a text, and of its formatting: both are refused, or what is formatted is in order.
+fn hold_of(trial: Trial, read: &Read, formatted: &Result<String, Fault>) -> bool {
+    match (read, formatted) {
+        (Ok(reading), Ok(text)) => is_text_in_order(trial, reading, text.as_str()),
+        (read, formatted) => read.is_err() && formatted.is_err(),
     }
 }
 
-/// Whether the laws hold of a text.
-fn holds_in(trial: Trial, text: &str) -> bool {
-    holds_of(trial, text, &reading_of(trial.alloc, text))
+/// The same of a text.
+fn hold_for(trial: Trial, text: &str) -> bool {
+    let Trial { alloc, style, .. } = trial;
+    hold_of(
+        trial,
+        &reading_of(alloc, text),
+        &formatted(alloc, text, style),
+    )
 }
 
-/// Whether the laws hold under both quotes, both widths and both places of sequences.
-fn holds_at(alloc: Global, rules: &[Box<dyn Rule>], indent: usize, text: &str) -> bool
+/// Whether the laws hold of a text under both quotes, both widths and both places of sequences.
+fn hold_at(alloc: Global, rules: &[Box<dyn Rule>], indent: usize, text: &str) -> bool
     requires from { 2 ≤ indent }
     requires to { indent ≤ 8 }
 {
@@ -151,7 +135,7 @@ fn holds_at(alloc: Global, rules: &[Box<dyn Rule>], indent: usize, text: &str) -
                     rules,
                     style: &style,
                 };
-                if !holds_in(trial, text) {
+                if !hold_for(trial, text) {
                     return false;
                 }
             }
@@ -161,9 +145,9 @@ fn holds_at(alloc: Global, rules: &[Box<dyn Rule>], indent: usize, text: &str) -
 }
 
 /// Whether the laws hold of a text under all indentations.
-fn holds_of_row(alloc: Global, rules: &[Box<dyn Rule>], text: &str) -> bool {
+fn hold_in(alloc: Global, rules: &[Box<dyn Rule>], text: &str) -> bool {
     for indent in 2..=8 {
-        if !holds_at(alloc, rules, indent, text) {
+        if !hold_at(alloc, rules, indent, text) {
             return false;
         }
     }
@@ -171,144 +155,56 @@ fn holds_of_row(alloc: Global, rules: &[Box<dyn Rule>], text: &str) -> bool {
 }
 
 /// Whether the laws hold of a text that is cut at each character.
-fn holds_of_cuts(alloc: Global, rules: &[Box<dyn Rule>], text: &str) -> bool {
+fn hold_in_cuts(alloc: Global, rules: &[Box<dyn Rule>], text: &str) -> bool {
     for at in 0..text.len() {
-        if text.is_char_boundary(at) {
-            if !holds_at(alloc, rules, 2, &text[..at]) {
-                return false;
-            }
-        }
-    }
-    true
-}
-
-/// What texts are made of by chance.
-static PIECES: [&str; 40] = [
-    "a", "b c", "- ", "- ", "-", "? ", ": ", ":", "\n", "\n", "\n", "\n  ", "\n  ", "\n    ", "  ",
-    "# c\n", " # d", "\n\n", "[", "]", "{", "}", ", ", "&x ", "*x", "!t ", "\"q\"", "'s'", "|\n",
-    ">\n", "|+\n", " x\n", "---\n", "--- ", "...\n", "%FOO a\n", "k: v\n", "a:", "[x, y]",
-    "\u{FEFF}",
-];
-
-/// The next one of a row of numbers that look like chance.
-fn following(seed: u64) -> u64 {
-    seed.wrapping_mul(6_364_136_223_846_793_005)
-        .wrapping_add(1_442_695_040_888_963_407)
-}
-
-/// A text of so many pieces.
-pub fn generated(alloc: Global, seed: u64, count: usize) -> Result<String, AllocError> {
-    let mut text = String::new(alloc);
-    let mut number = seed;
-    for _ in 0..count {
-        number = following(number);
-        let piece = ((number >> 33) % 40) as usize;
-        text.push_str(PIECES[piece])?;
-    }
-    Ok(text)
-}
-
-/// Whether the laws hold of a text made by chance.
-fn holds_of_seed(alloc: Global, rules: &[Box<dyn Rule>], seed: u64) -> bool {
-    match &generated(alloc, following(seed), 2 + (seed % 11) as usize) {
-        Ok(text) => holds_at(alloc, rules, 2, text.as_str()),
-        Err(AllocError) => false,
-    }
-}
-
-/// Whether the laws hold of texts made by chance.
-fn holds_of_generated(alloc: Global, rules: &[Box<dyn Rule>]) -> bool {
-    for seed in 0..2000u64 {
-        if !holds_of_seed(alloc, rules, seed) {
+        if text.is_char_boundary(at) && !hold_at(alloc, rules, 2, &text[..at]) {
             return false;
         }
     }
     true
 }
 
-/// The texts of which the laws are tried.
-#[derive(Clone, Copy)]
-enum Texts {
-    Rows,
-    Cuts,
-    Generated,
-}
-
-/// Whether the laws hold of the streams in a table.
-fn holds_of_table(
-    alloc: Global,
-    rules: &[Box<dyn Rule>],
-    texts: Texts,
-    table: &[(&str, &str)],
-) -> bool {
-    for (input, _) in table {
-        let holds = match texts {
-            Texts::Rows => holds_of_row(alloc, rules, input),
-            Texts::Cuts | Texts::Generated => holds_of_cuts(alloc, rules, input),
-        };
-        if !holds {
-            return false;
-        }
-    }
-    true
-}
-
-/// Whether the laws hold of the streams under other settings.
-fn holds_of_settings(alloc: Global, rules: &[Box<dyn Rule>]) -> bool {
-    for (_, input, _) in &WITH_SETTINGS {
-        if !holds_of_row(alloc, rules, input) {
-            return false;
-        }
-    }
-    true
-}
-
-/// Whether the laws hold of all of these texts.
-fn holds_of_texts(alloc: Global, rules: &[Box<dyn Rule>], texts: Texts) -> bool {
-    if matches!(texts, Texts::Generated) {
-        return holds_of_generated(alloc, rules);
-    }
-    holds_of_settings(alloc, rules)
-        && holds_of_table(alloc, rules, texts, &PLAIN_STREAMS)
-        && holds_of_table(alloc, rules, texts, &NODES)
-        && holds_of_table(alloc, rules, texts, &COMMENTED)
-}
-
-/// The texts of which the laws are asked.
+/// Tries the laws of a text, whole or cut.
 #[derive(Drop)]
 struct Laws {
     alloc: Global,
-    texts: Texts,
+    text: &'static str,
+    is_cut: bool,
 }
 
 impl WithRules for Laws {
     type Answer = bool;
 
-    /// Whether the laws hold of all texts, with these rules.
+    /// Whether the laws hold of the text, with these rules.
     fn with_rules(&mut self, rules: &[Box<dyn Rule>]) -> bool {
-        holds_of_texts(self.alloc, rules, self.texts)
+        if self.is_cut {
+            hold_in_cuts(self.alloc, rules, self.text)
+        } else {
+            hold_in(self.alloc, rules, self.text)
+        }
     }
 }
 
-/// Whether the laws hold of all of these texts, with all rules.
-fn laws_hold(alloc: Global, texts: Texts) -> bool {
-    match with_all_rules(alloc, &mut Laws { alloc, texts }) {
-        Ok(holds) => holds,
-        Err(AllocError) => false,
-    }
+/// Whether the laws hold of a text, with all rules.
+fn laws_hold(alloc: Global, text: &'static str, is_cut: bool) -> bool {
+    let mut laws = Laws {
+        alloc,
+        text,
+        is_cut,
+    };
+    matches!(with_all_rules(alloc, &mut laws), Ok(true))
 }
 
 #[test]
 fn laws_of_rows(rt: HostRuntime) {
-    assert!(rt; laws_hold(rt.alloc(), Texts::Rows));
+    for (_, text, _) in &FORMATTED {
+        assert!(rt; laws_hold(rt.alloc(), text, false), "{text}");
+    }
 }
 
 #[test]
 fn laws_of_cuts(rt: HostRuntime) {
-    assert!(rt; laws_hold(rt.alloc(), Texts::Cuts));
-}
-
-#[test]
-fn laws_of_generated_texts(rt: HostRuntime) {
-    assert!(rt; laws_hold(rt.alloc(), Texts::Generated));
+    for (_, text, _) in &FORMATTED {
+        assert!(rt; laws_hold(rt.alloc(), text, true), "{text}");
+    }
 }

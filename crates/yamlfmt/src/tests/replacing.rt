@@ -143,21 +143,6 @@ fn leave(rt: &HostRuntime, folder: &Folder, left: Left) -> io::Result<()> {
 /// stays at the path of the new file.
 type Row = (&'static str, Left, Step, bool, bool);
 
-/// Whether the new text is put in a folder as a row says.
-fn is_put_in(rt: &HostRuntime, folder: &Folder, row: &Row) -> bool {
-    let (_, left, fails, puts, stays) = *row;
-    let text = if puts { NEW } else { OLD };
-    leave(rt, folder, left).is_ok()
-        && is_put(
-            rt,
-            &FailingFiles { host: rt, fails },
-            folder,
-            Meanwhile::Nothing,
-        ) == puts
-        && stands(rt, folder, text, stays)
-        && matches!(fs::exists(rt, "replacing_rows/missing"), Ok(false))
-}
-
 static ROWS_FOLDER: Folder = Folder {
     name: "replacing_rows",
     path: "replacing_rows/a.yaml",
@@ -168,9 +153,15 @@ static ROWS_FOLDER: Folder = Folder {
 /// Whether the new text is put where that stands and that step fails, or not; and whether all is then as it should be: what
 /// stands at the path of the new file is gone, but for some of what stood there where nothing was put.
 fn puts(rt: &HostRuntime, row: &Row) -> bool {
-    make_folder(rt, &ROWS_FOLDER).is_ok()
-        && is_put_in(rt, &ROWS_FOLDER, row)
-        && is_removed(rt, &ROWS_FOLDER)
+    let (_, left, fails, puts, stays) = *row;
+    let folder = &ROWS_FOLDER;
+    let files = FailingFiles { host: rt, fails };
+    make_folder(rt, folder).is_ok()
+        && leave(rt, folder, left).is_ok()
+        && is_put(rt, &files, folder, Meanwhile::Nothing) == puts
+        && stands(rt, folder, if puts { NEW } else { OLD }, stays)
+        && matches!(fs::exists(rt, "replacing_rows/missing"), Ok(false))
+        && is_removed(rt, folder)
 }
 
 /// What is put, and what is left.
@@ -279,11 +270,6 @@ fn leaves_what_others_hold_or_change(rt: HostRuntime) {
     assert!(rt; leaves_a_changed_file(&rt, Meanwhile::Renames));
 }
 
-/// Whether there is a regular file at the path, or a link to one, that is opened.
-fn is_opened(rt: &HostRuntime, path: &str) -> bool {
-    open_regular(rt, path).is_ok()
-}
-
 /// Paths, and whether what stands there is opened.
 static OPENED: [(&str, bool); 5] = [
     ("replacing_kinds/a.yaml", true),
@@ -310,7 +296,7 @@ fn make_link(rt: &HostRuntime) -> io::Result<()> {
 fn opens_regular_files_alone(rt: HostRuntime) {
     assert!(rt; make_link(&rt).is_ok());
     for (path, wanted) in &OPENED {
-        assert!(rt; is_opened(&rt, path) == *wanted, "{path}");
+        assert!(rt; open_regular(&rt, path).is_ok() == *wanted, "{path}");
     }
     assert!(rt; is_removed(&rt, &KINDS));
 }

@@ -1,32 +1,14 @@
 //! Settings files, by their text, and the lines that are printed for those that are refused.
 
-use crate::tests::answers::reports;
+use crate::tests::answers::{Asked, is_run};
 use std::alloc::Global;
 use yf_lines::quotes::Quotes;
 use yf_program::settings::style_from_toml;
 
-/// Whether a settings file sets these.
-fn sets(
-    alloc: Global,
-    text: &str,
-    indent: usize,
-    max_line: usize,
-    quotes: Quotes,
-    seq_indent: bool,
-) -> bool {
-    match style_from_toml(alloc, text) {
-        Ok(style) => {
-            style.indent == indent
-                && style.max_line == max_line
-                && style.quotes == quotes
-                && style.seq_indent == seq_indent
-        }
-        Err(_) => false,
-    }
-}
+/// A settings file, and what it sets: `indent`, `max_line`, `quotes` and `seq_indent`.
+type Row = (&'static str, usize, usize, Quotes, bool);
 
-/// Settings files, and what they set: `indent`, `max_line`, `quotes` and `seq_indent`.
-static SET: [(&str, usize, usize, Quotes, bool); 5] = [
+static SET: [Row; 5] = [
     ("", 2, 100, Quotes::Double, true),
     ("indent = 4", 4, 100, Quotes::Double, true),
     ("# none\n", 2, 100, Quotes::Double, true),
@@ -46,24 +28,17 @@ static SET: [(&str, usize, usize, Quotes, bool); 5] = [
     ),
 ];
 
-#[test]
-fn sets_what_is_named(rt: HostRuntime) {
-    for (text, indent, max_line, quotes, seq_indent) in &SET {
-        let is_set = sets(rt.alloc(), text, *indent, *max_line, *quotes, *seq_indent);
-        assert!(rt; is_set, "{text}");
+/// Whether a settings file sets these.
+fn sets(alloc: Global, row: &Row) -> bool {
+    match &style_from_toml(alloc, row.0) {
+        Ok(style) => (row.1, row.2, row.3, row.4)
+            == (style.indent, style.max_line, style.quotes, style.seq_indent),
+        Err(_) => false,
     }
 }
 
-/// Whether a settings file is refused with that line.
-fn is_refused(alloc: Global, text: &str, line: &str) -> bool {
-    match style_from_toml(alloc, text) {
-        Ok(_) => false,
-        Err(fault) => reports(alloc, &fault, 3, line),
-    }
-}
-
-/// Settings files that are refused, and the line that is printed.
-static REFUSED: [(&str, &str); 17] = [
+/// Settings files that are refused, and the line that is printed: the least wrong key.
+static REFUSED: [(&str, &str); 21] = [
     ("indent = 9", "config: indent\n"),
     ("tabs = 1", "config: tabs\n"),
     ("indent =", "config: \n"),
@@ -81,11 +56,28 @@ static REFUSED: [(&str, &str); 17] = [
     ("indent = 4\nindent = 4", "config: \n"),
     ("[style]\nindent = 4", "config: style\n"),
     ("\"\" = 1", "config: \n"),
+    // control characters are shown
+    ("\"a\\u001b[2J\\n\" = 1", "config: a\\x1B[2J\\x0A\n"),
+    ("\"\\u0000\\t\\u007F\" = 1", "config: \\x00\\x09\\x7F\n"),
+    (
+        "\"\\u0080\\u009Bx\\u009F\" = 1",
+        "config: \\x80\\x9Bx\\x9F\n",
+    ),
+    (
+        "\"\u{A0}\u{E9}\\\\\\\"\u{2028}\u{1F600}\" = 1",
+        "config: \u{A0}\u{E9}\\\"\u{2028}\u{1F600}\n",
+    ),
 ];
 
 #[test]
-fn names_the_least_wrong_key(rt: HostRuntime) {
-    for (text, line) in &REFUSED {
-        assert!(rt; is_refused(rt.alloc(), text, line), "{text}");
+fn sets_what_is_named_or_names_the_least_wrong_key(rt: HostRuntime) {
+    for row in &SET {
+        assert!(rt; sets(rt.alloc(), row), "{}", row.0);
+    }
+    for (settings, line) in &REFUSED {
+        assert!(rt;
+            is_run(rt.alloc(), &[], &(Asked::Events, settings, "", 3, line)),
+            "{settings}"
+        );
     }
 }

@@ -9,7 +9,7 @@ use yf_lines::place::Place;
 use yf_stream::stream::read_stream;
 
 /// Texts that are no streams, the line and column that is told, and why.
-static MISTAKES: [(&str, (usize, usize), Why); 163] = [
+static MISTAKES: [(&str, (usize, usize), Why); 164] = [
     (
         "{\"name\": \"x\",\n \"deps\": [\"a\" \"b\"],\n \"v\": 1}\n",
         (2, 15),
@@ -209,6 +209,11 @@ static MISTAKES: [(&str, (usize, usize), Why); 163] = [
     ("a: 1\nkey\n  b: c\nd: 1\n", (2, 4), Why::KeyWithoutColon),
     ("- x: 1\n  key\n    b: c\n", (2, 6), Why::KeyWithoutColon),
     ("x: 1\ny:\n  - p\n    q: 2\n", (4, 6), Why::LineJoined),
+    (
+        "&a\n\nk: |+\n x\n\nl:\n\n - b # c\n - ? d\n   : [",
+        (10, 7),
+        Why::BracketsOpen,
+    ),
 ];
 
 #[test]
@@ -221,7 +226,7 @@ fn tells_mistakes(rt: HostRuntime) {
 
 // Whether a key of more than 1,024 characters is told at its `:`.
 fn tells_a_long_key(alloc: Global) -> bool {
-    match repeated(alloc, "", "k", 1030, ": v", 1) {
+    match &repeated(alloc, &("", "k", 1030, ": v", 1)) {
         Ok(text) => is_told(alloc, text.as_str(), (1, 1031), Why::LongKey),
         Err(_) => false,
     }

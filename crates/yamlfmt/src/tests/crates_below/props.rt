@@ -1,4 +1,4 @@
-//! Properties, aliases and tag handles, at texts whose names and ends were worked out by hand from the productions.
+//! Properties and tag handles, at texts whose names and ends were worked out by hand from the productions.
 
 use std::alloc::{AllocError, Global};
 use yf_chars::context::Ctx;
@@ -6,29 +6,14 @@ use yf_lines::fault::Fault;
 use yf_lines::place::Place;
 use yf_lines::source_text::Src;
 use yf_lines::text::Text;
-use yf_props::alias::alias_node;
 use yf_props::handles::Handles;
-use yf_props::properties::{Properties, node_properties};
+use yf_props::properties::Properties;
 use yf_props::props::Tag;
-use yf_props::read::{read_alias, read_props};
+use yf_props::read::read_props;
 use yf_props::resolved::ResolvedTag;
 
-const PLACE: Place = Place { line: 1, column: 3 };
-
-const STREAM: &str = "- &a x # c\n- *a\n- !!str y\n- # d\n";
-
-/// A tag's handle and suffix; for a verbatim tag `<>` and its text.
-fn parts_of<'a>(tag: Option<Tag<'a>>) -> (&'a str, &'a str) {
-    match tag {
-        Some(Tag::Short { handle, suffix }) => (handle, suffix),
-        Some(Tag::Verbatim(text)) => ("<>", text),
-        Some(Tag::NonSpecific) => ("!", ""),
-        None => ("", ""),
-    }
-}
-
 /// A text, a place at which properties begin, the indentation, where the properties end, their anchor, where their tag
-/// begins, the tag, and how many comments there are.
+/// begins, the tag's handle and suffix (of a verbatim tag `<>` and its text), and how many comments there are.
 type Row = (
     &'static str,
     usize,
@@ -40,9 +25,9 @@ type Row = (
     usize,
 );
 
-/// Texts with properties.
-static PROPERTIES: [Row; 6] = [
+static PROPERTIES: [Row; 7] = [
     ("&a !!str x", 0, 0, 8, Some("a"), Some(3), ("!!", "str"), 0),
+    ("&a", 0, -1, 2, Some("a"), None, ("", ""), 0),
     (
         "!<a%21> # c\n  &b: x",
         0,
@@ -59,107 +44,33 @@ static PROPERTIES: [Row; 6] = [
     // names go as far as their characters
     ("&a: !-!b,", 0, 0, 8, Some("a:"), Some(4), ("!-!", "b"), 0),
     // before a comment
-    (STREAM, 2, 0, 4, Some("a"), None, ("", ""), 0),
+    ("- &a x # c\n- *a\n", 2, 0, 4, Some("a"), None, ("", ""), 0),
 ];
 
-/// Whether the properties end there and have these parts, where their tag begins, and so many comments.
-fn are(found: &Properties, row: &Row) -> bool {
-    found.end == row.3
-        && found.props.anchor == row.4
-        && found.tag_offset == row.5
-        && parts_of(found.props.tag) == row.6
-        && found.comments.len() == row.7
-}
-
-/// Whether the properties of a row are found.
-fn are_found(found: &Result<Option<Properties>, Fault>, row: &Row) -> bool {
+/// Whether these are the properties of the row.
+fn are_wanted(found: &Result<Option<Properties>, Fault>, row: &Row) -> bool {
     match found {
-        Ok(Some(found)) => are(found, row),
+        Ok(Some(found)) => {
+            let tag = match found.props.tag {
+                Some(Tag::Short { handle, suffix }) => (handle, suffix),
+                Some(Tag::Verbatim(text)) => ("<>", text),
+                Some(Tag::NonSpecific) => ("!", ""),
+                None => ("", ""),
+            };
+            found.end == row.3
+                && found.props.anchor == row.4
+                && found.tag_offset == row.5
+                && tag == row.6
+                && found.comments.len() == row.7
+        }
         _ => false,
     }
 }
 
-/// Whether the properties of a row begin at its place of a source.
-fn are_read(alloc: Global, src: &Src, row: &Row) -> bool {
-    are_found(&read_props(alloc, src, row.1, row.2, Ctx::FlowIn), row)
-}
-
-/// Whether the properties of a row are read.
-fn has_properties(alloc: Global, row: &Row) -> bool {
+/// Whether the properties of the row are read.
+fn reads(alloc: Global, row: &Row) -> bool {
     match &Src::new(alloc, row.0) {
-        Ok(src) => are_read(alloc, src, row),
-        Err(AllocError) => false,
-    }
-}
-
-/// Whether `node_properties` finds properties at the start of a text that end there.
-fn properties_end(alloc: Global, text: &str, end: usize) -> bool {
-    if !text.is_char_boundary(0) {
-        return false;
-    }
-    match &node_properties(alloc, text, 0, -1, Ctx::BlockIn) {
-        Ok(Some(found)) => found.end == end,
-        _ => false,
-    }
-}
-
-#[test]
-fn reads_properties(rt: HostRuntime) {
-    for row in &PROPERTIES {
-        assert!(rt; has_properties(rt.alloc(), row), "{}", row.0);
-    }
-    assert!(rt; properties_end(rt.alloc(), "&a", 2));
-}
-
-/// Whether that is the alias of that stream at a place.
-fn is_alias(alloc: Global, at: usize, wanted: Option<(&str, usize)>) -> bool {
-    match &Src::new(alloc, STREAM) {
-        Ok(src) => read_alias(src, at) == wanted,
-        Err(AllocError) => false,
-    }
-}
-
-#[test]
-fn reads_aliases(rt: HostRuntime) {
-    assert!(rt; alias_node("*\u{E9} x", 0) == Some(("\u{E9}", 3)));
-    assert!(rt; is_alias(rt.alloc(), 13, Some(("a", 15))));
-    assert!(rt; is_alias(rt.alloc(), 2, None));
-}
-
-/// Whether a tag is resolved to that text; where none is wanted, whether its handle is unknown.
-fn is_resolved(resolved: &Result<ResolvedTag, Fault>, wanted: &str) -> bool {
-    match resolved {
-        Ok(resolved) => *resolved == ResolvedTag::new(wanted, Text::Part("")),
-        Err(Fault::UnknownHandle { place }) => wanted.is_empty() && *place == PLACE,
-        Err(_) => false,
-    }
-}
-
-/// Whether the tag stands for that text; where none is wanted, whether its handle is unknown.
-fn stands_for(alloc: Global, handles: &Handles, tag: &Tag, wanted: &str) -> bool {
-    is_resolved(&handles.resolve(alloc, tag, PLACE), wanted)
-}
-
-/// The tag that is found.
-fn tag_of<'a>(found: &Result<Option<Properties<'a>>, Fault>) -> Option<Tag<'a>> {
-    match found {
-        Ok(Some(found)) => found.props.tag,
-        _ => None,
-    }
-}
-
-/// Whether the tag at a place of a source stands for that text.
-fn stands_at(alloc: Global, handles: &Handles, src: &Src, at: usize, wanted: &str) -> bool {
-    match &tag_of(&read_props(alloc, src, at, 0, Ctx::FlowIn)) {
-        Some(tag) => stands_for(alloc, handles, tag, wanted),
-        None => false,
-    }
-}
-
-/// The same of the tag at a place of a text, where no handle is declared.
-fn stands_undeclared(alloc: Global, text: &str, at: usize, wanted: &str) -> bool {
-    match &Src::new(alloc, text) {
-        Ok(src) => stands_at(alloc, &Handles::new(alloc), src, at, wanted),
+        Ok(src) => are_wanted(&read_props(alloc, src, row.1, row.2, Ctx::FlowIn), row),
         Err(AllocError) => false,
     }
 }
@@ -172,8 +83,8 @@ static DECLARED: [(&str, &str, bool); 3] = [
     ("!!", "tag:f.com,2000:", true),
 ];
 
-/// Tags, and what they stand for after these declarations.
-static TAGS: [(Tag, &str); 5] = [
+/// Tags, and what they stand for after these declarations; nothing where the handle is unknown.
+static TAGS: [(Tag, &str); 6] = [
     (
         Tag::Short {
             handle: "!e!",
@@ -197,34 +108,53 @@ static TAGS: [(Tag, &str); 5] = [
     ),
     (Tag::Verbatim("a%21"), "a%21"),
     (Tag::NonSpecific, "!"),
+    (
+        Tag::Short {
+            handle: "!x!",
+            suffix: "t",
+        },
+        "",
+    ),
 ];
+
+const PLACE: Place = Place { line: 1, column: 3 };
+
+/// Whether a tag stands for that text, or its handle is unknown.
+fn is_resolved(resolved: &Result<ResolvedTag, Fault>, wanted: &str) -> bool {
+    match resolved {
+        Ok(resolved) => *resolved == ResolvedTag::new(wanted, Text::Part("")),
+        Err(Fault::UnknownHandle { place }) => wanted.is_empty() && *place == PLACE,
+        Err(_) => false,
+    }
+}
 
 /// Whether handles are declared as `DECLARED` says.
 fn are_declared(handles: &mut Handles<'static>) -> bool {
     for (handle, prefix, free) in &DECLARED {
-        match handles.declare(handle, prefix) {
-            Ok(was_free) => {
-                if was_free != *free {
-                    return false;
-                }
-            }
-            Err(_) => return false,
+        if !matches!(handles.declare(handle, prefix), Ok(was_free) if was_free == *free) {
+            return false;
         }
     }
     true
 }
 
-/// Whether the tag stands for that text after these declarations.
-fn stands_declared(alloc: Global, tag: &Tag, wanted: &str) -> bool {
+/// Whether the tag stands for that text with these handles.
+fn resolves(alloc: Global, handles: &Handles, tag: &Tag, wanted: &str) -> bool {
+    is_resolved(&handles.resolve(alloc, tag, PLACE), wanted)
+}
+
+/// The same after these declarations.
+fn stands_for(alloc: Global, tag: &Tag, wanted: &str) -> bool {
     let mut handles = Handles::new(alloc);
-    are_declared(&mut handles) && stands_for(alloc, &handles, tag, wanted)
+    are_declared(&mut handles) && resolves(alloc, &handles, tag, wanted)
 }
 
 #[test]
-fn resolves_tags(rt: HostRuntime) {
-    assert!(rt; stands_undeclared(rt.alloc(), STREAM, 18, "tag:yaml.org,2002:str"));
-    assert!(rt; stands_undeclared(rt.alloc(), "- !x!t v\n", 2, ""));
+fn reads_properties_and_resolves_tags(rt: HostRuntime) {
+    for row in &PROPERTIES {
+        assert!(rt; reads(rt.alloc(), row), "{}", row.0);
+    }
     for (tag, wanted) in &TAGS {
-        assert!(rt; stands_declared(rt.alloc(), tag, wanted), "{wanted}");
+        assert!(rt; stands_for(rt.alloc(), tag, wanted), "{wanted}");
     }
 }

@@ -1,0 +1,281 @@
+//! Readings: where their nodes and comments stand, what they say, and how the house style writes one event of them.
+ghost use Rattle.std.specs.Prelude.{IfOk};
+ghost use Rattle.yf_events.specs.Reading.{Fits};
+
+use crate::tests::answers::reading_of;
+use crate::tests::laws::has_same_content;
+use std::alloc::{AllocError, Global};
+use yf_emit::form::decide::implicit_key;
+use yf_emit::form::kept::kept_text;
+use yf_emit::normal::normal;
+use yf_emit::print::print;
+use yf_emit::style::Style;
+use yf_emit::text::wanted::wanted_style;
+use yf_events::event::{NewEvent, PlacedEvent, ScalarStyle};
+use yf_events::lists::Lists;
+use yf_events::reading::Reading;
+use yf_events::slices::Slices;
+use yf_lines::fault::Fault;
+use yf_lines::source_text::Src;
+use yf_lines::watched::Watched;
+use yf_props::props::Props;
+
+/// What is asked of a reading.
+#[derive(Clone, Copy)]
+enum Asked {
+    /// Of each event that has a place: where it starts and ends, where its entry and the `:` of that stand (0 for none), and
+    /// whether a blank line stands before the entry.
+    Places(&'static [(usize, usize, usize, usize, bool)]),
+    /// Of each comment: where it stands, how many documents and leaves with characters begin before it, and whether it stands
+    /// on the line on which the last of these leaves ends.
+    Comments(&'static [(usize, usize, usize, bool)]),
+    /// Whether it has the same content as another text.
+    Same(&'static str, bool),
+    /// The style in which the house style writes a scalar.
+    Style(usize, ScalarStyle),
+    /// The text on one line of the flow collection that an event begins; nothing where it is not kept.
+    Kept(usize, &'static str),
+    /// Whether the key that an event begins is written without `?`.
+    Implicit(usize, bool),
+    /// How its normal form is printed.
+    Printed(&'static str),
+}
+
+/// The mark and returns of a text are dropped, and its style is mended.
+const MARKED: &str = "\u{FEFF}a: 'x'  # c \r\nb: |\r\n  y \r\na: 1\r\n";
+
+/// A key with a comment, and its formatting.
+const COMMENTED: &str = "- &x\n  # c\n  k: # d\n    v\n";
+
+const FORMATTED: &str = "---\n- &x\n  # c\n  k:  # d\n    v\n";
+
+/// A stream with a directive.
+const FOLDED: &str = "%FOO a\n---\n- &x !!str > # c\n  b\n";
+
+static ROWS: [(&str, Asked); 20] = [
+    (
+        "[a,\n\n &a k : # c\n v]",
+        Asked::Places(&[
+            (0, 20, 0, 0, false),
+            (1, 2, 1, 0, false),
+            (6, 19, 6, 0, true),
+            (6, 10, 6, 11, true),
+            (18, 19, 0, 0, false),
+        ]),
+    ),
+    (
+        "&a\n\nk: |+\n x\n\nl:\n\n - b # c\n - ? d\n   : e\n",
+        Asked::Places(&[
+            (0, 40, 0, 0, false),
+            (4, 5, 4, 5, true),
+            (7, 14, 0, 0, false),
+            (14, 15, 14, 15, false),
+            (19, 40, 0, 0, false),
+            (21, 22, 19, 0, true),
+            (30, 40, 28, 0, false),
+            (32, 33, 30, 37, false),
+            (39, 40, 0, 0, false),
+        ]),
+    ),
+    (
+        FOLDED,
+        Asked::Places(&[(11, 32, 0, 0, false), (13, 32, 11, 0, false)]),
+    ),
+    (FOLDED, Asked::Comments(&[(24, 1, 1, false)])),
+    (
+        "# c\n---\na: b # d\n# e\n",
+        Asked::Comments(&[(0, 0, 0, false), (13, 1, 2, true), (17, 1, 2, false)]),
+    ),
+    // whatever the styles and markers are
+    (
+        "---\n'a': >\n b\n...\n",
+        Asked::Same("{\"a\": \"b\\n\"}", true),
+    ),
+    ("'a'", Asked::Same("'b'", false)),
+    // a plain text that is steady is another one when it is quoted
+    ("12", Asked::Same("\"12\"", false)),
+    ("a:: b", Asked::Same("\"a:\": b", true)),
+    ("&a {}", Asked::Same("&b {}", false)),
+    ("!a b", Asked::Same("!c b", false)),
+    (COMMENTED, Asked::Same(FORMATTED, true)),
+    (" ...\n", Asked::Style(2, ScalarStyle::Double)),
+    ("[a: b, c]\n", Asked::Kept(2, "[{a: b}, c]")),
+    ("[ # c\n]\n", Asked::Kept(2, "")),
+    ("? [a]\n: v\n", Asked::Implicit(3, true)),
+    ("---\n? |\n  x\n: y\n", Asked::Implicit(3, false)),
+    ("- a\n- b\n", Asked::Printed("---\n- a\n- b\n")),
+    (
+        MARKED,
+        Asked::Printed("---\na: \"x\"  # c\nb: |\n  y \na: 1\n"),
+    ),
+    (
+        "a: ['x', # c\n y]\n",
+        Asked::Printed("---\na:\n  - \"x\"  # c\n  - y\n"),
+    ),
+];
+
+/// Whether a reading has these places, and no more.
+fn has_places(reading: &Reading, wanted: &[(usize, usize, usize, usize, bool)]) -> bool {
+    let mut rest = wanted;
+    for i in 0..reading.len() {
+        if let Some(span) = reading.span(i) {
+            let place = match reading.entry(i) {
+                Some(entry) => (
+                    span.start,
+                    span.end,
+                    entry.start,
+                    entry.colon.unwrap_or(0),
+                    entry.blank_before,
+                ),
+                None => (span.start, span.end, 0, 0, false),
+            };
+            match rest.split_first() {
+                Some((row, after)) if place == *row => rest = after,
+                _ => return false,
+            }
+        }
+    }
+    rest.is_empty()
+}
+
+/// Whether a reading has comments at these places, and no more.
+fn has_comments(reading: &Reading, wanted: &[(usize, usize, usize, bool)]) -> bool {
+    let count = reading.comments().len();
+    if count != wanted.len() {
+        return false;
+    }
+    for k in 0..count {
+        let (documents, leaves) = reading.place_of(k);
+        let found = (
+            reading.comments()[k].offset,
+            documents,
+            leaves,
+            reading.on_leaf_line(k),
+        );
+        if found != wanted[k] {
+            return false;
+        }
+    }
+    true
+}
+
+/// What was read, or made of what was read.
+type Read<'a> = Result<Reading<'a>, Fault>;
+
+/// Whether there is another reading that has the same content, or has not.
+fn is_same(alloc: Global, reading: &Reading, other: &Read, wanted: bool) -> bool {
+    match other {
+        Ok(other) => has_same_content(alloc, reading, other) == Some(wanted),
+        Err(_) => false,
+    }
+}
+
+/// Whether that is the text on one line of a flow collection.
+fn is_kept(kept: &Result<Option<String>, Fault>, wanted: &str) -> bool {
+    match kept {
+        Ok(Some(text)) => text.as_str() == wanted,
+        Ok(None) => wanted.is_empty(),
+        Err(_) => false,
+    }
+}
+
+/// Whether there is a normal form, and it is printed so.
+fn is_printed(alloc: Global, normal: &Read, wanted: &str) -> bool {
+    let mut writer = Watched::new(Vec::new(alloc));
+    match normal {
+        Ok(normal) => {
+            print(alloc, normal, &Style::house(), &mut writer).is_ok()
+                && writer.get_ref().as_slice() == wanted.as_bytes()
+        }
+        Err(_) => false,
+    }
+}
+
+/// Whether that is told of a reading.
+fn is_told_of(alloc: Global, src: &Src, reading: &Reading, asked: Asked) -> bool {
+    let style = Style::house();
+    match asked {
+        Asked::Places(places) => has_places(reading, places),
+        Asked::Comments(places) => has_comments(reading, places),
+        Asked::Same(other, wanted) => is_same(alloc, reading, &reading_of(alloc, other), wanted),
+        Asked::Style(i, wanted) => i < reading.len() && wanted_style(reading, i, &style) == wanted,
+        Asked::Kept(i, wanted) => is_kept(&kept_text(alloc, src, reading, i, &style), wanted),
+        Asked::Implicit(i, wanted) => {
+            matches!(implicit_key(alloc, src, reading, i, &style), Ok(told) if told == wanted)
+        }
+        Asked::Printed(wanted) => is_printed(alloc, &normal(alloc, src, reading, &style), wanted),
+    }
+}
+
+/// Whether there is a reading, and that is told of it.
+fn is_told_in(alloc: Global, src: &Src, read: &Read, asked: Asked) -> bool {
+    match read {
+        Ok(reading) => is_told_of(alloc, src, reading, asked),
+        Err(_) => false,
+    }
+}
+
+/// Whether that is told of a text.
+fn is_told(alloc: Global, text: &str, asked: Asked) -> bool {
+    match &Src::new(alloc, text) {
+        Ok(src) => is_told_in(alloc, src, &reading_of(alloc, src.text()), asked),
+        Err(AllocError) => false,
+    }
+}
+
+#[test]
+fn readings_tell_what_they_hold(rt: HostRuntime) {
+    for (text, asked) in &ROWS {
+        assert!(rt; is_told(rt.alloc(), text, *asked), "{text}");
+    }
+}
+
+/// Adds an event with no tag and no place.
+fn add<'a>(alloc: Global, lists: &mut Lists<'a>, event: NewEvent<'a>) -> Result<(), AllocError>
+    requires { Fits lists.old }
+    ensures { IfOk result (λ _. Fits lists.new) }
+{
+    let placed = PlacedEvent {
+        event,
+        span: None,
+        tag_offset: None,
+        entry: None,
+        folded: Slices::new(alloc),
+    };
+    lists.push_event(placed, None)
+}
+
+/// Adds the events of a stream of one document whose sequence does not end.
+fn fill(alloc: Global, lists: &mut Lists<'_>) -> Result<(), AllocError>
+    requires { Fits lists.old }
+    ensures { IfOk result (λ _. Fits lists.new) }
+{
+    let props = Props {
+        anchor: None,
+        tag: None,
+    };
+    add(alloc, lists, NewEvent::StreamStart)?;
+    add(alloc, lists, NewEvent::DocStart { explicit: false })?;
+    add(alloc, lists, NewEvent::SeqStart { flow: true, props })?;
+    add(alloc, lists, NewEvent::DocEnd { explicit: false })?;
+    add(alloc, lists, NewEvent::StreamEnd)
+}
+
+/// Whether nothing was built.
+fn is_nothing(built: &Result<Option<Reading>, Fault>) -> bool {
+    matches!(built, Ok(None))
+}
+
+/// Whether no reading is built of that stream.
+fn refuses_open_sequences(alloc: Global) -> bool {
+    let mut lists = Lists::new(alloc);
+    match fill(alloc, &mut lists) {
+        Ok(()) => is_nothing(&Reading::build(alloc, lists)),
+        Err(AllocError) => false,
+    }
+}
+
+#[test]
+fn an_open_sequence_is_no_reading(rt: HostRuntime) {
+    assert!(rt; refuses_open_sequences(rt.alloc()));
+}
