@@ -86,6 +86,25 @@ def pre_commit_package(room, text, clone):
     return done.returncode == 1 and read(room + '/a b.yaml') == GOOD and read(room + '/c.txt') == 'text\n'
 
 
+LONG = '---\nurl: https://example.com/%s\n' % ('a' * 100)
+
+
+def long_lines(room, text, clone):
+    """Tells of all rules but one, whatever the file; and all of them without the option."""
+    repository(room)
+    write(room + '/long.yaml', LONG)
+    sh(['git', 'add', '.'], room)
+    said = [sh(['sh', '-c', words], room) for words in (text, text.replace('--without line-length', ''))]
+    return 'line-length' not in said[0].stdout and 'comment-space' in said[0].stdout and 'long.yaml:2:101 line-length' in said[1].stdout
+
+
+def pre_commit_long_lines(room, text, clone):
+    with_tool(room, text, clone)
+    write(room + '/long.yaml', LONG)
+    done = [sh(['pre-commit', 'run', '--files', name], room) for name in ('long.yaml', 'a b.yaml')]
+    return [one.returncode for one in done] == [0, 1]
+
+
 def changed(room, text, clone):
     """Names what the branch changed, from the top and from a folder; and fails where that can't be found out."""
     repository(room)
@@ -118,7 +137,8 @@ def make(room, text, clone):
 
 TOOLS = {'folder': ('git', folder), 'changed': ('git', changed), 'make': ('make', make), 'git': ('git', git),
          'pre-commit': ('pre-commit', pre_commit), 'pre-commit-package': ('pre-commit', pre_commit_package),
-         'pre-commit-templates': ('pre-commit', pre_commit_templates), 'vim': ('vim', editors.vim), 'neovim': ('nvim', editors.neovim),
+         'pre-commit-templates': ('pre-commit', pre_commit_templates), 'long-lines': ('git', long_lines),
+         'pre-commit-long-lines': ('pre-commit', pre_commit_long_lines), 'vim': ('vim', editors.vim), 'neovim': ('nvim', editors.neovim),
          'neovim-save': ('nvim', editors.neovim_save), 'emacs': ('emacs', editors.emacs), 'emacs-save': ('emacs', editors.emacs_save),
          'vscode': ('git', editors.vscode), 'jetbrains': ('git', editors.jetbrains), 'workflow-build': ('git', workflows.build),
          'workflow': ('git', workflows.check), 'matcher': ('git', lines.matcher), 'gitlab': ('git', workflows.gitlab),

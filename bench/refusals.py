@@ -159,8 +159,9 @@ def main():
             write(os.path.join(folder, 's.toml'), line.encode())
             runs.in_turn(['fmt', '--config', 's.toml'], b'- a\n')
         write(os.path.join(folder, 'a.yaml'), b'- a\n')
-        runs.in_turn(['check', 'a.yaml'], b'')
-        for words in (['events', 'a', 'b'], ['fmt', '--write'], ['--help'], ['fmt', '--help']):
+        for words in (['check', 'a.yaml'], ['check', '--without', 'quoting,document-start', 'a.yaml']):
+            runs.in_turn(words, b'')
+        for words in (['events', 'a', 'b'], ['check', '--without', 'quotes'], ['fmt', '--write'], ['--help'], ['fmt', '--help']):
             runs.in_turn(words, b'')
         rewrites(runs)
         devices(runs)

@@ -21,8 +21,9 @@ HERE = os.path.dirname(os.path.abspath(__file__))
 class Option:
     short: str  # '-h', or nothing
     long: str  # '--help'
-    value: str  # 'FILE', or nothing
+    value: str  # 'FILE', 'RULES', or nothing
     about: str
+    values: list = ()  # the names of which the value is a list, with commas between; of a file, none
 
     def names(self):
         return [name for name in (self.short, self.long) if name]
@@ -68,14 +69,26 @@ def options(lines):
     return [Option(row[1] or '', row[2], row[3] or '', row[4]) for row in rows(pattern, lines)]
 
 
+def values(program, name, option):
+    """The names that an option takes which takes no file: a value that is none of them is refused with all of them."""
+    if option.value in ('', 'FILE'):
+        return []
+    refusal = subprocess.run([program, name, option.long + '='], stderr=subprocess.PIPE, text=True, stdin=subprocess.DEVNULL).stderr
+    listed = re.search(r'\[possible values: (.+)\]', refusal)
+    if not listed:
+        sys.exit('the values of %s are not known: %r' % (option.long, refusal))
+    return listed[1].split(', ')
+
+
 def command(program, name, about):
     # `help` is clap's own: its arguments are the names of the others.
     if name == 'help':
         return Command(name, about, [], [])
     _, found = parts(said(program, name, '--help'))
+    taken = [dataclasses.replace(option, values=values(program, name, option)) for option in options(found.get('Options', []))]
     arguments = [(row[1] + (' ...' if row[2] else ''), row[3])
                  for row in rows(r' +\[(\w+)\](\.\.\.)?  +(.+)', found.get('Arguments', []))]
-    return Command(name, about, options(found.get('Options', [])), arguments)
+    return Command(name, about, taken, arguments)
 
 
 def whole(program):
@@ -146,11 +159,13 @@ def bash(program):
     for one in commands:
         files = ' files=yes' if one.arguments else ''
         cases.append("        %s) offered='%s'%s ;;" % (one.name, names_of(one.options) or ' '.join(names), files))
-    valued = sorted({option.long for one in commands for option in one.options if option.value})
+    valued = {option.long: option.values for one in commands for option in one.options if option.value}
+    after = ["        %s) offered='%s' front=${word%%\"${word##*,}\"} files='' ;;" % (name, ' '.join(names)) if names else '        %s) files=yes ;;' % name
+             for name, names in sorted(valued.items())]
     return '''\
 # Completes the command line of yamlfmt in bash. Made from `yamlfmt --help`.
 _yamlfmt() {
-    local word=$2 previous=$3 verb='' offered='' files='' place
+    local word=$2 previous=$3 verb='' offered='' files='' front='' place
     COMPREPLY=()
     for ((place = 1; place < COMP_CWORD; place++)); do
         case ${COMP_WORDS[place]} in
@@ -163,20 +178,21 @@ _yamlfmt() {
     case $verb in
 %s
     esac
-    # After an option with a value stands a file; `--config=` comes in three words.
+    # After an option with a value stands a file, or names with commas between; `--config=` comes in three words.
     [[ $word != = ]] || word=''
+    [[ $previous != = ]] || previous=${COMP_WORDS[COMP_CWORD - 2]}
     case $previous in
-        %s | =) files=yes ;;
+%s
     esac
     if [[ $files && $word != -* ]]; then
         compopt -o filenames 2> /dev/null
         mapfile -t COMPREPLY < <(compgen -f -- "$word")
     else
-        mapfile -t COMPREPLY < <(compgen -W "$offered" -- "$word")
+        mapfile -t COMPREPLY < <(compgen -P "$front" -W "$offered" -- "${word#"$front"}")
     fi
 }
 complete -F _yamlfmt yamlfmt
-''' % (' | '.join(names), '\n'.join(cases), ' | '.join(valued))
+''' % (' | '.join(names), '\n'.join(cases), '\n'.join(after))
 
 
 def quoted(text):
@@ -187,7 +203,8 @@ def quoted(text):
 def zsh_option(option):
     about = quoted('[%s]' % option.about.replace(']', '\\]'))[1:-1]
     if option.value:
-        return "'%s=%s:%s:_files'" % (option.long, about, option.value)
+        taken = '_values -s , %s %s' % (option.value, ' '.join(option.values)) if option.values else '_files'
+        return "'%s=%s:%s:%s'" % ('*' * bool(option.values) + option.long, about, option.value, taken)
     if len(option.names()) == 2:
         return "'(- *)'{%s}'%s'" % (','.join(option.names()), about)
     return "'%s%s'" % (option.long, about)
@@ -237,7 +254,9 @@ def fish_option(when, option):
     if option.short:
         words.append('-s ' + option.short[1:])
     words.append('-l ' + option.long[2:])
-    if option.value:
+    if option.values:
+        words.append('-x -a ' + fish_quoted('(__fish_complete_list , "printf \'%%s\\n\' %s")' % ' '.join(option.values)))
+    elif option.value:
         words.append('-r -F')
     return ' '.join([*words, '-d ' + fish_quoted(option.about)])
 

@@ -31,7 +31,14 @@ impl WithRules for Checking<'_, '_> {
 
     /// What the rules find.
     fn with_rules(&mut self, rules: &[Box<dyn Rule>]) -> Result<Vec<Finding>, Fault> {
-        check(self.alloc, rules, self.src, self.reading, &Style::house())
+        check(
+            self.alloc,
+            rules,
+            &[],
+            self.src,
+            self.reading,
+            &Style::house(),
+        )
     }
 }
 

@@ -4,7 +4,7 @@ use Rattle.std.specs.Prelude.{max}
 use Rattle.std.proofs.Math.Seq.{take-suc}
 use Rattle.std.proofs.lemmas.List.{take_all}
 use Rattle.yf_emit.specs.declared.style.Style.{Style}
-use Rattle.yf_rules.specs.AllRules.{Are, FoundByAll, all_rules}
+use Rattle.yf_rules.specs.AllRules.{Are, FoundWithout, all_rules}
 use Rattle.yf_rules.specs.Definition.{RuleDefinition}
 use Rattle.yf_rules.proofs.AllRulesLemmas.{ByValues, refused_by_all, told_by_all}
 use Rattle.yf_program.specs.Answer.{DoesEach, DoesFile, DoesIn, DoesNamed, DoesOver, Input, Rewriting, ToldNamed}
@@ -16,19 +16,19 @@ use Rattle.yf_program.specs.Named.{named_lines}
 use Rattle.yf_program.specs.Program.{Ran, RanBy}
 
 module _ {B : Type 0} (definition : B → RuleDefinition) (bs : List B) (are : Are definition bs all_rules) (style : Style) where
-  ran_by_all_rules : (verb : Verb) (diff check : Bool) (named : Option (List ℕ)) (status : ℕ) (known : Option (List ℕ)) (read_before read_after : Bool) (old new : Option (List ℕ)) (before after : Bool)
-      (at to : Option (List ℕ)) (was is : Bool) → RanBy (ByValues definition bs are style) style verb diff check named status known read_before read_after old new before after at to was is
-      → RanBy (FoundByAll style) style verb diff check named status known read_before read_after old new before after at to was is
-  ran_by_all_rules Events diff check named status known read_before read_after old new before after at to was is r = r
-  ran_by_all_rules Check diff check named status known read_before read_after old new before after at to was is (inl r) = inl (r.0, told_by_all definition bs are style r.1, r.2, r.3, r.4)
-  ran_by_all_rules Check diff check named status known read_before read_after old new before after at to was is (inr r) =
-      inr (r.0, refused_by_all definition bs are style known read_before read_after old new before after r.0 r.1, r.2)
-  ran_by_all_rules Fmt diff check named status known read_before read_after old new before after at to was is r = r
+  ran_by_all_rules : (without : List (List ℕ)) (verb : Verb) (diff check : Bool) (named : Option (List ℕ)) (status : ℕ) (known : Option (List ℕ)) (read_before read_after : Bool) (old new : Option (List ℕ)) (before after : Bool)
+      (at to : Option (List ℕ)) (was is : Bool) → RanBy (ByValues definition bs are style without) style verb diff check named status known read_before read_after old new before after at to was is
+      → RanBy (FoundWithout without style) style verb diff check named status known read_before read_after old new before after at to was is
+  ran_by_all_rules without Events diff check named status known read_before read_after old new before after at to was is r = r
+  ran_by_all_rules without Check diff check named status known read_before read_after old new before after at to was is (inl r) = inl (r.0, told_by_all definition bs are style without r.1, r.2, r.3, r.4)
+  ran_by_all_rules without Check diff check named status known read_before read_after old new before after at to was is (inr r) =
+      inr (r.0, refused_by_all definition bs are style without known read_before read_after old new before after r.0 r.1, r.2)
+  ran_by_all_rules without Fmt diff check named status known read_before read_after old new before after at to was is r = r
 
   pub ran_by_all : (cmd : Cmd) (status : ℕ) (known : Option (List ℕ)) (read_before read_after : Bool) (old new : Option (List ℕ)) (before after : Bool)
-      (at to : Option (List ℕ)) (was is : Bool) → Ran (ByValues definition bs are style) style cmd status known read_before read_after old new before after at to was is
-      → Ran (FoundByAll style) style cmd status known read_before read_after old new before after at to was is
-  ran_by_all cmd status = ran_by_all_rules cmd.verb cmd.diff cmd.check cmd.file status
+      (at to : Option (List ℕ)) (was is : Bool) → Ran (ByValues definition bs are style cmd.without.items) style cmd status known read_before read_after old new before after at to was is
+      → Ran (FoundWithout cmd.without.items style) style cmd status known read_before read_after old new before after at to was is
+  ran_by_all cmd status = ran_by_all_rules cmd.without.items cmd.verb cmd.diff cmd.check cmd.file status
 
 module _ (tells : Type 0) (holds now : Input → Option (List ℕ)) (same : tells → (input : Input) → now input ≡ holds input) (cmd : Cmd) (style : Style) where
   over_before : (input : Input) (status : ℕ) (old new : Option (List ℕ)) (before after : Bool) (at to : Option (List ℕ)) (was is : Bool)

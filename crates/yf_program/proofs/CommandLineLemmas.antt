@@ -3,11 +3,13 @@ use Rattle.std.proofs.Common.{◌≡◌, ◌⊎◌, ◌∙◌, ◌++◌, ◌+◌
 use Rattle.std.proofs.Math.ListN.{get_or-map}
 use Rattle.std.proofs.lemmas.List.{append_assoc, length-map}
 use Rattle.std.specs.Borrow.{Bor}
+use Rattle.std.specs.List.{flat_map}
 use Rattle.clap.specs.Words.{Text, fault_of, is_simple, is_simple_and_free, subcommand_of, IsAmong}
 use Rattle.clap.specs.declared.error.kind.ErrorKind.{ErrorKind}
 use Rattle.clap.specs.declared.error.kind.ErrorKind.TheVariants.{DisplayVersion, OutOfMemory}
 use Rattle.clap.proofs.OnLiterals.{clap_on_literals}
 use Rattle.yf_program.specs.CommandLine.{Answers, Asks, AsksFor, IsNoCommand, Lacks, Met, RefusesWords, yamlfmt}
+use Rattle.yf_program.specs.Without.{between_commas}
 use Rattle.yf_program.specs.declared.command_line.Cmd.{Cmd}
 use Rattle.yf_program.specs.declared.command_line.Usage.{Usage}
 use Rattle.yf_program.specs.declared.command_line.Usage.TheVariants.{Help, Wrong, Memory}
@@ -47,14 +49,28 @@ refused kind words (Wrong text) (inl e) a = absurd (a.1 e)
 refused kind words (Wrong text) (inr among) a = inl (kind, a.0, among)
 refused kind words Memory among a = tt
 
--- one more of the words is copied
-pub one_more_text : (words : List (Bor (List ℕ))) (k : ℕ) (d : Bor (List ℕ)) (texts more : List (List ℕ)) (text : List ℕ) → k < length words
-    → more ≡ texts ++ text ∷ [] → text ≡ (get_or words k d).now
-    → texts ++ drop k (map (λ w. w.now) words) ≡ drop 1 (map (λ w. w.now) words) → more ++ drop (k + 1) (map (λ w. w.now) words) ≡ drop 1 (map (λ w. w.now) words)
-one_more_text words k d texts more text within pushed same left =
+-- the words that are left are the next one and those after it
+next_word : (words : List (Bor (List ℕ))) (k : ℕ) (d : Bor (List ℕ)) (word : List ℕ) → k < length words → word ≡ (get_or words k d).now
+    → drop k (map (λ (w : Bor (List ℕ)). w.now) words) ≡ word ∷ drop (k + 1) (map (λ (w : Bor (List ℕ)). w.now) words)
+next_word words k d word within same =
     let all : List (List ℕ) = map (λ (w : Bor (List ℕ)). w.now) words in
     let inside : k < length all = subst (λ n. k < n) (sym (length-map words (λ (w : Bor (List ℕ)). w.now))) within in
-    let at : get_or all k d.now ≡ text = get_or-map (λ (w : Bor (List ℕ)). w.now) words k d ∙ sym same in
+    let at : get_or all k d.now ≡ word = get_or-map (λ (w : Bor (List ℕ)). w.now) words k d ∙ sym same in
     let cut : drop k all ≡ get_or all k d.now ∷ drop (k + 1) all = rw add-one (drop-cons all k d.now inside) in
-    let next : drop k all ≡ text ∷ drop (k + 1) all = cut ∙ ap (λ x. x ∷ drop (k + 1) all) at in
-    ap (λ x. x ++ drop (k + 1) all) pushed ∙ (append_assoc texts (text ∷ []) (drop (k + 1) all) ∙ (ap (λ x. texts ++ x) (sym next) ∙ left))
+    cut ∙ ap (λ x. x ∷ drop (k + 1) all) at
+
+-- one more of the words is copied
+pub one_more_text : (words : List (Bor (List ℕ))) (k : ℕ) (d : Bor (List ℕ)) (texts more whole : List (List ℕ)) (text : List ℕ) → k < length words
+    → more ≡ texts ++ text ∷ [] → text ≡ (get_or words k d).now
+    → texts ++ drop k (map (λ w. w.now) words) ≡ whole → more ++ drop (k + 1) (map (λ w. w.now) words) ≡ whole
+one_more_text words k d texts more whole text within pushed same left =
+    let rest : List (List ℕ) = drop (k + 1) (map (λ (w : Bor (List ℕ)). w.now) words) in
+    ap (λ x. x ++ rest) pushed ∙ (append_assoc texts (text ∷ []) rest ∙ (ap (λ x. texts ++ x) (sym (next_word words k d text within same)) ∙ left))
+
+-- the names of one more of the words are added
+pub one_more_word : (words : List (Bor (List ℕ))) (k : ℕ) (d : Bor (List ℕ)) (names more whole : List (List ℕ)) (word : List ℕ) → k < length words
+    → more ≡ names ++ between_commas word → word ≡ (get_or words k d).now
+    → names ++ flat_map between_commas (drop k (map (λ w. w.now) words)) ≡ whole → more ++ flat_map between_commas (drop (k + 1) (map (λ w. w.now) words)) ≡ whole
+one_more_word words k d names more whole word within added same left =
+    let rest : List (List ℕ) = flat_map between_commas (drop (k + 1) (map (λ (w : Bor (List ℕ)). w.now) words)) in
+    ap (λ x. x ++ rest) added ∙ (append_assoc names (between_commas word) rest ∙ (ap (λ x. names ++ flat_map between_commas x) (sym (next_word words k d word within same)) ∙ left))

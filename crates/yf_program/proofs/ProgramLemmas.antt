@@ -1,10 +1,18 @@
--- The refusals of a settings text are those of its file; and what a run says that finds nothing to tell.
+-- The refusals of a settings text are those of its file; what a run says that finds nothing to tell; and a check by the names that are left out.
 use Rattle.std.proofs.Common.{◌≡◌, ◌≤◌, ℕ, List, length, Bool, true, Option, inl, inr, refl, subst, sym}
 use Rattle.std.specs.Prelude.{IfSome}
 use Rattle.std.specs.Str.{IsUtf8}
 use Rattle.yf_lines.specs.declared.fault.Fault.{Fault}
 use Rattle.yf_lines.specs.declared.fault.Fault.TheVariants.{NotUtf8, Syntax, TooDeep, UnknownHandle, UnknownAlias, RepeatedDirective, BadVersion, EscapeValue, Memory, ReadFailed, WriteFailed, Config}
-use Rattle.yf_program.specs.Program.{FileRefused, RanFormatter, diff_name}
+use Rattle.yf_program.specs.Program.{FileRefused, RanBy, RanChecker, RanFormatter, diff_name}
+use Rattle.yf_program.specs.declared.command_line.Verb.{Verb}
+use Rattle.yf_program.specs.declared.command_line.Verb.TheVariants.{Check}
+use Rattle.yf_events.specs.declared.lists.Lists.{Lists}
+use Rattle.yf_lines.specs.Lines.{Table}
+use Rattle.yf_rules.specs.Asked.{asked}
+use Rattle.yf_rules.specs.Check.{Checked, RuleFindings}
+use Rattle.yf_rules.specs.Definition.{RuleDefinition}
+use Rattle.yf_rules.specs.declared.finding.Finding.{Finding}
 use Rattle.yf_rules.specs.declared.run.TheConstants.{INPUT_LIMIT}
 use Rattle.yf_emit.specs.declared.style.Style.{Style}
 use Rattle.yf_rules.specs.Compare.{IsClean}
@@ -37,3 +45,17 @@ no_diff {style = style} {known = known} {old = old} {new = new} {read_before = r
     let of_input = subst (λ (t : List ℕ). Diffed style t known old new before after true) named of_same in
     subst (λ (b : Bool). RanFormatter b check input style 0 known read_before read_after old new before after at at was was) (sym asked)
     (inl (true, of_input, λ _. clean is_same, read, refl, record { contents = refl; same = refl }))
+
+-- a check that was asked for, by the names that the command leaves out
+module _ {B : Type 0} (bs : List B) (definition : B → RuleDefinition) {style : Style} {diff check : Bool} {input : Option (List ℕ)} {status : ℕ}
+    {known old new at to : Option (List ℕ)} {read_before read_after before after was is : Bool} where
+  -- what the rules find but those of these names
+  abbrev Others : List (List ℕ) → Table → Lists → List Finding → Type 0
+  Others names src reading findings = Checked (λ rule found. RuleFindings (definition rule) src reading style found) (asked definition names bs) findings
+
+  pub checker_ran : {names left_out : List (List ℕ)} {verb : Verb} → names ≡ left_out → verb ≡ Check
+      → RanChecker (Others names) style status known read_before read_after old new before after at to was is
+      → RanBy (Others left_out) style verb diff check input status known read_before read_after old new before after at to was is
+  checker_ran {left_out = left_out} same asked_for ran =
+      let of_names = subst (λ (n : List (List ℕ)). RanChecker (Others n) style status known read_before read_after old new before after at to was is) same ran in
+      subst (λ (v : Verb). RanBy (Others left_out) style v diff check input status known read_before read_after old new before after at to was is) (sym asked_for) of_names

@@ -9,7 +9,7 @@ use Rattle.yf_emit.specs.declared.style.Style.{Style}
 use Rattle.yf_lines.specs.declared.quotes.Quotes.TheVariants.{Double}
 use Rattle.yf_lines.specs.declared.fault.Fault.{Fault}
 use Rattle.yf_lines.specs.declared.fault.Fault.TheVariants as fault
-use Rattle.yf_rules.specs.AllRules.{FoundByAll}
+use Rattle.yf_rules.specs.AllRules.{FoundWithout}
 use Rattle.yf_lines.specs.Output.{Broke, Wrote}
 use Rattle.yf_rules.specs.Run.{Untouched}
 use Rattle.yf_program.specs.declared.command_line.Cmd.{Cmd}
@@ -62,7 +62,7 @@ abbrev pub DoesOver : Type 0 → (Input → Option (List ℕ)) → Input → Cmd
     → Option (List ℕ) → Option (List ℕ) → Bool → Bool → Type 0
 DoesOver tells holds input cmd style status old new before after at to was is =
     (known : Option (List ℕ)) × (failed : Bool) × Holds tells holds input known
-    × Ran (FoundByAll style) style cmd status known false failed old new before after at to was is
+    × Ran (FoundWithout cmd.without.items style) style cmd status known false failed old new before after at to was is
 
 -- a file can't be opened, and so can't be read; or a command is done over it
 abbrev pub OpensFile : Type 0 → (Input → Option (List ℕ)) → Cmd → List ℕ → Style → ℕ → Option (List ℕ) → Option (List ℕ) → Bool → Bool

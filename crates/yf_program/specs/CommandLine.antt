@@ -10,6 +10,7 @@ use Rattle.clap.specs.declared.builder.command.Command.TheViews.{out-Command}
 use Rattle.clap.specs.declared.builder.action.ArgAction.TheVariants.{Append, SetTrue}
 use Rattle.clap.specs.declared.error.kind.ErrorKind.{ErrorKind}
 use Rattle.clap.specs.declared.error.kind.ErrorKind.TheVariants.{DisplayHelp, DisplayVersion, OutOfMemory}
+use Rattle.yf_program.specs.Without.{are_rules, names_of}
 use Rattle.yf_program.specs.declared.command_line.Cmd.{Cmd}
 use Rattle.yf_program.specs.declared.command_line.Usage.{Usage}
 use Rattle.yf_program.specs.declared.command_line.Usage.TheVariants.{Help, Wrong, Memory}
@@ -32,6 +33,10 @@ check_flag = record (new_rule (codes "check")) { long = Some (codes "check"); ac
 abbrev pub diff_flag : Rule
 diff_flag = record (new_rule (codes "diff")) { long = Some (codes "diff"); action = Some SetTrue }
 
+-- `--without RULES`
+abbrev pub without_option : Rule
+without_option = record (new_rule (codes "without")) { long = Some (codes "without"); value_names = 1; action = Some Append }
+
 -- `FILE`
 abbrev pub file_word : Rule
 file_word = record (new_rule (codes "file")) { value_names = 1 }
@@ -44,9 +49,9 @@ file_words = record (new_rule (codes "file")) { value_names = 1; action = Some A
 abbrev pub reading_command : Text → App
 reading_command name = with_rule (with_rule (new_app name) config_option) file_word
 
--- `check [--config FILE] [FILE..]`
+-- `check [--config FILE] [--without RULES] [FILE..]`
 abbrev pub checking_command : App
-checking_command = with_rule (with_rule (new_app (codes "check")) config_option) file_words
+checking_command = with_rule (with_rule (with_rule (new_app (codes "check")) config_option) without_option) file_words
 
 -- `fmt [--config FILE] [--write] [--check] [--diff] [FILE..]`
 abbrev pub writing_command : App
@@ -103,6 +108,10 @@ is_flag id given = is_set (first_of id given)
 abbrev pub all_given : Text → List Row → List Text
 all_given id given = unwrap_or (all_of id given) []
 
+-- the names of the rules that are left out
+abbrev pub names_given : List Row → List Text
+names_given given = names_of (all_given (codes "without") given)
+
 -- whether a command prints what it formats, or how that differs
 abbrev pub prints : Verb → Bool → Bool → Bool → Bool
 prints Fmt write check diff = not write && (diff || not check)
@@ -110,7 +119,7 @@ prints Events write check diff = false
 prints Check write check diff = false
 
 -- the command line has this command, with these files and these flags, and `--write` only where there is a file and neither `--check` nor
--- `--diff`; what prints what it formats, or how that differs, has one file at most
+-- `--diff`; what prints what it formats, or how that differs, has one file at most; and a rule has each name that is left out
 pub record Asks (met : Met) (cmd : Cmd) : Type 0 where
   pub given : List Row
   pub command : met ≡ Some (verb_word cmd.verb, given)
@@ -124,6 +133,8 @@ pub record Asks (met : Met) (cmd : Cmd) : Type 0 where
   pub untold : cmd.write ≡ true → cmd.diff ≡ false
   pub more : cmd.more.items ≡ drop 1 (all_given (codes "file") given)
   pub alone : prints cmd.verb cmd.write cmd.check cmd.diff ≡ true → cmd.more.items ≡ []
+  pub without : cmd.without.items ≡ names_given given
+  pub rules : are_rules cmd.without.items ≡ true
 
 abbrev pub NamesNoVerb : Met → Type 0
 NamesNoVerb met = MatchOption met ⊤ (λ m. (verb : Verb) → m.0 ≢ verb_word verb)
@@ -142,9 +153,14 @@ abbrev pub PrintsSeveral : Met → Type 0
 PrintsSeveral met = IsSomeAnd met (λ m. (verb : Verb) × (m.0 ≡ verb_word verb)
     × (prints verb (is_flag (codes "write") m.1) (is_flag (codes "check") m.1) (is_flag (codes "diff") m.1) ≡ true) × (drop 1 (all_given (codes "file") m.1) ≢ []))
 
--- what the words name is no command, or has `--write` without a file or with `--check` or `--diff`, or several files to be printed
+-- a name is left out that no rule has
+abbrev pub NamesNoRule : Met → Type 0
+NamesNoRule met = IsSomeAnd met (λ m. are_rules (names_given m.1) ≡ false)
+
+-- what the words name is no command, or has `--write` without a file or with `--check` or `--diff`, or several files to be printed, or leaves
+-- out what is no rule
 abbrev pub IsNoCommand : Met → Type 0
-IsNoCommand met = NamesNoVerb met ⊎ (WritesNoFile met ⊎ (WritesAndChecks met ⊎ (WritesAndDiffs met ⊎ PrintsSeveral met)))
+IsNoCommand met = NamesNoVerb met ⊎ (WritesNoFile met ⊎ (WritesAndChecks met ⊎ (WritesAndDiffs met ⊎ (PrintsSeveral met ⊎ NamesNoRule met))))
 
 -- the same is refused
 abbrev pub Lacks : Met → Usage → Type 0

@@ -4,5 +4,6 @@ pub mod Shown
 pub mod Named
 pub mod Files
 pub mod Settings
+pub mod Without
 pub mod CommandLine
 pub mod Program

@@ -79,6 +79,13 @@ abbrev pub diff_name : Option (List ℕ) → List ℕ
 diff_name (Some name) = name
 diff_name None = codes "-"
 
+-- what the checker does; C tells what the rules find
+abbrev pub RanChecker : (Table → Lists → List Finding → Type 0) → Style → ℕ → Option (List ℕ) → Bool → Bool → Option (List ℕ) → Option (List ℕ)
+    → Bool → Bool → Option (List ℕ) → Option (List ℕ) → Bool → Bool → Type 0
+RanChecker C style status known read_before read_after old new before after at to was is =
+    ((any : Bool) × Told C style known old new before after any × (read_after ≡ read_before) × (status ≡ check_status any) × Untouched at to was is)
+    ⊎ ((f : Fault) × RefusedCheck C style known read_before read_after old new before after f × EndsBy f status at to was is)
+
 -- what the formatter does, by whether it is only to be told how a text differs from its formatting, and if it does; and by the input's name
 abbrev pub RanFormatter : Bool → Bool → Option (List ℕ) → Style → ℕ → Option (List ℕ) → Bool → Bool → Option (List ℕ) → Option (List ℕ)
     → Bool → Bool → Option (List ℕ) → Option (List ℕ) → Bool → Bool → Type 0
@@ -102,8 +109,7 @@ RanBy C style Events diff check input status known read_before read_after old ne
     (Printed known old new before after × (read_after ≡ read_before) × EndsWell status at to was is)
     ⊎ ((f : Fault) × Refused known read_before read_after old new before after f × EndsBy f status at to was is)
 RanBy C style Check diff check input status known read_before read_after old new before after at to was is =
-    ((any : Bool) × Told C style known old new before after any × (read_after ≡ read_before) × (status ≡ check_status any) × Untouched at to was is)
-    ⊎ ((f : Fault) × RefusedCheck C style known read_before read_after old new before after f × EndsBy f status at to was is)
+    RanChecker C style status known read_before read_after old new before after at to was is
 RanBy C style Fmt diff check input status known read_before read_after old new before after at to was is =
     RanFormatter diff check input style status known read_before read_after old new before after at to was is
 

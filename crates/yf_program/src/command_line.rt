@@ -1,11 +1,12 @@
 //! The command line: which command the words ask for.
 ghost use Rattle.std.specs.Prelude.{◌≡◌, ◌≢◌, drop, map, IfOk, MatchOption, MatchResult, string_bytes};
 ghost use Rattle.clap.specs.Words.{first_of, found_of, kind_of, rows_of, subcommand_rows_of};
-ghost use Rattle.yf_program.specs.CommandLine.{Answers, Asks, AsksFor, IsRefusal, Lacks, RefusesWords, all_given, is_set, prints, verb_word};
+ghost use Rattle.yf_program.specs.CommandLine.{Answers, Asks, AsksFor, IsRefusal, Lacks, RefusesWords, all_given, is_set, names_given, prints, verb_word};
 
 use crate::build::build_lines;
-use crate::commands::{CHECK, CONFIG, DIFF, EVENTS, FILE, FMT, WRITE, yamlfmt_command};
+use crate::commands::{CHECK, CONFIG, DIFF, EVENTS, FILE, FMT, WITHOUT, WRITE, yamlfmt_command};
 use crate::shown::shown_text;
+use crate::without::{names_of, unknown_name, unknown_text};
 use clap::error::ErrorKind;
 use clap::{ArgMatches, Error};
 use std::alloc::{AllocError, Global};
@@ -86,6 +87,8 @@ pub struct Cmd {
     pub diff: bool,
     /// The files after the first, in order. There are none where the stream is to be printed.
     pub more: Vec<OwnedText>,
+    /// The names of the rules that are left out of a check. A rule has each of them.
+    pub without: Vec<OwnedText>,
 }
 
 /// Why the words of a command line give no command.
@@ -112,7 +115,8 @@ impl From<AllocError> for Usage {
 /// The command that the words after the program's name ask for:
 ///
 /// - `events [--config FILE] [FILE]`
-/// - `check [--config FILE] [FILE..]`
+/// - `check [--config FILE] [--without RULES] [FILE..]`, where RULES are names of rules with commas between, and may be given more than
+///   once
 /// - `fmt [--config FILE] [--write] [--check] [--diff] [FILE..]`, where `--write` needs FILE and goes with neither `--check`
 ///   nor `--diff`, and several files need `--write`, or `--check` without `--diff`.
 ///
@@ -225,15 +229,20 @@ fn command_met(alloc: Global, matches: &ArgMatches<'_>) -> Result<Cmd, Usage>
             return Err(refusal_of_several(alloc, diff));
         }
     }
-    Ok(Cmd {
-        verb,
-        config,
-        file,
-        write,
-        check,
-        diff,
-        more,
-    })
+    let without = names_given(alloc, given)?;
+    match unknown_name(without.as_slice()) {
+        Some(name) => Err(refusal_of_name(alloc, name)),
+        None => Ok(Cmd {
+            verb,
+            config,
+            file,
+            write,
+            check,
+            diff,
+            more,
+            without,
+        }),
+    }
 }
 
 fn verb_of(name: &str) -> Option<Verb>
@@ -272,6 +281,26 @@ fn more_given(alloc: Global, given: &ArgMatches<'_>, id: &str) -> Result<Vec<Own
     match given.get_strs(id) {
         Some(words) => texts_after_first(alloc, words),
         None => Ok(Vec::new(alloc)),
+    }
+}
+
+// The names of the rules that are left out.
+fn names_given(alloc: Global, given: &ArgMatches<'_>) -> Result<Vec<OwnedText>, AllocError>
+    ensures { IfOk result (λ names. names.items ≡ names_given (rows_of (found_of given.now))) }
+{
+    match given.get_strs(WITHOUT) {
+        Some(words) => names_of(alloc, words),
+        None => Ok(Vec::new(alloc)),
+    }
+}
+
+// The refusal of a name that no rule has.
+fn refusal_of_name(alloc: Global, name: &str) -> Usage
+    ensures { IsRefusal result }
+{
+    match unknown_text(alloc, name) {
+        Ok(text) => Usage::Wrong(text),
+        Err(_) => Usage::Memory,
     }
 }
 

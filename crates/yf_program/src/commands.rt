@@ -1,7 +1,7 @@
 //! The commands of the program and their options, as the library for command lines takes them.
 ghost use Rattle.std.specs.Prelude.{◌≡◌, IfOk};
 ghost use Rattle.clap.specs.Words.{App, Rule, app_of, with_rule, with_subcommand};
-ghost use Rattle.yf_program.specs.CommandLine.{bare_command, check_flag, checking_command, config_option, configured, diff_flag, file_word, file_words, write_flag, reading_command, writing_command, yamlfmt};
+ghost use Rattle.yf_program.specs.CommandLine.{bare_command, check_flag, checking_command, config_option, configured, diff_flag, file_word, file_words, write_flag, reading_command, without_option, writing_command, yamlfmt};
 ghost use Rattle.yf_program.specs.CommandLine.{IsOption, IsPart};
 
 use crate::build::VERSION;
@@ -15,6 +15,8 @@ pub const CHECK: &str = "check";
 pub const FMT: &str = "fmt";
 
 pub const CONFIG: &str = "config";
+
+pub const WITHOUT: &str = "without";
 
 pub const WRITE: &str = "write";
 
@@ -82,7 +84,8 @@ fn check_command<'a>(alloc: Global) -> Result<Command<'a>, AllocError>
         CHECK,
         "Print where a YAML stream departs from the house style",
     );
-    with_arg(command, file_words(alloc))
+    let leaving_out = with_arg(command, without_option(alloc));
+    with_arg(leaving_out, file_words(alloc))
 }
 
 fn fmt_command<'a>(alloc: Global) -> Result<Command<'a>, AllocError>
@@ -124,6 +127,16 @@ fn config_option<'a>(alloc: Global) -> Arg<'a>
         .long(CONFIG)
         .value_name("FILE")
         .help("Read the settings of the house style from this TOML file")
+}
+
+fn without_option<'a>(alloc: Global) -> Arg<'a>
+    ensures { IsOption result without_option }
+{
+    Arg::new(alloc, WITHOUT)
+        .long(WITHOUT)
+        .value_name("RULES")
+        .action(ArgAction::Append)
+        .help("Leave out what these rules find, by their names with commas between")
 }
 
 fn write_flag<'a>(alloc: Global) -> Arg<'a>

@@ -1,6 +1,6 @@
 //! A command over its files: one by itself, and several, each as if it were alone.
 ghost use Rattle.std.specs.Prelude.{◌≡◌, ◌∷◌, ℕ, List, Option, MatchResult};
-ghost use Rattle.yf_rules.specs.AllRules.{Are, FoundByAll, all_rules};
+ghost use Rattle.yf_rules.specs.AllRules.{Are, FoundWithout, all_rules};
 ghost use Rattle.yf_program.specs.Answer.{DoesEach, DoesFile, DoesNamed, ToldNamed};
 ghost use Rattle.yf_program.specs.Files.{Rewritten};
 ghost use Rattle.yf_program.specs.Named.{named_lines};
@@ -232,7 +232,7 @@ pub fn do_over<R: Source, W: Sink, E: Sink>(
     error_stream: &mut E,
 ) -> u8
     requires all { Are (λ rule. definition rule) rules.now all_rules }
-    ensures { Ran (FoundByAll style.now) style.now command.now result
+    ensures { Ran (FoundWithout command.now.without.items style.now) style.now command.now result
         (R.remaining reader.old) (R.has_failed reader.old) (R.has_failed reader.new)
         (W.contents writer.old) (W.contents writer.new) (W.has_failed writer.old) (W.has_failed writer.new)
         (E.contents error_stream.old) (E.contents error_stream.new) (E.has_failed error_stream.old) (E.has_failed error_stream.new) }

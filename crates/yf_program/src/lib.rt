@@ -14,3 +14,4 @@ pub mod replacing;
 pub mod report;
 pub mod settings;
 pub mod shown;
+pub mod without;

@@ -1,8 +1,9 @@
 //! What the program does for a command line, over any reader, any writer and any stream for its faults.
 ghost use Rattle.std.specs.Prelude.{◌≡◌, MatchResult};
 ghost use Rattle.yf_lines.specs.Output.{Writes};
+ghost use Rattle.yf_rules.specs.Asked.{asked};
 ghost use Rattle.yf_rules.specs.Check.{Checked, RuleFindings};
-ghost use Rattle.yf_program.specs.Program.{Answered, FileRefused, FileSets, Ran, RanFormatter, WrittenOut, diff_name};
+ghost use Rattle.yf_program.specs.Program.{Answered, FileRefused, FileSets, Ran, RanChecker, RanFormatter, WrittenOut, diff_name};
 ghost use Rattle.std.specs.Io.KnownBytes.{Keeps};
 
 use crate::command_line::{Cmd, Usage, Verb};
@@ -13,6 +14,7 @@ use yf_chars::utf8::check_utf8;
 use yf_emit::style::Style;
 use yf_lines::fault::Fault;
 use yf_lines::output::write_text;
+use yf_lines::text::OwnedText;
 use yf_lines::watched::{Sink, Source};
 use yf_rules::compare::run_fmt_check;
 use yf_rules::diff::run_fmt_diff;
@@ -30,8 +32,8 @@ const FINDINGS: u8 = 1;
 const USAGE: u8 = 3;
 
 /// Does the command, and answers the status: that of the run, or of the fault whose line was written to the stream of
-/// faults. Of the command only its verb and its flags count, and for a diff its file's name: reader and writer are those of its
-/// files, and what is to be written over its file is not done here.
+/// faults. Of the command only its verb and its flags count, with the rules that it leaves out, and for a diff its file's name: reader
+/// and writer are those of its files, and what is to be written over its file is not done here.
 pub fn run<R: Source, W: Sink, E: Sink>(
     alloc: Global,
     command: &Cmd,
@@ -42,7 +44,8 @@ pub fn run<R: Source, W: Sink, E: Sink>(
     error_stream: &mut E,
 ) -> u8
     ensures { Ran (λ src reading findings. Checked
-        (λ rule found. RuleFindings (definition rule) src reading style.now found) rules.now findings)
+        (λ rule found. RuleFindings (definition rule) src reading style.now found)
+        (asked (λ rule. definition rule) command.now.without.items rules.now) findings)
         style.now command.now result (R.remaining reader.old) (R.has_failed reader.old) (R.has_failed reader.new)
         (W.contents writer.old) (W.contents writer.new) (W.has_failed writer.old) (W.has_failed writer.new)
         (E.contents error_stream.old) (E.contents error_stream.new) (E.has_failed error_stream.old) (E.has_failed error_stream.new) }
@@ -52,12 +55,40 @@ pub fn run<R: Source, W: Sink, E: Sink>(
             Ok(()) => GOOD,
             Err(fault) => report(&fault, error_stream),
         },
-        Verb::Check => match run_check(alloc, rules, reader, writer, style) {
-            Ok(false) => GOOD,
-            Ok(true) => FINDINGS,
-            Err(fault) => report(&fault, error_stream),
-        },
+        Verb::Check => run_checker(
+            alloc,
+            rules,
+            command.without.as_slice(),
+            style,
+            reader,
+            writer,
+            error_stream,
+        ),
         Verb::Fmt => run_formatter(alloc, command, style, reader, writer, error_stream),
+    }
+}
+
+// Checks by the rules but those that are left out, and answers the status.
+fn run_checker<R: Source, W: Sink, E: Sink>(
+    alloc: Global,
+    rules: &[Box<dyn Rule>],
+    without: &[OwnedText],
+    style: &Style,
+    reader: &mut R,
+    writer: &mut W,
+    error_stream: &mut E,
+) -> u8
+    ensures { RanChecker (λ src reading findings. Checked
+        (λ rule found. RuleFindings (definition rule) src reading style.now found)
+        (asked (λ rule. definition rule) without.now rules.now) findings)
+        style.now result (R.remaining reader.old) (R.has_failed reader.old) (R.has_failed reader.new)
+        (W.contents writer.old) (W.contents writer.new) (W.has_failed writer.old) (W.has_failed writer.new)
+        (E.contents error_stream.old) (E.contents error_stream.new) (E.has_failed error_stream.old) (E.has_failed error_stream.new) }
+{
+    match run_check(alloc, rules, without, reader, writer, style) {
+        Ok(false) => GOOD,
+        Ok(true) => FINDINGS,
+        Err(fault) => report(&fault, error_stream),
     }
 }
 

@@ -1,5 +1,6 @@
 -- What values find that are the rules, the rules find.
-use Rattle.std.proofs.Common.{◌≡◌, ℕ, Bool, Option, List, [], ◌∷◌, ◌++◌, refl, ap, sym, subst, ◌∙◌, arith}
+use Rattle.std.proofs.Common.{◌≡◌, ℕ, Bool, true, false, Option, List, [], ◌∷◌, ◌++◌, refl, ap, sym, subst, ◌∙◌, arith}
+use Rattle.std.specs.Prelude.{cond, not}
 use Rattle.yf_emit.specs.declared.style.Style.{Style}
 use Rattle.yf_events.specs.declared.lists.Lists.{Lists}
 use Rattle.yf_lines.specs.Lines.{Table}
@@ -8,7 +9,8 @@ use Rattle.yf_lines.specs.declared.fault.Fault.TheVariants.{NotUtf8, Syntax, Too
 use Rattle.yf_rules.specs.declared.finding.Finding.{Finding}
 use Rattle.yf_rules.specs.declared.rules.StyleRule.{StyleRule}
 use Rattle.yf_rules.specs.declared.rules.StyleRule.TheVariants.{TrailingBlanks, Indentation, Quoting, DocumentStart, FinalBreak, LineBreaks, ByteOrderMark, BlankLines, FlowLayout, CommentSpace, LineLength, RepeatedKeys, KeyMark}
-use Rattle.yf_rules.specs.AllRules.{Are, FoundByAll, IsDefinition, RulesAreListed, all_rules}
+use Rattle.yf_rules.specs.AllRules.{Are, FoundWithout, IsDefinition, RulesAreListed, all_rules, rules_without}
+use Rattle.yf_rules.specs.Asked.{asked, is_among}
 use Rattle.yf_rules.specs.Check.{Checked, FindingsOf, InOrder, RuleFindings}
 use Rattle.yf_rules.specs.Check.Checked.{checked}
 use Rattle.yf_rules.specs.Check.FindingsOf.{at_places}
@@ -74,6 +76,22 @@ last_of definition (c ∷ bs) b (r ∷ rules) are =
     let rest = last_of definition bs b rules are.1 in
     record { before = r ∷ rest.before; last = rest.last; split = ap (λ (l : List StyleRule). r ∷ l) rest.split; are = (are.0, rest.are); is = rest.is }
 
+-- where values are rules, those that are asked are the rules that are asked
+module _ {B : Type 0} (definition : B → RuleDefinition) (without : List (List ℕ)) where
+  one_more_are : (b : B) (bs : List B) (rule : StyleRule) (rules : List StyleRule) (is_asked : Bool) → IsDefinition (definition b) rule → Are definition bs rules
+      → Are definition (cond is_asked (b ∷ bs) bs) (cond is_asked (rule ∷ rules) rules)
+  one_more_are b bs rule rules true is are = (is, are)
+  one_more_are b bs rule rules false is are = are
+
+  asked_are : (bs : List B) (rules : List StyleRule) → Are definition bs rules → Are definition (asked definition without bs) (asked definition_of without rules)
+  asked_are [] [] are = tt
+  asked_are (b ∷ bs) (rule ∷ rules) are =
+      subst (λ t. Are definition (asked definition without (b ∷ bs)) (cond t (rule ∷ asked definition_of without rules) (asked definition_of without rules)))
+      (ap (λ id. not (is_among without id)) are.0.id)
+      (one_more_are b (asked definition without bs) rule (asked definition_of without rules) (not (is_among without (definition b).id)) are.0 (asked_are bs rules are.1))
+  asked_are [] (rule ∷ rules) are = absurd are
+  asked_are (b ∷ bs) [] are = absurd are
+
 module _ {B : Type 0} (definition : B → RuleDefinition) (src : Table) (reading : Lists) (style : Style) where
   -- one rule after the other
   in_order : {bs : List B} {found : List Finding} (rules : List StyleRule) → Are definition bs rules
@@ -86,18 +104,18 @@ module _ {B : Type 0} (definition : B → RuleDefinition) (src : Table) (reading
       subst (λ (rs : List StyleRule). InOrder (λ rule z. RuleFindings (definition_of rule) src reading style z) rs (x ++ y)) (sym l.split)
       (one_more (in_order l.before l.are front) (rule_finds src reading style l.is last))
 
-  -- and all of them
-  pub all_find : (bs : List B) (findings : List Finding) → Are definition bs all_rules
-      → Checked (λ b x. RuleFindings (definition b) src reading style x) bs findings → FoundByAll style src reading findings
-  all_find bs findings are (checked order sorted) = checked (in_order all_rules are order) sorted
+  -- all of them, but those that are left out
+  pub all_find : (without : List (List ℕ)) (bs : List B) (findings : List Finding) → Are definition bs all_rules
+      → Checked (λ b x. RuleFindings (definition b) src reading style x) (asked definition without bs) findings → FoundWithout without style src reading findings
+  all_find without bs findings are (checked order sorted) = checked (in_order (rules_without without) (asked_are definition without bs all_rules are) order) sorted
 
 -- The run that checks, by values that are all rules: it is told by the rules themselves.
-module _ {B : Type 0} (definition : B → RuleDefinition) (bs : List B) (are : Are definition bs all_rules) (style : Style) where
-  -- what values find
+module _ {B : Type 0} (definition : B → RuleDefinition) (bs : List B) (are : Are definition bs all_rules) (style : Style) (without : List (List ℕ)) where
+  -- what values find, but those that are left out
   abbrev pub ByValues : Table → Lists → List Finding → Type 0
-  ByValues src reading findings = Checked (λ b x. RuleFindings (definition b) src reading style x) bs findings
+  ByValues src reading findings = Checked (λ b x. RuleFindings (definition b) src reading style x) (asked definition without bs) findings
 
-  found_by_all : {known : Option (List ℕ)} {findings : List Finding} → Found ByValues style known findings → Found (FoundByAll style) style known findings
+  found_by_all : {known : Option (List ℕ)} {findings : List Finding} → Found ByValues style known findings → Found (FoundWithout without style) style known findings
   found_by_all {findings = findings} f = record {
     src = f.src;
     reading = f.reading;
@@ -107,17 +125,17 @@ module _ {B : Type 0} (definition : B → RuleDefinition) (bs : List B) (are : A
     lines = f.lines;
     nested = f.nested;
     reads = f.reads;
-    checked = all_find definition f.src f.reading style bs findings are f.checked;
+    checked = all_find definition f.src f.reading style without bs findings are f.checked;
     mends = f.mends;
   }
 
   pub told_by_all : {known old new : Option (List ℕ)} {before after any : Bool} → Told ByValues style known old new before after any
-      → Told (FoundByAll style) style known old new before after any
+      → Told (FoundWithout without style) style known old new before after any
   told_by_all t = record { findings = t.findings; found = found_by_all t.found; wrote = t.wrote; answer = t.answer }
 
   pub refused_by_all : (known : Option (List ℕ)) (read_before read_after : Bool) (old new : Option (List ℕ)) (before after : Bool) (fault : Fault)
       → RefusedCheck ByValues style known read_before read_after old new before after fault
-      → RefusedCheck (FoundByAll style) style known read_before read_after old new before after fault
+      → RefusedCheck (FoundWithout without style) style known read_before read_after old new before after fault
   refused_by_all known read_before read_after old new before after WriteFailed r =
       (record { findings = r.0.findings; found = found_by_all r.0.found; broke = r.0.broke }, r.1)
   refused_by_all known read_before read_after old new before after (NotUtf8 offset) r = r

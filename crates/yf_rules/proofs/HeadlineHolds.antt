@@ -91,4 +91,4 @@ in_order w no_rules = none_silent [] refl w
 in_order w (one_more {b = rule} {x = x} {y = y} front last) = both_silent x y (x ++ y) (λ v. in_order v front) (λ v. one_rule rule v last) refl w
 
 pub formatted_texts_are_clean : FormattedTextsAreClean
-formatted_texts_are_clean src reading style findings w (checked {all = all} order sorted) = sorted_silent all findings (λ v. in_order v order) sorted w
+formatted_texts_are_clean src reading style without findings w (checked {all = all} order sorted) = sorted_silent all findings (λ v. in_order v order) sorted w

@@ -1,5 +1,5 @@
 -- All rules of style, and when values are those rules.
-use Rattle.std.specs.Prelude.{◌≡◌, ℕ, List, [], ◌∷◌, ⊤}
+use Rattle.std.specs.Prelude.{◌≡◌, ℕ, List, [], ◌∷◌, ⊤, map}
 use Rattle.std.specs.List.{Contains}
 use Rattle.yf_emit.specs.declared.style.Style.{Style}
 use Rattle.yf_events.specs.declared.lists.Lists.{Lists}
@@ -7,6 +7,7 @@ use Rattle.yf_lines.specs.Lines.{Table}
 use Rattle.yf_rules.specs.declared.rules.StyleRule.{StyleRule}
 use Rattle.yf_rules.specs.declared.rules.StyleRule.TheVariants.{TrailingBlanks, Indentation, Quoting, DocumentStart, FinalBreak, LineBreaks, ByteOrderMark, BlankLines, FlowLayout, CommentSpace, LineLength, RepeatedKeys, KeyMark}
 use Rattle.yf_rules.specs.declared.finding.Finding.{Finding}
+use Rattle.yf_rules.specs.Asked.{asked}
 use Rattle.yf_rules.specs.Check.{Checked, RuleFindings}
 use Rattle.yf_rules.specs.Definition.{RuleDefinition}
 use Rattle.yf_rules.specs.RuleOf.{definition_of}
@@ -36,6 +37,18 @@ Are definition (b ∷ bs) (rule ∷ rules) = IsDefinition (definition b) rule ×
 Are definition [] (rule ∷ rules) = ⊥
 Are definition (b ∷ bs) [] = ⊥
 
--- what a check by all rules answers
-abbrev pub FoundByAll : Style → Table → Lists → List Finding → Type 0
-FoundByAll style src reading findings = Checked (λ rule found. RuleFindings (definition_of rule) src reading style found) all_rules findings
+-- the names of all rules
+abbrev pub rule_names : List (List ℕ)
+rule_names = map (λ rule. (definition_of rule).id) all_rules
+
+-- all rules but those of these names
+abbrev pub rules_without : List (List ℕ) → List StyleRule
+rules_without names = asked definition_of names all_rules
+
+-- Where no rule is left out, all are asked.
+abbrev pub AllAreAsked : Type 0
+AllAreAsked = rules_without [] ≡ all_rules
+
+-- what a check by all rules but those of these names answers
+abbrev pub FoundWithout : List (List ℕ) → Style → Table → Lists → List Finding → Type 0
+FoundWithout names style src reading findings = Checked (λ rule found. RuleFindings (definition_of rule) src reading style found) (rules_without names) findings

@@ -30,6 +30,7 @@ pub mod Sets
 pub mod Definition
 pub mod Rules
 pub mod RuleOf
+pub mod Asked
 pub mod Check
 pub mod AllRules
 pub mod Headline

@@ -2,14 +2,17 @@
 ghost use Rattle.std.specs.Prelude.{◌≡◌, [], ◌++◌, true, map, IfErr, IfOk};
 ghost use Rattle.std.specs.List.Sorted.{IsSortedByKey};
 ghost use Rattle.std.specs.Ordering.{is_lt};
+ghost use Rattle.yf_rules.specs.Asked.{asked};
 ghost use Rattle.yf_rules.specs.Check.{Checked, RuleFindings, SortedFrom, finding_at, key_cmp, sort_key};
 ghost use Rattle.yf_rules.specs.Mended.{IsFormatted, NoneFixable};
 ghost use Rattle.yf_rules.specs.Places.{FoundAt};
 
+use crate::asked::is_among;
 use crate::finding::Finding;
 use crate::rule::{About, AllocError, Global, Reading, Rule, Src, Style};
 use yf_lines::fault::Fault;
 use yf_lines::place::Place;
+use yf_lines::text::OwnedText;
 
 /// What a rule is known by.
 fn about_of(rule: &Box<dyn Rule>) -> About
@@ -120,8 +123,9 @@ fn add(all: &mut Vec<Finding>, mut findings: Vec<Finding>) -> Result<(), Fault>
     }
 }
 
-/// All findings of the rules, once for each box, in a text with this reading, sorted by line, column and number. Findings
-/// that are alike in all three keep the order of the boxes.
+/// All findings of the rules but those whose names are among the ones that are left out, once for each box, in a text with this
+/// reading, sorted by line, column and number. Findings that are alike in all three keep the order of the boxes. A name that no
+/// rule has leaves none out.
 ///
 /// # Errors
 ///
@@ -129,17 +133,22 @@ fn add(all: &mut Vec<Finding>, mut findings: Vec<Finding>) -> Result<(), Fault>
 pub fn check(
     alloc: Global,
     rules: &[Box<dyn Rule>],
+    without: &[OwnedText],
     src: &Src,
     reading: &Reading,
     style: &Style,
 ) -> Result<Vec<Finding>, Fault>
     ensures refused { IfErr result (λ fault. fault ≡ Fault.Memory) }
     ensures findings { IfOk result (λ findings. Checked
-        (λ rule found. RuleFindings (definition rule) src.now reading.now style.now found) rules.now findings.items) }
+        (λ rule found. RuleFindings (definition rule) src.now reading.now style.now found)
+        (asked (λ rule. definition rule) without.now rules.now) findings.items) }
     ensures mends { IfOk result (λ findings. IsFormatted src.now reading.now style.now → NoneFixable findings.items) }
 {
     let mut all = Vec::new(alloc);
     for rule in rules {
+        if is_among(without, about_of(rule).id) {
+            continue;
+        }
         let findings = findings_of(alloc, rule, src, reading, style)?;
         add(&mut all, findings)?;
     }

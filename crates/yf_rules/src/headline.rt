@@ -1,5 +1,5 @@
 //! What holds of every text, for every style.
-ghost use Rattle.yf_rules.specs.AllRules.{RulesAreListed};
+ghost use Rattle.yf_rules.specs.AllRules.{AllAreAsked, RulesAreListed};
 ghost use Rattle.yf_rules.specs.Headline.{RefusedTextsHaveNoReading, StandardTextsAreFormatted};
 ghost use Rattle.yf_rules.specs.Rechecked.{FormattedTextsAreClean};
 ghost use Rattle.yf_standard.specs.Acceptance.{FaultsTellOfTheStandard, StandardStreamsMeanOne, StandardTextsAreRead};
@@ -27,4 +27,5 @@ pub fn headline()
     ensures formatted { StandardTextsAreFormatted }
     ensures clean { FormattedTextsAreClean }
     ensures listed { RulesAreListed }
+    ensures asked { AllAreAsked }
 {}

@@ -1,6 +1,7 @@
 //! The rules of style, the check of a text by several of them, and the runs that print events, findings and a formatted text.
 #![tactic(auto)]
 
+pub mod asked;
 pub mod check;
 pub mod compare;
 pub mod diff;

@@ -1,6 +1,7 @@
 //! The runs of the program, over any reader and any writer. Their contracts are told in `Run` of the specs.
 ghost use Rattle.std.specs.Prelude.{◌≡◌, string_bytes, IfErr, IfOk, OnOk};
 ghost use Rattle.yf_lines.specs.Output.{Writes};
+ghost use Rattle.yf_rules.specs.Asked.{asked};
 ghost use Rattle.yf_rules.specs.Check.{Checked, RuleFindings};
 ghost use Rattle.yf_stream.specs.Refusal.{IsStreamFault};
 ghost use Rattle.yf_stream.specs.StreamReader.{StreamFault};
@@ -21,6 +22,7 @@ use yf_events::notation::write_events;
 use yf_lines::fault::Fault;
 use yf_lines::output::{write_text, write_texts};
 use yf_lines::source_text::Src;
+use yf_lines::text::OwnedText;
 use yf_lines::watched::{Sink, Source};
 use yf_stream::stream::read_stream;
 
@@ -54,25 +56,28 @@ pub fn run_events<R: Source, W: Sink>(
     write_events(&reading, writer)
 }
 
-/// Reads all there is, and writes a line for each finding of the rules, in the order of their places: line and column, the
-/// rule's name, and ` (fixable)` where the house style fixes it. The answer is whether there is a finding. In a text that
-/// formatting gives with the same settings, none of them is one that the house style fixes.
+/// Reads all there is, and writes a line for each finding of the rules but those that are left out by name, in the order of their
+/// places: line and column, the rule's name, and ` (fixable)` where the house style fixes it. The answer is whether there is a
+/// finding. In a text that formatting gives with the same settings, none of them is one that the house style fixes.
 ///
 /// Refused is what `run_events` refuses, and nothing has then been written but, after `Fault::WriteFailed`, a prefix of the
 /// lines.
 pub fn run_check<R: Source, W: Sink>(
     alloc: Global,
     rules: &[Box<dyn Rule>],
+    without: &[OwnedText],
     reader: &mut R,
     writer: &mut W,
     style: &Style,
 ) -> Result<bool, Fault>
     ensures findings { IfOk result (λ any. Told (λ src reading findings. Checked
-        (λ rule found. RuleFindings (definition rule) src reading style.now found) rules.now findings)
+        (λ rule found. RuleFindings (definition rule) src reading style.now found)
+        (asked (λ rule. definition rule) without.now rules.now) findings)
         style.now (R.remaining reader.old) (W.contents writer.old) (W.contents writer.new) (W.has_failed writer.old) (W.has_failed writer.new) any) }
     ensures reader { OnOk result (R.has_failed reader.new ≡ R.has_failed reader.old) }
     ensures refusals { IfErr result (λ fault. RefusedCheck
-        (λ src reading findings. Checked (λ rule found. RuleFindings (definition rule) src reading style.now found) rules.now findings)
+        (λ src reading findings. Checked (λ rule found. RuleFindings (definition rule) src reading style.now found)
+        (asked (λ rule. definition rule) without.now rules.now) findings)
         style.now (R.remaining reader.old) (R.has_failed reader.old) (R.has_failed reader.new)
         (W.contents writer.old) (W.contents writer.new) (W.has_failed writer.old) (W.has_failed writer.new) fault) }
 {
@@ -81,22 +86,24 @@ pub fn run_check<R: Source, W: Sink>(
         Ok(text) => text,
         Err(BadByte { offset }) => return Err(Fault::NotUtf8 { offset }),
     };
-    let findings = findings_in(alloc, rules, text, style)?;
+    let findings = findings_in(alloc, rules, without, text, style)?;
     match write_findings(findings.as_slice(), writer) {
         Ok(()) => Ok(has_any(findings.as_slice())),
         Err(_) => Err(Fault::WriteFailed),
     }
 }
 
-// What the rules find in a text.
+// What the rules find in a text, but those that are left out by name.
 fn findings_in(
     alloc: Global,
     rules: &[Box<dyn Rule>],
+    without: &[OwnedText],
     text: &str,
     style: &Style,
 ) -> Result<Vec<Finding>, Fault>
     ensures found { IfOk result (λ findings. FoundIn (λ src reading findings. Checked
-        (λ rule found. RuleFindings (definition rule) src reading style.now found) rules.now findings)
+        (λ rule found. RuleFindings (definition rule) src reading style.now found)
+        (asked (λ rule. definition rule) without.now rules.now) findings)
         style.now text.now findings.items) }
     ensures refused { IfErr result (λ fault. IsStreamFault text.now fault) }
     ensures refuses { IfErr result (StreamFault text.now) }
@@ -106,7 +113,7 @@ fn findings_in(
         Err(AllocError) => return Err(Fault::Memory),
     };
     let stream = read_stream(alloc, text)?;
-    check(alloc, rules, &src, &stream, style)
+    check(alloc, rules, without, &src, &stream, style)
 }
 
 fn has_any(findings: &[Finding]) -> bool

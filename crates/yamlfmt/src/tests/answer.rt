@@ -102,7 +102,7 @@ type Row = (
     &'static str,
 );
 
-static ROWS: [Row; 30] = [
+static ROWS: [Row; 36] = [
     ("fmt", 0, "---\n- \"a\"\n", "", "- ", BEFORE),
     (
         "fmt --config good.toml",
@@ -307,6 +307,55 @@ static ROWS: [Row; 30] = [
         3,
         "",
         "error: the argument '--write' needs a FILE\n\nUsage: yamlfmt fmt [OPTIONS] [FILE]...\n\nFor more information, try '--help'.\n",
+        "",
+        BEFORE,
+    ),
+    // rules are left out by name, whatever else is asked, and a name that no rule has before anything is opened
+    (
+        "check a.yaml --without comment-space",
+        0,
+        "",
+        "",
+        "a.yaml ",
+        BEFORE,
+    ),
+    (
+        "check --without comment-space,line-length --config good.toml a.yaml",
+        1,
+        "2:4 quoting (fixable)\n",
+        "",
+        "good.toml a.yaml ",
+        BEFORE,
+    ),
+    (
+        "check --without quoting --config good.toml --without comment-space,quoting a.yaml",
+        0,
+        "",
+        "",
+        "good.toml a.yaml ",
+        BEFORE,
+    ),
+    (
+        "check --without quoting a.yaml refused.yaml",
+        2,
+        "a.yaml:2:8 comment-space (fixable)\n",
+        "refused.yaml:2:6 refused: unknown-alias\n",
+        "a.yaml refused.yaml ",
+        BEFORE,
+    ),
+    (
+        "check --without trailing-blanks,indentation,quoting,document-start,final-break,line-breaks,byte-order-mark,blank-lines,flow-layout,comment-space,line-length,repeated-keys,key-mark",
+        0,
+        "",
+        "",
+        "- ",
+        BEFORE,
+    ),
+    (
+        "check --without comment-space,quotes\u{1b} --config bad.toml a.yaml",
+        3,
+        "",
+        "error: invalid value 'quotes\\x1B' for '--without <RULES>'\n  [possible values: trailing-blanks, indentation, quoting, document-start, final-break, line-breaks, byte-order-mark, blank-lines, flow-layout, comment-space, line-length, repeated-keys, key-mark]\n\nFor more information, try '--help'.\n",
         "",
         BEFORE,
     ),

@@ -62,6 +62,7 @@ pub fn command(alloc: Global, asked: Asked) -> Cmd {
         check: matches!(asked, Asked::FmtCheck),
         diff: matches!(asked, Asked::FmtDiff),
         more: Vec::new(alloc),
+        without: Vec::new(alloc),
     }
 }
 

@@ -37,7 +37,7 @@ Options:
   -V, --version  Print version
 ";
 
-static LINES: [(&str, Wanted); 43] = [
+static LINES: [(&str, Wanted); 51] = [
     (
         "events",
         Wanted::Command(Verb::Events, "", "", false, false, false, 0),
@@ -110,6 +110,13 @@ static LINES: [(&str, Wanted); 43] = [
     ("fmt --write=a a", Wanted::Wrong),
     ("fmt --write --write a", Wanted::Wrong),
     ("fmt -w a", Wanted::Wrong),
+    ("fmt --without quoting a", Wanted::Wrong),
+    ("events --without quoting a", Wanted::Wrong),
+    ("check --without", Wanted::Wrong),
+    ("check --without= a", Wanted::Wrong),
+    ("check --without quoting, a", Wanted::Wrong),
+    ("check --without Quoting a", Wanted::Wrong),
+    ("check --without quoting --without quotin a", Wanted::Wrong),
     ("--help", Wanted::Help(OVERVIEW)),
     ("help", Wanted::Help(OVERVIEW)),
     (
@@ -125,6 +132,23 @@ Arguments:
 Options:
       --config <FILE>  Read the settings of the house style from this TOML file
   -h, --help           Print help
+",
+        ),
+    ),
+    (
+        "check --help",
+        Wanted::Help(
+            "Print where a YAML stream departs from the house style
+
+Usage: yamlfmt check [OPTIONS] [FILE]...
+
+Arguments:
+  [FILE]...  The streams to read, in place of standard input
+
+Options:
+      --config <FILE>    Read the settings of the house style from this TOML file
+      --without <RULES>  Leave out what these rules find, by their names with commas between
+  -h, --help             Print help
 ",
         ),
     ),

@@ -83,7 +83,7 @@ fn is_in_order(trial: Trial, reading: &Reading, src: &Src, read: &Read) -> bool 
         Ok(read) => {
             matches!(has_same_content(alloc, reading, read), Some(true))
                 && has_same_comments(reading, read)
-                && are_none_fixable(&check(alloc, rules, src, read, style))
+                && are_none_fixable(&check(alloc, rules, &[], src, read, style))
                 && is_fixed(&formatted(alloc, src.text(), style), src.text())
         }
         Err(_) => false,

@@ -1,3 +1,4 @@
+use Rattle.std.proofs.Common.{refl}
 use Rattle.yf_stream.proofs.HasReading.{well_formed_texts_have_readings}
 use Rattle.yf_stream.proofs.LawsHold.{read_texts_have_no_fault, readings_are_one}
 use Rattle.yf_standard.proofs.AcceptanceHolds.{faults_tell_of_the_standard, standard_streams_mean_one, standard_texts_are_read}
@@ -19,4 +20,5 @@ returns c = record {
   formatted = standard_texts_are_formatted;
   clean = formatted_texts_are_clean;
   listed = rules_are_listed;
+  asked = refl;
 }

@@ -1,0 +1,37 @@
+//! The names of rules, by which they are left out of a check.
+ghost use Rattle.std.specs.Prelude.{◌≡◌};
+ghost use Rattle.yf_rules.specs.AllRules.{rule_names};
+ghost use Rattle.yf_rules.specs.Asked.{is_among};
+
+use yf_lines::text::OwnedText;
+
+/// The names of all rules, in the order of their numbers. A new rule is a new line.
+pub const RULE_NAMES: [&str; 13] = [
+    "trailing-blanks",
+    "indentation",
+    "quoting",
+    "document-start",
+    "final-break",
+    "line-breaks",
+    "byte-order-mark",
+    "blank-lines",
+    "flow-layout",
+    "comment-space",
+    "line-length",
+    "repeated-keys",
+    "key-mark",
+];
+
+/// Whether a rule has this name.
+pub fn is_rule(name: &str) -> bool
+    ensures { result ≡ is_among rule_names name.now }
+{
+    RULE_NAMES.contains(&name)
+}
+
+/// Whether a name is one of these.
+pub fn is_among(names: &[OwnedText], id: &str) -> bool
+    ensures { result ≡ is_among names.now id.now }
+{
+    names.iter().any(|name| name.as_str() == id)
+}
