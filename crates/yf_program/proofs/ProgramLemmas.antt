@@ -52,11 +52,11 @@ module _ {B : Type 0} (bs : List B) (definition : B → RuleDefinition) where
   abbrev pub Others : Style → List (List ℕ) → Table → Lists → List Finding → Type 0
   Others style names src reading findings = Checked (λ rule found. RuleFindings (definition rule) src reading style found) (asked definition names bs) findings
 
-  pub checker_ran : {names left_out : List (List ℕ)} {style : Style} {verb : Verb} {diff check : Bool} {input : Option (List ℕ)} {status : ℕ}
+  pub checker_ran : (diff check : Bool) (input : Option (List ℕ)) {names left_out : List (List ℕ)} {style : Style} {verb : Verb} {status : ℕ}
       {known old new at to : Option (List ℕ)} {read_before read_after before after was is : Bool} → names ≡ left_out → verb ≡ Check
       → RanChecker (Others style names) style status known read_before read_after old new before after at to was is
       → RanBy (Others style left_out) style verb diff check input status known read_before read_after old new before after at to was is
-  checker_ran {left_out = left_out} {style = style} {diff = diff} {check = check} {input = input} {status = status} {known = known} {old = old} {new = new} {at = at} {to = to}
+  checker_ran diff check input {left_out = left_out} {style = style} {status = status} {known = known} {old = old} {new = new} {at = at} {to = to}
       {read_before = read_before} {read_after = read_after} {before = before} {after = after} {was = was} {is = is} same asked_for ran =
       let of_names = subst (λ (n : List (List ℕ)). RanChecker (Others style n) style status known read_before read_after old new before after at to was is) same ran in
       subst (λ (v : Verb). RanBy (Others style left_out) style v diff check input status known read_before read_after old new before after at to was is) (sym asked_for) of_names
