@@ -16,19 +16,19 @@ use Rattle.yf_program.specs.Named.{named_lines}
 use Rattle.yf_program.specs.Program.{Ran, RanBy}
 
 module _ {B : Type 0} (definition : B → RuleDefinition) (bs : List B) (are : Are definition bs all_rules) (style : Style) where
-  ran_by_all_rules : (without : List (List ℕ)) (verb : Verb) (diff check : Bool) (named : Option (List ℕ)) (status : ℕ) (known : Option (List ℕ)) (read_before read_after : Bool) (old new : Option (List ℕ)) (before after : Bool)
-      (at to : Option (List ℕ)) (was is : Bool) → RanBy (ByValues definition bs are style without) style verb diff check named status known read_before read_after old new before after at to was is
-      → RanBy (FoundWithout without style) style verb diff check named status known read_before read_after old new before after at to was is
-  ran_by_all_rules without Events diff check named status known read_before read_after old new before after at to was is r = r
-  ran_by_all_rules without Check diff check named status known read_before read_after old new before after at to was is (inl r) = inl (r.0, told_by_all definition bs are style without r.1, r.2, r.3, r.4)
-  ran_by_all_rules without Check diff check named status known read_before read_after old new before after at to was is (inr r) =
+  ran_by_all_rules : (without : List (List ℕ)) (verb : Verb) (explain diff check : Bool) (named : Option (List ℕ)) (status : ℕ) (known : Option (List ℕ)) (read_before read_after : Bool) (old new : Option (List ℕ)) (before after : Bool)
+      (at to : Option (List ℕ)) (was is : Bool) → RanBy (ByValues definition bs are style without) style verb explain diff check named status known read_before read_after old new before after at to was is
+      → RanBy (FoundWithout without style) style verb explain diff check named status known read_before read_after old new before after at to was is
+  ran_by_all_rules without Events explain diff check named status known read_before read_after old new before after at to was is r = r
+  ran_by_all_rules without Check explain diff check named status known read_before read_after old new before after at to was is (inl r) = inl (r.0, told_by_all definition bs are style without r.1, r.2, r.3, r.4)
+  ran_by_all_rules without Check explain diff check named status known read_before read_after old new before after at to was is (inr r) =
       inr (r.0, refused_by_all definition bs are style without known read_before read_after old new before after r.0 r.1, r.2)
-  ran_by_all_rules without Fmt diff check named status known read_before read_after old new before after at to was is r = r
+  ran_by_all_rules without Fmt explain diff check named status known read_before read_after old new before after at to was is r = r
 
   pub ran_by_all : (cmd : Cmd) (status : ℕ) (known : Option (List ℕ)) (read_before read_after : Bool) (old new : Option (List ℕ)) (before after : Bool)
       (at to : Option (List ℕ)) (was is : Bool) → Ran (ByValues definition bs are style cmd.without.items) style cmd status known read_before read_after old new before after at to was is
       → Ran (FoundWithout cmd.without.items style) style cmd status known read_before read_after old new before after at to was is
-  ran_by_all cmd status = ran_by_all_rules cmd.without.items cmd.verb cmd.diff cmd.check cmd.file status
+  ran_by_all cmd status = ran_by_all_rules cmd.without.items cmd.verb cmd.explain cmd.diff cmd.check cmd.file status
 
 module _ (tells : Type 0) (holds now : Input → Option (List ℕ)) (same : tells → (input : Input) → now input ≡ holds input) (cmd : Cmd) (style : Style) where
   over_before : (input : Input) (status : ℕ) (old new : Option (List ℕ)) (before after : Bool) (at to : Option (List ℕ)) (was is : Bool)
@@ -39,9 +39,11 @@ module _ (tells : Type 0) (holds now : Input → Option (List ℕ)) (same : tell
       → DoesFile tells now log opened Same Rewritten cmd name style status old new before after at to was is
       → DoesFile tells holds log opened Same Rewritten cmd name style status old new before after at to was is
   file_before Rewritten (inl written) = inl written
-  file_before Rewritten (inr (w, s, o, inl refused)) = inr (w, s, o, inl refused)
-  file_before Rewritten {name = name} {status = status} {old = old} {new = new} {before = before} {after = after} {at = at} {to = to} {was = was} {is = is} (inr (w, s, o, inr d)) =
-      inr (w, s, o, inr (over_before (Some name) status old new before after at to was is d))
+  file_before Rewritten {status = status} {old = old} {new = new} {before = before} {after = after} {at = at} {to = to} {was = was} {is = is} (inr (w, s, inl (i, o, d))) =
+      inr (w, s, inl (i, o, over_before None status old new before after at to was is d))
+  file_before Rewritten (inr (w, s, inr (i, o, inl refused))) = inr (w, s, inr (i, o, inl refused))
+  file_before Rewritten {name = name} {status = status} {old = old} {new = new} {before = before} {after = after} {at = at} {to = to} {was = was} {is = is} (inr (w, s, inr (i, o, inr d))) =
+      inr (w, s, inr (i, o, inr (over_before (Some name) status old new before after at to was is d)))
 
   pub named_before : {log opened : List Input} {Same : Type 0} (Rewritten : Rewriting) {name : List ℕ} {status : ℕ} {old new : Option (List ℕ)} {before after : Bool} {at to : Option (List ℕ)} {was is : Bool}
       → DoesNamed tells now log opened Same Rewritten cmd name style status old new before after at to was is

@@ -36,14 +36,14 @@ text_refused known before after text ReadFailed same gave within utf8 refuses = 
 text_refused known before after text WriteFailed same gave within utf8 refuses = absurd refuses
 
 -- a text that is its own formatting has no diff
-pub no_diff : {diff : Bool} {style : Style} {known old new : Option (List ℕ)} {read_before read_after before after : Bool} (check : Bool) (input at : Option (List ℕ)) (was : Bool)
+pub no_diff : {explain diff : Bool} {style : Style} {known old new : Option (List ℕ)} {read_before read_after before after : Bool} (check : Bool) (input at : Option (List ℕ)) (was : Bool)
     (name : List ℕ) (same : Bool) → diff ≡ true → name ≡ diff_name input → same ≡ true → Diffed style name known old new before after same
-    → (same ≡ true → IfSome known (IsClean style)) → read_after ≡ read_before → RanFormatter diff check input style 0 known read_before read_after old new before after at at was was
-no_diff {style = style} {known = known} {old = old} {new = new} {read_before = read_before} {read_after = read_after} {before = before} {after = after} check input at was
+    → (same ≡ true → IfSome known (IsClean style)) → read_after ≡ read_before → RanFormatter explain diff check input style 0 known read_before read_after old new before after at at was was
+no_diff {explain = explain} {style = style} {known = known} {old = old} {new = new} {read_before = read_before} {read_after = read_after} {before = before} {after = after} check input at was
     name same asked named is_same diffed clean read =
     let of_same = subst (λ (b : Bool). Diffed style name known old new before after b) is_same diffed in
     let of_input = subst (λ (t : List ℕ). Diffed style t known old new before after true) named of_same in
-    subst (λ (b : Bool). RanFormatter b check input style 0 known read_before read_after old new before after at at was was) (sym asked)
+    subst (λ (b : Bool). RanFormatter explain b check input style 0 known read_before read_after old new before after at at was was) (sym asked)
     (inl (true, of_input, λ _. clean is_same, read, refl, record { contents = refl; same = refl }))
 
 -- a check that was asked for, by the names that the command leaves out

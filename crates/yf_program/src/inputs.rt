@@ -2,8 +2,18 @@
 ghost use Rattle.std.specs.Prelude.{◌≡◌, ◌∷◌, ◌++◌, [], ℕ, List, Option, Some, None, false, IfOk, IfErr};
 ghost use Rattle.yf_lines.specs.declared.fault.Fault.TheVariants.{ReadFailed};
 
+use std::alloc::{AllocError, Global};
 use yf_lines::fault::Fault;
 use yf_lines::watched::Source;
+
+/// What a second look at a file gives.
+#[derive(Drop)]
+pub enum Again {
+    /// What it holds.
+    Bytes(Vec<u8>),
+    /// Why it can't be read, in words.
+    Words(String),
+}
 
 /// What a command reads: files by their names, and standard input.
 pub trait Inputs {
@@ -30,6 +40,9 @@ pub trait Inputs {
         ensures bytes { tells → IfOk result (λ file. Self.File.remaining file ≡ holds self.old (Some name.now)) }
         ensures works { IfOk result (λ file. Self.File.has_failed file ≡ false) }
         ensures fault { IfErr result (λ fault. fault ≡ ReadFailed) };
+
+    /// Looks at a file once more, to tell more of a fault of it. It counts for none that was opened.
+    fn read_again(&self, alloc: Global, name: &str) -> Result<Again, AllocError>;
 
     /// Gives standard input.
     fn open_standard(&mut self) -> Self::Standard
