@@ -5,7 +5,9 @@ ghost use Rattle.clap.specs.Words.{first_of, found_of, kind_of, rows_of, subcomm
 ghost use Rattle.yf_program.specs.CommandLine.{Answers, Asks, AsksFor, IsRefusal, Lacks, RefusesWords, all_given, is_set, is_standard_input, names_given, prints, verb_word};
 
 use crate::build::build_lines;
-use crate::commands::{CHECK, CONFIG, DIFF, EVENTS, EXPLAIN, FILE, FMT, WITHOUT, WRITE, yamlfmt_command};
+use crate::commands::{
+    CHECK, CONFIG, DIFF, EVENTS, EXPLAIN, FILE, FMT, WITHOUT, WRITE, yamlfmt_command,
+};
 use crate::shown::shown_text;
 use crate::without::{names_of, unknown_name, unknown_text};
 use clap::error::ErrorKind;

@@ -137,33 +137,84 @@ fn run_formatter<R: Source, W: Sink, E: Sink>(
         (W.contents writer.old) (W.contents writer.new) (W.has_failed writer.old) (W.has_failed writer.new)
         (E.contents error_stream.old) (E.contents error_stream.new) (E.has_failed error_stream.old) (E.has_failed error_stream.new) }
 {
-    let mut bytes = Vec::new(alloc);
     if command.diff {
-        return match run_fmt_diff(alloc, diff_name(command), reader, &mut bytes, writer, style) {
-            Ok(true) => GOOD,
-            Ok(false) => FINDINGS,
-            Err(fault) => report_input(
-                alloc,
-                command.explain,
-                bytes.as_slice(),
-                &fault,
-                error_stream,
-            ),
-        };
+        return run_differ(alloc, command, style, reader, writer, error_stream);
     }
     if command.check {
-        return match run_fmt_check(alloc, reader, &mut bytes, writer, style) {
-            Ok(true) => GOOD,
-            Ok(false) => FINDINGS,
-            Err(fault) => report_input(
-                alloc,
-                command.explain,
-                bytes.as_slice(),
-                &fault,
-                error_stream,
-            ),
-        };
+        return run_comparer(alloc, command, style, reader, writer, error_stream);
     }
+    run_writer(alloc, command, style, reader, writer, error_stream)
+}
+
+// Prints what formatting changes, and answers the status.
+fn run_differ<R: Source, W: Sink, E: Sink>(
+    alloc: Global,
+    command: &Cmd,
+    style: &Style,
+    reader: &mut R,
+    writer: &mut W,
+    error_stream: &mut E,
+) -> u8
+    ensures { RanFormatter command.now.explain true command.now.check command.now.file style.now result (R.remaining reader.old) (R.has_failed reader.old) (R.has_failed reader.new)
+        (W.contents writer.old) (W.contents writer.new) (W.has_failed writer.old) (W.has_failed writer.new)
+        (E.contents error_stream.old) (E.contents error_stream.new) (E.has_failed error_stream.old) (E.has_failed error_stream.new) }
+{
+    let mut bytes = Vec::new(alloc);
+    let name = diff_name(command);
+    match run_fmt_diff(alloc, name, reader, &mut bytes, writer, style) {
+        Ok(true) => GOOD,
+        Ok(false) => FINDINGS,
+        Err(fault) => report_input(
+            alloc,
+            command.explain,
+            bytes.as_slice(),
+            &fault,
+            error_stream,
+        ),
+    }
+}
+
+// Tells whether formatting is needed, and answers the status.
+fn run_comparer<R: Source, W: Sink, E: Sink>(
+    alloc: Global,
+    command: &Cmd,
+    style: &Style,
+    reader: &mut R,
+    writer: &mut W,
+    error_stream: &mut E,
+) -> u8
+    ensures { RanFormatter command.now.explain false true command.now.file style.now result (R.remaining reader.old) (R.has_failed reader.old) (R.has_failed reader.new)
+        (W.contents writer.old) (W.contents writer.new) (W.has_failed writer.old) (W.has_failed writer.new)
+        (E.contents error_stream.old) (E.contents error_stream.new) (E.has_failed error_stream.old) (E.has_failed error_stream.new) }
+{
+    let mut bytes = Vec::new(alloc);
+    match run_fmt_check(alloc, reader, &mut bytes, writer, style) {
+        Ok(true) => GOOD,
+        Ok(false) => FINDINGS,
+        Err(fault) => report_input(
+            alloc,
+            command.explain,
+            bytes.as_slice(),
+            &fault,
+            error_stream,
+        ),
+    }
+}
+
+// Formats, and answers the status.
+fn run_writer<R: Source, W: Sink, E: Sink>(
+    alloc: Global,
+    command: &Cmd,
+    style: &Style,
+    reader: &mut R,
+    writer: &mut W,
+    error_stream: &mut E,
+) -> u8
+    ensures { RanFormatter command.now.explain false false command.now.file style.now result (R.remaining reader.old) (R.has_failed reader.old) (R.has_failed reader.new)
+        (W.contents writer.old) (W.contents writer.new) (W.has_failed writer.old) (W.has_failed writer.new)
+        (E.contents error_stream.old) (E.contents error_stream.new) (E.has_failed error_stream.old) (E.has_failed error_stream.new) }
+{
+    let mut bytes = Vec::new(alloc);
     match run_fmt(alloc, reader, &mut bytes, writer, style) {
         Ok(()) => GOOD,
         Err(fault) => report_input(
