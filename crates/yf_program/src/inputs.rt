@@ -44,9 +44,11 @@ pub trait Inputs {
     /// Looks at a file once more, to tell more of a fault of it. It counts for none that was opened.
     fn read_again(&self, alloc: Global, name: &str) -> Result<Again, AllocError>;
 
-    /// Gives standard input.
+    /// Gives standard input. Where the type tells what it holds, that is the same each time; at the system's own, which is read once, nothing
+    /// is claimed of it.
     fn open_standard(&mut self) -> Self::Standard
         ensures opened { tells → opened self.new ≡ opened self.old ++ None ∷ [] }
+        ensures same { tells → (input : Option (List ℕ)) → holds self.new input ≡ holds self.old input }
         ensures bytes { tells → Self.Standard.remaining result ≡ holds self.old None }
         ensures works { Self.Standard.has_failed result ≡ false };
 }

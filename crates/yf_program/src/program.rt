@@ -1,5 +1,5 @@
 //! What the program does for a command line, over any reader, any writer and any stream for its faults.
-ghost use Rattle.std.specs.Prelude.{◌≡◌, MatchResult};
+ghost use Rattle.std.specs.Prelude.{◌≡◌, false, true, MatchResult};
 ghost use Rattle.yf_lines.specs.Output.{Writes};
 ghost use Rattle.yf_rules.specs.Asked.{asked};
 ghost use Rattle.yf_rules.specs.Check.{Checked, RuleFindings};
