@@ -150,7 +150,7 @@ Options:
 Usage: yamlfmt check [OPTIONS] [FILE]...
 
 Arguments:
-  [FILE]...  The streams to read, in place of standard input
+  [FILE]...  The streams to read, in place of standard input, which '-' is too
 
 Options:
       --config <FILE>    Read the settings of the house style from this TOML file

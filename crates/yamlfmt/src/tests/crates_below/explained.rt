@@ -126,7 +126,7 @@ fn hides(alloc: Global, c: char) -> bool {
 #[test]
 fn hides_what_moves_or_turns(rt: HostRuntime) {
     for (first, last) in &HIDDEN {
-        for c in *first..=*last {
+        for c in (*first..=*last).into_iter() {
             assert!(rt; hides(rt.alloc(), c), "{:X}", u32::from(c));
         }
     }
