@@ -43,6 +43,12 @@ def of_a_file():
     return [text for text in own if text not in ('a word', '') and not text.startswith('$(')]
 
 
+def explanations():
+    """What `--explain` tells after a line, which is no fault of its own."""
+    return ('  a `,` or the closing bracket expected', '  | a:1:2 b', '  | x: read failed', '  | x: left alone: y', '  |     ^', '  opened at 2:4',
+            '  3:4: the byte xE9 is no UTF-8 here', '  2:8 comment-space: fmt writes two spaces before it', '  a.yaml: No such file or directory (os error 2)')
+
+
 def of_hooks():
     for text in said('refuse ', '/hooks/each_file'):
         yield 'each_file: ' + text
@@ -76,6 +82,8 @@ def rows():
                 yield '%s:%s' % (file, text), [('yamlfmt', file, *place.groups())]
             else:
                 yield '%s: %s' % (file, text), [('yamlfmt-file', file, None, None, text)]
+        for text in explanations():
+            yield '%s: %s' % (file, text), []
         line = file + ': left alone: looks like a template'
         yield line, [('yamlfmt-left', file, None, None, line)]
     for line in ('each_file: symbolic links are left alone: a.yaml', 'each_file: symbolic links are left alone: a.yaml and 3 more'):

@@ -6,19 +6,23 @@ ghost use Rattle.std.specs.Prelude.{[], None};
 #[cfg(test)]
 mod tests;
 
-use std::alloc::AllocError;
-use std::fs::File;
+use std::alloc::{AllocError, Global};
+use std::cell::Cell;
+use std::fs::{File, OpenFile};
 use std::io::{BufWriter, Input};
 use std::process::ExitCode;
-use std::{env, io};
+use std::{env, fs, io};
 use yf_lines::fault::Fault;
 use yf_lines::watched::{Sink, Watched};
 use yf_program::answer::answer;
 use yf_program::files::open;
-use yf_program::inputs::Inputs;
+use yf_program::inputs::{Again, Inputs};
+use yf_program::left::{LEFT, Noting, Silenced};
 use yf_program::replacing::SystemFiles;
 use yf_program::report::report;
+use yf_rules::input::read_all;
 use yf_rules::rule::Rule;
+use yf_rules::run::INPUT_LIMIT;
 use yf_rules::with_rules::{WithRules, with_all_rules};
 
 /// The status for a command line that cannot be read.
@@ -28,9 +32,13 @@ const UNREADABLE: u8 = 3;
 const HELD_BACK: usize = 65_536;
 
 fn main(rt: HostRuntime) -> ExitCode {
-    let mut error_stream = Watched::new(rt.stderr());
+    let has_left = Cell::new(false);
+    let mut error_stream = Watched::new(Silenced {
+        inner: rt.stderr(),
+        has_left: &has_left,
+    });
     let status = match words_given(&rt) {
-        Ok(words) => answer_words(&rt, words.as_slice(), &mut error_stream),
+        Ok(words) => answer_words(&rt, words.as_slice(), &has_left, &mut error_stream),
         Err(error) if error.kind() == io::ErrorKind::OutOfMemory => {
             report(&Fault::Memory, &mut error_stream)
         }
@@ -39,6 +47,9 @@ fn main(rt: HostRuntime) -> ExitCode {
             UNREADABLE
         }
     };
+    if has_left.get() {
+        return ExitCode::from(LEFT);
+    }
     ExitCode::from(status)
 }
 
@@ -50,10 +61,16 @@ fn words_given(rt: &HostRuntime) -> io::Result<Vec<String>> {
 }
 
 /// Does what the words ask for, over the system's files and streams, and answers the status.
-fn answer_words<E: Sink>(rt: &HostRuntime, words: &[String], error_stream: &mut E) -> u8 {
+fn answer_words<E: Sink>(
+    rt: &HostRuntime,
+    words: &[String],
+    has_left: &Cell<bool>,
+    error_stream: &mut E,
+) -> u8 {
     let mut given = Words {
         rt,
         words,
+        has_left,
         error_stream,
     };
     match with_all_rules(rt.alloc(), &mut given) {
@@ -62,11 +79,12 @@ fn answer_words<E: Sink>(rt: &HostRuntime, words: &[String], error_stream: &mut 
     }
 }
 
-/// The words of the command line, and the stream for faults.
+/// The words of the command line, the note that the reader of standard output has left, and the stream for faults.
 #[derive(Drop)]
 struct Words<'a, E: Sink> {
     rt: &'a HostRuntime,
     words: &'a [String],
+    has_left: &'a Cell<bool>,
     error_stream: &'a mut E,
 }
 
@@ -76,7 +94,11 @@ impl<E: Sink> WithRules for Words<'_, E> {
     /// Answers the words, and gives the status.
     fn with_rules(&mut self, rules: &[Box<dyn Rule>]) -> u8 {
         let alloc = self.rt.alloc();
-        match BufWriter::with_capacity(alloc, HELD_BACK, self.rt.stdout()) {
+        let output = Noting {
+            inner: self.rt.stdout(),
+            has_left: self.has_left,
+        };
+        match BufWriter::with_capacity(alloc, HELD_BACK, output) {
             Ok(output) => answer(
                 alloc,
                 self.words,
@@ -89,6 +111,21 @@ impl<E: Sink> WithRules for Words<'_, E> {
             Err(_) => report(&Fault::Memory, self.error_stream),
         }
     }
+}
+
+/// What is said of a file that can be opened, and not read, or not all of it.
+const UNREAD: &str = "a read of it failed, or it has more than 1 GiB";
+
+/// Opens a file for a second look, if it is a regular one: no other can be read twice.
+fn looked_at(rt: &HostRuntime, name: &str) -> io::Result<File> {
+    let metadata = fs::metadata(rt, name)?;
+    if metadata.is_dir() {
+        return Err(io::Error::from(io::ErrorKind::IsADirectory));
+    }
+    if !metadata.is_file() {
+        return Err(io::Error::from(io::ErrorKind::Unsupported));
+    }
+    File::open(rt, name)
 }
 
 /// The files and the standard input of the system.
@@ -110,8 +147,21 @@ impl Inputs for System<'_> {
 
     fn open_file(&mut self, name: &str) -> Result<Watched<File>, Fault> {
         match open(self.rt, name) {
-            Ok(file) => Ok(Watched::new(file)),
+            Ok(file) => match file.metadata() {
+                Ok(metadata) if metadata.is_dir() => Err(Fault::ReadFailed),
+                _ => Ok(Watched::new(file)),
+            },
             Err(fault) => Err(fault),
+        }
+    }
+
+    fn read_again(&self, alloc: Global, name: &str) -> Result<Again, AllocError> {
+        match looked_at(self.rt, name) {
+            Ok(file) => match read_all(alloc, &mut Watched::new(file), INPUT_LIMIT) {
+                Ok(bytes) => Ok(Again::Bytes(bytes)),
+                Err(_) => Ok(Again::Words(String::from_str(alloc, UNREAD)?)),
+            },
+            Err(error) => Ok(Again::Words(format!(in alloc; "{error}")?)),
         }
     }
 

@@ -16,37 +16,39 @@ use Rattle.yf_program.specs.Named.{named_lines}
 use Rattle.yf_program.specs.Program.{Ran, RanBy}
 
 module _ {B : Type 0} (definition : B → RuleDefinition) (bs : List B) (are : Are definition bs all_rules) (style : Style) where
-  ran_by_all_rules : (without : List (List ℕ)) (verb : Verb) (diff check : Bool) (named : Option (List ℕ)) (status : ℕ) (known : Option (List ℕ)) (read_before read_after : Bool) (old new : Option (List ℕ)) (before after : Bool)
-      (at to : Option (List ℕ)) (was is : Bool) → RanBy (ByValues definition bs are style without) style verb diff check named status known read_before read_after old new before after at to was is
-      → RanBy (FoundWithout without style) style verb diff check named status known read_before read_after old new before after at to was is
-  ran_by_all_rules without Events diff check named status known read_before read_after old new before after at to was is r = r
-  ran_by_all_rules without Check diff check named status known read_before read_after old new before after at to was is (inl r) = inl (r.0, told_by_all definition bs are style without r.1, r.2, r.3, r.4)
-  ran_by_all_rules without Check diff check named status known read_before read_after old new before after at to was is (inr r) =
+  ran_by_all_rules : (without : List (List ℕ)) (verb : Verb) (explain diff check : Bool) (named : Option (List ℕ)) (status : ℕ) (known : Option (List ℕ)) (read_before read_after : Bool) (old new : Option (List ℕ)) (before after : Bool)
+      (at to : Option (List ℕ)) (was is : Bool) → RanBy (ByValues definition bs are style without) style verb explain diff check named status known read_before read_after old new before after at to was is
+      → RanBy (FoundWithout without style) style verb explain diff check named status known read_before read_after old new before after at to was is
+  ran_by_all_rules without Events explain diff check named status known read_before read_after old new before after at to was is r = r
+  ran_by_all_rules without Check explain diff check named status known read_before read_after old new before after at to was is (inl r) = inl (r.0, told_by_all definition bs are style without r.1, r.2, r.3, r.4)
+  ran_by_all_rules without Check explain diff check named status known read_before read_after old new before after at to was is (inr r) =
       inr (r.0, refused_by_all definition bs are style without known read_before read_after old new before after r.0 r.1, r.2)
-  ran_by_all_rules without Fmt diff check named status known read_before read_after old new before after at to was is r = r
+  ran_by_all_rules without Fmt explain diff check named status known read_before read_after old new before after at to was is r = r
 
   pub ran_by_all : (cmd : Cmd) (status : ℕ) (known : Option (List ℕ)) (read_before read_after : Bool) (old new : Option (List ℕ)) (before after : Bool)
       (at to : Option (List ℕ)) (was is : Bool) → Ran (ByValues definition bs are style cmd.without.items) style cmd status known read_before read_after old new before after at to was is
       → Ran (FoundWithout cmd.without.items style) style cmd status known read_before read_after old new before after at to was is
-  ran_by_all cmd status = ran_by_all_rules cmd.without.items cmd.verb cmd.diff cmd.check cmd.file status
+  ran_by_all cmd status = ran_by_all_rules cmd.without.items cmd.verb cmd.explain cmd.diff cmd.check cmd.file status
 
 module _ (tells : Type 0) (holds now : Input → Option (List ℕ)) (same : tells → (input : Input) → now input ≡ holds input) (cmd : Cmd) (style : Style) where
   over_before : (input : Input) (status : ℕ) (old new : Option (List ℕ)) (before after : Bool) (at to : Option (List ℕ)) (was is : Bool)
       → DoesOver tells now input cmd style status old new before after at to was is → DoesOver tells holds input cmd style status old new before after at to was is
   over_before input status old new before after at to was is d = (d.0, d.1, λ told. d.2 told ∙ same told input, d.3)
 
-  file_before : {log opened : List Input} {Same : Type 0} (Rewritten : Rewriting) {name : List ℕ} {status : ℕ} {old new : Option (List ℕ)} {before after : Bool} {at to : Option (List ℕ)} {was is : Bool}
+  file_before : {log opened : List Input} {Same : Type 0} (Rewritten : Rewriting) {name : List ℕ} {status : ℕ} {old new : Option (List ℕ)} {before after : Bool} {at : Option (List ℕ)} {was : Bool} (to : Option (List ℕ)) (is : Bool)
       → DoesFile tells now log opened Same Rewritten cmd name style status old new before after at to was is
       → DoesFile tells holds log opened Same Rewritten cmd name style status old new before after at to was is
-  file_before Rewritten (inl written) = inl written
-  file_before Rewritten (inr (w, s, o, inl refused)) = inr (w, s, o, inl refused)
-  file_before Rewritten {name = name} {status = status} {old = old} {new = new} {before = before} {after = after} {at = at} {to = to} {was = was} {is = is} (inr (w, s, o, inr d)) =
-      inr (w, s, o, inr (over_before (Some name) status old new before after at to was is d))
+  file_before Rewritten to is (inl written) = inl written
+  file_before Rewritten {status = status} {old = old} {new = new} {before = before} {after = after} {at = at} {was = was} to is (inr (w, s, inl (i, o, d))) =
+      inr (w, s, inl (i, o, over_before None status old new before after at to was is d))
+  file_before Rewritten to is (inr (w, s, inr (i, o, inl refused))) = inr (w, s, inr (i, o, inl refused))
+  file_before Rewritten {name = name} {status = status} {old = old} {new = new} {before = before} {after = after} {at = at} {was = was} to is (inr (w, s, inr (i, o, inr d))) =
+      inr (w, s, inr (i, o, inr (over_before (Some name) status old new before after at to was is d)))
 
   pub named_before : {log opened : List Input} {Same : Type 0} (Rewritten : Rewriting) {name : List ℕ} {status : ℕ} {old new : Option (List ℕ)} {before after : Bool} {at to : Option (List ℕ)} {was is : Bool}
       → DoesNamed tells now log opened Same Rewritten cmd name style status old new before after at to was is
       → DoesNamed tells holds log opened Same Rewritten cmd name style status old new before after at to was is
-  named_before Rewritten d = (d.0, d.1, d.2, d.3, d.4, file_before Rewritten d.5, d.6)
+  named_before Rewritten d = (d.0, d.1, d.2, d.3, d.4, file_before Rewritten (Some d.2) d.4 d.5, d.6)
 
   each_before : {F : Type 0} {Rewrites : F → F → Rewriting} {log : List Input} {first : F} {old : Option (List ℕ)} {before : Bool} {at : Option (List ℕ)} {was : Bool}
       {names : List (List ℕ)} {status : ℕ} {opened : List Input} {last : F} {new : Option (List ℕ)} {after : Bool} {to : Option (List ℕ)} {is : Bool}
@@ -62,18 +64,18 @@ module _ (tells : Type 0) (holds now : Input → Option (List ℕ)) (same : tell
       → DoesIn tells holds log opened first last Rewrites cmd style status old new before after at to was is
   does_in_before {status = status} {old = old} {new = new} {before = before} {after = after} {at = at} {to = to} {was = was} {is = is} (inl (f, s, o, d)) =
       inl (f, s, o, over_before None status old new before after at to was is d)
-  does_in_before {Rewrites = Rewrites} {first = first} {last = last} (inr (name, f, inl (none, d))) = inr (name, f, inl (none, file_before (Rewrites first last) d))
+  does_in_before {Rewrites = Rewrites} {first = first} {last = last} {to = to} {is = is} (inr (name, f, inl (none, d))) = inr (name, f, inl (none, file_before (Rewrites first last) to is d))
   does_in_before (inr (name, f, inr (some, d))) = inr (name, f, inr (some, each_before d))
 
 -- what was done over one file as if it were alone, and told
 pub named_told : {tells : Type 0} (holds : Input → Option (List ℕ)) {log opened : List Input} {Same : Type 0} (Rewritten : Rewriting) (cmd : Cmd) {name : List ℕ} {style : Style}
-    {run status : ℕ} {output faults : List ℕ} {broken deaf : Bool} {old new : Option (List ℕ)} {before after : Bool} {at to : Option (List ℕ)} {was is : Bool}
-    (written heard said answered : List ℕ) (failed deafened : Bool) → written ≡ [] → heard ≡ [] → failed ≡ false → deafened ≡ false → said ≡ output → answered ≡ faults
+    {run status : ℕ} {output faults : List ℕ} {broken : Bool} {old new : Option (List ℕ)} {before after : Bool} {at to : Option (List ℕ)} {was is : Bool}
+    (written heard said answered : List ℕ) (failed deafened deaf : Bool) → written ≡ [] → heard ≡ [] → failed ≡ false → deafened ≡ false → said ≡ output → answered ≡ faults
     → DoesFile tells holds log opened Same Rewritten cmd name style run (Some written) (Some output) failed broken (Some heard) (Some faults) deafened deaf
     → ToldNamed run status (named_lines name said) (named_lines name answered) old new before after at to was is
     → DoesNamed tells holds log opened Same Rewritten cmd name style status old new before after at to was is
-named_told {tells} holds {log} {opened} {Same} Rewritten cmd {name} {style} {run} {status} {output} {faults} {broken} {deaf} {old} {new} {before} {after} {at} {to} {was} {is}
-    written heard said answered failed deafened w h f d s a does told =
+named_told {tells} holds {log} {opened} {Same} Rewritten cmd {name} {style} {run} {status} {output} {faults} {broken} {old} {new} {before} {after} {at} {to} {was} {is}
+    written heard said answered failed deafened deaf w h f d s a does told =
     let with_output = subst (λ (t : List ℕ). DoesFile tells holds log opened Same Rewritten cmd name style run (Some t) (Some output) failed broken (Some heard) (Some faults) deafened deaf) w does in
     let with_faults = subst (λ (t : List ℕ). DoesFile tells holds log opened Same Rewritten cmd name style run (Some []) (Some output) failed broken (Some t) (Some faults) deafened deaf) h with_output in
     let working = subst (λ (b : Bool). DoesFile tells holds log opened Same Rewritten cmd name style run (Some []) (Some output) b broken (Some []) (Some faults) deafened deaf) f with_faults in

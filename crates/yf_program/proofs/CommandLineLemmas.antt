@@ -1,9 +1,9 @@
 -- The program's command is one of those whose matches the library gives exactly.
-use Rattle.std.proofs.Common.{◌≡◌, ◌⊎◌, ◌∙◌, ◌++◌, ◌+◌, ◌<◌, ℕ, true, List, [], ◌∷◌, Result, Ok, Err, MatchResult, refl, ap, sym, subst, codes, inl, inr, length, drop, get_or, map, add-one, drop-cons}
+use Rattle.std.proofs.Common.{◌≡◌, ◌⊎◌, ◌∙◌, ◌++◌, ◌+◌, ◌<◌, ◌≤◌, ℕ, Bool, true, false, List, [], ◌∷◌, Result, Ok, Err, MatchResult, refl, ap, sym, subst, codes, inl, inr, length, drop, get_or, map, add-one, drop-cons}
 use Rattle.std.proofs.Math.ListN.{get_or-map}
-use Rattle.std.proofs.lemmas.List.{append_assoc, length-map}
+use Rattle.std.proofs.lemmas.List.{append_assoc, drop_all, length-map}
 use Rattle.std.specs.Borrow.{Bor}
-use Rattle.std.specs.List.{flat_map}
+use Rattle.std.specs.List.{flat_map, list_any}
 use Rattle.clap.specs.Words.{Text, fault_of, is_simple, is_simple_and_free, subcommand_of, IsAmong}
 use Rattle.clap.specs.declared.error.kind.ErrorKind.{ErrorKind}
 use Rattle.clap.specs.declared.error.kind.ErrorKind.TheVariants.{DisplayVersion, OutOfMemory}
@@ -58,6 +58,23 @@ next_word words k d word within same =
     let at : get_or all k d.now ≡ word = get_or-map (λ (w : Bor (List ℕ)). w.now) words k d ∙ sym same in
     let cut : drop k all ≡ get_or all k d.now ∷ drop (k + 1) all = rw add-one (drop-cons all k d.now inside) in
     cut ∙ ap (λ x. x ∷ drop (k + 1) all) at
+
+-- a test of the words from one on, where that one passes it, and where it doesn't
+module _ (test : List ℕ → Bool) (words : List (Bor (List ℕ))) (k : ℕ) (d : Bor (List ℕ)) (within : k < length words) where
+  pub word_met : test (get_or words k d).now ≡ true → list_any test (drop k (map (λ w. w.now) words)) ≡ list_any test (map (λ w. w.now) words)
+      → true ≡ list_any test (map (λ w. w.now) words)
+  word_met met left = sym (sym left ∙ (ap (list_any test) (next_word words k d (get_or words k d).now within refl) ∙ rw met refl))
+
+  pub word_passed : test (get_or words k d).now ≡ false → list_any test (drop k (map (λ w. w.now) words)) ≡ list_any test (map (λ w. w.now) words)
+      → list_any test (drop (k + 1) (map (λ w. w.now) words)) ≡ list_any test (map (λ w. w.now) words)
+  word_passed passed left = sym (ap (list_any test) (next_word words k d (get_or words k d).now within refl) ∙ rw passed refl) ∙ left
+
+pub no_word_met : (test : List ℕ → Bool) (words : List (Bor (List ℕ))) (k : ℕ) → length words ≤ k
+    → list_any test (drop k (map (λ w. w.now) words)) ≡ list_any test (map (λ w. w.now) words) → false ≡ list_any test (map (λ w. w.now) words)
+no_word_met test words k past left =
+    let all : List (List ℕ) = map (λ (w : Bor (List ℕ)). w.now) words in
+    let ends : length all ≤ k = subst (λ n. n ≤ k) (sym (length-map words (λ (w : Bor (List ℕ)). w.now))) past in
+    sym (ap (list_any test) (drop_all k all ends)) ∙ left
 
 -- one more of the words is copied
 pub one_more_text : (words : List (Bor (List ℕ))) (k : ℕ) (d : Bor (List ℕ)) (texts more whole : List (List ℕ)) (text : List ℕ) → k < length words

@@ -11,3 +11,5 @@ pub mod ShownLemmas
 pub mod AnswerLemmas
 -- `rewrite`
 pub mod FilesLemmas
+-- `report_input`, `tell_file`, `tell_findings`
+pub mod FurtherLemmas

@@ -36,15 +36,13 @@ text_refused known before after text ReadFailed same gave within utf8 refuses = 
 text_refused known before after text WriteFailed same gave within utf8 refuses = absurd refuses
 
 -- a text that is its own formatting has no diff
-pub no_diff : {diff : Bool} {style : Style} {known old new : Option (List ℕ)} {read_before read_after before after : Bool} (check : Bool) (input at : Option (List ℕ)) (was : Bool)
-    (name : List ℕ) (same : Bool) → diff ≡ true → name ≡ diff_name input → same ≡ true → Diffed style name known old new before after same
-    → (same ≡ true → IfSome known (IsClean style)) → read_after ≡ read_before → RanFormatter diff check input style 0 known read_before read_after old new before after at at was was
-no_diff {style = style} {known = known} {old = old} {new = new} {read_before = read_before} {read_after = read_after} {before = before} {after = after} check input at was
-    name same asked named is_same diffed clean read =
+pub no_diff : {style : Style} {known old new : Option (List ℕ)} {read_before read_after before after : Bool} (explain check : Bool) (input at : Option (List ℕ)) (was : Bool)
+    (name : List ℕ) (same : Bool) → name ≡ diff_name input → same ≡ true → Diffed style name known old new before after same
+    → (same ≡ true → IfSome known (IsClean style)) → read_after ≡ read_before → RanFormatter explain true check input style 0 known read_before read_after old new before after at at was was
+no_diff {style = style} {known = known} {old = old} {new = new} {before = before} {after = after} explain check input at was name same named is_same diffed clean read =
     let of_same = subst (λ (b : Bool). Diffed style name known old new before after b) is_same diffed in
     let of_input = subst (λ (t : List ℕ). Diffed style t known old new before after true) named of_same in
-    subst (λ (b : Bool). RanFormatter b check input style 0 known read_before read_after old new before after at at was was) (sym asked)
-    (inl (true, of_input, λ _. clean is_same, read, refl, record { contents = refl; same = refl }))
+    inl (true, of_input, λ _. clean is_same, read, refl, record { contents = refl; same = refl })
 
 -- a check that was asked for, by the names that the command leaves out
 module _ {B : Type 0} (bs : List B) (definition : B → RuleDefinition) where
@@ -52,11 +50,11 @@ module _ {B : Type 0} (bs : List B) (definition : B → RuleDefinition) where
   abbrev pub Others : Style → List (List ℕ) → Table → Lists → List Finding → Type 0
   Others style names src reading findings = Checked (λ rule found. RuleFindings (definition rule) src reading style found) (asked definition names bs) findings
 
-  pub checker_ran : (diff check : Bool) (input : Option (List ℕ)) {names left_out : List (List ℕ)} {style : Style} {verb : Verb} {status : ℕ}
-      {known old new at to : Option (List ℕ)} {read_before read_after before after was is : Bool} → names ≡ left_out → verb ≡ Check
-      → RanChecker (Others style names) style status known read_before read_after old new before after at to was is
-      → RanBy (Others style left_out) style verb diff check input status known read_before read_after old new before after at to was is
-  checker_ran diff check input {left_out = left_out} {style = style} {status = status} {known = known} {old = old} {new = new} {at = at} {to = to}
-      {read_before = read_before} {read_after = read_after} {before = before} {after = after} {was = was} {is = is} same asked_for ran =
-      let of_names = subst (λ (n : List (List ℕ)). RanChecker (Others style n) style status known read_before read_after old new before after at to was is) same ran in
-      subst (λ (v : Verb). RanBy (Others style left_out) style v diff check input status known read_before read_after old new before after at to was is) (sym asked_for) of_names
+  pub checker_ran : {names left_out : List (List ℕ)} {style : Style} {verb : Verb} (explain diff check : Bool) (input : Option (List ℕ)) {status : ℕ}
+      {known old new at : Option (List ℕ)} (to : Option (List ℕ)) {read_before read_after before after was : Bool} (is : Bool) → names ≡ left_out → verb ≡ Check
+      → RanChecker (Others style names) style explain status known read_before read_after old new before after at to was is
+      → RanBy (Others style left_out) style verb explain diff check input status known read_before read_after old new before after at to was is
+  checker_ran {left_out = left_out} {style = style} explain diff check input {status = status} {known = known} {old = old} {new = new} {at = at} to
+      {read_before = read_before} {read_after = read_after} {before = before} {after = after} {was = was} is same asked_for ran =
+      let of_names = subst (λ (n : List (List ℕ)). RanChecker (Others style n) style explain status known read_before read_after old new before after at to was is) same ran in
+      subst (λ (v : Verb). RanBy (Others style left_out) style v explain diff check input status known read_before read_after old new before after at to was is) (sym asked_for) of_names

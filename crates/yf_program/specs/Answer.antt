@@ -14,9 +14,9 @@ use Rattle.yf_lines.specs.Output.{Broke, Wrote}
 use Rattle.yf_rules.specs.Run.{Untouched}
 use Rattle.yf_program.specs.declared.command_line.Cmd.{Cmd}
 use Rattle.yf_program.specs.declared.command_line.Usage.{Usage}
-use Rattle.yf_program.specs.CommandLine.{AsksFor, RefusesWords}
+use Rattle.yf_program.specs.CommandLine.{AsksFor, RefusesWords, is_standard_input}
 use Rattle.yf_program.specs.Named.{named_lines}
-use Rattle.yf_program.specs.Program.{Answered, EndsBy, FileRefused, FileSets, Ran, Reached, WrittenOut}
+use Rattle.yf_program.specs.Program.{Answered, AnyLines, EndsBy, EndsTold, FileRefused, FileSets, Ran, Reached, TellsMore, WrittenOut}
 
 -- an input: a file by its name, or standard input
 abbrev pub Input : Type 0
@@ -65,18 +65,26 @@ DoesOver tells holds input cmd style status old new before after at to was is =
     × Ran (FoundWithout cmd.without.items style) style cmd status known false failed old new before after at to was is
 
 -- a file can't be opened, and so can't be read; or a command is done over it
-abbrev pub OpensFile : Type 0 → (Input → Option (List ℕ)) → Cmd → List ℕ → Style → ℕ → Option (List ℕ) → Option (List ℕ) → Bool → Bool
+abbrev pub DoesOpened : Type 0 → (Input → Option (List ℕ)) → Cmd → List ℕ → Style → ℕ → Option (List ℕ) → Option (List ℕ) → Bool → Bool
     → Option (List ℕ) → Option (List ℕ) → Bool → Bool → Type 0
-OpensFile tells holds cmd name style status old new before after at to was is =
-    (Untouched old new before after × EndsBy fault.ReadFailed status at to was is)
+DoesOpened tells holds cmd name style status old new before after at to was is =
+    (Untouched old new before after × EndsTold cmd.explain AnyLines fault.ReadFailed status at to was is)
     ⊎ DoesOver tells holds (Some name) cmd style status old new before after at to was is
 
--- a command is done over a file: the file is rewritten where the command asks for that, and else it is opened
+-- the word in the place of a file is that for standard input, and a command is done over that; or it names a file, which is opened
+abbrev pub DoesInput : Type 0 → (Input → Option (List ℕ)) → List Input → List Input → Cmd → List ℕ → Style → ℕ
+    → Option (List ℕ) → Option (List ℕ) → Bool → Bool → Option (List ℕ) → Option (List ℕ) → Bool → Bool → Type 0
+DoesInput tells holds log opened cmd name style status old new before after at to was is =
+    ((is_standard_input name ≡ true) × Opens tells log opened (None ∷ []) × DoesOver tells holds None cmd style status old new before after at to was is)
+    ⊎ ((is_standard_input name ≡ false) × Opens tells log opened (Some name ∷ []) × DoesOpened tells holds cmd name style status old new before after at to was is)
+
+-- a command is done over a file: the file is rewritten where the command asks for that, and else it is opened, or standard input
 abbrev pub DoesFile : Type 0 → (Input → Option (List ℕ)) → List Input → List Input → Type 0 → Rewriting → Cmd → List ℕ → Style → ℕ
     → Option (List ℕ) → Option (List ℕ) → Bool → Bool → Option (List ℕ) → Option (List ℕ) → Bool → Bool → Type 0
 DoesFile tells holds log opened Same Rewritten cmd name style status old new before after at to was is =
-    ((cmd.write ≡ true) × (tells → opened ≡ log) × Untouched old new before after × Rewritten name style status at to was is)
-    ⊎ ((cmd.write ≡ false) × Same × Opens tells log opened (Some name ∷ []) × OpensFile tells holds cmd name style status old new before after at to was is)
+    ((cmd.write ≡ true) × (tells → opened ≡ log) × Untouched old new before after
+    × (told : Option (List ℕ)) × (deaf : Bool) × Rewritten name style status at told was deaf × TellsMore cmd.explain AnyLines told to deaf is)
+    ⊎ ((cmd.write ≡ false) × Same × DoesInput tells holds log opened cmd name style status old new before after at to was is)
 
 -- Both texts are told on the two streams, and the status is that of the run; or the writer fails, or there is no memory to tell them, which is told.
 -- (run: the status of what is told; output, faults: the two texts)
@@ -122,7 +130,7 @@ abbrev pub Does : {F : Type 0} → Type 0 → (Input → Option (List ℕ)) → 
     → Option (List ℕ) → Option (List ℕ) → Bool → Bool → Type 0
 Does tells holds log opened first last Rewrites cmd status old new before after at to was is =
     ((f : Fault) × Unset tells holds cmd.config f × (last ≡ first) × Opens tells log opened (settings_of cmd.config) × Untouched old new before after
-    × EndsBy f status at to was is)
+    × EndsTold cmd.explain AnyLines f status at to was is)
     ⊎ ((style : Style) × (between : List Input) × Sets tells holds cmd.config style × Opens tells log between (settings_of cmd.config)
     × DoesIn tells holds between opened first last Rewrites cmd style status old new before after at to was is)
 

@@ -2,6 +2,7 @@
 -- options is the command-line library's definition of a parse.
 use Rattle.std.specs.Prelude.{◌≡◌, ◌≢◌, ◌⊎◌, ⊤, Bool, true, false, not, ◌&&◌, ◌||◌, List, [], drop, unwrap_or, Option, Some, None, IsSome, codes, MatchOption, IsSomeAnd}
 use Rattle.std.specs.Str.{bytes_eq}
+use Rattle.std.specs.List.{list_any}
 use Rattle.clap.specs.Words.{app_of, rule_of, App, Row, Rule, Shape, Text, all_of, first_of, new_app, new_rule, subcommand_of, with_rule, with_subcommand, IsAmong, fault_of}
 use Rattle.clap.specs.Simple.{on_top}
 use Rattle.clap.specs.declared.builder.arg.Arg.{Arg}
@@ -20,6 +21,10 @@ use Rattle.yf_program.specs.declared.command_line.Verb.TheVariants.{Events, Chec
 -- `--config FILE`
 abbrev pub config_option : Rule
 config_option = record (new_rule (codes "config")) { long = Some (codes "config"); value_names = 1 }
+
+-- `--explain`
+abbrev pub explain_flag : Rule
+explain_flag = record (new_rule (codes "explain")) { long = Some (codes "explain"); action = Some SetTrue }
 
 -- `--write`
 abbrev pub write_flag : Rule
@@ -45,17 +50,21 @@ file_word = record (new_rule (codes "file")) { value_names = 1 }
 abbrev pub file_words : Rule
 file_words = record (new_rule (codes "file")) { value_names = 1; action = Some Append }
 
--- `NAME [--config FILE] [FILE]`
+-- what all commands are made from: `NAME [--config FILE] [--explain]`
+abbrev pub configured : Text → App
+configured name = with_rule (with_rule (new_app name) config_option) explain_flag
+
+-- `NAME [--config FILE] [--explain] [FILE]`
 abbrev pub reading_command : Text → App
-reading_command name = with_rule (with_rule (new_app name) config_option) file_word
+reading_command name = with_rule (configured name) file_word
 
--- `check [--config FILE] [--without RULES] [FILE..]`
+-- `check [--config FILE] [--explain] [--without RULES] [FILE..]`
 abbrev pub checking_command : App
-checking_command = with_rule (with_rule (with_rule (new_app (codes "check")) config_option) without_option) file_words
+checking_command = with_rule (with_rule (configured (codes "check")) without_option) file_words
 
--- `fmt [--config FILE] [--write] [--check] [--diff] [FILE..]`
+-- `fmt [--config FILE] [--explain] [--write] [--check] [--diff] [FILE..]`
 abbrev pub writing_command : App
-writing_command = with_rule (with_rule (with_rule (with_rule (with_rule (new_app (codes "fmt")) config_option) write_flag) check_flag) diff_flag) file_words
+writing_command = with_rule (with_rule (with_rule (with_rule (configured (codes "fmt")) write_flag) check_flag) diff_flag) file_words
 
 -- one of the commands is wanted; without any word, the help is the refusal; the program's name is not among the words;
 -- there is a version
@@ -73,10 +82,6 @@ yamlfmt =
     (reading_command (codes "events")).top)
     checking_command.top)
     writing_command.top
-
--- what both kinds of command are made from: `NAME [--config FILE]`
-abbrev pub configured : Text → App
-configured name = with_rule (new_app name) config_option
 
 -- an option as a command takes it, and a command as part of another one: nothing of them is for other commands too
 abbrev pub IsOption : Arg → Rule → Type 0
@@ -108,6 +113,10 @@ is_flag id given = is_set (first_of id given)
 abbrev pub all_given : Text → List Row → List Text
 all_given id given = unwrap_or (all_of id given) []
 
+-- whether a word in the place of a file is that for standard input
+abbrev pub is_standard_input : Text → Bool
+is_standard_input word = bytes_eq word (codes "-")
+
 -- the names of the rules that are left out
 abbrev pub names_given : List Row → List Text
 names_given given = names_of (all_given (codes "without") given)
@@ -118,17 +127,20 @@ prints Fmt write check diff = not write && (diff || not check)
 prints Events write check diff = false
 prints Check write check diff = false
 
--- the command line has this command, with these files and these flags, and `--write` only where there is a file and neither `--check` nor
--- `--diff`; what prints what it formats, or how that differs, has one file at most; and a rule has each name that is left out
+-- the command line has this command, with these files and these flags, and `--write` only where there is a file, none is `-`, and neither
+-- `--check` nor `--diff` is given; what prints what it formats, or how that differs, has one file at most; and a rule has each name that is
+-- left out
 pub record Asks (met : Met) (cmd : Cmd) : Type 0 where
   pub given : List Row
   pub command : met ≡ Some (verb_word cmd.verb, given)
   pub config : cmd.config ≡ first_of (codes "config") given
   pub file : cmd.file ≡ first_of (codes "file") given
+  pub explain : cmd.explain ≡ is_flag (codes "explain") given
   pub write : cmd.write ≡ is_flag (codes "write") given
   pub check : cmd.check ≡ is_flag (codes "check") given
   pub diff : cmd.diff ≡ is_flag (codes "diff") given
   pub written : cmd.write ≡ true → IsSome cmd.file
+  pub named : cmd.write ≡ true → list_any is_standard_input (all_given (codes "file") given) ≡ false
   pub unchecked : cmd.write ≡ true → cmd.check ≡ false
   pub untold : cmd.write ≡ true → cmd.diff ≡ false
   pub more : cmd.more.items ≡ drop 1 (all_given (codes "file") given)
@@ -142,6 +154,9 @@ NamesNoVerb met = MatchOption met ⊤ (λ m. (verb : Verb) → m.0 ≢ verb_word
 abbrev pub WritesNoFile : Met → Type 0
 WritesNoFile met =
     IsSomeAnd met (λ m. (is_flag (codes "write") m.1 ≡ true) × (first_of (codes "file") m.1 ≡ None))
+
+abbrev pub WritesStandardInput : Met → Type 0
+WritesStandardInput met = IsSomeAnd met (λ m. (is_flag (codes "write") m.1 ≡ true) × (list_any is_standard_input (all_given (codes "file") m.1) ≡ true))
 
 abbrev pub WritesAndChecks : Met → Type 0
 WritesAndChecks met = IsSomeAnd met (λ m. (is_flag (codes "write") m.1 ≡ true) × (is_flag (codes "check") m.1 ≡ true))
@@ -157,10 +172,10 @@ PrintsSeveral met = IsSomeAnd met (λ m. (verb : Verb) × (m.0 ≡ verb_word ver
 abbrev pub NamesNoRule : Met → Type 0
 NamesNoRule met = IsSomeAnd met (λ m. are_rules (names_given m.1) ≡ false)
 
--- what the words name is no command, or has `--write` without a file or with `--check` or `--diff`, or several files to be printed, or leaves
--- out what is no rule
+-- what the words name is no command, or has `--write` without a file, with `-` for one, or with `--check` or `--diff`, or several files to be
+-- printed, or leaves out what is no rule
 abbrev pub IsNoCommand : Met → Type 0
-IsNoCommand met = NamesNoVerb met ⊎ (WritesNoFile met ⊎ (WritesAndChecks met ⊎ (WritesAndDiffs met ⊎ (PrintsSeveral met ⊎ NamesNoRule met))))
+IsNoCommand met = NamesNoVerb met ⊎ (WritesNoFile met ⊎ (WritesStandardInput met ⊎ (WritesAndChecks met ⊎ (WritesAndDiffs met ⊎ (PrintsSeveral met ⊎ NamesNoRule met)))))
 
 -- the same is refused
 abbrev pub Lacks : Met → Usage → Type 0

@@ -1,6 +1,8 @@
 -- What the program does for a command, over a reader, a writer and a stream for its faults.
 use Rattle.std.specs.Prelude.{◌≡◌, ◌≤◌, ◌⊎◌, ℕ, List, [], length, Bool, true, false, Option, Some, None, IfSome, codes}
-use Rattle.std.specs.Str.{IsUtf8}
+use Rattle.std.specs.Str.{IsUtf8, chars}
+use Rattle.yf_explain.specs.Explained.{Explains}
+use Rattle.yf_explain.specs.Shown.{AreWritten}
 use Rattle.yf_emit.specs.declared.style.Style.{Style}
 use Rattle.yf_lines.specs.declared.fault.Fault.{Fault}
 use Rattle.yf_lines.specs.declared.fault.Fault.TheVariants as fault
@@ -18,7 +20,7 @@ use Rattle.yf_rules.specs.Compare.{Compared, IsClean, RefusedCompare}
 use Rattle.yf_rules.specs.Diffed.{Diffed, RefusedDiff}
 use Rattle.yf_rules.specs.Input.{ReadRefusal}
 use Rattle.yf_program.specs.Report.{fault_line, fault_status}
-use Rattle.yf_rules.specs.Run.{Gave, Printed, Refused, RefusedCheck, RefusedFmt, Restyled, Told, Untouched}
+use Rattle.yf_rules.specs.Run.{Gave, Keeps, Printed, Refused, RefusedCheck, RefusedFmt, Restyled, Told, Untouched}
 use Rattle.yf_program.specs.Settings.{SetsStyle, RefusesSettings}
 
 -- the text was written to the stream, or the stream has failed after a prefix of it
@@ -38,6 +40,24 @@ EndsBy f status old new before after = (status ≡ fault_status f) × Reached ol
 abbrev pub WrittenOut : ℕ → ℕ → Bool → Bool → Option (List ℕ) → Option (List ℕ) → Bool → Bool → Type 0
 WrittenOut run status before after at to was is =
     ((status ≡ run) × (after ≡ before) × Untouched at to was is) ⊎ ((after ≡ true) × EndsBy fault.WriteFailed status at to was is)
+
+-- What more is told where that is asked for: lines of characters that are shown as they are, of which P holds; or nothing more, as where there is no memory.
+abbrev pub TellsMore : Bool → (List ℕ → Type 0) → Option (List ℕ) → Option (List ℕ) → Bool → Bool → Type 0
+TellsMore false P old new before after = Untouched old new before after
+TellsMore true P old new before after =
+    Untouched old new before after ⊎ ((more : List ℕ) × AreWritten (chars more) × P (chars more) × Reached old new before after more)
+
+-- the same, of lines of which no more is said
+abbrev pub AnyLines : List ℕ → Type 0
+AnyLines lines = Unit {0}
+
+-- the fault's line was written to the stream of faults, and more after it where that is asked for; the status is the fault's
+abbrev pub EndsTold : Bool → (List ℕ → Type 0) → Fault → ℕ → Option (List ℕ) → Option (List ℕ) → Bool → Bool → Type 0
+EndsTold explain P f status at to was is = (told : Option (List ℕ)) × (deaf : Bool) × EndsBy f status at told was deaf × TellsMore explain P told to deaf is
+
+-- the same of a fault of an input: what more is told is what its bytes tell
+abbrev pub EndsOver : Bool → Option (List ℕ) → Fault → ℕ → Option (List ℕ) → Option (List ℕ) → Bool → Bool → Type 0
+EndsOver explain known f status at to was is = (bytes : List ℕ) × Keeps known bytes f × EndsTold explain (Explains bytes f) f status at to was is
 
 -- the bytes that were read set the style
 abbrev pub FileSets : Option (List ℕ) → Style → Type 0
@@ -79,42 +99,48 @@ abbrev pub diff_name : Option (List ℕ) → List ℕ
 diff_name (Some name) = name
 diff_name None = codes "-"
 
--- what the checker does; C tells what the rules find
-abbrev pub RanChecker : (Table → Lists → List Finding → Type 0) → Style → ℕ → Option (List ℕ) → Bool → Bool → Option (List ℕ) → Option (List ℕ)
+-- what the formatter does, by whether more is to be told of a fault, by whether it is only to be told how a text differs from its formatting, and if it does; and by the input's name
+abbrev pub RanFormatter : Bool → Bool → Bool → Option (List ℕ) → Style → ℕ → Option (List ℕ) → Bool → Bool → Option (List ℕ) → Option (List ℕ)
     → Bool → Bool → Option (List ℕ) → Option (List ℕ) → Bool → Bool → Type 0
-RanChecker C style status known read_before read_after old new before after at to was is =
-    ((any : Bool) × Told C style known old new before after any × (read_after ≡ read_before) × (status ≡ check_status any) × Untouched at to was is)
-    ⊎ ((f : Fault) × RefusedCheck C style known read_before read_after old new before after f × EndsBy f status at to was is)
-
--- what the formatter does, by whether it is only to be told how a text differs from its formatting, and if it does; and by the input's name
-abbrev pub RanFormatter : Bool → Bool → Option (List ℕ) → Style → ℕ → Option (List ℕ) → Bool → Bool → Option (List ℕ) → Option (List ℕ)
-    → Bool → Bool → Option (List ℕ) → Option (List ℕ) → Bool → Bool → Type 0
-RanFormatter true check input style status known read_before read_after old new before after at to was is =
+RanFormatter explain true check input style status known read_before read_after old new before after at to was is =
     ((same : Bool) × Diffed style (diff_name input) known old new before after same × (same ≡ true → IfSome known (IsClean style)) × (read_after ≡ read_before)
     × (status ≡ format_status same) × Untouched at to was is)
-    ⊎ ((f : Fault) × RefusedDiff style (diff_name input) known read_before read_after old new before after f × EndsBy f status at to was is)
-RanFormatter false false input style status known read_before read_after old new before after at to was is =
+    ⊎ ((f : Fault) × RefusedDiff style (diff_name input) known read_before read_after old new before after f × EndsOver explain known f status at to was is)
+RanFormatter explain false false input style status known read_before read_after old new before after at to was is =
     (Restyled style known old new before after × (read_after ≡ read_before) × EndsWell status at to was is)
-    ⊎ ((f : Fault) × RefusedFmt style known read_before read_after old new before after f × EndsBy f status at to was is)
-RanFormatter false true input style status known read_before read_after old new before after at to was is =
+    ⊎ ((f : Fault) × RefusedFmt style known read_before read_after old new before after f × EndsOver explain known f status at to was is)
+RanFormatter explain false true input style status known read_before read_after old new before after at to was is =
     ((same : Bool) × Compared style known old new before after same × (same ≡ true → IfSome known (IsClean style)) × (read_after ≡ read_before)
     × (status ≡ format_status same) × Untouched at to was is)
-    ⊎ ((f : Fault) × RefusedCompare style known read_before read_after old new before after f × EndsBy f status at to was is)
+    ⊎ ((f : Fault) × RefusedCompare style known read_before read_after old new before after f × EndsOver explain known f status at to was is)
 
--- what a verb does, by the flags and the input's name; C tells what the rules find
+-- what the run does that prints the events, by whether more is to be told of a fault
 -- (known, read_before, read_after: what the reader had, and the note that it has failed; the others as above)
-abbrev pub RanBy : (Table → Lists → List Finding → Type 0) → Style → Verb → Bool → Bool → Option (List ℕ) → ℕ → Option (List ℕ) → Bool → Bool → Option (List ℕ) → Option (List ℕ)
+abbrev pub RanReader : Bool → ℕ → Option (List ℕ) → Bool → Bool → Option (List ℕ) → Option (List ℕ)
     → Bool → Bool → Option (List ℕ) → Option (List ℕ) → Bool → Bool → Type 0
-RanBy C style Events diff check input status known read_before read_after old new before after at to was is =
+RanReader explain status known read_before read_after old new before after at to was is =
     (Printed known old new before after × (read_after ≡ read_before) × EndsWell status at to was is)
-    ⊎ ((f : Fault) × Refused known read_before read_after old new before after f × EndsBy f status at to was is)
-RanBy C style Check diff check input status known read_before read_after old new before after at to was is =
-    RanChecker C style status known read_before read_after old new before after at to was is
-RanBy C style Fmt diff check input status known read_before read_after old new before after at to was is =
-    RanFormatter diff check input style status known read_before read_after old new before after at to was is
+    ⊎ ((f : Fault) × Refused known read_before read_after old new before after f × EndsOver explain known f status at to was is)
+
+-- what the run does that checks, by whether more is to be told of faults and findings; C tells what the rules find
+abbrev pub RanChecker : (Table → Lists → List Finding → Type 0) → Style → Bool → ℕ → Option (List ℕ) → Bool → Bool → Option (List ℕ) → Option (List ℕ)
+    → Bool → Bool → Option (List ℕ) → Option (List ℕ) → Bool → Bool → Type 0
+RanChecker C style explain status known read_before read_after old new before after at to was is =
+    ((any : Bool) × Told C style known old new before after any × (read_after ≡ read_before) × (status ≡ check_status any) × TellsMore explain AnyLines at to was is)
+    ⊎ ((f : Fault) × RefusedCheck C style known read_before read_after old new before after f × EndsOver explain known f status at to was is)
+
+-- what a verb does, by the flags and the input's name
+abbrev pub RanBy : (Table → Lists → List Finding → Type 0) → Style → Verb → Bool → Bool → Bool → Option (List ℕ) → ℕ → Option (List ℕ) → Bool → Bool → Option (List ℕ) → Option (List ℕ)
+    → Bool → Bool → Option (List ℕ) → Option (List ℕ) → Bool → Bool → Type 0
+RanBy C style Events explain diff check input status known read_before read_after old new before after at to was is =
+    RanReader explain status known read_before read_after old new before after at to was is
+RanBy C style Check explain diff check input status known read_before read_after old new before after at to was is =
+    RanChecker C style explain status known read_before read_after old new before after at to was is
+RanBy C style Fmt explain diff check input status known read_before read_after old new before after at to was is =
+    RanFormatter explain diff check input style status known read_before read_after old new before after at to was is
 
 -- what a command does, over its input
 abbrev pub Ran : (Table → Lists → List Finding → Type 0) → Style → Cmd → ℕ → Option (List ℕ) → Bool → Bool → Option (List ℕ) → Option (List ℕ)
     → Bool → Bool → Option (List ℕ) → Option (List ℕ) → Bool → Bool → Type 0
 Ran C style cmd status known read_before read_after old new before after at to was is =
-    RanBy C style cmd.verb cmd.diff cmd.check cmd.file status known read_before read_after old new before after at to was is
+    RanBy C style cmd.verb cmd.explain cmd.diff cmd.check cmd.file status known read_before read_after old new before after at to was is

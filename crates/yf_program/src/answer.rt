@@ -3,13 +3,14 @@ ghost use Rattle.std.specs.Prelude.{◌≡◌, ℕ, List, Option, map, string_by
 ghost use Rattle.yf_rules.specs.AllRules.{Are, all_rules};
 ghost use Rattle.yf_program.specs.Answer.{Answers, Does, DoesIn, Follows, Opens, Sets, Unset, settings_of};
 ghost use Rattle.yf_program.specs.Files.{Rewritten};
+ghost use Rattle.yf_program.specs.Program.{AnyLines, EndsTold};
 
 use crate::command_line::{Cmd, parse_line};
-use crate::each::{do_each, do_file, do_over};
+use crate::each::{do_each, do_file, do_standard};
 use crate::files::Links;
+use crate::further::report_settings;
 use crate::inputs::Inputs;
 use crate::program::{answer_usage, read_style, written_out};
-use crate::report::report;
 use std::alloc::Global;
 use yf_emit::style::Style;
 use yf_lines::fault::Fault;
@@ -81,7 +82,8 @@ fn do_command<I: Inputs, S: Links, W: Sink, E: Sink>(
         (W.contents writer.old) (W.contents writer.new) (W.has_failed writer.old) (W.has_failed writer.new)
         (E.contents error_stream.old) (E.contents error_stream.new) (E.has_failed error_stream.old) (E.has_failed error_stream.new) }
 {
-    match style_set(alloc, &command.config, inputs) {
+    let mut bytes = Vec::new(alloc);
+    match style_set(alloc, &command.config, inputs, &mut bytes) {
         Ok(style) => do_in_style(
             alloc,
             command,
@@ -92,15 +94,50 @@ fn do_command<I: Inputs, S: Links, W: Sink, E: Sink>(
             writer,
             error_stream,
         ),
-        Err(fault) => report(&fault, error_stream),
+        Err(fault) => report_unset(
+            alloc,
+            command,
+            inputs,
+            bytes.as_slice(),
+            &fault,
+            error_stream,
+        ),
     }
 }
 
-// The style that the settings file sets, or the house style.
+// Reports a fault of the settings, and answers its status.
+fn report_unset<I: Inputs, E: Sink>(
+    alloc: Global,
+    command: &Cmd,
+    inputs: &I,
+    bytes: &[u8],
+    fault: &Fault,
+    error_stream: &mut E,
+) -> u8
+    ensures { EndsTold command.now.explain AnyLines fault.now result (E.contents error_stream.old) (E.contents error_stream.new)
+        (E.has_failed error_stream.old) (E.has_failed error_stream.new) }
+{
+    let name = match &command.config {
+        Some(name) => name.as_str(),
+        None => "",
+    };
+    report_settings(
+        alloc,
+        command.explain,
+        inputs,
+        name,
+        bytes,
+        fault,
+        error_stream,
+    )
+}
+
+// The style that the settings file sets, or the house style. The bytes of the file are kept.
 fn style_set<I: Inputs>(
     alloc: Global,
     config: &Option<OwnedText>,
     inputs: &mut I,
+    kept: &mut Vec<u8>,
 ) -> Result<Style, Fault>
     ensures opened { Opens I.tells (I.opened inputs.old) (I.opened inputs.new) (settings_of config.now) }
     ensures same { I.tells → (input : Option (List ℕ)) → I.holds inputs.new input ≡ I.holds inputs.old input }
@@ -113,7 +150,7 @@ fn style_set<I: Inputs>(
         },
         None => return Ok(Style::house()),
     };
-    read_style(alloc, &mut file)
+    read_style(alloc, &mut file, kept)
 }
 
 // Does a command in a style: over standard input, over its file, or over each of its files.
@@ -135,16 +172,7 @@ fn do_in_style<I: Inputs, S: Links, W: Sink, E: Sink>(
         (E.contents error_stream.old) (E.contents error_stream.new) (E.has_failed error_stream.old) (E.has_failed error_stream.new) }
 {
     let Some(name) = &command.file else {
-        let mut reader = inputs.open_standard();
-        return do_over(
-            alloc,
-            command,
-            rules,
-            style,
-            &mut reader,
-            writer,
-            error_stream,
-        );
+        return do_standard(alloc, command, rules, style, inputs, writer, error_stream);
     };
     if command.more.is_empty() {
         return do_file(

@@ -1,10 +1,13 @@
 //! The command line: which command the words ask for.
 ghost use Rattle.std.specs.Prelude.{◌≡◌, ◌≢◌, drop, map, IfOk, MatchOption, MatchResult, string_bytes};
+ghost use Rattle.std.specs.List.{list_any};
 ghost use Rattle.clap.specs.Words.{first_of, found_of, kind_of, rows_of, subcommand_rows_of};
-ghost use Rattle.yf_program.specs.CommandLine.{Answers, Asks, AsksFor, IsRefusal, Lacks, RefusesWords, all_given, is_set, names_given, prints, verb_word};
+ghost use Rattle.yf_program.specs.CommandLine.{Answers, Asks, AsksFor, IsRefusal, Lacks, RefusesWords, all_given, is_set, is_standard_input, names_given, prints, verb_word};
 
 use crate::build::build_lines;
-use crate::commands::{CHECK, CONFIG, DIFF, EVENTS, FILE, FMT, WITHOUT, WRITE, yamlfmt_command};
+use crate::commands::{
+    CHECK, CONFIG, DIFF, EVENTS, EXPLAIN, FILE, FMT, WITHOUT, WRITE, yamlfmt_command,
+};
 use crate::shown::shown_text;
 use crate::without::{names_of, unknown_name, unknown_text};
 use clap::error::ErrorKind;
@@ -22,6 +25,15 @@ For more information, try '--help'.
 
 /// The refusal of `--write` without a file.
 const NO_FILE: &str = "error: the argument '--write' needs a FILE
+
+Usage: yamlfmt fmt [OPTIONS] [FILE]...
+
+For more information, try '--help'.
+";
+
+/// The refusal of `--write` with `-` for a file.
+const NO_STANDARD_INPUT: &str =
+    "error: the argument '--write' cannot be used with '-', which is standard input
 
 Usage: yamlfmt fmt [OPTIONS] [FILE]...
 
@@ -77,9 +89,11 @@ pub struct Cmd {
     pub verb: Verb,
     /// The settings file.
     pub config: Option<OwnedText>,
-    /// The file to read in place of standard input.
+    /// Whether more is to be told of a fault, and of a finding.
+    pub explain: bool,
+    /// The file to read in place of standard input, which `-` is too.
     pub file: Option<OwnedText>,
-    /// Whether the file is to be rewritten. There is a file then.
+    /// Whether the file is to be rewritten. There is a file then, and none is `-`.
     pub write: bool,
     /// Whether it is only to be told whether the stream is in the house style. No file is to be rewritten then.
     pub check: bool,
@@ -114,11 +128,11 @@ impl From<AllocError> for Usage {
 
 /// The command that the words after the program's name ask for:
 ///
-/// - `events [--config FILE] [FILE]`
-/// - `check [--config FILE] [--without RULES] [FILE..]`, where RULES are names of rules with commas between, and may be given more than
-///   once
-/// - `fmt [--config FILE] [--write] [--check] [--diff] [FILE..]`, where `--write` needs FILE and goes with neither `--check`
-///   nor `--diff`, and several files need `--write`, or `--check` without `--diff`.
+/// - `events [--config FILE] [--explain] [FILE]`
+/// - `check [--config FILE] [--explain] [--without RULES] [FILE..]`, where RULES are names of rules with commas between, and may be given
+///   more than once
+/// - `fmt [--config FILE] [--explain] [--write] [--check] [--diff] [FILE..]`, where `--write` needs FILE, which can't be `-`, and goes with
+///   neither `--check` nor `--diff`, and several files need `--write`, or `--check` without `--diff`.
 ///
 /// `--help`, `help` and `--version` are `Usage::Help`, and any other words `Usage::Wrong`, with a text that says why.
 /// `Usage::Memory` may come in the place of each answer, where a growth of memory was refused.
@@ -209,12 +223,16 @@ fn command_met(alloc: Global, matches: &ArgMatches<'_>) -> Result<Cmd, Usage>
     };
     let config = text_given(alloc, given, CONFIG)?;
     let file = text_given(alloc, given, FILE)?;
+    let explain = is_given(given, EXPLAIN);
     let write = is_given(given, WRITE);
     let check = is_given(given, CHECK);
     let diff = is_given(given, DIFF);
     if write {
         if file.is_none() {
             return Err(refusal(alloc, NO_FILE));
+        }
+        if names_standard_input(given, FILE) {
+            return Err(refusal(alloc, NO_STANDARD_INPUT));
         }
         if check {
             return Err(refusal(alloc, NOTHING_WRITTEN));
@@ -235,6 +253,7 @@ fn command_met(alloc: Global, matches: &ArgMatches<'_>) -> Result<Cmd, Usage>
         None => Ok(Cmd {
             verb,
             config,
+            explain,
             file,
             write,
             check,
@@ -302,6 +321,35 @@ fn refusal_of_name(alloc: Global, name: &str) -> Usage
         Ok(text) => Usage::Wrong(text),
         Err(_) => Usage::Memory,
     }
+}
+
+// Whether standard input is among the values of a word.
+fn names_standard_input(given: &ArgMatches<'_>, id: &str) -> bool
+    ensures { result ≡ list_any is_standard_input (all_given id.now (rows_of (found_of given.now))) }
+{
+    match given.get_strs(id) {
+        Some(words) => has_standard_input(words),
+        None => false,
+    }
+}
+
+// Whether one of the words is that for standard input.
+fn has_standard_input(words: &[&str]) -> bool
+    ensures { result ≡ list_any is_standard_input (map (λ w. w.now) words.now) }
+{
+    for k in 0..words.len() {
+        if is_standard_input(words[k]) {
+            return true;
+        }
+    }
+    false
+}
+
+/// Whether a word in the place of a file is that for standard input.
+pub fn is_standard_input(word: &str) -> bool
+    ensures { result ≡ is_standard_input word.now }
+{
+    word == "-"
 }
 
 // The words but the first, as texts of their own.

@@ -1,7 +1,7 @@
 //! The commands of the program and their options, as the library for command lines takes them.
 ghost use Rattle.std.specs.Prelude.{◌≡◌, IfOk};
-ghost use Rattle.clap.specs.Words.{App, Rule, app_of, with_rule, with_subcommand};
-ghost use Rattle.yf_program.specs.CommandLine.{bare_command, check_flag, checking_command, config_option, configured, diff_flag, file_word, file_words, write_flag, reading_command, without_option, writing_command, yamlfmt};
+ghost use Rattle.clap.specs.Words.{App, Rule, app_of, new_app, with_rule, with_subcommand};
+ghost use Rattle.yf_program.specs.CommandLine.{bare_command, check_flag, checking_command, config_option, configured, diff_flag, explain_flag, file_word, file_words, write_flag, reading_command, without_option, writing_command, yamlfmt};
 ghost use Rattle.yf_program.specs.CommandLine.{IsOption, IsPart};
 
 use crate::build::VERSION;
@@ -15,6 +15,8 @@ pub const CHECK: &str = "check";
 pub const FMT: &str = "fmt";
 
 pub const CONFIG: &str = "config";
+
+pub const EXPLAIN: &str = "explain";
 
 pub const WITHOUT: &str = "without";
 
@@ -98,9 +100,20 @@ fn fmt_command<'a>(alloc: Global) -> Result<Command<'a>, AllocError>
     with_arg(telling, file_words(alloc))
 }
 
-// A command that may be given its settings file.
+// A command that may be given its settings file, and asked to tell more.
 fn configured<'a>(alloc: Global, name: &'a str, about: &'a str) -> Result<Command<'a>, AllocError>
     ensures { IfOk result (λ c. IsPart c (configured name.entry.now)) }
+{
+    with_arg(with_settings(alloc, name, about), explain_flag(alloc))
+}
+
+// A command that may be given its settings file.
+fn with_settings<'a>(
+    alloc: Global,
+    name: &'a str,
+    about: &'a str,
+) -> Result<Command<'a>, AllocError>
+    ensures { IfOk result (λ c. IsPart c (with_rule (new_app name.entry.now) config_option)) }
 {
     let command = Command::new(alloc, name).about(about);
     command.arg(config_option(alloc))
@@ -127,6 +140,15 @@ fn config_option<'a>(alloc: Global) -> Arg<'a>
         .long(CONFIG)
         .value_name("FILE")
         .help("Read the settings of the house style from this TOML file")
+}
+
+fn explain_flag<'a>(alloc: Global) -> Arg<'a>
+    ensures { IsOption result explain_flag }
+{
+    Arg::new(alloc, EXPLAIN)
+        .long(EXPLAIN)
+        .action(ArgAction::SetTrue)
+        .help("Tell more of a fault on standard error, and of a finding")
 }
 
 fn without_option<'a>(alloc: Global) -> Arg<'a>
@@ -169,9 +191,9 @@ fn diff_flag<'a>(alloc: Global) -> Arg<'a>
 fn file_word<'a>(alloc: Global) -> Arg<'a>
     ensures { IsOption result file_word }
 {
-    Arg::new(alloc, FILE)
-        .value_name("FILE")
-        .help("The stream to read, in place of standard input")
+    Arg::new(alloc, FILE).value_name("FILE").help(
+        "The stream to read, in place of standard input, which '-' is too",
+    )
 }
 
 fn file_words<'a>(alloc: Global) -> Arg<'a>
@@ -180,5 +202,5 @@ fn file_words<'a>(alloc: Global) -> Arg<'a>
     Arg::new(alloc, FILE)
         .value_name("FILE")
         .action(ArgAction::Append)
-        .help("The streams to read, in place of standard input")
+        .help("The streams to read, in place of standard input, which '-' is too")
 }

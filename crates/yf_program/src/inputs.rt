@@ -2,8 +2,18 @@
 ghost use Rattle.std.specs.Prelude.{◌≡◌, ◌∷◌, ◌++◌, [], ℕ, List, Option, Some, None, false, IfOk, IfErr};
 ghost use Rattle.yf_lines.specs.declared.fault.Fault.TheVariants.{ReadFailed};
 
+use std::alloc::{AllocError, Global};
 use yf_lines::fault::Fault;
 use yf_lines::watched::Source;
+
+/// What a second look at a file gives.
+#[derive(Drop)]
+pub enum Again {
+    /// What it holds.
+    Bytes(Vec<u8>),
+    /// Why it can't be read, in words.
+    Words(String),
+}
 
 /// What a command reads: files by their names, and standard input.
 pub trait Inputs {
@@ -31,9 +41,14 @@ pub trait Inputs {
         ensures works { IfOk result (λ file. Self.File.has_failed file ≡ false) }
         ensures fault { IfErr result (λ fault. fault ≡ ReadFailed) };
 
-    /// Gives standard input.
+    /// Looks at a file once more, to tell more of a fault of it. It counts for none that was opened.
+    fn read_again(&self, alloc: Global, name: &str) -> Result<Again, AllocError>;
+
+    /// Gives standard input. Where the type tells what it holds, that is the same each time; at the system's own, which is read once, nothing
+    /// is claimed of it.
     fn open_standard(&mut self) -> Self::Standard
         ensures opened { tells → opened self.new ≡ opened self.old ++ None ∷ [] }
+        ensures same { tells → (input : Option (List ℕ)) → holds self.new input ≡ holds self.old input }
         ensures bytes { tells → Self.Standard.remaining result ≡ holds self.old None }
         ensures works { Self.Standard.has_failed result ≡ false };
 }

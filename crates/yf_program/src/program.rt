@@ -1,12 +1,13 @@
 //! What the program does for a command line, over any reader, any writer and any stream for its faults.
-ghost use Rattle.std.specs.Prelude.{◌≡◌, MatchResult};
+ghost use Rattle.std.specs.Prelude.{◌≡◌, false, true, MatchResult};
 ghost use Rattle.yf_lines.specs.Output.{Writes};
 ghost use Rattle.yf_rules.specs.Asked.{asked};
 ghost use Rattle.yf_rules.specs.Check.{Checked, RuleFindings};
-ghost use Rattle.yf_program.specs.Program.{Answered, FileRefused, FileSets, Ran, RanChecker, RanFormatter, WrittenOut, diff_name};
+ghost use Rattle.yf_program.specs.Program.{Answered, FileRefused, FileSets, Ran, RanChecker, RanFormatter, RanReader, WrittenOut, diff_name};
 ghost use Rattle.std.specs.Io.KnownBytes.{Keeps};
 
 use crate::command_line::{Cmd, Usage, Verb};
+use crate::further::{report_input, tell_findings};
 use crate::report::report;
 use crate::settings::{no_key, style_from_toml};
 use std::alloc::Global;
@@ -51,12 +52,10 @@ pub fn run<R: Source, W: Sink, E: Sink>(
         (E.contents error_stream.old) (E.contents error_stream.new) (E.has_failed error_stream.old) (E.has_failed error_stream.new) }
 {
     match command.verb {
-        Verb::Events => match run_events(alloc, reader, writer) {
-            Ok(()) => GOOD,
-            Err(fault) => report(&fault, error_stream),
-        },
+        Verb::Events => run_reader(alloc, command.explain, reader, writer, error_stream),
         Verb::Check => run_checker(
             alloc,
+            command.explain,
             rules,
             command.without.as_slice(),
             style,
@@ -68,9 +67,29 @@ pub fn run<R: Source, W: Sink, E: Sink>(
     }
 }
 
-// Checks by the rules but those that are left out, and answers the status.
+// Prints the events, and answers the status.
+fn run_reader<R: Source, W: Sink, E: Sink>(
+    alloc: Global,
+    explained: bool,
+    reader: &mut R,
+    writer: &mut W,
+    error_stream: &mut E,
+) -> u8
+    ensures { RanReader explained result (R.remaining reader.old) (R.has_failed reader.old) (R.has_failed reader.new)
+        (W.contents writer.old) (W.contents writer.new) (W.has_failed writer.old) (W.has_failed writer.new)
+        (E.contents error_stream.old) (E.contents error_stream.new) (E.has_failed error_stream.old) (E.has_failed error_stream.new) }
+{
+    let mut bytes = Vec::new(alloc);
+    match run_events(alloc, reader, &mut bytes, writer) {
+        Ok(()) => GOOD,
+        Err(fault) => report_input(alloc, explained, bytes.as_slice(), &fault, error_stream),
+    }
+}
+
+// Prints what the rules find, and answers the status.
 fn run_checker<R: Source, W: Sink, E: Sink>(
     alloc: Global,
+    explained: bool,
     rules: &[Box<dyn Rule>],
     without: &[OwnedText],
     style: &Style,
@@ -81,14 +100,27 @@ fn run_checker<R: Source, W: Sink, E: Sink>(
     ensures { RanChecker (λ src reading findings. Checked
         (λ rule found. RuleFindings (definition rule) src reading style.now found)
         (asked (λ rule. definition rule) without.now rules.now) findings)
-        style.now result (R.remaining reader.old) (R.has_failed reader.old) (R.has_failed reader.new)
+        style.now explained result (R.remaining reader.old) (R.has_failed reader.old) (R.has_failed reader.new)
         (W.contents writer.old) (W.contents writer.new) (W.has_failed writer.old) (W.has_failed writer.new)
         (E.contents error_stream.old) (E.contents error_stream.new) (E.has_failed error_stream.old) (E.has_failed error_stream.new) }
 {
-    match run_check(alloc, rules, without, reader, writer, style) {
+    let mut bytes = Vec::new(alloc);
+    let mut found = Vec::new(alloc);
+    match run_check(
+        alloc, rules, without, reader, &mut bytes, &mut found, writer, style,
+    ) {
         Ok(false) => GOOD,
-        Ok(true) => FINDINGS,
-        Err(fault) => report(&fault, error_stream),
+        Ok(true) => {
+            tell_findings(
+                alloc,
+                explained,
+                bytes.as_slice(),
+                found.as_slice(),
+                error_stream,
+            );
+            FINDINGS
+        }
+        Err(fault) => report_input(alloc, explained, bytes.as_slice(), &fault, error_stream),
     }
 }
 
@@ -101,27 +133,97 @@ fn run_formatter<R: Source, W: Sink, E: Sink>(
     writer: &mut W,
     error_stream: &mut E,
 ) -> u8
-    ensures { RanFormatter command.now.diff command.now.check command.now.file style.now result (R.remaining reader.old) (R.has_failed reader.old) (R.has_failed reader.new)
+    ensures { RanFormatter command.now.explain command.now.diff command.now.check command.now.file style.now result (R.remaining reader.old) (R.has_failed reader.old) (R.has_failed reader.new)
         (W.contents writer.old) (W.contents writer.new) (W.has_failed writer.old) (W.has_failed writer.new)
         (E.contents error_stream.old) (E.contents error_stream.new) (E.has_failed error_stream.old) (E.has_failed error_stream.new) }
 {
     if command.diff {
-        return match run_fmt_diff(alloc, diff_name(command), reader, writer, style) {
-            Ok(true) => GOOD,
-            Ok(false) => FINDINGS,
-            Err(fault) => report(&fault, error_stream),
-        };
+        return run_differ(alloc, command, style, reader, writer, error_stream);
     }
     if command.check {
-        return match run_fmt_check(alloc, reader, writer, style) {
-            Ok(true) => GOOD,
-            Ok(false) => FINDINGS,
-            Err(fault) => report(&fault, error_stream),
-        };
+        return run_comparer(alloc, command, style, reader, writer, error_stream);
     }
-    match run_fmt(alloc, reader, writer, style) {
+    run_writer(alloc, command, style, reader, writer, error_stream)
+}
+
+// Prints what formatting changes, and answers the status.
+fn run_differ<R: Source, W: Sink, E: Sink>(
+    alloc: Global,
+    command: &Cmd,
+    style: &Style,
+    reader: &mut R,
+    writer: &mut W,
+    error_stream: &mut E,
+) -> u8
+    ensures { RanFormatter command.now.explain true command.now.check command.now.file style.now result (R.remaining reader.old) (R.has_failed reader.old) (R.has_failed reader.new)
+        (W.contents writer.old) (W.contents writer.new) (W.has_failed writer.old) (W.has_failed writer.new)
+        (E.contents error_stream.old) (E.contents error_stream.new) (E.has_failed error_stream.old) (E.has_failed error_stream.new) }
+{
+    let mut bytes = Vec::new(alloc);
+    let name = diff_name(command);
+    match run_fmt_diff(alloc, name, reader, &mut bytes, writer, style) {
+        Ok(true) => GOOD,
+        Ok(false) => FINDINGS,
+        Err(fault) => report_input(
+            alloc,
+            command.explain,
+            bytes.as_slice(),
+            &fault,
+            error_stream,
+        ),
+    }
+}
+
+// Tells whether formatting is needed, and answers the status.
+fn run_comparer<R: Source, W: Sink, E: Sink>(
+    alloc: Global,
+    command: &Cmd,
+    style: &Style,
+    reader: &mut R,
+    writer: &mut W,
+    error_stream: &mut E,
+) -> u8
+    ensures { RanFormatter command.now.explain false true command.now.file style.now result (R.remaining reader.old) (R.has_failed reader.old) (R.has_failed reader.new)
+        (W.contents writer.old) (W.contents writer.new) (W.has_failed writer.old) (W.has_failed writer.new)
+        (E.contents error_stream.old) (E.contents error_stream.new) (E.has_failed error_stream.old) (E.has_failed error_stream.new) }
+{
+    let mut bytes = Vec::new(alloc);
+    match run_fmt_check(alloc, reader, &mut bytes, writer, style) {
+        Ok(true) => GOOD,
+        Ok(false) => FINDINGS,
+        Err(fault) => report_input(
+            alloc,
+            command.explain,
+            bytes.as_slice(),
+            &fault,
+            error_stream,
+        ),
+    }
+}
+
+// Formats, and answers the status.
+fn run_writer<R: Source, W: Sink, E: Sink>(
+    alloc: Global,
+    command: &Cmd,
+    style: &Style,
+    reader: &mut R,
+    writer: &mut W,
+    error_stream: &mut E,
+) -> u8
+    ensures { RanFormatter command.now.explain false false command.now.file style.now result (R.remaining reader.old) (R.has_failed reader.old) (R.has_failed reader.new)
+        (W.contents writer.old) (W.contents writer.new) (W.has_failed writer.old) (W.has_failed writer.new)
+        (E.contents error_stream.old) (E.contents error_stream.new) (E.has_failed error_stream.old) (E.has_failed error_stream.new) }
+{
+    let mut bytes = Vec::new(alloc);
+    match run_fmt(alloc, reader, &mut bytes, writer, style) {
         Ok(()) => GOOD,
-        Err(fault) => report(&fault, error_stream),
+        Err(fault) => report_input(
+            alloc,
+            command.explain,
+            bytes.as_slice(),
+            &fault,
+            error_stream,
+        ),
     }
 }
 
@@ -151,13 +253,18 @@ pub fn written_out<W: Sink, E: Sink>(status: u8, writer: &mut W, error_stream: &
     }
 }
 
-/// The style that a settings file sets. Bytes that are no text are `Fault::Config` with the empty key.
-pub fn read_style<R: Source>(alloc: Global, reader: &mut R) -> Result<Style, Fault>
+/// The style that a settings file sets, whose bytes are kept. Bytes that are no text are `Fault::Config` with the empty key.
+pub fn read_style<R: Source>(
+    alloc: Global,
+    reader: &mut R,
+    kept: &mut Vec<u8>,
+) -> Result<Style, Fault>
     ensures { MatchResult result (λ style. FileSets (R.remaining reader.old) style)
         (λ fault. FileRefused (R.remaining reader.old) (R.has_failed reader.old) (R.has_failed reader.new) fault) }
 {
     let bytes = read_all(alloc, reader, INPUT_LIMIT)?;
-    let text = match check_utf8(bytes.as_slice()) {
+    *kept = bytes;
+    let text = match check_utf8(kept.as_slice()) {
         Ok(text) => text,
         Err(_) => return Err(no_key(alloc)),
     };

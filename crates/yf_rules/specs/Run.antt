@@ -25,6 +25,12 @@ use Rattle.yf_rules.specs.Mended.{NoneFixable}
 abbrev pub Gave : Option (List ℕ) → List ℕ → Type 0
 Gave known bytes = IfSome known (λ all. bytes ≡ all)
 
+-- the bytes that were kept are those that were read, where the fault is one of them or of the writer
+abbrev pub Keeps : Option (List ℕ) → List ℕ → Fault → Type 0
+Keeps known bytes Memory = Unit {0}
+Keeps known bytes ReadFailed = Unit {0}
+Keeps known bytes _ = Gave known bytes
+
 -- a text was read, and the notation of its reading was written, whose events are a well nested stream
 pub record Printed (known old new : Option (List ℕ)) (before after : Bool) : Type 0 where
   pub text : List ℕ

@@ -1,9 +1,9 @@
 //! Whether a text is its own formatting, and where it differs from that first. The contracts are told in `Compare` of the specs.
-ghost use Rattle.std.specs.Prelude.{◌≡◌, ◌≢◌, ◌<◌, true, IfErr, IfOk, IfSome, OnOk, MatchOption};
+ghost use Rattle.std.specs.Prelude.{◌≡◌, ◌≢◌, ◌<◌, true, IfErr, IfOk, IfSome, OnOk, MatchOption, MatchResult};
 ghost use Rattle.yf_lines.specs.Output.{Writes};
 ghost use Rattle.yf_stream.specs.StreamReader.{StreamFault};
 ghost use Rattle.yf_rules.specs.Compare.{Compared, Difference, DifferenceIn, DifferAt, DiffersFirst, IsClean, RefusedCompare, SameUpTo, difference_line};
-ghost use Rattle.yf_rules.specs.Run.{RefusedText};
+ghost use Rattle.yf_rules.specs.Run.{Gave, Keeps, RefusedText};
 
 use crate::input::read_all;
 use crate::run::INPUT_LIMIT;
@@ -29,6 +29,7 @@ use yf_lines::watched::{Sink, Source};
 pub fn run_fmt_check<R: Source, W: Sink>(
     alloc: Global,
     reader: &mut R,
+    kept: &mut Vec<u8>,
     writer: &mut W,
     style: &Style,
 ) -> Result<bool, Fault>
@@ -36,11 +37,12 @@ pub fn run_fmt_check<R: Source, W: Sink>(
         (W.has_failed writer.old) (W.has_failed writer.new) same) }
     ensures clean { IfOk result (λ same. same ≡ true → IfSome (R.remaining reader.old) (IsClean style.now)) }
     ensures reader { OnOk result (R.has_failed reader.new ≡ R.has_failed reader.old) }
+    ensures bytes { MatchResult result (λ _. Gave (R.remaining reader.old) kept.new.items) (Keeps (R.remaining reader.old) kept.new.items) }
     ensures refusals { IfErr result (λ fault. RefusedCompare style.now (R.remaining reader.old) (R.has_failed reader.old)
         (R.has_failed reader.new)
         (W.contents writer.old) (W.contents writer.new) (W.has_failed writer.old) (W.has_failed writer.new) fault) }
 {
-    match read_difference(alloc, reader, style)? {
+    match read_difference(alloc, reader, kept, style)? {
         None => Ok(true),
         Some(place) => {
             write_difference(place, writer)?;
@@ -55,15 +57,18 @@ pub fn run_fmt_check<R: Source, W: Sink>(
 fn read_difference<R: Source>(
     alloc: Global,
     reader: &mut R,
+    kept: &mut Vec<u8>,
     style: &Style,
 ) -> Result<Option<Place>, Fault>
     ensures difference { IfOk result (Difference style.now (R.remaining reader.old)) }
     ensures reader { OnOk result (R.has_failed reader.new ≡ R.has_failed reader.old) }
+    ensures bytes { MatchResult result (λ _. Gave (R.remaining reader.old) kept.new.items) (Keeps (R.remaining reader.old) kept.new.items) }
     ensures refusals { IfErr result (λ fault. RefusedText (R.remaining reader.old) (R.has_failed reader.old)
         (R.has_failed reader.new) fault) }
 {
     let bytes = read_all(alloc, reader, INPUT_LIMIT)?;
-    let text = match check_utf8(bytes.as_slice()) {
+    *kept = bytes;
+    let text = match check_utf8(kept.as_slice()) {
         Ok(text) => text,
         Err(BadByte { offset }) => return Err(Fault::NotUtf8 { offset }),
     };

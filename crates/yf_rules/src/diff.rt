@@ -1,9 +1,9 @@
 //! How a text differs from its formatting, as a unified diff. The contracts are told in `Diffed` of the specs.
-ghost use Rattle.std.specs.Prelude.{◌≡◌, true, IfErr, IfOk, IfSome, OnOk};
+ghost use Rattle.std.specs.Prelude.{◌≡◌, true, IfErr, IfOk, IfSome, MatchResult, OnOk};
 ghost use Rattle.yf_stream.specs.StreamReader.{StreamFault};
 ghost use Rattle.yf_rules.specs.Compare.{IsClean};
 ghost use Rattle.yf_rules.specs.Diffed.{DiffIn, DiffOf, Diffed, RefusedDiff};
-ghost use Rattle.yf_rules.specs.Run.{RefusedText};
+ghost use Rattle.yf_rules.specs.Run.{Gave, Keeps, RefusedText};
 
 use crate::input::read_all;
 use crate::run::INPUT_LIMIT;
@@ -25,6 +25,7 @@ pub fn run_fmt_diff<R: Source, W: Sink>(
     alloc: Global,
     name: &str,
     reader: &mut R,
+    kept: &mut Vec<u8>,
     writer: &mut W,
     style: &Style,
 ) -> Result<bool, Fault>
@@ -32,11 +33,12 @@ pub fn run_fmt_diff<R: Source, W: Sink>(
         (W.has_failed writer.old) (W.has_failed writer.new) same) }
     ensures clean { IfOk result (λ same. same ≡ true → IfSome (R.remaining reader.old) (IsClean style.now)) }
     ensures reader { OnOk result (R.has_failed reader.new ≡ R.has_failed reader.old) }
+    ensures bytes { MatchResult result (λ _. Gave (R.remaining reader.old) kept.new.items) (Keeps (R.remaining reader.old) kept.new.items) }
     ensures refusals { IfErr result (λ fault. RefusedDiff style.now name.now (R.remaining reader.old) (R.has_failed reader.old)
         (R.has_failed reader.new)
         (W.contents writer.old) (W.contents writer.new) (W.has_failed writer.old) (W.has_failed writer.new) fault) }
 {
-    let diff = read_diff(alloc, name, reader, style)?;
+    let diff = read_diff(alloc, name, reader, kept, style)?;
     if diff.is_empty() {
         return Ok(true);
     }
@@ -51,15 +53,18 @@ fn read_diff<R: Source>(
     alloc: Global,
     name: &str,
     reader: &mut R,
+    kept: &mut Vec<u8>,
     style: &Style,
 ) -> Result<Vec<u8>, Fault>
     ensures diff { IfOk result (λ diff. DiffOf style.now name.now (R.remaining reader.old) diff.items) }
     ensures reader { OnOk result (R.has_failed reader.new ≡ R.has_failed reader.old) }
+    ensures bytes { MatchResult result (λ _. Gave (R.remaining reader.old) kept.new.items) (Keeps (R.remaining reader.old) kept.new.items) }
     ensures refusals { IfErr result (λ fault. RefusedText (R.remaining reader.old) (R.has_failed reader.old)
         (R.has_failed reader.new) fault) }
 {
     let bytes = read_all(alloc, reader, INPUT_LIMIT)?;
-    let text = match check_utf8(bytes.as_slice()) {
+    *kept = bytes;
+    let text = match check_utf8(kept.as_slice()) {
         Ok(text) => text,
         Err(BadByte { offset }) => return Err(Fault::NotUtf8 { offset }),
     };

@@ -1,12 +1,13 @@
-//! The runs of the program, over any reader and any writer. Their contracts are told in `Run` of the specs.
-ghost use Rattle.std.specs.Prelude.{◌≡◌, string_bytes, IfErr, IfOk, OnOk};
+//! The runs of the program, over any reader and any writer. Their contracts are told in `Run` of the specs. Each keeps the bytes that
+//! it has read for its caller, who may tell more of a fault with them.
+ghost use Rattle.std.specs.Prelude.{◌≡◌, string_bytes, IfErr, IfOk, MatchResult, OnOk};
 ghost use Rattle.yf_lines.specs.Output.{Writes};
 ghost use Rattle.yf_rules.specs.Asked.{asked};
 ghost use Rattle.yf_rules.specs.Check.{Checked, RuleFindings};
 ghost use Rattle.yf_stream.specs.Refusal.{IsStreamFault};
 ghost use Rattle.yf_stream.specs.StreamReader.{StreamFault};
 ghost use Rattle.yf_rules.specs.Findings.{FoundIn};
-ghost use Rattle.yf_rules.specs.Run.{Printed, Refused, RefusedCheck, RefusedFmt, RefusedText, Rendered, Restyled, Told};
+ghost use Rattle.yf_rules.specs.Run.{Gave, Keeps, Printed, Refused, RefusedCheck, RefusedFmt, RefusedText, Rendered, Restyled, Told};
 ghost use Rattle.yf_rules.specs.Run.{finding_line, findings_text, has_any};
 
 use crate::check::check;
@@ -39,16 +40,19 @@ pub const INPUT_LIMIT: usize = 1_073_741_824;
 pub fn run_events<R: Source, W: Sink>(
     alloc: Global,
     reader: &mut R,
+    kept: &mut Vec<u8>,
     writer: &mut W,
 ) -> Result<(), Fault>
     ensures events { OnOk result (Printed (R.remaining reader.old) (W.contents writer.old) (W.contents writer.new)
         (W.has_failed writer.old) (W.has_failed writer.new)) }
     ensures reader { OnOk result (R.has_failed reader.new ≡ R.has_failed reader.old) }
+    ensures bytes { MatchResult result (λ _. Gave (R.remaining reader.old) kept.new.items) (Keeps (R.remaining reader.old) kept.new.items) }
     ensures refusals { IfErr result (λ fault. Refused (R.remaining reader.old) (R.has_failed reader.old) (R.has_failed reader.new)
         (W.contents writer.old) (W.contents writer.new) (W.has_failed writer.old) (W.has_failed writer.new) fault) }
 {
     let bytes = read_all(alloc, reader, INPUT_LIMIT)?;
-    let text = match check_utf8(bytes.as_slice()) {
+    *kept = bytes;
+    let text = match check_utf8(kept.as_slice()) {
         Ok(text) => text,
         Err(bad) => return Err(Fault::NotUtf8 { offset: bad.offset }),
     };
@@ -58,7 +62,8 @@ pub fn run_events<R: Source, W: Sink>(
 
 /// Reads all there is, and writes a line for each finding of the rules but those that are left out by name, in the order of their
 /// places: line and column, the rule's name, and ` (fixable)` where the house style fixes it. The answer is whether there is a
-/// finding. In a text that formatting gives with the same settings, none of them is one that the house style fixes.
+/// finding; the findings are kept, too. In a text that formatting gives with the same settings, none of them is one that the house
+/// style fixes.
 ///
 /// Refused is what `run_events` refuses, and nothing has then been written but, after `Fault::WriteFailed`, a prefix of the
 /// lines.
@@ -67,6 +72,8 @@ pub fn run_check<R: Source, W: Sink>(
     rules: &[Box<dyn Rule>],
     without: &[OwnedText],
     reader: &mut R,
+    kept: &mut Vec<u8>,
+    found: &mut Vec<Finding>,
     writer: &mut W,
     style: &Style,
 ) -> Result<bool, Fault>
@@ -75,6 +82,7 @@ pub fn run_check<R: Source, W: Sink>(
         (asked (λ rule. definition rule) without.now rules.now) findings)
         style.now (R.remaining reader.old) (W.contents writer.old) (W.contents writer.new) (W.has_failed writer.old) (W.has_failed writer.new) any) }
     ensures reader { OnOk result (R.has_failed reader.new ≡ R.has_failed reader.old) }
+    ensures bytes { MatchResult result (λ _. Gave (R.remaining reader.old) kept.new.items) (Keeps (R.remaining reader.old) kept.new.items) }
     ensures refusals { IfErr result (λ fault. RefusedCheck
         (λ src reading findings. Checked (λ rule found. RuleFindings (definition rule) src reading style.now found)
         (asked (λ rule. definition rule) without.now rules.now) findings)
@@ -82,13 +90,18 @@ pub fn run_check<R: Source, W: Sink>(
         (W.contents writer.old) (W.contents writer.new) (W.has_failed writer.old) (W.has_failed writer.new) fault) }
 {
     let bytes = read_all(alloc, reader, INPUT_LIMIT)?;
-    let text = match check_utf8(bytes.as_slice()) {
+    *kept = bytes;
+    let text = match check_utf8(kept.as_slice()) {
         Ok(text) => text,
         Err(BadByte { offset }) => return Err(Fault::NotUtf8 { offset }),
     };
     let findings = findings_in(alloc, rules, without, text, style)?;
     match write_findings(findings.as_slice(), writer) {
-        Ok(()) => Ok(has_any(findings.as_slice())),
+        Ok(()) => {
+            let any = has_any(findings.as_slice());
+            *found = findings;
+            Ok(any)
+        }
         Err(_) => Err(Fault::WriteFailed),
     }
 }
@@ -152,17 +165,19 @@ fn write_finding<W: Sink>(finding: &Finding, writer: &mut W) -> Result<(), Fault
 pub fn run_fmt<R: Source, W: Sink>(
     alloc: Global,
     reader: &mut R,
+    kept: &mut Vec<u8>,
     writer: &mut W,
     style: &Style,
 ) -> Result<(), Fault>
     ensures formatted { OnOk result (Restyled style.now (R.remaining reader.old) (W.contents writer.old) (W.contents writer.new)
         (W.has_failed writer.old) (W.has_failed writer.new)) }
     ensures reader { OnOk result (R.has_failed reader.new ≡ R.has_failed reader.old) }
+    ensures bytes { MatchResult result (λ _. Gave (R.remaining reader.old) kept.new.items) (Keeps (R.remaining reader.old) kept.new.items) }
     ensures refusals { IfErr result (λ fault. RefusedFmt style.now (R.remaining reader.old) (R.has_failed reader.old)
         (R.has_failed reader.new)
         (W.contents writer.old) (W.contents writer.new) (W.has_failed writer.old) (W.has_failed writer.new) fault) }
 {
-    let formatted = read_formatted(alloc, reader, style)?;
+    let formatted = read_formatted(alloc, reader, kept, style)?;
     write_text(writer, formatted.as_str().as_bytes())
 }
 
@@ -172,15 +187,18 @@ pub fn run_fmt<R: Source, W: Sink>(
 pub fn read_formatted<R: Source>(
     alloc: Global,
     reader: &mut R,
+    kept: &mut Vec<u8>,
     style: &Style,
 ) -> Result<String, Fault>
     ensures formatted { IfOk result (λ formatted. Rendered style.now (R.remaining reader.old) (string_bytes formatted)) }
     ensures reader { OnOk result (R.has_failed reader.new ≡ R.has_failed reader.old) }
+    ensures bytes { MatchResult result (λ _. Gave (R.remaining reader.old) kept.new.items) (Keeps (R.remaining reader.old) kept.new.items) }
     ensures refusals { IfErr result (λ fault. RefusedText (R.remaining reader.old) (R.has_failed reader.old)
         (R.has_failed reader.new) fault) }
 {
     let bytes = read_all(alloc, reader, INPUT_LIMIT)?;
-    let text = match check_utf8(bytes.as_slice()) {
+    *kept = bytes;
+    let text = match check_utf8(kept.as_slice()) {
         Ok(text) => text,
         Err(BadByte { offset }) => return Err(Fault::NotUtf8 { offset }),
     };

@@ -9,7 +9,7 @@ use yf_files::{FileSystem, MemoryFiles};
 use yf_lines::fault::Fault;
 use yf_lines::watched::Watched;
 use yf_program::answer::answer;
-use yf_program::inputs::Inputs;
+use yf_program::inputs::{Again, Inputs};
 use yf_rules::rule::Rule;
 use yf_rules::with_rules::{WithRules, with_all_rules};
 
@@ -66,6 +66,15 @@ impl Inputs for Shelf {
         Err(Fault::ReadFailed)
     }
 
+    fn read_again(&self, alloc: Global, name: &str) -> Result<Again, AllocError> {
+        for (known, bytes) in &FILES {
+            if *known == name {
+                return Ok(Again::Bytes(Vec::from_slice(alloc, bytes)?));
+            }
+        }
+        Ok(Again::Words(String::from_str(alloc, "no such file")?))
+    }
+
     fn open_standard(&mut self) -> Watched<&'static [u8]> {
         self.note("-");
         Watched::new(STANDARD)
@@ -102,7 +111,7 @@ type Row = (
     &'static str,
 );
 
-static ROWS: [Row; 36] = [
+static ROWS: [Row; 44] = [
     ("fmt", 0, "---\n- \"a\"\n", "", "- ", BEFORE),
     (
         "fmt --config good.toml",
@@ -300,6 +309,65 @@ static ROWS: [Row; 36] = [
         "",
         "error: several FILEs need '--write' or '--check'\n\nUsage: yamlfmt fmt [OPTIONS] [FILE]...\n\nFor more information, try '--help'.\n",
         "",
+        BEFORE,
+    ),
+    // `-` is standard input
+    ("fmt -", 0, "---\n- \"a\"\n", "", "- ", BEFORE),
+    (
+        "fmt --write b.yaml -",
+        3,
+        "",
+        "error: the argument '--write' cannot be used with '-', which is standard input\n\nUsage: yamlfmt fmt [OPTIONS] [FILE]...\n\nFor more information, try '--help'.\n",
+        "",
+        BEFORE,
+    ),
+    // more is told of faults and findings, on the stream of faults
+    (
+        "events --explain refused.yaml",
+        2,
+        "",
+        "2:6 refused: unknown-alias\n  no anchor of this name stands before it in this document\n  | - b: *x\n  |      ^\n",
+        "refused.yaml ",
+        BEFORE,
+    ),
+    (
+        "fmt --explain none.yaml",
+        3,
+        "",
+        "read failed\n  none.yaml: no such file\n",
+        "none.yaml ",
+        BEFORE,
+    ),
+    (
+        "fmt --explain --config bad.toml a.yaml",
+        3,
+        "",
+        "config: a\n  2:1: the keys are `indent`, `max_line`, `quotes` and `seq_indent`\n  | a = 1\n  | ^\n",
+        "bad.toml ",
+        BEFORE,
+    ),
+    (
+        "fmt --explain --config no.toml a.yaml",
+        3,
+        "",
+        "config: \n  1:1: the byte xFF is no UTF-8 here\n  | \n  | ^\n",
+        "no.toml ",
+        BEFORE,
+    ),
+    (
+        "fmt --write --explain none.yaml",
+        3,
+        "",
+        "read failed\n  none.yaml: no such file\n",
+        "",
+        BEFORE,
+    ),
+    (
+        "check --explain - refused.yaml",
+        2,
+        "-:1:1 document-start (fixable)\n-:1:3 quoting (fixable)\n",
+        "-:   1:1 document-start: fmt writes `---` on a line of its own before it\n-:   1:3 quoting: fmt writes the quotes of the house style, or none\nrefused.yaml:2:6 refused: unknown-alias\nrefused.yaml:   no anchor of this name stands before it in this document\nrefused.yaml:   | - b: *x\nrefused.yaml:   |      ^\n",
+        "- refused.yaml ",
         BEFORE,
     ),
     (

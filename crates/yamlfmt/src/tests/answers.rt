@@ -57,6 +57,7 @@ pub fn command(alloc: Global, asked: Asked) -> Cmd {
     Cmd {
         verb,
         config: None,
+        explain: false,
         file: None,
         write: false,
         check: matches!(asked, Asked::FmtCheck),

@@ -37,7 +37,7 @@ Options:
   -V, --version  Print version
 ";
 
-static LINES: [(&str, Wanted); 51] = [
+static LINES: [(&str, Wanted); 54] = [
     (
         "events",
         Wanted::Command(Verb::Events, "", "", false, false, false, 0),
@@ -94,6 +94,10 @@ static LINES: [(&str, Wanted); 51] = [
         "events --config s.toml -- --write",
         Wanted::Command(Verb::Events, "s.toml", "--write", false, false, false, 0),
     ),
+    (
+        "check --explain - a",
+        Wanted::Command(Verb::Check, "", "-", false, false, false, 1),
+    ),
     ("", Wanted::Wrong),
     ("a.yaml", Wanted::Wrong),
     ("print", Wanted::Wrong),
@@ -107,6 +111,8 @@ static LINES: [(&str, Wanted); 51] = [
     ("check --diff a", Wanted::Wrong),
     ("fmt --diff --check a b", Wanted::Wrong),
     ("events --config s --config t", Wanted::Wrong),
+    ("fmt --write -", Wanted::Wrong),
+    ("fmt a --write -", Wanted::Wrong),
     ("fmt --write=a a", Wanted::Wrong),
     ("fmt --write --write a", Wanted::Wrong),
     ("fmt -w a", Wanted::Wrong),
@@ -127,10 +133,11 @@ static LINES: [(&str, Wanted); 51] = [
 Usage: yamlfmt events [OPTIONS] [FILE]
 
 Arguments:
-  [FILE]  The stream to read, in place of standard input
+  [FILE]  The stream to read, in place of standard input, which '-' is too
 
 Options:
       --config <FILE>  Read the settings of the house style from this TOML file
+      --explain        Tell more of a fault on standard error, and of a finding
   -h, --help           Print help
 ",
         ),
@@ -143,10 +150,11 @@ Options:
 Usage: yamlfmt check [OPTIONS] [FILE]...
 
 Arguments:
-  [FILE]...  The streams to read, in place of standard input
+  [FILE]...  The streams to read, in place of standard input, which '-' is too
 
 Options:
       --config <FILE>    Read the settings of the house style from this TOML file
+      --explain          Tell more of a fault on standard error, and of a finding
       --without <RULES>  Leave out what these rules find, by their names with commas between
   -h, --help             Print help
 ",

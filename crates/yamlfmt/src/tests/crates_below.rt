@@ -2,6 +2,7 @@
 
 mod block_scalars;
 mod comments;
+mod explained;
 mod lines;
 mod mistakes;
 mod nodes;

@@ -7,5 +7,5 @@ pub returns-clause-does : goal.returns-clause-does
 returns-clause-does g c =
     named_told (g.I.Inputs.holds c.args.inputs.now)
     (λ name style. Rewritten g.S.FileSystem.tells (g.S.FileSystem.state c.args.files.now) (g.S.FileSystem.state c.do_file-status.new.files) (g.S.Links.leads c.args.files.now name) style)
-    c.args.command.now _ _ _ _ _ _ (search rules) (search rules) c.new-output.ensures.none_failed c.new-faults.ensures.none_failed (search rules) (search rules)
+    c.args.command.now _ _ _ _ _ _ _ (search rules) (search rules) c.new-output.ensures.none_failed c.new-faults.ensures.none_failed (search rules) (search rules)
     c.do_file-status.ensures.does c.tell_named.ensures

@@ -11,8 +11,8 @@ returns-in-Err g c =
     let within : length c.in_ok-bytes.bytes.items ≤ INPUT_LIMIT = search rules in
     rw c.no_key.ensures (c.in_ok-bytes.ensures.works, (c.in_ok-bytes.bytes.items, c.in_ok-bytes.ensures.whole, within, inl (none, refl)))
 
-pub returns : goal.returns
-returns g c =
+pub returns-in-Err-style_from_toml : goal.returns-in-Err-style_from_toml
+returns-in-Err-style_from_toml g c =
     let same : c.in-Ok.text.now ≡ c.in_ok-bytes.bytes.items = c.in-Ok.ensures.1 ∙ c.as_slice.ensures.value in
     let gave = subst (λ (t : List ℕ). Gave (g.R.Read.remaining c.args.reader.now) t) (sym same) c.in_ok-bytes.ensures.whole in
     let within_bytes : length c.in_ok-bytes.bytes.items ≤ INPUT_LIMIT = search rules in

@@ -1,8 +1,10 @@
-use Rattle.yf_program.proofs.ProgramLemmas.{no_diff}
 use Rattle.yf_program.proofs.program.run_formatter.Goals as goal
 
-pub returns-in-Ok-true : goal.returns-in-Ok-true
-returns-in-Ok-true g c =
-    no_diff c.args.command.now.check c.args.command.now.file (g.E.Write.contents c.args.error_stream.now) (g.E.Sink.has_failed c.args.error_stream.now)
-    c.diff_name.result.now c.in-Ok-true.field-0 c.if-command.true c.diff_name.ensures c.in-Ok-true.field-0-test c.in-Ok-true.ensures.diffed
-    c.in-Ok-true.ensures.clean c.in-Ok-true.ensures.reader
+pub returns-then-command : goal.returns-then-command
+returns-then-command g c = rw c.if-command.true c.run_differ.ensures
+
+pub returns-then-command-2 : goal.returns-then-command-2
+returns-then-command-2 g c = rw (c.if-command.false, c.if-command-2.true) c.run_comparer.ensures
+
+pub returns : goal.returns
+returns g c = rw (c.if-command.false, c.if-command-2.false) c.run_writer.ensures

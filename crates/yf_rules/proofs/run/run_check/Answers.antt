@@ -13,11 +13,11 @@ returns-in-Ok-write_findings-clause-findings g c =
       findings = c.in_ok-findings.findings.items;
       found = found_in c.in_ok-findings.ensures.found same c.in_ok-bytes.ensures.whole within utf8;
       wrote = wrote_same c.as_slice-2.ensures.value c.in-Ok-write_findings.ensures;
-      answer = c.has_any.ensures ∙ any_same c.as_slice-in-Ok-write_findings.ensures.value;
+      answer = c.has_any-any.ensures ∙ any_same c.as_slice-in-Ok-write_findings.ensures.value;
     }
 
-pub returns-clause-refusals : goal.returns-clause-refusals
-returns-clause-refusals g c =
+pub returns-in-Err-write_findings-clause-refusals : goal.returns-in-Err-write_findings-clause-refusals
+returns-in-Err-write_findings-clause-refusals g c =
     let same : c.in-Ok.text.now ≡ c.in_ok-bytes.bytes.items = c.in-Ok.ensures.1 ∙ c.as_slice.ensures.value in
     let within : length c.in_ok-bytes.bytes.items ≤ INPUT_LIMIT = search rules in
     let utf8 = subst (λ (t : List ℕ). IsUtf8 t) (sym c.in-Ok.ensures.1) c.in-Ok.ensures.0 in (

@@ -1,0 +1,154 @@
+//! What is told of a fault beside its line. The lines were worked out by hand: their columns by counting, the numbers of characters from the
+//! Unicode standard.
+
+use std::alloc::{AllocError, Global};
+use yf_explain::{Page, explain};
+use yf_lines::fault::Fault;
+use yf_lines::place::Place;
+
+/// The first line that is told in each row.
+const WORDS: &str = "  more than 1,024 collections would be open here\n";
+
+/// A text, a place in it, and what is told of it after the words.
+type Row = (&'static str, usize, usize, &'static str);
+
+static ROWS: [Row; 11] = [
+    ("a: b\n", 1, 4, "  | a: b\n  |    ^\n"),
+    // at the end of a text, after its last break
+    ("a\n", 2, 1, "  | \n  | ^\n"),
+    // characters of two columns, and those that are shown by their numbers, in 4, 6 and 10
+    (
+        "\u{5024}: \u{202E}x",
+        1,
+        5,
+        "  | \u{5024}: \\u202Ex\n  |           ^\n",
+    ),
+    (
+        "\t\u{1F600}a",
+        1,
+        3,
+        "  | \\x09\\U0001F600a\n  |               ^\n",
+    ),
+    (
+        "\u{FEFF}\u{E9}a",
+        1,
+        2,
+        "  | \\uFEFF\u{E9}a\n  |        ^\n",
+    ),
+    // a line is cut on both sides
+    (
+        "aaaaaaaaaabbbbbbbbbbccccccccccddddddddddeeeeeeeeeeffffffffffgggggggggghhhhhhhhhhiiiiiiiiiijjjjjjjjjjkkkkkkkkkk\nx\n",
+        1,
+        61,
+        "  | ...ccccddddddddddeeeeeeeeeeffffffffffgggggggggghhhhhhhhhhiiiiiiiiiijjjj...\n  |                                      ^\n",
+    ),
+    // what is open there, and is told where it was opened: a bracket on another line, on the same one, a quote
+    (
+        "x: 1\na: [1, {b: 2}\nb: c\n",
+        3,
+        1,
+        "  | b: c\n  | ^\n  opened at 2:4\n  | a: [1, {b: 2}\n  |    ^\n",
+    ),
+    ("{a: b", 1, 6, "  | {a: b\n  |      ^\n  opened at 1:1\n"),
+    (
+        "a: \"x\n y\nz",
+        3,
+        1,
+        "  | z\n  | ^\n  opened at 1:4\n  | a: \"x\n  |    ^\n",
+    ),
+    // no bracket begins in a block scalar, in a comment, nor in text without quotes
+    (
+        "a: |\n  [x\nb: [1\n",
+        3,
+        6,
+        "  | b: [1\n  |      ^\n  opened at 3:4\n",
+    ),
+    ("# [\na: b [\nc: d\n", 3, 4, "  | c: d\n  |    ^\n"),
+];
+
+/// What is told of a place of a text.
+fn told(alloc: Global, text: &str, line: usize, column: usize) -> Result<Page, AllocError> {
+    let fault = Fault::TooDeep {
+        place: Place { line, column },
+    };
+    explain(alloc, text.as_bytes(), &fault)
+}
+
+/// Whether that is told after the words.
+fn is_told(told: &Result<Page, AllocError>, wanted: &str) -> bool {
+    match told {
+        Ok(page) => page.as_str().strip_prefix(WORDS) == Some(wanted),
+        Err(_) => false,
+    }
+}
+
+/// Whether a row holds.
+fn holds(alloc: Global, row: &Row) -> bool {
+    is_told(&told(alloc, row.0, row.1, row.2), row.3)
+}
+
+#[test]
+fn shows_places(rt: HostRuntime) {
+    for row in &ROWS {
+        assert!(rt; holds(rt.alloc(), row), "{}", row.0);
+    }
+}
+
+/// Control characters, from the first to the last of each run; those that turn the direction of a line, join, or are not seen.
+static HIDDEN: [(char, char); 9] = [
+    ('\u{0}', '\u{9}'),
+    ('\u{B}', '\u{C}'),
+    ('\u{E}', '\u{1F}'),
+    ('\u{7F}', '\u{A0}'),
+    ('\u{AD}', '\u{AD}'),
+    ('\u{61C}', '\u{61C}'),
+    ('\u{200B}', '\u{200F}'),
+    ('\u{2028}', '\u{202E}'),
+    ('\u{2060}', '\u{206F}'),
+];
+
+/// Whether a page is there, and does not hold a character.
+fn is_without(told: &Result<Page, AllocError>, c: char) -> bool {
+    match told {
+        Ok(page) => !page.as_str().contains(c),
+        Err(_) => false,
+    }
+}
+
+/// Whether a character of the text at a place is not told as it is.
+fn hides(alloc: Global, c: char) -> bool {
+    match format!(in alloc; "a{c}b") {
+        Ok(text) => is_without(&told(alloc, text.as_str(), 1, 1), c),
+        Err(_) => false,
+    }
+}
+
+#[test]
+fn hides_what_moves_or_turns(rt: HostRuntime) {
+    for (first, last) in &HIDDEN {
+        for c in (*first..=*last).into_iter() {
+            assert!(rt; hides(rt.alloc(), c), "{:X}", u32::from(c));
+        }
+    }
+}
+
+/// Whether bytes that are no text are told of so.
+fn tells_byte(alloc: Global, bytes: &[u8], offset: usize, wanted: &str) -> bool {
+    match &explain(alloc, bytes, &Fault::NotUtf8 { offset }) {
+        Ok(page) => page.as_str() == wanted,
+        Err(_) => false,
+    }
+}
+
+#[test]
+fn tells_bytes(rt: HostRuntime) {
+    assert!(rt;
+        tells_byte(
+            rt.alloc(),
+            b"a\ncaf\xE9\n",
+            5,
+            "  2:4: the byte xE9 is no UTF-8 here\n  | caf\n  |    ^\n"
+        )
+    );
+    assert!(rt; !tells_byte(rt.alloc(), b"a", 1, ""));
+}

@@ -1,0 +1,61 @@
+-- A line of a text with a caret under one of its characters.
+use Rattle.std.specs.Prelude.{◌≡◌, ℕ, zero, suc, ◌+◌, ◌≤◌, List, [], ◌∷◌, ◌++◌, Bool, true, false, length, codes}
+use Rattle.std.specs.List.{concat}
+use Rattle.std.specs.Str.{IsCharBoundary}
+use Rattle.yf_chars.specs.Chain.{Many}
+use Rattle.yf_lines.specs.Lines.{Unbroken, is_char}
+use Rattle.yf_explain.specs.Shown.{all_shown, columns}
+
+-- the characters of a part of a text were added, from an offset on, as they are shown
+-- (to: where the part ends at the latest; most: how many columns it takes at most; old, new: the page before and after; end, taken: where it ends, and its columns)
+pub record AddsPart (t : List ℕ) (from to most : ℕ) (old new : List ℕ) (end taken : ℕ) : Type 0 where
+  pub characters : List ℕ
+  pub run : Many t is_char from end characters
+  pub added : new ≡ old ++ all_shown characters
+  pub takes : taken ≡ columns characters
+  pub room : taken ≤ most
+  pub within : end ≤ to
+  pub boundary : IsCharBoundary t end
+
+-- what stands before each line of the source
+abbrev pub gutter : List ℕ
+gutter = codes "  | "
+
+-- what stands in the place of what is cut off
+abbrev pub dots : Bool → List ℕ
+dots true = codes "..."
+dots false = []
+
+unfoldable pub spaces : ℕ → List ℕ
+spaces zero = []
+spaces (suc n) = spaces n ++ 32 ∷ []
+
+-- the line of the caret, after so many columns
+abbrev pub caret : ℕ → List ℕ
+caret n = gutter ++ (spaces n ++ (94 ∷ 10 ∷ []))
+
+-- the line of the source: the characters before the offset, and those from there on, which stand on one line of the text; it may be cut on both sides
+abbrev pub source : Bool → List ℕ → List ℕ → Bool → List ℕ
+source cut before after shortened = gutter ++ (dots cut ++ (all_shown before ++ (all_shown after ++ (dots shortened ++ 10 ∷ []))))
+
+-- such a line was added, and as many columns as `indent` stand on it before what is shown of the offset, behind the gutter
+pub record AddsLine (t : List ℕ) (at : ℕ) (old new : List ℕ) (indent : ℕ) : Type 0 where
+  pub start : ℕ
+  pub stop : ℕ
+  pub before : List ℕ
+  pub after : List ℕ
+  pub cut : Bool
+  pub shortened : Bool
+  pub left : Many t is_char start at before
+  pub right : Many t is_char at stop after
+  pub unbroken : Unbroken t start stop
+  pub added : new ≡ old ++ source cut before after shortened
+  pub columns_before : indent ≡ length (dots cut) + columns before
+  pub room : columns before + columns after ≤ 68
+
+-- and the line of the caret after it
+pub record AddsSource (t : List ℕ) (at : ℕ) (old new : List ℕ) : Type 0 where
+  pub between : List ℕ
+  pub indent : ℕ
+  pub line : AddsLine t at old between indent
+  pub added : new ≡ between ++ caret indent

@@ -1,0 +1,108 @@
+//! A place of a text as an offset, and what is told of it. Offsets count bytes.
+ghost use Rattle.std.specs.Prelude.{◌≡◌, ◌≤◌, IfOk};
+ghost use Rattle.std.specs.Str.{IsCharBoundary};
+ghost use Rattle.yf_lines.specs.Lines.{Unbroken};
+ghost use Rattle.yf_explain.specs.Explained.{AddsWords, ShowsPlace};
+
+use crate::page::Page;
+use crate::source::push_source;
+use std::alloc::AllocError;
+use yf_chars::text::peek;
+use yf_lines::place::Place;
+use yf_lines::source_text::Src;
+use yf_lines::table::skip_marks;
+
+/// The start of a line of a text, and the end of its characters, before its break.
+#[derive(Clone, Copy)]
+pub(crate) struct Span {
+    pub(crate) from: usize,
+    pub(crate) to: usize,
+}
+
+/// Adds a line of words, as much of them as take no more columns than that.
+pub(crate) fn push_words(page: &mut Page, words: &str, most: usize) -> Result<(), AllocError>
+    ensures { IfOk result (λ _. AddsWords words.now page.old page.new) }
+{
+    page.push_signs("  ")?;
+    let _ = page.push_part(words, 0, words.len(), most)?;
+    page.push_break()
+}
+
+/// Adds the line of a text on which a place is, and a caret under that, and answers its offset. It fails too where the text has no such place.
+pub(crate) fn push_place(page: &mut Page, src: &Src, place: Place) -> Result<usize, AllocError>
+    ensures { IfOk result (λ at. ShowsPlace src.now.text place page.old page.new) }
+{
+    let text = src.text();
+    let span = line_span(src, place.line);
+    let at = column_offset(text, span, place.column);
+    let found = src.place(at);
+    if found.line != place.line {
+        return Err(AllocError);
+    }
+    if found.column != place.column {
+        return Err(AllocError);
+    }
+    push_source(page, text, span.from, span.to, at)?;
+    Ok(at)
+}
+
+/// The offset of a place of a text. Where the text has no such place, it is that of another one on the line, or the end of the text.
+pub fn place_offset(src: &Src, place: Place) -> usize
+    ensures { IsCharBoundary src.now.text result }
+{
+    column_offset(src.text(), line_span(src, place.line), place.column)
+}
+
+/// The line of that number, from 1; past the last one, the end of the text.
+pub(crate) fn line_span(src: &Src, number: usize) -> Span
+    ensures start { IsCharBoundary src.now.text result.from }
+    ensures line { Unbroken src.now.text result.from result.to }
+{
+    let lines = src.lines();
+    let text = src.text();
+    if number > 0 {
+        if number <= lines.len() {
+            let line = lines.line(number - 1);
+            return Span {
+                from: line.start,
+                to: line.end,
+            };
+        }
+    }
+    Span {
+        from: text.len(),
+        to: text.len(),
+    }
+}
+
+// The offset of a column, from 1, on a line of the text; the end of the line, where it has no such column.
+fn column_offset(text: &str, span: Span, column: usize) -> usize
+    requires start { IsCharBoundary text.now span.from }
+    requires order { span.from ≤ span.to }
+    ensures boundary { IsCharBoundary text.now result }
+    ensures from { span.from ≤ result }
+    ensures to { result ≤ span.to }
+{
+    let base = skip_marks(text, span.from);
+    if base > span.to {
+        return span.from;
+    }
+    let mut at = base;
+    let mut reached: usize = 1;
+    while at < span.to {
+        if reached >= column {
+            return at;
+        }
+        match peek(text, at) {
+            Some((_, next)) => {
+                if next > span.to {
+                    return at;
+                }
+                at = next;
+                reached = reached.saturating_add(1);
+            }
+            None => return at,
+        }
+    }
+    at
+}

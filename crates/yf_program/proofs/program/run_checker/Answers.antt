@@ -1,0 +1,8 @@
+use Rattle.std.proofs.Common.{List, ℕ, inr, subst, sym}
+use Rattle.yf_rules.specs.Run.{Keeps}
+use Rattle.yf_program.proofs.program.run_checker.Goals as goal
+
+pub returns : goal.returns
+returns g c =
+    let keeps = subst (λ (b : List ℕ). Keeps (g.R.Read.remaining c.args.reader.now) b c.in-Err.fault) (sym c.as_slice-in-Err.ensures.value) c.in-Err.ensures.bytes in
+    inr (c.in-Err.fault, c.in-Err.ensures.refusals, (c.as_slice-in-Err.result.now, keeps, c.report_input.ensures))

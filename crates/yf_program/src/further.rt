@@ -1,0 +1,170 @@
+//! What is told after the line of a fault, where that is asked for.
+ghost use Rattle.std.specs.Prelude.{◌≡◌, true, IsOkAnd};
+ghost use Rattle.yf_explain.specs.Explained.{Explains};
+ghost use Rattle.yf_program.specs.Program.{AnyLines, EndsTold, TellsMore};
+
+use crate::finding_words::findings_page;
+use crate::inputs::{Again, Inputs};
+use crate::report::report;
+use crate::settings_words::explain_settings;
+use std::alloc::{AllocError, Global};
+use yf_explain::{Page, explain, page_of_words};
+use yf_lines::fault::Fault;
+use yf_lines::output::write_text;
+use yf_lines::watched::Sink;
+use yf_rules::finding::Finding;
+
+/// Reports a fault of an input, and tells more of it by the bytes that were read, where that is asked for. Answers the status of the fault.
+pub fn report_input<E: Sink>(
+    alloc: Global,
+    explained: bool,
+    bytes: &[u8],
+    fault: &Fault,
+    error_stream: &mut E,
+) -> u8
+    ensures { EndsTold explained (Explains bytes.now fault.now) fault.now result (E.contents error_stream.old) (E.contents error_stream.new)
+        (E.has_failed error_stream.old) (E.has_failed error_stream.new) }
+{
+    let status = report(fault, error_stream);
+    tell_input(alloc, explained, bytes, fault, error_stream);
+    status
+}
+
+// Tells more of a fault of an input, where that is asked for.
+fn tell_input<E: Sink>(
+    alloc: Global,
+    explained: bool,
+    bytes: &[u8],
+    fault: &Fault,
+    error_stream: &mut E,
+)
+    ensures { TellsMore explained (Explains bytes.now fault.now) (E.contents error_stream.old) (E.contents error_stream.new)
+        (E.has_failed error_stream.old) (E.has_failed error_stream.new) }
+{
+    if explained {
+        tell_page(&explain(alloc, bytes, fault), error_stream);
+        return;
+    }
+}
+
+/// Reports a fault of a file that can't be read, and tells its name and what the system says of it, where that is asked for. Answers the
+/// status of the fault.
+pub fn report_file<I: Inputs, E: Sink>(
+    alloc: Global,
+    explained: bool,
+    inputs: &I,
+    name: &str,
+    fault: &Fault,
+    error_stream: &mut E,
+) -> u8
+    ensures { EndsTold explained AnyLines fault.now result (E.contents error_stream.old) (E.contents error_stream.new)
+        (E.has_failed error_stream.old) (E.has_failed error_stream.new) }
+{
+    let status = report(fault, error_stream);
+    tell_file(alloc, explained, inputs, name, fault, error_stream);
+    status
+}
+
+/// Tells more of a fault of a file, which is read again for that, where that is asked for.
+pub fn tell_file<I: Inputs, E: Sink>(
+    alloc: Global,
+    explained: bool,
+    inputs: &I,
+    name: &str,
+    fault: &Fault,
+    error_stream: &mut E,
+)
+    ensures { TellsMore explained AnyLines (E.contents error_stream.old) (E.contents error_stream.new)
+        (E.has_failed error_stream.old) (E.has_failed error_stream.new) }
+{
+    if explained {
+        tell_page(&file_page(alloc, inputs, name, fault), error_stream);
+        return;
+    }
+}
+
+// What is told of a fault of a file.
+fn file_page<I: Inputs>(
+    alloc: Global,
+    inputs: &I,
+    name: &str,
+    fault: &Fault,
+) -> Result<Page, AllocError> {
+    match inputs.read_again(alloc, name)? {
+        Again::Bytes(bytes) => explain(alloc, bytes.as_slice(), fault),
+        Again::Words(words) => {
+            let line = format!(in alloc; "{name}: {words}")?;
+            page_of_words(alloc, line.as_str())
+        }
+    }
+}
+
+/// Reports a fault of the settings, and tells more of it by the bytes that were read, where that is asked for. Answers the status of the
+/// fault.
+pub fn report_settings<I: Inputs, E: Sink>(
+    alloc: Global,
+    explained: bool,
+    inputs: &I,
+    name: &str,
+    bytes: &[u8],
+    fault: &Fault,
+    error_stream: &mut E,
+) -> u8
+    ensures { EndsTold explained AnyLines fault.now result (E.contents error_stream.old) (E.contents error_stream.new)
+        (E.has_failed error_stream.old) (E.has_failed error_stream.new) }
+{
+    let Fault::Config { key } = fault else {
+        return report_file(alloc, explained, inputs, name, fault, error_stream);
+    };
+    let status = report(fault, error_stream);
+    tell_settings(alloc, explained, bytes, key.as_str(), error_stream);
+    status
+}
+
+// Tells more of a wrong key of the settings, where that is asked for.
+fn tell_settings<E: Sink>(
+    alloc: Global,
+    explained: bool,
+    bytes: &[u8],
+    key: &str,
+    error_stream: &mut E,
+)
+    ensures { TellsMore explained AnyLines (E.contents error_stream.old) (E.contents error_stream.new)
+        (E.has_failed error_stream.old) (E.has_failed error_stream.new) }
+{
+    if explained {
+        tell_page(&explain_settings(alloc, bytes, key), error_stream);
+        return;
+    }
+}
+
+/// Tells what `fmt` does about the findings of a text, where that is asked for.
+pub fn tell_findings<E: Sink>(
+    alloc: Global,
+    explained: bool,
+    bytes: &[u8],
+    findings: &[Finding],
+    error_stream: &mut E,
+)
+    ensures { TellsMore explained AnyLines (E.contents error_stream.old) (E.contents error_stream.new)
+        (E.has_failed error_stream.old) (E.has_failed error_stream.new) }
+{
+    if explained {
+        tell_page(&findings_page(alloc, bytes, findings), error_stream);
+        return;
+    }
+}
+
+// Tells what is on a page, unless the stream has failed, or there is none.
+fn tell_page<E: Sink>(page: &Result<Page, AllocError>, error_stream: &mut E)
+    ensures { TellsMore true (λ lines. IsOkAnd page.now (λ told. told ≡ lines)) (E.contents error_stream.old) (E.contents error_stream.new)
+        (E.has_failed error_stream.old) (E.has_failed error_stream.new) }
+{
+    let Ok(page) = page else {
+        return;
+    };
+    if error_stream.failed() {
+        return;
+    }
+    let _ = write_text(error_stream, page.as_str().as_bytes());
+}
