@@ -1,5 +1,5 @@
 -- The lines of what formatting gives: none ends with white space but in a block scalar, and each is indented by a multiple of the style's indentation.
-use Rattle.std.proofs.Common.{◌≡◌, ◌≢◌, ℕ, suc, ◌≤◌, max, true, false, ⊎_elim, List, [], ◌∷◌, ◌++◌, replicate, refl, sym, ap, ◌∙◌, subst, arith, flat_map}
+use Rattle.std.proofs.Common.{◌≡◌, ◌≢◌, ℕ, suc, ◌≤◌, max, false, ⊎_elim, List, [], ◌∷◌, ◌++◌, replicate, refl, sym, ap, ◌∙◌, subst, arith, flat_map}
 use Rattle.std.specs.Str.{IsUtf8}
 use Rattle.std.proofs.lemmas.Str.{encode_ascii}
 use Rattle.yf_chars.specs.Class.{is_white}
@@ -27,7 +27,7 @@ use Rattle.yf_emit.proofs.FormattedLines.{append_lines, formed, formed_are, form
 use Rattle.yf_emit.proofs.HeldLemmas.{BodiesHeld}
 use Rattle.yf_emit.proofs.LaidLines.{LinesAre, LineIs, more_lines, gap_lines, own_line, row_lines}
 use Rattle.yf_emit.proofs.LinedRows.{SeenLine, after_tidy, first_tidy, joined_some, own_behind, own_seen, seen_long, some_long}
-use Rattle.yf_emit.proofs.RowColumns.{AreAmong, has_left, GapSteps, no_gap, blank_step, remark_step, DecoSteps, no_decos, more_decos, StepBody, bare_body, step_body, Stepped, row_stepped, decos_stepped, gap_stepped, stream_stepped}
+use Rattle.yf_emit.proofs.RowColumns.{AreAmong, has_left, GapSteps, no_gap, blank_step, remark_step, DecoSteps, no_decos, more_decos, StepBody, bare_body, step_body, Stepped, row_stepped, decos_stepped, gap_stepped, all_stepped}
 use Rattle.yf_emit.proofs.ClearRows.{trails_bytes}
 use Rattle.yf_emit.proofs.EventsTold.{events_told, told_scalar}
 use Rattle.yf_emit.proofs.FixedBlocks.{blocks_alike}
@@ -38,6 +38,7 @@ use Rattle.yf_emit.proofs.SeenTexts.{IsSeen, ascii_ns, seen_more}
 use Rattle.yf_emit.proofs.RowEnds.{after_decos, first_deco}
 use Rattle.yf_emit.proofs.RowsUtf8.{AreLines, no_line, line_more, RowLines, no_rows, row_more}
 use Rattle.yf_emit.proofs.TidyTexts.{IsTidy, TidyDecos, TidyGap, decos_tidy, gap_tidy, last_append, tidy_line}
+use Rattle.yf_emit.specs.BareStart.{is_bare}
 
 -- A comment on a line of its own, and rows.
 
@@ -133,7 +134,7 @@ lines_tidy t u s utf8 f =
           record { scalar = λ {style} {text} {lines} h. told_scalar m.events q.events told (subst (λ z. HasScalar style text lines z) (sym f.writes.of_reading.events) (has_later (has_left (unplaced stream_ends ∷ []) h))) } in
           let limit : ℕ = suc (tall_documents b.trees) in
           let room : suc (tall_documents f.writes.trees) ≤ limit = let same = found_tall (found_reading t u s q utf8 f b).alike in omega (arith, same) in
-          let steps : Stepped s.indent limit q.events rows = stream_stepped (setting_of m s) limit q.events true m.documents f.writes.trees room among in
+          let steps : Stepped s.indent limit q.events rows = all_stepped (setting_of m s) limit q.events (is_bare m s) m.documents f.writes.trees room among in
           let lines = past_lines (gap_lines (first_gap m rows)) (formed_are b.lines f a b.are_lines) in
           gap_part a.utf8 q.events q.events s.indent limit (gap_stepped s.indent limit at_text_start comments steps) a.gap (gap_tidy at_text_start comments rows)
           (rows_part a.utf8 q.events q.events s.indent limit decos lines.0 a.rows steps a.decos (decos_tidy (source_of m rows) comments rows) (decos_stepped s.indent limit (source_of m rows) comments steps)

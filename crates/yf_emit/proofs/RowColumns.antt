@@ -19,7 +19,7 @@ use Rattle.yf_emit.specs.Fits.{is_block_style}
 use Rattle.yf_emit.specs.Layout.{Source, may_be_blank_behind, precedes_item}
 use Rattle.yf_emit.specs.Normal.{Setting, Spot, inner_spot, is_implicit, key_comment, key_spot, root_spot, value_column, value_entries, value_of_implicit, value_spot}
 use Rattle.yf_emit.specs.OneLine.{colon_behind, props_text, width, written}
-use Rattle.yf_emit.specs.Rows.{Ending, Row, anywhere, begins_below, beginning_at, behind_key, colon_row, directive_row, end_rows, entry_row, explicit_pair, is_empty_text, joined, key_row, one_line, one_line_row, pair_rows, props_row, rows, rows_of_items, rows_of_pairs, stream_rows}
+use Rattle.yf_emit.specs.Rows.{Ending, Row, anywhere, begins_below, beginning_at, behind_key, colon_row, directive_row, end_rows, entry_row, explicit_pair, is_empty_text, joined, key_row, one_line, one_line_row, pair_rows, props_row, rows, rows_of_items, rows_of_pairs, begun_at, all_rows, stream_rows}
 use Rattle.yf_emit.specs.TidyLines.{HasScalar, has_first, has_later}
 use Rattle.yf_emit.proofs.TreesMade.{either_pair}
 
@@ -318,6 +318,22 @@ module _ (c : Setting) (limit : ℕ) (all : List Placed) where
       (beginning_stepped d.start (stepped_append c.style.indent limit all (ends_stepped b d.directives)
       (stepped_append c.style.indent limit all (directives_stepped d.directives) (row_stepped no_step bare_body none_stepped))))
       (node_whole (root_spot c.style) (node_stepped 0 x.root less.0 (left_among (unplaced (document_ends x.closed) ∷ []) (later_among (left_among (flat_map flat_document xs) w)))) no_step no_step one_step))
+      (stream_stepped false ds xs (omega (arith, others)) (right_among (flat_document x) w))
+
+  begun_stepped : (start : ℕ) {xs : List Row} → AreStepped xs → AreStepped (begun_at start xs)
+  begun_stepped start none_stepped = none_stepped
+  begun_stepped start (row_stepped a b more) = row_stepped a b more
+
+  pub all_stepped : (bare : Bool) (ds : List Doc) (xs : List DocumentTree) → suc (tall_documents xs) ≤ limit → AreAmong (flat_map flat_document xs) all → AreStepped (all_rows c bare ds xs)
+  all_stepped false ds xs l w = stream_stepped true ds xs l w
+  all_stepped true [] xs l w = none_stepped
+  all_stepped true (d ∷ ds) [] l w = none_stepped
+  all_stepped true (d ∷ ds) (x ∷ xs) l w =
+      let room : suc (0 + max (tall x.root) (tall_documents xs)) ≤ limit = omega (arith, l) in
+      let less = two_less 0 (tall x.root) (tall_documents xs) room in
+      let others : suc (0 + tall_documents xs) ≤ limit = less.1 in
+      stepped_append c.style.indent limit all
+      (begun_stepped d.start (node_whole (root_spot c.style) (node_stepped 0 x.root less.0 (left_among (unplaced (document_ends x.closed) ∷ []) (later_among (left_among (flat_map flat_document xs) w)))) no_step no_step one_step))
       (stream_stepped false ds xs (omega (arith, others)) (right_among (flat_document x) w))
 
 -- Comments between rows.

@@ -1,5 +1,5 @@
 -- Texts that match the patterns of the core schema, and one that does not.
-use Rattle.std.proofs.Common.{◌≡◌, true, false, true≢false, refl, sym, ◌∙◌}
+use Rattle.std.proofs.Common.{◌≡◌, false, true≢false, refl, sym, ◌∙◌}
 use Rattle.std.specs.Prelude.{[], codes}
 use Rattle.yf_lines.specs.CoreSchema.{Matches, in_class, as_written, in_order, the_one, the_other, left_out, given, no_time, once_more, core_pattern}
 use Rattle.yf_lines.specs.Steady.{is_steady, is_only, is_marker_of, has_line_feed, ends_with_colon}

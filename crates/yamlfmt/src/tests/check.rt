@@ -152,6 +152,15 @@ static SEQUENCES: [Row; 2] = [
     ("---\na:\n- x\n", ""),
 ];
 
+/// Streams, and what is found in them where a first document without a `---` stays so.
+static STARTS: [Row; 5] = [
+    ("# c\na: 1\n", ""),
+    ("---\na: 1\n", ""),
+    ("-\n# c\n  b\n", ""),
+    ("a\n...\nb\n", "3:1 document-start (fixable)"),
+    ("--- a\n", "1:1 document-start (fixable)"),
+];
+
 /// The same as `first_wrong`, in the style that settings make.
 fn first_wrong_under(alloc: Global, settings: &str, rows: &'static [Row]) -> Option<&'static str> {
     match style_from_toml(alloc, settings) {
@@ -161,8 +170,10 @@ fn first_wrong_under(alloc: Global, settings: &str, rows: &'static [Row]) -> Opt
 }
 
 #[test]
-fn checks_sequences_at_their_keys(rt: HostRuntime) {
+fn checks_under_settings(rt: HostRuntime) {
     let wrong = first_wrong_under(rt.alloc(), "seq_indent = false\n", &SEQUENCES);
+    assert!(rt; wrong.is_none(), "{}", wrong.unwrap_or(""));
+    let wrong = first_wrong_under(rt.alloc(), "document_start = \"keep\"\n", &STARTS);
     assert!(rt; wrong.is_none(), "{}", wrong.unwrap_or(""));
 }
 

@@ -2,8 +2,17 @@
 
 use crate::tests::answers::reports;
 use std::alloc::Global;
+use yf_emit::style::DocumentStart;
 use yf_lines::quotes::Quotes;
 use yf_program::settings::style_from_toml;
+
+/// Whether a first document without a `---` stays so.
+fn keeps(document_start: DocumentStart) -> bool {
+    match document_start {
+        DocumentStart::Always => false,
+        DocumentStart::Keep => true,
+    }
+}
 
 /// Whether a settings file sets these.
 fn sets(
@@ -13,6 +22,7 @@ fn sets(
     max_line: usize,
     quotes: Quotes,
     seq_indent: bool,
+    document_start: DocumentStart,
 ) -> bool {
     match style_from_toml(alloc, text) {
         Ok(style) => {
@@ -20,22 +30,46 @@ fn sets(
                 && style.max_line == max_line
                 && style.quotes == quotes
                 && style.seq_indent == seq_indent
+                && keeps(style.document_start) == keeps(document_start)
         }
         Err(_) => false,
     }
 }
 
-/// Settings files, and what they set: `indent`, `max_line`, `quotes` and `seq_indent`.
-static SET: [(&str, usize, usize, Quotes, bool); 5] = [
-    ("", 2, 100, Quotes::Double, true),
-    ("indent = 4", 4, 100, Quotes::Double, true),
-    ("# none\n", 2, 100, Quotes::Double, true),
+/// Settings files, and what they set: `indent`, `max_line`, `quotes`, `seq_indent` and `document_start`.
+static SET: [(&str, usize, usize, Quotes, bool, DocumentStart); 6] = [
+    ("", 2, 100, Quotes::Double, true, DocumentStart::Always),
     (
-        "seq_indent = false\nquotes = \"single\"\nmax_line = 40\nindent = 8\n",
+        "indent = 4",
+        4,
+        100,
+        Quotes::Double,
+        true,
+        DocumentStart::Always,
+    ),
+    (
+        "# none\n",
+        2,
+        100,
+        Quotes::Double,
+        true,
+        DocumentStart::Always,
+    ),
+    (
+        "document_start = \"always\"",
+        2,
+        100,
+        Quotes::Double,
+        true,
+        DocumentStart::Always,
+    ),
+    (
+        "seq_indent = false\nquotes = \"single\"\ndocument_start = 'keep'\nmax_line = 40\nindent = 8\n",
         8,
         40,
         Quotes::Single,
         false,
+        DocumentStart::Keep,
     ),
     (
         "max_line = 1_000\nquotes = 'double'",
@@ -43,13 +77,22 @@ static SET: [(&str, usize, usize, Quotes, bool); 5] = [
         1000,
         Quotes::Double,
         true,
+        DocumentStart::Always,
     ),
 ];
 
 #[test]
 fn sets_what_is_named(rt: HostRuntime) {
-    for (text, indent, max_line, quotes, seq_indent) in &SET {
-        let is_set = sets(rt.alloc(), text, *indent, *max_line, *quotes, *seq_indent);
+    for (text, indent, max_line, quotes, seq_indent, start) in &SET {
+        let is_set = sets(
+            rt.alloc(),
+            text,
+            *indent,
+            *max_line,
+            *quotes,
+            *seq_indent,
+            *start,
+        );
         assert!(rt; is_set, "{text}");
     }
 }
@@ -63,12 +106,18 @@ fn is_refused(alloc: Global, text: &str, line: &str) -> bool {
 }
 
 /// Settings files that are refused, and the line that is printed.
-static REFUSED: [(&str, &str); 17] = [
+static REFUSED: [(&str, &str); 20] = [
     ("indent = 9", "config: indent\n"),
     ("tabs = 1", "config: tabs\n"),
     ("indent =", "config: \n"),
     ("indent = 9\na = 1", "config: a\n"),
     ("seq_indent = 1", "config: seq_indent\n"),
+    ("document_start = \"Keep\"", "config: document_start\n"),
+    ("document_start = true", "config: document_start\n"),
+    (
+        "seq_indent = 3\ndocument_start = 2\n",
+        "config: document_start\n",
+    ),
     ("indent = 1", "config: indent\n"),
     ("indent = -4", "config: indent\n"),
     ("indent = 2.0", "config: indent\n"),
