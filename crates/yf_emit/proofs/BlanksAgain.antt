@@ -1,5 +1,5 @@
 -- In each reading of what formatting gives the notes on blank lines are those of the blank lines that were printed.
-use Rattle.std.proofs.Common.{◌≡◌, ℕ, ◌+◌, ◌<◌, Bool, true, false, List, [], ◌∷◌, ◌++◌, flat_map, length, refl, sym, ap, ◌∙◌, subst, arith, add-zero}
+use Rattle.std.proofs.Common.{◌≡◌, ℕ, ◌+◌, ◌<◌, Bool, false, List, [], ◌∷◌, ◌++◌, flat_map, length, refl, sym, ap, ◌∙◌, subst, arith, add-zero}
 use Rattle.std.specs.Prelude.{filter}
 use Rattle.std.specs.Str.{IsUtf8}
 use Rattle.yf_chars.specs.Chain.{Chain}
@@ -24,7 +24,7 @@ use Rattle.yf_emit.specs.Decorated.{Deco, first_gap, inline_then, lines_then, ro
 use Rattle.yf_emit.specs.Format.{Formats}
 use Rattle.yf_emit.specs.Layout.{Source, own_line_comments, precedes_item, source_of}
 use Rattle.yf_emit.specs.Normal.{setting_of}
-use Rattle.yf_emit.specs.Rows.{Row, at_text_start}
+use Rattle.yf_emit.specs.Rows.{Row, at_text_start, all_rows}
 use Rattle.yf_emit.specs.declared.style.Style.{Style}
 use Rattle.yf_emit.proofs.AlikeLemmas.{shapes}
 use Rattle.yf_emit.proofs.AllBlanks.{BlanksFound, first_blank}
@@ -41,11 +41,12 @@ use Rattle.yf_emit.proofs.GapsAgain.{Blanks, gap_at_end, gap_with}
 use Rattle.yf_emit.proofs.GapsNoted.{HeadNote, bare_head, gap_noted}
 use Rattle.yf_emit.proofs.GapsStand.{GapStands, gap_placed, place_of, since_later}
 use Rattle.yf_emit.proofs.HeldLemmas.{BodiesHeld}
-use Rattle.yf_emit.proofs.NoteStreams.{documents_noted}
 use Rattle.yf_emit.proofs.NoteTrees.{start_unlined}
 use Rattle.yf_emit.proofs.PlacedRows.{PlacedRow, RowsIn}
 use Rattle.yf_emit.proofs.RowGaps.{one_chain}
 use Rattle.yf_emit.proofs.RowNotes.{AllNoted, RowNotes, no_row_notes, note_kept, note_moved, all_noted, pick}
+use Rattle.yf_emit.proofs.NoteStreams.{all_noted_documents}
+use Rattle.yf_emit.specs.BareStart.{is_bare}
 
 -- the gap before the first row
 first_found : {t : List ℕ} {es : List Placed} {line : ℕ} {gap : List GapLine} {firsts own noted : List CommentValue} {z : List ℕ} (others rest : List CommentValue) (column : ℕ) (hs : List CommentValue) (a : Bool) → IsUtf8 t → AreGapLines gap → gap ≡ gap_with at_text_start column hs a
@@ -104,10 +105,11 @@ blanks_found t u s q utf8 f a w =
     let form = formed utf8 f in
     let events = a.of_reading.events in
     let noted = subst (λ z. AllNoted u 0 z) events (all_noted a.noted) in
-    let made = documents_noted {c = setting_of m s} q.comments a.trees w.roots w.same w.alike form.fit last noted.1 in
+    let made = all_noted_documents {c = setting_of m s} q.comments a.trees w.roots w.same w.alike form.fit last noted.1 in
+    let notes : RowNotes u 0 all.found_rows xs (rows_of q s a.trees) made.ends = subst (λ b. RowNotes u 0 all.found_rows xs (all_rows (setting_of q s) b q.documents a.trees) made.ends) (sym w.bare) made.rows in
     let at : (o : ℕ) → floor_at o 0 q.events ≡ pick o 0 made.ends =
     λ o. ap (λ z. floor_at o 0 z) events ∙ (start_unlined (unplaced stream_starts) (unplaced stream_ends) (λ v p. refl) (λ v p. refl) (flat_map flat_document a.trees) o 0 ∙ made.at o 0) in
     let text : u ≡ gap_then (first_gap m xs) (lines_then xs (row_decos m xs) []) = f.writes.is ∙ layout_then m s f.writes.trees in
     let comments : a.derived.comments ≡ all.firsts ++ all.others = ap (λ (z : Documents). z.comments) w.derived ∙ all.are in
-    found_of (all_events all.well.documents.documents) m form.utf8 all.placed form.gap form.decos all.held.bodies (subst (λ z. Rest u 0 z) text (rest_start u form.utf8)) all.begin all.lines all.told (subst (λ z. NotedComments u q.events z q.comments) comments a.comments) made.rows
-    (found_rows true w.alike) at
+    found_of (all_events all.well.documents.documents) m form.utf8 all.placed form.gap form.decos all.held.bodies (subst (λ z. Rest u 0 z) text (rest_start u form.utf8)) all.begin all.lines all.told (subst (λ z. NotedComments u q.events z q.comments) comments a.comments) notes
+    (found_rows (is_bare m s) (is_bare q s) w.bare w.alike) at

@@ -1,5 +1,5 @@
 -- The notes on blank lines of a formatted text are those of the text, where a blank line may stand.
-use Rattle.std.proofs.Common.{◌≡◌, ℕ, Bool, true, false, List, [], ◌∷◌, ◌++◌, map, refl, sym, ap, ◌∙◌, subst}
+use Rattle.std.proofs.Common.{◌≡◌, ℕ, Bool, false, List, [], ◌∷◌, ◌++◌, map, refl, sym, ap, ◌∙◌, subst}
 use Rattle.std.specs.Prelude.{◌&&◌, filter, not}
 use Rattle.std.specs.Str.{IsUtf8}
 use Rattle.yf_comments.specs.Comment.{CommentValue}
@@ -25,6 +25,7 @@ use Rattle.yf_emit.proofs.GapsAgain.{Blanks, first_remark, gap_at_end, gap_more,
 use Rattle.yf_emit.proofs.NormalRestyled.{normal_restyled}
 use Rattle.yf_emit.proofs.ReadingsAgain.{OwnCarried, alone_carried, rows_carried}
 use Rattle.yf_emit.proofs.RowsAgain.{Apart, Carry, last_carries, row_carries, kept_first, kept_others}
+use Rattle.yf_emit.specs.BareStart.{is_bare}
 
 -- Between two rows.
 
@@ -113,7 +114,7 @@ blanks_kept t u s utf8 given = record {
       let ys : List Row = rows_of q s b.trees in
       let w = found_reading t u s q utf8 f b in
       let carried = again_carried q utf8 f b w (blanks_found t u s q utf8 f b w) in
-      all_spaced (source_of m xs) (source_of q ys) (own_line_comments (source_of m xs) xs) xs q ys refl (found_rows true w.alike) carried.own;
+      all_spaced (source_of m xs) (source_of q ys) (own_line_comments (source_of m xs) xs) xs q ys refl (found_rows (is_bare m s) (is_bare q s) w.bare w.alike) carried.own;
   comments = λ f. ap (λ (w : Lists). w.comments) f.is_normal.is;
   entries = λ f. restyled_entries (normal_restyled f.is_normal).events;
 }

@@ -17,9 +17,10 @@ use Rattle.yf_emit.specs.Decorated.{GapLine, blank, remark, Deco, blank_if, rema
 use Rattle.yf_emit.specs.FitDocuments.{FitDocuments}
 use Rattle.yf_emit.specs.Layout.{Source, trimmed, precedes_item, may_be_blank_behind, own_line_comments, source_of}
 use Rattle.yf_emit.specs.Normal.{Setting, Spot, inner_spot, key_spot, value_of_implicit, value_entries, value_spot, root_spot, is_implicit, key_comment, setting_of}
-use Rattle.yf_emit.specs.Rows.{Row, Ending, anywhere, one_line, one_line_row, props_row, joined, behind_sign, behind_key, begins_below, entry_row, colon_row, key_row, explicit_pair, pair_rows, rows, rows_of_items, rows_of_pairs, directive_row, end_rows, start_row, beginning_at, stream_rows}
+use Rattle.yf_emit.specs.BareStart.{is_bare}
+use Rattle.yf_emit.specs.Rows.{Row, Ending, anywhere, one_line, one_line_row, props_row, joined, behind_sign, behind_key, begins_below, entry_row, colon_row, key_row, explicit_pair, pair_rows, rows, rows_of_items, rows_of_pairs, directive_row, end_rows, start_row, beginning_at, begun_at, all_rows, stream_rows}
 use Rattle.yf_emit.specs.OneLine.{written, props_text}
-use Rattle.yf_emit.proofs.RowsUtf8.{RowLines, no_rows, row_more, stream_lines}
+use Rattle.yf_emit.proofs.RowsUtf8.{RowLines, no_rows, row_more, all_lines}
 use Rattle.yf_emit.proofs.TreesMade.{either_pair}
 
 -- Columns of rows.
@@ -214,6 +215,20 @@ stream_steps c is_first (d ∷ ds) (x ∷ xs) =
     let document : Steps 0 (heads ++ tree) = steps_append (head_steps is_first d.start (next_column 0 tree) d.directives) root in
     (steps_append (subst (λ k. Steps k (heads ++ tree)) (sym others.1) document) others.0, first)
 
+begun_steps : {k : ℕ} {xs : List Row} (start : ℕ) → Steps k xs → Steps k (begun_at start xs)
+begun_steps start no_steps = no_steps
+begun_steps start (one_step l a) = one_step l a
+
+all_steps : (c : Setting) (bare : Bool) (ds : List Doc) (trees : List DocumentTree) → Steps 0 (all_rows c bare ds trees)
+all_steps c false ds trees = (stream_steps c true ds trees).0
+all_steps c true [] trees = no_steps
+all_steps c true (d ∷ ds) [] = no_steps
+all_steps c true (d ∷ ds) (x ∷ xs) =
+    let others = stream_steps c false ds xs in
+    let wide : 2 ≤ c.style.indent = c.style.indent_from in
+    let root = (node_steps c x.root).steps (root_spot c.style) 0 (omega (arith, wide)) (omega arith) in
+    steps_append (subst (λ k. Steps k (begun_at d.start (rows c (root_spot c.style) x.root))) (sym others.1) (begun_steps d.start root)) others.0
+
 -- What stands after the lines of a block scalar.
 
 gap_join : (k : ℕ) (xs ys : List GapLine) → AllLeft k xs → AllLeft k ys → AllLeft k (xs ++ ys)
@@ -273,5 +288,5 @@ calm_rows c cs (row_more {x = x} {xs = xs} a s k more) (one_step l b) =
 pub layout_calm : (m : Lists) (s : Style) (trees : List DocumentTree) → FitDocuments m.documents trees → Calm (rows_of m s trees) (row_decos m (rows_of m s trees)) []
 layout_calm m s trees fit =
     let c = setting_of m s in
-    calm_rows (source_of m (rows_of m s trees)) (own_line_comments (source_of m (rows_of m s trees)) (rows_of m s trees)) (stream_lines c true fit)
-    (stream_steps c true m.documents trees).0
+    calm_rows (source_of m (rows_of m s trees)) (own_line_comments (source_of m (rows_of m s trees)) (rows_of m s trees)) (all_lines c (is_bare m s) fit)
+    (all_steps c (is_bare m s) m.documents trees)

@@ -11,6 +11,7 @@ use Rattle.yf_events.specs.Tree.{DocumentTree}
 use Rattle.yf_events.specs.declared.event.Span.{Span}
 use Rattle.yf_events.specs.declared.lists.Lists.{Lists}
 use Rattle.yf_emit.specs.declared.style.Style.{Style}
+use Rattle.yf_emit.specs.BareStart.{is_bare}
 use Rattle.yf_emit.specs.CommentsPlaced.{CommentsPlaced, at_leaf, ends_line, rows_in, source_in}
 use Rattle.yf_emit.specs.Decorated.{rows_of}
 use Rattle.yf_emit.specs.Format.{Formats}
@@ -24,7 +25,7 @@ use Rattle.yf_emit.proofs.DocumentTrails.{leaves_of}
 use Rattle.yf_emit.proofs.FixedLawsHold.{found_reading}
 use Rattle.yf_emit.proofs.FormatTrails.{formats_trail}
 use Rattle.yf_emit.proofs.FormatsFixed.{again_same}
-use Rattle.yf_emit.proofs.KeysTold.{keys_told}
+use Rattle.yf_emit.proofs.KeysTold.{laid_keys}
 use Rattle.yf_emit.proofs.LeavesTold.{laid_trees}
 use Rattle.yf_emit.proofs.RowLeaves.{leaves_on}
 use Rattle.yf_emit.proofs.SourceStands.{source_stands}
@@ -157,7 +158,7 @@ source_leaves {t} {u} {s} utf8 f =
 pub comments_stay : (t u : List ℕ) (s : Style) → IsUtf8 t → CommentsPlaced t s u
 comments_stay t u s utf8 = record {
   leaves = λ f. source_leaves utf8 f;
-  keys = λ f. keys_told (setting_of f.normal s) true f.normal.documents f.writes.trees f.writes.of_reading.documents;
+  keys = λ f. laid_keys (setting_of f.normal s) (is_bare f.normal s) f.normal.documents f.writes.trees f.writes.of_reading.documents;
   exact = λ f d. rows_exact f.normal (rows_in f) d;
   stays_at_end = λ f i leaf d on_line got first near.
       let c : Source = source_in f in

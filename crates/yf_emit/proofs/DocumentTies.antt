@@ -10,19 +10,21 @@ use Rattle.yf_emit.specs.declared.style.Style.{Style}
 use Rattle.yf_emit.specs.Decorated.{Deco}
 use Rattle.yf_emit.specs.FoundTrees.{FoundTrees, none_found, one_found, words_of}
 use Rattle.yf_emit.specs.Normal.{root_spot}
-use Rattle.yf_emit.specs.Rows.{Row, beginning_at, directive_row, end_rows, rows, start_row, stream_rows}
+use Rattle.yf_emit.specs.Rows.{Row, beginning_at, directive_row, end_rows, rows, start_row, stream_rows, all_rows, begun_at}
 use Rattle.yf_emit.proofs.AlikeLemmas.{setting, shapes}
 use Rattle.yf_emit.proofs.BareNodes.{bare, bare_tree}
 use Rattle.yf_emit.proofs.CarriedAgain.{Owns, last_owns, row_owns, all_of, first_from, owns_upward}
 use Rattle.yf_emit.proofs.CommentsCut.{In, Under, each_at, each_join, each_map, upward_over}
 use Rattle.yf_emit.proofs.FixedBlocks.{same_block_rows}
 use Rattle.yf_emit.proofs.FoundMarks.{Mark, marks, placed_marks, node_marks}
-use Rattle.yf_emit.proofs.FoundTexts.{FoundRoots, no_roots, one_root}
+use Rattle.yf_emit.proofs.FoundTexts.{FoundRoots, no_roots, one_root, AllRoots, marked_roots, bare_root}
 use Rattle.yf_emit.proofs.HeadRows.{HeadRows, mark_head, more_heads, heads_before}
 use Rattle.yf_emit.proofs.PlacedRows.{PlacedRow, RowsIn, last_row, row_before}
 use Rattle.yf_emit.proofs.RowsRenoted.{rows_renoted}
 use Rattle.yf_emit.proofs.RowTies.{node_tie, start_tie, head_tie, Ties, no_ties, a_tie, LaidRows, last_laid, row_laid, other_shapes}
 use Rattle.yf_emit.proofs.TrailAgain.{in_parts}
+use Rattle.yf_emit.proofs.FoundStreams.{begun_placed}
+use Rattle.yf_emit.proofs.FixedRows.{begun_shaped}
 
 -- a row without items was laid out without any
 pub data Barely : List Row → List PlacedRow → Type 0 where
@@ -193,3 +195,39 @@ stream_ties {s = s} {ms = ms} {cs = cs} {is_first = is_first} (y ∷ ys) (one_ro
     ties_apart hs bs ax fs gs fx heads inner qs
     (head_ties is_first f.start d.start f.directives d.directives words h (left_apart hs bs ax fs gs fx heads inner qs left)
     (λ further. node_ties bs gs inner (same_block_rows s (root_spot s) alike) (node_marks cs (root_spot s) refl alike (rows_renoted y.root root r)) further (λ last. stream_ties ys more rest others last)))
+
+-- where the first document is without a `---`
+
+abbrev begun_marks : ℕ → List Mark → List Mark
+begun_marks start [] = []
+begun_marks start (m ∷ ms) = (start ∷ m.0, m.1) ∷ ms
+
+row_marks : (start : ℕ) (rs : List Row) → marks (begun_at start rs) ≡ begun_marks start (marks rs)
+row_marks start [] = refl
+row_marks start (r ∷ rs) = refl
+
+found_marks : (start : ℕ) (ps : List PlacedRow) → placed_marks (begun_placed start ps) ≡ begun_marks start (placed_marks ps)
+found_marks start [] = refl
+found_marks start (p ∷ ps) = refl
+
+bare_ties : {u : List ℕ} {s : Style} {ms cs : List CommentValue} {b : Bool} {j : ℕ} {ds es : List Doc} {xs zs : List DocumentTree} {ps : List PlacedRow} (ys : List DocumentTree) → AllRoots u (setting s ms) b es xs zs ps
+    → map bare_tree zs ≡ map bare_tree ys → FoundTrees s ms u cs ds xs es ys → Left cs j (all_rows (setting s ms) b ds xs) (all_rows (setting s cs) b es ys) ps
+    → Ties cs (all_rows (setting s ms) b ds xs) (all_rows (setting s cs) b es ys) ps
+bare_ties ys (marked_roots roots) e found left = stream_ties ys roots e found left
+bare_ties [] (bare_root b r more) e found left = absurd cc
+bare_ties {s = s} {ms = ms} {cs = cs} (y ∷ ys) (bare_root {d = d} {z = z} {zs = zs} {inner = inner} {qs = qs} b r more) e (one_found {d = f} {x = x} words alike calm others) left =
+    let root : bare z.root ≡ bare y.root = ap (first_root (bare_tree z)) e in
+    let rest : map bare_tree zs ≡ map bare_tree ys = ap other_trees e in
+    let bs : List Row = rows (setting s ms) (root_spot s) x.root in
+    let gs : List Row = rows (setting s cs) (root_spot s) y.root in
+    node_ties (begun_at f.start bs) (begun_at d.start gs) (begun_placed d.start inner)
+    (begun_shaped f.start bs ∙ (same_block_rows s (root_spot s) alike ∙ sym (begun_shaped d.start gs)))
+    (row_marks d.start gs ∙ (ap (begun_marks d.start) (node_marks cs (root_spot s) refl alike (rows_renoted y.root root r)) ∙ sym (found_marks d.start inner)))
+    left (λ last. stream_ties ys more rest others last)
+
+pub all_ties : {u : List ℕ} {s : Style} {ms cs : List CommentValue} {b c : Bool} {j : ℕ} {ds es : List Doc} {xs zs : List DocumentTree} {ps : List PlacedRow} (ys : List DocumentTree) → c ≡ b → AllRoots u (setting s ms) b es xs zs ps
+    → map bare_tree zs ≡ map bare_tree ys → FoundTrees s ms u cs ds xs es ys → Left cs j (all_rows (setting s ms) b ds xs) (all_rows (setting s cs) c es ys) ps
+    → Ties cs (all_rows (setting s ms) b ds xs) (all_rows (setting s cs) c es ys) ps
+all_ties {s = s} {ms = ms} {cs = cs} {b = b} {j = j} {ds = ds} {es = es} {xs = xs} {ps = ps} ys same roots e found left =
+    subst (λ w. Ties cs (all_rows (setting s ms) b ds xs) (all_rows (setting s cs) w es ys) ps) (sym same)
+    (bare_ties ys roots e found (subst (λ w. Left cs j (all_rows (setting s ms) b ds xs) (all_rows (setting s cs) w es ys) ps) same left))

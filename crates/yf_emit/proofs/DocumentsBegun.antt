@@ -1,5 +1,5 @@
 -- Where the documents of a layout begin, among its comments.
-use Rattle.std.proofs.Common.{◌≡◌, ℕ, true, List, [], ◌∷◌, ◌++◌, map, sym, ap, ◌∙◌, subst, arith}
+use Rattle.std.proofs.Common.{◌≡◌, ℕ, true, List, [], ◌∷◌, ◌++◌, map, sym, ap, ◌∙◌, subst, arith, false}
 use Rattle.std.proofs.lemmas.List.{map-append}
 use Rattle.yf_comments.specs.Comment.{CommentValue}
 use Rattle.yf_events.specs.declared.directive.Directive.{Directive}
@@ -7,7 +7,7 @@ use Rattle.yf_events.specs.Tree.{Node}
 use Rattle.yf_grammar.specs.Meaning.{Meaning}
 use Rattle.yf_stream.specs.Stream.{Document, document_of, Documents, with_document, with_comments}
 use Rattle.yf_stream.proofs.ReadingOrder.{explicit_ascends}
-use Rattle.yf_emit.specs.Beginnings.{begins_behind, documents_begin, steps_with}
+use Rattle.yf_emit.specs.Beginnings.{begins_behind, documents_begin, steps_with, begins_on}
 use Rattle.yf_emit.specs.Carried.{carried_texts, comments_in}
 use Rattle.yf_emit.specs.Decorated.{Deco, first, after}
 use Rattle.yf_emit.specs.Normal.{Setting}
@@ -34,11 +34,12 @@ pub documents_begun : {i k j : ℕ} {a b : List Step} (cs : List CommentValue) (
 unfolding with_document
 documents_begun cs d x c a = stand_join c a
 
-pub explicit_begun : {t : List ℕ} {c : Setting} {x : Node} {rs : List Row} {q : ℕ} {r : List ℕ} (row : Row) (ds : List Deco) → row.ending ≡ at_document_start → NoStarts rs → (m : ExplicitMade t c x (row ∷ rs) ds q r)
+pub explicit_begun : {t : List ℕ} {c : Setting} {x : Node} {rs : List Row} {q : ℕ} {r : List ℕ} (row : Row) (ds : List Deco) → row.begins ≡ false → row.ending ≡ at_document_start → NoStarts rs → (m : ExplicitMade t c x (row ∷ rs) ds q r)
     → Stand q (q ∷ []) m.meaning.comments (steps_with documents_begin (row ∷ rs) ds) m.place
-explicit_begun {rs = rs} {q = q} row ds e none m =
+explicit_begun {rs = rs} {q = q} row ds b e none m =
     let same : steps_with documents_begin (row ∷ rs) ds ≡ a_leaf ∷ comment_steps (comments_in (row ∷ rs) ds) =
-    ap (λ w. begins_behind w ++ (comment_steps (carried_texts (first ds)) ++ steps_with documents_begin rs (after ds))) e
+    ap (λ w. begins_on w row.ending ++ (comment_steps (carried_texts (first ds)) ++ steps_with documents_begin rs (after ds))) b
+    ∙ (ap (λ w. begins_behind w ++ (comment_steps (carried_texts (first ds)) ++ steps_with documents_begin rs (after ds))) e
     ∙ ap (λ w. a_leaf ∷ w) (ap (λ w. comment_steps (carried_texts (first ds)) ++ w) (quiet_steps none (after ds))
-    ∙ sym (map-append (λ (w : List ℕ). a_comment w) (carried_texts (first ds)) (comments_in rs (after ds)))) in
+    ∙ sym (map-append (λ (w : List ℕ). a_comment w) (carried_texts (first ds)) (comments_in rs (after ds))))) in
     subst (λ w. Stand q (q ∷ []) m.meaning.comments w m.place) (sym same) (leaf_stands (omega arith) (comments_stand (explicit_ascends m.node) m.is))

@@ -1,6 +1,6 @@
 -- Rows that are upright cut the comments by the documents that begin on them, as they do by their leaves: what trails a row of a document stands
 -- before the next document.
-use Rattle.std.proofs.Common.{◌≡◌, ◌≢◌, ℕ, max, ◌<◌, ◌≤◌, Bool, true, false, true≢false, ◌&&◌, ◌||◌, List, [], ◌∷◌, ◌++◌, map, Some, None, refl, sym, ap, ◌∙◌, subst, arith, append_assoc, ⊎_elim}
+use Rattle.std.proofs.Common.{◌≡◌, ◌≢◌, ℕ, max, ◌<◌, ◌≤◌, Bool, true, false, true≢false, ◌&&◌, ◌||◌, List, [], ◌∷◌, ◌++◌, map, Some, None, refl, sym, ap, ◌∙◌, subst, arith, append_assoc, ⊎_elim, ◌+◌}
 use Rattle.std.specs.Prelude.{find, nat_le, nat_lt, zip, if◌then◌else◌}
 use Rattle.std.specs.List.{list_any}
 use Rattle.std.proofs.lemmas.Bool.{cases_lt}
@@ -29,7 +29,7 @@ use Rattle.yf_stream.proofs.ReadingTrees.{TreesStand, no_trees_stand, tree_stand
 use Rattle.yf_emit.specs.Beginnings.{documents_begin}
 use Rattle.yf_emit.specs.Layout.{Remark, Source, first_comment, is_before, next_leaf, trailing}
 use Rattle.yf_emit.specs.Normal.{Setting, normal_document, root_spot}
-use Rattle.yf_emit.specs.Rows.{Row, beginning_at, directive_row, end_rows, rows, start_row, stream_rows}
+use Rattle.yf_emit.specs.Rows.{Row, beginning_at, directive_row, end_rows, rows, start_row, stream_rows, all_rows, begun_at}
 use Rattle.yf_emit.proofs.CommentsCut.{In, in_first, in_rest, Flowing, no_flow, a_flow, none_trails}
 use Rattle.yf_emit.proofs.ItemsOrder.{items_on, rises_greatest}
 use Rattle.yf_emit.proofs.LeavesRise.{Steps, no_step, a_step, node_steps, steps_order}
@@ -39,12 +39,13 @@ use Rattle.yf_emit.proofs.NormalSame.{root_same}
 use Rattle.yf_emit.proofs.PlacedTrees.{node_placed}
 use Rattle.yf_emit.proofs.QuietRows.{node_flows}
 use Rattle.yf_emit.proofs.QuietTrees.{Free, free_at, node_sits}
-use Rattle.yf_emit.proofs.RowFlow.{greatest, precedes_greatest, Has, has_first, has_rest, Near, at_leaf, before_leaf, RowTrail, untrailed, trailed_after, Upright, no_upright, an_upright, row_cut_by}
+use Rattle.yf_emit.proofs.RowFlow.{greatest, precedes_greatest, Has, has_first, has_rest, Near, at_leaf, before_leaf, RowTrail, untrailed, trailed_after, Upright, no_upright, an_upright, row_cut_by, starts_on, starts_are}
 use Rattle.yf_emit.proofs.RowLeaves.{leaves_on, node_leaves}
 use Rattle.yf_emit.proofs.RowsFit.{rises_apart}
 use Rattle.yf_emit.proofs.SourceStands.{head_rows}
-use Rattle.yf_emit.proofs.StartsBefore.{AllFrom, none_later, one_later, later_from, none_earlier, one_earlier}
+use Rattle.yf_emit.proofs.StartsBefore.{AllFrom, none_later, one_later, later_from, none_earlier, one_earlier, later_join, none_before, one_before, starts_before}
 use Rattle.yf_emit.proofs.StyledTwice.{normal_house}
+use Rattle.yf_emit.proofs.DocumentsPrinted.{RootsLaid}
 
 -- No line break ends between the end of a leaf and a comment that stands on the line on which the leaf ends.
 
@@ -257,3 +258,45 @@ module _ {t : List ℕ} (lines : List Line) (are_lines : AreLines t lines) (c : 
       (λ n m upright. root_flow j z.end from root others (stream_bare st false ds (map (normal_document t st) trees)) upright (rows_none st (root_spot st.style) (normal_document t st tree).root)
       (omega (arith, m, within)) (node.rises (root_spot st.style)) (λ s h. steps_has (node_steps b) (subst (λ w. Has s w) leaves_are h))
       (λ k o rest. stream_flow u st same false o more rest)))
+
+  -- Where the first document is without a `---`: it begins on the first row of its root, and no comment stands between its beginning and the last item on that row.
+
+  begun_flow : (start j : ℕ) → start ≤ j → Free cs start → Broken t j → {rest : List ℕ} → AllFrom j rest → (xs ys : List Row) → (xs ≡ [] → ⊥) → Bare ys → {it : ℕ} → Upright c cs it (begun_at start xs ++ ys) → NoStarts xs → it ≤ start
+      → Rises start (items_on xs) j → ((s : Span) → Has s (leaves_on xs) → (s.start ≤ j) × (s.end ≤ j)) → ((d : CommentValue) → In d cs → start < d.offset → d.offset < j → AllFrom d.offset (starts_on (begun_at start xs ++ ys)) → ⊥)
+      → ((n : ℕ) → n ≤ j → Upright c cs n ys → Flowing documents_begin c cs n ys rest) → Flowing documents_begin c cs it (begun_at start xs ++ ys) (start ∷ rest)
+  begun_flow start j l free z from [] ys none bare up silent m r ends unled k = absurd (none refl)
+  begun_flow start j l free z {rest} from (x ∷ xs) ys none bare {it} (an_upright first later fits trail more) (no_start_on e silent) m r ends unled k =
+      let parts = rises_apart x.items (items_on xs) r in
+      let low : greatest x.items ≤ parts.middle = rises_greatest parts.one in
+      let high : parts.middle ≤ j = rises_order parts.two in
+      let top : max it (greatest (start ∷ x.items)) ≤ j = omega (arith, low, high, l, m) in
+      a_flow (greatest (start ∷ x.items)) (start ∷ []) refl (λ d. precedes_greatest (start ∷ x.items) d.offset)
+      (record {
+        still = λ d i n. one_later (⊎_elim
+            (λ (w : start < d.offset). absurd (unled d i w (omega (arith, n, top)) (later_join (fits.still d i n) (subst (λ ss. AllFrom d.offset ss) (sym (starts_are (xs ++ ys))) (later_from (omega (arith, n)) later)))))
+            (λ (w : d.offset ≤ start). w) (cases_lt start d.offset)) none_later;
+        behind = λ d i n. let apart : d.offset ≢ start = free d i in one_earlier (omega (arith, n, apart)) none_earlier;
+      })
+      (later_from top from) (λ d i. later_from (trail_before j z (record x { items = start ∷ x.items; begins = true }) xs ys bare ends trail d i) from) (row_cut_by c cs first more trail)
+      (root_flow j z from xs ys bare more silent top parts.two (λ s h. ends s (has_right x.leaves h)) k)
+
+  pub all_flow : IsUtf8 t → (st : Setting) → st.comments ≡ cs → {i : ℕ} {ds : List Doc} {trees : List DocumentTree} (bare : Bool) {it : ℕ} → it ≤ i → TreesStand t i ds trees → RootsLaid st bare (map (normal_document t st) trees)
+      → (bare ≡ true → (d : CommentValue) → In d cs → starts_before (map (λ d. d.start) ds) d.offset ≡ 1 → AllFrom d.offset (starts_on (all_rows st bare ds (map (normal_document t st) trees))) → ⊥)
+      → Upright c cs it (all_rows st bare ds (map (normal_document t st) trees)) → Flowing documents_begin c cs it (all_rows st bare ds (map (normal_document t st) trees)) (map (λ d. d.start) ds)
+  all_flow u st same false l stand laid unled up = stream_flow u st same true l stand up
+  all_flow u st same true l (no_trees_stand m) laid unled no_upright = no_flow
+  all_flow u st same true {it} l (tree_stands {j = j} {d = d} {ds = ds} {tree = tree} {trees = trees} a b more z) laid unled up =
+      let root : List Row = rows st (root_spot st.style) (normal_document t st tree).root in
+      let others : List Row = stream_rows st false ds (map (normal_document t st) trees) in
+      let placed = (root_same t st tree).placed ∙ node_placed b in
+      let house = normal_house t st (root_spot st.style) tree.root in
+      let signed : (x : CommentValue) → In x st.comments → code t x.offset ≡ 35 = λ x i. sign x (subst (λ w. In x w) same i) in
+      let node = node_flows st (node_sits u st signed (root_spot st.style) b) placed house in
+      let leaves_are : leaves_on root ≡ leaves tree.root = node_leaves st (root_spot st.style) (normal_document t st tree).root placed house ∙ (root_same t st tree).leaves in
+      let before = directives_order a in
+      let within = node_order b in
+      let from : AllFrom j (map (λ (w : Doc). w.start) ds) = starts_from more in
+      begun_flow d.start j within (free_at u cs sign z.start) z.end from root others laid (stream_bare st false ds (map (normal_document t st) trees)) up (rows_none st (root_spot st.style) (normal_document t st tree).root) (omega (arith, l, before))
+      (node.rises (root_spot st.style)) (λ s h. steps_has (node_steps b) (subst (λ w. Has s w) leaves_are h))
+      (λ e i m n f. unled refl e i (one_before d.start e.offset (map (λ (w : Doc). w.start) ds) m ∙ ap (λ k. 1 + k) (none_before (later_from (omega (arith, n)) from))) f)
+      (λ n m upright. stream_flow u st same false m more upright)

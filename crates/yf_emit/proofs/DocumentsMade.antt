@@ -124,7 +124,7 @@ root_least false = omega (arith, ints)
 pub root_stood : (s : Setting) (x : Node) → Stood s x (pos 0 -ℤ pos 1) BlockIn (root_spot s.style)
 root_stood s x = record { block = refl; least = root_least (is_sequence x); lines = omega arith }
 
-not_beside : (b : Bool) → not b ≡ false → b ≡ true
+pub not_beside : (b : Bool) → not b ≡ false → b ≡ true
 not_beside true e = refl
 not_beside false e = sym e
 

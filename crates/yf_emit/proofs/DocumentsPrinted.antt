@@ -1,6 +1,6 @@
 -- The pass of the printer over the events of a stream of normal forms adds the rows of the stream.
 use Rattle.std.proofs.Common.{◌≡◌, ℕ, zero, suc, ◌+◌, ◌≤◌, ◌<◌, Bool, true, false, List, [], ◌∷◌, ◌++◌, length, map, flat_map, drop, Some, refl, sym, ap, ◌∙◌, subst, arith, append_assoc, append-nil, add-one}
-use Rattle.std.specs.Prelude.{◌-◌, ◌^◌, ◌*◌, ◌==◌, slice_get, nat_lt, if◌then◌else◌}
+use Rattle.std.specs.Prelude.{◌-◌, ◌^◌, ◌*◌, ◌==◌, slice_get, nat_lt, if◌then◌else◌, ◌&&◌}
 use Rattle.std.proofs.lemmas.Bool.{and_parts}
 use Rattle.std.proofs.lemmas.Bool.Decides.{nat_tests}
 use Rattle.std.proofs.lemmas.List.{length-append}
@@ -9,13 +9,13 @@ use Rattle.yf_events.specs.Tree.{DocumentTree, flat, flat_document, flat_stream,
 use Rattle.yf_events.specs.declared.document.Doc.{Doc}
 use Rattle.yf_emit.specs.declared.form.decide.Form.{Form}
 use Rattle.yf_emit.specs.Begins.{keys_begin, keys_begin_in_documents}
-use Rattle.yf_emit.specs.Drafts.{Draft, finished, no_draft}
+use Rattle.yf_emit.specs.Drafts.{Draft, finished, no_draft, past}
 use Rattle.yf_emit.specs.Forms.{Site, document_forms, documents_are_placed, forms, is_placed, no_form, site_at, stream_forms}
 use Rattle.yf_emit.specs.Measuring.{setting}
 use Rattle.yf_emit.specs.Normal.{Setting, root_spot, settled, styled}
 use Rattle.yf_emit.specs.Printing as Printing
-use Rattle.yf_emit.specs.Printing.{State, Work, document_begun, looked, marked, next_line, pass, printed, remarks_of, start, state}
-use Rattle.yf_emit.specs.Rows.{Row, beginning_at, directive_row, document_rows, end_rows, rows, start_row, stream_rows}
+use Rattle.yf_emit.specs.Printing.{State, Work, document_begun, looked, marked, next_line, pass, printed, remarks_of, start, state, document_in}
+use Rattle.yf_emit.specs.Rows.{Row, beginning_at, directive_row, document_rows, end_rows, rows, start_row, stream_rows, all_rows, bare_rows, begun_at}
 use Rattle.yf_emit.proofs.AmongLemmas.{Among, back, behind_first, front}
 use Rattle.yf_emit.proofs.CountLemmas.{node_forms, two_counts}
 use Rattle.yf_emit.proofs.FedLemmas.{fed}
@@ -27,6 +27,9 @@ use Rattle.yf_emit.proofs.PrintedNodes.{At, nests}
 use Rattle.yf_emit.proofs.Reaching.{Part, back_part, front_part}
 use Rattle.yf_emit.proofs.SkipLemmas.{document_fed, pass_append}
 use Rattle.yf_emit.proofs.StyledTwice.{House}
+use Rattle.yf_emit.specs.BareSearch.{is_found_bare}
+use Rattle.yf_emit.specs.FitDocuments.{FitsBare, fits_bare}
+use Rattle.yf_events.specs.declared.event.Span.{Span}
 
 -- a document of a normal form, with so many open collections at most
 pub record IsNormal (c : Setting) (n : ℕ) (d : DocumentTree) : Type 0 where
@@ -43,6 +46,12 @@ root_site k = site_at (root_spot k.work.style)
 
 abbrev forms_in : Known → DocumentTree → List Form
 forms_in k d = document_forms [] (setting k.work.style []) (setting_in k) d
+
+-- the root of a first document without a `---` has a row
+abbrev pub RootsLaid : Setting → Bool → List DocumentTree → Type 0
+RootsLaid c false ds = Unit {0}
+RootsLaid c true [] = Unit {0}
+RootsLaid c true (d ∷ ds) = rows c (root_spot c.style) d.root ≡ [] → ⊥
 
 -- documents whose events stand from an index on
 record DocumentsAt (k : Known) (i n : ℕ) (ds : List DocumentTree) : Type 0 where
@@ -71,13 +80,23 @@ document_there (y ∷ xs) (suc j) x ys e = document_there xs j x ys e
 not_first : (j : ℕ) → (j + 1 == 0) ≡ false
 not_first j = grind (arith, nat_tests)
 
-document_looked : (k : Known) (i j p : ℕ) (is_first : Bool) (x : Doc) (b : Bool) (d : Draft) → slice_get k.work.reading.documents j ≡ Some x → (j == 0) ≡ is_first
+-- the `---` of the first document is left out, as it is found
+abbrev pub leaves_out : Known → Bool
+leaves_out k = is_found_bare k.work.reading k.work.style
+
+document_looked : (k : Known) (i j p : ℕ) (is_first : Bool) (x : Doc) (b : Bool) (d : Draft) → slice_get k.work.reading.documents j ≡ Some x → (j == 0) ≡ is_first → (is_first && leaves_out k) ≡ false
     → looked k.work i (unplaced (document_starts b)) (state d [] j p)
     ≡ state (fed (remarks_of k.work) k.trail (beginning_at x.start (end_rows is_first x.directives ++ (map directive_row x.directives ++ (start_row ∷ [])))) d) [] (j + 1) p
-document_looked k i j p is_first x b d h f =
+document_looked k i j p is_first x b d h f o =
     ap (λ o. state (Printing.document_printed k.work j o d) [] (Printing.documents_behind j o) p) h
+    ∙ (ap (λ w. state (document_in w k.work j x d) [] (j + 1) p) (ap (λ w. w && leaves_out k) f ∙ o)
     ∙ (ap (λ w. state (marked (document_begun k.work w x (next_line k.work 0 d))) [] (j + 1) p) f
-    ∙ ap (λ w. state w [] (j + 1) p) (document_fed k.work k.trail is_first x d))
+    ∙ ap (λ w. state w [] (j + 1) p) (document_fed k.work k.trail is_first x d)))
+
+bare_looked : (k : Known) (i p : ℕ) (x : Doc) (b : Bool) (d : Draft) → slice_get k.work.reading.documents 0 ≡ Some x → leaves_out k ≡ true
+    → looked k.work i (unplaced (document_starts b)) (state d [] 0 p) ≡ state (past k.work.reading.comments x.start d) [] 1 p
+bare_looked k i p x b d h o =
+    ap (λ w. state (Printing.document_printed k.work 0 w d) [] (Printing.documents_behind 0 w) p) h ∙ ap (λ w. state (document_in w k.work 0 x d) [] 1 p) o
 
 pub normal_parts : {c : Setting} {n : ℕ} {d : DocumentTree} {ds : List DocumentTree} → AreNormal c n (d ∷ ds) → IsNormal c n d × AreNormal c n ds
 normal_parts (one_more h t) = (h, t)
@@ -127,19 +146,16 @@ record Added (k : Known) (i j : ℕ) (d : DocumentTree) (w : State) (e : Draft) 
   within : done < i + length (flat_document d)
   is : pass k.work i (flat_document d) w ≡ state e [] (j + 1) done
 
-document_added : (k : Known) (i n j p : ℕ) (is_first : Bool) (x : Doc) (t : DocumentTree) (ds : List DocumentTree) (d : Draft) → DocumentsAt k i n (t ∷ ds) → p < i
-    → slice_get k.work.reading.documents j ≡ Some x → (j == 0) ≡ is_first
-    → Added k i j t (state d [] j p) (fed (remarks_of k.work) k.trail (document_rows (setting_in k) is_first x t) d)
+root_added : (k : Known) (i n j p : ℕ) (t : DocumentTree) (ds : List DocumentTree) (d one : Draft) → DocumentsAt k i n (t ∷ ds) → p < i
+    → looked k.work i (unplaced (document_starts t.marked)) (state d [] j p) ≡ state one [] (j + 1) p
+    → Added k i j t (state d [] j p) (fed (remarks_of k.work) k.trail (rows (setting_in k) (root_spot k.work.style) t.root) one)
 unfolding pass
-document_added k i n j p is_first x t ds d a l h f =
+root_added k i n j p t ds d one a l begun =
     let end : Placed = unplaced (document_ends t.closed) in
-    let begins : List Row = beginning_at x.start (end_rows is_first x.directives ++ (map directive_row x.directives ++ (start_row ∷ []))) in
     let mine : List Row = rows (setting_in k) (root_spot k.work.style) t.root in
-    let one : Draft = fed (remarks_of k.work) k.trail begins d in
     let two : Draft = fed (remarks_of k.work) k.trail mine one in
     let reached = (node_reaches k (i + 1) (j + 1) n (root_site k) t.root [] one (root_at k i n t ds a)).goes p (omega (arith, l)) in
-    let first = looked_at k.work i (unplaced (document_starts t.marked)) (flat t.root ++ (end ∷ [])) (state d [] j p) (state one [] (j + 1) p) l
-    (document_looked k i j p is_first x t.marked d h f) in
+    let first = looked_at k.work i (unplaced (document_starts t.marked)) (flat t.root ++ (end ∷ [])) (state d [] j p) (state one [] (j + 1) p) l begun in
     let last = looked_at k.work (i + 1 + length (flat t.root)) end [] (state two [] (j + 1) reached.done) (state two [] (j + 1) reached.done) reached.within refl in
     let long : length (flat t.root ++ (end ∷ [])) ≡ length (flat t.root) + 1 = length-append (flat t.root) (end ∷ []) in
     record {
@@ -147,40 +163,80 @@ document_added k i n j p is_first x t ds d a l h f =
       within = let r = reached.within in omega (arith, long, r);
       is = first ∙ (pass_append k.work (i + 1) (flat t.root) (end ∷ []) (state one [] (j + 1) p)
           ∙ (ap (pass k.work (i + 1 + length (flat t.root)) (end ∷ [])) reached.is
-          ∙ (last ∙ ap (λ w. state w [] (j + 1) reached.done) (sym (fed_append (remarks_of k.work) k.trail begins mine d)))));
+          ∙ last));
     }
 
-documents_printed : (k : Known) (i n j p : ℕ) (is_first : Bool) (xs : List Doc) (ds : List DocumentTree) (d : Draft) → DocumentsAt k i n ds → p < i → length xs ≡ length ds
-    → drop j k.work.reading.documents ≡ xs → (j == 0) ≡ is_first
-    → (pass k.work i (flat_map flat_document ds ++ (unplaced stream_ends ∷ [])) (state d [] j p)).draft
-    ≡ fed (remarks_of k.work) k.trail (stream_rows (setting_in k) is_first xs ds) d
-unfolding pass
-documents_printed k i n j p is_first [] [] d a l m e f =
-    ap (λ (w : State). w.draft) (looked_at k.work i (unplaced stream_ends) [] (state d [] j p) (state d [] j p) l refl)
-documents_printed k i n j p is_first [] (t ∷ ds) d a l m e f = absurd (omega (arith, m))
-documents_printed k i n j p is_first (x ∷ xs) [] d a l m e f = absurd (omega (arith, m))
-documents_printed k i n j p is_first (x ∷ xs) (t ∷ ds) d a l m e f =
-    let there = document_there k.work.reading.documents j x xs e in
-    let mine : List Row = document_rows (setting_in k) is_first x t in
-    let one : Draft = fed (remarks_of k.work) k.trail mine d in
-    let added = document_added k i n j p is_first x t ds d a l there.0 f in
+document_added : (k : Known) (i n j p : ℕ) (is_first : Bool) (x : Doc) (t : DocumentTree) (ds : List DocumentTree) (d : Draft) → DocumentsAt k i n (t ∷ ds) → p < i
+    → slice_get k.work.reading.documents j ≡ Some x → (j == 0) ≡ is_first → (is_first && leaves_out k) ≡ false
+    → Added k i j t (state d [] j p) (fed (remarks_of k.work) k.trail (document_rows (setting_in k) is_first x t) d)
+document_added k i n j p is_first x t ds d a l h f o =
+    let begins : List Row = beginning_at x.start (end_rows is_first x.directives ++ (map directive_row x.directives ++ (start_row ∷ []))) in
+    let mine : List Row = rows (setting_in k) (root_spot k.work.style) t.root in
+    subst (λ e. Added k i j t (state d [] j p) e) (sym (fed_append (remarks_of k.work) k.trail begins mine d))
+    (root_added k i n j p t ds d (fed (remarks_of k.work) k.trail begins d) a l (document_looked k i j p is_first x t.marked d h f o))
+
+-- rows on the first of which the document begins
+begun_fed : (g : Work) (t : Span → List ℕ) (from : ℕ) (rs : List Row) → (rs ≡ [] → ⊥) → fed (remarks_of g) t rs (past g.reading.comments from no_draft) ≡ fed (remarks_of g) t (begun_at from rs) no_draft
+begun_fed g t from [] n = absurd (n refl)
+begun_fed g t from (r ∷ rs) n = refl
+
+bare_added : (k : Known) (i n p : ℕ) (x : Doc) (t : DocumentTree) (ds : List DocumentTree) → DocumentsAt k i n (t ∷ ds) → p < i → slice_get k.work.reading.documents 0 ≡ Some x → leaves_out k ≡ true
+    → (rows (setting_in k) (root_spot k.work.style) t.root ≡ [] → ⊥) → Added k i 0 t (state no_draft [] 0 p) (fed (remarks_of k.work) k.trail (bare_rows (setting_in k) x t) no_draft)
+bare_added k i n p x t ds a l h o some =
+    subst (λ e. Added k i 0 t (state no_draft [] 0 p) e) (begun_fed k.work k.trail x.start (rows (setting_in k) (root_spot k.work.style) t.root) some)
+    (root_added k i n 0 p t ds no_draft (past k.work.reading.comments x.start no_draft) a l (bare_looked k i p x t.marked no_draft h o))
+
+-- a document, and those after it
+document_then : (k : Known) (i n j p : ℕ) (t : DocumentTree) (ds : List DocumentTree) (d one : Draft) (mine others : List Row) (from : Draft) → fed (remarks_of k.work) k.trail mine from ≡ one
+    → (added : Added k i j t (state d [] j p) one)
+    → (pass k.work (i + length (flat_document t)) (flat_map flat_document ds ++ (unplaced stream_ends ∷ [])) (state one [] (j + 1) added.done)).draft ≡ fed (remarks_of k.work) k.trail others one
+    → (pass k.work i (flat_map flat_document (t ∷ ds) ++ (unplaced stream_ends ∷ [])) (state d [] j p)).draft ≡ fed (remarks_of k.work) k.trail (mine ++ others) from
+document_then k i n j p t ds d one mine others from e added rest =
     let more : List Placed = flat_map flat_document ds in
     let last : List Placed = unplaced stream_ends ∷ [] in
     let next : ℕ = i + length (flat_document t) in
     ap (λ es. (pass k.work i es (state d [] j p)).draft) (append_assoc (flat_document t) more last)
     ∙ (ap (λ (w : State). w.draft) (pass_append k.work i (flat_document t) (more ++ last) (state d [] j p))
     ∙ (ap (λ w. (pass k.work next (more ++ last) w).draft) added.is
-    ∙ (documents_printed k next n (j + 1) added.done false xs ds one (documents_after k i n t ds a) added.within (omega (arith, m))
-    (ap (λ q. drop q k.work.reading.documents) (add-one j) ∙ there.1) (not_first j)
-    ∙ sym (fed_append (remarks_of k.work) k.trail mine (stream_rows (setting_in k) false xs ds) d))))
+    ∙ (rest ∙ (ap (λ w. fed (remarks_of k.work) k.trail others w) (sym e) ∙ sym (fed_append (remarks_of k.work) k.trail mine others from)))))
+
+documents_printed : (k : Known) (i n j p : ℕ) (is_first : Bool) (xs : List Doc) (ds : List DocumentTree) (d : Draft) → DocumentsAt k i n ds → p < i → length xs ≡ length ds
+    → drop j k.work.reading.documents ≡ xs → (j == 0) ≡ is_first → (is_first && leaves_out k) ≡ false
+    → (pass k.work i (flat_map flat_document ds ++ (unplaced stream_ends ∷ [])) (state d [] j p)).draft
+    ≡ fed (remarks_of k.work) k.trail (stream_rows (setting_in k) is_first xs ds) d
+unfolding pass
+documents_printed k i n j p is_first [] [] d a l m e f o =
+    ap (λ (w : State). w.draft) (looked_at k.work i (unplaced stream_ends) [] (state d [] j p) (state d [] j p) l refl)
+documents_printed k i n j p is_first [] (t ∷ ds) d a l m e f o = absurd (omega (arith, m))
+documents_printed k i n j p is_first (x ∷ xs) [] d a l m e f o = absurd (omega (arith, m))
+documents_printed k i n j p is_first (x ∷ xs) (t ∷ ds) d a l m e f o =
+    let there = document_there k.work.reading.documents j x xs e in
+    let one : Draft = fed (remarks_of k.work) k.trail (document_rows (setting_in k) is_first x t) d in
+    let added = document_added k i n j p is_first x t ds d a l there.0 f o in
+    let next : ℕ = i + length (flat_document t) in
+    document_then k i n j p t ds d one (document_rows (setting_in k) is_first x t) (stream_rows (setting_in k) false xs ds) d refl added
+    (documents_printed k next n (j + 1) added.done false xs ds one (documents_after k i n t ds a) added.within (omega (arith, m))
+    (ap (λ q. drop q k.work.reading.documents) (add-one j) ∙ there.1) (not_first j) refl)
+
+-- the first of them without its `---`
+bare_printed : (k : Known) (n : ℕ) (x : Doc) (xs : List Doc) (t : DocumentTree) (ds : List DocumentTree) → DocumentsAt k 1 n (t ∷ ds) → length xs ≡ length ds → k.work.reading.documents ≡ x ∷ xs → leaves_out k ≡ true
+    → (rows (setting_in k) (root_spot k.work.style) t.root ≡ [] → ⊥)
+    → (pass k.work 1 (flat_map flat_document (t ∷ ds) ++ (unplaced stream_ends ∷ [])) (state no_draft [] 0 0)).draft
+    ≡ fed (remarks_of k.work) k.trail (bare_rows (setting_in k) x t ++ stream_rows (setting_in k) false xs ds) no_draft
+bare_printed k n x xs t ds a m e o some =
+    let there = document_there k.work.reading.documents 0 x xs e in
+    let one : Draft = fed (remarks_of k.work) k.trail (bare_rows (setting_in k) x t) no_draft in
+    let added = bare_added k 1 n 0 x t ds a (omega arith) there.0 o some in
+    document_then k 1 n 0 0 t ds no_draft one (bare_rows (setting_in k) x t) (stream_rows (setting_in k) false xs ds) no_draft refl added
+    (documents_printed k (1 + length (flat_document t)) n 1 added.done false xs ds one (documents_after k 1 n t ds a) added.within m there.1 refl refl)
 
 -- the whole text is what its rows come to
 pub stream_printed : (k : Known) (n : ℕ) (ds : List DocumentTree) → k.work.reading.events ≡ flat_stream ds → length k.work.reading.documents ≡ length ds
     → documents_are_placed ds ≡ true → keys_begin_in_documents ds ≡ true → AreNormal (setting_in k) n ds → 8 * n + 8 ≤ 2 ^ 64 - 1
-    → k.work.forms ≡ stream_forms [] (setting k.work.style []) (setting_in k) ds
-    → printed k.work ≡ finished (remarks_of k.work) (fed (remarks_of k.work) k.trail (stream_rows (setting_in k) true k.work.reading.documents ds) no_draft)
+    → k.work.forms ≡ stream_forms [] (setting k.work.style []) (setting_in k) ds → FitsBare (leaves_out k) k.work.reading.documents ds → RootsLaid (setting_in k) (leaves_out k) ds
+    → printed k.work ≡ finished (remarks_of k.work) (fed (remarks_of k.work) k.trail (all_rows (setting_in k) (leaves_out k) k.work.reading.documents ds) no_draft)
 unfolding pass
-stream_printed k n ds e m h b a r f =
+stream_printed k n ds e m h b a r f fits laid =
     let es : List Placed = flat_map flat_document ds in
     let last : List Placed = unplaced stream_ends ∷ [] in
     let whole : Among k.work.reading.events (flat_stream ds) 0 = record { before = []; after = []; is = e ∙ sym (append-nil (flat_stream ds)); index = refl } in
@@ -196,4 +252,10 @@ stream_printed k n ds e m h b a r f =
       room = r;
     } in
     ap (λ w. finished (remarks_of k.work) (pass k.work 0 w start).draft) e
-    ∙ ap (finished (remarks_of k.work)) (documents_printed k 1 n 0 0 true k.work.reading.documents ds no_draft at (omega arith) m refl refl)
+    ∙ ap (finished (remarks_of k.work)) (by (leaves_out k) k.work.reading.documents ds refl refl fits laid at m) where
+      by : (bare : Bool) (xs : List Doc) (ts : List DocumentTree) → leaves_out k ≡ bare → k.work.reading.documents ≡ xs → FitsBare bare xs ts → RootsLaid (setting_in k) bare ts → DocumentsAt k 1 n ts → length xs ≡ length ts
+          → (pass k.work 1 (flat_map flat_document ts ++ (unplaced stream_ends ∷ [])) (state no_draft [] 0 0)).draft ≡ fed (remarks_of k.work) k.trail (all_rows (setting_in k) bare xs ts) no_draft
+      by false xs ts o q fits laid at m = documents_printed k 1 n 0 0 true xs ts no_draft at (omega arith) m q refl o
+      by true [] ts o q fits laid at m = elim fits [ ]
+      by true (x ∷ xs) [] o q fits laid at m = elim fits [ ]
+      by true (x ∷ xs) (t ∷ ts) o q (fits_bare none some) laid at m = bare_printed k n x xs t ts at (omega (arith, m)) q o laid

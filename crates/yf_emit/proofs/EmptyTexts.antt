@@ -1,5 +1,5 @@
 -- What formatting gives is empty exactly where the text has neither a document nor a comment.
-use Rattle.std.proofs.Common.{◌≡◌, ℕ, true, false, List, [], ◌∷◌, ◌++◌, length, length-append, map, flat_map, replicate, refl, sym, ap, ◌∙◌, arith}
+use Rattle.std.proofs.Common.{◌≡◌, ℕ, Bool, true, false, List, [], ◌∷◌, ◌++◌, length, length-append, map, flat_map, replicate, refl, sym, ap, ◌∙◌, arith}
 use Rattle.std.specs.Prelude.{filter, not}
 use Rattle.yf_comments.specs.Comment.{CommentValue}
 use Rattle.yf_events.specs.Tree.{DocumentTree}
@@ -13,9 +13,14 @@ use Rattle.yf_emit.specs.EmptyTexts.{IsEmptyAlike}
 use Rattle.yf_emit.specs.Format.{Formats}
 use Rattle.yf_emit.specs.Layout.{Line, Source, blank_line, bytes_behind, ended, comment_line, is_among, line_bytes, lines_of, lines_with_comments, own_line_comments, precedes_item, row_line, source_of}
 use Rattle.yf_emit.specs.Normal.{Setting, root_spot, setting_of}
-use Rattle.yf_emit.specs.Rows.{Ending, Row, at_text_start, beginning_at, directive_row, end_rows, rows, start_row, stream_rows}
+use Rattle.yf_emit.specs.Rows.{Ending, Row, at_text_start, beginning_at, directive_row, end_rows, rows, start_row, stream_rows, all_rows, begun_at}
 use Rattle.yf_emit.proofs.CommentsTold.{firsts}
 use Rattle.yf_emit.proofs.KeyDecides.{as_many_notes}
+use Rattle.yf_emit.proofs.BareFound.{rows_some}
+use Rattle.yf_emit.specs.BareStart.{is_bare}
+use Rattle.yf_emit.specs.FitDocuments.{FitDocuments, fit_document, FitsBare, fits_bare, fit_no_documents}
+use Rattle.yf_emit.proofs.FormatsRead.{formats_bare, formats_fit}
+use Rattle.std.specs.Str.{IsUtf8}
 
 -- Lines have bytes, and documents rows.
 
@@ -58,6 +63,23 @@ documents_none c (d ∷ ds) (x ∷ xs) l e =
     absurd (begun_some d.start d.directives
     (first_none (beginning_at d.start (end_rows true d.directives ++ (map directive_row d.directives ++ (start_row ∷ [])))) (rows c (root_spot c.style) x.root) (stream_rows c false ds xs) e))
 
+fit_count : {ds : List Doc} {xs : List DocumentTree} → FitDocuments ds xs → length ds ≡ length xs
+fit_count fit_no_documents = refl
+fit_count (fit_document f fit more) = let n = fit_count more in omega (arith, n)
+
+all_none : (c : Setting) (bare : Bool) (ds : List Doc) (trees : List DocumentTree) → FitDocuments ds trees → FitsBare bare ds trees → all_rows c bare ds trees ≡ [] → ds ≡ []
+all_none c false ds trees fit fits e = documents_none c ds trees (fit_count fit) e
+all_none c true [] trees fit fits e = elim fits [ ]
+all_none c true (d ∷ ds) [] fit fits e = elim fit [ ]
+all_none c true (d ∷ ds) (x ∷ xs) (fit_document f fit more) (fits_bare none some) e = absurd (bare_none (rows c (root_spot c.style) x.root) e (rows_some c fit some)) where
+  bare_none : (rs : List Row) → begun_at d.start rs ++ stream_rows c false ds xs ≡ [] → (rs ≡ [] → ⊥) → ⊥
+  bare_none [] e n = n refl
+  bare_none (r ∷ rs) e n = cc
+
+nothing_laid : (c : Setting) (bare : Bool) (trees : List DocumentTree) → all_rows c bare [] trees ≡ []
+nothing_laid c true trees = refl
+nothing_laid c false trees = refl
+
 -- Comments, where there is no row.
 
 all_own : (cs : List CommentValue) → filter (λ d. not (is_among [] d)) cs ≡ cs
@@ -69,13 +91,13 @@ own_alone f = ap (filter (λ d. not (is_among [] d))) (firsts f.normal.comments 
 
 -- The law.
 
-pub empty_alike : (t u : List ℕ) (s : Style) → Formats t s u → IsEmptyAlike t u
-empty_alike t u s f = record {
+pub empty_alike : (t u : List ℕ) (s : Style) → IsUtf8 t → Formats t s u → IsEmptyAlike t u
+empty_alike t u s utf8 f = record {
   of_nothing = λ r a none alone.
       let m : Lists = f.normal in
       let same : m.documents ≡ r.documents = ap (λ (w : Lists). w.documents) f.is_normal.is ∙ ap (λ (w : Lists). w.documents) (sym (readings_are_one t f.reading r f.reads a)) in
       let comments : m.comments ≡ r.comments = ap (λ (w : Lists). w.comments) f.is_normal.is ∙ ap (λ (w : Lists). w.comments) (sym (readings_are_one t f.reading r f.reads a)) in
-      let bare : rows_in f ≡ [] = ap (λ ds. stream_rows (setting_of m s) true ds f.writes.trees) (same ∙ none) in
+      let bare : rows_in f ≡ [] = ap (λ ds. all_rows (setting_of m s) (is_bare m s) ds f.writes.trees) (same ∙ none) ∙ nothing_laid (setting_of m s) (is_bare m s) f.writes.trees in
       f.writes.is ∙ (ap (λ xs. bytes_behind at_text_start (lines_with_comments m xs)) bare ∙ ap (λ cs. bytes_behind at_text_start (lines_of (source_of m []) cs [])) (own_alone f ∙ (comments ∙ alone)));
   of_none_else = λ r a none.
       let m : Lists = f.normal in
@@ -84,7 +106,7 @@ empty_alike t u s f = record {
       let lines : lines_with_comments m (rows_in f) ≡ [] = no_lines at_text_start (lines_with_comments m (rows_in f)) (sym f.writes.is ∙ none) in
       let both = rows_none (source_in f) (own_line_comments (source_in f) (rows_in f)) (rows_in f) lines in
       let bare : rows_in f ≡ [] = both.0 in (
-        same ∙ documents_none (setting_of m s) m.documents f.writes.trees f.writes.of_reading.documents bare,
+        same ∙ all_none (setting_of m s) (is_bare m s) m.documents f.writes.trees (formats_fit utf8 f) (formats_bare utf8 f) bare,
         comments ∙ (sym (own_alone f) ∙ (sym (ap (λ xs. own_line_comments (source_of m xs) xs) bare) ∙ both.1)),
       );
 }

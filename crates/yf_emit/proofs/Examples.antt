@@ -11,6 +11,7 @@ use Rattle.yf_events.specs.declared.document.Doc.{Doc}
 use Rattle.yf_events.specs.declared.event.Entry.{Entry}
 use Rattle.yf_events.specs.declared.event.ScalarStyle.TheVariants.{Plain}
 use Rattle.yf_events.specs.declared.lists.Lists.{Lists}
+use Rattle.yf_emit.specs.declared.style.DocumentStart.{DocumentStart}
 use Rattle.yf_emit.specs.declared.style.Style.{Style}
 use Rattle.yf_emit.specs.ContentStart.{property_len, gap_len, past_gap, past_second, content_start}
 use Rattle.yf_emit.specs.Layout.{Remark, layout}
@@ -23,7 +24,7 @@ abbrev pub style_with : (indent : ℕ) → 2 ≤ indent → indent ≤ 8 → Quo
 style_with indent from to quotes seq_indent =
     let a : 40 ≤ 100 = omega arith in
     let b : 100 ≤ 1000 = omega arith in
-    record { indent = indent; max_line = 100; quotes = quotes; seq_indent = seq_indent; indent_from = from; indent_to = to; max_line_from = a; max_line_to = b }
+    record { indent = indent; max_line = 100; quotes = quotes; seq_indent = seq_indent; document_start = DocumentStart.Always; indent_from = from; indent_to = to; max_line_from = a; max_line_to = b }
 
 abbrev pub house : Style
 house = let a : 2 ≤ 2 = omega arith in let b : 2 ≤ 8 = omega arith in style_with 2 a b Quotes.Double true

@@ -1,5 +1,5 @@
 -- A text that was laid out, and in which the same is found, is its own formatting.
-use Rattle.std.proofs.Common.{◌≡◌, ℕ, true, List, [], ◌∷◌, map, refl, sym, ap, ◌∙◌}
+use Rattle.std.proofs.Common.{◌≡◌, ℕ, List, [], ◌∷◌, map, refl, sym, ap, ◌∙◌}
 use Rattle.yf_comments.specs.Comment.{CommentValue}
 use Rattle.yf_events.specs.Tree.{DocumentTree, TreesOf, flat_stream}
 use Rattle.yf_events.specs.declared.document.Doc.{Doc}
@@ -19,6 +19,7 @@ use Rattle.yf_emit.proofs.FixedRows.{found_rows, same_lines}
 use Rattle.yf_emit.proofs.FormatTrails.{normal_trees}
 use Rattle.yf_emit.proofs.SettledTwice.{settled_twice}
 use Rattle.yf_emit.proofs.StyledTwice.{House, normal_house}
+use Rattle.yf_emit.specs.BareStart.{is_bare}
 
 -- the normal form of a tree that is alike to a normal one is itself
 abbrev fixed : List ℕ → Setting → List DocumentTree → Type 0
@@ -65,7 +66,7 @@ pub found_layout : {t u : List ℕ} {s : Style} (f : Formats t s u) (q : Lists) 
 found_layout {s = s} f q found same =
     let m : Lists = f.normal in
     let trees : List DocumentTree = f.writes.trees in
-    let shaped = found_rows true same.alike in
+    let shaped = found_rows (is_bare m s) (is_bare q s) same.bare same.alike in
     let lines : decorated m (rows_of m s trees) ≡ decorated q (rows_of q s found) =
     ap (λ z. gap_then z (lines_then (rows_of m s trees) (row_decos m (rows_of m s trees)) [])) (sym same.gap)
     ∙ (ap (λ z. gap_then (first_gap q (rows_of q s found)) (lines_then (rows_of m s trees) z [])) (sym same.decos)

@@ -1,5 +1,5 @@
 -- The reading of what formatting gives is in normal form.
-use Rattle.std.proofs.Common.{◌≡◌, ℕ, ◌<◌, true, List, [], ◌∷◌, ◌++◌, length, map, sym, ap, ◌∙◌, subst, append-nil}
+use Rattle.std.proofs.Common.{◌≡◌, ℕ, ◌<◌, List, [], ◌∷◌, ◌++◌, length, map, sym, ap, ◌∙◌, subst, append-nil, Bool}
 use Rattle.std.specs.Str.{IsUtf8}
 use Rattle.std.proofs.lemmas.List.{length-map}
 use Rattle.yf_comments.specs.Comment.{CommentValue}
@@ -23,10 +23,12 @@ use Rattle.yf_emit.proofs.CommentsCut.{Each, each_none}
 use Rattle.yf_emit.proofs.FixedFormats.{found_normal}
 use Rattle.yf_emit.proofs.FormatTrails.{normal_trees}
 use Rattle.yf_emit.proofs.FormatsRead.{FormattedLaid, formats_laid}
-use Rattle.yf_emit.proofs.FoundStreams.{StreamIn, no_stream, stream_in, FoundDocuments}
-use Rattle.yf_emit.proofs.FoundTexts.{FoundRoots, Settled, normal_settled, roots_found, trees_found}
+use Rattle.yf_emit.proofs.FoundStreams.{StreamIn, no_stream, stream_in, AllFound}
+use Rattle.yf_emit.proofs.FoundTexts.{Settled, normal_settled, AllRoots, all_roots_found, all_trees_found}
 use Rattle.yf_emit.proofs.PlacedRows.{PlacedRow}
 use Rattle.yf_emit.proofs.QuietPlaces.{AllQuiet, quiet_none, ascend_under, Carries, decos_carry, Linked, linked_none, quiet_offsets, linked_offsets, rows_linked, rows_quiet}
+use Rattle.yf_emit.specs.BareStart.{is_bare}
+use Rattle.yf_emit.proofs.BareAgain.{same_bare}
 
 -- Streams.
 
@@ -40,16 +42,16 @@ stream_linked before c no_stream = linked_none
 stream_linked before c (stream_in {ps = ps} {cs = cs} b rows) = subst (λ z. Linked (before ++ z) ps) (append-nil cs) (rows_linked before [] c rows)
 
 -- Readings of what formatting gives: the trees that are found, those of the reading but for notes on blank lines, and the rows that they stand on.
-pub record RootsRead (u : List ℕ) (c : Setting) (cs : List CommentValue) (es : List Doc) (trees read : List DocumentTree) (ps : List PlacedRow) : Type 0 where
+pub record RootsRead (u : List ℕ) (c : Setting) (bare : Bool) (cs : List CommentValue) (es : List Doc) (trees read : List DocumentTree) (ps : List PlacedRow) : Type 0 where
   pub found : List DocumentTree
-  pub roots : FoundRoots u c true es trees found ps
+  pub roots : AllRoots u c bare es trees found ps
   pub same : map bare_tree found ≡ map bare_tree read
   pub settled : Settled c trees
   pub quiet : AllQuiet cs ps
   pub linked : Linked cs ps
 
 pub roots_read : (t u : List ℕ) (s : Style) (utf8 : IsUtf8 t) (f : Formats t s u) (q : Lists) (a : ReadingOf u q)
-    → RootsRead u (setting_of f.normal s) q.comments q.documents f.writes.trees a.trees (formats_laid t u s utf8 f).found_rows
+    → RootsRead u (setting_of f.normal s) (is_bare f.normal s) q.comments q.documents f.writes.trees a.trees (formats_laid t u s utf8 f).found_rows
 roots_read t u s utf8 f q a =
     let all = formats_laid t u s utf8 f in
     let m : Lists = f.normal in
@@ -57,16 +59,17 @@ roots_read t u s utf8 f q a =
     let c : Setting = setting_of m s in
     let shapes = a.reads.shapes in
     let derived : a.derived ≡ all.well.documents = all.well.reads.shapes.only shapes.height a.derived shapes.derived shapes.within in
-    let found : FoundDocuments u c true trees a.derived.documents all.found_rows = subst (λ (w : Documents). FoundDocuments u c true trees w.documents all.found_rows) (sym derived) all.found in
+    let b : Bool = is_bare m s in
+    let found : AllFound u c b trees a.derived.documents all.found_rows = subst (λ (w : Documents). AllFound u c b trees w.documents all.found_rows) (sym derived) all.found in
     let comments : all.firsts ++ all.others ≡ a.derived.comments = sym all.are ∙ ap (λ (w : Documents). w.comments) (sym derived) in
-    let roots = roots_found found a.events in
+    let roots = all_roots_found found a.events in
     let count : length q.documents ≡ length a.derived.documents = ap length a.documents ∙ length-map a.derived.documents doc_of in
     let events : bared (flat_stream roots.trees) ≡ bared (flat_stream a.trees) =
     ap (λ z. bared (unplaced stream_starts ∷ (z ++ (unplaced stream_ends ∷ [])))) (sym roots.events) ∙ (sym (noting_bare a.noted) ∙ ap bared a.of_reading.events) in
     let n = normal_trees f in
     record {
       found = roots.trees;
-      roots = subst (λ z. FoundRoots u c true z trees roots.trees all.found_rows) (sym a.documents) roots.roots;
+      roots = subst (λ z. AllRoots u c b z trees roots.trees all.found_rows) (sym a.documents) roots.roots;
       same = trees_bare q roots.trees a.trees (count ∙ roots.count) a.of_reading.documents events;
       settled = subst (λ z. Settled c z) (sym (n.same ∙ ap (λ cs. map (normal_document t (record { style = s; comments = cs })) n.trees) (sym n.comments))) (normal_settled t c n.trees);
       quiet = quiet_offsets a.comments (subst (λ z. AllQuiet z all.found_rows) comments (stream_quiet all.firsts (ascend_under all.ascend) all.placed));
@@ -79,7 +82,8 @@ pub record FoundReading {t : List ℕ} {s : Style} {u : List ℕ} (f : Formats t
   pub derived : a.derived ≡ laid.well.documents
   pub quiet : AllQuiet q.comments laid.found_rows
   pub trees : List DocumentTree
-  pub roots : FoundRoots u (setting_of f.normal s) true q.documents f.writes.trees trees laid.found_rows
+  pub bare : is_bare q s ≡ is_bare f.normal s
+  pub roots : AllRoots u (setting_of f.normal s) (is_bare f.normal s) q.documents f.writes.trees trees laid.found_rows
   pub same : map bare_tree trees ≡ map bare_tree a.trees
   pub alike : FoundTrees s f.normal.comments u q.comments f.normal.documents f.writes.trees q.documents a.trees
 
@@ -90,14 +94,15 @@ found_reading t u s q utf8 f a =
     let trees : List DocumentTree = f.writes.trees in
     let shapes = a.reads.shapes in
     let derived : a.derived ≡ all.well.documents = all.well.reads.shapes.only shapes.height a.derived shapes.derived shapes.within in
-    let meant : DocumentsMeant m.documents trees a.derived.documents = subst (λ (w : Documents). DocumentsMeant m.documents trees w.documents) (sym derived) all.well.meant in
+    let meant : DocumentsMeant (is_bare m s) m.documents trees a.derived.documents = subst (λ (w : Documents). DocumentsMeant (is_bare m s) m.documents trees w.documents) (sym derived) all.well.meant in
     let read = roots_read t u s utf8 f q a in
-    let here : FoundTrees s m.comments u q.comments m.documents trees (map doc_of a.derived.documents) a.trees = trees_found a.trees meant read.roots read.same read.settled read.quiet read.linked in
+    let here : FoundTrees s m.comments u q.comments m.documents trees (map doc_of a.derived.documents) a.trees = all_trees_found a.trees meant read.roots read.same read.settled read.quiet read.linked in
     record {
       laid = all;
       derived = derived;
       quiet = read.quiet;
       trees = read.found;
+      bare = same_bare t u s q utf8 f a;
       roots = read.roots;
       same = read.same;
       alike = subst (λ z. FoundTrees s m.comments u q.comments m.documents trees z a.trees) (sym a.documents) here;

@@ -11,7 +11,7 @@ use Rattle.yf_emit.specs.FoundTrees.{FoundTrees, none_found, one_found, words_of
 use Rattle.yf_emit.specs.LayoutKey.{SameDocuments, no_documents, same_document}
 use Rattle.yf_emit.specs.Normal.{root_spot}
 use Rattle.yf_emit.specs.RowShapes.{RowShape, shape_of}
-use Rattle.yf_emit.specs.Rows.{Row, beginning_at, directive_row, document_rows, end_rows, joined_words, plain_row, rows, start_row, stream_rows}
+use Rattle.yf_emit.specs.Rows.{Row, all_rows, bare_rows, beginning_at, begun_at, directive_row, document_rows, end_rows, joined_words, plain_row, rows, start_row, stream_rows}
 use Rattle.yf_emit.proofs.AlikeLemmas.{both_shapes, setting, shapes}
 use Rattle.yf_emit.proofs.FixedBlocks.{same_block_rows}
 
@@ -70,10 +70,23 @@ same_rows {s} {cs} {es} is_first (same_document {d = d} {e = e} {ds = ds} {fs = 
     (head_shaped is_first d.start e.start d.directives e.directives w) (same_block_rows s (root_spot s) a))
     (same_rows false more)
 
+pub begun_shaped : (start : ℕ) (xs : List Row) → shapes (begun_at start xs) ≡ shapes xs
+begun_shaped start [] = refl
+begun_shaped start (x ∷ xs) = refl
+
+pub all_same_rows : {s : Style} {cs es : List CommentValue} {ds fs : List Doc} {xs ys : List DocumentTree} (bare : Bool) → SameDocuments s cs es ds xs fs ys
+    → shapes (all_rows (setting s cs) bare ds xs) ≡ shapes (all_rows (setting s es) bare fs ys)
+all_same_rows false same = same_rows true same
+all_same_rows true no_documents = refl
+all_same_rows {s} {cs} {es} true (same_document {d = d} {e = e} {ds = ds} {fs = fs} {x = x} {y = y} {xs = xs} {ys = ys} w a more) =
+    both_shapes (bare_rows (setting s cs) d x) (stream_rows (setting s cs) false ds xs) (bare_rows (setting s es) e y) (stream_rows (setting s es) false fs ys)
+    (begun_shaped d.start (rows (setting s cs) (root_spot s) x.root) ∙ (same_block_rows s (root_spot s) a ∙ sym (begun_shaped e.start (rows (setting s es) (root_spot s) y.root))))
+    (same_rows false more)
+
 found_same : {s : Style} {cs es : List CommentValue} {u : List ℕ} {ds fs : List Doc} {xs ys : List DocumentTree} → FoundTrees s cs u es ds xs fs ys → SameDocuments s cs es ds xs fs ys
 found_same none_found = no_documents
 found_same (one_found w a f more) = same_document w a (found_same more)
 
-pub found_rows : {s : Style} {cs es : List CommentValue} {u : List ℕ} {ds fs : List Doc} {xs ys : List DocumentTree} (is_first : Bool) → FoundTrees s cs u es ds xs fs ys
-    → shapes (stream_rows (setting s cs) is_first ds xs) ≡ shapes (stream_rows (setting s es) is_first fs ys)
-found_rows is_first found = same_rows is_first (found_same found)
+pub found_rows : {s : Style} {cs es : List CommentValue} {u : List ℕ} {ds fs : List Doc} {xs ys : List DocumentTree} (a b : Bool) → b ≡ a → FoundTrees s cs u es ds xs fs ys
+    → shapes (all_rows (setting s cs) a ds xs) ≡ shapes (all_rows (setting s es) b fs ys)
+found_rows {s = s} {es = es} {fs = fs} {ys = ys} a b e found = all_same_rows a (found_same found) ∙ ap (λ c. shapes (all_rows (setting s es) c fs ys)) (sym e)

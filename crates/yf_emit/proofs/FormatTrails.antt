@@ -5,6 +5,7 @@ use Rattle.yf_events.specs.Tree.{DocumentTree, TreesOf}
 use Rattle.yf_events.specs.declared.lists.Lists.{Lists}
 use Rattle.yf_stream.proofs.ReadingTrees.{TreesStand, reading_stands}
 use Rattle.yf_emit.specs.declared.style.Style.{Style}
+use Rattle.yf_emit.specs.BareStart.{is_bare}
 use Rattle.yf_emit.specs.Carried.{AreRemarks, TrailsFit}
 use Rattle.yf_emit.specs.Decorated.{rows_of}
 use Rattle.yf_emit.specs.Format.{Formats}
@@ -13,7 +14,7 @@ use Rattle.yf_emit.specs.Forms.{documents_are_placed}
 use Rattle.yf_emit.specs.Layout.{source_of}
 use Rattle.yf_emit.specs.Normal.{Setting, normal_document, setting_of}
 use Rattle.yf_emit.proofs.CommentsFit.{reading_remarks}
-use Rattle.yf_emit.proofs.DocumentTrails.{InHouse, leaves_of, stream_leaves}
+use Rattle.yf_emit.proofs.DocumentTrails.{InHouse, all_leaves, leaves_of}
 use Rattle.yf_emit.proofs.LeavesRise.{leaves_rise}
 use Rattle.yf_emit.proofs.NodeTrails.{TreesKept, trails_fit}
 use Rattle.yf_emit.proofs.NormalParts.{normal_leaves, normal_placed}
@@ -70,6 +71,6 @@ formats_trail t u s utf8 f =
     let remarks : AreRemarks m.comments = subst (λ cs. AreRemarks cs) (sym n.comments) (reading_remarks utf8 f.reads) in
     let placed : documents_are_placed trees ≡ true = normal_placed t c n.trees ∙ trees_placed stand in
     let count : length m.documents ≡ length trees = f.writes.of_reading.documents ∙ ap length n.same in
-    let rows : leaves_on (rows_of m s trees) ≡ leaves_of trees = stream_leaves (setting_of m s) true m.documents trees count placed (kept_house (setting_of m s) trees kept) in
+    let rows : leaves_on (rows_of m s trees) ≡ leaves_of trees = all_leaves (setting_of m s) (is_bare m s) m.documents trees count placed (kept_house (setting_of m s) trees kept) in
     let rises : rising (leaves_on (rows_of m s trees)) ≡ true = ap rising (rows ∙ normal_leaves t c n.trees) ∙ leaves_rise stand in
     subst (λ xs. TrailsFit (source_of m (rows_of m s xs)) (rows_of m s xs)) (sym n.same) (trails_fit m s trees remarks kept rises)

@@ -24,14 +24,14 @@ use Rattle.yf_emit.specs.FoundTrees.{FoundSame}
 use Rattle.yf_emit.specs.Layout.{Source, own_line_comments, precedes_item, source_of}
 use Rattle.yf_emit.specs.Normal.{normal_document, setting_of}
 use Rattle.yf_emit.specs.RowShapes.{RowShape, shape_of}
-use Rattle.yf_emit.specs.Rows.{Row, at_text_start, stream_rows}
+use Rattle.yf_emit.specs.Rows.{Row, at_text_start, all_rows}
 use Rattle.yf_emit.proofs.AlikeLemmas.{shapes}
 use Rattle.yf_emit.proofs.BlanksAgain.{blanks_found}
 use Rattle.yf_emit.proofs.AllBlanks.{BlanksFound}
 use Rattle.yf_emit.proofs.CarriedAgain.{NextTied, Owns, Tied, all_of}
 use Rattle.yf_emit.proofs.CommentsCut.{In, Under, Upward, each_none, upward_of}
 use Rattle.yf_emit.proofs.CommentsTold.{firsts}
-use Rattle.yf_emit.proofs.DocumentTies.{rows_barely, Left, some_left, stream_ties}
+use Rattle.yf_emit.proofs.DocumentTies.{rows_barely, Left, some_left, all_ties}
 use Rattle.yf_emit.proofs.EntriesMade.{Begins, begins}
 use Rattle.yf_emit.proofs.FixedFormats.{found_fixed, roots_fixed}
 use Rattle.yf_emit.proofs.FixedLawsHold.{FoundReading, found_reading}
@@ -50,9 +50,11 @@ use Rattle.yf_emit.proofs.RowLeaves.{leaves_on}
 use Rattle.yf_emit.proofs.RowsTied.{spot_first, tied_rows}
 use Rattle.yf_emit.proofs.RowsUtf8.{RowLines}
 use Rattle.yf_emit.proofs.RowTies.{Ties, a_tie, LaidRows, bare_gap, first_shape, laid_rows, next_tied, none_precedes}
-use Rattle.yf_emit.proofs.SourceStands.{source_stands}
+use Rattle.yf_emit.proofs.SourceStands.{source_stands, normal_of}
 use Rattle.yf_emit.proofs.StepsStand.{starts_of}
 use Rattle.yf_emit.proofs.TrailChoice.{rising}
+use Rattle.yf_emit.specs.BareStart.{is_bare}
+use Rattle.yf_events.specs.Tree.{flat_stream}
 
 -- What is known of the rows of a reading q of the text u.
 pub record RowsKnown (u : List ℕ) (q : Lists) (rows : List Row) : Type 0 where
@@ -68,7 +70,9 @@ pub record RowsKnown (u : List ℕ) (q : Lists) (rows : List Row) : Type 0 where
 rows_known : (u : List ℕ) (s : Style) (q : Lists) → IsUtf8 u → (a : ReadingOf u q) → map (normal_document u (setting_of q s)) a.trees ≡ a.trees → RowsKnown u q (rows_of q s a.trees)
 rows_known u s q utf8 a fixed =
     let w = source_stands u s q a.trees utf8 a a.of_reading in
-    subst (λ z. RowsKnown u q (stream_rows (setting_of q s) true q.documents z)) fixed (record {
+    let same : normal_of u s q a.trees ≡ q = ap (λ z. record q { events = flat_stream z }) fixed ∙ ap (λ z. record q { events = z }) (sym a.of_reading.events) in
+    subst (λ b. RowsKnown u q (all_rows (setting_of q s) b q.documents a.trees)) (ap (λ m. is_bare m s) same)
+    (subst (λ z. RowsKnown u q (all_rows (setting_of q s) (is_bare (normal_of u s q a.trees) s) q.documents z)) fixed (record {
       lines = a.lines;
       are_lines = a.are_lines;
       leaf_notes = a.notes ∙ ap (λ ls. leaf_lines a.lines ls q.comments) (sym w.leaves_are);
@@ -77,7 +81,7 @@ rows_known u s q utf8 a fixed =
       rises = w.rises;
       unsigned = w.unsigned;
       upright = w.upright;
-    })
+    }))
 
 -- the first row, where one is laid out
 first_again : {u : List ℕ} {q : Lists} (mc : Source) (own : List CommentValue) (x row : Row) (xs found : List Row) (p : PlacedRow) (ps : List PlacedRow) {line end : ℕ} {owns : List (List CommentValue)} (known : RowsKnown u q (row ∷ found)) (ones : List CommentValue)
@@ -145,14 +149,14 @@ again_carried {t} {u} {s} q utf8 f a w blanks =
     let noted : NotedComments u q.events (w.laid.firsts ++ w.laid.others) q.comments =
     subst (λ z. NotedComments u q.events z q.comments) (ap (λ (v : Documents). v.comments) w.derived ∙ w.laid.are) a.comments in
     carried_again {es = q.events} (source_of m xs) (own_line_comments (source_of m xs) xs) xs (rows_of q s a.trees) w.laid.firsts w.laid.others form.utf8 (rows_known u s q form.utf8 a fixed)
-    (found_rows true w.alike) form.rows form.decos w.laid.begin w.laid.placed w.laid.ascend w.laid.told noted (λ left. stream_ties a.trees w.roots w.same w.alike left) w.quiet blanks
+    (found_rows (is_bare m s) (is_bare q s) w.bare w.alike) form.rows form.decos w.laid.begin w.laid.placed w.laid.ascend w.laid.told noted (λ left. all_ties a.trees w.bare w.roots w.same w.alike left) w.quiet blanks
 
 pub again_same : {t u : List ℕ} {s : Style} (q : Lists) → IsUtf8 t → (f : Formats t s u) → (a : ReadingOf u q) → (w : FoundReading f q a)
     → BlanksFound q.comments (first_gap f.normal (rows_of f.normal s f.writes.trees)) (row_decos f.normal (rows_of f.normal s f.writes.trees)) (rows_of q s a.trees) w.laid.found_rows w.laid.line (length u)
     → FoundSame f.normal s f.writes.trees u q a.trees
 again_same q utf8 f a w blanks =
     let carried = again_carried q utf8 f a w blanks in
-    record { of_reading = a.of_reading; alike = w.alike; gap = carried.gap_is; decos = carried.decos_are }
+    record { of_reading = a.of_reading; alike = w.alike; bare = w.bare; gap = carried.gap_is; decos = carried.decos_are }
 
 -- The law: they are right.
 pub formats_fixed : FormatsAreFixed

@@ -28,7 +28,7 @@ use Rattle.yf_emit.specs.declared.style.Style.{Style}
 use Rattle.yf_emit.specs.Beginnings.{documents_begin, steps_with}
 use Rattle.yf_emit.specs.Carried.{AreRemarks}
 use Rattle.yf_emit.specs.Decorated.{first_gap, lines_then, row_decos, rows_of}
-use Rattle.yf_emit.specs.FitDocuments.{FitDocuments, DocumentMeant, DocumentsMeant, no_documents_meant, document_meant, tall_documents}
+use Rattle.yf_emit.specs.FitDocuments.{FitDocuments, DocumentMeant, DocumentsMeant, no_documents_meant, document_meant, tall_documents, FitsBare}
 use Rattle.yf_emit.specs.Format.{Formats}
 use Rattle.yf_emit.specs.FormatLaws.{WellFormed, FormatsAreWellFormed}
 use Rattle.yf_emit.specs.LayoutLaws.{StreamMade, printed_comments}
@@ -36,7 +36,7 @@ use Rattle.yf_emit.specs.Normal.{Setting, Spot, fits, settled, settled_items, se
 use Rattle.yf_emit.specs.Restyled.{Restyled, none_left, one_more, restyled_event}
 use Rattle.yf_emit.specs.Steps.{comment_steps, steps_of}
 use Rattle.yf_emit.proofs.CommentsFit.{reading_remarks}
-use Rattle.yf_emit.proofs.FoundStreams.{FoundDocuments, StreamIn}
+use Rattle.yf_emit.proofs.FoundStreams.{StreamIn, AllFound}
 use Rattle.yf_emit.proofs.FormatTrails.{formats_trail, normal_trees}
 use Rattle.yf_emit.proofs.LayoutLawsHold.{layouts_are_texts, layouts_are_laid}
 use Rattle.yf_emit.proofs.NormalRestyled.{root_restyled}
@@ -47,7 +47,9 @@ use Rattle.yf_emit.proofs.SetStreams.{SetAll}
 use Rattle.yf_emit.proofs.PlacedRows.{PlacedRow}
 use Rattle.yf_emit.proofs.StreamParts.{DocumentsLaid}
 use Rattle.yf_emit.proofs.StreamsLaid.{StreamLaid}
-use Rattle.yf_emit.proofs.TreesRead.{document_read, reading_fits, same_node}
+use Rattle.yf_emit.proofs.TreesRead.{document_read, reading_fits, same_node, reading_bare}
+use Rattle.yf_emit.specs.BareStart.{is_bare}
+use Rattle.yf_emit.proofs.BareReadings.{bare_begins, normal_begins, reading_begins}
 
 -- Heights: styles and brackets change none.
 
@@ -136,16 +138,16 @@ restyled_signs {q} (one_more {e = e} {es = es} flow a) =
 
 -- Documents.
 
-document_same : {d m : Document} {x : Node} {tree : DocumentTree} (t : List ℕ) (c : Setting) → d.events ≡ flat x → Alike Anywhere x tree.root
-    → DocumentMeant (doc_of d) (normal_document t c tree) m → SameDocument d m
+document_same : {mark : Bool} {d m : Document} {x : Node} {tree : DocumentTree} (t : List ℕ) (c : Setting) → d.events ≡ flat x → Alike Anywhere x tree.root
+    → DocumentMeant mark (doc_of d) (normal_document t c tree) m → SameDocument d m
 document_same {tree = tree} t c e a b = record {
   directives = sym b.words;
   nodes = ap signs e ∙ (ap (map sign) (alike_values a) ∙ (restyled_signs (root_restyled t c tree) ∙ (ap (map sign) (alike_values b.alike) ∙ ap signs (sym b.events))));
   escapes = b.escapes;
 }
 
-documents_same : {ds ms : List Document} {trees : List DocumentTree} (t : List ℕ) (c : Setting) → TreesMeant ds trees
-    → DocumentsMeant (map doc_of ds) (map (normal_document t c) trees) ms → SameDocuments ds ms
+documents_same : {bare : Bool} {ds ms : List Document} {trees : List DocumentTree} (t : List ℕ) (c : Setting) → TreesMeant ds trees
+    → DocumentsMeant bare (map doc_of ds) (map (normal_document t c) trees) ms → SameDocuments ds ms
 documents_same t c no_trees_meant no_documents_meant = no_same_documents
 documents_same t c (tree_meant e a more) (document_meant b others) = same_documents (document_same t c e a b) (documents_same t c more others)
 
@@ -173,15 +175,24 @@ formats_fit {t} {u} {s} utf8 f =
     subst (λ xs. FitDocuments f.normal.documents xs) (sym n.same)
     (subst (λ ds. FitDocuments ds (map (normal_document t (setting_of f.reading s)) n.trees)) (sym n.documents) (reading_fits utf8 t (setting_of f.reading s) f.reads n.of_reading))
 
+-- and a first document without a `---` may be laid out without one
+pub formats_bare : {t u : List ℕ} {s : Style} → IsUtf8 t → (f : Formats t s u) → FitsBare (is_bare f.normal s) f.normal.documents f.writes.trees
+formats_bare {t} {u} {s} utf8 f =
+    let n = normal_trees f in
+    let b : Bool = is_bare f.normal s in
+    subst (λ xs. FitsBare b f.normal.documents xs) (sym n.same)
+    (subst (λ ds. FitsBare b ds (map (normal_document t (setting_of f.reading s)) n.trees)) (sym n.documents)
+    (reading_bare utf8 t (setting_of f.reading s) b f.reads n.of_reading (λ e. sym (reading_begins f.reads) ∙ (sym (normal_begins f.is_normal) ∙ bare_begins f.normal s e))))
+
 -- documents that mean the trees of the normal form have the nodes and directives of those that were formatted
-pub same_in_documents : {t u : List ℕ} {s : Style} {es : List Document} → IsUtf8 t → (f : Formats t s u) → DocumentsMeant f.normal.documents f.writes.trees es
+pub same_in_documents : {t u : List ℕ} {s : Style} {es : List Document} → IsUtf8 t → (f : Formats t s u) → DocumentsMeant (is_bare f.normal s) f.normal.documents f.writes.trees es
     → SameDocuments f.reads.derived.documents es
 same_in_documents {t} {u} {s} {es} utf8 f meant =
     let n = normal_trees f in
     let c : Setting = setting_of f.reading s in
     let documents : f.normal.documents ≡ map doc_of f.reads.derived.documents = n.documents ∙ f.reads.documents in
     documents_same t c (reading_meant utf8 f.reads n.of_reading)
-    (subst (λ ds. DocumentsMeant ds (map (normal_document t c) n.trees) es) documents (subst (λ xs. DocumentsMeant f.normal.documents xs es) n.same meant))
+    (subst (λ ds. DocumentsMeant (is_bare f.normal s) ds (map (normal_document t c) n.trees) es) documents (subst (λ xs. DocumentsMeant (is_bare f.normal s) f.normal.documents xs es) n.same meant))
 
 -- what is derived of it has its leaves and comments in the order in which they were laid out
 pub record FormattedLaid {t : List ℕ} {s : Style} {u : List ℕ} (f : Formats t s u) : Type 0 where
@@ -202,7 +213,7 @@ pub record FormattedLaid {t : List ℕ} {s : Style} {u : List ℕ} (f : Formats 
   pub ascend : Ascend u 0 firsts line
   pub are : well.documents.comments ≡ firsts ++ others
   pub found_rows : List PlacedRow
-  pub found : FoundDocuments u (setting_of f.normal s) true f.writes.trees well.documents.documents found_rows
+  pub found : AllFound u (setting_of f.normal s) (is_bare f.normal s) f.writes.trees well.documents.documents found_rows
   pub placed : StreamIn u (rows_of f.normal s f.writes.trees) found_rows (row_decos f.normal (rows_of f.normal s f.writes.trees)) line others
 
 pub formats_laid : (t u : List ℕ) (s : Style) → IsUtf8 t → (f : Formats t s u) → FormattedLaid f
@@ -215,9 +226,9 @@ formats_laid t u s utf8 f =
     let fit = formats_fit utf8 f in
     let remarks : AreRemarks m.comments = subst (λ cs. AreRemarks cs) (sym n.comments) (reading_remarks utf8 f.reads) in
     let text : IsUtf8 u = subst (λ w. IsUtf8 w) (sym f.writes.is) (layouts_are_texts m s trees fit remarks trails) in
-    let laid : StreamLaid u (setting_of m s) m.documents trees (first_gap m (rows_of m s trees)) (rows_of m s trees) (row_decos m (rows_of m s trees)) =
-    subst (λ w. StreamLaid w (setting_of m s) m.documents trees (first_gap m (rows_of m s trees)) (rows_of m s trees) (row_decos m (rows_of m s trees))) (sym f.writes.is) (layouts_are_laid m s trees fit remarks trails) in
-    let made : StreamMade u m.documents trees (printed_comments m s trees) = laid.made in
+    let laid : StreamLaid u (setting_of m s) (is_bare m s) m.documents trees (first_gap m (rows_of m s trees)) (rows_of m s trees) (row_decos m (rows_of m s trees)) =
+    subst (λ w. StreamLaid w (setting_of m s) (is_bare m s) m.documents trees (first_gap m (rows_of m s trees)) (rows_of m s trees) (row_decos m (rows_of m s trees))) (sym f.writes.is) (layouts_are_laid m s trees fit (formats_bare utf8 f) remarks trails) in
+    let made : StreamMade u (is_bare m s) m.documents trees (printed_comments m s trees) = laid.made in
     let shapes = f.reads.reads.shapes in
     let derived = stream_derived shapes.derived in
     let meant = reading_meant utf8 f.reads n.of_reading in

@@ -1,5 +1,5 @@
 -- The lines of what formatting gives are those of its rows, with what they carry.
-use Rattle.std.proofs.Common.{◌≡◌, ℕ, true, List, [], ◌∷◌, ◌++◌, sym, ◌∙◌, subst}
+use Rattle.std.proofs.Common.{◌≡◌, ℕ, List, [], ◌∷◌, ◌++◌, sym, ◌∙◌, subst}
 use Rattle.std.specs.Str.{IsUtf8}
 use Rattle.yf_lines.specs.declared.line.Line.{Line}
 use Rattle.yf_lines.specs.Lines.{AreLines as LinesOf}
@@ -21,8 +21,9 @@ use Rattle.yf_emit.proofs.FormatsRead.{formats_fit, formats_well}
 use Rattle.yf_emit.proofs.GapsFit.{all_fit}
 use Rattle.yf_emit.proofs.LaidLines.{gap_lines, row_lines, laid_lines, layout_is, LinesAre, lines_are}
 use Rattle.yf_emit.proofs.RowEnds.{first_deco, after_decos}
-use Rattle.yf_emit.proofs.RowsUtf8.{AreLines, no_line, line_more, RowLines, no_rows, row_more, stream_lines}
+use Rattle.yf_emit.proofs.RowsUtf8.{AreLines, no_line, line_more, RowLines, no_rows, row_more, all_lines}
 use Rattle.yf_lines.proofs.RestLemmas.{line_nothing, line_append}
+use Rattle.yf_emit.specs.BareStart.{is_bare}
 
 -- Each line is a text within a line.
 
@@ -56,7 +57,7 @@ formed {t} {u} {s} utf8 f =
     let fit = formats_fit utf8 f in
     let remarks : AreRemarks f.normal.comments = subst (λ cs. AreRemarks cs) (sym n.comments) (reading_remarks utf8 f.reads) in
     let fits = all_fit f.normal (rows_of f.normal s f.writes.trees) (formats_trail t u s utf8 f) remarks in
-    record { utf8 = (formats_well t u s utf8 f).utf8; fit = fit; gap = fits.0; decos = fits.1; rows = stream_lines (setting_of f.normal s) true fit }
+    record { utf8 = (formats_well t u s utf8 f).utf8; fit = fit; gap = fits.0; decos = fits.1; rows = all_lines (setting_of f.normal s) (is_bare f.normal s) fit }
 
 -- its lines
 abbrev pub formed_lines : {t u : List ℕ} {s : Style} → Formats t s u → List (List ℕ)

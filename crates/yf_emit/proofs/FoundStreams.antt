@@ -31,6 +31,25 @@ pub data FoundDocuments (t : List ℕ) (s : Setting) : Bool → List DocumentTre
   document_found : {is_first : Bool} {x : DocumentTree} {xs : List DocumentTree} {m : Document} {ms : List Document} {ps qs : List PlacedRow} → FoundDocument t s is_first x m ps → FoundDocuments t s false xs ms qs
       → FoundDocuments t s is_first (x ∷ xs) (m ∷ ms) (ps ++ qs)
 
+-- a document without a `---` begins on the first row of its node
+abbrev pub begun_placed : ℕ → List PlacedRow → List PlacedRow
+begun_placed start [] = []
+begun_placed start (p ∷ ps) = record p { items = start ∷ p.items } ∷ ps
+
+pub record FoundBare (t : List ℕ) (s : Setting) (x : DocumentTree) (m : Document) (ps : List PlacedRow) : Type 0 where
+  pub node : Node
+  pub alike : Alike Anywhere x.root node
+  pub events : m.events ≡ flat node
+  pub inner : List PlacedRow
+  pub are : ps ≡ begun_placed m.start inner
+  pub rows : NodeRows t s (root_spot s.style) x.root node inner
+
+-- all documents; the flag says whether the first one is without a `---`
+pub data AllFound (t : List ℕ) (s : Setting) : Bool → List DocumentTree → List Document → List PlacedRow → Type 0 where
+  all_marked : {xs : List DocumentTree} {ms : List Document} {ps : List PlacedRow} → FoundDocuments t s true xs ms ps → AllFound t s false xs ms ps
+  bare_first : {x : DocumentTree} {xs : List DocumentTree} {m : Document} {ms : List Document} {ps qs : List PlacedRow} → FoundBare t s x m ps → FoundDocuments t s false xs ms qs
+      → AllFound t s true (x ∷ xs) (m ∷ ms) (ps ++ qs)
+
 pub found_document : {t : List ℕ} {s : Setting} {x : DocumentTree} {m : Meaning} {ps inner : List PlacedRow} (is_first : Bool) (i : ℕ) (dirs : List Directive) (heads : List PlacedRow) → HeadRows i (heads_before is_first dirs) heads
     → FoundNode t s (root_spot s.style) x.root m inner → ps ≡ heads ++ inner → FoundDocument t s is_first x (document_of i true dirs m) ps
 unfolding document_of
@@ -71,6 +90,12 @@ comments_with_comments cs = refl
 pub documents_with_comments : (cs : List CommentValue) → (with_comments cs (only_comments [])).documents ≡ []
 unfolding with_comments
 documents_with_comments cs = refl
+
+pub all_found_with : {t : List ℕ} {s : Setting} {bare : Bool} {x : DocumentTree} {xs : List DocumentTree} {m : Document} (ps qs : List PlacedRow) (cs : List CommentValue) (rest : Documents)
+    → ((ms : List Document) → FoundDocuments t s false xs ms qs → AllFound t s bare (x ∷ xs) (m ∷ ms) (ps ++ qs)) → FoundDocuments t s false xs rest.documents qs
+    → AllFound t s bare (x ∷ xs) (with_document cs m rest).documents (ps ++ qs)
+unfolding with_document
+all_found_with ps qs cs rest f b = f rest.documents b
 
 pub found_with : {t : List ℕ} {s : Setting} {is_first : Bool} {x : DocumentTree} {xs : List DocumentTree} {m : Document} {ps qs : List PlacedRow} (cs : List CommentValue) (rest : Documents) → FoundDocument t s is_first x m ps
     → FoundDocuments t s false xs rest.documents qs → FoundDocuments t s is_first (x ∷ xs) (with_document cs m rest).documents (ps ++ qs)

@@ -1,5 +1,5 @@
 -- The trees of each reading of what formatting gives are found as they were laid out.
-use Rattle.std.proofs.Common.{◌≡◌, ℕ, Bool, false, List, [], ◌∷◌, ◌++◌, length, map, flat_map, Option, refl, sym, ap, ◌∙◌, subst, arith, append_assoc}
+use Rattle.std.proofs.Common.{◌≡◌, ℕ, Bool, false, List, [], ◌∷◌, ◌++◌, length, map, flat_map, Option, refl, sym, ap, ◌∙◌, subst, arith, append_assoc, true}
 use Rattle.yf_comments.specs.Comment.{CommentValue}
 use Rattle.yf_events.specs.Alike.{Alike}
 use Rattle.yf_events.specs.Event.{Placed, document_starts, document_ends}
@@ -16,10 +16,10 @@ use Rattle.yf_emit.proofs.BareTrees.{blocks_renoted, undisturbed_renoted}
 use Rattle.yf_emit.proofs.FoundAgree.{rows_undisturbed}
 use Rattle.yf_emit.proofs.FoundKeys.{blocks_found}
 use Rattle.yf_emit.proofs.FoundNodes.{NodeRows}
-use Rattle.yf_emit.proofs.FoundStreams.{FoundDocuments, no_documents_found, document_found}
+use Rattle.yf_emit.proofs.FoundStreams.{FoundDocuments, no_documents_found, document_found, AllFound, all_marked, bare_first, begun_placed}
 use Rattle.yf_emit.proofs.HeadRows.{HeadRows, heads_before}
 use Rattle.yf_emit.proofs.PlacedRows.{PlacedRow}
-use Rattle.yf_emit.proofs.QuietPlaces.{AllQuiet, Linked, quiet_left, quiet_right, linked_left, linked_right}
+use Rattle.yf_emit.proofs.QuietPlaces.{AllQuiet, Linked, quiet_left, quiet_right, linked_left, linked_right, quiet_row, linked_row, TrailsTo, trails_nothing, trails_to}
 use Rattle.yf_emit.proofs.SettledTwice.{settled_twice}
 
 -- the trees of documents that are found, with the markers of their events
@@ -50,6 +50,34 @@ roots_found {t = t} {c = c} {is_first = is_first} (document_found {x = x} {xs = 
       roots = subst (λ v. FoundRoots t c is_first (doc_of d ∷ map doc_of ms) (x ∷ xs) (z ∷ w.trees) (v ++ qs)) (sym a.are) (one_root a.heads a.head a.alike a.rows w.roots);
     }
 
+-- the same of all documents
+pub data AllRoots (t : List ℕ) (c : Setting) : Bool → List Doc → List DocumentTree → List DocumentTree → List PlacedRow → Type 0 where
+  marked_roots : {ds : List Doc} {xs zs : List DocumentTree} {ps : List PlacedRow} → FoundRoots t c true ds xs zs ps → AllRoots t c false ds xs zs ps
+  bare_root : {d : Doc} {ds : List Doc} {x z : DocumentTree} {xs zs : List DocumentTree} {inner qs : List PlacedRow} → Alike Anywhere x.root z.root → NodeRows t c (root_spot c.style) x.root z.root inner → FoundRoots t c false ds xs zs qs
+      → AllRoots t c true (d ∷ ds) (x ∷ xs) (z ∷ zs) (begun_placed d.start inner ++ qs)
+
+pub record AllRead (t : List ℕ) (c : Setting) (bare : Bool) (ds : List Doc) (xs : List DocumentTree) (es : List Placed) (ps : List PlacedRow) (n : ℕ) : Type 0 where
+  pub trees : List DocumentTree
+  pub events : es ≡ flat_map flat_document trees
+  pub count : n ≡ length trees
+  pub roots : AllRoots t c bare ds xs trees ps
+
+pub all_roots_found : {u t : List ℕ} {c : Setting} {bare : Bool} {xs : List DocumentTree} {ms : List Document} {ps : List PlacedRow} {es : List Placed} {tags : List (Option (List ℕ))} → AllFound t c bare xs ms ps → DocumentEvents u ms es tags
+    → AllRead t c bare (map doc_of ms) xs es ps (length ms)
+all_roots_found (all_marked found) events = let w = roots_found found events in record { trees = w.trees; events = w.events; count = w.count; roots = marked_roots w.roots }
+all_roots_found {t = t} {c = c} (bare_first {x = x} {xs = xs} {ms = ms} {qs = qs} a more) (one_document {d = d} {x = rest} {closed = closed} tags end marked others) =
+    let w = roots_found more others in
+    let z : DocumentTree = record { marked = d.marked; closed = closed; root = a.node } in
+    let last : List Placed = unplaced (document_ends closed) ∷ [] in
+    record {
+      trees = z ∷ w.trees;
+      events = ap (λ v. unplaced (document_starts d.marked) ∷ (v ++ (unplaced (document_ends closed) ∷ rest))) a.events
+          ∙ (ap (λ v. unplaced (document_starts d.marked) ∷ (flat a.node ++ (unplaced (document_ends closed) ∷ v))) w.events
+          ∙ ap (λ v. unplaced (document_starts d.marked) ∷ v) (sym (append_assoc (flat a.node) last (flat_map flat_document w.trees))));
+      count = let n = w.count in omega (arith, n);
+      roots = subst (λ v. AllRoots t c true (doc_of d ∷ map doc_of ms) (x ∷ xs) (z ∷ w.trees) (v ++ qs)) (sym a.are) (bare_root a.alike a.rows w.roots);
+    }
+
 -- each root is settled
 pub data Settled (c : Setting) : List DocumentTree → Type 0 where
   none_settled : Settled c []
@@ -68,7 +96,7 @@ abbrev other_trees : List DocumentTree → List DocumentTree
 other_trees [] = []
 other_trees (w ∷ ws) = ws
 
-pub trees_found : {u : List ℕ} {c : Setting} {is_first : Bool} {cs : List CommentValue} {ds es : List Doc} {xs zs : List DocumentTree} {ms : List Document} {ps : List PlacedRow} (ys : List DocumentTree) → DocumentsMeant ds xs ms → FoundRoots u c is_first es xs zs ps
+pub trees_found : {u : List ℕ} {c : Setting} {is_first : Bool} {cs : List CommentValue} {bare : Bool} {ds es : List Doc} {xs zs : List DocumentTree} {ms : List Document} {ps : List PlacedRow} (ys : List DocumentTree) → DocumentsMeant bare ds xs ms → FoundRoots u c is_first es xs zs ps
     → map bare_tree zs ≡ map bare_tree ys → Settled c xs → AllQuiet cs ps → Linked cs ps → FoundTrees c.style c.comments u cs ds xs (map doc_of ms) ys
 trees_found [] no_documents_meant no_roots e h q l = none_found
 trees_found (y ∷ ys) no_documents_meant no_roots e h q l = absurd cc
@@ -80,3 +108,26 @@ trees_found {u} {c} {cs} (y ∷ ys) (document_meant a more) (one_root {z = z} {z
     let linked = linked_right heads inner (linked_left (heads ++ inner) qs l) in
     one_found (sym a.words) (blocks_renoted y.root root (blocks_found (root_spot c.style) refl h b r quiet linked)) (undisturbed_renoted y.root root (rows_undisturbed r quiet))
     (trees_found ys more others rest hs (quiet_right (heads ++ inner) qs q) (linked_right (heads ++ inner) qs l))
+
+pub begun_quiet : {cs : List CommentValue} {ps : List PlacedRow} (start : ℕ) → AllQuiet cs (begun_placed start ps) → AllQuiet cs ps
+begun_quiet {ps = []} start q = q
+begun_quiet {ps = p ∷ ps} start (quiet_row q a) = quiet_row q a
+
+pub begun_linked : {cs : List CommentValue} {ps : List PlacedRow} (start : ℕ) → Linked cs (begun_placed start ps) → Linked cs ps
+begun_linked {ps = []} start q = q
+begun_linked {cs = cs} {ps = p ∷ ps} start (linked_row f a) = linked_row (λ e. by (f e)) a where
+  by : {q : PlacedRow} {qs : List PlacedRow} → TrailsTo cs q qs → TrailsTo cs (record q { items = p.items }) qs
+  by trails_nothing = trails_nothing
+  by (trails_to d i l m) = trails_to d i l m
+
+pub all_trees_found : {u : List ℕ} {c : Setting} {bare : Bool} {cs : List CommentValue} {ds es : List Doc} {xs zs : List DocumentTree} {ms : List Document} {ps : List PlacedRow} (ys : List DocumentTree) → DocumentsMeant bare ds xs ms → AllRoots u c bare es xs zs ps
+    → map bare_tree zs ≡ map bare_tree ys → Settled c xs → AllQuiet cs ps → Linked cs ps → FoundTrees c.style c.comments u cs ds xs (map doc_of ms) ys
+all_trees_found ys meant (marked_roots roots) e h q l = trees_found ys meant roots e h q l
+all_trees_found [] (document_meant a more) (bare_root b r others) e h q l = absurd cc
+all_trees_found {u} {c} {cs = cs} (y ∷ ys) (document_meant a more) (bare_root {d = d} {z = z} {zs = zs} {inner = inner} {qs = qs} b r others) e (one_settled h hs) q l =
+    let root : bare z.root ≡ bare y.root = ap (first_root (bare_tree z)) e in
+    let rest : map bare_tree zs ≡ map bare_tree ys = ap other_trees e in
+    let quiet = begun_quiet d.start (quiet_left (begun_placed d.start inner) qs q) in
+    let linked = begun_linked d.start (linked_left (begun_placed d.start inner) qs l) in
+    one_found (sym a.words) (blocks_renoted y.root root (blocks_found (root_spot c.style) refl h b r quiet linked)) (undisturbed_renoted y.root root (rows_undisturbed r quiet))
+    (trees_found ys more others rest hs (quiet_right (begun_placed d.start inner) qs q) (linked_right (begun_placed d.start inner) qs l))

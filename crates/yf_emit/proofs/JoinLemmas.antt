@@ -56,6 +56,7 @@ joined_row head n row = record {
   leaves = head.leaves ++ row.leaves;
   key_comment = row.key_comment;
   blank_before = head.blank_before;
+  begins = head.begins;
   ending = row.ending;
   body = row.body;
   lines = row.lines;

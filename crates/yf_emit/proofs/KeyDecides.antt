@@ -12,12 +12,14 @@ use Rattle.yf_emit.specs.Format.{Formats}
 use Rattle.yf_emit.specs.Layout.{Source, is_among, may_be_blank_behind, own_line_comments, precedes_item, source_of, trailing, trimmed}
 use Rattle.yf_emit.specs.LayoutKey.{DependsOnKey, SameEnds, no_ends, same_end, SameKey, no_place, same_place, SamePlaces, no_comments, same_comment, SameRows, no_more_rows, same_row}
 use Rattle.yf_emit.specs.RowShapes.{shape_of}
-use Rattle.yf_emit.specs.Rows.{Ending, Row, anywhere, at_text_start}
+use Rattle.yf_emit.specs.Rows.{Ending, Row, anywhere, at_text_start, all_rows}
 use Rattle.yf_emit.proofs.AlikeLemmas.{shapes}
 use Rattle.yf_emit.proofs.CommentsStay.{rows_exact}
 use Rattle.yf_emit.proofs.CommentsTold.{firsts}
 use Rattle.yf_emit.proofs.DecoratedLemmas.{layout_then}
-use Rattle.yf_emit.proofs.FixedRows.{same_lines, same_rows}
+use Rattle.yf_emit.proofs.FixedRows.{same_lines, all_same_rows}
+use Rattle.yf_emit.specs.BareStart.{is_bare}
+use Rattle.yf_emit.specs.Normal.{setting_of}
 
 -- Comments that are taken out.
 
@@ -106,7 +108,8 @@ same_layout {s = s} f g key =
     let n : Lists = g.normal in
     let xs : List Row = rows_of m s f.writes.trees in
     let ys : List Row = rows_of n s g.writes.trees in
-    let shaped : shapes xs ≡ shapes ys = same_rows true key.documents in
+    let shaped : shapes xs ≡ shapes ys =
+    all_same_rows (is_bare m s) key.documents ∙ ap (λ b. shapes (all_rows (setting_of n s) b n.documents g.writes.trees)) key.bare in
     let own : SamePlaces xs ys (own_line_comments (source_of m xs) xs) (own_line_comments (source_of n ys) ys) =
     subst (λ z. SamePlaces xs ys z (own_line_comments (source_of n ys) ys)) (sym (own_of_normal f)) (subst (λ z. SamePlaces xs ys (filter (λ d. not (is_among (flat_map (trailing (source_of m xs)) xs) d)) m.comments) z) (sym (own_of_normal g))
     (own_places (source_of m xs) (source_of n ys) (λ d. not (is_among (flat_map (trailing (source_of m xs)) xs) d)) (λ d. not (is_among (flat_map (trailing (source_of n ys)) ys) d))

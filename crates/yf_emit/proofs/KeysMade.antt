@@ -51,7 +51,7 @@ use Rattle.yf_emit.proofs.StepsStand.{starts_of, MeaningLaid, laid_after, laid_b
 -- the row of a key with its `:`, as it is before its value is known
 abbrev pub key_head : ℕ → List ℕ → List ℕ → List Span → Bool → Row
 key_head column text items leaves blank =
-    record { column = column; text = text; items = items; leaves = leaves; key_comment = None; blank_before = blank; ending = anywhere; body = []; lines = 0 }
+    record { column = column; text = text; items = items; leaves = leaves; key_comment = None; blank_before = blank; begins = false; ending = anywhere; body = []; lines = 0 }
 
 -- what stands after the `:`
 abbrev behind_then : Option CommentValue → Bool → List Row → List Deco → List ℕ → List ℕ

@@ -10,7 +10,7 @@ use Rattle.yf_events.specs.Tree.{DocumentTree, Node, scalar, alias, sequence, ma
 use Rattle.yf_emit.specs.KeyComments.{keyed_in, keyed_in_documents, keyed_in_items, keyed_in_pairs}
 use Rattle.yf_emit.specs.Normal.{Setting, Spot, inner_spot, is_implicit, key_comment, key_spot, root_spot, value_spot}
 use Rattle.yf_emit.specs.OneLine.{props_text, written}
-use Rattle.yf_emit.specs.Rows.{Row, begins_below, beginning_at, behind_key, colon_row, directive_row, end_rows, entry_row, explicit_pair, implicit_pair, joined, key_row, one_line_row, pair_rows, props_row, rows, rows_of_items, rows_of_pairs, start_row, stream_rows}
+use Rattle.yf_emit.specs.Rows.{Row, begins_below, beginning_at, behind_key, colon_row, directive_row, end_rows, entry_row, explicit_pair, implicit_pair, joined, key_row, one_line_row, pair_rows, props_row, rows, rows_of_items, rows_of_pairs, start_row, stream_rows, all_rows, bare_rows, begun_at}
 
 abbrev pub keys_on : List Row → List CommentValue
 keys_on xs = flat_map (λ (row : Row). option_to_list row.key_comment) xs
@@ -98,7 +98,7 @@ keys_directives [] = refl
 keys_directives (d ∷ ds) = keys_directives ds
 
 -- as many documents as trees
-pub keys_told : (c : Setting) (b : Bool) (ds : List Doc) (trees : List DocumentTree) → length ds ≡ length trees → keys_on (stream_rows c b ds trees) ≡ keyed_in_documents c trees
+keys_told : (c : Setting) (b : Bool) (ds : List Doc) (trees : List DocumentTree) → length ds ≡ length trees → keys_on (stream_rows c b ds trees) ≡ keyed_in_documents c trees
 keys_told c b [] [] e = refl
 keys_told c b [] (x ∷ trees) e = absurd (omega (arith, e))
 keys_told c b (d ∷ ds) [] e = absurd (omega (arith, e))
@@ -109,3 +109,18 @@ keys_told c b (d ∷ ds) (x ∷ trees) e =
     keys_begun d.start (end_rows b d.directives ++ (map directive_row d.directives ++ (start_row ∷ []))) ∙ (keys_ends b d.directives (map directive_row d.directives ++ (start_row ∷ [])) ∙ keys_directives d.directives) in
     keys_append (head ++ root) (stream_rows c false ds trees)
     ∙ both (keys_append head root ∙ both none (keys_of_node c (root_spot c.style) x.root)) (keys_told c false ds trees (omega (arith, e)))
+
+-- the first of them maybe without `---`
+keys_bare : (start : ℕ) (xs : List Row) → keys_on (begun_at start xs) ≡ keys_on xs
+keys_bare start [] = refl
+keys_bare start (x ∷ xs) = refl
+
+pub laid_keys : (c : Setting) (bare : Bool) (ds : List Doc) (trees : List DocumentTree) → length ds ≡ length trees → keys_on (all_rows c bare ds trees) ≡ keyed_in_documents c trees
+laid_keys c false ds trees e = keys_told c true ds trees e
+laid_keys c true [] [] e = refl
+laid_keys c true [] (x ∷ trees) e = absurd (omega (arith, e))
+laid_keys c true (d ∷ ds) [] e = absurd (omega (arith, e))
+laid_keys c true (d ∷ ds) (x ∷ trees) e =
+    let root : List Row = rows c (root_spot c.style) x.root in
+    keys_append (bare_rows c d x) (stream_rows c false ds trees)
+    ∙ both (keys_bare d.start root ∙ keys_of_node c (root_spot c.style) x.root) (keys_told c false ds trees (omega (arith, e)))

@@ -23,6 +23,7 @@ use Rattle.yf_emit.proofs.LayoutPrinted.{printed_layout}
 use Rattle.yf_emit.proofs.NormalParts.{Laid, laid_out, trees_in, trees_of}
 use Rattle.yf_emit.proofs.ToldMeasures.{Told, measured_tells}
 use Rattle.yf_emit.proofs.TrailsHold.{trails_found}
+use Rattle.yf_emit.proofs.BareFound.{found_bare, form_bare, form_laid}
 
 ascends : {m : Lists} {s : Style} → NormalForm m s → CommentsAscend m
 ascends {m} {s} f = subst CommentsAscend (sym f.is.is) (comments_of_readings_ascend f.text f.reading f.reads)
@@ -51,7 +52,7 @@ pub printed_lays_out : (m : Lists) (s : Style) (ms : List Measure) (fs : List Fo
 printed_lays_out m s ms fs f ds a told forms =
     let l = laid_out f ds a in
     printed_layout m s ms fs (all_found m ms fs) DEPTH ds a told forms l.placing.placed l.begin l.placing.normal room l.placing.ascend l.placing.noted
-    (trails_hold m s ms fs f told ds a forms)
+    (trails_hold m s ms fs f told ds a forms) (found_bare m s f) (form_bare m s f ds a) (form_laid m s f ds a)
 
 printout_writes : (m : Lists) (s : Style) (u : List ℕ) → Printout m s u → NormalForm m s → Writes m s u
 printout_writes m s u p f =

@@ -20,7 +20,7 @@ use Rattle.yf_emit.specs.FitDocuments.{FitDocuments, fit_no_documents, fit_docum
 use Rattle.yf_emit.specs.Fits.{Fit, fit_nothing, fit_line, fit_scalar, fit_sequence, fit_mapping, FitItems, fit_no_items, fit_item, FitPairs, fit_no_pairs, fit_pair}
 use Rattle.yf_emit.specs.Normal.{Setting, Spot, inner_spot, key_spot, value_spot, is_implicit, key_comment, root_spot}
 use Rattle.yf_emit.specs.OneLine.{written, colon_behind, props_text}
-use Rattle.yf_emit.specs.Rows.{Row, one_line_row, props_row, joined, behind_sign, behind_key, begins_below, entry_row, colon_row, key_row, pair_rows, rows, rows_of_items, rows_of_pairs, directive_row, end_rows, beginning_at, stream_rows}
+use Rattle.yf_emit.specs.Rows.{Row, one_line_row, props_row, joined, behind_sign, behind_key, begins_below, entry_row, colon_row, key_row, pair_rows, rows, rows_of_items, rows_of_pairs, directive_row, end_rows, beginning_at, begun_at, all_rows, stream_rows}
 use Rattle.yf_emit.proofs.LineUtf8.{line_utf8}
 use Rattle.yf_emit.proofs.TreesMade.{block_is_no_key, either_pair, inline_rows, not_implicit}
 
@@ -154,3 +154,12 @@ stream_leads c b fit_no_documents = no_lead
 stream_leads c b (fit_document {d = d} {x = x} f fit more) =
     leads_append (leads_append (beginning_leads d.start (leads_append (end_leads b d.directives) (leads_append (directive_leads d.directives) (lead_more (unspaced refl) no_lead))))
     ((leading c fit).leads (root_spot c.style))) (stream_leads c false more)
+
+begun_leads : (start : ℕ) {xs : List Row} → LeadRows xs → LeadRows (begun_at start xs)
+begun_leads start no_lead = no_lead
+begun_leads start (lead_more a more) = lead_more (record { none = a.none }) more
+
+pub all_leads : (c : Setting) (bare : Bool) {ds : List Doc} {xs : List DocumentTree} → FitDocuments ds xs → LeadRows (all_rows c bare ds xs)
+all_leads c false fit = stream_leads c true fit
+all_leads c true fit_no_documents = no_lead
+all_leads c true (fit_document {d = d} {x = x} f fit more) = leads_append (begun_leads d.start ((leading c fit).leads (root_spot c.style))) (stream_leads c false more)

@@ -8,6 +8,7 @@ pub mod WhiteLemmas
 pub mod GapLemmas
 -- `measure_all`: how wide each node is
 pub mod LevelLemmas
+pub mod SpannedNodes
 pub mod SpotLemmas
 pub mod OffsetLemmas
 pub mod SumLemmas
@@ -237,7 +238,11 @@ pub mod FoundStreams
 pub mod QuietPlaces
 pub mod FoundAgree
 pub mod FoundKeys
+pub mod BareAgain
+pub mod BareFound
+pub mod BareMade
 pub mod BareNodes
+pub mod BareReadings
 pub mod BareTrees
 pub mod FoundTexts
 pub mod FoundMarks

@@ -31,15 +31,15 @@ use Rattle.yf_emit.proofs.FormattedLines.{append_lines, formed, formed_are, form
 use Rattle.yf_emit.proofs.HeldLemmas.{BodiesHeld}
 use Rattle.yf_emit.proofs.LaidLines.{LinesAre, LineIs, more_lines, gap_lines, own_line, row_lines}
 use Rattle.yf_emit.proofs.LinedRows.{SeenLine, after_tidy, first_tidy, joined_some, own_behind, own_seen, seen_long, some_long}
-use Rattle.yf_emit.proofs.RowColumns.{GapSteps, no_gap, blank_step, remark_step, DecoSteps, no_decos, more_decos, IsStep, StepBody, bare_body, step_body, Stepped, none_stepped, row_stepped, decos_stepped, gap_stepped, stream_stepped}
+use Rattle.yf_emit.proofs.RowColumns.{GapSteps, no_gap, blank_step, remark_step, DecoSteps, no_decos, more_decos, IsStep, StepBody, bare_body, step_body, Stepped, none_stepped, row_stepped, decos_stepped, gap_stepped, all_stepped}
 use Rattle.yf_emit.proofs.ClearRows.{trails_bytes}
 use Rattle.yf_emit.proofs.EventsTold.{events_told, told_pieces, told_scalars}
-use Rattle.yf_emit.proofs.RowTokens.{TokenRows, token_row, pieces_ended, pieces_in, stream_tokens, tabs_append, text_left, text_right}
+use Rattle.yf_emit.proofs.RowTokens.{TokenRows, token_row, pieces_ended, pieces_in, laid_tokens, tabs_append, text_left, text_right}
 use Rattle.yf_emit.proofs.PiecesRead.{PiecesTabless}
 use Rattle.yf_emit.proofs.StreamPieces.{reading_pieces}
 use Rattle.yf_emit.proofs.DirectiveTabs.{words_tabless}
 use Rattle.yf_emit.proofs.CommentTokens.{AllTokens, DecoTokens, GapTokens, TrailTokens, after_tokens, all_filter, decos_tokens, documents_tokens, first_tokens, gap_tokens, own_tokens, zip_tokens}
-use Rattle.yf_emit.proofs.KeysTold.{keys_on, keys_told}
+use Rattle.yf_emit.proofs.KeysTold.{keys_on, laid_keys}
 use Rattle.yf_emit.proofs.SameComments.{formats_comments}
 use Rattle.yf_emit.proofs.TokenTabs.{one_token}
 use Rattle.yf_emit.proofs.ScalarsAmong.{scalars_ended}
@@ -51,6 +51,7 @@ use Rattle.yf_emit.proofs.SeenTexts.{IsSeen, ascii_ns, seen_more}
 use Rattle.yf_emit.proofs.RowEnds.{after_decos, first_deco}
 use Rattle.yf_emit.proofs.RowsUtf8.{AreLines, no_line, line_more, RowLines, no_rows, row_more}
 use Rattle.yf_emit.proofs.TidyTexts.{IsTidy, TidyDecos, TidyGap, decos_tidy, gap_tidy, last_append, tidy_line}
+use Rattle.yf_emit.specs.BareStart.{is_bare}
 
 -- A comment on a line of its own, and rows.
 
@@ -175,17 +176,17 @@ lines_tidy t u s utf8 f =
           sym (told_pieces m.events q.events (events_told utf8 f b)) ∙ (ap pieces_in f.writes.of_reading.events ∙ pieces_ended (flat_map flat_document trees) stream_ends refl) in
           let read : PiecesTabless (IsToken q) q.events = reading_pieces a.utf8 (IsToken q) b (λ w h. text_left (comment_texts q) h) in
           let tabs : TokenRows (IsToken q) rows =
-          stream_tokens (IsToken q) (setting_of m s) true m.documents trees (words_tabless (IsToken q) a.fit) (λ w h. read w (subst (λ z. HasText w z) (sym pieces) h)) in
+          laid_tokens (IsToken q) (setting_of m s) (is_bare m s) m.documents trees (words_tabless (IsToken q) a.fit) (λ w h. read w (subst (λ z. HasText w z) (sym pieces) h)) in
           let texts : comment_texts q ≡ comment_texts m =
           same_texts q f.reading (formats_comments t u s utf8 f f.reading q f.reads b) ∙ sym (ap (λ (w : Lists). comment_texts w) f.is_normal.is) in
           let all : AllTokens (IsToken q) m.comments = all_tokens (IsToken q) m.comments (λ w h. text_right (tokens_in q.events) (subst (λ z. HasText w z) (sym texts) h)) in
           let remarks = zip_tokens (IsToken q) m.comments m.on_leaf_line all in
           let own : AllTokens (IsToken q) comments = all_filter (IsToken q) (λ d. not (is_among (flat_map (trailing (source_of m rows)) rows) d)) (map (λ (x : Remark). x.0) (source_of m rows).remarks) (own_tokens (IsToken q) (source_of m rows).remarks remarks) in
           let keys : AllTokens (IsToken q) (keys_on rows) =
-          subst (λ z. AllTokens (IsToken q) z) (sym (keys_told (setting_of m s) true m.documents trees f.writes.of_reading.documents)) (documents_tokens (IsToken q) (setting_of m s) all trees) in
+          subst (λ z. AllTokens (IsToken q) z) (sym (laid_keys (setting_of m s) (is_bare m s) m.documents trees f.writes.of_reading.documents)) (documents_tokens (IsToken q) (setting_of m s) all trees) in
           let limit : ℕ = suc (tall_documents b.trees) in
           let room : suc (tall_documents trees) ≤ limit = let same = found_tall found in omega (arith, same) in
-          let steps : Stepped s.indent limit (block_scalars (flat_map flat_document trees)) rows = stream_stepped (setting_of m s) limit true room a.fit in
+          let steps : Stepped s.indent limit (block_scalars (flat_map flat_document trees)) rows = all_stepped (setting_of m s) limit (is_bare m s) room a.fit in
           let lines = past_lines (gap_lines (first_gap m rows)) (formed_are b.lines f a b.are_lines) in
           subst (λ bs. TidyLines s.indent limit (IsToken q) bs (formed_lines f)) scalars
           (gap_part a.utf8 q.events s.indent limit (IsToken q) (gap_stepped s.indent limit at_text_start comments steps) a.gap (gap_tidy at_text_start comments rows) (gap_tokens (IsToken q) at_text_start comments rows own)

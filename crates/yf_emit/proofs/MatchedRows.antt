@@ -13,7 +13,7 @@ use Rattle.yf_emit.specs.FoundTrees.{words_of}
 use Rattle.yf_emit.specs.Normal.{Spot, fits, inner_spot, is_implicit, key_spot, settled, settled_items, settled_pairs, value_spot}
 use Rattle.yf_emit.specs.OneLine.{props_text, written}
 use Rattle.yf_emit.specs.ReadingKey.{Each, none_each, one_each, Either, in_neither, in_both, SameSide, SameSpan, SameEntry, SameComment, NodesMatch, matched_scalars, matched_aliases, matched_empty_sequences, matched_empty_mappings, matched_sequences, matched_mappings, ItemsMatch, no_matched_items, matched_item, PairsMatch, no_matched_pairs, matched_pair}
-use Rattle.yf_emit.specs.Rows.{Row, begins_below, beginning_at, behind_key, blank_before_entry, colon_offset, colon_row, directive_row, end_rows, entry_row, explicit_pair, implicit_pair, joined, key_row, one_line, one_line_row, pair_rows, props_row, rows, rows_of_items, rows_of_pairs, start_row}
+use Rattle.yf_emit.specs.Rows.{Row, begins_below, beginning_at, begun_at, behind_key, blank_before_entry, colon_offset, colon_row, directive_row, end_rows, entry_row, explicit_pair, implicit_pair, joined, key_row, one_line, one_line_row, pair_rows, props_row, rows, rows_of_items, rows_of_pairs, start_row}
 use Rattle.yf_emit.proofs.AlikeLemmas.{same_below, same_fit, same_implicit, same_key_spot, same_value_spot, same_written, setting}
 use Rattle.yf_emit.proofs.MatchedLemmas.{each_append, entry_each, entry_of, items_each, key_each, keys_agree, leaves_each, matched_alike}
 
@@ -206,6 +206,11 @@ module _ {ps : List (ℕ × ℕ)} {cs ds : List CommentValue} (s : Style) (same 
   pub begun_match : {a b : ℕ} {xs ys : List Row} → SameSide ps a b → Match xs ys → Match (beginning_at a xs) (beginning_at b ys)
   begun_match e none_each = none_each
   begun_match e (one_each a more) = one_each (record { items = one_each e a.items; leaves = a.leaves; key = a.key; blank = a.blank }) more
+
+  -- and of a document that begins on its node's first line
+  pub bare_match : {a b : ℕ} {xs ys : List Row} → SameSide ps a b → Match xs ys → Match (begun_at a xs) (begun_at b ys)
+  bare_match e none_each = none_each
+  bare_match e (one_each a more) = one_each (record { items = one_each e a.items; leaves = a.leaves; key = a.key; blank = a.blank }) more
 
   pub start_match : RowMatch ps start_row start_row
   start_match = bare_row refl refl refl refl refl refl refl

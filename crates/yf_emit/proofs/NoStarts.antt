@@ -6,13 +6,13 @@ use Rattle.yf_comments.specs.Comment.{CommentValue}
 use Rattle.yf_events.specs.Tree.{Node, scalar, alias, sequence, mapping, Items, no_items, item, Pairs, no_pairs, pair}
 use Rattle.yf_events.specs.declared.directive.Directive.{Directive}
 use Rattle.yf_events.specs.declared.event.ScalarStyle.TheVariants.{Plain, Single, Double, Literal, Folded}
-use Rattle.yf_emit.specs.Beginnings.{begins_behind, documents_begin, steps_with}
+use Rattle.yf_emit.specs.Beginnings.{begins_behind, documents_begin, steps_with, begins_on}
 use Rattle.yf_emit.specs.BlockLines.{final_feeds, is_kept_tail}
 use Rattle.yf_emit.specs.Carried.{carried_texts, comments_in}
 use Rattle.yf_emit.specs.Decorated.{Deco, after, first, past}
 use Rattle.yf_emit.specs.Normal.{Setting, Spot, inner_spot, is_implicit, key_comment, key_spot, value_spot}
 use Rattle.yf_emit.specs.OneLine.{props_text, written}
-use Rattle.yf_emit.specs.Rows.{Row, begins_below, behind_key, colon_row, directive_row, entry_row, explicit_pair, implicit_pair, joined, key_row, one_line_row, pair_rows, props_row, rows, rows_of_items, rows_of_pairs, tail_ending}
+use Rattle.yf_emit.specs.Rows.{Row, begins_below, behind_key, colon_row, directive_row, entry_row, explicit_pair, implicit_pair, joined, key_row, one_line_row, pair_rows, props_row, rows, rows_of_items, rows_of_pairs, tail_ending, Ending}
 use Rattle.yf_emit.specs.Steps.{Step, a_comment, comment_steps}
 
 pub data NoStarts : List Row → Type 0 where
@@ -23,9 +23,18 @@ pub starts_none : {xs ys : List Row} → NoStarts xs → NoStarts ys → NoStart
 starts_none no_starts b = b
 starts_none (no_start_on e a) b = no_start_on e (starts_none a b)
 
+begun_joined : (a b : Bool) (d e : Ending) → begins_on a d ≡ [] → begins_on b e ≡ [] → begins_on a e ≡ []
+begun_joined true b d e f g = absurd (some f) where
+  some : {x : Step} {xs : List Step} → x ∷ xs ≡ [] → ⊥
+  some h = cc
+begun_joined false true d e f g = absurd (some g) where
+  some : {x : Step} {xs : List Step} → x ∷ xs ≡ [] → ⊥
+  some h = cc
+begun_joined false false d e f g = g
+
 joined_none : (head : Row) (n : ℕ) (xs : List Row) → documents_begin head ≡ [] → NoStarts xs → NoStarts (joined head n xs)
 joined_none head n [] e a = no_start_on e no_starts
-joined_none head n (x ∷ xs) e (no_start_on f a) = no_start_on f a
+joined_none head n (x ∷ xs) e (no_start_on f a) = no_start_on (begun_joined head.begins x.begins head.ending x.ending e f) a
 
 line_none : (column : ℕ) (x : Node) (w : List ℕ) → NoStarts (one_line_row column x w)
 line_none column x [] = no_starts

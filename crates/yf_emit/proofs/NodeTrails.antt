@@ -19,7 +19,8 @@ use Rattle.yf_emit.specs.Layout.{source_of, trimmed}
 use Rattle.yf_emit.specs.Measuring.{setting}
 use Rattle.yf_emit.specs.Normal.{Setting, Spot, entry_or, first_between, inner_spot, is_implicit, is_one_line_key, key_comment, key_spot, key_start, last_start, styled_items, styled_pairs, value_of_implicit, value_spot, root_spot, setting_of}
 use Rattle.yf_emit.specs.OneLine.{written, props_text}
-use Rattle.yf_emit.specs.Rows.{Row, begins_below, behind_key, behind_sign, colon_row, entry_row, implicit_pair, is_empty_text, joined, key_row, one_line_row, pair_rows, props_row, rows, rows_of_items, rows_of_pairs, beginning_at, directive_row, document_rows, end_rows, start_row, stream_rows}
+use Rattle.yf_emit.specs.BareStart.{is_bare}
+use Rattle.yf_emit.specs.Rows.{Row, begins_below, behind_key, behind_sign, colon_row, entry_row, implicit_pair, is_empty_text, joined, key_row, one_line_row, pair_rows, props_row, rows, rows_of_items, rows_of_pairs, beginning_at, directive_row, document_rows, end_rows, start_row, begun_at, all_rows, stream_rows}
 use Rattle.yf_emit.specs.StillLeaves.{Still, nothing_still, one_still, more_still, between, KeptStill, ItemsStill, PairsStill}
 use Rattle.yf_emit.proofs.LeafPrinted.{same_flag, same_flag_of_map}
 use Rattle.yf_emit.proofs.PrintedTrees.{item_parts, items_of, pair_parts, pairs_of}
@@ -279,7 +280,23 @@ stream_tidy c is_first (d ∷ ds) (x ∷ xs) post a k =
     (node_rows_tidy c (root_spot c.style) x.root (leaves_on rest ++ post) a k.0.0 k.0.1.0 k.0.1.1))
     (stream_tidy c false ds xs post a k.1)
 
+begun_tidy : (cs : List CommentValue) (start : ℕ) (xs : List Row) (post : List Span) → TidyRows cs xs post → TidyRows cs (begun_at start xs) post
+begun_tidy cs start [] post a = a
+begun_tidy cs start (x ∷ xs) post a = (record { still = a.0.still; key = a.0.key }, a.1)
+
+pub all_tidy : (c : Setting) (bare : Bool) (ds : List Doc) (trees : List DocumentTree) (post : List Span) → AreRemarks c.comments → TreesKept c trees
+    → TidyRows c.comments (all_rows c bare ds trees) post
+all_tidy c false ds trees post a k = stream_tidy c true ds trees post a k
+all_tidy c true [] trees post a k = tt
+all_tidy c true (d ∷ ds) [] post a k = tt
+all_tidy c true (d ∷ ds) (x ∷ xs) post a k =
+    let tree : List Row = rows c (root_spot c.style) x.root in
+    let rest : List Row = stream_rows c false ds xs in
+    tidy_append c.comments post (begun_at d.start tree) rest
+    (begun_tidy c.comments d.start tree (leaves_on rest ++ post) (node_rows_tidy c (root_spot c.style) x.root (leaves_on rest ++ post) a k.0.0 k.0.1.0 k.0.1.1))
+    (stream_tidy c false ds xs post a k.1)
+
 -- so at most one comment trails a row of the layout, where the leaves begin one after the other
 pub trails_fit : (m : Lists) (s : Style) (trees : List DocumentTree) → AreRemarks m.comments → TreesKept (setting_of m s) trees → rising (leaves_on (rows_of m s trees)) ≡ true
     → TrailsFit (source_of m (rows_of m s trees)) (rows_of m s trees)
-trails_fit m s trees a k up = rows_trail m.on_leaf_line [] [] (rows_of m s trees) refl up a refl refl (stream_tidy (setting_of m s) true m.documents trees [] a k)
+trails_fit m s trees a k up = rows_trail m.on_leaf_line [] [] (rows_of m s trees) refl up a refl refl (all_tidy (setting_of m s) (is_bare m s) m.documents trees [] a k)

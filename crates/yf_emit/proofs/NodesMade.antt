@@ -116,7 +116,7 @@ line_made {t} {s} {x} {r} spot n c ds z q b inline some key text column body cou
 
 abbrev pub sign_row : ℕ → ℕ → List ℕ → Bool → Row
 sign_row column sign items blank =
-    record { column = column; text = sign ∷ []; items = items; leaves = []; key_comment = None; blank_before = blank; ending = anywhere; body = []; lines = 0 }
+    record { column = column; text = sign ∷ []; items = items; leaves = []; key_comment = None; blank_before = blank; begins = false; ending = anywhere; body = []; lines = 0 }
 
 pub record SignMade (t : List ℕ) (s : Setting) (a : ℕ) (c : Ctx) (sign : ℕ) (spot : Spot) (x : Node) (rs : List Row) (ds : List Deco) (q : ℕ) (r : List ℕ) : Type 0 where
   pub height : ℕ

@@ -9,16 +9,17 @@ use Rattle.yf_events.specs.declared.document.Doc.{Doc}
 use Rattle.yf_emit.specs.FitDocuments.{FitDocuments, fit_no_documents, fit_document}
 use Rattle.yf_emit.specs.FoundTrees.{FoundTrees, none_found, one_found, words_of}
 use Rattle.yf_emit.specs.Normal.{Setting, root_spot}
-use Rattle.yf_emit.specs.Rows.{Row, beginning_at, directive_row, document_rows, end_rows, rows, start_row, stream_rows}
+use Rattle.yf_emit.specs.Rows.{Row, beginning_at, directive_row, document_rows, end_rows, rows, start_row, stream_rows, all_rows, bare_rows, begun_at}
 use Rattle.yf_emit.proofs.AlikeLemmas.{setting}
 use Rattle.yf_emit.proofs.BareNodes.{bare, bare_tree}
-use Rattle.yf_emit.proofs.FoundTexts.{FoundRoots, no_roots, one_root}
+use Rattle.yf_emit.proofs.FoundTexts.{FoundRoots, no_roots, one_root, AllRoots, marked_roots, bare_root}
 use Rattle.yf_emit.proofs.GapsNoted.{HeadNote, bare_head}
 use Rattle.yf_emit.proofs.HeadRows.{HeadRows, mark_head, more_heads, heads_before}
 use Rattle.yf_emit.proofs.NoteTrees.{NotesMade, both_made, node_notes, regrouped, start_unlined}
 use Rattle.yf_emit.proofs.PlacedRows.{PlacedRow}
-use Rattle.yf_emit.proofs.RowNotes.{AllNoted, RowNotes, no_row_notes, note_kept, notes_join}
+use Rattle.yf_emit.proofs.RowNotes.{AllNoted, RowNotes, no_row_notes, note_kept, notes_join, note_moved}
 use Rattle.yf_emit.proofs.RowsRenoted.{rows_renoted}
+use Rattle.yf_emit.proofs.FoundStreams.{begun_placed}
 
 -- Rows that begin with no entry, and have no block scalar.
 
@@ -92,4 +93,35 @@ documents_noted {t} {c} cs (y ∷ ys) {is_first} {f} (one_root {z = z} {zs = zs}
     let inner = node_notes cs (root_spot c.style) (root_spot c.style) refl refl a (rows_renoted y.root root r) fit (last ++ (flat_map flat_document ys ++ rest))
     (regrouped t f (flat y.root) last (flat_map flat_document ys ++ rest) here.1) in
     let one = document_made c is_first d b x y cs heads words h inner in
+    both_made one (documents_noted cs ys others trees more fits rest one.notes)
+
+-- where the first document is without a `---`
+begun_notes : {t : List ℕ} {f : ℕ} {ps : List PlacedRow} {xs ys : List Row} {gs : List ℕ} (a b q : ℕ) → RowNotes t f ps xs ys gs → RowNotes t f (begun_placed q ps) (begun_at a xs) (begun_at b ys) gs
+begun_notes a b q no_row_notes = no_row_notes
+begun_notes a b q (note_kept h e more) = note_kept h e more
+begun_notes a b q (note_moved h n l more) = note_moved h n l more
+
+bare_made : {t : List ℕ} {f : ℕ} {ps : List PlacedRow} {rest : List Placed} (c : Setting) (d b : Doc) (x y : DocumentTree) (cs : List CommentValue)
+    → NotesMade t f ps (rows c (root_spot c.style) x.root) (rows (setting c.style cs) (root_spot c.style) y.root) (flat y.root) ((unplaced (document_ends y.closed) ∷ []) ++ rest)
+    → NotesMade t f (begun_placed b.start ps) (bare_rows c d x) (bare_rows (setting c.style cs) b y) (flat_document y) rest
+bare_made c d b x y cs a = record {
+  ends = a.ends;
+  rows = begun_notes d.start b.start b.start a.rows;
+  notes = a.notes.1;
+  at = λ o z. start_unlined (unplaced (document_starts y.marked)) (unplaced (document_ends y.closed)) (λ v p. refl) (λ v p. refl) (flat y.root) o z ∙ a.at o z;
+}
+
+pub all_noted_documents : {t : List ℕ} {c : Setting} (cs : List CommentValue) (ys : List DocumentTree) {bare_first : Bool} {f : ℕ} {ds es : List Doc} {xs zs : List DocumentTree} {ps : List PlacedRow} → AllRoots t c bare_first es xs zs ps
+    → map bare_tree zs ≡ map bare_tree ys → FoundTrees c.style c.comments t cs ds xs es ys → FitDocuments ds xs → (rest : List Placed) → AllNoted t f (flat_map flat_document ys ++ rest)
+    → NotesMade t f ps (all_rows c bare_first ds xs) (all_rows (setting c.style cs) bare_first es ys) (flat_map flat_document ys) rest
+all_noted_documents cs ys (marked_roots roots) e found fit rest n = documents_noted cs ys roots e found fit rest n
+all_noted_documents cs [] (bare_root alike r others) e found fit rest n = elim found [ ]
+all_noted_documents {t} {c} cs (y ∷ ys) {f = f} (bare_root {z = z} {zs = zs} alike r others) e (one_found {d = d} {e = b} {x = x} words a undisturbed more) (fit_document directives fit fits) rest n =
+    let root : bare z.root ≡ bare y.root = ap (λ w. (first_root (bare_tree z) w).root) e in
+    let trees : map bare_tree zs ≡ map bare_tree ys = ap other_trees e in
+    let last : List Placed = unplaced (document_ends y.closed) ∷ [] in
+    let here : AllNoted t f (flat_document y ++ (flat_map flat_document ys ++ rest)) = regrouped t f (flat_document y) (flat_map flat_document ys) rest n in
+    let inner = node_notes cs (root_spot c.style) (root_spot c.style) refl refl a (rows_renoted y.root root r) fit (last ++ (flat_map flat_document ys ++ rest))
+    (regrouped t f (flat y.root) last (flat_map flat_document ys ++ rest) here.1) in
+    let one = bare_made c d b x y cs inner in
     both_made one (documents_noted cs ys others trees more fits rest one.notes)

@@ -135,6 +135,7 @@ at_joined {y} {p} {i} head ys n q a items leaves e f g at x xs same =
       leaves = head.leaves ++ y.leaves;
       key_comment = y.key_comment;
       blank_before = head.blank_before;
+      begins = head.begins;
       ending = y.ending;
       body = y.body;
       lines = y.lines;

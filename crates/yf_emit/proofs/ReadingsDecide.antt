@@ -10,18 +10,19 @@ use Rattle.yf_events.specs.declared.event.Span.{Span}
 use Rattle.yf_events.specs.declared.lists.Lists.{Lists}
 use Rattle.yf_emit.specs.declared.style.Style.{Style}
 use Rattle.yf_emit.specs.AlikeBlocks.{AlikeBlocks, alike_lines, alike_block_sequences, alike_block_mappings, AlikeBlockItems, no_block_items, block_item, AlikeBlockPairs, no_block_pairs, block_pair}
+use Rattle.yf_emit.specs.BareStart.{is_bare}
 use Rattle.yf_emit.specs.CommentsPlaced.{at_leaf, ends_line, rows_in, source_in}
 use Rattle.yf_emit.specs.Format.{Formats}
 use Rattle.yf_emit.specs.Layout.{Remark, Source, first_comment, is_among, is_before, next_leaf, trailing, trailing_leaf, trimmed}
 use Rattle.yf_emit.specs.LayoutKey.{SameDocuments, no_documents, same_document, SameEnds, no_ends, same_end, SameKey, SamePlace, no_place, same_place, SamePlaces, no_comments, same_comment, SameRows, no_more_rows, same_row}
 use Rattle.yf_emit.specs.Normal.{normal_document, root_spot, setting_of}
 use Rattle.yf_emit.specs.ReadingKey.{DependsOnReading, Each, none_each, one_each, Either, in_neither, in_both, SameSpan, SameComment, SameRemark, NodesMatch, matched_scalars, matched_aliases, matched_empty_sequences, matched_empty_mappings, matched_sequences, matched_mappings, ItemsMatch, no_matched_items, matched_item, PairsMatch, no_matched_pairs, matched_pair, DocumentsMatch, no_matched_documents, matched_document, SameReadings}
-use Rattle.yf_emit.specs.Rows.{Row, stream_rows}
+use Rattle.yf_emit.specs.Rows.{Row, all_rows, stream_rows}
 use Rattle.yf_emit.proofs.CommentsTold.{firsts}
 use Rattle.yf_emit.proofs.KeyDecides.{as_many_notes, key_decides}
 use Rattle.yf_emit.proofs.LeavesTold.{laid_trees}
 use Rattle.yf_emit.proofs.MatchedLemmas.{any_each, both_lt, each_append, find_each, keys_agree, matched_alike}
-use Rattle.yf_emit.proofs.MatchedRows.{RowMatch, begun_match, directives_match, ends_match, rows_match, settled_matched, start_match}
+use Rattle.yf_emit.proofs.MatchedRows.{RowMatch, bare_match, begun_match, directives_match, ends_match, rows_match, settled_matched, start_match}
 
 same_eq : (a m b n : ℕ) → nat_lt a m ≡ nat_lt b n → nat_lt m a ≡ nat_lt n b → (a == m) ≡ (b == n)
 same_eq a m b n e f = grind (arith, nat_tests)
@@ -166,11 +167,17 @@ module _ {ps : List (ℕ × ℕ)} (s : Style) (t v : List ℕ) (r q : Lists) (sa
       (rows_match s same (root_spot s) (settled_matched s same (root_spot s) m)))
       (laid_rows false more)
 
+  all_laid : {ds es : List Doc} {xs ys : List DocumentTree} (bare : Bool) → DocumentsMatch ps s t r v q ds xs es ys
+      → Each (RowMatch ps) (all_rows (setting_of r s) bare ds (map (normal_document t (setting_of r s)) xs)) (all_rows (setting_of q s) bare es (map (normal_document v (setting_of q s)) ys))
+  all_laid false a = laid_rows true a
+  all_laid true no_matched_documents = none_each
+  all_laid true (matched_document w b m more) = each_append (bare_match s same b (rows_match s same (root_spot s) (settled_matched s same (root_spot s) m))) (laid_rows false more)
+
 -- The law.
 
-rows_are : {t u : List ℕ} {s : Style} (f : Formats t s u) → rows_in f ≡ stream_rows (setting_of f.reading s) true f.reading.documents (map (normal_document t (setting_of f.reading s)) f.is_normal.trees)
+rows_are : {t u : List ℕ} {s : Style} (f : Formats t s u) → rows_in f ≡ all_rows (setting_of f.reading s) (is_bare f.normal s) f.reading.documents (map (normal_document t (setting_of f.reading s)) f.is_normal.trees)
 rows_are {t} {s = s} f =
-    ap (λ (m : Lists). stream_rows (setting_of m s) true m.documents f.writes.trees) f.is_normal.is ∙ ap (λ xs. stream_rows (setting_of f.reading s) true f.reading.documents xs) (laid_trees f)
+    ap (λ (m : Lists). all_rows (setting_of m s) (is_bare f.normal s) m.documents f.writes.trees) f.is_normal.is ∙ ap (λ xs. all_rows (setting_of f.reading s) (is_bare f.normal s) f.reading.documents xs) (laid_trees f)
 
 reading_notes : {t u : List ℕ} {s : Style} (f : Formats t s u) → length f.reading.on_leaf_line ≡ length f.reading.comments
 reading_notes f = sym (ap (λ (m : Lists). length m.on_leaf_line) f.is_normal.is) ∙ (as_many_notes f ∙ ap (λ (m : Lists). length m.comments) f.is_normal.is)
@@ -183,21 +190,25 @@ same_key {t} {u} {v} {w} {s} f g a =
     let same : Each (SameComment ps) r.comments q.comments =
     subst (λ z. Each (SameComment ps) r.comments z) (firsts q.comments q.on_leaf_line (reading_notes g))
     (subst (λ z. Each (SameComment ps) z (map (λ (x : Remark). x.0) (zip q.comments q.on_leaf_line))) (firsts r.comments r.on_leaf_line (reading_notes f)) (remark_comments a.remarks)) in
+    let laid : Bool → List Row = λ b. all_rows (setting_of r s) b r.documents (map (normal_document t (setting_of r s)) f.is_normal.trees) in
     let rows : Each (RowMatch ps) (rows_in f) (rows_in g) =
-    subst (λ z. Each (RowMatch ps) z (rows_in g)) (sym (rows_are f)) (subst (λ z. Each (RowMatch ps) (stream_rows (setting_of r s) true r.documents (map (normal_document t (setting_of r s)) f.is_normal.trees)) z) (sym (rows_are g)) (laid_rows s t v r q same true a.documents)) in
+    subst (λ z. Each (RowMatch ps) z (rows_in g)) (sym (rows_are f))
+    (subst (λ z. Each (RowMatch ps) (laid (is_bare f.normal s)) z) (sym (rows_are g))
+    (subst (λ b. Each (RowMatch ps) (laid (is_bare f.normal s)) (all_rows (setting_of q s) b q.documents (map (normal_document v (setting_of q s)) g.is_normal.trees))) a.bare (all_laid s t v r q same (is_bare f.normal s) a.documents))) in
     let comments : Each (SameComment ps) f.normal.comments g.normal.comments =
     subst (λ (m : Lists). Each (SameComment ps) m.comments g.normal.comments) (sym f.is_normal.is) (subst (λ (m : Lists). Each (SameComment ps) r.comments m.comments) (sym g.is_normal.is) same) in
     let remarks : Each (SameRemark ps) (zip f.normal.comments f.normal.on_leaf_line) (zip g.normal.comments g.normal.on_leaf_line) =
     subst (λ (m : Lists). Each (SameRemark ps) (zip m.comments m.on_leaf_line) (zip g.normal.comments g.normal.on_leaf_line)) (sym f.is_normal.is)
     (subst (λ (m : Lists). Each (SameRemark ps) (zip r.comments r.on_leaf_line) (zip m.comments m.on_leaf_line)) (sym g.is_normal.is) a.remarks) in
     let sources : SourcesMatch ps (source_in f) (source_in g) = record { remarks = remarks; leaves = row_leaves rows; keys = row_keys rows } in
-    let laid : SameDocuments s r.comments q.comments r.documents f.writes.trees q.documents g.writes.trees =
+    let trees : SameDocuments s r.comments q.comments r.documents f.writes.trees q.documents g.writes.trees =
     subst (λ z. SameDocuments s r.comments q.comments r.documents z q.documents g.writes.trees) (sym (laid_trees f))
     (subst (λ z. SameDocuments s r.comments q.comments r.documents (map (normal_document t (setting_of r s)) f.is_normal.trees) q.documents z) (sym (laid_trees g)) (laid_documents s t v r q same a.documents)) in
     record {
+      bare = a.bare;
       documents =
           subst (λ (m : Lists). SameDocuments s m.comments g.normal.comments m.documents f.writes.trees g.normal.documents g.writes.trees) (sym f.is_normal.is)
-          (subst (λ (m : Lists). SameDocuments s r.comments m.comments r.documents f.writes.trees m.documents g.writes.trees) (sym g.is_normal.is) laid);
+          (subst (λ (m : Lists). SameDocuments s r.comments m.comments r.documents f.writes.trees m.documents g.writes.trees) (sym g.is_normal.is) trees);
       places = places_same comments rows;
       ends = ends_same sources comments;
       rows = rows_same sources rows;

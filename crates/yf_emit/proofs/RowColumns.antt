@@ -19,7 +19,7 @@ use Rattle.yf_emit.specs.Fits.{Fit, FitItems, fit_item, FitPairs, fit_pair}
 use Rattle.yf_emit.specs.Layout.{Source, may_be_blank_behind, precedes_item}
 use Rattle.yf_emit.specs.Normal.{Setting, Spot, inner_spot, is_implicit, key_comment, key_spot, root_spot, value_column, value_entries, value_of_implicit, value_spot}
 use Rattle.yf_emit.specs.OneLine.{colon_behind, props_text, spaced, width, written}
-use Rattle.yf_emit.specs.Rows.{Ending, Row, anywhere, begins_below, beginning_at, behind_key, colon_row, directive_row, document_rows, end_rows, entry_row, explicit_pair, is_empty_text, joined, key_row, one_line, one_line_row, pair_rows, props_row, rows, rows_of_items, rows_of_pairs, stream_rows}
+use Rattle.yf_emit.specs.Rows.{Ending, Row, anywhere, begins_below, beginning_at, behind_key, colon_row, directive_row, document_rows, end_rows, entry_row, explicit_pair, is_empty_text, joined, key_row, one_line, one_line_row, pair_rows, props_row, rows, rows_of_items, rows_of_pairs, all_rows, bare_rows, begun_at, stream_rows}
 use Rattle.yf_emit.specs.TidyLines.{BlockScalar, block_scalars}
 use Rattle.yf_emit.proofs.FlowEvents.{AllFlow}
 use Rattle.yf_emit.proofs.NoteTrees.{inline_flow, items_fit, key_flow, pairs_fit}
@@ -326,7 +326,7 @@ module _ (c : Setting) (limit : ℕ) where
   directives_stepped [] = none_stepped
   directives_stepped (d ∷ ds) = row_stepped no_step bare_body (directives_stepped ds)
 
-  pub stream_stepped : {ds : List Doc} {xs : List DocumentTree} (b : Bool) → suc (tall_documents xs) ≤ limit → FitDocuments ds xs → AreStepped (block_scalars (flat_map flat_document xs)) (stream_rows c b ds xs)
+  stream_stepped : {ds : List Doc} {xs : List DocumentTree} (b : Bool) → suc (tall_documents xs) ≤ limit → FitDocuments ds xs → AreStepped (block_scalars (flat_map flat_document xs)) (stream_rows c b ds xs)
   stream_stepped b l fit_no_documents = none_stepped
   stream_stepped b l (fit_document {d = d} {ds = ds} {x = x} {xs = xs} directives fit fits) =
       let room : suc (0 + max (tall x.root) (tall_documents xs)) ≤ limit = omega (arith, l) in
@@ -339,6 +339,22 @@ module _ (c : Setting) (limit : ℕ) where
       (node_whole (root_spot c.style) (node_stepped 0 x.root less.0 fit) no_step no_step one_step) in
       two_scalars (flat_document x) (flat_map flat_document xs)
       (stepped_append c.style.indent limit (subst (λ z. AreStepped z (document_rows c b d x)) (sym (scalars_ended (flat x.root) (document_ends x.closed) refl)) here)
+      (stream_stepped false (omega (arith, others)) fits))
+
+  begun_stepped : (start : ℕ) {bs : List BlockScalar} {xs : List Row} → AreStepped bs xs → AreStepped bs (begun_at start xs)
+  begun_stepped start none_stepped = none_stepped
+  begun_stepped start (row_stepped a b more) = row_stepped a b more
+
+  pub all_stepped : {ds : List Doc} {xs : List DocumentTree} (bare : Bool) → suc (tall_documents xs) ≤ limit → FitDocuments ds xs → AreStepped (block_scalars (flat_map flat_document xs)) (all_rows c bare ds xs)
+  all_stepped false l fits = stream_stepped true l fits
+  all_stepped true l fit_no_documents = none_stepped
+  all_stepped true l (fit_document {d = d} {ds = ds} {x = x} {xs = xs} directives fit fits) =
+      let room : suc (0 + max (tall x.root) (tall_documents xs)) ≤ limit = omega (arith, l) in
+      let less = two_less 0 (tall x.root) (tall_documents xs) room in
+      let others : suc (0 + tall_documents xs) ≤ limit = less.1 in
+      let here : AreStepped (block_scalars (flat x.root)) (bare_rows c d x) = begun_stepped d.start (node_whole (root_spot c.style) (node_stepped 0 x.root less.0 fit) no_step no_step one_step) in
+      two_scalars (flat_document x) (flat_map flat_document xs)
+      (stepped_append c.style.indent limit (subst (λ z. AreStepped z (bare_rows c d x)) (sym (scalars_ended (flat x.root) (document_ends x.closed) refl)) here)
       (stream_stepped false (omega (arith, others)) fits))
 
 -- Comments between rows.

@@ -14,7 +14,7 @@ use Rattle.yf_emit.specs.FitDocuments.{FitDirectives, fit_no_directives, fit_dir
 use Rattle.yf_emit.specs.Fits.{Unmarked}
 use Rattle.yf_emit.specs.Layout.{Source, trailing, trailing_leaf, first_comment, trimmed}
 use Rattle.yf_emit.specs.Normal.{Setting, root_spot}
-use Rattle.yf_emit.specs.Rows.{Row, at_document_start, directive_row, end_rows, beginning_at, start_row, stream_rows}
+use Rattle.yf_emit.specs.Rows.{Row, at_document_start, directive_row, end_rows, beginning_at, begun_at, start_row, all_rows, stream_rows}
 use Rattle.yf_emit.proofs.ClearRows.{AreBodyTexts, no_body_text, body_text, AreRowTexts, no_row_text, row_text, IsRowText, remark_unmarked, trails_bytes, trails_unmarked, unmarked_first, unmarked_indented, unmarked_nothing}
 use Rattle.yf_emit.proofs.LaidLines.{gap_lines, laid_lines, own_line, row_lines}
 use Rattle.yf_emit.proofs.RowEnds.{first_deco, after_decos}
@@ -90,6 +90,19 @@ stream_kinds c b (fit_document {d = d} {x = x} f fit more) =
     let wide : 2 ≤ c.style.indent = c.style.indent_from in
     kinds_append (kinds_append (beginning_kinds d.start (kinds_append (end_kinds b d.directives) (kinds_append (directive_kinds f) (kind_more start_kind no_kind))))
     (text_kinds (row_texts c (root_spot c.style) (omega (arith, wide)) fit))) (stream_kinds c false more)
+
+begun_kinds : {xs : List Row} (start : ℕ) → KindRows xs → KindRows (begun_at start xs)
+begun_kinds start no_kind = no_kind
+begun_kinds start (kind_more (a_text a) more) = kind_more (a_text (record { text = a.text; unmarked = a.unmarked; seen = a.seen; body = a.body })) more
+begun_kinds start (kind_more (a_marker a) more) =
+    kind_more (a_marker (record { column = a.column; text = a.text; leaves = a.leaves; key = a.key; body = a.body; starts = a.starts; unspaced = a.unspaced })) more
+
+pub all_kinds : (c : Setting) (bare : Bool) {ds : List Doc} {xs : List DocumentTree} → FitDocuments ds xs → KindRows (all_rows c bare ds xs)
+all_kinds c false fit = stream_kinds c true fit
+all_kinds c true fit_no_documents = no_kind
+all_kinds c true (fit_document {d = d} {x = x} f fit more) =
+    let wide : 2 ≤ c.style.indent = c.style.indent_from in
+    kinds_append (begun_kinds d.start (text_kinds (row_texts c (root_spot c.style) (omega (arith, wide)) fit))) (stream_kinds c false more)
 
 -- Lines.
 

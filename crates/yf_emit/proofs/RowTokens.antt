@@ -13,7 +13,7 @@ use Rattle.yf_events.specs.Tree.{DocumentTree, Standing, Node, scalar, alias, se
 use Rattle.yf_emit.specs.BlockLines.{begins_with_space, chomping_sign, final_feeds, header_text, style_sign}
 use Rattle.yf_emit.specs.Normal.{Setting, Spot, inner_spot, is_implicit, key_comment, key_spot, root_spot, value_spot}
 use Rattle.yf_emit.specs.OneLine.{bare, colon_behind, colon_behind_props, more_items, more_pairs, props_text, scalar_text, spaced, written}
-use Rattle.yf_emit.specs.Rows.{Row, begins_below, beginning_at, behind_key, colon_row, directive_row, end_rows, entry_row, explicit_pair, implicit_pair, joined, joined_words, key_row, one_line_row, pair_rows, props_row, rows, rows_of_items, rows_of_pairs, stream_rows}
+use Rattle.yf_emit.specs.Rows.{Row, begins_below, beginning_at, behind_key, colon_row, directive_row, end_rows, entry_row, explicit_pair, implicit_pair, joined, joined_words, key_row, one_line_row, pair_rows, props_row, rows, rows_of_items, rows_of_pairs, stream_rows, all_rows, begun_at}
 use Rattle.yf_emit.specs.Tokens.{HasText, first_text, later_text, TabsWithin, at_end, no_tab, a_token}
 
 -- The pieces that are written of an event: properties, a scalar in its style, the name of an alias.
@@ -260,7 +260,7 @@ module _ (Token : List ℕ → Type 0) where
   directive_tokens (d ∷ ds) h =
       token_row (sign 37 (omega arith) (words_tabs d.words (λ w a. h w (text_left (flat_map (λ (e : Directive). e.words) ds) a)))) (directive_tokens ds (λ w a. h w (text_right d.words a)))
 
-  pub stream_tokens : (c : Setting) (b : Bool) (ds : List Doc) (xs : List DocumentTree) → AreTabless (words_in ds) → Holds (flat_map flat_document xs) → TokenRows (stream_rows c b ds xs)
+  stream_tokens : (c : Setting) (b : Bool) (ds : List Doc) (xs : List DocumentTree) → AreTabless (words_in ds) → Holds (flat_map flat_document xs) → TokenRows (stream_rows c b ds xs)
   stream_tokens c b [] xs g h = no_token_rows
   stream_tokens c b (d ∷ ds) [] g h = no_token_rows
   stream_tokens c b (d ∷ ds) (x ∷ xs) g h =
@@ -271,4 +271,19 @@ module _ (Token : List ℕ → Type 0) where
       (rows_join (end_tokens b d.directives)
       (rows_join (directive_tokens d.directives (λ w a. g w (text_left (words_in ds) a))) (token_row (sign 45 (omega arith) (sign 45 (omega arith) (sign 45 (omega arith) at_end))) no_token_rows))))
       (node_tokens c (root_spot c.style) x.root (left_holds (flat x.root) (unplaced (document_ends x.closed) ∷ []) (left_holds (flat_document x) (flat_map flat_document xs) h))))
+      (stream_tokens c false ds xs (λ w a. g w (text_right words a)) (right_holds (flat_document x) (flat_map flat_document xs) h))
+
+  -- a first document without `---`
+  bare_tokens : (start : ℕ) {xs : List Row} → TokenRows xs → TokenRows (begun_at start xs)
+  bare_tokens start no_token_rows = no_token_rows
+  bare_tokens start (token_row a more) = token_row a more
+
+  pub laid_tokens : (c : Setting) (bare : Bool) (ds : List Doc) (xs : List DocumentTree) → AreTabless (words_in ds) → Holds (flat_map flat_document xs) → TokenRows (all_rows c bare ds xs)
+  laid_tokens c false ds xs g h = stream_tokens c true ds xs g h
+  laid_tokens c true [] xs g h = no_token_rows
+  laid_tokens c true (d ∷ ds) [] g h = no_token_rows
+  laid_tokens c true (d ∷ ds) (x ∷ xs) g h =
+      let words : List (List ℕ) = flat_map (λ (e : Directive). e.words) d.directives in
+      rows_join
+      (bare_tokens d.start (node_tokens c (root_spot c.style) x.root (left_holds (flat x.root) (unplaced (document_ends x.closed) ∷ []) (left_holds (flat_document x) (flat_map flat_document xs) h))))
       (stream_tokens c false ds xs (λ w a. g w (text_right words a)) (right_holds (flat_document x) (flat_map flat_document xs) h))

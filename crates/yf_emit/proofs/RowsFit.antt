@@ -7,7 +7,7 @@ use Rattle.std.proofs.lemmas.Bool.Decides.{nat_tests}
 use Rattle.yf_comments.specs.Comment.{CommentValue}
 use Rattle.yf_events.specs.declared.event.Span.{Span}
 use Rattle.yf_emit.specs.Normal.{last_start}
-use Rattle.yf_emit.specs.Rows.{Row, joined}
+use Rattle.yf_emit.specs.Rows.{Row, joined, begun_at}
 use Rattle.yf_emit.specs.StillLeaves.{between}
 use Rattle.yf_emit.proofs.CommentsCut.{In, in_first, in_rest}
 use Rattle.yf_emit.proofs.ItemsOrder.{items_on, sub_behind, sub_join, sub_twice, rises_greatest}
@@ -147,9 +147,25 @@ sign_fits {cs} {i} {m} {j} head n (x ∷ xs) e q a b (row_fits f k more) =
           let from : m ≤ r = sub_one_from s (rises_from parts.one) in
           omega (arith, low, all, from, l)
 
-      key : {zs : List Row} → KeyFits cs x zs → KeyFits cs (record { column = head.column; text = head.text ++ (replicate n 32 ++ x.text); items = head.items ++ x.items; leaves = head.leaves ++ x.leaves; key_comment = x.key_comment; blank_before = head.blank_before; ending = x.ending; body = x.body; lines = x.lines }) zs
+      key : {zs : List Row} → KeyFits cs x zs → KeyFits cs (record { column = head.column; text = head.text ++ (replicate n 32 ++ x.text); items = head.items ++ x.items; leaves = head.leaves ++ x.leaves; key_comment = x.key_comment; blank_before = head.blank_before; begins = head.begins; ending = x.ending; body = x.body; lines = x.lines }) zs
       key (no_key r) = no_key r
       key (a_key d r s ss z w free at next g) =
           a_key d r s ss z (sub_behind head.items w) free
           (⊎_elim (λ (v : Sub (r ∷ []) (starts_of x.leaves)). inl (subst (λ ls. Sub (r ∷ []) (starts_of ls)) (sym same) v))
           (λ (v : (x.leaves ≡ []) × (greatest x.items ≤ r)). inr (same ∙ v.0, top r w v.1)) at) next g
+
+-- where the document begins on the first of them
+pub begun_fits : {cs : List CommentValue} {start j : ℕ} (rs : List Row) → Rises start (items_on rs) j → RowsFit cs rs → RowsFit cs (begun_at start rs)
+begun_fits [] b no_rows_fit = no_rows_fit
+begun_fits {cs} {start} (x ∷ xs) b (row_fits f k more) =
+    let parts = rises_apart x.items (items_on xs) b in
+    row_fits (behind_fits {i = start} (start ∷ []) x.items (a_place {k = start} (omega arith) (no_place (omega arith))) parts.one f) (key k) more where
+      top : (r : ℕ) → Sub (r ∷ []) x.items → greatest x.items ≤ r → greatest (start ∷ x.items) ≤ r
+      top r s l =
+          let parts = rises_apart x.items (items_on xs) b in
+          let from : start ≤ r = sub_one_from s (rises_from parts.one) in
+          omega (arith, from, l)
+
+      key : {zs : List Row} → KeyFits cs x zs → KeyFits cs (record x { items = start ∷ x.items; begins = true }) zs
+      key (no_key r) = no_key r
+      key (a_key d r s ss z w free at next g) = a_key d r s ss z (sub_skip w) free (⊎_elim (λ (v : Sub (r ∷ []) (starts_of x.leaves)). inl v) (λ (v : (x.leaves ≡ []) × (greatest x.items ≤ r)). inr (v.0, top r w v.1)) at) next g

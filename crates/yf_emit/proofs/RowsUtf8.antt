@@ -13,7 +13,7 @@ use Rattle.yf_emit.specs.Carried.{IsDeco, AreDecos}
 use Rattle.yf_emit.specs.Decorated.{GapLine, blank, remark, gap_then, Deco, first, after, trails_then, body_then, end_then, lines_then}
 use Rattle.yf_emit.specs.FitDocuments.{FitDirectives, fit_no_directives, fit_directive, FitDocuments, fit_no_documents, fit_document}
 use Rattle.yf_emit.specs.Normal.{Setting, root_spot}
-use Rattle.yf_emit.specs.Rows.{Row, directive_row, end_rows, beginning_at, stream_rows}
+use Rattle.yf_emit.specs.Rows.{Row, directive_row, end_rows, beginning_at, begun_at, all_rows, stream_rows}
 use Rattle.yf_emit.proofs.ClearRows.{line_indented, remark_line, trails_bytes, trails_are, trails_line, AreBodyTexts, no_body_text, body_text, AreRowTexts, no_row_text, row_text}
 use Rattle.yf_emit.proofs.LineUtf8.{line_utf8, feed_utf8}
 use Rattle.yf_emit.proofs.RowEnds.{first_deco, after_decos}
@@ -94,7 +94,18 @@ stream_lines c b (fit_document {d = d} {x = x} f fit more) =
     both_lines (both_lines (start_lines d.start (both_lines (end_lines b d.directives) (both_lines (directive_lines f) (row_more (three_line 45 (omega arith) (omega arith)) (three_seen 45 (omega arith) (omega arith)) no_line no_rows))))
     (text_lines (row_texts c (root_spot c.style) (omega (arith, wide)) fit))) (stream_lines c false more)
 
+begun_lines : (start : ℕ) {rs : List Row} → RowLines rs → RowLines (begun_at start rs)
+begun_lines start no_rows = no_rows
+begun_lines start (row_more a s k more) = row_more a s k more
+
+pub all_lines : (c : Setting) (bare : Bool) {ds : List Doc} {xs : List DocumentTree} → FitDocuments ds xs → RowLines (all_rows c bare ds xs)
+all_lines c false fit = stream_lines c true fit
+all_lines c true fit_no_documents = no_rows
+all_lines c true (fit_document {d = d} {x = x} f fit more) =
+    let wide : 2 ≤ c.style.indent = c.style.indent_from in
+    both_lines (begun_lines d.start (text_lines (row_texts c (root_spot c.style) (omega (arith, wide)) fit))) (stream_lines c false more)
+
 -- so the layout of such documents is UTF-8
-pub layout_utf8 : (c : Setting) {ds : List Doc} {xs : List DocumentTree} (gap : List GapLine) (decos : List Deco) → FitDocuments ds xs → AreGapLines gap → AreDecos decos
-    → IsUtf8 (gap_then gap (lines_then (stream_rows c true ds xs) decos []))
-layout_utf8 c {ds} {xs} gap decos fit g k = gap_utf8 gap (lines_then (stream_rows c true ds xs) decos []) g (rows_utf8 decos [] (stream_lines c true fit) k IsUtf8-nil)
+pub layout_utf8 : (c : Setting) (bare : Bool) {ds : List Doc} {xs : List DocumentTree} (gap : List GapLine) (decos : List Deco) → FitDocuments ds xs → AreGapLines gap → AreDecos decos
+    → IsUtf8 (gap_then gap (lines_then (all_rows c bare ds xs) decos []))
+layout_utf8 c bare {ds} {xs} gap decos fit g k = gap_utf8 gap (lines_then (all_rows c bare ds xs) decos []) g (rows_utf8 decos [] (all_lines c bare fit) k IsUtf8-nil)

@@ -1,10 +1,10 @@
 -- Formatting keeps the comments of a text at the same places.
-use Rattle.std.proofs.Common.{◌≡◌, ℕ, true, List, [], ◌∷◌, map, refl, sym, ap, ◌∙◌, arith}
+use Rattle.std.proofs.Common.{◌≡◌, ℕ, true, List, [], ◌∷◌, map, refl, sym, ap, ◌∙◌, arith, Bool, true≢false}
 use Rattle.std.specs.Prelude.{zip}
 use Rattle.std.specs.Str.{IsUtf8}
 use Rattle.yf_comments.specs.Comment.{CommentValue}
 use Rattle.yf_events.proofs.TreeLemmas.{trees_unique}
-use Rattle.yf_events.specs.Reading.{documents_before, leaves_before}
+use Rattle.yf_events.specs.Reading.{documents_before, leaves_before, leaf_starts}
 use Rattle.yf_events.specs.Tree.{DocumentTree, TreesOf}
 use Rattle.yf_events.specs.declared.lists.Lists.{Lists}
 use Rattle.yf_stream.proofs.LawsHold.{readings_are_one}
@@ -15,13 +15,12 @@ use Rattle.yf_emit.specs.Decorated.{rows_of}
 use Rattle.yf_emit.specs.Format.{Formats}
 use Rattle.yf_emit.specs.FormatLaws.{FormatsKeepComments}
 use Rattle.yf_emit.specs.Layout.{Source, source_of, trimmed}
-use Rattle.yf_emit.specs.Normal.{normal_document, setting_of}
+use Rattle.yf_emit.specs.Normal.{normal_document, setting_of, Normal, Setting}
 use Rattle.yf_emit.specs.Rows.{Row}
 use Rattle.yf_emit.specs.SameComments.{Remembered, kept}
 use Rattle.yf_emit.specs.Steps.{told}
-use Rattle.yf_emit.proofs.CommentsTold.{counts_told}
+use Rattle.yf_emit.proofs.CommentsTold.{counts_told, stream_starts_are}
 use Rattle.yf_emit.proofs.DocumentTrails.{leaves_of}
-use Rattle.yf_emit.proofs.DocumentsFlow.{stream_flow}
 use Rattle.yf_emit.proofs.DocumentsFound.{document_starts, document_steps, documents_are, documents_found}
 use Rattle.yf_emit.proofs.FoundAgain.{told_by}
 use Rattle.yf_emit.proofs.GapsAgain.{trimmed_twice}
@@ -29,7 +28,16 @@ use Rattle.yf_emit.proofs.LeavesTold.{laid_trees, leaves_told}
 use Rattle.yf_emit.proofs.PrintedSteps.{trimmed_by}
 use Rattle.yf_emit.proofs.RowLeaves.{leaves_on}
 use Rattle.yf_emit.proofs.SourceStands.{normal_of, normal_rows, source_stands}
-use Rattle.yf_emit.proofs.StartsBefore.{starts_before}
+use Rattle.yf_emit.proofs.StartsBefore.{starts_before, AllFrom, none_before}
+use Rattle.yf_emit.proofs.DocumentsFlow.{all_flow}
+use Rattle.yf_emit.specs.BareStart.{is_bare}
+use Rattle.yf_emit.proofs.TreesRead.{reading_bare, reading_fits}
+use Rattle.yf_emit.proofs.BareReadings.{reading_begins, normal_begins, bare_begins, bare_unled}
+use Rattle.yf_emit.proofs.BareFound.{laid_by, lead_there, none_leads}
+use Rattle.yf_emit.proofs.RowFlow.{starts_on, starts_are}
+use Rattle.yf_emit.proofs.StepsStand.{starts_of}
+use Rattle.yf_emit.proofs.NormalParts.{normal_leaves}
+use Rattle.yf_emit.proofs.CommentsCut.{In}
 
 -- Documents of the source.
 
@@ -46,7 +54,16 @@ documents_of_source t s r trees u a of_reading =
     let c : Source = source_of m all in
     let same : leaves_of a.trees ≡ leaves_on all = ap leaves_of (trees_unique r a.trees trees a.of_reading of_reading) ∙ sym w.leaves_are in
     let notes : r.on_leaf_line ≡ leaf_lines a.lines (leaves_on all) r.comments = a.notes ∙ ap (λ ls. leaf_lines a.lines ls r.comments) same in
-    let flow = stream_flow a.lines a.are_lines c r.comments (ap (zip r.comments) notes) w.sign u (setting_of r s) refl true (omega arith) w.stand w.upright in
+    let st : Setting = setting_of r s in
+    let bare : Bool = is_bare m s in
+    let normal : Normal t r s m = record { trees = trees; of_reading = of_reading; is = refl } in
+    let fits = reading_bare u t st bare a of_reading (λ e. sym (reading_begins a) ∙ (sym (normal_begins normal) ∙ bare_begins m s e)) in
+    let laid = laid_by st bare (reading_fits u t st a of_reading) fits in
+    let leaves : leaf_starts m.events ≡ starts_on all =
+    stream_starts_are (map (normal_document t st) trees) ∙ (ap starts_of (normal_leaves t st trees ∙ sym w.leaves_are) ∙ sym (starts_are all)) in
+    let unled = λ (e : bare ≡ true) (d : CommentValue) (i : In d r.comments) (f : starts_before (document_starts r.documents) d.offset ≡ 1) (g : AllFrom d.offset (starts_on all)).
+    true≢false (sym (lead_there (documents_before m d.offset) (leaves_before m d.offset) (documents_are r.documents d.offset ∙ f) (ap (λ ss. starts_before ss d.offset) leaves ∙ none_before g)) ∙ none_leads m r.comments d (bare_unled m s e) i) in
+    let flow = all_flow a.lines a.are_lines c r.comments (ap (zip r.comments) notes) w.sign u st refl bare (omega arith) w.stand laid unled w.upright in
     counts_told documents_begin m all (document_starts r.documents) w.noted w.order flow
     ∙ trimmed_alike (starts_before (document_starts r.documents)) (documents_before r) r.comments (λ o. sym (documents_are r.documents o))
 

@@ -1,5 +1,5 @@
 -- The reading of a formatted text says what the reading says that was formatted.
-use Rattle.std.proofs.Common.{◌≡◌, ℕ, false, List, [], ◌∷◌, ◌++◌, map, flat_map, zip, Option, None, refl, sym, ap, ◌∙◌, subst, append_assoc}
+use Rattle.std.proofs.Common.{◌≡◌, ℕ, false, List, [], ◌∷◌, ◌++◌, map, flat_map, zip, Option, None, refl, sym, ap, ◌∙◌, subst, append_assoc, Bool}
 use Rattle.yf_events.specs.Content.{ContentValue, BeforeValue, before_document, a_directive, a_word, content_of, nodes_of, items_of_event, items_of_directive, items_of_document}
 use Rattle.yf_events.specs.Event.{EventValue, Placed, stream_starts, stream_ends, document_starts, document_ends, sequence_starts, sequence_ends, mapping_starts, mapping_ends, scalar_node, alias_node}
 use Rattle.yf_events.specs.declared.directive.Directive.{Directive}
@@ -19,6 +19,7 @@ use Rattle.yf_emit.specs.FormatLaws.{FormatsKeepContent}
 use Rattle.yf_emit.proofs.FormatsRead.{formats_well, same_in_documents}
 use Rattle.yf_emit.proofs.NormalRestyled.{normal_restyled}
 use Rattle.yf_emit.proofs.RestyledLemmas.{same_content}
+use Rattle.yf_emit.specs.BareStart.{is_bare}
 
 -- Markers say nothing.
 
@@ -72,7 +73,7 @@ bare_append xs ys = ap unmarked (values_append xs ys) ∙ unmarked_append (value
 bare_joined : (a b c d : List Placed) → bare a ≡ bare c → bare b ≡ bare d → bare (a ++ b) ≡ bare (c ++ d)
 bare_joined a b c d e f = bare_append a b ∙ (ap (λ w. w ++ bare b) e ∙ (ap (λ w. bare c ++ w) f ∙ sym (bare_append c d)))
 
-documents_bare : {u : List ℕ} {ms : List Doc} {trees : List DocumentTree} {es : List Document} {y : List Placed} {tags : List (Option (List ℕ))} → DocumentsMeant ms trees es
+documents_bare : {bare_first : Bool} {u : List ℕ} {ms : List Doc} {trees : List DocumentTree} {es : List Document} {y : List Placed} {tags : List (Option (List ℕ))} → DocumentsMeant bare_first ms trees es
     → DocumentEvents u es y tags → bare y ≡ bare (flat_map flat_document trees)
 documents_bare no_documents_meant no_document = refl
 documents_bare (document_meant {x = tree} {xs = trees} a more) (one_document {d = d} {x = x} {closed = closed} g l e others) =
@@ -96,7 +97,7 @@ directive_items ds es e = by ds ∙ (ap (λ w. flat_map items_of_words w) e ∙ 
   by [] = refl
   by (d ∷ ds) = ap (λ w. items_of_directive d ++ w) (by ds)
 
-documents_items : {ms : List Doc} {trees : List DocumentTree} {es : List Document} → DocumentsMeant ms trees es → flat_map items_of_document (map doc_of es) ≡ flat_map items_of_document ms
+documents_items : {bare_first : Bool} {ms : List Doc} {trees : List DocumentTree} {es : List Document} → DocumentsMeant bare_first ms trees es → flat_map items_of_document (map doc_of es) ≡ flat_map items_of_document ms
 documents_items no_documents_meant = refl
 documents_items (document_meant {d = d} {ds = ds} {m = m} {ms = ms} a more) =
     ap (λ w. (before_document ∷ w) ++ flat_map items_of_document (map doc_of ms)) (directive_items m.directives d.directives a.words)
@@ -111,12 +112,12 @@ content_same q m e f =
     ap (λ w. record { directives = w; nodes = said (values q.events) q.resolved }) e ∙ ap (λ w. record { directives = flat_map items_of_document m.documents; nodes = w }) f
 
 -- what is derived of a formatted text has the documents of the normal form
-pub formats_meant : {t u : List ℕ} {s : Style} {q : Lists} → IsUtf8 t → (f : Formats t s u) → (b : ReadingOf u q) → DocumentsMeant f.normal.documents f.writes.trees b.derived.documents
+pub formats_meant : {t u : List ℕ} {s : Style} {q : Lists} → IsUtf8 t → (f : Formats t s u) → (b : ReadingOf u q) → DocumentsMeant (is_bare f.normal s) f.normal.documents f.writes.trees b.derived.documents
 formats_meant {t} {u} {s} utf8 f b =
     let well = formats_well t u s utf8 f in
     let shapes = b.reads.shapes in
     let derived : b.derived ≡ well.documents = well.reads.shapes.only shapes.height b.derived shapes.derived shapes.within in
-    subst (λ (w : Documents). DocumentsMeant f.normal.documents f.writes.trees w.documents) (sym derived) well.meant
+    subst (λ (w : Documents). DocumentsMeant (is_bare f.normal s) f.normal.documents f.writes.trees w.documents) (sym derived) well.meant
 
 -- and its reading the events of the normal form, but for markers
 pub formats_values : {t u : List ℕ} {s : Style} {q : Lists} → IsUtf8 t → (f : Formats t s u) → ReadingOf u q → bare q.events ≡ bare f.normal.events
@@ -134,7 +135,7 @@ formats_tags utf8 f b =
 pub formats_content : FormatsKeepContent
 formats_content t u s utf8 f r q a b =
     let m : Lists = f.normal in
-    let meant : DocumentsMeant m.documents f.writes.trees b.derived.documents = formats_meant utf8 f b in
+    let meant : DocumentsMeant (is_bare m s) m.documents f.writes.trees b.derived.documents = formats_meant utf8 f b in
     let events : bare q.events ≡ bare m.events = formats_values utf8 f b in
     let resolved : q.resolved ≡ m.resolved = formats_tags utf8 f b in
     let nodes : said (values q.events) q.resolved ≡ said (values m.events) m.resolved =

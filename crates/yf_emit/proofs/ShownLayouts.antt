@@ -1,5 +1,5 @@
 -- A small tree written out by hand, that meets what the law of layouts asks, and the text of which it speaks.
-use Rattle.std.proofs.Common.{◌≡◌, ℕ, List, [], ◌∷◌, None, codes, length, refl, ap, arith}
+use Rattle.std.proofs.Common.{◌≡◌, ℕ, List, [], ◌∷◌, None, codes, length, refl, ap, arith, false}
 use Rattle.std.specs.Str.{IsUtf8, chars, is_utf8}
 use Rattle.std.proofs.lemmas.Str.{IsUtf8-from_is_utf8}
 use lib.Utf8.{encode}
@@ -11,7 +11,7 @@ use Rattle.yf_events.specs.declared.event.ScalarStyle.TheVariants.{Single}
 use Rattle.yf_events.specs.Tree.{Node, scalar}
 use Rattle.yf_emit.specs.Carried.{nothing_carried, one_carried}
 use Rattle.yf_emit.specs.Decorated.{blank, remark, Deco, no_deco}
-use Rattle.yf_emit.specs.FitDocuments.{fit_no_documents, fit_document, fit_no_directives}
+use Rattle.yf_emit.specs.FitDocuments.{fit_no_documents, fit_document, fit_no_directives, fits_marked}
 use Rattle.yf_emit.specs.FitFlows.{flow_leaf, flow_sequence, flow_last_item}
 use Rattle.yf_emit.specs.Fits.{Fit, fit_nothing, fit_line, fit_sequence, fit_mapping, fit_no_items, fit_item, fit_no_pairs, no_fit_props}
 use Rattle.yf_emit.specs.LayoutLaws.{StreamMade}
@@ -48,9 +48,9 @@ small_decos = no_deco ∷ record { trails = codes "# c" ∷ []; gap = [] } ∷ r
 
 -- any text that is these bytes is derived again, with its two comments
 shown_derived : (t : List ℕ) → IsUtf8 t → IsRemark (codes "# top") → IsRemark (codes "# c") → t ≡ codes "# top\n---\n'a':  # c\n  - 'x'\n\n  -\n  - ['y']\n"
-    → StreamMade t (one_document 0) (root small_tree) (codes "# top" ∷ codes "# c" ∷ [])
+    → StreamMade t false (one_document 0) (root small_tree) (codes "# top" ∷ codes "# c" ∷ [])
 unfolding chars is_nb_char is_printable is_between is_break_char encode begins code
 shown_derived t u a b e =
-    (layout_derived (record { style = house; comments = [] }) (remark 0 (codes "# top") ∷ []) small_decos (fit_document fit_no_directives small_fits fit_no_documents) u (a, tt)
+    (layout_derived (record { style = house; comments = [] }) false (remark 0 (codes "# top") ∷ []) small_decos (fit_document fit_no_directives small_fits fit_no_documents) fits_marked u (a, tt)
     (one_carried (record { trails = tt; gap = tt }) (one_carried (record { trails = b; gap = tt }) (one_carried (record { trails = tt; gap = tt }) (one_carried (record { trails = tt; gap = tt })
     (one_carried (record { trails = tt; gap = tt }) nothing_carried))))) (tt, (tt, (tt, (tt, (tt, tt))))) e).made

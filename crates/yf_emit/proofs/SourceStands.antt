@@ -1,5 +1,5 @@
 -- The rows of the normal form of a text's reading, and its comments: the rows are upright.
-use Rattle.std.proofs.Common.{◌≡◌, ℕ, ◌+◌, Bool, true, false, List, [], ◌∷◌, ◌++◌, length, map, refl, sym, ap, ◌∙◌, subst}
+use Rattle.std.proofs.Common.{◌≡◌, ℕ, ◌+◌, Bool, true, false, List, [], ◌∷◌, ◌++◌, length, map, refl, sym, ap, ◌∙◌, subst, ◌≤◌}
 use Rattle.std.specs.Str.{IsUtf8}
 use Rattle.std.proofs.lemmas.List.{length-map}
 use Rattle.yf_chars.specs.Text.{code}
@@ -21,17 +21,17 @@ use Rattle.yf_emit.specs.Carried.{AreRemarks}
 use Rattle.yf_emit.specs.Forms.{documents_are_placed}
 use Rattle.yf_emit.specs.Layout.{source_of}
 use Rattle.yf_emit.specs.Normal.{Setting, normal_document, root_spot, setting_of}
-use Rattle.yf_emit.specs.Rows.{Row, beginning_at, directive_row, end_rows, rows, start_row, stream_rows}
+use Rattle.yf_emit.specs.Rows.{Row, beginning_at, directive_row, end_rows, rows, start_row, stream_rows, all_rows, begun_at}
 use Rattle.yf_emit.specs.Steps.{steps_of, told}
 use Rattle.yf_emit.proofs.CommentsCut.{In, in_first, in_rest, Upward, upward_none, upward_more, upward_of}
 use Rattle.yf_emit.proofs.CommentsFit.{reading_remarks}
 use Rattle.yf_emit.proofs.CommentsTold.{comments_told, stream_starts_are}
-use Rattle.yf_emit.proofs.DocumentTrails.{InHouse, leaves_of, stream_leaves}
+use Rattle.yf_emit.proofs.DocumentTrails.{InHouse, leaves_of, all_leaves}
 use Rattle.yf_emit.proofs.FoundAgain.{Unsigned, no_start}
 use Rattle.yf_emit.proofs.ItemsOrder.{items_on, items_append, node_unsigned, unsigned_at, unsigned_join}
 use Rattle.yf_emit.proofs.LeavesRise.{leaves_rise}
-use Rattle.yf_emit.proofs.MarksOrder.{Rises, no_place, a_place, rises_join}
-use Rattle.yf_emit.proofs.NodeTrails.{TreesKept, stream_tidy}
+use Rattle.yf_emit.proofs.MarksOrder.{Rises, no_place, a_place, rises_join, rises_after}
+use Rattle.yf_emit.proofs.NodeTrails.{TreesKept, all_tidy}
 use Rattle.yf_emit.proofs.NormalParts.{normal_leaves, normal_placed}
 use Rattle.yf_emit.proofs.NormalSame.{root_same}
 use Rattle.yf_emit.proofs.PlacedTrees.{node_placed}
@@ -42,13 +42,14 @@ use Rattle.yf_emit.proofs.ReadingsOfTexts.{trees_placed}
 use Rattle.yf_emit.proofs.RowFlow.{Upright, rows_flow, starts_are, starts_on}
 use Rattle.yf_emit.proofs.RowLeaves.{leaves_on}
 use Rattle.yf_emit.proofs.RowTrails.{TidyRows}
-use Rattle.yf_emit.proofs.RowsFit.{none_fits, no_key, RowsFit, no_rows_fit, row_fits, fit_append}
+use Rattle.yf_emit.proofs.RowsFit.{none_fits, no_key, RowsFit, no_rows_fit, row_fits, fit_append, begun_fits}
 use Rattle.yf_emit.proofs.StartsBefore.{starts_before}
 use Rattle.yf_emit.proofs.StepsStand.{starts_of}
 use Rattle.yf_emit.proofs.StillHolds.{trees_kept}
 use Rattle.yf_emit.proofs.StyledTwice.{normal_house}
 use Rattle.yf_emit.proofs.TrailChoice.{rising}
 use Rattle.yf_emit.proofs.UprightRows.{rows_upright}
+use Rattle.yf_emit.specs.BareStart.{is_bare}
 
 -- The rows that begin a document.
 
@@ -93,6 +94,22 @@ module _ {t : List ℕ} (u : IsUtf8 t) (c : Setting) (sign : (d : CommentValue) 
         fit_append (fit_append (head_fits c.comments is_first d.start d.directives) (node.fits (root_spot c.style))) rest.1,
       )
 
+  begun_rises : {i start j : ℕ} (rs : List Row) → i ≤ start → Rises start (items_on rs) j → Rises i (items_on (begun_at start rs)) j
+  begun_rises [] l a = rises_after l a
+  begun_rises (r ∷ rs) l a = a_place l a
+
+  all_flows : {i : ℕ} {ds : List Doc} {trees : List DocumentTree} (bare : Bool) → TreesStand t i ds trees
+      → Rises i (items_on (all_rows c bare ds (map (normal_document t c) trees))) (length t) × RowsFit c.comments (all_rows c bare ds (map (normal_document t c) trees))
+  all_flows false stand = stream_flows true stand
+  all_flows true (no_trees_stand l) = (no_place l, no_rows_fit)
+  all_flows {i} true (tree_stands {j = j} {d = d} {ds = ds} {tree = tree} {trees = trees} a b more z) =
+      let root : List Row = rows c (root_spot c.style) (normal_document t c tree).root in
+      let others : List Row = stream_rows c false ds (map (normal_document t c) trees) in
+      let node = node_flows c (node_sits u c sign (root_spot c.style) b) ((root_same t c tree).placed ∙ node_placed b) (normal_house t c (root_spot c.style) tree.root) in
+      let rest = stream_flows false more in
+      let first : Rises i (items_on (begun_at d.start root)) j = begun_rises root (directives_order a) (node.rises (root_spot c.style)) in
+      (subst (λ z. Rises i z (length t)) (sym (items_append (begun_at d.start root) others)) (rises_join first rest.0), fit_append (begun_fits root (node.rises (root_spot c.style)) (node.fits (root_spot c.style))) rest.1)
+
 trees_unsigned : {t : List ℕ} {i : ℕ} {ds : List Doc} {trees : List DocumentTree} → TreesStand t i ds trees → Unsigned t (starts_of (leaves_of trees))
 trees_unsigned (no_trees_stand l) = no_start
 trees_unsigned (tree_stands {tree = tree} {trees = trees} a b more z) = unsigned_join (leaves tree.root) (leaves_of trees) (node_unsigned b) (trees_unsigned more)
@@ -117,7 +134,7 @@ abbrev pub normal_of : List ℕ → Style → Lists → List DocumentTree → Li
 normal_of t s r trees = record r { events = flat_stream (map (normal_document t (setting_of r s)) trees) }
 
 abbrev pub normal_rows : List ℕ → Style → Lists → List DocumentTree → List Row
-normal_rows t s r trees = stream_rows (setting_of r s) true r.documents (map (normal_document t (setting_of r s)) trees)
+normal_rows t s r trees = all_rows (setting_of r s) (is_bare (normal_of t s r trees) s) r.documents (map (normal_document t (setting_of r s)) trees)
 
 pub record SourceStands (t : List ℕ) (s : Style) (r : Lists) (trees : List DocumentTree) : Type 0 where
   pub stand : TreesStand t 0 r.documents trees
@@ -143,11 +160,11 @@ source_stands t s r trees u a of_reading =
     let placed : documents_are_placed (map (normal_document t c) trees) ≡ true = normal_placed t c trees ∙ trees_placed stand in
     let count : length r.documents ≡ length (map (normal_document t c) trees) = of_reading.documents ∙ sym (length-map trees (normal_document t c)) in
     let leaves_are : leaves_on all ≡ leaves_of trees =
-    stream_leaves c true r.documents (map (normal_document t c) trees) count placed (kept_house c (map (normal_document t c) trees) kept) ∙ normal_leaves t c trees in
+    all_leaves c (is_bare (normal_of t s r trees) s) r.documents (map (normal_document t c) trees) count placed (kept_house c (map (normal_document t c) trees) kept) ∙ normal_leaves t c trees in
     let rises : rising (leaves_on all) ≡ true = ap rising leaves_are ∙ leaves_rise stand in
     let unsigned : Unsigned t (starts_of (leaves_on all)) = subst (λ ls. Unsigned t (starts_of ls)) (sym leaves_are) (trees_unsigned stand) in
-    let flows = stream_flows u c sign true stand in
-    let tidy : TidyRows r.comments all [] = stream_tidy c true r.documents (map (normal_document t c) trees) [] remarks kept in
+    let flows = all_flows u c sign (is_bare (normal_of t s r trees) s) stand in
+    let tidy : TidyRows r.comments all [] = all_tidy c (is_bare (normal_of t s r trees) s) r.documents (map (normal_document t c) trees) [] remarks kept in
     record {
       stand = stand;
       order = order;

@@ -1,5 +1,5 @@
 -- How many of some places stand before another one.
-use Rattle.std.proofs.Common.{◌≡◌, ℕ, ◌+◌, ◌<◌, ◌≤◌, true, false, List, [], ◌∷◌, ◌++◌, length, refl, sym, ap, ◌∙◌, arith, cond, zero-add}
+use Rattle.std.proofs.Common.{◌≡◌, ℕ, ◌+◌, ◌<◌, ◌≤◌, true, false, List, [], ◌∷◌, ◌++◌, length, refl, sym, ap, ◌∙◌, arith, cond, zero-add, Bool, subst}
 use Rattle.std.specs.Prelude.{count_by, nat_lt}
 use Rattle.std.proofs.lemmas.Bool.Decides.{nat_tests}
 use Rattle.std.proofs.lemmas.List.Sums.{sum_by-cons}
@@ -44,3 +44,22 @@ all_before {o} rs (one_earlier {s = s} {ss = ss} l a) =
     let one : starts_before (s ∷ (ss ++ rs)) o ≡ 1 + starts_before (ss ++ rs) o = one_before s o (ss ++ rs) l in
     let rest : starts_before (ss ++ rs) o ≡ length ss + starts_before rs o = all_before rs a in
     omega (arith, one, rest)
+
+-- no fewer before a later one
+still_less : (s o p : ℕ) → nat_lt s o ≡ true → o ≤ p → nat_lt s p ≡ true
+still_less s o p e l = grind (arith, nat_tests)
+
+one_more : (s o p : ℕ) → o ≤ p → cond (nat_lt s o) 1 0 ≤ cond (nat_lt s p) 1 0
+one_more s o p l = by (nat_lt s o) refl where
+  by : (b : Bool) → nat_lt s o ≡ b → cond b 1 0 ≤ cond (nat_lt s p) 1 0
+  by true e = subst (λ b. 1 ≤ cond b 1 0) (sym (still_less s o p e l)) (omega arith)
+  by false e = omega arith
+
+pub starts_more : (ss : List ℕ) (o p : ℕ) → o ≤ p → starts_before ss o ≤ starts_before ss p
+starts_more [] o p l = omega arith
+starts_more (s ∷ ss) o p l =
+    let first : starts_before (s ∷ ss) o ≡ cond (nat_lt s o) 1 0 + starts_before ss o = sum_by-cons (λ w. cond (nat_lt w o) 1 0) s ss in
+    let second : starts_before (s ∷ ss) p ≡ cond (nat_lt s p) 1 0 + starts_before ss p = sum_by-cons (λ w. cond (nat_lt w p) 1 0) s ss in
+    let here : cond (nat_lt s o) 1 0 ≤ cond (nat_lt s p) 1 0 = one_more s o p l in
+    let rest : starts_before ss o ≤ starts_before ss p = starts_more ss o p l in
+    omega (arith, first, second, here, rest)

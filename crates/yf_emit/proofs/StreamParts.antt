@@ -1,5 +1,5 @@
 -- Documents of a stream, with their leaves and comments in order.
-use Rattle.std.proofs.Common.{◌≡◌, ℕ, ◌≤◌, Bool, true, List, [], ◌∷◌, ◌++◌, length, map, drop, Option, refl, sym, ap, ◌∙◌, arith, append_assoc, length-drop}
+use Rattle.std.proofs.Common.{◌≡◌, ℕ, ◌≤◌, Bool, true, List, [], ◌∷◌, ◌++◌, length, map, drop, Option, refl, sym, ap, ◌∙◌, arith, append_assoc, length-drop, false}
 use Rattle.yf_chars.specs.Chain.{Chain}
 use Rattle.yf_chars.specs.Chain.Chain.{done, step}
 use Rattle.yf_lines.proofs.RestLemmas.{Rest}
@@ -20,20 +20,26 @@ use Rattle.yf_emit.specs.FitDocuments.{DocumentMeant, DocumentsMeant, document_m
 use Rattle.yf_emit.specs.Rows.{Row, directive_row, start_row, end_rows, beginning_at}
 use Rattle.yf_emit.specs.Steps.{Step}
 use Rattle.yf_emit.proofs.StepsStand.{Stand, nothing_stands, stand_join, MeaningLaid, EventsLaid}
+use Rattle.std.specs.Prelude.{not}
 
 -- What is meant.
 
 pub meant_document : {d : Doc} {x : DocumentTree} {m : Meaning} (i : ℕ) (dirs : List Directive) → map (λ (e : Directive). e.words) dirs ≡ map (λ (e : Directive). e.words) d.directives
-    → Meant x.root m → DocumentMeant d x (document_of i true dirs m)
+    → Meant x.root m → DocumentMeant true d x (document_of i true dirs m)
 unfolding document_of
 meant_document i dirs e a = record { marked = refl; words = e; node = a.node; alike = a.alike; events = a.events; escapes = a.escapes }
+
+pub meant_bare : {d : Doc} {x : DocumentTree} {m : Meaning} (i : ℕ) → d.directives ≡ [] → Meant x.root m → DocumentMeant false d x (document_of i false [] m)
+unfolding document_of
+meant_bare i e a =
+    record { marked = refl; words = ap (λ (ds : List Directive). map (λ (w : Directive). w.words) ds) (sym e); node = a.node; alike = a.alike; events = a.events; escapes = a.escapes }
 
 pub texts_with_document : (cs : List CommentValue) (d : Document) (rest : Documents) → texts (with_document cs d rest).comments ≡ texts cs ++ texts rest.comments
 unfolding with_document
 texts_with_document cs d rest = texts_append cs rest.comments
 
-pub documents_with : {d : Doc} {ds : List Doc} {x : DocumentTree} {xs : List DocumentTree} {m : Document} (rest : Documents) (cs : List CommentValue) → DocumentMeant d x m → DocumentsMeant ds xs rest.documents
-    → DocumentsMeant (d ∷ ds) (x ∷ xs) (with_document cs m rest).documents
+pub documents_with : {bare : Bool} {d : Doc} {ds : List Doc} {x : DocumentTree} {xs : List DocumentTree} {m : Document} (rest : Documents) (cs : List CommentValue) → DocumentMeant (not bare) d x m → DocumentsMeant false ds xs rest.documents
+    → DocumentsMeant bare (d ∷ ds) (x ∷ xs) (with_document cs m rest).documents
 unfolding with_document
 documents_with rest cs a b = document_meant a b
 
@@ -50,6 +56,10 @@ same_documents cs rest = refl
 pub laid_document : {i j : ℕ} {m : Meaning} {a : List Step} (s : ℕ) (dirs : List Directive) → MeaningLaid i j m a → EventsLaid i j (document_of s true dirs m).events m.comments a
 unfolding document_of
 laid_document s dirs x = record { starts = x.starts; are = x.are; stand = x.stand }
+
+pub laid_bare : {i j : ℕ} {m : Meaning} {a : List Step} (s : ℕ) → MeaningLaid i j m a → EventsLaid i j (document_of s false [] m).events m.comments a
+unfolding document_of
+laid_bare s x = record { starts = x.starts; are = x.are; stand = x.stand }
 
 -- documents, whose events are those of a reading
 pub record DocumentsLaid (i j : ℕ) (x : Documents) (steps : List Step) : Type 0 where

@@ -1,5 +1,5 @@
 -- A stream of documents from its rows.
-use Rattle.std.proofs.Common.{◌≡◌, ℕ, max, ◌≤◌, true, false, List, [], ◌++◌, length, inl, refl, sym, ap, ◌∙◌, subst, arith, append_assoc}
+use Rattle.std.proofs.Common.{◌≡◌, ℕ, max, ◌≤◌, true, false, List, [], ◌++◌, length, inl, refl, sym, ap, ◌∙◌, subst, arith, append_assoc, Bool, ◌∷◌}
 use Rattle.std.specs.Str.{IsUtf8}
 use Rattle.yf_chars.specs.Chain.{Chain}
 use Rattle.yf_lines.specs.Basic.{LineStart}
@@ -20,15 +20,15 @@ use Rattle.yf_stream.specs.Stream.StreamRest.{stream_ended}
 use Rattle.yf_emit.specs.Beginnings.{documents_begin, steps_with}
 use Rattle.yf_emit.specs.Carried.{AreDecos, comments_in, Calm}
 use Rattle.yf_emit.specs.Decorated.{GapLine, gap_then, Deco, past, lines_then}
-use Rattle.yf_emit.specs.FitDocuments.{FitDocuments, fit_no_documents, fit_document, DocumentsMeant, no_documents_meant, tall_documents}
+use Rattle.yf_emit.specs.FitDocuments.{FitDocuments, fit_no_documents, fit_document, DocumentsMeant, no_documents_meant, tall_documents, FitsBare, fits_bare}
 use Rattle.yf_emit.specs.LayoutLaws.{StreamMade}
 use Rattle.yf_emit.specs.Normal.{Setting}
-use Rattle.yf_emit.specs.Rows.{Row, document_rows, stream_rows}
+use Rattle.yf_emit.specs.Rows.{Row, document_rows, stream_rows, all_rows, bare_rows, begun_at}
 use Rattle.yf_emit.specs.Steps.{comment_steps, steps_in}
 use Rattle.yf_emit.proofs.DecoratedLemmas.{lines_append}
 use Rattle.yf_emit.proofs.DocumentsBegun.{comments_begun, documents_begun, starts_in}
 use Rattle.yf_emit.proofs.DocumentsHeld.{all_events, comments_set, documents_held}
-use Rattle.yf_emit.proofs.FoundStreams.{FoundDocuments, no_documents_found, StreamIn, no_stream, document_begins, stream_more, comments_with_document, comments_with_comments, documents_with_comments, found_with}
+use Rattle.yf_emit.proofs.FoundStreams.{no_documents_found, StreamIn, no_stream, document_begins, stream_more, comments_with_document, comments_with_comments, documents_with_comments, AllFound, all_marked, all_found_with}
 use Rattle.yf_emit.proofs.HeldLemmas.{EventsHeld}
 use Rattle.yf_emit.proofs.LaidRows.{steps_append}
 use Rattle.yf_emit.proofs.NoStarts.{with_append}
@@ -39,10 +39,12 @@ use Rattle.yf_emit.proofs.StepsStand.{Stand, nothing_stands, stand_join, comment
 use Rattle.yf_emit.proofs.StreamParts.{ended_at, prefixes_of, texts_with_document, documents_with, texts_with_comments, same_documents, DocumentsLaid, no_documents_laid, laid_with_comments, documents_laid}
 use Rattle.yf_emit.proofs.WellSet.{lines_set, set_append}
 use Rattle.yf_emit.proofs.StreamsMade.{first_with, rest_made, root_rows}
+use Rattle.yf_emit.proofs.BareMade.{FirstMade, BareRow, bare_made, bare_row, marked_first}
+use Rattle.yf_emit.proofs.EntriesMade.{Begins, begins}
 
 -- what is derived of the whole text, and its leaves and comments in the order of steps
-pub record StreamLaid (t : List ℕ) (s : Setting) (ds : List Doc) (xs : List DocumentTree) (gap : List GapLine) (rs : List Row) (decos : List Deco) : Type 0 where
-  pub made : StreamMade t ds xs (remarks_of gap ++ comments_in rs decos)
+pub record StreamLaid (t : List ℕ) (s : Setting) (bare : Bool) (ds : List Doc) (xs : List DocumentTree) (gap : List GapLine) (rs : List Row) (decos : List Deco) : Type 0 where
+  pub made : StreamMade t bare ds xs (remarks_of gap ++ comments_in rs decos)
   pub laid : DocumentsLaid 0 (length t) made.documents (comment_steps (remarks_of gap) ++ steps_in rs decos)
   pub line : ℕ
   pub starts : LineStart t line
@@ -54,52 +56,22 @@ pub record StreamLaid (t : List ℕ) (s : Setting) (ds : List Doc) (xs : List Do
   pub ascend : Ascend t 0 firsts line
   pub are : made.documents.comments ≡ firsts ++ others
   pub found_rows : List PlacedRow
-  pub found : FoundDocuments t s true xs made.documents.documents found_rows
+  pub found : AllFound t s bare xs made.documents.documents found_rows
   pub placed : StreamIn t rs found_rows decos line others
   pub begun : Stand 0 (starts_in made.documents) made.documents.comments (comment_steps (remarks_of gap) ++ steps_with documents_begin rs decos) (length t)
   pub held : EventsHeld t (all_events made.documents.documents) made.documents.comments rs decos []
   pub set : SetAll t s.style made.documents.documents
 
-stream_made : {t : List ℕ} (c : Setting) {ds : List Doc} {xs : List DocumentTree} (gap : List GapLine) (decos : List Deco) → FitDocuments ds xs → IsUtf8 t → AreGapLines gap → AreDecos decos
-    → Calm (stream_rows c true ds xs) decos [] → Rest t 0 (gap_then gap (lines_then (stream_rows c true ds xs) decos []))
-    → StreamLaid t c ds xs gap (stream_rows c true ds xs) decos
-stream_made {t} c gap decos fit_no_documents u g a k w =
-    let at = gap_at gap [] u g at_text w in
-    let rest : StreamRest t 0 at.place (only_comments []) = subst (λ p. StreamRest t 0 p (only_comments [])) (sym (ended_at at.rest)) stream_ended in
-    let end : at.place ≡ length t = ended_at at.rest in
-    record {
-      made = record {
-        height = 0;
-        documents = with_comments at.comments (only_comments []);
-        derived = without_document (prefixes_of at.lines) rest;
-        low = omega arith;
-        meant = subst (λ z. DocumentsMeant [] [] z) (same_documents at.comments (only_comments [])) no_documents_meant;
-        is = texts_with_comments at.comments (only_comments []) ∙ ap (λ z. z ++ []) at.is;
-      };
-      laid = laid_with_comments at.comments (comments_stand (rows_ascend (lines_rows at.lines)) at.is) (no_documents_laid (omega (arith, end)));
-      line = at.place;
-      starts = at.start;
-      firsts = at.comments;
-      others = [];
-      begin = at.rest;
-      told = at.is;
-      lines = at.lines;
-      ascend = rows_ascend (lines_rows at.lines);
-      are = comments_with_comments at.comments;
-      found_rows = [];
-      found = subst (λ z. FoundDocuments t c true [] z []) (sym (documents_with_comments at.comments)) no_documents_found;
-      placed = no_stream;
-      begun = comments_begun at.comments (only_comments []) (comments_stand (rows_ascend (lines_rows at.lines)) at.is) (nothing_stands (omega (arith, end)));
-      set = subst (λ z. SetAll t c.style z) (sym (documents_with_comments at.comments)) none_set;
-      held = record { comments = comments_set t at.comments (lines_set (inl at_text) at.lines); bodies = tt };
-    }
-stream_made {t} c gap decos (fit_document {d = d} {ds = ds} {x = x} {xs = xs} f fit more) u g a k w =
-    let head : List Row = document_rows c true d x in
+-- a stream that begins with these rows
+stream_from : {t : List ℕ} (c : Setting) {bare : Bool} {d : Doc} {ds : List Doc} {x : DocumentTree} {xs : List DocumentTree} (head : List Row) (gap : List GapLine) (decos : List Deco) → Begins 0 head → FitDocuments ds xs
+    → ((r : List ℕ) (q : ℕ) → LineStart t q → Calm head decos r → Rest t q (lines_then head decos r) → FirstMade t c bare d x head decos q r) → IsUtf8 t → AreGapLines gap → AreDecos decos
+    → Calm (head ++ stream_rows c false ds xs) decos [] → Rest t 0 (gap_then gap (lines_then (head ++ stream_rows c false ds xs) decos []))
+    → StreamLaid t c bare (d ∷ ds) (x ∷ xs) gap (head ++ stream_rows c false ds xs) decos
+stream_from {t} c {bare = bare} {d = d} {ds = ds} {x = x} {xs = xs} head gap decos starts more make u g a k w =
     let others : List Row = stream_rows c false ds xs in
     let at = gap_at gap (lines_then (head ++ others) decos []) u g at_text w in
     let ks = calm_append head others decos [] k in
-    let one = first_with c {d = d} x d.start d.directives decos (lines_then others (past head decos) []) at.place refl f fit u a ks.0
-    (subst (λ z. Rest t at.place z) (lines_append head others decos []) at.rest) in
+    let one = make (lines_then others (past head decos) []) at.place at.start ks.0 (subst (λ z. Rest t at.place z) (lines_append head others decos []) at.rest) in
     let last = rest_made c more (past head decos) one.place u (past_decos head a) ks.1 one.rest in
     let low : one.height ≤ tall x.root = one.low in
     let high : last.height ≤ tall_documents xs = last.low in
@@ -126,8 +98,8 @@ stream_made {t} c gap decos (fit_document {d = d} {ds = ds} {x = x} {xs = xs} f 
       ascend = rows_ascend (lines_rows at.lines);
       are = comments_with_document (at.comments ++ one.comments) one.document last.documents ∙ append_assoc at.comments one.comments last.documents.comments;
       found_rows = one.found_rows ++ last.found_rows;
-      found = found_with (at.comments ++ one.comments) last.documents one.found last.found;
-      placed = stream_more (document_begins true d.start d.directives (root_rows c x)) one.placed (λ e. ended_at (subst (λ z. Rest t one.place (lines_then z (past head decos) [])) e one.rest)) last.placed;
+      found = all_found_with one.found_rows last.found_rows (at.comments ++ one.comments) last.documents (λ ms z. one.found z) last.found;
+      placed = stream_more starts one.placed (λ e. ended_at (subst (λ z. Rest t one.place (lines_then z (past head decos) [])) e one.rest)) last.placed;
       begun = subst (λ z. Stand 0 (starts_in (with_document (at.comments ++ one.comments) one.document last.documents)) (with_document (at.comments ++ one.comments) one.document last.documents).comments z (length t))
           (append_assoc (comment_steps (remarks_of gap)) (steps_with documents_begin head decos) (steps_with documents_begin others (past head decos))
           ∙ ap (λ z. comment_steps (remarks_of gap) ++ z) (sym (with_append documents_begin head others decos)))
@@ -140,8 +112,52 @@ stream_made {t} c gap decos (fit_document {d = d} {ds = ds} {x = x} {xs = xs} f 
     joined_texts : (us vs ws : List CommentValue) {xs ys zs : List (List ℕ)} → texts us ≡ xs → texts vs ≡ ys → texts ws ≡ zs → texts (us ++ vs) ++ texts ws ≡ xs ++ (ys ++ zs)
     joined_texts us vs ws e f g = ap (λ z. z ++ texts ws) (texts_append us vs) ∙ (append_assoc (texts us) (texts vs) (texts ws) ∙ λ n. e n ++ (f n ++ g n))
 
+begins_bare_rows : {rs : List Row} (start : ℕ) → BareRow rs → Begins 0 (begun_at start rs)
+begins_bare_rows start b = subst (λ z. Begins 0 (begun_at start z)) (sym b.are) (begins b.column)
+
+stream_made : {t : List ℕ} (c : Setting) (bare : Bool) {ds : List Doc} {xs : List DocumentTree} (gap : List GapLine) (decos : List Deco) → FitDocuments ds xs → FitsBare bare ds xs → IsUtf8 t → AreGapLines gap → AreDecos decos
+    → Calm (all_rows c bare ds xs) decos [] → Rest t 0 (gap_then gap (lines_then (all_rows c bare ds xs) decos []))
+    → StreamLaid t c bare ds xs gap (all_rows c bare ds xs) decos
+stream_made {t} c false gap decos fit_no_documents fits u g a k w =
+    let at = gap_at gap [] u g at_text w in
+    let rest : StreamRest t 0 at.place (only_comments []) = subst (λ p. StreamRest t 0 p (only_comments [])) (sym (ended_at at.rest)) stream_ended in
+    let end : at.place ≡ length t = ended_at at.rest in
+    record {
+      made = record {
+        height = 0;
+        documents = with_comments at.comments (only_comments []);
+        derived = without_document (prefixes_of at.lines) rest;
+        low = omega arith;
+        meant = subst (λ z. DocumentsMeant false [] [] z) (same_documents at.comments (only_comments [])) no_documents_meant;
+        is = texts_with_comments at.comments (only_comments []) ∙ ap (λ z. z ++ []) at.is;
+      };
+      laid = laid_with_comments at.comments (comments_stand (rows_ascend (lines_rows at.lines)) at.is) (no_documents_laid (omega (arith, end)));
+      line = at.place;
+      starts = at.start;
+      firsts = at.comments;
+      others = [];
+      begin = at.rest;
+      told = at.is;
+      lines = at.lines;
+      ascend = rows_ascend (lines_rows at.lines);
+      are = comments_with_comments at.comments;
+      found_rows = [];
+      found = subst (λ z. AllFound t c false [] z []) (sym (documents_with_comments at.comments)) (all_marked no_documents_found);
+      placed = no_stream;
+      begun = comments_begun at.comments (only_comments []) (comments_stand (rows_ascend (lines_rows at.lines)) at.is) (nothing_stands (omega (arith, end)));
+      set = subst (λ z. SetAll t c.style z) (sym (documents_with_comments at.comments)) none_set;
+      held = record { comments = comments_set t at.comments (lines_set (inl at_text) at.lines); bodies = tt };
+    }
+stream_made c false gap decos (fit_document {d = d} {x = x} f fit more) fits u g a k w =
+    stream_from c {bare = false} {d = d} {x = x} (document_rows c true d x) gap decos (document_begins true d.start d.directives (root_rows c x)) more
+    (λ r q l calm rest. marked_first (first_with c {d = d} x d.start d.directives decos r q refl f fit u a calm rest)) u g a k w
+stream_made c true gap decos fit_no_documents fits u g a k w = elim fits [ ]
+stream_made c true gap decos (fit_document {d = d} {x = x} f fit more) (fits_bare none some) u g a k w =
+    stream_from c {bare = true} {d = d} {x = x} (bare_rows c d x) gap decos (begins_bare_rows d.start (bare_row c x some fit)) more
+    (λ r q l calm rest. bare_made c {d = d} x d.start decos r q none some fit u a l calm rest) u g a k w
+
 -- what is laid out is derived again, with its leaves and comments in the order in which they were laid out
-pub layout_derived : {t : List ℕ} (c : Setting) {ds : List Doc} {xs : List DocumentTree} (gap : List GapLine) (decos : List Deco) → FitDocuments ds xs → IsUtf8 t → AreGapLines gap → AreDecos decos
-    → Calm (stream_rows c true ds xs) decos [] → t ≡ gap_then gap (lines_then (stream_rows c true ds xs) decos [])
-    → StreamLaid t c ds xs gap (stream_rows c true ds xs) decos
-layout_derived {t} c gap decos fit u g a k e = stream_made c gap decos fit u g a k (subst (λ z. Rest t 0 z) e (rest_start t u))
+pub layout_derived : {t : List ℕ} (c : Setting) (bare : Bool) {ds : List Doc} {xs : List DocumentTree} (gap : List GapLine) (decos : List Deco) → FitDocuments ds xs → FitsBare bare ds xs → IsUtf8 t → AreGapLines gap → AreDecos decos
+    → Calm (all_rows c bare ds xs) decos [] → t ≡ gap_then gap (lines_then (all_rows c bare ds xs) decos [])
+    → StreamLaid t c bare ds xs gap (all_rows c bare ds xs) decos
+layout_derived {t} c bare gap decos fit fits u g a k e = stream_made c bare gap decos fit fits u g a k (subst (λ z. Rest t 0 z) e (rest_start t u))

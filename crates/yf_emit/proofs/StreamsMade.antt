@@ -54,7 +54,7 @@ pub record AnyMade (t : List ℕ) (s : Setting) (d : Doc) (x : DocumentTree) (rs
   pub derived : AnyDocument t height q place document comments
   pub low : height ≤ tall x.root
   pub rest : Rest t place r
-  pub meant : DocumentMeant d x document
+  pub meant : DocumentMeant true d x document
   pub is : texts comments ≡ comments_in rs ds
   pub laid : EventsLaid q place document.events comments (steps_in rs ds)
   pub found_rows : List PlacedRow
@@ -67,7 +67,7 @@ pub record AnyMade (t : List ℕ) (s : Setting) (d : Doc) (x : DocumentTree) (rs
 abbrev pub root_rows : Setting → DocumentTree → List Row
 root_rows c x = rows c (root_spot c.style) x.root
 
-root_deep : (c : Setting) → 0 < c.style.indent
+pub root_deep : (c : Setting) → 0 < c.style.indent
 root_deep c = let wide : 2 ≤ c.style.indent = c.style.indent_from in omega (arith, wide)
 
 explicit_at : {t : List ℕ} (c : Setting) (x : DocumentTree) (row : Row) (ds : List Deco) (r : List ℕ) (q : ℕ) → row.leaves ≡ [] → row.body ≡ [] → row.column ≡ 0 → length row.text ≡ 3 → is_some row.key_comment ≡ false → Fit x.root → IsUtf8 t → AreDecos ds → Calm (root_rows c x) (after ds) r
@@ -106,7 +106,7 @@ directed {t} c {d} x {e} {es} row ds r q none bare said key plain same f fs fit 
       begun = document_begun one.place one.meaning.directives node.meaning
           (subst (λ z. Stand q (one.place ∷ []) (one.meaning.comments ++ node.meaning.comments) z node.place) (sym (with_append documents_begin (row ∷ map directive_row es) (start_row ∷ tree) ds))
           (stand_join (subst (λ z. Stand q [] one.meaning.comments z one.place) (sym (quiet_steps (no_start_on {row = row} plain (directives_none es)) ds)) (comments_stand (directives_ascend one.lines) one.is))
-          (explicit_begun start_row (past (map directive_row es) (after ds)) refl (rows_none c (root_spot c.style) x.root) node)));
+          (explicit_begun start_row (past (map directive_row es) (after ds)) refl refl (rows_none c (root_spot c.style) x.root) node)));
       set = document_set one.place one.meaning.directives node.meaning node.set;
       held = record {
         comments = set_append t one.meaning.comments node.meaning.comments (one.held node.meaning.events).comments node.held.comments;
@@ -134,7 +134,7 @@ first_with {t} c {d} x start [] ds r q same f fit u a k w =
       found_rows = node.head ∷ node.inner;
       found = found_document true q [] (node.head ∷ []) (mark_head node.unleaved node.from) node.meant refl;
       placed = node.placed;
-      begun = document_begun q [] node.meaning (explicit_begun (record start_row { items = start ∷ [] }) ds refl (rows_none c (root_spot c.style) x.root) node);
+      begun = document_begun q [] node.meaning (explicit_begun (record start_row { items = start ∷ [] }) ds refl refl (rows_none c (root_spot c.style) x.root) node);
       set = document_set q [] node.meaning node.set;
       held = record { comments = node.held.comments; bodies = held_events t node.meaning (record start_row { items = start ∷ [] } ∷ root_rows c x) ds r q [] node.held.bodies };
     }
@@ -154,7 +154,7 @@ record StepMade (t : List ℕ) (s : Setting) (d : Doc) (x : DocumentTree) (rs : 
   pub join : (g : ℕ) (rest : Documents) → StreamRest t g place rest → StreamRest t (max height g) q (with_document comments document rest)
   pub low : height ≤ tall x.root
   pub rest : Rest t place r
-  pub meant : DocumentMeant d x document
+  pub meant : DocumentMeant true d x document
   pub is : texts comments ≡ comments_in rs ds
   pub laid : EventsLaid q place document.events comments (steps_in rs ds)
   pub found_rows : List PlacedRow
@@ -185,7 +185,7 @@ step_with {t} c {d} x start [] ds r q same f fit u a k w =
       found_rows = node.head ∷ node.inner;
       found = found_document false q [] (node.head ∷ []) (mark_head node.unleaved node.from) node.meant refl;
       placed = node.placed;
-      begun = document_begun q [] node.meaning (explicit_begun (record start_row { items = start ∷ [] }) ds refl (rows_none c (root_spot c.style) x.root) node);
+      begun = document_begun q [] node.meaning (explicit_begun (record start_row { items = start ∷ [] }) ds refl refl (rows_none c (root_spot c.style) x.root) node);
       set = document_set q [] node.meaning node.set;
       held = record { comments = node.held.comments; bodies = held_events t node.meaning (record start_row { items = start ∷ [] } ∷ root_rows c x) ds r q [] node.held.bodies };
     }
@@ -244,7 +244,7 @@ pub record RestMade (t : List ℕ) (s : Setting) (ds : List Doc) (xs : List Docu
   pub documents : Documents
   pub derived : StreamRest t height q documents
   pub low : height ≤ tall_documents xs
-  pub meant : DocumentsMeant ds xs documents.documents
+  pub meant : DocumentsMeant false ds xs documents.documents
   pub is : texts documents.comments ≡ comments_in rs decos
   pub laid : DocumentsLaid q (length t) documents (steps_in rs decos)
   pub found_rows : List PlacedRow

@@ -18,7 +18,7 @@ use Rattle.yf_emit.specs.Measuring.{setting}
 use Rattle.yf_emit.specs.Normal.{setting_of}
 use Rattle.yf_emit.specs.Trailing.{Found, all_found, ended, keys_taken, start, taken}
 use Rattle.yf_emit.specs.TrailsOf.{LayoutTrails, at_index}
-use Rattle.yf_emit.proofs.DocumentTrails.{in_house, leaves_of, stream_keys, stream_leaves}
+use Rattle.yf_emit.proofs.DocumentTrails.{all_leaves, in_house, leaves_of, stream_keys}
 use Rattle.yf_emit.proofs.DocumentsPrinted.{AreNormal}
 use Rattle.yf_emit.proofs.FeedLemmas.{ascend}
 use Rattle.yf_emit.proofs.KeyTrails.{indices_of}
@@ -30,6 +30,7 @@ use Rattle.yf_emit.proofs.TrailLeaves.{KeyMarks, chosen_of}
 use Rattle.yf_emit.proofs.TrailOthers.{among_indices, at_indices, has, strict}
 use Rattle.yf_emit.proofs.TrailRuns.{AgreeFrom, closed_all, found_at, run_is, spans}
 use Rattle.yf_emit.proofs.TrailsAgree.{has_append, marked_one, marks_agree, none_at_starts, or_assoc, or_false, some_within}
+use Rattle.yf_emit.specs.BareStart.{is_bare}
 
 -- a stream of normal forms, with so many open collections at most, whose places are in order
 pub record Placing (m : Lists) (s : Style) (n : ℕ) (ds : List DocumentTree) : Type 0 where
@@ -75,7 +76,7 @@ key_marks m s n ds fs p e = record {
       ∙ (ap (λ b. b || has k (indices_of fs)) (get_or-replicate (length m.comments) k false false low)
       ∙ (sym (among_indices m.comments (indices_of fs) k d p.strict q)
       ∙ (ap (λ gs. is_among (at_indices m.comments (indices_of gs)) d) e
-      ∙ ap (λ w. is_among w d) (stream_keys (setting_of m s) n m.documents ds p.of_reading.documents p.normal))));
+      ∙ ap (λ w. is_among w d) (stream_keys (setting_of m s) n (is_bare m s) m.documents ds p.of_reading.documents p.normal))));
 }
 
 -- Leaves.
@@ -107,7 +108,7 @@ tree_spans : {m : Lists} {s : Style} {n : ℕ} {ds : List DocumentTree} {ms : Li
 tree_spans {ds = ds} p = stream_spans (seen p) ds p.placing.of_reading.events p.placing.placed
 
 rows_leaves : {m : Lists} {s : Style} {n : ℕ} {ds : List DocumentTree} {ms : List Measure} {fs : List Form} → Passed m s n ds ms fs → (source m s ds).leaves ≡ leaves_of ds
-rows_leaves {m} {s} {n} {ds} p = stream_leaves (setting_of m s) true m.documents ds p.placing.of_reading.documents p.placing.placed (in_house (setting_of m s) n ds p.placing.normal)
+rows_leaves {m} {s} {n} {ds} p = all_leaves (setting_of m s) (is_bare m s) m.documents ds p.placing.of_reading.documents p.placing.placed (in_house (setting_of m s) n ds p.placing.normal)
 
 spans_rise : {m : Lists} {s : Style} {n : ℕ} {ds : List DocumentTree} {ms : List Measure} {fs : List Form} → Passed m s n ds ms fs → rising (spans (marks_of m ms)) ≡ true
 spans_rise p = ap rising (tree_spans p) ∙ p.placing.rises

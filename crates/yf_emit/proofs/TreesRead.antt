@@ -1,5 +1,5 @@
 -- The trees of a reading are trees as they are read, so the documents of its normal form can be laid out and are read again.
-use Rattle.std.proofs.Common.{◌≡◌, ℕ, ◌+◌, ◌≤◌, Bool, true, false, List, [], map, sym, ◌∙◌, subst, append-nil}
+use Rattle.std.proofs.Common.{◌≡◌, ℕ, ◌+◌, ◌≤◌, Bool, true, false, List, [], map, sym, ◌∙◌, subst, append-nil, ap, refl, true≢false, ◌∷◌}
 use Rattle.std.specs.Str.{IsUtf8}
 use Rattle.yf_comments.specs.Comment.{CommentValue}
 use Rattle.yf_events.proofs.TreeLemmas.{node_unique, trees_unique}
@@ -7,7 +7,7 @@ use Rattle.yf_events.specs.Alike.{Alike, alike_scalars, alike_aliases, alike_seq
 use Rattle.yf_events.specs.Event.{Placed}
 use Rattle.yf_events.specs.declared.directive.Directive.{Directive}
 use Rattle.yf_events.specs.declared.lists.Lists.{Lists}
-use Rattle.yf_events.specs.Tree.{Node, Items, Pairs, DocumentTree, TreesOf, flat}
+use Rattle.yf_events.specs.Tree.{Node, Items, Pairs, DocumentTree, TreesOf, flat, standing}
 use Rattle.yf_grammar.specs.Meaning.{Meaning}
 use Rattle.yf_grammar.specs.Meant.{tall}
 use Rattle.yf_stream.specs.ReadingOf.{ReadingOf, doc_of}
@@ -16,13 +16,16 @@ use Rattle.yf_stream.specs.Stream.AnyDocument.{bare_document, directive_document
 use Rattle.yf_stream.specs.Stream.ExplicitNode.{marked_node, marked_nothing}
 use Rattle.yf_stream.proofs.ReadingTrees.{TreesMeant, no_trees_meant, tree_meant, reading_stands}
 use Rattle.yf_stream.proofs.StreamDocuments.{DocumentsDerived, no_documents_derived, document_derived, stream_derived}
-use Rattle.yf_emit.specs.FitDocuments.{FitDirectives, fit_no_directives, FitDocuments, fit_no_documents, fit_document}
+use Rattle.yf_emit.specs.FitDocuments.{FitDirectives, fit_no_directives, FitDocuments, fit_no_documents, fit_document, FitsBare, fits_marked, fits_bare}
 use Rattle.yf_emit.specs.Normal.{Setting, root_spot, normal_document}
 use Rattle.yf_emit.specs.ReadTrees.{ReadNode, read_nothing, read_props, read_scalar, read_alias, read_sequence, read_mapping, ReadItems, read_no_items, read_item, ReadPairs, read_no_pairs, read_pair}
 use Rattle.yf_emit.proofs.DirectivesFit.{directives_fit}
 use Rattle.yf_emit.proofs.ReadDerived.{reads}
 use Rattle.yf_emit.proofs.ReadFits.{read_fits}
 use Rattle.yf_emit.proofs.ReadParts.{NodeRead, node_noting, nothing_read}
+use Rattle.std.specs.Prelude.{is_some, not}
+use Rattle.yf_emit.proofs.NormalSame.{root_same}
+use Rattle.yf_emit.proofs.SpannedNodes.{has_span, spanned, spanned_node, alike_spanned}
 
 -- What is read of a tree is so of each one alike.
 
@@ -45,6 +48,10 @@ mutual
 
 -- Documents.
 
+abbrev pub first_unmarked : List Document → Bool
+first_unmarked [] = false
+first_unmarked (d ∷ ds) = not d.marked
+
 -- what is known of a document that is derived
 pub record DocumentRead (h : ℕ) (d : Document) : Type 0 where
   pub node : Node
@@ -52,6 +59,8 @@ pub record DocumentRead (h : ℕ) (d : Document) : Type 0 where
   pub events : d.events ≡ flat node
   pub read : ReadNode false node
   pub directives : FitDirectives d.directives
+  -- without a `---` it has no directives, and its node has characters
+  pub bare : d.marked ≡ false → (d.directives ≡ []) × (is_some (standing node).span ≡ true)
 
 -- events are those of one tree at most
 pub same_node : {es : List Placed} {x y : Node} → es ≡ flat x → es ≡ flat y → x ≡ y
@@ -62,14 +71,18 @@ module _ {t : List ℕ} (u : IsUtf8 t) where
   explicit_read (marked_node e n) = reads u n.derived
   explicit_read (marked_nothing {i = i} {cs = cs} e d) = node_noting cs (nothing_read false (i + 3))
 
-  document_with : {h : ℕ} {x : Meaning} (i : ℕ) (marked : Bool) (ds : List Directive) → FitDirectives ds → NodeRead h false x → DocumentRead h (document_of i marked ds x)
+  document_with : {h : ℕ} {x : Meaning} (i : ℕ) (marked : Bool) (ds : List Directive) → FitDirectives ds → (a : NodeRead h false x) → (marked ≡ false → (ds ≡ []) × (is_some (standing a.node).span ≡ true))
+      → DocumentRead h (document_of i marked ds x)
   unfolding document_of
-  document_with i marked ds f a = record { node = a.node; low = a.low; events = a.events; read = a.read; directives = f }
+  document_with i marked ds f a b = record { node = a.node; low = a.low; events = a.events; read = a.read; directives = f; bare = b }
+
+  marked_so : {P : Type 0} → true ≡ false → P
+  marked_so e = absurd (true≢false e)
 
   pub document_read : {h i j : ℕ} {d : Document} {cs : List CommentValue} → AnyDocument t h i j d cs → DocumentRead h d
-  document_read (bare_document {k = k} n c) = document_with k false [] fit_no_directives (reads u n.derived)
-  document_read (explicit_document {i = i} e) = document_with i true [] fit_no_directives (explicit_read e)
-  document_read (directive_document {k = k} {ds = ds} d e) = document_with k true ds.directives (directives_fit u d) (explicit_read e)
+  document_read (bare_document {k = k} n c) = let a = reads u n.derived in document_with k false [] fit_no_directives a (λ e. (refl, sym (spanned_node a.node) ∙ (ap has_span (sym a.events) ∙ spanned n.derived)))
+  document_read (explicit_document {i = i} e) = document_with i true [] fit_no_directives (explicit_read e) marked_so
+  document_read (directive_document {k = k} {ds = ds} d e) = document_with k true ds.directives (directives_fit u d) (explicit_read e) marked_so
 
   documents_fit : {h : ℕ} {ds : List Document} {trees : List DocumentTree} (s : List ℕ) (c : Setting) → DocumentsDerived t h ds → TreesMeant ds trees
       → FitDocuments (map doc_of ds) (map (normal_document s c) trees)
@@ -78,6 +91,30 @@ module _ {t : List ℕ} (u : IsUtf8 t) where
       let d = document_read a in
       let read : ReadNode false x = subst (λ w. ReadNode false w) (same_node d.events e) d.read in
       fit_document d.directives (read_fits s c (root_spot c.style) (read_alike b read)) (documents_fit s c more others)
+
+  -- the first of them, where it has no `---`
+  first_bare : {h : ℕ} {ds : List Document} {trees : List DocumentTree} (s : List ℕ) (c : Setting) (b : Bool) → (b ≡ true → first_unmarked ds ≡ true) → DocumentsDerived t h ds → TreesMeant ds trees
+      → FitsBare b (map doc_of ds) (map (normal_document s c) trees)
+  first_bare s c false f d m = fits_marked
+  first_bare s c true f no_documents_derived no_trees_meant = absurd (true≢false (sym (f refl)))
+  first_bare s c true f (document_derived {d = d} a l more) (tree_meant {x = x} {tree = tree} e b others) =
+      let read = document_read a in
+      let unmarked : d.marked ≡ false = turned d.marked (f refl) in
+      let both = read.bare unmarked in
+      fits_bare both.0 (ap (λ w. is_some w.span) (root_same s c tree).standing ∙ (sym (alike_spanned b) ∙ (ap (λ w. is_some (standing w).span) (sym (same_node read.events e)) ∙ both.1)))
+    where
+      turned : (b : Bool) → not b ≡ true → b ≡ false
+      turned true e = sym e
+      turned false e = refl
+
+  pub reading_bare : {r : Lists} {trees : List DocumentTree} (s : List ℕ) (c : Setting) (b : Bool) → (a : ReadingOf t r) → TreesOf r trees → (b ≡ true → first_unmarked a.derived.documents ≡ true)
+      → FitsBare b r.documents (map (normal_document s c) trees)
+  reading_bare {r = r} {trees = trees} s c b a of_reading f =
+      let w = reading_stands u a in
+      let same : w.trees ≡ trees = trees_unique r w.trees trees w.of_reading of_reading in
+      let bare = first_bare s c b f (stream_derived a.reads.shapes.derived) w.meant in
+      subst (λ ds. FitsBare b ds (map (normal_document s c) trees)) (sym a.documents)
+      (subst (λ xs. FitsBare b (map doc_of a.derived.documents) (map (normal_document s c) xs)) same bare)
 
   -- of a reading
   pub reading_fits : {r : Lists} {trees : List DocumentTree} (s : List ℕ) (c : Setting) → ReadingOf t r → TreesOf r trees

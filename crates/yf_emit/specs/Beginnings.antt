@@ -1,5 +1,5 @@
 -- Steps of rows by what is counted on each: leaves with characters, or the beginnings of documents.
-use Rattle.std.specs.Prelude.{List, [], ◌∷◌, ◌++◌}
+use Rattle.std.specs.Prelude.{Bool, true, false, List, [], ◌∷◌, ◌++◌}
 use Rattle.yf_emit.specs.Carried.{carried_texts}
 use Rattle.yf_emit.specs.Decorated.{Deco, first, after}
 use Rattle.yf_emit.specs.Rows.{Row, Ending, at_text_start, at_document_start, at_kept_tail, before_node, anywhere}
@@ -12,7 +12,7 @@ steps_with f (x ∷ xs) ds = f x ++ (comment_steps (carried_texts (first ds)) ++
 abbrev pub leaves_begin : Row → List Step
 leaves_begin row = leaf_steps row.leaves
 
--- a document begins at its `---`, which is counted as a leaf is
+-- a document begins at its `---`, or where a row says so, which is counted as a leaf is
 abbrev pub begins_behind : Ending → List Step
 begins_behind at_text_start = []
 begins_behind at_document_start = a_leaf ∷ []
@@ -20,5 +20,9 @@ begins_behind at_kept_tail = []
 begins_behind before_node = []
 begins_behind anywhere = []
 
+abbrev pub begins_on : Bool → Ending → List Step
+begins_on true ending = a_leaf ∷ []
+begins_on false ending = begins_behind ending
+
 abbrev pub documents_begin : Row → List Step
-documents_begin row = begins_behind row.ending
+documents_begin row = begins_on row.begins row.ending

@@ -6,9 +6,10 @@ pub use Rattle.yf_comments.specs.GapLines.{GapLine, blank, remark, gap_then}
 use Rattle.yf_events.specs.Tree.{DocumentTree}
 use Rattle.yf_events.specs.declared.lists.Lists.{Lists}
 use Rattle.yf_emit.specs.declared.style.Style.{Style}
+use Rattle.yf_emit.specs.BareStart.{is_bare}
 use Rattle.yf_emit.specs.Layout.{Source, may_be_blank_behind, own_line_comments, precedes_item, source_of, trailing, trimmed}
 use Rattle.yf_emit.specs.Normal.{setting_of}
-use Rattle.yf_emit.specs.Rows.{Row, Ending, anywhere, at_text_start, stream_rows}
+use Rattle.yf_emit.specs.Rows.{Row, Ending, anywhere, at_text_start, all_rows}
 
 -- the texts of the comments that trail a row, and the lines after it
 pub record Deco : Type 0 where
@@ -100,4 +101,4 @@ abbrev pub decorated : Lists → List Row → List ℕ
 decorated m rows = gap_then (first_gap m rows) (lines_then rows (row_decos m rows) [])
 
 abbrev pub rows_of : Lists → Style → List DocumentTree → List Row
-rows_of m s trees = stream_rows (setting_of m s) true m.documents trees
+rows_of m s trees = all_rows (setting_of m s) (is_bare m s) m.documents trees

@@ -1,5 +1,5 @@
 -- Documents whose rows are read again, and what a stream of them means.
-use Rattle.std.specs.Prelude.{◌≡◌, ℕ, ◌+◌, max, Bool, true, ◌==◌, ◌||◌, List, [], ◌∷◌, ◌++◌, map, length, slice_range}
+use Rattle.std.specs.Prelude.{◌≡◌, ℕ, ◌+◌, max, Bool, true, false, not, is_some, ◌==◌, ◌||◌, List, [], ◌∷◌, ◌++◌, map, length, slice_range}
 use Rattle.std.specs.Str.{IsUtf8}
 use Rattle.yf_chars.specs.Chain.{One}
 use Rattle.yf_chars.specs.Class.{is_ns_char}
@@ -9,7 +9,7 @@ use Rattle.yf_props.specs.Names.{Run}
 use Rattle.yf_events.specs.Alike.{Alike}
 use Rattle.yf_events.specs.declared.directive.Directive.{Directive}
 use Rattle.yf_events.specs.declared.document.Doc.{Doc}
-use Rattle.yf_events.specs.Tree.{Node, DocumentTree, flat}
+use Rattle.yf_events.specs.Tree.{Node, DocumentTree, flat, standing}
 use Rattle.yf_grammar.specs.Meant.{Anywhere, tall}
 use Rattle.yf_stream.specs.Stream.{Document, Parameters}
 use Rattle.yf_emit.specs.Fits.{Fit}
@@ -43,19 +43,25 @@ pub data FitDocuments : List Doc → List DocumentTree → Type 0 where
   fit_document : {d : Doc} {ds : List Doc} {x : DocumentTree} {xs : List DocumentTree} → FitDirectives d.directives → Fit x.root → FitDocuments ds xs
       → FitDocuments (d ∷ ds) (x ∷ xs)
 
--- A document with a `---`, with those directives, that means the tree.
-pub record DocumentMeant (d : Doc) (x : DocumentTree) (m : Document) : Type 0 where
-  pub marked : m.marked ≡ true
+-- a `---` may be left out before the first document, if the flag says so: it has no directives, and its root has characters
+pub data FitsBare : Bool → List Doc → List DocumentTree → Type 0 where
+  fits_marked : {ds : List Doc} {xs : List DocumentTree} → FitsBare false ds xs
+  fits_bare : {d : Doc} {ds : List Doc} {x : DocumentTree} {xs : List DocumentTree} → d.directives ≡ [] → is_some (standing x.root).span ≡ true → FitsBare true (d ∷ ds) (x ∷ xs)
+
+-- A document with a `---` or without, as the flag says, with those directives, that means the tree.
+pub record DocumentMeant (mark : Bool) (d : Doc) (x : DocumentTree) (m : Document) : Type 0 where
+  pub marked : m.marked ≡ mark
   pub words : map (λ (e : Directive). e.words) m.directives ≡ map (λ (e : Directive). e.words) d.directives
   pub node : Node
   pub alike : Alike Anywhere x.root node
   pub events : m.events ≡ flat node
   pub escapes : m.escapes ≡ []
 
-pub data DocumentsMeant : List Doc → List DocumentTree → List Document → Type 0 where
-  no_documents_meant : DocumentsMeant [] [] []
-  document_meant : {d : Doc} {ds : List Doc} {x : DocumentTree} {xs : List DocumentTree} {m : Document} {ms : List Document} → DocumentMeant d x m → DocumentsMeant ds xs ms
-      → DocumentsMeant (d ∷ ds) (x ∷ xs) (m ∷ ms)
+-- each with a `---`, but for the first one where the flag says so
+pub data DocumentsMeant : Bool → List Doc → List DocumentTree → List Document → Type 0 where
+  no_documents_meant : {bare : Bool} → DocumentsMeant bare [] [] []
+  document_meant : {bare : Bool} {d : Doc} {ds : List Doc} {x : DocumentTree} {xs : List DocumentTree} {m : Document} {ms : List Document} → DocumentMeant (not bare) d x m → DocumentsMeant false ds xs ms
+      → DocumentsMeant bare (d ∷ ds) (x ∷ xs) (m ∷ ms)
 
 -- how many collections are open at once in these documents
 abbrev pub tall_documents : List DocumentTree → ℕ

@@ -7,6 +7,7 @@ use Rattle.yf_stream.specs.ReadingOf.{ReadingOf}
 use Rattle.yf_stream.specs.Stream.{Documents}
 use Rattle.yf_stream.specs.WellFormed.{Reads}
 use Rattle.yf_emit.specs.declared.style.Style.{Style}
+use Rattle.yf_emit.specs.BareStart.{is_bare}
 use Rattle.yf_emit.specs.Carried.{TrailsFit}
 use Rattle.yf_emit.specs.Decorated.{rows_of}
 use Rattle.yf_emit.specs.FitDocuments.{DocumentsMeant}
@@ -31,12 +32,12 @@ abbrev pub FormatsTrailOnce : Type 0
 FormatsTrailOnce = (t u : List ℕ) (s : Style) → IsUtf8 t → (f : Formats t s u) → TrailsFitIn f
 
 -- u is a text that means one thing within the limit of open collections and breaks no rule of streams, and its documents mean the trees of the
--- normal form, with their directives.
+-- normal form, with their directives; each begins with a `---`, but for a first one that is bare.
 pub record WellFormed {t : List ℕ} {s : Style} {u : List ℕ} (f : Formats t s u) : Type 0 where
   pub utf8 : IsUtf8 u
   pub documents : Documents
   pub reads : Reads u documents
-  pub meant : DocumentsMeant f.normal.documents f.writes.trees documents.documents
+  pub meant : DocumentsMeant (is_bare f.normal s) f.normal.documents f.writes.trees documents.documents
 
 -- What formatting gives is a well-formed stream.
 abbrev pub FormatsAreWellFormed : Type 0

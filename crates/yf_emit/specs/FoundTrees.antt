@@ -8,6 +8,7 @@ use Rattle.yf_events.specs.declared.document.Doc.{Doc}
 use Rattle.yf_events.specs.declared.lists.Lists.{Lists}
 use Rattle.yf_emit.specs.declared.style.Style.{Style}
 use Rattle.yf_emit.specs.AlikeBlocks.{AlikeBlocks}
+use Rattle.yf_emit.specs.BareStart.{is_bare}
 use Rattle.yf_emit.specs.Decorated.{first_gap, row_decos, rows_of}
 use Rattle.yf_emit.specs.Undisturbed.{Undisturbed}
 
@@ -24,5 +25,6 @@ pub data FoundTrees (s : Style) (cs : List CommentValue) (u : List ℕ) (es : Li
 pub record FoundSame (m : Lists) (s : Style) (trees : List DocumentTree) (u : List ℕ) (q : Lists) (found : List DocumentTree) : Type 0 where
   pub of_reading : TreesOf q found
   pub alike : FoundTrees s m.comments u q.comments m.documents trees q.documents found
+  pub bare : is_bare q s ≡ is_bare m s
   pub gap : first_gap q (rows_of q s found) ≡ first_gap m (rows_of m s trees)
   pub decos : row_decos q (rows_of q s found) ≡ row_decos m (rows_of m s trees)

@@ -6,8 +6,9 @@ use Rattle.yf_comments.specs.Comment.{CommentValue}
 use Rattle.yf_events.specs.declared.event.Span.{Span}
 use Rattle.yf_events.specs.declared.lists.Lists.{Lists}
 use Rattle.yf_emit.specs.declared.style.Style.{Style}
+use Rattle.yf_emit.specs.BareStart.{is_bare}
 use Rattle.yf_emit.specs.Normal.{setting_of}
-use Rattle.yf_emit.specs.Rows.{Row, Ending, at_text_start, at_document_start, at_kept_tail, before_node, anywhere, stream_rows}
+use Rattle.yf_emit.specs.Rows.{Row, Ending, at_text_start, at_document_start, at_kept_tail, before_node, anywhere, all_rows}
 use Rattle.yf_events.specs.Tree.{DocumentTree, TreesOf}
 
 -- a comment, and whether it stands on the line on which the last leaf ends that begins before it
@@ -132,7 +133,7 @@ abbrev pub lines_with_comments : Lists → List Row → List Line
 lines_with_comments m rows = lines_of (source_of m rows) (own_line_comments (source_of m rows) rows) rows
 
 abbrev pub layout : Lists → Style → List DocumentTree → List ℕ
-layout m s trees = bytes_behind at_text_start (lines_with_comments m (stream_rows (setting_of m s) true m.documents trees))
+layout m s trees = bytes_behind at_text_start (lines_with_comments m (all_rows (setting_of m s) (is_bare m s) m.documents trees))
 
 -- u is the layout of the normal reading m
 pub record Writes (m : Lists) (s : Style) (u : List ℕ) : Type 0 where

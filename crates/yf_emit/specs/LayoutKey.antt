@@ -5,6 +5,7 @@ use Rattle.yf_events.specs.Tree.{DocumentTree}
 use Rattle.yf_events.specs.declared.document.Doc.{Doc}
 use Rattle.yf_emit.specs.declared.style.Style.{Style}
 use Rattle.yf_emit.specs.AlikeBlocks.{AlikeBlocks}
+use Rattle.yf_emit.specs.BareStart.{is_bare}
 use Rattle.yf_emit.specs.CommentsPlaced.{ends_line, rows_in, source_in}
 use Rattle.yf_emit.specs.Format.{Formats}
 use Rattle.yf_emit.specs.FoundTrees.{words_of}
@@ -43,6 +44,8 @@ pub data SameRows (b c : Source) : List Row → List Row → Type 0 where
 
 -- two texts have the same key: their normal forms differ by places alone, and the same comments and blank lines stand at the same lines
 pub record SameKey {t u v w : List ℕ} {s : Style} (f : Formats t s u) (g : Formats v s w) : Type 0 where
+  -- the `---` of the first document is left out in both or in neither: the style keeps it so, and it is missing
+  pub bare : is_bare f.normal s ≡ is_bare g.normal s
   pub documents : SameDocuments s f.normal.comments g.normal.comments f.normal.documents f.writes.trees g.normal.documents g.writes.trees
   pub places : SamePlaces (rows_in f) (rows_in g) f.normal.comments g.normal.comments
   pub ends : SameEnds (source_in f) (source_in g) f.normal.comments g.normal.comments

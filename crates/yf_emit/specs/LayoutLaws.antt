@@ -1,5 +1,5 @@
 -- The laws of layouts, each with the plain sentence that it stands for. `proofs/LayoutLawsHold.antt` proves them.
-use Rattle.std.specs.Prelude.{◌≡◌, ℕ, ◌≤◌, List, ◌++◌, map}
+use Rattle.std.specs.Prelude.{◌≡◌, ℕ, ◌≤◌, Bool, List, ◌++◌, map}
 use Rattle.std.specs.Str.{IsUtf8}
 use Rattle.yf_comments.specs.Comment.{CommentValue}
 use Rattle.yf_comments.specs.GapLines.{remarks_of}
@@ -8,18 +8,19 @@ use Rattle.yf_events.specs.declared.lists.Lists.{Lists}
 use Rattle.yf_events.specs.Tree.{DocumentTree}
 use Rattle.yf_stream.specs.Stream.{Documents, Stream}
 use Rattle.yf_emit.specs.declared.style.Style.{Style}
+use Rattle.yf_emit.specs.BareStart.{is_bare}
 use Rattle.yf_emit.specs.Carried.{comments_in, AreRemarks, TrailsFit}
 use Rattle.yf_emit.specs.Decorated.{first_gap, row_decos, rows_of}
-use Rattle.yf_emit.specs.FitDocuments.{FitDocuments, DocumentsMeant, tall_documents}
+use Rattle.yf_emit.specs.FitDocuments.{FitDocuments, FitsBare, DocumentsMeant, tall_documents}
 use Rattle.yf_emit.specs.Layout.{layout, source_of}
 
--- The text is a stream of documents that mean these trees, with these directives, and its comments have these texts, in order.
-pub record StreamMade (t : List ℕ) (ds : List Doc) (xs : List DocumentTree) (comments : List (List ℕ)) : Type 0 where
+-- The text is a stream of documents that mean these trees, with these directives and markers, and its comments have these texts, in order.
+pub record StreamMade (t : List ℕ) (bare : Bool) (ds : List Doc) (xs : List DocumentTree) (comments : List (List ℕ)) : Type 0 where
   pub height : ℕ
   pub documents : Documents
   pub derived : Stream t height documents
   pub low : height ≤ tall_documents xs
-  pub meant : DocumentsMeant ds xs documents.documents
+  pub meant : DocumentsMeant bare ds xs documents.documents
   pub is : map (λ (c : CommentValue). c.text) documents.comments ≡ comments
 
 -- the texts of the comments that a layout prints, in order
@@ -35,5 +36,5 @@ LayoutsAreTexts = (m : Lists) (s : Style) (trees : List DocumentTree) → FitDoc
 -- a row, the layout is a stream of documents that mean the same trees up to their places, with the same directives, and its comments are those
 -- that were printed, in that order.
 abbrev pub LayoutsAreDerived : Type 0
-LayoutsAreDerived = (m : Lists) (s : Style) (trees : List DocumentTree) → FitDocuments m.documents trees → AreRemarks m.comments
-    → TrailsFit (source_of m (rows_of m s trees)) (rows_of m s trees) → StreamMade (layout m s trees) m.documents trees (printed_comments m s trees)
+LayoutsAreDerived = (m : Lists) (s : Style) (trees : List DocumentTree) → FitDocuments m.documents trees → FitsBare (is_bare m s) m.documents trees → AreRemarks m.comments
+    → TrailsFit (source_of m (rows_of m s trees)) (rows_of m s trees) → StreamMade (layout m s trees) (is_bare m s) m.documents trees (printed_comments m s trees)

@@ -1,3 +1,5 @@
+pub mod BareSearch
+pub mod BareStart
 pub mod Beginnings
 pub mod Begins
 pub mod BlockLines

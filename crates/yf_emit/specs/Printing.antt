@@ -17,6 +17,7 @@ use Rattle.yf_emit.specs.declared.print.printer.Level.{Level}
 use Rattle.yf_emit.specs.declared.print.printer.Plan.{Plan}
 use Rattle.yf_emit.specs.declared.print.printer.Spot.{Spot}
 use Rattle.yf_emit.specs.declared.style.Style.{Style}
+use Rattle.yf_emit.specs.BareSearch.{is_found_bare}
 use Rattle.yf_emit.specs.BlockLines.{block_lines, final_feeds, header_text, is_kept_tail}
 use Rattle.yf_emit.specs.Deciding.{further, has_space, is_leaf_at}
 use Rattle.yf_emit.specs.Drafts.{Draft, Remarks, no_draft, opened, past, remarks, with_blank, with_body, with_key_trail, with_text, with_trail, without_blank, finished}
@@ -346,9 +347,14 @@ signed g f entry w = record w { draft = sign g f entry w.levels w.draft; levels 
 abbrev pub node : Work → ℕ → Measure → Form → Placed → State → State
 node g i m f e w = node_in g i m f e e.event (spot f w.levels) (signed g f e.entry w)
 
+-- a document without its `---` begins on the line of its root
+abbrev pub document_in : Bool → Work → ℕ → Doc → Draft → Draft
+document_in true g documents x d = past g.reading.comments x.start d
+document_in false g documents x d = marked (document_begun g (documents == 0) x (next_line g 0 d))
+
 abbrev pub document_printed : Work → ℕ → Option Doc → Draft → Draft
 document_printed g documents None d = marked (next_line g 0 d)
-document_printed g documents (Some x) d = marked (document_begun g (documents == 0) x (next_line g 0 d))
+document_printed g documents (Some x) d = document_in ((documents == 0) && is_found_bare g.reading g.style) g documents x d
 
 abbrev pub documents_behind : ℕ → Option Doc → ℕ
 documents_behind documents None = documents

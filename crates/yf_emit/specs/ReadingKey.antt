@@ -10,6 +10,7 @@ use Rattle.yf_events.specs.declared.event.ScalarStyle.{ScalarStyle}
 use Rattle.yf_events.specs.declared.event.Span.{Span}
 use Rattle.yf_events.specs.declared.lists.Lists.{Lists}
 use Rattle.yf_emit.specs.declared.style.Style.{Style}
+use Rattle.yf_emit.specs.BareStart.{is_bare}
 use Rattle.yf_emit.specs.Format.{Formats}
 use Rattle.yf_emit.specs.FoundTrees.{words_of}
 use Rattle.yf_emit.specs.Layout.{Remark, trimmed}
@@ -89,6 +90,8 @@ pub data DocumentsMatch (ps : List (ℕ × ℕ)) (s : Style) (t : List ℕ) (r :
 -- The readings of two texts match: all comments and all beginnings of leaves are pairs, and each place of a node is on the same side of all of these.
 pub record SameReadings {t u v w : List ℕ} {s : Style} (f : Formats t s u) (g : Formats v s w) : Type 0 where
   pub pairs : List (ℕ × ℕ)
+  -- the `---` of the first document is left out in both or in neither: the style keeps it so, and it is missing
+  pub bare : is_bare f.normal s ≡ is_bare g.normal s
   pub documents : DocumentsMatch pairs s t f.reading v g.reading f.reading.documents f.is_normal.trees g.reading.documents g.is_normal.trees
   pub remarks : Each (SameRemark pairs) (zip f.reading.comments f.reading.on_leaf_line) (zip g.reading.comments g.reading.on_leaf_line)
 

@@ -38,6 +38,8 @@ pub record Row : Type 0 where
   pub key_comment : Option CommentValue
   -- it begins with an entry before which a blank line stands
   pub blank_before : Bool
+  -- a document without `---` begins on it
+  pub begins : Bool
   pub ending : Ending
   -- the lines of a block scalar, and the column at which they stand; 0 where there are none
   pub body : List (List ℕ)
@@ -46,7 +48,7 @@ pub record Row : Type 0 where
 -- a line with that text alone
 abbrev pub plain_row : ℕ → List ℕ → Row
 plain_row column text =
-    record { column = column; text = text; items = []; leaves = []; key_comment = None; blank_before = false; ending = anywhere; body = []; lines = 0 }
+    record { column = column; text = text; items = []; leaves = []; key_comment = None; blank_before = false; begins = false; ending = anywhere; body = []; lines = 0 }
 
 -- the first line of a node stands on the line that a sign or key begins, after so many spaces; an empty node has no line, and no
 -- space is left before it
@@ -59,6 +61,7 @@ joined head spaces (r ∷ rs) = record {
   leaves = head.leaves ++ r.leaves;
   key_comment = r.key_comment;
   blank_before = head.blank_before;
+  begins = head.begins;
   ending = r.ending;
   body = r.body;
   lines = r.lines;
@@ -207,3 +210,18 @@ abbrev pub stream_rows : Setting → Bool → List Doc → List DocumentTree →
 stream_rows c is_first [] trees = []
 stream_rows c is_first (d ∷ ds) [] = []
 stream_rows c is_first (d ∷ ds) (tree ∷ trees) = document_rows c is_first d tree ++ stream_rows c false ds trees
+
+-- a document without its `---` begins on the first line of its root
+abbrev pub begun_at : ℕ → List Row → List Row
+begun_at start [] = []
+begun_at start (r ∷ rs) = record r { items = start ∷ r.items; begins = true } ∷ rs
+
+abbrev pub bare_rows : Setting → Doc → DocumentTree → List Row
+bare_rows c d tree = begun_at d.start (rows c (root_spot c.style) tree.root)
+
+-- all lines; the flag says whether the `---` of the first document is left out
+abbrev pub all_rows : Setting → Bool → List Doc → List DocumentTree → List Row
+all_rows c false ds trees = stream_rows c true ds trees
+all_rows c true [] trees = []
+all_rows c true (d ∷ ds) [] = []
+all_rows c true (d ∷ ds) (tree ∷ trees) = bare_rows c d tree ++ stream_rows c false ds trees

@@ -2,6 +2,7 @@
 ghost use Rattle.std.specs.Prelude.{IfErr, OnOk};
 ghost use Rattle.yf_emit.specs.Printed.{RefusedPrint, WroteMade};
 
+pub(crate) mod bare;
 pub mod layout;
 pub(crate) mod leaf_trails;
 pub(crate) mod leaves;

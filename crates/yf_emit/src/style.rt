@@ -3,6 +3,15 @@ ghost use Rattle.std.specs.Prelude.{◌≡◌, ◌≤◌, true};
 
 use yf_lines::quotes::Quotes;
 
+/// Which documents begin with a `---`.
+#[derive(Clone, Copy)]
+pub enum DocumentStart {
+    /// All.
+    Always,
+    /// All but a first one that has none in the text, where no comment stands after its beginning and before its first leaf with characters.
+    Keep,
+}
+
 /// The settings of the house style. Each value of this type is within the ranges that its fields name.
 #[derive(Clone, Copy)]
 pub struct Style {
@@ -15,6 +24,8 @@ pub struct Style {
     /// Whether the entries of a sequence that is the value of an implicit key stand to the right of the key. Where they
     /// do not, they stand at the key's column.
     pub seq_indent: bool,
+    /// Which documents begin with a `---`.
+    pub document_start: DocumentStart,
     pub ghost indent_from: { 2 ≤ indent },
     pub ghost indent_to: { indent ≤ 8 },
     pub ghost max_line_from: { 40 ≤ max_line },
@@ -23,18 +34,20 @@ pub struct Style {
 
 impl Style {
     /// The style where nothing is set: indent 2, lines of 100 columns, double quotes, sequences to the right of their
-    /// keys.
+    /// keys, `---` before each document.
     pub fn house() -> Style
         ensures indent { result.indent ≡ 2 }
         ensures max_line { result.max_line ≡ 100 }
         ensures quotes { result.quotes ≡ Quotes.Double }
         ensures seq_indent { result.seq_indent ≡ true }
+        ensures document_start { result.document_start ≡ DocumentStart.Always }
     {
         Style {
             indent: 2,
             max_line: 100,
             quotes: Quotes::Double,
             seq_indent: true,
+            document_start: DocumentStart::Always,
         }
     }
 }

@@ -6,6 +6,8 @@ use Rattle.std.specs.Cmp.Lexicographic.{slice_cmp}
 use Rattle.toml.specs.Data.{Data, string, integer, as_bool, Members, get_member}
 use Rattle.toml.specs.Parse.{parse_document}
 use Rattle.toml.specs.Errors.{IsBlank}
+use Rattle.yf_emit.specs.declared.style.DocumentStart.{DocumentStart}
+use Rattle.yf_emit.specs.declared.style.DocumentStart.TheVariants.{Always, Keep}
 use Rattle.yf_emit.specs.declared.style.Style.{Style}
 use Rattle.yf_lines.specs.declared.quotes.Quotes.{Quotes}
 use Rattle.yf_lines.specs.declared.quotes.Quotes.TheVariants.{Single, Double}
@@ -34,6 +36,14 @@ quotes_of _ = None
 abbrev pub seq_indent_of : Data → Option Bool
 seq_indent_of = as_bool
 
+-- the word `always` or the word `keep`
+abbrev pub document_start_of : Data → Option DocumentStart
+document_start_of (string word) =
+    if bytes_eq word (codes "always") then Some Always
+    else if bytes_eq word (codes "keep") then Some Keep
+    else None
+document_start_of _ = None
+
 -- the key is one of the settings, and the value is one that it may have
 abbrev pub is_right : List ℕ → Data → Bool
 is_right key value =
@@ -41,6 +51,7 @@ is_right key value =
     else if bytes_eq key (codes "max_line") then is_some (max_line_of value)
     else if bytes_eq key (codes "quotes") then is_some (quotes_of value)
     else if bytes_eq key (codes "seq_indent") then is_some (seq_indent_of value)
+    else if bytes_eq key (codes "document_start") then is_some (document_start_of value)
     else false
 
 abbrev pub IsRight : Members → List ℕ → Type 0
@@ -65,6 +76,7 @@ pub record Sets (table : Members) (style : Style) : Type 0 where
   pub max_line : style.max_line ≡ setting max_line_of (codes "max_line") 100 table
   pub quotes : style.quotes ≡ setting quotes_of (codes "quotes") Double table
   pub seq_indent : style.seq_indent ≡ setting seq_indent_of (codes "seq_indent") true table
+  pub document_start : style.document_start ≡ setting document_start_of (codes "document_start") Always table
 
 -- the text is TOML, and its table sets the style
 abbrev pub SetsStyle : List ℕ → Style → Type 0

@@ -3,13 +3,14 @@ ghost use Rattle.std.specs.Prelude.{◌≡◌, ◌⊎◌, ℕ, ◌≤◌, [], So
 ghost use Rattle.std.specs.Prelude.{List, option_map};
 ghost use Rattle.toml.specs.Data.{get_member};
 ghost use Rattle.toml.specs.View.{view, table_view};
-ghost use Rattle.yf_program.specs.Settings.{number_between, indent_of, max_line_of, quotes_of, seq_indent_of, is_right, IsRight, IsLeastWrong};
+ghost use Rattle.yf_program.specs.Settings.{number_between, indent_of, max_line_of, quotes_of, seq_indent_of, document_start_of, is_right, IsRight, IsLeastWrong};
 ghost use Rattle.yf_program.specs.Settings.{setting, SetsStyle, RefusesSettings, Sets};
+ghost use Rattle.yf_emit.specs.declared.style.DocumentStart.TheVariants.{Always};
 ghost use Rattle.yf_lines.specs.declared.quotes.Quotes.TheVariants.{Double};
 
 use std::alloc::Global;
 use toml::{Table, Value};
-use yf_emit::style::Style;
+use yf_emit::style::{DocumentStart, Style};
 use yf_lines::fault::Fault;
 use yf_lines::quotes::Quotes;
 use yf_lines::text::OwnedText;
@@ -22,9 +23,11 @@ const QUOTES: &str = "quotes";
 
 const SEQ_INDENT: &str = "seq_indent";
 
+const DOCUMENT_START: &str = "document_start";
+
 /// The style that a settings text sets: a TOML document with the keys `indent` (an integer from 2 to 8), `max_line` (an
-/// integer from 40 to 1000), `quotes` (`"double"` or `"single"`) and `seq_indent` (a boolean). A key that is not there
-/// has the value of the house style.
+/// integer from 40 to 1000), `quotes` (`"double"` or `"single"`), `seq_indent` (a boolean) and `document_start` (`"always"` or
+/// `"keep"`). A key that is not there has the value of the house style.
 ///
 /// Answers `Fault::Config` with the least key, by its bytes, that is none of these or has another value, and with the
 /// empty key where the text is no TOML; `Fault::Memory` in the place of each answer, where a growth of memory was
@@ -96,6 +99,9 @@ fn is_right(key: &str, value: &Value) -> bool
     if key == SEQ_INDENT {
         return value.as_bool().is_some();
     }
+    if key == DOCUMENT_START {
+        return document_start_of(value).is_some();
+    }
     false
 }
 
@@ -136,12 +142,30 @@ fn quotes_of(value: &Value) -> Option<Quotes>
     }
 }
 
+fn document_start_of(value: &Value) -> Option<DocumentStart>
+    ensures { result ≡ document_start_of (view value.now) }
+{
+    match value.as_str() {
+        Some(word) => {
+            if word == "always" {
+                return Some(DocumentStart::Always);
+            }
+            if word == "keep" {
+                return Some(DocumentStart::Keep);
+            }
+            None
+        }
+        None => None,
+    }
+}
+
 // The style that the table sets, where its keys are right.
 fn style_of(table: &Table) -> Style
     ensures indent { result.indent ≡ setting indent_of (codes "indent") 2 (table_view table.now) }
     ensures max_line { result.max_line ≡ setting max_line_of (codes "max_line") 100 (table_view table.now) }
     ensures quotes { result.quotes ≡ setting quotes_of (codes "quotes") Double (table_view table.now) }
     ensures seq_indent { result.seq_indent ≡ setting seq_indent_of (codes "seq_indent") true (table_view table.now) }
+    ensures document_start { result.document_start ≡ setting document_start_of (codes "document_start") Always (table_view table.now) }
 {
     let house = Style::house();
     Style {
@@ -149,6 +173,7 @@ fn style_of(table: &Table) -> Style
         max_line: number_at(table, MAX_LINE, 40, 1000, house.max_line),
         quotes: quotes_at(table, house.quotes),
         seq_indent: seq_indent_at(table, house.seq_indent),
+        document_start: document_start_at(table, house.document_start),
     }
 }
 
@@ -182,6 +207,15 @@ fn seq_indent_at(table: &Table, house: bool) -> bool
 {
     match value_at(table, SEQ_INDENT) {
         Some(value) => value.as_bool().unwrap_or(house),
+        None => house,
+    }
+}
+
+fn document_start_at(table: &Table, house: DocumentStart) -> DocumentStart
+    ensures { result ≡ setting document_start_of (codes "document_start") house (table_view table.now) }
+{
+    match value_at(table, DOCUMENT_START) {
+        Some(value) => document_start_of(value).unwrap_or(house),
         None => house,
     }
 }

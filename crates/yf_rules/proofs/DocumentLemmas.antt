@@ -11,7 +11,7 @@ use Rattle.yf_events.specs.Event.{EventValue}
 use Rattle.yf_events.specs.Reading.{events_of}
 use Rattle.yf_events.specs.declared.document.Doc.{Doc}
 use Rattle.yf_events.specs.declared.lists.Lists.{Lists}
-use Rattle.yf_rules.specs.Documents.{IsUnmarked, NoMarkerLine, markers_in}
+use Rattle.yf_rules.specs.Documents.{IsUnmarked, NoMarkerLine, markers_in, may_be_bare}
 use Rattle.yf_rules.specs.Documents.IsUnmarked.{without_marker, not_alone}
 use Rattle.yf_rules.specs.Documents.NoMarkerLine.{of_document}
 use Rattle.yf_rules.specs.Exact.{Answers, Sole}
@@ -27,8 +27,9 @@ use Rattle.yf_chars.proofs.TextLemmas.{boundary_from_begins, code-nowhere, code-
 use Rattle.yf_lines.proofs.LineLemmas.{break_char_cases}
 use Rattle.yf_rules.specs.Whites.{IsAlone}
 use Rattle.yf_rules.proofs.WhitesLemmas.{no_white_past}
+use Rattle.yf_emit.specs.declared.style.Style.{Style}
 
-starts_there : {t : List ℕ} {m : Bool} {o x : ℕ} → IsUnmarked t m o x → x ≡ o
+starts_there : {t : List ℕ} {m b : Bool} {o x : ℕ} → IsUnmarked t m b o x → x ≡ o
 starts_there without_marker = refl
 starts_there (not_alone n) = refl
 
@@ -107,32 +108,36 @@ document_same e = cc
 flag_same : {d e : Bool} → Some d ≡ Some e → d ≡ e
 flag_same e = cc
 
-document_parts : {t : List ℕ} {r : Lists} {k o : ℕ} (d : Doc) (m : Bool) → slice_get r.documents k ≡ Some d → slice_get (markers_in (events_of r)) k ≡ Some m
-    → NoMarkerLine t r k o → IsUnmarked t m d.start o
-document_parts {t} {r} {k} {o} d m e f (of_document {d = d'} {marked = m'} g h u) =
-    subst (λ b. IsUnmarked t b d.start o) (flag_same (sym h ∙ f)) (subst (λ (v : Doc). IsUnmarked t m' v.start o) (document_same (sym g ∙ e)) u)
+document_parts : {t : List ℕ} {r : Lists} {s : Style} {k o : ℕ} (d : Doc) (m : Bool) → slice_get r.documents k ≡ Some d → slice_get (markers_in (events_of r)) k ≡ Some m
+    → NoMarkerLine t r s k o → IsUnmarked t m (may_be_bare s k) d.start o
+document_parts {t} {r} {s} {k} {o} d m e f (of_document {d = d'} {marked = m'} g h u) =
+    subst (λ b. IsUnmarked t b (may_be_bare s k) d.start o) (flag_same (sym h ∙ f)) (subst (λ (v : Doc). IsUnmarked t m' (may_be_bare s k) v.start o) (document_same (sym g ∙ e)) u)
 
-pub document_found : (t : List ℕ) (r : Lists) (k o : ℕ) (d : Doc) (m : Bool) → slice_get r.documents k ≡ Some d → slice_get (markers_in (events_of r)) k ≡ Some m
-    → Sole (IsUnmarked t m d.start) o → Sole (NoMarkerLine t r k) o
-document_found t r k o d m e f s = record { holds = of_document e f s.holds; only = λ x u. s.only x (document_parts d m e f u) }
+pub document_found : (t : List ℕ) (r : Lists) (s : Style) (k o : ℕ) (d : Doc) (m : Bool) → slice_get r.documents k ≡ Some d → slice_get (markers_in (events_of r)) k ≡ Some m
+    → Sole (IsUnmarked t m (may_be_bare s k) d.start) o → Sole (NoMarkerLine t r s k) o
+document_found t r s k o d m e f a = record { holds = of_document e f a.holds; only = λ x u. a.only x (document_parts d m e f u) }
 
-pub document_none : (t : List ℕ) (r : Lists) (k : ℕ) (d : Doc) (m : Bool) → slice_get r.documents k ≡ Some d → slice_get (markers_in (events_of r)) k ≡ Some m
-    → ((o : ℕ) → IsUnmarked t m d.start o → ⊥) → (o : ℕ) → NoMarkerLine t r k o → ⊥
-document_none t r k d m e f n o u = n o (document_parts d m e f u)
+pub document_none : (t : List ℕ) (r : Lists) (s : Style) (k : ℕ) (d : Doc) (m : Bool) → slice_get r.documents k ≡ Some d → slice_get (markers_in (events_of r)) k ≡ Some m
+    → ((o : ℕ) → IsUnmarked t m (may_be_bare s k) d.start o → ⊥) → (o : ℕ) → NoMarkerLine t r s k o → ⊥
+document_none t r s k d m e f n o u = n o (document_parts d m e f u)
 
-pub document_within : {t : List ℕ} {r : Lists} {k o : ℕ} → NoMarkerLine t r k o → (k < length r.documents) × (k < length (markers_in (events_of r)))
+pub document_within : {t : List ℕ} {r : Lists} {s : Style} {k o : ℕ} → NoMarkerLine t r s k o → (k < length r.documents) × (k < length (markers_in (events_of r)))
 document_within {r = r} {k = k} (of_document {d} {marked} g h u) = (slice_get_within r.documents k d g, slice_get_within (markers_in (events_of r)) k marked h)
 
 -- whether the start of a document is at fault
-pub marked_alone : (t : List ℕ) (m : Bool) (o : ℕ) → m ≡ true → IsAlone t o → (x : ℕ) → IsUnmarked t m o x → ⊥
-marked_alone t true o e a x (not_alone n) = n a
-marked_alone t false o e a x u = absurd (true≢false (sym e))
+pub marked_alone : (t : List ℕ) (m b : Bool) (o : ℕ) → m ≡ true → IsAlone t o → (x : ℕ) → IsUnmarked t m b o x → ⊥
+marked_alone t true b o e a x (not_alone n) = n a
+marked_alone t false b o e a x u = absurd (true≢false (sym e))
 
-pub marked_crowded : (t : List ℕ) (m : Bool) (o : ℕ) → m ≡ true → (IsAlone t o → ⊥) → Sole (IsUnmarked t m o) o
-marked_crowded t m o e n = record { holds = subst (λ b. IsUnmarked t b o o) (sym e) (not_alone n); only = λ x u. starts_there u }
+pub bare_rightly : (t : List ℕ) (m b : Bool) (o : ℕ) → m ≡ false → b ≡ true → (x : ℕ) → IsUnmarked t m b o x → ⊥
+bare_rightly t m b o e f x without_marker = true≢false (sym f)
+bare_rightly t m b o e f x (not_alone n) = true≢false e
 
-pub bare_start : (t : List ℕ) (m : Bool) (o : ℕ) → m ≡ false → Sole (IsUnmarked t m o) o
-bare_start t m o e = record { holds = subst (λ b. IsUnmarked t b o o) (sym e) without_marker; only = λ x u. starts_there u }
+pub marked_crowded : (t : List ℕ) (m b : Bool) (o : ℕ) → m ≡ true → (IsAlone t o → ⊥) → Sole (IsUnmarked t m b o) o
+marked_crowded t m b o e n = record { holds = subst (λ v. IsUnmarked t v b o o) (sym e) (not_alone n); only = λ x u. starts_there u }
+
+pub bare_start : (t : List ℕ) (m b : Bool) (o : ℕ) → m ≡ false → b ≡ false → Sole (IsUnmarked t m b o) o
+bare_start t m b o e f = record { holds = subst (λ v. IsUnmarked t v b o o) (sym e) (subst (λ v. IsUnmarked t false v o o) (sym f) without_marker); only = λ x u. starts_there u }
 
 pub marker_step : (es : List EventValue) (i : ℕ) (ms new : List Bool) (o : Option Bool) → i < length es → ms ++ markers_in (drop i es) ≡ markers_in es
     → ((rest : List EventValue) → IfSome (slice_get es i) (λ e. markers_in (e ∷ rest) ≡ option_to_list o ++ markers_in rest)) → new ≡ ms ++ option_to_list o
@@ -149,12 +154,12 @@ pub event_count : (r : Lists) → length (events_of r) ≡ length r.events
 event_count r = length-map r.events (λ e. e.event)
 
 -- the same of the documents as the code has them
-pub document_answered : (t u : List ℕ) (r : Lists) (ds : List Doc) (ms : List Bool) (k : ℕ) (d : Doc) (m : Bool) (answer : Option ℕ) → u ≡ t → ds ≡ r.documents
-    → ms ≡ markers_in (events_of r) → k < length ds → k < length ms → m ≡ get_or ms k m → Answers (IsUnmarked u m (get_or ds k d).start) answer
-    → Answers (NoMarkerLine t r k) answer
-document_answered t u r ds ms k d m None e f g h l q s =
-    document_none t r k (get_or ds k d) m (subst (λ v. slice_get v k ≡ Some (get_or ds k d)) f (slice_get-get_or ds k d h))
-    (subst (λ v. slice_get v k ≡ Some m) g (slice_get_read ms (length ms) k m refl l q)) (subst (λ v. (o : ℕ) → IsUnmarked v m (get_or ds k d).start o → ⊥) e s)
-document_answered t u r ds ms k d m (Some o) e f g h l q s =
-    document_found t r k o (get_or ds k d) m (subst (λ v. slice_get v k ≡ Some (get_or ds k d)) f (slice_get-get_or ds k d h))
-    (subst (λ v. slice_get v k ≡ Some m) g (slice_get_read ms (length ms) k m refl l q)) (subst (λ v. Sole (IsUnmarked v m (get_or ds k d).start) o) e s)
+pub document_answered : (t u : List ℕ) (r : Lists) (s : Style) (ds : List Doc) (ms : List Bool) (k : ℕ) (d : Doc) (m b : Bool) (answer : Option ℕ) → u ≡ t → b ≡ may_be_bare s k → ds ≡ r.documents
+    → ms ≡ markers_in (events_of r) → k < length ds → k < length ms → m ≡ get_or ms k m → Answers (IsUnmarked u m b (get_or ds k d).start) answer
+    → Answers (NoMarkerLine t r s k) answer
+document_answered t u r s ds ms k d m b None e c f g h l q a =
+    document_none t r s k (get_or ds k d) m (subst (λ v. slice_get v k ≡ Some (get_or ds k d)) f (slice_get-get_or ds k d h))
+    (subst (λ v. slice_get v k ≡ Some m) g (slice_get_read ms (length ms) k m refl l q)) (subst (λ w. (o : ℕ) → IsUnmarked t m w (get_or ds k d).start o → ⊥) c (subst (λ v. (o : ℕ) → IsUnmarked v m b (get_or ds k d).start o → ⊥) e a))
+document_answered t u r s ds ms k d m b (Some o) e c f g h l q a =
+    document_found t r s k o (get_or ds k d) m (subst (λ v. slice_get v k ≡ Some (get_or ds k d)) f (slice_get-get_or ds k d h))
+    (subst (λ v. slice_get v k ≡ Some m) g (slice_get_read ms (length ms) k m refl l q)) (subst (λ w. Sole (IsUnmarked t m w (get_or ds k d).start) o) c (subst (λ v. Sole (IsUnmarked v m b (get_or ds k d).start) o) e a))

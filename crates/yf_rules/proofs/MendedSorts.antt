@@ -14,12 +14,13 @@ use Rattle.yf_emit.proofs.FormattedHeld.{reading_held}
 use Rattle.yf_emit.proofs.FormattedLines.{formed, formed_are, formed_lines}
 use Rattle.yf_emit.proofs.GapSpread.{decos_spread, gap_spread}
 use Rattle.yf_emit.proofs.LaidLines.{LineIs, line_text}
-use Rattle.yf_emit.proofs.LeadRows.{stream_leads}
 use Rattle.yf_emit.proofs.LineSorts.{Lined, lined_end, lined_more, Sort}
 use Rattle.yf_emit.proofs.LinedRows.{layout_sorted}
-use Rattle.yf_emit.proofs.RowKinds.{stream_kinds}
 use Rattle.yf_emit.proofs.TidyTexts.{decos_tidy, gap_tidy}
 use Rattle.yf_rules.specs.Mended.{IsFormatted}
+use Rattle.yf_emit.proofs.RowKinds.{all_kinds}
+use Rattle.yf_emit.proofs.LeadRows.{all_leads}
+use Rattle.yf_emit.specs.BareStart.{is_bare}
 
 formed_sorts : {src : Table} {r : Lists} {s : Style} (w : IsFormatted src r s) → Lined (λ n l x. Sort src.text r.events src.lines n l x) 0 src.lines (formed_lines w.formats)
 formed_sorts {src} {r} {s} w =
@@ -27,8 +28,8 @@ formed_sorts {src} {r} {s} w =
     let m : Lists = w.formats.normal in
     let rows = rows_of m s w.formats.writes.trees in
     let cs = own_line_comments (source_of m rows) rows in
-    layout_sorted a.utf8 r.events src.lines (row_decos m rows) (gap_spread at_text_start cs rows) a.gap (gap_tidy at_text_start cs rows) a.rows (stream_kinds (setting_of m s) true a.fit)
-    (stream_leads (setting_of m s) true a.fit) (decos_spread (source_of m rows) cs rows) a.decos (decos_tidy (source_of m rows) cs rows) (reading_held w.utf8 w.formats w.reads).bodies
+    layout_sorted a.utf8 r.events src.lines (row_decos m rows) (gap_spread at_text_start cs rows) a.gap (gap_tidy at_text_start cs rows) a.rows (all_kinds (setting_of m s) (is_bare m s) a.fit)
+    (all_leads (setting_of m s) (is_bare m s) a.fit) (decos_spread (source_of m rows) cs rows) a.decos (decos_tidy (source_of m rows) cs rows) (reading_held w.utf8 w.formats w.reads).bodies
     (formed_are src.lines w.formats a w.lines)
 
 record LinedAt (P : ℕ → Line → List ℕ → Type 0) (k : ℕ) (xs : List (List ℕ)) (i : ℕ) (l : Line) : Type 0 where

@@ -16,11 +16,9 @@ use Rattle.yf_events.specs.declared.lists.Lists.{Lists}
 use Rattle.yf_stream.specs.ReadingOf.{ReadingOf, doc_of}
 use Rattle.yf_stream.specs.Stream.{Document}
 use Rattle.yf_stream.proofs.DirectivesStand.{AllDirected, none_directed, one_directed, DirectivesStand, no_directives, directive_stands, stream_directed}
-use Rattle.yf_stream.proofs.DocumentMarkers.{stream_markers}
 use Rattle.yf_emit.specs.declared.style.Style.{Style}
 use Rattle.yf_emit.proofs.FormattedLines.{formed}
 use Rattle.yf_emit.proofs.LineSorts.{LineAfter, LineBefore, Solid, solid_seen, solid_scalar, Sort, between_rows, ends_seen, in_scalar}
-use Rattle.yf_emit.proofs.SameContent.{formats_meant}
 use Rattle.yf_rules.specs.BlankLines.{DirectiveOf, HasOffset, IsBlank, MarkerOf, MisplacedBlank, WrongPlace}
 use Rattle.yf_rules.specs.BlankLines.DirectiveIn.{is_directive}
 use Rattle.yf_rules.specs.BlankLines.DirectiveOf.{of_document}
@@ -32,7 +30,7 @@ use Rattle.yf_rules.specs.Rules.{blank_lines}
 use Rattle.yf_rules.proofs.MendedLines.{exactly_none, no_mark_there}
 use Rattle.yf_rules.proofs.MendedScalars.{scalar_line}
 use Rattle.yf_rules.proofs.MendedSorts.{sorted_line}
-use Rattle.yf_rules.proofs.MendedStarts.{first_mark, start_at}
+use Rattle.yf_rules.proofs.MendedStarts.{first_mark, marker_at}
 use Rattle.yf_rules.proofs.WhitesLemmas.{white_within}
 
 -- Lines that are no blank ones.
@@ -94,9 +92,7 @@ document_at (suc k) d (one_directed a more) e = document_at k d more e
 module _ {src : Table} {r : Lists} {s : Style} (w : IsFormatted src r s) where
   not_marker : (j m : ℕ) (l : Line) → slice_get src.lines j ≡ Some l → (Forbidden src.text l.start → code src.text l.start ≡ 45 → ⊥) → MarkerOf src r m j → ⊥
   not_marker j m l e n (has_marker {d = d} f g alone at) =
-      let q : ReadingOf src.text r = w.reads in
-      let u = (formed w.utf8 w.formats).utf8 in
-      let start = start_at m d (stream_markers u q.reads.shapes.derived) (formats_meant w.utf8 w.formats q) (subst (λ (ds : List Doc). slice_get ds m ≡ Some d) q.documents f) in
+      let start = marker_at w m d f g in
       let same : l.start ≡ d.start = ap (λ (v : Line). v.start) (same_Some _ _ (sym e ∙ at.at)) ∙ starts_there w d.start j start.0.start at in
       n (subst (λ i. Forbidden src.text i) (sym same) start.0) (ap (code src.text) same ∙ start.1)
 

@@ -1,6 +1,6 @@
--- In what formatting gives, each document begins with a `---` alone on its line.
-use Rattle.std.proofs.Common.{◌≡◌, ℕ, zero, suc, ◌+◌, inl, Bool, true, true≢false, List, [], ◌∷◌, ◌++◌, map, Some, refl, sym, ap, ◌∙◌, subst, arith, append_assoc}
-use Rattle.std.specs.Prelude.{slice_get}
+-- In what formatting gives, each document begins with a `---` alone on its line, but for a first one that the style leaves without.
+use Rattle.std.proofs.Common.{◌≡◌, ℕ, zero, suc, ◌+◌, inl, Bool, true, true≢false, List, [], ◌∷◌, ◌++◌, map, Some, refl, sym, ap, ◌∙◌, subst, arith, append_assoc, false, ◌&&◌, append-nil}
+use Rattle.std.specs.Prelude.{slice_get, not, ◌==◌}
 use Rattle.std.specs.Str.{IsUtf8}
 use Rattle.yf_chars.specs.Chain.Chain.{done, step}
 use Rattle.yf_chars.specs.Chain.One.{one}
@@ -33,15 +33,17 @@ use Rattle.yf_emit.specs.Normal.{setting_of}
 use Rattle.yf_emit.proofs.ClearRows.{feed_follows}
 use Rattle.yf_emit.proofs.FormattedLines.{Formed, formed, formed_are, formed_lines}
 use Rattle.yf_emit.proofs.LaidLines.{LineIs, line_feed, line_text}
-use Rattle.yf_emit.proofs.RowKinds.{LineKind, no_marker, document_start, document_end, LineKinds, no_line, line_more, laid_kinds, stream_kinds}
+use Rattle.yf_emit.proofs.RowKinds.{LineKind, no_marker, document_start, document_end, LineKinds, no_line, line_more, laid_kinds, all_kinds}
 use Rattle.yf_emit.proofs.SameContent.{formats_meant}
-use Rattle.yf_rules.specs.Documents.{IsUnmarked, NoMarkerLine, markers_in}
+use Rattle.yf_rules.specs.Documents.{IsUnmarked, NoMarkerLine, markers_in, may_be_bare}
 use Rattle.yf_rules.specs.Documents.IsUnmarked.{without_marker, not_alone}
 use Rattle.yf_rules.specs.Documents.NoMarkerLine.{of_document}
 use Rattle.yf_rules.specs.Mended.{FormatsAreMended, IsFormatted}
 use Rattle.yf_rules.specs.Rules.{document_start as document_start_rule}
 use Rattle.yf_rules.specs.Whites.{IsAlone}
 use Rattle.yf_rules.proofs.MendedLines.{exactly_none, no_mark_there}
+use Rattle.std.proofs.lemmas.Bool.{and_parts}
+use Rattle.yf_emit.specs.BareStart.{begins_bare, has_lead, is_bare, keeps_starts}
 
 -- The events of documents tell their markers alone.
 
@@ -65,18 +67,24 @@ mutual
       ap markers_in (events_joined (flat k) (flat v ++ flat_pairs ps) rest) ∙ (node_unmarked k (values (flat v ++ flat_pairs ps) ++ rest)
       ∙ (ap markers_in (events_joined (flat v) (flat_pairs ps) rest) ∙ (node_unmarked v (values (flat_pairs ps) ++ rest) ∙ pairs_unmarked ps rest)))
 
-abbrev AllTrue : List Bool → Type 0
-AllTrue [] = Unit {0}
-AllTrue (b ∷ bs) = (b ≡ true) × AllTrue bs
+abbrev marks : List Document → List Bool
+marks ds = map (λ (d : Document). d.marked) ds
 
-documents_marked : {u : List ℕ} {ms : List Doc} {trees : List _} {es : List Document} {y : List Placed} {tags : List _} (rest : List EventValue) → DocumentsMeant ms trees es
-    → DocumentEvents u es y tags → AllTrue (markers_in rest) → AllTrue (markers_in (values y ++ rest))
-documents_marked rest no_documents_meant no_document a = a
-documents_marked rest (document_meant b more) (one_document {d = d} {x = x} {closed = closed} g l m others) a =
+documents_marks : {bare : Bool} {u : List ℕ} {ms : List Doc} {trees : List _} {es : List Document} {y : List Placed} {tags : List _} (rest : List EventValue) → DocumentsMeant bare ms trees es
+    → DocumentEvents u es y tags → markers_in (values y ++ rest) ≡ marks es ++ markers_in rest
+documents_marks rest no_documents_meant no_document = refl
+documents_marks rest (document_meant b more) (one_document {d = d} {x = x} {closed = closed} g l m others) =
     let last : List EventValue = document_ends closed ∷ (values x ++ rest) in
     let here : markers_in (values (d.events ++ (unplaced (document_ends closed) ∷ x)) ++ rest) ≡ markers_in (values x ++ rest) =
     ap markers_in (events_joined d.events (unplaced (document_ends closed) ∷ x) rest) ∙ (ap (λ w. markers_in (values w ++ last)) b.events ∙ node_unmarked b.node last) in
-    (b.marked, subst (λ w. AllTrue w) (sym here) (documents_marked rest more others a))
+    ap (λ w. d.marked ∷ w) (here ∙ documents_marks rest more others)
+
+-- what the events of a formatted text tell of its documents
+pub reading_marks : {src : Table} {r : Lists} {s : Style} (w : IsFormatted src r s) → markers_in (events_of r) ≡ marks w.reads.derived.documents
+reading_marks {src} {r} {s} w =
+    let q : ReadingOf src.text r = w.reads in
+    let all : values (q.derived_events ++ (unplaced stream_ends ∷ [])) ≡ values q.derived_events ++ (stream_ends ∷ []) = values_append q.derived_events (unplaced stream_ends ∷ []) in
+    sym (ap markers_in (noting_values q.noted)) ∙ (ap markers_in all ∙ (documents_marks (stream_ends ∷ []) (formats_meant w.utf8 w.formats q) q.events ∙ append-nil (marks q.derived.documents)))
 
 no_flag : (k : ℕ) (b : Bool) → slice_get [] k ≡ Some b → ⊥
 no_flag k b e = cc
@@ -84,17 +92,14 @@ no_flag k b e = cc
 same_flag : {a b : Bool} → Some a ≡ Some b → a ≡ b
 same_flag e = cc
 
-true_at : (bs : List Bool) (k : ℕ) (b : Bool) → AllTrue bs → slice_get bs k ≡ Some b → b ≡ true
-true_at [] k b a e = absurd (no_flag k b e)
-true_at (c ∷ bs) zero b a e = sym (same_flag e) ∙ a.0
-true_at (c ∷ bs) (suc k) b a e = true_at bs k b a.1 e
-
-pub reading_marked : {src : Table} {r : Lists} {s : Style} → IsFormatted src r s → AllTrue (markers_in (events_of r))
-reading_marked {src} {r} {s} w =
-    let q : ReadingOf src.text r = w.reads in
-    let all : values (q.derived_events ++ (unplaced stream_ends ∷ [])) ≡ values q.derived_events ++ (stream_ends ∷ []) = values_append q.derived_events (unplaced stream_ends ∷ []) in
-    subst (λ vs. AllTrue (markers_in vs)) (noting_values q.noted)
-    (subst (λ vs. AllTrue (markers_in vs)) (sym all) (documents_marked (stream_ends ∷ []) (formats_meant w.utf8 w.formats q) q.events tt))
+-- only a first document that may be is without a `---`
+marked_alone : {bare : Bool} {ms : List Doc} {trees : List _} {es : List Document} (k : ℕ) → DocumentsMeant bare ms trees es → slice_get (marks es) k ≡ Some false → (k ≡ 0) × (bare ≡ true)
+marked_alone k no_documents_meant e = absurd (no_flag k false e)
+marked_alone zero (document_meant {bare = bare} a more) e = (refl, turned bare (sym a.marked ∙ same_flag e)) where
+  turned : (b : Bool) → not b ≡ false → b ≡ true
+  turned true f = refl
+  turned false f = absurd (true≢false f)
+marked_alone (suc k) (document_meant a more) e = absurd (true≢false (sym (marked_alone k more e).1))
 
 -- Where documents begin.
 
@@ -113,7 +118,7 @@ formed_kinds : {src : Table} {r : Lists} {s : Style} (w : IsFormatted src r s) �
 formed_kinds {s = s} w a =
     let m : Lists = w.formats.normal in
     let rows = rows_of m s w.formats.writes.trees in
-    laid_kinds (first_gap m rows) (source_of m rows) (own_line_comments (source_of m rows) rows) a.gap (stream_kinds (setting_of m s) true a.fit) a.decos
+    laid_kinds (first_gap m rows) (source_of m rows) (own_line_comments (source_of m rows) rows) a.gap (all_kinds (setting_of m s) (is_bare m s) a.fit) a.decos
 
 -- a line that begins with dashes as a marker is such a marker alone
 alone_there : {t : List ℕ} {l : Line} {x : List ℕ} → IsUtf8 t → LineIs t l x → LineKind x → Forbidden t l.start → code t l.start ≡ 45 → IsAlone t l.start
@@ -146,22 +151,32 @@ no_document_there k d e = cc
 same_document : {a b : Doc} → Some a ≡ Some b → a ≡ b
 same_document e = cc
 
-pub start_at : {t : List ℕ} {ms : List Doc} {trees : List _} {ds : List Document} (k : ℕ) (d : Doc) → MarkersStand t ds → DocumentsMeant ms trees ds → slice_get (map doc_of ds) k ≡ Some d
-    → Forbidden t d.start × (code t d.start ≡ 45)
-start_at k d no_markers no_documents_meant e = absurd (no_document_there k d e)
-start_at {t} zero d (marker_stands f more) (document_meant a others) e = subst (λ (w : Doc). Forbidden t w.start × (code t w.start ≡ 45)) (same_document e) (f a.marked)
-start_at (suc k) d (marker_stands f more) (document_meant a others) e = start_at k d more others e
+pub start_at : {t : List ℕ} {ds : List Document} (k : ℕ) (d : Doc) → MarkersStand t ds → slice_get (map doc_of ds) k ≡ Some d → slice_get (marks ds) k ≡ Some true → Forbidden t d.start × (code t d.start ≡ 45)
+start_at k d no_markers e g = absurd (no_document_there k d e)
+start_at {t} zero d (marker_stands f more) e g = subst (λ (w : Doc). Forbidden t w.start × (code t w.start ≡ 45)) (same_document e) (f (same_flag g))
+start_at (suc k) d (marker_stands f more) e g = start_at k d more e g
 
-none_unmarked : {t : List ℕ} {o x : ℕ} {b : Bool} → b ≡ true → IsAlone t o → IsUnmarked t b o x → ⊥
-none_unmarked e a without_marker = true≢false (sym e)
-none_unmarked e a (not_alone n) = n a
-
-none_at_fault : {src : Table} {r : Lists} {s : Style} → IsFormatted src r s → (k x : ℕ) → NoMarkerLine src.text r k x → ⊥
-none_at_fault {src} {r} w k x (of_document {d = d} {marked = b} e f u) =
+pub marker_at : {src : Table} {r : Lists} {s : Style} (w : IsFormatted src r s) (k : ℕ) (d : Doc) → slice_get r.documents k ≡ Some d → slice_get (markers_in (events_of r)) k ≡ Some true
+    → Forbidden src.text d.start × (code src.text d.start ≡ 45)
+marker_at {src} {r} w k d e f =
     let q : ReadingOf src.text r = w.reads in
-    let a = formed w.utf8 w.formats in
-    let start = start_at k d (stream_markers a.utf8 q.reads.shapes.derived) (formats_meant w.utf8 w.formats q) (subst (λ (ds : List Doc). slice_get ds k ≡ Some d) q.documents e) in
-    none_unmarked (true_at (markers_in (events_of r)) k b (reading_marked w) f) (begins_alone w d.start start.0 start.1) u
+    start_at k d (stream_markers (formed w.utf8 w.formats).utf8 q.reads.shapes.derived) (subst (λ (ds : List Doc). slice_get ds k ≡ Some d) q.documents e) (subst (λ bs. slice_get bs k ≡ Some true) (reading_marks w) f)
+
+none_unmarked : {t : List ℕ} {o x : ℕ} {b m : Bool} → (b ≡ true → IsAlone t o) → (b ≡ false → m ≡ true) → IsUnmarked t b m o x → ⊥
+none_unmarked f g without_marker = true≢false (sym (g refl))
+none_unmarked f g (not_alone n) = n (f refl)
+
+may_be : (s : Style) (k : ℕ) → k ≡ 0 → keeps_starts s ≡ true → may_be_bare s k ≡ true
+may_be s k e f = ap (λ b. b && (k == 0)) f ∙ ap (λ n. n == 0) e
+
+none_at_fault : {src : Table} {r : Lists} {s : Style} → IsFormatted src r s → (k x : ℕ) → NoMarkerLine src.text r s k x → ⊥
+none_at_fault {src} {r} {s} w k x (of_document {d = d} {marked = b} e f u) =
+    let q : ReadingOf src.text r = w.reads in
+    let m : Lists = w.formats.normal in
+    none_unmarked
+    (λ g. let start = marker_at w k d e (f ∙ ap Some g) in begins_alone w d.start start.0 start.1)
+    (λ g. let first = marked_alone k (formats_meant w.utf8 w.formats q) (subst (λ bs. slice_get bs k ≡ Some false) (reading_marks w) (f ∙ ap Some g)) in
+    may_be s k first.0 (and_parts (keeps_starts s) (begins_bare m.events && not (has_lead m)) first.1).0) u
 
 pub document_start_mended : FormatsAreMended document_start_rule
 document_start_mended fixable src r s w offsets e = exactly_none offsets (none_at_fault w) e

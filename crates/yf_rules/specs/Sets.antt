@@ -48,7 +48,7 @@ abbrev pub quoting_at : Table → Lists → Style → List ℕ → Type 0
 quoting_at src reading style offsets = Exactly (Misquoted src.text reading style) offsets
 
 abbrev pub document_start_at : Table → Lists → Style → List ℕ → Type 0
-document_start_at src reading style offsets = Exactly (NoMarkerLine src.text reading) offsets
+document_start_at src reading style offsets = Exactly (NoMarkerLine src.text reading style) offsets
 
 abbrev pub byte_order_mark_at : Table → Lists → Style → List ℕ → Type 0
 byte_order_mark_at src reading style offsets = Exactly (LooseMark src.text reading) offsets

@@ -63,7 +63,7 @@ fn offsets_by(
         StyleRule::TrailingBlanks => trailing_blanks::offsets(alloc, src, reading),
         StyleRule::Indentation => indentation::offsets(alloc, src, reading, style),
         StyleRule::Quoting => quoting::offsets(alloc, src, reading, style),
-        StyleRule::DocumentStart => document_start::offsets(alloc, src, reading),
+        StyleRule::DocumentStart => document_start::offsets(alloc, src, reading, style),
         StyleRule::FinalBreak => final_break::offsets(alloc, src),
         StyleRule::LineBreaks => line_breaks::offsets(alloc, src),
         StyleRule::ByteOrderMark => byte_order_mark::offsets(alloc, src, reading),

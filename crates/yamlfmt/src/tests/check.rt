@@ -8,7 +8,7 @@ use yf_rules::with_rules::{WithRules, with_all_rules};
 /// Settings, a text that is checked, the status, and what is found or why the text is refused.
 type Row = (&'static str, &'static str, u8, &'static str);
 
-static ROWS: [Row; 37] = [
+static ROWS: [Row; 42] = [
     ("", "- a\n- b\n", 1, "1:1 document-start (fixable)\n"),
     (
         "",
@@ -99,6 +99,22 @@ static ROWS: [Row; 37] = [
         "3:3 indentation (fixable)\n",
     ),
     ("seq_indent = false\n", "---\na:\n- x\n", 0, ""),
+    // a first document without `---` stays so
+    ("document_start = \"keep\"\n", "# c\na: 1\n", 0, ""),
+    ("document_start = \"keep\"\n", "---\na: 1\n", 0, ""),
+    ("document_start = \"keep\"\n", "-\n# c\n  b\n", 0, ""),
+    (
+        "document_start = \"keep\"\n",
+        "a\n...\nb\n",
+        1,
+        "3:1 document-start (fixable)\n",
+    ),
+    (
+        "document_start = \"keep\"\n",
+        "--- a\n",
+        1,
+        "1:1 document-start (fixable)\n",
+    ),
     // what `fmt` changes beyond the rules
     ("", "---\na:  b\n", 0, ""),
     ("", "---\na : b\n", 0, ""),

@@ -3,7 +3,7 @@
 use crate::tests::answers::{Asked, is_run};
 
 /// Settings, a text, and what is written of it. That a second run changes nothing is in `laws`.
-pub static FORMATTED: [(&str, &str, &str); 49] = [
+pub static FORMATTED: [(&str, &str, &str); 66] = [
     // sequences, documents, directives and markers:
     // a sequence
     ("", "- a\n- b\n", "---\n- a\n- b\n"),
@@ -201,6 +201,87 @@ pub static FORMATTED: [(&str, &str, &str); 49] = [
         "quotes = \"single\"",
         "- \"it's\\n\"\n",
         "---\n- \"it's\\n\"\n",
+    ),
+    // a first document stays without `---`
+    ("document_start = \"keep\"", "a: 1\n", "a: 1\n"),
+    // with a comment before it, and properties
+    (
+        "document_start = \"keep\"",
+        "\n# c\n\n\n&x\na: 1\n\n# d\n\nb: 2\n",
+        "# c\n&x\na: 1\n\n# d\n\nb: 2\n",
+    ),
+    // a blank line between a comment and its first entry
+    (
+        "document_start = \"keep\"",
+        "# c\n\n\na: 1\n",
+        "# c\n\na: 1\n",
+    ),
+    // without a marker, a byte order mark and white space before it
+    (
+        "document_start = \"keep\"",
+        "...\n\u{FEFF} ...\n",
+        "\"...\"\n",
+    ),
+    // a block scalar alone, whose tail is kept, and a second document
+    (
+        "document_start = \"keep\"",
+        "|+\n  a\n\n...\n# c\nb\n",
+        "|+\n  a\n\n# c\n---\nb\n",
+    ),
+    // one with `---` keeps it
+    ("document_start = \"keep\"", "# c\n--- a\n", "# c\n---\na\n"),
+    // and one with directives
+    (
+        "document_start = \"keep\"",
+        "%YAML 1.2\n---\na\n...\nb\n",
+        "%YAML 1.2\n---\na\n---\nb\n",
+    ),
+    // a comment that would leave the document
+    (
+        "document_start = \"keep\"",
+        "- # c\n  b\n",
+        "---\n# c\n- b\n",
+    ),
+    // the same after properties, in brackets, and with no leaf
+    (
+        "document_start = \"keep\"",
+        "&x\n# c\na: 1\n",
+        "---\n&x\n# c\na: 1\n",
+    ),
+    (
+        "document_start = \"keep\"",
+        "- [ # c\n  a, b]\n",
+        "---\n# c\n- - a\n  - b\n",
+    ),
+    (
+        "document_start = \"keep\"",
+        "-\n# c\n---\nb\n",
+        "---\n-\n# c\n---\nb\n",
+    ),
+    // a comment of the second document
+    (
+        "document_start = \"keep\"",
+        "-\n--- # c\nb\n",
+        "-\n---\n# c\nb\n",
+    ),
+    // a stream of comments, and an empty one
+    ("document_start = \"keep\"", "# c\n", "# c\n"),
+    ("document_start = \"keep\"", "", ""),
+    // with steps of four, and with sequences at their keys
+    (
+        "document_start = \"keep\"\nindent = 4",
+        "# c\na:\n- b: |\n    c\n",
+        "# c\na:\n    -   b: |\n            c\n",
+    ),
+    (
+        "document_start = \"keep\"\nindent = 4\nseq_indent = false",
+        "# c\na:\n- b: |\n    c\n",
+        "# c\na:\n-   b: |\n        c\n",
+    ),
+    (
+        "document_start = \"keep\"\nseq_indent = false",
+        "a: [b, # c\n  d]\n...\n# e\n- f\n",
+        "a:\n- b  # c\n- d\n# e\n---\n- f\n",
     ),
 ];
 

@@ -5,7 +5,7 @@ ghost use Rattle.std.specs.Prelude.{◌≤◌};
 use crate::tests::answers::{formatted, reading_of};
 use crate::tests::fmt::FORMATTED;
 use std::alloc::{AllocError, Global};
-use yf_emit::style::Style;
+use yf_emit::style::{DocumentStart, Style};
 use yf_events::content::Content;
 use yf_events::reading::Reading;
 use yf_lines::fault::Fault;
@@ -116,19 +116,23 @@ fn hold_for(trial: Trial, text: &str) -> bool {
     )
 }
 
-/// Whether the laws hold of a text under both quotes, both widths and both places of sequences.
+/// Whether the laws hold of a text under both quotes, both widths, and both places of sequences and beginnings of documents.
 fn hold_at(alloc: Global, rules: &[Box<dyn Rule>], indent: usize, text: &str) -> bool
     requires from { 2 ≤ indent }
     requires to { indent ≤ 8 }
 {
     for quotes in [Quotes::Double, Quotes::Single] {
-        for seq_indent in [true, false] {
+        for (seq_indent, document_start) in [
+            (true, DocumentStart::Always),
+            (false, DocumentStart::Keep),
+        ] {
             for max_line in [40, 100] {
                 let style = Style {
                     indent,
                     max_line,
                     quotes,
                     seq_indent,
+                    document_start,
                 };
                 let trial = Trial {
                     alloc,

@@ -2,22 +2,32 @@
 
 use crate::tests::answers::{Asked, is_run};
 use std::alloc::Global;
+use yf_emit::style::DocumentStart;
 use yf_lines::quotes::Quotes;
 use yf_program::settings::style_from_toml;
 
-/// A settings file, and what it sets: `indent`, `max_line`, `quotes` and `seq_indent`.
-type Row = (&'static str, usize, usize, Quotes, bool);
+/// A settings file, and what it sets: `indent`, `max_line`, `quotes`, `seq_indent`, and whether a first document without a `---` stays so.
+type Row = (&'static str, usize, usize, Quotes, bool, bool);
 
-static SET: [Row; 5] = [
-    ("", 2, 100, Quotes::Double, true),
-    ("indent = 4", 4, 100, Quotes::Double, true),
-    ("# none\n", 2, 100, Quotes::Double, true),
+static SET: [Row; 6] = [
+    ("", 2, 100, Quotes::Double, true, false),
+    ("indent = 4", 4, 100, Quotes::Double, true, false),
+    ("# none\n", 2, 100, Quotes::Double, true, false),
     (
-        "seq_indent = false\nquotes = \"single\"\nmax_line = 40\nindent = 8\n",
+        "document_start = \"always\"",
+        2,
+        100,
+        Quotes::Double,
+        true,
+        false,
+    ),
+    (
+        "seq_indent = false\nquotes = \"single\"\ndocument_start = 'keep'\nmax_line = 40\nindent = 8\n",
         8,
         40,
         Quotes::Single,
         false,
+        true,
     ),
     (
         "max_line = 1_000\nquotes = 'double'",
@@ -25,25 +35,35 @@ static SET: [Row; 5] = [
         1000,
         Quotes::Double,
         true,
+        false,
     ),
 ];
 
 /// Whether a settings file sets these.
 fn sets(alloc: Global, row: &Row) -> bool {
     match &style_from_toml(alloc, row.0) {
-        Ok(style) => (row.1, row.2, row.3, row.4)
-            == (style.indent, style.max_line, style.quotes, style.seq_indent),
+        Ok(style) => {
+            (row.1, row.2, row.3, row.4)
+                == (style.indent, style.max_line, style.quotes, style.seq_indent)
+                && row.5 == matches!(style.document_start, DocumentStart::Keep)
+        }
         Err(_) => false,
     }
 }
 
 /// Settings files that are refused, and the line that is printed: the least wrong key.
-static REFUSED: [(&str, &str); 21] = [
+static REFUSED: [(&str, &str); 24] = [
     ("indent = 9", "config: indent\n"),
     ("tabs = 1", "config: tabs\n"),
     ("indent =", "config: \n"),
     ("indent = 9\na = 1", "config: a\n"),
     ("seq_indent = 1", "config: seq_indent\n"),
+    ("document_start = \"Keep\"", "config: document_start\n"),
+    ("document_start = true", "config: document_start\n"),
+    (
+        "seq_indent = 3\ndocument_start = 2\n",
+        "config: document_start\n",
+    ),
     ("indent = 1", "config: indent\n"),
     ("indent = -4", "config: indent\n"),
     ("indent = 2.0", "config: indent\n"),

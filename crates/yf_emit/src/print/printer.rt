@@ -11,6 +11,7 @@ ghost use Rattle.yf_emit.specs.Rows.{joined_words};
 
 use crate::form::forms::Forms;
 use crate::form::measures::Measures;
+use crate::print::bare::is_bare;
 use crate::print::looks::{entry_at, has_props_at, push_props_if};
 use crate::print::output::Output;
 use crate::print::trails::Trails;
@@ -347,13 +348,19 @@ pub(crate) fn next_document(
         (slice_get page.now.reading.now.documents documents) (draft output.old)) }
     ensures documents { IfOk result (λ next. next ≡ Printing.documents_behind documents (slice_get page.now.reading.now.documents documents)) }
 {
-    output.open_line(page.reading, &page.plan.trails, 0)?;
-    let mut next = documents;
     let list = page.reading.documents();
     if documents < list.len() {
-        begin_document(output, page, documents == 0, &list[documents])?;
-        next = documents + 1;
+        let document = &list[documents];
+        if documents == 0 && is_bare(page.reading, &page.plan.style) {
+            output.meet(page.reading, document.start);
+            return Ok(1);
+        }
+        output.open_line(page.reading, &page.plan.trails, 0)?;
+        begin_document(output, page, documents == 0, document)?;
+        push_document_mark(output)?;
+        return Ok(documents + 1);
     }
+    output.open_line(page.reading, &page.plan.trails, 0)?;
     push_document_mark(output)?;
-    Ok(next)
+    Ok(documents)
 }

@@ -3,17 +3,19 @@ ghost use Rattle.std.specs.Prelude.{◌≡◌, ◌<◌, ◌∷◌, ◌++◌, Lis
 ghost use Rattle.std.specs.Option.{option_to_list};
 ghost use Rattle.yf_events.specs.Event.{EventValue};
 ghost use Rattle.yf_events.specs.Reading.{events_of};
-ghost use Rattle.yf_rules.specs.Documents.{IsUnmarked, NoMarkerLine, markers_in};
+ghost use Rattle.yf_rules.specs.Documents.{IsUnmarked, NoMarkerLine, markers_in, may_be_bare};
 ghost use Rattle.yf_rules.specs.Exact.{Answers, Exactly};
 
 use crate::facts::notes::is_alone;
-use crate::rule::{AllocError, Global, Offsets, Reading, Src, push_found};
+use crate::rule::{AllocError, Global, Offsets, Reading, Src, Style, push_found};
 pub use crate::rules::StyleRule::DocumentStart;
+use yf_emit::style::DocumentStart as Starts;
 use yf_events::event::Event;
 
-/// The first character of content of a document without `---`, and a `---` with more than white space after it on its line.
-pub fn offsets(alloc: Global, src: &Src, reading: &Reading) -> Offsets
-    ensures { IfOk result (λ offsets. Exactly (NoMarkerLine src.now.text reading.now) offsets.items) }
+/// The first character of content of a document without `---`, but of the first document where the style keeps it so; and a `---` with more
+/// than white space after it on its line.
+pub fn offsets(alloc: Global, src: &Src, reading: &Reading, style: &Style) -> Offsets
+    ensures { IfOk result (λ offsets. Exactly (NoMarkerLine src.now.text reading.now style.now) offsets.items) }
 {
     let documents = reading.documents();
     let markers = markers(alloc, reading)?;
@@ -21,7 +23,12 @@ pub fn offsets(alloc: Global, src: &Src, reading: &Reading) -> Offsets
     for k in 0..documents.len().min(markers.len()) {
         push_found(
             &mut offsets,
-            unmarked(src.text(), markers[k], documents[k].start),
+            unmarked(
+                src.text(),
+                markers[k],
+                may_be_bare(style, k),
+                documents[k].start,
+            ),
         )?;
     }
     Ok(offsets)
@@ -50,14 +57,28 @@ fn marker_at(reading: &Reading, i: usize) -> Option<bool>
     }
 }
 
+/// Whether the document of that index may be without `---`.
+fn may_be_bare(style: &Style, k: usize) -> bool
+    ensures { result ≡ may_be_bare style.now k }
+{
+    match style.document_start {
+        Starts::Always => false,
+        Starts::Keep => k == 0,
+    }
+}
+
 /// The start of a document, if it is at fault.
-fn unmarked(text: &str, marked: bool, start: usize) -> Option<usize>
-    ensures { Answers (IsUnmarked text.now marked start) result }
+fn unmarked(text: &str, marked: bool, may_be_bare: bool, start: usize) -> Option<usize>
+    ensures { Answers (IsUnmarked text.now marked may_be_bare start) result }
 {
     if marked {
         if is_alone(text, start) {
             return None;
         }
+        return Some(start);
+    }
+    if may_be_bare {
+        return None;
     }
     Some(start)
 }

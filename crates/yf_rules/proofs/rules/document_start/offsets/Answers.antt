@@ -12,8 +12,8 @@ loop-k-preserved c =
     let ms = c.in_ok-markers.markers.items in
     let l : c.loop-k.k < length ds = omega (arith, c.min-k-end.ensures, c.loop-k-test.true) in
     let m : c.loop-k.k < length ms = omega (arith, c.min-k-end.ensures, c.len.ensures, c.loop-k-test.true) in
-    answer_found (NoMarkerLine t r) c.loop-k.k _ _ c.unmarked.result c.loop-k.invariant
-    (document_answered t c.text.result.now r ds ms c.loop-k.k c.index-documents-k.result c.index.result.now c.unmarked.result c.text.ensures c.documents-documents.ensures
+    answer_found (NoMarkerLine t r c.args.style.now) c.loop-k.k _ _ c.unmarked.result c.loop-k.invariant
+    (document_answered t c.text.result.now r c.args.style.now ds ms c.loop-k.k c.index-documents-k.result c.index.result.now c.may_be_bare.result c.unmarked.result c.text.ensures c.may_be_bare.ensures c.documents-documents.ensures
     c.in_ok-markers.ensures l m c.index.ensures c.unmarked.ensures)
     c.in_ok-push_found.ensures
 
