@@ -6,7 +6,11 @@ use yf_explain::{Page, explain, page_at};
 use yf_lines::fault::Fault;
 
 /// The keys, and what each may be set to.
-const ALLOWED: [(&str, &str); 4] = [
+const ALLOWED: [(&str, &str); 5] = [
+    (
+        "document_start",
+        "`document_start` is \"always\" or \"keep\"",
+    ),
     ("indent", "`indent` is a whole number from 2 to 8"),
     ("max_line", "`max_line` is a whole number from 40 to 1000"),
     ("quotes", "`quotes` is \"double\" or \"single\""),
@@ -14,7 +18,8 @@ const ALLOWED: [(&str, &str); 4] = [
 ];
 
 /// What is told of a key that is no other.
-const NO_KEY: &str = "the keys are `indent`, `max_line`, `quotes` and `seq_indent`";
+const NO_KEY: &str =
+    "the keys are `document_start`, `indent`, `max_line`, `quotes` and `seq_indent`";
 
 /// What is told of the settings' bytes, where a key is refused, or all of them, where it is empty.
 ///
