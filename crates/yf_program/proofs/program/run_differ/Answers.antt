@@ -14,6 +14,6 @@ pub returns : goal.returns
 returns g c =
     let keeps = subst (λ (b : List ℕ). Keeps (g.R.Read.remaining c.args.reader.now) b c.in-Err.fault) (sym c.as_slice.ensures.value) c.in-Err.ensures.bytes in
     let refused = subst (λ (name : List ℕ). RefusedDiff c.args.style.now name (g.R.Read.remaining c.args.reader.now) (g.R.Source.has_failed c.args.reader.now) (g.R.Source.has_failed c.run_fmt_diff.new.reader)
-        (g.W.Write.contents c.args.writer.now) (g.W.Write.contents c.run_fmt_diff.new.writer) (g.W.Sink.has_failed c.args.writer.now) (g.W.Sink.has_failed c.run_fmt_diff.new.writer) c.in-Err.fault)
-        c.diff_name-name.ensures c.in-Err.ensures.refusals in
+    (g.W.Write.contents c.args.writer.now) (g.W.Write.contents c.run_fmt_diff.new.writer) (g.W.Sink.has_failed c.args.writer.now) (g.W.Sink.has_failed c.run_fmt_diff.new.writer) c.in-Err.fault)
+    c.diff_name-name.ensures c.in-Err.ensures.refusals in
     inr (c.in-Err.fault, refused, (c.as_slice.result.now, keeps, c.report_input.ensures))
