@@ -18,8 +18,7 @@ const ALLOWED: [(&str, &str); 5] = [
 ];
 
 /// What is told of a key that is no other.
-const NO_KEY: &str =
-    "the keys are `document_start`, `indent`, `max_line`, `quotes` and `seq_indent`";
+const NO_KEY: &str = "keys: `document_start`, `indent`, `max_line`, `quotes`, `seq_indent`";
 
 /// What is told of the settings' bytes, where a key is refused, or all of them, where it is empty.
 ///
