@@ -169,7 +169,8 @@ def main():
         write(os.path.join(folder, 's.toml'), b'indent = 9\n')
         runs.in_turn(['fmt', '--explain', '--config', 's.toml'], b'- a\n')
         write(os.path.join(folder, 'x.yaml'), b'a: [\n  1\nb: c\n')
-        runs.in_turn(['check', '--explain', 'x.yaml', 'none.yaml'], b'')
+        for name in ('x.yaml', 'none.yaml'):
+            runs.in_turn(['check', '--explain', name], b'')
         write(os.path.join(folder, 'a.yaml'), b'- a\n')
         for words in (['check', 'a.yaml'], ['check', '--without', 'quoting,document-start', 'a.yaml']):
             runs.in_turn(words, b'')
