@@ -280,7 +280,7 @@ repeated('items-empty', '-\n')
 repeated('items-long', '- ' + 'a' * 2000 + '\n')
 repeated('items-in-keys', 'k:\n- a\n')
 repeated('mixed-refused-late', '- a\n', '', 'b: c: d\n')
-# What is refused is read a second time, and what stands before it is looked at again.
+# What is refused is read a second time, and what is before it is looked at again.
 repeated('refused-open-quote', 'a\n ', '"')
 repeated('refused-open-brackets', 'a,\n ', '[')
 repeated('refused-open-brackets-deep', 'a, ', '[' * 1000)

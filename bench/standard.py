@@ -18,7 +18,7 @@ PAGE = os.path.join(TOP, "docs", "STANDARD.md")
 # The conditions that are reading rules, and readings of this project, by the name of the rule.
 RULES = {
     "not-before-line-feed": "one break",
-    "not-behind-carriage-return": "one break",
+    "not-after-carriage-return": "one break",
     "name-ends": "longest names",
     "tag-ends": "longest names",
     "reserved-name": "reserved names",
@@ -105,7 +105,7 @@ Each is a condition, in bold in the table below; with `letter` each asks nothing
 
 | Rule | Condition | What it asks | What the letter alone derives besides |
 |---|---|---|---|
-| one break (N1) | `not-before-line-feed`, `not-behind-carriage-return` | CR directly before LF is one break with it | two breaks there |
+| one break (N1) | `not-before-line-feed`, `not-after-carriage-return` | CR directly before LF is one break with it | two breaks there |
 | longest names | `name-ends`, `tag-ends` | a name and a suffix are as long as their characters go | `*a: b` with the key `*a` |
 | reserved names (N3) | `reserved-name` | a reserved directive's name is neither `YAML` nor `TAG` | `%YAML 1.2 x` |
 | words of directives | `no-comment` | no parameter begins with `#` | `%F #` with the parameter `#` |
@@ -175,10 +175,12 @@ def stands():
     found = {}
     with open(TABLE, encoding="utf-8") as file:
         text = file.read()
-    for name, right in re.findall(r"^Stands t low s e \(?([^\s()]+)[^=]*? i j =((?:.*\n)(?:    .*\n)*)", text, re.M):
+    for name, right in re.findall(r"^StandsFor t low s e \(?([^\s()]+)[^=]*? i j =((?:.*\n)(?:    .*\n)*)", text, re.M):
         right = " ".join(right.split())
         right = re.sub(r"^O(?:n|ff) s \((.*)\)$", r"\1", right)
         found.setdefault(name, right.removesuffix(" i j"))
+    if len(found) < 100:
+        sys.exit(f"standard.py: {TABLE} has {len(found)} clauses of StandsFor: is it called otherwise now?")
     return found
 
 

@@ -16,7 +16,7 @@ TOP = os.path.dirname(os.path.dirname(os.path.abspath(__file__)))
 SPECS = "crates/yf_standard/specs/"
 RESULT = os.path.join(TOP, "bench", "standard_edits.txt")
 
-# The number of the production, the file, what stands there once, and what it becomes.
+# The number of the production, the file, what is there once, and what it becomes.
 EDITS = [
     (36, "Characters", "(0x61 to 0x66)", "(0x61 to 0x67)"),
     (40, "Productions", "ns-uri-char less c-tag less c-flow-indicator", "ns-uri-char less c-tag"),

@@ -178,7 +178,7 @@ _yamlfmt() {
     case $verb in
 %s
     esac
-    # After an option with a value stands a file, or names with commas between; `--config=` comes in three words.
+    # After an option with a value is a file, or names with commas between; `--config=` comes in three words.
     [[ $word != = ]] || word=''
     [[ $previous != = ]] || previous=${COMP_WORDS[COMP_CWORD - 2]}
     case $previous in

@@ -2,16 +2,16 @@
 
 use std::alloc::{AllocError, Global};
 
-/// What stands before a part's text.
+/// What is before a part's text.
 #[derive(Clone, Copy)]
-pub enum Slot {
+pub enum Preamble {
     /// Nothing.
     Nothing,
     /// One of the words.
     Word,
     /// A number.
     Number,
-    /// A number that stands once.
+    /// A number that occurs once.
     Count,
     /// The sign of slots itself.
     Sign,
@@ -19,44 +19,44 @@ pub enum Slot {
 
 /// A slot with the text after it.
 #[derive(Clone, Copy)]
-pub struct Part<'a> {
-    pub slot: Slot,
+pub struct TextPart<'a> {
+    pub slot: Preamble,
     pub text: &'a str,
 }
 
-/// A slot by its letter, with the text after that; before a text with no such letter stands the sign.
-fn part_of(text: &str) -> Part<'_> {
+/// A slot by its letter, with the text after that; before a text with no such letter is the sign.
+fn part_of(text: &str) -> TextPart<'_> {
     if let Some(text) = text.strip_prefix('w') {
-        return Part {
-            slot: Slot::Word,
+        return TextPart {
+            slot: Preamble::Word,
             text,
         };
     }
     if let Some(text) = text.strip_prefix('n') {
-        return Part {
-            slot: Slot::Number,
+        return TextPart {
+            slot: Preamble::Number,
             text,
         };
     }
     if let Some(text) = text.strip_prefix('i') {
-        return Part {
-            slot: Slot::Count,
+        return TextPart {
+            slot: Preamble::Count,
             text,
         };
     }
-    Part {
-        slot: Slot::Sign,
+    TextPart {
+        slot: Preamble::Sign,
         text,
     }
 }
 
 /// The parts of a piece.
-fn parts_of(alloc: Global, piece: &str) -> Result<Vec<Part<'_>>, AllocError> {
+fn parts_of(alloc: Global, piece: &str) -> Result<Vec<TextPart<'_>>, AllocError> {
     let mut parts = Vec::new(alloc);
     let mut texts = piece.split('@');
     if let Some(text) = texts.next() {
-        parts.push(Part {
-            slot: Slot::Nothing,
+        parts.push(TextPart {
+            slot: Preamble::Nothing,
             text,
         })?;
     }
@@ -67,7 +67,7 @@ fn parts_of(alloc: Global, piece: &str) -> Result<Vec<Part<'_>>, AllocError> {
 }
 
 /// All pieces of a text, each with its parts.
-pub fn pieces_of(alloc: Global, text: &str) -> Result<Vec<Vec<Part<'_>>>, AllocError> {
+pub fn pieces_of(alloc: Global, text: &str) -> Result<Vec<Vec<TextPart<'_>>>, AllocError> {
     let mut pieces = Vec::new(alloc);
     for piece in text.split("%%\n") {
         pieces.push(parts_of(alloc, piece)?)?;

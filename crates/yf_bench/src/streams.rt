@@ -1,12 +1,12 @@
 //! Streams that are made of pieces by a seed.
 
-use crate::pieces::{Part, Slot, pieces_of};
+use crate::pieces::{Preamble, TextPart, pieces_of};
 use itoa::Buffer;
 use rand_core::Rng;
 use rand_pcg::Pcg32;
 use std::alloc::{AllocError, Global};
 
-/// What stands where a piece has a slot for a word.
+/// What is where a piece has a slot for a word.
 const WORDS: [&str; 32] = [
     "web",
     "database",
@@ -45,7 +45,7 @@ const WORDS: [&str; 32] = [
 /// A maker of streams.
 #[derive(Drop)]
 pub struct Streams<'a> {
-    pieces: Vec<Vec<Part<'a>>>,
+    pieces: Vec<Vec<TextPart<'a>>>,
     generator: Pcg32,
     count: u64,
     text: String,
@@ -80,17 +80,17 @@ impl<'a> Streams<'a> {
         }
         for part in self.pieces[index % count].as_slice() {
             match part.slot {
-                Slot::Nothing => {}
-                Slot::Sign => self.text.push('@')?,
-                Slot::Word => {
+                Preamble::Nothing => {}
+                Preamble::Sign => self.text.push('@')?,
+                Preamble::Word => {
                     let word = self.generator.next_u32() as usize;
                     self.text.push_str(WORDS[word % WORDS.len()])?;
                 }
-                Slot::Number => {
+                Preamble::Number => {
                     let number = self.generator.next_u32() >> 18;
                     self.text.push_str(Buffer::new().format(number))?;
                 }
-                Slot::Count => {
+                Preamble::Count => {
                     self.count = self.count.wrapping_add(1);
                     self.text.push_str(Buffer::new().format(self.count))?;
                 }

@@ -3,14 +3,14 @@
 use Rattle.std.specs.Prelude.{◌≡◌, ◌≢◌, ℕ, List, Option, Some, None}
 use Rattle.yf_chars.specs.Text.{code}
 use Rattle.yf_events.specs.declared.event.Entry as TheEntry
-use Rattle.yf_grammar.specs.BlockParser.{Ahead, Props, Held as HeldValue, Joins, Apart}
+use Rattle.yf_grammar.specs.BlockReader.BlockParser.{Ahead, Props, PropertiesHeld as HeldValue, Joins, Apart}
 use Rattle.yf_flow.specs.declared.node.Lead.{Lead}
 use Rattle.yf_block.specs.declared.content.Belonging.{Belonging}
 use Rattle.yf_block.specs.declared.content.Belonging.TheVariants.{Nothing as NoBelonging, Joined, Apart as ApartBelonging}
 use Rattle.yf_block.specs.declared.properties.PlacedProperties.{PlacedProperties}
-use Rattle.yf_block.specs.PropertiesAnswers.{LineProperties, Holds, held_lead, lead_at}
+use Rattle.yf_block.specs.PropertiesAnswers.{LineProperties, HoldsProperties, held_lead, lead_at}
 
--- what stands ahead of a node whose own properties on the line from p on are these, or which has none
+-- what is ahead of a node whose own properties on the line from p on are these, or which has none
 pub data AfterLine (t : List ℕ) (p : ℕ) (a : Ahead) : Option PlacedProperties → Ahead → Type 0 where
   none_more : AfterLine t p a None a
   more_there : {held : PlacedProperties} {z : Ahead} (l : LineProperties t p held) → Joins a l.value p held.end z → AfterLine t p a (Some held) z
@@ -25,7 +25,7 @@ pub record AllOfNode (t : List ℕ) (p at : ℕ) (a : Ahead) (inner : Option Pla
   pub ahead : Ahead
   pub held : PlacedProperties
   pub joined : AfterLine t p a inner ahead
-  pub holds : Holds ahead held
+  pub holds : HoldsProperties ahead held
   pub lead_is : lead ≡ held_lead held entry
   pub no_alias : code t at ≢ 42
 

@@ -9,25 +9,25 @@ use Rattle.yf_comments.specs.Comment.{CommentValue}
 use Rattle.yf_comments.specs.Comments.{LineEnd, Row}
 use Rattle.yf_props.specs.Props.{props_value}
 use Rattle.yf_events.specs.declared.part.Part.{Part}
-use Rattle.yf_grammar.specs.Meaning.{◌⊕◌}
-use Rattle.yf_grammar.specs.Parser.{Found, only}
-use Rattle.yf_grammar.specs.BlockParser.{LinesEnd, Ahead, Nothing, Indicator, Props, Held as HeldValue, SignAt, Origin, First, BlockTask, Awaited, Below, Whole}
-use Rattle.yf_grammar.specs.Halts.{Halts}
-use Rattle.yf_grammar.specs.BlockStack.{Layer}
-use Rattle.yf_grammar.specs.BlockStates.{NodeAt, NodeRead, EntryAt, AllWithin}
+use Rattle.yf_grammar.specs.Productions.Meaning.{◌⊕◌}
+use Rattle.yf_grammar.specs.FlowReader.Parser.{ParsedNode, only}
+use Rattle.yf_grammar.specs.BlockReader.BlockParser.{LinesEnd, Ahead, Nothing, Indicator, Props, PropertiesHeld as HeldValue, SignAt, Origin, First, BlockTask, Awaited, Below, Whole}
+use Rattle.yf_grammar.specs.BlockReader.Halts.{Halts}
+use Rattle.yf_grammar.specs.BlockReader.BlockStack.{Layer}
+use Rattle.yf_grammar.specs.BlockReader.BlockStates.{NodeAt, NodeRead, EntryAt, AllWithin}
 use Rattle.yf_block.specs.declared.frame.Frame.{Frame}
-use Rattle.yf_block.specs.declared.frame.Progress.{Progress}
+use Rattle.yf_block.specs.declared.frame.BlockCursor.{BlockCursor}
 use Rattle.yf_block.specs.declared.frame.Step.{Step}
 use Rattle.yf_block.specs.declared.frame.Step.TheVariants.{Node, Line, Resume, Done, Failed, TooDeep}
-use Rattle.yf_block.specs.declared.frame.Wanted.{Wanted}
+use Rattle.yf_block.specs.declared.frame.AwaitedNode.{AwaitedNode}
 use Rattle.yf_block.specs.declared.properties.PlacedProperties.{PlacedProperties}
-use Rattle.yf_block.specs.declared.resume.Next.{Next}
+use Rattle.yf_block.specs.declared.resume.ResumedFrame.{ResumedFrame}
 use Rattle.yf_block.specs.declared.resume.Fit.TheVariants.{EndsBefore}
-use Rattle.yf_block.specs.Fits.{FitsLine, PairLine}
-use Rattle.yf_block.specs.Looks.{NotWithinBreak}
+use Rattle.yf_block.specs.LineFits.{FitsLine, PairLine}
+use Rattle.yf_block.specs.LookTests.{NotWithinBreak}
 use Rattle.yf_block.specs.BlockTied.{stage_entry, layers_entry, begins, ahead_comments, all_written, entries_written, ReadTied, CollectionTied, FrameTied, StackTied, halt_end, EntryTied}
 
--- properties on hold, and what stands ahead of the node that is awaited
+-- properties on hold, and what is ahead of the node that is awaited
 pub record PropertiesTied (h : HeldValue) (held : PlacedProperties) : Type 0 where
   pub start : held.start ≡ h.start
   pub end : held.end ≡ h.end
@@ -43,9 +43,9 @@ abbrev pub is_out : Ctx → Bool
 is_out BlockOut = true
 is_out _ = false
 
--- the node that is awaited, in the indentation n and the context c, with what stands ahead of it; no collection round it is deeper, and
+-- the node that is awaited, in the indentation n and the context c, with what is ahead of it; no collection round it is deeper, and
 -- within one it may always be empty
-pub record WantedTied (t : List ℕ) (floor : ℕ) (ls : List Layer) (n : ℤ) (c : Ctx) (a : Ahead) (wanted : Wanted) : Type 0 where
+pub record WantedTied (t : List ℕ) (floor : ℕ) (ls : List Layer) (n : ℤ) (c : Ctx) (a : Ahead) (wanted : AwaitedNode) : Type 0 where
   pub least : pos wanted.least ≡ n +ℤ pos 1
   pub out : wanted.out ≡ is_out c
   pub outer : AheadTied a wanted.outer
@@ -56,14 +56,14 @@ pub record WantedTied (t : List ℕ) (floor : ℕ) (ls : List Layer) (n : ℤ) (
   pub narrow : wanted.least ≤ 2 ^ 30 + 1
 
 -- a node is awaited after an indicator, which ends there
-pub record AtNode (t : List ℕ) (d : ℕ) (root : BlockTask) (before : Part) (frames : List Frame) (p : ℕ) (progress : Progress) (part : Part) : Type 0 where
+pub record AtNode (t : List ℕ) (d : ℕ) (root : BlockTask) (before : Part) (frames : List Frame) (p : ℕ) (progress : BlockCursor) (part : Part) : Type 0 where
   pub layers : List Layer
   pub room : ℕ
   pub comments : List CommentValue
   pub indentation : ℤ
   pub context : Ctx
   pub ahead : Ahead
-  pub halt : Option Found
+  pub halt : Option ParsedNode
   pub node : NodeAt t d root layers room comments (Awaited progress.wanted.compact indentation context ahead p) halt
   pub wanted : WantedTied t progress.floor layers indentation context ahead progress.wanted
   pub shallow : progress.wanted.compact ≡ true → (0 < progress.wanted.least) × (progress.wanted.least ≤ p)
@@ -74,7 +74,7 @@ pub record AtNode (t : List ℕ) (d : ℕ) (root : BlockTask) (before : Part) (f
   pub read : ReadTied t before (all_written layers ⊕ only (comments ++ ahead_comments ahead) 0) progress part
 
 -- a node is awaited at the start of a line, the end of the line before it and its comment lines having been read
-pub record AtLine (t : List ℕ) (d : ℕ) (root : BlockTask) (before : Part) (frames : List Frame) (p : ℕ) (progress : Progress) (part : Part) : Type 0 where
+pub record AtLine (t : List ℕ) (d : ℕ) (root : BlockTask) (before : Part) (frames : List Frame) (p : ℕ) (progress : BlockCursor) (part : Part) : Type 0 where
   pub layers : List Layer
   pub room : ℕ
   pub comments : List CommentValue
@@ -82,7 +82,7 @@ pub record AtLine (t : List ℕ) (d : ℕ) (root : BlockTask) (before : Part) (f
   pub context : Ctx
   pub ahead : Ahead
   pub told : List CommentValue
-  pub halt : Option Found
+  pub halt : Option ParsedNode
   pub node : NodeAt t d root layers room comments (Below indentation context ahead progress.from) halt
   pub line : Chosen (LineEnd t progress.from) p told
   pub started : LineStart t progress.from → ahead ≡ Nothing
@@ -95,11 +95,11 @@ pub record AtLine (t : List ℕ) (d : ℕ) (root : BlockTask) (before : Part) (f
   pub read : ReadTied t before (all_written layers ⊕ only (comments ++ (ahead_comments ahead ++ told)) 0) progress part
 
 -- a node has been read whole
-pub record AtResume (t : List ℕ) (d : ℕ) (root : BlockTask) (before : Part) (frames : List Frame) (p : ℕ) (progress : Progress) (part : Part) : Type 0 where
+pub record AtResume (t : List ℕ) (d : ℕ) (root : BlockTask) (before : Part) (frames : List Frame) (p : ℕ) (progress : BlockCursor) (part : Part) : Type 0 where
   pub layers : List Layer
   pub room : ℕ
-  pub answer : Found
-  pub halt : Option Found
+  pub answer : ParsedNode
+  pub halt : Option ParsedNode
   pub node : NodeRead t d root layers room answer p halt
   pub outside : NotWithinBreak t p
   pub past : progress.floor ≤ p
@@ -108,12 +108,12 @@ pub record AtResume (t : List ℕ) (d : ℕ) (root : BlockTask) (before : Part) 
   pub read : ReadTied t before (all_written layers ⊕ begins (layers_entry layers) answer.meaning) progress part
 
 -- the same, where the frame of the innermost collection is no longer on the stack
-pub record AtTop (t : List ℕ) (d : ℕ) (root : BlockTask) (before : Part) (frames : List Frame) (p : ℕ) (top : Frame) (progress : Progress) (part : Part) : Type 0 where
+pub record AtTop (t : List ℕ) (d : ℕ) (root : BlockTask) (before : Part) (frames : List Frame) (p : ℕ) (top : Frame) (progress : BlockCursor) (part : Part) : Type 0 where
   pub layer : Layer
   pub layers : List Layer
   pub room : ℕ
-  pub answer : Found
-  pub halt : Option Found
+  pub answer : ParsedNode
+  pub halt : Option ParsedNode
   pub node : NodeRead t d root (layer ∷ layers) room answer p halt
   pub outside : NotWithinBreak t p
   pub past : progress.floor ≤ p
@@ -124,24 +124,24 @@ pub record AtTop (t : List ℕ) (d : ℕ) (root : BlockTask) (before : Part) (fr
   pub read : ReadTied t before (all_written (layer ∷ layers) ⊕ begins (stage_entry layer.stage) answer.meaning) progress part
 
 -- and the line that begins there does not end that collection
-pub record AtFit (t : List ℕ) (d : ℕ) (root : BlockTask) (before : Part) (frames : List Frame) (p : ℕ) (next : Next) (progress : Progress) (part : Part) : Type 0 where
+pub record AtFit (t : List ℕ) (d : ℕ) (root : BlockTask) (before : Part) (frames : List Frame) (p : ℕ) (next : ResumedFrame) (progress : BlockCursor) (part : Part) : Type 0 where
   pub top : AtTop t d root before frames p next.frame progress part
   pub line : FitsLine t p next.frame next.fit
   pub goes_on : next.fit ≡ EndsBefore → ⊥
 
 -- an entry of a mapping may go on there, the line of which begins after the node
-pub record AtPair (frame : Frame) (t : List ℕ) (d : ℕ) (root : BlockTask) (before : Part) (frames : List Frame) (p : ℕ) (progress : Progress) (part : Part) : Type 0 where
+pub record AtPair (frame : Frame) (t : List ℕ) (d : ℕ) (root : BlockTask) (before : Part) (frames : List Frame) (p : ℕ) (progress : BlockCursor) (part : Part) : Type 0 where
   pub line : ℕ
   pub fits : PairLine t line frame p
   pub top : AtTop t d root before frames line frame progress part
 
 -- an entry of a collection begins there, whose frame is not on the stack; the first one of a mapping with a `?` or a `:`
-pub record AtEntry (t : List ℕ) (d : ℕ) (root : BlockTask) (before : Part) (frames : List Frame) (frame : Frame) (p : ℕ) (progress : Progress) (part : Part) : Type 0 where
+pub record AtEntry (t : List ℕ) (d : ℕ) (root : BlockTask) (before : Part) (frames : List Frame) (frame : Frame) (p : ℕ) (progress : BlockCursor) (part : Part) : Type 0 where
   pub layer : Layer
   pub layers : List Layer
   pub room : ℕ
   pub origin : Origin
-  pub halt : Option Found
+  pub halt : Option ParsedNode
   pub entry : EntryAt t d root layer layers room origin p halt
   pub order : AllWithin layer.column layers
   pub shallow : layer.column ≤ p
@@ -154,9 +154,9 @@ pub record AtEntry (t : List ℕ) (d : ℕ) (root : BlockTask) (before : Part) (
   pub read : ReadTied t before (entries_written layer layers) progress part
 
 -- the outermost node has been read whole; or there is none, and its last halt is what is left
-pub record AtDone (t : List ℕ) (d : ℕ) (root : BlockTask) (before : Part) (p : ℕ) (progress : Progress) (part : Part) : Type 0 where
-  pub answer : Found
-  pub halt : Option Found
+pub record AtDone (t : List ℕ) (d : ℕ) (root : BlockTask) (before : Part) (p : ℕ) (progress : BlockCursor) (part : Part) : Type 0 where
+  pub answer : ParsedNode
+  pub halt : Option ParsedNode
   pub whole : Whole t d root (Some answer)
   pub halts : Halts t d [] root halt
   pub end : answer.end ≡ p
@@ -164,18 +164,18 @@ pub record AtDone (t : List ℕ) (d : ℕ) (root : BlockTask) (before : Part) (p
   pub read : ReadTied t before answer.meaning progress part
 
 -- nothing is found, or what is found leaves a line of the text that is none of comments: a comment that no break ends
-pub data Unfinished (t : List ℕ) (d : ℕ) (root : BlockTask) : Type 0 where
-  none_found : Whole t d root None → Unfinished t d root
-  line_left : {f : Found} → Whole t d root (Some f) → (LinesEnd t f.end → ⊥) → Stuck (Row t f.end) → Unfinished t d root
+pub data TextIsLeft (t : List ℕ) (d : ℕ) (root : BlockTask) : Type 0 where
+  none_found : Whole t d root None → TextIsLeft t d root
+  line_left : {f : ParsedNode} → Whole t d root (Some f) → (LinesEnd t f.end → ⊥) → Stuck (Row t f.end) → TextIsLeft t d root
 
-pub record AtFailed (t : List ℕ) (d : ℕ) (root : BlockTask) (progress : Progress) : Type 0 where
-  pub halt : Option Found
-  pub unfinished : Unfinished t d root
+pub record AtFailed (t : List ℕ) (d : ℕ) (root : BlockTask) (progress : BlockCursor) : Type 0 where
+  pub halt : Option ParsedNode
+  pub unfinished : TextIsLeft t d root
   pub halts : Halts t d [] root halt
   pub halted : progress.halt ≡ halt_end halt
 
 -- what comes next
-abbrev pub BlockTied : List ℕ → ℕ → BlockTask → Part → List Frame → Step → Progress → Part → Type 0
+abbrev pub BlockTied : List ℕ → ℕ → BlockTask → Part → List Frame → Step → BlockCursor → Part → Type 0
 BlockTied t d root before frames (Node p) progress part = AtNode t d root before frames p progress part
 BlockTied t d root before frames (Line p) progress part = AtLine t d root before frames p progress part
 BlockTied t d root before frames (Resume p) progress part = AtResume t d root before frames p progress part

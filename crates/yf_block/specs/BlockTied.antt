@@ -5,25 +5,25 @@ use Rattle.std.specs.Str.{IsUtf8}
 use Rattle.yf_comments.specs.Comment.{CommentValue}
 use Rattle.yf_comments.specs.Comments.{Blank}
 use Rattle.yf_props.specs.Props.{PropsValue, no_props}
-use Rattle.yf_events.specs.Event.{Placed}
+use Rattle.yf_events.specs.Event.{EventInText}
 use Rattle.yf_events.specs.declared.event.Entry as TheEntry
 use Rattle.yf_events.specs.declared.part.Part.{Part}
-use Rattle.yf_grammar.specs.Meaning.{Meaning, ◌⊕◌, noting, start_of, event_with, entering, empty_node}
-use Rattle.yf_grammar.specs.Part.{Noting, NotedSince, floor_behind}
-use Rattle.yf_grammar.specs.Parser.{Found, only}
-use Rattle.yf_grammar.specs.BlockParser.{Ahead, Props}
-use Rattle.yf_grammar.specs.BlockStack.{Layer, Stage, AtItem, AtKey, AtLoneValue, AtValue, asks, asked}
-use Rattle.yf_grammar.specs.BlockStates.{Deepening}
-use Rattle.yf_flow.specs.Begun.{Added}
+use Rattle.yf_grammar.specs.Productions.Meaning.{Meaning, ◌⊕◌, noting, start_of, event_with, entering, empty_node}
+use Rattle.yf_grammar.specs.Productions.ReadParts.{Noting, NotedSince, floor_after_event}
+use Rattle.yf_grammar.specs.FlowReader.Parser.{ParsedNode, only}
+use Rattle.yf_grammar.specs.BlockReader.BlockParser.{Ahead, Props}
+use Rattle.yf_grammar.specs.BlockReader.BlockStack.{Layer, Stage, AtItem, AtKey, AtLoneValue, AtValue, asks, asked}
+use Rattle.yf_grammar.specs.BlockReader.BlockStates.{LayersDeepen}
+use Rattle.yf_flow.specs.NodeStarts.{PartGrown}
 use Rattle.yf_block.specs.declared.frame.Frame.{Frame}
-use Rattle.yf_block.specs.declared.frame.Kind.{Kind}
-use Rattle.yf_block.specs.declared.frame.Kind.TheVariants.{Sequence, Mapping}
-use Rattle.yf_block.specs.declared.frame.Progress.{Progress}
+use Rattle.yf_block.specs.declared.frame.CollectionKind.{CollectionKind}
+use Rattle.yf_block.specs.declared.frame.CollectionKind.TheVariants.{Sequence, Mapping}
+use Rattle.yf_block.specs.declared.frame.BlockCursor.{BlockCursor}
 use Rattle.yf_block.specs.declared.frame.Step.{Step}
 use Rattle.yf_block.specs.declared.frame.Step.TheVariants.{Node}
-use Rattle.yf_block.specs.declared.frame.Wanted.{Wanted}
+use Rattle.yf_block.specs.declared.frame.AwaitedNode.{AwaitedNode}
 
-abbrev pub kind_of : Bool → Kind
+abbrev pub kind_of : Bool → CollectionKind
 kind_of true = Sequence
 kind_of false = Mapping
 
@@ -49,7 +49,7 @@ stage_written (AtKey i) = only [] 0
 stage_written (AtLoneValue i) = entering i (Some i) (empty_node i)
 stage_written (AtValue i k f) = entering i (Some k) f.meaning
 
--- what stands ahead of a node: its properties with their comments, and where it begins if it would begin at p without them
+-- what is ahead of a node: its properties with their comments, and where it begins if it would begin at p without them
 abbrev pub ahead_comments : Ahead → List CommentValue
 ahead_comments (Props h) = h.value.comments
 ahead_comments _ = []
@@ -72,10 +72,10 @@ entry_at None = None
 entry_at (Some i) = Some (record { start = i; colon = None; blank_before = false })
 
 -- one event; the one that begins a collection, while its end is not known
-abbrev pub one : Placed → Meaning
+abbrev pub one : EventInText → Meaning
 one e = record { events = e ∷ []; comments = []; escapes = []; finish = 0 }
 
-abbrev pub begun_event : Layer → Option TheEntry.Entry → Placed
+abbrev pub begun_event : Layer → Option TheEntry.Entry → EventInText
 begun_event l entry = record {
   event = event_with (ahead_props l.ahead) (start_of l.sequence false);
   span = Some (record { start = ahead_start l.ahead l.first; end = l.first });
@@ -97,15 +97,15 @@ abbrev pub entries_written : Layer → List Layer → Meaning
 entries_written l ls = entries_after (all_written ls) l ls
 
 -- a part has so much more than one before, with the notes of its entries filled in
-pub record Written (t : List ℕ) (before : Part) (x : Meaning) (part : Part) : Type 0 where
-  pub events : List Placed
+pub record PartSoFar (t : List ℕ) (before : Part) (x : Meaning) (part : Part) : Type 0 where
+  pub events : List EventInText
   pub noting : Noting t 0 x.events events
-  pub added : Added before part events x.comments x.escapes
+  pub added : PartGrown before part events x.comments x.escapes
 
 -- the end of the last block scalar of some events
-abbrev pub floor_after : ℕ → List Placed → ℕ
+abbrev pub floor_after : ℕ → List EventInText → ℕ
 floor_after floor [] = floor
-floor_after floor (e ∷ es) = floor_after (floor_behind floor e e.event) es
+floor_after floor (e ∷ es) = floor_after (floor_after_event floor e e.event) es
 
 -- a text as the program reads them: of 1 GiB at most
 pub record TextTied (t : List ℕ) : Type 0 where
@@ -113,11 +113,11 @@ pub record TextTied (t : List ℕ) : Type 0 where
   pub size : length t ≤ 2 ^ 30
 
 -- so much has been read; the last block scalar ends where a line begins, or at the end of the text
-pub record ReadTied (t : List ℕ) (before : Part) (x : Meaning) (progress : Progress) (part : Part) : Type 0 where
+pub record ReadTied (t : List ℕ) (before : Part) (x : Meaning) (progress : BlockCursor) (part : Part) : Type 0 where
   pub text : TextTied t
   pub floor : progress.floor ≡ floor_after 0 x.events
   pub floor_line : progress.floor < length t → Blank t progress.floor
-  pub written : Written t before x part
+  pub written : PartSoFar t before x part
 
 -- a frame stands for a collection in which an entry is awaited, before which part had m events; for one in which a node is awaited
 pub record CollectionTied (m : ℕ) (l : Layer) (ls : List Layer) (f : Frame) : Type 0 where
@@ -141,13 +141,13 @@ colons_if true = 1
 colons_if false = 0
 
 -- where what is left of a broken node ends
-abbrev pub halt_end : Option Found → Option ℕ
+abbrev pub halt_end : Option ParsedNode → Option ℕ
 halt_end None = None
 halt_end (Some f) = Some f.end
 
 -- the open collections, and the last place at which all of them may end
-pub record StackTied (m : ℕ) (ls : List Layer) (frames : List Frame) (progress : Progress) (halt : Option Found) : Type 0 where
-  pub order : Deepening ls
+pub record StackTied (m : ℕ) (ls : List Layer) (frames : List Frame) (progress : BlockCursor) (halt : Option ParsedNode) : Type 0 where
+  pub order : LayersDeepen ls
   pub frames_tied : FramesTied m frames ls
   pub colons : progress.colons ≡ length (asked ls)
   pub halted : progress.halt ≡ halt_end halt
@@ -158,11 +158,11 @@ pub data EntryTied (t : List ℕ) (floor : ℕ) : Option ℕ → Option TheEntry
   entry_begins : {i : ℕ} {b : Bool} → NotedSince t floor i b → EntryTied t floor (Some i) (Some (record { start = i; colon = None; blank_before = b }))
 
 -- what is awaited after an indicator in a collection at that column
-abbrev pub wanted_after : ℕ → Bool → Bool → Option TheEntry.Entry → Wanted
+abbrev pub wanted_after : ℕ → Bool → Bool → Option TheEntry.Entry → AwaitedNode
 wanted_after column compact out entry = record { least = column + 1; out = out; compact = compact; entry = entry; outer = None }
 
 -- it is awaited after the indicator at an offset
-pub record NodeAwaited (at column : ℕ) (compact out : Bool) (entry : Option TheEntry.Entry) (old new : Progress) (s : Step) : Type 0 where
+pub record NodeAwaited (at column : ℕ) (compact out : Bool) (entry : Option TheEntry.Entry) (old new : BlockCursor) (s : Step) : Type 0 where
   pub floor : new.floor ≡ old.floor
   pub from : new.from ≡ old.from
   pub halt : new.halt ≡ old.halt

@@ -3,25 +3,25 @@ use Rattle.std.specs.Prelude.{◌≡◌, ℕ, ◌<◌, ◌≤◌, ℤ, pos, ◌+
 use Rattle.yf_chars.specs.declared.context.Ctx.{Ctx}
 use Rattle.yf_chars.specs.Text.{code}
 use Rattle.yf_chars.specs.Class.{is_white}
-use Rattle.yf_grammar.specs.Grammar.{least_column}
-use Rattle.yf_grammar.specs.BlockParser.{DashAt, Columns, Compact}
-use Rattle.yf_block.specs.declared.frame.Wanted.{Wanted}
+use Rattle.yf_grammar.specs.Productions.Grammar.{least_column}
+use Rattle.yf_grammar.specs.BlockReader.BlockParser.{DashAt, Columns, Compact}
+use Rattle.yf_block.specs.declared.frame.AwaitedNode.{AwaitedNode}
 use Rattle.yf_block.specs.BlockStepTied.{is_out}
 
 abbrev pub same_columns : Option ℕ → Columns
 same_columns o = record { sequence = o; mapping = o }
 
 -- after an indicator, where a compact collection may begin if the node may be one
-abbrev pub CompactTied : List ℕ → Wanted → ℕ → ℕ → Option ℕ → Type 0
+abbrev pub CompactTied : List ℕ → AwaitedNode → ℕ → ℕ → Option ℕ → Type 0
 CompactTied t wanted at place column = (n : ℤ) → pos wanted.least ≡ n +ℤ pos 1 → (wanted.compact ≡ true → (0 < wanted.least) × (wanted.least ≤ at)) → is_white (code t place) ≡ false
     → Compact t wanted.compact n at place (same_columns column)
 
 -- whether a sequence of that column may be the node
-abbrev pub SequenceTied : Wanted → ℕ → Bool → Type 0
+abbrev pub SequenceTied : AwaitedNode → ℕ → Bool → Type 0
 SequenceTied wanted width result = (n : ℤ) → (c : Ctx) → pos wanted.least ≡ n +ℤ pos 1 → wanted.out ≡ is_out c
     → MatchBool result (least_column true n c ≤ℤ pos width) (least_column true n c ≤ℤ pos width → ⊥)
 
--- whether one stands there
-abbrev pub SequenceBegins : List ℕ → ℕ → Wanted → ℕ → Bool → Type 0
+-- whether one is there
+abbrev pub SequenceBegins : List ℕ → ℕ → AwaitedNode → ℕ → Bool → Type 0
 SequenceBegins t at wanted width result = (n : ℤ) → (c : Ctx) → pos wanted.least ≡ n +ℤ pos 1 → wanted.out ≡ is_out c
     → MatchBool result (DashAt t at × (least_column true n c ≤ℤ pos width)) (DashAt t at → least_column true n c ≤ℤ pos width → ⊥)

@@ -8,23 +8,23 @@ use Rattle.yf_comments.specs.Comment.{CommentValue}
 use Rattle.yf_comments.specs.Comments.{LineEnd}
 use Rattle.yf_props.specs.Names.{Properties}
 use Rattle.yf_props.specs.Props.{props_value}
-use Rattle.yf_events.specs.Event.{Placed}
+use Rattle.yf_events.specs.Event.{EventInText}
 use Rattle.yf_events.specs.declared.event.Entry as TheEntry
 use Rattle.yf_events.specs.declared.part.Part.{Part}
-use Rattle.yf_grammar.specs.BlockParser.{Ahead, DashAt, NoSign, Columns, BlockTask, MayLeaf, Leaf, headed}
-use Rattle.yf_grammar.specs.BlockScalar.{BlockScalar}
-use Rattle.yf_grammar.specs.BlockStack.{Layer}
-use Rattle.yf_grammar.specs.BlockStates.{NodeAt}
-use Rattle.yf_grammar.specs.Meaning.{◌⊕◌, behind}
-use Rattle.yf_grammar.specs.Parser.{Found, ANode, Parses, begins_plain}
+use Rattle.yf_grammar.specs.BlockReader.BlockParser.{Ahead, DashAt, NoSign, Columns, BlockTask, MayLeaf, Leaf, headed}
+use Rattle.yf_grammar.specs.Productions.BlockScalar.{BlockScalar}
+use Rattle.yf_grammar.specs.BlockReader.BlockStack.{Layer}
+use Rattle.yf_grammar.specs.BlockReader.BlockStates.{NodeAt}
+use Rattle.yf_grammar.specs.Productions.Meaning.{◌⊕◌, meaning_after}
+use Rattle.yf_grammar.specs.FlowReader.Parser.{ParsedNode, ANode, Parses, begins_plain}
 use Rattle.yf_flow.specs.declared.frame.Node.{Node}
 use Rattle.yf_flow.specs.declared.node.Lead.{Lead}
 use Rattle.yf_block.specs.declared.content.AfterProperties.{AfterProperties}
 use Rattle.yf_block.specs.declared.content.NodeFacts.{NodeFacts}
 use Rattle.yf_block.specs.declared.content.Belonging.TheVariants.{Joined}
 use Rattle.yf_block.specs.declared.frame.Frame.{Frame}
-use Rattle.yf_block.specs.declared.frame.Progress.{Progress}
-use Rattle.yf_block.specs.declared.frame.Wanted.{Wanted}
+use Rattle.yf_block.specs.declared.frame.BlockCursor.{BlockCursor}
+use Rattle.yf_block.specs.declared.frame.AwaitedNode.{AwaitedNode}
 use Rattle.yf_block.specs.declared.halt.Counts.{Counts}
 use Rattle.yf_block.specs.declared.properties.PlacedProperties.{PlacedProperties}
 use Rattle.yf_block.specs.BlockTied.{layers_entry, begins, ahead_props, ahead_tag, ahead_start, all_written, ReadTied, StackTied}
@@ -34,33 +34,33 @@ use Rattle.yf_block.specs.PropertiesAnswers.{LineProperties, PlaceAfter, lead_at
 use Rattle.yf_block.specs.InlineAnswers.{InlineRead, InlineLost, KeyEnds}
 use Rattle.yf_block.specs.InlineTied.{AtStart}
 use Rattle.yf_block.specs.LastStarts.{NoStart}
-use Rattle.yf_block.specs.Looks.{LineEndsAt}
+use Rattle.yf_block.specs.LookTests.{LineEndsAt}
 
 -- no collection begins there with a sign, but a mapping may begin at the column
-pub record AtContent (t : List ℕ) (d : ℕ) (root : BlockTask) (before : Part) (frames : List Frame) (p : ℕ) (column : Option ℕ) (progress : Progress) (part : Part) : Type 0 where
+pub record AtContent (t : List ℕ) (d : ℕ) (root : BlockTask) (before : Part) (frames : List Frame) (p : ℕ) (column : Option ℕ) (progress : BlockCursor) (part : Part) : Type 0 where
   pub cols : Columns
   pub start : AtStart t d root before frames cols p progress part
   pub column_is : cols.mapping ≡ column
   pub signless : NoSign t cols p
 
 -- the same, where it is only known of sequences that none begins there
-pub record AtUndashed (column : Option ℕ) (t : List ℕ) (d : ℕ) (root : BlockTask) (before : Part) (frames : List Frame) (p : ℕ) (progress : Progress) (part : Part) : Type 0 where
+pub record AtUndashed (column : Option ℕ) (t : List ℕ) (d : ℕ) (root : BlockTask) (before : Part) (frames : List Frame) (p : ℕ) (progress : BlockCursor) (part : Part) : Type 0 where
   pub cols : Columns
   pub column_is : cols.mapping ≡ column
   pub undashed : (m : ℕ) → cols.sequence ≡ Some m → DashAt t p → ⊥
   pub start : AtStart t d root before frames cols p progress part
 
--- and where properties stand there
-pub record AtProperties (held : PlacedProperties) (column : Option ℕ) (t : List ℕ) (d : ℕ) (root : BlockTask) (before : Part) (frames : List Frame) (p : ℕ) (progress : Progress) (part : Part) : Type 0 where
+-- and where properties are there
+pub record AtProperties (held : PlacedProperties) (column : Option ℕ) (t : List ℕ) (d : ℕ) (root : BlockTask) (before : Part) (frames : List Frame) (p : ℕ) (progress : BlockCursor) (part : Part) : Type 0 where
   pub properties : LineProperties t p held
   pub content : AtContent t d root before frames p column progress part
 
--- properties on the line, or none, and where the text of the node stands after them
+-- properties on the line, or none, and where the text of the node is after them
 pub data TextAfter (t : List ℕ) (p : ℕ) : Option PlacedProperties → ℕ → Type 0 where
   text_alone : Stuck (Properties t (pos 0) FlowKey p) → TextAfter t p None p
   text_held : {held : PlacedProperties} {at : ℕ} → LineProperties t p held → Stuck (LineEnd t held.end) → PlaceAfter t held.end at → TextAfter t p (Some held) at
 
--- after white space the line ends, or a comment stands there
+-- after white space the line ends, or a comment is there
 pub record EndsAfter (t : List ℕ) (g place : ℕ) : Type 0 where
   pub whites : List ℕ
   pub run : Many t is_white g place whites
@@ -68,7 +68,7 @@ pub record EndsAfter (t : List ℕ) (g place : ℕ) : Type 0 where
   pub comment : Bool
   pub ends : LineEndsAt t comment place
 
-pub record AtAfterProperties (b : AfterProperties) (t : List ℕ) (d : ℕ) (root : BlockTask) (before : Part) (frames : List Frame) (p : ℕ) (progress : Progress) (part : Part) : Type 0 where
+pub record AtAfterProperties (b : AfterProperties) (t : List ℕ) (d : ℕ) (root : BlockTask) (before : Part) (frames : List Frame) (p : ℕ) (progress : BlockCursor) (part : Part) : Type 0 where
   pub content : AtContent t d root before frames p b.node_start.column progress part
   pub text : TextAfter t p b.inner b.at
 
@@ -83,7 +83,7 @@ abbrev pub ScalarSignAt : List ℕ → ℕ → Type 0
 ScalarSignAt t p = (code t p ≡ 124) ⊎ (code t p ≡ 62)
 
 -- a flow node, or an empty key, was read after the properties, with what was known of it, after what the earlier part had
-pub record AtInline (t : List ℕ) (d : ℕ) (root : BlockTask) (before : Part) (frames : List Frame) (depth : ℕ) (b : AfterProperties) (facts : NodeFacts) (node : Node) (progress : Progress) (earlier now : Part) : Type 0 where
+pub record AtInline (t : List ℕ) (d : ℕ) (root : BlockTask) (before : Part) (frames : List Frame) (depth : ℕ) (b : AfterProperties) (facts : NodeFacts) (node : Node) (progress : BlockCursor) (earlier now : Part) : Type 0 where
   pub there : AtAfterProperties b t d root before frames b.node_start.at progress earlier
   pub belonging : BelongingTied t b.node_start.at b.at there.content.start.ahead b.inner progress.wanted.entry facts.lead facts.belonging
   pub counts : CountsOf earlier facts.before
@@ -92,7 +92,7 @@ pub record AtInline (t : List ℕ) (d : ℕ) (root : BlockTask) (before : Part) 
   pub no_scalar : ScalarSignAt t b.at → ⊥
 
 -- it is the first key of a mapping at that column, with its `:` at the other place, and its collections may be open
-pub record AtFirstKey (t : List ℕ) (d : ℕ) (root : BlockTask) (before : Part) (frames : List Frame) (depth : ℕ) (b : AfterProperties) (facts : NodeFacts) (column colon : ℕ) (progress : Progress) (earlier now : Part) : Type 0 where
+pub record AtFirstKey (t : List ℕ) (d : ℕ) (root : BlockTask) (before : Part) (frames : List Frame) (depth : ℕ) (b : AfterProperties) (facts : NodeFacts) (column colon : ℕ) (progress : BlockCursor) (earlier now : Part) : Type 0 where
   pub node : Node
   pub inline : AtInline t d root before frames depth b facts node progress earlier now
   pub column_is : b.node_start.column ≡ Some column
@@ -103,17 +103,17 @@ pub record AtFirstKey (t : List ℕ) (d : ℕ) (root : BlockTask) (before : Part
   pub open_there : depth < d
 
 -- both, whatever the part was before the node and how many were open there
-pub record AtNodeEnd (b : AfterProperties) (facts : NodeFacts) (node : Node) (t : List ℕ) (d : ℕ) (root : BlockTask) (before : Part) (frames : List Frame) (p : ℕ) (progress : Progress) (part : Part) : Type 0 where
+pub record AtNodeEnd (b : AfterProperties) (facts : NodeFacts) (node : Node) (t : List ℕ) (d : ℕ) (root : BlockTask) (before : Part) (frames : List Frame) (p : ℕ) (progress : BlockCursor) (part : Part) : Type 0 where
   pub depth : ℕ
   pub earlier : Part
   pub inline : AtInline t d root before frames depth b facts node progress earlier part
 
-pub record AtKeyEnd (b : AfterProperties) (facts : NodeFacts) (column colon : ℕ) (t : List ℕ) (d : ℕ) (root : BlockTask) (before : Part) (frames : List Frame) (p : ℕ) (progress : Progress) (part : Part) : Type 0 where
+pub record AtKeyEnd (b : AfterProperties) (facts : NodeFacts) (column colon : ℕ) (t : List ℕ) (d : ℕ) (root : BlockTask) (before : Part) (frames : List Frame) (p : ℕ) (progress : BlockCursor) (part : Part) : Type 0 where
   pub depth : ℕ
   pub earlier : Part
   pub key : AtFirstKey t d root before frames depth b facts column colon progress earlier part
 
--- what is known of a node is what stands ahead of it, if its text begins at the place
+-- what is known of a node is what is ahead of it, if its text begins at the place
 pub record LeadTied (a : Ahead) (p : ℕ) (lead : Lead) : Type 0 where
   pub start : lead.start ≡ ahead_start a p
   pub props : props_value lead.props ≡ ahead_props a
@@ -125,15 +125,15 @@ pub data PlainIs (t : List ℕ) (place end : ℕ) (plain : Option ℕ) : Type 0 
   other_known : begins_plain (code t place) ≡ false → ((q : ℕ) → plain ≡ Some q → NoStart t q end) → PlainIs t place end plain
 
 -- a flow node without properties of its own was read, which ends at the offset and may be what is awaited if the line ends after it
-pub record AtLeaf (t : List ℕ) (d : ℕ) (root : BlockTask) (before : Part) (frames : List Frame) (plain : Option ℕ) (p : ℕ) (progress : Progress) (part : Part) : Type 0 where
+pub record AtLeaf (t : List ℕ) (d : ℕ) (root : BlockTask) (before : Part) (frames : List Frame) (plain : Option ℕ) (p : ℕ) (progress : BlockCursor) (part : Part) : Type 0 where
   pub layers : List Layer
   pub room : ℕ
   pub comments : List CommentValue
   pub indentation : ℤ
   pub ahead : Ahead
   pub place : ℕ
-  pub answer : Found
-  pub halt : Option Found
+  pub answer : ParsedNode
+  pub halt : Option ParsedNode
   pub node : NodeAt t d root layers room comments (Leaf indentation ahead place) halt
   pub no_scalar : Stuck (BlockScalar t indentation place)
   pub may : MayLeaf t ahead place
@@ -143,15 +143,15 @@ pub record AtLeaf (t : List ℕ) (d : ℕ) (root : BlockTask) (before : Part) (f
   pub last : progress.last ≡ answer.meaning.finish
   pub past : progress.floor ≤ p
   pub stack : StackTied (length before.events) layers frames progress halt
-  pub read : ReadTied t before (all_written layers ⊕ begins (layers_entry layers) (behind comments (headed ahead answer.meaning))) progress part
+  pub read : ReadTied t before (all_written layers ⊕ begins (layers_entry layers) (meaning_after comments (headed ahead answer.meaning))) progress part
 
 -- a leaf, or an empty key that is none, after which the line goes on
-pub data LeafEnding (plain : Option ℕ) (t : List ℕ) (d : ℕ) (root : BlockTask) (before : Part) (frames : List Frame) (p : ℕ) (progress : Progress) (part : Part) : Type 0 where
+pub data LeafEnding (plain : Option ℕ) (t : List ℕ) (d : ℕ) (root : BlockTask) (before : Part) (frames : List Frame) (p : ℕ) (progress : BlockCursor) (part : Part) : Type 0 where
   leaf_ends : AtLeaf t d root before frames plain p progress part → LeafEnding plain t d root before frames p progress part
   line_goes_on : Stuck (LineEnd t p) → ((q : ℕ) → plain ≡ Some q → NoStart t q p) → AtFailed t d root progress → LeafEnding plain t d root before frames p progress part
 
 -- the key of a mapping that begins there is read, after the event that begins the mapping
-pub record KeyAgain (t : List ℕ) (room : ℕ) (n : ℤ) (depth : ℕ) (b : AfterProperties) (entry : TheEntry.Entry) (start : Placed) (earlier new : Part) : Type 0 where
+pub record KeyAgain (t : List ℕ) (room : ℕ) (n : ℤ) (depth : ℕ) (b : AfterProperties) (entry : TheEntry.Entry) (start : EventInText) (earlier new : Part) : Type 0 where
   pub opened : Part
   pub node : Node
   pub events : opened.events ≡ earlier.events ++ start ∷ []
@@ -159,12 +159,12 @@ pub record KeyAgain (t : List ℕ) (room : ℕ) (n : ℤ) (depth : ℕ) (b : Aft
   pub escapes : opened.escapes ≡ earlier.escapes
   pub read : InlineRead t room n b.at depth b.inner (lead_at b.node_start.at b.inner (Some entry)) opened new node
 
-pub data KeyOrLost (t : List ℕ) (room : ℕ) (n : ℤ) (depth : ℕ) (b : AfterProperties) (entry : TheEntry.Entry) (start : Placed) (earlier new : Part) : Type 0 where
+pub data KeyOrLost (t : List ℕ) (room : ℕ) (n : ℤ) (depth : ℕ) (b : AfterProperties) (entry : TheEntry.Entry) (start : EventInText) (earlier new : Part) : Type 0 where
   key_again : KeyAgain t room n depth b entry start earlier new → KeyOrLost t room n depth b entry start earlier new
   key_lost : InlineLost t room n b.at b.inner → KeyOrLost t room n depth b entry start earlier new
 
 -- it was read after what the earlier part had, with what is known of the node on its line, unless all properties are those of a node
-pub record KeyRead (t : List ℕ) (room : ℕ) (n : ℤ) (depth : ℕ) (b : AfterProperties) (facts : NodeFacts) (wanted : Wanted) (earlier old : Part) : Type 0 where
+pub record KeyRead (t : List ℕ) (room : ℕ) (n : ℤ) (depth : ℕ) (b : AfterProperties) (facts : NodeFacts) (wanted : AwaitedNode) (earlier old : Part) : Type 0 where
   pub node : Node
   pub counts : CountsOf earlier facts.before
   pub lead_is : (facts.belonging ≡ Joined → ⊥) → facts.lead ≡ lead_at b.node_start.at b.inner wanted.entry

@@ -1,7 +1,7 @@
 -- How many collections are open at once: of each of them an opener has been read that belongs to no other one, so these and the openers
--- that stand ahead are no more than a total.
+-- that are ahead are no more than a total.
 use Rattle.std.specs.Prelude.{ℕ, ◌+◌, ◌<◌, ◌≤◌, List}
-use Rattle.yf_flow.specs.Counted.{openers_from}
+use Rattle.yf_flow.specs.Depth.{openers_from}
 use Rattle.yf_flow.specs.declared.frame.Node.{Node as FlowNode}
 use Rattle.yf_block.specs.declared.frame.Step.{Step}
 use Rattle.yf_block.specs.declared.frame.Step.TheVariants.{Node, Line, Resume, Done, Failed, TooDeep}

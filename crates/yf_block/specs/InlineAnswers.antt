@@ -1,17 +1,17 @@
--- What the reader of a node on a line gives, in terms of the recursive reader: what stands at a place after properties, or without any, is
+-- What the reader of a node on a line gives, in terms of the recursive reader: what is at a place after properties, or without any, is
 -- a flow node or the `:` after an empty key; it was written after what a part had, with what is known of the node before it.
 use Rattle.std.specs.Prelude.{◌≡◌, ℕ, ◌+◌, ℤ, true, false, List, Option, Some, None}
 use Rattle.yf_chars.specs.declared.context.Ctx.TheVariants.{FlowOut}
 use Rattle.yf_chars.specs.Text.{code}
 use Rattle.yf_events.specs.declared.part.Part.{Part}
-use Rattle.yf_grammar.specs.BlockParser.{SignAt}
-use Rattle.yf_grammar.specs.Meaning.{from_to, empty_node}
-use Rattle.yf_grammar.specs.Parser.{Found, ANode, Parses, begins_alias}
+use Rattle.yf_grammar.specs.BlockReader.BlockParser.{SignAt}
+use Rattle.yf_grammar.specs.Productions.Meaning.{from_to, empty_node}
+use Rattle.yf_grammar.specs.FlowReader.Parser.{ParsedNode, ANode, Parses, begins_alias}
 use Rattle.yf_flow.specs.declared.frame.Node.{Node}
 use Rattle.yf_flow.specs.declared.node.Lead.{Lead}
 use Rattle.yf_flow.specs.declared.nodes.Ending.{Ending}
 use Rattle.yf_flow.specs.declared.nodes.Ending.TheVariants.{End, Nothing as NoEnd, TooDeep as TooDeepThere}
-use Rattle.yf_flow.specs.Begun.{ContentAt}
+use Rattle.yf_flow.specs.NodeStarts.{ContentAt}
 use Rattle.yf_flow.specs.ContentAnswers.{WrittenWith}
 use Rattle.yf_flow.specs.Leaves.{KeyLine}
 use Rattle.yf_block.specs.declared.properties.PlacedProperties.{PlacedProperties}
@@ -21,7 +21,7 @@ pub record KeyEnds (t : List ℕ) (start k : ℕ) : Type 0 where
   pub colon : SignAt t 58 k
   pub line : KeyLine t start k
 
--- no empty key stands there; one does, whose properties end at an offset
+-- no empty key is there; one is, whose properties end at an offset
 abbrev pub NoEmptyKey : List ℕ → ℕ → Option PlacedProperties → Type 0
 NoEmptyKey t at held = (properties : PlacedProperties) → held ≡ Some properties → SignAt t 58 at → ⊥
 
@@ -32,23 +32,23 @@ pub record EmptyKeyAt (t : List ℕ) (at : ℕ) (held : Option PlacedProperties)
   pub ends : end ≡ properties.end
 
 -- what was found ends there, and is as deep
-pub record NodeIs (depth : ℕ) (f : Found) (node : Node) : Type 0 where
+pub record NodeIs (depth : ℕ) (f : ParsedNode) (node : Node) : Type 0 where
   pub end : node.end ≡ f.end
   pub json : node.json ≡ f.json
   pub deepest : node.deepest ≡ depth + f.height
   pub finish : f.meaning.finish ≡ f.end
 
--- a plain scalar, a quoted one or a flow collection; an alias, where no properties stand before; the `:` after properties that are an
+-- a plain scalar, a quoted one or a flow collection; an alias, where no properties are before; the `:` after properties that are an
 -- empty key
 pub data InlineRead (t : List ℕ) (room : ℕ) (n : ℤ) (at depth : ℕ) (held : Option PlacedProperties) (lead : Lead) (old new : Part) (node : Node) : Type 0 where
-  content_read : {f : Found} → NoEmptyKey t at held → begins_alias (code t at) ≡ false → ContentAt t room n FlowOut at (Some f) → NodeIs depth f node
+  content_read : {f : ParsedNode} → NoEmptyKey t at held → begins_alias (code t at) ≡ false → ContentAt t room n FlowOut at (Some f) → NodeIs depth f node
       → WrittenWith t lead f.meaning (from_to at node.end) node.end old new → InlineRead t room n at depth held lead old new node
-  alias_read : {f : Found} → held ≡ None → Parses t room (ANode n FlowOut at) (Some f) → NodeIs depth f node → WrittenWith t lead f.meaning (from_to at node.end) node.end old new
+  alias_read : {f : ParsedNode} → held ≡ None → Parses t room (ANode n FlowOut at) (Some f) → NodeIs depth f node → WrittenWith t lead f.meaning (from_to at node.end) node.end old new
       → InlineRead t room n at depth held lead old new node
   empty_key_read : EmptyKeyAt t at held node.end → node.json ≡ false → node.deepest ≡ depth → WrittenWith t lead (empty_node node.end) None node.end old new
       → InlineRead t room n at depth held lead old new node
 
--- nothing stands there that may be the node
+-- nothing is there that may be the node
 pub data InlineLost (t : List ℕ) (room : ℕ) (n : ℤ) (at : ℕ) (held : Option PlacedProperties) : Type 0 where
   content_lost : NoEmptyKey t at held → begins_alias (code t at) ≡ false → ContentAt t room n FlowOut at None → InlineLost t room n at held
   alias_lost : held ≡ None → Parses t room (ANode n FlowOut at) None → InlineLost t room n at held

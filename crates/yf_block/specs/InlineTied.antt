@@ -1,23 +1,23 @@
--- A node that is awaited on a line: its first character stands at the place. And what is written where a collection begins there.
+-- A node that is awaited on a line: its first character is at the place. And what is written where a collection begins there.
 use Rattle.std.specs.Prelude.{◌≡◌, ℕ, ◌≤◌, ℤ, Bool, true, false, List, ◌++◌, length, Option, Some, ◌⊎◌}
 use Rattle.yf_chars.specs.declared.context.Ctx.{Ctx}
 use Rattle.yf_chars.specs.Text.{code}
 use Rattle.yf_chars.specs.Class.{is_white}
 use Rattle.yf_comments.specs.Comment.{CommentValue}
 use Rattle.yf_props.specs.Props.{props_value}
-use Rattle.yf_events.specs.Event.{Placed}
+use Rattle.yf_events.specs.Event.{EventInText}
 use Rattle.yf_events.specs.declared.part.Part.{Part}
-use Rattle.yf_grammar.specs.Meaning.{◌⊕◌, start_of, event_with}
-use Rattle.yf_grammar.specs.Parser.{Found, only}
-use Rattle.yf_grammar.specs.BlockParser.{Ahead, SignAt, Columns, BlockTask, Inline}
-use Rattle.yf_grammar.specs.BlockStack.{Layer}
-use Rattle.yf_grammar.specs.BlockStates.{NodeAt, AllWithin}
-use Rattle.yf_flow.specs.Begun.{lead_event}
+use Rattle.yf_grammar.specs.Productions.Meaning.{◌⊕◌, start_of, event_with}
+use Rattle.yf_grammar.specs.FlowReader.Parser.{ParsedNode, only}
+use Rattle.yf_grammar.specs.BlockReader.BlockParser.{Ahead, SignAt, Columns, BlockTask, Inline}
+use Rattle.yf_grammar.specs.BlockReader.BlockStack.{Layer}
+use Rattle.yf_grammar.specs.BlockReader.BlockStates.{NodeAt, AllWithin}
+use Rattle.yf_flow.specs.NodeStarts.{lead_event}
 use Rattle.yf_block.specs.declared.frame.Frame.{Frame}
-use Rattle.yf_block.specs.declared.frame.Kind.{Kind}
-use Rattle.yf_block.specs.declared.frame.Kind.TheVariants.{Sequence, Mapping}
-use Rattle.yf_block.specs.declared.frame.Progress.{Progress}
-use Rattle.yf_block.specs.declared.frame.Wanted.{Wanted}
+use Rattle.yf_block.specs.declared.frame.CollectionKind.{CollectionKind}
+use Rattle.yf_block.specs.declared.frame.CollectionKind.TheVariants.{Sequence, Mapping}
+use Rattle.yf_block.specs.declared.frame.BlockCursor.{BlockCursor}
+use Rattle.yf_block.specs.declared.frame.AwaitedNode.{AwaitedNode}
 use Rattle.yf_block.specs.PropertiesAnswers.{lead_at}
 use Rattle.yf_block.specs.BlockTied.{ahead_comments, all_written, ReadTied, StackTied}
 use Rattle.yf_block.specs.BlockStepTied.{WantedTied}
@@ -27,14 +27,14 @@ pub record ColumnTied (ls : List Layer) (p : ℕ) (column : Option ℕ) : Type 0
   pub shallow : (m : ℕ) → column ≡ Some m → m ≤ p
   pub within : (m : ℕ) → column ≡ Some m → AllWithin m ls
 
-pub record AtStart (t : List ℕ) (d : ℕ) (root : BlockTask) (before : Part) (frames : List Frame) (cols : Columns) (p : ℕ) (progress : Progress) (part : Part) : Type 0 where
+pub record AtStart (t : List ℕ) (d : ℕ) (root : BlockTask) (before : Part) (frames : List Frame) (cols : Columns) (p : ℕ) (progress : BlockCursor) (part : Part) : Type 0 where
   pub layers : List Layer
   pub room : ℕ
   pub comments : List CommentValue
   pub indentation : ℤ
   pub context : Ctx
   pub ahead : Ahead
-  pub halt : Option Found
+  pub halt : Option ParsedNode
   pub node : NodeAt t d root layers room comments (Inline indentation context cols ahead p) halt
   pub wanted : WantedTied t progress.floor layers indentation context ahead progress.wanted
   pub sequence : ColumnTied layers p cols.sequence
@@ -45,14 +45,14 @@ pub record AtStart (t : List ℕ) (d : ℕ) (root : BlockTask) (before : Part) (
   pub read : ReadTied t before (all_written layers ⊕ only (comments ++ ahead_comments ahead) 0) progress part
 
 -- the event that begins a collection there
-abbrev pub is_sequence : Kind → Bool
+abbrev pub is_sequence : CollectionKind → Bool
 is_sequence Sequence = true
 is_sequence Mapping = false
 
-abbrev pub started : Kind → ℕ → Wanted → Placed
+abbrev pub started : CollectionKind → ℕ → AwaitedNode → EventInText
 started kind at wanted =
     lead_event (lead_at at wanted.outer wanted.entry) (event_with (props_value (lead_at at wanted.outer wanted.entry).props) (start_of (is_sequence kind) false)) at
 
--- the `?` or the `:` of an entry stands there
+-- the `?` or the `:` of an entry is there
 abbrev pub EntrySignAt : List ℕ → ℕ → Type 0
 EntrySignAt t p = SignAt t 63 p ⊎ SignAt t 58 p

@@ -2,14 +2,14 @@
 use Rattle.std.specs.Prelude.{◌≡◌, ℕ, false, List, ◌∷◌, None}
 use Rattle.yf_events.specs.declared.event.Entry as TheEntry
 use Rattle.yf_events.specs.declared.part.Part.{Part}
-use Rattle.yf_grammar.specs.Part.{NotedSince}
-use Rattle.yf_grammar.specs.BlockParser.{SignAt, BlockTask}
+use Rattle.yf_grammar.specs.Productions.ReadParts.{NotedSince}
+use Rattle.yf_grammar.specs.BlockReader.BlockParser.{SignAt, BlockTask}
 use Rattle.yf_block.specs.declared.frame.Frame.{Frame}
-use Rattle.yf_block.specs.declared.frame.Kind.TheVariants.{Mapping}
-use Rattle.yf_block.specs.declared.frame.Progress.{Progress}
+use Rattle.yf_block.specs.declared.frame.CollectionKind.TheVariants.{Mapping}
+use Rattle.yf_block.specs.declared.frame.BlockCursor.{BlockCursor}
 use Rattle.yf_block.specs.BlockStepTied.{AtEntry}
 
-pub record KeyAwaited (column : ℕ) (entry : TheEntry.Entry) (t : List ℕ) (d : ℕ) (root : BlockTask) (before : Part) (frames : List Frame) (p : ℕ) (progress : Progress) (part : Part) : Type 0 where
+pub record KeyAwaited (column : ℕ) (entry : TheEntry.Entry) (t : List ℕ) (d : ℕ) (root : BlockTask) (before : Part) (frames : List Frame) (p : ℕ) (progress : BlockCursor) (part : Part) : Type 0 where
   pub outer : List Frame
   pub frame : Frame
   pub at : AtEntry t d root before outer frame p progress part

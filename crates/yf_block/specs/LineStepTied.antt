@@ -8,25 +8,25 @@ use Rattle.yf_lines.specs.Basic.{Spaces}
 use Rattle.yf_comments.specs.Comment.{CommentValue}
 use Rattle.yf_comments.specs.Comments.{LineEnd}
 use Rattle.yf_events.specs.declared.part.Part.{Part}
-use Rattle.yf_grammar.specs.Grammar.{least_column}
-use Rattle.yf_grammar.specs.Halts.{Alone}
-use Rattle.yf_grammar.specs.Meaning.{◌⊕◌}
-use Rattle.yf_grammar.specs.Parser.{Found, only}
-use Rattle.yf_grammar.specs.BlockParser.{DashAt, LinesEnd, NoNode, Ahead, Indicator, BlockTask, Below}
-use Rattle.yf_grammar.specs.BlockSteps.{made_or, as_behind}
-use Rattle.yf_grammar.specs.BlockStack.{Layer, rounds, asked}
-use Rattle.yf_grammar.specs.BlockStates.{NodeAt}
+use Rattle.yf_grammar.specs.Productions.Grammar.{least_column}
+use Rattle.yf_grammar.specs.BlockReader.Halts.{Alone}
+use Rattle.yf_grammar.specs.Productions.Meaning.{◌⊕◌}
+use Rattle.yf_grammar.specs.FlowReader.Parser.{ParsedNode, only}
+use Rattle.yf_grammar.specs.BlockReader.BlockParser.{DashAt, LinesEnd, NoNode, Ahead, Indicator, BlockTask, Below}
+use Rattle.yf_grammar.specs.BlockReader.BlockSteps.{made_or, as_after}
+use Rattle.yf_grammar.specs.BlockReader.BlockStack.{Layer, rounds, asked}
+use Rattle.yf_grammar.specs.BlockReader.BlockStates.{NodeAt}
 use Rattle.yf_block.specs.declared.frame.Frame.{Frame}
-use Rattle.yf_block.specs.declared.frame.Progress.{Progress}
+use Rattle.yf_block.specs.declared.frame.BlockCursor.{BlockCursor}
 use Rattle.yf_block.specs.BlockTied.{ahead_comments, all_written, ReadTied, StackTied}
 use Rattle.yf_block.specs.BlockStepTied.{WantedTied}
 
 -- the outermost node's last halt, where the awaited one has that one
-abbrev pub halt_with : List Layer → List CommentValue → Option Found → Option Found → Option Found
-halt_with ls ds h o = made_or (λ f. rounds ls (as_behind ds f)) h o
+abbrev pub halt_with : List Layer → List CommentValue → Option ParsedNode → Option ParsedNode → Option ParsedNode
+halt_with ls ds h o = made_or (λ f. rounds ls (as_after ds f)) h o
 
--- what stands ahead of the node may be alone up to the line, or up to one before it
-pub record AtAlone (t : List ℕ) (d : ℕ) (root : BlockTask) (before : Part) (frames : List Frame) (p : ℕ) (progress : Progress) (part : Part) : Type 0 where
+-- what is ahead of the node may be alone up to the line, or up to one before it
+pub record AtAlone (t : List ℕ) (d : ℕ) (root : BlockTask) (before : Part) (frames : List Frame) (p : ℕ) (progress : BlockCursor) (part : Part) : Type 0 where
   pub layers : List Layer
   pub room : ℕ
   pub comments : List CommentValue
@@ -34,8 +34,8 @@ pub record AtAlone (t : List ℕ) (d : ℕ) (root : BlockTask) (before : Part) (
   pub context : Ctx
   pub ahead : Ahead
   pub told : List CommentValue
-  pub halt : Option Found
-  pub last_alone : Option Found
+  pub halt : Option ParsedNode
+  pub last_alone : Option ParsedNode
   pub node : NodeAt t d root layers room comments (Below indentation context ahead progress.from) halt
   pub line : Chosen (LineEnd t progress.from) p told
   pub alone : Alone t (asked layers) ahead progress.from last_alone
@@ -48,12 +48,12 @@ pub record AtAlone (t : List ℕ) (d : ℕ) (root : BlockTask) (before : Part) (
   pub read : ReadTied t before (all_written layers ⊕ only (comments ++ (ahead_comments ahead ++ told)) 0) progress part
 
 -- no node begins on the line
-pub record AtEmpty (t : List ℕ) (d : ℕ) (root : BlockTask) (before : Part) (frames : List Frame) (p : ℕ) (progress : Progress) (part : Part) : Type 0 where
+pub record AtEmpty (t : List ℕ) (d : ℕ) (root : BlockTask) (before : Part) (frames : List Frame) (p : ℕ) (progress : BlockCursor) (part : Part) : Type 0 where
   pub at : AtAlone t d root before frames p progress part
   pub none : NoNode t at.indentation at.context progress.from p
 
 -- after the spaces of the line no sequence begins that may be the node
-pub record AtIndented (t : List ℕ) (d : ℕ) (root : BlockTask) (before : Part) (frames : List Frame) (p start : ℕ) (progress : Progress) (part : Part) : Type 0 where
+pub record AtIndented (t : List ℕ) (d : ℕ) (root : BlockTask) (before : Part) (frames : List Frame) (p start : ℕ) (progress : BlockCursor) (part : Part) : Type 0 where
   pub at : AtAlone t d root before frames p progress part
   pub goes_on : LinesEnd t p → ⊥
   pub order : p ≤ start

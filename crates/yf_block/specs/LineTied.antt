@@ -1,4 +1,4 @@
--- The end of a line where a node is awaited that may stand on a later one.
+-- The end of a line where a node is awaited that may be on a later one.
 use Rattle.std.specs.Prelude.{◌≡◌, ℕ, ◌≤◌, ℤ, List, ◌++◌, length, Option}
 use Rattle.yf_chars.specs.declared.context.Ctx.{Ctx}
 use Rattle.yf_chars.specs.Chain.{Stuck, Chosen}
@@ -6,25 +6,25 @@ use Rattle.yf_lines.specs.Basic.{LineStart}
 use Rattle.yf_comments.specs.Comment.{CommentValue}
 use Rattle.yf_comments.specs.Comments.{LineEnd}
 use Rattle.yf_events.specs.declared.part.Part.{Part}
-use Rattle.yf_grammar.specs.Meaning.{◌⊕◌}
-use Rattle.yf_grammar.specs.Parser.{Found, only}
-use Rattle.yf_grammar.specs.BlockParser.{Ahead, Nothing, Indicator, BlockTask, Below}
-use Rattle.yf_grammar.specs.BlockStack.{Layer}
-use Rattle.yf_grammar.specs.BlockStates.{NodeAt}
+use Rattle.yf_grammar.specs.Productions.Meaning.{◌⊕◌}
+use Rattle.yf_grammar.specs.FlowReader.Parser.{ParsedNode, only}
+use Rattle.yf_grammar.specs.BlockReader.BlockParser.{Ahead, Nothing, Indicator, BlockTask, Below}
+use Rattle.yf_grammar.specs.BlockReader.BlockStack.{Layer}
+use Rattle.yf_grammar.specs.BlockReader.BlockStates.{NodeAt}
 use Rattle.yf_block.specs.declared.frame.Frame.{Frame}
-use Rattle.yf_block.specs.declared.frame.Progress.{Progress}
+use Rattle.yf_block.specs.declared.frame.BlockCursor.{BlockCursor}
 use Rattle.yf_block.specs.BlockTied.{ahead_comments, all_written, ReadTied, StackTied}
 use Rattle.yf_block.specs.BlockStepTied.{WantedTied, AtFailed}
 
 -- the line may end at the offset; if it does not, all breaks
-pub record AtBelow (t : List ℕ) (d : ℕ) (root : BlockTask) (before : Part) (frames : List Frame) (p : ℕ) (progress : Progress) (part : Part) : Type 0 where
+pub record AtBelow (t : List ℕ) (d : ℕ) (root : BlockTask) (before : Part) (frames : List Frame) (p : ℕ) (progress : BlockCursor) (part : Part) : Type 0 where
   pub layers : List Layer
   pub room : ℕ
   pub comments : List CommentValue
   pub indentation : ℤ
   pub context : Ctx
   pub ahead : Ahead
-  pub halt : Option Found
+  pub halt : Option ParsedNode
   pub node : (k : ℕ) (ds : List CommentValue) → Chosen (LineEnd t p) k ds → NodeAt t d root layers room comments (Below indentation context ahead p) halt
   pub unended : Stuck (LineEnd t p) → AtFailed t d root progress
   pub started : LineStart t p → ahead ≡ Nothing

@@ -3,20 +3,20 @@
 use Rattle.std.specs.Prelude.{◌≡◌, ℕ, ◌+◌, ◌-◌, ◌*◌, ◌≤◌, length, List, Option, Some, None}
 use Rattle.std.specs.List.{All}
 use Rattle.std.specs.Str.{IsCharBoundary}
-use Rattle.yf_grammar.specs.BlockParser.{DashAt}
-use Rattle.yf_flow.specs.Machine.{Place}
+use Rattle.yf_grammar.specs.BlockReader.BlockParser.{DashAt}
+use Rattle.yf_flow.specs.Machine.{BoundaryFrom}
 use Rattle.yf_flow.specs.declared.nodes.Ending.{Ending}
 use Rattle.yf_flow.specs.declared.nodes.Ending.TheVariants.{End}
 use Rattle.yf_block.specs.declared.content.AfterProperties.{AfterProperties}
-use Rattle.yf_block.specs.declared.frame.Progress.{Progress}
-use Rattle.yf_block.specs.declared.frame.Reader.{Reader}
+use Rattle.yf_block.specs.declared.frame.BlockCursor.{BlockCursor}
+use Rattle.yf_block.specs.declared.frame.BlockReader.{BlockReader}
 use Rattle.yf_block.specs.declared.frame.Step.{Step}
 use Rattle.yf_block.specs.declared.frame.Step.TheVariants.{Node, Line, Resume, Done, Failed, TooDeep}
 use Rattle.yf_block.specs.declared.properties.PlacedProperties.{PlacedProperties}
 use Rattle.yf_block.specs.declared.resume.Fit.{Fit}
 use Rattle.yf_block.specs.declared.resume.Fit.TheVariants.{Item, Entry as EntryAt, Deeper, EndsBefore}
-use Rattle.yf_block.specs.declared.nodes.Outcome.{Outcome}
-use Rattle.yf_block.specs.declared.nodes.Outcome.TheVariants.{Found, Nothing as NoNode, TooDeep as TooDeepHere}
+use Rattle.yf_block.specs.declared.nodes.BlockOutcome.{BlockOutcome}
+use Rattle.yf_block.specs.declared.nodes.BlockOutcome.TheVariants.{Found, Nothing as NoNode, TooDeep as TooDeepHere}
 use Rattle.yf_block.specs.declared.nodes.Stopped.{Stopped}
 use Rattle.yf_block.specs.declared.nodes.Stop.{Stop}
 use Rattle.yf_block.specs.declared.nodes.Stop.TheVariants.{Done as DoneAt, Failed as FailedAt, TooDeep as TooDeepAt}
@@ -26,22 +26,22 @@ abbrev pub MayBoundary : List ℕ → Option ℕ → Type 0
 MayBoundary t None = Unit {0}
 MayBoundary t (Some p) = IsCharBoundary t p
 
-pub record ProgressAt (t : List ℕ) (p : Progress) : Type 0 where
+pub record ProgressAt (t : List ℕ) (p : BlockCursor) : Type 0 where
   pub floor : IsCharBoundary t p.floor
   pub from : IsCharBoundary t p.from
   pub halt : MayBoundary t p.halt
 
--- what a step stands on: a place, and what is kept and noted so far
-pub record Standing (t : List ℕ) (at : ℕ) (r : Reader) : Type 0 where
+-- what a step is on: a place, and what is kept and noted so far
+pub record IsReaderReady (t : List ℕ) (at : ℕ) (r : BlockReader) : Type 0 where
   pub boundary : IsCharBoundary t at
   pub progress : ProgressAt t r.progress
   pub escapes : All (IsCharBoundary t) r.part.escapes
 
 -- a step from an offset on
 abbrev pub StepReady : List ℕ → ℕ → Step → Type 0
-StepReady t at (Node p) = Place t at p
-StepReady t at (Line p) = Place t at p
-StepReady t at (Resume p) = Place t at p
+StepReady t at (Node p) = BoundaryFrom t at p
+StepReady t at (Line p) = BoundaryFrom t at p
+StepReady t at (Resume p) = BoundaryFrom t at p
 StepReady t at (Done p) = IsCharBoundary t p
 StepReady t at (Failed p) = IsCharBoundary t p
 StepReady t at (TooDeep p) = IsCharBoundary t p
@@ -56,24 +56,24 @@ left n (Failed p) = 0
 left n (TooDeep p) = 0
 
 -- a step from an offset on, after which so much is left at most
-pub record Moved (t : List ℕ) (at more : ℕ) (r : Reader) (s : Step) : Type 0 where
+pub record IsLess (t : List ℕ) (at more : ℕ) (r : BlockReader) (s : Step) : Type 0 where
   pub progress : ProgressAt t r.progress
   pub ready : StepReady t at s
   pub moves : left (length t) s ≤ 3 * (length t - at) + more
   pub escapes : All (IsCharBoundary t) r.part.escapes
 
--- from an offset on stand properties, or none, and after them a place
+-- from an offset on are properties, or none, and after them a place
 abbrev pub PropertiesTo : List ℕ → ℕ → ℕ → Option PlacedProperties → Type 0
 PropertiesTo t start at None = at ≡ start
-PropertiesTo t start at (Some held) = Place t (start + 1) held.end × (held.end ≤ at)
+PropertiesTo t start at (Some held) = BoundaryFrom t (start + 1) held.end × (held.end ≤ at)
 
--- what a step stands on after the properties of a line
-pub record StandingAfter (t : List ℕ) (b : AfterProperties) (r : Reader) : Type 0 where
-  pub standing : Standing t b.at r
+-- what a step is on after the properties of a line
+pub record IsReaderReadyAfter (t : List ℕ) (b : AfterProperties) (r : BlockReader) : Type 0 where
+  pub standing : IsReaderReady t b.at r
   pub start : IsCharBoundary t b.node_start.at
   pub properties : PropertiesTo t b.node_start.at b.at b.inner
 
--- where what stands at a place ends at the earliest: after its first character, or after the properties before it
+-- where what is at a place ends at the earliest: after its first character, or after the properties before it
 abbrev pub earliest_end : ℕ → Option PlacedProperties → ℕ
 earliest_end at None = at + 1
 earliest_end at (Some held) = held.end
@@ -88,8 +88,8 @@ pub record StoppedAt (t : List ℕ) (r : Stopped) : Type 0 where
   pub halt : MayBoundary t r.halt
   pub floor : IsCharBoundary t r.floor
 
-abbrev pub OutcomeAt : List ℕ → ℕ → Outcome → Type 0
-OutcomeAt t at (Found f) = Place t (at + 1) f.end × IsCharBoundary t f.reached × IsCharBoundary t f.floor
+abbrev pub OutcomeAt : List ℕ → ℕ → BlockOutcome → Type 0
+OutcomeAt t at (Found f) = BoundaryFrom t (at + 1) f.end × IsCharBoundary t f.reached × IsCharBoundary t f.floor
 OutcomeAt t at (NoNode p) = IsCharBoundary t p
 OutcomeAt t at (TooDeepHere p) = IsCharBoundary t p
 
@@ -103,10 +103,10 @@ IsEndAt p _ = ⊥
 
 abbrev pub MayPlace : List ℕ → ℕ → Option ℕ → Type 0
 MayPlace t at None = Unit {0}
-MayPlace t at (Some p) = Place t at p
+MayPlace t at (Some p) = BoundaryFrom t at p
 
 abbrev pub FitsAt : List ℕ → ℕ → Fit → Type 0
-FitsAt t at (Item p) = Place t at p × IsCharBoundary t (p + 1) × DashAt t p
-FitsAt t at (EntryAt p) = Place t at p
+FitsAt t at (Item p) = BoundaryFrom t at p × IsCharBoundary t (p + 1) × DashAt t p
+FitsAt t at (EntryAt p) = BoundaryFrom t at p
 FitsAt t at (Deeper p) = IsCharBoundary t p
 FitsAt t at EndsBefore = Unit {0}

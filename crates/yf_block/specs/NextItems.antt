@@ -1,8 +1,8 @@
 -- An item of the innermost open collection on a line after a node, where nothing has to be taken off the stack.
 use Rattle.std.specs.Prelude.{◌≡◌, ℕ, ◌-◌, false, List, ◌∷◌, Option, Some}
-use Rattle.yf_grammar.specs.BlockParser.{DashAt}
+use Rattle.yf_grammar.specs.BlockReader.BlockParser.{DashAt}
 use Rattle.yf_block.specs.declared.frame.Frame.{Frame}
-use Rattle.yf_block.specs.declared.frame.Kind.TheVariants.{Sequence}
+use Rattle.yf_block.specs.declared.frame.CollectionKind.TheVariants.{Sequence}
 
 -- of the open collections, the innermost first, that one is a sequence at the column
 pub record TopSequence (frames : List Frame) (column : ℕ) : Type 0 where

@@ -1,8 +1,8 @@
 -- A key of the innermost open collection on a line after a node, where nothing has to be taken off the stack.
 use Rattle.std.specs.Prelude.{◌≡◌, ℕ, ◌-◌, false, List, ◌∷◌, Option, Some}
-use Rattle.yf_grammar.specs.BlockParser.{SignAt}
+use Rattle.yf_grammar.specs.BlockReader.BlockParser.{SignAt}
 use Rattle.yf_block.specs.declared.frame.Frame.{Frame}
-use Rattle.yf_block.specs.declared.frame.Kind.TheVariants.{Mapping}
+use Rattle.yf_block.specs.declared.frame.CollectionKind.TheVariants.{Mapping}
 
 -- of the open collections, the innermost first, that one is a mapping at the column, which awaits no `:`
 pub record TopMapping (frames : List Frame) (column : ℕ) : Type 0 where

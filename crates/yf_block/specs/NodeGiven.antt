@@ -4,15 +4,15 @@ use Rattle.std.specs.Prelude.{◌≡◌, ℕ, ◌+◌, ◌<◌, ◌^◌, ◌≤�
 use Rattle.yf_chars.specs.declared.context.Ctx.{Ctx}
 use Rattle.yf_chars.specs.Chain.{Stuck, Chosen}
 use Rattle.yf_events.specs.declared.part.Part.{Part}
-use Rattle.yf_grammar.specs.BlockParser.{Nothing, Awaited}
-use Rattle.yf_grammar.specs.Part.{BlockNodePart}
-use Rattle.yf_flow.specs.Begun.{Added}
-use Rattle.yf_flow.specs.Counted.{openers_from}
-use Rattle.yf_block.specs.declared.nodes.Found.{Found as FoundNode}
-use Rattle.yf_block.specs.declared.nodes.Outcome.{Outcome}
-use Rattle.yf_block.specs.declared.nodes.Outcome.TheVariants.{Found, Nothing as NoNode, TooDeep as TooDeepHere}
+use Rattle.yf_grammar.specs.BlockReader.BlockParser.{Nothing, Awaited}
+use Rattle.yf_grammar.specs.Productions.ReadParts.{BlockNodePart}
+use Rattle.yf_flow.specs.NodeStarts.{PartGrown}
+use Rattle.yf_flow.specs.Depth.{openers_from}
+use Rattle.yf_block.specs.declared.nodes.FoundBlock.{FoundBlock as FoundNode}
+use Rattle.yf_block.specs.declared.nodes.BlockOutcome.{BlockOutcome}
+use Rattle.yf_block.specs.declared.nodes.BlockOutcome.TheVariants.{Found, Nothing as NoNode, TooDeep as TooDeepHere}
 use Rattle.yf_block.specs.BlockTied.{floor_after}
-use Rattle.yf_block.specs.BlockStepTied.{Unfinished}
+use Rattle.yf_block.specs.BlockStepTied.{TextIsLeft}
 
 -- an indentation of a node, from -1 to 2^30; no text of 1 GiB has a column that is not less than 2^30
 pub record Indentation (n : ℤ) : Type 0 where
@@ -24,23 +24,23 @@ pub record Indentation (n : ℤ) : Type 0 where
 pub record NodeGiven (t : List ℕ) (limit : ℕ) (n : ℤ) (c : Ctx) (at end floor : ℕ) (before part : Part) : Type 0 where
   pub node : Part
   pub chosen : Chosen (BlockNodePart t limit n c at) end node
-  pub added : Added before part node.events node.comments node.escapes
+  pub added : PartGrown before part node.events node.comments node.escapes
   pub floor_is : floor ≡ floor_after 0 node.events
 
 -- a node that was found: what the part has more is known where nothing went wrong after it, or where the part had nothing before; a collection
--- too many is told only where more openers than the limit stand from the place on
+-- too many is told only where more openers than the limit are from the place on
 pub record FoundTied (t : List ℕ) (limit : ℕ) (n : ℤ) (c : Ctx) (at : ℕ) (before : Part) (f : FoundNode) (part : Part) : Type 0 where
   pub whole : f.whole ≡ true → NodeGiven t limit n c at f.end f.floor before part
-  pub broken : f.whole ≡ false → Unfinished t limit (Awaited false n c Nothing at)
+  pub broken : f.whole ≡ false → TextIsLeft t limit (Awaited false n c Nothing at)
   pub deep : f.too_deep ≡ true → limit < openers_from t at
   pub alone : before.events ≡ [] → before.comments ≡ [] → before.escapes ≡ [] → NodeGiven t limit n c at f.end f.floor before part
 
 -- none is derived there
 pub record NoneTied (t : List ℕ) (limit : ℕ) (n : ℤ) (c : Ctx) (at : ℕ) : Type 0 where
   pub none : Stuck (BlockNodePart t limit n c at)
-  pub broken : Unfinished t limit (Awaited false n c Nothing at)
+  pub broken : TextIsLeft t limit (Awaited false n c Nothing at)
 
-abbrev pub OutcomeTied : List ℕ → ℕ → ℤ → Ctx → ℕ → Part → Outcome → Part → Type 0
+abbrev pub OutcomeTied : List ℕ → ℕ → ℤ → Ctx → ℕ → Part → BlockOutcome → Part → Type 0
 OutcomeTied t limit n c at before (Found f) part = FoundTied t limit n c at before f part
 OutcomeTied t limit n c at before (NoNode p) part = NoneTied t limit n c at
 OutcomeTied t limit n c at before (TooDeepHere p) part = NoneTied t limit n c at × (limit < openers_from t at)

@@ -6,7 +6,7 @@ use Rattle.yf_events.specs.declared.reading.TheConstants.{DEPTH}
 use Rattle.yf_flow.specs.declared.flow.NodePart.{NodePart}
 use Rattle.yf_flow.specs.declared.flow.ScannedPart.{ScannedPart}
 use Rattle.yf_flow.specs.NodeReaders.{ReadsNode, ScansNode}
-use Rattle.yf_grammar.specs.Part.{BlockNodePart}
+use Rattle.yf_grammar.specs.Productions.ReadParts.{BlockNodePart}
 
 -- read_block_node and scan_block_node: the longest block node within the limit of open collections
 abbrev pub ReadsBlockNode : List ℕ → ℤ → Ctx → ℕ → Result (Option NodePart) Fault → Type 0

@@ -1,4 +1,4 @@
--- What the readers of the properties of a line give, in terms of the recursive reader: the properties, what stands after them, and
+-- What the readers of the properties of a line give, in terms of the recursive reader: the properties, what is after them, and
 -- what becomes of those of lines before.
 use Rattle.std.specs.Prelude.{◌≡◌, ℕ, pos, true, false, List, [], Option, Some, None, MatchOption}
 use Rattle.yf_chars.specs.declared.context.Ctx.TheVariants.{FlowKey}
@@ -7,9 +7,9 @@ use Rattle.yf_chars.specs.Class.{is_white}
 use Rattle.yf_chars.specs.Chain.{Chosen, Many}
 use Rattle.yf_props.specs.Names.{Properties, PropertiesValue}
 use Rattle.yf_events.specs.declared.event.Entry as TheEntry
-use Rattle.yf_grammar.specs.Parser.{begins_properties}
-use Rattle.yf_grammar.specs.BlockParser.{Ahead, Props, Held as HeldValue, SignAt, Clash, Joins, Apart, both}
-use Rattle.yf_flow.specs.Begun.{bare_lead}
+use Rattle.yf_grammar.specs.FlowReader.Parser.{begins_properties}
+use Rattle.yf_grammar.specs.BlockReader.BlockParser.{Ahead, Props, PropertiesHeld as HeldValue, SignAt, Clash, Joins, Apart, both}
+use Rattle.yf_flow.specs.NodeStarts.{bare_lead}
 use Rattle.yf_flow.specs.declared.node.Lead.{Lead}
 use Rattle.yf_block.specs.declared.properties.PlacedProperties.{PlacedProperties}
 use Rattle.yf_block.specs.BlockStepTied.{PropertiesTied}
@@ -24,7 +24,7 @@ pub record LineProperties (t : List ℕ) (p : ℕ) (held : PlacedProperties) : T
   pub tied : PropertiesTied (line_held value p held.end) held
   pub no_comments : value.comments ≡ []
 
--- the place of what stands after properties that end at g: after white space, or the `:` of an empty key; and no further property
+-- the place of what is after properties that end at g: after white space, or the `:` of an empty key; and no further property
 pub record PlaceAfter (t : List ℕ) (g p : ℕ) : Type 0 where
   pub whites : List ℕ
   pub run : Many t is_white g p whites
@@ -32,7 +32,7 @@ pub record PlaceAfter (t : List ℕ) (g p : ℕ) : Type 0 where
   pub beside : p ≡ g → SignAt t 58 p
   pub no_property : begins_properties (code t p) ≡ false
 
--- or something else stands beside them, or a further property
+-- or something else is beside them, or a further property
 pub data NoPlaceAfter (t : List ℕ) (g : ℕ) : Type 0 where
   other_beside : is_white (code t g) ≡ false → (SignAt t 58 g → ⊥) → NoPlaceAfter t g
   property_after : {p : ℕ} {w : List ℕ} → Many t is_white g p w → is_white (code t p) ≡ false → begins_properties (code t p) ≡ true → NoPlaceAfter t g
@@ -51,20 +51,20 @@ pub record BothProperties (h : HeldValue) (q : PropertiesValue) (g : ℕ) (held 
 abbrev pub JoinedTo : HeldValue → PropertiesValue → ℕ → Option PlacedProperties → Type 0
 JoinedTo h q g result = MatchOption result (Clash h q) (BothProperties h q g)
 
--- what stands ahead holds those of lines before, or there are none
-pub record Holds (a : Ahead) (held : PlacedProperties) : Type 0 where
+-- what is ahead holds those of lines before, or there are none
+pub record HoldsProperties (a : Ahead) (held : PlacedProperties) : Type 0 where
   pub value : HeldValue
   pub is : a ≡ Props value
   pub tied : PropertiesTied value held
 
 abbrev pub PropertiesAhead : Ahead → Option PlacedProperties → Type 0
 PropertiesAhead a None = (h : HeldValue) → a ≡ Props h → ⊥
-PropertiesAhead a (Some held) = Holds a held
+PropertiesAhead a (Some held) = HoldsProperties a held
 
 pub record JoinedAhead (a : Ahead) (q : PropertiesValue) (p g : ℕ) (held : PlacedProperties) : Type 0 where
   pub ahead : Ahead
   pub joins : Joins a q p g ahead
-  pub tied : Holds ahead held
+  pub tied : HoldsProperties ahead held
 
 abbrev pub JoinedAfter : Ahead → PropertiesValue → ℕ → ℕ → Option PlacedProperties → Type 0
 JoinedAfter a q p g result = MatchOption result (Apart a q) (JoinedAhead a q p g)

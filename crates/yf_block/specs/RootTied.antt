@@ -2,13 +2,13 @@
 use Rattle.std.specs.Prelude.{◌≡◌, ℕ, ◌+◌, ◌^◌, ◌≤◌, ℤ, pos, ◌+ℤ◌, false, List, [], None}
 use Rattle.yf_chars.specs.declared.context.Ctx.{Ctx}
 use Rattle.yf_events.specs.declared.part.Part.{Part}
-use Rattle.yf_grammar.specs.BlockParser.{Nothing, BlockTask, Awaited}
+use Rattle.yf_grammar.specs.BlockReader.BlockParser.{Nothing, BlockTask, Awaited}
 use Rattle.yf_block.specs.declared.frame.Frame.{Frame}
-use Rattle.yf_block.specs.declared.frame.Progress.{Progress}
+use Rattle.yf_block.specs.declared.frame.BlockCursor.{BlockCursor}
 use Rattle.yf_block.specs.BlockTied.{TextTied}
 use Rattle.yf_block.specs.BlockStepTied.{is_out}
 
-pub record AtRoot (t : List ℕ) (n : ℤ) (c : Ctx) (at : ℕ) (progress : Progress) : Type 0 where
+pub record AtRoot (t : List ℕ) (n : ℤ) (c : Ctx) (at : ℕ) (progress : BlockCursor) : Type 0 where
   pub text : TextTied t
   pub least : pos progress.wanted.least ≡ n +ℤ pos 1
   pub narrow : progress.wanted.least ≤ 2 ^ 30 + 1
@@ -22,7 +22,7 @@ pub record AtRoot (t : List ℕ) (n : ℤ) (c : Ctx) (at : ℕ) (progress : Prog
   pub halt : progress.halt ≡ None
 
 -- the outermost node is awaited, before the part has anything of it
-pub record AtBegin (t : List ℕ) (d : ℕ) (root : BlockTask) (before : Part) (frames : List Frame) (p : ℕ) (progress : Progress) (part : Part) : Type 0 where
+pub record AtBegin (t : List ℕ) (d : ℕ) (root : BlockTask) (before : Part) (frames : List Frame) (p : ℕ) (progress : BlockCursor) (part : Part) : Type 0 where
   pub indentation : ℤ
   pub context : Ctx
   pub root_is : root ≡ Awaited false indentation context Nothing p

@@ -3,20 +3,20 @@ use Rattle.std.specs.Prelude.{◌≡◌, ℕ, ◌+◌, ◌<◌, ◌≤◌, ◌^�
 use Rattle.yf_chars.specs.declared.context.Ctx.{Ctx}
 use Rattle.yf_lines.specs.Basic.{is_block}
 use Rattle.yf_events.specs.declared.part.Part.{Part}
-use Rattle.yf_grammar.specs.Parser.{Found}
-use Rattle.yf_grammar.specs.BlockParser.{BlockTask, Whole}
-use Rattle.yf_grammar.specs.Halts.{Halts}
-use Rattle.yf_block.specs.declared.frame.Progress.{Progress}
-use Rattle.yf_block.specs.declared.nodes.Outcome.{Outcome}
-use Rattle.yf_block.specs.declared.nodes.Outcome.TheVariants.{Nothing as NoNode, TooDeep as TooDeepHere}
+use Rattle.yf_grammar.specs.FlowReader.Parser.{ParsedNode}
+use Rattle.yf_grammar.specs.BlockReader.BlockParser.{BlockTask, Whole}
+use Rattle.yf_grammar.specs.BlockReader.Halts.{Halts}
+use Rattle.yf_block.specs.declared.frame.BlockCursor.{BlockCursor}
+use Rattle.yf_block.specs.declared.nodes.BlockOutcome.{BlockOutcome}
+use Rattle.yf_block.specs.declared.nodes.BlockOutcome.TheVariants.{Nothing as NoNode, TooDeep as TooDeepHere}
 use Rattle.yf_block.specs.declared.nodes.Root.{Root}
 use Rattle.yf_block.specs.declared.nodes.Stop.{Stop}
 use Rattle.yf_block.specs.declared.nodes.Stop.TheVariants.{Done, Failed, TooDeep}
 use Rattle.yf_block.specs.declared.nodes.Stopped.{Stopped}
-use Rattle.yf_block.specs.BlockTied.{floor_after, Written, halt_end, TextTied}
-use Rattle.yf_block.specs.BlockStepTied.{is_out, Unfinished, AtDone, AtFailed}
+use Rattle.yf_block.specs.BlockTied.{floor_after, PartSoFar, halt_end, TextTied}
+use Rattle.yf_block.specs.BlockStepTied.{is_out, TextIsLeft, AtDone, AtFailed}
 
-abbrev pub StopTied : List ℕ → ℕ → BlockTask → Part → Stop → Progress → Part → Type 0
+abbrev pub StopTied : List ℕ → ℕ → BlockTask → Part → Stop → BlockCursor → Part → Type 0
 StopTied t d root before (Done p) progress part = AtDone t d root before p progress part
 StopTied t d root before (Failed p) progress part = AtFailed t d root progress
 StopTied t d root before (TooDeep p) progress part = AtFailed t d root progress
@@ -33,26 +33,26 @@ is_too_deep (Failed p) = false
 is_too_deep (TooDeep p) = true
 
 -- what is told where no node ends
-abbrev pub StopsAs : Stop → Outcome → Type 0
+abbrev pub StopsAs : Stop → BlockOutcome → Type 0
 StopsAs (Done p) o = o ≡ NoNode p
 StopsAs (Failed p) o = o ≡ NoNode p
 StopsAs (TooDeep p) o = o ≡ TooDeepHere p
 
 -- the outermost node has been read, and ends there
 pub record RunDone (t : List ℕ) (d : ℕ) (root : BlockTask) (before : Part) (p : ℕ) (r : Stopped) (part : Part) : Type 0 where
-  pub answer : Found
-  pub halt : Option Found
+  pub answer : ParsedNode
+  pub halt : Option ParsedNode
   pub whole : Whole t d root (Some answer)
   pub halts : Halts t d [] root halt
   pub end : answer.end ≡ p
   pub halted : r.halt ≡ halt_end halt
   pub floor : r.floor ≡ floor_after 0 answer.meaning.events
-  pub written : Written t before answer.meaning part
+  pub written : PartSoFar t before answer.meaning part
 
 -- the text goes wrong
 pub record RunBroken (t : List ℕ) (d : ℕ) (root : BlockTask) (r : Stopped) : Type 0 where
-  pub halt : Option Found
-  pub unfinished : Unfinished t d root
+  pub halt : Option ParsedNode
+  pub unfinished : TextIsLeft t d root
   pub halts : Halts t d [] root halt
   pub halted : r.halt ≡ halt_end halt
 
@@ -74,6 +74,6 @@ pub record ReadRoot (t : List ℕ) (root : Root) (n : ℤ) (c : Ctx) : Type 0 wh
 
 -- the last place at which all open nodes may end
 pub record HaltAt (t : List ℕ) (d : ℕ) (root : BlockTask) (end : ℕ) : Type 0 where
-  pub found : Found
+  pub found : ParsedNode
   pub halts : Halts t d [] root (Some found)
   pub ends : found.end ≡ end

@@ -5,7 +5,7 @@ use Rattle.yf_chars.specs.Signs.{BYTE_ORDER_MARK}
 use Rattle.yf_chars.specs.Text.{code}
 use Rattle.yf_lines.specs.Basic.{Break}
 
--- from the place back; the first flag says whether white space alone stands between the place and a break that was passed, and
+-- from the place back; the first flag says whether white space alone is between the place and a break that was passed, and
 -- the second is the answer
 pub data WalksBack (t : List ℕ) (floor : ℕ) : ℕ → Bool → Bool → Type 0 where
   floor_reached : {j : ℕ} {blank : Bool} → j ≤ floor → WalksBack t floor j blank blank

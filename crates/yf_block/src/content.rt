@@ -1,30 +1,30 @@
 //! What a node has on one line: the sign of an entry, properties, a block scalar, or a flow node.
 ghost use Rattle.std.specs.Prelude.{◌≡◌, ◌+◌, Some, MatchBool, ℕ, MatchOption};
 ghost use Rattle.std.specs.Str.{IsCharBoundary};
-ghost use Rattle.yf_flow.specs.Machine.{Place};
-ghost use Rattle.yf_grammar.specs.BlockParser.{Ahead};
+ghost use Rattle.yf_flow.specs.Machine.{BoundaryFrom};
+ghost use Rattle.yf_grammar.specs.BlockReader.BlockParser.{Ahead};
 ghost use Rattle.yf_block.specs.declared.properties.PlacedProperties.{PlacedProperties as PropertiesThere};
 ghost use Rattle.yf_block.specs.BlockStepTied.{AheadTied};
 ghost use Rattle.yf_block.specs.BelongingTied.{BelongingTied};
 ghost use Rattle.yf_block.specs.ContentTied.{AtAfterProperties, AtProperties, AtUndashed, CountsOf};
 ghost use Rattle.yf_block.specs.Counted.{CountedAt};
-ghost use Rattle.yf_block.specs.PropertiesAnswers.{Holds, LineProperties, held_lead, lead_at};
+ghost use Rattle.yf_block.specs.PropertiesAnswers.{HoldsProperties, LineProperties, held_lead, lead_at};
 ghost use Rattle.yf_block.specs.InlineTied.{EntrySignAt};
-ghost use Rattle.yf_block.specs.Machine.{PropertiesTo, Standing};
-ghost use Rattle.yf_block.specs.StepAnswers.{Answers};
+ghost use Rattle.yf_block.specs.Machine.{PropertiesTo, IsReaderReady};
+ghost use Rattle.yf_block.specs.StepAnswers.{StepPromises};
 
-use crate::frame::{Kind, Reader, Scope, Step, Wanted};
+use crate::frame::{AwaitedNode, BlockContext, BlockReader, CollectionKind, Step};
 use crate::halt::Counts;
 use crate::inline::read_inline;
 use crate::line::read_line_end;
-use crate::look::{entry_sign_stands, line_ends, word_stands};
+use crate::look::{is_entry_sign_at, is_key_char_at, line_ends};
 use crate::properties::{
-    PlacedProperties, copied, joined, joined_after, lead_of, line_properties, place_after,
-    property_stands,
+    PlacedProperties, copied, is_property_at, joined, joined_after, lead_of, line_properties,
+    place_after,
 };
-use crate::scalar::block_scalar_stands;
+use crate::scalar::is_block_scalar_at;
 use std::alloc::AllocError;
-use yf_chars::text::stands;
+use yf_chars::text::is_char_at;
 use yf_events::event::Entry;
 use yf_events::part::Part;
 use yf_flow::node::Lead;
@@ -39,7 +39,7 @@ pub(crate) struct NodeStart {
     pub(crate) column: Option<usize>,
 }
 
-/// What stands after the properties of a line.
+/// What is after the properties of a line.
 #[derive(Clone, Copy)]
 pub(crate) struct AfterProperties<'a> {
     pub(crate) at: usize,
@@ -49,7 +49,7 @@ pub(crate) struct AfterProperties<'a> {
     pub(crate) node_start: NodeStart,
 }
 
-/// To which node the properties belong that stand on lines before.
+/// To which node the properties belong that are on lines before.
 #[derive(Clone, Copy)]
 pub(crate) enum Belonging {
     /// There are none.
@@ -79,52 +79,57 @@ pub(crate) fn is_apart(belonging: Belonging) -> bool
     }
 }
 
-impl<'a> Reader<'a> {
+impl<'a> BlockReader<'a> {
     /// Begins the content of a node at a place of a line. Most nodes begin as words do, which settles most of what is asked of
     /// their first character, so they have a way of their own.
     #[inline(always)]
     pub(crate) fn take_content(
         &mut self,
-        scope: Scope<'a>,
+        scope: BlockContext<'a>,
         node_start: NodeStart,
     ) -> Result<Step, AllocError>
-        requires { Standing scope.text.now node_start.at self.old }
-        ensures { Answers (AtUndashed node_start.column) CountedAt scope.entry node_start.at 0 self.old self.new result }
+        requires { IsReaderReady scope.text.now node_start.at self.old }
+        ensures { StepPromises (AtUndashed node_start.column) CountedAt scope.entry node_start.at 0 self.old self.new result }
     {
-        if word_stands(scope.text, node_start.at) {
+        if is_key_char_at(scope.text, node_start.at) {
             return self.take_any_content(scope, node_start);
         }
         self.take_other_content(scope, node_start)
     }
 
-    // The same where another character stands there.
+    // The same where another character is there.
     #[inline(never)]
     fn take_other_content(
         &mut self,
-        scope: Scope<'a>,
+        scope: BlockContext<'a>,
         node_start: NodeStart,
     ) -> Result<Step, AllocError>
-        requires { Standing scope.text.now node_start.at self.old }
-        ensures { Answers (AtUndashed node_start.column) CountedAt scope.entry node_start.at 0 self.old self.new result }
+        requires { IsReaderReady scope.text.now node_start.at self.old }
+        ensures { StepPromises (AtUndashed node_start.column) CountedAt scope.entry node_start.at 0 self.old self.new result }
     {
         self.take_any_content(scope, node_start)
     }
 
-    // The same whatever stands there. Few nodes have properties.
+    // The same whatever is there. Few nodes have properties.
     #[inline(always)]
     fn take_any_content(
         &mut self,
-        scope: Scope<'a>,
+        scope: BlockContext<'a>,
         node_start: NodeStart,
     ) -> Result<Step, AllocError>
-        requires { Standing scope.text.now node_start.at self.old }
-        ensures { Answers (AtUndashed node_start.column) CountedAt scope.entry node_start.at 0 self.old self.new result }
+        requires { IsReaderReady scope.text.now node_start.at self.old }
+        ensures { StepPromises (AtUndashed node_start.column) CountedAt scope.entry node_start.at 0 self.old self.new result }
     {
-        if property_stands(scope.text, node_start.at) {
+        if is_property_at(scope.text, node_start.at) {
             return self.take_held_content(scope, node_start);
         }
         match signed_column(scope.text, node_start) {
-            Some(column) => self.open_collection(scope, Kind::Mapping, node_start.at, column),
+            Some(column) => self.open_collection(
+                scope,
+                CollectionKind::Mapping,
+                node_start.at,
+                column,
+            ),
             None => {
                 let after = AfterProperties {
                     at: node_start.at,
@@ -140,14 +145,19 @@ impl<'a> Reader<'a> {
     #[inline(never)]
     fn take_held_content(
         &mut self,
-        scope: Scope<'a>,
+        scope: BlockContext<'a>,
         node_start: NodeStart,
     ) -> Result<Step, AllocError>
-        requires { Standing scope.text.now node_start.at self.old }
-        ensures { Answers (AtUndashed node_start.column) CountedAt scope.entry node_start.at 0 self.old self.new result }
+        requires { IsReaderReady scope.text.now node_start.at self.old }
+        ensures { StepPromises (AtUndashed node_start.column) CountedAt scope.entry node_start.at 0 self.old self.new result }
     {
         match signed_column(scope.text, node_start) {
-            Some(column) => self.open_collection(scope, Kind::Mapping, node_start.at, column),
+            Some(column) => self.open_collection(
+                scope,
+                CollectionKind::Mapping,
+                node_start.at,
+                column,
+            ),
             None => match line_properties(scope.alloc, scope.text, node_start.at)? {
                 Some(inner) => self.take_propertied(scope, inner, node_start),
                 None => {
@@ -166,13 +176,13 @@ impl<'a> Reader<'a> {
     #[inline(always)]
     fn take_after_properties(
         &mut self,
-        scope: Scope<'a>,
+        scope: BlockContext<'a>,
         after: &AfterProperties<'a>,
     ) -> Result<Step, AllocError>
-        requires standing { Standing scope.text.now after.now.at self.old }
+        requires standing { IsReaderReady scope.text.now after.now.at self.old }
         requires start { IsCharBoundary scope.text.now after.now.node_start.at }
         requires properties { PropertiesTo scope.text.now after.now.node_start.at after.now.at after.now.inner }
-        ensures { Answers (AtAfterProperties after.now) CountedAt scope.entry after.now.node_start.at 0 self.old self.new result }
+        ensures { StepPromises (AtAfterProperties after.now) CountedAt scope.entry after.now.node_start.at 0 self.old self.new result }
     {
         match self.progress.wanted.outer {
             Some(_) => {
@@ -190,17 +200,17 @@ impl<'a> Reader<'a> {
         }
     }
 
-    // The same where properties may stand on lines before.
+    // The same where properties may be on lines before.
     #[inline(never)]
     fn take_after_lines(
         &mut self,
-        scope: Scope<'a>,
+        scope: BlockContext<'a>,
         after: &AfterProperties<'a>,
     ) -> Result<Step, AllocError>
-        requires standing { Standing scope.text.now after.now.at self.old }
+        requires standing { IsReaderReady scope.text.now after.now.at self.old }
         requires start { IsCharBoundary scope.text.now after.now.node_start.at }
         requires properties { PropertiesTo scope.text.now after.now.node_start.at after.now.at after.now.inner }
-        ensures { Answers (AtAfterProperties after.now) CountedAt scope.entry after.now.node_start.at 0 self.old self.new result }
+        ensures { StepPromises (AtAfterProperties after.now) CountedAt scope.entry after.now.node_start.at 0 self.old self.new result }
     {
         let facts = facts_of(scope.text, after, &self.progress.wanted, &self.part);
         self.take_text(scope, after, &facts)
@@ -210,11 +220,11 @@ impl<'a> Reader<'a> {
     #[inline(always)]
     fn take_text(
         &mut self,
-        scope: Scope<'a>,
+        scope: BlockContext<'a>,
         after: &AfterProperties<'a>,
         facts: &NodeFacts<'a>,
     ) -> Result<Step, AllocError>
-        requires standing { Standing scope.text.now after.now.at self.old }
+        requires standing { IsReaderReady scope.text.now after.now.at self.old }
         requires start { IsCharBoundary scope.text.now after.now.node_start.at }
         requires properties { PropertiesTo scope.text.now after.now.node_start.at after.now.at after.now.inner }
         requires counts { CountsOf self.old.part facts.now.before }
@@ -222,9 +232,9 @@ impl<'a> Reader<'a> {
             → ((h : PropertiesThere) → after.now.inner ≡ Some h → LineProperties scope.text.now after.now.node_start.at h)
             → BelongingTied scope.text.now after.now.node_start.at after.now.at a after.now.inner self.old.progress.wanted.entry
             facts.now.lead facts.now.belonging }
-        ensures { Answers (AtAfterProperties after.now) CountedAt scope.entry after.now.node_start.at 0 self.old self.new result }
+        ensures { StepPromises (AtAfterProperties after.now) CountedAt scope.entry after.now.node_start.at 0 self.old self.new result }
     {
-        if block_scalar_stands(scope.text, after.at) {
+        if is_block_scalar_at(scope.text, after.at) {
             if is_apart(facts.belonging) {
                 return Ok(Step::Failed(after.node_start.at));
             }
@@ -245,18 +255,18 @@ impl<'a> Reader<'a> {
         }
     }
 
-    // What stands after the properties of a line: nothing, so that the node stands on a later one, or the content of a
+    // What is after the properties of a line: nothing, so that the node is on a later one, or the content of a
     // node or key.
     #[inline(never)]
     fn take_propertied(
         &mut self,
-        scope: Scope<'a>,
+        scope: BlockContext<'a>,
         inner: PlacedProperties<'a>,
         node_start: NodeStart,
     ) -> Result<Step, AllocError>
-        requires standing { Standing scope.text.now node_start.at self.old }
-        requires inner { Place scope.text.now (node_start.at + 1) inner.end }
-        ensures { Answers (AtProperties inner.entry node_start.column) CountedAt scope.entry node_start.at 0 self.old self.new result }
+        requires standing { IsReaderReady scope.text.now node_start.at self.old }
+        requires inner { BoundaryFrom scope.text.now (node_start.at + 1) inner.end }
+        ensures { StepPromises (AtProperties inner.entry node_start.column) CountedAt scope.entry node_start.at 0 self.old self.new result }
     {
         let place = skip_whites(scope.text, inner.end);
         if line_ends(scope.text, place, place > inner.end) {
@@ -292,7 +302,7 @@ fn signed_column(text: &str, node_start: NodeStart) -> Option<usize>
 {
     match node_start.column {
         Some(column) => {
-            if entry_sign_stands(text, node_start.at) {
+            if is_entry_sign_at(text, node_start.at) {
                 return Some(column);
             }
             None
@@ -305,7 +315,7 @@ fn signed_column(text: &str, node_start: NodeStart) -> Option<usize>
 fn facts_of<'a>(
     text: &str,
     after: &AfterProperties<'a>,
-    wanted: &Wanted<'a>,
+    wanted: &AwaitedNode<'a>,
     part: &Part<'a>,
 ) -> NodeFacts<'a>
     ensures counts { CountsOf part.now result.before }
@@ -319,7 +329,7 @@ fn facts_of<'a>(
     }
 }
 
-// The same where none stand on lines before.
+// The same where none are on lines before.
 #[inline(always)]
 fn facts_alone<'a>(
     after: &AfterProperties<'a>,
@@ -337,7 +347,7 @@ fn facts_alone<'a>(
     }
 }
 
-// The same where properties stand on lines before.
+// The same where properties are on lines before.
 #[inline(never)]
 fn facts_with_outer<'a>(
     text: &str,
@@ -347,11 +357,11 @@ fn facts_with_outer<'a>(
     before: Counts,
 ) -> NodeFacts<'a>
     ensures before { result.before ≡ before }
-    ensures belonging { (a : Ahead) → Holds a outer.entry
+    ensures belonging { (a : Ahead) → HoldsProperties a outer.entry
         → ((h : PropertiesThere) → after.now.inner ≡ Some h → LineProperties text.now after.now.node_start.at h)
         → BelongingTied text.now after.now.node_start.at after.now.at a after.now.inner entry result.lead result.belonging }
 {
-    if stands(text, after.at, b'*') {
+    if is_char_at(text, after.at, b'*') {
         return apart_facts(after, entry, before);
     }
     match after.inner {

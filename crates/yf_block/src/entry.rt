@@ -7,26 +7,28 @@ ghost use Rattle.yf_comments.specs.Comments.{Blank};
 ghost use Rattle.yf_events.specs.Event.{placed_value};
 ghost use Rattle.yf_props.specs.Names as Names;
 ghost use Rattle.yf_props.specs.Props.{props_value};
-ghost use Rattle.yf_grammar.specs.BlockParser.{DashAt};
-ghost use Rattle.yf_grammar.specs.Meaning.{event_with, start_of};
-ghost use Rattle.yf_grammar.specs.Part.{NotedSince};
-ghost use Rattle.yf_flow.specs.Begun.{lead_event};
-ghost use Rattle.yf_flow.specs.Machine.{Place};
+ghost use Rattle.yf_grammar.specs.BlockReader.BlockParser.{DashAt};
+ghost use Rattle.yf_grammar.specs.Productions.Meaning.{event_with, start_of};
+ghost use Rattle.yf_grammar.specs.Productions.ReadParts.{NotedSince};
+ghost use Rattle.yf_flow.specs.NodeStarts.{lead_event};
+ghost use Rattle.yf_flow.specs.Machine.{BoundaryFrom};
 ghost use Rattle.yf_block.specs.BlockTied.{NodeAwaited};
 ghost use Rattle.yf_block.specs.Counted.{CountedAt, EntryCounted};
 ghost use Rattle.yf_block.specs.InlineTied.{is_sequence, started};
 ghost use Rattle.yf_block.specs.KeyAwaited.{KeyAwaited};
 ghost use Rattle.yf_block.specs.KeyTexts.{KeyTextAt, KeyTextPlace};
-ghost use Rattle.yf_block.specs.Machine.{Standing};
+ghost use Rattle.yf_block.specs.Machine.{IsReaderReady};
 ghost use Rattle.yf_block.specs.OpeningTied.{AtItem, AtOpening, AtPairEntry, SignOf};
 ghost use Rattle.yf_block.specs.PropertiesAnswers.{LineProperties};
-ghost use Rattle.yf_block.specs.StepAnswers.{Answers};
+ghost use Rattle.yf_block.specs.StepAnswers.{StepPromises};
 
-use crate::frame::{Frame, Kind, Progress, Reader, Scope, Slot, Step, Wanted};
+use crate::frame::{
+    AwaitedNode, BlockContext, BlockCursor, BlockReader, CollectionKind, EntryStart, Frame, Step,
+};
 use crate::inline::read_inline;
 use crate::line::read_line_end;
-use crate::look::{is_blank_after, key_ends, sign_stands, word_stands};
-use crate::properties::{PlacedProperties, lead_of, line_properties, place_after, property_stands};
+use crate::look::{is_blank_after, is_key_char_at, is_sign_at, key_ends};
+use crate::properties::{PlacedProperties, is_property_at, lead_of, line_properties, place_after};
 use std::alloc::{AllocError, Global};
 use yf_chars::context::Ctx;
 use yf_events::event::{Entry, NewEvent, PlacedEvent};
@@ -59,9 +61,9 @@ pub(crate) fn entry_at(text: &str, floor: usize, start: usize, colon: Option<usi
 /// The event that begins a block collection as the awaited node. Where the collection ends is noted once it has been read.
 pub(crate) fn collection_start<'a>(
     alloc: Global,
-    kind: Kind,
+    kind: CollectionKind,
     at: usize,
-    wanted: &Wanted<'a>,
+    wanted: &AwaitedNode<'a>,
 ) -> PlacedEvent<'a>
     ensures { placed_value result ≡ started kind at wanted.now }
 {
@@ -72,18 +74,18 @@ pub(crate) fn collection_start<'a>(
 #[inline(always)]
 pub(crate) fn start_with<'a>(
     alloc: Global,
-    kind: Kind,
+    kind: CollectionKind,
     at: usize,
     lead: Lead<'a>,
 ) -> PlacedEvent<'a>
     ensures { placed_value result ≡ lead_event lead.entry (event_with (props_value lead.entry.props) (start_of (is_sequence kind) false)) at }
 {
     let event = match kind {
-        Kind::Sequence => NewEvent::SeqStart {
+        CollectionKind::Sequence => NewEvent::SeqStart {
             flow: false,
             props: lead.props,
         },
-        Kind::Mapping => NewEvent::MapStart {
+        CollectionKind::Mapping => NewEvent::MapStart {
             flow: false,
             props: lead.props,
         },
@@ -91,20 +93,20 @@ pub(crate) fn start_with<'a>(
     lead.placed(alloc, event, at)
 }
 
-impl<'a> Reader<'a> {
+impl<'a> BlockReader<'a> {
     /// Opens the collection whose first entry begins at the place with its sign, `-`, `?` or `:` (l+block-sequence,
     /// production 183; l+block-mapping, production 187; in their compact forms productions 186 and 195).
     #[inline(never)]
     pub(crate) fn open_collection(
         &mut self,
-        scope: Scope<'a>,
-        kind: Kind,
+        scope: BlockContext<'a>,
+        kind: CollectionKind,
         at: usize,
         column: usize,
     ) -> Result<Step, AllocError>
-        requires standing { Standing scope.text.now at self.old }
+        requires standing { IsReaderReady scope.text.now at self.old }
         requires sign { SignOf kind scope.text.now at }
-        ensures { Answers (AtOpening kind column) CountedAt scope.entry at 0 self.old self.new result }
+        ensures { StepPromises (AtOpening kind column) CountedAt scope.entry at 0 self.old self.new result }
     {
         if self.frames.len() >= scope.limit {
             return Ok(Step::TooDeep(at));
@@ -113,20 +115,24 @@ impl<'a> Reader<'a> {
         let start = collection_start(scope.alloc, kind, at, &self.progress.wanted);
         self.part.events.push(start)?;
         match kind {
-            Kind::Sequence => self.take_item(scope, Slot { frame, at }),
-            Kind::Mapping => self.take_entry(scope, Slot { frame, at }),
+            CollectionKind::Sequence => self.take_item(scope, EntryStart { frame, at }),
+            CollectionKind::Mapping => self.take_entry(scope, EntryStart { frame, at }),
         }
     }
 
-    /// The entry of a sequence whose `-` stands there.
+    /// The entry of a sequence whose `-` is there.
     #[inline(always)]
-    pub(crate) fn take_item(&mut self, scope: Scope<'a>, slot: Slot) -> Result<Step, AllocError>
-        requires standing { Standing scope.text.now slot.at self.old }
+    pub(crate) fn take_item(
+        &mut self,
+        scope: BlockContext<'a>,
+        slot: EntryStart,
+    ) -> Result<Step, AllocError>
+        requires standing { IsReaderReady scope.text.now slot.at self.old }
         requires after { IsCharBoundary scope.text.now (slot.at + 1) }
         requires dash { DashAt scope.text.now slot.at }
-        ensures { Answers (AtItem slot.frame) CountedAt scope.entry slot.at 0 self.old self.new result }
+        ensures { StepPromises (AtItem slot.frame) CountedAt scope.entry slot.at 0 self.old self.new result }
     {
-        let Slot { frame, at } = slot;
+        let EntryStart { frame, at } = slot;
         self.frames.push(frame)?;
         let entry = entry_at(scope.text, self.progress.floor, at, None);
         let progress = &mut self.progress;
@@ -134,13 +140,17 @@ impl<'a> Reader<'a> {
     }
 
     /// The entry of a mapping that begins there (ns-l-block-map-entry, production 188).
-    pub(crate) fn take_entry(&mut self, scope: Scope<'a>, slot: Slot) -> Result<Step, AllocError>
-        requires { Standing scope.text.now slot.at self.old }
-        ensures { Answers (AtPairEntry slot.frame) EntryCounted scope.entry slot.at 0 self.old self.new result }
+    pub(crate) fn take_entry(
+        &mut self,
+        scope: BlockContext<'a>,
+        slot: EntryStart,
+    ) -> Result<Step, AllocError>
+        requires { IsReaderReady scope.text.now slot.at self.old }
+        ensures { StepPromises (AtPairEntry slot.frame) EntryCounted scope.entry slot.at 0 self.old self.new result }
     {
-        let Slot { frame, at } = slot;
+        let EntryStart { frame, at } = slot;
         let entry = entry_at(scope.text, self.progress.floor, at, None);
-        if sign_stands(scope.text, at, b'?') {
+        if is_sign_at(scope.text, at, b'?') {
             self.frames.push(Frame {
                 awaits_colon: true,
                 entry_event: self.part.events.len(),
@@ -154,7 +164,7 @@ impl<'a> Reader<'a> {
             awaits_colon: false,
             ..frame
         })?;
-        if sign_stands(scope.text, at, b':') {
+        if is_sign_at(scope.text, at, b':') {
             let keyless = Entry {
                 colon: Some(at),
                 ..entry
@@ -172,45 +182,45 @@ impl<'a> Reader<'a> {
     #[inline(always)]
     pub(crate) fn take_key(
         &mut self,
-        scope: Scope<'a>,
+        scope: BlockContext<'a>,
         column: usize,
         key: Entry,
     ) -> Result<Step, AllocError>
-        requires { Standing scope.text.now key.start self.old }
-        ensures { Answers (KeyAwaited column key) CountedAt scope.entry key.start 0 self.old self.new result }
+        requires { IsReaderReady scope.text.now key.start self.old }
+        ensures { StepPromises (KeyAwaited column key) CountedAt scope.entry key.start 0 self.old self.new result }
     {
-        if word_stands(scope.text, key.start) {
+        if is_key_char_at(scope.text, key.start) {
             return self.take_any_key(scope, column, key);
         }
         self.take_other_key(scope, column, key)
     }
 
-    // The same where another character stands there.
+    // The same where another character is there.
     #[inline(never)]
     fn take_other_key(
         &mut self,
-        scope: Scope<'a>,
+        scope: BlockContext<'a>,
         column: usize,
         key: Entry,
     ) -> Result<Step, AllocError>
-        requires { Standing scope.text.now key.start self.old }
-        ensures { Answers (KeyAwaited column key) CountedAt scope.entry key.start 0 self.old self.new result }
+        requires { IsReaderReady scope.text.now key.start self.old }
+        ensures { StepPromises (KeyAwaited column key) CountedAt scope.entry key.start 0 self.old self.new result }
     {
         self.take_any_key(scope, column, key)
     }
 
-    // The same whatever stands there. Few keys have properties.
+    // The same whatever is there. Few keys have properties.
     #[inline(always)]
     fn take_any_key(
         &mut self,
-        scope: Scope<'a>,
+        scope: BlockContext<'a>,
         column: usize,
         key: Entry,
     ) -> Result<Step, AllocError>
-        requires { Standing scope.text.now key.start self.old }
-        ensures { Answers (KeyAwaited column key) CountedAt scope.entry key.start 0 self.old self.new result }
+        requires { IsReaderReady scope.text.now key.start self.old }
+        ensures { StepPromises (KeyAwaited column key) CountedAt scope.entry key.start 0 self.old self.new result }
     {
-        if property_stands(scope.text, key.start) {
+        if is_property_at(scope.text, key.start) {
             return self.take_held_key(scope, column, key);
         }
         self.take_key_after(scope, column, key, &None)
@@ -220,12 +230,12 @@ impl<'a> Reader<'a> {
     #[inline(never)]
     fn take_held_key(
         &mut self,
-        scope: Scope<'a>,
+        scope: BlockContext<'a>,
         column: usize,
         key: Entry,
     ) -> Result<Step, AllocError>
-        requires { Standing scope.text.now key.start self.old }
-        ensures { Answers (KeyAwaited column key) CountedAt scope.entry key.start 0 self.old self.new result }
+        requires { IsReaderReady scope.text.now key.start self.old }
+        ensures { StepPromises (KeyAwaited column key) CountedAt scope.entry key.start 0 self.old self.new result }
     {
         let inner = line_properties(scope.alloc, scope.text, key.start)?;
         self.take_key_after(scope, column, key, &inner)
@@ -235,16 +245,16 @@ impl<'a> Reader<'a> {
     #[inline(always)]
     fn take_key_after(
         &mut self,
-        scope: Scope<'a>,
+        scope: BlockContext<'a>,
         column: usize,
         key: Entry,
         inner: &Option<PlacedProperties<'a>>,
     ) -> Result<Step, AllocError>
-        requires standing { Standing scope.text.now key.start self.old }
-        requires place { IfSome inner.now (λ h. Place scope.text.now (key.start + 1) h.end) }
+        requires standing { IsReaderReady scope.text.now key.start self.old }
+        requires place { IfSome inner.now (λ h. BoundaryFrom scope.text.now (key.start + 1) h.end) }
         requires reads { MatchOption inner.now (Stuck (Names.Properties scope.text.now (pos 0) Ctx.FlowKey key.start))
             (LineProperties scope.text.now key.start) }
-        ensures { Answers (KeyAwaited column key) CountedAt scope.entry key.start 0 self.old self.new result }
+        ensures { StepPromises (KeyAwaited column key) CountedAt scope.entry key.start 0 self.old self.new result }
     {
         let start = key.start;
         match key_text(scope, start, inner)? {
@@ -278,7 +288,7 @@ pub(crate) fn await_node<'a>(
     out: bool,
     column: usize,
     entry: Option<Entry>,
-    progress: &mut Progress<'a>,
+    progress: &mut BlockCursor<'a>,
 ) -> Step
     requires { at + 1 < 2 ^ 64 }
     ensures { NodeAwaited at column compact out entry progress.old progress.new result }
@@ -296,22 +306,22 @@ pub(crate) fn await_node<'a>(
 }
 
 /// The value after the `:` of an implicit key, or of an empty one.
-pub(crate) fn await_value<'a>(colon: usize, column: usize, progress: &mut Progress<'a>) -> Step
+pub(crate) fn await_value<'a>(colon: usize, column: usize, progress: &mut BlockCursor<'a>) -> Step
     requires { colon + 1 < 2 ^ 64 }
     ensures { NodeAwaited colon column false true None progress.old progress.new result }
 {
     await_node(colon, false, true, column, None, progress)
 }
 
-// Where the text of a key stands after its properties, whose line goes on.
+// Where the text of a key is after its properties, whose line goes on.
 #[inline(always)]
 fn key_text<'a>(
-    scope: Scope<'a>,
+    scope: BlockContext<'a>,
     start: usize,
     inner: &Option<PlacedProperties<'a>>,
 ) -> Result<KeyText, AllocError>
     requires start { IsCharBoundary scope.text.now start }
-    requires properties { IfSome inner.now (λ h. Place scope.text.now (start + 1) h.end) }
+    requires properties { IfSome inner.now (λ h. BoundaryFrom scope.text.now (start + 1) h.end) }
     ensures place { IfOk result (λ k. KeyTextPlace scope.entry.text.now start inner.now k) }
     ensures reads { IfOk result (λ k. KeyTextAt scope.entry.text.now start inner.now k) }
 {

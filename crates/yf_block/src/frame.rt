@@ -10,7 +10,7 @@ use yf_events::part::Part;
 /// What is read: the text, and how many collections may be open at once. What is read of it is kept in the memory that
 /// the allocator gives.
 #[derive(Clone, Copy)]
-pub(crate) struct Scope<'a> {
+pub(crate) struct BlockContext<'a> {
     pub(crate) alloc: Global,
     pub(crate) text: &'a str,
     pub(crate) limit: usize,
@@ -18,7 +18,7 @@ pub(crate) struct Scope<'a> {
 
 /// What an open collection is.
 #[derive(Clone, Copy, Default)]
-pub(crate) enum Kind {
+pub(crate) enum CollectionKind {
     #[default]
     Sequence,
     Mapping,
@@ -27,8 +27,8 @@ pub(crate) enum Kind {
 /// An open block collection.
 #[derive(Clone, Copy, Default)]
 pub(crate) struct Frame {
-    pub(crate) kind: Kind,
-    /// The column of its entries: how many spaces stand before each.
+    pub(crate) kind: CollectionKind,
+    /// The column of its entries: how many spaces are before each.
     pub(crate) column: usize,
     /// The index of the event that begins it.
     pub(crate) event: usize,
@@ -43,17 +43,17 @@ pub(crate) type Frames = SmallVec<Frame, 8>;
 
 /// Where an entry of a collection begins whose frame is not on the stack.
 #[derive(Clone, Copy)]
-pub(crate) struct Slot {
+pub(crate) struct EntryStart {
     pub(crate) frame: Frame,
     pub(crate) at: usize,
 }
 
 /// Which node is awaited.
 #[derive(Clone, Copy)]
-pub(crate) struct Wanted<'a> {
+pub(crate) struct AwaitedNode<'a> {
     /// The fewest spaces of its indentation, n + 1.
     pub(crate) least: usize,
-    /// Whether a sequence may stand one column less deep, as in the context block-out.
+    /// Whether a sequence may be one column less deep, as in the context block-out.
     pub(crate) out: bool,
     /// Whether a collection may begin on the line of the indicator before it (s-l+block-indented, production 185).
     pub(crate) compact: bool,
@@ -82,14 +82,14 @@ pub(crate) enum Step {
 
 /// How far the text has been read, and which node is awaited. It is changed in place.
 #[derive(Clone, Copy)]
-pub(crate) struct Progress<'a> {
+pub(crate) struct BlockCursor<'a> {
     /// The byte offset after the last node with characters, or the last indicator.
     pub(crate) last: usize,
     /// The byte offset after the last block scalar; 0 where there is none.
     pub(crate) floor: usize,
     /// How many of the open collections await the `:` of an entry with a `?`.
     pub(crate) colons: usize,
-    pub(crate) wanted: Wanted<'a>,
+    pub(crate) wanted: AwaitedNode<'a>,
     /// Where the end of the line before the awaited node was read from, with the comment lines after it.
     pub(crate) from: usize,
     /// Whether the line of the awaited node begins where the end of the line before was read from: nothing was read yet
@@ -101,15 +101,15 @@ pub(crate) struct Progress<'a> {
 
 /// The reader of a block node, whose steps change it: how far it is, the open collections, and what has been read.
 #[derive(Drop)]
-pub(crate) struct Reader<'a> {
-    pub(crate) progress: Progress<'a>,
+pub(crate) struct BlockReader<'a> {
+    pub(crate) progress: BlockCursor<'a>,
     pub(crate) frames: Frames,
     pub(crate) part: Part<'a>,
 }
 
 impl Frame {
-    /// A collection whose entries stand at a column, and which begins with the event at an index.
-    pub(crate) fn new(kind: Kind, column: usize, event: usize) -> Frame
+    /// A collection whose entries are at a column, and which begins with the event at an index.
+    pub(crate) fn new(kind: CollectionKind, column: usize, event: usize) -> Frame
         ensures { result ≡ record { kind = kind; column = column; event = event; entry_event = event; awaits_colon = false } }
     {
         Frame {

@@ -1,13 +1,13 @@
 //! The last place at which all open nodes may end: what the reader falls back on where the text goes wrong later.
 ghost use Rattle.std.specs.Prelude.{◌≡◌, ℕ, MatchBool, length, reverse, take};
 ghost use Rattle.std.specs.Str.{IsCharBoundary};
-ghost use Rattle.yf_block.specs.Awaiting.{AwaitedColon, AwaitsAt};
-ghost use Rattle.yf_block.specs.Looks.{NotWithinBreak};
+ghost use Rattle.yf_block.specs.AwaitedColons.{AwaitedColon, AwaitsAt};
+ghost use Rattle.yf_block.specs.LookTests.{NotWithinBreak};
 ghost use Rattle.yf_block.specs.Machine.{MayBoundary, ProgressAt};
-ghost use Rattle.yf_block.specs.NotedHalts.{ColonsCounted, EmptyNoted, IsOutermost, NodeNoted, ShorterNoted};
+ghost use Rattle.yf_block.specs.HaltNotes.{ColonsCounted, EmptyNoted, IsOutermost, NodeNoted, ShorterNoted};
 
-use crate::frame::{Frames, Progress};
-use crate::look::{entry_place, last_line_start, sign_stands};
+use crate::frame::{BlockCursor, Frames};
+use crate::look::{entry_place, is_sign_at, last_line_start};
 use yf_events::part::Part;
 
 /// How much of a part has been read.
@@ -44,7 +44,7 @@ impl Counts {
 }
 
 // Whether a node that is awaited may be empty: the outermost one has properties at least.
-fn may_be_empty(progress: &Progress, frames: &Frames) -> bool
+fn may_be_empty(progress: &BlockCursor, frames: &Frames) -> bool
     ensures { MatchBool result (IsOutermost progress.now.wanted.outer (reverse frames.now.items) → ⊥)
         (IsOutermost progress.now.wanted.outer (reverse frames.now.items)) }
 {
@@ -68,7 +68,7 @@ fn value_follows(text: &str, at: usize, colons: usize, frames: &Frames) -> bool
     match entry_place(text, at) {
         None => false,
         Some(place) => {
-            if !sign_stands(text, place, b':') {
+            if !is_sign_at(text, place, b':') {
                 return false;
             }
             awaits_colon_at(frames, place - at)
@@ -98,7 +98,7 @@ fn awaits_colon_at(frames: &Frames, column: usize) -> bool
 }
 
 /// Notes that the node that is awaited at a line may be empty, or have its properties alone.
-pub(crate) fn note_empty(text: &str, at: usize, progress: &mut Progress, frames: &Frames)
+pub(crate) fn note_empty(text: &str, at: usize, progress: &mut BlockCursor, frames: &Frames)
     requires place { IsCharBoundary text.now at }
     requires progress { ProgressAt text.now progress.old }
     ensures progress { ProgressAt text.now progress.new }
@@ -127,7 +127,7 @@ pub(crate) fn note_node(
     plain: Option<usize>,
     from: usize,
     at: usize,
-    progress: &mut Progress,
+    progress: &mut BlockCursor,
     frames: &Frames,
 )
     requires from { IsCharBoundary text.now from }
@@ -151,7 +151,7 @@ pub(crate) fn note_node(
 
 /// Notes that all may end before the last line of a plain scalar, if it has several. It is known where it begins and ends.
 #[inline(never)]
-pub(crate) fn note_shorter(text: &str, plain: Option<usize>, end: usize, progress: &mut Progress)
+pub(crate) fn note_shorter(text: &str, plain: Option<usize>, end: usize, progress: &mut BlockCursor)
     requires plain { MayBoundary text.now plain }
     requires progress { ProgressAt text.now progress.old }
     ensures progress { ProgressAt text.now progress.new }

@@ -1,46 +1,46 @@
-//! What stands on a line after properties, or where there are none: a flow node or an alias, perhaps a mapping's first key.
+//! What is on a line after properties, or where there are none: a flow node or an alias, perhaps a mapping's first key.
 ghost use Rattle.std.specs.Prelude.{◌≡◌, ℕ, ℤ, ◌+◌, ◌^◌, ◌<◌, ◌≤◌, ◌≤ℤ◌, pos, false, None, IfOk, IfSome, MatchOption, length, true, List, ◌∷◌, ◌++◌, Some, MatchBool};
 ghost use Rattle.std.specs.List.{All};
 ghost use Rattle.std.specs.Str.{IsCharBoundary, IsUtf8};
 ghost use Rattle.yf_chars.specs.Text.{code};
-ghost use Rattle.yf_events.specs.Event.{Placed};
+ghost use Rattle.yf_events.specs.Event.{EventInText};
 ghost use Rattle.yf_props.specs.Props.{props_value};
-ghost use Rattle.yf_grammar.specs.Meaning.{event_with, start_of};
-ghost use Rattle.yf_flow.specs.Begun.{lead_event};
-ghost use Rattle.yf_flow.specs.Machine.{Place, EndingAt};
-ghost use Rattle.yf_flow.specs.Counted.{EndCounted, openers_from};
+ghost use Rattle.yf_grammar.specs.Productions.Meaning.{event_with, start_of};
+ghost use Rattle.yf_flow.specs.NodeStarts.{lead_event};
+ghost use Rattle.yf_flow.specs.Machine.{BoundaryFrom, EndingAt};
+ghost use Rattle.yf_flow.specs.Depth.{EndCounted, openers_from};
 ghost use Rattle.yf_block.specs.ContentTied.{AtKeyEnd, AtNodeEnd, KeyOrLost, KeyRead, LeafEnding};
 ghost use Rattle.yf_block.specs.Counted.{CountedAt, CountedPast, CountedWith};
 ghost use Rattle.yf_block.specs.InlineAnswers.{EmptyKeyAt, InlineEnds, KeyEnds, NoEmptyKey};
 ghost use Rattle.yf_block.specs.InlineTied.{started};
-ghost use Rattle.yf_block.specs.Machine.{Standing, StandingAfter, PropertiesBefore, earliest_end, MayBoundary};
-ghost use Rattle.yf_block.specs.StepAnswers.{Answers};
+ghost use Rattle.yf_block.specs.Machine.{IsReaderReady, IsReaderReadyAfter, PropertiesBefore, earliest_end, MayBoundary};
+ghost use Rattle.yf_block.specs.StepAnswers.{StepPromises};
 
 use crate::content::{AfterProperties, Belonging, NodeFacts, NodeStart, is_apart};
 use crate::entry::{await_value, collection_start, entry_at, start_with};
-use crate::frame::{Frame, Kind, Reader, Scope, Step, Wanted};
+use crate::frame::{AwaitedNode, BlockContext, BlockReader, CollectionKind, Frame, Step};
 use crate::halt::{note_node, note_shorter};
 use crate::line::read_line_end;
-use crate::look::{key_ends, sign_stands};
+use crate::look::{is_sign_at, key_ends};
 use crate::properties::{PlacedProperties, copied, lead_of};
 use std::alloc::{AllocError, Global};
 use yf_chars::context::Ctx;
-use yf_chars::text::stands;
+use yf_chars::text::is_char_at;
 use yf_comments::comments::Separation;
 use yf_events::event::{Entry, NewEvent, ScalarStyle};
 use yf_events::part::Part;
-use yf_flow::frame::{Node, Scene};
+use yf_flow::frame::{FlowContext, Node};
 use yf_flow::node::{Lead, push_scalar_with};
 use yf_flow::nodes::{Ending, read_content_with};
 use yf_lines::basic::skip_whites;
 use yf_lines::text::Text;
 use yf_props::alias::alias_node;
 
-/// Reads what stands there: nothing before a `:`, an alias, which has no properties, or the content of a flow node. `depth`
+/// Reads what is there: nothing before a `:`, an alias, which has no properties, or the content of a flow node. `depth`
 /// collections are open.
 #[inline(always)]
 pub(crate) fn read_inline<'a>(
-    scope: Scope<'a>,
+    scope: BlockContext<'a>,
     least: usize,
     at: usize,
     inner: &Option<PlacedProperties<'a>>,
@@ -66,13 +66,13 @@ pub(crate) fn read_inline<'a>(
             Ok(inline_end(end, depth))
         }
         None => {
-            if stands(scope.text, at, b'*') {
+            if is_char_at(scope.text, at, b'*') {
                 return match *inner {
                     Some(_) => Ok(Ending::Nothing),
                     None => read_alias(scope, at, &copied(lead), depth, part),
                 };
             }
-            let scene = Scene {
+            let scene = FlowContext {
                 text: scope.text,
                 indentation: flow_indentation(least),
                 context: Ctx::FlowOut,
@@ -83,16 +83,16 @@ pub(crate) fn read_inline<'a>(
     }
 }
 
-// The offset after the properties that are an empty key, whose `:` stands there.
+// The offset after the properties that are an empty key, whose `:` is there.
 fn empty_key_end(text: &str, at: usize, inner: &Option<PlacedProperties>) -> Option<usize>
     requires { PropertiesBefore text.now at inner.now }
     ensures reads { MatchOption result (NoEmptyKey text.now at inner.now) (EmptyKeyAt text.now at inner.now) }
-    ensures place { IfSome result (λ p. Place text.now (earliest_end at inner.now) p) }
+    ensures place { IfSome result (λ p. BoundaryFrom text.now (earliest_end at inner.now) p) }
 {
     match *inner {
         None => None,
         Some(properties) => {
-            if sign_stands(text, at, b':') {
+            if is_sign_at(text, at, b':') {
                 return Some(properties.end);
             }
             None
@@ -102,7 +102,7 @@ fn empty_key_end(text: &str, at: usize, inner: &Option<PlacedProperties>) -> Opt
 
 #[inline(never)]
 fn read_alias<'a>(
-    scope: Scope<'a>,
+    scope: BlockContext<'a>,
     at: usize,
     lead: &Lead<'a>,
     depth: usize,
@@ -148,20 +148,20 @@ pub(crate) fn flow_indentation(least: usize) -> i32
     least.min(WIDEST) as i32
 }
 
-impl<'a> Reader<'a> {
+impl<'a> BlockReader<'a> {
     /// After a flow node on its line: it is the first key of a mapping, or the end of the line follows. What is lent to a first
-    /// key is copied for it, so that of other nodes it need not stand in memory.
+    /// key is copied for it, so that of other nodes it need not be in memory.
     #[inline(always)]
     pub(crate) fn finish_inline(
         &mut self,
-        scope: Scope<'a>,
+        scope: BlockContext<'a>,
         after: &AfterProperties<'a>,
         facts: &NodeFacts<'a>,
         node: Node,
     ) -> Result<Step, AllocError>
-        requires standing { StandingAfter scope.text.now after.now self.old }
-        requires node { Place scope.text.now (after.now.node_start.at + 1) node.end }
-        ensures { Answers (AtNodeEnd after.now facts.now node) (CountedWith node) scope.entry after.now.node_start.at 0 self.old self.new result }
+        requires standing { IsReaderReadyAfter scope.text.now after.now self.old }
+        requires node { BoundaryFrom scope.text.now (after.now.node_start.at + 1) node.end }
+        ensures { StepPromises (AtNodeEnd after.now facts.now node) (CountedWith node) scope.entry after.now.node_start.at 0 self.old self.new result }
     {
         let colon = skip_whites(scope.text, node.end);
         match keyed_column(scope.text, after.node_start, colon) {
@@ -195,18 +195,18 @@ impl<'a> Reader<'a> {
     #[inline(never)]
     fn take_first_key(
         &mut self,
-        scope: Scope<'a>,
+        scope: BlockContext<'a>,
         column: usize,
         colon: usize,
         after: &AfterProperties<'a>,
         facts: &NodeFacts<'a>,
     ) -> Result<Step, AllocError>
-        requires standing { StandingAfter scope.text.now after.now self.old }
+        requires standing { IsReaderReadyAfter scope.text.now after.now self.old }
         requires order { after.now.node_start.at ≤ colon }
         requires next { IsCharBoundary scope.text.now (colon + 1) }
-        ensures { Answers (AtKeyEnd after.now facts.now column colon) (CountedPast colon) scope.entry after.now.node_start.at 0 self.old self.new result }
+        ensures { StepPromises (AtKeyEnd after.now facts.now column colon) (CountedPast colon) scope.entry after.now.node_start.at 0 self.old self.new result }
     {
-        let frame = Frame::new(Kind::Mapping, column, facts.before.events);
+        let frame = Frame::new(CollectionKind::Mapping, column, facts.before.events);
         let entry = entry_at(
             scope.text,
             self.progress.floor,
@@ -230,13 +230,13 @@ impl<'a> Reader<'a> {
     #[inline(always)]
     fn end_inline(
         &mut self,
-        scope: Scope<'a>,
+        scope: BlockContext<'a>,
         plain: Option<usize>,
         at: usize,
     ) -> Result<Step, AllocError>
-        requires standing { Standing scope.text.now at self.old }
+        requires standing { IsReaderReady scope.text.now at self.old }
         requires plain { MayBoundary scope.text.now plain }
-        ensures { Answers (LeafEnding plain) CountedAt scope.entry at 1 self.old self.new result }
+        ensures { StepPromises (LeafEnding plain) CountedAt scope.entry at 1 self.old self.new result }
     {
         let text = scope.text;
         match read_line_end(scope.alloc, text, at)? {
@@ -253,7 +253,7 @@ impl<'a> Reader<'a> {
     }
 }
 
-// The column of a mapping that begins there with a key whose `:` stands at the other place.
+// The column of a mapping that begins there with a key whose `:` is at the other place.
 fn keyed_column(text: &str, node_start: NodeStart, colon: usize) -> Option<usize>
     requires { IsCharBoundary text.now node_start.at }
     ensures boundary { IfSome result (λ _. IsCharBoundary text.now (colon + 1)) }
@@ -292,11 +292,11 @@ fn plain_place(node: Node, at: usize) -> Option<usize>
 // Puts a mapping's beginning before its first key. Properties of lines before are its own; few mappings have any.
 #[inline(always)]
 fn begin_mapping<'a>(
-    scope: Scope<'a>,
+    scope: BlockContext<'a>,
     after: &AfterProperties<'a>,
     facts: &NodeFacts<'a>,
     entry: Entry,
-    wanted: &Wanted<'a>,
+    wanted: &AwaitedNode<'a>,
     depth: usize,
     part: &mut Part<'a>,
 ) -> Result<(), AllocError>
@@ -307,7 +307,7 @@ fn begin_mapping<'a>(
         → depth + room ≡ scope.entry.limit
         → KeyRead scope.entry.text.now room (pos wanted.now.least) depth after.now facts.now wanted.now earlier part.old
         → IfOk result (λ _. KeyOrLost scope.entry.text.now room (pos wanted.now.least) depth after.now entry
-        (started Kind.Mapping after.now.node_start.at wanted.now) earlier part.new) }
+        (started CollectionKind.Mapping after.now.node_start.at wanted.now) earlier part.new) }
     ensures escapes { IfOk result (λ _. All (IsCharBoundary scope.entry.text.now) part.new.escapes) }
 {
     if is_joined(facts.belonging) {
@@ -323,14 +323,14 @@ fn begin_mapping<'a>(
     }
 }
 
-// The same where properties stand on lines before: a key read with them is read again.
+// The same where properties are on lines before: a key read with them is read again.
 #[inline(never)]
 fn begin_held_mapping<'a>(
-    scope: Scope<'a>,
+    scope: BlockContext<'a>,
     after: &AfterProperties<'a>,
     facts: &NodeFacts<'a>,
     entry: Entry,
-    wanted: &Wanted<'a>,
+    wanted: &AwaitedNode<'a>,
     depth: usize,
     part: &mut Part<'a>,
 ) -> Result<(), AllocError>
@@ -341,14 +341,13 @@ fn begin_held_mapping<'a>(
         → depth + room ≡ scope.entry.limit
         → KeyRead scope.entry.text.now room (pos wanted.now.least) depth after.now facts.now wanted.now earlier part.old
         → IfOk result (λ _. KeyOrLost scope.entry.text.now room (pos wanted.now.least) depth after.now entry
-        (started Kind.Mapping after.now.node_start.at wanted.now) earlier part.new) }
+        (started CollectionKind.Mapping after.now.node_start.at wanted.now) earlier part.new) }
     ensures escapes { IfOk result (λ _. All (IsCharBoundary scope.entry.text.now) part.new.escapes) }
 {
     let at = after.node_start.at;
     if is_joined(facts.belonging) {
         facts.before.cut(part);
-        part.events
-            .push(collection_start(scope.alloc, Kind::Mapping, at, wanted))?;
+        part.events.push(collection_start(scope.alloc, CollectionKind::Mapping, at, wanted))?;
         let lead = lead_of(at, after.inner, Some(entry));
         let _again = read_inline(
             scope,
@@ -375,7 +374,7 @@ fn put_before<'a>(
     entry: Entry,
     part: &mut Part<'a>,
 ) -> Result<(), AllocError>
-    ensures events { (earlier : List Placed) → (first : Placed) → (others : List Placed) → event ≡ length earlier
+    ensures events { (earlier : List EventInText) → (first : EventInText) → (others : List EventInText) → event ≡ length earlier
         → part.old.events ≡ earlier ++ first ∷ others
         → IfOk result (λ _. part.new.events ≡ earlier ++ lead_event lead.entry (event_with (props_value lead.entry.props) (start_of false false)) at
         ∷ record first { entry = Some entry } ∷ others) }
@@ -384,9 +383,7 @@ fn put_before<'a>(
 {
     if event < part.events.len() {
         part.events.set_entry(event, entry)?;
-        return part
-            .events
-            .insert(event, start_with(alloc, Kind::Mapping, at, lead));
+        return part.events.insert(event, start_with(alloc, CollectionKind::Mapping, at, lead));
     }
     Ok(())
 }

@@ -3,22 +3,22 @@ ghost use Rattle.std.specs.Prelude.{◌≡◌, ◌<◌, ◌≤◌, ℕ, IfOk, If
 ghost use Rattle.std.specs.Str.{IsCharBoundary};
 ghost use Rattle.yf_chars.specs.Chain.{Chosen, Stuck};
 ghost use Rattle.yf_comments.specs.Comments.{LineEnd};
-ghost use Rattle.yf_grammar.specs.BlockParser.{DashAt};
-ghost use Rattle.yf_flow.specs.Machine.{Place};
+ghost use Rattle.yf_grammar.specs.BlockReader.BlockParser.{DashAt};
+ghost use Rattle.yf_flow.specs.Machine.{BoundaryFrom};
 ghost use Rattle.yf_block.specs.BlockStepTied.{AtNode, AtLine};
 ghost use Rattle.yf_block.specs.ColumnsTied.{CompactTied, SequenceBegins, SequenceTied};
 ghost use Rattle.yf_block.specs.Counted.{CountedAt};
 ghost use Rattle.yf_block.specs.LineStepTied.{AtEmpty};
 ghost use Rattle.yf_block.specs.LineTied.{AtBelow};
-ghost use Rattle.yf_block.specs.Machine.{Standing};
-ghost use Rattle.yf_block.specs.StepAnswers.{Answers};
+ghost use Rattle.yf_block.specs.Machine.{IsReaderReady};
+ghost use Rattle.yf_block.specs.StepAnswers.{StepPromises};
 
 use crate::content::NodeStart;
-use crate::frame::{Kind, Progress, Reader, Scope, Step, Wanted};
+use crate::frame::{AwaitedNode, BlockContext, BlockCursor, BlockReader, CollectionKind, Step};
 use crate::halt::note_empty;
-use crate::look::{dash_stands, line_ends, node_ends};
+use crate::look::{is_dash_at, line_ends, node_ends};
 use std::alloc::{AllocError, Global};
-use yf_chars::text::stands;
+use yf_chars::text::is_char_at;
 use yf_comments::comments::Separation;
 use yf_comments::lines::line_end;
 use yf_events::event::ScalarStyle;
@@ -34,7 +34,7 @@ pub(crate) fn read_line_end<'a>(
     at: usize,
 ) -> Result<Option<Separation<'a>>, AllocError>
     requires { IsCharBoundary text.now at }
-    ensures place { IfOk result (λ o. IfSome o (λ p. Place text.now at p.end)) }
+    ensures place { IfOk result (λ o. IfSome o (λ p. BoundaryFrom text.now at p.end)) }
     ensures reads { IfOk result (λ o. MatchOption o (Stuck (LineEnd text.now at)) (λ p. Chosen (LineEnd text.now at) p.end p.comments)) }
 {
     match line_end(alloc, text, at)? {
@@ -43,11 +43,15 @@ pub(crate) fn read_line_end<'a>(
     }
 }
 
-impl<'a> Reader<'a> {
+impl<'a> BlockReader<'a> {
     /// Reads the end of a line, and the comment lines after it, where a node is awaited that may have properties.
-    pub(crate) fn end_line(&mut self, scope: Scope<'a>, at: usize) -> Result<Step, AllocError>
-        requires { Standing scope.text.now at self.old }
-        ensures { Answers AtBelow CountedAt scope.entry at 2 self.old self.new result }
+    pub(crate) fn end_line(
+        &mut self,
+        scope: BlockContext<'a>,
+        at: usize,
+    ) -> Result<Step, AllocError>
+        requires { IsReaderReady scope.text.now at self.old }
+        ensures { StepPromises AtBelow CountedAt scope.entry at 2 self.old self.new result }
     {
         match read_line_end(scope.alloc, scope.text, at)? {
             Some(Separation { comments, end }) => {
@@ -61,9 +65,13 @@ impl<'a> Reader<'a> {
     }
 
     /// Begins the node that is awaited after an indicator, which ends at the offset.
-    pub(crate) fn take_node(&mut self, scope: Scope<'a>, at: usize) -> Result<Step, AllocError>
-        requires { Standing scope.text.now at self.old }
-        ensures { Answers AtNode CountedAt scope.entry at 2 self.old self.new result }
+    pub(crate) fn take_node(
+        &mut self,
+        scope: BlockContext<'a>,
+        at: usize,
+    ) -> Result<Step, AllocError>
+        requires { IsReaderReady scope.text.now at self.old }
+        ensures { StepPromises AtNode CountedAt scope.entry at 2 self.old self.new result }
     {
         let place = skip_whites(scope.text, at);
         if line_ends(scope.text, place, place > at) {
@@ -74,15 +82,19 @@ impl<'a> Reader<'a> {
         }
         let column = compact_column(scope.text, at, place, &self.progress.wanted);
         match dashed_column(scope.text, place, column) {
-            Some(dashed) => self.open_collection(scope, Kind::Sequence, place, dashed),
+            Some(dashed) => self.open_collection(scope, CollectionKind::Sequence, place, dashed),
             None => self.take_content(scope, NodeStart { at: place, column }),
         }
     }
 
     /// Begins the node that is awaited at the start of a line, if it has anything on that line.
-    pub(crate) fn take_line(&mut self, scope: Scope<'a>, at: usize) -> Result<Step, AllocError>
-        requires { Standing scope.text.now at self.old }
-        ensures { Answers AtLine CountedAt scope.entry at 1 self.old self.new result }
+    pub(crate) fn take_line(
+        &mut self,
+        scope: BlockContext<'a>,
+        at: usize,
+    ) -> Result<Step, AllocError>
+        requires { IsReaderReady scope.text.now at self.old }
+        ensures { StepPromises AtLine CountedAt scope.entry at 1 self.old self.new result }
     {
         let text = scope.text;
         note_empty(text, at, &mut self.progress, &self.frames);
@@ -92,7 +104,7 @@ impl<'a> Reader<'a> {
         let start = skip_spaces(text, at);
         let width = start - at;
         if sequence_begins(text, start, &self.progress.wanted, width) {
-            return self.open_collection(scope, Kind::Sequence, start, width);
+            return self.open_collection(scope, CollectionKind::Sequence, start, width);
         }
         if !may_begin(&self.progress, width) {
             return self.end_empty(scope, at);
@@ -101,7 +113,7 @@ impl<'a> Reader<'a> {
         if place == text.len() {
             return self.end_empty(scope, at);
         }
-        if stands(text, place, b'#') {
+        if is_char_at(text, place, b'#') {
             return Ok(Step::Failed(place));
         }
         let column = line_column(self.progress.wanted.least, width, start, place);
@@ -109,9 +121,9 @@ impl<'a> Reader<'a> {
     }
 
     // The node that is awaited at a line is empty, or has its properties alone. The outermost one may not be empty.
-    fn end_empty(&mut self, scope: Scope<'a>, at: usize) -> Result<Step, AllocError>
-        requires { Standing scope.text.now at self.old }
-        ensures { Answers AtEmpty CountedAt scope.entry at 1 self.old self.new result }
+    fn end_empty(&mut self, scope: BlockContext<'a>, at: usize) -> Result<Step, AllocError>
+        requires { IsReaderReady scope.text.now at self.old }
+        ensures { StepPromises AtEmpty CountedAt scope.entry at 1 self.old self.new result }
     {
         match self.progress.wanted.outer {
             Some(properties) => {
@@ -137,7 +149,7 @@ impl<'a> Reader<'a> {
     }
 }
 
-// The column of a sequence whose `-` stands at the place, where a collection may begin at a column.
+// The column of a sequence whose `-` is at the place, where a collection may begin at a column.
 fn dashed_column(text: &str, at: usize, column: Option<usize>) -> Option<usize>
     ensures boundary { IfSome result (λ _. IsCharBoundary text.now (at + 1)) }
     ensures dash { MatchOption result ((m : ℕ) → column ≡ Some m → DashAt text.now at → ⊥) (λ m. (column ≡ Some m) × DashAt text.now at) }
@@ -145,7 +157,7 @@ fn dashed_column(text: &str, at: usize, column: Option<usize>) -> Option<usize>
     match column {
         None => None,
         Some(column) => {
-            if dash_stands(text, at) {
+            if is_dash_at(text, at) {
                 return Some(column);
             }
             None
@@ -153,9 +165,9 @@ fn dashed_column(text: &str, at: usize, column: Option<usize>) -> Option<usize>
     }
 }
 
-// The column of a collection that may begin on the line of an indicator, which ends at the offset: spaces alone stand
+// The column of a collection that may begin on the line of an indicator, which ends at the offset: spaces alone are
 // between.
-fn compact_column(text: &str, at: usize, place: usize, wanted: &Wanted) -> Option<usize>
+fn compact_column(text: &str, at: usize, place: usize, wanted: &AwaitedNode) -> Option<usize>
     requires boundary { IsCharBoundary text.now at }
     requires order { at ≤ place }
     ensures { CompactTied text.now wanted.now at place result }
@@ -169,20 +181,20 @@ fn compact_column(text: &str, at: usize, place: usize, wanted: &Wanted) -> Optio
     None
 }
 
-// Whether the `-` of a sequence of that column stands there, which may be the node that is awaited.
-fn sequence_begins(text: &str, at: usize, wanted: &Wanted, width: usize) -> bool
+// Whether the `-` of a sequence of that column is there, which may be the node that is awaited.
+fn sequence_begins(text: &str, at: usize, wanted: &AwaitedNode, width: usize) -> bool
     ensures boundary { result ≡ true → IsCharBoundary text.now (at + 1) }
     ensures dash { SequenceBegins text.now at wanted.now width result }
-    ensures stands { result ≡ true → DashAt text.now at }
+    ensures is_there { result ≡ true → DashAt text.now at }
 {
-    if dash_stands(text, at) {
+    if is_dash_at(text, at) {
         return may_hold_sequence(wanted, width);
     }
     false
 }
 
 // Whether a sequence of that column may be the node that is awaited.
-fn may_hold_sequence(wanted: &Wanted, width: usize) -> bool
+fn may_hold_sequence(wanted: &AwaitedNode, width: usize) -> bool
     ensures { SequenceTied wanted.now width result }
 {
     if width >= wanted.least {
@@ -198,7 +210,7 @@ fn may_hold_sequence(wanted: &Wanted, width: usize) -> bool
 }
 
 // Whether a line is indented as it must be; nothing is asked of the first one.
-fn may_begin(progress: &Progress, width: usize) -> bool
+fn may_begin(progress: &BlockCursor, width: usize) -> bool
     ensures { MatchBool result ((progress.now.wanted.least ≤ width) ⊎ (progress.now.first ≡ true))
         ((width < progress.now.wanted.least) × (progress.now.first ≡ false)) }
 {

@@ -1,4 +1,4 @@
-//! Tests of what stands at a place of a block node, and walks that read nothing.
+//! Tests of what is at a place of a block node, and walks that read nothing.
 ghost use Rattle.std.specs.List.{prefix_len};
 ghost use Rattle.std.specs.Prelude.{◌≡◌, ◌≢◌, ◌+◌, ◌-◌, ◌<◌, ◌≤◌, true, false, not, nat_lt, ℕ, IfSome, MatchBool, MatchOption, length, slice_index, ⊤};
 ghost use Rattle.std.specs.Simd.Lanes.{chunk};
@@ -6,32 +6,32 @@ ghost use Rattle.std.specs.Str.{IsCharBoundary};
 ghost use Rattle.yf_chars.specs.Text.{code};
 ghost use Rattle.yf_lines.specs.Basic.{Break, Spaces};
 ghost use Rattle.yf_comments.specs.Comments.{Blank};
-ghost use Rattle.yf_grammar.specs.BlockParser.{DashAt, LineText, LinesEnd, SignAt};
-ghost use Rattle.yf_grammar.specs.BlockScalar.{LinesBetween};
-ghost use Rattle.yf_grammar.specs.Part.{NotedSince};
+ghost use Rattle.yf_grammar.specs.BlockReader.BlockParser.{DashAt, LineText, LinesEnd, SignAt};
+ghost use Rattle.yf_grammar.specs.Productions.BlockScalar.{LinesBetween};
+ghost use Rattle.yf_grammar.specs.Productions.ReadParts.{NotedSince};
 ghost use Rattle.yf_flow.specs.Leaves.{KeyLine};
-ghost use Rattle.yf_flow.specs.Machine.{Place};
+ghost use Rattle.yf_flow.specs.Machine.{BoundaryFrom};
 ghost use Rattle.yf_block.specs.InlineAnswers.{KeyEnds};
 ghost use Rattle.yf_block.specs.InlineTied.{EntrySignAt};
 ghost use Rattle.yf_block.specs.LastStarts.{LastStartIs};
-ghost use Rattle.yf_block.specs.Looks.{EntryPlace, LineEndsAt, NotWithinBreak};
+ghost use Rattle.yf_block.specs.LookTests.{EntryPlace, LineEndsAt, NotWithinBreak};
 ghost use Rattle.yf_block.specs.WalksBack.{WalksBack};
 
 use std::simd::prelude::*;
 use yf_chars::classes::is_ns_char;
-use yf_chars::text::{peek, stands};
+use yf_chars::text::{is_char_at, peek};
 use yf_flow::look::is_key_line;
 use yf_lines::basic::{
-    break_ends, is_forbidden_at, line_break, mark_ends, mark_stands, next_break, skip_spaces,
-    skip_whites, white_or_end_stands, white_stands,
+    break_ends, is_forbidden_at, is_mark_at, is_white_at, is_white_or_end_at, line_break,
+    mark_ends, next_break, skip_spaces, skip_whites,
 };
 
-/// Whether the `-` of an entry stands there (c-l-block-seq-entry, production 184).
-pub(crate) fn dash_stands(text: &str, at: usize) -> bool
+/// Whether the `-` of an entry is there (c-l-block-seq-entry, production 184).
+pub(crate) fn is_dash_at(text: &str, at: usize) -> bool
     ensures boundary { result ≡ true → IsCharBoundary text.now (at + 1) }
     ensures cases { MatchBool result (DashAt text.now at) (DashAt text.now at → ⊥) }
 {
-    if stands(text, at, b'-') {
+    if is_char_at(text, at, b'-') {
         return match peek(text, at + 1) {
             Some((c, _)) => !is_ns_char(c),
             None => true,
@@ -40,33 +40,33 @@ pub(crate) fn dash_stands(text: &str, at: usize) -> bool
     false
 }
 
-/// Whether that sign of an entry, `?` or `:`, stands there, with white, a break or the end of the text after it.
+/// Whether that sign of an entry, `?` or `:`, is there, with white, a break or the end of the text after it.
 #[inline(always)]
-pub(crate) fn sign_stands(text: &str, at: usize, sign: u8) -> bool
+pub(crate) fn is_sign_at(text: &str, at: usize, sign: u8) -> bool
     requires { sign < 128 }
     ensures boundary { result ≡ true → IsCharBoundary text.now (at + 1) }
     ensures cases { MatchBool result (SignAt text.now sign at) (SignAt text.now sign at → ⊥) }
 {
-    if stands(text, at, sign) {
-        return white_or_end_stands(text, at + 1);
+    if is_char_at(text, at, sign) {
+        return is_white_or_end_at(text, at + 1);
     }
     false
 }
 
 /// Whether an entry begins there with its `?` or its `:`.
 #[inline(always)]
-pub(crate) fn entry_sign_stands(text: &str, at: usize) -> bool
+pub(crate) fn is_entry_sign_at(text: &str, at: usize) -> bool
     ensures { MatchBool result (EntrySignAt text.now at) (EntrySignAt text.now at → ⊥) }
 {
-    if sign_stands(text, at, b'?') {
+    if is_sign_at(text, at, b'?') {
         return true;
     }
-    sign_stands(text, at, b':')
+    is_sign_at(text, at, b':')
 }
 
-/// Whether one of the characters from `0` to `z` stands there: neither a property nor an alias nor a quoted node begins with one.
+/// Whether one of the characters from `0` to `z` is there: neither a property nor an alias nor a quoted node begins with one.
 #[inline(always)]
-pub(crate) fn word_stands(text: &str, at: usize) -> bool
+pub(crate) fn is_key_char_at(text: &str, at: usize) -> bool
     ensures { MatchBool result ((48 ≤ slice_index text.now at) × (slice_index text.now at ≤ 122))
         (48 ≤ slice_index text.now at → slice_index text.now at ≤ 122 → ⊥) }
 {
@@ -83,14 +83,14 @@ pub(crate) fn word_stands(text: &str, at: usize) -> bool
     true
 }
 
-/// Whether the `:` after an implicit key stands there, on the line on which the key starts.
+/// Whether the `:` after an implicit key is there, on the line on which the key starts.
 #[inline(always)]
 pub(crate) fn key_ends(text: &str, start: usize, at: usize) -> bool
     requires { IsCharBoundary text.now start }
     ensures boundary { result ≡ true → IsCharBoundary text.now (at + 1) }
     ensures cases { MatchBool result (KeyEnds text.now start at) (KeyEnds text.now start at → ⊥) }
 {
-    if sign_stands(text, at, b':') {
+    if is_sign_at(text, at, b':') {
         if is_short_line(text, start, at) {
             return true;
         }
@@ -129,7 +129,7 @@ fn is_short_line(text: &str, start: usize, end: usize) -> bool
     true
 }
 
-// How many of the 16 bytes from the offset on stand before the first one below 14, as breaks are.
+// How many of the 16 bytes from the offset on are before the first one below 14, as breaks are.
 #[inline(always)]
 fn clear_bytes(bytes: &[u8], at: usize) -> usize
     requires { at + 16 ≤ length bytes.now }
@@ -143,21 +143,21 @@ fn clear_bytes(bytes: &[u8], at: usize) -> usize
     low.trailing_zeros() as usize
 }
 
-/// Whether nothing more stands on the line from the offset on; a comment stands after a white.
+/// Whether nothing more is on the line from the offset on; a comment is after a white.
 pub(crate) fn line_ends(text: &str, at: usize, after_white: bool) -> bool
     ensures { MatchBool result (LineEndsAt text.now after_white at) (LineEndsAt text.now after_white at → ⊥) }
 {
     if at == text.len() {
         return true;
     }
-    if stands(text, at, b'\n') {
+    if is_char_at(text, at, b'\n') {
         return true;
     }
-    if stands(text, at, b'\r') {
+    if is_char_at(text, at, b'\r') {
         return true;
     }
     if after_white {
-        return stands(text, at, b'#');
+        return is_char_at(text, at, b'#');
     }
     false
 }
@@ -170,17 +170,17 @@ pub fn node_ends(text: &str, at: usize) -> bool
     if at == text.len() {
         return true;
     }
-    if mark_stands(text, at) {
+    if is_mark_at(text, at) {
         return true;
     }
     is_forbidden_at(text, at)
 }
 
-/// Where the first character other than a space stands of the line that begins there, if it can be that of an entry.
+/// Where the first character other than a space is of the line that begins there, if it can be that of an entry.
 #[inline(always)]
 pub(crate) fn entry_place(text: &str, at: usize) -> Option<usize>
     requires { IsCharBoundary text.now at }
-    ensures place { IfSome result (λ p. Place text.now at p) }
+    ensures place { IfSome result (λ p. BoundaryFrom text.now at p) }
     ensures entry { MatchOption result (NotWithinBreak text.now at → (m : ℕ) → (p : ℕ) → LineText text.now at m p → ⊥)
         (λ p. EntryPlace text.now at p) }
 {
@@ -209,7 +209,7 @@ pub fn is_blank_after(text: &str, floor: usize, at: usize) -> bool
     walk_back(text, floor, at)
 }
 
-// Whether after the floor a visible ASCII character stands before the offset, and between them spaces alone, or a line feed and
+// Whether after the floor a visible ASCII character is before the offset, and between them spaces alone, or a line feed and
 // then spaces alone.
 fn follows_text(text: &str, floor: usize, at: usize) -> bool
     ensures { MatchBool result (WalksBack text.now floor at false false) ⊤ }
@@ -228,7 +228,7 @@ fn follows_text(text: &str, floor: usize, at: usize) -> bool
     is_visible(bytes[line - 1])
 }
 
-// Where the spaces begin that stand after the floor and end at the offset.
+// Where the spaces begin that are after the floor and end at the offset.
 #[inline(always)]
 fn spaces_start(text: &str, floor: usize, at: usize) -> usize
     requires { at ≤ length text.now }
@@ -266,10 +266,10 @@ fn walk_back(text: &str, floor: usize, at: usize) -> bool
     ensures { WalksBack text.now floor at false result }
 {
     let mut place = at;
-    // whether white space alone stands between the place and a line break
+    // whether white space alone is between the place and a line break
     let mut blank = false;
     'back: while place > floor {
-        if white_stands(text, place - 1) {
+        if is_white_at(text, place - 1) {
             place -= 1;
             continue;
         }
@@ -297,8 +297,8 @@ fn break_start(text: &str, at: usize) -> usize
     ensures earlier { result < at }
     ensures begins { (i : ℕ) → Break text.now i at → result ≡ i }
 {
-    if stands(text, at.saturating_sub(1), b'\n') {
-        if stands(text, at.saturating_sub(2), b'\r') {
+    if is_char_at(text, at.saturating_sub(1), b'\n') {
+        if is_char_at(text, at.saturating_sub(2), b'\r') {
             return at.saturating_sub(2);
         }
     }

@@ -3,19 +3,19 @@ ghost use Rattle.std.specs.List.{All};
 ghost use Rattle.std.specs.Prelude.{◌≡◌, ℕ, ℤ, pos, ◌+ℤ◌, ◌^◌, ◌<◌, ◌≤◌, [], true, false, IfOk, ◌+◌, length, MatchBool, MatchOption, Some, None, Ok, reverse};
 ghost use Rattle.std.specs.Str.{IsCharBoundary, IsUtf8};
 ghost use Rattle.yf_lines.specs.Basic.{is_block};
-ghost use Rattle.yf_grammar.specs.BlockParser.{Nothing, Awaited, BlockTask};
-ghost use Rattle.yf_flow.specs.Counted.{openers_from};
+ghost use Rattle.yf_grammar.specs.BlockReader.BlockParser.{Nothing, Awaited, BlockTask};
+ghost use Rattle.yf_flow.specs.Depth.{openers_from};
 ghost use Rattle.yf_block.specs.BlockStepTied.{BlockTied, is_out};
 ghost use Rattle.yf_block.specs.BlockTied.{TextTied};
 ghost use Rattle.yf_block.specs.ContentTied.{CountsOf};
 ghost use Rattle.yf_block.specs.Counted.{CountedAt, StepCounted};
-ghost use Rattle.yf_block.specs.Machine.{Standing, MayBoundary, ProgressAt, StoppedAt, StepReady, StopAt, OutcomeAt};
+ghost use Rattle.yf_block.specs.Machine.{IsReaderReady, MayBoundary, ProgressAt, StoppedAt, StepReady, StopAt, OutcomeAt};
 ghost use Rattle.yf_block.specs.NodeGiven.{Indentation, OutcomeTied, PrefixGiven};
 ghost use Rattle.yf_block.specs.RootTied.{AtBegin, AtRoot};
 ghost use Rattle.yf_block.specs.RunTied.{HaltAt, ReadRoot, RunTied, StopCounted, StopTied, StopsAs, is_too_deep};
-ghost use Rattle.yf_block.specs.StepAnswers.{Answers};
+ghost use Rattle.yf_block.specs.StepAnswers.{StepPromises};
 
-use crate::frame::{Progress, Reader, Scope, Step, Wanted};
+use crate::frame::{AwaitedNode, BlockContext, BlockCursor, BlockReader, Step};
 use crate::halt::Counts;
 use smallvec::SmallVec;
 use std::alloc::{AllocError, Global};
@@ -27,7 +27,7 @@ use yf_lines::basic::is_line_start;
 
 /// A block node that was found.
 #[derive(Clone, Copy)]
-pub struct Found {
+pub struct FoundBlock {
     /// The byte offset after it.
     pub end: usize,
     /// The furthest byte offset at which the reading went wrong; `end` where it did not.
@@ -43,8 +43,8 @@ pub struct Found {
 
 /// What a reader of block nodes found.
 #[derive(Clone, Copy)]
-pub enum Outcome {
-    Found(Found),
+pub enum BlockOutcome {
+    Found(FoundBlock),
     /// No block node; the reading went wrong at the byte offset.
     Nothing { reached: usize },
     /// Nothing within the limit of open collections; the collection at the byte offset would be a further one.
@@ -99,20 +99,20 @@ pub fn block_node_in<'a>(
     ctx: Ctx,
     limit: usize,
     part: &mut Part<'a>,
-) -> Result<Outcome, AllocError>
+) -> Result<BlockOutcome, AllocError>
     requires boundary { IsCharBoundary text.now at }
     requires escapes { All (IsCharBoundary text.now) part.old.escapes }
     ensures tied { is_block ctx ≡ true → Indentation n → length text.now ≤ 2 ^ 30
         → IfOk result (λ o. OutcomeTied text.now limit n ctx at part.old o part.new) }
-    ensures other { is_block ctx ≡ false → result ≡ Ok (Outcome.Nothing at) }
+    ensures other { is_block ctx ≡ false → result ≡ Ok (BlockOutcome.Nothing at) }
     ensures place { IfOk result (λ o. OutcomeAt text.now at o) }
     ensures escapes { IfOk result (λ _. All (IsCharBoundary text.now) part.new.escapes) }
 {
     match block_out(ctx) {
-        None => Ok(Outcome::Nothing { reached: at }),
+        None => Ok(BlockOutcome::Nothing { reached: at }),
         Some(out) => {
             let before = Counts::of(part);
-            let scope = Scope { alloc, text, limit };
+            let scope = BlockContext { alloc, text, limit };
             let root = Root {
                 at,
                 least: least_of(n),
@@ -143,16 +143,16 @@ fn least_of(n: i32) -> usize
 }
 
 // Nothing has been read yet of the text, which is read from an offset on.
-fn no_progress<'a>(_text: &str, at: usize, least: usize, out: bool) -> Progress<'a>
+fn no_progress<'a>(_text: &str, at: usize, least: usize, out: bool) -> BlockCursor<'a>
     ensures progress { ProgressAt _text.now result }
     ensures root { (n : ℤ) → (c : Ctx) → TextTied _text.now → pos least ≡ n +ℤ pos 1 → least ≤ 2 ^ 30 + 1 → out ≡ is_out c
         → AtRoot _text.now n c at result }
 {
-    Progress {
+    BlockCursor {
         last: at,
         floor: 0,
         colons: 0,
-        wanted: Wanted {
+        wanted: AwaitedNode {
             least,
             out,
             compact: false,
@@ -166,7 +166,11 @@ fn no_progress<'a>(_text: &str, at: usize, least: usize, out: bool) -> Progress<
 }
 
 // Reads a node from its first line on, and adds it to the part.
-fn run_from<'a>(scope: Scope<'a>, root: Root, part: &mut Part<'a>) -> Result<Stopped, AllocError>
+fn run_from<'a>(
+    scope: BlockContext<'a>,
+    root: Root,
+    part: &mut Part<'a>,
+) -> Result<Stopped, AllocError>
     requires boundary { IsCharBoundary scope.text.now root.at }
     requires escapes { All (IsCharBoundary scope.text.now) part.old.escapes }
     ensures tied { (n : ℤ) → (c : Ctx) → scope.entry.limit < 2 ^ 64 → ReadRoot scope.entry.text.now root n c
@@ -176,7 +180,7 @@ fn run_from<'a>(scope: Scope<'a>, root: Root, part: &mut Part<'a>) -> Result<Sto
     ensures counted { IsUtf8 scope.entry.text.now
         → IfOk result (λ r. StopCounted scope.entry.limit (openers_from scope.entry.text.now root.at) r.stop) }
 {
-    let mut reader = Reader {
+    let mut reader = BlockReader {
         progress: no_progress(scope.text, root.at, root.least, root.out),
         frames: SmallVec::new(scope.alloc),
         part: new_part(scope.alloc),
@@ -184,11 +188,11 @@ fn run_from<'a>(scope: Scope<'a>, root: Root, part: &mut Part<'a>) -> Result<Sto
     reader.fill(scope, root.at, part)
 }
 
-impl<'a> Reader<'a> {
+impl<'a> BlockReader<'a> {
     // Reads the awaited node from an offset on, and adds it to the part, which is swapped into the reader meanwhile.
     fn fill(
         &mut self,
-        scope: Scope<'a>,
+        scope: BlockContext<'a>,
         at: usize,
         part: &mut Part<'a>,
     ) -> Result<Stopped, AllocError>
@@ -216,9 +220,9 @@ impl<'a> Reader<'a> {
     }
 
     // The first step: at the start of a line, or within one.
-    fn begin(&mut self, scope: Scope<'a>, at: usize) -> Result<Step, AllocError>
-        requires { Standing scope.text.now at self.old }
-        ensures { Answers AtBegin CountedAt scope.entry at 3 self.old self.new result }
+    fn begin(&mut self, scope: BlockContext<'a>, at: usize) -> Result<Step, AllocError>
+        requires { IsReaderReady scope.text.now at self.old }
+        ensures { StepPromises AtBegin CountedAt scope.entry at 3 self.old self.new result }
     {
         if is_line_start(scope.text, at) {
             return self.end_line(scope, at);
@@ -227,7 +231,7 @@ impl<'a> Reader<'a> {
     }
 
     // Reads on until the outermost node ends or the text goes wrong.
-    fn run(&mut self, scope: Scope<'a>, first: Step) -> Result<Stop, AllocError>
+    fn run(&mut self, scope: BlockContext<'a>, first: Step) -> Result<Stop, AllocError>
         requires ready { StepReady scope.text.now 0 first }
         requires progress { ProgressAt scope.text.now self.old.progress }
         requires escapes { All (IsCharBoundary scope.text.now) self.old.part.escapes }
@@ -257,12 +261,12 @@ impl<'a> Reader<'a> {
 
 // What was found, once the reader stopped; so much had been read before it began.
 fn conclude<'a>(
-    scope: Scope<'a>,
+    scope: BlockContext<'a>,
     root: Root,
     stopped: Stopped,
     before: Counts,
     part: &mut Part<'a>,
-) -> Result<Outcome, AllocError>
+) -> Result<BlockOutcome, AllocError>
     requires boundary { IsCharBoundary scope.text.now root.at }
     requires stopped { StoppedAt scope.text.now stopped }
     requires escapes { All (IsCharBoundary scope.text.now) part.old.escapes }
@@ -280,7 +284,7 @@ fn conclude<'a>(
         Some(end) => {
             if ends_whole(stopped.stop, end) {
                 let floor = stopped.floor;
-                return Ok(Outcome::Found(Found {
+                return Ok(BlockOutcome::Found(FoundBlock {
                     end,
                     reached,
                     floor,
@@ -290,14 +294,14 @@ fn conclude<'a>(
             }
             before.cut(part);
             match read_prefix(scope, root, end, part)? {
-                Some(floor) => Ok(Outcome::Found(Found {
+                Some(floor) => Ok(BlockOutcome::Found(FoundBlock {
                     end,
                     reached,
                     floor,
                     whole: false,
                     too_deep: passes_limit(stopped.stop),
                 })),
-                None => Ok(Outcome::Nothing { reached }),
+                None => Ok(BlockOutcome::Nothing { reached }),
             }
         }
         None => {
@@ -308,13 +312,13 @@ fn conclude<'a>(
 }
 
 // Where no node ends: the text goes wrong, or the limit is passed.
-fn none_from(stop: Stop) -> Outcome
+fn none_from(stop: Stop) -> BlockOutcome
     ensures { StopsAs stop result }
 {
     match stop {
-        Stop::Done(reached) => Outcome::Nothing { reached },
-        Stop::Failed(reached) => Outcome::Nothing { reached },
-        Stop::TooDeep(place) => Outcome::TooDeep(place),
+        Stop::Done(reached) => BlockOutcome::Nothing { reached },
+        Stop::Failed(reached) => BlockOutcome::Nothing { reached },
+        Stop::TooDeep(place) => BlockOutcome::TooDeep(place),
     }
 }
 
@@ -356,7 +360,7 @@ fn ends_whole(stop: Stop, end: usize) -> bool
 // Reads the node once more, in the text up to the last place at which all open nodes may end, and adds it to the part: it
 // ends there. The answer is the offset after its last block scalar, or 0; `None` where it did not end there.
 fn read_prefix<'a>(
-    scope: Scope<'a>,
+    scope: BlockContext<'a>,
     root: Root,
     end: usize,
     part: &mut Part<'a>,
@@ -371,7 +375,7 @@ fn read_prefix<'a>(
     ensures floor { IfOk result (λ o. MayBoundary scope.entry.text.now o) }
     ensures escapes { IfOk result (λ _. All (IsCharBoundary scope.entry.text.now) part.new.escapes) }
 {
-    let prefix = Scope {
+    let prefix = BlockContext {
         text: &scope.text[..end],
         ..scope
     };

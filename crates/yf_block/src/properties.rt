@@ -3,17 +3,17 @@ ghost use Rattle.std.specs.Prelude.{◌≡◌, pos, ◌+◌, IfOk, IfSome, Match
 ghost use Rattle.std.specs.Str.{IsCharBoundary};
 ghost use Rattle.yf_chars.specs.Chain.{Stuck};
 ghost use Rattle.yf_chars.specs.Text.{code};
-ghost use Rattle.yf_flow.specs.Machine.{Place};
-ghost use Rattle.yf_grammar.specs.BlockParser.{Ahead, Held as HeldValue};
-ghost use Rattle.yf_grammar.specs.Parser.{begins_properties};
+ghost use Rattle.yf_flow.specs.Machine.{BoundaryFrom};
+ghost use Rattle.yf_grammar.specs.BlockReader.BlockParser.{Ahead, PropertiesHeld as HeldValue};
+ghost use Rattle.yf_grammar.specs.FlowReader.Parser.{begins_properties};
 ghost use Rattle.yf_props.specs.Names as Names;
 ghost use Rattle.yf_block.specs.BlockStepTied.{PropertiesTied};
 ghost use Rattle.yf_block.specs.PropertiesAnswers.{PropertiesAhead, JoinedAfter, JoinedTo, LineProperties, NoPlaceAfter, PlaceAfter, held_lead, lead_at, line_held};
 
-use crate::look::sign_stands;
+use crate::look::is_sign_at;
 use std::alloc::{AllocError, Global};
 use yf_chars::context::Ctx;
-use yf_chars::text::stands;
+use yf_chars::text::is_char_at;
 use yf_events::event::Entry;
 use yf_flow::node::Lead;
 use yf_lines::basic::skip_whites;
@@ -57,7 +57,7 @@ pub(crate) fn lead_of<'a>(
     }
 }
 
-/// The same once more, for a call that is lent it: the first need not stand in memory then.
+/// The same once more, for a call that is lent it: the first need not be in memory then.
 #[inline(always)]
 pub(crate) fn copied<'a>(lead: &Lead<'a>) -> Lead<'a>
     ensures { result ≡ lead.now }
@@ -76,11 +76,11 @@ pub(crate) fn line_properties<'a>(
     text: &'a str,
     at: usize,
 ) -> Result<Option<PlacedProperties<'a>>, AllocError>
-    ensures place { IfOk result (λ o. IfSome o (λ h. Place text.now (at + 1) h.end)) }
+    ensures place { IfOk result (λ o. IfSome o (λ h. BoundaryFrom text.now (at + 1) h.end)) }
     ensures reads { IfOk result
         (λ o. MatchOption o (Stuck (Names.Properties text.now (pos 0) Ctx.FlowKey at)) (LineProperties text.now at)) }
 {
-    if property_stands(text, at) {
+    if is_property_at(text, at) {
         match node_properties(alloc, text, at, 0, Ctx::FlowKey)? {
             Some(
                 Properties {
@@ -103,36 +103,36 @@ pub(crate) fn line_properties<'a>(
     Ok(None)
 }
 
-/// Whether the first character of an anchor or a tag stands there.
-pub(crate) fn property_stands(text: &str, at: usize) -> bool
+/// Whether the first character of an anchor or a tag is there.
+pub(crate) fn is_property_at(text: &str, at: usize) -> bool
     ensures { result ≡ begins_properties (code text.now at) }
 {
-    if stands(text, at, b'&') {
+    if is_char_at(text, at, b'&') {
         return true;
     }
-    stands(text, at, b'!')
+    is_char_at(text, at, b'!')
 }
 
-/// The place of what stands after properties on their line: after white space, or the `:` of an empty key. `None` where
+/// The place of what is after properties on their line: after white space, or the `:` of an empty key. `None` where
 /// something else follows, or a property of a kind that they have.
 pub(crate) fn place_after(text: &str, properties: PlacedProperties) -> Option<usize>
     requires { IsCharBoundary text.now properties.end }
-    ensures place { IfSome result (λ p. Place text.now properties.entry.end p) }
+    ensures place { IfSome result (λ p. BoundaryFrom text.now properties.entry.end p) }
     ensures reads { MatchOption result (NoPlaceAfter text.now properties.entry.end) (PlaceAfter text.now properties.entry.end) }
 {
     let place = skip_whites(text, properties.end);
     if place == properties.end {
-        if !sign_stands(text, place, b':') {
+        if !is_sign_at(text, place, b':') {
             return None;
         }
     }
-    if property_stands(text, place) {
+    if is_property_at(text, place) {
         return None;
     }
     Some(place)
 }
 
-/// Properties of one node that stand on several lines; `None` where two are of one kind.
+/// Properties of one node that are on several lines; `None` where two are of one kind.
 pub(crate) fn joined<'a>(
     outer: PlacedProperties<'a>,
     inner: PlacedProperties<'a>,

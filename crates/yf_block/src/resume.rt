@@ -2,21 +2,21 @@
 ghost use Rattle.std.specs.Prelude.{◌≡◌, ℕ, ◌+◌, ◌-◌, ◌<◌, ◌++◌, IfOk, IfSome, MatchOption, reverse, length};
 ghost use Rattle.std.specs.Str.{IsCharBoundary};
 ghost use Rattle.yf_events.specs.Edit.{edited, ended};
-ghost use Rattle.yf_grammar.specs.BlockParser.{BlockTask};
+ghost use Rattle.yf_grammar.specs.BlockReader.BlockParser.{BlockTask};
 ghost use Rattle.yf_block.specs.BlockStepTied.{AtResume, AtDone, AtFit, AtPair};
 ghost use Rattle.yf_block.specs.BlockTied.{colons_if};
-ghost use Rattle.yf_block.specs.Closing.{closing};
+ghost use Rattle.yf_block.specs.CollectionEnds.{closing};
 ghost use Rattle.yf_block.specs.Counted.{CountedAt, CountedInside};
-ghost use Rattle.yf_block.specs.Fits.{FitsLine, PlaceTied};
-ghost use Rattle.yf_block.specs.Looks.{NotWithinBreak};
-ghost use Rattle.yf_block.specs.Machine.{Standing, MayPlace, FitsAt};
+ghost use Rattle.yf_block.specs.LineFits.{FitsLine, PlaceTied};
+ghost use Rattle.yf_block.specs.LookTests.{NotWithinBreak};
+ghost use Rattle.yf_block.specs.Machine.{IsReaderReady, MayPlace, FitsAt};
 ghost use Rattle.yf_block.specs.NextItems.{ItemBelow, TopSequence};
 ghost use Rattle.yf_block.specs.NextKeys.{KeyBelow, TopMapping};
-ghost use Rattle.yf_block.specs.StepAnswers.{Answers};
+ghost use Rattle.yf_block.specs.StepAnswers.{StepPromises};
 
 use crate::entry::{await_node, entry_at};
-use crate::frame::{Frame, Frames, Kind, Reader, Scope, Slot, Step};
-use crate::look::{dash_stands, entry_place, entry_sign_stands, sign_stands};
+use crate::frame::{BlockContext, BlockReader, CollectionKind, EntryStart, Frame, Frames, Step};
+use crate::look::{entry_place, is_dash_at, is_entry_sign_at, is_sign_at};
 use std::alloc::{AllocError, Global};
 use yf_events::event::NewEvent;
 use yf_events::part::Part;
@@ -37,17 +37,17 @@ enum Fit {
 
 // The innermost collection that does not end before a line, and what the line is to it. It is no longer on the stack.
 #[derive(Clone, Copy)]
-struct Next {
+struct ResumedFrame {
     frame: Frame,
     fit: Fit,
 }
 
-impl<'a> Reader<'a> {
+impl<'a> BlockReader<'a> {
     /// Goes on at the start of a line after a node. Most often a key of the innermost mapping begins there, or an item of the
     /// innermost sequence.
-    pub(crate) fn resume(&mut self, scope: Scope<'a>, at: usize) -> Result<Step, AllocError>
-        requires { Standing scope.text.now at self.old }
-        ensures { Answers AtResume CountedAt scope.entry at 0 self.old self.new result }
+    pub(crate) fn resume(&mut self, scope: BlockContext<'a>, at: usize) -> Result<Step, AllocError>
+        requires { IsReaderReady scope.text.now at self.old }
+        ensures { StepPromises AtResume CountedAt scope.entry at 0 self.old self.new result }
     {
         let place = entry_place(scope.text, at);
         match key_below(scope.text, at, place, &self.frames) {
@@ -69,20 +69,20 @@ impl<'a> Reader<'a> {
     // The same for any line; the place is that of its first character, if an entry may begin there.
     fn resume_below(
         &mut self,
-        scope: Scope<'a>,
+        scope: BlockContext<'a>,
         at: usize,
         place: Option<usize>,
     ) -> Result<Step, AllocError>
-        requires standing { Standing scope.text.now at self.old }
+        requires standing { IsReaderReady scope.text.now at self.old }
         requires place { MayPlace scope.text.now at place }
         requires entry { NotWithinBreak scope.text.now at → PlaceTied scope.text.now at place }
-        ensures { Answers AtResume CountedAt scope.entry at 0 self.old self.new result }
+        ensures { StepPromises AtResume CountedAt scope.entry at 0 self.old self.new result }
     {
         match self.end_collections(scope, at, place)? {
             None => Ok(Step::Done(at)),
-            Some(Next { frame, fit }) => match fit {
-                Fit::Item(start) => self.take_item(scope, Slot { frame, at: start }),
-                Fit::Entry(start) => self.next_entry(scope, Slot { frame, at: start }),
+            Some(ResumedFrame { frame, fit }) => match fit {
+                Fit::Item(start) => self.take_item(scope, EntryStart { frame, at: start }),
+                Fit::Entry(start) => self.next_entry(scope, EntryStart { frame, at: start }),
                 Fit::Deeper(start) => Ok(Step::Failed(start)),
                 Fit::EndsBefore => Ok(Step::Failed(at)),
             },
@@ -92,14 +92,14 @@ impl<'a> Reader<'a> {
     // Ends the collections that end before the line at an offset; `None` where all of them do.
     fn end_collections(
         &mut self,
-        scope: Scope<'a>,
+        scope: BlockContext<'a>,
         at: usize,
         place: Option<usize>,
-    ) -> Result<Option<Next>, AllocError>
-        requires standing { Standing scope.text.now at self.old }
+    ) -> Result<Option<ResumedFrame>, AllocError>
+        requires standing { IsReaderReady scope.text.now at self.old }
         requires place { MayPlace scope.text.now at place }
         requires entry { NotWithinBreak scope.text.now at → PlaceTied scope.text.now at place }
-        ensures standing { IfOk result (λ _. Standing scope.entry.text.now at self.new) }
+        ensures standing { IfOk result (λ _. IsReaderReady scope.entry.text.now at self.new) }
         ensures places { IfOk result (λ o. IfSome o (λ n. FitsAt scope.entry.text.now at n.fit)) }
         ensures tied { (d : ℕ) → (root : BlockTask) → (before : Part)
             → AtResume scope.entry.text.now d root before (reverse self.old.frames.items) at self.old.progress self.old.part
@@ -114,7 +114,7 @@ impl<'a> Reader<'a> {
                 Fit::EndsBefore => {
                     end_collection(scope.alloc, frame, self.progress.last, &mut self.part)?;
                 }
-                _ => return Ok(Some(Next { frame, fit })),
+                _ => return Ok(Some(ResumedFrame { frame, fit })),
             }
         }
         Ok(None)
@@ -122,13 +122,13 @@ impl<'a> Reader<'a> {
 
     // The next entry of a mapping, or the `:` of an entry with a `?` and the value after it (l-block-map-explicit-value,
     // production 191).
-    fn next_entry(&mut self, scope: Scope<'a>, slot: Slot) -> Result<Step, AllocError>
-        requires { Standing scope.text.now slot.at self.old }
-        ensures { Answers (AtPair slot.frame) CountedInside scope.entry slot.at 0 self.old self.new result }
+    fn next_entry(&mut self, scope: BlockContext<'a>, slot: EntryStart) -> Result<Step, AllocError>
+        requires { IsReaderReady scope.text.now slot.at self.old }
+        ensures { StepPromises (AtPair slot.frame) CountedInside scope.entry slot.at 0 self.old self.new result }
     {
-        let Slot { frame, at } = slot;
+        let EntryStart { frame, at } = slot;
         if frame.awaits_colon {
-            if sign_stands(scope.text, at, b':') {
+            if is_sign_at(scope.text, at, b':') {
                 self.part.events.set_colon(frame.entry_event, at)?;
                 self.frames.push(Frame {
                     awaits_colon: false,
@@ -159,7 +159,7 @@ fn key_below(text: &str, at: usize, place: Option<usize>, frames: &Frames) -> Op
                 if start - at != column {
                     return None;
                 }
-                if entry_sign_stands(text, start) {
+                if is_entry_sign_at(text, start) {
                     return None;
                 }
                 Some(start)
@@ -183,8 +183,8 @@ fn top_mapping(frames: &Frames) -> Option<usize>
         return None;
     }
     match frame.kind {
-        Kind::Sequence => None,
-        Kind::Mapping => Some(frame.column),
+        CollectionKind::Sequence => None,
+        CollectionKind::Mapping => Some(frame.column),
     }
 }
 
@@ -202,7 +202,7 @@ fn item_below(text: &str, at: usize, place: Option<usize>, frames: &Frames) -> O
             None => None,
             Some(column) => {
                 if start - at == column {
-                    if dash_stands(text, start) {
+                    if is_dash_at(text, start) {
                         return Some(start);
                     }
                 }
@@ -227,8 +227,8 @@ fn top_sequence(frames: &Frames) -> Option<usize>
         return None;
     }
     match frame.kind {
-        Kind::Sequence => Some(frame.column),
-        Kind::Mapping => None,
+        CollectionKind::Sequence => Some(frame.column),
+        CollectionKind::Mapping => None,
     }
 }
 
@@ -259,13 +259,13 @@ fn fit_of(text: &str, at: usize, place: Option<usize>, frame: &Frame) -> Fit
                 return Fit::Deeper(start);
             }
             match frame.kind {
-                Kind::Sequence => {
-                    if dash_stands(text, start) {
+                CollectionKind::Sequence => {
+                    if is_dash_at(text, start) {
                         return Fit::Item(start);
                     }
                     Fit::EndsBefore
                 }
-                Kind::Mapping => Fit::Entry(start),
+                CollectionKind::Mapping => Fit::Entry(start),
             }
         }
     }
@@ -283,8 +283,8 @@ fn end_collection<'a>(
     ensures escapes { part.new.escapes ≡ part.old.escapes }
 {
     let event = match frame.kind {
-        Kind::Sequence => NewEvent::SeqEnd,
-        Kind::Mapping => NewEvent::MapEnd,
+        CollectionKind::Sequence => NewEvent::SeqEnd,
+        CollectionKind::Mapping => NewEvent::MapEnd,
     };
     if frame.awaits_colon {
         part.events.push(empty_node(alloc, None))?;

@@ -5,15 +5,15 @@ ghost use Rattle.yf_chars.specs.Chain.{Chosen, Stuck};
 ghost use Rattle.yf_lines.specs.Basic.{LineStart};
 ghost use Rattle.yf_comments.specs.Comment.{row_comments};
 ghost use Rattle.yf_block_scalar.specs.Body.{Body, body_value};
-ghost use Rattle.yf_grammar.specs.BlockScalar.{kept_lines as kept_of, reach as reach_of, style_of as style_by};
-ghost use Rattle.yf_flow.specs.Machine.{Place};
+ghost use Rattle.yf_grammar.specs.Productions.BlockScalar.{kept_lines as kept_of, reach as reach_of, style_of as style_by};
+ghost use Rattle.yf_flow.specs.Machine.{BoundaryFrom};
 ghost use Rattle.yf_block.specs.ContentTied.{ScalarSignAt};
 ghost use Rattle.yf_block.specs.Counted.{CountedAt};
-ghost use Rattle.yf_block.specs.Machine.{Standing};
+ghost use Rattle.yf_block.specs.Machine.{IsReaderReady};
 ghost use Rattle.yf_block.specs.ScalarTied.{AtBody, AtHeader, scalar_event};
-ghost use Rattle.yf_block.specs.StepAnswers.{Answers};
+ghost use Rattle.yf_block.specs.StepAnswers.{StepPromises};
 
-use crate::frame::{Reader, Scope, Step};
+use crate::frame::{BlockContext, BlockReader, Step};
 use crate::halt::note_node;
 use crate::inline::flow_indentation;
 use crate::look::skip_lines;
@@ -24,7 +24,7 @@ use yf_block_scalar::header::{Chomp, Header};
 use yf_block_scalar::header_reader::{HeaderLine, block_header};
 use yf_block_scalar::lines::Lines;
 use yf_block_scalar::reader::block_body;
-use yf_chars::text::stands;
+use yf_chars::text::is_char_at;
 use yf_comments::comment::Comment;
 use yf_comments::comments::Comments;
 use yf_events::event::{NewEvent, PlacedEvent, ScalarStyle, Span};
@@ -33,17 +33,17 @@ use yf_events::slices::Slices;
 use yf_flow::node::Lead;
 use yf_lines::text::{OwnedText, Text};
 
-impl<'a> Reader<'a> {
-    /// Reads the block scalar whose `|` or `>` stands at an offset (s-l+block-scalar, production 199).
+impl<'a> BlockReader<'a> {
+    /// Reads the block scalar whose `|` or `>` is at an offset (s-l+block-scalar, production 199).
     #[inline(never)]
     pub(crate) fn take_block_scalar(
         &mut self,
-        scope: Scope<'a>,
+        scope: BlockContext<'a>,
         at: usize,
         lead: &Lead<'a>,
     ) -> Result<Step, AllocError>
-        requires { Standing scope.text.now at self.old }
-        ensures { Answers (AtHeader lead.now) CountedAt scope.entry at 0 self.old self.new result }
+        requires { IsReaderReady scope.text.now at self.old }
+        ensures { StepPromises (AtHeader lead.now) CountedAt scope.entry at 0 self.old self.new result }
     {
         match block_header(scope.text, at) {
             None => Ok(Step::Failed(at)),
@@ -66,14 +66,14 @@ impl<'a> Reader<'a> {
     // Adds a block scalar whose lines have been read from an offset on.
     fn take_body(
         &mut self,
-        scope: Scope<'a>,
+        scope: BlockContext<'a>,
         at: usize,
         lead: &Lead<'a>,
         block: BlockText<'a>,
     ) -> Result<Step, AllocError>
-        requires standing { Standing scope.text.now at self.old }
-        requires next { Place scope.text.now at block.next }
-        ensures { Answers (AtBody lead.now block.entry) CountedAt scope.entry at 1 self.old self.new result }
+        requires standing { IsReaderReady scope.text.now at self.old }
+        requires next { BoundaryFrom scope.text.now at block.next }
+        ensures { StepPromises (AtBody lead.now block.entry) CountedAt scope.entry at 1 self.old self.new result }
     {
         let text = scope.text;
         let finish = skip_lines(text, at, reach(&block));
@@ -93,13 +93,13 @@ impl<'a> Reader<'a> {
 }
 
 /// Whether the header of a block scalar begins there.
-pub(crate) fn block_scalar_stands(text: &str, at: usize) -> bool
+pub(crate) fn is_block_scalar_at(text: &str, at: usize) -> bool
     ensures { MatchBool result (ScalarSignAt text.now at) (ScalarSignAt text.now at → ⊥) }
 {
-    if stands(text, at, b'|') {
+    if is_char_at(text, at, b'|') {
         return true;
     }
-    stands(text, at, b'>')
+    is_char_at(text, at, b'>')
 }
 
 // Adds the comment after a header.
@@ -118,14 +118,14 @@ fn push_comment<'a>(comment: Option<Comment<'a>>, part: &mut Part<'a>) -> Result
 // Reads the lines of a block scalar after its header, which ends at an offset, in a node whose lines are indented by that
 // many spaces at least.
 fn read_lines<'a>(
-    scope: Scope<'a>,
+    scope: BlockContext<'a>,
     at: usize,
     least: usize,
     header: Header,
 ) -> Result<Option<BlockText<'a>>, AllocError>
     requires boundary { IsCharBoundary scope.text.now at }
     requires starts { at < length scope.text.now → LineStart scope.text.now at }
-    ensures place { IfOk result (λ o. IfSome o (λ b. Place scope.entry.text.now at b.next)) }
+    ensures place { IfOk result (λ o. IfSome o (λ b. BoundaryFrom scope.entry.text.now at b.next)) }
     ensures reads { least ≤ 2 ^ 30 + 1 → (n : ℤ) → pos least ≡ n +ℤ pos 1
         → IfOk result (λ o. MatchOption o (Stuck (Body scope.entry.text.now n header at))
         (λ b. (b.header ≡ header) × Chosen (Body scope.entry.text.now n header at) b.next (body_value b))) }

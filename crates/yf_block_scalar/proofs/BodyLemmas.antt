@@ -12,10 +12,10 @@ use Rattle.yf_chars.proofs.ChainLemmas.{chain_more, many_unique, stuck_unique}
 use Rattle.yf_lines.specs.Basic.{Spaces, Break, LineStart, is_marker}
 use Rattle.yf_lines.specs.Basic.LineStart.{after_break}
 use Rattle.yf_lines.proofs.BasicLemmas.{break_char, break_forward, break_unique, no_break_here, no_marker, three_first}
-use Rattle.yf_block_scalar.specs.Body.{SpaceLine, Bare, largest, Ends, Content, Line, Lines, Tail, Taken, Other, Indented, Detected, Shallow, MarkerLine}
-use Rattle.yf_block_scalar.specs.Body.Bare.{bare}
+use Rattle.yf_block_scalar.specs.Body.{SpaceLine, EmptyLines, largest, Ends, LineContent, Line, Lines, Tail, LinesTaken, Other, IndentedLine, DetectedIndent, Shallow, MarkerLine}
+use Rattle.yf_block_scalar.specs.Body.EmptyLines.{bare}
 use Rattle.yf_block_scalar.specs.Body.Ends.{by_break, by_text}
-use Rattle.yf_block_scalar.specs.Body.Content.{content}
+use Rattle.yf_block_scalar.specs.Body.LineContent.{content}
 use Rattle.yf_block_scalar.specs.Body.Line.{empty_line, content_line}
 use Rattle.yf_block_scalar.specs.Body.Lines.{no_content, up_to}
 use Rattle.yf_block_scalar.specs.Body.MarkerLine.{marker_here, past_mark}
@@ -78,12 +78,12 @@ ends_no_nb (by_break b) = break_no_nb b
 ends_no_nb {t} (by_text e) = ap is_nb_char (ap (code t) e ∙ code-end t) ∙ no_nb_end
 
 -- a content line
-pub few_spaces : {t : List ℕ} {at k j : ℕ} {x : List ℕ} {o : Bool} (e : ℕ) → at ≤ e → code t e ≢ 32 → e - at < k → Content t k at j x o → ⊥
+pub few_spaces : {t : List ℕ} {at k j : ℕ} {x : List ℕ} {o : Bool} (e : ℕ) → at ≤ e → code t e ≢ 32 → e - at < k → LineContent t k at j x o → ⊥
 few_spaces {t} {at} {k} e l n few (content s m f q c) =
     let same : at + (e - at) ≡ e = omega arith in
     n (subst (λ h. code t h ≡ 32) same (s.each (e - at) few))
 
-pub no_marker_line : {t : List ℕ} {at k j : ℕ} {x : List ℕ} {o : Bool} → is_marker t at ≡ true → Content t k at j x o → ⊥
+pub no_marker_line : {t : List ℕ} {at k j : ℕ} {x : List ℕ} {o : Bool} → is_marker t at ≡ true → LineContent t k at j x o → ⊥
 no_marker_line m (content s n f q c) = true≢false (sym m ∙ c)
 
 pub text_end : {t : List ℕ} {i h e j : ℕ} {x y : List ℕ} {o : Bool} → Many t is_nb_char i h x → Ends t h j o
@@ -91,11 +91,11 @@ pub text_end : {t : List ℕ} {i h e j : ℕ} {x y : List ℕ} {o : Bool} → Ma
 text_end {t} m q n f = (many_unique t is_nb_char m (ends_no_nb q) n f).0
 
 pub no_text : {t : List ℕ} {at k j : ℕ} {x y : List ℕ} {o : Bool} (e : ℕ) → Many t is_nb_char (at + k) e y → is_nb_char (code t e) ≡ false
-    → e ≡ at + k → Content t k at j x o → ⊥
+    → e ≡ at + k → LineContent t k at j x o → ⊥
 no_text e n f z (content s m l q c) = let same = text_end m q n f in absurd (omega arith)
 
 pub no_end : {t : List ℕ} {at k j : ℕ} {x y : List ℕ} {o : Bool} (e : ℕ) → Many t is_nb_char (at + k) e y → is_nb_char (code t e) ≡ false
-    → e ≢ length t → Nowhere (Break t e) → Content t k at j x o → ⊥
+    → e ≢ length t → Nowhere (Break t e) → LineContent t k at j x o → ⊥
 no_end e n f z none (content s m l q c) = no_end_here e z none (text_end m q n f) q where
   no_end_here : {t : List ℕ} {h j : ℕ} {o : Bool} (e : ℕ) → e ≢ length t → Nowhere (Break t e) → h ≡ e → Ends t h j o → ⊥
   no_end_here {t} {j = j} e z none same (by_break b) = none.none j (subst (λ w. Break t w j) same b)
@@ -153,7 +153,7 @@ reading_empty {m = m} r line l = record {
 }
 
 pub reading_content : {t : List ℕ} {k at p j count : ℕ} {ls : List (List ℕ)} {x : List ℕ} {o q : Bool} → Reading t k at p ls o count
-    → Content t k p j x q → Reading t k at j (ls ++ x ∷ []) q 0
+    → LineContent t k p j x q → Reading t k at j (ls ++ x ∷ []) q 0
 reading_content {t} {k} {j = j} {ls = ls} {x = x} r c = record {
   end = j;
   front = ls ++ x ∷ [];
@@ -166,10 +166,10 @@ reading_content {t} {k} {j = j} {ls = ls} {x = x} r c = record {
 }
 
 pub no_line : {t : List ℕ} {k p : ℕ} → ((m j : ℕ) → SpaceLine t p m j → m ≤ k → ⊥)
-    → ((j : ℕ) (x : List ℕ) (o : Bool) → Content t k p j x o → ⊥) → Stuck (Line t k p)
+    → ((j : ℕ) (x : List ℕ) (o : Bool) → LineContent t k p j x o → ⊥) → Stuck (Line t k p)
 no_line e c = record { none = λ j x l. no_line_here e c l } where
   no_line_here : {t : List ℕ} {k p j : ℕ} {x : List (List ℕ)} → ((m j : ℕ) → SpaceLine t p m j → m ≤ k → ⊥)
-      → ((j : ℕ) (x : List ℕ) (o : Bool) → Content t k p j x o → ⊥) → Line t k p j x → ⊥
+      → ((j : ℕ) (x : List ℕ) (o : Bool) → LineContent t k p j x o → ⊥) → Line t k p j x → ⊥
   no_line_here e c (empty_line {j = j} {m = m} s l) = e m j s l
   no_line_here e c (content_line {j = j} {x = x} {o = o} d) = c j x o d
 
@@ -179,15 +179,15 @@ reading_length r = ap length r.parts ∙ length-append r.front r.back ∙ ap (λ
 
 -- what is left of the lines without the last empty ones
 pub reading_done : {t : List ℕ} {k at p count : ℕ} {ls : List (List ℕ)} {o : Bool} → Reading t k at p ls o count → Stuck (Line t k p)
-    → Taken t k at (take (length ls - count) ls) o count p
+    → LinesTaken t k at (take (length ls - count) ls) o count p
 reading_done {t} {k} {at} {p} {count} {ls} {o} r stuck =
     let n : length ls - count ≡ length r.front = omega (arith, reading_length r) in
     let same : take (length ls - count) ls ≡ r.front = ap (λ w. take w ls) n ∙ ap (take (length r.front)) r.parts ∙ take-append_seam r.front r.back in
-    subst (λ w. Taken t k at w o count p) (sym same) (record { end = r.end; lines = r.lines; tail = r.tail; most = stuck })
+    subst (λ w. LinesTaken t k at w o count p) (sym same) (record { end = r.end; lines = r.lines; tail = r.tail; most = stuck })
 
 -- a content line as it is read
 pub content_there : {t : List ℕ} {at k m j : ℕ} {x : List ℕ} {o : Bool} (e : ℕ) → k ≤ m → Spaces t at m → Many t is_nb_char (at + k) e x
-    → at + k ≤ e → e ≢ at + k → Ends t e j o → is_marker t at ≡ false → Content t k at j (slice_range t (at + k) e) o
+    → at + k ≤ e → e ≢ at + k → Ends t e j o → is_marker t at ≡ false → LineContent t k at j (slice_range t (at + k) e) o
 content_there {k = k} e l s n le ne q c = content (spaces_fewer k l s) n (omega arith) q c
 
 -- lines of spaces alone: one leads on to one place
@@ -198,37 +198,37 @@ module _ (t : List ℕ) where
   bare_ends : {i j k : ℕ} {m d : ℕ} → SpaceLine t i m j → SpaceLine t i d k → j ≡ k
   bare_ends {i} {j} {k} a b = break_unique a.ends (subst (λ w. Break t (i + w) k) (sym (bare_widths a b)) b.ends)
 
-  bare_end : {i j k : ℕ} {x y : List ℕ} → Bare t i j x → Bare t i k y → j ≡ k
+  bare_end : {i j k : ℕ} {x y : List ℕ} → EmptyLines t i j x → EmptyLines t i k y → j ≡ k
   bare_end (bare m a) (bare d b) = bare_ends a b
 
-  bare_meaning : {i j k : ℕ} {x y : List ℕ} → Bare t i j x → Bare t i k y → x ≡ y
+  bare_meaning : {i j k : ℕ} {x y : List ℕ} → EmptyLines t i j x → EmptyLines t i k y → x ≡ y
   bare_meaning (bare m a) (bare d b) = ap (λ w. w ∷ []) (bare_widths a b)
 
-  bare_forward : {i j : ℕ} {x : List ℕ} → Bare t i j x → i < j
+  bare_forward : {i j : ℕ} {x : List ℕ} → EmptyLines t i j x → i < j
   bare_forward (bare m a) = omega (arith, break_forward a.ends)
 
-  pub bare_functional : Functional (Bare t)
+  pub bare_functional : Functional (EmptyLines t)
   bare_functional = record { one_end = λ a b. bare_end a b; one_meaning = λ a b. bare_meaning a b; forward = λ a. bare_forward a }
 
-bare_line : {t : List ℕ} {i j : ℕ} {x : List ℕ} → Bare t i j x → (m : ℕ) × SpaceLine t i m j
+bare_line : {t : List ℕ} {i j : ℕ} {x : List ℕ} → EmptyLines t i j x → (m : ℕ) × SpaceLine t i m j
 bare_line (bare m a) = (m, a)
 
 -- the line where they stop
-pub bare_stuck : (t : List ℕ) (i m : ℕ) → Spaces t i m → code t (i + m) ≢ 32 → Nowhere (Break t (i + m)) → Stuck (Bare t i)
+pub bare_stuck : (t : List ℕ) (i m : ℕ) → Spaces t i m → code t (i + m) ≢ 32 → Nowhere (Break t (i + m)) → Stuck (EmptyLines t i)
 bare_stuck t i m s n none = record { none = λ j x b. bare_stuck_here j (bare_line b) } where
   bare_stuck_here : (j : ℕ) → (d : ℕ) × SpaceLine t i d j → ⊥
   bare_stuck_here j l =
       let same : l.0 ≡ m = spaces_unique l.1.spaces (break_no_space l.1.ends) s n in
       none.none j (subst (λ w. Break t (i + w) j) same l.1.ends)
 
-pub indented_stuck : {t : List ℕ} {n : ℤ} {i k : ℕ} → Indented t n i k → Stuck (Bare t i)
+pub indented_stuck : {t : List ℕ} {n : ℤ} {i k : ℕ} → IndentedLine t n i k → Stuck (EmptyLines t i)
 indented_stuck {t} {n} {i} {k} d = bare_stuck t i k d.spaces d.other.no_space d.other.no_break
 
 no_break_code : (t : List ℕ) (i c : ℕ) → code t i ≡ c → c ≢ 13 → c ≢ 10 → Nowhere (Break t i)
 no_break_code t i c e a b = no_break_here t i (λ h. a (sym e ∙ h)) (λ h. b (sym e ∙ h))
 
 -- no spaces and no break at all
-stuck_at : (t : List ℕ) (i c : ℕ) → code t i ≡ c → c ≢ 32 → c ≢ 13 → c ≢ 10 → Stuck (Bare t i)
+stuck_at : (t : List ℕ) (i c : ℕ) → code t i ≡ c → c ≢ 32 → c ≢ 13 → c ≢ 10 → Stuck (EmptyLines t i)
 stuck_at t i c e s a b =
     let here : i + 0 ≡ i = add-zero i in
     let q : code t (i + 0) ≡ c = ap (code t) here ∙ e in
@@ -241,7 +241,7 @@ marker_code t i e =
     absurd (true≢false (sym e ∙ no_marker t i (three_first t i 45 n) (three_first t i 46 m))))
     (cases_eq (code t i) 46)) (cases_eq (code t i) 45)
 
-marker_stuck : {t : List ℕ} {i : ℕ} → MarkerLine t i → Stuck (Bare t i)
+marker_stuck : {t : List ℕ} {i : ℕ} → MarkerLine t i → Stuck (EmptyLines t i)
 marker_stuck {t} {i} (marker_here e) =
     ⊎_elim (λ (h : code t i ≡ 45). stuck_at t i 45 h (λ w. absurd (omega arith)) (λ w. absurd (omega arith)) (λ w. absurd (omega arith)))
     (λ (h : code t i ≡ 46). stuck_at t i 46 h (λ w. absurd (omega arith)) (λ w. absurd (omega arith)) (λ w. absurd (omega arith)))
@@ -251,7 +251,7 @@ marker_stuck {t} {i} (past_mark e l) = stuck_at t i 0xFEFF e (λ w. absurd (omeg
 end_code : (t : List ℕ) (i : ℕ) → i ≡ length t → code t i ≡ no_char
 end_code t i e = ap (code t) e ∙ code-end t
 
-pub shallow_stuck : {t : List ℕ} {n : ℤ} {i : ℕ} → Shallow t n i → Stuck (Bare t i)
+pub shallow_stuck : {t : List ℕ} {n : ℤ} {i : ℕ} → Shallow t n i → Stuck (EmptyLines t i)
 shallow_stuck {t} {n} {i} (missing m s e) =
     bare_stuck t i m s (λ h. let q = end_code t (i + m) e in absurd (omega arith))
     (no_break_code t (i + m) no_char (end_code t (i + m) e) (λ w. absurd (omega arith)) (λ w. absurd (omega arith)))
@@ -259,7 +259,7 @@ shallow_stuck {t} {n} {i} (left_of m s o l) = bare_stuck t i m s o.no_space o.no
 shallow_stuck (forbidden l) = marker_stuck l
 
 -- such a line is one that is indented or one that is not
-pub not_both : {t : List ℕ} {n : ℤ} {i k : ℕ} → Indented t n i k → Shallow t n i → ⊥
+pub not_both : {t : List ℕ} {n : ℤ} {i k : ℕ} → IndentedLine t n i k → Shallow t n i → ⊥
 not_both {t} {n} {i} {k} d (missing m s e) =
     let q : code t (i + m) ≡ no_char = end_code t (i + m) e in
     let same : k ≡ m = spaces_unique d.spaces d.other.no_space s (λ h. absurd (omega arith)) in
@@ -269,25 +269,25 @@ not_both {t} {n} {i} {k} d (left_of m s o l) =
     let deep = d.deep in absurd (omega arith)
 not_both d (forbidden l) = d.clear l
 
-pub indented_unique : {t : List ℕ} {n : ℤ} {i k m : ℕ} → Indented t n i k → Indented t n i m → k ≡ m
+pub indented_unique : {t : List ℕ} {n : ℤ} {i k m : ℕ} → IndentedLine t n i k → IndentedLine t n i m → k ≡ m
 indented_unique a b = spaces_unique a.spaces a.other.no_space b.spaces b.other.no_space
 
 pub largest-snoc : (ms : List ℕ) (m : ℕ) → largest (ms ++ m ∷ []) ≡ max (largest ms) m
 largest-snoc [] m = omega arith
 largest-snoc (d ∷ ms) m = let rest = largest-snoc ms m in omega arith
 
-pub too_long_detected : {t : List ℕ} {n : ℤ} {i h k : ℕ} {ms : List ℕ} → Chain (Bare t) i h ms → Indented t n h k → k < largest ms
-    → (m : ℕ) → Detected t n i m → ⊥
+pub too_long_detected : {t : List ℕ} {n : ℤ} {i h k : ℕ} {ms : List ℕ} → Chain (EmptyLines t) i h ms → IndentedLine t n h k → k < largest ms
+    → (m : ℕ) → DetectedIndent t n i m → ⊥
 too_long_detected {t} {n} {i} {h} {k} {ms} c d l m e =
     let meet = stuck_unique (bare_functional t) c (indented_stuck d) e.before (indented_stuck e.first) in
-    let f : Indented t n h m = subst (λ w. Indented t n w m) (sym meet.0) e.first in
+    let f : IndentedLine t n h m = subst (λ w. IndentedLine t n w m) (sym meet.0) e.first in
     let same : k ≡ m = indented_unique d f in
     let longest : largest ms ≡ largest e.widths = ap largest meet.1 in
     let within = e.within in
     absurd (omega arith)
 
-pub too_long_shallow : {t : List ℕ} {n : ℤ} {i h k : ℕ} {ms : List ℕ} → Chain (Bare t) i h ms → Indented t n h k
-    → (p : ℕ) (ds : List ℕ) → Chain (Bare t) i p ds → Shallow t n p → ⊥
+pub too_long_shallow : {t : List ℕ} {n : ℤ} {i h k : ℕ} {ms : List ℕ} → Chain (EmptyLines t) i h ms → IndentedLine t n h k
+    → (p : ℕ) (ds : List ℕ) → Chain (EmptyLines t) i p ds → Shallow t n p → ⊥
 too_long_shallow {t} {n} {i} {h} {k} {ms} c d p ds e q =
     let meet = stuck_unique (bare_functional t) c (indented_stuck d) e (shallow_stuck q) in
     not_both d (subst (λ w. Shallow t n w) (sym meet.0) q)
@@ -335,7 +335,7 @@ ends_starts : {t : List ℕ} {h j : ℕ} {o : Bool} → Ends t h j o → j < len
 ends_starts (by_break b) l = after_break b
 ends_starts (by_text e) l = absurd (omega arith)
 
-content_starts : {t : List ℕ} {k i j : ℕ} {x : List ℕ} {o : Bool} → Content t k i j x o → j < length t → LineStart t j
+content_starts : {t : List ℕ} {k i j : ℕ} {x : List ℕ} {o : Bool} → LineContent t k i j x o → j < length t → LineStart t j
 content_starts (content s m n q c) l = ends_starts q l
 
 lines_starts : {t : List ℕ} {k i j : ℕ} {ls : List (List ℕ)} {o : Bool} → (i < length t → LineStart t i) → Lines t k i j ls o
@@ -343,13 +343,13 @@ lines_starts : {t : List ℕ} {k i j : ℕ} {ls : List (List ℕ)} {o : Bool} �
 lines_starts s no_content l = s l
 lines_starts s (up_to c d) l = content_starts d l
 
-bare_next : {t : List ℕ} {i j : ℕ} {x : List ℕ} → Bare t i j x → LineStart t j
+bare_next : {t : List ℕ} {i j : ℕ} {x : List ℕ} → EmptyLines t i j x → LineStart t j
 bare_next (bare m a) = after_break a.ends
 
-pub bares_starts : {t : List ℕ} {i j : ℕ} {x : List ℕ} → (i < length t → LineStart t i) → Chain (Bare t) i j x → j < length t → LineStart t j
+pub bares_starts : {t : List ℕ} {i j : ℕ} {x : List ℕ} → (i < length t → LineStart t i) → Chain (EmptyLines t) i j x → j < length t → LineStart t j
 bares_starts s done l = s l
 bares_starts s (step b c) l = bares_starts (λ _. bare_next b) c l
 
-pub taken_starts : {t : List ℕ} {k i p count : ℕ} {ls : List (List ℕ)} {o : Bool} → (i < length t → LineStart t i) → Taken t k i ls o count p
+pub taken_starts : {t : List ℕ} {k i p count : ℕ} {ls : List (List ℕ)} {o : Bool} → (i < length t → LineStart t i) → LinesTaken t k i ls o count p
     → p < length t → LineStart t p
 taken_starts s d l = bares_starts (λ h. lines_starts s d.lines h) d.tail.lines l

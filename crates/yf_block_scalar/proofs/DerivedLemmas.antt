@@ -4,7 +4,7 @@ use Rattle.std.proofs.lemmas.List.{length-replicate, get_or-drop}
 use Rattle.std.proofs.lemmas.Bool.{cases_Bool}
 use Rattle.std.specs.Str.{IsUtf8}
 use lib.Utf8.{encodes}
-use Rattle.yf_chars.specs.Text.{code, next, Reads}
+use Rattle.yf_chars.specs.Text.{code, next, CharAt}
 use Rattle.yf_chars.specs.Class.{is_white, is_nb_char}
 use Rattle.yf_chars.specs.Chain.{Many, One, Stuck}
 use Rattle.yf_chars.specs.Chain.Chain.{done, step}
@@ -16,7 +16,7 @@ use Rattle.yf_lines.proofs.BasicLemmas.{break_char, white_of_space, white_cases,
 use Rattle.yf_comments.specs.declared.comment.Comment.{Comment}
 use Rattle.yf_comments.specs.Comment.{CommentValue}
 use Rattle.yf_comments.specs.Comments.{BlankBefore, LineRest}
-use Rattle.yf_comments.specs.Comments.Noted.{not_noted}
+use Rattle.yf_comments.specs.Comments.HasBlankNote.{not_noted}
 use Rattle.yf_comments.specs.Comments.CommentText.{comment_text}
 use Rattle.yf_comments.specs.Comments.BreakOrEnd.{by_break}
 use Rattle.yf_comments.specs.Comments.LineRest.{nothing, comment}
@@ -30,22 +30,22 @@ use Rattle.yf_block_scalar.specs.Header.Digit.{digit}
 use Rattle.yf_block_scalar.specs.Header.Sign.{strip_sign, keep_sign}
 use Rattle.yf_block_scalar.specs.Header.Indicators.{neither, digit_alone, sign_alone, digit_sign}
 use Rattle.yf_block_scalar.specs.Header.BlockHeader.{block_header}
-use Rattle.yf_block_scalar.specs.Body.{SpaceLine, largest, Content, Line, Lines, Taken, Indented, Detected, MarkerLine, Trail, Body, base, least}
-use Rattle.yf_block_scalar.specs.Body.Bare.{bare}
-use Rattle.yf_block_scalar.specs.Body.Content.{content}
+use Rattle.yf_block_scalar.specs.Body.{SpaceLine, largest, LineContent, Line, Lines, LinesTaken, IndentedLine, DetectedIndent, MarkerLine, Trail, Body, base, least}
+use Rattle.yf_block_scalar.specs.Body.EmptyLines.{bare}
+use Rattle.yf_block_scalar.specs.Body.LineContent.{content}
 use Rattle.yf_block_scalar.specs.Body.Line.{empty_line, content_line}
 use Rattle.yf_block_scalar.specs.Body.Lines.{up_to}
 use Rattle.yf_block_scalar.specs.Body.MarkerLine.{marker_here, past_mark}
 use Rattle.yf_block_scalar.specs.Body.Trail.{no_comment}
 use Rattle.yf_block_scalar.specs.Body.Body.{indicated, detected}
-use Rattle.yf_block_scalar.specs.Content.{feeds, literal_behind, content_of}
+use Rattle.yf_block_scalar.specs.Content.{feeds, literal_after, content_of}
 use Rattle.yf_block_scalar.specs.Written.{style_bytes, digit_bytes, sign_bytes, comment_bytes, header_bytes, indented, tail_bytes, break_bytes, body_bytes, written_of, IsLineText, AreLineTexts, EndsWithContent, StartsUnspaced, IsCommentText, IsScalar, IsRead}
 use Rattle.yf_block_scalar.proofs.BodyLemmas.{no_nb_end, break_no_nb}
 use Rattle.yf_block_scalar.proofs.HeaderLemmas.{between_from, mark_inside}
-use Rattle.yf_block_scalar.proofs.WrittenLemmas.{Rest, rest_start, rest_ascii, rest_spaces, rest_chars, rest_break, space_marker, empty_made, empty_or, indented_full, behind_line, some_chars, Behind, Lasts, lines_made, tail_made}
-use Rattle.yf_block_scalar.proofs.WrittenLemmas.Behind.{open_behind, break_behind}
+use Rattle.yf_block_scalar.proofs.WrittenLemmas.{Rest, rest_start, rest_ascii, rest_spaces, rest_chars, rest_break, space_marker, empty_made, empty_or, indented_full, after_line, some_chars, ContentLineEnd, Lasts, lines_made, tail_made}
+use Rattle.yf_block_scalar.proofs.WrittenLemmas.ContentLineEnd.{open_after, break_after}
 
--- nothing stands after the end of the text
+-- nothing is after the end of the text
 many_nb : {t : List ℕ} {i j : ℕ} {x : List ℕ} → Many t is_nb_char i j x → i < j → is_nb_char (code t i) ≡ true
 many_nb done l = absurd (omega arith)
 many_nb (step s c) l = one_nb s where
@@ -57,7 +57,7 @@ no_line_past {t} (empty_line {m = m} a l) =
     let past = code-past t (length t + m) (omega arith) in
     ⊎_elim (λ (h : code t (length t + m) ≡ 13). absurd (omega arith)) (λ (h : code t (length t + m) ≡ 10). absurd (omega arith)) (break_char a.ends)
 no_line_past (content_line c) = no_content_past c where
-  no_content_past : {t : List ℕ} {k j : ℕ} {x : List ℕ} {o : Bool} → Content t k (length t) j x o → ⊥
+  no_content_past : {t : List ℕ} {k j : ℕ} {x : List ℕ} {o : Bool} → LineContent t k (length t) j x o → ⊥
   no_content_past {t} {k} (content s m l q n) =
       let past = code-past t (length t + k) (omega arith) in
       true≢false (sym (many_nb m l) ∙ ap is_nb_char past ∙ no_nb_end)
@@ -72,7 +72,7 @@ pub largest-zeros : (c : ℕ) → largest (replicate c 0) ≡ 0
 largest-zeros zero = refl
 largest-zeros (suc c) = let rest = largest-zeros c in omega arith
 
-taken_made : {t : List ℕ} {k q : ℕ} {ls : List (List ℕ)} {o : Bool} (c : ℕ) → IsUtf8 t → Lasts t k q ls o (feeds c) → Taken t k q ls o c (length t)
+taken_made : {t : List ℕ} {k q : ℕ} {ls : List (List ℕ)} {o : Bool} (c : ℕ) → IsUtf8 t → Lasts t k q ls o (feeds c) → LinesTaken t k q ls o c (length t)
 taken_made {t} {k} {q} {ls} {o} c u a = record {
   end = a.place;
   lines = subst (λ w. Lines t k q a.place w o) (sym a.parts) (up_to a.chain a.line);
@@ -95,7 +95,7 @@ unspaced_first [] ls n s r = absurd (n refl)
 unspaced_first (c ∷ x) ls n s r = s
 
 indented_made : {t : List ℕ} {k q : ℕ} {n : ℤ} {x : List ℕ} (ls : List (List ℕ)) (r : List ℕ) → IsUtf8 t → 0 < k → least n ≤ k → IsLineText x → x ≢ [] → StartsUnspaced (x ∷ ls)
-    → Rest t q (indented k x ++ r) → Indented t n q k
+    → Rest t q (indented k x ++ r) → IndentedLine t n q k
 indented_made {t} {k} {q} {n} {x} ls r u wide deep text full first s =
     let bytes : encodes text.chars ≡ x = text.bytes in
     let shape : indented k x ++ r ≡ replicate k 32 ++ (encodes text.chars ++ r) =
@@ -122,11 +122,11 @@ indented_made {t} {k} {q} {n} {x} ls r u wide deep text full first s =
       clear = λ m. no_marker_line start m;
     }
 
-detected_more : {t : List ℕ} {n : ℤ} {q h k : ℕ} → SpaceLine t q 0 h → Detected t n h k → Detected t n q k
+detected_more : {t : List ℕ} {n : ℤ} {q h k : ℕ} → SpaceLine t q 0 h → DetectedIndent t n h k → DetectedIndent t n q k
 detected_more a d = record { at = d.at; widths = 0 ∷ d.widths; before = step (bare 0 a) d.before; within = omega (arith, d.within); first = d.first }
 
 pub detected_made : {t : List ℕ} {k : ℕ} {n : ℤ} (post : List ℕ) (ls : List (List ℕ)) (x : List ℕ) (q : ℕ) → IsUtf8 t → 0 < k → least n ≤ k → AreLineTexts (x ∷ ls)
-    → StartsUnspaced (x ∷ ls) → Rest t q (indented k x ++ (literal_behind (map (indented k) ls) ++ post)) → Detected t n q k
+    → StartsUnspaced (x ∷ ls) → Rest t q (indented k x ++ (literal_after (map (indented k) ls) ++ post)) → DetectedIndent t n q k
 detected_made {t} {k} {n} post [] x q u wide deep texts first s =
     ⊎_elim (λ (e : x ≡ []). absurd (unspaced_none x e first)) (λ (f : x ≢ []).
     record { at = q; widths = []; before = done; within = omega arith; first = indented_made [] _ u wide deep texts.0 f first s }) (empty_or x)
@@ -135,11 +135,11 @@ detected_made {t} {k} {n} post [] x q u wide deep texts first s =
     unspaced_none [] e s = s
     unspaced_none (c ∷ x) e s = let long : suc (length x) ≡ 0 = ap length e in absurd (omega arith)
 detected_made {t} {k} {n} post (y ∷ ls) x q u wide deep texts first s =
-    let s' : Rest t q (indented k x ++ (10 ∷ (indented k y ++ (literal_behind (map (indented k) ls) ++ post)))) = subst (λ w. Rest t q w) (behind_line k x y ls post) s in
+    let s' : Rest t q (indented k x ++ (10 ∷ (indented k y ++ (literal_after (map (indented k) ls) ++ post)))) = subst (λ w. Rest t q w) (after_line k x y ls post) s in
     ⊎_elim
     (λ (e : x ≡ []).
-    let bare_rest : Rest t q (10 ∷ (indented k y ++ (literal_behind (map (indented k) ls) ++ post))) =
-    subst (λ w. Rest t q (indented k w ++ (10 ∷ (indented k y ++ (literal_behind (map (indented k) ls) ++ post))))) e s' in
+    let bare_rest : Rest t q (10 ∷ (indented k y ++ (literal_after (map (indented k) ls) ++ post))) =
+    subst (λ w. Rest t q (indented k w ++ (10 ∷ (indented k y ++ (literal_after (map (indented k) ls) ++ post))))) e s' in
     let got = empty_made u bare_rest in
     detected_more got.0 (detected_made post ls y (q + 1) u wide deep texts.1 (unspaced_rest x e first) got.1))
     (λ (f : x ≢ []). record { at = q; widths = []; before = done; within = omega arith; first = indented_made (y ∷ ls) _ u wide deep texts.0 f first s })
@@ -156,7 +156,7 @@ pub record Last (t : List ℕ) (k : ℕ) : Type 0 where
   pub low : 33 ≤ code t place
   pub high : code t place < 128
 
-last_of : {t : List ℕ} {q c : ℕ} → Reads t q c (q + 1) → 33 ≤ c → c < 128 → Last t (q + 1)
+last_of : {t : List ℕ} {q c : ℕ} → CharAt t q c (q + 1) → 33 ≤ c → c < 128 → Last t (q + 1)
 last_of {t} {q} {c} r l h = record { place = q; is = refl; low = omega (arith, r.char); high = omega (arith, r.char) }
 
 pub style_made : {t : List ℕ} {r : List ℕ} (f : Bool) (q : ℕ) → IsUtf8 t → Rest t q (style_bytes f ++ r) → Style t q (q + 1) f × Rest t (q + 1) r × Last t (q + 1)
@@ -195,12 +195,12 @@ signed_alone Keep q u l s =
     record { place = q + 1; marks = sign_alone (keep_sign got.0.char); rest = got.1; last = last_of got.0 (omega arith) (omega arith) }
 
 -- the same after a digit
-signed_behind : {t : List ℕ} {r : List ℕ} {p d : ℕ} (c : Chomp) (q : ℕ) → IsUtf8 t → Digit t p q d → Last t q → Rest t q (sign_bytes c ++ r) → Signed t p (Some d) c r
-signed_behind Strip q u a l s =
+signed_after : {t : List ℕ} {r : List ℕ} {p d : ℕ} (c : Chomp) (q : ℕ) → IsUtf8 t → Digit t p q d → Last t q → Rest t q (sign_bytes c ++ r) → Signed t p (Some d) c r
+signed_after Strip q u a l s =
     let got = rest_ascii 45 u (omega arith) (λ e. absurd (omega arith)) s in
     record { place = q + 1; marks = digit_sign a (strip_sign got.0.char); rest = got.1; last = last_of got.0 (omega arith) (omega arith) }
-signed_behind Clip q u a l s = record { place = q; marks = digit_alone a; rest = s; last = l }
-signed_behind Keep q u a l s =
+signed_after Clip q u a l s = record { place = q; marks = digit_alone a; rest = s; last = l }
+signed_after Keep q u a l s =
     let got = rest_ascii 43 u (omega arith) (λ e. absurd (omega arith)) s in
     record { place = q + 1; marks = digit_sign a (keep_sign got.0.char); rest = got.1; last = last_of got.0 (omega arith) (omega arith) }
 
@@ -209,10 +209,10 @@ pub signed_made : {t : List ℕ} {r : List ℕ} (d : Option ℕ) (c : Chomp) (w 
 signed_made None c w q u low high l s = signed_alone c q u l s
 signed_made (Some d) c w q u low high l s =
     let got = digit_made w q u low high s in
-    signed_behind c (q + 1) u got.0 got.2 got.1
+    signed_after c (q + 1) u got.0 got.2 got.1
 
 -- the comment
-two_whites : {t : List ℕ} {q : ℕ} → Reads t q 32 (q + 1) → Reads t (q + 1) 32 (q + 1 + 1) → SeparateInLine t q (q + 1 + 1)
+two_whites : {t : List ℕ} {q : ℕ} → CharAt t q 32 (q + 1) → CharAt t (q + 1) 32 (q + 1 + 1) → SeparateInLine t q (q + 1 + 1)
 two_whites {t} {q} a b =
     let first : is_white (code t q) ≡ true = white_of_space _ a.char in
     let second : is_white (code t (q + 1)) ≡ true = white_of_space _ b.char in
@@ -221,7 +221,7 @@ two_whites {t} {q} a b =
     let tail' : Many t is_white (next t q) (q + 1 + 1) (code t (q + 1) ∷ [] ++ []) = subst (λ w. Many t is_white w (q + 1 + 1) (code t (q + 1) ∷ [] ++ [])) (sym a.end) tail in
     by_whites (step (one first) tail') (omega arith)
 
-no_blank : {t : List ℕ} {q : ℕ} → IsUtf8 t → Last t q → Reads t q 32 (q + 1) → Reads t (q + 1) 32 (q + 1 + 1) → BlankBefore t (q + 1 + 1) → ⊥
+no_blank : {t : List ℕ} {q : ℕ} → IsUtf8 t → Last t q → CharAt t q 32 (q + 1) → CharAt t (q + 1) 32 (q + 1 + 1) → BlankBefore t (q + 1 + 1) → ⊥
 no_blank {t} {q} u l a b e =
     let one_back = before_past t u (q + 1) (omega (arith, b.char)) b.end (λ z. let h = b.char in absurd (omega arith)) (λ z. let h = b.char in absurd (omega arith)) e in
     let two_back = before_past t u q (omega (arith, a.char)) a.end (λ z. let h = a.char in absurd (omega arith)) (λ z. let h = a.char in absurd (omega arith)) one_back in
@@ -278,12 +278,12 @@ tail_of Strip c = 0
 tail_of Clip c = 0
 tail_of Keep c = c
 
-behind_made : (c : Chomp) (o : Bool) (n : ℕ) → (o ≡ true → n ≡ 0) → Behind (open_of c o) (break_bytes c o ++ tail_bytes c n) (feeds (tail_of c n))
-behind_made Strip o n z = break_behind
-behind_made Clip true n z = open_behind
-behind_made Clip false n z = break_behind
-behind_made Keep true n z = let none : n ≡ 0 = z refl in subst (λ w. Behind true (feeds w) (feeds w)) (sym none) open_behind
-behind_made Keep false n z = break_behind
+after_made : (c : Chomp) (o : Bool) (n : ℕ) → (o ≡ true → n ≡ 0) → ContentLineEnd (open_of c o) (break_bytes c o ++ tail_bytes c n) (feeds (tail_of c n))
+after_made Strip o n z = break_after
+after_made Clip true n z = open_after
+after_made Clip false n z = break_after
+after_made Keep true n z = let none : n ≡ 0 = z refl in subst (λ w. ContentLineEnd true (feeds w) (feeds w)) (sym none) open_after
+after_made Keep false n z = break_after
 
 same_content : (f : Bool) (d e : Option ℕ) (c : Chomp) (x : List ℕ) (ls : List (List ℕ)) (n : ℕ) (o : Bool)
     → content_of (record { folded = f; digit = d; chomp = c }) (x ∷ ls) (tail_of c n) (open_of c o) ≡ content_of (record { folded = f; digit = e; chomp = c }) (x ∷ ls) n o
@@ -298,22 +298,22 @@ deep_enough (negsuc n) k l = omega arith
 
 body_made : {t : List ℕ} {q : ℕ} (n : ℤ) (column : ℕ) (d : Option ℕ) (f : Bool) (c : Chomp) (x : List ℕ) (ls : List (List ℕ)) (count : ℕ) (o : Bool)
     → IsUtf8 t → base n < column → AreLineTexts (x ∷ ls) → EndsWithContent (x ∷ ls) → (d ≡ None → StartsUnspaced (x ∷ ls)) → (o ≡ true → count ≡ 0)
-    → Rest t q (indented column x ++ (literal_behind (map (indented column) ls) ++ (break_bytes c o ++ tail_bytes c count)))
+    → Rest t q (indented column x ++ (literal_after (map (indented column) ls) ++ (break_bytes c o ++ tail_bytes c count)))
     → Body t n (record { folded = f; digit = digit_of d (column - base n); chomp = c }) q (length t)
     (record { lines = x ∷ ls; open_end = open_of c o; tail = tail_of c count; comments = [] })
-body_made {t} {q} n column None f c x ls count o u right texts last first behind s =
-    let lasts = lines_made ls x q u (omega arith) texts last (behind_made c o count behind) s in
+body_made {t} {q} n column None f c x ls count o u right texts last first follows s =
+    let lasts = lines_made ls x q u (omega arith) texts last (after_made c o count follows) s in
     let taken = taken_made (tail_of c count) u lasts in
     detected refl (detected_made (break_bytes c o ++ tail_bytes c count) ls x q u (omega arith) (deep_enough n column right) texts (first refl) s) taken (trail_past t column)
-body_made {t} {q} n column (Some e) f c x ls count o u right texts last first behind s =
-    let lasts = lines_made ls x q u (omega arith) texts last (behind_made c o count behind) s in
+body_made {t} {q} n column (Some e) f c x ls count o u right texts last first follows s =
+    let lasts = lines_made ls x q u (omega arith) texts last (after_made c o count follows) s in
     let taken = taken_made (tail_of c count) u lasts in
     let same : column ≡ base n + (column - base n) = omega arith in
-    indicated refl (subst (λ w. Taken t w q (x ∷ ls) (open_of c o) (tail_of c count) (length t)) same taken) (trail_past t (base n + (column - base n)))
+    indicated refl (subst (λ w. LinesTaken t w q (x ∷ ls) (open_of c o) (tail_of c count) (length t)) same taken) (trail_past t (base n + (column - base n)))
 
 scalar_parts : (b : BlockText) (column : ℕ) (n : ℤ) (x : List ℕ) (ls : List (List ℕ)) → b.lines ≡ x ∷ ls
     → written_of b column n ≡ style_bytes b.header.folded ++ (digit_bytes b.header.digit (column - base n) ++ (sign_bytes b.header.chomp ++ (comment_bytes b.comment ++ (10 ∷
-    (indented column x ++ (literal_behind (map (indented column) ls) ++ (break_bytes b.header.chomp b.open_end ++ tail_bytes b.header.chomp b.tail)))))))
+    (indented column x ++ (literal_after (map (indented column) ls) ++ (break_bytes b.header.chomp b.open_end ++ tail_bytes b.header.chomp b.tail)))))))
 scalar_parts b column n x ls e =
     let whole : List (List ℕ) → List ℕ = λ z. header_bytes b.header b.comment (column - base n) ++ body_bytes b.header.chomp z b.tail b.open_end column in
     ap whole e ∙ simp append_assoc
@@ -329,7 +329,7 @@ read_again {t} b column n u e right near s = go b.lines refl s.lines s.last s.fi
       let style = style_made b.header.folded 0 u start in
       let signed = signed_made b.header.digit b.header.chomp w 1 u (omega arith) (omega arith) style.2 style.1 in
       let line = commented b.comment u signed.last s.comment signed.rest in
-      let body = body_made n column b.header.digit b.header.folded b.header.chomp x ls b.tail b.open_end u right texts last first s.behind line.rest in
+      let body = body_made n column b.header.digit b.header.folded b.header.chomp x ls b.tail b.open_end u right texts last first s.follows line.rest in
       record {
         place = line.place;
         header = record { header = record { folded = b.header.folded; digit = digit_of b.header.digit w; chomp = b.header.chomp }; comments = line.notes };

@@ -1,4 +1,4 @@
--- A block scalar that is written is derived again where it stands, up to the line that stands further left.
+-- A block scalar that is written is derived again where it is, up to the line that is further left.
 use Rattle.std.proofs.Common.{◌≡◌, ◌≢◌, ℕ, zero, suc, ◌+◌, ◌<◌, ◌≤◌, Bool, true, false, true≢false, not, List, [], ◌∷◌, ◌++◌, length, map, drop, replicate, length-drop, refl, sym, ap, ◌∙◌, subst, inl, inr, ◌⊎◌, ⊎_elim, arith}
 use Rattle.std.proofs.lemmas.List.{length-replicate}
 use Rattle.std.proofs.lemmas.Bool.{cases_lt, and_parts, not-true}
@@ -22,18 +22,18 @@ use Rattle.yf_comments.specs.GapLines.{GapLine, blank, remark, gap_then, AreGapL
 use Rattle.yf_comments.proofs.RowLemmas.{stuck_at_solid}
 use Rattle.yf_comments.proofs.LineEndLemmas.{line_end_chosen, row_stuck, row_stuck_end}
 use Rattle.yf_comments.proofs.GapLinesLemmas.{texts, spaces_whites, remark_at, gap_at}
-use Rattle.yf_block_scalar.specs.Body.{SpaceLine, Bare, Ends, Content, Line, Lines, Taken, Trail}
-use Rattle.yf_block_scalar.specs.Body.Bare.{bare}
+use Rattle.yf_block_scalar.specs.Body.{SpaceLine, EmptyLines, Ends, LineContent, Line, Lines, LinesTaken, Trail}
+use Rattle.yf_block_scalar.specs.Body.EmptyLines.{bare}
 use Rattle.yf_block_scalar.specs.Body.Ends.{by_break as end_by_break}
-use Rattle.yf_block_scalar.specs.Body.Content.{content}
+use Rattle.yf_block_scalar.specs.Body.LineContent.{content}
 use Rattle.yf_block_scalar.specs.Body.Line.{empty_line, content_line}
 use Rattle.yf_block_scalar.specs.Body.Lines.{up_to}
 use Rattle.yf_block_scalar.specs.Body.Trail.{comments, no_comment}
-use Rattle.yf_block_scalar.specs.Content.{feeds, literal_behind}
+use Rattle.yf_block_scalar.specs.Content.{feeds, literal_after}
 use Rattle.yf_block_scalar.specs.Placed.{lines_then, Below, nothing_below, line_below}
 use Rattle.yf_block_scalar.specs.Written.{indented, AreLineTexts, EndsWithContent}
-use Rattle.yf_block_scalar.proofs.WrittenLemmas.{empty_made, behind_line, Lasts, lines_made}
-use Rattle.yf_block_scalar.proofs.WrittenLemmas.Behind.{break_behind}
+use Rattle.yf_block_scalar.proofs.WrittenLemmas.{empty_made, after_line, Lasts, lines_made}
+use Rattle.yf_block_scalar.proofs.WrittenLemmas.ContentLineEnd.{break_after}
 use Rattle.yf_block_scalar.proofs.DerivedLemmas.{stuck_past, trail_past, largest-zeros}
 
 -- the end of the text
@@ -43,26 +43,26 @@ rest_end {t} {q} s =
     omega (arith, length-drop q t, s.boundary.0)
 
 -- lines in the form of the lemmas on them
-pub lines_shape : (k : ℕ) (x : List ℕ) (ls : List (List ℕ)) (r : List ℕ) → lines_then k (x ∷ ls) r ≡ indented k x ++ (literal_behind (map (indented k) ls) ++ (10 ∷ r))
+pub lines_shape : (k : ℕ) (x : List ℕ) (ls : List (List ℕ)) (r : List ℕ) → lines_then k (x ∷ ls) r ≡ indented k x ++ (literal_after (map (indented k) ls) ++ (10 ∷ r))
 lines_shape k x [] r = refl
-lines_shape k x (y ∷ ls) r = ap (λ w. indented k x ++ (10 ∷ w)) (lines_shape k y ls r) ∙ sym (behind_line k x y ls (10 ∷ r))
+lines_shape k x (y ∷ ls) r = ap (λ w. indented k x ++ (10 ∷ w)) (lines_shape k y ls r) ∙ sym (after_line k x y ls (10 ∷ r))
 
-content_next : {t : List ℕ} {k i j : ℕ} {x : List ℕ} → Content t k i j x false → LineStart t j
+content_next : {t : List ℕ} {k i j : ℕ} {x : List ℕ} → LineContent t k i j x false → LineStart t j
 content_next {t} c = go c where
   end_next : {h j : ℕ} → Ends t h j false → LineStart t j
   end_next (end_by_break b) = after_break b
 
-  go : {k i j : ℕ} {x : List ℕ} → Content t k i j x false → LineStart t j
+  go : {k i j : ℕ} {x : List ℕ} → LineContent t k i j x false → LineStart t j
   go (content s m l e n) = end_next e
 
 -- blank lines
 record Blanks (t : List ℕ) (q c : ℕ) (r : List ℕ) : Type 0 where
   pub place : ℕ
-  pub chain : Chain (Bare t) q place (replicate c 0)
+  pub chain : Chain (EmptyLines t) q place (replicate c 0)
   pub start : LineStart t place
   pub rest : Rest t place r
 
-bare_more : {t : List ℕ} {q h j : ℕ} (c : ℕ) → SpaceLine t q 0 h → Chain (Bare t) h j (replicate c 0) → Chain (Bare t) q j (replicate (suc c) 0)
+bare_more : {t : List ℕ} {q h j : ℕ} (c : ℕ) → SpaceLine t q 0 h → Chain (EmptyLines t) h j (replicate c 0) → Chain (EmptyLines t) q j (replicate (suc c) 0)
 bare_more c a d = step (bare 0 a) d
 
 blanks_made : {t : List ℕ} (c q : ℕ) {r : List ℕ} → IsUtf8 t → LineStart t q → Rest t q (feeds c ++ r) → Blanks t q c r
@@ -87,30 +87,30 @@ blanks_of [] = 0
 blanks_of (blank ∷ gs) = suc (blanks_of gs)
 blanks_of (remark column text ∷ gs) = 0
 
-abbrev pub behind_blanks : List GapLine → List GapLine
-behind_blanks [] = []
-behind_blanks (blank ∷ gs) = behind_blanks gs
-behind_blanks (remark column text ∷ gs) = remark column text ∷ gs
+abbrev pub after_blanks : List GapLine → List GapLine
+after_blanks [] = []
+after_blanks (blank ∷ gs) = after_blanks gs
+after_blanks (remark column text ∷ gs) = remark column text ∷ gs
 
-gap_split : (gap : List GapLine) (r : List ℕ) → gap_then gap r ≡ feeds (blanks_of gap) ++ gap_then (behind_blanks gap) r
+gap_split : (gap : List GapLine) (r : List ℕ) → gap_then gap r ≡ feeds (blanks_of gap) ++ gap_then (after_blanks gap) r
 gap_split [] r = refl
 gap_split (blank ∷ gs) r = ap (λ w. 10 ∷ w) (gap_split gs r)
 gap_split (remark column text ∷ gs) r = refl
 
-remarks_behind : (gap : List GapLine) → remarks_of (behind_blanks gap) ≡ remarks_of gap
-remarks_behind [] = refl
-remarks_behind (blank ∷ gs) = remarks_behind gs
-remarks_behind (remark column text ∷ gs) = refl
+remarks_after : (gap : List GapLine) → remarks_of (after_blanks gap) ≡ remarks_of gap
+remarks_after [] = refl
+remarks_after (blank ∷ gs) = remarks_after gs
+remarks_after (remark column text ∷ gs) = refl
 
-are_behind : (gap : List GapLine) → AreGapLines gap → AreGapLines (behind_blanks gap)
-are_behind [] a = a
-are_behind (blank ∷ gs) a = are_behind gs a
-are_behind (remark column text ∷ gs) a = a
+are_after : (gap : List GapLine) → AreGapLines gap → AreGapLines (after_blanks gap)
+are_after [] a = a
+are_after (blank ∷ gs) a = are_after gs a
+are_after (remark column text ∷ gs) a = a
 
-left_behind : (k : ℕ) (gap : List GapLine) → AllLeft k gap → AllLeft k (behind_blanks gap)
-left_behind k [] a = a
-left_behind k (blank ∷ gs) a = left_behind k gs a
-left_behind k (remark column text ∷ gs) a = a
+left_after : (k : ℕ) (gap : List GapLine) → AllLeft k gap → AllLeft k (after_blanks gap)
+left_after k [] a = a
+left_after k (blank ∷ gs) a = left_after k gs a
+left_after k (remark column text ∷ gs) a = a
 
 -- a character of content is no space, no break and no end
 ns_parts : (c : ℕ) → is_ns_char c ≡ true → (c ≢ 32) × (c ≢ 10) × (c ≢ 13) × (c ≢ no_char) × (is_white c ≡ false)
@@ -134,7 +134,7 @@ stuck_shallow {t} {k} {p} {m} a = record { none = λ j x l. line l } where
   no_space : code t (p + m) ≢ 32
   no_space = (ns_parts (code t (p + m)) a.char).0
 
-  content_there : {j : ℕ} {x : List ℕ} {o : Bool} → Content t k p j x o → ⊥
+  content_there : {j : ℕ} {x : List ℕ} {o : Bool} → LineContent t k p j x o → ⊥
   content_there (content s w l e n) = no_space (s.each m a.few)
 
   line : {j : ℕ} {x : List (List ℕ)} → Line t k p j x → ⊥
@@ -170,7 +170,7 @@ row_stuck_below {t} {k} {p} u b s =
     no_end c l n (by_break b) = ⊎_elim c l (break_char b)
     no_end {h} c l n (by_end e) = n (ap (code t) e ∙ code-end t)
 
--- what stands after the lines: the comments, and the place of what is below
+-- what is after the lines: the comments, and the place of what is below
 record Trailed (t : List ℕ) (k p : ℕ) (gap : List GapLine) (r : List ℕ) : Type 0 where
   pub place : ℕ
   pub notes : List CommentValue
@@ -190,7 +190,7 @@ no_trail_below {t} {k} {p} {m} a n = no_comment (λ w l s e.
     (λ (g : w ≤ m). let same : p + w ≡ p + m = omega arith in n (ap (code t) (sym same) ∙ e)) (cases_lt m w)) (cases_lt w m))
 
 trailed : {t : List ℕ} (k : ℕ) (gap : List GapLine) {r : List ℕ} {p : ℕ} → IsUtf8 t → AreGapLines gap → AllLeft k gap → Below k r → LineStart t p
-    → Rest t p (gap_then (behind_blanks gap) r) → Trailed t k p gap r
+    → Rest t p (gap_then (after_blanks gap) r) → Trailed t k p gap r
 trailed {t} k [] {r} {p} u a l b start s =
     ⊎_elim (λ (e : p ≡ length t).
     record {
@@ -223,31 +223,31 @@ trailed {t} k (remark column text ∷ gs) {r} {p} u a l b start s =
     hash_of : {i j : ℕ} {x : List CommentValue} → CommentText t i j x → code t i ≡ 35
     hash_of (comment_text e m n) = e
 
--- the lines of the scalar, the blank lines after them, and what stands after these
-pub record Reached (t : List ℕ) (k q : ℕ) (ls : List (List ℕ)) (count : ℕ) (gap : List GapLine) (r : List ℕ) : Type 0 where
+-- the lines of the scalar, the blank lines after them, and what is after these
+pub record ScalarLinesTo (t : List ℕ) (k q : ℕ) (ls : List (List ℕ)) (count : ℕ) (gap : List GapLine) (r : List ℕ) : Type 0 where
   pub place : ℕ
   pub end : ℕ
   pub notes : List CommentValue
-  pub taken : Taken t k q ls false (count + blanks_of gap) end
+  pub taken : LinesTaken t k q ls false (count + blanks_of gap) end
   pub trail : Trail t k end place notes
   pub rest : Rest t place r
   pub is : texts notes ≡ remarks_of gap
 
 pub reached : {t : List ℕ} {k : ℕ} {r : List ℕ} (x : List ℕ) (ls : List (List ℕ)) (count : ℕ) (gap : List GapLine) (q : ℕ) → IsUtf8 t → 0 < k → AreLineTexts (x ∷ ls)
     → EndsWithContent (x ∷ ls) → AreGapLines gap → AllLeft k gap → Below k r → Rest t q (lines_then k (x ∷ ls) (feeds count ++ gap_then gap r))
-    → Reached t k q (x ∷ ls) count gap r
+    → ScalarLinesTo t k q (x ∷ ls) count gap r
 reached {t} {k} {r} x ls count gap q u wide lines last a left below s =
     let post : List ℕ = feeds count ++ gap_then gap r in
-    let shaped : Rest t q (indented k x ++ (literal_behind (map (indented k) ls) ++ (10 ∷ (feeds count ++ gap_then gap r)))) =
+    let shaped : Rest t q (indented k x ++ (literal_after (map (indented k) ls) ++ (10 ∷ (feeds count ++ gap_then gap r)))) =
     subst (λ w. Rest t q w) (lines_shape k x ls (feeds count ++ gap_then gap r)) s in
-    let made : Lasts t k q (x ∷ ls) false (feeds count ++ gap_then gap r) = lines_made ls x q u wide lines last break_behind shaped in
+    let made : Lasts t k q (x ∷ ls) false (feeds count ++ gap_then gap r) = lines_made ls x q u wide lines last break_after shaped in
     let first : Blanks t made.place count (gap_then gap r) = blanks_made count made.place u (content_next made.line) made.rest in
-    let second : Blanks t first.place (blanks_of gap) (gap_then (behind_blanks gap) r) =
+    let second : Blanks t first.place (blanks_of gap) (gap_then (after_blanks gap) r) =
     blanks_made (blanks_of gap) first.place u first.start (subst (λ w. Rest t first.place w) (gap_split gap r) first.rest) in
     let trail = trailed k gap u a left below second.start second.rest in
     let total : zeros count ++ zeros (blanks_of gap) ≡ zeros (count + blanks_of gap) = zeros_append count (blanks_of gap) (count + blanks_of gap) refl in
-    let bare_lines : Chain (Bare t) made.place second.place (zeros (count + blanks_of gap)) =
-    subst (λ w. Chain (Bare t) made.place second.place w) total (chain_append first.chain second.chain) in
+    let bare_lines : Chain (EmptyLines t) made.place second.place (zeros (count + blanks_of gap)) =
+    subst (λ w. Chain (EmptyLines t) made.place second.place w) total (chain_append first.chain second.chain) in
     record {
       place = trail.place;
       end = second.place;

@@ -1,4 +1,4 @@
--- A whole block scalar among other lines: header, comment, lines, and what stands after them.
+-- A whole block scalar among other lines: header, comment, lines, and what is after them.
 use Rattle.std.proofs.Common.{◌≡◌, ℕ, ℤ, ◌+◌, ◌-◌, ◌<◌, ◌≤◌, Bool, false, List, [], ◌∷◌, ◌++◌, length, map, Option, Some, None, refl, ap, ◌∙◌, subst, arith}
 use Rattle.std.specs.Str.{IsUtf8}
 use Rattle.yf_lines.specs.Basic.SeparateInLine.{by_whites}
@@ -12,16 +12,16 @@ use Rattle.yf_comments.proofs.GapLinesLemmas.{texts, spaces_whites, remark_at}
 use Rattle.yf_block_scalar.specs.declared.header.Header.{Header}
 use Rattle.yf_block_scalar.specs.declared.header.Chomp.{Chomp}
 use Rattle.yf_block_scalar.specs.declared.header.Chomp.TheVariants.{Strip, Clip, Keep}
-use Rattle.yf_block_scalar.specs.Body.{Body, BodyValue, base, first_noted, is_gap_tail, Taken, Trail}
+use Rattle.yf_block_scalar.specs.Body.{Body, BodyValue, base, first_noted, is_gap_tail, LinesTaken, Trail}
 use Rattle.yf_block_scalar.specs.Body.Body.{indicated, detected}
-use Rattle.yf_block_scalar.specs.Content.{feeds, literal_behind, content_of}
+use Rattle.yf_block_scalar.specs.Content.{feeds, literal_after, content_of}
 use Rattle.yf_block_scalar.specs.Header.{BlockHeader, HeaderValue}
 use Rattle.yf_block_scalar.specs.Header.BlockHeader.{block_header}
 use Rattle.yf_block_scalar.specs.Placed.{lines_then, trail_then, IsTrail, trail_texts, Below, KeptGap, scalar_then}
 use Rattle.yf_block_scalar.specs.Written.{indented, AreLineTexts, EndsWithContent, StartsUnspaced}
 use Rattle.yf_block_scalar.proofs.DerivedLemmas.{style_made, signed_made, digit_of, detected_made, deep_enough}
 use Rattle.yf_block_scalar.proofs.LinesMade.{LinesTo, taken_lines, taken_all}
-use Rattle.yf_block_scalar.proofs.PlacedLemmas.{blanks_of, lines_shape, Reached, reached}
+use Rattle.yf_block_scalar.proofs.PlacedLemmas.{blanks_of, lines_shape, ScalarLinesTo, reached}
 
 -- the end of the header's line
 record TrailAt (t : List ℕ) (q : ℕ) (o : Option (List ℕ)) (r : List ℕ) : Type 0 where
@@ -80,20 +80,20 @@ pub record PlacedAt (t : List ℕ) (n : ℤ) (h : Header) (ls : List (List ℕ))
   pub to_finish : LinesTo t start finish (length body.lines)
   pub last : ℕ
   pub to_last : LinesTo t start last (length body.lines + body.tail)
-  pub behind : Rest t place r
+  pub follows : Rest t place r
 
 body_placed : {t : List ℕ} {q : ℕ} {r : List ℕ} (n : ℤ) (column : ℕ) (d : Option ℕ) (f : Bool) (c : Chomp) (x : List ℕ) (ls : List (List ℕ)) (count : ℕ) (gap : List GapLine)
     → IsUtf8 t → base n < column → AreLineTexts (x ∷ ls) → (d ≡ None → StartsUnspaced (x ∷ ls))
-    → Rest t q (lines_then column (x ∷ ls) (feeds count ++ gap_then gap r)) → (a : Reached t column q (x ∷ ls) count gap r)
+    → Rest t q (lines_then column (x ∷ ls) (feeds count ++ gap_then gap r)) → (a : ScalarLinesTo t column q (x ∷ ls) count gap r)
     → Body t n (record { folded = f; digit = digit_of d (column - base n); chomp = c }) q a.place
     (record { lines = x ∷ ls; open_end = false; tail = count + blanks_of gap; comments = first_noted (is_gap_tail c (count + blanks_of gap)) a.notes })
 body_placed {t} {q} {r} n column None f c x ls count gap u right lines first s a =
-    let shaped : Rest t q (indented column x ++ (literal_behind (map (indented column) ls) ++ (10 ∷ (feeds count ++ gap_then gap r)))) =
+    let shaped : Rest t q (indented column x ++ (literal_after (map (indented column) ls) ++ (10 ∷ (feeds count ++ gap_then gap r)))) =
     subst (λ w. Rest t q w) (lines_shape column x ls (feeds count ++ gap_then gap r)) s in
     detected refl (detected_made (10 ∷ (feeds count ++ gap_then gap r)) ls x q u (omega arith) (deep_enough n column right) lines (first refl) shaped) a.taken a.trail
 body_placed {t} {q} n column (Some e) f c x ls count gap u right lines first s a =
     let same : column ≡ base n + (column - base n) = omega arith in
-    indicated refl (subst (λ w. Taken t w q (x ∷ ls) false (count + blanks_of gap) a.end) same a.taken) (subst (λ w. Trail t w a.end a.place a.notes) same a.trail)
+    indicated refl (subst (λ w. LinesTaken t w q (x ∷ ls) false (count + blanks_of gap) a.end) same a.taken) (subst (λ w. Trail t w a.end a.place a.notes) same a.trail)
 
 pub placed : {t : List ℕ} (n : ℤ) (column : ℕ) (h : Header) (trail : Option (List ℕ)) (lines : List (List ℕ)) (count : ℕ) (gap : List GapLine) {r : List ℕ} {q : ℕ}
     → IsUtf8 t → base n < column → column ≤ base n + 9 → AreLineTexts lines → EndsWithContent lines → (h.digit ≡ None → StartsUnspaced lines)
@@ -106,7 +106,7 @@ placed {t} n column h trail (x ∷ ls) count gap {r} {q} u right near lines last
     let style = style_made h.folded q u s in
     let signed = signed_made h.digit h.chomp w (q + 1) u (omega arith) (omega arith) style.2 style.1 in
     let line = trail_at trail (lines_then column (x ∷ ls) (feeds count ++ gap_then gap r)) u noted signed.rest in
-    let all : Reached t column line.place (x ∷ ls) count gap r = reached x ls count gap line.place u (omega arith) lines last a left below line.rest in
+    let all : ScalarLinesTo t column line.place (x ∷ ls) count gap r = reached x ls count gap line.place u (omega arith) lines last a left below line.rest in
     record {
       start = line.place;
       place = all.place;
@@ -123,5 +123,5 @@ placed {t} n column h trail (x ∷ ls) count gap {r} {q} u right near lines last
       to_finish = taken_lines u all.taken;
       last = all.end;
       to_last = taken_all u all.taken;
-      behind = all.rest;
+      follows = all.rest;
     }

@@ -43,11 +43,11 @@ line_empty = record { chars = []; bytes = refl; each = tt }
 
 remark_c : IsRemark (codes "# c")
 unfolding encode is_nb_char is_printable is_between is_break_char
-remark_c = record { behind = codes " c"; is = refl; line = record { chars = codes " c"; bytes = refl; each = (refl, (refl, tt)) } }
+remark_c = record { follows = codes " c"; is = refl; line = record { chars = codes " c"; bytes = refl; each = (refl, (refl, tt)) } }
 
 remark_d : IsRemark (codes "# d")
 unfolding encode is_nb_char is_printable is_between is_break_char
-remark_d = record { behind = codes " d"; is = refl; line = record { chars = codes " d"; bytes = refl; each = (refl, (refl, tt)) } }
+remark_d = record { follows = codes " d"; is = refl; line = record { chars = codes " d"; bytes = refl; each = (refl, (refl, tt)) } }
 
 some_line : (c : ℕ) (x : List ℕ) → c ∷ x ≢ []
 some_line c x e = let long : suc (length x) ≡ 0 = ap length e in omega arith

@@ -22,10 +22,10 @@ use Rattle.yf_comments.specs.Comments.CommentText.{comment_text}
 use Rattle.yf_comments.specs.Comments.LineRest.{nothing, whites, comment}
 use Rattle.yf_block_scalar.specs.declared.body.BlockText.{BlockText}
 use Rattle.yf_block_scalar.specs.declared.header.Header.{Header}
-use Rattle.yf_block_scalar.specs.Body.{Bare, largest, Ends, Content, Line, Lines, Taken, Indented, Body, BodyValue, body_value}
-use Rattle.yf_block_scalar.specs.Body.Bare.{bare}
+use Rattle.yf_block_scalar.specs.Body.{EmptyLines, largest, Ends, LineContent, Line, Lines, LinesTaken, IndentedLine, Body, BodyValue, body_value}
+use Rattle.yf_block_scalar.specs.Body.EmptyLines.{bare}
 use Rattle.yf_block_scalar.specs.Body.Ends.{by_break, by_text}
-use Rattle.yf_block_scalar.specs.Body.Content.{content}
+use Rattle.yf_block_scalar.specs.Body.LineContent.{content}
 use Rattle.yf_block_scalar.specs.Body.Line.{empty_line, content_line}
 use Rattle.yf_block_scalar.specs.Body.Lines.{no_content, up_to}
 use Rattle.yf_block_scalar.specs.Body.Body.{indicated, detected, without_content}
@@ -52,10 +52,10 @@ one_bytes {t} {q} h ys u (one e) l more =
     let c : ℕ = code t q in
     let cut = drop_there t q u (nb_begins t q e) in
     let n_is = next_is t q in
-    let behind : drop (next t q) t ≡ cut.0 = ap (λ w. drop w t) n_is ∙ drop_past_char t cut.0 q c cut.1 in
+    let follows : drop (next t q) t ≡ cut.0 = ap (λ w. drop w t) n_is ∙ drop_past_char t cut.0 q c cut.1 in
     let long : h - q ≡ length (encode c) + (h - next t q) = omega (arith, length-encode c, n_is) in (
       ap (λ w. take (h - q) w) cut.1 ∙ ap (λ w. take w (encode c ++ cut.0)) long ∙ take-append-add (encode c) cut.0 (h - next t q)
-          ∙ ap (λ w. encode c ++ take (h - next t q) w) (sym behind) ∙ ap (λ w. encode c ++ w) more.0,
+          ∙ ap (λ w. encode c ++ take (h - next t q) w) (sym follows) ∙ ap (λ w. encode c ++ w) more.0,
       (e, more.1),
     )
 
@@ -63,7 +63,7 @@ many_bytes : {t : List ℕ} {q h : ℕ} {y : List ℕ} → IsUtf8 t → Many t i
 many_bytes {t} {q} u done = let none : q - q ≡ 0 = omega arith in (ap (λ w. take w (drop q t)) none, tt)
 many_bytes {t} {q} {h} u (step {y = ys} s c) = one_bytes h ys u s (chain_forward (one_functional t is_nb_char) c) (many_bytes u c)
 
-pub content_line_text : {t : List ℕ} {k i j : ℕ} {x : List ℕ} {o : Bool} → IsUtf8 t → Content t k i j x o → IsLineText x
+pub content_line_text : {t : List ℕ} {k i j : ℕ} {x : List ℕ} {o : Bool} → IsUtf8 t → LineContent t k i j x o → IsLineText x
 content_line_text u (content {x = cs} s m l q n) = let b = many_bytes u m in record { chars = cs; bytes = sym b.0; each = b.1 }
 
 empty_text : IsLineText []
@@ -92,23 +92,23 @@ open_end_last : {t : List ℕ} {h j : ℕ} {o : Bool} → Ends t h j o → o ≡
 open_end_last (by_break b) e = absurd (true≢false (sym e))
 open_end_last (by_text l) e = l
 
-content_last : {t : List ℕ} {k i j : ℕ} {x : List ℕ} {o : Bool} → Content t k i j x o → o ≡ true → j ≡ length t
+content_last : {t : List ℕ} {k i j : ℕ} {x : List ℕ} {o : Bool} → LineContent t k i j x o → o ≡ true → j ≡ length t
 content_last (content s m l q n) e = open_end_last q e
 
 lines_last : {t : List ℕ} {k i j : ℕ} {ls : List (List ℕ)} {o : Bool} → Lines t k i j ls o → o ≡ true → j ≡ length t
 lines_last no_content e = absurd (true≢false (sym e))
 lines_last (up_to c d) e = content_last d e
 
-bare_inside : {t : List ℕ} {i j : ℕ} {x : List ℕ} → Bare t i j x → length t ≤ i → ⊥
+bare_inside : {t : List ℕ} {i j : ℕ} {x : List ℕ} → EmptyLines t i j x → length t ≤ i → ⊥
 bare_inside {t} {i} (bare m a) l =
     let past = code-past t (i + m) (omega arith) in
     ⊎_elim (λ (h : code t (i + m) ≡ 13). absurd (omega arith)) (λ (h : code t (i + m) ≡ 10). absurd (omega arith)) (break_char a.ends)
 
-no_tail : {t : List ℕ} {i j : ℕ} {ms : List ℕ} → Chain (Bare t) i j ms → length t ≤ i → length ms ≡ 0
+no_tail : {t : List ℕ} {i j : ℕ} {ms : List ℕ} → Chain (EmptyLines t) i j ms → length t ≤ i → length ms ≡ 0
 no_tail done l = refl
 no_tail (step s c) l = absurd (bare_inside s l)
 
-pub taken_open : {t : List ℕ} {k i p count : ℕ} {ls : List (List ℕ)} {o : Bool} → Taken t k i ls o count p → o ≡ true → count ≡ 0
+pub taken_open : {t : List ℕ} {k i p count : ℕ} {ls : List (List ℕ)} {o : Bool} → LinesTaken t k i ls o count p → o ≡ true → count ≡ 0
 taken_open d e =
     let last = lines_last d.lines e in
     sym d.tail.counts ∙ no_tail d.tail.lines (omega arith)
@@ -118,7 +118,7 @@ first_there : (x : List ℕ) (c : ℕ) → 0 < length x → get_or x 0 0 ≢ 32 
 first_there [] c l n ls = absurd (omega arith)
 first_there (d ∷ x) c l n ls = n
 
-first_byte : {t : List ℕ} {n : ℤ} {i k h : ℕ} → IsUtf8 t → Indented t n i k → i + k < h → get_or (slice_range t (i + k) h) 0 0 ≢ 32
+first_byte : {t : List ℕ} {n : ℤ} {i k h : ℕ} → IsUtf8 t → IndentedLine t n i k → i + k < h → get_or (slice_range t (i + k) h) 0 0 ≢ 32
 first_byte {t} {n} {i} {k} {h} u d l e =
     ⊎_elim (λ (w : i + k < length t).
     let room : 0 < h - (i + k) = omega arith in
@@ -128,11 +128,11 @@ first_byte {t} {n} {i} {k} {h} u d l e =
     d.other.no_space (code_from_byte t (i + k) u w (omega arith) ∙ byte))
     (λ (w : length t ≤ i + k). d.other.inside (code-past t (i + k) w)) (cases_lt (i + k) (length t))
 
-content_unspaced : {t : List ℕ} {n : ℤ} {i k j : ℕ} {x : List ℕ} {o : Bool} (ls : List (List ℕ)) → IsUtf8 t → Indented t n i k → Content t k i j x o → StartsUnspaced (x ∷ ls)
+content_unspaced : {t : List ℕ} {n : ℤ} {i k j : ℕ} {x : List ℕ} {o : Bool} (ls : List (List ℕ)) → IsUtf8 t → IndentedLine t n i k → LineContent t k i j x o → StartsUnspaced (x ∷ ls)
 content_unspaced {t} {n} {i} {k} ls u d (content {h = h} s m l q c) =
     first_there (slice_range t (i + k) h) 0 (content_text (content s m l q c)) (first_byte u d l) ls
 
-line_unspaced : {t : List ℕ} {n : ℤ} {i k j : ℕ} {x : List (List ℕ)} (ls : List (List ℕ)) → IsUtf8 t → Indented t n i k → Line t k i j x → StartsUnspaced (x ++ ls)
+line_unspaced : {t : List ℕ} {n : ℤ} {i k j : ℕ} {x : List (List ℕ)} (ls : List (List ℕ)) → IsUtf8 t → IndentedLine t n i k → Line t k i j x → StartsUnspaced (x ++ ls)
 line_unspaced ls u d (empty_line {j = j} {m = m} a l) = absurd ((indented_stuck d).none j (m ∷ []) (bare m a))
 line_unspaced ls u d (content_line c) = content_unspaced ls u d c
 
@@ -140,12 +140,12 @@ ends_rest : (ls : List (List ℕ)) → EndsWithContent ([] ∷ ls) → EndsWithC
 ends_rest [] n = absurd (n refl)
 ends_rest (y ∷ ls) e = e
 
-unspaced_step : {t : List ℕ} {i h g k : ℕ} {x : List ℕ} {z : List (List ℕ)} (y : List ℕ) (ls : List (List ℕ)) → Bare t i h x → largest (x ++ y) ≤ k → Line t k i g z
+unspaced_step : {t : List ℕ} {i h g k : ℕ} {x : List ℕ} {z : List (List ℕ)} (y : List ℕ) (ls : List (List ℕ)) → EmptyLines t i h x → largest (x ++ y) ≤ k → Line t k i g z
     → EndsWithContent (z ++ ls) → (h ≡ g → largest y ≤ k → EndsWithContent ls → StartsUnspaced ls) → StartsUnspaced (z ++ ls)
 unspaced_step y ls (bare m a) w (empty_line b l) e f = f (space_line_unique a b) (omega arith) (ends_rest ls e)
 unspaced_step y ls (bare m a) w (content_line c) e f = absurd (not_empty_too a (omega arith) c)
 
-unspaced_from : {t : List ℕ} {n : ℤ} {i h k j : ℕ} {ms : List ℕ} {ls : List (List ℕ)} → IsUtf8 t → Chain (Bare t) i h ms → largest ms ≤ k → Indented t n h k
+unspaced_from : {t : List ℕ} {n : ℤ} {i h k j : ℕ} {ms : List ℕ} {ls : List (List ℕ)} → IsUtf8 t → Chain (EmptyLines t) i h ms → largest ms ≤ k → IndentedLine t n h k
     → Chain (Line t k) i j ls → EndsWithContent ls → StartsUnspaced ls
 unspaced_from u done w d done e = absurd e
 unspaced_from u done w d (step {y = ls} l c) e = line_unspaced ls u d l
@@ -158,20 +158,20 @@ pub record Scalar (h : Header) (v : BodyValue) : Type 0 where
   pub lines : AreLineTexts v.lines
   pub last : EndsWithContent v.lines
   pub first : h.digit ≡ None → StartsUnspaced v.lines
-  pub behind : v.open_end ≡ true → v.tail ≡ 0
+  pub follows : v.open_end ≡ true → v.tail ≡ 0
 
 pub body_scalar : {t : List ℕ} {n : ℤ} {h : Header} {i j : ℕ} {v : BodyValue} → IsUtf8 t → Body t n h i j v → v.lines ≢ [] → Scalar h v
 body_scalar u (indicated e a b) n = record {
   lines = chain_texts u (lines_chain a.lines);
   last = lines_end a.lines n;
   first = λ f. cc;
-  behind = taken_open a;
+  follows = taken_open a;
 }
 body_scalar u (detected e f a b) n = record {
   lines = chain_texts u (lines_chain a.lines);
   last = lines_end a.lines n;
   first = λ _. unspaced_from u f.before f.within f.first (lines_chain a.lines) (lines_end a.lines n);
-  behind = taken_open a;
+  follows = taken_open a;
 }
 body_scalar u (without_content e c s b) n = absurd (n refl)
 
@@ -187,7 +187,7 @@ to_scalar b u same none body full =
       last = s.last;
       first = λ e. s.first (sym (ap (λ (w : Header). w.digit) same) ∙ e);
       comment = no_comment_text b.comment none;
-      behind = s.behind;
+      follows = s.follows;
     }
 
 -- a comment's text

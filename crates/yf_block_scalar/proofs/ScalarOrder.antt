@@ -13,7 +13,7 @@ use Rattle.yf_block_scalar.specs.Header.Style.{literal_sign, folded_sign}
 use Rattle.yf_block_scalar.specs.Header.Digit.{digit}
 use Rattle.yf_block_scalar.specs.Header.Sign.{strip_sign, keep_sign}
 use Rattle.yf_block_scalar.specs.Header.Indicators.{neither, digit_alone, sign_alone, digit_sign, sign_digit}
-use Rattle.yf_block_scalar.specs.Body.{Taken, Trail, Body, BodyValue}
+use Rattle.yf_block_scalar.specs.Body.{LinesTaken, Trail, Body, BodyValue}
 use Rattle.yf_block_scalar.specs.Body.Trail.{comments, no_comment}
 use Rattle.yf_block_scalar.specs.Body.Body.{indicated, detected, without_content}
 use Rattle.yf_block_scalar.proofs.BodyLemmas.{bare_functional}
@@ -44,7 +44,7 @@ module _ {t : List ℕ} where
   pub header_starts : {i j : ℕ} {h : HeaderValue} → BlockHeader t i j h → j < length t → LineStart t j
   header_starts {j = j} (block_header s m r) l = ⊎_elim (λ (e : LineStart t j). e) (λ (e : j ≡ length t). absurd (omega arith)) (rest_next r)
 
-  pub taken_forward : {k i p count : ℕ} {ls : List (List ℕ)} {o : Bool} → Taken t k i ls o count p → i ≤ p
+  pub taken_forward : {k i p count : ℕ} {ls : List (List ℕ)} {o : Bool} → LinesTaken t k i ls o count p → i ≤ p
   taken_forward {k} d = let f = chain_forward (line_functional t k) (lines_chain d.lines) in let g = chain_forward (bare_functional t) d.tail.lines in omega arith
 
   trail_forward : {k i j : ℕ} {x : List CommentValue} → Trail t k i j x → i ≤ j

@@ -21,7 +21,7 @@ noted_first b (c ∷ cs) d n = refl
 pub noted_last : (cs : List Comment) (i : ℕ) → length cs ≤ i → map comment_value (drop i cs) ≡ []
 noted_last cs i l = ap (map comment_value) (drop_of_length-le cs l)
 
--- no comment with fewer than k spaces before it, as k spaces stand there, or as another character follows the spaces
+-- no comment with fewer than k spaces before it, as k spaces are there, or as another character follows the spaces
 pub no_trail_deep : {t : List ℕ} (i m k : ℕ) → Spaces t i m → k ≤ m → Trail t k i i []
 no_trail_deep {t} i m k s l = no_comment (λ d h _ e. let space : code t (i + d) ≡ 32 = s.each d (omega arith) in absurd (omega arith))
 
@@ -31,7 +31,7 @@ no_trail_here {t} i first k l s n no_hash = no_comment (λ d h q e.
     let width : d ≡ first - i = spaces_unique q (λ w. absurd (omega arith)) s (rw same n) in
     no_hash (ap (code t) (sym same) ∙ ap (λ w. code t (i + w)) (sym width) ∙ e))
 
--- comment lines begin where a # stands after fewer than k spaces
+-- comment lines begin where a # is after fewer than k spaces
 pub trail_there : {t : List ℕ} {j : ℕ} {x : List CommentValue} (i first k : ℕ) → i ≤ first → Spaces t i (first - i) → first - i < k → code t first ≡ 35
     → Chosen (LineEnd t i) j x → Trail t k i j x
 trail_there {t} i first k l s few e c =

@@ -15,10 +15,10 @@ use Rattle.yf_lines.proofs.BasicLemmas.{break_char, break_forward, break_unique}
 use Rattle.yf_comments.specs.Comment.{CommentValue}
 use Rattle.yf_comments.specs.Comments.{LineEnd}
 use Rattle.yf_block_scalar.specs.declared.header.Header.{Header}
-use Rattle.yf_block_scalar.specs.Body.{SpaceLine, Bare, largest, Ends, Content, Line, Lines, Taken, Indented, Detected, Shallow, Trail, Body, BodyValue, base, least, is_gap_tail, first_noted}
-use Rattle.yf_block_scalar.specs.Body.Bare.{bare}
+use Rattle.yf_block_scalar.specs.Body.{SpaceLine, EmptyLines, largest, Ends, LineContent, Line, Lines, LinesTaken, IndentedLine, DetectedIndent, Shallow, Trail, Body, BodyValue, base, least, is_gap_tail, first_noted}
+use Rattle.yf_block_scalar.specs.Body.EmptyLines.{bare}
 use Rattle.yf_block_scalar.specs.Body.Ends.{by_break, by_text}
-use Rattle.yf_block_scalar.specs.Body.Content.{content}
+use Rattle.yf_block_scalar.specs.Body.LineContent.{content}
 use Rattle.yf_block_scalar.specs.Body.Line.{empty_line, content_line}
 use Rattle.yf_block_scalar.specs.Body.Lines.{no_content, up_to}
 use Rattle.yf_block_scalar.specs.Body.Trail.{comments, no_comment}
@@ -39,13 +39,13 @@ ends_forward (by_text e) = omega arith
 move_ends : {t : List ℕ} {h g j : ℕ} {o : Bool} → h ≡ g → Ends t h j o → Ends t g j o
 move_ends {t} {j = j} {o = o} e q = subst (λ w. Ends t w j o) e q
 
-content_unique : {t : List ℕ} {k i j l : ℕ} {x y : List ℕ} {o p : Bool} → Content t k i j x o → Content t k i l y p → (j ≡ l) × (x ≡ y) × (o ≡ p)
+content_unique : {t : List ℕ} {k i j l : ℕ} {x y : List ℕ} {o p : Bool} → LineContent t k i j x o → LineContent t k i l y p → (j ≡ l) × (x ≡ y) × (o ≡ p)
 content_unique {t} {k} {i} (content a m b q c) (content d n e r f) =
     let same = text_end m q n (ends_no_nb r) in
     let u = ends_unique (move_ends same q) r in
     (u.0, ap (λ w. slice_range t (i + k) w) same, u.1)
 
-content_forward : {t : List ℕ} {k i j : ℕ} {x : List ℕ} {o : Bool} → Content t k i j x o → i < j
+content_forward : {t : List ℕ} {k i j : ℕ} {x : List ℕ} {o : Bool} → LineContent t k i j x o → i < j
 content_forward (content a m b q c) = let f = ends_forward q in omega arith
 
 one_nb : {t : List ℕ} {i j : ℕ} {x : List ℕ} → One t is_nb_char i j x → is_nb_char (code t i) ≡ true
@@ -55,7 +55,7 @@ many_nb : {t : List ℕ} {i j : ℕ} {x : List ℕ} → Many t is_nb_char i j x 
 many_nb done l = absurd (omega arith)
 many_nb (step s c) l = one_nb s
 
-pub not_empty_too : {t : List ℕ} {k i m j l : ℕ} {x : List ℕ} {o : Bool} → SpaceLine t i m j → m ≤ k → Content t k i l x o → ⊥
+pub not_empty_too : {t : List ℕ} {k i m j l : ℕ} {x : List ℕ} {o : Bool} → SpaceLine t i m j → m ≤ k → LineContent t k i l x o → ⊥
 not_empty_too {t} {k} {i} {m} s l (content a n b q c) =
     ⊎_elim (λ (h : m < k). break_no_space s.ends (a.each m h))
     (λ (h : k ≤ m).
@@ -95,7 +95,7 @@ no_lines (step {x = x} {y = y} s c) e =
     let first : length x ≡ 1 = ap length m.1 in
     absurd (omega (arith, length-append x y))
 
-empties_step : {t : List ℕ} {k i h j : ℕ} {x : List ℕ} (y : List ℕ) → Bare t i h x → Chain (Line t k) h j (replicate (length y) []) → largest (x ++ y) ≤ k
+empties_step : {t : List ℕ} {k i h j : ℕ} {x : List ℕ} (y : List ℕ) → EmptyLines t i h x → Chain (Line t k) h j (replicate (length y) []) → largest (x ++ y) ≤ k
     → Chain (Line t k) i j (replicate (length (x ++ y)) [])
 empties_step y (bare m a) c l = step (empty_line a (omega arith)) c
 
@@ -103,7 +103,7 @@ largest_rest : (x y : List ℕ) (k : ℕ) → largest (x ++ y) ≤ k → largest
 largest_rest [] y k l = l
 largest_rest (m ∷ x) y k l = largest_rest x y k (omega arith)
 
-empties : {t : List ℕ} {k i j : ℕ} {ms : List ℕ} → Chain (Bare t) i j ms → largest ms ≤ k → Chain (Line t k) i j (replicate (length ms) [])
+empties : {t : List ℕ} {k i j : ℕ} {ms : List ℕ} → Chain (EmptyLines t) i j ms → largest ms ≤ k → Chain (Line t k) i j (replicate (length ms) [])
 empties done l = done
 empties {k = k} (step {x = x} {y = y} s c) l = empties_step y s (empties c (largest_rest x y k l)) l
 
@@ -146,7 +146,7 @@ pub some_first : (x : List ℕ) → 0 < length x → (c : ℕ) × (y : List ℕ)
 some_first [] l = absurd (omega arith)
 some_first (c ∷ y) l = (c, y, refl)
 
-pub content_text : {t : List ℕ} {k i j : ℕ} {x : List ℕ} {o : Bool} → Content t k i j x o → 0 < length x
+pub content_text : {t : List ℕ} {k i j : ℕ} {x : List ℕ} {o : Bool} → LineContent t k i j x o → 0 < length x
 content_text {t} {k} {i} (content {h = h} a m b q c) =
     let w = ends_within q in
     omega (arith, length-take (h - (i + k)) (drop (i + k) t), length-drop (i + k) t)
@@ -162,7 +162,7 @@ lines_chain no_content = done
 lines_chain (up_to c d) = chain_append c (chain_one (content_line d))
 
 -- all lines of a scalar, its tail as empty ones
-taken_chain : {t : List ℕ} {k i p count : ℕ} {ls : List (List ℕ)} {o : Bool} → Taken t k i ls o count p → Chain (Line t k) i p (ls ++ replicate count [])
+taken_chain : {t : List ℕ} {k i p count : ℕ} {ls : List (List ℕ)} {o : Bool} → LinesTaken t k i ls o count p → Chain (Line t k) i p (ls ++ replicate count [])
 taken_chain {t} {k} {i} {p} {count} {ls} d =
     chain_append (lines_chain d.lines)
     (subst (λ w. Chain (Line t k) d.end p (replicate w [])) d.tail.counts (empties d.tail.lines d.tail.within))
@@ -186,8 +186,8 @@ meet_same : {t : List ℕ} {k h g : ℕ} {xs ys : List (List ℕ)} → xs ≡ ys
 meet_same {xs = xs} e (goes_on z c q) = no_lines c (nothing_more xs z (e ∙ q))
 meet_same {ys = ys} e (falls_short z c q) = sym (no_lines c (nothing_more ys z (sym e ∙ q)))
 
-move_content : {t : List ℕ} {k h g j : ℕ} {x : List ℕ} {o : Bool} → h ≡ g → Content t k h j x o → Content t k g j x o
-move_content {t} {k} {j = j} {x = x} {o = o} e d = subst (λ w. Content t k w j x o) e d
+move_content : {t : List ℕ} {k h g j : ℕ} {x : List ℕ} {o : Bool} → h ≡ g → LineContent t k h j x o → LineContent t k g j x o
+move_content {t} {k} {j = j} {x = x} {o = o} e d = subst (λ w. LineContent t k w j x o) e d
 
 lines_open : {t : List ℕ} {k i j l : ℕ} {xs ys : List (List ℕ)} {o p : Bool} → Lines t k i j xs o → Lines t k i l ys p → xs ≡ ys → o ≡ p
 lines_open no_content no_content e = refl
@@ -198,7 +198,7 @@ lines_open {t} {k} (up_to {ls = ls} {x = x} c d) (up_to {ls = ms} {x = y} f g) e
     (content_unique (move_content same d) g).2
 
 -- the lines and the tail
-pub taken_unique : {t : List ℕ} {k i p q m n : ℕ} {ls ms : List (List ℕ)} {o u : Bool} → Taken t k i ls o m p → Taken t k i ms u n q
+pub taken_unique : {t : List ℕ} {k i p q m n : ℕ} {ls ms : List (List ℕ)} {o u : Bool} → LinesTaken t k i ls o m p → LinesTaken t k i ms u n q
     → (p ≡ q) × (ls ≡ ms) × (o ≡ u) × (m ≡ n)
 taken_unique {t} {k} {i} {p} {q} {m} {n} {ls} {ms} a b =
     let all = stuck_unique (line_functional t k) (taken_chain a) a.most (taken_chain b) b.most in
@@ -224,7 +224,7 @@ trail_unique (no_comment n) (no_comment d) = (refl, refl)
 record Parts (t : List ℕ) (h : Header) (k i j : ℕ) (v : BodyValue) : Type 0 where
   place : ℕ
   notes : List CommentValue
-  taken : Taken t k i v.lines v.open_end v.tail place
+  taken : LinesTaken t k i v.lines v.open_end v.tail place
   trail : Trail t k place j notes
   noted : v.comments ≡ first_noted (is_gap_tail h.chomp v.tail) notes
 
@@ -250,8 +250,8 @@ move_parts {t} {h} {i = i} {j = j} {v = v} e p = subst (λ w. Parts t h w i j v)
 -- a scalar by what is known of its indentation
 data View (t : List ℕ) (n : ℤ) (h : Header) (i j : ℕ) (v : BodyValue) : Type 0 where
   at_digit : (d : ℕ) → h.digit ≡ Some d → Parts t h (base n + d) i j v → View t n h i j v
-  at_detected : (k : ℕ) → h.digit ≡ None → Detected t n i k → Parts t h k i j v → View t n h i j v
-  at_nothing : (p : ℕ) (widths : List ℕ) (x : List CommentValue) → h.digit ≡ None → Chain (Bare t) i p widths → Shallow t n p → Trail t (least n) p j x
+  at_detected : (k : ℕ) → h.digit ≡ None → DetectedIndent t n i k → Parts t h k i j v → View t n h i j v
+  at_nothing : (p : ℕ) (widths : List ℕ) (x : List CommentValue) → h.digit ≡ None → Chain (EmptyLines t) i p widths → Shallow t n p → Trail t (least n) p j x
       → v ≡ record { lines = []; open_end = false; tail = length widths; comments = first_noted (is_gap_tail h.chomp (length widths)) x } → View t n h i j v
 
 view : {t : List ℕ} {n : ℤ} {h : Header} {i j : ℕ} {v : BodyValue} → Body t n h i j v → View t n h i j v
@@ -259,12 +259,12 @@ view (indicated {p = p} {d = d} {x = x} e a b) = at_digit d e (record { place = 
 view (detected {p = p} {k = k} {x = x} e f a b) = at_detected k e f (record { place = p; notes = x; taken = a; trail = b; noted = refl })
 view (without_content {p = p} {widths = ms} {x = x} e c s b) = at_nothing p ms x e c s b refl
 
-detected_unique : {t : List ℕ} {n : ℤ} {i k m : ℕ} → Detected t n i k → Detected t n i m → k ≡ m
+detected_unique : {t : List ℕ} {n : ℤ} {i k m : ℕ} → DetectedIndent t n i k → DetectedIndent t n i m → k ≡ m
 detected_unique {t} {n} {i} {k} {m} a b =
     let meet = stuck_unique (bare_functional t) a.before (indented_stuck a.first) b.before (indented_stuck b.first) in
-    indented_unique a.first (subst (λ w. Indented t n w m) (sym meet.0) b.first)
+    indented_unique a.first (subst (λ w. IndentedLine t n w m) (sym meet.0) b.first)
 
-detected_or_nothing : {t : List ℕ} {n : ℤ} {i k p : ℕ} {ms : List ℕ} → Detected t n i k → Chain (Bare t) i p ms → Shallow t n p → ⊥
+detected_or_nothing : {t : List ℕ} {n : ℤ} {i k p : ℕ} {ms : List ℕ} → DetectedIndent t n i k → Chain (EmptyLines t) i p ms → Shallow t n p → ⊥
 detected_or_nothing {t} {n} {i} {k} {p} a c s =
     let meet = stuck_unique (bare_functional t) a.before (indented_stuck a.first) c (shallow_stuck s) in
     not_both a.first (subst (λ w. Shallow t n w) (sym meet.0) s)

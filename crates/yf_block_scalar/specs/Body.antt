@@ -30,8 +30,8 @@ pub record SpaceLine (t : List ℕ) (i m j : ℕ) : Type 0 where
   pub ends : Break t (i + m) j
 
 -- such lines as steps; they mean their numbers of spaces
-pub data Bare (t : List ℕ) : ℕ → ℕ → List ℕ → Type 0 where
-  bare : {i j : ℕ} (m : ℕ) → SpaceLine t i m j → Bare t i j (m ∷ [])
+pub data EmptyLines (t : List ℕ) : ℕ → ℕ → List ℕ → Type 0 where
+  bare : {i j : ℕ} (m : ℕ) → SpaceLine t i m j → EmptyLines t i j (m ∷ [])
 
 abbrev pub largest : List ℕ → ℕ
 largest [] = 0
@@ -44,30 +44,30 @@ pub data Ends (t : List ℕ) : ℕ → ℕ → Bool → Type 0 where
 
 -- a content line: k spaces, then nb-chars, one or more, up to its end, and no document marker; it means the bytes
 -- after the k spaces
-pub data Content (t : List ℕ) (k : ℕ) : ℕ → ℕ → List ℕ → Bool → Type 0 where
+pub data LineContent (t : List ℕ) (k : ℕ) : ℕ → ℕ → List ℕ → Bool → Type 0 where
   content : {i h j : ℕ} {x : List ℕ} {o : Bool} → Spaces t i k → Many t is_nb_char (i + k) h x → i + k < h → Ends t h j o
-      → is_marker t i ≡ false → Content t k i j (slice_range t (i + k) h) o
+      → is_marker t i ≡ false → LineContent t k i j (slice_range t (i + k) h) o
 
 -- a line of the scalar: one of at most k spaces alone (l-empty), or a content line
 pub data Line (t : List ℕ) (k : ℕ) : ℕ → ℕ → List (List ℕ) → Type 0 where
   empty_line : {i j m : ℕ} → SpaceLine t i m j → m ≤ k → Line t k i j ([] ∷ [])
-  content_line : {i j : ℕ} {x : List ℕ} {o : Bool} → Content t k i j x o → Line t k i j (x ∷ [])
+  content_line : {i j : ℕ} {x : List ℕ} {o : Bool} → LineContent t k i j x o → Line t k i j (x ∷ [])
 
 -- the lines up to the last content line, and whether that one is open
 pub data Lines (t : List ℕ) (k : ℕ) : ℕ → ℕ → List (List ℕ) → Bool → Type 0 where
   no_content : {i : ℕ} → Lines t k i i [] false
-  up_to : {i h j : ℕ} {ls : List (List ℕ)} {x : List ℕ} {o : Bool} → Chain (Line t k) i h ls → Content t k h j x o
+  up_to : {i h j : ℕ} {ls : List (List ℕ)} {x : List ℕ} {o : Bool} → Chain (Line t k) i h ls → LineContent t k h j x o
       → Lines t k i j (ls ++ x ∷ []) o
 
 -- so many empty lines
 pub record Tail (t : List ℕ) (k i j count : ℕ) : Type 0 where
   pub widths : List ℕ
-  pub lines : Chain (Bare t) i j widths
+  pub lines : Chain (EmptyLines t) i j widths
   pub within : largest widths ≤ k
   pub counts : length widths ≡ count
 
 -- the lines of the scalar and its tail; every following line that can be taken is taken
-pub record Taken (t : List ℕ) (k i : ℕ) (ls : List (List ℕ)) (o : Bool) (count j : ℕ) : Type 0 where
+pub record LinesTaken (t : List ℕ) (k i : ℕ) (ls : List (List ℕ)) (o : Bool) (count j : ℕ) : Type 0 where
   pub end : ℕ
   pub lines : Lines t k i end ls o
   pub tail : Tail t k end j count
@@ -85,7 +85,7 @@ pub data MarkerLine (t : List ℕ) : ℕ → Type 0 where
   past_mark : {i : ℕ} → code t i ≡ BYTE_ORDER_MARK → MarkerLine t (next t i) → MarkerLine t i
 
 -- a line with k spaces, at least n + 1, before another character, and no document marker
-pub record Indented (t : List ℕ) (n : ℤ) (i k : ℕ) : Type 0 where
+pub record IndentedLine (t : List ℕ) (n : ℤ) (i k : ℕ) : Type 0 where
   pub spaces : Spaces t i k
   pub other : Other t (i + k)
   pub deep : least n ≤ k
@@ -93,12 +93,12 @@ pub record Indented (t : List ℕ) (n : ℤ) (i k : ℕ) : Type 0 where
 
 -- the content's indentation, detected: that of the first line that holds a character other than space; no earlier line
 -- has more than k spaces
-pub record Detected (t : List ℕ) (n : ℤ) (i k : ℕ) : Type 0 where
+pub record DetectedIndent (t : List ℕ) (n : ℤ) (i k : ℕ) : Type 0 where
   pub at : ℕ
   pub widths : List ℕ
-  pub before : Chain (Bare t) i at widths
+  pub before : Chain (EmptyLines t) i at widths
   pub within : largest widths ≤ k
-  pub first : Indented t n at k
+  pub first : IndentedLine t n at k
 
 -- no indentation is to be detected at a line: it is the last one and holds spaces at most, or has fewer than n + 1
 -- spaces before another character, or begins with a document marker
@@ -107,7 +107,7 @@ pub data Shallow (t : List ℕ) (n : ℤ) (i : ℕ) : Type 0 where
   left_of : (m : ℕ) → Spaces t i m → Other t (i + m) → m < least n → Shallow t n i
   forbidden : MarkerLine t i → Shallow t n i
 
--- a comment's note where the lines of a scalar stand before it: the empty lines of a kept tail are content
+-- a comment's note where the lines of a scalar are before it: the empty lines of a kept tail are content
 abbrev pub is_gap_tail : Chomp → ℕ → Bool
 is_gap_tail Strip count = nat_lt 0 count
 is_gap_tail Clip count = nat_lt 0 count
@@ -134,13 +134,13 @@ pub record BodyValue : Type 0 where
 -- the lines of the scalar with that header, from the line after the header to the first line that is not taken
 pub data Body (t : List ℕ) (n : ℤ) (h : Header) : ℕ → ℕ → BodyValue → Type 0 where
   indicated : {i p j d count : ℕ} {ls : List (List ℕ)} {o : Bool} {x : List CommentValue} → h.digit ≡ Some d
-      → Taken t (base n + d) i ls o count p → Trail t (base n + d) p j x
+      → LinesTaken t (base n + d) i ls o count p → Trail t (base n + d) p j x
       → Body t n h i j (record { lines = ls; open_end = o; tail = count; comments = first_noted (is_gap_tail h.chomp count) x })
   detected : {i p j k count : ℕ} {ls : List (List ℕ)} {o : Bool} {x : List CommentValue} → h.digit ≡ None
-      → Detected t n i k → Taken t k i ls o count p → Trail t k p j x
+      → DetectedIndent t n i k → LinesTaken t k i ls o count p → Trail t k p j x
       → Body t n h i j (record { lines = ls; open_end = o; tail = count; comments = first_noted (is_gap_tail h.chomp count) x })
   without_content : {i p j : ℕ} {widths : List ℕ} {x : List CommentValue} → h.digit ≡ None
-      → Chain (Bare t) i p widths → Shallow t n p → Trail t (least n) p j x
+      → Chain (EmptyLines t) i p widths → Shallow t n p → Trail t (least n) p j x
       → Body t n h i j (record { lines = []; open_end = false; tail = length widths; comments = first_noted (is_gap_tail h.chomp (length widths)) x })
 
 -- what a block scalar is to a contract: its lines, not its header

@@ -17,31 +17,31 @@ abbrev pub is_spaced : List ℕ → Bool
 is_spaced [] = false
 is_spaced (c ∷ x) = is_white c
 
--- what stands between two content lines with e empty lines between them, of which one is spaced or none
+-- what is between two content lines with e empty lines between them, of which one is spaced or none
 abbrev pub joint : Bool → ℕ → List ℕ
 joint true e = feeds (e + 1)
 joint false e = if e == 0 then SPACE ∷ [] else feeds e
 
 -- the lines after a content line and e empty lines; the flag says whether that content line is spaced
-abbrev pub folded_behind : Bool → ℕ → List (List ℕ) → List ℕ
-folded_behind s e [] = []
-folded_behind s e ([] ∷ ls) = folded_behind s (e + 1) ls
-folded_behind s e ((c ∷ x) ∷ ls) = joint (s || is_white c) e ++ (c ∷ x) ++ folded_behind (is_white c) 0 ls
+abbrev pub folded_after : Bool → ℕ → List (List ℕ) → List ℕ
+folded_after s e [] = []
+folded_after s e ([] ∷ ls) = folded_after s (e + 1) ls
+folded_after s e ((c ∷ x) ∷ ls) = joint (s || is_white c) e ++ (c ∷ x) ++ folded_after (is_white c) 0 ls
 
 -- folded lines: each empty line before the first content line is a line feed
 abbrev pub folded : List (List ℕ) → List ℕ
 folded [] = []
 folded ([] ∷ ls) = LINE_FEED ∷ folded ls
-folded ((c ∷ x) ∷ ls) = (c ∷ x) ++ folded_behind (is_white c) 0 ls
+folded ((c ∷ x) ∷ ls) = (c ∷ x) ++ folded_after (is_white c) 0 ls
 
 -- literal lines: joined by line feeds
-abbrev pub literal_behind : List (List ℕ) → List ℕ
-literal_behind [] = []
-literal_behind (x ∷ ls) = LINE_FEED ∷ (x ++ literal_behind ls)
+abbrev pub literal_after : List (List ℕ) → List ℕ
+literal_after [] = []
+literal_after (x ∷ ls) = LINE_FEED ∷ (x ++ literal_after ls)
 
 abbrev pub literal : List (List ℕ) → List ℕ
 literal [] = []
-literal (x ∷ ls) = x ++ literal_behind ls
+literal (x ∷ ls) = x ++ literal_after ls
 
 -- the line feeds after the last content line, which the tail's empty lines follow
 abbrev pub ending : Chomp → ℕ → List ℕ

@@ -25,7 +25,7 @@ sign_bytes Strip = DASH ∷ []
 sign_bytes Clip = []
 sign_bytes Keep = PLUS ∷ []
 
--- a comment stands after two spaces
+-- a comment is after two spaces
 abbrev pub comment_bytes : Option Comment → List ℕ
 comment_bytes None = []
 comment_bytes (Some c) = SPACE ∷ SPACE ∷ c.text.now
@@ -79,13 +79,13 @@ IsCommentText None = Unit {0}
 IsCommentText (Some c) = (x : List ℕ) × ((c.text.now ≡ NUMBER_SIGN ∷ x) × IsLineText x)
 
 -- a scalar as a text can hold it, with a content line: its lines and comment are of nb-chars, an indentation that is to be
--- detected is that of its first content line, and after a line that ends at the end of the text stands nothing
+-- detected is that of its first content line, and after a line that ends at the end of the text is nothing
 pub record IsScalar (b : BlockText) : Type 0 where
   pub lines : AreLineTexts b.lines
   pub last : EndsWithContent b.lines
   pub first : b.header.digit ≡ None → StartsUnspaced b.lines
   pub comment : IsCommentText b.comment
-  pub behind : b.open_end ≡ true → b.tail ≡ 0
+  pub follows : b.open_end ≡ true → b.tail ≡ 0
 
 -- the text is a block scalar at n with the same content: its header begins it, and its lines reach to its end
 pub record IsRead (t : List ℕ) (n : ℤ) (b : BlockText) : Type 0 where

@@ -12,7 +12,7 @@ pub struct BlockText<'a> {
     pub comment: Option<Comment<'a>>,
     /// The lines up to the last content line.
     pub lines: Lines<'a>,
-    /// How many empty lines stand after the last content line.
+    /// How many empty lines are after the last content line.
     pub tail: usize,
     /// Whether the last content line ends at the end of the text, with no break.
     pub open_end: bool,
@@ -21,6 +21,3 @@ pub struct BlockText<'a> {
     /// The byte offset of the first line that is not taken.
     pub next: usize,
 }
-
-/// What a reader of block scalars answers: the scalar, `None` where none stands there, or why it could not be read.
-pub type Found<'a, E> = Result<Option<BlockText<'a>>, E>;

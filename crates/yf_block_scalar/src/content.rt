@@ -1,7 +1,7 @@
 //! What a block scalar means (YAML 1.2.2, sections 8.1.1.2, 8.1.2 and 8.1.3).
 ghost use Rattle.std.specs.Prelude.{◌≡◌, ◌++◌, ◌||◌, ◌+◌, [], length, drop, if◌then◌else◌, IfOk, IfErr, OnOk};
 ghost use Rattle.std.specs.String.{string_bytes};
-ghost use Rattle.yf_block_scalar.specs.Content.{content_of, feeds, is_spaced, joint, folded_behind, folded, literal};
+ghost use Rattle.yf_block_scalar.specs.Content.{content_of, feeds, is_spaced, joint, folded_after, folded, literal};
 
 use crate::body::BlockText;
 use crate::header::Chomp;
@@ -99,21 +99,21 @@ fn push_folded(text: &mut String, lines: &Lines) -> Result<(), AllocError>
         index += 1;
         if !line.is_empty() {
             text.push_str(line)?;
-            return push_folded_behind(text, lines, index, begins_white(line));
+            return push_folded_after(text, lines, index, begins_white(line));
         }
         text.push('\n')?;
     }
     Ok(())
 }
 
-// The lines from that number on, which stand after a content line that is spaced or not.
-fn push_folded_behind(
+// The lines from that number on, which are after a content line that is spaced or not.
+fn push_folded_after(
     text: &mut String,
     lines: &Lines,
     from: usize,
     spaced: bool,
 ) -> Result<(), AllocError>
-    ensures { OnOk result (string_bytes text.new ≡ string_bytes text.old ++ folded_behind spaced 0 (drop from lines.now)) }
+    ensures { OnOk result (string_bytes text.new ≡ string_bytes text.old ++ folded_after spaced 0 (drop from lines.now)) }
 {
     let mut index = from;
     let mut last_spaced = spaced;
@@ -134,7 +134,7 @@ fn push_folded_behind(
     Ok(())
 }
 
-// What stands between two content lines with so many empty lines between them.
+// What is between two content lines with so many empty lines between them.
 fn push_joint(
     text: &mut String,
     first_spaced: bool,

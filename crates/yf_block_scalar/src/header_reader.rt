@@ -10,9 +10,9 @@ ghost use Rattle.yf_block_scalar.specs.Header.{BlockHeader, Digit, Indicators, S
 ghost use Rattle.yf_block_scalar.specs.Written.{IsCommentText};
 
 use crate::header::{Chomp, Header};
-use yf_chars::text::stands;
+use yf_chars::text::is_char_at;
 use yf_comments::comment::Comment;
-use yf_comments::lines::{Row, line_rest};
+use yf_comments::lines::{RestOfLine, line_rest};
 
 /// A header that was read, with the comment after it and the byte offset of the line after it.
 #[derive(Drop)]
@@ -54,16 +54,16 @@ fn sign_at(s: &str, at: usize) -> Option<Chomp>
     ensures reads { MatchOption result ((j : ℕ) (c : Chomp) → Sign s.now at j c → ⊥) (λ c. Sign s.now at (at + 1) c) }
     ensures boundary { IfSome result (λ _. IsCharBoundary s.now (at + 1)) }
 {
-    if stands(s, at, b'-') {
+    if is_char_at(s, at, b'-') {
         return Some(Chomp::Strip);
     }
-    if stands(s, at, b'+') {
+    if is_char_at(s, at, b'+') {
         return Some(Chomp::Keep);
     }
     None
 }
 
-// Reads the indicators, as many as stand there.
+// Reads the indicators, as many as are there.
 fn read_marks(s: &str, at: usize) -> Marks
     requires { IsCharBoundary s.now at }
     ensures reads { Indicators s.now at result.end result.digit result.chomp }
@@ -112,10 +112,10 @@ fn style_at(s: &str, at: usize) -> Option<bool>
     ensures reads { MatchOption result ((j : ℕ) (f : Bool) → Style s.now at j f → ⊥) (λ f. Style s.now at (at + 1) f) }
     ensures boundary { IfSome result (λ _. IsCharBoundary s.now (at + 1)) }
 {
-    if stands(s, at, b'|') {
+    if is_char_at(s, at, b'|') {
         return Some(false);
     }
-    if stands(s, at, b'>') {
+    if is_char_at(s, at, b'>') {
         return Some(true);
     }
     None
@@ -137,7 +137,7 @@ pub fn block_header<'a>(s: &'a str, at: usize) -> Option<HeaderLine<'a>>
         Some(folded) => {
             let Marks { digit, chomp, end } = read_marks(s, at + 1);
             match line_rest(s, end, false) {
-                Some(Row { comment, end }) => Some(HeaderLine {
+                Some(RestOfLine { comment, end }) => Some(HeaderLine {
                     header: Header {
                         folded,
                         digit,

@@ -2,10 +2,10 @@
 ghost use Rattle.std.specs.Prelude.{◌≡◌, ◌^◌, ◌≤ℤ◌, pos, ℕ, max, MatchBool};
 ghost use Rattle.std.specs.Str.{IsCharBoundary};
 ghost use Rattle.yf_block_scalar.specs.Body.{base, least, SpaceLine, MarkerLine};
-ghost use Rattle.yf_block_scalar.specs.Indentation.{EndsAtBoundary, Finds, Judges};
+ghost use Rattle.yf_block_scalar.specs.Indentation.{EndsAtBoundary, IndentOfLines, IndentOfLine};
 
-use crate::rows::space_line;
-use yf_lines::basic::{mark_stands, marker_stands, skip_spaces};
+use crate::body_lines::space_line;
+use yf_lines::basic::{is_mark_at, is_marker_at, skip_spaces};
 
 // What is known of the content's indentation where the header does not give it.
 #[derive(Drop)]
@@ -39,10 +39,10 @@ fn marker_line(s: &str, at: usize) -> bool
     ensures { MatchBool result (MarkerLine s.now at) (MarkerLine s.now at → ⊥) }
 {
     let mut place = at;
-    while mark_stands(s, place) {
+    while is_mark_at(s, place) {
         place += 3;
     }
-    marker_stands(s, place)
+    is_marker_at(s, place)
 }
 
 fn longer(first: usize, second: usize) -> usize
@@ -55,7 +55,7 @@ fn longer(first: usize, second: usize) -> usize
 pub(crate) fn find_indentation(s: &str, at: usize, n: i32) -> Indentation
     requires boundary { IsCharBoundary s.now at }
     requires small { n ≤ℤ pos (2 ^ 30) }
-    ensures finds { Finds s.now n at result }
+    ensures finds { IndentOfLines s.now n at result }
     ensures boundary { EndsAtBoundary s.now result }
 {
     let mut place = at;
@@ -73,12 +73,12 @@ pub(crate) fn find_indentation(s: &str, at: usize, n: i32) -> Indentation
     }
 }
 
-// Judges the first line that is not of spaces alone, before which so many such lines stand, the longest of that width.
+// Judges the first line that is not of spaces alone, before which so many such lines are, the longest of that width.
 fn judge_line(s: &str, at: usize, n: i32, count: usize, longest: usize) -> Indentation
     requires boundary { IsCharBoundary s.now at }
     requires small { n ≤ℤ pos (2 ^ 30) }
     requires other { (m j : ℕ) → SpaceLine s.now at m j → ⊥ }
-    ensures judges { Judges s.now n at count longest result }
+    ensures judges { IndentOfLine s.now n at count longest result }
     ensures boundary { EndsAtBoundary s.now result }
 {
     let first = skip_spaces(s, at);

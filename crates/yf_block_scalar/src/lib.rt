@@ -2,6 +2,7 @@
 #![tactic(auto)]
 
 pub mod body;
+mod body_lines;
 pub mod content;
 pub mod header;
 pub mod header_reader;
@@ -9,6 +10,5 @@ mod indent;
 pub mod lines;
 pub mod read;
 pub mod reader;
-mod rows;
 mod trail;
 pub mod write;

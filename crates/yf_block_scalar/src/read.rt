@@ -8,13 +8,14 @@ ghost use Rattle.yf_lines.specs.Basic.{LineStart};
 ghost use Rattle.yf_block_scalar.specs.LineOffset.{line_offset};
 ghost use Rattle.yf_block_scalar.specs.Written.{IsCommentText, IsScalar};
 
-use crate::body::Found;
+use crate::body::BlockText;
 use crate::header::Header;
 use crate::header_reader::{HeaderLine, block_header};
 use crate::reader::block_body;
 use std::alloc::{AllocError, Global};
 use yf_lines::fault::Fault;
 use yf_lines::source_text::Src;
+use yf_lines::text::ReadResult;
 
 /// Reads the header of a block scalar, with its `|` or `>`, from a byte offset on (YAML 1.2.2, section 8.1.1): a digit from
 /// 1 to 9 and a sign, each at most once and in either order, then a comment or nothing, and the end of the line.
@@ -47,7 +48,7 @@ pub fn read_body<'a>(
     line: usize,
     n: i32,
     header: Header,
-) -> Found<'a, Fault>
+) -> ReadResult<BlockText<'a>>
     requires within { line ≤ length src.now.lines }
     requires small { n ≤ℤ pos (2 ^ 30) }
     ensures { MatchResult result (λ o. MatchOption o (Stuck (Body src.now.text n header (line_offset src.now line)))

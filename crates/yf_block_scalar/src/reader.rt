@@ -4,14 +4,14 @@ ghost use Rattle.std.specs.Str.{IsCharBoundary};
 ghost use Rattle.yf_chars.specs.Chain.{Chosen, Stuck};
 ghost use Rattle.yf_lines.specs.Basic.{LineStart};
 ghost use Rattle.yf_comments.specs.Comment.{CommentValue};
-ghost use Rattle.yf_block_scalar.specs.Body.{Body, Taken, Trail, is_gap_tail, first_noted, body_value};
+ghost use Rattle.yf_block_scalar.specs.Body.{Body, LinesTaken, Trail, is_gap_tail, first_noted, body_value};
 ghost use Rattle.yf_block_scalar.specs.Written.{IsScalar};
 
-use crate::body::{BlockText, Found};
+use crate::body::BlockText;
+use crate::body_lines::{BodyLines, read_rows};
 use crate::header::{Chomp, Header};
 use crate::indent::{Indentation, base_of, find_indentation, least_of};
 use crate::lines::Lines;
-use crate::rows::{Rows, read_rows};
 use crate::trail::read_trail;
 use std::alloc::{AllocError, Global};
 use yf_comments::comments::Separation;
@@ -33,7 +33,7 @@ fn with_trail<'a>(
     s: &'a str,
     indent: usize,
     header: Header,
-    rows: Rows<'a>,
+    rows: BodyLines<'a>,
 ) -> Result<BlockText<'a>, AllocError>
     requires boundary { IsCharBoundary s.now rows.next }
     requires starts { rows.next < length s.now → LineStart s.now rows.next }
@@ -46,7 +46,7 @@ fn with_trail<'a>(
     ensures header { IfOk result (λ b. b.header ≡ header) }
     ensures comment { IfOk result (λ b. b.comment ≡ None) }
 {
-    let Rows {
+    let BodyLines {
         lines,
         open_end,
         tail,
@@ -76,7 +76,7 @@ fn read_indented<'a>(
     requires boundary { IsCharBoundary s.now at }
     requires starts { at < length s.now → LineStart s.now at }
     ensures reads { IfOk result (λ b. (p : ℕ) × (x : List CommentValue)
-        × (Taken s.now indent at b.lines b.open_end b.tail p × Trail s.now indent p b.next x
+        × (LinesTaken s.now indent at b.lines b.open_end b.tail p × Trail s.now indent p b.next x
         × (b.comments ≡ first_noted (is_gap_tail header.chomp b.tail) x))) }
     ensures boundary { IfOk result (λ b. IsCharBoundary s.now b.next) }
     ensures header { IfOk result (λ b. b.header ≡ header) }
@@ -102,7 +102,7 @@ pub fn block_body<'a>(
     at: usize,
     n: i32,
     header: Header,
-) -> Found<'a, AllocError>
+) -> Result<Option<BlockText<'a>>, AllocError>
     requires starts { at < length s.now → LineStart s.now at }
     requires boundary { IsCharBoundary s.now at }
     requires small { n ≤ℤ pos (2 ^ 30) }
@@ -124,7 +124,7 @@ pub fn block_body<'a>(
             }
             Indentation::Missing(count, next) => {
                 let lines = Lines::new(alloc);
-                let rows = Rows {
+                let rows = BodyLines {
                     lines,
                     open_end: false,
                     tail: count,

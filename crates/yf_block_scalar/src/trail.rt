@@ -6,7 +6,7 @@ ghost use Rattle.yf_comments.specs.Comment.{CommentValue};
 ghost use Rattle.yf_block_scalar.specs.Body.{Trail, first_noted};
 
 use std::alloc::{AllocError, Global};
-use yf_chars::text::stands;
+use yf_chars::text::is_char_at;
 use yf_comments::comment::Comment;
 use yf_comments::comments::{Comments, Separation};
 use yf_comments::lines::line_end;
@@ -51,7 +51,7 @@ fn no_comments<'a>(alloc: Global, at: usize) -> Separation<'a>
 }
 
 // Reads the comment lines that belong to a scalar of that indentation (l-trail-comments, production 169); the first of
-// them is noted to stand after a blank line or not.
+// them is noted to be after a blank line or not.
 pub(crate) fn read_trail<'a>(
     alloc: Global,
     s: &'a str,
@@ -68,7 +68,7 @@ pub(crate) fn read_trail<'a>(
     if indent <= first - at {
         return Ok(no_comments(alloc, at));
     }
-    if stands(s, first, b'#') {
+    if is_char_at(s, first, b'#') {
         match line_end(alloc, s, at)? {
             Some(Separation { comments, end }) => {
                 let noted = note_first(alloc, comments, blank)?;

@@ -33,16 +33,16 @@ pub data Meets {A : Type 0} (S : ℕ → ℕ → List A → Type 0) (j k : ℕ) 
   falls_short : (z : List A) → Chain S k j z → x ≡ y ++ z → Meets S j k x y
 
 module _ {A : Type 0} {S : ℕ → ℕ → List A → Type 0} where
-  meets_behind : {j k : ℕ} {x y : List A} (w : List A) → Meets S j k x y → Meets S j k (w ++ x) (w ++ y)
-  meets_behind {x = x} w (goes_on z c e) = goes_on z c (ap (λ v. w ++ v) e ∙ sym (append_assoc w x z))
-  meets_behind {y = y} w (falls_short z c e) = falls_short z c (ap (λ v. w ++ v) e ∙ sym (append_assoc w y z))
+  meets_after : {j k : ℕ} {x y : List A} (w : List A) → Meets S j k x y → Meets S j k (w ++ x) (w ++ y)
+  meets_after {x = x} w (goes_on z c e) = goes_on z c (ap (λ v. w ++ v) e ∙ sym (append_assoc w x z))
+  meets_after {y = y} w (falls_short z c e) = falls_short z c (ap (λ v. w ++ v) e ∙ sym (append_assoc w y z))
 
   meet_after : {i h j k : ℕ} {x y z : List A} → Functional S → S i h x → Chain S h j y
       → ((m : ℕ) (w : List A) → Chain S h m w → Meets S j m y w) → Chain S i k z → Meets S j k (x ++ y) z
   meet_after {x = x} {y = y} f s c ih done = falls_short (x ++ y) (step s c) refl
   meet_after {h = h} {j = j} {k = k} {x = x} {y = y} f s c ih (step {y = w} s' c') =
       let c'' : Chain S h k w = subst (λ m. Chain S m k w) (sym (f.one_end s s')) c' in
-      subst (λ v. Meets S j k (x ++ y) (v ++ w)) (f.one_meaning s s') (meets_behind x (ih k w c''))
+      subst (λ v. Meets S j k (x ++ y) (v ++ w)) (f.one_meaning s s') (meets_after x (ih k w c''))
 
   pub chain_meet : {i j k : ℕ} {x y : List A} → Functional S → Chain S i j x → Chain S i k y → Meets S j k x y
   chain_meet {y = y} f done d = goes_on y d refl

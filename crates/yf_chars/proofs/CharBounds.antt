@@ -1,4 +1,4 @@
--- Characters lie below the number that stands where none begins, and visible ASCII breaks no line.
+-- Characters lie below the number that is where none begins, and visible ASCII breaks no line.
 use Rattle.std.proofs.Common.{◌≡◌, ℕ, ◌<◌, ◌≤◌, true, arith}
 use Rattle.std.proofs.lemmas.Bool.Decides.{nat_tests}
 use Rattle.yf_chars.specs.Text.{no_char}

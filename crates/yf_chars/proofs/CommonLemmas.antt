@@ -1,4 +1,4 @@
--- Texts of characters that are spelled by themselves stand in double quotes as they are.
+-- Texts of characters that are spelled by themselves are in double quotes as they are.
 use Rattle.std.proofs.Common.{◌≡◌, ℕ, zero, suc, ◌<◌, true, false, true≢false, List, [], ◌∷◌, ◌++◌, Option, Some, None, refl, ap, ◌∙◌, arith, flat_map, encode_utf8_all}
 use Rattle.std.specs.Prelude.{is_some}
 use Rattle.std.specs.Str.{IsAscii, chars}

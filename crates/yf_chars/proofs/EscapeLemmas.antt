@@ -10,7 +10,7 @@ use Rattle.std.specs.Char.{digit_value}
 use Rattle.yf_chars.specs.Text.{code}
 use Rattle.yf_chars.specs.Chain.{Stuck, Chosen}
 use Rattle.yf_chars.specs.Class.{is_between}
-use Rattle.yf_chars.specs.Escape.{named, number, Digits, Numbered, is_high, is_low, joined, NoLow, Escape, upper_digit, two_digits, is_by_two, is_by_four, spelled_long, spelled_by, spelled, short_name}
+use Rattle.yf_chars.specs.Escape.{named, number, Digits, NumericEscape, is_high, is_low, joined, NoLow, Escape, upper_digit, two_digits, is_by_two, is_by_four, spelled_long, spelled_by, spelled, short_name}
 use Rattle.yf_chars.specs.Escape.Escape.{by_letter, by_two, by_four, by_half, by_pair, by_eight}
 
 -- what has one end and one meaning is the longest
@@ -42,7 +42,7 @@ room_for_digit v k l h =
 pub digits_unique : {t : List ℕ} {i k v w : ℕ} → Digits t i k v → Digits t i k w → v ≡ w
 digits_unique a b = sym a.value ∙ b.value
 
-pub numbered_unique : {t : List ℕ} {i c k v w : ℕ} → Numbered t i c k v → Numbered t i c k w → v ≡ w
+pub numbered_unique : {t : List ℕ} {i c k v w : ℕ} → NumericEscape t i c k v → NumericEscape t i c k w → v ≡ w
 numbered_unique a b = digits_unique a.digits b.digits
 
 -- the three letters that digits follow name nothing themselves
@@ -84,10 +84,10 @@ pub joined_is : (v w : ℕ) → joined v w ≡ 0x10000 + (v - 0xD800) * 0x400 + 
 unfolding joined
 joined_is v w = refl
 
-pub no_low : {t : List ℕ} {i : ℕ} → ((v : ℕ) → Numbered t i 117 4 v → ⊥) → NoLow t i
+pub no_low : {t : List ℕ} {i : ℕ} → ((v : ℕ) → NumericEscape t i 117 4 v → ⊥) → NoLow t i
 no_low n = record { none = λ v a l. n v a }
 
-pub not_low : {t : List ℕ} {i w : ℕ} → Numbered t i 117 4 w → is_low w ≡ false → NoLow t i
+pub not_low : {t : List ℕ} {i w : ℕ} → NumericEscape t i 117 4 w → is_low w ≡ false → NoLow t i
 not_low n e = record { none = λ v a l. true≢false (sym l ∙ ap is_low (numbered_unique a n) ∙ e) }
 
 pub no_name : {c v : ℕ} (d : ℕ) → named d ≡ None → c ≡ d → named c ≡ Some v → ⊥
@@ -104,9 +104,9 @@ chosen_letter {t} {i} {v} b e = chosen_only (by_letter b e) (λ k y d. only e d)
   only e (by_pair n h m l) = absurd (no_name 117 unnamed_u n.letter e)
   only e (by_eight n) = absurd (no_name 85 unnamed_U n.letter e)
 
-pub chosen_two : {t : List ℕ} {i v : ℕ} → Numbered t i 120 2 v → Chosen (Escape t i) (i + 4) v
+pub chosen_two : {t : List ℕ} {i v : ℕ} → NumericEscape t i 120 2 v → Chosen (Escape t i) (i + 4) v
 chosen_two {t} {i} {v} n = chosen_only (by_two n) (λ k y d. only n d) where
-  only : {k y : ℕ} → Numbered t i 120 2 v → Escape t i k y → (k ≡ i + 4) × (y ≡ v)
+  only : {k y : ℕ} → NumericEscape t i 120 2 v → Escape t i k y → (k ≡ i + 4) × (y ≡ v)
   only n (by_letter a f) = absurd (no_name 120 unnamed_x n.letter f)
   only n (by_two m) = (refl, numbered_unique m n)
   only n (by_four m h) = let a = n.letter in let b = m.letter in absurd (omega arith)
@@ -114,9 +114,9 @@ chosen_two {t} {i} {v} n = chosen_only (by_two n) (λ k y d. only n d) where
   only n (by_pair m h o l) = let a = n.letter in let b = m.letter in absurd (omega arith)
   only n (by_eight m) = let a = n.letter in let b = m.letter in absurd (omega arith)
 
-pub chosen_eight : {t : List ℕ} {i v : ℕ} → Numbered t i 85 8 v → Chosen (Escape t i) (i + 10) v
+pub chosen_eight : {t : List ℕ} {i v : ℕ} → NumericEscape t i 85 8 v → Chosen (Escape t i) (i + 10) v
 chosen_eight {t} {i} {v} n = chosen_only (by_eight n) (λ k y d. only n d) where
-  only : {k y : ℕ} → Numbered t i 85 8 v → Escape t i k y → (k ≡ i + 10) × (y ≡ v)
+  only : {k y : ℕ} → NumericEscape t i 85 8 v → Escape t i k y → (k ≡ i + 10) × (y ≡ v)
   only n (by_letter a f) = absurd (no_name 85 unnamed_U n.letter f)
   only n (by_two m) = let a = n.letter in let b = m.letter in absurd (omega arith)
   only n (by_four m h) = let a = n.letter in let b = m.letter in absurd (omega arith)
@@ -124,9 +124,9 @@ chosen_eight {t} {i} {v} n = chosen_only (by_eight n) (λ k y d. only n d) where
   only n (by_pair m h o l) = let a = n.letter in let b = m.letter in absurd (omega arith)
   only n (by_eight m) = (refl, numbered_unique m n)
 
-pub chosen_four : {t : List ℕ} {i v : ℕ} → Numbered t i 117 4 v → is_high v ≡ false → Chosen (Escape t i) (i + 6) v
+pub chosen_four : {t : List ℕ} {i v : ℕ} → NumericEscape t i 117 4 v → is_high v ≡ false → Chosen (Escape t i) (i + 6) v
 chosen_four {t} {i} {v} n h = chosen_only (by_four n h) (λ k y d. only n h d) where
-  only : {k y : ℕ} → Numbered t i 117 4 v → is_high v ≡ false → Escape t i k y → (k ≡ i + 6) × (y ≡ v)
+  only : {k y : ℕ} → NumericEscape t i 117 4 v → is_high v ≡ false → Escape t i k y → (k ≡ i + 6) × (y ≡ v)
   only n h (by_letter a f) = absurd (no_name 117 unnamed_u n.letter f)
   only n h (by_two m) = let a = n.letter in let b = m.letter in absurd (omega arith)
   only n h (by_four m g) = (refl, numbered_unique m n)
@@ -134,9 +134,9 @@ chosen_four {t} {i} {v} n h = chosen_only (by_four n h) (λ k y d. only n h d) w
   only n h (by_pair m g o l) = absurd (true≢false (sym g ∙ ap is_high (numbered_unique m n) ∙ h))
   only n h (by_eight m) = let a = n.letter in let b = m.letter in absurd (omega arith)
 
-pub chosen_half : {t : List ℕ} {i v : ℕ} → Numbered t i 117 4 v → is_high v ≡ true → NoLow t (i + 6) → Chosen (Escape t i) (i + 6) v
+pub chosen_half : {t : List ℕ} {i v : ℕ} → NumericEscape t i 117 4 v → is_high v ≡ true → NoLow t (i + 6) → Chosen (Escape t i) (i + 6) v
 chosen_half {t} {i} {v} n h o = chosen_only (by_half n h o) (λ k y d. only n o d) where
-  only : {k y : ℕ} → Numbered t i 117 4 v → NoLow t (i + 6) → Escape t i k y → (k ≡ i + 6) × (y ≡ v)
+  only : {k y : ℕ} → NumericEscape t i 117 4 v → NoLow t (i + 6) → Escape t i k y → (k ≡ i + 6) × (y ≡ v)
   only n o (by_letter a f) = absurd (no_name 117 unnamed_u n.letter f)
   only n o (by_two m) = let a = n.letter in let b = m.letter in absurd (omega arith)
   only n o (by_four m g) = (refl, numbered_unique m n)
@@ -144,10 +144,10 @@ chosen_half {t} {i} {v} n h o = chosen_only (by_half n h o) (λ k y d. only n o 
   only n o (by_pair {w = w} m g p l) = absurd (o.none w p l)
   only n o (by_eight m) = let a = n.letter in let b = m.letter in absurd (omega arith)
 
-pub chosen_pair : {t : List ℕ} {i v w : ℕ} → Numbered t i 117 4 v → is_high v ≡ true → Numbered t (i + 6) 117 4 w → is_low w ≡ true
+pub chosen_pair : {t : List ℕ} {i v w : ℕ} → NumericEscape t i 117 4 v → is_high v ≡ true → NumericEscape t (i + 6) 117 4 w → is_low w ≡ true
     → Chosen (Escape t i) (i + 12) (joined v w)
 chosen_pair {t} {i} {v} {w} n h o l = chosen_only (by_pair n h o l) (λ k y d. only n h o l d) where
-  only : {k y : ℕ} → Numbered t i 117 4 v → is_high v ≡ true → Numbered t (i + 6) 117 4 w → is_low w ≡ true → Escape t i k y
+  only : {k y : ℕ} → NumericEscape t i 117 4 v → is_high v ≡ true → NumericEscape t (i + 6) 117 4 w → is_low w ≡ true → Escape t i k y
       → (k ≡ i + 12) × (y ≡ joined v w)
   only n h o l (by_letter a f) = absurd (no_name 117 unnamed_u n.letter f)
   only n h o l (by_two m) = let a = n.letter in let b = m.letter in absurd (omega arith)
@@ -157,11 +157,11 @@ chosen_pair {t} {i} {v} {w} n h o l = chosen_only (by_pair n h o l) (λ k y d. o
   only n h o l (by_eight m) = let a = n.letter in let b = m.letter in absurd (omega arith)
 
 -- none at all
-pub no_escape : {t : List ℕ} {i : ℕ} → ((v : ℕ) → Numbered t i 117 4 v → ⊥) → ((v : ℕ) → Numbered t i 120 2 v → ⊥)
-    → ((v : ℕ) → Numbered t i 85 8 v → ⊥) → ((v : ℕ) → code t i ≡ 92 → named (code t (i + 1)) ≡ Some v → ⊥) → Stuck (Escape t i)
+pub no_escape : {t : List ℕ} {i : ℕ} → ((v : ℕ) → NumericEscape t i 117 4 v → ⊥) → ((v : ℕ) → NumericEscape t i 120 2 v → ⊥)
+    → ((v : ℕ) → NumericEscape t i 85 8 v → ⊥) → ((v : ℕ) → code t i ≡ 92 → named (code t (i + 1)) ≡ Some v → ⊥) → Stuck (Escape t i)
 no_escape {t} {i} u x e l = record { none = λ j v d. none u x e l d } where
-  none : {j v : ℕ} → ((v : ℕ) → Numbered t i 117 4 v → ⊥) → ((v : ℕ) → Numbered t i 120 2 v → ⊥)
-      → ((v : ℕ) → Numbered t i 85 8 v → ⊥) → ((v : ℕ) → code t i ≡ 92 → named (code t (i + 1)) ≡ Some v → ⊥) → Escape t i j v → ⊥
+  none : {j v : ℕ} → ((v : ℕ) → NumericEscape t i 117 4 v → ⊥) → ((v : ℕ) → NumericEscape t i 120 2 v → ⊥)
+      → ((v : ℕ) → NumericEscape t i 85 8 v → ⊥) → ((v : ℕ) → code t i ≡ 92 → named (code t (i + 1)) ≡ Some v → ⊥) → Escape t i j v → ⊥
   none u x e l (by_letter {v = v} b f) = l v b f
   none u x e l (by_two {v = v} n) = x v n
   none u x e l (by_four {v = v} n h) = u v n
@@ -256,7 +256,7 @@ escape_unique {t} {i} {j} {k} {v} {w} a b =
     let same : j ≡ k = omega arith in
     (same, (escape_chosen b).only v (subst (λ m. Escape t i m v) same a))
 
--- it begins with a backslash, moves on, and no line break stands after the backslash
+-- it begins with a backslash, moves on, and no line break is after the backslash
 pub escape_backslash : {t : List ℕ} {i j v : ℕ} → Escape t i j v → code t i ≡ 92
 escape_backslash (by_letter b e) = b
 escape_backslash (by_two n) = n.backslash
@@ -281,7 +281,7 @@ unnamed_cr : named 13 ≡ None
 unfolding named
 unnamed_cr = refl
 
-no_break_letter : {t : List ℕ} {i d k v : ℕ} → Numbered t i d k v → d ≢ 10 → d ≢ 13 → (code t (i + 1) ≡ 13) ⊎ (code t (i + 1) ≡ 10) → ⊥
+no_break_letter : {t : List ℕ} {i d k v : ℕ} → NumericEscape t i d k v → d ≢ 10 → d ≢ 13 → (code t (i + 1) ≡ 13) ⊎ (code t (i + 1) ≡ 10) → ⊥
 no_break_letter n a b o = ⊎_elim (λ e. b (sym n.letter ∙ e)) (λ e. a (sym n.letter ∙ e)) o
 
 pub escape_no_break : {t : List ℕ} {i j v : ℕ} → Escape t i j v → (code t (i + 1) ≡ 13) ⊎ (code t (i + 1) ≡ 10) → ⊥
@@ -312,7 +312,7 @@ unnamed_dot : named 46 ≡ None
 unfolding named
 unnamed_dot = refl
 
-numbered_no_sign : {t : List ℕ} {i c k v : ℕ} → Numbered t i c k v → c ≢ 45 → c ≢ 46 → NoSign t i (i + 2 + k)
+numbered_no_sign : {t : List ℕ} {i c k v : ℕ} → NumericEscape t i c k v → c ≢ 45 → c ≢ 46 → NoSign t i (i + 2 + k)
 numbered_no_sign {t} {i} {c} {k} n a b = record {
   none = λ m l h. ⊎_elim
       (λ (e : m < i + 2). two m l e)

@@ -4,7 +4,7 @@ use Rattle.std.proofs.lemmas.List.{length-map}
 use Rattle.std.proofs.lemmas.Simd.{length-chunk, get_or-chunk, bitmask_splat, none_from_empty_mask, tops_compared, zip2_splat_left, mask_l-mod}
 use lib.Lanes.{chunk, mask_l, zip2, top}
 
--- the mask, as the code makes it, with the byte behind and with the byte first
+-- the mask, as the code makes it, with the byte after and with the byte first
 abbrev pub mask_of : (ℕ → ℕ → Bool) → List ℕ → ℕ → ℕ → ℕ → ℕ
 mask_of t d i n y = mask_l (map (top 7) (zip2 (λ a b. cond (t a b) 255 0) (chunk i n d) (replicate n y))) % 2 ^ 64
 

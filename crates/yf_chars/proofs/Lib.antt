@@ -1,6 +1,6 @@
 -- The lemmas, each group under the function or the theorem that it serves.
 
--- characters at offsets: `peek` and `stands`, and each reader above
+-- characters at offsets: `peek` and `is_there`, and each reader above
 pub mod TextLemmas
 pub mod CharBounds
 pub mod BreakChars

@@ -7,51 +7,51 @@ use lib.Utf8.{encode, scalar_cases}
 use Rattle.std.proofs.lemmas.Str.{encode_ascii, len_utf8_ascii, length-encode, len_utf8_bounds, drop_past_char}
 use Rattle.std.specs.Char.{digit_value, len_utf8, IsScalar}
 use Rattle.std.specs.Str.{IsUtf8, IsCharBoundary}
-use Rattle.yf_chars.specs.Text.{code, Reads}
+use Rattle.yf_chars.specs.Text.{code, CharAt}
 use Rattle.yf_chars.specs.Class.{is_between, is_printable, is_break_char, is_nb_char}
 use Rattle.yf_chars.specs.Escape.{named, Digits, is_high, upper_digit, two_digits, is_by_two, is_by_four, spelled, short_name}
 use Rattle.yf_chars.specs.Escape.Escape.{by_letter, by_two, by_four}
-use Rattle.yf_chars.specs.Spelled.{Holds, ReadsBack}
-use Rattle.yf_chars.specs.Spelled.Holds.{as_escape, as_itself}
+use Rattle.yf_chars.specs.Spelled.{SpellsChar, ReadsBack}
+use Rattle.yf_chars.specs.Spelled.SpellsChar.{as_escape, as_itself}
 use Rattle.yf_chars.proofs.TextLemmas.{reads_char}
 use Rattle.yf_chars.proofs.EscapeLemmas.{no_digits, more_digits, upper_below, by_two_below, by_four_below, spelled_none, two_spelled, four_spelled, self_spelled, letter_spelled}
 
 -- the bytes from a place on
-pub record Stands (t : List ℕ) (q : ℕ) (r : List ℕ) : Type 0 where
+pub record IsAt (t : List ℕ) (q : ℕ) (r : List ℕ) : Type 0 where
   pub bytes : drop q t ≡ r
   pub boundary : IsCharBoundary t q
 
-stands_within : {t : List ℕ} {q : ℕ} (c : ℕ) (r : List ℕ) → Stands t q (encode c ++ r) → q < length t
-stands_within {t} {q} c r s =
+is_at_within : {t : List ℕ} {q : ℕ} (c : ℕ) (r : List ℕ) → IsAt t q (encode c ++ r) → q < length t
+is_at_within {t} {q} c r s =
     let long : length (drop q t) ≡ length (encode c ++ r) = ap length s.bytes in
     omega (arith, length-drop q t, length-append (encode c) r, length-encode c, len_utf8_bounds c)
 
-pub stands_char : {t : List ℕ} {q : ℕ} {r : List ℕ} (c : ℕ) → IsUtf8 t → Stands t q (encode c ++ r) → Reads t q c (q + len_utf8 c) × Stands t (q + len_utf8 c) r
-stands_char {t} {q} {r} c u s =
-    let read = reads_char t q c r u s.boundary (stands_within c r s) s.bytes in
+pub is_at_char : {t : List ℕ} {q : ℕ} {r : List ℕ} (c : ℕ) → IsUtf8 t → IsAt t q (encode c ++ r) → CharAt t q c (q + len_utf8 c) × IsAt t (q + len_utf8 c) r
+is_at_char {t} {q} {r} c u s =
+    let read = reads_char t q c r u s.boundary (is_at_within c r s) s.bytes in
     (read, record { bytes = drop_past_char t r q c s.bytes; boundary = read.boundary })
 
-pub stands_ascii : {t : List ℕ} {q : ℕ} {r : List ℕ} (c : ℕ) → IsUtf8 t → c < 128 → Stands t q (c ∷ r) → Reads t q c (q + 1) × Stands t (q + 1) r
-stands_ascii {t} {q} {r} c u l s =
+pub is_at_ascii : {t : List ℕ} {q : ℕ} {r : List ℕ} (c : ℕ) → IsUtf8 t → c < 128 → IsAt t q (c ∷ r) → CharAt t q c (q + 1) × IsAt t (q + 1) r
+is_at_ascii {t} {q} {r} c u l s =
     let wide : c ∷ r ≡ encode c ++ r = ap (λ w. w ++ r) (sym (encode_ascii c l)) in
-    let got = stands_char c u (subst (λ w. Stands t q w) wide s) in
+    let got = is_at_char c u (subst (λ w. IsAt t q w) wide s) in
     let one_long : len_utf8 c ≡ 1 = len_utf8_ascii c l in
-    (subst (λ w. Reads t q c (q + w)) one_long got.0, subst (λ w. Stands t (q + w) r) one_long got.1)
+    (subst (λ w. CharAt t q c (q + w)) one_long got.0, subst (λ w. IsAt t (q + w) r) one_long got.1)
 
 -- digits
 upper_value : (d : ℕ) → d < 16 → digit_value (upper_digit d) ≡ d
 unfolding upper_digit
 upper_value d l = grind (arith, nat_tests)
 
-next_digit : {t : List ℕ} {i k v q : ℕ} {r : List ℕ} (d : ℕ) → IsUtf8 t → d < 16 → i + k ≡ q → Digits t i k v → Stands t q (upper_digit d ∷ r)
-    → Digits t i (k + 1) (v * 16 + d) × Stands t (q + 1) r
+next_digit : {t : List ℕ} {i k v q : ℕ} {r : List ℕ} (d : ℕ) → IsUtf8 t → d < 16 → i + k ≡ q → Digits t i k v → IsAt t q (upper_digit d ∷ r)
+    → Digits t i (k + 1) (v * 16 + d) × IsAt t (q + 1) r
 next_digit {t} {i} {k} {v} {q} {r} d u l e s p =
-    let got = stands_ascii (upper_digit d) u (upper_below d l) p in
+    let got = is_at_ascii (upper_digit d) u (upper_below d l) p in
     let here : code t (i + k) ≡ upper_digit d = ap (code t) e ∙ got.0.char in
     (more_digits s (ap digit_value here ∙ upper_value d l) l, got.1)
 
-next_two : {t : List ℕ} {i k v q : ℕ} {r : List ℕ} (w : ℕ) → IsUtf8 t → w < 256 → i + k ≡ q → Digits t i k v → Stands t q (two_digits w ++ r)
-    → Digits t i (k + 2) (v * 256 + w) × Stands t (q + 2) r
+next_two : {t : List ℕ} {i k v q : ℕ} {r : List ℕ} (w : ℕ) → IsUtf8 t → w < 256 → i + k ≡ q → Digits t i k v → IsAt t q (two_digits w ++ r)
+    → Digits t i (k + 2) (v * 256 + w) × IsAt t (q + 2) r
 unfolding two_digits
 next_two {t} {i} {k} {v} {q} {r} w u l e s p =
     let a = next_digit (w / 16) u (omega arith) e s p in
@@ -60,7 +60,7 @@ next_two {t} {i} {k} {v} {q} {r} w u l e s p =
     let count : k + 1 + 1 ≡ k + 2 = omega arith in
     let place : q + 1 + 1 ≡ q + 2 = omega arith in
     let d : Digits t i (k + 2) ((v * 16 + w / 16) * 16 + w % 16) = subst (λ m. Digits t i m ((v * 16 + w / 16) * 16 + w % 16)) count b.0 in
-    (subst (λ m. Digits t i (k + 2) m) sum d, subst (λ m. Stands t m r) place b.1)
+    (subst (λ m. Digits t i (k + 2) m) sum d, subst (λ m. IsAt t m r) place b.1)
 
 -- the kinds of spelling
 name_letter : (c l : ℕ) → short_name c ≡ Some l → (named l ≡ Some c) × (l < 128)
@@ -69,20 +69,20 @@ name_letter c l e = grind (arith, nat_tests)
 
 back_letter : (c l : ℕ) → short_name c ≡ Some l → ReadsBack (92 ∷ l ∷ []) c
 back_letter c l e = record { holds = holds } where
-  holds : (t : List ℕ) (i : ℕ) (rest : List ℕ) → IsUtf8 t → IsCharBoundary t i → drop i t ≡ 92 ∷ l ∷ rest → Holds t c i (i + 2)
+  holds : (t : List ℕ) (i : ℕ) (rest : List ℕ) → IsUtf8 t → IsCharBoundary t i → drop i t ≡ 92 ∷ l ∷ rest → SpellsChar t c i (i + 2)
   holds t i rest u b d =
       let n = name_letter c l e in
-      let first = stands_ascii 92 u (omega arith) (record { bytes = d; boundary = b }) in
-      let second = stands_ascii l u n.1 first.1 in
+      let first = is_at_ascii 92 u (omega arith) (record { bytes = d; boundary = b }) in
+      let second = is_at_ascii l u n.1 first.1 in
       as_escape (by_letter first.0.char (ap named second.0.char ∙ n.0))
 
 back_two : (c : ℕ) → c < 256 → ReadsBack (92 ∷ 120 ∷ two_digits c) c
 unfolding two_digits
 back_two c l = record { holds = holds } where
-  holds : (t : List ℕ) (i : ℕ) (rest : List ℕ) → IsUtf8 t → IsCharBoundary t i → drop i t ≡ 92 ∷ 120 ∷ (two_digits c ++ rest) → Holds t c i (i + 4)
+  holds : (t : List ℕ) (i : ℕ) (rest : List ℕ) → IsUtf8 t → IsCharBoundary t i → drop i t ≡ 92 ∷ 120 ∷ (two_digits c ++ rest) → SpellsChar t c i (i + 4)
   holds t i rest u b d =
-      let first = stands_ascii 92 u (omega arith) (record { bytes = d; boundary = b }) in
-      let second = stands_ascii 120 u (omega arith) first.1 in
+      let first = is_at_ascii 92 u (omega arith) (record { bytes = d; boundary = b }) in
+      let second = is_at_ascii 120 u (omega arith) first.1 in
       let place : (i + 2) + 0 ≡ i + 1 + 1 = omega arith in
       let digits = next_two c u l place (no_digits t (i + 2)) second.1 in
       let sum : 0 * 256 + c ≡ c = omega arith in
@@ -95,11 +95,11 @@ four_high c e = grind (arith, nat_tests)
 back_four : (c : ℕ) → is_by_four c ≡ true → ReadsBack (92 ∷ 117 ∷ two_digits (c / 256) ++ two_digits (c % 256)) c
 unfolding two_digits
 back_four c f = record { holds = holds } where
-  holds : (t : List ℕ) (i : ℕ) (rest : List ℕ) → IsUtf8 t → IsCharBoundary t i → drop i t ≡ 92 ∷ 117 ∷ (two_digits (c / 256) ++ (two_digits (c % 256) ++ rest)) → Holds t c i (i + 6)
+  holds : (t : List ℕ) (i : ℕ) (rest : List ℕ) → IsUtf8 t → IsCharBoundary t i → drop i t ≡ 92 ∷ 117 ∷ (two_digits (c / 256) ++ (two_digits (c % 256) ++ rest)) → SpellsChar t c i (i + 6)
   holds t i rest u b d =
       let l = by_four_below c f in
-      let first = stands_ascii 92 u (omega arith) (record { bytes = d; boundary = b }) in
-      let second = stands_ascii 117 u (omega arith) first.1 in
+      let first = is_at_ascii 92 u (omega arith) (record { bytes = d; boundary = b }) in
+      let second = is_at_ascii 117 u (omega arith) first.1 in
       let place : (i + 2) + 0 ≡ i + 1 + 1 = omega arith in
       let high = next_two (c / 256) u (omega arith) place (no_digits t (i + 2)) second.1 in
       let low = next_two (c % 256) u (omega arith) (omega arith) high.0 high.1 in
@@ -124,11 +124,11 @@ never e = cc
 back_itself : (c : ℕ) → IsScalar c → short_name c ≡ None → is_by_two c ≡ false → is_by_four c ≡ false → ReadsBack (encode c) c
 back_itself c s n e f = record {
   holds = λ t i rest u b d.
-      let read = stands_char c u (record { bytes = d; boundary = b }) in
+      let read = is_at_char c u (record { bytes = d; boundary = b }) in
       let nb : is_nb_char c ≡ true = ⊎_elim (λ (h : c < 55296). plain_char c (omega arith) (inl h) n e f)
       (λ (h : (57344 ≤ c) × (c < 1114112)). plain_char c h.1 (inr h.0) n e f) (scalar_cases c s) in
       let end : i + len_utf8 c ≡ i + length (encode c) = omega (arith, length-encode c) in
-      as_itself (subst (λ j. Reads t i c j) end read.0) nb
+      as_itself (subst (λ j. CharAt t i c j) end read.0) nb
       (λ q. never (sym n ∙ ap short_name q ∙ short_quote)) (λ q. never (sym n ∙ ap short_name q ∙ short_backslash));
 }
 

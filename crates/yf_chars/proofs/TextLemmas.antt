@@ -9,7 +9,7 @@ use Rattle.std.specs.Char.{len_utf8, IsScalar}
 use Rattle.std.specs.Str.{chars, chars_after, IsCharBoundary, IsUtf8}
 use Rattle.std.proofs.lemmas.Bool.{eq-eqb, ne_eqb, cases_eq, lt-ltb, le-ltb, le-leb, ltb-true, leb-true, lt-leb, cases_lt, cases_Bool, and_parts}
 use lib.Utf8.{scalars, scalar, encodes, encode, scalar_cases}
-use Rattle.yf_chars.specs.Text.{no_char, first_or_none, last_or, begins, code, next, before, Reads}
+use Rattle.yf_chars.specs.Text.{no_char, first_or_none, last_or, begins, code, next, before, CharAt}
 
 last_or-snoc : (d c : ℕ) (cs : List ℕ) → last_or d (cs ++ (c ∷ [])) ≡ c
 last_or-snoc d c [] = refl
@@ -42,8 +42,8 @@ take-encode c rest = rw (← length-encode c) (take-append_seam (encode c) rest)
 chars-encode : (c : ℕ) → IsScalar c → chars (encode c) ≡ c ∷ []
 chars-encode c s = S.chars_past_char (encode c) [] c (S.IsUtf8-encode c s) (sym (append-nil (encode c))) ∙ ap (λ w. c ∷ w) S.chars-nil
 
--- a character that stands first in the rest of a text stands there in the text
-pub reads_char : (t : List ℕ) (i c : ℕ) (rest : List ℕ) → IsUtf8 t → IsCharBoundary t i → i < length t → drop i t ≡ encode c ++ rest → Reads t i c (i + len_utf8 c)
+-- a character that is first in the rest of a text is there in the text
+pub reads_char : (t : List ℕ) (i c : ℕ) (rest : List ℕ) → IsUtf8 t → IsCharBoundary t i → i < length t → drop i t ≡ encode c ++ rest → CharAt t i c (i + len_utf8 c)
 unfolding next before
 reads_char t i c rest u b l e =
     let u' : IsUtf8 (drop i t) = S.IsUtf8-drop t i u b in
@@ -66,13 +66,13 @@ reads_char t i c rest u b l e =
     }
 
 -- the same for a byte below 128, which is its own character
-pub reads_ascii : (t : List ℕ) (i : ℕ) → IsUtf8 t → i < length t → get_or t i 0 < 128 → Reads t i (get_or t i 0) (i + 1)
+pub reads_ascii : (t : List ℕ) (i : ℕ) → IsUtf8 t → i < length t → get_or t i 0 < 128 → CharAt t i (get_or t i 0) (i + 1)
 reads_ascii t i u l a =
     let c = get_or t i 0 in
     let e : drop i t ≡ encode c ++ drop (i + 1) t =
     rw (add-one, S.encode_ascii c a) (drop-cons t i 0 l) in
     let r = reads_char t i c (drop (i + 1) t) u (S.IsCharBoundary-before_ascii t i l a) l e in
-    subst (λ k. Reads t i c (i + k)) (S.len_utf8_ascii c a) r
+    subst (λ k. CharAt t i c (i + k)) (S.len_utf8_ascii c a) r
 
 -- no character begins at the end
 pub code-end : (t : List ℕ) → code t (length t) ≡ no_char
@@ -102,19 +102,19 @@ first_of : (t : List ℕ) (i : ℕ) (cs : List ℕ) → i < length t → encodes
 first_of t i [] l e = let same : length (drop i t) ≡ 0 = ap length (sym e) in absurd (omega (arith, length-drop i t))
 first_of t i (c ∷ cs) l e = (c, cs, sym e)
 
--- in a text, the character that begins at an offset stands there
-pub reads_there : (t : List ℕ) (i : ℕ) → IsUtf8 t → begins t i ≡ true → Reads t i (code t i) (next t i)
+-- in a text, the character that begins at an offset is there
+pub reads_there : (t : List ℕ) (i : ℕ) → IsUtf8 t → begins t i ≡ true → CharAt t i (code t i) (next t i)
 reads_there t i u h =
     let b : IsCharBoundary t i = boundary_from_begins t i h in
     let l : i < length t = within_from_begins t i h in
     let u' : IsUtf8 (drop i t) = S.IsUtf8-drop t i u b in
     let cut = first_of t i u'.0 l u'.1.1 in
-    let r : Reads t i cut.0 (i + len_utf8 cut.0) = reads_char t i cut.0 (encodes cut.1) u b l cut.2 in
-    let q : Reads t i cut.0 (next t i) = subst (λ j. Reads t i cut.0 j) (sym r.end) r in
-    subst (λ c. Reads t i c (next t i)) (sym r.char) q
+    let r : CharAt t i cut.0 (i + len_utf8 cut.0) = reads_char t i cut.0 (encodes cut.1) u b l cut.2 in
+    let q : CharAt t i cut.0 (next t i) = subst (λ j. CharAt t i cut.0 j) (sym r.end) r in
+    subst (λ c. CharAt t i c (next t i)) (sym r.char) q
 
 -- the same where the code is known to be a character's, as in a class
-pub reads_real : (t : List ℕ) (i : ℕ) → IsUtf8 t → code t i < no_char → Reads t i (code t i) (next t i)
+pub reads_real : (t : List ℕ) (i : ℕ) → IsUtf8 t → code t i < no_char → CharAt t i (code t i) (next t i)
 reads_real t i u h =
     ⊎_elim (λ (e : begins t i ≡ true). reads_there t i u e)
     (λ (e : begins t i ≡ false). let same : code t i ≡ no_char = code-nowhere t i e in absurd (omega arith))
@@ -130,12 +130,12 @@ pub next_later : (t : List ℕ) (i : ℕ) → i < next t i
 unfolding next
 next_later t i = omega (arith, len_utf8_bounds (code t i))
 
--- a byte below 128 that stands at the offset, in and out of the text's bytes
-pub reads_byte : (t : List ℕ) (i b : ℕ) → IsUtf8 t → code t i ≡ b → b < 128 → Reads t i b (i + 1)
+-- a byte below 128 that is at the offset, in and out of the text's bytes
+pub reads_byte : (t : List ℕ) (i b : ℕ) → IsUtf8 t → code t i ≡ b → b < 128 → CharAt t i b (i + 1)
 reads_byte t i b u e l =
-    let r : Reads t i (code t i) (next t i) = reads_real t i u (rw e (omega arith)) in
-    let q : Reads t i (code t i) (i + 1) = subst (λ j. Reads t i (code t i) j) (next_ascii t i (rw e l)) r in
-    subst (λ c. Reads t i c (i + 1)) e q
+    let r : CharAt t i (code t i) (next t i) = reads_real t i u (rw e (omega arith)) in
+    let q : CharAt t i (code t i) (i + 1) = subst (λ j. CharAt t i (code t i) j) (next_ascii t i (rw e l)) r in
+    subst (λ c. CharAt t i c (i + 1)) e q
 
 pub code_from_byte : (t : List ℕ) (i : ℕ) → IsUtf8 t → i < length t → get_or t i 0 < 128 → code t i ≡ get_or t i 0
 code_from_byte t i u l a = (reads_ascii t i u l a).char
@@ -147,7 +147,7 @@ byte_from_code t i u h =
     let l : i < length t = within_from_begins t i e in
     let u' : IsUtf8 (drop i t) = S.IsUtf8-drop t i u b in
     let cut = first_of t i u'.0 l u'.1.1 in
-    let r : Reads t i cut.0 (i + len_utf8 cut.0) = reads_char t i cut.0 (encodes cut.1) u b l cut.2 in
+    let r : CharAt t i cut.0 (i + len_utf8 cut.0) = reads_char t i cut.0 (encodes cut.1) u b l cut.2 in
     let small : cut.0 < 128 = rw (sym r.char) h in
     let first : get_or (drop i t) 0 0 ≡ cut.0 = S.byte_from_char (drop i t) (encodes cut.1) cut.0 cut.2 small in
     (l, ap (λ k. get_or t k 0) (sym (add-zero i)) ∙ sym (get_or-drop i t 0 0) ∙ first ∙ sym r.char))
@@ -166,7 +166,7 @@ within_from_code t i h =
     (λ (l : length t ≤ i). let same : code t i ≡ no_char = code-past t i l in absurd (omega arith))
     (cases_lt i (length t))
 
--- a byte below 128 stands among the bytes just where its character begins
+-- a byte below 128 is among the bytes just where its character begins
 pub byte_test : (t : List ℕ) (i b : ℕ) → IsUtf8 t → b < 128 → i < length t → eqb (get_or t i 0) b ≡ eqb (code t i) b
 byte_test t i b u low l =
     ⊎_elim (λ (a : get_or t i 0 < 128). ap (λ w. eqb w b) (sym (code_from_byte t i u l a)))
@@ -179,7 +179,7 @@ pub byte_test_past : (t : List ℕ) (i b : ℕ) → b < 128 → length t ≤ i �
 byte_test_past t i b low l = ne_eqb (code t i) b (λ e. let past = code-past t i l in omega arith)
 
 -- what a test for a byte tells
-pub match_byte : (t : List ℕ) (i b : ℕ) → IsUtf8 t → b < 128 → MatchBool (eqb (code t i) b) (Reads t i b (i + 1)) (code t i ≢ b)
+pub match_byte : (t : List ℕ) (i b : ℕ) → IsUtf8 t → b < 128 → MatchBool (eqb (code t i) b) (CharAt t i b (i + 1)) (code t i ≢ b)
 match_byte t i b u low =
     ⊎_elim (λ (e : code t i ≡ b). rw (eq-eqb (code t i) b e) (reads_byte t i b u e low))
     (λ (n : code t i ≢ b). rw (ne_eqb (code t i) b n) n)
@@ -225,14 +225,14 @@ mark_from_bytes t i l e f g =
     ∙ ap (λ v. first_or_none (chars v)) (three_bytes t i 239 187 191 l e f g)
     ∙ chars-mark (drop (suc (suc (suc i))) t)
 
--- the bytes of a character that stands at an offset
+-- the bytes of a character that is at an offset
 pub drop_there : (t : List ℕ) (i : ℕ) → IsUtf8 t → begins t i ≡ true → (rest : List ℕ) × (drop i t ≡ encode (code t i) ++ rest)
 drop_there t i u h =
     let b : IsCharBoundary t i = boundary_from_begins t i h in
     let l : i < length t = within_from_begins t i h in
     let u' : IsUtf8 (drop i t) = S.IsUtf8-drop t i u b in
     let cut = first_of t i u'.0 l u'.1.1 in
-    let r : Reads t i cut.0 (i + len_utf8 cut.0) = reads_char t i cut.0 (encodes cut.1) u b l cut.2 in
+    let r : CharAt t i cut.0 (i + len_utf8 cut.0) = reads_char t i cut.0 (encodes cut.1) u b l cut.2 in
     (encodes cut.1, cut.2 ∙ ap (λ c. encode c ++ encodes cut.1) (sym r.char))
 
 encode-mark : encode 0xFEFF ≡ 239 ∷ 187 ∷ 191 ∷ []
@@ -266,7 +266,7 @@ pub next-mark : (t : List ℕ) (i : ℕ) → code t i ≡ 0xFEFF → next t i �
 unfolding next
 next-mark t i e = ap (λ c. i + len_utf8 c) e
 
--- at a boundary before the end a character stands, and at the end none
+-- at a boundary before the end a character is, and at the end none
 pub code_at_boundary : (t : List ℕ) (i : ℕ) → IsUtf8 t → IsCharBoundary t i → i < length t → code t i < no_char
 code_at_boundary t i u b l = (reads_there t i u (begins_from_boundary t i b l)).below
 

@@ -38,7 +38,7 @@ pub record Digits (t : List ℕ) (i k v : ℕ) : Type 0 where
   pub value : number t i k ≡ v
 
 -- a backslash, the letter c and k hexadecimal digits, which write v
-pub record Numbered (t : List ℕ) (i c k v : ℕ) : Type 0 where
+pub record NumericEscape (t : List ℕ) (i c k v : ℕ) : Type 0 where
   pub backslash : code t i ≡ BACKSLASH
   pub letter : code t (i + 1) ≡ c
   pub digits : Digits t (i + 2) k v
@@ -53,20 +53,20 @@ is_low v = is_between 0xDC00 0xDFFF v
 unfoldable pub joined : ℕ → ℕ → ℕ
 joined high low = 0x10000 + (high - 0xD800) * 0x400 + (low - 0xDC00)
 
--- no low half by \u stands at i
+-- no low half by \u is at i
 pub record NoLow (t : List ℕ) (i : ℕ) : Type 0 where
-  pub none : (v : ℕ) → Numbered t i 117 4 v → is_low v ≡ true → ⊥
+  pub none : (v : ℕ) → NumericEscape t i 117 4 v → is_low v ≡ true → ⊥
 
 -- c-ns-esc-char: the escape from i to j stands for the number v. A high half by \u and a low half by \u directly after
 -- it are one escape.
 pub data Escape (t : List ℕ) : ℕ → ℕ → ℕ → Type 0 where
   by_letter : {i v : ℕ} → code t i ≡ BACKSLASH → named (code t (i + 1)) ≡ Some v → Escape t i (i + 2) v
-  by_two : {i v : ℕ} → Numbered t i 120 2 v → Escape t i (i + 4) v
-  by_four : {i v : ℕ} → Numbered t i 117 4 v → is_high v ≡ false → Escape t i (i + 6) v
-  by_half : {i v : ℕ} → Numbered t i 117 4 v → is_high v ≡ true → NoLow t (i + 6) → Escape t i (i + 6) v
-  by_pair : {i v w : ℕ} → Numbered t i 117 4 v → is_high v ≡ true → Numbered t (i + 6) 117 4 w → is_low w ≡ true
+  by_two : {i v : ℕ} → NumericEscape t i 120 2 v → Escape t i (i + 4) v
+  by_four : {i v : ℕ} → NumericEscape t i 117 4 v → is_high v ≡ false → Escape t i (i + 6) v
+  by_half : {i v : ℕ} → NumericEscape t i 117 4 v → is_high v ≡ true → NoLow t (i + 6) → Escape t i (i + 6) v
+  by_pair : {i v w : ℕ} → NumericEscape t i 117 4 v → is_high v ≡ true → NumericEscape t (i + 6) 117 4 w → is_low w ≡ true
       → Escape t i (i + 12) (joined v w)
-  by_eight : {i v : ℕ} → Numbered t i 85 8 v → Escape t i (i + 10) v
+  by_eight : {i v : ℕ} → NumericEscape t i 85 8 v → Escape t i (i + 10) v
 
 -- the digit in upper case
 unfoldable pub upper_digit : ℕ → ℕ

@@ -1,4 +1,4 @@
--- A text is the list of its bytes, and a place in it is a byte offset. The words below hide UTF-8 from all that stands
+-- A text is the list of its bytes, and a place in it is a byte offset. The words below hide UTF-8 from all that is
 -- above: the character that begins at an offset, the offset after it, and the character that ends at an offset.
 use Rattle.std.specs.Prelude.{◌≡◌, ℕ, ◌+◌, ◌<◌, ◌≤◌, Bool, List, [], ◌∷◌, ◌++◌, ◌&&◌, ◌||◌, nat_lt, nat_le, length, take, drop, slice_index, if◌then◌else◌, encode_utf8}
 use Rattle.std.specs.Char.{len_utf8}
@@ -16,7 +16,7 @@ abbrev pub last_or : ℕ → List ℕ → ℕ
 last_or d [] = d
 last_or d (c ∷ cs) = last_or c cs
 
--- whether a character begins at the offset: a byte stands there that continues no character
+-- whether a character begins at the offset: a byte is there that continues no character
 unfoldable pub begins : List ℕ → ℕ → Bool
 begins t i = nat_lt i (length t) && (nat_lt (slice_index t i) 128 || nat_le 192 (slice_index t i))
 
@@ -32,8 +32,8 @@ next t i = i + len_utf8 (code t i)
 unfoldable pub before : List ℕ → ℕ → ℕ
 before t i = last_or no_char (chars (take i t))
 
--- the character c stands from i to j
-pub record Reads (t : List ℕ) (i c j : ℕ) : Type 0 where
+-- the character c is from i to j
+pub record CharAt (t : List ℕ) (i c j : ℕ) : Type 0 where
   pub char : code t i ≡ c
   pub end : next t i ≡ j
   pub back : before t j ≡ c

@@ -174,7 +174,7 @@ pub fn is_anchor_char(c: char) -> bool
     }
 }
 
-/// A character that may stand in a plain scalar in that context (ns-plain-safe(c), productions 127 to 129).
+/// A character that may be in a plain scalar in that context (ns-plain-safe(c), productions 127 to 129).
 ///
 /// In the two block contexts there is none, since plain scalars are read in flow and key contexts alone.
 #[tactic(auto, unfolding(crate::specs::Class::is_plain_safe))]

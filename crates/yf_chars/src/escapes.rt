@@ -9,9 +9,9 @@ ghost use Rattle.yf_chars.specs.Spelled.{ReadsBack};
 
 use crate::common::all_common;
 use crate::error::NoMemory;
-use crate::text::{peek, stands};
+use crate::text::{is_char_at, peek};
 
-/// An escape that stands in a text: the number that it writes, and the byte offset after it.
+/// An escape that is in a text: the number that it writes, and the byte offset after it.
 ///
 /// The number need not be a character: half of a pair and numbers above U+10FFFF are given as they are.
 #[derive(Clone, Copy, PartialEq, Eq)]
@@ -22,7 +22,7 @@ pub struct Escape {
 
 /// Reads the escape (c-ns-esc-char, production 62) that begins with the backslash at the byte offset.
 ///
-/// `None` where no escape stands there. `\u` with a high surrogate and `\u` with a low one directly after it are one
+/// `None` where no escape is there. `\u` with a high surrogate and `\u` with a low one directly after it are one
 /// escape, for the one character that the pair encodes in UTF-16.
 pub fn read_escape(s: &str, at: usize) -> Option<Escape>
     ensures reads { MatchOption result (Stuck (Escapes.Escape s.now at)) (λ e. Chosen (Escapes.Escape s.now at) e.end e.value) }
@@ -43,7 +43,7 @@ pub fn read_escape(s: &str, at: usize) -> Option<Escape>
         }),
         None => {}
     }
-    if !stands(s, at, b'\\') {
+    if !is_char_at(s, at, b'\\') {
         return None;
     }
     match peek(s, at + 1) {
@@ -55,10 +55,10 @@ pub fn read_escape(s: &str, at: usize) -> Option<Escape>
     }
 }
 
-// The escape that begins with that number by \u: with the low half of a pair that may stand after it.
+// The escape that begins with that number by \u: with the low half of a pair that may be after it.
 fn paired(s: &str, at: usize, value: u32) -> Escape
-    requires number { Escapes.Numbered s.now at 117 4 value }
-    requires behind { IsCharBoundary s.now (at + 6) }
+    requires number { Escapes.NumericEscape s.now at 117 4 value }
+    requires follows { IsCharBoundary s.now (at + 6) }
     ensures reads { Chosen (Escapes.Escape s.now at) result.end result.value }
     ensures boundary { IsCharBoundary s.now result.end }
 {
@@ -127,14 +127,14 @@ fn named(letter: char) -> Option<u32>
 fn numbered(s: &str, at: usize, letter: u8, count: usize) -> Option<u32>
     requires ascii { letter < 128 }
     requires few { count ≤ 8 }
-    ensures reads { MatchOption result ((v : ℕ) → Escapes.Numbered s.now at letter count v → ⊥)
-        (λ v. Escapes.Numbered s.now at letter count v) }
+    ensures reads { MatchOption result ((v : ℕ) → Escapes.NumericEscape s.now at letter count v → ⊥)
+        (λ v. Escapes.NumericEscape s.now at letter count v) }
     ensures end { OnSome result (IsCharBoundary s.now (at + 2 + count)) }
 {
-    if !stands(s, at, b'\\') {
+    if !is_char_at(s, at, b'\\') {
         return None;
     }
-    if !stands(s, at + 1, letter) {
+    if !is_char_at(s, at + 1, letter) {
         return None;
     }
     digits(s, at + 2, count)
@@ -163,7 +163,7 @@ fn digits(s: &str, at: usize, count: usize) -> Option<u32>
 /// Appends a character as it is spelled in double quotes by this project: `"`, `\`, line feed, tab, carriage return and
 /// NUL by a backslash and a letter, other characters below a space and those from U+007F to U+00A0 as `\xHH`, separators
 /// of lines and paragraphs, the byte order mark, U+FFFE and U+FFFF as `\uHHHH`, digits in upper case, all else as itself.
-/// Wherever the bytes that are appended stand in a text, they are read as that character in double quotes.
+/// Wherever the bytes that are appended are in a text, they are read as that character in double quotes.
 ///
 /// # Errors
 ///
@@ -289,7 +289,7 @@ pub fn is_common(byte: u8) -> bool
     byte <= b'~'
 }
 
-/// Whether each character is an ASCII one that is spelled by itself, so that the text stands in double quotes as it is.
+/// Whether each character is an ASCII one that is spelled by itself, so that the text is in double quotes as it is.
 #[inline]
 pub fn are_common(text: &str) -> bool
     ensures common { result ≡ true → AreCommon text.now }

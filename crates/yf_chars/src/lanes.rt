@@ -2,7 +2,7 @@
 ghost use Rattle.std.specs.Prelude.{◌≡◌};
 ghost use Rattle.yf_chars.specs.Lanes.{lanes_before};
 
-/// How many of 16 lanes stand before the first whose bit is set in the mask: all where none is set.
+/// How many of 16 lanes are before the first whose bit is set in the mask: all where none is set.
 #[inline(always)]
 pub fn lanes_before(mask: u64) -> usize
     ensures { result ≡ lanes_before mask }

@@ -3,15 +3,15 @@ ghost use Rattle.std.specs.Prelude.{◌≡◌, ◌+◌, ◌≤◌, ℕ, List, tr
 ghost use Rattle.std.specs.Str.{IsCharBoundary};
 ghost use Rattle.yf_chars.specs.Chain.{Many};
 ghost use Rattle.yf_chars.specs.Class as Class;
-ghost use Rattle.yf_chars.specs.Text.{code, no_char, Reads};
+ghost use Rattle.yf_chars.specs.Text.{code, no_char, CharAt};
 
 use crate::classes::is_nb_char;
 
-// Whether a printable ASCII character stands there, from the space to `~`.
+// Whether a printable ASCII character is there, from the space to `~`.
 #[inline(always)]
-fn ascii_stands(s: &str, at: usize) -> bool
+fn is_ascii_at(s: &str, at: usize) -> bool
     ensures class { MatchBool result (Class.is_nb_char (code s.now at) ≡ true) ⊤ }
-    ensures read { MatchBool result (Reads s.now at (code s.now at) (at + 1)) ⊤ }
+    ensures read { MatchBool result (CharAt s.now at (code s.now at) (at + 1)) ⊤ }
 {
     let bytes = s.as_bytes();
     if at >= bytes.len() {
@@ -26,7 +26,7 @@ fn ascii_stands(s: &str, at: usize) -> bool
     true
 }
 
-// The offset after all such characters that stand at the offset.
+// The offset after all such characters that are at the offset.
 #[inline(always)]
 fn ascii_run(s: &str, at: usize) -> usize
     requires { IsCharBoundary s.now at }
@@ -35,7 +35,7 @@ fn ascii_run(s: &str, at: usize) -> usize
     ensures order { at ≤ result }
 {
     let mut end = at;
-    while ascii_stands(s, end) {
+    while is_ascii_at(s, end) {
         end += 1;
     }
     end
@@ -46,7 +46,7 @@ fn ascii_run(s: &str, at: usize) -> usize
 #[inline(always)]
 fn decoded(s: &str, at: usize) -> Option<(char, usize)>
     requires { IsCharBoundary s.now at }
-    ensures { MatchOption result ((code s.now at ≡ no_char) × (at ≡ length s.now)) (λ p. Reads s.now at p.0 p.1) }
+    ensures { MatchOption result ((code s.now at ≡ no_char) × (at ≡ length s.now)) (λ p. CharAt s.now at p.0 p.1) }
 {
     match s[at..].chars().next() {
         Some(c) => Some((c, at + c.len_utf8())),
@@ -54,7 +54,7 @@ fn decoded(s: &str, at: usize) -> Option<(char, usize)>
     }
 }
 
-/// The offset after all characters within a line (nb-char, production 27) that stand at the offset.
+/// The offset after all characters within a line (nb-char, production 27) that are at the offset.
 ///
 /// After a character beyond ASCII mostly another one follows, and after one of ASCII a run.
 #[inline]

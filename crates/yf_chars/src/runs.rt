@@ -7,7 +7,7 @@ ghost use Rattle.yf_chars.specs.Text.{code};
 use crate::classes;
 use crate::text::peek;
 
-/// A class of characters, to which the number that stands where no character begins does not belong.
+/// A class of characters, to which the number that is where no character begins does not belong.
 pub trait CharClass {
     ghost use Rattle.std.specs.Prelude.{◌≡◌, ℕ, Bool, false};
     ghost use Rattle.yf_chars.specs.Text.{no_char};
@@ -106,7 +106,7 @@ impl CharClass for Digits {
     }
 }
 
-/// The offset after all characters of the class that stand at the offset.
+/// The offset after all characters of the class that are at the offset.
 #[inline]
 pub fn skip_while<C: CharClass>(s: &str, at: usize) -> usize
     requires { IsCharBoundary s.now at }

@@ -1,7 +1,7 @@
-//! Characters of a text at byte offsets: the one base on which all readers stand.
+//! Characters of a text at byte offsets: the one base on which all readers are.
 ghost use Rattle.std.specs.Prelude.{◌≡◌, ◌≢◌, ◌+◌, ◌<◌, ◌≤◌, ◌==◌, length, MatchOption, MatchBool};
 ghost use Rattle.std.specs.Str.{IsCharBoundary};
-ghost use Rattle.yf_chars.specs.Text.{code, before, no_char, Reads};
+ghost use Rattle.yf_chars.specs.Text.{code, before, no_char, CharAt};
 
 /// The character that begins at the byte offset, and the offset after it; `None` at the end of the text.
 ///
@@ -9,7 +9,7 @@ ghost use Rattle.yf_chars.specs.Text.{code, before, no_char, Reads};
 #[inline(always)]
 pub fn peek(s: &str, at: usize) -> Option<(char, usize)>
     requires { IsCharBoundary s.now at }
-    ensures { MatchOption result ((code s.now at ≡ no_char) × (at ≡ length s.now)) (λ p. Reads s.now at p.0 p.1) }
+    ensures { MatchOption result ((code s.now at ≡ no_char) × (at ≡ length s.now)) (λ p. CharAt s.now at p.0 p.1) }
 {
     let bytes = s.as_bytes();
     if at == bytes.len() {
@@ -27,10 +27,10 @@ pub fn peek(s: &str, at: usize) -> Option<(char, usize)>
 
 /// Whether that ASCII character begins at the byte offset.
 #[inline(always)]
-pub fn stands(s: &str, at: usize, byte: u8) -> bool
+pub fn is_char_at(s: &str, at: usize, byte: u8) -> bool
     requires { byte < 128 }
     ensures value { result ≡ (code s.now at == byte) }
-    ensures cases { MatchBool result (Reads s.now at byte (at + 1)) (code s.now at ≢ byte) }
+    ensures cases { MatchBool result (CharAt s.now at byte (at + 1)) (code s.now at ≢ byte) }
 {
     let bytes = s.as_bytes();
     if at < bytes.len() {

@@ -102,7 +102,7 @@ break_last {t} (lone_lf {i = i} a b) = record { place = i; ends = next_ascii t i
 last_below : {t : List ℕ} {i j : ℕ} → (b : Last t i j) → code t b.place < no_char
 last_below b = ⊎_elim (λ (l : _ ≡ 10). omega arith) (λ (r : _ ≡ 13). omega arith) b.char
 
--- what stands before a place
+-- what is before a place
 pub data BlankView (t : List ℕ) (j : ℕ) : Type 0 where
   text_view : j ≡ 0 → BlankView t j
   break_view : (i : ℕ) → Break t i j → BlankView t j
@@ -260,7 +260,7 @@ module _ (t : List ℕ) (u : IsUtf8 t) where
         let s : i ≡ j - 1 = omega arith in
         true≢false (sym v ∙ ap (λ k. is_white (code t k)) s ∙ w)
 
--- what is left to find from a place on: a blank line, or what begins a line of which white space and a break stand after
+-- what is left to find from a place on: a blank line, or what begins a line of which white space and a break are after
 abbrev pub Ends : List ℕ → ℕ → Bool → Type 0
 Ends t j true = Blank t j ⊎ BlankBefore t j
 Ends t j false = BlankBefore t j

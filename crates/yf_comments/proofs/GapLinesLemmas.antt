@@ -12,7 +12,7 @@ use Rattle.yf_lines.specs.Basic.{Spaces, LineStart, SeparateInLine}
 use Rattle.yf_lines.specs.Basic.LineStart.{after_break}
 use Rattle.yf_lines.specs.Basic.SeparateInLine.{by_whites, at_start}
 use Rattle.yf_lines.proofs.BasicLemmas.{white_of_space}
-use Rattle.yf_lines.proofs.RestLemmas.{Rest, rest_stands, rest_spaces, rest_ascii, rest_text, rest_break, slice_back}
+use Rattle.yf_lines.proofs.RestLemmas.{Rest, rest_is_at, rest_spaces, rest_ascii, rest_text, rest_break, slice_back}
 use Rattle.yf_comments.specs.Comment.{CommentValue}
 use Rattle.yf_comments.specs.Comments.{CommentText, CommentLine}
 use Rattle.yf_comments.specs.Comments.CommentText.{comment_text}
@@ -56,18 +56,18 @@ pub record RemarkAt (t : List ℕ) (q : ℕ) (text r : List ℕ) : Type 0 where
 
 pub remark_at : {t : List ℕ} {text : List ℕ} (r : List ℕ) {q : ℕ} → IsUtf8 t → IsRemark text → Rest t q (text ++ r) → RemarkAt t q text r
 remark_at {t} {text} r {q} u m s =
-    let behind : List ℕ = m.behind in
-    let whole : Rest t q (35 ∷ (m.behind ++ r)) = subst (λ w. Rest t q (w ++ r)) m.is s in
+    let follows : List ℕ = m.follows in
+    let whole : Rest t q (35 ∷ (m.follows ++ r)) = subst (λ w. Rest t q (w ++ r)) m.is s in
     let hash = rest_ascii 35 u (omega arith) (λ e. absurd (omega arith)) whole in
-    let at = rest_text m.behind u m.line hash.1 in
+    let at = rest_text m.follows u m.line hash.1 in
     let note = note_known t q u in
-    let end : q + 1 + length m.behind ≡ q + length text = omega (arith, ap length m.is) in
+    let end : q + 1 + length m.follows ≡ q + length text = omega (arith, ap length m.is) in
     record {
-      end = q + 1 + length m.behind;
+      end = q + 1 + length m.follows;
       notes = _;
       comment = comment_text hash.0.char at.chars note.1;
       rest = at.rest;
-      is = ap (λ w. w ∷ []) (ap (slice_range t q) end ∙ slice_back text r (rest_stands s));
+      is = ap (λ w. w ∷ []) (ap (slice_range t q) end ∙ slice_back text r (rest_is_at s));
     }
 
 -- the lines of a gap, from the start of a line

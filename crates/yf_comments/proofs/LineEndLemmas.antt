@@ -7,7 +7,7 @@ use Rattle.yf_chars.proofs.ChainLemmas.{chain_more, chain_chosen}
 use Rattle.yf_lines.specs.Basic.{LineStart}
 use Rattle.yf_lines.specs.Basic.SeparateInLine.{at_start}
 use Rattle.yf_comments.specs.Comment.{CommentValue}
-use Rattle.yf_comments.specs.Comments.{LineRest, CommentLine, LineEnd, Row, Kept}
+use Rattle.yf_comments.specs.Comments.{LineRest, CommentLine, LineEnd, Row, RowsKept}
 use Rattle.yf_comments.specs.Comments.LineRest.{nothing, whites, comment}
 use Rattle.yf_comments.specs.Comments.CommentLine.{whites_line, comment_line}
 use Rattle.yf_comments.specs.Comments.LineEnd.{past_rest, from_start}
@@ -88,11 +88,11 @@ module _ {t : List ℕ} where
   line_end_stuck n s = record { none = λ j x d. nowhere_to_end n s d }
 
 -- what a reader has kept, and how it goes on
-pub kept_none : (t : List ℕ) (i : ℕ) (a : List CommentValue) → Kept t i i a a
+pub kept_none : (t : List ℕ) (i : ℕ) (a : List CommentValue) → RowsKept t i i a a
 kept_none t i a = record { more = []; rows = done; list = sym (append-nil a) }
 
-pub kept_more : {t : List ℕ} {i j k : ℕ} {a b c : List CommentValue} → Kept t i j a b → j < length t
-    → (x : List CommentValue) × LineRest t j k x × (c ≡ b ++ x) → Kept t i k a c
+pub kept_more : {t : List ℕ} {i j k : ℕ} {a b c : List CommentValue} → RowsKept t i j a b → j < length t
+    → (x : List CommentValue) × LineRest t j k x × (c ≡ b ++ x) → RowsKept t i k a c
 kept_more {a = a} k l f = record {
   more = k.more ++ f.0;
   rows = chain_more k.rows (record { rest = f.1; later = rest_moves f.1 l });
@@ -106,7 +106,7 @@ rows_after : {t : List ℕ} {i j : ℕ} {x : List CommentValue} → LineStart t 
 rows_after {t} {i} s c = ⊎_elim (λ (l : LineStart t i). rows_lines l c) (λ (e : i ≡ length t). lines_ended e c) s
 
 pub line_end_from : {t : List ℕ} {i h j : ℕ} {a b c : List CommentValue} → a ≡ [] → (x : List CommentValue) × LineRest t i h x × (b ≡ a ++ x)
-    → Kept t h j b c → Stuck (Row t j) → Chosen (LineEnd t i) j c
+    → RowsKept t h j b c → Stuck (Row t j) → Chosen (LineEnd t i) j c
 line_end_from {t} {i} {h} {j} {a} {b} {c} n f k s =
     let d : LineEnd t i j (f.0 ++ k.more) = past_rest f.1 (rows_after (rest_next f.1) k.rows) in
     let e : f.0 ++ k.more ≡ c = sym (k.list ∙ ap (λ v. v ++ k.more) (f.2 ∙ ap (λ v. v ++ f.0) n)) in

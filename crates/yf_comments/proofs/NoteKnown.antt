@@ -1,4 +1,4 @@
--- Whether a blank line stands before a place is known of every text.
+-- Whether a blank line is before a place is known of every text.
 use Rattle.std.proofs.Common.{◌≡◌, ◌≢◌, ℕ, zero, suc, ◌-◌, ◌<◌, ◌≤◌, Bool, true, false, true≢false, ◌⊎◌, inl, inr, ⊎_elim, List, sym, ap, ◌∙◌, subst, arith}
 use Rattle.std.proofs.lemmas.Bool.{cases_eq, cases_lt, cases_Bool}
 use Rattle.std.specs.Str.{IsUtf8}
@@ -7,10 +7,10 @@ use Rattle.yf_chars.specs.Class.{is_white}
 use Rattle.yf_chars.proofs.TextLemmas.{next_ascii, next_later, next-mark}
 use Rattle.yf_lines.specs.Basic.{Break}
 use Rattle.yf_lines.proofs.BasicLemmas.{white_below, break_forward, break_from_lf, break_from_cr, no_break_end}
-use Rattle.yf_comments.specs.Comments.{is_gap, Blank, BlankBefore, Noted}
+use Rattle.yf_comments.specs.Comments.{is_gap, Blank, BlankBefore, HasBlankNote}
 use Rattle.yf_comments.specs.Comments.Blank.{text_begins, break_ends, white_ends}
 use Rattle.yf_comments.specs.Comments.BlankBefore.{blank_line, past_gap}
-use Rattle.yf_comments.specs.Comments.Noted.{noted, not_noted}
+use Rattle.yf_comments.specs.Comments.HasBlankNote.{noted, not_noted}
 use Rattle.yf_comments.proofs.BlankLemmas.{gap_cases, gap_below, gap_of_mark, gap_of_lf, gap_of_cr, gap_of_white, same_place, blank_view, before_view, start_unique, BlankView, text_view, break_view, white_view, BeforeView, line_view, gap_view, past_break, not_last}
 
 -- the break that ends at a place
@@ -61,7 +61,7 @@ gap_known t j = with_low (cases_lt (code t (j - 1)) 128) (cases_Bool (is_gap (co
       ⊎_elim (λ (z : j ≡ 0). inr (λ i _ e. let f = next_later t i in omega arith))
       (λ (z : j ≢ 0). inl (j - 1, g, next_ascii t (j - 1) l ∙ omega arith)) (cases_eq j 0)
 
--- whether nothing but white space stands before a place on its line
+-- whether nothing but white space is before a place on its line
 pub blank_known : (t : List ℕ) (n j : ℕ) → IsUtf8 t → j ≤ n → Blank t j ⊎ (Blank t j → ⊥)
 blank_known t zero j u l = let z : 0 ≡ j = omega arith in inl (subst (λ k. Blank t k) z text_begins)
 blank_known t (suc n) j u l =
@@ -94,7 +94,7 @@ blank_known t (suc n) j u l =
         let same : i ≡ j - 1 = omega arith in
         true≢false (sym v ∙ ap (λ k. is_white (code t k)) same ∙ w)
 
--- whether a blank line stands before a place
+-- whether a blank line is before a place
 pub before_known : (t : List ℕ) (n j : ℕ) → IsUtf8 t → j ≤ n → BlankBefore t j ⊎ (BlankBefore t j → ⊥)
 before_known t zero j u l = inr (λ d. nowhere (before_view d)) where
   nowhere : BeforeView t j → ⊥
@@ -125,15 +125,15 @@ before_known t (suc n) j u l = with_line (λ i m. before_known t n i u m) (break
       (λ (no : Blank t b.0 → ⊥). with_gap known (λ h k c. no (subst (λ i. Blank t i) (start_unique t u k b.1) c))) (blank_known t n b.0 u (omega arith))
   with_line known (inr none) = with_gap known (λ h k c. none h k)
 
-pub note_known : (t : List ℕ) (i : ℕ) → IsUtf8 t → (b : Bool) × Noted t i b
+pub note_known : (t : List ℕ) (i : ℕ) → IsUtf8 t → (b : Bool) × HasBlankNote t i b
 note_known t i u = ⊎_elim (λ (d : BlankBefore t i). (true, noted d)) (λ (no : BlankBefore t i → ⊥). (false, not_noted no)) (before_known t i i u (omega arith))
 
--- a line of white space alone is one, and it stands before each place that gaps lead to; after a character that is no gap stands none
-pub blank_behind : {t : List ℕ} {h i j : ℕ} → Break t h i → Break t i j → BlankBefore t j
-blank_behind a b = blank_line (break_ends a) b
+-- a line of white space alone is one, and it is before each place that gaps lead to; after a character that is no gap is none
+pub blank_after : {t : List ℕ} {h i j : ℕ} → Break t h i → Break t i j → BlankBefore t j
+blank_after a b = blank_line (break_ends a) b
 
-pub none_behind : {t : List ℕ} {h j : ℕ} (p : ℕ) → IsUtf8 t → code t p < no_char → is_gap (code t p) ≡ false → next t p ≡ h → Break t h j → BlankBefore t j → ⊥
-none_behind {t} {h} {j} p u l n e b d =
+pub none_after : {t : List ℕ} {h j : ℕ} (p : ℕ) → IsUtf8 t → code t p < no_char → is_gap (code t p) ≡ false → next t p ≡ h → Break t h j → BlankBefore t j → ⊥
+none_after {t} {h} {j} p u l n e b d =
     ⊎_elim (λ (c : Blank t h). blank (blank_view c)) (λ (c : BlankBefore t h). before (before_view c)) (past_break t u b d)
   where
     no_break : (i : ℕ) → Break t i h → ⊥

@@ -1,7 +1,7 @@
 -- The rest of a line: where it ends and what it means are unique, and comment lines are a chain of such rests.
 use Rattle.std.proofs.Common.{◌≡◌, ◌≢◌, ℕ, ◌+◌, ◌<◌, ◌≤◌, Bool, true, false, ◌⊎◌, inl, inr, ⊎_elim, List, [], ◌∷◌, ◌++◌, length, slice_range, refl, sym, ap, ◌∙◌, subst, arith, MatchBool}
 use Rattle.std.proofs.lemmas.Bool.{cases_lt}
-use Rattle.yf_chars.specs.Text.{code, no_char, Reads}
+use Rattle.yf_chars.specs.Text.{code, no_char, CharAt}
 use Rattle.yf_chars.specs.Class.{is_white, is_nb_char, is_printable, is_between, is_break_char}
 use Rattle.yf_chars.specs.Chain.{Functional, Stuck, Nowhere, Many}
 use Rattle.yf_chars.specs.Chain.Chain.{done}
@@ -12,8 +12,8 @@ use Rattle.yf_lines.specs.Basic.SeparateInLine.{by_whites, at_start}
 use Rattle.yf_lines.specs.Basic.LineStart.{after_break}
 use Rattle.yf_lines.proofs.BasicLemmas.{break_char, break_forward, break_unique}
 use Rattle.yf_comments.specs.Comment.{CommentValue}
-use Rattle.yf_comments.specs.Comments.{BlankBefore, Noted, CommentText, BreakOrEnd, LineRest, Row}
-use Rattle.yf_comments.specs.Comments.Noted.{noted, not_noted}
+use Rattle.yf_comments.specs.Comments.{BlankBefore, HasBlankNote, CommentText, BreakOrEnd, LineRest, Row}
+use Rattle.yf_comments.specs.Comments.HasBlankNote.{noted, not_noted}
 use Rattle.yf_comments.specs.Comments.CommentText.{comment_text}
 use Rattle.yf_comments.specs.Comments.BreakOrEnd.{by_break, by_end}
 use Rattle.yf_comments.specs.Comments.LineRest.{nothing, whites, comment}
@@ -76,7 +76,7 @@ module _ {t : List ℕ} where
   end_next (by_break b) = inl (after_break b)
   end_next (by_end e) = inr e
 
-  pub noted_unique : {i : ℕ} {a b : Bool} → Noted t i a → Noted t i b → a ≡ b
+  pub noted_unique : {i : ℕ} {a b : Bool} → HasBlankNote t i a → HasBlankNote t i b → a ≡ b
   noted_unique (noted p) (noted q) = refl
   noted_unique (noted p) (not_noted q) = absurd (q p)
   noted_unique (not_noted p) (noted q) = absurd (p q)
@@ -178,7 +178,7 @@ module _ {t : List ℕ} where
   pub rest_at_end : {i j : ℕ} {x : List CommentValue} → LineRest t i j x → i ≡ length t → i < j → ⊥
   rest_at_end r e l = view_at_end (rest_view r) e l
 
-  -- white space that stands where the rest begins end before the rest does, or with it at the end of the text
+  -- white space that is where the rest begins end before the rest does, or with it at the end of the text
   view_tail : {i j k : ℕ} {w : List ℕ} {x : List CommentValue} → Many t is_white i j w → RestView t i k x
       → (j ≤ k) × (j ≡ k → (x ≡ []) × (k ≡ length t))
   view_tail {j = j} {k = k} {w = w} m (bare_view {h = h} n e) =
@@ -211,9 +211,9 @@ module _ {t : List ℕ} where
       let both = text_unique c n d' (end_nb e) in
       none.none j (subst (λ v. BreakOrEnd t v j) (sym both.0) e)
 
-  pub stuck_behind_comment : {i h k : ℕ} {x : List CommentValue} → SeparateInLine t i h → CommentText t h k x → is_nb_char (code t k) ≡ false
+  pub stuck_after_comment : {i h k : ℕ} {x : List CommentValue} → SeparateInLine t i h → CommentText t h k x → is_nb_char (code t k) ≡ false
       → Nowhere (BreakOrEnd t k) → Stuck (LineRest t i)
-  stuck_behind_comment s c n none = record { none = λ j y r. view_hash (separate_whites s).1 c n none (rest_view r) }
+  stuck_after_comment s c n none = record { none = λ j y r. view_hash (separate_whites s).1 c n none (rest_view r) }
 
   view_bare : {i h : ℕ} {w : List ℕ} → Many t is_white i h w → is_white (code t h) ≡ false → code t h ≢ 35
       → Nowhere (BreakOrEnd t h) → {j : ℕ} {y : List CommentValue} → RestView t i j y → ⊥
@@ -224,9 +224,9 @@ module _ {t : List ℕ} where
       let same = (many_unique t is_white m s o (hash_white (code t g) (text_hash d))).0 in
       n (ap (code t) same ∙ text_hash d)
 
-  pub stuck_behind_whites : {i h : ℕ} → SeparateInLine t i h → is_white (code t h) ≡ false → code t h ≢ 35
+  pub stuck_after_whites : {i h : ℕ} → SeparateInLine t i h → is_white (code t h) ≡ false → code t h ≢ 35
       → Nowhere (BreakOrEnd t h) → Stuck (LineRest t i)
-  stuck_behind_whites s w n none = record { none = λ j y r. view_bare (separate_whites s).1 w n none (rest_view r) }
+  stuck_after_whites s w n none = record { none = λ j y r. view_bare (separate_whites s).1 w n none (rest_view r) }
 
   -- neither white space nor the start of a line
   pub no_separation : {i j : ℕ} → is_white (code t i) ≡ false → (LineStart t i → ⊥) → SeparateInLine t i j → ⊥
@@ -251,12 +251,12 @@ module _ {t : List ℕ} where
       (cases_lt i h)
 
 -- one more character of a run, as a reader takes it
-pub many_read : {t : List ℕ} {p : ℕ → Bool} {i j c k : ℕ} {x : List ℕ} → Many t p i j x → Reads t j c k → p c ≡ true → (y : List ℕ) × Many t p i k y
+pub many_read : {t : List ℕ} {p : ℕ → Bool} {i j c k : ℕ} {x : List ℕ} → Many t p i j x → CharAt t j c k → p c ≡ true → (y : List ℕ) × Many t p i k y
 many_read {t} {p} {i} {j} {c} {k} {x} m r e =
     let more = many_more t p m (ap p r.char ∙ e) in
     (x ++ code t j ∷ [], subst (λ v. Many t p i v (x ++ code t j ∷ [])) r.end more)
 
-pub noted_from : {t : List ℕ} {i : ℕ} (b : Bool) → MatchBool b (BlankBefore t i) (BlankBefore t i → ⊥) → Noted t i b
+pub noted_from : {t : List ℕ} {i : ℕ} (b : Bool) → MatchBool b (BlankBefore t i) (BlankBefore t i → ⊥) → HasBlankNote t i b
 noted_from true h = noted h
 noted_from false h = not_noted h
 

@@ -66,12 +66,12 @@ module _ {t : List ℕ} where
   still (step r c) l = let a = r.later in let b = chain_forward row_functional c in absurd (omega arith)
 
   -- the tail after an earlier row ends no later, and where it ends there it has the same comments
-  tail_behind : {h j q e : ℕ} {w v : List ℕ} {y z : List CommentValue} → Many t is_white h j w → h ≤ q → Many t is_white q e v
+  tail_after : {h j q e : ℕ} {w v : List ℕ} {y z : List CommentValue} → Many t is_white h j w → h ≤ q → Many t is_white q e v
       → is_white (code t e) ≡ false → Meets (Row t) h q y z → (j ≤ e) × (j ≡ e → z ≡ y)
-  tail_behind {y = y} m l n s (goes_on x c f) =
+  tail_after {y = y} m l n s (goes_on x c f) =
       let a = tail_from m c n s in
       (a.0, λ same. f ∙ ap (λ v. y ++ v) (a.1 same) ∙ append-nil y)
-  tail_behind {h = h} {j = j} {q = q} {w = w} {z = z} m l n s (falls_short x c f) =
+  tail_after {h = h} {j = j} {q = q} {w = w} {z = z} m l n s (falls_short x c f) =
       let a = still c l in
       let m' : Many t is_white q j w = subst (λ v. Many t is_white v j w) (sym a.0) m in
       ((many_chosen t is_white n s).longest j w m', λ _. sym (f ∙ ap (λ v. z ++ v) a.1 ∙ append-nil z))
@@ -107,9 +107,9 @@ module _ {t : List ℕ} {n : ℤ} {i : ℕ} where
   upto_best {q} {e} {z} u c w s = record {
     derived = u;
     longest = λ k y d. let a = upto_tail (chain_forward row_functional c) d in
-        (tail_behind a.whites a.within w s (chain_meet row_functional a.rows c)).0;
+        (tail_after a.whites a.within w s (chain_meet row_functional a.rows c)).0;
     only = λ y d. let a = upto_tail (chain_forward row_functional c) d in
-        sym ((tail_behind a.whites a.within w s (chain_meet row_functional a.rows c)).1 refl);
+        sym ((tail_after a.whites a.within w s (chain_meet row_functional a.rows c)).1 refl);
   }
 
   upto_more : {p q j : ℕ} {y : List CommentValue} → p ≤ q → Upto t n i p j y → Upto t n i q j y
@@ -150,10 +150,10 @@ module _ {t : List ℕ} where
   -- white space after a part of them
   rest_of_whites : {i h e : ℕ} {x y : List ℕ} → Many t is_white i h x → Many t is_white i e y → is_white (code t e) ≡ false
       → (w : List ℕ) × Many t is_white h e w
-  rest_of_whites {i} {h} {e} {x} {y} m n s = behind (chain_meet (one_functional t is_white) m n) where
-    behind : Meets (One t is_white) h e x y → (w : List ℕ) × Many t is_white h e w
-    behind (goes_on z c f) = (z, c)
-    behind (falls_short z c f) =
+  rest_of_whites {i} {h} {e} {x} {y} m n s = follows (chain_meet (one_functional t is_white) m n) where
+    follows : Meets (One t is_white) h e x y → (w : List ℕ) × Many t is_white h e w
+    follows (goes_on z c f) = (z, c)
+    follows (falls_short z c f) =
         let a = (many_chosen t is_white (done {i = e}) s).longest h z c in
         let b = chain_forward (one_functional t is_white) c in
         let same : h ≡ e = omega arith in
@@ -357,7 +357,7 @@ module _ {t : List ℕ} {n : ℤ} {c : Ctx} {i : ℕ} where
       let b = separated e in
       let stuck = row_stuck (stuck_at_solid a.whites_run s.not_white s.no_comment s.no_end) in
       let l = (chain_chosen row_functional a.rows stuck).longest b.place y b.rows in
-      (tail_behind b.whites_run l a.whites_run s.not_white (chain_meet row_functional b.rows a.rows)).0
+      (tail_after b.whites_run l a.whites_run s.not_white (chain_meet row_functional b.rows a.rows)).0
 
   pub separate_solid : {k e : ℕ} {x y : List CommentValue} → Solid t k → Separate t n c i k x → Chosen (Separate t n c i) e y → (k ≡ e) × (x ≡ y)
   separate_solid {k} {e} {x} {y} s d f =

@@ -9,7 +9,7 @@ use Rattle.yf_chars.specs.Chain.{Chain, Many}
 use Rattle.yf_lines.specs.Basic.{is_key, Break, LineStart, SeparateInLine, FlowPrefix}
 use Rattle.yf_comments.specs.Comment.{CommentValue}
 
--- nothing but white space stands before the place on its line, no byte order mark either
+-- nothing but white space is before the place on its line, no byte order mark either
 pub data Blank (t : List ℕ) : ℕ → Type 0 where
   text_begins : Blank t 0
   break_ends : {i j : ℕ} → Break t i j → Blank t j
@@ -25,13 +25,13 @@ pub data BlankBefore (t : List ℕ) : ℕ → Type 0 where
   past_gap : {i : ℕ} → BlankBefore t i → is_gap (code t i) ≡ true → BlankBefore t (next t i)
 
 -- the note that a comment or an entry at the place carries
-pub data Noted (t : List ℕ) (i : ℕ) : Bool → Type 0 where
-  noted : BlankBefore t i → Noted t i true
-  not_noted : (BlankBefore t i → ⊥) → Noted t i false
+pub data HasBlankNote (t : List ℕ) (i : ℕ) : Bool → Type 0 where
+  noted : BlankBefore t i → HasBlankNote t i true
+  not_noted : (BlankBefore t i → ⊥) → HasBlankNote t i false
 
 -- c-nb-comment-text: # and the characters after it, up to the break or the first that is none of a comment
 pub data CommentText (t : List ℕ) : ℕ → ℕ → List CommentValue → Type 0 where
-  comment_text : {i j : ℕ} {x : List ℕ} {b : Bool} → code t i ≡ NUMBER_SIGN → Many t is_nb_char (i + 1) j x → Noted t i b
+  comment_text : {i j : ℕ} {x : List ℕ} {b : Bool} → code t i ≡ NUMBER_SIGN → Many t is_nb_char (i + 1) j x → HasBlankNote t i b
       → CommentText t i j (record { text = slice_range t i j; offset = i; blank_before = b } ∷ [])
 
 -- b-comment: a break or the end of the text
@@ -70,8 +70,8 @@ pub record Row (t : List ℕ) (i j : ℕ) (x : List CommentValue) : Type 0 where
   pub rest : LineRest t i j x
   pub later : i < j
 
--- what a reader has kept: rows from i to j, whose comments stand in the list b after those of a
-pub record Kept (t : List ℕ) (i j : ℕ) (a b : List CommentValue) : Type 0 where
+-- what a reader has kept: rows from i to j, whose comments are in the list b after those of a
+pub record RowsKept (t : List ℕ) (i j : ℕ) (a b : List CommentValue) : Type 0 where
   pub more : List CommentValue
   pub rows : Chain (Row t) i j more
   pub list : b ≡ a ++ more

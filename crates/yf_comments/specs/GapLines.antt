@@ -15,16 +15,16 @@ gap_then (remark column text ∷ gs) r = replicate column SPACE ++ (text ++ (LIN
 
 -- a comment's text: # and nb-chars
 pub record IsRemark (text : List ℕ) : Type 0 where
-  pub behind : List ℕ
-  pub is : text ≡ NUMBER_SIGN ∷ behind
-  pub line : IsLineText behind
+  pub follows : List ℕ
+  pub is : text ≡ NUMBER_SIGN ∷ follows
+  pub line : IsLineText follows
 
 abbrev pub AreGapLines : List GapLine → Type 0
 AreGapLines [] = Unit {0}
 AreGapLines (blank ∷ gs) = AreGapLines gs
 AreGapLines (remark column text ∷ gs) = IsRemark text × AreGapLines gs
 
--- each comment stands left of the column
+-- each comment is left of the column
 abbrev pub AllLeft : ℕ → List GapLine → Type 0
 AllLeft k [] = Unit {0}
 AllLeft k (blank ∷ gs) = AllLeft k gs

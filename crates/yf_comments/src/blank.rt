@@ -1,12 +1,12 @@
-//! Whether a blank line stands before a place.
+//! Whether a blank line is before a place.
 ghost use Rattle.std.specs.Prelude.{◌≡◌, ◌≢◌, ◌-◌, ◌<◌, ◌≤◌, ℕ, MatchBool, MatchOption, length, ⊤};
 ghost use Rattle.yf_chars.specs.Signs.{CARRIAGE_RETURN, LINE_FEED};
 ghost use Rattle.yf_chars.specs.Text.{code};
 ghost use Rattle.yf_lines.specs.Basic.{Break};
 ghost use Rattle.yf_comments.specs.Comments.{Blank, BlankBefore};
 
-use yf_chars::text::stands;
-use yf_lines::basic::{mark_ends, white_stands};
+use yf_chars::text::is_char_at;
+use yf_lines::basic::{is_white_at, mark_ends};
 
 // The offset of the break that ends at the offset.
 fn break_before(s: &str, at: usize) -> Option<usize>
@@ -15,14 +15,14 @@ fn break_before(s: &str, at: usize) -> Option<usize>
     if at == 0 {
         return None;
     }
-    if stands(s, at - 1, b'\n') {
-        if stands(s, at.saturating_sub(2), b'\r') {
+    if is_char_at(s, at - 1, b'\n') {
+        if is_char_at(s, at.saturating_sub(2), b'\r') {
             return Some(at - 2);
         }
         return Some(at - 1);
     }
-    if stands(s, at - 1, b'\r') {
-        if stands(s, at, b'\n') {
+    if is_char_at(s, at - 1, b'\r') {
+        if is_char_at(s, at, b'\n') {
             return None;
         }
         return Some(at - 1);
@@ -45,10 +45,10 @@ pub fn is_blank_before(s: &str, at: usize) -> bool
         return false;
     }
     if visible_ends(s, at - 1) {
-        if stands(s, at - 1, b' ') {
+        if is_char_at(s, at - 1, b' ') {
             return false;
         }
-        if stands(s, at - 1, b'\n') {
+        if is_char_at(s, at - 1, b'\n') {
             return false;
         }
     }
@@ -85,10 +85,10 @@ fn walk_back(s: &str, at: usize) -> bool
     ensures { MatchBool result (BlankBefore s.now at) (BlankBefore s.now at → ⊥) }
 {
     let mut place = at;
-    // whether white space alone stands between the place and a line break
+    // whether white space alone is between the place and a line break
     let mut blank = false;
     'back: while place > 0 {
-        if white_stands(s, place - 1) {
+        if is_white_at(s, place - 1) {
             place -= 1;
             continue;
         }

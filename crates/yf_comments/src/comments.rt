@@ -5,7 +5,6 @@ ghost use Rattle.yf_comments.specs.Comment.{CommentValue, comment_value};
 use crate::comment::Comment;
 use std::alloc::{AllocError, Global};
 use std::marker::Model;
-use yf_lines::fault::Fault;
 
 /// What was read: the comments in it, and the offset after it.
 #[derive(Drop)]
@@ -13,9 +12,6 @@ pub struct Separation<'a> {
     pub comments: Comments<'a>,
     pub end: usize,
 }
-
-/// What a reader answers: what was read, `None` where nothing of the kind stands there, or a refusal.
-pub type Found<'a> = Result<Option<Separation<'a>>, Fault>;
 
 /// Comments in the order of the text. In a contract it is the list of what they are.
 #[derive(Drop)]

@@ -7,15 +7,15 @@ ghost use Rattle.yf_chars.specs.Class.{is_nb_char, is_white};
 ghost use Rattle.yf_chars.specs.Text.{code};
 ghost use Rattle.yf_lines.specs.Basic.{LineStart, SeparateInLine};
 ghost use Rattle.yf_comments.specs.Comment.{CommentValue, comment_value, row_comments};
-ghost use Rattle.yf_comments.specs.Comments.{CommentText, BreakOrEnd, LineRest, LineEnd, Kept, Row as IsRow};
+ghost use Rattle.yf_comments.specs.Comments.{CommentText, BreakOrEnd, LineRest, LineEnd, RowsKept, Row as IsRow};
 
 use crate::blank::is_blank_before;
 use crate::comment::Comment;
 use crate::comments::{Comments, Separation};
 use std::alloc::{AllocError, Global};
 use yf_chars::nb_runs::skip_nb_chars;
-use yf_chars::text::stands;
-use yf_lines::basic::{is_line_start, line_break, skip_whites, white_stands};
+use yf_chars::text::is_char_at;
+use yf_lines::basic::{is_line_start, is_white_at, line_break, skip_whites};
 
 // A comment that was read, and the offset after it.
 #[derive(Clone, Copy)]
@@ -26,7 +26,7 @@ struct CommentPart<'a> {
 
 /// The rest of a line that was read: its comment, if it has one, and the offset after its break.
 #[derive(Clone, Copy)]
-pub struct Row<'a> {
+pub struct RestOfLine<'a> {
     pub comment: Option<Comment<'a>>,
     pub end: usize,
 }
@@ -37,7 +37,7 @@ fn comment_text<'a>(s: &'a str, at: usize) -> Option<CommentPart<'a>>
     ensures all { IfSome result (λ p. is_nb_char (code s.now p.end) ≡ false) }
     ensures boundary { IfSome result (λ p. IsCharBoundary s.now p.end) }
 {
-    if stands(s, at, b'#') {
+    if is_char_at(s, at, b'#') {
         let end = skip_nb_chars(s, at + 1);
         let comment = Comment {
             text: &s[at..end],
@@ -64,9 +64,9 @@ fn break_or_end(s: &str, at: usize) -> Option<usize>
     }
 }
 
-// Whether a character stands there that begins neither white space nor a comment nor the end of a line.
+// Whether a character is there that begins neither white space nor a comment nor the end of a line.
 #[inline(always)]
-pub(crate) fn solid_stands(s: &str, at: usize) -> bool
+pub(crate) fn is_solid_at(s: &str, at: usize) -> bool
     ensures white { result ≡ true → is_white (code s.now at) ≡ false }
     ensures sign { result ≡ true → code s.now at ≢ NUMBER_SIGN }
     ensures rest { result ≡ true → Nowhere (BreakOrEnd s.now at) }
@@ -74,16 +74,16 @@ pub(crate) fn solid_stands(s: &str, at: usize) -> bool
     if at >= s.len() {
         return false;
     }
-    if white_stands(s, at) {
+    if is_white_at(s, at) {
         return false;
     }
-    if stands(s, at, b'#') {
+    if is_char_at(s, at, b'#') {
         return false;
     }
-    if stands(s, at, b'\n') {
+    if is_char_at(s, at, b'\n') {
         return false;
     }
-    if stands(s, at, b'\r') {
+    if is_char_at(s, at, b'\r') {
         return false;
     }
     true
@@ -91,7 +91,7 @@ pub(crate) fn solid_stands(s: &str, at: usize) -> bool
 
 // Reads what is left of a line after its white space: a comment, if there is one, and a break or the end of the text.
 #[inline(always)]
-fn past_whites<'a>(s: &'a str, at: usize, place: usize) -> Option<Row<'a>>
+fn past_whites<'a>(s: &'a str, at: usize, place: usize) -> Option<RestOfLine<'a>>
     requires boundary { IsCharBoundary s.now place }
     requires separate { SeparateInLine s.now at place }
     requires all { is_white (code s.now place) ≡ false }
@@ -100,14 +100,14 @@ fn past_whites<'a>(s: &'a str, at: usize, place: usize) -> Option<Row<'a>>
 {
     match comment_text(s, place) {
         Some(CommentPart { comment, end }) => match break_or_end(s, end) {
-            Some(next) => Some(Row {
+            Some(next) => Some(RestOfLine {
                 comment: Some(comment),
                 end: next,
             }),
             None => None,
         },
         None => match break_or_end(s, place) {
-            Some(next) => Some(Row {
+            Some(next) => Some(RestOfLine {
                 comment: None,
                 end: next,
             }),
@@ -117,9 +117,9 @@ fn past_whites<'a>(s: &'a str, at: usize, place: usize) -> Option<Row<'a>>
 }
 
 // Reads what is left of a line whose white space ends at the place: a comment where white space or the start of the line
-// stands before it, and a break or the end of the text.
+// is before it, and a break or the end of the text.
 #[inline(always)]
-fn rest_from<'a>(s: &'a str, at: usize, place: usize, starts: bool) -> Option<Row<'a>>
+fn rest_from<'a>(s: &'a str, at: usize, place: usize, starts: bool) -> Option<RestOfLine<'a>>
     requires boundary { IsCharBoundary s.now place }
     requires whites { (x : List ℕ) × Many s.now is_white at place x }
     requires all { is_white (code s.now place) ≡ false }
@@ -131,7 +131,7 @@ fn rest_from<'a>(s: &'a str, at: usize, place: usize, starts: bool) -> Option<Ro
         return past_whites(s, at, place);
     }
     match break_or_end(s, place) {
-        Some(next) => Some(Row {
+        Some(next) => Some(RestOfLine {
             comment: None,
             end: next,
         }),
@@ -139,10 +139,10 @@ fn rest_from<'a>(s: &'a str, at: usize, place: usize, starts: bool) -> Option<Ro
     }
 }
 
-/// Reads what is left of a line: white space, a comment where white space or the start of the line stands before it, and a
+/// Reads what is left of a line: white space, a comment where white space or the start of the line is before it, and a
 /// break or the end of the text (s-b-comment, production 77).
 #[inline(always)]
-pub fn line_rest<'a>(s: &'a str, at: usize, starts: bool) -> Option<Row<'a>>
+pub fn line_rest<'a>(s: &'a str, at: usize, starts: bool) -> Option<RestOfLine<'a>>
     requires boundary { IsCharBoundary s.now at }
     requires starts { MatchBool starts (LineStart s.now at) (LineStart s.now at → ⊥) }
     ensures reads { MatchOption result (Stuck (LineRest s.now at)) (λ r. LineRest s.now at r.end (row_comments r.comment)) }
@@ -173,7 +173,7 @@ pub(crate) fn next_row<'a>(
     ensures unchanged { IfOk result (λ o. IfNone o (comments.new ≡ comments.old)) }
     ensures boundary { IfOk result (λ o. IfSome o (λ e. IsCharBoundary s.now e)) }
 {
-    if stands(s, place, b'#') {
+    if is_char_at(s, place, b'#') {
         return comment_row(s, at, place, starts, comments);
     }
     match break_or_end(s, place) {
@@ -201,7 +201,7 @@ fn comment_row<'a>(
     ensures boundary { IfOk result (λ o. IfSome o (λ e. IsCharBoundary s.now e)) }
 {
     match rest_from(s, at, place, starts) {
-        Some(Row { comment, end }) => {
+        Some(RestOfLine { comment, end }) => {
             match comment {
                 Some(text) => {
                     comments.push(text)?;
@@ -227,7 +227,7 @@ fn comment_lines<'a>(
     requires first { IsCharBoundary s.now first }
     requires whites { (x : List ℕ) × Many s.now is_white at first x }
     requires all { is_white (code s.now first) ≡ false }
-    ensures reads { IfOk result (λ e. Kept s.now at e comments.old comments.new) }
+    ensures reads { IfOk result (λ e. RowsKept s.now at e comments.old comments.new) }
     ensures all { IfOk result (λ e. Stuck (IsRow s.now e)) }
     ensures boundary { IfOk result (λ e. IsCharBoundary s.now e) }
 {
@@ -245,7 +245,7 @@ fn comment_lines<'a>(
     Ok(end)
 }
 
-// The offset after all white space that stands at the offset, where mostly none does.
+// The offset after all white space that is at the offset, where mostly none is.
 #[inline(always)]
 fn past_white(s: &str, at: usize) -> usize
     requires { IsCharBoundary s.now at }
@@ -254,7 +254,7 @@ fn past_white(s: &str, at: usize) -> usize
     ensures boundary { IsCharBoundary s.now result }
     ensures order { at ≤ result }
 {
-    if white_stands(s, at) {
+    if is_white_at(s, at) {
         return white_end(s, at);
     }
     at
@@ -294,7 +294,7 @@ pub fn line_end<'a>(
         Some(next) => {
             from = next;
             first = skip_whites(s, next);
-            if solid_stands(s, first) {
+            if is_solid_at(s, first) {
                 return Ok(Some(Separation {
                     comments: Comments::new(alloc),
                     end: next,
@@ -306,7 +306,7 @@ pub fn line_end<'a>(
     line_end_far(alloc, s, at, from, first)
 }
 
-// The same, where a comment may stand before the break, or comment lines follow. It goes on from a line that has ended, if
+// The same, where a comment may be before the break, or comment lines follow. It goes on from a line that has ended, if
 // one has, and where white space ends at the place.
 #[inline(never)]
 fn line_end_far<'a>(

@@ -4,13 +4,14 @@ ghost use Rattle.std.specs.Str.{IsCharBoundary};
 ghost use Rattle.yf_chars.specs.Chain.{Chosen, Stuck};
 ghost use Rattle.yf_comments.specs.Comments.{LineEnd, Separate};
 
-use crate::comments::Found;
+use crate::comments::Separation;
 use crate::lines::line_end;
 use crate::separation::separate;
 use std::alloc::{AllocError, Global};
 use yf_chars::context::Ctx;
 use yf_lines::fault::Fault;
 use yf_lines::source_text::Src;
+use yf_lines::text::ReadResult;
 
 /// Reads the end of a line and the comment lines after it (s-l-comments, production 79), from a byte offset on: as much
 /// as there is, with all comments in order.
@@ -20,7 +21,7 @@ use yf_lines::source_text::Src;
 /// # Errors
 ///
 /// `Fault::Memory` where a growth of memory was refused.
-pub fn read_line_end<'a>(alloc: Global, src: &Src<'a>, at: usize) -> Found<'a>
+pub fn read_line_end<'a>(alloc: Global, src: &Src<'a>, at: usize) -> ReadResult<Separation<'a>>
     requires { IsCharBoundary src.now.text at }
     ensures { MatchResult result (λ o. MatchOption o (Stuck (LineEnd src.now.text at))
         (λ p. Chosen (LineEnd src.now.text at) p.end p.comments × IsCharBoundary src.now.text p.end)) (λ fault. fault ≡ Fault.Memory) }
@@ -40,7 +41,13 @@ pub fn read_line_end<'a>(alloc: Global, src: &Src<'a>, at: usize) -> Found<'a>
 /// # Errors
 ///
 /// `Fault::Memory` where a growth of memory was refused.
-pub fn read_separation<'a>(alloc: Global, src: &Src<'a>, at: usize, n: i32, ctx: Ctx) -> Found<'a>
+pub fn read_separation<'a>(
+    alloc: Global,
+    src: &Src<'a>,
+    at: usize,
+    n: i32,
+    ctx: Ctx,
+) -> ReadResult<Separation<'a>>
     requires { IsCharBoundary src.now.text at }
     ensures { MatchResult result (λ o. MatchOption o (Stuck (Separate src.now.text n ctx at))
         (λ p. Chosen (Separate src.now.text n ctx at) p.end p.comments × IsCharBoundary src.now.text p.end))

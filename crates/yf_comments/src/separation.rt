@@ -9,7 +9,7 @@ ghost use Rattle.yf_comments.specs.Comment.{CommentValue};
 ghost use Rattle.yf_comments.specs.Comments.{Row, Separate, SeparateLines, Upto};
 
 use crate::comments::{Comments, Separation};
-use crate::lines::{next_row, solid_stands};
+use crate::lines::{is_solid_at, next_row};
 use std::alloc::{AllocError, Global};
 use yf_chars::context::Ctx;
 use yf_lines::basic::{is_line_start, skip_spaces, skip_whites};
@@ -53,7 +53,7 @@ fn in_line_from(s: &str, at: usize, place: usize) -> Option<usize>
     None
 }
 
-// Whether so many spaces stand there.
+// Whether so many spaces are there.
 fn is_indented(s: &str, at: usize, width: usize) -> bool
     requires { IsCharBoundary s.now at }
     ensures { MatchBool result (Spaces s.now at width) (Nowhere (FlowPrefix s.now (pos width) at)) }
@@ -158,7 +158,7 @@ fn last_reach<'a>(
 
 /// Reads a separation that may go over lines (s-separate-lines(n), production 81): the longest.
 ///
-/// It ends in the last line at whose start the indentation stands, so a comment line that is indented less is not in it.
+/// It ends in the last line at whose start the indentation is, so a comment line that is indented less is not in it.
 pub fn separate_lines<'a>(
     alloc: Global,
     s: &'a str,
@@ -221,7 +221,7 @@ pub fn separate<'a>(
     ensures order { IfOk result (λ o. IfSome o (λ p. at ≤ p.end)) }
 {
     let place = skip_whites(s, at);
-    if !solid_stands(s, place) {
+    if !is_solid_at(s, place) {
         return separate_far(alloc, s, at, place, n, ctx);
     }
     match in_line_from(s, at, place) {
@@ -233,7 +233,7 @@ pub fn separate<'a>(
     }
 }
 
-// The same, where the line may end, or a comment may stand there, and white space ends at the place.
+// The same, where the line may end, or a comment may be there, and white space ends at the place.
 #[inline(never)]
 fn separate_far<'a>(
     alloc: Global,

@@ -1,6 +1,6 @@
 -- Brackets that are open.
 use Rattle.std.specs.Prelude.{ℕ, List, ◌≤◌, Result, MatchResult}
-use Rattle.yf_diagnose.specs.Told.{Behind, NotBefore}
+use Rattle.yf_diagnose.specs.SecondReadings.{IsAfter, NotBefore}
 use Rattle.yf_diagnose.specs.declared.leaves.Held.{Held}
 use Rattle.yf_diagnose.specs.declared.leaves.Held.TheVariants.{Content, Empty}
 use Rattle.yf_diagnose.specs.declared.diagnosis.Mistake.{Mistake}
@@ -9,10 +9,10 @@ use Rattle.yf_diagnose.specs.declared.diagnosis.Mistake.{Mistake}
 abbrev pub IsOpen : ℕ → Type 0
 IsOpen count = (1 ≤ count) × (count ≤ 1024)
 
--- the content stands not before the place; where there is none, the properties end after it
+-- the content is not before the place; where there is none, the properties end after it
 abbrev pub IsHeld : List ℕ → ℕ → Held → Type 0
 IsHeld t at (Content content) = NotBefore t at content
-IsHeld t at (Empty end) = Behind t at end
+IsHeld t at (Empty end) = IsAfter t at end
 
 abbrev pub HeldAt : List ℕ → ℕ → Result Held Mistake → Type 0
 HeldAt t at answer = MatchResult answer (IsHeld t at) (λ d. NotBefore t at d.at)

@@ -1,4 +1,4 @@
 pub mod Brackets
 pub mod Lines
 pub mod Quoted
-pub mod Told
+pub mod SecondReadings

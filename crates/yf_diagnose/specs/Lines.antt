@@ -1,10 +1,10 @@
 -- The lines of quoted text and of brackets.
 use Rattle.std.specs.Prelude.{ℕ, List}
-use Rattle.yf_diagnose.specs.Told.{NotBefore}
+use Rattle.yf_diagnose.specs.SecondReadings.{NotBefore}
 use Rattle.yf_diagnose.specs.declared.lines.NextLine.{NextLine}
 use Rattle.yf_diagnose.specs.declared.lines.NextLine.TheVariants.{Goes, Ends, Tab, Left}
 
--- what is told of the next line stands between characters, not before the place
+-- what is told of the next line is between characters, not before the place
 abbrev pub NextLineAt : List ℕ → ℕ → NextLine → Type 0
 NextLineAt t at (Goes sign) = NotBefore t at sign
 NextLineAt t at Ends = Unit {0}

@@ -2,15 +2,15 @@
 ghost use Rattle.std.specs.Prelude.{◌≡◌, ◌+◌, ◌<◌, ◌≤◌, IfOk};
 ghost use Rattle.std.specs.Str.{IsCharBoundary};
 ghost use Rattle.yf_diagnose.specs.Brackets.{IsOpen};
-ghost use Rattle.yf_diagnose.specs.Told.{Told};
+ghost use Rattle.yf_diagnose.specs.SecondReadings.{IsReadAfter};
 
 use crate::diagnosis::{Mistake, refused};
 use crate::gap::gap_end;
-use crate::leaves::{Held, colon_stands, held_content, leaf_end, quote_stands};
+use crate::leaves::{Held, held_content, is_colon_at, is_quote_at, leaf_end};
 use crate::lines::{Margin, breaks_between, is_long, sign_why};
 use crate::why::Why;
-use yf_chars::text::stands;
-use yf_lines::basic::{skip_whites, white_or_end_stands};
+use yf_chars::text::is_char_at;
+use yf_lines::basic::{is_white_or_end_at, skip_whites};
 
 /// How many brackets may be open at once.
 pub const LEVELS: usize = 1024;
@@ -41,14 +41,14 @@ struct Levels {
     count: usize,
 }
 
-/// The end of the brackets of which the opening one stands there.
+/// The end of the brackets of which the opening one is there.
 pub(crate) fn brackets_end(text: &str, at: usize, margin: Margin) -> Result<usize, Mistake>
     requires boundary { IsCharBoundary text.now at }
     requires inside { IsCharBoundary text.now (at + 1) }
-    ensures { Told text.now at result }
+    ensures { IsReadAfter text.now at result }
 {
     let outermost = Level {
-        mapping: stands(text, at, b'{'),
+        mapping: is_char_at(text, at, b'{'),
         awaits: Awaits::Entry,
         start: at,
     };
@@ -93,21 +93,21 @@ impl Levels {
         self.set(Level { awaits, ..top });
     }
 
-    // What begins with the sign that stands there.
+    // What begins with the sign that is there.
     fn read(&mut self, text: &str, at: usize, margin: Margin) -> Result<usize, Mistake>
         requires levels { IsOpen self.old.count }
         requires boundary { IsCharBoundary text.now at }
         ensures levels { IfOk result (λ _. self.new.count ≤ 1024) }
-        ensures told { Told text.now at result }
+        ensures told { IsReadAfter text.now at result }
     {
-        if stands(text, at, b']') {
+        if is_char_at(text, at, b']') {
             return self.close(text, at, false, margin);
         }
-        if stands(text, at, b'}') {
+        if is_char_at(text, at, b'}') {
             return self.close(text, at, true, margin);
         }
         let top = self.top();
-        if stands(text, at, b',') {
+        if is_char_at(text, at, b',') {
             if matches!(top.awaits, Awaits::Entry) {
                 return refused(at, Why::NoEntryBeforeComma);
             }
@@ -119,8 +119,8 @@ impl Levels {
             Awaits::Value => self.entry(text, at, margin),
             Awaits::Key => self.key(text, at, margin),
             Awaits::Entry => {
-                if stands(text, at, b'?') {
-                    if white_or_end_stands(text, at + 1) {
+                if is_char_at(text, at, b'?') {
+                    if is_white_or_end_at(text, at + 1) {
                         self.awaits(Awaits::Key);
                         return Ok(at + 1);
                     }
@@ -142,7 +142,7 @@ impl Levels {
         requires boundary { IsCharBoundary text.now at }
         requires inside { IsCharBoundary text.now (at + 1) }
         ensures levels { IfOk result (λ _. self.new.count ≤ 1024) }
-        ensures told { Told text.now at result }
+        ensures told { IsReadAfter text.now at result }
     {
         let top = self.top();
         if top.mapping != mapping {
@@ -152,7 +152,7 @@ impl Levels {
         if self.count == 0 {
             return Ok(at + 1);
         }
-        self.behind(text, at, at + 1, true, margin)
+        self.after(text, at, at + 1, true, margin)
     }
 
     // A key or an item, or the `:` of an empty key.
@@ -160,9 +160,9 @@ impl Levels {
         requires levels { IsOpen self.old.count }
         requires boundary { IsCharBoundary text.now at }
         ensures levels { IfOk result (λ _. self.new.count ≤ 1024) }
-        ensures told { Told text.now at result }
+        ensures told { IsReadAfter text.now at result }
     {
-        if colon_stands(text, at, false) {
+        if is_colon_at(text, at, false) {
             return self.colon(text, at, at, false);
         }
         self.entry(text, at, margin)
@@ -173,13 +173,13 @@ impl Levels {
         requires levels { IsOpen self.old.count }
         requires boundary { IsCharBoundary text.now at }
         ensures levels { IfOk result (λ _. self.new.count ≤ 1024) }
-        ensures told { Told text.now at result }
+        ensures told { IsReadAfter text.now at result }
     {
         let top = self.top();
         self.set(Level { start: at, ..top });
         match held_content(text, at, margin) {
             Err(told) => Err(told),
-            Ok(Held::Empty(end)) => self.behind(text, at, end, false, margin),
+            Ok(Held::Empty(end)) => self.after(text, at, end, false, margin),
             Ok(Held::Content(content)) => self.content(text, at, content, margin),
         }
     }
@@ -196,17 +196,17 @@ impl Levels {
         requires boundary { IsCharBoundary text.now at }
         requires order { start ≤ at }
         ensures levels { IfOk result (λ _. self.new.count ≤ 1024) }
-        ensures told { Told text.now start result }
+        ensures told { IsReadAfter text.now start result }
     {
-        if stands(text, at, b'[') {
+        if is_char_at(text, at, b'[') {
             return self.begin(text, start, at, false);
         }
-        if stands(text, at, b'{') {
+        if is_char_at(text, at, b'{') {
             return self.begin(text, start, at, true);
         }
         match leaf_end(text, at, start < at, margin) {
             Err(told) => Err(told),
-            Ok(end) => self.behind(text, start, end, quote_stands(text, at), margin),
+            Ok(end) => self.after(text, start, end, is_quote_at(text, at), margin),
         }
     }
 
@@ -223,7 +223,7 @@ impl Levels {
         requires inside { IsCharBoundary text.now (at + 1) }
         requires order { start ≤ at }
         ensures levels { IfOk result (λ _. self.new.count ≤ 1024) }
-        ensures told { Told text.now start result }
+        ensures told { IsReadAfter text.now start result }
     {
         if self.count >= LEVELS {
             return refused(at, Why::NodeEnded);
@@ -237,8 +237,8 @@ impl Levels {
         Ok(at + 1)
     }
 
-    // What may stand behind a node that begins and ends at places.
-    fn behind(
+    // What may be after a node that begins and ends at places.
+    fn after(
         &mut self,
         text: &str,
         start: usize,
@@ -250,7 +250,7 @@ impl Levels {
         requires boundary { IsCharBoundary text.now at }
         requires order { start < at }
         ensures levels { IfOk result (λ _. self.new.count ≤ 1024) }
-        ensures told { Told text.now start result }
+        ensures told { IsReadAfter text.now start result }
     {
         let top = self.top();
         if matches!(top.awaits, Awaits::Value) {
@@ -259,13 +259,13 @@ impl Levels {
         }
         if matches!(top.awaits, Awaits::Entry) {
             if !top.mapping {
-                return self.behind_item(text, start, at, json);
+                return self.after_item(text, start, at, json);
             }
         }
         match gap_end(text, at, margin) {
             Err(told) => Err(told),
             Ok(next) => {
-                if colon_stands(text, next, json) {
+                if is_colon_at(text, next, json) {
                     return self.colon(text, start, next, json);
                 }
                 self.awaits(Awaits::Comma);
@@ -275,7 +275,7 @@ impl Levels {
     }
 
     // The same of an item of a sequence, which may be the key of a single pair (production 150).
-    fn behind_item(
+    fn after_item(
         &mut self,
         text: &str,
         start: usize,
@@ -286,10 +286,10 @@ impl Levels {
         requires boundary { IsCharBoundary text.now at }
         requires order { start < at }
         ensures levels { IfOk result (λ _. self.new.count ≤ 1024) }
-        ensures told { Told text.now start result }
+        ensures told { IsReadAfter text.now start result }
     {
         let colon = skip_whites(text, at);
-        if !colon_stands(text, colon, json) {
+        if !is_colon_at(text, colon, json) {
             self.awaits(Awaits::Comma);
             return Ok(at);
         }
@@ -303,18 +303,18 @@ impl Levels {
         self.colon(text, start, colon, json)
     }
 
-    // The `:` behind a key that begins at a place.
+    // The `:` after a key that begins at a place.
     fn colon(&mut self, text: &str, start: usize, at: usize, json: bool) -> Result<usize, Mistake>
         requires levels { IsOpen self.old.count }
         requires boundary { IsCharBoundary text.now at }
         requires inside { IsCharBoundary text.now (at + 1) }
         requires order { start ≤ at }
         ensures levels { IfOk result (λ _. self.new.count ≤ 1024) }
-        ensures told { Told text.now start result }
+        ensures told { IsReadAfter text.now start result }
     {
         self.awaits(Awaits::Value);
         if !json {
-            if bracket_stands(text, at + 1) {
+            if is_bracket_at(text, at + 1) {
                 return refused(at, Why::ColonUnspaced);
             }
         }
@@ -322,20 +322,20 @@ impl Levels {
     }
 }
 
-// Why no comma stands there.
+// Why no comma is there.
 fn comma_why(text: &str, at: usize) -> Why
     requires { IsCharBoundary text.now at }
 {
-    if stands(text, at, b':') {
+    if is_char_at(text, at, b':') {
         return Why::SecondColon;
     }
     sign_why(text, at, Why::CommaExpected)
 }
 
-// Whether an opening bracket stands there.
-fn bracket_stands(text: &str, at: usize) -> bool {
-    if stands(text, at, b'[') {
+// Whether an opening bracket is there.
+fn is_bracket_at(text: &str, at: usize) -> bool {
+    if is_char_at(text, at, b'[') {
         return true;
     }
-    stands(text, at, b'{')
+    is_char_at(text, at, b'{')
 }

@@ -1,7 +1,7 @@
 //! What is told of a refusal.
 ghost use Rattle.std.specs.Prelude.{◌≡◌, Err};
 ghost use Rattle.std.specs.Str.{IsCharBoundary};
-ghost use Rattle.yf_diagnose.specs.Told.{IsDiagnosed, Passed};
+ghost use Rattle.yf_diagnose.specs.SecondReadings.{IsDiagnosed, IsReadFrom};
 
 use crate::why::Why;
 
@@ -17,7 +17,7 @@ pub(crate) struct Mistake {
 pub struct Diagnosis {
     /// Where what was refused begins, or the white space before it.
     pub from: usize,
-    /// The first sign that is wrong there. Of a quote that isn't closed it is the quote, of brackets the place behind the last sign in them.
+    /// The first sign that is wrong there. Of a quote that isn't closed it is the quote, of brackets the place after the last sign in them.
     pub at: usize,
     pub why: Why,
 }
@@ -32,11 +32,11 @@ pub(crate) fn refused(at: usize, why: Why) -> Result<usize, Mistake>
 /// What is told of a reading that begins at a place: where it ends well, that something else is wrong with what begins there.
 pub(crate) fn told(text: &str, at: usize, read: Result<usize, Mistake>, why: Why) -> Diagnosis
     requires boundary { IsCharBoundary text.now at }
-    requires read { Passed text.now at read }
+    requires read { IsReadFrom text.now at read }
     ensures { IsDiagnosed text.now at result }
 {
     match read {
-        Err(wrong) => behind(at, wrong),
+        Err(wrong) => after(at, wrong),
         Ok(_) => here(at, why),
     }
 }
@@ -49,7 +49,7 @@ pub(crate) fn here(at: usize, why: Why) -> Diagnosis
 }
 
 /// What is told of a reading that begins at a place and goes wrong.
-pub(crate) fn behind(from: usize, wrong: Mistake) -> Diagnosis
+pub(crate) fn after(from: usize, wrong: Mistake) -> Diagnosis
     ensures { result ≡ record { from = from; at = wrong.at; why = wrong.why } }
 {
     Diagnosis {

@@ -2,21 +2,21 @@
 ghost use Rattle.std.specs.Prelude.{◌≤◌, IfSome};
 ghost use Rattle.std.specs.Str.{IsCharBoundary};
 ghost use Rattle.yf_diagnose.specs.Lines.{NextLineAt};
-ghost use Rattle.yf_diagnose.specs.Told.{NotBefore, Passed};
+ghost use Rattle.yf_diagnose.specs.SecondReadings.{NotBefore, IsReadFrom};
 
 use crate::diagnosis::{Mistake, refused};
 use crate::lines::{Margin, NextLine, comment_end, next_line};
 use crate::why::Why;
-use yf_chars::text::stands;
+use yf_chars::text::is_char_at;
 use yf_lines::basic::{line_break, skip_whites};
 
-/// The next sign in brackets. Where there is none, the place behind the last one is told.
+/// The next sign in brackets. Where there is none, the place after the last one is told.
 pub(crate) fn gap_end(text: &str, at: usize, margin: Margin) -> Result<usize, Mistake>
     requires { IsCharBoundary text.now at }
-    ensures { Passed text.now at result }
+    ensures { IsReadFrom text.now at result }
 {
     let sign = skip_whites(text, at);
-    if stands(text, sign, b'#') {
+    if is_char_at(text, sign, b'#') {
         if sign > at {
             return comment_passed(text, at, sign, margin);
         }
@@ -40,7 +40,7 @@ fn comment_passed(text: &str, last: usize, at: usize, margin: Margin) -> Result<
     requires last { IsCharBoundary text.now last }
     requires boundary { IsCharBoundary text.now at }
     requires order { last ≤ at }
-    ensures { Passed text.now last result }
+    ensures { IsReadFrom text.now last result }
 {
     match comment_end(text, at) {
         Err(told) => Err(told),
@@ -61,7 +61,7 @@ fn lines_passed(text: &str, last: usize, at: usize, least: usize) -> Result<usiz
     requires last { IsCharBoundary text.now last }
     requires boundary { IsCharBoundary text.now at }
     requires order { last ≤ at }
-    ensures { Passed text.now last result }
+    ensures { IsReadFrom text.now last result }
 {
     let mut start = at;
     'lines: loop {
@@ -89,7 +89,7 @@ fn comment_of(text: &str, at: usize, line: NextLine) -> Option<usize>
         NextLine::Goes(sign) | NextLine::Left(sign) => sign,
         NextLine::Tab(tab) => skip_whites(text, tab),
     };
-    if stands(text, sign, b'#') {
+    if is_char_at(text, sign, b'#') {
         return Some(sign);
     }
     None
@@ -100,7 +100,7 @@ fn sign_of(text: &str, last: usize, at: usize, line: NextLine) -> Result<usize, 
     requires last { IsCharBoundary text.now last }
     requires order { last ≤ at }
     requires line { NextLineAt text.now at line }
-    ensures { Passed text.now last result }
+    ensures { IsReadFrom text.now last result }
 {
     match line {
         NextLine::Goes(sign) => Ok(sign),
@@ -112,10 +112,10 @@ fn sign_of(text: &str, last: usize, at: usize, line: NextLine) -> Result<usize, 
 
 // Why a line in brackets can't begin with that sign so far to the left.
 fn left_why(text: &str, at: usize) -> Why {
-    if stands(text, at, b']') {
+    if is_char_at(text, at, b']') {
         return Why::BracketLeft;
     }
-    if stands(text, at, b'}') {
+    if is_char_at(text, at, b'}') {
         return Why::BracketLeft;
     }
     Why::LeftInBrackets

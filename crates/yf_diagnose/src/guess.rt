@@ -4,7 +4,7 @@ ghost use Rattle.std.specs.Prelude.{◌<◌};
 use crate::lines::is_break;
 use crate::look::{line_before, line_start};
 use crate::why::Why;
-use yf_chars::text::stands;
+use yf_chars::text::is_char_at;
 
 /// Why the text is refused at a place: for another reason where it looks like a template or a merge conflict.
 pub(crate) fn guessed(text: &str, at: usize, why: Why) -> Why {
@@ -33,16 +33,16 @@ pub(crate) fn guessed(text: &str, at: usize, why: Why) -> Why {
     why
 }
 
-// Whether `{{` and then `}}`, or `{%` and then `%}`, stand on the line that starts there.
+// Whether `{{` and then `}}`, or `{%` and then `%}`, are on the line that starts there.
 fn is_template(text: &str, start: usize) -> bool {
-    if pair_stands(text, start, b'{', b'}') {
+    if is_pair_at(text, start, b'{', b'}') {
         return true;
     }
-    pair_stands(text, start, b'%', b'%')
+    is_pair_at(text, start, b'%', b'%')
 }
 
-// Whether a `{` and one sign, and then another sign and a `}`, stand on the line.
-fn pair_stands(text: &str, start: usize, opening: u8, closing: u8) -> bool
+// Whether a `{` and one sign, and then another sign and a `}`, are on the line.
+fn is_pair_at(text: &str, start: usize, opening: u8, closing: u8) -> bool
     requires opening { opening < 128 }
     requires closing { closing < 128 }
 {
@@ -68,8 +68,8 @@ fn two_stand(text: &str, at: usize, first: u8, second: u8) -> bool
     requires first { first < 128 }
     requires second { second < 128 }
 {
-    if stands(text, at, first) {
-        return stands(text, at + 1, second);
+    if is_char_at(text, at, first) {
+        return is_char_at(text, at + 1, second);
     }
     false
 }
@@ -92,7 +92,7 @@ fn seven_stand(text: &str, start: usize, sign: u8) -> bool
     requires { sign < 128 }
 {
     for index in 0..7 {
-        if !stands(text, start.saturating_add(index), sign) {
+        if !is_char_at(text, start.saturating_add(index), sign) {
             return false;
         }
     }

@@ -1,23 +1,23 @@
 //! Keys on their lines, and nodes that are no block scalars. Offsets count bytes.
 ghost use Rattle.std.specs.Str.{IsCharBoundary};
-ghost use Rattle.yf_diagnose.specs.Told.{IsDiagnosed, Passed};
+ghost use Rattle.yf_diagnose.specs.SecondReadings.{IsDiagnosed, IsReadFrom};
 
 use crate::brackets::brackets_end;
-use crate::diagnosis::{Diagnosis, Mistake, behind, here, refused};
+use crate::diagnosis::{Diagnosis, Mistake, after, here, refused};
 use crate::leaves::is_second;
 use crate::lines::{Margin, line_ends};
-use crate::look::{indicator_stands, line_start, whites_before};
+use crate::look::{is_indicator_at, line_start, whites_before};
 use crate::plain::plain_end;
-use crate::property::{name_end, property_end, property_stands};
+use crate::property::{is_property_at, name_end, property_end};
 use crate::quoted::quoted_end;
 use crate::standing::key_line;
 use crate::why::Why;
 use yf_chars::context::Ctx;
-use yf_chars::text::stands;
+use yf_chars::text::is_char_at;
 use yf_lines::basic::skip_whites;
 use yf_lines::table::skip_marks;
 
-/// A key behind which its line ends, with no `:`. It may have begun on a line before.
+/// A key after which its line ends, with no `:`. It may have begun on a line before.
 pub(crate) fn without_colon(text: &str, start: usize, stop: usize) -> Diagnosis
     requires start { IsCharBoundary text.now start }
     requires stop { IsCharBoundary text.now stop }
@@ -35,7 +35,7 @@ pub(crate) fn without_colon(text: &str, start: usize, stop: usize) -> Diagnosis
     }
 }
 
-/// A `:` behind a text of several lines, which may be meant as a key of its first line alone.
+/// A `:` after a text of several lines, which may be meant as a key of its first line alone.
 pub(crate) fn joined(text: &str, at: usize) -> Diagnosis
     requires { IsCharBoundary text.now at }
     ensures { IsDiagnosed text.now at result }
@@ -48,7 +48,7 @@ pub(crate) fn joined(text: &str, at: usize) -> Diagnosis
                 return here(at, Why::LineJoined);
             }
             let first = skip_whites(text, skip_marks(text, line));
-            if indicator_stands(text, first) {
+            if is_indicator_at(text, first) {
                 return here(at, Why::LineJoined);
             }
             if first > at {
@@ -65,7 +65,7 @@ pub(crate) fn key_diagnosis(text: &str, at: usize) -> Diagnosis
     ensures { IsDiagnosed text.now at result }
 {
     match key_end(text, at) {
-        Err(wrong) => behind(at, wrong),
+        Err(wrong) => after(at, wrong),
         Ok(end) => Diagnosis {
             from: at,
             at: skip_whites(text, end),
@@ -77,7 +77,7 @@ pub(crate) fn key_diagnosis(text: &str, at: usize) -> Diagnosis
 // The end of a key on its line.
 fn key_end(text: &str, at: usize) -> Result<usize, Mistake>
     requires { IsCharBoundary text.now at }
-    ensures { Passed text.now at result }
+    ensures { IsReadFrom text.now at result }
 {
     let margin = Margin {
         least: 0,
@@ -86,8 +86,8 @@ fn key_end(text: &str, at: usize) -> Result<usize, Mistake>
     let mut here = at;
     let mut anchor = false;
     let mut tag = false;
-    'properties: while property_stands(text, here) {
-        let is_anchor = stands(text, here, b'&');
+    'properties: while is_property_at(text, here) {
+        let is_anchor = is_char_at(text, here, b'&');
         if is_second(is_anchor, anchor, tag) {
             return refused(here, Why::PropertyTwice);
         }
@@ -103,7 +103,7 @@ fn key_end(text: &str, at: usize) -> Result<usize, Mistake>
                 if line_ends(text, next) {
                     return Ok(end);
                 }
-                if comment_stands(text, next) {
+                if is_comment_at(text, next) {
                     return Ok(end);
                 }
                 if next == end {
@@ -122,17 +122,17 @@ fn key_end(text: &str, at: usize) -> Result<usize, Mistake>
 /// The end of a node without properties that is no block scalar.
 pub(crate) fn content_end(text: &str, at: usize, margin: Margin) -> Result<usize, Mistake>
     requires { IsCharBoundary text.now at }
-    ensures { Passed text.now at result }
+    ensures { IsReadFrom text.now at result }
 {
-    let read = if stands(text, at, b'"') {
+    let read = if is_char_at(text, at, b'"') {
         quoted_end(text, at, margin)
-    } else if stands(text, at, b'\'') {
+    } else if is_char_at(text, at, b'\'') {
         quoted_end(text, at, margin)
-    } else if stands(text, at, b'[') {
+    } else if is_char_at(text, at, b'[') {
         brackets_end(text, at, margin)
-    } else if stands(text, at, b'{') {
+    } else if is_char_at(text, at, b'{') {
         brackets_end(text, at, margin)
-    } else if stands(text, at, b'*') {
+    } else if is_char_at(text, at, b'*') {
         name_end(text, at)
     } else {
         return Ok(plain_end(text, at, Ctx::FlowOut));
@@ -143,9 +143,9 @@ pub(crate) fn content_end(text: &str, at: usize, margin: Margin) -> Result<usize
     }
 }
 
-/// Whether a comment begins there, behind white space.
-pub(crate) fn comment_stands(text: &str, at: usize) -> bool {
-    if stands(text, at, b'#') {
+/// Whether a comment begins there, after white space.
+pub(crate) fn is_comment_at(text: &str, at: usize) -> bool {
+    if is_char_at(text, at, b'#') {
         return whites_before(text, at) < at;
     }
     false

@@ -2,17 +2,17 @@
 ghost use Rattle.std.specs.Prelude.{◌+◌, MatchBool, ⊤};
 ghost use Rattle.std.specs.Str.{IsCharBoundary};
 ghost use Rattle.yf_diagnose.specs.Brackets.{HeldAt};
-ghost use Rattle.yf_diagnose.specs.Told.{Told};
+ghost use Rattle.yf_diagnose.specs.SecondReadings.{IsReadAfter};
 
 use crate::diagnosis::{Mistake, refused};
 use crate::gap::gap_end;
 use crate::lines::{Margin, sign_why};
-use crate::plain::{plain_begun, plain_lines_end, safe_stands};
-use crate::property::{name_end, property_end, property_stands};
+use crate::plain::{is_safe_at, plain_begun, plain_lines_end};
+use crate::property::{is_property_at, name_end, property_end};
 use crate::quoted::quoted_end;
 use crate::why::Why;
 use yf_chars::context::Ctx;
-use yf_chars::text::stands;
+use yf_chars::text::is_char_at;
 
 /// The content of a node, or the end of its properties where it has none.
 #[derive(Clone, Copy)]
@@ -21,7 +21,7 @@ pub(crate) enum Held {
     Empty(usize),
 }
 
-/// The content of a node behind its properties.
+/// The content of a node after its properties.
 pub(crate) fn held_content(text: &str, at: usize, margin: Margin) -> Result<Held, Mistake>
     requires { IsCharBoundary text.now at }
     ensures { HeldAt text.now at result }
@@ -29,8 +29,8 @@ pub(crate) fn held_content(text: &str, at: usize, margin: Margin) -> Result<Held
     let mut here = at;
     let mut anchor = false;
     let mut tag = false;
-    'properties: while property_stands(text, here) {
-        let is_anchor = stands(text, here, b'&');
+    'properties: while is_property_at(text, here) {
+        let is_anchor = is_char_at(text, here, b'&');
         if is_second(is_anchor, anchor, tag) {
             return Err(Mistake {
                 at: here,
@@ -75,15 +75,15 @@ pub(crate) fn is_second(is_anchor: bool, anchor: bool, tag: bool) -> bool {
 /// The end of the leaf that begins there; with properties before it, it can't be an alias.
 pub(crate) fn leaf_end(text: &str, at: usize, held: bool, margin: Margin) -> Result<usize, Mistake>
     requires { IsCharBoundary text.now at }
-    ensures { Told text.now at result }
+    ensures { IsReadAfter text.now at result }
 {
-    if stands(text, at, b'"') {
+    if is_char_at(text, at, b'"') {
         return quoted_end(text, at, margin);
     }
-    if stands(text, at, b'\'') {
+    if is_char_at(text, at, b'\'') {
         return quoted_end(text, at, margin);
     }
-    if stands(text, at, b'*') {
+    if is_char_at(text, at, b'*') {
         if held {
             return refused(at, Why::AliasProperties);
         }
@@ -99,43 +99,43 @@ pub(crate) fn leaf_end(text: &str, at: usize, held: bool, margin: Margin) -> Res
 fn leaf_why(text: &str, at: usize) -> Why
     requires { IsCharBoundary text.now at }
 {
-    if stands(text, at, b'-') {
+    if is_char_at(text, at, b'-') {
         return Why::DashInBrackets;
     }
     sign_why(text, at, Why::NoPlain)
 }
 
-/// Whether a quote stands there.
-pub(crate) fn quote_stands(text: &str, at: usize) -> bool {
-    if stands(text, at, b'"') {
+/// Whether a quote is there.
+pub(crate) fn is_quote_at(text: &str, at: usize) -> bool {
+    if is_char_at(text, at, b'"') {
         return true;
     }
-    stands(text, at, b'\'')
+    is_char_at(text, at, b'\'')
 }
 
-/// Whether the `:` of a value stands there; behind quotes and brackets it needs no white space after it.
-pub(crate) fn colon_stands(text: &str, at: usize, json: bool) -> bool
+/// Whether the `:` of a value is there; after quotes and brackets it needs no white space after it.
+pub(crate) fn is_colon_at(text: &str, at: usize, json: bool) -> bool
     ensures { MatchBool result (IsCharBoundary text.now (at + 1)) ⊤ }
 {
-    if stands(text, at, b':') {
+    if is_char_at(text, at, b':') {
         if json {
             return true;
         }
-        return !safe_stands(text, at + 1, Ctx::FlowIn);
+        return !is_safe_at(text, at + 1, Ctx::FlowIn);
     }
     false
 }
 
-// Whether what stands there ends a node that has properties alone.
+// Whether what is there ends a node that has properties alone.
 fn node_ends(text: &str, at: usize) -> bool {
-    if stands(text, at, b',') {
+    if is_char_at(text, at, b',') {
         return true;
     }
-    if stands(text, at, b']') {
+    if is_char_at(text, at, b']') {
         return true;
     }
-    if stands(text, at, b'}') {
+    if is_char_at(text, at, b'}') {
         return true;
     }
-    colon_stands(text, at, false)
+    is_colon_at(text, at, false)
 }

@@ -1,18 +1,18 @@
 //! The lines of quoted text and of brackets. Offsets count bytes.
 ghost use Rattle.std.specs.Prelude.{◌+◌, ◌<◌, MatchBool, ⊤, length};
 ghost use Rattle.std.specs.Str.{IsCharBoundary};
-ghost use Rattle.yf_diagnose.specs.Told.{Passed};
+ghost use Rattle.yf_diagnose.specs.SecondReadings.{IsReadFrom};
 ghost use Rattle.yf_diagnose.specs.Lines.{NextLineAt};
 
 use crate::diagnosis::{Mistake, refused};
 use crate::why::Why;
 use yf_chars::classes::is_printable;
 use yf_chars::nb_runs::skip_nb_chars;
-use yf_chars::text::{peek, stands};
-use yf_lines::basic::{line_break, marker_stands, skip_spaces, skip_whites};
+use yf_chars::text::{is_char_at, peek};
+use yf_lines::basic::{is_marker_at, line_break, skip_spaces, skip_whites};
 use yf_lines::table::skip_marks;
 
-/// How the lines of a node are held: how many spaces they begin with at least, and whether it must stand on one line, as a key.
+/// How the lines of a node are held: how many spaces they begin with at least, and whether it must be on one line, as a key.
 #[derive(Clone, Copy)]
 pub(crate) struct Margin {
     pub(crate) least: usize,
@@ -22,13 +22,13 @@ pub(crate) struct Margin {
 /// What the next line is that is not blank.
 #[derive(Clone, Copy)]
 pub(crate) enum NextLine {
-    /// Its first sign stands there, and it is indented as it must be.
+    /// Its first sign is there, and it is indented as it must be.
     Goes(usize),
     /// The text ends, or the document.
     Ends,
-    /// A tab stands where it must be indented.
+    /// A tab is where it must be indented.
     Tab(usize),
-    /// Its first sign stands too far to the left.
+    /// Its first sign is too far to the left.
     Left(usize),
 }
 
@@ -47,7 +47,7 @@ pub(crate) fn next_line(text: &str, at: usize, least: usize) -> NextLine
                 if sign == text.len() {
                     return NextLine::Ends;
                 }
-                if marker_stands(text, skip_marks(text, start)) {
+                if is_marker_at(text, skip_marks(text, start)) {
                     return NextLine::Ends;
                 }
                 if indented - start >= least {
@@ -65,7 +65,7 @@ pub(crate) fn next_line(text: &str, at: usize, least: usize) -> NextLine
 /// The end of the comment that begins there.
 pub(crate) fn comment_end(text: &str, at: usize) -> Result<usize, Mistake>
     requires { IsCharBoundary text.now at }
-    ensures { Passed text.now at result }
+    ensures { IsReadFrom text.now at result }
 {
     let end = skip_nb_chars(text, at);
     if line_ends(text, end) {
@@ -74,7 +74,7 @@ pub(crate) fn comment_end(text: &str, at: usize) -> Result<usize, Mistake>
     refused(end, sign_why(text, end, Why::Control))
 }
 
-/// Why a sign is refused: for itself where it may stand nowhere, else for a reason that is known.
+/// Why a sign is refused: for itself where it may be nowhere, else for a reason that is known.
 pub(crate) fn sign_why(text: &str, at: usize, why: Why) -> Why
     requires { IsCharBoundary text.now at }
 {
@@ -102,7 +102,7 @@ pub(crate) fn line_ends(text: &str, at: usize) -> bool
     is_break(text, at)
 }
 
-/// Whether a character of a line break stands between two places.
+/// Whether a character of a line break is between two places.
 pub(crate) fn breaks_between(text: &str, from: usize, to: usize) -> bool {
     let mut at = from;
     'bytes: while at < to {
@@ -114,7 +114,7 @@ pub(crate) fn breaks_between(text: &str, from: usize, to: usize) -> bool {
     false
 }
 
-/// Whether more than 1,024 characters stand between two places.
+/// Whether more than 1,024 characters are between two places.
 pub(crate) fn is_long(text: &str, from: usize, to: usize) -> bool {
     let bytes = text.as_bytes();
     let mut count: usize = 0;
@@ -130,12 +130,12 @@ pub(crate) fn is_long(text: &str, from: usize, to: usize) -> bool {
     count > 1024
 }
 
-/// Whether a character of a line break stands there.
+/// Whether a character of a line break is there.
 pub(crate) fn is_break(text: &str, at: usize) -> bool
     ensures { MatchBool result (IsCharBoundary text.now (at + 1)) ⊤ }
 {
-    if stands(text, at, b'\n') {
+    if is_char_at(text, at, b'\n') {
         return true;
     }
-    stands(text, at, b'\r')
+    is_char_at(text, at, b'\r')
 }

@@ -1,11 +1,11 @@
-//! What stands before a place, and on a line. Offsets count bytes.
+//! What is before a place, and on a line. Offsets count bytes.
 ghost use Rattle.std.specs.Prelude.{◌≤◌, ◌<◌, ◌+◌, IfSome, MatchBool, ⊤, length};
 ghost use Rattle.std.specs.Str.{IsCharBoundary};
-ghost use Rattle.yf_diagnose.specs.Told.{NotBefore};
+ghost use Rattle.yf_diagnose.specs.SecondReadings.{NotBefore};
 
 use crate::lines::{is_break, line_ends};
-use yf_chars::text::stands;
-use yf_lines::basic::{marker_stands, skip_spaces, skip_whites, white_or_end_stands, white_stands};
+use yf_chars::text::is_char_at;
+use yf_lines::basic::{is_marker_at, is_white_at, is_white_or_end_at, skip_spaces, skip_whites};
 use yf_lines::table::skip_marks;
 
 /// The start of the line to which the place belongs, before its byte order marks.
@@ -32,8 +32,8 @@ pub(crate) fn line_before(text: &str, start: usize) -> usize
 {
     let last = start - 1;
     if last > 0 {
-        if stands(text, last, b'\n') {
-            if stands(text, last - 1, b'\r') {
+        if is_char_at(text, last, b'\n') {
+            if is_char_at(text, last - 1, b'\r') {
                 return line_start(text, last - 1);
             }
         }
@@ -47,7 +47,7 @@ pub(crate) fn whites_before(text: &str, at: usize) -> usize
 {
     let mut start = at;
     'bytes: while start > 0 {
-        if !white_stands(text, start - 1) {
+        if !is_white_at(text, start - 1) {
             return start;
         }
         start -= 1;
@@ -66,7 +66,7 @@ pub(crate) fn word_before(text: &str, at: usize) -> usize
         if is_break(text, last) {
             return last + 1;
         }
-        if white_stands(text, last) {
+        if is_white_at(text, last) {
             return last + 1;
         }
         start = last;
@@ -74,18 +74,18 @@ pub(crate) fn word_before(text: &str, at: usize) -> usize
     0
 }
 
-/// Whether a `-`, `?` or `:` stands there that white space, a break or the end of the text follows.
-pub(crate) fn indicator_stands(text: &str, at: usize) -> bool
+/// Whether a `-`, `?` or `:` is there that white space, a break or the end of the text follows.
+pub(crate) fn is_indicator_at(text: &str, at: usize) -> bool
     ensures { MatchBool result (IsCharBoundary text.now (at + 1)) ⊤ }
 {
-    if stands(text, at, b'-') {
-        return white_or_end_stands(text, at + 1);
+    if is_char_at(text, at, b'-') {
+        return is_white_or_end_at(text, at + 1);
     }
-    if stands(text, at, b'?') {
-        return white_or_end_stands(text, at + 1);
+    if is_char_at(text, at, b'?') {
+        return is_white_or_end_at(text, at + 1);
     }
-    if stands(text, at, b':') {
-        return white_or_end_stands(text, at + 1);
+    if is_char_at(text, at, b':') {
+        return is_white_or_end_at(text, at + 1);
     }
     false
 }
@@ -98,10 +98,10 @@ pub(crate) fn first_tab(text: &str, from: usize, to: usize) -> Option<usize>
 {
     let mut at = from;
     'whites: while at < to {
-        if stands(text, at, b'\t') {
+        if is_char_at(text, at, b'\t') {
             return Some(at);
         }
-        if !stands(text, at, b' ') {
+        if !is_char_at(text, at, b' ') {
             return None;
         }
         at += 1;
@@ -109,15 +109,15 @@ pub(crate) fn first_tab(text: &str, from: usize, to: usize) -> Option<usize>
     None
 }
 
-/// Whether a `:` that white space, a break or the end of the text follows stands on a line from one place up to another.
+/// Whether a `:` that white space, a break or the end of the text follows is on a line from one place up to another.
 pub(crate) fn has_colon(text: &str, from: usize, to: usize) -> bool {
     let mut at = from;
     'bytes: while at < to {
         if is_break(text, at) {
             return false;
         }
-        if stands(text, at, b':') {
-            if indicator_stands(text, at) {
+        if is_char_at(text, at, b':') {
+            if is_indicator_at(text, at) {
                 return true;
             }
         }
@@ -131,12 +131,12 @@ pub(crate) fn text_end(text: &str, from: usize) -> usize {
     let mut end = from;
     let mut at = from;
     'bytes: while !line_ends(text, at) {
-        if stands(text, at, b'#') {
+        if is_char_at(text, at, b'#') {
             if at > end {
                 return end;
             }
         }
-        let white = white_stands(text, at);
+        let white = is_white_at(text, at);
         at += 1;
         if !white {
             end = at;
@@ -145,16 +145,16 @@ pub(crate) fn text_end(text: &str, from: usize) -> usize {
     end
 }
 
-// The offset behind the document marker that stands there, or the place itself.
-fn behind_marker(text: &str, at: usize) -> usize
+// The offset after the document marker that is there, or the place itself.
+fn after_marker(text: &str, at: usize) -> usize
     requires { IsCharBoundary text.now at }
     ensures { NotBefore text.now at result }
 {
-    if marker_stands(text, at) {
-        if stands(text, at + 2, b'-') {
+    if is_marker_at(text, at) {
+        if is_char_at(text, at + 2, b'-') {
             return at + 3;
         }
-        if stands(text, at + 2, b'.') {
+        if is_char_at(text, at + 2, b'.') {
             return at + 3;
         }
     }
@@ -166,15 +166,15 @@ fn behind_marker(text: &str, at: usize) -> usize
 pub(crate) struct Beginning {
     /// The offset after its byte order marks.
     pub(crate) base: usize,
-    /// The first sign that is no indicator, or that stands not before the place up to which it was asked.
+    /// The first sign that is no indicator, or that is not before the place up to which it was asked.
     pub(crate) at: usize,
-    /// The bytes between both, so the column of the sign, from 0, where no tab stands before it.
+    /// The bytes between both, so the column of the sign, from 0, where no tab is before it.
     pub(crate) column: usize,
     /// The column, from 1, of the last indicator; 0 if there is none.
     pub(crate) least: usize,
     /// The first tab after the last indicator, or at the start of the line.
     pub(crate) tab: Option<usize>,
-    /// Whether no sign stands before it.
+    /// Whether no sign is before it.
     pub(crate) first: bool,
     /// Whether the line begins with a document marker.
     pub(crate) marker: bool,
@@ -189,13 +189,13 @@ pub(crate) fn begun_line(text: &str, start: usize, to: usize) -> Beginning
     ensures boundary { IsCharBoundary text.now result.at }
 {
     let base = skip_marks(text, start);
-    let mut from = behind_marker(text, base);
+    let mut from = after_marker(text, base);
     let marker = from > base;
     let mut at = skip_whites(text, from);
     let mut least = 0;
     let mut first = !marker;
     'indicators: while at < to {
-        if !indicator_stands(text, at) {
+        if !is_indicator_at(text, at) {
             break;
         }
         least = at - base + 1;
@@ -214,7 +214,7 @@ pub(crate) fn begun_line(text: &str, start: usize, to: usize) -> Beginning
     }
 }
 
-/// What stands in a column of a line's beginning.
+/// What is in a column of a line's beginning.
 #[derive(Clone, Copy)]
 pub(crate) enum Entry {
     Key,
@@ -222,7 +222,7 @@ pub(crate) enum Entry {
     Nothing,
 }
 
-/// Which entry of a block collection stands in that column of the line that starts there.
+/// Which entry of a block collection is in that column of the line that starts there.
 pub(crate) fn entry_in(text: &str, start: usize, column: usize) -> Entry
     requires { IsCharBoundary text.now start }
 {
@@ -233,7 +233,7 @@ pub(crate) fn entry_in(text: &str, start: usize, column: usize) -> Entry
             return Entry::Nothing;
         }
         let reached = at - base == column;
-        if !indicator_stands(text, at) {
+        if !is_indicator_at(text, at) {
             if reached {
                 if has_colon(text, at, text.len()) {
                     return Entry::Key;
@@ -242,7 +242,7 @@ pub(crate) fn entry_in(text: &str, start: usize, column: usize) -> Entry
             return Entry::Nothing;
         }
         if reached {
-            if stands(text, at, b'-') {
+            if is_char_at(text, at, b'-') {
                 return Entry::Item;
             }
             return Entry::Key;
@@ -259,5 +259,5 @@ pub(crate) fn is_passed(text: &str, start: usize) -> bool
     if line_ends(text, sign) {
         return true;
     }
-    stands(text, sign, b'#')
+    is_char_at(text, sign, b'#')
 }

@@ -1,16 +1,16 @@
 //! Plain scalars (productions 126 to 135): where their reading ends. Offsets count bytes.
 ghost use Rattle.std.specs.Prelude.{◌≤◌, IfSome};
 ghost use Rattle.std.specs.Str.{IsCharBoundary};
-ghost use Rattle.yf_diagnose.specs.Told.{Behind, NotBefore};
+ghost use Rattle.yf_diagnose.specs.SecondReadings.{IsAfter, NotBefore};
 
 use crate::lines::{Margin, NextLine, next_line};
 use yf_chars::classes::{is_indicator, is_ns_char, is_plain_safe, is_white};
 use yf_chars::context::Ctx;
-use yf_chars::text::{peek, stands};
+use yf_chars::text::{is_char_at, peek};
 use yf_lines::basic::{line_break, skip_whites};
 
-/// Whether a character that a plain scalar may hold in a context stands there.
-pub(crate) fn safe_stands(text: &str, at: usize, context: Ctx) -> bool
+/// Whether a character that a plain scalar may hold in a context is there.
+pub(crate) fn is_safe_at(text: &str, at: usize, context: Ctx) -> bool
     requires { IsCharBoundary text.now at }
 {
     match peek(text, at) {
@@ -22,13 +22,13 @@ pub(crate) fn safe_stands(text: &str, at: usize, context: Ctx) -> bool
 /// The offset after the first character of a plain scalar, if one begins there.
 pub(crate) fn plain_begun(text: &str, at: usize, context: Ctx) -> Option<usize>
     requires { IsCharBoundary text.now at }
-    ensures { IfSome result (λ next. Behind text.now at next) }
+    ensures { IfSome result (λ next. IsAfter text.now at next) }
 {
     match peek(text, at) {
         None => None,
         Some((c, next)) => {
             if matches!(c, '-' | '?' | ':') {
-                if safe_stands(text, next, context) {
+                if is_safe_at(text, next, context) {
                     return Some(next);
                 }
                 return None;
@@ -63,7 +63,7 @@ pub(crate) fn plain_end(text: &str, at: usize, context: Ctx) -> usize
                     return end;
                 }
                 if c == ':' {
-                    if !safe_stands(text, next, context) {
+                    if !is_safe_at(text, next, context) {
                         return end;
                     }
                 }
@@ -99,13 +99,13 @@ pub(crate) fn plain_lines_end(text: &str, at: usize, margin: Margin) -> usize
 // The end of the text of a plain scalar on its next line, if it goes on there.
 fn further_end(text: &str, at: usize, least: usize) -> Option<usize>
     requires { IsCharBoundary text.now at }
-    ensures { IfSome result (λ end. Behind text.now at end) }
+    ensures { IfSome result (λ end. IsAfter text.now at end) }
 {
     match line_break(text, skip_whites(text, at)) {
         None => None,
         Some(next) => match next_line(text, next, least) {
             NextLine::Goes(sign) => {
-                if stands(text, sign, b'#') {
+                if is_char_at(text, sign, b'#') {
                     return None;
                 }
                 let end = plain_end(text, sign, Ctx::FlowIn);

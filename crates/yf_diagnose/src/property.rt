@@ -1,40 +1,40 @@
 //! Anchors, aliases and tags (productions 97 to 104): where their reading ends. Offsets count bytes.
 ghost use Rattle.std.specs.Prelude.{◌+◌, IfSome, MatchBool, ⊤};
 ghost use Rattle.std.specs.Str.{IsCharBoundary};
-ghost use Rattle.yf_diagnose.specs.Told.{Behind, Passed, Told};
+ghost use Rattle.yf_diagnose.specs.SecondReadings.{IsAfter, IsReadFrom, IsReadAfter};
 
 use crate::diagnosis::{Mistake, refused};
 use crate::why::Why;
 use yf_chars::classes::{is_hex_digit, is_tag_char, is_uri_char};
 use yf_chars::runs::{AnchorChars, WordChars, skip_while};
-use yf_chars::text::{peek, stands};
+use yf_chars::text::{is_char_at, peek};
 
 /// Whether an anchor or a tag begins there.
-pub(crate) fn property_stands(text: &str, at: usize) -> bool
+pub(crate) fn is_property_at(text: &str, at: usize) -> bool
     ensures { MatchBool result (IsCharBoundary text.now (at + 1)) ⊤ }
 {
-    if stands(text, at, b'&') {
+    if is_char_at(text, at, b'&') {
         return true;
     }
-    stands(text, at, b'!')
+    is_char_at(text, at, b'!')
 }
 
 /// The end of the anchor or the tag that begins there.
 pub(crate) fn property_end(text: &str, at: usize) -> Result<usize, Mistake>
     requires boundary { IsCharBoundary text.now at }
-    requires behind { IsCharBoundary text.now (at + 1) }
-    ensures { Told text.now at result }
+    requires follows { IsCharBoundary text.now (at + 1) }
+    ensures { IsReadAfter text.now at result }
 {
-    if stands(text, at, b'&') {
+    if is_char_at(text, at, b'&') {
         return name_end(text, at);
     }
     tag_end(text, at)
 }
 
-/// The end of the anchor or the alias whose sign stands there.
+/// The end of the anchor or the alias whose sign is there.
 pub(crate) fn name_end(text: &str, at: usize) -> Result<usize, Mistake>
     requires { IsCharBoundary text.now (at + 1) }
-    ensures { Told text.now at result }
+    ensures { IsReadAfter text.now at result }
 {
     let end = skip_while::<AnchorChars>(text, at + 1);
     if end == at + 1 {
@@ -43,16 +43,16 @@ pub(crate) fn name_end(text: &str, at: usize) -> Result<usize, Mistake>
     Ok(end)
 }
 
-// The end of the tag whose `!` stands there.
+// The end of the tag whose `!` is there.
 fn tag_end(text: &str, at: usize) -> Result<usize, Mistake>
     requires { IsCharBoundary text.now (at + 1) }
-    ensures { Told text.now at result }
+    ensures { IsReadAfter text.now at result }
 {
-    if stands(text, at + 1, b'<') {
+    if is_char_at(text, at + 1, b'<') {
         return verbatim_end(text, at + 2);
     }
     let word = skip_while::<WordChars>(text, at + 1);
-    if stands(text, word, b'!') {
+    if is_char_at(text, word, b'!') {
         match uri_end(text, word + 1, false) {
             Ok(end) => {
                 if end == word + 1 {
@@ -72,14 +72,14 @@ fn tag_end(text: &str, at: usize) -> Result<usize, Mistake>
 // The end of a verbatim tag whose address begins there.
 fn verbatim_end(text: &str, at: usize) -> Result<usize, Mistake>
     requires { IsCharBoundary text.now at }
-    ensures { Told text.now at result }
+    ensures { IsReadAfter text.now at result }
 {
     match uri_end(text, at, true) {
         Ok(end) => {
             if end == at {
                 return refused(end, Why::VerbatimTag);
             }
-            if stands(text, end, b'>') {
+            if is_char_at(text, end, b'>') {
                 return Ok(end + 1);
             }
             refused(end, Why::VerbatimTag)
@@ -91,7 +91,7 @@ fn verbatim_end(text: &str, at: usize) -> Result<usize, Mistake>
 /// The end of the characters of an address, or of a tag's name, with their escapes.
 pub(crate) fn uri_end(text: &str, at: usize, address: bool) -> Result<usize, Mistake>
     requires { IsCharBoundary text.now at }
-    ensures { Passed text.now at result }
+    ensures { IsReadFrom text.now at result }
 {
     let mut end = at;
     'chars: loop {
@@ -100,7 +100,7 @@ pub(crate) fn uri_end(text: &str, at: usize, address: bool) -> Result<usize, Mis
             Some((c, next)) => {
                 if c == '%' {
                     match digits_end(text, next) {
-                        Some(behind) => end = behind,
+                        Some(follows) => end = follows,
                         None => return refused(end, Why::TagEscape),
                     }
                 } else {
@@ -125,7 +125,7 @@ fn is_member(c: char, address: bool) -> bool {
 // The offset after two hexadecimal digits.
 fn digits_end(text: &str, at: usize) -> Option<usize>
     requires { IsCharBoundary text.now at }
-    ensures { IfSome result (λ end. Behind text.now at end) }
+    ensures { IfSome result (λ end. IsAfter text.now at end) }
 {
     match peek(text, at) {
         None => None,

@@ -1,19 +1,19 @@
 //! Quoted text (double quotes, productions 107 to 116; single quotes, productions 117 to 125): where its reading ends. Offsets count bytes.
 ghost use Rattle.std.specs.Prelude.{◌+◌, ◌<◌, IfOk, IfErr};
 ghost use Rattle.std.specs.Str.{IsCharBoundary};
-ghost use Rattle.yf_chars.specs.Text.{Reads};
+ghost use Rattle.yf_chars.specs.Text.{CharAt};
 ghost use Rattle.yf_diagnose.specs.Quoted.{SignAt};
-ghost use Rattle.yf_diagnose.specs.Told.{NotBefore, Told};
+ghost use Rattle.yf_diagnose.specs.SecondReadings.{NotBefore, IsReadAfter};
 
 use crate::diagnosis::{Mistake, refused};
 use crate::lines::{Margin, NextLine, next_line};
 use crate::why::Why;
 use yf_chars::classes::{is_nb_json, is_white};
 use yf_chars::escapes::read_escape;
-use yf_chars::text::{peek, stands};
+use yf_chars::text::{is_char_at, peek};
 use yf_lines::basic::line_break;
 
-/// What stands in quoted text, and the offset after it.
+/// What is in quoted text, and the offset after it.
 #[derive(Clone, Copy)]
 pub(crate) enum Sign {
     Text(usize),
@@ -28,13 +28,13 @@ pub(crate) enum Sign {
     Wrong(Why),
 }
 
-/// The end of the quoted text whose opening quote stands there. A quote that isn't closed is told at the opening one.
+/// The end of the quoted text whose opening quote is there. A quote that isn't closed is told at the opening one.
 pub(crate) fn quoted_end(text: &str, at: usize, margin: Margin) -> Result<usize, Mistake>
     requires inside { IsCharBoundary text.now (at + 1) }
     requires boundary { IsCharBoundary text.now at }
-    ensures { Told text.now at result }
+    ensures { IsReadAfter text.now at result }
 {
-    let double = stands(text, at, b'"');
+    let double = is_char_at(text, at, b'"');
     let mut here = at + 1;
     let mut further = false;
     let mut fresh = false;
@@ -72,7 +72,7 @@ pub(crate) fn quoted_end(text: &str, at: usize, margin: Margin) -> Result<usize,
     }
 }
 
-// The first sign of the next line of a text whose opening quote stands there.
+// The first sign of the next line of a text whose opening quote is there.
 fn turned(
     text: &str,
     quote: usize,
@@ -104,7 +104,7 @@ fn turned(
     }
 }
 
-// What stands there in quotes of a kind.
+// What is there in quotes of a kind.
 fn sign_at(text: &str, at: usize, double: bool) -> Sign
     requires { IsCharBoundary text.now at }
     ensures { SignAt text.now at result }
@@ -127,7 +127,7 @@ fn sign_at(text: &str, at: usize, double: bool) -> Sign
             if c != '\'' {
                 return Sign::Text(next);
             }
-            if stands(text, next, b'\'') {
+            if is_char_at(text, next, b'\'') {
                 return Sign::Text(next + 1);
             }
             Sign::Quote(next)
@@ -138,7 +138,7 @@ fn sign_at(text: &str, at: usize, double: bool) -> Sign
 // The same of a character in double quotes.
 fn double_sign(text: &str, at: usize, c: char, next: usize) -> Sign
     requires boundary { IsCharBoundary text.now at }
-    requires reads { Reads text.now at c next }
+    requires reads { CharAt text.now at c next }
     ensures { SignAt text.now at result }
 {
     if c == '"' {
@@ -158,13 +158,13 @@ fn double_sign(text: &str, at: usize, c: char, next: usize) -> Sign
 
 // Why the escape of that letter is none.
 fn escape_why(text: &str, at: usize) -> Why {
-    if stands(text, at, b'x') {
+    if is_char_at(text, at, b'x') {
         return Why::EscapeDigits;
     }
-    if stands(text, at, b'u') {
+    if is_char_at(text, at, b'u') {
         return Why::EscapeDigits;
     }
-    if stands(text, at, b'U') {
+    if is_char_at(text, at, b'U') {
         return Why::EscapeDigits;
     }
     Why::NoEscape

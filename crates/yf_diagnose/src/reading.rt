@@ -1,25 +1,23 @@
 //! The second reading of what was refused. Offsets count bytes.
 ghost use Rattle.std.specs.Prelude.{◌+◌, ◌<◌, ◌≤◌, IfSome};
 ghost use Rattle.std.specs.Str.{IsCharBoundary};
-ghost use Rattle.yf_diagnose.specs.Told.{IsDiagnosis, IsDiagnosed, Passed};
+ghost use Rattle.yf_diagnose.specs.SecondReadings.{IsDiagnosis, IsDiagnosed, IsReadFrom};
 
-use crate::diagnosis::{Diagnosis, Mistake, behind, here, told};
+use crate::diagnosis::{Diagnosis, Mistake, after, here, told};
 use crate::guess::guessed;
-use crate::keys::{comment_stands, content_end, joined, key_diagnosis, without_colon};
-use crate::leaves::quote_stands;
+use crate::keys::{content_end, is_comment_at, joined, key_diagnosis, without_colon};
+use crate::leaves::is_quote_at;
 use crate::lines::{Margin, comment_end, line_ends, sign_why};
-use crate::look::{
-    begun_line, first_tab, indicator_stands, line_start, whites_before, word_before,
-};
+use crate::look::{begun_line, first_tab, is_indicator_at, line_start, whites_before, word_before};
 use crate::plain::{plain_begun, plain_end};
-use crate::property::{name_end, property_end, property_stands};
+use crate::property::{is_property_at, name_end, property_end};
 use crate::quoted::quoted_end;
 use crate::rest::{blank_lines_end, directive_end, header_end, rest_end};
 use crate::standing::{Standing, closes, key_line, standing_at};
 use crate::why::Why;
 use yf_chars::context::Ctx;
-use yf_chars::text::stands;
-use yf_lines::basic::{marker_stands, skip_whites};
+use yf_chars::text::is_char_at;
+use yf_lines::basic::{is_marker_at, skip_whites};
 use yf_lines::table::skip_marks;
 
 /// Where and why a text is no stream whose reading stopped at an offset. What was refused there is read again: the node or the key, the header, the
@@ -48,7 +46,7 @@ fn diagnosis_at(text: &str, stop: usize, sign: usize) -> Diagnosis
     if skip_whites(text, base) >= stop {
         return at_first(text, start, sign);
     }
-    if marker_stands(text, base) {
+    if is_marker_at(text, base) {
         if stop == base + 3 {
             return told(
                 text,
@@ -58,18 +56,18 @@ fn diagnosis_at(text: &str, stop: usize, sign: usize) -> Diagnosis
             );
         }
     }
-    behind_text(text, start, sign)
+    after_text(text, start, sign)
 }
 
-// A sign behind other text of its line.
-fn behind_text(text: &str, start: usize, at: usize) -> Diagnosis
+// A sign after other text of its line.
+fn after_text(text: &str, start: usize, at: usize) -> Diagnosis
     requires start { IsCharBoundary text.now start }
     requires boundary { IsCharBoundary text.now at }
     ensures { IsDiagnosed text.now at result }
 {
-    if comment_stands(text, at) {
+    if is_comment_at(text, at) {
         return match comment_end(text, at) {
-            Err(wrong) => behind(at, wrong),
+            Err(wrong) => after(at, wrong),
             Ok(_) => without_colon(text, start, at),
         };
     }
@@ -78,9 +76,9 @@ fn behind_text(text: &str, start: usize, at: usize) -> Diagnosis
     }
     let word = word_before(text, at);
     if word < at {
-        if property_stands(text, word) {
+        if is_property_at(text, word) {
             return match property_end(text, word) {
-                Err(wrong) => behind(word, wrong),
+                Err(wrong) => after(word, wrong),
                 Ok(_) => here(at, Why::PropertyUnspaced),
             };
         }
@@ -98,10 +96,10 @@ fn at_first(text: &str, start: usize, at: usize) -> Diagnosis
     if line_ends(text, at) {
         return told(text, start, blank_lines_end(text, start), Why::NodeEnded);
     }
-    if stands(text, at, b'#') {
+    if is_char_at(text, at, b'#') {
         return told(text, at, comment_end(text, at), Why::LeftInScalar);
     }
-    if stands(text, at, b'%') {
+    if is_char_at(text, at, b'%') {
         if at == skip_marks(text, start) {
             return at_percent(text, at);
         }
@@ -119,7 +117,7 @@ fn at_percent(text: &str, at: usize) -> Diagnosis
         Standing::Node(_) | Standing::Beyond(Why::NoDocumentStart) => match directive_end(
             text, at,
         ) {
-            Err(wrong) => behind(at, wrong),
+            Err(wrong) => after(at, wrong),
             Ok(_) => here(at, Why::NoPlain),
         },
         Standing::Key(_) | Standing::Beyond(_) => here(at, Why::DirectivePlace),
@@ -146,7 +144,7 @@ fn at_sign(text: &str, start: usize, at: usize) -> Diagnosis
     }
 }
 
-// The first tab of a line whose first sign stands there, where spaces must stand.
+// The first tab of a line whose first sign is there, where spaces must be.
 fn tab_of(text: &str, start: usize, at: usize, standing: Standing) -> Option<Diagnosis>
     requires { IsCharBoundary text.now start }
     ensures { IfSome result (IsDiagnosed text.now at) }
@@ -166,7 +164,7 @@ fn tab_of(text: &str, start: usize, at: usize, standing: Standing) -> Option<Dia
     }
 }
 
-// Whether so many spaces indent what stands so.
+// Whether so many spaces indent what is so.
 fn is_indented(standing: Standing, width: usize) -> bool {
     match standing {
         Standing::Node(least) => width >= least,
@@ -180,12 +178,12 @@ fn tab_before(text: &str, start: usize, at: usize) -> Option<usize>
     ensures boundary { IfSome result (IsCharBoundary text.now) }
     ensures order { IfSome result (λ tab. tab < at) }
 {
-    if !indicator_stands(text, at) {
+    if !is_indicator_at(text, at) {
         return None;
     }
     let line = begun_line(text, start, at);
     if line.at < at {
-        if !stands(text, at, b':') {
+        if !is_char_at(text, at, b':') {
             return None;
         }
     }
@@ -200,7 +198,7 @@ fn tab_before(text: &str, start: usize, at: usize) -> Option<usize>
     }
 }
 
-// What is told of what stands there so.
+// What is told of what is there so.
 fn standing_diagnosis(text: &str, at: usize, standing: Standing) -> Diagnosis
     requires { IsCharBoundary text.now at }
     ensures { IsDiagnosed text.now at result }
@@ -215,7 +213,7 @@ fn standing_diagnosis(text: &str, at: usize, standing: Standing) -> Diagnosis
             node_why(text, at, false),
         ),
         Standing::Key(least) => {
-            if property_stands(text, at) {
+            if is_property_at(text, at) {
                 return key_diagnosis(text, at);
             }
             told(
@@ -232,7 +230,7 @@ fn standing_diagnosis(text: &str, at: usize, standing: Standing) -> Diagnosis
 fn beyond_why(text: &str, at: usize, why: Why) -> Why {
     match why {
         Why::KeyInSequence => {
-            if stands(text, at, b'-') {
+            if is_char_at(text, at, b'-') {
                 return Why::DashUnspaced;
             }
             why
@@ -250,18 +248,18 @@ fn beyond_why(text: &str, at: usize, why: Why) -> Why {
 // The end of the node that begins there, or of its properties.
 fn node_end(text: &str, at: usize, margin: Margin) -> Result<usize, Mistake>
     requires { IsCharBoundary text.now at }
-    ensures { Passed text.now at result }
+    ensures { IsReadFrom text.now at result }
 {
-    if property_stands(text, at) {
+    if is_property_at(text, at) {
         return match property_end(text, at) {
             Ok(end) => Ok(end),
             Err(wrong) => Err(wrong),
         };
     }
-    if stands(text, at, b'|') {
+    if is_char_at(text, at, b'|') {
         return scalar_end(text, at, margin);
     }
-    if stands(text, at, b'>') {
+    if is_char_at(text, at, b'>') {
         return scalar_end(text, at, margin);
     }
     content_end(text, at, margin)
@@ -271,7 +269,7 @@ fn node_end(text: &str, at: usize, margin: Margin) -> Result<usize, Mistake>
 fn scalar_end(text: &str, at: usize, margin: Margin) -> Result<usize, Mistake>
     requires boundary { IsCharBoundary text.now at }
     requires inside { IsCharBoundary text.now (at + 1) }
-    ensures { Passed text.now at result }
+    ensures { IsReadFrom text.now at result }
 {
     if margin.key {
         return Ok(at);
@@ -282,26 +280,26 @@ fn scalar_end(text: &str, at: usize, margin: Margin) -> Result<usize, Mistake>
     }
 }
 
-// Why a node or a key with that sign, which is read to its end, can't stand there.
+// Why a node or a key with that sign, which is read to its end, can't be there.
 fn node_why(text: &str, at: usize, key: bool) -> Why
     requires { IsCharBoundary text.now at }
 {
     if closes(text, at) {
         return Why::NoBracketOpen;
     }
-    if indicator_stands(text, at) {
+    if is_indicator_at(text, at) {
         return indicator_why(text, at, key);
     }
-    if stands(text, at, b'*') {
+    if is_char_at(text, at, b'*') {
         return Why::AliasProperties;
     }
-    if property_stands(text, at) {
+    if is_property_at(text, at) {
         return Why::PropertyTwice;
     }
-    if stands(text, at, b'|') {
+    if is_char_at(text, at, b'|') {
         return Why::KeyWithoutColon;
     }
-    if stands(text, at, b'>') {
+    if is_char_at(text, at, b'>') {
         return Why::KeyWithoutColon;
     }
     if begins_leaf(text, at) {
@@ -314,13 +312,13 @@ fn node_why(text: &str, at: usize, key: bool) -> Why
 fn begins_leaf(text: &str, at: usize) -> bool
     requires { IsCharBoundary text.now at }
 {
-    if quote_stands(text, at) {
+    if is_quote_at(text, at) {
         return true;
     }
-    if stands(text, at, b'[') {
+    if is_char_at(text, at, b'[') {
         return true;
     }
-    if stands(text, at, b'{') {
+    if is_char_at(text, at, b'{') {
         return true;
     }
     plain_begun(text, at, Ctx::FlowOut).is_some()
@@ -329,12 +327,12 @@ fn begins_leaf(text: &str, at: usize) -> bool
 // Why no collection can begin there with its indicator.
 fn indicator_why(text: &str, at: usize, key: bool) -> Why {
     if key {
-        if stands(text, at, b'-') {
+        if is_char_at(text, at, b'-') {
             return Why::DashInMapping;
         }
         return Why::NodeEnded;
     }
-    if property_stands(text, word_before(text, whites_before(text, at))) {
+    if is_property_at(text, word_before(text, whites_before(text, at))) {
         return Why::CollectionAfterProperty;
     }
     if begun_line(text, line_start(text, at), at).marker {

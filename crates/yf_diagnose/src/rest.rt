@@ -1,8 +1,8 @@
-//! What stands on a line of its own kind: headers of block scalars (production 162), directives (production 82), and the rest of a line. Offsets
+//! What is on a line of its own kind: headers of block scalars (production 162), directives (production 82), and the rest of a line. Offsets
 //! count bytes.
 ghost use Rattle.std.specs.Prelude.{◌+◌};
 ghost use Rattle.std.specs.Str.{IsCharBoundary};
-ghost use Rattle.yf_diagnose.specs.Told.{NotBefore, Passed, Told};
+ghost use Rattle.yf_diagnose.specs.SecondReadings.{NotBefore, IsReadFrom, IsReadAfter};
 
 use crate::diagnosis::{Mistake, refused};
 use crate::lines::{comment_end, line_ends};
@@ -10,16 +10,16 @@ use crate::property::uri_end;
 use crate::why::Why;
 use yf_chars::classes::is_tag_char;
 use yf_chars::runs::{Digits, NsChars, WordChars, skip_while};
-use yf_chars::text::{peek, stands};
+use yf_chars::text::{is_char_at, peek};
 use yf_lines::basic::{line_break, skip_spaces, skip_whites};
 
 /// The end of a line that holds white space and a comment at most.
 pub(crate) fn rest_end(text: &str, at: usize, why: Why) -> Result<usize, Mistake>
     requires { IsCharBoundary text.now at }
-    ensures { Passed text.now at result }
+    ensures { IsReadFrom text.now at result }
 {
     let sign = skip_whites(text, at);
-    if stands(text, sign, b'#') {
+    if is_char_at(text, sign, b'#') {
         if sign == at {
             return refused(sign, Why::CommentUnspaced);
         }
@@ -34,10 +34,10 @@ pub(crate) fn rest_end(text: &str, at: usize, why: Why) -> Result<usize, Mistake
     refused(sign, why)
 }
 
-/// The end of the line of a block scalar's header, whose `|` or `>` stands there.
+/// The end of the line of a block scalar's header, whose `|` or `>` is there.
 pub(crate) fn header_end(text: &str, at: usize) -> Result<usize, Mistake>
     requires { IsCharBoundary text.now (at + 1) }
-    ensures { Told text.now at result }
+    ensures { IsReadAfter text.now at result }
 {
     match rest_end(text, header_signs_end(text, at + 1), Why::HeaderSign) {
         Ok(end) => Ok(end),
@@ -81,7 +81,7 @@ fn chomp_passed(text: &str, at: usize) -> usize
 /// Where the first blank line from a line's start on has one space more than the first line that is not blank.
 pub(crate) fn blank_lines_end(text: &str, at: usize) -> Result<usize, Mistake>
     requires { IsCharBoundary text.now at }
-    ensures { Passed text.now at result }
+    ensures { IsReadFrom text.now at result }
 {
     let width = first_width(text, at);
     let mut start = at;
@@ -99,7 +99,7 @@ pub(crate) fn blank_lines_end(text: &str, at: usize) -> Result<usize, Mistake>
     }
 }
 
-// How many spaces stand before the first line that is not blank.
+// How many spaces are before the first line that is not blank.
 fn first_width(text: &str, at: usize) -> usize
     requires { IsCharBoundary text.now at }
 {
@@ -113,13 +113,13 @@ fn first_width(text: &str, at: usize) -> usize
     }
 }
 
-// The offset behind so many spaces, or behind all of them.
+// The offset after so many spaces, or after all of them.
 fn space_at(text: &str, at: usize, count: usize) -> usize
     requires { IsCharBoundary text.now at }
     ensures { NotBefore text.now at result }
 {
     let mut end = at;
-    'spaces: while stands(text, end, b' ') {
+    'spaces: while is_char_at(text, end, b' ') {
         if end - at >= count {
             return end;
         }
@@ -128,10 +128,10 @@ fn space_at(text: &str, at: usize, count: usize) -> usize
     end
 }
 
-/// The end of the line of the directive whose `%` stands there.
+/// The end of the line of the directive whose `%` is there.
 pub(crate) fn directive_end(text: &str, at: usize) -> Result<usize, Mistake>
     requires { IsCharBoundary text.now (at + 1) }
-    ensures { Told text.now at result }
+    ensures { IsReadAfter text.now at result }
 {
     let end = skip_while::<NsChars>(text, at + 1);
     let name = &text[at + 1..end];
@@ -142,17 +142,17 @@ pub(crate) fn directive_end(text: &str, at: usize) -> Result<usize, Mistake>
     };
     match parameters {
         Err(told) => Err(told),
-        Ok(behind) => match rest_end(text, behind, Why::AfterDirective) {
+        Ok(follows) => match rest_end(text, follows, Why::AfterDirective) {
             Ok(last) => Ok(last),
             Err(told) => Err(told),
         },
     }
 }
 
-// The end of the version behind `%YAML`.
+// The end of the version after `%YAML`.
 fn version_end(text: &str, at: usize) -> Result<usize, Mistake>
     requires { IsCharBoundary text.now at }
-    ensures { Passed text.now at result }
+    ensures { IsReadFrom text.now at result }
 {
     let start = skip_whites(text, at);
     let major = skip_while::<Digits>(text, start);
@@ -162,7 +162,7 @@ fn version_end(text: &str, at: usize) -> Result<usize, Mistake>
     if major == start {
         return refused(start, Why::Version);
     }
-    if !stands(text, major, b'.') {
+    if !is_char_at(text, major, b'.') {
         return refused(major, Why::Version);
     }
     let minor = skip_while::<Digits>(text, major + 1);
@@ -172,20 +172,20 @@ fn version_end(text: &str, at: usize) -> Result<usize, Mistake>
     Ok(minor)
 }
 
-// The end of the handle and the prefix behind `%TAG`.
+// The end of the handle and the prefix after `%TAG`.
 fn handle_end(text: &str, at: usize) -> Result<usize, Mistake>
     requires { IsCharBoundary text.now at }
-    ensures { Passed text.now at result }
+    ensures { IsReadFrom text.now at result }
 {
     let start = skip_whites(text, at);
     if start == at {
         return refused(start, Why::Handle);
     }
-    if !stands(text, start, b'!') {
+    if !is_char_at(text, start, b'!') {
         return refused(start, Why::Handle);
     }
     let word = skip_while::<WordChars>(text, start + 1);
-    if stands(text, word, b'!') {
+    if is_char_at(text, word, b'!') {
         return match prefix_end(text, word + 1) {
             Ok(end) => Ok(end),
             Err(told) => Err(told),
@@ -200,10 +200,10 @@ fn handle_end(text: &str, at: usize) -> Result<usize, Mistake>
     }
 }
 
-// The end of the prefix behind a handle.
+// The end of the prefix after a handle.
 fn prefix_end(text: &str, at: usize) -> Result<usize, Mistake>
     requires { IsCharBoundary text.now at }
-    ensures { Passed text.now at result }
+    ensures { IsReadFrom text.now at result }
 {
     let start = skip_whites(text, at);
     if start == at {

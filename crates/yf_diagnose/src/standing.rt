@@ -1,4 +1,4 @@
-//! How a part of a text stands among the block collections around it, as far as the lines before it tell. Offsets count bytes.
+//! How a part of a text is among the block collections around it, as far as the lines before it tell. Offsets count bytes.
 ghost use Rattle.std.specs.Prelude.{◌≤◌, IfSome};
 ghost use Rattle.std.specs.Str.{IsCharBoundary};
 
@@ -7,24 +7,24 @@ use crate::look::{
     Beginning, Entry, begun_line, entry_in, has_colon, is_passed, line_before, line_start,
     text_end, whites_before, word_before,
 };
-use crate::property::property_stands;
+use crate::property::is_property_at;
 use crate::why::Why;
-use yf_chars::text::stands;
-use yf_lines::basic::{marker_stands, skip_spaces};
+use yf_chars::text::is_char_at;
+use yf_lines::basic::{is_marker_at, skip_spaces};
 use yf_lines::table::skip_marks;
 
-/// How something stands.
+/// How something is.
 #[derive(Clone, Copy)]
 pub(crate) enum Standing {
     /// It is a node, whose lines begin with so many spaces at least.
     Node(usize),
     /// It is a key of a mapping, and its lines begin with so many spaces at least.
     Key(usize),
-    /// Nothing may stand there.
+    /// Nothing may be there.
     Beyond(Why),
 }
 
-/// How what begins at a place stands.
+/// How what begins at a place is.
 pub(crate) fn standing_at(text: &str, at: usize) -> Standing
     requires { IsCharBoundary text.now at }
 {
@@ -43,25 +43,25 @@ pub(crate) fn standing_at(text: &str, at: usize) -> Standing
             return Standing::Beyond(unspaced_why(text, line, at));
         }
         let word = word_before(text, before);
-        if !property_stands(text, word) {
-            return behind_word(text, line, word, before, at);
+        if !is_property_at(text, word) {
+            return after_word(text, line, word, before, at);
         }
         from = word;
     }
 }
 
-// How what begins at a place stands on its line, behind a word that is no property, which ends at another.
-fn behind_word(text: &str, line: Beginning, word: usize, end: usize, at: usize) -> Standing {
+// How what begins at a place is on its line, after a word that is no property, which ends at another.
+fn after_word(text: &str, line: Beginning, word: usize, end: usize, at: usize) -> Standing {
     if end == 0 {
         return Standing::Beyond(Why::AfterNode);
     }
-    if stands(text, end - 1, b':') {
+    if is_char_at(text, end - 1, b':') {
         if is_named(text, word, end) {
             return Standing::Beyond(Why::ColonOfAlias);
         }
         return Standing::Node(line.column.saturating_add(1));
     }
-    if stands(text, at, b':') {
+    if is_char_at(text, at, b':') {
         return Standing::Beyond(colon_why(text, line, at));
     }
     if closes(text, end - 1) {
@@ -72,32 +72,32 @@ fn behind_word(text: &str, line: Beginning, word: usize, end: usize, at: usize) 
 
 // Whether an alias's name begins at a place and ends at another.
 fn is_named(text: &str, word: usize, end: usize) -> bool {
-    if stands(text, word, b'*') {
+    if is_char_at(text, word, b'*') {
         return end > word.saturating_add(1);
     }
     false
 }
 
-/// Whether a closing bracket stands there.
+/// Whether a closing bracket is there.
 pub(crate) fn closes(text: &str, at: usize) -> bool {
-    if stands(text, at, b']') {
+    if is_char_at(text, at, b']') {
         return true;
     }
-    stands(text, at, b'}')
+    is_char_at(text, at, b'}')
 }
 
-// Why nothing may stand there, where no white space stands before it.
+// Why nothing may be there, where no white space is before it.
 fn unspaced_why(text: &str, line: Beginning, at: usize) -> Why {
-    if stands(text, at, b'#') {
+    if is_char_at(text, at, b'#') {
         return Why::CommentUnspaced;
     }
-    if stands(text, at, b':') {
+    if is_char_at(text, at, b':') {
         return colon_why(text, line, at);
     }
     if at == 0 {
         return Why::AfterNode;
     }
-    if stands(text, at - 1, b'\'') {
+    if is_char_at(text, at - 1, b'\'') {
         return Why::AfterSingle;
     }
     if closes(text, at - 1) {
@@ -106,7 +106,7 @@ fn unspaced_why(text: &str, line: Beginning, at: usize) -> Why {
     Why::AfterNode
 }
 
-// Why no `:` may stand there.
+// Why no `:` may be there.
 fn colon_why(text: &str, line: Beginning, at: usize) -> Why {
     if line.marker {
         return Why::OnDocumentLine;
@@ -115,8 +115,8 @@ fn colon_why(text: &str, line: Beginning, at: usize) -> Why {
         return Why::LongKey;
     }
     let word = word_before(text, at);
-    if stands(text, word, b'*') {
-        if stands(text, at.saturating_sub(1), b':') {
+    if is_char_at(text, word, b'*') {
+        if is_char_at(text, at.saturating_sub(1), b':') {
             return Why::ColonOfAlias;
         }
     }
@@ -134,13 +134,13 @@ fn colon_why(text: &str, line: Beginning, at: usize) -> Why {
 struct Above {
     // Whether none of them has text.
     adjacent: bool,
-    // Whether an item stands in the column.
+    // Whether an item is in the column.
     dashed: bool,
     // Whether all that have text begin to the right of it.
     left: bool,
 }
 
-// How the first sign of a line stands, in a column.
+// How the first sign of a line is, in a column.
 fn below(text: &str, start: usize, column: usize) -> Standing
     requires { IsCharBoundary text.now start }
 {
@@ -165,7 +165,7 @@ fn below(text: &str, start: usize, column: usize) -> Standing
     at_top(above)
 }
 
-// What a line tells of what stands below it in a column.
+// What a line tells of what is below it in a column.
 #[derive(Clone, Copy)]
 enum Step {
     Found(Standing),
@@ -202,7 +202,7 @@ fn below_line(text: &str, line: usize, column: usize, above: Above) -> Step
         Entry::Nothing => {}
     }
     if above.adjacent {
-        if stands(text, begun.base, b'%') {
+        if is_char_at(text, begun.base, b'%') {
             return Step::Found(Standing::Beyond(Why::NoDocumentStart));
         }
         if awaits(text, begun) {
@@ -227,10 +227,10 @@ fn indent_of(text: &str, line: usize) -> usize
     skip_spaces(text, base) - base
 }
 
-// What stands below a document marker.
+// What is below a document marker.
 fn below_marker(text: &str, line: Beginning, above: Above) -> Standing {
     if above.adjacent {
-        if stands(text, line.base, b'.') {
+        if is_char_at(text, line.base, b'.') {
             return Standing::Node(0);
         }
         if awaits(text, line) {
@@ -244,7 +244,7 @@ fn below_marker(text: &str, line: Beginning, above: Above) -> Standing {
     })
 }
 
-// What stands where no line is above it that tells.
+// What is where no line is above it that tells.
 fn at_top(above: Above) -> Standing {
     if above.dashed {
         return Standing::Beyond(Why::KeyInSequence);
@@ -264,10 +264,10 @@ fn awaits(text: &str, line: Beginning) -> bool {
     if line.at >= end {
         return true;
     }
-    if stands(text, end.saturating_sub(1), b':') {
+    if is_char_at(text, end.saturating_sub(1), b':') {
         return true;
     }
-    property_stands(text, word_before(text, end))
+    is_property_at(text, word_before(text, end))
 }
 
 // The node that a line awaits, which has spaces before it.
@@ -276,7 +276,7 @@ fn awaited(text: &str, line: Beginning, indent: usize) -> Step {
         return Step::Found(Standing::Node(line.least));
     }
     if line.first {
-        if property_stands(text, line.at) {
+        if is_property_at(text, line.at) {
             if !has_colon(text, line.at, text.len()) {
                 return Step::Column(indent);
             }
@@ -285,14 +285,14 @@ fn awaited(text: &str, line: Beginning, indent: usize) -> Step {
     Step::Found(Standing::Node(line.column.saturating_add(1)))
 }
 
-// Why nothing may stand in a column below a line that begins to the left of it.
+// Why nothing may be in a column below a line that begins to the left of it.
 fn right_why(text: &str, line: Beginning, column: usize, above: Above) -> Why {
     let end = text_end(text, line.base);
     let word = word_before(text, end);
-    if stands(text, word, b'|') {
+    if is_char_at(text, word, b'|') {
         return Why::LeftInScalar;
     }
-    if stands(text, word, b'>') {
+    if is_char_at(text, word, b'>') {
         return Why::LeftInScalar;
     }
     if above.adjacent {
@@ -316,7 +316,7 @@ pub(crate) fn key_line(text: &str, start: usize) -> Option<usize>
         if is_passed(text, line) {
             continue;
         }
-        if marker_stands(text, skip_marks(text, line)) {
+        if is_marker_at(text, skip_marks(text, line)) {
             return None;
         }
         let indent = indent_of(text, line);

@@ -67,7 +67,7 @@ pub enum Why {
 }
 
 impl Why {
-    /// What was met and what could stand there, in one phrase of at most 72 characters.
+    /// What was met and what could be there, in one phrase of at most 72 characters.
     pub fn words(self) -> &'static str
         ensures { length result.now ≤ 72 }
     {

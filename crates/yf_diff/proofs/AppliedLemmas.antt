@@ -5,7 +5,7 @@ use Rattle.std.proofs.lemmas.Bool.Decides.{nat_tests}
 use Rattle.std.proofs.Math.Bool.{or-true}
 use Rattle.yf_diff.specs.Script.{Edit, kept, dropped, added, olds, news, old_part, new_part, is_change, has_change}
 use Rattle.yf_diff.specs.Unified.{is_shown, begins, hunk, hunks, hunk_line, head_text, edit_text}
-use Rattle.yf_diff.specs.Applied.{Applied, ended, stays, replaced, edits_text}
+use Rattle.yf_diff.specs.Applied.{ScriptApplied, ended, stays, replaced, edits_text}
 
 -- a change is among the edits around it
 change_around : (front : List Edit) (x : Edit) (rest : List Edit) (k n : ℕ) → k ≤ length front → length front < k + n → is_change x ≡ true → has_change (take n (drop k (front ++ x ∷ rest))) ≡ true
@@ -20,23 +20,23 @@ change_around (y ∷ front) x rest (suc k) n a b e = change_around front x rest 
 pub change_shown : (front : List Edit) (x : Edit) (rest : List Edit) → is_change x ≡ true → is_shown (front ++ x ∷ rest) (length front) ≡ true
 change_shown front x rest e = change_around front x rest (length front - 3) (length front + 4 - (length front - 3)) (omega arith) (omega arith) e
 
--- a hunk begins behind an edit that is not shown
-begins_behind : (script : List Edit) (at : ℕ) → begins script (at + 1) ≡ not (is_shown script at)
-begins_behind script at =
+-- a hunk begins after an edit that is not shown
+begins_after : (script : List Edit) (at : ℕ) → begins script (at + 1) ≡ not (is_shown script at)
+begins_after script at =
     let e : at + 1 - 1 ≡ at = omega arith in
     let z : (at + 1 == 0) ≡ false = grind (arith, nat_tests) in
     rw (z, e) refl
 
--- Inside of a hunk: its edits stand first, and what is behind it is applied.
+-- Inside of a hunk: its edits are first, and what is after it is applied.
 record Run (script : List Edit) (at old_before new_before : ℕ) (rest : List Edit) : Type 0 where
   later : List Edit
   text : List ℕ
   split : rest ≡ hunk script at rest ++ later
   written : hunks script at old_before new_before rest ≡ edits_text (hunk script at rest) ++ text
-  applied : Applied (old_before + length (olds (hunk script at rest))) (new_before + length (news (hunk script at rest))) (olds later) (news later) text
+  applied : ScriptApplied (old_before + length (olds (hunk script at rest))) (new_before + length (news (hunk script at rest))) (olds later) (news later) text
 
 record Both (script : List Edit) (at old_before new_before : ℕ) (rest : List Edit) : Type 0 where
-  outside : begins script at ≡ true → Applied old_before new_before (olds rest) (news rest) (hunks script at old_before new_before rest)
+  outside : begins script at ≡ true → ScriptApplied old_before new_before (olds rest) (news rest) (hunks script at old_before new_before rest)
   inside : begins script at ≡ false → Run script at old_before new_before rest
 
 olds_joined : (xs ys : List Edit) → olds (xs ++ ys) ≡ olds xs ++ olds ys
@@ -47,26 +47,26 @@ news_joined : (xs ys : List Edit) → news (xs ++ ys) ≡ news xs ++ news ys
 news_joined [] ys = refl
 news_joined (x ∷ xs) ys = ap (λ z. new_part x ++ z) (news_joined xs ys) ∙ sym (append_assoc (new_part x) (news xs) (news ys))
 
-same_numbers : (a b c d : ℕ) (old new : List (List ℕ)) (text : List ℕ) → a ≡ c → b ≡ d → Applied a b old new text → Applied c d old new text
-same_numbers a b c d old new text e f applied = subst (λ z. Applied z d old new text) e (subst (λ z. Applied a z old new text) f applied)
+same_numbers : (a b c d : ℕ) (old new : List (List ℕ)) (text : List ℕ) → a ≡ c → b ≡ d → ScriptApplied a b old new text → ScriptApplied c d old new text
+same_numbers a b c d old new text e f applied = subst (λ z. ScriptApplied z d old new text) e (subst (λ z. ScriptApplied a z old new text) f applied)
 
-same_texts : (a b : ℕ) (old new after_old after_new : List (List ℕ)) (text after : List ℕ) → old ≡ after_old → new ≡ after_new → text ≡ after → Applied a b old new text → Applied a b after_old after_new after
-same_texts a b old new after_old after_new text after e f g applied = subst (λ z. Applied a b z after_new after) e (subst (λ z. Applied a b old z after) f (subst (λ z. Applied a b old new z) g applied))
+same_texts : (a b : ℕ) (old new after_old after_new : List (List ℕ)) (text after : List ℕ) → old ≡ after_old → new ≡ after_new → text ≡ after → ScriptApplied a b old new text → ScriptApplied a b after_old after_new after
+same_texts a b old new after_old after_new text after e f g applied = subst (λ z. ScriptApplied a b z after_new after) e (subst (λ z. ScriptApplied a b old z after) f (subst (λ z. ScriptApplied a b old new z) g applied))
 
 hidden : (script : List Edit) (at old_before new_before : ℕ) (x : Edit) (rest : List Edit) → is_shown script at ≡ false → (is_change x ≡ true → is_shown script at ≡ true) → Both script (at + 1) (old_before + length (old_part x)) (new_before + length (new_part x)) rest → Both script at old_before new_before (x ∷ rest)
 hidden script at a b (kept line) rest e f next =
     let later : List ℕ = hunks script (at + 1) (a + 1) (b + 1) rest in
-    let first : Applied a b (line ∷ olds rest) (line ∷ news rest) later = stays (next.outside (begins_behind script at ∙ ap not e)) in
+    let first : ScriptApplied a b (line ∷ olds rest) (line ∷ news rest) later = stays (next.outside (begins_after script at ∙ ap not e)) in
     let same : later ≡ hunks script at a b (kept line ∷ rest) = rw e refl in
     let none : hunk script at (kept line ∷ rest) ≡ [] = rw e refl in
     record {
-      outside = λ _. subst (λ z. Applied a b (line ∷ olds rest) (line ∷ news rest) z) same first;
+      outside = λ _. subst (λ z. ScriptApplied a b (line ∷ olds rest) (line ∷ news rest) z) same first;
       inside = λ _. record {
         later = kept line ∷ rest;
         text = later;
         split = rw none refl;
         written = sym same ∙ sym (ap (λ z. edits_text z ++ later) none);
-        applied = subst (λ z. Applied (a + length (olds z)) (b + length (news z)) (line ∷ olds rest) (line ∷ news rest) later) (sym none) (same_numbers a b (a + 0) (b + 0) (line ∷ olds rest) (line ∷ news rest) later (omega arith) (omega arith) first);
+        applied = subst (λ z. ScriptApplied (a + length (olds z)) (b + length (news z)) (line ∷ olds rest) (line ∷ news rest) later) (sym none) (same_numbers a b (a + 0) (b + 0) (line ∷ olds rest) (line ∷ news rest) later (omega arith) (omega arith) first);
       };
     }
 hidden script at a b (dropped line) rest e f next = absurd (let no : is_shown script at ≡ true = f refl in cc)
@@ -78,12 +78,12 @@ regrouped head x later edits text e = rw e (append_assoc head x (edits ++ text) 
 
 shown : (script : List Edit) (at old_before new_before : ℕ) (x : Edit) (rest : List Edit) → is_shown script at ≡ true → Both script (at + 1) (old_before + length (old_part x)) (new_before + length (new_part x)) rest → Both script at old_before new_before (x ∷ rest)
 shown script at a b x rest e next =
-    let run : Run script (at + 1) (a + length (old_part x)) (b + length (new_part x)) rest = next.inside (begins_behind script at ∙ ap not e) in
+    let run : Run script (at + 1) (a + length (old_part x)) (b + length (new_part x)) rest = next.inside (begins_after script at ∙ ap not e) in
     let edits : List Edit = hunk script (at + 1) rest in
     let whole : hunk script at (x ∷ rest) ≡ x ∷ edits = rw e refl in
     let written : hunks script at a b (x ∷ rest) ≡ (head_text script at a b (x ∷ rest) ++ edit_text x) ++ hunks script (at + 1) (a + length (old_part x)) (b + length (new_part x)) rest = rw e refl in
     let all : hunks script at a b (x ∷ rest) ≡ head_text script at a b (x ∷ rest) ++ (edits_text (x ∷ edits) ++ run.text) = written ∙ regrouped (head_text script at a b (x ∷ rest)) (edit_text x) (hunks script (at + 1) (a + length (old_part x)) (b + length (new_part x)) rest) (edits_text edits) run.text run.written in
-    let applied : Applied (a + length (olds (x ∷ edits))) (b + length (news (x ∷ edits))) (olds run.later) (news run.later) run.text =
+    let applied : ScriptApplied (a + length (olds (x ∷ edits))) (b + length (news (x ∷ edits))) (olds run.later) (news run.later) run.text =
     same_numbers _ _ _ _ (olds run.later) (news run.later) run.text (omega (arith, length-append (old_part x) (olds edits))) (omega (arith, length-append (new_part x) (news edits))) run.applied in
     let split : x ∷ rest ≡ (x ∷ edits) ++ run.later = ap (λ z. x ∷ z) run.split in
     record {
@@ -97,7 +97,7 @@ shown script at a b x rest e next =
             text = run.text;
             split = rw whole split;
             written = all ∙ ap (λ z. z ++ (edits_text (x ∷ edits) ++ run.text)) head ∙ sym (ap (λ z. edits_text z ++ run.text) whole);
-            applied = subst (λ z. Applied (a + length (olds z)) (b + length (news z)) (olds run.later) (news run.later) run.text) (sym whole) applied;
+            applied = subst (λ z. ScriptApplied (a + length (olds z)) (b + length (news z)) (olds run.later) (news run.later) run.text) (sym whole) applied;
           };
     }
 
@@ -119,5 +119,5 @@ both script front (x ∷ rest) at a b is l =
     (λ (e : is_shown script at ≡ false). hidden script at a b x rest e seen next)
     (cases_Bool (is_shown script at))
 
-pub scripts_applied : (script : List Edit) → Applied 0 0 (olds script) (news script) (hunks script 0 0 0 script)
+pub scripts_applied : (script : List Edit) → ScriptApplied 0 0 (olds script) (news script) (hunks script 0 0 0 script)
 scripts_applied script = (both script [] script 0 0 0 refl refl).outside refl

@@ -34,9 +34,9 @@ no_lines_before : shown (added (codes "a\n") ∷ added (codes "b\n") ∷ []) ≡
 unfolding shown no_feed_note digits
 no_lines_before = refl
 
-no_lines_behind : shown (dropped (codes "a\n") ∷ []) ≡ codes "--- o\n+++ n\n@@ -1 +0,0 @@\n-a\n"
+no_lines_after : shown (dropped (codes "a\n") ∷ []) ≡ codes "--- o\n+++ n\n@@ -1 +0,0 @@\n-a\n"
 unfolding shown no_feed_note digits
-no_lines_behind = refl
+no_lines_after = refl
 
 -- the fourth line from a change is not shown
 three_lines_of_context :

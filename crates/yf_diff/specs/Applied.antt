@@ -9,13 +9,13 @@ edits_text [] = []
 edits_text (x ∷ rest) = edit_text x ++ edits_text rest
 
 -- The hunks that are written lead from the old lines to the new ones, with so many lines of both texts before these. Where
--- no hunk stands the lines stay. A hunk stands at the lines that its numbers tell, has the old lines that stand there, and
+-- no hunk is the lines stay. A hunk is at the lines that its numbers tell, has the old lines that are there, and
 -- puts its new lines in their place.
-pub data Applied : ℕ → ℕ → List (List ℕ) → List (List ℕ) → List ℕ → Type 0 where
-  ended : {a b : ℕ} → Applied a b [] [] []
-  stays : {a b : ℕ} {line : List ℕ} {old new : List (List ℕ)} {text : List ℕ} → Applied (a + 1) (b + 1) old new text → Applied a b (line ∷ old) (line ∷ new) text
-  replaced : {a b : ℕ} (edits : List Edit) (old new : List (List ℕ)) (text : List ℕ) → Applied (a + length (olds edits)) (b + length (news edits)) old new text → Applied a b (olds edits ++ old) (news edits ++ new) (hunk_line a b edits ++ (edits_text edits ++ text))
+pub data ScriptApplied : ℕ → ℕ → List (List ℕ) → List (List ℕ) → List ℕ → Type 0 where
+  ended : {a b : ℕ} → ScriptApplied a b [] [] []
+  stays : {a b : ℕ} {line : List ℕ} {old new : List (List ℕ)} {text : List ℕ} → ScriptApplied (a + 1) (b + 1) old new text → ScriptApplied a b (line ∷ old) (line ∷ new) text
+  replaced : {a b : ℕ} (edits : List Edit) (old new : List (List ℕ)) (text : List ℕ) → ScriptApplied (a + length (olds edits)) (b + length (news edits)) old new text → ScriptApplied a b (olds edits ++ old) (news edits ++ new) (hunk_line a b edits ++ (edits_text edits ++ text))
 
 -- What is written of a script leads from its old lines to its new ones.
 abbrev pub ScriptsApply : Type 0
-ScriptsApply = (script : List Edit) → Applied 0 0 (olds script) (news script) (hunks script 0 0 0 script)
+ScriptsApply = (script : List Edit) → ScriptApplied 0 0 (olds script) (news script) (hunks script 0 0 0 script)

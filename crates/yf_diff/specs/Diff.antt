@@ -4,8 +4,8 @@ use Rattle.yf_diff.specs.Script.{Edit, olds, news, in_order}
 use Rattle.yf_diff.specs.Texts.{lines_of}
 use Rattle.yf_diff.specs.Unified.{unified}
 
--- Behind what was written before stands the unified diff of a script that leads from the lines of the old text to those
--- of the new one. Between two lines that stay, those that go stand before those that come.
+-- After what was written before is the unified diff of a script that leads from the lines of the old text to those
+-- of the new one. Between two lines that stay, those that go are before those that come.
 pub record AddsDiff (old_name new_name old new before after : List ℕ) : Type 0 where
   pub script : List Edit
   pub olds : olds script ≡ lines_of old

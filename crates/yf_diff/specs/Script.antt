@@ -34,7 +34,7 @@ is_change (kept _) = false
 is_change (dropped _) = true
 is_change (added _) = true
 
--- a change stands among the edits
+-- a change is among the edits
 abbrev pub has_change : List Edit → Bool
 has_change [] = false
 has_change (x ∷ rest) = is_change x || has_change rest
@@ -49,14 +49,14 @@ is_added (kept _) = false
 is_added (dropped _) = false
 is_added (added _) = true
 
--- no line goes directly behind one that comes, whether or not one has come before
-abbrev pub in_order_behind : Bool → List Edit → Bool
-in_order_behind came [] = true
-in_order_behind came (x ∷ rest) = not (came && is_dropped x) && in_order_behind (is_added x) rest
+-- no line goes directly after one that comes, whether or not one has come before
+abbrev pub in_order_after : Bool → List Edit → Bool
+in_order_after came [] = true
+in_order_after came (x ∷ rest) = not (came && is_dropped x) && in_order_after (is_added x) rest
 
--- So between two lines that stay, all that go stand first.
+-- So between two lines that stay, all that go are first.
 abbrev pub in_order : List Edit → Bool
-in_order script = in_order_behind false script
+in_order script = in_order_after false script
 
 -- whether the last line is one that comes
 abbrev pub came_last : Bool → List Edit → Bool

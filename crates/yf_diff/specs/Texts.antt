@@ -1,4 +1,4 @@
--- The lines of a text: each ends behind a line feed, or at the end of the text.
+-- The lines of a text: each ends after a line feed, or at the end of the text.
 use Rattle.std.specs.Prelude.{ℕ, ◌==◌, List, [], ◌∷◌, if◌then◌else◌}
 
 -- a byte before the first line

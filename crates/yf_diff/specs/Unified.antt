@@ -13,18 +13,18 @@ line_of (kept line) = line
 line_of (dropped line) = line
 line_of (added line) = line
 
--- what tells that the last line has no line feed, behind a line feed that ends it here
+-- what tells that the last line has no line feed, after a line feed that ends it here
 unfoldable pub no_feed_note : List ℕ
 no_feed_note = codes "\n\\ No newline at end of file\n"
 
--- what stands behind a line: nothing behind its line feed
+-- what is after a line: nothing after its line feed
 abbrev pub line_end : List ℕ → List ℕ
 line_end line = if slice_index line (length line - 1) == 10 then [] else no_feed_note
 
 abbrev pub edit_text : Edit → List ℕ
 edit_text x = sign_of x ∷ line_of x ++ line_end (line_of x)
 
--- An edit is shown where a change stands at most three edits from it, before or after.
+-- An edit is shown where a change is at most three edits from it, before or after.
 abbrev pub is_shown : List Edit → ℕ → Bool
 is_shown script at = has_change (slice_range script (at - 3) (at + 4))
 

@@ -1,4 +1,4 @@
--- What may become of the lines at which two texts stand.
+-- What may become of the lines at which two texts are.
 use Rattle.std.specs.Prelude.{◌≡◌, ℕ, ◌<◌, List, [], length, slice_index_or}
 use Rattle.yf_diff.specs.declared.fate.Fate.{Fate}
 use Rattle.yf_diff.specs.declared.fate.Fate.TheVariants.{Kept, Dropped, Added}

@@ -9,7 +9,7 @@ use crate::script::script;
 use crate::step::Step;
 use std::alloc::{AllocError, Global};
 
-/// Whether a space stands in a name.
+/// Whether a space is in a name.
 fn has_space(name: &[u8]) -> bool
     ensures { result ≡ has_space name.now }
 {
@@ -52,8 +52,8 @@ fn push_script(
     push_hunks(out, steps)
 }
 
-/// Adds the unified diff of an old text and a new one, as GNU `diff -u` writes it but for the times: each name stands
-/// behind its sign, `---` or `+++`, and a tab ends one that has a space. Exactly where both texts are the same, nothing is added.
+/// Adds the unified diff of an old text and a new one, as GNU `diff -u` writes it but for the times: each name is
+/// after its sign, `---` or `+++`, and a tab ends one that has a space. Exactly where both texts are the same, nothing is added.
 ///
 /// After an error, which tells that memory was refused, a part of the diff may have been added.
 pub fn push_diff(

@@ -29,7 +29,7 @@ fn cell_at(cells: &[u16], index: usize) -> u16 {
     }
 }
 
-/// Adds a row to the cells: that of one more line of the old part, behind the row that begins at `above`.
+/// Adds a row to the cells: that of one more line of the old part, after the row that begins at `above`.
 fn push_row(
     cells: &mut Vec<u16>,
     above: usize,

@@ -7,7 +7,7 @@ use crate::step::Step;
 use itoa::Buffer;
 use std::alloc::AllocError;
 
-/// Whether a change stands among the steps.
+/// Whether a change is among the steps.
 pub fn any_change(steps: &[Step<'_>]) -> bool
     ensures { result ≡ has_change steps.now }
 {
@@ -19,7 +19,7 @@ pub fn any_change(steps: &[Step<'_>]) -> bool
     false
 }
 
-/// Whether a step is written: a change stands at most three steps from it.
+/// Whether a step is written: a change is at most three steps from it.
 fn is_written(steps: &[Step<'_>], at: usize) -> bool
     requires { at < length steps.now }
     ensures { result ≡ is_shown steps.now at }
@@ -121,7 +121,7 @@ fn push_note(out: &mut Vec<u8>) -> Result<(), AllocError>
     out.extend_from_slice(b"\n\\ No newline at end of file\n")
 }
 
-/// Adds what stands behind a line.
+/// Adds what is after a line.
 fn push_line_end(out: &mut Vec<u8>, line: &[u8]) -> Result<(), AllocError>
     ensures { IfOk result (λ _. out.new.items ≡ out.old.items ++ line_end line.now) }
 {
@@ -134,7 +134,7 @@ fn push_line_end(out: &mut Vec<u8>, line: &[u8]) -> Result<(), AllocError>
     push_note(out)
 }
 
-/// Adds a step: its sign, its line and what stands behind it.
+/// Adds a step: its sign, its line and what is after it.
 fn push_step(out: &mut Vec<u8>, step: &Step<'_>) -> Result<(), AllocError>
     ensures { IfOk result (λ _. out.new.items ≡ out.old.items ++ edit_text step.now) }
 {

@@ -23,7 +23,7 @@ fn is_common(old: &[HashedLine<'_>], i: usize, new: &[HashedLine<'_>], j: usize)
     old[i].hash() == new[j].hash() && old[i].text() == new[j].text()
 }
 
-/// What becomes of the lines at which both texts stand, one of them before its end: whether they are the same, and whether
+/// What becomes of the lines at which both texts are, one of them before its end: whether they are the same, and whether
 /// the old one goes before a new one comes.
 fn fate(
     is_same: bool,

@@ -5,7 +5,7 @@ use crate::hashed_line::HashedLine;
 use crate::single_lines::{Indices, single_lines};
 use std::alloc::{AllocError, Global};
 
-/// How the search stands.
+/// How the search is.
 #[derive(Drop)]
 pub struct Search {
     /// The lines to be kept that are still ahead, the next one last.

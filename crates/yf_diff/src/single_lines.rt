@@ -1,4 +1,4 @@
-//! Lines that stand once in each of two texts, by which the search for common lines keeps its way. Nothing is promised of
+//! Lines that occur once in each of two texts, by which the search for common lines keeps its way. Nothing is promised of
 //! them.
 
 use crate::hashed_line::HashedLine;
@@ -11,7 +11,7 @@ pub struct Indices {
     pub new: usize,
 }
 
-/// A line by its hash, and where it stands in which text.
+/// A line by its hash, and where it is in which text.
 #[derive(Clone, Copy)]
 struct LineMark {
     hash: u64,
@@ -51,7 +51,7 @@ fn lacks(marks: &[LineMark], number: usize, hash: u64) -> bool {
     }
 }
 
-/// The lines that stand once in each text, of marks by rising hash, those of the old text before others.
+/// The lines that occur once in each text, of marks by rising hash, those of the old text before others.
 fn pairs(alloc: Global, marks: &[LineMark]) -> Result<Vec<Indices>, AllocError> {
     let mut pairs = Vec::new(alloc);
     for number in 1..marks.len() {
@@ -121,7 +121,7 @@ fn run_back(
     Ok(run)
 }
 
-/// The lines that stand once in each text, as many as go up in both; the last one first.
+/// The lines that occur once in each text, as many as go up in both; the last one first.
 pub fn single_lines(
     alloc: Global,
     old: &[HashedLine<'_>],

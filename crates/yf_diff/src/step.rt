@@ -64,7 +64,7 @@ impl<'a> Step<'a> {
         }
     }
 
-    /// The sign that stands before the line in a unified diff.
+    /// The sign that is before the line in a unified diff.
     pub fn sign(&self) -> u8
         ensures { result ≡ sign_of self.now }
     {

@@ -3,16 +3,16 @@
 use Rattle.std.proofs.Common.{List, ℕ}
 use Rattle.std.specs.Str.{IsUtf8}
 use Rattle.yf_emit.specs.declared.style.Style.{Style}
-use Rattle.yf_emit.specs.Format.{Formats}
-use Rattle.yf_emit.specs.FormatKept.{FormatKept}
-use Rattle.yf_emit.proofs.FixedLawsHold.{formats_normal}
-use Rattle.yf_emit.proofs.FormatsFixed.{formats_fixed}
-use Rattle.yf_emit.proofs.FormatLawsHold.{formats_accepted, formats_are_one}
-use Rattle.yf_emit.proofs.KeepsHold.{keeps_hold}
-use Rattle.yf_emit.proofs.SameComments.{formats_comments}
-use Rattle.yf_emit.proofs.SameContent.{formats_content}
+use Rattle.yf_emit.specs.Format.{IsFormatting}
+use Rattle.yf_emit.specs.FormatPromises.{FormatKept}
+use Rattle.yf_emit.proofs.SecondRun.FixedLawsHold.{formats_normal}
+use Rattle.yf_emit.proofs.SecondRun.FormatsFixed.{formats_fixed}
+use Rattle.yf_emit.proofs.SameReading.FormatLawsHold.{formats_accepted, formats_are_one}
+use Rattle.yf_emit.proofs.Keeps.KeepsHold.{keeps_hold}
+use Rattle.yf_emit.proofs.SameReading.SameComments.{formats_comments}
+use Rattle.yf_emit.proofs.SameReading.SameContent.{formats_content}
 
-pub format_keeps : (t : List ℕ) (s : Style) (u : List ℕ) → IsUtf8 t → Formats t s u → FormatKept t s u
+pub format_keeps : (t : List ℕ) (s : Style) (u : List ℕ) → IsUtf8 t → IsFormatting t s u → FormatKept t s u
 format_keeps t s u utf8 f = record {
   formats = f;
   only = λ v g. formats_are_one t v u s g f;

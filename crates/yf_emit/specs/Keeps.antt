@@ -1,13 +1,13 @@
 -- What formatting leaves as it was, said as people mean it: u is a formatting of the text t.
 use Rattle.std.specs.Prelude.{ℕ, List}
 use Rattle.yf_emit.specs.declared.style.Style.{Style}
-use Rattle.yf_emit.specs.CommentsPlaced.{CommentsPlaced}
-use Rattle.yf_emit.specs.EmptyTexts.{IsEmptyAlike}
-use Rattle.yf_emit.specs.LayoutKey.{DependsOnKey}
-use Rattle.yf_emit.specs.ReadingKey.{DependsOnReading}
-use Rattle.yf_emit.specs.SpacedLines.{SameBlanks}
-use Rattle.yf_emit.specs.Spellings.{SameSpellings}
-use Rattle.yf_emit.specs.TidyLines.{IsTidyText}
+use Rattle.yf_emit.specs.Preservation.CommentsPlaced.{CommentsPlaced}
+use Rattle.yf_emit.specs.Preservation.EmptyTexts.{IsEmptyAlike}
+use Rattle.yf_emit.specs.Preservation.LayoutKey.{DependsOnKey}
+use Rattle.yf_emit.specs.Preservation.ReadingKey.{DependsOnReading}
+use Rattle.yf_emit.specs.Preservation.SpacedLines.{SameBlanks}
+use Rattle.yf_emit.specs.Preservation.Spellings.{SameSpellings}
+use Rattle.yf_emit.specs.Preservation.TidyLines.{IsTidyText}
 use Rattle.yf_emit.specs.Types.{SameTypes}
 
 pub record Keeps (t : List ℕ) (s : Style) (u : List ℕ) : Type 0 where

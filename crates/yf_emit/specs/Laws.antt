@@ -1,14 +1,14 @@
--- What is said of the readings of texts, and of a formatted text beside the text that it was made of, each with the plain sentence that it stands
--- for. `proofs/ReadingsOfTexts.antt` proves the first; the others are parts of `FormatKept`, which the clause of `format` names.
+-- What is said of the readings of texts, and of a formatted text beside the text that it was made of, each with the plain sentence that it is
+-- for. `proofs/OfTexts/ReadingsOfTexts.antt` proves the first; the others are parts of `FormatKept`, which the clause of `format` names.
 use Rattle.std.specs.Prelude.{◌≡◌, ℕ, List}
 use Rattle.std.specs.Str.{IsUtf8}
 use Rattle.yf_events.specs.Content.{content_of}
 use Rattle.yf_events.specs.declared.lists.Lists.{Lists}
 use Rattle.yf_stream.specs.ReadingOf.{ReadingOf}
 use Rattle.yf_emit.specs.declared.style.Style.{Style}
-use Rattle.yf_emit.specs.Format.{Formats}
-use Rattle.yf_emit.specs.OfText.{OfText}
-use Rattle.yf_emit.specs.SameComments.{kept}
+use Rattle.yf_emit.specs.Format.{IsFormatting}
+use Rattle.yf_emit.specs.NormalForms.OfText.{OfText}
+use Rattle.yf_emit.specs.Preservation.SameComments.{kept}
 
 -- The reading of a text is in order, and its scalars can be spelled in their styles.
 abbrev pub ReadingsAreOfTexts : Type 0
@@ -28,5 +28,5 @@ HasSameComments t u = (r q : Lists) → ReadingOf t r → ReadingOf u q → kept
 
 -- Formatting it again changes nothing.
 pub record IsUnchanged (s : Style) (u : List ℕ) : Type 0 where
-  pub again : Formats u s u
-  pub only : (v : List ℕ) → Formats u s v → v ≡ u
+  pub again : IsFormatting u s u
+  pub only : (v : List ℕ) → IsFormatting u s v → v ≡ u

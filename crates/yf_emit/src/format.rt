@@ -2,7 +2,7 @@
 ghost use Rattle.std.specs.Prelude.{◌≤◌, length, IfErr, IfOk};
 ghost use Rattle.std.specs.Str.{IsUtf8};
 ghost use Rattle.std.specs.String.{string_bytes};
-ghost use Rattle.yf_emit.specs.FormatKept.{FormatKept};
+ghost use Rattle.yf_emit.specs.FormatPromises.{FormatKept};
 ghost use Rattle.yf_stream.specs.ReadingOf.{ReadingOf};
 ghost use Rattle.yf_stream.specs.StreamReader.{StreamFault};
 ghost use Rattle.yf_stream.specs.declared.stream.TheConstants.{LONGEST};

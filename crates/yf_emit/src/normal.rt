@@ -5,12 +5,12 @@ ghost use Rattle.yf_events.specs.Event.{event_value};
 ghost use Rattle.yf_events.specs.Nested.{IsStream};
 ghost use Rattle.yf_events.specs.Reading.{events_of};
 ghost use Rattle.yf_events.specs.declared.reading.TheConstants.{DEPTH};
-ghost use Rattle.yf_emit.specs.Normal.{Normal};
-ghost use Rattle.yf_emit.specs.NormalEvents.{is_flow_at, normal_from};
-ghost use Rattle.yf_emit.specs.Measures.{no_measure};
-ghost use Rattle.yf_emit.specs.Restyled.{IsRestyled, restyled_event};
-ghost use Rattle.yf_emit.specs.Textual.{IsTextual};
-ghost use Rattle.yf_emit.specs.Wanted.{wanted_of_event};
+ghost use Rattle.yf_emit.specs.NormalForms.Normal.{Normal};
+ghost use Rattle.yf_emit.specs.Passes.NormalEvents.{is_flow_at, normal_from};
+ghost use Rattle.yf_emit.specs.NormalForms.Measures.{no_measure};
+ghost use Rattle.yf_emit.specs.NormalForms.Restyled.{IsRestyled, restyled_event};
+ghost use Rattle.yf_emit.specs.NormalForms.Textual.{IsTextual};
+ghost use Rattle.yf_emit.specs.Nodes.ScalarStyles.{wanted_of_event};
 ghost use Rattle.yf_lines.specs.declared.quotes.Quotes.{Quotes};
 
 pub mod copies;
@@ -41,7 +41,7 @@ fn style_of(event: Event, quotes: Quotes) -> ScalarStyle
     }
 }
 
-/// Whether the collection that the event begins stands between brackets: where it is empty, or before the end of a collection on one
+/// Whether the collection that the event begins is between brackets: where it is empty, or before the end of a collection on one
 /// line. Of any other event the answer says nothing.
 #[inline(always)]
 fn flow_of(event: Event, measures: &Measures, i: usize, kept_until: usize) -> bool
@@ -54,7 +54,7 @@ fn flow_of(event: Event, measures: &Measures, i: usize, kept_until: usize) -> bo
     }
 }
 
-/// Puts the events into their normal form. A collection is written between brackets where it is empty, or kept, or stands in a kept
+/// Puts the events into their normal form. A collection is written between brackets where it is empty, or kept, or is in a kept
 /// one. After a refusal the events are of no use.
 fn normalize<'a>(
     alloc: Global,
@@ -119,7 +119,7 @@ fn normal_copy<'a>(
     Ok(normal)
 }
 
-/// The normal form of a reading of the text: each scalar has the style of `wanted_style`, and each collection stands between
+/// The normal form of a reading of the text: each scalar has the style of `wanted_style`, and each collection is between
 /// brackets where the house style writes it on one line. Nothing else differs but the lines of a scalar that is folded no more, so what
 /// the reading says is the same.
 ///

@@ -1,6 +1,6 @@
 //! Printing a normal reading.
 ghost use Rattle.std.specs.Prelude.{IfErr, OnOk};
-ghost use Rattle.yf_emit.specs.Printed.{RefusedPrint, WroteMade};
+ghost use Rattle.yf_emit.specs.Passes.WriterAfterPrint.{RefusedPrint, WroteMade};
 
 pub(crate) mod bare;
 pub mod layout;

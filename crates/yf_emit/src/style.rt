@@ -8,21 +8,21 @@ use yf_lines::quotes::Quotes;
 pub enum DocumentStart {
     /// All.
     Always,
-    /// All but a first one that has none in the text, where no comment stands after its beginning and before its first leaf with characters.
+    /// All but a first one that has none in the text, where no comment is after its beginning and before its first leaf with characters.
     Keep,
 }
 
 /// The settings of the house style. Each value of this type is within the ranges that its fields name.
 #[derive(Clone, Copy)]
 pub struct Style {
-    /// By how many columns an entry stands to the right of the entry that holds it, 2 to 8.
+    /// By how many columns an entry is to the right of the entry that holds it, 2 to 8.
     pub indent: usize,
     /// The last column, from 1, that the closing bracket of a flow collection on one line may have, 40 to 1000.
     pub max_line: usize,
     /// The quotes of scalars that can be written in either.
     pub quotes: Quotes,
-    /// Whether the entries of a sequence that is the value of an implicit key stand to the right of the key. Where they
-    /// do not, they stand at the key's column.
+    /// Whether the entries of a sequence that is the value of an implicit key are to the right of the key. Where they
+    /// do not, they are at the key's column.
     pub seq_indent: bool,
     /// Which documents begin with a `---`.
     pub document_start: DocumentStart,

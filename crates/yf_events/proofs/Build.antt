@@ -5,7 +5,7 @@ use Rattle.yf_events.specs.Nested.{IsStream}
 use Rattle.yf_events.specs.Nesting.{run}
 use Rattle.yf_events.specs.Reading.{events_of}
 use Rattle.yf_events.specs.declared.lists.Lists.{Lists}
-use Rattle.yf_events.specs.declared.nesting.Awaited.TheVariants.{Stream}
+use Rattle.yf_events.specs.declared.nesting.NestingState.TheVariants.{Stream}
 use Rattle.yf_events.proofs.Nests.{complete}
 use Rattle.yf_events.proofs.Rests.{is_stream}
 

@@ -4,11 +4,11 @@ use Rattle.std.specs.Prelude.{MatchBool}
 use Rattle.std.proofs.lemmas.Bool.{cases_lt}
 use Rattle.std.proofs.lemmas.Option.{same_Some, slice_get-get_or, slice_get-map, slice_get_within}
 use Rattle.yf_props.specs.Props.{no_props}
-use Rattle.yf_events.specs.Event.{EventValue, Placed}
+use Rattle.yf_events.specs.Event.{EventValue, EventInText}
 use Rattle.yf_events.specs.Packed.{more_at, props_in, row_value, shape_value, text_in}
-use Rattle.yf_events.specs.Silent.{NamesNothing, NothingAt, SilentAt, SilentRow, names_nothing}
+use Rattle.yf_events.specs.NamelessEvents.{NamesNothing, NothingAt, SilentAt, SilentRow, names_nothing}
 use Rattle.yf_events.specs.declared.packed.More.{More}
-use Rattle.yf_events.specs.declared.packed.PackedRow.{PackedRow}
+use Rattle.yf_events.specs.declared.packed.PackedEvent.{PackedEvent}
 use Rattle.yf_events.specs.declared.packed.Shape.{Shape}
 use Rattle.yf_events.specs.declared.packed.Shape.TheVariants.{StreamStart, StreamEnd, DocStart, DocEnd, SeqStart, SeqEnd, MapStart, MapEnd, Scalar, Alias}
 
@@ -30,14 +30,14 @@ shape_told MapEnd t = tt
 shape_told (Scalar style) t = refl
 shape_told Alias t = λ n. n
 
-pub silent_alone : (more : List More) (r : PackedRow) (b : Bool) → r.more ≡ 0 → b ≡ names_nothing r.shape → MatchBool b (SilentRow more r) (SilentRow more r → ⊥)
+pub silent_alone : (more : List More) (r : PackedEvent) (b : Bool) → r.more ≡ 0 → b ≡ names_nothing r.shape → MatchBool b (SilentRow more r) (SilentRow more r → ⊥)
 silent_alone more r b alone is =
     subst (λ n. Tells b (shape_value r.shape (props_in (more_at more n)) (text_in (more_at more n) r.text.now))) (sym alone)
     (subst (λ w. Tells w (shape_value r.shape no_props r.text.now)) (sym is) (shape_told r.shape r.text.now))
 
 -- one that has
 
-pub silent_with : (more : List More) (r : PackedRow) (m : Option More) (e : EventValue) (b : Bool) → m ≡ more_at more r.more
+pub silent_with : (more : List More) (r : PackedEvent) (m : Option More) (e : EventValue) (b : Bool) → m ≡ more_at more r.more
     → e ≡ shape_value r.shape (props_in m) (text_in m r.text.now) → MatchBool b (NamesNothing e) (NamesNothing e → ⊥)
     → MatchBool b (SilentRow more r) (SilentRow more r → ⊥)
 silent_with more r m e b at is told =
@@ -45,7 +45,7 @@ silent_with more r m e b at is told =
 
 -- the events that rows stand for
 
-row_there : (more : List More) (rows : List PackedRow) (k : ℕ) (e : EventValue) → slice_get (map (λ (w : Placed). w.event) (map (row_value more) rows)) k ≡ Some e
+row_there : (more : List More) (rows : List PackedEvent) (k : ℕ) (e : EventValue) → slice_get (map (λ (w : EventInText). w.event) (map (row_value more) rows)) k ≡ Some e
     → NamesNothing e → SilentAt more rows k
 row_there more [] k e there names = cc
 row_there more (r ∷ rows) zero e there names = record { row = r; there = refl; silent = subst NamesNothing (sym (same_Some _ _ there)) names }
@@ -53,24 +53,24 @@ row_there more (r ∷ rows) (suc k) e there names =
     let s = row_there more rows k e there names in
     record { row = s.row; there = s.there; silent = s.silent }
 
-pub silent_seen : (more table : List More) (rows all : List PackedRow) (vs : List Placed) (k : ℕ) → table ≡ more → all ≡ rows → map (row_value more) rows ≡ vs
+pub silent_seen : (more table : List More) (rows all : List PackedEvent) (vs : List EventInText) (k : ℕ) → table ≡ more → all ≡ rows → map (row_value more) rows ≡ vs
     → SilentAt table all k → NothingAt vs k
 silent_seen more table rows all vs k lent same seen s =
     let r = s.row in record {
       event = (row_value more r).event;
-      there = ap (λ w. slice_get (map (λ (e : Placed). e.event) w) k) (sym seen) ∙ slice_get-map (λ (e : Placed). e.event) (map (row_value more) rows) k
-          ∙ ap (option_map (λ (e : Placed). e.event)) (slice_get-map (row_value more) rows k ∙ ap (option_map (row_value more)) (ap (λ w. slice_get w k) (sym same) ∙ s.there));
+      there = ap (λ w. slice_get (map (λ (e : EventInText). e.event) w) k) (sym seen) ∙ slice_get-map (λ (e : EventInText). e.event) (map (row_value more) rows) k
+          ∙ ap (option_map (λ (e : EventInText). e.event)) (slice_get-map (row_value more) rows k ∙ ap (option_map (row_value more)) (ap (λ w. slice_get w k) (sym same) ∙ s.there));
       names = subst (λ w. SilentRow w r) lent s.silent;
     }
 
-pub named_seen : (more table : List More) (rows all : List PackedRow) (vs : List Placed) (k : ℕ) → table ≡ more → all ≡ rows → map (row_value more) rows ≡ vs
+pub named_seen : (more table : List More) (rows all : List PackedEvent) (vs : List EventInText) (k : ℕ) → table ≡ more → all ≡ rows → map (row_value more) rows ≡ vs
     → (SilentAt table all k → ⊥) → NothingAt vs k → ⊥
 named_seen more table rows all vs k lent same seen named n =
-    let s : SilentAt more rows k = row_there more rows k n.event (ap (λ w. slice_get (map (λ (e : Placed). e.event) w) k) seen ∙ n.there) n.names in
+    let s : SilentAt more rows k = row_there more rows k n.event (ap (λ w. slice_get (map (λ (e : EventInText). e.event) w) k) seen ∙ n.there) n.names in
     named (subst (λ w. SilentAt w all k) (sym lent) (subst (λ w. SilentAt more w k) (sym same) s))
 
 -- one row more
-pub one_silent : (more : List More) (rows : List PackedRow) (start at : ℕ) (d : PackedRow) → at < length rows → SilentRow more (get_or rows at d)
+pub one_silent : (more : List More) (rows : List PackedEvent) (start at : ℕ) (d : PackedEvent) → at < length rows → SilentRow more (get_or rows at d)
     → ((k : ℕ) → start ≤ k → k < at → SilentAt more rows k) → (k : ℕ) → start ≤ k → k < at + 1 → SilentAt more rows k
 one_silent more rows start at d within silent before k l m = elim (cases_lt k at) [
   | inl less ↦ before k l less
@@ -81,9 +81,9 @@ one_silent more rows start at d within silent before k l m = elim (cases_lt k at
 
 -- the first row that names something, or none
 
-pub named_row : (more : List More) (rows : List PackedRow) (at : ℕ) (d : PackedRow) → at < length rows → (SilentRow more (get_or rows at d) → ⊥) → SilentAt more rows at → ⊥
+pub named_row : (more : List More) (rows : List PackedEvent) (at : ℕ) (d : PackedEvent) → at < length rows → (SilentRow more (get_or rows at d) → ⊥) → SilentAt more rows at → ⊥
 named_row more rows at d within named s =
     named (subst (SilentRow more) (same_Some _ _ (sym s.there ∙ slice_get-get_or rows at d within)) s.silent)
 
-pub no_row : (more : List More) (rows : List PackedRow) (at : ℕ) → length rows ≤ at → SilentAt more rows at → ⊥
+pub no_row : (more : List More) (rows : List PackedEvent) (at : ℕ) → length rows ≤ at → SilentAt more rows at → ⊥
 no_row more rows at past s = absurd (omega (arith, past, slice_get_within rows at s.row s.there))

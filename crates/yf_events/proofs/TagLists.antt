@@ -8,7 +8,7 @@ use Rattle.std.proofs.lemmas.Bool.Decides.{nat_tests}
 use Rattle.std.proofs.lemmas.Cmp.{ranked}
 use Rattle.std.proofs.lemmas.List.{get_or_append_left, get_or_default, length_push}
 use Rattle.std.proofs.lemmas.List.Sorted.{IsNonDecreasingBy-from_default}
-use Rattle.yf_events.specs.Tags.{Rises, event_at, tag_at, tags_listed}
+use Rattle.yf_events.specs.Tags.{TagsInOrder, event_at, tag_at, tags_listed}
 use Rattle.yf_events.specs.declared.tags.TaggedEvent.{TaggedEvent}
 
 abbrev no_tag : TaggedEvent
@@ -69,14 +69,14 @@ listed_at (suc n) ts i l = elim (cases_lt i n) [
 ]
 
 -- the next event has no tag
-pub next_untagged : (n count : ℕ) (ts : List TaggedEvent) → Rises n ts → count ≡ n + 1 → tags_listed count ts ≡ tags_listed n ts ++ None ∷ []
+pub next_untagged : (n count : ℕ) (ts : List TaggedEvent) → TagsInOrder n ts → count ≡ n + 1 → tags_listed count ts ≡ tags_listed n ts ++ None ∷ []
 next_untagged n count ts r e =
     let later : count ≡ suc n = omega (arith, e) in
     ap (λ w. tags_listed w ts) later
     ∙ ap (λ w. tags_listed n ts ++ w ∷ []) (absent ts n (λ k l same. omega (arith, r.within k l, same)))
 
 -- the next event has a tag
-pub next_tagged : (n count : ℕ) (ts after : List TaggedEvent) (t : TaggedEvent) → Rises n ts → count ≡ n + 1 → t.event ≡ n → after ≡ ts ++ t ∷ []
+pub next_tagged : (n count : ℕ) (ts after : List TaggedEvent) (t : TaggedEvent) → TagsInOrder n ts → count ≡ n + 1 → t.event ≡ n → after ≡ ts ++ t ∷ []
     → tags_listed count after ≡ tags_listed n ts ++ Some t.tag ∷ []
 next_tagged n count ts after t r e is more =
     let later : count ≡ suc n = omega (arith, e) in
@@ -129,12 +129,12 @@ none_kept n [] i l none = no_tag_found n [] (tags_listed n []) i refl l refl
 none_kept n (t ∷ ts) i l none = absurd (omega (arith, none))
 
 -- the next events have no tag
-pub next_all_untagged : (j n count : ℕ) (ts : List TaggedEvent) → Rises n ts → count ≡ n + j → tags_listed count ts ≡ tags_listed n ts ++ replicate j None
+pub next_all_untagged : (j n count : ℕ) (ts : List TaggedEvent) → TagsInOrder n ts → count ≡ n + j → tags_listed count ts ≡ tags_listed n ts ++ replicate j None
 next_all_untagged zero n count ts r e =
     let same : count ≡ n = omega (arith, e) in
     ap (λ w. tags_listed w ts) same ∙ sym (append-nil (tags_listed n ts))
 next_all_untagged (suc j) n count ts r e =
-    let more : Rises (suc n) ts = record { rise = r.rise; within = λ k l. omega (arith, r.within k l) } in
+    let more : TagsInOrder (suc n) ts = record { rise = r.rise; within = λ k l. omega (arith, r.within k l) } in
     next_all_untagged j (suc n) count ts more (omega (arith, e))
     ∙ ap (λ w. w ++ replicate j None) (next_untagged n (suc n) ts r (omega arith))
     ∙ append_assoc (tags_listed n ts) (None ∷ []) (replicate j None)

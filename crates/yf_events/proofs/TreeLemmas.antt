@@ -1,53 +1,53 @@
 -- A list of events is that of one list of trees at most.
 use Rattle.std.proofs.Common.{◌≡◌, ℕ, List, [], ◌∷◌, ◌++◌, flat_map, refl, sym, ap, ◌∙◌, append_assoc}
-use Rattle.yf_events.specs.Event.{EventValue, Placed, stream_ends, document_starts, document_ends, sequence_starts, sequence_ends, mapping_starts, mapping_ends, scalar_node, alias_node}
+use Rattle.yf_events.specs.Event.{EventValue, EventInText, stream_ends, document_starts, document_ends, sequence_starts, sequence_ends, mapping_starts, mapping_ends, scalar_node, alias_node}
 use Rattle.yf_events.specs.declared.lists.Lists.{Lists}
-use Rattle.yf_events.specs.Tree.{DocumentTree, TreesOf, flat_document, Standing, Node, scalar, alias, sequence, mapping, Items, no_items, item, Pairs, no_pairs, pair, placed, unplaced, flat, flat_items, flat_pairs}
+use Rattle.yf_events.specs.Tree.{DocumentTree, TreesOf, flat_document, NodeOffsets, Node, scalar, alias, sequence, mapping, Items, no_items, item, Pairs, no_pairs, pair, placed, unplaced, flat, flat_items, flat_pairs}
 
 -- what two equal lists have in common at their front
 
-first_of_both : Placed → List Placed → Placed
+first_of_both : EventInText → List EventInText → EventInText
 first_of_both d [] = d
 first_of_both d (e ∷ es) = e
 
-rest_of : List Placed → List Placed
+rest_of : List EventInText → List EventInText
 rest_of [] = []
 rest_of (e ∷ es) = es
 
-same_first : (a b : Placed) (x y : List Placed) → a ∷ x ≡ b ∷ y → a ≡ b
+same_first : (a b : EventInText) (x y : List EventInText) → a ∷ x ≡ b ∷ y → a ≡ b
 unfolding first_of_both
 same_first a b x y e = ap (first_of_both a) e
 
-same_rest : (a b : Placed) (x y : List Placed) → a ∷ x ≡ b ∷ y → x ≡ y
+same_rest : (a b : EventInText) (x y : List EventInText) → a ∷ x ≡ b ∷ y → x ≡ y
 unfolding rest_of
 same_rest a b x y e = ap rest_of e
 
-standing_in : Placed → Standing
+standing_in : EventInText → NodeOffsets
 standing_in e = record { span = e.span; tag_offset = e.tag_offset; entry = e.entry }
 
-same_standing : (a b : Standing) (v w : EventValue) (l m : List (List ℕ)) → placed a v l ≡ placed b w m → a ≡ b
+same_standing : (a b : NodeOffsets) (v w : EventValue) (l m : List (List ℕ)) → placed a v l ≡ placed b w m → a ≡ b
 unfolding standing_in
 same_standing a b v w l m e = ap standing_in e
 
-same_event : (d e : Placed) → d ≡ e → d.event ≡ e.event
+same_event : (d e : EventInText) → d ≡ e → d.event ≡ e.event
 same_event d e p = ap (λ x. x.event) p
 
-same_lines : (d e : Placed) → d ≡ e → d.folded ≡ e.folded
+same_lines : (d e : EventInText) → d ≡ e → d.folded ≡ e.folded
 same_lines d e p = ap (λ x. x.folded) p
 
-same_first_event : (d e : Placed) (x y : List Placed) → d ∷ x ≡ e ∷ y → d.event ≡ e.event
+same_first_event : (d e : EventInText) (x y : List EventInText) → d ∷ x ≡ e ∷ y → d.event ≡ e.event
 same_first_event d e x y p = same_event d e (same_first d e x y p)
 
--- after the entries of a collection stands its end
-regrouped : (x : List Placed) (d : Placed) (r : List Placed) → (x ++ (d ∷ [])) ++ r ≡ x ++ (d ∷ r)
+-- after the entries of a collection is its end
+regrouped : (x : List EventInText) (d : EventInText) (r : List EventInText) → (x ++ (d ∷ [])) ++ r ≡ x ++ (d ∷ r)
 regrouped x d r = append_assoc x (d ∷ []) r
 
-three : (x y z r : List Placed) → (x ++ (y ++ z)) ++ r ≡ x ++ (y ++ (z ++ r))
+three : (x y z r : List EventInText) → (x ++ (y ++ z)) ++ r ≡ x ++ (y ++ (z ++ r))
 three x y z r = append_assoc x (y ++ z) r ∙ ap (λ w. x ++ w) (append_assoc y z r)
 
 -- two trees whose events begin the same list are the same tree
 mutual
-  pub node_unique : (x y : Node) (r s : List Placed) → flat x ++ r ≡ flat y ++ s → (x ≡ y) × (r ≡ s)
+  pub node_unique : (x y : Node) (r s : List EventInText) → flat x ++ r ≡ flat y ++ s → (x ≡ y) × (r ≡ s)
   node_unique (scalar a p st t l) (scalar b q su u m) r s e =
       let h : placed a (scalar_node p st t) l ≡ placed b (scalar_node q su u) m = same_first _ _ _ _ e in
       let e1 : a ≡ b = same_standing _ _ _ _ _ _ h in
@@ -100,7 +100,7 @@ mutual
       let e4 : ps ≡ qs = inner.0 in
       (cc, inner.1)
 
-  items_unique : (xs ys : Items) (r s : List Placed)
+  items_unique : (xs ys : Items) (r s : List EventInText)
       → flat_items xs ++ (unplaced sequence_ends ∷ r) ≡ flat_items ys ++ (unplaced sequence_ends ∷ s) → (xs ≡ ys) × (r ≡ s)
   items_unique no_items no_items r s e = (refl, same_rest _ _ _ _ e)
   items_unique no_items (item (scalar b q su u m) zs) r s e =
@@ -129,7 +129,7 @@ mutual
       let e3 : xs ≡ ys = others.0 in
       (cc, others.1)
 
-  pairs_unique : (xs ys : Pairs) (r s : List Placed)
+  pairs_unique : (xs ys : Pairs) (r s : List EventInText)
       → flat_pairs xs ++ (unplaced mapping_ends ∷ r) ≡ flat_pairs ys ++ (unplaced mapping_ends ∷ s) → (xs ≡ ys) × (r ≡ s)
   pairs_unique no_pairs no_pairs r s e = (refl, same_rest _ _ _ _ e)
   pairs_unique no_pairs (pair (scalar b q su u m) v zs) r s e =
@@ -167,13 +167,13 @@ mutual
 same_document : (d e : DocumentTree) → d.marked ≡ e.marked → d.closed ≡ e.closed → d.root ≡ e.root → d ≡ e
 same_document d e p q r = λ i. record { marked = p i; closed = q i; root = r i }
 
-behind_document : (d : DocumentTree) (x r : List Placed)
+after_document : (d : DocumentTree) (x r : List EventInText)
     → (flat_document d ++ x) ++ r ≡ unplaced (document_starts d.marked) ∷ (flat d.root ++ (unplaced (document_ends d.closed) ∷ (x ++ r)))
-behind_document d x r =
+after_document d x r =
     ap (λ w. unplaced (document_starts d.marked) ∷ w)
     (append_assoc (flat d.root ++ (unplaced (document_ends d.closed) ∷ [])) x r ∙ regrouped (flat d.root) _ (x ++ r))
 
-documents_unique : (ds es : List DocumentTree) (r s : List Placed)
+documents_unique : (ds es : List DocumentTree) (r s : List EventInText)
     → flat_map flat_document ds ++ (unplaced stream_ends ∷ r) ≡ flat_map flat_document es ++ (unplaced stream_ends ∷ s) → ds ≡ es
 documents_unique [] [] r s e = refl
 documents_unique [] (d ∷ es) r s e = let h : stream_ends ≡ document_starts d.marked = same_first_event _ _ _ _ e in absurd cc
@@ -181,7 +181,7 @@ documents_unique (d ∷ ds) [] r s e = let h : document_starts d.marked ≡ stre
 documents_unique (d ∷ ds) (f ∷ es) r s e =
     let e1 : unplaced (document_starts d.marked) ∷ (flat d.root ++ (unplaced (document_ends d.closed) ∷ (flat_map flat_document ds ++ (unplaced stream_ends ∷ r))))
     ≡ unplaced (document_starts f.marked) ∷ (flat f.root ++ (unplaced (document_ends f.closed) ∷ (flat_map flat_document es ++ (unplaced stream_ends ∷ s)))) =
-    sym (behind_document d (flat_map flat_document ds) _) ∙ (e ∙ behind_document f (flat_map flat_document es) _) in
+    sym (after_document d (flat_map flat_document ds) _) ∙ (e ∙ after_document f (flat_map flat_document es) _) in
     let h : document_starts d.marked ≡ document_starts f.marked = same_first_event _ _ _ _ e1 in
     let marks : d.marked ≡ f.marked = cc in
     let roots : (d.root ≡ f.root) × (unplaced (document_ends d.closed) ∷ (flat_map flat_document ds ++ (unplaced stream_ends ∷ r))

@@ -3,36 +3,36 @@ use Rattle.std.proofs.Common.{◌≡◌, ℕ, zero, suc, ◌+◌, Bool, true, fa
 use Rattle.std.specs.Prelude.{All, cond, count_by}
 use Rattle.std.proofs.lemmas.List.Sums.{sum_by-append}
 use Rattle.yf_props.specs.Props.{PropsValue}
-use Rattle.yf_events.specs.Event.{EventValue, Placed, stream_starts, stream_ends, document_starts, document_ends, sequence_starts, sequence_ends, mapping_starts, mapping_ends, scalar_node, alias_node}
-use Rattle.yf_events.specs.Nested.{Shape, one_node, many_nodes, many_pairs, many_documents, Nested, a_scalar, an_alias, a_sequence, a_mapping, no_nodes, more_nodes, no_pairs as no_pairs_nested, more_pairs, no_documents, more_documents, IsStream, a_stream}
+use Rattle.yf_events.specs.Event.{EventValue, EventInText, stream_starts, stream_ends, document_starts, document_ends, sequence_starts, sequence_ends, mapping_starts, mapping_ends, scalar_node, alias_node}
+use Rattle.yf_events.specs.Nested.{Shape, one_node, many_nodes, many_pairs, many_documents, NestsWithin, a_scalar, an_alias, a_sequence, a_mapping, no_nodes, more_nodes, no_pairs as no_pairs_nested, more_pairs, no_documents, more_documents, IsStream, a_stream}
 use Rattle.yf_events.specs.Reading.{events_of}
 use Rattle.yf_events.specs.declared.event.ScalarStyle.{ScalarStyle}
 use Rattle.yf_events.specs.declared.lists.Lists.{Lists}
-use Rattle.yf_events.specs.Tree.{Standing, Node, scalar, alias, sequence, mapping, Items, no_items, item, Pairs, no_pairs, pair, DocumentTree, TreesOf, placed, unplaced, flat, flat_items, flat_pairs, flat_document, flat_stream}
+use Rattle.yf_events.specs.Tree.{NodeOffsets, Node, scalar, alias, sequence, mapping, Items, no_items, item, Pairs, no_pairs, pair, DocumentTree, TreesOf, placed, unplaced, flat, flat_items, flat_pairs, flat_document, flat_stream}
 use Rattle.yf_events.specs.WellPlaced.{IsWellPlaced, WellPlaced, begins_node, is_scalar, begins_document}
 
 -- each event of a list is well placed, one by one
 
-data Each : List Placed → Type 0 where
+data Each : List EventInText → Type 0 where
   none : Each []
-  each : {e : Placed} {es : List Placed} → IsWellPlaced e → Each es → Each (e ∷ es)
+  each : {e : EventInText} {es : List EventInText} → IsWellPlaced e → Each es → Each (e ∷ es)
 
-each_of : (es : List Placed) → All IsWellPlaced es → Each es
+each_of : (es : List EventInText) → All IsWellPlaced es → Each es
 each_of [] a = none
 each_of (e ∷ es) a = each (a 0 e (omega arith)) (each_of es (λ k d l. a (suc k) d (omega arith)))
 
 -- What stands for two lists of events, one after the other
 
-record Parts (es : List Placed) (x y : List EventValue) : Type 0 where
-  front : List Placed
-  back : List Placed
+record Parts (es : List EventInText) (x y : List EventValue) : Type 0 where
+  front : List EventInText
+  back : List EventInText
   is : es ≡ front ++ back
   front_is : map (λ e. e.event) front ≡ x
   back_is : map (λ e. e.event) back ≡ y
   front_placed : Each front
   back_placed : Each back
 
-split : (x y : List EventValue) (es : List Placed) → map (λ e. e.event) es ≡ x ++ y → Each es → Parts es x y
+split : (x y : List EventValue) (es : List EventInText) → map (λ e. e.event) es ≡ x ++ y → Each es → Parts es x y
 split [] y es e w = record { front = []; back = es; is = refl; front_is = refl; back_is = e; front_placed = none; back_placed = w }
 split (v ∷ x) y [] e w = absurd cc
 split (v ∷ x) y (d ∷ es) e (each p w) =
@@ -50,79 +50,79 @@ split (v ∷ x) y (d ∷ es) e (each p w) =
     }
 
 -- and for one event and the others after it
-record First (es : List Placed) (v : EventValue) (x : List EventValue) : Type 0 where
-  first : Placed
-  rest : List Placed
+record First (es : List EventInText) (v : EventValue) (x : List EventValue) : Type 0 where
+  first : EventInText
+  rest : List EventInText
   is : es ≡ first ∷ rest
   first_is : first.event ≡ v
   rest_is : map (λ e. e.event) rest ≡ x
   first_placed : IsWellPlaced first
   rest_placed : Each rest
 
-one : (v : EventValue) (x : List EventValue) (es : List Placed) → map (λ e. e.event) es ≡ v ∷ x → Each es → First es v x
+one : (v : EventValue) (x : List EventValue) (es : List EventInText) → map (λ e. e.event) es ≡ v ∷ x → Each es → First es v x
 one v x [] e w = absurd cc
 one v x (d ∷ es) e (each p w) =
     record { first = d; rest = es; is = refl; first_is = cc; rest_is = cc; first_placed = p; rest_placed = w }
 
-nothing : (es : List Placed) → map (λ e. e.event) es ≡ [] → es ≡ []
+nothing : (es : List EventInText) → map (λ e. e.event) es ≡ [] → es ≡ []
 nothing [] e = refl
 nothing (d ∷ es) e = absurd cc
 
 -- One event
 
-standing_in : Placed → Standing
+standing_in : EventInText → NodeOffsets
 standing_in e = record { span = e.span; tag_offset = e.tag_offset; entry = e.entry }
 
-scalar_is : (d : Placed) (props : PropsValue) (style : ScalarStyle) (text : List ℕ) → d.event ≡ scalar_node props style text
+scalar_is : (d : EventInText) (props : PropsValue) (style : ScalarStyle) (text : List ℕ) → d.event ≡ scalar_node props style text
     → d ≡ placed (standing_in d) (scalar_node props style text) d.folded
 unfolding standing_in
 scalar_is d props style text e = λ i. record { event = e i; span = d.span; tag_offset = d.tag_offset; entry = d.entry; folded = d.folded }
 
-node_is : (d : Placed) (v : EventValue) → d.event ≡ v → is_scalar v ≡ false → IsWellPlaced d → d ≡ placed (standing_in d) v []
+node_is : (d : EventInText) (v : EventValue) → d.event ≡ v → is_scalar v ≡ false → IsWellPlaced d → d ≡ placed (standing_in d) v []
 unfolding standing_in
 node_is d v e s p =
     let lines : d.folded ≡ [] = p.lines (ap is_scalar e ∙ s) in
     λ i. record { event = e i; span = d.span; tag_offset = d.tag_offset; entry = d.entry; folded = lines i }
 
-end_is : (d : Placed) (v : EventValue) → d.event ≡ v → begins_node v ≡ false → IsWellPlaced d → d ≡ unplaced v
+end_is : (d : EventInText) (v : EventValue) → d.event ≡ v → begins_node v ≡ false → IsWellPlaced d → d ≡ unplaced v
 end_is d v e b p = p.place (ap begins_node e ∙ b) ∙ ap unplaced e
 
 -- Lists of events put together
 
-alone : (es rest : List Placed) (d first : Placed) → es ≡ d ∷ rest → d ≡ first → rest ≡ [] → es ≡ first ∷ []
+alone : (es rest : List EventInText) (d first : EventInText) → es ≡ d ∷ rest → d ≡ first → rest ≡ [] → es ≡ first ∷ []
 alone es rest d first e f g = cc
 
-two : (es front back x y : List Placed) → es ≡ front ++ back → front ≡ x → back ≡ y → es ≡ x ++ y
+two : (es front back x y : List EventInText) → es ≡ front ++ back → front ≡ x → back ≡ y → es ≡ x ++ y
 two es front back x y e f g = cc
 
-three : (es front back middle rest x y z : List Placed) → es ≡ front ++ back → back ≡ middle ++ rest → front ≡ x → middle ≡ y → rest ≡ z
+three : (es front back middle rest x y z : List EventInText) → es ≡ front ++ back → back ≡ middle ++ rest → front ≡ x → middle ≡ y → rest ≡ z
     → es ≡ x ++ (y ++ z)
 three es front back middle rest x y z e f g h k = cc
 
-enclosed : (es rest front back inner : List Placed) (d first last : Placed) → es ≡ d ∷ rest → d ≡ first → rest ≡ front ++ back → front ≡ inner
+enclosed : (es rest front back inner : List EventInText) (d first last : EventInText) → es ≡ d ∷ rest → d ≡ first → rest ≡ front ++ back → front ≡ inner
     → back ≡ last ∷ [] → es ≡ first ∷ (inner ++ (last ∷ []))
 enclosed es rest front back inner d first last e f g h k = cc
 
-enclosed_before : (es rest front back behind inner more : List Placed) (d l first last : Placed) → es ≡ d ∷ rest → d ≡ first → rest ≡ front ++ back
-    → front ≡ inner → back ≡ l ∷ behind → l ≡ last → behind ≡ more → es ≡ first ∷ ((inner ++ (last ∷ [])) ++ more)
-enclosed_before es rest front back behind inner more d l first last e f g h k m n =
+enclosed_before : (es rest front back follows inner more : List EventInText) (d l first last : EventInText) → es ≡ d ∷ rest → d ≡ first → rest ≡ front ++ back
+    → front ≡ inner → back ≡ l ∷ follows → l ≡ last → follows ≡ more → es ≡ first ∷ ((inner ++ (last ∷ [])) ++ more)
+enclosed_before es rest front back follows inner more d l first last e f g h k m n =
     let whole : es ≡ first ∷ (inner ++ (last ∷ more)) = cc in
     whole ∙ ap (λ z. first ∷ z) (sym (append_assoc inner (last ∷ []) more))
 
-last_is : (back : List Placed) (v : EventValue) → begins_node v ≡ false → First back v [] → back ≡ unplaced v ∷ []
+last_is : (back : List EventInText) (v : EventValue) → begins_node v ≡ false → First back v [] → back ≡ unplaced v ∷ []
 last_is back v b f =
     alone back f.rest f.first (unplaced v) f.is (end_is f.first v f.first_is b f.first_placed) (nothing f.rest f.rest_is)
 
 -- The trees of a part of a stream
 
-abbrev Trees : Shape → List Placed → Type 0
+abbrev Trees : Shape → List EventInText → Type 0
 Trees one_node es = (x : Node) × (es ≡ flat x)
 Trees many_nodes es = (xs : Items) × (es ≡ flat_items xs)
 Trees many_pairs es = (ps : Pairs) × (es ≡ flat_pairs ps)
 Trees many_documents es = (ds : List DocumentTree) × (es ≡ flat_map flat_document ds)
 
 abbrev HasTrees : Shape → List EventValue → Type 0
-HasTrees s x = (es : List Placed) → map (λ e. e.event) es ≡ x → Each es → Trees s es
+HasTrees s x = (es : List EventInText) → map (λ e. e.event) es ≡ x → Each es → Trees s es
 
 scalar_tree : (props : PropsValue) (style : ScalarStyle) (text : List ℕ) → HasTrees one_node (scalar_node props style text ∷ [])
 scalar_tree props style text = λ es e w.
@@ -198,7 +198,7 @@ documents_tree marked closed x y h k = λ es e w.
           (end_is l.first (document_ends closed) l.first_is refl l.first_placed) rest.1,
     )
 
-trees : {s : Shape} {d : ℕ} {x : List EventValue} → Nested s d x → HasTrees s x
+trees : {s : Shape} {d : ℕ} {x : List EventValue} → NestsWithin s d x → HasTrees s x
 trees a_scalar = scalar_tree _ _ _
 trees an_alias = alias_tree _
 trees (a_sequence {x = x} n) = sequence_tree _ _ x (trees n)
@@ -210,7 +210,7 @@ trees (more_pairs {k = k} {v = v} {y = y} n m o) = pairs_tree k v y (trees n) (t
 trees no_documents = λ es e w. ([], nothing es e)
 trees (more_documents {marked = marked} {x = x} {y = y} closed n m) = documents_tree marked closed x y (trees n) (trees m)
 
-stream_tree : (x : List EventValue) → HasTrees many_documents x → (es : List Placed)
+stream_tree : (x : List EventValue) → HasTrees many_documents x → (es : List EventInText)
     → map (λ e. e.event) es ≡ stream_starts ∷ (x ++ (stream_ends ∷ [])) → Each es → (ds : List DocumentTree) × (es ≡ flat_stream ds)
 stream_tree x h es e w =
     let f = one stream_starts (x ++ (stream_ends ∷ [])) es e w in
@@ -222,20 +222,20 @@ stream_tree x h es e w =
           (end_is f.first stream_starts f.first_is refl f.first_placed) p.is inner.1 (last_is p.back stream_ends refl l),
     )
 
-stream_trees : {d : ℕ} {x : List EventValue} → IsStream d x → (es : List Placed) → map (λ e. e.event) es ≡ x → Each es
+stream_trees : {d : ℕ} {x : List EventValue} → IsStream d x → (es : List EventInText) → map (λ e. e.event) es ≡ x → Each es
     → (ds : List DocumentTree) × (es ≡ flat_stream ds)
 stream_trees (a_stream {x = x} n) = λ es e w. stream_tree x (trees n) es e w
 
 -- How many documents begin in the events of trees
 
-begun : List Placed → ℕ
+begun : List EventInText → ℕ
 begun es = count_by (λ e. begins_document e.event) es
 
-begun_both : (x y : List Placed) → begun (x ++ y) ≡ begun x + begun y
+begun_both : (x y : List EventInText) → begun (x ++ y) ≡ begun x + begun y
 unfolding begun
 begun_both x y = sum_by-append (λ e. cond (begins_document e.event) 1 0) x y
 
-none_begun : (e : Placed) → begins_document e.event ≡ false → begun (e ∷ []) ≡ 0
+none_begun : (e : EventInText) → begins_document e.event ≡ false → begun (e ∷ []) ≡ 0
 unfolding begun
 none_begun e p = rw p refl
 
@@ -247,14 +247,14 @@ nothing_begun : begun [] ≡ 0
 unfolding begun
 nothing_begun = refl
 
-begun_enclosed : (d last : Placed) (x : List Placed) → begun (d ∷ (x ++ (last ∷ []))) ≡ begun (d ∷ []) + (begun x + begun (last ∷ []))
+begun_enclosed : (d last : EventInText) (x : List EventInText) → begun (d ∷ (x ++ (last ∷ []))) ≡ begun (d ∷ []) + (begun x + begun (last ∷ []))
 begun_enclosed d last x = begun_both (d ∷ []) (x ++ (last ∷ [])) ∙ ap (λ n. begun (d ∷ []) + n) (begun_both x (last ∷ []))
 
-none_enclosed : (d last : Placed) (x : List Placed) → begins_document d.event ≡ false → begins_document last.event ≡ false → begun x ≡ 0
+none_enclosed : (d last : EventInText) (x : List EventInText) → begins_document d.event ≡ false → begins_document last.event ≡ false → begun x ≡ 0
     → begun (d ∷ (x ++ (last ∷ []))) ≡ 0
 none_enclosed d last x p q e = omega (arith, begun_enclosed d last x, none_begun d p, none_begun last q)
 
-none_both : (x y : List Placed) → begun x ≡ 0 → begun y ≡ 0 → begun (x ++ y) ≡ 0
+none_both : (x y : List EventInText) → begun x ≡ 0 → begun y ≡ 0 → begun (x ++ y) ≡ 0
 none_both x y e h = omega (arith, begun_both x y)
 
 mutual
@@ -305,18 +305,18 @@ has_trees r n w =
 
 -- and each reading that has trees is well placed
 
-each_both : (x y : List Placed) → Each x → Each y → Each (x ++ y)
+each_both : (x y : List EventInText) → Each x → Each y → Each (x ++ y)
 each_both [] y none w = w
 each_both (e ∷ x) y (each p v) w = each p (each_both x y v w)
 
-each_enclosed : (d last : Placed) (x : List Placed) → IsWellPlaced d → Each x → IsWellPlaced last → Each (d ∷ (x ++ (last ∷ [])))
+each_enclosed : (d last : EventInText) (x : List EventInText) → IsWellPlaced d → Each x → IsWellPlaced last → Each (d ∷ (x ++ (last ∷ [])))
 each_enclosed d last x p w q = each p (each_both x (last ∷ []) w (each q none))
 
-scalar_placed : (at : Standing) (props : PropsValue) (style : ScalarStyle) (text : List ℕ) (lines : List (List ℕ))
+scalar_placed : (at : NodeOffsets) (props : PropsValue) (style : ScalarStyle) (text : List ℕ) (lines : List (List ℕ))
     → IsWellPlaced (placed at (scalar_node props style text) lines)
 scalar_placed at props style text lines = record { place = λ n. absurd (true≢false n); lines = λ n. absurd (true≢false n) }
 
-node_placed : (at : Standing) (v : EventValue) → begins_node v ≡ true → IsWellPlaced (placed at v [])
+node_placed : (at : NodeOffsets) (v : EventValue) → begins_node v ≡ true → IsWellPlaced (placed at v [])
 node_placed at v b = record { place = λ n. absurd (true≢false (sym b ∙ n)); lines = λ n. refl }
 
 end_placed : (v : EventValue) → IsWellPlaced (unplaced v)
@@ -347,14 +347,14 @@ each_in_documents (d ∷ ds) =
     (each_enclosed _ _ (flat d.root) (end_placed (document_starts d.marked)) (each_in_node d.root) (end_placed (document_ends d.closed)))
     (each_in_documents ds)
 
-one_more : (e : Placed) (es : List Placed) → IsWellPlaced e → All IsWellPlaced es → All IsWellPlaced (e ∷ es)
+one_more : (e : EventInText) (es : List EventInText) → IsWellPlaced e → All IsWellPlaced es → All IsWellPlaced (e ∷ es)
 one_more e es p a zero d l = p
 one_more e es p a (suc k) d l = a k d (omega (arith, l))
 
 none_at_all : All IsWellPlaced []
 none_at_all k d l = absurd (omega (arith, l))
 
-all_of : (es : List Placed) → Each es → All IsWellPlaced es
+all_of : (es : List EventInText) → Each es → All IsWellPlaced es
 all_of [] none = none_at_all
 all_of (e ∷ es) (each p w) = one_more e es p (all_of es w)
 

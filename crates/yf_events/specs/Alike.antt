@@ -1,18 +1,18 @@
--- Two trees that differ by nothing but where their nodes stand in a text: a node has a part of the text in both or in neither.
+-- Two trees that differ by nothing but where their nodes are in a text: a node has a part of the text in both or in neither.
 use Rattle.std.specs.Prelude.{◌≡◌, ℕ, Bool, is_some, List}
 use Rattle.yf_props.specs.Props.{PropsValue}
 use Rattle.yf_events.specs.declared.event.ScalarStyle.{ScalarStyle}
-use Rattle.yf_events.specs.Tree.{Standing, Node, scalar, alias, sequence, mapping, Items, no_items, item, Pairs, no_pairs, pair}
+use Rattle.yf_events.specs.Tree.{NodeOffsets, Node, scalar, alias, sequence, mapping, Items, no_items, item, Pairs, no_pairs, pair}
 
 mutual
   -- K tells what a key with its value in the one tree has to do with those in the other
   pub data Alike (K : Node → Node → Node → Node → Type 0) : Node → Node → Type 0 where
-    alike_scalars : {at bt : Standing} {props : PropsValue} {style : ScalarStyle} {text : List ℕ} {lines : List (List ℕ)}
+    alike_scalars : {at bt : NodeOffsets} {props : PropsValue} {style : ScalarStyle} {text : List ℕ} {lines : List (List ℕ)}
         → is_some at.span ≡ is_some bt.span → Alike K (scalar at props style text lines) (scalar bt props style text lines)
-    alike_aliases : {at bt : Standing} {name : List ℕ} → is_some at.span ≡ is_some bt.span → Alike K (alias at name) (alias bt name)
-    alike_sequences : {at bt : Standing} {flow : Bool} {props : PropsValue} {xs ys : Items} → is_some at.span ≡ is_some bt.span
+    alike_aliases : {at bt : NodeOffsets} {name : List ℕ} → is_some at.span ≡ is_some bt.span → Alike K (alias at name) (alias bt name)
+    alike_sequences : {at bt : NodeOffsets} {flow : Bool} {props : PropsValue} {xs ys : Items} → is_some at.span ≡ is_some bt.span
         → AlikeItems K xs ys → Alike K (sequence at flow props xs) (sequence bt flow props ys)
-    alike_mappings : {at bt : Standing} {flow : Bool} {props : PropsValue} {ps qs : Pairs} → is_some at.span ≡ is_some bt.span
+    alike_mappings : {at bt : NodeOffsets} {flow : Bool} {props : PropsValue} {ps qs : Pairs} → is_some at.span ≡ is_some bt.span
         → AlikePairs K ps qs → Alike K (mapping at flow props ps) (mapping bt flow props qs)
 
   pub data AlikeItems (K : Node → Node → Node → Node → Type 0) : Items → Items → Type 0 where

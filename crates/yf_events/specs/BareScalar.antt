@@ -1,17 +1,17 @@
 -- A scalar without properties, with the part of the text that it has, and the entry that it begins.
 use Rattle.std.specs.Prelude.{ℕ, List, [], Option, Some, None}
 use Rattle.yf_props.specs.Props.{no_props}
-use Rattle.yf_events.specs.Event.{Placed, scalar_node}
+use Rattle.yf_events.specs.Event.{EventInText, scalar_node}
 use Rattle.yf_events.specs.Packed.{RowOf}
 use Rattle.yf_events.specs.declared.event.Entry.{Entry}
 use Rattle.yf_events.specs.declared.event.ScalarStyle.{ScalarStyle}
 use Rattle.yf_events.specs.declared.packed.More.{More}
-use Rattle.yf_events.specs.declared.packed.PackedRow.{PackedRow}
+use Rattle.yf_events.specs.declared.packed.PackedEvent.{PackedEvent}
 
-abbrev pub bare_scalar : ScalarStyle → List ℕ → ℕ → ℕ → Option Entry → Placed
+abbrev pub bare_scalar : ScalarStyle → List ℕ → ℕ → ℕ → Option Entry → EventInText
 bare_scalar style text start end entry =
     record { event = scalar_node no_props style text; span = Some (record { start = start; end = end }); tag_offset = None; entry = entry; folded = [] }
 
 -- a row that stands for an event, whatever the table has
-abbrev pub RowAlone : PackedRow → Placed → Type 0
+abbrev pub RowAlone : PackedEvent → EventInText → Type 0
 RowAlone r e = (more : List More) → RowOf more r e

@@ -10,8 +10,8 @@ use Rattle.yf_events.specs.declared.content.ContentItem.{ContentItem}
 use Rattle.yf_events.specs.declared.content.ContentItem.TheVariants.{Document, Scalar, Alias, Sequence, SequenceEnd, Mapping, MappingEnd}
 use Rattle.yf_events.specs.declared.content.DirectiveItem.{DirectiveItem}
 use Rattle.yf_events.specs.declared.content.DirectiveItem.TheVariants as Before
-use Rattle.yf_events.specs.declared.content.Kind.{Kind}
-use Rattle.yf_events.specs.declared.content.Kind.TheVariants.{Tagged, PlainAndSteady, Untagged}
+use Rattle.yf_events.specs.declared.content.ScalarType.{ScalarType}
+use Rattle.yf_events.specs.declared.content.ScalarType.TheVariants.{Tagged, PlainAndSteady, Untagged}
 use Rattle.yf_events.specs.declared.directive.Directive.{Directive}
 use Rattle.yf_events.specs.declared.document.Doc.{Doc}
 use Rattle.yf_events.specs.declared.event.ScalarStyle.{ScalarStyle}
@@ -60,7 +60,7 @@ items_of_event mapping_ends tag = end_of_mapping ∷ []
 items_of_event (scalar_node props style text) tag = a_scalar props.anchor (kind_of tag style text) text ∷ []
 items_of_event (alias_node name) tag = an_alias name ∷ []
 
--- what stands before the documents: a directive is followed by its words
+-- what is before the documents: a directive is followed by its words
 pub data BeforeValue : Type 0 where
   before_document : BeforeValue
   a_directive : BeforeValue
@@ -85,7 +85,7 @@ content_of r = record { directives = flat_map items_of_document r.documents; nod
 
 -- what an item of the code's list is
 
-abbrev pub kind_value : Kind → KindValue
+abbrev pub kind_value : ScalarType → KindValue
 kind_value (Tagged tag) = tagged tag.now
 kind_value PlainAndSteady = plain_and_steady
 kind_value Untagged = untagged

@@ -51,8 +51,8 @@ new_event_value New.MapEnd = mapping_ends
 new_event_value (New.Scalar props style text) = scalar_node (props_value props) style (text_bytes text)
 new_event_value (New.Alias name) = alias_node name.now
 
--- an event with where it stands
-pub record Placed : Type 0 where
+-- an event with where it is
+pub record EventInText : Type 0 where
   pub event : EventValue
   -- the node's text with its properties
   pub span : Option Span
@@ -63,16 +63,16 @@ pub record Placed : Type 0 where
   -- the lines of a folded scalar
   pub folded : List (List ℕ)
 
-abbrev pub placed_value : PlacedEvent → Placed
+abbrev pub placed_value : PlacedEvent → EventInText
 placed_value e =
     record { event = new_event_value e.event; span = e.span; tag_offset = e.tag_offset; entry = e.entry; folded = e.folded }
 
-abbrev pub view_value : View → Placed
+abbrev pub view_value : View → EventInText
 view_value v =
     record { event = event_value v.event; span = v.span; tag_offset = v.tag_offset; entry = v.entry; folded = map (λ line. line.now) v.folded.now }
 
 -- the events, of which the one at an index begins this entry
-abbrev pub with_entry : List Placed → ℕ → Entry → List Placed
+abbrev pub with_entry : List EventInText → ℕ → Entry → List EventInText
 with_entry [] i entry = []
 with_entry (e ∷ es) zero entry = record e { entry = Some entry } ∷ es
 with_entry (e ∷ es) (suc i) entry = e ∷ with_entry es i entry

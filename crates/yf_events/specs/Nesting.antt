@@ -1,13 +1,13 @@
 -- The test whether events are well nested, as one pass with a stack of what is awaited after the open collections.
 use Rattle.std.specs.Prelude.{ℕ, suc, zero, ◌-◌, ◌≡◌, Bool, true, false, List, [], ◌∷◌, Option, Some, None, length, reverse}
 use Rattle.yf_events.specs.Event.{EventValue, stream_starts, stream_ends, document_starts, document_ends, sequence_starts, sequence_ends, mapping_starts, mapping_ends, scalar_node, alias_node}
-use Rattle.yf_events.specs.declared.nesting.Awaited.{Awaited}
-use Rattle.yf_events.specs.declared.nesting.Awaited.TheVariants.{Stream, Documents, Root, Closing, Items, Keys, Values, Nothing}
+use Rattle.yf_events.specs.declared.nesting.NestingState.{NestingState}
+use Rattle.yf_events.specs.declared.nesting.NestingState.TheVariants.{Stream, Documents, Root, Closing, Items, Keys, Values, Nothing}
 use Rattle.yf_events.specs.declared.nesting.Move.{Move}
 use Rattle.yf_events.specs.declared.nesting.Move.TheVariants.{Refuse, Stay, Open, Close}
 
 -- what is awaited after a node
-abbrev pub after_node : Awaited → Option Awaited
+abbrev pub after_node : NestingState → Option NestingState
 after_node Stream = None
 after_node Documents = None
 after_node Root = Some Closing
@@ -17,35 +17,35 @@ after_node Keys = Some Values
 after_node Values = Some Keys
 after_node Nothing = None
 
-abbrev pub stay_if : Option Awaited → Move
+abbrev pub stay_if : Option NestingState → Move
 stay_if None = Refuse
 stay_if (Some next) = Stay next
 
-abbrev pub open_if : Option Awaited → Awaited → Move
+abbrev pub open_if : Option NestingState → NestingState → Move
 open_if None within = Refuse
-open_if (Some behind) within = Open behind within
+open_if (Some follows) within = Open follows within
 
-abbrev pub at_stream : Awaited → Move
+abbrev pub at_stream : NestingState → Move
 at_stream Stream = Stay Documents
 at_stream _ = Refuse
 
-abbrev pub at_documents : Awaited → Awaited → Move
+abbrev pub at_documents : NestingState → NestingState → Move
 at_documents next Documents = Stay next
 at_documents next _ = Refuse
 
-abbrev pub at_closing : Awaited → Move
+abbrev pub at_closing : NestingState → Move
 at_closing Closing = Stay Documents
 at_closing _ = Refuse
 
-abbrev pub at_items : Awaited → Move
+abbrev pub at_items : NestingState → Move
 at_items Items = Close
 at_items _ = Refuse
 
-abbrev pub at_keys : Awaited → Move
+abbrev pub at_keys : NestingState → Move
 at_keys Keys = Close
 at_keys _ = Refuse
 
-abbrev pub move_at : Awaited → EventValue → Move
+abbrev pub move_at : NestingState → EventValue → Move
 move_at top stream_starts = at_stream top
 move_at top stream_ends = at_documents Nothing top
 move_at top (document_starts marked) = at_documents Root top
@@ -63,30 +63,30 @@ enter zero rest = false
 enter (suc room) rest = rest room
 
 -- the end of a collection, where one is open
-abbrev pub leave : List Awaited → (Awaited → List Awaited → Bool) → Bool
+abbrev pub leave : List NestingState → (NestingState → List NestingState → Bool) → Bool
 leave [] rest = false
 leave (top ∷ below) rest = rest top below
 
-abbrev pub follow : Move → ℕ → List Awaited → (ℕ → Awaited → List Awaited → Bool) → Bool
+abbrev pub follow : Move → ℕ → List NestingState → (ℕ → NestingState → List NestingState → Bool) → Bool
 follow Refuse room below rest = false
 follow (Stay next) room below rest = rest room next below
-follow (Open behind within) room below rest = enter room (λ r. rest r within (behind ∷ below))
+follow (Open follows within) room below rest = enter room (λ r. rest r within (follows ∷ below))
 follow Close room below rest = leave below (λ t b. rest (suc room) t b)
 
-abbrev pub is_over : Awaited → List Awaited → Bool
+abbrev pub is_over : NestingState → List NestingState → Bool
 is_over Nothing [] = true
 is_over _ _ = false
 
 -- with so much room for further collections, this awaited here, and those after the open collections, innermost first
-unfoldable pub run : ℕ → Awaited → List Awaited → List EventValue → Bool
+unfoldable pub run : ℕ → NestingState → List NestingState → List EventValue → Bool
 run room top below [] = is_over top below
 run room top below (e ∷ es) = follow (move_at top e) room below (λ r t b. run r t b es)
 
 -- one event was passed, where `below` has the innermost collection last: what is left to come is told from the new state
-abbrev pub runs_on : Option Awaited → ℕ → List Awaited → List EventValue → Bool
+abbrev pub runs_on : Option NestingState → ℕ → List NestingState → List EventValue → Bool
 runs_on None room below es = false
 runs_on (Some top) room below es = run room top below es
 
-pub record Advances (limit : ℕ) (top : Awaited) (below : List Awaited) (e : EventValue) (next : Option Awaited) (after : List Awaited) : Type 0 where
+pub record NestingStep (limit : ℕ) (top : NestingState) (below : List NestingState) (e : EventValue) (next : Option NestingState) (after : List NestingState) : Type 0 where
   pub same : (es : List EventValue)
       → run (limit - length below) top (reverse below) (e ∷ es) ≡ runs_on next (limit - length after) (reverse after) es

@@ -47,7 +47,7 @@ style_sign Double = codes "\""
 style_sign Literal = codes "|"
 style_sign Folded = codes ">"
 
--- a part that stands there only if the test holds
+-- a part that is there only if the test holds
 abbrev pub part_if : Bool → List ℕ → List ℕ
 part_if true part = part
 part_if false part = []

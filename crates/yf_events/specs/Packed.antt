@@ -2,13 +2,13 @@
 use Rattle.std.specs.Prelude.{ℕ, zero, suc, ◌+◌, ◌≡◌, ◌≤◌, Bool, true, false, List, [], ◌∷◌, ◌++◌, Option, Some, None, length, slice_get}
 use Rattle.std.specs.Borrow.{Bor}
 use Rattle.yf_props.specs.Props.{PropsValue, props_value, no_props}
-use Rattle.yf_events.specs.Event.{EventValue, Placed, stream_starts, stream_ends, document_starts, document_ends, sequence_starts, sequence_ends, mapping_starts, mapping_ends, scalar_node, alias_node}
+use Rattle.yf_events.specs.Event.{EventValue, EventInText, stream_starts, stream_ends, document_starts, document_ends, sequence_starts, sequence_ends, mapping_starts, mapping_ends, scalar_node, alias_node}
 use Rattle.yf_events.specs.declared.event.Entry.{Entry}
 use Rattle.yf_events.specs.declared.event.Span.{Span}
 use Rattle.yf_events.specs.declared.packed.Begins.{Begins}
 use Rattle.yf_events.specs.declared.packed.Begins.TheVariants.{Nothing, Item, ItemAfterBlank, Keyed, KeyedAfterBlank}
 use Rattle.yf_events.specs.declared.packed.More.{More}
-use Rattle.yf_events.specs.declared.packed.PackedRow.{PackedRow}
+use Rattle.yf_events.specs.declared.packed.PackedEvent.{PackedEvent}
 use Rattle.yf_events.specs.declared.packed.Shape.{Shape}
 use Rattle.yf_events.specs.declared.packed.Shape.TheVariants.{StreamStart, StreamEnd, DocStart, DocEnd, SeqStart, SeqEnd, MapStart, MapEnd, Scalar, Alias}
 
@@ -73,7 +73,7 @@ abbrev pub folded_in : Option More → List (List ℕ)
 folded_in None = []
 folded_in (Some m) = m.folded
 
-abbrev pub row_with : PackedRow → Option More → Placed
+abbrev pub row_with : PackedEvent → Option More → EventInText
 row_with r m = record {
   event = shape_value r.shape (props_in m) (text_in m r.text.now);
   span = span_at r.placed r.start r.end;
@@ -83,11 +83,11 @@ row_with r m = record {
 }
 
 -- what a row stands for
-abbrev pub row_value : List More → PackedRow → Placed
+abbrev pub row_value : List More → PackedEvent → EventInText
 row_value more r = row_with r (more_at more r.more)
 
 -- each row's number is in the table, or 0
-abbrev pub RowsFit : List More → List PackedRow → Type 0
+abbrev pub RowsFit : List More → List PackedEvent → Type 0
 RowsFit more [] = 0 ≤ length more
 RowsFit more (r ∷ rows) = (r.more ≤ length more) × RowsFit more rows
 
@@ -96,11 +96,11 @@ abbrev pub moved_on : ℕ → ℕ → ℕ
 moved_on by zero = zero
 moved_on by (suc k) = suc k + by
 
-abbrev pub shifted : ℕ → PackedRow → PackedRow
+abbrev pub shifted : ℕ → PackedEvent → PackedEvent
 shifted by r = record r { more = moved_on by r.more }
 
 -- a table that may have grown
-pub record Grown (old new : List More) : Type 0 where
+pub record TableGrown (old new : List More) : Type 0 where
   pub added : List More
   pub is : new ≡ old ++ added
 
@@ -112,11 +112,11 @@ pub record Lacks (m : More) : Type 0 where
   pub folded : m.folded ≡ []
 
 -- where the table has this, if it has to be there
-pub data Kept (more : List More) : ℕ → More → Type 0 where
-  kept_none : {m : More} → Lacks m → Kept more 0 m
-  kept_at : {k : ℕ} {m : More} → slice_get more k ≡ Some m → Kept more (suc k) m
+pub data InTable (more : List More) : ℕ → More → Type 0 where
+  kept_none : {m : More} → Lacks m → InTable more 0 m
+  kept_at : {k : ℕ} {m : More} → slice_get more k ≡ Some m → InTable more (suc k) m
 
 -- a row that stands for an event
-pub record RowOf (more : List More) (r : PackedRow) (e : Placed) : Type 0 where
+pub record RowOf (more : List More) (r : PackedEvent) (e : EventInText) : Type 0 where
   pub fits : r.more ≤ length more
   pub is : row_value more r ≡ e

@@ -1,6 +1,6 @@
 -- What a reading is: lists that fit each other, and events that are well nested.
 use Rattle.std.specs.Prelude.{option_map, slice_get, ℕ, Bool, true, false, List, [], ◌∷◌, ◌++◌, Option, Some, None, length, map, ◌≡◌, count_by, nat_lt}
-use Rattle.yf_events.specs.Event.{EventValue, Placed, scalar_node, alias_node, sequence_starts, sequence_ends, mapping_starts, mapping_ends}
+use Rattle.yf_events.specs.Event.{EventValue, EventInText, scalar_node, alias_node, sequence_starts, sequence_ends, mapping_starts, mapping_ends}
 use Rattle.yf_events.specs.Nested.{IsStream}
 use Rattle.yf_events.specs.declared.event.Entry.{Entry}
 use Rattle.yf_events.specs.declared.event.Span.{Span}
@@ -22,7 +22,7 @@ abbrev pub folded_of : Lists → List (List (List ℕ))
 folded_of r = map (λ e. e.folded) r.events
 
 -- each event has its resolved tag or none, and each comment its note
-pub record Fits (r : Lists) : Type 0 where
+pub record ListsFit (r : Lists) : Type 0 where
   pub tags : length r.resolved ≡ length r.events
   pub notes : length r.on_leaf_line ≡ length r.comments
 
@@ -33,12 +33,12 @@ is_end mapping_ends = true
 is_end _ = false
 
 -- the end of a collection is the next event
-abbrev pub ends_next : List Placed → Bool
+abbrev pub ends_next : List EventInText → Bool
 ends_next [] = false
 ends_next (e ∷ rest) = is_end e.event
 
 -- the event begins a leaf: a scalar, an alias, or a collection whose end is the next event
-abbrev pub begins_leaf : EventValue → List Placed → Bool
+abbrev pub begins_leaf : EventValue → List EventInText → Bool
 begins_leaf (scalar_node _ _ _) rest = true
 begins_leaf (alias_node _) rest = true
 begins_leaf (sequence_starts _ _) rest = ends_next rest
@@ -54,7 +54,7 @@ leaf_if (mapping_starts _ _) ends = ends
 leaf_if _ ends = false
 
 -- the first of the events begins a leaf
-abbrev pub first_begins_leaf : List Placed → Bool
+abbrev pub first_begins_leaf : List EventInText → Bool
 first_begins_leaf [] = false
 first_begins_leaf (e ∷ rest) = begins_leaf e.event rest
 
@@ -64,7 +64,7 @@ start_in true (Some span) = span.start ∷ []
 start_in true None = []
 start_in false span = []
 
-abbrev pub leaf_starts : List Placed → List ℕ
+abbrev pub leaf_starts : List EventInText → List ℕ
 leaf_starts [] = []
 leaf_starts (e ∷ rest) = start_in (begins_leaf e.event rest) e.span ++ leaf_starts rest
 
@@ -74,7 +74,7 @@ before_if true (Some span) offset = nat_lt span.start offset
 before_if true None offset = false
 before_if false span offset = false
 
-abbrev pub first_begins_before : ℕ → List Placed → Bool
+abbrev pub first_begins_before : ℕ → List EventInText → Bool
 first_begins_before offset [] = false
 first_begins_before offset (e ∷ rest) = before_if (begins_leaf e.event rest) e.span offset
 
@@ -90,6 +90,6 @@ abbrev pub place_at : Lists → ℕ → Option (ℕ × ℕ)
 place_at r k = option_map (λ c. (documents_before r c.offset, leaves_before r c.offset)) (slice_get r.comments k)
 
 -- what is true of every reading
-pub record Holds (r : Lists) : Type 0 where
-  pub fits : Fits r
+pub record IsReading (r : Lists) : Type 0 where
+  pub fits : ListsFit r
   pub stream : IsStream DEPTH (events_of r)

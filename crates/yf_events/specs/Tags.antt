@@ -19,7 +19,7 @@ abbrev pub event_at : List TaggedEvent → ℕ → ℕ
 event_at ts k = let t = slice_index_or ts k (record { event = 0; tag = [] }) in t.event
 
 -- the tags are in the order of their events, which are among the first so many
-pub record Rises (count : ℕ) (ts : List TaggedEvent) : Type 0 where
+pub record TagsInOrder (count : ℕ) (ts : List TaggedEvent) : Type 0 where
   pub rise : (j k : ℕ) → j < k → k < length ts → event_at ts j < event_at ts k
   pub within : (k : ℕ) → k < length ts → event_at ts k < count
 

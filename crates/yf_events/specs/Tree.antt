@@ -1,14 +1,14 @@
--- A reading as trees: one node for each document, and each node with where it stands in the text.
+-- A reading as trees: one node for each document, and each node with where it is in the text.
 use Rattle.std.specs.Prelude.{◌≡◌, ℕ, Bool, false, true, not, is_some, List, [], ◌∷◌, ◌++◌, map, flat_map, length, Option, Some, None}
 use Rattle.yf_props.specs.Props.{PropsValue, no_props}
-use Rattle.yf_events.specs.Event.{EventValue, Placed, stream_starts, stream_ends, document_starts, document_ends, sequence_starts, sequence_ends, mapping_starts, mapping_ends, scalar_node, alias_node}
+use Rattle.yf_events.specs.Event.{EventValue, EventInText, stream_starts, stream_ends, document_starts, document_ends, sequence_starts, sequence_ends, mapping_starts, mapping_ends, scalar_node, alias_node}
 use Rattle.yf_events.specs.declared.event.Entry.{Entry}
 use Rattle.yf_events.specs.declared.event.ScalarStyle.{ScalarStyle}
 use Rattle.yf_events.specs.declared.event.Span.{Span}
 use Rattle.yf_events.specs.declared.lists.Lists.{Lists}
 
--- where a node stands: its text with its properties, where its tag begins, and the entry that it begins
-pub record Standing : Type 0 where
+-- where a node is: its text with its properties, where its tag begins, and the entry that it begins
+pub record NodeOffsets : Type 0 where
   pub span : Option Span
   pub tag_offset : Option ℕ
   pub entry : Option Entry
@@ -17,10 +17,10 @@ mutual
   -- the flag of a collection says whether it is a flow collection
   pub data Node : Type 0 where
     -- properties, style, text, and of a folded scalar its lines
-    scalar : Standing → PropsValue → ScalarStyle → List ℕ → List (List ℕ) → Node
-    alias : Standing → List ℕ → Node
-    sequence : Standing → Bool → PropsValue → Items → Node
-    mapping : Standing → Bool → PropsValue → Pairs → Node
+    scalar : NodeOffsets → PropsValue → ScalarStyle → List ℕ → List (List ℕ) → Node
+    alias : NodeOffsets → List ℕ → Node
+    sequence : NodeOffsets → Bool → PropsValue → Items → Node
+    mapping : NodeOffsets → Bool → PropsValue → Pairs → Node
 
   pub data Items : Type 0 where
     no_items : Items
@@ -38,32 +38,32 @@ pub record DocumentTree : Type 0 where
   pub root : Node
 
 -- an event that stands for no text of its own
-abbrev pub unplaced : EventValue → Placed
+abbrev pub unplaced : EventValue → EventInText
 unplaced event = record { event = event; span = None; tag_offset = None; entry = None; folded = [] }
 
-abbrev pub placed : Standing → EventValue → List (List ℕ) → Placed
+abbrev pub placed : NodeOffsets → EventValue → List (List ℕ) → EventInText
 placed at event lines = record { event = event; span = at.span; tag_offset = at.tag_offset; entry = at.entry; folded = lines }
 
 -- the events of a node, in order
 abbrev mutual
-  pub flat : Node → List Placed
+  pub flat : Node → List EventInText
   flat (scalar at props style text lines) = placed at (scalar_node props style text) lines ∷ []
   flat (alias at name) = placed at (alias_node name) [] ∷ []
   flat (sequence at flow props items) = placed at (sequence_starts flow props) [] ∷ (flat_items items ++ (unplaced sequence_ends ∷ []))
   flat (mapping at flow props pairs) = placed at (mapping_starts flow props) [] ∷ (flat_pairs pairs ++ (unplaced mapping_ends ∷ []))
 
-  pub flat_items : Items → List Placed
+  pub flat_items : Items → List EventInText
   flat_items no_items = []
   flat_items (item x xs) = flat x ++ flat_items xs
 
-  pub flat_pairs : Pairs → List Placed
+  pub flat_pairs : Pairs → List EventInText
   flat_pairs no_pairs = []
   flat_pairs (pair k v ps) = flat k ++ (flat v ++ flat_pairs ps)
 
-abbrev pub flat_document : DocumentTree → List Placed
+abbrev pub flat_document : DocumentTree → List EventInText
 flat_document d = unplaced (document_starts d.marked) ∷ (flat d.root ++ (unplaced (document_ends d.closed) ∷ []))
 
-abbrev pub flat_stream : List DocumentTree → List Placed
+abbrev pub flat_stream : List DocumentTree → List EventInText
 flat_stream ds = unplaced stream_starts ∷ (flat_map flat_document ds ++ (unplaced stream_ends ∷ []))
 
 -- the trees of a reading, one for each of its documents
@@ -71,8 +71,8 @@ pub record TreesOf (r : Lists) (ds : List DocumentTree) : Type 0 where
   pub events : r.events ≡ flat_stream ds
   pub documents : length r.documents ≡ length ds
 
--- where a node stands, and its properties; an alias has none
-abbrev pub standing : Node → Standing
+-- where a node is, and its properties; an alias has none
+abbrev pub standing : Node → NodeOffsets
 standing (scalar at props style text lines) = at
 standing (alias at name) = at
 standing (sequence at flow props items) = at

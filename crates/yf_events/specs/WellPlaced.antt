@@ -1,6 +1,6 @@
 -- When the events of a reading have no place and no lines but those that its trees have.
 use Rattle.std.specs.Prelude.{◌≡◌, Bool, true, false, [], length, All, count_by}
-use Rattle.yf_events.specs.Event.{EventValue, Placed, document_starts, sequence_starts, mapping_starts, scalar_node, alias_node}
+use Rattle.yf_events.specs.Event.{EventValue, EventInText, document_starts, sequence_starts, mapping_starts, scalar_node, alias_node}
 use Rattle.yf_events.specs.declared.lists.Lists.{Lists}
 use Rattle.yf_events.specs.Tree.{unplaced}
 
@@ -20,7 +20,7 @@ begins_document (document_starts marked) = true
 begins_document _ = false
 
 -- an event that begins no node stands for no text of its own, and one that is no scalar has no lines
-pub record IsWellPlaced (e : Placed) : Type 0 where
+pub record IsWellPlaced (e : EventInText) : Type 0 where
   pub place : begins_node e.event ≡ false → e ≡ unplaced e.event
   pub lines : is_scalar e.event ≡ false → e.folded ≡ []
 

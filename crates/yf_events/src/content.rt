@@ -16,7 +16,7 @@ use yf_props::resolved::ResolvedTag;
 
 /// What is known of a scalar's type.
 #[derive(Clone, Copy, PartialEq, Eq)]
-pub enum Kind<'r> {
+pub enum ScalarType<'r> {
     /// It has this resolved tag.
     Tagged(&'r ResolvedTag<'r>),
     /// It has no tag, is plain, and may stay plain on one line, so that a schema may take it for a number or the like.
@@ -32,7 +32,7 @@ pub enum ContentItem<'r> {
     Document,
     Scalar {
         anchor: Option<&'r str>,
-        kind: Kind<'r>,
+        kind: ScalarType<'r>,
         text: &'r str,
     },
     Alias {
@@ -50,7 +50,7 @@ pub enum ContentItem<'r> {
     MappingEnd,
 }
 
-/// One item of what stands before the documents.
+/// One item of what is before the documents.
 #[derive(Clone, Copy, PartialEq, Eq)]
 pub enum DirectiveItem<'r> {
     /// The directives of the next document follow.
@@ -70,22 +70,26 @@ pub struct Content<'r> {
     nodes: Vec<ContentItem<'r>>,
 }
 
-fn scalar_kind<'r>(tag: Option<&'r ResolvedTag<'r>>, style: ScalarStyle, text: &str) -> Kind<'r>
+fn scalar_kind<'r>(
+    tag: Option<&'r ResolvedTag<'r>>,
+    style: ScalarStyle,
+    text: &str,
+) -> ScalarType<'r>
     ensures { kind_value result ≡ kind_of (name_value tag.entry) style text.now }
 {
     match tag {
-        Some(tag) => Kind::Tagged(tag),
+        Some(tag) => ScalarType::Tagged(tag),
         None => match style {
             ScalarStyle::Plain => {
                 if is_steady(text) {
-                    return Kind::PlainAndSteady;
+                    return ScalarType::PlainAndSteady;
                 }
-                Kind::Untagged
+                ScalarType::Untagged
             }
             ScalarStyle::Single
             | ScalarStyle::Double
             | ScalarStyle::Literal
-            | ScalarStyle::Folded => Kind::Untagged,
+            | ScalarStyle::Folded => ScalarType::Untagged,
         },
     }
 }

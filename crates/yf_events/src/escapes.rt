@@ -2,7 +2,7 @@
 ghost use Rattle.std.specs.Prelude.{◌≡◌, ◌/◌, ◌%◌, ◌<◌, ◌≤◌, ℕ, true, false, [], ◌∷◌, length, slice_index};
 ghost use Rattle.yf_chars.specs.Signs.{BACKSLASH};
 ghost use Rattle.yf_events.specs.Notation as Notation;
-ghost use Rattle.yf_lines.specs.Output.{Writes};
+ghost use Rattle.yf_lines.specs.Output.{TextWritten};
 
 use crate::plain::plain_runs;
 use yf_lines::fault::Fault;
@@ -49,7 +49,7 @@ fn plain_len(bytes: &[u8]) -> usize
 #[tactic(auto, unfolding(crate::specs::Notation::is_escaped, crate::specs::Notation::escaped_byte))]
 fn write_escape<W: Sink>(writer: &mut W, byte: u8) -> Result<(), Fault>
     requires { Notation.is_escaped byte ≡ true }
-    ensures { Writes (W.contents writer.old) (W.contents writer.new) (W.has_failed writer.old) (W.has_failed writer.new)
+    ensures { TextWritten (W.contents writer.old) (W.contents writer.new) (W.has_failed writer.old) (W.has_failed writer.new)
         (Notation.escaped_byte byte) result }
 {
     match byte {
@@ -63,7 +63,7 @@ fn write_escape<W: Sink>(writer: &mut W, byte: u8) -> Result<(), Fault>
 }
 
 fn write_hex<W: Sink>(writer: &mut W, byte: u8) -> Result<(), Fault>
-    ensures { Writes (W.contents writer.old) (W.contents writer.new) (W.has_failed writer.old) (W.has_failed writer.new)
+    ensures { TextWritten (W.contents writer.old) (W.contents writer.new) (W.has_failed writer.old) (W.has_failed writer.new)
         (BACKSLASH ∷ 120 ∷ Notation.hex_digit (byte / 16) ∷ Notation.hex_digit (byte % 16) ∷ []) result }
 {
     let spelled = [b'\\', b'x', hex_digit(byte / 16), hex_digit(byte % 16)];
@@ -72,7 +72,7 @@ fn write_hex<W: Sink>(writer: &mut W, byte: u8) -> Result<(), Fault>
 
 /// Writes a text with its escapes.
 pub fn write_escaped<W: Sink>(writer: &mut W, text: &str) -> Result<(), Fault>
-    ensures { Writes (W.contents writer.old) (W.contents writer.new) (W.has_failed writer.old) (W.has_failed writer.new)
+    ensures { TextWritten (W.contents writer.old) (W.contents writer.new) (W.has_failed writer.old) (W.has_failed writer.new)
         (Notation.escaped text.now) result }
 {
     let mut rest = text.as_bytes();

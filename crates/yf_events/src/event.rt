@@ -91,11 +91,11 @@ pub struct Entry {
     pub start: usize,
     /// The byte offset of its `:`, where it has one.
     pub colon: Option<usize>,
-    /// Whether a blank line stands before it, with nothing but white space and line breaks between.
+    /// Whether a blank line is before it, with nothing but white space and line breaks between.
     pub blank_before: bool,
 }
 
-/// An event that is to be added to a list, with where it stands in the text.
+/// An event that is to be added to a list, with where it is in the text.
 #[derive(Drop)]
 pub struct PlacedEvent<'a> {
     pub event: NewEvent<'a>,

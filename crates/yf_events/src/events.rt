@@ -3,28 +3,29 @@ ghost use Rattle.std.specs.Prelude.{◌≡◌, ℕ, ◌<◌, ◌≤◌, [], ◌�
 
 use crate::event::{Entry, Event, PlacedEvent, ScalarStyle, Span, View};
 use crate::packed::{
-    More, PackedRow, Shape, entry_of, event_of, folded_of, keyed, more_in, naming_from, shift,
+    More, PackedEvent, Shape, entry_of, event_of, folded_of, keyed, more_in, naming_from, shift,
     span_of, tag_of, view_of,
 };
-use crate::packing::{narrow, narrow_entry, row_of, scalar_row};
+use crate::packing::{narrow_entry, row_of, scalar_row};
 use crate::relined::{formed, is_folded, relined};
 use std::alloc::{AllocError, Global};
 use std::marker::Model;
+use yf_lines::packed_lines::narrow;
 use yf_props::props::Tag;
 
 /// Events in order. In a contract it is the list of what they are.
 #[derive(Drop)]
 pub struct Events<'a> {
-    rows: Vec<PackedRow<'a>>,
+    rows: Vec<PackedEvent<'a>>,
     more: Vec<More<'a>>,
 }
 
 impl<'a> Model for Events<'a> {
     ghost use Rattle.std.specs.Prelude.{List, map};
-    ghost use Rattle.yf_events.specs.Event.{Placed};
+    ghost use Rattle.yf_events.specs.Event.{EventInText};
     ghost use Rattle.yf_events.specs.Packed.{RowsFit, row_value};
 
-    ghost Value = { List Placed };
+    ghost Value = { List EventInText };
 
     ghost view = { λ e. map (row_value e.more.items) e.rows.items };
 
@@ -34,9 +35,9 @@ impl<'a> Model for Events<'a> {
 impl<'a> Events<'a> {
     ghost use Rattle.yf_events.specs.BareScalar.{bare_scalar};
     ghost use Rattle.yf_events.specs.Edit.{edited, ended, coloned};
-    ghost use Rattle.yf_events.specs.Formed.{formed};
+    ghost use Rattle.yf_events.specs.EventForms.{formed};
     ghost use Rattle.yf_events.specs.Packed.{shape_value};
-    ghost use Rattle.yf_events.specs.Silent.{NothingAt};
+    ghost use Rattle.yf_events.specs.NamelessEvents.{NothingAt};
     ghost use Rattle.yf_events.specs.Tags.{written_tag};
     ghost use Rattle.yf_props.specs.Props.{no_props, optional_tag_value};
     ghost use Rattle.yf_events.specs.Event.{event_value, placed_value, view_value, with_entry};
@@ -85,7 +86,7 @@ impl<'a> Events<'a> {
         self.rows.len()
     }
 
-    /// The event at an index, with where it stands.
+    /// The event at an index, with where it is.
     #[inline(always)]
     pub fn at(&self, i: usize) -> View<'_>
         requires { i < length self.now }
@@ -235,7 +236,7 @@ impl<'a> Events<'a> {
         Ok(())
     }
 
-    /// Sets where the `:` stands of the entry that the event at an index begins, if it begins one.
+    /// Sets where the `:` is of the entry that the event at an index begins, if it begins one.
     pub fn set_colon(&mut self, i: usize, colon: usize) -> Result<(), AllocError>
         ensures len { length self.new ≡ length self.old }
         ensures edited { self.new ≡ (if is_ok result then edited (coloned colon) i self.old else self.old) }

@@ -19,6 +19,6 @@ mod plain;
 mod puts;
 pub mod reading;
 mod relined;
-pub mod row;
 pub mod slices;
 pub mod tags;
+pub mod values;

@@ -5,8 +5,8 @@ use crate::comments::Comments;
 use crate::document::Documents;
 use crate::event::PlacedEvent;
 use crate::events::Events;
-use crate::row::Row;
 use crate::tags::Tags;
+use crate::values::Values;
 use std::alloc::{AllocError, Global};
 use yf_comments::comment::Comment;
 use yf_props::resolved::ResolvedTag;
@@ -19,18 +19,18 @@ pub struct Lists<'a> {
     /// For each event the resolved tag of the node that it begins, where a tag is written (section 6.9.1).
     pub resolved: Tags<'a>,
     pub comments: Comments<'a>,
-    /// For each comment, whether it stands on the line on which the last leaf with characters that begins before it
+    /// For each comment, whether it is on the line on which the last leaf with characters that begins before it
     /// ends.
-    pub on_leaf_line: Row<bool>,
+    pub on_leaf_line: Values<bool>,
     pub documents: Documents<'a>,
     /// The byte offsets of the escapes that are no character.
-    pub escapes: Row<usize>,
+    pub escapes: Values<usize>,
 }
 
 impl<'a> Lists<'a> {
     ghost use Rattle.yf_comments.specs.Comment.{comment_value};
     ghost use Rattle.yf_events.specs.Event.{placed_value};
-    ghost use Rattle.yf_events.specs.Reading.{Fits};
+    ghost use Rattle.yf_events.specs.Reading.{ListsFit};
 
     /// Empty lists.
     pub fn new(alloc: Global) -> Lists<'a>
@@ -40,14 +40,14 @@ impl<'a> Lists<'a> {
             events: Events::new(alloc),
             resolved: Tags::new(alloc),
             comments: Comments::new(alloc),
-            on_leaf_line: Row::new(alloc),
+            on_leaf_line: Values::new(alloc),
             documents: Documents::new(alloc),
-            escapes: Row::new(alloc),
+            escapes: Values::new(alloc),
         }
     }
 
     /// Adds an event at the end, with the resolved tag of the node that it begins. After a refused growth the event
-    /// may stand there without its tag.
+    /// may be there without its tag.
     pub fn push_event(
         &mut self,
         event: PlacedEvent<'a>,
@@ -57,13 +57,13 @@ impl<'a> Lists<'a> {
           events = self.old.events ++ placed_value event.entry ∷ [];
           resolved = self.old.resolved ++ tag.entry ∷ [];
         }) }
-        ensures fit { Fits self.old → IfOk result (λ _. Fits self.new) }
+        ensures fit { ListsFit self.old → IfOk result (λ _. ListsFit self.new) }
     {
         self.events.push(event)?;
         self.resolved.push(tag)
     }
 
-    /// Adds a comment at the end, with its note. After a refused growth the comment may stand there without its note.
+    /// Adds a comment at the end, with its note. After a refused growth the comment may be there without its note.
     pub fn push_comment(
         &mut self,
         comment: Comment<'a>,
@@ -73,7 +73,7 @@ impl<'a> Lists<'a> {
           comments = self.old.comments ++ comment_value comment.entry ∷ [];
           on_leaf_line = self.old.on_leaf_line ++ on_leaf_line ∷ [];
         }) }
-        ensures fit { Fits self.old → IfOk result (λ _. Fits self.new) }
+        ensures fit { ListsFit self.old → IfOk result (λ _. ListsFit self.new) }
     {
         self.comments.push(comment)?;
         self.on_leaf_line.push(on_leaf_line)

@@ -9,7 +9,7 @@ use std::alloc::{AllocError, Global};
 
 /// What may come next.
 #[derive(Clone, Copy)]
-pub enum Awaited {
+pub enum NestingState {
     /// The start of the stream.
     Stream,
     /// A document, or the end of the stream.
@@ -34,63 +34,69 @@ pub enum Move {
     /// It may not come here.
     Refuse,
     /// This is awaited next.
-    Stay(Awaited),
-    /// It opens a collection, in which `within` is awaited, and `behind` once the collection has ended.
-    Open { behind: Awaited, within: Awaited },
+    Stay(NestingState),
+    /// It opens a collection, in which `within` is awaited, and `follows` once the collection has ended.
+    Open {
+        follows: NestingState,
+        within: NestingState,
+    },
     /// It ends the innermost collection.
     Close,
 }
 
-/// What is awaited after a node, if one may stand here.
-fn after_node(top: Awaited) -> Option<Awaited>
+/// What is awaited after a node, if one may be here.
+fn after_node(top: NestingState) -> Option<NestingState>
     ensures { result ≡ Nesting.after_node top }
 {
     match top {
-        Awaited::Root => Some(Awaited::Closing),
-        Awaited::Items => Some(Awaited::Items),
-        Awaited::Keys => Some(Awaited::Values),
-        Awaited::Values => Some(Awaited::Keys),
-        Awaited::Stream | Awaited::Documents | Awaited::Closing | Awaited::Nothing => None,
+        NestingState::Root => Some(NestingState::Closing),
+        NestingState::Items => Some(NestingState::Items),
+        NestingState::Keys => Some(NestingState::Values),
+        NestingState::Values => Some(NestingState::Keys),
+        NestingState::Stream
+        | NestingState::Documents
+        | NestingState::Closing
+        | NestingState::Nothing => None,
     }
 }
 
-fn open(top: Awaited, within: Awaited) -> Move
+fn open(top: NestingState, within: NestingState) -> Move
     ensures { result ≡ Nesting.open_if (Nesting.after_node top) within }
 {
     match after_node(top) {
-        Some(behind) => Move::Open { behind, within },
+        Some(follows) => Move::Open { follows, within },
         None => Move::Refuse,
     }
 }
 
-fn move_at(top: Awaited, event: &Event) -> Move
+fn move_at(top: NestingState, event: &Event) -> Move
     ensures { result ≡ Nesting.move_at top (event_value event.now) }
 {
     match event {
         Event::StreamStart => match top {
-            Awaited::Stream => Move::Stay(Awaited::Documents),
+            NestingState::Stream => Move::Stay(NestingState::Documents),
             _ => Move::Refuse,
         },
         Event::StreamEnd => match top {
-            Awaited::Documents => Move::Stay(Awaited::Nothing),
+            NestingState::Documents => Move::Stay(NestingState::Nothing),
             _ => Move::Refuse,
         },
         Event::DocStart { .. } => match top {
-            Awaited::Documents => Move::Stay(Awaited::Root),
+            NestingState::Documents => Move::Stay(NestingState::Root),
             _ => Move::Refuse,
         },
         Event::DocEnd { .. } => match top {
-            Awaited::Closing => Move::Stay(Awaited::Documents),
+            NestingState::Closing => Move::Stay(NestingState::Documents),
             _ => Move::Refuse,
         },
-        Event::SeqStart { .. } => open(top, Awaited::Items),
-        Event::MapStart { .. } => open(top, Awaited::Keys),
+        Event::SeqStart { .. } => open(top, NestingState::Items),
+        Event::MapStart { .. } => open(top, NestingState::Keys),
         Event::SeqEnd => match top {
-            Awaited::Items => Move::Close,
+            NestingState::Items => Move::Close,
             _ => Move::Refuse,
         },
         Event::MapEnd => match top {
-            Awaited::Keys => Move::Close,
+            NestingState::Keys => Move::Close,
             _ => Move::Refuse,
         },
         Event::Scalar { .. } | Event::Alias { .. } => match after_node(top) {
@@ -103,27 +109,27 @@ fn move_at(top: Awaited, event: &Event) -> Move
 /// Goes past one event: what is awaited after it, or None where it may not come. `below` holds what is awaited after
 /// each open collection, the innermost last.
 fn advance(
-    top: Awaited,
-    below: &mut Vec<Awaited>,
+    top: NestingState,
+    below: &mut Vec<NestingState>,
     event: &Event,
     limit: usize,
-) -> Result<Option<Awaited>, AllocError>
+) -> Result<Option<NestingState>, AllocError>
     requires { vec_len below.old ≤ limit }
     ensures room { IfOk result (λ o. vec_len below.new ≤ limit) }
-    ensures runs { IfOk result (λ o. Nesting.Advances limit top below.old.items (event_value event.now) o below.new.items) }
+    ensures runs { IfOk result (λ o. Nesting.NestingStep limit top below.old.items (event_value event.now) o below.new.items) }
 {
     match move_at(top, event) {
         Move::Refuse => Ok(None),
         Move::Stay(next) => Ok(Some(next)),
-        Move::Open { behind, within } => {
+        Move::Open { follows, within } => {
             if below.len() == limit {
                 return Ok(None);
             }
-            below.push(behind)?;
+            below.push(follows)?;
             Ok(Some(within))
         }
         Move::Close => match below.pop() {
-            Some(behind) => Ok(Some(behind)),
+            Some(follows) => Ok(Some(follows)),
             None => Ok(None),
         },
     }
@@ -131,10 +137,10 @@ fn advance(
 
 /// Whether the events are a well nested stream with no more collections open at once than the limit.
 pub fn is_stream(alloc: Global, events: &Events, limit: usize) -> Result<bool, AllocError>
-    ensures { IfOk result (λ b. b ≡ Nesting.run limit Awaited.Stream [] (map (λ e. e.event) events.now)) }
+    ensures { IfOk result (λ b. b ≡ Nesting.run limit NestingState.Stream [] (map (λ e. e.event) events.now)) }
 {
-    let mut below: Vec<Awaited> = Vec::new(alloc);
-    let mut top = Awaited::Stream;
+    let mut below: Vec<NestingState> = Vec::new(alloc);
+    let mut top = NestingState::Stream;
     for i in 0..events.len() {
         match advance(top, &mut below, &events.event(i), limit)? {
             Some(next) => {
@@ -144,7 +150,7 @@ pub fn is_stream(alloc: Global, events: &Events, limit: usize) -> Result<bool, A
         }
     }
     match top {
-        Awaited::Nothing => Ok(below.is_empty()),
+        NestingState::Nothing => Ok(below.is_empty()),
         _ => Ok(false),
     }
 }

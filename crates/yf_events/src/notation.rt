@@ -5,8 +5,8 @@ ghost use Rattle.yf_events.specs.Event.{EventValue, event_value};
 ghost use Rattle.yf_events.specs.Notation as Notation;
 ghost use Rattle.yf_events.specs.Packed.{shape_value};
 ghost use Rattle.yf_events.specs.Pieces.{bare_head, bare_line, piece_bytes, scalar_line, start_line};
-ghost use Rattle.yf_events.specs.Puts.{Puts};
-ghost use Rattle.yf_lines.specs.Output.{Writes};
+ghost use Rattle.yf_events.specs.PlainWrites.{PlainWritten};
+ghost use Rattle.yf_lines.specs.Output.{TextWritten};
 ghost use Rattle.yf_props.specs.Props.{name_value, no_props};
 
 use crate::escapes::write_escaped;
@@ -34,7 +34,7 @@ pub enum Piece<'a> {
 }
 
 fn write_anchor<W: Sink>(writer: &mut W, anchor: Option<&str>) -> Result<(), Fault>
-    ensures { Writes (W.contents writer.old) (W.contents writer.new) (W.has_failed writer.old) (W.has_failed writer.new)
+    ensures { TextWritten (W.contents writer.old) (W.contents writer.new) (W.has_failed writer.old) (W.has_failed writer.new)
         (Notation.anchor_part (name_value anchor.entry)) result }
 {
     match anchor {
@@ -45,7 +45,7 @@ fn write_anchor<W: Sink>(writer: &mut W, anchor: Option<&str>) -> Result<(), Fau
 
 // Writes a resolved tag with its escapes.
 fn write_resolved<W: Sink>(writer: &mut W, tag: &ResolvedTag) -> Result<(), Fault>
-    ensures { Writes (W.contents writer.old) (W.contents writer.new) (W.has_failed writer.old) (W.has_failed writer.new)
+    ensures { TextWritten (W.contents writer.old) (W.contents writer.new) (W.has_failed writer.old) (W.has_failed writer.new)
         (Notation.escaped tag.now) result }
 {
     let (prefix, suffix) = tag.parts();
@@ -54,7 +54,7 @@ fn write_resolved<W: Sink>(writer: &mut W, tag: &ResolvedTag) -> Result<(), Faul
 }
 
 fn write_tag<W: Sink>(writer: &mut W, tag: Option<&ResolvedTag>) -> Result<(), Fault>
-    ensures { Writes (W.contents writer.old) (W.contents writer.new) (W.has_failed writer.old) (W.has_failed writer.new)
+    ensures { TextWritten (W.contents writer.old) (W.contents writer.new) (W.has_failed writer.old) (W.has_failed writer.new)
         (Notation.tag_part (name_value tag.entry)) result }
 {
     match tag {
@@ -68,7 +68,7 @@ fn write_tag<W: Sink>(writer: &mut W, tag: Option<&ResolvedTag>) -> Result<(), F
 }
 
 fn write_piece<W: Sink>(writer: &mut W, piece: &Piece) -> Result<(), Fault>
-    ensures { Writes (W.contents writer.old) (W.contents writer.new) (W.has_failed writer.old) (W.has_failed writer.new)
+    ensures { TextWritten (W.contents writer.old) (W.contents writer.new) (W.has_failed writer.old) (W.has_failed writer.new)
         (piece_bytes piece.now) result }
 {
     match piece {
@@ -80,7 +80,7 @@ fn write_piece<W: Sink>(writer: &mut W, piece: &Piece) -> Result<(), Fault>
 }
 
 fn write_pieces<W: Sink>(writer: &mut W, pieces: &[Piece]) -> Result<(), Fault>
-    ensures { Writes (W.contents writer.old) (W.contents writer.new) (W.has_failed writer.old) (W.has_failed writer.new)
+    ensures { TextWritten (W.contents writer.old) (W.contents writer.new) (W.has_failed writer.old) (W.has_failed writer.new)
         (flat_map piece_bytes pieces.now) result }
 {
     for piece in pieces {
@@ -90,7 +90,7 @@ fn write_pieces<W: Sink>(writer: &mut W, pieces: &[Piece]) -> Result<(), Fault>
 }
 
 fn put_pieces<W: Sink>(writer: &mut W, pieces: &[Piece]) -> bool
-    ensures { Puts (W.contents writer.old) (W.contents writer.new) (W.has_failed writer.old) (W.has_failed writer.new)
+    ensures { PlainWritten (W.contents writer.old) (W.contents writer.new) (W.has_failed writer.old) (W.has_failed writer.new)
         (flat_map piece_bytes pieces.now) result }
 {
     match write_pieces(writer, pieces) {
@@ -112,11 +112,11 @@ fn style_sign(style: ScalarStyle) -> &'static str
     }
 }
 
-/// The part, if it is to stand there; else nothing.
-fn part_if<'s>(stands: bool, part: &'s str) -> &'s str
-    ensures { result.now ≡ Notation.part_if stands part.now }
+/// The part, if it is to be there; else nothing.
+fn part_if<'s>(is_there: bool, part: &'s str) -> &'s str
+    ensures { result.now ≡ Notation.part_if is_there part.now }
 {
-    if stands { part } else { "" }
+    if is_there { part } else { "" }
 }
 
 // What the line of a scalar without properties begins with.
@@ -135,7 +135,7 @@ fn bare_head(style: ScalarStyle) -> &'static str
 // Writes the line of a scalar without properties, as most are, by three writes.
 #[inline(always)]
 fn put_bare_scalar<W: Sink>(writer: &mut W, style: ScalarStyle, text: &str) -> bool
-    ensures { Puts (W.contents writer.old) (W.contents writer.new) (W.has_failed writer.old) (W.has_failed writer.new)
+    ensures { PlainWritten (W.contents writer.old) (W.contents writer.new) (W.has_failed writer.old) (W.has_failed writer.new)
         (bare_line style text.now) result }
 {
     if !put_text(writer, bare_head(style).as_bytes()) {
@@ -156,7 +156,7 @@ fn put_scalar<'x, W: Sink>(
     style: ScalarStyle,
     text: &'x str,
 ) -> bool
-    ensures { Puts (W.contents writer.old) (W.contents writer.new) (W.has_failed writer.old) (W.has_failed writer.new)
+    ensures { PlainWritten (W.contents writer.old) (W.contents writer.new) (W.has_failed writer.old) (W.has_failed writer.new)
         (scalar_line (name_value anchor.entry) (name_value tag.entry) style text.now) result }
 {
     let sign = style_sign(style);
@@ -181,7 +181,7 @@ fn put_start<'x, W: Sink>(
     anchor: Option<&'x str>,
     tag: Option<&'x ResolvedTag<'x>>,
 ) -> bool
-    ensures { Puts (W.contents writer.old) (W.contents writer.new) (W.has_failed writer.old) (W.has_failed writer.new)
+    ensures { PlainWritten (W.contents writer.old) (W.contents writer.new) (W.has_failed writer.old) (W.has_failed writer.new)
         (start_line name.now (name_value anchor.entry) (name_value tag.entry)) result }
 {
     put_pieces(
@@ -198,7 +198,7 @@ fn put_start<'x, W: Sink>(
 // Writes a line of one part.
 #[inline(never)]
 fn put_line<'x, W: Sink>(writer: &mut W, part: &'x str) -> bool
-    ensures { Puts (W.contents writer.old) (W.contents writer.new) (W.has_failed writer.old) (W.has_failed writer.new)
+    ensures { PlainWritten (W.contents writer.old) (W.contents writer.new) (W.has_failed writer.old) (W.has_failed writer.new)
         (concat (part.now ∷ codes "\n" ∷ [])) result }
 {
     put_texts(writer, &[part, "\n"])
@@ -207,7 +207,7 @@ fn put_line<'x, W: Sink>(writer: &mut W, part: &'x str) -> bool
 // Writes a line of two parts.
 #[inline(never)]
 fn put_parts<'x, W: Sink>(writer: &mut W, first: &'x str, second: &'x str) -> bool
-    ensures { Puts (W.contents writer.old) (W.contents writer.new) (W.has_failed writer.old) (W.has_failed writer.new)
+    ensures { PlainWritten (W.contents writer.old) (W.contents writer.new) (W.has_failed writer.old) (W.has_failed writer.new)
         (concat (first.now ∷ second.now ∷ codes "\n" ∷ [])) result }
 {
     put_texts(writer, &[first, second, "\n"])
@@ -221,7 +221,7 @@ fn put_event<'x, W: Sink>(
     event: Event<'x>,
     tag: Option<&'x ResolvedTag<'x>>,
 ) -> bool
-    ensures { Puts (W.contents writer.old) (W.contents writer.new) (W.has_failed writer.old) (W.has_failed writer.new)
+    ensures { PlainWritten (W.contents writer.old) (W.contents writer.new) (W.has_failed writer.old) (W.has_failed writer.new)
         (Notation.event_line (event_value event.entry) (name_value tag.entry)) result }
 {
     match event {
@@ -255,7 +255,7 @@ fn put_event<'x, W: Sink>(
 #[inline(always)]
 #[tactic(auto, unfolding(crate::specs::Notation::event_line))]
 fn put_alone<W: Sink>(writer: &mut W, shape: Shape, text: &str) -> bool
-    ensures { Puts (W.contents writer.old) (W.contents writer.new) (W.has_failed writer.old) (W.has_failed writer.new)
+    ensures { PlainWritten (W.contents writer.old) (W.contents writer.new) (W.has_failed writer.old) (W.has_failed writer.new)
         (Notation.event_line (shape_value shape no_props text.now) None) result }
 {
     match shape {
@@ -281,7 +281,7 @@ fn put_alone<W: Sink>(writer: &mut W, shape: Shape, text: &str) -> bool
 fn put_at<W: Sink>(writer: &mut W, events: &Events, i: usize, tag: Option<&ResolvedTag>) -> bool
     requires { i < length events.now }
     ensures { (e : EventValue) → slice_get (map (λ e. e.event) events.now) i ≡ Some e
-        → Puts (W.contents writer.old) (W.contents writer.new) (W.has_failed writer.old) (W.has_failed writer.new)
+        → PlainWritten (W.contents writer.old) (W.contents writer.new) (W.has_failed writer.old) (W.has_failed writer.new)
         (Notation.event_line e (name_value tag.entry)) result }
 {
     if tag.is_none() {
@@ -297,7 +297,7 @@ fn put_at<W: Sink>(writer: &mut W, events: &Events, i: usize, tag: Option<&Resol
 /// Answers `Fault::WriteFailed` where a write fails or takes no bytes; a prefix of the notation has then been written.
 /// Takes no memory.
 pub fn write_events<W: Sink>(reading: &Reading, writer: &mut W) -> Result<(), Fault>
-    ensures { Writes (W.contents writer.old) (W.contents writer.new) (W.has_failed writer.old) (W.has_failed writer.new)
+    ensures { TextWritten (W.contents writer.old) (W.contents writer.new) (W.has_failed writer.old) (W.has_failed writer.new)
         (Notation.notation_of reading.now) result }
 {
     let events = &reading.lists().events;

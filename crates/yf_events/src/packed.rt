@@ -3,8 +3,8 @@ ghost use Rattle.std.specs.Prelude.{◌≡◌, ℕ, ◌≤◌, ◌<◌, length, 
 ghost use Rattle.yf_events.specs.Event.{event_value, view_value};
 ghost use Rattle.yf_events.specs.Packed.{entry_at, folded_in, more_at, more_value, props_in, row_with, shape_value, shifted, span_at, text_in};
 ghost use Rattle.yf_events.specs.Packed as Packed;
-ghost use Rattle.yf_events.specs.Silent.{NamesNothing, SilentAt, SilentRow};
-ghost use Rattle.yf_events.specs.Silent as Silent;
+ghost use Rattle.yf_events.specs.NamelessEvents.{NamesNothing, SilentAt, SilentRow};
+ghost use Rattle.yf_events.specs.NamelessEvents as Silent;
 ghost use Rattle.yf_events.specs.Tags.{written_tag};
 ghost use Rattle.yf_props.specs.Props.{no_props, optional_tag_value, props_value};
 
@@ -46,14 +46,14 @@ pub enum Begins {
 
 /// An event: its kind, its place, and its text or name where that is a slice of the source.
 #[derive(Clone, Copy)]
-pub struct PackedRow<'a> {
+pub struct PackedEvent<'a> {
     pub shape: Shape,
     /// Whether it has a part of the text, from `start` to `end`.
     pub placed: bool,
     pub begins: Begins,
     pub start: u32,
     pub end: u32,
-    /// Where the entry begins that it begins, and where its `:` stands.
+    /// Where the entry begins that it begins, and where its `:` is.
     pub entry: u32,
     pub colon: u32,
     /// The number in the table of what the row has no room for, counted from 1; 0 where it has nothing there.
@@ -96,7 +96,7 @@ pub fn more_in<'r, 'a>(list: &'r [More<'a>], number: u32) -> Option<&'r More<'a>
 
 /// The event of a row.
 #[inline(always)]
-pub fn event_of<'r>(row: &'r PackedRow<'r>, more: Option<&'r More<'r>>) -> Event<'r>
+pub fn event_of<'r>(row: &'r PackedEvent<'r>, more: Option<&'r More<'r>>) -> Event<'r>
     ensures { event_value result ≡ shape_value row.now.shape (props_in (more_value more.entry))
         (text_in (more_value more.entry) row.now.text.now) }
 {
@@ -125,7 +125,7 @@ pub fn event_of<'r>(row: &'r PackedRow<'r>, more: Option<&'r More<'r>>) -> Event
 }
 
 #[inline(always)]
-fn text_of<'r>(row: &'r PackedRow<'r>, more: Option<&'r More<'r>>) -> &'r str
+fn text_of<'r>(row: &'r PackedEvent<'r>, more: Option<&'r More<'r>>) -> &'r str
     ensures { result.now ≡ text_in (more_value more.entry) row.now.text.now }
 {
     match more {
@@ -139,7 +139,7 @@ fn text_of<'r>(row: &'r PackedRow<'r>, more: Option<&'r More<'r>>) -> &'r str
 
 /// The part of the text that a row has.
 #[inline(always)]
-pub fn span_of(row: &PackedRow) -> Option<Span>
+pub fn span_of(row: &PackedEvent) -> Option<Span>
     ensures { result ≡ span_at row.now.placed row.now.start row.now.end }
 {
     if row.placed {
@@ -153,7 +153,7 @@ pub fn span_of(row: &PackedRow) -> Option<Span>
 
 /// The entry that a row begins.
 #[inline(always)]
-pub fn entry_of(row: &PackedRow) -> Option<Entry>
+pub fn entry_of(row: &PackedEvent) -> Option<Entry>
     ensures { result ≡ entry_at row.now.begins row.now.entry row.now.colon }
 {
     let start = row.entry as usize;
@@ -173,7 +173,7 @@ pub fn entry_of(row: &PackedRow) -> Option<Entry>
 
 /// The tag of the node that a row begins, as it is written.
 #[inline(always)]
-pub fn tag_of<'a>(row: &PackedRow<'a>, more: Option<&More<'a>>) -> Option<Tag<'a>>
+pub fn tag_of<'a>(row: &PackedEvent<'a>, more: Option<&More<'a>>) -> Option<Tag<'a>>
     ensures { optional_tag_value result ≡ written_tag (shape_value row.now.shape (props_in (more_value more.entry))
         (text_in (more_value more.entry) row.now.text.now)) }
 {
@@ -214,9 +214,9 @@ pub fn folded_of<'r>(more: Option<&'r More<'r>>) -> &'r [&'r str]
     }
 }
 
-/// The event of a row, with where it stands.
+/// The event of a row, with where it is.
 #[inline(always)]
-pub fn view_of<'r>(row: &'r PackedRow<'r>, more: Option<&'r More<'r>>) -> View<'r>
+pub fn view_of<'r>(row: &'r PackedEvent<'r>, more: Option<&'r More<'r>>) -> View<'r>
     ensures { view_value result ≡ row_with row.now (more_value more.entry) }
 {
     View {
@@ -229,7 +229,7 @@ pub fn view_of<'r>(row: &'r PackedRow<'r>, more: Option<&'r More<'r>>) -> View<'
 }
 
 /// Moves the numbers of the rows on. After a refusal the rows are of no use.
-pub fn shift(rows: &mut Vec<PackedRow>, by: u32) -> Result<(), AllocError>
+pub fn shift(rows: &mut Vec<PackedEvent>, by: u32) -> Result<(), AllocError>
     ensures { IfOk result (λ _. rows.new.items ≡ map (shifted by) rows.old.items) }
 {
     for i in 0..rows.len() {
@@ -238,7 +238,7 @@ pub fn shift(rows: &mut Vec<PackedRow>, by: u32) -> Result<(), AllocError>
     Ok(())
 }
 
-/// The number of a row, where that many stand in the table before; 0 stays.
+/// The number of a row, where that many are in the table before; 0 stays.
 fn moved_on(number: u32, by: u32) -> Result<u32, AllocError>
     ensures { IfOk result (λ n. n ≡ Packed.moved_on by number) }
 {
@@ -298,7 +298,7 @@ fn is_bare(event: &Event) -> bool
 
 // Whether the event of a row names nothing, where the table may have something of it.
 #[inline(never)]
-fn is_silent_with(row: &PackedRow, table: &[More]) -> bool
+fn is_silent_with(row: &PackedEvent, table: &[More]) -> bool
     ensures { MatchBool result (SilentRow table.now row.now) (SilentRow table.now row.now → ⊥) }
 {
     is_bare(&event_of(row, more_in(table, row.more)))
@@ -306,7 +306,7 @@ fn is_silent_with(row: &PackedRow, table: &[More]) -> bool
 
 // Whether the event of a row names nothing. Most rows have nothing in the table.
 #[inline(always)]
-fn is_silent(row: &PackedRow, table: &[More]) -> bool
+fn is_silent(row: &PackedEvent, table: &[More]) -> bool
     ensures { MatchBool result (SilentRow table.now row.now) (SilentRow table.now row.now → ⊥) }
 {
     if row.more == 0 {
@@ -316,7 +316,7 @@ fn is_silent(row: &PackedRow, table: &[More]) -> bool
 }
 
 /// The first index from `start` on whose row names something, or how many rows there are.
-pub fn naming_from(rows: &[PackedRow], table: &[More], start: usize) -> usize
+pub fn naming_from(rows: &[PackedEvent], table: &[More], start: usize) -> usize
     requires { start ≤ length rows.now }
     ensures within { (start ≤ result) × (result ≤ length rows.now) }
     ensures silent { (k : ℕ) → start ≤ k → k < result → SilentAt table.now rows.now k }

@@ -3,12 +3,13 @@ ghost use Rattle.std.specs.Prelude.{◌≡◌, [], IfOk, MatchBool};
 ghost use Rattle.yf_events.specs.BareScalar.{RowAlone, bare_scalar};
 ghost use Rattle.yf_events.specs.Event.{new_event_value, placed_value, scalar_node};
 ghost use Rattle.yf_lines.specs.Text.{text_bytes};
-ghost use Rattle.yf_events.specs.Packed.{Grown, Kept, Lacks, RowOf, entry_at, shape_value, span_at, text_or};
+ghost use Rattle.yf_events.specs.Packed.{TableGrown, InTable, Lacks, RowOf, entry_at, shape_value, span_at, text_or};
 ghost use Rattle.yf_props.specs.Props.{no_props, props_value};
 
 use crate::event::{Entry, NewEvent, PlacedEvent, ScalarStyle, Span};
-use crate::packed::{Begins, More, NO_PROPS, PackedRow, Shape};
+use crate::packed::{Begins, More, NO_PROPS, PackedEvent, Shape};
 use std::alloc::AllocError;
+use yf_lines::packed_lines::narrow;
 use yf_lines::text::{OwnedText, Text};
 use yf_props::props::Props;
 
@@ -34,17 +35,6 @@ pub struct Beginning {
     pub begins: Begins,
     pub start: u32,
     pub colon: u32,
-}
-
-/// The number in 32 bits. One that has no room there is refused as a growth of memory is: a stream has at most 2^30 bytes.
-#[inline(always)]
-pub fn narrow(offset: usize) -> Result<u32, AllocError>
-    ensures { IfOk result (λ n. n ≡ offset) }
-{
-    if offset <= 0xFFFF_FFFF {
-        return Ok(offset as u32);
-    }
-    Err(AllocError)
 }
 
 #[inline(always)]
@@ -206,8 +196,8 @@ fn lacks(more: &More) -> bool
 /// Puts it into the table if a row can't do without it, and answers its number.
 #[inline(always)]
 fn kept<'a>(list: &mut Vec<More<'a>>, more: More<'a>) -> Result<u32, AllocError>
-    ensures grown { Grown list.old.items list.new.items }
-    ensures kept { IfOk result (λ number. Kept list.new.items number more.entry) }
+    ensures grown { TableGrown list.old.items list.new.items }
+    ensures kept { IfOk result (λ number. InTable list.new.items number more.entry) }
 {
     if lacks(&more) {
         return Ok(0);
@@ -221,8 +211,8 @@ fn kept<'a>(list: &mut Vec<More<'a>>, more: More<'a>) -> Result<u32, AllocError>
 pub fn row_of<'a>(
     list: &mut Vec<More<'a>>,
     event: PlacedEvent<'a>,
-) -> Result<PackedRow<'a>, AllocError>
-    ensures grown { Grown list.old.items list.new.items }
+) -> Result<PackedEvent<'a>, AllocError>
+    ensures grown { TableGrown list.old.items list.new.items }
     ensures row { IfOk result (λ r. RowOf list.new.items r (placed_value event.entry)) }
 {
     let PlacedEvent {
@@ -250,7 +240,7 @@ pub fn row_of<'a>(
             folded,
         },
     )?;
-    Ok(PackedRow {
+    Ok(PackedEvent {
         shape,
         placed: stretch.placed,
         begins: beginning.begins,
@@ -271,13 +261,13 @@ pub fn scalar_row<'a>(
     start: usize,
     end: usize,
     entry: Option<Entry>,
-) -> Result<PackedRow<'a>, AllocError>
+) -> Result<PackedEvent<'a>, AllocError>
     ensures { IfOk result (λ r. RowAlone r (bare_scalar style text.now start end entry)) }
 {
     let start = narrow(start)?;
     let end = narrow(end)?;
     let beginning = narrow_entry(entry)?;
-    Ok(PackedRow {
+    Ok(PackedEvent {
         shape: Shape::Scalar { style },
         placed: true,
         begins: beginning.begins,

@@ -2,12 +2,12 @@
 
 use crate::comments::Comments;
 use crate::events::Events;
-use crate::row::Row;
+use crate::values::Values;
 
 /// One node: its events, the comments in it, and the byte offsets of the escapes in it that are no character.
 #[derive(Drop)]
 pub struct Part<'a> {
     pub events: Events<'a>,
     pub comments: Comments<'a>,
-    pub escapes: Row<usize>,
+    pub escapes: Values<usize>,
 }

@@ -1,4 +1,4 @@
-//! Whether a text stands in the notation as it is. Two loads that overlap cover a short text.
+//! Whether a text is in the notation as it is. Two loads that overlap cover a short text.
 ghost use Rattle.std.specs.Prelude.{◌+◌, ◌≤◌, length};
 ghost use Rattle.std.specs.Bool.{OnTrue};
 ghost use Rattle.yf_events.specs.Plain.{PlainBetween};

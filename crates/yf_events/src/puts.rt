@@ -1,6 +1,6 @@
 //! Texts that are written, with a plain answer: a fault is larger than most of them.
 ghost use Rattle.yf_events.specs.Notation as Notation;
-ghost use Rattle.yf_events.specs.Puts.{Puts};
+ghost use Rattle.yf_events.specs.PlainWrites.{PlainWritten};
 ghost use Rattle.yf_lines.specs.Output.{texts};
 
 use crate::escapes::write_escaped;
@@ -11,7 +11,7 @@ use yf_lines::watched::Sink;
 /// Writes all the bytes, and tells whether that was done.
 #[inline(always)]
 pub fn put_text<W: Sink>(writer: &mut W, bytes: &[u8]) -> bool
-    ensures { Puts (W.contents writer.old) (W.contents writer.new) (W.has_failed writer.old) (W.has_failed writer.new) bytes.now result }
+    ensures { PlainWritten (W.contents writer.old) (W.contents writer.new) (W.has_failed writer.old) (W.has_failed writer.new) bytes.now result }
 {
     match write_text(writer, bytes) {
         Ok(()) => true,
@@ -21,7 +21,7 @@ pub fn put_text<W: Sink>(writer: &mut W, bytes: &[u8]) -> bool
 
 /// Writes the texts one after another, and tells whether that was done.
 pub fn put_texts<W: Sink>(writer: &mut W, parts: &[&str]) -> bool
-    ensures { Puts (W.contents writer.old) (W.contents writer.new) (W.has_failed writer.old) (W.has_failed writer.new) (texts parts.now) result }
+    ensures { PlainWritten (W.contents writer.old) (W.contents writer.new) (W.has_failed writer.old) (W.has_failed writer.new) (texts parts.now) result }
 {
     match write_texts(writer, parts) {
         Ok(()) => true,
@@ -32,7 +32,7 @@ pub fn put_texts<W: Sink>(writer: &mut W, parts: &[&str]) -> bool
 /// Writes a text with its escapes, and tells whether that was done. Most texts have none, and are written as they are.
 #[inline(always)]
 pub fn put_escaped<W: Sink>(writer: &mut W, text: &str) -> bool
-    ensures { Puts (W.contents writer.old) (W.contents writer.new) (W.has_failed writer.old) (W.has_failed writer.new)
+    ensures { PlainWritten (W.contents writer.old) (W.contents writer.new) (W.has_failed writer.old) (W.has_failed writer.new)
         (Notation.escaped text.now) result }
 {
     if is_plain(text.as_bytes()) {
@@ -44,7 +44,7 @@ pub fn put_escaped<W: Sink>(writer: &mut W, text: &str) -> bool
 // The same for a text with escapes.
 #[inline(never)]
 fn put_runs<W: Sink>(writer: &mut W, text: &str) -> bool
-    ensures { Puts (W.contents writer.old) (W.contents writer.new) (W.has_failed writer.old) (W.has_failed writer.new)
+    ensures { PlainWritten (W.contents writer.old) (W.contents writer.new) (W.has_failed writer.old) (W.has_failed writer.new)
         (Notation.escaped text.now) result }
 {
     match write_escaped(writer, text) {

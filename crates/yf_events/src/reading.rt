@@ -29,9 +29,9 @@ impl<'a> Model for Reading<'a> {
 
     ghost view = { λ r. r.lists };
 
-    ghost use Rattle.yf_events.specs.Reading.{Holds};
+    ghost use Rattle.yf_events.specs.Reading.{IsReading};
 
-    ghost invariant = { λ r. Holds r.lists };
+    ghost invariant = { λ r. IsReading r.lists };
 }
 
 impl<'a> Reading<'a> {
@@ -39,13 +39,13 @@ impl<'a> Reading<'a> {
     ghost use Rattle.yf_events.specs.Event.{event_value};
     ghost use Rattle.yf_props.specs.Props.{name_value};
     ghost use Rattle.yf_events.specs.Nested.{IsStream};
-    ghost use Rattle.yf_events.specs.Reading.{Fits, documents_before, leaves_before, entries_of, events_of, folded_of, spans_of, place_at};
+    ghost use Rattle.yf_events.specs.Reading.{ListsFit, documents_before, leaves_before, entries_of, events_of, folded_of, spans_of, place_at};
 
     /// The reading that the lists make; None where the events are no well nested stream, or more than `DEPTH`
     /// collections are open at once. Each event has its resolved tag or none, and each comment its note (conditions).
     /// Answers `Fault::Memory` where a growth of memory was refused.
     pub fn build(alloc: Global, lists: Lists<'a>) -> Result<Option<Reading<'a>>, Fault>
-        requires { Fits lists }
+        requires { ListsFit lists }
         ensures { MatchResult result (λ o. MatchOption o (IsStream DEPTH (events_of lists.entry) → ⊥)
             (λ r. (r ≡ lists.entry) × IsStream DEPTH (events_of r))) (λ fault. fault ≡ Fault.Memory) }
     {
@@ -66,7 +66,7 @@ impl<'a> Reading<'a> {
     #[inline(always)]
     pub fn lists(&self) -> &Lists<'a>
         ensures same { result.now ≡ self.now }
-        ensures fit { Fits self.now }
+        ensures fit { ListsFit self.now }
         ensures nested { IsStream DEPTH (events_of self.now) }
     {
         &self.lists
@@ -76,7 +76,7 @@ impl<'a> Reading<'a> {
     #[inline(always)]
     pub fn into_lists(self) -> Lists<'a>
         ensures same { result ≡ self.entry }
-        ensures fit { Fits self.entry }
+        ensures fit { ListsFit self.entry }
         ensures nested { IsStream DEPTH (events_of self.entry) }
     {
         self.lists
@@ -158,7 +158,7 @@ impl<'a> Reading<'a> {
         self.lists.documents.as_slice()
     }
 
-    /// Whether a comment stands on the line on which the last leaf with characters that begins before it ends.
+    /// Whether a comment is on the line on which the last leaf with characters that begins before it ends.
     pub fn on_leaf_line(&self, k: usize) -> bool
         requires { k < length self.now.comments }
         ensures { slice_get self.now.on_leaf_line k ≡ Some result }

@@ -1,14 +1,14 @@
 //! Rows in another form, and entries of their table without lines.
 ghost use Rattle.std.specs.Prelude.{◌≡◌, ◌≤◌, [], length, IfOk};
-ghost use Rattle.yf_events.specs.Formed as Formed;
-ghost use Rattle.yf_events.specs.Formed.{Relined, is_folded_shape, shape_formed};
-ghost use Rattle.yf_events.specs.Packed.{Grown};
+ghost use Rattle.yf_events.specs.EventForms as Formed;
+ghost use Rattle.yf_events.specs.EventForms.{LinesDropped, is_folded_shape, shape_formed};
+ghost use Rattle.yf_events.specs.Packed.{TableGrown};
 
 use crate::event::ScalarStyle;
 use crate::packed::{More, Shape, more_in};
-use crate::packing::narrow;
 use crate::slices::Slices;
 use std::alloc::{AllocError, Global};
+use yf_lines::packed_lines::narrow;
 use yf_lines::text::OwnedText;
 
 /// The same kind of event, with these brackets or none round its collection, or with its scalar in this style.
@@ -53,8 +53,8 @@ pub fn relined<'a>(
     keeps: bool,
 ) -> Result<u32, AllocError>
     requires { number ≤ length list.old.items }
-    ensures grown { Grown list.old.items list.new.items }
-    ensures relined { IfOk result (λ n. Relined list.old.items list.new.items keeps number n) }
+    ensures grown { TableGrown list.old.items list.new.items }
+    ensures relined { IfOk result (λ n. LinesDropped list.old.items list.new.items keeps number n) }
 {
     if keeps {
         return Ok(number);

@@ -24,13 +24,13 @@ pub struct Tags<'a> {
 
 impl<'a> Model for Tags<'a> {
     ghost use Rattle.std.specs.Prelude.{List, Option, ℕ};
-    ghost use Rattle.yf_events.specs.Tags.{Rises, tags_listed};
+    ghost use Rattle.yf_events.specs.Tags.{TagsInOrder, tags_listed};
 
     ghost Value = { List (Option (List ℕ)) };
 
     ghost view = { λ t. tags_listed t.count t.tagged.items };
 
-    ghost invariant = { λ t. Rises t.count t.tagged.items };
+    ghost invariant = { λ t. TagsInOrder t.count t.tagged.items };
 }
 
 impl<'a> Tags<'a> {

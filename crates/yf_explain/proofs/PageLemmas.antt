@@ -11,7 +11,7 @@ use Rattle.std.specs.Char.{IsScalar}
 use Rattle.std.specs.Str.{IsUtf8, IsCharBoundary, chars}
 use Rattle.std.proofs.lemmas.Grind.{flat_map-append}
 use Rattle.std.proofs.lemmas.List.Sums.{sum_by-append}
-use Rattle.yf_chars.specs.Text.{Reads, code}
+use Rattle.yf_chars.specs.Text.{CharAt, code}
 use Rattle.yf_lines.proofs.PlaceLemmas.{characters_more}
 use Rattle.yf_explain.specs.Shown.{AreWritten, all_shown, columns, columns_of, is_written, shown}
 use Rattle.yf_explain.specs.Source.{AddsPart}
@@ -55,7 +55,7 @@ columns_and_one cs c d e =
     joined ∙ ap (λ n. columns cs + n) one
 
 -- a part of a text is longer by one character
-pub part_more : {t old new all : List ℕ} {from to most end taken c next width : ℕ} → AddsPart t from to most old new end taken → Reads t end c next
+pub part_more : {t old new all : List ℕ} {from to most end taken c next width : ℕ} → AddsPart t from to most old new end taken → CharAt t end c next
     → all ≡ new ++ shown c → width ≡ columns_of c → next ≤ to → taken + width ≤ most → AddsPart t from to most old all next (taken + width)
 part_more {t} {old} {new} {all} {from} {to} {most} {end} {taken} {c} {next} {width} part r e w within room = record {
   characters = part.characters ++ code t end ∷ [];

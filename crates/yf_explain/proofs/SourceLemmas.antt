@@ -1,7 +1,7 @@
 -- A line of the source and its caret, put together.
 use Rattle.std.proofs.Common.{◌≡◌, ◌<◌, ◌≤◌, ◌+◌, ◌++◌, ◌∷◌, ◌∙◌, ℕ, List, [], add-one, ap, refl, sym, arith}
 use Rattle.std.proofs.lemmas.List.{append_assoc, append-nil}
-use Rattle.yf_lines.specs.Lines.{Unbroken}
+use Rattle.yf_lines.specs.Lines.{NoBreakIn}
 use Rattle.yf_explain.specs.Source.{spaces}
 
 -- six parts were added
@@ -11,11 +11,11 @@ six_added old a b c d e f p q r s t u h i j k l m =
     let flat : u ≡ (((((old ++ a) ++ b) ++ c) ++ d) ++ e) ++ f = cc in flat ∙ simp append_assoc
 
 -- a front of a line
-pub front_unbroken : {t : List ℕ} {i j : ℕ} (k : ℕ) → Unbroken t i j → i ≤ k → k ≤ j → Unbroken t i k
+pub front_unbroken : {t : List ℕ} {i j : ℕ} (k : ℕ) → NoBreakIn t i j → i ≤ k → k ≤ j → NoBreakIn t i k
 front_unbroken k u from to = record { order = from; none = λ h a b. u.none h a (omega (arith, b, to)) }
 
 -- the rest of a line
-pub rest_unbroken : {t : List ℕ} {i j : ℕ} (k : ℕ) → Unbroken t i j → i ≤ k → k ≤ j → Unbroken t k j
+pub rest_unbroken : {t : List ℕ} {i j : ℕ} (k : ℕ) → NoBreakIn t i j → i ≤ k → k ≤ j → NoBreakIn t k j
 rest_unbroken k u from to = record { order = to; none = λ h a b. u.none h (omega (arith, a, from)) b }
 
 pub no_spaces : (page : List ℕ) → page ≡ page ++ spaces 0

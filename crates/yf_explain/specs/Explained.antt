@@ -3,7 +3,7 @@ use Rattle.std.specs.Prelude.{◌≡◌, ℕ, List, [], ◌∷◌, ◌++◌, tak
 use Rattle.yf_chars.specs.Chain.{Many}
 use Rattle.yf_lines.specs.FaultPlaces.{IsPlaceOf}
 use Rattle.yf_lines.specs.Lines.{is_char}
-use Rattle.yf_lines.specs.declared.place.Place.{Place}
+use Rattle.yf_lines.specs.declared.place.Position.{Position}
 use Rattle.yf_lines.specs.declared.fault.Fault.{Fault}
 use Rattle.yf_lines.specs.declared.fault.Fault.TheVariants.{NotUtf8, Syntax, TooDeep, UnknownHandle, UnknownAlias, RepeatedDirective, BadVersion, EscapeValue}
 use Rattle.yf_explain.specs.Shown.{all_shown}
@@ -22,13 +22,13 @@ pub record AddsWords (words old new : List ℕ) : Type 0 where
   pub added : new ≡ old ++ (codes "  " ++ (all_shown characters ++ 10 ∷ []))
 
 -- the line of the text on which the place is was added, with a caret under the place
-pub record ShowsPlace (t : List ℕ) (place : Place) (old new : List ℕ) : Type 0 where
+pub record ShowsPlace (t : List ℕ) (place : Position) (old new : List ℕ) : Type 0 where
   pub at : ℕ
   pub places : IsPlaceOf t at place
   pub source : AddsSource t at old new
 
 -- words, the line of the place with its caret, and more lines
-pub record Tells (t : List ℕ) (place : Place) (words page : List ℕ) : Type 0 where
+pub record Tells (t : List ℕ) (place : Position) (words page : List ℕ) : Type 0 where
   pub told : List ℕ
   pub shown : List ℕ
   pub said : AddsWords words [] told
@@ -37,7 +37,7 @@ pub record Tells (t : List ℕ) (place : Place) (words page : List ℕ) : Type 0
 
 -- words, and the line of an offset with its caret
 pub record TellsOffset (t : List ℕ) (offset : ℕ) (page : List ℕ) : Type 0 where
-  pub place : Place
+  pub place : Position
   pub told : List ℕ
   pub source : ShowsPlace t place told page
   pub there : IsPlaceOf t offset place
@@ -46,7 +46,7 @@ pub record TellsOffset (t : List ℕ) (offset : ℕ) (page : List ℕ) : Type 0 
 abbrev pub TellsByte : List ℕ → ℕ → List ℕ → Type 0
 TellsByte bytes offset page = TellsOffset (take offset bytes) offset page
 
-abbrev pub TellsAt : List ℕ → Place → List ℕ → Type 0
+abbrev pub TellsAt : List ℕ → Position → List ℕ → Type 0
 TellsAt t place page = (words : List ℕ) × Tells t place words page
 
 -- what is told of a fault of the bytes; nothing of one that is not theirs

@@ -1,5 +1,5 @@
 -- How characters are shown: some as they are, all others by their numbers. Those that are shown as they are take one column or two and
--- stand in a line from the left to the right, whatever is beside them: no control character is among them, and none that turns the
+-- are in a line from the left to the right, whatever is beside them: no control character is among them, and none that turns the
 -- direction of a line, joins another one or is not seen.
 use Rattle.std.specs.Prelude.{◌≡◌, ℕ, ◌+◌, ◌/◌, ◌%◌, Bool, true, nat_eq, nat_lt, nat_le, ◌&&◌, ◌||◌, List, [], ◌∷◌, ◌++◌, sum_by, if◌then◌else◌}
 use Rattle.std.specs.List.{flat_map, list_all}

@@ -3,7 +3,7 @@ use Rattle.std.specs.Prelude.{◌≡◌, ℕ, zero, suc, ◌+◌, ◌≤◌, Lis
 use Rattle.std.specs.List.{concat}
 use Rattle.std.specs.Str.{IsCharBoundary}
 use Rattle.yf_chars.specs.Chain.{Many}
-use Rattle.yf_lines.specs.Lines.{Unbroken, is_char}
+use Rattle.yf_lines.specs.Lines.{NoBreakIn, is_char}
 use Rattle.yf_explain.specs.Shown.{all_shown, columns}
 
 -- the characters of a part of a text were added, from an offset on, as they are shown
@@ -17,11 +17,11 @@ pub record AddsPart (t : List ℕ) (from to most : ℕ) (old new : List ℕ) (en
   pub within : end ≤ to
   pub boundary : IsCharBoundary t end
 
--- what stands before each line of the source
+-- what is before each line of the source
 abbrev pub gutter : List ℕ
 gutter = codes "  | "
 
--- what stands in the place of what is cut off
+-- what is in the place of what is cut off
 abbrev pub dots : Bool → List ℕ
 dots true = codes "..."
 dots false = []
@@ -34,11 +34,11 @@ spaces (suc n) = spaces n ++ 32 ∷ []
 abbrev pub caret : ℕ → List ℕ
 caret n = gutter ++ (spaces n ++ (94 ∷ 10 ∷ []))
 
--- the line of the source: the characters before the offset, and those from there on, which stand on one line of the text; it may be cut on both sides
+-- the line of the source: the characters before the offset, and those from there on, which are on one line of the text; it may be cut on both sides
 abbrev pub source : Bool → List ℕ → List ℕ → Bool → List ℕ
 source cut before after shortened = gutter ++ (dots cut ++ (all_shown before ++ (all_shown after ++ (dots shortened ++ 10 ∷ []))))
 
--- such a line was added, and as many columns as `indent` stand on it before what is shown of the offset, behind the gutter
+-- such a line was added, and as many columns as `indent` are on it before what is shown of the offset, after the gutter
 pub record AddsLine (t : List ℕ) (at : ℕ) (old new : List ℕ) (indent : ℕ) : Type 0 where
   pub start : ℕ
   pub stop : ℕ
@@ -48,7 +48,7 @@ pub record AddsLine (t : List ℕ) (at : ℕ) (old new : List ℕ) (indent : ℕ
   pub shortened : Bool
   pub left : Many t is_char start at before
   pub right : Many t is_char at stop after
-  pub unbroken : Unbroken t start stop
+  pub unbroken : NoBreakIn t start stop
   pub added : new ≡ old ++ source cut before after shortened
   pub columns_before : indent ≡ length (dots cut) + columns before
   pub room : columns before + columns after ≤ 68

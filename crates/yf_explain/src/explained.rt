@@ -11,7 +11,7 @@ use itoa::Buffer;
 use std::alloc::{AllocError, Global};
 use yf_chars::utf8::check_utf8;
 use yf_lines::fault::Fault;
-use yf_lines::place::Place;
+use yf_lines::place::Position;
 use yf_lines::source_text::Src;
 
 /// How many columns words take at most, and those that name a file.
@@ -120,7 +120,7 @@ pub fn page_at(alloc: Global, text: &str, offset: usize, words: &str) -> Result<
 }
 
 // Adds a place and words on it.
-fn push_placed(page: &mut Page, place: Place, words: &str) -> Result<(), AllocError>
+fn push_placed(page: &mut Page, place: Position, words: &str) -> Result<(), AllocError>
     ensures { IfOk result (λ _. Extends page.old page.new) }
 {
     page.push_signs("  ")?;
@@ -133,7 +133,12 @@ fn push_placed(page: &mut Page, place: Place, words: &str) -> Result<(), AllocEr
 }
 
 // What is told of a place of a text.
-fn explain_place(alloc: Global, bytes: &[u8], place: Place, words: &str) -> Result<Page, AllocError>
+fn explain_place(
+    alloc: Global,
+    bytes: &[u8],
+    place: Position,
+    words: &str,
+) -> Result<Page, AllocError>
     ensures { IfOk result (λ page. Tells bytes.now place words.now page) }
 {
     let text = match check_utf8(bytes) {
@@ -154,7 +159,7 @@ fn push_opened(
     page: &mut Page,
     src: &Src,
     at: usize,
-    place: Place,
+    place: Position,
 ) -> Result<(), AllocError>
     ensures { IfOk result (λ _. Extends page.old page.new) }
 {
@@ -190,7 +195,7 @@ fn push_opening(page: &mut Page, src: &Src, opening: usize, told: usize) -> Resu
 }
 
 // Adds the line and the column of a place.
-fn push_numbers(page: &mut Page, place: Place) -> Result<(), AllocError>
+fn push_numbers(page: &mut Page, place: Position) -> Result<(), AllocError>
     ensures { IfOk result (λ _. Extends page.old page.new) }
 {
     push_number(page, place.line)?;
@@ -227,7 +232,7 @@ fn explain_byte(alloc: Global, bytes: &[u8], offset: usize) -> Result<Page, Allo
 }
 
 // Adds the words on a byte that is no part of a text.
-fn push_byte(page: &mut Page, byte: u8, place: Place) -> Result<(), AllocError>
+fn push_byte(page: &mut Page, byte: u8, place: Position) -> Result<(), AllocError>
     ensures { IfOk result (λ _. Extends page.old page.new) }
 {
     page.push_signs("  ")?;

@@ -1,9 +1,9 @@
 //! Where parts of a text end, as far as a quick look can tell. Offsets count bytes.
 ghost use Rattle.std.specs.Prelude.{◌<◌, ◌≤◌};
 
-use yf_lines::basic::marker_stands;
+use yf_lines::basic::is_marker_at;
 
-/// Whether white space or a line's break stands there, or the text ends.
+/// Whether white space or a line's break is there, or the text ends.
 pub(crate) fn is_blank(text: &str, at: usize) -> bool {
     match text.as_bytes().get(at) {
         Some(byte) => matches!(byte, b' ' | b'\t' | b'\n' | b'\r'),
@@ -122,5 +122,5 @@ fn is_marker(text: &str, start: usize) -> bool {
     if !text.is_char_boundary(start) {
         return false;
     }
-    marker_stands(text, start)
+    is_marker_at(text, start)
 }

@@ -1,7 +1,7 @@
 //! A line of a text, cut around a place, with a caret under it. Offsets count bytes.
 ghost use Rattle.std.specs.Prelude.{◌≡◌, ◌≤◌, ◌++◌, IfOk, length};
 ghost use Rattle.std.specs.Str.{IsCharBoundary};
-ghost use Rattle.yf_lines.specs.Lines.{Unbroken};
+ghost use Rattle.yf_lines.specs.Lines.{NoBreakIn};
 ghost use Rattle.yf_explain.specs.Source.{AddsLine, AddsSource, caret, dots, spaces};
 
 use crate::classes::columns_of;
@@ -24,7 +24,7 @@ pub(crate) fn push_source(
 ) -> Result<(), AllocError>
     requires start { IsCharBoundary text.now from }
     requires boundary { IsCharBoundary text.now at }
-    requires line { Unbroken text.now from to }
+    requires line { NoBreakIn text.now from to }
     requires order { from ≤ at }
     requires within { at ≤ to }
     ensures { IfOk result (λ _. AddsSource text.now at page.old page.new) }
@@ -34,7 +34,7 @@ pub(crate) fn push_source(
     push_caret(page, columns)
 }
 
-// Adds the part of a line from a start on, and answers how many columns stand before the offset.
+// Adds the part of a line from a start on, and answers how many columns are before the offset.
 fn push_line(
     page: &mut Page,
     text: &str,
@@ -45,7 +45,7 @@ fn push_line(
 ) -> Result<usize, AllocError>
     requires start { IsCharBoundary text.now start }
     requires boundary { IsCharBoundary text.now at }
-    requires line { Unbroken text.now start to }
+    requires line { NoBreakIn text.now start to }
     requires order { start ≤ at }
     requires within { at ≤ to }
     ensures { IfOk result (λ columns. AddsLine text.now at page.old page.new columns) }
@@ -119,7 +119,7 @@ fn window_start(text: &str, from: usize, at: usize) -> usize
     start
 }
 
-// The start of the character in which an offset stands, or the offset from which on it is sought.
+// The start of the character in which an offset is, or the offset from which on it is sought.
 fn char_start(text: &str, from: usize, at: usize) -> usize
     requires start { IsCharBoundary text.now from }
     requires order { from ≤ at }

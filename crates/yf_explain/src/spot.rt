@@ -1,14 +1,14 @@
 //! A place of a text as an offset, and what is told of it. Offsets count bytes.
 ghost use Rattle.std.specs.Prelude.{◌≡◌, ◌≤◌, IfOk};
 ghost use Rattle.std.specs.Str.{IsCharBoundary};
-ghost use Rattle.yf_lines.specs.Lines.{Unbroken};
+ghost use Rattle.yf_lines.specs.Lines.{NoBreakIn};
 ghost use Rattle.yf_explain.specs.Explained.{AddsWords, ShowsPlace};
 
 use crate::page::Page;
 use crate::source::push_source;
 use std::alloc::AllocError;
 use yf_chars::text::peek;
-use yf_lines::place::Place;
+use yf_lines::place::Position;
 use yf_lines::source_text::Src;
 use yf_lines::table::skip_marks;
 
@@ -29,7 +29,7 @@ pub(crate) fn push_words(page: &mut Page, words: &str, most: usize) -> Result<()
 }
 
 /// Adds the line of a text on which a place is, and a caret under that, and answers its offset. It fails too where the text has no such place.
-pub(crate) fn push_place(page: &mut Page, src: &Src, place: Place) -> Result<usize, AllocError>
+pub(crate) fn push_place(page: &mut Page, src: &Src, place: Position) -> Result<usize, AllocError>
     ensures { IfOk result (λ at. ShowsPlace src.now.text place page.old page.new) }
 {
     let text = src.text();
@@ -47,7 +47,7 @@ pub(crate) fn push_place(page: &mut Page, src: &Src, place: Place) -> Result<usi
 }
 
 /// The offset of a place of a text. Where the text has no such place, it is that of another one on the line, or the end of the text.
-pub fn place_offset(src: &Src, place: Place) -> usize
+pub fn place_offset(src: &Src, place: Position) -> usize
     ensures { IsCharBoundary src.now.text result }
 {
     column_offset(src.text(), line_span(src, place.line), place.column)
@@ -56,7 +56,7 @@ pub fn place_offset(src: &Src, place: Place) -> usize
 /// The line of that number, from 1; past the last one, the end of the text.
 pub(crate) fn line_span(src: &Src, number: usize) -> Span
     ensures start { IsCharBoundary src.now.text result.from }
-    ensures line { Unbroken src.now.text result.from result.to }
+    ensures line { NoBreakIn src.now.text result.from result.to }
 {
     let lines = src.lines();
     let text = src.text();

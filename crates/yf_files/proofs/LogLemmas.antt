@@ -9,10 +9,10 @@ use Rattle.std.proofs.lemmas.Slice.Eq.{bytes_eq-Decides}
 use Rattle.std.proofs.lemmas.Option.{same_Some}
 use Rattle.std.proofs.Math.Nat.{eq-or-lt_of_le}
 use Rattle.std.proofs.Math.Seq.{take-length}
-use Rattle.yf_files.specs.Memory.{FoundAt, FoundSince, Holds, IsWell, changed, entry_from, entry_of, now_of, state_of, text_from, text_of}
-use Rattle.yf_files.specs.Tree.{Elapses, IsAt, Name, Node, regular}
+use Rattle.yf_files.specs.Memory.{FoundAt, FoundSince, HoldsContent, IsWell, changed, entry_from, entry_of, now_of, state_of, text_from, text_of}
+use Rattle.yf_files.specs.Tree.{TimePasses, IsAt, Name, Node, regular}
 use Rattle.yf_files.specs.declared.logs.Change.{Change}
-use Rattle.yf_files.specs.declared.logs.Content.{Content}
+use Rattle.yf_files.specs.declared.logs.FileContent.{FileContent}
 use Rattle.yf_files.specs.declared.logs.Logs.{Logs}
 use Rattle.yf_files.specs.declared.logs.Moment.{Moment}
 
@@ -22,7 +22,7 @@ pub entry_from-push : (before : Option ℕ) (q : Name) (xs : List Change) (c : C
 entry_from-push before q [] c = refl
 entry_from-push before q (x ∷ xs) c = entry_from-push (changed x q before) q xs c
 
-text_from-push : (before : List ℕ) (i : ℕ) (xs : List Content) (c : Content)
+text_from-push : (before : List ℕ) (i : ℕ) (xs : List FileContent) (c : FileContent)
     → text_from before i (xs ++ c ∷ []) ≡ (if c.inode == i then c.bytes.items else text_from before i xs)
 text_from-push before i [] c = refl
 text_from-push before i (x ∷ xs) c = text_from-push (if x.inode == i then x.bytes.items else before) i xs c
@@ -73,12 +73,12 @@ carried a b (Some i) None each is = absurd is
 carried a b (Some i) (Some n) each is = each i n is
 
 -- what may be found at a moment is told by fronts that are no longer than the logs were then
-pub found : (ch dh : List Change) (co eo : List Content) (m : Moment) → ((k : ℕ) → k ≤ m.changes → take k ch ≡ take k dh) → ((k : ℕ) → k ≤ m.contents → take k co ≡ take k eo)
+pub found : (ch dh : List Change) (co eo : List FileContent) (m : Moment) → ((k : ℕ) → k ≤ m.changes → take k ch ≡ take k dh) → ((k : ℕ) → k ≤ m.contents → take k co ≡ take k eo)
     → (q : Name) (x : Option Node) → FoundAt ch co m q x → FoundAt dh eo m q x
 found ch dh co eo m a b q x (o, stood, has) =
-    (o, (stood.0, stood.1, stood.2 ∙ ap (λ l. entry_of l q) (a stood.0 stood.1.1)), carried (Holds co m) (Holds eo m) o x held has)
+    (o, (stood.0, stood.1, stood.2 ∙ ap (λ l. entry_of l q) (a stood.0 stood.1.1)), carried (HoldsContent co m) (HoldsContent eo m) o x held has)
   where
-    held : (i : ℕ) (n : Node) → Holds co m i n → Holds eo m i n
+    held : (i : ℕ) (n : Node) → HoldsContent co m i n → HoldsContent eo m i n
     held i n h = (h.0, h.1, h.2 ∙ ap (λ l. regular (text_of l i)) (b h.0 h.1.1))
 
 -- the logs have only grown
@@ -87,7 +87,7 @@ pub record Grown (old new : Logs) : Type 0 where
   pub contents : (k : ℕ) → k ≤ length old.contents.items → take k new.contents.items ≡ take k old.contents.items
 
 pub time_by : (old new : Logs) → IsWell old → Grown old new → new.moments.items ≡ old.moments.items ++ now_of old ∷ [] → old.next ≤ new.next → (old.failed ≡ true → new.failed ≡ true)
-    → Elapses (state_of old) (state_of new)
+    → TimePasses (state_of old) (state_of new)
 time_by old new well grown moments next failed = record {
   later = omega (arith, ap length moments, length-append old.moments.items (now_of old ∷ []));
   failed = failed;
@@ -138,31 +138,31 @@ grown_same old new a b = record { changes = λ k le. ap (take k) a; contents = �
 pub grown_change : (old new : Logs) (c : Change) → new.changes.items ≡ old.changes.items ++ c ∷ [] → new.contents.items ≡ old.contents.items → Grown old new
 grown_change old new c a b = record { changes = λ k le. ap (take k) a ∙ take-append-le k old.changes.items (c ∷ []) le; contents = λ k le. ap (take k) b }
 
-pub grown_content : (old new : Logs) (c : Content) → new.changes.items ≡ old.changes.items → new.contents.items ≡ old.contents.items ++ c ∷ [] → Grown old new
+pub grown_content : (old new : Logs) (c : FileContent) → new.changes.items ≡ old.changes.items → new.contents.items ≡ old.contents.items ++ c ∷ [] → Grown old new
 grown_content old new c a b = record { changes = λ k le. ap (take k) a; contents = λ k le. ap (take k) b ∙ take-append-le k old.contents.items (c ∷ []) le }
 
--- ---- what stands and what files hold after one thing more
+-- ---- what is and what files hold after one thing more
 
 differs : (i j : ℕ) → i ≢ j → (j == i) ≡ false
 differs i j other = grind (arith, nat_tests)
 
-pub text_other : (old : Logs) (c : Content) (i : ℕ) → i ≢ c.inode → text_of (old.contents.items ++ c ∷ []) i ≡ text_of old.contents.items i
+pub text_other : (old : Logs) (c : FileContent) (i : ℕ) → i ≢ c.inode → text_of (old.contents.items ++ c ∷ []) i ≡ text_of old.contents.items i
 text_other old c i other = text_from-push [] i old.contents.items c ∙ cond-false (c.inode == i) _ _ (differs i c.inode other)
 
-pub text_given : (old : Logs) (c : Content) → text_of (old.contents.items ++ c ∷ []) c.inode ≡ c.bytes.items
+pub text_given : (old : Logs) (c : FileContent) → text_of (old.contents.items ++ c ∷ []) c.inode ≡ c.bytes.items
 text_given old c = text_from-push [] c.inode old.contents.items c ∙ cond-true (c.inode == c.inode) _ _ (grind (arith, nat_tests))
 
-pub stands_same : (old new : Logs) → new.changes.items ≡ old.changes.items → old.stored_changes ≤ new.stored_changes → (q : Name) (o : Option ℕ)
-    → (state_of new).stands q o → (state_of old).stands q o
-stands_same old new same stored q o h = (h.0, (omega (arith, stored, h.1.0), subst (λ (l : List Change). h.0 ≤ length l) same h.1.1), h.2 ∙ ap (λ l. entry_of (take h.0 l) q) same)
+pub is_at_same : (old new : Logs) → new.changes.items ≡ old.changes.items → old.stored_changes ≤ new.stored_changes → (q : Name) (o : Option ℕ)
+    → (state_of new).is_there q o → (state_of old).is_there q o
+is_at_same old new same stored q o h = (h.0, (omega (arith, stored, h.1.0), subst (λ (l : List Change). h.0 ≤ length l) same h.1.1), h.2 ∙ ap (λ l. entry_of (take h.0 l) q) same)
 
 pub holds_same : (old new : Logs) → new.contents.items ≡ old.contents.items → old.stored_contents ≤ new.stored_contents → (i : ℕ) (n : Node)
     → (state_of new).holds i n → (state_of old).holds i n
-holds_same old new same stored i n h = (h.0, (omega (arith, stored, h.1.0), subst (λ (l : List Content). h.0 ≤ length l) same h.1.1), h.2 ∙ ap (λ l. regular (text_of (take h.0 l) i)) same)
+holds_same old new same stored i n h = (h.0, (omega (arith, stored, h.1.0), subst (λ (l : List FileContent). h.0 ≤ length l) same h.1.1), h.2 ∙ ap (λ l. regular (text_of (take h.0 l) i)) same)
 
-pub stands_pushed : (old new : Logs) (c : Change) → new.changes.items ≡ old.changes.items ++ c ∷ [] → new.stored_changes ≡ old.stored_changes → (q : Name) (o : Option ℕ)
-    → (state_of new).stands q o → (state_of old).stands q o ⊎ (o ≡ changed c q (entry_of old.changes.items q))
-stands_pushed old new c more stored q o h = ⊎_elim
+pub is_at_pushed : (old new : Logs) (c : Change) → new.changes.items ≡ old.changes.items ++ c ∷ [] → new.stored_changes ≡ old.stored_changes → (q : Name) (o : Option ℕ)
+    → (state_of new).is_there q o → (state_of old).is_there q o ⊎ (o ≡ changed c q (entry_of old.changes.items q))
+is_at_pushed old new c more stored q o h = ⊎_elim
     (λ le. inl (h.0, (omega (arith, stored, h.1.0), le), here ∙ ap (λ l. entry_of l q) (take-append-le h.0 old.changes.items (c ∷ []) le)))
     (λ all. inr (here ∙ ap (λ k. entry_of (take k (old.changes.items ++ c ∷ [])) q) all ∙ ap (λ l. entry_of l q) (take-length (old.changes.items ++ c ∷ []))
     ∙ entry_from-push None q old.changes.items c))
@@ -171,7 +171,7 @@ stands_pushed old new c more stored q o h = ⊎_elim
     here : o ≡ entry_of (take h.0 (old.changes.items ++ c ∷ [])) q
     here = h.2 ∙ ap (λ l. entry_of (take h.0 l) q) more
 
-pub holds_pushed : (old new : Logs) (c : Content) → new.contents.items ≡ old.contents.items ++ c ∷ [] → new.stored_contents ≡ old.stored_contents → IsWell old → (i : ℕ) (n : Node) → i ≢ c.inode
+pub holds_pushed : (old new : Logs) (c : FileContent) → new.contents.items ≡ old.contents.items ++ c ∷ [] → new.stored_contents ≡ old.stored_contents → IsWell old → (i : ℕ) (n : Node) → i ≢ c.inode
     → (state_of new).holds i n → (state_of old).holds i n
 holds_pushed old new c more stored well i n other h = ⊎_elim
     (λ le. (h.0, (omega (arith, stored, h.1.0), le), here ∙ ap (λ l. regular (text_of l i)) (take-append-le h.0 old.contents.items (c ∷ []) le)))
@@ -182,7 +182,7 @@ holds_pushed old new c more stored well i n other h = ⊎_elim
           ∙ ap (λ l. regular (text_of l i)) (take-length (old.contents.items ++ c ∷ [])) ∙ ap regular (text_other old c i other)
           ∙ ap (λ l. regular (text_of l i)) (sym (take-length old.contents.items)),
     ))
-    (fronts old.contents.items c h.0 (subst (λ (l : List Content). h.0 ≤ length l) more h.1.1))
+    (fronts old.contents.items c h.0 (subst (λ (l : List FileContent). h.0 ≤ length l) more h.1.1))
   where
     here : n ≡ regular (text_of (take h.0 (old.contents.items ++ c ∷ [])) i)
     here = h.2 ∙ ap (λ l. regular (text_of (take h.0 l) i)) more

@@ -4,9 +4,9 @@ use Rattle.std.specs.Prelude.{if◌then◌else◌, codes, option_map}
 use Rattle.std.specs.Str.{bytes_eq}
 use Rattle.std.proofs.lemmas.Slice.Eq.{bytes_eq-Decides}
 use Rattle.yf_files.specs.Calls.{Stays}
-use Rattle.yf_files.specs.Replaced.{AtAnyMoment, IsText, Replaced}
+use Rattle.yf_files.specs.Replaced.{AtAnyMoment, IsText, FileReplaced}
 use Rattle.yf_files.specs.Rewritten.{IsFormatting, IsUntouched, Rewrote, new_name_of}
-use Rattle.yf_files.specs.Tree.{Elapses, Finds, IsAt, IsSound, Name, Node, State, at, folder_of, has_slash, regular}
+use Rattle.yf_files.specs.Tree.{TimePasses, MayBeFound, IsAt, IsSound, Name, Node, FilesState, at, folder_of, has_slash, regular}
 
 -- what may be found in an inode may be found there by another relation
 carried : (a b : ℕ → Node → Type 0) (o : Option ℕ) (x : Option Node) → ((i : ℕ) (n : Node) → a i n → b i n) → IsAt a o x → IsAt b o x
@@ -15,7 +15,7 @@ carried a b (Some i) None each is = absurd is
 carried a b (Some i) (Some n) each is = each i n is
 
 -- what stays is at its names
-at_stays : (s t : State) → Stays s t → (q : Name) → at t q ≡ at s q
+at_stays : (s t : FilesState) → Stays s t → (q : Name) → at t q ≡ at s q
 at_stays s t c q = ap (option_map t.node) (c.entry q) ∙ each (s.entry q)
   where
     each : (o : Option ℕ) → option_map t.node o ≡ option_map s.node o
@@ -27,18 +27,18 @@ pub differs : (a b : List ℕ) (r : Bool) → r ≡ false → r ≡ bytes_eq a b
 differs a b r fails test same = grind (arith, bytes_eq-Decides a b)
 
 -- what was only read is untouched
-pub untouched : (old new : State) → IsSound old → Stays old new → Elapses old new → IsUntouched old new
+pub untouched : (old new : FilesState) → IsSound old → Stays old new → TimePasses old new → IsUntouched old new
 untouched old new sound c time = record {
   stays = c;
   since = λ t q x le h. ⊎_elim (λ before. before)
-      (λ now. sound.counts_now t q x le (now.0, c.stands q now.0 now.1, carried new.holds old.holds now.0 x c.holds now.2))
+      (λ now. sound.counts_now t q x le (now.0, c.is_there q now.0 now.1, carried new.holds old.holds now.0 x c.holds now.2))
       (time.nothing_else t q x le h);
 }
 
 -- The file was read, and its text is replaced by the formatting of what was read.
 -- (b, t: what was formatted and what was read; u, w: what was put in its place and what the formatter gave; n: the new name)
-module _ (Formats : List ℕ → List ℕ → Type 0) (old s new : State) (file n : Name) (t b u w : List ℕ) (sound : IsSound old) (stays : Stays old s)
-    (time : Elapses old s) (is : at old file ≡ Some (regular t)) (same : b ≡ t) (formats : Formats b w) (put : u ≡ w) (name : n ≡ new_name_of file) where
+module _ (Formats : List ℕ → List ℕ → Type 0) (old s new : FilesState) (file n : Name) (t b u w : List ℕ) (sound : IsSound old) (stays : Stays old s)
+    (time : TimePasses old s) (is : at old file ≡ Some (regular t)) (same : b ≡ t) (formats : Formats b w) (put : u ≡ w) (name : n ≡ new_name_of file) where
   formats_read : Formats t u
   formats_read = subst (λ (v : List ℕ). Formats v u) same (subst (λ (v : List ℕ). Formats b v) (sym put) formats)
 
@@ -56,7 +56,7 @@ module _ (Formats : List ℕ → List ℕ → Type 0) (old s new : State) (file 
   at_all_stays : (q : Name) → at s q ≡ at old q
   at_all_stays q = at_stays old s stays q
 
-  pub rewrote : u ≢ t → Replaced s new file n u → Rewrote Formats old new file
+  pub rewrote : u ≢ t → FileReplaced s new file n u → Rewrote Formats old new file
   rewrote differs done = (
     t,
     is,
@@ -67,7 +67,7 @@ module _ (Formats : List ℕ → List ℕ → Type 0) (old s new : State) (file 
       record {
         holds = done.holds;
         durable = done.durable;
-        gone = λ x h. done.gone x (subst (λ (v : Name). Finds new v x) (sym name) h);
+        gone = λ x h. done.gone x (subst (λ (v : Name). MayBeFound new v x) (sym name) h);
         others = λ q no_file no_new. done.others q no_file (λ one. no_new (one ∙ name)) ∙ at_all_stays q;
       },
     ),
@@ -87,6 +87,6 @@ folder_of_more [] suffix none = folder_of_end suffix none
 folder_of_more (x ∷ xs) suffix none = ap (λ b. if b then x ∷ folder_of (xs ++ suffix) else []) (has_slash_more (x ∷ xs) suffix none)
     ∙ ap (λ r. if has_slash (x ∷ xs) then x ∷ r else []) (folder_of_more xs suffix none)
 
--- the new file stands beside the file
+-- the new file is beside the file
 pub beside : (file : Name) → folder_of (new_name_of file) ≡ folder_of file
 beside file = folder_of_more file (codes ".yamlfmt-new") refl

@@ -1,65 +1,65 @@
 -- What the calls of a file system do, each a relation of the states before and after it.
 use Rattle.std.specs.Prelude.{◌≡◌, ◌≢◌, ◌⊎◌, ℕ, true, Option, Some, None}
-use Rattle.yf_files.specs.Tree.{Name, Node, State, folder_of}
+use Rattle.yf_files.specs.Tree.{Name, Node, FilesState, folder_of}
 
 -- a call has failed
-abbrev pub HasFailed : State → Type 0
+abbrev pub HasFailed : FilesState → Type 0
 HasFailed s = s.failed ≡ true
 
 -- nothing changes, and nothing else may be found
-pub record Stays (old new : State) : Type 0 where
+pub record Stays (old new : FilesState) : Type 0 where
   pub entry : (q : Name) → new.entry q ≡ old.entry q
   pub node : (i : ℕ) → new.node i ≡ old.node i
-  pub stands : (q : Name) (o : Option ℕ) → new.stands q o → old.stands q o
+  pub is_there : (q : Name) (o : Option ℕ) → new.is_there q o → old.is_there q o
   pub holds : (i : ℕ) (n : Node) → new.holds i n → old.holds i n
   pub made : new.made ≡ old.made
 
--- nothing stands at the name any more, and no file is changed by that (`unlink`)
-pub record Removed (old new : State) (name : Name) : Type 0 where
+-- nothing is at the name any more, and no file is changed by that (`unlink`)
+pub record FileRemoved (old new : FilesState) (name : Name) : Type 0 where
   pub gone : new.entry name ≡ None
   pub entry : (q : Name) → q ≢ name → new.entry q ≡ old.entry q
   pub node : (i : ℕ) → new.node i ≡ old.node i
-  pub stands : (q : Name) (o : Option ℕ) → q ≢ name → new.stands q o → old.stands q o
+  pub is_there : (q : Name) (o : Option ℕ) → q ≢ name → new.is_there q o → old.is_there q o
   pub holds : (i : ℕ) (n : Node) → new.holds i n → old.holds i n
   pub made : new.made ≡ old.made
 
--- nothing stood at the name, and now a file does that stood nowhere (`open` with `O_CREAT` and `O_EXCL`)
-pub record Made (old new : State) (name : Name) : Type 0 where
+-- nothing was at the name, and now a file does that was nowhere (`open` with `O_CREAT` and `O_EXCL`)
+pub record FileMade (old new : FilesState) (name : Name) : Type 0 where
   pub was : old.entry name ≡ None
   pub is : new.entry name ≡ Some new.made
   pub fresh : old.used new.made → ⊥
   pub entry : (q : Name) → q ≢ name → new.entry q ≡ old.entry q
   pub node : (i : ℕ) → i ≢ new.made → new.node i ≡ old.node i
-  pub stands : (q : Name) (o : Option ℕ) → q ≢ name → new.stands q o → old.stands q o
+  pub is_there : (q : Name) (o : Option ℕ) → q ≢ name → new.is_there q o → old.is_there q o
   pub holds : (i : ℕ) (n : Node) → i ≢ new.made → new.holds i n → old.holds i n
 
 -- the file that was made last may hold anything; no other file is changed, and no name (`write`)
-pub record Written (old new : State) : Type 0 where
+pub record WriteChanges (old new : FilesState) : Type 0 where
   pub entry : (q : Name) → new.entry q ≡ old.entry q
   pub node : (i : ℕ) → i ≢ old.made → new.node i ≡ old.node i
-  pub stands : (q : Name) (o : Option ℕ) → new.stands q o → old.stands q o
+  pub is_there : (q : Name) (o : Option ℕ) → new.is_there q o → old.is_there q o
   pub holds : (i : ℕ) (n : Node) → i ≢ old.made → new.holds i n → old.holds i n
   pub made : new.made ≡ old.made
 
 -- what is seen in the file that was made last is all that may be found in it (`fsync` of the file)
-pub record Stored (old new : State) : Type 0 where
+pub record FileStored (old new : FilesState) : Type 0 where
   pub stays : Stays old new
   pub only : (n : Node) → new.holds new.made n → n ≡ new.node new.made
 
--- what stood at one name stands at the other, where one inode did not stand at both; at any moment both has happened or neither (`rename`)
-pub record Renamed (old new : State) (from to : Name) : Type 0 where
+-- what was at one name is at the other, where one inode did not are at both; at any moment both has happened or neither (`rename`)
+pub record FileRenamed (old new : FilesState) (from to : Name) : Type 0 where
   pub gone : new.entry from ≡ None
   pub is : new.entry to ≡ old.entry from
   pub entry : (q : Name) → q ≢ from → q ≢ to → new.entry q ≡ old.entry q
   pub node : (i : ℕ) → new.node i ≡ old.node i
-  pub stands : (q : Name) (o : Option ℕ) → q ≢ from → new.stands q o → old.stands q o ⊎ ((q ≡ to) × (o ≡ old.entry from))
+  pub is_there : (q : Name) (o : Option ℕ) → q ≢ from → new.is_there q o → old.is_there q o ⊎ ((q ≡ to) × (o ≡ old.entry from))
   pub holds : (i : ℕ) (n : Node) → new.holds i n → old.holds i n
   pub made : new.made ≡ old.made
 
-abbrev pub Renames : State → State → Name → Name → Type 0
-Renames old new from to = old.entry from ≢ old.entry to → Renamed old new from to
+abbrev pub RenameCall : FilesState → FilesState → Name → Name → Type 0
+RenameCall old new from to = old.entry from ≢ old.entry to → FileRenamed old new from to
 
 -- the names of the folder that are seen are all that may be found in it (`fsync` of the folder)
-pub record FolderStored (old new : State) (name : Name) : Type 0 where
+pub record FolderStored (old new : FilesState) (name : Name) : Type 0 where
   pub stays : Stays old new
-  pub only : (q : Name) (o : Option ℕ) → folder_of q ≡ folder_of name → new.stands q o → o ≡ new.entry q
+  pub only : (q : Name) (o : Option ℕ) → folder_of q ≡ folder_of name → new.is_there q o → o ≡ new.entry q

@@ -2,13 +2,13 @@
 -- some front of each log is found, no shorter than what was stored of it.
 use Rattle.std.specs.Prelude.{◌≡◌, ◌⊎◌, ℕ, ◌+◌, ◌<◌, ◌≤◌, ◌==◌, true, if◌then◌else◌, List, [], ◌∷◌, ◌++◌, length, take, Option, Some, None, string_bytes, slice_get}
 use Rattle.std.specs.Str.{bytes_eq}
-use Rattle.yf_files.specs.Tree.{Name, Node, regular, State, IsAt}
+use Rattle.yf_files.specs.Tree.{Name, Node, regular, FilesState, IsAt}
 use Rattle.yf_files.specs.declared.logs.Change.{Change}
-use Rattle.yf_files.specs.declared.logs.Content.{Content}
+use Rattle.yf_files.specs.declared.logs.FileContent.{FileContent}
 use Rattle.yf_files.specs.declared.logs.Logs.{Logs}
 use Rattle.yf_files.specs.declared.logs.Moment.{Moment}
 
--- the inode at a name after a change, where that one stood there before it
+-- the inode at a name after a change, where that one was there before it
 abbrev pub changed : Change → Name → Option ℕ → Option ℕ
 changed c q before = if bytes_eq (string_bytes c.name) q then c.inode else (if bytes_eq (string_bytes c.freed) q then None else before)
 
@@ -20,29 +20,29 @@ entry_from before q (c ∷ changes) = entry_from (changed c q before) q changes
 abbrev pub entry_of : List Change → Name → Option ℕ
 entry_of changes q = entry_from None q changes
 
-abbrev pub text_from : List ℕ → ℕ → List Content → List ℕ
+abbrev pub text_from : List ℕ → ℕ → List FileContent → List ℕ
 text_from before i [] = before
 text_from before i (c ∷ contents) = text_from (if c.inode == i then c.bytes.items else before) i contents
 
 -- what an inode holds after all that files were given to hold; at first nothing
-abbrev pub text_of : List Content → ℕ → List ℕ
+abbrev pub text_of : List FileContent → ℕ → List ℕ
 text_of contents i = text_from [] i contents
 
 -- a front of a log, no shorter than what was stored of it
 abbrev pub IsFront : ℕ → ℕ → ℕ → Type 0
 IsFront stored all k = (stored ≤ k) × (k ≤ all)
 
-abbrev pub Stands : List Change → Moment → Name → Option ℕ → Type 0
-Stands changes m q o = (k : ℕ) × IsFront m.stored_changes m.changes k × (o ≡ entry_of (take k changes) q)
+abbrev pub IsFileAt : List Change → Moment → Name → Option ℕ → Type 0
+IsFileAt changes m q o = (k : ℕ) × IsFront m.stored_changes m.changes k × (o ≡ entry_of (take k changes) q)
 
-abbrev pub Holds : List Content → Moment → ℕ → Node → Type 0
-Holds contents m i n = (k : ℕ) × IsFront m.stored_contents m.contents k × (n ≡ regular (text_of (take k contents) i))
+abbrev pub HoldsContent : List FileContent → Moment → ℕ → Node → Type 0
+HoldsContent contents m i n = (k : ℕ) × IsFront m.stored_contents m.contents k × (n ≡ regular (text_of (take k contents) i))
 
-abbrev pub FoundAt : List Change → List Content → Moment → Name → Option Node → Type 0
-FoundAt changes contents m q x = (o : Option ℕ) × Stands changes m q o × IsAt (Holds contents m) o x
+abbrev pub FoundAt : List Change → List FileContent → Moment → Name → Option Node → Type 0
+FoundAt changes contents m q x = (o : Option ℕ) × IsFileAt changes m q o × IsAt (HoldsContent contents m) o x
 
 -- now, or at one of the moments before
-abbrev pub FoundSince : List Change → List Content → List Moment → Moment → ℕ → Name → Option Node → Type 0
+abbrev pub FoundSince : List Change → List FileContent → List Moment → Moment → ℕ → Name → Option Node → Type 0
 FoundSince changes contents moments now t q x = FoundAt changes contents now q x
     ⊎ ((j : ℕ) × (m : Moment) × (t ≤ j) × (slice_get moments j ≡ Some m) × FoundAt changes contents m q x)
 
@@ -54,12 +54,12 @@ now_of l = record {
   stored_contents = l.stored_contents;
 }
 
-abbrev pub state_of : Logs → State
+abbrev pub state_of : Logs → FilesState
 state_of l = record {
   entry = entry_of l.changes.items;
   node = λ i. regular (text_of l.contents.items i);
-  stands = Stands l.changes.items (now_of l);
-  holds = Holds l.contents.items (now_of l);
+  is_there = IsFileAt l.changes.items (now_of l);
+  holds = HoldsContent l.contents.items (now_of l);
   used = λ i. i < l.next;
   failed = l.failed;
   made = l.made;
@@ -67,7 +67,7 @@ state_of l = record {
   since = FoundSince l.changes.items l.contents.items l.moments.items (now_of l);
 }
 
--- no more is stored than there is, no moment had more than there is now, and an inode that ever stood somewhere is not used again
+-- no more is stored than there is, no moment had more than there is now, and an inode that ever was somewhere is not used again
 pub record IsWell (l : Logs) : Type 0 where
   pub changes : l.stored_changes ≤ length l.changes.items
   pub contents : l.stored_contents ≤ length l.contents.items
@@ -76,7 +76,7 @@ pub record IsWell (l : Logs) : Type 0 where
   pub used : (k : ℕ) (q : Name) (i : ℕ) → entry_of (take k l.changes.items) q ≡ Some i → i < l.next
 
 -- a moment has passed, in which nothing happened
-pub record Passes (old new : Logs) : Type 0 where
+pub record MomentPasses (old new : Logs) : Type 0 where
   pub changes : new.changes.items ≡ old.changes.items
   pub contents : new.contents.items ≡ old.contents.items
   pub moments : new.moments.items ≡ old.moments.items ++ now_of old ∷ []
@@ -87,7 +87,7 @@ pub record Passes (old new : Logs) : Type 0 where
   pub failed : new.failed ≡ old.failed
 
 -- nothing has happened, but that a call failed
-pub record Fails (old new : Logs) : Type 0 where
+pub record CallFails (old new : Logs) : Type 0 where
   pub changes : new.changes.items ≡ old.changes.items
   pub contents : new.contents.items ≡ old.contents.items
   pub moments : new.moments.items ≡ old.moments.items
@@ -98,7 +98,7 @@ pub record Fails (old new : Logs) : Type 0 where
   pub failed : new.failed ≡ true
 
 -- one change more
-pub record Changes (old new : Logs) (name freed : Name) (inode : Option ℕ) : Type 0 where
+pub record LogChanged (old new : Logs) (name freed : Name) (inode : Option ℕ) : Type 0 where
   pub change : Change
   pub named : string_bytes change.name ≡ name
   pub frees : string_bytes change.freed ≡ freed
@@ -112,8 +112,8 @@ pub record Changes (old new : Logs) (name freed : Name) (inode : Option ℕ) : T
   pub made : new.made ≡ old.made
   pub failed : new.failed ≡ old.failed
 
--- a name at which nothing stood is given to an inode that was not used
-pub record Makes (old new : Logs) (name : Name) : Type 0 where
+-- a name at which nothing was is given to an inode that was not used
+pub record InodeMade (old new : Logs) (name : Name) : Type 0 where
   pub was : entry_of old.changes.items name ≡ None
   pub change : Change
   pub named : string_bytes change.name ≡ name
@@ -129,8 +129,8 @@ pub record Makes (old new : Logs) (name : Name) : Type 0 where
   pub failed : new.failed ≡ old.failed
 
 -- one content more
-pub record Gives (old new : Logs) (i : ℕ) (text : List ℕ) : Type 0 where
-  pub content : Content
+pub record ContentAdded (old new : Logs) (i : ℕ) (text : List ℕ) : Type 0 where
+  pub content : FileContent
   pub inode_is : content.inode ≡ i
   pub has : content.bytes.items ≡ text
   pub changes : new.changes.items ≡ old.changes.items

@@ -1,8 +1,8 @@
 -- What a file holds that is rewritten by a formatter, at any moment.
 use Rattle.std.specs.Prelude.{◌≡◌, ◌≢◌, ◌⊎◌, ℕ, ◌≤◌, List, ◌++◌, Option, Some, codes}
-use Rattle.yf_files.specs.Tree.{Name, Node, regular, State, at}
+use Rattle.yf_files.specs.Tree.{Name, Node, regular, FilesState, at}
 use Rattle.yf_files.specs.Calls.{Stays, HasFailed}
-use Rattle.yf_files.specs.Replaced.{Leaves, Replaced}
+use Rattle.yf_files.specs.Replaced.{ErrorLeaves, FileReplaced}
 use Rattle.yf_files.specs.declared.rewriting.RewriteError.{RewriteError}
 use Rattle.yf_files.specs.declared.rewriting.RewriteError.TheVariants.{Memory, Unreadable, Refused, Unwritten}
 
@@ -11,27 +11,27 @@ abbrev pub new_name_of : Name → Name
 new_name_of file = file ++ codes ".yamlfmt-new"
 
 -- what is found is a formatting, whole, of the text that the file held at old, at the file's name
-abbrev pub IsFormatting : (List ℕ → List ℕ → Type 0) → State → Name → Name → Option Node → Type 0
+abbrev pub IsFormatting : (List ℕ → List ℕ → Type 0) → FilesState → Name → Name → Option Node → Type 0
 IsFormatting Formats old file q x = (q ≡ file)
     × ((t u : List ℕ) × (at old file ≡ Some (regular t)) × Formats t u × (x ≡ Some (regular u)))
 
 -- Nothing was touched: all is as it was, and nothing else was ever to be found, at any name.
-pub record IsUntouched (old new : State) : Type 0 where
+pub record IsUntouched (old new : FilesState) : Type 0 where
   pub stays : Stays old new
   pub since : (t : ℕ) (q : Name) (x : Option Node) → t ≤ old.moment → new.since t q x → old.since t q x
 
 -- The text that the file held is its own formatting, and nothing was touched; or the file has its formatting, which is another text.
-abbrev pub Rewrote : (List ℕ → List ℕ → Type 0) → State → State → Name → Type 0
+abbrev pub Rewrote : (List ℕ → List ℕ → Type 0) → FilesState → FilesState → Name → Type 0
 Rewrote Formats old new file = (t : List ℕ) × (at old file ≡ Some (regular t))
-    × ((Formats t t × IsUntouched old new) ⊎ ((u : List ℕ) × Formats t u × (t ≢ u) × Replaced old new file (new_name_of file) u))
+    × ((Formats t t × IsUntouched old new) ⊎ ((u : List ℕ) × Formats t u × (t ≢ u) × FileReplaced old new file (new_name_of file) u))
 
 -- what a refusal leaves, and why it came
-abbrev pub LeavesRefused : {E : Type 0} → (List ℕ → List ℕ → Type 0) → (List ℕ → E → Type 0) → State → State → Name → RewriteError E → Type 0
+abbrev pub LeavesRefused : {E : Type 0} → (List ℕ → List ℕ → Type 0) → (List ℕ → E → Type 0) → FilesState → FilesState → Name → RewriteError E → Type 0
 LeavesRefused Formats Refuses old new file Memory = IsUntouched old new
 LeavesRefused Formats Refuses old new file Unreadable = IsUntouched old new × HasFailed new
 LeavesRefused Formats Refuses old new file (Refused e) = IsUntouched old new × ((t : List ℕ) × (at old file ≡ Some (regular t)) × Refuses t e)
 LeavesRefused Formats Refuses old new file (Unwritten e) = HasFailed new
-    × ((t u : List ℕ) × (at old file ≡ Some (regular t)) × Formats t u × Leaves old new file (new_name_of file) u e)
+    × ((t u : List ℕ) × (at old file ≡ Some (regular t)) × Formats t u × ErrorLeaves old new file (new_name_of file) u e)
 
 -- why a formatter refuses, whatever the file system tells
 abbrev pub WhyRefused : {E : Type 0} → (List ℕ → E → Type 0) → RewriteError E → Type 0

@@ -1,4 +1,4 @@
--- A file system as one run sees it: what stands at each name, what each file holds, and what may be found after the run or the machine stops.
+-- A file system as one run sees it: what is at each name, what each file holds, and what may be found after the run or the machine stops.
 use Rattle.std.specs.Prelude.{◌≡◌, ◌⊎◌, ℕ, ◌≤◌, ◌==◌, Bool, true, false, if◌then◌else◌, List, [], ◌∷◌, Option, Some, None, option_map}
 
 -- the bytes of a name: an entry of a folder, whatever way a path spells it
@@ -11,14 +11,14 @@ pub data Node : Type 0 where
   other : List ℕ → Node
 
 -- A file system at a moment. A stop is a crash of the machine, the end of the run by a signal, or just another process that looks.
-pub record State : Type 1 where
-  -- the inode that stands at a name; several names may share one
+pub record FilesState : Type 1 where
+  -- the inode that is at a name; several names may share one
   pub entry : Name → Option ℕ
   pub node : ℕ → Node
-  -- the inodes that may stand at a name, and what an inode may hold, once everything has stopped at this moment
-  pub stands : Name → Option ℕ → Type 0
+  -- the inodes that may be at a name, and what an inode may hold, once everything has stopped at this moment
+  pub is_there : Name → Option ℕ → Type 0
   pub holds : ℕ → Node → Type 0
-  -- the inodes that have stood somewhere so far: no number is used twice
+  -- the inodes that have was somewhere so far: no number is used twice
   pub used : ℕ → Type 0
   -- whether a call has failed so far
   pub failed : Bool
@@ -37,8 +37,8 @@ abbrev pub folder_of : Name → Name
 folder_of [] = []
 folder_of (b ∷ bs) = if has_slash (b ∷ bs) then b ∷ folder_of bs else []
 
--- what stands at a name
-abbrev pub at : State → Name → Option Node
+-- what is at a name
+abbrev pub at : FilesState → Name → Option Node
 at s name = option_map s.node (s.entry name)
 
 abbrev pub IsAt : (ℕ → Node → Type 0) → Option ℕ → Option Node → Type 0
@@ -47,32 +47,32 @@ IsAt holds (Some i) None = ⊥
 IsAt holds (Some i) (Some n) = holds i n
 
 -- what may be found at a name, once everything has stopped at this moment
-abbrev pub Finds : State → Name → Option Node → Type 0
-Finds s name x = (o : Option ℕ) × s.stands name o × IsAt s.holds o x
+abbrev pub MayBeFound : FilesState → Name → Option Node → Type 0
+MayBeFound s name x = (o : Option ℕ) × s.is_there name o × IsAt s.holds o x
 
 -- time goes on: what may have been found since a moment might have been found before, or may be found now
-pub record Elapses (old new : State) : Type 0 where
+pub record TimePasses (old new : FilesState) : Type 0 where
   pub later : old.moment ≤ new.moment
   pub failed : old.failed ≡ true → new.failed ≡ true
   pub used : (i : ℕ) → old.used i → new.used i
-  pub nothing_else : (t : ℕ) (name : Name) (x : Option Node) → t ≤ old.moment → new.since t name x → old.since t name x ⊎ Finds new name x
+  pub nothing_else : (t : ℕ) (name : Name) (x : Option Node) → t ≤ old.moment → new.since t name x → old.since t name x ⊎ MayBeFound new name x
   pub keeps : (t : ℕ) (name : Name) (x : Option Node) → t ≤ old.moment → old.since t name x → new.since t name x
 
--- what is true of each state: what stands there may be found, since this moment there is nothing else, and it is among what may have been
+-- what is true of each state: what is there may be found, since this moment there is nothing else, and it is among what may have been
 -- found since an earlier one
-pub record IsSound (s : State) : Type 0 where
-  pub stands_now : (name : Name) → s.stands name (s.entry name)
+pub record IsSound (s : FilesState) : Type 0 where
+  pub is_at_now : (name : Name) → s.is_there name (s.entry name)
   pub holds_now : (i : ℕ) → s.holds i (s.node i)
-  pub stood : (name : Name) (i : ℕ) → s.stands name (Some i) → s.used i
-  pub only_now : (name : Name) (x : Option Node) → s.since s.moment name x → Finds s name x
-  pub counts_now : (t : ℕ) (name : Name) (x : Option Node) → t ≤ s.moment → Finds s name x → s.since t name x
+  pub stood : (name : Name) (i : ℕ) → s.is_there name (Some i) → s.used i
+  pub only_now : (name : Name) (x : Option Node) → s.since s.moment name x → MayBeFound s name x
+  pub counts_now : (t : ℕ) (name : Name) (x : Option Node) → t ≤ s.moment → MayBeFound s name x → s.since t name x
 
 -- the state of a system that tells nothing
-abbrev pub unknown : State
+abbrev pub unknown : FilesState
 unknown = record {
   entry = λ _. None;
   node = λ _. other [];
-  stands = λ _ _. ⊥;
+  is_there = λ _ _. ⊥;
   holds = λ _ _. ⊥;
   used = λ _. ⊥;
   failed = false;

@@ -1,6 +1,6 @@
 //! What a file system in memory keeps: all that happened to its names and files, in order.
 ghost use Rattle.std.specs.Prelude.{◌≡◌, ◌≤◌, length, take, IfSome, OnOk, OnErr, Some};
-ghost use Rattle.yf_files.specs.Memory.{Changes, Fails, Gives, IsWell, Makes, Passes, changed, entry_of, now_of, state_of, text_of};
+ghost use Rattle.yf_files.specs.Memory.{LogChanged, CallFails, ContentAdded, IsWell, InodeMade, MomentPasses, changed, entry_of, now_of, state_of, text_of};
 ghost use Rattle.yf_files.specs.Tree.{at, regular};
 
 use crate::file_system::Failed;
@@ -15,7 +15,7 @@ pub struct Change {
 }
 
 impl Change {
-    /// The inode at a name after the change, where that one stood there before.
+    /// The inode at a name after the change, where that one was there before.
     fn inode_after(&self, name: &str, before: Option<usize>) -> Option<usize>
         ensures { result ≡ changed self.now name.now before }
     {
@@ -31,7 +31,7 @@ impl Change {
 
 /// What a file was given to hold.
 #[derive(Drop)]
-pub struct Content {
+pub struct FileContent {
     pub inode: usize,
     pub bytes: Vec<u8>,
 }
@@ -49,11 +49,11 @@ pub struct Moment {
 #[derive(Drop)]
 pub struct Logs {
     pub changes: Vec<Change>,
-    pub contents: Vec<Content>,
+    pub contents: Vec<FileContent>,
     pub moments: Vec<Moment>,
     pub stored_changes: usize,
     pub stored_contents: usize,
-    /// The next inode: those below it have stood somewhere.
+    /// The next inode: those below it have was somewhere.
     pub next: usize,
     /// The inode of the file that was made last.
     pub made: usize,
@@ -92,8 +92,8 @@ impl Logs {
 
     /// Lets a moment pass. Where memory is refused, or the number of the moment is that of the call that is to fail, it fails.
     pub fn pass(&mut self, fails_at: usize) -> Result<(), Failed>
-        ensures ok { OnOk result (Passes self.old self.new) }
-        ensures err { OnErr result (Fails self.old self.new) }
+        ensures ok { OnOk result (MomentPasses self.old self.new) }
+        ensures err { OnErr result (CallFails self.old self.new) }
     {
         let now = self.now();
         if self.moments.len() == fails_at {
@@ -107,13 +107,13 @@ impl Logs {
 
     /// Notes that a call has failed.
     pub fn fail(&mut self) -> Failed
-        ensures { Fails self.old self.new }
+        ensures { CallFails self.old self.new }
     {
         self.failed = true;
         Failed
     }
 
-    /// The inode that stands at a name.
+    /// The inode that is at a name.
     pub fn inode_at(&self, name: &str, front: usize) -> Option<usize>
         requires { front ≤ length self.now.changes.items }
         ensures { result ≡ entry_of (take front self.now.changes.items) name.now }
@@ -126,7 +126,7 @@ impl Logs {
         inode
     }
 
-    /// The inode that stands at a name now.
+    /// The inode that is at a name now.
     pub fn inode_now(&self, name: &str) -> Option<usize>
         ensures { result ≡ entry_of self.now.changes.items name.now }
     {
@@ -166,8 +166,8 @@ impl Logs {
         inode: Option<usize>,
         freed: &str,
     ) -> Result<(), Failed>
-        ensures ok { OnOk result (Changes self.old self.new name.now freed.now inode) }
-        ensures err { OnErr result (Fails self.old self.new) }
+        ensures ok { OnOk result (LogChanged self.old self.new name.now freed.now inode) }
+        ensures err { OnErr result (CallFails self.old self.new) }
     {
         let Ok(name) = String::from_str(alloc, name) else {
             return Err(self.fail());
@@ -182,10 +182,10 @@ impl Logs {
         Ok(())
     }
 
-    /// Gives a name at which nothing stands to an inode that was never used.
+    /// Gives a name at which nothing is to an inode that was never used.
     pub fn make(&mut self, alloc: Global, name: &str) -> Result<(), Failed>
-        ensures ok { OnOk result (Makes self.old self.new name.now) }
-        ensures err { OnErr result (Fails self.old self.new) }
+        ensures ok { OnOk result (InodeMade self.old self.new name.now) }
+        ensures err { OnErr result (CallFails self.old self.new) }
     {
         let inode = self.next;
         if inode == usize::MAX || self.inode_now(name).is_some() {
@@ -202,13 +202,13 @@ impl Logs {
 
     /// Gives a file a text to hold.
     pub fn give(&mut self, alloc: Global, inode: usize, text: &[u8]) -> Result<(), Failed>
-        ensures ok { OnOk result (Gives self.old self.new inode text.now) }
-        ensures err { OnErr result (Fails self.old self.new) }
+        ensures ok { OnOk result (ContentAdded self.old self.new inode text.now) }
+        ensures err { OnErr result (CallFails self.old self.new) }
     {
         let Ok(bytes) = text.to_vec(alloc) else {
             return Err(self.fail());
         };
-        let content = Content { inode, bytes };
+        let content = FileContent { inode, bytes };
         if self.contents.push(content).is_err() {
             return Err(self.fail());
         }

@@ -1,8 +1,8 @@
 //! A file system in memory, which can be stopped at any moment.
 ghost use Rattle.std.specs.Prelude.{◌≡◌, ℕ, take, Some, IfOk, IfSome, IsErrOf, OnErr, OnOk, ⊤};
 ghost use Rattle.yf_files.specs.Calls.{HasFailed, Stays};
-ghost use Rattle.yf_files.specs.Memory.{Fails, IsWell, Passes, entry_of, state_of, text_of};
-ghost use Rattle.yf_files.specs.Tree.{Elapses};
+ghost use Rattle.yf_files.specs.Memory.{CallFails, IsWell, MomentPasses, entry_of, state_of, text_of};
+ghost use Rattle.yf_files.specs.Tree.{TimePasses};
 
 use crate::file_system::{Failed, FileSystem, ReadError};
 use crate::logs::{Logs, Moment};
@@ -59,8 +59,8 @@ impl MemoryFiles {
 
     // A call begins: a moment passes, or the call fails.
     fn begin(&mut self) -> Result<(), Failed>
-        ensures ok { OnOk result (Passes self.old.logs self.new.logs) }
-        ensures err { OnErr result (Fails self.old.logs self.new.logs) }
+        ensures ok { OnOk result (MomentPasses self.old.logs self.new.logs) }
+        ensures err { OnErr result (CallFails self.old.logs self.new.logs) }
     {
         match self.logs.pass(self.fails_at) {
             Ok(()) => Ok(()),
@@ -75,7 +75,7 @@ impl MemoryFiles {
     fn pass(&mut self) -> Result<(), Failed>
         ensures stays { Stays (state_of self.old.logs) (state_of self.new.logs) }
         ensures cause { OnErr result (HasFailed (state_of self.new.logs)) }
-        ensures time { Elapses (state_of self.old.logs) (state_of self.new.logs) }
+        ensures time { TimePasses (state_of self.old.logs) (state_of self.new.logs) }
     {
         match self.begin() {
             Ok(()) => Ok(()),

@@ -1,8 +1,8 @@
 //! A file that gets another text, by way of a new file beside it that is renamed to it.
 ghost use Rattle.std.specs.Prelude.{◌≡◌, ◌≢◌, OnOk, OnErr, IfErr, None};
-ghost use Rattle.yf_files.specs.Aside.{Aside, IsBack, IsReady, Withdrawn, Withdraws};
+ghost use Rattle.yf_files.specs.Aside.{Aside, IsBack, IsReady, NewFileWithdrawn, Withdraws};
 ghost use Rattle.yf_files.specs.Calls.{HasFailed};
-ghost use Rattle.yf_files.specs.Replaced.{AtAnyMoment, IsText, Leaves, Replaced};
+ghost use Rattle.yf_files.specs.Replaced.{AtAnyMoment, IsText, ErrorLeaves, FileReplaced};
 ghost use Rattle.yf_files.specs.Tree.{folder_of};
 
 use crate::file_system::{Failed, FileSystem};
@@ -20,8 +20,8 @@ pub enum ReplaceError {
 
 /// Gives the file that was read last another text, by way of a new file at the other name, in the same folder.
 ///
-/// The file is locked first. Whatever then stands at the new name is removed, and the new file is made only where nothing
-/// stands. It gets the text, and the owner, the group and the permissions of the old one; it is stored, renamed to the file,
+/// The file is locked first. Whatever then is at the new name is removed, and the new file is made only where nothing
+/// is. It gets the text, and the owner, the group and the permissions of the old one; it is stored, renamed to the file,
 /// and the folder is stored. After a failure before the renaming it is removed.
 pub fn replace<S: FileSystem>(
     files: &mut S,
@@ -32,8 +32,8 @@ pub fn replace<S: FileSystem>(
     requires other { file.now ≢ new_name.now }
     requires beside { folder_of new_name.now ≡ folder_of file.now }
     ensures any_moment { S.tells → AtAnyMoment (S.state files.old) (S.state files.new) new_name.now (IsText file.now text.now) }
-    ensures replaced { S.tells → OnOk result (Replaced (S.state files.old) (S.state files.new) file.now new_name.now text.now) }
-    ensures leaves { S.tells → IfErr result (Leaves (S.state files.old) (S.state files.new) file.now new_name.now text.now) }
+    ensures replaced { S.tells → OnOk result (FileReplaced (S.state files.old) (S.state files.new) file.now new_name.now text.now) }
+    ensures leaves { S.tells → IfErr result (ErrorLeaves (S.state files.old) (S.state files.new) file.now new_name.now text.now) }
     ensures cause { S.tells → OnErr result (HasFailed (S.state files.new)) }
 {
     match prepare(files, file, new_name, text) {
@@ -122,7 +122,7 @@ fn claim<S: FileSystem>(files: &mut S, file: &str, new_name: &str) -> Result<(),
 // Removes the new file after a failure.
 fn withdrawn<S: FileSystem>(files: &mut S, new_name: &str) -> ReplaceError
     ensures aside { S.tells → Aside (S.state files.old) (S.state files.new) new_name.now }
-    ensures how { S.tells → Withdrawn (S.state files.new) new_name.now result }
+    ensures how { S.tells → NewFileWithdrawn (S.state files.new) new_name.now result }
 {
     match files.remove(new_name) {
         Ok(()) => ReplaceError::Untouched,

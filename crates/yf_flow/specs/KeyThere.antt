@@ -1,7 +1,7 @@
 -- The `:` of a value after a node that began on its line, no more than so many characters before: the node is the key of a single pair.
 use Rattle.std.specs.Prelude.{ℕ, Bool, List}
 use Rattle.yf_chars.specs.declared.context.Ctx.{Ctx}
-use Rattle.yf_grammar.specs.Parser.{ColonAt}
+use Rattle.yf_grammar.specs.FlowReader.Parser.{ColonAt}
 use Rattle.yf_flow.specs.Leaves.{KeyLine}
 
 pub record KeyThere (t : List ℕ) (d : Ctx) (s : ℕ) (json : Bool) (k : ℕ) : Type 0 where

@@ -14,28 +14,28 @@ use Rattle.yf_flow.specs.declared.node.Begun.{Begun}
 use Rattle.yf_flow.specs.declared.node.Begun.TheVariants.{Leaf, Opened, Nothing, TooDeep as TooDeepAt}
 
 -- a place at an offset or after it
-pub record Place (t : List ℕ) (at p : ℕ) : Type 0 where
+pub record BoundaryFrom (t : List ℕ) (at p : ℕ) : Type 0 where
   pub boundary : IsCharBoundary t p
   pub order : at ≤ p
 
 -- of m events, those are there that begin the collection and its present entry, which begins between characters
-pub record Indexed (t : List ℕ) (m : ℕ) (f : Frame) : Type 0 where
+pub record EntryIsIn (t : List ℕ) (m : ℕ) (f : Frame) : Type 0 where
   pub event : f.event < m
   pub entry : f.entry_event < m
   pub place : IsCharBoundary t f.entry
 
 -- the same where the next event may be the one that begins the entry
-pub record Awaiting (t : List ℕ) (m : ℕ) (f : Frame) : Type 0 where
+pub record EntryIsNext (t : List ℕ) (m : ℕ) (f : Frame) : Type 0 where
   pub event : f.event < m
   pub entry : f.entry_event ≤ m
   pub place : IsCharBoundary t f.entry
 
 -- a step from an offset on, once there are m events
 abbrev pub StepReady : List ℕ → ℕ → ℕ → Frame → Step → Type 0
-StepReady t at m top (Node p) = Place t at p × Awaiting t m top
-StepReady t at m top (Entry p) = Place t at p × Awaiting t m top
-StepReady t at m top (Ended node) = Place t at node.end × Indexed t m top
-StepReady t at m top (Done node) = Place t at node.end
+StepReady t at m top (Node p) = BoundaryFrom t at p × EntryIsNext t m top
+StepReady t at m top (Entry p) = BoundaryFrom t at p × EntryIsNext t m top
+StepReady t at m top (Ended node) = BoundaryFrom t at node.end × EntryIsIn t m top
+StepReady t at m top (Done node) = BoundaryFrom t at node.end
 StepReady t at m top Failed = Unit {0}
 StepReady t at m top (TooDeep p) = IsCharBoundary t p
 
@@ -50,14 +50,14 @@ left n (TooDeep p) = 0
 
 -- what was found where a node is awaited, which has made k events of m
 abbrev pub BegunAt : List ℕ → ℕ → ℕ → ℕ → Begun → Type 0
-BegunAt t at m k (Leaf node) = Place t (at + 1) node.end × m < k
-BegunAt t at m k (Opened f) = Place t (at + 1) f.entry × Awaiting t k f × m < k
+BegunAt t at m k (Leaf node) = BoundaryFrom t (at + 1) node.end × m < k
+BegunAt t at m k (Opened f) = BoundaryFrom t (at + 1) f.entry × EntryIsNext t k f × m < k
 BegunAt t at m k Nothing = Unit {0}
 BegunAt t at m k (TooDeepAt p) = IsCharBoundary t p
 
 -- how a node ends: at an offset or after it
 abbrev pub EndingAt : List ℕ → ℕ → Ending → Type 0
-EndingAt t at (End node) = Place t at node.end
+EndingAt t at (End node) = BoundaryFrom t at node.end
 EndingAt t at NoEnd = Unit {0}
 EndingAt t at (TooDeepThere p) = IsCharBoundary t p
 

@@ -5,17 +5,17 @@ use Rattle.std.specs.Str.{IsCharBoundary}
 use Rattle.yf_chars.specs.declared.context.Ctx.{Ctx}
 use Rattle.yf_lines.specs.Basic.{is_block}
 use Rattle.yf_events.specs.declared.part.Part.{Part}
-use Rattle.yf_grammar.specs.Grammar.{in_flow}
-use Rattle.yf_grammar.specs.Meaning.{Meaning}
-use Rattle.yf_grammar.specs.Parser.{Found, ANode, Parses}
+use Rattle.yf_grammar.specs.Productions.Grammar.{in_flow}
+use Rattle.yf_grammar.specs.Productions.Meaning.{Meaning}
+use Rattle.yf_grammar.specs.FlowReader.Parser.{ParsedNode, ANode, Parses}
 use Rattle.yf_flow.specs.declared.nodes.Ending.{Ending}
 use Rattle.yf_flow.specs.declared.nodes.Ending.TheVariants.{End, Nothing as NoEnd, TooDeep as TooDeepThere}
-use Rattle.yf_flow.specs.declared.nodes.Outcome.{Outcome}
-use Rattle.yf_flow.specs.declared.nodes.Outcome.TheVariants.{Found as NodeThere, Nothing as NoNode, TooDeep as TooDeepHere}
-use Rattle.yf_flow.specs.Counted.{openers_from}
-use Rattle.yf_flow.specs.Machine.{Place}
-use Rattle.yf_flow.specs.NodeRead.{NodeRead, NodeLost}
-use Rattle.yf_flow.specs.Tied.{Written}
+use Rattle.yf_flow.specs.declared.nodes.FlowOutcome.{FlowOutcome}
+use Rattle.yf_flow.specs.declared.nodes.FlowOutcome.TheVariants.{Found as NodeThere, Nothing as NoNode, TooDeep as TooDeepHere}
+use Rattle.yf_flow.specs.Depth.{openers_from}
+use Rattle.yf_flow.specs.Machine.{BoundaryFrom}
+use Rattle.yf_flow.specs.ReadNodes.{NodeRead, NodeLost}
+use Rattle.yf_flow.specs.StackMeaning.{PartSoFar}
 
 -- the context within the collections of a node
 pub record InnerContext (c d : Ctx) : Type 0 where
@@ -32,18 +32,18 @@ NodeEnds t n c limit i w part (TooDeepThere p) = NodeLost t limit n c i
 
 -- the node, which ends there, and its part
 pub record NodeFound (t : List ℕ) (n : ℤ) (c : Ctx) (limit i : ℕ) (part : Part) (end : ℕ) : Type 0 where
-  pub answer : Found
+  pub answer : ParsedNode
   pub parsed : Parses t limit (ANode n c i) (Some answer)
   pub ends : end ≡ answer.end
-  pub written : Written t 0 answer.meaning part
+  pub written : PartSoFar t 0 answer.meaning part
 
-abbrev pub NodeAnswers : List ℕ → ℤ → Ctx → ℕ → ℕ → Part → Outcome → Type 0
+abbrev pub NodeAnswers : List ℕ → ℤ → Ctx → ℕ → ℕ → Part → FlowOutcome → Type 0
 NodeAnswers t n c limit i part (NodeThere end) = NodeFound t n c limit i part end
 NodeAnswers t n c limit i part NoNode = Parses t limit (ANode n c i) None
 NodeAnswers t n c limit i part (TooDeepHere p) = Parses t limit (ANode n c i) None × (limit < openers_from t i)
 
 -- the places of what was found
-abbrev pub OutcomeAt : List ℕ → ℕ → Outcome → Type 0
-OutcomeAt t at (NodeThere end) = Place t (at + 1) end
+abbrev pub OutcomeAt : List ℕ → ℕ → FlowOutcome → Type 0
+OutcomeAt t at (NodeThere end) = BoundaryFrom t (at + 1) end
 OutcomeAt t at NoNode = Unit {0}
 OutcomeAt t at (TooDeepHere p) = IsCharBoundary t p

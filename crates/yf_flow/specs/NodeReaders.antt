@@ -7,7 +7,7 @@ use Rattle.yf_lines.specs.FaultPlaces.{IsFirstPlace}
 use Rattle.yf_lines.specs.declared.fault.Fault.{Fault}
 use Rattle.yf_events.specs.declared.part.Part.{Part}
 use Rattle.yf_events.specs.declared.reading.TheConstants.{DEPTH}
-use Rattle.yf_grammar.specs.Part.{FlowNodePart, KeyPart}
+use Rattle.yf_grammar.specs.Productions.ReadParts.{FlowNodePart, KeyPart}
 use Rattle.yf_grammar.specs.Refusal.{NodeFault, ScanFault}
 use Rattle.yf_flow.specs.declared.flow.NodePart.{NodePart}
 use Rattle.yf_flow.specs.declared.flow.ScannedPart.{ScannedPart}

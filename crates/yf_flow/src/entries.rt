@@ -5,18 +5,18 @@ ghost use Rattle.std.specs.List.{All};
 ghost use Rattle.std.specs.Str.{IsCharBoundary};
 ghost use Rattle.yf_chars.specs.Text.{code};
 ghost use Rattle.yf_events.specs.Event.{placed_value};
-ghost use Rattle.yf_flow.specs.EntryBegun.{EntryBegun};
-ghost use Rattle.yf_flow.specs.Beginning.{AtQuestioned, Questioned};
-ghost use Rattle.yf_flow.specs.Machine.{Awaiting, Place, left};
-ghost use Rattle.yf_flow.specs.Stepped.{At, InMapping, Leads, QuestionRoom, ReaderCounted, ReaderTied, Ready, Room, SceneRead, Standing};
-ghost use Rattle.yf_flow.specs.Tied.{AtEntry, AtNode, Base, EntryNoted, NotedEvent, pair_event};
+ghost use Rattle.yf_flow.specs.EntryOfRole.{EntryBegun};
+ghost use Rattle.yf_flow.specs.EntryStarts.{AtQuestioned, QuestionMark};
+ghost use Rattle.yf_flow.specs.Machine.{EntryIsNext, BoundaryFrom, left};
+ghost use Rattle.yf_flow.specs.StepContract.{At, InMapping, StepLeads, QuestionRoom, ReaderCounted, ReaderTied, Ready, Room, SceneRead, IsReaderReady};
+ghost use Rattle.yf_flow.specs.StackMeaning.{AtEntry, AtNode, Base, EntryNoted, NoteFilled, pair_event};
 
-use crate::frame::{Frame, Kind, Reader, Role, Scene, Spot, Step};
+use crate::frame::{CollectionKind, FlowContext, FlowCursor, FlowReader, Frame, Role, Step};
 use crate::gap::read_gap;
-use crate::look::{closes, colon_stands, entry_ends, is_blank_before_entry};
+use crate::look::{closes, entry_ends, is_blank_before_entry, is_colon_at};
 use crate::node::{Begun, begin_node, empty_node};
 use std::alloc::{AllocError, Global};
-use yf_chars::text::stands;
+use yf_chars::text::is_char_at;
 use yf_events::comments::Comments;
 use yf_events::event::{Entry, NewEvent, PlacedEvent, Span};
 use yf_events::slices::Slices;
@@ -45,7 +45,7 @@ pub(crate) fn entry_at(text: &str, start: usize, colon: Option<usize>) -> Entry
 
 /// The event that begins a single pair. Where the pair ends is noted once it has been read.
 pub(crate) fn pair_start<'a>(alloc: Global, text: &str, start: usize) -> PlacedEvent<'a>
-    ensures { code text.now start ≢ 10 → NotedEvent text.now (pair_event start) (placed_value result) }
+    ensures { code text.now start ≢ 10 → NoteFilled text.now (pair_event start) (placed_value result) }
 {
     PlacedEvent {
         event: NewEvent::MapStart {
@@ -62,18 +62,18 @@ pub(crate) fn pair_start<'a>(alloc: Global, text: &str, start: usize) -> PlacedE
     }
 }
 
-// The `?` of an entry at the offset and the separation after it, if both stand there: where that ends.
+// The `?` of an entry at the offset and the separation after it, if both are there: where that ends.
 fn read_question<'a>(
     alloc: Global,
-    scene: Scene<'a>,
+    scene: FlowContext<'a>,
     at: usize,
     comments: &mut Comments<'a>,
 ) -> Result<Option<usize>, AllocError>
     requires { IsCharBoundary scene.text.now at }
-    ensures place { IfOk result (λ o. IfSome o (λ end. Place scene.entry.text.now (at + 1) end)) }
-    ensures reads { IfOk result (λ o. Questioned scene.entry.text.now scene.entry.indentation scene.entry.context at comments.old comments.new o) }
+    ensures place { IfOk result (λ o. IfSome o (λ end. BoundaryFrom scene.entry.text.now (at + 1) end)) }
+    ensures reads { IfOk result (λ o. QuestionMark scene.entry.text.now scene.entry.indentation scene.entry.context at comments.old comments.new o) }
 {
-    if stands(scene.text, at, b'?') {
+    if is_char_at(scene.text, at, b'?') {
         let gap = read_gap(alloc, scene, at + 1, comments)?;
         if gap.is_separation {
             return Ok(Some(gap.end));
@@ -83,10 +83,14 @@ fn read_question<'a>(
     Ok(None)
 }
 
-impl<'a> Reader<'a> {
+impl<'a> FlowReader<'a> {
     /// Begins the node that is awaited at the offset.
-    pub(crate) fn take_node(&mut self, scene: Scene<'a>, at: usize) -> Result<Step, AllocError>
-        requires standing { Standing Awaiting scene.text.now at self.old }
+    pub(crate) fn take_node(
+        &mut self,
+        scene: FlowContext<'a>,
+        at: usize,
+    ) -> Result<Step, AllocError>
+        requires standing { IsReaderReady EntryIsNext scene.text.now at self.old }
         requires escapes { All (IsCharBoundary scene.text.now) self.old.part.escapes }
         ensures tied { (base : Base) → SceneRead scene.entry base → At AtNode scene.entry self.old at base → IfOk result (ReaderTied scene.entry base self.new) }
         ensures counted { (total : ℕ) → Room scene.entry self.old at total → IfOk result (ReaderCounted scene.entry total self.new) }
@@ -95,7 +99,7 @@ impl<'a> Reader<'a> {
         ensures escapes { IfOk result (λ _. All (IsCharBoundary scene.entry.text.now) self.new.part.escapes) }
     {
         let entry = entry_begun(scene.text, self.top);
-        let spot = Spot {
+        let spot = FlowCursor {
             alloc: self.alloc,
             scene,
             at,
@@ -115,9 +119,13 @@ impl<'a> Reader<'a> {
 
     /// Begins the entry that is awaited, or closes the collection (ns-s-flow-seq-entries, production 138;
     /// ns-s-flow-map-entries, production 141).
-    pub(crate) fn start_entry(&mut self, scene: Scene<'a>, at: usize) -> Result<Step, AllocError>
-        requires { Standing Awaiting scene.text.now at self.old }
-        ensures { IfOk result (Leads (At AtEntry scene.entry self.old at) (Room scene.entry self.old at) scene.entry at self.old self.new) }
+    pub(crate) fn start_entry(
+        &mut self,
+        scene: FlowContext<'a>,
+        at: usize,
+    ) -> Result<Step, AllocError>
+        requires { IsReaderReady EntryIsNext scene.text.now at self.old }
+        ensures { IfOk result (StepLeads (At AtEntry scene.entry self.old at) (Room scene.entry self.old at) scene.entry at self.old self.new) }
     {
         let place = read_gap(self.alloc, scene, at, &mut self.part.comments)?.end;
         if closes(scene.text, place, self.top.kind) {
@@ -128,7 +136,7 @@ impl<'a> Reader<'a> {
             Some(end) => return self.explicit_entry(scene, end),
             None => {}
         }
-        if colon_stands(scene, place, false) {
+        if is_colon_at(scene, place, false) {
             if self.in_mapping(scene)? {
                 return self.keyless_value(scene, place);
             }
@@ -137,10 +145,10 @@ impl<'a> Reader<'a> {
         Ok(Step::Node(place))
     }
 
-    // What stands after the `?` of an entry and its separation (ns-flow-map-explicit-entry, production 143).
-    fn explicit_entry(&mut self, scene: Scene<'a>, at: usize) -> Result<Step, AllocError>
-        requires { Standing Awaiting scene.text.now at self.old }
-        ensures { IfOk result (Leads (At AtQuestioned scene.entry self.old at) (QuestionRoom scene.entry self.old at) scene.entry at self.old self.new) }
+    // What is after the `?` of an entry and its separation (ns-flow-map-explicit-entry, production 143).
+    fn explicit_entry(&mut self, scene: FlowContext<'a>, at: usize) -> Result<Step, AllocError>
+        requires { IsReaderReady EntryIsNext scene.text.now at self.old }
+        ensures { IfOk result (StepLeads (At AtQuestioned scene.entry self.old at) (QuestionRoom scene.entry self.old at) scene.entry at self.old self.new) }
     {
         if self.in_mapping(scene)? {
             if entry_ends(scene.text, at) {
@@ -149,7 +157,7 @@ impl<'a> Reader<'a> {
                 self.part.events.push(empty_node(self.alloc, None))?;
                 return self.end_entry(scene, self.top.entry + 1, at);
             }
-            if colon_stands(scene, at, false) {
+            if is_colon_at(scene, at, false) {
                 return self.keyless_value(scene, at);
             }
             return Ok(Step::Node(at));
@@ -159,14 +167,14 @@ impl<'a> Reader<'a> {
 
     // Goes over to the mapping that an entry with `?` or `:` belongs to: in a sequence that is a single pair, which begins
     // with the entry. Whether it may be opened.
-    fn in_mapping(&mut self, scene: Scene<'a>) -> Result<bool, AllocError>
-        requires { Standing Awaiting scene.text.now self.old.top.entry self.old }
+    fn in_mapping(&mut self, scene: FlowContext<'a>) -> Result<bool, AllocError>
+        requires { IsReaderReady EntryIsNext scene.text.now self.old.top.entry self.old }
         ensures { IfOk result (InMapping scene.entry self.old self.new) }
     {
         match self.top.kind {
-            Kind::Mapping => Ok(true),
-            Kind::Pair => Ok(true),
-            Kind::Sequence => {
+            CollectionKind::Mapping => Ok(true),
+            CollectionKind::Pair => Ok(true),
+            CollectionKind::Sequence => {
                 if self.top.depth >= scene.limit {
                     return Ok(false);
                 }
@@ -175,7 +183,7 @@ impl<'a> Reader<'a> {
                 self.part.events.push(start)?;
                 self.below.push(self.top)?;
                 self.top = Frame {
-                    kind: Kind::Pair,
+                    kind: CollectionKind::Pair,
                     depth: self.top.depth + 1,
                     deepest: self.top.depth + 1,
                     event,

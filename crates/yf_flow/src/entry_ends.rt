@@ -3,40 +3,44 @@
 //! Each step leads on to a later place of the text, and none goes back.
 ghost use Rattle.std.specs.Prelude.{◌≡◌, ◌+◌, IfOk};
 ghost use Rattle.yf_events.specs.Event.{new_event_value};
-ghost use Rattle.yf_flow.specs.Ending.{AtEntryDoneFrom, AtKeyEnd, AtPairKey, AtValueOf};
-ghost use Rattle.yf_flow.specs.Beginning.{AtLone};
-ghost use Rattle.yf_flow.specs.Machine.{Awaiting, Indexed};
-ghost use Rattle.yf_flow.specs.Stepped.{At, EventThere, Leads, NodeRoom, PairRoom, Room, Standing};
-ghost use Rattle.yf_flow.specs.Tied.{AtClosing, AtEnded, AtEntryEnd, end_event};
+ghost use Rattle.yf_flow.specs.AfterNode.{AtEntryDoneFrom, AtKeyEnd, AtPairKey, AtValueOf};
+ghost use Rattle.yf_flow.specs.EntryStarts.{AtLone};
+ghost use Rattle.yf_flow.specs.Machine.{EntryIsNext, EntryIsIn};
+ghost use Rattle.yf_flow.specs.StepContract.{At, EventThere, StepLeads, NodeRoom, PairRoom, Room, IsReaderReady};
+ghost use Rattle.yf_flow.specs.StackMeaning.{AtClosing, AtEnded, AtEntryEnd, end_event};
 
 use crate::entries::{entry_at, pair_start};
-use crate::frame::{Frame, Kind, Node, Reader, Role, Scene, Step};
+use crate::frame::{CollectionKind, FlowContext, FlowReader, Frame, Node, Role, Step};
 use crate::gap::read_gap;
-use crate::look::{closes, colon_stands, entry_ends, is_pair_key};
+use crate::look::{closes, entry_ends, is_colon_at, is_pair_key};
 use crate::node::{empty_node, unplaced};
 use std::alloc::AllocError;
-use yf_chars::text::stands;
+use yf_chars::text::is_char_at;
 use yf_events::event::NewEvent;
 use yf_lines::basic::skip_whites;
 
 // The event that ends a collection.
-#[tactic(auto, unfolding(crate::specs::Tied::end_event))]
-fn collection_end<'a>(kind: Kind) -> NewEvent<'a>
+#[tactic(auto, unfolding(crate::specs::StackMeaning::end_event))]
+fn collection_end<'a>(kind: CollectionKind) -> NewEvent<'a>
     ensures { new_event_value result ≡ end_event kind }
 {
     match kind {
-        Kind::Sequence => NewEvent::SeqEnd,
-        Kind::Mapping => NewEvent::MapEnd,
-        Kind::Pair => NewEvent::MapEnd,
+        CollectionKind::Sequence => NewEvent::SeqEnd,
+        CollectionKind::Mapping => NewEvent::MapEnd,
+        CollectionKind::Pair => NewEvent::MapEnd,
     }
 }
 
-impl<'a> Reader<'a> {
+impl<'a> FlowReader<'a> {
     /// Goes on after a node of the collection. Where a `:` follows an item of a sequence on its line, the item is the key of a
     /// single pair (ns-flow-pair-entry, production 151).
-    pub(crate) fn finish_node(&mut self, scene: Scene<'a>, node: Node) -> Result<Step, AllocError>
-        requires { Standing Indexed scene.text.now node.end self.old }
-        ensures { IfOk result (Leads (At AtEnded scene.entry self.old node) (NodeRoom scene.entry self.old node) scene.entry node.end self.old self.new) }
+    pub(crate) fn finish_node(
+        &mut self,
+        scene: FlowContext<'a>,
+        node: Node,
+    ) -> Result<Step, AllocError>
+        requires { IsReaderReady EntryIsIn scene.text.now node.end self.old }
+        ensures { IfOk result (StepLeads (At AtEnded scene.entry self.old node) (NodeRoom scene.entry self.old node) scene.entry node.end self.old self.new) }
     {
         match self.top.role {
             Role::Item => {
@@ -49,7 +53,7 @@ impl<'a> Reader<'a> {
             }
             Role::Key => {
                 self.top = self.top.reaching(node.deepest);
-                self.behind_key(scene, node)
+                self.after_key(scene, node)
             }
             Role::Value => {
                 self.top = self.top.reaching(node.deepest);
@@ -58,10 +62,15 @@ impl<'a> Reader<'a> {
         }
     }
 
-    // The item that was read last becomes the key of a single pair, whose `:` stands at the offset.
-    fn pair_of_key(&mut self, scene: Scene<'a>, node: Node, at: usize) -> Result<Step, AllocError>
-        requires { Standing Indexed scene.text.now (at + 1) self.old }
-        ensures { IfOk result (Leads (At (AtPairKey node) scene.entry self.old at) (PairRoom scene.entry self.old node at) scene.entry at self.old self.new) }
+    // The item that was read last becomes the key of a single pair, whose `:` is at the offset.
+    fn pair_of_key(
+        &mut self,
+        scene: FlowContext<'a>,
+        node: Node,
+        at: usize,
+    ) -> Result<Step, AllocError>
+        requires { IsReaderReady EntryIsIn scene.text.now (at + 1) self.old }
+        ensures { IfOk result (StepLeads (At (AtPairKey node) scene.entry self.old at) (PairRoom scene.entry self.old node at) scene.entry at self.old self.new) }
     {
         let deepest = self.top.depth.max(node.deepest);
         if deepest >= scene.limit {
@@ -72,7 +81,7 @@ impl<'a> Reader<'a> {
         let start = pair_start(self.alloc, scene.text, self.top.entry);
         self.part.events.insert(event, start)?;
         let pair = Frame {
-            kind: Kind::Pair,
+            kind: CollectionKind::Pair,
             role: Role::Value,
             depth: self.top.depth + 1,
             deepest: deepest + 1,
@@ -85,12 +94,12 @@ impl<'a> Reader<'a> {
     }
 
     // After the key of an entry of a mapping, or of a single pair with `?`.
-    fn behind_key(&mut self, scene: Scene<'a>, node: Node) -> Result<Step, AllocError>
-        requires { Standing Indexed scene.text.now node.end self.old }
-        ensures { IfOk result (Leads (At AtKeyEnd scene.entry self.old node) (Room scene.entry self.old node.end) scene.entry node.end self.old self.new) }
+    fn after_key(&mut self, scene: FlowContext<'a>, node: Node) -> Result<Step, AllocError>
+        requires { IsReaderReady EntryIsIn scene.text.now node.end self.old }
+        ensures { IfOk result (StepLeads (At AtKeyEnd scene.entry self.old node) (Room scene.entry self.old node.end) scene.entry node.end self.old self.new) }
     {
         let place = read_gap(self.alloc, scene, node.end, &mut self.part.comments)?.end;
-        if colon_stands(scene, place, node.json) {
+        if is_colon_at(scene, place, node.json) {
             self.part.events.set_colon(self.top.entry_event, place)?;
             return self.await_value(scene, place, node.json);
         }
@@ -99,21 +108,30 @@ impl<'a> Reader<'a> {
     }
 
     /// The empty key of an entry, and its value from the `:` on (c-ns-flow-map-empty-key-entry, production 146).
-    pub(crate) fn keyless_value(&mut self, scene: Scene<'a>, at: usize) -> Result<Step, AllocError>
-        requires { Standing Awaiting scene.text.now (at + 1) self.old }
-        ensures { IfOk result (Leads (At AtLone scene.entry self.old at) (Room scene.entry self.old (at + 1)) scene.entry at self.old self.new) }
+    pub(crate) fn keyless_value(
+        &mut self,
+        scene: FlowContext<'a>,
+        at: usize,
+    ) -> Result<Step, AllocError>
+        requires { IsReaderReady EntryIsNext scene.text.now (at + 1) self.old }
+        ensures { IfOk result (StepLeads (At AtLone scene.entry self.old at) (Room scene.entry self.old (at + 1)) scene.entry at self.old self.new) }
     {
         let entry = entry_at(scene.text, self.top.entry, Some(at));
         self.part.events.push(empty_node(self.alloc, Some(entry)))?;
         self.await_value(scene, at, false)
     }
 
-    // What stands after the `:` at an offset: a node, or nothing. After a key that is not like JSON's, separation must
+    // What is after the `:` at an offset: a node, or nothing. After a key that is not like JSON's, separation must
     // come before the node (c-ns-flow-map-separate-value, production 147; c-ns-flow-map-adjacent-value, production 149).
     #[inline(always)]
-    fn await_value(&mut self, scene: Scene<'a>, at: usize, json: bool) -> Result<Step, AllocError>
-        requires { Standing Indexed scene.text.now (at + 1) self.old }
-        ensures { IfOk result (Leads (At (AtValueOf json) scene.entry self.old at) (Room scene.entry self.old (at + 1)) scene.entry at self.old self.new) }
+    fn await_value(
+        &mut self,
+        scene: FlowContext<'a>,
+        at: usize,
+        json: bool,
+    ) -> Result<Step, AllocError>
+        requires { IsReaderReady EntryIsIn scene.text.now (at + 1) self.old }
+        ensures { IfOk result (StepLeads (At (AtValueOf json) scene.entry self.old at) (Room scene.entry self.old (at + 1)) scene.entry at self.old self.new) }
     {
         let gap = read_gap(self.alloc, scene, at + 1, &mut self.part.comments)?;
         if entry_ends(scene.text, gap.end) {
@@ -135,12 +153,12 @@ impl<'a> Reader<'a> {
     #[inline(always)]
     pub(crate) fn end_entry(
         &mut self,
-        scene: Scene<'a>,
+        scene: FlowContext<'a>,
         finish: usize,
         at: usize,
     ) -> Result<Step, AllocError>
-        requires { Standing Indexed scene.text.now at self.old }
-        ensures { IfOk result (Leads (At (AtEntryDoneFrom finish) scene.entry self.old at) (Room scene.entry self.old at) scene.entry at self.old self.new) }
+        requires { IsReaderReady EntryIsIn scene.text.now at self.old }
+        ensures { IfOk result (StepLeads (At (AtEntryDoneFrom finish) scene.entry self.old at) (Room scene.entry self.old at) scene.entry at self.old self.new) }
     {
         if self.top.kind.is_pair() {
             self.part
@@ -160,12 +178,12 @@ impl<'a> Reader<'a> {
 
     // After an entry: a comma, or the bracket that closes the collection.
     #[inline(always)]
-    fn after_entry(&mut self, scene: Scene<'a>, at: usize) -> Result<Step, AllocError>
-        requires { Standing Indexed scene.text.now at self.old }
-        ensures { IfOk result (Leads (At AtEntryEnd scene.entry self.old at) (Room scene.entry self.old at) scene.entry at self.old self.new) }
+    fn after_entry(&mut self, scene: FlowContext<'a>, at: usize) -> Result<Step, AllocError>
+        requires { IsReaderReady EntryIsIn scene.text.now at self.old }
+        ensures { IfOk result (StepLeads (At AtEntryEnd scene.entry self.old at) (Room scene.entry self.old at) scene.entry at self.old self.new) }
     {
         let place = read_gap(self.alloc, scene, at, &mut self.part.comments)?.end;
-        if stands(scene.text, place, b',') {
+        if is_char_at(scene.text, place, b',') {
             return Ok(Step::Entry(place + 1));
         }
         if closes(scene.text, place, self.top.kind) {
@@ -176,9 +194,9 @@ impl<'a> Reader<'a> {
 
     /// Closes the collection by the bracket at an offset.
     #[inline(always)]
-    pub(crate) fn close(&mut self, scene: Scene<'a>, at: usize) -> Result<Step, AllocError>
-        requires { Standing EventThere scene.text.now (at + 1) self.old }
-        ensures { IfOk result (Leads (At AtClosing scene.entry self.old at) (Room scene.entry self.old at) scene.entry at self.old self.new) }
+    pub(crate) fn close(&mut self, scene: FlowContext<'a>, at: usize) -> Result<Step, AllocError>
+        requires { IsReaderReady EventThere scene.text.now (at + 1) self.old }
+        ensures { IfOk result (StepLeads (At AtClosing scene.entry self.old at) (Room scene.entry self.old at) scene.entry at self.old self.new) }
     {
         let end = unplaced(self.alloc, collection_end(self.top.kind), None);
         self.part.events.push(end)?;

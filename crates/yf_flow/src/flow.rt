@@ -4,20 +4,21 @@ ghost use Rattle.std.specs.List.{All};
 ghost use Rattle.std.specs.Str.{IsCharBoundary};
 ghost use Rattle.yf_lines.specs.Basic.{is_block};
 ghost use Rattle.yf_lines.specs.FaultPlaces.{IsFirstPlace};
-ghost use Rattle.yf_flow.specs.Machine.{IsReadFault, IsScanFault, Place};
+ghost use Rattle.yf_flow.specs.Machine.{IsReadFault, IsScanFault, BoundaryFrom};
 ghost use Rattle.yf_flow.specs.NodeReaders.{ReadsFlowNode, ReadsKey, ScansFlowNode, ScansKey};
 
-use crate::frame::Scene;
-use crate::nodes::{Outcome, new_part, read_node};
+use crate::frame::FlowContext;
+use crate::nodes::{FlowOutcome, new_part, read_node};
 use std::alloc::{AllocError, Global};
 use std::mem::drop;
 use yf_chars::context::Ctx;
 use yf_events::part::Part;
 use yf_events::reading::DEPTH;
+use yf_lines::contexts::is_block;
 use yf_lines::fault::Fault;
-use yf_lines::place::Place as SourcePlace;
+use yf_lines::place::Position as SourcePlace;
 use yf_lines::source_text::Src;
-use yf_quoted::gap::is_block;
+use yf_lines::text::ReadResult;
 
 /// A node that was read, and the byte offset after it.
 #[derive(Drop)]
@@ -34,26 +35,29 @@ pub struct ScannedPart<'a> {
     pub end: usize,
 }
 
-/// What the readers of nodes answer: the node, `None` where none is derived, or a refusal.
-pub type Answer<'a> = Result<Option<NodePart<'a>>, Fault>;
-
-/// What they answer where they go on past escapes.
-pub type Scanned<'a> = Result<Option<ScannedPart<'a>>, Fault>;
+/// What the readers of nodes answer where they go on past escapes.
+pub type ScanResult<'a> = ReadResult<ScannedPart<'a>>;
 
 /// Reads the longest flow node (ns-flow-node(n,c), production 161) from a byte offset on: its events and comments, each with
 /// its place, and the offset after it. `n` is the indentation, from -1. No more than `DEPTH` collections are open in it at
 /// once, a single pair counted as one, and it covers no document marker.
 ///
-/// `None` where no such node is derived there in that context. In the two block contexts, in which no flow node stands, it is
+/// `None` where no such node is derived there in that context. In the two block contexts, in which no flow node is, it is
 /// always `None`.
 ///
 /// # Errors
 ///
-/// `Fault::TooDeep` where no such node is derived there, and more than `DEPTH` openers of collections stand from there on;
+/// `Fault::TooDeep` where no such node is derived there, and more than `DEPTH` openers of collections are from there on;
 /// `Fault::EscapeValue` at the first escape in the node that is no character; `Fault::Memory`.
-pub fn read_flow_node<'a>(alloc: Global, src: &Src<'a>, at: usize, n: i32, ctx: Ctx) -> Answer<'a>
+pub fn read_flow_node<'a>(
+    alloc: Global,
+    src: &Src<'a>,
+    at: usize,
+    n: i32,
+    ctx: Ctx,
+) -> ReadResult<NodePart<'a>>
     requires { IsCharBoundary src.now.text at }
-    ensures place { MatchResult result (λ o. IfSome o (λ p. Place src.now.text (at + 1) p.end)) (IsReadFault src.now.text) }
+    ensures place { MatchResult result (λ o. IfSome o (λ p. BoundaryFrom src.now.text (at + 1) p.end)) (IsReadFault src.now.text) }
     ensures escapes { IfOk result (λ o. IfSome o (λ p. p.part.escapes ≡ [])) }
     ensures reads { ReadsFlowNode src.now.text n ctx at result }
     ensures block { is_block ctx ≡ true → result ≡ Ok None }
@@ -76,9 +80,15 @@ pub fn read_flow_node<'a>(alloc: Global, src: &Src<'a>, at: usize, n: i32, ctx: 
 /// # Errors
 ///
 /// `Fault::TooDeep` and `Fault::Memory`, as `read_flow_node` does.
-pub fn scan_flow_node<'a>(alloc: Global, src: &Src<'a>, at: usize, n: i32, ctx: Ctx) -> Scanned<'a>
+pub fn scan_flow_node<'a>(
+    alloc: Global,
+    src: &Src<'a>,
+    at: usize,
+    n: i32,
+    ctx: Ctx,
+) -> ScanResult<'a>
     requires { IsCharBoundary src.now.text at }
-    ensures place { MatchResult result (λ o. IfSome o (λ p. Place src.now.text (at + 1) p.end)) (IsScanFault src.now.text) }
+    ensures place { MatchResult result (λ o. IfSome o (λ p. BoundaryFrom src.now.text (at + 1) p.end)) (IsScanFault src.now.text) }
     ensures escapes { IfOk result (λ o. IfSome o (λ p. IsFirstPlace src.now.text p.part.escapes p.escape)) }
     ensures reads { ScansFlowNode src.now.text n ctx at result }
     ensures block { is_block ctx ≡ true → result ≡ Ok None }
@@ -86,7 +96,7 @@ pub fn scan_flow_node<'a>(alloc: Global, src: &Src<'a>, at: usize, n: i32, ctx: 
     if is_block(ctx) {
         return Ok(None);
     }
-    let scene = Scene {
+    let scene = FlowContext {
         text: src.text(),
         indentation: n,
         context: ctx,
@@ -94,15 +104,15 @@ pub fn scan_flow_node<'a>(alloc: Global, src: &Src<'a>, at: usize, n: i32, ctx: 
     };
     let mut part = new_part(alloc);
     match read_node(alloc, scene, at, &mut part) {
-        Ok(Outcome::Found(end)) => {
+        Ok(FlowOutcome::Found(end)) => {
             let escape = first_escape(src, &part);
             Ok(Some(ScannedPart { part, escape, end }))
         }
-        Ok(Outcome::Nothing) => {
+        Ok(FlowOutcome::Nothing) => {
             drop(part);
             Ok(None)
         }
-        Ok(Outcome::TooDeep(offset)) => {
+        Ok(FlowOutcome::TooDeep(offset)) => {
             drop(part);
             let place = src.place(offset);
             Err(Fault::TooDeep { place })
@@ -128,15 +138,20 @@ pub fn first_escape(src: &Src, part: &Part) -> Option<SourcePlace>
 /// Reads the longest node of an implicit key (ns-s-implicit-yaml-key(c), production 154; c-s-implicit-json-key(c), production
 /// 155), without the white space after it, from a byte offset on.
 ///
-/// In a key context it stands on one line. How many characters it has is for the caller to count. `None` where no such node is
+/// In a key context it is on one line. How many characters it has is for the caller to count. `None` where no such node is
 /// derived there, and always in the two block contexts.
 ///
 /// # Errors
 ///
 /// As `read_flow_node`.
-pub fn read_implicit_key<'a>(alloc: Global, src: &Src<'a>, at: usize, ctx: Ctx) -> Answer<'a>
+pub fn read_implicit_key<'a>(
+    alloc: Global,
+    src: &Src<'a>,
+    at: usize,
+    ctx: Ctx,
+) -> ReadResult<NodePart<'a>>
     requires { IsCharBoundary src.now.text at }
-    ensures place { MatchResult result (λ o. IfSome o (λ p. Place src.now.text (at + 1) p.end)) (IsReadFault src.now.text) }
+    ensures place { MatchResult result (λ o. IfSome o (λ p. BoundaryFrom src.now.text (at + 1) p.end)) (IsReadFault src.now.text) }
     ensures escapes { IfOk result (λ o. IfSome o (λ p. p.part.escapes ≡ [])) }
     ensures reads { ReadsKey src.now.text ctx at result }
     ensures block { is_block ctx ≡ true → result ≡ Ok None }
@@ -149,9 +164,9 @@ pub fn read_implicit_key<'a>(alloc: Global, src: &Src<'a>, at: usize, ctx: Ctx) 
 /// # Errors
 ///
 /// `Fault::TooDeep` and `Fault::Memory`, as `read_flow_node` does.
-pub fn scan_implicit_key<'a>(alloc: Global, src: &Src<'a>, at: usize, ctx: Ctx) -> Scanned<'a>
+pub fn scan_implicit_key<'a>(alloc: Global, src: &Src<'a>, at: usize, ctx: Ctx) -> ScanResult<'a>
     requires { IsCharBoundary src.now.text at }
-    ensures place { MatchResult result (λ o. IfSome o (λ p. Place src.now.text (at + 1) p.end)) (IsScanFault src.now.text) }
+    ensures place { MatchResult result (λ o. IfSome o (λ p. BoundaryFrom src.now.text (at + 1) p.end)) (IsScanFault src.now.text) }
     ensures escapes { IfOk result (λ o. IfSome o (λ p. IsFirstPlace src.now.text p.part.escapes p.escape)) }
     ensures reads { ScansKey src.now.text ctx at result }
     ensures block { is_block ctx ≡ true → result ≡ Ok None }

@@ -1,6 +1,6 @@
 //! The open collections of a flow node, and the steps of its reader.
 ghost use Rattle.std.specs.Prelude.{◌≡◌, max, MatchBool};
-ghost use Rattle.yf_flow.specs.Steps.{first_role};
+ghost use Rattle.yf_flow.specs.StepTerms.{first_role};
 
 use smallvec::SmallVec;
 use std::alloc::Global;
@@ -9,7 +9,7 @@ use yf_events::part::Part;
 
 /// What is read, and how: the text, its indentation and context, and how many collections may be open at once.
 #[derive(Clone, Copy)]
-pub struct Scene<'a> {
+pub struct FlowContext<'a> {
     pub text: &'a str,
     pub indentation: i32,
     pub context: Ctx,
@@ -18,23 +18,23 @@ pub struct Scene<'a> {
 
 /// Where a node is awaited: at which offset of what is read, and how many collections are open there.
 #[derive(Clone, Copy)]
-pub(crate) struct Spot<'a> {
+pub(crate) struct FlowCursor<'a> {
     pub(crate) alloc: Global,
-    pub(crate) scene: Scene<'a>,
+    pub(crate) scene: FlowContext<'a>,
     pub(crate) at: usize,
     pub(crate) depth: usize,
 }
 
 /// What an open collection is. A single pair is a mapping without brackets, in a sequence.
 #[derive(Clone, Copy, Default)]
-pub(crate) enum Kind {
+pub(crate) enum CollectionKind {
     #[default]
     Sequence,
     Mapping,
     Pair,
 }
 
-/// What a node is to the entry that it stands in.
+/// What a node is to the entry that it is in.
 #[derive(Clone, Copy, Default)]
 pub(crate) enum Role {
     /// An item of a sequence, or the key of a single pair.
@@ -47,7 +47,7 @@ pub(crate) enum Role {
 /// An open collection: what is left to do of it, once the node within it has been read.
 #[derive(Clone, Copy, Default)]
 pub(crate) struct Frame {
-    pub(crate) kind: Kind,
+    pub(crate) kind: CollectionKind,
     /// How many collections are open, this one counted.
     pub(crate) depth: usize,
     /// How many were open at once within it, at most.
@@ -92,7 +92,7 @@ pub(crate) enum Step {
 
 /// The reader of a collection: what its steps change.
 #[derive(Drop)]
-pub(crate) struct Reader<'a> {
+pub(crate) struct FlowReader<'a> {
     pub(crate) alloc: Global,
     /// The innermost open collection.
     pub(crate) top: Frame,
@@ -102,14 +102,14 @@ pub(crate) struct Reader<'a> {
     pub(crate) part: Part<'a>,
 }
 
-impl Kind {
+impl CollectionKind {
     pub(crate) fn is_pair(self) -> bool
-        ensures cases { MatchBool result (self ≡ Kind.Pair) (self ≡ Kind.Pair → ⊥) }
+        ensures cases { MatchBool result (self ≡ CollectionKind.Pair) (self ≡ CollectionKind.Pair → ⊥) }
     {
         match self {
-            Kind::Sequence => false,
-            Kind::Mapping => false,
-            Kind::Pair => true,
+            CollectionKind::Sequence => false,
+            CollectionKind::Mapping => false,
+            CollectionKind::Pair => true,
         }
     }
 }
@@ -126,8 +126,8 @@ impl Frame {
         ensures role { result.role ≡ first_role self.kind }
     {
         let role = match self.kind {
-            Kind::Sequence => Role::Item,
-            Kind::Mapping | Kind::Pair => Role::Key,
+            CollectionKind::Sequence => Role::Item,
+            CollectionKind::Mapping | CollectionKind::Pair => Role::Key,
         };
         Frame {
             entry,

@@ -1,17 +1,17 @@
 //! Separation within flow nodes, and its comments.
 ghost use Rattle.std.specs.Prelude.{IfOk};
 ghost use Rattle.std.specs.Str.{IsCharBoundary};
-ghost use Rattle.yf_flow.specs.Machine.{Place};
+ghost use Rattle.yf_flow.specs.Machine.{BoundaryFrom};
 ghost use Rattle.yf_flow.specs.Leaves.{GapRead};
 
-use crate::frame::Scene;
+use crate::frame::FlowContext;
 use std::alloc::{AllocError, Global};
 use yf_comments::separation::separate;
 use yf_events::comments::Comments;
 
-/// What stands between two parts of a flow collection: separation up to an offset, or nothing.
+/// What is between two parts of a flow collection: separation up to an offset, or nothing.
 #[derive(Clone, Copy)]
-pub(crate) struct Gap {
+pub(crate) struct FlowGap {
     pub(crate) end: usize,
     pub(crate) is_separation: bool,
 }
@@ -20,23 +20,23 @@ pub(crate) struct Gap {
 #[inline(always)]
 pub(crate) fn read_gap<'a>(
     alloc: Global,
-    scene: Scene<'a>,
+    scene: FlowContext<'a>,
     at: usize,
     comments: &mut Comments<'a>,
-) -> Result<Gap, AllocError>
+) -> Result<FlowGap, AllocError>
     requires { IsCharBoundary scene.text.now at }
-    ensures place { IfOk result (λ gap. Place scene.entry.text.now at gap.end) }
+    ensures place { IfOk result (λ gap. BoundaryFrom scene.entry.text.now at gap.end) }
     ensures reads { IfOk result (λ gap. GapRead scene.entry.text.now scene.entry.indentation scene.entry.context at comments.old comments.new gap) }
 {
     match separate(alloc, scene.text, at, scene.indentation, scene.context)? {
         Some(separation) => {
             comments.append(separation.comments)?;
-            Ok(Gap {
+            Ok(FlowGap {
                 end: separation.end,
                 is_separation: true,
             })
         }
-        None => Ok(Gap {
+        None => Ok(FlowGap {
             end: at,
             is_separation: false,
         }),

@@ -1,19 +1,19 @@
 //! Content between quotes or brackets, as JSON has it: quoted scalars, and the beginning of flow collections.
 ghost use Rattle.std.specs.Prelude.{◌≡◌, ◌+◌, true, IfOk};
 ghost use Rattle.std.specs.Str.{IsCharBoundary};
-ghost use Rattle.yf_grammar.specs.Meaning.{event_with, start_of};
+ghost use Rattle.yf_grammar.specs.Productions.Meaning.{event_with, start_of};
 ghost use Rattle.yf_props.specs.Props.{props_value};
 ghost use Rattle.yf_events.specs.Event.{new_event_value};
-ghost use Rattle.yf_grammar.specs.Parser.{begins_content};
-ghost use Rattle.yf_flow.specs.Begun.{Opens, is_sequence};
+ghost use Rattle.yf_grammar.specs.FlowReader.Parser.{begins_content};
+ghost use Rattle.yf_flow.specs.NodeStarts.{IsOpening, is_sequence};
 ghost use Rattle.yf_chars.specs.Text.{code};
-ghost use Rattle.yf_flow.specs.Spots.{Awaited, Begins, SpotContent};
+ghost use Rattle.yf_flow.specs.NodeOffsets.{NodeIsAwaited, Begins, SpotContent};
 
-use crate::frame::{Frame, Kind, Role, Spot};
+use crate::frame::{CollectionKind, FlowCursor, Frame, Role};
 use crate::leaf::{Scalar, keep_escapes};
 use crate::node::{Begun, Lead, push_leaf};
 use std::alloc::AllocError;
-use yf_chars::text::stands;
+use yf_chars::text::is_char_at;
 use yf_events::event::{NewEvent, ScalarStyle};
 use yf_events::part::Part;
 use yf_props::props::Props;
@@ -23,17 +23,17 @@ use yf_quoted::single::{Single, single_in};
 /// A quoted scalar, or the opening bracket of a flow collection (c-flow-json-content, production 157).
 #[inline(always)]
 pub(crate) fn json_content<'a>(
-    spot: &Spot<'a>,
+    spot: &FlowCursor<'a>,
     lead: &Lead<'a>,
     part: &mut Part<'a>,
 ) -> Result<Begun, AllocError>
-    requires awaited { Awaited spot.now part.old }
+    requires awaited { NodeIsAwaited spot.now part.old }
     requires content { begins_content (code spot.now.scene.text.now spot.now.at) ≡ true }
     ensures { IfOk result (Begins (SpotContent spot.now lead.now) spot.now part.old part.new) }
 {
     let alloc = spot.alloc;
     let scene = &spot.scene;
-    if stands(scene.text, spot.at, b'\'') {
+    if is_char_at(scene.text, spot.at, b'\'') {
         match single_in(alloc, scene.text, spot.at, scene.indentation, scene.context)? {
             Some(Single { text, end }) => {
                 return push_leaf(spot, lead, ScalarStyle::Single, Scalar { text, end }, part);
@@ -41,14 +41,14 @@ pub(crate) fn json_content<'a>(
             None => return Ok(Begun::Nothing),
         }
     }
-    if stands(scene.text, spot.at, b'"') {
+    if is_char_at(scene.text, spot.at, b'"') {
         return double_node(spot, lead, part);
     }
-    if stands(scene.text, spot.at, b'[') {
-        return open(spot, Kind::Sequence, lead, part);
+    if is_char_at(scene.text, spot.at, b'[') {
+        return open(spot, CollectionKind::Sequence, lead, part);
     }
-    if stands(scene.text, spot.at, b'{') {
-        return open(spot, Kind::Mapping, lead, part);
+    if is_char_at(scene.text, spot.at, b'{') {
+        return open(spot, CollectionKind::Mapping, lead, part);
     }
     Ok(Begun::Nothing)
 }
@@ -56,11 +56,11 @@ pub(crate) fn json_content<'a>(
 // A double-quoted scalar (c-double-quoted(n,c), production 109), whose escapes that are no character are kept.
 #[inline(always)]
 fn double_node<'a>(
-    spot: &Spot<'a>,
+    spot: &FlowCursor<'a>,
     lead: &Lead<'a>,
     part: &mut Part<'a>,
 ) -> Result<Begun, AllocError>
-    requires awaited { Awaited spot.now part.old }
+    requires awaited { NodeIsAwaited spot.now part.old }
     requires quote { code spot.now.scene.text.now spot.now.at ≡ 34 }
     ensures { IfOk result (Begins (SpotContent spot.now lead.now) spot.now part.old part.new) }
 {
@@ -76,27 +76,27 @@ fn double_node<'a>(
 }
 
 // The event that begins a flow collection.
-fn collection_start<'a>(kind: Kind, props: Props<'a>) -> NewEvent<'a>
+fn collection_start<'a>(kind: CollectionKind, props: Props<'a>) -> NewEvent<'a>
     ensures { new_event_value result ≡ event_with (props_value props.entry) (start_of (is_sequence kind) true) }
 {
     match kind {
-        Kind::Sequence => NewEvent::SeqStart { flow: true, props },
-        Kind::Mapping => NewEvent::MapStart { flow: true, props },
-        Kind::Pair => NewEvent::MapStart { flow: true, props },
+        CollectionKind::Sequence => NewEvent::SeqStart { flow: true, props },
+        CollectionKind::Mapping => NewEvent::MapStart { flow: true, props },
+        CollectionKind::Pair => NewEvent::MapStart { flow: true, props },
     }
 }
 
-// Opens the collection whose bracket stands there, if there is room for it. Where it ends is noted once it is closed.
+// Opens the collection whose bracket is there, if there is room for it. Where it ends is noted once it is closed.
 #[inline(always)]
 fn open<'a>(
-    spot: &Spot<'a>,
-    kind: Kind,
+    spot: &FlowCursor<'a>,
+    kind: CollectionKind,
     lead: &Lead<'a>,
     part: &mut Part<'a>,
 ) -> Result<Begun, AllocError>
-    requires awaited { Awaited spot.now part.old }
-    requires behind { IsCharBoundary spot.now.scene.text.now (spot.now.at + 1) }
-    requires bracket { Opens kind (code spot.now.scene.text.now spot.now.at) }
+    requires awaited { NodeIsAwaited spot.now part.old }
+    requires follows { IsCharBoundary spot.now.scene.text.now (spot.now.at + 1) }
+    requires bracket { IsOpening kind (code spot.now.scene.text.now spot.now.at) }
     ensures { IfOk result (Begins (SpotContent spot.now lead.now) spot.now part.old part.new) }
 {
     if spot.depth >= spot.scene.limit {

@@ -1,12 +1,12 @@
 //! The readers of scalars and properties, as flow nodes take them.
 ghost use Rattle.std.specs.Prelude.{◌≡◌, ◌+◌, ◌++◌, IfOk, IfSome};
 ghost use Rattle.std.specs.Str.{IsCharBoundary};
-ghost use Rattle.yf_flow.specs.Machine.{Place};
-ghost use Rattle.yf_flow.specs.Spots.{PlainRead, PropertiesRead};
+ghost use Rattle.yf_flow.specs.Machine.{BoundaryFrom};
+ghost use Rattle.yf_flow.specs.NodeOffsets.{PlainRead, PropertiesRead};
 
-use crate::frame::{Scene, Spot};
+use crate::frame::{FlowContext, FlowCursor};
 use std::alloc::{AllocError, Global};
-use yf_events::row::Row;
+use yf_events::values::Values;
 use yf_lines::text::Text;
 use yf_plain::plain::read_plain_in;
 use yf_props::properties::{Properties, node_properties};
@@ -22,11 +22,11 @@ pub(crate) struct Scalar<'a> {
 /// Reads properties (c-ns-properties(n,c), production 96).
 pub(crate) fn read_properties<'a>(
     alloc: Global,
-    scene: Scene<'a>,
+    scene: FlowContext<'a>,
     at: usize,
 ) -> Result<Option<Properties<'a>>, AllocError>
     requires { IsCharBoundary scene.text.now at }
-    ensures place { IfOk result (λ o. IfSome o (λ p. Place scene.entry.text.now (at + 1) p.end)) }
+    ensures place { IfOk result (λ o. IfSome o (λ p. BoundaryFrom scene.entry.text.now (at + 1) p.end)) }
     ensures reads { IfOk result (PropertiesRead scene.entry at) }
 {
     match node_properties(alloc, scene.text, at, scene.indentation, scene.context)? {
@@ -37,9 +37,9 @@ pub(crate) fn read_properties<'a>(
 
 /// Reads a plain scalar (ns-plain(n,c), production 131).
 #[inline(always)]
-pub(crate) fn read_plain<'a>(spot: &Spot<'a>) -> Result<Option<Scalar<'a>>, AllocError>
+pub(crate) fn read_plain<'a>(spot: &FlowCursor<'a>) -> Result<Option<Scalar<'a>>, AllocError>
     requires { IsCharBoundary spot.now.scene.text.now spot.now.at }
-    ensures place { IfOk result (λ o. IfSome o (λ p. Place spot.now.scene.text.now (spot.now.at + 1) p.end)) }
+    ensures place { IfOk result (λ o. IfSome o (λ p. BoundaryFrom spot.now.scene.text.now (spot.now.at + 1) p.end)) }
     ensures reads { IfOk result (PlainRead spot.now) }
 {
     let scene = &spot.scene;
@@ -57,7 +57,7 @@ pub(crate) fn read_plain<'a>(spot: &Spot<'a>) -> Result<Option<Scalar<'a>>, Allo
 }
 
 /// Adds offsets of escapes that are no character.
-pub(crate) fn keep_escapes(bad: &Offsets, escapes: &mut Row<usize>) -> Result<(), AllocError>
+pub(crate) fn keep_escapes(bad: &Offsets, escapes: &mut Values<usize>) -> Result<(), AllocError>
     ensures { IfOk result (λ _. escapes.new ≡ escapes.old ++ bad.now) }
 {
     let offsets = bad.as_slice();

@@ -1,73 +1,73 @@
-//! Tests of what stands at a place of a flow node. They look and read nothing.
+//! Tests of what is at a place of a flow node. They look and read nothing.
 ghost use Rattle.std.specs.Prelude.{◌≡◌, ◌≢◌, ◌+◌, ◌==◌, ◌||◌, true, MatchBool};
 ghost use Rattle.std.specs.Str.{IsCharBoundary};
 ghost use Rattle.yf_chars.specs.Text.{code};
-ghost use Rattle.yf_grammar.specs.Parser.{ColonAt, begins_content};
-ghost use Rattle.yf_grammar.specs.Part.{NotedSince};
+ghost use Rattle.yf_grammar.specs.FlowReader.Parser.{ColonAt, begins_content};
+ghost use Rattle.yf_grammar.specs.Productions.ReadParts.{NotedSince};
 ghost use Rattle.yf_flow.specs.KeyThere.{KeyThere};
-ghost use Rattle.yf_flow.specs.Leaves.{Closes, KeyLine};
+ghost use Rattle.yf_flow.specs.Leaves.{IsClosing, KeyLine};
 
-use crate::frame::{Kind, Scene};
+use crate::frame::{CollectionKind, FlowContext};
 use yf_chars::classes::is_plain_safe;
-use yf_chars::text::{peek, stands};
+use yf_chars::text::{is_char_at, peek};
 use yf_comments::blank::is_blank_before;
 
-/// Whether the bracket stands there that closes a collection of that kind.
-pub(crate) fn closes(text: &str, at: usize, kind: Kind) -> bool
-    ensures behind { result ≡ true → IsCharBoundary text.now (at + 1) }
-    ensures cases { MatchBool result (Closes kind (code text.now at)) (Closes kind (code text.now at) → ⊥) }
+/// Whether the bracket is there that closes a collection of that kind.
+pub(crate) fn closes(text: &str, at: usize, kind: CollectionKind) -> bool
+    ensures follows { result ≡ true → IsCharBoundary text.now (at + 1) }
+    ensures cases { MatchBool result (IsClosing kind (code text.now at)) (IsClosing kind (code text.now at) → ⊥) }
 {
     match kind {
-        Kind::Sequence => stands(text, at, b']'),
-        Kind::Mapping => stands(text, at, b'}'),
-        Kind::Pair => false,
+        CollectionKind::Sequence => is_char_at(text, at, b']'),
+        CollectionKind::Mapping => is_char_at(text, at, b'}'),
+        CollectionKind::Pair => false,
     }
 }
 
-/// Whether a comma or a closing bracket stands there, after which there is nothing more of an entry.
-#[tactic(auto, using(crate::proofs::LookLemmas::end_comma, crate::proofs::LookLemmas::end_bracket, crate::proofs::LookLemmas::end_last))]
+/// Whether a comma or a closing bracket is there, after which there is nothing more of an entry.
+#[tactic(auto, using(crate::proofs::Ends::LookLemmas::end_comma, crate::proofs::Ends::LookLemmas::end_bracket, crate::proofs::Ends::LookLemmas::end_last))]
 pub(crate) fn entry_ends(text: &str, at: usize) -> bool
     ensures { result ≡ ((code text.now at == 44) || (code text.now at == 93) || (code text.now at == 125)) }
 {
-    if stands(text, at, b',') {
+    if is_char_at(text, at, b',') {
         return true;
     }
-    if stands(text, at, b']') {
+    if is_char_at(text, at, b']') {
         return true;
     }
-    stands(text, at, b'}')
+    is_char_at(text, at, b'}')
 }
 
-/// Whether a quote or an opening bracket stands there (c-flow-json-content).
-#[tactic(auto, using(crate::proofs::LookLemmas::single_begins, crate::proofs::LookLemmas::double_begins, crate::proofs::LookLemmas::sequence_begins, crate::proofs::LookLemmas::mapping_begins, crate::proofs::LookLemmas::nothing_begins))]
+/// Whether a quote or an opening bracket is there (c-flow-json-content).
+#[tactic(auto, using(crate::proofs::Ends::LookLemmas::single_begins, crate::proofs::Ends::LookLemmas::double_begins, crate::proofs::Ends::LookLemmas::sequence_begins, crate::proofs::Ends::LookLemmas::mapping_begins, crate::proofs::Ends::LookLemmas::nothing_begins))]
 pub(crate) fn content_begins(text: &str, at: usize) -> bool
     ensures { result ≡ begins_content (code text.now at) }
 {
-    if stands(text, at, b'\'') {
+    if is_char_at(text, at, b'\'') {
         return true;
     }
-    if stands(text, at, b'"') {
+    if is_char_at(text, at, b'"') {
         return true;
     }
-    if stands(text, at, b'[') {
+    if is_char_at(text, at, b'[') {
         return true;
     }
-    if stands(text, at, b'{') {
+    if is_char_at(text, at, b'{') {
         return true;
     }
     false
 }
 
-/// Whether the `:` of a value stands there, after a node like those of JSON or another one, or no node at all: after
+/// Whether the `:` of a value is there, after a node like those of JSON or another one, or no node at all: after
 /// the others no plain character may follow it.
-#[tactic(auto, using(crate::proofs::LeafLemmas::colon_json, crate::proofs::LeafLemmas::colon_safe, crate::proofs::LeafLemmas::no_colon, crate::proofs::LeafLemmas::colon_at_end))]
+#[tactic(auto, using(crate::proofs::Ends::LeafLemmas::colon_json, crate::proofs::Ends::LeafLemmas::colon_safe, crate::proofs::Ends::LeafLemmas::no_colon, crate::proofs::Ends::LeafLemmas::colon_at_end))]
 #[inline(always)]
-pub(crate) fn colon_stands(scene: Scene, at: usize, json: bool) -> bool
-    ensures behind { result ≡ true → IsCharBoundary scene.entry.text.now (at + 1) }
+pub(crate) fn is_colon_at(scene: FlowContext, at: usize, json: bool) -> bool
+    ensures follows { result ≡ true → IsCharBoundary scene.entry.text.now (at + 1) }
     ensures cases { MatchBool result (ColonAt scene.entry.text.now json scene.entry.context at)
         (ColonAt scene.entry.text.now json scene.entry.context at → ⊥) }
 {
-    if stands(scene.text, at, b':') {
+    if is_char_at(scene.text, at, b':') {
         if json {
             return true;
         }
@@ -116,16 +116,16 @@ pub fn is_key_line(text: &str, start: usize, end: usize) -> bool
     true
 }
 
-/// Whether the `:` of a value stands at `colon`, after a node that begins at `start` and, with the white space behind it, may
+/// Whether the `:` of a value is at `colon`, after a node that begins at `start` and, with the white space after it, may
 /// be the key of a single pair.
-pub(crate) fn is_pair_key(scene: Scene, start: usize, colon: usize, json: bool) -> bool
+pub(crate) fn is_pair_key(scene: FlowContext, start: usize, colon: usize, json: bool) -> bool
     requires start { IsCharBoundary scene.text.now start }
     requires colon { IsCharBoundary scene.text.now colon }
-    ensures behind { result ≡ true → IsCharBoundary scene.entry.text.now (colon + 1) }
+    ensures follows { result ≡ true → IsCharBoundary scene.entry.text.now (colon + 1) }
     ensures cases { MatchBool result (KeyThere scene.entry.text.now scene.entry.context start json colon)
         (KeyThere scene.entry.text.now scene.entry.context start json colon → ⊥) }
 {
-    if colon_stands(scene, colon, json) {
+    if is_colon_at(scene, colon, json) {
         if is_key_line(scene.text, start, colon) {
             return true;
         }
@@ -134,12 +134,12 @@ pub(crate) fn is_pair_key(scene: Scene, start: usize, colon: usize, json: bool) 
     false
 }
 
-/// Whether a blank line stands before the place at which an entry begins.
-#[tactic(auto, using(crate::proofs::NotedLemmas::note_of))]
+/// Whether a blank line is before the place at which an entry begins.
+#[tactic(auto, using(crate::proofs::Ends::NotedLemmas::note_of))]
 pub(crate) fn is_blank_before_entry(text: &str, at: usize) -> bool
     ensures { code text.now at ≢ 10 → NotedSince text.now 0 at result }
 {
-    if stands(text, at, b'\n') {
+    if is_char_at(text, at, b'\n') {
         return false;
     }
     is_blank_before(text, at)

@@ -1,15 +1,15 @@
-//! Nodes: what may stand as an item, a key or a value, and the events of them.
+//! Nodes: what may be as an item, a key or a value, and the events of them.
 ghost use Rattle.std.specs.Prelude.{◌≡◌, ◌+◌, length, false, [], ◌∷◌, ◌++◌, IfOk};
 ghost use Rattle.std.specs.Bool.{OnTrue};
 ghost use Rattle.yf_lines.specs.Text.{text_bytes};
 ghost use Rattle.yf_props.specs.Props.{no_props};
 ghost use Rattle.yf_events.specs.Event.{new_event_value, placed_value, scalar_node};
-ghost use Rattle.yf_grammar.specs.Parser.{begins_content};
+ghost use Rattle.yf_grammar.specs.FlowReader.Parser.{begins_content};
 ghost use Rattle.yf_chars.specs.Text.{code};
-ghost use Rattle.yf_flow.specs.Spots.{Awaited, Begins, LeafPushed, PropertiesAt, SpotBegun, SpotContent, is_quoted};
-ghost use Rattle.yf_flow.specs.Begun.{bare_lead, entry_event, leaf_event, lead_event};
+ghost use Rattle.yf_flow.specs.NodeOffsets.{NodeIsAwaited, Begins, LeafPushed, PropertiesAt, SpotBegun, SpotContent, is_quoted};
+ghost use Rattle.yf_flow.specs.NodeStarts.{bare_lead, entry_event, leaf_event, lead_event};
 
-use crate::frame::{Frame, Node, Spot};
+use crate::frame::{FlowCursor, Frame, Node};
 use crate::json::json_content;
 use crate::leaf::{Scalar, read_plain, read_properties};
 use crate::look::content_begins;
@@ -109,11 +109,11 @@ pub fn empty_node<'a>(alloc: Global, entry: Option<Entry>) -> PlacedEvent<'a>
 
 /// Begins a node (ns-flow-node, production 161), where so many collections are open.
 pub(crate) fn begin_node<'a>(
-    spot: Spot<'a>,
+    spot: FlowCursor<'a>,
     entry: Option<Entry>,
     part: &mut Part<'a>,
 ) -> Result<Begun, AllocError>
-    requires { Awaited spot part.old }
+    requires { NodeIsAwaited spot part.old }
     ensures { IfOk result (Begins (SpotBegun spot.entry entry) spot.entry part.old part.new) }
 {
     match alias_node(spot.scene.text, spot.at) {
@@ -138,11 +138,11 @@ pub(crate) fn begin_node<'a>(
 /// Begins the content of a node: a plain scalar, a quoted one or a flow collection.
 #[inline(always)]
 pub(crate) fn begin_content<'a>(
-    spot: &Spot<'a>,
+    spot: &FlowCursor<'a>,
     lead: &Lead<'a>,
     part: &mut Part<'a>,
 ) -> Result<Begun, AllocError>
-    requires { Awaited spot.now part.old }
+    requires { NodeIsAwaited spot.now part.old }
     ensures { IfOk result (Begins (SpotContent spot.now lead.now) spot.now part.old part.new) }
 {
     if content_begins(spot.scene.text, spot.at) {
@@ -154,12 +154,12 @@ pub(crate) fn begin_content<'a>(
 // A node with properties: its content is a plain scalar, a quoted scalar or a flow collection, and else it is empty.
 #[inline(never)]
 fn propertied_node<'a>(
-    spot: Spot<'a>,
+    spot: FlowCursor<'a>,
     properties: Properties<'a>,
     entry: Option<Entry>,
     part: &mut Part<'a>,
 ) -> Result<Begun, AllocError>
-    requires awaited { Awaited spot part.old }
+    requires awaited { NodeIsAwaited spot part.old }
     requires properties { PropertiesAt spot properties }
     ensures { IfOk result (Begins (SpotBegun spot.entry entry) spot.entry part.old part.new) }
 {
@@ -192,9 +192,9 @@ fn propertied_node<'a>(
         ) => {
             if content_begins(scene.text, place) {
                 part.comments.append(comments)?;
-                return json_content(&Spot { at: place, ..spot }, &lead, part);
+                return json_content(&FlowCursor { at: place, ..spot }, &lead, part);
             }
-            match read_plain(&Spot { at: place, ..spot })? {
+            match read_plain(&FlowCursor { at: place, ..spot })? {
                 Some(plain) => {
                     part.comments.append(comments)?;
                     return push_leaf(&spot, &lead, ScalarStyle::Plain, plain, part);
@@ -211,7 +211,7 @@ fn propertied_node<'a>(
 /// Adds a scalar as a node.
 #[inline(always)]
 pub(crate) fn push_leaf<'a>(
-    spot: &Spot<'a>,
+    spot: &FlowCursor<'a>,
     lead: &Lead<'a>,
     style: ScalarStyle,
     scalar: Scalar<'a>,
@@ -327,11 +327,11 @@ fn push_marked<'a>(
 // A plain scalar as a node (ns-plain, production 131).
 #[inline(always)]
 fn plain_node<'a>(
-    spot: &Spot<'a>,
+    spot: &FlowCursor<'a>,
     lead: &Lead<'a>,
     part: &mut Part<'a>,
 ) -> Result<Begun, AllocError>
-    requires awaited { Awaited spot.now part.old }
+    requires awaited { NodeIsAwaited spot.now part.old }
     requires other { begins_content (code spot.now.scene.text.now spot.now.at) ≡ false }
     ensures { IfOk result (Begins (SpotContent spot.now lead.now) spot.now part.old part.new) }
 {

@@ -4,20 +4,20 @@ ghost use Rattle.std.specs.List.{All};
 ghost use Rattle.std.specs.Str.{IsCharBoundary, IsUtf8};
 ghost use Rattle.yf_lines.specs.Basic.{is_block};
 ghost use Rattle.yf_chars.specs.Text.{code};
-ghost use Rattle.yf_grammar.specs.Parser.{begins_content, only};
+ghost use Rattle.yf_grammar.specs.FlowReader.Parser.{begins_content, only};
 ghost use Rattle.yf_flow.specs.ContentAnswers.{ContentEnds};
-ghost use Rattle.yf_flow.specs.Counted.{AllCounted, BegunCounted, EndCounted, openers_from};
-ghost use Rattle.yf_flow.specs.Ends.{BegunTied, EndTied, EndsAs};
-ghost use Rattle.yf_flow.specs.Machine.{Awaiting, BegunAt, EndingAt};
+ghost use Rattle.yf_flow.specs.Depth.{AllCounted, BegunCounted, EndCounted, openers_from};
+ghost use Rattle.yf_flow.specs.CollectionEnds.{BegunTied, EndTied, EndsAs};
+ghost use Rattle.yf_flow.specs.Machine.{EntryIsNext, BegunAt, EndingAt};
 ghost use Rattle.yf_flow.specs.NodeAnswers.{InnerContext, NodeAnswers, NodeEnds, OutcomeAt};
-ghost use Rattle.yf_flow.specs.Stepped.{CollectionEnds, Standing};
-ghost use Rattle.yf_flow.specs.NodeRead.{NodeLost};
-ghost use Rattle.yf_flow.specs.Spots.{Awaited, Begins, PropertiesAt, SpotContent};
-ghost use Rattle.yf_flow.specs.EndsAlone.{begun_of};
-ghost use Rattle.yf_flow.specs.Steps.{Reading};
-ghost use Rattle.yf_flow.specs.Tied.{AtEntry, Base};
+ghost use Rattle.yf_flow.specs.StepContract.{CollectionEnds, IsReaderReady};
+ghost use Rattle.yf_flow.specs.ReadNodes.{NodeLost};
+ghost use Rattle.yf_flow.specs.NodeOffsets.{NodeIsAwaited, Begins, PropertiesAt, SpotContent};
+ghost use Rattle.yf_flow.specs.LeafEnds.{begun_of};
+ghost use Rattle.yf_flow.specs.StepTerms.{Reading};
+ghost use Rattle.yf_flow.specs.StackMeaning.{AtEntry, Base};
 
-use crate::frame::{Frame, Node, Reader, Scene, Spot, Step};
+use crate::frame::{FlowContext, FlowCursor, FlowReader, Frame, Node, Step};
 use crate::json::json_content;
 use crate::leaf::{Scalar, read_plain, read_properties};
 use crate::look::content_begins;
@@ -30,13 +30,13 @@ use yf_events::comments::Comments;
 use yf_events::event::ScalarStyle;
 use yf_events::events::Events;
 use yf_events::part::Part;
-use yf_events::row::Row;
+use yf_events::values::Values;
 use yf_lines::text::Text;
 use yf_props::properties::Properties;
 
 /// What a reader of flow nodes found.
 #[derive(Clone, Copy)]
-pub(crate) enum Outcome {
+pub(crate) enum FlowOutcome {
     /// A node, and the byte offset after it.
     Found(usize),
     Nothing,
@@ -57,10 +57,10 @@ pub enum Ending {
 /// part with nothing in it.
 pub(crate) fn read_node<'a>(
     alloc: Global,
-    scene: Scene<'a>,
+    scene: FlowContext<'a>,
     at: usize,
     part: &mut Part<'a>,
-) -> Result<Outcome, AllocError>
+) -> Result<FlowOutcome, AllocError>
     requires boundary { IsCharBoundary scene.text.now at }
     requires events { part.old.events ≡ [] }
     requires comments { part.old.comments ≡ [] }
@@ -71,17 +71,17 @@ pub(crate) fn read_node<'a>(
         → IfOk result (λ o. NodeAnswers scene.entry.text.now scene.entry.indentation scene.entry.context scene.entry.limit at part.new o) }
 {
     match inner_context(scene.context) {
-        None => Ok(Outcome::Nothing),
+        None => Ok(FlowOutcome::Nothing),
         Some(inner) => {
-            let spot = Spot {
+            let spot = FlowCursor {
                 alloc,
                 scene,
                 at,
                 depth: 0,
             };
             let begun = begin_node(spot, None, part)?;
-            let inside = Spot {
-                scene: Scene {
+            let inside = FlowCursor {
+                scene: FlowContext {
                     context: inner,
                     ..scene
                 },
@@ -93,7 +93,7 @@ pub(crate) fn read_node<'a>(
     }
 }
 
-/// Reads what stands after the properties of a flow node: a plain scalar, a quoted one or a flow collection. Its events
+/// Reads what is after the properties of a flow node: a plain scalar, a quoted one or a flow collection. Its events
 /// are added to the part, with what is known of the node before its content; `depth` collections are open already.
 ///
 /// # Errors
@@ -102,7 +102,7 @@ pub(crate) fn read_node<'a>(
 #[inline(always)]
 pub fn read_content<'a>(
     alloc: Global,
-    scene: Scene<'a>,
+    scene: FlowContext<'a>,
     at: usize,
     lead: Lead<'a>,
     depth: usize,
@@ -128,7 +128,7 @@ pub fn read_content<'a>(
 #[inline(always)]
 pub fn read_content_with<'a>(
     alloc: Global,
-    scene: &Scene<'a>,
+    scene: &FlowContext<'a>,
     at: usize,
     lead: &Lead<'a>,
     depth: usize,
@@ -146,7 +146,7 @@ pub fn read_content_with<'a>(
     match inner_context(scene.context) {
         None => Ok(Ending::Nothing),
         Some(inner) => {
-            let spot = Spot {
+            let spot = FlowCursor {
                 alloc,
                 scene: *scene,
                 at,
@@ -154,8 +154,8 @@ pub fn read_content_with<'a>(
             };
             if content_begins(scene.text, at) {
                 let begun = json_content(&spot, lead, part)?;
-                let inside = Spot {
-                    scene: Scene {
+                let inside = FlowCursor {
+                    scene: FlowContext {
                         context: inner,
                         ..*scene
                     },
@@ -171,11 +171,11 @@ pub fn read_content_with<'a>(
 // A plain scalar as a whole node (ns-plain, production 131).
 #[inline(always)]
 fn plain_ending<'a>(
-    spot: &Spot<'a>,
+    spot: &FlowCursor<'a>,
     lead: &Lead<'a>,
     part: &mut Part<'a>,
 ) -> Result<Ending, AllocError>
-    requires awaited { Awaited spot.now part.old }
+    requires awaited { NodeIsAwaited spot.now part.old }
     requires other { begins_content (code spot.now.scene.text.now spot.now.at) ≡ false }
     ensures { IfOk result (λ e. Begins (SpotContent spot.now lead.now) spot.now part.old part.new (begun_of e)) }
 {
@@ -194,7 +194,11 @@ fn plain_ending<'a>(
 
 // Reads on where a node has begun, and tells how it ends.
 #[inline(always)]
-fn end_node<'a>(spot: Spot<'a>, begun: Begun, part: &mut Part<'a>) -> Result<Ending, AllocError>
+fn end_node<'a>(
+    spot: FlowCursor<'a>,
+    begun: Begun,
+    part: &mut Part<'a>,
+) -> Result<Ending, AllocError>
     requires begun { (m : ℕ) × BegunAt spot.scene.text.now spot.at m (length part.old.events) begun }
     requires escapes { All (IsCharBoundary spot.scene.text.now) part.old.escapes }
     ensures ends { (base : Base) → BegunTied spot.entry.scene.text.now spot.entry.scene.indentation spot.entry.scene.context spot.entry.scene.limit base begun part.old → IfOk result (λ e. EndsAs spot.entry.scene.text.now spot.entry.scene.indentation base begun part.old part.new e) }
@@ -211,7 +215,7 @@ fn end_node<'a>(spot: Spot<'a>, begun: Begun, part: &mut Part<'a>) -> Result<End
     }
 }
 
-// The context within flow collections of that context (in-flow(c)); no flow node stands in the two block contexts.
+// The context within flow collections of that context (in-flow(c)); no flow node is in the two block contexts.
 fn inner_context(context: Ctx) -> Option<Ctx>
     ensures { MatchOption result (is_block context ≡ true) (InnerContext context) }
 {
@@ -231,15 +235,19 @@ pub fn new_part<'a>(alloc: Global) -> Part<'a>
     Part {
         events: Events::new(alloc),
         comments: Comments::new(alloc),
-        escapes: Row::new(alloc),
+        escapes: Values::new(alloc),
     }
 }
 
 // Reads the entries of a collection up to its closing bracket.
 #[inline(never)]
-fn read_entries<'a>(spot: Spot<'a>, top: Frame, part: &mut Part<'a>) -> Result<Ending, AllocError>
+fn read_entries<'a>(
+    spot: FlowCursor<'a>,
+    top: Frame,
+    part: &mut Part<'a>,
+) -> Result<Ending, AllocError>
     requires boundary { IsCharBoundary spot.scene.text.now top.entry }
-    requires top { Awaiting spot.scene.text.now (length part.old.events) top }
+    requires top { EntryIsNext spot.scene.text.now (length part.old.events) top }
     requires escapes { All (IsCharBoundary spot.scene.text.now) part.old.escapes }
     ensures tied { (base : Base) → Reading spot.entry.scene.text.now spot.entry.scene.context spot.entry.scene.limit base
         → AtEntry spot.entry.scene.text.now spot.entry.scene.indentation spot.entry.scene.context base [] top top.entry part.old
@@ -250,7 +258,7 @@ fn read_entries<'a>(spot: Spot<'a>, top: Frame, part: &mut Part<'a>) -> Result<E
     ensures escapes { IfOk result (λ _. All (IsCharBoundary spot.entry.scene.text.now) part.new.escapes) }
 {
     let alloc = spot.alloc;
-    let mut reader = Reader {
+    let mut reader = FlowReader {
         alloc,
         top,
         below: SmallVec::new(alloc),
@@ -262,10 +270,10 @@ fn read_entries<'a>(spot: Spot<'a>, top: Frame, part: &mut Part<'a>) -> Result<E
     ending
 }
 
-impl<'a> Reader<'a> {
+impl<'a> FlowReader<'a> {
     // Goes on step by step from an offset at which an entry is awaited.
-    fn read_on(&mut self, scene: Scene<'a>, at: usize) -> Result<Ending, AllocError>
-        requires standing { Standing Awaiting scene.text.now at self.old }
+    fn read_on(&mut self, scene: FlowContext<'a>, at: usize) -> Result<Ending, AllocError>
+        requires standing { IsReaderReady EntryIsNext scene.text.now at self.old }
         requires escapes { All (IsCharBoundary scene.text.now) self.old.part.escapes }
         ensures { IfOk result (CollectionEnds scene.entry at self.old self.new) }
     {
@@ -286,10 +294,10 @@ impl<'a> Reader<'a> {
 // What is found of a node that ends so. Where the content after properties is not derived, the node is empty and the
 // properties are all of it.
 fn node_found<'a>(
-    spot: Spot<'a>,
+    spot: FlowCursor<'a>,
     ending: Ending,
     part: &mut Part<'a>,
-) -> Result<Outcome, AllocError>
+) -> Result<FlowOutcome, AllocError>
     requires boundary { IsCharBoundary spot.scene.text.now spot.at }
     requires ending { EndingAt spot.scene.text.now (spot.at + 1) ending }
     requires escapes { All (IsCharBoundary spot.scene.text.now) part.old.escapes }
@@ -301,9 +309,9 @@ fn node_found<'a>(
         → IfOk result (λ o. NodeAnswers spot.entry.scene.text.now spot.entry.scene.indentation spot.entry.scene.context spot.entry.scene.limit spot.entry.at part.new o) }
 {
     let otherwise = match ending {
-        Ending::End(node) => return Ok(Outcome::Found(node.end)),
-        Ending::Nothing => Outcome::Nothing,
-        Ending::TooDeep(place) => Outcome::TooDeep(place),
+        Ending::End(node) => return Ok(FlowOutcome::Found(node.end)),
+        Ending::Nothing => FlowOutcome::Nothing,
+        Ending::TooDeep(place) => FlowOutcome::TooDeep(place),
     };
     match read_properties(spot.alloc, spot.scene, spot.at) {
         Ok(Some(properties)) => lone_node(spot, properties, part),
@@ -314,10 +322,10 @@ fn node_found<'a>(
 
 // The properties alone, as an empty node, in place of what the part holds.
 fn lone_node<'a>(
-    spot: Spot<'a>,
+    spot: FlowCursor<'a>,
     properties: Properties<'a>,
     part: &mut Part<'a>,
-) -> Result<Outcome, AllocError>
+) -> Result<FlowOutcome, AllocError>
     requires { PropertiesAt spot properties }
     ensures place { IfOk result (λ o. OutcomeAt spot.entry.scene.text.now spot.entry.at o) }
     ensures escapes { IfOk result (λ _. part.new.escapes ≡ []) }
@@ -341,7 +349,7 @@ fn lone_node<'a>(
     };
     let text = Text::Part("");
     push_scalar_with(spot.alloc, &lead, ScalarStyle::Plain, text, end, part)?;
-    Ok(Outcome::Found(end))
+    Ok(FlowOutcome::Found(end))
 }
 
 // Takes out of a part all that it holds.

@@ -1,19 +1,19 @@
 -- The laws of the recursive readers hold.
 use Rattle.std.proofs.Common.{zero, suc, ◌+◌, ℤ, pos, negsuc, ◌+ℤ◌, ◌≤ℤ◌, refl, arith}
 use Rattle.std.proofs.lemmas.Int.{ints}
-use Rattle.yf_grammar.specs.BlockParser.{Nothing}
-use Rattle.yf_grammar.specs.Halts.{none_open}
-use Rattle.yf_grammar.specs.Laws.{FlowNodesAreChosen, NoFlowNodeIsMissed, KeysAreChosen, NoKeyIsMissed, FlowOutcomesAreOne, WholeNodesAreChosen, DerivedNodesAreWhole, FlowNodesHaveOutcomes, BlockNodesHaveOutcomes, LastHaltsHaveOutcomes, LastHaltsAreChosen, NoBlockNodeIsMissed}
-use Rattle.yf_grammar.proofs.BlockHalts.{whole_halts}
-use Rattle.yf_grammar.proofs.BlockParts.{no_block_node}
-use Rattle.yf_grammar.proofs.BlockStatements.{node_at_end, plain_is_whole}
-use Rattle.yf_grammar.proofs.DerivedNodes.{last_halt_is_chosen}
-use Rattle.yf_grammar.proofs.HaltsAnswered.{halts_answered}
-use Rattle.yf_grammar.proofs.NodesAnswered.{node_answered}
-use Rattle.yf_grammar.proofs.Outcome.{outcome_is_one}
-use Rattle.yf_grammar.proofs.Parts.{found_is_chosen, none_is_stuck, found_is_chosen_key, none_is_no_key}
-use Rattle.yf_grammar.proofs.SoundSteps.{Width}
-use Rattle.yf_grammar.proofs.WholeAnswered.{whole_answered}
+use Rattle.yf_grammar.specs.BlockReader.BlockParser.{Nothing}
+use Rattle.yf_grammar.specs.BlockReader.Halts.{none_open}
+use Rattle.yf_grammar.proofs.Laws.{FlowNodesAreChosen, NoFlowNodeIsMissed, KeysAreChosen, NoKeyIsMissed, FlowOutcomesAreOne, WholeNodesAreChosen, DerivedNodesAreWhole, FlowNodesHaveOutcomes, BlockNodesHaveOutcomes, LastHaltsHaveOutcomes, LastHaltsAreChosen, NoBlockNodeIsMissed}
+use Rattle.yf_grammar.proofs.BlockOutcomes.BlockHalts.{whole_halts}
+use Rattle.yf_grammar.proofs.BlockOutcomes.BlockParts.{no_block_node}
+use Rattle.yf_grammar.proofs.BlockOutcomes.BlockStatements.{node_at_end, plain_is_whole}
+use Rattle.yf_grammar.proofs.Documents.DerivedNodes.{last_halt_is_chosen}
+use Rattle.yf_grammar.proofs.BlockReader.HaltsAnswered.{halts_answered}
+use Rattle.yf_grammar.proofs.FlowReader.NodesAnswered.{node_answered}
+use Rattle.yf_grammar.proofs.FlowReader.Outcome.{outcome_is_one}
+use Rattle.yf_grammar.proofs.Ends.Parts.{found_is_chosen, none_is_stuck, found_is_chosen_key, none_is_no_key}
+use Rattle.yf_grammar.proofs.BlockReader.SoundSteps.{Width}
+use Rattle.yf_grammar.proofs.BlockReader.WholeAnswered.{whole_answered}
 
 pub flow_nodes_are_chosen : FlowNodesAreChosen
 flow_nodes_are_chosen t e i n c f part u b r p = found_is_chosen u b r p.events p.comments p.escapes

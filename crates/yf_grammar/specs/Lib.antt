@@ -1,18 +1,9 @@
-pub mod Awaits
-pub mod Back
-pub mod BlockAwaits
-pub mod BlockParser
-pub mod BlockScalar
-pub mod BlockStack
-pub mod BlockStates
-pub mod BlockSteps
-pub mod Grammar
-pub mod Halts
-pub mod Laws
-pub mod Meaning
-pub mod Meant
-pub mod Parser
-pub mod Part
+-- The definitions, in folders.
+-- why the readers of nodes give no node
 pub mod Refusal
-pub mod Spelled
-pub mod Unmarked
+-- the productions of flow and block nodes as one relation, and what they mean
+pub mod Productions
+-- the recursive reader of flow nodes, and what is left to do of one with a stack
+pub mod FlowReader
+-- the recursive reader of block nodes, where a broken one may end, and what is left to do of one with a stack
+pub mod BlockReader

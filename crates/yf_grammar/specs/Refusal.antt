@@ -5,7 +5,7 @@ use Rattle.yf_chars.specs.Chain.{Stuck, Chosen}
 use Rattle.yf_lines.specs.FaultPlaces.{InText, IsPlaceOf}
 use Rattle.yf_lines.specs.declared.fault.Fault.{Fault}
 use Rattle.yf_lines.specs.declared.fault.Fault.TheVariants.{Memory, TooDeep, EscapeValue}
-use Rattle.yf_lines.specs.declared.place.Place.{Place}
+use Rattle.yf_lines.specs.declared.place.Position.{Position}
 use Rattle.yf_events.specs.declared.part.Part.{Part}
 use Rattle.yf_events.specs.declared.reading.TheConstants.{DEPTH}
 
@@ -19,13 +19,13 @@ abbrev pub openers : List ℕ → ℕ
 openers t = count_by is_opener t
 
 -- a scan form refuses only where memory was refused, or where nothing is derived within the limit and more openers than the limit
--- stand from the place on
+-- are from the place on
 pub data ScanFault (t : List ℕ) (P : ℕ → Part → Type 0) (at : ℕ) : Fault → Type 0 where
   for_memory : ScanFault t P at Memory
-  for_depth : {place : Place} → Stuck P → DEPTH < openers (drop at t) → InText t place → ScanFault t P at (TooDeep place)
+  for_depth : {place : Position} → Stuck P → DEPTH < openers (drop at t) → InText t place → ScanFault t P at (TooDeep place)
 
 -- a reader refuses for the same causes, and where the longest part holds an escape that is no character: at the first of them
 pub data NodeFault (t : List ℕ) (P : ℕ → Part → Type 0) (at : ℕ) : Fault → Type 0 where
   as_scanned : {fault : Fault} → ScanFault t P at fault → NodeFault t P at fault
-  for_escape : {j first : ℕ} {more : List ℕ} {part : Part} {place : Place} → Chosen P j part → part.escapes ≡ first ∷ more
+  for_escape : {j first : ℕ} {more : List ℕ} {part : Part} {place : Position} → Chosen P j part → part.escapes ≡ first ∷ more
       → IsPlaceOf t first place → NodeFault t P at (EscapeValue place)

@@ -2,7 +2,7 @@
 use Rattle.std.proofs.Common.{◌≡◌, ◌≢◌, ℕ, ◌+◌, ◌-◌, ◌<◌, ◌≤◌, Bool, true, false, List, length, get_or, refl, sym, ap, ◌∙◌, subst, inl, inr, ◌⊎◌, ⊎_elim, arith, eqb, MatchBool}
 use Rattle.std.proofs.lemmas.Bool.{cases_eq, cases_lt, eq-eqb, ne_eqb, eqb-true}
 use Rattle.std.specs.Str.{IsUtf8}
-use Rattle.yf_chars.specs.Text.{code, next, Reads, no_char}
+use Rattle.yf_chars.specs.Text.{code, next, CharAt, no_char}
 use Rattle.yf_chars.specs.Class.{is_white, is_break_char, is_white_or_end}
 use Rattle.yf_chars.specs.Chain.{Nowhere}
 use Rattle.yf_chars.proofs.TextLemmas.{reads_real, next_ascii, next-mark, bytes_from_mark, mark_from_bytes, code-inside}
@@ -25,13 +25,13 @@ white_cases c e = ⊎_elim (λ (h : c ≡ 32). inl h) (λ (n : c ≢ 32). inr (e
 pub white_below : (c : ℕ) → is_white c ≡ true → c < 128
 white_below c e = ⊎_elim (λ (h : c ≡ 32). omega arith) (λ (h : c ≡ 9). omega arith) (white_cases c e)
 
-pub reads_white : (t : List ℕ) (i : ℕ) → IsUtf8 t → is_white (code t i) ≡ true → Reads t i (code t i) (i + 1)
+pub reads_white : (t : List ℕ) (i : ℕ) → IsUtf8 t → is_white (code t i) ≡ true → CharAt t i (code t i) (i + 1)
 reads_white t i u e =
     let low : code t i < 128 = white_below (code t i) e in
-    subst (λ j. Reads t i (code t i) j) (next_ascii t i low) (reads_real t i u (omega arith))
+    subst (λ j. CharAt t i (code t i) j) (next_ascii t i low) (reads_real t i u (omega arith))
 
 pub match_white : (t : List ℕ) (i : ℕ) (b : Bool) → IsUtf8 t → b ≡ is_white (code t i)
-    → MatchBool b (Reads t i (code t i) (i + 1)) (is_white (code t i) ≡ false)
+    → MatchBool b (CharAt t i (code t i) (i + 1)) (is_white (code t i) ≡ false)
 match_white t i true u e = reads_white t i u (sym e)
 match_white t i false u e = sym e
 
@@ -104,7 +104,7 @@ break_end {t} (lone_lf {i = i} a b) = let e : (i + 1) - 1 ≡ i = omega arith in
 pub no_break_end : (t : List ℕ) (j : ℕ) → code t (j - 1) ≢ 10 → (code t (j - 1) ≡ 13 → code t j ≢ 10 → ⊥) → (i : ℕ) → Break t i j → ⊥
 no_break_end t j n m i b = ⊎_elim (λ (e : code t (j - 1) ≡ 10). n e) (λ (e : (code t (j - 1) ≡ 13) × (code t j ≢ 10)). m e.0 e.1) (break_end b)
 
--- the start of a line, by what stands before
+-- the start of a line, by what is before
 pub data Before (t : List ℕ) (j : ℕ) : Type 0 where
   nothing_before : j ≡ 0 → Before t j
   break_before : (i : ℕ) → Break t i j → Before t j

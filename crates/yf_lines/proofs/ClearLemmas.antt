@@ -6,38 +6,38 @@ use Rattle.std.proofs.Math.Seq.{drop-append_seam}
 use Rattle.std.proofs.lemmas.Str.{encodes-append, IsCharBoundary-start, IsUtf8-between, encode_same}
 use Rattle.std.specs.Str.{IsUtf8, IsCharBoundary}
 use lib.Utf8.{encode, encodes}
-use Rattle.yf_chars.specs.Text.{code, next, Reads, no_char, begins}
+use Rattle.yf_chars.specs.Text.{code, next, CharAt, no_char, begins}
 use Rattle.yf_chars.specs.Class.{is_white}
 use Rattle.yf_chars.specs.Chain.{Many}
 use Rattle.yf_chars.specs.Chain.Chain.{done, step}
 use Rattle.yf_chars.specs.Chain.One.{one}
 use Rattle.yf_chars.proofs.TextLemmas.{reads_real, reads_byte, code-nowhere, boundary_from_begins, next-mark}
-use Rattle.yf_lines.specs.Basic.{Break, LineStart, Forbidden, Clear, is_marker}
+use Rattle.yf_lines.specs.Basic.{Break, LineStart, ForbiddenLine, Clear, is_marker}
 use Rattle.yf_lines.specs.Basic.Break.{cr_lf, lone_cr, lone_lf}
 use Rattle.yf_lines.proofs.BasicLemmas.{Before, line_start_view, break_end, break_forward, three_first, no_marker, white_below, white_cases, clear_join, clear_nothing}
 use Rattle.yf_lines.proofs.BasicLemmas.Before.{nothing_before, break_before, mark_before}
 
--- what stands after an offset at which a character begins
-rest_behind : {t : List ℕ} {i c j : ℕ} → Reads t i c j → drop i t ≡ encode c ++ drop j t
-rest_behind {t} {i} {c} {j} r =
+-- what is after an offset at which a character begins
+rest_after : {t : List ℕ} {i c j : ℕ} → CharAt t i c j → drop i t ≡ encode c ++ drop j t
+rest_after {t} {i} {c} {j} r =
     let within : i ≤ length t = omega (arith, r.later, r.within) in
     let whole : t ≡ take i t ++ (encode c ++ drop j t) =
     sym (take-append-drop j t) ∙ ap (λ w. w ++ drop j t) r.bytes ∙ append_assoc (take i t) (encode c) (drop j t) in
     let cut : drop (length (take i t)) (take i t ++ (encode c ++ drop j t)) ≡ encode c ++ drop j t = drop-append_seam (take i t) (encode c ++ drop j t) in
     ap (drop i) whole ∙ ap (λ k. drop k (take i t ++ (encode c ++ drop j t))) (sym (length-take-le i t within)) ∙ cut
 
-reads_boundary : {t : List ℕ} {i c j : ℕ} → Reads t i c j → IsCharBoundary t i
+reads_boundary : {t : List ℕ} {i c j : ℕ} → CharAt t i c j → IsCharBoundary t i
 reads_boundary {t} {i} {c} r =
     ⊎_elim (λ (e : begins t i ≡ true). boundary_from_begins t i e)
     (λ (e : begins t i ≡ false). let same = code-nowhere t i e in let is = r.char in let low = r.below in absurd (omega arith))
     (cases_Bool (begins t i))
 
-width_of : {t : List ℕ} {i c j : ℕ} → Reads t i c j → i + length (encode c) ≡ j
+width_of : {t : List ℕ} {i c j : ℕ} → CharAt t i c j → i + length (encode c) ≡ j
 width_of {t} {i} {c} {j} r =
     let within : i ≤ length t = omega (arith, r.later, r.within) in
     omega (arith, ap length r.bytes, length-append (take i t) (encode c), length-take-le i t within, length-take-le j t r.within)
 
-too_short : {t : List ℕ} {i c j h : ℕ} (cs : List ℕ) → Reads t i c j → i < h → h < j → encodes cs ≡ take (h - i) (drop i t) → ⊥
+too_short : {t : List ℕ} {i c j h : ℕ} (cs : List ℕ) → CharAt t i c j → i < h → h < j → encodes cs ≡ take (h - i) (drop i t) → ⊥
 too_short {t} {i} {c} {j} {h} [] r l m e =
     let n : length (drop i t) ≡ length t - i = length-drop i t in
     let k : length (take (h - i) (drop i t)) ≡ h - i = length-take-le (h - i) (drop i t) (omega (arith, r.within)) in
@@ -48,18 +48,18 @@ too_short {t} {i} {c} {j} {h} (d ∷ ds) r l m e =
     let k : length (take (h - i) (drop i t)) ≡ h - i = length-take-le (h - i) (drop i t) (omega (arith, r.within)) in
     let both : encode d ++ (encodes ds ++ drop (h - i) (drop i t)) ≡ encode c ++ drop j t =
     sym (append_assoc (encode d) (encodes ds) (drop (h - i) (drop i t))) ∙ ap (λ w. w ++ drop (h - i) (drop i t)) e
-    ∙ take-append-drop (h - i) (drop i t) ∙ rest_behind r in
+    ∙ take-append-drop (h - i) (drop i t) ∙ rest_after r in
     let same = encode_same d c (encodes ds ++ drop (h - i) (drop i t)) (drop j t) both in
     let z : length (encode d ++ encodes ds) ≡ length (take (h - i) (drop i t)) = ap length e in
     omega (arith, length-append (encode d) (encodes ds), width_of r, ap (λ w. length (encode w)) same.0)
 
 -- inside of a character no other one begins
-pub no_boundary_inside : {t : List ℕ} {i c j h : ℕ} → IsUtf8 t → Reads t i c j → i < h → h < j → IsCharBoundary t h → ⊥
+pub no_boundary_inside : {t : List ℕ} {i c j h : ℕ} → IsUtf8 t → CharAt t i c j → i < h → h < j → IsCharBoundary t h → ⊥
 no_boundary_inside {t} {i} {c} {j} {h} u r l m b =
     let part = IsUtf8-between t i h u (omega arith) (reads_boundary r) b in
     too_short part.0 r l m part.1.1
 
-pub code_inside : {t : List ℕ} {i c j h : ℕ} → IsUtf8 t → Reads t i c j → i < h → h < j → code t h ≡ no_char
+pub code_inside : {t : List ℕ} {i c j h : ℕ} → IsUtf8 t → CharAt t i c j → i < h → h < j → code t h ≡ no_char
 code_inside {t} {h = h} u r l m =
     ⊎_elim (λ (e : begins t h ≡ true). absurd (no_boundary_inside u r l m (boundary_from_begins t h e)))
     (λ (e : begins t h ≡ false). code-nowhere t h e)
@@ -75,38 +75,38 @@ marker_char t i m =
     (cases_eq (code t i) 46))
     (cases_eq (code t i) 45)
 
-pub not_forbidden : (t : List ℕ) (i : ℕ) → code t i ≢ 45 → code t i ≢ 46 → Forbidden t i → ⊥
+pub not_forbidden : (t : List ℕ) (i : ℕ) → code t i ≢ 45 → code t i ≢ 46 → ForbiddenLine t i → ⊥
 not_forbidden t i d n f = ⊎_elim d n (marker_char t i f.marker)
 
 -- a character is covered where no forbidden line begins with it
-pub clear_char : {t : List ℕ} {i c j : ℕ} → IsUtf8 t → Reads t i c j → (Forbidden t i → ⊥) → Clear t i j
+pub clear_char : {t : List ℕ} {i c j : ℕ} → IsUtf8 t → CharAt t i c j → (ForbiddenLine t i → ⊥) → Clear t i j
 clear_char {t} {i} {c} {j} u r n = record {
   none = λ h l m f. ⊎_elim
-      (λ (e : i ≡ h). n (subst (λ k. Forbidden t k) (sym e) f))
+      (λ (e : i ≡ h). n (subst (λ k. ForbiddenLine t k) (sym e) f))
       (λ (o : i ≢ h). let inside = code_inside u r (omega arith) m in not_forbidden t h (λ e. omega arith) (λ e. omega arith) f)
       (cases_eq i h);
 }
 
-move : {t : List ℕ} {i j c : ℕ} → Break t i j → Reads t (j - 1) c ((j - 1) + 1) → Reads t (j - 1) c j
+move : {t : List ℕ} {i j c : ℕ} → Break t i j → CharAt t (j - 1) c ((j - 1) + 1) → CharAt t (j - 1) c j
 move {t} {j = j} {c = c} b r =
     let f = break_forward b in
     let same : (j - 1) + 1 ≡ j = omega arith in
-    subst (λ k. Reads t (j - 1) c k) same r
+    subst (λ k. CharAt t (j - 1) c k) same r
 
--- what stands before the start of a line
-pub line_start_behind : {t : List ℕ} {j : ℕ} → IsUtf8 t → LineStart t j
-    → (j ≡ 0) ⊎ ((k : ℕ) × (d : ℕ) × Reads t k d j × ((d ≡ 10) ⊎ ((d ≡ 13) ⊎ (d ≡ 0xFEFF))))
-line_start_behind {t} {j} u s = go (line_start_view s) where
-  go : Before t j → (j ≡ 0) ⊎ ((k : ℕ) × (d : ℕ) × Reads t k d j × ((d ≡ 10) ⊎ ((d ≡ 13) ⊎ (d ≡ 0xFEFF))))
+-- what is before the start of a line
+pub line_start_after : {t : List ℕ} {j : ℕ} → IsUtf8 t → LineStart t j
+    → (j ≡ 0) ⊎ ((k : ℕ) × (d : ℕ) × CharAt t k d j × ((d ≡ 10) ⊎ ((d ≡ 13) ⊎ (d ≡ 0xFEFF))))
+line_start_after {t} {j} u s = go (line_start_view s) where
+  go : Before t j → (j ≡ 0) ⊎ ((k : ℕ) × (d : ℕ) × CharAt t k d j × ((d ≡ 10) ⊎ ((d ≡ 13) ⊎ (d ≡ 0xFEFF))))
   go (nothing_before z) = inl z
   go (break_before i b) = ⊎_elim
       (λ (e : code t (j - 1) ≡ 10). inr (j - 1, 10, move b (reads_byte t (j - 1) 10 u e (omega arith)), inl refl))
       (λ (e : (code t (j - 1) ≡ 13) × (code t j ≢ 10)). inr (j - 1, 13, move b (reads_byte t (j - 1) 13 u e.0 (omega arith)), inr (inl refl)))
       (break_end b)
   go (mark_before i s' e q) =
-      let r : Reads t i (code t i) (next t i) = reads_real t i u (omega arith) in
+      let r : CharAt t i (code t i) (next t i) = reads_real t i u (omega arith) in
       let to : next t i ≡ j = next-mark t i e ∙ q in
-      inr (i, code t i, subst (λ k. Reads t i (code t i) k) to r, inr (inr e))
+      inr (i, code t i, subst (λ k. CharAt t i (code t i) k) to r, inr (inr e))
 
 -- no line begins after the first offset, up to the second
 pub record Quiet (t : List ℕ) (i j : ℕ) : Type 0 where
@@ -123,18 +123,18 @@ quiet_join {j = j} a b = record {
 pub line_start_boundary : {t : List ℕ} {j : ℕ} → IsUtf8 t → LineStart t j → IsCharBoundary t j
 line_start_boundary {t} {j} u s =
     ⊎_elim (λ (z : j ≡ 0). subst (λ k. IsCharBoundary t k) (sym z) (IsCharBoundary-start t u))
-    (λ (w : (k : ℕ) × (d : ℕ) × Reads t k d j × ((d ≡ 10) ⊎ ((d ≡ 13) ⊎ (d ≡ 0xFEFF)))). w.2.boundary)
-    (line_start_behind u s)
+    (λ (w : (k : ℕ) × (d : ℕ) × CharAt t k d j × ((d ≡ 10) ⊎ ((d ≡ 13) ⊎ (d ≡ 0xFEFF)))). w.2.boundary)
+    (line_start_after u s)
 
 -- after a character that is no break and no mark, no line begins
-pub quiet_char : {t : List ℕ} {i c j : ℕ} → IsUtf8 t → Reads t i c j → c ≢ 10 → c ≢ 13 → c ≢ 0xFEFF → Quiet t i j
+pub quiet_char : {t : List ℕ} {i c j : ℕ} → IsUtf8 t → CharAt t i c j → c ≢ 10 → c ≢ 13 → c ≢ 0xFEFF → Quiet t i j
 quiet_char {t} {i} {c} {j} u r lf cr mark = record {
   none = λ h l m s. ⊎_elim
       (λ (e : h < j). no_boundary_inside u r l e (line_start_boundary u s))
-      (λ (e : j ≤ h). let same : h ≡ j = omega arith in at_end r.later (line_start_behind u (subst (λ k. LineStart t k) same s)))
+      (λ (e : j ≤ h). let same : h ≡ j = omega arith in at_end r.later (line_start_after u (subst (λ k. LineStart t k) same s)))
       (cases_lt h j);
 } where
-  at_end : i < j → (j ≡ 0) ⊎ ((k : ℕ) × (d : ℕ) × Reads t k d j × ((d ≡ 10) ⊎ ((d ≡ 13) ⊎ (d ≡ 0xFEFF)))) → ⊥
+  at_end : i < j → (j ≡ 0) ⊎ ((k : ℕ) × (d : ℕ) × CharAt t k d j × ((d ≡ 10) ⊎ ((d ≡ 13) ⊎ (d ≡ 0xFEFF)))) → ⊥
   at_end l (inl z) = omega arith
   at_end l (inr w) =
       let same : w.1 ≡ c = sym w.2.back ∙ r.back in
@@ -142,9 +142,9 @@ quiet_char {t} {i} {c} {j} u r lf cr mark = record {
       ⊎_elim (λ (e : w.1 ≡ 13). cr (sym same ∙ e)) (λ (e : w.1 ≡ 0xFEFF). mark (sym same ∙ e)) f) w.3
 
 -- a range within a line is covered where no forbidden line begins with it
-pub clear_quiet : {t : List ℕ} {i j : ℕ} → (Forbidden t i → ⊥) → Quiet t i j → Clear t i j
+pub clear_quiet : {t : List ℕ} {i j : ℕ} → (ForbiddenLine t i → ⊥) → Quiet t i j → Clear t i j
 clear_quiet {t} {i} {j} n q = record {
-  none = λ h l m f. ⊎_elim (λ (e : i ≡ h). n (subst (λ k. Forbidden t k) (sym e) f))
+  none = λ h l m f. ⊎_elim (λ (e : i ≡ h). n (subst (λ k. ForbiddenLine t k) (sym e) f))
       (λ (o : i ≢ h). q.none h (omega arith) (omega arith) f.start) (cases_eq i h);
 }
 
@@ -174,7 +174,7 @@ spelled_join {t} {i} {j} {k} {x} {y} a b = record {
       ∙ ap (λ w. take i t ++ w) (sym (encodes-append x y));
 }
 
-pub spelled_char : {t : List ℕ} {i c j : ℕ} → Reads t i c j → Spelled t i j (c ∷ [])
+pub spelled_char : {t : List ℕ} {i c j : ℕ} → CharAt t i c j → Spelled t i j (c ∷ [])
 spelled_char {t} {i} {c} {j} r = record {
   order = omega (arith, r.later);
   bytes = r.bytes ∙ ap (λ w. take i t ++ w) (sym (append-nil (encode c)));
@@ -206,7 +206,7 @@ clear_whites {t} u (step (one {i = i} e) c) =
 clear_one : {t : List ℕ} {i : ℕ} → code t i < 45 → Clear t i (i + 1)
 clear_one {t} {i} l = record {
   none = λ h a b f. let same : i ≡ h = omega arith in
-      not_forbidden t i (λ e. omega arith) (λ e. omega arith) (subst (λ k. Forbidden t k) (sym same) f);
+      not_forbidden t i (λ e. omega arith) (λ e. omega arith) (subst (λ k. ForbiddenLine t k) (sym same) f);
 }
 
 pub clear_break : {t : List ℕ} {i j : ℕ} → Break t i j → Clear t i j

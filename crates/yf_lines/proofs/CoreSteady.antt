@@ -6,7 +6,7 @@ use Rattle.std.proofs.lemmas.List.Folds.{list_all-append, list_any-append}
 use Rattle.yf_lines.specs.CoreSchema.{Pattern, byte_of, bytes, followed, either, optional, repeated, Matches, in_class, as_written, in_order, the_one, the_other, left_out, given, no_time, once_more, is_digit, is_octal, is_hexadecimal, is_sign, is_exponent, digits, signed, null_pattern, boolean_pattern, integer_pattern, float_pattern, mantissa, exponent, CoreTextsAreSteady}
 use Rattle.yf_lines.specs.Steady.{is_steady, is_only, is_marker_of, has_line_feed, ends_with_colon}
 
--- a byte that may stand anywhere in a steady text: no line feed, colon, space or tab
+-- a byte that may be anywhere in a steady text: no line feed, colon, space or tab
 abbrev is_calm : ℕ → Bool
 is_calm b = not (b == 10) && (not (b == 58) && (not (b == 32) && not (b == 9)))
 
@@ -156,7 +156,7 @@ no_feed : (x : List ℕ) → list_all is_calm x ≡ true → list_any (λ b. b =
 no_feed [] a = refl
 no_feed (b ∷ x) a = let parts = both_parts (is_calm b) (list_all is_calm x) a in rw ((calm b parts.0).feed, no_feed x parts.1) refl
 
--- so is what stands beyond the end
+-- so is what is beyond the end
 calm_at : (x : List ℕ) (i : ℕ) → list_all is_calm x ≡ true → is_calm (slice_index x i) ≡ true
 calm_at [] i a = refl
 calm_at (b ∷ x) zero a = (both_parts (is_calm b) (list_all is_calm x) a).0

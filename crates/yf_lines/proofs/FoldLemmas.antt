@@ -12,14 +12,14 @@ use Rattle.yf_chars.proofs.ChainLemmas.{chain_append, many_unique, many_more, st
 use Rattle.yf_chars.proofs.TextLemmas.{next_ascii}
 use Rattle.yf_lines.proofs.ClearLemmas.{clear_whites, clear_break}
 use Rattle.yf_lines.proofs.BasicLemmas.{clear_join, clear_nothing}
-use Rattle.yf_lines.specs.Basic.{Clear, Break, Spaces, Indent, IndentLess, SeparateInLine, FlowPrefix, LinePrefix, Empty, Folded, FlowFolded}
+use Rattle.yf_lines.specs.Basic.{Clear, Break, Spaces, Indent, IndentLess, SeparateInLine, FlowPrefix, LinePrefix, Empty, FoldedBreak, FlowFolded}
 use Rattle.yf_lines.specs.Basic.Indent.{exactly}
 use Rattle.yf_lines.specs.Basic.IndentLess.{fewer}
 use Rattle.yf_lines.specs.Basic.SeparateInLine.{by_whites, at_start}
 use Rattle.yf_lines.specs.Basic.FlowPrefix.{indented, set_off}
 use Rattle.yf_lines.specs.Basic.LinePrefix.{in_block, in_flow}
 use Rattle.yf_lines.specs.Basic.Empty.{prefixed, shorter}
-use Rattle.yf_lines.specs.Basic.Folded.{trimmed, as_space}
+use Rattle.yf_lines.specs.Basic.FoldedBreak.{trimmed, as_space}
 use Rattle.yf_lines.specs.Basic.FlowFolded.{at_break, past_whites}
 use Rattle.yf_lines.specs.Fold.{FoldsTo, FoldLines, ContentAt, line_feeds, fold_of}
 use Rattle.yf_lines.proofs.BasicLemmas.{white_of_space, break_char, break_forward, break_unique}
@@ -57,7 +57,7 @@ whites_of_line : {t : List ℕ} {n : ℤ} {i j : ℕ} → LinePrefix t n FlowIn 
 whites_of_line (in_block e d) = whites_of_indent d
 whites_of_line (in_flow e p) = whites_of_prefix p
 
--- white space ends where another character stands
+-- white space ends where another character is
 whites_end : {t : List ℕ} {i j k : ℕ} → Whites t i j → is_white (code t j) ≡ false → Whites t i k → is_white (code t k) ≡ false → j ≡ k
 whites_end {t} a e b f = (many_unique t is_white a.1 e b.1 f).0
 
@@ -142,7 +142,7 @@ record FoldedParts (t : List ℕ) (n : ℤ) (i j : ℕ) (x : List ℕ) : Type 0 
 fold_of_lines : {t : List ℕ} {n : ℤ} {i j : ℕ} {x : List ℕ} (y : List ℕ) → Empty t n FlowIn i j x → x ++ y ≡ fold_of (x ++ y)
 fold_of_lines y e = let p = empty_parts e in rw p.text refl
 
-folded_parts : {t : List ℕ} {n : ℤ} {i j : ℕ} {x : List ℕ} → Folded t n FlowIn i j x → FoldedParts t n i j x
+folded_parts : {t : List ℕ} {n : ℤ} {i j : ℕ} {x : List ℕ} → FoldedBreak t n FlowIn i j x → FoldedParts t n i j x
 folded_parts (trimmed {h = h} {x = x} {y = y} b e c) = record { line = h; ends = b; feeds = x ++ y; empties = step e c; text = fold_of_lines y e }
 folded_parts (as_space {j = j} b) = record { line = j; ends = b; feeds = []; empties = done; text = refl }
 
@@ -198,7 +198,7 @@ folds_functional t n = record {
 }
 
 -- a fold is found
-folded_found : {t : List ℕ} {n : ℤ} {i h j : ℕ} {x : List ℕ} → Break t i h → Chain (Empty t n FlowIn) h j x → Folded t n FlowIn i j (fold_of x)
+folded_found : {t : List ℕ} {n : ℤ} {i h j : ℕ} {x : List ℕ} → Break t i h → Chain (Empty t n FlowIn) h j x → FoldedBreak t n FlowIn i j (fold_of x)
 folded_found b done = as_space b
 folded_found b (step {x = x} {y = y} e c) = rw (← fold_of_lines y e) (trimmed b e c)
 
@@ -263,7 +263,7 @@ feeds_more k = rw add-one (go k) where
   go zero = refl
   go (suc k) = ap (λ w. 10 ∷ w) (go k)
 
--- spaces, by how many stand there
+-- spaces, by how many are there
 spaces_front : {t : List ℕ} {i m w : ℕ} → Spaces t i m → w ≤ m → Spaces t i w
 spaces_front s l = record { each = λ k h. s.each k (omega arith) }
 

@@ -1,6 +1,6 @@
 -- The lemmas, each group under the function or the theorem that it serves.
 
--- breaks, white space, starts of lines and document markers: `line_break`, `skip_whites`, `is_line_start`, `marker_stands`
+-- breaks, white space, starts of lines and document markers: `line_break`, `skip_whites`, `is_line_start`, `marker_is_at`
 pub mod BasicLemmas
 pub mod ClearLemmas
 -- `fold_lines` and `flow_folded`

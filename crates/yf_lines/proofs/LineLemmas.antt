@@ -12,7 +12,7 @@ use Rattle.yf_chars.proofs.ChainLemmas.{chain_chosen}
 use Rattle.yf_lines.specs.declared.line.Line.{Line}
 use Rattle.yf_lines.specs.Basic.{Break, Spaces}
 use Rattle.yf_lines.specs.Basic.Break.{cr_lf, lone_cr, lone_lf}
-use Rattle.yf_lines.specs.Lines.{Unbroken, LineEnd, Indented, IsLine, IsCutAt, OneLine, AreLines, Apart}
+use Rattle.yf_lines.specs.Lines.{NoBreakIn, LineEnd, SpacesFrom, IsLine, IsCutAt, OneLine, AreLines, Apart}
 use Rattle.yf_lines.specs.Lines.LineEnd.{at_break, at_end}
 use Rattle.yf_lines.specs.Lines.OneLine.{one_line}
 use Rattle.yf_lines.proofs.BasicLemmas.{break_char, break_forward, break_unique, break_end}
@@ -53,12 +53,12 @@ end_char : {t : List ℕ} {h j : ℕ} → LineEnd t h j → (is_break_char (code
 end_char (at_break b) = inl (break_breaks b)
 end_char (at_end e) = inr e
 
-end_not_before : {t : List ℕ} {i h h' j j' : ℕ} → Unbroken t i h' → LineEnd t h' j' → i ≤ h → h < h' → LineEnd t h j → ⊥
+end_not_before : {t : List ℕ} {i h h' j j' : ℕ} → NoBreakIn t i h' → LineEnd t h' j' → i ≤ h → h < h' → LineEnd t h j → ⊥
 end_not_before {t} {i} {h} {h'} n e' l s e =
     ⊎_elim (λ (b : is_break_char (code t h) ≡ true). true≢false (sym b ∙ n.none h l s))
     (λ (q : h ≡ length t). let w = end_within e' in absurd (omega (arith, w.0, w.1))) (end_char e)
 
-same_end : {t : List ℕ} {i h h' j j' : ℕ} → Unbroken t i h → LineEnd t h j → Unbroken t i h' → LineEnd t h' j' → h ≡ h'
+same_end : {t : List ℕ} {i h h' j j' : ℕ} → NoBreakIn t i h → LineEnd t h j → NoBreakIn t i h' → LineEnd t h' j' → h ≡ h'
 same_end {t} {i} {h} {h'} n e n' e' =
     ⊎_elim (λ (s : h < h'). absurd (end_not_before n' e' n.order s e))
     (λ (s : h' ≤ h). ⊎_elim (λ (q : h ≡ h'). q) (λ (q : h ≢ h'). absurd (end_not_before n e n'.order (omega arith) e')) (cases_eq h h'))
@@ -73,10 +73,10 @@ same_next (at_break b) (at_end e) = end_of_text b e
 same_next (at_end e) (at_break c) = sym (end_of_text c e)
 same_next (at_end e) (at_end f) = refl
 
-no_fewer : {t : List ℕ} {i k k' : ℕ} → Indented t i k → Indented t i k' → k < k' → ⊥
+no_fewer : {t : List ℕ} {i k k' : ℕ} → SpacesFrom t i k → SpacesFrom t i k' → k < k' → ⊥
 no_fewer {k = k} a b l = a.stops (b.spaces.each k l)
 
-same_indent : {t : List ℕ} {i k k' : ℕ} → Indented t i k → Indented t i k' → k ≡ k'
+same_indent : {t : List ℕ} {i k k' : ℕ} → SpacesFrom t i k → SpacesFrom t i k' → k ≡ k'
 same_indent {k = k} {k' = k'} a b =
     ⊎_elim (λ (l : k < k'). absurd (no_fewer a b l))
     (λ (l : k' ≤ k). ⊎_elim (λ (q : k ≡ k'). q) (λ (q : k ≢ k'). absurd (no_fewer b a (omega arith))) (cases_eq k k'))
@@ -106,8 +106,8 @@ same_fields a b s e n d =
 -- the line that begins at an offset is the only one
 pub same_line : (t : List ℕ) (a b : Line) → IsLine t a → IsLine t b → a.start ≡ b.start → a ≡ b
 same_line t a b m n s =
-    let u : Unbroken t b.start a.end = subst (λ i. Unbroken t i a.end) s m.unbroken in
-    let d : Indented t b.start a.indent = subst (λ i. Indented t i a.indent) s m.indented in
+    let u : NoBreakIn t b.start a.end = subst (λ i. NoBreakIn t i a.end) s m.unbroken in
+    let d : SpacesFrom t b.start a.indent = subst (λ i. SpacesFrom t i a.indent) s m.indented in
     let e : a.end ≡ b.end = same_end u m.ends n.unbroken n.ends in
     let ends : LineEnd t b.end a.next = subst (λ h. LineEnd t h a.next) e m.ends in
     same_fields a b s e (same_next ends n.ends) (same_indent d n.indented)
@@ -143,10 +143,10 @@ pub break_char_cases : (c : ℕ) → is_break_char c ≡ true → (c ≡ 13) ⊎
 break_char_cases c b =
     ⊎_elim (λ (e : c ≡ 10). inr e) (λ (n : c ≢ 10). inl (eqb-true c 13 (sym (breaks_only_cr c n) ∙ b))) (cases_eq c 10)
 
-pub unbroken_nothing : (t : List ℕ) (i : ℕ) → Unbroken t i i
+pub unbroken_nothing : (t : List ℕ) (i : ℕ) → NoBreakIn t i i
 unbroken_nothing t i = record { order = omega arith; none = λ h l s. absurd (omega arith) }
 
-pub unbroken_more : {t : List ℕ} {i j : ℕ} → Unbroken t i j → is_break_char (code t j) ≡ false → Unbroken t i (j + 1)
+pub unbroken_more : {t : List ℕ} {i j : ℕ} → NoBreakIn t i j → is_break_char (code t j) ≡ false → NoBreakIn t i (j + 1)
 unbroken_more {t} {i} {j} n e = record {
   order = omega (arith, n.order);
   none = λ h l s.
@@ -154,7 +154,7 @@ unbroken_more {t} {i} {j} n e = record {
       (λ (q : h ≢ j). n.none h l (omega arith)) (cases_eq h j);
 }
 
-pub unbroken_spaces : (t : List ℕ) (i h j : ℕ) → i ≤ h → Spaces t i (h - i) → Unbroken t h j → Unbroken t i j
+pub unbroken_spaces : (t : List ℕ) (i h j : ℕ) → i ≤ h → Spaces t i (h - i) → NoBreakIn t h j → NoBreakIn t i j
 unbroken_spaces t i h j o s n = record {
   order = omega (arith, n.order);
   none = λ m l k.
@@ -162,21 +162,21 @@ unbroken_spaces t i h j o s n = record {
       (λ (b : h ≤ m). n.none m b k) (cases_lt m h);
 }
 
-pub indented_to : (t : List ℕ) (i h : ℕ) → i ≤ h → Spaces t i (h - i) → code t h ≢ 32 → Indented t i (h - i)
+pub indented_to : (t : List ℕ) (i h : ℕ) → i ≤ h → Spaces t i (h - i) → code t h ≢ 32 → SpacesFrom t i (h - i)
 indented_to t i h o s n = record { spaces = s; stops = λ e. n (ap (code t) (omega arith) ∙ e) }
 
 break_at_cr : (t : List ℕ) (h : ℕ) → code t h ≡ 13 → Nowhere (Break t h) → ⊥
 break_at_cr t h e n =
     ⊎_elim (λ (l : code t (h + 1) ≡ 10). n.none (h + 2) (cr_lf e l)) (λ (l : code t (h + 1) ≢ 10). n.none (h + 1) (lone_cr e l)) (cases_eq (code t (h + 1)) 10)
 
-no_cr_before : (t : List ℕ) (i h : ℕ) → Apart t i → Unbroken t i h → code t h ≡ 10 → code t (h - 1) ≢ 13
+no_cr_before : (t : List ℕ) (i h : ℕ) → Apart t i → NoBreakIn t i h → code t h ≡ 10 → code t (h - 1) ≢ 13
 no_cr_before t i h a n e p =
     ⊎_elim (λ (q : h ≡ i). a.no_cr (ap (code t) (sym q) ∙ e) (ap (λ w. code t (w - 1)) (sym q) ∙ p))
     (λ (q : h ≢ i). let o = n.order in true≢false (sym (cr_breaks t (h - 1) p) ∙ n.none (h - 1) (omega arith) (omega arith)))
     (cases_eq h i)
 
 -- where no break begins at the first character of one, the text ends
-pub end_from_stop : (t : List ℕ) (i h : ℕ) → Apart t i → Unbroken t i h → (is_break_char (code t h) ≡ true) ⊎ (h ≡ length t)
+pub end_from_stop : (t : List ℕ) (i h : ℕ) → Apart t i → NoBreakIn t i h → (is_break_char (code t h) ≡ true) ⊎ (h ≡ length t)
     → Nowhere (Break t h) → h ≡ length t
 end_from_stop t i h a n stop none =
     ⊎_elim
@@ -200,8 +200,8 @@ pub apart_at_end : (t : List ℕ) (j : ℕ) → j ≡ length t → Apart t j
 apart_at_end t j e = record { no_cr = λ l c. let n : code t j ≡ no_char = code-past t j (omega arith) in absurd (omega arith) }
 
 -- the line that is read: its spaces end at h, its text at m
-module _ (t : List ℕ) (i h m : ℕ) (inside : i < length t) (order : i ≤ h) (spaces : Spaces t i (h - i)) (no_space : code t h ≢ 32) (rest : Unbroken t h m) where
-  pub whole_line : Unbroken t i m
+module _ (t : List ℕ) (i h m : ℕ) (inside : i < length t) (order : i ≤ h) (spaces : Spaces t i (h - i)) (no_space : code t h ≢ 32) (rest : NoBreakIn t h m) where
+  pub whole_line : NoBreakIn t i m
   whole_line = unbroken_spaces t i h m order spaces rest
 
   pub line_to_break : (j : ℕ) → Break t m j → OneLine t i j (line_by i m j (h - i) ∷ [])

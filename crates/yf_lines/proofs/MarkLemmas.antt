@@ -10,7 +10,7 @@ use Rattle.yf_chars.specs.Chain.One.{one}
 use Rattle.yf_chars.proofs.TextLemmas.{code-past, next-mark, bytes_from_mark, reads_real}
 use Rattle.yf_chars.proofs.ChainLemmas.{many_more, many_unique, chain_forward, one_functional}
 use Rattle.yf_lines.specs.declared.line.Line.{Line}
-use Rattle.yf_lines.specs.Basic.{Break, LineStart, Forbidden, Clear, is_marker, is_three}
+use Rattle.yf_lines.specs.Basic.{Break, LineStart, ForbiddenLine, Clear, is_marker, is_three}
 use Rattle.yf_lines.specs.Basic.Break.{cr_lf, lone_cr, lone_lf}
 use Rattle.yf_lines.specs.Basic.LineStart.{at_text, after_break, after_mark}
 use Rattle.yf_lines.specs.Lines.{LineEnd, IsLine, IsCutAt, Marks, IsForbiddenLine, is_mark}
@@ -56,11 +56,11 @@ not_in_mark t i e u m b l s =
 one_mark_start : {t : List ℕ} {i j : ℕ} {x : List ℕ} → LineStart t i → One t is_mark i j x → LineStart t j
 one_mark_start {t} {i} s (one e) = after_mark s (mark_code t i e)
 
-pub start_behind_marks : {t : List ℕ} {i j : ℕ} {x : List ℕ} → LineStart t i → Many t is_mark i j x → LineStart t j
-start_behind_marks s done = s
-start_behind_marks s (step m c) = start_behind_marks (one_mark_start s m) c
+pub start_after_marks : {t : List ℕ} {i j : ℕ} {x : List ℕ} → LineStart t i → Many t is_mark i j x → LineStart t j
+start_after_marks s done = s
+start_after_marks s (step m c) = start_after_marks (one_mark_start s m) c
 
--- marks do not go past a place at which no mark stands
+-- marks do not go past a place at which no mark is
 one_mark_stops : {t : List ℕ} {i j : ℕ} {x : List ℕ} (e : ℕ) → IsUtf8 t → IsCharBoundary t e → code t e ≢ 0xFEFF → i ≤ e → One t is_mark i j x → j ≤ e
 one_mark_stops {t} {i} e u b n l (one m) =
     let c : code t i ≡ 0xFEFF = mark_code t i m in
@@ -113,7 +113,7 @@ break_at_start {t} {i} {h} l m b o s =
     (cases_lt (h - 1) l.end))
     (cases_eq l.start h)
 
--- a start of a line in a line stands after marks of its start
+-- a start of a line in a line is after marks of its start
 pub start_in_line : {t : List ℕ} {h : ℕ} (l : Line) → IsUtf8 t → IsLine t l → IsCutAt t l → LineStart t h → l.start ≤ h → h < l.next
     → (x : List ℕ) × Many t is_mark l.start h x
 start_in_line {t} l u m c at_text o s = let z : l.start ≡ 0 = omega arith in ([], subst (λ k. Many t is_mark k 0 []) (sym z) done)
@@ -158,34 +158,34 @@ marker_not_at_end {t} {h} (at_end q) e =
 
 -- a forbidden line begins in a line just where its marks end before a document marker
 pub forbidden_within : (t : List ℕ) (l : Line) → IsUtf8 t → IsLine t l → IsCutAt t l → LineStart t l.start → IsForbiddenLine t l.start
-    → (h : ℕ) × (l.start ≤ h) × (h < l.next) × Forbidden t h
+    → (h : ℕ) × (l.start ≤ h) × (h < l.next) × ForbiddenLine t h
 forbidden_within t l u m c s f =
-    let o : l.start ≤ f.at = marks_order t l.start f.at f.behind in
-    let e : f.at ≤ l.end = marks_stop l.end u c.end (end_no_mark m.ends) m.unbroken.order f.behind.run in
+    let o : l.start ≤ f.at = marks_order t l.start f.at f.follows in
+    let e : f.at ≤ l.end = marks_stop l.end u c.end (end_no_mark m.ends) m.unbroken.order f.follows.run in
     let n : l.end ≤ l.next = (end_within m.ends).0 in
     let d : f.at ≢ l.end = λ q. marker_not_at_end m.ends (ap (is_marker t) (sym q) ∙ f.marker) in
-    (f.at, o, omega arith, record { start = start_behind_marks s f.behind.run; marker = f.marker })
+    (f.at, o, omega arith, record { start = start_after_marks s f.follows.run; marker = f.marker })
 
-pub forbidden_from : (t : List ℕ) (l : Line) (h : ℕ) → IsUtf8 t → IsLine t l → IsCutAt t l → l.start ≤ h → h < l.next → Forbidden t h
+pub forbidden_from : (t : List ℕ) (l : Line) (h : ℕ) → IsUtf8 t → IsLine t l → IsCutAt t l → l.start ≤ h → h < l.next → ForbiddenLine t h
     → IsForbiddenLine t l.start
 forbidden_from t l h u m c o s f =
     let run = start_in_line l u m c f.start o s in
     record {
       at = h;
-      behind = record { marks = run.0; run = run.1; stops = no_mark t h (marker_no_mark t h f.marker) };
+      follows = record { marks = run.0; run = run.1; stops = no_mark t h (marker_no_mark t h f.marker) };
       marker = f.marker;
     }
 
 pub match_forbidden : (t : List ℕ) (l : Line) (b : Bool) → IsUtf8 t → IsLine t l → IsCutAt t l → LineStart t l.start
     → MatchBool b (IsForbiddenLine t l.start) (IsForbiddenLine t l.start → ⊥)
-    → MatchBool b ((h : ℕ) × (l.start ≤ h) × (h < l.next) × Forbidden t h) (Clear t l.start l.next)
+    → MatchBool b ((h : ℕ) × (l.start ≤ h) × (h < l.next) × ForbiddenLine t h) (Clear t l.start l.next)
 match_forbidden t l true u m c s f = forbidden_within t l u m c s f
 match_forbidden t l false u m c s f = record { none = λ h o e g. f (forbidden_from t l h u m c o e g) }
 
 -- what a test at the end of the marks tells
 pub match_marker : (t : List ℕ) (i j : ℕ) (b : Bool) → Marks t i j → b ≡ is_marker t j → MatchBool b (IsForbiddenLine t i) (IsForbiddenLine t i → ⊥)
-match_marker t i j true a e = record { at = j; behind = a; marker = sym e }
-match_marker t i j false a e = λ f. true≢false (sym f.marker ∙ ap (is_marker t) (marks_unique t i f.at j f.behind a) ∙ sym e)
+match_marker t i j true a e = record { at = j; follows = a; marker = sym e }
+match_marker t i j false a e = λ f. true≢false (sym f.marker ∙ ap (is_marker t) (marks_unique t i f.at j f.follows a) ∙ sym e)
 
 pub mark_boundary : (t : List ℕ) (i : ℕ) → IsUtf8 t → code t i ≡ 0xFEFF → IsCharBoundary t (i + 3)
 mark_boundary t i u e = subst (λ k. IsCharBoundary t k) (next-mark t i e) (reads_real t i u (omega arith)).boundary

@@ -7,7 +7,7 @@ use Rattle.std.proofs.KnownBytes.{Appends-trans, Appends-kept}
 use Rattle.std.proofs.lemmas.List.{take_rest}
 use Rattle.yf_lines.specs.declared.fault.Fault.{Fault}
 use Rattle.yf_lines.specs.declared.fault.Fault.TheVariants.{WriteFailed}
-use Rattle.yf_lines.specs.Output.{Wrote, Broke, Writes, texts}
+use Rattle.yf_lines.specs.Output.{Wrote, Broke, TextWritten, texts}
 
 -- the part of the text before `rest` was appended, and no write has failed
 pub record Progress (old new : Option (List ℕ)) (before after : Bool) (text rest : List ℕ) : Type 0 where
@@ -82,7 +82,7 @@ progress_part_broke old mid new before between after text first rest p q = recor
 
 -- a refusal that is handed on
 pub writes_refused : (old new : Option (List ℕ)) (before after : Bool) (text : List ℕ) (fault : Fault) (outcome : Result Unit Fault)
-    → IsErrAnd outcome (λ e. e ≡ fault) → fault ≡ WriteFailed → Broke old new after text → Writes old new before after text outcome
+    → IsErrAnd outcome (λ e. e ≡ fault) → fault ≡ WriteFailed → Broke old new after text → TextWritten old new before after text outcome
 writes_refused old new before after text fault (Ok done) gives same p = absurd gives
 writes_refused old new before after text fault (Err e) gives same p = (gives ∙ same, p)
 
@@ -108,7 +108,7 @@ broke_second old mid new before between after text more p q = record {
 }
 
 pub writes_second : (old mid new : Option (List ℕ)) (before between after : Bool) (text more : List ℕ) (outcome : Result Unit Fault)
-    → Wrote old mid before between text → Writes mid new between after more outcome → Writes old new before after (text ++ more) outcome
+    → Wrote old mid before between text → TextWritten mid new between after more outcome → TextWritten old new before after (text ++ more) outcome
 writes_second old mid new before between after text more (Ok done) p q = record {
   appended = Appends-trans old mid new text more p.appended q.appended;
   same = q.same ∙ p.same;

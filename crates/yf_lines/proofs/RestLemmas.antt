@@ -1,4 +1,4 @@
--- What is written stands in a text: the characters at a place, from the bytes that stand from there on.
+-- What is written is in a text: the characters at a place, from the bytes that are from there on.
 use Rattle.std.proofs.Common.{◌≡◌, ◌≢◌, ℕ, zero, suc, ◌+◌, ◌-◌, ◌<◌, Bool, true, false, true≢false, eqb, List, [], ◌∷◌, ◌++◌, length, take, drop, slice_range, replicate, refl, sym, ap, ◌∙◌, subst, arith, ⊎_elim, ◌⊎◌, inl, inr, append_assoc, length-append, length-drop, add-zero}
 use Rattle.std.proofs.Math.Seq.{take-append_seam}
 use Rattle.std.proofs.lemmas.Str as S
@@ -6,16 +6,16 @@ use Rattle.std.proofs.lemmas.Str.{len_utf8_bounds, length-encode, encode_ascii, 
 use Rattle.std.specs.Char.{len_utf8}
 use Rattle.std.specs.Str.{IsUtf8}
 use lib.Utf8.{encode, encodes}
-use Rattle.yf_chars.specs.Text.{code, next, before, last_or, Reads, no_char}
+use Rattle.yf_chars.specs.Text.{code, next, before, last_or, CharAt, no_char}
 use Rattle.yf_chars.specs.Class.{is_nb_char, is_printable, is_break_char, is_between}
 use Rattle.yf_chars.specs.Chain.{Many}
 use Rattle.yf_chars.specs.Chain.Chain.{done, step}
 use Rattle.yf_chars.specs.Chain.One.{one}
 use Rattle.yf_chars.proofs.TextLemmas.{reads_char, reads_byte, code-end}
-use Rattle.yf_chars.proofs.SpelledLemmas.{Stands, stands_ascii, stands_char}
-use Rattle.yf_lines.specs.Basic.{Spaces, Break, Clear, Forbidden}
+use Rattle.yf_chars.proofs.SpelledLemmas.{IsAt, is_at_ascii, is_at_char}
+use Rattle.yf_lines.specs.Basic.{Spaces, Break, Clear, ForbiddenLine}
 use Rattle.yf_lines.specs.Basic.Break.{lone_lf}
-use Rattle.yf_lines.specs.LineText.{AllNb, IsLineText, is_behind_name, is_behind_text, Follows}
+use Rattle.yf_lines.specs.LineText.{AllNb, IsLineText, is_after_name, is_after_text, Follows}
 pub use Rattle.yf_lines.specs.Rest.{Rest}
 use Rattle.yf_lines.specs.LineText.Follows.{nothing_follows, byte_follows}
 use Rattle.std.proofs.lemmas.Bool.{or_right, or_cases, eqb-true}
@@ -30,8 +30,8 @@ rest_start t u = record {
   clean = λ e. absurd (omega (arith, ap (last_or no_char) S.chars-nil));
 }
 
-pub rest_stands : {t : List ℕ} {q : ℕ} {r : List ℕ} → Rest t q r → Stands t q r
-rest_stands s = record { bytes = s.bytes; boundary = s.boundary }
+pub rest_is_at : {t : List ℕ} {q : ℕ} {r : List ℕ} → Rest t q r → IsAt t q r
+rest_is_at s = record { bytes = s.bytes; boundary = s.boundary }
 
 pub rest_within : {t : List ℕ} {q : ℕ} (c : ℕ) (r : List ℕ) → Rest t q (encode c ++ r) → q < length t
 rest_within {t} {q} c r s =
@@ -39,18 +39,18 @@ rest_within {t} {q} c r s =
     omega (arith, length-drop q t, length-append (encode c) r, length-encode c, len_utf8_bounds c)
 
 pub rest_char : {t : List ℕ} {q : ℕ} {r : List ℕ} (c : ℕ) → IsUtf8 t → c ≢ 13 → Rest t q (encode c ++ r)
-    → Reads t q c (q + len_utf8 c) × Rest t (q + len_utf8 c) r
+    → CharAt t q c (q + len_utf8 c) × Rest t (q + len_utf8 c) r
 rest_char {t} {q} {r} c u n s =
     let read = reads_char t q c r u s.boundary (rest_within c r s) s.bytes in
     (read, record { bytes = drop_past_char t r q c s.bytes; boundary = read.boundary; clean = λ e. n (sym read.back ∙ e) })
 
-pub rest_ascii : {t : List ℕ} {q : ℕ} {r : List ℕ} (c : ℕ) → IsUtf8 t → c < 128 → c ≢ 13 → Rest t q (c ∷ r) → Reads t q c (q + 1) × Rest t (q + 1) r
+pub rest_ascii : {t : List ℕ} {q : ℕ} {r : List ℕ} (c : ℕ) → IsUtf8 t → c < 128 → c ≢ 13 → Rest t q (c ∷ r) → CharAt t q c (q + 1) × Rest t (q + 1) r
 rest_ascii {t} {q} {r} c u l n s =
     let wide : c ∷ r ≡ encode c ++ r = ap (λ w. w ++ r) (sym (encode_ascii c l)) in
     let s' : Rest t q (encode c ++ r) = subst (λ w. Rest t q w) wide s in
     let got = rest_char c u n s' in
     let one_long : len_utf8 c ≡ 1 = len_utf8_ascii c l in
-    (subst (λ w. Reads t q c (q + w)) one_long got.0, subst (λ w. Rest t (q + w) r) one_long got.1)
+    (subst (λ w. CharAt t q c (q + w)) one_long got.0, subst (λ w. Rest t (q + w) r) one_long got.1)
 
 -- spaces
 spaces_more : {t : List ℕ} {q k : ℕ} → code t q ≡ 32 → Spaces t (q + 1) k → Spaces t q (suc k)
@@ -85,29 +85,29 @@ no_nb_mark : is_nb_char 0xFEFF ≡ false
 unfolding is_nb_char is_printable is_between is_break_char
 no_nb_mark = refl
 
--- characters of which none begins a line: what stands after them, and that no line begins in them
-pub stands_chars : {t : List ℕ} (cs : List ℕ) {q : ℕ} {r : List ℕ} → IsUtf8 t → Stands t q (encodes cs ++ r) → Stands t (q + length (encodes cs)) r
-stands_chars {t} [] {q} {r} u s = subst (λ w. Stands t w r) (sym (add-zero q)) s
-stands_chars {t} (c ∷ cs) {q} {r} u s =
-    let got = stands_char c u (subst (λ w. Stands t q w) (append_assoc (encode c) (encodes cs) r) s) in
+-- characters of which none begins a line: what is after them, and that no line begins in them
+pub is_at_chars : {t : List ℕ} (cs : List ℕ) {q : ℕ} {r : List ℕ} → IsUtf8 t → IsAt t q (encodes cs ++ r) → IsAt t (q + length (encodes cs)) r
+is_at_chars {t} [] {q} {r} u s = subst (λ w. IsAt t w r) (sym (add-zero q)) s
+is_at_chars {t} (c ∷ cs) {q} {r} u s =
+    let got = is_at_char c u (subst (λ w. IsAt t q w) (append_assoc (encode c) (encodes cs) r) s) in
     let there : q + len_utf8 c + length (encodes cs) ≡ q + length (encode c ++ encodes cs) = omega (arith, length-append (encode c) (encodes cs), length-encode c) in
-    subst (λ w. Stands t w r) there (stands_chars cs u got.1)
+    subst (λ w. IsAt t w r) there (is_at_chars cs u got.1)
 
-pub chars_quiet : {t : List ℕ} (cs r : List ℕ) {q : ℕ} → IsUtf8 t → AllNb cs → Stands t q (encodes cs ++ r) → Quiet t q (q + length (encodes cs))
+pub chars_quiet : {t : List ℕ} (cs r : List ℕ) {q : ℕ} → IsUtf8 t → AllNb cs → IsAt t q (encodes cs ++ r) → Quiet t q (q + length (encodes cs))
 chars_quiet {t} [] r {q} u a s = subst (λ w. Quiet t q w) (sym (add-zero q)) (quiet_nothing t q)
 chars_quiet {t} (c ∷ cs) r {q} u a s =
-    let got = stands_char c u (subst (λ w. Stands t q w) (append_assoc (encode c) (encodes cs) r) s) in
+    let got = is_at_char c u (subst (λ w. IsAt t q w) (append_assoc (encode c) (encodes cs) r) s) in
     let there : q + len_utf8 c + length (encodes cs) ≡ q + length (encode c ++ encodes cs) = omega (arith, length-append (encode c) (encodes cs), length-encode c) in
     let quiet : Quiet t q (q + len_utf8 c) = quiet_char u got.0 (nb_not 10 c no_nb_lf a.0) (nb_not 13 c no_nb_cr a.0) (nb_not 0xFEFF c no_nb_mark a.0) in
     subst (λ w. Quiet t q w) there (quiet_join quiet (chars_quiet cs r u a.1 got.1))
 
--- what stands between two offsets
-pub slice_back : {t : List ℕ} (w r : List ℕ) {q : ℕ} → Stands t q (w ++ r) → slice_range t q (q + length w) ≡ w
+-- what is between two offsets
+pub slice_back : {t : List ℕ} (w r : List ℕ) {q : ℕ} → IsAt t q (w ++ r) → slice_range t q (q + length w) ≡ w
 slice_back {t} w r {q} s =
     let long : q + length w - q ≡ length w = omega arith in
     ap (λ k. take k (drop q t)) long ∙ ap (take (length w)) s.bytes ∙ take-append_seam w r
 
--- a text within a line: its characters, and what stands after it; no line begins in it
+-- a text within a line: its characters, and what is after it; no line begins in it
 pub record TextAt (t : List ℕ) (q j : ℕ) (r : List ℕ) : Type 0 where
   pub meaning : List ℕ
   pub chars : Many t is_nb_char q j meaning
@@ -149,7 +149,7 @@ rest_text {t} w {q} {r} u text s =
     subst (λ v. TextAt t q (q + length v) r) e (chars_at text.chars q u text.each (subst (λ v. Rest t q (v ++ r)) (sym e) s))
 
 -- it is covered where no forbidden line begins with it
-pub text_clear : {t : List ℕ} {q j : ℕ} {r : List ℕ} → TextAt t q j r → (Forbidden t q → ⊥) → Clear t q j
+pub text_clear : {t : List ℕ} {q j : ℕ} {r : List ℕ} → TextAt t q j r → (ForbiddenLine t q → ⊥) → Clear t q j
 text_clear at n = clear_quiet n at.quiet
 
 -- texts within a line
@@ -199,37 +199,37 @@ rest_break {t} {q} {r} u s =
         (zero_or q)
 
 -- what follows a written text, as a character
-follows_nothing : {t : List ℕ} {q : ℕ} → Stands t q [] → code t q ≡ no_char
+follows_nothing : {t : List ℕ} {q : ℕ} → IsAt t q [] → code t q ≡ no_char
 follows_nothing {t} {q} s =
     let long : length (drop q t) ≡ 0 = ap length s.bytes in
     let last : q ≡ length t = omega (arith, length-drop q t, s.boundary.0) in
     ap (code t) last ∙ code-end t
 
-pub follows_code : {t : List ℕ} {q : ℕ} {p : ℕ → Bool} {r : List ℕ} → IsUtf8 t → Stands t q r → Follows p r
+pub follows_code : {t : List ℕ} {q : ℕ} {p : ℕ → Bool} {r : List ℕ} → IsUtf8 t → IsAt t q r → Follows p r
     → (code t q ≡ no_char) ⊎ (p (code t q) ≡ true)
 follows_code u s nothing_follows = inl (follows_nothing s)
-follows_code {p = p} u s (byte_follows {c = c} l e) = inr (ap p (stands_ascii c u l s).0.char ∙ e)
+follows_code {p = p} u s (byte_follows {c = c} l e) = inr (ap p (is_at_ascii c u l s).0.char ∙ e)
 
-pub follows_text : {r : List ℕ} → Follows is_behind_name r → Follows is_behind_text r
-unfolding is_behind_text
+pub follows_text : {r : List ℕ} → Follows is_after_name r → Follows is_after_text r
+unfolding is_after_text
 follows_text nothing_follows = nothing_follows
-follows_text (byte_follows {c = c} l e) = byte_follows l (or_right (eqb c 58) (is_behind_name c) e)
+follows_text (byte_follows {c = c} l e) = byte_follows l (or_right (eqb c 58) (is_after_name c) e)
 
 -- such a character is none of a name, and begins no document marker
-pub behind_text_cases : (c : ℕ) → is_behind_text c ≡ true → (c ≡ 58) ⊎ (is_behind_name c ≡ true)
-unfolding is_behind_text
-behind_text_cases c e = ⊎_elim (λ (h : eqb c 58 ≡ true). inl (eqb-true c 58 h)) (λ (h : is_behind_name c ≡ true). inr h) (or_cases (eqb c 58) (is_behind_name c) e)
+pub after_text_cases : (c : ℕ) → is_after_text c ≡ true → (c ≡ 58) ⊎ (is_after_name c ≡ true)
+unfolding is_after_text
+after_text_cases c e = ⊎_elim (λ (h : eqb c 58 ≡ true). inl (eqb-true c 58 h)) (λ (h : is_after_name c ≡ true). inr h) (or_cases (eqb c 58) (is_after_name c) e)
 
-pub behind_name_cases : (c : ℕ) → is_behind_name c ≡ true → (c ≡ 32) ⊎ ((c ≡ 10) ⊎ ((c ≡ 44) ⊎ ((c ≡ 93) ⊎ (c ≡ 125))))
-unfolding is_behind_name
-behind_name_cases c e = grind (arith, nat_tests)
+pub after_name_cases : (c : ℕ) → is_after_name c ≡ true → (c ≡ 32) ⊎ ((c ≡ 10) ⊎ ((c ≡ 44) ⊎ ((c ≡ 93) ⊎ (c ≡ 125))))
+unfolding is_after_name
+after_name_cases c e = grind (arith, nat_tests)
 
 -- a text before one of these characters begins no forbidden line with its last ones
-pub follows_not : {t : List ℕ} {q : ℕ} {r : List ℕ} → IsUtf8 t → Stands t q r → Follows is_behind_text r → (code t q ≢ 45) × (code t q ≢ 46)
+pub follows_not : {t : List ℕ} {q : ℕ} {r : List ℕ} → IsUtf8 t → IsAt t q r → Follows is_after_text r → (code t q ≢ 45) × (code t q ≢ 46)
 follows_not {t} {q} u s f =
     ⊎_elim (λ (e : code t q ≡ no_char). ((λ h. omega arith), (λ h. omega arith)))
-    (λ (e : is_behind_text (code t q) ≡ true).
+    (λ (e : is_after_text (code t q) ≡ true).
     ⊎_elim (λ (h : code t q ≡ 58). ((λ k. omega arith), (λ k. omega arith)))
-    (λ (h : is_behind_name (code t q) ≡ true). let cases = behind_name_cases (code t q) h in ((λ k. omega (arith, cases)), (λ k. omega (arith, cases))))
-    (behind_text_cases (code t q) e))
+    (λ (h : is_after_name (code t q) ≡ true). let cases = after_name_cases (code t q) h in ((λ k. omega (arith, cases)), (λ k. omega (arith, cases))))
+    (after_text_cases (code t q) e))
     (follows_code u s f)

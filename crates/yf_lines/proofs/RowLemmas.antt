@@ -9,10 +9,10 @@ use Rattle.yf_chars.specs.Text.{code}
 use Rattle.yf_chars.specs.Chain.{Chain}
 use Rattle.yf_chars.proofs.ChainLemmas.{chain_more}
 use Rattle.yf_lines.specs.declared.line.Line.{Line}
-use Rattle.yf_lines.specs.declared.rows.LineRow.{LineRow}
+use Rattle.yf_lines.specs.declared.packed_lines.PackedLine.{PackedLine}
 use Rattle.yf_lines.specs.Basic.{Break}
 use Rattle.yf_lines.specs.Basic.Break.{cr_lf, lone_cr, lone_lf}
-use Rattle.yf_lines.specs.Lines.{Unbroken, LineEnd, IsLine, OneLine, AreLines, Begun, Table}
+use Rattle.yf_lines.specs.Lines.{NoBreakIn, LineEnd, IsLine, OneLine, AreLines, LinesBegunAt, Table}
 use Rattle.yf_lines.specs.Lines.LineEnd.{at_break, at_end}
 use Rattle.yf_lines.specs.Rows.{RowsBegun, break_width, end_before, first_start, line_of, lines_of, next_start}
 use Rattle.yf_lines.proofs.LineLemmas.{Made, line_made, lf_breaks, cr_breaks, same_fields}
@@ -59,17 +59,17 @@ break_found {t} {i} (lone_cr a b) = end_cr t (i + 1) (ap (code t) (omega arith) 
 break_found {t} {i} (lone_lf a b) =
     end_lf t (i + 1) (ap (code t) (omega arith) ∙ a) (λ e. b (ap (code t) (omega arith) ∙ e)) ∙ omega arith
 
-end_found : {t : List ℕ} {s h j : ℕ} → s < j → Unbroken t s h → LineEnd t h j → end_before t j ≡ h
+end_found : {t : List ℕ} {s h j : ℕ} → s < j → NoBreakIn t s h → LineEnd t h j → end_before t j ≡ h
 end_found o n (at_break b) = break_found b
 end_found {t} {s} {h} o n (at_end e) =
     end_by t h 0 h (width_none t (code t (h - 2)) (h - 1) (n.none (h - 1) (omega arith) (omega arith))) (omega arith)
 
 -- the row of a line stands for it
-line_kept : (t : List ℕ) (l : Line) (r : LineRow) → IsLine t l → r.start ≡ l.start → r.indent ≡ l.indent → l ≡ line_of t r l.next
+line_kept : (t : List ℕ) (l : Line) (r : PackedLine) → IsLine t l → r.start ≡ l.start → r.indent ≡ l.indent → l ≡ line_of t r l.next
 line_kept t l r m s d =
     same_fields l (line_of t r l.next) (sym s) (sym (end_found m.order m.unbroken m.ends)) refl (sym d)
 
-rows_more : (t : List ℕ) (rs : List LineRow) (r : LineRow) (n : ℕ) → lines_of t n (rs ++ r ∷ []) ≡ lines_of t r.start rs ++ line_of t r n ∷ []
+rows_more : (t : List ℕ) (rs : List PackedLine) (r : PackedLine) (n : ℕ) → lines_of t n (rs ++ r ∷ []) ≡ lines_of t r.start rs ++ line_of t r n ∷ []
 rows_more t [] r n = refl
 rows_more t (q ∷ []) r n = refl
 rows_more t (q ∷ p ∷ rs) r n = ap (λ w. line_of t q p.start ∷ w) (rows_more t (p ∷ rs) r n)
@@ -78,7 +78,7 @@ first_same : (a b : Line) (x y : List Line) → a ∷ x ≡ b ∷ y → a ≡ b
 first_same a b x y e = cc
 
 -- one more row is one more line
-pub lines_more : (t : List ℕ) (at : ℕ) (rows after : List LineRow) (r : LineRow) (l : Line) → after ≡ rows ++ r ∷ []
+pub lines_more : (t : List ℕ) (at : ℕ) (rows after : List PackedLine) (r : PackedLine) (l : Line) → after ≡ rows ++ r ∷ []
     → Chain (OneLine t) 0 at (lines_of t at rows) → OneLine t at l.next (l ∷ []) → r.start ≡ l.start → r.indent ≡ l.indent
     → Chain (OneLine t) 0 l.next (lines_of t l.next after)
 lines_more t at rows after r l is a o s d =
@@ -92,16 +92,16 @@ lines_more t at rows after r l is a o s d =
     ∙ ap (λ w. lines_of t at rows ++ w ∷ []) (sym k) in
     subst (λ w. Chain (OneLine t) 0 l.next w) (sym e) (chain_more a o)
 
-pub length_lines : (t : List ℕ) (e : ℕ) (rs : List LineRow) → length (lines_of t e rs) ≡ length rs
+pub length_lines : (t : List ℕ) (e : ℕ) (rs : List PackedLine) → length (lines_of t e rs) ≡ length rs
 length_lines t e [] = refl
 length_lines t e (r ∷ rs) = ap suc (length_lines t e rs)
 
-pub no_rows : (t : List ℕ) (e : ℕ) (rs : List LineRow) → lines_of t e rs ≡ [] → rs ≡ []
+pub no_rows : (t : List ℕ) (e : ℕ) (rs : List PackedLine) → lines_of t e rs ≡ [] → rs ≡ []
 no_rows t e [] q = refl
 no_rows t e (r ∷ rs) q = absurd (omega (arith, ap length q))
 
 -- where the next line begins
-pub next_within : (rs : List LineRow) (k m e : ℕ) (d : LineRow) → m ≡ k + 1 → m < length rs → next_start rs k e ≡ (get_or rs m d).start
+pub next_within : (rs : List PackedLine) (k m e : ℕ) (d : PackedLine) → m ≡ k + 1 → m < length rs → next_start rs k e ≡ (get_or rs m d).start
 next_within [] k m e d q l = absurd (omega arith)
 next_within (r ∷ rs) k zero e d q l = absurd (omega (arith, q))
 next_within (r ∷ []) zero (suc m) e d q l = absurd (omega arith)
@@ -109,34 +109,34 @@ next_within (r ∷ p ∷ rs) zero (suc zero) e d q l = refl
 next_within (r ∷ p ∷ rs) zero (suc (suc m)) e d q l = absurd (omega (arith, q))
 next_within (r ∷ rs) (suc k) (suc m) e d q l = next_within rs k m e d (omega (arith, q)) (omega arith)
 
-pub next_past : (rs : List LineRow) (k : ℕ) (e : ℕ) → length rs ≤ k + 1 → next_start rs k e ≡ e
+pub next_past : (rs : List PackedLine) (k : ℕ) (e : ℕ) → length rs ≤ k + 1 → next_start rs k e ≡ e
 next_past [] k e l = refl
 next_past (r ∷ []) zero e l = refl
 next_past (r ∷ q ∷ rs) zero e l = absurd (omega arith)
 next_past (r ∷ rs) (suc k) e l = next_past rs k e (omega arith)
 
-some_row : {a b : LineRow} → Some a ≡ Some b → a ≡ b
+some_row : {a b : PackedLine} → Some a ≡ Some b → a ≡ b
 some_row e = cc
 
-no_row : (k : ℕ) (r : LineRow) → slice_get [] k ≡ Some r → ⊥
+no_row : (k : ℕ) (r : PackedLine) → slice_get [] k ≡ Some r → ⊥
 no_row k r e = cc
 
 -- the line at an index
-pub got_line : (t : List ℕ) (e : ℕ) (rs : List LineRow) (k : ℕ) (r : LineRow) → slice_get rs k ≡ Some r
+pub got_line : (t : List ℕ) (e : ℕ) (rs : List PackedLine) (k : ℕ) (r : PackedLine) → slice_get rs k ≡ Some r
     → slice_get (lines_of t e rs) k ≡ Some (line_of t r (next_start rs k e))
 got_line t e [] k r is = absurd (no_row k r is)
 got_line t e (q ∷ rs) zero r is = ap (λ w. Some (line_of t w (first_start rs e))) (some_row is)
 got_line t e (q ∷ rs) (suc k) r is = got_line t e rs k r is
 
 -- the line whose next line begins at n, and which ends at h
-pub line_by_end : (t : List ℕ) (r : LineRow) (k n h : ℕ) → k ≡ n → h ≡ end_before t n
+pub line_by_end : (t : List ℕ) (r : PackedLine) (k n h : ℕ) → k ≡ n → h ≡ end_before t n
     → line_of t r k ≡ record { start = r.start; end = h; next = n; indent = r.indent }
 line_by_end t r k n h e q =
     same_fields (line_of t r k) (record { start = r.start; end = h; next = n; indent = r.indent }) refl (ap (end_before t) e ∙ sym q) e refl
 
 -- the row of a line
-pub record RowAt (rs : List LineRow) (k : ℕ) (l : Line) : Type 0 where
-  pub row : LineRow
+pub record RowAt (rs : List PackedLine) (k : ℕ) (l : Line) : Type 0 where
+  pub row : PackedLine
   pub is : slice_get rs k ≡ Some row
   pub start : row.start ≡ l.start
 
@@ -146,45 +146,45 @@ no_line k l e = cc
 some_line : {a b : Line} → Some a ≡ Some b → a ≡ b
 some_line e = cc
 
-row_at : (t : List ℕ) (e : ℕ) (rs : List LineRow) (k : ℕ) (l : Line) → slice_get (lines_of t e rs) k ≡ Some l → RowAt rs k l
+row_at : (t : List ℕ) (e : ℕ) (rs : List PackedLine) (k : ℕ) (l : Line) → slice_get (lines_of t e rs) k ≡ Some l → RowAt rs k l
 row_at t e [] k l is = absurd (no_line k l is)
 row_at t e (q ∷ rs) zero l is =
     let s : line_of t q (first_start rs e) ≡ l = some_line is in
     record { row = q; is = refl; start = ap (λ w. w.start) s }
 row_at t e (q ∷ rs) (suc k) l is = let r = row_at t e rs k l is in record { row = r.row; is = r.is; start = r.start }
 
-begun_lines : (t : List ℕ) (e : ℕ) (rs : List LineRow) (offset k : ℕ) → RowsBegun rs offset k → Begun (lines_of t e rs) offset k
+begun_lines : (t : List ℕ) (e : ℕ) (rs : List PackedLine) (offset k : ℕ) → RowsBegun rs offset k → LinesBegunAt (lines_of t e rs) offset k
 begun_lines t e rs offset k b = record {
   before = λ m l is w. let r = row_at t e rs m l is in let o = b.before m r.row r.is w in omega (arith, r.start);
-  behind = λ m l is w. let r = row_at t e rs m l is in let o = b.behind m r.row r.is w in omega (arith, r.start);
+  follows = λ m l is w. let r = row_at t e rs m l is in let o = b.follows m r.row r.is w in omega (arith, r.start);
 }
 
 -- the same of a table's rows, where the slice ss is they
-pub begun_table : (v : Table) (t : List ℕ) (rs ss : List LineRow) (offset k : ℕ) → ss ≡ rs → record { text = t; lines = lines_of t (length t) rs } ≡ v
-    → RowsBegun ss offset k → Begun v.lines offset k
+pub begun_table : (v : Table) (t : List ℕ) (rs ss : List PackedLine) (offset k : ℕ) → ss ≡ rs → record { text = t; lines = lines_of t (length t) rs } ≡ v
+    → RowsBegun ss offset k → LinesBegunAt v.lines offset k
 begun_table v t rs ss offset k s e b =
-    subst (λ w. Begun w offset k) (ap (λ w. w.lines) e) (begun_lines t (length t) rs offset k (subst (λ w. RowsBegun w offset k) s b))
+    subst (λ w. LinesBegunAt w offset k) (ap (λ w. w.lines) e) (begun_lines t (length t) rs offset k (subst (λ w. RowsBegun w offset k) s b))
 
 -- the starts of the rows ascend
-start_at : (t : List ℕ) (e : ℕ) (rs : List LineRow) (k : ℕ) (d : LineRow) → (get_or (lines_of t e rs) k (line_of t d 0)).start ≡ (get_or rs k d).start
+start_at : (t : List ℕ) (e : ℕ) (rs : List PackedLine) (k : ℕ) (d : PackedLine) → (get_or (lines_of t e rs) k (line_of t d 0)).start ≡ (get_or rs k d).start
 start_at t e [] k d = refl
 start_at t e (r ∷ rs) zero d = refl
 start_at t e (r ∷ rs) (suc k) d = start_at t e rs k d
 
-pub rows_ascend : (t : List ℕ) (e : ℕ) (rs : List LineRow) → AreLines t (lines_of t e rs) → IsNonDecreasingBy (λ r. r.start) rs
+pub rows_ascend : (t : List ℕ) (e : ℕ) (rs : List PackedLine) → AreLines t (lines_of t e rs) → IsNonDecreasingBy (λ r. r.start) rs
 rows_ascend t e rs a k m d o w =
     let s = starts_ascend t (lines_of t e rs) a k m (line_of t d 0) o (omega (arith, w, length_lines t e rs)) in
     omega (arith, s, start_at t e rs k d, start_at t e rs m d)
 
 -- what a search by halves finds
-pub rows_from_point : (rs : List LineRow) (offset k : ℕ) → IsPartitionPoint (λ (r : LineRow). leb r.start offset ≡ true) (λ (r : LineRow). leb r.start offset ≡ false) rs k
+pub rows_from_point : (rs : List PackedLine) (offset k : ℕ) → IsPartitionPoint (λ (r : PackedLine). leb r.start offset ≡ true) (λ (r : PackedLine). leb r.start offset ≡ false) rs k
     → RowsBegun rs offset k
 rows_from_point rs offset k p = record {
   before = λ m r e w.
       let q : get_or rs m r ≡ r = get_or_from_slice_get rs m r r e in
       let b = leb-true (get_or rs m r).start offset (p.0 m r (omega arith) w) in omega (arith, ap (λ w. w.start) q);
-  behind = λ m r e w.
+  follows = λ m r e w.
       let q : get_or rs m r ≡ r = get_or_from_slice_get rs m r r e in
-      let f : leb r.start offset ≡ false = subst (λ (v : LineRow). leb v.start offset ≡ false) q (p.1 m r w (slice_get_within rs m r e)) in
+      let f : leb r.start offset ≡ false = subst (λ (v : PackedLine). leb v.start offset ≡ false) q (p.1 m r w (slice_get_within rs m r e)) in
       ⊎_elim (λ (a : offset < r.start). a) (λ (a : r.start ≤ offset). absurd (true≢false (sym (le-leb r.start offset a) ∙ f))) (cases_lt offset r.start);
 }

@@ -39,7 +39,7 @@ pub data Break (t : List ℕ) : ℕ → ℕ → Type 0 where
   lone_cr : {i : ℕ} → code t i ≡ CARRIAGE_RETURN → code t (i + 1) ≢ LINE_FEED → Break t i (i + 1)
   lone_lf : {i : ℕ} → code t i ≡ LINE_FEED → code t (i - 1) ≢ CARRIAGE_RETURN → Break t i (i + 1)
 
--- the start of a line: of the text, after a break, and after each byte order mark that stands there
+-- the start of a line: of the text, after a break, and after each byte order mark that is there
 pub data LineStart (t : List ℕ) : ℕ → Type 0 where
   at_text : LineStart t 0
   after_break : {i j : ℕ} → Break t i j → LineStart t j
@@ -78,14 +78,14 @@ pub data Empty (t : List ℕ) (n : ℤ) (c : Ctx) : ℕ → ℕ → List ℕ →
   shorter : {i h j : ℕ} → IndentLess t n i h → Break t h j → Empty t n c i j (LINE_FEED ∷ [])
 
 -- b-l-folded(n,c): a break before empty lines means what they mean, and a break alone a space
-pub data Folded (t : List ℕ) (n : ℤ) (c : Ctx) : ℕ → ℕ → List ℕ → Type 0 where
-  trimmed : {i h k j : ℕ} {x y : List ℕ} → Break t i h → Empty t n c h k x → Chain (Empty t n c) k j y → Folded t n c i j (x ++ y)
-  as_space : {i j : ℕ} → Break t i j → Folded t n c i j (SPACE ∷ [])
+pub data FoldedBreak (t : List ℕ) (n : ℤ) (c : Ctx) : ℕ → ℕ → List ℕ → Type 0 where
+  trimmed : {i h k j : ℕ} {x y : List ℕ} → Break t i h → Empty t n c h k x → Chain (Empty t n c) k j y → FoldedBreak t n c i j (x ++ y)
+  as_space : {i j : ℕ} → Break t i j → FoldedBreak t n c i j (SPACE ∷ [])
 
 -- s-flow-folded(n): white space round a folded break mean nothing
 pub data FlowFolded (t : List ℕ) (n : ℤ) : ℕ → ℕ → List ℕ → Type 0 where
-  at_break : {i h j : ℕ} {x : List ℕ} → Folded t n FlowIn i h x → FlowPrefix t n h j → FlowFolded t n i j x
-  past_whites : {i g h j : ℕ} {x : List ℕ} → SeparateInLine t i g → Folded t n FlowIn g h x → FlowPrefix t n h j → FlowFolded t n i j x
+  at_break : {i h j : ℕ} {x : List ℕ} → FoldedBreak t n FlowIn i h x → FlowPrefix t n h j → FlowFolded t n i j x
+  past_whites : {i g h j : ℕ} {x : List ℕ} → SeparateInLine t i g → FoldedBreak t n FlowIn g h x → FlowPrefix t n h j → FlowFolded t n i j x
 
 -- three of one character
 unfoldable pub is_three : List ℕ → ℕ → ℕ → Bool
@@ -96,10 +96,10 @@ unfoldable pub is_marker : List ℕ → ℕ → Bool
 is_marker t i = (is_three t i 45 || is_three t i 46) && is_white_or_end (code t (i + 3))
 
 -- c-forbidden: a document marker at the start of a line
-pub record Forbidden (t : List ℕ) (i : ℕ) : Type 0 where
+pub record ForbiddenLine (t : List ℕ) (i : ℕ) : Type 0 where
   pub start : LineStart t i
   pub marker : is_marker t i ≡ true
 
 -- no forbidden line begins from i on before j: no node covers one
 pub record Clear (t : List ℕ) (i j : ℕ) : Type 0 where
-  pub none : (h : ℕ) → i ≤ h → h < j → Forbidden t h → ⊥
+  pub none : (h : ℕ) → i ≤ h → h < j → ForbiddenLine t h → ⊥

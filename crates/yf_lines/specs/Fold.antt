@@ -20,7 +20,7 @@ pub record ContentAt (t : List ℕ) (n : ℤ) (i j : ℕ) : Type 0 where
   pub no_white : is_white (code t j) ≡ false
   pub no_break : Nowhere (Break t j)
 
--- what stands after the first break of a fold: empty lines, which mean x, and the indentation of the line after them
+-- what is after the first break of a fold: empty lines, which mean x, and the indentation of the line after them
 pub record FoldLines (t : List ℕ) (n : ℤ) (i j : ℕ) (x : List ℕ) : Type 0 where
   pub line : ℕ
   pub empties : Chain (Empty t n FlowIn) i line x

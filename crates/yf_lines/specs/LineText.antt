@@ -1,4 +1,4 @@
--- A text that stands within one line: its characters are nb-chars, neither breaks nor byte order marks.
+-- A text that is within one line: its characters are nb-chars, neither breaks nor byte order marks.
 use Rattle.std.specs.Prelude.{◌≡◌, ℕ, ◌<◌, Bool, true, ◌==◌, ◌||◌, List, [], ◌∷◌, encode_utf8_all}
 use Rattle.yf_chars.specs.Signs.{COLON, COMMA, LINE_FEED, RIGHT_BRACE, RIGHT_BRACKET, SPACE}
 use Rattle.yf_chars.specs.Class.{is_nb_char}
@@ -13,13 +13,13 @@ pub record IsLineText (x : List ℕ) : Type 0 where
   pub bytes : encode_utf8_all chars ≡ x
   pub each : AllNb chars
 
--- what may stand after a name that is written on a line: a space, a break, a comma or a closing bracket
-unfoldable pub is_behind_name : ℕ → Bool
-is_behind_name c = (c == SPACE) || (c == LINE_FEED) || (c == COMMA) || (c == RIGHT_BRACKET) || (c == RIGHT_BRACE)
+-- what may be after a name that is written on a line: a space, a break, a comma or a closing bracket
+unfoldable pub is_after_name : ℕ → Bool
+is_after_name c = (c == SPACE) || (c == LINE_FEED) || (c == COMMA) || (c == RIGHT_BRACKET) || (c == RIGHT_BRACE)
 
 -- and after any other text: also a colon
-unfoldable pub is_behind_text : ℕ → Bool
-is_behind_text c = (c == COLON) || is_behind_name c
+unfoldable pub is_after_text : ℕ → Bool
+is_after_text c = (c == COLON) || is_after_name c
 
 -- the bytes that follow: none, or one of a class first
 pub data Follows (p : ℕ → Bool) : List ℕ → Type 0 where

@@ -9,8 +9,8 @@ use Rattle.yf_chars.specs.Text.{code, no_char}
 use Rattle.yf_lines.specs.Basic.{Break, Spaces, is_marker}
 use Rattle.yf_lines.specs.declared.line.Line.{Line}
 
--- no character of a break stands from i on before j
-pub record Unbroken (t : List ℕ) (i j : ℕ) : Type 0 where
+-- no character of a break is from i on before j
+pub record NoBreakIn (t : List ℕ) (i j : ℕ) : Type 0 where
   pub order : i ≤ j
   pub none : (h : ℕ) → i ≤ h → h < j → is_break_char (code t h) ≡ false
 
@@ -19,17 +19,17 @@ pub data LineEnd (t : List ℕ) : ℕ → ℕ → Type 0 where
   at_break : {i j : ℕ} → Break t i j → LineEnd t i j
   at_end : {i : ℕ} → i ≡ length t → LineEnd t i i
 
--- k spaces stand from i on, and no more
-pub record Indented (t : List ℕ) (i k : ℕ) : Type 0 where
+-- k spaces are from i on, and no more
+pub record SpacesFrom (t : List ℕ) (i k : ℕ) : Type 0 where
   pub spaces : Spaces t i k
   pub stops : code t (i + k) ≢ SPACE
 
 -- a line of the text: it has a character at least, its break among them
 pub record IsLine (t : List ℕ) (l : Line) : Type 0 where
   pub order : l.start < l.next
-  pub unbroken : Unbroken t l.start l.end
+  pub unbroken : NoBreakIn t l.start l.end
   pub ends : LineEnd t l.end l.next
-  pub indented : Indented t l.start l.indent
+  pub indented : SpacesFrom t l.start l.indent
 
 -- the text can be cut where the line begins, where it ends, and where the next begins
 pub record IsCutAt (t : List ℕ) (l : Line) : Type 0 where
@@ -55,7 +55,7 @@ pub record IsTable (t : List ℕ) (ls : List Line) : Type 0 where
   pub utf8 : IsUtf8 t
   pub lines : AreLines t ls
 
--- the offset does not stand inside of a CR LF
+-- the offset is not inside of a CR LF
 pub record Apart (t : List ℕ) (i : ℕ) : Type 0 where
   pub no_cr : code t i ≡ LINE_FEED → code t (i - 1) ≢ CARRIAGE_RETURN
 
@@ -67,7 +67,7 @@ is_mark c = c == BYTE_ORDER_MARK
 abbrev pub is_char : ℕ → Bool
 is_char c = nat_lt c no_char
 
--- byte order marks stand from i to j, and none at j
+-- byte order marks are from i to j, and none at j
 pub record Marks (t : List ℕ) (i j : ℕ) : Type 0 where
   pub marks : List ℕ
   pub run : Many t is_mark i j marks
@@ -75,20 +75,20 @@ pub record Marks (t : List ℕ) (i j : ℕ) : Type 0 where
 
 -- the line holds the offset: from its start to before the start of the next. The end of the text is held by a last line
 -- without a break
-pub data Holds (l : Line) (offset : ℕ) : Type 0 where
-  inside : l.start ≤ offset → offset < l.next → Holds l offset
-  at_text_end : l.end ≡ l.next → l.next ≡ offset → Holds l offset
+pub data LineHolds (l : Line) (offset : ℕ) : Type 0 where
+  inside : l.start ≤ offset → offset < l.next → LineHolds l offset
+  at_text_end : l.end ≡ l.next → l.next ≡ offset → LineHolds l offset
 
 -- the column of an offset in the line that begins at i: one more than the number of characters between the line's marks
 -- and the offset. An offset at a mark of the line's start has column 1
 pub data ColumnOf (t : List ℕ) (i offset : ℕ) : ℕ → Type 0 where
   among_marks : {j : ℕ} → Marks t i j → offset < j → ColumnOf t i offset 1
-  behind_marks : {j : ℕ} {x : List ℕ} → Marks t i j → Many t is_char j offset x → ColumnOf t i offset (length x + 1)
+  after_marks : {j : ℕ} {x : List ℕ} → Marks t i j → Many t is_char j offset x → ColumnOf t i offset (length x + 1)
 
 -- k lines begin at the offset or before, and no other does
-pub record Begun (ls : List Line) (offset k : ℕ) : Type 0 where
+pub record LinesBegunAt (ls : List Line) (offset k : ℕ) : Type 0 where
   pub before : (m : ℕ) (l : Line) → slice_get ls m ≡ Some l → m < k → l.start ≤ offset
-  pub behind : (m : ℕ) (l : Line) → slice_get ls m ≡ Some l → k ≤ m → offset < l.start
+  pub follows : (m : ℕ) (l : Line) → slice_get ls m ≡ Some l → k ≤ m → offset < l.start
 
 -- at the end of the text a line would begin: the text is empty, or it ends with a break
 pub data NewLine (t : List ℕ) : Type 0 where
@@ -97,12 +97,12 @@ pub data NewLine (t : List ℕ) : Type 0 where
 
 -- line and column of an offset, both from 1: those in the line that holds it, or column 1 of the line that would follow
 pub data PlaceOf (t : List ℕ) (offset : ℕ) : ℕ → ℕ → Type 0 where
-  in_line : {ls : List Line} {l : Line} {c : ℕ} (k : ℕ) → AreLines t ls → slice_get ls k ≡ Some l → Holds l offset
+  in_line : {ls : List Line} {l : Line} {c : ℕ} (k : ℕ) → AreLines t ls → slice_get ls k ≡ Some l → LineHolds l offset
       → ColumnOf t l.start offset c → PlaceOf t offset (k + 1) c
-  behind_lines : {ls : List Line} → AreLines t ls → offset ≡ length t → NewLine t → PlaceOf t offset (length ls + 1) 1
+  after_lines : {ls : List Line} → AreLines t ls → offset ≡ length t → NewLine t → PlaceOf t offset (length ls + 1) 1
 
 -- the line that begins at i is forbidden: after its marks it begins with a document marker
 pub record IsForbiddenLine (t : List ℕ) (i : ℕ) : Type 0 where
   pub at : ℕ
-  pub behind : Marks t i at
+  pub follows : Marks t i at
   pub marker : is_marker t at ≡ true

@@ -20,8 +20,8 @@ pub record Broke (old new : Option (List ℕ)) (after : Bool) (text : List ℕ) 
   pub appended : Appends old new front
 
 -- the text was written, or the writer failed
-abbrev pub Writes : Option (List ℕ) → Option (List ℕ) → Bool → Bool → List ℕ → Result Unit Fault → Type 0
-Writes old new before after text outcome = MatchResult outcome
+abbrev pub TextWritten : Option (List ℕ) → Option (List ℕ) → Bool → Bool → List ℕ → Result Unit Fault → Type 0
+TextWritten old new before after text outcome = MatchResult outcome
     (λ _. Wrote old new before after text)
     (λ fault. (fault ≡ WriteFailed) × Broke old new after text)
 

@@ -3,7 +3,7 @@ use Rattle.std.specs.Prelude.{◌≡◌, ℕ, zero, suc, ◌-◌, ◌<◌, ◌�
 use Rattle.yf_chars.specs.Signs.{CARRIAGE_RETURN, LINE_FEED}
 use Rattle.yf_chars.specs.Text.{code}
 use Rattle.yf_lines.specs.declared.line.Line.{Line}
-use Rattle.yf_lines.specs.declared.rows.LineRow.{LineRow}
+use Rattle.yf_lines.specs.declared.packed_lines.PackedLine.{PackedLine}
 
 -- how many bytes the break has that ends with these two characters: none, where it ends with no break
 abbrev pub break_width : ℕ → ℕ → ℕ
@@ -15,26 +15,26 @@ abbrev pub end_before : List ℕ → ℕ → ℕ
 end_before t n = n - break_width (code t (n - 2)) (code t (n - 1))
 
 -- the line of a row, after which the next line begins at n
-abbrev pub line_of : List ℕ → LineRow → ℕ → Line
+abbrev pub line_of : List ℕ → PackedLine → ℕ → Line
 line_of t r n = record { start = r.start; end = end_before t n; next = n; indent = r.indent }
 
 -- where the first of the lines begins
-abbrev pub first_start : List LineRow → ℕ → ℕ
+abbrev pub first_start : List PackedLine → ℕ → ℕ
 first_start [] e = e
 first_start (r ∷ rs) e = r.start
 
 -- the lines of rows
-abbrev pub lines_of : List ℕ → ℕ → List LineRow → List Line
+abbrev pub lines_of : List ℕ → ℕ → List PackedLine → List Line
 lines_of t e [] = []
 lines_of t e (r ∷ rs) = line_of t r (first_start rs e) ∷ lines_of t e rs
 
 -- where the line begins that follows the one at an index
-abbrev pub next_start : List LineRow → ℕ → ℕ → ℕ
+abbrev pub next_start : List PackedLine → ℕ → ℕ → ℕ
 next_start [] k e = e
 next_start (r ∷ rs) zero e = first_start rs e
 next_start (r ∷ rs) (suc k) e = next_start rs k e
 
 -- k rows begin at the offset or before, and no other does
-pub record RowsBegun (rs : List LineRow) (offset k : ℕ) : Type 0 where
-  pub before : (m : ℕ) (r : LineRow) → slice_get rs m ≡ Some r → m < k → r.start ≤ offset
-  pub behind : (m : ℕ) (r : LineRow) → slice_get rs m ≡ Some r → k ≤ m → offset < r.start
+pub record RowsBegun (rs : List PackedLine) (offset k : ℕ) : Type 0 where
+  pub before : (m : ℕ) (r : PackedLine) → slice_get rs m ≡ Some r → m < k → r.start ≤ offset
+  pub follows : (m : ℕ) (r : PackedLine) → slice_get rs m ≡ Some r → k ≤ m → offset < r.start

@@ -5,12 +5,12 @@ ghost use Rattle.std.specs.Str.{IsCharBoundary};
 ghost use Rattle.yf_chars.specs.Signs.{BYTE_ORDER_MARK, SPACE};
 ghost use Rattle.yf_chars.specs.Chain.{Many, Nowhere};
 ghost use Rattle.yf_chars.specs.Class.{is_break_char, is_white, is_white_or_end};
-ghost use Rattle.yf_chars.specs.Text.{code, Reads};
-ghost use Rattle.yf_lines.specs.Basic.{Break, LineStart, Spaces, Forbidden, is_marker, is_three};
-ghost use Rattle.yf_lines.specs.Lines.{Unbroken};
+ghost use Rattle.yf_chars.specs.Text.{code, CharAt};
+ghost use Rattle.yf_lines.specs.Basic.{Break, LineStart, Spaces, ForbiddenLine, is_marker, is_three};
+ghost use Rattle.yf_lines.specs.Lines.{NoBreakIn};
 
 use memchr::memchr2;
-use yf_chars::text::stands;
+use yf_chars::text::is_char_at;
 
 /// Reads a line break (b-break, production 28): the offset after it, or `None` where no break begins.
 ///
@@ -20,14 +20,14 @@ pub fn line_break(s: &str, at: usize) -> Option<usize>
     ensures boundary { IfSome result (λ j. IsCharBoundary s.now j) }
     ensures order { IfSome result (λ j. at < j) }
 {
-    if stands(s, at, b'\r') {
-        if stands(s, at + 1, b'\n') {
+    if is_char_at(s, at, b'\r') {
+        if is_char_at(s, at + 1, b'\n') {
             return Some(at + 2);
         }
         return Some(at + 1);
     }
-    if stands(s, at, b'\n') {
-        if stands(s, at.saturating_sub(1), b'\r') {
+    if is_char_at(s, at, b'\n') {
+        if is_char_at(s, at.saturating_sub(1), b'\r') {
             return None;
         }
         return Some(at + 1);
@@ -35,11 +35,11 @@ pub fn line_break(s: &str, at: usize) -> Option<usize>
     None
 }
 
-/// The first offset from there on at which a character of a line break stands, or the end of the text.
+/// The first offset from there on at which a character of a line break is, or the end of the text.
 #[inline(always)]
 pub fn next_break(s: &str, at: usize) -> usize
     requires { at ≤ length s.now }
-    ensures unbroken { Unbroken s.now at result }
+    ensures unbroken { NoBreakIn s.now at result }
     ensures stops { (is_break_char (code s.now result) ≡ true) ⊎ (result ≡ length s.now) }
     ensures boundary { IsCharBoundary s.now result }
 {
@@ -51,17 +51,17 @@ pub fn next_break(s: &str, at: usize) -> usize
 }
 
 /// Whether a white (space or tab) begins at the offset.
-pub fn white_stands(s: &str, at: usize) -> bool
+pub fn is_white_at(s: &str, at: usize) -> bool
     ensures value { result ≡ is_white (code s.now at) }
-    ensures read { MatchBool result (Reads s.now at (code s.now at) (at + 1)) (is_white (code s.now at) ≡ false) }
+    ensures read { MatchBool result (CharAt s.now at (code s.now at) (at + 1)) (is_white (code s.now at) ≡ false) }
 {
-    if stands(s, at, b' ') {
+    if is_char_at(s, at, b' ') {
         return true;
     }
-    stands(s, at, b'\t')
+    is_char_at(s, at, b'\t')
 }
 
-/// The offset after all white space that stands at the offset.
+/// The offset after all white space that is at the offset.
 pub fn skip_whites(s: &str, at: usize) -> usize
     requires { IsCharBoundary s.now at }
     ensures whites { (x : List ℕ) × Many s.now is_white at result x }
@@ -70,13 +70,13 @@ pub fn skip_whites(s: &str, at: usize) -> usize
     ensures order { at ≤ result }
 {
     let mut end = at;
-    while white_stands(s, end) {
+    while is_white_at(s, end) {
         end += 1;
     }
     end
 }
 
-/// The offset after all spaces that stand at the offset.
+/// The offset after all spaces that are at the offset.
 pub fn skip_spaces(s: &str, at: usize) -> usize
     requires { IsCharBoundary s.now at }
     ensures spaces { Spaces s.now at (result - at) }
@@ -85,14 +85,14 @@ pub fn skip_spaces(s: &str, at: usize) -> usize
     ensures order { at ≤ result }
 {
     let mut end = at;
-    while stands(s, end, b' ') {
+    while is_char_at(s, end, b' ') {
         end += 1;
     }
     end
 }
 
 /// Whether a byte order mark (U+FEFF) begins at the offset.
-pub fn mark_stands(s: &str, at: usize) -> bool
+pub fn is_mark_at(s: &str, at: usize) -> bool
     ensures { MatchBool result (code s.now at ≡ BYTE_ORDER_MARK) (code s.now at ≢ BYTE_ORDER_MARK) }
 {
     let bytes = s.as_bytes();
@@ -118,7 +118,7 @@ pub fn mark_ends(s: &str, at: usize) -> bool
     if at < 3 {
         return false;
     }
-    mark_stands(s, at - 3)
+    is_mark_at(s, at - 3)
 }
 
 /// Whether a line break ends at the offset.
@@ -128,11 +128,11 @@ pub fn break_ends(s: &str, at: usize) -> bool
     if at == 0 {
         return false;
     }
-    if stands(s, at - 1, b'\n') {
+    if is_char_at(s, at - 1, b'\n') {
         return true;
     }
-    if stands(s, at - 1, b'\r') {
-        if stands(s, at, b'\n') {
+    if is_char_at(s, at - 1, b'\r') {
+        if is_char_at(s, at, b'\n') {
             return false;
         }
         return true;
@@ -161,7 +161,7 @@ fn text_ends(s: &str, at: usize) -> bool
     true
 }
 
-/// Whether the offset is the start of a line: of the text, after a break, or after byte order marks that stand there.
+/// Whether the offset is the start of a line: of the text, after a break, or after byte order marks that are there.
 pub fn is_line_start(s: &str, at: usize) -> bool
     ensures { MatchBool result (LineStart s.now at) (LineStart s.now at → ⊥) }
 {
@@ -179,47 +179,47 @@ pub fn is_line_start(s: &str, at: usize) -> bool
 }
 
 /// Whether white, a line break or the end of the text follows at the offset.
-pub fn white_or_end_stands(s: &str, at: usize) -> bool
+pub fn is_white_or_end_at(s: &str, at: usize) -> bool
     requires { IsCharBoundary s.now at }
     ensures { result ≡ is_white_or_end (code s.now at) }
 {
-    if white_stands(s, at) {
+    if is_white_at(s, at) {
         return true;
     }
-    if stands(s, at, b'\n') {
+    if is_char_at(s, at, b'\n') {
         return true;
     }
-    if stands(s, at, b'\r') {
+    if is_char_at(s, at, b'\r') {
         return true;
     }
     at == s.len()
 }
 
-/// Whether a document marker, `---` or `...` before white, a break or the end of the text, stands at the offset
+/// Whether a document marker, `---` or `...` before white, a break or the end of the text, is at the offset
 /// (c-directives-end, production 203; c-document-end, production 204).
 #[inline(always)]
-pub fn marker_stands(s: &str, at: usize) -> bool
+pub fn is_marker_at(s: &str, at: usize) -> bool
     ensures { result ≡ is_marker s.now at }
 {
     if three_stand(s, at, b'-') {
-        return white_or_end_stands(s, at + 3);
+        return is_white_or_end_at(s, at + 3);
     }
     if three_stand(s, at, b'.') {
-        return white_or_end_stands(s, at + 3);
+        return is_white_or_end_at(s, at + 3);
     }
     false
 }
 
-// Whether that ASCII character stands three times from the offset on.
+// Whether that ASCII character is three times from the offset on.
 #[inline(always)]
 fn three_stand(s: &str, at: usize, byte: u8) -> bool
     requires { byte < 128 }
     ensures value { result ≡ is_three s.now at byte }
     ensures boundary { result ≡ true → IsCharBoundary s.now (at + 3) }
 {
-    if stands(s, at, byte) {
-        if stands(s, at + 1, byte) {
-            return stands(s, at + 2, byte);
+    if is_char_at(s, at, byte) {
+        if is_char_at(s, at + 1, byte) {
+            return is_char_at(s, at + 2, byte);
         }
         return false;
     }
@@ -230,9 +230,9 @@ fn three_stand(s: &str, at: usize, byte: u8) -> bool
 /// production 206).
 #[inline(always)]
 pub fn is_forbidden_at(s: &str, at: usize) -> bool
-    ensures { MatchBool result (Forbidden s.now at) (Forbidden s.now at → ⊥) }
+    ensures { MatchBool result (ForbiddenLine s.now at) (ForbiddenLine s.now at → ⊥) }
 {
-    if marker_stands(s, at) {
+    if is_marker_at(s, at) {
         return is_line_start(s, at);
     }
     false

@@ -11,9 +11,9 @@ ghost use Rattle.yf_lines.specs.Fold.{FoldsTo, FoldLines, ContentAt, line_feeds,
 
 use crate::basic::{line_break, skip_spaces, skip_whites};
 
-/// A folded line break: the number of empty lines in it, and the byte offset of what stands after it.
+/// A folded line break: the number of empty lines in it, and the byte offset of what is after it.
 ///
-/// It means a space where no empty line stands in it, else a line feed for each of them.
+/// It means a space where no empty line is in it, else a line feed for each of them.
 #[derive(Clone, Copy, PartialEq, Eq)]
 pub struct Fold {
     pub feeds: usize,

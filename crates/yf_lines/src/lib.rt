@@ -3,14 +3,15 @@
 #![tactic(auto)]
 
 pub mod basic;
+pub mod contexts;
 pub mod fault;
 mod feeds;
 pub mod fold;
 pub mod line;
 pub mod output;
+pub mod packed_lines;
 pub mod place;
 pub mod quotes;
-pub mod rows;
 pub mod slices;
 pub mod source_text;
 pub mod steady;

@@ -1,5 +1,5 @@
 //! Writing a whole text.
-ghost use Rattle.yf_lines.specs.Output.{Writes, texts};
+ghost use Rattle.yf_lines.specs.Output.{TextWritten, texts};
 
 use crate::fault::Fault;
 use crate::watched::Sink;
@@ -9,7 +9,7 @@ use crate::watched::Sink;
 /// A write that fails, or that takes no bytes, is answered by `WriteFailed`; a prefix of the bytes has then been
 /// written. Nothing is flushed: a writer that keeps bytes back is flushed by its owner.
 pub fn write_text<W: Sink>(writer: &mut W, bytes: &[u8]) -> Result<(), Fault>
-    ensures { Writes (W.contents writer.old) (W.contents writer.new)
+    ensures { TextWritten (W.contents writer.old) (W.contents writer.new)
         (W.has_failed writer.old) (W.has_failed writer.new) bytes.now result }
 {
     let mut rest = bytes;
@@ -28,7 +28,7 @@ pub fn write_text<W: Sink>(writer: &mut W, bytes: &[u8]) -> Result<(), Fault>
 
 /// Writes the texts one after another, up to the first that is not written whole.
 pub fn write_texts<W: Sink>(writer: &mut W, parts: &[&str]) -> Result<(), Fault>
-    ensures { Writes (W.contents writer.old) (W.contents writer.new)
+    ensures { TextWritten (W.contents writer.old) (W.contents writer.new)
         (W.has_failed writer.old) (W.has_failed writer.new) (texts parts.now) result }
 {
     for part in parts {

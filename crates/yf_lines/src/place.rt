@@ -1,9 +1,12 @@
-//! A place in a text.
+//! A position in a text.
 
-/// A place in a text: line and column, both from 1, in characters. Byte order marks at the start of a line are not
+/// A position in a text: line and column, both from 1, in characters. Byte order marks at the start of a line are not
 /// counted in columns.
 #[derive(Clone, Copy, Debug, PartialEq, Eq)]
-pub struct Place {
+pub struct Position {
     pub line: usize,
     pub column: usize,
 }
+
+/// The name of `Position` in earlier versions.
+pub type Place = Position;

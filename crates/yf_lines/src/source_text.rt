@@ -4,7 +4,7 @@ ghost use Rattle.std.specs.Str.{IsCharBoundary};
 ghost use Rattle.yf_lines.specs.declared.line.Line.{Line};
 ghost use Rattle.yf_lines.specs.Lines.{AreLines, PlaceOf};
 
-use crate::place::Place;
+use crate::place::Position;
 use crate::table::LineTable;
 use std::alloc::{AllocError, Global};
 use std::marker::Model;
@@ -55,7 +55,7 @@ impl<'a> Src<'a> {
     }
 
     /// The place of the offset: its line and column, both from 1.
-    pub fn place(&self, offset: usize) -> Place
+    pub fn place(&self, offset: usize) -> Position
         requires { IsCharBoundary self.now.text offset }
         ensures place { PlaceOf self.now.text offset result.line result.column }
         ensures only { (line column : ℕ) → PlaceOf self.now.text offset line column → (line ≡ result.line) × (column ≡ result.column) }

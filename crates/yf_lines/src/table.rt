@@ -2,14 +2,14 @@
 ghost use Rattle.std.specs.Prelude.{◌≡◌, ◌↔◌, ◌≢◌, ◌+◌, ◌-◌, ◌<◌, ◌≤◌, ℕ, true, false, Some, List, [], ◌∷◌, length, slice_get, IfOk, IfSome, IsTrue, MatchBool};
 ghost use Rattle.std.specs.Str.{IsCharBoundary};
 ghost use Rattle.yf_chars.specs.Chain.{Many};
-ghost use Rattle.yf_lines.specs.Basic.{LineStart, Forbidden, Clear};
+ghost use Rattle.yf_lines.specs.Basic.{LineStart, ForbiddenLine, Clear};
 ghost use Rattle.yf_lines.specs.declared.line.Line.{Line};
 ghost use Rattle.yf_lines.specs.Lines.{AreLines, IsLine, IsCutAt, OneLine, Apart, Marks, IsForbiddenLine, PlaceOf, ColumnOf, is_char};
 
-use crate::basic::{line_break, mark_stands, marker_stands, next_break, skip_spaces};
+use crate::basic::{is_mark_at, is_marker_at, line_break, next_break, skip_spaces};
 use crate::line::Line;
-use crate::place::Place;
-use crate::rows::{LineRow, line_at, lines_begun, row_of};
+use crate::packed_lines::{PackedLine, line_at, lines_begun, row_of};
+use crate::place::Position;
 use std::alloc::{AllocError, Global};
 use std::marker::Model;
 use yf_chars::text::peek;
@@ -18,7 +18,7 @@ use yf_chars::text::peek;
 #[derive(Drop)]
 pub struct LineTable<'a> {
     text: &'a str,
-    rows: Vec<LineRow>,
+    rows: Vec<PackedLine>,
 }
 
 impl<'a> Model for LineTable<'a> {
@@ -99,7 +99,7 @@ impl<'a> LineTable<'a> {
         ensures line { IfSome (slice_get self.now.lines i)
             (λ l. MatchBool result (IsForbiddenLine self.now.text l.start) (IsForbiddenLine self.now.text l.start → ⊥)) }
         ensures within { IfSome (slice_get self.now.lines i)
-            (λ l. MatchBool result ((h : ℕ) × (l.start ≤ h) × (h < l.next) × Forbidden self.now.text h)
+            (λ l. MatchBool result ((h : ℕ) × (l.start ≤ h) × (h < l.next) × ForbiddenLine self.now.text h)
             (Clear self.now.text l.start l.next)) }
     {
         let start = self.line(i).start;
@@ -109,25 +109,25 @@ impl<'a> LineTable<'a> {
     /// The place of the offset: its line and column, both from 1.
     ///
     /// The line is found by halving, and the column by counting the characters of that line alone.
-    pub fn place(&self, offset: usize) -> Place
+    pub fn place(&self, offset: usize) -> Position
         requires { IsCharBoundary self.now.text offset }
         ensures place { PlaceOf self.now.text offset result.line result.column }
         ensures only { (line column : ℕ) → PlaceOf self.now.text offset line column → (line ≡ result.line) × (column ≡ result.column) }
     {
         let begun = lines_begun(self.rows.as_slice(), offset);
         if begun == 0 {
-            return Place { line: 1, column: 1 };
+            return Position { line: 1, column: 1 };
         }
         let line = self.line(begun - 1);
         if line.end < line.next {
             if offset == line.next {
-                return Place {
+                return Position {
                     line: begun + 1,
                     column: 1,
                 };
             }
         }
-        Place {
+        Position {
             line: begun,
             column: column_in_line(self.text, line.start, offset),
         }
@@ -176,10 +176,10 @@ fn is_forbidden_line(text: &str, start: usize) -> bool
     ensures { MatchBool result (IsForbiddenLine text.now start) (IsForbiddenLine text.now start → ⊥) }
 {
     let at = skip_marks(text, start);
-    marker_stands(text, at)
+    is_marker_at(text, at)
 }
 
-/// The offset after all byte order marks that stand at the offset.
+/// The offset after all byte order marks that are at the offset.
 pub fn skip_marks(text: &str, at: usize) -> usize
     requires { IsCharBoundary text.now at }
     ensures marks { Marks text.now at result }
@@ -187,7 +187,7 @@ pub fn skip_marks(text: &str, at: usize) -> usize
     ensures boundary { IsCharBoundary text.now result }
 {
     let mut end = at;
-    while mark_stands(text, end) {
+    while is_mark_at(text, end) {
         end += 3;
     }
     end

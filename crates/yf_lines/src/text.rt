@@ -39,9 +39,12 @@ pub enum Text<'a> {
     Owned(OwnedText),
 }
 
-/// What a reader of texts answers: the text that stands there with the offset after it, `None` where none does, or a
+/// What a reader of texts answers: the text that is there with the offset after it, `None` where none is, or a
 /// refusal.
-pub type FoundText<'a> = Result<Option<(Text<'a>, usize)>, Fault>;
+pub type FoundText<'a> = ReadResult<(Text<'a>, usize)>;
+
+/// What a reader answers: what was read, `None` where nothing of the kind is there, or a refusal.
+pub type ReadResult<T> = Result<Option<T>, Fault>;
 
 impl Text<'_> {
     ghost use Rattle.yf_lines.specs.Text.{text_bytes};

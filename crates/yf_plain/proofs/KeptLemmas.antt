@@ -12,16 +12,16 @@ use lib.Utf8.{encode, encodes}
 use Rattle.std.proofs.lemmas.Bool.Decides.{nat_tests}
 use Rattle.yf_chars.specs.declared.context.Ctx.{Ctx}
 use Rattle.yf_chars.specs.declared.context.Ctx.TheVariants.{BlockOut, BlockIn, FlowOut, FlowIn, BlockKey, FlowKey}
-use Rattle.yf_chars.specs.Text.{code, next, before, first_or_none, last_or, Reads}
+use Rattle.yf_chars.specs.Text.{code, next, before, first_or_none, last_or, CharAt}
 use Rattle.yf_chars.specs.Class.{is_ns_char, is_white, is_plain_safe, is_indicator}
 use Rattle.yf_chars.specs.Chain.{Chain, Many}
 use Rattle.yf_chars.specs.Chain.Chain.{done, step}
 use Rattle.yf_chars.specs.Chain.One.{one}
 use Rattle.yf_chars.proofs.ChainLemmas.{chain_append}
 use Rattle.yf_chars.proofs.TextLemmas.{reads_real, next_ascii}
-use Rattle.yf_lines.specs.Basic.{Empty, Folded, FlowFolded, is_block}
+use Rattle.yf_lines.specs.Basic.{Empty, FoldedBreak, FlowFolded, is_block}
 use Rattle.yf_lines.specs.Basic.Empty.{prefixed, shorter}
-use Rattle.yf_lines.specs.Basic.Folded.{trimmed, as_space}
+use Rattle.yf_lines.specs.Basic.FoldedBreak.{trimmed, as_space}
 use Rattle.yf_lines.specs.Basic.FlowFolded.{at_break, past_whites}
 use Rattle.yf_lines.specs.Steady.{is_steady, has_line_feed, ends_with_colon, is_only, is_marker_of}
 use Rattle.yf_lines.proofs.BasicLemmas.{white_below}
@@ -30,7 +30,7 @@ use Rattle.yf_plain.specs.Plain.{is_plain_first, is_plain_char, is_sign, PlainIt
 use Rattle.yf_plain.specs.Plain.PlainItem.{set_off}
 use Rattle.yf_plain.specs.Plain.PlainLine.{one_line}
 use Rattle.yf_plain.specs.Plain.PlainText.{as_key, as_lines}
-use Rattle.yf_plain.specs.Kept.{starts_plain, goes_on_plain, is_plain_behind, is_plain_line, IsPlain, is_inside, StaysPlain}
+use Rattle.yf_plain.specs.Kept.{starts_plain, goes_on_plain, is_plain_after, is_plain_line, IsPlain, is_inside, StaysPlain}
 use Rattle.yf_plain.proofs.PlainLemmas.{ns_colon, ns_hash, plain_is_ns, first_is_ns, ns_below, ns_not_white, safe_is_ns}
 use Rattle.yf_plain.proofs.LineLemmas.{PlainStep, stay, move, items_stay, nexts_steps, folds_to, fold_before, content_no_break}
 
@@ -147,7 +147,7 @@ fold_kind {t} {n} f = go f where
   empty z (prefixed p b) = (z, refl)
   empty z (shorter p b) = (z, refl)
 
-  fold : {i h : ℕ} {x : List ℕ} → Folded t n FlowIn i h x → (x ≡ 32 ∷ []) ⊎ ((y : List ℕ) × (x ≡ 10 ∷ y))
+  fold : {i h : ℕ} {x : List ℕ} → FoldedBreak t n FlowIn i h x → (x ≡ 32 ∷ []) ⊎ ((y : List ℕ) × (x ≡ 10 ∷ y))
   fold (trimmed {y = y} b e c) = inr (empty y e)
   fold (as_space b) = inl refl
 
@@ -167,24 +167,24 @@ goes_on {t} {n} {c} {k} e (step {y = y} s d) = inr (go e s y) where
   go e (stay s) y = item e s y
   go e (move {h = h} f g) y = absurd (fold_not_item done (content_no_break e) (ns_not_white (code t k) e) (folds_to f (plain_is_ns t c h g)))
 
--- white space, and what stands after them
-white_then : (y : Ctx) (b c : ℕ) (z : List ℕ) → is_white c ≡ true → is_plain_behind y c z ≡ true → is_plain_behind y b (c ∷ z) ≡ true
-unfolding is_plain_behind
+-- white space, and what is after them
+white_then : (y : Ctx) (b c : ℕ) (z : List ℕ) → is_white c ≡ true → is_plain_after y c z ≡ true → is_plain_after y b (c ∷ z) ≡ true
+unfolding is_plain_after
 white_then y b c z e f = and_from _ _ (or_left (is_white c) (goes_on_plain y b c (first_or_none z)) e) f
 
-char_then : (y : Ctx) (b c : ℕ) (z : List ℕ) → goes_on_plain y b c (first_or_none z) ≡ true → is_plain_behind y c z ≡ true → is_plain_behind y b (c ∷ z) ≡ true
-unfolding is_plain_behind
+char_then : (y : Ctx) (b c : ℕ) (z : List ℕ) → goes_on_plain y b c (first_or_none z) ≡ true → is_plain_after y c z ≡ true → is_plain_after y b (c ∷ z) ≡ true
+unfolding is_plain_after
 char_then y b c z e f = and_from _ _ (or_right (is_white c) (goes_on_plain y b c (first_or_none z)) e) f
 
-end_then : (y : Ctx) (b : ℕ) → is_ns_char b ≡ true → is_plain_behind y b [] ≡ true
-unfolding is_plain_behind
+end_then : (y : Ctx) (b : ℕ) → is_ns_char b ≡ true → is_plain_after y b [] ≡ true
+unfolding is_plain_after
 end_then y b e = e
 
 whites_then : {t : List ℕ} {i h : ℕ} {w : List ℕ} (y : Ctx) (z : List ℕ) → IsUtf8 t → Many t is_white i h w → (b : ℕ) → before t i ≡ b
-    → ((b' : ℕ) → before t h ≡ b' → is_plain_behind y b' z ≡ true) → is_plain_behind y b (w ++ z) ≡ true
+    → ((b' : ℕ) → before t h ≡ b' → is_plain_after y b' z ≡ true) → is_plain_after y b (w ++ z) ≡ true
 whites_then y z u done b e f = f b e
 whites_then {t} y z u (step (one {i = i} w) m) b e f =
-    let r : Reads t i (code t i) (next t i) = reads_real t i u (let low = white_below (code t i) w in omega arith) in
+    let r : CharAt t i (code t i) (next t i) = reads_real t i u (let low = white_below (code t i) w in omega arith) in
     white_then y b (code t i) _ w (whites_then y z u m (code t i) r.back f)
 
 -- characters of a scalar, by themselves
@@ -192,8 +192,8 @@ record Moves (x y : Ctx) : Type 0 where
   pub safe : (e : ℕ) → is_plain_safe e x ≡ true → is_plain_safe e y ≡ true
 
 char_kept : {t : List ℕ} {n : ℤ} {c : Ctx} {j : ℕ} {z : List ℕ} (y : Ctx) (h : ℕ) → IsUtf8 t → Moves c y → is_plain_char t c h ≡ true
-    → Chain (PlainStep t n c) (next t h) j z → is_plain_behind y (code t h) z ≡ true → last_or (code t h) z ≢ 58
-    → (b : ℕ) → (code t h ≡ 35 → is_ns_char (before t h) ≡ true → is_ns_char b ≡ true) → is_plain_behind y b (code t h ∷ z) ≡ true
+    → Chain (PlainStep t n c) (next t h) j z → is_plain_after y (code t h) z ≡ true → last_or (code t h) z ≢ 58
+    → (b : ℕ) → (code t h ≡ 35 → is_ns_char (before t h) ≡ true → is_ns_char b ≡ true) → is_plain_after y b (code t h ∷ z) ≡ true
 char_kept {t} {c = c} {z = z} y h u m e d rest last b hash =
     char_then y b (code t h) z (goes_moves c y (before t h) b (code t h) (code t (h + 1)) (first_or_none z) m.safe hash colon (sym (char_is t c h) ∙ e)) rest
   where
@@ -205,25 +205,25 @@ char_kept {t} {c = c} {z = z} y h u m e d rest last b hash =
         (λ (f : first_or_none z ≡ code t (next t h)). ap (λ w. is_plain_safe w y) (f ∙ ap (code t) place) ∙ m.safe (code t (h + 1)) s)
         (goes_on ns d)
 
-behind_kept : {t : List ℕ} {n : ℤ} {c : Ctx} {i j : ℕ} {x : List ℕ} (y : Ctx) → IsUtf8 t → Moves c y → Chain (PlainStep t n c) i j x
-    → (b : ℕ) → before t i ≡ b → is_ns_char b ≡ true → NoFeed x → last_or b x ≢ 58 → is_plain_behind y b x ≡ true
-behind_kept {t} y u m done b e n free last = end_then y b n
-behind_kept {t} {n} {c} y u m (step {y = z} (stay (set_off {h = h} {x = w} ws p)) d) b e ns free last =
+after_kept : {t : List ℕ} {n : ℤ} {c : Ctx} {i j : ℕ} {x : List ℕ} (y : Ctx) → IsUtf8 t → Moves c y → Chain (PlainStep t n c) i j x
+    → (b : ℕ) → before t i ≡ b → is_ns_char b ≡ true → NoFeed x → last_or b x ≢ 58 → is_plain_after y b x ≡ true
+after_kept {t} y u m done b e n free last = end_then y b n
+after_kept {t} {n} {c} y u m (step {y = z} (stay (set_off {h = h} {x = w} ws p)) d) b e ns free last =
     let whole : (w ++ (code t h ∷ [])) ++ z ≡ w ++ (code t h ∷ z) = append_assoc w (code t h ∷ []) z in
-    let r : Reads t h (code t h) (next t h) = reads_real t h u (ns_below (code t h) (plain_is_ns t c h p)) in
+    let r : CharAt t h (code t h) (next t h) = reads_real t h u (ns_below (code t h) (plain_is_ns t c h p)) in
     let free' : NoFeed (w ++ (code t h ∷ z)) = subst (λ v. NoFeed v) whole free in
     let last' : last_or (code t h) z ≢ 58 = λ q. last (ap (last_or b) whole ∙ last_append b (code t h) w z ∙ q) in
-    let rest = behind_kept y u m d (code t h) r.back (plain_is_ns t c h p) (no_feed_append w (code t h ∷ z) free').1.1 last' in
-    ap (is_plain_behind y b) whole ∙ whites_then y (code t h ∷ z) u ws b e (λ b' f. char_kept y h u m p d rest last' b' (λ q s. ap is_ns_char (sym f) ∙ s))
-behind_kept {t} {n} {c} y u m (step {y = z} (move {h = h} {x = w} f p) d) b e ns free last =
+    let rest = after_kept y u m d (code t h) r.back (plain_is_ns t c h p) (no_feed_append w (code t h ∷ z) free').1.1 last' in
+    ap (is_plain_after y b) whole ∙ whites_then y (code t h ∷ z) u ws b e (λ b' f. char_kept y h u m p d rest last' b' (λ q s. ap is_ns_char (sym f) ∙ s))
+after_kept {t} {n} {c} y u m (step {y = z} (move {h = h} {x = w} f p) d) b e ns free last =
     let whole : (w ++ (code t h ∷ [])) ++ z ≡ w ++ (code t h ∷ z) = append_assoc w (code t h ∷ []) z in
-    let r : Reads t h (code t h) (next t h) = reads_real t h u (ns_below (code t h) (plain_is_ns t c h p)) in
+    let r : CharAt t h (code t h) (next t h) = reads_real t h u (ns_below (code t h) (plain_is_ns t c h p)) in
     let free' : NoFeed (w ++ (code t h ∷ z)) = subst (λ v. NoFeed v) whole free in
     let last' : last_or (code t h) z ≢ 58 = λ q. last (ap (last_or b) whole ∙ last_append b (code t h) w z ∙ q) in
-    let rest = behind_kept y u m d (code t h) r.back (plain_is_ns t c h p) (no_feed_append w (code t h ∷ z) free').1.1 last' in
+    let rest = after_kept y u m d (code t h) r.back (plain_is_ns t c h p) (no_feed_append w (code t h ∷ z) free').1.1 last' in
     let no_hash : code t h ≡ 35 → is_ns_char (before t h) ≡ true → is_ns_char 32 ≡ true = λ q s. absurd (true≢false (sym s ∙ fold_before u (folds_to f (plain_is_ns t c h p)))) in
     ⊎_elim (λ (q : w ≡ 32 ∷ []).
-    ap (is_plain_behind y b) (whole ∙ ap (λ v. v ++ (code t h ∷ z)) q) ∙ white_then y b 32 (code t h ∷ z) white_space (char_kept y h u m p d rest last' 32 no_hash))
+    ap (is_plain_after y b) (whole ∙ ap (λ v. v ++ (code t h ∷ z)) q) ∙ white_then y b 32 (code t h ∷ z) white_space (char_kept y h u m p d rest last' 32 no_hash))
     (λ (q : (v : List ℕ) × (w ≡ 10 ∷ v)). absurd ((subst (λ v. NoFeed v) q.1 (no_feed_append w (code t h ∷ z) free').0).0 refl))
     (fold_kind f)
 
@@ -298,10 +298,10 @@ line_kept : {t : List ℕ} {n : ℤ} {c : Ctx} {j : ℕ} {x : List ℕ} (y : Ctx
 unfolding is_plain_line
 line_kept {t} {n} {c} {x = x} y i u m e d s =
     let ns : is_ns_char (code t i) ≡ true = first_is_ns t c i e in
-    let r : Reads t i (code t i) (next t i) = reads_real t i u (ns_below (code t i) ns) in
+    let r : CharAt t i (code t i) (next t i) = reads_real t i u (ns_below (code t i) ns) in
     let last : last_or (code t i) x ≢ 58 = λ q. true≢false (sym (colon_end (code t i) x q) ∙ s.colon) in
     and_from _ _ (starts_moves c y (code t i) (code t (i + 1)) (first_or_none x) sign (sym (first_is t c i) ∙ e))
-    (behind_kept y u m d (code t i) r.back ns (free_of (code t i ∷ x) s.feed).1 last)
+    (after_kept y u m d (code t i) r.back ns (free_of (code t i ∷ x) s.feed).1 last)
   where
     alone : (z : List ℕ) → x ≡ z → code t i ≡ 63 ⊎ (code t i ≡ 58 ⊎ code t i ≡ 45) → z ≡ [] → ⊥
     alone z f k q =

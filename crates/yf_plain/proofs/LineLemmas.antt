@@ -6,25 +6,25 @@ use Rattle.std.proofs.lemmas.Bool.{true≢false}
 use Rattle.std.specs.Str.{IsUtf8}
 use Rattle.yf_chars.specs.declared.context.Ctx.{Ctx}
 use Rattle.yf_chars.specs.declared.context.Ctx.TheVariants.{BlockOut, BlockIn, FlowOut, FlowIn, BlockKey, FlowKey}
-use Rattle.yf_chars.specs.Text.{code, next, before, Reads}
+use Rattle.yf_chars.specs.Text.{code, next, before, CharAt}
 use Rattle.yf_chars.specs.Class.{is_ns_char, is_white}
 use Rattle.yf_chars.specs.Chain.{Chain, Functional, Stuck, Chosen, Nowhere}
 use Rattle.yf_chars.specs.Chain.Chain.{done, step}
 use Rattle.yf_chars.proofs.ChainLemmas.{chain_chosen, chain_append, chain_forward, chain_meet, Meets}
 use Rattle.yf_chars.proofs.ChainLemmas.Meets.{goes_on, falls_short}
 use Rattle.yf_chars.proofs.TextLemmas.{reads_real, next_later}
-use Rattle.yf_lines.specs.Basic.{Break, Forbidden, Clear, FlowFolded, is_block, is_flow, is_key}
+use Rattle.yf_lines.specs.Basic.{Break, ForbiddenLine, Clear, FlowFolded, is_block, is_flow, is_key}
 use Rattle.yf_lines.specs.Basic.LineStart.{after_break}
 use Rattle.yf_lines.specs.Fold.{FoldsTo, line_feeds, fold_text}
 use Rattle.yf_lines.proofs.BasicLemmas.{clear_join, clear_front, clear_back, clear_nothing, break_forward, no_break_here}
-use Rattle.yf_lines.proofs.ClearLemmas.{Quiet, quiet_join, clear_quiet, line_start_behind, Spelled, spelled_join, spelled_char, spelled_whites, spelled_nothing}
+use Rattle.yf_lines.proofs.ClearLemmas.{Quiet, quiet_join, clear_quiet, line_start_after, Spelled, spelled_join, spelled_char, spelled_whites, spelled_nothing}
 use Rattle.yf_lines.proofs.FoldLemmas.{folds_functional, folds_forward, clear_fold, fold_line, FoldLine, no_fold_indent, fold_not_item}
 use Rattle.yf_plain.specs.Plain.{is_plain_first, is_plain_char, PlainItem, PlainLine, PlainNext, PlainText, PlainFront, Plain, NextLine, NoNextLine}
 use Rattle.yf_plain.specs.Plain.PlainItem.{set_off}
 use Rattle.yf_plain.specs.Plain.PlainLine.{one_line}
 use Rattle.yf_plain.specs.Plain.PlainNext.{next_line}
 use Rattle.yf_plain.specs.Plain.PlainText.{as_key, as_lines}
-use Rattle.yf_plain.proofs.PlainLemmas.{item_functional, items_quiet, plain_is_ns, first_is_ns, quiet_ns, behind_whites, ns_below, ns_not_white, ns_lf, ns_cr, ns_mark, white_not_ns}
+use Rattle.yf_plain.proofs.PlainLemmas.{item_functional, items_quiet, plain_is_ns, first_is_ns, quiet_ns, after_whites, ns_below, ns_not_white, ns_lf, ns_cr, ns_mark, white_not_ns}
 
 -- one character further: on the same line, or the first one of a next line
 pub data PlainStep (t : List ℕ) (n : ℤ) (c : Ctx) : ℕ → ℕ → List ℕ → Type 0 where
@@ -240,28 +240,28 @@ enders : (d : ℕ) → (d ≡ 10) ⊎ ((d ≡ 13) ⊎ (d ≡ 0xFEFF)) → is_ns_
 enders d e = ⊎_elim (λ (f : d ≡ 10). ap is_ns_char f ∙ ns_lf)
     (λ (g : (d ≡ 13) ⊎ (d ≡ 0xFEFF)). ⊎_elim (λ (f : d ≡ 13). ap is_ns_char f ∙ ns_cr) (λ (f : d ≡ 0xFEFF). ap is_ns_char f ∙ ns_mark) g) e
 
--- what stands before the first character of a next line is no character of content
+-- what is before the first character of a next line is no character of content
 pub fold_before : {t : List ℕ} {n : ℤ} {i h : ℕ} {x : List ℕ} → IsUtf8 t → FoldsTo t n i h x → is_ns_char (before t h) ≡ false
 fold_before {t} {n} {i} {h} u f = go (fold_line f) where
   at_start : {l g : ℕ} → Break t g l → is_ns_char (before t l) ≡ false
   at_start {l} {g} b = ⊎_elim (λ (z : l ≡ 0). let k = break_forward b in absurd (omega arith))
-      (λ (w : (k : ℕ) × (d : ℕ) × Reads t k d l × ((d ≡ 10) ⊎ ((d ≡ 13) ⊎ (d ≡ 0xFEFF)))). ap is_ns_char w.2.back ∙ enders w.1 w.3)
-      (line_start_behind u (after_break b))
+      (λ (w : (k : ℕ) × (d : ℕ) × CharAt t k d l × ((d ≡ 10) ⊎ ((d ≡ 13) ⊎ (d ≡ 0xFEFF)))). ap is_ns_char w.2.back ∙ enders w.1 w.3)
+      (line_start_after u (after_break b))
 
   go : FoldLine t h → is_ns_char (before t h) ≡ false
   go l = ⊎_elim (λ (e : l.line ≡ h). ap (λ k. is_ns_char (before t k)) (sym e) ∙ at_start l.ends)
-      (λ (e : is_white (before t h) ≡ true). white_not_ns (before t h) e) (behind_whites u l.whites)
+      (λ (e : is_white (before t h) ≡ true). white_not_ns (before t h) e) (after_whites u l.whites)
 
-pub no_next_at : {t : List ℕ} {n : ℤ} {c : Ctx} {i h : ℕ} {x : List ℕ} → FoldsTo t n i h x → (is_plain_char t c h ≡ true → (Forbidden t h → ⊥) → ⊥) → NoNextLine t n c i
+pub no_next_at : {t : List ℕ} {n : ℤ} {c : Ctx} {i h : ℕ} {x : List ℕ} → FoldsTo t n i h x → (is_plain_char t c h ≡ true → (ForbiddenLine t h → ⊥) → ⊥) → NoNextLine t n c i
 no_next_at {t} {n} {c} {i} {h} f refuse = record {
   none = λ k y g e a. let same : k ≡ h = (folds_functional t n).one_end g f in
-      refuse (subst (λ m. is_plain_char t c m ≡ true) same e) (λ q. a (subst (λ m. Forbidden t m) (sym same) q));
+      refuse (subst (λ m. is_plain_char t c m ≡ true) same e) (λ q. a (subst (λ m. ForbiddenLine t m) (sym same) q));
 }
 
 pub no_next_fold : {t : List ℕ} {n : ℤ} {c : Ctx} {i : ℕ} → Stuck (FoldsTo t n i) → NoNextLine t n c i
 no_next_fold s = record { none = λ k y g e a. s.none k y g }
 
--- the characters of a line are those that stand there
+-- the characters of a line are those that are there
 item_spelled : {t : List ℕ} {c : Ctx} {i j : ℕ} {x : List ℕ} → IsUtf8 t → PlainItem t c i j x → Spelled t i j x
 item_spelled {t} {c} u (set_off {h = h} w e) = spelled_join (spelled_whites u w) (spelled_char (reads_real t h u (ns_below (code t h) (plain_is_ns t c h e))))
 
@@ -349,7 +349,7 @@ no_next_negative l = no_next_fold (no_fold_indent l)
 -- a scalar that is a longer one's front goes on after its end: with a character of the line, or with a next line
 pub data Onward (t : List ℕ) (n : ℤ) (c : Ctx) (k l : ℕ) : Type 0 where
   on_line : {j : ℕ} {x : List ℕ} → PlainItem t c k j x → Onward t n c k l
-  on_next : {h : ℕ} {x : List ℕ} → FoldsTo t n k h x → is_plain_char t c h ≡ true → (Forbidden t h → ⊥) → h < l → Onward t n c k l
+  on_next : {h : ℕ} {x : List ℕ} → FoldsTo t n k h x → is_plain_char t c h ≡ true → (ForbiddenLine t h → ⊥) → h < l → Onward t n c k l
 
 step_onward : {t : List ℕ} {n : ℤ} {c : Ctx} {k j l : ℕ} {x : List ℕ} → ClearStep t n c k j x → j ≤ l → Onward t n c k l
 step_onward {t} {n} {c} {k} {l = l} s m = go (kind s.go) s.clear m where

@@ -1,4 +1,4 @@
--- Ordinary characters stand in plain scalars.
+-- Ordinary characters are in plain scalars.
 use Rattle.std.proofs.Common.{◌≡◌, ◌≢◌, ℕ, zero, suc, ◌+◌, ◌<◌, ◌≤◌, ⊎_elim, Bool, true, false, List, [], ◌∷◌, refl, sym, ap, ◌∙◌, subst, arith, get_or, length}
 use Rattle.std.proofs.lemmas.Bool.{cases_Bool, true≢false}
 use Rattle.std.proofs.lemmas.Bool.Decides.{nat_tests}
@@ -7,7 +7,7 @@ use Rattle.yf_chars.specs.declared.context.Ctx.{Ctx}
 use Rattle.yf_chars.specs.declared.context.Ctx.TheVariants.{BlockOut, BlockIn, FlowOut, FlowIn, BlockKey, FlowKey}
 use Rattle.yf_chars.specs.Class.{is_indicator, is_ns_char, is_nb_char, is_printable, is_between, is_break_char, is_white, is_plain_safe, is_flow_indicator}
 use Rattle.yf_chars.specs.Lanes.{LaneRun}
-use Rattle.yf_chars.specs.Text.{before, code, Reads}
+use Rattle.yf_chars.specs.Text.{before, code, CharAt}
 use Rattle.yf_chars.proofs.ChainLemmas.{chain_more, many_more}
 use Rattle.yf_chars.proofs.TextLemmas.{byte_from_code, reads_ascii}
 use Rattle.yf_chars.specs.Chain.{Chain, Many}
@@ -19,7 +19,7 @@ use Rattle.yf_plain.specs.Ordinary.{is_letter, is_ordinary, is_outer, EndAt, Let
 use Rattle.yf_plain.specs.Plain.{is_sign, PlainItem}
 use Rattle.yf_plain.proofs.PlainLemmas.{plain_other, plain_colon, first_other, char_first, safe_is_ns, item_stuck, item_found, plain_is_ns}
 
--- a class of characters that may stand in a plain scalar in the context, whatever stands beside them
+-- a class of characters that may be in a plain scalar in the context, whatever is beside them
 pub record Ordinary (test : ℕ → Bool) (x : Ctx) : Type 0 where
   pub below : (c : ℕ) → test c ≡ true → c < 128
   pub no_colon : (c : ℕ) → test c ≡ true → c ≢ 58
@@ -86,20 +86,20 @@ ordinary_at {test} {x} s t i u l e =
     let r = reads_ascii t i u l (s.below (get_or t i 0) e) in
     let o : test (code t i) ≡ true = ap test r.char ∙ e in
     record {
-      reads = subst (λ c. Reads t i c (i + 1)) (sym r.char) r;
+      reads = subst (λ c. CharAt t i c (i + 1)) (sym r.char) r;
       plain = plain_other t x i (s.no_colon (code t i) o) (s.no_sign (code t i) o) ∙ s.safe (code t i) o;
     }
 
 -- such characters up to j, after a character of content
 pub record OrdinaryRun (t : List ℕ) (c : Ctx) (i j : ℕ) : Type 0 where
   pub reads : (x : List ℕ) × Chain (PlainItem t c) i j x
-  pub behind : is_ns_char (before t j) ≡ true
+  pub follows : is_ns_char (before t j) ≡ true
   pub boundary : IsCharBoundary t j
 
 run_more : {t : List ℕ} {c : Ctx} {i j : ℕ} → OrdinaryRun t c i j → OrdinaryAt t c j → OrdinaryRun t c i (j + 1)
 run_more {t} {c} {j = j} r o = record {
   reads = (_, chain_more r.reads.1 (item_found done o.plain o.reads).1);
-  behind = ap is_ns_char o.reads.back ∙ plain_is_ns t c j o.plain;
+  follows = ap is_ns_char o.reads.back ∙ plain_is_ns t c j o.plain;
   boundary = o.reads.boundary;
 }
 
@@ -115,7 +115,7 @@ pub run_found : {test : ℕ → Bool} {c : Ctx} → Ordinary test c → (t b : L
     → is_ns_char (before t i) ≡ true → IsCharBoundary t i → OrdinaryRun t c i (i + n)
 run_found {test} s t b i n e u w r a z =
     let few = r.few in
-    run_on s t i n u (omega arith) (λ k l m. sym (ap (λ v. test (get_or v k 0)) e) ∙ r.pass k l m) (record { reads = (_, done); behind = a; boundary = z })
+    run_on s t i n u (omega arith) (λ k l m. sym (ap (λ v. test (get_or v k 0)) e) ∙ r.pass k l m) (record { reads = (_, done); follows = a; boundary = z })
 
 -- of a byte that is a letter, a digit or _
 letter_outer : (c : ℕ) → is_letter c ≡ true → is_outer c ≡ true
@@ -140,7 +140,7 @@ letter_at t i u l e =
     let f : is_letter (code t i) ≡ true = ap is_letter r.char ∙ e in
     let d : 48 ≤ code t i = letter_above (code t i) f in
     record {
-      reads = subst (λ c. Reads t i c (i + 1)) (sym r.char) r;
+      reads = subst (λ c. CharAt t i c (i + 1)) (sym r.char) r;
       first = λ c. first_other t c i (letter_no_sign (code t i) f) ∙ char_first (outer_content (code t i) (letter_outer (code t i) f)) (letter_no_indicator (code t i) f);
       allowed = not_forbidden t i (λ q. absurd (omega arith)) (λ q. absurd (omega arith));
     }
@@ -164,15 +164,15 @@ space_white : is_white 32 ≡ true
 unfolding is_white
 space_white = refl
 
-pub word_item : (t : List ℕ) (c : Ctx) (i : ℕ) → Reads t i 32 (i + 1) → OrdinaryAt t c (i + 1) → (y : List ℕ) × PlainItem t c i (i + 2) y
+pub word_item : (t : List ℕ) (c : Ctx) (i : ℕ) → CharAt t i 32 (i + 1) → OrdinaryAt t c (i + 1) → (y : List ℕ) × PlainItem t c i (i + 2) y
 word_item t c i r o =
     let white : is_white (code t i) ≡ true = ap is_white r.char ∙ space_white in
     let space : Many t is_white i (i + 1) (code t i ∷ []) = subst (λ k. Many t is_white i k (code t i ∷ [])) r.end (many_more t is_white done white) in
     let end : i + 1 + 1 ≡ i + 2 = omega arith in
-    item_found space o.plain (subst (λ k. Reads t (i + 1) (code t (i + 1)) k) end o.reads)
+    item_found space o.plain (subst (λ k. CharAt t (i + 1) (code t (i + 1)) k) end o.reads)
 
-pub word_behind : (t : List ℕ) (c : Ctx) (i : ℕ) → OrdinaryAt t c (i + 1) → is_ns_char (before t (i + 2)) ≡ true
-word_behind t c i o =
+pub word_after : (t : List ℕ) (c : Ctx) (i : ℕ) → OrdinaryAt t c (i + 1) → is_ns_char (before t (i + 2)) ≡ true
+word_after t c i o =
     let end : i + 1 + 1 ≡ i + 2 = omega arith in
     subst (λ k. is_ns_char (before t k) ≡ true) end (ap is_ns_char o.reads.back ∙ plain_is_ns t c (i + 1) o.plain)
 

@@ -6,14 +6,14 @@ use Rattle.std.proofs.lemmas.Bool.Decides.{nat_tests}
 use Rattle.std.specs.Str.{IsUtf8}
 use Rattle.yf_chars.specs.declared.context.Ctx.{Ctx}
 use Rattle.yf_chars.specs.declared.context.Ctx.TheVariants.{BlockOut, BlockIn, FlowOut, FlowIn, BlockKey, FlowKey}
-use Rattle.yf_chars.specs.Text.{code, next, before, Reads, no_char}
+use Rattle.yf_chars.specs.Text.{code, next, before, CharAt, no_char}
 use Rattle.yf_chars.specs.Class.{is_ns_char, is_nb_char, is_printable, is_between, is_indicator, is_white, is_plain_safe, is_break_char, is_flow_indicator}
 use Rattle.yf_chars.specs.Chain.{Chain, Many, Functional, Stuck, Chosen}
 use Rattle.yf_chars.specs.Chain.Chain.{done, step}
 use Rattle.yf_chars.specs.Chain.One.{one}
 use Rattle.yf_chars.proofs.ChainLemmas.{chain_chosen, chain_forward, many_unique, one_functional}
 use Rattle.yf_chars.proofs.TextLemmas.{reads_real, next_ascii, next_later}
-use Rattle.yf_lines.specs.Basic.{Forbidden}
+use Rattle.yf_lines.specs.Basic.{ForbiddenLine}
 use Rattle.yf_lines.proofs.BasicLemmas.{white_below}
 use Rattle.yf_lines.proofs.ClearLemmas.{Quiet, quiet_nothing, quiet_join, quiet_char, quiet_whites, clear_quiet}
 use Rattle.yf_plain.specs.Plain.{is_plain_first, is_plain_char, is_sign, PlainItem, PlainLine, PlainFront}
@@ -120,27 +120,27 @@ first_is_ns t c i e =
     (cases_Bool (is_sign (code t i)))
 
 -- the same tests, by the character that was read
-pub ascii_end : {t : List ℕ} {i c j : ℕ} → Reads t i c j → c < 128 → i + 1 ≡ j
+pub ascii_end : {t : List ℕ} {i c j : ℕ} → CharAt t i c j → c < 128 → i + 1 ≡ j
 ascii_end {t} {i} r l = sym (next_ascii t i (rw r.char l)) ∙ r.end
 
-pub reads_code : {t : List ℕ} {i c j : ℕ} → Reads t i c j → Reads t i (code t i) j
-reads_code {t} {i} {c} {j} r = subst (λ d. Reads t i d j) (sym r.char) r
+pub reads_code : {t : List ℕ} {i c j : ℕ} → CharAt t i c j → CharAt t i (code t i) j
+reads_code {t} {i} {c} {j} r = subst (λ d. CharAt t i d j) (sym r.char) r
 
-pub colon_read : {t : List ℕ} {i c j : ℕ} (x : Ctx) → Reads t i c j → c ≡ 58 → is_plain_char t x i ≡ is_plain_safe (code t j) x
+pub colon_read : {t : List ℕ} {i c j : ℕ} (x : Ctx) → CharAt t i c j → c ≡ 58 → is_plain_char t x i ≡ is_plain_safe (code t j) x
 colon_read {t} {i} x r e = plain_colon t x i (r.char ∙ e) ∙ ap (λ k. is_plain_safe (code t k) x) (ascii_end r (omega arith))
 
-pub hash_read : {t : List ℕ} {i c j : ℕ} (x : Ctx) → Reads t i c j → c ≡ 35 → is_plain_char t x i ≡ is_ns_char (before t i)
+pub hash_read : {t : List ℕ} {i c j : ℕ} (x : Ctx) → CharAt t i c j → c ≡ 35 → is_plain_char t x i ≡ is_ns_char (before t i)
 hash_read {t} {i} x r e = plain_hash t x i (r.char ∙ e)
 
-pub other_read : {t : List ℕ} {i c j : ℕ} (x : Ctx) → Reads t i c j → c ≢ 58 → c ≢ 35 → is_plain_char t x i ≡ is_plain_safe c x
+pub other_read : {t : List ℕ} {i c j : ℕ} (x : Ctx) → CharAt t i c j → c ≢ 58 → c ≢ 35 → is_plain_char t x i ≡ is_plain_safe c x
 other_read {t} {i} x r n m =
     plain_other t x i (λ e. n (sym r.char ∙ e)) (λ e. m (sym r.char ∙ e)) ∙ ap (λ w. is_plain_safe w x) r.char
 
-pub sign_read : {t : List ℕ} {i c j : ℕ} (x : Ctx) → Reads t i c j → is_sign c ≡ true → is_plain_first t x i ≡ is_plain_safe (code t j) x
+pub sign_read : {t : List ℕ} {i c j : ℕ} (x : Ctx) → CharAt t i c j → is_sign c ≡ true → is_plain_first t x i ≡ is_plain_safe (code t j) x
 sign_read {t} {i} {c} x r e =
     first_sign t x i (ap is_sign r.char ∙ e) ∙ ap (λ k. is_plain_safe (code t k) x) (ascii_end r (sign_below c e))
 
-pub first_read : {t : List ℕ} {i c j : ℕ} (x : Ctx) → Reads t i c j → is_sign c ≡ false → is_plain_first t x i ≡ (is_ns_char c && not (is_indicator c))
+pub first_read : {t : List ℕ} {i c j : ℕ} (x : Ctx) → CharAt t i c j → is_sign c ≡ false → is_plain_first t x i ≡ (is_ns_char c && not (is_indicator c))
 first_read {t} {i} x r e = first_other t x i (ap is_sign r.char ∙ e) ∙ ap (λ w. is_ns_char w && not (is_indicator w)) r.char
 
 pub indicator_first : (b : Bool) {a : Bool} → a ≡ true → (b && not a) ≡ false
@@ -157,20 +157,20 @@ first_at_end t c i e =
     ⊎_elim (λ (h : is_plain_first t c i ≡ true). absurd (true≢false (sym (first_is_ns t c i h) ∙ ap is_ns_char e ∙ ns_at_end)))
     (λ (h : is_plain_first t c i ≡ false). h) (cases_Bool (is_plain_first t c i))
 
--- after white space stands a white
-pub behind_whites : {t : List ℕ} {i j : ℕ} {x : List ℕ} → IsUtf8 t → Many t is_white i j x → (i ≡ j) ⊎ (is_white (before t j) ≡ true)
-behind_whites u done = inl refl
-behind_whites {t} {j = j} u (step (one {i = i} e) c) =
+-- after white space is a white
+pub after_whites : {t : List ℕ} {i j : ℕ} {x : List ℕ} → IsUtf8 t → Many t is_white i j x → (i ≡ j) ⊎ (is_white (before t j) ≡ true)
+after_whites u done = inl refl
+after_whites {t} {j = j} u (step (one {i = i} e) c) =
     let low = white_below (code t i) e in
-    let r : Reads t i (code t i) (next t i) = reads_real t i u (omega arith) in
+    let r : CharAt t i (code t i) (next t i) = reads_real t i u (omega arith) in
     ⊎_elim (λ (h : next t i ≡ j). inr (subst (λ k. is_white (before t k) ≡ true) h (ap is_white r.back ∙ e)))
-    (λ (h : is_white (before t j) ≡ true). inr h) (behind_whites u c)
+    (λ (h : is_white (before t j) ≡ true). inr h) (after_whites u c)
 
-pub look_behind : {t : List ℕ} {i j : ℕ} {x : List ℕ} → IsUtf8 t → is_ns_char (before t i) ≡ true → Many t is_white i j x → i ≤ j
+pub lookbehind : {t : List ℕ} {i j : ℕ} {x : List ℕ} → IsUtf8 t → is_ns_char (before t i) ≡ true → Many t is_white i j x → i ≤ j
     → is_ns_char (before t j) ≡ eqb j i
-look_behind {t} {i} {j} u b w l =
+lookbehind {t} {i} {j} u b w l =
     ⊎_elim (λ (e : j ≡ i). rw (eq-eqb j i e) (ap (λ k. is_ns_char (before t k)) e ∙ b))
-    (λ (n : j ≢ i). rw (ne_eqb j i n) (⊎_elim (λ (e : i ≡ j). absurd (n (sym e))) (λ (h : is_white (before t j) ≡ true). white_not_ns (before t j) h) (behind_whites u w)))
+    (λ (n : j ≢ i). rw (ne_eqb j i n) (⊎_elim (λ (e : i ≡ j). absurd (n (sym e))) (λ (h : is_white (before t j) ≡ true). white_not_ns (before t j) h) (after_whites u w)))
     (cases_eq j i)
 
 -- a character of content stays within its line
@@ -225,7 +225,7 @@ item_forward {t} (set_off {h = h} w e) = let a = chain_forward (one_functional t
 pub item_functional : (t : List ℕ) (c : Ctx) → Functional (PlainItem t c)
 item_functional t c = record { one_end = λ a b. item_end a b; one_meaning = λ a b. item_meaning a b; forward = λ a. item_forward a }
 
-pub item_found : {t : List ℕ} {c : Ctx} {i h j : ℕ} {x : List ℕ} → Many t is_white i h x → is_plain_char t c h ≡ true → Reads t h (code t h) j
+pub item_found : {t : List ℕ} {c : Ctx} {i h j : ℕ} {x : List ℕ} → Many t is_white i h x → is_plain_char t c h ≡ true → CharAt t h (code t h) j
     → (y : List ℕ) × PlainItem t c i j y
 item_found {t} {c} {i} {h} {j} {x} w e r =
     (x ++ code t h ∷ [], subst (λ k. PlainItem t c i k (x ++ code t h ∷ [])) r.end (set_off w e))
@@ -247,7 +247,7 @@ items_quiet u (step s c) = quiet_join (item_quiet u s) (items_quiet u c)
 pub line_forward : {t : List ℕ} {c : Ctx} {i j : ℕ} {x : List ℕ} → PlainLine t c i j x → i < j
 line_forward {t} {c} {i} (one_line e d) = let a = next_later t i in let b = chain_forward (item_functional t c) d in omega arith
 
-pub forbidden_front : {t : List ℕ} {c : Ctx} {i : ℕ} → Forbidden t i → Stuck (PlainFront t c i)
+pub forbidden_front : {t : List ℕ} {c : Ctx} {i : ℕ} → ForbiddenLine t i → Stuck (PlainFront t c i)
 forbidden_front {t} {c} {i} f = record { none = λ j x d. d.clear.none i (omega arith) (line_forward d.text) f }
 
 pub no_front : {t : List ℕ} {c : Ctx} {i : ℕ} → is_plain_first t c i ≡ false → Stuck (PlainFront t c i)
@@ -277,7 +277,7 @@ line_chosen {t} {c} {i} {j} {x} e d s = record {
   one : {y : List ℕ} → LineRest t c i j y → y ≡ code t i ∷ x
   one (rest_is {x = y} f) = ap (λ w. code t i ∷ w) (best.only y f)
 
-pub front_chosen : {t : List ℕ} {c : Ctx} {i j k : ℕ} {x : List ℕ} → IsUtf8 t → (Forbidden t i → ⊥) → is_plain_first t c i ≡ true → Reads t i (code t i) k
+pub front_chosen : {t : List ℕ} {c : Ctx} {i j k : ℕ} {x : List ℕ} → IsUtf8 t → (ForbiddenLine t i → ⊥) → is_plain_first t c i ≡ true → CharAt t i (code t i) k
     → Chain (PlainItem t c) k j x → Stuck (PlainItem t c j) → (y : List ℕ) × Chosen (PlainFront t c i) j y
 front_chosen {t} {c} {i} {j} {k} {x} u n e r d s =
     let d' : Chain (PlainItem t c) (next t i) j x = subst (λ m. Chain (PlainItem t c) m j x) (sym r.end) d in

@@ -1,4 +1,4 @@
--- A plain scalar on one line, by its characters alone: wherever they stand, they are one.
+-- A plain scalar on one line, by its characters alone: wherever they are, they are one.
 use Rattle.std.specs.Prelude.{◌≡◌, ℕ, Bool, true, false, ◌==◌, ◌&&◌, ◌||◌, not, List, [], ◌∷◌, encode_utf8_all}
 use Rattle.yf_chars.specs.Signs.{COLON, NUMBER_SIGN}
 use Rattle.yf_chars.specs.declared.context.Ctx.{Ctx}
@@ -21,13 +21,13 @@ goes_on_plain x b c d =
     || ((c == COLON) && is_plain_safe d x)
 
 -- after the character b: such characters, and white space between them
-unfoldable pub is_plain_behind : Ctx → ℕ → List ℕ → Bool
-is_plain_behind x b [] = is_ns_char b
-is_plain_behind x b (c ∷ cs) = (is_white c || goes_on_plain x b c (first_or_none cs)) && is_plain_behind x c cs
+unfoldable pub is_plain_after : Ctx → ℕ → List ℕ → Bool
+is_plain_after x b [] = is_ns_char b
+is_plain_after x b (c ∷ cs) = (is_white c || goes_on_plain x b c (first_or_none cs)) && is_plain_after x c cs
 
 unfoldable pub is_plain_line : Ctx → List ℕ → Bool
 is_plain_line x [] = false
-is_plain_line x (c ∷ cs) = starts_plain x c (first_or_none cs) && is_plain_behind x c cs
+is_plain_line x (c ∷ cs) = starts_plain x c (first_or_none cs) && is_plain_after x c cs
 
 -- bytes that are a plain scalar in the context, and that stay plain
 pub record IsPlain (x : Ctx) (w : List ℕ) : Type 0 where

@@ -1,11 +1,11 @@
--- ASCII characters of which one test tells what they are to a plain scalar: those that may stand in it whatever stands beside them,
+-- ASCII characters of which one test tells what they are to a plain scalar: those that may be in it whatever is beside them,
 -- letters, digits and _, which may begin it, and those after which its line ends whatever the context
 use Rattle.std.specs.Prelude.{◌≡◌, ℕ, ◌+◌, Bool, true, false, ◌==◌, ◌||◌, List}
 use Rattle.yf_chars.specs.declared.context.Ctx.{Ctx}
 use Rattle.yf_chars.specs.Class.{is_between}
 use Rattle.yf_chars.specs.Chain.{Stuck}
-use Rattle.yf_chars.specs.Text.{code, Reads}
-use Rattle.yf_lines.specs.Basic.{Forbidden, is_block}
+use Rattle.yf_chars.specs.Text.{code, CharAt}
+use Rattle.yf_lines.specs.Basic.{ForbiddenLine, is_block}
 use Rattle.yf_plain.specs.Plain.{is_plain_char, is_plain_first, PlainItem}
 
 -- outside of flow collections: from $ on all that are printed, but :
@@ -20,17 +20,17 @@ is_ordinary c = is_between 0x24 0x2B c || is_between 0x2D 0x39 c || is_between 0
 unfoldable pub is_letter : ℕ → Bool
 is_letter c = is_between 0x61 0x7A c || is_between 0x41 0x5A c || is_between 0x30 0x39 c || (c == 0x5F)
 
--- a character in one byte begins at i that may stand in a plain scalar in the context
+-- a character in one byte begins at i that may be in a plain scalar in the context
 pub record OrdinaryAt (t : List ℕ) (c : Ctx) (i : ℕ) : Type 0 where
-  pub reads : Reads t i (code t i) (i + 1)
+  pub reads : CharAt t i (code t i) (i + 1)
   pub plain : is_plain_char t c i ≡ true
 
 -- a letter, a digit or _ begins at i: it may begin a plain scalar, and begins no forbidden line
 pub record LetterAt (t : List ℕ) (i : ℕ) : Type 0 where
-  pub reads : Reads t i (code t i) (i + 1)
+  pub reads : CharAt t i (code t i) (i + 1)
   pub first : (c : Ctx) → is_plain_first t c i ≡ true
-  pub allowed : Forbidden t i → ⊥
+  pub allowed : ForbiddenLine t i → ⊥
 
--- nothing more of a plain scalar stands on the line after i
+-- nothing more of a plain scalar is on the line after i
 pub record EndAt (t : List ℕ) (i : ℕ) : Type 0 where
   pub ends : (c : Ctx) → Stuck (PlainItem t c i)

@@ -1,4 +1,4 @@
--- Plain scalars (YAML 1.2.2, section 7.3.3) as relations between byte offsets of a text t: what stands from i to j is
+-- Plain scalars (YAML 1.2.2, section 7.3.3) as relations between byte offsets of a text t: what is from i to j is
 -- derived with the text x, a list of characters. n is an indentation, from -1; c is a context.
 use Rattle.std.specs.Prelude.{◌≡◌, ℕ, ◌+◌, ℤ, Bool, true, ◌==◌, ◌&&◌, ◌||◌, not, List, [], ◌∷◌, ◌++◌}
 use Rattle.yf_chars.specs.Signs.{COLON, DASH, NUMBER_SIGN, QUESTION}
@@ -6,7 +6,7 @@ use Rattle.yf_chars.specs.declared.context.Ctx.{Ctx}
 use Rattle.yf_chars.specs.Text.{code, next, before}
 use Rattle.yf_chars.specs.Class.{is_ns_char, is_indicator, is_white, is_plain_safe}
 use Rattle.yf_chars.specs.Chain.{Chain, Many, Stuck}
-use Rattle.yf_lines.specs.Basic.{FlowFolded, Forbidden, Clear, is_flow, is_key}
+use Rattle.yf_lines.specs.Basic.{FlowFolded, ForbiddenLine, Clear, is_flow, is_key}
 use Rattle.yf_lines.specs.Fold.{FoldsTo, fold_text}
 
 -- the indicators ? : and -
@@ -20,7 +20,7 @@ is_plain_first t c i =
     (is_ns_char (code t i) && not (is_indicator (code t i)))
     || (is_sign (code t i) && is_plain_safe (code t (i + 1)) c)
 
--- ns-plain-char(c): the character at i may stand in a plain scalar; # may after a character that is no white space, and :
+-- ns-plain-char(c): the character at i may be in a plain scalar; # may after a character that is no white space, and :
 -- before one that is safe
 unfoldable pub is_plain_char : List ℕ → Ctx → ℕ → Bool
 is_plain_char t c i =
@@ -60,11 +60,11 @@ pub record Plain (t : List ℕ) (n : ℤ) (c : Ctx) (i j : ℕ) (x : List ℕ) :
 pub record NextLine (t : List ℕ) (n : ℤ) (c : Ctx) (i feeds start j : ℕ) : Type 0 where
   pub text : List ℕ
   pub folded : FoldsTo t n i start (fold_text feeds)
-  pub allowed : Forbidden t start → ⊥
+  pub allowed : ForbiddenLine t start → ⊥
   pub first : is_plain_char t c start ≡ true
   pub items : Chain (PlainItem t c) (next t start) j text
   pub all : Stuck (PlainItem t c j)
 
 -- a plain scalar does not go on after i on a next line
 pub record NoNextLine (t : List ℕ) (n : ℤ) (c : Ctx) (i : ℕ) : Type 0 where
-  pub none : (h : ℕ) (x : List ℕ) → FoldsTo t n i h x → is_plain_char t c h ≡ true → (Forbidden t h → ⊥) → ⊥
+  pub none : (h : ℕ) (x : List ℕ) → FoldsTo t n i h x → is_plain_char t c h ≡ true → (ForbiddenLine t h → ⊥) → ⊥

@@ -9,9 +9,9 @@ ghost use Rattle.yf_plain.specs.Ordinary.{is_letter, is_ordinary, is_outer, EndA
 
 use std::simd::prelude::*;
 use yf_chars::lanes::lanes_before;
-use yf_chars::text::stands;
+use yf_chars::text::is_char_at;
 
-// Whether the ASCII character may stand in a plain scalar, whatever stands beside it and in whatever context of scalars.
+// Whether the ASCII character may be in a plain scalar, whatever is beside it and in whatever context of scalars.
 #[tactic(auto, unfolding(crate::specs::Ordinary::is_ordinary, yf_chars::specs::Class::is_between))]
 #[inline(always)]
 fn is_ordinary(byte: u8) -> bool
@@ -25,7 +25,7 @@ fn is_ordinary(byte: u8) -> bool
 
 /// Whether such a character begins at the offset.
 #[inline(always)]
-pub(crate) fn ordinary_stands(s: &str, at: usize) -> bool
+pub(crate) fn is_ordinary_at(s: &str, at: usize) -> bool
     ensures { result ≡ true → (c : Ctx) → is_block c ≡ false → OrdinaryAt s.now c at }
 {
     let bytes = s.as_bytes();
@@ -35,7 +35,7 @@ pub(crate) fn ordinary_stands(s: &str, at: usize) -> bool
     false
 }
 
-/// How many such characters stand at the offset, of 16 bytes.
+/// How many such characters are at the offset, of 16 bytes.
 #[inline(always)]
 pub(crate) fn ordinary_lanes(bytes: &[u8], at: usize) -> usize
     requires { at + 16 ≤ length bytes.now }
@@ -52,7 +52,7 @@ pub(crate) fn ordinary_lanes(bytes: &[u8], at: usize) -> usize
     lanes_before(others.to_bitmask())
 }
 
-/// The same outside of flow collections, where commas and brackets may stand too.
+/// The same outside of flow collections, where commas and brackets may be too.
 #[inline(always)]
 pub(crate) fn outer_lanes(bytes: &[u8], at: usize) -> usize
     requires { at + 16 ≤ length bytes.now }
@@ -85,9 +85,9 @@ fn is_letter(byte: u8) -> bool
     byte <= b'z'
 }
 
-/// Whether a letter, a digit or `_` stands there, which may begin a plain scalar.
+/// Whether a letter, a digit or `_` is there, which may begin a plain scalar.
 #[inline(always)]
-pub(crate) fn letter_stands(s: &str, at: usize) -> bool
+pub(crate) fn is_letter_at(s: &str, at: usize) -> bool
     ensures { result ≡ true → LetterAt s.now at }
 {
     let bytes = s.as_bytes();
@@ -97,10 +97,10 @@ pub(crate) fn letter_stands(s: &str, at: usize) -> bool
     false
 }
 
-/// Whether a character above `:` stands there, and so no white space and no end of a line. Of a character beyond ASCII its first byte is above `:` too, and the
+/// Whether a character above `:` is there, and so no white space and no end of a line. Of a character beyond ASCII its first byte is above `:` too, and the
 /// tests for white space and for the end of a line, which are all of ASCII, are spared.
 #[inline(always)]
-pub(crate) fn text_stands(s: &str, at: usize) -> bool
+pub(crate) fn is_text_at(s: &str, at: usize) -> bool
     ensures { result ≡ true → is_white (code s.now at) ≡ false }
 {
     let bytes = s.as_bytes();
@@ -112,9 +112,9 @@ pub(crate) fn text_stands(s: &str, at: usize) -> bool
     false
 }
 
-/// Whether a line feed stands there, or a `:` before a space or a line feed, which end the line of a plain scalar.
+/// Whether a line feed is there, or a `:` before a space or a line feed, which end the line of a plain scalar.
 #[inline(always)]
-pub(crate) fn end_stands(s: &str, at: usize) -> bool
+pub(crate) fn is_end_at(s: &str, at: usize) -> bool
     ensures { result ≡ true → EndAt s.now at }
 {
     let bytes = s.as_bytes();
@@ -123,14 +123,14 @@ pub(crate) fn end_stands(s: &str, at: usize) -> bool
             return false;
         }
     }
-    if stands(s, at, b'\n') {
+    if is_char_at(s, at, b'\n') {
         return true;
     }
-    if stands(s, at, b':') {
-        if stands(s, at + 1, b' ') {
+    if is_char_at(s, at, b':') {
+        if is_char_at(s, at + 1, b' ') {
             return true;
         }
-        if stands(s, at + 1, b'\n') {
+        if is_char_at(s, at + 1, b'\n') {
             return true;
         }
     }

@@ -4,8 +4,8 @@ ghost use Rattle.std.specs.String.{string_bytes};
 ghost use Rattle.std.specs.Str.{IsCharBoundary};
 ghost use Rattle.yf_chars.specs.Chain.{Chain, Stuck, Chosen};
 ghost use Rattle.yf_chars.specs.Class as Class;
-ghost use Rattle.yf_chars.specs.Text.{code, before, Reads};
-ghost use Rattle.yf_lines.specs.Basic.{Forbidden, is_block, is_flow, is_key};
+ghost use Rattle.yf_chars.specs.Text.{code, before, CharAt};
+ghost use Rattle.yf_lines.specs.Basic.{ForbiddenLine, is_block, is_flow, is_key};
 ghost use Rattle.yf_lines.specs.Fold.{fold_text};
 ghost use Rattle.yf_lines.specs.Text.{text_bytes};
 ghost use Rattle.yf_plain.specs.Kept.{is_inside};
@@ -14,14 +14,15 @@ ghost use Rattle.yf_plain.specs.Plain as P;
 ghost use Rattle.yf_plain.specs.Plain.{is_plain_first, is_plain_char, is_sign, Plain, PlainItem, PlainLine, PlainFront, NoNextLine};
 
 use crate::ordinary::{
-    end_stands, is_worth_a_look, letter_stands, ordinary_lanes, ordinary_stands, outer_lanes,
-    text_stands,
+    is_end_at, is_letter_at, is_ordinary_at, is_text_at, is_worth_a_look, ordinary_lanes,
+    outer_lanes,
 };
 use std::alloc::{AllocError, Global};
 use yf_chars::classes::{is_indicator, is_ns_char, is_plain_safe};
 use yf_chars::context::Ctx;
-use yf_chars::text::{peek, stands};
+use yf_chars::text::{is_char_at, peek};
 use yf_lines::basic::{is_forbidden_at, skip_whites};
+use yf_lines::contexts::{is_block, is_key};
 use yf_lines::fault::Fault;
 use yf_lines::fold::{flow_folded, indent_width};
 use yf_lines::source_text::Src;
@@ -30,8 +31,8 @@ use yf_lines::text::{FoundText, OwnedText, Text};
 /// Reads a plain scalar (ns-plain(n,c), production 131) that begins at the byte offset: its text, folded, and the offset
 /// after it, or `None` where no plain scalar begins. `n` is the indentation, from -1.
 ///
-/// In keys it stands on one line. No plain scalar covers a document marker at the start of a line. The text is a slice of
-/// the source where the scalar stands on one line.
+/// In keys it is on one line. No plain scalar covers a document marker at the start of a line. The text is a slice of
+/// the source where the scalar is on one line.
 ///
 /// # Errors
 ///
@@ -79,26 +80,11 @@ pub fn read_plain_in<'a>(alloc: Global, s: &'a str, at: usize, n: i32, ctx: Ctx)
     }
 }
 
-// Whether no scalar stands in that context.
-#[tactic(auto)]
-fn is_block(ctx: Ctx) -> bool
-    ensures { result ≡ is_block ctx }
-{
-    matches!(ctx, Ctx::BlockOut | Ctx::BlockIn)
-}
-
 // Whether it is a context within flow collections.
 fn is_inside(ctx: Ctx) -> bool
     ensures { result ≡ is_inside ctx }
 {
     matches!(ctx, Ctx::FlowIn | Ctx::FlowKey)
-}
-
-// Whether a scalar in that context stands on one line.
-fn is_key(ctx: Ctx) -> bool
-    ensures { result ≡ is_key ctx }
-{
-    matches!(ctx, Ctx::BlockKey | Ctx::FlowKey)
 }
 
 // The text of a plain scalar over several lines, and the offset after it.
@@ -188,7 +174,7 @@ fn next_line(s: &str, at: usize, width: usize, ctx: Ctx) -> Option<NextLine>
     }
 }
 
-/// Reads the part of a plain scalar that stands on its first line (ns-plain-one-line(c), production 133): the byte
+/// Reads the part of a plain scalar that is on its first line (ns-plain-one-line(c), production 133): the byte
 /// offset after it, or `None` where no plain scalar begins.
 ///
 /// In a key this is the whole scalar.
@@ -212,9 +198,9 @@ pub fn read_plain_line(s: &str, at: usize, ctx: Ctx) -> Option<usize>
 fn front_char(s: &str, at: usize, ctx: Ctx) -> Option<usize>
     requires { IsCharBoundary s.now at }
     ensures { MatchOption result (Stuck (PlainFront s.now ctx at))
-        (λ j. (Forbidden s.now at → ⊥) × (is_plain_first s.now ctx at ≡ true) × Reads s.now at (code s.now at) j) }
+        (λ j. (ForbiddenLine s.now at → ⊥) × (is_plain_first s.now ctx at ≡ true) × CharAt s.now at (code s.now at) j) }
 {
-    if letter_stands(s, at) {
+    if is_letter_at(s, at) {
         return Some(at + 1);
     }
     if is_forbidden_at(s, at) {
@@ -230,7 +216,7 @@ fn front_char(s: &str, at: usize, ctx: Ctx) -> Option<usize>
 #[inline(always)]
 fn plain_in_line(s: &str, at: usize, ctx: Ctx) -> usize
     requires boundary { IsCharBoundary s.now at }
-    requires behind { Class.is_ns_char (before s.now at) ≡ true }
+    requires follows { Class.is_ns_char (before s.now at) ≡ true }
     ensures reads { (x : List ℕ) × Chain (PlainItem s.now ctx) at result x }
     ensures all { Stuck (PlainItem s.now ctx result) }
     ensures boundary { IsCharBoundary s.now result }
@@ -246,14 +232,14 @@ fn plain_in_line(s: &str, at: usize, ctx: Ctx) -> usize
     }
 }
 
-// The offset after ordinary characters that stand there after a character of content: after all, or after those among the next 16
-// bytes. Outside of flow collections commas and brackets are some too. In block contexts, in which no scalar stands, none is looked for.
+// The offset after ordinary characters that are there after a character of content: after all, or after those among the next 16
+// bytes. Outside of flow collections commas and brackets are some too. In block contexts, in which no scalar is, none is looked for.
 #[inline(always)]
 fn ordinary_run(s: &str, at: usize, ctx: Ctx) -> usize
     requires boundary { IsCharBoundary s.now at }
-    requires behind { Class.is_ns_char (before s.now at) ≡ true }
+    requires follows { Class.is_ns_char (before s.now at) ≡ true }
     ensures reads { (x : List ℕ) × Chain (PlainItem s.now ctx) at result x }
-    ensures behind { Class.is_ns_char (before s.now result) ≡ true }
+    ensures follows { Class.is_ns_char (before s.now result) ≡ true }
     ensures boundary { IsCharBoundary s.now result }
     ensures order { at ≤ result }
 {
@@ -271,7 +257,7 @@ fn ordinary_run(s: &str, at: usize, ctx: Ctx) -> usize
         return at + outer_lanes(bytes, at);
     }
     let mut end = at;
-    while ordinary_stands(s, end) {
+    while is_ordinary_at(s, end) {
         end += 1;
     }
     end
@@ -281,24 +267,24 @@ fn ordinary_run(s: &str, at: usize, ctx: Ctx) -> usize
 #[inline(always)]
 fn plain_item(s: &str, at: usize, ctx: Ctx) -> Option<usize>
     requires boundary { IsCharBoundary s.now at }
-    requires behind { Class.is_ns_char (before s.now at) ≡ true }
+    requires follows { Class.is_ns_char (before s.now at) ≡ true }
     ensures reads { MatchOption result (Stuck (PlainItem s.now ctx at)) (λ j. (x : List ℕ) × PlainItem s.now ctx at j x) }
-    ensures behind { IfSome result (λ j. Class.is_ns_char (before s.now j) ≡ true) }
+    ensures follows { IfSome result (λ j. Class.is_ns_char (before s.now j) ≡ true) }
     ensures boundary { IfSome result (λ j. IsCharBoundary s.now j) }
     ensures order { IfSome result (λ j. at < j) }
 {
-    if text_stands(s, at) {
+    if is_text_at(s, at) {
         return match plain_char(s, at, ctx, true) {
             None => None,
             Some(end) => Some(end),
         };
     }
-    if stands(s, at, b' ') {
-        if word_stands(s, at + 1, ctx) {
+    if is_char_at(s, at, b' ') {
+        if is_plain_char_at(s, at + 1, ctx) {
             return Some(at + 2);
         }
     }
-    if end_stands(s, at) {
+    if is_end_at(s, at) {
         return None;
     }
     let start = skip_whites(s, at);
@@ -310,29 +296,29 @@ fn plain_item(s: &str, at: usize, ctx: Ctx) -> Option<usize>
 
 // Whether an ordinary character begins there, in a context of scalars.
 #[inline(always)]
-fn word_stands(s: &str, at: usize, ctx: Ctx) -> bool
+fn is_plain_char_at(s: &str, at: usize, ctx: Ctx) -> bool
     ensures { result ≡ true → OrdinaryAt s.now ctx at }
 {
     if is_block(ctx) {
         return false;
     }
-    ordinary_stands(s, at)
+    is_ordinary_at(s, at)
 }
 
-// The offset after the character that begins there, where it may stand in a plain scalar (ns-plain-char(c), production
-// 130); `after_char` tells whether a character of content stands before it.
+// The offset after the character that begins there, where it may be in a plain scalar (ns-plain-char(c), production
+// 130); `after_char` tells whether a character of content is before it.
 #[inline(always)]
 fn plain_char(s: &str, at: usize, ctx: Ctx, after_char: bool) -> Option<usize>
     requires boundary { IsCharBoundary s.now at }
-    requires look_behind { Class.is_ns_char (before s.now at) ≡ after_char }
+    requires lookbehind { Class.is_ns_char (before s.now at) ≡ after_char }
     ensures { MatchOption result (is_plain_char s.now ctx at ≡ false)
-        (λ j. (is_plain_char s.now ctx at ≡ true) × Reads s.now at (code s.now at) j) }
+        (λ j. (is_plain_char s.now ctx at ≡ true) × CharAt s.now at (code s.now at) j) }
 {
     match peek(s, at) {
         None => None,
         Some((c, end)) => {
             if c == ':' {
-                if safe_stands(s, end, ctx) {
+                if is_safe_at(s, end, ctx) {
                     return Some(end);
                 }
                 return None;
@@ -356,13 +342,13 @@ fn plain_char(s: &str, at: usize, ctx: Ctx, after_char: bool) -> Option<usize>
 fn plain_first(s: &str, at: usize, ctx: Ctx) -> Option<usize>
     requires { IsCharBoundary s.now at }
     ensures { MatchOption result (is_plain_first s.now ctx at ≡ false)
-        (λ j. (is_plain_first s.now ctx at ≡ true) × Reads s.now at (code s.now at) j) }
+        (λ j. (is_plain_first s.now ctx at ≡ true) × CharAt s.now at (code s.now at) j) }
 {
     match peek(s, at) {
         None => None,
         Some((c, end)) => {
             if is_sign(c) {
-                if safe_stands(s, end, ctx) {
+                if is_safe_at(s, end, ctx) {
                     return Some(end);
                 }
                 return None;
@@ -387,7 +373,7 @@ fn is_sign(c: char) -> bool
 }
 
 // Whether a character that is safe in plain scalars (ns-plain-safe(c), production 127) begins there.
-fn safe_stands(s: &str, at: usize, ctx: Ctx) -> bool
+fn is_safe_at(s: &str, at: usize, ctx: Ctx) -> bool
     requires { IsCharBoundary s.now at }
     ensures { result ≡ Class.is_plain_safe (code s.now at) ctx }
 {

@@ -6,8 +6,8 @@ use Rattle.std.proofs.lemmas.List.{take_all}
 use Rattle.yf_emit.specs.declared.style.Style.{Style}
 use Rattle.yf_rules.specs.AllRules.{Are, FoundWithout, all_rules}
 use Rattle.yf_rules.specs.Definition.{RuleDefinition}
-use Rattle.yf_rules.proofs.AllRulesLemmas.{ByValues, refused_by_all, told_by_all}
-use Rattle.yf_program.specs.Answer.{DoesEach, DoesFile, DoesIn, DoesNamed, DoesOver, Input, Rewriting, ToldNamed}
+use Rattle.yf_rules.proofs.Findings.AllRulesLemmas.{ByValues, refused_by_all, told_by_all}
+use Rattle.yf_program.specs.Answer.{DoesEach, DoesFile, DoesIn, DoesNamed, DoesOver, Input, RewriteClaim, ToldNamed}
 use Rattle.yf_program.specs.Answer.DoesEach.{one_done, one_more}
 use Rattle.yf_program.specs.declared.command_line.Cmd.{Cmd}
 use Rattle.yf_program.specs.declared.command_line.Verb.{Verb}
@@ -35,7 +35,7 @@ module _ (tells : Type 0) (holds now : Input → Option (List ℕ)) (same : tell
       → DoesOver tells now input cmd style status old new before after at to was is → DoesOver tells holds input cmd style status old new before after at to was is
   over_before input status old new before after at to was is d = (d.0, d.1, λ told. d.2 told ∙ same told input, d.3)
 
-  file_before : {log opened : List Input} {Same : Type 0} (Rewritten : Rewriting) {name : List ℕ} {status : ℕ} {old new : Option (List ℕ)} {before after : Bool} {at : Option (List ℕ)} {was : Bool} (to : Option (List ℕ)) (is : Bool)
+  file_before : {log opened : List Input} {Same : Type 0} (Rewritten : RewriteClaim) {name : List ℕ} {status : ℕ} {old new : Option (List ℕ)} {before after : Bool} {at : Option (List ℕ)} {was : Bool} (to : Option (List ℕ)) (is : Bool)
       → DoesFile tells now log opened Same Rewritten cmd name style status old new before after at to was is
       → DoesFile tells holds log opened Same Rewritten cmd name style status old new before after at to was is
   file_before Rewritten to is (inl written) = inl written
@@ -45,12 +45,12 @@ module _ (tells : Type 0) (holds now : Input → Option (List ℕ)) (same : tell
   file_before Rewritten {name = name} {status = status} {old = old} {new = new} {before = before} {after = after} {at = at} {was = was} to is (inr (w, s, inr (i, o, inr d))) =
       inr (w, s, inr (i, o, inr (over_before (Some name) status old new before after at to was is d)))
 
-  pub named_before : {log opened : List Input} {Same : Type 0} (Rewritten : Rewriting) {name : List ℕ} {status : ℕ} {old new : Option (List ℕ)} {before after : Bool} {at to : Option (List ℕ)} {was is : Bool}
+  pub named_before : {log opened : List Input} {Same : Type 0} (Rewritten : RewriteClaim) {name : List ℕ} {status : ℕ} {old new : Option (List ℕ)} {before after : Bool} {at to : Option (List ℕ)} {was is : Bool}
       → DoesNamed tells now log opened Same Rewritten cmd name style status old new before after at to was is
       → DoesNamed tells holds log opened Same Rewritten cmd name style status old new before after at to was is
   named_before Rewritten d = (d.0, d.1, d.2, d.3, d.4, file_before Rewritten (Some d.2) d.4 d.5, d.6)
 
-  each_before : {F : Type 0} {Rewrites : F → F → Rewriting} {log : List Input} {first : F} {old : Option (List ℕ)} {before : Bool} {at : Option (List ℕ)} {was : Bool}
+  each_before : {F : Type 0} {Rewrites : F → F → RewriteClaim} {log : List Input} {first : F} {old : Option (List ℕ)} {before : Bool} {at : Option (List ℕ)} {was : Bool}
       {names : List (List ℕ)} {status : ℕ} {opened : List Input} {last : F} {new : Option (List ℕ)} {after : Bool} {to : Option (List ℕ)} {is : Bool}
       → DoesEach tells now Rewrites cmd style log first old before at was names status opened last new after to is
       → DoesEach tells holds Rewrites cmd style log first old before at was names status opened last new after to is
@@ -58,7 +58,7 @@ module _ (tells : Type 0) (holds now : Input → Option (List ℕ)) (same : tell
   each_before {Rewrites = Rewrites} (one_more {files = files} name one {files_then = files_then} done d) =
       one_more name one (each_before done) (named_before (Rewrites files files_then) d)
 
-  pub does_in_before : {F : Type 0} {Rewrites : F → F → Rewriting} {log opened : List Input} {first last : F} {status : ℕ}
+  pub does_in_before : {F : Type 0} {Rewrites : F → F → RewriteClaim} {log opened : List Input} {first last : F} {status : ℕ}
       {old new : Option (List ℕ)} {before after : Bool} {at to : Option (List ℕ)} {was is : Bool}
       → DoesIn tells now log opened first last Rewrites cmd style status old new before after at to was is
       → DoesIn tells holds log opened first last Rewrites cmd style status old new before after at to was is
@@ -68,7 +68,7 @@ module _ (tells : Type 0) (holds now : Input → Option (List ℕ)) (same : tell
   does_in_before (inr (name, f, inr (some, d))) = inr (name, f, inr (some, each_before d))
 
 -- what was done over one file as if it were alone, and told
-pub named_told : {tells : Type 0} (holds : Input → Option (List ℕ)) {log opened : List Input} {Same : Type 0} (Rewritten : Rewriting) (cmd : Cmd) {name : List ℕ} {style : Style}
+pub named_told : {tells : Type 0} (holds : Input → Option (List ℕ)) {log opened : List Input} {Same : Type 0} (Rewritten : RewriteClaim) (cmd : Cmd) {name : List ℕ} {style : Style}
     {run status : ℕ} {output faults : List ℕ} {broken : Bool} {old new : Option (List ℕ)} {before after : Bool} {at to : Option (List ℕ)} {was is : Bool}
     (written heard said answered : List ℕ) (failed deafened deaf : Bool) → written ≡ [] → heard ≡ [] → failed ≡ false → deafened ≡ false → said ≡ output → answered ≡ faults
     → DoesFile tells holds log opened Same Rewritten cmd name style run (Some written) (Some output) failed broken (Some heard) (Some faults) deafened deaf
@@ -85,7 +85,7 @@ named_told {tells} holds {log} {opened} {Same} Rewritten cmd {name} {style} {run
     (run, output, faults, broken, deaf, alone, told_faults)
 
 -- one more file of those after the first
-module _ {F : Type 0} {tells : Type 0} {holds : Input → Option (List ℕ)} {Rewrites : F → F → Rewriting} {cmd : Cmd} {style : Style}
+module _ {F : Type 0} {tells : Type 0} {holds : Input → Option (List ℕ)} {Rewrites : F → F → RewriteClaim} {cmd : Cmd} {style : Style}
     {log : List Input} {first : F} {old : Option (List ℕ)} {before : Bool} {at : Option (List ℕ)} {was : Bool} where
   pub next_done : {opened opened_then : List Input} {files files_then : F} {new new_then : Option (List ℕ)} {after after_then : Bool} {to to_then : Option (List ℕ)} {is is_then : Bool}
       (name one : List ℕ) (more : List (List ℕ)) (k : ℕ) (d : List ℕ) (greatest status result : ℕ) → k < length more → one ≡ get_or more k d → result ≡ max greatest status

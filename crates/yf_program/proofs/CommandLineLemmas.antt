@@ -8,7 +8,7 @@ use Rattle.clap.specs.Words.{Text, fault_of, is_simple, is_simple_and_free, subc
 use Rattle.clap.specs.declared.error.kind.ErrorKind.{ErrorKind}
 use Rattle.clap.specs.declared.error.kind.ErrorKind.TheVariants.{DisplayVersion, OutOfMemory}
 use Rattle.clap.proofs.OnLiterals.{clap_on_literals}
-use Rattle.yf_program.specs.CommandLine.{Answers, Asks, AsksFor, IsNoCommand, Lacks, Met, RefusesWords, yamlfmt}
+use Rattle.yf_program.specs.CommandLine.{UsageAnswer, Asks, AsksFor, IsNoCommand, Lacks, Met, RefusesWords, yamlfmt}
 use Rattle.yf_program.specs.Without.{between_commas}
 use Rattle.yf_program.specs.declared.command_line.Cmd.{Cmd}
 use Rattle.yf_program.specs.declared.command_line.Usage.{Usage}
@@ -41,7 +41,7 @@ taken met words (Err Memory) e f h = tt
 
 -- words that are refused
 pub refused : (kind : ErrorKind) (words : List Text) (usage : Usage) → (kind ≡ OutOfMemory) ⊎ IsAmong kind (fault_of yamlfmt words)
-    → Answers kind usage → RefusesWords words usage
+    → UsageAnswer kind usage → RefusesWords words usage
 refused kind words (Help text) (inl e) (inl help) = cc
 refused kind words (Help text) (inl e) (inr version) = cc
 refused kind words (Help text) (inr among) a = (kind, a, among)

@@ -3,14 +3,14 @@ use Rattle.std.proofs.Common.{◌≡◌, ◌≤◌, ℕ, List, length, refl, sub
 use Rattle.std.proofs.lemmas.Result.{IfErr-weaker, IfOk-weaker}
 use Rattle.std.specs.Prelude.{Result, Some, IfErr, IfOk}
 use Rattle.std.specs.Str.{IsUtf8}
-use Rattle.yf_emit.specs.FormatKept.{FormatKept}
+use Rattle.yf_emit.specs.FormatPromises.{FormatKept}
 use Rattle.yf_emit.specs.declared.style.Style.{Style}
 use Rattle.yf_lines.specs.declared.fault.Fault.{Fault}
 use Rattle.yf_lines.specs.declared.fault.Fault.TheVariants.{NotUtf8, Syntax, TooDeep, UnknownHandle, UnknownAlias, RepeatedDirective, BadVersion, EscapeValue, Memory, ReadFailed, WriteFailed, Config}
 use Rattle.yf_rules.proofs.HeadlineHolds.{rendered_holds}
 use Rattle.yf_rules.specs.Headline.{Headline}
 use Rattle.yf_rules.specs.declared.run.TheConstants.{INPUT_LIMIT}
-use Rattle.yf_stream.proofs.FaultsPlaced.{faults_are_placed}
+use Rattle.yf_stream.proofs.Offsets.FaultsPlaced.{faults_are_placed}
 use Rattle.yf_stream.specs.StreamReader.{StreamFault}
 use Rattle.yf_stream.specs.declared.stream.TheConstants.{LONGEST}
 use Rattle.yf_program.specs.Files.{RefusesBytes}

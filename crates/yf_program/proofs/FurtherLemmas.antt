@@ -2,9 +2,9 @@
 use Rattle.std.proofs.Common.{◌≡◌, ℕ, List, Bool, true, false, inl, inr, refl, subst, sym}
 use Rattle.std.specs.Prelude.{Option, Result, Ok, Err, IfOk, IsOkAnd, chars}
 use Rattle.yf_explain.specs.Shown.{AreWritten}
-use Rattle.yf_lines.specs.Output.{Writes}
+use Rattle.yf_lines.specs.Output.{TextWritten}
 use Rattle.yf_lines.specs.declared.fault.Fault.{Fault}
-use Rattle.yf_program.specs.Program.{AnyLines, Reached, TellsMore}
+use Rattle.yf_program.specs.Program.{AnyLines, WrittenOrFailed, TellsMore}
 
 -- nothing more is told
 pub told_nothing : (explained : Bool) (P : List ℕ → Type 0) (old : Option (List ℕ)) (failed : Bool) → TellsMore explained P old old failed failed
@@ -26,7 +26,7 @@ module _ (P : List ℕ → Type 0) {old new : Option (List ℕ)} {before after :
 
 -- the text of a page is written
 pub page_written : {E : Type 0} {old new : Option (List ℕ)} {before after : Bool} (page : Result (List ℕ) E) (lines text : List ℕ) → page ≡ Ok lines → chars text ≡ lines → AreWritten lines
-    → Reached old new before after text → TellsMore true (λ told. IsOkAnd page (λ all. all ≡ told)) old new before after
+    → WrittenOrFailed old new before after text → TellsMore true (λ told. IsOkAnd page (λ all. all ≡ told)) old new before after
 page_written page lines text e same written reached =
     inr (text, subst (λ (x : List ℕ). AreWritten x) (sym same) written, rw e (sym same), reached)
 
@@ -39,7 +39,7 @@ pub told_lines : {E : Type 0} {old new : Option (List ℕ)} {before after : Bool
     → TellsMore true (λ lines. IsOkAnd page (λ told. told ≡ lines)) old new before after → TellsMore explained AnyLines old new before after
 told_lines explained page e told = told_further AnyLines explained page e (any_page page) told
 
-pub reached_by : {old new : Option (List ℕ)} {before after : Bool} {text : List ℕ} (outcome : Result Unit Fault) → Writes old new before after text outcome
-    → Reached old new before after text
+pub reached_by : {old new : Option (List ℕ)} {before after : Bool} {text : List ℕ} (outcome : Result Unit Fault) → TextWritten old new before after text outcome
+    → WrittenOrFailed old new before after text
 reached_by (Ok done) w = inl w
 reached_by (Err e) w = inr w.1

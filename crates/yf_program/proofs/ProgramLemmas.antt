@@ -10,14 +10,14 @@ use Rattle.yf_program.specs.declared.command_line.Verb.TheVariants.{Check}
 use Rattle.yf_events.specs.declared.lists.Lists.{Lists}
 use Rattle.yf_lines.specs.Lines.{Table}
 use Rattle.yf_rules.specs.Asked.{asked}
-use Rattle.yf_rules.specs.Check.{Checked, RuleFindings}
+use Rattle.yf_rules.specs.Check.{CheckAnswer, RuleFindings}
 use Rattle.yf_rules.specs.Definition.{RuleDefinition}
 use Rattle.yf_rules.specs.declared.finding.Finding.{Finding}
 use Rattle.yf_rules.specs.declared.run.TheConstants.{INPUT_LIMIT}
 use Rattle.yf_emit.specs.declared.style.Style.{Style}
-use Rattle.yf_rules.specs.Compare.{IsClean}
-use Rattle.yf_rules.specs.Diffed.{Diffed}
-use Rattle.yf_rules.specs.Run.{Gave}
+use Rattle.yf_rules.specs.Runs.Compare.{IsClean}
+use Rattle.yf_rules.specs.Runs.Diffed.{DiffRun}
+use Rattle.yf_rules.specs.Runs.Run.{Gave}
 use Rattle.yf_program.specs.Settings.{RefusesSettings}
 
 pub text_refused : (known : Option (List ℕ)) (before after : Bool) (text : List ℕ) (f : Fault) → after ≡ before → Gave known text
@@ -37,18 +37,18 @@ text_refused known before after text WriteFailed same gave within utf8 refuses =
 
 -- a text that is its own formatting has no diff
 pub no_diff : {style : Style} {known old new : Option (List ℕ)} {read_before read_after before after : Bool} (explain check : Bool) (input at : Option (List ℕ)) (was : Bool)
-    (name : List ℕ) (same : Bool) → name ≡ diff_name input → same ≡ true → Diffed style name known old new before after same
+    (name : List ℕ) (same : Bool) → name ≡ diff_name input → same ≡ true → DiffRun style name known old new before after same
     → (same ≡ true → IfSome known (IsClean style)) → read_after ≡ read_before → RanFormatter explain true check input style 0 known read_before read_after old new before after at at was was
 no_diff {style = style} {known = known} {old = old} {new = new} {before = before} {after = after} explain check input at was name same named is_same diffed clean read =
-    let of_same = subst (λ (b : Bool). Diffed style name known old new before after b) is_same diffed in
-    let of_input = subst (λ (t : List ℕ). Diffed style t known old new before after true) named of_same in
+    let of_same = subst (λ (b : Bool). DiffRun style name known old new before after b) is_same diffed in
+    let of_input = subst (λ (t : List ℕ). DiffRun style t known old new before after true) named of_same in
     inl (true, of_input, λ _. clean is_same, read, refl, record { contents = refl; same = refl })
 
 -- a check that was asked for, by the names that the command leaves out
 module _ {B : Type 0} (bs : List B) (definition : B → RuleDefinition) where
   -- what the rules find but those of these names
   abbrev pub Others : Style → List (List ℕ) → Table → Lists → List Finding → Type 0
-  Others style names src reading findings = Checked (λ rule found. RuleFindings (definition rule) src reading style found) (asked definition names bs) findings
+  Others style names src reading findings = CheckAnswer (λ rule found. RuleFindings (definition rule) src reading style found) (asked definition names bs) findings
 
   pub checker_ran : {names left_out : List (List ℕ)} {style : Style} {verb : Verb} (explain diff check : Bool) (input : Option (List ℕ)) {status : ℕ}
       {known old new at : Option (List ℕ)} (to : Option (List ℕ)) {read_before read_after before after was : Bool} (is : Bool) → names ≡ left_out → verb ≡ Check

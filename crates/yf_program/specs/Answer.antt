@@ -12,20 +12,20 @@ use Rattle.yf_lines.specs.declared.fault.Fault.{Fault}
 use Rattle.yf_lines.specs.declared.fault.Fault.TheVariants as fault
 use Rattle.yf_rules.specs.AllRules.{FoundWithout}
 use Rattle.yf_lines.specs.Output.{Broke, Wrote}
-use Rattle.yf_rules.specs.Run.{Untouched}
+use Rattle.yf_rules.specs.Runs.Run.{NothingWritten}
 use Rattle.yf_program.specs.declared.command_line.Cmd.{Cmd}
 use Rattle.yf_program.specs.declared.command_line.Usage.{Usage}
 use Rattle.yf_program.specs.CommandLine.{AsksFor, RefusesWords, is_standard_input}
 use Rattle.yf_program.specs.Named.{named_lines}
-use Rattle.yf_program.specs.Program.{Answered, AnyLines, EndsBy, EndsTold, FileRefused, FileSets, Ran, Reached, TellsMore, WrittenOut}
+use Rattle.yf_program.specs.Program.{UsageWritten, AnyLines, EndsBy, EndsTold, FileRefused, FileSets, Ran, WrittenOrFailed, TellsMore, WrittenOut}
 
 -- an input: a file by its name, or standard input
 abbrev pub Input : Type 0
 Input = Option (List ℕ)
 
 -- what is said of a file, by its name, that is rewritten in a style, with the status and what is told of it
-abbrev pub Rewriting : Type 1
-Rewriting = List ℕ → Style → ℕ → Option (List ℕ) → Option (List ℕ) → Bool → Bool → Type 0
+abbrev pub RewriteClaim : Type 1
+RewriteClaim = List ℕ → Style → ℕ → Option (List ℕ) → Option (List ℕ) → Bool → Bool → Type 0
 
 -- what a command opens for its settings
 abbrev pub settings_of : Option (List ℕ) → List Input
@@ -33,12 +33,12 @@ settings_of (Some name) = Some name ∷ []
 settings_of None = []
 
 -- an input gave these bytes, where they are known
-abbrev pub Holds : Type 0 → (Input → Option (List ℕ)) → Input → Option (List ℕ) → Type 0
-Holds tells holds input known = tells → known ≡ holds input
+abbrev pub InputGave : Type 0 → (Input → Option (List ℕ)) → Input → Option (List ℕ) → Type 0
+InputGave tells holds input known = tells → known ≡ holds input
 
 -- the inputs were opened, in this order, and no other
-abbrev pub Opens : Type 0 → List Input → List Input → List Input → Type 0
-Opens tells log opened inputs = tells → opened ≡ log ++ inputs
+abbrev pub InputsOpened : Type 0 → List Input → List Input → List Input → Type 0
+InputsOpened tells log opened inputs = tells → opened ≡ log ++ inputs
 
 -- the settings where no file sets them
 pub record IsHouse (style : Style) : Type 0 where
@@ -49,42 +49,42 @@ pub record IsHouse (style : Style) : Type 0 where
   pub document_start : style.document_start ≡ Always
 
 -- the settings are those of the file that is named, or the house style's
-abbrev pub Sets : Type 0 → (Input → Option (List ℕ)) → Option (List ℕ) → Style → Type 0
-Sets tells holds (Some name) style = (known : Option (List ℕ)) × Holds tells holds (Some name) known × FileSets known style
-Sets tells holds None style = IsHouse style
+abbrev pub StyleOfFile : Type 0 → (Input → Option (List ℕ)) → Option (List ℕ) → Style → Type 0
+StyleOfFile tells holds (Some name) style = (known : Option (List ℕ)) × InputGave tells holds (Some name) known × FileSets known style
+StyleOfFile tells holds None style = IsHouse style
 
 -- the settings file that is named can't be opened, or is refused
 abbrev pub Unset : Type 0 → (Input → Option (List ℕ)) → Option (List ℕ) → Fault → Type 0
 Unset tells holds (Some name) f = (f ≡ fault.ReadFailed)
-    ⊎ ((known : Option (List ℕ)) × (after : Bool) × Holds tells holds (Some name) known × FileRefused known false after f)
+    ⊎ ((known : Option (List ℕ)) × (after : Bool) × InputGave tells holds (Some name) known × FileRefused known false after f)
 Unset tells holds None f = ⊥
 
 -- a command is done over an input that was opened
 abbrev pub DoesOver : Type 0 → (Input → Option (List ℕ)) → Input → Cmd → Style → ℕ → Option (List ℕ) → Option (List ℕ) → Bool → Bool
     → Option (List ℕ) → Option (List ℕ) → Bool → Bool → Type 0
 DoesOver tells holds input cmd style status old new before after at to was is =
-    (known : Option (List ℕ)) × (failed : Bool) × Holds tells holds input known
+    (known : Option (List ℕ)) × (failed : Bool) × InputGave tells holds input known
     × Ran (FoundWithout cmd.without.items style) style cmd status known false failed old new before after at to was is
 
 -- a file can't be opened, and so can't be read; or a command is done over it
 abbrev pub DoesOpened : Type 0 → (Input → Option (List ℕ)) → Cmd → List ℕ → Style → ℕ → Option (List ℕ) → Option (List ℕ) → Bool → Bool
     → Option (List ℕ) → Option (List ℕ) → Bool → Bool → Type 0
 DoesOpened tells holds cmd name style status old new before after at to was is =
-    (Untouched old new before after × EndsTold cmd.explain AnyLines fault.ReadFailed status at to was is)
+    (NothingWritten old new before after × EndsTold cmd.explain AnyLines fault.ReadFailed status at to was is)
     ⊎ DoesOver tells holds (Some name) cmd style status old new before after at to was is
 
 -- the word in the place of a file is that for standard input, and a command is done over that; or it names a file, which is opened
 abbrev pub DoesInput : Type 0 → (Input → Option (List ℕ)) → List Input → List Input → Cmd → List ℕ → Style → ℕ
     → Option (List ℕ) → Option (List ℕ) → Bool → Bool → Option (List ℕ) → Option (List ℕ) → Bool → Bool → Type 0
 DoesInput tells holds log opened cmd name style status old new before after at to was is =
-    ((is_standard_input name ≡ true) × Opens tells log opened (None ∷ []) × DoesOver tells holds None cmd style status old new before after at to was is)
-    ⊎ ((is_standard_input name ≡ false) × Opens tells log opened (Some name ∷ []) × DoesOpened tells holds cmd name style status old new before after at to was is)
+    ((is_standard_input name ≡ true) × InputsOpened tells log opened (None ∷ []) × DoesOver tells holds None cmd style status old new before after at to was is)
+    ⊎ ((is_standard_input name ≡ false) × InputsOpened tells log opened (Some name ∷ []) × DoesOpened tells holds cmd name style status old new before after at to was is)
 
 -- a command is done over a file: the file is rewritten where the command asks for that, and else it is opened, or standard input
-abbrev pub DoesFile : Type 0 → (Input → Option (List ℕ)) → List Input → List Input → Type 0 → Rewriting → Cmd → List ℕ → Style → ℕ
+abbrev pub DoesFile : Type 0 → (Input → Option (List ℕ)) → List Input → List Input → Type 0 → RewriteClaim → Cmd → List ℕ → Style → ℕ
     → Option (List ℕ) → Option (List ℕ) → Bool → Bool → Option (List ℕ) → Option (List ℕ) → Bool → Bool → Type 0
 DoesFile tells holds log opened Same Rewritten cmd name style status old new before after at to was is =
-    ((cmd.write ≡ true) × (tells → opened ≡ log) × Untouched old new before after
+    ((cmd.write ≡ true) × (tells → opened ≡ log) × NothingWritten old new before after
     × (told : Option (List ℕ)) × (deaf : Bool) × Rewritten name style status at told was deaf × TellsMore cmd.explain AnyLines told to deaf is)
     ⊎ ((cmd.write ≡ false) × Same × DoesInput tells holds log opened cmd name style status old new before after at to was is)
 
@@ -92,12 +92,12 @@ DoesFile tells holds log opened Same Rewritten cmd name style status old new bef
 -- (run: the status of what is told; output, faults: the two texts)
 abbrev pub ToldNamed : ℕ → ℕ → List ℕ → List ℕ → Option (List ℕ) → Option (List ℕ) → Bool → Bool → Option (List ℕ) → Option (List ℕ) → Bool → Bool → Type 0
 ToldNamed run status output faults old new before after at to was is =
-    ((status ≡ run) × Wrote old new before after output × Reached at to was is faults)
+    ((status ≡ run) × Wrote old new before after output × WrittenOrFailed at to was is faults)
     ⊎ ((Broke old new after output × EndsBy fault.WriteFailed status at to was is)
-    ⊎ (Untouched old new before after × EndsBy fault.Memory status at to was is))
+    ⊎ (NothingWritten old new before after × EndsBy fault.Memory status at to was is))
 
 -- A command is done over one file among several: as if it were alone and wrote to memory; and what it wrote is told, with the file's name before each line.
-abbrev pub DoesNamed : Type 0 → (Input → Option (List ℕ)) → List Input → List Input → Type 0 → Rewriting → Cmd → List ℕ → Style → ℕ
+abbrev pub DoesNamed : Type 0 → (Input → Option (List ℕ)) → List Input → List Input → Type 0 → RewriteClaim → Cmd → List ℕ → Style → ℕ
     → Option (List ℕ) → Option (List ℕ) → Bool → Bool → Option (List ℕ) → Option (List ℕ) → Bool → Bool → Type 0
 DoesNamed tells holds log opened Same Rewritten cmd name style status old new before after at to was is =
     (run : ℕ) × (output : List ℕ) × (faults : List ℕ) × (broken : Bool) × (deaf : Bool)
@@ -106,7 +106,7 @@ DoesNamed tells holds log opened Same Rewritten cmd name style status old new be
 
 -- A command is done over each of some files, in order, and the status is the greatest of theirs.
 -- (first, log, old, before, at, was: the files, what was opened and the streams before; files, opened, new, after, to, is: those after the last)
-pub data DoesEach {F : Type 0} (tells : Type 0) (holds : Input → Option (List ℕ)) (Rewrites : F → F → Rewriting) (cmd : Cmd) (style : Style)
+pub data DoesEach {F : Type 0} (tells : Type 0) (holds : Input → Option (List ℕ)) (Rewrites : F → F → RewriteClaim) (cmd : Cmd) (style : Style)
     (log : List Input) (first : F) (old : Option (List ℕ)) (before : Bool) (at : Option (List ℕ)) (was : Bool)
     : List (List ℕ) → ℕ → List Input → F → Option (List ℕ) → Bool → Option (List ℕ) → Bool → Type 0 where
   one_done : {name : List ℕ} {one : ℕ} {opened : List Input} {files : F} {new : Option (List ℕ)} {after : Bool} {to : Option (List ℕ)} {is : Bool}
@@ -119,32 +119,32 @@ pub data DoesEach {F : Type 0} (tells : Type 0) (holds : Input → Option (List 
       → DoesEach tells holds Rewrites cmd style log first old before at was (names ++ name ∷ []) (max status one) opened_then files_then new_then after_then to_then is_then
 
 -- a command is done in a style: over standard input, over its file, or over each of its files
-abbrev pub DoesIn : {F : Type 0} → Type 0 → (Input → Option (List ℕ)) → List Input → List Input → F → F → (F → F → Rewriting) → Cmd → Style → ℕ
+abbrev pub DoesIn : {F : Type 0} → Type 0 → (Input → Option (List ℕ)) → List Input → List Input → F → F → (F → F → RewriteClaim) → Cmd → Style → ℕ
     → Option (List ℕ) → Option (List ℕ) → Bool → Bool → Option (List ℕ) → Option (List ℕ) → Bool → Bool → Type 0
 DoesIn tells holds log opened first last Rewrites cmd style status old new before after at to was is =
-    ((cmd.file ≡ None) × (last ≡ first) × Opens tells log opened (None ∷ []) × DoesOver tells holds None cmd style status old new before after at to was is)
+    ((cmd.file ≡ None) × (last ≡ first) × InputsOpened tells log opened (None ∷ []) × DoesOver tells holds None cmd style status old new before after at to was is)
     ⊎ ((name : List ℕ) × (cmd.file ≡ Some name)
     × (((cmd.more.items ≡ []) × DoesFile tells holds log opened (last ≡ first) (Rewrites first last) cmd name style status old new before after at to was is)
     ⊎ ((cmd.more.items ≢ []) × DoesEach tells holds Rewrites cmd style log first old before at was (name ∷ cmd.more.items) status opened last new after to is)))
 
 -- a command is done: its settings are refused, and its input is not opened; or it is done in the style that they set
-abbrev pub Does : {F : Type 0} → Type 0 → (Input → Option (List ℕ)) → List Input → List Input → F → F → (F → F → Rewriting) → Cmd → ℕ → Option (List ℕ) → Option (List ℕ) → Bool → Bool
+abbrev pub CommandDone : {F : Type 0} → Type 0 → (Input → Option (List ℕ)) → List Input → List Input → F → F → (F → F → RewriteClaim) → Cmd → ℕ → Option (List ℕ) → Option (List ℕ) → Bool → Bool
     → Option (List ℕ) → Option (List ℕ) → Bool → Bool → Type 0
-Does tells holds log opened first last Rewrites cmd status old new before after at to was is =
-    ((f : Fault) × Unset tells holds cmd.config f × (last ≡ first) × Opens tells log opened (settings_of cmd.config) × Untouched old new before after
+CommandDone tells holds log opened first last Rewrites cmd status old new before after at to was is =
+    ((f : Fault) × Unset tells holds cmd.config f × (last ≡ first) × InputsOpened tells log opened (settings_of cmd.config) × NothingWritten old new before after
     × EndsTold cmd.explain AnyLines f status at to was is)
-    ⊎ ((style : Style) × (between : List Input) × Sets tells holds cmd.config style × Opens tells log between (settings_of cmd.config)
+    ⊎ ((style : Style) × (between : List Input) × StyleOfFile tells holds cmd.config style × InputsOpened tells log between (settings_of cmd.config)
     × DoesIn tells holds between opened first last Rewrites cmd style status old new before after at to was is)
 
 -- the words ask for a command, which is done; or for help, or they are wrong, and nothing is opened
-abbrev pub Follows : {F : Type 0} → Type 0 → (Input → Option (List ℕ)) → List Input → List Input → F → F → (F → F → Rewriting) → List Text → ℕ → Option (List ℕ) → Option (List ℕ) → Bool → Bool
+abbrev pub Follows : {F : Type 0} → Type 0 → (Input → Option (List ℕ)) → List Input → List Input → F → F → (F → F → RewriteClaim) → List Text → ℕ → Option (List ℕ) → Option (List ℕ) → Bool → Bool
     → Option (List ℕ) → Option (List ℕ) → Bool → Bool → Type 0
 Follows tells holds log opened first last Rewrites words status old new before after at to was is =
-    ((cmd : Cmd) × AsksFor words cmd × Does tells holds log opened first last Rewrites cmd status old new before after at to was is)
-    ⊎ ((usage : Usage) × RefusesWords words usage × (last ≡ first) × (tells → opened ≡ log) × Answered usage status old new before after at to was is)
+    ((cmd : Cmd) × AsksFor words cmd × CommandDone tells holds log opened first last Rewrites cmd status old new before after at to was is)
+    ⊎ ((usage : Usage) × RefusesWords words usage × (last ≡ first) × (tells → opened ≡ log) × UsageWritten usage status old new before after at to was is)
 
 -- the words are followed, and then what the writer holds back is written out
-pub record Answers {F : Type 0} (tells : Type 0) (holds : Input → Option (List ℕ)) (log opened : List Input) (first last : F) (Rewrites : F → F → Rewriting) (words : List Text) (status : ℕ)
+pub record ProgramRuns {F : Type 0} (tells : Type 0) (holds : Input → Option (List ℕ)) (log opened : List Input) (first last : F) (Rewrites : F → F → RewriteClaim) (words : List Text) (status : ℕ)
     (old new : Option (List ℕ)) (before after : Bool) (at to : Option (List ℕ)) (was is : Bool) : Type 0 where
   pub run : ℕ
   pub written : Option (List ℕ)

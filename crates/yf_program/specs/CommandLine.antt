@@ -194,10 +194,10 @@ abbrev pub AsksText : ErrorKind → Type 0
 AsksText kind = (kind ≡ DisplayHelp) ⊎ (kind ≡ DisplayVersion)
 
 -- how a refusal of each kind is answered
-abbrev pub Answers : ErrorKind → Usage → Type 0
-Answers kind (Help text) = AsksText kind
-Answers kind (Wrong text) = (¬ AsksText kind) × (kind ≢ OutOfMemory)
-Answers kind Memory = ⊤
+abbrev pub UsageAnswer : ErrorKind → Usage → Type 0
+UsageAnswer kind (Help text) = AsksText kind
+UsageAnswer kind (Wrong text) = (¬ AsksText kind) × (kind ≢ OutOfMemory)
+UsageAnswer kind Memory = ⊤
 
 -- the words are taken, and ask for the command
 abbrev pub AsksFor : List Text → Cmd → Type 0

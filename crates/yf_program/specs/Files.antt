@@ -4,7 +4,7 @@ use Rattle.std.specs.Str.{IsUtf8, IsValidUpTo}
 use Rattle.yf_emit.specs.declared.style.Style.{Style}
 use Rattle.yf_files.specs.Replaced.{AtAnyMoment}
 use Rattle.yf_files.specs.Rewritten.{IsFormatting, IsUntouched, LeavesRefused, Rewrote, WhyRefused, new_name_of}
-use Rattle.yf_files.specs.Tree.{State}
+use Rattle.yf_files.specs.Tree.{FilesState}
 use Rattle.yf_files.specs.declared.replacing.ReplaceError.{ReplaceError}
 use Rattle.yf_files.specs.declared.replacing.ReplaceError.TheVariants.{Untouched, Left, Unsure}
 use Rattle.yf_files.specs.declared.rewriting.RewriteError.{RewriteError}
@@ -14,7 +14,7 @@ use Rattle.yf_lines.specs.declared.fault.Fault.TheVariants as fault
 use Rattle.yf_rules.specs.Headline.{Headline}
 use Rattle.yf_stream.specs.Refusal.{IsStreamFault}
 use Rattle.yf_stream.specs.StreamReader.{StreamFault}
-use Rattle.yf_program.specs.Program.{EndsWell, Reached}
+use Rattle.yf_program.specs.Program.{EndsWell, WrittenOrFailed}
 use Rattle.yf_program.specs.Report.{fault_line, fault_status}
 
 -- the other text is the formatting of the bytes, and all holds of the two that `Headline` says
@@ -30,7 +30,7 @@ RefusesBytes bytes why = IsUtf8 bytes × IsStreamFault bytes why × StreamFault 
 -- text, whole, and no other name than the new one ever has anything else. Where all is well it has its formatting, whatever may be found after a crash,
 -- or it had it before and nothing was touched; else it is as it was, or the error says what is left. Whatever is told, a refusal of the formatter is one of some bytes.
 -- (tells: whether the file system tells what is in it; old, new: its states)
-abbrev pub RewritesFile : Type 0 → State → State → List ℕ → Style → Result Unit (RewriteError Fault) → Type 0
+abbrev pub RewritesFile : Type 0 → FilesState → FilesState → List ℕ → Style → Result Unit (RewriteError Fault) → Type 0
 RewritesFile tells old new file style result =
     (tells → AtAnyMoment old new (new_name_of file) (IsFormatting (FormatsBytes style) old file))
     × MatchResult result (λ _. tells → Rewrote (FormatsBytes style) old new file)
@@ -45,8 +45,8 @@ IsUnread (error.Unwritten how) = ⊥
 
 -- What a rewriting does by a name: the file there, or the one to which a link there leads, is rewritten; or none is found, and nothing is touched.
 -- (Leads: the names of the files to which the name leads)
-abbrev pub Rewrites : Type 0 → State → State → (List ℕ → Type 0) → Style → Result Unit (RewriteError Fault) → Type 0
-Rewrites tells old new Leads style result =
+abbrev pub FileRewrite : Type 0 → FilesState → FilesState → (List ℕ → Type 0) → Style → Result Unit (RewriteError Fault) → Type 0
+FileRewrite tells old new Leads style result =
     ((file : List ℕ) × Leads file × RewritesFile tells old new file style result)
     ⊎ ((why : RewriteError Fault) × (result ≡ Err why) × IsUnread why × (tells → IsUntouched old new))
 
@@ -73,9 +73,9 @@ rewrite_line (error.Refused why) = fault_line why
 -- (at, to, was, is: what the stream of faults holds, and the note that it has failed)
 abbrev pub TellsRewriting : Result Unit (RewriteError Fault) → ℕ → Option (List ℕ) → Option (List ℕ) → Bool → Bool → Type 0
 TellsRewriting (Ok done) status at to was is = EndsWell status at to was is
-TellsRewriting (Err why) status at to was is = (status ≡ fault_status (fault_of why)) × Reached at to was is (rewrite_line why)
+TellsRewriting (Err why) status at to was is = (status ≡ fault_status (fault_of why)) × WrittenOrFailed at to was is (rewrite_line why)
 
 -- a file is rewritten by its name, and it is told how that ended
-abbrev pub Rewritten : Type 0 → State → State → (List ℕ → Type 0) → Style → ℕ → Option (List ℕ) → Option (List ℕ) → Bool → Bool → Type 0
-Rewritten tells old new Leads style status at to was is =
-    (result : Result Unit (RewriteError Fault)) × Rewrites tells old new Leads style result × TellsRewriting result status at to was is
+abbrev pub FileRewritten : Type 0 → FilesState → FilesState → (List ℕ → Type 0) → Style → ℕ → Option (List ℕ) → Option (List ℕ) → Bool → Bool → Type 0
+FileRewritten tells old new Leads style status at to was is =
+    (result : Result Unit (RewriteError Fault)) × FileRewrite tells old new Leads style result × TellsRewriting result status at to was is

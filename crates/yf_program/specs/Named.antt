@@ -2,11 +2,11 @@
 use Rattle.std.specs.Prelude.{ℕ, nat_eq, nat_lt, List, [], ◌∷◌, ◌++◌, if◌then◌else◌}
 use Rattle.yf_program.specs.Shown.{shown}
 
--- the first byte of a line: a place begins with a digit, and before anything else a space stands
+-- the first byte of a line: a place begins with a digit, and before anything else a space is
 abbrev pub first_byte : ℕ → List ℕ
 first_byte b = if nat_lt b 48 then 32 ∷ b ∷ [] else if nat_lt 57 b then 32 ∷ b ∷ [] else b ∷ []
 
--- a byte after another one: where a line begins, the prefix stands before it
+-- a byte after another one: where a line begins, the prefix is before it
 abbrev pub prefixed_byte : List ℕ → ℕ → ℕ → List ℕ
 prefixed_byte prefix before b = if nat_eq before 10 then prefix ++ first_byte b else b ∷ []
 

@@ -16,36 +16,36 @@ use Rattle.yf_program.specs.declared.command_line.Usage.TheVariants as usage
 use Rattle.yf_program.specs.declared.command_line.Verb.{Verb}
 use Rattle.yf_program.specs.declared.command_line.Verb.TheVariants.{Events, Check, Fmt}
 use Rattle.yf_rules.specs.declared.run.TheConstants.{INPUT_LIMIT}
-use Rattle.yf_rules.specs.Compare.{Compared, IsClean, RefusedCompare}
-use Rattle.yf_rules.specs.Diffed.{Diffed, RefusedDiff}
-use Rattle.yf_rules.specs.Input.{ReadRefusal}
+use Rattle.yf_rules.specs.Runs.Compare.{CompareRun, IsClean, RefusedCompare}
+use Rattle.yf_rules.specs.Runs.Diffed.{DiffRun, RefusedDiff}
+use Rattle.yf_rules.specs.Runs.Input.{ReadRefusal}
 use Rattle.yf_program.specs.Report.{fault_line, fault_status}
-use Rattle.yf_rules.specs.Run.{Gave, Keeps, Printed, Refused, RefusedCheck, RefusedFmt, Restyled, Told, Untouched}
+use Rattle.yf_rules.specs.Runs.Run.{Gave, Keeps, NotationWritten, PrefixWritten, RefusedCheck, RefusedFmt, FormattingWritten, FindingsWritten, NothingWritten}
 use Rattle.yf_program.specs.Settings.{SetsStyle, RefusesSettings}
 
 -- the text was written to the stream, or the stream has failed after a prefix of it
-abbrev pub Reached : Option (List ℕ) → Option (List ℕ) → Bool → Bool → List ℕ → Type 0
-Reached old new before after text = Wrote old new before after text ⊎ Broke old new after text
+abbrev pub WrittenOrFailed : Option (List ℕ) → Option (List ℕ) → Bool → Bool → List ℕ → Type 0
+WrittenOrFailed old new before after text = Wrote old new before after text ⊎ Broke old new after text
 
 -- a run has ended well, and nothing was written to the stream of faults
 abbrev pub EndsWell : ℕ → Option (List ℕ) → Option (List ℕ) → Bool → Bool → Type 0
-EndsWell status old new before after = (status ≡ 0) × Untouched old new before after
+EndsWell status old new before after = (status ≡ 0) × NothingWritten old new before after
 
 -- the fault's line was written to the stream of faults, and its status is the run's
 abbrev pub EndsBy : Fault → ℕ → Option (List ℕ) → Option (List ℕ) → Bool → Bool → Type 0
-EndsBy f status old new before after = (status ≡ fault_status f) × Reached old new before after (fault_line f)
+EndsBy f status old new before after = (status ≡ fault_status f) × WrittenOrFailed old new before after (fault_line f)
 
 -- all that was held back is written, and the run's status stays; or the writer has failed
 -- (before, after: the note that the writer has failed; at, to, was, is: those of the stream of faults)
 abbrev pub WrittenOut : ℕ → ℕ → Bool → Bool → Option (List ℕ) → Option (List ℕ) → Bool → Bool → Type 0
 WrittenOut run status before after at to was is =
-    ((status ≡ run) × (after ≡ before) × Untouched at to was is) ⊎ ((after ≡ true) × EndsBy fault.WriteFailed status at to was is)
+    ((status ≡ run) × (after ≡ before) × NothingWritten at to was is) ⊎ ((after ≡ true) × EndsBy fault.WriteFailed status at to was is)
 
 -- What more is told where that is asked for: lines of characters that are shown as they are, of which P holds; or nothing more, as where there is no memory.
 abbrev pub TellsMore : Bool → (List ℕ → Type 0) → Option (List ℕ) → Option (List ℕ) → Bool → Bool → Type 0
-TellsMore false P old new before after = Untouched old new before after
+TellsMore false P old new before after = NothingWritten old new before after
 TellsMore true P old new before after =
-    Untouched old new before after ⊎ ((more : List ℕ) × AreWritten (chars more) × P (chars more) × Reached old new before after more)
+    NothingWritten old new before after ⊎ ((more : List ℕ) × AreWritten (chars more) × P (chars more) × WrittenOrFailed old new before after more)
 
 -- the same, of lines of which no more is said
 abbrev pub AnyLines : List ℕ → Type 0
@@ -74,15 +74,15 @@ FileRefused known before after _ = ⊥
 
 -- help was written, or could not be; a refusal was written to the stream of faults
 -- (old, new, before, after: the writer's; at, to, was, is: those of the stream of faults)
-abbrev pub Answered : Usage → ℕ → Option (List ℕ) → Option (List ℕ) → Bool → Bool
+abbrev pub UsageWritten : Usage → ℕ → Option (List ℕ) → Option (List ℕ) → Bool → Bool
     → Option (List ℕ) → Option (List ℕ) → Bool → Bool → Type 0
-Answered (usage.Help text) status old new before after at to was is =
+UsageWritten (usage.Help text) status old new before after at to was is =
     (Wrote old new before after text × EndsWell status at to was is)
     ⊎ (Broke old new after text × EndsBy fault.WriteFailed status at to was is)
-Answered (usage.Wrong text) status old new before after at to was is =
-    (status ≡ 3) × Untouched old new before after × Reached at to was is text
-Answered usage.Memory status old new before after at to was is =
-    Untouched old new before after × EndsBy fault.Memory status at to was is
+UsageWritten (usage.Wrong text) status old new before after at to was is =
+    (status ≡ 3) × NothingWritten old new before after × WrittenOrFailed at to was is text
+UsageWritten usage.Memory status old new before after at to was is =
+    NothingWritten old new before after × EndsBy fault.Memory status at to was is
 
 -- the status of a check
 abbrev pub check_status : Bool → ℕ
@@ -103,15 +103,15 @@ diff_name None = codes "-"
 abbrev pub RanFormatter : Bool → Bool → Bool → Option (List ℕ) → Style → ℕ → Option (List ℕ) → Bool → Bool → Option (List ℕ) → Option (List ℕ)
     → Bool → Bool → Option (List ℕ) → Option (List ℕ) → Bool → Bool → Type 0
 RanFormatter explain true check input style status known read_before read_after old new before after at to was is =
-    ((same : Bool) × Diffed style (diff_name input) known old new before after same × (same ≡ true → IfSome known (IsClean style)) × (read_after ≡ read_before)
-    × (status ≡ format_status same) × Untouched at to was is)
+    ((same : Bool) × DiffRun style (diff_name input) known old new before after same × (same ≡ true → IfSome known (IsClean style)) × (read_after ≡ read_before)
+    × (status ≡ format_status same) × NothingWritten at to was is)
     ⊎ ((f : Fault) × RefusedDiff style (diff_name input) known read_before read_after old new before after f × EndsOver explain known f status at to was is)
 RanFormatter explain false false input style status known read_before read_after old new before after at to was is =
-    (Restyled style known old new before after × (read_after ≡ read_before) × EndsWell status at to was is)
+    (FormattingWritten style known old new before after × (read_after ≡ read_before) × EndsWell status at to was is)
     ⊎ ((f : Fault) × RefusedFmt style known read_before read_after old new before after f × EndsOver explain known f status at to was is)
 RanFormatter explain false true input style status known read_before read_after old new before after at to was is =
-    ((same : Bool) × Compared style known old new before after same × (same ≡ true → IfSome known (IsClean style)) × (read_after ≡ read_before)
-    × (status ≡ format_status same) × Untouched at to was is)
+    ((same : Bool) × CompareRun style known old new before after same × (same ≡ true → IfSome known (IsClean style)) × (read_after ≡ read_before)
+    × (status ≡ format_status same) × NothingWritten at to was is)
     ⊎ ((f : Fault) × RefusedCompare style known read_before read_after old new before after f × EndsOver explain known f status at to was is)
 
 -- what the run does that prints the events, by whether more is to be told of a fault
@@ -119,14 +119,14 @@ RanFormatter explain false true input style status known read_before read_after 
 abbrev pub RanReader : Bool → ℕ → Option (List ℕ) → Bool → Bool → Option (List ℕ) → Option (List ℕ)
     → Bool → Bool → Option (List ℕ) → Option (List ℕ) → Bool → Bool → Type 0
 RanReader explain status known read_before read_after old new before after at to was is =
-    (Printed known old new before after × (read_after ≡ read_before) × EndsWell status at to was is)
-    ⊎ ((f : Fault) × Refused known read_before read_after old new before after f × EndsOver explain known f status at to was is)
+    (NotationWritten known old new before after × (read_after ≡ read_before) × EndsWell status at to was is)
+    ⊎ ((f : Fault) × PrefixWritten known read_before read_after old new before after f × EndsOver explain known f status at to was is)
 
 -- what the run does that checks, by whether more is to be told of faults and findings; C tells what the rules find
 abbrev pub RanChecker : (Table → Lists → List Finding → Type 0) → Style → Bool → ℕ → Option (List ℕ) → Bool → Bool → Option (List ℕ) → Option (List ℕ)
     → Bool → Bool → Option (List ℕ) → Option (List ℕ) → Bool → Bool → Type 0
 RanChecker C style explain status known read_before read_after old new before after at to was is =
-    ((any : Bool) × Told C style known old new before after any × (read_after ≡ read_before) × (status ≡ check_status any) × TellsMore explain AnyLines at to was is)
+    ((any : Bool) × FindingsWritten C style known old new before after any × (read_after ≡ read_before) × (status ≡ check_status any) × TellsMore explain AnyLines at to was is)
     ⊎ ((f : Fault) × RefusedCheck C style known read_before read_after old new before after f × EndsOver explain known f status at to was is)
 
 -- what a verb does, by the flags and the input's name

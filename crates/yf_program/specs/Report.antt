@@ -2,12 +2,12 @@
 use Rattle.std.specs.Prelude.{ℕ, List, [], ◌∷◌, codes, decimal}
 use Rattle.std.specs.List.{concat}
 use Rattle.yf_program.specs.Shown.{shown}
-use Rattle.yf_lines.specs.declared.place.Place.{Place}
+use Rattle.yf_lines.specs.declared.place.Position.{Position}
 use Rattle.yf_lines.specs.declared.fault.Fault.{Fault}
 use Rattle.yf_lines.specs.declared.fault.Fault.TheVariants.{NotUtf8, Syntax, TooDeep, UnknownHandle, UnknownAlias, RepeatedDirective, BadVersion, EscapeValue, Memory, ReadFailed, WriteFailed, Config}
 
 -- line and column, and why the stream is refused there
-abbrev pub refusal_line : Place → List ℕ → List ℕ
+abbrev pub refusal_line : Position → List ℕ → List ℕ
 refusal_line place reason = concat (decimal place.line ∷ codes ":" ∷ decimal place.column ∷ codes " refused: " ∷ reason ∷ codes "\n" ∷ [])
 
 -- the line, with its line feed

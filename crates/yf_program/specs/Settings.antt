@@ -70,7 +70,7 @@ abbrev pub setting : {X : Type 0} → (Data → Option X) → List ℕ → X →
 setting read key house table = unwrap_or (option_and_then read (get_member key table)) house
 
 -- the style that a table with right keys sets
-pub record Sets (table : Members) (style : Style) : Type 0 where
+pub record StyleOfTable (table : Members) (style : Style) : Type 0 where
   pub right : (key : List ℕ) → IsRight table key
   pub indent : style.indent ≡ setting indent_of (codes "indent") 2 table
   pub max_line : style.max_line ≡ setting max_line_of (codes "max_line") 100 table
@@ -80,7 +80,7 @@ pub record Sets (table : Members) (style : Style) : Type 0 where
 
 -- the text is TOML, and its table sets the style
 abbrev pub SetsStyle : List ℕ → Style → Type 0
-SetsStyle text style = IsSomeAnd (parse_document text) (λ table. Sets table style)
+SetsStyle text style = IsSomeAnd (parse_document text) (λ table. StyleOfTable table style)
 
 -- the empty key where the text is no TOML, the least wrong key where it is; memory, only where the text has a key
 abbrev pub RefusesSettings : List ℕ → Fault → Type 0

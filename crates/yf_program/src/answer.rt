@@ -1,8 +1,8 @@
 //! The whole program, over whatever it reads and writes: from the words of the command line to the status.
 ghost use Rattle.std.specs.Prelude.{◌≡◌, ℕ, List, Option, map, string_bytes, MatchResult};
 ghost use Rattle.yf_rules.specs.AllRules.{Are, all_rules};
-ghost use Rattle.yf_program.specs.Answer.{Answers, Does, DoesIn, Follows, Opens, Sets, Unset, settings_of};
-ghost use Rattle.yf_program.specs.Files.{Rewritten};
+ghost use Rattle.yf_program.specs.Answer.{ProgramRuns, CommandDone, DoesIn, Follows, InputsOpened, StyleOfFile, Unset, settings_of};
+ghost use Rattle.yf_program.specs.Files.{FileRewritten};
 ghost use Rattle.yf_program.specs.Program.{AnyLines, EndsTold};
 
 use crate::command_line::{Cmd, parse_line};
@@ -32,8 +32,8 @@ pub fn answer<I: Inputs, S: Links, W: Sink, E: Sink>(
     error_stream: &mut E,
 ) -> u8
     requires all { Are (λ rule. definition rule) rules.now all_rules }
-    ensures { Answers I.tells (I.holds inputs.old) (I.opened inputs.old) (I.opened inputs.new)
-        files.old files.new (λ first last name style. Rewritten S.tells (S.state first) (S.state last) (S.leads first name) style)
+    ensures { ProgramRuns I.tells (I.holds inputs.old) (I.opened inputs.old) (I.opened inputs.new)
+        files.old files.new (λ first last name style. FileRewritten S.tells (S.state first) (S.state last) (S.leads first name) style)
         (map string_bytes words.now) result
         (W.contents writer.old) (W.contents writer.new) (W.has_failed writer.old) (W.has_failed writer.new)
         (E.contents error_stream.old) (E.contents error_stream.new) (E.has_failed error_stream.old) (E.has_failed error_stream.new) }
@@ -54,7 +54,7 @@ fn follow<I: Inputs, S: Links, W: Sink, E: Sink>(
 ) -> u8
     requires all { Are (λ rule. definition rule) rules.now all_rules }
     ensures { Follows I.tells (I.holds inputs.old) (I.opened inputs.old) (I.opened inputs.new)
-        files.old files.new (λ first last name style. Rewritten S.tells (S.state first) (S.state last) (S.leads first name) style)
+        files.old files.new (λ first last name style. FileRewritten S.tells (S.state first) (S.state last) (S.leads first name) style)
         (map string_bytes words.now) result
         (W.contents writer.old) (W.contents writer.new) (W.has_failed writer.old) (W.has_failed writer.new)
         (E.contents error_stream.old) (E.contents error_stream.new) (E.has_failed error_stream.old) (E.has_failed error_stream.new) }
@@ -76,8 +76,8 @@ fn do_command<I: Inputs, S: Links, W: Sink, E: Sink>(
     error_stream: &mut E,
 ) -> u8
     requires all { Are (λ rule. definition rule) rules.now all_rules }
-    ensures { Does I.tells (I.holds inputs.old) (I.opened inputs.old) (I.opened inputs.new)
-        files.old files.new (λ first last name style. Rewritten S.tells (S.state first) (S.state last) (S.leads first name) style)
+    ensures { CommandDone I.tells (I.holds inputs.old) (I.opened inputs.old) (I.opened inputs.new)
+        files.old files.new (λ first last name style. FileRewritten S.tells (S.state first) (S.state last) (S.leads first name) style)
         command.now result
         (W.contents writer.old) (W.contents writer.new) (W.has_failed writer.old) (W.has_failed writer.new)
         (E.contents error_stream.old) (E.contents error_stream.new) (E.has_failed error_stream.old) (E.has_failed error_stream.new) }
@@ -139,9 +139,9 @@ fn style_set<I: Inputs>(
     inputs: &mut I,
     kept: &mut Vec<u8>,
 ) -> Result<Style, Fault>
-    ensures opened { Opens I.tells (I.opened inputs.old) (I.opened inputs.new) (settings_of config.now) }
+    ensures opened { InputsOpened I.tells (I.opened inputs.old) (I.opened inputs.new) (settings_of config.now) }
     ensures same { I.tells → (input : Option (List ℕ)) → I.holds inputs.new input ≡ I.holds inputs.old input }
-    ensures set { MatchResult result (Sets I.tells (I.holds inputs.old) config.now) (Unset I.tells (I.holds inputs.old) config.now) }
+    ensures set { MatchResult result (StyleOfFile I.tells (I.holds inputs.old) config.now) (Unset I.tells (I.holds inputs.old) config.now) }
 {
     let mut file = match config {
         Some(name) => match inputs.open_file(name.as_str()) {
@@ -166,7 +166,7 @@ fn do_in_style<I: Inputs, S: Links, W: Sink, E: Sink>(
 ) -> u8
     requires all { Are (λ rule. definition rule) rules.now all_rules }
     ensures { DoesIn I.tells (I.holds inputs.old) (I.opened inputs.old) (I.opened inputs.new)
-        files.old files.new (λ first last name style. Rewritten S.tells (S.state first) (S.state last) (S.leads first name) style)
+        files.old files.new (λ first last name style. FileRewritten S.tells (S.state first) (S.state last) (S.leads first name) style)
         command.now style.now result
         (W.contents writer.old) (W.contents writer.new) (W.has_failed writer.old) (W.has_failed writer.new)
         (E.contents error_stream.old) (E.contents error_stream.new) (E.has_failed error_stream.old) (E.has_failed error_stream.new) }

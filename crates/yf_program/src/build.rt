@@ -5,7 +5,7 @@ use std::alloc::{AllocError, Global};
 /// The version: that of the newest part of CHANGELOG.md.
 pub const VERSION: &str = "0.2.0";
 
-/// The commit. `git archive` writes its hash in place of these words (.gitattributes); in a checkout they stand as they are.
+/// The commit. `git archive` writes its hash in place of these words (.gitattributes); in a checkout they are as they are.
 pub const COMMIT: &str = "$Format:%H$";
 
 /// The hash of the logic, as `rt version` prints it.

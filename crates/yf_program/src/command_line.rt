@@ -2,7 +2,7 @@
 ghost use Rattle.std.specs.Prelude.{◌≡◌, ◌≢◌, drop, map, IfOk, MatchOption, MatchResult, string_bytes};
 ghost use Rattle.std.specs.List.{list_any};
 ghost use Rattle.clap.specs.Words.{first_of, found_of, kind_of, rows_of, subcommand_rows_of};
-ghost use Rattle.yf_program.specs.CommandLine.{Answers, Asks, AsksFor, IsRefusal, Lacks, RefusesWords, all_given, is_set, is_standard_input, names_given, prints, verb_word};
+ghost use Rattle.yf_program.specs.CommandLine.{UsageAnswer, Asks, AsksFor, IsRefusal, Lacks, RefusesWords, all_given, is_set, is_standard_input, names_given, prints, verb_word};
 
 use crate::build::build_lines;
 use crate::commands::{
@@ -148,7 +148,7 @@ pub fn parse_line(alloc: Global, words: &[String]) -> Result<Cmd, Usage>
 
 // How a refusal of the words is answered.
 fn usage_of(alloc: Global, words: &[String], error: &Error) -> Usage
-    ensures { Answers (kind_of error.now) result }
+    ensures { UsageAnswer (kind_of error.now) result }
 {
     match error.kind() {
         ErrorKind::OutOfMemory => Usage::Memory,
@@ -177,7 +177,7 @@ fn version_text(alloc: Global, error: &Error) -> Result<OwnedText, AllocError> {
     Ok(OwnedText::new(format!(in alloc; "{error}{lines}")?))
 }
 
-// Why the words are refused. They stand in it without their control characters, so it is the refusal of the words that show
+// Why the words are refused. They are in it without their control characters, so it is the refusal of the words that show
 // these by their numbers, which are refused as well.
 fn refusal_text(alloc: Global, words: &[String], error: &Error) -> Result<OwnedText, AllocError> {
     let shown = shown_words(alloc, words)?;

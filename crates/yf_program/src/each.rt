@@ -1,8 +1,8 @@
 //! A command over its files: one by itself, and several, each as if it were alone.
 ghost use Rattle.std.specs.Prelude.{◌≡◌, ◌∷◌, [], ℕ, Bool, List, Option};
 ghost use Rattle.yf_rules.specs.AllRules.{Are, FoundWithout, all_rules};
-ghost use Rattle.yf_program.specs.Answer.{DoesEach, DoesFile, DoesNamed, DoesOpened, DoesOver, Opens, ToldNamed};
-ghost use Rattle.yf_program.specs.Files.{Rewritten};
+ghost use Rattle.yf_program.specs.Answer.{DoesEach, DoesFile, DoesNamed, DoesOpened, DoesOver, InputsOpened, ToldNamed};
+ghost use Rattle.yf_program.specs.Files.{FileRewritten};
 ghost use Rattle.yf_program.specs.Named.{named_lines};
 ghost use Rattle.yf_program.specs.Program.{AnyLines, Ran, TellsMore};
 
@@ -35,7 +35,7 @@ pub fn do_each<I: Inputs, S: Links, W: Sink, E: Sink>(
     error_stream: &mut E,
 ) -> u8
     requires all { Are (λ rule. definition rule) rules.now all_rules }
-    ensures { DoesEach I.tells (I.holds inputs.old) (λ first last name style. Rewritten S.tells (S.state first) (S.state last) (S.leads first name) style)
+    ensures { DoesEach I.tells (I.holds inputs.old) (λ first last name style. FileRewritten S.tells (S.state first) (S.state last) (S.leads first name) style)
         command.now style.now (I.opened inputs.old) files.old (W.contents writer.old) (W.has_failed writer.old)
         (E.contents error_stream.old) (E.has_failed error_stream.old) (first.now ∷ command.now.more.items) result
         (I.opened inputs.new) files.new (W.contents writer.new) (W.has_failed writer.new)
@@ -83,7 +83,7 @@ fn do_named<I: Inputs, S: Links, W: Sink, E: Sink>(
 ) -> u8
     requires all { Are (λ rule. definition rule) rules.now all_rules }
     ensures does { DoesNamed I.tells (I.holds inputs.old) (I.opened inputs.old) (I.opened inputs.new)
-        (files.new ≡ files.old) (λ name style. Rewritten S.tells (S.state files.old) (S.state files.new) (S.leads files.old name) style)
+        (files.new ≡ files.old) (λ name style. FileRewritten S.tells (S.state files.old) (S.state files.new) (S.leads files.old name) style)
         command.now name.now style.now result
         (W.contents writer.old) (W.contents writer.new) (W.has_failed writer.old) (W.has_failed writer.new)
         (E.contents error_stream.old) (E.contents error_stream.new) (E.has_failed error_stream.old) (E.has_failed error_stream.new) }
@@ -189,7 +189,7 @@ pub fn do_file<I: Inputs, S: Links, W: Sink, E: Sink>(
 ) -> u8
     requires all { Are (λ rule. definition rule) rules.now all_rules }
     ensures does { DoesFile I.tells (I.holds inputs.old) (I.opened inputs.old) (I.opened inputs.new)
-        (files.new ≡ files.old) (λ name style. Rewritten S.tells (S.state files.old) (S.state files.new) (S.leads files.old name) style)
+        (files.new ≡ files.old) (λ name style. FileRewritten S.tells (S.state files.old) (S.state files.new) (S.leads files.old name) style)
         command.now name.now style.now result
         (W.contents writer.old) (W.contents writer.new) (W.has_failed writer.old) (W.has_failed writer.new)
         (E.contents error_stream.old) (E.contents error_stream.new) (E.has_failed error_stream.old) (E.has_failed error_stream.new) }
@@ -232,7 +232,7 @@ pub fn do_standard<I: Inputs, W: Sink, E: Sink>(
     error_stream: &mut E,
 ) -> u8
     requires all { Are (λ rule. definition rule) rules.now all_rules }
-    ensures opened { Opens I.tells (I.opened inputs.old) (I.opened inputs.new) (None ∷ []) }
+    ensures opened { InputsOpened I.tells (I.opened inputs.old) (I.opened inputs.new) (None ∷ []) }
     ensures same { I.tells → (input : Option (List ℕ)) → I.holds inputs.new input ≡ I.holds inputs.old input }
     ensures over { DoesOver I.tells (I.holds inputs.old) None command.now style.now result
         (W.contents writer.old) (W.contents writer.new) (W.has_failed writer.old) (W.has_failed writer.new)
@@ -262,7 +262,7 @@ fn do_opened<I: Inputs, W: Sink, E: Sink>(
     error_stream: &mut E,
 ) -> u8
     requires all { Are (λ rule. definition rule) rules.now all_rules }
-    ensures opened { Opens I.tells (I.opened inputs.old) (I.opened inputs.new) (Some name.now ∷ []) }
+    ensures opened { InputsOpened I.tells (I.opened inputs.old) (I.opened inputs.new) (Some name.now ∷ []) }
     ensures same { I.tells → (input : Option (List ℕ)) → I.holds inputs.new input ≡ I.holds inputs.old input }
     ensures over { DoesOpened I.tells (I.holds inputs.old) command.now name.now style.now result
         (W.contents writer.old) (W.contents writer.new) (W.has_failed writer.old) (W.has_failed writer.new)
@@ -292,7 +292,7 @@ fn rewrite_named<I: Inputs, S: Links, E: Sink>(
     style: &Style,
     error_stream: &mut E,
 ) -> u8
-    ensures { (told : Option (List ℕ)) × (deaf : Bool) × Rewritten S.tells (S.state files.old) (S.state files.new) (S.leads files.old name.now) style.now result
+    ensures { (told : Option (List ℕ)) × (deaf : Bool) × FileRewritten S.tells (S.state files.old) (S.state files.new) (S.leads files.old name.now) style.now result
         (E.contents error_stream.old) told (E.has_failed error_stream.old) deaf
         × TellsMore explained AnyLines told (E.contents error_stream.new) deaf (E.has_failed error_stream.new) }
 {

@@ -1,8 +1,8 @@
 //! The files of the program: what is read from them, and the one that is rewritten.
 ghost use Rattle.std.specs.Prelude.{◌≡◌, ℕ, List, string_bytes, IfErr, IfOk, MatchOption};
 ghost use Rattle.yf_lines.specs.declared.fault.Fault.TheVariants.{ReadFailed};
-ghost use Rattle.yf_program.specs.Files.{FormatsBytes, IsUnread, RefusesBytes, Rewrites, RewritesFile, fault_of, rewrite_line, unwritten_line};
-ghost use Rattle.yf_program.specs.Program.{Reached};
+ghost use Rattle.yf_program.specs.Files.{FormatsBytes, IsUnread, RefusesBytes, FileRewrite, RewritesFile, fault_of, rewrite_line, unwritten_line};
+ghost use Rattle.yf_program.specs.Program.{WrittenOrFailed};
 ghost use Rattle.yf_program.specs.Report.{fault_status};
 
 use crate::report::report;
@@ -33,8 +33,8 @@ pub trait Links: FileSystem {
     /// The second name is that of the file at the first one, or of the file to which a link there leads.
     ghost leads: { Self → List ℕ → List ℕ → Type 0 };
 
-    /// The name of the file to which a link at the name leads; nothing where no link stands there. A link that leads nowhere, and
-    /// a name at which nothing stands, are `RewriteError::Unreadable`.
+    /// The name of the file to which a link at the name leads; nothing where no link is there. A link that leads nowhere, and
+    /// a name at which nothing is, are `RewriteError::Unreadable`.
     fn followed(&self, alloc: Global, name: &str) -> Result<Option<String>, RewriteError<Fault>>
         ensures leads { IfOk result (λ found. MatchOption found (leads self.now name.now name.now) (λ file. leads self.now name.now (string_bytes file))) }
         ensures error { IfErr result IsUnread };
@@ -68,7 +68,7 @@ pub fn rewrite<S: Links>(
     name: &str,
     style: &Style,
 ) -> Result<(), RewriteError<Fault>>
-    ensures { Rewrites S.tells (S.state files.old) (S.state files.new) (S.leads files.old name.now) style.now result }
+    ensures { FileRewrite S.tells (S.state files.old) (S.state files.new) (S.leads files.old name.now) style.now result }
 {
     match files.followed(alloc, name) {
         Ok(None) => rewrite_in(alloc, files, name, style),
@@ -118,7 +118,7 @@ impl Formatter for InStyle<'_> {
 /// is left, or the new text may not survive a crash, the line says so.
 pub fn report_rewrite<E: Sink>(error: &RewriteError<Fault>, error_stream: &mut E) -> u8
     ensures status { result ≡ fault_status (fault_of error.now) }
-    ensures line { Reached (E.contents error_stream.old) (E.contents error_stream.new)
+    ensures line { WrittenOrFailed (E.contents error_stream.old) (E.contents error_stream.new)
         (E.has_failed error_stream.old) (E.has_failed error_stream.new) (rewrite_line error.now) }
 {
     match error {
@@ -132,7 +132,7 @@ pub fn report_rewrite<E: Sink>(error: &RewriteError<Fault>, error_stream: &mut E
 // The same of a file whose new text is not put in its place, or not for sure.
 fn report_unwritten<E: Sink>(left: ReplaceError, error_stream: &mut E) -> u8
     ensures status { result ≡ 3 }
-    ensures line { Reached (E.contents error_stream.old) (E.contents error_stream.new)
+    ensures line { WrittenOrFailed (E.contents error_stream.old) (E.contents error_stream.new)
         (E.has_failed error_stream.old) (E.has_failed error_stream.new) (unwritten_line left) }
 {
     match left {
@@ -154,7 +154,7 @@ const UNWRITTEN: u8 = 3;
 // Writes a line, and answers the status of a write that fails.
 fn tell<E: Sink>(line: &[u8], error_stream: &mut E) -> u8
     ensures status { result ≡ 3 }
-    ensures line { Reached (E.contents error_stream.old) (E.contents error_stream.new)
+    ensures line { WrittenOrFailed (E.contents error_stream.old) (E.contents error_stream.new)
         (E.has_failed error_stream.old) (E.has_failed error_stream.new) line.now }
 {
     let _ = write_text(error_stream, line);

@@ -6,7 +6,7 @@ use yf_chars::utf8::check_utf8;
 use yf_events::event::Event;
 use yf_events::reading::Reading;
 use yf_explain::{Page, place_offset, push_line};
-use yf_lines::place::Place;
+use yf_lines::place::Position;
 use yf_lines::source_text::Src;
 use yf_rules::finding::Finding;
 use yf_stream::stream::read_stream;
@@ -120,7 +120,7 @@ fn push_finding(
     alloc: Global,
     page: &mut Page,
     finding: &Finding,
-    first: Option<Place>,
+    first: Option<Position>,
 ) -> Result<(), AllocError> {
     let place = finding.place;
     let words = words_on(finding.id);
@@ -145,7 +145,12 @@ fn words_on(id: &str) -> &'static str {
 }
 
 // Where the first key is that is the same as the one at a place, if the steps that are left find it.
-fn first_place(src: &Src, reading: &Reading, place: Place, steps: &mut usize) -> Option<Place> {
+fn first_place(
+    src: &Src,
+    reading: &Reading,
+    place: Position,
+    steps: &mut usize,
+) -> Option<Position> {
     let Some(index) = key_at(reading, place_offset(src, place), steps) else {
         return None;
     };

@@ -1,9 +1,9 @@
 //! What the program does for a command line, over any reader, any writer and any stream for its faults.
 ghost use Rattle.std.specs.Prelude.{◌≡◌, false, true, MatchResult};
-ghost use Rattle.yf_lines.specs.Output.{Writes};
+ghost use Rattle.yf_lines.specs.Output.{TextWritten};
 ghost use Rattle.yf_rules.specs.Asked.{asked};
-ghost use Rattle.yf_rules.specs.Check.{Checked, RuleFindings};
-ghost use Rattle.yf_program.specs.Program.{Answered, FileRefused, FileSets, Ran, RanChecker, RanFormatter, RanReader, WrittenOut, diff_name};
+ghost use Rattle.yf_rules.specs.Check.{CheckAnswer, RuleFindings};
+ghost use Rattle.yf_program.specs.Program.{UsageWritten, FileRefused, FileSets, Ran, RanChecker, RanFormatter, RanReader, WrittenOut, diff_name};
 ghost use Rattle.std.specs.Io.KnownBytes.{Keeps};
 
 use crate::command_line::{Cmd, Usage, Verb};
@@ -44,7 +44,7 @@ pub fn run<R: Source, W: Sink, E: Sink>(
     writer: &mut W,
     error_stream: &mut E,
 ) -> u8
-    ensures { Ran (λ src reading findings. Checked
+    ensures { Ran (λ src reading findings. CheckAnswer
         (λ rule found. RuleFindings (definition rule) src reading style.now found)
         (asked (λ rule. definition rule) command.now.without.items rules.now) findings)
         style.now command.now result (R.remaining reader.old) (R.has_failed reader.old) (R.has_failed reader.new)
@@ -97,7 +97,7 @@ fn run_checker<R: Source, W: Sink, E: Sink>(
     writer: &mut W,
     error_stream: &mut E,
 ) -> u8
-    ensures { RanChecker (λ src reading findings. Checked
+    ensures { RanChecker (λ src reading findings. CheckAnswer
         (λ rule found. RuleFindings (definition rule) src reading style.now found)
         (asked (λ rule. definition rule) without.now rules.now) findings)
         style.now explained result (R.remaining reader.old) (R.has_failed reader.old) (R.has_failed reader.new)
@@ -276,7 +276,7 @@ pub fn read_style<R: Source>(
 
 /// Writes help to the writer, and why words are refused to the stream of faults, and answers the status.
 pub fn answer_usage<W: Sink, E: Sink>(usage: &Usage, writer: &mut W, error_stream: &mut E) -> u8
-    ensures { Answered usage.now result (W.contents writer.old) (W.contents writer.new) (W.has_failed writer.old) (W.has_failed writer.new)
+    ensures { UsageWritten usage.now result (W.contents writer.old) (W.contents writer.new) (W.has_failed writer.old) (W.has_failed writer.new)
         (E.contents error_stream.old) (E.contents error_stream.new) (E.has_failed error_stream.old) (E.has_failed error_stream.new) }
 {
     match usage {

@@ -87,7 +87,7 @@ pub struct SystemFiles<R: Files + Drop> {
     rt: R,
     opened: Option<Opened<R::File>>,
     made: Option<R::File>,
-    /// Whether no other run is at work on the file, or what stands at the new name is ours.
+    /// Whether no other run is at work on the file, or what is at the new name is ours.
     is_alone: bool,
 }
 
@@ -222,7 +222,7 @@ fn resolved<R: Files>(rt: &R, alloc: Global, path: &str) -> io::Result<Option<St
     Ok(Some(String::from_str(alloc, file.as_str())?))
 }
 
-// The path of the folder in which a file stands.
+// The path of the folder in which a file is.
 fn folder_of(path: &str) -> &str {
     match path.rsplit_once('/') {
         Some(("", _)) => "/",
@@ -231,7 +231,7 @@ fn folder_of(path: &str) -> &str {
     }
 }
 
-// Fails where another file stands at the path, or a link, or this one was written since.
+// Fails where another file is at the path, or a link, or this one was written since.
 fn require_unchanged<R: Files>(rt: &R, path: &str, metadata: &Metadata) -> io::Result<()> {
     let now = fs::symlink_metadata(rt, path)?;
     require(is_same_file(&now, metadata))?;
@@ -248,7 +248,7 @@ fn is_same_text(left: &Metadata, right: &Metadata) -> bool {
         && left.mtime_nsec() == right.mtime_nsec()
 }
 
-// Removes what stands at the path of the new file. Without a lock a regular file may be that of another run, and stays.
+// Removes what is at the path of the new file. Without a lock a regular file may be that of another run, and stays.
 fn clear<R: Files>(rt: &R, new_path: &str, is_alone: bool) -> io::Result<()> {
     match fs::symlink_metadata(rt, new_path) {
         Ok(metadata) => {
@@ -260,7 +260,7 @@ fn clear<R: Files>(rt: &R, new_path: &str, is_alone: bool) -> io::Result<()> {
     }
 }
 
-// Makes the new file, where nothing stands at its path.
+// Makes the new file, where nothing is at its path.
 fn make<R: Files>(rt: &R, new_path: &str) -> io::Result<R::File> {
     OpenOptions::new()
         .write(true)

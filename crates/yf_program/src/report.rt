@@ -1,13 +1,13 @@
 //! What the program prints for a fault, and the status with which it then ends.
 ghost use Rattle.std.specs.Prelude.{◌≡◌, ◌⊎◌};
-ghost use Rattle.yf_lines.specs.Output.{Writes, Wrote, Broke};
+ghost use Rattle.yf_lines.specs.Output.{TextWritten, Wrote, Broke};
 ghost use Rattle.yf_program.specs.Report.{fault_line, fault_status, refusal_line};
 
 use crate::shown::write_shown;
 use itoa::Buffer;
 use yf_lines::fault::Fault;
 use yf_lines::output::{write_text, write_texts};
-use yf_lines::place::Place;
+use yf_lines::place::Position;
 use yf_lines::watched::Sink;
 
 /// Writes the fault's line to the error stream and answers the fault's status: 2 where the stream is refused, 3 for
@@ -43,7 +43,7 @@ fn status_of(fault: &Fault) -> u8
 }
 
 fn write_line<E: Sink>(fault: &Fault, stream: &mut E) -> Result<(), Fault>
-    ensures { Writes (E.contents stream.old) (E.contents stream.new)
+    ensures { TextWritten (E.contents stream.old) (E.contents stream.new)
         (E.has_failed stream.old) (E.has_failed stream.new) (fault_line fault.now) result }
 {
     match fault {
@@ -64,7 +64,7 @@ fn write_line<E: Sink>(fault: &Fault, stream: &mut E) -> Result<(), Fault>
 
 // Writes the line of a wrong key of the settings.
 fn write_config<E: Sink>(key: &str, stream: &mut E) -> Result<(), Fault>
-    ensures { Writes (E.contents stream.old) (E.contents stream.new)
+    ensures { TextWritten (E.contents stream.old) (E.contents stream.new)
         (E.has_failed stream.old) (E.has_failed stream.new) (fault_line (Fault.Config key.now)) result }
 {
     write_text(stream, b"config: ")?;
@@ -72,8 +72,8 @@ fn write_config<E: Sink>(key: &str, stream: &mut E) -> Result<(), Fault>
     write_text(stream, b"\n")
 }
 
-fn write_refusal<E: Sink>(place: &Place, reason: &str, stream: &mut E) -> Result<(), Fault>
-    ensures { Writes (E.contents stream.old) (E.contents stream.new)
+fn write_refusal<E: Sink>(place: &Position, reason: &str, stream: &mut E) -> Result<(), Fault>
+    ensures { TextWritten (E.contents stream.old) (E.contents stream.new)
         (E.has_failed stream.old) (E.has_failed stream.new) (refusal_line place.now reason.now) result }
 {
     let mut line_buffer = Buffer::new();
@@ -84,7 +84,7 @@ fn write_refusal<E: Sink>(place: &Place, reason: &str, stream: &mut E) -> Result
 }
 
 fn write_bad_byte<E: Sink>(offset: usize, stream: &mut E) -> Result<(), Fault>
-    ensures { Writes (E.contents stream.old) (E.contents stream.new)
+    ensures { TextWritten (E.contents stream.old) (E.contents stream.new)
         (E.has_failed stream.old) (E.has_failed stream.new) (fault_line (Fault.NotUtf8 offset)) result }
 {
     let mut buffer = Buffer::new();

@@ -4,7 +4,7 @@ ghost use Rattle.std.specs.Prelude.{List, option_map};
 ghost use Rattle.toml.specs.Data.{get_member};
 ghost use Rattle.toml.specs.View.{view, table_view};
 ghost use Rattle.yf_program.specs.Settings.{number_between, indent_of, max_line_of, quotes_of, seq_indent_of, document_start_of, is_right, IsRight, IsLeastWrong};
-ghost use Rattle.yf_program.specs.Settings.{setting, SetsStyle, RefusesSettings, Sets};
+ghost use Rattle.yf_program.specs.Settings.{setting, SetsStyle, RefusesSettings, StyleOfTable};
 ghost use Rattle.yf_emit.specs.declared.style.DocumentStart.TheVariants.{Always};
 ghost use Rattle.yf_lines.specs.declared.quotes.Quotes.TheVariants.{Double};
 

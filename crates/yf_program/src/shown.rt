@@ -1,6 +1,6 @@
 //! A text from elsewhere within a message: control characters in it are shown by their numbers, so that none reaches a terminal.
 ghost use Rattle.std.specs.Prelude.{◌≡◌, ◌<◌};
-ghost use Rattle.yf_lines.specs.Output.{Writes};
+ghost use Rattle.yf_lines.specs.Output.{TextWritten};
 ghost use Rattle.yf_program.specs.Shown.{shown, shown_byte, shown_digit, shown_number};
 
 use std::alloc::{AllocError, Global};
@@ -13,7 +13,7 @@ const LEAD: u8 = 0xC2;
 
 /// Writes a text with each control character as `\x` and two hexadecimal digits. No memory is taken.
 pub fn write_shown<W: Sink>(writer: &mut W, text: &str) -> Result<(), Fault>
-    ensures { Writes (W.contents writer.old) (W.contents writer.new)
+    ensures { TextWritten (W.contents writer.old) (W.contents writer.new)
         (W.has_failed writer.old) (W.has_failed writer.new) (shown text.now) result }
 {
     let mut before = 0;
@@ -39,7 +39,7 @@ pub fn shown_text(alloc: Global, text: &str) -> Result<String, AllocError> {
 
 // Writes what is shown for a byte after another one.
 fn write_byte<W: Sink>(writer: &mut W, before: u8, byte: u8) -> Result<(), Fault>
-    ensures { Writes (W.contents writer.old) (W.contents writer.new)
+    ensures { TextWritten (W.contents writer.old) (W.contents writer.new)
         (W.has_failed writer.old) (W.has_failed writer.new) (shown_byte before byte) result }
 {
     if byte < 32 {
@@ -62,7 +62,7 @@ fn write_byte<W: Sink>(writer: &mut W, before: u8, byte: u8) -> Result<(), Fault
 
 // Writes a character by its number.
 fn write_number<W: Sink>(writer: &mut W, number: u8) -> Result<(), Fault>
-    ensures { Writes (W.contents writer.old) (W.contents writer.new)
+    ensures { TextWritten (W.contents writer.old) (W.contents writer.new)
         (W.has_failed writer.old) (W.has_failed writer.new) (shown_number number) result }
 {
     write_text(

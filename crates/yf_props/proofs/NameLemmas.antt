@@ -94,7 +94,7 @@ module _ {t : List ℕ} where
   pub no_anchor : {i : ℕ} → (code t i ≡ 38 → is_anchor_char (code t (i + 1)) ≡ false) → Stuck (Anchor t i)
   no_anchor {i} n = record { none = λ j x a. let p = anchor_parts a in run_stuck (one_stuck t is_anchor_char (i + 1) (n p.0)) p.1 }
 
--- at the end of the text no character of a name stands
+-- at the end of the text no character of a name is
 pub no_anchor_char : (c : ℕ) → c ≡ no_char → is_anchor_char c ≡ false
 unfolding is_anchor_char is_ns_char is_nb_char is_printable is_between is_break_char is_white is_flow_indicator
 no_anchor_char c e = ap is_anchor_char e

@@ -6,7 +6,7 @@ use Rattle.std.specs.Str.{IsUtf8}
 use Rattle.std.proofs.lemmas.Option.{same_Some}
 use lib.Utf8.{encodes}
 use Rattle.yf_chars.specs.declared.context.Ctx.{Ctx}
-use Rattle.yf_chars.specs.Text.{code, next, no_char, Reads}
+use Rattle.yf_chars.specs.Text.{code, next, no_char, CharAt}
 use Rattle.yf_chars.specs.Class.{is_anchor_char, is_ns_char, is_nb_char, is_printable, is_between, is_word_char}
 use Rattle.yf_chars.specs.Chain.{Chain, Many, One}
 use Rattle.yf_chars.specs.Chain.Chain.{done, step}
@@ -16,8 +16,8 @@ use Rattle.yf_lines.proofs.ClearLemmas as C
 use Rattle.yf_lines.proofs.ClearLemmas.{spelled_nothing, spelled_join, spelled_char, spelled_slice}
 use Rattle.yf_props.specs.Props.{TagValue}
 use Rattle.yf_props.specs.Props.TagValue.{IsVerbatim}
-use Rattle.yf_props.specs.Names.{Spelled, Run, Anchor, Alias, AnchorChar, Handle, VerbatimTag, ShorthandTag, TagProperty, Properties, PropertiesValue}
-use Rattle.yf_props.specs.Names.Spelled.{as_itself, as_escape}
+use Rattle.yf_props.specs.Names.{SpelledChar, Run, Anchor, Alias, AnchorChar, Handle, VerbatimTag, ShorthandTag, TagProperty, Properties, PropertiesValue}
+use Rattle.yf_props.specs.Names.SpelledChar.{as_itself, as_escape}
 use Rattle.yf_props.specs.Names.Anchor.{ampersand_name}
 use Rattle.yf_props.specs.Names.Alias.{asterisk_name}
 use Rattle.yf_props.specs.Names.Handle.{primary_handle, secondary_handle, named_handle}
@@ -29,7 +29,7 @@ use Rattle.yf_props.specs.Written.{AllOf, IsName, IsSpelled, nothing_spelled, it
 use Rattle.yf_props.proofs.SeparationEnds.{Solid}
 use Rattle.yf_props.proofs.SolidLemmas.{uri_solid, word_solid, tag_solid, hex_solid}
 
--- characters that stand from one offset to another: their bytes
+-- characters that are from one offset to another: their bytes
 pub record Stretch (t : List ℕ) (i j : ℕ) (x : List ℕ) : Type 0 where
   pub spelled : C.Spelled t i j x
   pub within : j ≤ length t
@@ -40,7 +40,7 @@ stretch_slice s = spelled_slice s.within s.spelled
 pub stretch_nothing : (t : List ℕ) (i : ℕ) → i ≤ length t → Stretch t i i []
 stretch_nothing t i l = record { spelled = spelled_nothing t i; within = l }
 
-pub stretch_char : {t : List ℕ} {i c j k : ℕ} {x : List ℕ} → Reads t i c j → Stretch t j k x → Stretch t i k (c ∷ x)
+pub stretch_char : {t : List ℕ} {i c j k : ℕ} {x : List ℕ} → CharAt t i c j → Stretch t j k x → Stretch t i k (c ∷ x)
 stretch_char r s = record { spelled = spelled_join (spelled_char r) s.spelled; within = s.within }
 
 -- runs of a class
@@ -101,16 +101,16 @@ pub record Characters (t : List ℕ) (p : ℕ → Bool) (i j : ℕ) (x : List �
   pub low : Low x
   pub text : IsSpelled p x
 
-one_byte : {t : List ℕ} (i : ℕ) → IsUtf8 t → Solid (code t i) → Reads t i (code t i) (i + 1)
+one_byte : {t : List ℕ} (i : ℕ) → IsUtf8 t → Solid (code t i) → CharAt t i (code t i) (i + 1)
 one_byte {t} i u s = let h = s.high in reads_byte t i (code t i) u refl (omega arith)
 
-pub spelled_made : {t : List ℕ} {p : ℕ → Bool} {i j : ℕ} {x : List ℕ} → IsUtf8 t → (S : (c : ℕ) → p c ≡ true → Solid c) → i ≤ length t → Chain (Spelled t p) i j x
+pub spelled_made : {t : List ℕ} {p : ℕ → Bool} {i j : ℕ} {x : List ℕ} → IsUtf8 t → (S : (c : ℕ) → p c ≡ true → Solid c) → i ≤ length t → Chain (SpelledChar t p) i j x
     → Characters t p i j x
 spelled_made {t} {i = i} u S l done = record { stretch = stretch_nothing t i l; low = tt; text = nothing_spelled }
 spelled_made {t} u S l (step (as_itself {i = i} e) d) =
     let s = S (code t i) e in
     let r = one_byte i u s in
-    let r' : Reads t i (code t i) (next t i) = subst (λ k. Reads t i (code t i) k) (sym r.end) r in
+    let r' : CharAt t i (code t i) (next t i) = subst (λ k. CharAt t i (code t i) k) (sym r.end) r in
     let rest = spelled_made u S r'.within d in
     record { stretch = stretch_char r' rest.stretch; low = (let h = s.high in omega arith, rest.low); text = itself_spelled e rest.text }
 spelled_made {t} u S l (step (as_escape {i = i} e f g) d) =
@@ -119,8 +119,8 @@ spelled_made {t} u S l (step (as_escape {i = i} e f g) d) =
     let two : i + 1 + 1 ≡ i + 2 = omega arith in
     let three : i + 2 + 1 ≡ i + 3 = omega arith in
     let r = reads_byte t i 37 u e (omega arith) in
-    let r₁ : Reads t (i + 1) (code t (i + 1)) (i + 2) = subst (λ k. Reads t (i + 1) (code t (i + 1)) k) two (one_byte (i + 1) u a) in
-    let r₂ : Reads t (i + 2) (code t (i + 2)) (i + 3) = subst (λ k. Reads t (i + 2) (code t (i + 2)) k) three (one_byte (i + 2) u b) in
+    let r₁ : CharAt t (i + 1) (code t (i + 1)) (i + 2) = subst (λ k. CharAt t (i + 1) (code t (i + 1)) k) two (one_byte (i + 1) u a) in
+    let r₂ : CharAt t (i + 2) (code t (i + 2)) (i + 3) = subst (λ k. CharAt t (i + 2) (code t (i + 2)) k) three (one_byte (i + 2) u b) in
     let rest = spelled_made u S r₂.within d in
     record {
       stretch = stretch_char r (stretch_char r₁ (stretch_char r₂ rest.stretch));
@@ -128,7 +128,7 @@ spelled_made {t} u S l (step (as_escape {i = i} e f g) d) =
       text = escape_spelled f g rest.text;
     }
 
-spelled_some : {t : List ℕ} {p : ℕ → Bool} {i j : ℕ} {x : List ℕ} → i < j → Chain (Spelled t p) i j x → x ≢ []
+spelled_some : {t : List ℕ} {p : ℕ → Bool} {i j : ℕ} {x : List ℕ} → i < j → Chain (SpelledChar t p) i j x → x ≢ []
 spelled_some l done = absurd (omega arith)
 spelled_some l (step (as_itself e) d) = cons_some
 spelled_some l (step (as_escape e f g) d) = cons_some
@@ -137,7 +137,7 @@ record SpelledSlice (t : List ℕ) (p : ℕ → Bool) (i j : ℕ) : Type 0 where
   pub text : IsSpelled p (slice_range t i j)
   pub some : slice_range t i j ≢ []
 
-spelled_slice_made : {t : List ℕ} {p : ℕ → Bool} {i j : ℕ} → IsUtf8 t → ((c : ℕ) → p c ≡ true → Solid c) → i ≤ length t → Run (Spelled t p) i j → SpelledSlice t p i j
+spelled_slice_made : {t : List ℕ} {p : ℕ → Bool} {i j : ℕ} → IsUtf8 t → ((c : ℕ) → p c ≡ true → Solid c) → i ≤ length t → Run (SpelledChar t p) i j → SpelledSlice t p i j
 spelled_slice_made {t} {p} {i} {j} u S l r =
     let made = spelled_made u S l r.chain in
     let bytes : slice_range t i j ≡ r.characters = stretch_slice made.stretch ∙ low_bytes r.characters made.low in
@@ -171,7 +171,7 @@ handle_made {t} u (primary_handle {i = i} a) =
 handle_made {t} u (secondary_handle {i = i} a b) =
     let two : i + 1 + 1 ≡ i + 2 = omega arith in
     let r = reads_byte t i 33 u a (omega arith) in
-    let r' : Reads t (i + 1) 33 (i + 2) = subst (λ k. Reads t (i + 1) 33 k) two (reads_byte t (i + 1) 33 u b (omega arith)) in
+    let r' : CharAt t (i + 1) 33 (i + 2) = subst (λ k. CharAt t (i + 1) 33 k) two (reads_byte t (i + 1) 33 u b (omega arith)) in
     let s = stretch_char r (stretch_char r' (stretch_nothing t (i + 2) r'.within)) in
     let bytes : slice_range t i (i + 2) ≡ 33 ∷ 33 ∷ [] = stretch_slice s ∙ low_bytes (33 ∷ 33 ∷ []) (omega arith, (omega arith, tt)) in
     record { text = subst (λ w. IsHandle w) (sym bytes) secondary_form; within = r'.within }

@@ -64,9 +64,9 @@ module _ {t : List ℕ} {n : ℤ} {c : Ctx} where
   anchor_then_tag a s g = chosen_over (anchor_first a s.derived g.derived) (λ l p d. past_anchor a s g d)
 
   -- an anchor alone
-  pub no_tag_behind : {h k : ℕ} {x : List CommentValue} → Chosen (Separate t n c h) k x → Stuck (TagProperty t k)
+  pub no_tag_after : {h k : ℕ} {x : List CommentValue} → Chosen (Separate t n c h) k x → Stuck (TagProperty t k)
       → (l m : ℕ) (y : List CommentValue) (v : TagValue) → Separate t n c h l y → TagProperty t l m v → ⊥
-  no_tag_behind s g l m y v r e =
+  no_tag_after s g l m y v r e =
       let same = (last_is s r (mark_apparent (tag_mark e))).0 in
       g.none m v (subst (λ w. TagProperty t w m v) same e)
 
@@ -137,9 +137,9 @@ module _ {t : List ℕ} (u : IsUtf8 t) {n : ℤ} {c : Ctx} where
   tag_alone g none = chosen_over (by_tag g.derived) (λ l p d. tag_only_is g none d)
 
 module _ {t : List ℕ} {n : ℤ} {c : Ctx} where
-  pub no_anchor_behind : {h k : ℕ} {x : List CommentValue} → Chosen (Separate t n c h) k x → Stuck (Anchor t k)
+  pub no_anchor_after : {h k : ℕ} {x : List CommentValue} → Chosen (Separate t n c h) k x → Stuck (Anchor t k)
       → (l m : ℕ) (y : List CommentValue) (a : List ℕ) → Separate t n c h l y → Anchor t l m a → ⊥
-  no_anchor_behind s g l m y a r e =
+  no_anchor_after s g l m y a r e =
       let same = (last_is s r (and_apparent (anchor_parts e).0)).0 in
       g.none m a (subst (λ w. Anchor t w m a) same e)
 

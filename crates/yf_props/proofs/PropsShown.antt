@@ -4,8 +4,8 @@ use Rattle.std.specs.Str.{IsUtf8}
 use lib.Utf8.{encode}
 use Rattle.yf_chars.specs.declared.context.Ctx.{Ctx}
 use Rattle.yf_chars.specs.Class.{is_anchor_char, is_ns_char, is_nb_char, is_printable, is_between, is_break_char, is_white, is_digit, is_hex_digit, is_tag_char, is_uri_char, is_word_char, is_flow_indicator}
-use Rattle.yf_chars.proofs.SpelledLemmas.{Stands}
-use Rattle.yf_lines.specs.LineText.{is_behind_name}
+use Rattle.yf_chars.proofs.SpelledLemmas.{IsAt}
+use Rattle.yf_lines.specs.LineText.{is_after_name}
 use Rattle.yf_lines.specs.LineText.Follows.{byte_follows}
 use Rattle.yf_props.specs.Props.{PropsValue, TagValue, no_props}
 use Rattle.yf_props.specs.Props.TagValue.{IsVerbatim, IsShort}
@@ -39,10 +39,10 @@ shown_is = record { anchor = λ name e. named e; tag = λ v e. tagged e } where
   tagged : {v : TagValue} → Some (IsShort (codes "!!") (codes "s")) ≡ Some v → IsTag v
   tagged e = let same : IsShort (codes "!!") (codes "s") ≡ _ = cc in subst (λ w. IsTag w) same tag_s
 
--- at any offset, before a space and whatever stands after it
-shown_back : (t : List ℕ) (n : ℤ) (c : Ctx) (q : ℕ) (r : List ℕ) → IsUtf8 t → Stands t q (codes "&a !!s " ++ r)
+-- at any offset, before a space and whatever is after it
+shown_back : (t : List ℕ) (n : ℤ) (c : Ctx) (q : ℕ) (r : List ℕ) → IsUtf8 t → IsAt t q (codes "&a !!s " ++ r)
     → Properties t n c q (q + 6) (tag_with_anchor (q + 2 + 1) (IsShort (codes "!!") (codes "s")) (codes "a") [])
-unfolding shown is_behind_name
+unfolding shown is_after_name
 shown_back t n c q r u s = props_back n c (32 ∷ r) u shown_is (λ e. not_none e) (byte_follows (omega arith) refl) s where
   not_none : shown ≡ no_props → ⊥
   not_none e = let both : Some (codes "a") ≡ None = ap (λ p. p.anchor) e in cc

@@ -114,22 +114,22 @@ module _ {t : List ℕ} where
 
 -- no line begins after a visible character, nor a separation before another
 module _ (t : List ℕ) (u : IsUtf8 t) (i h : ℕ) (q : h ≡ i + 1) (s : Solid (code t i)) where
-  break_not_behind : {k e : ℕ} → Break t k e → e ≡ h → ⊥
-  break_not_behind (cr_lf {i = k} a b) r =
+  break_not_after : {k e : ℕ} → Break t k e → e ≡ h → ⊥
+  break_not_after (cr_lf {i = k} a b) r =
       let e : i ≡ k + 1 = omega arith in
       let f : code t i ≡ 10 = ap (code t) e ∙ b in
       let l = s.low in absurd (omega arith)
-  break_not_behind (lone_cr {i = k} a b) r =
+  break_not_after (lone_cr {i = k} a b) r =
       let e : i ≡ k = omega arith in
       let f : code t i ≡ 13 = ap (code t) e ∙ a in
       let l = s.low in absurd (omega arith)
-  break_not_behind (lone_lf {i = k} a b) r =
+  break_not_after (lone_lf {i = k} a b) r =
       let e : i ≡ k = omega arith in
       let f : code t i ≡ 10 = ap (code t) e ∙ a in
       let l = s.low in absurd (omega arith)
 
-  mark_not_behind : (k : ℕ) → next t k ≡ h → code t k ≡ 0xFEFF → ⊥
-  mark_not_behind k r e =
+  mark_not_after : (k : ℕ) → next t k ≡ h → code t k ≡ 0xFEFF → ⊥
+  mark_not_after k r e =
       let n : next t k ≡ k + 3 = next-mark t k e in
       let same : i ≡ k + 2 = omega arith in
       let b : get_or t (k + 2) 0 ≡ 191 = (bytes_from_mark t k u e).3 in
@@ -139,20 +139,20 @@ module _ (t : List ℕ) (u : IsUtf8 t) (i h : ℕ) (q : h ≡ i + 1) (s : Solid 
 
   line_start_cases : {k : ℕ} → LineStart t k → k ≡ h → ⊥
   line_start_cases at_text r = absurd (omega arith)
-  line_start_cases (after_break b) r = break_not_behind b r
-  line_start_cases (after_mark {i = k} d e) r = mark_not_behind k r e
+  line_start_cases (after_break b) r = break_not_after b r
+  line_start_cases (after_mark {i = k} d e) r = mark_not_after k r e
 
-  pub no_line_behind : LineStart t h → ⊥
-  no_line_behind l = line_start_cases l refl
+  pub no_line_after : LineStart t h → ⊥
+  no_line_after l = line_start_cases l refl
 
   alone : Solid (code t h) → (k : ℕ) → SeparateInLine t h k → ⊥
-  alone a k d = no_separation (no_white (code t h) a.low) no_line_behind d
+  alone a k d = no_separation (no_white (code t h) a.low) no_line_after d
 
   lines_inside : {n : ℤ} {k : ℕ} {x : List CommentValue} → Solid (code t h) → SeparateLines t n h k x → ⊥
   lines_inside a (in_line {j = k} d) = alone a k d
   lines_inside a (over_lines {h = p} {x = x} d f) =
       let ends : Nowhere (BreakOrEnd t h) = record { none = λ k e. no_end a e } in
-      (line_end_stuck no_line_behind (stuck_alone (alone a) ends)).none p x d
+      (line_end_stuck no_line_after (stuck_alone (alone a) ends)).none p x d
 
   inside : {n : ℤ} {c : Ctx} {k : ℕ} {x : List CommentValue} → Solid (code t h) → Separate t n c h k x → ⊥
   inside a (in_key {j = k} e d) = alone a k d

@@ -9,8 +9,8 @@ use Rattle.yf_chars.specs.Chain.Chain.{done, step}
 use Rattle.yf_chars.specs.Chain.One.{one}
 use Rattle.yf_chars.proofs.TextLemmas.{next_ascii}
 use Rattle.yf_props.specs.Props.{TagValue}
-use Rattle.yf_props.specs.Names.{Spelled, WordChar, Handle, VerbatimTag, ShorthandTag, TagProperty}
-use Rattle.yf_props.specs.Names.Spelled.{as_itself, as_escape}
+use Rattle.yf_props.specs.Names.{SpelledChar, WordChar, Handle, VerbatimTag, ShorthandTag, TagProperty}
+use Rattle.yf_props.specs.Names.SpelledChar.{as_itself, as_escape}
 use Rattle.yf_props.specs.Names.Handle.{primary_handle, secondary_handle, named_handle}
 use Rattle.yf_props.specs.Names.VerbatimTag.{in_brackets}
 use Rattle.yf_props.specs.Names.ShorthandTag.{handle_suffix}
@@ -152,13 +152,13 @@ module _ {t : List ℕ} where
       let l = s.high in
       subst (λ v. AllSolid t i v) (sym (next_ascii t i (omega arith))) (solid_one s)
 
-  spelled_solid : {p : ℕ → Bool} → ((c : ℕ) → p c ≡ true → Solid c) → {i j : ℕ} {x : List ℕ} → Spelled t p i j x → AllSolid t i j
+  spelled_solid : {p : ℕ → Bool} → ((c : ℕ) → p c ≡ true → Solid c) → {i j : ℕ} {x : List ℕ} → SpelledChar t p i j x → AllSolid t i j
   spelled_solid f {i} (as_itself e) = solid_next (f (code t i) e)
   spelled_solid f {i} (as_escape a b c) =
       solid_then (mark_one a (omega arith) (omega arith))
       (solid_then (solid_step (i + 1) (i + 2) (omega arith) (hex_solid (code t (i + 1)) b)) (solid_step (i + 2) (i + 3) (omega arith) (hex_solid (code t (i + 2)) c)))
 
-  chain_solid : {p : ℕ → Bool} → ((c : ℕ) → p c ≡ true → Solid c) → {i j : ℕ} {x : List ℕ} → Chain (Spelled t p) i j x → AllSolid t i j
+  chain_solid : {p : ℕ → Bool} → ((c : ℕ) → p c ≡ true → Solid c) → {i j : ℕ} {x : List ℕ} → Chain (SpelledChar t p) i j x → AllSolid t i j
   chain_solid f done = solid_none
   chain_solid f (step s c) = solid_then (spelled_solid f s) (chain_solid f c)
 

@@ -2,7 +2,7 @@
 use Rattle.std.proofs.Common.{◌≡◌, ◌≢◌, ℕ, ◌+◌, ◌<◌, ◌≤◌, Bool, true, false, ◌⊎◌, inl, inr, ⊎_elim, List, slice_range, refl, sym, ap, ◌∙◌, subst, arith, leb, true≢false}
 use Rattle.std.proofs.Math.Bool.{and-false}
 use Rattle.std.proofs.lemmas.Bool.{cases_lt, ne_eqb, lt-leb}
-use Rattle.yf_chars.specs.Text.{code, no_char, Reads}
+use Rattle.yf_chars.specs.Text.{code, no_char, CharAt}
 use Rattle.yf_chars.specs.Class.{is_between, is_digit, is_hex_digit, is_word_char, is_uri_char, is_tag_char, is_flow_indicator}
 use Rattle.yf_chars.specs.Chain.{Chain, Functional, Stuck, Chosen, Many}
 use Rattle.yf_chars.specs.Chain.Chain.{done, step}
@@ -14,8 +14,8 @@ use Rattle.yf_props.specs.Props.TagValue.{IsVerbatim, IsShort, IsNonSpecific}
 use Rattle.yf_props.specs.Chars.{class_of}
 use Rattle.yf_props.specs.declared.tag.Chars.{Chars}
 use Rattle.yf_props.specs.declared.tag.Chars.TheVariants.{Uri, Suffix}
-use Rattle.yf_props.specs.Names.{Spelled, WordChar, UriChar, TagChar, Run, Handle, VerbatimTag, ShorthandTag, TagProperty}
-use Rattle.yf_props.specs.Names.Spelled.{as_itself, as_escape}
+use Rattle.yf_props.specs.Names.{SpelledChar, WordChar, UriChar, TagChar, Run, Handle, VerbatimTag, ShorthandTag, TagProperty}
+use Rattle.yf_props.specs.Names.SpelledChar.{as_itself, as_escape}
 use Rattle.yf_props.specs.Names.Handle.{primary_handle, secondary_handle, named_handle}
 use Rattle.yf_props.specs.Names.VerbatimTag.{in_brackets}
 use Rattle.yf_props.specs.Names.ShorthandTag.{handle_suffix}
@@ -94,7 +94,7 @@ hex_below : (c : ℕ) → is_hex_digit c ≡ true → c < 128
 hex_below c e = ⊎_elim (λ (l : c < 128). l) (λ (l : 128 ≤ c). absurd (true≢false (sym e ∙ hex_above c l))) (cases_lt c 128)
 
 -- a hexadecimal digit is one byte long
-pub past_hex : (t : List ℕ) {i c j : ℕ} → Reads t i c j → is_hex_digit c ≡ true → j ≡ i + 1
+pub past_hex : (t : List ℕ) {i c j : ℕ} → CharAt t i c j → is_hex_digit c ≡ true → j ≡ i + 1
 past_hex t {i} {c} r e =
     let l : c < 128 = hex_below c e in
     let f : code t i ≡ c = r.char in
@@ -128,47 +128,47 @@ module _ (t : List ℕ) (p : ℕ → Bool) (none : p 37 ≡ false) where
   not_both : (i : ℕ) → p (code t i) ≡ true → code t i ≡ 37 → ⊥
   not_both i e f = true≢false (sym e ∙ ap p f ∙ none)
 
-  spelled_end : {i j k : ℕ} {x y : List ℕ} → Spelled t p i j x → Spelled t p i k y → j ≡ k
+  spelled_end : {i j k : ℕ} {x y : List ℕ} → SpelledChar t p i j x → SpelledChar t p i k y → j ≡ k
   spelled_end (as_itself e) (as_itself f) = refl
   spelled_end {i} (as_itself e) (as_escape f g h) = absurd (not_both i e f)
   spelled_end {i} (as_escape f g h) (as_itself e) = absurd (not_both i e f)
   spelled_end (as_escape e f g) (as_escape h k l) = refl
 
-  spelled_meaning : {i j k : ℕ} {x y : List ℕ} → Spelled t p i j x → Spelled t p i k y → x ≡ y
+  spelled_meaning : {i j k : ℕ} {x y : List ℕ} → SpelledChar t p i j x → SpelledChar t p i k y → x ≡ y
   spelled_meaning (as_itself e) (as_itself f) = refl
   spelled_meaning {i} (as_itself e) (as_escape f g h) = absurd (not_both i e f)
   spelled_meaning {i} (as_escape f g h) (as_itself e) = absurd (not_both i e f)
   spelled_meaning (as_escape e f g) (as_escape h k l) = refl
 
-  spelled_forward : {i j : ℕ} {x : List ℕ} → Spelled t p i j x → i < j
+  spelled_forward : {i j : ℕ} {x : List ℕ} → SpelledChar t p i j x → i < j
   spelled_forward {i} (as_itself e) = next_later t i
   spelled_forward (as_escape e f g) = omega arith
 
-  pub spelled_functional : Functional (Spelled t p)
+  pub spelled_functional : Functional (SpelledChar t p)
   spelled_functional = record {
     one_end = λ a b. spelled_end a b;
     one_meaning = λ a b. spelled_meaning a b;
     forward = λ a. spelled_forward a;
   }
 
-  spelled_first : {i j : ℕ} {x : List ℕ} → Spelled t p i j x → (p (code t i) ≡ true) ⊎ (code t i ≡ 37)
+  spelled_first : {i j : ℕ} {x : List ℕ} → SpelledChar t p i j x → (p (code t i) ≡ true) ⊎ (code t i ≡ 37)
   spelled_first (as_itself e) = inl e
   spelled_first (as_escape e f g) = inr e
 
-  pub spelled_stuck : (i : ℕ) → p (code t i) ≡ false → code t i ≢ 37 → Stuck (Spelled t p i)
+  pub spelled_stuck : (i : ℕ) → p (code t i) ≡ false → code t i ≢ 37 → Stuck (SpelledChar t p i)
   spelled_stuck i e n = record {
     none = λ j x s. ⊎_elim (λ (f : p (code t i) ≡ true). true≢false (sym f ∙ e)) (λ (f : code t i ≡ 37). n f) (spelled_first s);
   }
 
-  hex_parts : {i j : ℕ} {x : List ℕ} → Spelled t p i j x → code t i ≡ 37
+  hex_parts : {i j : ℕ} {x : List ℕ} → SpelledChar t p i j x → code t i ≡ 37
       → (is_hex_digit (code t (i + 1)) ≡ true) × (is_hex_digit (code t (i + 2)) ≡ true)
   hex_parts {i} (as_itself e) f = absurd (not_both i e f)
   hex_parts (as_escape e f g) h = (f, g)
 
-  pub no_first_digit : (i : ℕ) → code t i ≡ 37 → is_hex_digit (code t (i + 1)) ≡ false → Stuck (Spelled t p i)
+  pub no_first_digit : (i : ℕ) → code t i ≡ 37 → is_hex_digit (code t (i + 1)) ≡ false → Stuck (SpelledChar t p i)
   no_first_digit i e f = record { none = λ j x s. true≢false (sym (hex_parts s e).0 ∙ f) }
 
-  pub no_second_digit : (i : ℕ) → code t i ≡ 37 → is_hex_digit (code t (i + 2)) ≡ false → Stuck (Spelled t p i)
+  pub no_second_digit : (i : ℕ) → code t i ≡ 37 → is_hex_digit (code t (i + 2)) ≡ false → Stuck (SpelledChar t p i)
   no_second_digit i e f = record { none = λ j x s. true≢false (sym (hex_parts s e).1 ∙ f) }
 
 -- runs of the characters of a tag

@@ -45,7 +45,7 @@ pub data TagText (ds : List Declaration) : TagValue → List ℕ → Type 0 wher
 pub data UnknownHandleOf (ds : List Declaration) : TagValue → Type 0 where
   no_prefix : {handle suffix : List ℕ} → prefix_of ds handle ≡ None → UnknownHandleOf ds (IsShort handle suffix)
 
--- whether a declaration of the handle stands
+-- whether a declaration of the handle is
 abbrev pub is_declared : List Declaration → List ℕ → Bool
 is_declared ds handle = is_some (declared_prefix ds handle)
 

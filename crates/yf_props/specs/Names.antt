@@ -12,10 +12,10 @@ use Rattle.yf_props.specs.Props.{PropsValue, TagValue}
 use Rattle.yf_props.specs.Props.TagValue.{IsVerbatim, IsShort, IsNonSpecific}
 
 -- a character of a class, or % and two hexadecimal digits
-pub data Spelled (t : List ℕ) (p : ℕ → Bool) : ℕ → ℕ → List ℕ → Type 0 where
-  as_itself : {i : ℕ} → p (code t i) ≡ true → Spelled t p i (next t i) (code t i ∷ [])
+pub data SpelledChar (t : List ℕ) (p : ℕ → Bool) : ℕ → ℕ → List ℕ → Type 0 where
+  as_itself : {i : ℕ} → p (code t i) ≡ true → SpelledChar t p i (next t i) (code t i ∷ [])
   as_escape : {i : ℕ} → code t i ≡ PERCENT → is_hex_digit (code t (i + 1)) ≡ true → is_hex_digit (code t (i + 2)) ≡ true
-      → Spelled t p i (i + 3) (PERCENT ∷ code t (i + 1) ∷ code t (i + 2) ∷ [])
+      → SpelledChar t p i (i + 3) (PERCENT ∷ code t (i + 1) ∷ code t (i + 2) ∷ [])
 
 -- ns-anchor-char, ns-word-char, ns-uri-char and ns-tag-char
 abbrev pub AnchorChar : List ℕ → ℕ → ℕ → List ℕ → Type 0
@@ -25,10 +25,10 @@ abbrev pub WordChar : List ℕ → ℕ → ℕ → List ℕ → Type 0
 WordChar t = One t is_word_char
 
 abbrev pub UriChar : List ℕ → ℕ → ℕ → List ℕ → Type 0
-UriChar t = Spelled t is_uri_char
+UriChar t = SpelledChar t is_uri_char
 
 abbrev pub TagChar : List ℕ → ℕ → ℕ → List ℕ → Type 0
-TagChar t = Spelled t is_tag_char
+TagChar t = SpelledChar t is_tag_char
 
 -- one character or more, as long as they go
 pub record Run (S : ℕ → ℕ → List ℕ → Type 0) (i j : ℕ) : Type 0 where
@@ -56,7 +56,7 @@ pub data TagPrefix (t : List ℕ) : ℕ → ℕ → List ℕ → Type 0 where
   local_prefix : {i j : ℕ} {x : List ℕ} → code t i ≡ EXCLAMATION → Chain (UriChar t) (i + 1) j x → TagPrefix t i j (EXCLAMATION ∷ x)
   global_prefix : {i k j : ℕ} {c x : List ℕ} → TagChar t i k c → Chain (UriChar t) k j x → TagPrefix t i j (c ++ x)
 
--- c-verbatim-tag, which means what stands between < and >
+-- c-verbatim-tag, which means what is between < and >
 pub data VerbatimTag (t : List ℕ) : ℕ → ℕ → List ℕ → Type 0 where
   in_brackets : {i j : ℕ} → code t i ≡ EXCLAMATION → code t (i + 1) ≡ LESS → Run (UriChar t) (i + 2) j → code t j ≡ GREATER
       → VerbatimTag t i (j + 1) (slice_range t (i + 2) j)
@@ -71,13 +71,13 @@ pub data TagProperty (t : List ℕ) : ℕ → ℕ → TagValue → Type 0 where
   shorthand_tag : {i j : ℕ} {tag : TagValue} → ShorthandTag t i j tag → TagProperty t i j tag
   non_specific_tag : {i : ℕ} → code t i ≡ EXCLAMATION → Stuck (TagChar t (i + 1)) → TagProperty t i (i + 1) IsNonSpecific
 
--- what properties mean: the properties, where the ! of their tag stands, and the comments between the two
+-- what properties mean: the properties, where the ! of their tag is, and the comments between the two
 pub record PropertiesValue : Type 0 where
   pub props : PropsValue
   pub tag_offset : Option ℕ
   pub comments : List CommentValue
 
--- properties of each kind; the tag stands at the offset
+-- properties of each kind; the tag is at the offset
 abbrev pub tag_only : ℕ → TagValue → PropertiesValue
 tag_only i tag = record { props = record { anchor = None; tag = Some tag }; tag_offset = Some i; comments = [] }
 

@@ -7,9 +7,9 @@ ghost use Rattle.yf_chars.specs.Text.{code};
 ghost use Rattle.yf_props.specs.Names.{AnchorChar, Run, Alias, Anchor};
 
 use yf_chars::runs::{AnchorChars, skip_while};
-use yf_chars::text::stands;
+use yf_chars::text::is_char_at;
 
-// The offset after all characters of a name that stand at the offset.
+// The offset after all characters of a name that are at the offset.
 #[inline(never)]
 fn name_end(s: &str, at: usize) -> usize
     requires { IsCharBoundary s.now at }
@@ -31,7 +31,7 @@ fn name_after<'a>(s: &'a str, at: usize, sign: u8) -> Option<(&'a str, usize)>
     ensures name { IfSome result (λ p. p.0.now ≡ slice_range s.now (at + 1) p.1) }
     ensures boundary { IfSome result (λ p. IsCharBoundary s.now p.1) }
 {
-    if stands(s, at, sign) {
+    if is_char_at(s, at, sign) {
         let start = at + 1;
         let end = name_end(s, start);
         if end > start {

@@ -12,7 +12,7 @@ use std::alloc::{AllocError, Global};
 use std::borrow::CowStr;
 use std::marker::Model;
 use yf_lines::fault::Fault;
-use yf_lines::place::Place;
+use yf_lines::place::Position;
 use yf_lines::text::{OwnedText, Text};
 
 /// The tag handles of one document. In a contract it is the list of the declarations, each a handle and its prefix; a
@@ -104,7 +104,7 @@ impl<'a> Handles<'a> {
         &self,
         alloc: Global,
         tag: &Tag<'a>,
-        place: Place,
+        place: Position,
     ) -> Result<ResolvedTag<'a>, Fault>
         ensures refused { IfErr result (λ fault. (fault ≡ Fault.Memory)
             ⊎ ((fault ≡ Fault.UnknownHandle place) × UnknownHandleOf self.now (tag_value tag.now))) }

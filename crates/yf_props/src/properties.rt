@@ -13,7 +13,7 @@ use crate::props::{Props, Tag};
 use crate::tag::{TagPart, tag_property};
 use std::alloc::{AllocError, Global};
 use yf_chars::context::Ctx;
-use yf_chars::text::stands;
+use yf_chars::text::is_char_at;
 use yf_comments::comments::{Comments, Separation};
 use yf_comments::separation::separate;
 
@@ -45,7 +45,7 @@ fn only_anchor<'a>(alloc: Global, anchor: &'a str, end: usize) -> Properties<'a>
     }
 }
 
-// A tag alone, which stands at the offset.
+// A tag alone, which is at the offset.
 fn only_tag<'a>(alloc: Global, at: usize, part: TagPart<'a>) -> Properties<'a>
     ensures value { properties_value result ≡ tag_only at (tag_value part.entry.tag) }
     ensures end { result.end ≡ part.entry.end }
@@ -62,7 +62,7 @@ fn only_tag<'a>(alloc: Global, at: usize, part: TagPart<'a>) -> Properties<'a>
 }
 
 // Reads what may follow an anchor that ends at the offset: separation and a tag.
-fn behind_anchor<'a>(
+fn after_anchor<'a>(
     alloc: Global,
     s: &'a str,
     at: usize,
@@ -99,7 +99,7 @@ fn behind_anchor<'a>(
 }
 
 // Reads what may follow a tag: separation and an anchor.
-fn behind_tag<'a>(
+fn after_tag<'a>(
     alloc: Global,
     s: &'a str,
     at: usize,
@@ -151,24 +151,24 @@ pub fn node_properties<'a>(
     ensures boundary { IfOk result (λ o. IfSome o (λ p. IsCharBoundary s.now p.end)) }
     ensures order { IfOk result (λ o. IfSome o (λ p. at < p.end)) }
 {
-    if sign_stands(s, at) {
+    if is_property_at(s, at) {
         return anchor_or_tag(alloc, s, at, n, ctx);
     }
     Ok(None)
 }
 
-// Whether the first character of an anchor or a tag stands there.
+// Whether the first character of an anchor or a tag is there.
 #[inline(always)]
-fn sign_stands(s: &str, at: usize) -> bool
+fn is_property_at(s: &str, at: usize) -> bool
     ensures { result ≡ false → (code s.now at ≢ AMPERSAND) × (code s.now at ≢ EXCLAMATION) }
 {
-    if stands(s, at, b'&') {
+    if is_char_at(s, at, b'&') {
         return true;
     }
-    stands(s, at, b'!')
+    is_char_at(s, at, b'!')
 }
 
-// Reads properties where an anchor or a tag may stand.
+// Reads properties where an anchor or a tag may be.
 #[inline(never)]
 fn anchor_or_tag<'a>(
     alloc: Global,
@@ -184,14 +184,14 @@ fn anchor_or_tag<'a>(
 {
     match anchor_property(s, at) {
         Some((anchor, end)) => {
-            let found = behind_anchor(alloc, s, at, n, ctx, anchor, end)?;
+            let found = after_anchor(alloc, s, at, n, ctx, anchor, end)?;
             return Ok(Some(found));
         }
         None => {}
     }
     match tag_property(s, at) {
         Some(part) => {
-            let found = behind_tag(alloc, s, at, n, ctx, part)?;
+            let found = after_tag(alloc, s, at, n, ctx, part)?;
             Ok(Some(found))
         }
         None => Ok(None),

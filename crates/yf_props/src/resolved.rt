@@ -10,7 +10,7 @@ use std::marker::Model;
 use yf_lines::text::Text;
 
 /// What a tag stands for: a prefix, which is a slice of the source or the prefix of a default handle, and after it a
-/// suffix. However many tags have one prefix, it stands in memory once. In a contract it is the text that both make,
+/// suffix. However many tags have one prefix, it is in memory once. In a contract it is the text that both make,
 /// and as that text it is compared.
 #[derive(Drop)]
 pub struct ResolvedTag<'a> {

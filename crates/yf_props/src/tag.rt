@@ -4,16 +4,16 @@ ghost use Rattle.std.specs.Str.{IsCharBoundary};
 ghost use Rattle.yf_chars.specs.Signs.{EXCLAMATION};
 ghost use Rattle.yf_chars.specs.Chain.{Chain, Chosen, Stuck};
 ghost use Rattle.yf_chars.specs.Class.{is_hex_digit};
-ghost use Rattle.yf_chars.specs.Text.{code, Reads};
+ghost use Rattle.yf_chars.specs.Text.{code, CharAt};
 ghost use Rattle.yf_props.specs.Chars.{class_of};
-ghost use Rattle.yf_props.specs.Names.{Spelled, TagChar, Run, Handle, VerbatimTag, ShorthandTag, TagProperty, TagPrefix};
+ghost use Rattle.yf_props.specs.Names.{SpelledChar, TagChar, Run, Handle, VerbatimTag, ShorthandTag, TagProperty, TagPrefix};
 ghost use Rattle.yf_props.specs.Props.{tag_value};
 ghost use Rattle.yf_props.specs.Props.TagValue.{IsShort, IsVerbatim};
 
 use crate::props::Tag;
 use yf_chars::classes::{is_hex_digit, is_tag_char, is_uri_char};
 use yf_chars::runs::{WordChars, skip_while};
-use yf_chars::text::{peek, stands};
+use yf_chars::text::{is_char_at, peek};
 
 // A tag that was read, and the offset after it.
 #[derive(Clone, Copy)]
@@ -40,7 +40,7 @@ fn is_of(class: Chars, c: char) -> bool
 }
 
 // Whether a hexadecimal digit begins at the offset.
-fn hex_stands(s: &str, at: usize) -> bool
+fn is_hex_at(s: &str, at: usize) -> bool
     requires { IsCharBoundary s.now at }
     ensures value { result ≡ is_hex_digit (code s.now at) }
     ensures boundary { result ≡ true → IsCharBoundary s.now (at + 1) }
@@ -54,14 +54,14 @@ fn hex_stands(s: &str, at: usize) -> bool
 // Reads a character of the class, or `%` with two hexadecimal digits, and gives the offset after it.
 fn read_char(s: &str, at: usize, class: Chars) -> Option<usize>
     requires { IsCharBoundary s.now at }
-    ensures reads { MatchOption result (Stuck (Spelled s.now (class_of class) at))
-        (λ j. (x : List ℕ) × Spelled s.now (class_of class) at j x) }
+    ensures reads { MatchOption result (Stuck (SpelledChar s.now (class_of class) at))
+        (λ j. (x : List ℕ) × SpelledChar s.now (class_of class) at j x) }
     ensures boundary { IfSome result (λ j. IsCharBoundary s.now j) }
     ensures order { IfSome result (λ j. at < j) }
 {
-    if stands(s, at, b'%') {
-        if hex_stands(s, at + 1) {
-            if hex_stands(s, at + 2) {
+    if is_char_at(s, at, b'%') {
+        if is_hex_at(s, at + 1) {
+            if is_hex_at(s, at + 2) {
                 return Some(at + 3);
             }
             return None;
@@ -79,11 +79,11 @@ fn read_char(s: &str, at: usize, class: Chars) -> Option<usize>
     }
 }
 
-// The offset after all characters of the class, escapes among them, that stand at the offset.
+// The offset after all characters of the class, escapes among them, that are at the offset.
 fn skip_chars(s: &str, at: usize, class: Chars) -> usize
     requires { IsCharBoundary s.now at }
-    ensures chars { (x : List ℕ) × Chain (Spelled s.now (class_of class)) at result x }
-    ensures all { Stuck (Spelled s.now (class_of class) result) }
+    ensures chars { (x : List ℕ) × Chain (SpelledChar s.now (class_of class)) at result x }
+    ensures all { Stuck (SpelledChar s.now (class_of class) result) }
     ensures boundary { IsCharBoundary s.now result }
     ensures order { at ≤ result }
 {
@@ -104,9 +104,9 @@ pub fn tag_handle(s: &str, at: usize) -> Option<usize>
     ensures boundary { IfSome result (λ j. IsCharBoundary s.now j) }
     ensures order { IfSome result (λ j. at < j) }
 {
-    if stands(s, at, b'!') {
+    if is_char_at(s, at, b'!') {
         let name_end = skip_while::<WordChars>(s, at + 1);
-        if stands(s, name_end, b'!') {
+        if is_char_at(s, name_end, b'!') {
             return Some(name_end + 1);
         }
         return Some(at + 1);
@@ -122,7 +122,7 @@ pub fn tag_prefix(s: &str, at: usize) -> Option<usize>
     ensures boundary { IfSome result (λ j. IsCharBoundary s.now j) }
     ensures order { IfSome result (λ j. at < j) }
 {
-    if stands(s, at, b'!') {
+    if is_char_at(s, at, b'!') {
         return Some(skip_chars(s, at + 1, Chars::Uri));
     }
     match read_char(s, at, Chars::Suffix) {
@@ -137,11 +137,11 @@ fn verbatim<'a>(s: &'a str, at: usize) -> Option<TagPart<'a>>
         (λ p. (text : List ℕ) × Chosen (VerbatimTag s.now at) p.end text × (tag_value p.tag ≡ IsVerbatim text)) }
     ensures boundary { IfSome result (λ p. IsCharBoundary s.now p.end) }
 {
-    if stands(s, at, b'!') {
-        if stands(s, at + 1, b'<') {
+    if is_char_at(s, at, b'!') {
+        if is_char_at(s, at + 1, b'<') {
             let end = skip_chars(s, at + 2, Chars::Uri);
             if end > at + 2 {
-                if stands(s, end, b'>') {
+                if is_char_at(s, end, b'>') {
                     return Some(TagPart {
                         tag: Tag::Verbatim(&s[at + 2..end]),
                         end: end + 1,
@@ -178,13 +178,13 @@ fn suffix_after<'a>(s: &'a str, at: usize, start: usize) -> Option<TagPart<'a>>
 
 // Reads a shorthand tag whose handle is not the lone `!`.
 fn long_shorthand<'a>(s: &'a str, at: usize) -> Option<TagPart<'a>>
-    requires { Reads s.now at EXCLAMATION (at + 1) }
+    requires { CharAt s.now at EXCLAMATION (at + 1) }
     ensures reads { MatchOption result ((h j : ℕ) → Handle s.now at h → at + 1 < h → Run (TagChar s.now) h j → ⊥)
         (λ p. Chosen (ShorthandTag s.now at) p.end (tag_value p.tag)) }
     ensures boundary { IfSome result (λ p. IsCharBoundary s.now p.end) }
 {
     let name_end = skip_while::<WordChars>(s, at + 1);
-    if stands(s, name_end, b'!') {
+    if is_char_at(s, name_end, b'!') {
         return match suffix_after(s, at, name_end + 1) {
             Some(part) => Some(part),
             None => None,
@@ -195,7 +195,7 @@ fn long_shorthand<'a>(s: &'a str, at: usize) -> Option<TagPart<'a>>
 
 // Reads a shorthand tag (c-ns-shorthand-tag, production 99), with the longest handle that a suffix follows.
 fn shorthand<'a>(s: &'a str, at: usize) -> Option<TagPart<'a>>
-    requires { Reads s.now at EXCLAMATION (at + 1) }
+    requires { CharAt s.now at EXCLAMATION (at + 1) }
     ensures reads { MatchOption result (Stuck (ShorthandTag s.now at) × Stuck (TagChar s.now (at + 1)))
         (λ p. Chosen (ShorthandTag s.now at) p.end (tag_value p.tag)) }
     ensures boundary { IfSome result (λ p. IsCharBoundary s.now p.end) }
@@ -214,7 +214,7 @@ pub(crate) fn tag_property<'a>(s: &'a str, at: usize) -> Option<TagPart<'a>>
     ensures reads { MatchOption result (Stuck (TagProperty s.now at)) (λ p. Chosen (TagProperty s.now at) p.end (tag_value p.tag)) }
     ensures boundary { IfSome result (λ p. IsCharBoundary s.now p.end) }
 {
-    if stands(s, at, b'!') {
+    if is_char_at(s, at, b'!') {
         return match verbatim(s, at) {
             Some(part) => Some(part),
             None => match shorthand(s, at) {

@@ -23,7 +23,7 @@ use Rattle.yf_quoted.specs.Body.PlainGap.{of_whites, of_fold}
 use Rattle.yf_quoted.specs.Body.NoPlainGap.{at_break}
 use Rattle.yf_quoted.proofs.DoubleLemmas.{Good, good_place, to_fold, goods_append, white_backslash}
 
--- no escaped break stands after the white space
+-- no escaped break is after the white space
 pub record NoEscape (t : List ℕ) (o : Option ℕ) (i : ℕ) : Type 0 where
   pub none : (w h l : ℕ) (x : List ℕ) → o ≡ Some w → Many t is_white i h x → code t h ≡ 92 → Break t (h + 1) l → ⊥
 
@@ -64,7 +64,7 @@ fold_gap_bytes t i zero = ap (λ w. w ++ (32 ∷ [])) (no_slice t i)
 fold_gap_bytes t i (suc k) =
     rw (ne_eqb (suc k) 0 (λ e. absurd (omega arith))) (ap (λ w. w ++ line_feeds (suc k)) (no_slice t i) ∙ sym (feeds_bytes (suc k)))
 
--- breaks stand where lines are indented by a width
+-- breaks are where lines are indented by a width
 break_of : {t : List ℕ} (o : Option ℕ) {i k : ℕ} {y : List Piece} → DoubleBreaks t o i k y → (w : ℕ) × (o ≡ Some w) × DoubleBreak t (pos w) i k y
 break_of None b = absurd b
 break_of (Some w) b = (w, refl, b)

@@ -10,7 +10,7 @@ use Rattle.std.specs.Str.{IsUtf8, IsCharBoundary}
 use Rattle.yf_chars.specs.Class.{is_between}
 use Rattle.yf_chars.specs.Common.{is_common}
 use Rattle.yf_chars.specs.Escape.{is_by_two, is_by_four, short_name, spelled}
-use Rattle.yf_chars.specs.Text.{code, Reads}
+use Rattle.yf_chars.specs.Text.{code, CharAt}
 use Rattle.yf_chars.proofs.CommonLemmas.{common_below, common_spelled, none_there}
 use Rattle.yf_chars.proofs.EscapeLemmas.{spelled_none, spelled_self}
 use Rattle.yf_chars.proofs.TextLemmas.{reads_ascii}
@@ -35,27 +35,27 @@ common_at t i u l e =
     let c = code t i in
     let o : is_common c ≡ true = ap is_common r.char ∙ e in
     record {
-      reads = subst (λ c. Reads t i c (i + 1)) (sym r.char) r;
+      reads = subst (λ c. CharAt t i c (i + 1)) (sym r.char) r;
       self = common_spelled c o;
     }
 
-pub wide_at : {t : List ℕ} {i c j : ℕ} → Reads t i c j → spelled c ≡ c ∷ [] → OwnAt t i j
+pub wide_at : {t : List ℕ} {i c j : ℕ} → CharAt t i c j → spelled c ≡ c ∷ [] → OwnAt t i j
 wide_at {t} {i} {j = j} r e = record {
-  reads = subst (λ v. Reads t i v j) (sym r.char) r;
+  reads = subst (λ v. CharAt t i v j) (sym r.char) r;
   self = subst (λ v. spelled v ≡ v ∷ []) (sym r.char) e;
 }
 
--- what stands after a character
-rest_behind : {t : List ℕ} {i c j : ℕ} → Reads t i c j → drop i t ≡ encode_utf8 c ++ drop j t
-rest_behind {t} {i} {c} {j} r =
+-- what is after a character
+rest_after : {t : List ℕ} {i c j : ℕ} → CharAt t i c j → drop i t ≡ encode_utf8 c ++ drop j t
+rest_after {t} {i} {c} {j} r =
     let within : i ≤ length t = omega (arith, r.later, r.within) in
     let whole : t ≡ take i t ++ (encode_utf8 c ++ drop j t) =
     sym (take-append-drop j t) ∙ ap (λ w. w ++ drop j t) r.bytes ∙ append_assoc (take i t) (encode_utf8 c) (drop j t) in
     let cut : drop (length (take i t)) (take i t ++ (encode_utf8 c ++ drop j t)) ≡ encode_utf8 c ++ drop j t = drop-append_seam (take i t) (encode_utf8 c ++ drop j t) in
     ap (drop i) whole ∙ ap (λ k. drop k (take i t ++ (encode_utf8 c ++ drop j t))) (sym (length-take-le i t within)) ∙ cut
 
-pub chars_behind : {t : List ℕ} {i c j : ℕ} → IsUtf8 t → IsCharBoundary t i → Reads t i c j → chars (drop i t) ≡ c ∷ chars (drop j t)
-chars_behind {t} {i} {c} {j} u b r = chars_past_char (drop i t) (drop j t) c (IsUtf8-drop t i u b) (rest_behind r)
+pub chars_after : {t : List ℕ} {i c j : ℕ} → IsUtf8 t → IsCharBoundary t i → CharAt t i c j → chars (drop i t) ≡ c ∷ chars (drop j t)
+chars_after {t} {i} {c} {j} u b r = chars_past_char (drop i t) (drop j t) c (IsUtf8-drop t i u b) (rest_after r)
 
 -- the run so far
 pub record RunSoFar (t : List ℕ) (i j : ℕ) : Type 0 where
@@ -74,7 +74,7 @@ run_more {t} {i} {j} {k} u b r o =
       text = r.text ++ c ∷ [];
       self = flat_map-append spelled r.text (c ∷ []) ∙ ap (λ w. w ++ flat_map spelled (c ∷ [])) r.self ∙ ap (λ w. r.text ++ w) (append-nil (spelled c) ∙ o.self);
       spelled_out = spelled_join r.spelled_out (spelled_char o.reads);
-      rest = r.rest ∙ ap (λ w. r.text ++ w) (chars_behind u b o.reads) ∙ sym (append_assoc r.text (c ∷ []) (chars (drop k t)));
+      rest = r.rest ∙ ap (λ w. r.text ++ w) (chars_after u b o.reads) ∙ sym (append_assoc r.text (c ∷ []) (chars (drop k t)));
     }
 
 pub run_found : {t : List ℕ} {i j : ℕ} → j ≤ length t → RunSoFar t i j → OwnRun t i j
@@ -91,13 +91,13 @@ run_written t out {slice = slice} {i = i} {j} r e n q =
     ap encode_utf8_all parts ∙ encodes-append r.text after ∙ ap (λ w. w ++ encode_utf8_all after) (sym (q ∙ r.bytes)) in
     ap (λ w. w ++ encode_utf8_all after) n ∙ append_assoc out slice (encode_utf8_all after) ∙ ap (λ w. out ++ w) (sym bytes) ∙ e
 
-pub char_written : (t out : List ℕ) {new all : List ℕ} {i c j : ℕ} → IsUtf8 t → IsCharBoundary t i → Reads t i c j
+pub char_written : (t out : List ℕ) {new all : List ℕ} {i c j : ℕ} → IsUtf8 t → IsCharBoundary t i → CharAt t i c j
     → out ++ encode_utf8_all (flat_map spelled (chars (drop i t))) ≡ all → new ≡ out ++ encode_utf8_all (spelled c)
     → new ++ encode_utf8_all (flat_map spelled (chars (drop j t))) ≡ all
 char_written t out {c = c} {j} u b r e n =
     let after = flat_map spelled (chars (drop j t)) in
     ap (λ w. w ++ encode_utf8_all after) n ∙ append_assoc out (encode_utf8_all (spelled c)) (encode_utf8_all after)
-    ∙ ap (λ w. out ++ w) (sym (ap (λ w. encode_utf8_all (flat_map spelled w)) (chars_behind u b r) ∙ encodes-append (spelled c) after)) ∙ e
+    ∙ ap (λ w. out ++ w) (sym (ap (λ w. encode_utf8_all (flat_map spelled w)) (chars_after u b r) ∙ encodes-append (spelled c) after)) ∙ e
 
 pub end_written : (t out : List ℕ) {all : List ℕ} {i : ℕ} → i ≡ length t → out ++ encode_utf8_all (flat_map spelled (chars (drop i t))) ≡ all → out ≡ all
 end_written t out {i = i} q e =

@@ -1,4 +1,4 @@
--- Quoted scalars stand within one line, and are derived again wherever they stand.
+-- Quoted scalars are within one line, and are derived again wherever they are.
 use Rattle.std.proofs.Common.{◌≡◌, ◌≢◌, ℕ, ◌+◌, ◌/◌, ◌%◌, ◌<◌, ◌≤◌, ℤ, true, false, Option, Some, None, List, [], ◌∷◌, ◌++◌, length, flat_map, refl, inl, inr, ⊎_elim, arith, encode_utf8_all}
 use Rattle.std.proofs.lemmas.Bool.{cases_Bool, cases_eq, ne_eqb, and_parts}
 use Rattle.std.proofs.lemmas.Bool.Decides.{nat_tests}
@@ -8,7 +8,7 @@ use Rattle.yf_chars.specs.declared.context.Ctx.{Ctx}
 use Rattle.yf_chars.specs.Class.{is_nb_char}
 use Rattle.yf_chars.specs.Escape.{upper_digit, two_digits, is_by_two, is_by_four, spelled_long, spelled_by, spelled, short_name}
 use Rattle.yf_chars.proofs.EscapeLemmas.{by_two_below, by_four_below}
-use Rattle.yf_chars.proofs.SpelledLemmas.{Stands, plain_char}
+use Rattle.yf_chars.proofs.SpelledLemmas.{IsAt, plain_char}
 use Rattle.yf_chars.proofs.CharBounds.{visible_nb}
 use Rattle.yf_lines.specs.Basic.{is_block}
 use Rattle.yf_lines.specs.LineText.{AllNb, IsLineText}
@@ -72,7 +72,7 @@ all_spelled (c ∷ cs) e =
     let parts = and_parts (scalar c) (scalars cs) e in
     nb_append (spelled c) (flat_map spelled cs) (spelled_nb c parts.0) (all_spelled cs parts.1)
 
--- a text in quotes stands within one line
+-- a text in quotes is within one line
 in_quotes : (q : ℕ) (cs : List ℕ) → 32 ≤ q → q < 127 → AllNb cs → IsLineText (q ∷ (encode_utf8_all cs ++ q ∷ []))
 in_quotes q cs l h a =
     let nb = visible_nb q l h in
@@ -84,10 +84,10 @@ single_line_text cs a = in_quotes 39 (flat_map twice cs) (omega arith) (omega ar
 pub double_line_text : (cs : List ℕ) → scalars cs ≡ true → IsLineText (double_bytes cs)
 double_line_text cs a = in_quotes 34 (flat_map spelled cs) (omega arith) (omega arith) (all_spelled cs a)
 
--- wherever the bytes stand, whatever follows
-pub single_stands : {t : List ℕ} (n : ℤ) (c : Ctx) (cs r : List ℕ) {q : ℕ} → IsUtf8 t → is_block c ≡ false → all_nb cs ≡ true → Stands t q (single_bytes cs ++ r)
+-- wherever the bytes are, whatever follows
+pub single_is_at : {t : List ℕ} (n : ℤ) (c : Ctx) (cs r : List ℕ) {q : ℕ} → IsUtf8 t → is_block c ≡ false → all_nb cs ≡ true → IsAt t q (single_bytes cs ++ r)
     → SingleQuoted t n c q (q + length (single_bytes cs)) cs
-single_stands {t} n c cs r {q} u b a s = (single_back cs a).derived t q r n c u s.bytes b
+single_is_at {t} n c cs r {q} u b a s = (single_back cs a).derived t q r n c u s.bytes b
 
 -- the pieces of a double-quoted scalar that hold no bad escape, and its characters
 pub record Double (t : List ℕ) (n : ℤ) (c : Ctx) (q j : ℕ) (cs : List ℕ) : Type 0 where
@@ -96,8 +96,8 @@ pub record Double (t : List ℕ) (n : ℤ) (c : Ctx) (q j : ℕ) (cs : List ℕ)
   pub no_bad : bad_escapes pieces ≡ []
   pub derived : DoubleQuoted t n c q j pieces
 
-pub double_stands : {t : List ℕ} (n : ℤ) (c : Ctx) (cs r : List ℕ) {q : ℕ} → IsUtf8 t → is_block c ≡ false → scalars cs ≡ true → Stands t q (double_bytes cs ++ r)
+pub double_is_at : {t : List ℕ} (n : ℤ) (c : Ctx) (cs r : List ℕ) {q : ℕ} → IsUtf8 t → is_block c ≡ false → scalars cs ≡ true → IsAt t q (double_bytes cs ++ r)
     → Double t n c q (q + length (double_bytes cs)) cs
-double_stands {t} n c cs r {q} u b a s =
+double_is_at {t} n c cs r {q} u b a s =
     let got = (double_back cs a).chosen t q r n c u s.bytes b in
     record { pieces = got.0; text = got.1; no_bad = got.2; derived = got.3.derived }

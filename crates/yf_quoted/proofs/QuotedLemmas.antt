@@ -14,7 +14,7 @@ use Rattle.yf_quoted.specs.Quoted.DoubleBreak.{folded_break, escaped_break}
 use Rattle.yf_quoted.specs.Body.{Body, DoubleBreaks, WidthOf, SimpleChar, DoubleRead, NoDoubleBody}
 use Rattle.yf_quoted.specs.Body.SimpleChar.{simply}
 use Rattle.yf_lines.specs.declared.fault.Fault.TheVariants.{EscapeValue}
-use Rattle.yf_lines.specs.declared.place.Place.{Place}
+use Rattle.yf_lines.specs.declared.place.Position.{Position}
 use Rattle.yf_lines.specs.Lines.{PlaceOf}
 use Rattle.yf_quoted.specs.Fault.{DoubleFault}
 use Rattle.yf_quoted.specs.Fault.DoubleFault.{for_escape}
@@ -89,7 +89,7 @@ body_read {t} {n = n} {c = c} {i = i} u w q r =
     (r.text, r.is, r.escapes, subst (λ k. Chosen (DoubleQuoted t n c i) k r.text) r.end (double_chosen u w q r.body))
 
 -- a bad escape in the longest part
-pub fault_from : {t s : List ℕ} {n m : ℤ} {c : Ctx} {i b j : ℕ} {place : Place} {bytes wrong more : List ℕ}
+pub fault_from : {t s : List ℕ} {n m : ℤ} {c : Ctx} {i b j : ℕ} {place : Position} {bytes wrong more : List ℕ}
     → (x : List Piece) × (bytes ≡ encode_utf8_all (text_of x)) × (wrong ≡ bad_escapes x) × Chosen (DoubleQuoted s m c i) j x
     → s ≡ t → m ≡ n → wrong ≡ b ∷ more → PlaceOf t b place.line place.column → DoubleFault t n c i (EscapeValue place)
 fault_from {t} {s} {n} {m} {c} {i} {j = j} r e f w p =

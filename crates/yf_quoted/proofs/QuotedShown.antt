@@ -1,4 +1,4 @@
--- Texts by hand: what is written for a text in quotes, and that it stands within one line.
+-- Texts by hand: what is written for a text in quotes, and that it is within one line.
 use Rattle.std.proofs.Common.{◌≡◌, [], ◌∷◌, codes, refl}
 use lib.Utf8.{encode}
 use Rattle.yf_chars.specs.Class.{is_between, is_printable, is_break_char, is_nb_char}
@@ -12,9 +12,9 @@ quote_twice : single_bytes (codes "it's") ≡ codes "'it''s'"
 unfolding encode
 quote_twice = refl
 
-quote_stands : IsLineText (codes "'it''s'")
+quote_is_at : IsLineText (codes "'it''s'")
 unfolding encode is_nb_char is_printable is_between is_break_char
-quote_stands = single_line_text (codes "it's") refl
+quote_is_at = single_line_text (codes "it's") refl
 
 -- a, a line feed, a tab, a number that has no letter
 breaks_spelled : double_bytes (97 ∷ 10 ∷ 9 ∷ 133 ∷ []) ≡ codes "\"a\\n\\t\\x85\""

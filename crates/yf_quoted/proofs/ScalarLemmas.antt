@@ -17,7 +17,7 @@ use Rattle.yf_lines.specs.Basic.FlowPrefix.{indented, set_off}
 use Rattle.yf_lines.specs.Basic.FlowFolded.{at_break, past_whites}
 use Rattle.yf_lines.proofs.BasicLemmas.{clear_join, clear_front, clear_back}
 use Rattle.yf_lines.proofs.ClearLemmas.{clear_char, not_forbidden}
-use Rattle.yf_quoted.specs.Quoted.{Rest, Inside, Quoted}
+use Rattle.yf_quoted.specs.Quoted.{Rest, Inside, QuotedScalar}
 use Rattle.yf_quoted.specs.Quoted.Rest.{blank, last_break, next_line}
 use Rattle.yf_quoted.specs.Quoted.Inside.{as_key, as_lines}
 use Rattle.yf_quoted.specs.Body.{Gap, Step, Body, WidthOf}
@@ -151,12 +151,12 @@ module _ {A : Type 0} {t : List ℕ} {put : List ℕ → List A} {C : ℕ → �
       let b = rest_order (k.laws None) (ap is_white q ∙ k.means.no_white) (rest_map (no_lines k l) r) in
       omega arith
 
-  pub quoted_body : {n : ℤ} {c : Ctx} {o : Option ℕ} {i j : ℕ} {x : List A} → Kind t put C D B quote → WidthOf n c o → (q : Quoted t put C (D n) c quote i j x)
+  pub quoted_body : {n : ℤ} {c : Ctx} {o : Option ℕ} {i j : ℕ} {x : List A} → Kind t put C D B quote → WidthOf n c o → (q : QuotedScalar t put C (D n) c quote i j x)
       → Body t put C (B o) quote (i + 1) q.close x
   quoted_body {i = i} k w q = let e = q.end in let l = inside_order k w q.inside q.closing in inside_body k w q.inside q.closing (clear_front (omega arith) (clear_back (omega arith) q.clear))
 
   pub body_quoted : {n : ℤ} {c : Ctx} {o : Option ℕ} {i j : ℕ} {x : List A} → Kind t put C D B quote → IsUtf8 t → WidthOf n c o → code t i ≡ quote
-      → Body t put C (B o) quote (i + 1) j x → Quoted t put C (D n) c quote i (j + 1) x
+      → Body t put C (B o) quote (i + 1) j x → QuotedScalar t put C (D n) c quote i (j + 1) x
   body_quoted {j = j} k u w q b = record {
     close = j;
     opening = q;
@@ -166,12 +166,12 @@ module _ {A : Type 0} {t : List ℕ} {put : List ℕ → List A} {C : ℕ → �
     clear = clear_join (clear_byte u q k.low) (clear_join (body_clear b) (clear_byte u b.closing k.low));
   }
 
--- where no scalar stands
+-- where no scalar is
 module _ {A : Type 0} {t : List ℕ} {put : List ℕ → List A} {C B : ℕ → ℕ → List A → Type 0} {quote : ℕ} where
-  pub no_opening : {c : Ctx} {i : ℕ} → (code t i ≡ quote → ⊥) → Stuck (Quoted t put C B c quote i)
+  pub no_opening : {c : Ctx} {i : ℕ} → (code t i ≡ quote → ⊥) → Stuck (QuotedScalar t put C B c quote i)
   no_opening n = record { none = λ j y d. n d.opening }
 
-  pub block_stuck : {c : Ctx} {i : ℕ} → is_block c ≡ true → Stuck (Quoted t put C B c quote i)
+  pub block_stuck : {c : Ctx} {i : ℕ} → is_block c ≡ true → Stuck (QuotedScalar t put C B c quote i)
   block_stuck {c} b = record { none = λ j y d. go d.inside } where
     go : {i j : ℕ} {x : List A} → Inside t put C B c i j x → ⊥
     go (as_key k d) = block_alone c b (inl k)

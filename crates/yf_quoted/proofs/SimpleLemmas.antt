@@ -7,12 +7,12 @@ use Rattle.yf_chars.specs.Chain.{Chain, Many}
 use Rattle.yf_chars.specs.Chain.Chain.{done}
 use Rattle.yf_chars.specs.Common.{is_common}
 use Rattle.yf_chars.specs.Lanes.{LaneRun}
-use Rattle.yf_chars.specs.Text.{code, Reads}
+use Rattle.yf_chars.specs.Text.{code, CharAt}
 use Rattle.yf_chars.proofs.ChainLemmas.{chain_append, chain_more, many_more}
 use Rattle.yf_chars.proofs.CommonLemmas.{common_below}
 use Rattle.yf_chars.proofs.TextLemmas.{reads_ascii}
-use Rattle.yf_lines.specs.Basic.{Forbidden}
-use Rattle.yf_lines.proofs.SearchLemmas.{no_start_behind}
+use Rattle.yf_lines.specs.Basic.{ForbiddenLine}
+use Rattle.yf_lines.proofs.SearchLemmas.{no_start_past}
 use Rattle.yf_lines.proofs.BasicLemmas.{clear_join}
 use Rattle.yf_lines.proofs.ClearLemmas.{clear_whites, not_forbidden, Spelled, spelled_nothing, spelled_join, spelled_char, spelled_whites, spelled_slice}
 use Rattle.yf_quoted.specs.Body.{Step, DoubleBreaks, Simple, SimpleChar}
@@ -58,7 +58,7 @@ ordinary_at t i u l e =
       json = ordinary_json (code t i) o;
       no_backslash = ordinary_no_backslash (code t i) o;
       no_quote = ordinary_no_quote (code t i) o;
-      reads = subst (λ c. Reads t i c (i + 1)) (sym r.char) r;
+      reads = subst (λ c. CharAt t i c (i + 1)) (sym r.char) r;
       allowed = not_forbidden t i (ordinary_no_dash (code t i) o) (ordinary_no_dot (code t i) o);
     }
 
@@ -71,9 +71,9 @@ visible_upto : (c : ℕ) → is_between 0x20 0x7E c ≡ true → c ≤ 126
 unfolding is_between
 visible_upto c e = grind (arith, nat_tests)
 
-pub allowed_behind : (t : List ℕ) (i : ℕ) → IsUtf8 t → i ≢ 0 → i ≤ length t → is_between 0x20 0x7E (get_or t (i - 1) 0) ≡ true → Forbidden t i → ⊥
-allowed_behind t i u z w e f =
-    no_start_behind t i u z w (visible_from (get_or t (i - 1) 0) e) (visible_upto (get_or t (i - 1) 0) e) f.start
+pub allowed_after : (t : List ℕ) (i : ℕ) → IsUtf8 t → i ≢ 0 → i ≤ length t → is_between 0x20 0x7E (get_or t (i - 1) 0) ≡ true → ForbiddenLine t i → ⊥
+allowed_after t i u z w e f =
+    no_start_past t i u z w (visible_from (get_or t (i - 1) 0) e) (visible_upto (get_or t (i - 1) 0) e) f.start
 
 -- of bytes that are ASCII characters other than " and \, where no forbidden line begins: after such a byte no line starts
 common_json : (c : ℕ) → is_common c ≡ true → is_nb_json c ≡ true
@@ -96,7 +96,7 @@ common_upto : (c : ℕ) → is_common c ≡ true → c ≤ 126
 unfolding is_common is_between
 common_upto c e = grind (arith, nat_tests)
 
-common_at : (t : List ℕ) (i : ℕ) → IsUtf8 t → i < length t → is_common (get_or t i 0) ≡ true → (Forbidden t i → ⊥) → Simple t i (i + 1)
+common_at : (t : List ℕ) (i : ℕ) → IsUtf8 t → i < length t → is_common (get_or t i 0) ≡ true → (ForbiddenLine t i → ⊥) → Simple t i (i + 1)
 common_at t i u l e f =
     let r = reads_ascii t i u l (common_below (get_or t i 0) e) in
     let o : is_common (code t i) ≡ true = ap is_common r.char ∙ e in
@@ -104,7 +104,7 @@ common_at t i u l e f =
       json = common_json (code t i) o;
       no_backslash = common_no_backslash (code t i) o;
       no_quote = common_no_quote (code t i) o;
-      reads = subst (λ c. Reads t i c (i + 1)) (sym r.char) r;
+      reads = subst (λ c. CharAt t i c (i + 1)) (sym r.char) r;
       allowed = f;
     }
 
@@ -115,18 +115,18 @@ pub record SimpleRun (t : List ℕ) (i j : ℕ) : Type 0 where
 simple_more : {t : List ℕ} {i j : ℕ} → SimpleRun t i j → Simple t j (j + 1) → SimpleRun t i (j + 1)
 simple_more r s = record { reads = (_, chain_more r.reads.1 (simply s)); boundary = s.reads.boundary }
 
-module _ (t : List ℕ) (i : ℕ) (u : IsUtf8 t) (first : Forbidden t i → ⊥) where
-  allowed_on : (n : ℕ) → i + n < length t → ((k : ℕ) → i ≤ k → k < i + n → is_common (get_or t k 0) ≡ true) → Forbidden t (i + n) → ⊥
+module _ (t : List ℕ) (i : ℕ) (u : IsUtf8 t) (first : ForbiddenLine t i → ⊥) where
+  allowed_on : (n : ℕ) → i + n < length t → ((k : ℕ) → i ≤ k → k < i + n → is_common (get_or t k 0) ≡ true) → ForbiddenLine t (i + n) → ⊥
   allowed_on zero l p f =
       let same : i + 0 ≡ i = omega arith in
-      first (subst (λ k. Forbidden t k) same f)
+      first (subst (λ k. ForbiddenLine t k) same f)
   allowed_on (suc n) l p f =
       let same : i + suc n - 1 ≡ i + n = omega arith in
       let last = ap (λ k. get_or t k 0) same in
       let c = p (i + n) (omega arith) (omega arith) in
       let low = common_from (get_or t (i + n) 0) c in
       let high = common_upto (get_or t (i + n) 0) c in
-      no_start_behind t (i + suc n) u (λ z. omega arith) (omega arith) (omega (arith, last, low)) (omega (arith, last, high)) f.start
+      no_start_past t (i + suc n) u (λ z. omega arith) (omega arith) (omega (arith, last, low)) (omega (arith, last, high)) f.start
 
   run_on : (n : ℕ) → i + n ≤ length t → ((k : ℕ) → i ≤ k → k < i + n → is_common (get_or t k 0) ≡ true) → SimpleRun t i i → SimpleRun t i (i + n)
   run_on zero w p r = subst (λ j. SimpleRun t i j) (omega arith) r
@@ -137,7 +137,7 @@ module _ (t : List ℕ) (i : ℕ) (u : IsUtf8 t) (first : Forbidden t i → ⊥)
       subst (λ j. SimpleRun t i j) next
       (simple_more here (common_at t (i + n) u (omega arith) (p (i + n) (omega arith) (omega arith)) (allowed_on n (omega arith) before)))
 
-pub run_found : (t b : List ℕ) (i n : ℕ) → b ≡ t → IsUtf8 t → i + 16 ≤ length t → (Forbidden t i → ⊥) → LaneRun is_common b i n → IsCharBoundary t i
+pub run_found : (t b : List ℕ) (i n : ℕ) → b ≡ t → IsUtf8 t → i + 16 ≤ length t → (ForbiddenLine t i → ⊥) → LaneRun is_common b i n → IsCharBoundary t i
     → SimpleRun t i (i + n)
 run_found t b i n e u w f r z =
     let few = r.few in
@@ -168,7 +168,7 @@ words_more {t} {i} {h} {j} {k} u w m n s =
       spelled = spelled_join w.spelled (spelled_join (spelled_whites u m.1) (spelled_char s.reads));
     }
 
-pub whites_more : {t : List ℕ} {i j k : ℕ} → (x : List ℕ) × Many t is_white i j x → Reads t j (code t j) k → true ≡ is_white (code t j)
+pub whites_more : {t : List ℕ} {i j k : ℕ} → (x : List ℕ) × Many t is_white i j x → CharAt t j (code t j) k → true ≡ is_white (code t j)
     → (x : List ℕ) × Many t is_white i k x
 whites_more {t} {i} {j} {k} m r e = (_, subst (λ h. Many t is_white i h (m.0 ++ code t j ∷ [])) r.end (many_more t is_white m.1 (sym e)))
 

@@ -6,12 +6,12 @@ use Rattle.std.proofs.lemmas.Str.{encodes-append}
 use Rattle.std.specs.Str.{IsUtf8}
 use Rattle.std.proofs.lemmas.Option.{same_Some}
 use Rattle.yf_chars.specs.declared.context.Ctx.{Ctx}
-use Rattle.yf_chars.specs.Text.{code, next, Reads, no_char}
+use Rattle.yf_chars.specs.Text.{code, next, CharAt, no_char}
 use Rattle.yf_chars.specs.Class.{is_nb_json, is_between}
 use Rattle.yf_chars.specs.Chain.{Chain, Stuck, Chosen}
 use Rattle.yf_chars.specs.Chain.Chain.{done, step}
 use Rattle.yf_chars.proofs.ChainLemmas.{chain_more}
-use Rattle.yf_lines.specs.Basic.{Clear, Forbidden}
+use Rattle.yf_lines.specs.Basic.{Clear, ForbiddenLine}
 use Rattle.yf_chars.proofs.TextLemmas.{next_later, next_ascii, reads_real}
 use Rattle.yf_chars.proofs.CharBounds.{json_below}
 use Rattle.yf_lines.proofs.BasicLemmas.{clear_join, clear_back, clear_nothing}
@@ -46,17 +46,17 @@ no_single_half {t} {i} e n = record { none = λ j y d. go (single_written d) } w
   go (as_pair a b p q) = n b
   go (as_itself m f p q) = m e
 
-pub no_single_other : {t : List ℕ} {i : ℕ} → code t i ≢ 39 → (is_nb_json (code t i) ≡ true → (Forbidden t i → ⊥) → ⊥) → NoSingleChar t i
+pub no_single_other : {t : List ℕ} {i : ℕ} → code t i ≢ 39 → (is_nb_json (code t i) ≡ true → (ForbiddenLine t i → ⊥) → ⊥) → NoSingleChar t i
 no_single_other {t} {i} n h = record { none = λ j y d a. go (single_written d) a } where
   go : {j : ℕ} {y : List ℕ} → SingleWritten t i j y → Clear t i j → ⊥
   go (as_pair a b p q) c = n a
   go (as_itself m f p q) c = let l = next_later t i in h f (λ g. c.none i (omega arith) (omega arith) g)
 
 -- two quotes: the first is read as a character that ends at j
-quote_end : {t : List ℕ} {i c j : ℕ} → Reads t i c j → c ≡ 39 → j ≡ i + 1
+quote_end : {t : List ℕ} {i c j : ℕ} → CharAt t i c j → c ≡ 39 → j ≡ i + 1
 quote_end {t} {i} r e = let q : code t i ≡ 39 = r.char ∙ e in sym r.end ∙ next_ascii t i (omega arith)
 
-pub pair_char : {t : List ℕ} {i c j : ℕ} → IsUtf8 t → Reads t i c j → c ≡ 39 → code t j ≡ 39 → SingleChar t i (j + 1) (c ∷ []) × Clear t i (j + 1)
+pub pair_char : {t : List ℕ} {i c j : ℕ} → IsUtf8 t → CharAt t i c j → c ≡ 39 → code t j ≡ 39 → SingleChar t i (j + 1) (c ∷ []) × Clear t i (j + 1)
 pair_char {t} {i} {c} {j} u r e f =
     let end = quote_end r e in
     let a : code t i ≡ 39 = r.char ∙ e in
@@ -66,13 +66,13 @@ pair_char {t} {i} {c} {j} u r e f =
     let here : SingleChar t i (j + 1) (39 ∷ []) = subst (λ k. SingleChar t i k (39 ∷ [])) place (doubled a b) in
     (subst (λ v. SingleChar t i (j + 1) (v ∷ [])) (sym e) here, subst (λ k. Clear t i k) place' (clear_join (clear_byte u a (omega arith)) (clear_byte u b (omega arith))))
 
-pub half_char : {t : List ℕ} {i c j : ℕ} → Reads t i c j → c ≡ 39 → code t j ≢ 39 → NoSingleChar t i
+pub half_char : {t : List ℕ} {i c j : ℕ} → CharAt t i c j → c ≡ 39 → code t j ≢ 39 → NoSingleChar t i
 half_char {t} {i} r e n =
     let end = quote_end r e in
     let s = no_single_half (r.char ∙ e) (λ b. n (ap (code t) end ∙ b)) in
     record { none = λ j y d a. s.none j y d }
 
-pub own_char : {t : List ℕ} {i c j : ℕ} → IsUtf8 t → Reads t i c j → is_nb_json c ≡ true → c ≢ 39 → (Forbidden t i → ⊥) → SingleChar t i j (c ∷ []) × Clear t i j
+pub own_char : {t : List ℕ} {i c j : ℕ} → IsUtf8 t → CharAt t i c j → is_nb_json c ≡ true → c ≢ 39 → (ForbiddenLine t i → ⊥) → SingleChar t i j (c ∷ []) × Clear t i j
 own_char {t} {i} {c} {j} u r e n f =
     let is : SingleChar t i (next t i) (code t i ∷ []) = unquoted (ap is_nb_json r.char ∙ e) (λ q. n (sym r.char ∙ q)) in
     let to : SingleChar t i j (code t i ∷ []) = subst (λ k. SingleChar t i k (code t i ∷ [])) r.end is in
@@ -261,7 +261,7 @@ row_more {t} {i} {j} {k} {v} u r n c = record {
   go (as_pair a b p q) = absurd (n a)
   go (as_itself m e p q) =
       let below : code t j < no_char = json_below (code t j) e in
-      let read : Reads t j (code t j) k = subst (λ h. Reads t j (code t j) h) p (reads_real t j u below) in
+      let read : CharAt t j (code t j) k = subst (λ h. CharAt t j (code t j) h) p (reads_real t j u below) in
       subst (λ x. Spelled t j k x) (sym q) (spelled_char read)
 
 pub row_slice : {t : List ℕ} {i j : ℕ} → j ≤ length t → (r : Row t i j)

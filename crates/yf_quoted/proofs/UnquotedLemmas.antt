@@ -3,11 +3,11 @@ use Rattle.std.proofs.Common.{◌≡◌, ◌≢◌, ℕ, ◌+◌, ◌<◌, true,
 use Rattle.std.proofs.lemmas.Bool.Decides.{nat_tests}
 use Rattle.std.specs.Str.{IsUtf8}
 use Rattle.yf_chars.specs.Class.{is_nb_json, is_between}
-use Rattle.yf_chars.specs.Text.{code, Reads}
+use Rattle.yf_chars.specs.Text.{code, CharAt}
 use Rattle.yf_chars.proofs.TextLemmas.{reads_ascii}
 use Rattle.yf_lines.specs.Basic.{Clear}
 use Rattle.yf_lines.proofs.ClearLemmas.{not_forbidden}
-use Rattle.yf_quoted.specs.Ordinary.{is_unquoted, Unquoted}
+use Rattle.yf_quoted.specs.Ordinary.{is_unquoted, CharOfItself}
 use Rattle.yf_quoted.specs.Quoted.{SingleChar}
 use Rattle.yf_quoted.proofs.SingleReadLemmas.{own_char}
 
@@ -32,7 +32,7 @@ unfolding is_unquoted is_between
 unquoted_no_dot c e q = grind (arith, nat_tests)
 
 -- of a byte that is one
-pub unquoted_at : (t : List ℕ) (i : ℕ) → IsUtf8 t → i < length t → is_unquoted (get_or t i 0) ≡ true → Unquoted t i (i + 1)
+pub unquoted_at : (t : List ℕ) (i : ℕ) → IsUtf8 t → i < length t → is_unquoted (get_or t i 0) ≡ true → CharOfItself t i (i + 1)
 unquoted_at t i u l e =
     let r = reads_ascii t i u l (unquoted_below (get_or t i 0) e) in
     let c = code t i in
@@ -40,9 +40,9 @@ unquoted_at t i u l e =
     record {
       json = unquoted_json c o;
       no_quote = unquoted_no_quote c o;
-      reads = subst (λ c. Reads t i c (i + 1)) (sym r.char) r;
+      reads = subst (λ c. CharAt t i c (i + 1)) (sym r.char) r;
       allowed = not_forbidden t i (unquoted_no_dash c o) (unquoted_no_dot c o);
     }
 
-pub unquoted_char : {t : List ℕ} {i j : ℕ} → IsUtf8 t → Unquoted t i j → SingleChar t i j (code t i ∷ []) × Clear t i j
+pub unquoted_char : {t : List ℕ} {i j : ℕ} → IsUtf8 t → CharOfItself t i j → SingleChar t i j (code t i ∷ []) × Clear t i j
 unquoted_char u o = own_char u o.reads o.json o.no_quote o.allowed

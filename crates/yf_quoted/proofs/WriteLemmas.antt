@@ -12,26 +12,26 @@ use Rattle.std.specs.Str.{IsUtf8}
 use Rattle.std.specs.String.Boundary.{IsSplitPoint}
 use Rattle.std.proofs.Math.Bool.{and-false}
 use Rattle.yf_chars.specs.declared.context.Ctx.{Ctx}
-use Rattle.yf_chars.specs.Text.{code, next, Reads}
+use Rattle.yf_chars.specs.Text.{code, next, CharAt}
 use Rattle.yf_chars.specs.Class.{is_between, is_printable, is_break_char, is_nb_char, is_nb_json}
 use Rattle.yf_chars.specs.Chain.{Chain, Chosen}
 use Rattle.yf_chars.specs.Chain.Chain.{done, step}
-use Rattle.yf_chars.specs.Escape.{Escape, Numbered, named, spelled}
+use Rattle.yf_chars.specs.Escape.{Escape, NumericEscape, named, spelled}
 use Rattle.yf_chars.specs.Escape.Escape.{by_letter, by_two, by_four, by_half, by_pair, by_eight}
-use Rattle.yf_chars.specs.Spelled.{Holds}
-use Rattle.yf_chars.specs.Spelled.Holds.{as_escape, as_itself}
+use Rattle.yf_chars.specs.Spelled.{SpellsChar}
+use Rattle.yf_chars.specs.Spelled.SpellsChar.{as_escape, as_itself}
 use Rattle.yf_chars.proofs.EscapeLemmas.{named_below, digit_below, no_name}
-use Rattle.yf_chars.proofs.SpelledLemmas.{Stands, stands_char, stands_ascii, reads_back}
+use Rattle.yf_chars.proofs.SpelledLemmas.{IsAt, is_at_char, is_at_ascii, reads_back}
 use Rattle.yf_chars.proofs.TextLemmas.{reads_byte}
 use Rattle.yf_lines.specs.Basic.{LineStart, Clear, is_block}
 use Rattle.yf_lines.proofs.BasicLemmas.{clear_join, clear_nothing}
-use Rattle.yf_lines.proofs.ClearLemmas.{clear_char, line_start_behind}
+use Rattle.yf_lines.proofs.ClearLemmas.{clear_char, line_start_after}
 use Rattle.yf_lines.specs.declared.quotes.Quotes.TheVariants.{Single, Double}
 use Rattle.yf_quoted.specs.Quoted.{SingleChar, DoubleChar, Piece, goods, text_of, bad_escapes, SingleQuoted, DoubleQuoted}
 use Rattle.yf_quoted.specs.Quoted.Piece.{good}
 use Rattle.yf_quoted.specs.Quoted.SingleChar.{doubled, unquoted}
 use Rattle.yf_quoted.specs.Quoted.DoubleChar.{unescaped, escaped}
-use Rattle.yf_quoted.specs.Written.{all_nb, quotes_for, twice, single_bytes, double_bytes, Grown, SingleBack, DoubleBack}
+use Rattle.yf_quoted.specs.Written.{all_nb, quotes_for, twice, single_bytes, double_bytes, BytesGrown, SingleBack, DoubleBack}
 use Rattle.yf_quoted.proofs.BodyLemmas.{chars_body}
 use Rattle.yf_quoted.proofs.GapLemmas.{text_of_goods, no_bad_goods}
 use Rattle.yf_quoted.proofs.QuotedLemmas.{double_chosen}
@@ -41,22 +41,22 @@ use Rattle.yf_quoted.proofs.ScalarLemmas.{some_width, body_map}
 use Rattle.yf_quoted.proofs.DoubleLemmas.{char_functional, double_means}
 
 -- strings that grow
-pub cut_grown : {old new : List ℕ} {n : ℕ} → Grown old new → n ≡ length old → take n new ≡ old
+pub cut_grown : {old new : List ℕ} {n : ℕ} → BytesGrown old new → n ≡ length old → take n new ≡ old
 cut_grown {old} {new} {n} g e = ap (λ k. take k new) e ∙ ap (take (length old)) g.is ∙ take-append_seam old g.more
 
-pub split_grown : {old new : List ℕ} {n : ℕ} → IsUtf8 old → IsUtf8 new → Grown old new → n ≡ length old → IsSplitPoint new n
+pub split_grown : {old new : List ℕ} {n : ℕ} → IsUtf8 old → IsUtf8 new → BytesGrown old new → n ≡ length old → IsSplitPoint new n
 split_grown {old} {new} {n} u v g e =
     let within : n ≤ length new = omega (arith, e, ap length g.is, length-append old g.more) in
     let b = IsCharBoundary-from_take new n v within (subst IsUtf8 (sym (cut_grown g e)) u) in
     (within, λ z l a. b.1 l a)
 
-pub grown_by : {old new : List ℕ} (more : List ℕ) → new ≡ old ++ more → Grown old new
+pub grown_by : {old new : List ℕ} (more : List ℕ) → new ≡ old ++ more → BytesGrown old new
 grown_by more e = record { more = more; is = e }
 
-pub grown_more : {old mid new : List ℕ} → Grown old mid → Grown mid new → Grown old new
+pub grown_more : {old mid new : List ℕ} → BytesGrown old mid → BytesGrown mid new → BytesGrown old new
 grown_more {old} a b = grown_by (a.more ++ b.more) (b.is ∙ ap (λ w. w ++ b.more) a.is ∙ append_assoc old a.more b.more)
 
-pub grown_if : {old new : List ℕ} (b : Bool) (more : List ℕ) → new ≡ (if b then old ++ more else old) → Grown old new
+pub grown_if : {old new : List ℕ} (b : Bool) (more : List ℕ) → new ≡ (if b then old ++ more else old) → BytesGrown old new
 grown_if true more e = grown_by more e
 grown_if {old} false more e = grown_by [] (e ∙ sym (append-nil old))
 
@@ -119,9 +119,9 @@ nb_chosen cs e =
 pub record NoLine (t : List ℕ) (i : ℕ) : Type 0 where
   pub none : LineStart t i → ⊥
 
-no_line_behind : {t : List ℕ} {i c j : ℕ} → IsUtf8 t → Reads t i c j → c ≢ 10 → c ≢ 13 → c ≢ 0xFEFF → NoLine t j
-no_line_behind {t} {i} {c} {j} u r lf cr mark = record { none = λ s. go r.later (line_start_behind u s) } where
-  go : i < j → (j ≡ 0) ⊎ ((k : ℕ) × (d : ℕ) × Reads t k d j × ((d ≡ 10) ⊎ ((d ≡ 13) ⊎ (d ≡ 0xFEFF)))) → ⊥
+no_line_after : {t : List ℕ} {i c j : ℕ} → IsUtf8 t → CharAt t i c j → c ≢ 10 → c ≢ 13 → c ≢ 0xFEFF → NoLine t j
+no_line_after {t} {i} {c} {j} u r lf cr mark = record { none = λ s. go r.later (line_start_after u s) } where
+  go : i < j → (j ≡ 0) ⊎ ((k : ℕ) × (d : ℕ) × CharAt t k d j × ((d ≡ 10) ⊎ ((d ≡ 13) ⊎ (d ≡ 0xFEFF)))) → ⊥
   go l (inl z) = omega arith
   go l (inr w) =
       let same : w.1 ≡ c = sym w.2.back ∙ r.back in
@@ -132,7 +132,7 @@ no_line_behind {t} {i} {c} {j} u r lf cr mark = record { none = λ s. go r.later
 record LastOf (t : List ℕ) (j : ℕ) : Type 0 where
   from : ℕ
   char : ℕ
-  reads : Reads t from char j
+  reads : CharAt t from char j
   low : char < 128
   no_lf : char ≢ 10
   no_cr : char ≢ 13
@@ -153,7 +153,7 @@ last_letter {t} i {v} u e =
     record {
       from = i + 1;
       char = c;
-      reads = subst (λ k. Reads t (i + 1) c k) place (reads_byte t (i + 1) c u refl low);
+      reads = subst (λ k. CharAt t (i + 1) c k) place (reads_byte t (i + 1) c u refl low);
       low = low;
       no_lf = λ q. no_name 10 unnamed_lf q e;
       no_cr = λ q. no_name 13 unnamed_cr q e;
@@ -162,7 +162,7 @@ last_letter {t} i {v} u e =
 digit_no : (d : ℕ) → (digit_value d < 16 → ⊥) → (c : ℕ) → digit_value c < 16 → c ≢ d
 digit_no d n c l e = n (subst (λ w. digit_value w < 16) e l)
 
-last_digit : {t : List ℕ} {i c v : ℕ} (k : ℕ) → IsUtf8 t → Numbered t i c (suc k) v → LastOf t (i + 2 + suc k)
+last_digit : {t : List ℕ} {i c v : ℕ} (k : ℕ) → IsUtf8 t → NumericEscape t i c (suc k) v → LastOf t (i + 2 + suc k)
 last_digit {t} {i} k u n =
     let d = code t (i + 2 + k) in
     let small : digit_value d < 16 = n.digits.each k (omega arith) in
@@ -171,7 +171,7 @@ last_digit {t} {i} k u n =
     record {
       from = i + 2 + k;
       char = d;
-      reads = subst (λ j. Reads t (i + 2 + k) d j) place (reads_byte t (i + 2 + k) d u refl low);
+      reads = subst (λ j. CharAt t (i + 2 + k) d j) place (reads_byte t (i + 2 + k) d u refl low);
       low = low;
       no_lf = digit_no 10 (λ l. omega arith) d small;
       no_cr = digit_no 13 (λ l. omega arith) d small;
@@ -192,17 +192,17 @@ last_of u (by_eight n) = last_to (omega arith) (last_digit 7 u n)
 record Walked {A : Type 0} (t : List ℕ) (C : ℕ → ℕ → List A → Type 0) (i j : ℕ) (x : List A) (r : List ℕ) : Type 0 where
   chars : Chain C i j x
   clear : Clear t i j
-  rest : Stands t j r
+  rest : IsAt t j r
   inside : NoLine t j
 
 record Stepped {A : Type 0} (t : List ℕ) (C : ℕ → ℕ → List A → Type 0) (i j : ℕ) (x : List A) (r : List ℕ) : Type 0 where
   is : C i j x
   clear : Clear t i j
-  rest : Stands t j r
+  rest : IsAt t j r
   inside : NoLine t j
 
 module _ {A : Type 0} {t : List ℕ} {C : ℕ → ℕ → List A → Type 0} where
-  walk_nothing : {i : ℕ} {r : List ℕ} → Stands t i r → NoLine t i → Walked t C i i [] r
+  walk_nothing : {i : ℕ} {r : List ℕ} → IsAt t i r → NoLine t i → Walked t C i i [] r
   walk_nothing {i} s n = record { chars = done; clear = clear_nothing t i; rest = s; inside = n }
 
   walk_more : {i h j : ℕ} {x y : List A} {r s : List ℕ} → Stepped t C i h x r → Walked t C h j y s → Walked t C i j (x ++ y) s
@@ -214,9 +214,9 @@ module _ {A : Type 0} {t : List ℕ} {C : ℕ → ℕ → List A → Type 0} whe
   -- the characters of a text, each spelled by f and good
   walk : (f : ℕ → List ℕ) (g : List ℕ → List A) → g [] ≡ [] → ((c : ℕ) (cs : List ℕ) → g (c ∷ cs) ≡ g (c ∷ []) ++ g cs)
       → (P : ℕ → Bool)
-      → ((c i : ℕ) (r : List ℕ) → P c ≡ true → Stands t i (encode_utf8_all (f c) ++ r) → NoLine t i → Stepped t C i (i + length (encode_utf8_all (f c))) (g (c ∷ [])) r)
+      → ((c i : ℕ) (r : List ℕ) → P c ≡ true → IsAt t i (encode_utf8_all (f c) ++ r) → NoLine t i → Stepped t C i (i + length (encode_utf8_all (f c))) (g (c ∷ [])) r)
       → (all : List ℕ → Bool) → ((c : ℕ) (cs : List ℕ) → all (c ∷ cs) ≡ true → (P c ≡ true) × (all cs ≡ true))
-      → (cs : List ℕ) (i : ℕ) (r : List ℕ) → all cs ≡ true → Stands t i (encode_utf8_all (flat_map f cs) ++ r) → NoLine t i
+      → (cs : List ℕ) (i : ℕ) (r : List ℕ) → all cs ≡ true → IsAt t i (encode_utf8_all (flat_map f cs) ++ r) → NoLine t i
       → Walked t C i (i + length (encode_utf8_all (flat_map f cs))) (g cs) r
   walk f g z m P one all each [] i r a s n = subst (λ v. Walked t C i (i + 0) v r) (sym z) (walk_to (sym (add-zero i)) (walk_nothing s n))
   walk f g z m P one all each (c ∷ cs) i r a s n =
@@ -224,38 +224,38 @@ module _ {A : Type 0} {t : List ℕ} {C : ℕ → ℕ → List A → Type 0} whe
       let back = encode_utf8_all (flat_map f cs) in
       let both : encode_utf8_all (f c ++ flat_map f cs) ≡ front ++ back = encodes-append (f c) (flat_map f cs) in
       let p = each c cs a in
-      let s' : Stands t i (front ++ (back ++ r)) = subst (λ w. Stands t i w) (ap (λ w. w ++ r) both ∙ append_assoc front back r) s in
+      let s' : IsAt t i (front ++ (back ++ r)) = subst (λ w. IsAt t i w) (ap (λ w. w ++ r) both ∙ append_assoc front back r) s in
       let first = one c i (back ++ r) p.0 s' n in
       let more = walk f g z m P one all each cs (i + length front) r p.1 first.rest first.inside in
       let end : i + length front + length back ≡ i + length (encode_utf8_all (f c ++ flat_map f cs)) = omega (arith, ap length both, length-append front back) in
       subst (λ v. Walked t C i (i + length (encode_utf8_all (f c ++ flat_map f cs))) v r) (sym (m c cs)) (walk_to end (walk_more first more))
 
 -- single quotes
-single_one : {t : List ℕ} → IsUtf8 t → (c i : ℕ) (r : List ℕ) → is_nb_char c ≡ true → Stands t i (encode_utf8_all (twice c) ++ r) → NoLine t i
+single_one : {t : List ℕ} → IsUtf8 t → (c i : ℕ) (r : List ℕ) → is_nb_char c ≡ true → IsAt t i (encode_utf8_all (twice c) ++ r) → NoLine t i
     → Stepped t (SingleChar t) i (i + length (encode_utf8_all (twice c))) (c ∷ []) r
 unfolding encode
 single_one {t} u c i r e s n = ⊎_elim (λ (q : c ≡ 39). pair q s) (λ (q : c ≢ 39). itself q s) (cases_eq c 39) where
-  pair : c ≡ 39 → Stands t i (encode_utf8_all (twice c) ++ r) → Stepped t (SingleChar t) i (i + length (encode_utf8_all (twice c))) (c ∷ []) r
+  pair : c ≡ 39 → IsAt t i (encode_utf8_all (twice c) ++ r) → Stepped t (SingleChar t) i (i + length (encode_utf8_all (twice c))) (c ∷ []) r
   pair q s =
       let two : encode_utf8_all (twice c) ≡ 39 ∷ 39 ∷ [] = rw q refl in
-      let s' : Stands t i (39 ∷ 39 ∷ r) = subst (λ w. Stands t i (w ++ r)) two s in
-      let first = stands_ascii 39 u (omega arith) s' in
-      let second = stands_ascii 39 u (omega arith) first.1 in
+      let s' : IsAt t i (39 ∷ 39 ∷ r) = subst (λ w. IsAt t i (w ++ r)) two s in
+      let first = is_at_ascii 39 u (omega arith) s' in
+      let second = is_at_ascii 39 u (omega arith) first.1 in
       let place : i + 1 + 1 ≡ i + 2 = omega arith in
       let end : i + 2 ≡ i + length (encode_utf8_all (twice c)) = ap (λ w. i + length w) (sym two) in
       let here : Stepped t (SingleChar t) i (i + 2) (39 ∷ []) r = record {
         is = doubled first.0.char second.0.char;
         clear = subst (λ k. Clear t i k) place (clear_join (clear_char u first.0 (λ f. n.none f.start))
-            (clear_char u second.0 (λ f. (no_line_behind u first.0 (λ z. omega arith) (λ z. omega arith) (λ z. omega arith)).none f.start)));
-        rest = subst (λ k. Stands t k r) place second.1;
-        inside = subst (λ k. NoLine t k) place (no_line_behind u second.0 (λ z. omega arith) (λ z. omega arith) (λ z. omega arith));
+            (clear_char u second.0 (λ f. (no_line_after u first.0 (λ z. omega arith) (λ z. omega arith) (λ z. omega arith)).none f.start)));
+        rest = subst (λ k. IsAt t k r) place second.1;
+        inside = subst (λ k. NoLine t k) place (no_line_after u second.0 (λ z. omega arith) (λ z. omega arith) (λ z. omega arith));
       } in
       subst (λ k. Stepped t (SingleChar t) i k (c ∷ []) r) end (subst (λ v. Stepped t (SingleChar t) i (i + 2) (v ∷ []) r) (sym q) here)
 
-  itself : c ≢ 39 → Stands t i (encode_utf8_all (twice c) ++ r) → Stepped t (SingleChar t) i (i + length (encode_utf8_all (twice c))) (c ∷ []) r
+  itself : c ≢ 39 → IsAt t i (encode_utf8_all (twice c) ++ r) → Stepped t (SingleChar t) i (i + length (encode_utf8_all (twice c))) (c ∷ []) r
   itself q s =
       let alone : encode_utf8_all (twice c) ≡ encode c = rw (ne_eqb c 39 q) (append-nil (encode c)) in
-      let got = stands_char c u (subst (λ w. Stands t i (w ++ r)) alone s) in
+      let got = is_at_char c u (subst (λ w. IsAt t i (w ++ r)) alone s) in
       let end : i + len_utf8 c ≡ i + length (encode_utf8_all (twice c)) = omega (arith, ap length alone, length-encode c) in
       let json : is_nb_json (code t i) ≡ true = ap is_nb_json got.0.char ∙ nb_json c e in
       let is : SingleChar t i (next t i) (code t i ∷ []) = unquoted json (λ z. q (sym got.0.char ∙ z)) in
@@ -264,25 +264,25 @@ single_one {t} u c i r e s n = ⊎_elim (λ (q : c ≡ 39). pair q s) (λ (q : c
         is = subst (λ v. SingleChar t i (i + len_utf8 c) (v ∷ [])) got.0.char is';
         clear = clear_char u got.0 (λ f. n.none f.start);
         rest = got.1;
-        inside = no_line_behind u got.0 (nb_no 10 nb_lf c e) (nb_no 13 nb_cr c e) (nb_no 0xFEFF nb_mark c e);
+        inside = no_line_after u got.0 (nb_no 10 nb_lf c e) (nb_no 13 nb_cr c e) (nb_no 0xFEFF nb_mark c e);
       } in
       subst (λ k. Stepped t (SingleChar t) i k (c ∷ []) r) end here
 
 -- double quotes
-stands_past : (t : List ℕ) (i : ℕ) (x r : List ℕ) → drop i t ≡ x ++ r → drop (i + length x) t ≡ r
-stands_past t i x r e = sym (drop-drop (length x) i t) ∙ ap (drop (length x)) e ∙ drop-append_seam x r
+is_at_past : (t : List ℕ) (i : ℕ) (x r : List ℕ) → drop i t ≡ x ++ r → drop (i + length x) t ≡ r
+is_at_past t i x r e = sym (drop-drop (length x) i t) ∙ ap (drop (length x)) e ∙ drop-append_seam x r
 
-double_one : {t : List ℕ} → IsUtf8 t → (c i : ℕ) (r : List ℕ) → scalar c ≡ true → Stands t i (encode_utf8_all (spelled c) ++ r) → NoLine t i
+double_one : {t : List ℕ} → IsUtf8 t → (c i : ℕ) (r : List ℕ) → scalar c ≡ true → IsAt t i (encode_utf8_all (spelled c) ++ r) → NoLine t i
     → Stepped t (DoubleChar t) i (i + length (encode_utf8_all (spelled c))) (good c ∷ []) r
 double_one {t} u c i r e s n = go refl ((reads_back c e).holds t i r u s.boundary s.bytes) where
-  go : {j : ℕ} → j ≡ i + length (encode_utf8_all (spelled c)) → Holds t c i j → Stepped t (DoubleChar t) i j (good c ∷ []) r
+  go : {j : ℕ} → j ≡ i + length (encode_utf8_all (spelled c)) → SpellsChar t c i j → Stepped t (DoubleChar t) i j (good c ∷ []) r
   go {j} q (as_escape f) =
       let l = last_of u f in
       record {
         is = escaped f e;
         clear = clear_escape f;
-        rest = record { bytes = ap (λ k. drop k t) q ∙ stands_past t i (encode_utf8_all (spelled c)) r s.bytes; boundary = l.reads.boundary };
-        inside = no_line_behind u l.reads l.no_lf l.no_cr (λ z. let w = l.low in omega arith);
+        rest = record { bytes = ap (λ k. drop k t) q ∙ is_at_past t i (encode_utf8_all (spelled c)) r s.bytes; boundary = l.reads.boundary };
+        inside = no_line_after u l.reads l.no_lf l.no_cr (λ z. let w = l.low in omega arith);
       }
   go {j} q (as_itself read nb no_quote no_backslash) =
       let json : is_nb_json (code t i) ≡ true = ap is_nb_json read.char ∙ nb_json c nb in
@@ -291,13 +291,13 @@ double_one {t} u c i r e s n = go refl ((reads_back c e).holds t i r u s.boundar
       record {
         is = subst (λ v. DoubleChar t i j (good v ∷ [])) read.char is';
         clear = clear_char u read (λ f. n.none f.start);
-        rest = record { bytes = ap (λ k. drop k t) q ∙ stands_past t i (encode_utf8_all (spelled c)) r s.bytes; boundary = read.boundary };
-        inside = no_line_behind u read (nb_no 10 nb_lf c nb) (nb_no 13 nb_cr c nb) (nb_no 0xFEFF nb_mark c nb);
+        rest = record { bytes = ap (λ k. drop k t) q ∙ is_at_past t i (encode_utf8_all (spelled c)) r s.bytes; boundary = read.boundary };
+        inside = no_line_after u read (nb_no 10 nb_lf c nb) (nb_no 13 nb_cr c nb) (nb_no 0xFEFF nb_mark c nb);
       }
 
 -- the quotes around them
-ascii_stands : {t : List ℕ} {i : ℕ} (b : ℕ) (r : List ℕ) → b < 128 → drop i t ≡ b ∷ r → Stands t i (b ∷ r)
-ascii_stands {t} {i} b r l e =
+ascii_is_at : {t : List ℕ} {i : ℕ} (b : ℕ) (r : List ℕ) → b < 128 → drop i t ≡ b ∷ r → IsAt t i (b ∷ r)
+ascii_is_at {t} {i} b r l e =
     let long : length (drop i t) ≡ suc (length r) = ap length e in
     let within : i < length t = omega (arith, length-drop i t) in
     let byte : get_or t i 0 ≡ b = ap (λ k. get_or t k 0) (sym (add-zero i)) ∙ sym (get_or-drop i t 0 0) ∙ ap (λ w. get_or w 0 0) e in
@@ -311,13 +311,13 @@ record Framed {A : Type 0} (t : List ℕ) (C : ℕ → ℕ → List A → Type 0
 
 framed : {A : Type 0} {t : List ℕ} {C : ℕ → ℕ → List A → Type 0} {quote i : ℕ} {x : List A} (middle rest : List ℕ) → IsUtf8 t → quote < 45 → 13 < quote
     → drop i t ≡ (quote ∷ middle ++ quote ∷ []) ++ rest
-    → ((r : List ℕ) → Stands t (i + 1) (middle ++ r) → NoLine t (i + 1) → Walked t C (i + 1) (i + 1 + length middle) x r)
+    → ((r : List ℕ) → IsAt t (i + 1) (middle ++ r) → NoLine t (i + 1) → Walked t C (i + 1) (i + 1 + length middle) x r)
     → Framed t C quote i (i + 1 + length middle) x
 framed {t = t} {quote = quote} {i = i} middle rest u l m e inner =
     let shape : drop i t ≡ quote ∷ (middle ++ (quote ∷ rest)) = e ∙ ap (λ w. quote ∷ w) (append_assoc middle (quote ∷ []) rest) in
-    let first = stands_ascii quote u (omega arith) (ascii_stands quote (middle ++ (quote ∷ rest)) (omega arith) shape) in
-    let walked = inner (quote ∷ rest) first.1 (no_line_behind u first.0 (λ z. omega arith) (λ z. omega arith) (λ z. omega arith)) in
-    let last = stands_ascii quote u (omega arith) walked.rest in
+    let first = is_at_ascii quote u (omega arith) (ascii_is_at quote (middle ++ (quote ∷ rest)) (omega arith) shape) in
+    let walked = inner (quote ∷ rest) first.1 (no_line_after u first.0 (λ z. omega arith) (λ z. omega arith) (λ z. omega arith)) in
+    let last = is_at_ascii quote u (omega arith) walked.rest in
     record { opening = first.0.char; closing = last.0.char; inside = walked.chars; clear = walked.clear }
 
 frame_length : (middle : List ℕ) (quote i : ℕ) → i + 1 + length middle + 1 ≡ i + length (quote ∷ middle ++ quote ∷ [])
@@ -327,7 +327,7 @@ single_frame : {t : List ℕ} {i : ℕ} (cs rest : List ℕ) → all_nb cs ≡ t
     → Framed t (SingleChar t) 39 i (i + 1 + length (encode_utf8_all (flat_map twice cs))) cs
 single_frame {t} {i} cs rest a u e =
     let middle = encode_utf8_all (flat_map twice cs) in
-    let inner : (r : List ℕ) → Stands t (i + 1) (middle ++ r) → NoLine t (i + 1) → Walked t (SingleChar t) (i + 1) (i + 1 + length middle) cs r =
+    let inner : (r : List ℕ) → IsAt t (i + 1) (middle ++ r) → NoLine t (i + 1) → Walked t (SingleChar t) (i + 1) (i + 1 + length middle) cs r =
     λ r s q. walk twice (λ x. x) refl (λ c cs. refl) is_nb_char (single_one u) all_nb (λ c cs h. and_parts (is_nb_char c) (all_nb cs) h) cs (i + 1) r a s q in
     framed middle rest u (omega arith) (omega arith) e inner
 
@@ -355,7 +355,7 @@ double_back cs a = record { chosen = chosen } where
   chosen t i rest n c u e b =
       let middle = encode_utf8_all (flat_map spelled cs) in
       let w = some_width n c b in
-      let inner : (r : List ℕ) → Stands t (i + 1) (middle ++ r) → NoLine t (i + 1) → Walked t (DoubleChar t) (i + 1) (i + 1 + length middle) (goods cs) r = λ r s q. walk spelled goods refl (λ c cs. refl) scalar (double_one u) scalars (λ c cs h. and_parts (scalar c) (scalars cs) h) cs (i + 1) r a s q in
+      let inner : (r : List ℕ) → IsAt t (i + 1) (middle ++ r) → NoLine t (i + 1) → Walked t (DoubleChar t) (i + 1) (i + 1 + length middle) (goods cs) r = λ r s q. walk spelled goods refl (λ c cs. refl) scalar (double_one u) scalars (λ c cs h. and_parts (scalar c) (scalars cs) h) cs (i + 1) r a s q in
       let f = framed middle rest u (omega arith) (omega arith) e inner in
       let body = chars_body {B = λ i j x. ⊥} (char_functional t) (double_means t) (λ i j x b. b) f.inside f.closing f.clear in (
         goods cs,

@@ -3,15 +3,15 @@
 use Rattle.std.specs.Prelude.{◌<ℤ◌, ◌≢◌, ◌⊎◌, ◌==◌, IsSome, encode_utf8_all, ◌≡◌, ℕ, ◌+◌, ◌≤◌, ℤ, pos, Bool, true, false, List, [], ◌∷◌, ◌++◌, Option, Some, None, if◌then◌else◌, slice_range}
 use Rattle.yf_chars.specs.Signs.{BACKSLASH, DOUBLE_QUOTE, SPACE}
 use Rattle.yf_chars.specs.declared.context.Ctx.{Ctx}
-use Rattle.yf_chars.specs.Text.{code, Reads}
+use Rattle.yf_chars.specs.Text.{code, CharAt}
 use Rattle.yf_chars.specs.Class.{is_white, is_nb_json}
 use Rattle.yf_chars.specs.Chain.{Chain, Many, Stuck, Nowhere}
-use Rattle.yf_lines.specs.Basic.{Break, Forbidden, Clear, FlowFolded, is_flow, is_key}
+use Rattle.yf_lines.specs.Basic.{Break, ForbiddenLine, Clear, FlowFolded, is_flow, is_key}
 use Rattle.yf_lines.specs.Fold.{FoldsTo, fold_text, line_feeds}
 use Rattle.yf_quoted.specs.Quoted.Piece.{good, bad}
 use Rattle.yf_quoted.specs.Quoted.{Piece, SingleChar, as_they_are, DoubleChar, DoubleBreak, goods, text_of, bad_escapes}
 
--- the bytes of what stands between two characters: white space from i to blank_end, a space, and line feeds
+-- the bytes of what is between two characters: white space from i to blank_end, a space, and line feeds
 abbrev pub gap_bytes : List ℕ → ℕ → ℕ → Bool → ℕ → List ℕ
 gap_bytes t i blank_end space feeds = slice_range t i blank_end ++ ((if space then SPACE ∷ [] else []) ++ line_feeds feeds)
 
@@ -90,11 +90,11 @@ pub record Simple (t : List ℕ) (i j : ℕ) : Type 0 where
   pub json : is_nb_json (code t i) ≡ true
   pub no_backslash : code t i ≢ BACKSLASH
   pub no_quote : code t i ≢ DOUBLE_QUOTE
-  pub reads : Reads t i (code t i) j
-  pub allowed : Forbidden t i → ⊥
+  pub reads : CharAt t i (code t i) j
+  pub allowed : ForbiddenLine t i → ⊥
 
 pub record NoSimple (t : List ℕ) (i : ℕ) : Type 0 where
-  pub none : is_nb_json (code t i) ≡ true → code t i ≢ BACKSLASH → code t i ≢ DOUBLE_QUOTE → (Forbidden t i → ⊥) → ⊥
+  pub none : is_nb_json (code t i) ≡ true → code t i ≢ BACKSLASH → code t i ≢ DOUBLE_QUOTE → (ForbiddenLine t i → ⊥) → ⊥
 
 -- no character of a double-quoted scalar is there that covers no forbidden line
 pub record NoDoubleChar (t : List ℕ) (i : ℕ) : Type 0 where

@@ -4,12 +4,12 @@ use Rattle.yf_chars.specs.declared.context.Ctx.{Ctx}
 use Rattle.yf_chars.specs.Chain.{Chosen}
 use Rattle.yf_lines.specs.declared.fault.Fault.{Fault}
 use Rattle.yf_lines.specs.declared.fault.Fault.TheVariants.{EscapeValue, Memory}
-use Rattle.yf_lines.specs.declared.place.Place.{Place}
+use Rattle.yf_lines.specs.declared.place.Position.{Position}
 use Rattle.yf_lines.specs.Lines.{PlaceOf}
 use Rattle.yf_quoted.specs.Quoted.{DoubleQuoted, Piece, bad_escapes}
 
 -- why no text is given: the longest part holds a bad escape, the first of them at that place; or memory was refused
 pub data DoubleFault (t : List ℕ) (n : ℤ) (c : Ctx) (i : ℕ) : Fault → Type 0 where
-  for_escape : {j b : ℕ} {more : List ℕ} {x : List Piece} {place : Place} → Chosen (DoubleQuoted t n c i) j x → bad_escapes x ≡ b ∷ more → PlaceOf t b place.line place.column
+  for_escape : {j b : ℕ} {more : List ℕ} {x : List Piece} {place : Position} → Chosen (DoubleQuoted t n c i) j x → bad_escapes x ≡ b ∷ more → PlaceOf t b place.line place.column
       → DoubleFault t n c i (EscapeValue place)
   for_memory : DoubleFault t n c i Memory

@@ -3,8 +3,8 @@
 use Rattle.std.specs.Prelude.{◌≡◌, ◌≢◌, ℕ, Bool, true, ◌||◌, List, Option, slice_range, encode_utf8_all}
 use Rattle.yf_chars.specs.Signs.{SINGLE_QUOTE}
 use Rattle.yf_chars.specs.Class.{is_between, is_nb_json}
-use Rattle.yf_chars.specs.Text.{code, Reads}
-use Rattle.yf_lines.specs.Basic.{Forbidden}
+use Rattle.yf_chars.specs.Text.{code, CharAt}
+use Rattle.yf_lines.specs.Basic.{ForbiddenLine}
 use Rattle.yf_chars.specs.Chain.{Chain}
 use Rattle.yf_quoted.specs.Quoted.{DoubleChar, goods}
 use Rattle.yf_quoted.specs.Body.{Step, DoubleBreaks}
@@ -24,8 +24,8 @@ unfoldable pub is_unquoted : ℕ → Bool
 is_unquoted c = is_between 0x20 0x26 c || is_between 0x28 0x2C c || is_between 0x2F 0x7E c
 
 -- a character that stands for itself in single quotes, where no forbidden line begins
-pub record Unquoted (t : List ℕ) (i j : ℕ) : Type 0 where
+pub record CharOfItself (t : List ℕ) (i j : ℕ) : Type 0 where
   pub json : is_nb_json (code t i) ≡ true
   pub no_quote : code t i ≢ SINGLE_QUOTE
-  pub reads : Reads t i (code t i) j
-  pub allowed : Forbidden t i → ⊥
+  pub reads : CharAt t i (code t i) j
+  pub allowed : ForbiddenLine t i → ⊥

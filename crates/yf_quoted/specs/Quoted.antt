@@ -1,5 +1,5 @@
 -- Single- and double-quoted scalars (YAML 1.2.2, sections 7.3.1 and 7.3.2) as relations between byte offsets of a text t:
--- what stands from i to j is derived with the meaning x. n is an indentation, from -1; c is a context.
+-- what is from i to j is derived with the meaning x. n is an indentation, from -1; c is a context.
 use Rattle.std.specs.Prelude.{◌≡◌, ◌≢◌, ℕ, ◌+◌, ℤ, true, false, List, [], ◌∷◌, ◌++◌}
 use Rattle.std.specs.Char.{IsScalar}
 use Rattle.yf_chars.specs.Signs.{BACKSLASH, DOUBLE_QUOTE, SINGLE_QUOTE}
@@ -18,7 +18,7 @@ use Rattle.yf_lines.specs.Basic.{Break, Empty, FlowPrefix, FlowFolded, Clear, is
 pub data Item {A : Type 0} (t : List ℕ) (put : List ℕ → List A) (C : ℕ → ℕ → List A → Type 0) : ℕ → ℕ → List A → Type 0 where
   set_off : {i h j : ℕ} {x : List ℕ} {y : List A} → Many t is_white i h x → is_white (code t h) ≡ false → C h j y → Item t put C i j (put x ++ y)
 
--- what stands after the last character of a line: white space before the closing quote, a break before it, or a break and
+-- what is after the last character of a line: white space before the closing quote, a break before it, or a break and
 -- further lines
 pub data Rest {A : Type 0} (t : List ℕ) (put : List ℕ → List A) (C B : ℕ → ℕ → List A → Type 0) : ℕ → ℕ → List A → Type 0 where
   blank : {i j : ℕ} {x : List ℕ} → Many t is_white i j x → Rest t put C B i j (put x)
@@ -32,7 +32,7 @@ pub data Inside {A : Type 0} (t : List ℕ) (put : List ℕ → List A) (C B : �
   as_lines : {i h j : ℕ} {x y : List A} → is_flow c ≡ true → Chain (Item t put C) i h x → Rest t put C B h j y → Inside t put C B c i j (x ++ y)
 
 -- a quoted scalar: it covers no forbidden line
-pub record Quoted {A : Type 0} (t : List ℕ) (put : List ℕ → List A) (C B : ℕ → ℕ → List A → Type 0) (c : Ctx) (quote i j : ℕ) (x : List A) : Type 0 where
+pub record QuotedScalar {A : Type 0} (t : List ℕ) (put : List ℕ → List A) (C B : ℕ → ℕ → List A → Type 0) (c : Ctx) (quote i j : ℕ) (x : List A) : Type 0 where
   pub close : ℕ
   pub opening : code t i ≡ quote
   pub inside : Inside t put C B c (i + 1) close x
@@ -50,7 +50,7 @@ as_they_are x = x
 
 -- c-single-quoted(n,c)
 abbrev pub SingleQuoted : List ℕ → ℤ → Ctx → ℕ → ℕ → List ℕ → Type 0
-SingleQuoted t n c = Quoted t as_they_are (SingleChar t) (FlowFolded t n) c 39
+SingleQuoted t n c = QuotedScalar t as_they_are (SingleChar t) (FlowFolded t n) c 39
 
 -- what a character of a double-quoted scalar means: a character, or an escape at an offset whose number is none
 pub data Piece : Type 0 where
@@ -87,4 +87,4 @@ pub data DoubleBreak (t : List ℕ) (n : ℤ) : ℕ → ℕ → List Piece → T
 
 -- c-double-quoted(n,c)
 abbrev pub DoubleQuoted : List ℕ → ℤ → Ctx → ℕ → ℕ → List Piece → Type 0
-DoubleQuoted t n c = Quoted t goods (DoubleChar t) (DoubleBreak t n) c 34
+DoubleQuoted t n c = QuotedScalar t goods (DoubleChar t) (DoubleBreak t n) c 34

@@ -34,19 +34,19 @@ abbrev pub double_bytes : List ℕ → List ℕ
 double_bytes cs = DOUBLE_QUOTE ∷ encode_utf8_all (flat_map spelled cs) ++ DOUBLE_QUOTE ∷ []
 
 -- bytes that grew at the end
-pub record Grown (old new : List ℕ) : Type 0 where
+pub record BytesGrown (old new : List ℕ) : Type 0 where
   pub more : List ℕ
   pub is : new ≡ old ++ more
 
--- wherever the bytes stand in a text, at any indentation and in each context of flow scalars, they are a single-quoted
--- scalar with those characters; no longer scalar stands there, unless a quote follows
+-- wherever the bytes are in a text, at any indentation and in each context of flow scalars, they are a single-quoted
+-- scalar with those characters; no longer scalar is there, unless a quote follows
 pub record SingleBack (bytes x : List ℕ) : Type 0 where
   pub derived : (t : List ℕ) (i : ℕ) (rest : List ℕ) (n : ℤ) (c : Ctx) → IsUtf8 t → drop i t ≡ bytes ++ rest → is_block c ≡ false
       → SingleQuoted t n c i (i + length bytes) x
   pub chosen : (t : List ℕ) (i : ℕ) (rest : List ℕ) (n : ℤ) (c : Ctx) → IsUtf8 t → drop i t ≡ bytes ++ rest → is_block c ≡ false
       → code t (i + length bytes) ≢ SINGLE_QUOTE → Chosen (SingleQuoted t n c i) (i + length bytes) x
 
--- the same for a double-quoted scalar; it has no bad escape, and no longer scalar stands there
+-- the same for a double-quoted scalar; it has no bad escape, and no longer scalar is there
 pub record DoubleBack (bytes x : List ℕ) : Type 0 where
   pub chosen : (t : List ℕ) (i : ℕ) (rest : List ℕ) (n : ℤ) (c : Ctx) → IsUtf8 t → drop i t ≡ bytes ++ rest → is_block c ≡ false
       → (y : List Piece) × (text_of y ≡ x) × (bad_escapes y ≡ []) × Chosen (DoubleQuoted t n c i) (i + length bytes) y

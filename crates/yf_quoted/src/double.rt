@@ -8,25 +8,26 @@ ghost use Rattle.yf_quoted.specs.Body.{NoDoubleChar, SimpleChar, DoubleRead, NoD
 ghost use Rattle.yf_chars.specs.Chain.{Chain, Stuck, Chosen};
 ghost use Rattle.yf_quoted.specs.Quoted as Q;
 ghost use Rattle.yf_quoted.specs.Fault.{DoubleFault};
-ghost use Rattle.yf_chars.specs.Text.{Reads};
+ghost use Rattle.yf_chars.specs.Text.{CharAt};
 
 use crate::filled::push_if_filled;
-use crate::gap::{Found, double_gap, is_block, lines_width, push_gap};
+use crate::gap::{double_gap, lines_width, push_gap};
 use crate::offsets::Offsets;
-use crate::simple::{ordinary_run, simple_char, wide_stands, words_end};
+use crate::simple::{is_wide_at, ordinary_run, simple_char, words_end};
 use std::alloc::{AllocError, Global};
 use yf_chars::context::Ctx;
 use yf_chars::escapes::read_escape;
-use yf_chars::text::{peek, stands};
+use yf_chars::text::{is_char_at, peek};
+use yf_lines::contexts::is_block;
 use yf_lines::fault::Fault;
-use yf_lines::place::Place;
+use yf_lines::place::Position;
 use yf_lines::source_text::Src;
 use yf_lines::text::{FoundText, OwnedText, Text};
 
 /// Reads a double-quoted scalar (c-double-quoted(n,c), production 109) that begins at the byte offset: its text, and the
-/// offset after it, or `None` where no such scalar stands there. `n` is the indentation, from -1.
+/// offset after it, or `None` where no such scalar is there. `n` is the indentation, from -1.
 ///
-/// The text is a slice of the source where the scalar stands on one line without an escape.
+/// The text is a slice of the source where the scalar is on one line without an escape.
 ///
 /// # Errors
 ///
@@ -63,7 +64,7 @@ pub fn scan_double<'a>(
     at: usize,
     n: i32,
     ctx: Ctx,
-) -> Result<Option<(Text<'a>, Option<Place>, usize)>, Fault>
+) -> Result<Option<(Text<'a>, Option<Position>, usize)>, Fault>
     requires { IsCharBoundary src.now.text at }
     ensures reads { IfOk result (λ o. MatchOption o (Stuck (Q.DoubleQuoted src.now.text n ctx at))
         (λ p. (x : List Q.Piece) × (text_bytes p.0 ≡ encode_utf8_all (Q.text_of x))
@@ -94,7 +95,13 @@ pub struct Double<'a> {
 
 /// The same in a text without its lines.
 #[inline(always)]
-pub fn double_in<'a>(alloc: Global, s: &'a str, at: usize, n: i32, ctx: Ctx) -> Found<Double<'a>>
+pub fn double_in<'a>(
+    alloc: Global,
+    s: &'a str,
+    at: usize,
+    n: i32,
+    ctx: Ctx,
+) -> Result<Option<Double<'a>>, AllocError>
     requires { IsCharBoundary s.now at }
     ensures reads { IfOk result (λ o. MatchOption o (Stuck (Q.DoubleQuoted s.now n ctx at))
         (λ p. (x : List Q.Piece) × (text_bytes p.text ≡ encode_utf8_all (Q.text_of x)) × (p.bad ≡ Q.bad_escapes x)
@@ -106,7 +113,7 @@ pub fn double_in<'a>(alloc: Global, s: &'a str, at: usize, n: i32, ctx: Ctx) -> 
     if is_block(ctx) {
         return Ok(None);
     }
-    if !stands(s, at, b'"') {
+    if !is_char_at(s, at, b'"') {
         return Ok(None);
     }
     let width = lines_width(n, ctx);
@@ -123,24 +130,24 @@ pub fn double_in<'a>(alloc: Global, s: &'a str, at: usize, n: i32, ctx: Ctx) -> 
     }
 }
 
-// The place of the closing quote, where only characters that stand for themselves stand before it.
+// The place of the closing quote, where only characters that stand for themselves are before it.
 fn simple_end(s: &str, at: usize) -> Option<usize>
     requires { IsCharBoundary s.now at }
     ensures reads { IfSome result (λ j. (x : List ℕ) × Chain (SimpleChar s.now) at j x) }
     ensures boundary { IfSome result (λ j. IsCharBoundary s.now j) }
     ensures order { IfSome result (λ j. at ≤ j) }
-    ensures close { IfSome result (λ j. Reads s.now j DOUBLE_QUOTE (j + 1)) }
+    ensures close { IfSome result (λ j. CharAt s.now j DOUBLE_QUOTE (j + 1)) }
 {
     let mut end = at;
     'chars: loop {
-        if wide_stands(s, end) {
+        if is_wide_at(s, end) {
             match simple_char(s, end) {
                 None => return None,
                 Some(next) => end = next,
             }
         } else {
             let run_end = ordinary_run(s, end);
-            if stands(s, run_end, b'"') {
+            if is_char_at(s, run_end, b'"') {
                 return Some(run_end);
             }
             match simple_char(s, run_end) {
@@ -185,7 +192,12 @@ fn double_char(s: &str, at: usize) -> Option<DoubleChar>
 }
 
 // The rest of a double-quoted scalar after its opening quote.
-fn double_body<'a>(alloc: Global, s: &'a str, at: usize, width: Option<usize>) -> Found<Double<'a>>
+fn double_body<'a>(
+    alloc: Global,
+    s: &'a str,
+    at: usize,
+    width: Option<usize>,
+) -> Result<Option<Double<'a>>, AllocError>
     requires { IsCharBoundary s.now at }
     ensures reads { IfOk result (λ o. MatchOption o (NoDoubleBody s.now width at)
         (λ p. DoubleRead s.now width at (text_bytes p.text) p.bad p.end)) }
@@ -204,7 +216,7 @@ fn double_body<'a>(alloc: Global, s: &'a str, at: usize, width: Option<usize>) -
             Some(gap) => gap,
         };
         push_gap(&mut text, s, word_end, gap)?;
-        if stands(s, gap.end, b'"') {
+        if is_char_at(s, gap.end, b'"') {
             return Ok(Some(Double {
                 text: Text::Owned(OwnedText::new(text)),
                 bad,

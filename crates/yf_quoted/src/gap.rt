@@ -1,41 +1,39 @@
-//! What stands between two characters of a quoted scalar: white space, or a line break. Offsets count bytes.
+//! What is between two characters of a quoted scalar: white space, or a line break. Offsets count bytes.
 ghost use Rattle.std.specs.Prelude.{◌≡◌, ◌+◌, ◌<◌, ◌≤◌, ◌++◌, ◌∷◌, [], if◌then◌else◌, ℕ, pos, Bool, true, false, List, Option, IfSome, OnOk, MatchOption, length};
 ghost use Rattle.std.specs.Str.{IsCharBoundary};
 ghost use Rattle.std.specs.String.{string_bytes};
 ghost use Rattle.yf_chars.specs.Signs.{BACKSLASH, SPACE};
 ghost use Rattle.yf_lines.specs.Fold.{line_feeds};
 ghost use Rattle.yf_chars.specs.Text.{code};
-ghost use Rattle.yf_lines.specs.Basic.{Break, is_block, is_key};
+ghost use Rattle.yf_lines.specs.Basic.{Break, is_block};
 ghost use Rattle.yf_quoted.specs.Body.{gap_bytes, PlainGap, NoPlainGap, DoubleGap, NoDoubleGap, WidthOf};
 
 use crate::filled::push_if_filled;
 use std::alloc::AllocError;
 use yf_chars::context::Ctx;
-use yf_chars::text::stands;
+use yf_chars::text::is_char_at;
 use yf_lines::basic::{line_break, skip_whites};
+use yf_lines::contexts::is_key;
 use yf_lines::fold::{flow_folded, fold_lines, indent_width};
-
-/// What a reader of quoted scalars answers: what it read, `None` where no such scalar stands, or a refusal of memory.
-pub type Found<T> = Result<Option<T>, AllocError>;
 
 /// White space or a line break between two characters: the white space up to `blank_end` stay, then come a space or line feeds.
 #[derive(Clone, Copy)]
-pub struct Gap {
+pub struct QuotedGap {
     pub blank_end: usize,
     pub space: bool,
     pub feeds: usize,
     pub end: usize,
 }
 
-/// What stands between two characters of a single-quoted scalar; line breaks are read where there is a width.
-pub fn single_gap(s: &str, at: usize, width: Option<usize>) -> Option<Gap>
+/// What is between two characters of a single-quoted scalar; line breaks are read where there is a width.
+pub fn single_gap(s: &str, at: usize, width: Option<usize>) -> Option<QuotedGap>
     requires { IsCharBoundary s.now at }
     ensures reads { MatchOption result (NoPlainGap s.now width at) (λ g. PlainGap s.now width at g.blank_end g.space g.feeds g.end) }
     ensures boundary { IfSome result (λ g. IsCharBoundary s.now g.blank_end × IsCharBoundary s.now g.end) }
     ensures order { IfSome result (λ g. (at ≤ g.blank_end) × (at ≤ g.end)) }
 {
     let place = skip_whites(s, at);
-    let whites = Gap {
+    let whites = QuotedGap {
         blank_end: place,
         space: false,
         feeds: 0,
@@ -47,7 +45,7 @@ pub fn single_gap(s: &str, at: usize, width: Option<usize>) -> Option<Gap>
             None => Some(whites),
             Some(_) => match flow_folded(s, at, width) {
                 None => None,
-                Some(fold) => Some(Gap {
+                Some(fold) => Some(QuotedGap {
                     blank_end: at,
                     space: fold.feeds == 0,
                     feeds: fold.feeds,
@@ -59,7 +57,7 @@ pub fn single_gap(s: &str, at: usize, width: Option<usize>) -> Option<Gap>
 }
 
 /// The same in a double-quoted scalar, where a break may be escaped (s-double-escaped(n), production 112).
-pub fn double_gap(s: &str, at: usize, width: Option<usize>) -> Option<Gap>
+pub fn double_gap(s: &str, at: usize, width: Option<usize>) -> Option<QuotedGap>
     requires { IsCharBoundary s.now at }
     ensures reads { MatchOption result (NoDoubleGap s.now width at) (λ g. DoubleGap s.now width at g.blank_end g.space g.feeds g.end) }
     ensures boundary { IfSome result (λ g. IsCharBoundary s.now g.blank_end × IsCharBoundary s.now g.end) }
@@ -79,7 +77,7 @@ pub fn double_gap(s: &str, at: usize, width: Option<usize>) -> Option<Gap>
                 },
                 Some(next_line) => match fold_lines(s, next_line, lines) {
                     None => None,
-                    Some(fold) => Some(Gap {
+                    Some(fold) => Some(QuotedGap {
                         blank_end: place,
                         space: false,
                         feeds: fold.feeds,
@@ -98,7 +96,7 @@ fn escaped_break(s: &str, at: usize) -> Option<usize>
     ensures boundary { IfSome result (λ l. IsCharBoundary s.now l) }
     ensures order { IfSome result (λ l. at < l) }
 {
-    if !stands(s, at, b'\\') {
+    if !is_char_at(s, at, b'\\') {
         return None;
     }
     match line_break(s, at + 1) {
@@ -108,7 +106,7 @@ fn escaped_break(s: &str, at: usize) -> Option<usize>
 }
 
 /// Appends what a gap after the offset means.
-pub fn push_gap(text: &mut String, s: &str, at: usize, gap: Gap) -> Result<(), AllocError>
+pub fn push_gap(text: &mut String, s: &str, at: usize, gap: QuotedGap) -> Result<(), AllocError>
     requires order { at ≤ gap.blank_end }
     requires start { IsCharBoundary s.now at }
     requires end { IsCharBoundary s.now gap.blank_end }
@@ -151,18 +149,4 @@ pub fn lines_width(n: i32, ctx: Ctx) -> Option<usize>
         None => None,
         Some(width) => Some(width),
     }
-}
-
-/// Whether no scalar stands in that context.
-pub fn is_block(ctx: Ctx) -> bool
-    ensures { result ≡ is_block ctx }
-{
-    matches!(ctx, Ctx::BlockOut | Ctx::BlockIn)
-}
-
-// Whether a scalar in that context stands on one line.
-fn is_key(ctx: Ctx) -> bool
-    ensures { result ≡ is_key ctx }
-{
-    matches!(ctx, Ctx::BlockKey | Ctx::FlowKey)
 }

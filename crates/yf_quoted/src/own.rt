@@ -8,7 +8,7 @@ use yf_chars::text::peek;
 
 // Whether an ASCII character that is one begins at the offset.
 #[inline(always)]
-fn common_stands(text: &str, at: usize) -> bool
+fn is_common_at(text: &str, at: usize) -> bool
     ensures { result ≡ true → OwnAt text.now at (at + 1) }
 {
     let bytes = text.as_bytes();
@@ -59,7 +59,7 @@ pub(crate) fn own_run(text: &str, at: usize) -> usize
 {
     let mut end = at;
     'chars: loop {
-        if common_stands(text, end) {
+        if is_common_at(text, end) {
             end += 1;
         } else {
             match wide_end(text, end) {
@@ -72,7 +72,7 @@ pub(crate) fn own_run(text: &str, at: usize) -> usize
 
 /// Whether an ASCII character begins there that is spelled by an escape.
 #[inline(always)]
-pub(crate) fn escape_stands(text: &str, at: usize) -> bool
+pub(crate) fn is_escape_at(text: &str, at: usize) -> bool
     ensures { result ≡ true → at < length text.now }
 {
     let bytes = text.as_bytes();

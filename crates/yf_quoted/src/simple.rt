@@ -4,15 +4,15 @@ ghost use Rattle.yf_chars.specs.Chain.{Chain};
 ghost use Rattle.yf_chars.specs.Class.{is_between};
 ghost use Rattle.yf_chars.specs.Common.{is_common};
 ghost use Rattle.yf_chars.specs.Lanes.{LaneRun};
-ghost use Rattle.yf_lines.specs.Basic.{Forbidden};
+ghost use Rattle.yf_lines.specs.Basic.{ForbiddenLine};
 ghost use Rattle.yf_quoted.specs.Body.{Simple, NoSimple, SimpleChar};
 ghost use Rattle.yf_quoted.specs.Ordinary.{is_ordinary, Words};
 
 use std::simd::prelude::*;
 use yf_chars::classes::is_nb_json;
 use yf_chars::lanes::lanes_before;
-use yf_chars::text::{peek, stands};
-use yf_lines::basic::{is_forbidden_at, white_stands};
+use yf_chars::text::{is_char_at, peek};
+use yf_lines::basic::{is_forbidden_at, is_white_at};
 
 // Whether the ASCII character stands for itself at whatever place. Most are lower-case letters, which take two tests.
 #[tactic(auto, unfolding(crate::specs::Ordinary::is_ordinary, yf_chars::specs::Class::is_between))]
@@ -28,7 +28,7 @@ fn is_ordinary(byte: u8) -> bool
 
 // Whether such a character begins at the offset.
 #[inline(always)]
-fn ordinary_stands(s: &str, at: usize) -> bool
+fn is_simple_at(s: &str, at: usize) -> bool
     ensures { result ≡ true → Simple s.now at (at + 1) }
 {
     let bytes = s.as_bytes();
@@ -38,7 +38,7 @@ fn ordinary_stands(s: &str, at: usize) -> bool
     false
 }
 
-// How many ASCII characters other than `"` and `\` stand at the offset, of 16 bytes.
+// How many ASCII characters other than `"` and `\` are at the offset, of 16 bytes.
 #[inline(always)]
 fn common_lanes(bytes: &[u8], at: usize) -> usize
     requires { at + 16 ≤ length bytes.now }
@@ -65,7 +65,7 @@ fn is_visible(byte: u8) -> bool
 #[inline(always)]
 fn text_ends(s: &str, at: usize) -> bool
     requires { at ≤ length s.now }
-    ensures { result ≡ true → Forbidden s.now at → ⊥ }
+    ensures { result ≡ true → ForbiddenLine s.now at → ⊥ }
 {
     if at == 0 {
         return false;
@@ -74,8 +74,8 @@ fn text_ends(s: &str, at: usize) -> bool
     is_visible(bytes[at - 1])
 }
 
-// The offset after such characters that stand there. Where fewer than 16 bytes follow, after all of them. Where 16 follow, after those of the
-// 16, among which - and . may be, if a printed ASCII character stands before the offset; else none is passed, so that the caller looks at one.
+// The offset after such characters that are there. Where fewer than 16 bytes follow, after all of them. Where 16 follow, after those of the
+// 16, among which - and . may be, if a printed ASCII character is before the offset; else none is passed, so that the caller looks at one.
 #[inline(always)]
 pub(crate) fn ordinary_run(s: &str, at: usize) -> usize
     requires { IsCharBoundary s.now at }
@@ -91,7 +91,7 @@ pub(crate) fn ordinary_run(s: &str, at: usize) -> usize
         return at;
     }
     let mut end = at;
-    while ordinary_stands(s, end) {
+    while is_simple_at(s, end) {
         end += 1;
     }
     end
@@ -99,7 +99,7 @@ pub(crate) fn ordinary_run(s: &str, at: usize) -> usize
 
 // Whether a character begins there that is not ASCII. Before such a one no run is looked for.
 #[inline(always)]
-pub(crate) fn wide_stands(s: &str, at: usize) -> bool
+pub(crate) fn is_wide_at(s: &str, at: usize) -> bool
     ensures { result ≡ true → at < length s.now }
 {
     let bytes = s.as_bytes();
@@ -137,7 +137,7 @@ pub(crate) fn simple_char(s: &str, at: usize) -> Option<usize>
     }
 }
 
-// The offset after the last of all characters that stand for themselves there, with white space between them. None stand where an
+// The offset after the last of all characters that stand for themselves there, with white space between them. None are where an
 // escape begins. The clause holds of fewer characters too, as of none at all: that is slower, and reads the same.
 pub(crate) fn words_end(s: &str, at: usize) -> usize
     requires { IsCharBoundary s.now at }
@@ -145,15 +145,15 @@ pub(crate) fn words_end(s: &str, at: usize) -> usize
     ensures boundary { IsCharBoundary s.now result }
     ensures order { at ≤ result }
 {
-    if stands(s, at, b'\\') {
+    if is_char_at(s, at, b'\\') {
         return at;
     }
     let mut end = at;
     let mut next = at;
     'chars: loop {
-        if white_stands(s, next) {
+        if is_white_at(s, next) {
             next += 1;
-        } else if ordinary_stands(s, next) {
+        } else if is_simple_at(s, next) {
             next += 1;
             end = next;
         } else {

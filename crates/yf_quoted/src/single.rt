@@ -5,28 +5,29 @@ ghost use Rattle.std.specs.String.Boundary.{IsSplitPoint};
 ghost use Rattle.std.specs.Str.{IsCharBoundary};
 ghost use Rattle.yf_chars.specs.Signs.{SINGLE_QUOTE};
 ghost use Rattle.yf_chars.specs.Chain.{Chain, Stuck, Chosen};
-ghost use Rattle.yf_chars.specs.Text.{Reads, code};
+ghost use Rattle.yf_chars.specs.Text.{CharAt, code};
 ghost use Rattle.yf_lines.specs.Basic.{Clear};
 ghost use Rattle.yf_lines.specs.Text.{text_bytes};
 ghost use Rattle.yf_quoted.specs.Body.{NoSingleChar, NoSingleBody, SingleRead};
-ghost use Rattle.yf_quoted.specs.Ordinary.{is_unquoted, Unquoted};
+ghost use Rattle.yf_quoted.specs.Ordinary.{is_unquoted, CharOfItself};
 ghost use Rattle.yf_quoted.specs.Quoted as Q;
 
-use crate::gap::{Found, is_block, lines_width, push_gap, single_gap};
+use crate::gap::{lines_width, push_gap, single_gap};
 use std::alloc::{AllocError, Global};
 use yf_chars::classes::is_nb_json;
 use yf_chars::context::Ctx;
-use yf_chars::text::{peek, stands};
+use yf_chars::text::{is_char_at, peek};
 use yf_lines::basic::is_forbidden_at;
+use yf_lines::contexts::is_block;
 use yf_lines::fault::Fault;
 use yf_lines::source_text::Src;
 use yf_lines::text::{FoundText, OwnedText, Text};
 
 /// Reads a single-quoted scalar (c-single-quoted(n,c), production 120) that begins at the byte offset: its text, folded,
-/// and the offset after it, or `None` where no such scalar stands there. `n` is the indentation, from -1.
+/// and the offset after it, or `None` where no such scalar is there. `n` is the indentation, from -1.
 ///
 /// Where a closing quote is missing, the first half of the last `''` closes the scalar. The text is a slice of the source
-/// where the scalar stands on one line without `''`.
+/// where the scalar is on one line without `''`.
 ///
 /// # Errors
 ///
@@ -53,7 +54,13 @@ pub struct Single<'a> {
 }
 
 /// The same in a text without its lines.
-pub fn single_in<'a>(alloc: Global, s: &'a str, at: usize, n: i32, ctx: Ctx) -> Found<Single<'a>>
+pub fn single_in<'a>(
+    alloc: Global,
+    s: &'a str,
+    at: usize,
+    n: i32,
+    ctx: Ctx,
+) -> Result<Option<Single<'a>>, AllocError>
     requires { IsCharBoundary s.now at }
     ensures reads { IfOk result (λ o. MatchOption o (Stuck (Q.SingleQuoted s.now n ctx at))
         (λ p. (x : List ℕ) × (text_bytes p.text ≡ encode_utf8_all x) × Chosen (Q.SingleQuoted s.now n ctx at) p.end x)) }
@@ -63,7 +70,7 @@ pub fn single_in<'a>(alloc: Global, s: &'a str, at: usize, n: i32, ctx: Ctx) -> 
     if is_block(ctx) {
         return Ok(None);
     }
-    if !stands(s, at, b'\'') {
+    if !is_char_at(s, at, b'\'') {
         return Ok(None);
     }
     let width = lines_width(n, ctx);
@@ -79,7 +86,7 @@ pub fn single_in<'a>(alloc: Global, s: &'a str, at: usize, n: i32, ctx: Ctx) -> 
     }
 }
 
-// The place of the closing quote, where only characters that stand for themselves stand before it, and no quote after.
+// The place of the closing quote, where only characters that stand for themselves are before it, and no quote after.
 fn simple_end(s: &str, at: usize) -> Option<usize>
     requires { IsCharBoundary s.now at }
     ensures reads { IfSome result (λ j. (x : List ℕ) × Chain (Q.SingleChar s.now) at j x × Clear s.now at j
@@ -87,14 +94,14 @@ fn simple_end(s: &str, at: usize) -> Option<usize>
     ensures alone { IfSome result (λ j. code s.now (j + 1) ≢ SINGLE_QUOTE) }
     ensures boundary { IfSome result (λ j. IsCharBoundary s.now j) }
     ensures order { IfSome result (λ j. at ≤ j) }
-    ensures close { IfSome result (λ j. Reads s.now j SINGLE_QUOTE (j + 1)) }
+    ensures close { IfSome result (λ j. CharAt s.now j SINGLE_QUOTE (j + 1)) }
 {
     let mut end = at;
     'chars: loop {
-        if ordinary_stands(s, end) {
+        if is_single_simple_at(s, end) {
             end += 1;
-        } else if stands(s, end, b'\'') {
-            if stands(s, end + 1, b'\'') {
+        } else if is_char_at(s, end, b'\'') {
+            if is_char_at(s, end + 1, b'\'') {
                 return None;
             }
             return Some(end);
@@ -121,8 +128,8 @@ fn is_unquoted(byte: u8) -> bool
 
 // Whether such a character begins at the offset.
 #[inline(always)]
-fn ordinary_stands(s: &str, at: usize) -> bool
-    ensures { result ≡ true → Unquoted s.now at (at + 1) }
+fn is_single_simple_at(s: &str, at: usize) -> bool
+    ensures { result ≡ true → CharOfItself s.now at (at + 1) }
 {
     let bytes = s.as_bytes();
     if at < bytes.len() {
@@ -153,7 +160,7 @@ fn single_char(s: &str, at: usize) -> Option<SingleChar>
         None => None,
         Some((c, end)) => {
             if c == '\'' {
-                if stands(s, end, b'\'') {
+                if is_char_at(s, end, b'\'') {
                     return Some(SingleChar {
                         value: c,
                         doubled: true,
@@ -177,7 +184,7 @@ fn single_char(s: &str, at: usize) -> Option<SingleChar>
     }
 }
 
-// Where the first half of `''` may close the scalar: how many bytes of text stand before it, and the offset after it.
+// Where the first half of `''` may close the scalar: how many bytes of text are before it, and the offset after it.
 #[derive(Clone, Copy)]
 struct Mark {
     len: usize,
@@ -185,7 +192,12 @@ struct Mark {
 }
 
 // The rest of a single-quoted scalar after its opening quote.
-fn single_body<'a>(alloc: Global, s: &'a str, at: usize, width: Option<usize>) -> Found<Single<'a>>
+fn single_body<'a>(
+    alloc: Global,
+    s: &'a str,
+    at: usize,
+    width: Option<usize>,
+) -> Result<Option<Single<'a>>, AllocError>
     requires { IsCharBoundary s.now at }
     ensures reads { IfOk result (λ o. MatchOption o (NoSingleBody s.now width at)
         (λ p. SingleRead s.now width at (text_bytes p.text) p.end)) }
@@ -203,7 +215,7 @@ fn single_body<'a>(alloc: Global, s: &'a str, at: usize, width: Option<usize>) -
         push_gap(&mut text, s, end, gap)?;
         match single_char(s, gap.end) {
             None => {
-                if stands(s, gap.end, b'\'') {
+                if is_char_at(s, gap.end, b'\'') {
                     return Ok(Some(Single {
                         text: Text::Owned(OwnedText::new(text)),
                         end: gap.end + 1,

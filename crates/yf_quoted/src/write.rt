@@ -2,10 +2,10 @@
 ghost use Rattle.std.specs.Prelude.{◌≡◌, ◌++◌, ◌∷◌, [], IfErr, OnErr, OnOk, chars, encode_utf8_all, flat_map};
 ghost use Rattle.std.specs.String.{string_bytes};
 ghost use Rattle.yf_chars.specs.Escape.{spelled};
-ghost use Rattle.yf_quoted.specs.Written.{DoubleBack, Grown, SingleBack, all_nb, double_bytes, quotes_for, single_bytes, twice};
+ghost use Rattle.yf_quoted.specs.Written.{DoubleBack, BytesGrown, SingleBack, all_nb, double_bytes, quotes_for, single_bytes, twice};
 
 use crate::filled::push_if_filled;
-use crate::own::{escape_stands, own_run};
+use crate::own::{is_escape_at, own_run};
 use std::alloc::AllocError;
 use yf_chars::classes::is_nb_char;
 use yf_chars::error::NoMemory;
@@ -44,7 +44,7 @@ fn is_all_nb(text: &str) -> bool
 
 /// Appends the text in single quotes (c-single-quoted, production 120): a quote in it is written twice, all else as it is.
 ///
-/// `choose` must answer `Quotes::Single` for the text. Wherever the bytes that are appended stand, at any indentation and
+/// `choose` must answer `Quotes::Single` for the text. Wherever the bytes that are appended are, at any indentation and
 /// in each context of flow scalars and keys, they are a single-quoted scalar with this text.
 ///
 /// # Errors
@@ -70,7 +70,7 @@ pub fn write_single(out: &mut String, text: &str) -> Result<(), Fault>
 /// Appends the text in single quotes, or a part of that where memory is refused.
 pub fn push_single(out: &mut String, text: &str) -> Result<(), AllocError>
     ensures written { OnOk result (string_bytes out.new ≡ string_bytes out.old ++ single_bytes (chars text.now)) }
-    ensures grown { Grown (string_bytes out.old) (string_bytes out.new) }
+    ensures grown { BytesGrown (string_bytes out.old) (string_bytes out.new) }
 {
     out.push('\'')?;
     for c in text.chars() {
@@ -83,7 +83,7 @@ pub fn push_single(out: &mut String, text: &str) -> Result<(), AllocError>
 // Appends a character, or two quotes for one.
 fn push_twice(out: &mut String, c: char) -> Result<(), AllocError>
     ensures written { OnOk result (string_bytes out.new ≡ string_bytes out.old ++ encode_utf8_all (twice c)) }
-    ensures grown { Grown (string_bytes out.old) (string_bytes out.new) }
+    ensures grown { BytesGrown (string_bytes out.old) (string_bytes out.new) }
 {
     if c == '\'' {
         return out.push_str("''");
@@ -93,7 +93,7 @@ fn push_twice(out: &mut String, c: char) -> Result<(), AllocError>
 
 /// Appends the text in double quotes (c-double-quoted, production 109), each character as `push_escaped` spells it.
 ///
-/// Wherever the bytes that are appended stand, at any indentation and in each context of flow scalars and keys, the
+/// Wherever the bytes that are appended are, at any indentation and in each context of flow scalars and keys, the
 /// longest double-quoted scalar there is these bytes, with this text.
 ///
 /// # Errors
@@ -118,7 +118,7 @@ pub fn write_double(out: &mut String, text: &str) -> Result<(), Fault>
 /// Appends the text in double quotes, or a part of that where memory is refused.
 pub fn push_double(out: &mut String, text: &str) -> Result<(), NoMemory>
     ensures written { OnOk result (string_bytes out.new ≡ string_bytes out.old ++ double_bytes (chars text.now)) }
-    ensures grown { Grown (string_bytes out.old) (string_bytes out.new) }
+    ensures grown { BytesGrown (string_bytes out.old) (string_bytes out.new) }
 {
     out.push('"')?;
     push_spelled(out, text)?;
@@ -126,10 +126,10 @@ pub fn push_double(out: &mut String, text: &str) -> Result<(), NoMemory>
     Ok(())
 }
 
-// Appends the text as it stands between double quotes, or a part of that. Most texts stand there as they are.
+// Appends the text as it is between double quotes, or a part of that. Most texts are there as they are.
 fn push_spelled(out: &mut String, text: &str) -> Result<(), NoMemory>
     ensures written { OnOk result (string_bytes out.new ≡ string_bytes out.old ++ encode_utf8_all (flat_map spelled (chars text.now))) }
-    ensures grown { Grown (string_bytes out.old) (string_bytes out.new) }
+    ensures grown { BytesGrown (string_bytes out.old) (string_bytes out.new) }
 {
     if are_common(text) {
         out.push_str(text)?;
@@ -142,7 +142,7 @@ fn push_spelled(out: &mut String, text: &str) -> Result<(), NoMemory>
 // itself at once. No run is looked for between two escapes.
 fn push_runs(out: &mut String, text: &str) -> Result<(), NoMemory>
     ensures written { OnOk result (string_bytes out.new ≡ string_bytes out.old ++ encode_utf8_all (flat_map spelled (chars text.now))) }
-    ensures grown { Grown (string_bytes out.old) (string_bytes out.new) }
+    ensures grown { BytesGrown (string_bytes out.old) (string_bytes out.new) }
 {
     let mut end = 0;
     'runs: loop {
@@ -150,7 +150,7 @@ fn push_runs(out: &mut String, text: &str) -> Result<(), NoMemory>
             None => return Ok(()),
             Some((c, next)) => {
                 push_escaped(out, c)?;
-                if escape_stands(text, next) {
+                if is_escape_at(text, next) {
                     end = next;
                 } else {
                     end = own_run(text, next);

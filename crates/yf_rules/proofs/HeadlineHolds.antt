@@ -6,40 +6,40 @@ use Rattle.yf_lines.specs.Lines.{AreLines, Table}
 use Rattle.yf_events.specs.declared.lists.Lists.{Lists}
 use Rattle.yf_stream.specs.ReadingOf.{ReadingOf}
 use Rattle.yf_stream.proofs.LawsHold.{read_texts_have_no_fault, readings_are_the_reading}
-use Rattle.yf_stream.proofs.NestedStreams.{reading_nests}
-use Rattle.yf_emit.specs.Format.{Formats}
-use Rattle.yf_emit.specs.FormatKept.{FormatKept}
+use Rattle.yf_stream.proofs.Offsets.NestedStreams.{reading_nests}
+use Rattle.yf_emit.specs.Format.{IsFormatting}
+use Rattle.yf_emit.specs.FormatPromises.{FormatKept}
 use Rattle.yf_emit.specs.declared.style.Style.{Style}
 use Rattle.yf_emit.proofs.FormatKeeps.{format_keeps}
-use Rattle.yf_emit.proofs.FormatLawsHold.{formats_exist}
-use Rattle.yf_emit.proofs.FormatsRead.{formats_well}
+use Rattle.yf_emit.proofs.SameReading.FormatLawsHold.{formats_exist}
+use Rattle.yf_emit.proofs.Derived.FormatsRead.{formats_well}
 use Rattle.yf_standard.specs.Acceptance.{IsStandardText}
 use Rattle.yf_standard.proofs.AcceptanceHolds.{reading_is_standard, standard_texts_are_read}
 use Rattle.yf_rules.specs.Check.{InOrder, RuleFindings}
-use Rattle.yf_rules.specs.Check.Checked.{checked}
+use Rattle.yf_rules.specs.Check.CheckAnswer.{checked}
 use Rattle.yf_rules.specs.Check.FindingsOf.{at_places}
 use Rattle.yf_rules.specs.Check.InOrder.{no_rules, one_more}
 use Rattle.yf_rules.specs.declared.finding.Finding.{Finding}
 use Rattle.yf_rules.specs.declared.rules.StyleRule.{StyleRule}
 use Rattle.yf_rules.specs.Headline.{Headline, IsMended, RefusedTextsHaveNoReading, StandardTextsAreFormatted}
-use Rattle.yf_rules.specs.Mended.{IsFormatted, NoneFixable}
-use Rattle.yf_rules.specs.Places.{PlacesOf}
-use Rattle.yf_rules.specs.Places.FoundAt.{found_at}
-use Rattle.yf_rules.specs.Rechecked.{FormattedTextsAreClean}
+use Rattle.yf_rules.specs.NothingToFix.{IsFormatted, NoneFixable}
+use Rattle.yf_rules.specs.RuleSets.Places.{PlacesOf}
+use Rattle.yf_rules.specs.RuleSets.Places.FoundAt.{found_at}
+use Rattle.yf_rules.specs.CheckAfterFormat.{FormattedTextsAreClean}
 use Rattle.yf_rules.specs.RuleOf.{definition_of}
-use Rattle.yf_rules.specs.Run.{Gave, Rendered}
+use Rattle.yf_rules.specs.Runs.Run.{Gave, FormattingGiven}
 use Rattle.yf_stream.specs.declared.stream.TheConstants.{LONGEST}
 use Rattle.yf_rules.specs.declared.run.TheConstants.{INPUT_LIMIT}
-use Rattle.yf_rules.proofs.MendedFindings.{both_silent, none_silent, places_none, rule_silent, sorted_silent}
+use Rattle.yf_rules.proofs.Formatted.MendedFindings.{both_silent, none_silent, places_none, rule_silent, sorted_silent}
 use Rattle.yf_rules.proofs.RulesMended.{rule_mended}
 
 -- nothing in what formatting gives is at fault that the house style fixes
-pub formats_are_mended : (t u : List ℕ) (s : Style) → IsUtf8 t → Formats t s u → IsMended u s
+pub formats_are_mended : (t u : List ℕ) (s : Style) → IsUtf8 t → IsFormatting t s u → IsMended u s
 formats_are_mended t u s utf8 formats = λ rule fixable src q same lines reads offsets at.
     rule_mended rule fixable src q s (record {
       source = t;
       utf8 = utf8;
-      formats = subst (λ v. Formats t s v) (sym same) formats;
+      formats = subst (λ v. IsFormatting t s v) (sym same) formats;
       lines = subst (λ v. AreLines v src.lines) (sym same) lines;
       reads = subst (λ v. ReadingOf v q) (sym same) reads;
     }) offsets at
@@ -64,7 +64,7 @@ headline_holds {t} {u} {s} within utf8 kept fits = record {
 
 -- what is given of a text that was read, where it is a formatting of it that is not too long
 pub rendered_holds : {B E : Type 0} (s : Style) (known : Option (List ℕ)) (t : List ℕ) → Gave known t → length t ≤ INPUT_LIMIT → IsUtf8 t → (bytes : B → List ℕ)
-    → (given : Result B E) → IfOk given (λ f. FormatKept t s (bytes f)) → IfOk given (λ f. length (bytes f) ≤ LONGEST) → IfOk given (λ f. Rendered s known (bytes f))
+    → (given : Result B E) → IfOk given (λ f. FormatKept t s (bytes f)) → IfOk given (λ f. length (bytes f) ≤ LONGEST) → IfOk given (λ f. FormattingGiven s known (bytes f))
 rendered_holds s known t gave within utf8 bytes (Ok f) kept fits = record { text = t; gave = gave; headline = headline_holds within utf8 kept fits }
 rendered_holds s known t gave within utf8 bytes (Err e) kept fits = tt
 

@@ -7,17 +7,17 @@ use Rattle.yf_emit.specs.declared.style.Style.{Style}
 use Rattle.yf_rules.specs.Definition.{RuleDefinition}
 use Rattle.yf_rules.specs.declared.rules.StyleRule.{StyleRule}
 use Rattle.yf_rules.specs.declared.rules.StyleRule.TheVariants.{TrailingBlanks, Indentation, Quoting, DocumentStart, FinalBreak, LineBreaks, ByteOrderMark, BlankLines, FlowLayout, CommentSpace, LineLength, RepeatedKeys, KeyMark}
-use Rattle.yf_rules.specs.Mended.{FormatsAreMended, IsFormatted}
+use Rattle.yf_rules.specs.NothingToFix.{FormatsAreMended, IsFormatted}
 use Rattle.yf_rules.specs.RuleOf.{definition_of}
-use Rattle.yf_rules.proofs.MendedBlanks.{trailing_blanks_mended}
-use Rattle.yf_rules.proofs.MendedBrackets.{flow_layout_mended}
-use Rattle.yf_rules.proofs.MendedComments.{comment_space_mended}
-use Rattle.yf_rules.proofs.MendedIndents.{indentation_mended}
-use Rattle.yf_rules.proofs.MendedLines.{byte_order_mark_mended, final_break_mended, line_breaks_mended}
-use Rattle.yf_rules.proofs.MendedMarks.{key_mark_mended}
-use Rattle.yf_rules.proofs.MendedQuotes.{quoting_mended}
-use Rattle.yf_rules.proofs.MendedSpaces.{blank_lines_mended}
-use Rattle.yf_rules.proofs.MendedStarts.{document_start_mended}
+use Rattle.yf_rules.proofs.Formatted.MendedTrailingBlanks.{trailing_blanks_mended}
+use Rattle.yf_rules.proofs.Formatted.MendedFlowLayout.{flow_layout_mended}
+use Rattle.yf_rules.proofs.Formatted.MendedCommentSpace.{comment_space_mended}
+use Rattle.yf_rules.proofs.Formatted.MendedIndentation.{indentation_mended}
+use Rattle.yf_rules.proofs.Formatted.MendedLines.{byte_order_mark_mended, final_break_mended, line_breaks_mended}
+use Rattle.yf_rules.proofs.Formatted.MendedKeyMark.{key_mark_mended}
+use Rattle.yf_rules.proofs.Formatted.MendedQuoting.{quoting_mended}
+use Rattle.yf_rules.proofs.Formatted.MendedBlankLines.{blank_lines_mended}
+use Rattle.yf_rules.proofs.Formatted.MendedDocumentStart.{document_start_mended}
 
 pub rule_mended : (rule : StyleRule) → FormatsAreMended (definition_of rule)
 rule_mended TrailingBlanks = trailing_blanks_mended

@@ -8,7 +8,7 @@ use Rattle.yf_rules.specs.declared.rules.StyleRule.{StyleRule}
 use Rattle.yf_rules.specs.declared.rules.StyleRule.TheVariants.{TrailingBlanks, Indentation, Quoting, DocumentStart, FinalBreak, LineBreaks, ByteOrderMark, BlankLines, FlowLayout, CommentSpace, LineLength, RepeatedKeys, KeyMark}
 use Rattle.yf_rules.specs.declared.finding.Finding.{Finding}
 use Rattle.yf_rules.specs.Asked.{asked}
-use Rattle.yf_rules.specs.Check.{Checked, RuleFindings}
+use Rattle.yf_rules.specs.Check.{CheckAnswer, RuleFindings}
 use Rattle.yf_rules.specs.Definition.{RuleDefinition}
 use Rattle.yf_rules.specs.RuleOf.{definition_of}
 
@@ -51,4 +51,4 @@ AllAreAsked = rules_without [] ≡ all_rules
 
 -- what a check by all rules but those of these names answers
 abbrev pub FoundWithout : List (List ℕ) → Style → Table → Lists → List Finding → Type 0
-FoundWithout names style src reading findings = Checked (λ rule found. RuleFindings (definition_of rule) src reading style found) (rules_without names) findings
+FoundWithout names style src reading findings = CheckAnswer (λ rule found. RuleFindings (definition_of rule) src reading style found) (rules_without names) findings

@@ -3,22 +3,22 @@ use Rattle.std.specs.Prelude.{◌≡◌, ℕ, Bool, List, [], ◌∷◌, ◌++�
 use Rattle.std.specs.List.Sorted.{IsPermutation, IsSortedByKey, IsStableByKey}
 use Rattle.std.specs.Ordering.{nat_cmp, ordering_then}
 use Rattle.std.specs.declared.cmp.Ordering.{Ordering}
-use Rattle.yf_lines.specs.declared.place.Place.{Place}
+use Rattle.yf_lines.specs.declared.place.Position.{Position}
 use Rattle.std.specs.Borrow.{Bor}
 use Rattle.yf_lines.specs.Lines.{Table}
 use Rattle.yf_events.specs.declared.lists.Lists.{Lists}
 use Rattle.yf_emit.specs.declared.style.Style.{Style}
 use Rattle.yf_rules.specs.declared.finding.Finding.{Finding}
 use Rattle.yf_rules.specs.Definition.{RuleDefinition}
-use Rattle.yf_rules.specs.Places.{FoundAt}
+use Rattle.yf_rules.specs.RuleSets.Places.{FoundAt}
 
 -- the finding at a place
-abbrev pub finding_at : ℕ → Bor (List ℕ) → Bool → Place → Finding
+abbrev pub finding_at : ℕ → Bor (List ℕ) → Bool → Position → Finding
 finding_at number id fixable place = record { place = place; number = number; id = id; fixable = fixable }
 
 -- the findings of a rule with this number and name: those at the places that it finds, in the same order
-pub data FindingsOf (rule_number : ℕ) (rule_id : List ℕ) (is_fixable : Bool) (Finds : List Place → Type 0) (findings : List Finding) : Type 0 where
-  at_places : {places : List Place} (number : ℕ) (id : Bor (List ℕ)) (fixable : Bool) → number ≡ rule_number → id.now ≡ rule_id
+pub data FindingsOf (rule_number : ℕ) (rule_id : List ℕ) (is_fixable : Bool) (Finds : List Position → Type 0) (findings : List Finding) : Type 0 where
+  at_places : {places : List Position} (number : ℕ) (id : Bor (List ℕ)) (fixable : Bool) → number ≡ rule_number → id.now ≡ rule_id
       → fixable ≡ is_fixable → Finds places → findings ≡ map (finding_at number id fixable) places
       → FindingsOf rule_number rule_id is_fixable Finds findings
 
@@ -46,5 +46,5 @@ pub record SortedFrom (all sorted : List Finding) : Type 0 where
   pub stable : IsStableByKey sort_key key_cmp all sorted
 
 -- what a check answers
-pub data Checked {B : Type 0} (R : B → List Finding → Type 0) (rules : List B) (findings : List Finding) : Type 0 where
-  checked : {all : List Finding} → InOrder R rules all → SortedFrom all findings → Checked R rules findings
+pub data CheckAnswer {B : Type 0} (R : B → List Finding → Type 0) (rules : List B) (findings : List Finding) : Type 0 where
+  checked : {all : List Finding} → InOrder R rules all → SortedFrom all findings → CheckAnswer R rules findings

@@ -6,9 +6,9 @@ use Rattle.yf_events.specs.declared.lists.Lists.{Lists}
 use Rattle.yf_events.specs.declared.reading.TheConstants.{DEPTH}
 use Rattle.yf_events.specs.Nested.{IsStream}
 use Rattle.yf_events.specs.Reading.{events_of}
-use Rattle.yf_emit.specs.Format.{Formats}
+use Rattle.yf_emit.specs.Format.{IsFormatting}
 use Rattle.yf_emit.specs.declared.style.Style.{Style}
-use Rattle.yf_rules.specs.Mended.{NoneFixable}
+use Rattle.yf_rules.specs.NothingToFix.{NoneFixable}
 use Rattle.yf_rules.specs.declared.finding.Finding.{Finding}
 use Rattle.yf_stream.specs.StreamReader.{TheReading}
 
@@ -22,4 +22,4 @@ pub record FoundIn (C : Table → Lists → List Finding → Type 0) (style : St
   pub nested : IsStream DEPTH (events_of reading)
   pub reads : TheReading text reading
   pub checked : C src reading findings
-  pub mends : (source : List ℕ) → IsUtf8 source → Formats source style text → NoneFixable findings
+  pub mends : (source : List ℕ) → IsUtf8 source → IsFormatting source style text → NoneFixable findings

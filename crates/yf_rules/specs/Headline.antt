@@ -11,7 +11,7 @@ use Rattle.yf_events.specs.declared.reading.TheConstants.{DEPTH}
 use Rattle.yf_stream.specs.ReadingOf.{ReadingOf}
 use Rattle.yf_stream.specs.StreamReader.{StreamFault, TheReading}
 use Rattle.yf_standard.specs.Acceptance.{IsStandardText}
-use Rattle.yf_emit.specs.FormatKept.{FormatKept}
+use Rattle.yf_emit.specs.FormatPromises.{FormatKept}
 use Rattle.yf_emit.specs.declared.style.Style.{Style}
 use Rattle.yf_rules.specs.Definition.{RuleDefinition}
 use Rattle.yf_rules.specs.RuleOf.{definition_of}

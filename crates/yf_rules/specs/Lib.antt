@@ -1,43 +1,19 @@
-pub mod Places
-pub mod Exact
-pub mod Whites
-pub mod Scalars
-pub mod Noted
-pub mod Styles
-pub mod Cover
-pub mod BlockLines
-pub mod ScalarStarts
-pub mod Quiet
-pub mod ByLine
-pub mod Documents
-pub mod BlankLines
-pub mod BlankNotes
-pub mod Nodes
-pub mod KeyPass
-pub mod OuterFlow
-pub mod QuestionMarks
-pub mod ScalarLines
-pub mod Stands
-pub mod Standings
-pub mod Entries
-pub mod Passing
-pub mod IndentFaults
-pub mod Columns
-pub mod Indents
-pub mod MarkedKeys
-pub mod Layouts
-pub mod Sets
+-- The definitions, in folders.
+-- the rules and what is proved of them, of a check and of the runs
 pub mod Definition
 pub mod Rules
 pub mod RuleOf
+pub mod Sets
+pub mod AllRules
 pub mod Asked
 pub mod Check
-pub mod AllRules
-pub mod Headline
-pub mod Mended
-pub mod Input
-pub mod Run
 pub mod Findings
-pub mod Rechecked
-pub mod Compare
-pub mod Diffed
+pub mod Headline
+pub mod NothingToFix
+pub mod CheckAfterFormat
+-- what the runs are given, and what they give
+pub mod Runs
+-- the set of each rule
+pub mod RuleSets
+-- what a pass keeps on its way, for private clauses
+pub mod Passes

@@ -7,18 +7,18 @@ use Rattle.yf_lines.specs.declared.line.Line.{Line}
 use Rattle.yf_lines.specs.Lines.{Table}
 use Rattle.yf_events.specs.Tree.{DocumentTree, TreesOf}
 use Rattle.yf_events.specs.declared.lists.Lists.{Lists}
-use Rattle.yf_emit.specs.Textual.{CommentsAscend, IsTextual}
+use Rattle.yf_emit.specs.NormalForms.Textual.{CommentsAscend, IsTextual}
 use Rattle.yf_emit.specs.declared.style.Style.{Style}
-use Rattle.yf_rules.specs.BlankLines.{MisplacedBlank}
-use Rattle.yf_rules.specs.ByLine.{BeyondLimit, TrailingBlank}
-use Rattle.yf_rules.specs.Documents.{NoMarkerLine}
-use Rattle.yf_rules.specs.Exact.{Exactly}
-use Rattle.yf_rules.specs.Indents.{Misindented}
-use Rattle.yf_rules.specs.Layouts.{Displaced, NeedlessMark}
-use Rattle.yf_rules.specs.Nodes.{RepeatedKey}
-use Rattle.yf_rules.specs.Scalars.{LooseMark}
-use Rattle.yf_rules.specs.Styles.{Misquoted}
-use Rattle.yf_rules.specs.Whites.{CloseComment}
+use Rattle.yf_rules.specs.RuleSets.BlankLines.{MisplacedBlank}
+use Rattle.yf_rules.specs.RuleSets.ByLine.{BeyondLimit, TrailingBlank}
+use Rattle.yf_rules.specs.RuleSets.Documents.{NoMarkerLine}
+use Rattle.yf_rules.specs.RuleSets.Exact.{Exactly}
+use Rattle.yf_rules.specs.RuleSets.Indents.{IndentFault}
+use Rattle.yf_rules.specs.RuleSets.Layouts.{LayoutFault, NeedlessMark}
+use Rattle.yf_rules.specs.RuleSets.Nodes.{RepeatedKey}
+use Rattle.yf_rules.specs.RuleSets.Scalars.{LooseMark}
+use Rattle.yf_rules.specs.RuleSets.Styles.{QuotingFault}
+use Rattle.yf_rules.specs.RuleSets.Whites.{CloseComment}
 
 -- final-break: the end of a text that is not empty and does not end with a line break
 pub data WithoutFinalBreak (t : List ℕ) : List ℕ → Type 0 where
@@ -42,10 +42,10 @@ trailing_blanks_at src reading style offsets = Exactly (TrailingBlank src readin
 
 -- of a reading with trees, which it has exactly where it is well placed
 abbrev pub indentation_at : Table → Lists → Style → List ℕ → Type 0
-indentation_at src reading style offsets = (trees : List DocumentTree) → TreesOf reading trees → Exactly (Misindented src style trees) offsets
+indentation_at src reading style offsets = (trees : List DocumentTree) → TreesOf reading trees → Exactly (IndentFault src style trees) offsets
 
 abbrev pub quoting_at : Table → Lists → Style → List ℕ → Type 0
-quoting_at src reading style offsets = Exactly (Misquoted src.text reading style) offsets
+quoting_at src reading style offsets = Exactly (QuotingFault src.text reading style) offsets
 
 abbrev pub document_start_at : Table → Lists → Style → List ℕ → Type 0
 document_start_at src reading style offsets = Exactly (NoMarkerLine src.text reading style) offsets
@@ -56,10 +56,10 @@ byte_order_mark_at src reading style offsets = Exactly (LooseMark src.text readi
 abbrev pub blank_lines_at : Table → Lists → Style → List ℕ → Type 0
 blank_lines_at src reading style offsets = Exactly (MisplacedBlank src reading) offsets
 
--- of a reading with trees whose comments stand in the order of the text
+-- of a reading with trees whose comments are in the order of the text
 abbrev pub flow_layout_at : Table → Lists → Style → List ℕ → Type 0
 flow_layout_at src reading style offsets =
-    (trees : List DocumentTree) → TreesOf reading trees → CommentsAscend reading → Exactly (Displaced src reading style) offsets
+    (trees : List DocumentTree) → TreesOf reading trees → CommentsAscend reading → Exactly (LayoutFault src reading style) offsets
 
 abbrev pub comment_space_at : Table → Lists → Style → List ℕ → Type 0
 comment_space_at src reading style offsets = Exactly (CloseComment src.text reading) offsets

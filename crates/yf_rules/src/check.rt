@@ -3,15 +3,15 @@ ghost use Rattle.std.specs.Prelude.{◌≡◌, [], ◌++◌, true, map, IfErr, I
 ghost use Rattle.std.specs.List.Sorted.{IsSortedByKey};
 ghost use Rattle.std.specs.Ordering.{is_lt};
 ghost use Rattle.yf_rules.specs.Asked.{asked};
-ghost use Rattle.yf_rules.specs.Check.{Checked, RuleFindings, SortedFrom, finding_at, key_cmp, sort_key};
-ghost use Rattle.yf_rules.specs.Mended.{IsFormatted, NoneFixable};
-ghost use Rattle.yf_rules.specs.Places.{FoundAt};
+ghost use Rattle.yf_rules.specs.Check.{CheckAnswer, RuleFindings, SortedFrom, finding_at, key_cmp, sort_key};
+ghost use Rattle.yf_rules.specs.NothingToFix.{IsFormatted, NoneFixable};
+ghost use Rattle.yf_rules.specs.RuleSets.Places.{FoundAt};
 
 use crate::asked::is_among;
 use crate::finding::Finding;
 use crate::rule::{About, AllocError, Global, Reading, Rule, Src, Style};
 use yf_lines::fault::Fault;
-use yf_lines::place::Place;
+use yf_lines::place::Position;
 use yf_lines::text::OwnedText;
 
 /// What a rule is known by.
@@ -24,13 +24,13 @@ fn about_of(rule: &Box<dyn Rule>) -> About
 }
 
 /// The places that a rule finds.
-fn places_by(
+fn positions_by(
     alloc: Global,
     rule: &Box<dyn Rule>,
     src: &Src,
     reading: &Reading,
     style: &Style,
-) -> Result<Vec<Place>, Fault>
+) -> Result<Vec<Position>, Fault>
     ensures refused { IfErr result (λ fault. fault ≡ Fault.Memory) }
     ensures found { IfOk result (λ places. FoundAt src.now.text
         ((definition rule.now).faults src.now reading.now style.now) places.items) }
@@ -41,7 +41,7 @@ fn places_by(
 }
 
 /// The findings at these places of the rule that is known by that.
-fn findings_at(alloc: Global, about: About, places: &[Place]) -> Result<Vec<Finding>, AllocError>
+fn findings_at(alloc: Global, about: About, places: &[Position]) -> Result<Vec<Finding>, AllocError>
     ensures { IfOk result (λ findings. findings.items ≡ map (finding_at about.number about.id about.fixable) places.now) }
 {
     places
@@ -68,14 +68,14 @@ fn findings_of(
     ensures mends { IfOk result (λ findings. IsFormatted src.now reading.now style.now → NoneFixable findings.items) }
 {
     let about = about_of(rule);
-    let places = places_by(alloc, rule, src, reading, style)?;
+    let places = positions_by(alloc, rule, src, reading, style)?;
     match findings_at(alloc, about, places.as_slice()) {
         Ok(findings) => Ok(findings),
         Err(AllocError) => Err(Fault::Memory),
     }
 }
 
-/// Whether a finding stands before another one by line, column and number.
+/// Whether a finding is before another one by line, column and number.
 fn comes_before(a: &Finding, b: &Finding) -> bool
     ensures { result ≡ is_lt (key_cmp (sort_key a.now) (sort_key b.now)) }
 {
@@ -139,7 +139,7 @@ pub fn check(
     style: &Style,
 ) -> Result<Vec<Finding>, Fault>
     ensures refused { IfErr result (λ fault. fault ≡ Fault.Memory) }
-    ensures findings { IfOk result (λ findings. Checked
+    ensures findings { IfOk result (λ findings. CheckAnswer
         (λ rule found. RuleFindings (definition rule) src.now reading.now style.now found)
         (asked (λ rule. definition rule) without.now rules.now) findings.items) }
     ensures mends { IfOk result (λ findings. IsFormatted src.now reading.now style.now → NoneFixable findings.items) }

@@ -1,9 +1,9 @@
 //! Whether a text is its own formatting, and where it differs from that first. The contracts are told in `Compare` of the specs.
 ghost use Rattle.std.specs.Prelude.{◌≡◌, ◌≢◌, ◌<◌, true, IfErr, IfOk, IfSome, OnOk, MatchOption, MatchResult};
-ghost use Rattle.yf_lines.specs.Output.{Writes};
+ghost use Rattle.yf_lines.specs.Output.{TextWritten};
 ghost use Rattle.yf_stream.specs.StreamReader.{StreamFault};
-ghost use Rattle.yf_rules.specs.Compare.{Compared, Difference, DifferenceIn, DifferAt, DiffersFirst, IsClean, RefusedCompare, SameUpTo, difference_line};
-ghost use Rattle.yf_rules.specs.Run.{Gave, Keeps, RefusedText};
+ghost use Rattle.yf_rules.specs.Runs.Compare.{CompareRun, Difference, DifferenceIn, DifferAt, DiffersFirst, IsClean, RefusedCompare, SameUpTo, difference_line};
+ghost use Rattle.yf_rules.specs.Runs.Run.{Gave, Keeps, RefusedText};
 
 use crate::input::read_all;
 use crate::run::INPUT_LIMIT;
@@ -15,7 +15,7 @@ use yf_emit::format::format;
 use yf_emit::style::Style;
 use yf_lines::fault::Fault;
 use yf_lines::output::write_texts;
-use yf_lines::place::Place;
+use yf_lines::place::Position;
 use yf_lines::source_text::Src;
 use yf_lines::watched::{Sink, Source};
 
@@ -33,7 +33,7 @@ pub fn run_fmt_check<R: Source, W: Sink>(
     writer: &mut W,
     style: &Style,
 ) -> Result<bool, Fault>
-    ensures compared { IfOk result (λ same. Compared style.now (R.remaining reader.old) (W.contents writer.old) (W.contents writer.new)
+    ensures compared { IfOk result (λ same. CompareRun style.now (R.remaining reader.old) (W.contents writer.old) (W.contents writer.new)
         (W.has_failed writer.old) (W.has_failed writer.new) same) }
     ensures clean { IfOk result (λ same. same ≡ true → IfSome (R.remaining reader.old) (IsClean style.now)) }
     ensures reader { OnOk result (R.has_failed reader.new ≡ R.has_failed reader.old) }
@@ -59,7 +59,7 @@ fn read_difference<R: Source>(
     reader: &mut R,
     kept: &mut Vec<u8>,
     style: &Style,
-) -> Result<Option<Place>, Fault>
+) -> Result<Option<Position>, Fault>
     ensures difference { IfOk result (Difference style.now (R.remaining reader.old)) }
     ensures reader { OnOk result (R.has_failed reader.new ≡ R.has_failed reader.old) }
     ensures bytes { MatchResult result (λ _. Gave (R.remaining reader.old) kept.new.items) (Keeps (R.remaining reader.old) kept.new.items) }
@@ -76,7 +76,7 @@ fn read_difference<R: Source>(
 }
 
 // The place where a text first differs from its formatting; nothing where it is that.
-fn difference_in(alloc: Global, text: &str, style: &Style) -> Result<Option<Place>, Fault>
+fn difference_in(alloc: Global, text: &str, style: &Style) -> Result<Option<Position>, Fault>
     ensures difference { IfOk result (DifferenceIn text.now style.now) }
     ensures refuses { IfErr result (StreamFault text.now) }
 {
@@ -89,7 +89,7 @@ fn difference_in(alloc: Global, text: &str, style: &Style) -> Result<Option<Plac
 
 // The place of the first character in which a text differs from another one, or of its end, where it is a front of that; nothing
 // where they are the same. A table of lines is made only where they differ.
-fn difference(alloc: Global, text: &str, other: &str) -> Result<Option<Place>, AllocError>
+fn difference(alloc: Global, text: &str, other: &str) -> Result<Option<Position>, AllocError>
     ensures { IfOk result (λ place. MatchOption place (text.now ≡ other.now) (DiffersFirst text.now other.now)) }
 {
     if text == other {
@@ -133,8 +133,8 @@ fn after_same(text: &str, other: &str, at: usize) -> Option<usize>
 }
 
 // Writes the line of a text that is not its own formatting.
-fn write_difference<W: Sink>(place: Place, writer: &mut W) -> Result<(), Fault>
-    ensures { Writes (W.contents writer.old) (W.contents writer.new)
+fn write_difference<W: Sink>(place: Position, writer: &mut W) -> Result<(), Fault>
+    ensures { TextWritten (W.contents writer.old) (W.contents writer.new)
         (W.has_failed writer.old) (W.has_failed writer.new) (difference_line place) result }
 {
     let mut line_buffer = Buffer::new();

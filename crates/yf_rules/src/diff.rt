@@ -1,9 +1,9 @@
-//! How a text differs from its formatting, as a unified diff. The contracts are told in `Diffed` of the specs.
+//! How a text differs from its formatting, as a unified diff. The contracts are told in `DiffRun` of the specs.
 ghost use Rattle.std.specs.Prelude.{◌≡◌, true, IfErr, IfOk, IfSome, MatchResult, OnOk};
 ghost use Rattle.yf_stream.specs.StreamReader.{StreamFault};
-ghost use Rattle.yf_rules.specs.Compare.{IsClean};
-ghost use Rattle.yf_rules.specs.Diffed.{DiffIn, DiffOf, Diffed, RefusedDiff};
-ghost use Rattle.yf_rules.specs.Run.{Gave, Keeps, RefusedText};
+ghost use Rattle.yf_rules.specs.Runs.Compare.{IsClean};
+ghost use Rattle.yf_rules.specs.Runs.Diffed.{DiffIn, DiffOf, DiffRun, RefusedDiff};
+ghost use Rattle.yf_rules.specs.Runs.Run.{Gave, Keeps, RefusedText};
 
 use crate::input::read_all;
 use crate::run::INPUT_LIMIT;
@@ -29,7 +29,7 @@ pub fn run_fmt_diff<R: Source, W: Sink>(
     writer: &mut W,
     style: &Style,
 ) -> Result<bool, Fault>
-    ensures diffed { IfOk result (λ same. Diffed style.now name.now (R.remaining reader.old) (W.contents writer.old) (W.contents writer.new)
+    ensures diffed { IfOk result (λ same. DiffRun style.now name.now (R.remaining reader.old) (W.contents writer.old) (W.contents writer.new)
         (W.has_failed writer.old) (W.has_failed writer.new) same) }
     ensures clean { IfOk result (λ same. same ≡ true → IfSome (R.remaining reader.old) (IsClean style.now)) }
     ensures reader { OnOk result (R.has_failed reader.new ≡ R.has_failed reader.old) }

@@ -1,7 +1,7 @@
 //! What holds of every text, for every style.
 ghost use Rattle.yf_rules.specs.AllRules.{AllAreAsked, RulesAreListed};
 ghost use Rattle.yf_rules.specs.Headline.{RefusedTextsHaveNoReading, StandardTextsAreFormatted};
-ghost use Rattle.yf_rules.specs.Rechecked.{FormattedTextsAreClean};
+ghost use Rattle.yf_rules.specs.CheckAfterFormat.{FormattedTextsAreClean};
 ghost use Rattle.yf_standard.specs.Acceptance.{FaultsTellOfTheStandard, StandardStreamsMeanOne, StandardTextsAreRead};
 ghost use Rattle.yf_standard.specs.Laws.{ReadTextsAreStandard};
 ghost use Rattle.yf_stream.specs.HasReading.{WellFormedTextsHaveReadings};

@@ -1,7 +1,7 @@
 //! Reading a whole input.
 ghost use Rattle.std.specs.Prelude.{◌≡◌, ◌≤◌, vec_len, IfSome, IfOk, IfErr, OnOk};
 ghost use Rattle.std.specs.Io.KnownBytes.{IsAtEnd};
-ghost use Rattle.yf_rules.specs.Input.{ReadRefusal};
+ghost use Rattle.yf_rules.specs.Runs.Input.{ReadRefusal};
 
 use std::alloc::Global;
 use yf_lines::fault::Fault;

@@ -1,14 +1,14 @@
 //! What a rule is.
 ghost use Rattle.std.specs.Prelude.{◌≡◌, ℕ, List, true, false, IfErr, IfOk};
-ghost use Rattle.yf_rules.specs.Places.{Ascending, PlacesOf};
+ghost use Rattle.yf_rules.specs.RuleSets.Places.{Ascending, PlacesOf};
 
 pub use crate::facts::found::{listed, push_found};
-use crate::facts::places::known_places;
+use crate::facts::places::known_positions;
 pub use std::alloc::{AllocError, Global};
 pub use yf_emit::style::Style;
 pub use yf_events::reading::Reading;
 use yf_lines::fault::Fault;
-use yf_lines::place::Place;
+use yf_lines::place::Position;
 pub use yf_lines::source_text::Src;
 
 /// What a rule is known by.
@@ -49,14 +49,14 @@ impl About {
 }
 
 /// The byte offsets at fault, in any order, unless memory was refused.
-pub type Offsets = Result<Vec<usize>, AllocError>;
+pub type FoundOffsets = Result<Vec<usize>, AllocError>;
 
 /// A rule of style. What it is says its definition, one of `specs/Rules.antt`.
 pub trait Rule: Drop {
     ghost use Rattle.std.specs.Prelude.{[]};
     ghost use Rattle.yf_rules.specs.Definition.{RuleDefinition};
-    ghost use Rattle.yf_rules.specs.Mended.{IsFormatted};
-    ghost use Rattle.yf_rules.specs.Places.{Ascending, FoundAt};
+    ghost use Rattle.yf_rules.specs.NothingToFix.{IsFormatted};
+    ghost use Rattle.yf_rules.specs.RuleSets.Places.{Ascending, FoundAt};
 
     ghost definition: { Self → RuleDefinition };
 
@@ -88,7 +88,7 @@ pub trait Rule: Drop {
     }
 
     /// The byte offsets at fault in a text with this reading: none in what formatting gives, where the house style fixes what the rule finds.
-    fn offsets(&self, alloc: Global, src: &Src, reading: &Reading, style: &Style) -> Offsets
+    fn offsets(&self, alloc: Global, src: &Src, reading: &Reading, style: &Style) -> FoundOffsets
         ensures faults { IfOk result (λ offsets. (definition self.now).faults src.now reading.now style.now offsets.items) }
         ensures mends { IfOk result (λ offsets. (definition self.now).fixable ≡ true
             → IsFormatted src.now reading.now style.now → offsets.items ≡ []) };
@@ -104,7 +104,7 @@ pub trait Rule: Drop {
         src: &Src,
         reading: &Reading,
         style: &Style,
-    ) -> Result<Vec<Place>, Fault>
+    ) -> Result<Vec<Position>, Fault>
         ensures refused { IfErr result (λ fault. fault ≡ Fault.Memory) }
         ensures ascending { IfOk result (λ places. Ascending places.items) }
         ensures found { IfOk result (λ places. FoundAt src.now.text
@@ -113,14 +113,14 @@ pub trait Rule: Drop {
             → IsFormatted src.now reading.now style.now → places.items ≡ []) }
     {
         match self.offsets(alloc, src, reading, style) {
-            Ok(offsets) => placed(alloc, src, offsets.as_slice()),
+            Ok(offsets) => positions_of(alloc, src, offsets.as_slice()),
             Err(AllocError) => Err(Fault::Memory),
         }
     }
 }
 
 /// Sorts places by line and column, and leaves each once.
-fn ascend(places: &mut Vec<Place>)
+fn ascend(places: &mut Vec<Position>)
     ensures ascending { Ascending places.new.items }
     ensures places { (t os : List ℕ) → PlacesOf t os places.old.items → PlacesOf t os places.new.items }
 {
@@ -129,12 +129,12 @@ fn ascend(places: &mut Vec<Place>)
 }
 
 /// The places of the byte offsets that a rule found, in ascending order and each once, unless memory was refused.
-fn placed(alloc: Global, src: &Src, offsets: &[usize]) -> Result<Vec<Place>, Fault>
+fn positions_of(alloc: Global, src: &Src, offsets: &[usize]) -> Result<Vec<Position>, Fault>
     ensures refused { IfErr result (λ fault. fault ≡ Fault.Memory) }
     ensures ascending { IfOk result (λ places. Ascending places.items) }
     ensures places { IfOk result (λ places. PlacesOf src.now.text offsets.now places.items) }
 {
-    match known_places(alloc, src, offsets) {
+    match known_positions(alloc, src, offsets) {
         Ok(mut places) => {
             ascend(&mut places);
             Ok(places)

@@ -16,14 +16,14 @@ pub mod quoting;
 pub mod repeated_keys;
 pub mod trailing_blanks;
 
-use crate::rule::{About, Global, Offsets, Reading, Rule, Src, Style};
+use crate::rule::{About, FoundOffsets, Global, Reading, Rule, Src, Style};
 
 /// The rules, in the order of their numbers.
 #[derive(Clone, Copy)]
 pub enum StyleRule {
     /// The first of the white space that ends a line, unless it is a content line of a block scalar.
     TrailingBlanks,
-    /// The first entry of a block collection that does not stand at the column of the house style, and the header of a block scalar whose content does not.
+    /// The first entry of a block collection that is not at the column of the house style, and the header of a block scalar whose content is not.
     Indentation,
     /// The first character of content of a scalar whose style is not the one that the house style gives it.
     Quoting,
@@ -33,9 +33,9 @@ pub enum StyleRule {
     FinalBreak,
     /// The break of the first line whose break is not a line feed.
     LineBreaks,
-    /// Each byte order mark outside of scalars. Marks that stand together at the start of a line have one place.
+    /// Each byte order mark outside of scalars. Marks that are together at the start of a line have one place.
     ByteOrderMark,
-    /// A blank line that is the first line, follows another one or a `---` alone on its line, stands directly before a document marker or a directive, or has only blank lines after it.
+    /// A blank line that is the first line, follows another one or a `---` alone on its line, is directly before a document marker or a directive, or has only blank lines after it.
     BlankLines,
     /// The opening bracket of a flow collection, in no other one, that is not written as the house style writes it, or may not be kept there.
     FlowLayout,
@@ -56,7 +56,7 @@ fn offsets_by(
     src: &Src,
     reading: &Reading,
     style: &Style,
-) -> Offsets
+) -> FoundOffsets
     ensures { IfOk result (λ offsets. (definition_of rule).faults src.now reading.now style.now offsets.items) }
 {
     match rule {
@@ -97,7 +97,7 @@ impl Rule for StyleRule {
         }
     }
 
-    fn offsets(&self, alloc: Global, src: &Src, reading: &Reading, style: &Style) -> Offsets {
+    fn offsets(&self, alloc: Global, src: &Src, reading: &Reading, style: &Style) -> FoundOffsets {
         offsets_by(*self, alloc, src, reading, style)
     }
 }

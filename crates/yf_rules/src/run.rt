@@ -1,14 +1,14 @@
 //! The runs of the program, over any reader and any writer. Their contracts are told in `Run` of the specs. Each keeps the bytes that
 //! it has read for its caller, who may tell more of a fault with them.
 ghost use Rattle.std.specs.Prelude.{◌≡◌, string_bytes, IfErr, IfOk, MatchResult, OnOk};
-ghost use Rattle.yf_lines.specs.Output.{Writes};
+ghost use Rattle.yf_lines.specs.Output.{TextWritten};
 ghost use Rattle.yf_rules.specs.Asked.{asked};
-ghost use Rattle.yf_rules.specs.Check.{Checked, RuleFindings};
+ghost use Rattle.yf_rules.specs.Check.{CheckAnswer, RuleFindings};
 ghost use Rattle.yf_stream.specs.Refusal.{IsStreamFault};
 ghost use Rattle.yf_stream.specs.StreamReader.{StreamFault};
 ghost use Rattle.yf_rules.specs.Findings.{FoundIn};
-ghost use Rattle.yf_rules.specs.Run.{Gave, Keeps, Printed, Refused, RefusedCheck, RefusedFmt, RefusedText, Rendered, Restyled, Told};
-ghost use Rattle.yf_rules.specs.Run.{finding_line, findings_text, has_any};
+ghost use Rattle.yf_rules.specs.Runs.Run.{Gave, Keeps, NotationWritten, PrefixWritten, RefusedCheck, RefusedFmt, RefusedText, FormattingGiven, FormattingWritten, FindingsWritten};
+ghost use Rattle.yf_rules.specs.Runs.Run.{finding_line, findings_text, has_any};
 
 use crate::check::check;
 use crate::finding::Finding;
@@ -43,11 +43,11 @@ pub fn run_events<R: Source, W: Sink>(
     kept: &mut Vec<u8>,
     writer: &mut W,
 ) -> Result<(), Fault>
-    ensures events { OnOk result (Printed (R.remaining reader.old) (W.contents writer.old) (W.contents writer.new)
+    ensures events { OnOk result (NotationWritten (R.remaining reader.old) (W.contents writer.old) (W.contents writer.new)
         (W.has_failed writer.old) (W.has_failed writer.new)) }
     ensures reader { OnOk result (R.has_failed reader.new ≡ R.has_failed reader.old) }
     ensures bytes { MatchResult result (λ _. Gave (R.remaining reader.old) kept.new.items) (Keeps (R.remaining reader.old) kept.new.items) }
-    ensures refusals { IfErr result (λ fault. Refused (R.remaining reader.old) (R.has_failed reader.old) (R.has_failed reader.new)
+    ensures refusals { IfErr result (λ fault. PrefixWritten (R.remaining reader.old) (R.has_failed reader.old) (R.has_failed reader.new)
         (W.contents writer.old) (W.contents writer.new) (W.has_failed writer.old) (W.has_failed writer.new) fault) }
 {
     let bytes = read_all(alloc, reader, INPUT_LIMIT)?;
@@ -77,14 +77,14 @@ pub fn run_check<R: Source, W: Sink>(
     writer: &mut W,
     style: &Style,
 ) -> Result<bool, Fault>
-    ensures findings { IfOk result (λ any. Told (λ src reading findings. Checked
+    ensures findings { IfOk result (λ any. FindingsWritten (λ src reading findings. CheckAnswer
         (λ rule found. RuleFindings (definition rule) src reading style.now found)
         (asked (λ rule. definition rule) without.now rules.now) findings)
         style.now (R.remaining reader.old) (W.contents writer.old) (W.contents writer.new) (W.has_failed writer.old) (W.has_failed writer.new) any) }
     ensures reader { OnOk result (R.has_failed reader.new ≡ R.has_failed reader.old) }
     ensures bytes { MatchResult result (λ _. Gave (R.remaining reader.old) kept.new.items) (Keeps (R.remaining reader.old) kept.new.items) }
     ensures refusals { IfErr result (λ fault. RefusedCheck
-        (λ src reading findings. Checked (λ rule found. RuleFindings (definition rule) src reading style.now found)
+        (λ src reading findings. CheckAnswer (λ rule found. RuleFindings (definition rule) src reading style.now found)
         (asked (λ rule. definition rule) without.now rules.now) findings)
         style.now (R.remaining reader.old) (R.has_failed reader.old) (R.has_failed reader.new)
         (W.contents writer.old) (W.contents writer.new) (W.has_failed writer.old) (W.has_failed writer.new) fault) }
@@ -114,7 +114,7 @@ fn findings_in(
     text: &str,
     style: &Style,
 ) -> Result<Vec<Finding>, Fault>
-    ensures found { IfOk result (λ findings. FoundIn (λ src reading findings. Checked
+    ensures found { IfOk result (λ findings. FoundIn (λ src reading findings. CheckAnswer
         (λ rule found. RuleFindings (definition rule) src reading style.now found)
         (asked (λ rule. definition rule) without.now rules.now) findings)
         style.now text.now findings.items) }
@@ -137,7 +137,7 @@ fn has_any(findings: &[Finding]) -> bool
 
 // Writes a line for each finding.
 fn write_findings<W: Sink>(findings: &[Finding], writer: &mut W) -> Result<(), Fault>
-    ensures { Writes (W.contents writer.old) (W.contents writer.new)
+    ensures { TextWritten (W.contents writer.old) (W.contents writer.new)
         (W.has_failed writer.old) (W.has_failed writer.new) (findings_text findings.now) result }
 {
     for finding in findings {
@@ -147,7 +147,7 @@ fn write_findings<W: Sink>(findings: &[Finding], writer: &mut W) -> Result<(), F
 }
 
 fn write_finding<W: Sink>(finding: &Finding, writer: &mut W) -> Result<(), Fault>
-    ensures { Writes (W.contents writer.old) (W.contents writer.new)
+    ensures { TextWritten (W.contents writer.old) (W.contents writer.new)
         (W.has_failed writer.old) (W.has_failed writer.new) (finding_line finding.now) result }
 {
     let mut line_buffer = Buffer::new();
@@ -169,7 +169,7 @@ pub fn run_fmt<R: Source, W: Sink>(
     writer: &mut W,
     style: &Style,
 ) -> Result<(), Fault>
-    ensures formatted { OnOk result (Restyled style.now (R.remaining reader.old) (W.contents writer.old) (W.contents writer.new)
+    ensures formatted { OnOk result (FormattingWritten style.now (R.remaining reader.old) (W.contents writer.old) (W.contents writer.new)
         (W.has_failed writer.old) (W.has_failed writer.new)) }
     ensures reader { OnOk result (R.has_failed reader.new ≡ R.has_failed reader.old) }
     ensures bytes { MatchResult result (λ _. Gave (R.remaining reader.old) kept.new.items) (Keeps (R.remaining reader.old) kept.new.items) }
@@ -190,7 +190,7 @@ pub fn read_formatted<R: Source>(
     kept: &mut Vec<u8>,
     style: &Style,
 ) -> Result<String, Fault>
-    ensures formatted { IfOk result (λ formatted. Rendered style.now (R.remaining reader.old) (string_bytes formatted)) }
+    ensures formatted { IfOk result (λ formatted. FormattingGiven style.now (R.remaining reader.old) (string_bytes formatted)) }
     ensures reader { OnOk result (R.has_failed reader.new ≡ R.has_failed reader.old) }
     ensures bytes { MatchResult result (λ _. Gave (R.remaining reader.old) kept.new.items) (Keeps (R.remaining reader.old) kept.new.items) }
     ensures refusals { IfErr result (λ fault. RefusedText (R.remaining reader.old) (R.has_failed reader.old)

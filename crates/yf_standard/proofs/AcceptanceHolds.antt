@@ -4,7 +4,7 @@ use Rattle.std.specs.Str.{IsUtf8}
 use Rattle.yf_lines.specs.FaultPlaces.{IsPlaceOf}
 use Rattle.yf_lines.specs.declared.fault.Fault.{Fault}
 use Rattle.yf_lines.specs.declared.fault.Fault.TheVariants.{Syntax, Memory, UnknownHandle, UnknownAlias, RepeatedDirective, BadVersion, EscapeValue}
-use Rattle.yf_lines.specs.declared.place.Place.{Place}
+use Rattle.yf_lines.specs.declared.place.Position.{Position}
 use Rattle.yf_events.specs.declared.lists.Lists.{Lists}
 use Rattle.yf_stream.specs.ReadingOf.{ReadingOf}
 use Rattle.yf_stream.specs.Stream.{Documents}
@@ -12,7 +12,7 @@ use Rattle.yf_stream.specs.StreamReader.{IsSyntax, NoStream, fault_of, for_memor
 use Rattle.yf_stream.specs.WellFormed.{IsFirst, Shapes, breaches}
 use Rattle.yf_stream.proofs.HasReading.{well_formed_texts_have_readings}
 use Rattle.yf_stream.proofs.LawsHold.{derived_streams_are_shapes}
-use Rattle.yf_standard.specs.Acceptance.{BreaksRule, FaultsTellOfTheStandard, IsStandardText, StandardStreamsMeanOne, StandardTextsAreRead, Tells, of_first}
+use Rattle.yf_standard.specs.Acceptance.{BreaksRule, FaultsTellOfTheStandard, IsStandardText, StandardStreamsMeanOne, StandardTextsAreRead, FaultTells, of_first}
 use Rattle.yf_standard.proofs.LawsHold.{refused_streams_are_none, standard_streams_are_derived, streams_are_standard}
 
 pub standard_streams_mean_one : StandardStreamsMeanOne
@@ -39,7 +39,7 @@ standard_texts_are_read t = (λ s. read s, λ u r a. reading_is_standard u a) wh
       })
 
 -- a fault of syntax tells that there is no stream
-no_stream_told : {t : List ℕ} (fault : Fault) → IsUtf8 t → NoStream t → IsSyntax t fault → Tells t fault
+no_stream_told : {t : List ℕ} (fault : Fault) → IsUtf8 t → NoStream t → IsSyntax t fault → FaultTells t fault
 no_stream_told {t} (Syntax place what) u none is = refused_streams_are_none t u none
 no_stream_told _ u none is = absurd is
 
@@ -52,10 +52,10 @@ is_of_breach (BadVersion place) = true
 is_of_breach (EscapeValue place) = true
 is_of_breach _ = false
 
-kinds_are_of_breaches : (kind : _) (place : Place) → is_of_breach (fault_of kind place) ≡ true
+kinds_are_of_breaches : (kind : _) (place : Position) → is_of_breach (fault_of kind place) ≡ true
 kinds_are_of_breaches kind place = grind arith
 
-breach_told : {t : List ℕ} (fault : Fault) → is_of_breach fault ≡ true → BreaksRule t fault → Tells t fault
+breach_told : {t : List ℕ} (fault : Fault) → is_of_breach fault ≡ true → BreaksRule t fault → FaultTells t fault
 breach_told (UnknownHandle place) is b = b
 breach_told (UnknownAlias place) is b = b
 breach_told (RepeatedDirective place) is b = b
@@ -64,7 +64,7 @@ breach_told (EscapeValue place) is b = b
 breach_told Memory is b = tt
 breach_told _ is b = absurd (true≢false (sym is))
 
-breaks_rule : {t : List ℕ} {x : Documents} {fault : Fault} {place : Place} {b : _} → IsUtf8 t → Shapes t x → IsFirst (breaches x.documents) b
+breaks_rule : {t : List ℕ} {x : Documents} {fault : Fault} {place : Position} {b : _} → IsUtf8 t → Shapes t x → IsFirst (breaches x.documents) b
     → IsPlaceOf t b.offset place → fault ≡ fault_of b.kind place → BreaksRule t fault
 breaks_rule {t} {x} {b = b} u s first at is = record {
   stream = streams_are_standard t s.height x u s.derived s.within;

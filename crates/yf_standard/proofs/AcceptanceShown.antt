@@ -18,9 +18,9 @@ use Rattle.yf_comments.specs.Comments.Separate.{in_node}
 use Rattle.yf_comments.specs.Comments.SeparateLines.{in_line}
 use Rattle.yf_props.specs.Names.{Alias, AnchorChar, asterisk_name}
 use Rattle.yf_events.specs.declared.reading.TheConstants.{DEPTH}
-use Rattle.yf_grammar.specs.Grammar.{BlockNode, Derives, flow_in_block, flow_node, an_alias}
-use Rattle.yf_grammar.specs.Meaning.{Meaning, alias_to, behind, from_to, noting, plain_event}
-use Rattle.yf_grammar.proofs.ShownParts.{clear_place, differs}
+use Rattle.yf_grammar.specs.Productions.Grammar.{BlockNode, Derives, flow_in_block, flow_node, an_alias}
+use Rattle.yf_grammar.specs.Productions.Meaning.{Meaning, alias_to, meaning_after, from_to, noting, plain_event}
+use Rattle.yf_grammar.proofs.Shown.ShownParts.{clear_place, differs}
 use Rattle.yf_stream.specs.Stream.{Documents, Stream, with_comments, with_document, document_of, only_comments, content_at, bare_document, stream_ended, begins_with_document, without_document}
 use Rattle.yf_stream.specs.WellFormed.{breaches}
 use Rattle.yf_stream.proofs.LawsHold.{streams_are_one}
@@ -70,7 +70,7 @@ alias_named = asterisk_name refl (record {
 })
 
 abbrev alias_node : Meaning
-alias_node = behind [] (noting (alias_to (codes "a") 0 2) [])
+alias_node = meaning_after [] (noting (alias_to (codes "a") 0 2) [])
 
 alias_block : Derives alias 0 (BlockNode (pos 0 -ℤ pos 1) BlockIn) 0 2 alias_node
 alias_block = flow_in_block refl (in_node refl (in_line (at_start at_text))) (flow_node (an_alias refl alias_named)) (past_rest (nothing (by_end refl)) done)
@@ -79,20 +79,20 @@ abbrev alias_documents : Documents
 alias_documents = with_document alias_node.comments (document_of 0 false [] alias_node) (only_comments [])
 
 alias_derived : Stream alias 0 alias_documents
-unfolding code begins chars is_ns_char is_nb_char is_printable is_between is_break_char is_white behind noting alias_to with_document document_of
+unfolding code begins chars is_ns_char is_nb_char is_printable is_between is_break_char is_white meaning_after noting alias_to with_document document_of
 alias_derived = begins_with_document done (bare_document (record { derived = alias_block; clear = alias_clear }) (content_at (at_start at_text) refl (differs refl))) stream_ended
 
 -- the standard derives it
 alias_is_stream : IsStandardStream alias
 alias_is_stream = streams_are_standard alias 0 alias_documents alias_utf8 alias_derived (omega arith)
 
--- but no anchor of that name stands before it
+-- but no anchor of that name is before it
 abbrev has_any : {A : Type 0} → List A → Bool
 has_any [] = false
 has_any (a ∷ more) = true
 
 alias_breaches : has_any (breaches alias_documents.documents) ≡ true
-unfolding behind noting alias_to with_document document_of plain_event from_to
+unfolding meaning_after noting alias_to with_document document_of plain_event from_to
 alias_breaches = refl
 
 alias_is_no_text : IsStandardText alias → ⊥

@@ -10,14 +10,14 @@ use Rattle.yf_chars.specs.Class.{is_white, is_nb_char}
 use Rattle.yf_chars.specs.Chain.{Chain, One, Many}
 use Rattle.yf_chars.specs.Chain.Chain.{done, step}
 use Rattle.yf_chars.specs.Chain.One.{one}
-use Rattle.yf_lines.specs.Basic.{Break, LineStart, Spaces, Indent, IndentLess, SeparateInLine, FlowPrefix, LinePrefix, Empty, Folded, FlowFolded}
+use Rattle.yf_lines.specs.Basic.{Break, LineStart, Spaces, Indent, IndentLess, SeparateInLine, FlowPrefix, LinePrefix, Empty, FoldedBreak, FlowFolded}
 use Rattle.yf_lines.specs.Basic.Break.{cr_lf, lone_cr, lone_lf}
 use Rattle.yf_lines.specs.Basic.Indent.{exactly}
 use Rattle.yf_lines.specs.Basic.IndentLess.{fewer}
 use Rattle.yf_lines.specs.Basic.SeparateInLine.{by_whites, at_start}
 use Rattle.yf_lines.specs.Basic.FlowPrefix.{indented, set_off}
 use Rattle.yf_lines.specs.Basic.Empty.{prefixed, shorter}
-use Rattle.yf_lines.specs.Basic.Folded.{trimmed, as_space}
+use Rattle.yf_lines.specs.Basic.FoldedBreak.{trimmed, as_space}
 use Rattle.yf_lines.specs.Basic.FlowFolded.{at_break, past_whites}
 use Rattle.yf_comments.specs.Comments.{CommentText, BreakOrEnd, LineRest, CommentLine, LineEnd, SeparateLines}
 use Rattle.yf_comments.specs.Comments.CommentText.{comment_text}
@@ -166,15 +166,15 @@ trimmed_read t n c i j d =
     let a = star_chain {S = Empty t n c} (λ i j s. s) d.1.1.1.1 in
     (d.1.1.1.0.0 ++ a.0, trimmed_lines d.1.0 d.1.1.1.0.1 a.1)
 
-pub folded_read : (t : List ℕ) (n : ℤ) (c : Ctx) (i j : ℕ) → SomeOf (Trimmed t n c) i j ⊎ Break t i j → SomeOf (Folded t n c) i j
+pub folded_read : (t : List ℕ) (n : ℤ) (c : Ctx) (i j : ℕ) → SomeOf (Trimmed t n c) i j ⊎ Break t i j → SomeOf (FoldedBreak t n c) i j
 folded_read t n c i j (inl d) = (d.0, go d.1) where
-  go : {x : List ℕ} → Trimmed t n c i j x → Folded t n c i j x
+  go : {x : List ℕ} → Trimmed t n c i j x → FoldedBreak t n c i j x
   go (trimmed_lines b e r) = trimmed b e r
 folded_read t n c i j (inr b) = (32 ∷ [], as_space b)
 
 -- [74]
 pub flow_folded_read : (t : List ℕ) (n : ℤ) (i j : ℕ)
-    → (g : ℕ) × (((i ≡ g) ⊎ SeparateInLine t i g) × ((h : ℕ) × (SomeOf (Folded t n FlowIn) g h × FlowPrefix t n h j))) → SomeOf (FlowFolded t n) i j
+    → (g : ℕ) × (((i ≡ g) ⊎ SeparateInLine t i g) × ((h : ℕ) × (SomeOf (FoldedBreak t n FlowIn) g h × FlowPrefix t n h j))) → SomeOf (FlowFolded t n) i j
 flow_folded_read t n i j d = (d.1.1.1.0.0, go d.1.0) where
   go : ((i ≡ d.0) ⊎ SeparateInLine t i d.0) → FlowFolded t n i j d.1.1.1.0.0
   go (inl e) = subst (λ k. FlowFolded t n k j d.1.1.1.0.0) (sym e) (at_break d.1.1.1.0.1 d.1.1.1.1)

@@ -8,7 +8,7 @@ use Rattle.yf_chars.specs.Text.{code}
 use Rattle.yf_chars.specs.Chain.{Chain, One, Many}
 use Rattle.yf_chars.specs.Chain.Chain.{done, step}
 use Rattle.yf_chars.specs.Chain.One.{one}
-use Rattle.yf_lines.specs.Basic.{Break, Spaces, Indent, IndentLess, SeparateInLine, FlowPrefix, LinePrefix, Empty, Folded, FlowFolded}
+use Rattle.yf_lines.specs.Basic.{Break, Spaces, Indent, IndentLess, SeparateInLine, FlowPrefix, LinePrefix, Empty, FoldedBreak, FlowFolded}
 use Rattle.yf_lines.specs.Basic.Break.{cr_lf, lone_cr, lone_lf}
 use Rattle.yf_lines.specs.Basic.Indent.{exactly}
 use Rattle.yf_lines.specs.Basic.IndentLess.{fewer}
@@ -16,7 +16,7 @@ use Rattle.yf_lines.specs.Basic.SeparateInLine.{by_whites, at_start}
 use Rattle.yf_lines.specs.Basic.FlowPrefix.{indented, set_off}
 use Rattle.yf_lines.specs.Basic.LinePrefix.{in_block, in_flow}
 use Rattle.yf_lines.specs.Basic.Empty.{prefixed, shorter}
-use Rattle.yf_lines.specs.Basic.Folded.{trimmed, as_space}
+use Rattle.yf_lines.specs.Basic.FoldedBreak.{trimmed, as_space}
 use Rattle.yf_lines.specs.Basic.FlowFolded.{at_break, past_whites}
 use Rattle.yf_comments.specs.Comments.{CommentText, BreakOrEnd, LineRest, CommentLine, LineEnd, SeparateLines, Separate}
 use Rattle.yf_comments.specs.Comment.{CommentValue}
@@ -144,7 +144,7 @@ unfolding rule kind
 empty_made {room = room} i j w (prefixed p b) = by_rule refl (one_then (in_left (line_prefix_made p)) (feed_made b))
 empty_made {room = room} i j w (shorter p b) = by_rule refl (one_then (in_right (fewer_made p)) (feed_made b))
 
-pub folded_made : {room : ℕ} {t : List ℕ} {n : ℤ} {c : Ctx} {i j : ℕ} {w : List ℕ} → Folded t n c i j w → Read t room (b-l-folded n c) i j
+pub folded_made : {room : ℕ} {t : List ℕ} {n : ℤ} {c : Ctx} {i j : ℕ} {w : List ℕ} → FoldedBreak t n c i j w → Read t room (b-l-folded n c) i j
 unfolding rule kind
 folded_made {room = room} (trimmed {h = h} {k = k} {x = y} b e r) =
     by_rule refl (in_left (by_rule refl (one_then (non_content_made b) (at_least_one (empty_made h k y e) (many_made empty_made r)))))

@@ -9,10 +9,10 @@ use Rattle.yf_lines.specs.Basic.{is_block, Spaces, Indent}
 use Rattle.yf_lines.specs.Basic.Indent.{exactly}
 use Rattle.yf_comments.specs.Comments.{Separate, LineEnd}
 use Rattle.yf_props.specs.Names.{Properties}
-use Rattle.yf_grammar.specs.BlockScalar.{BlockScalar}
-use Rattle.yf_grammar.specs.Grammar.{ColonLine, least_column}
-use Rattle.yf_grammar.specs.Grammar.Production.{FlowNode, KeyOf, BlockNode, BlockEntries, BlockEntry, BlockIndented, BlockValue}
-use Rattle.yf_grammar.specs.Grammar.Derives.{a_block_scalar, a_block_scalar_with, a_block_collection, a_block_collection_with, flow_in_block, a_last_entry, an_entry_before, a_dash_entry, an_explicit_entry_with, an_explicit_key_alone, a_keyed_entry, an_unkeyed_entry, a_block_value, an_empty_block_value, a_compact_collection, an_indented_node, nothing_indented}
+use Rattle.yf_grammar.specs.Productions.BlockScalar.{BlockScalar}
+use Rattle.yf_grammar.specs.Productions.Grammar.{ColonLine, least_column}
+use Rattle.yf_grammar.specs.Productions.Grammar.Production.{FlowNode, KeyOf, BlockNode, BlockEntries, BlockEntry, BlockIndented, BlockValue}
+use Rattle.yf_grammar.specs.Productions.Grammar.Derives.{a_block_scalar, a_block_scalar_with, a_block_collection, a_block_collection_with, flow_in_block, a_last_entry, an_entry_before, a_dash_entry, an_explicit_entry_with, an_explicit_key_alone, a_keyed_entry, an_unkeyed_entry, a_block_value, an_empty_block_value, a_compact_collection, an_indented_node, nothing_indented}
 use Rattle.yf_standard.specs.Characters.{ns-char, c-sequence-entry, c-mapping-key}
 use Rattle.yf_standard.specs.Productions.{plus}
 use Rattle.yf_standard.specs.Rules.{ValueLine}
@@ -141,7 +141,7 @@ colon_read t room n i j d = λ m e. go m e d.1.0 d.1.1 where
         record {
           indent = subst (λ z. Spaces t i z) same sp;
           colon = sym (ap (code t) at) ∙ r.1.0.0;
-          behind = sym (ap (λ z. is_white_or_end (code t z)) next) ∙ r.1.1.1.0.0;
+          follows = sym (ap (λ z. is_white_or_end (code t z)) next) ∙ r.1.1.1.0.0;
         },
         subst (λ z. SomeNode t room (BlockIndented m BlockOut) z j) f (r.1.1.1.1 m e),
       )
@@ -155,7 +155,7 @@ explicit_entry_read t room n i j d = λ m e. go m e (d.1.0 m e) d.1.1 where
   go m e q (inr a) =
       let same : d.0 ≡ j = a.1.0.1 ∙ a.1.1 in
       subst (λ z. SomeNode t room (BlockEntry false m) i z) same
-      (let x = q.1.1 in node_is (an_explicit_key_alone q.0 q.1.0 x.node (λ l. a.1.0.0 (record { m = m; column = e; indent = l.indent; colon = l.colon; behind = l.behind }))) x.fits)
+      (let x = q.1.1 in node_is (an_explicit_key_alone q.0 q.1.0 x.node (λ l. a.1.0.0 (record { m = m; column = e; indent = l.indent; colon = l.colon; follows = l.follows }))) x.fits)
 
 -- [192]
 pub implicit_entry_read : (t : List ℕ) (room : ℕ) (n : ℤ) (i j : ℕ)

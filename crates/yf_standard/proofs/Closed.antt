@@ -21,15 +21,15 @@ use Rattle.yf_standard.specs.Notation.Form.{ns-uri-char, ns-tag-char, c-tag-hand
 use Rattle.yf_standard.proofs.Reading.{Star}
 use Rattle.yf_standard.proofs.Basics.{CharOf, char_is}
 use Rattle.yf_standard.proofs.Properties.{uri_signs, uri_read, tag_char_read, handle_read, verbatim_read, tag_read, name_read, anchor_read, alias_read, properties_read}
-use Rattle.yf_grammar.specs.Grammar.Production.{ValueOf}
-use Rattle.yf_grammar.specs.Grammar.Derives.{a_single, a_double}
-use Rattle.yf_grammar.specs.BlockScalar.{BlockScalar}
-use Rattle.yf_grammar.specs.Grammar.Production.{BlockNode}
+use Rattle.yf_grammar.specs.Productions.Grammar.Production.{ValueOf}
+use Rattle.yf_grammar.specs.Productions.Grammar.Derives.{a_single, a_double}
+use Rattle.yf_grammar.specs.Productions.BlockScalar.{BlockScalar}
+use Rattle.yf_grammar.specs.Productions.Grammar.Production.{BlockNode}
 use Rattle.yf_standard.proofs.Blocks.{column_read, dash_read, explicit_entry_read, implicit_entry_read, indented_read, compact_read, question_read, colon_read, value_read, flow_in_block_read, block_scalar_read, collection_read, seq_space_out_read, dash_sign, question_sign, either_key, either_scalar, either_column}
 use Rattle.yf_standard.proofs.Flows.{SomeNode, node_is, brackets_read, entries_read, map_entry_read, pair_read, explicit_read, key_entry_read, separate_value_read, adjacent_value_read, keyed_pair_read, key_read, yaml_node_read, json_node_read, flow_node_read, sequence_read, mapping_read, entries_signs, seq_entry_read, marked_signs, empty_key_read, colon_sign, unkeyed_read}
 use Rattle.yf_standard.proofs.Basics.{star_chain, SomeOf, break_read, indent_none, indent_more, less_none, less_more, separate_in_line_read, flow_prefix_read, empty_read, trimmed_read, folded_read, flow_folded_read, comment_read, b_comment_read, rest_read, l_comment_read, comments_read, separate_lines_read}
 use Rattle.std.proofs.Common.{true≢false, ap, ◌+◌, ◌∙◌}
-use Rattle.yf_lines.specs.Basic.{Clear, Forbidden}
+use Rattle.yf_lines.specs.Basic.{Clear, ForbiddenLine}
 use Rattle.yf_lines.proofs.BasicLemmas.{clear_front, clear_back}
 use Rattle.yf_block_scalar.specs.Header.{Style}
 use Rattle.yf_block_scalar.specs.Header.Style.{literal_sign, folded_sign}
@@ -49,7 +49,7 @@ use Rattle.yf_standard.proofs.ScalarsWhole.{HeaderPart, scalar_read}
 use Rattle.yf_standard.proofs.DirectivesRead.{directive_read}
 use Rattle.yf_standard.proofs.PartsRead.{star_map, forbidden_read, names_read, version_read, parameter_read, reserved_directive_read, yaml_directive_read, tag_directive_read, local_prefix_read, global_prefix_read, double_escaped_read, prefix_read, Three, three_read, suffix_read, round_read}
 use Rattle.yf_standard.proofs.StreamsRead.{SomeRoot, SomeExplicit, Suffix, Any, Round, directives_read, explicit_node_read, stream_read}
-use Rattle.yf_standard.proofs.Standing.{Stands}
+use Rattle.yf_standard.proofs.Standing.{StandsFor}
 
 is_collection : Kind → Bool
 is_collection OPERATOR = false
@@ -107,8 +107,8 @@ stream_of : (t : List ℕ) → IsUtf8 t → (e i j : ℕ) → i ≡ 0 → j ≡ 
 stream_of t u e i j p q d =
     stream_read t e u j q (d.0, (subst (λ w. Star (SomeOf (Prefixes t)) w d.0) p d.1.0, (d.1.1.0, (d.1.1.1.0, star_map {R = RoundForm t e} {S = Round t e} (round_read t e) d.1.1.1.1))))
 
-closed_by : (t : List ℕ) (s : Bool) (z : Zone t s) (e : ℕ) (f : Form) → kind f ≡ PRODUCTION → (i j : ℕ) → z.low ≤ i → j ≤ z.high → FormRead t (read t) (Stands t z.low s) e (rule f) i j → Stands t z.low s e f i j
-unfolding Stands rule read kind uri_signs c-anchor c-alias c-tag c-directive c-escape c-double-quote c-single-quote
+closed_by : (t : List ℕ) (s : Bool) (z : Zone t s) (e : ℕ) (f : Form) → kind f ≡ PRODUCTION → (i j : ℕ) → z.low ≤ i → j ≤ z.high → FormRead t (read t) (StandsFor t z.low s) e (rule f) i j → StandsFor t z.low s e f i j
+unfolding StandsFor rule read kind uri_signs c-anchor c-alias c-tag c-directive c-escape c-double-quote c-single-quote
 closed_by t s z e b-break q i j a b d = break_read d
 closed_by t s z e b-as-line-feed q i j a b d = d
 closed_by t s z e b-non-content q i j a b d = d
@@ -265,9 +265,9 @@ closed_by t s z e ns-yaml-directive q i j a b d = yaml_directive_read t i j d
 closed_by t s z e ns-tag-directive q i j a b d = tag_directive_read t i j d
 closed_by t s z e ns-reserved-directive q i j a b d = reserved_directive_read t i j d
 closed_by t s z e l-directive q i j a b d = directive_read z.utf i j (d.0, (char_is t i d.0 37 (omega arith) d.1.0, d.1.1))
-closed_by t s z e ns-esc-8-bit q i j a b d = hex_of_read t (read t) (Stands t z.low s) e 120 2 i j (omega arith) d
-closed_by t s z e ns-esc-16-bit q i j a b d = hex_of_read t (read t) (Stands t z.low s) e 117 4 i j (omega arith) d
-closed_by t s z e ns-esc-32-bit q i j a b d = hex_of_read t (read t) (Stands t z.low s) e 85 8 i j (omega arith) d
+closed_by t s z e ns-esc-8-bit q i j a b d = hex_of_read t (read t) (StandsFor t z.low s) e 120 2 i j (omega arith) d
+closed_by t s z e ns-esc-16-bit q i j a b d = hex_of_read t (read t) (StandsFor t z.low s) e 117 4 i j (omega arith) d
+closed_by t s z e ns-esc-32-bit q i j a b d = hex_of_read t (read t) (StandsFor t z.low s) e 85 8 i j (omega arith) d
 closed_by t s z e c-ns-esc-char q i j a b d = escape_read t i j (d.0, (char_is t i d.0 92 (omega arith) d.1.0, d.1.1))
 closed_by t s z e nb-double-char q i j a b d = double_char_read t i j d
 closed_by t s z e ns-double-char q i j a b d = d
@@ -361,8 +361,8 @@ closed_by t true z e (ns-l-compact-mapping n) q i j a b d = no_opening q
 closed_by t s z e f q i j a b d = tt
 
 -- a collection, of what needs less room
-opened_by : (t : List ℕ) (s : Bool) (z : Zone t s) (d e : ℕ) (f : Form) (i j : ℕ) → kind f ≡ COLLECTION → d < e → FormRead t (read t) (Stands t z.low s) d (rule f) i j → Stands t z.low s e f i j
-unfolding Stands rule read kind is_collection
+opened_by : (t : List ℕ) (s : Bool) (z : Zone t s) (d e : ℕ) (f : Form) (i j : ℕ) → kind f ≡ COLLECTION → d < e → FormRead t (read t) (StandsFor t z.low s) d (rule f) i j → StandsFor t z.low s e f i j
+unfolding StandsFor rule read kind is_collection
 opened_by t true z d e (c-flow-sequence n c) i j q w r = λ b. brackets_read t e d true n c i j w b (sequence_read t d n c i j r)
 opened_by t true z d e (c-flow-mapping n c) i j q w r = λ b. brackets_read t e d false n c i j w b (mapping_read t d n c i j r)
 opened_by t true z d e (ns-flow-pair n c) i j q w (inl r) = λ b. (d, (w, pair_read t d n c i j b (inl (marked_signs t d n c i j r))))
@@ -380,7 +380,7 @@ opened_by t false z d e (ns-l-compact-sequence n) i j q w r = tt
 opened_by t false z d e (ns-l-compact-mapping n) i j q w r = tt
 opened_by t s z d e f i j q w r = not_opening refl q
 
-pub closed : (t : List ℕ) (s : Bool) (z : Zone t s) → Closed t (read t) z.low z.high (Stands t z.low s)
+pub closed : (t : List ℕ) (s : Bool) (z : Zone t s) → Closed t (read t) z.low z.high (StandsFor t z.low s)
 closed t s z = record {
   by = λ e f i j q a b d. closed_by t s z e f q i j a b d;
   by_open = λ d e f i j q w r. opened_by t s z d e f i j q w r;
@@ -388,7 +388,7 @@ closed t s z = record {
 
 -- a document's node
 pub root_known : (t : List ℕ) → IsUtf8 t → (e i j : ℕ) → Derived (read t) t e (s-l+block-node (negsuc 0) BlockIn) i j → Clear t i j → SomeRoot t e i j
-unfolding Stands
+unfolding StandsFor
 root_known t u e i j d w =
     let z : Zone t true = record { utf = u; low = i; high = j; clear = λ q. w; root = λ q. absurd (true≢false q) } in
     let r : SomeNode t e (BlockNode (negsuc 0) BlockIn) i j = known (closed t true z) (omega arith) (omega arith) d refl in
@@ -396,14 +396,14 @@ root_known t u e i j d w =
 
 -- all of a text
 pub stream_known : (t : List ℕ) → IsUtf8 t → (e : ℕ) → Derived (read t) t e l-yaml-stream 0 (length t) → (h : ℕ) × ((x : Documents) × (Stream t h x × (h ≤ e)))
-unfolding Stands
+unfolding StandsFor
 stream_known t u e d =
     let z : Zone t false = record { utf = u; low = 0; high = length t; clear = λ q. absurd (true≢false (sym q)); root = λ q. root_known t u } in
     known (closed t false z) (omega arith) (omega arith) d refl refl
 
 -- [206]
-pub forbidden_known : (t : List ℕ) → IsUtf8 t → (e i j : ℕ) → Derived (read t) t e c-forbidden i j → Forbidden t i
-unfolding Stands
+pub forbidden_known : (t : List ℕ) → IsUtf8 t → (e i j : ℕ) → Derived (read t) t e c-forbidden i j → ForbiddenLine t i
+unfolding StandsFor
 forbidden_known t u e i j d =
     let z : Zone t false = record { utf = u; low = 0; high = j; clear = λ q. absurd (true≢false (sym q)); root = λ q. root_known t u } in
     known (closed t false z) (omega arith) (omega arith) d

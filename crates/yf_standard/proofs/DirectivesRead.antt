@@ -29,8 +29,8 @@ use Rattle.yf_chars.proofs.TextLemmas.{next_ascii}
 use Rattle.yf_lines.proofs.BasicLemmas.{ends_by_white}
 use Rattle.yf_props.proofs.NameLemmas.{run_of}
 use Rattle.yf_block_scalar.proofs.HeaderLemmas.{rest_stop}
-use Rattle.yf_grammar.proofs.BlankRuns.{Behind, behind_byte, no_start_behind}
-use Rattle.yf_stream.proofs.OneDirective.{run_behind, digit_ns}
+use Rattle.yf_grammar.proofs.Ends.BlankRuns.{ContentBefore, after_byte, no_start_past}
+use Rattle.yf_stream.proofs.Uniqueness.OneDirective.{run_after, digit_ns}
 
 -- one character or more of a class
 abbrev pub SomeChars : List ℕ → (ℕ → Bool) → ℕ → ℕ → Type 0
@@ -113,15 +113,15 @@ ns_step t i h k c q e l n r =
     (code t i ∷ r.0, step (one (ap is_ns_char e ∙ n)) (subst (λ z. Many t is_ns_char z k r.0) (sym x) r.1))
 
 module _ {t : List ℕ} (u : IsUtf8 t) where
-  separate_stop : {i j : ℕ} → Behind t i → SeparateInLine t i j → is_white_or_end (code t i) ≡ true
+  separate_stop : {i j : ℕ} → ContentBefore t i → SeparateInLine t i j → is_white_or_end (code t i) ≡ true
   separate_stop {i} b (by_whites m l) = ends_by_white (code t i) (some_first m l)
-  separate_stop b (at_start s) = absurd (no_start_behind u b s)
+  separate_stop b (at_start s) = absurd (no_start_past u b s)
 
-  line_stop : {i j : ℕ} {w : List CommentValue} → Behind t i → LineEnd t i j w → is_white_or_end (code t i) ≡ true
-  line_stop b (past_rest r c) = rest_stop (λ s. no_start_behind u b s) r
-  line_stop b (from_start s c) = absurd (no_start_behind u b s)
+  line_stop : {i j : ℕ} {w : List CommentValue} → ContentBefore t i → LineEnd t i j w → is_white_or_end (code t i) ≡ true
+  line_stop b (past_rest r c) = rest_stop (λ s. no_start_past u b s) r
+  line_stop b (from_start s c) = absurd (no_start_past u b s)
 
-  words_stop : {i k j : ℕ} {w : List CommentValue} → Behind t i → Star (Word t) i k → LineEnd t k j w → is_white_or_end (code t i) ≡ true
+  words_stop : {i k j : ℕ} {w : List CommentValue} → ContentBefore t i → Star (Word t) i k → LineEnd t k j w → is_white_or_end (code t i) ≡ true
   words_stop b none l = line_stop b l
   words_stop b (more d r) l = separate_stop b d.1.0
 
@@ -131,7 +131,7 @@ module _ {t : List ℕ} (u : IsUtf8 t) where
   words_read : {i k j : ℕ} {w : List CommentValue} → Star (Word t) i k → LineEnd t k j w → SomeOf (Chain (ReservedParameter t)) i k
   words_read none l = ([], done)
   words_read (more {k = h} d r) l =
-      let b : Behind t h = run_behind u (λ c e. e) d.1.1.1.1.0 d.1.1.1.1.1 in
+      let b : ContentBefore t h = run_after u (λ c e. e) d.1.1.1.1.0 d.1.1.1.1.1 in
       let rest = words_read r l in
       (_, step (reserved_parameter d.1.0 d.1.1.0 (ns_run d.1.1.1 (words_stop b r l))) rest.1)
 
@@ -164,12 +164,12 @@ module _ {t : List ℕ} (u : IsUtf8 t) where
       let two : a + 1 + 1 ≡ a + 2 = omega arith in
       let three : a + 2 + 1 ≡ a + 3 = omega arith in
       let four : a + 3 + 1 ≡ a + 4 = omega arith in
-      let b : Behind t (a + 4) = subst (λ z. Behind t z) four (behind_byte (a + 3) u d.l (omega arith) ns_76) in
+      let b : ContentBefore t (a + 4) = subst (λ z. ContentBefore t z) four (after_byte (a + 3) u d.l (omega arith) ns_76) in
       let s = separate_stop b d.separation in
       let c = ns_step t a (a + 1) (a + 4) 89 refl d.y (omega arith) ns_89 (ns_step t (a + 1) (a + 2) (a + 4) 65 two d.a (omega arith) ns_65 (ns_step t (a + 2) (a + 3) (a + 4) 77 three d.m (omega arith) ns_77
       (ns_step t (a + 3) (a + 4) (a + 4) 76 four d.l (omega arith) ns_76 ([], done)))) in
       let m : is_digit (code t d.point) ≡ false = ap is_digit d.dot ∙ no_digit_46 in
-      let f : Behind t l = run_behind u digit_ns d.minor.1.0 d.minor.1.1 in
+      let f : ContentBefore t l = run_after u digit_ns d.minor.1.0 d.minor.1.1 in
       record {
         name = ns_run (c.0, (c.1, omega arith)) s;
         words = (_, version_parameter (yaml_slice t a u d.y d.a d.m d.l) d.separation (digits_run d.major m) d.dot (digits_run d.minor (no_digit (code t l) (line_stop f e))));
@@ -179,7 +179,7 @@ module _ {t : List ℕ} (u : IsUtf8 t) where
   tag_read {a} {l} d =
       let two : a + 1 + 1 ≡ a + 2 = omega arith in
       let three : a + 2 + 1 ≡ a + 3 = omega arith in
-      let b : Behind t (a + 3) = subst (λ z. Behind t z) three (behind_byte (a + 2) u d.g (omega arith) ns_71) in
+      let b : ContentBefore t (a + 3) = subst (λ z. ContentBefore t z) three (after_byte (a + 2) u d.g (omega arith) ns_71) in
       let s = separate_stop b d.separation in
       let c = ns_step t a (a + 1) (a + 3) 84 refl d.t1 (omega arith) ns_84 (ns_step t (a + 1) (a + 2) (a + 3) 65 two d.a (omega arith) ns_65 (ns_step t (a + 2) (a + 3) (a + 3) 71 three d.g (omega arith) ns_71 ([], done))) in
       record {
@@ -189,7 +189,7 @@ module _ {t : List ℕ} (u : IsUtf8 t) where
 
   reserved_read : {a l j : ℕ} {w : List CommentValue} (d : ReservedRead t a l) → LineEnd t l j w → NameRead a d.at l
   reserved_read {a} {l} d e =
-      let b : Behind t d.at = run_behind u (λ c q. q) d.name.1.0 d.name.1.1 in
+      let b : ContentBefore t d.at = run_after u (λ c q. q) d.name.1.0 d.name.1.1 in
       let s = words_stop b d.words e in
       let r = ns_run d.name s in
       record { name = r; words = (_, reserved_parameters (name_yaml r s d.no_yaml) (name_tag r s d.no_tag) (words_read d.words e).1) }

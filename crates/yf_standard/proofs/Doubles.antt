@@ -8,7 +8,7 @@ use Rattle.yf_chars.specs.Text.{code, next}
 use Rattle.yf_chars.specs.Class.{is_nb_json}
 use Rattle.yf_chars.specs.Chain.{Chain}
 use Rattle.yf_chars.specs.Chain.Chain.{done, step}
-use Rattle.yf_chars.specs.Escape.{named, Numbered, is_high, is_low, NoLow, Escape}
+use Rattle.yf_chars.specs.Escape.{named, NumericEscape, is_high, is_low, NoLow, Escape}
 use Rattle.yf_chars.specs.Escape.Escape.{by_letter, by_two, by_four, by_half, by_pair, by_eight}
 use Rattle.yf_quoted.specs.Quoted.{DoubleChar}
 use Rattle.yf_quoted.specs.Quoted.Piece.{good, bad}
@@ -22,9 +22,9 @@ use Rattle.yf_chars.proofs.EscapeLemmas.{not_low, no_name, unnamed_u}
 pub data Lone (t : List ℕ) : ℕ → ℕ → Type 0 where
   lone_char : {i : ℕ} → is_nb_json (code t i) ≡ true → code t i ≢ BACKSLASH → code t i ≢ DOUBLE_QUOTE → Lone t i (next t i)
   lone_letter : {i v : ℕ} → code t i ≡ BACKSLASH → named (code t (i + 1)) ≡ Some v → Lone t i (i + 2)
-  lone_two : {i v : ℕ} → Numbered t i 120 2 v → Lone t i (i + 4)
-  lone_four : {i v : ℕ} → Numbered t i 117 4 v → Lone t i (i + 6)
-  lone_eight : {i v : ℕ} → Numbered t i 85 8 v → Lone t i (i + 10)
+  lone_two : {i v : ℕ} → NumericEscape t i 120 2 v → Lone t i (i + 4)
+  lone_four : {i v : ℕ} → NumericEscape t i 117 4 v → Lone t i (i + 6)
+  lone_eight : {i v : ℕ} → NumericEscape t i 85 8 v → Lone t i (i + 10)
 
 -- whether a number is a character's is known
 scalar_known : (v : ℕ) → IsScalar v ⊎ (IsScalar v → ⊥)
@@ -36,14 +36,14 @@ as_char {t} {i} {j} {v} e = ⊎_elim (λ (s : IsScalar v). (good v ∷ [], escap
 pub no_low_of : {t : List ℕ} {i : ℕ} → (code t i ≡ BACKSLASH → code t (i + 1) ≢ 117) → NoLow t i
 no_low_of f = record { none = λ v n l. f n.backslash n.letter }
 
-pub four_read : {t : List ℕ} {i v : ℕ} → Numbered t i 117 4 v → NoLow t (i + 6) → SomeOf (DoubleChar t) i (i + 6)
+pub four_read : {t : List ℕ} {i v : ℕ} → NumericEscape t i 117 4 v → NoLow t (i + 6) → SomeOf (DoubleChar t) i (i + 6)
 four_read {t} {i} {v} a n = ⊎_elim (λ (h : is_high v ≡ true). as_char (by_half a h n)) (λ (l : is_high v ≡ false). as_char (by_four a l)) (cases_Bool (is_high v))
 
 -- the first half of a pair, or an escape of its own
 abbrev Paired : List ℕ → ℕ → ℕ → ℕ → Type 0
 Paired t i v w = ((is_high v ≡ true) × (is_low w ≡ true)) ⊎ NoLow t (i + 6)
 
-pub pair_known : {t : List ℕ} {i v w : ℕ} → Numbered t i 117 4 v → Numbered t (i + 6) 117 4 w → ((is_high v ≡ true) × (is_low w ≡ true)) ⊎ ((is_high v ≡ false) ⊎ NoLow t (i + 6))
+pub pair_known : {t : List ℕ} {i v w : ℕ} → NumericEscape t i 117 4 v → NumericEscape t (i + 6) 117 4 w → ((is_high v ≡ true) × (is_low w ≡ true)) ⊎ ((is_high v ≡ false) ⊎ NoLow t (i + 6))
 pair_known {t} {i} {v} {w} a b =
     ⊎_elim (λ (h : is_high v ≡ true).
     ⊎_elim (λ (l : is_low w ≡ true). inl (h, l)) (λ (m : is_low w ≡ false). inr (inr (not_low b m))) (cases_Bool (is_low w)))

@@ -9,12 +9,12 @@ use Rattle.yf_lines.specs.Basic.{SeparateInLine, is_block}
 use Rattle.yf_comments.specs.Comments.{Separate}
 use Rattle.yf_plain.specs.Plain.{PlainText}
 use Rattle.yf_props.specs.Names.{Alias, Properties}
-use Rattle.yf_grammar.specs.Meaning.{Meaning}
-use Rattle.yf_grammar.specs.Grammar.{Production, Derives, MaySeparate, MaySeparateInLine, in_flow, characters_between, opening, closing}
-use Rattle.yf_grammar.specs.Grammar.Production.{FlowNode, NodeOf, JsonContent, Entries, Entry, Pair, Explicit, Implicit, ValueOf, KeyOf}
-use Rattle.yf_grammar.specs.Grammar.MaySeparate.{unseparated, separated}
-use Rattle.yf_grammar.specs.Grammar.MaySeparateInLine.{unseparated_in_line, separated_in_line}
-use Rattle.yf_grammar.specs.Grammar.Derives.{flow_node, an_alias, a_plain, a_plain_with, properties_alone, a_json, a_json_with, an_empty_collection, a_collection, last_entry, last_entry_with_comma, more_entries, a_node_entry, a_pair_entry, an_explicit_entry, an_implicit_entry, an_explicit_pair, a_keyed_pair, an_unkeyed_pair, explicit_with, explicit_without, key_alone, key_and_value, value_alone, empty_value, a_value, a_key}
+use Rattle.yf_grammar.specs.Productions.Meaning.{Meaning}
+use Rattle.yf_grammar.specs.Productions.Grammar.{Production, Derives, MaySeparate, MaySeparateInLine, in_flow, characters_between, opening, closing}
+use Rattle.yf_grammar.specs.Productions.Grammar.Production.{FlowNode, NodeOf, JsonContent, Entries, Entry, Pair, Explicit, Implicit, ValueOf, KeyOf}
+use Rattle.yf_grammar.specs.Productions.Grammar.MaySeparate.{unseparated, separated}
+use Rattle.yf_grammar.specs.Productions.Grammar.MaySeparateInLine.{unseparated_in_line, separated_in_line}
+use Rattle.yf_grammar.specs.Productions.Grammar.Derives.{flow_node, an_alias, a_plain, a_plain_with, properties_alone, a_json, a_json_with, an_empty_collection, a_collection, last_entry, last_entry_with_comma, more_entries, a_node_entry, a_pair_entry, an_explicit_entry, an_implicit_entry, an_explicit_pair, a_keyed_pair, an_unkeyed_pair, explicit_with, explicit_without, key_alone, key_and_value, value_alone, empty_value, a_value, a_key}
 use Rattle.yf_standard.specs.Characters.{x, ns-plain-safe, c-mapping-key, c-mapping-value, c-collect-entry, c-sequence-start, c-sequence-end, c-mapping-start, c-mapping-end}
 use Rattle.yf_standard.specs.Productions.{in-flow-context}
 use Rattle.yf_standard.proofs.Basics.{SomeOf, CharOf, char_is}
@@ -84,19 +84,19 @@ entries_read t e s n c i j b d = go d.1.1.1.1 where
   sep : SomeOf (MaySeparate t n c) d.0 k
   sep = may_read t n c d.0 k d.1.1.1.0
 
-  behind_comma : (l m : ℕ) → SignOf t 44 k l → May t n c l m → ((m ≡ j) ⊎ NodeIn t e c (Entries s n c) m j) → SomeNode t e (Entries s n c) i j
-  behind_comma l m o w (inl q) =
+  after_comma : (l m : ℕ) → SignOf t 44 k l → May t n c l m → ((m ≡ j) ⊎ NodeIn t e c (Entries s n c) m j) → SomeNode t e (Entries s n c) i j
+  after_comma l m o w (inl q) =
       let r = may_read t n c l m w in
       let v : MaySeparate t n c (k + 1) j r.0 = subst (λ p. MaySeparate t n c (k + 1) p r.0) q (subst (λ p. MaySeparate t n c p m r.0) (sym o.1) r.1) in
       let x = d.1.0 b in node_is (last_entry_with_comma x.node sep.1 o.0 v) x.fits
-  behind_comma l m o w (inr q) =
+  after_comma l m o w (inr q) =
       let r = may_read t n c l m w in
       let v : MaySeparate t n c (k + 1) m r.0 = subst (λ p. MaySeparate t n c p m r.0) (sym o.1) r.1 in
       let x = d.1.0 b in let y = q b in let f = x.fits in let g = y.fits in node_is (more_entries x.node sep.1 o.0 v y.node) (omega (arith, f, g))
 
   go : ((k ≡ j) ⊎ More t e s n c k j) → SomeNode t e (Entries s n c) i j
   go (inl z) = let x = d.1.0 b in node_is (last_entry x.node (subst (λ p. MaySeparate t n c d.0 p sep.0) z sep.1)) x.fits
-  go (inr r) = behind_comma r.0 r.1.1.0 r.1.0 r.1.1.1.0 r.1.1.1.1
+  go (inr r) = after_comma r.0 r.1.1.0 r.1.0 r.1.1.1.0 r.1.1.1.1
 
 -- [142] and [150]: ? and an explicit entry
 abbrev pub Marked : List ℕ → ℕ → ℤ → Ctx → ℕ → ℕ → Type 0

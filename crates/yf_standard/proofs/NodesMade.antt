@@ -6,12 +6,12 @@ use Rattle.yf_chars.specs.Text.{code}
 use Rattle.yf_chars.specs.Class.{is_plain_safe}
 use Rattle.yf_lines.specs.Basic.{is_block}
 use Rattle.yf_comments.specs.Comment.{CommentValue}
-use Rattle.yf_grammar.specs.Meaning.{Meaning}
-use Rattle.yf_grammar.specs.Grammar.{Production, Derives, MaySeparate, MaySeparateInLine, characters_between, in_flow as flow_within}
-use Rattle.yf_grammar.specs.Grammar.Production.{FlowNode, NodeOf, JsonContent, Entries, Entry, Pair, Explicit, Implicit, ValueOf, KeyOf, BlockNode, BlockEntries, BlockEntry, BlockIndented, BlockValue}
-use Rattle.yf_grammar.specs.Grammar.MaySeparate.{unseparated, separated}
-use Rattle.yf_grammar.specs.Grammar.MaySeparateInLine.{unseparated_in_line, separated_in_line}
-use Rattle.yf_grammar.specs.Grammar.Derives.{a_block_scalar, a_block_scalar_with, a_block_collection, a_block_collection_with, flow_in_block, a_last_entry, an_entry_before, a_dash_entry, an_explicit_entry_with, an_explicit_key_alone, a_keyed_entry, an_unkeyed_entry, a_block_value, an_empty_block_value, a_compact_collection, an_indented_node, nothing_indented, flow_node, an_alias, a_plain, a_plain_with, properties_alone, a_json, a_json_with, a_single, a_double, an_empty_collection, a_collection, last_entry, last_entry_with_comma, more_entries, a_node_entry, a_pair_entry, an_explicit_entry, an_implicit_entry, an_explicit_pair, a_keyed_pair, an_unkeyed_pair, explicit_with, explicit_without, key_alone, key_and_value, value_alone, empty_value, a_value, a_key}
+use Rattle.yf_grammar.specs.Productions.Meaning.{Meaning}
+use Rattle.yf_grammar.specs.Productions.Grammar.{Production, Derives, MaySeparate, MaySeparateInLine, characters_between, in_flow as flow_within}
+use Rattle.yf_grammar.specs.Productions.Grammar.Production.{FlowNode, NodeOf, JsonContent, Entries, Entry, Pair, Explicit, Implicit, ValueOf, KeyOf, BlockNode, BlockEntries, BlockEntry, BlockIndented, BlockValue}
+use Rattle.yf_grammar.specs.Productions.Grammar.MaySeparate.{unseparated, separated}
+use Rattle.yf_grammar.specs.Productions.Grammar.MaySeparateInLine.{unseparated_in_line, separated_in_line}
+use Rattle.yf_grammar.specs.Productions.Grammar.Derives.{a_block_scalar, a_block_scalar_with, a_block_collection, a_block_collection_with, flow_in_block, a_last_entry, an_entry_before, a_dash_entry, an_explicit_entry_with, an_explicit_key_alone, a_keyed_entry, an_unkeyed_entry, a_block_value, an_empty_block_value, a_compact_collection, an_indented_node, nothing_indented, flow_node, an_alias, a_plain, a_plain_with, properties_alone, a_json, a_json_with, a_single, a_double, an_empty_collection, a_collection, last_entry, last_entry_with_comma, more_entries, a_node_entry, a_pair_entry, an_explicit_entry, an_implicit_entry, an_explicit_pair, a_keyed_pair, an_unkeyed_pair, explicit_with, explicit_without, key_alone, key_and_value, value_alone, empty_value, a_value, a_key}
 use Rattle.yf_standard.specs.Characters.{ns-plain-safe, c-mapping-key, c-mapping-value, c-collect-entry, c-sequence-start, c-sequence-end, c-mapping-start, c-mapping-end}
 use Rattle.yf_standard.specs.Notation.{Form}
 use Rattle.yf_standard.specs.Notation.Form.{◌⁇, s-separate, s-separate-in-line, in-flow, ns-s-flow-seq-entries, ns-flow-seq-entry, ns-s-flow-map-entries, ns-flow-map-entry, ns-flow-map-explicit-entry, ns-flow-map-implicit-entry, c-ns-flow-map-separate-value, c-ns-flow-map-adjacent-value, ns-flow-pair, ns-s-implicit-yaml-key, c-s-implicit-json-key, c-flow-json-content, ns-flow-yaml-node, c-flow-json-node, ns-flow-node}
@@ -20,7 +20,7 @@ use Rattle.std.proofs.Common.{◌+ℤ◌, ◌-ℤ◌, ◌≤ℤ◌, nat_abs}
 use Rattle.yf_chars.specs.declared.context.Ctx.TheVariants.{BlockOut, BlockIn, FlowOut, FlowIn, BlockKey}
 use Rattle.yf_lines.specs.Basic.{Spaces}
 use Rattle.yf_chars.specs.Class.{is_white_or_end}
-use Rattle.yf_grammar.specs.Grammar.{ColonLine, least_column}
+use Rattle.yf_grammar.specs.Productions.Grammar.{ColonLine, least_column}
 use Rattle.yf_standard.specs.Characters.{c-sequence-entry}
 use Rattle.yf_standard.specs.Rules.{ValueLine}
 use Rattle.yf_standard.proofs.BasicsMade.{indent_made, comments_made}
@@ -124,7 +124,7 @@ value_line {t = t} {m = m} {i = i} v =
     record {
       indent = subst (λ z. Spaces t i z) e v.indent;
       colon = ap (λ z. code t (i + z)) (sym e) ∙ v.colon;
-      behind = ap (λ z. is_white_or_end (code t (i + z + 1))) (sym e) ∙ v.behind;
+      follows = ap (λ z. is_white_or_end (code t (i + z + 1))) (sym e) ∙ v.follows;
     }
 
 may_made : {room : ℕ} {t : List ℕ} {n : ℤ} {c : Ctx} {i j : ℕ} {cs : List CommentValue} → MaySeparate t n c i j cs → Read t room (s-separate n c ⁇) i j
@@ -230,7 +230,7 @@ module _ (t : List ℕ) where
   made (a_dash_entry {i = i} e f d) {room = room} le = by_rule refl (one_then (one_char t i 45 (omega arith) e) (one_then (where_holds (ns_char_is (code t (i + 1)) ∙ f)) (made d (omega (arith, le)))))
   made (an_explicit_entry_with {m = m} {i = i} {k = k} e w d c r) {room = room} le =
       by_rule refl (in_left (by_rule refl (one_then (by_rule refl (one_then (one_char t i 63 (omega arith) e) (one_then (where_holds w) (made d (omega (arith, le))))))
-      (in_left (by_rule refl (one_then (indent_made t k m c.indent) (one_then (one_char t (k + m) 58 (omega arith) c.colon) (one_then (where_holds c.behind) (made r (omega (arith, le)))))))))))
+      (in_left (by_rule refl (one_then (indent_made t k m c.indent) (one_then (one_char t (k + m) 58 (omega arith) c.colon) (one_then (where_holds c.follows) (made r (omega (arith, le)))))))))))
   made (an_explicit_key_alone {i = i} e w d n) {room = room} le =
       by_rule refl (in_left (by_rule refl (one_then (by_rule refl (one_then (one_char t i 63 (omega arith) e) (one_then (where_holds w) (made d (omega (arith, le))))))
       (in_right (one_then (where_holds (λ v. n (value_line v))) (by_rule refl (by_rule refl nothing)))))))

@@ -7,7 +7,7 @@ use Rattle.yf_chars.specs.Class.{is_ns_char, is_digit, is_white}
 use Rattle.yf_chars.specs.Chain.{Chain}
 use Rattle.yf_chars.specs.Chain.Chain.{done, step}
 use Rattle.yf_chars.specs.Class.{is_white_or_end, is_break_char}
-use Rattle.yf_lines.specs.Basic.{Break, LineStart, SeparateInLine, Empty, FlowPrefix, Forbidden, is_three, is_marker}
+use Rattle.yf_lines.specs.Basic.{Break, LineStart, SeparateInLine, Empty, FlowPrefix, ForbiddenLine, is_three, is_marker}
 use Rattle.std.proofs.Math.Bool.{or-true}
 use Rattle.yf_chars.proofs.TextLemmas.{code-end}
 use Rattle.yf_lines.proofs.BasicLemmas.{ends_by_white, ends_at_end}
@@ -184,7 +184,7 @@ unfolding is_white_or_end
 ends_by_break c e = rw (e, or-true (is_white c)) refl
 
 pub forbidden_read : (t : List ℕ) (i j : ℕ)
-    → (k : ℕ) × ((LineStart t i × (i ≡ k)) × ((m : ℕ) × ((Three t 45 k m ⊎ Three t 46 k m) × (CharOf t b-char m j ⊎ (CharOf t s-white m j ⊎ ((m ≡ length t) × (m ≡ j))))))) → Forbidden t i
+    → (k : ℕ) × ((LineStart t i × (i ≡ k)) × ((m : ℕ) × ((Three t 45 k m ⊎ Three t 46 k m) × (CharOf t b-char m j ⊎ (CharOf t s-white m j ⊎ ((m ≡ length t) × (m ≡ j))))))) → ForbiddenLine t i
 unfolding is_marker
 forbidden_read t i j d = record { start = d.1.0.0; marker = three d.1.1.1.0 } where
   ended : {m : ℕ} → i + 3 ≡ m → CharOf t b-char m j ⊎ (CharOf t s-white m j ⊎ ((m ≡ length t) × (m ≡ j))) → is_white_or_end (code t (i + 3)) ≡ true

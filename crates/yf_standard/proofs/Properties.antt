@@ -8,8 +8,8 @@ use Rattle.yf_chars.specs.Chain.{Chain, Stuck, One, Many}
 use Rattle.yf_chars.specs.Chain.One.{one}
 use Rattle.yf_chars.specs.Chain.Chain.{done, step}
 use Rattle.yf_comments.specs.Comments.{Separate}
-use Rattle.yf_props.specs.Names.{Spelled, AnchorChar, WordChar, UriChar, TagChar, Run, Anchor, Alias, Handle, VerbatimTag, TagProperty, Properties}
-use Rattle.yf_props.specs.Names.Spelled.{as_itself, as_escape}
+use Rattle.yf_props.specs.Names.{SpelledChar, AnchorChar, WordChar, UriChar, TagChar, Run, Anchor, Alias, Handle, VerbatimTag, TagProperty, Properties}
+use Rattle.yf_props.specs.Names.SpelledChar.{as_itself, as_escape}
 use Rattle.yf_props.specs.Names.Anchor.{ampersand_name}
 use Rattle.yf_props.specs.Names.Alias.{asterisk_name}
 use Rattle.yf_props.specs.Names.Handle.{primary_handle, secondary_handle, named_handle}
@@ -72,7 +72,7 @@ hex_below c e = grind (arith, nat_tests)
 
 -- % and two digits
 escape_read : (t : List ℕ) (p : ℕ → Bool) (i j : ℕ)
-    → (g : ℕ) × (SignOf t 37 i g × ((h : ℕ) × (CharOf t ns-hex-digit g h × ((k : ℕ) × (CharOf t ns-hex-digit h k × (k ≡ j)))))) → SomeOf (Spelled t p) i j
+    → (g : ℕ) × (SignOf t 37 i g × ((h : ℕ) × (CharOf t ns-hex-digit g h × ((k : ℕ) × (CharOf t ns-hex-digit h k × (k ≡ j)))))) → SomeOf (SpelledChar t p) i j
 escape_read t p i j d =
     let a : is_hex_digit (code t d.0) ≡ true = sym (hex_digit_is (code t d.0)) ∙ d.1.1.1.0.0 in
     let h : d.1.1.0 ≡ d.0 + 1 = sym d.1.1.1.0.1 ∙ next_ascii t d.0 (hex_below (code t d.0) a) in
@@ -82,7 +82,7 @@ escape_read t p i j d =
     let two : i + 2 ≡ d.1.1.0 = omega (arith, h, d.1.0.1) in
     let second : is_hex_digit (code t (i + 2)) ≡ true = ap (λ z. is_hex_digit (code t z)) two ∙ b in
     let end : i + 3 ≡ j = omega (arith, two, k, d.1.1.1.1.1.1) in
-    subst (λ z. SomeOf (Spelled t p) i z) end (_, as_escape d.1.0.0 first second)
+    subst (λ z. SomeOf (SpelledChar t p) i z) end (_, as_escape d.1.0.0 first second)
 
 pub uri_read : (t : List ℕ) (i j : ℕ)
     → ((g : ℕ) × (SignOf t 37 i g × ((h : ℕ) × (CharOf t ns-hex-digit g h × ((k : ℕ) × (CharOf t ns-hex-digit h k × (k ≡ j)))))))
@@ -99,31 +99,31 @@ uri_read t i j (inr (inr d)) =
 pub tag_char_read : (t : List ℕ) (i j : ℕ) → (SomeOf (UriChar t) i j × (c-tag (code t i) ≡ false)) × (c-flow-indicator (code t i) ≡ false) → SomeOf (TagChar t) i j
 unfolding c-tag x is_tag_char
 tag_char_read t i j d = go d.0.0.1 where
-  go : {j : ℕ} {w : List ℕ} → Spelled t is_uri_char i j w → SomeOf (TagChar t) i j
+  go : {j : ℕ} {w : List ℕ} → SpelledChar t is_uri_char i j w → SomeOf (TagChar t) i j
   go (as_itself e) =
       let f : is_flow_indicator (code t i) ≡ false = sym (flow_indicator_is (code t i)) ∙ d.1 in
       (_, as_itself (rw (e, d.0.1, f) refl))
   go (as_escape a b c) = (_, as_escape a b c)
 
 -- characters of a name, one or more, as far as they go
-spelled_later : {t : List ℕ} {p : ℕ → Bool} {i j : ℕ} {w : List ℕ} → Spelled t p i j w → i < j
+spelled_later : {t : List ℕ} {p : ℕ → Bool} {i j : ℕ} {w : List ℕ} → SpelledChar t p i j w → i < j
 spelled_later {t} (as_itself {i = i} e) = next_later t i
 spelled_later (as_escape a b c) = omega arith
 
-spelled_order : {t : List ℕ} {p : ℕ → Bool} {i j : ℕ} {w : List ℕ} → Chain (Spelled t p) i j w → i ≤ j
+spelled_order : {t : List ℕ} {p : ℕ → Bool} {i j : ℕ} {w : List ℕ} → Chain (SpelledChar t p) i j w → i ≤ j
 spelled_order done = omega arith
 spelled_order (step s c) = let a = spelled_later s in let b = spelled_order c in omega arith
 
-spelled_run : (t : List ℕ) (p : ℕ → Bool) (i k j : ℕ) → SomeOf (Spelled t p) i k → Star (SomeOf (Spelled t p)) k j → Stuck (Spelled t p j) → Run (Spelled t p) i j
+spelled_run : (t : List ℕ) (p : ℕ → Bool) (i k j : ℕ) → SomeOf (SpelledChar t p) i k → Star (SomeOf (SpelledChar t p)) k j → Stuck (SpelledChar t p j) → Run (SpelledChar t p) i j
 spelled_run t p i k j s r n =
-    let c = star_chain {S = Spelled t p} (λ i j s. s) r in
+    let c = star_chain {S = SpelledChar t p} (λ i j s. s) r in
     let a = spelled_later s.1 in
     let b = spelled_order c.1 in
     record { characters = s.0 ++ c.0; chain = step s.1 c.1; some = omega arith; all = n }
 
-no_spelled : (t : List ℕ) (p : ℕ → Bool) (j : ℕ) → p (code t j) ≡ false → code t j ≢ 37 → Stuck (Spelled t p j)
+no_spelled : (t : List ℕ) (p : ℕ → Bool) (j : ℕ) → p (code t j) ≡ false → code t j ≢ 37 → Stuck (SpelledChar t p j)
 no_spelled t p j e n = record { none = λ k y d. no d } where
-  no : {k : ℕ} {y : List ℕ} → Spelled t p j k y → ⊥
+  no : {k : ℕ} {y : List ℕ} → SpelledChar t p j k y → ⊥
   no (as_itself h) = true≢false (sym h ∙ e)
   no (as_escape a b c) = n a
 

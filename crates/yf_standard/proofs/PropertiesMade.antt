@@ -9,7 +9,7 @@ use Rattle.yf_chars.specs.Chain.One.{one}
 use Rattle.yf_chars.specs.Chain.Chain.{done, step}
 use Rattle.yf_props.specs.Props.{TagValue}
 use Rattle.yf_props.specs.Names.{AnchorChar, UriChar, TagChar, Run, Anchor, Alias, Handle, TagPrefix, VerbatimTag, ShorthandTag, TagProperty, PropertiesValue, Properties}
-use Rattle.yf_props.specs.Names.Spelled.{as_itself, as_escape}
+use Rattle.yf_props.specs.Names.SpelledChar.{as_itself, as_escape}
 use Rattle.yf_props.specs.Names.Anchor.{ampersand_name}
 use Rattle.yf_props.specs.Names.Alias.{asterisk_name}
 use Rattle.yf_props.specs.Names.Handle.{primary_handle, secondary_handle, named_handle}

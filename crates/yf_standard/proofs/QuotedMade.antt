@@ -9,7 +9,7 @@ use Rattle.yf_chars.specs.Text.{code}
 use Rattle.yf_chars.specs.Class.{is_white, is_nb_json, is_hex_digit, is_digit, is_between}
 use Rattle.yf_chars.specs.Chain.{Chain}
 use Rattle.yf_chars.specs.Chain.Chain.{done, step}
-use Rattle.yf_chars.specs.Escape.{named, Numbered, Escape}
+use Rattle.yf_chars.specs.Escape.{named, NumericEscape, Escape}
 use Rattle.yf_chars.specs.Escape.Escape.{by_letter, by_two, by_four, by_half, by_pair, by_eight}
 use Rattle.yf_lines.specs.Basic.{FlowFolded}
 use Rattle.yf_quoted.specs.Quoted.{Item, Rest, Inside, SingleChar, as_they_are, SingleQuoted, Piece, goods, DoubleChar, DoubleBreak, DoubleQuoted}
@@ -165,13 +165,13 @@ digits_made {room = room} t i (suc k) f =
     subst (λ z. Read t room (times (suc k) (‹ ns-hex-digit ›)) i z) q (one_then one (digits_made t (i + 1) k later))
 
 -- a letter and digits after a backslash
-numbered_made : {room : ℕ} (t : List ℕ) (i c k v : ℕ) → c < 128 → Numbered t i c k v → Read t room (‹ x c › then times k (‹ ns-hex-digit ›)) (i + 1) (i + 2 + k)
+numbered_made : {room : ℕ} (t : List ℕ) (i c k v : ℕ) → c < 128 → NumericEscape t i c k v → Read t room (‹ x c › then times k (‹ ns-hex-digit ›)) (i + 1) (i + 2 + k)
 numbered_made {room = room} t i c k v l n =
     let two : i + 1 + 1 ≡ i + 2 = omega arith in
     let s : Read t room (‹ x c ›) (i + 1) (i + 2) = subst (λ z. Read t room (‹ x c ›) (i + 1) z) two (one_char t (i + 1) c l n.letter) in
     one_then s (digits_made t (i + 2) k n.digits.each)
 
-four_made : {room : ℕ} {t : List ℕ} {i v : ℕ} → Numbered t i 117 4 v → Read t room nb-double-char i (i + 6)
+four_made : {room : ℕ} {t : List ℕ} {i v : ℕ} → NumericEscape t i 117 4 v → Read t room nb-double-char i (i + 6)
 unfolding rule kind c-escape
 four_made {room = room} {t = t} {i = i} {v = v} n =
     let q : i + 2 + 4 ≡ i + 6 = omega arith in

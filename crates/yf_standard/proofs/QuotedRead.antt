@@ -10,11 +10,11 @@ use Rattle.yf_chars.specs.Class.{is_white, is_nb_json, is_hex_digit, is_digit, i
 use Rattle.yf_chars.specs.Chain.{Chain, Many}
 use Rattle.yf_chars.specs.Chain.Chain.{done, step}
 use Rattle.yf_chars.specs.Chain.One.{one}
-use Rattle.yf_chars.specs.Escape.{named, number, Numbered, is_high, is_low, NoLow}
+use Rattle.yf_chars.specs.Escape.{named, number, NumericEscape, is_high, is_low, NoLow}
 use Rattle.yf_chars.specs.Escape.Escape.{by_letter, by_two, by_four, by_pair, by_eight}
-use Rattle.yf_lines.specs.Basic.{Break, Folded, FlowFolded, Clear, is_flow, is_key}
+use Rattle.yf_lines.specs.Basic.{Break, FoldedBreak, FlowFolded, Clear, is_flow, is_key}
 use Rattle.yf_lines.specs.Basic.SeparateInLine.{by_whites, at_start}
-use Rattle.yf_lines.specs.Basic.Folded.{trimmed, as_space}
+use Rattle.yf_lines.specs.Basic.FoldedBreak.{trimmed, as_space}
 use Rattle.yf_lines.specs.Basic.FlowFolded.{at_break, past_whites}
 use Rattle.yf_quoted.specs.Quoted.{Item, Rest, Inside, SingleChar, as_they_are, SingleQuoted, Piece, goods, DoubleChar, DoubleBreak, DoubleQuoted}
 use Rattle.yf_quoted.specs.Quoted.Item.{set_off}
@@ -176,7 +176,7 @@ pub hex_of_read : (t : List ℕ) (L : Condition → ℕ → Type 0) (K : ℕ →
 hex_of_read t L K e c k i j l d = let a = char_is t i d.0 c l d.1.0 in record { letter = a.0; digits = subst (λ z. Hexes t k z j) (sym a.1) (hexes_read t L K e k d.0 j d.1.1) }
 
 -- [62]
-numbered_of : (t : List ℕ) (i g c k j : ℕ) → SignOf t 92 i g → HexOf t c k g j → (v : ℕ) × (Numbered t i c k v × (i + 2 + k ≡ j))
+numbered_of : (t : List ℕ) (i g c k j : ℕ) → SignOf t 92 i g → HexOf t c k g j → (v : ℕ) × (NumericEscape t i c k v × (i + 2 + k ≡ j))
 numbered_of t i g c k j s h =
     let q : g ≡ i + 1 = sym s.1 in
     let two : g + 1 ≡ i + 2 = omega (arith, q) in
@@ -211,7 +211,7 @@ double_char_read t i j (inr d) =
 pub data LoneItems (t : List ℕ) : ℕ → ℕ → Type 0 where
   no_items : {i j : ℕ} → i ≡ j → LoneItems t i j
   other_item : {i h k j : ℕ} → Star (CharOf t s-white) i h → is_white (code t h) ≡ false → SomeOf (DoubleChar t) h k → NoLow t h → h < k → LoneItems t k j → LoneItems t i j
-  four_item : {i h j v : ℕ} → Star (CharOf t s-white) i h → is_white (code t h) ≡ false → Numbered t h 117 4 v → LoneItems t (h + 6) j → LoneItems t i j
+  four_item : {i h j v : ℕ} → Star (CharOf t s-white) i h → is_white (code t h) ≡ false → NumericEscape t h 117 4 v → LoneItems t (h + 6) j → LoneItems t i j
 
 pub item_of : {t : List ℕ} {i h k j : ℕ} → Star (CharOf t s-white) i h → is_white (code t h) ≡ false → Lone t h k → LoneItems t k j → LoneItems t i j
 item_of {t} {h = h} w v (lone_char a b c) s = other_item w v (_, unescaped a b c) (no_low_of (λ z. absurd (b z))) (next_later t h) s
@@ -265,7 +265,7 @@ module _ {t : List ℕ} where
       ⊎_elim (λ (l : is_high f ≡ false). put_off w v (as_char (by_four a l)) r) (λ (m : NoLow t (g + 6)). put_off w v (four_read a m) r) o)
       (pair_known a b)
 
-  -- the first of them, where no white space stands before it
+  -- the first of them, where no white space is before it
   first_item : {i j : ℕ} {w : List Piece} → Chain (DoubleItem t) i j w → i < j → is_white (code t i) ≡ false → (k : ℕ) × (SomeOf (DoubleChar t) i k × SomeOf (Chain (DoubleItem t)) k j)
   first_item done l n = absurd (omega arith)
   first_item (step {h = k} (set_off done v c) r) l n = (k, ((_, c), (_, r)))
@@ -287,7 +287,7 @@ module _ {t : List ℕ} where
   break_low : {i j : ℕ} → Break t i j → NoLow t i
   break_low b = no_low_of (λ e. absurd (⊎_elim (λ h. absurd (omega arith)) (λ h. absurd (omega arith)) (break_char b)))
 
-  folded_low : {n : ℤ} {c : Ctx} {i j : ℕ} {w : List ℕ} → Folded t n c i j w → NoLow t i
+  folded_low : {n : ℤ} {c : Ctx} {i j : ℕ} {w : List ℕ} → FoldedBreak t n c i j w → NoLow t i
   folded_low (trimmed b e r) = break_low b
   folded_low (as_space b) = break_low b
 

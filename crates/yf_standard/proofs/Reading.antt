@@ -34,7 +34,7 @@ FormRead t L K e (at-most k a) i j = FormRead t L K e a i j × (length (chars (t
 FormRead t L K e (excluding-c-forbidden a) i j = Derived L t e a i j × Clear t i j
 FormRead t L K e f i j = K e f i j
 
--- K holds of what a production derives between two places, where K holds of what stands in it
+-- K holds of what a production derives between two places, where K holds of what is in it
 pub record Closed (t : List ℕ) (L : Condition → ℕ → Type 0) (low high : ℕ) (K : ℕ → Form → ℕ → ℕ → Type 0) : Type 0 where
   pub by : (e : ℕ) (f : Form) (i j : ℕ) → kind f ≡ PRODUCTION → low ≤ i → j ≤ high → FormRead t L K e (rule f) i j → K e f i j
   pub by_open : (d e : ℕ) (f : Form) (i j : ℕ) → kind f ≡ COLLECTION → d < e → FormRead t L K d (rule f) i j → K e f i j

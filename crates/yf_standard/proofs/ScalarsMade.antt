@@ -21,11 +21,11 @@ use Rattle.yf_block_scalar.specs.declared.header.Header.{Header}
 use Rattle.yf_block_scalar.specs.Header.{HeaderValue}
 use Rattle.yf_block_scalar.specs.Header.BlockHeader.{block_header}
 use Rattle.yf_block_scalar.specs.Body.{Body, BodyValue}
-use Rattle.yf_block_scalar.specs.Body.Content.{content}
+use Rattle.yf_block_scalar.specs.Body.LineContent.{content}
 use Rattle.yf_block_scalar.specs.Body.Body.{indicated, detected, without_content as body_without_content}
-use Rattle.yf_grammar.specs.Meaning.{Meaning}
-use Rattle.yf_grammar.specs.BlockScalar.{BlockScalar}
-use Rattle.yf_grammar.specs.BlockScalar.BlockScalar.{block_scalar}
+use Rattle.yf_grammar.specs.Productions.Meaning.{Meaning}
+use Rattle.yf_grammar.specs.Productions.BlockScalar.{BlockScalar}
+use Rattle.yf_grammar.specs.Productions.BlockScalar.BlockScalar.{block_scalar}
 use Rattle.yf_block_scalar.specs.declared.header.Chomp.{Chomp}
 use Rattle.yf_block_scalar.specs.declared.header.Chomp.TheVariants.{Strip, Clip, Keep}
 use Rattle.yf_block_scalar.specs.Header.{Digit, Sign, Indicators, BlockHeader}
@@ -33,8 +33,8 @@ use Rattle.yf_block_scalar.specs.Header.Style.{literal_sign, folded_sign}
 use Rattle.yf_block_scalar.specs.Header.Digit.{digit}
 use Rattle.yf_block_scalar.specs.Header.Sign.{strip_sign, keep_sign}
 use Rattle.yf_block_scalar.specs.Header.Indicators.{neither, digit_alone, sign_alone, digit_sign, sign_digit}
-use Rattle.yf_block_scalar.specs.Body.{base, least, largest, Bare, Ends, Content, Line, Lines, Taken, MarkerLine, Shallow, Trail}
-use Rattle.yf_block_scalar.specs.Body.Bare.{bare}
+use Rattle.yf_block_scalar.specs.Body.{base, least, largest, EmptyLines, Ends, LineContent, Line, Lines, LinesTaken, MarkerLine, Shallow, Trail}
+use Rattle.yf_block_scalar.specs.Body.EmptyLines.{bare}
 use Rattle.yf_block_scalar.specs.Body.Ends.{by_break as ends_by_break, by_text}
 use Rattle.yf_block_scalar.specs.Body.Line.{empty_line, content_line}
 use Rattle.yf_block_scalar.specs.Body.Lines.{no_content, up_to}
@@ -172,12 +172,12 @@ up_to_made {room = room} t i (suc k) (suc m) l s =
     (by_rule refl (in_left (one_then (one_char t i 32 (omega arith) (ap (code t) a ∙ s.each 0 (omega arith))) (up_to_made t (i + 1) k m (omega arith) r))))
 
 -- [166] to [168]
-tail_lines : {t : List ℕ} {room k i j : ℕ} {widths : List ℕ} → Chain (Bare t) i j widths → largest widths ≤ k → Read t room ((s-indent-less-or-equal (pos k) then b-non-content) ⋆) i j
+tail_lines : {t : List ℕ} {room k i j : ℕ} {widths : List ℕ} → Chain (EmptyLines t) i j widths → largest widths ≤ k → Read t room ((s-indent-less-or-equal (pos k) then b-non-content) ⋆) i j
 tail_lines done l = no_more
 tail_lines {t} {room} {k} {i} (step (bare m s) r) l =
     one_more (one_then (up_to_made t i k m (omega (arith, l)) s.spaces) (non_content_made s.ends)) (tail_lines r (omega (arith, l)))
 
-ending_made : {room : ℕ} {t : List ℕ} {k i p j : ℕ} {widths : List ℕ} (c : Chomp) → Chain (Bare t) i p widths → largest widths ≤ k → Stuck (Line t k p)
+ending_made : {room : ℕ} {t : List ℕ} {k i p j : ℕ} {widths : List ℕ} (c : Chomp) → Chain (EmptyLines t) i p widths → largest widths ≤ k → Stuck (Line t k p)
     → Read t room (l-trail-comments (pos k) ∣ ⟨ no-trail (pos k) ⟩) p j → Read t room (l-chomped-empty (pos k) (chomping c)) i j
 unfolding rule kind read
 ending_made {room = room} {t = t} {k = k} {i = i} {p = p} {j = j} c w l n d = go c where
@@ -190,7 +190,7 @@ ending_made {room = room} {t = t} {k = k} {i = i} {p = p} {j = j} c w l n d = go
   go Keep = by_rule refl (by_rule refl (one_then (empties_made (bare_empties k w l)) (one_then (where_holds none) d)))
 
 -- [173] and [182]
-literal_content : {room : ℕ} {t : List ℕ} {k i p j count : ℕ} {ls : List (List ℕ)} {o : Bool} (c : Chomp) → Taken t k i ls o count p
+literal_content : {room : ℕ} {t : List ℕ} {k i p j count : ℕ} {ls : List (List ℕ)} {o : Bool} (c : Chomp) → LinesTaken t k i ls o count p
     → Read t room (l-trail-comments (pos k) ∣ ⟨ no-trail (pos k) ⟩) p j → Read t room (l-literal-content (pos k) (chomping c)) i j
 unfolding rule kind
 literal_content {room = room} {t = t} {k = k} {i = i} {p = p} {j = j} c a d = go a.lines (ending_made c a.tail.lines a.tail.within a.most d) where
@@ -201,7 +201,7 @@ literal_content {room = room} {t = t} {k = k} {i = i} {p = p} {j = j} c a d = go
       let m = texts_made (literal_form t room k) z.1.0 in
       by_rule refl (one_then (present (one_then m.first (one_then m.rest (last_made c z.1.1)))) r)
 
-folded_content : {room : ℕ} {t : List ℕ} {k i p j count : ℕ} {ls : List (List ℕ)} {o : Bool} (c : Chomp) → Taken t k i ls o count p
+folded_content : {room : ℕ} {t : List ℕ} {k i p j count : ℕ} {ls : List (List ℕ)} {o : Bool} (c : Chomp) → LinesTaken t k i ls o count p
     → Read t room (l-trail-comments (pos k) ∣ ⟨ no-trail (pos k) ⟩) p j → Read t room (l-folded-content (pos k) (chomping c)) i j
 unfolding rule kind
 folded_content {room = room} {t = t} {k = k} {i = i} {p = p} {j = j} c a d = go a.lines (ending_made c a.tail.lines a.tail.within a.most d) where
@@ -309,10 +309,10 @@ record Past (t : List ℕ) (n : ℤ) (i : ℕ) : Type 0 where
   bound : ℕ
   none : (k : ℕ) → bound < k → least n ≤ k → Stuck (Line t k i)
 
-no_content_at : {t : List ℕ} {k i j m : ℕ} {w : List ℕ} {o : Bool} → code t (i + m) ≢ 32 → m < k → Content t k i j w o → ⊥
+no_content_at : {t : List ℕ} {k i j m : ℕ} {w : List ℕ} {o : Bool} → code t (i + m) ≢ 32 → m < k → LineContent t k i j w o → ⊥
 no_content_at {m = m} n l (content s d w e q) = n (s.each m l)
 
-bare_only : {t : List ℕ} {n : ℤ} {i k : ℕ} → Shallow t n i → ((j : ℕ) (w : List ℕ) (o : Bool) → Content t k i j w o → ⊥) → Stuck (Line t k i)
+bare_only : {t : List ℕ} {n : ℤ} {i k : ℕ} → Shallow t n i → ((j : ℕ) (w : List ℕ) (o : Bool) → LineContent t k i j w o → ⊥) → Stuck (Line t k i)
 bare_only {t} {n} {i} {k} h f = record { none = λ j w d. no d } where
   no : {j : ℕ} {w : List (List ℕ)} → Line t k i j w → ⊥
   no {j} (empty_line {m = m} s l) = (shallow_stuck h).none j (m ∷ []) (bare m s)
@@ -362,7 +362,7 @@ for_chomp f Clip d = in_right (in_left d)
 for_chomp f Keep d = in_right (in_right d)
 
 record ContentMade (t : List ℕ) (room : ℕ) (f : ℤ → Chomping → Form) : Type 0 where
-  made : {k i p j count : ℕ} {ls : List (List ℕ)} {o : Bool} (c : Chomp) → Taken t k i ls o count p → Read t room (l-trail-comments (pos k) ∣ ⟨ no-trail (pos k) ⟩) p j
+  made : {k i p j count : ℕ} {ls : List (List ℕ)} {o : Bool} (c : Chomp) → LinesTaken t k i ls o count p → Read t room (l-trail-comments (pos k) ∣ ⟨ no-trail (pos k) ⟩) p j
       → Read t room (f (pos k) (chomping c)) i j
 
 whole_made : {room : ℕ} {t : List ℕ} {s : ℕ → Bool} {f : ℤ → Chomping → Form} {n : ℤ} {i a b q j : ℕ} {d : Option ℕ} {c : Chomp} {w : List CommentValue} {v : BodyValue} (h : Header)
@@ -385,7 +385,7 @@ whole_made {room = room} {t = t} {s = s0} {f = f0} {n = n} {a = a} {b = b} {q = 
     let o : largest ws ≤ suc (max (largest ws) (max (least n) y.bound)) = omega arith in
     let stuck = y.none (suc (max (largest ws) (max (least n) y.bound))) u v in
     let none : NoLine t (pos (suc (max (largest ws) (max (least n) y.bound)))) p = record { none = λ k e. subst (λ z. Stuck (Line t z p)) (pos_inj e) stuck } in
-    let taken : Taken t (suc (max (largest ws) (max (least n) y.bound))) q [] false (length ws) p = record { end = q; lines = no_content; tail = record { widths = ws; lines = g; within = o; counts = refl }; most = stuck } in
+    let taken : LinesTaken t (suc (max (largest ws) (max (least n) y.bound))) q [] false (length ws) p = record { end = q; lines = no_content; tail = record { widths = ws; lines = g; within = o; counts = refl }; most = stuck } in
     for_chomp (OneOf s0 f0 n) c (for_some_k (pos (suc (max (largest ws) (max (least n) y.bound)))) (one_then s (one_then (in_right (one_then (header_made i r) (where_holds (without_content g x o v none))))
     (m.made c taken (trail_made (taken_starts (next_starts r) taken) (deeper_trail x v tr))))))
 

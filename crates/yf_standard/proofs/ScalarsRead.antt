@@ -9,10 +9,10 @@ use Rattle.yf_chars.specs.Class.{is_nb_char, is_ns_char, is_white, is_printable,
 use Rattle.yf_chars.specs.Chain.{Chain, Many, Stuck}
 use Rattle.yf_chars.specs.Chain.Chain.{done, step}
 use Rattle.yf_chars.specs.Chain.One.{one}
-use Rattle.yf_lines.specs.Basic.{Break, Spaces, Indent, IndentLess, Empty, Folded}
+use Rattle.yf_lines.specs.Basic.{Break, Spaces, Indent, IndentLess, Empty, FoldedBreak}
 use Rattle.yf_lines.specs.Basic.Indent.{exactly}
 use Rattle.yf_lines.specs.Basic.IndentLess.{fewer}
-use Rattle.yf_lines.specs.Basic.Folded.{trimmed, as_space}
+use Rattle.yf_lines.specs.Basic.FoldedBreak.{trimmed, as_space}
 use Rattle.yf_comments.specs.Comments.{CommentText, BreakOrEnd, LineRest, CommentLine}
 use Rattle.yf_block_scalar.specs.declared.header.Chomp.{Chomp}
 use Rattle.yf_block_scalar.specs.declared.header.Chomp.TheVariants.{Strip, Clip, Keep}
@@ -20,8 +20,8 @@ use Rattle.yf_block_scalar.specs.Header.{Digit, Sign, Indicators}
 use Rattle.yf_block_scalar.specs.Header.Digit.{digit}
 use Rattle.yf_block_scalar.specs.Header.Sign.{strip_sign, keep_sign}
 use Rattle.yf_block_scalar.specs.Header.Indicators.{neither, digit_alone, sign_alone, digit_sign, sign_digit}
-use Rattle.yf_block_scalar.specs.Body.{largest, SpaceLine, Bare, Ends, Line}
-use Rattle.yf_block_scalar.specs.Body.Bare.{bare}
+use Rattle.yf_block_scalar.specs.Body.{largest, SpaceLine, EmptyLines, Ends, Line}
+use Rattle.yf_block_scalar.specs.Body.EmptyLines.{bare}
 use Rattle.yf_block_scalar.specs.Body.Ends.{by_break as ends_by_break, by_text}
 use Rattle.yf_standard.specs.Characters.{x, ◌to◌, s-white, nb-char, ns-char, s-space}
 use Rattle.yf_standard.specs.Notation.{Chomping, Indicator}
@@ -152,14 +152,14 @@ trail_comments_read t n i j d = λ k e. go k e d.1.0 d.1.1.1.0 where
 pub record Ending (t : List ℕ) (k i j : ℕ) : Type 0 where
   pub at : ℕ
   pub widths : List ℕ
-  pub bares : Chain (Bare t) i at widths
+  pub bares : Chain (EmptyLines t) i at widths
   pub within : largest widths ≤ k
   pub most : Stuck (Line t k at)
   pub trail : TrailComments t k at j ⊎ (NoTrail t (pos k) at × (at ≡ j))
 
 pub record Bares (t : List ℕ) (k i j : ℕ) : Type 0 where
   pub widths : List ℕ
-  pub bares : Chain (Bare t) i j widths
+  pub bares : Chain (EmptyLines t) i j widths
   pub within : largest widths ≤ k
 
 no_bares : (t : List ℕ) (k i : ℕ) → Bares t k i i
@@ -255,7 +255,7 @@ spaced_text_read t n i j d = line_text_read t n s-white i j white_is_nb d
 abbrev pub BreakEmpties : List ℕ → ℕ → ℕ → ℕ → Type 0
 BreakEmpties t k i j = (b : ℕ) × (Break t i b × Empties t k b j)
 
-fold_of : {t : List ℕ} {k i j : ℕ} {w : List ℕ} → Folded t (pos k) BlockIn i j w → BreakEmpties t k i j
+fold_of : {t : List ℕ} {k i j : ℕ} {w : List ℕ} → FoldedBreak t (pos k) BlockIn i j w → BreakEmpties t k i j
 fold_of (trimmed {h = h} b e r) = (h, (b, (_, step e r)))
 fold_of {t} {k} {j = j} (as_space b) = (j, (b, no_empties t k j))
 
@@ -266,11 +266,11 @@ joined : {t : List ℕ} {k i c g j : ℕ} → Texts t k i c → BreakEmpties t k
 joined x b y = texts_join x b.1.0 (empties_before b.1.1 y)
 
 pub folded_lines_read : (t : List ℕ) (n : ℤ) (i j : ℕ)
-    → (c : ℕ) × (AtWidth (Texts t) n i c × Star (λ i j. (g : ℕ) × (SomeOf (Folded t n BlockIn) i g × AtWidth (Texts t) n g j)) c j) → AtWidth (Texts t) n i j
+    → (c : ℕ) × (AtWidth (Texts t) n i c × Star (λ i j. (g : ℕ) × (SomeOf (FoldedBreak t n BlockIn) i g × AtWidth (Texts t) n g j)) c j) → AtWidth (Texts t) n i j
 folded_lines_read t n i j d = λ k e. go k e (d.1.0 k e) d.1.1 where
-  go : {c z : ℕ} (k : ℕ) → n ≡ pos k → Texts t k i c → Star (λ i j. (g : ℕ) × (SomeOf (Folded t n BlockIn) i g × AtWidth (Texts t) n g j)) c z → Texts t k i z
+  go : {c z : ℕ} (k : ℕ) → n ≡ pos k → Texts t k i c → Star (λ i j. (g : ℕ) × (SomeOf (FoldedBreak t n BlockIn) i g × AtWidth (Texts t) n g j)) c z → Texts t k i z
   go k e x none = x
-  go {c} k e x (more f r) = go k e (joined x (fold_of (subst (λ z. Folded t z BlockIn c f.0 f.1.0.0) e f.1.0.1)) (f.1.1 k e)) r
+  go {c} k e x (more f r) = go k e (joined x (fold_of (subst (λ z. FoldedBreak t z BlockIn c f.0 f.1.0.0) e f.1.0.1)) (f.1.1 k e)) r
 
 pub spaced_lines_read : (t : List ℕ) (n : ℤ) (i j : ℕ)
     → (c : ℕ) × (AtWidth (Texts t) n i c × Star (λ i j. (g : ℕ) × (AtWidth (BreakEmpties t) n i g × AtWidth (Texts t) n g j)) c j) → AtWidth (Texts t) n i j

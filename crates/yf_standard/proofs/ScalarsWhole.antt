@@ -19,16 +19,16 @@ use Rattle.yf_comments.specs.Comments.CommentLine.{whites_line, comment_line}
 use Rattle.yf_comments.specs.Comments.LineEnd.{past_rest, from_start}
 use Rattle.yf_block_scalar.specs.Header.{Style, Indicators}
 use Rattle.yf_block_scalar.specs.Header.BlockHeader.{block_header}
-use Rattle.yf_block_scalar.specs.Body.{base, least, Bare, Ends, Content, Line, Tail, Taken, Shallow, Trail, Body, BodyValue}
-use Rattle.yf_block_scalar.specs.Body.Bare.{bare}
+use Rattle.yf_block_scalar.specs.Body.{base, least, EmptyLines, Ends, LineContent, Line, Tail, LinesTaken, Shallow, Trail, Body, BodyValue}
+use Rattle.yf_block_scalar.specs.Body.EmptyLines.{bare}
 use Rattle.yf_block_scalar.specs.Body.Ends.{by_break as ends_by_break, by_text}
-use Rattle.yf_block_scalar.specs.Body.Content.{content}
+use Rattle.yf_block_scalar.specs.Body.LineContent.{content}
 use Rattle.yf_block_scalar.specs.Body.Line.{empty_line, content_line}
 use Rattle.yf_block_scalar.specs.Body.Lines.{no_content, up_to}
 use Rattle.yf_block_scalar.specs.Body.Trail.{comments, no_comment}
 use Rattle.yf_block_scalar.specs.Body.Body.{indicated, detected, without_content as body_without_content}
-use Rattle.yf_grammar.specs.BlockScalar.{BlockScalar}
-use Rattle.yf_grammar.specs.BlockScalar.BlockScalar.{block_scalar}
+use Rattle.yf_grammar.specs.Productions.BlockScalar.{BlockScalar}
+use Rattle.yf_grammar.specs.Productions.BlockScalar.BlockScalar.{block_scalar}
 use Rattle.yf_standard.specs.Notation.{Chomping}
 use Rattle.yf_standard.specs.Notation.Indicator.{GIVEN, DETECTED}
 use Rattle.yf_standard.specs.Rules.{NoTrail, NoCommentLine, AutoDetect}
@@ -45,10 +45,10 @@ use Rattle.yf_lines.proofs.LineLemmas.{break_within}
 use Rattle.yf_comments.proofs.LineEndLemmas.{rest_line, next_starts, line_end_chosen, row_stuck_end}
 use Rattle.yf_block_scalar.proofs.BodyLemmas.{no_nb_end, taken_starts}
 use Rattle.yf_block_scalar.proofs.UniqueLemmas.{taken_unique}
-use Rattle.yf_block.proofs.ScalarLines.{body_between}
+use Rattle.yf_block.proofs.LineSteps.ScalarLines.{body_between}
 
 -- how far parts go
-bares_forward : {t : List ℕ} {i j : ℕ} {w : List ℕ} → Chain (Bare t) i j w → i ≤ j
+bares_forward : {t : List ℕ} {i j : ℕ} {w : List ℕ} → Chain (EmptyLines t) i j w → i ≤ j
 bares_forward done = omega arith
 bares_forward (step (bare m s) r) = let a = break_forward s.ends in let b = bares_forward r in omega (arith, a, b)
 
@@ -113,7 +113,7 @@ pub record LinesRead (t : List ℕ) (k i j : ℕ) (o : Bool) : Type 0 where
   pub before : List (List ℕ)
   pub text : List ℕ
   pub lines : Chain (Line t k) i at before
-  pub last : Content t k at j text o
+  pub last : LineContent t k at j text o
 
 module _ {t : List ℕ} {low high : ℕ} (clear : Clear t low high) where
   no_marker_at : (a : ℕ) → low ≤ a → a < high → LineStart t a → is_marker t a ≡ false
@@ -134,7 +134,7 @@ module _ {t : List ℕ} {low high : ℕ} (clear : Clear t low high) where
       let x = texts_forward r in
       let start : LineStart t a = empties_start s e.1 (omega (arith, d)) in
       let rest = lines_read (λ _. after_break br) (omega (arith, l, c, f, v)) r h w in
-      let line : Content t k a q (slice_range t (a + k) g) false = content p m f (ends_by_break br) (no_marker_at a (omega (arith, l, c)) (omega (arith, f, h, v, x)) start) in
+      let line : LineContent t k a q (slice_range t (a + k) g) false = content p m f (ends_by_break br) (no_marker_at a (omega (arith, l, c)) (omega (arith, f, h, v, x)) start) in
       record { at = rest.at; before = b.0 ++ slice_range t (a + k) g ∷ rest.before; text = rest.text; lines = chain_append b.1 (step (content_line line) rest.lines); last = rest.last }
 
 -- those taken, with their trail
@@ -143,7 +143,7 @@ pub record TakenRead (t : List ℕ) (k i j : ℕ) : Type 0 where
   pub left_open : Bool
   pub count : ℕ
   pub at : ℕ
-  pub taken : Taken t k i lines left_open count at
+  pub taken : LinesTaken t k i lines left_open count at
   pub trail : TrailComments t k at j ⊎ (NoTrail t (pos k) at × (at ≡ j))
 
 taken_read : {t : List ℕ} {low high k i j : ℕ} → Clear t low high → (i < length t → LineStart t i) → low ≤ i → j ≤ high → ContentRead t k i j → TakenRead t k i j
@@ -170,7 +170,7 @@ taken_read {t} {low} {high} {k} {i} {j} w s l h c = go c.lines where
         trail = c.ending.trail;
       }
 
--- whether a comment with fewer than k spaces stands on the line is known
+-- whether a comment with fewer than k spaces is on the line is known
 pub record HashAt (t : List ℕ) (k i : ℕ) : Type 0 where
   pub spaces : ℕ
   pub few : spaces < k
@@ -267,7 +267,7 @@ module _ (t : List ℕ) (u : IsUtf8 t) {low high : ℕ} (clear : Clear t low hig
       record { value = _; body = detected refl d y.taken w.1 }
   plain_body n f c b j s l h (without_content {k = k} {p = p} {widths = ws} g x o v none) r =
       let y = taken_read clear s l h (r k refl) in
-      let mine : Taken t k b [] false (length ws) p = record { end = b; lines = no_content; tail = record { widths = ws; lines = g; within = o; counts = refl }; most = none.none k refl } in
+      let mine : LinesTaken t k b [] false (length ws) p = record { end = b; lines = no_content; tail = record { widths = ws; lines = g; within = o; counts = refl }; most = none.none k refl } in
       let q = (taken_unique y.taken mine).0 in
       let w = trail_of (taken_starts s y.taken) y.trail in
       let z : Trail t k p j w.0 = subst (λ z. Trail t k z j w.0) q w.1 in

@@ -10,7 +10,7 @@ use Rattle.yf_lines.specs.Basic.{SeparateInLine, is_three}
 use Rattle.yf_comments.specs.Comment.{CommentValue}
 use Rattle.yf_comments.specs.Comments.{LineEnd}
 use Rattle.yf_props.specs.Names.{Run}
-use Rattle.yf_grammar.specs.Meaning.{Meaning}
+use Rattle.yf_grammar.specs.Productions.Meaning.{Meaning}
 use Rattle.yf_stream.specs.Stream.{ReservedParameter, Parameters, Directives, DirectiveLines, Document, Documents, RootNode, ExplicitNode, AnyDocument, PrefixPart, Prefixes, Suffixes, StreamRest, Stream}
 use Rattle.yf_stream.specs.Stream.ReservedParameter.{reserved_parameter}
 use Rattle.yf_stream.specs.Stream.Parameters.{version_parameter, tag_parameters, reserved_parameters}
@@ -30,7 +30,7 @@ use Rattle.yf_standard.proofs.Sets.{white_is, break_char_is}
 use Rattle.yf_chars.proofs.TextLemmas.{reads_byte, code_at_boundary}
 use Rattle.std.specs.Str.{IsCharBoundary}
 use Rattle.yf_chars.specs.Text.{no_char}
-use Rattle.yf_lines.specs.Basic.{Forbidden, is_marker}
+use Rattle.yf_lines.specs.Basic.{ForbiddenLine, is_marker}
 use Rattle.std.proofs.Common.{◌||◌, ◌⊎◌, inl, inr}
 use Rattle.yf_standard.specs.Notation.Form.{⟨◌⟩, c-forbidden, ε, ‹◌›, ◌∣◌, ◌⁇, ◌⋆, ◌⁺, ◌∙◌ as ◌then◌, s-separate-in-line, l-comment, l-directive, ns-reserved-directive, ns-directive-parameter, ns-yaml-directive, ns-tag-directive, l-document-prefix, l-document-suffix, l-bare-document, l-explicit-document, l-any-document, l-yaml-stream}
 use Rattle.yf_standard.specs.Productions.{rule}
@@ -205,7 +205,7 @@ module _ (t : List ℕ) (room : ℕ) (u : IsUtf8 t) where
         (or_cases (is_white (code t (i + 3))) (is_break_char (code t (i + 3))) a)
     go (inr a) = (i + 3, in_right (in_right (where_holds (after_three i c l e (eqb-true (code t (i + 3)) no_char a)))))
 
-  pub forbidden_made : (i : ℕ) → Forbidden t i → (j : ℕ) × Read t room c-forbidden i j
+  pub forbidden_made : (i : ℕ) → ForbiddenLine t i → (j : ℕ) × Read t room c-forbidden i j
   unfolding rule kind read is_marker
   forbidden_made i f = go (or_cases (is_three t i 45) (is_three t i 46) p.0) where
     p : ((is_three t i 45 || is_three t i 46) ≡ true) × (is_white_or_end (code t (i + 3)) ≡ true)

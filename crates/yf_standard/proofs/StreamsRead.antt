@@ -12,7 +12,7 @@ use Rattle.yf_lines.specs.Basic.LineStart.{at_text, after_break, after_mark}
 use Rattle.yf_comments.specs.Comment.{CommentValue}
 use Rattle.yf_comments.specs.Comments.{CommentLine, LineEnd, Row}
 use Rattle.yf_comments.specs.Comments.LineEnd.{past_rest, from_start}
-use Rattle.yf_grammar.specs.Meaning.{Meaning}
+use Rattle.yf_grammar.specs.Productions.Meaning.{Meaning}
 use Rattle.yf_stream.specs.Stream.{Directives, DirectiveLines, Document, Documents, RootNode, ContentAt, ExplicitNode, AnyDocument, PrefixPart, Prefixes, Suffixes, StreamRest, Stream}
 use Rattle.yf_stream.specs.Stream.DirectiveLines.{more_directives}
 use Rattle.yf_stream.specs.Stream.ExplicitNode.{marked_node, marked_nothing}
@@ -31,12 +31,12 @@ use Rattle.yf_chars.proofs.TextLemmas.{code-past, next_later, reads_real}
 use Rattle.yf_lines.proofs.BasicLemmas.{clear_back}
 use Rattle.yf_lines.proofs.LineLemmas.{break_within}
 use Rattle.yf_comments.proofs.LineEndLemmas.{rest_next, rows_lines}
-use Rattle.yf_grammar.proofs.BlockEnds.{block_ends}
-use Rattle.yf_grammar.proofs.BlockStarts.{block_starts}
-use Rattle.yf_grammar.proofs.BlockLeading.{shed}
-use Rattle.yf_stream.proofs.BareStarts.{bare_start}
-use Rattle.yf_stream.proofs.RowsKnown.{prefixes_from}
-use Rattle.yf_stream.proofs.StreamPath.{mark_still}
+use Rattle.yf_grammar.proofs.BlockOutcomes.BlockEnds.{block_ends}
+use Rattle.yf_grammar.proofs.BlockOutcomes.BlockStarts.{block_starts}
+use Rattle.yf_grammar.proofs.BlockOutcomes.BlockLeading.{shed}
+use Rattle.yf_stream.proofs.Reader.BareStarts.{bare_start}
+use Rattle.yf_stream.proofs.Existence.RowsKnown.{prefixes_from}
+use Rattle.yf_stream.proofs.Uniqueness.StreamPath.{mark_still}
 
 abbrev pub Begins : List ℕ → ℕ → Type 0
 Begins t i = LineStart t i ⊎ (i ≡ length t)
@@ -130,7 +130,7 @@ rows_forward : {t : List ℕ} {i j : ℕ} {w : List CommentValue} → Chain (Row
 rows_forward done = omega arith
 rows_forward (step a r) = let l = a.later in let b = rows_forward r in omega (arith, l, b)
 
--- N5: comment lines that a bare document begins with stand before it
+-- N5: comment lines that a bare document begins with are before it
 pub bare_read : (t : List ℕ) (e i j : ℕ) → IsUtf8 t → Begins t i → j ≤ length t → SomeRoot t e i j → (k : ℕ) × (SomeOf (Prefixes t) i k × ((p : ℕ) × (ContentAt t k p × SomeRoot t e k j)))
 bare_read t e i j u (inr q) l r = let s = block_starts r.1.1.0.derived in absurd (omega (arith, q, l, s))
 bare_read t e i j u (inl s) l r =

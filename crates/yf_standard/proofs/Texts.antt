@@ -13,10 +13,10 @@ use Rattle.yf_lines.specs.Basic.Indent.{exactly}
 use Rattle.yf_lines.specs.Basic.IndentLess.{fewer}
 use Rattle.yf_lines.specs.Basic.LinePrefix.{in_block, in_flow}
 use Rattle.yf_lines.specs.Basic.Empty.{prefixed, shorter}
-use Rattle.yf_block_scalar.specs.Body.{SpaceLine, Bare, largest, Ends, Content, Line}
-use Rattle.yf_block_scalar.specs.Body.Bare.{bare}
+use Rattle.yf_block_scalar.specs.Body.{SpaceLine, EmptyLines, largest, Ends, LineContent, Line}
+use Rattle.yf_block_scalar.specs.Body.EmptyLines.{bare}
 use Rattle.yf_block_scalar.specs.Body.Ends.{by_break, by_text}
-use Rattle.yf_block_scalar.specs.Body.Content.{content}
+use Rattle.yf_block_scalar.specs.Body.LineContent.{content}
 use Rattle.yf_block_scalar.specs.Body.Line.{empty_line, content_line}
 use Rattle.yf_chars.proofs.ChainLemmas.{chain_append}
 use Rattle.yf_chars.proofs.TextLemmas.{code-past}
@@ -56,7 +56,7 @@ empties_join a b = (a.0 ++ b.0, chain_append a.1 b.1)
 pub no_empties : (t : List ℕ) (k i : ℕ) → Empties t k i i
 no_empties t k i = ([], done)
 
-pub bare_empties : {t : List ℕ} {i j : ℕ} {widths : List ℕ} (k : ℕ) → Chain (Bare t) i j widths → largest widths ≤ k → Empties t k i j
+pub bare_empties : {t : List ℕ} {i j : ℕ} {widths : List ℕ} (k : ℕ) → Chain (EmptyLines t) i j widths → largest widths ≤ k → Empties t k i j
 bare_empties {t} {i} {j} k done l = no_empties t k i
 bare_empties {t} {i} {j} k (step (bare {j = h} m s) r) l =
     let a : m ≤ k = omega (arith, l) in
@@ -84,15 +84,15 @@ no_line_past {t} {k} {i} l (content_line (content s m w e n)) =
     true≢false (sym (some_first m w) ∙ ap is_nb_char q ∙ no_nb_end)
 
 -- lines up to a content line, and the end of that one
-pub lines_texts : {t : List ℕ} {k i h j : ℕ} {ls : List (List ℕ)} {x : List ℕ} {o : Bool} → Chain (Line t k) i h ls → Content t k h j x o → (z : ℕ) × (Texts t k i z × Ends t z j o)
+pub lines_texts : {t : List ℕ} {k i h j : ℕ} {ls : List (List ℕ)} {x : List ℕ} {o : Bool} → Chain (Line t k) i h ls → LineContent t k h j x o → (z : ℕ) × (Texts t k i z × Ends t z j o)
 lines_texts {t} {k} {i} done (content {h = z} s m l w n) = (z, (last_text (no_empties t k i) s m l, w))
 lines_texts {t} {k} {i} (step (empty_line {j = g} {m = d} s l) r) c =
     let a = lines_texts r c in (a.0, (empties_before (empties_first (empty_of t k i d g s l) (no_empties t k g)) a.1.0, a.1.1))
 lines_texts {t} {k} {i} {h} {j} (step (content_line d) r) c = past d r c (lines_texts r c) where
-  never : {g : ℕ} {ks : List (List ℕ)} {x : List ℕ} {o : Bool} → g ≡ length t → Chain (Line t k) g h ks → Content t k h j x o → ⊥
+  never : {g : ℕ} {ks : List (List ℕ)} {x : List ℕ} {o : Bool} → g ≡ length t → Chain (Line t k) g h ks → LineContent t k h j x o → ⊥
   never e done c = no_line_past (omega (arith, e)) (content_line c)
   never e (step l r) c = no_line_past (omega (arith, e)) l
 
-  past : {g : ℕ} {y : List ℕ} {ks : List (List ℕ)} {x : List ℕ} {o q : Bool} → Content t k i g y q → Chain (Line t k) g h ks → Content t k h j x o → (z : ℕ) × (Texts t k g z × Ends t z j o) → (z : ℕ) × (Texts t k i z × Ends t z j o)
+  past : {g : ℕ} {y : List ℕ} {ks : List (List ℕ)} {x : List ℕ} {o q : Bool} → LineContent t k i g y q → Chain (Line t k) g h ks → LineContent t k h j x o → (z : ℕ) × (Texts t k g z × Ends t z j o) → (z : ℕ) × (Texts t k i z × Ends t z j o)
   past (content s m l (by_break b) n) r c a = (a.0, (more_texts (no_empties t k i) s m l b a.1.0, a.1.1))
   past (content s m l (by_text e) n) r c a = absurd (never e r c)

@@ -4,7 +4,7 @@ use Rattle.std.specs.Str.{IsUtf8}
 use Rattle.yf_lines.specs.FaultPlaces.{IsPlaceOf}
 use Rattle.yf_lines.specs.declared.fault.Fault.{Fault}
 use Rattle.yf_lines.specs.declared.fault.Fault.TheVariants.{Memory, Syntax, TooDeep, UnknownHandle, UnknownAlias, RepeatedDirective, BadVersion, EscapeValue}
-use Rattle.yf_lines.specs.declared.place.Place.{Place}
+use Rattle.yf_lines.specs.declared.place.Position.{Position}
 use Rattle.yf_events.specs.declared.lists.Lists.{Lists}
 use Rattle.yf_events.specs.declared.reading.TheConstants.{DEPTH}
 use Rattle.yf_stream.specs.ReadingOf.{ReadingOf}
@@ -20,7 +20,7 @@ BreachesNothing t = (h : ℕ) (x : Documents) → Stream t h x → h ≤ DEPTH �
 
 -- the fault is that of the first breach of documents, at its place
 pub data IsOfFirst (t : List ℕ) (x : Documents) (fault : Fault) : Type 0 where
-  of_first : {b : _} {place : Place} → IsFirst (breaches x.documents) b → IsPlaceOf t b.offset place → fault ≡ fault_of b.kind place → IsOfFirst t x fault
+  of_first : {b : _} {place : Position} → IsFirst (breaches x.documents) b → IsPlaceOf t b.offset place → fault ≡ fault_of b.kind place → IsOfFirst t x fault
 
 -- the first breach of all that the text means is what the fault tells, at its place
 abbrev pub BreachesFirst : List ℕ → Fault → Type 0
@@ -47,17 +47,17 @@ StandardTextsAreRead = (t : List ℕ) → (IsStandardText t → (r : Lists) × R
 
 -- what each fault of the reader of streams tells of a text: that the standard derives no stream; or that it derives one, and what that breaches
 -- first, and where
-abbrev pub Tells : List ℕ → Fault → Type 0
-Tells t Memory = ⊤
-Tells t (Syntax place what) = IsStandardStream t → ⊥
-Tells t (TooDeep place) = IsStandardStream t → ⊥
-Tells t (UnknownHandle place) = BreaksRule t (UnknownHandle place)
-Tells t (UnknownAlias place) = BreaksRule t (UnknownAlias place)
-Tells t (RepeatedDirective place) = BreaksRule t (RepeatedDirective place)
-Tells t (BadVersion place) = BreaksRule t (BadVersion place)
-Tells t (EscapeValue place) = BreaksRule t (EscapeValue place)
-Tells t _ = ⊥
+abbrev pub FaultTells : List ℕ → Fault → Type 0
+FaultTells t Memory = ⊤
+FaultTells t (Syntax place what) = IsStandardStream t → ⊥
+FaultTells t (TooDeep place) = IsStandardStream t → ⊥
+FaultTells t (UnknownHandle place) = BreaksRule t (UnknownHandle place)
+FaultTells t (UnknownAlias place) = BreaksRule t (UnknownAlias place)
+FaultTells t (RepeatedDirective place) = BreaksRule t (RepeatedDirective place)
+FaultTells t (BadVersion place) = BreaksRule t (BadVersion place)
+FaultTells t (EscapeValue place) = BreaksRule t (EscapeValue place)
+FaultTells t _ = ⊥
 
 -- Each fault with which a text may be refused tells that of it.
 abbrev pub FaultsTellOfTheStandard : Type 0
-FaultsTellOfTheStandard = (t : List ℕ) (fault : Fault) → IsUtf8 t → StreamFault t fault → Tells t fault
+FaultsTellOfTheStandard = (t : List ℕ) (fault : Fault) → IsUtf8 t → StreamFault t fault → FaultTells t fault

@@ -1,8 +1,8 @@
--- The laws that tie what is read here to the standard's productions, each with the plain sentence that it stands for.
+-- The laws that tie what is read here to the standard's productions, each with the plain sentence that it says.
 -- `proofs/LawsHold.antt` proves them, and `laws` has them as its contract.
 use Rattle.std.specs.Prelude.{ℕ, ◌≤◌, List, length}
 use Rattle.std.specs.Str.{IsUtf8}
-use Rattle.yf_lines.specs.Basic.{Forbidden}
+use Rattle.yf_lines.specs.Basic.{ForbiddenLine}
 use Rattle.yf_events.specs.declared.lists.Lists.{Lists}
 use Rattle.yf_events.specs.declared.reading.TheConstants.{DEPTH}
 use Rattle.yf_stream.specs.ReadingOf.{ReadingOf}
@@ -40,4 +40,4 @@ ReadTextsAreStandard = (t : List ℕ) (r : Lists) → IsUtf8 t → ReadingOf t r
 
 -- A forbidden line, which a document's node covers none of, is where c-forbidden of the standard is derived.
 abbrev pub ForbiddenLinesAreStandard : Type 0
-ForbiddenLinesAreStandard = (t : List ℕ) (i : ℕ) → IsUtf8 t → (Forbidden t i → (j : ℕ) × Derived (read t) t DEPTH c-forbidden i j) × ((j : ℕ) → Derived (read t) t DEPTH c-forbidden i j → Forbidden t i)
+ForbiddenLinesAreStandard = (t : List ℕ) (i : ℕ) → IsUtf8 t → (ForbiddenLine t i → (j : ℕ) × Derived (read t) t DEPTH c-forbidden i j) × ((j : ℕ) → Derived (read t) t DEPTH c-forbidden i j → ForbiddenLine t i)

@@ -1,4 +1,4 @@
--- What may stand on the right of a production (4.1 of the standard), by the name of a production or made of other forms. ‹ s › is one
+-- What may be on the right of a production (4.1 of the standard), by the name of a production or made of other forms. ‹ s › is one
 -- character of a set, a ∙ b a then b, a ∣ b either, a ⁇ a or nothing, a ⋆ any number of a, a ⁺ one a or more.
 use Rattle.std.specs.Prelude.{ℕ, zero, suc, ◌+◌, ℤ, pos, ◌+ℤ◌, ◌==◌, ◌&&◌}
 use Rattle.yf_chars.specs.declared.context.Ctx.{Ctx}
@@ -25,7 +25,7 @@ pub data Condition : Type 0 where
   lookbehind= : Set → Condition
   -- one break: CR LF is one, and neither of the two is a break alone
   not-before-line-feed : Condition
-  not-behind-carriage-return : Condition
+  not-after-carriage-return : Condition
   -- longest names: no character of the name, of a tag's suffix, follows
   name-ends : Condition
   tag-ends : Condition

@@ -1,12 +1,12 @@
 -- The productions of YAML 1.2.2, chapters 5 to 9, in the standard's order, by its names and numbers. Those that derive one character of a
--- set stand in `Characters`. What is not the standard's own text stands in ⟨ ⟩: a condition with a name, whose meaning is in `Rules`.
+-- set are in `Characters`. What is not the standard's own text is in ⟨ ⟩: a condition with a name, whose meaning is in `Rules`.
 use Rattle.std.specs.Prelude.{zero, suc, ◌+◌, pos, negsuc, ◌-ℤ◌}
 use Rattle.yf_chars.specs.declared.context.Ctx.TheVariants.{BlockOut, BlockIn, FlowOut, FlowIn, BlockKey, FlowKey}
 use Rattle.yf_standard.specs.Characters.{x, ◌∪◌, ◌∖◌, c-sequence-entry, c-mapping-key, c-mapping-value, c-collect-entry, c-sequence-start, c-sequence-end, c-mapping-start, c-mapping-end, c-comment, c-anchor, c-alias, c-tag, c-literal, c-folded, c-single-quote, c-double-quote, c-directive, c-indicator, c-flow-indicator, b-line-feed, b-carriage-return, b-char, nb-char, nb-json, c-byte-order-mark, s-space, s-white, ns-char, ns-dec-digit, ns-hex-digit, ns-word-char, c-escape, ns-esc-null, ns-esc-bell, ns-esc-backspace, ns-esc-horizontal-tab, ns-esc-line-feed, ns-esc-vertical-tab, ns-esc-form-feed, ns-esc-carriage-return, ns-esc-escape, ns-esc-space, ns-esc-double-quote, ns-esc-slash, ns-esc-backslash, ns-esc-next-line, ns-esc-non-breaking-space, ns-esc-line-separator, ns-esc-paragraph-separator, ns-anchor-char, ns-plain-safe}
 use Rattle.yf_standard.specs.Notation.{Form}
 use Rattle.yf_standard.specs.Notation.Chomping.{STRIP, CLIP, KEEP}
 use Rattle.yf_standard.specs.Notation.Indicator.{GIVEN, DETECTED}
-use Rattle.yf_standard.specs.Notation.Condition.{start-of-line, end-of-input, lookahead=, lookahead≠, lookbehind=, not-before-line-feed, not-behind-carriage-return, name-ends, tag-ends, reserved-name, no-line, no-comment-line, no-trail, auto-detect, is-sum, no-value, sign-ends, no-comment}
+use Rattle.yf_standard.specs.Notation.Condition.{start-of-line, end-of-input, lookahead=, lookahead≠, lookbehind=, not-before-line-feed, not-after-carriage-return, name-ends, tag-ends, reserved-name, no-line, no-comment-line, no-trail, auto-detect, is-sum, no-value, sign-ends, no-comment}
 use Rattle.yf_standard.specs.Notation.Form.{ε, never, ‹◌›, ◌∙◌, ◌∣◌, ◌⁇, ◌⋆, ◌⁺, ◌less◌, ⟨◌⟩, some-m, some-k, at-most, excluding-c-forbidden}
 use Rattle.yf_standard.specs.Notation.Form.{b-break, b-as-line-feed, b-non-content, ns-uri-char, ns-tag-char, ns-esc-8-bit, ns-esc-16-bit, ns-esc-32-bit, c-ns-esc-char}
 use Rattle.yf_standard.specs.Notation.Form.{s-indent, s-indent-less-than, s-indent-less-or-equal, s-separate-in-line, s-line-prefix, s-block-line-prefix, s-flow-line-prefix, l-empty, b-l-trimmed, b-as-space, b-l-folded, s-flow-folded, c-nb-comment-text, b-comment, s-b-comment, l-comment, s-l-comments, s-separate, s-separate-lines, l-directive, ns-reserved-directive, ns-directive-name, ns-directive-parameter, ns-yaml-directive, ns-yaml-version, ns-tag-directive, c-tag-handle, c-primary-tag-handle, c-secondary-tag-handle, c-named-tag-handle, ns-tag-prefix, c-ns-local-tag-prefix, ns-global-tag-prefix, c-ns-properties, c-ns-tag-property, c-verbatim-tag, c-ns-shorthand-tag, c-non-specific-tag, c-ns-anchor-property, ns-anchor-name}
@@ -19,7 +19,7 @@ unfoldable pub use Rattle.yf_standard.specs.Notation.{digit-of}
 unfoldable pub rule : Form → Form
 -- 5.4 Line Break Characters
 -- [28]
-rule b-break = ‹ b-carriage-return › ∙ ‹ b-line-feed › ∣ ‹ b-carriage-return › ∙ ⟨ not-before-line-feed ⟩ ∣ ⟨ not-behind-carriage-return ⟩ ∙ ‹ b-line-feed ›
+rule b-break = ‹ b-carriage-return › ∙ ‹ b-line-feed › ∣ ‹ b-carriage-return › ∙ ⟨ not-before-line-feed ⟩ ∣ ⟨ not-after-carriage-return ⟩ ∙ ‹ b-line-feed ›
 -- [29]
 rule b-as-line-feed = b-break
 -- [30]

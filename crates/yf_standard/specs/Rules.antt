@@ -8,17 +8,17 @@ use Rattle.yf_lines.specs.Basic.{LineStart, Spaces}
 use Rattle.yf_comments.specs.Comments.{CommentText, BreakOrEnd, CommentLine}
 use Rattle.yf_comments.specs.Comment.{CommentValue}
 use Rattle.yf_props.specs.Names.{TagChar}
-use Rattle.yf_block_scalar.specs.Body.{base, least, largest, Line, Detected, Bare, Shallow}
+use Rattle.yf_block_scalar.specs.Body.{base, least, largest, Line, DetectedIndent, EmptyLines, Shallow}
 use Rattle.yf_standard.specs.Notation.{Condition}
-use Rattle.yf_standard.specs.Notation.Condition.{start-of-line, end-of-input, lookahead=, lookahead≠, lookbehind=, not-before-line-feed, not-behind-carriage-return, name-ends, tag-ends, reserved-name, no-line, no-comment-line, no-trail, auto-detect, is-sum, no-value, sign-ends, no-comment}
+use Rattle.yf_standard.specs.Notation.Condition.{start-of-line, end-of-input, lookahead=, lookahead≠, lookbehind=, not-before-line-feed, not-after-carriage-return, name-ends, tag-ends, reserved-name, no-line, no-comment-line, no-trail, auto-detect, is-sum, no-value, sign-ends, no-comment}
 
--- a `:` of an explicit entry at n stands on the line that begins at the place
+-- a `:` of an explicit entry at n is on the line that begins at the place
 pub record ValueLine (t : List ℕ) (n : ℤ) (i : ℕ) : Type 0 where
   pub m : ℕ
   pub column : n ≡ pos m
   pub indent : Spaces t i m
   pub colon : code t (i + m) ≡ 58
-  pub behind : is_white_or_end (code t (i + m + 1)) ≡ true
+  pub follows : is_white_or_end (code t (i + m + 1)) ≡ true
 
 -- no further line of a scalar with that indentation
 pub record NoLine (t : List ℕ) (n : ℤ) (i : ℕ) : Type 0 where
@@ -34,8 +34,8 @@ pub record NoTrail (t : List ℕ) (n : ℤ) (i : ℕ) : Type 0 where
 
 -- 8.1.1.1: the lines from the place on are indented by k; where none has content, all lines of spaces alone are empty ones
 pub data AutoDetect (t : List ℕ) (n : ℤ) (i : ℕ) : ℤ → Type 0 where
-  by_first_line : {k : ℕ} → Detected t n i k → AutoDetect t n i (pos k)
-  without_content : {k p : ℕ} {widths : List ℕ} → Chain (Bare t) i p widths → Shallow t n p → largest widths ≤ k → least n ≤ k
+  by_first_line : {k : ℕ} → DetectedIndent t n i k → AutoDetect t n i (pos k)
+  without_content : {k p : ℕ} {widths : List ℕ} → Chain (EmptyLines t) i p widths → Shallow t n p → largest widths ≤ k → least n ≤ k
       → NoLine t (pos k) p → AutoDetect t n i (pos k)
 
 -- does not begin with YAML or TAG and white space
@@ -53,7 +53,7 @@ read t (lookahead= s) i = s (code t i) ≡ true
 read t (lookahead≠ s) i = s (code t i) ≡ false
 read t (lookbehind= s) i = s (before t i) ≡ true
 read t not-before-line-feed i = code t i ≢ 10
-read t not-behind-carriage-return i = code t (i - 1) ≢ 13
+read t not-after-carriage-return i = code t (i - 1) ≢ 13
 read t name-ends i = is_anchor_char (code t i) ≡ false
 read t tag-ends i = Stuck (TagChar t i)
 read t reserved-name i = (is_name_yaml t i ≡ false) × (is_name_tag t i ≡ false)

@@ -10,27 +10,27 @@ use Rattle.yf_props.specs.Handles.SuffixText.{as_decoded, as_written}
 use Rattle.yf_props.specs.Handles.TagText.{non_specific_text, shorthand_text, verbatim_text}
 use Rattle.yf_props.specs.Props.{TagValue}
 use Rattle.yf_props.specs.Props.TagValue.{IsVerbatim, IsShort, IsNonSpecific}
-use Rattle.yf_events.specs.Event.{Placed, stream_ends, stream_starts}
+use Rattle.yf_events.specs.Event.{EventInText, stream_ends, stream_starts}
 use Rattle.yf_events.specs.Tree.{leaves, unplaced}
 use Rattle.yf_events.specs.declared.event.Entry.{Entry}
 use Rattle.yf_events.specs.declared.lists.Lists.{Lists}
-use Rattle.yf_grammar.specs.Meaning.{Meaning, empty_node, noting}
-use Rattle.yf_grammar.specs.Part.{Noting, no_event as none_noted, with_entry, without_entry, floor_behind}
-use Rattle.yf_grammar.proofs.GapLemmas.{end_next}
-use Rattle.yf_stream.proofs.NodeFinish.{LineRows, finish_ends, rows_there}
-use Rattle.yf_grammar.proofs.SinceKnown.{note_since_known}
+use Rattle.yf_grammar.specs.Productions.Meaning.{Meaning, empty_node, noting}
+use Rattle.yf_grammar.specs.Productions.ReadParts.{Noting, no_event as none_noted, with_entry, without_entry, floor_after_event}
+use Rattle.yf_grammar.proofs.Ends.GapLemmas.{end_next}
+use Rattle.yf_stream.proofs.Existence.NodeFinish.{LineRows, finish_ends, rows_there}
+use Rattle.yf_grammar.proofs.Ends.SinceKnown.{note_since_known}
 use Rattle.yf_stream.specs.HasReading.{WellFormedTextsHaveReadings}
 use Rattle.yf_stream.specs.ReadingOf.{DocumentEvents, no_document, one_document, EventTags, no_event, tagged, untagged, NotedComments, no_comment, one_comment, doc_of, floor_at, leaf_lines}
 use Rattle.yf_stream.specs.Stream.{AnyDocument, Document, ExplicitNode, document_of}
 use Rattle.yf_stream.specs.Stream.AnyDocument.{bare_document, directive_document, explicit_document}
 use Rattle.yf_stream.specs.Stream.ExplicitNode.{marked_node, marked_nothing}
 use Rattle.yf_stream.specs.WellFormed.{alias_breaches, alias_of, breach_if, breaches, declarations, directive_breaches, document_breaches, event_breaches, is_unknown, offset_or, props_of, start_or, with_name}
-use Rattle.yf_stream.specs.declared.breaches.Kind.TheVariants.{UnknownHandle}
-use Rattle.yf_stream.proofs.BreachLemmas.{both_empty, some_none}
-use Rattle.yf_stream.proofs.LinesExist.{lines_exist}
-use Rattle.yf_stream.proofs.ReadingTrees.{trees_stand}
-use Rattle.yf_stream.proofs.RowsKnown.{end_known}
-use Rattle.yf_stream.proofs.StreamDocuments.{DocumentsDerived, document_derived, no_documents_derived, stream_derived}
+use Rattle.yf_stream.specs.declared.breaches.BreachKind.TheVariants.{UnknownHandle}
+use Rattle.yf_stream.proofs.Existence.BreachLemmas.{both_empty, some_none}
+use Rattle.yf_stream.proofs.Existence.LinesExist.{lines_exist}
+use Rattle.yf_stream.proofs.Offsets.ReadingTrees.{trees_stand}
+use Rattle.yf_stream.proofs.Existence.RowsKnown.{end_known}
+use Rattle.yf_stream.proofs.Uniqueness.StreamDocuments.{DocumentsDerived, document_derived, no_documents_derived, stream_derived}
 
 -- Resolved tags.
 
@@ -60,12 +60,12 @@ not_breached : (b : Bool) (i : ℕ) → breach_if b UnknownHandle i ≡ [] → b
 not_breached true i e = some_none e
 not_breached false i e = refl
 
-tag_of_event : (ds : List Declaration) (e : Placed) (es : List Placed) (tags : List (Option (List ℕ))) (tag : Option TagValue) → (props_of e.event).tag ≡ tag
+tag_of_event : (ds : List Declaration) (e : EventInText) (es : List EventInText) (tags : List (Option (List ℕ))) (tag : Option TagValue) → (props_of e.event).tag ≡ tag
     → is_unknown ds tag ≡ false → EventTags ds es tags → (all : List (Option (List ℕ))) × EventTags ds (e ∷ es) all
 tag_of_event ds e es tags None is known rest = (None ∷ tags, untagged is rest)
 tag_of_event ds e es tags (Some tag) is known rest = let x = tag_known ds tag known in (Some x.0 ∷ tags, tagged is x.1 rest)
 
-tags_exist : (ds : List Declaration) (names : List (List ℕ)) (es : List Placed) → event_breaches ds names es ≡ [] → (tags : List (Option (List ℕ))) × EventTags ds es tags
+tags_exist : (ds : List Declaration) (names : List (List ℕ)) (es : List EventInText) → event_breaches ds names es ≡ [] → (tags : List (Option (List ℕ))) × EventTags ds es tags
 tags_exist ds names [] e = ([], no_event)
 tags_exist ds names (x ∷ es) e =
     let first = both_empty (breach_if (is_unknown ds (props_of x.event).tag) UnknownHandle (offset_or 0 x.tag_offset)) _ e in
@@ -93,7 +93,7 @@ module _ {t : List ℕ} (u : IsUtf8 t) where
 
 -- The events of documents, with their tags.
 record EventsOf (t : List ℕ) (ds : List Document) : Type 0 where
-  events : List Placed
+  events : List EventInText
   tags : List (Option (List ℕ))
   are : DocumentEvents t ds events tags
 
@@ -111,17 +111,17 @@ module _ {t : List ℕ} (u : IsUtf8 t) where
       record { events = _; tags = _; are = one_document tags.1 finish.line closed.1 rest.are }
 
   -- Notes on blank lines.
-  noting_with : (floor : ℕ) (e : Placed) (es ys : List Placed) (entry : Option Entry) → e.entry ≡ entry → Noting t (floor_behind floor e e.event) es ys
-      → (all : List Placed) × Noting t floor (e ∷ es) all
+  noting_with : (floor : ℕ) (e : EventInText) (es ys : List EventInText) (entry : Option Entry) → e.entry ≡ entry → Noting t (floor_after_event floor e e.event) es ys
+      → (all : List EventInText) × Noting t floor (e ∷ es) all
   noting_with floor e es ys None is rest = (e ∷ ys, without_entry is rest)
   noting_with floor e es ys (Some entry) is rest = let n = note_since_known t floor entry.start u in (_, with_entry entry is n.1 rest)
 
-  pub noting_exists : (floor : ℕ) (es : List Placed) → (ys : List Placed) × Noting t floor es ys
+  pub noting_exists : (floor : ℕ) (es : List EventInText) → (ys : List EventInText) × Noting t floor es ys
   noting_exists floor [] = ([], none_noted)
   noting_exists floor (e ∷ es) =
-      let rest = noting_exists (floor_behind floor e e.event) es in noting_with floor e es rest.0 e.entry refl rest.1
+      let rest = noting_exists (floor_after_event floor e e.event) es in noting_with floor e es rest.0 e.entry refl rest.1
 
-  noted_exist : (es : List Placed) (cs : List CommentValue) → (noted : List CommentValue) × NotedComments t es cs noted
+  noted_exist : (es : List EventInText) (cs : List CommentValue) → (noted : List CommentValue) × NotedComments t es cs noted
   noted_exist es [] = ([], no_comment)
   noted_exist es (c ∷ cs) =
       let rest = noted_exist es cs in

@@ -7,9 +7,9 @@ use Rattle.yf_stream.specs.Laws.{StreamsAreOne, DerivedStreamsAreShapes, Reading
 use Rattle.yf_stream.specs.StreamReader.{NoStream, StreamFault, for_memory, no_stream, too_deep, breached}
 use Rattle.yf_stream.specs.WellFormed.{breaches}
 use Rattle.yf_stream.specs.declared.breaches.Breach.{Breach}
-use Rattle.yf_stream.proofs.OneReading.{one_reading}
-use Rattle.yf_stream.proofs.OneStream.{one_stream}
-use Rattle.yf_stream.proofs.ReadingOrder.{comments_at, comments_in_order}
+use Rattle.yf_stream.proofs.Uniqueness.OneReading.{one_reading}
+use Rattle.yf_stream.proofs.Uniqueness.OneStream.{one_stream}
+use Rattle.yf_stream.proofs.Offsets.ReadingOrder.{comments_at, comments_in_order}
 
 pub streams_are_one : StreamsAreOne
 streams_are_one t h g x y u d v f w = one_stream u d v f w

@@ -1,7 +1,7 @@
--- The laws of where the parts of a reading stand hold.
+-- The laws of where the parts of a reading are hold.
 use Rattle.yf_events.proofs.TreesExist.{trees_well_placed}
-use Rattle.yf_stream.specs.PlaceLaws.{CommentsOfReadingsAscendStrictly, CommentsOfReadingsHaveSigns, ReadingsAreWellPlaced}
-use Rattle.yf_stream.proofs.ReadingOrder.{ascend_strictly, comments_at, reading_ascends}
+use Rattle.yf_stream.proofs.PlaceLaws.{CommentsOfReadingsAscendStrictly, CommentsOfReadingsHaveSigns, ReadingsAreWellPlaced}
+use Rattle.yf_stream.proofs.Offsets.ReadingOrder.{ascend_strictly, comments_at, reading_ascends}
 
 pub comments_of_readings_ascend_strictly : CommentsOfReadingsAscendStrictly
 comments_of_readings_ascend_strictly t r a = ascend_strictly r.comments (reading_ascends a)

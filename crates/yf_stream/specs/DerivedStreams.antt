@@ -7,7 +7,7 @@ use Rattle.yf_grammar.specs.Refusal.{openers}
 use Rattle.yf_stream.specs.Stream.{Documents}
 use Rattle.yf_stream.specs.StreamReader.{NoStream, TheReading}
 use Rattle.yf_stream.specs.WellFormed.{IsFirst, Shapes, breaches}
-use Rattle.yf_stream.specs.WrittenParts.{Written}
+use Rattle.yf_stream.specs.WrittenParts.{PartsOf}
 use Rattle.yf_stream.specs.declared.breaches.Breach.{Breach}
 use Rattle.yf_stream.specs.declared.documents.Parts.{Parts}
 use Rattle.yf_stream.specs.declared.stream.Refusal.{Refusal}
@@ -23,13 +23,13 @@ NotDerived t (Refusals.Breach b) = ⊥
 pub record ShapeRead (t : List ℕ) (p : Parts) : Type 0 where
   pub documents : Documents
   pub shapes : Shapes t documents
-  pub parts : Written t documents p
+  pub parts : PartsOf t documents p
 
 abbrev pub ShapeOr : List ℕ → Parts → Option Refusal → Type 0
 ShapeOr t p o = MatchOption o (ShapeRead t p) (NotDerived t)
 
 -- the first breach of the one shape, between characters
-pub record BreachTold (t : List ℕ) (b : Breach) : Type 0 where
+pub record FirstBreach (t : List ℕ) (b : Breach) : Type 0 where
   pub documents : Documents
   pub shapes : Shapes t documents
   pub first : IsFirst (breaches documents.documents) b
@@ -37,7 +37,7 @@ pub record BreachTold (t : List ℕ) (b : Breach) : Type 0 where
 
 -- why a text is refused
 abbrev pub RefusalDerived : List ℕ → Refusal → Type 0
-RefusalDerived t (Refusals.Breach b) = BreachTold t b
+RefusalDerived t (Refusals.Breach b) = FirstBreach t b
 RefusalDerived t (Refusals.Syntax offset) = NoStream t
 RefusalDerived t (Refusals.TooDeep offset) = NoStream t × (DEPTH < openers t)
 

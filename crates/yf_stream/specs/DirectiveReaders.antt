@@ -9,7 +9,7 @@ use Rattle.yf_props.specs.Names.{Run}
 use Rattle.yf_events.specs.declared.directive.Directive.{Directive}
 use Rattle.yf_stream.specs.Stream.{Directives, Parameters, ReservedParameter}
 
--- the words of a directive with another name than YAML and TAG have been read up to a place, as long as they go, and stand in a list
+-- the words of a directive with another name than YAML and TAG have been read up to a place, as long as they go, and are in a list
 -- after those that it held before
 pub record ReservedRead (t : List ℕ) (i j : ℕ) (a b : List (List ℕ)) : Type 0 where
   pub words : List (List ℕ)
@@ -39,7 +39,7 @@ pub data LongestDirectives (t : List ℕ) : ℕ → ℕ → List Directive → L
   one_directive : {i k j : ℕ} {x : Directives} {ds : List Directive} {cs : List CommentValue} → Chosen (IsDirective t i) k x
       → LongestDirectives t k j ds cs → LongestDirectives t i j (x.directives ++ ds) (x.comments ++ cs)
 
--- directives from a place on have been read up to another, and their comments stand in a list after those that it held before
+-- directives from a place on have been read up to another, and their comments are in a list after those that it held before
 pub record DirectivesUpto (t : List ℕ) (i j : ℕ) (ds : List Directive) (a b : List CommentValue) : Type 0 where
   pub comments : List CommentValue
   pub longest : LongestDirectives t i j ds comments

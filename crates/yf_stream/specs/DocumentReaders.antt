@@ -1,27 +1,27 @@
--- What the readers of a stream answer of what stands between its documents: the marker of a line, the lines before a document, and the
+-- What the readers of a stream answer of what is between its documents: the marker of a line, the lines before a document, and the
 -- line of a `...`.
 use Rattle.std.specs.Prelude.{◌≡◌, ◌≢◌, ℕ, ◌+◌, ◌-◌, ◌<◌, Bool, true, false, not, List, [], ◌∷◌, ◌++◌, Option, Some, None}
 use Rattle.yf_chars.specs.Text.{code, next}
 use Rattle.yf_chars.specs.Chain.{Chain, Chosen, Stuck}
-use Rattle.yf_lines.specs.Basic.{Forbidden}
+use Rattle.yf_lines.specs.Basic.{ForbiddenLine}
 use Rattle.yf_comments.specs.Comment.{CommentValue}
 use Rattle.yf_comments.specs.Comments.{Blank, LineEnd, Row}
 use Rattle.yf_events.specs.declared.directive.Directive.{Directive}
 use Rattle.yf_events.specs.Event.{EventValue, document_starts, document_ends}
 use Rattle.yf_events.specs.Tree.{unplaced}
-use Rattle.yf_grammar.specs.Part.{NotedSince}
+use Rattle.yf_grammar.specs.Productions.ReadParts.{NotedSince}
 use Rattle.yf_stream.specs.declared.documents.Marker.{Marker}
 use Rattle.yf_stream.specs.declared.documents.Marker.TheVariants.{DocumentStart, DocumentEnd}
-use Rattle.yf_stream.specs.declared.documents.Next.{Next}
-use Rattle.yf_stream.specs.declared.documents.Next.TheVariants.{Go, Syntax, TooDeep}
+use Rattle.yf_stream.specs.declared.documents.StreamStep.{StreamStep}
+use Rattle.yf_stream.specs.declared.documents.StreamStep.TheVariants.{Go, Syntax, TooDeep}
 use Rattle.yf_stream.specs.declared.documents.Parts.{Parts}
-use Rattle.yf_stream.specs.declared.documents.Spot.{Spot}
+use Rattle.yf_stream.specs.declared.documents.StreamCursor.{StreamCursor}
 
 -- the marker of the line that begins there; without one, the line is no marker's
 abbrev pub IsMarker : List ℕ → ℕ → Option Marker → Type 0
-IsMarker t i None = Forbidden t i → ⊥
-IsMarker t i (Some DocumentStart) = Forbidden t i × (code t i ≡ 45)
-IsMarker t i (Some DocumentEnd) = Forbidden t i × (code t i ≡ 46)
+IsMarker t i None = ForbiddenLine t i → ⊥
+IsMarker t i (Some DocumentStart) = ForbiddenLine t i × (code t i ≡ 45)
+IsMarker t i (Some DocumentEnd) = ForbiddenLine t i × (code t i ≡ 46)
 
 -- a byte order mark, or what is left of a line
 pub data PrefixRow (t : List ℕ) : ℕ → ℕ → List CommentValue → Type 0 where
@@ -33,22 +33,22 @@ pub record FloorNote (t : List ℕ) (floor at : ℕ) (b : Bool) : Type 0 where
   pub since : (code t at ≡ 10 → code t (at - 1) ≢ 13) → (floor < at → Blank t floor) → NotedSince t floor at b
 
 -- the same comments, but for their notes of blank lines
-pub data Renoted (t : List ℕ) (floor : ℕ) : List CommentValue → List CommentValue → Type 0 where
-  none_renoted : Renoted t floor [] []
-  one_renoted : {c : CommentValue} {cs ns : List CommentValue} (b : Bool) → FloorNote t floor c.offset b → Renoted t floor cs ns
-      → Renoted t floor (c ∷ cs) (record c { blank_before = b } ∷ ns)
+pub data SameButNotes (t : List ℕ) (floor : ℕ) : List CommentValue → List CommentValue → Type 0 where
+  none_renoted : SameButNotes t floor [] []
+  one_renoted : {c : CommentValue} {cs ns : List CommentValue} (b : Bool) → FloorNote t floor c.offset b → SameButNotes t floor cs ns
+      → SameButNotes t floor (c ∷ cs) (record c { blank_before = b } ∷ ns)
 
 -- comments have been added to a list, but for their notes
-pub record Kept (t : List ℕ) (floor : ℕ) (cs a b : List CommentValue) : Type 0 where
+pub record CommentsAdded (t : List ℕ) (floor : ℕ) (cs a b : List CommentValue) : Type 0 where
   pub noted : List CommentValue
-  pub renoted : Renoted t floor cs noted
+  pub renoted : SameButNotes t floor cs noted
   pub list : b ≡ a ++ noted
 
 -- byte order marks and lines have been passed up to a place, and their comments added to a list
 pub record PrefixUpto (t : List ℕ) (floor i j : ℕ) (a b : List CommentValue) : Type 0 where
   pub comments : List CommentValue
   pub rows : Chain (PrefixRow t) i j comments
-  pub kept : Kept t floor comments a b
+  pub kept : CommentsAdded t floor comments a b
 
 -- all of them: neither begins at the place
 pub record PrefixRead (t : List ℕ) (floor i j : ℕ) (a b : List CommentValue) : Type 0 where
@@ -76,7 +76,7 @@ abbrev pub commented : List CommentValue → Parts → Parts
 commented cs p = record p { part = record p.part { comments = p.part.comments ++ cs } }
 
 -- a `...` ends there with the comment lines after it, and a document may begin without a `---`
-pub record SuffixEnds (t : List ℕ) (spot : Spot) (a b : Parts) (after : Spot) : Type 0 where
+pub record SuffixEnds (t : List ℕ) (spot : StreamCursor) (a b : Parts) (after : StreamCursor) : Type 0 where
   pub comments : List CommentValue
   pub line : Chosen (LineEnd t (spot.at + 3)) after.at comments
   pub bare : after.may_be_bare ≡ true
@@ -84,7 +84,7 @@ pub record SuffixEnds (t : List ℕ) (spot : Spot) (a b : Parts) (after : Spot) 
   pub parts : b ≡ commented comments (closed true (not spot.may_be_bare) a)
 
 -- what comes after the three dots at a spot: the next spot, or no line ends there
-abbrev pub SuffixRead : List ℕ → Spot → Parts → Parts → Next → Type 0
+abbrev pub SuffixRead : List ℕ → StreamCursor → Parts → Parts → StreamStep → Type 0
 SuffixRead t spot a b (Go after) = SuffixEnds t spot a b after
 SuffixRead t spot a b (Syntax place) = Stuck (LineEnd t (spot.at + 3))
 SuffixRead t spot a b (TooDeep place) = ⊥

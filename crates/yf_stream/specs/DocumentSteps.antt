@@ -5,34 +5,34 @@ use Rattle.yf_chars.specs.declared.context.Ctx.TheVariants.{BlockIn}
 use Rattle.yf_chars.specs.Text.{code}
 use Rattle.yf_chars.specs.Class.{is_white}
 use Rattle.yf_chars.specs.Chain.{Chosen, Many, Stuck}
-use Rattle.yf_lines.specs.Basic.{Forbidden}
+use Rattle.yf_lines.specs.Basic.{ForbiddenLine}
 use Rattle.yf_comments.specs.Comment.{CommentValue}
 use Rattle.yf_comments.specs.Comments.{LineEnd, Row}
 use Rattle.yf_events.specs.declared.directive.Directive.{Directive}
 use Rattle.yf_events.specs.declared.part.Part.{Part}
 use Rattle.yf_events.specs.declared.reading.TheConstants.{DEPTH}
-use Rattle.yf_grammar.specs.BlockParser.{Awaited, LinesEnd, Nothing, Whole}
-use Rattle.yf_grammar.specs.Parser.{Found}
-use Rattle.yf_grammar.specs.Part.{BlockNodePart}
+use Rattle.yf_grammar.specs.BlockReader.BlockParser.{Awaited, LinesEnd, Nothing, Whole}
+use Rattle.yf_grammar.specs.FlowReader.Parser.{ParsedNode}
+use Rattle.yf_grammar.specs.Productions.ReadParts.{BlockNodePart}
 use Rattle.yf_grammar.specs.Refusal.{openers}
 use Rattle.yf_stream.specs.DirectiveReaders.{DirectivesEnd, DirectivesRead}
 use Rattle.yf_events.specs.Event.{scalar_node}
 use Rattle.yf_events.specs.declared.event.ScalarStyle.TheVariants.{Plain}
 use Rattle.yf_props.specs.Props.{no_props}
 use Rattle.yf_block.specs.BlockTied.{floor_after}
-use Rattle.yf_block.specs.declared.nodes.Found.{Found as FoundNode}
+use Rattle.yf_block.specs.declared.nodes.FoundBlock.{FoundBlock as FoundNode}
 use Rattle.yf_stream.specs.DocumentReaders.{SuffixRead, closed, commented, opened, with_event}
 use Rattle.yf_stream.specs.EmptyDocument.{EmptyEnds}
-use Rattle.yf_stream.specs.declared.documents.Next.{Next}
-use Rattle.yf_stream.specs.declared.documents.Next.TheVariants.{Go, Syntax, TooDeep}
+use Rattle.yf_stream.specs.declared.documents.StreamStep.{StreamStep}
+use Rattle.yf_stream.specs.declared.documents.StreamStep.TheVariants.{Go, Syntax, TooDeep}
 use Rattle.yf_stream.specs.declared.documents.Parts.{Parts}
-use Rattle.yf_stream.specs.declared.documents.Spot.{Spot}
+use Rattle.yf_stream.specs.declared.documents.StreamCursor.{StreamCursor}
 
--- no node of a stream's document stands there: none is derived, none is found, or one after which the stream does not go on
+-- no node of a stream's document is there: none is derived, none is found, or one after which the stream does not go on
 pub data NoNode (t : List ℕ) (at : ℕ) : Type 0 where
   none_derived : Stuck (BlockNodePart t DEPTH (pos 0 -ℤ pos 1) BlockIn at) → NoNode t at
   none_found : Whole t DEPTH (Awaited false (pos 0 -ℤ pos 1) BlockIn Nothing at) None → NoNode t at
-  line_left : {f : Found} → Whole t DEPTH (Awaited false (pos 0 -ℤ pos 1) BlockIn Nothing at) (Some f) → (LinesEnd t f.end → ⊥) → Stuck (Row t f.end) → NoNode t at
+  line_left : {f : ParsedNode} → Whole t DEPTH (Awaited false (pos 0 -ℤ pos 1) BlockIn Nothing at) (Some f) → (LinesEnd t f.end → ⊥) → Stuck (Row t f.end) → NoNode t at
 
 -- a part after what the parts had
 abbrev pub grown : Part → Parts → Parts
@@ -45,7 +45,7 @@ grown part p = record p {
 }
 
 -- a document's node has been read: the longest one there
-pub record NodeEnds (t : List ℕ) (at : ℕ) (a b : Parts) (after : Spot) : Type 0 where
+pub record NodeEnds (t : List ℕ) (at : ℕ) (a b : Parts) (after : StreamCursor) : Type 0 where
   pub part : Part
   pub chosen : Chosen (BlockNodePart t DEPTH (pos 0 -ℤ pos 1) BlockIn at) after.at part
   pub bare : after.may_be_bare ≡ false
@@ -53,13 +53,13 @@ pub record NodeEnds (t : List ℕ) (at : ℕ) (a b : Parts) (after : Spot) : Typ
   pub parts : b ≡ grown part a
 
 -- what is read of a document's node
-pub data RootRead (t : List ℕ) (at : ℕ) (a b : Parts) : Next → Type 0 where
-  root_read : {after : Spot} → NodeEnds t at a b after → RootRead t at a b (Go after)
+pub data RootRead (t : List ℕ) (at : ℕ) (a b : Parts) : StreamStep → Type 0 where
+  root_read : {after : StreamCursor} → NodeEnds t at a b after → RootRead t at a b (Go after)
   no_root : {place : ℕ} → NoNode t at → RootRead t at a b (Syntax place)
   root_too_deep : {place : ℕ} → NoNode t at → DEPTH < openers t → RootRead t at a b (TooDeep place)
 
--- after a `---` the line ends, and after it and its comment lines stands what ends all nodes; or that is not so
-pub record NothingEnds (t : List ℕ) (at : ℕ) (a b : Parts) (after : Spot) : Type 0 where
+-- after a `---` the line ends, and after it and its comment lines is what ends all nodes; or that is not so
+pub record NothingEnds (t : List ℕ) (at : ℕ) (a b : Parts) (after : StreamCursor) : Type 0 where
   pub ends : EmptyEnds t at a b after
   pub last : LinesEnd t after.at
 
@@ -71,41 +71,41 @@ pub record NothingAt (t : List ℕ) (at end : ℕ) (cs : List CommentValue) : Ty
   pub line : Chosen (LineEnd t at) end cs
   pub last : LinesEnd t end
 
-pub record EmptyTo (end : ℕ) (cs : List CommentValue) (a b : Parts) (after : Spot) : Type 0 where
+pub record EmptyTo (end : ℕ) (cs : List CommentValue) (a b : Parts) (after : StreamCursor) : Type 0 where
   pub at : after.at ≡ end
   pub bare : after.may_be_bare ≡ false
   pub floor : after.floor ≡ 0
   pub reached : after.reached ≡ end
   pub parts : b ≡ with_event (commented cs a) (scalar_node no_props Plain [])
 
-abbrev pub EmptyAdded : ℕ → List CommentValue → Parts → Parts → Next → Type 0
+abbrev pub EmptyAdded : ℕ → List CommentValue → Parts → Parts → StreamStep → Type 0
 EmptyAdded end cs a b (Go after) = EmptyTo end cs a b after
 EmptyAdded end cs a b (Syntax place) = ⊥
 EmptyAdded end cs a b (TooDeep place) = ⊥
 
 -- a node was found: the reading goes on after it where nothing went wrong; else it went wrong there, as too deep or not
-pub record FoundTo (f : FoundNode) (after : Spot) : Type 0 where
+pub record FoundTo (f : FoundNode) (after : StreamCursor) : Type 0 where
   pub whole : f.whole ≡ true
   pub at : after.at ≡ f.end
   pub floor : after.floor ≡ f.floor
   pub reached : after.reached ≡ f.reached
   pub bare : after.may_be_bare ≡ false
 
-abbrev pub FoundRead : FoundNode → Next → Type 0
+abbrev pub FoundRead : FoundNode → StreamStep → Type 0
 FoundRead f (Go after) = FoundTo f after
 FoundRead f (Syntax place) = (f.whole ≡ false) × (f.too_deep ≡ false) × (place ≡ f.reached)
 FoundRead f (TooDeep place) = (f.whole ≡ false) × (f.too_deep ≡ true) × (place ≡ f.reached)
 
 -- a document from its `---` on, with these directives
-pub data MarkedRead (t : List ℕ) (at : ℕ) (ds : List Directive) (a b : Parts) : Next → Type 0 where
-  node_read : {after : Spot} → NodeEnds t (at + 3) (opened at true ds a) b after → MarkedRead t at ds a b (Go after)
-  nothing_read : {after : Spot} → NothingEnds t (at + 3) (opened at true ds a) b after → MarkedRead t at ds a b (Go after)
+pub data MarkedRead (t : List ℕ) (at : ℕ) (ds : List Directive) (a b : Parts) : StreamStep → Type 0 where
+  node_read : {after : StreamCursor} → NodeEnds t (at + 3) (opened at true ds a) b after → MarkedRead t at ds a b (Go after)
+  nothing_read : {after : StreamCursor} → NothingEnds t (at + 3) (opened at true ds a) b after → MarkedRead t at ds a b (Go after)
   no_node_read : {place : ℕ} → SomethingBegins t (at + 3) → NoNode t (at + 3) → MarkedRead t at ds a b (Syntax place)
   too_deep_read : {place : ℕ} → SomethingBegins t (at + 3) → NoNode t (at + 3) → DEPTH < openers t → MarkedRead t at ds a b (TooDeep place)
 
 -- a document without `---`, which begins after white space
-pub data BareRead (t : List ℕ) (at : ℕ) (a b : Parts) : Next → Type 0 where
-  bare_read : {start : ℕ} {w : List ℕ} {after : Spot} → Many t is_white at start w → is_white (code t start) ≡ false
+pub data BareRead (t : List ℕ) (at : ℕ) (a b : Parts) : StreamStep → Type 0 where
+  bare_read : {start : ℕ} {w : List ℕ} {after : StreamCursor} → Many t is_white at start w → is_white (code t start) ≡ false
       → NodeEnds t at (opened start false [] a) b after → BareRead t at a b (Go after)
   no_bare_read : {place : ℕ} → NoNode t at → BareRead t at a b (Syntax place)
   too_deep_bare : {place : ℕ} → NoNode t at → DEPTH < openers t → BareRead t at a b (TooDeep place)
@@ -115,13 +115,13 @@ abbrev pub with_comments_read : List CommentValue → Parts → Parts
 with_comments_read cs p = record p { part = record p.part { comments = cs } }
 
 -- what begins at a spot where no comment line and no byte order mark does
-pub data NextRead (t : List ℕ) (spot : Spot) (a b : Parts) : Next → Type 0 where
-  at_dots : {next : Next} → Forbidden t spot.at → code t spot.at ≡ 46 → SuffixRead t spot a b next → NextRead t spot a b next
-  at_dashes : {next : Next} → Forbidden t spot.at → code t spot.at ≡ 45 → MarkedRead t spot.at [] (closed false (not spot.may_be_bare) a) b next → NextRead t spot a b next
-  not_bare : {place : ℕ} → (Forbidden t spot.at → ⊥) → spot.may_be_bare ≡ false → NextRead t spot a b (Syntax place)
-  after_directives : {next : Next} {p : ℕ} {ds : List Directive} {cs : List CommentValue} → spot.may_be_bare ≡ true → code t spot.at ≡ 37
-      → DirectivesRead t spot.at p ds a.part.comments cs → Forbidden t p → code t p ≡ 45 → MarkedRead t p ds (with_comments_read cs a) b next → NextRead t spot a b next
+pub data NextRead (t : List ℕ) (spot : StreamCursor) (a b : Parts) : StreamStep → Type 0 where
+  at_dots : {next : StreamStep} → ForbiddenLine t spot.at → code t spot.at ≡ 46 → SuffixRead t spot a b next → NextRead t spot a b next
+  at_dashes : {next : StreamStep} → ForbiddenLine t spot.at → code t spot.at ≡ 45 → MarkedRead t spot.at [] (closed false (not spot.may_be_bare) a) b next → NextRead t spot a b next
+  not_bare : {place : ℕ} → (ForbiddenLine t spot.at → ⊥) → spot.may_be_bare ≡ false → NextRead t spot a b (Syntax place)
+  after_directives : {next : StreamStep} {p : ℕ} {ds : List Directive} {cs : List CommentValue} → spot.may_be_bare ≡ true → code t spot.at ≡ 37
+      → DirectivesRead t spot.at p ds a.part.comments cs → ForbiddenLine t p → code t p ≡ 45 → MarkedRead t p ds (with_comments_read cs a) b next → NextRead t spot a b next
   no_dashes : {place p : ℕ} {ds : List Directive} {ca cb : List CommentValue} → code t spot.at ≡ 37 → DirectivesRead t spot.at p ds ca cb
-      → (Forbidden t p → code t p ≡ 45 → ⊥) → NextRead t spot a b (Syntax place)
+      → (ForbiddenLine t p → code t p ≡ 45 → ⊥) → NextRead t spot a b (Syntax place)
   no_directive : {place p : ℕ} → code t spot.at ≡ 37 → DirectivesEnd t spot.at p → NextRead t spot a b (Syntax place)
-  without_dashes : {next : Next} → (Forbidden t spot.at → ⊥) → spot.may_be_bare ≡ true → code t spot.at ≢ 37 → BareRead t spot.at a b next → NextRead t spot a b next
+  without_dashes : {next : StreamStep} → (ForbiddenLine t spot.at → ⊥) → spot.may_be_bare ≡ true → code t spot.at ≢ 37 → BareRead t spot.at a b next → NextRead t spot a b next

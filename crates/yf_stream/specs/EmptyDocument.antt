@@ -1,4 +1,4 @@
--- What the reader of a stream answers of a `---` after which no node stands.
+-- What the reader of a stream answers of a `---` after which no node is.
 use Rattle.std.specs.Prelude.{◌≡◌, ℕ, false, List, []}
 use Rattle.yf_chars.specs.Chain.{Chosen}
 use Rattle.yf_comments.specs.Comment.{CommentValue}
@@ -8,10 +8,10 @@ use Rattle.yf_events.specs.declared.event.ScalarStyle.TheVariants.{Plain}
 use Rattle.yf_props.specs.Props.{no_props}
 use Rattle.yf_stream.specs.DocumentReaders.{commented, with_event}
 use Rattle.yf_stream.specs.declared.documents.Parts.{Parts}
-use Rattle.yf_stream.specs.declared.documents.Spot.{Spot}
+use Rattle.yf_stream.specs.declared.documents.StreamCursor.{StreamCursor}
 
 -- the line ends at an offset with the comment lines after it, and an empty node stands for the document
-pub record EmptyEnds (t : List ℕ) (at : ℕ) (a b : Parts) (after : Spot) : Type 0 where
+pub record EmptyEnds (t : List ℕ) (at : ℕ) (a b : Parts) (after : StreamCursor) : Type 0 where
   pub comments : List CommentValue
   pub line : Chosen (LineEnd t at) after.at comments
   pub bare : after.may_be_bare ≡ false

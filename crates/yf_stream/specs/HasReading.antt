@@ -4,8 +4,8 @@ use Rattle.std.specs.Str.{IsUtf8}
 use Rattle.yf_events.specs.declared.lists.Lists.{Lists}
 use Rattle.yf_stream.specs.ReadingOf.{ReadingOf}
 use Rattle.yf_stream.specs.Stream.{Documents}
-use Rattle.yf_stream.specs.WellFormed.{Reads}
+use Rattle.yf_stream.specs.WellFormed.{ReadsWithoutBreach}
 
 -- Where a text has one meaning within the limit of open collections, and breaches nothing that must hold besides its grammar, it has a reading.
 abbrev pub WellFormedTextsHaveReadings : Type 0
-WellFormedTextsHaveReadings = (t : List ℕ) (x : Documents) → IsUtf8 t → Reads t x → (r : Lists) × ReadingOf t r
+WellFormedTextsHaveReadings = (t : List ℕ) (x : Documents) → IsUtf8 t → ReadsWithoutBreach t x → (r : Lists) × ReadingOf t r

@@ -1,4 +1,4 @@
--- The laws of streams and of readings, each with the plain sentence that it stands for: a text is derived as one stream at most, and
+-- The laws of streams and of readings, each with the plain sentence that it says: a text is derived as one stream at most, and
 -- has one reading at most. `proofs/LawsHold.antt` proves them, so a change of the definitions that breaks one is refused there.
 use Rattle.std.specs.Prelude.{◌≡◌, ℕ, ◌<◌, ◌≤◌, List, length}
 use Rattle.std.specs.List.{All}
@@ -35,7 +35,7 @@ ReadingsAreTheReading = (t : List ℕ) (r : Lists) → ReadingOf t r → TheRead
 abbrev pub ReadTextsHaveNoFault : Type 0
 ReadTextsHaveNoFault = (t : List ℕ) (r : Lists) (fault : Fault) → ReadingOf t r → StreamFault t fault → fault ≡ Memory
 
--- The comments of a reading stand in the order of the text.
+-- The comments of a reading are in the order of the text.
 abbrev pub CommentsOfReadingsAscend : Type 0
 CommentsOfReadingsAscend = (t : List ℕ) (r : Lists) → ReadingOf t r → IsNonDecreasingBy (λ (c : CommentValue). c.offset) r.comments
 

@@ -3,12 +3,12 @@
 use Rattle.std.specs.Prelude.{ℕ, List, Result, MatchResult}
 use Rattle.std.specs.Str.{IsCharBoundary}
 use Rattle.yf_events.specs.declared.lists.Lists.{Lists}
-use Rattle.yf_stream.specs.NotedLists.{Noted}
+use Rattle.yf_stream.specs.NotedLists.{ListsOf}
 use Rattle.yf_stream.specs.Stream.{Documents}
 use Rattle.yf_stream.specs.StreamReader.{TheReading}
 use Rattle.yf_stream.specs.TagPass.{stream_breaches}
 use Rattle.yf_stream.specs.WellFormed.{IsFirst, Shapes, breaches}
-use Rattle.yf_stream.specs.WrittenParts.{Written}
+use Rattle.yf_stream.specs.WrittenParts.{PartsOf}
 use Rattle.yf_stream.specs.declared.breaches.Breach.{Breach}
 use Rattle.yf_stream.specs.declared.documents.Parts.{Parts}
 use Rattle.yf_stream.specs.declared.stream.Refusal.{Refusal}
@@ -17,15 +17,15 @@ use Rattle.yf_stream.specs.declared.stream.Refusal.TheVariants as Refusals
 -- the lists of parts, with their resolved tags and the notes of their comments; nothing is breached in them
 pub record MadeOf (t : List ℕ) (r : Lists) : Type 0 where
   pub parts : Parts
-  pub noted : Noted t parts r
-  pub reading : (x : Documents) → Shapes t x → Written t x parts → TheReading t r
+  pub noted : ListsOf t parts r
+  pub reading : (x : Documents) → Shapes t x → PartsOf t x parts → TheReading t r
 
 -- the first breach in parts, between characters where they are those of the text
 pub record BreachIn (t : List ℕ) (b : Breach) : Type 0 where
   pub parts : Parts
   pub first : IsFirst (stream_breaches parts.documents parts.part.events parts.part.escapes) b
-  pub told : (x : Documents) → Shapes t x → Written t x parts → IsFirst (breaches x.documents) b
-  pub place : (x : Documents) → Shapes t x → Written t x parts → IsCharBoundary t b.offset
+  pub told : (x : Documents) → Shapes t x → PartsOf t x parts → IsFirst (breaches x.documents) b
+  pub place : (x : Documents) → Shapes t x → PartsOf t x parts → IsCharBoundary t b.offset
 
 abbrev pub RefusalIn : List ℕ → Refusal → Type 0
 RefusalIn t (Refusals.Breach b) = BreachIn t b

@@ -4,11 +4,11 @@ use Rattle.std.specs.Borrow.{Bor}
 use Rattle.yf_lines.specs.FaultPlaces.{IsPlaceOf}
 use Rattle.yf_lines.specs.declared.fault.Fault.{Fault}
 use Rattle.yf_lines.specs.declared.fault.Fault.TheVariants.{Memory, Syntax, TooDeep}
-use Rattle.yf_lines.specs.declared.place.Place.{Place}
+use Rattle.yf_lines.specs.declared.place.Position.{Position}
 use Rattle.yf_events.specs.declared.lists.Lists.{Lists}
 use Rattle.yf_lines.specs.Lines.{AreLines}
 use Rattle.yf_lines.specs.declared.line.Line.{Line}
-use Rattle.yf_stream.specs.LeafPass.{StandInOrder, end_on_line, last_end, leaf_spans}
+use Rattle.yf_stream.specs.LeafPass.{AreInOrder, end_on_line, last_end, leaf_spans}
 use Rattle.yf_stream.specs.StreamReader.{fault_of}
 use Rattle.yf_stream.specs.TagPass.{PassTags, stream_breaches}
 use Rattle.yf_stream.specs.WellFormed.{IsFirst}
@@ -17,18 +17,18 @@ use Rattle.yf_stream.specs.declared.documents.Parts.{Parts}
 use Rattle.yf_stream.specs.declared.stream.Refusal.{Refusal}
 use Rattle.yf_stream.specs.declared.stream.Refusal.TheVariants as Refusals
 use Rattle.yf_diagnose.specs.declared.diagnosis.Diagnosis.{Diagnosis as Told}
-use Rattle.yf_diagnose.specs.Told.{IsDiagnosis}
+use Rattle.yf_diagnose.specs.SecondReadings.{IsDiagnosis}
 
--- nothing is breached in the parts, and the lists hold them with their resolved tags; and where events and comments stand in order, with the
--- notes which comments stand on the lines of leaves
-pub record Noted (t : List ℕ) (p : Parts) (r : Lists) : Type 0 where
+-- nothing is breached in the parts, and the lists hold them with their resolved tags; and where events and comments are in order, with the
+-- notes which comments are on the lines of leaves
+pub record ListsOf (t : List ℕ) (p : Parts) (r : Lists) : Type 0 where
   pub quiet : stream_breaches p.documents p.part.events p.part.escapes ≡ []
   pub tags : PassTags p.documents [] p.part.events r.resolved
   pub events : r.events ≡ p.part.events
   pub comments : r.comments ≡ p.part.comments
   pub documents : r.documents ≡ p.documents
   pub escapes : r.escapes ≡ p.part.escapes
-  pub notes : (ls : List Line) → AreLines t ls → StandInOrder t p.part.events p.part.comments
+  pub notes : (ls : List Line) → AreLines t ls → AreInOrder t p.part.events p.part.comments
       → r.on_leaf_line ≡ map (λ c. end_on_line ls (last_end None c.offset (leaf_spans p.part.events)) c.offset) p.part.comments
 
 -- the refusal is for the first breach in the parts
@@ -37,15 +37,15 @@ IsFirstBreach p (Refusals.Breach b) = IsFirst (stream_breaches p.documents p.par
 IsFirstBreach p (Refusals.Syntax offset) = ⊥
 IsFirstBreach p (Refusals.TooDeep offset) = ⊥
 
-abbrev pub NotedOr : List ℕ → Parts → Result Lists Refusal → Type 0
-NotedOr t p r = MatchResult r (Noted t p) (IsFirstBreach p)
+abbrev pub ListsOrRefusal : List ℕ → Parts → Result Lists Refusal → Type 0
+ListsOrRefusal t p r = MatchResult r (ListsOf t p) (IsFirstBreach p)
 
 -- the fault is for memory, or tells why the text is refused: that it is no stream, at the place of what is told of the offset; else at the place
 -- of the offset
 pub data FaultAt (t : List ℕ) : Refusal → Fault → Type 0 where
   for_memory : {refusal : Refusal} → FaultAt t refusal Memory
-  no_stream : {offset : ℕ} {place : Place} {what : Bor (List ℕ)} (told : Told) → IsDiagnosis t offset told → IsPlaceOf t told.at place
+  no_stream : {offset : ℕ} {place : Position} {what : Bor (List ℕ)} (told : Told) → IsDiagnosis t offset told → IsPlaceOf t told.at place
       → FaultAt t (Refusals.Syntax offset) (Syntax place what)
-  too_deep : {offset : ℕ} {place : Place} → IsPlaceOf t offset place → FaultAt t (Refusals.TooDeep offset) (TooDeep place)
-  breached : {b : Breach} {place : Place} {fault : Fault} → IsPlaceOf t b.offset place → fault ≡ fault_of b.kind place
+  too_deep : {offset : ℕ} {place : Position} → IsPlaceOf t offset place → FaultAt t (Refusals.TooDeep offset) (TooDeep place)
+  breached : {b : Breach} {place : Position} {fault : Fault} → IsPlaceOf t b.offset place → fault ≡ fault_of b.kind place
       → FaultAt t (Refusals.Breach b) fault

@@ -1,18 +1,18 @@
--- Streams (YAML 1.2.2, sections 6.8 and 9) as relations between byte offsets of a text t: what stands from i to j is
+-- Streams (YAML 1.2.2, sections 6.8 and 9) as relations between byte offsets of a text t: what is from i to j is
 -- derived with the meaning x. The most collections that are open at once are h.
 use Rattle.std.specs.Prelude.{◌≡◌, ◌≢◌, ℕ, max, ◌+◌, pos, ◌-ℤ◌, Bool, true, false, List, [], ◌∷◌, ◌++◌, length, slice_range, codes}
 use Rattle.yf_chars.specs.declared.context.Ctx.TheVariants.{BlockIn}
 use Rattle.yf_chars.specs.Text.{code, next}
 use Rattle.yf_chars.specs.Class.{is_digit, is_ns_char}
 use Rattle.yf_chars.specs.Chain.{Chain, One}
-use Rattle.yf_lines.specs.Basic.{Clear, Forbidden, SeparateInLine, is_three}
+use Rattle.yf_lines.specs.Basic.{Clear, ForbiddenLine, SeparateInLine, is_three}
 use Rattle.yf_comments.specs.Comment.{CommentValue}
 use Rattle.yf_comments.specs.Comments.{CommentLine, LineEnd}
 use Rattle.yf_props.specs.Names.{Handle, Run, TagPrefix}
 use Rattle.yf_events.specs.declared.directive.Directive.{Directive}
-use Rattle.yf_events.specs.Event.{Placed}
-use Rattle.yf_grammar.specs.Grammar.{BlockNode, Derives}
-use Rattle.yf_grammar.specs.Meaning.{Meaning, empty_node, noting}
+use Rattle.yf_events.specs.Event.{EventInText}
+use Rattle.yf_grammar.specs.Productions.Grammar.{BlockNode, Derives}
+use Rattle.yf_grammar.specs.Productions.Meaning.{Meaning, empty_node, noting}
 
 -- a parameter of a directive of another name than YAML and TAG; it does not begin with #, which begins a comment
 pub data ReservedParameter (t : List ℕ) : ℕ → ℕ → List (List ℕ) → Type 0 where
@@ -42,13 +42,13 @@ pub data DirectiveLines (t : List ℕ) : ℕ → ℕ → Directives → Type 0 w
       → DirectiveLines t i j (record { directives = x.directives ++ y.directives; comments = x.comments ++ y.comments })
 
 -- a document: where it begins, whether `---` is written, its directives, and what its node means but for comments. A
--- comment line may be taken by a document's node, by its directives or by what stands between documents; a stream has one
+-- comment line may be taken by a document's node, by its directives or by what is between documents; a stream has one
 -- list of comments, and a document has none
 pub record Document : Type 0 where
   pub start : ℕ
   pub marked : Bool
   pub directives : List Directive
-  pub events : List Placed
+  pub events : List EventInText
   pub escapes : List ℕ
   pub finish : ℕ
 
@@ -136,5 +136,5 @@ pub data Stream (t : List ℕ) : ℕ → Documents → Type 0 where
 
 -- whether `...` is written at the end of a document: the next forbidden line after it is one
 pub data EndIsMarked (t : List ℕ) (i : ℕ) : Bool → Type 0 where
-  marked_end : {j : ℕ} {cs : List CommentValue} → Prefixes t i j cs → Forbidden t j → code t j ≡ 46 → EndIsMarked t i true
-  unmarked_end : ((j : ℕ) (cs : List CommentValue) → Prefixes t i j cs → Forbidden t j → code t j ≡ 46 → ⊥) → EndIsMarked t i false
+  marked_end : {j : ℕ} {cs : List CommentValue} → Prefixes t i j cs → ForbiddenLine t j → code t j ≡ 46 → EndIsMarked t i true
+  unmarked_end : ((j : ℕ) (cs : List CommentValue) → Prefixes t i j cs → ForbiddenLine t j → code t j ≡ 46 → ⊥) → EndIsMarked t i false

@@ -3,13 +3,13 @@ use Rattle.std.specs.Prelude.{◌≡◌, ℕ, ◌<◌, ◌≤◌, List, Result, 
 use Rattle.yf_lines.specs.FaultPlaces.{InText, IsPlaceOf}
 use Rattle.yf_lines.specs.declared.fault.Fault.{Fault}
 use Rattle.yf_lines.specs.declared.fault.Fault.TheVariants.{Memory, Syntax, TooDeep, UnknownHandle, UnknownAlias, RepeatedDirective, BadVersion, EscapeValue}
-use Rattle.yf_lines.specs.declared.place.Place.{Place}
+use Rattle.yf_lines.specs.declared.place.Position.{Position}
 use Rattle.yf_events.specs.declared.lists.Lists.{Lists}
 use Rattle.yf_events.specs.declared.reading.TheConstants.{DEPTH}
 use Rattle.yf_grammar.specs.Refusal.{openers}
 use Rattle.yf_stream.specs.declared.breaches.Breach.{Breach}
-use Rattle.yf_stream.specs.declared.breaches.Kind.{Kind}
-use Rattle.yf_stream.specs.declared.breaches.Kind.TheVariants as Breaches
+use Rattle.yf_stream.specs.declared.breaches.BreachKind.{BreachKind}
+use Rattle.yf_stream.specs.declared.breaches.BreachKind.TheVariants as Breaches
 use Rattle.yf_stream.specs.ReadingOf.{ReadingOf}
 use Rattle.yf_stream.specs.Stream.{Documents, Stream}
 use Rattle.yf_stream.specs.WellFormed.{IsFirst, Shapes, breaches}
@@ -19,7 +19,7 @@ abbrev pub NoStream : List ℕ → Type 0
 NoStream t = (h : ℕ) (x : Documents) → Stream t h x → h ≤ DEPTH → ⊥
 
 -- the fault that tells of a breach of that kind
-abbrev pub fault_of : Kind → Place → Fault
+abbrev pub fault_of : BreachKind → Position → Fault
 fault_of Breaches.UnknownHandle place = UnknownHandle place
 fault_of Breaches.UnknownAlias place = UnknownAlias place
 fault_of Breaches.RepeatedDirective place = RepeatedDirective place
@@ -36,8 +36,8 @@ IsSyntax t _ = ⊥
 pub data StreamFault (t : List ℕ) : Fault → Type 0 where
   for_memory : StreamFault t Memory
   no_stream : {fault : Fault} → NoStream t → IsSyntax t fault → StreamFault t fault
-  too_deep : {place : Place} → NoStream t → DEPTH < openers t → InText t place → StreamFault t (TooDeep place)
-  breached : {x : Documents} {b : Breach} {place : Place} {fault : Fault} → Shapes t x → IsFirst (breaches x.documents) b
+  too_deep : {place : Position} → NoStream t → DEPTH < openers t → InText t place → StreamFault t (TooDeep place)
+  breached : {x : Documents} {b : Breach} {place : Position} {fault : Fault} → Shapes t x → IsFirst (breaches x.documents) b
       → IsPlaceOf t b.offset place → fault ≡ fault_of b.kind place → StreamFault t fault
 
 -- the reading of a text, and the only one

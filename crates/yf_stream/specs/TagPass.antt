@@ -5,10 +5,10 @@ use Rattle.yf_props.specs.Handles.{Declaration, TagText, declared_prefix}
 use Rattle.yf_props.specs.Props.{TagValue, no_props}
 use Rattle.yf_events.specs.declared.directive.Directive.{Directive}
 use Rattle.yf_events.specs.declared.document.Doc.{Doc}
-use Rattle.yf_events.specs.Event.{EventValue, Placed, document_starts}
+use Rattle.yf_events.specs.Event.{EventValue, EventInText, document_starts}
 use Rattle.yf_stream.specs.WellFormed.{IsFirst, alias_breaches, alias_of, breach_if, declarations, directive_breaches, escape_breaches, has_name, is_unknown, offset_or, props_of, start_or, with_name}
 use Rattle.yf_stream.specs.declared.breaches.Breach.{Breach}
-use Rattle.yf_stream.specs.declared.breaches.Kind.TheVariants.{UnknownHandle}
+use Rattle.yf_stream.specs.declared.breaches.BreachKind.TheVariants.{UnknownHandle}
 
 -- the first of these breaches, or none where there is none
 abbrev pub FirstOf : List Breach → Option Breach → Type 0
@@ -16,7 +16,7 @@ FirstOf bs None = bs ≡ []
 FirstOf bs (Some b) = IsFirst bs b
 
 -- what was the first of some breaches before is the first of them and of these afterwards
-pub record Finds (before after : Option Breach) (bs : List Breach) : Type 0 where
+pub record FirstOfBoth (before after : Option Breach) (bs : List Breach) : Type 0 where
   pub first : (done : List Breach) → FirstOf done before → FirstOf (done ++ bs) after
 
 -- two lists of names, and two lists of declarations, in which the same is found
@@ -48,12 +48,12 @@ later_documents [] = []
 later_documents (d ∷ docs) = docs
 
 -- the breaches of one event, with these declarations and after these anchors
-abbrev pub own_breaches : List Declaration → List (List ℕ) → Placed → List Breach
+abbrev pub own_breaches : List Declaration → List (List ℕ) → EventInText → List Breach
 own_breaches ds names e = breach_if (is_unknown ds (props_of e.event).tag) UnknownHandle (offset_or 0 e.tag_offset)
     ++ alias_breaches names (start_or 0 e.span) (alias_of e.event)
 
 -- the breaches of the events that follow in a document with these declarations, after these anchors, and of the documents that follow it
-abbrev pub pass_breaches : List Doc → List Declaration → List (List ℕ) → List Placed → List Breach
+abbrev pub pass_breaches : List Doc → List Declaration → List (List ℕ) → List EventInText → List Breach
 pass_breaches docs ds names [] = []
 pass_breaches docs ds names (e ∷ es) =
     if starts_document e.event
@@ -61,50 +61,50 @@ pass_breaches docs ds names (e ∷ es) =
     else own_breaches ds names e ++ pass_breaches docs ds (with_name (props_of e.event).anchor names) es
 
 -- all breaches of a stream, by its lists
-abbrev pub stream_breaches : List Doc → List Placed → List ℕ → List Breach
+abbrev pub stream_breaches : List Doc → List EventInText → List ℕ → List Breach
 stream_breaches docs es escapes = escape_breaches escapes ++ pass_breaches docs [] [] es
 
 -- the tags of the events that follow in a document with these declarations, and in the documents that follow it
-pub data PassTags : List Doc → List Declaration → List Placed → List (Option (List ℕ)) → Type 0 where
+pub data PassTags : List Doc → List Declaration → List EventInText → List (Option (List ℕ)) → Type 0 where
   no_event_left : {docs : List Doc} {ds : List Declaration} → PassTags docs ds [] []
-  document_begins : {docs : List Doc} {ds : List Declaration} {e : Placed} {es : List Placed} {tags : List (Option (List ℕ))}
+  document_begins : {docs : List Doc} {ds : List Declaration} {e : EventInText} {es : List EventInText} {tags : List (Option (List ℕ))}
       → starts_document e.event ≡ true → PassTags (later_documents docs) (declarations [] (next_directives docs)) es tags
       → PassTags docs ds (e ∷ es) (None ∷ tags)
-  event_follows : {docs : List Doc} {ds : List Declaration} {e : Placed} {es : List Placed} {tag : Option (List ℕ)}
+  event_follows : {docs : List Doc} {ds : List Declaration} {e : EventInText} {es : List EventInText} {tag : Option (List ℕ)}
       {tags : List (Option (List ℕ))} → starts_document e.event ≡ false → TagOf ds (props_of e.event).tag tag → PassTags docs ds es tags
       → PassTags docs ds (e ∷ es) (tag ∷ tags)
 
 -- an event of which this holds is the one at an index
-pub record EventAt (es : List Placed) (i : ℕ) (P : Placed → Type 0) : Type 0 where
-  pub event : Placed
+pub record EventAt (es : List EventInText) (i : ℕ) (P : EventInText → Type 0) : Type 0 where
+  pub event : EventInText
   pub there : slice_get es i ≡ Some event
   pub holds : P event
 
 -- an event that begins no node with a tag or an anchor, and is no alias
-pub record Bare (v : EventValue) : Type 0 where
+pub record IsNameless (v : EventValue) : Type 0 where
   pub props : props_of v ≡ no_props
   pub alias : alias_of v ≡ None
 
 -- the tag of an event has been added, and kept as a breach if it is one and the first
-pub record TagAdded (ds : List Declaration) (e : Placed) (before after : Option Breach) (a b : List (Option (List ℕ))) : Type 0 where
-  pub finds : Finds before after (breach_if (is_unknown ds (props_of e.event).tag) UnknownHandle (offset_or 0 e.tag_offset))
+pub record TagAdded (ds : List Declaration) (e : EventInText) (before after : Option Breach) (a b : List (Option (List ℕ))) : Type 0 where
+  pub finds : FirstOfBoth before after (breach_if (is_unknown ds (props_of e.event).tag) UnknownHandle (offset_or 0 e.tag_offset))
   pub tag : Option (List ℕ)
-  pub stands : is_unknown ds (props_of e.event).tag ≡ false → TagOf ds (props_of e.event).tag tag
+  pub is_there : is_unknown ds (props_of e.event).tag ≡ false → TagOf ds (props_of e.event).tag tag
   pub list : b ≡ a ++ tag ∷ []
 
 -- an event has been gone past, with these declarations: the first of its breaches has been kept, its anchor has occurred, and its tag has been added
-pub record Passed (ds : List Declaration) (e : Placed) (before after : Option Breach) (names others : List (List ℕ)) (a b : List (Option (List ℕ))) : Type 0 where
-  pub finds : Finds before after (own_breaches ds names e)
+pub record EventPassed (ds : List Declaration) (e : EventInText) (before after : Option Breach) (names others : List (List ℕ)) (a b : List (Option (List ℕ))) : Type 0 where
+  pub finds : FirstOfBoth before after (own_breaches ds names e)
   pub same : SameNames others (with_name (props_of e.event).anchor names)
   pub tag : Option (List ℕ)
-  pub stands : is_unknown ds (props_of e.event).tag ≡ false → TagOf ds (props_of e.event).tag tag
+  pub is_there : is_unknown ds (props_of e.event).tag ≡ false → TagOf ds (props_of e.event).tag tag
   pub list : b ≡ a ++ tag ∷ []
 
 -- all events from i up to j have been gone past
-pub record AllPassed (es : List Placed) (ds : List Declaration) (i j : ℕ) (before after : Option Breach) (names others : List (List ℕ))
+pub record AllPassed (es : List EventInText) (ds : List Declaration) (i j : ℕ) (before after : Option Breach) (names others : List (List ℕ))
     (a b : List (Option (List ℕ))) : Type 0 where
   pub found : List Breach
-  pub finds : Finds before after found
+  pub finds : FirstOfBoth before after found
   pub breaches : (docs : List Doc) → pass_breaches docs ds names (drop i es) ≡ found ++ pass_breaches docs ds others (drop j es)
   pub added : List (Option (List ℕ))
   pub list : b ≡ a ++ added
@@ -117,15 +117,15 @@ directives_of None = []
 directives_of (Some d) = d.now.directives
 
 -- the first of the events starts a document, or there is none
-abbrev pub StartsDocument : List Placed → Type 0
+abbrev pub StartsDocument : List EventInText → Type 0
 StartsDocument [] = Unit {0}
 StartsDocument (e ∷ es) = starts_document e.event ≡ true
 
 -- the events from i up to j, where a document starts or the events end, are those of a document with these directives: their first breach has
 -- been kept, and their tags have been added
-pub record Resolves (es : List Placed) (directives : List Directive) (i j : ℕ) (before after : Option Breach) (a b : List (Option (List ℕ))) : Type 0 where
+pub record TagsResolved (es : List EventInText) (directives : List Directive) (i j : ℕ) (before after : Option Breach) (a b : List (Option (List ℕ))) : Type 0 where
   pub found : List Breach
-  pub finds : Finds before after found
+  pub finds : FirstOfBoth before after found
   pub breaches : (docs : List Doc) → directive_breaches false [] directives ++ pass_breaches docs (declarations [] directives) [] (drop i es)
       ≡ found ++ pass_breaches docs [] [] (drop j es)
   pub added : List (Option (List ℕ))

@@ -7,15 +7,15 @@ use Rattle.yf_props.specs.Props.{PropsValue, TagValue, no_props}
 use Rattle.yf_props.specs.Props.TagValue.{IsShort}
 use Rattle.yf_events.specs.declared.directive.Directive.{Directive}
 use Rattle.yf_events.specs.declared.event.Span.{Span}
-use Rattle.yf_events.specs.Event.{EventValue, Placed, scalar_node, sequence_starts, mapping_starts, alias_node}
+use Rattle.yf_events.specs.Event.{EventValue, EventInText, scalar_node, sequence_starts, mapping_starts, alias_node}
 use Rattle.yf_events.specs.declared.reading.TheConstants.{DEPTH}
 use Rattle.yf_stream.specs.Stream.{Document, Documents, Stream}
 use Rattle.yf_stream.specs.declared.breaches.Breach.{Breach}
-use Rattle.yf_stream.specs.declared.breaches.Kind.{Kind}
-use Rattle.yf_stream.specs.declared.breaches.Kind.TheVariants.{UnknownHandle, UnknownAlias, RepeatedDirective, BadVersion, EscapeValue}
+use Rattle.yf_stream.specs.declared.breaches.BreachKind.{BreachKind}
+use Rattle.yf_stream.specs.declared.breaches.BreachKind.TheVariants.{UnknownHandle, UnknownAlias, RepeatedDirective, BadVersion, EscapeValue}
 
 -- the breach, where the test holds
-abbrev pub breach_if : Bool → Kind → ℕ → List Breach
+abbrev pub breach_if : Bool → BreachKind → ℕ → List Breach
 breach_if true kind offset = record { offset = offset; kind = kind } ∷ []
 breach_if false kind offset = []
 
@@ -102,7 +102,7 @@ alias_breaches names offset (Some name) = breach_if (not (has_name names name)) 
 
 -- the breaches of a document's events, with the declarations of its handles, after these anchors; an anchor has occurred
 -- within its own node too
-abbrev pub event_breaches : List Declaration → List (List ℕ) → List Placed → List Breach
+abbrev pub event_breaches : List Declaration → List (List ℕ) → List EventInText → List Breach
 event_breaches ds names [] = []
 event_breaches ds names (e ∷ rest) =
     breach_if (is_unknown ds (props_of e.event).tag) UnknownHandle (offset_or 0 e.tag_offset)
@@ -115,7 +115,7 @@ escape_breaches [] = []
 escape_breaches (i ∷ rest) = record { offset = i; kind = EscapeValue } ∷ escape_breaches rest
 
 -- which of two breaches at one place comes first
-abbrev pub rank : Kind → ℕ
+abbrev pub rank : BreachKind → ℕ
 rank UnknownHandle = 4
 rank UnknownAlias = 5
 rank RepeatedDirective = 6
@@ -123,9 +123,9 @@ rank BadVersion = 7
 rank EscapeValue = 8
 
 -- the first breach: none is before it in the text, and none at its place has a lower rank
-pub data Precedes (a b : Breach) : Type 0 where
-  earlier_place : a.offset < b.offset → Precedes a b
-  same_place : a.offset ≡ b.offset → rank a.kind ≤ rank b.kind → Precedes a b
+pub data IsEarlierBreach (a b : Breach) : Type 0 where
+  earlier_place : a.offset < b.offset → IsEarlierBreach a b
+  same_place : a.offset ≡ b.offset → rank a.kind ≤ rank b.kind → IsEarlierBreach a b
 
 abbrev pub document_breaches : Document → List Breach
 document_breaches d = directive_breaches false [] d.directives
@@ -139,7 +139,7 @@ breaches (d ∷ rest) = document_breaches d ++ breaches rest
 -- the first of them
 pub record IsFirst (bs : List Breach) (b : Breach) : Type 0 where
   pub among : Contains bs b
-  pub all : All (Precedes b) bs
+  pub all : All (IsEarlierBreach b) bs
 
 -- the one shape of a text: what is derived of it as a stream within the limit of open collections, and all that is so derived is that
 pub record Shapes (t : List ℕ) (x : Documents) : Type 0 where
@@ -149,6 +149,6 @@ pub record Shapes (t : List ℕ) (x : Documents) : Type 0 where
   pub only : (h : ℕ) (y : Documents) → Stream t h y → h ≤ DEPTH → y ≡ x
 
 -- the same where nothing is breached
-pub record Reads (t : List ℕ) (x : Documents) : Type 0 where
+pub record ReadsWithoutBreach (t : List ℕ) (x : Documents) : Type 0 where
   pub shapes : Shapes t x
   pub well_formed : breaches x.documents ≡ []

@@ -2,12 +2,12 @@
 //! each alias names an anchor before it (section 7.1), no directive is repeated and the version is 1 (section 6.8), and
 //! each escape is a character (section 5.7). Of all breaches the first is told.
 ghost use Rattle.std.specs.Prelude.{◌≡◌, [], ◌∷◌, MatchBool};
-ghost use Rattle.yf_stream.specs.TagPass.{Finds};
-ghost use Rattle.yf_stream.specs.WellFormed.{Precedes, breach_if, escape_breaches, rank};
+ghost use Rattle.yf_stream.specs.TagPass.{FirstOfBoth};
+ghost use Rattle.yf_stream.specs.WellFormed.{IsEarlierBreach, breach_if, escape_breaches, rank};
 
 /// What does not hold.
 #[derive(Clone, Copy, PartialEq, Eq)]
-pub(crate) enum Kind {
+pub(crate) enum BreachKind {
     UnknownHandle,
     UnknownAlias,
     RepeatedDirective,
@@ -19,12 +19,12 @@ pub(crate) enum Kind {
 #[derive(Clone, Copy)]
 pub(crate) struct Breach {
     pub(crate) offset: usize,
-    pub(crate) kind: Kind,
+    pub(crate) kind: BreachKind,
 }
 
 /// Keeps a breach if it is the first so far: by its place in the text, and of two at one place by what does not hold.
-pub(crate) fn keep_if(first: &mut Option<Breach>, test: bool, kind: Kind, offset: usize)
-    ensures { Finds first.old first.new (breach_if test kind offset) }
+pub(crate) fn keep_if(first: &mut Option<Breach>, test: bool, kind: BreachKind, offset: usize)
+    ensures { FirstOfBoth first.old first.new (breach_if test kind offset) }
 {
     if test {
         *first = Some(earlier(*first, Breach { offset, kind }));
@@ -33,16 +33,16 @@ pub(crate) fn keep_if(first: &mut Option<Breach>, test: bool, kind: Kind, offset
 
 /// Keeps the first of the escapes that are no character.
 pub(crate) fn keep_escapes(first: &mut Option<Breach>, escapes: &[usize])
-    ensures { Finds first.old first.new (escape_breaches escapes.now) }
+    ensures { FirstOfBoth first.old first.new (escape_breaches escapes.now) }
 {
     for offset in escapes {
-        keep_if(first, true, Kind::EscapeValue, *offset);
+        keep_if(first, true, BreachKind::EscapeValue, *offset);
     }
 }
 
 // The first of what was found before and one more breach.
 fn earlier(first: Option<Breach>, found: Breach) -> Breach
-    ensures { Finds first (Some result) (found ∷ []) }
+    ensures { FirstOfBoth first (Some result) (found ∷ []) }
 {
     match first {
         Some(breach) => {
@@ -57,7 +57,7 @@ fn earlier(first: Option<Breach>, found: Breach) -> Breach
 
 // Whether the one breach comes before the other, or is the same.
 fn precedes(a: Breach, b: Breach) -> bool
-    ensures { MatchBool result (Precedes a b) (Precedes b a) }
+    ensures { MatchBool result (IsEarlierBreach a b) (IsEarlierBreach b a) }
 {
     if a.offset < b.offset {
         return true;
@@ -69,14 +69,14 @@ fn precedes(a: Breach, b: Breach) -> bool
 }
 
 // Which of two breaches at one place comes first.
-fn order_of(kind: Kind) -> u8
+fn order_of(kind: BreachKind) -> u8
     ensures { result ≡ rank kind }
 {
     match kind {
-        Kind::UnknownHandle => 4,
-        Kind::UnknownAlias => 5,
-        Kind::RepeatedDirective => 6,
-        Kind::BadVersion => 7,
-        Kind::EscapeValue => 8,
+        BreachKind::UnknownHandle => 4,
+        BreachKind::UnknownAlias => 5,
+        BreachKind::RepeatedDirective => 6,
+        BreachKind::BadVersion => 7,
+        BreachKind::EscapeValue => 8,
     }
 }

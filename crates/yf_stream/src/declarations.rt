@@ -1,10 +1,10 @@
 //! The directives of a document (YAML 1.2.2, section 6.8): the version that it names, and the handles that it declares.
 ghost use Rattle.std.specs.Prelude.{◌≡◌, ◌++◌, ◌||◌, false, is_some, map, IfOk, MatchOption};
-ghost use Rattle.yf_stream.specs.TagPass.{Finds, SameDeclarations};
+ghost use Rattle.yf_stream.specs.TagPass.{FirstOfBoth, SameDeclarations};
 ghost use Rattle.yf_stream.specs.WellFormed.{declaration_breaches, declarations, directive_breaches, version_breaches, with_declaration};
 ghost use Rattle.yf_stream.specs.WellFormed as WellFormed;
 
-use crate::breaches::{Breach, Kind, keep_if};
+use crate::breaches::{Breach, BreachKind, keep_if};
 use crate::prefixes::Prefixes;
 use std::alloc::AllocError;
 use yf_events::directive::Directive;
@@ -16,7 +16,7 @@ pub(crate) fn declare_all<'a>(
     first: &mut Option<Breach>,
 ) -> Result<(), AllocError>
     ensures handles { IfOk result (λ _. SameDeclarations handles.new (declarations handles.old directives.now)) }
-    ensures found { IfOk result (λ _. Finds first.old first.new (directive_breaches false handles.old directives.now)) }
+    ensures found { IfOk result (λ _. FirstOfBoth first.old first.new (directive_breaches false handles.old directives.now)) }
 {
     let mut has_version = false;
     for directive in directives {
@@ -34,20 +34,25 @@ fn declare<'a>(
 ) -> Result<bool, AllocError>
     ensures handles { IfOk result (λ _. SameDeclarations handles.new
         (with_declaration handles.old (WellFormed.declaration_of directive.now.words))) }
-    ensures found { IfOk result (λ _. Finds first.old first.new
+    ensures found { IfOk result (λ _. FirstOfBoth first.old first.new
         (version_breaches has_version directive.now.offset (WellFormed.version_of directive.now.words)
         ++ declaration_breaches handles.old directive.now.offset (WellFormed.declaration_of directive.now.words))) }
     ensures seen { IfOk result (λ seen. seen ≡ (has_version || is_some (WellFormed.version_of directive.now.words))) }
 {
     let offset = directive.offset;
     if let Some(version) = version_of(directive.words.as_slice()) {
-        keep_if(first, has_version, Kind::RepeatedDirective, offset);
-        keep_if(first, !is_version_one(version), Kind::BadVersion, offset);
+        keep_if(first, has_version, BreachKind::RepeatedDirective, offset);
+        keep_if(
+            first,
+            !is_version_one(version),
+            BreachKind::BadVersion,
+            offset,
+        );
         return Ok(true);
     }
     if let Some((handle, prefix)) = declaration_of(directive.words.as_slice()) {
         let fresh = handles.declare(handle, prefix)?;
-        keep_if(first, !fresh, Kind::RepeatedDirective, offset);
+        keep_if(first, !fresh, BreachKind::RepeatedDirective, offset);
     }
     Ok(has_version)
 }

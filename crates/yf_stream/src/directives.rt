@@ -3,14 +3,14 @@ ghost use Rattle.std.specs.Prelude.{◌≡◌, ◌+◌, ◌<◌, ◌≤◌, [], 
 ghost use Rattle.std.specs.Str.{IsCharBoundary};
 ghost use Rattle.yf_chars.specs.Chain.{Chosen, Stuck};
 ghost use Rattle.yf_stream.specs.DirectiveReaders.{DirectivesEnd, DirectivesRead, IsDirective, ReservedRead, WordsRead};
-ghost use Rattle.yf_stream.specs.InLine.{InLine};
+ghost use Rattle.yf_stream.specs.WithinLine.{InLine};
 ghost use Rattle.yf_stream.specs.RefusalPlaces.{DirectivesAt};
 ghost use Rattle.yf_stream.specs.Stream.{Parameters};
-ghost use Rattle.yf_stream.specs.Walk.{Place};
+ghost use Rattle.yf_stream.specs.ReaderSteps.{BoundaryFrom};
 
 use std::alloc::{AllocError, Global};
 use yf_chars::runs::{Digits, NsChars, skip_while};
-use yf_chars::text::stands;
+use yf_chars::text::is_char_at;
 use yf_comments::comments::{Comments, Separation};
 use yf_comments::lines::line_end;
 use yf_events::directive::{Directive, Directives};
@@ -45,11 +45,11 @@ pub(crate) fn read_directives<'a>(
     ensures reads { IfOk result (λ r. MatchResult r (λ lines.
         DirectivesRead text.now at lines.end lines.directives comments.old comments.new) (λ place. DirectivesEnd text.now at place)) }
     ensures begin { IfOk result (λ r. IfOk r (λ lines. DirectivesAt text.now lines.directives)) }
-    ensures place { IfOk result (λ r. MatchResult r (λ lines. Place text.now at lines.end) (λ place. Place text.now at place)) }
+    ensures place { IfOk result (λ r. MatchResult r (λ lines. BoundaryFrom text.now at lines.end) (λ place. BoundaryFrom text.now at place)) }
 {
     let mut directives = Directives::new(alloc);
     let mut end = at;
-    'directives: while stands(text, end, b'%') {
+    'directives: while is_char_at(text, end, b'%') {
         match read_directive(alloc, text, end)? {
             Some(line) => {
                 directives.push(line.directive)?;
@@ -62,7 +62,7 @@ pub(crate) fn read_directives<'a>(
     Ok(Ok(DirectiveLines { directives, end }))
 }
 
-#[tactic(auto, using(crate::proofs::Forward::line_end_forward))]
+#[tactic(auto, using(crate::proofs::Uniqueness::Forward::line_end_forward))]
 // Reads a directive (l-directive, production 82) and the comments after it.
 fn read_directive<'a>(
     alloc: Global,
@@ -72,9 +72,9 @@ fn read_directive<'a>(
     requires { IsCharBoundary text.now at }
     ensures reads { IfOk result (λ o. MatchOption o (Stuck (IsDirective text.now at))
         (λ line. Chosen (IsDirective text.now at) line.end (record { directives = line.directive ∷ []; comments = line.comments }))) }
-    ensures place { IfOk result (λ o. IfSome o (λ line. Place text.now (at + 1) line.end)) }
+    ensures place { IfOk result (λ o. IfSome o (λ line. BoundaryFrom text.now (at + 1) line.end)) }
 {
-    if !stands(text, at, b'%') {
+    if !is_char_at(text, at, b'%') {
         return Ok(None);
     }
     let name_end = skip_while::<NsChars>(text, at + 1);
@@ -112,7 +112,7 @@ fn read_parameters<'a>(
     requires { InLine text.now at }
     ensures reads { IfOk result (λ o. MatchOption o (Stuck (Parameters text.now name.now at))
         (λ end. WordsRead text.now name.now at end words.old words.new)) }
-    ensures place { IfOk result (λ o. IfSome o (λ end. Place text.now at end)) }
+    ensures place { IfOk result (λ o. IfSome o (λ end. BoundaryFrom text.now at end)) }
 {
     match name {
         "YAML" => read_version(text, at, words),
@@ -130,7 +130,7 @@ fn read_version<'a>(
     requires { InLine text.now at }
     ensures reads { IfOk result (λ o. MatchOption o (Stuck (Parameters text.now (codes "YAML") at))
         (λ end. WordsRead text.now (codes "YAML") at end words.old words.new)) }
-    ensures place { IfOk result (λ o. IfSome o (λ end. Place text.now at end)) }
+    ensures place { IfOk result (λ o. IfSome o (λ end. BoundaryFrom text.now at end)) }
 {
     let start = skip_whites(text, at);
     if start == at {
@@ -140,7 +140,7 @@ fn read_version<'a>(
     if dot == start {
         return Ok(None);
     }
-    if !stands(text, dot, b'.') {
+    if !is_char_at(text, dot, b'.') {
         return Ok(None);
     }
     let end = skip_while::<Digits>(text, dot + 1);
@@ -160,7 +160,7 @@ fn read_tag_parameters<'a>(
     requires { InLine text.now at }
     ensures reads { IfOk result (λ o. MatchOption o (Stuck (Parameters text.now (codes "TAG") at))
         (λ end. WordsRead text.now (codes "TAG") at end words.old words.new)) }
-    ensures place { IfOk result (λ o. IfSome o (λ end. Place text.now at end)) }
+    ensures place { IfOk result (λ o. IfSome o (λ end. BoundaryFrom text.now at end)) }
 {
     let start = skip_whites(text, at);
     if start == at {
@@ -189,7 +189,7 @@ fn read_reserved<'a>(
 ) -> Result<Option<usize>, AllocError>
     requires { InLine text.now at }
     ensures reads { IfOk result (λ o. MatchOption o ⊥ (λ end. ReservedRead text.now at end words.old words.new)) }
-    ensures place { IfOk result (λ o. IfSome o (λ end. Place text.now at end)) }
+    ensures place { IfOk result (λ o. IfSome o (λ end. BoundaryFrom text.now at end)) }
 {
     let mut end = at;
     'words: loop {
@@ -197,7 +197,7 @@ fn read_reserved<'a>(
         if start == end {
             return Ok(Some(end));
         }
-        if stands(text, start, b'#') {
+        if is_char_at(text, start, b'#') {
             return Ok(Some(end));
         }
         let next = skip_while::<NsChars>(text, start);

@@ -4,20 +4,20 @@ ghost use Rattle.std.specs.Str.{IsCharBoundary};
 ghost use Rattle.yf_events.specs.Event.{new_event_value};
 ghost use Rattle.yf_stream.specs.DocumentReaders.{IsMarker, closed, opened, with_event};
 ghost use Rattle.yf_chars.specs.Text.{code};
-ghost use Rattle.yf_lines.specs.Basic.{Forbidden};
+ghost use Rattle.yf_lines.specs.Basic.{ForbiddenLine};
 ghost use Rattle.yf_stream.specs.DocumentSteps.{BareRead, EmptyAdded, FoundRead, MarkedRead, NextRead, NothingAt, RootRead, SomethingBegins};
 ghost use Rattle.yf_stream.specs.RefusalPlaces.{DirectivesAt};
 ghost use Rattle.yf_stream.specs.DerivedParts.{no_parts};
 ghost use Rattle.yf_stream.specs.PartsPlaces.{PartsAt};
-ghost use Rattle.yf_stream.specs.Walk.{NextAt};
+ghost use Rattle.yf_stream.specs.ReaderSteps.{NextAt};
 
 use crate::between::read_suffix;
 use crate::directives::{DirectiveLines, read_directives};
 use std::alloc::{AllocError, Global};
 use yf_block::look::node_ends;
-use yf_block::nodes::{Found, Outcome, block_node_in};
+use yf_block::nodes::{BlockOutcome, FoundBlock, block_node_in};
 use yf_chars::context::Ctx;
-use yf_chars::text::stands;
+use yf_chars::text::is_char_at;
 use yf_comments::comments::{Comments, Separation};
 use yf_comments::lines::line_end;
 use yf_events::directive::Directives;
@@ -26,22 +26,22 @@ use yf_events::event::{NewEvent, PlacedEvent, ScalarStyle};
 use yf_events::events::Events;
 use yf_events::part::Part;
 use yf_events::reading::DEPTH;
-use yf_events::row::Row;
 use yf_events::slices::Slices;
+use yf_events::values::Values;
 use yf_lines::basic::{is_forbidden_at, skip_whites};
 use yf_lines::text::Text;
 use yf_props::props::Props;
 
-/// What is read, and in which memory what is made of it stands.
+/// What is read, and in which memory what is made of it is.
 #[derive(Clone, Copy)]
-pub(crate) struct Source<'a> {
+pub(crate) struct StreamContext<'a> {
     pub(crate) alloc: Global,
     pub(crate) text: &'a str,
 }
 
 /// How far the stream has been read.
 #[derive(Clone, Copy)]
-pub(crate) struct Spot {
+pub(crate) struct StreamCursor {
     /// The byte offset of the next line.
     pub(crate) at: usize,
     /// The lines of a block scalar before this offset are no blank lines.
@@ -53,15 +53,15 @@ pub(crate) struct Spot {
     pub(crate) may_be_bare: bool,
 }
 
-impl Spot {
+impl StreamCursor {
     // After a document's root node another document needs a `---`, or a `...` before it.
-    fn behind_node(at: usize, floor: usize, reached: usize) -> Spot
+    fn cursor_after(at: usize, floor: usize, reached: usize) -> StreamCursor
         ensures at { result.at ≡ at }
         ensures floor { result.floor ≡ floor }
         ensures reached { result.reached ≡ reached }
         ensures bare { result.may_be_bare ≡ false }
     {
-        Spot {
+        StreamCursor {
             at,
             floor,
             reached,
@@ -80,8 +80,8 @@ pub(crate) struct Parts<'a> {
 
 /// What comes next.
 #[derive(Clone, Copy)]
-pub(crate) enum Next {
-    Go(Spot),
+pub(crate) enum StreamStep {
+    Go(StreamCursor),
     /// No stream is derived; the text goes wrong at the byte offset.
     Syntax(usize),
     /// The limit of open collections is passed at the byte offset.
@@ -107,7 +107,7 @@ impl<'a> Parts<'a> {
             part: Part {
                 events: Events::new(alloc),
                 comments: Comments::new(alloc),
-                escapes: Row::new(alloc),
+                escapes: Values::new(alloc),
             },
             documents: Documents::new(alloc),
         }
@@ -136,7 +136,7 @@ impl<'a> Parts<'a> {
     pub(crate) fn close(
         &mut self,
         alloc: Global,
-        spot: Spot,
+        spot: StreamCursor,
         explicit: bool,
     ) -> Result<(), AllocError>
         ensures documents { IfOk result (λ _. self.new.documents ≡ self.old.documents) }
@@ -166,7 +166,11 @@ impl<'a> Parts<'a> {
 
     /// Reads what begins at the offset, which is no comment line and not the end of the text: a document with its directives,
     /// or a `...`.
-    pub(crate) fn read_next(&mut self, source: Source<'a>, spot: Spot) -> Result<Next, AllocError>
+    pub(crate) fn read_next(
+        &mut self,
+        source: StreamContext<'a>,
+        spot: StreamCursor,
+    ) -> Result<StreamStep, AllocError>
         requires boundary { IsCharBoundary source.text.now spot.at }
         requires reached { IsCharBoundary source.text.now spot.reached }
         requires parts { PartsAt source.text.now self.old }
@@ -184,9 +188,9 @@ impl<'a> Parts<'a> {
             None => {}
         }
         if !spot.may_be_bare {
-            return Ok(Next::Syntax(spot.reached.max(spot.at)));
+            return Ok(StreamStep::Syntax(spot.reached.max(spot.at)));
         }
-        if stands(source.text, spot.at, b'%') {
+        if is_char_at(source.text, spot.at, b'%') {
             return self.directive_document(source, spot);
         }
         // A document without `---` (l-bare-document, production 207).
@@ -196,7 +200,11 @@ impl<'a> Parts<'a> {
     }
 
     // Reads directives and the document after them (l-directive-document, production 209).
-    fn directive_document(&mut self, source: Source<'a>, spot: Spot) -> Result<Next, AllocError>
+    fn directive_document(
+        &mut self,
+        source: StreamContext<'a>,
+        spot: StreamCursor,
+    ) -> Result<StreamStep, AllocError>
         requires boundary { IsCharBoundary source.text.now spot.at }
         requires percent { code source.text.now spot.at ≡ 37 }
         requires bare { spot.may_be_bare ≡ true }
@@ -211,19 +219,19 @@ impl<'a> Parts<'a> {
                 if has_dashes(source.text, end) {
                     return self.explicit_document(source, end, directives);
                 }
-                Ok(Next::Syntax(end))
+                Ok(StreamStep::Syntax(end))
             }
-            Err(place) => Ok(Next::Syntax(place)),
+            Err(place) => Ok(StreamStep::Syntax(place)),
         }
     }
 
     // Reads a document that begins with `---` (l-explicit-document, production 208).
     fn explicit_document(
         &mut self,
-        source: Source<'a>,
+        source: StreamContext<'a>,
         at: usize,
         directives: Directives<'a>,
-    ) -> Result<Next, AllocError>
+    ) -> Result<StreamStep, AllocError>
         requires boundary { IsCharBoundary source.text.now (at + 3) }
         requires directives { DirectivesAt source.text.now directives }
         requires parts { PartsAt source.text.now self.old }
@@ -240,7 +248,11 @@ impl<'a> Parts<'a> {
     }
 
     // Adds the empty node of a document after whose `---` the line ends, with its comments.
-    fn empty_document(&mut self, alloc: Global, line: Separation<'a>) -> Result<Next, AllocError>
+    fn empty_document(
+        &mut self,
+        alloc: Global,
+        line: Separation<'a>,
+    ) -> Result<StreamStep, AllocError>
         ensures { IfOk result (λ next. EmptyAdded line.entry.end line.entry.comments self.old self.new next) }
     {
         let Separation { comments, end } = line;
@@ -256,11 +268,11 @@ impl<'a> Parts<'a> {
                 text: Text::Part(""),
             },
         )?;
-        Ok(Next::Go(Spot::behind_node(end, 0, end)))
+        Ok(StreamStep::Go(StreamCursor::cursor_after(end, 0, end)))
     }
 
     // Reads the node of a document. Where it was found, and its reading did not go wrong after it, the next line follows.
-    fn root_node(&mut self, source: Source<'a>, at: usize) -> Result<Next, AllocError>
+    fn root_node(&mut self, source: StreamContext<'a>, at: usize) -> Result<StreamStep, AllocError>
         requires boundary { IsCharBoundary source.text.now at }
         requires parts { PartsAt source.text.now self.old }
         ensures reads { length source.entry.text.now ≤ 2 ^ 30
@@ -268,11 +280,11 @@ impl<'a> Parts<'a> {
         ensures next { IfOk result (λ next. NextAt source.entry.text.now (at + 1) next) }
         ensures parts { IfOk result (λ _. PartsAt source.entry.text.now self.new) }
     {
-        let Source { alloc, text } = source;
+        let StreamContext { alloc, text } = source;
         match block_node_in(alloc, text, at, -1, Ctx::BlockIn, DEPTH, &mut self.part)? {
-            Outcome::Found(found) => Ok(behind_found(found)),
-            Outcome::Nothing { reached } => Ok(Next::Syntax(reached)),
-            Outcome::TooDeep(place) => Ok(Next::TooDeep(place)),
+            BlockOutcome::Found(found) => Ok(after_found(found)),
+            BlockOutcome::Nothing { reached } => Ok(StreamStep::Syntax(reached)),
+            BlockOutcome::TooDeep(place) => Ok(StreamStep::TooDeep(place)),
         }
     }
 }
@@ -284,25 +296,25 @@ fn marker_at(text: &str, at: usize) -> Option<Marker>
     ensures boundary { IfSome result (λ _. IsCharBoundary text.now (at + 3)) }
 {
     if is_forbidden_at(text, at) {
-        if stands(text, at + 2, b'-') {
+        if is_char_at(text, at + 2, b'-') {
             return Some(Marker::DocumentStart);
         }
-        if stands(text, at + 2, b'.') {
+        if is_char_at(text, at + 2, b'.') {
             return Some(Marker::DocumentEnd);
         }
     }
     None
 }
 
-// Whether a `---` stands at the start of a line that begins at the offset.
+// Whether a `---` is at the start of a line that begins at the offset.
 fn has_dashes(text: &str, at: usize) -> bool
     requires { IsCharBoundary text.now at }
-    ensures marker { MatchBool result (Forbidden text.now at × (code text.now at ≡ 45))
-        (Forbidden text.now at → code text.now at ≡ 45 → ⊥) }
+    ensures marker { MatchBool result (ForbiddenLine text.now at × (code text.now at ≡ 45))
+        (ForbiddenLine text.now at → code text.now at ≡ 45 → ⊥) }
     ensures boundary { result ≡ true → IsCharBoundary text.now (at + 3) }
 {
     if is_forbidden_at(text, at) {
-        if stands(text, at + 2, b'-') {
+        if is_char_at(text, at + 2, b'-') {
             return true;
         }
         return false;
@@ -310,9 +322,9 @@ fn has_dashes(text: &str, at: usize) -> bool
     false
 }
 
-// What is left of the line of a `---`, with the comment lines after it, where no node stands after them: the text ends there, or a
-// byte order mark or a document marker stands.
-fn empty_end<'a>(source: Source<'a>, at: usize) -> Result<Option<Separation<'a>>, AllocError>
+// What is left of the line of a `---`, with the comment lines after it, where no node is after them: the text ends there, or a
+// byte order mark or a document marker is.
+fn empty_end<'a>(source: StreamContext<'a>, at: usize) -> Result<Option<Separation<'a>>, AllocError>
     requires { IsCharBoundary source.text.now at }
     ensures reads { IfOk result (λ o. MatchOption o (SomethingBegins source.entry.text.now at)
         (λ p. NothingAt source.entry.text.now at p.end p.comments)) }
@@ -331,14 +343,14 @@ fn empty_end<'a>(source: Source<'a>, at: usize) -> Result<Option<Separation<'a>>
 }
 
 // What comes after a node that was found: the next line, if its reading did not go wrong after it.
-fn behind_found(found: Found) -> Next
+fn after_found(found: FoundBlock) -> StreamStep
     ensures { FoundRead found result }
 {
     if found.whole {
-        return Next::Go(Spot::behind_node(found.end, found.floor, found.reached));
+        return StreamStep::Go(StreamCursor::cursor_after(found.end, found.floor, found.reached));
     }
     if found.too_deep {
-        return Next::TooDeep(found.reached);
+        return StreamStep::TooDeep(found.reached);
     }
-    Next::Syntax(found.reached)
+    StreamStep::Syntax(found.reached)
 }

@@ -1,17 +1,17 @@
-//! Which comments stand on the line on which a leaf ends. A leaf is a scalar, an alias or an empty collection.
+//! Which comments are on the line on which a leaf ends. A leaf is a scalar, an alias or an empty collection.
 ghost use Rattle.std.specs.Prelude.{◌≡◌, ℕ, ◌<◌, ◌≤◌, [], List, None, drop, length, map, IfOk, MatchBool};
 ghost use Rattle.yf_comments.specs.Comment.{comment_value};
 ghost use Rattle.yf_lines.specs.Lines.{AreLines};
 ghost use Rattle.yf_lines.specs.declared.line.Line.{Line};
 ghost use Rattle.yf_stream.specs.LeafSearch.{BegunAt, LastLeaf};
-ghost use Rattle.yf_stream.specs.LeafPass.{BeginsLine, NextLine, StandInOrder, StandsInLine, StopsAt, end_on_line, last_end, leaf_spans};
+ghost use Rattle.yf_stream.specs.LeafPass.{BeginsLine, NextLine, AreInOrder, IsInLine, StopsAt, end_on_line, last_end, leaf_spans};
 
 use std::alloc::AllocError;
 use yf_comments::comment::Comment;
 use yf_comments::comments::Comments;
 use yf_events::events::Events;
 use yf_events::leaves::begins_leaf;
-use yf_events::row::Row;
+use yf_events::values::Values;
 use yf_lines::basic::{break_ends, line_break};
 
 // How many events have been looked at, and where the last leaf with characters among them ends.
@@ -21,16 +21,16 @@ struct Seen {
     leaf_end: Option<usize>,
 }
 
-/// For each comment, whether it stands on the line on which the last leaf with characters that begins before it ends.
+/// For each comment, whether it is on the line on which the last leaf with characters that begins before it ends.
 pub(crate) fn on_leaf_lines(
     text: &str,
     events: &Events,
     comments: &Comments,
-    notes: &mut Row<bool>,
+    notes: &mut Values<bool>,
 ) -> Result<(), AllocError>
     requires { notes.old ≡ [] }
     ensures count { IfOk result (λ _. length notes.new ≡ length comments.now) }
-    ensures notes { IfOk result (λ _. (ls : List Line) → AreLines text.now ls → StandInOrder text.now events.now comments.now
+    ensures notes { IfOk result (λ _. (ls : List Line) → AreLines text.now ls → AreInOrder text.now events.now comments.now
         → notes.new ≡ map (λ c. end_on_line ls (last_end None c.offset (leaf_spans events.now)) c.offset) comments.now) }
 {
     let mut seen = Seen {
@@ -108,9 +108,9 @@ fn last_leaf(events: &Events, start: usize, end: usize, found: Option<usize>) ->
     found
 }
 
-// Whether the last character before the end stands on the comment's line.
+// Whether the last character before the end is on the comment's line.
 fn ends_on_line(text: &str, leaf_end: Option<usize>, comment: &Comment) -> bool
-    ensures { (ls : List Line) → AreLines text.now ls → StandsInLine text.now (comment_value comment.now)
+    ensures { (ls : List Line) → AreLines text.now ls → IsInLine text.now (comment_value comment.now)
         → result ≡ end_on_line ls leaf_end comment.now.offset }
 {
     match leaf_end {
@@ -126,7 +126,7 @@ fn ends_on_line(text: &str, leaf_end: Option<usize>, comment: &Comment) -> bool
     }
 }
 
-// The start of the line on which the offset stands.
+// The start of the line on which the offset is.
 fn line_start(text: &str, at: usize) -> usize
     ensures { BeginsLine text.now at result }
 {

@@ -9,7 +9,7 @@ use std::alloc::{AllocError, Global};
 use std::collections::BTreeMap;
 use std::marker::Model;
 use yf_lines::fault::Fault;
-use yf_lines::place::Place;
+use yf_lines::place::Position;
 use yf_props::handles::Handles;
 use yf_props::props::Tag;
 use yf_props::resolved::ResolvedTag;
@@ -79,7 +79,7 @@ impl<'a> Prefixes<'a> {
         ensures refused { IfErr result (λ fault. (fault ≡ Fault.Memory)
             ⊎ ((fault ≡ Fault.UnknownHandle (record { line = 1; column = 1 })) × UnknownHandleOf self.now (tag_value tag.now))) }
     {
-        let place = Place { line: 1, column: 1 };
+        let place = Position { line: 1, column: 1 };
         if let Tag::Short { handle, .. } = *tag {
             if self.all.len() > FEW {
                 if let Some(prefix) = self.all.get(&handle) {
@@ -99,7 +99,7 @@ fn resolve_alone<'a>(
     handle: &'a str,
     prefix: &'a str,
     tag: &Tag<'a>,
-    place: Place,
+    place: Position,
 ) -> Result<ResolvedTag<'a>, Fault>
     ensures text { IfOk result (λ text. TagText ((handle.entry.now, prefix.entry.now) ∷ []) (tag_value tag.now) text) }
     ensures refused { IfErr result (λ fault. (fault ≡ Fault.Memory)

@@ -2,21 +2,21 @@
 ghost use Rattle.std.specs.Prelude.{◌≡◌, ◌≤◌, ◌<◌, [], ◌∷◌, ◌++◌, false, drop, length, IfOk};
 ghost use Rattle.yf_props.specs.Props.{name_value, optional_tag_value};
 ghost use Rattle.yf_events.specs.Event.{event_value};
-ghost use Rattle.yf_stream.specs.TagPass.{AllPassed, EventAt, FirstOf, Finds, PassTags, Passed, Resolves, SameDeclarations, SameNames, StartsDocument, TagAdded, TagOf, directives_of, stream_breaches};
+ghost use Rattle.yf_stream.specs.TagPass.{AllPassed, EventAt, FirstOf, FirstOfBoth, PassTags, EventPassed, TagsResolved, SameDeclarations, SameNames, StartsDocument, TagAdded, TagOf, directives_of, stream_breaches};
 ghost use Rattle.yf_stream.specs.BareRun.{BarePassed};
 ghost use Rattle.yf_stream.specs.TagPass as TagPass;
 ghost use Rattle.yf_stream.specs.WellFormed.{alias_breaches, alias_of, breach_if, declarations, directive_breaches, is_unknown, offset_or, props_of, start_or, with_name};
 
 use crate::anchors::Anchors;
-use crate::breaches::{Breach, Kind, keep_escapes, keep_if};
+use crate::breaches::{Breach, BreachKind, keep_escapes, keep_if};
 use crate::declarations::declare_all;
 use crate::prefixes::Prefixes;
 use std::alloc::{AllocError, Global};
 use yf_events::document::{Doc, Documents};
 use yf_events::event::Event;
 use yf_events::events::Events;
-use yf_events::row::Row;
 use yf_events::tags::Tags;
+use yf_events::values::Values;
 use yf_lines::fault::Fault;
 use yf_props::props::{Props, Tag};
 use yf_props::resolved::ResolvedTag;
@@ -33,7 +33,7 @@ pub(crate) fn resolve<'a>(
     alloc: Global,
     events: &Events<'a>,
     documents: &Documents<'a>,
-    escapes: &Row<usize>,
+    escapes: &Values<usize>,
     resolved: &mut Resolved<'a>,
 ) -> Result<(), AllocError>
     requires nothing { resolved.old ≡ record { tags = []; first = None } }
@@ -64,7 +64,7 @@ fn resolve_events<'e, 'a>(
     requires { start ≤ length events.now }
     ensures end { IfOk result (λ end. (start ≤ end) × (end ≤ length events.now)) }
     ensures next { IfOk result (λ end. StartsDocument (drop end events.now)) }
-    ensures resolves { IfOk result (λ end. Resolves events.now (directives_of document.entry) start end
+    ensures resolves { IfOk result (λ end. TagsResolved events.now (directives_of document.entry) start end
         resolved.old.first resolved.new.first resolved.old.tags resolved.new.tags) }
 {
     let mut handles = Prefixes::new(alloc);
@@ -95,7 +95,7 @@ fn resolve_from<'e, 'a>(
     requires anchors { anchors.old ≡ [] }
     ensures end { IfOk result (λ end. (start ≤ end) × (end ≤ length events.now)) }
     ensures next { IfOk result (λ end. StartsDocument (drop end events.now)) }
-    ensures resolves { IfOk result (λ end. Resolves events.now (directives_of document.entry) start end
+    ensures resolves { IfOk result (λ end. TagsResolved events.now (directives_of document.entry) start end
         resolved.old.first resolved.new.first resolved.old.tags resolved.new.tags) }
 {
     declare_handles(document, handles, &mut resolved.first)?;
@@ -191,7 +191,7 @@ fn declare_handles<'a>(
     first: &mut Option<Breach>,
 ) -> Result<(), AllocError>
     ensures handles { IfOk result (λ _. SameDeclarations handles.new (declarations handles.old (directives_of document.entry))) }
-    ensures found { IfOk result (λ _. Finds first.old first.new (directive_breaches false handles.old (directives_of document.entry))) }
+    ensures found { IfOk result (λ _. FirstOfBoth first.old first.new (directive_breaches false handles.old (directives_of document.entry))) }
 {
     match document {
         Some(document) => declare_all(document.directives.as_slice(), handles, first),
@@ -207,7 +207,7 @@ fn note_event<'e>(
     first: &mut Option<Breach>,
 ) -> Result<(), AllocError>
     ensures names { IfOk result (λ _. SameNames anchors.new (with_name (props_of (event_value event.entry)).anchor anchors.old)) }
-    ensures found { IfOk result (λ _. Finds first.old first.new
+    ensures found { IfOk result (λ _. FirstOfBoth first.old first.new
         (alias_breaches anchors.old offset (alias_of (event_value event.entry)))) }
 {
     match event {
@@ -215,7 +215,12 @@ fn note_event<'e>(
         | Event::SeqStart { props, .. }
         | Event::MapStart { props, .. } => note_anchor(props, anchors),
         Event::Alias { name } => {
-            keep_if(first, !anchors.contains(name), Kind::UnknownAlias, offset);
+            keep_if(
+                first,
+                !anchors.contains(name),
+                BreachKind::UnknownAlias,
+                offset,
+            );
             Ok(())
         }
         _ => Ok(()),
@@ -241,8 +246,8 @@ fn resolve_tag<'a>(
 ) -> Result<Option<ResolvedTag<'a>>, AllocError>
     ensures tag { IfOk result (λ r. is_unknown handles.now (optional_tag_value tag.entry) ≡ false
         → TagOf handles.now (optional_tag_value tag.entry) r) }
-    ensures found { IfOk result (λ _. Finds first.old first.new
-        (breach_if (is_unknown handles.now (optional_tag_value tag.entry)) Kind.UnknownHandle (offset_or 0 offset))) }
+    ensures found { IfOk result (λ _. FirstOfBoth first.old first.new
+        (breach_if (is_unknown handles.now (optional_tag_value tag.entry)) BreachKind.UnknownHandle (offset_or 0 offset))) }
 {
     let Some(tag) = tag else {
         return Ok(None);
@@ -250,7 +255,7 @@ fn resolve_tag<'a>(
     match handles.resolve(alloc, &tag) {
         Ok(tag) => Ok(Some(tag)),
         Err(Fault::UnknownHandle { .. }) => {
-            keep_if(first, true, Kind::UnknownHandle, offset.unwrap_or(0));
+            keep_if(first, true, BreachKind::UnknownHandle, offset.unwrap_or(0));
             Ok(None)
         }
         Err(_) => Err(AllocError),

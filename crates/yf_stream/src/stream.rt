@@ -2,19 +2,19 @@
 ghost use Rattle.std.specs.Prelude.{◌≡◌, ◌+◌, ◌-◌, ◌<◌, ◌≤◌, ◌^◌, [], length, Err, IfErr, IfOk, IfSome, MatchOption, MatchResult};
 ghost use Rattle.std.specs.Str.{IsCharBoundary};
 ghost use Rattle.yf_events.specs.Nested.{IsStream};
-ghost use Rattle.yf_events.specs.Reading.{Fits, events_of};
+ghost use Rattle.yf_events.specs.Reading.{ListsFit, events_of};
 ghost use Rattle.yf_stream.specs.DerivedParts.{no_parts};
 ghost use Rattle.yf_stream.specs.DerivedStreams.{ListsDerived, ShapeOr};
 ghost use Rattle.yf_stream.specs.MadeReadings.{MadeOr, NoBreach};
-ghost use Rattle.yf_stream.specs.Drafts.{drafted, lists_of, nothing_drafted};
-ghost use Rattle.yf_stream.specs.NotedLists.{FaultAt, NotedOr};
+ghost use Rattle.yf_stream.specs.StreamDrafts.{drafted, lists_of, nothing_drafted};
+ghost use Rattle.yf_stream.specs.NotedLists.{FaultAt, ListsOrRefusal};
 ghost use Rattle.yf_stream.specs.PartsPlaces.{PartsAt};
 ghost use Rattle.yf_stream.specs.RefusalPlaces.{RefusalAt, offset_of};
 ghost use Rattle.yf_stream.specs.StreamReader as StreamReader;
 
 use crate::between::skip_prefix;
-use crate::breaches::{Breach, Kind};
-use crate::documents::{Next, Parts, Source, Spot};
+use crate::breaches::{Breach, BreachKind};
+use crate::documents::{Parts, StreamContext, StreamCursor, StreamStep};
 use crate::leaf_lines::on_leaf_lines;
 use crate::resolve::{Resolved, resolve};
 use std::alloc::{AllocError, Global};
@@ -23,10 +23,10 @@ use yf_events::event::NewEvent;
 use yf_events::lists::Lists;
 use yf_events::part::Part;
 use yf_events::reading::{DEPTH, Reading};
-use yf_events::row::Row;
 use yf_events::tags::Tags;
+use yf_events::values::Values;
 use yf_lines::fault::Fault;
-use yf_lines::place::Place;
+use yf_lines::place::Position;
 use yf_lines::table::LineTable;
 
 // Why a text is no stream, at a byte offset.
@@ -42,7 +42,7 @@ enum Refusal {
 struct Draft<'a> {
     parts: Parts<'a>,
     resolved: Resolved<'a>,
-    on_leaf_line: Row<bool>,
+    on_leaf_line: Values<bool>,
 }
 
 /// The most bytes that a text may have of which a reading is made: 1 GiB. A reading keeps offsets in 32 bits, and no column is larger.
@@ -74,7 +74,7 @@ pub fn read_stream<'a>(alloc: Global, text: &'a str) -> Result<Reading<'a>, Faul
             tags: Tags::new(alloc),
             first: None,
         },
-        on_leaf_line: Row::new(alloc),
+        on_leaf_line: Values::new(alloc),
     };
     match fill(alloc, text, &mut draft) {
         Ok(None) => built(alloc, into_lists(draft)),
@@ -91,7 +91,7 @@ pub fn read_stream<'a>(alloc: Global, text: &'a str) -> Result<Reading<'a>, Faul
 
 // The reading of these lists. The events of a stream are well nested, within the limit: so there is one.
 fn built<'a>(alloc: Global, lists: Lists<'a>) -> Result<Reading<'a>, Fault>
-    requires fits { Fits lists }
+    requires fits { ListsFit lists }
     requires nested { IsStream DEPTH (events_of lists) }
     ensures { MatchResult result (λ reading. reading ≡ lists.entry) (λ fault. fault ≡ Fault.Memory) }
 {
@@ -151,15 +151,15 @@ fn fault_at(alloc: Global, text: &str, refusal: Refusal) -> Fault
 }
 
 // The fault that tells of a breach.
-fn fault_of(breach: Breach, place: Place) -> Fault
+fn fault_of(breach: Breach, place: Position) -> Fault
     ensures { result ≡ StreamReader.fault_of breach.kind place }
 {
     match breach.kind {
-        Kind::UnknownHandle => Fault::UnknownHandle { place },
-        Kind::UnknownAlias => Fault::UnknownAlias { place },
-        Kind::RepeatedDirective => Fault::RepeatedDirective { place },
-        Kind::BadVersion => Fault::BadVersion { place },
-        Kind::EscapeValue => Fault::EscapeValue { place },
+        BreachKind::UnknownHandle => Fault::UnknownHandle { place },
+        BreachKind::UnknownAlias => Fault::UnknownAlias { place },
+        BreachKind::RepeatedDirective => Fault::RepeatedDirective { place },
+        BreachKind::BadVersion => Fault::BadVersion { place },
+        BreachKind::EscapeValue => Fault::EscapeValue { place },
     }
 }
 
@@ -172,7 +172,7 @@ fn fill<'a>(
     requires nothing { draft.old ≡ nothing_drafted }
     ensures made { IfOk result (λ o. MadeOr text.now (drafted draft.new o)) }
     ensures reads { length text.now ≤ 2 ^ 30 → IfOk result (λ o. ListsDerived text.now (drafted draft.new o)) }
-    ensures refusal { IfOk result (λ o. MatchOption o (Fits (lists_of draft.new)) (λ refusal. RefusalAt text.now refusal)) }
+    ensures refusal { IfOk result (λ o. MatchOption o (ListsFit (lists_of draft.new)) (λ refusal. RefusalAt text.now refusal)) }
 {
     if let Some(refusal) = read_documents(alloc, text, &mut draft.parts)? {
         return Ok(Some(refusal));
@@ -180,7 +180,7 @@ fn fill<'a>(
     note(alloc, text, draft)
 }
 
-// Resolves the tags of the parts and notes which comments stand on the lines of leaves, or tells of the first breach.
+// Resolves the tags of the parts and notes which comments are on the lines of leaves, or tells of the first breach.
 fn note<'a>(
     alloc: Global,
     text: &'a str,
@@ -189,8 +189,8 @@ fn note<'a>(
     requires parts { PartsAt text.now draft.old.parts }
     requires resolved { draft.old.resolved ≡ record { tags = []; first = None } }
     requires notes { draft.old.on_leaf_line ≡ [] }
-    ensures noted { IfOk result (λ o. NotedOr text.now draft.old.parts (drafted draft.new o)) }
-    ensures refusal { IfOk result (λ o. MatchOption o (Fits (lists_of draft.new)) (λ refusal. RefusalAt text.now refusal)) }
+    ensures noted { IfOk result (λ o. ListsOrRefusal text.now draft.old.parts (drafted draft.new o)) }
+    ensures refusal { IfOk result (λ o. MatchOption o (ListsFit (lists_of draft.new)) (λ refusal. RefusalAt text.now refusal)) }
 {
     let parts = &draft.parts;
     let part = &parts.part;
@@ -222,7 +222,7 @@ fn read_documents<'a>(
     ensures parts { IfOk result (λ _. PartsAt text.now parts.new) }
 {
     parts.push_unplaced(alloc, NewEvent::StreamStart)?;
-    let mut spot = Spot {
+    let mut spot = StreamCursor {
         at: 0,
         floor: 0,
         reached: 0,
@@ -235,10 +235,10 @@ fn read_documents<'a>(
             parts.push_unplaced(alloc, NewEvent::StreamEnd)?;
             return Ok(None);
         }
-        match parts.read_next(Source { alloc, text }, spot)? {
-            Next::Go(next) => spot = next,
-            Next::Syntax(offset) => return Ok(Some(Refusal::Syntax(offset))),
-            Next::TooDeep(offset) => return Ok(Some(Refusal::TooDeep(offset))),
+        match parts.read_next(StreamContext { alloc, text }, spot)? {
+            StreamStep::Go(next) => spot = next,
+            StreamStep::Syntax(offset) => return Ok(Some(Refusal::Syntax(offset))),
+            StreamStep::TooDeep(offset) => return Ok(Some(Refusal::TooDeep(offset))),
         }
     }
 }

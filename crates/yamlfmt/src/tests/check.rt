@@ -91,7 +91,7 @@ static ROWS: [Row; 42] = [
     ("", "---\n? |\n  x\n: y\n", 0, ""),
     ("", "---\na:\n  - x\n", 0, ""),
     ("", "- *a \n", 2, "1:3 refused: unknown-alias\n"),
-    // sequences stand at their keys
+    // sequences are at their keys
     (
         "seq_indent = false\n",
         "---\na:\n  - x\n",

@@ -16,7 +16,7 @@ pub enum Step {
     Hold,
     /// The file system has no locks, which is no failure.
     Locks,
-    /// To tell what stands at the path of the new file.
+    /// To tell what is at the path of the new file.
     Look,
     Remove,
     Make,

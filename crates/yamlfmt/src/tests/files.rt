@@ -75,7 +75,7 @@ fn has_text(rt: &HostRuntime, text: &str) -> bool {
 /// the file after it.
 type Row = (&'static str, u32, bool, Step, Answer, &'static str);
 
-/// Whether that is the answer for a file, and what stands then at both paths. The file keeps its permissions; one whose text stays
+/// Whether that is the answer for a file, and what is then at both paths. The file keeps its permissions; one whose text stays
 /// is the same file.
 fn ends_with(rt: &HostRuntime, row: &Row) -> io::Result<bool> {
     let (old, mode, is_left, fails, wanted, new) = *row;
@@ -236,14 +236,14 @@ fn rewrites_files_or_leaves_them(rt: HostRuntime) {
     assert!(rt; fs::remove_dir_all(&rt, "yamlfmt_rewrites").is_ok());
 }
 
-/// Paths at which no regular file stands, and one at which then nothing may stand.
+/// Paths at which no regular file is, and one at which then nothing may be.
 static NO_FILES: [(&str, &str); 3] = [
     ("yamlfmt_kinds", "yamlfmt_kinds.yamlfmt-new"),
     ("/dev/null", "yamlfmt_kinds.yamlfmt-new"),
     ("yamlfmt_kinds/b.yaml", "yamlfmt_kinds/b.yaml"),
 ];
 
-/// Whether a path is no regular file, and nothing stands at the other one then.
+/// Whether a path is no regular file, and nothing is at the other one then.
 fn is_no_file(rt: &HostRuntime, path: &str, missing: &str) -> bool {
     answers(rt, rt, path, Answer::ReadFailed) && matches!(fs::exists(rt, missing), Ok(false))
 }

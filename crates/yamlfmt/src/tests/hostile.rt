@@ -190,7 +190,7 @@ fn is_refused_by_each(trial: Trial, failing: Failing, full: &Answer) -> bool {
 /// The bytes that a command may write here.
 const ROOM: usize = 16_384;
 
-/// What a run answers and writes, held without memory of its own. After what is written stand zeros.
+/// What a run answers and writes, held without memory of its own. After what is written are zeros.
 #[derive(Drop)]
 struct Held {
     status: u8,

@@ -2,7 +2,7 @@
 
 use crate::tests::failing_files::{FailingFiles, Step};
 use crate::tests::replacing::{
-    Folder, Meanwhile, NEW, OLD, is_put, is_removed, make_folder, stands,
+    Folder, Meanwhile, NEW, OLD, is_put, is_removed, is_there, make_folder,
 };
 use std::fs::Permissions;
 use std::os::unix::fs::{MetadataExt, PermissionsExt, chown};
@@ -77,7 +77,7 @@ static OWNER: Folder = Folder {
 fn keeps_owner(rt: &HostRuntime, fails: Step, puts: bool) -> bool {
     make_folder(rt, &OWNER).is_ok()
         && matches!(put_in_place_of_another(rt, &OWNER, fails), Ok(is_put) if is_put == puts)
-        && stands(rt, &OWNER, if puts { NEW } else { OLD }, false)
+        && is_there(rt, &OWNER, if puts { NEW } else { OLD }, false)
         && is_of_another(rt, OWNER.path)
         && is_removed(rt, &OWNER)
 }

@@ -1,4 +1,4 @@
-//! Files that get another text, in a folder of their own: what stands at the path of the new file, and each step that fails.
+//! Files that get another text, in a folder of their own: what is at the path of the new file, and each step that fails.
 
 ghost use Rattle.std.specs.Prelude.{⊤};
 
@@ -100,9 +100,9 @@ fn is_regular(rt: &HostRuntime, path: &str) -> bool {
     }
 }
 
-/// Whether the file is a regular one that holds the text, something stands at the path of the new file, and the file beside
+/// Whether the file is a regular one that holds the text, something is at the path of the new file, and the file beside
 /// it is as it was.
-pub fn stands(rt: &HostRuntime, folder: &Folder, text: &str, has_new: bool) -> bool {
+pub fn is_there(rt: &HostRuntime, folder: &Folder, text: &str, has_new: bool) -> bool {
     let path = folder.path;
     holds(rt, path, text)
         && holds(rt, folder.other, OTHER)
@@ -115,7 +115,7 @@ pub fn is_removed(rt: &HostRuntime, folder: &Folder) -> bool {
     fs::remove_dir_all(rt, folder.name).is_ok()
 }
 
-/// What stands at the path of the new file.
+/// What is at the path of the new file.
 #[derive(Clone, Copy)]
 enum Left {
     Nothing,
@@ -139,7 +139,7 @@ fn leave(rt: &HostRuntime, folder: &Folder, left: Left) -> io::Result<()> {
     }
 }
 
-/// A name, what stands at the path of the new file, the step that fails, whether the new text is put, and whether something
+/// A name, what is at the path of the new file, the step that fails, whether the new text is put, and whether something
 /// stays at the path of the new file.
 type Row = (&'static str, Left, Step, bool, bool);
 
@@ -150,8 +150,8 @@ static ROWS_FOLDER: Folder = Folder {
     other: "replacing_rows/other",
 };
 
-/// Whether the new text is put where that stands and that step fails, or not; and whether all is then as it should be: what
-/// stands at the path of the new file is gone, but for some of what stood there where nothing was put.
+/// Whether the new text is put where that is and that step fails, or not; and whether all is then as it should be: what
+/// is at the path of the new file is gone, but for some of what was there where nothing was put.
 fn puts(rt: &HostRuntime, row: &Row) -> bool {
     let (_, left, fails, puts, stays) = *row;
     let folder = &ROWS_FOLDER;
@@ -159,7 +159,7 @@ fn puts(rt: &HostRuntime, row: &Row) -> bool {
     make_folder(rt, folder).is_ok()
         && leave(rt, folder, left).is_ok()
         && is_put(rt, &files, folder, Meanwhile::Nothing) == puts
-        && stands(rt, folder, if puts { NEW } else { OLD }, stays)
+        && is_there(rt, folder, if puts { NEW } else { OLD }, stays)
         && matches!(fs::exists(rt, "replacing_rows/missing"), Ok(false))
         && is_removed(rt, folder)
 }
@@ -215,7 +215,7 @@ fn leaves_a_held_file(rt: &HostRuntime, folder: &Folder) -> bool {
         Ok(first) => {
             matches!(first.hold(), Ok(true))
                 && !is_put(rt, rt, folder, Meanwhile::Nothing)
-                && stands(rt, folder, OLD, false)
+                && is_there(rt, folder, OLD, false)
         }
         Err(_) => false,
     }
@@ -259,7 +259,7 @@ static CHANGED: Folder = Folder {
 fn leaves_a_changed_file(rt: &HostRuntime, meanwhile: Meanwhile) -> bool {
     make_folder(rt, &CHANGED).is_ok()
         && !is_put(rt, rt, &CHANGED, meanwhile)
-        && stands(rt, &CHANGED, OTHER, false)
+        && is_there(rt, &CHANGED, OTHER, false)
         && is_removed(rt, &CHANGED)
 }
 
@@ -270,7 +270,7 @@ fn leaves_what_others_hold_or_change(rt: HostRuntime) {
     assert!(rt; leaves_a_changed_file(&rt, Meanwhile::Renames));
 }
 
-/// Paths, and whether what stands there is opened.
+/// Paths, and whether what is there is opened.
 static OPENED: [(&str, bool); 5] = [
     ("replacing_kinds/a.yaml", true),
     ("replacing_kinds/link", true),

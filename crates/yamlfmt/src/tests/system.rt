@@ -7,7 +7,7 @@ use std::io;
 use std::io::Read;
 use yf_lines::fault::Fault;
 use yf_lines::output::write_text;
-use yf_lines::place::Place;
+use yf_lines::place::Position;
 use yf_lines::watched::{Sink, Source, Watched};
 use yf_program::report::report;
 use yf_rules::input::read_all;
@@ -74,7 +74,7 @@ fn writes_a_front_and_fails(rt: HostRuntime) {
     assert!(rt; writes(b"", 0));
 }
 
-const PLACE: Place = Place {
+const PLACE: Position = Position {
     line: 12,
     column: 7,
 };

@@ -3,11 +3,11 @@ ghost use Rattle.std.specs.Prelude.{◌≡◌, ◌&&◌, false, map, not, MatchO
 ghost use Rattle.std.specs.List.Sorted.{IsNonDecreasingBy};
 ghost use Rattle.std.specs.Str.{IsUtf8};
 ghost use Rattle.yf_comments.specs.Comment.{comment_value};
-ghost use Rattle.yf_emit.specs.ContentStart as ContentStart;
-ghost use Rattle.yf_emit.specs.Kept as Kept;
-ghost use Rattle.yf_emit.specs.Measuring as Measuring;
-ghost use Rattle.yf_emit.specs.OneLine.{props_text};
-ghost use Rattle.yf_emit.specs.Searches.{TellsHalving};
+ghost use Rattle.yf_emit.specs.Nodes.ContentStart as ContentStart;
+ghost use Rattle.yf_emit.specs.Nodes.OneLineFlows as Kept;
+ghost use Rattle.yf_emit.specs.Passes.MeasurePass as Measuring;
+ghost use Rattle.yf_emit.specs.Nodes.OneLine.{props_text};
+ghost use Rattle.yf_emit.specs.Passes.Searches.{TellsHalving};
 ghost use Rattle.yf_props.specs.Props.{props_value};
 
 use crate::form::comments_before::first_between;
@@ -34,7 +34,7 @@ pub(crate) struct Open {
     last_leaf: Option<usize>,
 }
 
-/// Whether a comment stands between the brackets of a collection with these properties.
+/// Whether a comment is between the brackets of a collection with these properties.
 fn has_comment(text: &str, comments: &[Comment], span: Option<Span>, props: &Props) -> bool
     ensures has { IsNonDecreasingBy (λ c. c.offset) comments.now
         → result ≡ Kept.has_comment text.now (map comment_value comments.now) span (props_value props.now) }
@@ -154,7 +154,7 @@ pub(crate) fn closed(collection: &Open, end: usize) -> Ended
     }
 }
 
-/// A comma with the space after it, or a `:` with it, stands before each node but the first.
+/// A comma with the space after it, or a `:` with it, is before each node but the first.
 fn separator_width(collection: &Open) -> usize
     ensures { result ≡ Measuring.separator_width collection.now }
 {

@@ -1,11 +1,11 @@
-//! Where comments stand among the nodes.
+//! Where comments are among the nodes.
 ghost use Rattle.std.specs.Prelude.{◌≡◌, ◌+◌, ◌<◌, ◌≤◌, ◌⊎◌, drop, false, length, map, nat_lt, true, ℕ, IfSome, MatchOption};
 ghost use Rattle.std.specs.List.{AllWithin, HoldsAt};
 ghost use Rattle.std.specs.List.Sorted.{IsNonDecreasingBy, IsPartitionPoint};
 ghost use Rattle.yf_comments.specs.Comment.{comment_value};
-ghost use Rattle.yf_emit.specs.Drafts.{count_to};
-ghost use Rattle.yf_emit.specs.Halving.{Halves, HalvesBetween, MayBegin, StaysUnknown};
-ghost use Rattle.yf_emit.specs.Kept.{is_within};
+ghost use Rattle.yf_emit.specs.Passes.Drafts.{count_to};
+ghost use Rattle.yf_emit.specs.Passes.Halving.{Halves, HalvesBetween, MayBegin, StaysUnknown};
+ghost use Rattle.yf_emit.specs.Nodes.OneLineFlows.{is_within};
 
 use yf_comments::comment::Comment;
 
@@ -55,7 +55,7 @@ fn low_by(comments: &[Comment], near: usize, offset: usize) -> usize
 fn high_by(comments: &[Comment], near: usize, offset: usize) -> usize
     ensures near { (k : ℕ) → k ≤ near → k ≤ length comments.now → k ≤ result }
     ensures within { result ≤ length comments.now }
-    ensures behind { IsNonDecreasingBy (λ c. c.offset) comments.now
+    ensures follows { IsNonDecreasingBy (λ c. c.offset) comments.now
         → AllWithin (λ c. nat_lt c.offset offset ≡ false) comments.now result (length comments.now) }
     ensures unknown { length comments.now < near → result ≡ length comments.now }
 {
@@ -144,7 +144,7 @@ pub fn first_between(comments: &[Comment], from: usize, to: usize) -> Option<usi
 }
 
 /// The index of the first comment, from an index on, that does not begin before the byte offset.
-pub(crate) fn first_behind(comments: &[Comment], from: usize, offset: usize) -> usize
+pub(crate) fn first_after(comments: &[Comment], from: usize, offset: usize) -> usize
     ensures { result ≡ from + count_to offset (drop from (map comment_value comments.now)) }
 {
     let mut k = from;

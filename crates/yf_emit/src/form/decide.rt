@@ -3,18 +3,18 @@
 ghost use Rattle.std.specs.Prelude.{◌<◌, ◌≡◌, get_or, length, reverse, IfOk, MatchResult};
 ghost use Rattle.std.specs.List.Sorted.{IsNonDecreasingBy};
 ghost use Rattle.yf_events.specs.Event.{event_value};
-ghost use Rattle.yf_emit.specs.Deciding as Deciding;
-ghost use Rattle.yf_emit.specs.Deciding.{given, state};
-ghost use Rattle.yf_emit.specs.EventsGiven.{given_in};
-ghost use Rattle.yf_emit.specs.Forms.{no_form, Decided};
-ghost use Rattle.yf_emit.specs.Halving.{MayBegin, StaysUnknown};
-ghost use Rattle.yf_emit.specs.ImplicitKeys.{TellsImplicit};
+ghost use Rattle.yf_emit.specs.Passes.DecidePass as Deciding;
+ghost use Rattle.yf_emit.specs.Passes.DecidePass.{given, state};
+ghost use Rattle.yf_emit.specs.Passes.EventsGiven.{given_in};
+ghost use Rattle.yf_emit.specs.NormalForms.Forms.{no_form, AreForms};
+ghost use Rattle.yf_emit.specs.Passes.Halving.{MayBegin, StaysUnknown};
+ghost use Rattle.yf_emit.specs.Nodes.ImplicitKeys.{TellsImplicit};
 
 use crate::form::comments_before::first_search;
 use crate::form::forms::Forms;
+use crate::form::layout_context::{EventFacts, LayoutFrame, fits, place_node};
 use crate::form::measure::{Measure, measure_all};
 use crate::form::measures::Measures;
-use crate::form::places::{EventFacts, Level, fits, place_node};
 use crate::style::Style;
 use std::alloc::{AllocError, Global};
 use yf_events::event::Event;
@@ -73,7 +73,7 @@ fn is_whole(measure: &Measure, i: usize, is_kept: bool) -> bool
 #[inline(always)]
 fn node(
     list: &mut Forms,
-    stack: &mut Vec<Level>,
+    stack: &mut Vec<LayoutFrame>,
     near: &mut usize,
     facts: &EventFacts,
     is_map: bool,
@@ -97,7 +97,7 @@ fn node(
     if is_whole(measure, facts.i, is_kept) {
         return Ok(measure.last);
     }
-    stack.push(Level {
+    stack.push(LayoutFrame {
         is_map,
         column: place.entries,
         key: None,
@@ -109,7 +109,7 @@ fn node(
 #[inline(always)]
 fn pass(
     list: &mut Forms,
-    stack: &mut Vec<Level>,
+    stack: &mut Vec<LayoutFrame>,
     near: &mut usize,
     facts: &EventFacts,
 ) -> Result<usize, AllocError>
@@ -146,7 +146,7 @@ fn pass(
 #[inline(always)]
 fn advance(
     list: &mut Forms,
-    stack: &mut Vec<Level>,
+    stack: &mut Vec<LayoutFrame>,
     near: &mut usize,
     measured: &MeasuredReading,
     event: &Event,
@@ -183,10 +183,10 @@ pub fn decide(
     reading: &Reading,
     style: &Style,
 ) -> Result<Forms, AllocError>
-    ensures { IfOk result (λ forms. Decided reading.now style.now measures.now forms) }
+    ensures { IfOk result (λ forms. AreForms reading.now style.now measures.now forms) }
 {
     let mut list = Forms::new(alloc);
-    let mut stack: Vec<Level> = Vec::new(alloc);
+    let mut stack: Vec<LayoutFrame> = Vec::new(alloc);
     let mut done = 0;
     let mut near = first_search(reading.comments(), reading.len());
     let measured = MeasuredReading {

@@ -1,11 +1,11 @@
 //! What is known of a node that has ended, and the nodes that end where they begin: scalars and aliases.
 ghost use Rattle.std.specs.Prelude.{◌≡◌, false};
 ghost use Rattle.std.specs.Str.{IsUtf8};
-ghost use Rattle.yf_emit.specs.Kept.{scalar_may_be_kept};
-ghost use Rattle.yf_emit.specs.Measures.{is_one_line_style, width_if};
-ghost use Rattle.yf_emit.specs.Measuring as Measuring;
-ghost use Rattle.yf_emit.specs.OneLine.{props_text, scalar_text, spaced};
-ghost use Rattle.yf_emit.specs.Wanted as Wanted;
+ghost use Rattle.yf_emit.specs.Nodes.OneLineFlows.{scalar_may_be_kept};
+ghost use Rattle.yf_emit.specs.NormalForms.Measures.{is_one_line_style, width_if};
+ghost use Rattle.yf_emit.specs.Passes.MeasurePass as Measuring;
+ghost use Rattle.yf_emit.specs.Nodes.OneLine.{props_text, scalar_text, spaced};
+ghost use Rattle.yf_emit.specs.Nodes.ScalarStyles as Wanted;
 ghost use Rattle.yf_lines.specs.declared.quotes.Quotes.{Quotes};
 ghost use Rattle.yf_props.specs.Props.{props_value};
 
@@ -16,7 +16,7 @@ use crate::text::width::{char_count, joined_width, props_width, scalar_width};
 use yf_events::event::{ScalarStyle, Span};
 use yf_props::props::Props;
 
-/// A node that has ended, as the collection sees it that holds it: `inside` is its width where it may stand in kept text.
+/// A node that has ended, as the collection sees it that holds it: `inside` is its width where it may be in kept text.
 #[derive(Clone, Copy)]
 pub(crate) struct Ended {
     pub(crate) measure: Measure,
@@ -24,7 +24,7 @@ pub(crate) struct Ended {
     pub(crate) is_alias: bool,
 }
 
-/// Whether a scalar that is to have the style `wanted` may stand in kept text: a quoted one, or a plain one with characters
+/// Whether a scalar that is to have the style `wanted` may be in kept text: a quoted one, or a plain one with characters
 /// that stays plain.
 #[inline(always)]
 fn may_be_inside(written: ScalarStyle, wanted: ScalarStyle, text: &str) -> bool

@@ -1,12 +1,13 @@
 //! The forms of all events of a reading, each in a row of twelve bytes.
 ghost use Rattle.std.specs.Prelude.{◌≡◌, [], ◌∷◌, ◌++◌, get_or, length, IfOk};
-ghost use Rattle.yf_emit.specs.Forms.{no_form};
-ghost use Rattle.yf_emit.specs.Packed.{form_in};
+ghost use Rattle.yf_emit.specs.NormalForms.Forms.{no_form};
+ghost use Rattle.yf_emit.specs.NormalForms.Packed.{form_in};
 
 use crate::form::decide::Form;
-use crate::form::narrow::{narrow, narrow_if, some_if};
+use crate::form::narrow::{narrow_if, some_if};
 use std::alloc::{AllocError, Global};
 use std::marker::Model;
+use yf_lines::packed_lines::narrow;
 
 /// A form, with a note whether there is a comment.
 #[derive(Clone, Copy)]
@@ -54,7 +55,7 @@ pub struct Forms {
 impl Model for Forms {
     ghost use Rattle.std.specs.Prelude.{List, map};
     ghost use Rattle.yf_emit.specs.declared.form.decide.Form.{Form};
-    ghost use Rattle.yf_emit.specs.Packed.{form_in};
+    ghost use Rattle.yf_emit.specs.NormalForms.Packed.{form_in};
 
     ghost Value = { List Form };
 

@@ -3,13 +3,13 @@ ghost use Rattle.std.specs.Prelude.{◌≡◌, [], ◌∷◌, ◌++◌, encode_u
 ghost use Rattle.std.specs.String.{string_bytes};
 ghost use Rattle.yf_props.specs.Props.{props_value};
 ghost use Rattle.yf_events.specs.Event.{event_value};
-ghost use Rattle.yf_emit.specs.FlowTexts.{TellsFlow, text_measured};
-ghost use Rattle.yf_emit.specs.Keys.{AddsKept};
-ghost use Rattle.yf_emit.specs.Measures.{IsKeptText, TellsKept, no_measure};
-ghost use Rattle.yf_emit.specs.Normal.{setting_of};
-ghost use Rattle.yf_emit.specs.Textual.{CommentsAscend};
-ghost use Rattle.yf_emit.specs.OneLineRun as OneLineRun;
-ghost use Rattle.yf_emit.specs.OneLineRun.{added, behind_in, between, next_open, outside, run, separator_in};
+ghost use Rattle.yf_emit.specs.Nodes.FlowTexts.{TellsFlow, text_measured};
+ghost use Rattle.yf_emit.specs.Nodes.SingleAnswers.{AddsKept};
+ghost use Rattle.yf_emit.specs.NormalForms.Measures.{IsKeptText, TellsKept, no_measure};
+ghost use Rattle.yf_emit.specs.NormalForms.Normal.{setting_of};
+ghost use Rattle.yf_emit.specs.NormalForms.Textual.{CommentsAscend};
+ghost use Rattle.yf_emit.specs.Passes.OneLinePass as OneLineRun;
+ghost use Rattle.yf_emit.specs.Passes.OneLinePass.{added, expected_after_in, between, next_open, outside, run, separator_in};
 
 use crate::form::measure::measure_all;
 use crate::form::measures::Measures;
@@ -36,7 +36,7 @@ enum Expected {
     ValueOfAlias,
 }
 
-/// Appends what stands before a node: nothing, a comma, or the `:` of its key.
+/// Appends what is before a node: nothing, a comma, or the `:` of its key.
 #[inline(always)]
 fn push_separator(out: &mut String, expected: Expected) -> Result<(), AllocError>
     ensures { OnOk result (string_bytes out.new ≡ string_bytes out.old ++ OneLineRun.separator expected) }
@@ -50,8 +50,8 @@ fn push_separator(out: &mut String, expected: Expected) -> Result<(), AllocError
 }
 
 /// What comes next after a node.
-fn behind(is_alias: bool, expected: Expected) -> Expected
-    ensures { result ≡ OneLineRun.behind is_alias expected }
+fn expected_after(is_alias: bool, expected: Expected) -> Expected
+    ensures { result ≡ OneLineRun.expected_after is_alias expected }
 {
     match expected {
         Expected::FirstItem | Expected::Item => Expected::Item,
@@ -72,27 +72,27 @@ struct Brackets {
 }
 
 impl Brackets {
-    /// Appends what stands before the next node, and goes past that node.
+    /// Appends what is before the next node, and goes past that node.
     fn before_node(&mut self, out: &mut String, is_alias: bool) -> Result<(), AllocError>
         ensures adds { OnOk result (string_bytes out.new ≡ string_bytes out.old ++ separator_in (reverse self.old.open.items)) }
-        ensures next { OnOk result (reverse self.new.open.items ≡ behind_in is_alias (reverse self.old.open.items)) }
+        ensures next { OnOk result (reverse self.new.open.items ≡ expected_after_in is_alias (reverse self.old.open.items)) }
     {
         match self.open.pop() {
             Some(expected) => {
                 push_separator(out, expected)?;
-                self.open.push(behind(is_alias, expected))?;
+                self.open.push(expected_after(is_alias, expected))?;
                 Ok(())
             }
             None => Ok(()),
         }
     }
 
-    /// Appends what stands before the text of a node that is no alias.
+    /// Appends what is before the text of a node that is no alias.
     #[inline(always)]
     fn before_text(&mut self, out: &mut String, props: &Props) -> Result<(), AllocError>
         ensures adds { OnOk result (string_bytes out.new ≡ string_bytes out.old ++ OneLineRun.before_text (reverse self.old.open.items)
             (props_value props.now)) }
-        ensures next { OnOk result (reverse self.new.open.items ≡ behind_in false (reverse self.old.open.items)) }
+        ensures next { OnOk result (reverse self.new.open.items ≡ expected_after_in false (reverse self.old.open.items)) }
     {
         self.before_node(out, false)?;
         if !has_props(props) {
@@ -105,12 +105,12 @@ impl Brackets {
         push_props_before(out, &written)
     }
 
-    /// Appends what stands before a collection's bracket. The properties of the outermost one are left out.
+    /// Appends what is before a collection's bracket. The properties of the outermost one are left out.
     #[inline(always)]
     fn before_bracket(&mut self, out: &mut String, props: &Props) -> Result<(), AllocError>
         ensures adds { OnOk result (string_bytes out.new ≡ string_bytes out.old ++ OneLineRun.before_bracket (reverse self.old.open.items)
             (props_value props.now)) }
-        ensures next { OnOk result (reverse self.new.open.items ≡ behind_in false (reverse self.old.open.items)) }
+        ensures next { OnOk result (reverse self.new.open.items ≡ expected_after_in false (reverse self.old.open.items)) }
     {
         if self.open.is_empty() {
             return Ok(());
@@ -129,7 +129,7 @@ impl Brackets {
     ) -> Result<(), AllocError>
         ensures adds { OnOk result (string_bytes out.new ≡ string_bytes out.old ++ (OneLineRun.before_bracket (reverse self.old.open.items)
             (props_value props.now) ++ encode_utf8 bracket)) }
-        ensures next { OnOk result (reverse self.new.open.items ≡ first ∷ behind_in false (reverse self.old.open.items)) }
+        ensures next { OnOk result (reverse self.new.open.items ≡ first ∷ expected_after_in false (reverse self.old.open.items)) }
     {
         self.before_bracket(out, props)?;
         out.push(bracket)?;
@@ -200,7 +200,7 @@ fn push_between(
 }
 
 /// The text on one line, from bracket to bracket, of the flow collection that the event at an index begins. `None` where
-/// it cannot be kept, wherever it stands: where a comment stands between its brackets, or it holds an empty scalar or a
+/// it cannot be kept, wherever it is: where a comment is between its brackets, or it holds an empty scalar or a
 /// plain one that does not stay plain. `None` too of an empty collection, and of an event that begins no flow collection.
 /// The measures are those of the reading; of an event that begins a flow collection they may be those of flow collections
 /// alone.
@@ -225,7 +225,7 @@ pub fn kept_text_of(
     Ok(Some(text))
 }
 
-/// Appends, from bracket to bracket on one line, the flow collection whose events stand from the one index to the other.
+/// Appends, from bracket to bracket on one line, the flow collection whose events are from the one index to the other.
 pub fn push_kept(
     alloc: Global,
     text: &mut String,
@@ -261,7 +261,7 @@ fn kept_within(
 
 /// The text on one line, from bracket to bracket, of the flow collection that the event at an index begins in a reading
 /// of the text: `[a, b]`, `{a: b}`, and a single pair as `[{a: b}]`. `None` where it cannot be kept, whatever the longest
-/// line may be: where a comment stands between its brackets, or it holds an empty scalar or a plain one that does not
+/// line may be: where a comment is between its brackets, or it holds an empty scalar or a plain one that does not
 /// stay plain. `None` too of an empty collection, and of an event that begins no flow collection.
 ///
 /// # Errors

@@ -2,10 +2,10 @@
 //! here.
 ghost use Rattle.std.specs.Prelude.{◌<◌, ◌≡◌, length};
 ghost use Rattle.yf_events.specs.Event.{event_value};
-ghost use Rattle.yf_emit.specs.Deciding as Deciding;
+ghost use Rattle.yf_emit.specs.Passes.DecidePass as Deciding;
 
+use crate::form::layout_context::{EventFacts, fits};
 use crate::form::measure::Measure;
-use crate::form::places::{EventFacts, fits};
 use crate::style::Style;
 use yf_events::event::{Event, ScalarStyle};
 use yf_events::reading::Reading;
@@ -15,7 +15,7 @@ pub const KEY_WIDTH: usize = 1023;
 
 /// A key whose value has not come yet.
 #[derive(Clone, Copy)]
-pub(crate) struct Key {
+pub(crate) struct PendingKey {
     pub(crate) is_implicit: bool,
     /// How many characters it has with the `:`, and a space before that where it needs one.
     pub(crate) width: usize,
@@ -42,7 +42,7 @@ pub(crate) fn is_implicit_key(measure: &Measure, column: usize, style: &Style) -
     }
 }
 
-/// Whether a space stands before the `:` of this key: after an alias, and after properties alone.
+/// Whether a space is before the `:` of this key: after an alias, and after properties alone.
 pub fn has_space(event: &Event, is_leaf: bool) -> bool
     ensures { result ≡ Deciding.has_space (event_value event.now) is_leaf }
 {
@@ -106,7 +106,7 @@ fn key_width(event: &Event, is_leaf: bool, width: Option<usize>) -> usize
 }
 
 /// The key that an event begins.
-pub(crate) fn key_of(facts: &EventFacts, is_implicit: bool) -> Key
+pub(crate) fn key_of(facts: &EventFacts, is_implicit: bool) -> PendingKey
     requires { facts.now.i < length facts.now.reading.now.events }
     ensures { result ≡ record {
       is_implicit = is_implicit;
@@ -116,7 +116,7 @@ pub(crate) fn key_of(facts: &EventFacts, is_implicit: bool) -> Key
     } }
 {
     let measure = facts.measure;
-    Key {
+    PendingKey {
         is_implicit,
         width: key_width(facts.event, measure.is_leaf(facts.i), measure.width),
         start: key_start(facts.reading, facts.i, measure.last_leaf),

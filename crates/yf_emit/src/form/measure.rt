@@ -4,12 +4,12 @@ ghost use Rattle.std.specs.List.Sorted.{IsNonDecreasingBy};
 ghost use Rattle.yf_comments.specs.Comment.{comment_value};
 ghost use Rattle.yf_events.specs.Event.{EventValue, event_value};
 ghost use Rattle.yf_events.specs.Reading.{events_of, spans_of};
-ghost use Rattle.yf_emit.specs.Deciding.{is_leaf_at};
-ghost use Rattle.yf_emit.specs.FoundInPass.{FoundInPass};
-ghost use Rattle.yf_emit.specs.Measures.{no_measure, Measured};
-ghost use Rattle.yf_emit.specs.Measuring as Measuring;
-ghost use Rattle.yf_emit.specs.Measuring.{found, has_text, setting};
-ghost use Rattle.yf_emit.specs.Normal.{setting_of};
+ghost use Rattle.yf_emit.specs.Passes.DecidePass.{is_leaf_at};
+ghost use Rattle.yf_emit.specs.Passes.FoundInPass.{FoundInPass};
+ghost use Rattle.yf_emit.specs.NormalForms.Measures.{no_measure, AreMeasures};
+ghost use Rattle.yf_emit.specs.Passes.MeasurePass as Measuring;
+ghost use Rattle.yf_emit.specs.Passes.MeasurePass.{found, has_text, setting};
+ghost use Rattle.yf_emit.specs.NormalForms.Normal.{setting_of};
 
 use crate::form::collection::{Open, add_node, closed, opened};
 use crate::form::ended::{Ended, alias, scalar};
@@ -29,7 +29,7 @@ pub struct Measure {
     /// How many characters the node's text has on one line, with its properties. `None` where it is not written on one
     /// line: as a block scalar, a block collection, or a flow collection that cannot be kept.
     pub width: Option<usize>,
-    /// Whether the node is a flow collection with entries that can be kept, wherever it stands.
+    /// Whether the node is a flow collection with entries that can be kept, wherever it is.
     pub can_be_kept: bool,
     /// The index of the event that begins the node's first leaf with characters. A leaf is its own first leaf.
     pub first_leaf: Option<usize>,
@@ -237,19 +237,19 @@ pub fn measure_all(
     style: &Style,
 ) -> Result<Measures, AllocError>
     ensures { IfOk result (λ m. IsNonDecreasingBy (λ c. c.offset) reading.now.comments
-        → Measured src.now.text (setting_of reading.now style.now) reading.now.events m) }
+        → AreMeasures src.now.text (setting_of reading.now style.now) reading.now.events m) }
 {
     measure_text(alloc, src.text(), reading, style)
 }
 
-/// Measures all nodes of a normal reading, in one pass: no comment stands between the brackets of its flow collections, so
+/// Measures all nodes of a normal reading, in one pass: no comment is between the brackets of its flow collections, so
 /// neither the text nor the comments are looked at.
 pub fn measure_normal(
     alloc: Global,
     reading: &Reading,
     style: &Style,
 ) -> Result<Measures, AllocError>
-    ensures { IfOk result (λ m. Measured [] (setting style.now []) reading.now.events m) }
+    ensures { IfOk result (λ m. AreMeasures [] (setting style.now []) reading.now.events m) }
 {
     measured(alloc, "", &[], reading, style)
 }

@@ -1,15 +1,15 @@
-//! The measures of flow collections alone: of what stands outside of them nothing is looked at but the kind.
+//! The measures of flow collections alone: of what is outside of them nothing is looked at but the kind.
 ghost use Rattle.std.specs.Prelude.{◌<◌, ◌≡◌, [], ◌∷◌, ◌++◌, ◌+◌, ◌^◌, length, map, reverse, true, IfOk};
 ghost use Rattle.std.specs.List.Sorted.{IsNonDecreasingBy};
 ghost use Rattle.yf_comments.specs.Comment.{comment_value};
 ghost use Rattle.yf_events.specs.Event.{event_value};
-ghost use Rattle.yf_emit.specs.FlowsAlone as FlowsAlone;
-ghost use Rattle.yf_emit.specs.FlowsAlone.{next_depth, event_seen, flows_alone, span_seen};
-ghost use Rattle.yf_emit.specs.FoundInPass.{FoundInPass};
-ghost use Rattle.yf_emit.specs.Measures.{no_measure, Measured};
-ghost use Rattle.yf_emit.specs.Measuring as Measuring;
-ghost use Rattle.yf_emit.specs.Measuring.{found, has_text, setting};
-ghost use Rattle.yf_emit.specs.Normal.{setting_of};
+ghost use Rattle.yf_emit.specs.Nodes.FlowsAlone as FlowsAlone;
+ghost use Rattle.yf_emit.specs.Nodes.FlowsAlone.{next_depth, event_seen, flows_alone, span_seen};
+ghost use Rattle.yf_emit.specs.Passes.FoundInPass.{FoundInPass};
+ghost use Rattle.yf_emit.specs.NormalForms.Measures.{no_measure, AreMeasures};
+ghost use Rattle.yf_emit.specs.Passes.MeasurePass as Measuring;
+ghost use Rattle.yf_emit.specs.Passes.MeasurePass.{found, has_text, setting};
+ghost use Rattle.yf_emit.specs.NormalForms.Normal.{setting_of};
 
 use crate::form::collection::Open;
 use crate::form::measure::pass;
@@ -21,7 +21,7 @@ use yf_events::event::{Event, Span};
 use yf_events::reading::Reading;
 use yf_lines::source_text::Src;
 
-/// Whether an event stands outside of all flow collections, where so many collections are open in one, and begins none.
+/// Whether an event is outside of all flow collections, where so many collections are open in one, and begins none.
 #[inline(always)]
 fn is_outside(depth: usize, event: &Event) -> bool
     ensures { result ≡ FlowsAlone.is_outside depth (event_value event.now) }
@@ -122,7 +122,7 @@ pub fn measure_flows(
     ensures found { IfOk result (λ m. IsNonDecreasingBy (λ c. c.offset) reading.now.comments
         → FoundInPass src.now.text (setting_of reading.now style.now) (flows_alone 0 reading.now.events) m) }
     ensures measured { IfOk result (λ m. IsNonDecreasingBy (λ c. c.offset) reading.now.comments
-        → Measured src.now.text (setting_of reading.now style.now) (flows_alone 0 reading.now.events) m) }
+        → AreMeasures src.now.text (setting_of reading.now style.now) (flows_alone 0 reading.now.events) m) }
 {
     let measures = measured_flows(alloc, src.text(), reading.comments(), reading, style)?;
     Ok(measures)

@@ -1,12 +1,13 @@
 //! The measures of all events of a reading, each in a row of twenty bytes.
 ghost use Rattle.std.specs.Prelude.{◌≡◌, [], ◌∷◌, ◌++◌, get_or, set, IfOk};
-ghost use Rattle.yf_emit.specs.Measures.{no_measure};
-ghost use Rattle.yf_emit.specs.Packed.{measure_in};
+ghost use Rattle.yf_emit.specs.NormalForms.Measures.{no_measure};
+ghost use Rattle.yf_emit.specs.NormalForms.Packed.{measure_in};
 
 use crate::form::measure::Measure;
-use crate::form::narrow::{narrow, narrow_if, some_if};
+use crate::form::narrow::{narrow_if, some_if};
 use std::alloc::{AllocError, Global};
 use std::marker::Model;
+use yf_lines::packed_lines::narrow;
 
 /// A measure: of each number that may be missing a note whether it is there.
 #[derive(Clone, Copy)]
@@ -75,7 +76,7 @@ pub struct Measures {
 impl Model for Measures {
     ghost use Rattle.std.specs.Prelude.{List, map};
     ghost use Rattle.yf_emit.specs.declared.form.measure.Measure.{Measure};
-    ghost use Rattle.yf_emit.specs.Packed.{measure_in};
+    ghost use Rattle.yf_emit.specs.NormalForms.Packed.{measure_in};
 
     ghost Value = { List Measure };
 

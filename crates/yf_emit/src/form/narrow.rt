@@ -1,19 +1,9 @@
 //! Numbers in 32 bits: indices of events and of comments, and columns.
 ghost use Rattle.std.specs.Prelude.{◌≡◌, is_some, IfOk};
-ghost use Rattle.yf_emit.specs.Packed as Packed;
+ghost use Rattle.yf_emit.specs.NormalForms.Packed as Packed;
 
 use std::alloc::AllocError;
-
-/// The number in 32 bits. One that has no room there is refused as a growth of memory is: a stream has at most 2^30 bytes.
-#[inline(always)]
-pub(crate) fn narrow(number: usize) -> Result<u32, AllocError>
-    ensures { IfOk result (λ n. n ≡ number) }
-{
-    if number <= 0xFFFF_FFFF {
-        return Ok(number as u32);
-    }
-    Err(AllocError)
-}
+use yf_lines::packed_lines::narrow;
 
 /// The number where there is one, or 0.
 #[inline(always)]

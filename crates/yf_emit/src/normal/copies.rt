@@ -3,7 +3,7 @@ ghost use Rattle.std.specs.Prelude.{◌≡◌, [], ◌∷◌, ◌++◌, map, IfO
 ghost use Rattle.yf_comments.specs.Comment.{comment_value};
 ghost use Rattle.yf_events.specs.Event.{event_value, new_event_value, view_value};
 ghost use Rattle.yf_events.specs.Nested.{IsStream};
-ghost use Rattle.yf_events.specs.Reading.{Fits, events_of};
+ghost use Rattle.yf_events.specs.Reading.{ListsFit, events_of};
 ghost use Rattle.yf_events.specs.declared.reading.TheConstants.{DEPTH};
 
 use std::alloc::{AllocError, Global};
@@ -15,9 +15,9 @@ use yf_events::event::{Event, NewEvent, PlacedEvent, View};
 use yf_events::events::Events;
 use yf_events::lists::Lists;
 use yf_events::reading::Reading;
-use yf_events::row::Row;
 use yf_events::slices::Slices;
 use yf_events::tags::Tags;
+use yf_events::values::Values;
 use yf_lines::text::Text;
 
 /// The same slices.
@@ -97,7 +97,7 @@ fn push_comments<'a>(copy: &mut Comments<'a>, comments: &'a [Comment<'_>]) -> Re
 }
 
 /// Adds the same notes.
-fn push_notes(copy: &mut Row<bool>, notes: &[bool]) -> Result<(), AllocError>
+fn push_notes(copy: &mut Values<bool>, notes: &[bool]) -> Result<(), AllocError>
     ensures { IfOk result (λ _. copy.new ≡ copy.old ++ notes.now) }
 {
     for note in notes {
@@ -107,7 +107,7 @@ fn push_notes(copy: &mut Row<bool>, notes: &[bool]) -> Result<(), AllocError>
 }
 
 /// Adds the same offsets.
-fn push_offsets(copy: &mut Row<usize>, offsets: &[usize]) -> Result<(), AllocError>
+fn push_offsets(copy: &mut Values<usize>, offsets: &[usize]) -> Result<(), AllocError>
     ensures { IfOk result (λ _. copy.new ≡ copy.old ++ offsets.now) }
 {
     for offset in offsets {
@@ -172,9 +172,9 @@ fn lists_of<'a>(alloc: Global, resolved: Tags<'a>) -> Lists<'a>
         events: Events::new(alloc),
         resolved,
         comments: Comments::new(alloc),
-        on_leaf_line: Row::new(alloc),
+        on_leaf_line: Values::new(alloc),
         documents: Documents::new(alloc),
-        escapes: Row::new(alloc),
+        escapes: Values::new(alloc),
     }
 }
 
@@ -205,7 +205,7 @@ pub(crate) fn copied_lists<'a>(
     reading: &'a Reading<'a>,
 ) -> Result<Lists<'a>, AllocError>
     ensures same { IfOk result (λ copy. copy ≡ reading.now) }
-    ensures fit { IfOk result Fits }
+    ensures fit { IfOk result ListsFit }
     ensures nested { IsStream DEPTH (events_of reading.now) }
 {
     let lists = reading.lists();

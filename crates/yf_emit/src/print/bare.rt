@@ -1,9 +1,9 @@
 //! Whether the `---` of the first document is left out.
 ghost use Rattle.std.specs.Prelude.{◌≡◌};
-ghost use Rattle.yf_emit.specs.BareSearch as BareSearch;
-ghost use Rattle.yf_emit.specs.BareStart as BareStart;
+ghost use Rattle.yf_emit.specs.Layouts.BareSearch as BareSearch;
+ghost use Rattle.yf_emit.specs.Layouts.BareStart as BareStart;
 
-use crate::form::comments_before::first_behind;
+use crate::form::comments_before::first_after;
 use crate::style::{DocumentStart, Style};
 use yf_events::event::Event;
 use yf_events::reading::Reading;
@@ -21,7 +21,7 @@ fn begins_bare(reading: &Reading) -> bool
     false
 }
 
-/// Whether the first comment after the beginning of the first document stands before the first leaf with characters, and before the next document.
+/// Whether the first comment after the beginning of the first document is before the first leaf with characters, and before the next document.
 fn is_led(reading: &Reading) -> bool
     ensures { result ≡ BareSearch.is_led reading.now }
 {
@@ -29,7 +29,7 @@ fn is_led(reading: &Reading) -> bool
     if documents.is_empty() {
         return false;
     }
-    let k = first_behind(reading.comments(), 0, documents[0].start);
+    let k = first_after(reading.comments(), 0, documents[0].start);
     if k < reading.comments().len() {
         let (documents, leaves) = reading.place_of(k);
         return documents == 1 && leaves == 0;

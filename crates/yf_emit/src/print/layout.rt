@@ -3,12 +3,12 @@ ghost use Rattle.std.specs.Prelude.{◌<◌, ◌≡◌, ◌≤◌, length, OnOk,
 ghost use Rattle.std.specs.String.{string_bytes};
 ghost use Rattle.yf_stream.specs.WellFormed.{props_of};
 ghost use Rattle.yf_events.specs.Event.{event_value};
-ghost use Rattle.yf_emit.specs.Printing as Printing;
-ghost use Rattle.yf_emit.specs.Pages.{form_at, measure_at, placed_at, work_on};
-ghost use Rattle.yf_emit.specs.Printing.{work_of};
-ghost use Rattle.yf_emit.specs.Printers.{state_of};
-ghost use Rattle.yf_emit.specs.Printout.{IsPrinted};
-ghost use Rattle.yf_emit.specs.Trailing.{all_found};
+ghost use Rattle.yf_emit.specs.Passes.PrintPass as Printing;
+ghost use Rattle.yf_emit.specs.Passes.Pages.{form_at, measure_at, placed_at, work_on};
+ghost use Rattle.yf_emit.specs.Passes.PrintPass.{work_of};
+ghost use Rattle.yf_emit.specs.Passes.PrinterState.{state_of};
+ghost use Rattle.yf_emit.specs.Passes.PrintedText.{IsPrinted};
+ghost use Rattle.yf_emit.specs.Passes.TrailPass.{all_found};
 ghost use Rattle.yf_stream.specs.declared.stream.TheConstants.{LONGEST};
 
 use crate::form::decide::decide;
@@ -19,7 +19,7 @@ use crate::print::leaves::push_leaf;
 use crate::print::looks::event_at;
 use crate::print::output::Output;
 use crate::print::printer::{
-    Awaited, Level, Page, Plan, Spot, begin_collection, next_document, next_spot,
+    FrameState, Plan, PrintContext, PrintFrame, Role, begin_collection, next_document, next_spot,
 };
 use crate::print::trails::find_trails;
 use crate::style::Style;
@@ -32,7 +32,7 @@ use yf_events::reading::Reading;
 pub(crate) struct Printer {
     output: Output,
     /// The block collections that are open, the innermost last.
-    levels: Vec<Level>,
+    levels: Vec<PrintFrame>,
     /// How many documents have begun.
     documents: usize,
     /// The index of the last event that needs no look.
@@ -42,7 +42,7 @@ pub(crate) struct Printer {
 impl Printer {
     /// Prints a leaf, an empty node or a flow collection that is kept.
     #[inline(always)]
-    fn leaf(&mut self, page: &Page, i: usize, spot: Spot) -> Result<(), AllocError>
+    fn leaf(&mut self, page: &PrintContext, i: usize, spot: Role) -> Result<(), AllocError>
         requires { i < length page.now.reading.now.events }
         ensures { OnOk result (state_of self.new ≡ Printing.leaf_at (work_on page.now) i (measure_at page.now i) (form_at page.now i)
             (placed_at page.now i) spot (state_of self.old)) }
@@ -55,10 +55,10 @@ impl Printer {
     #[inline(always)]
     fn collection(
         &mut self,
-        page: &Page,
+        page: &PrintContext,
         i: usize,
-        spot: Spot,
-        first: Awaited,
+        spot: Role,
+        first: FrameState,
     ) -> Result<(), AllocError>
         requires { i < length page.now.reading.now.events }
         ensures { OnOk result (state_of self.new ≡ Printing.collection_if (Printing.is_whole i (measure_at page.now i) (form_at page.now i))
@@ -75,20 +75,20 @@ impl Printer {
 
     /// Prints the node that the event begins, or begins it where it is a block collection.
     #[inline(always)]
-    fn node_at(&mut self, page: &Page, i: usize, spot: Spot) -> Result<(), AllocError>
+    fn node_at(&mut self, page: &PrintContext, i: usize, spot: Role) -> Result<(), AllocError>
         requires { i < length page.now.reading.now.events }
         ensures { OnOk result (state_of self.new ≡ Printing.node_in (work_on page.now) i (measure_at page.now i) (form_at page.now i)
             (placed_at page.now i) (placed_at page.now i).event spot (state_of self.old)) }
     {
         match event_at(page, i) {
-            Event::SeqStart { .. } => self.collection(page, i, spot, Awaited::Item),
-            Event::MapStart { .. } => self.collection(page, i, spot, Awaited::Key),
+            Event::SeqStart { .. } => self.collection(page, i, spot, FrameState::Item),
+            Event::MapStart { .. } => self.collection(page, i, spot, FrameState::Key),
             _ => self.leaf(page, i, spot),
         }
     }
 
-    /// Prints what stands before the node that the event begins, and the node.
-    fn node(&mut self, page: &Page, i: usize) -> Result<(), AllocError>
+    /// Prints what is before the node that the event begins, and the node.
+    fn node(&mut self, page: &PrintContext, i: usize) -> Result<(), AllocError>
         requires { i < length page.now.reading.now.events }
         ensures { OnOk result (state_of self.new ≡ Printing.node (work_on page.now) i (measure_at page.now i) (form_at page.now i)
             (placed_at page.now i) (state_of self.old)) }
@@ -101,7 +101,7 @@ impl Printer {
     }
 
     /// Begins the next document.
-    fn document(&mut self, page: &Page) -> Result<(), AllocError>
+    fn document(&mut self, page: &PrintContext) -> Result<(), AllocError>
         ensures { OnOk result (state_of self.new ≡ Printing.document (work_on page.now) (state_of self.old)) }
     {
         self.documents = next_document(&mut self.output, page, self.documents)?;
@@ -110,7 +110,7 @@ impl Printer {
 
     /// Goes past one event.
     #[inline(always)]
-    fn event(&mut self, page: &Page, i: usize, event: &Event) -> Result<(), AllocError>
+    fn event(&mut self, page: &PrintContext, i: usize, event: &Event) -> Result<(), AllocError>
         requires { i < length page.now.reading.now.events }
         ensures { OnOk result (state_of self.new ≡ Printing.past_event (work_on page.now) i (measure_at page.now i) (form_at page.now i)
             (placed_at page.now i) (event_value event.now) (state_of self.old)) }
@@ -135,9 +135,9 @@ impl Printer {
         }
     }
 
-    /// Goes past one event, which gets no look where it stands within a node that is printed.
+    /// Goes past one event, which gets no look where it is within a node that is printed.
     #[inline(always)]
-    fn advance(&mut self, page: &Page, i: usize) -> Result<(), AllocError>
+    fn advance(&mut self, page: &PrintContext, i: usize) -> Result<(), AllocError>
         requires { i < length page.now.reading.now.events }
         ensures { OnOk result (state_of self.new ≡ Printing.next (work_on page.now) i (placed_at page.now i) (state_of self.old)) }
     {
@@ -149,7 +149,7 @@ impl Printer {
 }
 
 /// The text that is printed of a page.
-fn text_of(page: &Page) -> Result<String, AllocError>
+fn text_of(page: &PrintContext) -> Result<String, AllocError>
     ensures printed { IfOk result (λ text. string_bytes text ≡ Printing.printed (work_on page.now)) }
     ensures within { IfOk result (λ text. length (string_bytes text) ≤ LONGEST) }
 {
@@ -185,7 +185,7 @@ pub(crate) fn layout_by(
         trails,
         style: *style,
     };
-    text_of(&Page {
+    text_of(&PrintContext {
         alloc,
         reading,
         plan: &plan,

@@ -1,10 +1,10 @@
 //! Which comment trails which leaf, in four bytes for each event.
 ghost use Rattle.std.specs.Prelude.{◌≡◌, get_or, length, replicate, set, None, Some, IfOk};
-ghost use Rattle.yf_emit.specs.LeafTrails.{counted};
+ghost use Rattle.yf_emit.specs.Layouts.LeafTrails.{counted};
 
-use crate::form::narrow::narrow;
 use std::alloc::{AllocError, Global};
 use std::marker::Model;
+use yf_lines::packed_lines::narrow;
 
 /// For each event that begins a leaf, the index of the comment that trails it. In a contract it is the list of them.
 #[derive(Drop)]
@@ -15,7 +15,7 @@ pub struct LeafTrails {
 
 impl Model for LeafTrails {
     ghost use Rattle.std.specs.Prelude.{List, Option, ℕ, map};
-    ghost use Rattle.yf_emit.specs.LeafTrails.{counted};
+    ghost use Rattle.yf_emit.specs.Layouts.LeafTrails.{counted};
 
     ghost Value = { List (Option ℕ) };
 

@@ -2,11 +2,11 @@
 //! count from 0 here.
 ghost use Rattle.std.specs.Prelude.{◌<◌, ◌≡◌, ◌+◌, drop, length, map, slice_get, OnOk, IfOk, Some};
 ghost use Rattle.yf_stream.specs.WellFormed.{props_of};
-ghost use Rattle.yf_emit.specs.Deciding as Deciding;
-ghost use Rattle.yf_emit.specs.Drafts.{draft, with_text};
-ghost use Rattle.yf_emit.specs.Pages.{form_at, measure_at, placed_at, work_on};
-ghost use Rattle.yf_emit.specs.Printing as Printing;
-ghost use Rattle.yf_emit.specs.Printing.{colon_text, event_noted, events_noted, leaf_noted_if, lines_column, node_noted, with_kept, with_node_event};
+ghost use Rattle.yf_emit.specs.Passes.DecidePass as Deciding;
+ghost use Rattle.yf_emit.specs.Passes.Drafts.{draft, with_text};
+ghost use Rattle.yf_emit.specs.Passes.Pages.{form_at, measure_at, placed_at, work_on};
+ghost use Rattle.yf_emit.specs.Passes.PrintPass as Printing;
+ghost use Rattle.yf_emit.specs.Passes.PrintPass.{colon_text, event_noted, events_noted, leaf_noted_if, lines_column, node_noted, with_kept, with_node_event};
 
 use crate::form::kept::push_kept;
 use crate::form::keys::has_space;
@@ -14,16 +14,16 @@ use crate::print::looks::{
     entry_at, event_at, folded_at, push_props_at, push_props_before_at, span_at,
 };
 use crate::print::output::Output;
-use crate::print::printer::{Page, Plan, Spot};
+use crate::print::printer::{Plan, PrintContext, Role};
 use crate::text::block::{is_kept_whole, push_folded, push_header, push_literal, push_spaces};
 use crate::text::written::push_scalar;
 use std::alloc::AllocError;
 use yf_events::event::{Event, ScalarStyle, Span};
 
-/// Prints what stands before the value of a key without `?`, in an entry at that column.
+/// Prints what is before the value of a key without `?`, in an entry at that column.
 fn before_value(
     output: &mut Output,
-    page: &Page,
+    page: &PrintContext,
     comment: Option<usize>,
     column: usize,
 ) -> Result<(), AllocError>
@@ -41,28 +41,33 @@ fn before_value(
     )
 }
 
-/// Prints what stands between the line so far and a node that has characters, which the event at an index begins.
+/// Prints what is between the line so far and a node that has characters, which the event at an index begins.
 #[inline(always)]
-fn before_text(output: &mut Output, page: &Page, i: usize, spot: Spot) -> Result<(), AllocError>
+fn before_text(
+    output: &mut Output,
+    page: &PrintContext,
+    i: usize,
+    spot: Role,
+) -> Result<(), AllocError>
     ensures { OnOk result (draft output.new ≡ Printing.before_text (work_on page.now) (form_at page.now i) spot (draft output.old)) }
 {
     match spot {
-        Spot::Root => output.open_line(page.reading, &page.plan.trails, 0),
-        Spot::Behind(_) => push_spaces(&mut output.line, page.plan.style.indent.saturating_sub(1)),
-        Spot::Key => Ok(()),
-        Spot::Value(column) => {
+        Role::Root => output.open_line(page.reading, &page.plan.trails, 0),
+        Role::After(_) => push_spaces(&mut output.line, page.plan.style.indent.saturating_sub(1)),
+        Role::Key => Ok(()),
+        Role::Value(column) => {
             before_value(output, page, page.plan.forms.at(i).key_comment, column)
         }
     }
 }
 
 /// The column of the lines of a block scalar.
-fn column_of_lines(indent: usize, spot: Spot) -> usize
+fn column_of_lines(indent: usize, spot: Role) -> usize
     ensures { result ≡ lines_column indent spot }
 {
     match spot {
-        Spot::Root | Spot::Key => indent,
-        Spot::Behind(column) | Spot::Value(column) => column.saturating_add(indent),
+        Role::Root | Role::Key => indent,
+        Role::After(column) | Role::Value(column) => column.saturating_add(indent),
     }
 }
 
@@ -70,7 +75,7 @@ fn column_of_lines(indent: usize, spot: Spot) -> usize
 fn push_block_scalar(
     output: &mut Output,
     plan: &Plan,
-    spot: Spot,
+    spot: Role,
     style: ScalarStyle,
     text: &str,
     lines: &[&str],
@@ -94,9 +99,9 @@ fn push_block_scalar(
 #[inline(always)]
 fn push_scalar_node(
     output: &mut Output,
-    page: &Page,
+    page: &PrintContext,
     i: usize,
-    spot: Spot,
+    spot: Role,
     style: ScalarStyle,
     text: &str,
 ) -> Result<(), AllocError>
@@ -126,7 +131,7 @@ fn push_scalar_node(
 /// Prints a flow collection that is kept, or an empty one.
 fn push_collection(
     output: &mut Output,
-    page: &Page,
+    page: &PrintContext,
     i: usize,
     last: usize,
 ) -> Result<(), AllocError>
@@ -148,10 +153,10 @@ fn push_collection(
 #[inline(always)]
 fn push_node(
     output: &mut Output,
-    page: &Page,
+    page: &PrintContext,
     i: usize,
     last: usize,
-    spot: Spot,
+    spot: Role,
 ) -> Result<(), AllocError>
     requires { i < length page.now.reading.now.events }
     ensures { OnOk result (draft output.new ≡ with_node_event (work_on page.now) i last (placed_at page.now i).event
@@ -172,7 +177,7 @@ fn push_node(
 #[inline(always)]
 fn note_leaf(
     output: &mut Output,
-    page: &Page,
+    page: &PrintContext,
     i: usize,
     is_leaf: bool,
     span: Option<Span>,
@@ -190,7 +195,7 @@ fn note_leaf(
 
 /// Goes past an entry and a leaf that the event at an index begins.
 #[inline(always)]
-fn note_event(output: &mut Output, page: &Page, i: usize) -> Result<(), AllocError>
+fn note_event(output: &mut Output, page: &PrintContext, i: usize) -> Result<(), AllocError>
     requires { i < length page.now.reading.now.events }
     ensures { OnOk result (draft output.new ≡ event_noted (work_on page.now) i (placed_at page.now i) (draft output.old)) }
 {
@@ -201,10 +206,10 @@ fn note_event(output: &mut Output, page: &Page, i: usize) -> Result<(), AllocErr
     note_leaf(output, page, i, is_leaf, span_at(page, i))
 }
 
-/// Goes past the entries and leaves within a node that is printed, whose events stand from the one index to the other.
+/// Goes past the entries and leaves within a node that is printed, whose events are from the one index to the other.
 fn note_within(
     output: &mut Output,
-    page: &Page,
+    page: &PrintContext,
     first: usize,
     last: usize,
 ) -> Result<(), AllocError>
@@ -236,17 +241,17 @@ fn push_mark(output: &mut Output, with_space: bool) -> Result<(), AllocError>
 #[inline(always)]
 fn push_colon(
     output: &mut Output,
-    page: &Page,
+    page: &PrintContext,
     i: usize,
     is_leaf: bool,
-    spot: Spot,
+    spot: Role,
 ) -> Result<(), AllocError>
     requires { i < length page.now.reading.now.events }
     ensures { OnOk result (draft output.new ≡ Printing.colon_if spot (Deciding.has_space (placed_at page.now i).event is_leaf)
         (draft output.old)) }
 {
     match spot {
-        Spot::Key => push_mark(output, has_space(&event_at(page, i), is_leaf)),
+        Role::Key => push_mark(output, has_space(&event_at(page, i), is_leaf)),
         _ => Ok(()),
     }
 }
@@ -254,9 +259,9 @@ fn push_colon(
 /// Prints a leaf, an empty node or a flow collection that is kept, and the `:` after a key, and answers the index of its last event.
 pub(crate) fn push_leaf(
     output: &mut Output,
-    page: &Page,
+    page: &PrintContext,
     i: usize,
-    spot: Spot,
+    spot: Role,
 ) -> Result<usize, AllocError>
     requires { i < length page.now.reading.now.events }
     ensures printed { OnOk result (draft output.new ≡ Printing.leaf (work_on page.now) i (measure_at page.now i) (form_at page.now i)

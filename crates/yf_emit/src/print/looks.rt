@@ -3,18 +3,18 @@ ghost use Rattle.std.specs.Prelude.{◌<◌, ◌≡◌, ◌++◌, length, map, n
 ghost use Rattle.std.specs.String.{string_bytes};
 ghost use Rattle.yf_events.specs.Event.{event_value};
 ghost use Rattle.yf_stream.specs.WellFormed.{props_of};
-ghost use Rattle.yf_emit.specs.OneLine.{props_text, space_behind};
-ghost use Rattle.yf_emit.specs.Pages.{placed_at};
-ghost use Rattle.yf_emit.specs.Rows.{is_empty_text};
+ghost use Rattle.yf_emit.specs.Nodes.OneLine.{props_text, space_after};
+ghost use Rattle.yf_emit.specs.Passes.Pages.{placed_at};
+ghost use Rattle.yf_emit.specs.Layouts.Rows.{is_empty_text};
 
-use crate::print::printer::Page;
+use crate::print::printer::PrintContext;
 use crate::text::written::{has_props, push_props};
 use std::alloc::AllocError;
 use yf_events::event::{Entry, Event, Span};
 
 /// The event at an index.
 #[inline(always)]
-pub(crate) fn event_at<'r>(page: &Page<'r, '_>, i: usize) -> Event<'r>
+pub(crate) fn event_at<'r>(page: &PrintContext<'r, '_>, i: usize) -> Event<'r>
     requires { i < length page.now.reading.now.events }
     ensures { event_value result ≡ (placed_at page.now i).event }
 {
@@ -23,7 +23,7 @@ pub(crate) fn event_at<'r>(page: &Page<'r, '_>, i: usize) -> Event<'r>
 
 /// The part of the text that the event at an index has.
 #[inline(always)]
-pub(crate) fn span_at(page: &Page, i: usize) -> Option<Span>
+pub(crate) fn span_at(page: &PrintContext, i: usize) -> Option<Span>
     requires { i < length page.now.reading.now.events }
     ensures { result ≡ (placed_at page.now i).span }
 {
@@ -32,7 +32,7 @@ pub(crate) fn span_at(page: &Page, i: usize) -> Option<Span>
 
 /// The entry that the event at an index begins.
 #[inline(always)]
-pub(crate) fn entry_at(page: &Page, i: usize) -> Option<Entry>
+pub(crate) fn entry_at(page: &PrintContext, i: usize) -> Option<Entry>
     requires { i < length page.now.reading.now.events }
     ensures { result ≡ (placed_at page.now i).entry }
 {
@@ -40,7 +40,7 @@ pub(crate) fn entry_at(page: &Page, i: usize) -> Option<Entry>
 }
 
 /// The lines of the scalar at an index, where it was read as a folded one; else none.
-pub(crate) fn folded_at<'r>(page: &Page<'r, '_>, i: usize) -> &'r [&'r str]
+pub(crate) fn folded_at<'r>(page: &PrintContext<'r, '_>, i: usize) -> &'r [&'r str]
     requires { i < length page.now.reading.now.events }
     ensures { map (λ line. line.now) result.now ≡ (placed_at page.now i).folded }
 {
@@ -49,7 +49,7 @@ pub(crate) fn folded_at<'r>(page: &Page<'r, '_>, i: usize) -> &'r [&'r str]
 
 /// Whether the node that the event at an index begins has properties.
 #[inline(always)]
-pub(crate) fn has_props_at(page: &Page, i: usize) -> bool
+pub(crate) fn has_props_at(page: &PrintContext, i: usize) -> bool
     requires { i < length page.now.reading.now.events }
     ensures { result ≡ not (is_empty_text (props_text (props_of (placed_at page.now i).event))) }
 {
@@ -63,7 +63,11 @@ pub(crate) fn has_props_at(page: &Page, i: usize) -> bool
 
 /// Appends the properties of that node. They are put together here alone, since most nodes have none.
 #[inline(never)]
-pub(crate) fn push_props_at(out: &mut String, page: &Page, i: usize) -> Result<(), AllocError>
+pub(crate) fn push_props_at(
+    out: &mut String,
+    page: &PrintContext,
+    i: usize,
+) -> Result<(), AllocError>
     requires { i < length page.now.reading.now.events }
     ensures { OnOk result (string_bytes out.new ≡ string_bytes out.old ++ props_text (props_of (placed_at page.now i).event)) }
 {
@@ -79,11 +83,11 @@ pub(crate) fn push_props_at(out: &mut String, page: &Page, i: usize) -> Result<(
 #[inline(always)]
 pub(crate) fn push_props_before_at(
     out: &mut String,
-    page: &Page,
+    page: &PrintContext,
     i: usize,
 ) -> Result<(), AllocError>
     requires { i < length page.now.reading.now.events }
-    ensures { OnOk result (string_bytes out.new ≡ string_bytes out.old ++ space_behind (props_text (props_of (placed_at page.now i).event))) }
+    ensures { OnOk result (string_bytes out.new ≡ string_bytes out.old ++ space_after (props_text (props_of (placed_at page.now i).event))) }
 {
     if !has_props_at(page, i) {
         return Ok(());
@@ -96,7 +100,7 @@ pub(crate) fn push_props_before_at(
 #[inline(always)]
 pub(crate) fn push_props_if(
     out: &mut String,
-    page: &Page,
+    page: &PrintContext,
     i: usize,
     with_props: bool,
 ) -> Result<(), AllocError>

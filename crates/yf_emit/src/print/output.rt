@@ -2,12 +2,12 @@
 ghost use Rattle.std.specs.Prelude.{◌≡◌, ◌++◌, ◌+◌, ◌≤◌, ◌&&◌, drop, length, map, OnOk, IfOk};
 ghost use Rattle.std.specs.String.{string_bytes};
 ghost use Rattle.yf_comments.specs.Comment.{comment_value};
-ghost use Rattle.yf_emit.specs.Drafts as Drafts;
-ghost use Rattle.yf_emit.specs.Drafts.{behind_if, between, blank_text, closed, count_to, draft, fresh, met_lines, no_draft, opened, own_line, own_line_if, own_lines, remarks, with_blank, with_trail, without_blank};
-ghost use Rattle.yf_emit.specs.Layout.{behind_two_spaces, trimmed};
+ghost use Rattle.yf_emit.specs.Passes.Drafts as Drafts;
+ghost use Rattle.yf_emit.specs.Passes.Drafts.{trailing_if, between, blank_text, closed, count_to, draft, fresh, met_lines, no_draft, opened, own_line, own_line_if, own_lines, remarks, with_blank, with_trail, without_blank};
+ghost use Rattle.yf_emit.specs.Layouts.Layout.{after_two_spaces, trimmed};
 ghost use Rattle.yf_stream.specs.declared.stream.TheConstants.{LONGEST};
 
-use crate::form::comments_before::first_behind;
+use crate::form::comments_before::first_after;
 use crate::print::trails::Trails;
 use crate::text::block::push_spaces;
 use crate::text::limit::limited;
@@ -16,11 +16,11 @@ use yf_comments::comment::Comment;
 use yf_events::reading::Reading;
 use yf_quoted::filled::push_if_filled;
 
-/// What has been printed, and the line that is being made: comments that are met meanwhile stand before that line.
+/// What has been printed, and the line that is being made: comments that are met meanwhile are before that line.
 ///
 /// A text of more than `LONGEST` bytes is refused where its next line begins, and so are the lines of a block scalar: what is held has at
 /// most twice that and two lines. A line has at most `indent` bytes for each open collection, which are its column and its signs, and beside
-/// these a few for each byte of the source that stands on it: four where U+007F is written as `\x7F`.
+/// these a few for each byte of the source that is on it: four where U+007F is written as `\x7F`.
 #[derive(Drop)]
 pub struct Output {
     text: String,
@@ -29,18 +29,18 @@ pub struct Output {
     column: usize,
     /// The text of the line, without its column.
     pub(crate) line: String,
-    /// The comments that trail its leaves, as they stand after its text.
+    /// The comments that trail its leaves, as they are after its text.
     trails: String,
     /// The lines of a block scalar that begins in the line.
     pub(crate) body: String,
     /// Whether a blank line is noted before the line's first entry.
     blank_before: bool,
-    /// Whether a blank line may stand after the line.
+    /// Whether a blank line may be after the line.
     may_follow: bool,
     /// How many comments have been met, and how many of them have been printed or trail.
     met: usize,
     passed: usize,
-    /// Whether a blank line may stand after what is printed.
+    /// Whether a blank line may be after what is printed.
     blank_may_follow: bool,
 }
 
@@ -60,8 +60,8 @@ fn push_comment(out: &mut String, comment: &Comment) -> Result<(), AllocError>
 
 /// Appends a comment after a text, two spaces from it.
 #[inline(never)]
-fn push_behind(out: &mut String, comment: &Comment) -> Result<(), AllocError>
-    ensures { OnOk result (string_bytes out.new ≡ string_bytes out.old ++ behind_two_spaces (comment_value comment.now)) }
+fn push_after_space(out: &mut String, comment: &Comment) -> Result<(), AllocError>
+    ensures { OnOk result (string_bytes out.new ≡ string_bytes out.old ++ after_two_spaces (comment_value comment.now)) }
 {
     out.push_str("  ")?;
     push_comment(out, comment)
@@ -69,22 +69,22 @@ fn push_behind(out: &mut String, comment: &Comment) -> Result<(), AllocError>
 
 /// Appends the comment at an index, where there is one, after a text.
 #[inline(always)]
-fn push_behind_if(
+fn push_after_space_if(
     out: &mut String,
     comments: &[Comment],
     k: Option<usize>,
 ) -> Result<(), AllocError>
-    ensures { OnOk result (string_bytes out.new ≡ string_bytes out.old ++ behind_if (map comment_value comments.now) k) }
+    ensures { OnOk result (string_bytes out.new ≡ string_bytes out.old ++ trailing_if (map comment_value comments.now) k) }
 {
     if let Some(k) = k {
         if k < comments.len() {
-            return push_behind(out, &comments[k]);
+            return push_after_space(out, &comments[k]);
         }
     }
     Ok(())
 }
 
-/// Appends a line feed where a blank line stands before the next line. A text of more than `LONGEST` bytes gets no next line.
+/// Appends a line feed where a blank line is before the next line. A text of more than `LONGEST` bytes gets no next line.
 fn push_blank(out: &mut String, is_blank: bool) -> Result<(), AllocError>
     ensures { OnOk result (string_bytes out.new ≡ string_bytes out.old ++ blank_text is_blank) }
 {
@@ -118,7 +118,7 @@ impl Output {
     pub fn meet(&mut self, reading: &Reading, offset: usize)
         ensures { draft self.new ≡ Drafts.past reading.now.comments offset (draft self.old) }
     {
-        self.met = first_behind(reading.comments(), self.met, offset);
+        self.met = first_after(reading.comments(), self.met, offset);
     }
 
     /// Prints the line that is being made, and begins the next one at that column.
@@ -139,14 +139,14 @@ impl Output {
         Ok(())
     }
 
-    /// Notes whether a blank line stands before the first entry of the line.
+    /// Notes whether a blank line is before the first entry of the line.
     pub fn set_blank_before(&mut self, blank_before: bool)
         ensures { draft self.new ≡ with_blank blank_before (draft self.old) }
     {
         self.blank_before = blank_before;
     }
 
-    /// Notes that no blank line may stand after the line.
+    /// Notes that no blank line may be after the line.
     pub fn forbid_blank(&mut self)
         ensures { draft self.new ≡ without_blank (draft self.old) }
     {
@@ -158,7 +158,7 @@ impl Output {
     pub fn add_trail(&mut self, reading: &Reading, comment: Option<usize>) -> Result<(), AllocError>
         ensures { OnOk result (draft self.new ≡ Drafts.with_trail reading.now.comments comment (draft self.old)) }
     {
-        push_behind_if(&mut self.trails, reading.comments(), comment)
+        push_after_space_if(&mut self.trails, reading.comments(), comment)
     }
 
     /// Appends to the text of the line a comment, if there is one, that trails a key.
@@ -169,7 +169,7 @@ impl Output {
     ) -> Result<(), AllocError>
         ensures { OnOk result (draft self.new ≡ Drafts.with_key_trail reading.now.comments comment (draft self.old)) }
     {
-        push_behind_if(&mut self.line, reading.comments(), comment)
+        push_after_space_if(&mut self.line, reading.comments(), comment)
     }
 
     /// Prints the line that is being made, with the comments that were met before it.

@@ -3,11 +3,11 @@
 ghost use Rattle.std.specs.Prelude.{◌<◌, ◌≡◌, ◌++◌, ◌∷◌, ◌==◌, false, length, map, not, reverse, slice_get, OnOk, IfOk};
 ghost use Rattle.std.specs.String.{string_bytes};
 ghost use Rattle.yf_stream.specs.WellFormed.{props_of};
-ghost use Rattle.yf_emit.specs.Drafts.{draft};
-ghost use Rattle.yf_emit.specs.Printing as Printing;
-ghost use Rattle.yf_emit.specs.Pages.{form_at, placed_at, work_on};
-ghost use Rattle.yf_emit.specs.Printing.{level_of, levels_behind, marked, sign, space_text};
-ghost use Rattle.yf_emit.specs.Rows.{joined_words};
+ghost use Rattle.yf_emit.specs.Passes.Drafts.{draft};
+ghost use Rattle.yf_emit.specs.Passes.PrintPass as Printing;
+ghost use Rattle.yf_emit.specs.Passes.Pages.{form_at, placed_at, work_on};
+ghost use Rattle.yf_emit.specs.Passes.PrintPass.{level_of, frames_after, marked, sign, space_text};
+ghost use Rattle.yf_emit.specs.Layouts.Rows.{joined_words};
 
 use crate::form::forms::Forms;
 use crate::form::measures::Measures;
@@ -34,7 +34,7 @@ pub(crate) struct Plan {
 
 /// What is printed, what was decided of it, and the memory in which that is done.
 #[derive(Clone, Copy)]
-pub(crate) struct Page<'r, 'a> {
+pub(crate) struct PrintContext<'r, 'a> {
     pub(crate) alloc: Global,
     pub(crate) reading: &'r Reading<'a>,
     pub(crate) plan: &'r Plan,
@@ -42,7 +42,7 @@ pub(crate) struct Page<'r, 'a> {
 
 /// What a block collection awaits.
 #[derive(Clone, Copy)]
-pub(crate) enum Awaited {
+pub(crate) enum FrameState {
     /// An item.
     Item,
     /// A key, or the end.
@@ -55,21 +55,21 @@ pub(crate) enum Awaited {
 
 /// A block collection whose end has not come yet.
 #[derive(Clone, Copy)]
-pub(crate) struct Level {
+pub(crate) struct PrintFrame {
     /// The column of its entries.
     column: usize,
-    awaited: Awaited,
+    awaited: FrameState,
     /// Whether its first entry goes to the line that is being made.
     is_inline: bool,
 }
 
-/// Where a node goes: the line that is being made holds what stands before it.
+/// Where a node goes: the line that is being made holds what is before it.
 #[derive(Clone, Copy)]
-pub(crate) enum Spot {
+pub(crate) enum Role {
     /// The root of a document, on a line of its own.
     Root,
     /// After the `-`, the `?` or the explicit `:` of an entry at that column.
-    Behind(usize),
+    After(usize),
     /// A key without `?`.
     Key,
     /// After the `:` of a key without `?`, in an entry at that column.
@@ -90,11 +90,11 @@ fn push_space_if(out: &mut String, is_needed: bool) -> Result<(), AllocError>
 fn push_words(out: &mut String, words: &[&str]) -> Result<(), AllocError>
     ensures { OnOk result (string_bytes out.new ≡ string_bytes out.old ++ joined_words (map (λ word. word.now) words.now)) }
 {
-    let mut is_behind = false;
+    let mut is_after = false;
     for word in words {
-        push_space_if(out, is_behind)?;
+        push_space_if(out, is_after)?;
         out.push_str(word)?;
-        is_behind = true;
+        is_after = true;
     }
     Ok(())
 }
@@ -102,7 +102,7 @@ fn push_words(out: &mut String, words: &[&str]) -> Result<(), AllocError>
 /// Prints directives, each on a line of its own.
 fn push_directives(
     output: &mut Output,
-    page: &Page,
+    page: &PrintContext,
     directives: &[Directive],
 ) -> Result<(), AllocError>
     ensures { OnOk result (draft output.new ≡ Printing.directive_lines (work_on page.now) directives.now (draft output.old)) }
@@ -118,7 +118,7 @@ fn push_directives(
 /// Prints the `...` and directives of a document that has directives.
 fn push_document_directives(
     output: &mut Output,
-    page: &Page,
+    page: &PrintContext,
     is_first: bool,
     directives: &[Directive],
 ) -> Result<(), AllocError>
@@ -137,7 +137,7 @@ fn push_document_directives(
 /// Begins a document on a line that was begun: its directives, and not yet the `---`.
 fn begin_document(
     output: &mut Output,
-    page: &Page,
+    page: &PrintContext,
     is_first: bool,
     document: &Doc,
 ) -> Result<(), AllocError>
@@ -159,7 +159,7 @@ fn push_document_mark(output: &mut Output) -> Result<(), AllocError>
 /// Begins an entry, on a line of its own unless it is the first one of a collection that goes to the line.
 fn begin_entry(
     output: &mut Output,
-    page: &Page,
+    page: &PrintContext,
     is_inline: bool,
     column: usize,
     entry: Option<Entry>,
@@ -178,10 +178,10 @@ fn begin_entry(
     Ok(())
 }
 
-/// Begins the value of a key with `?`, whose `:` stands at that byte offset.
+/// Begins the value of a key with `?`, whose `:` is at that byte offset.
 fn begin_explicit_value(
     output: &mut Output,
-    page: &Page,
+    page: &PrintContext,
     column: usize,
     colon: Option<usize>,
 ) -> Result<(), AllocError>
@@ -204,22 +204,22 @@ fn colon_of(entry: Option<Entry>) -> Option<usize>
     }
 }
 
-/// Prints what stands before the next node of a block collection, notes the node there, and answers where it goes. What the event
+/// Prints what is before the next node of a block collection, notes the node there, and answers where it goes. What the event
 /// at an index says of an entry is looked at where an item or a key begins.
 #[inline(always)]
-fn next_in(
+fn next_role(
     output: &mut Output,
-    level: &mut Level,
-    page: &Page,
+    level: &mut PrintFrame,
+    page: &PrintContext,
     i: usize,
-) -> Result<Spot, AllocError>
+) -> Result<Role, AllocError>
     requires { i < length page.now.reading.now.events }
     ensures spot { IfOk result (λ spot. spot ≡ Printing.spot_in (form_at page.now i) level.old.column level.old.awaited) }
     ensures printed { OnOk result (draft output.new ≡ Printing.sign_in (work_on page.now) (form_at page.now i)
         (placed_at page.now i).entry level.old.is_inline level.old.column level.old.awaited (draft output.old)) }
     ensures level { OnOk result (level.new ≡ record {
       column = level.old.column;
-      awaited = Printing.awaited_behind (form_at page.now i) (placed_at page.now i).entry level.old.awaited;
+      awaited = Printing.awaited_after (form_at page.now i) (placed_at page.now i).entry level.old.awaited;
       is_inline = false;
     }) }
 {
@@ -227,81 +227,81 @@ fn next_in(
     let is_inline = level.is_inline;
     level.is_inline = false;
     match level.awaited {
-        Awaited::Item => {
+        FrameState::Item => {
             begin_entry(output, page, is_inline, column, entry_at(page, i))?;
             output.line.push('-')?;
-            Ok(Spot::Behind(column))
+            Ok(Role::After(column))
         }
-        Awaited::Key => {
+        FrameState::Key => {
             let entry = entry_at(page, i);
             begin_entry(output, page, is_inline, column, entry)?;
             if page.plan.forms.at(i).is_implicit {
-                level.awaited = Awaited::Value;
-                return Ok(Spot::Key);
+                level.awaited = FrameState::Value;
+                return Ok(Role::Key);
             }
-            level.awaited = Awaited::ExplicitValue(colon_of(entry));
+            level.awaited = FrameState::ExplicitValue(colon_of(entry));
             output.line.push('?')?;
-            Ok(Spot::Behind(column))
+            Ok(Role::After(column))
         }
-        Awaited::Value => {
-            level.awaited = Awaited::Key;
-            Ok(Spot::Value(column))
+        FrameState::Value => {
+            level.awaited = FrameState::Key;
+            Ok(Role::Value(column))
         }
-        Awaited::ExplicitValue(colon) => {
-            level.awaited = Awaited::Key;
+        FrameState::ExplicitValue(colon) => {
+            level.awaited = FrameState::Key;
             begin_explicit_value(output, page, column, colon)?;
-            Ok(Spot::Behind(column))
+            Ok(Role::After(column))
         }
     }
 }
 
-/// Prints what stands before the node that the event at an index begins, and answers where the node goes.
+/// Prints what is before the node that the event at an index begins, and answers where the node goes.
 #[inline(always)]
 pub(crate) fn next_spot(
     output: &mut Output,
-    levels: &mut Vec<Level>,
-    page: &Page,
+    levels: &mut Vec<PrintFrame>,
+    page: &PrintContext,
     i: usize,
-) -> Result<Spot, AllocError>
+) -> Result<Role, AllocError>
     requires { i < length page.now.reading.now.events }
     ensures spot { IfOk result (λ spot. spot ≡ Printing.spot (form_at page.now i) (reverse levels.old.items)) }
     ensures printed { OnOk result (draft output.new ≡ sign (work_on page.now) (form_at page.now i) (placed_at page.now i).entry
         (reverse levels.old.items) (draft output.old)) }
-    ensures levels { OnOk result (reverse levels.new.items ≡ levels_behind (form_at page.now i) (placed_at page.now i).entry
+    ensures levels { OnOk result (reverse levels.new.items ≡ frames_after (form_at page.now i) (placed_at page.now i).entry
         (reverse levels.old.items)) }
 {
     let count = levels.len();
     if count > 0 {
-        return next_in(output, &mut levels[count - 1], page, i);
+        return next_role(output, &mut levels[count - 1], page, i);
     }
-    Ok(Spot::Root)
+    Ok(Role::Root)
 }
 
-/// Prints what stands before the properties of a block collection, or before its entries where it has none.
+/// Prints what is before the properties of a block collection, or before its entries where it has none.
 fn before_collection(
     output: &mut Output,
-    page: &Page,
+    page: &PrintContext,
     has_props: bool,
-    spot: Spot,
+    spot: Role,
 ) -> Result<(), AllocError>
     ensures { OnOk result (draft output.new ≡ Printing.before_collection (work_on page.now) has_props spot (draft output.old)) }
 {
     match spot {
-        Spot::Root => {
+        Role::Root => {
             if has_props {
                 output.open_line(page.reading, &page.plan.trails, 0)?;
                 output.forbid_blank();
             }
             Ok(())
         }
-        Spot::Behind(_) => {
+        Role::After(_) => {
             push_spaces(&mut output.line, page.plan.style.indent.saturating_sub(1))?;
             if has_props {
                 output.forbid_blank();
             }
             Ok(())
         }
-        Spot::Key | Spot::Value(_) => {
+        Role::Key | Role::Value(_) => {
             if has_props {
                 output.line.push(' ')?;
             }
@@ -315,11 +315,11 @@ fn before_collection(
 #[inline(always)]
 pub(crate) fn begin_collection(
     output: &mut Output,
-    levels: &mut Vec<Level>,
-    page: &Page,
+    levels: &mut Vec<PrintFrame>,
+    page: &PrintContext,
     i: usize,
-    spot: Spot,
-    first: Awaited,
+    spot: Role,
+    first: FrameState,
 ) -> Result<(), AllocError>
     requires { i < length page.now.reading.now.events }
     ensures printed { OnOk result (draft output.new ≡ Printing.collection_begun (work_on page.now)
@@ -330,10 +330,10 @@ pub(crate) fn begin_collection(
     let with_props = has_props_at(page, i);
     before_collection(output, page, with_props, spot)?;
     push_props_if(&mut output.line, page, i, with_props)?;
-    levels.push(Level {
+    levels.push(PrintFrame {
         column: page.plan.forms.at(i).column,
         awaited: first,
-        is_inline: !with_props && matches!(spot, Spot::Behind(_)),
+        is_inline: !with_props && matches!(spot, Role::After(_)),
     })?;
     Ok(())
 }
@@ -341,12 +341,12 @@ pub(crate) fn begin_collection(
 /// Begins the next document, and answers how many have begun.
 pub(crate) fn next_document(
     output: &mut Output,
-    page: &Page,
+    page: &PrintContext,
     documents: usize,
 ) -> Result<usize, AllocError>
     ensures printed { OnOk result (draft output.new ≡ Printing.document_printed (work_on page.now) documents
         (slice_get page.now.reading.now.documents documents) (draft output.old)) }
-    ensures documents { IfOk result (λ next. next ≡ Printing.documents_behind documents (slice_get page.now.reading.now.documents documents)) }
+    ensures documents { IfOk result (λ next. next ≡ Printing.documents_after documents (slice_get page.now.reading.now.documents documents)) }
 {
     let list = page.reading.documents();
     if documents < list.len() {

@@ -1,11 +1,11 @@
-//! Which comments stand after the text of a line, at its end: they trail a leaf or a key.
+//! Which comments are after the text of a line, at its end: they trail a leaf or a key.
 ghost use Rattle.std.specs.Prelude.{◌≡◌, ◌<◌, ◌≤◌, false, get_or, length, map, replicate, set, slice_get, true, IfOk, None};
 ghost use Rattle.yf_comments.specs.Comment.{comment_value};
-ghost use Rattle.yf_emit.specs.Trailing as Trailing;
-ghost use Rattle.yf_emit.specs.Trailing.{all_found, found, given, keys_taken, leaf_if, state, taken};
-ghost use Rattle.yf_emit.specs.TrailsOf.{FindsTrails};
+ghost use Rattle.yf_emit.specs.Passes.TrailPass as Trailing;
+ghost use Rattle.yf_emit.specs.Passes.TrailPass.{all_found, found, given, keys_taken, leaf_if, state, taken};
+ghost use Rattle.yf_emit.specs.Layouts.TrailsOf.{FindsTrails};
 
-use crate::form::comments_before::first_behind;
+use crate::form::comments_before::first_after;
 use crate::form::forms::Forms;
 use crate::form::measures::Measures;
 use crate::print::leaf_trails::LeafTrails;
@@ -41,7 +41,7 @@ impl Trails {
     }
 }
 
-/// A leaf after which the next comment may stand.
+/// A leaf after which the next comment may be.
 #[derive(Clone, Copy)]
 pub(crate) struct Leaf {
     event: usize,
@@ -69,7 +69,7 @@ fn take_key(is_trailing: &mut Vec<bool>, comment: Option<usize>)
     }
 }
 
-/// Whether a comment that begins after the leaf's start, and before the next leaf, stands inside of the leaf or on the line
+/// Whether a comment that begins after the leaf's start, and before the next leaf, is inside of the leaf or on the line
 /// on which it ends.
 fn is_at(reading: &Reading, end: usize, k: usize) -> bool
     ensures { result ≡ Trailing.is_at reading.now end k }
@@ -130,7 +130,7 @@ fn leaf_at(
             return Some(Leaf {
                 event: i,
                 end: span.end,
-                first: first_behind(reading.comments(), from, span.start),
+                first: first_after(reading.comments(), from, span.start),
             });
         }
     }
@@ -206,7 +206,7 @@ fn trails_of_keys(alloc: Global, reading: &Reading, forms: &Forms) -> Result<Tra
 }
 
 /// Finds the comments that trail: those that end a key's line, and for each leaf the first comment after its start and before
-/// the next leaf, where it stands inside of the leaf or on the line on which the leaf ends. Of a normal form, with its own measures
+/// the next leaf, where it is inside of the leaf or on the line on which the leaf ends. Of a normal form, with its own measures
 /// and forms, these are the comments that trail in its layout.
 pub fn find_trails(
     alloc: Global,

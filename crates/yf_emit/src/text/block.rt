@@ -2,9 +2,9 @@
 ghost use Rattle.std.specs.Prelude.{◌≡◌, ◌<◌, ◌≤◌, ◌++◌, ◌∷◌, [], flat_map, map, replicate, OnOk};
 ghost use Rattle.std.specs.String.{string_bytes};
 ghost use Rattle.yf_events.specs.declared.event.ScalarStyle.TheVariants.{Folded, Literal};
-ghost use Rattle.yf_emit.specs.BlockLines as BlockLines;
-ghost use Rattle.yf_emit.specs.BlockLines.{begins_with_space, block_lines, chomping_sign, cut_at_feeds, digit_text, header_text, is_kept_tail, line_at, style_sign, tail_lines, without_final_feeds};
-ghost use Rattle.yf_emit.specs.Layout.{ended};
+ghost use Rattle.yf_emit.specs.Nodes.BlockLines as BlockLines;
+ghost use Rattle.yf_emit.specs.Nodes.BlockLines.{begins_with_space, block_lines, chomping_sign, cut_at_feeds, digit_text, header_text, is_kept_tail, line_at, style_sign, tail_lines, without_final_feeds};
+ghost use Rattle.yf_emit.specs.Layouts.Layout.{ended};
 
 use crate::text::limit::limited;
 use std::alloc::AllocError;
@@ -171,9 +171,9 @@ fn push_lines(out: &mut String, text: &str, column: usize) -> Result<(), AllocEr
     ensures { OnOk result (string_bytes out.new ≡ string_bytes out.old ++ flat_map ended (map (line_at column) (cut_at_feeds text.now))) }
 {
     let mut rest = text;
-    while let Some((line, behind)) = rest.split_once('\n') {
+    while let Some((line, follows)) = rest.split_once('\n') {
         push_line(out, line, column)?;
-        rest = behind;
+        rest = follows;
     }
     push_line(out, rest, column)
 }

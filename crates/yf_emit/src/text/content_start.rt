@@ -1,11 +1,11 @@
 //! Where the content of a node begins, after its properties (YAML 1.2.2, section 6.9).
 ghost use Rattle.std.specs.Prelude.{◌≡◌, ◌≤◌, ◌-◌, ◌∷◌, ℕ, suc, List, Some, length, MatchOption};
 ghost use Rattle.yf_chars.specs.Text.{code};
-ghost use Rattle.yf_emit.specs.ContentStart as ContentStart;
-ghost use Rattle.yf_emit.specs.ContentStart.{gap_len};
+ghost use Rattle.yf_emit.specs.Nodes.ContentStart as ContentStart;
+ghost use Rattle.yf_emit.specs.Nodes.ContentStart.{gap_len};
 ghost use Rattle.yf_props.specs.Props.{props_value, tag_value};
 
-use yf_chars::text::stands;
+use yf_chars::text::is_char_at;
 use yf_events::event::Span;
 use yf_props::props::{Props, Tag};
 
@@ -31,13 +31,13 @@ fn tag_len(tag: Tag) -> usize
 fn written_len(text: &str, at: usize, props: &Props) -> usize
     ensures { result ≡ ContentStart.written_len (code text.now at) (props_value props.now) }
 {
-    if stands(text, at, b'&') {
+    if is_char_at(text, at, b'&') {
         return match props.anchor {
             Some(name) => anchor_len(name),
             None => 0,
         };
     }
-    if stands(text, at, b'!') {
+    if is_char_at(text, at, b'!') {
         return match props.tag {
             Some(tag) => tag_len(tag),
             None => 0,
@@ -46,7 +46,7 @@ fn written_len(text: &str, at: usize, props: &Props) -> usize
     0
 }
 
-/// How many bytes the property has that stands at the byte offset, not past the end of the text; 0 where none stands.
+/// How many bytes the property has that is at the byte offset, not past the end of the text; 0 where none is.
 fn property_len(text: &str, at: usize, props: &Props) -> usize
     ensures len { result ≡ ContentStart.property_len text.now at (props_value props.now) }
     ensures within { result ≤ length text.now - at }
@@ -55,7 +55,7 @@ fn property_len(text: &str, at: usize, props: &Props) -> usize
 }
 
 /// What a byte does to a separation: `None` where it is none of its bytes, else whether a comment goes on after it.
-fn behind_byte(in_comment: bool, byte: u8) -> Option<bool>
+fn after_byte(in_comment: bool, byte: u8) -> Option<bool>
     ensures { MatchOption result ((bs : List ℕ) → gap_len in_comment (byte ∷ bs) ≡ 0)
         (λ next. (bs : List ℕ) → gap_len in_comment (byte ∷ bs) ≡ suc (gap_len next bs)) }
 {
@@ -80,7 +80,7 @@ fn behind_byte(in_comment: bool, byte: u8) -> Option<bool>
     None
 }
 
-/// The byte offset after the white space, line breaks and comments that stand there, and not past the end.
+/// The byte offset after the white space, line breaks and comments that are there, and not past the end.
 fn past_gap(text: &str, at: usize, end: usize) -> usize
     ensures { result ≡ ContentStart.past_gap text.now at end }
 {
@@ -88,7 +88,7 @@ fn past_gap(text: &str, at: usize, end: usize) -> usize
     let stop = end.min(bytes.len());
     let mut in_comment = false;
     for i in at..stop {
-        match behind_byte(in_comment, bytes[i]) {
+        match after_byte(in_comment, bytes[i]) {
             Some(next) => in_comment = next,
             None => return i,
         }
@@ -96,7 +96,7 @@ fn past_gap(text: &str, at: usize, end: usize) -> usize
     at.max(stop)
 }
 
-/// The byte offset after the property that stands there, if one does, and after what separates it from what follows.
+/// The byte offset after the property that is there, if one is, and after what separates it from what follows.
 fn past_second(text: &str, at: usize, end: usize, props: &Props) -> usize
     ensures { result ≡ ContentStart.past_second text.now at end (props_value props.now) }
 {

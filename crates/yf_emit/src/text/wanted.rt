@@ -1,7 +1,7 @@
 //! The style in which a scalar is written.
 ghost use Rattle.std.specs.Prelude.{◌≡◌, ◌<◌, length, slice_get, IfSome};
-ghost use Rattle.yf_emit.specs.Wanted as Wanted;
-ghost use Rattle.yf_emit.specs.Wanted.{quoted_in, wanted, wanted_of_event};
+ghost use Rattle.yf_emit.specs.Nodes.ScalarStyles as Wanted;
+ghost use Rattle.yf_emit.specs.Nodes.ScalarStyles.{quoted_in, wanted, wanted_of_event};
 ghost use Rattle.yf_events.specs.Reading.{events_of};
 
 use crate::style::Style;

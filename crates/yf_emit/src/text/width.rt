@@ -4,9 +4,9 @@ ghost use Rattle.std.specs.Str.{IsUtf8};
 ghost use Rattle.yf_chars.specs.Common.{is_common};
 ghost use Rattle.yf_chars.specs.Escape as Escape;
 ghost use Rattle.yf_chars.specs.Escape.{spelled};
-ghost use Rattle.yf_emit.specs.Measures as Measures;
-ghost use Rattle.yf_emit.specs.Measures.{up_to_greatest};
-ghost use Rattle.yf_emit.specs.OneLine.{anchor_text, props_text, tag_text, width};
+ghost use Rattle.yf_emit.specs.NormalForms.Measures as Measures;
+ghost use Rattle.yf_emit.specs.NormalForms.Measures.{up_to_greatest};
+ghost use Rattle.yf_emit.specs.Nodes.OneLine.{anchor_text, props_text, tag_text, width};
 ghost use Rattle.yf_props.specs.Props.{name_value, optional_tag_value, props_value, tag_value};
 ghost use Rattle.yf_quoted.specs.Written.{double_bytes, single_bytes, twice};
 

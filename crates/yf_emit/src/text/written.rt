@@ -2,8 +2,8 @@
 ghost use Rattle.std.specs.Prelude.{◌≡◌, ◌++◌, not, OnOk, Some};
 ghost use Rattle.std.specs.String.{string_bytes};
 ghost use Rattle.yf_props.specs.Props.{optional_tag_value, props_value, tag_value};
-ghost use Rattle.yf_emit.specs.OneLine.{props_text, scalar_text, space_before, space_behind, tag_text};
-ghost use Rattle.yf_emit.specs.Rows.{is_empty_text};
+ghost use Rattle.yf_emit.specs.Nodes.OneLine.{props_text, scalar_text, space_before, space_after, tag_text};
+ghost use Rattle.yf_emit.specs.Layouts.Rows.{is_empty_text};
 
 use std::alloc::AllocError;
 use yf_chars::error::NoMemory;
@@ -89,7 +89,7 @@ fn push_optional_tag(out: &mut String, tag: &Option<Tag>) -> Result<(), AllocErr
 }
 
 /// Appends a tag after an anchor, where there is one, with a space between them.
-fn push_tag_behind(out: &mut String, tag: &Option<Tag>) -> Result<(), AllocError>
+fn push_tag_after(out: &mut String, tag: &Option<Tag>) -> Result<(), AllocError>
     ensures { OnOk result (string_bytes out.new ≡ string_bytes out.old ++ space_before (tag_text (optional_tag_value tag.now))) }
 {
     if !has_tag(tag) {
@@ -107,13 +107,13 @@ pub fn push_props(out: &mut String, props: &Props) -> Result<(), AllocError>
         Some(name) => {
             out.push('&')?;
             out.push_str(name)?;
-            push_tag_behind(out, &props.tag)
+            push_tag_after(out, &props.tag)
         }
         None => push_optional_tag(out, &props.tag),
     }
 }
 
-/// The same of properties by value: what is handed on by address stands in memory whether they are written or not.
+/// The same of properties by value: what is handed on by address is in memory whether they are written or not.
 #[inline(never)]
 pub(crate) fn push_props_alone(out: &mut String, props: Props) -> Result<(), AllocError>
     ensures { OnOk result (string_bytes out.new ≡ string_bytes out.old ++ props_text (props_value props.entry)) }
@@ -124,7 +124,7 @@ pub(crate) fn push_props_alone(out: &mut String, props: Props) -> Result<(), All
 /// Appends properties with a space after them; nothing where there are none.
 #[inline(always)]
 pub fn push_props_before(out: &mut String, props: &Props) -> Result<(), AllocError>
-    ensures { OnOk result (string_bytes out.new ≡ string_bytes out.old ++ space_behind (props_text (props_value props.now))) }
+    ensures { OnOk result (string_bytes out.new ≡ string_bytes out.old ++ space_after (props_text (props_value props.now))) }
 {
     if !has_props(props) {
         return Ok(());

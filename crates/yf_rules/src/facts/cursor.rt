@@ -1,6 +1,6 @@
 //! How far a pass over the text has come.
 
-use yf_lines::place::Place;
+use yf_lines::place::Position;
 
 /// How far a pass over the text has come: in the line of that index, from 0, at a byte offset after the line's byte order
 /// marks, whose column is known.
@@ -14,6 +14,6 @@ pub struct Cursor {
 /// A place, and how far the pass has come with it.
 #[derive(Clone, Copy)]
 pub struct Located {
-    pub place: Place,
+    pub place: Position,
     pub cursor: Cursor,
 }

@@ -1,16 +1,16 @@
 //! What is known of each line.
 ghost use Rattle.std.specs.Prelude.{◌≡◌, ◌<◌, ℕ, false, get_or, length, IfOk, MatchBool};
-ghost use Rattle.yf_rules.specs.BlankLines.{DirectiveIn, DirectiveOf, HasOffset, IsBlank, MarkerOf};
-ghost use Rattle.yf_rules.specs.BlankNotes.{AreNotes, BlankUnless, MarkerThere};
-ghost use Rattle.yf_rules.specs.Noted.{Noted, Tells};
-ghost use Rattle.yf_rules.specs.Whites.{IsAlone};
+ghost use Rattle.yf_rules.specs.RuleSets.BlankLines.{DirectiveIn, DirectiveOf, HasOffset, IsBlank, MarkerOf};
+ghost use Rattle.yf_rules.specs.Passes.BlankNotes.{AreNotes, BlankUnless, MarkerThere};
+ghost use Rattle.yf_rules.specs.Passes.LineFlags.{FlagsAdded, ListTells};
+ghost use Rattle.yf_rules.specs.RuleSets.Whites.{IsAlone};
 
-use crate::facts::begun::lines_begun;
-use crate::facts::noted_lines::scalar_lines;
+use crate::facts::flagged_lines::scalar_lines;
+use crate::facts::line_starts::lines_begun;
 use crate::facts::whites::{ends_in_text, is_white_line};
 use crate::rules::document_start::markers;
 use std::alloc::{AllocError, Global};
-use yf_chars::text::stands;
+use yf_chars::text::is_char_at;
 use yf_events::directive::Directive;
 use yf_events::reading::Reading;
 use yf_lines::basic::skip_whites;
@@ -27,22 +27,22 @@ pub struct Notes {
     pub directives: Vec<bool>,
 }
 
-/// Whether nothing but white space stands after the `---` that begins there.
+/// Whether nothing but white space is after the `---` that begins there.
 pub fn is_alone(text: &str, marker: usize) -> bool
     ensures { MatchBool result (IsAlone text.now marker) (IsAlone text.now marker → ⊥) }
 {
     if marker >= text.len() {
         return false;
     }
-    let behind = marker + 3;
-    if !text.is_char_boundary(behind) {
+    let follows = marker + 3;
+    if !text.is_char_boundary(follows) {
         return false;
     }
-    let end = skip_whites(text, behind);
-    if stands(text, end, b'\n') {
+    let end = skip_whites(text, follows);
+    if is_char_at(text, end, b'\n') {
         return true;
     }
-    if stands(text, end, b'\r') {
+    if is_char_at(text, end, b'\r') {
         return true;
     }
     if end == text.len() {
@@ -54,7 +54,7 @@ pub fn is_alone(text: &str, marker: usize) -> bool
 /// Notes the line that holds the byte offset. How many lines begin up to it.
 fn note_line(list: &mut Vec<bool>, src: &Src, hint: usize, offset: usize) -> usize
     requires { length list.old.items ≡ length src.now.lines }
-    ensures { Noted list.old.items list.new.items (HasOffset src.now offset) }
+    ensures { FlagsAdded list.old.items list.new.items (HasOffset src.now offset) }
 {
     let begun = lines_begun(src, hint, offset);
     if begun > 0 {
@@ -68,7 +68,7 @@ fn note_line(list: &mut Vec<bool>, src: &Src, hint: usize, offset: usize) -> usi
 /// Notes the lines of directives. How many lines begin up to the last one.
 fn note_directives(list: &mut Vec<bool>, src: &Src, hint: usize, directives: &[Directive]) -> usize
     requires { length list.old.items ≡ length src.now.lines }
-    ensures { Noted list.old.items list.new.items (λ k. (j : ℕ) × DirectiveIn src.now directives.now j k) }
+    ensures { FlagsAdded list.old.items list.new.items (λ k. (j : ℕ) × DirectiveIn src.now directives.now j k) }
 {
     let mut hint = hint;
     for j in 0..directives.len() {
@@ -79,7 +79,7 @@ fn note_directives(list: &mut Vec<bool>, src: &Src, hint: usize, directives: &[D
 
 /// Whether each line holds a directive.
 fn directive_lines(alloc: Global, src: &Src, reading: &Reading) -> Result<Vec<bool>, AllocError>
-    ensures { IfOk result (λ list. Tells list.items (λ k. (m : ℕ) × DirectiveOf src.now reading.now m k)) }
+    ensures { IfOk result (λ list. ListTells list.items (λ k. (m : ℕ) × DirectiveOf src.now reading.now m k)) }
 {
     let documents = reading.documents();
     let mut list = vec![in alloc; false; src.lines().len()]?;
@@ -93,7 +93,7 @@ fn directive_lines(alloc: Global, src: &Src, reading: &Reading) -> Result<Vec<bo
 /// Notes the line of a `---` that is written and has nothing but white space after it. How many lines begin up to it.
 fn note_marker(list: &mut Vec<bool>, src: &Src, hint: usize, marked: bool, start: usize) -> usize
     requires { length list.old.items ≡ length src.now.lines }
-    ensures { Noted list.old.items list.new.items (MarkerThere src.now marked start) }
+    ensures { FlagsAdded list.old.items list.new.items (MarkerThere src.now marked start) }
 {
     if !marked {
         return hint;
@@ -106,7 +106,7 @@ fn note_marker(list: &mut Vec<bool>, src: &Src, hint: usize, marked: bool, start
 
 /// Whether each line holds a `---` with nothing but white space after it.
 fn marker_lines(alloc: Global, src: &Src, reading: &Reading) -> Result<Vec<bool>, AllocError>
-    ensures { IfOk result (λ list. Tells list.items (λ k. (m : ℕ) × MarkerOf src.now reading.now m k)) }
+    ensures { IfOk result (λ list. ListTells list.items (λ k. (m : ℕ) × MarkerOf src.now reading.now m k)) }
 {
     let documents = reading.documents();
     let markers = markers(alloc, reading)?;
@@ -135,7 +135,7 @@ fn is_blank(src: &Src, k: usize, is_inside: bool) -> bool
 /// Whether each line is one of white space alone that is part of no scalar.
 fn blank_lines(alloc: Global, src: &Src, reading: &Reading) -> Result<Vec<bool>, AllocError>
     ensures count { IfOk result (λ list. length list.items ≡ length src.now.lines) }
-    ensures blank { IfOk result (λ list. Tells list.items (IsBlank src.now reading.now)) }
+    ensures blank { IfOk result (λ list. ListTells list.items (IsBlank src.now reading.now)) }
 {
     let mut list = scalar_lines(alloc, src, reading)?;
     for k in 0..list.len() {

@@ -1,13 +1,13 @@
-//! Which events stand in a flow collection, told in one pass over the events of a reading that was measured.
+//! Which events are in a flow collection, told in one pass over the events of a reading that was measured.
 ghost use Rattle.std.specs.Prelude.{◌≡◌, ◌<◌, ◌+◌, ℕ, List, Some, length, slice_get};
-ghost use Rattle.yf_emit.specs.FlowsAlone.{flows_alone};
-ghost use Rattle.yf_emit.specs.Measures.{Measured};
-ghost use Rattle.yf_emit.specs.Normal.{Setting};
+ghost use Rattle.yf_emit.specs.Nodes.FlowsAlone.{flows_alone};
+ghost use Rattle.yf_emit.specs.NormalForms.Measures.{AreMeasures};
+ghost use Rattle.yf_emit.specs.NormalForms.Normal.{LayoutSetting};
 ghost use Rattle.yf_events.specs.Event.{EventValue};
 ghost use Rattle.yf_events.specs.Reading.{events_of};
 ghost use Rattle.yf_events.specs.Tree.{DocumentTree, TreesOf};
-ghost use Rattle.yf_rules.specs.OuterFlow as OuterFlow;
-ghost use Rattle.yf_rules.specs.OuterFlow.{FlowsDone};
+ghost use Rattle.yf_rules.specs.Passes.OuterFlow as OuterFlow;
+ghost use Rattle.yf_rules.specs.Passes.OuterFlow.{FlowsDone};
 
 use yf_emit::form::measures::Measures;
 use yf_events::event::Event;
@@ -31,10 +31,10 @@ pub fn starts_flow(reading: &Reading, i: usize) -> bool
 #[inline(always)]
 pub fn past_flow(reading: &Reading, measures: &Measures, i: usize, done: usize) -> usize
     requires { i < length reading.now.events }
-    ensures measured { (t : List ℕ) (c : Setting) (trees : List DocumentTree) → TreesOf reading.now trees
-        → Measured t c reading.now.events measures.now → FlowsDone reading.now.events i done → FlowsDone reading.now.events (i + 1) result }
-    ensures alone { (t : List ℕ) (c : Setting) (trees : List DocumentTree) → TreesOf reading.now trees
-        → Measured t c (flows_alone 0 reading.now.events) measures.now → FlowsDone reading.now.events i done
+    ensures measured { (t : List ℕ) (c : LayoutSetting) (trees : List DocumentTree) → TreesOf reading.now trees
+        → AreMeasures t c reading.now.events measures.now → FlowsDone reading.now.events i done → FlowsDone reading.now.events (i + 1) result }
+    ensures alone { (t : List ℕ) (c : LayoutSetting) (trees : List DocumentTree) → TreesOf reading.now trees
+        → AreMeasures t c (flows_alone 0 reading.now.events) measures.now → FlowsDone reading.now.events i done
         → FlowsDone reading.now.events (i + 1) result }
 {
     if i <= done {

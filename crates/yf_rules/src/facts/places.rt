@@ -1,15 +1,15 @@
 //! The places of byte offsets, in one pass over the text.
 ghost use Rattle.std.specs.Prelude.{◌≡◌, ◌<◌, ◌≤◌, ◌+◌, true, length, IfOk, IfSome, slice_get};
 ghost use Rattle.std.specs.Str.{IsCharBoundary};
-ghost use Rattle.yf_lines.specs.Lines.{Holds, PlaceOf};
-ghost use Rattle.yf_rules.specs.Columns.{ColumnsTo, IsColumn};
-ghost use Rattle.yf_rules.specs.Places.{IsCursor, PlacesOf};
+ghost use Rattle.yf_lines.specs.Lines.{LineHolds, PlaceOf};
+ghost use Rattle.yf_rules.specs.RuleSets.Columns.{ColumnsTo, IsColumn};
+ghost use Rattle.yf_rules.specs.RuleSets.Places.{IsCursor, PlacesOf};
 
-use crate::facts::begun::lines_begun;
 use crate::facts::cursor::{Cursor, Located};
+use crate::facts::line_starts::lines_begun;
 use std::alloc::{AllocError, Global};
 use yf_lines::line::Line;
-use yf_lines::place::Place;
+use yf_lines::place::Position;
 use yf_lines::source_text::Src;
 use yf_lines::table::{column_from, skip_marks};
 
@@ -32,7 +32,7 @@ fn line_cursor(src: &Src, line: usize) -> Cursor
 }
 
 /// The cursor in the line of that index, for a byte offset in it: after the spaces with which the line begins, unless the
-/// offset stands among them, or is the end of the text.
+/// offset is among them, or is the end of the text.
 #[inline(always)]
 fn indent_cursor(src: &Src, line: usize, offset: usize) -> Cursor
     ensures { IsCursor src.now.text src.now.lines result }
@@ -68,7 +68,7 @@ fn forward(src: &Src, cursor: Cursor, offset: usize) -> Cursor
 /// Whether the line holds the byte offset. A last line without a break holds the end of the text too.
 #[inline(always)]
 fn holds(line: Line, offset: usize) -> bool
-    ensures { result ≡ true → Holds line offset }
+    ensures { result ≡ true → LineHolds line offset }
 {
     if offset < line.start {
         return false;
@@ -114,7 +114,7 @@ fn place_from(src: &Src, from: Cursor, back: &mut Cursor, offset: usize) -> Loca
     }
 }
 
-/// The place of a byte offset in the line of the first cursor, which has that number: from the second cursor, if it stands
+/// The place of a byte offset in the line of the first cursor, which has that number: from the second cursor, if it is
 /// in that line, and else from the first.
 fn place_back(src: &Src, cursor: Cursor, back: Cursor, number: usize, offset: usize) -> Located
     requires boundary { IsCharBoundary src.now.text offset }
@@ -122,7 +122,7 @@ fn place_back(src: &Src, cursor: Cursor, back: Cursor, number: usize, offset: us
     requires back { IsCursor src.now.text src.now.lines back }
     requires line { cursor.line < length src.now.lines }
     requires number { number ≡ cursor.line + 1 }
-    requires within { IfSome (slice_get src.now.lines cursor.line) (λ l. Holds l offset) }
+    requires within { IfSome (slice_get src.now.lines cursor.line) (λ l. LineHolds l offset) }
     ensures place { PlaceOf src.now.text offset result.place.line result.place.column }
     ensures cursor { IsCursor src.now.text src.now.lines result.cursor }
 {
@@ -138,7 +138,7 @@ fn place_near(src: &Src, cursor: Cursor, number: usize, offset: usize) -> Locate
     requires cursor { IsCursor src.now.text src.now.lines cursor }
     requires line { cursor.line < length src.now.lines }
     requires number { number ≡ cursor.line + 1 }
-    requires within { IfSome (slice_get src.now.lines cursor.line) (λ l. Holds l offset) }
+    requires within { IfSome (slice_get src.now.lines cursor.line) (λ l. LineHolds l offset) }
     ensures place { PlaceOf src.now.text offset result.place.line result.place.column }
     ensures cursor { IsCursor src.now.text src.now.lines result.cursor }
 {
@@ -157,7 +157,7 @@ fn place_in_line(src: &Src, cursor: Cursor, number: usize, offset: usize) -> Loc
     requires cursor { IsCursor src.now.text src.now.lines cursor }
     requires line { cursor.line < length src.now.lines }
     requires number { number ≡ cursor.line + 1 }
-    requires within { IfSome (slice_get src.now.lines cursor.line) (λ l. Holds l offset) }
+    requires within { IfSome (slice_get src.now.lines cursor.line) (λ l. LineHolds l offset) }
     requires order { cursor.at ≤ offset }
     ensures place { PlaceOf src.now.text offset result.place.line result.place.column }
     ensures cursor { IsCursor src.now.text src.now.lines result.cursor }
@@ -165,7 +165,7 @@ fn place_in_line(src: &Src, cursor: Cursor, number: usize, offset: usize) -> Loc
     let line = src.lines().line(cursor.line);
     let column = column_from(src.text(), cursor.at, cursor.column, offset);
     Located {
-        place: Place {
+        place: Position {
             line: number,
             column,
         },
@@ -182,7 +182,7 @@ fn place_at_mark(src: &Src, cursor: Cursor, number: usize, offset: usize) -> Loc
     requires cursor { IsCursor src.now.text src.now.lines cursor }
     requires line { cursor.line < length src.now.lines }
     requires number { number ≡ cursor.line + 1 }
-    requires within { IfSome (slice_get src.now.lines cursor.line) (λ l. Holds l offset) }
+    requires within { IfSome (slice_get src.now.lines cursor.line) (λ l. LineHolds l offset) }
     requires order { offset < cursor.at }
     requires first { cursor.column ≡ 1 }
     ensures place { PlaceOf src.now.text offset result.place.line result.place.column }
@@ -190,7 +190,7 @@ fn place_at_mark(src: &Src, cursor: Cursor, number: usize, offset: usize) -> Loc
 {
     let _line = src.lines().line(cursor.line);
     Located {
-        place: Place {
+        place: Position {
             line: number,
             column: 1,
         },
@@ -199,13 +199,13 @@ fn place_at_mark(src: &Src, cursor: Cursor, number: usize, offset: usize) -> Loc
 }
 
 /// The place of a byte offset before a cursor in its line, which has that number. The characters between them are counted:
-/// where they are fewer than its column, the offset stands after the marks of the line, and else among them.
+/// where they are fewer than its column, the offset is after the marks of the line, and else among them.
 fn place_before(src: &Src, cursor: Cursor, number: usize, offset: usize) -> Located
     requires boundary { IsCharBoundary src.now.text offset }
     requires cursor { IsCursor src.now.text src.now.lines cursor }
     requires line { cursor.line < length src.now.lines }
     requires number { number ≡ cursor.line + 1 }
-    requires within { IfSome (slice_get src.now.lines cursor.line) (λ l. Holds l offset) }
+    requires within { IfSome (slice_get src.now.lines cursor.line) (λ l. LineHolds l offset) }
     requires order { offset < cursor.at }
     ensures place { PlaceOf src.now.text offset result.place.line result.place.column }
     ensures cursor { IsCursor src.now.text src.now.lines result.cursor }
@@ -215,7 +215,7 @@ fn place_before(src: &Src, cursor: Cursor, number: usize, offset: usize) -> Loca
     if count < cursor.column {
         let column = cursor.column - count;
         return Located {
-            place: Place {
+            place: Position {
                 line: number,
                 column,
             },
@@ -227,7 +227,7 @@ fn place_before(src: &Src, cursor: Cursor, number: usize, offset: usize) -> Loca
         };
     }
     Located {
-        place: Place {
+        place: Position {
             line: number,
             column: 1,
         },
@@ -267,7 +267,11 @@ pub fn columns_of(src: &Src, mut offsets: Vec<usize>) -> Vec<usize>
 }
 
 /// The places of the byte offsets that have one, in their order and in one pass where the offsets ascend or descend.
-pub fn known_places(alloc: Global, src: &Src, offsets: &[usize]) -> Result<Vec<Place>, AllocError>
+pub fn known_positions(
+    alloc: Global,
+    src: &Src,
+    offsets: &[usize],
+) -> Result<Vec<Position>, AllocError>
     ensures { IfOk result (λ places. PlacesOf src.now.text offsets.now places.items) }
 {
     let mut places = Vec::new(alloc);

@@ -1,11 +1,11 @@
 //! The lines of each scalar after the one on which it begins, and the content lines of block scalars (YAML 1.2.2, section 8.1).
 ghost use Rattle.std.specs.Prelude.{◌≡◌, ◌<◌, ◌≤◌, ℕ, drop, length, MatchOption};
-ghost use Rattle.yf_rules.specs.BlockLines.{LinesOfBlock};
-ghost use Rattle.yf_rules.specs.ScalarLines.{IsContent, LinesOfScalar};
-ghost use Rattle.yf_rules.specs.Scalars as Scalars;
-ghost use Rattle.yf_rules.specs.Scalars.{BlockContent};
+ghost use Rattle.yf_rules.specs.Passes.BlockLines.{LinesOfBlock};
+ghost use Rattle.yf_rules.specs.Passes.ScalarLines.{IsContent, LinesOfScalar};
+ghost use Rattle.yf_rules.specs.RuleSets.Scalars as Scalars;
+ghost use Rattle.yf_rules.specs.RuleSets.Scalars.{BlockContent};
 
-use crate::facts::begun::lines_begun;
+use crate::facts::line_starts::lines_begun;
 use yf_emit::text::content_start::content_start;
 use yf_events::event::{Event, ScalarStyle};
 use yf_events::reading::Reading;
@@ -32,7 +32,7 @@ pub struct ScalarLines {
     pub content: Option<ContentStart>,
 }
 
-/// How many times the byte stands from that index on.
+/// How many times the byte is from that index on.
 fn count_from(bytes: &[u8], from: usize, byte: u8) -> usize
     ensures { result ≡ Scalars.head_count byte (drop from bytes.now) }
 {
@@ -46,7 +46,7 @@ fn count_from(bytes: &[u8], from: usize, byte: u8) -> usize
     at - from
 }
 
-/// Where the content begins of a block scalar with this text, whose header stands on the line before that of the index
+/// Where the content begins of a block scalar with this text, whose header is on the line before that of the index
 /// `after`; `None` where it has no content line.
 #[inline(always)]
 fn content_of(src: &Src, text: &str, after: usize) -> Option<ContentStart>

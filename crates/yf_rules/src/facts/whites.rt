@@ -3,16 +3,16 @@ ghost use Rattle.std.specs.Prelude.{◌≡◌, ◌-◌, ◌<◌, ◌≤◌, Some
 ghost use Rattle.yf_chars.specs.Class.{is_white};
 ghost use Rattle.yf_chars.specs.Text.{code};
 ghost use Rattle.yf_lines.specs.declared.line.Line.{Line};
-ghost use Rattle.yf_rules.specs.QuestionMarks.{HasQuestionMark};
-ghost use Rattle.yf_rules.specs.Whites.{WhitesEnd};
+ghost use Rattle.yf_rules.specs.RuleSets.QuestionMarks.{HasQuestionMark};
+ghost use Rattle.yf_rules.specs.RuleSets.Whites.{WhitesEnd};
 
-use yf_chars::text::stands;
+use yf_chars::text::is_char_at;
 use yf_events::event::Entry;
-use yf_lines::basic::{white_or_end_stands, white_stands};
+use yf_lines::basic::{is_white_at, is_white_or_end_at};
 use yf_lines::line::Line;
 use yf_lines::source_text::Src;
 
-/// The byte offset of the first of the white space that stands directly before `end`, and not before `start`.
+/// The byte offset of the first of the white space that is directly before `end`, and not before `start`.
 pub fn whites_before(text: &str, start: usize, end: usize) -> usize
     requires { start ≤ end }
     ensures whites { WhitesEnd text.now start end result }
@@ -23,7 +23,7 @@ pub fn whites_before(text: &str, start: usize, end: usize) -> usize
     }
     let mut at = end;
     while at > start {
-        if !white_stands(text, at - 1) {
+        if !is_white_at(text, at - 1) {
             return at;
         }
         at -= 1;
@@ -63,8 +63,8 @@ pub fn ends_in_text(src: &Src, k: usize) -> bool
 pub fn has_question_mark(text: &str, entry: Entry) -> bool
     ensures { MatchBool result (HasQuestionMark text.now entry.start) (HasQuestionMark text.now entry.start → ⊥) }
 {
-    if stands(text, entry.start, b'?') {
-        return white_or_end_stands(text, entry.start + 1);
+    if is_char_at(text, entry.start, b'?') {
+        return is_white_or_end_at(text, entry.start + 1);
     }
     false
 }

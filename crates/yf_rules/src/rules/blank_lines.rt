@@ -2,16 +2,16 @@
 ghost use Rattle.std.specs.Prelude.{◌≡◌, ◌<◌, length, IfOk, MatchBool};
 ghost use Rattle.yf_events.specs.declared.lists.Lists.{Lists};
 ghost use Rattle.yf_lines.specs.Lines.{Table};
-ghost use Rattle.yf_rules.specs.BlankLines.{MisplacedBlank};
-ghost use Rattle.yf_rules.specs.BlankNotes.{AreNotes, Follows, LastLine, Precedes};
-ghost use Rattle.yf_rules.specs.Exact.{Answers, Exactly};
+ghost use Rattle.yf_rules.specs.RuleSets.BlankLines.{MisplacedBlank};
+ghost use Rattle.yf_rules.specs.Passes.BlankNotes.{AreNotes, IsAfterBlankOrMarker, LastLine, IsBeforeMarker};
+ghost use Rattle.yf_rules.specs.RuleSets.Exact.{IsTheOne, Exactly};
 
 use crate::facts::notes::{Notes, find_notes, flag};
-use crate::rule::{Global, Offsets, Reading, Src, push_found};
+use crate::rule::{FoundOffsets, Global, Reading, Src, push_found};
 pub use crate::rules::StyleRule::BlankLines;
 
-/// A blank line that is the first line, follows another one or a `---` alone on its line, stands directly before a document marker or a directive, or has only blank lines after it.
-pub fn offsets(alloc: Global, src: &Src, reading: &Reading) -> Offsets
+/// A blank line that is the first line, follows another one or a `---` alone on its line, is directly before a document marker or a directive, or has only blank lines after it.
+pub fn offsets(alloc: Global, src: &Src, reading: &Reading) -> FoundOffsets
     ensures { IfOk result (λ offsets. Exactly (MisplacedBlank src.now reading.now) offsets.items) }
 {
     let notes = find_notes(alloc, src, reading)?;
@@ -41,7 +41,7 @@ fn last_line(blank: &[bool]) -> usize
 fn follows(notes: &Notes, k: usize) -> bool
     requires { k < length notes.now.blank.items }
     ensures { (src : Table) (r : Lists) → AreNotes src r notes.now.blank.items notes.now.markers.items notes.now.directives.items
-        → MatchBool result (Follows src r k) (Follows src r k → ⊥) }
+        → MatchBool result (IsAfterBlankOrMarker src r k) (IsAfterBlankOrMarker src r k → ⊥) }
 {
     if k == 0 {
         return true;
@@ -56,7 +56,7 @@ fn follows(notes: &Notes, k: usize) -> bool
 fn precedes(src: &Src, notes: &Notes, k: usize) -> bool
     requires { k < length src.now.lines }
     ensures { (r : Lists) → AreNotes src.now r notes.now.blank.items notes.now.markers.items notes.now.directives.items
-        → MatchBool result (Precedes src.now r k) (Precedes src.now r k → ⊥) }
+        → MatchBool result (IsBeforeMarker src.now r k) (IsBeforeMarker src.now r k → ⊥) }
 {
     let lines = src.lines();
     let count = lines.len();
@@ -75,7 +75,7 @@ fn misplaced(src: &Src, notes: &Notes, last: usize, k: usize) -> Option<usize>
     requires last { LastLine notes.now.blank.items last }
     requires count { length notes.now.blank.items ≡ length src.now.lines }
     ensures { (r : Lists) → AreNotes src.now r notes.now.blank.items notes.now.markers.items notes.now.directives.items
-        → Answers (MisplacedBlank src.now r k) result }
+        → IsTheOne (MisplacedBlank src.now r k) result }
 {
     if !notes.blank[k] {
         return None;

@@ -2,17 +2,17 @@
 ghost use Rattle.std.specs.Prelude.{◌<◌, ◌≢◌, ℕ, length, IfOk, MatchBool};
 ghost use Rattle.std.specs.List.Sorted.{IsNonDecreasingBy};
 ghost use Rattle.yf_chars.specs.Text.{code};
-ghost use Rattle.yf_rules.specs.Cover.{AllBegin, Covers, IsBeyond, NoneBegins};
-ghost use Rattle.yf_rules.specs.Exact.{Answers, Exactly};
-ghost use Rattle.yf_rules.specs.Scalars.{LooseMark, ScalarSpan};
+ghost use Rattle.yf_rules.specs.Passes.FarthestEnds.{AllBegin, Covers, IsBeyond, NoneBegins};
+ghost use Rattle.yf_rules.specs.RuleSets.Exact.{IsTheOne, Exactly};
+ghost use Rattle.yf_rules.specs.RuleSets.Scalars.{LooseMark, ScalarSpan};
 
-use crate::rule::{AllocError, Global, Offsets, Reading, Src, push_found};
+use crate::rule::{AllocError, FoundOffsets, Global, Reading, Src, push_found};
 pub use crate::rules::StyleRule::ByteOrderMark;
 use yf_events::event::{Event, Span};
-use yf_lines::basic::mark_stands;
+use yf_lines::basic::is_mark_at;
 
-/// Each byte order mark outside of scalars. Marks that stand together at the start of a line have one place.
-pub fn offsets(alloc: Global, src: &Src, reading: &Reading) -> Offsets
+/// Each byte order mark outside of scalars. Marks that are together at the start of a line have one place.
+pub fn offsets(alloc: Global, src: &Src, reading: &Reading) -> FoundOffsets
     ensures { IfOk result (λ offsets. Exactly (LooseMark src.now.text reading.now) offsets.items) }
 {
     let text = src.text();
@@ -33,7 +33,7 @@ pub fn offsets(alloc: Global, src: &Src, reading: &Reading) -> Offsets
 #[inline(always)]
 pub fn scalar_span(reading: &Reading, i: usize) -> Option<Span>
     requires { i < length reading.now.events }
-    ensures { Answers (ScalarSpan reading.now i) result }
+    ensures { IsTheOne (ScalarSpan reading.now i) result }
 {
     match reading.event(i) {
         Event::Scalar { .. } => reading.span(i),
@@ -92,9 +92,9 @@ fn cover_to(spans: &[Span], from: Cover, offset: usize) -> Cover
 
 /// The byte offset, if a mark begins there that the parts up to it don't reach.
 fn loose_mark(text: &str, reach: usize, offset: usize) -> Option<usize>
-    ensures { Answers (IsBeyond text.now reach offset) result }
+    ensures { IsTheOne (IsBeyond text.now reach offset) result }
 {
-    if mark_stands(text, offset) {
+    if is_mark_at(text, offset) {
         if reach <= offset {
             return Some(offset);
         }

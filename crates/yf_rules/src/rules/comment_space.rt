@@ -1,16 +1,16 @@
 //! Rule 10, comment-space.
 ghost use Rattle.std.specs.Prelude.{◌<◌, length, IfOk, MatchBool};
-ghost use Rattle.yf_rules.specs.Exact.{Answers, Exactly};
-ghost use Rattle.yf_rules.specs.Whites.{CloseComment, IsClose, TwoSpaces};
+ghost use Rattle.yf_rules.specs.RuleSets.Exact.{IsTheOne, Exactly};
+ghost use Rattle.yf_rules.specs.RuleSets.Whites.{CloseComment, IsClose, TwoSpaces};
 
 use crate::facts::whites::whites_before;
-use crate::rule::{Global, Offsets, Reading, Src, push_found};
+use crate::rule::{FoundOffsets, Global, Reading, Src, push_found};
 pub use crate::rules::StyleRule::CommentSpace;
-use yf_chars::text::stands;
+use yf_chars::text::is_char_at;
 use yf_lines::basic::is_line_start;
 
 /// The `#` of a comment that has a character other than white before it on its line and not exactly two spaces directly before it.
-pub fn offsets(alloc: Global, src: &Src, reading: &Reading) -> Offsets
+pub fn offsets(alloc: Global, src: &Src, reading: &Reading) -> FoundOffsets
     ensures { IfOk result (λ offsets. Exactly (CloseComment src.now.text reading.now) offsets.items) }
 {
     let mut offsets = Vec::new(alloc);
@@ -20,7 +20,7 @@ pub fn offsets(alloc: Global, src: &Src, reading: &Reading) -> Offsets
     Ok(offsets)
 }
 
-/// Whether two spaces, and nothing else, stand between the two byte offsets.
+/// Whether two spaces, and nothing else, are between the two byte offsets.
 fn are_two_spaces(text: &str, from: usize, to: usize) -> bool
     ensures { MatchBool result (TwoSpaces text.now from to) (TwoSpaces text.now from to → ⊥) }
 {
@@ -30,13 +30,13 @@ fn are_two_spaces(text: &str, from: usize, to: usize) -> bool
     if to - 2 != from {
         return false;
     }
-    if stands(text, from, b' ') {
-        return stands(text, from + 1, b' ');
+    if is_char_at(text, from, b' ') {
+        return is_char_at(text, from + 1, b' ');
     }
     false
 }
 
-/// Whether a comment stands after other text on its line, and not two spaces after it.
+/// Whether a comment is after other text on its line, and not two spaces after it.
 fn is_close(text: &str, offset: usize) -> bool
     ensures { MatchBool result (IsClose text.now offset) (IsClose text.now offset → ⊥) }
 {
@@ -53,7 +53,7 @@ fn is_close(text: &str, offset: usize) -> bool
 /// The `#` of the comment of that index, if it is at fault.
 fn close(src: &Src, reading: &Reading, k: usize) -> Option<usize>
     requires { k < length reading.now.comments }
-    ensures { Answers (CloseComment src.now.text reading.now k) result }
+    ensures { IsTheOne (CloseComment src.now.text reading.now k) result }
 {
     let offset = reading.comments()[k].offset;
     if is_close(src.text(), offset) {

@@ -3,18 +3,18 @@ ghost use Rattle.std.specs.Prelude.{◌≡◌, ◌<◌, ◌∷◌, ◌++◌, Lis
 ghost use Rattle.std.specs.Option.{option_to_list};
 ghost use Rattle.yf_events.specs.Event.{EventValue};
 ghost use Rattle.yf_events.specs.Reading.{events_of};
-ghost use Rattle.yf_rules.specs.Documents.{IsUnmarked, NoMarkerLine, markers_in, may_be_bare};
-ghost use Rattle.yf_rules.specs.Exact.{Answers, Exactly};
+ghost use Rattle.yf_rules.specs.RuleSets.Documents.{IsUnmarked, NoMarkerLine, markers_in, may_be_bare};
+ghost use Rattle.yf_rules.specs.RuleSets.Exact.{IsTheOne, Exactly};
 
 use crate::facts::notes::is_alone;
-use crate::rule::{AllocError, Global, Offsets, Reading, Src, Style, push_found};
+use crate::rule::{AllocError, FoundOffsets, Global, Reading, Src, Style, push_found};
 pub use crate::rules::StyleRule::DocumentStart;
 use yf_emit::style::DocumentStart as Starts;
 use yf_events::event::Event;
 
 /// The first character of content of a document without `---`, but of the first document where the style keeps it so; and a `---` with more
 /// than white space after it on its line.
-pub fn offsets(alloc: Global, src: &Src, reading: &Reading, style: &Style) -> Offsets
+pub fn offsets(alloc: Global, src: &Src, reading: &Reading, style: &Style) -> FoundOffsets
     ensures { IfOk result (λ offsets. Exactly (NoMarkerLine src.now.text reading.now style.now) offsets.items) }
 {
     let documents = reading.documents();
@@ -69,7 +69,7 @@ fn may_be_bare(style: &Style, k: usize) -> bool
 
 /// The start of a document, if it is at fault.
 fn unmarked(text: &str, marked: bool, may_be_bare: bool, start: usize) -> Option<usize>
-    ensures { Answers (IsUnmarked text.now marked may_be_bare start) result }
+    ensures { IsTheOne (IsUnmarked text.now marked may_be_bare start) result }
 {
     if marked {
         if is_alone(text, start) {

@@ -3,12 +3,12 @@ ghost use Rattle.std.specs.Option.{option_to_list};
 ghost use Rattle.std.specs.Prelude.{IfOk};
 ghost use Rattle.yf_rules.specs.Sets.{WithoutFinalBreak};
 
-use crate::rule::{Global, Offsets, Src, listed};
+use crate::rule::{FoundOffsets, Global, Src, listed};
 pub use crate::rules::StyleRule::FinalBreak;
 use yf_lines::basic::break_ends;
 
 /// The end of a text that is not empty and does not end with a line break.
-pub fn offsets(alloc: Global, src: &Src) -> Offsets
+pub fn offsets(alloc: Global, src: &Src) -> FoundOffsets
     ensures { IfOk result (λ offsets. WithoutFinalBreak src.now.text offsets.items) }
 {
     listed(alloc, open_end(src.text()))

@@ -1,22 +1,22 @@
 //! Rule 9, flow-layout.
 ghost use Rattle.std.specs.Prelude.{◌≡◌, ◌≢◌, ◌<◌, ℕ, true, false, List, Option, Some, length, slice_get, slice_range, IfOk, MatchBool};
-ghost use Rattle.yf_emit.specs.FlowsAlone.{flows_alone};
-ghost use Rattle.yf_emit.specs.Keys.{NodeAt};
-ghost use Rattle.yf_emit.specs.Measures.{Measured};
-ghost use Rattle.yf_emit.specs.Normal.{Setting, setting_of};
+ghost use Rattle.yf_emit.specs.Nodes.FlowsAlone.{flows_alone};
+ghost use Rattle.yf_emit.specs.Nodes.SingleAnswers.{NodeAt};
+ghost use Rattle.yf_emit.specs.NormalForms.Measures.{AreMeasures};
+ghost use Rattle.yf_emit.specs.NormalForms.Normal.{LayoutSetting, setting_of};
 ghost use Rattle.yf_emit.specs.declared.style.Style.{Style};
-ghost use Rattle.yf_events.specs.Event.{EventValue, Placed};
+ghost use Rattle.yf_events.specs.Event.{EventValue, EventInText};
 ghost use Rattle.yf_events.specs.Reading.{events_of, spans_of};
 ghost use Rattle.yf_events.specs.Tree.{DocumentTree, Node, TreesOf, is_filled_flow};
 ghost use Rattle.yf_events.specs.declared.event.Span.{Span};
-ghost use Rattle.yf_rules.specs.Exact.{Answers};
-ghost use Rattle.yf_rules.specs.Layouts.{Displaced, EndsBehind, IsDisplaced};
-ghost use Rattle.yf_rules.specs.OuterFlow as OuterFlow;
-ghost use Rattle.yf_rules.specs.OuterFlow.{FlowsDone, is_flow};
+ghost use Rattle.yf_rules.specs.RuleSets.Exact.{IsTheOne};
+ghost use Rattle.yf_rules.specs.RuleSets.Layouts.{LayoutFault, EndsPastLimit, IsDisplaced};
+ghost use Rattle.yf_rules.specs.Passes.OuterFlow as OuterFlow;
+ghost use Rattle.yf_rules.specs.Passes.OuterFlow.{FlowsDone, is_flow};
 ghost use Rattle.yf_rules.specs.Sets.{flow_layout_at};
 
 use crate::facts::outer_flow::{past_flow, starts_flow};
-use crate::rule::{AllocError, Global, Offsets, Reading, Src, Style, push_found};
+use crate::rule::{AllocError, FoundOffsets, Global, Reading, Src, Style, push_found};
 pub use crate::rules::StyleRule::FlowLayout;
 use yf_emit::form::kept::kept_text_of;
 use yf_emit::form::measure_flows::measure_flows;
@@ -25,7 +25,7 @@ use yf_emit::text::content_start::content_start;
 use yf_events::event::{Event, Span};
 
 /// The opening bracket of a flow collection, in no other one, that is not written as the house style writes it, or may not be kept there.
-pub fn offsets(alloc: Global, src: &Src, reading: &Reading, style: &Style) -> Offsets
+pub fn offsets(alloc: Global, src: &Src, reading: &Reading, style: &Style) -> FoundOffsets
     ensures { IfOk result (λ offsets. flow_layout_at src.now reading.now style.now offsets.items) }
 {
     if !has_brackets(src, reading) {
@@ -61,9 +61,9 @@ fn is_text(text: &str, part: Span, other: &str) -> bool
     false
 }
 
-/// Whether the character that ends at the byte offset stands after the longest line that the style allows.
-fn ends_behind(src: &Src, end: usize, style: &Style) -> bool
-    ensures { MatchBool result (EndsBehind src.now style.now.max_line end) (EndsBehind src.now style.now.max_line end → ⊥) }
+/// Whether the character that ends at the byte offset is after the longest line that the style allows.
+fn ends_past_limit(src: &Src, end: usize, style: &Style) -> bool
+    ensures { MatchBool result (EndsPastLimit src.now style.now.max_line end) (EndsPastLimit src.now style.now.max_line end → ⊥) }
 {
     let at = end.saturating_sub(1);
     if src.text().is_char_boundary(at) {
@@ -87,7 +87,7 @@ fn empty_text(reading: &Reading, i: usize) -> &'static str
 
 /// Whether the collection that the event begins is empty: its end is the next event.
 fn is_empty(measures: &Measures, i: usize) -> bool
-    ensures { (t : List ℕ) (c : Setting) (es : List Placed) (x : Node) → Measured t c (flows_alone 0 es) measures.now → NodeAt es i x
+    ensures { (t : List ℕ) (c : LayoutSetting) (es : List EventInText) (x : Node) → AreMeasures t c (flows_alone 0 es) measures.now → NodeAt es i x
         → is_flow x ≡ true → MatchBool result (is_filled_flow x ≡ false) (is_filled_flow x ≡ true) }
 {
     if measures.at(i).last.saturating_sub(i) <= 1 {
@@ -108,7 +108,7 @@ fn is_displaced(
     style: &Style,
 ) -> Result<bool, AllocError>
     requires { i < length reading.now.events }
-    ensures { IfOk result (λ wrong. (x : Node) → Measured src.now.text
+    ensures { IfOk result (λ wrong. (x : Node) → AreMeasures src.now.text
         (setting_of reading.now style.now) (flows_alone 0 reading.now.events) measures.now → NodeAt reading.now.events i x → is_flow x ≡ true
         → MatchBool wrong (IsDisplaced src.now (setting_of reading.now style.now) x inside)
         (IsDisplaced src.now (setting_of reading.now style.now) x inside → ⊥)) }
@@ -122,7 +122,7 @@ fn is_displaced(
     match kept_text_of(alloc, measures, reading, i, style)? {
         Some(text) => {
             if is_text(src.text(), inside, text.as_str()) {
-                return Ok(ends_behind(src, inside.end, style));
+                return Ok(ends_past_limit(src, inside.end, style));
             }
             Ok(true)
         }
@@ -166,7 +166,7 @@ fn brackets_at(src: &Src, reading: &Reading, i: usize) -> Option<Span>
 
 /// Whether the text has any flow collection.
 fn has_brackets(src: &Src, reading: &Reading) -> bool
-    ensures { result ≡ false → (house : Style) (i o : ℕ) → Displaced src.now reading.now house i o → ⊥ }
+    ensures { result ≡ false → (house : Style) (i o : ℕ) → LayoutFault src.now reading.now house i o → ⊥ }
 {
     for i in 0..reading.len() {
         match brackets_at(src, reading, i) {
@@ -177,7 +177,7 @@ fn has_brackets(src: &Src, reading: &Reading) -> bool
     false
 }
 
-/// The opening bracket of the flow collection that the event begins, if it is at fault; those that begin up to the index `done` stand in
+/// The opening bracket of the flow collection that the event begins, if it is at fault; those that begin up to the index `done` are in
 /// another one.
 #[inline(always)]
 fn displaced(
@@ -191,8 +191,8 @@ fn displaced(
 ) -> Result<Option<usize>, AllocError>
     requires { i < length reading.now.events }
     ensures { IfOk result (λ answer. (trees : List DocumentTree) → TreesOf reading.now trees
-        → Measured src.now.text (setting_of reading.now style.now) (flows_alone 0 reading.now.events) measures.now
-        → FlowsDone reading.now.events i done → Answers (Displaced src.now reading.now style.now i) answer) }
+        → AreMeasures src.now.text (setting_of reading.now style.now) (flows_alone 0 reading.now.events) measures.now
+        → FlowsDone reading.now.events i done → IsTheOne (LayoutFault src.now reading.now style.now i) answer) }
 {
     if i <= done {
         return Ok(None);

@@ -2,19 +2,19 @@
 ghost use Rattle.std.specs.Prelude.{◌≡◌, ◌+◌, ◌<◌, ◌&&◌, true, Some, length, reverse, slice_get, IfOk};
 ghost use Rattle.yf_events.specs.Event.{EventValue};
 ghost use Rattle.yf_events.specs.Reading.{events_of};
-ghost use Rattle.yf_rules.specs.IndentFaults.{Reached, content_fault, content_in, entry_fault, fault_of};
-ghost use Rattle.yf_rules.specs.Quiet.{IsQuiet};
+ghost use Rattle.yf_rules.specs.Passes.IndentFaults.{IndentPassAt, content_fault, content_in, entry_fault, fault_of};
+ghost use Rattle.yf_rules.specs.Passes.QuietEvents.{IsQuiet};
 ghost use Rattle.yf_rules.specs.Sets.{indentation_at};
-ghost use Rattle.yf_rules.specs.Stands.{is_other, wanted_column, wanted_indent};
+ghost use Rattle.yf_rules.specs.Passes.NodeColumns.{is_other, wanted_column, wanted_indent};
 
+use crate::facts::node_context::{Around, NodeContext, Pass};
 use crate::facts::scalars::{ScalarLines, block_lines_at, is_block_style};
-use crate::facts::stands::{Around, Pass, Stand};
-use crate::rule::{AllocError, Global, Offsets, Reading, Src, Style, push_found};
+use crate::rule::{AllocError, FoundOffsets, Global, Reading, Src, Style, push_found};
 pub use crate::rules::StyleRule::Indentation;
 use yf_events::event::Event;
 
-/// The first entry of a block collection that does not stand at the column of the house style, and the header of a block scalar whose content does not.
-pub fn offsets(alloc: Global, src: &Src, reading: &Reading, style: &Style) -> Offsets
+/// The first entry of a block collection that is not at the column of the house style, and the header of a block scalar whose content is not.
+pub fn offsets(alloc: Global, src: &Src, reading: &Reading, style: &Style) -> FoundOffsets
     ensures { IfOk result (λ offsets. indentation_at src.now reading.now style.now offsets.items) }
 {
     let mut pass = Pass::new(alloc, src, reading)?;
@@ -50,8 +50,8 @@ fn step(
     style: &Style,
 ) -> Result<usize, AllocError>
     requires { i < length reading.now.events }
-    ensures { IfOk result (λ _. Reached src.now reading.now style.now pass.old.columns.items pass.old.begun i (reverse pass.old.stack.items) offsets.old.items
-        → Reached src.now reading.now style.now pass.new.columns.items pass.new.begun (i + 1) (reverse pass.new.stack.items) offsets.new.items) }
+    ensures { IfOk result (λ _. IndentPassAt src.now reading.now style.now pass.old.columns.items pass.old.begun i (reverse pass.old.stack.items) offsets.old.items
+        → IndentPassAt src.now reading.now style.now pass.new.columns.items pass.new.begun (i + 1) (reverse pass.new.stack.items) offsets.new.items) }
 {
     if is_quiet(reading, i) {
         pass.go_by(src, reading, i);
@@ -79,9 +79,9 @@ fn is_off(column: usize, outer: usize, indent: usize) -> bool
     true
 }
 
-/// Whether entries of a block collection at that column, from 0, are out of place: those of a root are to stand at column 0, others as far
+/// Whether entries of a block collection at that column, from 0, are out of place: those of a root are to be at column 0, others as far
 /// to the right of the entries around them as the style says, or at their column for a sequence after a key without `?`.
-fn is_misplaced(stand: Stand, column: usize, is_sequence: bool, style: &Style) -> bool
+fn is_misplaced(stand: NodeContext, column: usize, is_sequence: bool, style: &Style) -> bool
     ensures { result ≡ is_other column (wanted_column style.now (is_sequence && stand.is_implicit_value) stand.outer) }
 {
     match stand.outer {
@@ -96,8 +96,8 @@ fn is_misplaced(stand: Stand, column: usize, is_sequence: bool, style: &Style) -
     }
 }
 
-/// The first entry of the block collection, if it stands at another column than it is to.
-fn misplaced_entry(stand: Stand, is_sequence: bool, style: &Style) -> Option<usize>
+/// The first entry of the block collection, if it is at another column than it is to.
+fn misplaced_entry(stand: NodeContext, is_sequence: bool, style: &Style) -> Option<usize>
     ensures { result ≡ entry_fault stand.first stand.column (wanted_column style.now (is_sequence && stand.is_implicit_value) stand.outer) }
 {
     match stand.column {
@@ -112,7 +112,7 @@ fn misplaced_entry(stand: Stand, is_sequence: bool, style: &Style) -> Option<usi
 }
 
 /// Whether the content of a block scalar with that indentation is out of place.
-fn is_misindented(stand: Stand, indent: usize, style: &Style) -> bool
+fn is_misindented(stand: NodeContext, indent: usize, style: &Style) -> bool
     ensures { result ≡ is_other indent (wanted_indent style.now stand.outer) }
 {
     match stand.outer {
@@ -123,7 +123,7 @@ fn is_misindented(stand: Stand, indent: usize, style: &Style) -> bool
 }
 
 /// The header of the block scalar, if its content is not indented as it is to be.
-fn misplaced_content(stand: Stand, lines: ScalarLines, style: &Style) -> Option<usize>
+fn misplaced_content(stand: NodeContext, lines: ScalarLines, style: &Style) -> Option<usize>
     ensures { result ≡ content_fault (content_in (Some lines)) (wanted_indent style.now stand.outer) }
 {
     match lines.content {
@@ -140,7 +140,7 @@ fn misplaced_content(stand: Stand, lines: ScalarLines, style: &Style) -> Option<
 /// What is found of the event at an index, if it begins a node at fault: a scalar has those lines.
 fn misplaced(
     reading: &Reading,
-    stand: Stand,
+    stand: NodeContext,
     lines: Option<ScalarLines>,
     i: usize,
     style: &Style,

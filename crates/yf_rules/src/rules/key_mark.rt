@@ -2,23 +2,23 @@
 ghost use Rattle.std.specs.Prelude.{◌≡◌, ◌<◌, ℕ, false, List, length, IfOk};
 ghost use Rattle.yf_emit.specs.declared.style.Style.{Style};
 ghost use Rattle.yf_events.specs.Tree.{DocumentTree};
-ghost use Rattle.yf_rules.specs.Exact.{Answers};
-ghost use Rattle.yf_rules.specs.Layouts.{NeedlessMark};
-ghost use Rattle.yf_rules.specs.MarkedKeys.{TellsKeys};
-ghost use Rattle.yf_rules.specs.QuestionMarks.{IsMarked};
-ghost use Rattle.yf_rules.specs.OuterFlow.{FlowsDone};
+ghost use Rattle.yf_rules.specs.RuleSets.Exact.{IsTheOne};
+ghost use Rattle.yf_rules.specs.RuleSets.Layouts.{NeedlessMark};
+ghost use Rattle.yf_rules.specs.Passes.MarkedKeys.{TellsKeys};
+ghost use Rattle.yf_rules.specs.RuleSets.QuestionMarks.{IsMarked};
+ghost use Rattle.yf_rules.specs.Passes.OuterFlow.{FlowsDone};
 ghost use Rattle.yf_rules.specs.Sets.{key_mark_at};
 
 use crate::facts::outer_flow::past_flow;
 use crate::facts::whites::has_question_mark;
-use crate::rule::{Global, Offsets, Reading, Src, Style, push_found};
+use crate::rule::{FoundOffsets, Global, Reading, Src, Style, push_found};
 pub use crate::rules::StyleRule::KeyMark;
 use yf_emit::form::decide::decide;
 use yf_emit::form::forms::Forms;
 use yf_emit::form::measure::measure_all;
 
 /// The `?` of an entry of a block mapping whose key the house style writes without it.
-pub fn offsets(alloc: Global, src: &Src, reading: &Reading, style: &Style) -> Offsets
+pub fn offsets(alloc: Global, src: &Src, reading: &Reading, style: &Style) -> FoundOffsets
     ensures { IfOk result (λ offsets. key_mark_at src.now reading.now style.now offsets.items) }
 {
     if !has_marks(src, reading) {
@@ -38,7 +38,7 @@ pub fn offsets(alloc: Global, src: &Src, reading: &Reading, style: &Style) -> Of
 /// The `?` with which the entry is written that the event begins, if it begins one that is.
 fn mark_of(src: &Src, reading: &Reading, i: usize) -> Option<usize>
     requires { i < length reading.now.events }
-    ensures { Answers (IsMarked src.now.text reading.now i) result }
+    ensures { IsTheOne (IsMarked src.now.text reading.now i) result }
 {
     match reading.entry(i) {
         Some(entry) => {
@@ -64,11 +64,11 @@ fn has_marks(src: &Src, reading: &Reading) -> bool
     false
 }
 
-/// The `?` before the key, if it is to be written without; keys that begin up to the event of the index `done` stand in a flow collection.
+/// The `?` before the key, if it is to be written without; keys that begin up to the event of the index `done` are in a flow collection.
 fn needless(src: &Src, reading: &Reading, forms: &Forms, i: usize, done: usize) -> Option<usize>
     requires { i < length reading.now.events }
     ensures { (house : Style) (trees : List DocumentTree) → TellsKeys src.now.text reading.now house trees forms.now
-        → FlowsDone reading.now.events i done → Answers (NeedlessMark src.now reading.now house trees i) result }
+        → FlowsDone reading.now.events i done → IsTheOne (NeedlessMark src.now reading.now house trees i) result }
 {
     if i <= done {
         return None;

@@ -3,12 +3,12 @@ ghost use Rattle.std.specs.Option.{option_to_list};
 ghost use Rattle.std.specs.Prelude.{◌≡◌, IfOk};
 ghost use Rattle.yf_rules.specs.Sets as Sets;
 
-use crate::rule::{Global, Offsets, Src, listed};
+use crate::rule::{FoundOffsets, Global, Src, listed};
 pub use crate::rules::StyleRule::LineBreaks;
-use yf_chars::text::stands;
+use yf_chars::text::is_char_at;
 
 /// The break of the first line whose break is not a line feed.
-pub fn offsets(alloc: Global, src: &Src) -> Offsets
+pub fn offsets(alloc: Global, src: &Src) -> FoundOffsets
     ensures { IfOk result (λ offsets. offsets.items ≡ Sets.first_return src.now.text src.now.lines) }
 {
     listed(alloc, first_return(src))
@@ -22,7 +22,7 @@ fn first_return(src: &Src) -> Option<usize>
     let lines = src.lines();
     for i in 0..lines.len() {
         let line = lines.line(i);
-        if stands(text, line.end, b'\r') {
+        if is_char_at(text, line.end, b'\r') {
             return Some(line.end);
         }
     }

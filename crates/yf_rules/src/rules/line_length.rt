@@ -1,16 +1,16 @@
 //! Rule 11, line-length.
 ghost use Rattle.std.specs.Prelude.{◌<◌, ◌≤◌, length, IfOk};
 ghost use Rattle.std.specs.Str.{IsCharBoundary};
-ghost use Rattle.yf_rules.specs.ByLine.{BeyondLimit, IsBehind};
-ghost use Rattle.yf_rules.specs.Exact.{Answers, Exactly};
+ghost use Rattle.yf_rules.specs.RuleSets.ByLine.{BeyondLimit, IsAfterChars};
+ghost use Rattle.yf_rules.specs.RuleSets.Exact.{IsTheOne, Exactly};
 
-use crate::rule::{Global, Offsets, Src, Style, push_found};
+use crate::rule::{FoundOffsets, Global, Src, Style, push_found};
 pub use crate::rules::StyleRule::LineLength;
 use yf_chars::text::peek;
 use yf_lines::table::skip_marks;
 
 /// The column after the longest line that the style allows, of a line that is longer.
-pub fn offsets(alloc: Global, src: &Src, style: &Style) -> Offsets
+pub fn offsets(alloc: Global, src: &Src, style: &Style) -> FoundOffsets
     ensures { IfOk result (λ offsets. Exactly (BeyondLimit src.now style.now.max_line) offsets.items) }
 {
     let mut offsets = Vec::new(alloc);
@@ -20,12 +20,12 @@ pub fn offsets(alloc: Global, src: &Src, style: &Style) -> Offsets
     Ok(offsets)
 }
 
-/// The byte offset after so many characters of a line, where at least one more stands before the line's end. A line of so
+/// The byte offset after so many characters of a line, where at least one more is before the line's end. A line of so
 /// many bytes has no more characters, so that these are counted of longer lines alone.
-fn behind_chars(text: &str, start: usize, end: usize, count: usize) -> Option<usize>
+fn after_chars(text: &str, start: usize, end: usize, count: usize) -> Option<usize>
     requires start { IsCharBoundary text.now start }
     requires end { end ≤ length text.now }
-    ensures { Answers (IsBehind text.now start end count) result }
+    ensures { IsTheOne (IsAfterChars text.now start end count) result }
 {
     if end.saturating_sub(start) <= count {
         return None;
@@ -53,18 +53,18 @@ fn behind_chars(text: &str, start: usize, end: usize, count: usize) -> Option<us
 #[inline(never)]
 fn beyond_far(src: &Src, k: usize, max_line: usize) -> Option<usize>
     requires { k < length src.now.lines }
-    ensures { Answers (BeyondLimit src.now max_line k) result }
+    ensures { IsTheOne (BeyondLimit src.now max_line k) result }
 {
     let line = src.lines().line(k);
     let start = skip_marks(src.text(), line.start);
-    behind_chars(src.text(), start, line.end, max_line)
+    after_chars(src.text(), start, line.end, max_line)
 }
 
 /// The same. Most lines have no more bytes than that with their break, so that where a line ends before it is not looked for.
 #[inline(always)]
 fn beyond(src: &Src, k: usize, max_line: usize) -> Option<usize>
     requires { k < length src.now.lines }
-    ensures { Answers (BeyondLimit src.now max_line k) result }
+    ensures { IsTheOne (BeyondLimit src.now max_line k) result }
 {
     let line = src.lines().line(k);
     if line.next.saturating_sub(line.start) <= max_line {

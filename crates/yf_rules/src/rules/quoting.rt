@@ -1,18 +1,18 @@
 //! Rule 3, quoting.
 ghost use Rattle.std.specs.Prelude.{◌<◌, length, IfOk};
-ghost use Rattle.yf_rules.specs.Exact.{Answers, Exactly};
-ghost use Rattle.yf_rules.specs.ScalarStarts.{StartOf};
-ghost use Rattle.yf_rules.specs.Styles.{Misquoted};
+ghost use Rattle.yf_rules.specs.RuleSets.Exact.{IsTheOne, Exactly};
+ghost use Rattle.yf_rules.specs.Passes.ScalarStarts.{StartOf};
+ghost use Rattle.yf_rules.specs.RuleSets.Styles.{QuotingFault};
 
-use crate::rule::{Global, Offsets, Reading, Src, Style, push_found};
+use crate::rule::{FoundOffsets, Global, Reading, Src, Style, push_found};
 pub use crate::rules::StyleRule::Quoting;
 use yf_emit::text::content_start::content_start;
 use yf_emit::text::wanted::wanted_of;
 use yf_events::event::Event;
 
 /// The first character of content of a scalar whose style is not the one that the house style gives it.
-pub fn offsets(alloc: Global, src: &Src, reading: &Reading, style: &Style) -> Offsets
-    ensures { IfOk result (λ offsets. Exactly (Misquoted src.now.text reading.now style.now) offsets.items) }
+pub fn offsets(alloc: Global, src: &Src, reading: &Reading, style: &Style) -> FoundOffsets
+    ensures { IfOk result (λ offsets. Exactly (QuotingFault src.now.text reading.now style.now) offsets.items) }
 {
     let mut offsets = Vec::new(alloc);
     for i in 0..reading.len() {
@@ -40,7 +40,7 @@ fn start_of(src: &Src, reading: &Reading, i: usize) -> Option<usize>
 #[inline(always)]
 fn misquoted(src: &Src, reading: &Reading, i: usize, style: &Style) -> Option<usize>
     requires { i < length reading.now.events }
-    ensures { Answers (Misquoted src.now.text reading.now style.now i) result }
+    ensures { IsTheOne (QuotingFault src.now.text reading.now style.now i) result }
 {
     match reading.event(i) {
         Event::Scalar {

@@ -1,20 +1,20 @@
 //! Rule 12, repeated-keys.
 ghost use Rattle.std.specs.Prelude.{◌≡◌, ◌<◌, ◌∷◌, ◌++◌, ◌&&◌, false, List, Some, None, drop, length, reverse, slice_get, IfOk};
-ghost use Rattle.yf_events.specs.Event.{EventValue, Placed};
+ghost use Rattle.yf_events.specs.Event.{EventValue, EventInText};
 ghost use Rattle.yf_events.specs.Reading.{events_of};
 ghost use Rattle.yf_events.specs.Tree.{DocumentTree, TreesOf};
-ghost use Rattle.yf_rules.specs.Exact.{Exactly};
-ghost use Rattle.yf_rules.specs.Nodes.{RepeatedKey};
-ghost use Rattle.yf_rules.specs.KeyPass.{AreCollections, IsCollection, IsLast, Opened, after, event_place, has_key, holds_key, is_repeat, key_value, new_collection, next, past_key, repeats_in, same_value, takes_key, with_key, without_first};
+ghost use Rattle.yf_rules.specs.RuleSets.Exact.{Exactly};
+ghost use Rattle.yf_rules.specs.RuleSets.Nodes.{RepeatedKey};
+ghost use Rattle.yf_rules.specs.Passes.KeyPass.{AreCollections, IsCollection, IsLast, OpenCollection, after, event_place, has_key, holds_key, is_repeat, key_value, new_collection, next, past_key, repeats_in, same_value, takes_key, with_key, without_first};
 
-use crate::rule::{AllocError, Global, Offsets, Reading};
+use crate::rule::{AllocError, FoundOffsets, Global, Reading};
 pub use crate::rules::StyleRule::RepeatedKeys;
 use std::collections::BTreeSet;
 use yf_events::event::Event;
 use yf_props::resolved::ResolvedTag;
 
 /// The first character of a scalar key whose text and resolved tag are those of an earlier scalar key of its mapping.
-pub fn offsets(alloc: Global, reading: &Reading) -> Offsets
+pub fn offsets(alloc: Global, reading: &Reading) -> FoundOffsets
     ensures { IfOk result (λ offsets. (trees : List DocumentTree) → TreesOf reading.now trees → Exactly (RepeatedKey reading.now trees) offsets.items) }
 {
     let mut stack = Vec::new(alloc);
@@ -30,7 +30,7 @@ pub fn offsets(alloc: Global, reading: &Reading) -> Offsets
 
 /// A scalar key: its text and its resolved tag.
 #[derive(Clone, Copy, PartialEq, Eq, PartialOrd, Ord)]
-struct Key<'r> {
+struct ScalarKey<'r> {
     text: &'r str,
     tag: Option<&'r ResolvedTag<'r>>,
 }
@@ -47,12 +47,12 @@ struct KeyedCollection<'r> {
     /// Where its keys begin in the list of the first few keys of all open mappings.
     first: usize,
     /// Of a mapping the further scalar keys so far.
-    more: BTreeSet<Key<'r>>,
+    more: BTreeSet<ScalarKey<'r>>,
 }
 
 /// Whether two keys are the same.
 #[inline(always)]
-fn is_same(a: Key, b: Key) -> bool
+fn is_same(a: ScalarKey, b: ScalarKey) -> bool
     ensures { result ≡ same_value (key_value a.entry) (key_value b.entry) }
 {
     a == b
@@ -60,7 +60,7 @@ fn is_same(a: Key, b: Key) -> bool
 
 /// Whether a key is among those of the list from an index on.
 #[inline(always)]
-fn is_among(keys: &[Key], first: usize, key: Key) -> bool
+fn is_among(keys: &[ScalarKey], first: usize, key: ScalarKey) -> bool
     ensures { result ≡ holds_key (key_value key.entry) (drop first keys.now) }
 {
     let mut k = first;
@@ -75,8 +75,11 @@ fn is_among(keys: &[Key], first: usize, key: Key) -> bool
 
 /// Adds a key to the further ones of a mapping: whether it was there already.
 #[inline(never)]
-fn add_more<'r>(collection: &mut KeyedCollection<'r>, key: Key<'r>) -> Result<bool, AllocError>
-    ensures { IfOk result (λ hit. (own : List Key) (l : Opened) → IsCollection own collection.old l → holds_key (key_value key.entry) own ≡ false
+fn add_more<'r>(
+    collection: &mut KeyedCollection<'r>,
+    key: ScalarKey<'r>,
+) -> Result<bool, AllocError>
+    ensures { IfOk result (λ hit. (own : List ScalarKey) (l : OpenCollection) → IsCollection own collection.old l → holds_key (key_value key.entry) own ≡ false
         → (collection.new.first ≡ collection.old.first) × IsCollection own collection.new (with_key (key_value key.entry) l)
         × (hit ≡ has_key (key_value key.entry) l.keys)) }
 {
@@ -88,10 +91,10 @@ fn add_more<'r>(collection: &mut KeyedCollection<'r>, key: Key<'r>) -> Result<bo
 #[inline(always)]
 fn add_key<'r>(
     collection: &mut KeyedCollection<'r>,
-    keys: &mut Vec<Key<'r>>,
-    key: Key<'r>,
+    keys: &mut Vec<ScalarKey<'r>>,
+    key: ScalarKey<'r>,
 ) -> Result<bool, AllocError>
-    ensures { IfOk result (λ hit. (outer : List Key) (l : Opened) → IsLast outer keys.old.items collection.old l
+    ensures { IfOk result (λ hit. (outer : List ScalarKey) (l : OpenCollection) → IsLast outer keys.old.items collection.old l
         → IsLast outer keys.new.items collection.new (with_key (key_value key.entry) l) × (hit ≡ has_key (key_value key.entry) l.keys)) }
 {
     if is_among(keys.as_slice(), collection.first, key) {
@@ -110,7 +113,7 @@ fn add_key<'r>(
 #[inline(always)]
 fn turn(collection: &mut KeyedCollection)
     ensures first { collection.new.first ≡ collection.old.first }
-    ensures turned { (own : List Key) (l : Opened) → IsCollection own collection.old l → IsCollection own collection.new (past_key None l) }
+    ensures turned { (own : List ScalarKey) (l : OpenCollection) → IsCollection own collection.old l → IsCollection own collection.new (past_key None l) }
 {
     collection.at_value = !collection.at_value;
 }
@@ -118,7 +121,7 @@ fn turn(collection: &mut KeyedCollection)
 /// Whether the next node in a collection is a key.
 #[inline(always)]
 fn is_key_next(collection: &KeyedCollection) -> bool
-    ensures { (own : List Key) (l : Opened) → IsCollection own collection.now l → result ≡ takes_key l }
+    ensures { (own : List ScalarKey) (l : OpenCollection) → IsCollection own collection.now l → result ≡ takes_key l }
 {
     collection.is_map && !collection.at_value
 }
@@ -127,10 +130,10 @@ fn is_key_next(collection: &KeyedCollection) -> bool
 #[inline(always)]
 fn turn_scalar<'r>(
     collection: &mut KeyedCollection<'r>,
-    keys: &mut Vec<Key<'r>>,
-    scalar: Key<'r>,
+    keys: &mut Vec<ScalarKey<'r>>,
+    scalar: ScalarKey<'r>,
 ) -> Result<bool, AllocError>
-    ensures { IfOk result (λ hit. (outer : List Key) (l : Opened) → IsLast outer keys.old.items collection.old l
+    ensures { IfOk result (λ hit. (outer : List ScalarKey) (l : OpenCollection) → IsLast outer keys.old.items collection.old l
         → IsLast outer keys.new.items collection.new (past_key (Some (key_value scalar.entry)) l)
         × (hit ≡ (takes_key l && has_key (key_value scalar.entry) l.keys))) }
 {
@@ -145,7 +148,7 @@ fn turn_scalar<'r>(
 /// Goes past a node that is no scalar, in the innermost collection that is open.
 #[inline(always)]
 fn pass_node(stack: &mut Vec<KeyedCollection>)
-    ensures { (ks : List Key) (st : List Opened) → AreCollections ks (reverse stack.old.items) st → AreCollections ks (reverse stack.new.items) (after None st) }
+    ensures { (ks : List ScalarKey) (st : List OpenCollection) → AreCollections ks (reverse stack.old.items) st → AreCollections ks (reverse stack.new.items) (after None st) }
 {
     match stack.last_mut() {
         Some(collection) => turn(collection),
@@ -157,10 +160,10 @@ fn pass_node(stack: &mut Vec<KeyedCollection>)
 #[inline(always)]
 fn pass_scalar<'r>(
     stack: &mut Vec<KeyedCollection<'r>>,
-    keys: &mut Vec<Key<'r>>,
-    scalar: Key<'r>,
+    keys: &mut Vec<ScalarKey<'r>>,
+    scalar: ScalarKey<'r>,
 ) -> Result<bool, AllocError>
-    ensures { IfOk result (λ hit. (st : List Opened) → AreCollections keys.old.items (reverse stack.old.items) st
+    ensures { IfOk result (λ hit. (st : List OpenCollection) → AreCollections keys.old.items (reverse stack.old.items) st
         → AreCollections keys.new.items (reverse stack.new.items) (after (Some (key_value scalar.entry)) st) × (hit ≡ repeats_in (key_value scalar.entry) st)) }
 {
     match stack.last_mut() {
@@ -177,7 +180,7 @@ fn pass_start(
     first: usize,
     is_map: bool,
 ) -> Result<(), AllocError>
-    ensures { IfOk result (λ _. (ks : List Key) (st : List Opened) → length ks ≡ first → AreCollections ks (reverse stack.old.items) st
+    ensures { IfOk result (λ _. (ks : List ScalarKey) (st : List OpenCollection) → length ks ≡ first → AreCollections ks (reverse stack.old.items) st
         → AreCollections ks (reverse stack.new.items) (new_collection is_map ∷ after None st)) }
 {
     pass_node(stack);
@@ -192,8 +195,8 @@ fn pass_start(
 
 /// Goes past the end of a collection.
 #[inline(always)]
-fn pass_end<'r>(stack: &mut Vec<KeyedCollection<'r>>, keys: &mut Vec<Key<'r>>)
-    ensures { (st : List Opened) → AreCollections keys.old.items (reverse stack.old.items) st → AreCollections keys.new.items (reverse stack.new.items) (without_first st) }
+fn pass_end<'r>(stack: &mut Vec<KeyedCollection<'r>>, keys: &mut Vec<ScalarKey<'r>>)
+    ensures { (st : List OpenCollection) → AreCollections keys.old.items (reverse stack.old.items) st → AreCollections keys.new.items (reverse stack.new.items) (without_first st) }
 {
     match stack.last() {
         Some(collection) => keys.truncate(collection.first),
@@ -210,19 +213,19 @@ fn pass_end<'r>(stack: &mut Vec<KeyedCollection<'r>>, keys: &mut Vec<Key<'r>>)
 fn pass<'r>(
     alloc: Global,
     stack: &mut Vec<KeyedCollection<'r>>,
-    keys: &mut Vec<Key<'r>>,
+    keys: &mut Vec<ScalarKey<'r>>,
     reading: &'r Reading<'r>,
     i: usize,
 ) -> Result<bool, AllocError>
     requires { i < length reading.now.events }
-    ensures { IfOk result (λ hit. (st : List Opened) (e : EventValue) → slice_get (events_of reading.now) i ≡ Some e
+    ensures { IfOk result (λ hit. (st : List OpenCollection) (e : EventValue) → slice_get (events_of reading.now) i ≡ Some e
         → AreCollections keys.old.items (reverse stack.old.items) st → AreCollections keys.new.items (reverse stack.new.items)
         (next e (slice_get reading.now.resolved i) st) × (hit ≡ is_repeat e (slice_get reading.now.resolved i) st)) }
 {
     match reading.event(i) {
         Event::Scalar { text, .. } => {
             let tag = reading.resolved(i);
-            pass_scalar(stack, keys, Key { text, tag })
+            pass_scalar(stack, keys, ScalarKey { text, tag })
         }
         Event::Alias { .. } => {
             pass_node(stack);
@@ -246,10 +249,10 @@ fn pass<'r>(
     }
 }
 
-/// Where a key stands: at its first character, an empty one at its `:`, or at its `?` where its entry has none.
+/// Where a key is: at its first character, an empty one at its `:`, or at its `?` where its entry has none.
 fn key_offset(reading: &Reading, i: usize) -> usize
     requires { i < length reading.now.events }
-    ensures { (e : Placed) → slice_get reading.now.events i ≡ Some e → result ≡ event_place e }
+    ensures { (e : EventInText) → slice_get reading.now.events i ≡ Some e → result ≡ event_place e }
 {
     if let Some(span) = reading.span(i) {
         return span.start;

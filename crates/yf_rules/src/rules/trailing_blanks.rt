@@ -1,16 +1,16 @@
 //! Rule 1, trailing-blanks.
 ghost use Rattle.std.specs.Prelude.{◌≡◌, ◌<◌, ℕ, false, length, IfOk};
-ghost use Rattle.yf_rules.specs.ByLine.{BlankEnd, TrailingBlank};
-ghost use Rattle.yf_rules.specs.Exact.{Answers, Exactly};
+ghost use Rattle.yf_rules.specs.RuleSets.ByLine.{BlankEnd, TrailingBlank};
+ghost use Rattle.yf_rules.specs.RuleSets.Exact.{IsTheOne, Exactly};
 
-use crate::facts::noted_lines::content_lines;
+use crate::facts::flagged_lines::content_lines;
 use crate::facts::whites::{ends_in_text, whites_before};
-use crate::rule::{Global, Offsets, Reading, Src, push_found};
+use crate::rule::{FoundOffsets, Global, Reading, Src, push_found};
 pub use crate::rules::StyleRule::TrailingBlanks;
-use yf_lines::basic::white_stands;
+use yf_lines::basic::is_white_at;
 
 /// The first of the white space that ends a line, unless it is a content line of a block scalar.
-pub fn offsets(alloc: Global, src: &Src, reading: &Reading) -> Offsets
+pub fn offsets(alloc: Global, src: &Src, reading: &Reading) -> FoundOffsets
     ensures { IfOk result (λ offsets. Exactly (TrailingBlank src.now reading.now) offsets.items) }
 {
     if !has_blank_ends(src) {
@@ -49,14 +49,14 @@ fn ends_in_white(src: &Src, k: usize) -> bool
     if line.end <= line.start {
         return false;
     }
-    white_stands(src.text(), line.end - 1)
+    is_white_at(src.text(), line.end - 1)
 }
 
 /// Where the white space begin that end the line of that index, unless it is a content line of a block scalar.
 #[inline(always)]
 fn blank_end(src: &Src, k: usize, is_content: bool) -> Option<usize>
     requires { k < length src.now.lines }
-    ensures { Answers (BlankEnd src.now k is_content) result }
+    ensures { IsTheOne (BlankEnd src.now k is_content) result }
 {
     if is_content {
         return None;

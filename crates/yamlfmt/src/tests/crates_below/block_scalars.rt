@@ -1,12 +1,13 @@
 //! Block scalars whose lines and content were worked out from the productions.
 
 use std::alloc::{AllocError, Global};
-use yf_block_scalar::body::{BlockText, Found};
+use yf_block_scalar::body::BlockText;
 use yf_block_scalar::content::content;
 use yf_block_scalar::read::{read_body, read_header};
 use yf_block_scalar::write::write_block;
 use yf_lines::fault::Fault;
 use yf_lines::source_text::Src;
+use yf_lines::text::ReadResult;
 
 /// What is wanted of a text.
 #[derive(Clone, Copy)]
@@ -96,7 +97,7 @@ fn has_tail(block: &BlockText, next: usize) -> bool {
 }
 
 /// Whether what is found after a header is what is wanted.
-fn is_wanted(alloc: Global, found: &Found<Fault>, wanted: Wanted) -> bool {
+fn is_wanted(alloc: Global, found: &ReadResult<BlockText>, wanted: Wanted) -> bool {
     match (found, wanted) {
         (Ok(Some(block)), Wanted::Content(text)) => has_content(alloc, block, text),
         (Ok(Some(block)), Wanted::Both(text, written)) => {

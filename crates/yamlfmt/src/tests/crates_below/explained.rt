@@ -4,7 +4,7 @@
 use std::alloc::{AllocError, Global};
 use yf_explain::{Page, explain};
 use yf_lines::fault::Fault;
-use yf_lines::place::Place;
+use yf_lines::place::Position;
 
 /// The first line that is told in each row.
 const WORDS: &str = "  more than 1,024 collections would be open here\n";
@@ -69,7 +69,7 @@ static ROWS: [Row; 11] = [
 /// What is told of a place of a text.
 fn told(alloc: Global, text: &str, line: usize, column: usize) -> Result<Page, AllocError> {
     let fault = Fault::TooDeep {
-        place: Place { line, column },
+        place: Position { line, column },
     };
     explain(alloc, text.as_bytes(), &fault)
 }

@@ -5,7 +5,7 @@ use crate::tests::answers::repeated;
 use std::alloc::Global;
 use yf_diagnose::Why;
 use yf_lines::fault::Fault;
-use yf_lines::place::Place;
+use yf_lines::place::Position;
 use yf_stream::stream::read_stream;
 
 /// Texts that are no streams, the line and column that is told, and why.
@@ -236,7 +236,7 @@ fn tells_a_long_key(alloc: Global) -> bool {
 fn is_told(alloc: Global, text: &str, place: (usize, usize), why: Why) -> bool {
     match &read_stream(alloc, text) {
         Err(Fault::Syntax { place: told, what }) => {
-            let Place { line, column } = *told;
+            let Position { line, column } = *told;
             if line != place.0 {
                 return false;
             }

@@ -8,10 +8,11 @@ use yf_chars::context::Ctx;
 use yf_events::event::{Event, ScalarStyle};
 use yf_events::part::Part;
 use yf_flow::flow::{
-    Answer, Scanned, read_flow_node, read_implicit_key, scan_flow_node, scan_implicit_key,
+    NodePart, ScanResult, read_flow_node, read_implicit_key, scan_flow_node, scan_implicit_key,
 };
 use yf_lines::fault::Fault;
 use yf_lines::source_text::Src;
+use yf_lines::text::ReadResult;
 
 /// What is read.
 #[derive(Clone, Copy)]
@@ -301,7 +302,7 @@ fn is_node(part: &Part, end: usize, escape: usize, wanted: Wanted) -> bool {
 }
 
 /// Whether what is read is what is wanted.
-fn is_read(found: &Answer, wanted: Wanted) -> bool {
+fn is_read(found: &ReadResult<NodePart>, wanted: Wanted) -> bool {
     match found {
         Ok(Some(node)) => is_node(&node.part, node.end, 0, wanted),
         Ok(None) => matches!(wanted, Wanted::Nothing),
@@ -315,7 +316,7 @@ fn is_read(found: &Answer, wanted: Wanted) -> bool {
 }
 
 /// Whether what is scanned is what is wanted.
-fn is_scanned(found: &Scanned, wanted: Wanted) -> bool {
+fn is_scanned(found: &ScanResult, wanted: Wanted) -> bool {
     match found {
         Ok(Some(node)) => {
             let column = match node.escape {

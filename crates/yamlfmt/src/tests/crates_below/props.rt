@@ -3,7 +3,7 @@
 use std::alloc::{AllocError, Global};
 use yf_chars::context::Ctx;
 use yf_lines::fault::Fault;
-use yf_lines::place::Place;
+use yf_lines::place::Position;
 use yf_lines::source_text::Src;
 use yf_lines::text::Text;
 use yf_props::handles::Handles;
@@ -117,7 +117,7 @@ static TAGS: [(Tag, &str); 6] = [
     ),
 ];
 
-const PLACE: Place = Place { line: 1, column: 3 };
+const PLACE: Position = Position { line: 1, column: 3 };
 
 /// Whether a tag stands for that text, or its handle is unknown.
 fn is_resolved(resolved: &Result<ResolvedTag, Fault>, wanted: &str) -> bool {
@@ -144,7 +144,7 @@ fn resolves(alloc: Global, handles: &Handles, tag: &Tag, wanted: &str) -> bool {
 }
 
 /// The same after these declarations.
-fn stands_for(alloc: Global, tag: &Tag, wanted: &str) -> bool {
+fn is_at_for(alloc: Global, tag: &Tag, wanted: &str) -> bool {
     let mut handles = Handles::new(alloc);
     are_declared(&mut handles) && resolves(alloc, &handles, tag, wanted)
 }
@@ -155,6 +155,6 @@ fn reads_properties_and_resolves_tags(rt: HostRuntime) {
         assert!(rt; reads(rt.alloc(), row), "{}", row.0);
     }
     for (tag, wanted) in &TAGS {
-        assert!(rt; stands_for(rt.alloc(), tag, wanted), "{wanted}");
+        assert!(rt; is_at_for(rt.alloc(), tag, wanted), "{wanted}");
     }
 }

@@ -1,6 +1,6 @@
-//! Readings: where their nodes and comments stand, what they say, and how the house style writes one event of them.
+//! Readings: where their nodes and comments are, what they say, and how the house style writes one event of them.
 ghost use Rattle.std.specs.Prelude.{IfOk};
-ghost use Rattle.yf_events.specs.Reading.{Fits};
+ghost use Rattle.yf_events.specs.Reading.{ListsFit};
 
 use crate::tests::answers::reading_of;
 use crate::tests::laws::has_same_content;
@@ -23,10 +23,10 @@ use yf_props::props::Props;
 /// What is asked of a reading.
 #[derive(Clone, Copy)]
 enum Asked {
-    /// Of each event that has a place: where it starts and ends, where its entry and the `:` of that stand (0 for none), and
-    /// whether a blank line stands before the entry.
+    /// Of each event that has a place: where it starts and ends, where its entry and the `:` of that are (0 for none), and
+    /// whether a blank line is before the entry.
     Places(&'static [(usize, usize, usize, usize, bool)]),
-    /// Of each comment: where it stands, how many documents and leaves with characters begin before it, and whether it stands
+    /// Of each comment: where it is, how many documents and leaves with characters begin before it, and whether it is
     /// on the line on which the last of these leaves ends.
     Comments(&'static [(usize, usize, usize, bool)]),
     /// Whether it has the same content as another text.
@@ -232,8 +232,8 @@ fn readings_tell_what_they_hold(rt: HostRuntime) {
 
 /// Adds an event with no tag and no place.
 fn add<'a>(alloc: Global, lists: &mut Lists<'a>, event: NewEvent<'a>) -> Result<(), AllocError>
-    requires { Fits lists.old }
-    ensures { IfOk result (λ _. Fits lists.new) }
+    requires { ListsFit lists.old }
+    ensures { IfOk result (λ _. ListsFit lists.new) }
 {
     let placed = PlacedEvent {
         event,
@@ -247,8 +247,8 @@ fn add<'a>(alloc: Global, lists: &mut Lists<'a>, event: NewEvent<'a>) -> Result<
 
 /// Adds the events of a stream of one document whose sequence does not end.
 fn fill(alloc: Global, lists: &mut Lists<'_>) -> Result<(), AllocError>
-    requires { Fits lists.old }
-    ensures { IfOk result (λ _. Fits lists.new) }
+    requires { ListsFit lists.old }
+    ensures { IfOk result (λ _. ListsFit lists.new) }
 {
     let props = Props {
         anchor: None,

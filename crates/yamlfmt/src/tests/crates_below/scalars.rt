@@ -5,7 +5,7 @@ use std::alloc::{AllocError, Global};
 use yf_chars::context::Ctx;
 use yf_chars::escapes::push_escaped;
 use yf_lines::fault::Fault;
-use yf_lines::place::Place;
+use yf_lines::place::Position;
 use yf_lines::quotes::Quotes;
 use yf_lines::source_text::Src;
 use yf_lines::text::{FoundText, Text};
@@ -290,7 +290,7 @@ fn is_wanted(read: &FoundText, wanted: Wanted) -> bool {
 }
 
 /// What `scan_double` answers.
-type Scanned<'a> = Result<Option<(Text<'a>, Option<Place>, usize)>, Fault>;
+type Scanned<'a> = Result<Option<(Text<'a>, Option<Position>, usize)>, Fault>;
 
 /// Whether a scalar is found whole, and its first bad escape is told.
 fn is_whole(found: &Scanned, wanted: Wanted) -> bool {

@@ -1,7 +1,7 @@
 use Rattle.std.proofs.Common.{◌≡◌, ℕ, List, [], ◌∷◌, None, refl, to_z-of_z}
 use Rattle.yf_lines.specs.FaultPlaces.{IsFirstPlace}
 use Rattle.yf_grammar.specs.Refusal.{as_scanned}
-use Rattle.yf_flow.proofs.ReadersLemmas.{scanned_stops}
+use Rattle.yf_flow.proofs.Stack.ReadersLemmas.{scanned_stops}
 use Rattle.yf_block.proofs.block.read_block_node.Goals as goal
 
 none_first : (t es : List ℕ) → IsFirstPlace t es None → es ≡ []

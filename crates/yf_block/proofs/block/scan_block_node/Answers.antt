@@ -3,8 +3,8 @@ use Rattle.std.proofs.lemmas.List.Elements.{All-nil, All-same}
 use Rattle.std.specs.Str.{IsCharBoundary}
 use Rattle.yf_grammar.specs.Refusal.{for_memory}
 use Rattle.yf_lines.specs.Basic.{is_block}
-use Rattle.yf_block.proofs.NodesGiven.{node_alone, too_deep_given}
-use Rattle.yf_block.proofs.OtherContexts.{answers_none, by_context, no_other_node}
+use Rattle.yf_block.proofs.Runs.NodesGiven.{node_alone, too_deep_given}
+use Rattle.yf_block.proofs.Ends.OtherContexts.{answers_none, by_context, no_other_node}
 use Rattle.yf_block.proofs.block.scan_block_node.Goals as goal
 
 pub returns-in-Ok-Found-clause-reads : goal.returns-in-Ok-Found-clause-reads

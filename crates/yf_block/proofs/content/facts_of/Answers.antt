@@ -1,4 +1,4 @@
-use Rattle.yf_block.proofs.BelongingLemmas.{held_ahead, belonging_none}
+use Rattle.yf_block.proofs.Ends.BelongingLemmas.{held_ahead, belonging_none}
 use Rattle.yf_block.proofs.content.facts_of.Goals as goal
 
 pub returns-in-None-clause-belonging : goal.returns-in-None-clause-belonging

@@ -1,11 +1,11 @@
-use Rattle.yf_block.proofs.BelongingLemmas.{line_tied, belonging_alias, belonging_of_outer, belonging_of_both, belonging_of_apart}
+use Rattle.yf_block.proofs.Ends.BelongingLemmas.{line_tied, belonging_alias, belonging_of_outer, belonging_of_both, belonging_of_apart}
 use Rattle.yf_block.proofs.content.facts_with_outer.Goals as goal
 
-pub returns-then-stands-clause-belonging : goal.returns-then-stands-clause-belonging
-returns-then-stands-clause-belonging c = λ a w l. belonging_alias c.args.text.now c.args.after.now.node_start.at c.args.after.now.at w c.args.entry c.args.after.now.inner c.if-stands.ensures.cases.char c.apart_facts.ensures.lead c.apart_facts.ensures.belonging
+pub returns-then-is_char_at-clause-belonging : goal.returns-then-is_char_at-clause-belonging
+returns-then-is_char_at-clause-belonging c = λ a w l. belonging_alias c.args.text.now c.args.after.now.node_start.at c.args.after.now.at w c.args.entry c.args.after.now.inner c.if-is_char_at.ensures.cases.char c.apart_facts.ensures.lead c.apart_facts.ensures.belonging
 
 pub returns-in-None-clause-belonging : goal.returns-in-None-clause-belonging
-returns-in-None-clause-belonging c = λ a w l. belonging_of_outer c.args.text.now c.args.after.now.node_start.at c.args.after.now.at w c.args.entry c.args.after.now.inner c.in-None.is c.if-stands.ensures.cases c.joined_facts.ensures.lead c.joined_facts.ensures.belonging
+returns-in-None-clause-belonging c = λ a w l. belonging_of_outer c.args.text.now c.args.after.now.node_start.at c.args.after.now.at w c.args.entry c.args.after.now.inner c.in-None.is c.if-is_char_at.ensures.cases c.joined_facts.ensures.lead c.joined_facts.ensures.belonging
 
 pub returns-in-None-joined-clause-belonging : goal.returns-in-None-joined-clause-belonging
 returns-in-None-joined-clause-belonging c = λ a w l.
@@ -17,10 +17,10 @@ pub returns-in-Some-joined-clause-belonging : goal.returns-in-Some-joined-clause
 returns-in-Some-joined-clause-belonging c = λ a w l.
     let line = l c.in-Some.inner c.in-Some.is in
     let both = rw c.in-Some-joined.is at (c.joined.ensures.reads w.value line.value w.tied (line_tied line)) in
-    belonging_of_both c.args.text.now c.args.after.now.node_start.at c.args.after.now.at w c.args.entry c.args.after.now.inner c.in-Some.is line both c.if-stands.ensures.cases c.joined_facts-in-Some-joined.ensures.lead c.joined_facts-in-Some-joined.ensures.belonging
+    belonging_of_both c.args.text.now c.args.after.now.node_start.at c.args.after.now.at w c.args.entry c.args.after.now.inner c.in-Some.is line both c.if-is_char_at.ensures.cases c.joined_facts-in-Some-joined.ensures.lead c.joined_facts-in-Some-joined.ensures.belonging
 
-pub returns-then-stands-clause-before : goal.returns-then-stands-clause-before
-returns-then-stands-clause-before c = c.apart_facts.ensures.before
+pub returns-then-is_char_at-clause-before : goal.returns-then-is_char_at-clause-before
+returns-then-is_char_at-clause-before c = c.apart_facts.ensures.before
 
 pub returns-in-None-clause-before : goal.returns-in-None-clause-before
 returns-in-None-clause-before c = c.joined_facts.ensures.before

@@ -1,6 +1,6 @@
 use Rattle.std.proofs.Common.{arith}
 use Rattle.yf_block.specs.KeyTexts.{text_bare, text_after, text_ended}
-use Rattle.yf_block.proofs.TiedKeys.{nowhere_after}
+use Rattle.yf_block.proofs.Stack.TiedKeys.{nowhere_after}
 use Rattle.yf_block.proofs.entry.key_text.Goals as goal
 
 pub returns-in-None-clause-reads : goal.returns-in-None-clause-reads

@@ -1,6 +1,6 @@
 use Rattle.std.proofs.Common.{reverse, sym, subst, ◌∙◌, arith, true≢false}
-use Rattle.yf_block.specs.Awaiting.{AwaitsAt}
-use Rattle.yf_block.proofs.AwaitingLemmas.{walk_ends, walk_finds, walk_goes_on}
+use Rattle.yf_block.specs.AwaitedColons.{AwaitsAt}
+use Rattle.yf_block.proofs.Ends.AwaitingLemmas.{walk_ends, walk_finds, walk_goes_on}
 use Rattle.yf_block.proofs.halt.awaits_colon_at.Goals as goal
 
 pub returns-then-frame-column : goal.returns-then-frame-column

@@ -1,5 +1,5 @@
 use Rattle.std.proofs.Common.{◌≤◌, length, reverse, take}
-use Rattle.yf_block.specs.Awaiting.{AwaitsAlike}
+use Rattle.yf_block.specs.AwaitedColons.{AwaitsAlike}
 use Rattle.yf_block.proofs.halt.awaits_colon_at.Given as goal
 
 abbrev pub decreases-frames : goal.decreases-frames

@@ -1,5 +1,5 @@
 use Rattle.std.proofs.Common.{refl}
-use Rattle.yf_block.specs.NotedHalts.{empty_noted, empty_before, empty_nowhere}
+use Rattle.yf_block.specs.HaltNotes.{empty_noted, empty_before, empty_nowhere}
 use Rattle.yf_block.proofs.halt.note_empty.Goals as goal
 
 pub returns-in-Some-clause-noted : goal.returns-in-Some-clause-noted

@@ -1,5 +1,5 @@
 use Rattle.std.proofs.Common.{refl}
-use Rattle.yf_block.specs.NotedHalts.{node_noted, node_before, node_shorter}
+use Rattle.yf_block.specs.HaltNotes.{node_noted, node_before, node_shorter}
 use Rattle.yf_block.proofs.halt.note_node.Goals as goal
 
 pub returns-in-Some-clause-noted : goal.returns-in-Some-clause-noted

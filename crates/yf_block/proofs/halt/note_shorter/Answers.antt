@@ -1,4 +1,4 @@
-use Rattle.yf_block.proofs.NotedLemmas.{shorter_there, one_line_there, no_plain_there}
+use Rattle.yf_block.proofs.Ends.NotedLemmas.{shorter_there, one_line_there, no_plain_there}
 use Rattle.yf_block.proofs.halt.note_shorter.Goals as goal
 
 pub returns-in-Some-last_line_start-clause-noted : goal.returns-in-Some-last_line_start-clause-noted

@@ -1,5 +1,5 @@
 use Rattle.std.proofs.Common.{◌+◌}
-use Rattle.yf_grammar.proofs.BlockClaims.{colon_line}
+use Rattle.yf_grammar.proofs.BlockOutcomes.BlockClaims.{colon_line}
 use Rattle.yf_block.proofs.halt.value_follows.Goals as goal
 
 pub returns-in-None : goal.returns-in-None

@@ -4,11 +4,11 @@ use Rattle.std.proofs.lemmas.Result.{IfOk-at_ok}
 use Rattle.std.specs.Str.{IsCharBoundary}
 use Rattle.yf_events.specs.Event.{placed_value}
 use Rattle.yf_props.specs.Props.{props_value}
-use Rattle.yf_grammar.specs.Meaning.{event_with, start_of}
-use Rattle.yf_flow.specs.Begun.{lead_event}
+use Rattle.yf_grammar.specs.Productions.Meaning.{event_with, start_of}
+use Rattle.yf_flow.specs.NodeStarts.{lead_event}
 use Rattle.yf_flow.specs.declared.node.Lead.{Lead}
-use Rattle.yf_block.proofs.ContentMappings.{put_again, read_again}
-use Rattle.yf_block.proofs.WorkedLemmas.{where_worked}
+use Rattle.yf_block.proofs.LineSteps.ContentMappings.{put_again, read_again}
+use Rattle.yf_block.proofs.Runs.WorkedLemmas.{where_worked}
 use Rattle.yf_block.proofs.inline.begin_held_mapping.Goals as goal
 
 pub returns-then-is_joined-clause-key : goal.returns-then-is_joined-clause-key

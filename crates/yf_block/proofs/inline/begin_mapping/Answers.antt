@@ -3,18 +3,18 @@ use Rattle.std.proofs.lemmas.List.Elements.{All-same}
 use Rattle.std.proofs.lemmas.Result.{IfOk-at_ok}
 use Rattle.std.specs.Str.{IsCharBoundary}
 use Rattle.yf_props.specs.Props.{props_value}
-use Rattle.yf_grammar.specs.Meaning.{event_with, start_of}
-use Rattle.yf_flow.specs.Begun.{bare_lead, lead_event}
+use Rattle.yf_grammar.specs.Productions.Meaning.{event_with, start_of}
+use Rattle.yf_flow.specs.NodeStarts.{bare_lead, lead_event}
 use Rattle.yf_flow.specs.declared.node.Lead.{Lead}
 use Rattle.yf_block.specs.InlineTied.{started}
 use Rattle.yf_block.specs.PropertiesAnswers.{lead_at}
-use Rattle.yf_block.specs.declared.frame.Kind.TheVariants.{Mapping}
-use Rattle.yf_block.specs.declared.frame.Wanted.{Wanted}
-use Rattle.yf_block.proofs.ContentMappings.{put_again}
-use Rattle.yf_block.proofs.WorkedLemmas.{where_worked}
+use Rattle.yf_block.specs.declared.frame.CollectionKind.TheVariants.{Mapping}
+use Rattle.yf_block.specs.declared.frame.AwaitedNode.{AwaitedNode}
+use Rattle.yf_block.proofs.LineSteps.ContentMappings.{put_again}
+use Rattle.yf_block.proofs.Runs.WorkedLemmas.{where_worked}
 use Rattle.yf_block.proofs.inline.begin_mapping.Goals as goal
 
-bare_started : (at : ℕ) (w : Wanted) {lead : Lead} → w.outer ≡ None → lead ≡ bare_lead at w.entry
+bare_started : (at : ℕ) (w : AwaitedNode) {lead : Lead} → w.outer ≡ None → lead ≡ bare_lead at w.entry
     → lead_event lead (event_with (props_value lead.props) (start_of false false)) at ≡ started Mapping at w
 bare_started at w o e =
     ap (λ (l : Lead). lead_event l (event_with (props_value l.props) (start_of false false)) at) (e ∙ sym (ap (λ z. lead_at at z w.entry) o))

@@ -1,8 +1,8 @@
 use Rattle.std.proofs.Common.{◌≤◌, length, take, drop, Some, ◌++◌, ◌∷◌, sym, ap, ◌∙◌, subst, arith}
 use Rattle.std.proofs.lemmas.Result.{IfOk-equal}
 use Rattle.yf_events.specs.Event.{placed_value}
-use Rattle.yf_block.proofs.ContentMappings.{entry_within, put_there}
-use Rattle.yf_block.proofs.WorkedLemmas.{if_worked}
+use Rattle.yf_block.proofs.LineSteps.ContentMappings.{entry_within, put_there}
+use Rattle.yf_block.proofs.Runs.WorkedLemmas.{if_worked}
 use Rattle.yf_block.proofs.inline.put_before.Goals as goal
 
 pub insert-requires : goal.insert-requires

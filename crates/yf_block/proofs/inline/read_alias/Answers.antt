@@ -1,7 +1,7 @@
 use Rattle.std.proofs.Common.{◌∷◌, ◌++◌, [], refl, ap, ◌∙◌, ◌≤◌, arith}
-use Rattle.yf_block.proofs.InlineLemmas.{alias_found, alias_none, alias_written}
+use Rattle.yf_block.proofs.Ends.InlineLemmas.{alias_found, alias_none, alias_written}
 use Rattle.yf_props.proofs.NameOrder.{alias_forward}
-use Rattle.yf_block.proofs.CountedSteps.{later}
+use Rattle.yf_block.proofs.Runs.CountedSteps.{later}
 use Rattle.yf_block.proofs.inline.read_alias.Goals as goal
 
 pub returns-in-None-clause-answers : goal.returns-in-None-clause-answers

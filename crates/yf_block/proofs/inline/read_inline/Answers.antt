@@ -3,9 +3,9 @@ use Rattle.std.proofs.lemmas.List.Elements.{All-same}
 use Rattle.std.proofs.lemmas.Result.{IfOk-weaker}
 use Rattle.std.specs.Str.{IsCharBoundary}
 use Rattle.yf_block.specs.InlineAnswers.{alias_after, empty_key_read}
-use Rattle.yf_block.proofs.InlineLemmas.{alias_there, content_ends, empty_written}
-use Rattle.yf_block.proofs.LookLemmas.{found_after}
-use Rattle.yf_block.proofs.CountedSteps.{later, held_below}
+use Rattle.yf_block.proofs.Ends.InlineLemmas.{alias_there, content_ends, empty_written}
+use Rattle.yf_block.proofs.Ends.LookLemmas.{found_after}
+use Rattle.yf_block.proofs.Runs.CountedSteps.{later, held_below}
 use Rattle.yf_block.proofs.inline.read_inline.Goals as goal
 
 pub returns-in_ok-push_scalar_with-in-Some-clause-answers : goal.returns-in_ok-push_scalar_with-in-Some-clause-answers
@@ -19,30 +19,30 @@ returns-in_ok-push_scalar_with-in-Some-clause-counted c = λ u total start l q.
     rw c.inline_end.ensures (later _ c.args.depth total start c.in-Some.end k q)
 
 pub returns-in-Some-inner-clause-answers : goal.returns-in-Some-inner-clause-answers
-returns-in-Some-inner-clause-answers c = λ u l room r. alias_after c.in-None.ensures.reads c.in-Some-inner.is (alias_there _ c.if-stands.ensures.cases.char)
+returns-in-Some-inner-clause-answers c = λ u l room r. alias_after c.in-None.ensures.reads c.in-Some-inner.is (alias_there _ c.if-is_char_at.ensures.cases.char)
 
 pub returns-in-None-inner-clause-answers : goal.returns-in-None-inner-clause-answers
 returns-in-None-inner-clause-answers c = λ u l room r. rw c.in-None-inner.is (rw c.copied.ensures at (c.read_alias.ensures.answers room (pos c.args.least)))
 
-pub returns-else-stands-clause-answers : goal.returns-else-stands-clause-answers
-returns-else-stands-clause-answers c = λ u l room r.
+pub returns-else-is_char_at-clause-answers : goal.returns-else-is_char_at-clause-answers
+returns-else-is_char_at-clause-answers c = λ u l room r.
     let fits : SFits w32 c.flow_indentation.result = search rules in
     let e = rw (to_z-of_z fits, c.flow_indentation.ensures.same l) at (c.read_content_with.ensures.answers u refl room r) in
-    IfOk-weaker _ _ _ (λ e f. content_ends room (pos c.args.least) c.args.depth c.args.lead.now c.args.part.now c.read_content_with.new.part e c.in-None.ensures.reads c.if-stands.ensures.cases f) e
+    IfOk-weaker _ _ _ (λ e f. content_ends room (pos c.args.least) c.args.depth c.args.lead.now c.args.part.now c.read_content_with.new.part e c.in-None.ensures.reads c.if-is_char_at.ensures.cases f) e
 
 pub returns-in-None-inner-clause-counted : goal.returns-in-None-inner-clause-counted
 returns-in-None-inner-clause-counted c = λ u total start l q.
     c.read_alias.ensures.counted c.args.scope.limit total (later _ c.args.depth total start c.args.at (held_below _ _ _ c.args.inner.now c.requires.properties l) q)
 
-pub returns-else-stands-clause-counted : goal.returns-else-stands-clause-counted
-returns-else-stands-clause-counted c = λ u total start l q.
+pub returns-else-is_char_at-clause-counted : goal.returns-else-is_char_at-clause-counted
+returns-else-is_char_at-clause-counted c = λ u total start l q.
     c.read_content_with.ensures.counted u total (later _ c.args.depth total start c.args.at (held_below _ _ _ c.args.inner.now c.requires.properties l) q)
 
 pub empty_key_end-requires : goal.empty_key_end-requires
 empty_key_end-requires c = c.requires.properties
 
 pub read_alias-requires : goal.read_alias-requires
-read_alias-requires c = c.if-stands.ensures.cases.char
+read_alias-requires c = c.if-is_char_at.ensures.cases.char
 
 pub read_content_with-requires : goal.read_content_with-requires
 read_content_with-requires c = record { boundary = c.requires.boundary; escapes = c.requires.escapes }
@@ -57,8 +57,8 @@ pub returns-in-None-inner-clause-escapes : goal.returns-in-None-inner-clause-esc
 returns-in-None-inner-clause-escapes c =
     IfOk-weaker c.read_alias.result _ _ (λ _ e. All-same (IsCharBoundary c.args.scope.text.now) _ _ e c.requires.escapes) c.read_alias.ensures.escapes
 
-pub returns-else-stands-clause-escapes : goal.returns-else-stands-clause-escapes
-returns-else-stands-clause-escapes c = c.read_content_with.ensures.escapes
+pub returns-else-is_char_at-clause-escapes : goal.returns-else-is_char_at-clause-escapes
+returns-else-is_char_at-clause-escapes c = c.read_content_with.ensures.escapes
 
 pub returns-in_ok-push_scalar_with-in-Some-clause-found : goal.returns-in_ok-push_scalar_with-in-Some-clause-found
 returns-in_ok-push_scalar_with-in-Some-clause-found c = rw c.inline_end.ensures c.in-Some.ensures.place
@@ -69,5 +69,5 @@ returns-in-Some-inner-clause-found c = tt
 pub returns-in-None-inner-clause-found : goal.returns-in-None-inner-clause-found
 returns-in-None-inner-clause-found c = rw c.in-None-inner.is c.read_alias.ensures.found
 
-pub returns-else-stands-clause-found : goal.returns-else-stands-clause-found
-returns-else-stands-clause-found c = IfOk-weaker c.read_content_with.result _ _ (λ e. found_after c.args.scope.text.now c.args.at c.args.inner.now e c.requires.properties) c.read_content_with.ensures.found
+pub returns-else-is_char_at-clause-found : goal.returns-else-is_char_at-clause-found
+returns-else-is_char_at-clause-found c = IfOk-weaker c.read_content_with.result _ _ (λ e. found_after c.args.scope.text.now c.args.at c.args.inner.now e c.requires.properties) c.read_content_with.ensures.found

@@ -1,5 +1,5 @@
 use Rattle.std.proofs.Common.{arith}
-use Rattle.yf_block.proofs.TiedColumns.{compact_never, compact_yes, compact_not}
+use Rattle.yf_block.proofs.Stack.TiedColumns.{compact_never, compact_yes, compact_not}
 use Rattle.yf_block.proofs.line.compact_column.Goals as goal
 
 pub returns-then-not-wanted : goal.returns-then-not-wanted

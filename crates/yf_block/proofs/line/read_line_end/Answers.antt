@@ -1,4 +1,4 @@
-use Rattle.yf_block.proofs.Forward.{line_end_forward}
+use Rattle.yf_block.proofs.Ends.Forward.{line_end_forward}
 use Rattle.yf_block.proofs.line.read_line_end.Goals as goal
 
 pub returns-in-Some-clause-place : goal.returns-in-Some-clause-place

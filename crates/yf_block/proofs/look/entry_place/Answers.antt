@@ -1,4 +1,4 @@
-use Rattle.yf_block.proofs.EntryLineLemmas.{entry_line, no_line_after_spaces}
+use Rattle.yf_block.proofs.Ends.EntryLineLemmas.{entry_line, no_line_after_spaces}
 use Rattle.yf_block.proofs.look.entry_place.Goals as goal
 
 pub returns-then-line_ends-clause-entry : goal.returns-then-line_ends-clause-entry

@@ -1,5 +1,5 @@
 use Rattle.std.proofs.Common.{arith}
-use Rattle.yf_block.proofs.SpacesBack.{after_line, after_text}
+use Rattle.yf_block.proofs.Ends.SpacesBack.{after_line, after_text}
 use Rattle.yf_block.proofs.look.follows_text.Goals as goal
 
 pub returns-then-bytes-line-eq10 : goal.returns-then-bytes-line-eq10

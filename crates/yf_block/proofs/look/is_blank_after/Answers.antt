@@ -1,5 +1,5 @@
-use Rattle.yf_grammar.proofs.SinceWalk.{since_start}
-use Rattle.yf_block.proofs.WalkLemmas.{walks_noted}
+use Rattle.yf_grammar.proofs.Ends.SinceWalk.{since_start}
+use Rattle.yf_block.proofs.Ends.WalkLemmas.{walks_noted}
 use Rattle.yf_block.proofs.look.is_blank_after.Goals as goal
 
 pub returns-then-follows_text : goal.returns-then-follows_text

@@ -1,7 +1,7 @@
 use Rattle.std.proofs.Common.{◌+◌, arith}
 use Rattle.std.proofs.lemmas.Bool.{leb-true}
-use Rattle.yf_block.proofs.KeyEndLemmas.{line_begins, line_upto, short_line}
-use Rattle.yf_block.proofs.ShortLines.{line_through}
+use Rattle.yf_block.proofs.Ends.KeyEndLemmas.{line_begins, line_upto, short_line}
+use Rattle.yf_block.proofs.Ends.ShortLines.{line_through}
 use Rattle.yf_block.proofs.look.is_short_line.Goals as goal
 
 pub lanes-init : goal.lanes-init

@@ -1,5 +1,5 @@
 use Rattle.std.proofs.Common.{◌-◌, ◌≤◌, length}
-use Rattle.yf_grammar.specs.Parser.{OnOneLine}
+use Rattle.yf_grammar.specs.FlowReader.Parser.{OnOneLine}
 use Rattle.yf_block.proofs.look.is_short_line.Given as goal
 
 abbrev pub invariant-lanes : goal.invariant-lanes

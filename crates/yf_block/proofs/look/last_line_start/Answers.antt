@@ -1,5 +1,5 @@
 use Rattle.std.proofs.Common.{arith}
-use Rattle.yf_block.proofs.LastStartLemmas.{walk_break, walk_late, walk_char, walk_stops}
+use Rattle.yf_block.proofs.Ends.LastStartLemmas.{walk_break, walk_late, walk_char, walk_stops}
 use Rattle.yf_block.proofs.look.last_line_start.Goals as goal
 
 pub characters-preserved-then-next-end : goal.characters-preserved-then-next-end

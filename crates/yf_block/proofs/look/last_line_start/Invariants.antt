@@ -1,6 +1,6 @@
 use Rattle.std.proofs.Common.{◌-◌, ◌≤◌, length, IfSome}
 use Rattle.std.specs.Str.{IsCharBoundary}
-use Rattle.yf_block.proofs.LastStartLemmas.{SoFar}
+use Rattle.yf_block.proofs.Ends.LastStartLemmas.{SoFar}
 use Rattle.yf_block.proofs.look.last_line_start.Given as goal
 
 abbrev pub decreases-characters : goal.decreases-characters

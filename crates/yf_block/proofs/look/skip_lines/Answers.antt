@@ -1,6 +1,6 @@
 use Rattle.std.proofs.Common.{◌≡◌, ℕ, subst, arith}
 use Rattle.yf_block.specs.ScalarTied.{LinesLeft}
-use Rattle.yf_block.proofs.ScalarLines.{walk_begins, walk_over, walk_run, walk_line, walk_within, walk_past}
+use Rattle.yf_block.proofs.LineSteps.ScalarLines.{walk_begins, walk_over, walk_run, walk_line, walk_within, walk_past}
 use Rattle.yf_block.proofs.look.skip_lines.Goals as goal
 
 pub characters-init : goal.characters-init

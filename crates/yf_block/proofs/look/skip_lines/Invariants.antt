@@ -1,6 +1,6 @@
 use Rattle.std.proofs.Common.{ℕ, ◌-◌, length}
 use Rattle.std.specs.Str.{IsCharBoundary}
-use Rattle.yf_grammar.specs.BlockScalar.{LinesBetween}
+use Rattle.yf_grammar.specs.Productions.BlockScalar.{LinesBetween}
 use Rattle.yf_block.specs.ScalarTied.{LinesLeft}
 use Rattle.yf_block.proofs.look.skip_lines.Given as goal
 

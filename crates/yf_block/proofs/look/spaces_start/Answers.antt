@@ -1,5 +1,5 @@
 use Rattle.std.proofs.Common.{◌<◌, ◌-◌, arith}
-use Rattle.yf_block.proofs.SpacesBack.{space_more}
+use Rattle.yf_block.proofs.Ends.SpacesBack.{space_more}
 use Rattle.yf_block.proofs.look.spaces_start.Goals as goal
 
 pub spaces-preserved : goal.spaces-preserved

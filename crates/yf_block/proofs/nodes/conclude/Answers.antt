@@ -1,8 +1,8 @@
 use Rattle.std.proofs.Common.{◌∙◌, refl, sym, true≢false, arith}
 use Rattle.std.proofs.lemmas.List.Elements.{All-take, All-same}
 use Rattle.std.specs.Str.{IsCharBoundary}
-use Rattle.yf_block.proofs.NodesGiven.{run_halts, halt_at, whole_given, run_unfinished, run_unended, unmoved_given, found_again, cut_to_nothing}
-use Rattle.yf_block.proofs.RunLemmas.{none_outcome, none_place, deep_stop}
+use Rattle.yf_block.proofs.Runs.NodesGiven.{run_halts, halt_at, whole_given, run_unfinished, run_unended, unmoved_given, found_again, cut_to_nothing}
+use Rattle.yf_block.proofs.Runs.RunLemmas.{none_outcome, none_place, deep_stop}
 use Rattle.yf_block.proofs.nodes.conclude.Goals as goal
 
 pub returns-then-ends_whole-clause-tied : goal.returns-then-ends_whole-clause-tied

@@ -1,8 +1,8 @@
 use Rattle.std.proofs.Common.{◌∙◌, sym, subst}
 use Rattle.std.proofs.lemmas.List.Elements.{All-nil, All-same}
 use Rattle.std.specs.Str.{IsCharBoundary}
-use Rattle.yf_block.proofs.NodesGiven.{prefix_text, prefix_stops, prefix_given, given_after}
-use Rattle.yf_block.proofs.PrefixLemmas.{prefix_of, cut_boundary, uncut_boundary, uncut_boundaries}
+use Rattle.yf_block.proofs.Runs.NodesGiven.{prefix_text, prefix_stops, prefix_given, given_after}
+use Rattle.yf_block.proofs.Ends.PrefixLemmas.{prefix_of, cut_boundary, uncut_boundary, uncut_boundaries}
 use Rattle.yf_block.proofs.nodes.read_prefix.Goals as goal
 
 pub returns-clause-escapes : goal.returns-clause-escapes

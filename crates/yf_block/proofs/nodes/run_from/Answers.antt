@@ -1,6 +1,6 @@
 use Rattle.std.proofs.Common.{false, List, length, reverse, refl, ap, arith}
-use Rattle.yf_grammar.specs.BlockParser.{Nothing, Awaited}
-use Rattle.yf_flow.specs.Counted.{openers_from}
+use Rattle.yf_grammar.specs.BlockReader.BlockParser.{Nothing, Awaited}
+use Rattle.yf_flow.specs.Depth.{openers_from}
 use Rattle.yf_block.specs.declared.frame.Frame.{Frame}
 use Rattle.yf_block.proofs.nodes.run_from.Goals as goal
 

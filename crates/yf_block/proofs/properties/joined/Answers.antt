@@ -1,6 +1,6 @@
 use Rattle.std.proofs.Common.{sym, ap, refl, ◌∙◌}
 use Rattle.std.specs.Option.{is_some}
-use Rattle.yf_block.proofs.PropertiesLemmas.{go_together, names_apart, names_clashed, names_meet, offset_or, props_joined, tags_apart, tags_clashed, tags_meet}
+use Rattle.yf_block.proofs.Ends.PropertiesLemmas.{go_together, names_apart, names_clashed, names_meet, offset_or, props_joined, tags_apart, tags_clashed, tags_meet}
 use Rattle.yf_block.proofs.properties.joined.Goals as goal
 
 pub returns-then-is_some-clause-reads : goal.returns-then-is_some-clause-reads

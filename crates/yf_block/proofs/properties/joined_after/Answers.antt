@@ -1,4 +1,4 @@
-use Rattle.yf_block.proofs.PropertiesLemmas.{first_ahead, joined_any}
+use Rattle.yf_block.proofs.Ends.PropertiesLemmas.{first_ahead, joined_any}
 use Rattle.yf_block.proofs.properties.joined_after.Goals as goal
 
 pub returns-in-Some-clause-reads : goal.returns-in-Some-clause-reads

@@ -1,7 +1,7 @@
 use Rattle.std.proofs.Common.{◌++◌, ◌∷◌, [], ap, ◌∙◌}
 use Rattle.std.proofs.lemmas.Result.{IfOk-equal}
-use Rattle.yf_block.proofs.TiedScalar.{scalar_placed}
-use Rattle.yf_block.proofs.WorkedLemmas.{if_worked}
+use Rattle.yf_block.proofs.LineSteps.TiedScalar.{scalar_placed}
+use Rattle.yf_block.proofs.Runs.WorkedLemmas.{if_worked}
 use Rattle.yf_block.proofs.scalar.push_block.Goals as goal
 
 pub returns-clause-events : goal.returns-clause-events

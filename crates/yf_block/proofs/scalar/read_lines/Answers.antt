@@ -2,7 +2,7 @@ use Rattle.std.proofs.Common.{rules, ◌≡◌, ℤ, subst, arith, to_z-of_z, SF
 use Rattle.std.proofs.lemmas.Int.{ints}
 use Rattle.yf_chars.specs.Chain.{Stuck, Chosen}
 use Rattle.yf_block_scalar.specs.Body.{Body, body_value}
-use Rattle.yf_block.proofs.Forward.{body_forward}
+use Rattle.yf_block.proofs.Ends.Forward.{body_forward}
 use Rattle.yf_block.proofs.scalar.read_lines.Goals as goal
 
 pub returns-in-Some-clause-place : goal.returns-in-Some-clause-place

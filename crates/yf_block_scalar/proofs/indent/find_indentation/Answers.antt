@@ -1,7 +1,7 @@
 use Rattle.std.proofs.Common.{◌+◌, ◌++◌, ◌∷◌, [], max, refl, ap, sym, ◌∙◌, arith, to_z-of_z}
 use Rattle.yf_chars.specs.Chain.Chain.{done}
 use Rattle.yf_chars.proofs.ChainLemmas.{chain_more}
-use Rattle.yf_block_scalar.specs.Body.Bare.{bare}
+use Rattle.yf_block_scalar.specs.Body.EmptyLines.{bare}
 use Rattle.yf_block_scalar.proofs.BodyLemmas.{largest-snoc, length-snoc}
 use Rattle.yf_block_scalar.proofs.IndentLemmas.{find_from_judge}
 use Rattle.yf_block_scalar.proofs.indent.find_indentation.Goals as goal

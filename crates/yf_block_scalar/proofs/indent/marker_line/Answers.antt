@@ -19,4 +19,4 @@ loop-place-preserved c =
     record { back = λ l. old.back (marker_past c.args.s.now c.loop-place.place e l); forth = λ l. marker_rest c.args.s.now c.loop-place.place e (old.forth l) }
 
 pub returns : goal.returns
-returns c = match_marker c.marker_stands.result c.marker_stands.ensures c.loop-place-test.ensures c.loop-place.invariant.back c.loop-place.invariant.forth
+returns c = match_marker c.is_marker_at.result c.is_marker_at.ensures c.loop-place-test.ensures c.loop-place.invariant.back c.loop-place.invariant.forth

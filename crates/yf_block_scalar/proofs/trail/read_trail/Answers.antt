@@ -14,7 +14,7 @@ returns-in-Some-clause-reads c =
     let chosen = rw c.in-Some.is at c.in_ok-comments.ensures.reads in (
       c.in-Some.field-0.comments,
       (
-        trail_there c.args.at c.skip_spaces-first.result c.args.indent c.skip_spaces-first.ensures.order c.skip_spaces-first.ensures.spaces c.if-indent-first.false c.if-stands.ensures.cases.char chosen,
+        trail_there c.args.at c.skip_spaces-first.result c.args.indent c.skip_spaces-first.ensures.order c.skip_spaces-first.ensures.spaces c.if-indent-first.false c.if-is_char_at.ensures.cases.char chosen,
         c.in_ok-noted-in-Some.ensures,
       ),
     )
@@ -22,11 +22,11 @@ returns-in-Some-clause-reads c =
 pub unreachable-requires : goal.unreachable-requires
 unreachable-requires c =
     let stuck = rw c.in-None.is at c.in_ok-comments.ensures.reads in
-    let within = c.if-stands.ensures.cases.within in
+    let within = c.if-is_char_at.ensures.cases.within in
     line_end_there (c.requires.starts (omega (arith, c.skip_spaces-first.ensures.order))) stuck
 
 pub returns-clause-reads : goal.returns-clause-reads
 returns-clause-reads c =
     let none : Trail c.args.s.now c.args.indent c.args.at c.args.at [] =
-    no_trail_here c.args.at c.skip_spaces-first.result c.args.indent c.skip_spaces-first.ensures.order c.skip_spaces-first.ensures.spaces c.skip_spaces-first.ensures.all c.if-stands.ensures.cases in
+    no_trail_here c.args.at c.skip_spaces-first.result c.args.indent c.skip_spaces-first.ensures.order c.skip_spaces-first.ensures.spaces c.skip_spaces-first.ensures.all c.if-is_char_at.ensures.cases in
     ([], (rw c.no_comments-2.ensures.end none, c.no_comments-2.ensures.comments))

@@ -1,7 +1,7 @@
 use Rattle.std.proofs.Common.{◌≡◌, ap, ◌+◌, ◌<◌, arith, add-zero, sym, subst, ◌∙◌}
 use Rattle.std.specs.Char.{digit_value}
 use Rattle.std.specs.Str.{IsCharBoundary}
-use Rattle.yf_chars.specs.Text.{code, Reads}
+use Rattle.yf_chars.specs.Text.{code, CharAt}
 use Rattle.yf_chars.proofs.TextLemmas.{next_ascii}
 use Rattle.yf_chars.proofs.EscapeLemmas.{no_digits, more_digits, room_for_digit, digit_below, power_more}
 use Rattle.yf_chars.proofs.escapes.digits.Goals as goal
@@ -25,7 +25,7 @@ overflow_add-value c =
 pub loop-index-preserved : goal.loop-index-preserved
 loop-index-preserved c =
     let at = c.args.at + c.loop-index.index in
-    let read : Reads c.args.s.now at c.in-Some.c c.in-Some.field-0-1 = c.in-Some.ensures in
+    let read : CharAt c.args.s.now at c.in-Some.c c.in-Some.field-0-1 = c.in-Some.ensures in
     let digit = c.in-Some-to_digit.ensures.value in
     let low : code c.args.s.now at < 128 = rw read.char (digit_below c.in-Some.c digit.0) in
     let end : c.in-Some.field-0-1 ≡ at + 1 = sym read.end ∙ next_ascii c.args.s.now at low in

@@ -18,11 +18,11 @@ pub chars-preserved : goal.chars-preserved
 chars-preserved c =
     let r = c.in-Some.ensures in
     let more = nb_more c.chars.invariant.run r (sym c.is_nb_char.ensures ∙ c.if-not-is_nb_char.false) in
-    let behind = c.ascii_run-end-else-c-gt126.ensures in
+    let follows = c.ascii_run-end-else-c-gt126.ensures in
     record {
-      run = (more.0 ++ behind.chars.0, chain_append more.1 behind.chars.1);
-      boundary = behind.boundary;
-      order = omega (arith, r.later, c.chars.invariant.order, behind.order);
+      run = (more.0 ++ follows.chars.0, chain_append more.1 follows.chars.1);
+      boundary = follows.boundary;
+      order = omega (arith, r.later, c.chars.invariant.order, follows.order);
     }
 
 pub returns-in-None-clause-all : goal.returns-in-None-clause-all

@@ -1,6 +1,6 @@
 use Rattle.std.proofs.Common.{◌≡◌, ◌++◌, ◌<◌, ◌+◌, length, get_or, drop, ap, sym, ◌∙◌, subst, arith}
 use lib.Utf8.{encode}
-use Rattle.yf_chars.specs.Text.{code, Reads}
+use Rattle.yf_chars.specs.Text.{code, CharAt}
 use Rattle.yf_chars.proofs.TextLemmas.{reads_char, reads_ascii, code-end}
 use Rattle.yf_chars.proofs.text.peek.Goals as goal
 
@@ -14,12 +14,12 @@ returns-then-byte-lt128 c =
     let e : c.from.result ≡ get_or c.args.s.now c.args.at 0 = c.from.ensures ∙ ap (λ w. get_or w c.args.at 0) c.as_bytes-bytes.ensures.value in
     let below : get_or c.args.s.now c.args.at 0 < 128 = omega (arith, ap (λ w. get_or w c.args.at 0) c.as_bytes-bytes.ensures.value) in
     let within : c.args.at < length c.args.s.now = omega (arith, c.as_bytes-bytes.ensures.len) in
-    subst (λ x. Reads c.args.s.now c.args.at x (c.args.at + 1)) (sym e) (reads_ascii c.args.s.now c.args.at c.utf8.s within below)
+    subst (λ x. CharAt c.args.s.now c.args.at x (c.args.at + 1)) (sym e) (reads_ascii c.args.s.now c.args.at c.utf8.s within below)
 
 pub returns : goal.returns
 returns c =
     let e : drop c.args.at c.args.s.now ≡ encode c.in-Some.c ++ c.next.new.self.rest.now =
     sym c.range_from.ensures.value ∙ sym c.chars.ensures.rest ∙ c.in-Some.ensures.steps.0 in
     let within : c.args.at < length c.args.s.now = omega (arith, c.as_bytes-bytes.ensures.len) in
-    subst (λ k. Reads c.args.s.now c.args.at c.in-Some.c (c.args.at + k)) (sym c.len_utf8.ensures.value)
+    subst (λ k. CharAt c.args.s.now c.args.at c.in-Some.c (c.args.at + k)) (sym c.len_utf8.ensures.value)
     (reads_char c.args.s.now c.args.at c.in-Some.c c.next.new.self.rest.now c.utf8.s c.requires within e)

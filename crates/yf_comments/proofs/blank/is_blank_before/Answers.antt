@@ -7,11 +7,11 @@ pub returns-then-at-eq0 : goal.returns-then-at-eq0
 returns-then-at-eq0 c =
     walk_end c.args.s.now c.args.at c.args.at false c.if-at-eq0.true (walk_start c.args.s.now c.args.at c.requires)
 
-pub returns-then-stands : goal.returns-then-stands
-returns-then-stands c = λ d.
-    c.if-visible_ends-2.ensures.before (before_space c.args.s.now c.args.at c.utf8.s c.if-at-eq0.false c.if-stands.ensures.cases d)
+pub returns-then-is_char_at : goal.returns-then-is_char_at
+returns-then-is_char_at c = λ d.
+    c.if-visible_ends-2.ensures.before (before_space c.args.s.now c.args.at c.utf8.s c.if-at-eq0.false c.if-is_char_at.ensures.cases d)
 
-pub returns-then-stands-2 : goal.returns-then-stands-2
-returns-then-stands-2 c =
-    let behind = c.if-visible_ends-2.ensures in
-    before_feed c.args.s.now c.args.at c.utf8.s c.if-at-eq0.false c.if-stands-2.ensures.cases behind.sign behind.blank behind.before
+pub returns-then-is_char_at-2 : goal.returns-then-is_char_at-2
+returns-then-is_char_at-2 c =
+    let follows = c.if-visible_ends-2.ensures in
+    before_feed c.args.s.now c.args.at c.utf8.s c.if-at-eq0.false c.if-is_char_at-2.ensures.cases follows.sign follows.blank follows.before

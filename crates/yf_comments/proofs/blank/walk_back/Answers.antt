@@ -5,10 +5,10 @@ use Rattle.yf_comments.proofs.blank.walk_back.Goals as goal
 pub back-init : goal.back-init
 back-init c = walk_start c.args.s.now c.args.at c.requires
 
-pub back-preserved-then-white_stands : goal.back-preserved-then-white_stands
-back-preserved-then-white_stands c =
+pub back-preserved-then-is_white_at : goal.back-preserved-then-is_white_at
+back-preserved-then-is_white_at c =
     walk_white c.args.s.now c.utf8.s c.args.at c.back.place c.back.blank (omega arith)
-    (sym c.if-white_stands.ensures.value) c.back.invariant
+    (sym c.if-is_white_at.ensures.value) c.back.invariant
 
 pub back-preserved-then-mark_ends : goal.back-preserved-then-mark_ends
 back-preserved-then-mark_ends c =
@@ -27,7 +27,7 @@ back-preserved c =
 pub returns-in-None : goal.returns-in-None
 returns-in-None c =
     walk_none c.args.s.now c.utf8.s c.args.at c.back.place c.back.blank (omega arith)
-    (sym c.if-white_stands.ensures.value) c.if-mark_ends.ensures c.in-None.ensures c.back.invariant
+    (sym c.if-is_white_at.ensures.value) c.if-mark_ends.ensures c.in-None.ensures c.back.invariant
 
 pub returns : goal.returns
 returns c = walk_end c.args.s.now c.args.at c.back.place c.back.blank (omega arith) c.back.invariant

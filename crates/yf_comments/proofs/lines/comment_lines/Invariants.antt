@@ -4,12 +4,12 @@ use Rattle.yf_chars.specs.Chain.{Many}
 use Rattle.yf_chars.specs.Class.{is_white}
 use Rattle.yf_chars.specs.Text.{code}
 use Rattle.yf_lines.specs.Basic.{LineStart}
-use Rattle.yf_comments.specs.Comments.{Kept}
+use Rattle.yf_comments.specs.Comments.{RowsKept}
 use Rattle.yf_comments.proofs.lines.comment_lines.Given as goal
 
 abbrev pub invariant-lines : goal.invariant-lines
 invariant-lines l = record {
-  rows : Kept l.s l.at l.end l.initial.comments l.comments;
+  rows : RowsKept l.s l.at l.end l.initial.comments l.comments;
   boundary : IsCharBoundary l.s l.end;
   starts : l.end < length l.s → LineStart l.s l.end;
   place : IsCharBoundary l.s l.place;

@@ -9,4 +9,4 @@ returns-in-Some-clause-reads c =
 
 pub returns-in-None-clause-reads : goal.returns-in-None-clause-reads
 returns-in-None-clause-reads c =
-    stuck_at_solid c.requires.whites.1 c.requires.all c.if-stands.ensures.cases c.in-None.ensures.reads
+    stuck_at_solid c.requires.whites.1 c.requires.all c.if-is_char_at.ensures.cases c.in-None.ensures.reads

@@ -6,4 +6,4 @@ pub returns-clause-whites : goal.returns-clause-whites
 returns-clause-whites c = ([], done)
 
 pub returns-clause-all : goal.returns-clause-all
-returns-clause-all c = sym c.if-white_stands.ensures.value
+returns-clause-all c = sym c.if-is_white_at.ensures.value

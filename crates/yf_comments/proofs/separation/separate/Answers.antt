@@ -9,8 +9,8 @@ use Rattle.yf_comments.proofs.separation.separate.Goals as goal
 pub returns-in-Some-clause-reads : goal.returns-in-Some-clause-reads
 returns-in-Some-clause-reads c =
     let t = c.args.s.now in
-    let solid = c.solid_stands.ensures in
-    let is = c.if-not-solid_stands.false in
+    let solid = c.is_solid_at.ensures in
+    let is = c.if-not-is_solid_at.false in
     let same = c.in-Some.ensures.place in
     subst (λ v. Chosen (Separate t c.args.n c.args.ctx c.args.at) c.in-Some.end v) (sym c.new.ensures)
     (solid_chosen c.in-Some.ensures.reads (subst (λ v. is_white (code t v) ≡ false) (sym same) (solid.white is))
@@ -19,8 +19,8 @@ returns-in-Some-clause-reads c =
 pub returns-in-None-clause-reads : goal.returns-in-None-clause-reads
 returns-in-None-clause-reads c =
     let t = c.args.s.now in
-    let solid = c.solid_stands.ensures in
-    let is = c.if-not-solid_stands.false in
+    let solid = c.is_solid_at.ensures in
+    let is = c.if-not-is_solid_at.false in
     let same = c.in-None.ensures.place in
     solid_stuck c.in-None.ensures.reads (subst (λ v. is_white (code t v) ≡ false) (sym same) (solid.white is))
     (λ e. solid.sign is (ap (code t) (sym same) ∙ e)) (subst (λ v. Nowhere (BreakOrEnd t v)) (sym same) (solid.rest is))

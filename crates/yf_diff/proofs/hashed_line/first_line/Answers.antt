@@ -1,4 +1,4 @@
--- The first line ends behind the first line feed, or with the text.
+-- The first line ends after the first line feed, or with the text.
 use Rattle.std.proofs.Common.{add-one, length, arith}
 use Rattle.std.proofs.lemmas.List.{take_all, drop_all}
 use Rattle.yf_diff.proofs.LineLemmas.{line_to_feed, line_to_end}

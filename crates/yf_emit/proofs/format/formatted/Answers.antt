@@ -1,6 +1,6 @@
 use Rattle.std.proofs.lemmas.Result.{IfOk-weaker}
 use Rattle.std.specs.String.{string_bytes}
-use Rattle.yf_emit.proofs.FormsHandedOn.{kept_so}
+use Rattle.yf_emit.proofs.NormalForms.FormsHandedOn.{kept_so}
 use Rattle.yf_emit.proofs.format.formatted.Goals as goal
 
 pub returns-clause-keeps : goal.returns-clause-keeps

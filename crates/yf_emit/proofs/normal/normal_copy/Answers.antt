@@ -1,4 +1,4 @@
-use Rattle.yf_emit.proofs.FormsHandedOn.{normal_made}
+use Rattle.yf_emit.proofs.NormalForms.FormsHandedOn.{normal_made}
 use Rattle.yf_emit.proofs.normal.normal_copy.Goals as goal
 
 pub returns-clause-is_normal : goal.returns-clause-is_normal

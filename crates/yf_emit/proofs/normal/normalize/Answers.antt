@@ -1,9 +1,9 @@
 use Rattle.std.proofs.Common.{◌≡◌, ◌∙◌, ap, get_or, sym, refl}
 use Rattle.yf_events.specs.Event.{event_value}
-use Rattle.yf_emit.specs.Measures.{no_measure}
-use Rattle.yf_emit.specs.NormalEvents.{kept_until}
-use Rattle.yf_emit.specs.Wanted.{wanted_of_event}
-use Rattle.yf_emit.proofs.NormalInPlace.{same_long, some_is, step_in_place}
+use Rattle.yf_emit.specs.NormalForms.Measures.{no_measure}
+use Rattle.yf_emit.specs.Passes.NormalEvents.{kept_until}
+use Rattle.yf_emit.specs.Nodes.ScalarStyles.{wanted_of_event}
+use Rattle.yf_emit.proofs.NormalForms.NormalInPlace.{same_long, some_is, step_in_place}
 use Rattle.yf_emit.proofs.normal.normalize.Goals as goal
 use Rattle.yf_emit.proofs.normal.normalize.Goals.{then-at, else-at}
 

@@ -1,5 +1,5 @@
 use Rattle.std.proofs.Common.{◌≡◌, ◌++◌, drop, length, take}
-use Rattle.yf_emit.specs.NormalEvents.{normal_from}
+use Rattle.yf_emit.specs.Passes.NormalEvents.{normal_from}
 use Rattle.yf_emit.proofs.normal.normalize.Given as goal
 
 abbrev pub invariant-loop-i : goal.invariant-loop-i

@@ -2,9 +2,9 @@ use Rattle.std.proofs.Common.{◌∙◌, ap, subst, sym}
 use Rattle.yf_events.specs.Content.{content_of}
 use Rattle.yf_events.specs.declared.lists.Lists.{Lists}
 use Rattle.yf_events.specs.declared.reading.TheConstants.{DEPTH}
-use Rattle.yf_emit.specs.Restyled.{IsRestyled}
-use Rattle.yf_emit.proofs.NormalInPlace.{in_place}
-use Rattle.yf_emit.proofs.RestyledLemmas.{same_content, still_fits, still_stream}
+use Rattle.yf_emit.specs.NormalForms.Restyled.{IsRestyled}
+use Rattle.yf_emit.proofs.NormalForms.NormalInPlace.{in_place}
+use Rattle.yf_emit.proofs.NormalForms.RestyledLemmas.{same_content, still_fits, still_stream}
 use Rattle.yf_emit.proofs.normal.normalized.Goals as goal
 
 pub build-requires : goal.build-requires

@@ -1,7 +1,7 @@
 use Rattle.std.proofs.Common.{◌≡◌, ◌-◌, ◌≤◌, [], map, length, drop, vec_len}
 use Rattle.std.specs.Prelude.{reverse}
 use Rattle.yf_events.specs.Nesting.{run}
-use Rattle.yf_events.specs.declared.nesting.Awaited.TheVariants.{Stream}
+use Rattle.yf_events.specs.declared.nesting.NestingState.TheVariants.{Stream}
 use Rattle.yf_events.proofs.nesting.is_stream.Given as goal
 
 abbrev pub invariant-loop-i : goal.invariant-loop-i

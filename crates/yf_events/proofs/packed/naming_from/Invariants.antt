@@ -1,5 +1,5 @@
 use Rattle.std.proofs.Common.{ℕ, ◌-◌, ◌≤◌, ◌<◌, length}
-use Rattle.yf_events.specs.Silent.{SilentAt}
+use Rattle.yf_events.specs.NamelessEvents.{SilentAt}
 use Rattle.yf_events.proofs.packed.naming_from.Given as goal
 
 abbrev pub invariant-rows : goal.invariant-rows

@@ -1,6 +1,6 @@
 use Rattle.std.proofs.Common.{◌∙◌}
 use Rattle.std.proofs.lemmas.Result.{IfOk-weaker, err_from_is_err_and}
-use Rattle.yf_events.specs.Packed.{Kept}
+use Rattle.yf_events.specs.Packed.{InTable}
 use Rattle.yf_events.proofs.PackedRows.{not_stored, same_table, stored}
 use Rattle.yf_events.proofs.packing.kept.Goals as goal
 
@@ -16,5 +16,5 @@ pub returns : goal.returns
 returns c = record {
   grown = record { added = _; is = c.in_ok-push.ensures.items };
   kept =
-      IfOk-weaker c.narrow.result _ (λ n. Kept _ n _) (λ n e. stored _ _ _ n c.in_ok-push.ensures.items (e ∙ c.len.ensures ∙ c.push.new.self.ok.0)) c.narrow.ensures;
+      IfOk-weaker c.narrow.result _ (λ n. InTable _ n _) (λ n e. stored _ _ _ n c.in_ok-push.ensures.items (e ∙ c.len.ensures ∙ c.push.new.self.ok.0)) c.narrow.ensures;
 }

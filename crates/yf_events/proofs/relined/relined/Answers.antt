@@ -1,6 +1,6 @@
 use Rattle.std.proofs.Common.{ap, ◌∙◌}
 use Rattle.std.proofs.lemmas.Result.{IfOk-weaker, err_from_is_err_and}
-use Rattle.yf_events.specs.Formed.{Relined}
+use Rattle.yf_events.specs.EventForms.{LinesDropped}
 use Rattle.yf_events.specs.Packed.{folded_in, more_value}
 use Rattle.yf_events.proofs.FormedRows.{lines_absent, lines_kept, lines_taken, no_lines}
 use Rattle.yf_events.proofs.PackedRows.{same_table}
@@ -38,7 +38,7 @@ pub returns : goal.returns
 returns c = record {
   grown = record { added = _; is = c.in_ok-push.ensures.items };
   relined =
-      IfOk-weaker c.narrow.result _ (Relined _ _ _ _)
+      IfOk-weaker c.narrow.result _ (LinesDropped _ _ _ _)
       (λ n e. lines_taken _ _ _ _ _ n (more_value c.more_in.result) c.in-Some.more.now c.in_ok-bare.bare c.as_slice.ensures.value c.more_in.ensures (ap more_value c.in-Some.is)
       c.in_ok-bare.ensures c.in_ok-push.ensures.items c.if-keeps.false (e ∙ c.len.ensures ∙ c.push.new.self.ok.0)) c.narrow.ensures;
 }

@@ -1,6 +1,6 @@
 use Rattle.std.proofs.Common.{to_z-of_z}
 use Rattle.yf_grammar.specs.Refusal.{as_scanned}
-use Rattle.yf_flow.proofs.ReadersLemmas.{scanned_stops}
+use Rattle.yf_flow.proofs.Stack.ReadersLemmas.{scanned_stops}
 use Rattle.yf_flow.proofs.flow.read_flow_node.Goals as goal
 
 pub returns-in-Some-clause-reads : goal.returns-in-Some-clause-reads

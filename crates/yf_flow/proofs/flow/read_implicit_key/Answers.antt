@@ -1,4 +1,4 @@
-use Rattle.yf_flow.proofs.ReadersLemmas.{reads_key}
+use Rattle.yf_flow.proofs.Stack.ReadersLemmas.{reads_key}
 use Rattle.yf_flow.proofs.flow.read_implicit_key.Goals as goal
 
 pub returns-clause-reads : goal.returns-clause-reads

@@ -1,8 +1,8 @@
 use Rattle.std.proofs.Common.{◌∙◌, sym, to_z-of_z}
-use Rattle.yf_grammar.proofs.Parts.{none_is_stuck}
+use Rattle.yf_grammar.proofs.Ends.Parts.{none_is_stuck}
 use Rattle.yf_grammar.specs.Refusal.{for_memory}
-use Rattle.yf_flow.proofs.OtherContexts.{no_flow_node}
-use Rattle.yf_flow.proofs.ReadersLemmas.{found_chosen, too_deep_there}
+use Rattle.yf_flow.proofs.Ends.OtherContexts.{no_flow_node}
+use Rattle.yf_flow.proofs.Stack.ReadersLemmas.{found_chosen, too_deep_there}
 use Rattle.yf_flow.proofs.flow.scan_flow_node.Goals as goal
 
 pub read_node-requires-clause-boundary : goal.read_node-requires-clause-boundary

@@ -1,4 +1,4 @@
-use Rattle.yf_flow.proofs.ReadersLemmas.{scans_key}
+use Rattle.yf_flow.proofs.Stack.ReadersLemmas.{scans_key}
 use Rattle.yf_flow.proofs.flow.scan_implicit_key.Goals as goal
 
 pub returns-clause-reads : goal.returns-clause-reads

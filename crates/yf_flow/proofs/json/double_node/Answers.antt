@@ -1,7 +1,7 @@
 use Rattle.std.proofs.Common.{refl, arith, rules, to_z-of_z, SFits, w32, ◌∙◌}
 use Rattle.std.proofs.lemmas.Result.{IfOk-weaker}
-use Rattle.yf_flow.proofs.BegunLemmas.{double_leaf, double_none, leaf_begins}
-use Rattle.yf_flow.proofs.LeafLemmas.{boundaries_more}
+use Rattle.yf_flow.proofs.Content.BegunLemmas.{double_leaf, double_none, leaf_begins}
+use Rattle.yf_flow.proofs.Ends.LeafLemmas.{boundaries_more}
 use Rattle.yf_flow.proofs.json.double_node.Goals as goal
 
 pub returns-in_ok-keep_escapes-in-Some : goal.returns-in_ok-keep_escapes-in-Some

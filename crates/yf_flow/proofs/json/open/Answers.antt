@@ -1,6 +1,6 @@
 use Rattle.std.proofs.Common.{refl, sym, append-nil, arith}
-use Rattle.yf_flow.proofs.BegunLemmas.{start_event}
-use Rattle.yf_flow.proofs.Frames.{pushed_longer}
+use Rattle.yf_flow.proofs.Content.BegunLemmas.{start_event}
+use Rattle.yf_flow.proofs.Ends.Frames.{pushed_longer}
 use Rattle.yf_flow.proofs.json.open.Goals as goal
 
 pub returns-then-spot : goal.returns-then-spot
@@ -28,7 +28,7 @@ returns c =
           escapes = sym (append-nil _);
         };
       };
-      begun = (record { boundary = c.requires.behind; order = omega arith }, record { event = omega (arith, l, c.len-event.ensures); entry = omega (arith, l, c.len-event.ensures); place = c.requires.behind }, l);
+      begun = (record { boundary = c.requires.follows; order = omega arith }, record { event = omega (arith, l, c.len-event.ensures); entry = omega (arith, l, c.len-event.ensures); place = c.requires.follows }, l);
       grows = omega (arith, l);
       escapes = c.requires.awaited.escapes;
     }

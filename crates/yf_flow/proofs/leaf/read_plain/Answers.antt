@@ -1,5 +1,5 @@
 use Rattle.std.proofs.Common.{arith}
-use Rattle.yf_flow.proofs.Forward.{plain_forward}
+use Rattle.yf_flow.proofs.Ends.Forward.{plain_forward}
 use Rattle.yf_flow.proofs.leaf.read_plain.Goals as goal
 
 pub returns-in-Ok-Some-clause-place : goal.returns-in-Ok-Some-clause-place

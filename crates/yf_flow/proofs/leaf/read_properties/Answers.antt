@@ -1,5 +1,5 @@
 use Rattle.std.proofs.Common.{arith}
-use Rattle.yf_flow.proofs.Forward.{properties_forward}
+use Rattle.yf_flow.proofs.Ends.Forward.{properties_forward}
 use Rattle.yf_flow.proofs.leaf.read_properties.Goals as goal
 
 pub returns-in-Some-clause-place : goal.returns-in-Some-clause-place

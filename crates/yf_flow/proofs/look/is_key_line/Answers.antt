@@ -1,5 +1,5 @@
 use Rattle.std.proofs.Common.{◌∙◌}
-use Rattle.yf_flow.proofs.KeyLineLemmas.{key_more, key_ended, key_long, key_broken, line_feed_breaks, return_breaks}
+use Rattle.yf_flow.proofs.Ends.KeyLineLemmas.{key_more, key_ended, key_long, key_broken, line_feed_breaks, return_breaks}
 use Rattle.yf_flow.proofs.look.is_key_line.Goals as goal
 
 pub returns-then-room-eq0 : goal.returns-then-room-eq0

@@ -1,4 +1,4 @@
-use Rattle.yf_flow.proofs.KeyLineLemmas.{KeySoFar}
+use Rattle.yf_flow.proofs.Ends.KeyLineLemmas.{KeySoFar}
 use Rattle.yf_flow.proofs.look.is_key_line.Given as goal
 
 abbrev pub decreases-characters : goal.decreases-characters

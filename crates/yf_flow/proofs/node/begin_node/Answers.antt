@@ -1,10 +1,10 @@
 use Rattle.std.proofs.Common.{arith, refl, ap, ◌∙◌}
 use Rattle.yf_events.specs.Event.{alias_node}
-use Rattle.yf_flow.specs.Begun.{lead_event}
-use Rattle.yf_flow.proofs.BegunLemmas.{begins_behind}
-use Rattle.yf_flow.proofs.NodeBegunLemmas.{alias_leaf, bare_begun}
-use Rattle.yf_flow.proofs.Frames.{pushed_longer}
-use Rattle.yf_flow.proofs.Forward.{alias_forward}
+use Rattle.yf_flow.specs.NodeStarts.{lead_event}
+use Rattle.yf_flow.proofs.Content.BegunLemmas.{begins_after}
+use Rattle.yf_flow.proofs.Content.NodeBegunLemmas.{alias_leaf, bare_begun}
+use Rattle.yf_flow.proofs.Ends.Frames.{pushed_longer}
+use Rattle.yf_flow.proofs.Ends.Forward.{alias_forward}
 use Rattle.yf_flow.proofs.node.begin_node.Goals as goal
 
 pub returns-in-Some : goal.returns-in-Some
@@ -22,7 +22,7 @@ pub returns-in-None-2 : goal.returns-in-None-2
 returns-in-None-2 c =
     let spot = c.args.spot in
     let old = c.args.part.now in
-    begins_behind _ _ spot spot.at old old _ c.begin_content.result c.begin_content.ensures (omega arith) refl
+    begins_after _ _ spot spot.at old old _ c.begin_content.result c.begin_content.ensures (omega arith) refl
     (bare_begun spot.depth spot.scene.limit c.args.entry old _ _ c.bare.ensures c.in-None.ensures.reads (rw c.in-None-2.is at c.in_ok-properties.ensures.reads))
 
 pub propertied_node-requires-clause-properties : goal.propertied_node-requires-clause-properties

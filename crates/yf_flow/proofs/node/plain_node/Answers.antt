@@ -1,7 +1,7 @@
 use Rattle.std.proofs.Common.{refl, arith}
 use Rattle.std.proofs.lemmas.Result.{IfOk-weaker}
-use Rattle.yf_flow.specs.Begun.{plain_missing}
-use Rattle.yf_flow.proofs.BegunLemmas.{plain_leaf, leaf_begins}
+use Rattle.yf_flow.specs.NodeStarts.{plain_missing}
+use Rattle.yf_flow.proofs.Content.BegunLemmas.{plain_leaf, leaf_begins}
 use Rattle.yf_flow.proofs.node.plain_node.Goals as goal
 
 pub returns-in-Some : goal.returns-in-Some

@@ -1,9 +1,9 @@
 use Rattle.std.proofs.Common.{refl, sym, ◌∙◌, [], arith, rules, to_z-of_z, SFits, w32}
 use Rattle.std.proofs.lemmas.Result.{IfOk-weaker}
-use Rattle.yf_grammar.specs.Parser.Parses.{properties_end, properties_before_other}
+use Rattle.yf_grammar.specs.FlowReader.Parser.Parses.{properties_end, properties_before_other}
 use Rattle.yf_props.proofs.SeparationEnds.{separate_forward}
-use Rattle.yf_flow.proofs.BegunLemmas.{begins_behind, leaf_begins}
-use Rattle.yf_flow.proofs.NodeBegunLemmas.{with_begun, plain_leaf_with, lone_leaf, appended}
+use Rattle.yf_flow.proofs.Content.BegunLemmas.{begins_after, leaf_begins}
+use Rattle.yf_flow.proofs.Content.NodeBegunLemmas.{with_begun, plain_leaf_with, lone_leaf, appended}
 use Rattle.yf_flow.proofs.node.propertied_node.Goals as goal
 use Rattle.yf_flow.proofs.node.propertied_node.Goals.{in-Some+else-content_begins+in_ok-plain-in-Some+in-None-2, in-None}
 
@@ -16,7 +16,7 @@ returns-then-content_begins c =
     let s = rw (to_z-of_z fits, c.in-Some.is) at c.in_ok-comments.ensures.reads in
     let o = separate_forward s.derived in
     let old = c.args.part.now in
-    begins_behind _ _ c.args.spot c.in-Some.field-0.end old _ _ c.json_content.result c.json_content.ensures (omega (arith, o, c.requires.properties.place.order)) refl
+    begins_after _ _ c.args.spot c.in-Some.field-0.end old _ _ c.json_content.result c.json_content.ensures (omega (arith, o, c.requires.properties.place.order)) refl
     (with_begun c.requires.properties.chosen s (sym c.content_begins.ensures ∙ c.if-content_begins.true) c.args.spot.depth c.args.spot.scene.limit old
     (record { events = old.events; comments = _; escapes = old.escapes }) _ (record { start = refl; props = refl; tag = refl; first = refl }) refl
     (appended _ _ _ _ _ c.in_ok-append.ensures c.in_ok-append-in-Some.ensures) refl)

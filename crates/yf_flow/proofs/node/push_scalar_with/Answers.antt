@@ -1,4 +1,4 @@
-use Rattle.yf_flow.proofs.BareLeads.{bare_pushed}
+use Rattle.yf_flow.proofs.Content.BareLeads.{bare_pushed}
 use Rattle.yf_flow.proofs.node.push_scalar_with.Goals as goal
 
 pub returns-then-is_bare-clause-pushed : goal.returns-then-is_bare-clause-pushed

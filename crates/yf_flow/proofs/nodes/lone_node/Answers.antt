@@ -1,5 +1,5 @@
 use Rattle.std.proofs.Common.{refl}
-use Rattle.yf_flow.proofs.NodeEnds.{lone_found}
+use Rattle.yf_flow.proofs.Content.NodeEnds.{lone_found}
 use Rattle.yf_flow.proofs.nodes.lone_node.Goals as goal
 
 pub returns-clause-answers : goal.returns-clause-answers

@@ -1,4 +1,4 @@
-use Rattle.yf_flow.proofs.NodeEnds.{lost_none, read_found}
+use Rattle.yf_flow.proofs.Content.NodeEnds.{lost_none, read_found}
 use Rattle.yf_flow.proofs.nodes.node_found.Goals as goal
 use Rattle.yf_flow.proofs.nodes.node_found.Goals.{in-Nothing, in-TooDeep}
 

@@ -1,6 +1,6 @@
 use Rattle.std.proofs.Common.{arith}
-use Rattle.yf_flow.specs.Begun.{plain_missing}
-use Rattle.yf_flow.proofs.BegunLemmas.{plain_leaf}
+use Rattle.yf_flow.specs.NodeStarts.{plain_missing}
+use Rattle.yf_flow.proofs.Content.BegunLemmas.{plain_leaf}
 use Rattle.yf_flow.proofs.nodes.plain_ending.Goals as goal
 
 pub returns-in_ok-push_scalar_with-in-Some : goal.returns-in_ok-push_scalar_with-in-Some

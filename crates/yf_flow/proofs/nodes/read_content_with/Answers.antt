@@ -1,8 +1,8 @@
 use Rattle.std.proofs.Common.{rules, to_z-of_z, SFits, w32}
 use Rattle.std.proofs.lemmas.Result.{IfOk-weaker}
-use Rattle.yf_flow.proofs.ContentEnds.{content_counted, content_ends, for_each_base}
-use Rattle.yf_flow.specs.EndsAlone.{begun_of}
-use Rattle.yf_flow.proofs.EndsAlone.{alone_counted, alone_ends}
+use Rattle.yf_flow.proofs.Content.ContentEnds.{content_counted, content_ends, for_each_base}
+use Rattle.yf_flow.specs.LeafEnds.{begun_of}
+use Rattle.yf_flow.proofs.Content.EndsAlone.{alone_counted, alone_ends}
 use Rattle.yf_flow.proofs.nodes.read_content_with.Goals as goal
 
 pub returns-then-content_begins-clause-answers : goal.returns-then-content_begins-clause-answers

@@ -1,5 +1,5 @@
 use Rattle.std.proofs.lemmas.List.Elements.{All-nil}
-use Rattle.yf_flow.proofs.MachineLemmas.{collected}
+use Rattle.yf_flow.proofs.Ends.MachineLemmas.{collected}
 use Rattle.yf_flow.proofs.nodes.read_entries.Goals as goal
 
 pub read_on-ending-requires-clause-standing : goal.read_on-ending-requires-clause-standing

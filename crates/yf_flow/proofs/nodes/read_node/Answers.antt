@@ -1,7 +1,7 @@
 use Rattle.std.proofs.Common.{rules, to_z-of_z, SFits, w32}
-use Rattle.yf_flow.proofs.Frames.{none_outside}
-use Rattle.yf_flow.proofs.CountLemmas.{begun_counted}
-use Rattle.yf_flow.proofs.NodeEnds.{nothing_written, nothing_kept, begun_ends}
+use Rattle.yf_flow.proofs.Ends.Frames.{none_outside}
+use Rattle.yf_flow.proofs.Stack.CountLemmas.{begun_counted}
+use Rattle.yf_flow.proofs.Content.NodeEnds.{nothing_written, nothing_kept, begun_ends}
 use Rattle.yf_flow.proofs.nodes.read_node.Goals as goal
 
 pub begin_node-requires : goal.begin_node-requires

@@ -1,7 +1,7 @@
 use Rattle.std.proofs.Common.{◌≡◌, ◌≤◌, ◌+◌, ◌-◌, ◌<◌, inl, length, drop, subst, arith}
 use Rattle.std.proofs.lemmas.List.{length-drop}
 use Rattle.memchr.specs.Find.{Nowhere, NoneBefore, Passes, is_byte2}
-use Rattle.yf_lines.specs.Lines.{Unbroken}
+use Rattle.yf_lines.specs.Lines.{NoBreakIn}
 use Rattle.yf_lines.proofs.SearchLemmas.{boundary_found, break_found, rest_taken, unbroken_from}
 use Rattle.yf_lines.proofs.basic.next_break.Goals as goal
 
@@ -33,4 +33,4 @@ returns-in-None-clause-unbroken c =
     subst (λ v. Nowhere (Passes (is_byte2 10 13) v) 0 (length v))
     (rest_taken c.as_bytes-bytes.result.now t c.args.at c.as_bytes-bytes.ensures.value) c.in-None.ensures in
     let end : c.args.at + n ≡ length c.as_bytes-bytes.result.now = omega (arith, c.requires, c.as_bytes-bytes.ensures.len) in
-    subst (λ v. Unbroken t c.args.at v) end (unbroken_from t c.args.at n c.utf8.s (omega (arith, c.requires)) none)
+    subst (λ v. NoBreakIn t c.args.at v) end (unbroken_from t c.args.at n c.utf8.s (omega (arith, c.requires)) none)

@@ -3,7 +3,7 @@ use Rattle.std.proofs.lemmas.Bool.{cases_lt}
 use Rattle.std.proofs.lemmas.List.{length_push}
 use Rattle.yf_chars.specs.Chain.{Many}
 use Rattle.yf_chars.specs.Chain.Chain.{done}
-use Rattle.yf_chars.specs.Text.{code, Reads}
+use Rattle.yf_chars.specs.Text.{code, CharAt}
 use Rattle.yf_lines.specs.Lines.{is_char}
 use Rattle.yf_lines.proofs.PlaceLemmas.{characters_more, not_inside}
 use Rattle.yf_lines.proofs.table.column_from.Goals as goal
@@ -19,7 +19,7 @@ loop-at-init c = record {
 pub loop-at-preserved : goal.loop-at-preserved
 loop-at-preserved c =
     let t = c.args.text.now in
-    let r : Reads t c.loop-at.at c.in-Some.field-0-0 c.in-Some.next = c.in-Some.ensures in
+    let r : CharAt t c.loop-at.at c.in-Some.field-0-0 c.in-Some.next = c.in-Some.ensures in
     let x = c.loop-at.invariant.characters in
     let within : c.in-Some.next ≤ c.args.offset =
     ⊎_elim (λ (h : c.args.offset < c.in-Some.next). absurd (not_inside t c.loop-at.at c.in-Some.field-0-0 c.in-Some.next c.args.offset c.utf8.text c.loop-at.invariant.boundary r c.requires.offset c.loop-at-test.true h))

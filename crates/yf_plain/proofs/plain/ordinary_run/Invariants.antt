@@ -11,7 +11,7 @@ abbrev pub invariant-loop-end : goal.invariant-loop-end
 invariant-loop-end l = record {
   flowing : is_block l.fn.ctx ≡ false;
   so_far : (x : List ℕ) × Chain (PlainItem l.s l.fn.ctx) l.at l.end x;
-  behind : is_ns_char (before l.s l.end) ≡ true;
+  follows : is_ns_char (before l.s l.end) ≡ true;
   boundary : IsCharBoundary l.s l.end;
   order : l.at ≤ l.end;
 }

@@ -5,19 +5,19 @@ use Rattle.yf_plain.proofs.plain.plain_char.Goals as goal
 pub returns-in-None : goal.returns-in-None
 returns-in-None c = plain_at_end c.args.s.now c.args.ctx c.args.at c.in-None.ensures.0
 
-pub returns-then-safe_stands : goal.returns-then-safe_stands
-returns-then-safe_stands c =
-    (colon_read c.args.ctx c.in-Some.ensures c.if-c-eq58.true ∙ sym c.safe_stands.ensures ∙ c.if-safe_stands.true, reads_code c.in-Some.ensures)
+pub returns-then-is_safe_at : goal.returns-then-is_safe_at
+returns-then-is_safe_at c =
+    (colon_read c.args.ctx c.in-Some.ensures c.if-c-eq58.true ∙ sym c.is_safe_at.ensures ∙ c.if-is_safe_at.true, reads_code c.in-Some.ensures)
 
 pub returns-then-c-eq58 : goal.returns-then-c-eq58
-returns-then-c-eq58 c = colon_read c.args.ctx c.in-Some.ensures c.if-c-eq58.true ∙ sym c.safe_stands.ensures ∙ c.if-safe_stands.false
+returns-then-c-eq58 c = colon_read c.args.ctx c.in-Some.ensures c.if-c-eq58.true ∙ sym c.is_safe_at.ensures ∙ c.if-is_safe_at.false
 
 pub returns-then-after_char : goal.returns-then-after_char
 returns-then-after_char c =
-    (hash_read c.args.ctx c.in-Some.ensures c.if-c-eq35.true ∙ c.requires.look_behind ∙ c.if-after_char.true, reads_code c.in-Some.ensures)
+    (hash_read c.args.ctx c.in-Some.ensures c.if-c-eq35.true ∙ c.requires.lookbehind ∙ c.if-after_char.true, reads_code c.in-Some.ensures)
 
 pub returns-then-c-eq35 : goal.returns-then-c-eq35
-returns-then-c-eq35 c = hash_read c.args.ctx c.in-Some.ensures c.if-c-eq35.true ∙ c.requires.look_behind ∙ c.if-after_char.false
+returns-then-c-eq35 c = hash_read c.args.ctx c.in-Some.ensures c.if-c-eq35.true ∙ c.requires.lookbehind ∙ c.if-after_char.false
 
 pub returns-then-is_plain_safe : goal.returns-then-is_plain_safe
 returns-then-is_plain_safe c =

@@ -6,13 +6,13 @@ use Rattle.yf_plain.proofs.plain.plain_first.Goals as goal
 pub returns-in-None : goal.returns-in-None
 returns-in-None c = first_at_end c.args.s.now c.args.ctx c.args.at c.in-None.ensures.0
 
-pub returns-then-safe_stands : goal.returns-then-safe_stands
-returns-then-safe_stands c =
-    (sign_read c.args.ctx c.in-Some.ensures (sym c.is_sign.ensures ∙ c.if-is_sign.true) ∙ sym c.safe_stands.ensures ∙ c.if-safe_stands.true, reads_code c.in-Some.ensures)
+pub returns-then-is_safe_at : goal.returns-then-is_safe_at
+returns-then-is_safe_at c =
+    (sign_read c.args.ctx c.in-Some.ensures (sym c.is_sign.ensures ∙ c.if-is_sign.true) ∙ sym c.is_safe_at.ensures ∙ c.if-is_safe_at.true, reads_code c.in-Some.ensures)
 
 pub returns-then-is_sign : goal.returns-then-is_sign
 returns-then-is_sign c =
-    sign_read c.args.ctx c.in-Some.ensures (sym c.is_sign.ensures ∙ c.if-is_sign.true) ∙ sym c.safe_stands.ensures ∙ c.if-safe_stands.false
+    sign_read c.args.ctx c.in-Some.ensures (sym c.is_sign.ensures ∙ c.if-is_sign.true) ∙ sym c.is_safe_at.ensures ∙ c.if-is_safe_at.false
 
 pub returns-then-is_indicator : goal.returns-then-is_indicator
 returns-then-is_indicator c =

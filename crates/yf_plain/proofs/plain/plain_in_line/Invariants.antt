@@ -9,7 +9,7 @@ use Rattle.yf_plain.proofs.plain.plain_in_line.Given as goal
 abbrev pub invariant-items : goal.invariant-items
 invariant-items l = record {
   so_far : (x : List ℕ) × Chain (PlainItem l.s l.ctx) l.at l.end x;
-  behind : is_ns_char (before l.s l.end) ≡ true;
+  follows : is_ns_char (before l.s l.end) ≡ true;
   boundary : IsCharBoundary l.s l.end;
   order : l.at ≤ l.end;
 }

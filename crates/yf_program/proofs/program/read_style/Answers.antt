@@ -2,7 +2,7 @@ use Rattle.std.proofs.Common.{◌≡◌, ◌≤◌, ◌∙◌, List, ℕ, inl, l
 use Rattle.std.specs.Str.{IsUtf8}
 use Rattle.yf_program.proofs.ProgramLemmas.{text_refused}
 use Rattle.yf_rules.specs.declared.run.TheConstants.{INPUT_LIMIT}
-use Rattle.yf_rules.specs.Run.{Gave}
+use Rattle.yf_rules.specs.Runs.Run.{Gave}
 use Rattle.yf_program.proofs.program.read_style.Goals as goal
 
 pub returns-in-Err : goal.returns-in-Err

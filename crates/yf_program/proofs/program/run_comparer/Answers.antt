@@ -1,5 +1,5 @@
 use Rattle.std.proofs.Common.{List, ℕ, inr, subst, sym}
-use Rattle.yf_rules.specs.Run.{Keeps}
+use Rattle.yf_rules.specs.Runs.Run.{Keeps}
 use Rattle.yf_program.proofs.program.run_comparer.Goals as goal
 
 pub returns : goal.returns

@@ -1,6 +1,6 @@
 use Rattle.std.proofs.Common.{List, ℕ, inr, subst, sym}
-use Rattle.yf_rules.specs.Diffed.{RefusedDiff}
-use Rattle.yf_rules.specs.Run.{Keeps}
+use Rattle.yf_rules.specs.Runs.Diffed.{RefusedDiff}
+use Rattle.yf_rules.specs.Runs.Run.{Keeps}
 use Rattle.yf_program.proofs.ProgramLemmas.{no_diff}
 use Rattle.yf_program.proofs.program.run_differ.Goals as goal
 

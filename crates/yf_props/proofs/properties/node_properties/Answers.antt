@@ -5,5 +5,5 @@ use Rattle.yf_props.proofs.properties.node_properties.Goals as goal
 
 pub returns-clause-reads : goal.returns-clause-reads
 returns-clause-reads c =
-    let none = c.sign_stands.ensures c.if-sign_stands.false in
+    let none = c.is_property_at.ensures c.if-is_property_at.false in
     no_properties (no_anchor_here none.0) (no_mark none.1)

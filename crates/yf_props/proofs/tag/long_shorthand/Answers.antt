@@ -9,7 +9,7 @@ returns-in-Some-clause-reads c =
     let t = c.args.s.now in
     let i = c.args.at in
     let m = c.skip_while-name_end.ensures.chars in
-    let d = long_chosen t i c.skip_while-name_end.result m.0 m.1 c.skip_while-name_end.ensures.all c.requires.char c.if-stands.ensures.cases.char c.in-Some.ensures.reads in
+    let d = long_chosen t i c.skip_while-name_end.result m.0 m.1 c.skip_while-name_end.ensures.all c.requires.char c.if-is_char_at.ensures.cases.char c.in-Some.ensures.reads in
     subst (λ v. Chosen (ShorthandTag t i) c.in-Some.part.end v) (sym c.in-Some.ensures.value) d
 
 pub returns-in-None-clause-reads : goal.returns-in-None-clause-reads
@@ -20,4 +20,4 @@ returns-in-None-clause-reads c =
 pub returns-clause-reads : goal.returns-clause-reads
 returns-clause-reads c =
     let m = c.skip_while-name_end.ensures.chars in
-    no_long_mark c.args.s.now c.args.at c.skip_while-name_end.result m.0 m.1 c.skip_while-name_end.ensures.all c.if-stands.ensures.cases
+    no_long_mark c.args.s.now c.args.at c.skip_while-name_end.result m.0 m.1 c.skip_while-name_end.ensures.all c.if-is_char_at.ensures.cases

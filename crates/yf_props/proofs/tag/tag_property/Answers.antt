@@ -15,7 +15,7 @@ returns-in-Some-shorthand-clause-reads c = shorthand_tag_chosen c.in-None.ensure
 pub returns-in-None-shorthand-clause-reads : goal.returns-in-None-shorthand-clause-reads
 returns-in-None-shorthand-clause-reads c =
     let n = c.in-None-shorthand.ensures.reads in
-    non_specific_chosen c.if-stands.ensures.cases.char c.in-None.ensures.reads n.0 n.1
+    non_specific_chosen c.if-is_char_at.ensures.cases.char c.in-None.ensures.reads n.0 n.1
 
 pub returns-clause-reads : goal.returns-clause-reads
-returns-clause-reads c = no_mark c.if-stands.ensures.cases
+returns-clause-reads c = no_mark c.if-is_char_at.ensures.cases

@@ -9,13 +9,13 @@ use Rattle.yf_quoted.proofs.double.double_body.Goals as goal
 pub returns-in-None-clause-reads : goal.returns-in-None-clause-reads
 returns-in-None-clause-reads c = no_gap_body (words_read c.chars.invariant.read c.words_end-word_end.ensures.reads c.in_ok-push_if_filled.ensures.written c.range.ensures.value) c.in-None.ensures.reads
 
-pub returns-then-stands-clause-reads : goal.returns-then-stands-clause-reads
-returns-then-stands-clause-reads c =
-    rw c.new.ensures (closed (words_read c.chars.invariant.read c.words_end-word_end.ensures.reads c.in_ok-push_if_filled.ensures.written c.range.ensures.value) c.in-Some.ensures.reads c.if-stands.ensures.cases.char c.in_ok-push_gap.ensures)
+pub returns-then-is_char_at-clause-reads : goal.returns-then-is_char_at-clause-reads
+returns-then-is_char_at-clause-reads c =
+    rw c.new.ensures (closed (words_read c.chars.invariant.read c.words_end-word_end.ensures.reads c.in_ok-push_if_filled.ensures.written c.range.ensures.value) c.in-Some.ensures.reads c.if-is_char_at.ensures.cases.char c.in_ok-push_gap.ensures)
 
 pub returns-in-None-double_char-clause-reads : goal.returns-in-None-double_char-clause-reads
 returns-in-None-double_char-clause-reads c =
-    no_char_body (words_read c.chars.invariant.read c.words_end-word_end.ensures.reads c.in_ok-push_if_filled.ensures.written c.range.ensures.value) c.in-Some.ensures.reads c.if-stands.ensures.cases c.in-None-double_char.ensures.reads
+    no_char_body (words_read c.chars.invariant.read c.words_end-word_end.ensures.reads c.in_ok-push_if_filled.ensures.written c.range.ensures.value) c.in-Some.ensures.reads c.if-is_char_at.ensures.cases c.in-None-double_char.ensures.reads
 
 pub chars-init : goal.chars-init
 chars-init c = record { read = nothing_yet c.args.at c.new-text.ensures.bytes c.new-bad.ensures; boundary = c.requires; order = omega arith; place = rw c.new-bad.ensures (All-nil (IsCharBoundary c.args.s.now)) }

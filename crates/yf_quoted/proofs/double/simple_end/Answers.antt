@@ -7,8 +7,8 @@ use Rattle.yf_quoted.proofs.double.simple_end.Goals as goal
 pub chars-init : goal.chars-init
 chars-init c = record { read = (_, done); boundary = c.requires; order = omega arith }
 
-pub returns-then-stands-clause-reads : goal.returns-then-stands-clause-reads
-returns-then-stands-clause-reads c = (_, chain_append c.chars.invariant.read.1 c.ordinary_run-run_end.ensures.reads.1)
+pub returns-then-is_char_at-clause-reads : goal.returns-then-is_char_at-clause-reads
+returns-then-is_char_at-clause-reads c = (_, chain_append c.chars.invariant.read.1 c.ordinary_run-run_end.ensures.reads.1)
 
 pub chars-preserved-in-Some : goal.chars-preserved-in-Some
 chars-preserved-in-Some c = record {

@@ -5,9 +5,9 @@ use Rattle.yf_quoted.proofs.own.own_run.Goals as goal
 pub chars-init : goal.chars-init
 chars-init c = record { run = no_run c.args.text.now c.args.at; boundary = c.requires; order = omega arith }
 
-pub chars-preserved-then-common_stands : goal.chars-preserved-then-common_stands
-chars-preserved-then-common_stands c =
-    let o = c.common_stands.ensures c.if-common_stands.true in
+pub chars-preserved-then-is_common_at : goal.chars-preserved-then-is_common_at
+chars-preserved-then-is_common_at c =
+    let o = c.is_common_at.ensures c.if-is_common_at.true in
     record {
       run = run_more c.utf8.text c.chars.invariant.boundary c.chars.invariant.run o;
       boundary = o.reads.boundary;

@@ -23,7 +23,7 @@ loop-end-init c = record { read = (_, done); boundary = c.requires; order = omeg
 
 pub loop-end-preserved : goal.loop-end-preserved
 loop-end-preserved c =
-    let o = c.ordinary_stands.ensures c.loop-end-test.true in
+    let o = c.is_simple_at.ensures c.loop-end-test.true in
     record {
       read = (_, chain_more c.loop-end.invariant.read.1 (simply o));
       boundary = o.reads.boundary;

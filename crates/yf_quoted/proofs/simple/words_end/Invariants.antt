@@ -12,7 +12,7 @@ invariant-chars l = record {
   boundary : IsCharBoundary l.s l.end;
   next : IsCharBoundary l.s l.next;
   order : l.at ≤ l.end;
-  behind : l.end ≤ l.next;
+  follows : l.end ≤ l.next;
 }
 
 abbrev pub decreases-chars : goal.decreases-chars

@@ -23,18 +23,18 @@ pub returns-in-None-clause-reads : goal.returns-in-None-clause-reads
 returns-in-None-clause-reads c =
     cut_read c.cut.result [] c.chars.invariant.read (no_gap_on (no_single_of_plain c.in-None.ensures.reads)) (sym (append-nil (string_bytes c.chars.text))) c.cut.ensures
 
-pub returns-then-stands-clause-reads : goal.returns-then-stands-clause-reads
-returns-then-stands-clause-reads c =
+pub returns-then-is_char_at-clause-reads : goal.returns-then-is_char_at-clause-reads
+returns-then-is_char_at-clause-reads c =
     let gap = single_of_plain c.utf8.s c.in-Some.ensures.boundary.0.0 c.in-Some.ensures.reads in
     rw c.new.ensures
-    (single_closed c.utf8.s c.chars.invariant.read gap c.if-stands.ensures.cases.char c.in-None-single_char.ensures.reads c.in_ok-push_gap.ensures)
+    (single_closed c.utf8.s c.chars.invariant.read gap c.if-is_char_at.ensures.cases.char c.in-None-single_char.ensures.reads c.in_ok-push_gap.ensures)
 
 pub returns-in-None-single_char-clause-reads : goal.returns-in-None-single_char-clause-reads
 returns-in-None-single_char-clause-reads c =
     let g = c.in-Some.gap in
     let gap = single_of_plain c.utf8.s c.in-Some.ensures.boundary.0.0 c.in-Some.ensures.reads in
     cut_read c.cut-in-None-single_char.result (gap_bytes c.args.s.now c.chars.end g.blank_end g.space g.feeds) c.chars.invariant.read
-    (no_char_on gap c.if-stands.ensures.cases c.in-None-single_char.ensures.reads) c.in_ok-push_gap.ensures c.cut-in-None-single_char.ensures
+    (no_char_on gap c.if-is_char_at.ensures.cases c.in-None-single_char.ensures.reads) c.in_ok-push_gap.ensures c.cut-in-None-single_char.ensures
 
 pub chars-preserved : goal.chars-preserved
 chars-preserved c =

@@ -2,12 +2,12 @@ use Rattle.std.proofs.Common.{sym, ◌∙◌}
 use Rattle.yf_quoted.proofs.SingleReadLemmas.{no_single_end, no_single_other, pair_char, half_char, own_char}
 use Rattle.yf_quoted.proofs.single.single_char.Goals as goal
 
-pub returns-then-stands-clause-reads : goal.returns-then-stands-clause-reads
-returns-then-stands-clause-reads c =
-    pair_char c.utf8.s c.in-Some.ensures c.if-c-eq39.true c.if-stands.ensures.cases.char
+pub returns-then-is_char_at-clause-reads : goal.returns-then-is_char_at-clause-reads
+returns-then-is_char_at-clause-reads c =
+    pair_char c.utf8.s c.in-Some.ensures c.if-c-eq39.true c.if-is_char_at.ensures.cases.char
 
 pub returns-then-c-eq39-clause-reads : goal.returns-then-c-eq39-clause-reads
-returns-then-c-eq39-clause-reads c = half_char c.in-Some.ensures c.if-c-eq39.true c.if-stands.ensures.cases
+returns-then-c-eq39-clause-reads c = half_char c.in-Some.ensures c.if-c-eq39.true c.if-is_char_at.ensures.cases
 
 pub returns-then-is_forbidden_at-clause-reads : goal.returns-then-is_forbidden_at-clause-reads
 returns-then-is_forbidden_at-clause-reads c =

@@ -11,8 +11,8 @@ runs-init c = record { written = refl; grown = grown_by [] (sym (append-nil (str
 pub returns-in-None-clause-written : goal.returns-in-None-clause-written
 returns-in-None-clause-written c = end_written c.args.text.now (string_bytes c.runs.out) c.in-None.ensures.1 c.runs.invariant.written
 
-pub runs-preserved-then-escape_stands : goal.runs-preserved-then-escape_stands
-runs-preserved-then-escape_stands c =
+pub runs-preserved-then-is_escape_at : goal.runs-preserved-then-is_escape_at
+runs-preserved-then-is_escape_at c =
     let one = c.in_ok-push_escaped-in-Some.ensures.spelled in
     record {
       written = char_written c.args.text.now (string_bytes c.runs.out) c.utf8.text c.runs.invariant.boundary c.in-Some.ensures c.runs.invariant.written one;

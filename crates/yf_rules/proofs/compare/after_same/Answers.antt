@@ -1,4 +1,4 @@
-use Rattle.yf_rules.proofs.CompareLemmas.{ends_before}
+use Rattle.yf_rules.proofs.Runs.CompareLemmas.{ends_before}
 use Rattle.yf_rules.proofs.compare.after_same.Goals as goal
 
 pub returns-in-None : goal.returns-in-None

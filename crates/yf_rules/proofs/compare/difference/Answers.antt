@@ -1,5 +1,5 @@
 use Rattle.std.proofs.Common.{subst}
-use Rattle.yf_rules.specs.Compare.DiffersFirst.{differs_first}
+use Rattle.yf_rules.specs.Runs.Compare.DiffersFirst.{differs_first}
 use Rattle.yf_lines.specs.FaultPlaces.{IsPlaceOf}
 use Rattle.yf_rules.proofs.compare.difference.Goals as goal
 

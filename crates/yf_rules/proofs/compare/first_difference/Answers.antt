@@ -1,4 +1,4 @@
-use Rattle.yf_rules.proofs.CompareLemmas.{at_start}
+use Rattle.yf_rules.proofs.Runs.CompareLemmas.{at_start}
 use Rattle.yf_rules.proofs.compare.first_difference.Goals as goal
 
 pub loop-next-init : goal.loop-next-init

@@ -1,5 +1,5 @@
 use Rattle.std.proofs.Common.{◌-◌, length}
-use Rattle.yf_rules.specs.Compare.{SameUpTo}
+use Rattle.yf_rules.specs.Runs.Compare.{SameUpTo}
 use Rattle.yf_rules.proofs.compare.first_difference.Given as goal
 
 abbrev pub invariant-loop-next : goal.invariant-loop-next

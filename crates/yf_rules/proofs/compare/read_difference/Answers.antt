@@ -1,10 +1,10 @@
 use Rattle.std.proofs.Common.{◌≡◌, ◌≤◌, ◌∙◌, List, ℕ, length, rules, subst, sym}
 use Rattle.std.proofs.lemmas.Result.{IfErr-weaker}
 use Rattle.std.specs.Str.{IsUtf8}
-use Rattle.yf_rules.specs.Run.{Gave}
+use Rattle.yf_rules.specs.Runs.Run.{Gave}
 use Rattle.yf_rules.specs.declared.run.TheConstants.{INPUT_LIMIT}
-use Rattle.yf_rules.proofs.CompareLemmas.{difference_holds}
-use Rattle.yf_rules.proofs.FormattedLemmas.{refused_text}
+use Rattle.yf_rules.proofs.Runs.CompareLemmas.{difference_holds}
+use Rattle.yf_rules.proofs.Runs.FormattedLemmas.{refused_text}
 use Rattle.yf_rules.proofs.compare.read_difference.Goals as goal
 
 pub returns-clause-difference : goal.returns-clause-difference

@@ -1,6 +1,6 @@
 use Rattle.std.proofs.Common.{subst}
-use Rattle.yf_rules.proofs.CompareLemmas.{same_is_clean, same_told}
-use Rattle.yf_rules.specs.Compare.{Difference}
+use Rattle.yf_rules.proofs.Runs.CompareLemmas.{same_is_clean, same_told}
+use Rattle.yf_rules.specs.Runs.Compare.{Difference}
 use Rattle.yf_rules.proofs.compare.run_fmt_check.Goals as goal
 
 pub returns-in-None-clause-compared : goal.returns-in-None-clause-compared

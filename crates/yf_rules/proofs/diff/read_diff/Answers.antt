@@ -1,10 +1,10 @@
 use Rattle.std.proofs.Common.{◌≡◌, ◌≤◌, ◌∙◌, List, ℕ, length, rules, subst, sym}
 use Rattle.std.proofs.lemmas.Result.{IfErr-weaker}
 use Rattle.std.specs.Str.{IsUtf8}
-use Rattle.yf_rules.specs.Run.{Gave}
+use Rattle.yf_rules.specs.Runs.Run.{Gave}
 use Rattle.yf_rules.specs.declared.run.TheConstants.{INPUT_LIMIT}
-use Rattle.yf_rules.proofs.DiffLemmas.{diff_holds}
-use Rattle.yf_rules.proofs.FormattedLemmas.{refused_text}
+use Rattle.yf_rules.proofs.Runs.DiffLemmas.{diff_holds}
+use Rattle.yf_rules.proofs.Runs.FormattedLemmas.{refused_text}
 use Rattle.yf_rules.proofs.diff.read_diff.Goals as goal
 
 pub returns-clause-diff : goal.returns-clause-diff

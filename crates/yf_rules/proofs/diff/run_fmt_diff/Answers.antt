@@ -2,7 +2,7 @@ use Rattle.std.proofs.Common.{◌≡◌, ◌∙◌, [], length, rules, sym}
 use Rattle.std.proofs.lemmas.Bool.{eqb-true}
 use Rattle.std.proofs.lemmas.List.{nil_from_length}
 use Rattle.std.specs.Prelude.{vec_len}
-use Rattle.yf_rules.proofs.DiffLemmas.{nothing_is_clean, nothing_told}
+use Rattle.yf_rules.proofs.Runs.DiffLemmas.{nothing_is_clean, nothing_told}
 use Rattle.yf_rules.proofs.diff.run_fmt_diff.Goals as goal
 
 pub returns-then-is_empty-clause-diffed : goal.returns-then-is_empty-clause-diffed

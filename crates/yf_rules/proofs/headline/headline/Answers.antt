@@ -3,7 +3,7 @@ use Rattle.yf_stream.proofs.HasReading.{well_formed_texts_have_readings}
 use Rattle.yf_stream.proofs.LawsHold.{read_texts_have_no_fault, readings_are_one}
 use Rattle.yf_standard.proofs.AcceptanceHolds.{faults_tell_of_the_standard, standard_streams_mean_one, standard_texts_are_read}
 use Rattle.yf_standard.proofs.LawsHold.{read_texts_are_standard}
-use Rattle.yf_rules.proofs.AllRulesLemmas.{rules_are_listed}
+use Rattle.yf_rules.proofs.Findings.AllRulesLemmas.{rules_are_listed}
 use Rattle.yf_rules.proofs.HeadlineHolds.{formatted_texts_are_clean, refused_texts_have_no_reading, standard_texts_are_formatted}
 use Rattle.yf_rules.proofs.headline.headline.Goals as goal
 

@@ -2,8 +2,8 @@ use Rattle.std.proofs.Common.{◌≡◌, IfErr, rules, sym, subst}
 use Rattle.std.proofs.lemmas.Result.{IfErr-weaker}
 use Rattle.yf_lines.specs.declared.fault.Fault.TheVariants.{Memory}
 use Rattle.yf_stream.specs.StreamReader.{StreamFault, for_memory}
-use Rattle.yf_stream.proofs.FaultsPlaced.{faults_are_placed}
-use Rattle.yf_rules.proofs.FindingLemmas.{found_text, nested_same}
+use Rattle.yf_stream.proofs.Offsets.FaultsPlaced.{faults_are_placed}
+use Rattle.yf_rules.proofs.Findings.FindingLemmas.{found_text, nested_same}
 use Rattle.yf_rules.proofs.run.findings_in.Goals as goal
 
 pub returns-clause-found : goal.returns-clause-found

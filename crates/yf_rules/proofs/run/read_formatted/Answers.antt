@@ -2,9 +2,9 @@ use Rattle.std.proofs.Common.{◌≡◌, ◌≤◌, ◌∙◌, List, ℕ, length
 use Rattle.std.proofs.lemmas.Result.{IfErr-weaker}
 use Rattle.std.specs.Prelude.{string_bytes}
 use Rattle.std.specs.Str.{IsUtf8}
-use Rattle.yf_rules.specs.Run.{Gave}
+use Rattle.yf_rules.specs.Runs.Run.{Gave}
 use Rattle.yf_rules.specs.declared.run.TheConstants.{INPUT_LIMIT}
-use Rattle.yf_rules.proofs.FormattedLemmas.{refused_text}
+use Rattle.yf_rules.proofs.Runs.FormattedLemmas.{refused_text}
 use Rattle.yf_rules.proofs.HeadlineHolds.{rendered_holds}
 use Rattle.yf_rules.proofs.run.read_formatted.Goals as goal
 

@@ -1,7 +1,7 @@
 use Rattle.std.proofs.Common.{◌≡◌, ◌≤◌, ◌∙◌, List, ℕ, length, rules, subst, sym}
 use Rattle.std.specs.Str.{IsUtf8}
 use Rattle.yf_rules.specs.declared.run.TheConstants.{INPUT_LIMIT}
-use Rattle.yf_rules.proofs.FindingLemmas.{found_in, wrote_same, broke_same, any_same}
+use Rattle.yf_rules.proofs.Findings.FindingLemmas.{found_in, wrote_same, broke_same, any_same}
 use Rattle.yf_rules.proofs.run.run_check.Goals as goal
 
 pub returns-in-Ok-write_findings-clause-findings : goal.returns-in-Ok-write_findings-clause-findings

@@ -2,9 +2,9 @@ use Rattle.std.proofs.Common.{◌≡◌, ◌≤◌, ◌∙◌, IfErr, List, ℕ,
 use Rattle.std.proofs.lemmas.Result.{IfErr-weaker}
 use Rattle.std.specs.Str.{IsUtf8}
 use Rattle.yf_stream.specs.StreamReader.{StreamFault}
-use Rattle.yf_rules.specs.Run.{Gave}
+use Rattle.yf_rules.specs.Runs.Run.{Gave}
 use Rattle.yf_rules.specs.declared.run.TheConstants.{INPUT_LIMIT}
-use Rattle.yf_rules.proofs.FormattedLemmas.{run_refused}
+use Rattle.yf_rules.proofs.Runs.FormattedLemmas.{run_refused}
 use Rattle.yf_rules.proofs.run.run_events.Goals as goal
 
 pub returns-in_err-reading-clause-refusals : goal.returns-in_err-reading-clause-refusals

@@ -1,5 +1,5 @@
 use Rattle.std.proofs.Common.{◌∙◌}
-use Rattle.yf_rules.proofs.FormattedLemmas.{broke_formatted, wrote_formatted}
+use Rattle.yf_rules.proofs.Runs.FormattedLemmas.{broke_formatted, wrote_formatted}
 use Rattle.yf_rules.proofs.run.run_fmt.Goals as goal
 
 pub returns-clause-formatted : goal.returns-clause-formatted

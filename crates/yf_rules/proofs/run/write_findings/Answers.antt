@@ -1,7 +1,7 @@
 use Rattle.std.proofs.Common.{◌≡◌, [], refl, drop, drop_of_length-le}
 use Rattle.std.proofs.KnownBytes.{Appends-nil}
 use Rattle.yf_lines.proofs.OutputLemmas.{progress_done, progress_part, progress_part_broke, writes_refused}
-use Rattle.yf_rules.proofs.FindingLemmas.{next_finding}
+use Rattle.yf_rules.proofs.Findings.FindingLemmas.{next_finding}
 use Rattle.yf_rules.proofs.run.write_findings.Goals as goal
 
 pub loop-finding-init : goal.loop-finding-init

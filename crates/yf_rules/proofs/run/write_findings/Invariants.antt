@@ -1,7 +1,7 @@
 -- What is left of the findings is what is still to be written.
 use Rattle.std.proofs.Common.{drop}
 use Rattle.yf_lines.proofs.OutputLemmas.{Progress}
-use Rattle.yf_rules.specs.Run.{findings_text}
+use Rattle.yf_rules.specs.Runs.Run.{findings_text}
 use Rattle.yf_rules.proofs.run.write_findings.Given as goal
 
 abbrev pub invariant-loop-finding : goal.invariant-loop-finding

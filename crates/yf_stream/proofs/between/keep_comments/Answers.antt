@@ -1,5 +1,5 @@
 use Rattle.std.proofs.Common.{refl, sym, subst}
-use Rattle.yf_stream.proofs.PrefixLemmas.{KeptUpto, kept_first, kept_next}
+use Rattle.yf_stream.proofs.Reader.PrefixLemmas.{KeptUpto, kept_first, kept_next}
 use Rattle.yf_stream.proofs.between.keep_comments.Goals as goal
 
 pub loop-comment-init : goal.loop-comment-init

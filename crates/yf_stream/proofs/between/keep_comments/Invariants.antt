@@ -1,6 +1,6 @@
 use Rattle.std.proofs.Common.{◌≡◌, map, drop}
 use Rattle.yf_comments.specs.Comment.{comment_value}
-use Rattle.yf_stream.proofs.PrefixLemmas.{KeptUpto}
+use Rattle.yf_stream.proofs.Reader.PrefixLemmas.{KeptUpto}
 use Rattle.yf_stream.proofs.between.keep_comments.Given as goal
 
 abbrev pub invariant-loop-comment : goal.invariant-loop-comment

@@ -1,4 +1,4 @@
-use Rattle.yf_stream.proofs.FirstLemmas.{escapes_begin, escape_more, escapes_end}
+use Rattle.yf_stream.proofs.TagPass.FirstLemmas.{escapes_begin, escape_more, escapes_end}
 use Rattle.yf_stream.proofs.breaches.keep_escapes.Goals as goal
 
 pub loop-offset-init : goal.loop-offset-init

@@ -1,6 +1,6 @@
 use Rattle.std.proofs.Common.{not, sym, ap, ◌∙◌}
 use Rattle.yf_stream.specs.WellFormed.{version_of}
-use Rattle.yf_stream.proofs.DeclaringLemmas.{named_version}
+use Rattle.yf_stream.proofs.TagPass.DeclaringLemmas.{named_version}
 use Rattle.yf_stream.proofs.declarations.declare.Goals as goal
 
 pub returns-in-Some-clause-found : goal.returns-in-Some-clause-found

@@ -1,6 +1,6 @@
 use Rattle.std.proofs.Common.{length, refl}
 use Rattle.std.proofs.lemmas.Option.{slice_get_read}
-use Rattle.yf_stream.proofs.DeclaringLemmas.{declaring_begins, declaring_ends, declaring_on}
+use Rattle.yf_stream.proofs.TagPass.DeclaringLemmas.{declaring_begins, declaring_ends, declaring_on}
 use Rattle.yf_stream.proofs.declarations.declare_all.Goals as goal
 
 pub loop-directive-init : goal.loop-directive-init

@@ -1,4 +1,4 @@
-use Rattle.yf_stream.proofs.DeclaringLemmas.{Declaring}
+use Rattle.yf_stream.proofs.TagPass.DeclaringLemmas.{Declaring}
 use Rattle.yf_stream.proofs.declarations.declare_all.Given as goal
 
 abbrev pub invariant-loop-directive : goal.invariant-loop-directive

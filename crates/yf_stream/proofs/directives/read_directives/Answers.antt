@@ -1,5 +1,5 @@
 use Rattle.std.proofs.Common.{arith}
-use Rattle.yf_stream.proofs.DirectiveLineLemmas.{directives_at, directives_empty, directives_end, directives_read}
+use Rattle.yf_stream.proofs.Reader.DirectiveLineLemmas.{directives_at, directives_empty, directives_end, directives_read}
 use Rattle.yf_stream.proofs.directives.read_directives.Goals as goal
 
 pub directives-init : goal.directives-init

@@ -1,5 +1,5 @@
 use Rattle.std.proofs.lemmas.Result.{IfOk-weaker}
-use Rattle.yf_stream.proofs.DirectiveWords.{may_reserved}
+use Rattle.yf_stream.proofs.Reader.DirectiveWords.{may_reserved}
 use Rattle.yf_stream.proofs.directives.read_parameters.Goals as goal
 
 pub returns-in_default-clause-reads : goal.returns-in_default-clause-reads

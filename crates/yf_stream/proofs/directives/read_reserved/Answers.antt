@@ -5,10 +5,10 @@ use Rattle.yf_chars.specs.Text.{code}
 use Rattle.yf_chars.proofs.ChainLemmas.{chain_chosen, chain_more}
 use Rattle.yf_lines.specs.Basic.SeparateInLine.{by_whites}
 use Rattle.yf_props.proofs.NameLemmas.{run_of}
-use Rattle.yf_grammar.proofs.BlankRuns.{no_start_behind}
+use Rattle.yf_grammar.proofs.Ends.BlankRuns.{no_start_past}
 use Rattle.yf_stream.specs.Stream.ReservedParameter.{reserved_parameter}
-use Rattle.yf_stream.proofs.DirectiveWords.{no_word, no_word_at_hash, unseparated_word, word_after}
-use Rattle.yf_stream.proofs.OneDirective.{reserved_functional, run_behind}
+use Rattle.yf_stream.proofs.Reader.DirectiveWords.{no_word, no_word_at_hash, unseparated_word, word_after}
+use Rattle.yf_stream.proofs.Uniqueness.OneDirective.{reserved_functional, run_after}
 use Rattle.yf_stream.proofs.directives.read_reserved.Goals as goal
 
 pub words-init : goal.words-init
@@ -25,9 +25,9 @@ returns-then-start-end-clause-reads c =
     let read = c.words.invariant.read in
     record { words = read.0; read = chain_chosen (reserved_functional c.utf8.text) read.1 stuck; list = read.2 }
 
-pub returns-then-stands-clause-reads : goal.returns-then-stands-clause-reads
-returns-then-stands-clause-reads c =
-    let stuck = no_word_at_hash c.utf8.text c.skip_whites-start.ensures.whites.1 c.skip_whites-start.ensures.all c.if-stands.ensures.cases.char in
+pub returns-then-is_char_at-clause-reads : goal.returns-then-is_char_at-clause-reads
+returns-then-is_char_at-clause-reads c =
+    let stuck = no_word_at_hash c.utf8.text c.skip_whites-start.ensures.whites.1 c.skip_whites-start.ensures.all c.if-is_char_at.ensures.cases.char in
     let read = c.words.invariant.read in
     record { words = read.0; read = chain_chosen (reserved_functional c.utf8.text) read.1 stuck; list = read.2 }
 
@@ -47,8 +47,8 @@ words-preserved c =
     let run = run_of t is_ns_char word (omega (arith, c.skip_while-next.ensures.order, c.if-next-start.false)) c.skip_while-next.ensures.all in
     let separate = by_whites c.skip_whites-start.ensures.whites.1 (omega (arith, c.skip_whites-start.ensures.order, c.if-start-end.false)) in
     record {
-      read = (_, chain_more read.1 (reserved_parameter separate c.if-stands.ensures.cases run), word_after _ _ read.2 c.in_ok-push.ensures c.range.ensures.value);
-      within = λ s. no_start_behind c.utf8.text (run_behind c.utf8.text (λ d q. q) word run.some) s;
+      read = (_, chain_more read.1 (reserved_parameter separate c.if-is_char_at.ensures.cases run), word_after _ _ read.2 c.in_ok-push.ensures c.range.ensures.value);
+      within = λ s. no_start_past c.utf8.text (run_after c.utf8.text (λ d q. q) word run.some) s;
       place = record {
         boundary = c.skip_while-next.ensures.boundary;
         order = omega (arith, c.words.invariant.place.order, c.skip_whites-start.ensures.order, c.skip_while-next.ensures.order);

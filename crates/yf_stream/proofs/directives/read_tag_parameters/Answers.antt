@@ -2,8 +2,8 @@ use Rattle.std.proofs.Common.{◌≡◌, sym, ap, ◌∙◌, arith}
 use Rattle.yf_chars.specs.Class.{is_white}
 use Rattle.yf_chars.specs.Text.{code}
 use Rattle.yf_lines.specs.Basic.SeparateInLine.{by_whites}
-use Rattle.yf_stream.proofs.DirectiveWords.{two_words}
-use Rattle.yf_stream.proofs.OneTag.{no_gap_there, no_handle_there, no_prefix_there, tag_chosen, unseparated_tag}
+use Rattle.yf_stream.proofs.Reader.DirectiveWords.{two_words}
+use Rattle.yf_stream.proofs.Uniqueness.OneTag.{no_gap_there, no_handle_there, no_prefix_there, tag_chosen, unseparated_tag}
 use Rattle.yf_stream.proofs.directives.read_tag_parameters.Goals as goal
 
 pub returns-then-start-at-clause-reads : goal.returns-then-start-at-clause-reads

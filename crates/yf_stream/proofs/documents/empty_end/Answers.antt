@@ -1,7 +1,7 @@
 use Rattle.std.proofs.Common.{MatchOption, subst}
 use Rattle.yf_chars.specs.Chain.{Chosen, Stuck}
 use Rattle.yf_comments.specs.Comments.{LineEnd}
-use Rattle.yf_stream.proofs.Forward.{line_end_forward}
+use Rattle.yf_stream.proofs.Uniqueness.Forward.{line_end_forward}
 use Rattle.yf_stream.proofs.documents.empty_end.Goals as goal
 
 pub returns-then-node_ends-clause-order : goal.returns-then-node_ends-clause-order

@@ -1,6 +1,6 @@
 use Rattle.std.proofs.Common.{arith}
-use Rattle.yf_stream.proofs.LeafLemmas.{stops_at_end}
-use Rattle.yf_stream.proofs.LeafSearches.{begun_more}
+use Rattle.yf_stream.proofs.LeafPass.LeafLemmas.{stops_at_end}
+use Rattle.yf_stream.proofs.LeafPass.LeafSearches.{begun_more}
 use Rattle.yf_stream.proofs.leaf_lines.begun_before.Goals as goal
 
 pub events-preserved : goal.events-preserved

@@ -1,5 +1,5 @@
 use Rattle.std.proofs.Common.{Some, ap, refl, ◌∙◌}
-use Rattle.yf_stream.proofs.LeafSearches.{begun_if}
+use Rattle.yf_stream.proofs.LeafPass.LeafSearches.{begun_if}
 use Rattle.yf_stream.proofs.leaf_lines.has_begun.Goals as goal
 
 pub returns-in-Some : goal.returns-in-Some

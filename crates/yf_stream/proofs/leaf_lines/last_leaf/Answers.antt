@@ -1,6 +1,6 @@
 use Rattle.std.proofs.Common.{◌-◌, Some, sym, ap, ◌∙◌, arith}
-use Rattle.yf_stream.proofs.LeafLemmas.{past_nothing}
-use Rattle.yf_stream.proofs.LeafSearches.{leaf_found, none_more, none_yet, past_unleaved}
+use Rattle.yf_stream.proofs.LeafPass.LeafLemmas.{past_nothing}
+use Rattle.yf_stream.proofs.LeafPass.LeafSearches.{leaf_found, none_more, none_yet, past_unleaved}
 use Rattle.yf_stream.proofs.leaf_lines.last_leaf.Goals as goal
 
 pub events-init : goal.events-init

@@ -1,5 +1,5 @@
 use Rattle.std.proofs.Common.{◌≤◌}
-use Rattle.yf_stream.proofs.LeafSearches.{NoneFrom}
+use Rattle.yf_stream.proofs.LeafPass.LeafSearches.{NoneFrom}
 use Rattle.yf_stream.proofs.leaf_lines.last_leaf.Given as goal
 
 abbrev pub invariant-events : goal.invariant-events

@@ -1,6 +1,6 @@
 use Rattle.std.proofs.Common.{◌≡◌, Some, slice_get, subst, arith}
 use Rattle.yf_comments.specs.Comment.{comment_value}
-use Rattle.yf_stream.proofs.LeafLemmas.{all_noted, noted_nothing, noted_on}
+use Rattle.yf_stream.proofs.LeafPass.LeafLemmas.{all_noted, noted_nothing, noted_on}
 use Rattle.yf_stream.proofs.leaf_lines.on_leaf_lines.Goals as goal
 
 pub comments-init : goal.comments-init

@@ -1,5 +1,5 @@
 use Rattle.std.proofs.Common.{◌-◌, length}
-use Rattle.yf_stream.proofs.LeafLemmas.{NotedSoFar}
+use Rattle.yf_stream.proofs.LeafPass.LeafLemmas.{NotedSoFar}
 use Rattle.yf_stream.proofs.leaf_lines.on_leaf_lines.Given as goal
 
 abbrev pub invariant-comments : goal.invariant-comments

@@ -1,4 +1,4 @@
-use Rattle.yf_stream.proofs.PassSteps.{if_pushed, tag_added}
+use Rattle.yf_stream.proofs.TagPass.PassSteps.{if_pushed, tag_added}
 use Rattle.yf_stream.proofs.resolve.add_tag.Goals as goal
 
 pub returns : goal.returns

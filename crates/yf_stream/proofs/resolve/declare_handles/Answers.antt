@@ -1,5 +1,5 @@
 use Rattle.std.proofs.lemmas.Result.{IfOk-weaker}
-use Rattle.yf_stream.proofs.PassSteps.{declared_found, declared_handles, no_handles, nothing_found}
+use Rattle.yf_stream.proofs.TagPass.PassSteps.{declared_found, declared_handles, no_handles, nothing_found}
 use Rattle.yf_stream.proofs.resolve.declare_handles.Goals as goal
 
 pub returns-in-Some-clause-handles : goal.returns-in-Some-clause-handles

@@ -1,6 +1,6 @@
 use Rattle.std.proofs.Common.{sym, ap, ◌∙◌}
 use Rattle.yf_stream.specs.TagPass.{starts_document}
-use Rattle.yf_stream.proofs.PassSteps.{event_at, event_with}
+use Rattle.yf_stream.proofs.TagPass.PassSteps.{event_at, event_with}
 use Rattle.yf_stream.proofs.resolve.document_starts.Goals as goal
 
 pub returns : goal.returns

@@ -1,5 +1,5 @@
 use Rattle.std.proofs.Common.{◌-◌, arith}
-use Rattle.yf_stream.proofs.BareRuns.{bare_run}
+use Rattle.yf_stream.proofs.TagPass.BareRuns.{bare_run}
 use Rattle.yf_stream.proofs.resolve.pass_bare.Goals as goal
 
 pub returns-clause-passed : goal.returns-clause-passed

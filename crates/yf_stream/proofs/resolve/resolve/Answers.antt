@@ -1,14 +1,14 @@
 use Rattle.std.proofs.Common.{[], ap, subst, arith}
-use Rattle.yf_stream.specs.TagPass.{Finds, FirstOf, PassTags, stream_breaches}
+use Rattle.yf_stream.specs.TagPass.{FirstOfBoth, FirstOf, PassTags, stream_breaches}
 use Rattle.yf_stream.specs.WellFormed.{escape_breaches}
-use Rattle.yf_stream.proofs.FirstLemmas.{finds_as}
-use Rattle.yf_stream.proofs.PassLemmas.{resolving_document, resolving_ends, resolving_starts}
-use Rattle.yf_stream.proofs.PassSteps.{next_document}
+use Rattle.yf_stream.proofs.TagPass.FirstLemmas.{finds_as}
+use Rattle.yf_stream.proofs.TagPass.PassLemmas.{resolving_document, resolving_ends, resolving_starts}
+use Rattle.yf_stream.proofs.TagPass.PassSteps.{next_document}
 use Rattle.yf_stream.proofs.resolve.resolve.Goals as goal
 
 pub documents-init : goal.documents-init
 documents-init c = record {
-  resolving = resolving_starts (finds_as (ap escape_breaches c.as_slice.ensures) (subst (λ z. Finds z c.keep_escapes.new.first (escape_breaches c.as_slice.result.now)) (ap (λ z. z.first) c.requires.nothing) c.keep_escapes.ensures)) (ap (λ z. z.tags) c.requires.nothing) c.in_ok-at.ensures.resolves c.in_ok-at.ensures.next;
+  resolving = resolving_starts (finds_as (ap escape_breaches c.as_slice.ensures) (subst (λ z. FirstOfBoth z c.keep_escapes.new.first (escape_breaches c.as_slice.result.now)) (ap (λ z. z.first) c.requires.nothing) c.keep_escapes.ensures)) (ap (λ z. z.tags) c.requires.nothing) c.in_ok-at.ensures.resolves c.in_ok-at.ensures.next;
   later = omega arith;
   within = c.in_ok-at.ensures.end.1;
 }

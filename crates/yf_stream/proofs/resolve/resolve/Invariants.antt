@@ -1,5 +1,5 @@
 use Rattle.std.proofs.Common.{◌-◌, ◌≤◌, length}
-use Rattle.yf_stream.proofs.PassLemmas.{Resolving}
+use Rattle.yf_stream.proofs.TagPass.PassLemmas.{Resolving}
 use Rattle.yf_stream.proofs.resolve.resolve.Given as goal
 
 abbrev pub invariant-documents : goal.invariant-documents

@@ -1,7 +1,7 @@
 use Rattle.std.proofs.Common.{arith}
-use Rattle.yf_stream.proofs.BareRuns.{all_then}
-use Rattle.yf_stream.proofs.PassLemmas.{document_passed}
-use Rattle.yf_stream.proofs.PassSteps.{event_at, named_passed, none_starts, passing_step, starts_at}
+use Rattle.yf_stream.proofs.TagPass.BareRuns.{all_then}
+use Rattle.yf_stream.proofs.TagPass.PassLemmas.{document_passed}
+use Rattle.yf_stream.proofs.TagPass.PassSteps.{event_at, named_passed, none_starts, passing_step, starts_at}
 use Rattle.yf_stream.proofs.resolve.resolve_from.Goals as goal
 
 pub events-init : goal.events-init

@@ -2,11 +2,11 @@ use Rattle.std.proofs.Common.{◌≡◌, true, sym, ap, ◌∙◌, ⊎_elim}
 use Rattle.yf_props.specs.Props.{optional_tag_value, tag_value}
 use Rattle.yf_props.specs.Handles.{UnknownHandleOf}
 use Rattle.yf_lines.specs.declared.fault.Fault.TheVariants.{Memory, UnknownHandle as Unknown}
-use Rattle.yf_lines.specs.declared.place.Place.{Place}
+use Rattle.yf_lines.specs.declared.place.Position.{Position}
 use Rattle.yf_stream.specs.WellFormed.{breach_if, is_unknown, offset_or}
-use Rattle.yf_stream.specs.declared.breaches.Kind.TheVariants.{UnknownHandle}
-use Rattle.yf_stream.proofs.DeclaredLemmas.{known_by_text, offset_there, unknown_by_handle}
-use Rattle.yf_stream.proofs.FirstLemmas.{finds_as, finds_if}
+use Rattle.yf_stream.specs.declared.breaches.BreachKind.TheVariants.{UnknownHandle}
+use Rattle.yf_stream.proofs.TagPass.DeclaredLemmas.{known_by_text, offset_there, unknown_by_handle}
+use Rattle.yf_stream.proofs.TagPass.FirstLemmas.{finds_as, finds_if}
 use Rattle.yf_stream.proofs.resolve.resolve_tag.Goals as goal
 
 pub returns-in-Ok-clause-found : goal.returns-in-Ok-clause-found
@@ -16,7 +16,7 @@ returns-in-Ok-clause-found c =
 
 pub returns-in-Err-UnknownHandle-clause-found : goal.returns-in-Err-UnknownHandle-clause-found
 returns-in-Err-UnknownHandle-clause-found c =
-    let place : Place = record { line = 1; column = 1 } in
+    let place : Position = record { line = 1; column = 1 } in
     let fault = c.in-Err-UnknownHandle.field-0 in
     let ds = c.args.handles.now in
     let unknown : UnknownHandleOf ds (tag_value c.in-Some.tag) =

@@ -1,6 +1,6 @@
 use Rattle.std.proofs.Common.{sym, ap, ◌∙◌}
 use Rattle.yf_stream.specs.WellFormed.{start_or}
-use Rattle.yf_stream.proofs.PassSteps.{event_with, span_at}
+use Rattle.yf_stream.proofs.TagPass.PassSteps.{event_with, span_at}
 use Rattle.yf_stream.proofs.resolve.start_of.Goals as goal
 
 pub returns-in-Some : goal.returns-in-Some

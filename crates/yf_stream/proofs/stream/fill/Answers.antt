@@ -1,9 +1,9 @@
 use Rattle.std.proofs.Common.{IfSome, subst}
 use Rattle.std.proofs.lemmas.Result.{IfOk-weaker}
-use Rattle.yf_stream.specs.Drafts.{drafted}
+use Rattle.yf_stream.specs.StreamDrafts.{drafted}
 use Rattle.yf_stream.specs.MadeReadings.{NoBreach}
-use Rattle.yf_stream.proofs.DerivedFaults.{lists_derived, not_derived_refusal, shape_of}
-use Rattle.yf_stream.proofs.MadeReadings.{made_or, not_derived}
+use Rattle.yf_stream.proofs.Reader.DerivedFaults.{lists_derived, not_derived_refusal, shape_of}
+use Rattle.yf_stream.proofs.Reader.MadeReadings.{made_or, not_derived}
 use Rattle.yf_stream.proofs.stream.fill.Goals as goal
 
 pub returns-in-Some-clause-made : goal.returns-in-Some-clause-made

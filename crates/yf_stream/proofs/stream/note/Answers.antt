@@ -1,4 +1,4 @@
-use Rattle.yf_stream.proofs.BreachPlaces.{tag_for_each}
+use Rattle.yf_stream.proofs.Offsets.BreachPlaces.{tag_for_each}
 use Rattle.yf_stream.proofs.stream.note.Goals as goal
 
 pub returns-clause-refusal : goal.returns-clause-refusal

@@ -6,13 +6,13 @@ use Rattle.std.specs.Str.{IsCharBoundary}
 use Rattle.yf_events.specs.declared.document.Doc.{Doc}
 use Rattle.yf_stream.specs.RefusalPlaces.{DirectivesAt, DocumentsAt}
 use Rattle.yf_stream.specs.Stream.{only_comments}
-use Rattle.yf_stream.specs.Walk.{NextAt}
-use Rattle.yf_stream.proofs.NextSteps.{next_of, no_stream_read, reading_goes_on, spot_on, too_deep_there}
-use Rattle.yf_stream.proofs.CommentsSteps.{comments_begin, comments_go_on, stream_written}
-use Rattle.yf_stream.proofs.CommentsUpto.{comments_past_prefix}
-use Rattle.yf_stream.proofs.PartsSteps.{events_begin, events_go_on}
-use Rattle.yf_stream.proofs.PartsUpto.{events_past_prefix}
-use Rattle.yf_stream.proofs.StreamUpto.{reading_begins, reading_ends}
+use Rattle.yf_stream.specs.ReaderSteps.{NextAt}
+use Rattle.yf_stream.proofs.Reader.NextSteps.{next_of, no_stream_read, reading_goes_on, spot_on, too_deep_there}
+use Rattle.yf_stream.proofs.BlankNotes.CommentsSteps.{comments_begin, comments_go_on, stream_written}
+use Rattle.yf_stream.proofs.BlankNotes.CommentsUpto.{comments_past_prefix}
+use Rattle.yf_stream.proofs.BlankNotes.PartsSteps.{events_begin, events_go_on}
+use Rattle.yf_stream.proofs.BlankNotes.PartsUpto.{events_past_prefix}
+use Rattle.yf_stream.proofs.Reader.StreamUpto.{reading_begins, reading_ends}
 use Rattle.yf_stream.proofs.stream.read_documents.Goals as goal
 
 pub documents-init : goal.documents-init

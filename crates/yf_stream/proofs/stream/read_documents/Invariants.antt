@@ -1,7 +1,7 @@
 use Rattle.std.proofs.Common.{◌-◌, ◌≤◌, ◌^◌, length}
 use Rattle.std.specs.Str.{IsCharBoundary}
 use Rattle.yf_stream.specs.PartsPlaces.{PartsAt}
-use Rattle.yf_stream.proofs.CommentsSteps.{ReadSoFar}
+use Rattle.yf_stream.proofs.BlankNotes.CommentsSteps.{ReadSoFar}
 use Rattle.yf_stream.proofs.stream.read_documents.Given as goal
 
 abbrev pub invariant-documents : goal.invariant-documents

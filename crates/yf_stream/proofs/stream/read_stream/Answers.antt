@@ -1,20 +1,20 @@
 use Rattle.std.proofs.Common.{MatchOption, arith, subst, sym}
 use Rattle.yf_events.specs.Nested.{IsStream}
-use Rattle.yf_events.specs.Reading.{Fits, events_of}
+use Rattle.yf_events.specs.Reading.{ListsFit, events_of}
 use Rattle.yf_events.specs.declared.reading.TheConstants.{DEPTH}
 use Rattle.yf_stream.specs.DerivedStreams.{ListsDerived}
-use Rattle.yf_stream.specs.Drafts.{drafted, lists_of}
+use Rattle.yf_stream.specs.StreamDrafts.{drafted, lists_of}
 use Rattle.yf_stream.specs.RefusalPlaces.{RefusalAt}
 use Rattle.yf_stream.specs.StreamReader.{for_memory}
-use Rattle.yf_stream.proofs.DerivedFaults.{fault_derived, refusal_placed}
-use Rattle.yf_stream.proofs.DraftedReadings.{read_built}
-use Rattle.yf_stream.proofs.NestedStreams.{reading_nests}
+use Rattle.yf_stream.proofs.Reader.DerivedFaults.{fault_derived, refusal_placed}
+use Rattle.yf_stream.proofs.Offsets.DraftedReadings.{read_built}
+use Rattle.yf_stream.proofs.Offsets.NestedStreams.{reading_nests}
 use Rattle.yf_stream.proofs.stream.read_stream.Goals as goal
 
 pub built-requires-clause-fits : goal.built-requires-clause-fits
 built-requires-clause-fits c =
-    subst Fits (sym c.into_lists.ensures)
-    (subst (λ o. MatchOption o (Fits (lists_of c.fill.new.draft)) (λ refusal. RefusalAt c.args.text.now refusal)) c.in-Ok-None.field-0-is c.in-Ok-None.ensures.refusal)
+    subst ListsFit (sym c.into_lists.ensures)
+    (subst (λ o. MatchOption o (ListsFit (lists_of c.fill.new.draft)) (λ refusal. RefusalAt c.args.text.now refusal)) c.in-Ok-None.field-0-is c.in-Ok-None.ensures.refusal)
 
 pub built-requires-clause-nested : goal.built-requires-clause-nested
 built-requires-clause-nested c =
@@ -28,7 +28,7 @@ returns-in-Ok-None-clause-reads c =
 pub fault_at-requires : goal.fault_at-requires
 fault_at-requires c =
     refusal_placed c.args.text.now c.in-Ok-Some.refusal
-    (subst (λ o. MatchOption o (Fits (lists_of c.fill.new.draft)) (λ refusal. RefusalAt c.args.text.now refusal)) c.in-Ok-Some.field-0-is c.in-Ok-Some.ensures.refusal)
+    (subst (λ o. MatchOption o (ListsFit (lists_of c.fill.new.draft)) (λ refusal. RefusalAt c.args.text.now refusal)) c.in-Ok-Some.field-0-is c.in-Ok-Some.ensures.refusal)
     (subst (λ z. ListsDerived c.args.text.now (drafted c.fill.new.draft z)) c.in-Ok-Some.field-0-is (c.in-Ok-Some.ensures.reads (omega arith)))
 
 pub returns-in-Ok-Some-clause-reads : goal.returns-in-Ok-Some-clause-reads

@@ -3,10 +3,10 @@ use Rattle.std.specs.List.{list_any}
 use Rattle.std.specs.Prelude.{is_some}
 use Rattle.yf_comments.specs.Comment.{comment_value}
 use Rattle.yf_comments.specs.declared.comment.Comment.{Comment}
-use Rattle.yf_emit.specs.Kept.{is_within}
-use Rattle.yf_emit.specs.Searches.{TellsHalving}
-use Rattle.yf_emit.proofs.HalvingEnds.{tells_halving}
-use Rattle.yf_emit.proofs.StepLemmas.{by_found}
+use Rattle.yf_emit.specs.Nodes.OneLineFlows.{is_within}
+use Rattle.yf_emit.specs.Passes.Searches.{TellsHalving}
+use Rattle.yf_emit.proofs.Decide.HalvingEnds.{tells_halving}
+use Rattle.yf_emit.proofs.Measure.StepLemmas.{by_found}
 use Rattle.yf_emit.proofs.form.collection.has_comment.Goals as goal
 
 pub returns-in-Some-clause-has : goal.returns-in-Some-clause-has

@@ -1,7 +1,7 @@
 use Rattle.std.proofs.Common.{◌≡◌, ◌-◌, ◌<◌, ◌≤◌, false, length, map, nat_lt, true, ℕ}
 use Rattle.std.specs.List.Sorted.{IsNonDecreasingBy}
 use Rattle.std.specs.List.{AllWithin}
-use Rattle.yf_emit.specs.Halving.{Halves}
+use Rattle.yf_emit.specs.Passes.Halving.{Halves}
 use Rattle.yf_emit.proofs.form.comments_before.count_near.Given as goal
 
 abbrev pub invariant-loop-low : goal.invariant-loop-low
@@ -9,7 +9,7 @@ invariant-loop-low l = record {
   order : l.low ≤ l.high;
   within : l.high ≤ length l.comments;
   before : IsNonDecreasingBy (λ c. c.offset) l.comments → AllWithin (λ c. nat_lt c.offset l.offset ≡ true) l.comments 0 l.low;
-  behind : IsNonDecreasingBy (λ c. c.offset) l.comments → AllWithin (λ c. nat_lt c.offset l.offset ≡ false) l.comments l.high (length l.comments);
+  follows : IsNonDecreasingBy (λ c. c.offset) l.comments → AllWithin (λ c. nat_lt c.offset l.offset ≡ false) l.comments l.high (length l.comments);
   halved : length l.comments < l.near → (end : ℕ) → Halves (map (λ c. c.offset) l.comments) l.offset l.low l.high end
       → Halves (map (λ c. c.offset) l.comments) l.offset 0 (length l.comments) end;
 }

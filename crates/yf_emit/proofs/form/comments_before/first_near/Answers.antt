@@ -5,7 +5,7 @@ use Rattle.std.proofs.lemmas.List.{get_or_default}
 use Rattle.std.specs.List.{AllWithin}
 use Rattle.std.specs.List.Sorted.{IsNonDecreasingBy}
 use Rattle.yf_comments.specs.declared.comment.Comment.{Comment}
-use Rattle.yf_emit.proofs.HalvingEnds.{halved_behind_all, halved_found, halved_past}
+use Rattle.yf_emit.proofs.Decide.HalvingEnds.{halved_after_all, halved_found, halved_past}
 use Rattle.yf_emit.proofs.form.comments_before.first_near.Goals as goal
 
 is_outside : (from to offset : ℕ) → nat_lt offset from ≡ true → (nat_le from offset && nat_lt offset to) ≡ false
@@ -40,7 +40,7 @@ returns-then-comments-k-clause-ends c =
 
 pub returns-else-comments-k-clause-ends : goal.returns-else-comments-k-clause-ends
 returns-else-comments-k-clause-ends c =
-    halved_behind_all c.args.comments.now c.args.from c.args.to _ _ c.count_near-k.ensures.ends c.if-k-comments.true c.if-comments-k.false
+    halved_after_all c.args.comments.now c.args.from c.args.to _ _ c.count_near-k.ensures.ends c.if-k-comments.true c.if-comments-k.false
 
 pub returns-else-k-comments-clause-ends : goal.returns-else-k-comments-clause-ends
 returns-else-k-comments-clause-ends c = halved_past c.args.comments.now c.args.from c.args.to _ c.count_near-k.ensures.ends c.if-k-comments.false

@@ -1,6 +1,6 @@
 use Rattle.std.proofs.Common.{arith}
 use Rattle.std.proofs.lemmas.List.Sorted.{IsNonDecreasingBy-from_all_adjacent}
-use Rattle.yf_emit.proofs.HalvingLemmas.{rising_all, rising_first, rising_on}
+use Rattle.yf_emit.proofs.Decide.HalvingLemmas.{rising_all, rising_first, rising_on}
 use Rattle.yf_emit.proofs.form.comments_before.first_search.Goals as goal
 
 pub loop-k-init : goal.loop-k-init

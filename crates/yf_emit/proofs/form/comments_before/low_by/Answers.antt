@@ -1,5 +1,5 @@
 use Rattle.std.proofs.Common.{arith}
-use Rattle.yf_emit.proofs.HalvingLemmas.{all_before}
+use Rattle.yf_emit.proofs.Decide.HalvingLemmas.{all_before}
 use Rattle.yf_emit.proofs.form.comments_before.low_by.Goals as goal
 
 pub returns-then-comments-near-clause-before : goal.returns-then-comments-near-clause-before

@@ -1,9 +1,9 @@
 use Rattle.std.proofs.Common.{arith, reverse, rules, [], ◌∙◌}
 use Rattle.yf_events.specs.Event.{event_value}
-use Rattle.yf_emit.specs.Deciding.{given, state, pass}
-use Rattle.yf_emit.proofs.SearchLemmas.{begins_first, begins_next}
-use Rattle.yf_emit.proofs.RunLemmas.{steps_on, steps_long, at_end}
-use Rattle.yf_emit.proofs.StreamLemmas.{decides}
+use Rattle.yf_emit.specs.Passes.DecidePass.{given, state, pass}
+use Rattle.yf_emit.proofs.Decide.SearchLemmas.{begins_first, begins_next}
+use Rattle.yf_emit.proofs.Decide.RunLemmas.{steps_on, steps_long, at_end}
+use Rattle.yf_emit.proofs.Decide.StreamLemmas.{decides}
 use Rattle.yf_emit.proofs.form.decide.decide.Goals as goal
 
 pub loop-i-init : goal.loop-i-init

@@ -1,8 +1,8 @@
 use Rattle.std.proofs.Common.{◌≡◌, [], length, reverse}
 use Rattle.std.specs.Prelude.{drop}
 use Rattle.std.specs.List.Sorted.{IsNonDecreasingBy}
-use Rattle.yf_emit.specs.Deciding.{given, state, pass}
-use Rattle.yf_emit.specs.Halving.{MayBegin}
+use Rattle.yf_emit.specs.Passes.DecidePass.{given, state, pass}
+use Rattle.yf_emit.specs.Passes.Halving.{MayBegin}
 use Rattle.yf_emit.proofs.form.decide.decide.Given as goal
 
 abbrev pub invariant-loop-i : goal.invariant-loop-i

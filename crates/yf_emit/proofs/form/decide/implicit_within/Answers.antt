@@ -1,8 +1,8 @@
 use Rattle.std.proofs.Common.{◌∙◌, ap, get_or}
-use Rattle.yf_emit.specs.Forms.{no_form}
-use Rattle.yf_emit.specs.Normal.{setting_of}
+use Rattle.yf_emit.specs.NormalForms.Forms.{no_form}
+use Rattle.yf_emit.specs.NormalForms.Normal.{setting_of}
 use Rattle.yf_emit.specs.declared.form.decide.Form.{Form}
-use Rattle.yf_emit.proofs.FlagLemmas.{implicit_there}
+use Rattle.yf_emit.proofs.Decide.FlagLemmas.{implicit_there}
 use Rattle.yf_emit.proofs.form.decide.implicit_within.Goals as goal
 
 pub returns : goal.returns

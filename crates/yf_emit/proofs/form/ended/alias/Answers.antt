@@ -1,7 +1,7 @@
 use Rattle.std.proofs.Common.{◌≡◌, ap, refl, Some}
-use Rattle.yf_emit.specs.Measures.{width_if}
+use Rattle.yf_emit.specs.NormalForms.Measures.{width_if}
 use Rattle.std.specs.Prelude.{true, ◌∷◌}
-use Rattle.yf_emit.proofs.StepLemmas.{head_wide}
+use Rattle.yf_emit.proofs.Measure.StepLemmas.{head_wide}
 use Rattle.yf_emit.proofs.form.ended.alias.Goals as goal
 
 pub returns-clause-ended : goal.returns-clause-ended

@@ -1,9 +1,9 @@
 use Rattle.std.proofs.Common.{sym}
 use Rattle.yf_props.specs.Props.{props_value}
-use Rattle.yf_emit.specs.Measures.{is_one_line_style}
-use Rattle.yf_emit.specs.OneLine.{props_text, scalar_text}
-use Rattle.yf_emit.proofs.StepLemmas.{styled_wide}
-use Rattle.yf_emit.proofs.TreeTexts.{scalar_utf8}
+use Rattle.yf_emit.specs.NormalForms.Measures.{is_one_line_style}
+use Rattle.yf_emit.specs.Nodes.OneLine.{props_text, scalar_text}
+use Rattle.yf_emit.proofs.Measure.StepLemmas.{styled_wide}
+use Rattle.yf_emit.proofs.Texts.TreeTexts.{scalar_utf8}
 use Rattle.yf_emit.proofs.form.ended.width_in_style.Goals as goal
 
 pub returns-in-Some-clause-width : goal.returns-in-Some-clause-width

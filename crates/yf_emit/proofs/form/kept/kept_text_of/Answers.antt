@@ -1,6 +1,6 @@
 use Rattle.std.proofs.lemmas.Bool.{not-false, not-true}
-use Rattle.yf_emit.proofs.FlowTells.{flow_tells_none, flow_tells_some, text_none, text_some}
-use Rattle.yf_emit.proofs.KeptLemmas.{tells_none, tells_some}
+use Rattle.yf_emit.proofs.Texts.FlowTells.{flow_tells_none, flow_tells_some, text_none, text_some}
+use Rattle.yf_emit.proofs.Texts.KeptLemmas.{tells_none, tells_some}
 use Rattle.yf_emit.proofs.form.kept.kept_text_of.Goals as goal
 
 pub returns-then-not-measure : goal.returns-then-not-measure

@@ -1,5 +1,5 @@
 use Rattle.std.proofs.Common.{◌≤◌, ◌+◌, arith, length}
-use Rattle.yf_emit.proofs.OneLineRuns.{run_step, run_end, run_past}
+use Rattle.yf_emit.proofs.Texts.OneLineRuns.{run_step, run_end, run_past}
 use Rattle.yf_emit.proofs.form.kept.push_between.Goals as goal
 
 pub loop-k-preserved : goal.loop-k-preserved

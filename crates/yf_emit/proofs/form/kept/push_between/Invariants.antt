@@ -1,7 +1,7 @@
 use Rattle.std.proofs.Common.{◌≡◌, ◌++◌}
 use Rattle.std.specs.Prelude.{reverse}
 use Rattle.std.specs.String.{string_bytes}
-use Rattle.yf_emit.specs.OneLineRun.{between, run}
+use Rattle.yf_emit.specs.Passes.OneLinePass.{between, run}
 use Rattle.yf_emit.proofs.form.kept.push_between.Given as goal
 
 abbrev pub invariant-loop-k : goal.invariant-loop-k

@@ -1,7 +1,7 @@
 use Rattle.std.proofs.Common.{reverse, ap, ◌∙◌, ◌++◌}
 use Rattle.std.specs.String.{string_bytes}
-use Rattle.yf_emit.specs.OneLineRun.{between, run}
-use Rattle.yf_emit.proofs.OneLineRuns.{kept_adds}
+use Rattle.yf_emit.specs.Passes.OneLinePass.{between, run}
+use Rattle.yf_emit.proofs.Texts.OneLineRuns.{kept_adds}
 use Rattle.yf_emit.proofs.form.kept.push_kept.Goals as goal
 
 pub returns : goal.returns

@@ -1,5 +1,5 @@
 use Rattle.std.proofs.Common.{reverse}
-use Rattle.yf_emit.proofs.StepLemmas.{leaf_added}
+use Rattle.yf_emit.proofs.Measure.StepLemmas.{leaf_added}
 use Rattle.yf_emit.proofs.form.measure.add_leaf.Goals as goal
 
 pub returns : goal.returns

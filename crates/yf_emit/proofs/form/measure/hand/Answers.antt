@@ -1,5 +1,5 @@
 use Rattle.std.proofs.Common.{arith}
-use Rattle.yf_emit.proofs.StepLemmas.{handed_set}
+use Rattle.yf_emit.proofs.Measure.StepLemmas.{handed_set}
 use Rattle.yf_emit.proofs.form.measure.hand.Goals as goal
 
 pub returns-then-count-gt0 : goal.returns-then-count-gt0

@@ -1,8 +1,8 @@
 use Rattle.std.proofs.Common.{subst}
 use Rattle.std.proofs.lemmas.Result.{IfOk-weaker}
-use Rattle.yf_emit.specs.FoundInPass.{FoundInPass}
-use Rattle.yf_emit.specs.Normal.{setting_of}
-use Rattle.yf_emit.proofs.StepLemmas.{measured_in_pass}
+use Rattle.yf_emit.specs.Passes.FoundInPass.{FoundInPass}
+use Rattle.yf_emit.specs.NormalForms.Normal.{setting_of}
+use Rattle.yf_emit.proofs.Measure.StepLemmas.{measured_in_pass}
 use Rattle.yf_emit.proofs.form.measure.measure_all.Goals as goal
 
 pub returns : goal.returns

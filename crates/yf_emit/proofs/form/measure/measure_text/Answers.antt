@@ -1,9 +1,9 @@
 use Rattle.std.proofs.Common.{subst, sym}
 use Rattle.std.specs.List.Sorted.{IsNonDecreasingBy}
 use Rattle.yf_comments.specs.Comment.{CommentValue}
-use Rattle.yf_emit.specs.FoundInPass.{FoundInPass}
-use Rattle.yf_emit.specs.Measuring.{setting}
-use Rattle.yf_emit.proofs.OffsetLemmas.{same_order}
+use Rattle.yf_emit.specs.Passes.FoundInPass.{FoundInPass}
+use Rattle.yf_emit.specs.Passes.MeasurePass.{setting}
+use Rattle.yf_emit.proofs.Measure.OffsetLemmas.{same_order}
 use Rattle.yf_emit.proofs.form.measure.measure_text.Goals as goal
 
 pub returns : goal.returns

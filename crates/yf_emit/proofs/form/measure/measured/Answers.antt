@@ -1,8 +1,8 @@
 use Rattle.std.proofs.Common.{arith, get_or, map}
 use Rattle.std.specs.Prelude.{reverse}
 use Rattle.yf_comments.specs.Comment.{comment_value}
-use Rattle.yf_emit.specs.Measuring.{setting}
-use Rattle.yf_emit.proofs.StepLemmas.{at_last, no_place, runs_on, texts_on, there}
+use Rattle.yf_emit.specs.Passes.MeasurePass.{setting}
+use Rattle.yf_emit.proofs.Measure.StepLemmas.{at_last, no_place, runs_on, texts_on, there}
 use Rattle.yf_emit.proofs.form.measure.measured.Goals as goal
 
 pub loop-i-preserved : goal.loop-i-preserved

@@ -1,6 +1,6 @@
 use Rattle.std.proofs.lemmas.Result.{IfOk-weaker}
 use Rattle.std.proofs.lemmas.Str.{is_utf8-from_IsUtf8}
-use Rattle.yf_emit.proofs.StepLemmas.{both_texts}
+use Rattle.yf_emit.proofs.Measure.StepLemmas.{both_texts}
 use Rattle.yf_emit.proofs.form.measure.pass.Goals as goal
 
 pub returns-in-Scalar-clause-utf8 : goal.returns-in-Scalar-clause-utf8

@@ -1,6 +1,6 @@
 use Rattle.std.proofs.Common.{sym, ◌∙◌}
 use Rattle.std.proofs.lemmas.Result.{IfOk-weaker}
-use Rattle.yf_emit.proofs.NormalInPlace.{some_is}
+use Rattle.yf_emit.proofs.NormalForms.NormalInPlace.{some_is}
 use Rattle.yf_emit.proofs.form.measure.pass_at.Goals as goal
 
 pub returns-in-Some-clause-passed : goal.returns-in-Some-clause-passed

@@ -1,11 +1,11 @@
 use Rattle.std.proofs.Common.{subst, sym}
 use Rattle.std.specs.List.Sorted.{IsNonDecreasingBy}
 use Rattle.yf_comments.specs.Comment.{CommentValue}
-use Rattle.yf_emit.specs.FlowsAlone.{flows_alone}
-use Rattle.yf_emit.specs.FoundInPass.{FoundInPass}
-use Rattle.yf_emit.specs.Measuring.{setting}
-use Rattle.yf_emit.proofs.OffsetLemmas.{same_order}
-use Rattle.yf_emit.proofs.StepLemmas.{measured_in_pass}
+use Rattle.yf_emit.specs.Nodes.FlowsAlone.{flows_alone}
+use Rattle.yf_emit.specs.Passes.FoundInPass.{FoundInPass}
+use Rattle.yf_emit.specs.Passes.MeasurePass.{setting}
+use Rattle.yf_emit.proofs.Measure.OffsetLemmas.{same_order}
+use Rattle.yf_emit.proofs.Measure.StepLemmas.{measured_in_pass}
 use Rattle.yf_emit.proofs.form.measure_flows.measure_flows.Goals as goal
 
 pub returns-clause-found : goal.returns-clause-found

@@ -2,10 +2,10 @@ use Rattle.std.proofs.Common.{arith, map}
 use Rattle.std.specs.Prelude.{reverse}
 use Rattle.yf_comments.specs.Comment.{comment_value}
 use Rattle.yf_events.specs.Event.{event_value}
-use Rattle.yf_emit.specs.FlowsAlone.{flows_alone}
-use Rattle.yf_emit.specs.Measuring.{setting}
-use Rattle.yf_emit.proofs.FlowParts.{next_bound, depth_on, seen_length, seen_with}
-use Rattle.yf_emit.proofs.StepLemmas.{at_last, runs_on, texts_on}
+use Rattle.yf_emit.specs.Nodes.FlowsAlone.{flows_alone}
+use Rattle.yf_emit.specs.Passes.MeasurePass.{setting}
+use Rattle.yf_emit.proofs.Measure.FlowParts.{next_bound, depth_on, seen_length, seen_with}
+use Rattle.yf_emit.proofs.Measure.StepLemmas.{at_last, runs_on, texts_on}
 use Rattle.yf_emit.proofs.form.measure_flows.measured_flows.Goals as goal
 
 pub loop-i-preserved : goal.loop-i-preserved

@@ -3,9 +3,9 @@ use Rattle.std.specs.Prelude.{reverse}
 use Rattle.std.specs.List.Sorted.{IsNonDecreasingBy}
 use Rattle.yf_comments.specs.Comment.{comment_value}
 use Rattle.yf_comments.specs.declared.comment.Comment.{Comment}
-use Rattle.yf_emit.specs.FlowsAlone.{depths, flows_alone}
-use Rattle.yf_emit.specs.Measuring.{setting}
-use Rattle.yf_emit.proofs.StepLemmas.{Runs, Texts}
+use Rattle.yf_emit.specs.Nodes.FlowsAlone.{depths, flows_alone}
+use Rattle.yf_emit.specs.Passes.MeasurePass.{setting}
+use Rattle.yf_emit.proofs.Measure.StepLemmas.{Runs, Texts}
 use Rattle.yf_emit.proofs.form.measure_flows.measured_flows.Given as goal
 
 abbrev pub invariant-loop-i : goal.invariant-loop-i

@@ -1,7 +1,7 @@
 use Rattle.std.proofs.Common.{map, sym, ◌∙◌}
 use Rattle.yf_comments.specs.Comment.{comment_value}
-use Rattle.yf_emit.specs.Measuring.{setting}
-use Rattle.yf_emit.proofs.FlowParts.{inside_depth, inside_passed, inside_text, outside_depth, outside_passed, outside_text}
+use Rattle.yf_emit.specs.Passes.MeasurePass.{setting}
+use Rattle.yf_emit.proofs.Measure.FlowParts.{inside_depth, inside_passed, inside_text, outside_depth, outside_passed, outside_text}
 use Rattle.yf_emit.proofs.form.measure_flows.pass_seen.Goals as goal
 
 pub returns-then-is_outside-clause-depth : goal.returns-then-is_outside-clause-depth

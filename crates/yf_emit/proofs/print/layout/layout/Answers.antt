@@ -1,6 +1,6 @@
 use Rattle.std.proofs.lemmas.Result.{IfOk-weaker}
 use Rattle.std.specs.String.{string_bytes}
-use Rattle.yf_emit.proofs.LayoutHolds.{planned}
+use Rattle.yf_emit.proofs.Printer.LayoutHolds.{planned}
 use Rattle.yf_emit.proofs.print.layout.layout.Goals as goal
 
 pub returns-clause-printed : goal.returns-clause-printed

@@ -1,6 +1,6 @@
 use Rattle.std.proofs.Common.{◌∙◌, ap}
 use Rattle.std.proofs.lemmas.Result.{IfOk-weaker}
-use Rattle.yf_emit.specs.Printing.{printed, work_of}
+use Rattle.yf_emit.specs.Passes.PrintPass.{printed, work_of}
 use Rattle.yf_emit.proofs.print.layout.layout_by.Goals as goal
 
 pub returns-clause-printed : goal.returns-clause-printed

@@ -1,7 +1,7 @@
 use Rattle.std.proofs.Common.{◌≡◌, drop}
-use Rattle.yf_emit.specs.Printing.{pass, start}
-use Rattle.yf_emit.specs.Pages.{work_on}
-use Rattle.yf_emit.specs.Printers.{state_of}
+use Rattle.yf_emit.specs.Passes.PrintPass.{pass, start}
+use Rattle.yf_emit.specs.Passes.Pages.{work_on}
+use Rattle.yf_emit.specs.Passes.PrinterState.{state_of}
 use Rattle.yf_emit.proofs.print.layout.text_of.Given as goal
 
 abbrev pub invariant-loop-i : goal.invariant-loop-i

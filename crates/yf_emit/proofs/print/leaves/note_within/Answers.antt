@@ -1,13 +1,13 @@
 use Rattle.std.proofs.Common.{◌≤◌, arith, length}
-use Rattle.yf_emit.specs.Pages.{no_event, placed_at, work_on}
-use Rattle.yf_emit.proofs.LookLemmas.{stands}
-use Rattle.yf_emit.proofs.PrintLemmas.{noted_on, noted_last, noted_end}
+use Rattle.yf_emit.specs.Passes.Pages.{no_event, placed_at, work_on}
+use Rattle.yf_emit.proofs.Measure.LookLemmas.{is_there}
+use Rattle.yf_emit.proofs.Printer.PrintLemmas.{noted_on, noted_last, noted_end}
 use Rattle.yf_emit.proofs.print.leaves.note_within.Goals as goal
 
 pub loop-k-preserved : goal.loop-k-preserved
 loop-k-preserved c =
     noted_on (work_on c.args.page.now) c.args.last c.loop-k.k c.args.page.now.reading.now.events (placed_at c.args.page.now c.loop-k.k) _ _ _
-    (stands c.args.page.now.reading.now.events c.loop-k.k no_event (omega arith)) (omega arith) c.in_ok-note_event.ensures c.loop-k.invariant
+    (is_there c.args.page.now.reading.now.events c.loop-k.k no_event (omega arith)) (omega arith) c.in_ok-note_event.ensures c.loop-k.invariant
 
 pub returns-then-last-k : goal.returns-then-last-k
 returns-then-last-k c =

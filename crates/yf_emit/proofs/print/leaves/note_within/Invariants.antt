@@ -1,7 +1,7 @@
 use Rattle.std.proofs.Common.{◌≡◌, ◌+◌, drop}
-use Rattle.yf_emit.specs.Drafts.{draft}
-use Rattle.yf_emit.specs.Printing.{events_noted}
-use Rattle.yf_emit.specs.Pages.{work_on}
+use Rattle.yf_emit.specs.Passes.Drafts.{draft}
+use Rattle.yf_emit.specs.Passes.PrintPass.{events_noted}
+use Rattle.yf_emit.specs.Passes.Pages.{work_on}
 use Rattle.yf_emit.proofs.print.leaves.note_within.Given as goal
 
 abbrev pub invariant-loop-k : goal.invariant-loop-k

@@ -1,4 +1,4 @@
-use Rattle.yf_emit.proofs.WhiteLemmas.{without_whites_is}
+use Rattle.yf_emit.proofs.Texts.WhiteLemmas.{without_whites_is}
 use Rattle.yf_emit.proofs.print.output.without_whites.Goals as goal
 
 pub returns : goal.returns

@@ -1,7 +1,7 @@
 use Rattle.std.proofs.Common.{◌≡◌, drop}
-use Rattle.yf_emit.specs.Drafts.{draft}
-use Rattle.yf_emit.specs.Pages.{work_on}
-use Rattle.yf_emit.specs.Printing.{directive_lines}
+use Rattle.yf_emit.specs.Passes.Drafts.{draft}
+use Rattle.yf_emit.specs.Passes.Pages.{work_on}
+use Rattle.yf_emit.specs.Passes.PrintPass.{directive_lines}
 use Rattle.yf_emit.proofs.print.printer.push_directives.Given as goal
 
 abbrev pub invariant-loop-directive : goal.invariant-loop-directive

@@ -1,7 +1,7 @@
 use Rattle.std.proofs.Common.{◌≡◌, ◌≤◌, ◌∙◌, ap, arith, length}
-use Rattle.yf_emit.specs.Trailing.{all_found, ended, first_of, found, given, state}
-use Rattle.yf_emit.proofs.LayoutHolds.{trails_are}
-use Rattle.yf_emit.proofs.TrailLemmas.{passed_on, passed_end, settled_at}
+use Rattle.yf_emit.specs.Passes.TrailPass.{all_found, ended, first_of, found, given, state}
+use Rattle.yf_emit.proofs.Printer.LayoutHolds.{trails_are}
+use Rattle.yf_emit.proofs.Trails.TrailLemmas.{passed_on, passed_end, settled_at}
 use Rattle.yf_emit.proofs.print.trails.find_trails.Goals as goal
 
 pub loop-i-preserved : goal.loop-i-preserved

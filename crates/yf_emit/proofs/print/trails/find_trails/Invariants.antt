@@ -1,5 +1,5 @@
 use Rattle.std.proofs.Common.{◌≡◌, drop}
-use Rattle.yf_emit.specs.Trailing.{found, pass, start, state}
+use Rattle.yf_emit.specs.Passes.TrailPass.{found, pass, start, state}
 use Rattle.yf_emit.proofs.print.trails.find_trails.Given as goal
 
 abbrev pub invariant-loop-i : goal.invariant-loop-i

@@ -1,5 +1,5 @@
 use Rattle.std.proofs.Common.{◌≡◌, drop}
-use Rattle.yf_emit.specs.Trailing.{keys_taken}
+use Rattle.yf_emit.specs.Passes.TrailPass.{keys_taken}
 use Rattle.yf_emit.proofs.print.trails.take_keys.Given as goal
 
 abbrev pub invariant-loop-i : goal.invariant-loop-i

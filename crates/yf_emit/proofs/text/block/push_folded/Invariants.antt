@@ -1,7 +1,7 @@
 use Rattle.std.proofs.Common.{◌≡◌, ◌++◌, drop, flat_map, map}
 use Rattle.std.specs.String.{string_bytes}
-use Rattle.yf_emit.specs.BlockLines.{line_at}
-use Rattle.yf_emit.specs.Layout.{ended}
+use Rattle.yf_emit.specs.Nodes.BlockLines.{line_at}
+use Rattle.yf_emit.specs.Layouts.Layout.{ended}
 use Rattle.yf_emit.proofs.text.block.push_folded.Given as goal
 
 abbrev pub invariant-loop-line : goal.invariant-loop-line

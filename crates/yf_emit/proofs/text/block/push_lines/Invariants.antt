@@ -2,8 +2,8 @@ use denote.Shadow.{shadow}
 use denote.Text.{Utf8}
 use Rattle.std.proofs.Common.{◌≡◌, ◌++◌, flat_map, length, map}
 use Rattle.std.specs.String.{string_bytes}
-use Rattle.yf_emit.specs.BlockLines.{cut_at_feeds, line_at}
-use Rattle.yf_emit.specs.Layout.{ended}
+use Rattle.yf_emit.specs.Nodes.BlockLines.{cut_at_feeds, line_at}
+use Rattle.yf_emit.specs.Layouts.Layout.{ended}
 use Rattle.yf_emit.proofs.text.block.push_lines.Given as goal
 
 abbrev pub invariant-loop-line : goal.invariant-loop-line

@@ -1,7 +1,7 @@
 use Rattle.std.proofs.Common.{◌≡◌, ◌++◌, ◌-◌, ◌∙◌, ap, arith, replicate, sym}
 use Rattle.std.specs.String.{string_bytes}
-use Rattle.yf_emit.specs.BlockLines.{final_feeds}
-use Rattle.yf_emit.proofs.BlockLemmas.{empty_lines}
+use Rattle.yf_emit.specs.Nodes.BlockLines.{final_feeds}
+use Rattle.yf_emit.proofs.Texts.BlockLemmas.{empty_lines}
 use Rattle.yf_emit.proofs.text.block.push_tail.Goals as goal
 
 pub returns : goal.returns

@@ -1,5 +1,5 @@
 use Rattle.std.proofs.Common.{◌≡◌, drop}
-use Rattle.yf_emit.specs.BlockLines.{begins_with_space}
+use Rattle.yf_emit.specs.Nodes.BlockLines.{begins_with_space}
 use Rattle.yf_emit.proofs.text.block.starts_with_space.Given as goal
 
 abbrev pub invariant-loop-byte : goal.invariant-loop-byte

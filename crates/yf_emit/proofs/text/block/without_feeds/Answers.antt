@@ -1,4 +1,4 @@
-use Rattle.yf_emit.proofs.BlockLemmas.{without_feeds_is}
+use Rattle.yf_emit.proofs.Texts.BlockLemmas.{without_feeds_is}
 use Rattle.yf_emit.proofs.text.block.without_feeds.Goals as goal
 
 pub returns : goal.returns

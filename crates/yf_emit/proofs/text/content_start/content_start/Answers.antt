@@ -1,6 +1,6 @@
 use Rattle.std.proofs.Common.{refl, sym, ◌∙◌}
 use Rattle.std.proofs.lemmas.Bool.{ne_eqb}
-use Rattle.yf_emit.specs.ContentStart.{content_start}
+use Rattle.yf_emit.specs.Nodes.ContentStart.{content_start}
 use Rattle.yf_emit.proofs.text.content_start.content_start.Goals as goal
 
 pub returns-then-len-eq0 : goal.returns-then-len-eq0

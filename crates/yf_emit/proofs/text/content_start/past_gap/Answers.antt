@@ -1,4 +1,4 @@
-use Rattle.yf_emit.proofs.GapLemmas.{gap_ends, gap_runs_out}
+use Rattle.yf_emit.proofs.Texts.GapLemmas.{gap_ends, gap_runs_out}
 use Rattle.yf_emit.proofs.text.content_start.past_gap.Goals as goal
 
 pub returns-in-None : goal.returns-in-None

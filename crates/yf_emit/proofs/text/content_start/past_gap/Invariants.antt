@@ -1,5 +1,5 @@
 use Rattle.std.proofs.Common.{◌≡◌, ◌+◌, false, drop, take}
-use Rattle.yf_emit.specs.ContentStart.{gap_len}
+use Rattle.yf_emit.specs.Nodes.ContentStart.{gap_len}
 use Rattle.yf_emit.proofs.text.content_start.past_gap.Given as goal
 
 abbrev pub invariant-loop-i : goal.invariant-loop-i

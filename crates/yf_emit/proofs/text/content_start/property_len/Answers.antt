@@ -1,5 +1,5 @@
 use Rattle.std.proofs.Common.{refl}
-use Rattle.yf_emit.specs.ContentStart.{property_len}
+use Rattle.yf_emit.specs.Nodes.ContentStart.{property_len}
 use Rattle.yf_emit.proofs.text.content_start.property_len.Goals as goal
 
 pub returns-clause-len : goal.returns-clause-len

@@ -1,6 +1,6 @@
 use Rattle.std.proofs.Common.{refl}
-use Rattle.yf_emit.proofs.StepLemmas.{head_wide, nil_wide}
-use Rattle.yf_emit.proofs.WidthLemmas.{utf8_head}
+use Rattle.yf_emit.proofs.Measure.StepLemmas.{head_wide, nil_wide}
+use Rattle.yf_emit.proofs.Texts.WidthLemmas.{utf8_head}
 use Rattle.yf_emit.proofs.text.width.anchor_width.Goals as goal
 
 pub returns-in-Some-clause-width : goal.returns-in-Some-clause-width

@@ -1,7 +1,7 @@
 use Rattle.std.proofs.Common.{chars, ap, rules, sym, ◌∙◌, ◌≡◌, length}
 use Rattle.std.proofs.lemmas.Str.{chars-IsAscii, chars_from_encodes}
-use Rattle.yf_emit.specs.Measures.{up_to_greatest}
-use Rattle.yf_emit.proofs.WidthLemmas.{not_cut}
+use Rattle.yf_emit.specs.NormalForms.Measures.{up_to_greatest}
+use Rattle.yf_emit.proofs.Texts.WidthLemmas.{not_cut}
 use Rattle.yf_emit.proofs.text.width.counted.Goals as goal
 
 pub returns-clause-count : goal.returns-clause-count

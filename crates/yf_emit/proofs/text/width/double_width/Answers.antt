@@ -2,8 +2,8 @@ use Rattle.std.proofs.Common.{◌≡◌, ap, sym, ◌∙◌, ◌+◌, arith, cha
 use Rattle.std.proofs.lemmas.Iterator.{YieldsList-from_chars}
 use Rattle.std.proofs.lemmas.Iterator.Consumers.{YieldsList-end}
 use Rattle.yf_chars.specs.Escape.{spelled}
-use Rattle.yf_emit.specs.Measures.{up_to_greatest}
-use Rattle.yf_emit.proofs.WidthLemmas.{one_counted, double_width}
+use Rattle.yf_emit.specs.NormalForms.Measures.{up_to_greatest}
+use Rattle.yf_emit.proofs.Texts.WidthLemmas.{one_counted, double_width}
 use Rattle.yf_chars.proofs.CommonLemmas.{common_spelling}
 use Rattle.yf_emit.proofs.text.width.double_width.Goals as goal
 

@@ -1,6 +1,6 @@
 use Rattle.std.proofs.Common.{◌≡◌, ◌+◌, flat_map, length}
 use Rattle.yf_chars.specs.Escape.{spelled}
-use Rattle.yf_emit.specs.Measures.{up_to_greatest}
+use Rattle.yf_emit.specs.NormalForms.Measures.{up_to_greatest}
 use Rattle.yf_emit.proofs.text.width.double_width.Given as goal
 
 abbrev pub invariant-loop-c : goal.invariant-loop-c

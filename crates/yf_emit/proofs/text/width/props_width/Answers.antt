@@ -1,5 +1,5 @@
-use Rattle.yf_emit.proofs.StepLemmas.{spaced_wide}
-use Rattle.yf_emit.proofs.WidthLemmas.{utf8_spaced}
+use Rattle.yf_emit.proofs.Measure.StepLemmas.{spaced_wide}
+use Rattle.yf_emit.proofs.Texts.WidthLemmas.{utf8_spaced}
 use Rattle.yf_emit.proofs.text.width.props_width.Goals as goal
 
 pub returns-clause-width : goal.returns-clause-width

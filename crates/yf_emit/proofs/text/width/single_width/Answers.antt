@@ -2,8 +2,8 @@ use Rattle.std.proofs.Common.{ap, sym, ◌∙◌, ◌+◌, length, flat_map, map
 use Rattle.std.proofs.lemmas.Iterator.{YieldsList-from_chars}
 use Rattle.std.proofs.lemmas.Iterator.Consumers.{YieldsList-end}
 use Rattle.yf_quoted.specs.Written.{twice}
-use Rattle.yf_emit.specs.Measures.{up_to_greatest}
-use Rattle.yf_emit.proofs.WidthLemmas.{one_counted, single_width}
+use Rattle.yf_emit.specs.NormalForms.Measures.{up_to_greatest}
+use Rattle.yf_emit.proofs.Texts.WidthLemmas.{one_counted, single_width}
 use Rattle.yf_emit.proofs.text.width.single_width.Goals as goal
 
 pub loop-c-preserved : goal.loop-c-preserved

@@ -1,6 +1,6 @@
 use Rattle.std.proofs.Common.{sym, ◌∙◌}
-use Rattle.yf_emit.proofs.CommonWidths.{common_width}
-use Rattle.yf_emit.proofs.WidthLemmas.{by_letter, by_two, by_four, by_itself}
+use Rattle.yf_emit.proofs.Texts.CommonWidths.{common_width}
+use Rattle.yf_emit.proofs.Texts.WidthLemmas.{by_letter, by_two, by_four, by_itself}
 use Rattle.yf_emit.proofs.text.width.spelled_width.Goals as goal
 
 pub returns-then-is_common_char : goal.returns-then-is_common_char

@@ -1,7 +1,7 @@
 use Rattle.std.proofs.Common.{[], refl}
 use Rattle.std.proofs.lemmas.Str.{IsUtf8-append, IsUtf8-nil}
-use Rattle.yf_emit.proofs.StepLemmas.{both_wide, sign_wide, verbatim_utf8, verbatim_wide}
-use Rattle.yf_emit.proofs.WidthLemmas.{utf8_head}
+use Rattle.yf_emit.proofs.Measure.StepLemmas.{both_wide, sign_wide, verbatim_utf8, verbatim_wide}
+use Rattle.yf_emit.proofs.Texts.WidthLemmas.{utf8_head}
 use Rattle.yf_emit.proofs.text.width.tag_width.Goals as goal
 
 pub returns-in-Verbatim-clause-width : goal.returns-in-Verbatim-clause-width

@@ -1,5 +1,5 @@
 use Rattle.std.proofs.Common.{◌≡◌, ◌==◌, ◌++◌, ◌∙◌, false, not, refl, sym, true, true≢false, length, List, ℕ, [], ◌∷◌}
-use Rattle.yf_emit.specs.Rows.{is_empty_text}
+use Rattle.yf_emit.specs.Layouts.Rows.{is_empty_text}
 use Rattle.yf_emit.proofs.text.written.is_one_filled.Goals as goal
 
 filled_front : (x y : List ℕ) → (length x == 0) ≡ false → true ≡ not (is_empty_text (x ++ y))

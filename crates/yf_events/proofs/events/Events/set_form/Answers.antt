@@ -1,6 +1,6 @@
 use Rattle.std.proofs.Common.{◌≡◌, ap, ◌∙◌, subst}
 use Rattle.std.proofs.lemmas.Result.{err_from_is_err_and}
-use Rattle.yf_events.specs.Formed.{Relined, shape_formed}
+use Rattle.yf_events.specs.EventForms.{LinesDropped, shape_formed}
 use Rattle.yf_events.proofs.FormedRows.{formed_fits, formed_seen, number_fits, one_row}
 use Rattle.yf_events.proofs.PackedRows.{grown_fits, grown_seen, rows_long}
 use Rattle.yf_events.proofs.events.Events.set_form.Goals as goal
@@ -22,9 +22,9 @@ shape_is c =
     ∙ ap (λ r. shape_formed c.args.flow c.args.style r.shape) (one_row c.self.inside.rows.items c.args.i c.index.result.now c.index_mut-row.result.now
     (rows_long _ _ _ _ c.self.view_is c.requires) c.index.ensures c.index_mut-row.ensures.value)
 
-lines_are : (c : goal.After-self-1) → Relined c.self.inside.more.items c.relined.new.list.items c.is_folded.result c.index_mut-row.result.now.more c.in_ok-more.more
+lines_are : (c : goal.After-self-1) → LinesDropped c.self.inside.more.items c.relined.new.list.items c.is_folded.result c.index_mut-row.result.now.more c.in_ok-more.more
 lines_are c =
-    subst (λ r. Relined c.self.inside.more.items c.relined.new.list.items c.is_folded.result r.more c.in_ok-more.more)
+    subst (λ r. LinesDropped c.self.inside.more.items c.relined.new.list.items c.is_folded.result r.more c.in_ok-more.more)
     (one_row c.self.inside.rows.items c.args.i c.index-2.result.now c.index_mut-row.result.now (rows_long _ _ _ _ c.self.view_is c.requires) c.index-2.ensures
     c.index_mut-row.ensures.value) c.in_ok-more.ensures.relined
 

@@ -1,6 +1,6 @@
 use Rattle.std.proofs.Common.{◌≡◌, ◌<◌, ◌≤◌, ◌∙◌, false, length, get_or, arith}
 use Rattle.std.proofs.lemmas.List.{get_or_default}
-use Rattle.yf_rules.proofs.BlankLemmas.{blank_step, blank_told, no_line_yet}
+use Rattle.yf_rules.proofs.RuleSets.BlankLemmas.{blank_step, blank_told, no_line_yet}
 use Rattle.yf_rules.proofs.facts.notes.blank_lines.Goals as goal
 
 pub loop-k-init : goal.loop-k-init

@@ -1,4 +1,4 @@
-use Rattle.yf_rules.proofs.BlankLemmas.{BlankTo}
+use Rattle.yf_rules.proofs.RuleSets.BlankLemmas.{BlankTo}
 use Rattle.yf_rules.proofs.facts.notes.blank_lines.Given as goal
 
 abbrev pub invariant-loop-k : goal.invariant-loop-k

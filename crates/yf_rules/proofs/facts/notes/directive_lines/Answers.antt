@@ -2,10 +2,10 @@ use Rattle.std.proofs.Common.{◌≡◌, ℕ, ◌∙◌, Some, false, length, ge
 use Rattle.std.specs.Prelude.{slice_get}
 use Rattle.std.proofs.lemmas.List.{length-replicate}
 use Rattle.std.proofs.lemmas.Option.{slice_get-get_or}
-use Rattle.yf_rules.specs.BlankLines.{DirectiveIn, DirectiveOf}
-use Rattle.yf_rules.specs.Noted.{Noted}
-use Rattle.yf_rules.proofs.BlankLemmas.{document_index, document_line, of_document_is, of_document_there}
-use Rattle.yf_rules.proofs.NotedLemmas.{all_below, none_below, noted_as, noted_tells, one_below}
+use Rattle.yf_rules.specs.RuleSets.BlankLines.{DirectiveIn, DirectiveOf}
+use Rattle.yf_rules.specs.Passes.LineFlags.{FlagsAdded}
+use Rattle.yf_rules.proofs.RuleSets.BlankLemmas.{document_index, document_line, of_document_is, of_document_there}
+use Rattle.yf_rules.proofs.Texts.NotedLemmas.{all_below, none_below, noted_as, noted_tells, one_below}
 use Rattle.yf_rules.proofs.facts.notes.directive_lines.Goals as goal
 
 pub loop-m-init : goal.loop-m-init
@@ -27,8 +27,8 @@ loop-m-preserved c =
     let old = c.in_ok-list.list.items in
     let mid = c.loop-m.list.items in
     let new = c.note_directives-hint.new.list.items in
-    let n : Noted mid new (λ k. (j : ℕ) × DirectiveIn v d.directives j k) =
-    subst (λ w. Noted mid new (λ k. (j : ℕ) × DirectiveIn v w j k)) c.as_slice.ensures c.note_directives-hint.ensures in
+    let n : FlagsAdded mid new (λ k. (j : ℕ) × DirectiveIn v d.directives j k) =
+    subst (λ w. FlagsAdded mid new (λ k. (j : ℕ) × DirectiveIn v w j k)) c.as_slice.ensures c.note_directives-hint.ensures in
     record {
       len = c.loop-m.invariant.len;
       noted = one_below old mid new (DirectiveOf v r) m c.loop-m.invariant.noted

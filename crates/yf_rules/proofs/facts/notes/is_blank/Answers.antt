@@ -1,7 +1,7 @@
 use Rattle.std.proofs.Common.{◌≡◌, Some, subst}
 use Rattle.std.specs.Prelude.{slice_get, MatchBool}
-use Rattle.yf_rules.specs.Whites.{WhitesEnd}
-use Rattle.yf_rules.proofs.BlankLemmas.{text_unless, white_unless}
+use Rattle.yf_rules.specs.RuleSets.Whites.{WhitesEnd}
+use Rattle.yf_rules.proofs.RuleSets.BlankLemmas.{text_unless, white_unless}
 use Rattle.yf_rules.proofs.facts.notes.is_blank.Goals as goal
 
 pub returns-then-ends_in_text : goal.returns-then-ends_in_text

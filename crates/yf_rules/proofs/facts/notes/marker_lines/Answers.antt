@@ -3,11 +3,11 @@ use Rattle.std.specs.Prelude.{slice_get}
 use Rattle.std.proofs.lemmas.List.{length-replicate}
 use Rattle.std.proofs.lemmas.Option.{slice_get-get_or, slice_get_read}
 use Rattle.yf_events.specs.Reading.{events_of}
-use Rattle.yf_rules.specs.BlankLines.{MarkerOf}
-use Rattle.yf_rules.specs.BlankNotes.{MarkerThere}
-use Rattle.yf_rules.specs.Documents.{markers_in}
-use Rattle.yf_rules.proofs.BlankLemmas.{marker_index, marker_is, marker_line, marker_there}
-use Rattle.yf_rules.proofs.NotedLemmas.{all_below, none_below, noted_as, noted_tells, one_below}
+use Rattle.yf_rules.specs.RuleSets.BlankLines.{MarkerOf}
+use Rattle.yf_rules.specs.Passes.BlankNotes.{MarkerThere}
+use Rattle.yf_rules.specs.RuleSets.Documents.{markers_in}
+use Rattle.yf_rules.proofs.RuleSets.BlankLemmas.{marker_index, marker_is, marker_line, marker_there}
+use Rattle.yf_rules.proofs.Texts.NotedLemmas.{all_below, none_below, noted_as, noted_tells, one_below}
 use Rattle.yf_rules.proofs.facts.notes.marker_lines.Goals as goal
 
 pub loop-m-init : goal.loop-m-init

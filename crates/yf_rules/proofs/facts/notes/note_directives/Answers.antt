@@ -1,8 +1,8 @@
 use Rattle.std.proofs.Common.{get_or, arith}
 use Rattle.std.proofs.lemmas.Option.{slice_get-get_or}
-use Rattle.yf_rules.specs.BlankLines.{DirectiveIn, HasOffset}
-use Rattle.yf_rules.proofs.BlankLemmas.{directive_is, directive_there, directive_within}
-use Rattle.yf_rules.proofs.NotedLemmas.{all_below, none_below, noted_as, one_below}
+use Rattle.yf_rules.specs.RuleSets.BlankLines.{DirectiveIn, HasOffset}
+use Rattle.yf_rules.proofs.RuleSets.BlankLemmas.{directive_is, directive_there, directive_within}
+use Rattle.yf_rules.proofs.Texts.NotedLemmas.{all_below, none_below, noted_as, one_below}
 use Rattle.yf_rules.proofs.facts.notes.note_directives.Goals as goal
 
 pub loop-j-init : goal.loop-j-init

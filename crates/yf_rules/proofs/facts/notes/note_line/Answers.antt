@@ -1,7 +1,7 @@
 use Rattle.std.proofs.Common.{◌≡◌, ◌-◌, Some, subst}
 use Rattle.std.specs.Prelude.{slice_get}
 use Rattle.yf_lines.specs.Lines.{AreLines}
-use Rattle.yf_rules.proofs.BlankLemmas.{line_holds, no_line_holds}
+use Rattle.yf_rules.proofs.RuleSets.BlankLemmas.{line_holds, no_line_holds}
 use Rattle.yf_rules.proofs.facts.notes.note_line.Goals as goal
 
 pub returns-then-offset-line : goal.returns-then-offset-line

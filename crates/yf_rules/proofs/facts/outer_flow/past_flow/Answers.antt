@@ -1,4 +1,4 @@
-use Rattle.yf_rules.proofs.FlowLemmas.{alone_done, flow_done, inner_passed, no_flow_done}
+use Rattle.yf_rules.proofs.Texts.FlowLemmas.{alone_done, flow_done, inner_passed, no_flow_done}
 use Rattle.yf_rules.proofs.facts.outer_flow.past_flow.Goals as goal
 
 pub returns-then-i-done : goal.returns-then-i-done

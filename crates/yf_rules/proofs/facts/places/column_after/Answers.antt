@@ -1,4 +1,4 @@
-use Rattle.yf_rules.proofs.ColumnLemmas.{column_there}
+use Rattle.yf_rules.proofs.Texts.ColumnLemmas.{column_there}
 use Rattle.yf_rules.proofs.facts.places.column_after.Goals as goal
 
 pub returns-then-is_char_boundary-clause-column : goal.returns-then-is_char_boundary-clause-column

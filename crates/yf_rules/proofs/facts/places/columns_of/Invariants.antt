@@ -1,5 +1,5 @@
-use Rattle.yf_rules.specs.Columns.{ColumnsTo}
-use Rattle.yf_rules.specs.Places.{IsCursor}
+use Rattle.yf_rules.specs.RuleSets.Columns.{ColumnsTo}
+use Rattle.yf_rules.specs.RuleSets.Places.{IsCursor}
 use Rattle.yf_rules.proofs.facts.places.columns_of.Given as goal
 
 abbrev pub invariant-loop-k : goal.invariant-loop-k

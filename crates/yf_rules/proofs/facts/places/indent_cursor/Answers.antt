@@ -2,7 +2,7 @@ use Rattle.std.proofs.Common.{◌≡◌, ◌+◌, Some, subst, refl, arith}
 use Rattle.std.specs.Prelude.{slice_get}
 use Rattle.std.specs.Str.{IsCharBoundary, IsUtf8}
 use Rattle.yf_lines.specs.Lines.{IsLine}
-use Rattle.yf_rules.proofs.CursorLemmas.{cursor_of, reached_indent}
+use Rattle.yf_rules.proofs.Findings.CursorLemmas.{cursor_of, reached_indent}
 use Rattle.yf_rules.proofs.facts.places.indent_cursor.Goals as goal
 
 pub returns-then-found-offset-2 : goal.returns-then-found-offset-2

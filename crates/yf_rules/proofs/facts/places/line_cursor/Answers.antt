@@ -2,7 +2,7 @@ use Rattle.std.proofs.Common.{◌≡◌, ◌≤◌, length, subst, ap, arith, So
 use Rattle.std.specs.Prelude.{slice_get}
 use Rattle.std.specs.Str.{IsCharBoundary}
 use Rattle.yf_lines.specs.Lines.{Marks}
-use Rattle.yf_rules.proofs.CursorLemmas.{cursor_of, no_cursor, reached_first}
+use Rattle.yf_rules.proofs.Findings.CursorLemmas.{cursor_of, no_cursor, reached_first}
 use Rattle.yf_rules.proofs.facts.places.line_cursor.Goals as goal
 
 pub returns-then-line-len : goal.returns-then-line-len

@@ -3,9 +3,9 @@ use Rattle.std.specs.Prelude.{IfSome, slice_get}
 use Rattle.std.specs.Str.{IsUtf8}
 use Rattle.yf_lines.specs.declared.line.Line.{Line}
 use Rattle.yf_chars.specs.Chain.{Many}
-use Rattle.yf_lines.specs.Lines.{AreLines, Holds, is_char}
-use Rattle.yf_rules.proofs.BackLemmas.{place_at_marks, reached_before}
-use Rattle.yf_rules.proofs.CursorLemmas.{reached_in, cursor_of, place_reached}
+use Rattle.yf_lines.specs.Lines.{AreLines, LineHolds, is_char}
+use Rattle.yf_rules.proofs.Findings.BackLemmas.{place_at_marks, reached_before}
+use Rattle.yf_rules.proofs.Findings.CursorLemmas.{reached_in, cursor_of, place_reached}
 use Rattle.yf_rules.proofs.facts.places.place_before.Goals as goal
 
 pub returns-then-count-cursor-clause-place : goal.returns-then-count-cursor-clause-place
@@ -15,7 +15,7 @@ returns-then-count-cursor-clause-place c =
     let e : slice_get v.lines c.args.cursor.line ≡ Some l =
     subst (λ w. slice_get w.lines c.args.cursor.line ≡ Some l) c.lines.ensures c.line-line.ensures.item in
     let a : AreLines v.text v.lines = subst (λ w. AreLines w.text w.lines) c.lines.ensures c.line-line.ensures.lines in
-    let h : Holds l c.args.offset = subst (λ o. IfSome o (λ (m : Line). Holds m c.args.offset)) e c.requires.within in
+    let h : LineHolds l c.args.offset = subst (λ o. IfSome o (λ (m : Line). LineHolds m c.args.offset)) e c.requires.within in
     let r = reached_in v.text v.lines c.args.cursor l c.requires.cursor e in
     let u : IsUtf8 v.text = subst IsUtf8 c.text.ensures c.text.utf8 in
     let y = c.column_from-count.ensures.characters in
@@ -45,7 +45,7 @@ returns-clause-place c =
     let e : slice_get v.lines c.args.cursor.line ≡ Some l =
     subst (λ w. slice_get w.lines c.args.cursor.line ≡ Some l) c.lines.ensures c.line-line.ensures.item in
     let a : AreLines v.text v.lines = subst (λ w. AreLines w.text w.lines) c.lines.ensures c.line-line.ensures.lines in
-    let h : Holds l c.args.offset = subst (λ o. IfSome o (λ (m : Line). Holds m c.args.offset)) e c.requires.within in
+    let h : LineHolds l c.args.offset = subst (λ o. IfSome o (λ (m : Line). LineHolds m c.args.offset)) e c.requires.within in
     let r = reached_in v.text v.lines c.args.cursor l c.requires.cursor e in
     let u : IsUtf8 v.text = subst IsUtf8 c.text.ensures c.text.utf8 in
     let y = c.column_from-count.ensures.characters in

@@ -1,6 +1,6 @@
 use Rattle.std.proofs.Common.{sym, ◌∙◌}
-use Rattle.yf_rules.specs.ScalarLines.IsContent.{no_block}
-use Rattle.yf_rules.proofs.ScalarLemmas.{block_content_is}
+use Rattle.yf_rules.specs.Passes.ScalarLines.IsContent.{no_block}
+use Rattle.yf_rules.proofs.Texts.ScalarLemmas.{block_content_is}
 use Rattle.yf_rules.proofs.facts.scalars.block_content.Goals as goal
 
 pub returns-then-not-is_block_style : goal.returns-then-not-is_block_style

@@ -1,9 +1,9 @@
 use Rattle.std.proofs.Common.{sym, ◌∙◌}
 use Rattle.yf_props.specs.Props.{props_value}
-use Rattle.yf_rules.specs.BlockLines.LinesOfBlock.{same_lines}
-use Rattle.yf_rules.proofs.MarkPassLemmas.{scalar_event}
-use Rattle.yf_rules.proofs.ScalarLemmas.{no_scalar_lines}
-use Rattle.yf_rules.proofs.ScalarPasses.{passed_style}
+use Rattle.yf_rules.specs.Passes.BlockLines.LinesOfBlock.{same_lines}
+use Rattle.yf_rules.proofs.RuleSets.MarkPassLemmas.{scalar_event}
+use Rattle.yf_rules.proofs.Texts.ScalarLemmas.{no_scalar_lines}
+use Rattle.yf_rules.proofs.Texts.ScalarPasses.{passed_style}
 use Rattle.yf_rules.proofs.facts.scalars.block_lines_at.Goals as goal
 
 pub returns-then-is_block_style : goal.returns-then-is_block_style

@@ -1,7 +1,7 @@
 use Rattle.std.proofs.Common.{◌≡◌, ◌+◌, ◌∙◌, length, ap, subst, sym, Some}
 use Rattle.std.specs.Prelude.{slice_get}
-use Rattle.yf_rules.specs.Scalars.{BlockContent}
-use Rattle.yf_rules.proofs.BlockLemmas.{content_found, past_lines}
+use Rattle.yf_rules.specs.RuleSets.Scalars.{BlockContent}
+use Rattle.yf_rules.proofs.Texts.BlockLemmas.{content_found, past_lines}
 use Rattle.yf_rules.proofs.facts.scalars.content_of.Goals as goal
 
 pub returns-then-feeds-len : goal.returns-then-feeds-len

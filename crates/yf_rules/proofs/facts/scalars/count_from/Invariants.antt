@@ -1,5 +1,5 @@
 use Rattle.std.proofs.Common.{◌≡◌, ◌≤◌, ◌+◌, ◌-◌, drop, length}
-use Rattle.yf_rules.specs.Scalars.{head_count}
+use Rattle.yf_rules.specs.RuleSets.Scalars.{head_count}
 use Rattle.yf_rules.proofs.facts.scalars.count_from.Given as goal
 
 abbrev pub invariant-loop-at : goal.invariant-loop-at

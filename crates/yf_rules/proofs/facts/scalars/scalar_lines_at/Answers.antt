@@ -1,10 +1,10 @@
 use Rattle.std.proofs.Common.{ap, ◌∙◌}
-use Rattle.yf_emit.specs.ContentStart.{content_start}
+use Rattle.yf_emit.specs.Nodes.ContentStart.{content_start}
 use Rattle.yf_props.specs.Props.{props_value}
-use Rattle.yf_rules.specs.Scalars.{IsScalar}
-use Rattle.yf_rules.proofs.BlockLemmas.{begun_there}
-use Rattle.yf_rules.proofs.MarkPassLemmas.{scalar_event}
-use Rattle.yf_rules.proofs.ScalarLemmas.{lines_told, no_scalar_lines, no_text_lines}
+use Rattle.yf_rules.specs.RuleSets.Scalars.{IsScalar}
+use Rattle.yf_rules.proofs.Texts.BlockLemmas.{begun_there}
+use Rattle.yf_rules.proofs.RuleSets.MarkPassLemmas.{scalar_event}
+use Rattle.yf_rules.proofs.Texts.ScalarLemmas.{lines_told, no_scalar_lines, no_text_lines}
 use Rattle.yf_rules.proofs.facts.scalars.scalar_lines_at.Goals as goal
 
 pub returns-in-Some : goal.returns-in-Some

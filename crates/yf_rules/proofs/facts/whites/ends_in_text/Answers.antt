@@ -4,7 +4,7 @@ use Rattle.std.specs.Str.{IsUtf8}
 use Rattle.std.proofs.lemmas.Bool.{ltb-true}
 use Rattle.yf_lines.proofs.LineLemmas.{end_within}
 use Rattle.yf_lines.specs.Lines.{IsLine}
-use Rattle.yf_rules.proofs.LastLemmas.{line_in_text, same_line}
+use Rattle.yf_rules.proofs.Texts.LastLemmas.{line_in_text, same_line}
 use Rattle.yf_rules.proofs.facts.whites.ends_in_text.Goals as goal
 
 pub returns : goal.returns

@@ -1,4 +1,4 @@
-use Rattle.yf_rules.proofs.WhitesLemmas.{white_line}
+use Rattle.yf_rules.proofs.Texts.WhitesLemmas.{white_line}
 use Rattle.yf_rules.proofs.facts.whites.is_white_line.Goals as goal
 
 pub returns : goal.returns

@@ -1,6 +1,6 @@
 use Rattle.std.proofs.Common.{◌≡◌, ◌<◌, ◌-◌, ◌∙◌, true, false, length, get_or, sym, ap, arith}
 use Rattle.std.proofs.lemmas.List.{get_or_default}
-use Rattle.yf_rules.proofs.BlankLemmas.{follows_blank, follows_by}
+use Rattle.yf_rules.proofs.RuleSets.BlankLemmas.{follows_blank, follows_by}
 use Rattle.yf_rules.proofs.rules.blank_lines.follows.Goals as goal
 
 pub returns-then-index : goal.returns-then-index

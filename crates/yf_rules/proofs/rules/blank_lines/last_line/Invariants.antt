@@ -4,7 +4,7 @@ use Rattle.yf_rules.proofs.rules.blank_lines.last_line.Given as goal
 abbrev pub invariant-loop-at : goal.invariant-loop-at
 invariant-loop-at l = record {
   within : l.at ≤ length l.blank;
-  behind : (m : ℕ) → l.at ≤ m → m < length l.blank → get_or l.blank m false ≡ true;
+  follows : (m : ℕ) → l.at ≤ m → m < length l.blank → get_or l.blank m false ≡ true;
 }
 
 abbrev pub decreases-loop-at : goal.decreases-loop-at

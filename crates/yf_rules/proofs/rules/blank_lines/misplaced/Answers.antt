@@ -1,8 +1,8 @@
 use Rattle.std.proofs.Common.{◌≡◌, ◌<◌, ◌∙◌, Some, true, false, length, get_or, sym, subst, arith}
 use Rattle.std.specs.Prelude.{slice_get}
 use Rattle.std.proofs.lemmas.List.{get_or_default}
-use Rattle.yf_rules.specs.BlankNotes.{Follows, Precedes}
-use Rattle.yf_rules.proofs.BlankLemmas.{at_end, follows_wrong, misplaced_there, no_blank, precedes_wrong, well_placed, when_false, when_true}
+use Rattle.yf_rules.specs.Passes.BlankNotes.{IsAfterBlankOrMarker, IsBeforeMarker}
+use Rattle.yf_rules.proofs.RuleSets.BlankLemmas.{at_end, follows_wrong, misplaced_there, no_blank, precedes_wrong, well_placed, when_false, when_true}
 use Rattle.yf_rules.proofs.rules.blank_lines.misplaced.Goals as goal
 
 pub returns-then-not-index : goal.returns-then-not-index
@@ -35,7 +35,7 @@ returns-then-follows c =
     let f : slice_get v.lines k ≡ Some c.line-start.result = subst (λ w. slice_get w.lines k ≡ Some c.line-start.result) c.lines.ensures c.line-start.ensures.item in
     λ r a.
     misplaced_there v r n.blank.items n.markers.items n.directives.items a k c.line-start.result e f
-    (follows_wrong (when_true (Follows v r k) c.follows.result c.if-follows.true (c.follows.ensures v r a)))
+    (follows_wrong (when_true (IsAfterBlankOrMarker v r k) c.follows.result c.if-follows.true (c.follows.ensures v r a)))
 
 pub returns-then-precedes : goal.returns-then-precedes
 returns-then-precedes c =
@@ -47,7 +47,7 @@ returns-then-precedes c =
     let f : slice_get v.lines k ≡ Some c.line-start.result = subst (λ w. slice_get w.lines k ≡ Some c.line-start.result) c.lines.ensures c.line-start.ensures.item in
     λ r a.
     misplaced_there v r n.blank.items n.markers.items n.directives.items a k c.line-start.result e f
-    (precedes_wrong (when_true (Precedes v r k) c.precedes.result c.if-precedes.true (c.precedes.ensures r a)))
+    (precedes_wrong (when_true (IsBeforeMarker v r k) c.precedes.result c.if-precedes.true (c.precedes.ensures r a)))
 
 pub returns : goal.returns
 returns c =
@@ -58,4 +58,4 @@ returns c =
     let e : get_or n.blank.items k false ≡ true = sym (get_or_default n.blank.items k c.index.result.now false l) ∙ sym c.index.ensures ∙ c.if-not-index.false in
     λ r a.
     well_placed v r n.blank.items n.markers.items n.directives.items a k c.args.last c.requires.last c.if-k-last.false e
-    (when_false (Follows v r k) c.follows.result c.if-follows.false (c.follows.ensures v r a)) (when_false (Precedes v r k) c.precedes.result c.if-precedes.false (c.precedes.ensures r a))
+    (when_false (IsAfterBlankOrMarker v r k) c.follows.result c.if-follows.false (c.follows.ensures v r a)) (when_false (IsBeforeMarker v r k) c.precedes.result c.if-precedes.false (c.precedes.ensures r a))

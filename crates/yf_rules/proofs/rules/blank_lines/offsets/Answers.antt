@@ -1,7 +1,7 @@
 use Rattle.std.proofs.Common.{ap, length, arith}
-use Rattle.yf_rules.specs.BlankLines.{MisplacedBlank}
-use Rattle.yf_rules.proofs.BlankLemmas.{misplaced_line}
-use Rattle.yf_rules.proofs.ExactLemmas.{answer_found, all_found_upto}
+use Rattle.yf_rules.specs.RuleSets.BlankLines.{MisplacedBlank}
+use Rattle.yf_rules.proofs.RuleSets.BlankLemmas.{misplaced_line}
+use Rattle.yf_rules.proofs.Texts.ExactLemmas.{answer_found, all_found_upto}
 use Rattle.yf_rules.proofs.rules.blank_lines.offsets.Goals as goal
 
 pub loop-k-preserved : goal.loop-k-preserved

@@ -1,5 +1,5 @@
-use Rattle.yf_rules.specs.BlankLines.{MisplacedBlank}
-use Rattle.yf_rules.specs.Exact.{UpTo}
+use Rattle.yf_rules.specs.RuleSets.BlankLines.{MisplacedBlank}
+use Rattle.yf_rules.specs.RuleSets.Exact.{UpTo}
 use Rattle.yf_rules.proofs.rules.blank_lines.offsets.Given as goal
 
 abbrev pub invariant-loop-k : goal.invariant-loop-k

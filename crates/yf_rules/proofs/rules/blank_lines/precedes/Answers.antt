@@ -1,5 +1,5 @@
 use Rattle.std.proofs.Common.{◌+◌, ◌<◌, ◌≤◌, ◌∙◌, false, length, get_or, ap, subst, arith}
-use Rattle.yf_rules.proofs.BlankLemmas.{NextForbidden, flag_precedes, forbidden_precedes, last_precedes}
+use Rattle.yf_rules.proofs.RuleSets.BlankLemmas.{NextForbidden, flag_precedes, forbidden_precedes, last_precedes}
 use Rattle.yf_rules.proofs.rules.blank_lines.precedes.Goals as goal
 
 pub returns-then-k-count : goal.returns-then-k-count

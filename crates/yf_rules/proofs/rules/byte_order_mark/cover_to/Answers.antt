@@ -1,7 +1,7 @@
 use Rattle.std.proofs.Common.{◌+◌, subst, sym, arith}
 use Rattle.std.proofs.lemmas.Option.{slice_get-get_or}
-use Rattle.yf_rules.specs.Cover.{Covers}
-use Rattle.yf_rules.proofs.MarkPassLemmas.{covers_more, begin_more, none_from, none_left}
+use Rattle.yf_rules.specs.Passes.FarthestEnds.{Covers}
+use Rattle.yf_rules.proofs.RuleSets.MarkPassLemmas.{covers_more, begin_more, none_from, none_left}
 use Rattle.yf_rules.proofs.rules.byte_order_mark.cover_to.Goals as goal
 
 pub returns-then-span-offset-clause-others : goal.returns-then-span-offset-clause-others

@@ -1,5 +1,5 @@
 use Rattle.std.proofs.Common.{◌-◌, length}
-use Rattle.yf_rules.specs.Cover.{Covers, AllBegin}
+use Rattle.yf_rules.specs.Passes.FarthestEnds.{Covers, AllBegin}
 use Rattle.yf_rules.proofs.rules.byte_order_mark.cover_to.Given as goal
 
 abbrev pub invariant-loop-count : goal.invariant-loop-count

@@ -1,4 +1,4 @@
-use Rattle.yf_rules.proofs.MarkPassLemmas.{no_mark}
+use Rattle.yf_rules.proofs.RuleSets.MarkPassLemmas.{no_mark}
 use Rattle.yf_rules.proofs.rules.byte_order_mark.has_first_byte.Goals as goal
 
 pub returns : goal.returns

@@ -1,10 +1,10 @@
 use Rattle.std.proofs.Common.{ℕ, ◌+◌, ◌≢◌, ap, subst, length, arith}
 use Rattle.yf_chars.specs.Text.{code}
-use Rattle.yf_rules.specs.Cover.{Covers, AllBegin, NoneBegins, IsBeyond}
-use Rattle.yf_rules.specs.Exact.{Answers, Exactly}
-use Rattle.yf_rules.specs.Scalars.{LooseMark, ScalarSpan}
-use Rattle.yf_rules.proofs.ExactLemmas.{none_yet, answer_found, all_found_upto}
-use Rattle.yf_rules.proofs.MarkPassLemmas.{begin_later, begin_none, covers_none, mark_answered, mark_text, no_loose_mark}
+use Rattle.yf_rules.specs.Passes.FarthestEnds.{Covers, AllBegin, NoneBegins, IsBeyond}
+use Rattle.yf_rules.specs.RuleSets.Exact.{IsTheOne, Exactly}
+use Rattle.yf_rules.specs.RuleSets.Scalars.{LooseMark, ScalarSpan}
+use Rattle.yf_rules.proofs.Texts.ExactLemmas.{none_yet, answer_found, all_found_upto}
+use Rattle.yf_rules.proofs.RuleSets.MarkPassLemmas.{begin_later, begin_none, covers_none, mark_answered, mark_text, no_loose_mark}
 use Rattle.yf_rules.proofs.rules.byte_order_mark.offsets.Goals as goal
 
 pub loop-i-init : goal.loop-i-init
@@ -29,7 +29,7 @@ loop-i-preserved c =
     let answer = c.loose_mark.result in
     record {
       marks = answer_found (LooseMark t r) i _ _ answer c.loop-i.invariant.marks
-          (mark_answered t r xs count reach i all cover begun others answer (subst (λ v. Answers (IsBeyond v reach i) answer) c.text-text.ensures c.loose_mark.ensures))
+          (mark_answered t r xs count reach i all cover begun others answer (subst (λ v. IsTheOne (IsBeyond v reach i) answer) c.text-text.ensures c.loose_mark.ensures))
           c.in_ok-push_found.ensures;
       cover = cover;
       begun = begin_later xs count i (i + 1) (omega arith) begun;

@@ -1,6 +1,6 @@
-use Rattle.yf_rules.specs.Cover.{Covers, AllBegin}
-use Rattle.yf_rules.specs.Exact.{UpTo}
-use Rattle.yf_rules.specs.Scalars.{LooseMark}
+use Rattle.yf_rules.specs.Passes.FarthestEnds.{Covers, AllBegin}
+use Rattle.yf_rules.specs.RuleSets.Exact.{UpTo}
+use Rattle.yf_rules.specs.RuleSets.Scalars.{LooseMark}
 use Rattle.yf_rules.proofs.rules.byte_order_mark.offsets.Given as goal
 
 abbrev pub invariant-loop-i : goal.invariant-loop-i

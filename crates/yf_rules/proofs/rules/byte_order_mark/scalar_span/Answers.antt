@@ -1,5 +1,5 @@
 use Rattle.yf_props.specs.Props.{props_value}
-use Rattle.yf_rules.proofs.MarkPassLemmas.{scalar_event, span_answers}
+use Rattle.yf_rules.proofs.RuleSets.MarkPassLemmas.{scalar_event, span_answers}
 use Rattle.yf_rules.proofs.rules.byte_order_mark.scalar_span.Goals as goal
 
 pub returns-in-Scalar : goal.returns-in-Scalar

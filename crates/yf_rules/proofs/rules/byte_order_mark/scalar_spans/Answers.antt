@@ -1,7 +1,7 @@
 use Rattle.std.proofs.Common.{arith}
-use Rattle.yf_rules.specs.Scalars.{ScalarSpan}
-use Rattle.yf_rules.proofs.ExactLemmas.{answer_found, all_found_upto}
-use Rattle.yf_rules.proofs.MarkPassLemmas.{span_event}
+use Rattle.yf_rules.specs.RuleSets.Scalars.{ScalarSpan}
+use Rattle.yf_rules.proofs.Texts.ExactLemmas.{answer_found, all_found_upto}
+use Rattle.yf_rules.proofs.RuleSets.MarkPassLemmas.{span_event}
 use Rattle.yf_rules.proofs.rules.byte_order_mark.scalar_spans.Goals as goal
 
 pub loop-i-preserved : goal.loop-i-preserved

@@ -1,5 +1,5 @@
-use Rattle.yf_rules.specs.Exact.{UpTo}
-use Rattle.yf_rules.specs.Scalars.{ScalarSpan}
+use Rattle.yf_rules.specs.RuleSets.Exact.{UpTo}
+use Rattle.yf_rules.specs.RuleSets.Scalars.{ScalarSpan}
 use Rattle.yf_rules.proofs.rules.byte_order_mark.scalar_spans.Given as goal
 
 abbrev pub invariant-loop-i : goal.invariant-loop-i

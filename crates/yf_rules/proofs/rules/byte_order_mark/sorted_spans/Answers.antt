@@ -1,7 +1,7 @@
 use Rattle.std.proofs.Common.{rules}
 use Rattle.std.proofs.lemmas.List.Sorted.{IsNonDecreasingBy-from_sort_by_key}
 use Rattle.yf_events.specs.declared.event.Span.{Span}
-use Rattle.yf_rules.proofs.MarkPassLemmas.{sorted_same}
+use Rattle.yf_rules.proofs.RuleSets.MarkPassLemmas.{sorted_same}
 use Rattle.yf_rules.proofs.rules.byte_order_mark.sorted_spans.Goals as goal
 
 pub returns : goal.returns

@@ -1,4 +1,4 @@
-use Rattle.yf_rules.proofs.WhitesLemmas.{close_read, open_read}
+use Rattle.yf_rules.proofs.Texts.WhitesLemmas.{close_read, open_read}
 use Rattle.yf_rules.proofs.rules.comment_space.close.Goals as goal
 
 pub returns-then-is_close : goal.returns-then-is_close

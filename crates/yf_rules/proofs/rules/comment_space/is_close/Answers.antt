@@ -1,5 +1,5 @@
-use Rattle.yf_rules.specs.Whites.IsClose.{close}
-use Rattle.yf_rules.proofs.WhitesLemmas.{at_line_start, at_two_spaces}
+use Rattle.yf_rules.specs.RuleSets.Whites.IsClose.{close}
+use Rattle.yf_rules.proofs.Texts.WhitesLemmas.{at_line_start, at_two_spaces}
 use Rattle.yf_rules.proofs.rules.comment_space.is_close.Goals as goal
 
 pub returns-then-is_line_start : goal.returns-then-is_line_start

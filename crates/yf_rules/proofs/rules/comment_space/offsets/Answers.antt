@@ -1,7 +1,7 @@
 use Rattle.std.proofs.Common.{◌≤◌, length, arith}
-use Rattle.yf_rules.specs.Whites.{CloseComment}
-use Rattle.yf_rules.proofs.ExactLemmas.{none_yet, answer_found, all_found_upto}
-use Rattle.yf_rules.proofs.WhitesLemmas.{comment_count, comment_within}
+use Rattle.yf_rules.specs.RuleSets.Whites.{CloseComment}
+use Rattle.yf_rules.proofs.Texts.ExactLemmas.{none_yet, answer_found, all_found_upto}
+use Rattle.yf_rules.proofs.Texts.WhitesLemmas.{comment_count, comment_within}
 use Rattle.yf_rules.proofs.rules.comment_space.offsets.Goals as goal
 
 pub loop-k-init : goal.loop-k-init

@@ -1,5 +1,5 @@
-use Rattle.yf_rules.specs.Exact.{UpTo}
-use Rattle.yf_rules.specs.Whites.{CloseComment}
+use Rattle.yf_rules.specs.RuleSets.Exact.{UpTo}
+use Rattle.yf_rules.specs.RuleSets.Whites.{CloseComment}
 use Rattle.yf_rules.proofs.rules.comment_space.offsets.Given as goal
 
 abbrev pub invariant-loop-k : goal.invariant-loop-k

@@ -1,6 +1,6 @@
 use Rattle.std.proofs.Common.{◌<◌, ◌≤◌, length, arith}
 use Rattle.yf_events.specs.Reading.{events_of}
-use Rattle.yf_rules.proofs.DocumentLemmas.{event_count, marker_step, markers_done}
+use Rattle.yf_rules.proofs.RuleSets.DocumentLemmas.{event_count, marker_step, markers_done}
 use Rattle.yf_rules.proofs.rules.document_start.markers.Goals as goal
 
 pub loop-i-preserved : goal.loop-i-preserved

@@ -1,6 +1,6 @@
 use Rattle.std.proofs.Common.{◌≡◌, ◌++◌, drop}
 use Rattle.yf_events.specs.Reading.{events_of}
-use Rattle.yf_rules.specs.Documents.{markers_in}
+use Rattle.yf_rules.specs.RuleSets.Documents.{markers_in}
 use Rattle.yf_rules.proofs.rules.document_start.markers.Given as goal
 
 abbrev pub invariant-loop-i : goal.invariant-loop-i

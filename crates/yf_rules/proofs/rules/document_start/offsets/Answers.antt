@@ -1,7 +1,7 @@
 use Rattle.std.proofs.Common.{◌<◌, ap, length, arith}
-use Rattle.yf_rules.specs.Documents.{NoMarkerLine}
-use Rattle.yf_rules.proofs.DocumentLemmas.{document_answered, document_within}
-use Rattle.yf_rules.proofs.ExactLemmas.{answer_found, all_found_upto}
+use Rattle.yf_rules.specs.RuleSets.Documents.{NoMarkerLine}
+use Rattle.yf_rules.proofs.RuleSets.DocumentLemmas.{document_answered, document_within}
+use Rattle.yf_rules.proofs.Texts.ExactLemmas.{answer_found, all_found_upto}
 use Rattle.yf_rules.proofs.rules.document_start.offsets.Goals as goal
 
 pub loop-k-preserved : goal.loop-k-preserved

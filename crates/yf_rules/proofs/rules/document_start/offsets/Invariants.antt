@@ -1,5 +1,5 @@
-use Rattle.yf_rules.specs.Documents.{NoMarkerLine}
-use Rattle.yf_rules.specs.Exact.{UpTo}
+use Rattle.yf_rules.specs.RuleSets.Documents.{NoMarkerLine}
+use Rattle.yf_rules.specs.RuleSets.Exact.{UpTo}
 use Rattle.yf_rules.proofs.rules.document_start.offsets.Given as goal
 
 abbrev pub invariant-loop-k : goal.invariant-loop-k

@@ -1,4 +1,4 @@
-use Rattle.yf_rules.proofs.DocumentLemmas.{marked_alone, marked_crowded, bare_rightly, bare_start}
+use Rattle.yf_rules.proofs.RuleSets.DocumentLemmas.{marked_alone, marked_crowded, bare_rightly, bare_start}
 use Rattle.yf_rules.proofs.rules.document_start.unmarked.Goals as goal
 
 pub returns-then-is_alone : goal.returns-then-is_alone

@@ -1,5 +1,5 @@
 use Rattle.std.proofs.Common.{sym, ◌∙◌}
-use Rattle.yf_rules.proofs.DisplacedLemmas.{begins_no_flow}
+use Rattle.yf_rules.proofs.RuleSets.DisplacedLemmas.{begins_no_flow}
 use Rattle.yf_rules.proofs.rules.flow_layout.brackets_at.Goals as goal
 
 pub returns-then-not-starts_flow : goal.returns-then-not-starts_flow

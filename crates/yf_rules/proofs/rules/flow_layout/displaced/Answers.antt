@@ -1,8 +1,8 @@
-use Rattle.yf_emit.specs.Normal.{setting_of}
-use Rattle.yf_rules.specs.Layouts.{IsDisplaced}
-use Rattle.yf_rules.proofs.BlankLemmas.{when_false, when_true}
-use Rattle.yf_rules.proofs.DisplacedLemmas.{brackets_begun, displaced_here, no_brackets, not_displaced, not_outside}
-use Rattle.yf_rules.proofs.FlowLemmas.{is_outside}
+use Rattle.yf_emit.specs.NormalForms.Normal.{setting_of}
+use Rattle.yf_rules.specs.RuleSets.Layouts.{IsDisplaced}
+use Rattle.yf_rules.proofs.RuleSets.BlankLemmas.{when_false, when_true}
+use Rattle.yf_rules.proofs.RuleSets.DisplacedLemmas.{brackets_begun, displaced_here, no_brackets, not_displaced, not_outside}
+use Rattle.yf_rules.proofs.Texts.FlowLemmas.{is_outside}
 use Rattle.yf_rules.proofs.rules.flow_layout.displaced.Goals as goal
 
 pub returns-then-i-done : goal.returns-then-i-done

@@ -1,7 +1,7 @@
 use Rattle.std.proofs.Common.{◌≡◌, ◌<◌, ◌≤◌, subst, ⊎_elim, arith}
 use Rattle.std.proofs.lemmas.Bool.{cases_lt}
-use Rattle.yf_rules.specs.Layouts.{Displaced}
-use Rattle.yf_rules.proofs.DisplacedLemmas.{displaced_within, no_brackets}
+use Rattle.yf_rules.specs.RuleSets.Layouts.{LayoutFault}
+use Rattle.yf_rules.proofs.RuleSets.DisplacedLemmas.{displaced_within, no_brackets}
 use Rattle.yf_rules.proofs.rules.flow_layout.has_brackets.Goals as goal
 
 pub loop-i-preserved : goal.loop-i-preserved
@@ -9,7 +9,7 @@ loop-i-preserved c = λ house k o l d.
     ⊎_elim (λ (h : k < c.loop-i.i). c.loop-i.invariant house k o h d)
     (λ (h : c.loop-i.i ≤ k).
     no_brackets c.args.src.now c.args.reading.now c.loop-i.i c.in-None.ensures house o
-    (subst (λ m. Displaced c.args.src.now c.args.reading.now house m o) (let q : k ≡ c.loop-i.i = omega (arith, l, h) in q) d))
+    (subst (λ m. LayoutFault c.args.src.now c.args.reading.now house m o) (let q : k ≡ c.loop-i.i = omega (arith, l, h) in q) d))
     (cases_lt k c.loop-i.i)
 
 pub returns : goal.returns

@@ -1,10 +1,10 @@
 use Rattle.std.proofs.Common.{◌∙◌, ap, refl, sym}
 use Rattle.std.specs.Prelude.{option_map, slice_range}
 use Rattle.std.specs.String.{string_bytes}
-use Rattle.yf_emit.specs.Normal.{setting_of}
-use Rattle.yf_emit.proofs.ValueLemmas.{event_of}
-use Rattle.yf_rules.proofs.DisplacedLemmas.{empty_bare, empty_other, empty_same, kept_same}
-use Rattle.yf_rules.proofs.FlowLemmas.{event_there, same_flow}
+use Rattle.yf_emit.specs.NormalForms.Normal.{setting_of}
+use Rattle.yf_emit.proofs.Decide.ValueLemmas.{event_of}
+use Rattle.yf_rules.proofs.RuleSets.DisplacedLemmas.{empty_bare, empty_other, empty_same, kept_same}
+use Rattle.yf_rules.proofs.Texts.FlowLemmas.{event_there, same_flow}
 use Rattle.yf_rules.proofs.rules.flow_layout.is_displaced.Goals as goal
 
 pub returns-then-is_text : goal.returns-then-is_text
@@ -23,6 +23,6 @@ returns-then-is_empty c = λ x m n f.
 pub returns-then-is_text-2 : goal.returns-then-is_text-2
 returns-then-is_text-2 c = λ x m n f.
     let s = setting_of c.args.reading.now c.args.style.now in
-    kept_same c.args.src.now s x c.args.inside (string_bytes c.in-Some.text) c.ends_behind.result (c.if-is_empty.ensures _ _ _ x m n f)
+    kept_same c.args.src.now s x c.args.inside (string_bytes c.in-Some.text) c.ends_past_limit.result (c.if-is_empty.ensures _ _ _ x m n f)
     (ap (option_map string_bytes) (sym c.in-Some.is) ∙ c.in_ok-text.ensures.tells.tells c.args.src.now.text s refl m x n (same_flow x f))
-    (ap (λ t. slice_range t c.args.inside.start c.args.inside.end) (sym c.text-in-Some.ensures) ∙ c.if-is_text-2.ensures ∙ c.as_str.ensures.value) c.ends_behind.ensures
+    (ap (λ t. slice_range t c.args.inside.start c.args.inside.end) (sym c.text-in-Some.ensures) ∙ c.if-is_text-2.ensures ∙ c.as_str.ensures.value) c.ends_past_limit.ensures

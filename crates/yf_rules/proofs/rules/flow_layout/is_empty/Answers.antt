@@ -1,6 +1,6 @@
 use Rattle.std.proofs.Common.{arith}
-use Rattle.yf_rules.proofs.DisplacedLemmas.{is_empty_by, is_filled_by}
-use Rattle.yf_rules.proofs.FlowLemmas.{last_alone}
+use Rattle.yf_rules.proofs.RuleSets.DisplacedLemmas.{is_empty_by, is_filled_by}
+use Rattle.yf_rules.proofs.Texts.FlowLemmas.{last_alone}
 use Rattle.yf_rules.proofs.rules.flow_layout.is_empty.Goals as goal
 
 pub returns-then-saturating_sub-le1 : goal.returns-then-saturating_sub-le1

@@ -1,6 +1,6 @@
 use Rattle.std.proofs.Common.{sym, ◌∙◌}
 use Rattle.std.specs.Cmp.Lexicographic.{same_text, other_text}
-use Rattle.yf_rules.proofs.DisplacedLemmas.{no_text, text_is, text_is_not}
+use Rattle.yf_rules.proofs.RuleSets.DisplacedLemmas.{no_text, text_is, text_is_not}
 use Rattle.yf_rules.proofs.rules.flow_layout.is_text.Goals as goal
 
 pub returns-then-end-part : goal.returns-then-end-part

@@ -1,14 +1,14 @@
 use Rattle.std.proofs.Common.{arith}
-use Rattle.yf_rules.specs.Layouts.{Displaced}
-use Rattle.yf_rules.proofs.DisplacedLemmas.{displaced_within}
-use Rattle.yf_rules.proofs.ExactLemmas.{all_found_upto, answer_found}
+use Rattle.yf_rules.specs.RuleSets.Layouts.{LayoutFault}
+use Rattle.yf_rules.proofs.RuleSets.DisplacedLemmas.{displaced_within}
+use Rattle.yf_rules.proofs.Texts.ExactLemmas.{all_found_upto, answer_found}
 use Rattle.yf_rules.proofs.rules.flow_layout.offsets.Goals as goal
 
 pub loop-i-preserved : goal.loop-i-preserved
 loop-i-preserved c = λ trees of order.
     let v = c.loop-i.invariant trees of order in
     let m = c.in_ok-measures.ensures.measured order in (
-      answer_found (Displaced c.args.src.now c.args.reading.now c.args.style.now) c.loop-i.i _ _ c.in_ok-displaced.field-0 v.0
+      answer_found (LayoutFault c.args.src.now c.args.reading.now c.args.style.now) c.loop-i.i _ _ c.in_ok-displaced.field-0 v.0
           (c.in_ok-displaced.ensures trees of m v.1) c.in_ok-push_found.ensures,
       c.past_flow-done.ensures.alone _ _ trees of m v.1,
     )

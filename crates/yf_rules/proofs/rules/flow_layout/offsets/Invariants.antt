@@ -1,11 +1,11 @@
 use Rattle.std.proofs.Common.{List}
-use Rattle.yf_emit.specs.Textual.{CommentsAscend}
+use Rattle.yf_emit.specs.NormalForms.Textual.{CommentsAscend}
 use Rattle.yf_events.specs.Tree.{DocumentTree, TreesOf}
-use Rattle.yf_rules.specs.Exact.{UpTo}
-use Rattle.yf_rules.specs.Layouts.{Displaced}
-use Rattle.yf_rules.specs.OuterFlow.{FlowsDone}
+use Rattle.yf_rules.specs.RuleSets.Exact.{UpTo}
+use Rattle.yf_rules.specs.RuleSets.Layouts.{LayoutFault}
+use Rattle.yf_rules.specs.Passes.OuterFlow.{FlowsDone}
 use Rattle.yf_rules.proofs.rules.flow_layout.offsets.Given as goal
 
 abbrev pub invariant-loop-i : goal.invariant-loop-i
 invariant-loop-i l = (trees : List DocumentTree) → TreesOf l.reading trees → CommentsAscend l.reading
-    → UpTo (Displaced l.src l.reading l.style) l.i l.offsets.items × FlowsDone l.reading.events l.i l.done
+    → UpTo (LayoutFault l.src l.reading l.style) l.i l.offsets.items × FlowsDone l.reading.events l.i l.done

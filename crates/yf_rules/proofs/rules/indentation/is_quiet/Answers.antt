@@ -1,7 +1,7 @@
 use Rattle.std.proofs.Common.{◌∙◌, sym}
 use Rattle.yf_props.specs.Props.{props_value}
-use Rattle.yf_rules.proofs.MarkPassLemmas.{scalar_event}
-use Rattle.yf_rules.proofs.QuietLemmas.{not_true}
+use Rattle.yf_rules.proofs.RuleSets.MarkPassLemmas.{scalar_event}
+use Rattle.yf_rules.proofs.Indentation.QuietLemmas.{not_true}
 use Rattle.yf_rules.proofs.rules.indentation.is_quiet.Goals as goal
 
 pub returns-in-Scalar : goal.returns-in-Scalar

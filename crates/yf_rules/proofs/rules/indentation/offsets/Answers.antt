@@ -1,6 +1,6 @@
 use Rattle.std.proofs.Common.{arith}
-use Rattle.yf_rules.proofs.FaultLemmas.{first_reached}
-use Rattle.yf_rules.proofs.MisindentLemmas.{pass_done}
+use Rattle.yf_rules.proofs.Indentation.FaultLemmas.{first_reached}
+use Rattle.yf_rules.proofs.Indentation.MisindentLemmas.{pass_done}
 use Rattle.yf_rules.proofs.rules.indentation.offsets.Goals as goal
 
 pub loop-i-init : goal.loop-i-init

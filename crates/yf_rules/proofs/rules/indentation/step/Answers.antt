@@ -1,8 +1,8 @@
-use Rattle.yf_rules.specs.IndentFaults.{content_in}
-use Rattle.yf_rules.proofs.FaultLemmas.{one_reached}
-use Rattle.yf_rules.proofs.KeyPassLemmas.{event_at}
-use Rattle.yf_rules.proofs.QuietLemmas.{quiet_reached}
-use Rattle.yf_rules.proofs.ScalarPasses.{block_told}
+use Rattle.yf_rules.specs.Passes.IndentFaults.{content_in}
+use Rattle.yf_rules.proofs.Indentation.FaultLemmas.{one_reached}
+use Rattle.yf_rules.proofs.RuleSets.KeyPassLemmas.{event_at}
+use Rattle.yf_rules.proofs.Indentation.QuietLemmas.{quiet_reached}
+use Rattle.yf_rules.proofs.Texts.ScalarPasses.{block_told}
 use Rattle.yf_rules.proofs.rules.indentation.step.Goals as goal
 
 pub returns-then-is_quiet : goal.returns-then-is_quiet

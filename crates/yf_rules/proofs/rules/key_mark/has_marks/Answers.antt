@@ -1,7 +1,7 @@
 use Rattle.std.proofs.Common.{◌≡◌, ◌<◌, ◌≤◌, subst, ⊎_elim, arith}
 use Rattle.std.proofs.lemmas.Bool.{cases_lt}
-use Rattle.yf_rules.specs.QuestionMarks.{IsMarked}
-use Rattle.yf_rules.proofs.NeedlessLemmas.{marked_within}
+use Rattle.yf_rules.specs.RuleSets.QuestionMarks.{IsMarked}
+use Rattle.yf_rules.proofs.RuleSets.NeedlessLemmas.{marked_within}
 use Rattle.yf_rules.proofs.rules.key_mark.has_marks.Goals as goal
 
 pub loop-i-preserved : goal.loop-i-preserved

@@ -1,5 +1,5 @@
 use Rattle.std.proofs.Common.{◌<◌, ℕ}
-use Rattle.yf_rules.specs.QuestionMarks.{IsMarked}
+use Rattle.yf_rules.specs.RuleSets.QuestionMarks.{IsMarked}
 use Rattle.yf_rules.proofs.rules.key_mark.has_marks.Given as goal
 
 abbrev pub invariant-loop-i : goal.invariant-loop-i

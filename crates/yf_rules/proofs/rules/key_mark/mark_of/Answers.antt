@@ -1,6 +1,6 @@
 use Rattle.std.proofs.Common.{subst}
-use Rattle.yf_rules.specs.QuestionMarks.{HasQuestionMark}
-use Rattle.yf_rules.proofs.NeedlessLemmas.{marked_here, not_marked}
+use Rattle.yf_rules.specs.RuleSets.QuestionMarks.{HasQuestionMark}
+use Rattle.yf_rules.proofs.RuleSets.NeedlessLemmas.{marked_here, not_marked}
 use Rattle.yf_rules.proofs.rules.key_mark.mark_of.Goals as goal
 
 pub returns-then-has_question_mark : goal.returns-then-has_question_mark

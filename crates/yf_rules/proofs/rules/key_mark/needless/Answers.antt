@@ -1,6 +1,6 @@
 use Rattle.std.proofs.Common.{◌∙◌, ap, sym}
 use Rattle.yf_emit.specs.declared.form.decide.Form.{Form}
-use Rattle.yf_rules.proofs.NeedlessLemmas.{if_marked, not_implicit, not_outside}
+use Rattle.yf_rules.proofs.RuleSets.NeedlessLemmas.{if_marked, not_implicit, not_outside}
 use Rattle.yf_rules.proofs.rules.key_mark.needless.Goals as goal
 
 pub returns-then-i-done : goal.returns-then-i-done

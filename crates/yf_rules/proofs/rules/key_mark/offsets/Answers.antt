@@ -1,9 +1,9 @@
 use Rattle.std.proofs.Common.{arith}
-use Rattle.yf_emit.specs.Normal.{setting_of}
-use Rattle.yf_rules.specs.Layouts.{NeedlessMark}
-use Rattle.yf_rules.specs.MarkedKeys.{TellsKeys}
-use Rattle.yf_rules.proofs.ExactLemmas.{all_found_upto, answer_found}
-use Rattle.yf_rules.proofs.NeedlessLemmas.{marked_within, tells_keys}
+use Rattle.yf_emit.specs.NormalForms.Normal.{setting_of}
+use Rattle.yf_rules.specs.RuleSets.Layouts.{NeedlessMark}
+use Rattle.yf_rules.specs.Passes.MarkedKeys.{TellsKeys}
+use Rattle.yf_rules.proofs.Texts.ExactLemmas.{all_found_upto, answer_found}
+use Rattle.yf_rules.proofs.RuleSets.NeedlessLemmas.{marked_within, tells_keys}
 use Rattle.yf_rules.proofs.rules.key_mark.offsets.Goals as goal
 
 pub loop-i-preserved : goal.loop-i-preserved

@@ -1,7 +1,7 @@
-use Rattle.yf_emit.specs.Textual.{IsTextual}
-use Rattle.yf_rules.specs.Exact.{UpTo}
-use Rattle.yf_rules.specs.Layouts.{NeedlessMark}
-use Rattle.yf_rules.specs.OuterFlow.{FlowsDone}
+use Rattle.yf_emit.specs.NormalForms.Textual.{IsTextual}
+use Rattle.yf_rules.specs.RuleSets.Exact.{UpTo}
+use Rattle.yf_rules.specs.RuleSets.Layouts.{NeedlessMark}
+use Rattle.yf_rules.specs.Passes.OuterFlow.{FlowsDone}
 use Rattle.yf_rules.proofs.rules.key_mark.offsets.Given as goal
 
 abbrev pub invariant-loop-i : goal.invariant-loop-i

@@ -1,7 +1,7 @@
 use Rattle.std.proofs.Common.{◌≡◌, subst, Some, arith}
 use Rattle.std.specs.Prelude.{slice_get}
 use Rattle.yf_lines.proofs.LineLemmas.{end_within}
-use Rattle.yf_rules.proofs.RunLemmas.{short_line}
+use Rattle.yf_rules.proofs.RuleSets.RunLemmas.{short_line}
 use Rattle.yf_rules.proofs.rules.line_length.beyond.Goals as goal
 
 pub returns-then-saturating_sub-max_line : goal.returns-then-saturating_sub-max_line

@@ -1,7 +1,7 @@
 use Rattle.std.proofs.Common.{◌≤◌, ap, length, arith}
-use Rattle.yf_rules.specs.ByLine.{BeyondLimit}
-use Rattle.yf_rules.proofs.ExactLemmas.{none_yet, answer_found, all_found_upto}
-use Rattle.yf_rules.proofs.RunLemmas.{beyond_within}
+use Rattle.yf_rules.specs.RuleSets.ByLine.{BeyondLimit}
+use Rattle.yf_rules.proofs.Texts.ExactLemmas.{none_yet, answer_found, all_found_upto}
+use Rattle.yf_rules.proofs.RuleSets.RunLemmas.{beyond_within}
 use Rattle.yf_rules.proofs.rules.line_length.offsets.Goals as goal
 
 pub loop-k-init : goal.loop-k-init

@@ -4,8 +4,8 @@ use Rattle.yf_events.specs.contracts.event.ScalarStyle.{the_type}
 use Rattle.yf_events.specs.declared.event.ScalarStyle.{ScalarStyle}
 use Rattle.yf_events.specs.declared.event.ScalarStyle.TheVariants.{Plain, Single, Double, Literal, Folded}
 use Rattle.yf_props.specs.Props.{props_value}
-use Rattle.yf_rules.proofs.MarkPassLemmas.{scalar_event}
-use Rattle.yf_rules.proofs.StyleLemmas.{misquoted_told}
+use Rattle.yf_rules.proofs.RuleSets.MarkPassLemmas.{scalar_event}
+use Rattle.yf_rules.proofs.RuleSets.StyleLemmas.{misquoted_told}
 use Rattle.yf_rules.proofs.rules.quoting.misquoted.Goals as goal
 
 alike : (style : ScalarStyle) → sameb the_type style style ≡ true

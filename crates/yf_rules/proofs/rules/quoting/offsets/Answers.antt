@@ -1,7 +1,7 @@
 use Rattle.std.proofs.Common.{arith}
-use Rattle.yf_rules.specs.Styles.{Misquoted}
-use Rattle.yf_rules.proofs.ExactLemmas.{none_yet, answer_found, all_found_upto}
-use Rattle.yf_rules.proofs.StyleLemmas.{misquoted_event}
+use Rattle.yf_rules.specs.RuleSets.Styles.{QuotingFault}
+use Rattle.yf_rules.proofs.Texts.ExactLemmas.{none_yet, answer_found, all_found_upto}
+use Rattle.yf_rules.proofs.RuleSets.StyleLemmas.{misquoted_event}
 use Rattle.yf_rules.proofs.rules.quoting.offsets.Goals as goal
 
 pub loop-i-init : goal.loop-i-init
@@ -9,7 +9,7 @@ loop-i-init c = none_yet _ c.new-offsets.result.items c.new-offsets.ensures.item
 
 pub loop-i-preserved : goal.loop-i-preserved
 loop-i-preserved c =
-    answer_found (Misquoted c.args.src.now.text c.args.reading.now c.args.style.now) c.loop-i.i _ _ c.misquoted.result c.loop-i.invariant c.misquoted.ensures
+    answer_found (QuotingFault c.args.src.now.text c.args.reading.now c.args.style.now) c.loop-i.i _ _ c.misquoted.result c.loop-i.invariant c.misquoted.ensures
     c.in_ok-push_found.ensures
 
 pub returns : goal.returns

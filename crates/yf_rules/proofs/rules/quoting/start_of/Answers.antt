@@ -1,7 +1,7 @@
 use Rattle.yf_props.specs.Props.{props_value}
-use Rattle.yf_rules.proofs.MarkPassLemmas.{scalar_event}
-use Rattle.yf_rules.proofs.ScalarLemmas.{no_scalar_lines, no_text_lines}
-use Rattle.yf_rules.proofs.StyleLemmas.{no_start, start_told}
+use Rattle.yf_rules.proofs.RuleSets.MarkPassLemmas.{scalar_event}
+use Rattle.yf_rules.proofs.Texts.ScalarLemmas.{no_scalar_lines, no_text_lines}
+use Rattle.yf_rules.proofs.RuleSets.StyleLemmas.{no_start, start_told}
 use Rattle.yf_rules.proofs.rules.quoting.start_of.Goals as goal
 
 pub returns-in-Some : goal.returns-in-Some

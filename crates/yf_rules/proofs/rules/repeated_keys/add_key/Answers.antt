@@ -1,6 +1,6 @@
 use Rattle.std.proofs.Common.{refl, sym, ◌∙◌, ap}
-use Rattle.yf_rules.proofs.KeyListLemmas.{key_known, key_pushed, none_more}
-use Rattle.yf_rules.specs.KeyPass.{holds_key, key_value}
+use Rattle.yf_rules.proofs.RuleSets.KeyListLemmas.{key_known, key_pushed, none_more}
+use Rattle.yf_rules.specs.Passes.KeyPass.{holds_key, key_value}
 use Rattle.std.proofs.Common.{drop}
 use Rattle.yf_rules.proofs.rules.repeated_keys.add_key.Goals as goal
 

@@ -1,5 +1,5 @@
 use Rattle.std.proofs.Common.{◌≡◌, ◌-◌, drop, length}
-use Rattle.yf_rules.specs.KeyPass.{holds_key, key_value}
+use Rattle.yf_rules.specs.Passes.KeyPass.{holds_key, key_value}
 use Rattle.yf_rules.proofs.rules.repeated_keys.is_among.Given as goal
 
 abbrev pub invariant-loop-k : goal.invariant-loop-k

@@ -1,5 +1,5 @@
 use Rattle.std.proofs.Common.{◌∙◌}
-use Rattle.yf_rules.proofs.KeyListLemmas.{same_pairs}
+use Rattle.yf_rules.proofs.RuleSets.KeyListLemmas.{same_pairs}
 use Rattle.yf_rules.proofs.rules.repeated_keys.is_same.Goals as goal
 
 pub returns : goal.returns

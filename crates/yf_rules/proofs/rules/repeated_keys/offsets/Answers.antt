@@ -1,8 +1,8 @@
 use Rattle.std.proofs.Common.{◌<◌, ◌∙◌, ◌++◌, [], ap, length, reverse, subst, sym, arith}
 use Rattle.std.specs.Prelude.{slice_get}
-use Rattle.yf_rules.specs.KeyPass.{AreCollections, event_place, next, run}
-use Rattle.yf_rules.specs.KeyPass.AreCollections.{no_collections}
-use Rattle.yf_rules.proofs.KeyPassLemmas.{event_at, hit_found, no_hit_found, pass_done, pass_step}
+use Rattle.yf_rules.specs.Passes.KeyPass.{AreCollections, event_place, next, run}
+use Rattle.yf_rules.specs.Passes.KeyPass.AreCollections.{no_collections}
+use Rattle.yf_rules.proofs.RuleSets.KeyPassLemmas.{event_at, hit_found, no_hit_found, pass_done, pass_step}
 use Rattle.yf_rules.proofs.rules.repeated_keys.offsets.Goals as goal
 use Rattle.yf_rules.proofs.rules.repeated_keys.offsets.Goals.{then-branch+in_ok-push, else-branch}
 

@@ -1,8 +1,8 @@
 use Rattle.std.proofs.Common.{◌≡◌, ◌-◌, ◌∙◌, ◌∷◌, [], ap, length, arith, take}
 use Rattle.std.specs.Prelude.{slice_get}
 use Rattle.std.proofs.lemmas.List.{length-append}
-use Rattle.yf_rules.proofs.KeyListLemmas.{last_same}
-use Rattle.yf_rules.proofs.KeyPassLemmas.{end_passed}
+use Rattle.yf_rules.proofs.RuleSets.KeyListLemmas.{last_same}
+use Rattle.yf_rules.proofs.RuleSets.KeyPassLemmas.{end_passed}
 use Rattle.yf_rules.proofs.rules.repeated_keys.pass_end.Goals as goal
 
 pub returns-in-Some-pop : goal.returns-in-Some-pop

@@ -1,5 +1,5 @@
 use Rattle.std.proofs.Common.{◌≡◌, ◌<◌, length, refl, arith}
-use Rattle.yf_rules.proofs.KeyPassLemmas.{last_is, last_set, node_passed}
+use Rattle.yf_rules.proofs.RuleSets.KeyPassLemmas.{last_is, last_set, node_passed}
 use Rattle.yf_rules.proofs.rules.repeated_keys.pass_node.Goals as goal
 
 pub returns-in-Some : goal.returns-in-Some

@@ -1,7 +1,7 @@
 use Rattle.std.proofs.Common.{◌≡◌, ◌<◌, length, refl, arith}
 use Rattle.std.proofs.lemmas.Result.{IfOk-weaker}
-use Rattle.yf_rules.specs.KeyPass.{key_value}
-use Rattle.yf_rules.proofs.KeyPassLemmas.{last_is, last_set, scalar_passed}
+use Rattle.yf_rules.specs.Passes.KeyPass.{key_value}
+use Rattle.yf_rules.proofs.RuleSets.KeyPassLemmas.{last_is, last_set, scalar_passed}
 use Rattle.yf_rules.proofs.rules.repeated_keys.pass_scalar.Goals as goal
 
 pub returns-in-Some : goal.returns-in-Some

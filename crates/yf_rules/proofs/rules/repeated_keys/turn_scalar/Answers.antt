@@ -1,8 +1,8 @@
 use Rattle.std.proofs.Common.{sym, ◌∙◌}
 use Rattle.std.proofs.lemmas.Result.{IfOk-weaker}
-use Rattle.yf_rules.specs.KeyPass.{key_value, past_key}
+use Rattle.yf_rules.specs.Passes.KeyPass.{key_value, past_key}
 use Rattle.std.proofs.Common.{None}
-use Rattle.yf_rules.proofs.KeyListLemmas.{key_passed, turned, value_passed}
+use Rattle.yf_rules.proofs.RuleSets.KeyListLemmas.{key_passed, turned, value_passed}
 use Rattle.yf_rules.proofs.rules.repeated_keys.turn_scalar.Goals as goal
 
 pub returns-then-takes_key : goal.returns-then-takes_key

@@ -1,8 +1,8 @@
 use Rattle.std.proofs.Common.{◌≡◌, Some, subst}
 use Rattle.std.specs.Prelude.{slice_get}
-use Rattle.yf_rules.specs.Whites.{WhitesEnd}
-use Rattle.yf_rules.proofs.LastLemmas.{text_no_blank_end}
-use Rattle.yf_rules.proofs.TrailingLemmas.{blank_found, blank_none, content_has_none}
+use Rattle.yf_rules.specs.RuleSets.Whites.{WhitesEnd}
+use Rattle.yf_rules.proofs.Texts.LastLemmas.{text_no_blank_end}
+use Rattle.yf_rules.proofs.RuleSets.TrailingLemmas.{blank_found, blank_none, content_has_none}
 use Rattle.yf_rules.proofs.rules.trailing_blanks.blank_end.Goals as goal
 
 pub returns-then-is_content : goal.returns-then-is_content

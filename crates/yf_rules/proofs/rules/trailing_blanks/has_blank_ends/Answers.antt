@@ -1,7 +1,7 @@
 use Rattle.std.proofs.Common.{◌≡◌, ◌<◌, ◌≤◌, false, ap, length, subst, ⊎_elim, arith}
 use Rattle.std.proofs.lemmas.Bool.{cases_lt}
-use Rattle.yf_rules.specs.ByLine.{BlankEnd}
-use Rattle.yf_rules.proofs.TrailingLemmas.{blank_line}
+use Rattle.yf_rules.specs.RuleSets.ByLine.{BlankEnd}
+use Rattle.yf_rules.proofs.RuleSets.TrailingLemmas.{blank_line}
 use Rattle.yf_rules.proofs.rules.trailing_blanks.has_blank_ends.Goals as goal
 
 pub loop-k-preserved : goal.loop-k-preserved

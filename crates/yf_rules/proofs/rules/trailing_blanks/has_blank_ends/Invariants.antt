@@ -1,5 +1,5 @@
 use Rattle.std.proofs.Common.{◌<◌, ℕ, false}
-use Rattle.yf_rules.specs.ByLine.{BlankEnd}
+use Rattle.yf_rules.specs.RuleSets.ByLine.{BlankEnd}
 use Rattle.yf_rules.proofs.rules.trailing_blanks.has_blank_ends.Given as goal
 
 abbrev pub invariant-loop-k : goal.invariant-loop-k

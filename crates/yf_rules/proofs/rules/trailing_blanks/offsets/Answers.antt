@@ -1,8 +1,8 @@
 use Rattle.std.proofs.Common.{◌≡◌, ◌<◌, ◌∙◌, false, get_or, length, arith}
 use Rattle.std.proofs.lemmas.List.{get_or_default}
-use Rattle.yf_rules.specs.ByLine.{TrailingBlank}
-use Rattle.yf_rules.proofs.ExactLemmas.{answer_found, all_found_upto}
-use Rattle.yf_rules.proofs.TrailingLemmas.{no_trailing, trailing_answered, trailing_line}
+use Rattle.yf_rules.specs.RuleSets.ByLine.{TrailingBlank}
+use Rattle.yf_rules.proofs.Texts.ExactLemmas.{answer_found, all_found_upto}
+use Rattle.yf_rules.proofs.RuleSets.TrailingLemmas.{no_trailing, trailing_answered, trailing_line}
 use Rattle.yf_rules.proofs.rules.trailing_blanks.offsets.Goals as goal
 
 pub returns-then-not-has_blank_ends : goal.returns-then-not-has_blank_ends

@@ -1,5 +1,5 @@
-use Rattle.yf_rules.specs.ByLine.{TrailingBlank}
-use Rattle.yf_rules.specs.Exact.{UpTo}
+use Rattle.yf_rules.specs.RuleSets.ByLine.{TrailingBlank}
+use Rattle.yf_rules.specs.RuleSets.Exact.{UpTo}
 use Rattle.yf_rules.proofs.rules.trailing_blanks.offsets.Given as goal
 
 abbrev pub invariant-loop-k : goal.invariant-loop-k

@@ -1,6 +1,6 @@
 use Rattle.std.proofs.Common.{◌||◌, sym, ap, ◌∙◌}
 use Rattle.yf_stream.specs.WellFormed.{has_name}
-use Rattle.yf_stream.proofs.NameSets.{name_by_any, name_by_order, name_in_both, names_of}
+use Rattle.yf_stream.proofs.TagPass.NameSets.{name_by_any, name_by_order, name_in_both, names_of}
 use Rattle.yf_stream.proofs.anchors.Anchors.contains.Goals as goal
 
 pub returns-then-contains : goal.returns-then-contains

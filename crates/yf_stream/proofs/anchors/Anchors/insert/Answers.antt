@@ -1,4 +1,4 @@
-use Rattle.yf_stream.proofs.NameSets.{more_in_first, more_in_second}
+use Rattle.yf_stream.proofs.TagPass.NameSets.{more_in_first, more_in_second}
 use Rattle.yf_stream.proofs.anchors.Anchors.insert.Goals as goal
 use Rattle.yf_stream.proofs.anchors.Anchors.insert.Goals.{in-Ok, in-Err, in-Ok-insert, in-Err-insert}
 

@@ -3,7 +3,7 @@ use Rattle.std.proofs.lemmas.Result.{IfOk-weaker}
 use Rattle.std.specs.List.{All}
 use Rattle.std.specs.Str.{IsCharBoundary}
 use Rattle.yf_stream.specs.DocumentSteps.{NothingAt, SomethingBegins}
-use Rattle.yf_stream.proofs.DocumentAnswers.{documents_opened, empty_next, empty_parts, later_next, marked_nothing, marked_of}
+use Rattle.yf_stream.proofs.Reader.DocumentAnswers.{documents_opened, empty_next, empty_parts, later_next, marked_nothing, marked_of}
 use Rattle.yf_stream.proofs.documents.Parts.explicit_document.Goals as goal
 
 pub returns-in-Some-clause-reads : goal.returns-in-Some-clause-reads

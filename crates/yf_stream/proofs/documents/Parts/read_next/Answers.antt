@@ -4,7 +4,7 @@ use Rattle.std.specs.List.{All}
 use Rattle.std.specs.Str.{IsCharBoundary}
 use Rattle.yf_stream.specs.DocumentReaders.{IsMarker, closed, opened}
 use Rattle.yf_stream.specs.DocumentSteps.{MarkedRead, at_dashes, at_dots, not_bare, without_dashes}
-use Rattle.yf_stream.proofs.DocumentAnswers.{bare_of, documents_opened, no_directives_at, turned_false, turned_true}
+use Rattle.yf_stream.proofs.Reader.DocumentAnswers.{bare_of, documents_opened, no_directives_at, turned_false, turned_true}
 use Rattle.yf_stream.proofs.documents.Parts.read_next.Goals as goal
 
 pub returns-in-Some-DocumentEnd-clause-next : goal.returns-in-Some-DocumentEnd-clause-next
@@ -59,5 +59,5 @@ returns-clause-reads c = λ l.
     let bare = turned_true c.args.spot.may_be_bare c.if-not-spot.false in
     let added = c.in_ok-open.ensures.parts ∙ ap (λ z. opened c.skip_whites-start.result false z c.args.self.now) c.new-2.ensures in
     IfOk-weaker _ _ _
-    (λ next r. without_dashes m bare c.if-stands.ensures.cases (bare_of c.args.source.text.now c.skip_whites-start.ensures.whites.1 c.skip_whites-start.ensures.all added r))
+    (λ next r. without_dashes m bare c.if-is_char_at.ensures.cases (bare_of c.args.source.text.now c.skip_whites-start.ensures.whites.1 c.skip_whites-start.ensures.all added r))
     (c.root_node.ensures.reads l)

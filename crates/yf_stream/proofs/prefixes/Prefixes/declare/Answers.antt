@@ -4,7 +4,7 @@ use Rattle.std.proofs.lemmas.Map.Text.{btree_map_updates_str}
 use Rattle.yf_props.specs.Handles.{declaration, is_declared}
 use Rattle.yf_stream.specs.FewHandles.{FewOf}
 use Rattle.yf_stream.specs.TagPass.{SameDeclarations}
-use Rattle.yf_stream.proofs.DeclaredLemmas.{counted_less, counted_more, declares_by_order, few_declared, few_kept, few_more, few_same, found_again, is_declared_by_order, newly_declared, not_declared, same_itself, taken_out, with_old}
+use Rattle.yf_stream.proofs.TagPass.DeclaredLemmas.{counted_less, counted_more, declares_by_order, few_declared, few_kept, few_more, few_same, found_again, is_declared_by_order, newly_declared, not_declared, same_itself, taken_out, with_old}
 use Rattle.yf_stream.proofs.prefixes.Prefixes.declare.Goals as goal
 
 pub returns-then-contains_key-clause-fresh : goal.returns-then-contains_key-clause-fresh

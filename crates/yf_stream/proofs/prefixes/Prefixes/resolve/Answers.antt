@@ -4,7 +4,7 @@ use Rattle.std.proofs.lemmas.Result.{IfOk-weaker, IfErr-weaker}
 use Rattle.yf_props.specs.Handles.{UnknownHandleOf, declaration, declared_prefix, prefix_of}
 use Rattle.yf_props.specs.Props.{name_value, tag_value}
 use Rattle.yf_lines.specs.declared.fault.Fault.TheVariants.{Memory, UnknownHandle}
-use Rattle.yf_stream.proofs.DeclaredLemmas.{declared_by_order, other_known, other_text, prefix_alone, prefix_by_declared, text_by_prefix, unknown_by_prefix}
+use Rattle.yf_stream.proofs.TagPass.DeclaredLemmas.{declared_by_order, other_known, other_text, prefix_alone, prefix_by_declared, text_by_prefix, unknown_by_prefix}
 use Rattle.yf_stream.proofs.prefixes.Prefixes.resolve.Goals as goal
 
 pub returns-in-Some-clause-text : goal.returns-in-Some-clause-text

@@ -1,6 +1,6 @@
 use Rattle.std.proofs.Common.{◌∙◌, ap, map, set}
 use Rattle.std.proofs.lemmas.List.{map-set}
-use Rattle.yf_emit.specs.Packed.{measure_in}
+use Rattle.yf_emit.specs.NormalForms.Packed.{measure_in}
 use Rattle.yf_emit.proofs.form.measures.Measures.set.Goals as goal
 
 pub returns-then-i-len : goal.returns-then-i-len

@@ -1,6 +1,6 @@
 use Rattle.std.proofs.Common.{◌∙◌, ap, map}
-use Rattle.yf_emit.specs.LeafTrails.{counted}
-use Rattle.yf_emit.proofs.LeafTrailLemmas.{none_counted}
+use Rattle.yf_emit.specs.Layouts.LeafTrails.{counted}
+use Rattle.yf_emit.proofs.Trails.LeafTrailLemmas.{none_counted}
 use Rattle.yf_emit.proofs.print.leaf_trails.LeafTrails.none.Goals as goal
 
 pub returns : goal.returns

@@ -1,4 +1,4 @@
-use Rattle.yf_emit.proofs.LeafTrailLemmas.{noted}
+use Rattle.yf_emit.proofs.Trails.LeafTrailLemmas.{noted}
 use Rattle.yf_emit.proofs.print.leaf_trails.LeafTrails.set.Goals as goal
 
 pub returns-then-event-len : goal.returns-then-event-len

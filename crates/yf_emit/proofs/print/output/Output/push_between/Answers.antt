@@ -1,6 +1,6 @@
 use Rattle.std.proofs.Common.{arith, map}
 use Rattle.yf_comments.specs.Comment.{comment_value}
-use Rattle.yf_emit.proofs.DraftLemmas.{own_on, own_end}
+use Rattle.yf_emit.proofs.Printer.DraftLemmas.{own_on, own_end}
 use Rattle.yf_emit.proofs.print.output.Output.push_between.Goals as goal
 
 pub loop-k-preserved : goal.loop-k-preserved

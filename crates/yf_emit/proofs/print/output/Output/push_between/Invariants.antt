@@ -1,6 +1,6 @@
 use Rattle.std.proofs.Common.{◌≡◌, map}
 use Rattle.yf_comments.specs.Comment.{comment_value}
-use Rattle.yf_emit.specs.Drafts.{between, draft, own_lines}
+use Rattle.yf_emit.specs.Passes.Drafts.{between, draft, own_lines}
 use Rattle.yf_emit.proofs.print.output.Output.push_between.Given as goal
 
 abbrev pub invariant-loop-k : goal.invariant-loop-k

@@ -1,0 +1,21 @@
+-- what all functions rest on: ends of lines, properties, looks ahead
+pub mod Forward
+pub mod PropertiesLemmas
+pub mod InlineLemmas
+pub mod KeyEndLemmas
+pub mod ShortLines
+pub mod SpacesBack
+pub mod WalkLemmas
+pub mod KeyNodes
+pub mod LookLemmas
+pub mod EntryLineLemmas
+pub mod AwaitingLemmas
+pub mod FitLemmas
+pub mod BelongingLemmas
+pub mod LastStartLemmas
+pub mod NotedLemmas
+pub mod PrefixLemmas
+pub mod HashNodes
+pub mod LineHalts
+pub mod NotingLemmas
+pub mod OtherContexts

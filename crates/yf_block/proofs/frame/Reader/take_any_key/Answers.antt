@@ -1,6 +1,0 @@
-use Rattle.std.proofs.Common.{sym, ◌∙◌}
-use Rattle.yf_block.proofs.PropertiesLemmas.{no_properties}
-use Rattle.yf_block.proofs.frame.Reader.take_any_key.Goals as goal
-
-pub take_key_after-requires-clause-reads : goal.take_key_after-requires-clause-reads
-take_key_after-requires-clause-reads c = no_properties (sym c.if-property_stands.false ∙ c.property_stands.ensures)

@@ -1,6 +1,0 @@
-use Rattle.std.proofs.Common.{arith}
-use Rattle.yf_comments.proofs.SolidLemmas.{no_end}
-use Rattle.yf_comments.proofs.lines.solid_stands.Goals as goal
-
-pub returns-clause-rest : goal.returns-clause-rest
-returns-clause-rest c = λ _. no_end (omega arith) c.if-stands-2.ensures.cases c.if-stands-3.ensures.cases

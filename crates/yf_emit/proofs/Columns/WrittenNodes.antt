@@ -1,0 +1,50 @@
+-- Trees in whose text each flow collection that is in no other one is at its column as it is written on one line: so the trees of
+-- what is laid out are to be found.
+use Rattle.std.proofs.Common.{◌≡◌, ℕ, ◌+◌, ◌-◌, ◌<◌, true, false, List, [], ◌∷◌, Some}
+use Rattle.std.specs.Prelude.{slice_range}
+use Rattle.yf_chars.specs.Text.{code}
+use Rattle.yf_props.specs.Props.{PropsValue}
+use Rattle.yf_events.specs.declared.event.ScalarStyle.{ScalarStyle}
+use Rattle.yf_events.specs.declared.event.Span.{Span}
+use Rattle.yf_events.specs.Tree.{NodeOffsets, Node, scalar, alias, sequence, mapping, Items, no_items, item, Pairs, no_pairs, pair, DocumentTree, props_of, standing}
+use Rattle.yf_emit.specs.Nodes.ContentStart.{content_start}
+use Rattle.yf_emit.specs.NormalForms.Normal.{LayoutSetting, Spot, inner_spot, key_spot, root_spot, value_spot}
+use Rattle.yf_emit.specs.Nodes.OneLine.{bare, width, written}
+use Rattle.yf_emit.proofs.Columns.LinePlaces.{OnLine}
+
+-- The flow collection is written so from bracket to bracket; it ends in the line that it begins in, as many characters after the column as it is
+-- wide, and its last character is one byte.
+pub record WrittenAt (t : List ℕ) (column : ℕ) (x : Node) : Type 0 where
+  pub span : Span
+  pub is : (standing x).span ≡ Some span
+  pub text : slice_range t (content_start t span (props_of x)) span.end ≡ bare x
+  pub on : OnLine t (column + width (written x)) span.end
+  pub some : on.line < span.end
+  pub last : code t (span.end - 1) < 128
+
+mutual
+  pub data WrittenNode (t : List ℕ) (c : LayoutSetting) : Spot → Node → Type 0 where
+    written_scalar : {spot : Spot} {at : NodeOffsets} {props : PropsValue} {style : ScalarStyle} {text : List ℕ} {lines : List (List ℕ)}
+        → WrittenNode t c spot (scalar at props style text lines)
+    written_alias : {spot : Spot} {at : NodeOffsets} {name : List ℕ} → WrittenNode t c spot (alias at name)
+    sequence_on_line : {spot : Spot} {at : NodeOffsets} {props : PropsValue} {xs : Items} → WrittenAt t spot.column (sequence at true props xs)
+        → WrittenNode t c spot (sequence at true props xs)
+    mapping_on_line : {spot : Spot} {at : NodeOffsets} {props : PropsValue} {ps : Pairs} → WrittenAt t spot.column (mapping at true props ps)
+        → WrittenNode t c spot (mapping at true props ps)
+    written_sequence : {spot : Spot} {at : NodeOffsets} {props : PropsValue} {xs : Items} → WrittenItems t c spot.entries xs → WrittenNode t c spot (sequence at false props xs)
+    written_mapping : {spot : Spot} {at : NodeOffsets} {props : PropsValue} {ps : Pairs} → WrittenPairs t c spot.entries ps → WrittenNode t c spot (mapping at false props ps)
+
+  -- of entries at that column
+  pub data WrittenItems (t : List ℕ) (c : LayoutSetting) : ℕ → Items → Type 0 where
+    no_written_items : {m : ℕ} → WrittenItems t c m no_items
+    written_item : {m : ℕ} {x : Node} {xs : Items} → WrittenNode t c (inner_spot c.style m) x → WrittenItems t c m xs → WrittenItems t c m (item x xs)
+
+  pub data WrittenPairs (t : List ℕ) (c : LayoutSetting) : ℕ → Pairs → Type 0 where
+    no_written_pairs : {m : ℕ} → WrittenPairs t c m no_pairs
+    written_pair : {m : ℕ} {k v : Node} {ps : Pairs} → WrittenNode t c (key_spot c.style m k) k → WrittenNode t c (value_spot c m k v) v → WrittenPairs t c m ps
+        → WrittenPairs t c m (pair k v ps)
+
+-- documents' roots
+pub data WrittenDocuments (t : List ℕ) (c : LayoutSetting) : List DocumentTree → Type 0 where
+  no_written_documents : WrittenDocuments t c []
+  written_document : {d : DocumentTree} {ds : List DocumentTree} → WrittenNode t c (root_spot c.style) d.root → WrittenDocuments t c ds → WrittenDocuments t c (d ∷ ds)

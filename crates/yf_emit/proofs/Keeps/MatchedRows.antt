@@ -1,0 +1,229 @@
+-- Nodes that are matched have matched rows: as many, with places, notes and comments of keys that are matched.
+use Rattle.std.proofs.Common.{◌≡◌, ℕ, Bool, true, false, true≢false, List, [], ◌∷◌, ◌++◌, map, Option, None, refl, sym, ap, ◌∙◌, subst}
+use Rattle.std.specs.Prelude.{◌&&◌, ◌-◌, if◌then◌else◌, is_some, option_to_list}
+use Rattle.yf_comments.specs.Comment.{CommentValue}
+use Rattle.yf_props.specs.Props.{PropsValue}
+use Rattle.yf_events.specs.Tree.{NodeOffsets, Node, scalar, alias, sequence, mapping, Items, no_items, item, Pairs, no_pairs, pair, standing, leaves, items_in}
+use Rattle.yf_events.specs.declared.directive.Directive.{Directive}
+use Rattle.yf_events.specs.declared.event.Entry.{Entry}
+use Rattle.yf_events.specs.declared.event.ScalarStyle.{ScalarStyle}
+use Rattle.yf_events.specs.declared.event.ScalarStyle.TheVariants.{Plain, Single, Double, Literal, Folded}
+use Rattle.yf_emit.specs.declared.style.Style.{Style}
+use Rattle.yf_emit.specs.Preservation.FoundTrees.{words_of}
+use Rattle.yf_emit.specs.NormalForms.Normal.{Spot, fits, inner_spot, is_implicit, key_spot, settled, settled_items, settled_pairs, value_spot}
+use Rattle.yf_emit.specs.Nodes.OneLine.{props_text, written}
+use Rattle.yf_emit.specs.Preservation.ReadingKey.{Each, none_each, one_each, Either, in_neither, in_both, SameSide, SameSpan, SameEntry, SameComment, NodesMatch, matched_scalars, matched_aliases, matched_empty_sequences, matched_empty_mappings, matched_sequences, matched_mappings, ItemsMatch, no_matched_items, matched_item, PairsMatch, no_matched_pairs, matched_pair}
+use Rattle.yf_emit.specs.Layouts.Rows.{Row, begins_below, beginning_at, begun_at, after_key, blank_before_entry, colon_offset, colon_row, directive_row, end_rows, entry_row, explicit_pair, implicit_pair, joined, key_row, one_line, one_line_row, pair_rows, props_row, rows, rows_of_items, rows_of_pairs, start_row}
+use Rattle.yf_emit.proofs.SecondRun.AlikeLemmas.{same_below, same_fit, same_implicit, same_key_spot, same_value_spot, same_written, setting}
+use Rattle.yf_emit.proofs.Keeps.MatchedLemmas.{each_append, entry_each, entry_of, items_each, key_each, keys_agree, leaves_each, matched_alike}
+
+-- Settled nodes.
+
+standing_either : {at : NodeOffsets} (p : Bool) (x y : Node) → standing x ≡ at → standing y ≡ at → standing (if p then x else y) ≡ at
+standing_either true x y e f = e
+standing_either false x y e f = f
+
+module _ {ps : List (ℕ × ℕ)} {cs ds : List CommentValue} (s : Style) (same : Each (SameComment ps) cs ds) where
+  either_node : (p q : Bool) {x y z w : Node} → p ≡ q → NodesMatch ps x y → NodesMatch ps z w → NodesMatch ps (if p then x else z) (if q then y else w)
+  either_node true true e a b = a
+  either_node false false e a b = b
+  either_node true false e a b = absurd (true≢false e)
+  either_node false true e a b = absurd (true≢false (sym e))
+
+  standing_settled : (bs : List CommentValue) (spot : Spot) (x : Node) → standing (settled (setting s bs) spot x) ≡ standing x
+  standing_settled bs spot (scalar at props style text lines) = refl
+  standing_settled bs spot (alias at name) = refl
+  standing_settled bs spot (sequence at flow props no_items) = refl
+  standing_settled bs spot (sequence at flow props (item x xs)) =
+      standing_either (flow && fits s spot.column (sequence at flow props (item x xs))) (sequence at flow props (item x xs))
+      (sequence at false props (item (settled (setting s bs) (inner_spot s spot.entries) x) (settled_items (setting s bs) spot.entries xs))) refl refl
+  standing_settled bs spot (mapping at flow props no_pairs) = refl
+  standing_settled bs spot (mapping at flow props (pair k v qs)) =
+      standing_either (flow && fits s spot.column (mapping at flow props (pair k v qs))) (mapping at flow props (pair k v qs))
+      (mapping at false props (pair (settled (setting s bs) (key_spot s spot.entries k) k) (settled (setting s bs) (value_spot (setting s bs) spot.entries k v) v) (settled_pairs (setting s bs) spot.entries qs))) refl refl
+
+  entry_kept : (spot : Spot) (k : Node) → is_some (standing k).entry ≡ true → is_some (standing (settled (setting s cs) spot k)).entry ≡ true
+  entry_kept spot k e = ap (λ (z : NodeOffsets). is_some z.entry) (standing_settled cs spot k) ∙ e
+
+  mutual
+    pub settled_matched : (spot : Spot) {x y : Node} → NodesMatch ps x y → NodesMatch ps (settled (setting s cs) spot x) (settled (setting s ds) spot y)
+    settled_matched spot (matched_scalars a e) = matched_scalars a e
+    settled_matched spot (matched_aliases a e) = matched_aliases a e
+    settled_matched spot (matched_empty_sequences a e) = matched_empty_sequences a e
+    settled_matched spot (matched_empty_mappings a e) = matched_empty_mappings a e
+    settled_matched spot (matched_sequences {at = at} {bt = bt} {flow = flow} {props = props} {x = x} {y = y} {xs = xs} {ys = ys} a e m more) =
+        either_node (flow && fits s spot.column (sequence at flow props (item x xs))) (flow && fits s spot.column (sequence bt flow props (item y ys)))
+        (ap (λ b. flow && b) (same_fit s spot.column (matched_alike (matched_sequences {at = at} {bt = bt} {flow = flow} {props = props} a e m more)))) (matched_sequences a e m more)
+        (matched_sequences a e (settled_matched (inner_spot s spot.entries) m) (items_settled spot.entries more))
+    settled_matched spot (matched_mappings {at = at} {bt = bt} {flow = flow} {props = props} {k = k} {v = v} {l = l} {w = w} {qs = qs} {rs = rs} a e i m n more) =
+        either_node (flow && fits s spot.column (mapping at flow props (pair k v qs))) (flow && fits s spot.column (mapping bt flow props (pair l w rs)))
+        (ap (λ b. flow && b) (same_fit s spot.column (matched_alike (matched_mappings {at = at} {bt = bt} {flow = flow} {props = props} a e i m n more)))) (matched_mappings a e i m n more)
+        (matched_mappings a e (entry_kept (key_spot s spot.entries k) k i)
+        (subst (λ z. NodesMatch ps (settled (setting s cs) (key_spot s spot.entries k) k) (settled (setting s ds) z l)) (same_key_spot s spot.entries (matched_alike m)) (settled_matched (key_spot s spot.entries k) m))
+        (subst (λ z. NodesMatch ps (settled (setting s cs) (value_spot (setting s cs) spot.entries k v) v) (settled (setting s ds) z w)) (same_value_spot s spot.entries (matched_alike m) (matched_alike n) (keys_agree s same i m n))
+        (settled_matched (value_spot (setting s cs) spot.entries k v) n))
+        (pairs_settled spot.entries more))
+
+    items_settled : (column : ℕ) {xs ys : Items} → ItemsMatch ps xs ys → ItemsMatch ps (settled_items (setting s cs) column xs) (settled_items (setting s ds) column ys)
+    items_settled column no_matched_items = no_matched_items
+    items_settled column (matched_item m more) = matched_item (settled_matched (inner_spot s column) m) (items_settled column more)
+
+    pairs_settled : (column : ℕ) {qs rs : Pairs} → PairsMatch ps qs rs → PairsMatch ps (settled_pairs (setting s cs) column qs) (settled_pairs (setting s ds) column rs)
+    pairs_settled column no_matched_pairs = no_matched_pairs
+    pairs_settled column (matched_pair {k = k} {v = v} {l = l} {w = w} i m n more) =
+        matched_pair (entry_kept (key_spot s column k) k i)
+        (subst (λ z. NodesMatch ps (settled (setting s cs) (key_spot s column k) k) (settled (setting s ds) z l)) (same_key_spot s column (matched_alike m)) (settled_matched (key_spot s column k) m))
+        (subst (λ z. NodesMatch ps (settled (setting s cs) (value_spot (setting s cs) column k v) v) (settled (setting s ds) z w)) (same_value_spot s column (matched_alike m) (matched_alike n) (keys_agree s same i m n))
+        (settled_matched (value_spot (setting s cs) column k v) n))
+        (pairs_settled column more)
+
+-- Rows.
+
+pub record RowMatch (ps : List (ℕ × ℕ)) (x y : Row) : Type 0 where
+  pub items : Each (SameSide ps) x.items y.items
+  pub leaves : Each (SameSpan ps) x.leaves y.leaves
+  pub key : Either (SameComment ps) x.key_comment y.key_comment
+  pub blank : x.blank_before ≡ y.blank_before
+
+blank_same : {ps : List (ℕ × ℕ)} {a b : Option Entry} → Either (SameEntry ps) a b → blank_before_entry a ≡ blank_before_entry b
+blank_same in_neither = refl
+blank_same (in_both e) = e.blank
+
+option_each : {ps : List (ℕ × ℕ)} {a b : Option ℕ} → Either (SameSide ps) a b → Each (SameSide ps) (option_to_list a) (option_to_list b)
+option_each in_neither = none_each
+option_each (in_both e) = one_each e none_each
+
+colon_each : {ps : List (ℕ × ℕ)} {a b : Option Entry} → Either (SameEntry ps) a b → Each (SameSide ps) (colon_offset a) (colon_offset b)
+colon_each in_neither = none_each
+colon_each (in_both e) = option_each e.colon
+
+module _ {ps : List (ℕ × ℕ)} where
+  joined_match : (h g : Row) (n : ℕ) {xs ys : List Row} → RowMatch ps h g → Each (RowMatch ps) xs ys → Each (RowMatch ps) (joined h n xs) (joined g n ys)
+  joined_match h g n a none_each = one_each a none_each
+  joined_match h g n a (one_each b more) = one_each (record { items = each_append a.items b.items; leaves = each_append a.leaves b.leaves; key = b.key; blank = a.blank }) more
+
+  line_match : (column : ℕ) (x y : Node) (w : List ℕ) → Each (SameSide ps) (items_in x) (items_in y) → Each (SameSpan ps) (leaves x) (leaves y) → Each (RowMatch ps) (one_line_row column x w) (one_line_row column y w)
+  line_match column x y [] a b = none_each
+  line_match column x y (c ∷ w) a b = one_each (record { items = a; leaves = b; key = in_neither; blank = refl }) none_each
+
+  one_match : (spot : Spot) (x y : Node) → NodesMatch ps x y → Each (RowMatch ps) (one_line spot x) (one_line spot y)
+  one_match spot x y m = subst (λ w. Each (RowMatch ps) (one_line spot x) (one_line_row spot.column y w)) (same_written (matched_alike m)) (line_match spot.column x y (written x) (items_each m) (leaves_each m))
+
+  bare_row : {x y : Row} → x.items ≡ [] → y.items ≡ [] → x.leaves ≡ [] → y.leaves ≡ [] → x.key_comment ≡ None → y.key_comment ≡ None → x.blank_before ≡ y.blank_before → RowMatch ps x y
+  bare_row {x} {y} a b c d e f g = record {
+    items = subst (λ z. Each (SameSide ps) z y.items) (sym a) (subst (λ z. Each (SameSide ps) [] z) (sym b) none_each);
+    leaves = subst (λ z. Each (SameSpan ps) z y.leaves) (sym c) (subst (λ z. Each (SameSpan ps) [] z) (sym d) none_each);
+    key = subst (λ z. Either (SameComment ps) z y.key_comment) (sym e) (subst (λ z. Either (SameComment ps) None z) (sym f) in_neither);
+    blank = g;
+  }
+
+  props_match : (column : ℕ) (w : List ℕ) {xs ys : List Row} → Each (RowMatch ps) xs ys → Each (RowMatch ps) (props_row column w ++ xs) (props_row column w ++ ys)
+  props_match column [] a = a
+  props_match column (b ∷ w) a = one_each (bare_row refl refl refl refl refl refl refl) a
+
+  entry_match : (column : ℕ) (w : List ℕ) {x y : Node} → NodesMatch ps x y → RowMatch ps (entry_row column w x) (entry_row column w y)
+  entry_match column w m = record { items = entry_each m; leaves = none_each; key = in_neither; blank = blank_same (entry_of m) }
+
+  key_match : (column : ℕ) {k l : Node} → NodesMatch ps k l → RowMatch ps (key_row column k) (key_row column l)
+  key_match column m = record { items = each_append (entry_each m) (items_each m); leaves = leaves_each m; key = in_neither; blank = blank_same (entry_of m) }
+
+  after_match : (column : ℕ) {k l : Node} {o p : Option CommentValue} (a b : Bool) {xs ys : List Row} → NodesMatch ps k l → Either (SameComment ps) o p → a ≡ b → Each (RowMatch ps) xs ys
+      → Each (RowMatch ps) (after_key (key_row column k) o a xs) (after_key (key_row column l) p b ys)
+  after_match column a b m (in_both c) e more =
+      let head = key_match column m in one_each (record { items = head.items; leaves = head.leaves; key = in_both c; blank = head.blank }) more
+  after_match column true true m in_neither e more = let head = key_match column m in one_each (record { items = head.items; leaves = head.leaves; key = in_neither; blank = head.blank }) more
+  after_match column {k = k} {l = l} false false m in_neither e more = joined_match (key_row column k) (key_row column l) 1 (key_match column m) more
+  after_match column true false m in_neither e more = absurd (true≢false e)
+  after_match column false true m in_neither e more = absurd (true≢false (sym e))
+
+  block_match : {at bt : NodeOffsets} {props : PropsValue} {text : List ℕ} {lines : List (List ℕ)} (s : Style) (cs ds : List CommentValue) (spot : Spot) (style : ScalarStyle)
+      → NodesMatch ps (scalar at props style text lines) (scalar bt props style text lines)
+      → Each (RowMatch ps) (rows (setting s cs) spot (scalar at props style text lines)) (rows (setting s ds) spot (scalar bt props style text lines))
+  block_match {at} {bt} {props} {text} {lines} s cs ds spot Plain m = one_match spot (scalar at props Plain text lines) (scalar bt props Plain text lines) m
+  block_match {at} {bt} {props} {text} {lines} s cs ds spot Single m = one_match spot (scalar at props Single text lines) (scalar bt props Single text lines) m
+  block_match {at} {bt} {props} {text} {lines} s cs ds spot Double m = one_match spot (scalar at props Double text lines) (scalar bt props Double text lines) m
+  block_match s cs ds spot Literal m = one_each (record { items = items_each m; leaves = leaves_each m; key = in_neither; blank = refl }) none_each
+  block_match s cs ds spot Folded m = one_each (record { items = items_each m; leaves = leaves_each m; key = in_neither; blank = refl }) none_each
+
+module _ {ps : List (ℕ × ℕ)} {cs ds : List CommentValue} (s : Style) (same : Each (SameComment ps) cs ds) where
+  abbrev Match : List Row → List Row → Type 0
+  Match xs ys = Each (RowMatch ps) xs ys
+
+  pair_match : (column : ℕ) {k l v w : Node} {xs ys us vs : List Row} → is_some (standing k).entry ≡ true → NodesMatch ps k l → NodesMatch ps v w → Match xs ys → Match us vs
+      → Match (pair_rows (setting s cs) column k v xs us) (pair_rows (setting s ds) column l w ys vs)
+  pair_match column {k} {l} {v} {w} {xs} {ys} {us} {vs} i m n a b = by (is_implicit s column k) (is_implicit s column l) (same_implicit s column (matched_alike m)) where
+    by : (p q : Bool) → p ≡ q → Match (if p then implicit_pair (setting s cs) column k v us else explicit_pair s column k xs us) (if q then implicit_pair (setting s ds) column l w vs else explicit_pair s column l ys vs)
+    by true true e = after_match column (begins_below v) (begins_below w) m (key_each same i m n) (same_below (matched_alike n)) b
+    by false false e =
+        each_append (joined_match (entry_row column (63 ∷ []) k) (entry_row column (63 ∷ []) l) (s.indent - 1) (entry_match column (63 ∷ []) m) a)
+        (joined_match (colon_row column k) (colon_row column l) (s.indent - 1) (record { items = colon_each (entry_of m); leaves = none_each; key = in_neither; blank = refl }) b)
+    by true false e = absurd (true≢false e)
+    by false true e = absurd (true≢false (sym e))
+
+  mutual
+    pub rows_match : (spot : Spot) {x y : Node} → NodesMatch ps x y → Match (rows (setting s cs) spot x) (rows (setting s ds) spot y)
+    rows_match spot (matched_scalars {at = at} {bt = bt} {props = props} {style = style} {text = text} {lines = lines} a e) =
+        block_match {at = at} {bt = bt} {props = props} {text = text} {lines = lines} s cs ds spot style (matched_scalars {at = at} {bt = bt} a e)
+    rows_match spot (matched_aliases {at = at} {bt = bt} {name = name} a e) = one_match spot (alias at name) (alias bt name) (matched_aliases a e)
+    rows_match spot (matched_empty_sequences {at = at} {bt = bt} {flow = true} {props = props} a e) = one_match spot (sequence at true props no_items) (sequence bt true props no_items) (matched_empty_sequences a e)
+    rows_match spot (matched_empty_sequences {flow = false} {props = props} a e) = props_match spot.column (props_text props) none_each
+    rows_match spot (matched_empty_mappings {at = at} {bt = bt} {flow = true} {props = props} a e) = one_match spot (mapping at true props no_pairs) (mapping bt true props no_pairs) (matched_empty_mappings a e)
+    rows_match spot (matched_empty_mappings {flow = false} {props = props} a e) = props_match spot.column (props_text props) none_each
+    rows_match spot (matched_sequences {at = at} {bt = bt} {flow = true} {props = props} {x = x} {y = y} {xs = xs} {ys = ys} a e m more) =
+        one_match spot (sequence at true props (item x xs)) (sequence bt true props (item y ys)) (matched_sequences a e m more)
+    rows_match spot (matched_sequences {flow = false} {props = props} {x = x} {y = y} a e m more) =
+        props_match spot.column (props_text props)
+        (each_append (joined_match (entry_row spot.entries (45 ∷ []) x) (entry_row spot.entries (45 ∷ []) y) (s.indent - 1) (entry_match spot.entries (45 ∷ []) m) (rows_match (inner_spot s spot.entries) m))
+        (items_match spot.entries more))
+    rows_match spot (matched_mappings {at = at} {bt = bt} {flow = true} {props = props} {k = k} {v = v} {l = l} {w = w} {qs = qs} {rs = rs} a e i m n more) =
+        one_match spot (mapping at true props (pair k v qs)) (mapping bt true props (pair l w rs)) (matched_mappings a e i m n more)
+    rows_match spot (matched_mappings {flow = false} {props = props} {k = k} {v = v} {l = l} {w = w} a e i m n more) =
+        props_match spot.column (props_text props)
+        (each_append
+        (pair_match spot.entries i m n
+        (subst (λ z. Match (rows (setting s cs) (key_spot s spot.entries k) k) (rows (setting s ds) z l)) (same_key_spot s spot.entries (matched_alike m)) (rows_match (key_spot s spot.entries k) m))
+        (subst (λ z. Match (rows (setting s cs) (value_spot (setting s cs) spot.entries k v) v) (rows (setting s ds) z w)) (same_value_spot s spot.entries (matched_alike m) (matched_alike n) (keys_agree s same i m n))
+        (rows_match (value_spot (setting s cs) spot.entries k v) n)))
+        (pairs_match spot.entries more))
+
+    items_match : (column : ℕ) {xs ys : Items} → ItemsMatch ps xs ys → Match (rows_of_items (setting s cs) column xs) (rows_of_items (setting s ds) column ys)
+    items_match column no_matched_items = none_each
+    items_match column (matched_item {x = x} {y = y} m more) =
+        each_append (joined_match (entry_row column (45 ∷ []) x) (entry_row column (45 ∷ []) y) (s.indent - 1) (entry_match column (45 ∷ []) m) (rows_match (inner_spot s column) m)) (items_match column more)
+
+    pairs_match : (column : ℕ) {qs rs : Pairs} → PairsMatch ps qs rs → Match (rows_of_pairs (setting s cs) column qs) (rows_of_pairs (setting s ds) column rs)
+    pairs_match column no_matched_pairs = none_each
+    pairs_match column (matched_pair {k = k} {v = v} {l = l} {w = w} i m n more) =
+        each_append
+        (pair_match column i m n
+        (subst (λ z. Match (rows (setting s cs) (key_spot s column k) k) (rows (setting s ds) z l)) (same_key_spot s column (matched_alike m)) (rows_match (key_spot s column k) m))
+        (subst (λ z. Match (rows (setting s cs) (value_spot (setting s cs) column k v) v) (rows (setting s ds) z w)) (same_value_spot s column (matched_alike m) (matched_alike n) (keys_agree s same i m n))
+        (rows_match (value_spot (setting s cs) column k v) n)))
+        (pairs_match column more)
+
+  -- Lines before a document's node.
+
+  pub begun_match : {a b : ℕ} {xs ys : List Row} → SameSide ps a b → Match xs ys → Match (beginning_at a xs) (beginning_at b ys)
+  begun_match e none_each = none_each
+  begun_match e (one_each a more) = one_each (record { items = one_each e a.items; leaves = a.leaves; key = a.key; blank = a.blank }) more
+
+  -- and of a document that begins on its node's first line
+  pub bare_match : {a b : ℕ} {xs ys : List Row} → SameSide ps a b → Match xs ys → Match (begun_at a xs) (begun_at b ys)
+  bare_match e none_each = none_each
+  bare_match e (one_each a more) = one_each (record { items = one_each e a.items; leaves = a.leaves; key = a.key; blank = a.blank }) more
+
+  pub start_match : RowMatch ps start_row start_row
+  start_match = bare_row refl refl refl refl refl refl refl
+
+  pub ends_match : (first : Bool) (ds es : List Directive) → words_of ds ≡ words_of es → Match (end_rows first ds) (end_rows first es)
+  ends_match true ds es e = none_each
+  ends_match false [] [] e = none_each
+  ends_match false [] (b ∷ es) e = absurd cc
+  ends_match false (a ∷ ds) [] e = absurd cc
+  ends_match false (a ∷ ds) (b ∷ es) e = one_each (bare_row refl refl refl refl refl refl refl) none_each
+
+  pub directives_match : (ds es : List Directive) → words_of ds ≡ words_of es → Match (map directive_row ds) (map directive_row es)
+  directives_match [] [] e = none_each
+  directives_match [] (b ∷ es) e = absurd cc
+  directives_match (a ∷ ds) [] e = absurd cc
+  directives_match (a ∷ ds) (b ∷ es) e = let more : words_of ds ≡ words_of es = cc in one_each (bare_row refl refl refl refl refl refl refl) (directives_match ds es more)

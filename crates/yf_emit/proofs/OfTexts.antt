@@ -1,0 +1,8 @@
+-- the reading of a text is one of a text (`ReadingsAreOfTexts`)
+pub mod MarksOrder
+pub mod PlacedTrees
+pub mod ReadingsOfTexts
+pub mod LeavesRise
+pub mod KeysBegin
+pub mod NestsRun
+pub mod KeyEntries

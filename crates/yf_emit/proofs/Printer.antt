@@ -1,0 +1,24 @@
+-- `layout`: the pass of the printer prints the rows of the layout
+pub mod DraftLemmas
+pub mod PrintLemmas
+pub mod SkipLemmas
+pub mod FeedLemmas
+pub mod FedLemmas
+pub mod JoinLemmas
+pub mod SignLemmas
+pub mod MeasureFacts
+pub mod SameMeasures
+pub mod NotedLemmas
+pub mod LeafFed
+pub mod LeafPrinted
+pub mod Reaching
+pub mod EntriesFed
+pub mod PairsFed
+pub mod PrintNodes
+pub mod PrintTrees
+pub mod PairSites
+pub mod NodesPrinted
+pub mod DocumentsPrinted
+pub mod LayoutPrinted
+pub mod LayoutHolds
+pub mod WritingLemmas

@@ -1,0 +1,21 @@
+-- what is read in a formatted text is laid out as it was: comments, notes on blank lines, rows
+pub mod GapsAgain
+pub mod GapsInText
+pub mod GapNotes
+pub mod RowsAgain
+pub mod CarriedAgain
+pub mod ReadingsAgain
+pub mod RowsWithNotes
+pub mod RowGaps
+pub mod RowNotes
+pub mod NoteTrees
+pub mod NoteStreams
+pub mod RowSpots
+pub mod OwnsAgain
+pub mod TrailAgain
+pub mod RowTies
+pub mod AllBlanks
+pub mod BlanksRows
+pub mod BlanksAgain
+pub mod RowsTied
+pub mod DocumentTies

@@ -1,0 +1,13 @@
+-- nodes are found where their rows were laid out
+pub mod HeadRows
+pub mod PlacedRows
+pub mod FoundNodes
+pub mod FoundLines
+pub mod FoundStreams
+pub mod QuietPlaces
+pub mod FoundAgree
+pub mod FoundKeys
+pub mod BareNodes
+pub mod BareTrees
+pub mod FoundTexts
+pub mod FoundMarks

@@ -1,0 +1,25 @@
+-- a formatted text has the same content, and the same comments at the same leaves
+pub mod FormatLawsHold
+pub mod SameContent
+pub mod EventsTold
+pub mod SameComments
+pub mod FoundAgain
+pub mod PrintSteps
+pub mod CommentsCut
+pub mod StepComments
+pub mod RowFlow
+pub mod ItemsOrder
+pub mod QuietTrees
+pub mod BareAgain
+pub mod RowsFit
+pub mod QuietNodes
+pub mod QuietRows
+pub mod UprightRows
+pub mod SourceOffsets
+pub mod StepLeaves
+pub mod NoStarts
+pub mod StartsBefore
+pub mod DocumentsBegun
+pub mod DocumentsFlow
+pub mod DocumentsFound
+pub mod RowSteps

@@ -1,0 +1,33 @@
+-- Each comment of a formatted text has, in each reading of it, as many leaves before it as in the reading that was formatted, and its text but for the
+-- white space that ended it.
+use Rattle.std.proofs.Common.{◌≡◌, ℕ, List, map, ap, ◌∙◌}
+use Rattle.std.specs.Str.{IsUtf8}
+use Rattle.yf_events.proofs.TreeLemmas.{trees_unique}
+use Rattle.yf_events.specs.Reading.{leaves_before}
+use Rattle.yf_events.specs.Tree.{DocumentTree}
+use Rattle.yf_events.specs.declared.lists.Lists.{Lists}
+use Rattle.yf_stream.specs.ReadingOf.{ReadingOf}
+use Rattle.yf_emit.specs.declared.style.Style.{Style}
+use Rattle.yf_emit.specs.Layouts.Decorated.{rows_of}
+use Rattle.yf_emit.specs.Format.{IsFormatting}
+use Rattle.yf_emit.specs.NormalForms.Normal.{normal_document, setting_of}
+use Rattle.yf_emit.proofs.Derived.LayoutSteps.{steps_of, comments_of}
+use Rattle.yf_emit.proofs.Trails.FormatTrails.{normal_trees}
+use Rattle.yf_emit.proofs.SameReading.FoundAgain.{found_again, told_by}
+use Rattle.yf_emit.proofs.SameReading.PrintSteps.{trimmed_by}
+use Rattle.yf_emit.proofs.SameReading.SourceOffsets.{source_told}
+
+-- the trees that are laid out are those of the normal form
+pub laid_trees : {t : List ℕ} {s : Style} {u : List ℕ} (f : IsFormatting t s u) → f.writes.trees ≡ map (normal_document t (setting_of f.reading s)) f.is_normal.trees
+laid_trees {t} {s} f =
+    let n = normal_trees f in
+    n.same ∙ ap (map (normal_document t (setting_of f.reading s))) (trees_unique f.reading n.trees f.is_normal.trees n.of_reading f.is_normal.of_reading)
+
+pub leaves_told : (t u : List ℕ) (s : Style) (q : Lists) → IsUtf8 t → (f : IsFormatting t s u) → ReadingOf u q
+    → told_by (leaves_before q) q.comments ≡ trimmed_by (leaves_before f.reading) f.reading.comments
+leaves_told t u s q utf8 f a =
+    let trees : List DocumentTree = map (normal_document t (setting_of f.reading s)) f.is_normal.trees in
+    found_again t u s q utf8 f a
+    ∙ (ap (λ xs. comments_of 0 (steps_of f.normal (rows_of f.normal s xs))) (laid_trees f)
+    ∙ (ap (λ (m : Lists). comments_of 0 (steps_of m (rows_of m s trees))) f.is_normal.is
+    ∙ source_told t s f.reading f.is_normal.trees utf8 f.reads f.is_normal.of_reading))

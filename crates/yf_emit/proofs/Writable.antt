@@ -1,0 +1,20 @@
+-- what is read can be written and is read again (`Fits`, `ReadTrees`)
+pub mod PropsFits
+pub mod PlainFits
+pub mod QuotedFits
+pub mod LeafFits
+pub mod LeafTexts
+pub mod FlowFits
+pub mod BlockFits
+pub mod ReadParts
+pub mod ReadDerived
+pub mod ReadFits
+pub mod CommentsFit
+pub mod DirectivesFit
+pub mod TreesRead
+pub mod ContentFound
+pub mod GapPasses
+pub mod ReadTrees
+pub mod FitFlows
+pub mod ContentLaws
+pub mod StillLeaves

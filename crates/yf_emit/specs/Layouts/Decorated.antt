@@ -1,0 +1,104 @@
+-- A layout as rows, and in parallel what each row carries after it: the comments that trail it, and the lines before the next row.
+-- As bytes with anything that follows. It equals `layout` (`proofs/Derived/DecoratedLemmas.antt`), and the proofs about a layout rest on it.
+use Rattle.std.specs.Prelude.{ℕ, Bool, true, false, not, ◌&&◌, List, [], ◌∷◌, ◌++◌, map, filter, replicate}
+use Rattle.yf_comments.specs.Comment.{CommentValue}
+pub use Rattle.yf_comments.specs.GapLines.{GapLine, blank, remark, gap_then}
+use Rattle.yf_events.specs.Tree.{DocumentTree}
+use Rattle.yf_events.specs.declared.lists.Lists.{Lists}
+use Rattle.yf_emit.specs.declared.style.Style.{Style}
+use Rattle.yf_emit.specs.Layouts.BareStart.{is_bare}
+use Rattle.yf_emit.specs.Layouts.Layout.{Source, may_be_blank_after, own_line_comments, precedes_item, source_of, trailing, trimmed}
+use Rattle.yf_emit.specs.NormalForms.Normal.{setting_of}
+use Rattle.yf_emit.specs.Layouts.Rows.{Row, Ending, anywhere, at_text_start, all_rows}
+
+-- the texts of the comments that trail a row, and the lines after it
+pub record Deco : Type 0 where
+  pub trails : List (List ℕ)
+  pub gap : List GapLine
+
+abbrev pub no_deco : Deco
+no_deco = record { trails = []; gap = [] }
+
+-- of a list that is too short the missing ones carry nothing
+abbrev pub first : List Deco → Deco
+first [] = no_deco
+first (d ∷ ds) = d
+
+abbrev pub after : List Deco → List Deco
+after [] = []
+after (d ∷ ds) = ds
+
+-- what is carried by the rows after these
+abbrev pub past : List Row → List Deco → List Deco
+past [] ds = ds
+past (x ∷ xs) ds = past xs (after ds)
+
+-- Bytes, and r after them.
+
+abbrev pub trails_then : List (List ℕ) → List ℕ → List ℕ
+trails_then [] r = r
+trails_then (x ∷ xs) r = 32 ∷ 32 ∷ (x ++ trails_then xs r)
+
+-- the lines of a block scalar
+abbrev pub body_then : List (List ℕ) → List ℕ → List ℕ
+body_then [] r = r
+body_then (x ∷ xs) r = x ++ (10 ∷ body_then xs r)
+
+-- after the text of a row with this body
+abbrev pub end_then : Deco → List (List ℕ) → List ℕ → List ℕ
+end_then d body r = trails_then d.trails (10 ∷ body_then body (gap_then d.gap r))
+
+-- rows with what they carry
+abbrev pub lines_then : List Row → List Deco → List ℕ → List ℕ
+lines_then [] ds r = r
+lines_then (x ∷ xs) ds r = replicate x.column 32 ++ (x.text ++ end_then (first ds) x.body (lines_then xs (after ds) r))
+
+-- the same where the first row's text follows what is on its line
+abbrev pub inline_then : List Row → List Deco → List ℕ → List ℕ
+inline_then [] ds r = r
+inline_then (x ∷ xs) ds r = x.text ++ end_then (first ds) x.body (lines_then xs (after ds) r)
+
+-- What the rows of a source carry.
+
+abbrev pub blank_if : Bool → List GapLine
+blank_if true = blank ∷ []
+blank_if false = []
+
+-- comments on lines of their own, after a line with that ending
+abbrev pub remarks_after : Ending → ℕ → List CommentValue → List GapLine
+remarks_after before column [] = []
+remarks_after before column (c ∷ cs) =
+    blank_if (may_be_blank_after before && c.blank_before) ++ (remark column (trimmed c.text) ∷ remarks_after anywhere column cs)
+
+abbrev pub ending_after : Ending → List CommentValue → Ending
+ending_after before [] = before
+ending_after before (c ∷ cs) = anywhere
+
+-- the lines before the first of these rows, after a line with that ending
+abbrev pub gap_of : Ending → List CommentValue → List Row → List GapLine
+gap_of before comments [] = remarks_after before 0 comments
+gap_of before comments (row ∷ rows) =
+    remarks_after before row.column (filter (precedes_item row) comments)
+    ++ blank_if (may_be_blank_after (ending_after before (filter (precedes_item row) comments)) && row.blank_before)
+
+abbrev pub comments_left : Row → List CommentValue → List CommentValue
+comments_left row comments = filter (λ d. not (precedes_item row d)) comments
+
+abbrev pub decos_of : Source → List CommentValue → List Row → List Deco
+decos_of c comments [] = []
+decos_of c comments (row ∷ rows) =
+    record { trails = map (λ d. trimmed d.text) (trailing c row); gap = gap_of row.ending (comments_left row comments) rows }
+    ∷ decos_of c (comments_left row comments) rows
+
+-- of a normal reading with these rows
+abbrev pub first_gap : Lists → List Row → List GapLine
+first_gap m rows = gap_of at_text_start (own_line_comments (source_of m rows) rows) rows
+
+abbrev pub row_decos : Lists → List Row → List Deco
+row_decos m rows = decos_of (source_of m rows) (own_line_comments (source_of m rows) rows) rows
+
+abbrev pub decorated : Lists → List Row → List ℕ
+decorated m rows = gap_then (first_gap m rows) (lines_then rows (row_decos m rows) [])
+
+abbrev pub rows_of : Lists → Style → List DocumentTree → List Row
+rows_of m s trees = all_rows (setting_of m s) (is_bare m s) m.documents trees

@@ -1,0 +1,26 @@
+-- The text that one pass over its events prints of a reading, by the measures and forms of its nodes, and by the comments that trail.
+use Rattle.std.specs.Prelude.{◌≡◌, ℕ, List, []}
+use Rattle.yf_events.specs.declared.lists.Lists.{Lists}
+use Rattle.yf_emit.specs.declared.form.decide.Form.{Form}
+use Rattle.yf_emit.specs.declared.form.measure.Measure.{Measure}
+use Rattle.yf_emit.specs.declared.style.Style.{Style}
+use Rattle.yf_emit.specs.NormalForms.Forms.{AreForms}
+use Rattle.yf_emit.specs.Layouts.Layout.{IsLayout}
+use Rattle.yf_emit.specs.NormalForms.Measures.{AreMeasures}
+use Rattle.yf_emit.specs.Passes.MeasurePass.{setting}
+use Rattle.yf_emit.specs.NormalForms.NormalForm.{NormalForm}
+use Rattle.yf_emit.specs.Passes.PrintPass.{printed, work_of}
+use Rattle.yf_emit.specs.Passes.TrailPass.{all_found}
+
+-- u is the text that is printed of the reading m
+pub record Printout (m : Lists) (s : Style) (u : List ℕ) : Type 0 where
+  pub measures : List Measure
+  pub forms : List Form
+  pub measured : AreMeasures [] (setting s []) m.events measures
+  pub decided : AreForms m s measures forms
+  pub is : u ≡ printed (work_of m s measures forms (all_found m measures forms))
+
+-- and it is the layout of m, where m is the normal form of a text's reading
+pub record IsPrinted (m : Lists) (s : Style) (u : List ℕ) : Type 0 where
+  pub printout : Printout m s u
+  pub writes : NormalForm m s → IsLayout m s u

@@ -1,0 +1,34 @@
+-- Where a tab may be in a line of a formatted text that is none of a block scalar's lines.
+use Rattle.std.specs.Prelude.{◌≡◌, ◌≢◌, ℕ, List, [], ◌∷◌, ◌++◌, flat_map, map}
+use Rattle.yf_events.specs.Event.{EventValue, EventInText, scalar_node}
+use Rattle.yf_events.specs.declared.event.ScalarStyle.TheVariants.{Plain, Single}
+use Rattle.yf_events.specs.declared.lists.Lists.{Lists}
+use Rattle.yf_emit.specs.Layouts.Layout.{trimmed}
+use Rattle.yf_emit.specs.Nodes.OneLine.{scalar_text}
+
+-- a text is among these
+pub data HasText (w : List ℕ) : List (List ℕ) → Type 0 where
+  first_text : {v : List ℕ} {ws : List (List ℕ)} → w ≡ v → HasText w (v ∷ ws)
+  later_text : {v : List ℕ} {ws : List (List ℕ)} → HasText w ws → HasText w (v ∷ ws)
+
+-- a plain or single-quoted scalar, as it is written
+abbrev pub tokens_of_event : EventValue → List (List ℕ)
+tokens_of_event (scalar_node props Plain text) = text ∷ []
+tokens_of_event (scalar_node props Single text) = scalar_text Single text ∷ []
+tokens_of_event e = []
+
+abbrev pub tokens_in : List EventInText → List (List ℕ)
+tokens_in es = flat_map (λ (e : EventInText). tokens_of_event e.event) es
+
+-- the comments, without the white space at their ends
+abbrev pub comment_texts : Lists → List (List ℕ)
+comment_texts q = map (λ c. trimmed c.text) q.comments
+
+abbrev pub IsToken : Lists → List ℕ → Type 0
+IsToken q w = HasText w (tokens_in q.events ++ comment_texts q)
+
+-- a line's text is made of tokens and of other bytes, of which none is a tab
+pub data TabsWithin (Token : List ℕ → Type 0) : List ℕ → Type 0 where
+  at_end : TabsWithin Token []
+  no_tab : {b : ℕ} {x : List ℕ} → b ≢ 9 → TabsWithin Token x → TabsWithin Token (b ∷ x)
+  a_token : {w x : List ℕ} → Token w → TabsWithin Token x → TabsWithin Token (w ++ x)

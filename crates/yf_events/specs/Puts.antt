@@ -1,8 +1,0 @@
--- What writing a text does, told by a plain answer.
-use Rattle.std.specs.Prelude.{ℕ, List, Bool, Option}
-use Rattle.std.specs.Bool.{MatchBool}
-use Rattle.yf_lines.specs.Output.{Wrote, Broke}
-
--- the text was written, or the writer failed
-abbrev pub Puts : Option (List ℕ) → Option (List ℕ) → Bool → Bool → List ℕ → Bool → Type 0
-Puts old new before after text done = MatchBool done (Wrote old new before after text) (Broke old new after text)

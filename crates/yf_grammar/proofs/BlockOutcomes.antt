@@ -1,0 +1,27 @@
+-- the recursive reader of block nodes: what it finds of entries and collections, what it reaches, and which is its last halt
+pub mod OutcomeEnds
+pub mod OutcomeMade
+pub mod OneScalars
+pub mod BlockClaims
+pub mod BlockSigns
+pub mod BlockStarts
+pub mod BlockEnds
+pub mod BlockGaps
+pub mod BlockKeys
+pub mod BlockKeyLines
+pub mod BlockFirst
+pub mod BlockItems
+pub mod BlockEntries
+pub mod BlockEmpty
+pub mod BlockNodes
+pub mod BlockInline
+pub mod BlockExtended
+pub mod BlockHalts
+pub mod BlockQuestions
+pub mod BlockCover
+pub mod BlockReach
+pub mod BlockLeading
+pub mod BlockParts
+pub mod HaltsLater
+pub mod NodesAfter
+pub mod BlockStatements

@@ -1,0 +1,24 @@
+-- the recursive reader of flow nodes: one outcome (`Outcome`), sound, complete, the longest; and that it has an outcome
+pub mod ParserLemmas
+pub mod Outcome
+pub mod OneLine
+pub mod Sound
+pub mod FlowStarts
+pub mod QuotedEnds
+pub mod PlainEnds
+pub mod PropertiesEnds
+pub mod KeyLines
+pub mod PairKeys
+pub mod CompleteClaims
+pub mod CompleteSteps
+pub mod ContentExact
+pub mod NodeExact
+pub mod ValueExact
+pub mod KeyExact
+pub mod EntryExact
+pub mod EntriesExact
+pub mod Complete
+pub mod Longest
+pub mod YamlNodes
+pub mod NodesAnswered
+pub mod ClearLemmas

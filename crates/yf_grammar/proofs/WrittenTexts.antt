@@ -1,0 +1,7 @@
+-- what is written is read again (the laws of layouts of yf_emit)
+pub mod LeafBack
+pub mod FlowBack
+pub mod PairsBack
+pub mod PlainUnmarked
+pub mod ScalarPlaced
+pub mod KeptNodes

@@ -1,0 +1,36 @@
+-- Texts of nodes that are written on one line: wherever such a text is, and whatever follows that may follow, its production
+-- derives it with the meaning that it has from that offset on.
+use Rattle.std.specs.Prelude.{ℕ, ◌+◌, ℤ, Bool, true, false, List, ◌++◌, length}
+use Rattle.std.specs.Str.{IsUtf8}
+use Rattle.yf_chars.specs.declared.context.Ctx.{Ctx}
+use Rattle.yf_lines.specs.LineText.{IsLineText, Follows, is_after_name, is_after_text}
+use Rattle.yf_lines.specs.Rest.{Rest}
+use Rattle.yf_grammar.specs.Productions.Grammar.{Derives, NodeOf, JsonContent, Entry, Entries}
+use Rattle.yf_grammar.specs.Productions.Meaning.{Meaning}
+
+-- what may follow: after a name no colon may
+abbrev pub follower : Bool → ℕ → Bool
+follower true = is_after_text
+follower false = is_after_name
+
+-- a node; the first flag says that it is like those of JSON, the second that a colon may follow at once
+pub record Back (json colon : Bool) (c : Ctx) (w : List ℕ) (height : ℕ) (mean : ℕ → Meaning) : Type 0 where
+  pub line : IsLineText w
+  pub made : {t : List ℕ} (n : ℤ) (q : ℕ) (r : List ℕ) → IsUtf8 t → Follows (follower colon) r → Rest t q (w ++ r)
+      → Derives t height (NodeOf json n c) q (q + length w) (mean q)
+
+-- a quoted scalar or a flow collection without properties
+pub record JsonBack (c : Ctx) (w : List ℕ) (height : ℕ) (mean : ℕ → Meaning) : Type 0 where
+  pub line : IsLineText w
+  pub made : {t : List ℕ} (n : ℤ) (q : ℕ) (r : List ℕ) → IsUtf8 t → Rest t q (w ++ r) → Derives t height (JsonContent n c) q (q + length w) (mean q)
+
+-- an entry of a flow collection, and all of them, before a comma or the closing bracket
+pub record EntryBack (sequence : Bool) (c : Ctx) (w : List ℕ) (height : ℕ) (mean : ℕ → Meaning) : Type 0 where
+  pub line : IsLineText w
+  pub made : {t : List ℕ} (n : ℤ) (q : ℕ) (r : List ℕ) → IsUtf8 t → Follows is_after_name r → Rest t q (w ++ r)
+      → Derives t height (Entry sequence n c) q (q + length w) (mean q)
+
+pub record EntriesBack (sequence : Bool) (c : Ctx) (w : List ℕ) (height : ℕ) (mean : ℕ → Meaning) : Type 0 where
+  pub line : IsLineText w
+  pub made : {t : List ℕ} (n : ℤ) (q : ℕ) (r : List ℕ) → IsUtf8 t → Follows is_after_name r → Rest t q (w ++ r)
+      → Derives t height (Entries sequence n c) q (q + length w) (mean q)

@@ -1,0 +1,19 @@
+//! What the contexts of the productions tell of scalars (YAML 1.2.2, section 7.3).
+ghost use Rattle.std.specs.Prelude.{◌≡◌};
+ghost use Rattle.yf_lines.specs.Basic.{is_block, is_key};
+
+use yf_chars::context::Ctx;
+
+/// Whether no scalar in flow style is in that context.
+pub fn is_block(ctx: Ctx) -> bool
+    ensures { result ≡ is_block ctx }
+{
+    matches!(ctx, Ctx::BlockOut | Ctx::BlockIn)
+}
+
+/// Whether a scalar in that context is on one line.
+pub fn is_key(ctx: Ctx) -> bool
+    ensures { result ≡ is_key ctx }
+{
+    matches!(ctx, Ctx::BlockKey | Ctx::FlowKey)
+}

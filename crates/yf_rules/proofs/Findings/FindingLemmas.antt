@@ -1,0 +1,83 @@
+-- The lines of the findings that are left are those of the next one and of the ones after it.
+use Rattle.std.proofs.Common.{◌≡◌, ℕ, ◌+◌, ◌<◌, ◌≤◌, List, [], ◌∷◌, ◌++◌, Bool, Option, Result, Ok, Err, length, drop, get_or, ap, sym, ◌∙◌, subst, add-one, drop-cons}
+use Rattle.std.specs.Prelude.{IfOk}
+use Rattle.std.specs.Str.{IsUtf8}
+use Rattle.yf_lines.specs.Lines.{AreLines, Table}
+use Rattle.yf_lines.specs.Output.{Wrote, Broke}
+use Rattle.yf_events.specs.declared.lists.Lists.{Lists}
+use Rattle.yf_events.specs.declared.reading.TheConstants.{DEPTH}
+use Rattle.yf_events.specs.Nested.{IsStream}
+use Rattle.yf_events.specs.Reading.{events_of}
+use Rattle.yf_lines.proofs.OutputLemmas.{Progress}
+use Rattle.yf_emit.specs.Format.{IsFormatting}
+use Rattle.yf_emit.specs.declared.style.Style.{Style}
+use Rattle.yf_rules.specs.declared.finding.Finding.{Finding}
+use Rattle.yf_rules.specs.declared.run.TheConstants.{INPUT_LIMIT}
+use Rattle.yf_rules.specs.NothingToFix.{IsFormatted, NoneFixable}
+use Rattle.yf_rules.specs.Runs.Run.{CheckResult, Gave, finding_line, findings_text, has_any}
+use Rattle.yf_stream.specs.ReadingOf.{ReadingOf}
+use Rattle.yf_stream.specs.StreamReader.{TheReading}
+use Rattle.yf_rules.specs.Findings.{FoundIn}
+
+pub next_finding : (old new : Option (List ℕ)) (before after : Bool) (text : List ℕ) (findings : List Finding) (i : ℕ) (d : Finding)
+    → i < length findings → Progress old new before after text (findings_text (drop i findings))
+    → Progress old new before after text (finding_line (get_or findings i d) ++ findings_text (drop (i + 1) findings))
+next_finding old new before after text findings i d within p =
+    let cut : drop i findings ≡ get_or findings i d ∷ drop (i + 1) findings = rw add-one (drop-cons findings i d within) in
+    subst (Progress old new before after text) (ap findings_text cut) p
+
+-- what the rules find in a text, from the clauses of the check
+pub found_text : {V E : Type 0} {text : List ℕ} (C : Table → Lists → List Finding → Type 0) (style : Style) (src : Table) (reading : Lists)
+    (items : V → List Finding) (outcome : Result V E) → src.text ≡ text → AreLines text src.lines → IsStream DEPTH (events_of reading) → TheReading text reading
+    → IfOk outcome (λ v. C src reading (items v)) → IfOk outcome (λ v. IsFormatted src reading style → NoneFixable (items v))
+    → IfOk outcome (λ v. FoundIn C style text (items v))
+found_text C style src reading items (Ok v) same lines nested reads checked mended =
+    let of_text = subst (λ t. AreLines t src.lines) (sym same) lines in record {
+      src = src;
+      reading = reading;
+      of_text = same;
+      lines = of_text;
+      nested = nested;
+      reads = reads;
+      checked = checked;
+      mends = λ source utf8 formats. mended (record {
+        source = source;
+        utf8 = utf8;
+        formats = subst (λ t. IsFormatting source style t) (sym same) formats;
+        lines = of_text;
+        reads = subst (λ t. ReadingOf t reading) (sym same) reads.reads;
+      });
+    }
+found_text C style src reading items (Err e) same lines nested reads checked mended = tt
+
+-- what the rules find in the text that was read
+pub found_in : {C : Table → Lists → List Finding → Type 0} {style : Style} {known : Option (List ℕ)} {text bytes : List ℕ} {findings : List Finding}
+    → FoundIn C style text findings → text ≡ bytes → Gave known bytes → length bytes ≤ INPUT_LIMIT → IsUtf8 text → CheckResult C style known findings
+found_in {style = style} {known = known} {text = text} found same gave within utf8 = record {
+  src = found.src;
+  reading = found.reading;
+  gave = subst (λ t. Gave known t) (sym (found.of_text ∙ same)) gave;
+  within = subst (λ t. length t ≤ INPUT_LIMIT) (sym (found.of_text ∙ same)) within;
+  utf8 = subst (λ t. IsUtf8 t) (sym found.of_text) utf8;
+  lines = found.lines;
+  nested = found.nested;
+  reads = subst (λ t. TheReading t found.reading) (sym found.of_text) found.reads;
+  checked = found.checked;
+  mends = λ source u formats. found.mends source u (subst (λ t. IsFormatting source style t) found.of_text formats);
+}
+
+-- the same findings have the same lines
+pub wrote_same : {old new : Option (List ℕ)} {before after : Bool} {x y : List Finding} → x ≡ y
+    → Wrote old new before after (findings_text x) → Wrote old new before after (findings_text y)
+wrote_same {old} {new} {before} {after} e w = subst (λ z. Wrote old new before after (findings_text z)) e w
+
+pub broke_same : {old new : Option (List ℕ)} {after : Bool} {x y : List Finding} → x ≡ y
+    → Broke old new after (findings_text x) → Broke old new after (findings_text y)
+broke_same {old} {new} {after} e w = subst (λ z. Broke old new after (findings_text z)) e w
+
+pub any_same : {x y : List Finding} → x ≡ y → has_any x ≡ has_any y
+any_same e = ap has_any e
+
+-- a reading that is the same is as well nested
+pub nested_same : {x y : Lists} → x ≡ y → IsStream DEPTH (events_of x) → IsStream DEPTH (events_of y)
+nested_same e s = subst (λ r. IsStream DEPTH (events_of r)) e s

@@ -1,0 +1,9 @@
+-- indentation: what its passes find is its set
+pub mod EntryLemmas
+pub mod FaultLemmas
+pub mod QuietLemmas
+pub mod EntryColumns
+pub mod MisindentLemmas
+pub mod PassLemmas
+pub mod StandSetLemmas
+pub mod StandTreeLemmas

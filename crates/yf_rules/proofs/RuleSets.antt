@@ -1,0 +1,14 @@
+-- each rule but indentation: what its pass finds is its set
+pub mod TrailingLemmas
+pub mod StyleLemmas
+pub mod DocumentLemmas
+pub mod BreakLemmas
+pub mod MarkPassLemmas
+pub mod BlankLemmas
+pub mod DisplacedLemmas
+pub mod RunLemmas
+pub mod KeyTreeLemmas
+pub mod KeySetLemmas
+pub mod KeyPassLemmas
+pub mod KeyListLemmas
+pub mod NeedlessLemmas

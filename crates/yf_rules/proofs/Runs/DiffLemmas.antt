@@ -1,0 +1,43 @@
+-- What the run that tells the diff of a text and its formatting has read and written.
+use Rattle.std.proofs.Common.{◌≡◌, ℕ, ◌≤◌, Bool, true, List, [], ap, length, sym, subst}
+use Rattle.std.specs.Prelude.{Option, Result, Ok, Err, IfOk, IfSome}
+use Rattle.std.specs.Str.{IsUtf8}
+use Rattle.yf_emit.specs.declared.style.Style.{Style}
+use Rattle.yf_lines.specs.Output.{Wrote}
+use Rattle.yf_rules.specs.declared.run.TheConstants.{INPUT_LIMIT}
+use Rattle.yf_rules.specs.Runs.Compare.{IsClean}
+use Rattle.yf_rules.specs.Runs.Diffed.{DiffIn, DiffOf, DiffRun, is_same}
+use Rattle.yf_rules.specs.Headline.{IsMended}
+use Rattle.yf_rules.specs.Runs.Run.{Gave}
+use Rattle.yf_rules.proofs.Runs.CompareLemmas.{other_formatting, own_formatting, own_is_clean, wrote_nothing}
+use Rattle.yf_rules.proofs.HeadlineHolds.{headline_holds}
+
+-- what is told of a text that was read
+pub diff_holds : {B E : Type 0} (style : Style) (name : List ℕ) (known : Option (List ℕ)) (t : List ℕ) → Gave known t → length t ≤ INPUT_LIMIT → IsUtf8 t
+    → (bytes : B → List ℕ) (given : Result B E) → IfOk given (λ diff. DiffIn t style name (bytes diff)) → IfOk given (λ diff. DiffOf style name known (bytes diff))
+diff_holds style name known t gave within utf8 bytes (Ok diff) d =
+    let headline = headline_holds within utf8 d.kept d.within in
+    record {
+      formatted = d.formatted;
+      rendered = record { text = t; gave = gave; headline = headline };
+      written = d.written;
+      told = d.told;
+      own = λ none. own_formatting d.kept (d.told none);
+      other = λ some. other_formatting d.kept (λ same. some (d.same same));
+      mended = λ none. subst (λ v. IsMended v style) (sym (d.told none)) headline.mended;
+    }
+diff_holds style name known t gave within utf8 bytes (Err e) d = tt
+
+-- where nothing differs, there is nothing that the house style fixes
+pub nothing_is_clean : {style : Style} {name : List ℕ} {known : Option (List ℕ)} {diff : List ℕ} → DiffOf style name known diff → diff ≡ [] → IfSome known (IsClean style)
+nothing_is_clean d none = own_is_clean d.rendered (d.told none)
+
+-- and nothing is written
+pub nothing_told : {style : Style} {name : List ℕ} {known : Option (List ℕ)} {diff : List ℕ} (old : Option (List ℕ)) (failed : Bool) → DiffOf style name known diff → diff ≡ []
+    → DiffRun style name known old old failed failed true
+nothing_told {diff = diff} old failed d none = record {
+  diff = diff;
+  of_text = d;
+  wrote = subst (λ (text : List ℕ). Wrote old old failed failed text) (sym none) (wrote_nothing old failed);
+  answer = sym (ap (λ (text : List ℕ). is_same text) none);
+}

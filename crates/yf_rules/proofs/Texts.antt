@@ -1,0 +1,13 @@
+-- what is known of texts, lines and readings, for several rules
+pub mod ExactLemmas
+pub mod BegunLemmas
+pub mod NotedLemmas
+pub mod WhitesLemmas
+pub mod LastLemmas
+pub mod ColumnLemmas
+pub mod NodeLemmas
+pub mod NodePlaceLemmas
+pub mod FlowLemmas
+pub mod BlockLemmas
+pub mod ScalarLemmas
+pub mod ScalarPasses

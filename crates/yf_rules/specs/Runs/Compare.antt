@@ -1,0 +1,77 @@
+-- Whether a text is its own formatting, and where it differs from that first.
+use Rattle.std.specs.Prelude.{◌≡◌, ◌≢◌, ◌≤◌, ℕ, List, [], ◌∷◌, length, take, Bool, Option, Some, None, MatchOption, codes, decimal}
+use Rattle.std.specs.List.{concat}
+use Rattle.std.specs.Option.{is_none}
+use Rattle.std.specs.Str.{IsCharBoundary}
+use Rattle.yf_chars.specs.Text.{code}
+use Rattle.yf_lines.specs.FaultPlaces.{IsPlaceOf}
+use Rattle.yf_lines.specs.Output.{Wrote, Broke}
+use Rattle.yf_lines.specs.declared.fault.Fault.{Fault}
+use Rattle.yf_lines.specs.declared.place.Position.{Position}
+use Rattle.yf_emit.specs.Format.{IsFormatting}
+use Rattle.yf_emit.specs.FormatPromises.{FormatKept}
+use Rattle.yf_emit.specs.declared.style.Style.{Style}
+use Rattle.yf_stream.specs.declared.stream.TheConstants.{LONGEST}
+use Rattle.yf_rules.specs.Headline.{IsMended}
+use Rattle.yf_rules.specs.Runs.Run.{RefusedRun, FormattingGiven}
+
+-- the texts are the same before the offset, at which no character of either is cut
+pub record SameUpTo (t u : List ℕ) (at : ℕ) : Type 0 where
+  pub boundary : IsCharBoundary t at
+  pub other_boundary : IsCharBoundary u at
+  pub same : take at t ≡ take at u
+
+-- the same, and at the offset they have different characters, or one of them ends
+pub record DifferAt (t u : List ℕ) (at : ℕ) : Type 0 where
+  pub before : SameUpTo t u at
+  pub differ : code t at ≢ code u at
+
+-- the place in t of the first character in which t and u differ, or of its end
+pub data DiffersFirst (t u : List ℕ) (place : Position) : Type 0 where
+  differs_first : {at : ℕ} → DifferAt t u at → IsPlaceOf t at place → DiffersFirst t u place
+
+-- a text was read, and the place is where it first differs from its formatting; there is none where it is its own formatting, and only there.
+-- Then nothing in it is at fault that the house style fixes
+pub record Difference (style : Style) (known : Option (List ℕ)) (place : Option Position) : Type 0 where
+  pub formatted : List ℕ
+  pub rendered : FormattingGiven style known formatted
+  pub first : MatchOption place (rendered.text ≡ formatted) (DiffersFirst rendered.text formatted)
+  pub exact : MatchOption place (FormatKept rendered.text style rendered.text) (λ _. IsFormatting rendered.text style rendered.text → ⊥)
+  pub mended : MatchOption place (IsMended rendered.text style) (λ _. Unit {0})
+
+-- the same of a text, before it is known where it comes from
+pub record DifferenceIn (t : List ℕ) (style : Style) (place : Option Position) : Type 0 where
+  pub formatted : List ℕ
+  pub kept : FormatKept t style formatted
+  pub within : length formatted ≤ LONGEST
+  pub first : MatchOption place (t ≡ formatted) (DiffersFirst t formatted)
+
+-- the line of a text that is not its own formatting
+abbrev pub difference_line : Position → List ℕ
+difference_line place = concat (decimal place.line ∷ codes ":" ∷ decimal place.column ∷ codes " not formatted\n" ∷ [])
+
+abbrev pub difference_text : Option Position → List ℕ
+difference_text None = []
+difference_text (Some place) = difference_line place
+
+-- a text was read, it was answered whether it is its own formatting, and where it is not, the line with the place was written, and nothing else
+pub record CompareRun (style : Style) (known old new : Option (List ℕ)) (before after : Bool) (same : Bool) : Type 0 where
+  pub place : Option Position
+  pub difference : Difference style known place
+  pub wrote : Wrote old new before after (difference_text place)
+  pub answer : same ≡ is_none place
+
+-- nothing in the text is at fault that the house style fixes
+abbrev pub IsClean : Style → List ℕ → Type 0
+IsClean style text = IsMended text style
+
+-- a text was read that is not its own formatting, but the writer failed, and a prefix of the line was written
+pub record BrokeOffDifference (style : Style) (known old new : Option (List ℕ)) (after : Bool) : Type 0 where
+  pub place : Position
+  pub difference : Difference style known (Some place)
+  pub broke : Broke old new after (difference_line place)
+
+-- why the run that compares is refused
+abbrev pub RefusedCompare : Style → Option (List ℕ) → Bool → Bool → Option (List ℕ) → Option (List ℕ) → Bool → Bool → Fault → Type 0
+RefusedCompare style known read_before read_after old new before after fault =
+    RefusedRun (BrokeOffDifference style known old new after) known read_before read_after old new before after fault

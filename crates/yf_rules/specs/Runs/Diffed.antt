@@ -1,0 +1,55 @@
+-- How a text differs from its formatting, as a unified diff.
+use Rattle.std.specs.Prelude.{◌≡◌, ◌≢◌, ◌≤◌, ℕ, List, [], length, Bool, true, false, Option}
+use Rattle.yf_diff.specs.Diff.{AddsDiff}
+use Rattle.yf_lines.specs.Output.{Wrote, Broke}
+use Rattle.yf_lines.specs.declared.fault.Fault.{Fault}
+use Rattle.yf_emit.specs.Format.{IsFormatting}
+use Rattle.yf_emit.specs.FormatPromises.{FormatKept}
+use Rattle.yf_emit.specs.declared.style.Style.{Style}
+use Rattle.yf_stream.specs.declared.stream.TheConstants.{LONGEST}
+use Rattle.yf_rules.specs.Headline.{IsMended}
+use Rattle.yf_rules.specs.Runs.Run.{RefusedRun, FormattingGiven}
+
+-- that is the diff of a text and its formatting, both under the name; it is empty where they are the same, and only there
+pub record DiffIn (t : List ℕ) (style : Style) (name diff : List ℕ) : Type 0 where
+  pub formatted : List ℕ
+  pub kept : FormatKept t style formatted
+  pub within : length formatted ≤ LONGEST
+  pub written : AddsDiff name name t formatted [] diff
+  pub told : diff ≡ [] → t ≡ formatted
+  pub same : t ≡ formatted → diff ≡ []
+
+-- The same of a text that was read. The diff is empty where the text is its own formatting, and only there; then nothing in it is at fault that the
+-- house style fixes.
+pub record DiffOf (style : Style) (name : List ℕ) (known : Option (List ℕ)) (diff : List ℕ) : Type 0 where
+  pub formatted : List ℕ
+  pub rendered : FormattingGiven style known formatted
+  pub written : AddsDiff name name rendered.text formatted [] diff
+  pub told : diff ≡ [] → rendered.text ≡ formatted
+  pub own : diff ≡ [] → FormatKept rendered.text style rendered.text
+  pub other : diff ≢ [] → IsFormatting rendered.text style rendered.text → ⊥
+  pub mended : diff ≡ [] → IsMended rendered.text style
+
+-- whether nothing differs
+abbrev pub is_same : List ℕ → Bool
+is_same [] = true
+is_same _ = false
+
+-- a text was read, the diff of it and its formatting was written, and nothing else, and it was answered whether it is its own formatting
+pub record DiffRun (style : Style) (name : List ℕ) (known old new : Option (List ℕ)) (before after : Bool) (same : Bool) : Type 0 where
+  pub diff : List ℕ
+  pub of_text : DiffOf style name known diff
+  pub wrote : Wrote old new before after diff
+  pub answer : same ≡ is_same diff
+
+-- a text was read that is not its own formatting, but the writer failed, and a prefix of the diff was written
+pub record BrokeOffDiff (style : Style) (name : List ℕ) (known old new : Option (List ℕ)) (after : Bool) : Type 0 where
+  pub diff : List ℕ
+  pub of_text : DiffOf style name known diff
+  pub differs : diff ≢ []
+  pub broke : Broke old new after diff
+
+-- why the run that tells the diff is refused
+abbrev pub RefusedDiff : Style → List ℕ → Option (List ℕ) → Bool → Bool → Option (List ℕ) → Option (List ℕ) → Bool → Bool → Fault → Type 0
+RefusedDiff style name known read_before read_after old new before after fault =
+    RefusedRun (BrokeOffDiff style name known old new after) known read_before read_after old new before after fault

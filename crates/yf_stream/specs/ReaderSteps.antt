@@ -1,0 +1,17 @@
+-- What holds between two steps of the reader of streams: the places that it keeps lie between characters, and less of
+-- the text is left at each step.
+use Rattle.std.specs.Prelude.{ℕ, ◌≤◌, List}
+use Rattle.std.specs.Str.{IsCharBoundary}
+use Rattle.yf_stream.specs.declared.documents.StreamStep.{StreamStep}
+use Rattle.yf_stream.specs.declared.documents.StreamStep.TheVariants.{Go, Syntax, TooDeep}
+
+-- a place at an offset or after it
+pub record BoundaryFrom (t : List ℕ) (at p : ℕ) : Type 0 where
+  pub boundary : IsCharBoundary t p
+  pub order : at ≤ p
+
+-- the reading goes on at the offset or after it, or stops at a place between characters
+abbrev pub NextAt : List ℕ → ℕ → StreamStep → Type 0
+NextAt t at (Go spot) = BoundaryFrom t at spot.at × IsCharBoundary t spot.reached
+NextAt t at (Syntax place) = IsCharBoundary t place
+NextAt t at (TooDeep place) = IsCharBoundary t place
