@@ -20,6 +20,9 @@ use Rattle.yf_block_scalar.specs.Body.Line.{empty_line, content_line}
 use Rattle.yf_block_scalar.specs.Body.Lines.{no_content, up_to}
 use Rattle.yf_block_scalar.specs.Body.MarkerLine.{marker_here, past_mark}
 use Rattle.yf_block_scalar.specs.Body.Shallow.{missing, left_of, forbidden}
+use Rattle.yf_chars.proofs.CharFacts.{return_no_nb, feed_no_nb}
+use Rattle.yf_lines.proofs.ClearLemmas.{marker_char}
+use Rattle.yf_lines.proofs.MarkLemmas.{mark_within}
 
 -- spaces
 pub spaces_fewer : {t : List ℕ} {i m : ℕ} (k : ℕ) → k ≤ m → Spaces t i m → Spaces t i k
@@ -57,21 +60,12 @@ space_line_there t at e j l s b =
     let same : e ≡ at + (e - at) = omega arith in
     record { spaces = s; ends = subst (λ h. Break t h j) same b }
 
--- nb-chars end at a break and at the end of the text
-pub no_nb_13 : is_nb_char 13 ≡ false
-unfolding is_nb_char is_printable is_between is_break_char
-no_nb_13 = refl
-
-no_nb_10 : is_nb_char 10 ≡ false
-unfolding is_nb_char is_printable is_between is_break_char
-no_nb_10 = refl
-
 pub no_nb_end : is_nb_char no_char ≡ false
 unfolding is_nb_char is_printable is_between is_break_char
 no_nb_end = refl
 
 pub break_no_nb : {t : List ℕ} {h j : ℕ} → Break t h j → is_nb_char (code t h) ≡ false
-break_no_nb b = ⊎_elim (λ h. ap is_nb_char h ∙ no_nb_13) (λ h. ap is_nb_char h ∙ no_nb_10) (break_char b)
+break_no_nb b = ⊎_elim (λ h. ap is_nb_char h ∙ return_no_nb) (λ h. ap is_nb_char h ∙ feed_no_nb) (break_char b)
 
 pub ends_no_nb : {t : List ℕ} {h j : ℕ} {o : Bool} → Ends t h j o → is_nb_char (code t h) ≡ false
 ends_no_nb (by_break b) = break_no_nb b
@@ -234,21 +228,14 @@ stuck_at t i c e s a b =
     let q : code t (i + 0) ≡ c = ap (code t) here ∙ e in
     bare_stuck t i 0 (record { each = λ m l. absurd (omega arith) }) (λ h. s (sym q ∙ h)) (no_break_code t (i + 0) c q a b)
 
-pub marker_code : (t : List ℕ) (i : ℕ) → is_marker t i ≡ true → (code t i ≡ 45) ⊎ (code t i ≡ 46)
-marker_code t i e =
-    ⊎_elim (λ (h : code t i ≡ 45). inl h) (λ (n : code t i ≢ 45).
-    ⊎_elim (λ (h : code t i ≡ 46). inr h) (λ (m : code t i ≢ 46).
-    absurd (true≢false (sym e ∙ no_marker t i (three_first t i 45 n) (three_first t i 46 m))))
-    (cases_eq (code t i) 46)) (cases_eq (code t i) 45)
-
 marker_stuck : {t : List ℕ} {i : ℕ} → MarkerLine t i → Stuck (EmptyLines t i)
 marker_stuck {t} {i} (marker_here e) =
     ⊎_elim (λ (h : code t i ≡ 45). stuck_at t i 45 h (λ w. absurd (omega arith)) (λ w. absurd (omega arith)) (λ w. absurd (omega arith)))
     (λ (h : code t i ≡ 46). stuck_at t i 46 h (λ w. absurd (omega arith)) (λ w. absurd (omega arith)) (λ w. absurd (omega arith)))
-    (marker_code t i e)
+    (marker_char t i e)
 marker_stuck {t} {i} (past_mark e l) = stuck_at t i 0xFEFF e (λ w. absurd (omega arith)) (λ w. absurd (omega arith)) (λ w. absurd (omega arith))
 
-end_code : (t : List ℕ) (i : ℕ) → i ≡ length t → code t i ≡ no_char
+pub end_code : (t : List ℕ) (i : ℕ) → i ≡ length t → code t i ≡ no_char
 end_code t i e = ap (code t) e ∙ code-end t
 
 pub shallow_stuck : {t : List ℕ} {n : ℤ} {i : ℕ} → Shallow t n i → Stuck (EmptyLines t i)
@@ -292,20 +279,12 @@ too_long_shallow {t} {n} {i} {h} {k} {ms} c d p ds e q =
     let meet = stuck_unique (bare_functional t) c (indented_stuck d) e (shallow_stuck q) in
     not_both d (subst (λ w. Shallow t n w) (sym meet.0) q)
 
--- byte order marks before a document marker
-pub mark_within : (t : List ℕ) (i : ℕ) → IsUtf8 t → code t i ≡ 0xFEFF → i + 3 ≤ length t
-mark_within t i u e =
-    let r = reads_real t i u (rw e (omega arith)) in
-    let w = r.within in
-    let n : next t i ≡ i + 3 = next-mark t i e in
-    omega arith
-
 pub marker_past : (t : List ℕ) (i : ℕ) → code t i ≡ 0xFEFF → MarkerLine t (i + 3) → MarkerLine t i
 marker_past t i e l = past_mark e (subst (λ w. MarkerLine t w) (sym (next-mark t i e)) l)
 
 marker_view : {t : List ℕ} {i : ℕ} → code t i ≡ 0xFEFF → MarkerLine t i → MarkerLine t (next t i)
 marker_view {t} {i} e (marker_here m) =
-    ⊎_elim (λ (h : code t i ≡ 45). absurd (omega arith)) (λ (h : code t i ≡ 46). absurd (omega arith)) (marker_code t i m)
+    ⊎_elim (λ (h : code t i ≡ 45). absurd (omega arith)) (λ (h : code t i ≡ 46). absurd (omega arith)) (marker_char t i m)
 marker_view e (past_mark m l) = l
 
 pub marker_rest : (t : List ℕ) (i : ℕ) → code t i ≡ 0xFEFF → MarkerLine t i → MarkerLine t (i + 3)

@@ -44,13 +44,7 @@ use Rattle.yf_block_scalar.proofs.BodyLemmas.{no_nb_end, break_no_nb}
 use Rattle.yf_block_scalar.proofs.HeaderLemmas.{between_from, mark_inside}
 use Rattle.yf_block_scalar.proofs.WrittenLemmas.{Rest, rest_start, rest_ascii, rest_spaces, rest_chars, rest_break, space_marker, empty_made, empty_or, indented_full, after_line, some_chars, ContentLineEnd, Lasts, lines_made, tail_made}
 use Rattle.yf_block_scalar.proofs.WrittenLemmas.ContentLineEnd.{open_after, break_after}
-
--- nothing is after the end of the text
-many_nb : {t : List ℕ} {i j : ℕ} {x : List ℕ} → Many t is_nb_char i j x → i < j → is_nb_char (code t i) ≡ true
-many_nb done l = absurd (omega arith)
-many_nb (step s c) l = one_nb s where
-  one_nb : {t : List ℕ} {i j : ℕ} {x : List ℕ} → One t is_nb_char i j x → is_nb_char (code t i) ≡ true
-  one_nb (one e) = e
+use Rattle.yf_block_scalar.proofs.UniqueLemmas.{many_nb}
 
 no_line_past : {t : List ℕ} {k j : ℕ} {x : List (List ℕ)} → Line t k (length t) j x → ⊥
 no_line_past {t} (empty_line {m = m} a l) =

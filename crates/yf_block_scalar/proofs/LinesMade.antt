@@ -23,6 +23,7 @@ use Rattle.yf_block_scalar.specs.Body.Ends.{by_break, by_text}
 use Rattle.yf_block_scalar.specs.Body.LineContent.{content}
 use Rattle.yf_block_scalar.specs.Body.Lines.{no_content, up_to}
 use Rattle.yf_block_scalar.specs.Body.Line.{empty_line, content_line}
+use Rattle.yf_chars.proofs.CharFacts.{end_no_break}
 
 -- so many lines of the text are from i to j
 pub record LinesTo (t : List ℕ) (i j count : ℕ) : Type 0 where
@@ -40,15 +41,11 @@ unbroken_join {j = j} a b = record {
 unbroken_here : {t : List ℕ} (i : ℕ) → NoBreakIn t i i
 unbroken_here i = record { order = omega arith; none = λ h l m. absurd (omega arith) }
 
-no_break_end : is_break_char no_char ≡ false
-unfolding is_break_char
-no_break_end = refl
-
 unbroken_char : {t : List ℕ} {i c j : ℕ} → IsUtf8 t → CharAt t i c j → is_break_char c ≡ false → NoBreakIn t i j
 unbroken_char {t} {i} {c} {j} u r e = record {
   order = let l = r.later in omega arith;
   none = λ h l m. ⊎_elim (λ (f : i ≡ h). ap (λ k. is_break_char (code t k)) (sym f) ∙ ap is_break_char r.char ∙ e)
-      (λ (n : i ≢ h). ap is_break_char (code_inside u r (omega arith) m) ∙ no_break_end) (cases_eq i h);
+      (λ (n : i ≢ h). ap is_break_char (code_inside u r (omega arith) m) ∙ end_no_break) (cases_eq i h);
 }
 
 pub unbroken_nb : {t : List ℕ} {i j : ℕ} {x : List ℕ} → IsUtf8 t → Many t is_nb_char i j x → NoBreakIn t i j

@@ -35,6 +35,7 @@ use Rattle.yf_block_scalar.specs.Written.{indented, AreLineTexts, EndsWithConten
 use Rattle.yf_block_scalar.proofs.WrittenLemmas.{empty_made, after_line, Lasts, lines_made}
 use Rattle.yf_block_scalar.proofs.WrittenLemmas.ContentLineEnd.{break_after}
 use Rattle.yf_block_scalar.proofs.DerivedLemmas.{stuck_past, trail_past, largest-zeros}
+use Rattle.yf_chars.proofs.CharFacts.{hash_ns}
 
 -- the end of the text
 rest_end : {t : List ℕ} {q : ℕ} → Rest t q [] → q ≡ length t
@@ -179,10 +180,6 @@ record Trailed (t : List ℕ) (k p : ℕ) (gap : List GapLine) (r : List ℕ) : 
   pub rest : Rest t place r
   pub is : texts notes ≡ remarks_of gap
 
-ns_hash : is_ns_char 35 ≡ true
-unfolding is_ns_char is_nb_char is_printable is_between is_break_char is_white
-ns_hash = refl
-
 no_trail_below : {t : List ℕ} {k p m : ℕ} → Shallow t k p m → code t (p + m) ≢ 35 → Trail t k p p []
 no_trail_below {t} {k} {p} {m} a n = no_comment (λ w l s e.
     ⊎_elim (λ (h : w < m). let space = a.spaces.each w h in omega arith)
@@ -210,7 +207,7 @@ trailed {t} k (remark column text ∷ gs) {r} {p} u a l b start s =
     let at = remark_at (10 ∷ gap_then gs r) u a.0 spaces.1 in
     let made = gap_at (remark column text ∷ gs) r u a start s in
     let hash : code t (p + column) ≡ 35 = hash_of at.comment in
-    let shallow : Shallow t k p column = record { few = l.0; spaces = spaces.0; char = ap is_ns_char hash ∙ ns_hash } in
+    let shallow : Shallow t k p column = record { few = l.0; spaces = spaces.0; char = ap is_ns_char hash ∙ hash_ns } in
     record {
       place = made.place;
       notes = made.comments;

@@ -12,7 +12,7 @@ use Rattle.yf_chars.specs.Class.{is_nb_char, is_printable, is_between, is_break_
 use Rattle.yf_chars.specs.Chain.{Chain, Many, One}
 use Rattle.yf_chars.specs.Chain.Chain.{done, step}
 use Rattle.yf_chars.specs.Chain.One.{one}
-use Rattle.yf_chars.proofs.TextLemmas.{drop_there, code_from_byte, code-past, next_ascii}
+use Rattle.yf_chars.proofs.TextLemmas.{drop_there, code_from_byte, code-past, next_ascii, code-nowhere}
 use Rattle.yf_chars.proofs.ChainLemmas.{chain_forward, one_functional}
 use Rattle.yf_lines.proofs.BasicLemmas.{break_char}
 use Rattle.yf_comments.specs.declared.comment.Comment.{Comment}
@@ -32,15 +32,11 @@ use Rattle.yf_block_scalar.specs.Body.Body.{indicated, detected, without_content
 use Rattle.yf_block_scalar.specs.Written.{AllNb, IsLineText, AreLineTexts, EndsWithContent, StartsUnspaced, IsCommentText, IsScalar}
 use Rattle.yf_block_scalar.proofs.BodyLemmas.{no_nb_end, indented_stuck}
 use Rattle.yf_block_scalar.proofs.UniqueLemmas.{content_text, not_empty_too, space_line_unique, lines_chain}
-
--- the bytes of nb-chars
-code_nowhere : (t : List ℕ) (i : ℕ) → begins t i ≡ false → code t i ≡ no_char
-unfolding code
-code_nowhere t i h = rw h
+use Rattle.yf_chars.proofs.CharFacts.{hash_nb}
 
 nb_begins : (t : List ℕ) (i : ℕ) → is_nb_char (code t i) ≡ true → begins t i ≡ true
 nb_begins t i e = ⊎_elim (λ (h : begins t i ≡ true). h)
-    (λ (h : begins t i ≡ false). absurd (true≢false (sym e ∙ ap is_nb_char (code_nowhere t i h) ∙ no_nb_end))) (cases_Bool (begins t i))
+    (λ (h : begins t i ≡ false). absurd (true≢false (sym e ∙ ap is_nb_char (code-nowhere t i h) ∙ no_nb_end))) (cases_Bool (begins t i))
 
 next_is : (t : List ℕ) (i : ℕ) → next t i ≡ i + len_utf8 (code t i)
 unfolding next
@@ -190,15 +186,10 @@ to_scalar b u same none body full =
       follows = s.follows;
     }
 
--- a comment's text
-nb_hash : is_nb_char 35 ≡ true
-unfolding is_nb_char is_printable is_between is_break_char
-nb_hash = refl
-
 pub hash_text : {t : List ℕ} {j : ℕ} {x : List ℕ} (i : ℕ) → IsUtf8 t → code t i ≡ 35 → Many t is_nb_char (i + 1) j x
     → (y : List ℕ) × ((slice_range t i j ≡ 35 ∷ y) × IsLineText y)
 hash_text {t} {j} {x} i u e m =
-    let nb : is_nb_char (code t i) ≡ true = ap is_nb_char e ∙ nb_hash in
+    let nb : is_nb_char (code t i) ≡ true = ap is_nb_char e ∙ hash_nb in
     let one_long : next t i ≡ i + 1 = next_ascii t i (omega arith) in
     let m' : Many t is_nb_char (next t i) j x = subst (λ w. Many t is_nb_char w j x) (sym one_long) m in
     let whole : Many t is_nb_char i j (code t i ∷ [] ++ x) = step (one nb) m' in

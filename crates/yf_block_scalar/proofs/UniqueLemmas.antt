@@ -32,7 +32,7 @@ ends_unique {t} {h} (by_break a) (by_text e) = let z : code t h ≡ no_char = ap
 ends_unique {t} {h} (by_text e) (by_break a) = let z : code t h ≡ no_char = ap (code t) e ∙ code-end t in ⊎_elim (λ (q : code t h ≡ 13). absurd (omega arith)) (λ (q : code t h ≡ 10). absurd (omega arith)) (break_char a)
 ends_unique (by_text e) (by_text f) = (refl, refl)
 
-ends_forward : {t : List ℕ} {h j : ℕ} {o : Bool} → Ends t h j o → h ≤ j
+pub ends_forward : {t : List ℕ} {h j : ℕ} {o : Bool} → Ends t h j o → h ≤ j
 ends_forward (by_break b) = omega (arith, break_forward b)
 ends_forward (by_text e) = omega arith
 
@@ -51,7 +51,7 @@ content_forward (content a m b q c) = let f = ends_forward q in omega arith
 one_nb : {t : List ℕ} {i j : ℕ} {x : List ℕ} → One t is_nb_char i j x → is_nb_char (code t i) ≡ true
 one_nb (one e) = e
 
-many_nb : {t : List ℕ} {i j : ℕ} {x : List ℕ} → Many t is_nb_char i j x → i < j → is_nb_char (code t i) ≡ true
+pub many_nb : {t : List ℕ} {i j : ℕ} {x : List ℕ} → Many t is_nb_char i j x → i < j → is_nb_char (code t i) ≡ true
 many_nb done l = absurd (omega arith)
 many_nb (step s c) l = one_nb s
 
@@ -103,7 +103,7 @@ largest_rest : (x y : List ℕ) (k : ℕ) → largest (x ++ y) ≤ k → largest
 largest_rest [] y k l = l
 largest_rest (m ∷ x) y k l = largest_rest x y k (omega arith)
 
-empties : {t : List ℕ} {k i j : ℕ} {ms : List ℕ} → Chain (EmptyLines t) i j ms → largest ms ≤ k → Chain (Line t k) i j (replicate (length ms) [])
+pub empties : {t : List ℕ} {k i j : ℕ} {ms : List ℕ} → Chain (EmptyLines t) i j ms → largest ms ≤ k → Chain (Line t k) i j (replicate (length ms) [])
 empties done l = done
 empties {k = k} (step {x = x} {y = y} s c) l = empties_step y s (empties c (largest_rest x y k l)) l
 

@@ -18,7 +18,7 @@ use Rattle.yf_block_scalar.specs.Body.LineContent.{content}
 use Rattle.yf_block_scalar.specs.Body.Line.{empty_line, content_line}
 use Rattle.yf_block_scalar.specs.Content.{feeds, literal_after}
 use Rattle.yf_block_scalar.specs.Written.{indented, AreLineTexts, EndsWithContent}
-use Rattle.yf_block_scalar.proofs.BodyLemmas.{marker_code}
+use Rattle.yf_lines.proofs.ClearLemmas.{marker_char}
 
 -- a content line that is written
 pub some_chars : (cs : List ℕ) → encodes cs ≢ [] → 0 < length (encodes cs)
@@ -32,7 +32,7 @@ taken_back x r q n e =
 
 pub space_marker : (t : List ℕ) (q : ℕ) → code t q ≡ 32 → is_marker t q ≡ false
 space_marker t q e = ⊎_elim (λ (m : is_marker t q ≡ true).
-    ⊎_elim (λ (h : code t q ≡ 45). absurd (omega arith)) (λ (h : code t q ≡ 46). absurd (omega arith)) (marker_code t q m))
+    ⊎_elim (λ (h : code t q ≡ 45). absurd (omega arith)) (λ (h : code t q ≡ 46). absurd (omega arith)) (marker_char t q m))
     (λ (m : is_marker t q ≡ false). m) (cases_Bool (is_marker t q))
 
 -- the end of a content line: open at the end of the text, or a break

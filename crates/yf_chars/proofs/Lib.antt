@@ -16,3 +16,5 @@ pub mod CommonLemmas
 pub mod LaneLemmas
 pub mod LaneMasks
 mod CommonLanes
+pub mod CharFacts
+pub mod Tests

@@ -118,7 +118,7 @@ short_backslash : short_name 92 ≡ Some 92
 unfolding short_name
 short_backslash = refl
 
-never : {l : ℕ} → None ≡ Some l → ⊥
+pub never : {l : ℕ} → None ≡ Some l → ⊥
 never e = cc
 
 back_itself : (c : ℕ) → IsScalar c → short_name c ≡ None → is_by_two c ≡ false → is_by_four c ≡ false → ReadsBack (encode c) c

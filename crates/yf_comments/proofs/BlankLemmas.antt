@@ -12,6 +12,7 @@ use Rattle.yf_lines.proofs.BasicLemmas.{white_below, break_forward, break_from_l
 use Rattle.yf_comments.specs.Comments.{is_gap, Blank, BlankBefore}
 use Rattle.yf_comments.specs.Comments.Blank.{text_begins, break_ends, white_ends}
 use Rattle.yf_comments.specs.Comments.BlankBefore.{blank_line, past_gap}
+use Rattle.yf_chars.proofs.CharFacts.{feed_no_white, mark_no_white}
 
 -- the characters of a gap
 break_char_cases : (c : ℕ) → is_break_char c ≡ true → (c ≡ 10) ⊎ (c ≡ 13)
@@ -66,17 +67,9 @@ gap_below c e =
 pub white_not : (c d : ℕ) → is_white d ≡ false → is_white c ≡ true → c ≢ d
 white_not c d f e s = true≢false (sym e ∙ ap is_white s ∙ f)
 
-pub white_lf : is_white 10 ≡ false
-unfolding is_white
-white_lf = refl
-
 pub white_cr : is_white 13 ≡ false
 unfolding is_white
 white_cr = refl
-
-white_mark : is_white 0xFEFF ≡ false
-unfolding is_white
-white_mark = refl
 
 -- two characters that end at one place begin at one place
 pub same_place : (t : List ℕ) (i k : ℕ) → IsUtf8 t → code t i < no_char → code t k < no_char → next t i ≡ next t k → i ≡ k
@@ -137,7 +130,7 @@ module _ (t : List ℕ) (u : IsUtf8 t) where
   blank_past_white {j} q w e b = go (blank_view b) where
     go : BlankView t j → Blank t q
     go (text_view z) = let l = next_later t q in absurd (omega arith)
-    go (break_view i k) = absurd (not_last q (omega (arith, white_below (code t q) w)) e (white_not _ 10 white_lf w) (white_not _ 13 white_cr w) k)
+    go (break_view i k) = absurd (not_last q (omega (arith, white_below (code t q) w)) e (white_not _ 10 feed_no_white w) (white_not _ 13 white_cr w) k)
     go (white_view i c v f) =
         let same : i ≡ q = same_place t i q u (omega (arith, white_below (code t i) v)) (omega (arith, white_below (code t q) w)) (f ∙ sym e) in
         subst (λ k. Blank t k) same c
@@ -157,7 +150,7 @@ module _ (t : List ℕ) (u : IsUtf8 t) where
     go (break_view i k) = not_last q (omega arith) e (omega arith) (omega arith) k
     go (white_view i c v f) =
         let same : i ≡ q = same_place t i q u (omega (arith, white_below (code t i) v)) (omega arith) (f ∙ sym e) in
-        white_not _ 0xFEFF white_mark v (ap (code t) same ∙ m)
+        white_not _ 0xFEFF mark_no_white v (ap (code t) same ∙ m)
 
   -- no break ends inside a CR LF
   none_inside : {i k : ℕ} (h : ℕ) → code t h ≡ 13 → code t (h + 1) ≡ 10 → k ≡ h + 1 → Break t i k → ⊥
@@ -276,7 +269,7 @@ module _ (t : List ℕ) (u : IsUtf8 t) (i j : ℕ) where
   char_before q z e l = next_ascii t q l ∙ omega arith
 
   pub walk_white : (b : Bool) → 0 < j → is_white (code t (j - 1)) ≡ true → Walked t i j b → Walked t i (j - 1) b
-  walk_white b z w k = record { there = λ e. k.there (on b e); back = λ d. off b (k.back d); outside = λ e. absurd (white_not _ 10 white_lf w e) } where
+  walk_white b z w k = record { there = λ e. k.there (on b e); back = λ d. off b (k.back d); outside = λ e. absurd (white_not _ 10 feed_no_white w e) } where
     n : next t (j - 1) ≡ j
     n = char_before (j - 1) z refl (white_below (code t (j - 1)) w)
 
@@ -284,7 +277,7 @@ module _ (t : List ℕ) (u : IsUtf8 t) (i j : ℕ) where
     on_gap d = subst (λ v. BlankBefore t v) n (past_gap d (gap_of_white _ w))
 
     off_gap : BlankBefore t j → BlankBefore t (j - 1)
-    off_gap d = before_past t u (j - 1) (omega (arith, white_below (code t (j - 1)) w)) n (white_not _ 10 white_lf w) (white_not _ 13 white_cr w) d
+    off_gap d = before_past t u (j - 1) (omega (arith, white_below (code t (j - 1)) w)) n (white_not _ 10 feed_no_white w) (white_not _ 13 white_cr w) d
 
     on : (b : Bool) → Ends t (j - 1) b → Ends t j b
     on true (inl d) = inl (subst (λ v. Blank t v) n (white_ends d w))

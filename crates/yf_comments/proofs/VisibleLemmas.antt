@@ -8,12 +8,7 @@ use Rattle.yf_chars.proofs.TextLemmas.{code_from_byte, bytes_from_mark}
 use Rattle.yf_lines.proofs.BasicLemmas.{break_end, white_cases}
 use Rattle.yf_comments.specs.Comments.{Blank, BlankBefore}
 use Rattle.yf_comments.proofs.BlankLemmas.{before_past, no_before, no_blank, past_break, break_of_lf}
-
-no_mark_after : (t : List ℕ) (j : ℕ) → IsUtf8 t → get_or t (j - 1) 0 < 128 → 3 ≤ j → code t (j - 3) ≢ 0xFEFF
-no_mark_after t j u b l e =
-    let same : j - 3 + 2 ≡ j - 1 = omega arith in
-    let last : get_or t (j - 1) 0 ≡ 191 = ap (λ v. get_or t v 0) (sym same) ∙ (bytes_from_mark t (j - 3) u e).3 in
-    omega arith
+use Rattle.yf_lines.proofs.SearchLemmas.{no_mark_after}
 
 not_white : (c : ℕ) → 32 < c → is_white c ≡ false
 not_white c l =

@@ -33,6 +33,8 @@ pub mod ReadAgain
 pub mod SecondRun
 -- what formatting leaves as it was (`Keeps`)
 pub mod Keeps
+-- what formatting gives is longer by a bound alone (`SizeKept`)
+pub mod Size
 -- in what formatting gives no tab is outside of contents
 pub mod Tabs
 -- the definitions by small readings

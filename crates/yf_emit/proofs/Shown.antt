@@ -5,6 +5,8 @@ mod ShownCore
 mod ShownDecos
 mod ShownKeys
 mod ShownLayouts
+mod ShownMatch
 mod ShownNodes
 mod ShownScalars
+mod ShownSize
 mod ShownTidy

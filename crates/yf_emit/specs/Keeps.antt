@@ -5,6 +5,7 @@ use Rattle.yf_emit.specs.Preservation.CommentsPlaced.{CommentsPlaced}
 use Rattle.yf_emit.specs.Preservation.EmptyTexts.{IsEmptyAlike}
 use Rattle.yf_emit.specs.Preservation.LayoutKey.{DependsOnKey}
 use Rattle.yf_emit.specs.Preservation.ReadingKey.{DependsOnReading}
+use Rattle.yf_emit.specs.Preservation.SizeKept.{SizeKept}
 use Rattle.yf_emit.specs.Preservation.SpacedLines.{SameBlanks}
 use Rattle.yf_emit.specs.Preservation.Spellings.{SameSpellings}
 use Rattle.yf_emit.specs.Preservation.TidyLines.{IsTidyText}
@@ -20,3 +21,4 @@ pub record Keeps (t : List ℕ) (s : Style) (u : List ℕ) : Type 0 where
   -- the same by the texts' readings
   pub reading : DependsOnReading t s u
   pub comments : CommentsPlaced t s u
+  pub size : SizeKept t s u

@@ -6,6 +6,7 @@ pub mod EmptyTexts
 pub mod SpacedLines
 pub mod Spellings
 pub mod TidyLines
+pub mod SizeKept
 pub mod FoundTrees
 pub mod AlikeBlocks
 pub mod KeyComments

@@ -22,7 +22,7 @@ same_rest : (a b : EventInText) (x y : List EventInText) → a ∷ x ≡ b ∷ y
 unfolding rest_of
 same_rest a b x y e = ap rest_of e
 
-standing_in : EventInText → NodeOffsets
+pub standing_in : EventInText → NodeOffsets
 standing_in e = record { span = e.span; tag_offset = e.tag_offset; entry = e.entry }
 
 same_standing : (a b : NodeOffsets) (v w : EventValue) (l m : List (List ℕ)) → placed a v l ≡ placed b w m → a ≡ b

@@ -15,6 +15,7 @@ use Rattle.yf_chars.specs.Text.{CharAt, code}
 use Rattle.yf_lines.proofs.PlaceLemmas.{characters_more}
 use Rattle.yf_explain.specs.Shown.{AreWritten, all_shown, columns, columns_of, is_written, shown}
 use Rattle.yf_explain.specs.Source.{AddsPart}
+use Rattle.yf_lines.proofs.CoreSteady.{both_parts}
 
 pub none_there : (bs : List ℕ) → bs ≡ [] → chars bs ≡ []
 none_there bs e = ap chars e ∙ chars-nil
@@ -67,17 +68,13 @@ part_more {t} {old} {new} {all} {from} {to} {most} {end} {taken} {c} {next} {wid
   boundary = r.boundary;
 }
 
-and_true : (a b : Bool) → (a && b) ≡ true → (a ≡ true) × (b ≡ true)
-and_true true b h = (refl, h)
-and_true false b h = cc
-
 -- the signs that are left, before and after one of them
 pub next_sign : (signs : List ℕ) (k d : ℕ) → k < length signs → list_all is_written (drop k signs) ≡ true
     → (is_written (get_or signs k d) ≡ true) × (list_all is_written (drop (k + 1) signs) ≡ true)
 next_sign signs k d within all =
     let cut : drop k signs ≡ get_or signs k d ∷ drop (k + 1) signs = rw add-one (drop-cons signs k d within) in
     let both : (is_written (get_or signs k d) && list_all is_written (drop (k + 1) signs)) ≡ true = subst (λ (x : List ℕ). list_all is_written x ≡ true) cut all in
-    and_true _ _ both
+    both_parts _ _ both
 
 -- one of them was added
 pub sign_added : (signs : List ℕ) (k d : ℕ) (old new all : List ℕ) → k < length signs → new ≡ old ++ get_or signs k d ∷ [] → old ++ drop k signs ≡ all → new ++ drop (k + 1) signs ≡ all

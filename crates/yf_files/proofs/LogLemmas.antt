@@ -67,7 +67,7 @@ slice_get-last [] y = refl
 slice_get-last (x ∷ xs) y = slice_get-last xs y
 
 -- what is found by one relation is found by another
-carried : (a b : ℕ → Node → Type 0) (o : Option ℕ) (x : Option Node) → ((i : ℕ) (n : Node) → a i n → b i n) → IsAt a o x → IsAt b o x
+pub carried : (a b : ℕ → Node → Type 0) (o : Option ℕ) (x : Option Node) → ((i : ℕ) (n : Node) → a i n → b i n) → IsAt a o x → IsAt b o x
 carried a b None x each is = is
 carried a b (Some i) None each is = absurd is
 carried a b (Some i) (Some n) each is = each i n is

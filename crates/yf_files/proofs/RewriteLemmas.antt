@@ -7,12 +7,7 @@ use Rattle.yf_files.specs.Calls.{Stays}
 use Rattle.yf_files.specs.Replaced.{AtAnyMoment, IsText, FileReplaced}
 use Rattle.yf_files.specs.Rewritten.{IsFormatting, IsUntouched, Rewrote, new_name_of}
 use Rattle.yf_files.specs.Tree.{TimePasses, MayBeFound, IsAt, IsSound, Name, Node, FilesState, at, folder_of, has_slash, regular}
-
--- what may be found in an inode may be found there by another relation
-carried : (a b : ℕ → Node → Type 0) (o : Option ℕ) (x : Option Node) → ((i : ℕ) (n : Node) → a i n → b i n) → IsAt a o x → IsAt b o x
-carried a b None x each is = is
-carried a b (Some i) None each is = absurd is
-carried a b (Some i) (Some n) each is = each i n is
+use Rattle.yf_files.proofs.LogLemmas.{carried}
 
 -- what stays is at its names
 at_stays : (s t : FilesState) → Stays s t → (q : Name) → at t q ≡ at s q

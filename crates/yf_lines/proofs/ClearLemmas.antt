@@ -66,7 +66,7 @@ code_inside {t} {h = h} u r l m =
     (cases_Bool (begins t h))
 
 -- a document marker begins with - or .
-marker_char : (t : List ℕ) (i : ℕ) → is_marker t i ≡ true → (code t i ≡ 45) ⊎ (code t i ≡ 46)
+pub marker_char : (t : List ℕ) (i : ℕ) → is_marker t i ≡ true → (code t i ≡ 45) ⊎ (code t i ≡ 46)
 marker_char t i m =
     ⊎_elim (λ (e : code t i ≡ 45). inl e)
     (λ (n : code t i ≢ 45).

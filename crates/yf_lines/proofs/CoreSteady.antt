@@ -5,6 +5,7 @@ use Rattle.std.specs.List.{list_all, list_any}
 use Rattle.std.proofs.lemmas.List.Folds.{list_all-append, list_any-append}
 use Rattle.yf_lines.specs.CoreSchema.{Pattern, byte_of, bytes, followed, either, optional, repeated, Matches, in_class, as_written, in_order, the_one, the_other, left_out, given, no_time, once_more, is_digit, is_octal, is_hexadecimal, is_sign, is_exponent, digits, signed, null_pattern, boolean_pattern, integer_pattern, float_pattern, mantissa, exponent, CoreTextsAreSteady}
 use Rattle.yf_lines.specs.Steady.{is_steady, is_only, is_marker_of, has_line_feed, ends_with_colon}
+use Rattle.yf_chars.proofs.Tests.{turned_false}
 
 -- a byte that may be anywhere in a steady text: no line feed, colon, space or tab
 abbrev is_calm : ℕ → Bool
@@ -46,7 +47,7 @@ OneIs c (either p q) = OneIs c p × OneIs c q
 OneIs c (optional p) = ⊥
 OneIs c (repeated p) = ⊥
 
-either_way : (a b : Bool) → (a ≡ true) ⊎ (b ≡ true) → (a || b) ≡ true
+pub either_way : (a b : Bool) → (a ≡ true) ⊎ (b ≡ true) → (a || b) ≡ true
 either_way true b e = refl
 either_way false b (inl e) = absurd cc
 either_way false b (inr e) = e
@@ -118,13 +119,9 @@ float_other = (inr (inl (inr (inl digit_other), inl (inl digit_other))), (inr (r
 
 -- Steady texts.
 
-both_parts : (p q : Bool) → (p && q) ≡ true → (p ≡ true) × (q ≡ true)
+pub both_parts : (p q : Bool) → (p && q) ≡ true → (p ≡ true) × (q ≡ true)
 both_parts true q e = (refl, e)
 both_parts false q e = absurd cc
-
-refused : (p : Bool) → not p ≡ true → p ≡ false
-refused true e = absurd cc
-refused false e = refl
 
 -- what a calm byte is not
 record IsCalm (b : ℕ) : Type 0 where
@@ -138,7 +135,7 @@ calm b e =
     let one = both_parts (not (b == 10)) (not (b == 58) && (not (b == 32) && not (b == 9))) e in
     let two = both_parts (not (b == 58)) (not (b == 32) && not (b == 9)) one.1 in
     let three = both_parts (not (b == 32)) (not (b == 9)) two.1 in
-    record { feed = refused (b == 10) one.0; colon = refused (b == 58) two.0; space = refused (b == 32) three.0; tab = refused (b == 9) three.1 }
+    record { feed = turned_false (b == 10) one.0; colon = turned_false (b == 58) two.0; space = turned_false (b == 32) three.0; tab = turned_false (b == 9) three.1 }
 
 -- and what the other byte is not
 record IsOther (b : ℕ) : Type 0 where
@@ -150,7 +147,7 @@ other : (b : ℕ) → is_other b ≡ true → IsOther b
 other b e =
     let one = both_parts (not (b == 45)) (not (b == 46) && not (b == 63)) e in
     let two = both_parts (not (b == 46)) (not (b == 63)) one.1 in
-    record { dash = refused (b == 45) one.0; point = refused (b == 46) two.0; question = refused (b == 63) two.1 }
+    record { dash = turned_false (b == 45) one.0; point = turned_false (b == 46) two.0; question = turned_false (b == 63) two.1 }
 
 no_feed : (x : List ℕ) → list_all is_calm x ≡ true → list_any (λ b. b == 10) x ≡ false
 no_feed [] a = refl

@@ -272,7 +272,7 @@ spaces_rest t i m w s l = record {
   each = λ k h. let e = s.each (w + k) (omega arith) in let q : i + w + k ≡ i + (w + k) = omega arith in ap (code t) q ∙ e;
 }
 
-indent_width : {w k : ℕ} → pos w ≡ pos k → w ≡ k
+pub indent_width : {w k : ℕ} → pos w ≡ pos k → w ≡ k
 indent_width e = cc
 
 pub prefix_found : {t : List ℕ} {i j e w : ℕ} → Spaces t i (j - i) → i ≤ j → w ≤ j - i → Whites t j e → FlowPrefix t (pos w) i e

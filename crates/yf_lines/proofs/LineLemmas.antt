@@ -29,7 +29,7 @@ cr_breaks t i e = ap is_break_char e
 pub break_breaks : {t : List ℕ} {i j : ℕ} → Break t i j → is_break_char (code t i) ≡ true
 break_breaks {t} {i} b = ⊎_elim (λ (e : code t i ≡ 13). cr_breaks t i e) (λ (e : code t i ≡ 10). lf_breaks t i e) (break_char b)
 
-no_break_past : (t : List ℕ) (i : ℕ) → length t ≤ i → is_break_char (code t i) ≡ false
+pub no_break_past : (t : List ℕ) (i : ℕ) → length t ≤ i → is_break_char (code t i) ≡ false
 unfolding is_break_char
 no_break_past t i l = ap is_break_char (code-past t i l)
 

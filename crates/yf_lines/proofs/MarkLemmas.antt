@@ -17,6 +17,7 @@ use Rattle.yf_lines.specs.Lines.{LineEnd, IsLine, IsCutAt, Marks, IsForbiddenLin
 use Rattle.yf_lines.specs.Lines.LineEnd.{at_break, at_end}
 use Rattle.yf_lines.proofs.BasicLemmas.{break_char, break_end}
 use Rattle.yf_lines.proofs.LineLemmas.{lf_breaks, cr_breaks, end_within}
+use Rattle.yf_lines.proofs.ClearLemmas.{marker_char}
 
 pub mark_code : (t : List ℕ) (i : ℕ) → is_mark (code t i) ≡ true → code t i ≡ 0xFEFF
 mark_code t i e = eqb-true (code t i) 0xFEFF e
@@ -132,29 +133,22 @@ start_in_line {t} {h} l u m c (after_mark {i = i} r e) o s =
     (⊎_elim (λ (q : i < l.start). inr q) (λ (q : l.start ≤ i). inl q) (cases_lt i l.start))
 
 -- a document marker begins with - or .
-three_code : (t : List ℕ) (i c : ℕ) → is_three t i c ≡ true → code t i ≡ c
+pub three_code : (t : List ℕ) (i c : ℕ) → is_three t i c ≡ true → code t i ≡ c
 unfolding is_three
 three_code t i c e = eqb-true (code t i) c (and_parts (eqb (code t i) c) (eqb (code t (i + 1)) c && eqb (code t (i + 2)) c) e).0
 
-marker_three : (t : List ℕ) (i : ℕ) → is_marker t i ≡ true → (code t i ≡ 45) ⊎ (code t i ≡ 46)
-unfolding is_marker
-marker_three t i e =
-    let threes = (and_parts (is_three t i 45 || is_three t i 46) (is_white_or_end (code t (i + 3))) e).0 in
-    ⊎_elim (λ (d : is_three t i 45 ≡ true). inl (three_code t i 45 d)) (λ (d : is_three t i 46 ≡ true). inr (three_code t i 46 d))
-    (or_cases (is_three t i 45) (is_three t i 46) threes)
-
 pub marker_no_mark : (t : List ℕ) (i : ℕ) → is_marker t i ≡ true → code t i ≢ 0xFEFF
-marker_no_mark t i e q = ⊎_elim (λ (c : code t i ≡ 45). omega arith) (λ (c : code t i ≡ 46). omega arith) (marker_three t i e)
+marker_no_mark t i e q = ⊎_elim (λ (c : code t i ≡ 45). omega arith) (λ (c : code t i ≡ 46). omega arith) (marker_char t i e)
 
 marker_not_at_end : {t : List ℕ} {h j : ℕ} → LineEnd t h j → is_marker t h ≡ true → ⊥
 marker_not_at_end {t} {h} (at_break b) e =
     ⊎_elim
-    (λ (q : code t h ≡ 13). ⊎_elim (λ (c : code t h ≡ 45). omega arith) (λ (c : code t h ≡ 46). omega arith) (marker_three t h e))
-    (λ (q : code t h ≡ 10). ⊎_elim (λ (c : code t h ≡ 45). omega arith) (λ (c : code t h ≡ 46). omega arith) (marker_three t h e))
+    (λ (q : code t h ≡ 13). ⊎_elim (λ (c : code t h ≡ 45). omega arith) (λ (c : code t h ≡ 46). omega arith) (marker_char t h e))
+    (λ (q : code t h ≡ 10). ⊎_elim (λ (c : code t h ≡ 45). omega arith) (λ (c : code t h ≡ 46). omega arith) (marker_char t h e))
     (break_char b)
 marker_not_at_end {t} {h} (at_end q) e =
     let p : code t h ≡ no_char = code-past t h (omega arith) in
-    ⊎_elim (λ (c : code t h ≡ 45). omega arith) (λ (c : code t h ≡ 46). omega arith) (marker_three t h e)
+    ⊎_elim (λ (c : code t h ≡ 45). omega arith) (λ (c : code t h ≡ 46). omega arith) (marker_char t h e)
 
 -- a forbidden line begins in a line just where its marks end before a document marker
 pub forbidden_within : (t : List ℕ) (l : Line) → IsUtf8 t → IsLine t l → IsCutAt t l → LineStart t l.start → IsForbiddenLine t l.start

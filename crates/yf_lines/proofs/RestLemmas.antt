@@ -21,6 +21,7 @@ use Rattle.yf_lines.specs.LineText.Follows.{nothing_follows, byte_follows}
 use Rattle.std.proofs.lemmas.Bool.{or_right, or_cases, eqb-true}
 use Rattle.std.proofs.lemmas.Bool.Decides.{nat_tests}
 use Rattle.yf_lines.proofs.ClearLemmas.{Quiet, quiet_nothing, quiet_join, quiet_char, clear_quiet}
+use Rattle.yf_chars.proofs.CharFacts.{return_no_nb, feed_no_nb, mark_no_nb}
 
 pub rest_start : (t : List ℕ) → IsUtf8 t → Rest t 0 t
 unfolding before
@@ -53,7 +54,7 @@ rest_ascii {t} {q} {r} c u l n s =
     (subst (λ w. CharAt t q c (q + w)) one_long got.0, subst (λ w. Rest t (q + w) r) one_long got.1)
 
 -- spaces
-spaces_more : {t : List ℕ} {q k : ℕ} → code t q ≡ 32 → Spaces t (q + 1) k → Spaces t q (suc k)
+pub spaces_more : {t : List ℕ} {q k : ℕ} → code t q ≡ 32 → Spaces t (q + 1) k → Spaces t q (suc k)
 spaces_more {t} {q} {k} e s = record { each = each } where
   each : (m : ℕ) → m < suc k → code t (q + m) ≡ 32
   each zero l = ap (code t) (add-zero q) ∙ e
@@ -73,18 +74,6 @@ rest_spaces {t} (suc k) q {r} u s =
 nb_not : (d c : ℕ) → is_nb_char d ≡ false → is_nb_char c ≡ true → c ≢ d
 nb_not d c n e q = true≢false (sym e ∙ ap is_nb_char q ∙ n)
 
-no_nb_lf : is_nb_char 10 ≡ false
-unfolding is_nb_char is_printable is_between is_break_char
-no_nb_lf = refl
-
-no_nb_cr : is_nb_char 13 ≡ false
-unfolding is_nb_char is_printable is_between is_break_char
-no_nb_cr = refl
-
-no_nb_mark : is_nb_char 0xFEFF ≡ false
-unfolding is_nb_char is_printable is_between is_break_char
-no_nb_mark = refl
-
 -- characters of which none begins a line: what is after them, and that no line begins in them
 pub is_at_chars : {t : List ℕ} (cs : List ℕ) {q : ℕ} {r : List ℕ} → IsUtf8 t → IsAt t q (encodes cs ++ r) → IsAt t (q + length (encodes cs)) r
 is_at_chars {t} [] {q} {r} u s = subst (λ w. IsAt t w r) (sym (add-zero q)) s
@@ -98,7 +87,7 @@ chars_quiet {t} [] r {q} u a s = subst (λ w. Quiet t q w) (sym (add-zero q)) (q
 chars_quiet {t} (c ∷ cs) r {q} u a s =
     let got = is_at_char c u (subst (λ w. IsAt t q w) (append_assoc (encode c) (encodes cs) r) s) in
     let there : q + len_utf8 c + length (encodes cs) ≡ q + length (encode c ++ encodes cs) = omega (arith, length-append (encode c) (encodes cs), length-encode c) in
-    let quiet : Quiet t q (q + len_utf8 c) = quiet_char u got.0 (nb_not 10 c no_nb_lf a.0) (nb_not 13 c no_nb_cr a.0) (nb_not 0xFEFF c no_nb_mark a.0) in
+    let quiet : Quiet t q (q + len_utf8 c) = quiet_char u got.0 (nb_not 10 c feed_no_nb a.0) (nb_not 13 c return_no_nb a.0) (nb_not 0xFEFF c mark_no_nb a.0) in
     subst (λ w. Quiet t q w) there (quiet_join quiet (chars_quiet cs r u a.1 got.1))
 
 -- what is between two offsets
@@ -123,7 +112,7 @@ chars_at {t} [] q {r} u a s = record {
 }
 chars_at {t} (c ∷ cs) q {r} u a s =
     let s' : Rest t q (encode c ++ (encodes cs ++ r)) = subst (λ w. Rest t q w) (append_assoc (encode c) (encodes cs) r) s in
-    let got = rest_char c u (nb_not 13 c no_nb_cr a.0) s' in
+    let got = rest_char c u (nb_not 13 c return_no_nb a.0) s' in
     let more = chars_at cs (q + len_utf8 c) u a.1 got.1 in
     let there : q + len_utf8 c + length (encodes cs) ≡ q + length (encode c ++ encodes cs) = omega (arith, length-append (encode c) (encodes cs), length-encode c) in
     let nb : is_nb_char (code t q) ≡ true = ap is_nb_char got.0.char ∙ a.0 in
@@ -131,7 +120,7 @@ chars_at {t} (c ∷ cs) q {r} u a s =
     let chain : Many t is_nb_char (next t q) (q + len_utf8 c + length (encodes cs)) more.meaning =
     subst (λ w. Many t is_nb_char w (q + len_utf8 c + length (encodes cs)) more.meaning) (sym next_is) more.chars in
     let whole : Many t is_nb_char q (q + len_utf8 c + length (encodes cs)) (code t q ∷ [] ++ more.meaning) = step (one nb) chain in
-    let quiet : Quiet t q (q + len_utf8 c) = quiet_char u got.0 (nb_not 10 c no_nb_lf a.0) (nb_not 13 c no_nb_cr a.0) (nb_not 0xFEFF c no_nb_mark a.0) in
+    let quiet : Quiet t q (q + len_utf8 c) = quiet_char u got.0 (nb_not 10 c feed_no_nb a.0) (nb_not 13 c return_no_nb a.0) (nb_not 0xFEFF c mark_no_nb a.0) in
     record {
       meaning = code t q ∷ [] ++ more.meaning;
       chars = subst (λ w. Many t is_nb_char q w (code t q ∷ [] ++ more.meaning)) there whole;

@@ -16,7 +16,7 @@ use Rattle.yf_lines.specs.Lines.{NoBreakIn, LineEnd, IsLine, OneLine, AreLines, 
 use Rattle.yf_lines.specs.Lines.LineEnd.{at_break, at_end}
 use Rattle.yf_lines.specs.Rows.{RowsBegun, break_width, end_before, first_start, line_of, lines_of, next_start}
 use Rattle.yf_lines.proofs.LineLemmas.{Made, line_made, lf_breaks, cr_breaks, same_fields}
-use Rattle.yf_lines.proofs.TableLemmas.{starts_ascend}
+use Rattle.yf_lines.proofs.TableLemmas.{starts_ascend, nothing_there}
 
 -- the width of each break
 width_cr_lf : (b l : ℕ) → l ≡ 10 → b ≡ 13 → break_width b l ≡ 2
@@ -140,14 +140,11 @@ pub record RowAt (rs : List PackedLine) (k : ℕ) (l : Line) : Type 0 where
   pub is : slice_get rs k ≡ Some row
   pub start : row.start ≡ l.start
 
-no_line : (k : ℕ) (l : Line) → slice_get [] k ≡ Some l → ⊥
-no_line k l e = cc
-
 some_line : {a b : Line} → Some a ≡ Some b → a ≡ b
 some_line e = cc
 
 row_at : (t : List ℕ) (e : ℕ) (rs : List PackedLine) (k : ℕ) (l : Line) → slice_get (lines_of t e rs) k ≡ Some l → RowAt rs k l
-row_at t e [] k l is = absurd (no_line k l is)
+row_at t e [] k l is = absurd (nothing_there k l is)
 row_at t e (q ∷ rs) zero l is =
     let s : line_of t q (first_start rs e) ≡ l = some_line is in
     record { row = q; is = refl; start = ap (λ w. w.start) s }

@@ -49,7 +49,7 @@ pub rest_taken : (b t : List ℕ) (at : ℕ) → b ≡ t → take (length b - at
 rest_taken b t at e = let l = length-drop at b in take_all (length b - at) (drop at b) (omega arith) ∙ ap (drop at) e
 
 -- after an ASCII character that is no control no line starts
-no_mark_after : (t : List ℕ) (j : ℕ) → IsUtf8 t → get_or t (j - 1) 0 < 128 → 3 ≤ j → code t (j - 3) ≢ 0xFEFF
+pub no_mark_after : (t : List ℕ) (j : ℕ) → IsUtf8 t → get_or t (j - 1) 0 < 128 → 3 ≤ j → code t (j - 3) ≢ 0xFEFF
 no_mark_after t j u b l e =
     let same : j - 3 + 2 ≡ j - 1 = omega arith in
     let last : get_or t (j - 1) 0 ≡ 191 = ap (λ v. get_or t v 0) (sym same) ∙ (bytes_from_mark t (j - 3) u e).3 in

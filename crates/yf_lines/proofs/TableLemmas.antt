@@ -40,7 +40,7 @@ pub record LineAt (t : List ℕ) (i j : ℕ) (ls : List Line) (k : ℕ) (l : Lin
   pub first : k ≡ 0 → l.start ≡ i
   pub last : k + 1 ≡ length ls → l.next ≡ j
 
-nothing_there : (k : ℕ) (l : Line) → slice_get [] k ≡ Some l → ⊥
+pub nothing_there : (k : ℕ) (l : Line) → slice_get [] k ≡ Some l → ⊥
 nothing_there k l e = cc
 
 last_end : (t : List ℕ) (ls : List Line) (i j : ℕ) → Follow t i j ls → length ls ≡ 0 → i ≡ j

@@ -31,8 +31,9 @@ use Rattle.yf_plain.specs.Plain.PlainItem.{set_off}
 use Rattle.yf_plain.specs.Plain.PlainLine.{one_line}
 use Rattle.yf_plain.specs.Plain.PlainText.{as_key, as_lines}
 use Rattle.yf_plain.specs.Kept.{starts_plain, goes_on_plain, is_plain_after, is_plain_line, IsPlain, is_inside, StaysPlain}
-use Rattle.yf_plain.proofs.PlainLemmas.{ns_colon, ns_hash, plain_is_ns, first_is_ns, ns_below, ns_not_white, safe_is_ns}
+use Rattle.yf_plain.proofs.PlainLemmas.{plain_is_ns, first_is_ns, ns_below, ns_not_white, safe_is_ns}
 use Rattle.yf_plain.proofs.LineLemmas.{PlainStep, stay, move, items_stay, nexts_steps, folds_to, fold_before, content_no_break}
+use Rattle.yf_chars.proofs.CharFacts.{space_white, colon_ns, hash_ns}
 
 -- the tests on a place are those on its characters
 pub char_is : (t : List ℕ) (x : Ctx) (i : ℕ) → is_plain_char t x i ≡ goes_on_plain x (before t i) (code t i) (code t (i + 1))
@@ -85,8 +86,8 @@ starts_moves x y c d d' sign e =
 
 pub goes_is_ns : (x : Ctx) (b c d : ℕ) → goes_on_plain x b c d ≡ true → is_ns_char c ≡ true
 goes_is_ns x b c d e =
-    ⊎_elim (λ (q : c ≡ 58). ap is_ns_char q ∙ ns_colon)
-    (λ (n : c ≢ 58). ⊎_elim (λ (q : c ≡ 35). ap is_ns_char q ∙ ns_hash) (λ (m : c ≢ 35). safe_is_ns c x (sym (goes_other x b c d n m) ∙ e)) (cases_eq c 35))
+    ⊎_elim (λ (q : c ≡ 58). ap is_ns_char q ∙ colon_ns)
+    (λ (n : c ≢ 58). ⊎_elim (λ (q : c ≡ 35). ap is_ns_char q ∙ hash_ns) (λ (m : c ≢ 35). safe_is_ns c x (sym (goes_other x b c d n m) ∙ e)) (cases_eq c 35))
     (cases_eq c 58)
 
 -- what is safe in a flow collection is safe everywhere
@@ -135,10 +136,6 @@ no_feed_append (c ∷ x) y f = let more = no_feed_append x y f.1 in ((f.0, more.
 last_append : (b c : ℕ) (x y : List ℕ) → last_or b (x ++ (c ∷ y)) ≡ last_or c y
 last_append b c [] y = refl
 last_append b c (d ∷ x) y = last_append d c x y
-
-white_space : is_white 32 ≡ true
-unfolding is_white
-white_space = refl
 
 -- a fold means a space, or begins with a line feed
 fold_kind : {t : List ℕ} {n : ℤ} {i h : ℕ} {x : List ℕ} → FlowFolded t n i h x → (x ≡ 32 ∷ []) ⊎ ((y : List ℕ) × (x ≡ 10 ∷ y))
@@ -223,7 +220,7 @@ after_kept {t} {n} {c} y u m (step {y = z} (move {h = h} {x = w} f p) d) b e ns 
     let rest = after_kept y u m d (code t h) r.back (plain_is_ns t c h p) (no_feed_append w (code t h ∷ z) free').1.1 last' in
     let no_hash : code t h ≡ 35 → is_ns_char (before t h) ≡ true → is_ns_char 32 ≡ true = λ q s. absurd (true≢false (sym s ∙ fold_before u (folds_to f (plain_is_ns t c h p)))) in
     ⊎_elim (λ (q : w ≡ 32 ∷ []).
-    ap (is_plain_after y b) (whole ∙ ap (λ v. v ++ (code t h ∷ z)) q) ∙ white_then y b 32 (code t h ∷ z) white_space (char_kept y h u m p d rest last' 32 no_hash))
+    ap (is_plain_after y b) (whole ∙ ap (λ v. v ++ (code t h ∷ z)) q) ∙ white_then y b 32 (code t h ∷ z) space_white (char_kept y h u m p d rest last' 32 no_hash))
     (λ (q : (v : List ℕ) × (w ≡ 10 ∷ v)). absurd ((subst (λ v. NoFeed v) q.1 (no_feed_append w (code t h ∷ z) free').0).0 refl))
     (fold_kind f)
 

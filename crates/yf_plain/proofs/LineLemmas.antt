@@ -24,7 +24,8 @@ use Rattle.yf_plain.specs.Plain.PlainItem.{set_off}
 use Rattle.yf_plain.specs.Plain.PlainLine.{one_line}
 use Rattle.yf_plain.specs.Plain.PlainNext.{next_line}
 use Rattle.yf_plain.specs.Plain.PlainText.{as_key, as_lines}
-use Rattle.yf_plain.proofs.PlainLemmas.{item_functional, items_quiet, plain_is_ns, first_is_ns, quiet_ns, after_whites, ns_below, ns_not_white, ns_lf, ns_cr, ns_mark, white_not_ns}
+use Rattle.yf_plain.proofs.PlainLemmas.{item_functional, items_quiet, plain_is_ns, first_is_ns, quiet_ns, after_whites, ns_below, ns_not_white, ns_cr, white_not_ns}
+use Rattle.yf_chars.proofs.CharFacts.{feed_no_ns, mark_no_ns}
 
 -- one character further: on the same line, or the first one of a next line
 pub data PlainStep (t : List ℕ) (n : ℤ) (c : Ctx) : ℕ → ℕ → List ℕ → Type 0 where
@@ -41,7 +42,7 @@ ns_not : {c d : ℕ} → is_ns_char c ≡ true → is_ns_char d ≡ false → c 
 ns_not e n q = true≢false (sym e ∙ ap is_ns_char q ∙ n)
 
 pub content_no_break : {t : List ℕ} {h : ℕ} → is_ns_char (code t h) ≡ true → Nowhere (Break t h)
-content_no_break {t} {h} n = no_break_here t h (ns_not n ns_cr) (ns_not n ns_lf)
+content_no_break {t} {h} n = no_break_here t h (ns_not n ns_cr) (ns_not n feed_no_ns)
 
 pub folds_to : {t : List ℕ} {n : ℤ} {i h : ℕ} {x : List ℕ} → FlowFolded t n i h x → is_ns_char (code t h) ≡ true → FoldsTo t n i h x
 folds_to {t} {h = h} f e = record { folded = f; no_white = ns_not_white (code t h) e; no_break = content_no_break e }
@@ -186,7 +187,7 @@ make_steps {t} {i = i} {x = x} e d a =
     let g = next_later t i in
     record { first = e; allowed = clear_front f a; rest = x; steps = clear_split d (clear_back (omega arith) a); text = refl }
 
-key_not_flow : (c : Ctx) → is_key c ≡ true → is_flow c ≡ true → ⊥
+pub key_not_flow : (c : Ctx) → is_key c ≡ true → is_flow c ≡ true → ⊥
 key_not_flow BlockOut k f = true≢false (sym k)
 key_not_flow BlockIn k f = true≢false (sym k)
 key_not_flow FlowOut k f = true≢false (sym k)
@@ -237,8 +238,8 @@ line_steps {t} {n} {c} {i} {feeds} {start} {j} u l =
     clear_split (next_steps (next_line l.folded.folded l.first l.items)) (clear_join (clear_fold u l.folded) (clear_quiet l.allowed quiet))
 
 enders : (d : ℕ) → (d ≡ 10) ⊎ ((d ≡ 13) ⊎ (d ≡ 0xFEFF)) → is_ns_char d ≡ false
-enders d e = ⊎_elim (λ (f : d ≡ 10). ap is_ns_char f ∙ ns_lf)
-    (λ (g : (d ≡ 13) ⊎ (d ≡ 0xFEFF)). ⊎_elim (λ (f : d ≡ 13). ap is_ns_char f ∙ ns_cr) (λ (f : d ≡ 0xFEFF). ap is_ns_char f ∙ ns_mark) g) e
+enders d e = ⊎_elim (λ (f : d ≡ 10). ap is_ns_char f ∙ feed_no_ns)
+    (λ (g : (d ≡ 13) ⊎ (d ≡ 0xFEFF)). ⊎_elim (λ (f : d ≡ 13). ap is_ns_char f ∙ ns_cr) (λ (f : d ≡ 0xFEFF). ap is_ns_char f ∙ mark_no_ns) g) e
 
 -- what is before the first character of a next line is no character of content
 pub fold_before : {t : List ℕ} {n : ℤ} {i h : ℕ} {x : List ℕ} → IsUtf8 t → FoldsTo t n i h x → is_ns_char (before t h) ≡ false

@@ -18,6 +18,7 @@ use Rattle.yf_plain.specs.Kept.{is_inside}
 use Rattle.yf_plain.specs.Ordinary.{is_letter, is_ordinary, is_outer, EndAt, LetterAt, OrdinaryAt}
 use Rattle.yf_plain.specs.Plain.{is_sign, PlainItem}
 use Rattle.yf_plain.proofs.PlainLemmas.{plain_other, plain_colon, first_other, char_first, safe_is_ns, item_stuck, item_found, plain_is_ns}
+use Rattle.yf_chars.proofs.CharFacts.{feed_no_ns, feed_no_white, space_white, colon_no_white, space_no_ns}
 
 -- a class of characters that may be in a plain scalar in the context, whatever is beside them
 pub record Ordinary (test : ℕ → Bool) (x : Ctx) : Type 0 where
@@ -159,11 +160,6 @@ no_white_above t i u l =
     absurd (omega (arith, b, w, l)))
     (λ (h : is_white (code t i) ≡ false). h) (cases_Bool (is_white (code t i)))
 
--- a space, and an ordinary character after it
-space_white : is_white 32 ≡ true
-unfolding is_white
-space_white = refl
-
 pub word_item : (t : List ℕ) (c : Ctx) (i : ℕ) → CharAt t i 32 (i + 1) → OrdinaryAt t c (i + 1) → (y : List ℕ) × PlainItem t c i (i + 2) y
 word_item t c i r o =
     let white : is_white (code t i) ≡ true = ap is_white r.char ∙ space_white in
@@ -187,26 +183,10 @@ no_content_unsafe c x n =
     ⊎_elim (λ (h : is_plain_safe c x ≡ true). absurd (true≢false (sym (safe_is_ns c x h) ∙ n))) (λ (h : is_plain_safe c x ≡ false). h)
     (cases_Bool (is_plain_safe c x))
 
-feed_unsafe : is_ns_char 10 ≡ false
-unfolding is_ns_char is_nb_char is_printable is_between is_break_char is_white
-feed_unsafe = refl
-
-space_unsafe : is_ns_char 32 ≡ false
-unfolding is_ns_char is_nb_char is_printable is_between is_break_char is_white
-space_unsafe = refl
-
-feed_no_white : is_white 10 ≡ false
-unfolding is_white
-feed_no_white = refl
-
-colon_no_white : is_white 58 ≡ false
-unfolding is_white
-colon_no_white = refl
-
 pub feed_ends : (t : List ℕ) (i : ℕ) → code t i ≡ 10 → EndAt t i
 feed_ends t i e = record {
   ends = λ c. item_stuck done (ap is_white e ∙ feed_no_white)
-      (plain_other t c i (λ q. absurd (omega arith)) (λ q. absurd (omega arith)) ∙ ap (λ w. is_plain_safe w c) e ∙ no_content_unsafe 10 c feed_unsafe);
+      (plain_other t c i (λ q. absurd (omega arith)) (λ q. absurd (omega arith)) ∙ ap (λ w. is_plain_safe w c) e ∙ no_content_unsafe 10 c feed_no_ns);
 }
 
 pub colon_ends : (t : List ℕ) (i x : ℕ) → code t i ≡ 58 → code t (i + 1) ≡ x → is_ns_char x ≡ false → EndAt t i
@@ -215,7 +195,7 @@ colon_ends t i x e f n = record {
 }
 
 pub colon_space : (t : List ℕ) (i : ℕ) → code t i ≡ 58 → code t (i + 1) ≡ 32 → EndAt t i
-colon_space t i e f = colon_ends t i 32 e f space_unsafe
+colon_space t i e f = colon_ends t i 32 e f space_no_ns
 
 pub colon_feed : (t : List ℕ) (i : ℕ) → code t i ≡ 58 → code t (i + 1) ≡ 10 → EndAt t i
-colon_feed t i e f = colon_ends t i 10 e f feed_unsafe
+colon_feed t i e f = colon_ends t i 10 e f feed_no_ns

@@ -25,7 +25,7 @@ use Rattle.yf_plain.specs.Plain.PlainItem.{set_off}
 use Rattle.yf_plain.specs.Plain.PlainLine.{one_line}
 use Rattle.yf_plain.specs.Plain.PlainText.{as_key, as_lines}
 use Rattle.yf_plain.specs.Kept.{starts_plain, goes_on_plain, is_plain_after, is_plain_line, IsPlain}
-use Rattle.yf_plain.proofs.PlainLemmas.{white_not_ns, safe_at_end, ns_sign}
+use Rattle.yf_plain.proofs.PlainLemmas.{white_not_ns, safe_at_end, ns_sign, sign_below}
 use Rattle.yf_plain.proofs.LineLemmas.{not_others}
 use Rattle.yf_plain.proofs.KeptLemmas.{char_is, first_is, goes_moves, starts_moves, goes_is_ns, steady_parts, Steady}
 
@@ -98,10 +98,6 @@ line_some : (x : Ctx) → is_plain_line x [] ≡ true → ⊥
 unfolding is_plain_line
 line_some x e = true≢false (sym e)
 
-sign_low : (c : ℕ) → is_sign c ≡ true → c < 128
-unfolding is_sign
-sign_low c e = grind (arith, nat_tests)
-
 pub line_back : {t : List ℕ} (x : Ctx) (cs r : List ℕ) (q : ℕ) → IsUtf8 t → is_plain_line x cs ≡ true → IsAt t q (encodes cs ++ r)
     → PlainLine t x q (q + length (encodes cs)) cs
 line_back x [] r q u e s = absurd (line_some x e)
@@ -111,7 +107,7 @@ line_back {t} x (c ∷ cs) r q u e s =
     let there : q + len_utf8 c + length (encodes cs) ≡ q + length (encode c ++ encodes cs) = omega (arith, length-append (encode c) (encodes cs), length-encode c) in
     let rest = items_back x cs r (q + len_utf8 c) (q + len_utf8 c) c [] u done (none_waiting refl) got.0.back parts.1 got.1 in
     let sign : is_sign c ≡ true → is_plain_safe (first_or_none cs) x ≡ true → is_plain_safe (code t (q + 1)) x ≡ true = λ p g.
-    let one : q + len_utf8 c ≡ q + 1 = omega (arith, len_utf8_ascii c (sign_low c p)) in
+    let one : q + len_utf8 c ≡ q + 1 = omega (arith, len_utf8_ascii c (sign_below c p)) in
     ap (λ j. is_plain_safe (code t j) x) (sym one) ∙ ahead x cs r u got.1 g in
     let first : is_plain_first t x q ≡ true = first_is t x q ∙ ap (λ v. starts_plain x v (code t (q + 1))) got.0.char ∙ starts_moves x x c (first_or_none cs) (code t (q + 1)) sign parts.0 in
     let rest' : Chain (PlainItem t x) (next t q) (q + len_utf8 c + length (encodes cs)) cs =

@@ -19,19 +19,12 @@ use Rattle.yf_lines.proofs.ClearLemmas.{Quiet, quiet_nothing, quiet_join, quiet_
 use Rattle.yf_plain.specs.Plain.{is_plain_first, is_plain_char, is_sign, PlainItem, PlainLine, PlainFront}
 use Rattle.yf_plain.specs.Plain.PlainItem.{set_off}
 use Rattle.yf_plain.specs.Plain.PlainLine.{one_line}
-
--- a character of content is no white, no break, no mark, and there
-ns_at_end : is_ns_char no_char ≡ false
-unfolding is_ns_char is_nb_char is_printable is_between
-ns_at_end = refl
-
-not_both : (b : Bool) → not b ≡ true → b ≡ false
-not_both true e = sym e
-not_both false e = refl
+use Rattle.yf_chars.proofs.CharFacts.{feed_no_ns, end_no_ns, colon_ns, hash_ns, mark_no_ns}
+use Rattle.yf_chars.proofs.Tests.{turned_false}
 
 pub ns_not_white : (c : ℕ) → is_ns_char c ≡ true → is_white c ≡ false
 unfolding is_ns_char
-ns_not_white c e = not_both (is_white c) ((and_parts (is_nb_char c) (not (is_white c)) e).1)
+ns_not_white c e = turned_false (is_white c) ((and_parts (is_nb_char c) (not (is_white c)) e).1)
 
 pub white_not_ns : (c : ℕ) → is_white c ≡ true → is_ns_char c ≡ false
 unfolding is_ns_char
@@ -89,27 +82,18 @@ pub first_other : (t : List ℕ) (c : Ctx) (i : ℕ) → is_sign (code t i) ≡ 
 unfolding is_plain_first
 first_other t c i e = rw (e, or-false (is_ns_char (code t i) && not (is_indicator (code t i)))) refl
 
--- such characters are characters of content
-pub ns_colon : is_ns_char 58 ≡ true
-unfolding is_ns_char is_nb_char is_printable is_between is_break_char is_white
-ns_colon = refl
-
-pub ns_hash : is_ns_char 35 ≡ true
-unfolding is_ns_char is_nb_char is_printable is_between is_break_char is_white
-ns_hash = refl
-
 pub ns_sign : (c : ℕ) → is_sign c ≡ true → is_ns_char c ≡ true
 unfolding is_sign is_ns_char is_nb_char is_printable is_between is_break_char is_white
 ns_sign c e = grind (arith, nat_tests)
 
-sign_below : (c : ℕ) → is_sign c ≡ true → c < 128
+pub sign_below : (c : ℕ) → is_sign c ≡ true → c < 128
 unfolding is_sign
 sign_below c e = grind (arith, nat_tests)
 
 pub plain_is_ns : (t : List ℕ) (c : Ctx) (i : ℕ) → is_plain_char t c i ≡ true → is_ns_char (code t i) ≡ true
 plain_is_ns t c i e =
-    ⊎_elim (λ (h : code t i ≡ 58). ap is_ns_char h ∙ ns_colon) (λ (n : code t i ≢ 58).
-    ⊎_elim (λ (h : code t i ≡ 35). ap is_ns_char h ∙ ns_hash) (λ (m : code t i ≢ 35).
+    ⊎_elim (λ (h : code t i ≡ 58). ap is_ns_char h ∙ colon_ns) (λ (n : code t i ≢ 58).
+    ⊎_elim (λ (h : code t i ≡ 35). ap is_ns_char h ∙ hash_ns) (λ (m : code t i ≢ 35).
     safe_is_ns (code t i) c (sym (plain_other t c i n m) ∙ e))
     (cases_eq (code t i) 35)) (cases_eq (code t i) 58)
 
@@ -154,7 +138,7 @@ no_char_first a e = rw e refl
 
 pub first_at_end : (t : List ℕ) (c : Ctx) (i : ℕ) → code t i ≡ no_char → is_plain_first t c i ≡ false
 first_at_end t c i e =
-    ⊎_elim (λ (h : is_plain_first t c i ≡ true). absurd (true≢false (sym (first_is_ns t c i h) ∙ ap is_ns_char e ∙ ns_at_end)))
+    ⊎_elim (λ (h : is_plain_first t c i ≡ true). absurd (true≢false (sym (first_is_ns t c i h) ∙ ap is_ns_char e ∙ end_no_ns)))
     (λ (h : is_plain_first t c i ≡ false). h) (cases_Bool (is_plain_first t c i))
 
 -- after white space is a white
@@ -177,21 +161,13 @@ lookbehind {t} {i} {j} u b w l =
 ns_not : (c d : ℕ) → is_ns_char c ≡ true → is_ns_char d ≡ false → c ≢ d
 ns_not c d e n q = true≢false (sym e ∙ ap is_ns_char q ∙ n)
 
-pub ns_lf : is_ns_char 10 ≡ false
-unfolding is_ns_char is_nb_char is_printable is_between is_break_char
-ns_lf = refl
-
 pub ns_cr : is_ns_char 13 ≡ false
 unfolding is_ns_char is_nb_char is_printable is_between is_break_char
 ns_cr = refl
 
-pub ns_mark : is_ns_char 0xFEFF ≡ false
-unfolding is_ns_char is_nb_char is_printable is_between is_break_char
-ns_mark = refl
-
 pub quiet_ns : {t : List ℕ} {i : ℕ} → IsUtf8 t → is_ns_char (code t i) ≡ true → Quiet t i (next t i)
 quiet_ns {t} {i} u e =
-    quiet_char u (reads_real t i u (ns_below (code t i) e)) (ns_not (code t i) 10 e ns_lf) (ns_not (code t i) 13 e ns_cr) (ns_not (code t i) 0xFEFF e ns_mark)
+    quiet_char u (reads_real t i u (ns_below (code t i) e)) (ns_not (code t i) 10 e feed_no_ns) (ns_not (code t i) 13 e ns_cr) (ns_not (code t i) 0xFEFF e mark_no_ns)
 
 -- one character with the white space before it
 record Parts (t : List ℕ) (c : Ctx) (i j : ℕ) (x : List ℕ) : Type 0 where

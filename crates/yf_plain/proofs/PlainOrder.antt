@@ -10,7 +10,7 @@ use Rattle.yf_plain.specs.Plain.{PlainItem, PlainNext, next_line, PlainText, as_
 use Rattle.yf_plain.specs.Plain as Plain
 use Rattle.yf_plain.proofs.PlainLemmas.{line_forward}
 
-item_forward : {t : List ℕ} {c : Ctx} {i j : ℕ} {x : List ℕ} → PlainItem t c i j x → i ≤ j
+pub item_forward : {t : List ℕ} {c : Ctx} {i j : ℕ} {x : List ℕ} → PlainItem t c i j x → i ≤ j
 item_forward {t} (Plain.set_off {h = h} w e) =
     let f = chain_forward (one_functional t is_white) w in let g = next_later t h in omega arith
 
@@ -18,7 +18,7 @@ pub items_forward : {t : List ℕ} {c : Ctx} {i j : ℕ} {x : List ℕ} → Chai
 items_forward done = omega arith
 items_forward (step s c) = let f = item_forward s in let g = items_forward c in omega arith
 
-next_forward : {t : List ℕ} {n : ℤ} {c : Ctx} {i j : ℕ} {x : List ℕ} → PlainNext t n c i j x → i ≤ j
+pub next_forward : {t : List ℕ} {n : ℤ} {c : Ctx} {i j : ℕ} {x : List ℕ} → PlainNext t n c i j x → i ≤ j
 next_forward {t} (next_line {h = h} f e d) =
     let a = fold_order f in let b = next_later t h in let g = items_forward d in omega arith
 

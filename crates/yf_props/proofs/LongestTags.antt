@@ -8,7 +8,8 @@ use Rattle.yf_chars.proofs.ChainLemmas.{chain_chosen, chain_forward, many_unique
 use Rattle.yf_props.specs.Names.{Handle, Run, TagChar, TagPrefix, UriChar, WordChar}
 use Rattle.yf_props.specs.Names.Handle.{primary_handle, secondary_handle, named_handle}
 use Rattle.yf_props.specs.Names.TagPrefix.{local_prefix, global_prefix}
-use Rattle.yf_props.proofs.TagLemmas.{mark_word, percent_tag, percent_uri, spelled_functional, spelled_stuck, tag_functional}
+use Rattle.yf_props.proofs.TagLemmas.{percent_tag, percent_uri, spelled_functional, spelled_stuck, tag_functional}
+use Rattle.yf_chars.proofs.CharFacts.{exclamation_no_tag, exclamation_no_word}
 
 handle_mark : {t : List ℕ} {i j : ℕ} → Handle t i j → code t i ≡ 33
 handle_mark (primary_handle a) = a
@@ -24,7 +25,7 @@ module _ (t : List ℕ) (i w : ℕ) (x : List ℕ) (m : Many t is_word_char (i +
   named_end r = (stuck_unique (one_functional t is_word_char) r.chain r.all m (one_stuck t is_word_char w e)).0
 
   no_name : code t (i + 1) ≡ 33 → i + 1 ≡ w
-  no_name b = (many_unique t is_word_char done (ap is_word_char b ∙ mark_word) m e).0
+  no_name b = (many_unique t is_word_char done (ap is_word_char b ∙ exclamation_no_word) m e).0
 
   pub handle_within : (k : ℕ) → Handle t i k → k ≤ w + 1
   handle_within k (primary_handle a) = let f = chain_forward (one_functional t is_word_char) m in omega arith
@@ -36,13 +37,9 @@ module _ (t : List ℕ) (i w : ℕ) (x : List ℕ) (m : Many t is_word_char (i +
   handle_alone n k (secondary_handle a b) = absurd (n (ap (code t) (sym (no_name b)) ∙ b))
   handle_alone n k (named_handle a r b) = absurd (n (ap (code t) (sym (named_end r)) ∙ b))
 
-mark_no_tag : is_tag_char 33 ≡ false
-unfolding is_tag_char is_uri_char is_word_char is_digit is_between
-mark_no_tag = refl
-
 module _ {t : List ℕ} where
   no_tag_at_mark : {i j : ℕ} {x : List ℕ} {A : Type 0} → code t i ≡ 33 → TagChar t i j x → A
-  no_tag_at_mark {i} {j} {x} e s = absurd ((spelled_stuck t is_tag_char percent_tag i (ap is_tag_char e ∙ mark_no_tag) (λ q. absurd (omega arith))).none j x s)
+  no_tag_at_mark {i} {j} {x} e s = absurd ((spelled_stuck t is_tag_char percent_tag i (ap is_tag_char e ∙ exclamation_no_tag) (λ q. absurd (omega arith))).none j x s)
 
   uris : {i j : ℕ} {x : List ℕ} → Chain (UriChar t) i j x → Stuck (UriChar t j) → Chosen (Chain (UriChar t) i) j x
   uris c s = chain_chosen (spelled_functional t is_uri_char percent_uri) c s

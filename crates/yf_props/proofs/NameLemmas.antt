@@ -9,15 +9,7 @@ use Rattle.yf_chars.proofs.ChainLemmas.{one_functional, one_stuck, stuck_unique}
 use Rattle.yf_props.specs.Names.{AnchorChar, Run, Anchor, Alias}
 use Rattle.yf_props.specs.Names.Anchor.{ampersand_name}
 use Rattle.yf_props.specs.Names.Alias.{asterisk_name}
-
--- what is derived in one way alone is chosen
-pub chosen_alone : {X : Type 0} {P : ℕ → X → Type 0} {j : ℕ} {x : X} → P j x
-    → ((k : ℕ) (y : X) → P k y → (k ≡ j) × (y ≡ x)) → Chosen P j x
-chosen_alone {j = j} d same = record {
-  derived = d;
-  longest = λ k y e. let s = (same k y e).0 in omega arith;
-  only = λ y e. (same j y e).1;
-}
+use Rattle.yf_chars.proofs.EscapeLemmas.{chosen_only}
 
 -- and what ends further than all else that is derived, or is the same
 pub chosen_over : {X : Type 0} {P : ℕ → X → Type 0} {j : ℕ} {x : X} → P j x
@@ -74,10 +66,10 @@ module _ {t : List ℕ} where
       let same = name_unique s r in (same, ap (slice_range t (i + 1)) same)
 
   pub alias_chosen : {i j : ℕ} → code t i ≡ 42 → Run (AnchorChar t) (i + 1) j → Chosen (Alias t i) j (slice_range t (i + 1) j)
-  alias_chosen {i} {j} e r = let d = asterisk_name e r in chosen_alone d (λ k y f. alias_unique d f)
+  alias_chosen {i} {j} e r = let d = asterisk_name e r in chosen_only d (λ k y f. alias_unique d f)
 
   pub anchor_chosen : {i j : ℕ} → code t i ≡ 38 → Run (AnchorChar t) (i + 1) j → Chosen (Anchor t i) j (slice_range t (i + 1) j)
-  anchor_chosen {i} {j} e r = let d = ampersand_name e r in chosen_alone d (λ k y f. anchor_unique d f)
+  anchor_chosen {i} {j} e r = let d = ampersand_name e r in chosen_only d (λ k y f. anchor_unique d f)
 
   pub alias_parts : {i j : ℕ} {x : List ℕ} → Alias t i j x → (code t i ≡ 42) × Run (AnchorChar t) (i + 1) j
   alias_parts (asterisk_name e r) = (e, r)

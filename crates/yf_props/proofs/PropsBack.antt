@@ -20,10 +20,11 @@ use Rattle.yf_props.specs.Names.ShorthandTag.{handle_suffix}
 use Rattle.yf_props.specs.Names.TagProperty.{verbatim_tag, shorthand_tag, non_specific_tag}
 use Rattle.yf_props.specs.Names.Properties.{by_tag, by_anchor, anchor_first}
 use Rattle.yf_props.specs.Written.{IsName, IsSpelled, IsHandle, primary_form, secondary_form, named_form, IsTag, verbatim_form, short_form, lone_form, IsProps, anchor_bytes, tag_bytes, parts_bytes, props_bytes, tag_offset_at, props_at}
-use Rattle.yf_props.proofs.TagLemmas.{spelled_stuck, percent_uri, close_uri, mark_word}
+use Rattle.yf_props.proofs.TagLemmas.{spelled_stuck, percent_uri, close_uri}
 use Rattle.yf_props.proofs.SolidLemmas.{uri_solid, tag_solid}
 use Rattle.yf_props.proofs.NamesMade.{words_bytes}
 use Rattle.yf_props.proofs.NamesBack.{tag_stuck, many_back, spelled_back, long_some, spelled_run, anchor_back}
+use Rattle.yf_chars.proofs.CharFacts.{exclamation_no_word}
 
 -- handles
 pub record HandleAt (t : List ℕ) (q j : ℕ) (r : List ℕ) : Type 0 where
@@ -43,7 +44,7 @@ handle_back {t} r q u (named_form {x = x} a n) s =
     let inner : IsAt t (q + 1) (encodes x ++ (33 ∷ r)) = subst (λ w. IsAt t (q + 1) w) (append_assoc x (33 ∷ []) r ∙ ap (λ w. w ++ (33 ∷ r)) (sym bytes)) got.1 in
     let end = is_at_chars x u inner in
     let last = is_at_ascii 33 u (omega arith) end in
-    let stop = one_stuck t is_word_char (q + 1 + length (encodes x)) (ap is_word_char last.0.char ∙ mark_word) in
+    let stop = one_stuck t is_word_char (q + 1 + length (encodes x)) (ap is_word_char last.0.char ∙ exclamation_no_word) in
     let long : 0 < length (encodes x) = omega (arith, long_some x n, ap length bytes) in
     let run : Run (WordChar t) (q + 1) (q + 1 + length (encodes x)) =
     record { characters = x; chain = many_back is_word_char x (33 ∷ r) (q + 1) u a inner; some = omega arith; all = stop } in

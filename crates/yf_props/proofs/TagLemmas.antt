@@ -20,7 +20,9 @@ use Rattle.yf_props.specs.Names.Handle.{primary_handle, secondary_handle, named_
 use Rattle.yf_props.specs.Names.VerbatimTag.{in_brackets}
 use Rattle.yf_props.specs.Names.ShorthandTag.{handle_suffix}
 use Rattle.yf_props.specs.Names.TagProperty.{verbatim_tag, shorthand_tag, non_specific_tag}
-use Rattle.yf_props.proofs.NameLemmas.{chosen_alone, chosen_over, chosen_cases, run_unique, run_stuck}
+use Rattle.yf_props.proofs.NameLemmas.{chosen_over, chosen_cases, run_unique, run_stuck}
+use Rattle.yf_chars.proofs.CharFacts.{exclamation_no_tag, exclamation_no_word, angle_no_tag, end_no_tag, end_no_uri, angle_no_word}
+use Rattle.yf_chars.proofs.EscapeLemmas.{chosen_only}
 
 -- which characters are in which class
 pub percent_uri : is_uri_char 37 ≡ false
@@ -35,37 +37,13 @@ pub percent_of : (class : Chars) → class_of class 37 ≡ false
 percent_of Uri = percent_uri
 percent_of Suffix = percent_tag
 
-mark_tag : is_tag_char 33 ≡ false
-unfolding is_tag_char is_uri_char is_word_char is_digit is_between
-mark_tag = refl
-
-pub mark_word : is_word_char 33 ≡ false
-unfolding is_word_char is_digit is_between
-mark_word = refl
-
-bracket_word : is_word_char 60 ≡ false
-unfolding is_word_char is_digit is_between
-bracket_word = refl
-
-bracket_tag : is_tag_char 60 ≡ false
-unfolding is_tag_char is_uri_char is_word_char is_digit is_between
-bracket_tag = refl
-
 pub close_uri : is_uri_char 62 ≡ false
 unfolding is_uri_char is_word_char is_digit is_between
 close_uri = refl
 
-none_uri : is_uri_char no_char ≡ false
-unfolding is_uri_char is_word_char is_digit is_between
-none_uri = refl
-
-none_tag : is_tag_char no_char ≡ false
-unfolding is_tag_char is_uri_char is_word_char is_digit is_between
-none_tag = refl
-
 pub none_of : (class : Chars) (c : ℕ) → c ≡ no_char → class_of class c ≡ false
-none_of Uri c e = ap is_uri_char e ∙ none_uri
-none_of Suffix c e = ap is_tag_char e ∙ none_tag
+none_of Uri c e = ap is_uri_char e ∙ end_no_uri
+none_of Suffix c e = ap is_tag_char e ∙ end_no_tag
 
 none_word : is_word_char no_char ≡ false
 unfolding is_word_char is_digit is_between
@@ -90,7 +68,7 @@ hex_above c l =
       and-false (leb 97 c),
     )
 
-hex_below : (c : ℕ) → is_hex_digit c ≡ true → c < 128
+pub hex_below : (c : ℕ) → is_hex_digit c ≡ true → c < 128
 hex_below c e = ⊎_elim (λ (l : c < 128). l) (λ (l : 128 ≤ c). absurd (true≢false (sym e ∙ hex_above c l))) (cases_lt c 128)
 
 -- a hexadecimal digit is one byte long
@@ -108,7 +86,7 @@ pub word_uri : (c : ℕ) → is_word_char c ≡ true → is_uri_char c ≡ true
 unfolding is_uri_char
 word_uri c e = rw e
 
-word_flow : (c : ℕ) → is_word_char c ≡ true → is_flow_indicator c ≡ false
+pub word_flow : (c : ℕ) → is_word_char c ≡ true → is_flow_indicator c ≡ false
 unfolding is_flow_indicator is_word_char is_digit is_between
 word_flow c e =
     rw (
@@ -119,9 +97,9 @@ word_flow c e =
       ne_eqb c 125 (word_apart c 125 e refl),
     )
 
-word_tag : (c : ℕ) → is_word_char c ≡ true → is_tag_char c ≡ true
+pub word_tag : (c : ℕ) → is_word_char c ≡ true → is_tag_char c ≡ true
 unfolding is_tag_char
-word_tag c e = rw (word_uri c e, ne_eqb c 33 (word_apart c 33 e mark_word), word_flow c e)
+word_tag c e = rw (word_uri c e, ne_eqb c 33 (word_apart c 33 e exclamation_no_word), word_flow c e)
 
 -- steps
 module _ (t : List ℕ) (p : ℕ → Bool) (none : p 37 ≡ false) where
@@ -190,7 +168,7 @@ module _ {t : List ℕ} where
   word_steps (step s c) = step (word_step s) (word_steps c)
 
   mark_stuck : {i : ℕ} → code t i ≡ 33 → Stuck (TagChar t i)
-  mark_stuck b = stuck_at b mark_tag (λ q. absurd (omega arith))
+  mark_stuck b = stuck_at b exclamation_no_tag (λ q. absurd (omega arith))
 
   -- word characters from there, or another character
   first_word : {i j : ℕ} {x : List ℕ} → Chain (WordChar t) i j x → (i ≡ j) ⊎ (is_word_char (code t i) ≡ true)
@@ -202,7 +180,7 @@ module _ (t : List ℕ) (i w : ℕ) (x : List ℕ) (m : Many t is_word_char (i +
   handle_cases : {h : ℕ} → Handle t i h → (h ≡ i + 1) ⊎ ((h ≡ w + 1) × (code t w ≡ 33))
   handle_cases (primary_handle a) = inl refl
   handle_cases (secondary_handle a b) =
-      let same : i + 1 ≡ w = (many_unique t is_word_char done (ap is_word_char b ∙ mark_word) m e).0 in
+      let same : i + 1 ≡ w = (many_unique t is_word_char done (ap is_word_char b ∙ exclamation_no_word) m e).0 in
       inr (omega arith, ap (code t) (sym same) ∙ b)
   handle_cases (named_handle {j = j} a r b) =
       let same : j ≡ w = (stuck_unique (one_functional t is_word_char) r.chain r.all m (one_stuck t is_word_char w e)).0 in
@@ -267,7 +245,7 @@ module _ (t : List ℕ) (i : ℕ) (mark : code t i ≡ 33) (none : (h j : ℕ) �
 
   pub lone_chosen : {j : ℕ} → Run (TagChar t) (i + 1) j
       → Chosen (ShorthandTag t i) j (IsShort (slice_range t i (i + 1)) (slice_range t (i + 1) j))
-  lone_chosen r = chosen_alone (handle_suffix (primary_handle mark) r) (λ k y d. other_suffix r d)
+  lone_chosen r = chosen_only (handle_suffix (primary_handle mark) r) (λ k y d. other_suffix r d)
 
   no_suffix : {k : ℕ} {y : TagValue} → Stuck (TagChar t (i + 1)) → ShorthandTag t i k y → ⊥
   no_suffix s (handle_suffix {h = h} {j = j} a r) = run_stuck s (subst (λ v. Run (TagChar t) v j) (lone_handle a r) r)
@@ -284,7 +262,7 @@ module _ {t : List ℕ} {i : ℕ} where
 
   pub verbatim_chosen : {j : ℕ} → code t i ≡ 33 → code t (i + 1) ≡ 60 → Run (UriChar t) (i + 2) j → code t j ≡ 62
       → Chosen (VerbatimTag t i) (j + 1) (slice_range t (i + 2) j)
-  verbatim_chosen a b r c = chosen_alone (in_brackets a b r c) (λ k y d. other_text r d)
+  verbatim_chosen a b r c = chosen_only (in_brackets a b r c) (λ k y d. other_text r d)
 
   verbatim_mark : {k : ℕ} {y : List ℕ} → VerbatimTag t i k y → code t i ≡ 33
   verbatim_mark (in_brackets a b r c) = a
@@ -326,9 +304,9 @@ module _ {t : List ℕ} {i : ℕ} where
 
   -- no shorthand begins with !<
   bracket_shorthand : {k : ℕ} {y : TagValue} → code t (i + 1) ≡ 60 → ShorthandTag t i k y → ⊥
-  bracket_shorthand e (handle_suffix (primary_handle a) r) = run_stuck (stuck_at e bracket_tag (λ q. absurd (omega arith))) r
+  bracket_shorthand e (handle_suffix (primary_handle a) r) = run_stuck (stuck_at e angle_no_tag (λ q. absurd (omega arith))) r
   bracket_shorthand e (handle_suffix (secondary_handle a b) r) = absurd (omega arith)
-  bracket_shorthand e (handle_suffix (named_handle a s b) r) = run_stuck (one_stuck t is_word_char (i + 1) (ap is_word_char e ∙ bracket_word)) s
+  bracket_shorthand e (handle_suffix (named_handle a s b) r) = run_stuck (one_stuck t is_word_char (i + 1) (ap is_word_char e ∙ angle_no_word)) s
 
   pub tag_mark : {k : ℕ} {y : TagValue} → TagProperty t i k y → code t i ≡ 33
   tag_mark (verbatim_tag d) = verbatim_mark d
@@ -369,4 +347,4 @@ module _ {t : List ℕ} {i : ℕ} where
 
   pub non_specific_chosen : code t i ≡ 33 → Stuck (VerbatimTag t i) → Stuck (ShorthandTag t i) → Stuck (TagChar t (i + 1))
       → Chosen (TagProperty t i) (i + 1) IsNonSpecific
-  non_specific_chosen a n m s = chosen_alone (non_specific_tag a s) (λ k y d. only_mark n m d)
+  non_specific_chosen a n m s = chosen_only (non_specific_tag a s) (λ k y d. only_mark n m d)

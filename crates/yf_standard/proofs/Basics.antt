@@ -32,6 +32,8 @@ use Rattle.yf_standard.proofs.Reading.Star.{none, more}
 use Rattle.yf_standard.proofs.Sets.{white_is, nb_char_is}
 use Rattle.yf_chars.proofs.TextLemmas.{next_ascii, next_later}
 use Rattle.yf_comments.proofs.NoteKnown.{note_known}
+use Rattle.yf_lines.proofs.FoldLemmas.{indent_width}
+use Rattle.yf_lines.proofs.RestLemmas.{spaces_more}
 
 -- with some meaning
 abbrev pub SomeOf : {A : Type 0} → (ℕ → ℕ → A → Type 0) → ℕ → ℕ → Type 0
@@ -94,25 +96,13 @@ break_read {t} {i} {j} (inr (inr d)) =
     let e : i + 1 ≡ j = omega (arith, b.1) in
     subst (λ k. Break t i k) e (lone_lf (ap (code t) s ∙ b.0) d.1.0.0)
 
--- [63]
-pub spaces_more : {t : List ℕ} {i k : ℕ} → code t i ≡ 32 → Spaces t (i + 1) k → Spaces t i (suc k)
-spaces_more {t} {i} {k} e s = record {
-  each = λ m l. at m l;
-} where
-  at : (m : ℕ) → m < suc k → code t (i + m) ≡ 32
-  at zero l = let q : i + 0 ≡ i = omega arith in ap (code t) q ∙ e
-  at (suc m) l = let q : i + suc m ≡ (i + 1) + m = omega arith in ap (code t) q ∙ s.each m (omega arith)
-
-pub pos_inj : {a b : ℕ} → pos a ≡ pos b → a ≡ b
-pos_inj e = ap nat_abs e
-
 pub indent_more : {t : List ℕ} {n i k j : ℕ} → CharOf t s-space i k → Indent t (pos n) k j → Indent t (pos (suc n)) i j
 unfolding s-space
 indent_more {t} {n} {i} {k} c d = go (char_is t i k 32 (omega arith) c) d where
   go : {k j : ℕ} → (code t i ≡ 32) × (i + 1 ≡ k) → Indent t (pos n) k j → Indent t (pos (suc n)) i j
   go e (exactly {i = h} m q s) =
       let a : i + suc m ≡ h + m = omega (arith, e.1) in
-      let same : suc n ≡ suc m = ap suc (pos_inj q) in
+      let same : suc n ≡ suc m = ap suc (indent_width q) in
       subst (λ j. Indent t (pos (suc n)) i j) a (exactly (suc m) (ap pos same) (spaces_more e.0 (subst (λ h. Spaces t h m) (sym e.1) s)))
 
 pub indent_none : (t : List ℕ) (i j : ℕ) → i ≡ j → Indent t (pos 0) i j

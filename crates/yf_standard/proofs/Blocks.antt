@@ -21,6 +21,7 @@ use Rattle.yf_standard.proofs.Reading.Star.{none, more}
 use Rattle.yf_standard.proofs.Basics.{SomeOf, CharOf, char_is}
 use Rattle.yf_standard.proofs.Sets.{ns_char_is}
 use Rattle.yf_standard.proofs.Flows.{SomeNode, SignOf, node_is}
+use Rattle.yf_lines.proofs.FoldLemmas.{indent_width}
 
 -- at a column, where n is one
 abbrev pub AtColumn : (ℕ → ℕ → ℕ → Type 0) → ℤ → ℕ → ℕ → Type 0
@@ -31,9 +32,6 @@ EntryAt t room s n i j = (m : ℕ) → n ≡ pos m → SomeNode t room (BlockEnt
 
 abbrev pub EntriesAt : List ℕ → ℕ → Bool → ℤ → ℕ → ℕ → Type 0
 EntriesAt t room s n i j = (m : ℕ) → n ≡ pos m → SomeNode t room (BlockEntries s m) i j
-
-pos_eq : {a b : ℕ} → pos a ≡ pos b → a ≡ b
-pos_eq e = ap nat_abs e
 
 -- entries after the first: s-indent(n) and an entry
 abbrev pub Further : List ℕ → ℕ → Bool → ℤ → ℕ → ℕ → Type 0
@@ -47,7 +45,7 @@ entries_from t room s n i k j m e f (more {k = h} d r) =
     go d.1.0 rest g where
       go : {l : ℕ} → Indent t n k l → SomeNode t room (BlockEntries s m) l j → SomeNode t room (BlockEntry s m) i k → SomeNode t room (BlockEntries s m) i j
       go (exactly p q sp) rest g =
-          let same : p ≡ m = pos_eq (sym q ∙ e) in
+          let same : p ≡ m = indent_width (sym q ∙ e) in
           let w : Spaces t k m = subst (λ z. Spaces t k z) same sp in
           let v : SomeNode t room (BlockEntries s m) (k + m) j = subst (λ z. SomeNode t room (BlockEntries s m) (k + z) j) same rest in
           let f = g.fits in let q = v.fits in node_is (an_entry_before g.node w v.node) (omega (arith, f, q))
@@ -100,7 +98,7 @@ indented_read t room n c i j m b e (inl d) = go d.1.1.0 d.1.1.1 where
 
   compact : (s : Bool) {k : ℕ} → Indent t (pos d.0) i k → Smaller (λ r. EntriesAt t r s (plus n (1 + d.0)) k j) room → SomeNode t room (BlockIndented m c) i j
   compact s (exactly p q sp) f =
-      let same : p ≡ d.0 = sym (pos_eq q) in
+      let same : p ≡ d.0 = sym (indent_width q) in
       let w : Spaces t i d.0 = subst (λ z. Spaces t i z) same sp in
       let v : SomeNode t f.0 (BlockEntries s (m + 1 + d.0)) (i + d.0) j = subst (λ z. SomeNode t f.0 (BlockEntries s (m + 1 + d.0)) (i + z) j) same (f.1.1 (m + 1 + d.0) column) in
       let a = v.fits in let y = f.1.0 in node_is (a_compact_collection b w v.node) (omega (arith, a, y))
@@ -134,7 +132,7 @@ colon_read t room n i j d = λ m e. go m e d.1.0 d.1.1 where
       → (g : ℕ) × (SignOf t 58 h g × ((f : ℕ) × (((is_white_or_end (code t g) ≡ true) × (g ≡ f)) × ((m : ℕ) → n ≡ pos m → SomeNode t room (BlockIndented m BlockOut) f j))))
       → ColonLine t m i × SomeNode t room (BlockIndented m BlockOut) (i + m + 1) j
   go m e (exactly p q sp) r =
-      let same : p ≡ m = pos_eq (sym q ∙ e) in
+      let same : p ≡ m = indent_width (sym q ∙ e) in
       let at : i + p ≡ i + m = ap (λ z. i + z) same in
       let next : r.0 ≡ i + m + 1 = sym r.1.0.1 ∙ ap (λ z. z + 1) at in
       let f : r.1.1.0 ≡ i + m + 1 = sym r.1.1.1.0.1 ∙ next in (

@@ -13,6 +13,7 @@ use Rattle.yf_props.specs.Names.{Run}
 use Rattle.yf_standard.proofs.Texts.{some_first}
 use Rattle.yf_chars.proofs.TextLemmas.{next_ascii, code-past, code_from_byte, byte_from_code}
 use Rattle.yf_block_scalar.proofs.BodyLemmas.{no_nb_end}
+use Rattle.yf_grammar.proofs.BlockOutcomes.BlockKeys.{end_not_ns}
 
 yaml_codes : codes "YAML" ≡ 89 ∷ 65 ∷ 77 ∷ 76 ∷ []
 yaml_codes = refl
@@ -121,8 +122,3 @@ tag_slice t a u y a1 m =
     let d : drop a t ≡ 84 ∷ 65 ∷ 71 ∷ drop (a + 2 + 1) t =
     byte_at t a 84 u y (omega arith) ∙ ap (λ z. 84 ∷ z) (byte_at t (a + 1) 65 u a1 (omega arith) ∙ ap (λ z. 65 ∷ z) (ap (λ z. drop z t) two ∙ byte_at t (a + 2) 71 u m (omega arith))) in
     ap (λ z. take z (drop a t)) three ∙ ap (take 3) d ∙ sym tag_codes
-
--- what is white, a break or the end is no character of a name
-pub end_no_ns : (c : ℕ) → is_white_or_end c ≡ true → is_ns_char c ≡ false
-unfolding is_white_or_end is_ns_char is_nb_char is_printable is_between is_break_char is_white
-end_no_ns c e = grind (arith, nat_tests)

@@ -24,13 +24,15 @@ use Rattle.yf_standard.proofs.Reading.{Star}
 use Rattle.yf_standard.proofs.Reading.Star.{none, more}
 use Rattle.yf_standard.proofs.Basics.{SomeOf}
 use Rattle.yf_standard.proofs.Texts.{some_first}
-use Rattle.yf_standard.proofs.DirectiveNames.{yaml_name, tag_name, yaml_slice, tag_slice, end_no_ns}
+use Rattle.yf_standard.proofs.DirectiveNames.{yaml_name, tag_name, yaml_slice, tag_slice}
 use Rattle.yf_chars.proofs.TextLemmas.{next_ascii}
 use Rattle.yf_lines.proofs.BasicLemmas.{ends_by_white}
 use Rattle.yf_props.proofs.NameLemmas.{run_of}
 use Rattle.yf_block_scalar.proofs.HeaderLemmas.{rest_stop}
 use Rattle.yf_grammar.proofs.Ends.BlankRuns.{ContentBefore, after_byte, no_start_past}
 use Rattle.yf_stream.proofs.Uniqueness.OneDirective.{run_after, digit_ns}
+use Rattle.yf_grammar.proofs.BlockOutcomes.BlockKeys.{end_not_ns}
+use Rattle.yf_plain.proofs.PlainLemmas.{white_not_ns}
 
 -- one character or more of a class
 abbrev pub SomeChars : List ℕ → (ℕ → Bool) → ℕ → ℕ → Type 0
@@ -74,10 +76,6 @@ pub record ReservedRead (t : List ℕ) (i j : ℕ) : Type 0 where
   pub name : SomeChars t is_ns_char i at
   pub words : Star (Word t) at j
 
-white_no_ns : (c : ℕ) → is_white c ≡ true → is_ns_char c ≡ false
-unfolding is_ns_char
-white_no_ns c e = rw e (and-false (is_nb_char c))
-
 no_digit_46 : is_digit 46 ≡ false
 unfolding is_digit is_between
 no_digit_46 = refl
@@ -90,19 +88,19 @@ ns_84 : is_ns_char 84 ≡ true
 unfolding is_ns_char is_nb_char is_printable is_between is_break_char is_white
 ns_84 = refl
 
-ns_65 : is_ns_char 65 ≡ true
+pub ns_65 : is_ns_char 65 ≡ true
 unfolding is_ns_char is_nb_char is_printable is_between is_break_char is_white
 ns_65 = refl
 
-ns_77 : is_ns_char 77 ≡ true
+pub ns_77 : is_ns_char 77 ≡ true
 unfolding is_ns_char is_nb_char is_printable is_between is_break_char is_white
 ns_77 = refl
 
-ns_76 : is_ns_char 76 ≡ true
+pub ns_76 : is_ns_char 76 ≡ true
 unfolding is_ns_char is_nb_char is_printable is_between is_break_char is_white
 ns_76 = refl
 
-ns_71 : is_ns_char 71 ≡ true
+pub ns_71 : is_ns_char 71 ≡ true
 unfolding is_ns_char is_nb_char is_printable is_between is_break_char is_white
 ns_71 = refl
 
@@ -126,7 +124,7 @@ module _ {t : List ℕ} (u : IsUtf8 t) where
   words_stop b (more d r) l = separate_stop b d.1.0
 
   ns_run : {i j : ℕ} → SomeChars t is_ns_char i j → is_white_or_end (code t j) ≡ true → Run (One t is_ns_char) i j
-  ns_run {i} {j} d e = run_of t is_ns_char d.1.0 d.1.1 (end_no_ns (code t j) e)
+  ns_run {i} {j} d e = run_of t is_ns_char d.1.0 d.1.1 (end_not_ns (code t j) e)
 
   words_read : {i k j : ℕ} {w : List CommentValue} → Star (Word t) i k → LineEnd t k j w → SomeOf (Chain (ReservedParameter t)) i k
   words_read none l = ([], done)
@@ -153,7 +151,7 @@ module _ {t : List ℕ} (u : IsUtf8 t) where
   digits_run d e = run_of t is_digit d.1.0 d.1.1 e
 
   no_digit : (c : ℕ) → is_white_or_end c ≡ true → is_digit c ≡ false
-  no_digit c e = ⊎_elim (λ (d : is_digit c ≡ true). absurd (true≢false (sym (digit_ns c d) ∙ end_no_ns c e))) (λ (d : is_digit c ≡ false). d) (cases_Bool (is_digit c))
+  no_digit c e = ⊎_elim (λ (d : is_digit c ≡ true). absurd (true≢false (sym (digit_ns c d) ∙ end_not_ns c e))) (λ (d : is_digit c ≡ false). d) (cases_Bool (is_digit c))
 
   record NameRead (a k l : ℕ) : Type 0 where
     pub name : Run (One t is_ns_char) a k

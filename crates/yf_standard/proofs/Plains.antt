@@ -25,6 +25,7 @@ use Rattle.yf_standard.proofs.Basics.{SomeOf, CharOf, star_chain, chars_many}
 use Rattle.yf_standard.proofs.BasicsMade.{Read, chars_made, many_made, flow_folded_made}
 use Rattle.yf_standard.proofs.Sets.{white_is, ns_char_is, plain_safe_is}
 use Rattle.yf_chars.proofs.TextLemmas.{next_ascii}
+use Rattle.yf_plain.proofs.PlainLemmas.{sign_below}
 
 pub or_cases : (a b : Bool) → (a || b) ≡ true → (a ≡ true) ⊎ (b ≡ true)
 or_cases true b e = inl refl
@@ -67,10 +68,6 @@ no_indicator_is c = rw (ns_char_is c, indicator_is c) refl
 safe_code_is : (k : Ctx) (c : ℕ) → (ns-plain-safe k ∖ c-mapping-value ∖ c-comment) c ≡ (is_plain_safe c k && (not (c == 58) && not (c == 35)))
 unfolding ◌∖◌ c-mapping-value c-comment x
 safe_code_is k c = rw (plain_safe_is k c) (and_assoc (is_plain_safe c k) (not (c == 58)) (not (c == 35)))
-
-sign_below : (c : ℕ) → is_sign c ≡ true → c < 128
-unfolding is_sign
-sign_below c e = grind (arith, nat_tests)
 
 pub first_read : (t : List ℕ) (c : Ctx) (i j : ℕ)
     → CharOf t (ns-char ∖ c-indicator) i j ⊎ ((k : ℕ) × (CharOf t (c-mapping-key ∪ c-mapping-value ∪ c-sequence-entry) i k × ((ns-plain-safe c (code t k) ≡ true) × (k ≡ j))))

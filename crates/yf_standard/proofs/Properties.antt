@@ -23,6 +23,9 @@ use Rattle.yf_standard.proofs.Basics.{SomeOf, CharOf, chars_some, star_chain}
 use Rattle.yf_standard.proofs.Sets.{anchor_char_is, word_char_is, hex_digit_is, flow_indicator_is}
 use Rattle.yf_standard.proofs.Flows.{SignOf}
 use Rattle.yf_chars.proofs.TextLemmas.{next_ascii, next_later}
+use Rattle.yf_chars.proofs.CharFacts.{exclamation_no_word}
+use Rattle.yf_lines.proofs.CoreSteady.{either_way}
+use Rattle.yf_props.proofs.TagLemmas.{close_uri, hex_below}
 
 none_of : (t : List ℕ) (p : ℕ → Bool) (j : ℕ) → p (code t j) ≡ false → Stuck (One t p j)
 none_of t p j e = record { none = λ k y d. no d } where
@@ -53,11 +56,6 @@ signs : (w a b c d e f g h i j k l m n o p q r s u v : Bool)
 signs true a b c d e f g h i j k l m n o p q r s u v = refl
 signs false a b c d e f g h i j k l m n o p q r s u v = refl
 
-or_true : (a b : Bool) → (a ≡ true) ⊎ (b ≡ true) → (a || b) ≡ true
-or_true a b (inl e) = rw e refl
-or_true true b (inr e) = refl
-or_true false b (inr e) = e
-
 unfoldable pub uri_signs : ℕ → Bool
 unfolding x ◌∪◌
 uri_signs = x 35 ∪ x 59 ∪ x 47 ∪ x 63 ∪ x 58 ∪ x 64 ∪ x 38 ∪ x 61 ∪ x 43 ∪ x 36 ∪ x 44 ∪ x 95 ∪ x 46 ∪ x 33 ∪ x 126 ∪ x 42 ∪ x 39 ∪ x 40 ∪ x 41 ∪ x 91 ∪ x 93
@@ -65,10 +63,6 @@ uri_signs = x 35 ∪ x 59 ∪ x 47 ∪ x 63 ∪ x 58 ∪ x 64 ∪ x 38 ∪ x 61 
 pub uri_is : (c : ℕ) → (is_word_char c || uri_signs c) ≡ is_uri_char c
 unfolding uri_signs x ◌∪◌ is_uri_char
 uri_is c = signs (is_word_char c) (c == 35) (c == 59) (c == 47) (c == 63) (c == 58) (c == 64) (c == 38) (c == 61) (c == 43) (c == 36) (c == 44) (c == 95) (c == 46) (c == 33) (c == 126) (c == 42) (c == 39) (c == 40) (c == 41) (c == 91) (c == 93)
-
-pub hex_below : (c : ℕ) → is_hex_digit c ≡ true → c < 128
-unfolding is_hex_digit is_digit is_between
-hex_below c e = grind (arith, nat_tests)
 
 -- % and two digits
 escape_read : (t : List ℕ) (p : ℕ → Bool) (i j : ℕ)
@@ -89,10 +83,10 @@ pub uri_read : (t : List ℕ) (i j : ℕ)
     ⊎ (CharOf t ns-word-char i j ⊎ CharOf t uri_signs i j) → SomeOf (UriChar t) i j
 uri_read t i j (inl d) = escape_read t is_uri_char i j d
 uri_read t i j (inr (inl d)) =
-    let e = sym (uri_is (code t i)) ∙ or_true (is_word_char (code t i)) (uri_signs (code t i)) (inl (sym (word_char_is (code t i)) ∙ d.0)) in
+    let e = sym (uri_is (code t i)) ∙ either_way (is_word_char (code t i)) (uri_signs (code t i)) (inl (sym (word_char_is (code t i)) ∙ d.0)) in
     subst (λ z. SomeOf (UriChar t) i z) d.1 (_, as_itself e)
 uri_read t i j (inr (inr d)) =
-    let e = sym (uri_is (code t i)) ∙ or_true (is_word_char (code t i)) (uri_signs (code t i)) (inr d.0) in
+    let e = sym (uri_is (code t i)) ∙ either_way (is_word_char (code t i)) (uri_signs (code t i)) (inr d.0) in
     subst (λ z. SomeOf (UriChar t) i z) d.1 (_, as_itself e)
 
 -- [40]
@@ -127,21 +121,13 @@ no_spelled t p j e n = record { none = λ k y d. no d } where
   no (as_itself h) = true≢false (sym h ∙ e)
   no (as_escape a b c) = n a
 
-no_greater : is_uri_char 62 ≡ false
-unfolding is_uri_char is_word_char is_digit is_between
-no_greater = refl
-
-no_exclamation : is_word_char 33 ≡ false
-unfolding is_word_char is_digit is_between
-no_exclamation = refl
-
 -- [98]
 pub verbatim_read : (t : List ℕ) (i j : ℕ)
     → (g : ℕ) × (SignOf t 33 i g × ((h : ℕ) × (SignOf t 60 g h × ((k : ℕ) × (((f : ℕ) × (SomeOf (UriChar t) h f × Star (SomeOf (UriChar t)) f k)) × SignOf t 62 k j)))))
     → SomeOf (VerbatimTag t) i j
 verbatim_read t i j d =
     let e : code t d.1.1.1.1.0 ≡ 62 = d.1.1.1.1.1.1.0 in
-    let n = no_spelled t is_uri_char d.1.1.1.1.0 (ap is_uri_char e ∙ no_greater) (omega (arith, e)) in
+    let n = no_spelled t is_uri_char d.1.1.1.1.0 (ap is_uri_char e ∙ close_uri) (omega (arith, e)) in
     let r = spelled_run t is_uri_char d.1.1.0 d.1.1.1.1.1.0.0 d.1.1.1.1.0 d.1.1.1.1.1.0.1.0 d.1.1.1.1.1.0.1.1 n in
     let at : d.1.1.0 ≡ i + 2 = omega (arith, d.1.0.1, d.1.1.1.0.1) in
     let less : code t (i + 1) ≡ 60 = ap (code t) d.1.0.1 ∙ d.1.1.1.0.0 in
@@ -153,7 +139,7 @@ pub handle_read : (t : List ℕ) (i j : ℕ)
     ⊎ (((g : ℕ) × (SignOf t 33 i g × SignOf t 33 g j)) ⊎ SignOf t 33 i j) → Handle t i j
 handle_read t i j (inl d) =
     let w = chars_some {t = t} {s = ns-word-char} {p = is_word_char} word_char_is d.1.1.1.0.1.0 d.1.1.1.0.1.1 in
-    let r = run_is t is_word_char d.0 d.1.1.0 w (ap is_word_char d.1.1.1.1.0 ∙ no_exclamation) in
+    let r = run_is t is_word_char d.0 d.1.1.0 w (ap is_word_char d.1.1.1.1.0 ∙ exclamation_no_word) in
     subst (λ z. Handle t i z) d.1.1.1.1.1 (named_handle d.1.0.0 (subst (λ z. Run (WordChar t) z d.1.1.0) (sym d.1.0.1) r) d.1.1.1.1.0)
 handle_read t i j (inr (inl d)) =
     let e : i + 2 ≡ j = omega (arith, d.1.0.1, d.1.1.1) in

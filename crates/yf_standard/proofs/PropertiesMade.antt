@@ -26,10 +26,11 @@ use Rattle.yf_standard.specs.Rules.{read}
 use Rattle.yf_standard.specs.Literal.{kind}
 use Rattle.yf_standard.specs.Literal.Derived.{by_rule, nothing, one_of, one_then, in_left, in_right, absent, present, at_least_one, without, where_holds}
 use Rattle.yf_standard.proofs.BasicsMade.{Read, one_char, many_made, some_chars_made, separate_made}
-use Rattle.yf_standard.proofs.Properties.{uri_signs, uri_is, hex_below}
+use Rattle.yf_standard.proofs.Properties.{uri_signs, uri_is}
 use Rattle.yf_standard.proofs.Plains.{or_cases}
 use Rattle.yf_standard.proofs.Sets.{anchor_char_is, word_char_is, hex_digit_is, flow_indicator_is}
 use Rattle.yf_chars.proofs.TextLemmas.{next_ascii}
+use Rattle.yf_props.proofs.TagLemmas.{hex_below}
 
 -- one step or more of a chain
 pub some_made : {room : ℕ} {A : Type 0} {S : ℕ → ℕ → List A → Type 0} {t : List ℕ} {a : Form} {i j : ℕ} {w : List A}

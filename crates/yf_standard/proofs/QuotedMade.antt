@@ -30,6 +30,7 @@ use Rattle.yf_standard.proofs.BasicsMade.{Read, one_char, many_made, chars_made,
 use Rattle.yf_standard.proofs.Sets.{white_is, nb_json_is, hex_digit_is}
 use Rattle.yf_chars.proofs.TextLemmas.{next_ascii}
 use Rattle.yf_chars.proofs.EscapeLemmas.{digit_below, named_below}
+use Rattle.yf_quoted.proofs.DoubleLemmas.{white_backslash}
 
 -- a star and what follows it
 pub star_then : {t : List ℕ} {room : ℕ} {a : Form} {i k j : ℕ} → Read t room (a ⋆) i k → Read t room (a ⋆) k j → Read t room (a ⋆) i j
@@ -223,12 +224,8 @@ double_break i j w (folded_break f) = by_rule refl (in_right (flow_folded_made f
 double_break {t = t} i j w (escaped_break {h = h} m e b c p) =
     by_rule refl (in_left (by_rule refl (one_then (chars_made white_is m) (one_then (one_char t h 92 (omega arith) e) (one_then (non_content_made b) (one_then (many_made empty_made c) (flow_prefix_made p)))))))
 
-white_92 : is_white 92 ≡ false
-unfolding is_white
-white_92 = refl
-
 slash_no_white : s-white 92 ≡ false
-slash_no_white = no_white_is 92 white_92
+slash_no_white = no_white_is 92 white_backslash
 
 -- [108] and [114]
 double_front : {room : ℕ} {t : List ℕ} {i j : ℕ} → Halves t room i j → is_white (code t i) ≡ false → (k : ℕ) × (Read t room ns-double-char i k × Read t room ((‹ s-white › ⋆ then ns-double-char) ⋆) k j)

@@ -38,6 +38,7 @@ use Rattle.yf_standard.proofs.Texts.{some_first}
 use Rattle.yf_chars.proofs.TextLemmas.{next_ascii, next_later}
 use Rattle.yf_chars.proofs.EscapeLemmas.{named_below, digit_below, no_name, unnamed_u}
 use Rattle.yf_lines.proofs.BasicLemmas.{break_char}
+use Rattle.yf_quoted.proofs.DoubleLemmas.{white_backslash}
 
 -- with some meaning, over what both kinds of quotes share
 module _ {A : Type 0} (t : List ℕ) (put : List ℕ → List A) (C B : ℕ → ℕ → List A → Type 0) where
@@ -233,12 +234,8 @@ DoubleItem t = Item t goods (DoubleChar t)
 abbrev pub DoubleRest : List ℕ → ℤ → ℕ → ℕ → List Piece → Type 0
 DoubleRest t n = Rest t goods (DoubleChar t) (DoubleBreak t n)
 
-slash_white : is_white 92 ≡ false
-unfolding is_white
-slash_white = refl
-
 white_low : {t : List ℕ} {i k : ℕ} → CharOf t s-white i k → NoLow t i
-white_low {t} {i} c = no_low_of (λ e. absurd (true≢false (sym (sym (white_is (code t i)) ∙ c.0) ∙ ap is_white e ∙ slash_white)))
+white_low {t} {i} c = no_low_of (λ e. absurd (true≢false (sym (sym (white_is (code t i)) ∙ c.0) ∙ ap is_white e ∙ white_backslash)))
 
 whites_forward : (t : List ℕ) {i j : ℕ} → Star (CharOf t s-white) i j → i ≤ j
 whites_forward t none = omega arith
@@ -292,7 +289,7 @@ module _ {t : List ℕ} where
   folded_low (as_space b) = break_low b
 
   white_first : {i j : ℕ} {w : List ℕ} → Many t is_white i j w → i < j → NoLow t i
-  white_first {i} m l = no_low_of (λ e. absurd (true≢false (sym (some_first m l) ∙ ap is_white e ∙ slash_white)))
+  white_first {i} m l = no_low_of (λ e. absurd (true≢false (sym (some_first m l) ∙ ap is_white e ∙ white_backslash)))
 
   flow_folded_low : {n : ℤ} {i j : ℕ} {w : List ℕ} → FlowFolded t n i j w → NoLow t i
   flow_folded_low (at_break f p) = folded_low f
@@ -302,7 +299,7 @@ module _ {t : List ℕ} where
   pub double_break_low : {n : ℤ} {i j : ℕ} {w : List Piece} → DoubleBreak t n i j w → NoLow t i
   double_break_low (folded_break f) = flow_folded_low f
   double_break_low (escaped_break done e b c p) = no_low_of (λ _ z. ⊎_elim (λ h. absurd (omega arith)) (λ h. absurd (omega arith)) (break_char b))
-  double_break_low (escaped_break (step (one {i = i} e) m) s b c p) = no_low_of (λ z. absurd (true≢false (sym e ∙ ap is_white z ∙ slash_white)))
+  double_break_low (escaped_break (step (one {i = i} e) m) s b c p) = no_low_of (λ z. absurd (true≢false (sym e ∙ ap is_white z ∙ white_backslash)))
 
 -- white space and the end, or a further line: where it begins no half of a pair does
 pub record RestRead (t : List ℕ) (n : ℤ) (i j : ℕ) : Type 0 where

@@ -53,7 +53,7 @@ use Rattle.yf_standard.specs.Rules.AutoDetect.{by_first_line, without_content}
 use Rattle.yf_standard.specs.Literal.{kind}
 use Rattle.yf_standard.specs.Literal.Derived.{by_rule, nothing, one_of, one_then, in_left, in_right, absent, present, no_more, one_more, where_holds, for_some_m, for_some_k}
 use Rattle.yf_standard.proofs.BasicsMade.{Read, one_char, many_made, chars_made, some_chars_made, feed_made, non_content_made, empty_made, indent_made, comment_made, b_comment_made, l_comment_made, rest_made, fewer_made}
-use Rattle.yf_standard.proofs.Basics.{pos_inj, many_forward}
+use Rattle.yf_standard.proofs.Basics.{many_forward}
 use Rattle.yf_standard.proofs.Sets.{nb_char_is, ns_char_is, white_is}
 use Rattle.yf_standard.proofs.Texts.{Empties, Texts, lines_texts, bare_empties}
 use Rattle.yf_standard.proofs.Texts.Texts.{last_text, more_texts}
@@ -62,7 +62,11 @@ use Rattle.yf_chars.proofs.ChainLemmas.{chain_append}
 use Rattle.yf_lines.proofs.BasicLemmas.{break_char, break_forward, white_below}
 use Rattle.yf_comments.proofs.GapLinesLemmas.{spaces_in_line}
 use Rattle.yf_comments.proofs.LineEndLemmas.{line_end_rows, rows_lines, rows_ended, rest_next, next_starts}
-use Rattle.yf_block_scalar.proofs.BodyLemmas.{spaces_unique, shallow_stuck, marker_code, taken_starts}
+use Rattle.yf_block_scalar.proofs.BodyLemmas.{spaces_unique, shallow_stuck, taken_starts}
+use Rattle.yf_lines.proofs.ClearLemmas.{marker_char}
+use Rattle.yf_chars.proofs.CharFacts.{hash_no_white}
+use Rattle.yf_lines.proofs.FoldLemmas.{indent_width}
+use Rattle.yf_grammar.proofs.FlowReader.OneLine.{text_later}
 
 -- the standard's words for a chomping and for an indicator
 abbrev pub chomping : Chomp → Chomping
@@ -182,7 +186,7 @@ ending_made : {room : ℕ} {t : List ℕ} {k i p j : ℕ} {widths : List ℕ} (c
 unfolding rule kind read
 ending_made {room = room} {t = t} {k = k} {i = i} {p = p} {j = j} c w l n d = go c where
   none : NoLine t (pos k) p
-  none = record { none = λ m e. subst (λ z. Stuck (Line t z p)) (pos_inj e) n }
+  none = record { none = λ m e. subst (λ z. Stuck (Line t z p)) (indent_width e) n }
 
   go : (c : Chomp) → Read t room (l-chomped-empty (pos k) (chomping c)) i j
   go Strip = by_rule refl (by_rule refl (one_then (tail_lines w l) (one_then (where_holds none) d)))
@@ -218,10 +222,6 @@ white_all h done l m = absurd (omega arith)
 white_all {t} {i} h (step (one e) r) l m =
     let q : next t i ≡ i + 1 = next_ascii t i (white_below (code t i) e) in
     ⊎_elim (λ (a : i < h). white_all h r (omega (arith, q, a)) m) (λ (b : h ≤ i). let z : i ≡ h = omega arith in ap (λ z. is_white (code t z)) (sym z) ∙ e) (cases_lt i h)
-
-hash_no_white : is_white 35 ≡ false
-unfolding is_white
-hash_no_white = refl
 
 pub separated_within : {t : List ℕ} {i q : ℕ} (m : ℕ) → SeparateInLine t i q → code t (i + m) ≡ 35 → (i ≤ q) × (q ≤ i + m)
 separated_within {t} {i} {q} m (by_whites w l) e =
@@ -263,10 +263,7 @@ pub spaces_separated : {t : List ℕ} {i m : ℕ} → (i < length t → LineStar
 spaces_separated {t} {i} {m} f s e =
     let l : i + m < length t = within_from_code t (i + m) (omega arith) in spaces_in_line m i (f (omega arith)) s
 
-comment_later : {t : List ℕ} {i j : ℕ} {w : List CommentValue} → CommentText t i j w → i < j
-comment_later (comment_text e m n) = let a = many_forward m in omega (arith, a)
-
-end_later : {t : List ℕ} {i j : ℕ} → BreakOrEnd t i j → i ≤ j
+pub end_later : {t : List ℕ} {i j : ℕ} → BreakOrEnd t i j → i ≤ j
 end_later (by_break b) = let a = break_forward b in omega (arith, a)
 end_later (by_end e) = omega arith
 
@@ -278,7 +275,7 @@ line_end_more (from_start s c) l = (_, from_start s (chain_append c (step l done
 pub trail_made : {room : ℕ} {t : List ℕ} {k i j : ℕ} {w : List CommentValue} → (i < length t → LineStart t i) → Trail t k i j w
     → Read t room (l-trail-comments (pos k) ∣ ⟨ no-trail (pos k) ⟩) i j
 unfolding rule kind read
-trail_made {t = t} {k = k} {i = i} f (no_comment n) = in_right (where_holds (record { none = λ q m h j w e l s c b. n m (subst (λ z. m < z) (sym (pos_inj e)) l) s (hash_of c) })) where
+trail_made {t = t} {k = k} {i = i} f (no_comment n) = in_right (where_holds (record { none = λ q m h j w e l s c b. n m (subst (λ z. m < z) (sym (indent_width e)) l) s (hash_of c) })) where
   hash_of : {q h : ℕ} {w : List CommentValue} → CommentText t q h w → code t q ≡ 35
   hash_of (comment_text e m n) = e
 trail_made {room = room} {t = t} {k = k} {i = i} f (comments {j = j} {x = w} m l s e ch) = go (line_end_rows ch.derived) ch where
@@ -297,7 +294,7 @@ trail_made {room = room} {t = t} {k = k} {i = i} f (comments {j = j} {x = w} m l
     none = λ q d h j v z b p o x.
         let hash : code t (i + d) ≡ 35 = hash_in o in
         let le : j ≤ i = c.longest j (v ++ []) (past_rest (comment (spaces_separated f p hash) o x) done) in
-        let a = comment_later o in let y = end_later x in omega (arith, le, a, y);
+        let a = text_later o in let y = end_later x in omega (arith, le, a, y);
   }))
   go (step {h = h} r d) c =
       let a = hash_rest s e r.rest in
@@ -321,7 +318,7 @@ bare_only {t} {n} {i} {k} h f = record { none = λ j w d. no d } where
 mark_no_space : {t : List ℕ} {i : ℕ} → MarkerLine t i → code t (i + 0) ≢ 32
 mark_no_space {t} {i} (marker_here e) z =
     let q : i + 0 ≡ i = omega arith in let y : code t i ≡ 32 = sym (ap (code t) q) ∙ z in
-    ⊎_elim (λ (a : code t i ≡ 45). absurd (omega arith)) (λ (a : code t i ≡ 46). absurd (omega arith)) (marker_code t i e)
+    ⊎_elim (λ (a : code t i ≡ 45). absurd (omega arith)) (λ (a : code t i ≡ 46). absurd (omega arith)) (marker_char t i e)
 mark_no_space {t} {i} (past_mark e l) z = let q : i + 0 ≡ i = omega arith in let y : code t i ≡ 32 = sym (ap (code t) q) ∙ z in absurd (omega arith)
 
 shallow_past : {t : List ℕ} {n : ℤ} {i : ℕ} → Shallow t n i → Past t n i
@@ -334,7 +331,7 @@ shallow_past {t} {n} {i} (forbidden l) = record { bound = 0; none = λ k b d. ba
 mark_no_hash : {t : List ℕ} {i m : ℕ} → MarkerLine t i → Spaces t i m → code t (i + m) ≢ 35
 mark_no_hash {t} {i} {m} l s z = ⊎_elim (λ (b : 0 < m). mark_no_space l (s.each 0 b)) (λ (b : m ≤ 0). let q : i + m ≡ i = omega arith in first l (sym (ap (code t) q) ∙ z)) (cases_lt 0 m) where
   first : {i : ℕ} → MarkerLine t i → code t i ≢ 35
-  first {i} (marker_here e) z = ⊎_elim (λ (a : code t i ≡ 45). absurd (omega arith)) (λ (a : code t i ≡ 46). absurd (omega arith)) (marker_code t i e)
+  first {i} (marker_here e) z = ⊎_elim (λ (a : code t i ≡ 45). absurd (omega arith)) (λ (a : code t i ≡ 46). absurd (omega arith)) (marker_char t i e)
   first {i} (past_mark e l) z = absurd (omega arith)
 
 pub hash_shallow : {t : List ℕ} {n : ℤ} {i m : ℕ} → Shallow t n i → Spaces t i m → code t (i + m) ≡ 35 → m < least n
@@ -384,7 +381,7 @@ whole_made {room = room} {t = t} {s = s0} {f = f0} {n = n} {a = a} {b = b} {q = 
     let v : least n ≤ suc (max (largest ws) (max (least n) y.bound)) = omega arith in
     let o : largest ws ≤ suc (max (largest ws) (max (least n) y.bound)) = omega arith in
     let stuck = y.none (suc (max (largest ws) (max (least n) y.bound))) u v in
-    let none : NoLine t (pos (suc (max (largest ws) (max (least n) y.bound)))) p = record { none = λ k e. subst (λ z. Stuck (Line t z p)) (pos_inj e) stuck } in
+    let none : NoLine t (pos (suc (max (largest ws) (max (least n) y.bound)))) p = record { none = λ k e. subst (λ z. Stuck (Line t z p)) (indent_width e) stuck } in
     let taken : LinesTaken t (suc (max (largest ws) (max (least n) y.bound))) q [] false (length ws) p = record { end = q; lines = no_content; tail = record { widths = ws; lines = g; within = o; counts = refl }; most = stuck } in
     for_chomp (OneOf s0 f0 n) c (for_some_k (pos (suc (max (largest ws) (max (least n) y.bound)))) (one_then s (one_then (in_right (one_then (header_made i r) (where_holds (without_content g x o v none))))
     (m.made c taken (trail_made (taken_starts (next_starts r) taken) (deeper_trail x v tr))))))

@@ -31,12 +31,14 @@ use Rattle.yf_standard.specs.Productions.{digit-of}
 use Rattle.yf_standard.specs.Rules.{NoLine, NoTrail, NoCommentLine}
 use Rattle.yf_standard.proofs.Reading.{Star}
 use Rattle.yf_standard.proofs.Reading.Star.{none, more}
-use Rattle.yf_standard.proofs.Basics.{SomeOf, CharOf, char_is, star_chain, chars_many, chars_some, pos_inj, spaces_more, many_forward}
+use Rattle.yf_standard.proofs.Basics.{SomeOf, CharOf, char_is, star_chain, chars_many, chars_some, many_forward}
 use Rattle.yf_standard.proofs.Sets.{nb_char_is, ns_char_is, white_is}
 use Rattle.yf_standard.proofs.Texts.{Empties, Texts, empty_line_read, empties_before, texts_join, no_empties}
 use Rattle.yf_standard.proofs.Texts.Texts.{last_text}
 use Rattle.yf_standard.proofs.ScalarsMade.{HashRest}
 use Rattle.yf_chars.proofs.TextLemmas.{next_ascii, next_later}
+use Rattle.yf_lines.proofs.FoldLemmas.{indent_width}
+use Rattle.yf_lines.proofs.RestLemmas.{spaces_more}
 
 -- what n is, where it is a number of spaces
 abbrev pub AtWidth : (ℕ → ℕ → ℕ → Type 0) → ℤ → ℕ → ℕ → Type 0
@@ -203,7 +205,7 @@ empties_of : (t : List ℕ) (n : ℤ) (k i j : ℕ) → n ≡ pos k → Star (So
 empties_of t n k i j e s = subst (λ z. SomeOf (Chain (Empty t z BlockIn)) i j) e (star_chain {S = Empty t n BlockIn} (λ i j s. s) s)
 
 spaces_of : {t : List ℕ} {n : ℤ} {a b : ℕ} (k : ℕ) → n ≡ pos k → Indent t n a b → Spaces t a k × (a + k ≡ b)
-spaces_of {t} {n} {a} k e (exactly m q s) = let z : m ≡ k = pos_inj (sym q ∙ e) in (subst (λ z. Spaces t a z) z s, ap (λ z. a + z) (sym z))
+spaces_of {t} {n} {a} k e (exactly m q s) = let z : m ≡ k = indent_width (sym q ∙ e) in (subst (λ z. Spaces t a z) z s, ap (λ z. a + z) (sym z))
 
 text_of : (t : List ℕ) (k i a b j : ℕ) (w : List ℕ) → Empties t k i a → Spaces t a k × (a + k ≡ b) → Many t is_nb_char b j w → b < j → Texts t k i j
 text_of t k i a b j w e s m l = last_text e s.0 (subst (λ z. Many t is_nb_char z j w) (sym s.1) m) (omega (arith, s.1, l))

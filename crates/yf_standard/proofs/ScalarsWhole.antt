@@ -36,7 +36,7 @@ use Rattle.yf_standard.specs.Rules.AutoDetect.{by_first_line, without_content}
 use Rattle.yf_standard.proofs.Basics.{SomeOf, many_forward}
 use Rattle.yf_standard.proofs.Texts.{Texts, empty_line_read, some_first}
 use Rattle.yf_standard.proofs.Texts.Texts.{last_text, more_texts}
-use Rattle.yf_standard.proofs.ScalarsMade.{hash_rest, spaces_separated, hash_shallow}
+use Rattle.yf_standard.proofs.ScalarsMade.{hash_rest, spaces_separated, hash_shallow, end_later}
 use Rattle.yf_standard.proofs.ScalarsRead.{AtWidth, chomp_of, HeaderRead, SomeEnd, TrailComments, Ending, ContentRead}
 use Rattle.yf_chars.proofs.TextLemmas.{code-past, within_from_code}
 use Rattle.yf_chars.proofs.ChainLemmas.{chain_append}
@@ -44,43 +44,26 @@ use Rattle.yf_lines.proofs.BasicLemmas.{break_forward}
 use Rattle.yf_lines.proofs.LineLemmas.{break_within}
 use Rattle.yf_comments.proofs.LineEndLemmas.{rest_line, next_starts, line_end_chosen, row_stuck_end}
 use Rattle.yf_block_scalar.proofs.BodyLemmas.{no_nb_end, taken_starts}
-use Rattle.yf_block_scalar.proofs.UniqueLemmas.{taken_unique}
+use Rattle.yf_block_scalar.proofs.UniqueLemmas.{taken_unique, ends_forward}
 use Rattle.yf_block.proofs.LineSteps.ScalarLines.{body_between}
+use Rattle.yf_grammar.proofs.Ends.Forward.{in_line_forward}
+use Rattle.yf_grammar.proofs.FlowReader.OneLine.{comment_line_order, comment_lines_order}
+use Rattle.yf_grammar.proofs.Prefixes.PrefixComments.{rest_within}
 
 -- how far parts go
 bares_forward : {t : List ℕ} {i j : ℕ} {w : List ℕ} → Chain (EmptyLines t) i j w → i ≤ j
 bares_forward done = omega arith
 bares_forward (step (bare m s) r) = let a = break_forward s.ends in let b = bares_forward r in omega (arith, a, b)
 
-separate_forward : {t : List ℕ} {i j : ℕ} → SeparateInLine t i j → i ≤ j
-separate_forward (by_whites m l) = omega (arith, l)
-separate_forward (at_start s) = omega arith
-
-end_forward : {t : List ℕ} {i j : ℕ} → BreakOrEnd t i j → i ≤ j
-end_forward (by_break b) = let a = break_forward b in omega (arith, a)
-end_forward (by_end e) = omega arith
-
 text_forward : {t : List ℕ} {i j : ℕ} {w : List CommentValue} → CommentText t i j w → i ≤ j
 text_forward (comment_text e m n) = let a = many_forward m in omega (arith, a)
-
-line_forward : {t : List ℕ} {i j : ℕ} {w : List CommentValue} → CommentLine t i j w → i ≤ j
-line_forward (whites_line s b) = let a = separate_forward s in let c = end_forward b in omega (arith, a, c)
-line_forward (comment_line s d b) = let a = separate_forward s in let e = text_forward d in let c = end_forward b in omega (arith, a, c, e)
-
-lines_forward : {t : List ℕ} {i j : ℕ} {w : List CommentValue} → Chain (CommentLine t) i j w → i ≤ j
-lines_forward done = omega arith
-lines_forward (step l r) = let a = line_forward l in let b = lines_forward r in omega (arith, a, b)
 
 trail_forward : {t : List ℕ} {k i j : ℕ} → TrailComments t k i j → i ≤ j
 trail_forward c =
     let a = text_forward c.hash.comment in
-    let b = end_forward c.hash.ends in
-    let d = lines_forward c.further.1 in
+    let b = end_later c.hash.ends in
+    let d = comment_lines_order c.further.1 in
     omega (arith, a, b, d)
-
-ends_forward : {t : List ℕ} {i j : ℕ} {o : Bool} → Ends t i j o → i ≤ j
-ends_forward (ends_by_break b) = let a = break_forward b in omega (arith, a)
-ends_forward (by_text e) = omega arith
 
 ending_forward : {t : List ℕ} {k i j : ℕ} → Ending t k i j → i ≤ j
 ending_forward e = let a = bares_forward e.bares in ⊎_elim (λ c. let b = trail_forward c in omega (arith, a, b)) (λ c. let b = c.1 in omega (arith, a, b)) e.trail
@@ -236,17 +219,6 @@ shallower h l (no_comment f) = no_comment (λ m b s e. f m (omega (arith, l, b))
 abbrev pub HeaderPart : List ℕ → ℤ → Chomping → ℤ → ℕ → ℕ → Type 0
 HeaderPart t n c k a b =
     ((m : ℕ) × ((h : ℕ) × (HeaderRead t (GIVEN m) c a h × ((k ≡ pos (base n + m)) × (h ≡ b))))) ⊎ ((h : ℕ) × (HeaderRead t DETECTED c a h × (AutoDetect t n h k × (h ≡ b))))
-
-rest_within : {t : List ℕ} {i j : ℕ} {w : List CommentValue} → LineRest t i j w → j ≤ length t
-rest_within {t} r = go r where
-  ended : {h j : ℕ} → BreakOrEnd t h j → j ≤ length t
-  ended (by_break b) = break_within b
-  ended (by_end e) = omega (arith, e)
-
-  go : {i j : ℕ} {w : List CommentValue} → LineRest t i j w → j ≤ length t
-  go (empty_rest b) = ended b
-  go (whites s b) = ended b
-  go (comment s c b) = ended b
 
 -- a body for a header with the digit
 record BodyRead (t : List ℕ) (n : ℤ) (f : Bool) (d : Option ℕ) (c : Chomping) (i j : ℕ) : Type 0 where

@@ -43,7 +43,9 @@ use Rattle.yf_standard.proofs.QuotedMade.{star_then}
 use Rattle.yf_standard.proofs.NodesMade.{made}
 use Rattle.yf_standard.proofs.Sets.{ns_char_is, dec_digit_is}
 use Rattle.yf_standard.proofs.Texts.{some_first}
-use Rattle.yf_standard.proofs.DirectiveNames.{many_tail, yaml_name, tag_name, yaml_slice, tag_slice, end_no_ns}
+use Rattle.yf_standard.proofs.DirectiveNames.{many_tail, yaml_name, tag_name, yaml_slice, tag_slice}
+use Rattle.yf_grammar.proofs.BlockOutcomes.BlockKeys.{end_not_ns}
+use Rattle.yf_standard.proofs.DirectivesRead.{ns_65, ns_77, ns_76, ns_71}
 
 -- the rest of a run
 run_tail : {t : List ℕ} {p : ℕ → Bool} {a k : ℕ} → Run (One t p) a k → code t a < 128 → p (code t (a + 1)) ≡ true → Run (One t p) (a + 1) k
@@ -62,22 +64,6 @@ run_last {t} {p} {a} {k} r l e =
     let m = many_tail r.chain r.some l in
     let s = r.some in
     ⊎_elim (λ (b : a + 1 < k). absurd (true≢false (sym (some_first m.1 b) ∙ e))) (λ (b : k ≤ a + 1). omega (arith, s, b)) (cases_lt (a + 1) k)
-
-ns_65 : is_ns_char 65 ≡ true
-unfolding is_ns_char is_nb_char is_printable is_between is_break_char is_white
-ns_65 = refl
-
-ns_77 : is_ns_char 77 ≡ true
-unfolding is_ns_char is_nb_char is_printable is_between is_break_char is_white
-ns_77 = refl
-
-ns_76 : is_ns_char 76 ≡ true
-unfolding is_ns_char is_nb_char is_printable is_between is_break_char is_white
-ns_76 = refl
-
-ns_71 : is_ns_char 71 ≡ true
-unfolding is_ns_char is_nb_char is_printable is_between is_break_char is_white
-ns_71 = refl
 
 ns_at : (t : List ℕ) (a b c : ℕ) → a + 1 ≡ b → code t b ≡ c → is_ns_char c ≡ true → is_ns_char (code t (a + 1)) ≡ true
 ns_at t a b c q e v = ap (λ z. is_ns_char (code t z)) q ∙ ap is_ns_char e ∙ v
@@ -104,7 +90,7 @@ no_yaml t a k u r n =
         let r1 : Run (One t is_ns_char) (a + 1) k = run_tail r (omega arith) (ap is_ns_char c1 ∙ ns_65) in
         let r2 : Run (One t is_ns_char) (a + 2) k = subst (λ z. Run (One t is_ns_char) z k) two (run_tail r1 (omega arith) (ns_at t (a + 1) (a + 2) 77 two c2 ns_77)) in
         let r3 : Run (One t is_ns_char) (a + 3) k = subst (λ z. Run (One t is_ns_char) z k) three (run_tail r2 (omega arith) (ns_at t (a + 2) (a + 3) 76 three c3 ns_76)) in
-        let k4 : k ≡ a + 4 = run_last r3 (omega arith) (ap (λ z. is_ns_char (code t z)) four ∙ end_no_ns (code t (a + 4)) w.1) ∙ four in
+        let k4 : k ≡ a + 4 = run_last r3 (omega arith) (ap (λ z. is_ns_char (code t z)) four ∙ end_not_ns (code t (a + 4)) w.1) ∙ four in
         n (ap (slice_range t a) k4 ∙ yaml_slice t a u c0 c1 c2 c3)
 
 no_tag : (t : List ℕ) (a k : ℕ) → IsUtf8 t → Run (One t is_ns_char) a k → slice_range t a k ≢ codes "TAG" → is_name_tag t a ≡ false
@@ -124,7 +110,7 @@ no_tag t a k u r n =
         let three : a + 2 + 1 ≡ a + 3 = omega arith in
         let r1 : Run (One t is_ns_char) (a + 1) k = run_tail r (omega arith) (ap is_ns_char c1 ∙ ns_65) in
         let r2 : Run (One t is_ns_char) (a + 2) k = subst (λ z. Run (One t is_ns_char) z k) two (run_tail r1 (omega arith) (ns_at t (a + 1) (a + 2) 71 two c2 ns_71)) in
-        let k3 : k ≡ a + 3 = run_last r2 (omega arith) (ap (λ z. is_ns_char (code t z)) three ∙ end_no_ns (code t (a + 3)) s.1) ∙ three in
+        let k3 : k ≡ a + 3 = run_last r2 (omega arith) (ap (λ z. is_ns_char (code t z)) three ∙ end_not_ns (code t (a + 3)) s.1) ∙ three in
         n (ap (slice_range t a) k3 ∙ tag_slice t a u c0 c1 c2)
 
 -- [84] and [85]

@@ -37,6 +37,7 @@ use Rattle.yf_grammar.proofs.BlockOutcomes.BlockLeading.{shed}
 use Rattle.yf_stream.proofs.Reader.BareStarts.{bare_start}
 use Rattle.yf_stream.proofs.Existence.RowsKnown.{prefixes_from}
 use Rattle.yf_stream.proofs.Uniqueness.StreamPath.{mark_still}
+use Rattle.yf_chars.proofs.CharFacts.{end_no_white}
 
 abbrev pub Begins : List ℕ → ℕ → Type 0
 Begins t i = LineStart t i ⊎ (i ≡ length t)
@@ -94,12 +95,8 @@ record Whites (t : List ℕ) (i : ℕ) : Type 0 where
   whites : Many t is_white i end run
   stops : is_white (code t end) ≡ false
 
-no_white_end : is_white no_char ≡ false
-unfolding is_white
-no_white_end = refl
-
 whites_from : (t : List ℕ) (n i : ℕ) → length t ≤ i + n → Whites t i
-whites_from t zero i l = record { end = i; run = []; whites = done; stops = ap is_white (code-past t i (omega arith)) ∙ no_white_end }
+whites_from t zero i l = record { end = i; run = []; whites = done; stops = ap is_white (code-past t i (omega arith)) ∙ end_no_white }
 whites_from t (suc n) i l =
     ⊎_elim (λ (c : is_white (code t i) ≡ true).
     let o = next_later t i in

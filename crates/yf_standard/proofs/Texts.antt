@@ -22,11 +22,12 @@ use Rattle.yf_chars.proofs.ChainLemmas.{chain_append}
 use Rattle.yf_chars.proofs.TextLemmas.{code-past}
 use Rattle.yf_lines.proofs.BasicLemmas.{break_char}
 use Rattle.yf_block_scalar.proofs.BodyLemmas.{no_nb_end}
-use Rattle.yf_standard.proofs.Basics.{SomeOf, pos_inj}
+use Rattle.yf_standard.proofs.Basics.{SomeOf}
+use Rattle.yf_lines.proofs.FoldLemmas.{indent_width}
 
 -- l-empty(k,block-in)
 pub empty_line_read : (t : List ℕ) (k i j : ℕ) (x : List ℕ) → Empty t (pos k) BlockIn i j x → (m : ℕ) × (SpaceLine t i m j × (m ≤ k))
-empty_line_read t k i j x (prefixed (in_block e (exactly m q s)) b) = let p = pos_inj q in (m, (record { spaces = s; ends = b }, omega arith))
+empty_line_read t k i j x (prefixed (in_block e (exactly m q s)) b) = let p = indent_width q in (m, (record { spaces = s; ends = b }, omega arith))
 empty_line_read t k i j x (prefixed (in_flow e p) b) = absurd (true≢false (sym e))
 empty_line_read t k i j x (shorter (fewer m l s) b) = (m, (record { spaces = s; ends = b }, omega (arith, ints)))
 

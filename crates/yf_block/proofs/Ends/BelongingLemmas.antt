@@ -18,10 +18,10 @@ held_ahead nothing_held q = absurd (no_held q)
 held_ahead none_held q = absurd (no_held q)
 held_ahead (props_held {h = h} t) q = record { value = h; is = refl; tied = subst (λ z. PropertiesTied h z) (same_held q) t }
 
-no_props_nothing : {h : HeldValue} → Nothing ≡ Props h → ⊥
+pub no_props_nothing : {h : HeldValue} → Nothing ≡ Props h → ⊥
 no_props_nothing e = cc
 
-no_props_sign : {i : ℕ} {h : HeldValue} → Indicator i ≡ Props h → ⊥
+pub no_props_sign : {i : ℕ} {h : HeldValue} → Indicator i ≡ Props h → ⊥
 no_props_sign e = cc
 
 pub none_ahead : {a : Ahead} {outer : Option PlacedProperties} → AheadTied a outer → outer ≡ None → (h : HeldValue) → a ≡ Props h → ⊥

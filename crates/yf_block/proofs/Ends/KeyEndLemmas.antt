@@ -12,6 +12,7 @@ use Rattle.yf_grammar.specs.BlockReader.BlockParser.{SignAt}
 use Rattle.yf_grammar.specs.FlowReader.Parser.{OnOneLine}
 use Rattle.yf_flow.specs.Leaves.{KeyLine}
 use Rattle.yf_block.specs.InlineAnswers.{KeyEnds}
+use Rattle.yf_grammar.proofs.FlowReader.KeyLines.{line_none}
 
 -- a character begins where one is
 pub boundary_there : (t : List ℕ) (i : ℕ) → code t i < no_char → IsCharBoundary t i
@@ -22,9 +23,6 @@ boundary_there t i l = ⊎_elim
 
 pub sign_boundary : {t : List ℕ} {i : ℕ} → SignAt t 58 i → IsCharBoundary t i
 sign_boundary {t} {i} s = let c = s.sign_is_at in boundary_there t i (omega arith)
-
-pub line_begins : (t : List ℕ) (i : ℕ) → OnOneLine t i i
-line_begins t i = record { each = λ h l m. absurd (omega arith) }
 
 pub line_upto : {t : List ℕ} {i j k : ℕ} → OnOneLine t i j → k ≤ j → OnOneLine t i k
 line_upto o l = record { each = λ h a b. o.each h a (omega arith) }

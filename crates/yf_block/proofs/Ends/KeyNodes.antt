@@ -20,7 +20,7 @@ use Rattle.yf_grammar.specs.Productions.Meaning.{meaning_after, with_props, empt
 use Rattle.yf_grammar.specs.FlowReader.Parser.{ParsedNode, ANode, AContent, Parses, propertied, lone_properties, begins_alias, begins_properties, begins_content, begins_plain}
 use Rattle.yf_grammar.specs.FlowReader.Parser.Parses.{content_read, plain_read, plain_missed}
 use Rattle.yf_grammar.proofs.FlowStack.AwaitEntries.{found_is}
-use Rattle.yf_grammar.proofs.BlockOutcomes.BlockKeys.{end_not_ns}
+use Rattle.yf_grammar.proofs.BlockOutcomes.BlockKeys.{end_not_ns, safe_out}
 use Rattle.yf_grammar.proofs.BlockContent.FlowLeaves.{plain_begins}
 use Rattle.yf_grammar.proofs.FlowReader.FlowStarts.{flow_starts}
 use Rattle.yf_grammar.proofs.Ends.Forward.{whites_forward}
@@ -32,13 +32,9 @@ use Rattle.yf_flow.proofs.Ends.LookLemmas.{nothing_begins}
 use Rattle.yf_block.specs.declared.properties.PlacedProperties.{PlacedProperties}
 use Rattle.yf_block.specs.PropertiesAnswers.{LineProperties, PlaceAfter, NoPlaceAfter, other_beside, property_after}
 use Rattle.yf_block.specs.InlineAnswers.{KeyEnds, InlineLost, content_lost, alias_lost, alias_after}
-
-no_nothing : {X : Type 0} {x : X} → Some x ≡ None → ⊥
-no_nothing q = cc
-
-pub plain_else : (c : ℕ) → begins_alias c ≡ false → begins_properties c ≡ false → begins_content c ≡ false → begins_plain c ≡ true
-unfolding begins_plain
-plain_else c a b d = rw (a, b, d) refl
+use Rattle.yf_chars.proofs.Tests.{some_none}
+use Rattle.yf_grammar.proofs.BlockContent.PlainCut.{colon_no_white}
+use Rattle.yf_grammar.proofs.FlowReader.NodesAnswered.{plain_else}
 
 -- content that is at a place without properties is a node
 pub content_node : {t : List ℕ} {e k : ℕ} {n : ℤ} {o : Option ParsedNode} → begins_alias (code t k) ≡ false → begins_properties (code t k) ≡ false → ContentAt t e n FlowOut k o → Parses t e (ANode n FlowOut k) o
@@ -49,14 +45,6 @@ content_node {t} {k = k} a b (plain_missing c p) = plain_missed (plain_else (cod
 -- a `:` of an entry begins no content
 pub colon_bare : (c : ℕ) → c ≡ 58 → begins_content c ≡ false
 colon_bare c e = sym (nothing_begins (λ q. omega (arith, e, q)) (λ q. omega (arith, e, q)) (λ q. omega (arith, e, q)) (λ q. omega (arith, e, q)))
-
-colon_white : (c : ℕ) → c ≡ 58 → is_white c ≡ false
-unfolding is_white
-colon_white c e = rw e refl
-
-safe_out : (c : ℕ) → is_plain_safe c FlowOut ≡ is_ns_char c
-unfolding is_plain_safe
-safe_out c = refl
 
 property_bare : (c : ℕ) → begins_properties c ≡ true → begins_content c ≡ false
 unfolding begins_properties begins_content
@@ -85,7 +73,7 @@ module _ {t : List ℕ} where
   -- properties alone are no key, unless a `:` is after them
   pub lone_no_key : {g k : ℕ} {w : List ℕ} (q : PropertiesValue) (p : ℕ) → Many t is_white g k w → is_white (code t k) ≡ false → (SignAt t 58 k → ⊥) → NoKey t p (lone_properties q p g)
   lone_no_key {g} {k} q p m f n = subst (λ o. NoKey t p o) (sym (lone_is q p g ∙ found_is g 0 false (meaning_after q.comments (with_props q.props q.tag_offset p g (empty_node g)))))
-      (key_unfit (λ h b. let same = (many_unique t is_white b.run (colon_white (code t h) b.colon.sign_is_at) m f).0 in n (subst (λ z. SignAt t 58 z) same b.colon)))
+      (key_unfit (λ h b. let same = (many_unique t is_white b.run (colon_no_white (code t h) b.colon.sign_is_at) m f).0 in n (subst (λ z. SignAt t 58 z) same b.colon)))
 
 module _ {t : List ℕ} (u : IsUtf8 t) {p : ℕ} {held : PlacedProperties} (l : LineProperties t p held) where
   -- the line ends after the properties
@@ -139,7 +127,7 @@ module _ {t : List ℕ} (u : IsUtf8 t) {p : ℕ} {held : PlacedProperties} (l : 
         go (content_there y z) q = line_broken u l.chosen s b.run (after_later (k held refl)) b.no_white y (subst (λ o. Parses t e (AContent n FlowOut at) o) q z)
         go (plain_there {j = j} {x = x} y z) q = absurd (none_some (sym q ∙ plain_is x at j ∙ found_is j 0 false (scalar PlainStyle (encode_utf8_all x) [] at j)))
         go (plain_missing y z) q = lone_after b.run b.no_white y z
-      keyless_after (alias_lost q r) = absurd (no_nothing q)
+      keyless_after (alias_lost q r) = absurd (some_none q)
       keyless_after (alias_after k q a) =
           node_unfit (lone_after b.run b.no_white (alias_bare (code t at) a) (alias_no_text a)) (lone_no_key l.value p b.run b.no_white (k held refl))
 
@@ -147,7 +135,7 @@ module _ {t : List ℕ} (u : IsUtf8 t) {p : ℕ} {held : PlacedProperties} (l : 
 pub keyless_bare : {t : List ℕ} {e p : ℕ} {n : ℤ} → begins_properties (code t p) ≡ false → InlineLost t e n p None → Keyless t e n p
 keyless_bare b (content_lost k a r) = node_unfit (content_node a b r) key_missed
 keyless_bare b (alias_lost q r) = node_unfit r key_missed
-keyless_bare b (alias_after k q a) = absurd (no_nothing (sym q))
+keyless_bare b (alias_after k q a) = absurd (some_none (sym q))
 
 -- a node whose `:` is where white space after it ends
 module _ {t : List ℕ} {p : ℕ} (f : ParsedNode) {k : ℕ} {w : List ℕ} (m : Many t is_white f.end k w) where
@@ -156,5 +144,5 @@ module _ {t : List ℕ} {p : ℕ} (f : ParsedNode) {k : ℕ} {w : List ℕ} (m :
 
   pub keyless_unended : {e : ℕ} {n : ℤ} → is_white (code t k) ≡ false → (KeyEnds t p k → ⊥) → Parses t e (ANode n FlowOut p) (Some f) → Keyless t e n p
   keyless_unended a n r = node_unfit r (key_unfit (λ h b.
-      let same = (many_unique t is_white b.run (colon_white (code t h) b.colon.sign_is_at) m a).0 in
+      let same = (many_unique t is_white b.run (colon_no_white (code t h) b.colon.sign_is_at) m a).0 in
       n (subst (λ z. KeyEnds t p z) same (record { colon = b.colon; line = record { line = b.line; short = b.short } }))))

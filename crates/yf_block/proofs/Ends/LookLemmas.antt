@@ -7,10 +7,7 @@ use Rattle.yf_flow.specs.declared.nodes.Ending.{Ending}
 use Rattle.yf_flow.specs.declared.nodes.Ending.TheVariants.{End, Nothing as NoEnd, TooDeep}
 use Rattle.yf_block.specs.declared.properties.PlacedProperties.{PlacedProperties}
 use Rattle.yf_block.specs.Machine.{MayPlace, PropertiesBefore, PropertiesTo, earliest_end}
-
-pub none_ns : is_ns_char no_char ≡ false
-unfolding is_ns_char is_nb_char is_printable is_between is_break_char is_white
-none_ns = refl
+use Rattle.yf_chars.proofs.CharFacts.{end_no_ns}
 
 pub may_place : (t : List ℕ) (at : ℕ) (o : Option ℕ) → IfSome o (λ p. BoundaryFrom t at p) → MayPlace t at o
 may_place t at None p = tt

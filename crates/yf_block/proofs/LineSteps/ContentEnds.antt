@@ -15,7 +15,6 @@ use Rattle.yf_grammar.proofs.FlowReader.FlowStarts.{flow_starts}
 use Rattle.yf_grammar.proofs.Ends.Forward.{whites_forward}
 use Rattle.yf_grammar.proofs.Ends.NodeExits.{none_some}
 use Rattle.yf_grammar.proofs.FlowReader.Outcome.{outcome_is_one}
-use Rattle.yf_grammar.proofs.FlowReader.PropertiesEnds.{properties_later}
 use Rattle.yf_grammar.proofs.FlowReader.Sound.{found_is_derived}
 use Rattle.yf_flow.specs.NodeStarts.{ContentAt, plain_missing}
 use Rattle.yf_flow.specs.ContentAnswers.{WrittenWith}
@@ -40,20 +39,17 @@ use Rattle.yf_block.proofs.Ends.KeyNodes.{content_node, colon_bare, sign_no_plai
 use Rattle.yf_block.proofs.Stack.TiedKeys.{none_spread}
 use Rattle.yf_block.proofs.Stack.TiedLeads.{bare_content, no_none, same_held}
 use Rattle.yf_block.proofs.Stack.TiedReads.{read_moved}
+use Rattle.yf_chars.proofs.SpelledLemmas.{never}
+use Rattle.yf_block.proofs.LineSteps.LeafEnds.{same_plain}
+use Rattle.yf_props.proofs.NameOrder.{properties_forward}
 
 -- the text is after the properties
 pub after_order : {t : List ℕ} {p at : ℕ} {inner : Option PlacedProperties} → TextAfter t p inner at → p ≤ at
 after_order (text_alone q) = omega arith
-after_order (text_held l q b) = let f = properties_later l.chosen.derived in let g = whites_forward b.run in omega (arith, f, g)
+after_order (text_held l q b) = let f = properties_forward l.chosen.derived in let g = whites_forward b.run in omega (arith, f, g)
 
 alone_ahead : {t : List ℕ} {p : ℕ} {a z : Ahead} → AfterLine t p a None z → z ≡ a
 alone_ahead none_more = refl
-
-no_plain_place : {q : ℕ} → None ≡ Some q → ⊥
-no_plain_place e = cc
-
-plain_place : {p q : ℕ} → Some p ≡ Some q → q ≡ p
-plain_place e = cc
 
 failed_still : {t : List ℕ} {d : ℕ} {root : BlockTask} {progress after : BlockCursor} → AtFailed t d root progress → after.halt ≡ progress.halt → AtFailed t d root after
 failed_still f e = record { halt = f.halt; unfinished = f.unfinished; halts = f.halts; halted = e ∙ f.halted }
@@ -75,10 +71,10 @@ module _ {t : List ℕ} {p : ℕ} where
 module _ {t : List ℕ} {at end : ℕ} {f : ParsedNode} {json : Bool} {plain : Option ℕ} (as_json : json ≡ true → plain ≡ None) (as_plain : json ≡ false → plain ≡ Some at) where
   known_kind : json ≡ f.json → end ≡ f.end → NodeKind t at f → PlainIs t at end plain
   known_kind j k (plain_kind b v) = plain_known b (as_plain (j ∙ v))
-  known_kind j k (json_kind b v) = other_known b (λ q x. absurd (no_plain_place (sym (as_json (j ∙ v)) ∙ x)))
+  known_kind j k (json_kind b v) = other_known b (λ q x. absurd (never (sym (as_json (j ∙ v)) ∙ x)))
   known_kind j k (alias_kind b o) = other_known b (λ q x. ⊎_elim
-      (λ (v : json ≡ true). absurd (no_plain_place (sym (as_json v) ∙ x)))
-      (λ (v : json ≡ false). subst (λ (z : ℕ). NoStart t z end) (sym (plain_place (sym (as_plain v) ∙ x))) (subst (λ (z : ℕ). NoStart t at z) (sym k) (no_start_inside o)))
+      (λ (v : json ≡ true). absurd (never (sym (as_json v) ∙ x)))
+      (λ (v : json ≡ false). subst (λ (z : ℕ). NoStart t z end) (sym (same_plain (sym (as_plain v) ∙ x))) (subst (λ (z : ℕ). NoStart t at z) (sym k) (no_start_inside o)))
       (cases_Bool json))
 
 module _ {t : List ℕ} {d : ℕ} {root : BlockTask} {before old : Part} {frames : List Frame} {cols : Columns} {p : ℕ} {progress : BlockCursor}
@@ -160,5 +156,5 @@ module _ {t : List ℕ} {d : ℕ} {root : BlockTask} {before old : Part} {frames
     leaf_ending (Answers.empty_key_read e j g w) =
         let order = end_before x e.is in
         let end = e.ends in
-        line_goes_on (stuck_after x e.is e.ends) (λ q z. subst (λ (i : ℕ). NoStart t i node.end) (sym (plain_place (sym (as_plain j) ∙ z))) (no_start_late (omega (arith, order, end))))
+        line_goes_on (stuck_after x e.is e.ends) (λ q z. subst (λ (i : ℕ). NoStart t i node.end) (sym (same_plain (sym (as_plain j) ∙ z))) (no_start_late (omega (arith, order, end))))
         (failed_still (empty_fails e.is e.colon) ha)

@@ -39,6 +39,7 @@ use Rattle.yf_block.proofs.LineSteps.ContentNodes.{no_key_here, lost_keyless, Wh
 use Rattle.yf_block.proofs.Ends.KeyNodes.{content_node}
 use Rattle.yf_block.proofs.Stack.TiedFailed.{broken_fails}
 use Rattle.yf_block.proofs.Stack.TiedOpenings.{node_missing}
+use Rattle.yf_block.proofs.Ends.InlineLemmas.{alias_there}
 
 -- only a `|` or a `>` begins a block scalar
 bar_of_style : {t : List ℕ} {i j : ℕ} {f : Bool} → Style t i j f → ScalarSignAt t i
@@ -56,10 +57,6 @@ other_no_scalar e a b = no_scalar (λ s. ⊎_elim (λ q. a (sym e ∙ q)) (λ q.
 property_no_bar : (c : ℕ) → begins_properties c ≡ true → (c ≢ 124) × (c ≢ 62)
 unfolding begins_properties
 property_no_bar c e = (λ f. grind (arith, nat_tests), λ f. grind (arith, nat_tests))
-
-alias_is : (c : ℕ) → c ≡ 42 → begins_alias c ≡ true
-unfolding begins_alias
-alias_is c e = rw e refl
 
 -- the node is that of its line, or has properties that are on it
 abbrev pub Leads : Ahead → Option PlacedProperties → Ahead → Type 0
@@ -115,7 +112,7 @@ module _ {t : List ℕ} {d : ℕ} {root : BlockTask} {before part : Part} {frame
       → AtFailed t d root progress
   apart_fails {inner} {at} x n o = go x o.other where
     of_alias : {k : ℕ} → code t k ≡ 42 → (z : Ahead) → (h : HeldValue) × (z ≡ Props h) → NoLeaf t a.room (asked a.layers) a.indentation z k
-    of_alias {k} c z l = leaf_refuses (other_no_scalar c (λ e. omega (arith, e)) (λ e. omega (arith, e))) (λ m. true≢false (sym (alias_is (code t k) c) ∙ m.no_alias l.1))
+    of_alias {k} c z l = leaf_refuses (other_no_scalar c (λ e. omega (arith, e)) (λ e. omega (arith, e))) (λ m. true≢false (sym (alias_there (code t k) c) ∙ m.no_alias l.1))
 
     alias_fails : {i : Option PlacedProperties} {k : ℕ} → TextAfter t p i k → code t k ≡ 42 → AtFailed t d root progress
     alias_fails (text_alone q) c = leaf_fails (text_alone q) n (λ z l. of_alias c z (o.before, l ∙ o.is))

@@ -42,10 +42,7 @@ use Rattle.yf_block.proofs.Stack.TiedLeads.{WrittenAs, rest_from, floor_others, 
 use Rattle.yf_block.proofs.Stack.TiedNodes.{node_there, after_colon}
 use Rattle.yf_block.proofs.Stack.TiedOpenings.{node_missing, opened_read, opened_count, room_there}
 use Rattle.yf_block.proofs.Stack.TiedReads.{read_moved}
-
-colon_no_white : (c : ℕ) → c ≡ 58 → is_white c ≡ false
-unfolding is_white
-colon_no_white c e = rw e refl
+use Rattle.yf_grammar.proofs.BlockContent.PlainCut.{colon_no_white}
 
 sign_no_white : {t : List ℕ} {i : ℕ} → SignAt t 58 i → is_white (code t i) ≡ false
 sign_no_white {t} {i} s = colon_no_white (code t i) s.sign_is_at

@@ -45,8 +45,9 @@ use Rattle.yf_block.specs.ContentTied.{TextAfter, text_alone, text_held, LeadTie
 use Rattle.yf_block.specs.PropertiesAnswers.{held_lead, lead_at}
 use Rattle.yf_block.specs.InlineTied.{AtStart}
 use Rattle.yf_block.specs.LastStarts.{NoStart}
-use Rattle.yf_block.proofs.Stack.TiedLeads.{known_event, written_as, rest_from, node_added}
+use Rattle.yf_block.proofs.Stack.TiedLeads.{known_event, written_as, rest_from, node_added, begins_comments, begins_escapes}
 use Rattle.yf_block.proofs.Stack.TiedReads.{read_as}
+use Rattle.yf_block.proofs.Ends.InlineLemmas.{alias_not}
 
 -- the text of the node is a leaf
 module _ {t : List ℕ} {d : ℕ} {root : BlockTask} {before part : Part} {frames : List Frame} {cols : Columns} {p : ℕ} {progress : BlockCursor}
@@ -87,10 +88,6 @@ bare_tied Nothing f = record { start = refl; props = refl; tag = refl }
 bare_tied (Indicator i) f = record { start = refl; props = refl; tag = refl }
 bare_tied (Props h) f = absurd (f h refl)
 
-not_alias : (c : ℕ) → c ≢ 42 → begins_alias c ≡ false
-unfolding begins_alias
-not_alias c n = grind (arith, nat_tests)
-
 module _ {t : List ℕ} {p at : ℕ} {a : Ahead} {inner : Option PlacedProperties} {entry : Option TheEntry.Entry} {lead : Lead} where
   pub ahead_of_none : TextAfter t p inner at → NoneBefore t p a inner entry lead → LeafAhead t p at a inner entry lead
   ahead_of_none x n = subst (λ l. LeafAhead t p at a inner entry l) (sym n.lead_is) (go x) where
@@ -104,7 +101,7 @@ module _ {t : List ℕ} {p at : ℕ} {a : Ahead} {inner : Option PlacedPropertie
     joined = n.joined;
     tied = subst (λ l. LeadTied n.ahead at l) (sym n.lead_is) (held_tied n.holds.tied n.holds.is);
     entry_is = ap (λ (l : Lead). l.entry) n.lead_is;
-    no_alias = λ {h} e. not_alias (code t at) n.no_alias;
+    no_alias = λ {h} e. alias_not (code t at) n.no_alias;
   }
 
 -- the node after what is ahead of it, as it was written
@@ -153,16 +150,6 @@ unfolding entering
 begins_same None x y q = q
 begins_same (Some i) x y q = ap (λ z. (entering i None (record { events = z; comments = []; escapes = []; finish = 0 })).events) q
 
-pub begun_comments : (o : Option ℕ) (x : Meaning) → (begins o x).comments ≡ x.comments
-unfolding entering
-begun_comments None x = refl
-begun_comments (Some i) x = refl
-
-pub begun_escapes : (o : Option ℕ) (x : Meaning) → (begins o x).escapes ≡ x.escapes
-unfolding entering
-begun_escapes None x = refl
-begun_escapes (Some i) x = refl
-
 -- the events of a node, and its own comments
 events_of : Meaning → Meaning → Meaning
 events_of y x = record { events = y.events; comments = x.comments; escapes = x.escapes; finish = x.finish }
@@ -172,9 +159,9 @@ leaf_same : (w : Meaning) (o : Option ℕ) (cs ac : List CommentValue) (z : Ahea
 unfolding ◌⊕◌ only meaning_after events_of
 leaf_same w o cs ac z x e = record {
   events = ap (λ y. y ++ (begins o (events_of (headed z x) x)).events) (append-nil w.events) ∙ ap (λ y. w.events ++ y) (begins_same o (events_of (headed z x) x) (meaning_after cs (headed z x)) refl);
-  comments = ap (λ y. (w.comments ++ (cs ++ ac)) ++ y) (begun_comments o (events_of (headed z x) x)) ∙ append_assoc w.comments (cs ++ ac) x.comments ∙ ap (λ y. w.comments ++ y) (append_assoc cs ac x.comments)
-      ∙ ap (λ y. w.comments ++ (cs ++ (y ++ x.comments))) (sym e) ∙ ap (λ y. w.comments ++ (cs ++ y)) (sym (headed_comments x z)) ∙ ap (λ y. w.comments ++ y) (sym (begun_comments o (meaning_after cs (headed z x))));
-  escapes = ap (λ y. y ++ (begins o (events_of (headed z x) x)).escapes) (append-nil w.escapes) ∙ ap (λ y. w.escapes ++ y) (begun_escapes o (events_of (headed z x) x) ∙ sym (headed_escapes x z) ∙ sym (begun_escapes o (meaning_after cs (headed z x))));
+  comments = ap (λ y. (w.comments ++ (cs ++ ac)) ++ y) (begins_comments o (events_of (headed z x) x)) ∙ append_assoc w.comments (cs ++ ac) x.comments ∙ ap (λ y. w.comments ++ y) (append_assoc cs ac x.comments)
+      ∙ ap (λ y. w.comments ++ (cs ++ (y ++ x.comments))) (sym e) ∙ ap (λ y. w.comments ++ (cs ++ y)) (sym (headed_comments x z)) ∙ ap (λ y. w.comments ++ y) (sym (begins_comments o (meaning_after cs (headed z x))));
+  escapes = ap (λ y. y ++ (begins o (events_of (headed z x) x)).escapes) (append-nil w.escapes) ∙ ap (λ y. w.escapes ++ y) (begins_escapes o (events_of (headed z x) x) ∙ sym (headed_escapes x z) ∙ sym (begins_escapes o (meaning_after cs (headed z x))));
 }
 
 module _ {t : List ℕ} {before : Part} (w : Meaning) {progress : BlockCursor} {old : Part} (cs : List CommentValue) {ac : List CommentValue} (r : ReadTied t before (w ⊕ only (cs ++ ac) 0) progress old) where

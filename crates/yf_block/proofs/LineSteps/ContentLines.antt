@@ -27,7 +27,6 @@ use Rattle.yf_grammar.specs.BlockReader.Halts.Halts.{halts_properties_apart, hal
 use Rattle.yf_grammar.proofs.BlockStack.BlockNodeSteps.{node_through}
 use Rattle.yf_grammar.proofs.BlockStack.BlockStepNodes.{held_awaits, held_halts}
 use Rattle.yf_grammar.proofs.BlockOutcomes.NodesAfter.{properties_no_start}
-use Rattle.yf_grammar.proofs.FlowReader.PropertiesEnds.{properties_later}
 use Rattle.yf_grammar.proofs.Ends.Forward.{whites_forward}
 use Rattle.yf_block.specs.declared.frame.Frame.{Frame}
 use Rattle.yf_block.specs.declared.frame.BlockCursor.{BlockCursor}
@@ -44,6 +43,8 @@ use Rattle.yf_block.proofs.LineSteps.ContentLeaves.{joined_comments}
 use Rattle.yf_block.proofs.LineSteps.ContentNodes.{no_key_held, leaf_lost}
 use Rattle.yf_block.proofs.Ends.KeyNodes.{lone_after, lone_no_key, keyless_nowhere}
 use Rattle.yf_block.proofs.Stack.TiedReads.{read_moved}
+use Rattle.yf_block.proofs.Ends.BelongingLemmas.{no_props_nothing, no_props_sign}
+use Rattle.yf_props.proofs.NameOrder.{properties_forward}
 
 -- the sign of a comment, a break, or the end of the text
 data Dull : ℕ → Type 0 where
@@ -92,12 +93,6 @@ joined_held e f = cc
 
 joined_no_sign : {z : Ahead} {h : HeldValue} {i : ℕ} → z ≡ Props h → z ≡ Indicator i → ⊥
 joined_no_sign e f = cc
-
-no_props_nothing : {h : HeldValue} → Nothing ≡ Props h → ⊥
-no_props_nothing e = cc
-
-no_props_sign : {i : ℕ} {h : HeldValue} → Indicator i ≡ Props h → ⊥
-no_props_sign e = cc
 
 -- what is ahead, as the properties of a line are joined with it
 pub ahead_held : {a : Ahead} {outer : Option PlacedProperties} → AheadTied a outer → PropertiesAhead a outer
@@ -188,7 +183,7 @@ module _ {t : List ℕ} {d : ℕ} {root : BlockTask} {before part : Part} {frame
         narrow = a.wanted.narrow;
       };
       last = λ i y. absurd (joined_no_sign j.tied.is y);
-      past = let f = properties_later l.chosen.derived in let g = a.past in omega (arith, f, g);
+      past = let f = properties_forward l.chosen.derived in let g = a.past in omega (arith, f, g);
       stack = record { order = a.stack.order; frames_tied = a.stack.frames_tied; colons = a.stack.colons; halted = a.stack.halted };
       read = read_moved (subst (λ z. ReadTied t before (all_written a.layers ⊕ only (a.comments ++ z) 0) progress part) (sym (joined_comments j.joins l.no_comments)) a.read) refl;
     }) where

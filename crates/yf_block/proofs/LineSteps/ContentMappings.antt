@@ -50,10 +50,7 @@ use Rattle.yf_block.specs.InlineTied.{AtStart, started}
 use Rattle.yf_block.proofs.LineSteps.ContentKeys.{same_found, is_key, key_awaits}
 use Rattle.yf_block.proofs.LineSteps.ContentNodes.{node_here, lost_keyless}
 use Rattle.yf_block.proofs.Stack.TiedLeads.{NodeThere, bare_there, held_there}
-
-feed_no_ns : is_ns_char 10 ≡ false
-unfolding is_ns_char is_nb_char is_printable is_between is_break_char is_white
-feed_no_ns = refl
+use Rattle.yf_chars.proofs.CharFacts.{feed_no_ns}
 
 -- a node begins an entry
 with_entry_of : (p : ℕ) (inner : Option PlacedProperties) (a b : Option TheEntry.Entry) {lead : Lead} → lead ≡ lead_at p inner a → record lead { entry = b } ≡ lead_at p inner b

@@ -39,6 +39,7 @@ use Rattle.yf_block.proofs.Ends.PropertiesLemmas.{name_there, tag_there, no_clas
 use Rattle.yf_block.proofs.Ends.KeyNodes.{keyless_after}
 use Rattle.yf_block.proofs.Stack.TiedKeys.{keyless_plain}
 use Rattle.yf_block.proofs.Stack.TiedLeads.{NodeThere, bare_there, held_there}
+use Rattle.yf_block.proofs.Ends.BelongingLemmas.{no_props_nothing, no_props_sign}
 
 -- what was written with something known of it can be written with something else
 module _ {t : List ℕ} {lead : Lead} {x : Meaning} {span : Option Span} {end : ℕ} {old new : Part} (other : Lead) (w : WrittenWith t lead x span end old new) where
@@ -98,12 +99,6 @@ both_or : {A : Type 0} (a b : Option A) → BothThere a b ⊎ (BothThere a b →
 both_or None b = inr (λ x. elim x [ ])
 both_or (Some a) None = inr (λ x. elim x [ ])
 both_or (Some a) (Some b) = inl both_there
-
-no_props_nothing : {h : HeldValue} → Nothing ≡ Props h → ⊥
-no_props_nothing e = cc
-
-no_props_sign : {i : ℕ} {h : HeldValue} → Indicator i ≡ Props h → ⊥
-no_props_sign e = cc
 
 pub whose : (a : Ahead) (q : PropertiesValue) (p g : ℕ) → Whose a q p g
 whose Nothing q p g = of_one (first_held (λ h e. no_props_nothing e))

@@ -40,15 +40,12 @@ use Rattle.yf_block.proofs.LineSteps.ContentNodes.{node_here, lost_keyless, no_k
 use Rattle.yf_block.proofs.Ends.KeyNodes.{after_later}
 use Rattle.yf_block.proofs.Stack.TiedLeads.{no_none, same_held}
 use Rattle.yf_block.proofs.LineSteps.TiedScalar.{bar_is}
+use Rattle.yf_chars.proofs.SpelledLemmas.{never}
 
 -- properties on the line
 pub text_properties : {t : List ℕ} {p at : ℕ} {inner : Option PlacedProperties} → TextAfter t p inner at → (h : PlacedProperties) → inner ≡ Some h → LineProperties t p h
 text_properties (text_alone s) h q = absurd (no_none (sym q))
 text_properties {t} {p} (text_held l s b) h q = subst (λ z. LineProperties t p z) (same_held q) l
-
--- no collection begins there with a sign
-no_column : {m : ℕ} → None ≡ Some m → ⊥
-no_column e = cc
 
 pub signless_there : {t : List ℕ} {cols : Columns} {p : ℕ} {column : Option ℕ} → cols.mapping ≡ column → ((m : ℕ) → cols.sequence ≡ Some m → DashAt t p → ⊥) → ((m : ℕ) → column ≡ Some m → EntrySignAt t p → ⊥) → NoSign t cols p
 signless_there q f g = record {

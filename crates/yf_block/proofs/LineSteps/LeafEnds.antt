@@ -37,10 +37,11 @@ use Rattle.yf_block.specs.LastStarts.{LastStart, NoStart}
 use Rattle.yf_block.specs.LookTests.{NotWithinBreak}
 use Rattle.yf_block.specs.HaltNotes.{ColonsCounted, NodeNoted, node_noted, node_before, node_shorter, ShorterNoted, shorter_noted, one_line, no_plain}
 use Rattle.yf_block.proofs.Stack.TiedFailed.{broken_fails}
-use Rattle.yf_block.proofs.LineSteps.ContentLeaves.{headed_finish, headed_comments, headed_escapes, begins_same, begun_comments, begun_escapes}
+use Rattle.yf_block.proofs.LineSteps.ContentLeaves.{headed_finish, headed_comments, headed_escapes, begins_same}
 use Rattle.yf_block.proofs.Ends.LineHalts.{colons_counted, outside_end, rounds_end, last_line_of, no_last_line, may_end_at, may_end_before, may_end_nowhere}
-use Rattle.yf_block.proofs.Stack.TiedLeads.{read_added}
+use Rattle.yf_block.proofs.Stack.TiedLeads.{read_added, begins_comments, begins_escapes}
 use Rattle.yf_block.proofs.Stack.TiedReads.{read_as, read_moved}
+use Rattle.yf_chars.proofs.SpelledLemmas.{never}
 
 -- the last place that is noted, where one was noted before
 abbrev pub noted_end : Option ℕ → Option ParsedNode → Option ℕ
@@ -53,11 +54,8 @@ pub record HaltNoted (t : List ℕ) (e : ℕ) (ws : List ℕ) (task : BlockTask)
   pub halted : Halts t e ws task outcome
   pub noted : new ≡ noted_end old outcome
 
-same_plain : {x y : ℕ} → Some x ≡ Some y → y ≡ x
+pub same_plain : {x y : ℕ} → Some x ≡ Some y → y ≡ x
 same_plain e = cc
-
-no_known : {x : ℕ} → None ≡ Some x → ⊥
-no_known e = cc
 
 pub leaf_made : (a : Ahead) (j h : ℕ) (x : Meaning) (ds : List CommentValue) → leaf_found a j h x ds ≡ Some (record { end = j; height = h; json = false; meaning = headed a (noting x ds) })
 leaf_made a j h x ds = leaf_is a j h x ds ∙ found_is j h false (headed a (noting x ds))
@@ -96,7 +94,7 @@ module _ {t : List ℕ} (u : IsUtf8 t) {e : ℕ} {ws : List ℕ} {n : ℤ} {a : 
     halted = halts_plain_missed s m b (plain_one_line u (plain_was_read b r refl).chosen d (no_last_line (subst (λ (z : ℕ). NoStart t z f.end) (sym (same_plain q)) l)));
     noted = refl;
   }
-  leaf_before (plain_known b q) d no_plain = absurd (no_known q)
+  leaf_before (plain_known b q) d no_plain = absurd (never q)
   leaf_before (other_known b q) d (shorter_noted {start = i} {p = k} l) = absurd (q i refl l.begins k l.later l.ended l.earlier)
   leaf_before (other_known b q) d (one_line l) = record { outcome = None; halted = halts_content_unended s m b r d; noted = refl }
   leaf_before (other_known b q) d no_plain = record { outcome = None; halted = halts_content_unended s m b r d; noted = refl }
@@ -145,14 +143,14 @@ after_finish cs x = refl
 -- the comments of a leaf after it
 told_comments : (o : Option ℕ) (cs : List CommentValue) (z : Ahead) (x : Meaning) (ds : List CommentValue) → (begins o (meaning_after cs (headed z x))).comments ++ ds ≡ (begins o (meaning_after cs (headed z (noting x ds)))).comments
 told_comments o cs z x ds =
-    ap (λ y. y ++ ds) (begun_comments o (meaning_after cs (headed z x)) ∙ after_comments cs (headed z x) ∙ ap (λ y. cs ++ y) (headed_comments x z))
+    ap (λ y. y ++ ds) (begins_comments o (meaning_after cs (headed z x)) ∙ after_comments cs (headed z x) ∙ ap (λ y. cs ++ y) (headed_comments x z))
     ∙ append_assoc cs (ahead_comments z ++ x.comments) ds ∙ ap (λ y. cs ++ y) (append_assoc (ahead_comments z) x.comments ds ∙ ap (λ y. ahead_comments z ++ y) (sym (noting_comments x ds)) ∙ sym (headed_comments (noting x ds) z))
-    ∙ sym (begun_comments o (meaning_after cs (headed z (noting x ds))) ∙ after_comments cs (headed z (noting x ds)))
+    ∙ sym (begins_comments o (meaning_after cs (headed z (noting x ds))) ∙ after_comments cs (headed z (noting x ds)))
 
 told_escapes : (o : Option ℕ) (cs : List CommentValue) (z : Ahead) (x : Meaning) (ds : List CommentValue) → (begins o (meaning_after cs (headed z x))).escapes ≡ (begins o (meaning_after cs (headed z (noting x ds)))).escapes
 told_escapes o cs z x ds =
-    begun_escapes o (meaning_after cs (headed z x)) ∙ after_escapes cs (headed z x) ∙ headed_escapes x z ∙ sym (noting_escapes x ds) ∙ sym (headed_escapes (noting x ds) z)
-    ∙ sym (begun_escapes o (meaning_after cs (headed z (noting x ds))) ∙ after_escapes cs (headed z (noting x ds)))
+    begins_escapes o (meaning_after cs (headed z x)) ∙ after_escapes cs (headed z x) ∙ headed_escapes x z ∙ sym (noting_escapes x ds) ∙ sym (headed_escapes (noting x ds) z)
+    ∙ sym (begins_escapes o (meaning_after cs (headed z (noting x ds))) ∙ after_escapes cs (headed z (noting x ds)))
 
 told_same : (w : Meaning) (o : Option ℕ) (cs : List CommentValue) (z : Ahead) (x : Meaning) (ds : List CommentValue)
     → Same ((w ⊕ begins o (meaning_after cs (headed z x))) ⊕ only ds 0) (w ⊕ begins o (meaning_after cs (headed z (noting x ds))))

@@ -12,7 +12,7 @@ use Rattle.yf_lines.specs.Lines.{NoBreakIn, LineEnd, at_break, at_end, IsLine, O
 use Rattle.yf_lines.specs.declared.line.Line.{Line}
 use Rattle.yf_lines.proofs.BasicLemmas.{break_char, break_unique}
 use Rattle.yf_lines.proofs.ClearLemmas.{code_inside}
-use Rattle.yf_lines.proofs.LineLemmas.{break_breaks, end_within}
+use Rattle.yf_lines.proofs.LineLemmas.{break_breaks, end_within, no_break_past}
 use Rattle.yf_comments.specs.Comment.{CommentValue}
 use Rattle.yf_comments.specs.Comments.{Blank, break_ends, BreakOrEnd, LineRest}
 use Rattle.yf_comments.specs.Comments.BreakOrEnd.{by_break, by_end}
@@ -33,6 +33,7 @@ use Rattle.yf_grammar.specs.Productions.BlockScalar.LinesBetween.{counted}
 use Rattle.yf_block.specs.LookTests.{NotWithinBreak}
 use Rattle.yf_block.specs.ScalarTied.{LinesLeft}
 use Rattle.yf_block.proofs.Ends.LineHalts.{break_outside, ended_outside, rest_outside, outside_end}
+use Rattle.yf_chars.proofs.CharFacts.{end_no_break}
 
 -- so many lines, of one byte at least each
 lines_width : {t : List ℕ} {i j : ℕ} {ls : List Line} → Chain (OneLine t) i j ls → length ls + i ≤ j
@@ -88,13 +89,6 @@ header_blank {t} (block_header s m r) l = rest r l where
   rest (whites w e) l = ended e l
   rest (comment w d e) l = ended e l
 
-none_there : is_break_char no_char ≡ false
-unfolding is_break_char
-none_there = refl
-
-past_quiet : (t : List ℕ) (i : ℕ) → length t ≤ i → is_break_char (code t i) ≡ false
-past_quiet t i l = ap is_break_char (code-past t i l) ∙ none_there
-
 -- the walk: within a line, over its break, and at the end of the text
 pub walk_begins : {t : List ℕ} {count at e : ℕ} → LinesBetween t count at e → LinesLeft t count at e
 walk_begins {at = at} b = record { start = at; line = record { order = omega arith; none = λ h l m. absurd (omega (arith, l, m)) }; begins = λ z. refl; rest = b }
@@ -144,7 +138,7 @@ module _ {t : List ℕ} {left place e : ℕ} (w : LinesLeft t left place e) (som
         (cases_lt h place)
     ended l {h = h} (at_end x) v u o = ⊎_elim
         (λ (y : place < h). v.none place o y)
-        (λ (y : h ≤ place). past_quiet t place (omega (arith, x, y)))
+        (λ (y : h ≤ place). no_break_past t place (omega (arith, x, y)))
         (cases_lt place h)
 
     go : {i : ℕ} → LinesBetween t left i e → NoBreakIn t i place → is_break_char (code t place) ≡ false
@@ -159,7 +153,7 @@ module _ {t : List ℕ} {left place e : ℕ} (w : LinesLeft t left place e) (som
       none = λ h l m. ⊎_elim
           (λ (x : h < place). w.line.none h l x)
           (λ (x : place ≤ h). ⊎_elim
-          (λ (y : place < h). ap is_break_char (code_inside u r y m) ∙ none_there)
+          (λ (y : place < h). ap is_break_char (code_inside u r y m) ∙ end_no_break)
           (λ (y : h ≤ place). let same : h ≡ place = omega (arith, x, y) in ap (λ (z : ℕ). is_break_char (code t z)) same ∙ quiet n)
           (cases_lt place h))
           (cases_lt h place);

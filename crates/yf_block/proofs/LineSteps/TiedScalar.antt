@@ -45,7 +45,7 @@ use Rattle.yf_block.specs.LookTests.{NotWithinBreak}
 use Rattle.yf_block.specs.HaltNotes.{NodeNoted, node_noted, node_before, node_shorter, ShorterNoted, shorter_noted, one_line, no_plain}
 use Rattle.yf_block.specs.ScalarTied.{AtScalar, AtBody, scalar_event}
 use Rattle.yf_block.proofs.Stack.TiedFailed.{broken_fails}
-use Rattle.yf_block.proofs.LineSteps.ContentLeaves.{headed_comments, headed_escapes, headed_finish, begins_same, begun_comments, begun_escapes}
+use Rattle.yf_block.proofs.LineSteps.ContentLeaves.{headed_comments, headed_escapes, headed_finish, begins_same}
 use Rattle.yf_block.proofs.LineSteps.ContentNodes.{leaf_lost}
 use Rattle.yf_block.proofs.LineSteps.LeafEnds.{HaltNoted, leaf_made, noted_round, after_finish, noting_comments, noting_escapes, noting_finish}
 use Rattle.yf_block.proofs.Ends.NotingLemmas.{floor_more, noting_more}
@@ -55,6 +55,7 @@ use Rattle.yf_block.proofs.Stack.TiedOpenings.{node_missing}
 use Rattle.yf_grammar.proofs.Ends.Ways.{chosen_one}
 use Rattle.yf_grammar.proofs.NodesInText.PlacedScalars.{body_reached}
 use Rattle.yf_grammar.proofs.FlowReader.ParserLemmas.{Same}
+use Rattle.yf_block.proofs.Stack.TiedLeads.{begins_comments, begins_escapes}
 
 abbrev scalar_as : ℕ → ℕ → HeaderValue → BodyValue → Meaning
 scalar_as i e h b = record {
@@ -158,8 +159,8 @@ scalar_lists w o cs z i e h b = record {
   comments = append_assoc w.comments (cs ++ ahead_comments z) (h.comments ++ b.comments)
       ∙ ap (λ y. w.comments ++ y) (append_assoc cs (ahead_comments z) (h.comments ++ b.comments)
       ∙ ap (λ y. cs ++ (ahead_comments z ++ y)) (sym (append-nil (h.comments ++ b.comments)) ∙ sym (noting_comments (scalar_as i e h b) []))
-      ∙ ap (λ y. cs ++ y) (sym (headed_comments (noting (scalar_as i e h b) []) z)) ∙ sym (begun_comments o (meaning_after cs (headed z (noting (scalar_as i e h b) [])))));
-  escapes = sym (append-nil w.escapes) ∙ ap (λ y. w.escapes ++ y) (sym (begun_escapes o (meaning_after cs (headed z (noting (scalar_as i e h b) []))) ∙ headed_escapes (noting (scalar_as i e h b) []) z ∙ noting_escapes (scalar_as i e h b) []));
+      ∙ ap (λ y. cs ++ y) (sym (headed_comments (noting (scalar_as i e h b) []) z)) ∙ sym (begins_comments o (meaning_after cs (headed z (noting (scalar_as i e h b) [])))));
+  escapes = sym (append-nil w.escapes) ∙ ap (λ y. w.escapes ++ y) (sym (begins_escapes o (meaning_after cs (headed z (noting (scalar_as i e h b) []))) ∙ headed_escapes (noting (scalar_as i e h b) []) z ∙ noting_escapes (scalar_as i e h b) []));
 }
 
 -- all may end after it

@@ -7,10 +7,7 @@ use Rattle.yf_chars.specs.Class.{is_white}
 use Rattle.yf_lines.specs.Basic.{Spaces}
 use Rattle.yf_grammar.specs.BlockReader.BlockParser.{Compact, compact_columns, no_columns}
 use Rattle.yf_block.specs.ColumnsTied.{same_columns}
-
-space_white : (c : ℕ) → c ≡ 32 → is_white c ≡ true
-unfolding is_white
-space_white c e = rw e refl
+use Rattle.yf_lines.proofs.BasicLemmas.{white_of_space}
 
 -- other white space is between
 spaces_reach : {t : List ℕ} {at place s : ℕ} → at ≤ place → at ≤ s → Spaces t at (s - at) → code t s ≢ 32 → Spaces t at (place - at) → is_white (code t place) ≡ false → s ≡ place
@@ -21,7 +18,7 @@ spaces_reach {t} {at} {place} {s} l k y f z w = ⊎_elim
     (λ (o : place ≤ s). ⊎_elim
     (λ (b : place < s).
     let here : at + (place - at) ≡ place = omega (arith, l) in
-    absurd (true≢false (sym (space_white (code t place) (ap (code t) (sym here) ∙ y.each (place - at) (omega (arith, l, b)))) ∙ w)))
+    absurd (true≢false (sym (white_of_space (code t place) (ap (code t) (sym here) ∙ y.each (place - at) (omega (arith, l, b)))) ∙ w)))
     (λ (b : s ≤ place). omega (arith, o, b))
     (cases_lt place s))
     (cases_lt s place)

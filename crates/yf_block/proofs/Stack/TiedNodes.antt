@@ -39,6 +39,8 @@ use Rattle.yf_block.specs.declared.frame.Step.TheVariants.{Node}
 use Rattle.yf_block.proofs.Ends.NotingLemmas.{floor_kept, noting_length, noting_coloned, edited_after}
 use Rattle.yf_block.proofs.Stack.TiedFits.{is_sequence_of, is_mapping_of}
 use Rattle.yf_block.proofs.Stack.TiedReads.{nothing_more, read_as, read_moved, count_read, read_events}
+use Rattle.yf_grammar.proofs.BlockOutcomes.BlockStarts.{sign_visible}
+use Rattle.yf_grammar.proofs.BlockReader.WholeSound.{same_indicator}
 
 pub node_tied : {t : List ℕ} {d : ℕ} {root : BlockTask} {before part : Part} {frames : List Frame} {p : ℕ} {progress : BlockCursor} (s : Step) → s ≡ Node p → AtNode t d root before frames p progress part
     → BlockTied t d root before frames s progress part
@@ -46,10 +48,6 @@ node_tied {t} {d} {root} {before} {part} {frames} {progress = progress} s e n = 
 
 pub entry_same : (e : TheEntry.Entry) (s : ℕ) (k : Option ℕ) → e.start ≡ s → e.colon ≡ k → e ≡ record { start = s; colon = k; blank_before = e.blank_before }
 entry_same e s k a b = ap (λ (z : ℕ). record { start = z; colon = e.colon; blank_before = e.blank_before }) a ∙ ap (λ z. record { start = s; colon = z; blank_before = e.blank_before }) b
-
-signs_ns : (is_ns_char 45 ≡ true) × (is_ns_char 63 ≡ true) × (is_ns_char 58 ≡ true)
-unfolding is_ns_char is_nb_char is_printable is_between is_break_char is_white
-signs_ns = (refl, refl, refl)
 
 -- after an indicator, within a line of the text
 pub record AfterSign (t : List ℕ) (p : ℕ) : Type 0 where
@@ -64,13 +62,13 @@ module _ {t : List ℕ} (i : ℕ) (u : IsUtf8 t) where
   }
 
   pub after_dash : code t i ≡ 45 → AfterSign t (i + 1)
-  after_dash e = after_char e (omega arith) signs_ns.0
+  after_dash e = after_char e (omega arith) sign_visible.0
 
   pub after_question : code t i ≡ 63 → AfterSign t (i + 1)
-  after_question e = after_char e (omega arith) signs_ns.1
+  after_question e = after_char e (omega arith) sign_visible.1
 
   pub after_colon : code t i ≡ 58 → AfterSign t (i + 1)
-  after_colon e = after_char e (omega arith) signs_ns.2
+  after_colon e = after_char e (omega arith) sign_visible.2
 
 -- of collections that none is deeper than one, none is than a deeper column
 pub all_within : {m k : ℕ} {ls : List Layer} → AllWithin m ls → m ≤ k → AllWithin k ls
@@ -82,9 +80,6 @@ no_indicator e = cc
 
 no_layers : {l : Layer} {ls : List Layer} → l ∷ ls ≡ [] → ⊥
 no_layers e = cc
-
-same_indicator : {i j : ℕ} → Indicator i ≡ Indicator j → i ≡ j
-same_indicator e = cc
 
 -- a node is awaited in the innermost collection, whose frame is on the stack
 module _ {t : List ℕ} {d : ℕ} {root : BlockTask} {before part : Part} {old new : BlockCursor} {e p : ℕ} {l : Layer} {ls : List Layer} {h : Option ParsedNode} where

@@ -20,7 +20,6 @@ use Rattle.yf_grammar.specs.Productions.Grammar.{Derives, BlockNode}
 use Rattle.yf_grammar.specs.Productions.Meaning.{Meaning}
 use Rattle.yf_grammar.specs.Productions.TreesOfMeaning.{tall}
 use Rattle.yf_grammar.proofs.Documents.CommentOrder.{derived_ascends}
-use Rattle.yf_grammar.proofs.WrittenTexts.LeafBack.{after_nothing}
 use Rattle.yf_stream.specs.Stream.{Document, document_of, AnyDocument, ContentAt}
 use Rattle.yf_stream.specs.Stream.AnyDocument.{bare_document}
 use Rattle.yf_stream.specs.Stream.ContentAt.{content_at}
@@ -51,6 +50,7 @@ use Rattle.yf_emit.proofs.Derived.StreamsMade.{AnyMade, root_deep, root_rows}
 use Rattle.yf_emit.proofs.Derived.TreesMade.{node_claim}
 use Rattle.yf_emit.specs.declared.style.Style.{Style}
 
+use Rattle.yf_grammar.proofs.FlowReader.ParserLemmas.{after_nothing}
 pub record FirstMade (t : List ℕ) (s : LayoutSetting) (bare : Bool) (d : Doc) (x : DocumentTree) (rs : List Row) (ds : List Deco) (q : ℕ) (r : List ℕ) : Type 0 where
   pub height : ℕ
   pub place : ℕ

@@ -22,7 +22,6 @@ use Rattle.yf_grammar.specs.Productions.Meaning.{Meaning, meaning_after, noting,
 use Rattle.yf_grammar.specs.Productions.TreesOfMeaning.{tall}
 use Rattle.yf_grammar.proofs.Ends.BlankRuns.{ContentBefore, after_byte}
 use Rattle.yf_grammar.proofs.Documents.CommentOrder.{Ascend, end_ascends}
-use Rattle.yf_grammar.proofs.WrittenTexts.FlowBack.{visible_at, visible_line}
 use Rattle.yf_grammar.proofs.NodesInText.MeantLemmas.{texts_after, texts_noting, texts_empty}
 use Rattle.yf_stream.specs.Stream.{ExplicitNode, DirectiveLines, Directives}
 use Rattle.yf_stream.specs.Stream.ExplicitNode.{marked_node, marked_nothing}
@@ -50,6 +49,7 @@ use Rattle.yf_emit.proofs.Columns.SetMeant.{column_start, SetDone, SetMeant, set
 use Rattle.yf_emit.proofs.Columns.SetNodes.{ColumnAt}
 use Rattle.yf_emit.proofs.Derived.StepsInText.{Stand, stand_after, stand_join, comments_stand, MeaningLaid, laid_after, laid_next, laid_empty}
 
+use Rattle.yf_lines.proofs.VisibleLines.{visible_line, visible_at}
 -- The `---` and the node after it.
 
 pub record ExplicitMade (t : List ℕ) (s : LayoutSetting) (x : Node) (rs : List Row) (ds : List Deco) (q : ℕ) (r : List ℕ) : Type 0 where

@@ -114,7 +114,7 @@ mutual
   settled_pairs_tall c column no_pairs = refl
   settled_pairs_tall c column (pair k v ps) = two_tall (two_tall (settled_tall c (key_spot c.style column k) k) (settled_tall c (value_spot c column k v) v)) (settled_pairs_tall c column ps)
 
-root_tall : (t : List ℕ) (c : LayoutSetting) (d : DocumentTree) → tall (normal_document t c d).root ≡ tall d.root
+pub root_tall : (t : List ℕ) (c : LayoutSetting) (d : DocumentTree) → tall (normal_document t c d).root ≡ tall d.root
 root_tall t c d = settled_tall c (root_spot c.style) (styled t c d.root) ∙ styled_tall t c d.root
 
 -- Signs: neither do they change what the rules ask of an event.

@@ -11,7 +11,7 @@ use Rattle.yf_events.specs.Tree.{Node}
 use Rattle.yf_grammar.specs.Productions.Grammar.{Derives, KeyOf, NodeOf}
 use Rattle.yf_grammar.specs.Productions.OneLineTexts.{Back, follower}
 use Rattle.yf_grammar.specs.Productions.Meaning.{Meaning}
-use Rattle.yf_grammar.proofs.WrittenTexts.FlowBack.{visible_at, visible_line, colon_follows}
+use Rattle.yf_grammar.proofs.WrittenTexts.FlowBack.{colon_follows}
 use Rattle.yf_grammar.proofs.WrittenTexts.LeafBack.{any_follow, space_follows}
 use Rattle.yf_grammar.proofs.WrittenTexts.PairsBack.{key_back, key_apart_back}
 use Rattle.yf_emit.specs.Layouts.ReadableTrees.{LineNode, ColonFits, colon_at_once, colon_apart}
@@ -20,6 +20,7 @@ use Rattle.yf_emit.specs.Nodes.OneLine.{width, written, colon_after}
 use Rattle.yf_emit.proofs.Columns.LinePlaces.{OnLine, on_more, on_same}
 use Rattle.yf_emit.proofs.Texts.LineUtf8.{space_chars, written_utf8}
 
+use Rattle.yf_lines.proofs.VisibleLines.{visible_line, visible_at}
 -- the `:` after a key, and what is after it
 pub record KeyMade (t : List ℕ) (h : ℕ) (mean : Meaning) (q : ℕ) (z written_text : List ℕ) : Type 0 where
   pub json : Bool

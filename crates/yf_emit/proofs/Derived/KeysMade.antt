@@ -17,7 +17,6 @@ use Rattle.yf_grammar.specs.Productions.TreesOfMeaning.{tall}
 use Rattle.yf_grammar.proofs.Ends.BlankRuns.{ContentBefore, after_byte}
 use Rattle.yf_grammar.proofs.BlockOutcomes.BlockFirst.{key_no_question}
 use Rattle.yf_grammar.proofs.Documents.CommentOrder.{end_ascends}
-use Rattle.yf_grammar.proofs.WrittenTexts.FlowBack.{visible_at}
 use Rattle.yf_grammar.proofs.NodesInText.MeantLemmas.{texts_after, texts_noting, texts_entering, texts_both, texts_empty}
 use Rattle.yf_grammar.proofs.NodesInText.NodePlaces.{NodeIsAt, is_at_nowhere, node_order, node_upto}
 use Rattle.yf_grammar.proofs.NodesInText.PlacesDerived.{places}
@@ -48,6 +47,7 @@ use Rattle.yf_emit.proofs.Columns.SetMeant.{column_start, SetDone, set_done, don
 use Rattle.yf_emit.proofs.Columns.SetNodes.{ColumnAt}
 use Rattle.yf_emit.proofs.Derived.StepsInText.{starts_of, MeaningLaid, laid_after, laid_both, laid_next, laid_empty, laid_entering}
 
+use Rattle.yf_lines.proofs.VisibleLines.{visible_at}
 -- the row of a key with its `:`, as it is before its value is known
 abbrev pub key_head : ℕ → List ℕ → List ℕ → List Span → Bool → Row
 key_head column text items leaves blank =

@@ -18,7 +18,6 @@ use Rattle.yf_grammar.specs.Productions.Meaning.{Meaning, noting, empty_node}
 use Rattle.yf_grammar.specs.Productions.TreesOfMeaning.{MeansTrees, tall}
 use Rattle.yf_grammar.proofs.Ends.BlankRuns.{after_byte}
 use Rattle.yf_grammar.proofs.Documents.CommentOrder.{end_ascends}
-use Rattle.yf_grammar.proofs.WrittenTexts.FlowBack.{visible_at}
 use Rattle.yf_grammar.proofs.WrittenTexts.LeafBack.{any_follow}
 use Rattle.yf_grammar.proofs.NodesInText.MeantLemmas.{texts_noting, texts_empty}
 use Rattle.yf_grammar.proofs.BlockOutcomes.NodesAfter.{node_next}
@@ -45,6 +44,7 @@ use Rattle.yf_emit.proofs.Columns.SetMeant.{column_more, SetMeant, SetSigned, se
 use Rattle.yf_emit.proofs.Columns.SetNodes.{ColumnAt}
 use Rattle.yf_emit.proofs.Derived.StepsInText.{MeaningLaid, laid_after, laid_empty}
 
+use Rattle.yf_lines.proofs.VisibleLines.{visible_at}
 -- where a node is in its block: in a block context, its entries at a column at which they may be, and the lines of a block scalar
 -- so many columns right of the indentation around it
 pub record Stood (s : LayoutSetting) (x : Node) (n : ℤ) (c : Ctx) (spot : Spot) : Type 0 where

@@ -7,7 +7,6 @@ use Rattle.yf_comments.specs.GapLines.{GapLine, blank, remark, AreGapLines}
 use Rattle.yf_events.specs.declared.directive.Directive.{Directive}
 use Rattle.yf_events.specs.declared.document.Doc.{Doc}
 use Rattle.yf_events.specs.Tree.{DocumentTree}
-use Rattle.yf_grammar.proofs.WrittenTexts.FlowBack.{visible_line}
 use Rattle.yf_emit.specs.Layouts.RowComments.{AreDecos}
 use Rattle.yf_emit.specs.Layouts.Decorated.{Deco, first, comments_left, decos_of}
 use Rattle.yf_emit.specs.Layouts.FitDocuments.{FitDirectives, fit_no_directives, fit_directive, FitDocuments, fit_no_documents, fit_document}
@@ -21,6 +20,7 @@ use Rattle.yf_emit.proofs.Derived.RowEnds.{first_deco, after_decos}
 use Rattle.yf_emit.proofs.Derived.RowTexts.{row_texts}
 use Rattle.yf_emit.proofs.OutputLines.SeenTexts.{seen_ascii}
 
+use Rattle.yf_lines.proofs.VisibleLines.{visible_line}
 -- Rows.
 
 abbrev pub dashes : List ℕ

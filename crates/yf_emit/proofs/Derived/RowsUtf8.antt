@@ -8,7 +8,6 @@ use Rattle.yf_comments.specs.GapLines.{AreGapLines}
 use Rattle.yf_events.specs.declared.directive.Directive.{Directive}
 use Rattle.yf_events.specs.declared.document.Doc.{Doc}
 use Rattle.yf_events.specs.Tree.{DocumentTree}
-use Rattle.yf_grammar.proofs.WrittenTexts.FlowBack.{visible_line}
 use Rattle.yf_emit.specs.Layouts.RowComments.{IsDeco, AreDecos}
 use Rattle.yf_emit.specs.Layouts.Decorated.{GapLine, blank, remark, gap_then, Deco, first, after, trails_then, body_then, end_then, lines_then}
 use Rattle.yf_emit.specs.Layouts.FitDocuments.{FitDirectives, fit_no_directives, fit_directive, FitDocuments, fit_no_documents, fit_document}
@@ -20,6 +19,7 @@ use Rattle.yf_emit.proofs.Derived.RowEnds.{first_deco, after_decos}
 use Rattle.yf_emit.proofs.Derived.RowTexts.{row_texts}
 use Rattle.yf_emit.proofs.OutputLines.SeenTexts.{IsSeen, seen_ascii}
 
+use Rattle.yf_lines.proofs.VisibleLines.{visible_line}
 ended_utf8 : {w z : List ℕ} → IsLineText w → IsUtf8 z → IsUtf8 (w ++ (10 ∷ z))
 ended_utf8 {w} {z} a u = IsUtf8-append w (10 ∷ z) (line_utf8 a) (feed_utf8 u)
 

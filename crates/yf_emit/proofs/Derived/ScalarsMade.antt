@@ -28,8 +28,7 @@ use Rattle.yf_grammar.specs.Productions.Grammar.{Derives, BlockNode}
 use Rattle.yf_grammar.specs.Productions.Grammar.Derives.{a_block_scalar, a_block_scalar_with}
 use Rattle.yf_grammar.specs.Productions.Meaning.{Meaning, meaning_after, with_props}
 use Rattle.yf_grammar.proofs.Documents.CommentOrder.{ascend_after, scalar_ascends}
-use Rattle.yf_grammar.proofs.WrittenTexts.FlowBack.{visible_line}
-use Rattle.yf_grammar.proofs.WrittenTexts.LeafBack.{after_nothing, propertied}
+use Rattle.yf_grammar.proofs.WrittenTexts.LeafBack.{propertied}
 use Rattle.yf_grammar.proofs.NodesInText.MeantLemmas.{texts_with_props}
 use Rattle.yf_emit.specs.Nodes.BlockLines.{begins_with_space, block_lines, chomping_sign, content_lines, digit_text, final_feeds, header_text, is_kept_tail, line_at, style_sign}
 use Rattle.yf_emit.specs.Nodes.BlockValues.{chomp_of, digit_of, header_of}
@@ -58,6 +57,8 @@ use Rattle.yf_emit.proofs.Derived.StepsInText.{MeaningLaid, laid_scalar, laid_sc
 use Rattle.yf_emit.proofs.OutputLines.WellSet.{AllSet}
 use Rattle.yf_emit.proofs.OutputLines.ScalarBytes.{header_bytes_are, lines_are, trail_of, trail_is, trail_fits, trail_comments}
 
+use Rattle.yf_grammar.proofs.FlowReader.ParserLemmas.{after_nothing}
+use Rattle.yf_lines.proofs.VisibleLines.{visible_line}
 -- What follows it.
 
 kept_gap : (text : List ℕ) (gap : List GapLine) → (may_be_blank_after (tail_ending (is_kept_tail (final_feeds text))) ≡ false → KeptGap Keep gap) → KeptGap (chomp_of (final_feeds text)) gap

@@ -11,6 +11,7 @@ use Rattle.yf_emit.proofs.Keeps.KeyDecides.{key_decides}
 use Rattle.yf_emit.proofs.Keeps.LinesTidy.{lines_tidy}
 use Rattle.yf_emit.proofs.Keeps.ReadingsDecide.{readings_decide}
 use Rattle.yf_emit.proofs.Keeps.SpellingsKept.{spellings_kept, types_kept}
+use Rattle.yf_emit.proofs.Size.SizesKept.{sizes_kept}
 
 pub keeps_hold : (t u : List ℕ) (s : Style) → IsUtf8 t → IsFormatting t s u → Keeps t s u
 keeps_hold t u s utf8 f = record {
@@ -22,4 +23,5 @@ keeps_hold t u s utf8 f = record {
   key = key_decides t u s;
   reading = readings_decide t u s;
   comments = comments_stay t u s utf8;
+  size = sizes_kept t u s utf8 f;
 }

@@ -10,7 +10,7 @@ use Rattle.yf_events.specs.declared.event.Span.{Span}
 use Rattle.yf_grammar.specs.Productions.TreesOfMeaning.{Anywhere}
 use Rattle.yf_emit.specs.declared.style.Style.{Style}
 use Rattle.yf_emit.specs.NormalForms.Normal.{entry_or, first_between, key_comment, key_start, last_start}
-use Rattle.yf_emit.specs.Preservation.ReadingKey.{Each, none_each, one_each, Either, in_neither, in_both, SameSide, SameSpan, SameEntry, SameComment, NodesMatch, matched_scalars, matched_aliases, matched_empty_sequences, matched_empty_mappings, matched_sequences, matched_mappings, ItemsMatch, no_matched_items, matched_item, PairsMatch, no_matched_pairs, matched_pair}
+use Rattle.yf_emit.specs.Preservation.ReadingKey.{Each, none_each, one_each, Either, in_neither, in_both, PairedOffsets, SameSide, SameSpan, SameEntry, SameComment, NodesMatch, matched_scalars, matched_aliases, matched_empty_sequences, matched_empty_mappings, matched_sequences, matched_mappings, ItemsMatch, no_matched_items, matched_item, PairsMatch, no_matched_pairs, matched_pair}
 use Rattle.yf_emit.specs.Layouts.RowShapes.{KeysAgree}
 use Rattle.yf_emit.proofs.SecondRun.AlikeLemmas.{same_filled_flow, same_text}
 
@@ -46,7 +46,7 @@ either_if false false e a = in_neither
 either_if true false e a = absurd (true≢false e)
 either_if false true e a = absurd (true≢false (sym e))
 
-module _ {ps : List (ℕ × ℕ)} where
+module _ {ps : PairedOffsets} where
   mutual
     pub matched_alike : {x y : Node} → NodesMatch ps x y → Alike Anywhere x y
     matched_alike (matched_scalars a e) = alike_scalars (some_either a)
@@ -70,7 +70,7 @@ module _ {ps : List (ℕ × ℕ)} where
   leaf_spans in_neither = none_each
   leaf_spans (in_both a) = one_each a none_each
 
-  pub starts_each : {xs ys : List Span} → Each (SameSpan ps) xs ys → Each (SameSide ps) (map (λ s. s.start) xs) (map (λ s. s.start) ys)
+  pub starts_each : {xs ys : List Span} → Each (SameSpan ps) xs ys → Each (SameSide ps.comments) (map (λ s. s.start) xs) (map (λ s. s.start) ys)
   starts_each none_each = none_each
   starts_each (one_each a more) = one_each a.start (starts_each more)
 
@@ -82,11 +82,11 @@ module _ {ps : List (ℕ × ℕ)} where
   entry_of (matched_sequences a e m more) = e
   entry_of (matched_mappings a e i m n more) = e
 
-  entry_starts : {a b : Option Entry} → Either (SameEntry ps) a b → Each (SameSide ps) (starts_of_entry a) (starts_of_entry b)
+  entry_starts : {a b : Option Entry} → Either (SameEntry ps) a b → Each (SameSide ps.comments) (starts_of_entry a) (starts_of_entry b)
   entry_starts in_neither = none_each
   entry_starts (in_both e) = one_each e.start none_each
 
-  pub entry_each : {x y : Node} → NodesMatch ps x y → Each (SameSide ps) (entry_start x) (entry_start y)
+  pub entry_each : {x y : Node} → NodesMatch ps x y → Each (SameSide ps.comments) (entry_start x) (entry_start y)
   entry_each m = entry_starts (entry_of m)
 
   mutual
@@ -107,7 +107,7 @@ module _ {ps : List (ℕ × ℕ)} where
     pairs_leaves (matched_pair i m n more) = each_append (leaves_each m) (each_append (leaves_each n) (pairs_leaves more))
 
   mutual
-    pub items_each : {x y : Node} → NodesMatch ps x y → Each (SameSide ps) (items_in x) (items_in y)
+    pub items_each : {x y : Node} → NodesMatch ps x y → Each (SameSide ps.comments) (items_in x) (items_in y)
     items_each (matched_scalars a e) = starts_each (leaf_spans a)
     items_each (matched_aliases a e) = starts_each (leaf_spans a)
     items_each (matched_empty_sequences a e) = starts_each (leaf_spans a)
@@ -115,28 +115,28 @@ module _ {ps : List (ℕ × ℕ)} where
     items_each (matched_sequences a e m more) = each_append (entry_each m) (each_append (items_each m) (items_items more))
     items_each (matched_mappings a e i m n more) = each_append (entry_each m) (each_append (items_each m) (each_append (items_each n) (pairs_items more)))
 
-    items_items : {xs ys : Items} → ItemsMatch ps xs ys → Each (SameSide ps) (items_in_items xs) (items_in_items ys)
+    items_items : {xs ys : Items} → ItemsMatch ps xs ys → Each (SameSide ps.comments) (items_in_items xs) (items_in_items ys)
     items_items no_matched_items = none_each
     items_items (matched_item m more) = each_append (entry_each m) (each_append (items_each m) (items_items more))
 
-    pairs_items : {qs rs : Pairs} → PairsMatch ps qs rs → Each (SameSide ps) (items_in_pairs qs) (items_in_pairs rs)
+    pairs_items : {qs rs : Pairs} → PairsMatch ps qs rs → Each (SameSide ps.comments) (items_in_pairs qs) (items_in_pairs rs)
     pairs_items no_matched_pairs = none_each
     pairs_items (matched_pair i m n more) = each_append (entry_each m) (each_append (items_each m) (each_append (items_each n) (pairs_items more)))
 
   -- Comments at keys.
 
-  last_each : {a b : ℕ} {xs ys : List Span} → SameSide ps a b → Each (SameSpan ps) xs ys → SameSide ps (last_start a xs) (last_start b ys)
+  last_each : {a b : ℕ} {xs ys : List Span} → SameSide ps.comments a b → Each (SameSpan ps) xs ys → SameSide ps.comments (last_start a xs) (last_start b ys)
   last_each s none_each = s
   last_each s (one_each a more) = last_each a.start more
 
-  entry_side : {a b : Option Entry} → is_some a ≡ true → Either (SameEntry ps) a b → SameSide ps (entry_or 0 a) (entry_or 0 b)
+  entry_side : {a b : Option Entry} → is_some a ≡ true → Either (SameEntry ps) a b → SameSide ps.comments (entry_or 0 a) (entry_or 0 b)
   entry_side i in_neither = absurd (true≢false (sym i))
   entry_side i (in_both e) = e.start
 
-  start_side : {k l : Node} → is_some (standing k).entry ≡ true → NodesMatch ps k l → SameSide ps (key_start k) (key_start l)
+  start_side : {k l : Node} → is_some (standing k).entry ≡ true → NodesMatch ps k l → SameSide ps.comments (key_start k) (key_start l)
   start_side i m = last_each (entry_side i (entry_of m)) (leaves_each m)
 
-  between : {cs ds : List CommentValue} {a b : ℕ} {xs ys : List Span} → Each (SameComment ps) cs ds → SameSide ps a b → Each (SameSpan ps) xs ys → Either (SameComment ps) (first_between cs a xs) (first_between ds b ys)
+  between : {cs ds : List CommentValue} {a b : ℕ} {xs ys : List Span} → Each (SameComment ps) cs ds → SameSide ps.comments a b → Each (SameSpan ps) xs ys → Either (SameComment ps) (first_between cs a xs) (first_between ds b ys)
   between cs s none_each = in_neither
   between {a = a} {b = b} cs s (one_each {x = x} {y = y} l more) =
       find_each (λ c. nat_lt a c.offset && nat_lt c.offset x.start) (λ d. nat_lt b d.offset && nat_lt d.offset y.start)

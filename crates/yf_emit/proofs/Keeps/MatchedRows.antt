@@ -1,6 +1,6 @@
 -- Nodes that are matched have matched rows: as many, with places, notes and comments of keys that are matched.
 use Rattle.std.proofs.Common.{◌≡◌, ℕ, Bool, true, false, true≢false, List, [], ◌∷◌, ◌++◌, map, Option, None, refl, sym, ap, ◌∙◌, subst}
-use Rattle.std.specs.Prelude.{◌&&◌, ◌-◌, if◌then◌else◌, is_some, option_to_list}
+use Rattle.std.specs.Prelude.{◌&&◌, ◌-◌, if◌then◌else◌, is_some}
 use Rattle.yf_comments.specs.Comment.{CommentValue}
 use Rattle.yf_props.specs.Props.{PropsValue}
 use Rattle.yf_events.specs.Tree.{NodeOffsets, Node, scalar, alias, sequence, mapping, Items, no_items, item, Pairs, no_pairs, pair, standing, leaves, items_in}
@@ -12,7 +12,7 @@ use Rattle.yf_emit.specs.declared.style.Style.{Style}
 use Rattle.yf_emit.specs.Preservation.FoundTrees.{words_of}
 use Rattle.yf_emit.specs.NormalForms.Normal.{Spot, fits, inner_spot, is_implicit, key_spot, settled, settled_items, settled_pairs, value_spot}
 use Rattle.yf_emit.specs.Nodes.OneLine.{props_text, written}
-use Rattle.yf_emit.specs.Preservation.ReadingKey.{Each, none_each, one_each, Either, in_neither, in_both, SameSide, SameSpan, SameEntry, SameComment, NodesMatch, matched_scalars, matched_aliases, matched_empty_sequences, matched_empty_mappings, matched_sequences, matched_mappings, ItemsMatch, no_matched_items, matched_item, PairsMatch, no_matched_pairs, matched_pair}
+use Rattle.yf_emit.specs.Preservation.ReadingKey.{Each, none_each, one_each, Either, in_neither, in_both, PairedOffsets, SameSide, SameSpan, SameEntry, SameColons, colons_match, no_colon_counts, SameKeys, is_leaf_key, SameComment, NodesMatch, matched_scalars, matched_aliases, matched_empty_sequences, matched_empty_mappings, matched_sequences, matched_mappings, ItemsMatch, no_matched_items, matched_item, PairsMatch, no_matched_pairs, matched_pair}
 use Rattle.yf_emit.specs.Layouts.Rows.{Row, begins_below, beginning_at, begun_at, after_key, blank_before_entry, colon_offset, colon_row, directive_row, end_rows, entry_row, explicit_pair, implicit_pair, joined, key_row, one_line, one_line_row, pair_rows, props_row, rows, rows_of_items, rows_of_pairs, start_row}
 use Rattle.yf_emit.proofs.SecondRun.AlikeLemmas.{same_below, same_fit, same_implicit, same_key_spot, same_value_spot, same_written, setting}
 use Rattle.yf_emit.proofs.Keeps.MatchedLemmas.{each_append, entry_each, entry_of, items_each, key_each, keys_agree, leaves_each, matched_alike}
@@ -23,7 +23,7 @@ standing_either : {at : NodeOffsets} (p : Bool) (x y : Node) → standing x ≡ 
 standing_either true x y e f = e
 standing_either false x y e f = f
 
-module _ {ps : List (ℕ × ℕ)} {cs ds : List CommentValue} (s : Style) (same : Each (SameComment ps) cs ds) where
+module _ {ps : PairedOffsets} {cs ds : List CommentValue} (s : Style) (same : Each (SameComment ps) cs ds) where
   either_node : (p q : Bool) {x y z w : Node} → p ≡ q → NodesMatch ps x y → NodesMatch ps z w → NodesMatch ps (if p then x else z) (if q then y else w)
   either_node true true e a b = a
   either_node false false e a b = b
@@ -42,8 +42,23 @@ module _ {ps : List (ℕ × ℕ)} {cs ds : List CommentValue} (s : Style) (same 
       standing_either (flow && fits s spot.column (mapping at flow props (pair k v qs))) (mapping at flow props (pair k v qs))
       (mapping at false props (pair (settled (setting s bs) (key_spot s spot.entries k) k) (settled (setting s bs) (value_spot (setting s bs) spot.entries k v) v) (settled_pairs (setting s bs) spot.entries qs))) refl refl
 
-  entry_kept : (spot : Spot) (k : Node) → is_some (standing k).entry ≡ true → is_some (standing (settled (setting s cs) spot k)).entry ≡ true
-  entry_kept spot k e = ap (λ (z : NodeOffsets). is_some z.entry) (standing_settled cs spot k) ∙ e
+  leaf_settled : (bs : List CommentValue) (spot : Spot) (k : Node) → is_leaf_key k ≡ true → settled (setting s bs) spot k ≡ k
+  leaf_settled bs spot (scalar at props style text lines) e = refl
+  leaf_settled bs spot (alias at name) e = refl
+  leaf_settled bs spot (sequence at flow props no_items) e = refl
+  leaf_settled bs spot (sequence at flow props (item x xs)) e = absurd (true≢false (sym e))
+  leaf_settled bs spot (mapping at flow props no_pairs) e = refl
+  leaf_settled bs spot (mapping at flow props (pair k v qs)) e = absurd (true≢false (sym e))
+
+  colons_kept : (spot other : Spot) (k l : Node) → SameColons ps k l → SameColons ps (settled (setting s cs) spot k) (settled (setting s ds) other l)
+  colons_kept spot other k l (colons_match e) =
+      colons_match
+      (subst (λ (z : NodeOffsets). Each (SameSide ps.comments) (colon_offset z.entry) (colon_offset (standing (settled (setting s ds) other l)).entry)) (sym (standing_settled cs spot k))
+      (subst (λ (z : NodeOffsets). Each (SameSide ps.comments) (colon_offset (standing k).entry) (colon_offset z.entry)) (sym (standing_settled ds other l)) e))
+  colons_kept spot other k l (no_colon_counts e) = no_colon_counts (ap is_leaf_key (leaf_settled cs spot k e) ∙ e)
+
+  keys_kept : (spot other : Spot) (k l : Node) → SameKeys ps k l → SameKeys ps (settled (setting s cs) spot k) (settled (setting s ds) other l)
+  keys_kept spot other k l i = record { begins = ap (λ (z : NodeOffsets). is_some z.entry) (standing_settled cs spot k) ∙ i.begins; colon = colons_kept spot other k l i.colon }
 
   mutual
     pub settled_matched : (spot : Spot) {x y : Node} → NodesMatch ps x y → NodesMatch ps (settled (setting s cs) spot x) (settled (setting s ds) spot y)
@@ -58,9 +73,9 @@ module _ {ps : List (ℕ × ℕ)} {cs ds : List CommentValue} (s : Style) (same 
     settled_matched spot (matched_mappings {at = at} {bt = bt} {flow = flow} {props = props} {k = k} {v = v} {l = l} {w = w} {qs = qs} {rs = rs} a e i m n more) =
         either_node (flow && fits s spot.column (mapping at flow props (pair k v qs))) (flow && fits s spot.column (mapping bt flow props (pair l w rs)))
         (ap (λ b. flow && b) (same_fit s spot.column (matched_alike (matched_mappings {at = at} {bt = bt} {flow = flow} {props = props} a e i m n more)))) (matched_mappings a e i m n more)
-        (matched_mappings a e (entry_kept (key_spot s spot.entries k) k i)
+        (matched_mappings a e (keys_kept (key_spot s spot.entries k) (key_spot s spot.entries l) k l i)
         (subst (λ z. NodesMatch ps (settled (setting s cs) (key_spot s spot.entries k) k) (settled (setting s ds) z l)) (same_key_spot s spot.entries (matched_alike m)) (settled_matched (key_spot s spot.entries k) m))
-        (subst (λ z. NodesMatch ps (settled (setting s cs) (value_spot (setting s cs) spot.entries k v) v) (settled (setting s ds) z w)) (same_value_spot s spot.entries (matched_alike m) (matched_alike n) (keys_agree s same i m n))
+        (subst (λ z. NodesMatch ps (settled (setting s cs) (value_spot (setting s cs) spot.entries k v) v) (settled (setting s ds) z w)) (same_value_spot s spot.entries (matched_alike m) (matched_alike n) (keys_agree s same i.begins m n))
         (settled_matched (value_spot (setting s cs) spot.entries k v) n))
         (pairs_settled spot.entries more))
 
@@ -71,38 +86,30 @@ module _ {ps : List (ℕ × ℕ)} {cs ds : List CommentValue} (s : Style) (same 
     pairs_settled : (column : ℕ) {qs rs : Pairs} → PairsMatch ps qs rs → PairsMatch ps (settled_pairs (setting s cs) column qs) (settled_pairs (setting s ds) column rs)
     pairs_settled column no_matched_pairs = no_matched_pairs
     pairs_settled column (matched_pair {k = k} {v = v} {l = l} {w = w} i m n more) =
-        matched_pair (entry_kept (key_spot s column k) k i)
+        matched_pair (keys_kept (key_spot s column k) (key_spot s column l) k l i)
         (subst (λ z. NodesMatch ps (settled (setting s cs) (key_spot s column k) k) (settled (setting s ds) z l)) (same_key_spot s column (matched_alike m)) (settled_matched (key_spot s column k) m))
-        (subst (λ z. NodesMatch ps (settled (setting s cs) (value_spot (setting s cs) column k v) v) (settled (setting s ds) z w)) (same_value_spot s column (matched_alike m) (matched_alike n) (keys_agree s same i m n))
+        (subst (λ z. NodesMatch ps (settled (setting s cs) (value_spot (setting s cs) column k v) v) (settled (setting s ds) z w)) (same_value_spot s column (matched_alike m) (matched_alike n) (keys_agree s same i.begins m n))
         (settled_matched (value_spot (setting s cs) column k v) n))
         (pairs_settled column more)
 
 -- Rows.
 
-pub record RowMatch (ps : List (ℕ × ℕ)) (x y : Row) : Type 0 where
-  pub items : Each (SameSide ps) x.items y.items
+pub record RowMatch (ps : PairedOffsets) (x y : Row) : Type 0 where
+  pub items : Each (SameSide ps.comments) x.items y.items
   pub leaves : Each (SameSpan ps) x.leaves y.leaves
   pub key : Either (SameComment ps) x.key_comment y.key_comment
   pub blank : x.blank_before ≡ y.blank_before
 
-blank_same : {ps : List (ℕ × ℕ)} {a b : Option Entry} → Either (SameEntry ps) a b → blank_before_entry a ≡ blank_before_entry b
+blank_same : {ps : PairedOffsets} {a b : Option Entry} → Either (SameEntry ps) a b → blank_before_entry a ≡ blank_before_entry b
 blank_same in_neither = refl
 blank_same (in_both e) = e.blank
 
-option_each : {ps : List (ℕ × ℕ)} {a b : Option ℕ} → Either (SameSide ps) a b → Each (SameSide ps) (option_to_list a) (option_to_list b)
-option_each in_neither = none_each
-option_each (in_both e) = one_each e none_each
-
-colon_each : {ps : List (ℕ × ℕ)} {a b : Option Entry} → Either (SameEntry ps) a b → Each (SameSide ps) (colon_offset a) (colon_offset b)
-colon_each in_neither = none_each
-colon_each (in_both e) = option_each e.colon
-
-module _ {ps : List (ℕ × ℕ)} where
+module _ {ps : PairedOffsets} where
   joined_match : (h g : Row) (n : ℕ) {xs ys : List Row} → RowMatch ps h g → Each (RowMatch ps) xs ys → Each (RowMatch ps) (joined h n xs) (joined g n ys)
   joined_match h g n a none_each = one_each a none_each
   joined_match h g n a (one_each b more) = one_each (record { items = each_append a.items b.items; leaves = each_append a.leaves b.leaves; key = b.key; blank = a.blank }) more
 
-  line_match : (column : ℕ) (x y : Node) (w : List ℕ) → Each (SameSide ps) (items_in x) (items_in y) → Each (SameSpan ps) (leaves x) (leaves y) → Each (RowMatch ps) (one_line_row column x w) (one_line_row column y w)
+  line_match : (column : ℕ) (x y : Node) (w : List ℕ) → Each (SameSide ps.comments) (items_in x) (items_in y) → Each (SameSpan ps) (leaves x) (leaves y) → Each (RowMatch ps) (one_line_row column x w) (one_line_row column y w)
   line_match column x y [] a b = none_each
   line_match column x y (c ∷ w) a b = one_each (record { items = a; leaves = b; key = in_neither; blank = refl }) none_each
 
@@ -111,7 +118,7 @@ module _ {ps : List (ℕ × ℕ)} where
 
   bare_row : {x y : Row} → x.items ≡ [] → y.items ≡ [] → x.leaves ≡ [] → y.leaves ≡ [] → x.key_comment ≡ None → y.key_comment ≡ None → x.blank_before ≡ y.blank_before → RowMatch ps x y
   bare_row {x} {y} a b c d e f g = record {
-    items = subst (λ z. Each (SameSide ps) z y.items) (sym a) (subst (λ z. Each (SameSide ps) [] z) (sym b) none_each);
+    items = subst (λ z. Each (SameSide ps.comments) z y.items) (sym a) (subst (λ z. Each (SameSide ps.comments) [] z) (sym b) none_each);
     leaves = subst (λ z. Each (SameSpan ps) z y.leaves) (sym c) (subst (λ z. Each (SameSpan ps) [] z) (sym d) none_each);
     key = subst (λ z. Either (SameComment ps) z y.key_comment) (sym e) (subst (λ z. Either (SameComment ps) None z) (sym f) in_neither);
     blank = g;
@@ -145,20 +152,37 @@ module _ {ps : List (ℕ × ℕ)} where
   block_match s cs ds spot Literal m = one_each (record { items = items_each m; leaves = leaves_each m; key = in_neither; blank = refl }) none_each
   block_match s cs ds spot Folded m = one_each (record { items = items_each m; leaves = leaves_each m; key = in_neither; blank = refl }) none_each
 
-module _ {ps : List (ℕ × ℕ)} {cs ds : List CommentValue} (s : Style) (same : Each (SameComment ps) cs ds) where
+module _ {ps : PairedOffsets} {cs ds : List CommentValue} (s : Style) (same : Each (SameComment ps) cs ds) where
   abbrev Match : List Row → List Row → Type 0
   Match xs ys = Each (RowMatch ps) xs ys
 
-  pair_match : (column : ℕ) {k l v w : Node} {xs ys us vs : List Row} → is_some (standing k).entry ≡ true → NodesMatch ps k l → NodesMatch ps v w → Match xs ys → Match us vs
+  leaf_implicit : (column : ℕ) (k : Node) → is_leaf_key k ≡ true → is_implicit s column k ≡ true
+  leaf_implicit column (scalar at props Plain text lines) e = e
+  leaf_implicit column (scalar at props Single text lines) e = e
+  leaf_implicit column (scalar at props Double text lines) e = e
+  leaf_implicit column (scalar at props Literal text lines) e = absurd (true≢false (sym e))
+  leaf_implicit column (scalar at props Folded text lines) e = absurd (true≢false (sym e))
+  leaf_implicit column (alias at name) e = e
+  leaf_implicit column (sequence at flow props no_items) e = e
+  leaf_implicit column (sequence at flow props (item x xs)) e = absurd (true≢false (sym e))
+  leaf_implicit column (mapping at flow props no_pairs) e = e
+  leaf_implicit column (mapping at flow props (pair k v qs)) e = absurd (true≢false (sym e))
+
+  -- the `:` of a key that has a `?`
+  colon_counts : (column : ℕ) (k l : Node) → SameColons ps k l → is_implicit s column k ≡ false → Each (SameSide ps.comments) (colon_offset (standing k).entry) (colon_offset (standing l).entry)
+  colon_counts column k l (colons_match e) f = e
+  colon_counts column k l (no_colon_counts e) f = absurd (true≢false (sym (leaf_implicit column k e) ∙ f))
+
+  pair_match : (column : ℕ) {k l v w : Node} {xs ys us vs : List Row} → SameKeys ps k l → NodesMatch ps k l → NodesMatch ps v w → Match xs ys → Match us vs
       → Match (pair_rows (setting s cs) column k v xs us) (pair_rows (setting s ds) column l w ys vs)
-  pair_match column {k} {l} {v} {w} {xs} {ys} {us} {vs} i m n a b = by (is_implicit s column k) (is_implicit s column l) (same_implicit s column (matched_alike m)) where
-    by : (p q : Bool) → p ≡ q → Match (if p then implicit_pair (setting s cs) column k v us else explicit_pair s column k xs us) (if q then implicit_pair (setting s ds) column l w vs else explicit_pair s column l ys vs)
-    by true true e = after_match column (begins_below v) (begins_below w) m (key_each same i m n) (same_below (matched_alike n)) b
-    by false false e =
+  pair_match column {k} {l} {v} {w} {xs} {ys} {us} {vs} i m n a b = by (is_implicit s column k) (is_implicit s column l) refl (same_implicit s column (matched_alike m)) where
+    by : (p q : Bool) → is_implicit s column k ≡ p → p ≡ q → Match (if p then implicit_pair (setting s cs) column k v us else explicit_pair s column k xs us) (if q then implicit_pair (setting s ds) column l w vs else explicit_pair s column l ys vs)
+    by true true f e = after_match column (begins_below v) (begins_below w) m (key_each same i.begins m n) (same_below (matched_alike n)) b
+    by false false f e =
         each_append (joined_match (entry_row column (63 ∷ []) k) (entry_row column (63 ∷ []) l) (s.indent - 1) (entry_match column (63 ∷ []) m) a)
-        (joined_match (colon_row column k) (colon_row column l) (s.indent - 1) (record { items = colon_each (entry_of m); leaves = none_each; key = in_neither; blank = refl }) b)
-    by true false e = absurd (true≢false e)
-    by false true e = absurd (true≢false (sym e))
+        (joined_match (colon_row column k) (colon_row column l) (s.indent - 1) (record { items = colon_counts column k l i.colon f; leaves = none_each; key = in_neither; blank = refl }) b)
+    by true false f e = absurd (true≢false e)
+    by false true f e = absurd (true≢false (sym e))
 
   mutual
     pub rows_match : (spot : Spot) {x y : Node} → NodesMatch ps x y → Match (rows (setting s cs) spot x) (rows (setting s ds) spot y)
@@ -182,7 +206,7 @@ module _ {ps : List (ℕ × ℕ)} {cs ds : List CommentValue} (s : Style) (same 
         (each_append
         (pair_match spot.entries i m n
         (subst (λ z. Match (rows (setting s cs) (key_spot s spot.entries k) k) (rows (setting s ds) z l)) (same_key_spot s spot.entries (matched_alike m)) (rows_match (key_spot s spot.entries k) m))
-        (subst (λ z. Match (rows (setting s cs) (value_spot (setting s cs) spot.entries k v) v) (rows (setting s ds) z w)) (same_value_spot s spot.entries (matched_alike m) (matched_alike n) (keys_agree s same i m n))
+        (subst (λ z. Match (rows (setting s cs) (value_spot (setting s cs) spot.entries k v) v) (rows (setting s ds) z w)) (same_value_spot s spot.entries (matched_alike m) (matched_alike n) (keys_agree s same i.begins m n))
         (rows_match (value_spot (setting s cs) spot.entries k v) n)))
         (pairs_match spot.entries more))
 
@@ -197,18 +221,18 @@ module _ {ps : List (ℕ × ℕ)} {cs ds : List CommentValue} (s : Style) (same 
         each_append
         (pair_match column i m n
         (subst (λ z. Match (rows (setting s cs) (key_spot s column k) k) (rows (setting s ds) z l)) (same_key_spot s column (matched_alike m)) (rows_match (key_spot s column k) m))
-        (subst (λ z. Match (rows (setting s cs) (value_spot (setting s cs) column k v) v) (rows (setting s ds) z w)) (same_value_spot s column (matched_alike m) (matched_alike n) (keys_agree s same i m n))
+        (subst (λ z. Match (rows (setting s cs) (value_spot (setting s cs) column k v) v) (rows (setting s ds) z w)) (same_value_spot s column (matched_alike m) (matched_alike n) (keys_agree s same i.begins m n))
         (rows_match (value_spot (setting s cs) column k v) n)))
         (pairs_match column more)
 
   -- Lines before a document's node.
 
-  pub begun_match : {a b : ℕ} {xs ys : List Row} → SameSide ps a b → Match xs ys → Match (beginning_at a xs) (beginning_at b ys)
+  pub begun_match : {a b : ℕ} {xs ys : List Row} → SameSide ps.comments a b → Match xs ys → Match (beginning_at a xs) (beginning_at b ys)
   begun_match e none_each = none_each
   begun_match e (one_each a more) = one_each (record { items = one_each e a.items; leaves = a.leaves; key = a.key; blank = a.blank }) more
 
   -- and of a document that begins on its node's first line
-  pub bare_match : {a b : ℕ} {xs ys : List Row} → SameSide ps a b → Match xs ys → Match (begun_at a xs) (begun_at b ys)
+  pub bare_match : {a b : ℕ} {xs ys : List Row} → SameSide ps.comments a b → Match xs ys → Match (begun_at a xs) (begun_at b ys)
   bare_match e none_each = none_each
   bare_match e (one_each a more) = one_each (record { items = one_each e a.items; leaves = a.leaves; key = a.key; blank = a.blank }) more
 

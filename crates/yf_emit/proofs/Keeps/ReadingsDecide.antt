@@ -16,7 +16,7 @@ use Rattle.yf_emit.specs.Format.{IsFormatting}
 use Rattle.yf_emit.specs.Layouts.Layout.{Remark, Source, first_comment, is_among, is_before, next_leaf, trailing, trailing_leaf, trimmed}
 use Rattle.yf_emit.specs.Preservation.LayoutKey.{SameDocuments, no_documents, same_document, SameEnds, no_ends, same_end, SameKey, SamePlace, no_place, same_place, SamePlaces, no_comments, same_comment, SameRows, no_more_rows, same_row}
 use Rattle.yf_emit.specs.NormalForms.Normal.{normal_document, root_spot, setting_of}
-use Rattle.yf_emit.specs.Preservation.ReadingKey.{DependsOnReading, Each, none_each, one_each, Either, in_neither, in_both, SameSpan, SameComment, SameRemark, NodesMatch, matched_scalars, matched_aliases, matched_empty_sequences, matched_empty_mappings, matched_sequences, matched_mappings, ItemsMatch, no_matched_items, matched_item, PairsMatch, no_matched_pairs, matched_pair, DocumentsMatch, no_matched_documents, matched_document, SameReadings}
+use Rattle.yf_emit.specs.Preservation.ReadingKey.{DependsOnReading, Each, none_each, one_each, Either, in_neither, in_both, PairedOffsets, SameSpan, SameComment, SameRemark, NodesMatch, matched_scalars, matched_aliases, matched_empty_sequences, matched_empty_mappings, matched_sequences, matched_mappings, ItemsMatch, no_matched_items, matched_item, PairsMatch, no_matched_pairs, matched_pair, DocumentsMatch, no_matched_documents, matched_document, SameReadings}
 use Rattle.yf_emit.specs.Layouts.Rows.{Row, all_rows, stream_rows}
 use Rattle.yf_emit.proofs.SameReading.StepComments.{firsts}
 use Rattle.yf_emit.proofs.Keeps.KeyDecides.{as_many_notes, key_decides}
@@ -27,12 +27,12 @@ use Rattle.yf_emit.proofs.Keeps.MatchedRows.{RowMatch, bare_match, begun_match, 
 same_eq : (a m b n : ℕ) → nat_lt a m ≡ nat_lt b n → nat_lt m a ≡ nat_lt n b → (a == m) ≡ (b == n)
 same_eq a m b n e f = grind (arith, nat_tests)
 
-record SourcesMatch (ps : List (ℕ × ℕ)) (b c : Source) : Type 0 where
+record SourcesMatch (ps : PairedOffsets) (b c : Source) : Type 0 where
   remarks : Each (SameRemark ps) b.remarks c.remarks
   leaves : Each (SameSpan ps) b.leaves c.leaves
   keys : Each (SameComment ps) b.key_comments c.key_comments
 
-module _ {ps : List (ℕ × ℕ)} where
+module _ {ps : PairedOffsets} where
   -- What is told by the comments of a list, and by their texts.
 
   among_each : {xs ys : List CommentValue} {d e : CommentValue} → Each (SameComment ps) xs ys → SameComment ps d e → is_among xs d ≡ is_among ys e
@@ -54,7 +54,7 @@ module _ {ps : List (ℕ × ℕ)} where
   next_each : {xs ys : List Span} {a b : Span} {d e : CommentValue} → Each (SameSpan ps) xs ys → SameSpan ps a b → SameComment ps d e
       → is_before d.offset (next_leaf xs a.start) ≡ is_before e.offset (next_leaf ys b.start)
   next_each {xs} {ys} {a} {b} {d} {e} more s k =
-      by (find_each (λ (l : Span). nat_lt a.start l.start) (λ (l : Span). nat_lt b.start l.start) (λ l n c. c.start.after a.start b.start s.paired) more) where
+      by (find_each (λ (l : Span). nat_lt a.start l.start) (λ (l : Span). nat_lt b.start l.start) (λ l n c. c.among.after a.start b.start s.paired) more) where
         by : {o p : Option Span} → Either (SameSpan ps) o p → is_before d.offset (option_map (λ (l : Span). l.start) o) ≡ is_before e.offset (option_map (λ (l : Span). l.start) p)
         by in_neither = refl
         by (in_both c) = c.start.after d.offset e.offset k.paired
@@ -130,7 +130,7 @@ module _ {ps : List (ℕ × ℕ)} where
 
 -- Trees.
 
-module _ {ps : List (ℕ × ℕ)} {cs ds : List CommentValue} (s : Style) (same : Each (SameComment ps) cs ds) where
+module _ {ps : PairedOffsets} {cs ds : List CommentValue} (s : Style) (same : Each (SameComment ps) cs ds) where
   mutual
     blocks : {x y : Node} → NodesMatch ps x y → AlikeBlocks s cs ds x y
     blocks (matched_scalars {at = at} {bt = bt} a e) = alike_lines (matched_alike (matched_scalars {at = at} {bt = bt} a e)) refl
@@ -140,7 +140,7 @@ module _ {ps : List (ℕ × ℕ)} {cs ds : List CommentValue} (s : Style) (same 
     blocks (matched_sequences {at = at} {bt = bt} {flow = true} a e m more) = alike_lines (matched_alike (matched_sequences {at = at} {bt = bt} a e m more)) refl
     blocks (matched_sequences {flow = false} a e m more) = alike_block_sequences a (block_item (blocks m) (item_blocks more))
     blocks (matched_mappings {at = at} {bt = bt} {flow = true} a e i m n more) = alike_lines (matched_alike (matched_mappings {at = at} {bt = bt} a e i m n more)) refl
-    blocks (matched_mappings {flow = false} a e i m n more) = alike_block_mappings a (block_pair (blocks m) (blocks n) (keys_agree s same i m n) (pair_blocks more))
+    blocks (matched_mappings {flow = false} a e i m n more) = alike_block_mappings a (block_pair (blocks m) (blocks n) (keys_agree s same i.begins m n) (pair_blocks more))
 
     item_blocks : {xs ys : Items} → ItemsMatch ps xs ys → AlikeBlockItems s cs ds xs ys
     item_blocks no_matched_items = no_block_items
@@ -148,9 +148,9 @@ module _ {ps : List (ℕ × ℕ)} {cs ds : List CommentValue} (s : Style) (same 
 
     pair_blocks : {qs rs : Pairs} → PairsMatch ps qs rs → AlikeBlockPairs s cs ds qs rs
     pair_blocks no_matched_pairs = no_block_pairs
-    pair_blocks (matched_pair i m n more) = block_pair (blocks m) (blocks n) (keys_agree s same i m n) (pair_blocks more)
+    pair_blocks (matched_pair i m n more) = block_pair (blocks m) (blocks n) (keys_agree s same i.begins m n) (pair_blocks more)
 
-module _ {ps : List (ℕ × ℕ)} (s : Style) (t v : List ℕ) (r q : Lists) (same : Each (SameComment ps) r.comments q.comments) where
+module _ {ps : PairedOffsets} (s : Style) (t v : List ℕ) (r q : Lists) (same : Each (SameComment ps) r.comments q.comments) where
   laid_documents : {ds es : List Doc} {xs ys : List DocumentTree} → DocumentsMatch ps s t r v q ds xs es ys
       → SameDocuments s r.comments q.comments ds (map (normal_document t (setting_of r s)) xs) es (map (normal_document v (setting_of q s)) ys)
   laid_documents no_matched_documents = no_documents
@@ -184,7 +184,7 @@ reading_notes f = sym (ap (λ (m : Lists). length m.on_leaf_line) f.is_normal.is
 
 same_key : {t u v w : List ℕ} {s : Style} (f : IsFormatting t s u) (g : IsFormatting v s w) → SameReadings f g → SameKey f g
 same_key {t} {u} {v} {w} {s} f g a =
-    let ps : List (ℕ × ℕ) = a.pairs in
+    let ps : PairedOffsets = a.pairs in
     let r : Lists = f.reading in
     let q : Lists = g.reading in
     let same : Each (SameComment ps) r.comments q.comments =

@@ -23,11 +23,15 @@ laid_trees {t} {s} f =
     let n = normal_trees f in
     n.same ∙ ap (map (normal_document t (setting_of f.reading s))) (trees_unique f.reading n.trees f.is_normal.trees n.of_reading f.is_normal.of_reading)
 
+-- what a layout tells of the comments is that of the reading
+pub comments_laid : {t u : List ℕ} {s : Style} → IsUtf8 t → (f : IsFormatting t s u)
+    → comments_of 0 (steps_of f.normal (rows_of f.normal s f.writes.trees)) ≡ trimmed_by (leaves_before f.reading) f.reading.comments
+comments_laid {t} {u} {s} utf8 f =
+    let trees : List DocumentTree = map (normal_document t (setting_of f.reading s)) f.is_normal.trees in
+    ap (λ xs. comments_of 0 (steps_of f.normal (rows_of f.normal s xs))) (laid_trees f)
+    ∙ (ap (λ (m : Lists). comments_of 0 (steps_of m (rows_of m s trees))) f.is_normal.is
+    ∙ source_told t s f.reading f.is_normal.trees utf8 f.reads f.is_normal.of_reading)
+
 pub leaves_told : (t u : List ℕ) (s : Style) (q : Lists) → IsUtf8 t → (f : IsFormatting t s u) → ReadingOf u q
     → told_by (leaves_before q) q.comments ≡ trimmed_by (leaves_before f.reading) f.reading.comments
-leaves_told t u s q utf8 f a =
-    let trees : List DocumentTree = map (normal_document t (setting_of f.reading s)) f.is_normal.trees in
-    found_again t u s q utf8 f a
-    ∙ (ap (λ xs. comments_of 0 (steps_of f.normal (rows_of f.normal s xs))) (laid_trees f)
-    ∙ (ap (λ (m : Lists). comments_of 0 (steps_of m (rows_of m s trees))) f.is_normal.is
-    ∙ source_told t s f.reading f.is_normal.trees utf8 f.reads f.is_normal.of_reading))
+leaves_told t u s q utf8 f a = found_again t u s q utf8 f a ∙ comments_laid utf8 f

@@ -30,10 +30,7 @@ use Rattle.yf_flow.specs.NodeOffsets.{Begins, LeafPushed, is_quoted}
 use Rattle.yf_flow.proofs.Ends.Frames.{pushed_longer}
 use Rattle.yf_flow.proofs.Ends.MachineLemmas.{begun_from}
 use Rattle.yf_flow.proofs.Ends.LookLemmas.{single_begins, double_begins, nothing_begins}
-
-plain_is : (x : List ℕ) (i j : ℕ) → plain_found x i j ≡ found j 0 false (scalar PlainStyle (encode_utf8_all x) [] i j)
-unfolding plain_found
-plain_is x i j = refl
+use Rattle.yf_grammar.proofs.FlowReader.NodeExact.{plain_is}
 
 module _ {t : List ℕ} {n : ℤ} {c : Ctx} {i depth j : ℕ} {lead : Lead} {old new : Part} where
   pub plain_leaf : (text x : List ℕ) → begins_content (code t i) ≡ false → text ≡ encode_utf8_all x → Chosen (Plain t n c i) j x

@@ -38,12 +38,7 @@ use Rattle.yf_flow.proofs.Stack.TiedBase.{opened_awaits}
 use Rattle.yf_flow.proofs.Stack.TiedBegun.{opened_kind}
 use Rattle.yf_flow.proofs.Stack.TiedKept.{begin_kept}
 use Rattle.yf_flow.proofs.Stack.TiedTaken.{start_no_lines}
-
-bracket_begins : (kind : CollectionKind) (x : ℕ) → IsOpening kind x → begins_content x ≡ true
-unfolding begins_content
-bracket_begins Sequence x e = rw e refl
-bracket_begins Mapping x e = rw e refl
-bracket_begins Pair x e = absurd e
+use Rattle.yf_flow.proofs.Content.NodeBegunLemmas.{opens_content}
 
 bare_start : (sequence : Bool) → event_with no_props (start_of sequence true) ≡ start_of sequence true
 bare_start true = refl
@@ -128,7 +123,7 @@ module _ {t : List ℕ} {n : ℤ} (c : Ctx) {i depth limit : ℕ} {lead : Lead} 
       let d = a.deepest in
       record {
         answer = ended_at (is_sequence f.kind) i a.high a.known a.bracket;
-        read = content_there (bracket_begins f.kind (code t i) o.bracket) a.parsed;
+        read = content_there (opens_content f.kind (code t i) o.bracket) a.parsed;
         end = a.end;
         json = a.json;
         deepest = omega (arith, r, d);
@@ -152,14 +147,14 @@ module _ {t : List ℕ} {n : ℤ} (c : Ctx) {i depth limit : ℕ} {lead : Lead} 
 
     go : (e : Ending) → EndTied t n (base_at c i room limit lead old (is_sequence f.kind)) e new → ContentEnds t n c room i depth lead old new e
     go (End node) a = content_closed a
-    go NoEnd a = content_there (bracket_begins f.kind (code t i) o.bracket) a
-    go (TooDeepThere p) a = content_there (bracket_begins f.kind (code t i) o.bracket) a
+    go NoEnd a = content_there (opens_content f.kind (code t i) o.bracket) a
+    go (TooDeepThere p) a = content_there (opens_content f.kind (code t i) o.bracket) a
 
 full_content : {t : List ℕ} {c : Ctx} {i depth limit room : ℕ} (n : ℤ) → depth + room ≡ limit → FullAt t i depth limit → ContentAt t room n c i None
 full_content {t} {c} {i} {room = room} n r f =
     let z : 0 ≡ room = let l = f.full in omega arith in
     let k = opened_kind f.kind (code t i) f.bracket in
-    content_there (bracket_begins f.kind (code t i) f.bracket) (subst (λ e. Parses t e (AContent n c i) None) z (too_deep (is_sequence f.kind) k.1))
+    content_there (opens_content f.kind (code t i) f.bracket) (subst (λ e. Parses t e (AContent n c i) None) z (too_deep (is_sequence f.kind) k.1))
 
 module _ {t : List ℕ} {c : Ctx} (n : ℤ) (i depth limit : ℕ) (lead : Lead) (old mid new : Part) where
   leaf_ends : (room : ℕ) (node : Node) (e : Ending) → LeafAt t n c i depth lead old mid node → e ≡ End node → new ≡ mid → ContentEnds t n c room i depth lead old new e

@@ -13,17 +13,16 @@ use Rattle.yf_grammar.specs.FlowReader.Parser.{ParsedNode, Task, Parses, Gap, Co
 use Rattle.yf_grammar.specs.FlowReader.Parser as Parser
 use Rattle.yf_grammar.proofs.FlowReader.FlowStarts.{flow_starts}
 use Rattle.yf_grammar.proofs.Ends.Forward.{whites_forward}
-use Rattle.yf_grammar.proofs.FlowReader.PropertiesEnds.{properties_later}
 use Rattle.yf_grammar.proofs.FlowReader.Sound.{sound, found_is_derived}
 use Rattle.yf_grammar.proofs.Ends.WiderLemmas.{is_inside, inside_not_block, in_flow_inside}
+use Rattle.yf_chars.proofs.Tests.{none_some}
+use Rattle.yf_grammar.proofs.FlowReader.NodesAnswered.{gap_forward}
+use Rattle.yf_props.proofs.NameOrder.{properties_forward}
 
 -- each event that begins an entry has one that begins at the offset or after it
 pub data EntriesFrom (i : ℕ) : List EventInText → Type 0 where
   none_from : EntriesFrom i []
   one_from : {e : EventInText} {es : List EventInText} → ((f : Entry) → e.entry ≡ Some f → i ≤ f.start) → EntriesFrom i es → EntriesFrom i (e ∷ es)
-
-no_some : {X : Type 0} {x : X} → None ≡ Some x → ⊥
-no_some e = cc
 
 some_start : {s : ℕ} {k : Option ℕ} {b : Bool} (f : Entry) → Some (record { start = s; colon = k; blank_before = b }) ≡ Some f → s ≡ f.start
 some_start f e = cc
@@ -37,7 +36,7 @@ from_join none_from r = r
 from_join (one_from f s) r = one_from f (from_join s r)
 
 from_entryless : {i : ℕ} {e : EventInText} {es : List EventInText} → e.entry ≡ None → EntriesFrom i es → EntriesFrom i (e ∷ es)
-from_entryless q r = one_from (λ f p. absurd (no_some (sym q ∙ p))) r
+from_entryless q r = one_from (λ f p. absurd (none_some (sym q ∙ p))) r
 
 from_entering : {i s : ℕ} (k : Option ℕ) {es : List EventInText} → i ≤ s → EntriesFrom i es → EntriesFrom i (first_entering (record { start = s; colon = k; blank_before = false }) es)
 from_entering k l none_from = none_from
@@ -60,10 +59,6 @@ OutcomeFrom t (Parser.AnExplicit n c s i) (Some f) = is_inside c ≡ true → s 
 OutcomeFrom t (Parser.AnImplicit n c s i) (Some f) = is_inside c ≡ true → s ≤ i → EntriesFrom s f.meaning.events
 OutcomeFrom t (Parser.AValue json n c i) (Some f) = is_inside c ≡ true → ColonAt t json c i → EntriesFrom i f.meaning.events
 
-gap_order : {t : List ℕ} {n : ℤ} {c : Ctx} {i k : ℕ} {cs : List CommentValue} → Gap t n c i k cs → i ≤ k
-gap_order (Parser.longest_gap s) = separate_forward s.derived
-gap_order (Parser.no_gap s) = omega arith
-
 node_order : {t : List ℕ} {e i : ℕ} {n : ℤ} {c : Ctx} {f : ParsedNode} → is_block c ≡ false → Parses t e (Parser.ANode n c i) (Some f) → i < f.end
 node_order b p = (flow_starts (found_is_derived b p).0 b).starts.later
 
@@ -80,7 +75,7 @@ outcome_from (Parser.content_read {o = None} a p) = tt
 outcome_from (Parser.content_read {o = Some f} a p) = outcome_from p
 outcome_from (Parser.properties_missed a s) = tt
 outcome_from (Parser.properties_content {i = i} {g = k} {p = p} g s a r) = λ b.
-    let l = properties_later g.derived in
+    let l = properties_forward g.derived in
     let m = separate_forward s.derived in
     from_with i k p.props p.tag_offset (from_earlier (omega arith) (outcome_from r b))
 outcome_from (Parser.properties_plain g s a p) = λ b. from_entryless refl none_from
@@ -93,7 +88,7 @@ outcome_from (Parser.double_read d) = λ b. from_entryless refl none_from
 outcome_from (Parser.double_missed a s) = tt
 outcome_from (Parser.too_deep sequence a) = tt
 outcome_from (Parser.collection_read {c = c} sequence a g p) = λ b.
-    let l = gap_order g in
+    let l = gap_forward g in
     from_collection _ _ refl refl (from_earlier l (outcome_from p (in_flow_inside c b)))
 outcome_from (Parser.collection_missed sequence cs a g p) = tt
 outcome_from (Parser.entries_end a) = λ q. none_from
@@ -101,8 +96,8 @@ outcome_from (Parser.entry_missed a p) = tt
 outcome_from (Parser.entry_last a p g b) = outcome_from p
 outcome_from (Parser.entry_then a p g b h r) = λ q.
     let k = entry_order q p in
-    let l = gap_order g in
-    let m = gap_order h in
+    let l = gap_forward g in
+    let m = gap_forward h in
     from_join (outcome_from p q) (from_earlier (omega arith) (outcome_from r q))
 outcome_from (Parser.entry_then_missed cs ds a p g b h r) = tt
 outcome_from (Parser.entry_unclosed cs a p g b d) = tt
@@ -119,7 +114,7 @@ outcome_from (Parser.lone_value a p) = λ q l. one_from (λ f x. let m = some_st
 outcome_from (Parser.key_missed a p) = tt
 outcome_from (Parser.key_with_value {k = v} {c = c} a p g b r) = λ q l.
     let m = node_order (inside_not_block c q) p in
-    let k = gap_order g in
+    let k = gap_forward g in
     from_join (from_entering (Some v) (omega arith) (from_earlier (omega arith) (outcome_from p (inside_not_block c q)))) (from_earlier (omega arith) (outcome_from r q b))
 outcome_from (Parser.key_without_value {c = c} cs a p g b) = λ q l.
     from_join (from_entering None (omega arith) (from_earlier (omega arith) (outcome_from p (inside_not_block c q)))) (from_entryless refl none_from)

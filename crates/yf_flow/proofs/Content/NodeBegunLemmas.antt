@@ -22,7 +22,7 @@ use Rattle.yf_grammar.specs.FlowReader.Parser.Parses.{alias_read, alias_missed, 
 use Rattle.yf_grammar.specs.FlowReader.FlowContinuations.{Before, Bare, Propertied, NodeOver, bare_there, properties_there, over}
 use Rattle.yf_grammar.proofs.FlowStack.AwaitEntries.{read_as, found_is}
 use Rattle.yf_grammar.proofs.FlowReader.NodeExact.{lone_is}
-use Rattle.yf_grammar.proofs.FlowReader.PlainEnds.{plain_leaps, is_bar, first_no_bar}
+use Rattle.yf_grammar.proofs.FlowReader.PlainEnds.{plain_leaps, is_bar, first_no_bar, no_bar_plain}
 use Rattle.yf_flow.specs.declared.frame.Frame.{Frame}
 use Rattle.yf_flow.specs.declared.frame.CollectionKind.{CollectionKind}
 use Rattle.yf_flow.specs.declared.frame.CollectionKind.TheVariants.{Sequence, Mapping, Pair}
@@ -32,10 +32,6 @@ use Rattle.yf_flow.specs.declared.node.Begun.TheVariants.{Leaf, Opened, Nothing,
 use Rattle.yf_flow.specs.declared.node.Lead.{Lead}
 use Rattle.yf_flow.specs.NodeStarts.{ContentAt, content_there, plain_there, plain_missing, PartGrown, LeafAt, OpenedAt, FullAt, IsOpening, is_sequence, is_lined, ContentBegun, bare_lead, lead_event, leaf_event}
 use Rattle.yf_flow.specs.NodeParts.{given, props_before, tag_before, comments_before, opened_event, NodeLeaf, NodeOpened, no_node, no_content, NodeFull, NodeBegun}
-
-no_bar_plain : (c : ℕ) → is_bar c ≡ false → begins_plain c ≡ true
-unfolding is_bar begins_plain begins_alias begins_properties begins_content
-no_bar_plain c e = grind (arith, nat_tests)
 
 other_begins : (c : ℕ) → begins_content c ≡ false → begins_plain c ≡ false → (begins_alias c ≡ true) ⊎ (begins_properties c ≡ true)
 unfolding begins_plain begins_alias begins_properties begins_content
@@ -233,7 +229,7 @@ begun_full {t} {n} {c} {i} {k} {depth} {limit} {b} p v q f = record {
   full = f.full;
 }
 
-opens_content : (kind : CollectionKind) (x : ℕ) → IsOpening kind x → begins_content x ≡ true
+pub opens_content : (kind : CollectionKind) (x : ℕ) → IsOpening kind x → begins_content x ≡ true
 unfolding begins_content
 opens_content Sequence x e = ap begins_content e
 opens_content Mapping x e = ap begins_content e

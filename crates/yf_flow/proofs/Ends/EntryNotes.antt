@@ -15,6 +15,7 @@ use Rattle.yf_flow.specs.declared.frame.Role.{Role}
 use Rattle.yf_flow.specs.declared.frame.Role.TheVariants.{Item, Key, Value}
 use Rattle.yf_flow.specs.StackMeaning.{EntryNoted, NoteOf, entryless, entry_noted, entry_from, entry_of}
 use Rattle.yf_flow.specs.EntryOfRole.{EntryBegun}
+use Rattle.yf_chars.proofs.CharFacts.{feed_no_ns}
 
 -- an entry is its start, its colon and its note
 pub entry_is : {t : List ℕ} {s : ℕ} (e : Entry) → EntryNoted t s None e → record (entry_from s) { blank_before = e.blank_before } ≡ e
@@ -29,10 +30,10 @@ some_noted {t} {s} e x o q n =
     (subst (λ z. NoteOf t (record e { entry = Some (entry_from s) }) (record e { entry = Some z })) (entry_is x n)
     (entry_noted {e = record e { entry = Some (entry_from s) }} (entry_from s) refl n.note))
 
-item_value : Item ≡ Value → ⊥
+pub item_value : Item ≡ Value → ⊥
 item_value e = cc
 
-key_value : Key ≡ Value → ⊥
+pub key_value : Key ≡ Value → ⊥
 key_value e = cc
 
 pub begun_note : {t : List ℕ} {o : Option Entry} (s : ℕ) (role : Role) (e : EventInText) → EntryBegun t s role o → ((role ≡ Value → ⊥) → code t s ≢ 10)
@@ -41,10 +42,6 @@ begun_note {t} s Value e b f =
     subst (λ z. NoteOf t (record e { entry = None }) (record e { entry = z })) (sym b) (entryless {e = record e { entry = None }} refl)
 begun_note {o = o} s Item e b f = some_noted e b.0 o b.1 (b.2 (f item_value))
 begun_note {o = o} s Key e b f = some_noted e b.0 o b.1 (b.2 (f key_value))
-
-feed_ns : is_ns_char 10 ≡ false
-unfolding is_ns_char is_nb_char is_printable is_between is_break_char is_white
-feed_ns = refl
 
 feed_content : begins_content 10 ≡ false
 unfolding begins_content
@@ -55,7 +52,7 @@ unfolding begins_properties
 feed_properties = refl
 
 pub node_no_feed : {t : List ℕ} {e p : ℕ} {n : ℤ} {d : Ctx} {f : ParsedNode} → is_block d ≡ false → Parses t e (ANode n d p) (Some f) → code t p ≢ 10
-node_no_feed b r q = true≢false (sym (flow_starts (found_is_derived b r).0 b).starts.visible.ns ∙ ap is_ns_char q ∙ feed_ns)
+node_no_feed b r q = true≢false (sym (flow_starts (found_is_derived b r).0 b).starts.visible.ns ∙ ap is_ns_char q ∙ feed_no_ns)
 
 pub over_no_feed : {t : List ℕ} {n : ℤ} {d : Ctx} {p k : ℕ} {b : Before} → NodeOver t n d p k b → code t p ≢ 10
 over_no_feed (bare_there c) q = true≢false (sym c ∙ ap begins_content q ∙ feed_content)

@@ -14,7 +14,7 @@ use Rattle.yf_flow.specs.NodeStarts.{is_lined}
 use Rattle.yf_flow.specs.StackMeaning.{NoteOf, entryless, entry_noted, NoteFilled, NotesFilled, no_events, kept_before, event_before}
 
 -- where no block scalar is before, a blank line is met or not
-since_zero : {t : List ℕ} {j : ℕ} → BlankBefore t j → BlankSince t 0 j
+pub since_zero : {t : List ℕ} {j : ℕ} → BlankBefore t j → BlankSince t 0 j
 since_zero (line_before b k) = blank_line (omega arith) b k
 since_zero (gap_before b e) = past_gap (since_zero b) e
 

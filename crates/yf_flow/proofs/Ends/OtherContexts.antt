@@ -10,6 +10,7 @@ use Rattle.yf_grammar.specs.Productions.Meaning.{Meaning}
 use Rattle.yf_grammar.specs.Productions.ReadParts.{FlowNodePart}
 use Rattle.yf_grammar.specs.Productions.Grammar.{FlowNode, NodeOf, JsonContent, Derives}
 use Rattle.yf_grammar.specs.Productions.Grammar.Derives.{flow_node, an_alias, a_plain, a_plain_with, properties_alone, a_json, a_json_with, a_single, a_double, an_empty_collection, a_collection}
+use Rattle.yf_grammar.proofs.FlowReader.NodesAnswered.{flow_not_block}
 
 key_is_no_block : (c : Ctx) → is_key c ≡ true → is_block c ≡ false
 key_is_no_block BlockOut e = absurd (true≢false (sym e))
@@ -19,21 +20,13 @@ key_is_no_block FlowIn e = refl
 key_is_no_block BlockKey e = refl
 key_is_no_block FlowKey e = refl
 
-flow_is_no_block : (c : Ctx) → is_flow c ≡ true → is_block c ≡ false
-flow_is_no_block BlockOut e = absurd (true≢false (sym e))
-flow_is_no_block BlockIn e = absurd (true≢false (sym e))
-flow_is_no_block FlowOut e = refl
-flow_is_no_block FlowIn e = refl
-flow_is_no_block BlockKey e = refl
-flow_is_no_block FlowKey e = refl
-
 plain_context : {t : List ℕ} {i j : ℕ} {n : ℤ} (c : Ctx) {x : List ℕ} → PlainText t n c i j x → is_block c ≡ false
 plain_context c (as_key k l) = key_is_no_block c k
-plain_context c (as_lines f l s) = flow_is_no_block c f
+plain_context c (as_lines f l s) = flow_not_block c f
 
 inside_context : {A : Type 0} {t : List ℕ} {put : List ℕ → List A} {C B : ℕ → ℕ → List A → Type 0} (c : Ctx) {i j : ℕ} {x : List A} → Inside t put C B c i j x → is_block c ≡ false
 inside_context c (inside_key k l) = key_is_no_block c k
-inside_context c (inside_lines f l s) = flow_is_no_block c f
+inside_context c (inside_lines f l s) = flow_not_block c f
 
 module _ {t : List ℕ} where
   json_context : {h i j : ℕ} {n : ℤ} {c : Ctx} {x : Meaning} → Derives t h (JsonContent n c) i j x → is_block c ≡ false

@@ -10,7 +10,6 @@ use Rattle.yf_chars.proofs.TextLemmas.{byte_from_code}
 use Rattle.yf_events.specs.declared.event.Entry.{Entry}
 use Rattle.yf_events.specs.declared.part.Part.{Part}
 use Rattle.yf_grammar.specs.FlowReader.FlowContinuations.{Before, NodeOver, bare_there, properties_there}
-use Rattle.yf_grammar.proofs.FlowReader.PropertiesEnds.{properties_later}
 use Rattle.yf_props.proofs.SeparationEnds.{separate_forward}
 use Rattle.yf_grammar.specs.Refusal.{is_opener, openers}
 use Rattle.yf_flow.specs.declared.frame.Frame.{Frame}
@@ -23,6 +22,7 @@ use Rattle.yf_flow.specs.declared.node.Begun.TheVariants.{Leaf, Opened, Nothing,
 use Rattle.yf_flow.specs.Machine.{BegunAt}
 use Rattle.yf_flow.specs.NodeParts.{NodeLeaf, NodeOpened, NodeFull, NodeBegun}
 use Rattle.yf_flow.specs.Depth.{openers_from, DepthCounted, AllCounted, NodeCounted, BegunCounted}
+use Rattle.yf_props.proofs.NameOrder.{properties_forward}
 
 -- further on there are no more of them
 openers_drop : (t : List ℕ) (i j : ℕ) → i ≤ j → openers (drop j t) ≤ openers (drop i t)
@@ -111,7 +111,7 @@ module _ {t : List ℕ} {total i : ℕ} where
 -- where a node is awaited with so many collections open
 over_later : {t : List ℕ} {n : ℤ} {c : Ctx} {i k : ℕ} {b : Before} → NodeOver t n c i k b → i ≤ k
 over_later (bare_there e) = omega arith
-over_later (properties_there d s e) = let x = properties_later d.derived in let y = separate_forward s.derived in omega arith
+over_later (properties_there d s e) = let x = properties_forward d.derived in let y = separate_forward s.derived in omega arith
 
 module _ {t : List ℕ} {n : ℤ} {c : Ctx} {i depth : ℕ} {entry : Option Entry} {old new : Part} (total : ℕ) where
   pub leaf_counted : {node : Node} → i ≤ node.end → depth + openers_from t i ≤ total → NodeLeaf t n c i depth entry old new node → node.deepest + openers_from t node.end ≤ total

@@ -11,7 +11,7 @@ use Rattle.yf_grammar.specs.FlowReader.Parser.{ParsedNode, PairKey, ANode, AnEnt
 use Rattle.yf_grammar.specs.FlowReader.Parser.Parses.{pair_too_deep}
 use Rattle.yf_grammar.specs.FlowReader.FlowContinuations.{IsEntry, with_pair, wrapped, not_yet, Within}
 use Rattle.yf_grammar.proofs.FlowStack.AwaitEntries.{entry_fails}
-use Rattle.yf_grammar.proofs.FlowStack.AwaitValues.{item_alone}
+use Rattle.yf_grammar.proofs.FlowStack.AwaitValues.{item_alone, nothing_before}
 use Rattle.yf_grammar.proofs.WrittenTexts.LeafBack.{noting_nothing}
 use Rattle.yf_flow.specs.declared.frame.Frame.{Frame}
 use Rattle.yf_flow.specs.declared.frame.CollectionKind.TheVariants.{Pair}
@@ -26,10 +26,7 @@ use Rattle.yf_flow.proofs.Stack.TiedFails.{all_fails}
 use Rattle.yf_flow.proofs.Stack.TiedClose.{frame_depth}
 use Rattle.yf_flow.proofs.Stack.TiedNodes.{reaching_framed}
 use Rattle.yf_flow.proofs.Stack.TiedPairs.{kind_no_pair}
-
-colon_no_white : is_white 58 ≡ false
-unfolding is_white
-colon_no_white = refl
+use Rattle.yf_chars.proofs.CharFacts.{colon_no_white}
 
 pub key_no_item : Key ≡ Item → ⊥
 key_no_item e = cc
@@ -47,17 +44,13 @@ no_key_of_pair {t} {d} {s} {k} f r z free m q =
     let e = (many_unique t is_white r z q.run (ap is_white q.colon.colon ∙ colon_no_white)).0 in
     free (subst (λ j. KeyThere t d s f.json j) (sym e) (record { colon = q.colon; line = record { line = q.line; short = q.short } }))
 
-nothing_more : (x : Meaning) → x ≡ only [] 0 ⊕ x
-unfolding only ◌⊕◌
-nothing_more x = refl
-
 item_entry : {t : List ℕ} {n : ℤ} {d : Ctx} {s e p g : ℕ} {role : Role} {sequence pair : Bool} {y : Meaning} (f : ParsedNode) → NodeIn t n d s role sequence e pair p g y → role ≡ Item → Parses t e (ANode n d p) (Some f) → ((k : ℕ) → PairKey t d s f k → ⊥)
     → IsEntry t (with_pair pair e) sequence n d s f.end (with_pair pair (max g f.height)) (wrapped pair s (y ⊕ entering s None f.meaning))
 item_entry {t} {n} {d} {s} {e} f (item_in a) q r free =
     let h : f.height ≡ max 0 f.height = omega arith in
     let l : IsEntry t e true n d s f.end (max 0 f.height) (entering s None f.meaning) =
     subst (λ z. IsEntry t e true n d s f.end z (entering s None f.meaning)) h (item_alone a f r free) in
-    subst (λ z. IsEntry t e true n d s f.end (max 0 f.height) z) (nothing_more (entering s None f.meaning)) l
+    subst (λ z. IsEntry t e true n d s f.end (max 0 f.height) z) (nothing_before (entering s None f.meaning)) l
 item_entry f (key_in a b) q r free = absurd (key_no_item q)
 item_entry f (value_in a b) q r free = absurd (value_no_item q)
 

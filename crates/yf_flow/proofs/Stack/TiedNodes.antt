@@ -21,6 +21,7 @@ use Rattle.yf_flow.specs.declared.frame.Role.TheVariants.{Item, Key, Value}
 use Rattle.yf_flow.specs.declared.frame.Node.{Node}
 use Rattle.yf_flow.specs.StackMeaning.{first_events, in_role, written_in, PartSoFar, FramesOfEntry, of_collection, of_pair, NodeIn, item_in, key_in, value_in, Base, AtEnded, AtEntryDone}
 use Rattle.yf_flow.proofs.Stack.TiedEnds.{written_as}
+use Rattle.yf_flow.proofs.Ends.EntryNotes.{item_value, key_value}
 
 -- the frame of a collection with a node in it
 pub reaching_framed : {total e h g m k : ℕ} {sequence pair : Bool} {f : Frame} {rest : List Frame} (o : Frame) (y deepest : ℕ) → deepest ≡ f.depth + y → o.kind ≡ f.kind → o.event ≡ f.event
@@ -30,20 +31,14 @@ reaching_framed o y deepest q a b c d (of_collection f) =
 reaching_framed o y deepest q a b c d (of_pair f s) =
     let x = f.deepest in let z = f.room in of_pair (record { kind = a ∙ f.kind; event = b ∙ f.event; room = omega arith; deepest = omega arith }) s
 
-item_no_value : Item ≡ Value → ⊥
-item_no_value e = cc
-
 item_no_key : Item ≡ Key → ⊥
 item_no_key e = cc
-
-key_no_value : Key ≡ Value → ⊥
-key_no_value e = cc
 
 -- the node of a value
 value_entry : {t : List ℕ} {n : ℤ} {d : Ctx} {s e p g : ℕ} {role : Role} {sequence pair : Bool} {y : Meaning} (f : ParsedNode) → NodeIn t n d s role sequence e pair p g y → role ≡ Value
     → Parses t e (ANode n d p) (Some f) → IsEntry t (with_pair pair e) sequence n d s f.end (with_pair pair (max g f.height)) (wrapped pair s (y ⊕ f.meaning))
-value_entry f (item_in a) q r = absurd (item_no_value q)
-value_entry f (key_in a b) q r = absurd (key_no_value q)
+value_entry f (item_in a) q r = absurd (item_value q)
+value_entry f (key_in a b) q r = absurd (key_value q)
 value_entry f (value_in a b) q r = a.some f r
 
 last_finish : (x y : Meaning) → (x ⊕ y).finish ≡ y.finish
@@ -82,7 +77,7 @@ pub key_read : {t : List ℕ} {n : ℤ} {d : Ctx} {s e p g : ℕ} {role : Role} 
     → KeyRead t n d s sequence e pair p g y
 key_read (item_in a) q = absurd (item_no_key q)
 key_read (key_in a b) q = record { nothing_open = refl; awaited = a; no_colon = b }
-key_read (value_in a b) q = absurd (key_no_value (sym q))
+key_read (value_in a b) q = absurd (key_value (sym q))
 
 lone_key : {t : List ℕ} {n : ℤ} {d : Ctx} {s e p g k : ℕ} {sequence pair : Bool} {y : Meaning} {cs : List CommentValue} (f : ParsedNode) → KeyRead t n d s sequence e pair p g y
     → Parses t e (ANode n d p) (Some f) → Gap t n d f.end k cs → (ColonAt t f.json d k → ⊥)

@@ -21,7 +21,7 @@ use Rattle.yf_flow.proofs.Ends.NotedLemmas.{noted_coloned, noted_inserted}
 use Rattle.yf_flow.proofs.Stack.TiedEnds.{written_as}
 use Rattle.yf_flow.proofs.Stack.TiedKept.{entries_kept}
 use Rattle.yf_flow.proofs.Stack.TiedClose.{frame_depth}
-use Rattle.yf_flow.proofs.Ends.EntryNotes.{node_no_feed}
+use Rattle.yf_flow.proofs.Ends.EntryNotes.{node_no_feed, item_value}
 use Rattle.yf_flow.proofs.Stack.TiedItems.{key_no_item, value_no_item}
 
 -- the note of the `:` in the first event after others
@@ -62,9 +62,6 @@ pair_begun {t} {kept} {old} {new} w x s v m event le p e q a b c =
 nothing_length : (w : Meaning) (begin : EventInText) (x : Meaning) → length (entries_written w begin x ⊕ only [] 0).events ≡ length (entries_written w begin x).events
 unfolding ◌⊕◌ only
 nothing_length w begin x = ap (λ z. length z) (append-nil ((w.events ++ begin ∷ []) ++ x.events))
-
-item_value : Item ≡ Value → ⊥
-item_value e = cc
 
 -- nothing is written before an item
 item_length : {t : List ℕ} {n : ℤ} {d : Ctx} {s e p g : ℕ} {role : Role} {sequence pair : Bool} {y : Meaning} (w : Meaning) (begin : EventInText) (x : Meaning) → NodeIn t n d s role sequence e pair p g y → role ≡ Item

@@ -15,11 +15,12 @@ use Rattle.yf_grammar.proofs.BlockOutcomes.BlockClaims.{IsFound, Unheld}
 use Rattle.yf_grammar.proofs.BlockOutcomes.BlockGaps.{Came, on_the_line, on_a_line, CameBelow, came_below, gap_reached, past_unheld}
 use Rattle.yf_grammar.proofs.BlockContent.HaltGaps.{HaltsCame, halts_on_the_line, halts_on_a_line, HaltsBelow, halts_there, halts_before, gap_halts}
 use Rattle.yf_grammar.proofs.BlockOutcomes.BlockItems.{longest_of, longest_some}
-use Rattle.yf_grammar.proofs.BlockOutcomes.OutcomeMade.{found_some, told_exact, told_longest, headed_unheld, found_moved, longest_moved}
+use Rattle.yf_grammar.proofs.BlockOutcomes.OutcomeMade.{told_exact, told_longest, headed_unheld, found_moved, longest_moved}
+use Rattle.yf_grammar.proofs.FlowStack.AwaitEntries.{found_is}
 
 -- what is found at a place reaches it
 pub longest_found : {o : Option ParsedNode} {j h : ℕ} {x : Meaning} → IsFound o j h x → Longest o j x
-longest_found {o} {j} {h} {x} f = longest_of (record { end = j; height = h; json = false; meaning = x }) (f.is ∙ found_some j h false x) (inr (refl, refl))
+longest_found {o} {j} {h} {x} f = longest_of (record { end = j; height = h; json = false; meaning = x }) (f.is ∙ found_is j h false x) (inr (refl, refl))
 
 -- after what is ahead and keeps no comments
 plainly : {a : Ahead} {cs : List CommentValue} (x : Meaning) → Unheld a → cs ≡ [] → headed a x ≡ meaning_after cs x
@@ -28,7 +29,7 @@ plainly x n e = headed_unheld x n ∙ sym (after_nothing x) ∙ ap (λ w. meanin
 past_is_unheld : {a : Ahead} (cs : List CommentValue) → Unheld a → Unheld (past a cs)
 past_is_unheld {a} cs n = subst (λ w. Unheld w) (sym (past_unheld cs n)) n
 
-past_headed : {a : Ahead} (cs : List CommentValue) (x : Meaning) → Unheld a → headed (past a cs) x ≡ x
+pub past_headed : {a : Ahead} (cs : List CommentValue) (x : Meaning) → Unheld a → headed (past a cs) x ≡ x
 past_headed cs x n = ap (λ w. headed w x) (past_unheld cs n) ∙ headed_unheld x n
 
 module _ {t : List ℕ} {e : ℕ} {n : ℤ} {c : Ctx} {a : Ahead} {k j h : ℕ} {cs : List CommentValue} {o : Option ParsedNode} (x : Meaning) where

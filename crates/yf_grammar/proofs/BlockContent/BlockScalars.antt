@@ -39,6 +39,7 @@ use Rattle.yf_grammar.proofs.BlockOutcomes.BlockGaps.{block_no_key}
 use Rattle.yf_grammar.proofs.BlockOutcomes.BlockStarts.{scalar_later}
 use Rattle.yf_grammar.proofs.BlockContent.BlockLeaves.{gap_exact, gap_longest, longest_found}
 use Rattle.yf_grammar.proofs.BlockOutcomes.OutcomeEnds.{leaf_is}
+use Rattle.yf_grammar.proofs.WrittenTexts.LeafBack.{noting_nothing}
 
 -- the sign of a block scalar
 unfoldable pub is_bar_sign : ℕ → Bool
@@ -67,10 +68,6 @@ sign_no_sign c e = grind (arith, nat_tests)
 sign_indicator : (c : ℕ) → is_bar_sign c ≡ true → is_indicator c ≡ true
 unfolding is_bar_sign is_indicator is_flow_indicator
 sign_indicator c e = grind (arith, nat_tests)
-
-pub noting_nothing : (x : Meaning) → noting x [] ≡ x
-unfolding noting
-noting_nothing x = ap (λ w. record x { comments = w }) (append-nil x.comments)
 
 pub sign_no_first : (t : List ℕ) (c : Ctx) (i : ℕ) → is_bar_sign (code t i) ≡ true → is_plain_first t c i ≡ false
 sign_no_first t c i e =

@@ -33,6 +33,8 @@ use Rattle.yf_grammar.proofs.FlowReader.PlainEnds.{plain_leaps, first_no_bar, no
 use Rattle.yf_grammar.proofs.BlockContent.PlainStops.{plain_stops}
 use Rattle.yf_grammar.proofs.Ends.WiderLemmas.{same_context}
 use Rattle.yf_grammar.proofs.Ends.Ways.{chosen_one}
+use Rattle.yf_chars.proofs.Tests.{not_true}
+use Rattle.yf_grammar.proofs.FlowReader.Outcome.{content_no_alias}
 
 -- a flow node without properties
 pub data BareNode (t : List ℕ) (n : ℤ) : ℕ → ℕ → ℕ → Meaning → Type 0 where
@@ -45,17 +47,9 @@ quote_ns : is_ns_char 39 ≡ true
 unfolding is_ns_char is_nb_char is_printable is_between is_break_char is_white
 quote_ns = refl
 
-content_begins_no_alias : (c : ℕ) → begins_content c ≡ true → begins_alias c ≡ false
-unfolding begins_content begins_alias
-content_begins_no_alias c e = grind (arith, nat_tests)
-
 plain_begins_no_alias : (c : ℕ) → begins_plain c ≡ true → begins_alias c ≡ false
 unfolding begins_plain begins_content begins_alias begins_properties
 plain_begins_no_alias c e = grind (arith, nat_tests)
-
-not_true : (b : Bool) → (b ≡ true → ⊥) → b ≡ false
-not_true true f = absurd (f refl)
-not_true false f = refl
 
 -- from what an outcome is to its end
 pub record SameFound (f : ParsedNode) (l h : ℕ) (x : Meaning) : Type 0 where
@@ -97,7 +91,7 @@ module _ {t : List ℕ} where
   plain_may_leaf {k = k} a p = record { no_props = bare_no_properties (bare_plain p); no_alias = λ e. plain_begins_no_alias (code t k) (plain_begins p) }
 
   pub content_may_leaf : {n : ℤ} {h k l : ℕ} {x : Meaning} (a : Ahead) → Derives t h (JsonContent n FlowOut) k l x → MayLeaf t a k
-  content_may_leaf {k = k} a d = record { no_props = bare_no_properties (bare_content d); no_alias = λ e. content_begins_no_alias (code t k) (flow_starts d refl).content }
+  content_may_leaf {k = k} a d = record { no_props = bare_no_properties (bare_content d); no_alias = λ e. content_no_alias (code t k) (flow_starts d refl).content }
 
 module _ {t : List ℕ} (u : IsUtf8 t) where
   -- content before the end of a line is found as it is derived

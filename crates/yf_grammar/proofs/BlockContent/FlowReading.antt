@@ -17,7 +17,7 @@ use Rattle.yf_grammar.specs.FlowReader.Parser.{found}
 use Rattle.yf_grammar.specs.BlockReader.BlockParser.{PropertiesHeld, Props, headed, alone, MayLeaf}
 use Rattle.yf_grammar.proofs.Ends.BlankRuns.{no_start_past}
 use Rattle.yf_grammar.proofs.BlockOutcomes.NodesAfter.{properties_after}
-use Rattle.yf_grammar.proofs.FlowReader.PropertiesEnds.{properties_begin, properties_later}
+use Rattle.yf_grammar.proofs.FlowReader.PropertiesEnds.{properties_begin}
 use Rattle.yf_grammar.proofs.Ends.WiderLemmas.{key_properties}
 use Rattle.yf_grammar.proofs.BlockOutcomes.BlockClaims.{NodeExact, NodeHaltsReach}
 use Rattle.yf_grammar.proofs.BlockOutcomes.BlockEmpty.{MayBeAlone, alone_exact, alone_reached}
@@ -29,9 +29,11 @@ use Rattle.yf_grammar.proofs.BlockContent.LeafHalts.{bare_leaf_reached}
 use Rattle.yf_grammar.proofs.BlockContent.BareNodes.{bare_starts, bare_no_sign, bare_not_key, bare_owed, bare_halting}
 use Rattle.yf_grammar.proofs.BlockContent.InlineViews.{NotKey, whole_reads, halts_reads}
 use Rattle.yf_grammar.proofs.BlockContent.LeafKeys.{node_no_key}
-use Rattle.yf_grammar.proofs.BlockOutcomes.OutcomeMade.{found_some, found_moved, longest_moved, headed_unheld}
+use Rattle.yf_grammar.proofs.BlockOutcomes.OutcomeMade.{found_moved, longest_moved, headed_unheld}
 use Rattle.yf_grammar.proofs.BlockContent.PropertiesLines.{held}
 use Rattle.yf_grammar.proofs.BlockContent.PropertiesWalk.{begins_visible, to_line_end, to_leaf}
+use Rattle.yf_grammar.proofs.FlowStack.AwaitEntries.{found_is}
+use Rattle.yf_props.proofs.NameOrder.{properties_forward}
 
 -- comments after a node with properties are those after the node
 pub noting_with : (es ds : List CommentValue) (props : PropsValue) (tag : Option ℕ) (f g : ℕ) (x : Meaning)
@@ -47,7 +49,7 @@ alone_held p f g k ds = refl
 held_alone : (p : PropertiesValue) (f g : ℕ) → MayBeAlone (Props (held p f g)) (λ ds. noting (meaning_after p.comments (with_props p.props p.tag_offset f g (empty_node g))) ds)
 held_alone p f g = record {
   answer = λ k ds. record { end = k; height = 0; json = false; meaning = noting (meaning_after p.comments (with_props p.props p.tag_offset f g (empty_node g))) ds };
-  is = λ k ds. alone_held p f g k ds ∙ found_some k 0 false (noting (meaning_after p.comments (with_props p.props p.tag_offset f g (empty_node g))) ds);
+  is = λ k ds. alone_held p f g k ds ∙ found_is k 0 false (noting (meaning_after p.comments (with_props p.props p.tag_offset f g (empty_node g))) ds);
   ends = λ k ds. refl;
   means = λ k ds. refl;
 }
@@ -69,7 +71,7 @@ module _ {t : List ℕ} (u : IsUtf8 t) where
   with_owed {h} {i} {k} {g} {m} {l} {j} {n} {c} {cs} {es} {ds} {p} {x} s q v b d e le z follow flag a y o r =
       let body = noting (meaning_after (p.comments ++ es) (with_props p.props p.tag_offset k g x)) ds in
       let x1 : i ≤ k = separate_forward s in
-      let x2 : k < g = properties_later q in
+      let x2 : k < g = properties_forward q in
       let x3 : g ≤ m = separate_forward v in
       let st = bare_starts b.bare in
       let x4 : m < l = st.later in
@@ -89,7 +91,7 @@ module _ {t : List ℕ} (u : IsUtf8 t) where
   with_halting {h} {i} {k} {g} {m} {l} {j} {n} {c} {cs} {es} {ds} {p} {x} s q v b d e le z flag a y ws allowed o r =
       let body = noting (meaning_after (p.comments ++ es) (with_props p.props p.tag_offset k g x)) ds in
       let x1 : i ≤ k = separate_forward s in
-      let x2 : k < g = properties_later q in
+      let x2 : k < g = properties_forward q in
       let x3 : g ≤ m = separate_forward v in
       let st = bare_starts b.bare in
       let x4 : m < l = st.later in
@@ -109,7 +111,7 @@ module _ {t : List ℕ} (u : IsUtf8 t) where
   alone_owed {i} {k} {l} {j} {n} {c} {cs} {ds} {p} s q d e le z follow flag a y o r =
       let body = noting (meaning_after p.comments (with_props p.props p.tag_offset k l (empty_node l))) ds in
       let x1 : i ≤ k = separate_forward s in
-      let x2 : k < l = properties_later q in
+      let x2 : k < l = properties_forward q in
       let x5 : l ≤ j = rows_order d in
       gap_exact body FlowOut refl s (begins_visible (properties_begin q)) z (omega arith) y
       (λ cols a' n' r' w'. to_line_end u (whole_reads (λ i. never_none i)) FlowOut refl q d n' (clear_back x1 z) x5 w'
@@ -122,7 +124,7 @@ module _ {t : List ℕ} (u : IsUtf8 t) where
   alone_halting {i} {k} {l} {j} {n} {c} {cs} {ds} {p} s q d e le z flag a y ws allowed o r =
       let body = noting (meaning_after p.comments (with_props p.props p.tag_offset k l (empty_node l))) ds in
       let x1 : i ≤ k = separate_forward s in
-      let x2 : k < l = properties_later q in
+      let x2 : k < l = properties_forward q in
       let x5 : l ≤ j = rows_order d in
       gap_longest body FlowOut refl s (begins_visible (properties_begin q)) z (omega arith) y
       (λ cols a' n' r' w'. to_line_end u (halts_reads (λ i. longest_some i refl) ws) FlowOut refl q d n' (clear_back x1 z) x5 w'

@@ -19,12 +19,12 @@ use Rattle.yf_grammar.proofs.BlockContent.FlowLeaves.{BareNode, bare_alias, bare
 use Rattle.yf_grammar.proofs.FlowReader.FlowStarts.{flow_starts}
 use Rattle.yf_grammar.proofs.FlowReader.Longest.{Longest}
 use Rattle.yf_grammar.proofs.Ends.NodeExits.{alias_begins, alias_no_plain, plain_no_content, node_alias, none_found}
-use Rattle.yf_grammar.proofs.BlockOutcomes.OutcomeMade.{found_some}
 use Rattle.yf_grammar.proofs.BlockOutcomes.OutcomeEnds.{with_plain_is}
+use Rattle.yf_grammar.proofs.FlowStack.AwaitEntries.{found_is}
 
 -- what is found later reaches it, and so does what is found there with that meaning
 pub reached_by : {o : Option ParsedNode} {k h j : ℕ} {y x : Meaning} → IsFound o k h y → j ≤ k → (k ≡ j → x ≡ y) → Longest o j x
-reached_by {o} {k} {h} {j} {y} {x} f l e = longest_of (record { end = k; height = h; json = false; meaning = y }) (f.is ∙ found_some k h false y)
+reached_by {o} {k} {h} {j} {y} {x} f l e = longest_of (record { end = k; height = h; json = false; meaning = y }) (f.is ∙ found_is k h false y)
     (⊎_elim (λ (m : j < k). inl m) (λ (m : k ≤ j). let same : j ≡ k = omega arith in inr (same, e (sym same))) (cases_lt j k))
 
 module _ {t : List ℕ} (u : IsUtf8 t) where

@@ -36,7 +36,7 @@ use Rattle.yf_grammar.proofs.BlockOutcomes.BlockSigns.{line_end_stop}
 use Rattle.yf_grammar.proofs.FlowReader.ParserLemmas.{whites_in_line}
 use Rattle.yf_grammar.proofs.FlowReader.PlainEnds.{plain_leaps, plain_later, first_no_bar, no_bar_plain, no_bar_content, no_bar_properties}
 use Rattle.yf_grammar.proofs.BlockContent.PlainTails.{Tail, tail_of}
-use Rattle.yf_grammar.proofs.FlowReader.PropertiesEnds.{properties_before, properties_later}
+use Rattle.yf_grammar.proofs.FlowReader.PropertiesEnds.{properties_before}
 use Rattle.yf_grammar.proofs.Ends.WiderLemmas.{same_context}
 use Rattle.yf_grammar.proofs.BlockOutcomes.BlockFirst.{colon_visible, no_line_end_before, key_no_line_end}
 use Rattle.yf_grammar.proofs.BlockOutcomes.BlockGaps.{whites_order}
@@ -45,6 +45,8 @@ use Rattle.yf_grammar.proofs.BlockOutcomes.BlockKeyLines.{node_keyed}
 use Rattle.yf_grammar.proofs.BlockOutcomes.HaltsLater.{key_order}
 use Rattle.yf_grammar.proofs.BlockContent.InlineViews.{NotKey}
 use Rattle.yf_grammar.proofs.BlockContent.PropertiesLines.{Spread, on_one_line, on_two_lines, spread}
+use Rattle.yf_grammar.proofs.FlowReader.Longest.{none_reaches}
+use Rattle.yf_props.proofs.NameOrder.{properties_forward}
 
 quote_no_end : (c : ℕ) → c ≡ 39 → is_white_or_end c ≡ true → ⊥
 unfolding is_white_or_end is_white is_break_char
@@ -53,10 +55,6 @@ quote_no_end c e f = grind (arith, nat_tests)
 propertied_end : (p : PropertiesValue) (cs : List CommentValue) (i g : ℕ) (f : ParsedNode) {v : ParsedNode} → propertied p cs i g f ≡ Some v → f.end ≡ v.end
 unfolding propertied
 propertied_end p cs i g f e = cc
-
-reaches_some : {t : List ℕ} {j h : ℕ} {x : Meaning} → Reaches t None j h x → ⊥
-reaches_some {j = j} {h = h} {x = x} (reaches e) = none_found j h true x e
-reaches_some (passes f e l q) = none_some e
 
 module _ {t : List ℕ} (u : IsUtf8 t) where
   -- what was found before a `:` is derived as a key
@@ -133,7 +131,7 @@ module _ {t : List ℕ} (u : IsUtf8 t) where
   leaf_no_key {p = p} {n = n} (a_plain_with {g = g} {k = k} q s a) d c m r b f =
       let bar = first_no_bar t FlowOut k (plain_leaps a).0 in
       let w = (flow_starts (a_plain {n = n} a) refl).starts.visible in
-      let i = properties_later q in
+      let i = properties_forward q in
       let o = separate_forward s in
       past_plain s w (no_bar_content (code t k) bar) (record { text = a; clear = clear_back (omega arith) c }) d b (omega arith) f
       (past_properties q (λ h z y. properties_before u q s w (no_bar_properties (code t k) bar) y) r)
@@ -143,10 +141,10 @@ module _ {t : List ℕ} (u : IsUtf8 t) where
       (λ y w i. subst (λ o. Reaches t o l h x) i (complete u a n FlowOut refl same_context c e m y w)) r refl))
   leaf_no_key {e = e} {h = h} {p = p} {l = l} {n = n} {v = v} (a_json_with {g = g} {k = k} {p = pv} {cs = cs} {x = x} q s a) d c m r b f =
       let w = (flow_starts (a_json {n = n} a) refl).starts.visible in
-      let i = properties_later q in
+      let i = properties_forward q in
       let o = separate_forward s in
       propertied_content (λ o. o ≡ Some v → ⊥) u q s w (flow_starts a refl).content
-      (λ y. reaches_some (complete u a n FlowOut refl same_context (clear_back (omega arith) c) e m None y))
+      (λ y. none_reaches (complete u a n FlowOut refl same_context (clear_back (omega arith) c) e m None y))
       (λ y z i'. f (sym (propertied_end pv cs p g y i') ∙ json_end d (λ j. no_start_past u (node_next u (a_json {n = n} a)) j)
       (complete u a n FlowOut refl same_context (clear_back (omega arith) c) e m (Some y) z)))
       r refl

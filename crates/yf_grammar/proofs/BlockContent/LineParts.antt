@@ -33,10 +33,7 @@ use Rattle.yf_grammar.proofs.BlockOutcomes.BlockClaims.{line_still, colon_line}
 use Rattle.yf_grammar.proofs.Ends.Forward.{in_line_forward}
 use Rattle.yf_grammar.proofs.FlowReader.KeyLines.{may_in_line, char_at, sign_at, line_join, line_none}
 use Rattle.yf_grammar.proofs.BlockContent.PlainCut.{LastLine, last_line_one, allowed_all}
-
-nb_real : (c : ℕ) → is_nb_char c ≡ true → c < no_char
-unfolding is_nb_char is_printable is_between is_break_char
-nb_real c e = grind (arith, nat_tests)
+use Rattle.yf_chars.proofs.CharBounds.{nb_below}
 
 -- the characters of a row before its end
 record RowEnd (t : List ℕ) (i k : ℕ) : Type 0 where
@@ -48,7 +45,7 @@ record RowEnd (t : List ℕ) (i k : ℕ) : Type 0 where
 module _ {t : List ℕ} (u : IsUtf8 t) where
   nb_line : {i j : ℕ} {x : List ℕ} → Many t is_nb_char i j x → OnOneLine t i j
   nb_line {i} done = line_none t i
-  nb_line (step (one {i = i} e) c) = line_join (char_at t i u (nb_real (code t i) e) (nb_no_break (code t i) e)) (nb_line c)
+  nb_line (step (one {i = i} e) c) = line_join (char_at t i u (nb_below (code t i) e) (nb_no_break (code t i) e)) (nb_line c)
 
   text_line : {i j : ℕ} {x : List CommentValue} → CommentText t i j x → OnOneLine t i j
   text_line (comment_text {i = i} e m n) = line_join (sign_at t i 35 e (λ q. omega arith) (λ q. omega arith)) (nb_line m)

@@ -24,7 +24,7 @@ use Rattle.yf_plain.specs.Plain.{is_plain_char, PlainLine, PlainNext, PlainText,
 use Rattle.yf_plain.specs.Plain.PlainLine.{one_line}
 use Rattle.yf_plain.specs.Plain.PlainNext.{next_line}
 use Rattle.yf_plain.specs.Plain.PlainText.{as_key, as_lines}
-use Rattle.yf_plain.proofs.PlainLemmas.{plain_is_ns, first_is_ns, plain_colon, quiet_ns, items_quiet, ns_not_white}
+use Rattle.yf_plain.proofs.PlainLemmas.{plain_is_ns, first_is_ns, plain_colon, quiet_ns, items_quiet, ns_not_white, safe_is_ns}
 use Rattle.yf_plain.proofs.LineLemmas.{plain_unique, folds_to}
 use Rattle.yf_grammar.specs.Productions.Grammar.{ColonLine}
 use Rattle.yf_grammar.specs.BlockReader.Halts.{NoColonAt, none_open, one_open, MayEnd, PlainPart, plain_part}
@@ -32,11 +32,11 @@ use Rattle.yf_grammar.specs.Productions.Meaning.{Meaning, noting, scalar}
 use Rattle.yf_grammar.proofs.BlockOutcomes.BlockHalts.{WholePlain, may_end_chosen}
 use Rattle.yf_grammar.proofs.BlockOutcomes.BlockKeys.{end_not_ns}
 use Rattle.yf_grammar.proofs.BlockOutcomes.BlockStarts.{line_end_forward}
-use Rattle.yf_grammar.proofs.FlowReader.FlowStarts.{safe_ns}
-use Rattle.yf_grammar.proofs.Ends.Forward.{whites_forward, items_forward}
+use Rattle.yf_grammar.proofs.Ends.Forward.{whites_forward}
 use Rattle.yf_grammar.proofs.Ends.GapLemmas.{Visible}
 use Rattle.yf_grammar.proofs.FlowReader.PlainEnds.{plain_later}
 use Rattle.yf_grammar.proofs.BlockContent.PlainTails.{FoldEnd, fold_end, fold_chosen, next_visible, tail_of, tail_before}
+use Rattle.yf_plain.proofs.PlainOrder.{items_forward}
 
 -- the last place after a break that begins at the first offset or after it, before the other offset
 pub record LastLine (t : List ℕ) (i l j : ℕ) : Type 0 where
@@ -92,7 +92,7 @@ last_of : {t : List ℕ} {n : ℤ} {c : Ctx} {i l : ℕ} {x : List ℕ} → Plai
 last_of (as_key e d) = on_first_line d
 last_of (as_lines f a d) = last_of_lines f a d
 
-colon_no_white : (c : ℕ) → c ≡ 58 → is_white c ≡ false
+pub colon_no_white : (c : ℕ) → c ≡ 58 → is_white c ≡ false
 unfolding is_white
 colon_no_white c e = ap is_white e
 
@@ -134,7 +134,7 @@ module _ {t : List ℕ} (u : IsUtf8 t) where
       let here : code t s.place ≡ 58 = ap (code t) (sym same) ∙ a.colon in
       let follows : is_ns_char (code t (s.end.line + w + 1)) ≡ false = end_not_ns (code t (s.end.line + w + 1)) a.follows in
       let safe : is_plain_safe (code t (s.place + 1)) c ≡ true = sym (plain_colon t c s.place here) ∙ s.char in
-      true≢false (sym (safe_ns (code t (s.place + 1)) c safe) ∙ ap (λ k. is_ns_char (code t (k + 1))) (sym same) ∙ follows)
+      true≢false (sym (safe_is_ns (code t (s.place + 1)) c safe) ∙ ap (λ k. is_ns_char (code t (k + 1))) (sym same) ∙ follows)
 
   last_line : {n : ℤ} {c : Ctx} {i k l : ℕ} (s : LastStart t n c k l) → i ≤ k → LastLine t i l s.end.line
   last_line {l = l} s m =

@@ -28,7 +28,7 @@ use Rattle.yf_grammar.proofs.Ends.NodeExits.{some_found, none_some, past_propert
 use Rattle.yf_grammar.proofs.FlowReader.NodeExact.{lone_is}
 use Rattle.yf_grammar.proofs.BlockOutcomes.NodesAfter.{properties_after}
 use Rattle.yf_grammar.proofs.FlowReader.PlainEnds.{plain_leaps}
-use Rattle.yf_grammar.proofs.FlowReader.PropertiesEnds.{properties_before, properties_begin, properties_later}
+use Rattle.yf_grammar.proofs.FlowReader.PropertiesEnds.{properties_before, properties_begin}
 use Rattle.yf_grammar.proofs.Ends.WiderLemmas.{key_properties}
 use Rattle.yf_grammar.proofs.BlockOutcomes.BlockClaims.{IsFound, NodeExact, NodeHaltsReach, EntriesExact, EntryHaltsReach, visible_white}
 use Rattle.yf_grammar.proofs.BlockOutcomes.BlockFirst.{colon_visible, no_line_end_before}
@@ -42,10 +42,8 @@ use Rattle.yf_grammar.proofs.BlockContent.InlineViews.{NotKey, NoSignAt, whole_r
 use Rattle.yf_grammar.proofs.BlockOutcomes.OutcomeMade.{found_moved, longest_moved, headed_unheld}
 use Rattle.yf_grammar.proofs.BlockContent.PropertiesLines.{held, in_lines}
 use Rattle.yf_grammar.proofs.BlockContent.PropertiesWalk.{held_with, begins_visible, to_line_end, to_leaf}
-
-not_true : (b : Bool) → (b ≡ true → ⊥) → b ≡ false
-not_true true f = absurd (f refl)
-not_true false f = refl
+use Rattle.yf_chars.proofs.Tests.{not_true}
+use Rattle.yf_props.proofs.NameOrder.{properties_forward}
 
 -- comments before comments
 pub after_after : (cs ds : List CommentValue) (x : Meaning) → meaning_after cs (meaning_after ds x) ≡ meaning_after (cs ++ ds) x
@@ -118,7 +116,7 @@ module _ {t : List ℕ} (u : IsUtf8 t) where
       let m = with_props p.props p.tag_offset f g x in
       let body = meaning_after (p.comments ++ ds) m in
       let x1 : i ≤ f = separate_forward s in
-      let x2 : f < g = properties_later q in
+      let x2 : f < g = properties_forward q in
       let x3 : g ≤ k = separate_forward v in
       let x4 : k < j = scalar_later d in
       let bar = scalar_sign d in
@@ -136,7 +134,7 @@ module _ {t : List ℕ} (u : IsUtf8 t) where
       let m = with_props p.props p.tag_offset f g x in
       let body = meaning_after (p.comments ++ ds) m in
       let x1 : i ≤ f = separate_forward s in
-      let x2 : f < g = properties_later q in
+      let x2 : f < g = properties_forward q in
       let x3 : g ≤ k = separate_forward v in
       let x4 : k < j = scalar_later d in
       let bar = scalar_sign d in
@@ -171,7 +169,7 @@ module _ {t : List ℕ} (u : IsUtf8 t) where
       let whole = collection s false (k + m) x.finish x in
       let body = meaning_after (p.comments ++ ds) (with_props p.props p.tag_offset f g whole) in
       let x1 : i ≤ f = separate_forward q in
-      let x2 : f < g = properties_later v in
+      let x2 : f < g = properties_forward v in
       let x3 : g ≤ k = rows_order d in
       let x4 : k + m < j = (block_starts w).later in
       let clear = clear_back x1 z in
@@ -190,7 +188,7 @@ module _ {t : List ℕ} (u : IsUtf8 t) where
       let whole = collection s false (k + m) x.finish x in
       let body = meaning_after (p.comments ++ ds) (with_props p.props p.tag_offset f g whole) in
       let x1 : i ≤ f = separate_forward q in
-      let x2 : f < g = properties_later v in
+      let x2 : f < g = properties_forward v in
       let x3 : g ≤ k = rows_order d in
       let x4 : k + m < j = (block_starts w).later in
       let clear = clear_back x1 z in

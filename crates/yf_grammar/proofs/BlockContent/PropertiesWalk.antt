@@ -22,17 +22,15 @@ use Rattle.yf_grammar.specs.BlockReader.BlockParser.{Columns, PropertiesHeld, Ah
 use Rattle.yf_grammar.proofs.Ends.BlankRuns.{no_start_past}
 use Rattle.yf_grammar.proofs.Ends.GapLemmas.{Visible}
 use Rattle.yf_grammar.proofs.BlockOutcomes.NodesAfter.{properties_after}
-use Rattle.yf_grammar.proofs.FlowReader.PropertiesEnds.{properties_begin, properties_later}
+use Rattle.yf_grammar.proofs.FlowReader.PropertiesEnds.{properties_begin}
 use Rattle.yf_grammar.proofs.BlockOutcomes.BlockClaims.{Unheld, visible_white}
 use Rattle.yf_grammar.proofs.BlockOutcomes.BlockFirst.{no_line_end_before}
 use Rattle.yf_grammar.proofs.BlockOutcomes.BlockGaps.{whites_order, rows_order, line_in, line_chosen, prefix_at_least}
 use Rattle.yf_grammar.proofs.BlockContent.LeafKeys.{line_no_key}
 use Rattle.yf_grammar.proofs.BlockContent.InlineViews.{NotKey, NoSignAt, Reader, Reads, InlineView, view_leaf, view_below, view_line, view_missed, view_apart, joins_first, joins_second, not_apart}
 use Rattle.yf_grammar.proofs.BlockContent.PropertiesLines.{held, Merges, line_ends_after, content_after, Spread, on_one_line, on_two_lines, spread, in_lines, line_properties}
-
-properties_visible : (c : ℕ) → begins_properties c ≡ true → is_ns_char c ≡ true
-unfolding begins_properties is_ns_char is_nb_char is_printable is_between is_break_char is_white
-properties_visible c e = grind (arith, nat_tests)
+use Rattle.yf_grammar.proofs.NodesInText.PlacedLeaves.{properties_seen}
+use Rattle.yf_props.proofs.NameOrder.{properties_forward}
 
 properties_other : (c : ℕ) → begins_properties c ≡ true → (c ≡ 35 → ⊥) × (c ≡ 45 → ⊥) × (c ≡ 63 → ⊥) × (c ≡ 58 → ⊥)
 unfolding begins_properties
@@ -57,7 +55,7 @@ held_with p cs f g = record { is = λ x. refl }
 
 module _ {t : List ℕ} where
   pub begins_visible : {f : ℕ} → begins_properties (code t f) ≡ true → Visible t f
-  begins_visible {f} e = record { ns = properties_visible (code t f) e; no_hash = (properties_other (code t f) e).0 }
+  begins_visible {f} e = record { ns = properties_seen (code t f) e; no_hash = (properties_other (code t f) e).0 }
 
   pub begins_no_sign : {f : ℕ} → begins_properties (code t f) ≡ true → NoSignAt t f
   begins_no_sign {f} e = record {
@@ -144,11 +142,11 @@ module _ {t : List ℕ} (u : IsUtf8 t) {e : ℕ} {R : Reader} {Q : Option Parsed
 
         second : R (Below n c (Props (held q1 f h1)) h1) o → Q o
         second s =
-            let x1 : f < h1 = properties_later d in
+            let x1 : f < h1 = properties_forward d in
             let x2 : h1 ≤ l1 = rows_order w in
             let run = prefix_whites i in
             let x3 : l1 ≤ h2 = whites_order run.1 in
-            let x4 : h2 < g = properties_later b in
+            let x4 : h2 < g = properties_forward b in
             let line = line_in run.1 v (λ x. cl.none l1 (omega arith) (omega arith) x) in
             rd.below (line_chosen w line.1) line.1 (line_indented (prefix_at_least i line.1)) s
             (λ cs' r' lc s'. step cs' (Props (with_comments (held q1 f h1) cs)) h2 q2 r' (omega arith) b (apart_second m) s'
@@ -183,5 +181,5 @@ module _ {t : List ℕ} (u : IsUtf8 t) {e : ℕ} {R : Reader} {Q : Option Parsed
       → ((h : ℕ) (q : PropertiesValue) → f ≤ h → Properties t (pos 0) FlowKey h g q → NotKey t e n h) → Unheld a → Clear t f j → k < j
       → R (Inline n c cols a f) o → ((v : PropertiesHeld) → HeldAs v p ds f g → (r : Option ParsedNode) → R (Leaf n (Props v) k) r → Q r) → Q o
   to_leaf {f} {g} d key q s v np sign k keys y cl le r f' =
-      let m : f < g = properties_later q in
+      let m : f < g = properties_forward q in
       lines_to_leaf (spread d key q) (in_lines d key s) v np sign k keys y cl le (separate_forward s) (omega arith) r f'

@@ -30,6 +30,7 @@ use Rattle.yf_grammar.specs.BlockReader.BlockParser.{DashAt, LinesEnd, text_ends
 use Rattle.yf_grammar.specs.BlockReader.Halts.{NoColonAt, Halts}
 use Rattle.yf_grammar.proofs.Ends.GapLemmas.{Visible, visible_solid}
 use Rattle.yf_grammar.proofs.FlowReader.Longest.{Longest}
+use Rattle.yf_chars.proofs.CharFacts.{colon_ns, mark_no_ns}
 
 -- what is after a node in the indentation n that is found whole: no comment line that it could take is left, and no line of
 -- it; the flag says that it ends with a block scalar, which takes none
@@ -109,14 +110,6 @@ pub record LineHalting (t : List ℕ) : Type 0 where
       → least_column s n c ≤ℤ pos m → Derives t h (BlockEntries s m) (k + m) j x → EntryHaltsReach t h s m (k + m) j x
       → NodeHaltsReach t (suc h) n c i j
       (meaning_after (cs ++ p.comments ++ ds) (with_props p.props p.tag_offset f g (collection s false (k + m) x.finish x)))
-
-pub mark_no_ns : is_ns_char 0xFEFF ≡ false
-unfolding is_ns_char is_nb_char is_printable is_between is_break_char is_white
-mark_no_ns = refl
-
-colon_ns : is_ns_char 58 ≡ true
-unfolding is_ns_char is_nb_char is_printable is_between is_break_char is_white
-colon_ns = refl
 
 pub dash_ns : is_ns_char 45 ≡ true
 unfolding is_ns_char is_nb_char is_printable is_between is_break_char is_white

@@ -21,7 +21,7 @@ use Rattle.yf_grammar.proofs.BlockOutcomes.HaltsLater.{halts_later, line_order}
 use Rattle.yf_grammar.proofs.BlockOutcomes.BlockItems.{longest_of}
 use Rattle.yf_grammar.proofs.BlockOutcomes.BlockNodes.{line_end_moves}
 use Rattle.yf_grammar.proofs.BlockOutcomes.OutcomeEnds.{alone_indicator}
-use Rattle.yf_grammar.proofs.BlockOutcomes.OutcomeMade.{found_some}
+use Rattle.yf_grammar.proofs.FlowStack.AwaitEntries.{found_is}
 
 -- each end of a line after what is ahead is what it may end at
 pub record MayBeAlone (a : Ahead) (y : List CommentValue → Meaning) : Type 0 where
@@ -33,7 +33,7 @@ pub record MayBeAlone (a : Ahead) (y : List CommentValue → Meaning) : Type 0 w
 pub indicator_alone : (i : ℕ) → MayBeAlone (Indicator i) (λ ds. noting (empty_node i) ds)
 indicator_alone i = record {
   answer = λ k ds. record { end = k; height = 0; json = false; meaning = noting (empty_node i) ds };
-  is = λ k ds. alone_indicator i k ds ∙ found_some k 0 false (noting (empty_node i) ds);
+  is = λ k ds. alone_indicator i k ds ∙ found_is k 0 false (noting (empty_node i) ds);
   ends = λ k ds. refl;
   means = λ k ds. refl;
 }

@@ -19,7 +19,7 @@ use Rattle.yf_comments.specs.Comments.LineEnd.{past_rest, from_start}
 use Rattle.yf_comments.specs.Comments.SeparateLines.{over_lines}
 use Rattle.yf_comments.specs.Comments.Separate.{in_key, in_node}
 use Rattle.yf_comments.proofs.RowLemmas.{separate_whites, stuck_at_solid}
-use Rattle.yf_plain.proofs.PlainLemmas.{ns_not_white}
+use Rattle.yf_plain.proofs.PlainLemmas.{ns_not_white, safe_is_ns}
 use Rattle.yf_props.specs.Names.{Properties, PropertiesValue}
 use Rattle.yf_grammar.specs.BlockReader.BlockParser.{SignAt, Columns, NoSign, KeyBefore}
 use Rattle.yf_grammar.specs.Productions.Meaning.{Meaning}
@@ -31,7 +31,7 @@ use Rattle.yf_grammar.proofs.BlockOutcomes.BlockKeys.{node_before_colon, end_not
 use Rattle.yf_grammar.proofs.BlockOutcomes.BlockSigns.{value_sign}
 use Rattle.yf_grammar.proofs.BlockOutcomes.BlockStarts.{block_starts, node_no_dash}
 use Rattle.yf_grammar.proofs.FlowReader.CompleteSteps.{stop_of_colon}
-use Rattle.yf_grammar.proofs.FlowReader.FlowStarts.{flow_starts, safe_ns, may_line_forward}
+use Rattle.yf_grammar.proofs.FlowReader.FlowStarts.{flow_starts, may_line_forward}
 use Rattle.yf_grammar.proofs.Ends.GapLemmas.{Visible, visible_solid}
 use Rattle.yf_grammar.proofs.FlowReader.KeyLines.{key_line}
 use Rattle.yf_grammar.proofs.FlowReader.NodeExact.{stop_visible}
@@ -41,6 +41,8 @@ use Rattle.yf_grammar.proofs.FlowReader.PairKeys.{line_run}
 use Rattle.yf_grammar.proofs.FlowReader.PlainEnds.{plain_leaps, first_no_bar, no_bar_properties}
 use Rattle.yf_grammar.proofs.FlowReader.PropertiesEnds.{properties_upto, properties_alone_upto, properties_upto_line, properties_begin}
 use Rattle.yf_grammar.proofs.Ends.WiderLemmas.{key_separate, key_properties, may_line_separate}
+use Rattle.yf_grammar.proofs.FlowStack.AwaitEntries.{found_is}
+use Rattle.yf_grammar.proofs.FlowReader.Outcome.{content_no_properties}
 
 -- a node begins with no sign of an entry
 module _ {t : List ℕ} where
@@ -48,10 +50,10 @@ module _ {t : List ℕ} where
   sign_not_ns {i = i} s e = true≢false (sym e ∙ end_not_ns (code t (i + 1)) s.follows)
 
   pub node_no_question : {h i j : ℕ} {json : Bool} {n : ℤ} {c : Ctx} {x : Meaning} → is_block c ≡ false → Derives t h (NodeOf json n c) i j x → SignAt t 63 i → ⊥
-  node_no_question {i = i} {c = c} b d s = sign_not_ns s (safe_ns (code t (i + 1)) c ((flow_starts d b).question s.sign_is_at))
+  node_no_question {i = i} {c = c} b d s = sign_not_ns s (safe_is_ns (code t (i + 1)) c ((flow_starts d b).question s.sign_is_at))
 
   pub node_no_colon_sign : {h i j : ℕ} {json : Bool} {n : ℤ} {c : Ctx} {x : Meaning} → is_block c ≡ false → Derives t h (NodeOf json n c) i j x → SignAt t 58 i → ⊥
-  node_no_colon_sign {i = i} {c = c} b d s = sign_not_ns s (safe_ns (code t (i + 1)) c ((flow_starts d b).colon s.sign_is_at))
+  node_no_colon_sign {i = i} {c = c} b d s = sign_not_ns s (safe_is_ns (code t (i + 1)) c ((flow_starts d b).colon s.sign_is_at))
 
   pub node_no_sign : {h i j : ℕ} {json : Bool} {n : ℤ} {c : Ctx} {x : Meaning} (cols : Columns) → is_block c ≡ false → Derives t h (NodeOf json n c) i j x → NoSign t cols i
   node_no_sign cols b d = record { no_dash = λ e s. node_no_dash b d s; no_question = λ e s. node_no_question b d s; no_colon = λ e s. node_no_colon_sign b d s }
@@ -77,10 +79,6 @@ pub record KeyFound (t : List ℕ) (h i k : ℕ) (x : Meaning) (o : Option Parse
   pub meaning : answer.meaning ≡ x
   pub key : KeyBefore t i answer k
 
-found_some : (j h : ℕ) (b : Bool) (x : Meaning) → found j h b x ≡ Some (record { end = j; height = h; json = b; meaning = x })
-unfolding found
-found_some j h b x = refl
-
 module _ {t : List ℕ} (u : IsUtf8 t) where
   pub key_is : {h e i k : ℕ} {json : Bool} {n : ℤ} {x : Meaning} {o : Option ParsedNode} → Derives t h (KeyOf json BlockKey) i k x → SignAt t 58 k → Clear t i k → h ≤ e
       → Parses t e (ANode n FlowOut i) o → KeyFound t h i k x o
@@ -88,7 +86,7 @@ module _ {t : List ℕ} (u : IsUtf8 t) where
       let w = line_run y in
       record {
         answer = record { end = l; height = h; json = json; meaning = x };
-        is = node_before_colon u d y s (clear_front (may_line_forward y) c) b r ∙ found_some l h json x;
+        is = node_before_colon u d y s (clear_front (may_line_forward y) c) b r ∙ found_is l h json x;
         height = refl;
         meaning = refl;
         key = record { whites = w.0; run = w.1; line = key_line u (a_key d y z) refl; short = z; colon = s };
@@ -97,10 +95,6 @@ module _ {t : List ℕ} (u : IsUtf8 t) where
 begins_one : (c : ℕ) → begins_properties c ≡ true → (begins_alias c ≡ true → ⊥) × (begins_content c ≡ true → ⊥)
 unfolding begins_properties begins_alias begins_content
 begins_one c e = (λ f. grind (arith, nat_tests), λ f. grind (arith, nat_tests))
-
-content_no_properties : (c : ℕ) → begins_content c ≡ true → begins_properties c ≡ false
-unfolding begins_content begins_properties
-content_no_properties c e = grind (arith, nat_tests)
 
 -- no line ends after the properties of a key
 module _ {t : List ℕ} (u : IsUtf8 t) where

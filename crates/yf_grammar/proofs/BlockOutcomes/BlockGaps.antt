@@ -31,11 +31,8 @@ use Rattle.yf_grammar.specs.BlockReader.BlockParser.{LinesEnd, text_ends, mark_i
 use Rattle.yf_grammar.specs.BlockReader.BlockParser.Whole.{awaited_below, awaited_inline, awaited_missed, below_alone, below_node, below_missed}
 use Rattle.yf_grammar.proofs.Ends.Ways.{chosen_one}
 use Rattle.yf_grammar.proofs.Ends.GapLemmas.{Visible}
-use Rattle.yf_grammar.proofs.BlockOutcomes.BlockClaims.{Unheld, nothing_ahead, indicator_ahead, line_unique, line_still, visible_white, visible_content, mark_no_ns}
-
-mark_no_white : is_white 0xFEFF ≡ false
-unfolding is_white
-mark_no_white = refl
+use Rattle.yf_grammar.proofs.BlockOutcomes.BlockClaims.{Unheld, nothing_ahead, indicator_ahead, line_unique, line_still, visible_white, visible_content}
+use Rattle.yf_chars.proofs.CharFacts.{mark_no_white, mark_no_ns}
 
 pub block_no_key : (c : Ctx) → is_block c ≡ true → is_key c ≡ false
 block_no_key BlockOut e = refl

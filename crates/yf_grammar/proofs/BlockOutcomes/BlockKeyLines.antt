@@ -16,10 +16,10 @@ use Rattle.yf_grammar.specs.Productions.Grammar.MaySeparate.{unseparated, separa
 use Rattle.yf_grammar.specs.Productions.Grammar.Derives.{an_alias, a_plain, a_plain_with, properties_alone, a_json, a_json_with, a_single, a_double, an_empty_collection, a_collection}
 use Rattle.yf_grammar.proofs.FlowReader.FlowStarts.{flow_starts, may_forward}
 use Rattle.yf_grammar.proofs.FlowReader.PlainEnds.{plain_later}
-use Rattle.yf_grammar.proofs.FlowReader.PropertiesEnds.{properties_later}
 use Rattle.yf_grammar.proofs.FlowReader.QuotedEnds.{single_widened, double_widened}
 use Rattle.yf_grammar.proofs.FlowReader.OneLine.{AllOnLine, separate_key, gap_key, properties_key, no_nexts, single_key, double_key, entries_of_key}
 use Rattle.yf_grammar.proofs.Ends.WiderLemmas.{key_separate, key_properties, line_same, block_first, block_char}
+use Rattle.yf_props.proofs.NameOrder.{properties_forward}
 
 module _ {t : List ℕ} {a z : ℕ} (o : AllOnLine t a z) where
   separate_block : {n : ℤ} {c : Ctx} {i j : ℕ} {x : List CommentValue} → a ≤ i → j ≤ z → Separate t n c i j x → Separate t (pos 0) BlockKey i j x
@@ -58,10 +58,10 @@ module _ {t : List ℕ} {a z : ℕ} (o : AllOnLine t a z) where
   node_keyed u l m (an_alias b d) = an_alias refl d
   node_keyed u l m (a_plain d) = a_plain (plain_block l m d)
   node_keyed u l m (a_plain_with p s d) =
-      let f = properties_later p in let g = separate_forward s in let h = plain_later d in
+      let f = properties_forward p in let g = separate_forward s in let h = plain_later d in
       a_plain_with (properties_block l (omega arith) p) (separate_block (omega arith) (omega arith) s) (plain_block (omega arith) m d)
   node_keyed u l m (properties_alone b p) = properties_alone refl (properties_block l m p)
   node_keyed u l m (a_json d) = a_json (content_keyed u l m d)
   node_keyed u l m (a_json_with p s d) =
-      let f = properties_later p in let g = separate_forward s in let h = (flow_starts d refl).later in
+      let f = properties_forward p in let g = separate_forward s in let h = (flow_starts d refl).later in
       a_json_with (properties_block l (omega arith) p) (separate_block (omega arith) (omega arith) s) (content_keyed u (omega arith) m d)

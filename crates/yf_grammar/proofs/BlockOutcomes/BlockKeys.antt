@@ -17,7 +17,7 @@ use Rattle.yf_grammar.specs.Productions.Meaning.{Meaning}
 use Rattle.yf_grammar.specs.Productions.Grammar.{NodeOf, Derives, MaySeparateInLine, MayBeColon}
 use Rattle.yf_grammar.specs.Productions.Grammar.Derives.{an_alias, a_plain, a_plain_with, properties_alone, a_json, a_json_with}
 use Rattle.yf_grammar.specs.FlowReader.Parser.{ParsedNode, found, ANode, Parses}
-use Rattle.yf_grammar.proofs.FlowReader.PropertiesEnds.{properties_later, stop_ns}
+use Rattle.yf_grammar.proofs.FlowReader.PropertiesEnds.{stop_ns}
 use Rattle.yf_grammar.proofs.FlowReader.PlainEnds.{plain_ends}
 use Rattle.yf_grammar.proofs.FlowReader.FlowStarts.{flow_starts}
 use Rattle.yf_grammar.proofs.Ends.WiderLemmas.{from_block_key, wider_plain, wider_properties, wider_separate, may_line_separate}
@@ -25,8 +25,9 @@ use Rattle.yf_grammar.proofs.Ends.NodeExits.{node_alias, node_content}
 use Rattle.yf_grammar.proofs.FlowReader.NodeExact.{Followed, plain_agreed, plain_with_agreed, alone_exact}
 use Rattle.yf_grammar.proofs.FlowReader.CompleteSteps.{stop_of_colon, json_with_exact, reaches_exact}
 use Rattle.yf_grammar.proofs.FlowReader.Complete.{complete}
+use Rattle.yf_props.proofs.NameOrder.{properties_forward}
 
-safe_out : (c : ℕ) → is_plain_safe c FlowOut ≡ is_ns_char c
+pub safe_out : (c : ℕ) → is_plain_safe c FlowOut ≡ is_ns_char c
 unfolding is_plain_safe
 safe_out c = refl
 
@@ -67,7 +68,7 @@ module _ {t : List ℕ} (u : IsUtf8 t) where
       let p' = wider_plain from_block_key p in plain_agreed u p' c (λ g y d. plain_before u p' c z s d) r
   node_before_colon (a_plain_with q v p) z s c l r =
       let p' = wider_plain from_block_key p in
-      let a = properties_later q in
+      let a = properties_forward q in
       let b = separate_forward v in
       let c' = clear_back (omega arith) c in
       plain_with_agreed u (wider_properties from_block_key q) (wider_separate from_block_key v) p' c' (λ g y d. plain_before u p' c' z s d) r
@@ -76,7 +77,7 @@ module _ {t : List ℕ} (u : IsUtf8 t) where
       node_content (λ q. q ≡ found k h true x) (flow_starts d refl).content
       (λ q p. reaches_exact (key_followed {n = n} true z s) (complete u d n FlowOut refl from_block_key c _ l q p)) r
   node_before_colon {h} {e} {k = k} {n = n} (a_json_with {x = x} q v d) z s c l r =
-      let a = properties_later q in
+      let a = properties_forward q in
       let b = separate_forward v in
       json_with_exact k h x u (wider_properties from_block_key q) (wider_separate from_block_key v) (flow_starts (a_json d) refl).starts.visible (flow_starts d refl).content
       (λ y p. reaches_exact (key_followed {n = n} true z s) (complete u d n FlowOut refl from_block_key (clear_back (omega arith) c) e l y p)) r

@@ -32,6 +32,7 @@ use Rattle.yf_grammar.proofs.BlockContent.HaltGaps.{HaltsBelow, halts_there, hal
 use Rattle.yf_grammar.proofs.BlockOutcomes.BlockInline.{AtColumn, sequence_column, mapping_column, Opens, opens_sequence, opens_mapping, collection_exact, collection_reached}
 use Rattle.yf_grammar.proofs.BlockOutcomes.BlockItems.{longest_some}
 use Rattle.yf_grammar.proofs.BlockOutcomes.OutcomeMade.{told_exact, told_longest, headed_unheld, found_moved, longest_moved}
+use Rattle.yf_grammar.proofs.BlockContent.BlockLeaves.{past_headed}
 
 pub column_some : {k m p : ℕ} {least : ℤ} {o : Option ℕ} → ColumnIf k m p least o → p ≡ k + m → least ≤ℤ pos m → o ≡ Some m
 column_some (column_there e l) q y = refl
@@ -52,14 +53,11 @@ pub record ToldLongest (a : Ahead) (cs : List CommentValue) (j : ℕ) (x : Meani
   pub reached : Longest inner j x
   pub is : o ≡ outcome_after a cs inner
 
-unheld_headed : {a : Ahead} (cs : List CommentValue) (x : Meaning) → Unheld a → headed (past a cs) x ≡ x
-unheld_headed {a} cs x n = ap (λ w. headed w x) (past_unheld cs n) ∙ headed_unheld x n
-
 told_is : {a : Ahead} {cs : List CommentValue} {j h : ℕ} (x : Meaning) {o : Option ParsedNode} → Unheld a → OutcomeAfter a cs j h (headed (past a cs) x) o → IsFound o j h (meaning_after cs x)
-told_is {a} {cs} {j} {h} x n w = subst (λ v. IsFound v j h (meaning_after cs x)) (sym w.is) (told_exact cs n (found_moved refl (unheld_headed cs x n) w.found))
+told_is {a} {cs} {j} {h} x n w = subst (λ v. IsFound v j h (meaning_after cs x)) (sym w.is) (told_exact cs n (found_moved refl (past_headed cs x n) w.found))
 
 told_reached : {a : Ahead} {cs : List CommentValue} {j : ℕ} (x : Meaning) {o : Option ParsedNode} → Unheld a → ToldLongest a cs j (headed (past a cs) x) o → Longest o j (meaning_after cs x)
-told_reached {a} {cs} {j} x n w = subst (λ v. Longest v j (meaning_after cs x)) (sym w.is) (told_longest cs n (longest_moved (unheld_headed cs x n) w.reached))
+told_reached {a} {cs} {j} x n w = subst (λ v. Longest v j (meaning_after cs x)) (sym w.is) (told_longest cs n (longest_moved (past_headed cs x n) w.reached))
 
 -- spaces before a character of content, the first of which is none
 not_still : {t : List ℕ} {i l : ℕ} → Spaces t i l → Visible t (i + l) → is_ns_char (code t i) ≡ false → is_white (code t i) ≡ false → ⊥

@@ -14,7 +14,7 @@ use Rattle.yf_comments.specs.Comments.LineEnd.{past_rest}
 use Rattle.yf_comments.proofs.LineEndLemmas.{line_end_rows}
 use Rattle.yf_comments.proofs.RowLemmas.{row_functional}
 use Rattle.yf_plain.specs.Plain.{is_sign, PlainText}
-use Rattle.yf_plain.proofs.PlainLemmas.{first_sign}
+use Rattle.yf_plain.proofs.PlainLemmas.{first_sign, safe_is_ns}
 use Rattle.yf_props.proofs.SeparationEnds.{separate_forward}
 use Rattle.yf_block_scalar.specs.declared.header.Header.{Header}
 use Rattle.yf_block_scalar.specs.declared.header.Chomp.{Chomp}
@@ -36,11 +36,12 @@ use Rattle.yf_grammar.specs.Productions.Meaning.{Meaning}
 use Rattle.yf_grammar.specs.Productions.Grammar.{Production, FlowNode, NodeOf, JsonContent, Entries, Entry, Pair, Explicit, Implicit, ValueOf, KeyOf, BlockNode, BlockEntries, BlockEntry, BlockIndented, BlockValue, Derives}
 use Rattle.yf_grammar.specs.Productions.Grammar.Derives.{flow_node, an_alias, a_plain, a_plain_with, properties_alone, a_json, a_json_with, a_single, a_double, an_empty_collection, a_collection, last_entry, last_entry_with_comma, more_entries, a_node_entry, a_pair_entry, an_explicit_entry, an_implicit_entry, an_explicit_pair, a_keyed_pair, an_unkeyed_pair, explicit_with, explicit_without, key_alone, key_and_value, value_alone, empty_value, a_value, a_key, a_block_scalar, a_block_scalar_with, a_block_collection, a_block_collection_with, flow_in_block, a_last_entry, an_entry_before, a_dash_entry, an_explicit_entry_with, an_explicit_key_alone, a_keyed_entry, an_unkeyed_entry, a_block_value, an_empty_block_value, a_compact_collection, an_indented_node, nothing_indented}
 use Rattle.yf_grammar.specs.FlowReader.Parser.{begins_alias, begins_properties, begins_content}
-use Rattle.yf_grammar.proofs.FlowReader.FlowStarts.{flow_starts, safe_ns}
+use Rattle.yf_grammar.proofs.FlowReader.FlowStarts.{flow_starts}
 use Rattle.yf_grammar.proofs.Ends.GapLemmas.{Visible}
 use Rattle.yf_grammar.proofs.Ends.NodeExits.{alias_begins}
 use Rattle.yf_grammar.proofs.FlowReader.PlainEnds.{plain_leaps}
-use Rattle.yf_grammar.proofs.FlowReader.PropertiesEnds.{properties_begin, properties_later}
+use Rattle.yf_grammar.proofs.FlowReader.PropertiesEnds.{properties_begin}
+use Rattle.yf_props.proofs.NameOrder.{properties_forward}
 
 -- line ends and block scalars go on
 module _ {t : List ℕ} where
@@ -103,7 +104,7 @@ sign_dash : is_sign 45 ≡ true
 unfolding is_sign
 sign_dash = refl
 
-sign_visible : (is_ns_char 45 ≡ true) × (is_ns_char 63 ≡ true) × (is_ns_char 58 ≡ true)
+pub sign_visible : (is_ns_char 45 ≡ true) × (is_ns_char 63 ≡ true) × (is_ns_char 58 ≡ true)
 unfolding is_ns_char is_nb_char is_printable is_between is_break_char is_white
 sign_visible = (refl, refl, refl)
 
@@ -111,7 +112,7 @@ module _ {t : List ℕ} where
   plain_no_dash : {n : ℤ} {c : Ctx} {i j : ℕ} {x : List ℕ} → PlainText t n c i j x → DashAt t i → ⊥
   plain_no_dash {c = c} {i = i} p d =
       let e = sym (first_sign t c i (ap is_sign d.dash ∙ sign_dash)) ∙ (plain_leaps p).0 in
-      true≢false (sym (safe_ns (code t (i + 1)) c e) ∙ d.follows)
+      true≢false (sym (safe_is_ns (code t (i + 1)) c e) ∙ d.follows)
 
   pub node_no_dash : {h i j : ℕ} {json : Bool} {n : ℤ} {c : Ctx} {x : Meaning} → is_block c ≡ false → Derives t h (NodeOf json n c) i j x → DashAt t i → ⊥
   node_no_dash {i = i} b (an_alias f a) d = alias_no_dash (code t i) (alias_begins a) d.dash
@@ -200,10 +201,10 @@ module _ {t : List ℕ} where
   block_starts (a_key d g m) = λ b e. node_no_dash b d e
   block_starts (a_block_scalar b s d) = let f = separate_forward s in let g = scalar_later d in omega arith
   block_starts (a_block_scalar_with b s p q d) =
-      let f = separate_forward s in let g = properties_later p in let h = separate_forward q in let k = scalar_later d in omega arith
+      let f = separate_forward s in let g = properties_forward p in let h = separate_forward q in let k = scalar_later d in omega arith
   block_starts (a_block_collection b e s l d) = let f = line_end_forward e in let g = (block_starts d).later in omega arith
   block_starts (a_block_collection_with b s p e q l d) =
-      let f = separate_forward s in let g = properties_later p in let h = line_end_forward e in let k = (block_starts d).later in omega arith
+      let f = separate_forward s in let g = properties_forward p in let h = line_end_forward e in let k = (block_starts d).later in omega arith
   block_starts (flow_in_block b s d e) =
       let f = separate_forward s in let g = (flow_starts d refl).starts.later in let h = line_end_forward e in omega arith
   block_starts (a_last_entry d) = block_starts d

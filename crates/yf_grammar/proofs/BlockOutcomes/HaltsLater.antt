@@ -10,13 +10,13 @@ use Rattle.yf_grammar.specs.BlockReader.Halts.{Alone, PlainPart, plain_part, Sca
 use Rattle.yf_grammar.specs.BlockReader.Halts as Halting
 use Rattle.yf_grammar.proofs.FlowReader.Sound.{found_is_derived}
 use Rattle.yf_grammar.proofs.FlowReader.FlowStarts.{flow_starts}
-use Rattle.yf_grammar.proofs.FlowReader.PropertiesEnds.{properties_later}
 use Rattle.yf_grammar.proofs.FlowReader.PlainEnds.{plain_later}
 use Rattle.yf_grammar.proofs.Ends.NodeExits.{none_some}
 use Rattle.yf_grammar.proofs.BlockOutcomes.BlockStarts.{scalar_later}
 use Rattle.yf_grammar.proofs.BlockOutcomes.BlockClaims.{line_whites}
 use Rattle.yf_grammar.proofs.BlockOutcomes.BlockGaps.{whites_order, rows_order}
 use Rattle.yf_grammar.proofs.BlockOutcomes.OutcomeEnds.{collected_end, leaf_end, with_plain_end, item_end, lone_key_end, lone_value_end, pair_end, items_end, alone_end, told_of, then_of}
+use Rattle.yf_props.proofs.NameOrder.{properties_forward}
 
 -- an end after the place of a task
 abbrev pub Beyond : BlockTask → ℕ → Type 0
@@ -55,8 +55,8 @@ module _ {t : List ℕ} where
   whole_later (BlockParser.mapping_read {p = p} {a = a} {f = f} n q d r) e = let y = collected_end a false p f e in let z = whole_later r refl in omega arith
   whole_later (BlockParser.mapping_missed n q d r) e = absurd (none_some e)
   whole_later (BlockParser.mapping_too_deep n q d) e = absurd (none_some e)
-  whole_later (BlockParser.properties_below n p d j r) e = let y = whole_later r e in let z = properties_later p.derived in omega arith
-  whole_later (BlockParser.properties_leaf n q p d m l w j r) e = let y = whole_later r e in let z = properties_later p.derived in omega arith
+  whole_later (BlockParser.properties_below n p d j r) e = let y = whole_later r e in let z = properties_forward p.derived in omega arith
+  whole_later (BlockParser.properties_leaf n q p d m l w j r) e = let y = whole_later r e in let z = properties_forward p.derived in omega arith
   whole_later (BlockParser.properties_alone_missed n q p d w) e = absurd (none_some e)
   whole_later (BlockParser.properties_apart_below n p d a) e = absurd (none_some e)
   whole_later (BlockParser.properties_apart n q p d a) e = absurd (none_some e)
@@ -115,8 +115,8 @@ module _ {t : List ℕ} where
   halts_later (Halting.halts_mapping {p = p} {a = a} {o = o} n q d r) e =
       let s = then_of (collected a false p) o e in let y = collected_end a false p s.inner s.made in let z = halts_later r s.is in omega arith
   halts_later (Halting.halts_mapping_too_deep n q d) e = absurd (none_some e)
-  halts_later (Halting.halts_properties_below n p d j r) e = let y = halts_later r e in let z = properties_later p.derived in omega arith
-  halts_later (Halting.halts_properties_leaf n q p d m l w j r) e = let y = halts_later r e in let z = properties_later p.derived in omega arith
+  halts_later (Halting.halts_properties_below n p d j r) e = let y = halts_later r e in let z = properties_forward p.derived in omega arith
+  halts_later (Halting.halts_properties_leaf n q p d m l w j r) e = let y = halts_later r e in let z = properties_forward p.derived in omega arith
   halts_later (Halting.halts_properties_missed n q p d w) e = absurd (none_some e)
   halts_later (Halting.halts_properties_apart_below n p d a) e = absurd (none_some e)
   halts_later (Halting.halts_properties_apart n q p d a) e = absurd (none_some e)

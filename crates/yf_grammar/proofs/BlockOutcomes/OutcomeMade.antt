@@ -10,14 +10,11 @@ use Rattle.yf_grammar.proofs.BlockOutcomes.BlockClaims.{IsFound, Unheld, nothing
 use Rattle.yf_grammar.proofs.BlockOutcomes.OutcomeEnds.{collected_is, item_is, lone_key_is, lone_value_is, pair_is}
 use Rattle.yf_grammar.proofs.BlockOutcomes.BlockHalts.{then_is}
 use Rattle.yf_grammar.proofs.BlockOutcomes.BlockItems.{exact_end, exact_height, exact_meaning, longest_of}
+use Rattle.yf_grammar.proofs.FlowStack.AwaitEntries.{found_is}
 
 -- one outcome is made of another, which ends where that does
 pub record Makes (made : ParsedNode → Option ParsedNode) (put : Meaning → Meaning) (deep : ℕ → ℕ) : Type 0 where
   pub is : (f : ParsedNode) → made f ≡ found f.end (deep f.height) false (put f.meaning)
-
-pub found_some : (j h : ℕ) (b : Bool) (x : Meaning) → found j h b x ≡ Some (record { end = j; height = h; json = b; meaning = x })
-unfolding found
-found_some j h b x = refl
 
 module _ {made : ParsedNode → Option ParsedNode} {put : Meaning → Meaning} {deep : ℕ → ℕ} where
   pub makes_exact : {f : ParsedNode} {j h : ℕ} {x : Meaning} → Makes made put deep → IsFound (Some f) j h x → IsFound (made f) j (deep h) (put x)
@@ -30,13 +27,13 @@ module _ {made : ParsedNode → Option ParsedNode} {put : Meaning → Meaning} {
   makes_longest {o} {j} {x} m l =
       let f = l.answer in
       longest_of (record { end = f.end; height = deep f.height; json = false; meaning = put f.meaning })
-      (ap (then_found made) l.is ∙ then_is made f ∙ m.is f ∙ found_some f.end (deep f.height) false (put f.meaning))
+      (ap (then_found made) l.is ∙ then_is made f ∙ m.is f ∙ found_is f.end (deep f.height) false (put f.meaning))
       (⊎_elim (λ (q : j < f.end). inl q) (λ (q : (j ≡ f.end) × (x ≡ f.meaning)). inr (q.0, ap put q.1)) l.far)
 
   -- it ends after a place, and the part before it does not
   pub makes_further : (g : ParsedNode) (j : ℕ) (x : Meaning) → Makes made put deep → j < g.end → Longest (made g) j x
   makes_further g j x m l =
-      longest_of (record { end = g.end; height = deep g.height; json = false; meaning = put g.meaning }) (m.is g ∙ found_some g.end (deep g.height) false (put g.meaning)) (inl l)
+      longest_of (record { end = g.end; height = deep g.height; json = false; meaning = put g.meaning }) (m.is g ∙ found_is g.end (deep g.height) false (put g.meaning)) (inl l)
 
 pub makes_item : (i : ℕ) → Makes (item_found i) (λ x. entering i None x) (λ h. h)
 makes_item i = record { is = λ f. item_is i f }

@@ -19,11 +19,12 @@ use Rattle.yf_grammar.proofs.FlowReader.PropertiesEnds.{properties_begin}
 use Rattle.yf_grammar.proofs.BlockOutcomes.BlockClaims.{Unheld, nothing_ahead, indicator_ahead}
 use Rattle.yf_grammar.proofs.BlockOutcomes.BlockGaps.{block_no_key}
 use Rattle.yf_grammar.proofs.BlockContent.FlowReading.{noting_with}
-use Rattle.yf_grammar.proofs.BlockOutcomes.OutcomeMade.{headed_unheld, found_some}
+use Rattle.yf_grammar.proofs.BlockOutcomes.OutcomeMade.{headed_unheld}
 use Rattle.yf_grammar.proofs.BlockOutcomes.OutcomeEnds.{alone_indicator}
 use Rattle.yf_grammar.proofs.BlockContent.PropertiedNodes.{three_after, any_context}
 use Rattle.yf_grammar.proofs.BlockContent.PropertiesWalk.{HeldAs}
 use Rattle.yf_grammar.proofs.BlockReader.SoundSteps.{Parts, parts_of, Sits, InlineAhead, any_properties}
+use Rattle.yf_grammar.proofs.FlowStack.AwaitEntries.{found_is}
 
 -- what is where a node is awaited: a node, a compact collection, or nothing
 pub data NodeAhead (t : List ℕ) (b : Bool) (n : ℤ) (c : Ctx) (a : Ahead) (i h j : ℕ) (y : Meaning) : Type 0 where
@@ -108,7 +109,7 @@ alone_props : (v : PropertiesHeld) (k : ℕ) (ds : List CommentValue) → alone 
 unfolding alone headed
 alone_props v k ds = refl
 
-alone_nothing : (k : ℕ) (ds : List CommentValue) → alone Nothing k ds ≡ None
+pub alone_nothing : (k : ℕ) (ds : List CommentValue) → alone Nothing k ds ≡ None
 unfolding alone
 alone_nothing k ds = refl
 
@@ -159,8 +160,8 @@ pub data ToldOf (a : Ahead) (ds : List CommentValue) (o : Option ParsedNode) (f 
 pub told_is_of : {f : ParsedNode} (a : Ahead) (ds : List CommentValue) (o : Option ParsedNode) → outcome_after a ds o ≡ Some f → ToldOf a ds o f
 unfolding outcome_after
 told_is_of a ds None e = absurd (none_some e)
-told_is_of Nothing ds (Some g) e = told_free nothing_ahead refl (parts_of g.end g.height g.json (meaning_after ds g.meaning) (sym (found_some g.end g.height g.json (meaning_after ds g.meaning))) e)
-told_is_of (Indicator i) ds (Some g) e = told_free indicator_ahead refl (parts_of g.end g.height g.json (meaning_after ds g.meaning) (sym (found_some g.end g.height g.json (meaning_after ds g.meaning))) e)
+told_is_of Nothing ds (Some g) e = told_free nothing_ahead refl (parts_of g.end g.height g.json (meaning_after ds g.meaning) (sym (found_is g.end g.height g.json (meaning_after ds g.meaning))) e)
+told_is_of (Indicator i) ds (Some g) e = told_free indicator_ahead refl (parts_of g.end g.height g.json (meaning_after ds g.meaning) (sym (found_is g.end g.height g.json (meaning_after ds g.meaning))) e)
 told_is_of (Props v) ds (Some g) e = told_after refl e
 
 pub no_clash : {v : PropertiesHeld} {q : PropertiesValue} {p g : ℕ} {z : Ahead} → Joins (Props v) q p g z → Clash v q → ⊥

@@ -22,15 +22,17 @@ use Rattle.yf_grammar.proofs.Ends.Irrefutable.{Irrefutable, sure, then, by_cases
 use Rattle.yf_grammar.proofs.BlockReader.LeavesReached.{line_end_reached, plain_reached, chain_one_meaning}
 use Rattle.yf_grammar.proofs.BlockReader.PropertiesReached.{properties_reached, scalar_reached}
 use Rattle.yf_grammar.proofs.FlowReader.NodesAnswered.{node_answered, asks, takes}
-use Rattle.yf_grammar.proofs.BlockReader.WholeAnswered.{left, weight, Fit, Column, at_column, without_column, NodeLine, compact_any, column_any, joins_any, item_real, properties_real, no_value, past_whites, dash_no_key, block_task_answered}
+use Rattle.yf_grammar.proofs.BlockReader.WholeAnswered.{left, weight, Fit, Column, at_column, without_column, NodeLine, compact_any, column_any, joins_any, item_real, properties_real, past_whites, dash_no_key, block_task_answered}
 use Rattle.yf_grammar.proofs.BlockReader.WholeAnswered as Wholes
 use Rattle.yf_grammar.proofs.BlockOutcomes.BlockGaps.{rows_order}
 use Rattle.yf_grammar.proofs.FlowReader.FlowStarts.{flow_starts}
 use Rattle.yf_grammar.proofs.BlockOutcomes.HaltsLater.{line_order, key_order, node_later, whole_later}
 use Rattle.yf_grammar.proofs.BlockOutcomes.OneScalars.{scalar_one}
 use Rattle.yf_grammar.proofs.BlockContent.PlainCut.{LastLine, whole_plain, plain_without_last, plain_one_line, no_plain_part}
-use Rattle.yf_grammar.proofs.FlowReader.PropertiesEnds.{properties_begin, properties_later}
+use Rattle.yf_grammar.proofs.FlowReader.PropertiesEnds.{properties_begin}
 use Rattle.yf_grammar.proofs.FlowReader.Sound.{found_is_derived}
+use Rattle.yf_chars.proofs.SpelledLemmas.{never}
+use Rattle.yf_props.proofs.NameOrder.{properties_forward}
 
 -- an outcome of a task
 pub record Answer (t : List ℕ) (e : ℕ) (ws : List ℕ) (task : BlockTask) : Type 0 where
@@ -106,7 +108,7 @@ module _ {t : List ℕ} (u : IsUtf8 t) (v : ℕ) (known : (e : ℕ) (ws : List �
   past_properties : {e p g : ℕ} {ws : List ℕ} {n : ℤ} {c : Ctx} {cols : Columns} {a : Ahead} {q : PropertiesValue} → weight t (Inline n c cols a p) ≤ v → NoSign t cols p → NoKeyAt t e n cols p
       → Chosen (Properties t (pos 0) FlowKey p) g q → Irrefutable (Answer t e ws (Inline n c cols a p))
   past_properties {e} {p} {g} {ws} {n} {c} {cols} {a} {q} w s k d =
-      let l = properties_later d.derived in
+      let l = properties_forward d.derived in
       let real = within_from_code t p (properties_real (code t p) (properties_begin d.derived)) in
       takes (line_end_reached u g)
       (λ j ds r. joins_any a q p g
@@ -143,7 +145,7 @@ module _ {t : List ℕ} (u : IsUtf8 t) (v : ℕ) (known : (e : ℕ) (ws : List �
       let x = d.dash in
       then (node_answered u e (n +ℤ pos 1) FlowOut p refl)
       (λ r. no_collection w (record {
-        no_dash = λ {m} y z. absurd (no_value (sym q ∙ y));
+        no_dash = λ {m} y z. absurd (never (sym q ∙ y));
         no_question = λ {m} y z. let h = z.sign_is_at in absurd (omega arith);
         no_colon = λ {m} y z. let h = z.sign_is_at in absurd (omega arith);
       }) (dash_no_key d r.read))
@@ -161,7 +163,7 @@ module _ {t : List ℕ} (u : IsUtf8 t) (v : ℕ) (known : (e : ℕ) (ws : List �
   column_answer : (e p : ℕ) (ws : List ℕ) (n : ℤ) (c : Ctx) (cols : Columns) (a : Ahead) (o : Option ℕ) → cols.mapping ≡ o → weight t (Inline n c cols a p) ≤ v → (DashAt t p → ⊥)
       → Irrefutable (Answer t e ws (Inline n c cols a p))
   column_answer e p ws n c cols a None q w d = no_collection w
-      (record { no_dash = λ {m} y z. d z; no_question = λ {m} y z. no_value (sym q ∙ y); no_colon = λ {m} y z. no_value (sym q ∙ y) })
+      (record { no_dash = λ {m} y z. d z; no_question = λ {m} y z. never (sym q ∙ y); no_colon = λ {m} y z. never (sym q ∙ y) })
       (no_column q)
   column_answer e p ws n c cols a (Some m) q w d = by_cases (SignAt t 63 p)
       (λ y. mapping_answer e m p ws n c cols a w d q (by_question y))

@@ -22,12 +22,12 @@ use Rattle.yf_grammar.proofs.FlowReader.Sound.{found_is_derived}
 use Rattle.yf_grammar.proofs.BlockOutcomes.BlockClaims.{indicator_ahead}
 use Rattle.yf_grammar.proofs.BlockOutcomes.BlockGaps.{block_no_key}
 use Rattle.yf_grammar.proofs.BlockOutcomes.BlockInline.{sequence_column, mapping_column}
-use Rattle.yf_grammar.proofs.BlockContent.BlockScalars.{noting_nothing}
 use Rattle.yf_grammar.proofs.BlockContent.LeafKeys.{found_keyed}
 use Rattle.yf_grammar.proofs.BlockOutcomes.OutcomeEnds.{leaf_is, with_plain_is, item_is, lone_key_is, lone_value_is, pair_is, items_is, collected_end, leaf_end, with_plain_end, item_end, lone_key_end, lone_value_end, pair_end, items_end, alone_end, told_of, then_of}
 use Rattle.yf_grammar.proofs.BlockReader.SoundSteps.{parts_of, sits_on_line}
 use Rattle.yf_grammar.proofs.BlockReader.BlockSound.{BelowSound, LeafSound, leaf_of_scalar, leaf_of_node, alone_sound, told_is_of}
 use Rattle.yf_grammar.proofs.BlockReader.WholeSound.{WholeSound, whole_sound, wide, standing_any, standing_inline, indented_of, value_of, next_spaces, collection_sound, bare_sound, below_sound, line_sound, node_below}
+use Rattle.yf_grammar.proofs.WrittenTexts.LeafBack.{noting_nothing}
 
 moved_allowed : {t ws : List ℕ} (j k : ℕ) → j ≡ k → NoColonAt t k ws → NoColonAt t j ws
 moved_allowed {t} {ws} j k e a = subst (λ w. NoColonAt t w ws) (sym e) a

@@ -30,6 +30,7 @@ use Rattle.yf_props.specs.Names.{Alias}
 use Rattle.yf_props.proofs.NameLemmas.{alias_unique}
 use Rattle.yf_grammar.proofs.Ends.Irrefutable.{Irrefutable, ChosenOrStuck, one_reached, bounded_reached}
 use Rattle.yf_grammar.proofs.FlowReader.PlainEnds.{plain_after}
+use Rattle.yf_chars.proofs.CharFacts.{end_no_white}
 
 -- two chains from one place to one place mean one thing
 chain_still : {A : Type 0} {S : ℕ → ℕ → List A → Type 0} {i j : ℕ} {x : List A} → Functional S → Chain S i j x → j ≤ i → x ≡ []
@@ -56,10 +57,6 @@ within_far : {t : List ℕ} {i j : ℕ} → Within t i j → j ≤ i + length t
 within_far (at_once e) = omega arith
 within_far (inside l) = omega arith
 
-white_none : is_white no_char ≡ false
-unfolding is_white
-white_none = refl
-
 module _ {t : List ℕ} (u : IsUtf8 t) where
   one_within : (p : ℕ → Bool) (i : ℕ) → p no_char ≡ false → p (code t i) ≡ true → next t i ≤ length t
   one_within p i n e = ⊎_elim
@@ -72,7 +69,7 @@ module _ {t : List ℕ} (u : IsUtf8 t) where
   many_within {p} n (step (one {i = i} e) c) = within_join (inside (one_within p i n e)) (many_within n c)
 
   in_line_within : {i j : ℕ} → SeparateInLine t i j → Within t i j
-  in_line_within (by_whites m l) = many_within white_none m
+  in_line_within (by_whites m l) = many_within end_no_white m
   in_line_within (at_start s) = at_once refl
 
   end_within : {i j : ℕ} → BreakOrEnd t i j → j ≤ length t
@@ -93,7 +90,7 @@ module _ {t : List ℕ} (u : IsUtf8 t) where
 
   lines_within : {n : ℤ} {i j : ℕ} {x : List CommentValue} → SeparateLines t n i j x → Within t i j
   lines_within (in_line s) = in_line_within s
-  lines_within (over_lines d p) = within_join (line_end_within d) (many_within white_none (prefix_whites p).1)
+  lines_within (over_lines d p) = within_join (line_end_within d) (many_within end_no_white (prefix_whites p).1)
 
   separate_within : {n : ℤ} {c : Ctx} {i j : ℕ} {x : List CommentValue} → Separate t n c i j x → Within t i j
   separate_within (in_key e s) = in_line_within s
@@ -105,7 +102,7 @@ module _ {t : List ℕ} (u : IsUtf8 t) where
       (λ j x y d e. chain_one_meaning row_functional (line_end_rows d) (line_end_rows e))
 
   pub whites_reached : (i : ℕ) → Irrefutable (ChosenOrStuck (Many t is_white i))
-  whites_reached i = bounded_reached (Many t is_white i) (i + length t) (λ j x d. within_far (many_within white_none d))
+  whites_reached i = bounded_reached (Many t is_white i) (i + length t) (λ j x d. within_far (many_within end_no_white d))
       (λ j x y d e. chain_one_meaning (one_functional t is_white) d e)
 
   -- rows, and white space after them

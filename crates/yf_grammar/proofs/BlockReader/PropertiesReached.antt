@@ -20,7 +20,7 @@ use Rattle.yf_props.specs.Names.ShorthandTag.{handle_suffix}
 use Rattle.yf_props.specs.Names.Handle.{primary_handle, secondary_handle, named_handle}
 use Rattle.yf_props.specs.Names.TagProperty.{verbatim_tag, shorthand_tag, non_specific_tag}
 use Rattle.yf_props.proofs.NameLemmas.{anchor_unique}
-use Rattle.yf_props.proofs.TagLemmas.{mark_word, tag_mark, verbatim_chosen, verbatim_tag_chosen, shorthand_tag_chosen, non_specific_chosen, long_chosen, lone_chosen, no_mark}
+use Rattle.yf_props.proofs.TagLemmas.{tag_mark, verbatim_chosen, verbatim_tag_chosen, shorthand_tag_chosen, non_specific_chosen, long_chosen, lone_chosen, no_mark}
 use Rattle.yf_props.proofs.PropertiesLemmas.{anchor_then_tag, no_tag_after, anchor_alone, tag_then_anchor, tag_alone, no_anchor_after, no_properties}
 use Rattle.yf_quoted.specs.Quoted.{SingleQuoted, DoubleQuoted, SingleChar, as_they_are}
 use Rattle.yf_quoted.specs.Body.{Gap, Step, Body, SingleBreaks}
@@ -32,6 +32,7 @@ use Rattle.yf_grammar.proofs.Ends.Irrefutable.{Irrefutable, sure, then, by_cases
 use Rattle.yf_grammar.proofs.BlockReader.LeavesReached.{separate_reached}
 use Rattle.yf_grammar.proofs.BlockOutcomes.OneScalars.{scalar_one}
 use Rattle.yf_grammar.proofs.FlowReader.QuotedEnds.{double_same}
+use Rattle.yf_chars.proofs.CharFacts.{exclamation_no_word}
 
 -- a handle of more than a mark, and a suffix after it
 record LongTag (t : List ℕ) (i : ℕ) : Type 0 where
@@ -61,8 +62,8 @@ module _ {t : List ℕ} where
   long_of (primary_handle a) l r = absurd (omega arith)
   long_of {i} {j = j} (secondary_handle a b) l r =
       let same : i + 2 ≡ (i + 1) + 1 = omega arith in
-      reached j _ (long_chosen t i (i + 1) [] done (ap is_word_char b ∙ mark_word) a b (subst (λ w. Run (TagChar t) w j) same r))
-  long_of {i} {j = j} (named_handle {j = w} a s b) l r = reached j _ (long_chosen t i w s.characters s.chain (ap is_word_char b ∙ mark_word) a b r)
+      reached j _ (long_chosen t i (i + 1) [] done (ap is_word_char b ∙ exclamation_no_word) a b (subst (λ w. Run (TagChar t) w j) same r))
+  long_of {i} {j = j} (named_handle {j = w} a s b) l r = reached j _ (long_chosen t i w s.characters s.chain (ap is_word_char b ∙ exclamation_no_word) a b r)
 
   no_tag : {i j : ℕ} {v : TagValue} → (LongTag t i → ⊥) → (Suffix t (i + 1) → ⊥) → ShorthandTag t i j v → ⊥
   no_tag n m (handle_suffix {j = j} (primary_handle a) r) = m (record { end = j; run = r })

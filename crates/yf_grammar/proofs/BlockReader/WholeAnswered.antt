@@ -28,8 +28,10 @@ use Rattle.yf_grammar.proofs.BlockOutcomes.BlockStarts.{node_no_dash}
 use Rattle.yf_grammar.proofs.FlowReader.FlowStarts.{flow_starts}
 use Rattle.yf_grammar.proofs.BlockOutcomes.HaltsLater.{line_order, key_order, node_later, whole_later}
 use Rattle.yf_grammar.proofs.Ends.NodeExits.{none_some}
-use Rattle.yf_grammar.proofs.FlowReader.PropertiesEnds.{properties_begin, properties_later}
+use Rattle.yf_grammar.proofs.FlowReader.PropertiesEnds.{properties_begin}
 use Rattle.yf_grammar.proofs.FlowReader.Sound.{found_is_derived}
+use Rattle.yf_chars.proofs.SpelledLemmas.{never}
+use Rattle.yf_props.proofs.NameOrder.{properties_forward}
 
 -- an outcome of a task
 pub record Answer (t : List ℕ) (e : ℕ) (task : BlockTask) : Type 0 where
@@ -66,9 +68,6 @@ pub data Column : Bool → ℤ → Type 0 where
 abbrev pub Fit : BlockTask → Type 0
 Fit (Awaited b n c a i) = Column b n
 Fit _ = Unit {0}
-
-pub no_value : {m : ℕ} → None ≡ Some m → ⊥
-no_value e = absurd (cc)
 
 pub properties_real : (c : ℕ) → begins_properties c ≡ true → c < no_char
 unfolding begins_properties
@@ -164,7 +163,7 @@ module _ {t : List ℕ} (u : IsUtf8 t) (v : ℕ) (known : (e : ℕ) (task : Bloc
   past_properties : {e p g : ℕ} {n : ℤ} {c : Ctx} {cols : Columns} {a : Ahead} {q : PropertiesValue} → weight t (Inline n c cols a p) ≤ v → NoSign t cols p → NoKeyAt t e n cols p
       → Chosen (Properties t (pos 0) FlowKey p) g q → Irrefutable (Answer t e (Inline n c cols a p))
   past_properties {e} {p} {g} {n} {c} {cols} {a} {q} w s k d =
-      let l = properties_later d.derived in
+      let l = properties_forward d.derived in
       let real = within_from_code t p (properties_real (code t p) (properties_begin d.derived)) in
       takes (line_end_reached u g)
       (λ j ds r. joins_any a q p g
@@ -203,7 +202,7 @@ module _ {t : List ℕ} (u : IsUtf8 t) (v : ℕ) (known : (e : ℕ) (task : Bloc
       let x = d.dash in
       then (node_answered u e (n +ℤ pos 1) FlowOut p refl)
       (λ r. no_collection w (record {
-        no_dash = λ {m} y z. absurd (no_value (sym q ∙ y));
+        no_dash = λ {m} y z. absurd (never (sym q ∙ y));
         no_question = λ {m} y z. let h = z.sign_is_at in absurd (omega arith);
         no_colon = λ {m} y z. let h = z.sign_is_at in absurd (omega arith);
       }) (dash_no_key d r.read))
@@ -221,7 +220,7 @@ module _ {t : List ℕ} (u : IsUtf8 t) (v : ℕ) (known : (e : ℕ) (task : Bloc
   column_answer : (e p : ℕ) (n : ℤ) (c : Ctx) (cols : Columns) (a : Ahead) (o : Option ℕ) → cols.mapping ≡ o → weight t (Inline n c cols a p) ≤ v → (DashAt t p → ⊥)
       → Irrefutable (Answer t e (Inline n c cols a p))
   column_answer e p n c cols a None q w d = no_collection w
-      (record { no_dash = λ {m} y z. d z; no_question = λ {m} y z. no_value (sym q ∙ y); no_colon = λ {m} y z. no_value (sym q ∙ y) })
+      (record { no_dash = λ {m} y z. d z; no_question = λ {m} y z. never (sym q ∙ y); no_colon = λ {m} y z. never (sym q ∙ y) })
       (no_column q)
   column_answer e p n c cols a (Some m) q w d = by_cases (SignAt t 63 p)
       (λ y. mapping_answer e m p n c cols a w d q (by_question y))

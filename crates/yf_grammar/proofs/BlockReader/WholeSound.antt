@@ -29,12 +29,13 @@ use Rattle.yf_grammar.proofs.BlockContent.InlineViews.{past_props, joins_first, 
 use Rattle.yf_grammar.proofs.BlockContent.LeafKeys.{found_keyed}
 use Rattle.yf_grammar.proofs.BlockOutcomes.OutcomeMade.{headed_unheld}
 use Rattle.yf_grammar.proofs.BlockOutcomes.OutcomeEnds.{collected_is, leaf_is, item_is, lone_key_is, lone_value_is, pair_is, items_is}
-use Rattle.yf_grammar.proofs.BlockContent.BlockScalars.{noting_nothing}
 use Rattle.yf_grammar.proofs.BlockContent.PropertiedNodes.{three_after}
 use Rattle.yf_grammar.proofs.BlockContent.PropertiesLines.{held}
 use Rattle.yf_grammar.proofs.BlockContent.PropertiesWalk.{held_with, held_alone}
 use Rattle.yf_grammar.proofs.BlockReader.SoundSteps.{Width, parts_of, Sits, sits_on_line, sits_below, sits_apart, InlineAhead, is_at_as_node, is_at_compact, collection_is_at, collection_with_is_at, Joined, join_props}
 use Rattle.yf_grammar.proofs.BlockReader.BlockSound.{NodeAhead, as_node, as_compact, as_nothing, HeldFrom, BelowSound, InlineSound, LeafSound, leaf_of_scalar, leaf_of_node, leaf_within, leaf_free, leaf_held, alone_sound, ToldOf, told_free, told_after, told_is_of, no_clash, unheld_not}
+use Rattle.yf_lines.proofs.FoldLemmas.{indent_width}
+use Rattle.yf_grammar.proofs.WrittenTexts.LeafBack.{noting_nothing}
 
 abbrev pub WholeSound : List ℕ → ℕ → BlockTask → ParsedNode → Type 0
 WholeSound t e (Awaited b n c a i) f = is_block c ≡ true → Width n → Unheld a → (f.height ≤ e) × NodeAhead t b n c a i f.height f.end f.meaning
@@ -47,10 +48,7 @@ WholeSound t e (Item s m q i) f = (f.height ≤ e) × Derives t f.height (BlockE
 pub wide : (m : ℕ) → Width (pos m)
 wide m = record { width = m + 1; is = refl }
 
-same_pos : {m l : ℕ} → pos m ≡ pos l → m ≡ l
-same_pos e = cc
-
-same_indicator : {i k : ℕ} → Indicator i ≡ Indicator k → i ≡ k
+pub same_indicator : {i k : ℕ} → Indicator i ≡ Indicator k → i ≡ k
 same_indicator e = cc
 
 not_flag : {Q : Type 0} → false ≡ true → Q
@@ -77,7 +75,7 @@ module _ {t : List ℕ} where
 
   pub indented_of : {m i h j : ℕ} {c : Ctx} {y : Meaning} → is_block c ≡ true → NodeAhead t true (pos m) c (Indicator i) i h j y → Derives t h (BlockIndented m c) i j y
   indented_of b (as_node d) = an_indented_node d
-  indented_of {i = i} {h = h} {j = j} {c = c} {y = y} b (as_compact e q d) = subst (λ w. Derives t h (BlockIndented w c) i j y) (sym (same_pos e)) d
+  indented_of {i = i} {h = h} {j = j} {c = c} {y = y} b (as_compact e q d) = subst (λ w. Derives t h (BlockIndented w c) i j y) (sym (indent_width e)) d
   indented_of {m} {i} b (as_nothing {ds = ds} e d h r) = moved (sym h) refl (ap (λ w. noting (empty_node w) ds) (same_indicator e) ∙ sym r) (nothing_indented b d)
 
   pub value_of : {m i h j : ℕ} {y : Meaning} → code t i ≡ 58 → NodeAhead t false (pos m) BlockOut (Indicator (i + 1)) (i + 1) h j y → Derives t h (BlockValue m) i j y

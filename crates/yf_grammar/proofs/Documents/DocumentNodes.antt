@@ -18,9 +18,9 @@ use Rattle.yf_grammar.specs.FlowReader.Parser.{ParsedNode, found}
 use Rattle.yf_grammar.specs.BlockReader.BlockParser.{LinesEnd, LineText, Nothing, Awaited, Whole}
 use Rattle.yf_grammar.proofs.BlockOutcomes.BlockClaims.{Follow, nothing_ahead, line_still, colon_line}
 use Rattle.yf_grammar.proofs.BlockOutcomes.BlockExtended.{by_scalar, MoreLines, extended}
-use Rattle.yf_grammar.proofs.BlockContent.BlockScalars.{noting_nothing}
 use Rattle.yf_grammar.proofs.BlockOutcomes.BlockStatements.{node_is_found}
 use Rattle.yf_grammar.proofs.FlowReader.ClearLemmas.{clear_rest}
+use Rattle.yf_grammar.proofs.WrittenTexts.LeafBack.{noting_nothing}
 
 -- what is found of a node that ends at j and after which comment lines stand up to k
 pub data DocumentFound (h j k : ℕ) (es : List CommentValue) (x : Meaning) (o : Option ParsedNode) : Bool → Type 0 where

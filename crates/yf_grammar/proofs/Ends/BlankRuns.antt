@@ -31,7 +31,8 @@ use Rattle.yf_comments.specs.Comments.SeparateLines.{in_line, over_lines}
 use Rattle.yf_comments.specs.Comments.Separate.{in_key, in_node}
 use Rattle.yf_comments.proofs.RowLemmas.{separate_whites, text_hash}
 use Rattle.yf_comments.proofs.SeparateLemmas.{prefix_whites, spaces_whites}
-use Rattle.yf_plain.proofs.PlainLemmas.{ns_lf, ns_cr, ns_mark, white_not_ns}
+use Rattle.yf_plain.proofs.PlainLemmas.{ns_cr, white_not_ns}
+use Rattle.yf_chars.proofs.CharFacts.{feed_no_ns, mark_no_ns}
 
 -- white space or a character of a break
 unfoldable pub is_blank : ℕ → Bool
@@ -54,7 +55,7 @@ unfolding is_blank is_break_char
 blank_not_ns c e = ⊎_elim
     (λ (w : is_white c ≡ true). white_not_ns c w)
     (λ (w : is_white c ≡ false).
-    ⊎_elim (λ (f : c ≡ 10). ap is_ns_char f ∙ ns_lf) (λ (f : c ≢ 10).
+    ⊎_elim (λ (f : c ≡ 10). ap is_ns_char f ∙ feed_no_ns) (λ (f : c ≢ 10).
     ⊎_elim (λ (g : c ≡ 13). ap is_ns_char g ∙ ns_cr) (λ (g : c ≢ 13). grind (arith, nat_tests))
     (cases_eq c 13)) (cases_eq c 10))
     (cases_Bool (is_white c))
@@ -197,10 +198,10 @@ no_start_past {t} {k} u b s =
     (λ (w : (h : ℕ) × (d : ℕ) × CharAt t h d k × ((d ≡ 10) ⊎ ((d ≡ 13) ⊎ (d ≡ 0xFEFF)))).
     let same : b.char ≡ w.1 = sym r.back ∙ w.2.back in
     let n : is_ns_char w.1 ≡ true = ap is_ns_char (sym same) ∙ b.ns in
-    ⊎_elim (λ (e : w.1 ≡ 10). true≢false (sym n ∙ ap is_ns_char e ∙ ns_lf))
+    ⊎_elim (λ (e : w.1 ≡ 10). true≢false (sym n ∙ ap is_ns_char e ∙ feed_no_ns))
     (λ (o : (w.1 ≡ 13) ⊎ (w.1 ≡ 0xFEFF)).
     ⊎_elim (λ (e : w.1 ≡ 13). true≢false (sym n ∙ ap is_ns_char e ∙ ns_cr))
-    (λ (e : w.1 ≡ 0xFEFF). true≢false (sym n ∙ ap is_ns_char e ∙ ns_mark)) o) w.3)
+    (λ (e : w.1 ≡ 0xFEFF). true≢false (sym n ∙ ap is_ns_char e ∙ mark_no_ns)) o) w.3)
     (line_start_after u s)
 
 -- after blanks no character of content ends

@@ -18,9 +18,8 @@ use Rattle.yf_quoted.specs.Quoted.{Item, Rest, Inside, SingleQuoted, DoubleQuote
 use Rattle.yf_quoted.specs.Quoted as Quoted
 use Rattle.yf_quoted.proofs.SingleLemmas.{single_functional}
 use Rattle.yf_quoted.proofs.DoubleLemmas.{char_functional}
-
-pub anchor_forward : {t : List ℕ} {i j : ℕ} {x : List ℕ} → Anchor t i j x → i < j
-anchor_forward (ampersand_name e r) = omega (arith, r.some)
+use Rattle.yf_props.proofs.NameOrder.{anchor_forward}
+use Rattle.yf_plain.proofs.PlainOrder.{item_forward, items_forward, next_forward, nexts_forward}
 
 pub whites_forward : {t : List ℕ} {i j : ℕ} {x : List ℕ} → Many t is_white i j x → i ≤ j
 whites_forward {t} m = chain_forward (one_functional t is_white) m
@@ -28,22 +27,6 @@ whites_forward {t} m = chain_forward (one_functional t is_white) m
 pub in_line_forward : {t : List ℕ} {i j : ℕ} → SeparateInLine t i j → i ≤ j
 in_line_forward (by_whites m l) = omega arith
 in_line_forward (at_start s) = omega arith
-
--- plain scalars
-item_forward : {t : List ℕ} {c : Ctx} {i j : ℕ} {x : List ℕ} → PlainItem t c i j x → i ≤ j
-item_forward {t} (Plain.set_off {h = h} w e) = let f = whites_forward w in let g = next_later t h in omega arith
-
-pub items_forward : {t : List ℕ} {c : Ctx} {i j : ℕ} {x : List ℕ} → Chain (PlainItem t c) i j x → i ≤ j
-items_forward done = omega arith
-items_forward (step s c) = let f = item_forward s in let g = items_forward c in omega arith
-
-next_forward : {t : List ℕ} {n : ℤ} {c : Ctx} {i j : ℕ} {x : List ℕ} → PlainNext t n c i j x → i ≤ j
-next_forward {t} (next_line {h = h} f e d) =
-    let a = fold_order f in let b = next_later t h in let g = items_forward d in omega arith
-
-pub nexts_forward : {t : List ℕ} {n : ℤ} {c : Ctx} {i j : ℕ} {x : List ℕ} → Chain (PlainNext t n c) i j x → i ≤ j
-nexts_forward done = omega arith
-nexts_forward (step s c) = let f = next_forward s in let g = nexts_forward c in omega arith
 
 -- quoted scalars, by their characters and their breaks
 pub record Onward {A : Type 0} (S : ℕ → ℕ → List A → Type 0) : Type 0 where

@@ -24,13 +24,14 @@ use Rattle.yf_comments.specs.Comments.Separate.{in_key, in_node}
 use Rattle.yf_comments.proofs.RowLemmas.{separate_whites, row_functional, stuck_at_solid, separate_from}
 use Rattle.yf_comments.proofs.LineEndLemmas.{line_end_rows, rows_line_end, rest_next, lines_rows}
 use Rattle.yf_comments.proofs.SeparateLemmas.{Solid, separate_solid, prefix_whites}
-use Rattle.yf_plain.proofs.PlainLemmas.{ns_lf, ns_cr, ns_below, ns_not_white}
+use Rattle.yf_plain.proofs.PlainLemmas.{ns_cr, ns_below, ns_not_white}
 use Rattle.yf_props.proofs.SeparationEnds.{Apparent, apparent_last}
 use Rattle.yf_grammar.specs.Productions.Grammar.{MaySeparate}
 use Rattle.yf_grammar.specs.Productions.Grammar.MaySeparate.{unseparated, separated}
 use Rattle.yf_grammar.specs.FlowReader.Parser.{Gap}
 use Rattle.yf_grammar.specs.FlowReader.Parser.Gap.{longest_gap, no_gap}
 use Rattle.yf_grammar.proofs.Ends.BlankRuns.{ContentBefore, no_start_past}
+use Rattle.yf_chars.proofs.CharFacts.{feed_no_ns}
 
 -- a character that begins no separation is at the place
 pub record Visible (t : List ℕ) (k : ℕ) : Type 0 where
@@ -41,7 +42,7 @@ module _ {t : List ℕ} where
   pub ends_nowhere : {k j : ℕ} → is_ns_char (code t k) ≡ true → BreakOrEnd t k j → ⊥
   ends_nowhere {k} n (by_break b) = ⊎_elim
       (λ (e : code t k ≡ 13). true≢false (sym n ∙ ap is_ns_char e ∙ ns_cr))
-      (λ (e : code t k ≡ 10). true≢false (sym n ∙ ap is_ns_char e ∙ ns_lf)) (break_char b)
+      (λ (e : code t k ≡ 10). true≢false (sym n ∙ ap is_ns_char e ∙ feed_no_ns)) (break_char b)
   ends_nowhere {k} n (by_end e) = let f : code t k ≡ no_char = ap (code t) e ∙ code-end t in let l = ns_below (code t k) n in absurd (omega arith)
 
   no_end_at : {k : ℕ} → Visible t k → Nowhere (BreakOrEnd t k)

@@ -10,11 +10,12 @@ use Rattle.yf_lines.specs.Basic.Break.{cr_lf, lone_cr, lone_lf}
 use Rattle.yf_lines.proofs.BasicLemmas.{white_below, break_forward, break_end}
 use Rattle.yf_comments.specs.Comments.{is_gap, Blank}
 use Rattle.yf_comments.specs.Comments.Blank.{break_ends, white_ends}
-use Rattle.yf_comments.proofs.BlankLemmas.{Outside, gap_of_white, gap_of_mark, gap_of_lf, gap_of_cr, gap_below, white_not, white_lf, white_cr, same_place, BlankView, blank_view, text_view, break_view, white_view, not_last, blank_past_white, no_blank_past, no_blank, no_before, start_unique, outside_break}
+use Rattle.yf_comments.proofs.BlankLemmas.{Outside, gap_of_white, gap_of_mark, gap_of_lf, gap_of_cr, gap_below, white_not, white_cr, same_place, BlankView, blank_view, text_view, break_view, white_view, not_last, blank_past_white, no_blank_past, no_blank, no_before, start_unique, outside_break}
 use Rattle.yf_grammar.specs.Productions.ReadParts.{BlankSince, NotedSince}
 use Rattle.yf_grammar.specs.Productions.ReadParts.BlankSince.{blank_line, past_gap}
 use Rattle.yf_grammar.specs.Productions.ReadParts.NotedSince.{noted, not_noted}
 use Rattle.yf_grammar.proofs.Ends.SinceKnown.{since_before}
+use Rattle.yf_chars.proofs.CharFacts.{feed_no_white}
 
 -- what is left to find from a place on: a blank line, or what begins a line of which white space and a break are after
 abbrev pub EndsSince : List ℕ → ℕ → ℕ → Bool → Type 0
@@ -104,7 +105,7 @@ module _ (t : List ℕ) (u : IsUtf8 t) (floor : ℕ) where
 
   module _ (i j : ℕ) where
     pub since_white : (b : Bool) → floor < j → is_white (code t (j - 1)) ≡ true → WalkedSince t floor i j b → WalkedSince t floor i (j - 1) b
-    since_white b z w k = record { there = λ e. k.there (on b e); back = λ d. off b (k.back d); high = λ e. omega arith; begun = λ e. k.begun e; order = let o = k.order in omega (arith, o); outside = λ e. absurd (white_not _ 10 white_lf w e) } where
+    since_white b z w k = record { there = λ e. k.there (on b e); back = λ d. off b (k.back d); high = λ e. omega arith; begun = λ e. k.begun e; order = let o = k.order in omega (arith, o); outside = λ e. absurd (white_not _ 10 feed_no_white w e) } where
       n : next t (j - 1) ≡ j
       n = next_ascii t (j - 1) (white_below (code t (j - 1)) w) ∙ omega arith
 
@@ -112,7 +113,7 @@ module _ (t : List ℕ) (u : IsUtf8 t) (floor : ℕ) where
       on_gap d = subst (λ v. BlankSince t floor v) n (past_gap d (gap_of_white _ w))
 
       off_gap : BlankSince t floor j → BlankSince t floor (j - 1)
-      off_gap d = since_past (j - 1) (omega (arith, white_below (code t (j - 1)) w)) n (white_not _ 10 white_lf w) (white_not _ 13 white_cr w) d
+      off_gap d = since_past (j - 1) (omega (arith, white_below (code t (j - 1)) w)) n (white_not _ 10 feed_no_white w) (white_not _ 13 white_cr w) d
 
       on : (b : Bool) → EndsSince t floor (j - 1) b → EndsSince t floor j b
       on true (inl d) = inl (subst (λ v. Blank t v) n (white_ends d w))

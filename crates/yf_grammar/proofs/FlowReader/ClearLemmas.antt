@@ -23,6 +23,8 @@ use Rattle.yf_props.proofs.SolidLemmas.{AllSolid, tag_all_solid}
 use Rattle.yf_grammar.specs.Productions.Grammar.{opening, closing}
 use Rattle.yf_grammar.specs.FlowReader.Parser.{ParsedNode, Task, Parses, Gap, ColonAt, found, plain_found, propertied, lone_properties, bracketed, joined, paired, pair_entry}
 use Rattle.yf_grammar.specs.FlowReader.Parser as Parser
+use Rattle.yf_chars.proofs.CharFacts.{return_no_nb, feed_no_nb, mark_no_nb}
+use Rattle.yf_chars.proofs.CharBounds.{nb_below}
 
 -- one character that begins no document marker
 pub clear_sign : {t : List ℕ} {i : ℕ} → code t i ≢ 45 → code t i ≢ 46 → Clear t i (i + 1)
@@ -33,23 +35,6 @@ clear_sign {t} {i} a b = record {
 clear_mark : {t : List ℕ} {i c : ℕ} → code t i ≡ c → c ≢ 45 → c ≢ 46 → Clear t i (i + 1)
 clear_mark e a b = clear_sign (λ q. a (sym e ∙ q)) (λ q. b (sym e ∙ q))
 
--- comments
-nb_lf : is_nb_char 10 ≡ false
-unfolding is_nb_char is_printable is_between is_break_char
-nb_lf = refl
-
-nb_cr : is_nb_char 13 ≡ false
-unfolding is_nb_char is_printable is_between is_break_char
-nb_cr = refl
-
-nb_mark : is_nb_char 0xFEFF ≡ false
-unfolding is_nb_char is_printable is_between is_break_char
-nb_mark = refl
-
-nb_below : (c : ℕ) → is_nb_char c ≡ true → c < no_char
-unfolding is_nb_char is_printable is_between
-nb_below c e = grind (arith, nat_tests)
-
 nb_is_not : (c d : ℕ) → is_nb_char c ≡ true → is_nb_char d ≡ false → c ≢ d
 nb_is_not c d e f q = true≢false (sym e ∙ ap is_nb_char q ∙ f)
 
@@ -58,7 +43,7 @@ module _ {t : List ℕ} where
   quiet_nb {i} u done = quiet_nothing t i
   quiet_nb u (step (one {i = i} e) c) =
       let low = nb_below (code t i) e in
-      quiet_join (quiet_char u (reads_real t i u low) (nb_is_not (code t i) 10 e nb_lf) (nb_is_not (code t i) 13 e nb_cr) (nb_is_not (code t i) 0xFEFF e nb_mark))
+      quiet_join (quiet_char u (reads_real t i u low) (nb_is_not (code t i) 10 e feed_no_nb) (nb_is_not (code t i) 13 e return_no_nb) (nb_is_not (code t i) 0xFEFF e mark_no_nb))
       (quiet_nb u c)
 
   -- a visible character of ASCII ends no line

@@ -11,7 +11,6 @@ use Rattle.yf_grammar.specs.Productions.Meaning.{Meaning, ◌⊕◌, entering, e
 use Rattle.yf_grammar.specs.Productions.Grammar.{Production, Derives, in_flow}
 use Rattle.yf_grammar.specs.Productions.Grammar.Derives.{flow_node, an_alias, a_plain, a_plain_with, properties_alone, a_json, a_json_with, a_single, a_double, an_empty_collection, a_collection, last_entry, last_entry_with_comma, more_entries, a_node_entry, a_pair_entry, an_explicit_entry, an_implicit_entry, an_explicit_pair, a_keyed_pair, an_unkeyed_pair, explicit_with, explicit_without, key_alone, key_and_value, value_alone, empty_value, a_value, a_key, a_block_scalar, a_block_scalar_with, a_block_collection, a_block_collection_with, flow_in_block, a_last_entry, an_entry_before, a_dash_entry, an_explicit_entry_with, an_explicit_key_alone, a_keyed_entry, an_unkeyed_entry, a_block_value, an_empty_block_value, a_compact_collection, an_indented_node, nothing_indented}
 use Rattle.yf_grammar.specs.FlowReader.Parser.{ParsedNode, found, ColonAt}
-use Rattle.yf_grammar.proofs.FlowReader.PropertiesEnds.{properties_later}
 use Rattle.yf_grammar.proofs.FlowReader.FlowStarts.{flow_starts, in_flow_not_block, may_forward, value_forward}
 use Rattle.yf_grammar.proofs.FlowReader.KeyLines.{key_line}
 use Rattle.yf_grammar.proofs.FlowReader.ParserLemmas.{empty_collection}
@@ -26,6 +25,7 @@ use Rattle.yf_grammar.proofs.FlowReader.KeyExact.{lone_exact, key_alone_exact, k
 use Rattle.yf_grammar.proofs.FlowReader.PairKeys.{no_key_before_end}
 use Rattle.yf_grammar.proofs.FlowReader.CompleteSteps.{wider_not_block, stop_of_colon, closing_end, not_closing, comma_end, end_visible, wider_node, node_no_colon, sign_stuck, implicit_question, value_colon, no_node_at_end, json_with_exact, reaches_exact, nothing_found, comma_found, noting_twice, a_value_exact}
 use Rattle.yf_grammar.proofs.FlowReader.CompleteClaims.{Claim, ending_at, followed_at, explicit_entry, explicit_pair, keyed_entry, entry_goes_on, nothing_is_at}
+use Rattle.yf_props.proofs.NameOrder.{properties_forward}
 
 wider_flow : {n m : ℤ} {c : Ctx} (d : Ctx) → is_inside d ≡ true → Wider n c m d → is_block c ≡ false
 wider_flow d s w = wider_not_block w (inside_not_block d s)
@@ -51,7 +51,7 @@ module _ {t : List ℕ} (u : IsUtf8 t) where
   complete (an_alias y a) = λ m b s w k f e l o r. node_alias a r
   complete (a_plain p) = λ m b s w k f e l o r. plain_exact u s (wider_plain w p) k f r
   complete (a_plain_with q z p) = λ m b s w k f e l o r.
-      let a = properties_later q in
+      let a = properties_forward q in
       let g = separate_forward z in
       plain_with_exact u s (wider_properties w q) (wider_separate w z) (wider_plain w p) (clear_back (omega arith) k) f r
   complete (properties_alone y q) = λ m b s w k f e l o r. alone_exact u (wider_properties w q) f r
@@ -59,7 +59,7 @@ module _ {t : List ℕ} (u : IsUtf8 t) where
       node_content (λ q. q ≡ found j h true x) (flow_starts d (wider_flow b s w)).content
       (λ q p. reaches_exact f (complete d m b (inside_not_block b s) w k e l q p)) r
   complete (a_json_with {h = h} {j = j} {x = x} q z d) = λ m b s w k f e l o r.
-      let a = properties_later q in
+      let a = properties_forward q in
       let g = separate_forward z in
       let c = wider_flow b s w in
       json_with_exact j h x u (wider_properties w q) (wider_separate w z) (flow_starts (a_json d) c).starts.visible (flow_starts d c).content

@@ -20,7 +20,7 @@ use Rattle.yf_grammar.proofs.Ends.BlankRuns.{after_byte}
 use Rattle.yf_grammar.proofs.Ends.GapLemmas.{Visible, separate_is, separate_more}
 use Rattle.yf_grammar.proofs.FlowReader.PlainEnds.{plain_leaps}
 use Rattle.yf_grammar.proofs.FlowReader.PropertiesEnds.{properties_before, properties_begin, is_stop}
-use Rattle.yf_grammar.proofs.FlowReader.FlowStarts.{is_end, NodeStarts, flow_starts, sign_facts, safe_ns, separate_stuck}
+use Rattle.yf_grammar.proofs.FlowReader.FlowStarts.{is_end, NodeStarts, flow_starts, sign_facts, separate_stuck}
 use Rattle.yf_grammar.proofs.Ends.WiderLemmas.{Wider, same_context, from_key, from_block_key, wider_safe}
 use Rattle.yf_grammar.proofs.FlowReader.ParserLemmas.{after_nothing}
 use Rattle.yf_grammar.proofs.Ends.NodeExits.{alias_begins, propertied_is, some_found, none_found, past_properties, PastProperties, past_to_content, past_to_plain, past_to_nothing, past_to_broken, past_to_other}
@@ -29,6 +29,7 @@ use Rattle.yf_grammar.proofs.FlowReader.ContentExact.{Reaches, reaches, passes, 
 use Rattle.yf_grammar.proofs.FlowReader.KeyExact.{nothing_exact}
 use Rattle.yf_grammar.proofs.FlowReader.EntryExact.{exact_entry, mapping_explicit_exact, pair_explicit_exact}
 use Rattle.yf_grammar.proofs.FlowReader.ValueExact.{value_exact, adjacent_exact}
+use Rattle.yf_plain.proofs.PlainLemmas.{safe_is_ns}
 
 -- what is wider than the place of a flow node is one, too
 pub wider_not_block : {n m : ℤ} {c d : Ctx} → Wider n c m d → is_block d ≡ false → is_block c ≡ false
@@ -82,7 +83,7 @@ module _ {t : List ℕ} where
 
   -- a `?` at which a node begins is not after it separated from what follows
   pub sign_stuck : {m : ℤ} (d : Ctx) (i : ℕ) → IsUtf8 t → (code t i ≡ 63 → is_plain_safe (code t (i + 1)) d ≡ true) → code t i ≡ 63 → Stuck (Separate t m d (i + 1))
-  sign_stuck d i u f e = separate_stuck (i + 1) u (after_byte i u e (omega arith) sign_facts.1) (safe_ns (code t (i + 1)) d (f e))
+  sign_stuck d i u f e = separate_stuck (i + 1) u (after_byte i u e (omega arith) sign_facts.1) (safe_is_ns (code t (i + 1)) d (f e))
 
   pub implicit_question : {h s i j : ℕ} {n : ℤ} {c : Ctx} {x : Meaning} → is_block c ≡ false → Derives t h (Implicit n c s) i j x → code t i ≡ 63
       → is_plain_safe (code t (i + 1)) c ≡ true

@@ -10,9 +10,7 @@ use Rattle.yf_grammar.specs.FlowReader.Parser.{ParsedNode, found, TheEntries, An
 use Rattle.yf_grammar.specs.FlowReader.Parser.Parses.{entries_end, entry_missed, entry_last, entry_then, entry_then_missed, entry_unclosed}
 use Rattle.yf_grammar.proofs.Ends.GapLemmas.{Visible, gap_is}
 use Rattle.yf_grammar.proofs.FlowReader.ContentExact.{EntriesFound, EntryFound}
-
-none_some : {f : ParsedNode} → None ≡ Some f → ⊥
-none_some e = cc
+use Rattle.yf_grammar.proofs.Ends.NodeExits.{none_some}
 
 closing_not : (s : Bool) → closing s ≡ 44 → ⊥
 closing_not true e = omega arith

@@ -19,7 +19,7 @@ use Rattle.yf_comments.specs.Comments.LineEnd.{past_rest, from_start}
 use Rattle.yf_comments.specs.Comments.SeparateLines.{in_line, over_lines}
 use Rattle.yf_comments.specs.Comments.Separate.{in_key, in_node}
 use Rattle.yf_plain.specs.Plain.{PlainText}
-use Rattle.yf_plain.proofs.PlainLemmas.{first_is_ns, ns_not_white}
+use Rattle.yf_plain.proofs.PlainLemmas.{first_is_ns, ns_not_white, safe_is_ns}
 use Rattle.yf_props.specs.Names.{Alias, Properties, PropertiesValue}
 use Rattle.yf_props.specs.Names.Alias.{asterisk_name}
 use Rattle.yf_props.proofs.SeparationEnds.{separate_forward}
@@ -32,8 +32,9 @@ use Rattle.yf_grammar.specs.FlowReader.Parser.{begins_alias, begins_properties, 
 use Rattle.yf_grammar.proofs.Ends.BlankRuns.{ContentBefore, no_start_past}
 use Rattle.yf_grammar.proofs.Ends.GapLemmas.{Visible, ends_nowhere}
 use Rattle.yf_grammar.proofs.FlowReader.PlainEnds.{plain_leaps, plain_later, is_bar, first_no_bar, first_colon, first_question}
-use Rattle.yf_grammar.proofs.FlowReader.PropertiesEnds.{properties_begin, properties_later}
+use Rattle.yf_grammar.proofs.FlowReader.PropertiesEnds.{properties_begin}
 use Rattle.yf_grammar.proofs.FlowReader.QuotedEnds.{single_later, double_later}
+use Rattle.yf_props.proofs.NameOrder.{properties_forward}
 
 -- a comma or a closing bracket
 unfoldable pub is_end : ℕ → Bool
@@ -94,15 +95,6 @@ opening_begins false = content_begins.3
 pub sign_facts : (is_ns_char 58 ≡ true) × (is_ns_char 63 ≡ true) × (is_end 58 ≡ false) × (is_end 63 ≡ false)
 unfolding is_ns_char is_nb_char is_printable is_between is_break_char is_white is_end
 sign_facts = (refl, refl, refl, refl)
-
-pub safe_ns : (c : ℕ) (x : Ctx) → is_plain_safe c x ≡ true → is_ns_char c ≡ true
-unfolding is_plain_safe
-safe_ns c BlockOut e = absurd (true≢false (sym e))
-safe_ns c BlockIn e = absurd (true≢false (sym e))
-safe_ns c FlowOut e = e
-safe_ns c BlockKey e = e
-safe_ns c FlowIn e = (and_parts (is_ns_char c) (not (is_flow_indicator c)) e).0
-safe_ns c FlowKey e = (and_parts (is_ns_char c) (not (is_flow_indicator c)) e).0
 
 pub in_flow_not_block : (c : Ctx) → is_block c ≡ false → is_block (in_flow c) ≡ false
 in_flow_not_block BlockOut b = b
@@ -200,7 +192,7 @@ module _ {t : List ℕ} where
   value_starts {i} {j} v = sign_starts t i j 58 v.colon sign_facts.0 sign_facts.2 (λ q. omega arith) v.later
 
   properties_node : {n : ℤ} {c : Ctx} {i g j : ℕ} {p : PropertiesValue} → Properties t n c i g p → g ≤ j → NodeStarts t c i j
-  properties_node {c = c} {i = i} {j = j} p l = let m = properties_later p in mark_node t c i j (properties_mark (code t i) (properties_begin p)) (omega arith)
+  properties_node {c = c} {i = i} {j = j} p l = let m = properties_forward p in mark_node t c i j (properties_mark (code t i) (properties_begin p)) (omega arith)
 
   bracket_starts : (s : Bool) {i j : ℕ} → code t i ≡ opening s → i < j → ContentStarts t i j
   bracket_starts s e l = record { later = l; content = ap begins_content e ∙ opening_begins s }

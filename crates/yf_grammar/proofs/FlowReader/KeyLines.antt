@@ -27,7 +27,7 @@ use Rattle.yf_plain.specs.Plain.{PlainItem, PlainLine, PlainText}
 use Rattle.yf_plain.specs.Plain.PlainItem.{set_off}
 use Rattle.yf_plain.specs.Plain.PlainLine.{one_line}
 use Rattle.yf_plain.specs.Plain.PlainText.{as_key, as_lines}
-use Rattle.yf_plain.proofs.PlainLemmas.{plain_is_ns, first_is_ns, ns_lf, ns_cr, ns_below}
+use Rattle.yf_plain.proofs.PlainLemmas.{plain_is_ns, first_is_ns, ns_cr, ns_below}
 use Rattle.yf_props.specs.Names.{Alias, Anchor, AnchorChar, TagProperty, Properties, PropertiesValue}
 use Rattle.yf_props.specs.Names.Alias.{asterisk_name}
 use Rattle.yf_props.specs.Names.Anchor.{ampersand_name}
@@ -45,16 +45,15 @@ use Rattle.yf_grammar.specs.Productions.Grammar.MaySeparate.{unseparated, separa
 use Rattle.yf_grammar.specs.Productions.Grammar.MaySeparateInLine.{unseparated_in_line, separated_in_line}
 use Rattle.yf_grammar.specs.Productions.Grammar.Derives.{flow_node, an_alias, a_plain, a_plain_with, properties_alone, a_json, a_json_with, a_single, a_double, an_empty_collection, a_collection, last_entry, last_entry_with_comma, more_entries, a_node_entry, a_pair_entry, an_explicit_entry, an_implicit_entry, an_explicit_pair, a_keyed_pair, an_unkeyed_pair, explicit_with, explicit_without, key_alone, key_and_value, value_alone, empty_value, a_value, a_key, a_block_scalar, a_block_scalar_with, a_block_collection, a_block_collection_with, flow_in_block, a_last_entry, an_entry_before, a_dash_entry, an_explicit_entry_with, an_explicit_key_alone, a_keyed_entry, an_unkeyed_entry, a_block_value, an_empty_block_value, a_compact_collection, an_indented_node, nothing_indented}
 use Rattle.yf_grammar.specs.FlowReader.Parser.{OnOneLine}
+use Rattle.yf_chars.proofs.CharFacts.{feed_no_ns}
+use Rattle.yf_chars.proofs.CharBounds.{json_below}
+use Rattle.yf_plain.proofs.LineLemmas.{key_not_flow}
 
 ns_line : (c : ℕ) → is_ns_char c ≡ true → is_break_char c ≡ false
-ns_line c e = no_break c (λ q. true≢false (sym e ∙ ap is_ns_char q ∙ ns_lf)) (λ q. true≢false (sym e ∙ ap is_ns_char q ∙ ns_cr))
+ns_line c e = no_break c (λ q. true≢false (sym e ∙ ap is_ns_char q ∙ feed_no_ns)) (λ q. true≢false (sym e ∙ ap is_ns_char q ∙ ns_cr))
 
 json_line : (c : ℕ) → is_nb_json c ≡ true → is_break_char c ≡ false
 json_line c e = no_break c (λ q. true≢false (sym e ∙ ap is_nb_json q ∙ json_lf)) (λ q. true≢false (sym e ∙ ap is_nb_json q ∙ json_cr))
-
-json_below : (c : ℕ) → is_nb_json c ≡ true → c < no_char
-unfolding is_nb_json is_between
-json_below c e = grind (arith, nat_tests)
 
 pub anchor_ns : (c : ℕ) → is_anchor_char c ≡ true → is_ns_char c ≡ true
 unfolding is_anchor_char
@@ -71,14 +70,6 @@ digit_line c l = no_break c (λ e. ten (subst (λ w. digit_value w < 16) e l)) (
 
   thirteen : digit_value 13 < 16 → ⊥
   thirteen l = omega arith
-
-key_not_flow : (c : Ctx) → is_key c ≡ true → is_flow c ≡ true → ⊥
-key_not_flow BlockOut k f = true≢false (sym k)
-key_not_flow BlockIn k f = true≢false (sym k)
-key_not_flow FlowOut k f = true≢false (sym k)
-key_not_flow FlowIn k f = true≢false (sym k)
-key_not_flow BlockKey k f = true≢false (sym f)
-key_not_flow FlowKey k f = true≢false (sym f)
 
 key_in_flow : (c : Ctx) → is_key c ≡ true → is_key (in_flow c) ≡ true
 key_in_flow BlockOut k = k

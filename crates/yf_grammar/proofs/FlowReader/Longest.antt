@@ -22,7 +22,7 @@ use Rattle.yf_grammar.specs.FlowReader.Parser.{ParsedNode, found, ANode, AConten
 use Rattle.yf_grammar.specs.FlowReader.Parser.Parses.{content_read}
 use Rattle.yf_grammar.proofs.Ends.GapLemmas.{Visible, separate_is}
 use Rattle.yf_grammar.proofs.FlowReader.PlainEnds.{plain_leaps, plain_later, is_bar, first_no_bar, no_bar_plain, no_bar_content, no_bar_properties}
-use Rattle.yf_grammar.proofs.FlowReader.PropertiesEnds.{properties_before, properties_later}
+use Rattle.yf_grammar.proofs.FlowReader.PropertiesEnds.{properties_before}
 use Rattle.yf_grammar.proofs.FlowReader.FlowStarts.{flow_starts, bar_no_hash}
 use Rattle.yf_grammar.proofs.Ends.WiderLemmas.{same_context}
 use Rattle.yf_grammar.proofs.Ends.NodeExits.{node_alias, node_plain, node_content, node_properties, past_properties, PastProperties, past_to_content, past_to_plain, past_to_nothing, past_to_broken, past_to_other, none_found, none_some}
@@ -31,6 +31,7 @@ use Rattle.yf_grammar.proofs.FlowReader.ContentExact.{Reaches, reaches, passes}
 use Rattle.yf_grammar.proofs.FlowReader.CompleteSteps.{propertied_content, some_has}
 use Rattle.yf_grammar.proofs.FlowReader.Complete.{complete}
 use Rattle.yf_grammar.proofs.FlowReader.Sound.{found_is_derived}
+use Rattle.yf_props.proofs.NameOrder.{properties_forward}
 
 -- the outcome is something that ends after j, or at j with that meaning
 pub record Longest (o : Option ParsedNode) (j : ℕ) (x : Meaning) : Type 0 where
@@ -70,7 +71,7 @@ reaches_longest : {t : List ℕ} {o : Option ParsedNode} {j h : ℕ} {x : Meanin
 reaches_longest {j = j} {h = h} {x = x} (reaches e) = exact_longest j h true x e
 reaches_longest (passes f e l q) = record { answer = f; is = e; far = inl l }
 
-none_reaches : {t : List ℕ} {j h : ℕ} {x : Meaning} → Reaches t None j h x → ⊥
+pub none_reaches : {t : List ℕ} {j h : ℕ} {x : Meaning} → Reaches t None j h x → ⊥
 none_reaches {j = j} {h = h} {x = x} (reaches e) = none_found j h true x e
 none_reaches (passes f e l q) = cc
 
@@ -149,14 +150,14 @@ module _ {t : List ℕ} (u : IsUtf8 t) {n : ℤ} {c : Ctx} (b : is_block c ≡ f
       node_plain (λ q. Longest q j x) (no_bar_plain (code t i) (first_no_bar t c i (plain_leaps p).0)) (record { text = p; clear = k })
       (λ m z d. leaf_longest m z 0 false (λ w v. scalar PlainStyle (encode_utf8_all v) [] i w) j y (record { text = p; clear = k }) d (plain_is z i m)) r
   longest l (a_plain_with d s p) k r =
-      let a = properties_later d in
+      let a = properties_forward d in
       let g = separate_forward s in
       plain_with_longest d s p (clear_back (omega arith) k) r
   longest l (properties_alone y d) k r = alone_longest d r
   longest {e = e} {j = j} {x = x} l (a_json d) k r =
       node_content (λ q. Longest q j x) (flow_starts d b).content (λ q p. reaches_longest (complete u d n c b same_context k e l q p)) r
   longest {e = e} {i = i} {j = j} {x = x} l (a_json_with {g = g} {p = p} {cs = cs} d s y) k r =
-      let a = properties_later d in
+      let a = properties_forward d in
       let f = separate_forward s in
       let back = clear_back (omega arith) k in
       propertied_content (λ q. Longest q j x) u d s (flow_starts (a_json y) b).starts.visible (flow_starts y b).content

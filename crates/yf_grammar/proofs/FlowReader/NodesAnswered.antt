@@ -23,9 +23,9 @@ use Rattle.yf_grammar.proofs.BlockReader.PropertiesReached.{properties_reached, 
 use Rattle.yf_grammar.proofs.FlowReader.FlowStarts.{flow_starts}
 use Rattle.yf_grammar.proofs.Ends.Forward.{whites_forward}
 use Rattle.yf_grammar.proofs.Ends.NodeExits.{none_found}
-use Rattle.yf_grammar.proofs.FlowReader.PropertiesEnds.{properties_later}
 use Rattle.yf_grammar.proofs.FlowReader.Sound.{sound, found_is_derived}
 use Rattle.yf_grammar.proofs.Ends.WiderLemmas.{is_inside}
+use Rattle.yf_props.proofs.NameOrder.{properties_forward}
 
 -- an outcome of a task
 pub record Answer (t : List ℕ) (e : ℕ) (task : Task) : Type 0 where
@@ -78,7 +78,7 @@ Fit t (AnExplicit n c s i) = Inside c
 Fit t (AnEntry s n c i) = Inside c
 Fit t (TheEntries s n c i) = Inside c
 
-flow_not_block : (c : Ctx) → is_flow c ≡ true → is_block c ≡ false
+pub flow_not_block : (c : Ctx) → is_flow c ≡ true → is_block c ≡ false
 flow_not_block BlockOut f = absurd (true≢false (sym f))
 flow_not_block BlockIn f = absurd (true≢false (sym f))
 flow_not_block FlowOut f = refl
@@ -112,7 +112,7 @@ opening_real : (c : ℕ) (s : Bool) → c ≡ opening s → c < no_char
 opening_real c true e = omega arith
 opening_real c false e = omega arith
 
-plain_else : (c : ℕ) → begins_alias c ≡ false → begins_properties c ≡ false → begins_content c ≡ false → begins_plain c ≡ true
+pub plain_else : (c : ℕ) → begins_alias c ≡ false → begins_properties c ≡ false → begins_content c ≡ false → begins_plain c ≡ true
 unfolding begins_plain
 plain_else c a b d = rw (a, b, d) refl
 
@@ -124,7 +124,7 @@ value_found (Parser.value_adjacent s p) e = absurd (cc)
 value_found (Parser.value_adjacent_empty {i = i} s p) e = none_found (i + 1) 0 false _ e
 value_found (Parser.value_missing {i = i} s) e = none_found (i + 1) 0 false _ e
 
-gap_forward : {t : List ℕ} {n : ℤ} {c : Ctx} {i k : ℕ} {cs : List CommentValue} → Gap t n c i k cs → i ≤ k
+pub gap_forward : {t : List ℕ} {n : ℤ} {c : Ctx} {i k : ℕ} {cs : List CommentValue} → Gap t n c i k cs → i ≤ k
 gap_forward (Parser.longest_gap s) = separate_forward s.derived
 gap_forward (Parser.no_gap s) = omega arith
 
@@ -145,7 +145,7 @@ module _ {t : List ℕ} (u : IsUtf8 t) (m : ℕ) (known : (e : ℕ) (task : Task
       → Chosen (Properties t n c i) g p → Chosen (Separate t n c g) k cs → Irrefutable (Answer t e (ANode n c i))
   after_gap {e} {i} {g} {k} {n} {c} f w p s = ⊎_elim
       (λ (b : begins_content (code t k) ≡ true).
-      let l = properties_later p.derived in
+      let l = properties_forward p.derived in
       let r = separate_forward s.derived in
       asks (known e (AContent n c k) (f, b) (omega arith)) (λ x q. answer (Parser.properties_content p s b q)) (λ q. answer (Parser.properties_before_broken p s b q)))
       (λ (b : begins_content (code t k) ≡ false).

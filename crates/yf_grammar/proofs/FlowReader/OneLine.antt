@@ -34,10 +34,11 @@ use Rattle.yf_grammar.specs.Productions.Grammar as Grammar
 use Rattle.yf_grammar.specs.Productions.Meaning.{Meaning}
 use Rattle.yf_grammar.specs.FlowReader.Parser.{OnOneLine}
 use Rattle.yf_grammar.proofs.FlowReader.FlowStarts.{flow_starts, in_flow_not_block, may_forward, value_forward}
-use Rattle.yf_grammar.proofs.Ends.Forward.{anchor_forward, whites_forward, nexts_forward, Onward, quoted_items_order, quoted_rest_order, single_onward, double_onward, fold_onward, double_break_onward, in_line_forward, items_forward}
+use Rattle.yf_grammar.proofs.Ends.Forward.{whites_forward, Onward, quoted_items_order, quoted_rest_order, single_onward, double_onward, fold_onward, double_break_onward, in_line_forward}
 use Rattle.yf_grammar.proofs.FlowReader.PlainEnds.{plain_later}
-use Rattle.yf_grammar.proofs.FlowReader.PropertiesEnds.{properties_later}
 use Rattle.yf_grammar.proofs.Ends.WiderLemmas.{is_inside, inside_not_block, in_flow_inside, safe_same}
+use Rattle.yf_props.proofs.NameOrder.{anchor_forward, properties_forward}
+use Rattle.yf_plain.proofs.PlainOrder.{items_forward, nexts_forward}
 
 -- a character of a break is between
 pub record Broken (t : List ℕ) (i j : ℕ) : Type 0 where
@@ -74,7 +75,7 @@ double_broken {t} {n} (escaped_break w e b c p) =
     let h = whites_forward (prefix_whites p).1 in
     broken_within _ _ (omega arith) (omega arith) (break_broken b)
 
-text_later : {t : List ℕ} {i j : ℕ} {x : List CommentValue} → CommentText t i j x → i < j
+pub text_later : {t : List ℕ} {i j : ℕ} {x : List CommentValue} → CommentText t i j x → i < j
 text_later {t} (Comments.comment_text e m n) = let h = chain_forward (one_functional t is_nb_char) m in omega arith
 
 -- the end of a line is a break, or the end of the text
@@ -99,11 +100,11 @@ rest_order (Comments.nothing e) = break_or_end_forward e
 rest_order (Comments.whites s e) = let f = in_line_forward s in let g = break_or_end_forward e in omega arith
 rest_order (Comments.comment s d e) = let f = in_line_forward s in let h = text_later d in let g = break_or_end_forward e in omega arith
 
-comment_line_order : {t : List ℕ} {i j : ℕ} {x : List CommentValue} → CommentLine t i j x → i ≤ j
+pub comment_line_order : {t : List ℕ} {i j : ℕ} {x : List CommentValue} → CommentLine t i j x → i ≤ j
 comment_line_order (Comments.whites_line s e) = let f = in_line_forward s in let g = break_or_end_forward e in omega arith
 comment_line_order (Comments.comment_line s d e) = let f = in_line_forward s in let h = text_later d in let g = break_or_end_forward e in omega arith
 
-comment_lines_order : {t : List ℕ} {i j : ℕ} {x : List CommentValue} → Chain (CommentLine t) i j x → i ≤ j
+pub comment_lines_order : {t : List ℕ} {i j : ℕ} {x : List CommentValue} → Chain (CommentLine t) i j x → i ≤ j
 comment_lines_order done = omega arith
 comment_lines_order (step s c) = let f = comment_line_order s in let g = comment_lines_order c in omega arith
 
@@ -279,12 +280,12 @@ keyed o l m (Grammar.flow_node d) = λ q. Grammar.flow_node (keyed o l m d q)
 keyed o l m (Grammar.an_alias b a) = λ q. Grammar.an_alias refl a
 keyed o l m (Grammar.a_plain p) = λ q. Grammar.a_plain (plain_key o q l m p)
 keyed o l m (Grammar.a_plain_with p s d) = λ q.
-    let f = properties_later p in let g = separate_forward s in let h = plain_later d in
+    let f = properties_forward p in let g = separate_forward s in let h = plain_later d in
     Grammar.a_plain_with (properties_key o l (omega arith) p) (separate_key o (omega arith) (omega arith) s) (plain_key o q (omega arith) m d)
 keyed o l m (Grammar.properties_alone b p) = λ q. Grammar.properties_alone refl (properties_key o l m p)
 keyed o l m (Grammar.a_json d) = λ q. Grammar.a_json (keyed o l m d q)
 keyed o l m (Grammar.a_json_with {c = c} p s d) = λ q.
-    let f = properties_later p in let g = separate_forward s in let h = (flow_starts d (inside_not_block c q)).later in
+    let f = properties_forward p in let g = separate_forward s in let h = (flow_starts d (inside_not_block c q)).later in
     Grammar.a_json_with (properties_key o l (omega arith) p) (separate_key o (omega arith) (omega arith) s) (keyed o (omega arith) m d q)
 keyed o l m (Grammar.a_single d) = λ q. Grammar.a_single (single_key o l m d)
 keyed o l m (Grammar.a_double d) = λ q. Grammar.a_double (double_key o l m d)

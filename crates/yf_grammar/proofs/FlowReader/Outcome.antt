@@ -18,6 +18,9 @@ use Rattle.yf_grammar.specs.Productions.Meaning.{◌⊕◌, meaning_after, notin
 use Rattle.yf_grammar.specs.FlowReader.Parser.{ParsedNode, Task, Parses, Gap, ColonAt, PairKey, found, plain_found, propertied, lone_properties, bracketed, joined, paired, pair_entry, only, begins_alias, begins_properties, begins_content, begins_plain}
 use Rattle.yf_grammar.specs.FlowReader.Parser as Parser
 use Rattle.yf_grammar.proofs.Ends.Ways.{Agree, Is, Never, Fork, one_way, other_way, Takes, taken, not_taken, Past, past, Finds, finds, finds_none, Limited, below, at_zero, Somewhere, there, nowhere, Flagged, flagged, is_agree, never_agree, fork_agree, takes_agree, past_agree, finds_agree, limited_agree, somewhere_agree, flagged_agree}
+use Rattle.yf_chars.proofs.CharFacts.{colon_no_white}
+use Rattle.yf_grammar.proofs.Ends.NodeExits.{alias_begins}
+use Rattle.yf_grammar.proofs.FlowReader.PropertiesEnds.{properties_begin}
 
 -- the outcomes of the tasks that a task calls for
 abbrev pub Outcomes : Type 1
@@ -140,11 +143,6 @@ Way R t e (Parser.AnExplicit n c s i) = ExplicitWay R t e n c s i
 Way R t e (Parser.AnImplicit n c s i) = ImplicitWay R t e n c s i
 Way R t e (Parser.AValue json n c i) = ValueWay R t e json n c i
 
--- characters at which the ways part
-alias_begins : {t : List ℕ} {i j : ℕ} {x : List ℕ} → Alias t i j x → begins_alias (code t i) ≡ true
-unfolding begins_alias
-alias_begins (asterisk_name e r) = rw e refl
-
 anchor_code : {t : List ℕ} {i j : ℕ} {x : List ℕ} → Anchor t i j x → code t i ≡ 38
 anchor_code (ampersand_name e r) = e
 
@@ -156,21 +154,15 @@ starts_tag : (c : ℕ) → c ≡ 33 → begins_properties c ≡ true
 unfolding begins_properties
 starts_tag c e = rw e refl
 
-properties_begin : {t : List ℕ} {n : ℤ} {c : Ctx} {i j : ℕ} {p : PropertiesValue} → Properties t n c i j p → begins_properties (code t i) ≡ true
-properties_begin {t} {i = i} (by_tag g) = starts_tag (code t i) (tag_mark g)
-properties_begin {t} {i = i} (by_anchor a) = starts_anchor (code t i) (anchor_code a)
-properties_begin {t} {i = i} (tag_first g s a) = starts_tag (code t i) (tag_mark g)
-properties_begin {t} {i = i} (anchor_first a s g) = starts_anchor (code t i) (anchor_code a)
-
 properties_no_alias : (c : ℕ) → begins_properties c ≡ true → begins_alias c ≡ false
 unfolding begins_properties begins_alias
 properties_no_alias c e = grind (arith, nat_tests)
 
-content_no_alias : (c : ℕ) → begins_content c ≡ true → begins_alias c ≡ false
+pub content_no_alias : (c : ℕ) → begins_content c ≡ true → begins_alias c ≡ false
 unfolding begins_content begins_alias
 content_no_alias c e = grind (arith, nat_tests)
 
-content_no_properties : (c : ℕ) → begins_content c ≡ true → begins_properties c ≡ false
+pub content_no_properties : (c : ℕ) → begins_content c ≡ true → begins_properties c ≡ false
 unfolding begins_content begins_properties
 content_no_properties c e = grind (arith, nat_tests)
 
@@ -198,13 +190,9 @@ comma_no_closing : (c : ℕ) (s : Bool) → c ≡ 44 → c ≢ closing s
 comma_no_closing c true e q = omega arith
 comma_no_closing c false e q = omega arith
 
-white_colon : is_white 58 ≡ false
-unfolding is_white
-white_colon = refl
-
 pair_key_one : {t : List ℕ} {c : Ctx} {i : ℕ} {f : ParsedNode} (j k : ℕ) → PairKey t c i f j → PairKey t c i f k → k ≡ j
 pair_key_one {t} j k a b =
-    (many_unique t is_white b.run (ap is_white b.colon.colon ∙ white_colon) a.run (ap is_white a.colon.colon ∙ white_colon)).0
+    (many_unique t is_white b.run (ap is_white b.colon.colon ∙ colon_no_white) a.run (ap is_white a.colon.colon ∙ colon_no_white)).0
 
 -- no sign, or one with no separation after it
 unsigned : (R : Outcomes) (t : List ℕ) (e i : ℕ) (n : ℤ) (c : Ctx) (o : Option ParsedNode) → (code t i ≡ 63 → Stuck (Separate t n c (i + 1)))

@@ -21,13 +21,15 @@ use Rattle.yf_props.specs.Names.ShorthandTag.{handle_suffix}
 use Rattle.yf_props.specs.Names.TagProperty.{verbatim_tag, shorthand_tag, non_specific_tag}
 use Rattle.yf_props.specs.Names.Properties.{by_tag, by_anchor, tag_first, anchor_first}
 use Rattle.yf_props.proofs.NameLemmas.{anchor_parts, anchor_unique, run_unique}
-use Rattle.yf_props.proofs.TagLemmas.{tag_mark, tag_later, tag_functional, word_uri, verbatim_chosen, verbatim_tag_chosen}
+use Rattle.yf_props.proofs.TagLemmas.{tag_mark, tag_later, tag_functional, word_uri, verbatim_chosen, verbatim_tag_chosen, word_flow, word_tag}
 use Rattle.yf_props.proofs.SeparationEnds.{no_separation_inside, separate_forward}
 use Rattle.yf_props.proofs.SolidLemmas.{tag_all_solid}
 use Rattle.yf_grammar.specs.Productions.Grammar.{MaySeparate}
 use Rattle.yf_grammar.specs.Productions.Grammar.MaySeparate.{unseparated, separated}
 use Rattle.yf_grammar.specs.FlowReader.Parser.{begins_properties}
 use Rattle.yf_grammar.proofs.Ends.GapLemmas.{Visible, separate_still, same_end}
+use Rattle.yf_chars.proofs.CharFacts.{exclamation_no_tag, exclamation_no_word, angle_no_tag, angle_no_word}
+use Rattle.yf_props.proofs.NameOrder.{properties_forward}
 
 -- what is after a node in a flow collection: a comma, a closing bracket, or the `:` after a key
 unfoldable pub is_stop : ℕ → Bool
@@ -63,30 +65,6 @@ ns_marks : (is_ns_char 33 ≡ true) × (is_ns_char 38 ≡ true)
 unfolding is_ns_char is_nb_char is_printable is_between is_break_char is_white
 ns_marks = (refl, refl)
 
-word_no_flow : (c : ℕ) → is_word_char c ≡ true → is_flow_indicator c ≡ false
-unfolding is_word_char is_flow_indicator is_digit is_between
-word_no_flow c e = grind (arith, nat_tests)
-
-word_not_mark : is_word_char 33 ≡ false
-unfolding is_word_char is_digit is_between
-word_not_mark = refl
-
-word_is_tag : (c : ℕ) → is_word_char c ≡ true → is_tag_char c ≡ true
-unfolding is_tag_char
-word_is_tag c e = rw (word_uri c e, word_no_flow c e, ne_eqb c 33 (λ q. true≢false (sym e ∙ ap is_word_char q ∙ word_not_mark))) refl
-
-tag_not_mark : is_tag_char 33 ≡ false
-unfolding is_tag_char is_uri_char is_word_char is_digit is_between is_flow_indicator
-tag_not_mark = refl
-
-word_not_bracket : is_word_char 60 ≡ false
-unfolding is_word_char is_digit is_between
-word_not_bracket = refl
-
-tag_not_bracket : is_tag_char 60 ≡ false
-unfolding is_tag_char is_uri_char is_word_char is_digit is_between is_flow_indicator
-tag_not_bracket = refl
-
 module _ {t : List ℕ} where
   tag_first_char : {i j : ℕ} {x : List ℕ} → TagChar t i j x → (is_tag_char (code t i) ≡ true) ⊎ (code t i ≡ 37)
   tag_first_char (as_itself e) = inl e
@@ -104,7 +82,7 @@ module _ {t : List ℕ} where
   words_first (step s c) l = word_first_char s
 
   word_tag_step : {i j : ℕ} {x : List ℕ} → WordChar t i j x → TagChar t i j x
-  word_tag_step (one {i = i} e) = as_itself (word_is_tag (code t i) e)
+  word_tag_step (one {i = i} e) = as_itself (word_tag (code t i) e)
 
   word_tag_steps : {i j : ℕ} {x : List ℕ} → Chain (WordChar t) i j x → Chain (TagChar t) i j x
   word_tag_steps done = done
@@ -117,12 +95,12 @@ module _ {t : List ℕ} where
   no_word_at r f = true≢false (sym (words_first r.chain r.some) ∙ f)
 
   mark_no_word : {i j : ℕ} → Run (WordChar t) i j → code t i ≡ 33 → ⊥
-  mark_no_word r e = no_word_at r (ap is_word_char e ∙ word_not_mark)
+  mark_no_word r e = no_word_at r (ap is_word_char e ∙ exclamation_no_word)
 
   -- the suffix after a `!` alone ends where a longer handle ends
   suffix_end : {i w k : ℕ} → Run (WordChar t) i w → code t w ≡ 33 → Run (TagChar t) i k → k ≡ w
   suffix_end {w = w} s b r =
-      let stuck : Stuck (TagChar t w) = record { none = λ j x d. ⊎_elim (λ (q : is_tag_char (code t w) ≡ true). true≢false (sym q ∙ ap is_tag_char b ∙ tag_not_mark)) (λ (q : code t w ≡ 37). absurd (omega arith)) (tag_first_char d) } in
+      let stuck : Stuck (TagChar t w) = record { none = λ j x d. ⊎_elim (λ (q : is_tag_char (code t w) ≡ true). true≢false (sym q ∙ ap is_tag_char b ∙ exclamation_no_tag)) (λ (q : code t w ≡ 37). absurd (omega arith)) (tag_first_char d) } in
       (stuck_unique tag_functional r.chain r.all (word_tag_steps s.chain) stuck).0
 
   words_unique : {i w v : ℕ} → Run (WordChar t) i w → Run (WordChar t) i v → w ≡ v
@@ -134,10 +112,10 @@ module _ {t : List ℕ} where
   -- two shorthands from one place
   two_handles : {i h g m k : ℕ} → Handle t i h → Run (TagChar t) h g → Handle t i m → Run (TagChar t) m k → is_stop (code t g) ≡ true → g < k → ⊥
   two_handles (primary_handle a) r (primary_handle b) s e l = let q = tags_unique r s in omega arith
-  two_handles (primary_handle a) r (secondary_handle b c) s e l = no_tag_at 33 r c tag_not_mark (λ q. absurd (omega arith))
+  two_handles (primary_handle a) r (secondary_handle b c) s e l = no_tag_at 33 r c exclamation_no_tag (λ q. absurd (omega arith))
   two_handles {g = g} (primary_handle a) r (named_handle {j = w} b n c) s e l =
       let q = suffix_end n c r in stop_not (code t g) 33 e stop_marks.0 (ap (code t) q ∙ c)
-  two_handles (secondary_handle a b) r (primary_handle c) s e l = no_tag_at 33 s b tag_not_mark (λ q. absurd (omega arith))
+  two_handles (secondary_handle a b) r (primary_handle c) s e l = no_tag_at 33 s b exclamation_no_tag (λ q. absurd (omega arith))
   two_handles (secondary_handle a b) r (secondary_handle c d) s e l = let q = tags_unique r s in omega arith
   two_handles (secondary_handle a b) r (named_handle c n d) s e l = mark_no_word n b
   two_handles (named_handle a n b) r (primary_handle c) s e l = let q = suffix_end n b s in let f = r.some in omega arith
@@ -148,9 +126,9 @@ module _ {t : List ℕ} where
       let p = tags_unique r' s in omega arith
 
   bracket_handle : {i h g : ℕ} → Handle t i h → Run (TagChar t) h g → code t (i + 1) ≡ 60 → ⊥
-  bracket_handle (primary_handle a) r e = no_tag_at 60 r e tag_not_bracket (λ q. absurd (omega arith))
+  bracket_handle (primary_handle a) r e = no_tag_at 60 r e angle_no_tag (λ q. absurd (omega arith))
   bracket_handle (secondary_handle a b) r e = absurd (omega arith)
-  bracket_handle (named_handle a n b) r e = let q = words_first n.chain n.some in true≢false (sym q ∙ ap is_word_char e ∙ word_not_bracket)
+  bracket_handle (named_handle a n b) r e = let q = words_first n.chain n.some in true≢false (sym q ∙ ap is_word_char e ∙ angle_no_word)
 
   verbatim_open : {i k : ℕ} {x : List ℕ} → VerbatimTag t i k x → code t (i + 1) ≡ 60
   verbatim_open (in_brackets a b r c) = b
@@ -323,9 +301,3 @@ properties_begin (by_tag d) = ap begins_properties (tag_mark d) ∙ begin_marks.
 properties_begin (by_anchor a) = ap begins_properties (anchor_parts a).0 ∙ begin_marks.1
 properties_begin (tag_first d s a) = ap begins_properties (tag_mark d) ∙ begin_marks.0
 properties_begin (anchor_first a s d) = ap begins_properties (anchor_parts a).0 ∙ begin_marks.1
-
-pub properties_later : {t : List ℕ} {n : ℤ} {c : Ctx} {i j : ℕ} {p : PropertiesValue} → Properties t n c i j p → i < j
-properties_later (by_tag d) = tag_later d
-properties_later (by_anchor a) = let r = (anchor_parts a).1 in omega (arith, r.some)
-properties_later (tag_first d s a) = let e = tag_later d in let f = separate_forward s in let r = (anchor_parts a).1 in omega (arith, r.some)
-properties_later (anchor_first a s d) = let e = tag_later d in let f = separate_forward s in let r = (anchor_parts a).1 in omega (arith, r.some)

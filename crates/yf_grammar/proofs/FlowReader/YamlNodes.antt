@@ -12,11 +12,11 @@ use Rattle.yf_grammar.specs.Productions.Meaning.{Meaning, alias_to}
 use Rattle.yf_grammar.specs.Productions.Grammar.{NodeOf, Derives}
 use Rattle.yf_grammar.specs.Productions.Grammar.Derives.{an_alias, a_plain, a_plain_with, properties_alone}
 use Rattle.yf_grammar.specs.FlowReader.Parser.{ParsedNode, found, ANode, Parses, propertied, lone_properties, plain_found}
-use Rattle.yf_grammar.proofs.FlowReader.PropertiesEnds.{properties_later}
 use Rattle.yf_grammar.proofs.Ends.WiderLemmas.{is_inside}
 use Rattle.yf_grammar.proofs.Ends.NodeExits.{node_alias, node_plain, node_properties, PastProperties, past_to_content, past_to_plain, past_to_nothing, past_to_broken, past_to_other}
 use Rattle.yf_grammar.proofs.FlowReader.PlainEnds.{plain_leaps, first_no_bar, no_bar_plain}
 use Rattle.yf_grammar.proofs.FlowReader.NodeExact.{Followed, plain_exact, plain_with_exact, alone_exact}
+use Rattle.yf_props.proofs.NameOrder.{properties_forward}
 
 -- a node like YAML's, inside of a flow collection and before what can follow it, is found as it is derived
 pub yaml_node_is_found : {t : List ℕ} {n : ℤ} {c : Ctx} {h e i j : ℕ} {x : Meaning} {o : Option ParsedNode} → IsUtf8 t → is_inside c ≡ true
@@ -24,7 +24,7 @@ pub yaml_node_is_found : {t : List ℕ} {n : ℤ} {c : Ctx} {h e i j : ℕ} {x :
 yaml_node_is_found u s (an_alias b a) k f r = node_alias a r
 yaml_node_is_found u s (a_plain p) k f r = plain_exact u s p k f r
 yaml_node_is_found u s (a_plain_with d z p) k f r =
-    let a = properties_later d in
+    let a = properties_forward d in
     let b = separate_forward z in
     plain_with_exact u s d z p (clear_back (omega arith) k) f r
 yaml_node_is_found u s (properties_alone b d) k f r = alone_exact u d f r

@@ -30,6 +30,7 @@ use Rattle.yf_grammar.proofs.FlowReader.PlainEnds.{plain_leaps}
 use Rattle.yf_grammar.proofs.FlowReader.FlowStarts.{is_end}
 use Rattle.yf_props.proofs.SeparationEnds.{separate_forward}
 use Rattle.yf_grammar.proofs.Ends.Ways.{gap_one}
+use Rattle.yf_chars.proofs.CharFacts.{colon_ns}
 
 -- separation is the same within a collection
 same_keys : (c : Ctx) → is_key (in_flow c) ≡ is_key c
@@ -94,10 +95,6 @@ not_ended false c e = (λ q. true≢false (sym (ap is_entry_end q) ∙ e), λ q.
 content_not_ended : (c : ℕ) → begins_content c ≡ true → (is_entry_end c ≡ false) × (c ≢ 58)
 unfolding begins_content
 content_not_ended c e = (grind (arith, nat_tests), grind (arith, nat_tests))
-
-colon_ns : is_ns_char 58 ≡ true
-unfolding is_ns_char is_nb_char is_printable is_between is_break_char is_white
-colon_ns = refl
 
 in_line_separate : {t : List ℕ} {n : ℤ} (d : Ctx) {i j : ℕ} → SeparateInLine t i j → (b : Bool) → is_key d ≡ b → Separate t n d i j []
 in_line_separate d s true e = in_key e s

@@ -21,7 +21,7 @@ after_is : (cs : List CommentValue) (x : Meaning) → meaning_after cs x ≡ not
 unfolding meaning_after noting only ◌⊕◌
 after_is cs x = refl
 
-nothing_before : (x : Meaning) → x ≡ only [] 0 ⊕ x
+pub nothing_before : (x : Meaning) → x ≡ only [] 0 ⊕ x
 unfolding only ◌⊕◌
 nothing_before x = refl
 

@@ -11,8 +11,8 @@ use Rattle.yf_grammar.specs.Productions.Meaning.{Meaning, ◌⊕◌, meaning_aft
 use Rattle.yf_grammar.proofs.BlockOutcomes.BlockStarts.{block_starts, header_later, line_end_forward}
 use Rattle.yf_grammar.proofs.FlowReader.FlowStarts.{flow_starts, may_forward, value_forward}
 use Rattle.yf_grammar.proofs.NodesInText.PlacedScalars.{between_forward}
-use Rattle.yf_grammar.proofs.FlowReader.PropertiesEnds.{properties_later}
 use Rattle.yf_grammar.proofs.FlowReader.QuotedEnds.{single_later, double_later}
+use Rattle.yf_props.proofs.NameOrder.{properties_forward}
 
 abbrev pub FinishClaim : List ℕ → Production → ℕ → Meaning → Type 0
 FinishClaim t (FlowNode n c) i x = is_block c ≡ false → i < x.finish
@@ -41,9 +41,9 @@ module _ {t : List ℕ} (u : IsUtf8 t) where
   finish_later (an_alias {n = n} f a) = λ b. (flow_starts (an_alias {n = n} f a) b).starts.later
   finish_later (a_plain p) = λ b. (flow_starts (a_plain p) b).starts.later
   finish_later (a_plain_with p s q) = λ b. (flow_starts (a_plain_with p s q) b).starts.later
-  finish_later (properties_alone f p) = λ b. properties_later p
+  finish_later (properties_alone f p) = λ b. properties_forward p
   finish_later (a_json d) = λ b. finish_later d b
-  finish_later (a_json_with p s d) = λ b. let l = properties_later p in let m = separate_forward s in let o = finish_later d b in omega arith
+  finish_later (a_json_with p s d) = λ b. let l = properties_forward p in let m = separate_forward s in let o = finish_later d b in omega arith
   finish_later (a_single q) = λ b. single_later b q
   finish_later (a_double q) = λ b. double_later b q
   finish_later (an_empty_collection s f e m g) = λ b. (flow_starts (an_empty_collection s f e m g) b).later
@@ -70,10 +70,10 @@ module _ {t : List ℕ} (u : IsUtf8 t) where
   finish_later (a_key _ _ _) = tt
   finish_later (a_block_scalar b s d) = let l = separate_forward s in let m = scalar_finish d in omega arith
   finish_later (a_block_scalar_with b s p r d) =
-      let l = separate_forward s in let m = properties_later p in let o = separate_forward r in let q = scalar_finish d in omega arith
+      let l = separate_forward s in let m = properties_forward p in let o = separate_forward r in let q = scalar_finish d in omega arith
   finish_later (a_block_collection b e s l d) = let f = line_end_forward e in let g = finish_later d in omega arith
   finish_later (a_block_collection_with b s p e r l d) =
-      let f = separate_forward s in let g = properties_later p in let m = line_end_forward e in let o = finish_later d in omega arith
+      let f = separate_forward s in let g = properties_forward p in let m = line_end_forward e in let o = finish_later d in omega arith
   finish_later (flow_in_block b s d e) = let f = separate_forward s in let g = finish_later d refl in omega arith
   finish_later (a_last_entry d) = finish_later d
   finish_later (an_entry_before d s e) = let f = (block_starts d).later in let g = finish_later e in omega arith

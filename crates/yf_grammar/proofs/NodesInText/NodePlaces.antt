@@ -87,7 +87,7 @@ mutual
     pair_is_at : {i l m n j : ℕ} {k v : Node} {ps : Pairs} (e : Entry) → Entered k v e → Begins t i e.start
         → NodeIsAt t e.start l k → ColonIsAt t l m e.colon → NodeIsAt t m n v → PairsStand t n j ps → PairsStand t i j (pair k v ps)
 
-colon_order : {t : List ℕ} {i j : ℕ} {c : Option ℕ} → ColonIsAt t i j c → i ≤ j
+pub colon_order : {t : List ℕ} {i j : ℕ} {c : Option ℕ} → ColonIsAt t i j c → i ≤ j
 colon_order (no_colon l) = l
 colon_order (a_colon l e m) = omega arith
 

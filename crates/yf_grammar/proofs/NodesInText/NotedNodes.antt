@@ -106,12 +106,12 @@ spanned_as e = ap is_some (sym e)
 
 -- how the events of a collection, of an item and of a pair are joined
 
-enclosed : (ys more more2 more3 inner : List EventInText) (first last : EventInText) → ys ≡ first ∷ more → more ≡ inner ++ more2 → more2 ≡ last ∷ more3
+pub enclosed : (ys more more2 more3 inner : List EventInText) (first last : EventInText) → ys ≡ first ∷ more → more ≡ inner ++ more2 → more2 ≡ last ∷ more3
     → ys ≡ (first ∷ (inner ++ (last ∷ []))) ++ more3
 enclosed ys more more2 more3 inner first last e f g =
     let whole : ys ≡ first ∷ (inner ++ (last ∷ more3)) = cc in whole ∙ ap (λ z. first ∷ z) (sym (append_assoc inner (last ∷ []) more3))
 
-two : (ys more more2 x y : List EventInText) → ys ≡ x ++ more → more ≡ y ++ more2 → ys ≡ (x ++ y) ++ more2
+pub two : (ys more more2 x y : List EventInText) → ys ≡ x ++ more → more ≡ y ++ more2 → ys ≡ (x ++ y) ++ more2
 two ys more more2 x y e f = let whole : ys ≡ x ++ (y ++ more2) = cc in whole ∙ sym (append_assoc x y more2)
 
 mutual

@@ -39,10 +39,11 @@ use Rattle.yf_grammar.specs.Productions.SpellableTexts.{IsSpelled}
 use Rattle.yf_grammar.proofs.Ends.GapLemmas.{Visible}
 use Rattle.yf_grammar.proofs.NodesInText.NodePlaces.{HasProps, has_tag, has_anchor, HasText, verbatim_text, short_text, non_specific_text, HasCharacters, by_props, by_text, scalar_is_at, alias_is_at}
 use Rattle.yf_grammar.proofs.NodesInText.PlacedNodes.{NodeAt}
+use Rattle.yf_grammar.proofs.BlockOutcomes.BlockGaps.{block_no_key}
 
 -- What nodes begin with.
 
-properties_seen : (c : ℕ) → begins_properties c ≡ true → is_ns_char c ≡ true
+pub properties_seen : (c : ℕ) → begins_properties c ≡ true → is_ns_char c ≡ true
 unfolding begins_properties is_ns_char is_nb_char is_printable is_between is_break_char is_white
 properties_seen c e = grind (arith, nat_tests)
 
@@ -126,14 +127,6 @@ nothing_spelled = record {
   at = record { span = None; tag_offset = None; entry = None };
   is = refl;
 }
-
-block_no_key : (c : Ctx) → is_block c ≡ true → is_key c ≡ false
-block_no_key BlockOut e = refl
-block_no_key BlockIn e = refl
-block_no_key FlowOut e = absurd (true≢false (sym e))
-block_no_key FlowIn e = absurd (true≢false (sym e))
-block_no_key BlockKey e = absurd (true≢false (sym e))
-block_no_key FlowKey e = absurd (true≢false (sym e))
 
 module _ {t : List ℕ} where
   flow_separate : {n : ℤ} {c : Ctx} {i j : ℕ} {x : List CommentValue} → is_block c ≡ true → Separate t n c i j x → Separate t n FlowOut i j x

@@ -22,10 +22,11 @@ use Rattle.yf_grammar.proofs.NodesInText.NodePlaces.{Begins, content_after, no_c
 use Rattle.yf_grammar.proofs.NodesInText.PlacedLeaves.{content_visible, properties_visible, plain_characters, single_plain, double_plain, properties_written, nothing_spelled, properties_spelled, block_properties_spelled, scalar_at, scalar_with, properties_at, alias_at}
 use Rattle.yf_grammar.proofs.NodesInText.PlacedNodes.{NodeAt, PairAt, EntryAt, an_item, a_pair, EntriesAt, node_wider, node_next, node_noting, nothing_at, item_of, pair_of, pair_after, last_of, more_of, entry_noting, entries_after, entries_none, collection_at, collection_with, node_narrow, pair_narrow, pair_key_noting, entries_narrow, entries_end, entries_wider}
 use Rattle.yf_grammar.proofs.NodesInText.PlacedScalars.{scalar_visible, block_scalar_at, block_scalar_with}
-use Rattle.yf_grammar.proofs.FlowReader.PropertiesEnds.{properties_begin, properties_later}
+use Rattle.yf_grammar.proofs.FlowReader.PropertiesEnds.{properties_begin}
 use Rattle.yf_grammar.proofs.FlowReader.QuotedEnds.{single_later, double_later}
 use Rattle.yf_grammar.specs.FlowReader.Parser.{begins_content}
 use Rattle.yf_grammar.proofs.NodesInText.NodePlaces.{by_style}
+use Rattle.yf_props.proofs.NameOrder.{properties_forward}
 
 -- a quoted scalar or a flow collection, without properties or with them
 pub record ContentAt (t : List ℕ) (n : ℤ) (c : Ctx) (i j : ℕ) (x : Meaning) : Type 0 where
@@ -73,7 +74,7 @@ module _ {t : List ℕ} (u : IsUtf8 t) where
   brackets_at {i = i} {k = k} {s = s} b e l w a = record {
     alone = collection_at true nothing_spelled (here (opening_seen s e)) l (omega arith) (entries_wider a (omega arith)) (omega arith);
     propertied = λ f g p cs q r.
-        let m = properties_later q in
+        let m = properties_forward q in
         let o = separate_forward r in
         node_next (p.comments ++ cs)
         (collection_with true p.props p.tag_offset g i (properties_spelled u b q) (here (seen_before q)) (omega arith) (omega arith)
@@ -88,7 +89,7 @@ module _ {t : List ℕ} (u : IsUtf8 t) where
   places (a_plain_with {g = g} {k = k} {p = v} {cs = cs} {x = x} p s q) = λ b.
       let f = (flow_starts (a_plain_with p s q) b).starts in
       scalar_with g k Plain (encode_utf8_all x) [] v.tag_offset (v.comments ++ cs) u (a_plain_with p s q) f.visible (omega (arith, f.later)) (properties_written p)
-  places (properties_alone f p) = λ b. let l = properties_later p in properties_at u f p (seen_before p) (omega arith)
+  places (properties_alone f p) = λ b. let l = properties_forward p in properties_at u f p (seen_before p) (omega arith)
   places (a_json d) = λ b. (places d b).alone
   places (a_json_with {i = i} {g = g} {p = v} {cs = cs} p s d) = λ b. (places d b).propertied i g v cs p s
   places (a_single {i = i} {j = j} {n = n} {c = c} {x = x} q) = λ b.
@@ -97,7 +98,7 @@ module _ {t : List ℕ} (u : IsUtf8 t) where
       record {
         alone = scalar_at Single (encode_utf8_all x) [] u (a_single q) v (omega arith) (by_style single_plain);
         propertied = λ f g p cs m r.
-            let y = properties_later m in
+            let y = properties_forward m in
             let z = separate_forward r in
             scalar_with g i Single (encode_utf8_all x) [] p.tag_offset (p.comments ++ cs) u (a_json_with m r (a_single q)) (seen_before m) (omega arith) (properties_written m);
       }
@@ -107,7 +108,7 @@ module _ {t : List ℕ} (u : IsUtf8 t) where
       record {
         alone = scalar_at Double (encode_utf8_all (text_of x)) (bad_escapes x) u (a_double q) v (omega arith) (by_style double_plain);
         propertied = λ f g p cs m r.
-            let y = properties_later m in
+            let y = properties_forward m in
             let z = separate_forward r in
             scalar_with g i Double (encode_utf8_all (text_of x)) (bad_escapes x) p.tag_offset (p.comments ++ cs) u (a_json_with m r (a_double q)) (seen_before m) (omega arith) (properties_written m);
       }
@@ -137,7 +138,7 @@ module _ {t : List ℕ} (u : IsUtf8 t) where
   places (a_block_scalar {k = k} {cs = cs} b s d) =
       record { from = k; begins = record { order = separate_forward s; visible = scalar_visible d }; node = block_scalar_at u cs d (a_block_scalar b s d) }
   places (a_block_scalar_with {f = f} {g = g} {cs = cs} {ds = ds} {p = p} b s q r d) =
-      let l = properties_later q in
+      let l = properties_forward q in
       let m = separate_forward r in
       record {
         from = f;
@@ -154,7 +155,7 @@ module _ {t : List ℕ} (u : IsUtf8 t) where
         node = node_next cs (collection_at false nothing_spelled (here v) (omega arith) (finish_later u d) (entries_narrow a) (entries_end a));
       }
   places (a_block_collection_with {f = f} {g = g} {k = k} {m = m} {cs = cs} {ds = ds} {p = p} b s q e r l d) =
-      let x = properties_later q in
+      let x = properties_forward q in
       let y = line_end_forward e in
       let a = places d in
       record {

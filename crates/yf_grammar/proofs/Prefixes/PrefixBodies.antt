@@ -19,7 +19,7 @@ use Rattle.yf_block_scalar.specs.declared.header.Header.{Header}
 use Rattle.yf_block_scalar.specs.declared.header.Chomp.{Chomp}
 use Rattle.yf_block_scalar.specs.Header.{Style, literal_sign, folded_sign, Digit, digit, Sign, strip_sign, keep_sign, Indicators, neither, digit_alone, sign_alone, digit_sign, sign_digit, HeaderValue, BlockHeader, block_header}
 use Rattle.yf_block_scalar.specs.Body.{least, SpaceLine, EmptyLines, bare, largest, by_break, by_text, LineContent, content, Line, empty_line, content_line, Lines, no_content, up_to, Tail, LinesTaken, Other, MarkerLine, marker_here, past_mark, IndentedLine, DetectedIndent, Shallow, missing, left_of, forbidden, is_gap_tail, first_noted, Trail, comments, no_comment, BodyValue, Body, indicated, detected, without_content}
-use Rattle.yf_block_scalar.proofs.UniqueLemmas.{line_functional, lines_chain, taken_unique}
+use Rattle.yf_block_scalar.proofs.UniqueLemmas.{line_functional, lines_chain, taken_unique, empties}
 use Rattle.yf_block_scalar.proofs.ScalarOrder.{marks_forward}
 use Rattle.yf_grammar.proofs.Prefixes.PrefixTexts.{Alike, alike_back, alike_next, alike_slice}
 use Rattle.yf_grammar.proofs.Prefixes.PrefixLines.{Carried, chain_order, chain_there, passes_there, char_there, not_there, run_there, break_there, spaces_there, marker_there, no_marker_there}
@@ -212,11 +212,6 @@ module _ {t s : List ℕ} {k : ℕ} (f : PrefixText t s k) where
             (λ (w : i + m < k). n m l (spaces_there (alike_back f.alike) d (omega arith)) (char_there (alike_back f.alike) (i + m) w e))
             (λ (w : k ≤ i + m). nothing_at_end 35 0 (i + m) (omega arith) w (ap (code s) (omega arith) ∙ e))
             (cases_lt (i + m) k))
-
--- all lines that are taken, the tail's among them
-empties : {t : List ℕ} {c i j : ℕ} {ms : List ℕ} → Chain (EmptyLines t) i j ms → largest ms ≤ c → Chain (Line t c) i j (replicate (length ms) [])
-empties done l = done
-empties (step (bare m d) g) l = step (empty_line d (omega arith)) (empties g (omega arith))
 
 all_taken : {t : List ℕ} {c i p count : ℕ} {ls : List (List ℕ)} {o : Bool} (d : LinesTaken t c i ls o count p) → Chain (Line t c) i p (ls ++ replicate (length d.tail.widths) [])
 all_taken d = chain_append (lines_chain d.lines) (empties d.tail.lines d.tail.within)

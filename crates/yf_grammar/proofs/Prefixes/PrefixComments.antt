@@ -16,18 +16,19 @@ use Rattle.yf_lines.proofs.BasicLemmas.{break_forward, white_below}
 use Rattle.yf_lines.proofs.LineLemmas.{break_within}
 use Rattle.yf_comments.specs.Comment.{CommentValue}
 use Rattle.yf_comments.specs.Comments.{Blank, text_begins, break_ends, white_ends, is_gap, BlankBefore, blank_line, past_gap, HasBlankNote, noted, not_noted, CommentText, comment_text, BreakOrEnd, by_break, by_end, LineRest, nothing, whites, comment, CommentLine, whites_line, comment_line, LineEnd, past_rest, from_start, SeparateLines, in_line, over_lines, Separate, in_key, in_node, Row}
-use Rattle.yf_comments.proofs.BlankLemmas.{white_lf, white_cr}
+use Rattle.yf_comments.proofs.BlankLemmas.{white_cr}
 use Rattle.yf_comments.proofs.LineOrder.{line_end_forward, rest_forward}
 use Rattle.yf_comments.proofs.RowLemmas.{break_or_end_forward}
 use Rattle.yf_comments.proofs.LineEndLemmas.{line_end_rows, rows_line_end, line_end_chosen}
 use Rattle.yf_grammar.proofs.Prefixes.PrefixTexts.{Alike, FeedOrReturn, alike_back, alike_next, alike_slice}
 use Rattle.yf_grammar.proofs.Prefixes.PrefixLines.{Carried, chain_order, chain_there, passes_there, char_there, run_there, run_order, break_there, start_there, in_line_there, prefix_there, prefix_order}
+use Rattle.yf_chars.proofs.CharFacts.{return_no_nb, feed_no_nb, feed_no_white}
 
 end_within : {t : List ℕ} {i j : ℕ} → BreakOrEnd t i j → j ≤ length t
 end_within (by_break b) = break_within b
 end_within (by_end e) = omega arith
 
-rest_within : {t : List ℕ} {i j : ℕ} {x : List CommentValue} → LineRest t i j x → j ≤ length t
+pub rest_within : {t : List ℕ} {i j : ℕ} {x : List CommentValue} → LineRest t i j x → j ≤ length t
 rest_within (nothing e) = end_within e
 rest_within (whites d e) = end_within e
 rest_within (comment d q e) = end_within e
@@ -42,22 +43,14 @@ run_last {t} p u low (step o (step (one {i = h} q) m)) l =
 
 white_no_break : (c : ℕ) → FeedOrReturn c → is_white c ≡ true → ⊥
 white_no_break c l e = ⊎_elim
-    (λ (q : c ≡ 10). true≢false (sym (ap is_white (sym q) ∙ e) ∙ white_lf))
+    (λ (q : c ≡ 10). true≢false (sym (ap is_white (sym q) ∙ e) ∙ feed_no_white))
     (λ (q : c ≡ 13). true≢false (sym (ap is_white (sym q) ∙ e) ∙ white_cr))
     l
 
-nb_lf : is_nb_char 10 ≡ false
-unfolding is_nb_char is_printable is_break_char is_between
-nb_lf = refl
-
-nb_cr : is_nb_char 13 ≡ false
-unfolding is_nb_char is_printable is_break_char is_between
-nb_cr = refl
-
 nb_no_feed : (c : ℕ) → FeedOrReturn c → is_nb_char c ≡ true → ⊥
 nb_no_feed c l e = ⊎_elim
-    (λ (q : c ≡ 10). true≢false (sym (ap is_nb_char (sym q) ∙ e) ∙ nb_lf))
-    (λ (q : c ≡ 13). true≢false (sym (ap is_nb_char (sym q) ∙ e) ∙ nb_cr))
+    (λ (q : c ≡ 10). true≢false (sym (ap is_nb_char (sym q) ∙ e) ∙ feed_no_nb))
+    (λ (q : c ≡ 13). true≢false (sym (ap is_nb_char (sym q) ∙ e) ∙ return_no_nb))
     l
 
 module _ {t s : List ℕ} {k : ℕ} (a : Alike t s k) where

@@ -12,7 +12,6 @@ use Rattle.yf_block_scalar.specs.declared.header.Header.{Header}
 use Rattle.yf_block_scalar.specs.Header.{BlockHeader, HeaderValue, block_header}
 use Rattle.yf_block_scalar.specs.Body.{EmptyLines, bare, Ends, LineContent, content, Lines, no_content, up_to, LinesTaken, Trail, comments, no_comment, Body, BodyValue, indicated, detected, without_content}
 use Rattle.yf_block_scalar.specs.Body as Body
-use Rattle.yf_plain.proofs.PlainLemmas.{ns_colon}
 use Rattle.yf_grammar.specs.Productions.BlockScalar.{BlockScalar, block_scalar}
 use Rattle.yf_grammar.specs.Productions.Meaning.{Meaning}
 use Rattle.yf_grammar.specs.Productions.Grammar.{Production, FlowNode, NodeOf, JsonContent, Entries, Entry, Pair, Explicit, Implicit, ValueOf, KeyOf, BlockNode, BlockEntries, BlockEntry, BlockIndented, BlockValue, Derives}
@@ -21,6 +20,7 @@ use Rattle.yf_grammar.proofs.Ends.BlankRuns.{ContentBefore, after_byte, no_start
 use Rattle.yf_grammar.proofs.BlockOutcomes.BlockClaims.{dash_ns}
 use Rattle.yf_grammar.proofs.FlowReader.FlowStarts.{sign_facts}
 use Rattle.yf_grammar.proofs.BlockOutcomes.NodesAfter.{node_next}
+use Rattle.yf_chars.proofs.CharFacts.{colon_ns}
 
 -- a break ends there, or the text does
 pub data Closed (t : List ℕ) (j : ℕ) : Type 0 where
@@ -139,12 +139,12 @@ module _ {t : List ℕ} (u : IsUtf8 t) where
   derived_closed (a_last_entry d) = derived_closed d
   derived_closed (an_entry_before d q e) = derived_closed e
   derived_closed (a_dash_entry {i = i} e n d) = derived_closed d (λ s. after_sign i e (omega arith) dash_ns s)
-  derived_closed (an_explicit_entry_with {m = m} {k = k} e w d c g) = derived_closed g (λ s. after_sign (k + m) c.colon (omega arith) ns_colon s)
+  derived_closed (an_explicit_entry_with {m = m} {k = k} e w d c g) = derived_closed g (λ s. after_sign (k + m) c.colon (omega arith) colon_ns s)
   derived_closed (an_explicit_key_alone {i = i} e w d n) = derived_closed d (λ s. after_sign i e (omega arith) sign_facts.1 s)
   derived_closed (a_keyed_entry d e) = derived_closed e
   derived_closed (an_unkeyed_entry d) = derived_closed d
   derived_closed (a_block_value e d) = derived_closed d
-  derived_closed (an_empty_block_value {i = i} e d) = after_end (λ s. after_sign i e (omega arith) ns_colon s) d
+  derived_closed (an_empty_block_value {i = i} e d) = after_end (λ s. after_sign i e (omega arith) colon_ns s) d
   derived_closed (a_compact_collection b q d) = λ n. derived_closed d
   derived_closed (an_indented_node d) = λ n. derived_closed d
   derived_closed (nothing_indented b d) = λ n. after_end n d

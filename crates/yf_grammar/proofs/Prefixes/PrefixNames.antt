@@ -16,18 +16,11 @@ use Rattle.yf_props.proofs.TagLemmas.{tag_later}
 use Rattle.yf_grammar.proofs.Prefixes.PrefixTexts.{alike_back, alike_next, alike_slice}
 use Rattle.yf_grammar.proofs.Prefixes.PrefixLines.{Carried, chain_there, one_carried, passes_there, char_there}
 use Rattle.yf_grammar.proofs.Prefixes.PrefixComments.{PrefixText, separate_in_prefix}
+use Rattle.yf_chars.proofs.CharFacts.{end_no_tag, end_no_uri}
 
 no_hex_digit : is_hex_digit no_char ≡ false
 unfolding is_hex_digit is_digit is_between
 no_hex_digit = refl
-
-no_uri_char : is_uri_char no_char ≡ false
-unfolding is_uri_char is_word_char is_digit is_between
-no_uri_char = refl
-
-no_tag_char : is_tag_char no_char ≡ false
-unfolding is_tag_char is_uri_char is_word_char is_digit is_between is_flow_indicator
-no_tag_char = refl
 
 module _ {t s : List ℕ} {k : ℕ} (f : PrefixText t s k) where
   -- no character is in the prefix at the place or after it
@@ -111,19 +104,19 @@ module _ {t s : List ℕ} {k : ℕ} (f : PrefixText t s k) where
   verbatim_in_prefix (in_brackets {i = i} {j = j} e d r c) l =
       let g = r.some in
       rw (alike_slice f.alike (i + 2) j (omega arith))
-      (in_brackets (char_there f.alike i (omega arith) e) (char_there f.alike (i + 1) (omega arith) d) (spelled_run is_uri_char no_uri_char r (omega arith)) (char_there f.alike j (omega arith) c))
+      (in_brackets (char_there f.alike i (omega arith) e) (char_there f.alike (i + 1) (omega arith) d) (spelled_run is_uri_char end_no_uri r (omega arith)) (char_there f.alike j (omega arith) c))
 
   shorthand_in_prefix : {i j : ℕ} {x : TagValue} → ShorthandTag t i j x → j ≤ k → ShorthandTag s i j x
   shorthand_in_prefix (handle_suffix {i = i} {h = h} {j = j} d r) l =
       let g = r.some in
       rw (alike_slice f.alike i h (omega arith), alike_slice f.alike h j l)
-      (handle_suffix (handle_in_prefix d (omega arith)) (spelled_run is_tag_char no_tag_char r l))
+      (handle_suffix (handle_in_prefix d (omega arith)) (spelled_run is_tag_char end_no_tag r l))
 
   tag_in_prefix : {i j : ℕ} {x : TagValue} → TagProperty t i j x → j ≤ k → TagProperty s i j x
   tag_in_prefix (verbatim_tag d) l = verbatim_tag (verbatim_in_prefix d l)
   tag_in_prefix (shorthand_tag d) l = shorthand_tag (shorthand_in_prefix d l)
   tag_in_prefix (non_specific_tag {i = i} e n) l =
-      non_specific_tag (char_there f.alike i (omega arith) e) (record { none = λ h x o. n.none h x (spelled_back is_tag_char no_tag_char o) })
+      non_specific_tag (char_there f.alike i (omega arith) e) (record { none = λ h x o. n.none h x (spelled_back is_tag_char end_no_tag o) })
 
   pub properties_in_prefix : {n : ℤ} {c : Ctx} {i j : ℕ} {p : PropertiesValue} → Properties t n c i j p → j ≤ k → Properties s n c i j p
   properties_in_prefix (by_tag d) l = by_tag (tag_in_prefix d l)

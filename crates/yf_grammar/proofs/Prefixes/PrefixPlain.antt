@@ -6,16 +6,17 @@ use Rattle.yf_chars.specs.Class.{is_ns_char}
 use Rattle.yf_chars.specs.declared.context.Ctx.{Ctx}
 use Rattle.yf_chars.proofs.TextLemmas.{next_later}
 use Rattle.yf_plain.specs.Plain.{is_plain_first, is_plain_char, PlainItem, set_off, PlainLine, one_line, PlainNext, next_line, PlainText, as_key, as_lines}
-use Rattle.yf_plain.proofs.PlainLemmas.{plain_is_ns, first_is_ns, ns_lf, ns_cr}
-use Rattle.yf_grammar.proofs.Ends.Forward.{items_forward, nexts_forward}
+use Rattle.yf_plain.proofs.PlainLemmas.{plain_is_ns, first_is_ns, ns_cr}
 use Rattle.yf_grammar.proofs.Prefixes.PrefixTexts.{Alike, goes_on, alike_next, alike_before}
 use Rattle.yf_grammar.proofs.Prefixes.PrefixLines.{Carried, chain_there, fold_carried, run_order, run_there}
+use Rattle.yf_chars.proofs.CharFacts.{feed_no_ns}
+use Rattle.yf_plain.proofs.PlainOrder.{items_forward, nexts_forward}
 
 module _ {t s : List ℕ} {k : ℕ} (a : Alike t s k) where
   -- a character that is visible is not the last one
   ns_goes_on : (i : ℕ) → i < k → is_ns_char (code t i) ≡ true → i + 1 < k
   ns_goes_on i l e = goes_on a i l
-      (λ q. true≢false (sym e ∙ ap is_ns_char q ∙ ns_lf))
+      (λ q. true≢false (sym e ∙ ap is_ns_char q ∙ feed_no_ns))
       (λ q. true≢false (sym e ∙ ap is_ns_char q ∙ ns_cr))
 
   pub plain_char_there : (c : Ctx) (i : ℕ) → i < k → is_plain_char t c i ≡ true → is_plain_char s c i ≡ true

@@ -15,10 +15,7 @@ use Rattle.yf_grammar.proofs.Ends.Forward.{Onward, quoted_rest_order}
 use Rattle.yf_grammar.proofs.Prefixes.PrefixTexts.{Alike, alike_back, alike_next}
 use Rattle.yf_grammar.proofs.Prefixes.PrefixLines.{Carried, chain_order, chain_there, passes_there, char_there, not_there, run_there, run_order, break_there, prefix_there, prefix_order, empties_there, empties_order, fold_carried, clear_there}
 use Rattle.yf_grammar.proofs.Prefixes.PrefixComments.{PrefixText}
-
-no_white : is_white no_char ≡ false
-unfolding is_white
-no_white = refl
+use Rattle.yf_chars.proofs.CharFacts.{end_no_white}
 
 module _ {t s : List ℕ} {k : ℕ} (a : Alike t s k) where
   number_there : (i m : ℕ) → i + m ≤ k → number t i m ≡ number s i m
@@ -106,7 +103,7 @@ module _ {t s : List ℕ} {k : ℕ} (f : PrefixText t s k) where
   pub no_white_in_prefix : (i : ℕ) → is_white (code t i) ≡ false → is_white (code s i) ≡ false
   no_white_in_prefix i e = ⊎_elim
       (λ (l : i < k). ap is_white (sym (f.alike.codes i l)) ∙ e)
-      (λ (l : k ≤ i). let c = f.closed in ap is_white (code-past s i (omega arith)) ∙ no_white)
+      (λ (l : k ≤ i). let c = f.closed in ap is_white (code-past s i (omega arith)) ∙ end_no_white)
       (cases_lt i k)
 
 onward : {A : Type 0} {k : ℕ} {S R : ℕ → ℕ → List A → Type 0} → Carried k S R → Onward S

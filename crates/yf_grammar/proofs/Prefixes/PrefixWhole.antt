@@ -27,12 +27,10 @@ use Rattle.yf_grammar.proofs.Prefixes.PrefixComments.{PrefixText}
 use Rattle.yf_grammar.proofs.Prefixes.PrefixEnds.{Closed, at_break, at_text, derived_closed}
 use Rattle.yf_grammar.proofs.Prefixes.PrefixNodes.{derives_in_prefix}
 use Rattle.yf_grammar.proofs.Prefixes.PrefixNotes.{Begun, derived_begun, noting_there}
+use Rattle.yf_chars.proofs.Tests.{none_some}
 
-some_is : {A : Type 0} (x y : A) → Some x ≡ Some y → x ≡ y
+pub some_is : {A : Type 0} (x y : A) → Some x ≡ Some y → x ≡ y
 some_is x y e = cc
-
-none_is_some : {A : Type 0} {x : A} → None ≡ Some x → ⊥
-none_is_some e = cc
 
 closed_boundary : {t : List ℕ} {k : ℕ} → IsUtf8 t → Closed t k → IsCharBoundary t k
 closed_boundary u (at_break b) = break_boundary u b
@@ -139,4 +137,4 @@ module _ {t : List ℕ} (u : IsUtf8 t) {e i : ℕ} {n : ℤ} {c : Ctx} {f : Pars
 
   pub prefix_reads_some : Whole (take f.end t) e (Awaited false n c Nothing i) None → ⊥
   unfolding found
-  prefix_reads_some w = none_is_some (prefix_is_whole w)
+  prefix_reads_some w = none_some (prefix_is_whole w)

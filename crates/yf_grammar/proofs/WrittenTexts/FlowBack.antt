@@ -18,18 +18,10 @@ use Rattle.yf_grammar.specs.Productions.Grammar.MaySeparate.{unseparated, separa
 use Rattle.yf_grammar.specs.Productions.Grammar.Derives.{flow_node, an_empty_collection, a_collection, last_entry, more_entries, a_node_entry, a_value}
 use Rattle.yf_grammar.specs.Productions.Meaning.{Meaning, ◌⊕◌, collection, entering}
 use Rattle.yf_grammar.specs.Productions.OneLineTexts.{Back, JsonBack, EntryBack, EntriesBack}
-use Rattle.yf_grammar.proofs.WrittenTexts.LeafBack.{after_nothing, noting_nothing, any_follow, space_line}
-
--- brackets, commas and colons
-visible_nb : (c : ℕ) → 32 ≤ c → c < 127 → is_nb_char c ≡ true
-unfolding is_nb_char is_printable is_between is_break_char
-visible_nb c l h = grind (arith, nat_tests)
-
-pub visible_line : (c : ℕ) {w : List ℕ} → 32 ≤ c → c < 127 → IsLineText w → IsLineText (c ∷ w)
-visible_line c l h a = line_ascii c (omega arith) (visible_nb c l h) a
-
-pub visible_at : {t : List ℕ} {q : ℕ} {r : List ℕ} (c : ℕ) → IsUtf8 t → 32 ≤ c → c < 127 → Rest t q (c ∷ r) → (code t q ≡ c) × Rest t (q + 1) r
-visible_at c u l h s = let got = rest_ascii c u (omega arith) (λ e. omega arith) s in (got.0.char, got.1)
+use Rattle.yf_grammar.proofs.WrittenTexts.LeafBack.{noting_nothing, any_follow, space_line}
+use Rattle.yf_chars.proofs.CharBounds.{visible_nb}
+use Rattle.yf_grammar.proofs.FlowReader.ParserLemmas.{after_nothing}
+use Rattle.yf_lines.proofs.VisibleLines.{visible_line, visible_at}
 
 comma_follows : {r : List ℕ} → Follows is_after_name (44 ∷ r)
 unfolding is_after_name

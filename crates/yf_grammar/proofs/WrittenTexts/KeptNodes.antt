@@ -6,7 +6,7 @@ use Rattle.yf_events.specs.declared.event.Entry.{Entry}
 use Rattle.yf_events.specs.declared.event.ScalarStyle.{ScalarStyle}
 use Rattle.yf_events.specs.Tree.{NodeOffsets, Node, scalar as scalar_tree, alias as alias_tree, sequence, mapping, Items, no_items, item, Pairs, no_pairs, pair, placed, unplaced, standing, flat, flat_items, flat_pairs}
 use Rattle.yf_grammar.specs.Productions.ReadParts.{Noting, without_entry, with_entry}
-use Rattle.yf_grammar.proofs.NodesInText.NotedNodes.{noted_plain}
+use Rattle.yf_grammar.proofs.NodesInText.NotedNodes.{noted_plain, enclosed, two}
 
 -- an entry with some note, or none
 pub data SameEntry (o p : Option Entry) : Type 0 where
@@ -94,14 +94,6 @@ kept_first {e = e} span entry (with_entry {b = b} f q s n) = record {
 
 regrouped : {t : List ℕ} {floor : ℕ} {ys : List EventInText} (x y z : List EventInText) → Noting t floor ((x ++ y) ++ z) ys → Noting t floor (x ++ (y ++ z)) ys
 regrouped {t} {floor} {ys} x y z n = subst (λ w. Noting t floor w ys) (append_assoc x y z) n
-
-enclosed : (ys more more2 more3 inner : List EventInText) (first last : EventInText) → ys ≡ first ∷ more → more ≡ inner ++ more2 → more2 ≡ last ∷ more3
-    → ys ≡ (first ∷ (inner ++ (last ∷ []))) ++ more3
-enclosed ys more more2 more3 inner first last e f g =
-    let whole : ys ≡ first ∷ (inner ++ (last ∷ more3)) = cc in whole ∙ ap (λ z. first ∷ z) (sym (append_assoc inner (last ∷ []) more3))
-
-two : (ys more more2 x y : List EventInText) → ys ≡ x ++ more → more ≡ y ++ more2 → ys ≡ (x ++ y) ++ more2
-two ys more more2 x y e f = let whole : ys ≡ x ++ (y ++ more2) = cc in whole ∙ sym (append_assoc x y more2)
 
 mutual
   pub kept_node : {t : List ℕ} {floor : ℕ} {rest ys : List EventInText} (x : Node) → Noting t floor (flat x ++ rest) ys → KeptNode t x rest ys

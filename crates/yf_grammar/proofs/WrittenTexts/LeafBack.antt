@@ -27,11 +27,8 @@ use Rattle.yf_grammar.specs.Productions.Grammar.{Derives, NodeOf, JsonContent, b
 use Rattle.yf_grammar.specs.Productions.Grammar.Derives.{an_alias, a_plain, a_plain_with, properties_alone, a_json, a_json_with, a_single, a_double}
 use Rattle.yf_grammar.specs.Productions.Meaning.{Meaning, meaning_after, noting, scalar, alias_to, empty_node, with_props}
 use Rattle.yf_grammar.specs.Productions.OneLineTexts.{follower, Back, JsonBack}
-
--- no comments before a part, and none after it
-pub after_nothing : (x : Meaning) → meaning_after [] x ≡ x
-unfolding meaning_after
-after_nothing x = refl
+use Rattle.yf_chars.proofs.CharFacts.{space_nb}
+use Rattle.yf_grammar.proofs.FlowReader.ParserLemmas.{after_nothing}
 
 pub noting_nothing : (x : Meaning) → noting x [] ≡ x
 unfolding noting
@@ -45,10 +42,6 @@ space_follows = byte_follows (omega arith) refl
 pub any_follow : (b : Bool) {r : List ℕ} → Follows is_after_name r → Follows (follower b) r
 any_follow true f = follows_text f
 any_follow false f = f
-
-space_nb : is_nb_char 32 ≡ true
-unfolding is_nb_char is_printable is_between is_break_char
-space_nb = refl
 
 pub space_line : {w : List ℕ} → IsLineText w → IsLineText (32 ∷ w)
 space_line a = line_ascii 32 (omega arith) space_nb a

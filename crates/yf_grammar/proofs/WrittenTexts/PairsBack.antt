@@ -14,8 +14,10 @@ use Rattle.yf_grammar.specs.Productions.Grammar.MaySeparateInLine.{unseparated_i
 use Rattle.yf_grammar.specs.Productions.Grammar.Derives.{flow_node, a_pair_entry, an_implicit_entry, a_keyed_pair, key_alone, key_and_value, a_value, a_key}
 use Rattle.yf_grammar.specs.Productions.Meaning.{Meaning, ◌⊕◌, collection, entering, empty_node}
 use Rattle.yf_grammar.specs.Productions.OneLineTexts.{Back, EntryBack}
-use Rattle.yf_grammar.proofs.WrittenTexts.LeafBack.{after_nothing, noting_nothing, any_follow, space_follows, space_line}
-use Rattle.yf_grammar.proofs.WrittenTexts.FlowBack.{visible_line, visible_at, colon_follows, value_made}
+use Rattle.yf_grammar.proofs.WrittenTexts.LeafBack.{noting_nothing, any_follow, space_follows, space_line}
+use Rattle.yf_grammar.proofs.WrittenTexts.FlowBack.{colon_follows, value_made}
+use Rattle.yf_grammar.proofs.FlowReader.ParserLemmas.{after_nothing}
+use Rattle.yf_lines.proofs.VisibleLines.{visible_line, visible_at}
 
 -- the characters of a text that is there
 pub characters_written : {t : List ℕ} (w r : List ℕ) {q : ℕ} → IsAt t q (w ++ r) → characters_between t q (q + length w) ≡ length (chars w)

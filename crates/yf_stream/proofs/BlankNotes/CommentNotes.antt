@@ -27,6 +27,7 @@ use Rattle.yf_grammar.specs.Productions.ReadParts.NotedSince.{noted, not_noted}
 use Rattle.yf_grammar.proofs.Ends.Forward.{in_line_forward}
 use Rattle.yf_grammar.proofs.Ends.SinceKnown.{since_before}
 use Rattle.yf_stream.proofs.BlankNotes.FloorLemmas.{note_over}
+use Rattle.yf_flow.proofs.Ends.NotedLemmas.{since_zero}
 
 -- a fact of each element
 pub data Each {X : Type 0} (P : X → Type 0) : List X → Type 0 where
@@ -76,10 +77,6 @@ since_guarded u (guarded p r s m n) l k = note_over u p r s m (omega arith) (ome
 
 pub told_since : {t : List ℕ} {f i j : ℕ} (c : CommentValue) → IsUtf8 t → Guard t f i → NotedComment t i j c → NotedSince t f c.offset c.blank_before
 told_since c u g k = since_guarded u g k.after k.note
-
-since_zero : {t : List ℕ} {j : ℕ} → BlankBefore t j → BlankSince t 0 j
-since_zero (line_before b k) = blank_line (omega arith) b k
-since_zero (gap_before b e) = past_gap (since_zero b) e
 
 note_zero : {t : List ℕ} {i : ℕ} {b : Bool} → HasBlankNote t i b → NotedSince t 0 i b
 note_zero (noted_before d) = noted (since_zero d)

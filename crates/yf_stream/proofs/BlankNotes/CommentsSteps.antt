@@ -35,7 +35,7 @@ use Rattle.yf_stream.proofs.BlankNotes.FloorsBlank.{floors_blank}
 use Rattle.yf_stream.proofs.Reader.NextSteps.{NodeDone, StepTo, bare_to, dashes_to, directives_to, dots_to, lines_read, node_done, nothing_done}
 use Rattle.yf_stream.proofs.BlankNotes.NodeNotes.{NoteOver, Within, within_of}
 use Rattle.yf_stream.proofs.BlankNotes.NotingLemmas.{floor_join, floor_of}
-use Rattle.yf_stream.proofs.BlankNotes.PartsSteps.{events_end}
+use Rattle.yf_stream.proofs.BlankNotes.PartsSteps.{events_end, signs_solid}
 use Rattle.yf_stream.proofs.BlankNotes.PartsUpto.{EventsRead}
 use Rattle.yf_stream.proofs.Reader.StreamUpto.{ReadUpto, followed}
 
@@ -122,10 +122,6 @@ silent_end b = one_element (record { kept = λ f p. refl }) no_element
 
 silent_start : (b : Bool) → Each Silent (unplaced (document_starts b) ∷ [])
 silent_start b = one_element (record { kept = λ f p. refl }) no_element
-
-signs_solid : (is_gap 45 ≡ false) × (is_gap 46 ≡ false)
-unfolding is_gap is_white is_break_char
-signs_solid = (refl, refl)
 
 closed_floor : (b o : Bool) (a : Parts) → floor_of 0 (closed b o a).part.events ≡ floor_of 0 a.part.events
 closed_floor b true a = floor_join 0 a.part.events (unplaced (document_ends b) ∷ []) ∙ silent_floor (floor_of 0 a.part.events) (silent_end b)

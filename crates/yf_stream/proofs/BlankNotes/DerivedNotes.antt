@@ -21,12 +21,12 @@ use Rattle.yf_grammar.proofs.BlockOutcomes.BlockStarts.{block_starts}
 use Rattle.yf_grammar.proofs.Documents.CommentOrder.{derived_ascends}
 use Rattle.yf_grammar.proofs.Ends.GapLemmas.{Visible}
 use Rattle.yf_grammar.proofs.Prefixes.PrefixNodes.{derived_order}
-use Rattle.yf_grammar.proofs.FlowReader.PropertiesEnds.{properties_later}
 use Rattle.yf_stream.specs.ReadingOf.{floor_at}
 use Rattle.yf_stream.proofs.BlankNotes.CommentNotes.{Each, no_element, one_element, each_join, each_weaker, NotedComment, told_wider, Guard, guarded, guard_order, told_since, rows_told, line_told, separate_told, may_told, value_told}
 use Rattle.yf_stream.proofs.BlankNotes.FloorWalk.{floor_kept, floor_wider, floor_upto, with_floors, with_floor, entering_floors, entering_floor}
 use Rattle.yf_stream.proofs.BlankNotes.NodeNotes.{Within, within_of, Unlined, FlowNotes, EntryNotes, NodeNotes, NotesClaim, plainly, start_kept, end_kept, flow_after, flow_noting, flow_join, flow_entering, flow_with, flow_collection, flow_empty, flow_alias, flow_plain, flow_single, flow_double, properties_told, notes_as, notes_early, notes_join, unlined_floors, notes_flow, collection_floor}
 use Rattle.yf_stream.proofs.BlankNotes.BlockNotes.{scalar_notes}
+use Rattle.yf_props.proofs.NameOrder.{properties_forward}
 
 solid_dash : is_gap 45 ≡ false
 unfolding is_gap is_white is_break_char
@@ -190,7 +190,7 @@ module _ {t : List ℕ} (u : IsUtf8 t) where
   derived_notes (a_block_scalar b s d) = node_after u (separate_forward s) (omega arith) (separate_told s) (scalar_notes u d)
   derived_notes (a_block_scalar_with {k = k} b s p q d) =
       let f = separate_forward s in
-      let g = properties_later p in
+      let g = properties_forward p in
       let h = separate_forward q in
       node_after {k = k} u (omega arith) (omega arith)
       (each_join (each_join (told_wider (omega arith) (omega arith) (separate_told s)) (told_wider (omega arith) (omega arith) (properties_told p))) (told_wider (omega arith) (omega arith) (separate_told q)))
@@ -198,7 +198,7 @@ module _ {t : List ℕ} (u : IsUtf8 t) where
   derived_notes (a_block_collection {sequence = sequence} b e s l d) = node_after u (line_end_forward e) (omega arith) (line_told e) (entries_collected sequence _ _ (derived_notes d))
   derived_notes (a_block_collection_with {k = k} {sequence = sequence} b s p e q l d) =
       let f = separate_forward s in
-      let g = properties_later p in
+      let g = properties_forward p in
       let h = line_end_forward e in
       node_after {k = k} u (omega arith) (omega arith)
       (each_join (each_join (told_wider (omega arith) (omega arith) (separate_told s)) (told_wider (omega arith) (omega arith) (properties_told p))) (told_wider (omega arith) (omega arith) (line_told e)))

@@ -39,7 +39,7 @@ either_upto : (b : Bool) (e f k : ℕ) → e ≤ k → f ≤ k → cond b e f �
 either_upto true e f k l m = l
 either_upto false e f k l m = m
 
-set_end : (e : EventInText) (f : ℕ) (s : Span) → e.span ≡ Some s → ((f : ℕ) (p : EventInText) → floor_after_event f p e.event ≡ end_or f p.span) → floor_after_event f e e.event ≡ s.end
+pub set_end : (e : EventInText) (f : ℕ) (s : Span) → e.span ≡ Some s → ((f : ℕ) (p : EventInText) → floor_after_event f p e.event ≡ end_or f p.span) → floor_after_event f e e.event ≡ s.end
 set_end e f s q k = k f e ∙ ap (λ z. end_or f z) q
 
 -- before all ends

@@ -5,7 +5,7 @@ use Rattle.yf_events.specs.declared.event.Span.{Span}
 use Rattle.yf_grammar.specs.Productions.ReadParts.{Noting, end_or, floor_after_event, no_event, with_entry, without_entry}
 use Rattle.yf_stream.specs.ReadingOf.{end_before, floor_at}
 use Rattle.yf_stream.proofs.BlankNotes.CommentNotes.{Each, no_element, one_element}
-use Rattle.yf_stream.proofs.BlankNotes.FloorWalk.{FloorIn, end_taken, floor_kept, floor_set}
+use Rattle.yf_stream.proofs.BlankNotes.FloorWalk.{FloorIn, end_taken, floor_kept, floor_set, set_end}
 use Rattle.yf_stream.proofs.BlankNotes.NotingLemmas.{floor_of}
 
 -- notes of blank lines leave it what it is
@@ -19,9 +19,6 @@ noting_last f no_event = refl
 noting_last f (without_entry {e = e} n r) = noting_last (floor_after_event f e e.event) r
 noting_last f (with_entry {e = e} entry n s r) = noting_last (floor_after_event f e e.event) r
 
-set_there : (e : EventInText) (f : ℕ) (s : Span) → e.span ≡ Some s → ((f : ℕ) (p : EventInText) → floor_after_event f p e.event ≡ end_or f p.span) → floor_after_event f e e.event ≡ s.end
-set_there e f s q k = k f e ∙ ap (λ z. end_or f z) q
-
 -- where all of them end at the offset or before it
 pub floor_late : {i j : ℕ} {es : List EventInText} (o f : ℕ) → f ≤ o → j ≤ o → Each (FloorIn i j) es → floor_at o f es ≡ floor_of f es
 floor_late o f l m no_element = refl
@@ -30,7 +27,7 @@ floor_late o f l m (one_element {x = e} {xs = es} (floor_kept k) r) =
     ap (λ (z : ℕ). floor_at o z es) (end_taken o f (floor_after_event f e e.event) (omega (arith, same)))
     ∙ floor_late o (floor_after_event f e e.event) (omega (arith, same)) m r
 floor_late o f l m (one_element {x = e} {xs = es} (floor_set s q k a b) r) =
-    let same = set_there e f s q k in
+    let same = set_end e f s q k in
     ap (λ (z : ℕ). floor_at o z es) (end_taken o f (floor_after_event f e e.event) (omega (arith, same)))
     ∙ floor_late o (floor_after_event f e e.event) (omega (arith, same)) m r
 
@@ -40,4 +37,4 @@ floor_sets no_element = inr (λ f. refl)
 floor_sets (one_element {x = e} {xs = es} (floor_kept k) r) =
     ⊎_elim (λ c. inl (λ f g. c (floor_after_event f e e.event) (floor_after_event g e e.event))) (λ c. inr (λ f. c (floor_after_event f e e.event) ∙ k f e)) (floor_sets r)
 floor_sets (one_element {x = e} {xs = es} (floor_set s q k a b) r) =
-    inl (λ f g. ap (λ z. floor_of z es) (set_there e f s q k ∙ sym (set_there e g s q k)))
+    inl (λ f g. ap (λ z. floor_of z es) (set_end e f s q k ∙ sym (set_end e g s q k)))

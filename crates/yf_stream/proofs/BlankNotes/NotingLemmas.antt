@@ -11,7 +11,7 @@ use Rattle.yf_events.specs.declared.event.ScalarStyle.{ScalarStyle}
 use Rattle.yf_events.specs.declared.event.ScalarStyle.TheVariants.{Double, Folded, Literal, Plain, Single}
 use Rattle.yf_events.specs.declared.event.Span.{Span}
 use Rattle.yf_grammar.specs.Productions.ReadParts.{Noting, NotedSince, end_or, floor_after_event, no_event, with_entry, without_entry}
-use Rattle.yf_grammar.proofs.NodesInText.NodePlaces.{ItemsStand, ColonIsAt, NodeIsAt, PairsStand, a_colon, alias_is_at, item_is_at, mapping_is_at, no_colon, no_items_stand, no_pairs_stand, node_order, pair_is_at, scalar_is_at, sequence_is_at, is_at_nowhere}
+use Rattle.yf_grammar.proofs.NodesInText.NodePlaces.{ItemsStand, ColonIsAt, NodeIsAt, PairsStand, a_colon, alias_is_at, item_is_at, mapping_is_at, no_colon, no_items_stand, no_pairs_stand, node_order, pair_is_at, scalar_is_at, sequence_is_at, is_at_nowhere, colon_order}
 pub use Rattle.yf_block.specs.BlockTied.{floor_after as floor_of}
 use Rattle.yf_stream.proofs.BlankNotes.FloorLemmas.{note_over}
 
@@ -85,10 +85,6 @@ none_after p e = subst (λ z. EntryAfter p z) (sym e) tt
 
 some_after : {p : ℕ} {o : Option Entry} (e : Entry) → o ≡ Some e → p < e.start → EntryAfter p o
 some_after {p} e q l = subst (λ z. EntryAfter p z) (sym q) l
-
-colon_order : {t : List ℕ} {i j : ℕ} {c : Option ℕ} → ColonIsAt t i j c → i ≤ j
-colon_order (no_colon l) = l
-colon_order (a_colon l e m) = omega arith
 
 module _ {t : List ℕ} (p : ℕ) where
   mutual

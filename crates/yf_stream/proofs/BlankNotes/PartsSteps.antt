@@ -15,7 +15,7 @@ use Rattle.yf_events.specs.declared.event.ScalarStyle.TheVariants.{Double, Folde
 use Rattle.yf_events.specs.declared.event.Span.{Span}
 use Rattle.yf_grammar.specs.Productions.Meaning.{Meaning, empty_node, from_to, noting, plain_event}
 use Rattle.yf_grammar.specs.Productions.ReadParts.{Noting, end_or, floor_after_event, no_event as none_noted, without_entry}
-use Rattle.yf_grammar.proofs.NodesInText.NodePlaces.{ColonIsAt, ItemsStand, NodeIsAt, PairsStand, a_colon, alias_is_at, item_is_at, items_order, mapping_is_at, no_colon, no_items_stand, no_pairs_stand, node_order, pair_is_at, pairs_order, scalar_is_at, sequence_is_at, is_at_nowhere}
+use Rattle.yf_grammar.proofs.NodesInText.NodePlaces.{ColonIsAt, ItemsStand, NodeIsAt, PairsStand, a_colon, alias_is_at, item_is_at, items_order, mapping_is_at, no_colon, no_items_stand, no_pairs_stand, node_order, pair_is_at, pairs_order, scalar_is_at, sequence_is_at, is_at_nowhere, colon_order}
 use Rattle.yf_grammar.proofs.NodesInText.PlacedNodes.{NodeAt, node_noting, nothing_at}
 use Rattle.yf_grammar.proofs.NodesInText.PlacesDerived.{places}
 use Rattle.yf_stream.specs.DerivedParts.{no_parts}
@@ -34,8 +34,8 @@ use Rattle.yf_stream.proofs.Existence.NodeFinish.{LineRows, finish_ends, rows_th
 use Rattle.yf_stream.proofs.BlankNotes.NotingLemmas.{EntriesAfter, floor_join, floor_of, node_entries, none_after, noting_join, noting_over}
 use Rattle.yf_stream.proofs.BlankNotes.PartsUpto.{ClosedParts, EventsRead, EventsUpto, EventsWritten, all_closed, last_open, mark_there, no_mark_there, no_more, parts_closed}
 use Rattle.yf_stream.proofs.Reader.PrefixLemmas.{rows_prefix}
-use Rattle.yf_stream.proofs.Uniqueness.StreamPath.{end_code}
 use Rattle.yf_stream.proofs.Reader.StreamUpto.{followed, one_document}
+use Rattle.yf_block_scalar.proofs.BodyLemmas.{end_code}
 
 -- the parts of the text that events have end at a place or before it
 abbrev pub SpanWithin : ℕ → Option Span → Type 0
@@ -85,10 +85,6 @@ module _ (m : ℕ) where
   unfolding from_to
   some_within a b e l = subst (λ z. SpanWithin m z) (sym e) l
 
-colon_order : {t : List ℕ} {i j : ℕ} {c : Option ℕ} → ColonIsAt t i j c → i ≤ j
-colon_order (no_colon l) = l
-colon_order (a_colon l e m) = omega arith
-
 module _ {t : List ℕ} (m : ℕ) where
   mutual
     pub node_within : {i j : ℕ} {x : Node} → j ≤ m → NodeIsAt t i j x → EndsWithin m (flat x)
@@ -113,7 +109,7 @@ module _ {t : List ℕ} (m : ℕ) where
         let r = pairs_order d in
         ends_join m (flat k) _ (node_within (omega arith) a) (ends_join m (flat v) (flat_pairs ps) (node_within (omega arith) b) (pairs_within l d))
 
-signs_solid : (is_gap 45 ≡ false) × (is_gap 46 ≡ false)
+pub signs_solid : (is_gap 45 ≡ false) × (is_gap 46 ≡ false)
 unfolding is_gap is_white is_break_char
 signs_solid = (refl, refl)
 

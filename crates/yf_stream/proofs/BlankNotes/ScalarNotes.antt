@@ -34,14 +34,11 @@ use Rattle.yf_grammar.specs.Productions.ReadParts.NotedSince.{noted, not_noted}
 use Rattle.yf_grammar.proofs.BlockOutcomes.OneScalars.{lines_one}
 use Rattle.yf_grammar.proofs.Prefixes.PrefixEnds.{Closed, at_break, at_text}
 use Rattle.yf_stream.proofs.BlankNotes.CommentNotes.{Each, no_element, one_element, each_weaker, NotedComment, guarded, told_since, rows_told}
+use Rattle.yf_chars.proofs.CharFacts.{hash_no_white}
 
 hash_solid : is_gap 35 ≡ false
 unfolding is_gap is_white is_break_char
 hash_solid = refl
-
-white_hash : is_white 35 ≡ false
-unfolding is_white
-white_hash = refl
 
 positive : (n : ℕ) → 0 < n → nat_lt 0 n ≡ true
 positive n l = grind (arith, nat_tests)
@@ -123,7 +120,7 @@ module _ {t : List ℕ} (u : IsUtf8 t) where
 
   -- white space before a comment's sign is the spaces before it
   spaces_to : {q m h : ℕ} {w : List ℕ} → Spaces t q m → code t (q + m) ≡ 35 → Many t is_white q h w → is_white (code t h) ≡ false → h ≡ q + m
-  spaces_to {q} {m} s e c n = (many_unique t is_white c n (spaces_whites t q m s).1 (ap is_white e ∙ white_hash)).0
+  spaces_to {q} {m} s e c n = (many_unique t is_white c n (spaces_whites t q m s).1 (ap is_white e ∙ hash_no_white)).0
 
   in_line_to : {q m h : ℕ} → Spaces t q m → code t (q + m) ≡ 35 → SeparateInLine t q h → is_white (code t h) ≡ false → h ≡ q + m
   in_line_to s e (by_whites c l) n = spaces_to s e c n
@@ -136,7 +133,7 @@ module _ {t : List ℕ} (u : IsUtf8 t) where
     row_notes {h = h} {j = j} (comment {h = g} {k = k} w c z) r n = go c r where
       go : {x y : List CommentValue} → CommentText t g k x → Each (NotedComment t h j) y → Each (AfterEnd t e) (first_noted b (x ++ y))
       go (comment_text a chars v) r =
-          let same = in_line_to s sign w (ap is_white a ∙ white_hash) in
+          let same = in_line_to s sign w (ap is_white a ∙ hash_no_white) in
           let f = chain_forward (one_functional t is_nb_char) chars in
           let o = break_or_end_forward z in
           one_element (record { after = omega arith; note = subst (λ k. NotedSince t e k b) (sym same) first })

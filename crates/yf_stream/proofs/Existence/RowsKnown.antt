@@ -28,7 +28,8 @@ use Rattle.yf_stream.specs.Stream.{EndIsMarked, Prefixes}
 use Rattle.yf_stream.specs.Stream.EndIsMarked.{marked_end, unmarked_end}
 use Rattle.yf_stream.proofs.Uniqueness.OneDirective.{dot_still}
 use Rattle.yf_stream.proofs.Reader.PrefixLemmas.{prefix_functional, prefixes_rows, row_next, rows_parts, still}
-use Rattle.yf_stream.proofs.Uniqueness.StreamPath.{end_code}
+use Rattle.yf_chars.proofs.CharFacts.{end_no_white}
+use Rattle.yf_block_scalar.proofs.BodyLemmas.{end_code}
 
 -- the characters of a class from a place on
 record RunFrom (t : List ℕ) (p : ℕ → Bool) (i : ℕ) : Type 0 where
@@ -47,10 +48,6 @@ run_from t p (suc n) i e l =
     record { end = r.end; characters = code t i ∷ r.characters; run = step (one c) r.run; stops = r.stops })
     (λ (c : p (code t i) ≡ false). record { end = i; characters = []; run = done; stops = c })
     (cases_Bool (p (code t i)))
-
-white_none : is_white no_char ≡ false
-unfolding is_white
-white_none = refl
 
 -- a break, the end of the text, or neither
 stop_known : (t : List ℕ) (h : ℕ) → ((j : ℕ) × BreakOrEnd t h j) ⊎ Nowhere (BreakOrEnd t h)
@@ -89,7 +86,7 @@ module _ {t : List ℕ} (u : IsUtf8 t) where
   row_known : (i : ℕ) → LineStart t i → i < length t → RowAt t i ⊎ Stuck (Row t i)
   row_known i s l = ⊎_elim (λ (e : code t w.end ≡ 35). with_comment e) (λ (e : code t w.end ≢ 35). with_none e) (cases_eq (code t w.end) 35) where
     w : RunFrom t is_white i
-    w = run_from t is_white (length t) i white_none (omega arith)
+    w = run_from t is_white (length t) i end_no_white (omega arith)
 
     with_comment : code t w.end ≡ 35 → RowAt t i ⊎ Stuck (Row t i)
     with_comment e =

@@ -19,6 +19,7 @@ use Rattle.yf_stream.proofs.Offsets.CommentTexts.{comments_of_readings_are_texts
 use Rattle.yf_stream.proofs.Offsets.EventsInOrder.{events_in_order}
 use Rattle.yf_stream.proofs.Offsets.ReadingOrder.{reading_ascends}
 use Rattle.yf_stream.proofs.Offsets.ReadingTrees.{reading_is_at}
+use Rattle.yf_chars.proofs.CharFacts.{hash_nb}
 
 comments_after : {i j : ℕ} {cs : List CommentValue} → i ≤ j → CommentsInOrder j cs → CommentsInOrder i cs
 comments_after l no_comments = no_comments
@@ -27,10 +28,6 @@ comments_after l (comment_is_at m a) = comment_is_at (omega arith) a
 comments_stand : {t : List ℕ} {i j : ℕ} {cs : List CommentValue} → Ascend t i cs j → CommentsInOrder i cs
 comments_stand (no_more l) = no_comments
 comments_stand (one_more l s a) = comment_is_at l (comments_after (omega arith) (comments_stand a))
-
-hash_nb : is_nb_char 35 ≡ true
-unfolding is_nb_char is_printable is_between is_break_char
-hash_nb = refl
 
 is_in_line : {t : List ℕ} {c : CommentValue} → IsUtf8 t → IsCommentAt t c → IsInLine t c
 is_in_line {t} {c} u s =

@@ -36,6 +36,7 @@ use Rattle.yf_stream.specs.Stream.Suffixes.{last_suffix, more_suffixes}
 use Rattle.yf_stream.proofs.Offsets.BrokenEnds.{Broken, DocumentBounds, block_broken, end_broken}
 use Rattle.yf_stream.proofs.Offsets.DirectiveOrder.{DirectivesStand, no_directives_stand, directives_after, directives_stand}
 use Rattle.yf_stream.proofs.Uniqueness.Forward.{line_end_forward}
+use Rattle.yf_lines.proofs.BasicLemmas.{white_below}
 
 pub record DocumentAt (t : List ℕ) (i j : ℕ) (d : Document) : Type 0 where
   pub node : Node
@@ -50,16 +51,12 @@ pub data DocumentsStand (t : List ℕ) : ℕ → List Document → Type 0 where
 
 -- white space ends before a visible character
 
-white_ascii : (c : ℕ) → is_white c ≡ true → c < 128
-unfolding is_white
-white_ascii c e = grind (arith, nat_tests)
-
 module _ {t : List ℕ} where
   whites_before : {i k a : ℕ} {x : List ℕ} → Many t is_white i k x → Visible t a → i ≤ a → k ≤ a
   whites_before done v l = l
   whites_before {a = a} (step (one {i = i} e) c) v l = ⊎_elim
       (λ (q : i ≡ a). absurd (true≢false (sym e ∙ ap (λ z. is_white (code t z)) q ∙ ns_not_white (code t a) v.ns)))
-      (λ (q : i ≢ a). whites_before c v (let n = next_ascii t i (white_ascii (code t i) e) in omega arith))
+      (λ (q : i ≢ a). whites_before c v (let n = next_ascii t i (white_below (code t i) e) in omega arith))
       (cases_eq i a)
 
   separated_before : {i k a : ℕ} → SeparateInLine t i k → Visible t a → i ≤ a → k ≤ a

@@ -4,15 +4,11 @@ use Rattle.yf_events.specs.Event.{EventInText, document_ends, mapping_ends, sequ
 use Rattle.yf_events.specs.Tree.{DocumentTree, flat, flat_document, flat_items, flat_pairs, flat_stream, unplaced, Items, Node, Pairs}
 use Rattle.yf_events.specs.declared.document.Doc.{Doc}
 use Rattle.yf_grammar.specs.Productions.Meaning.{from_to}
-use Rattle.yf_grammar.proofs.NodesInText.NodePlaces.{ColonIsAt, ItemsStand, NodeIsAt, PairsStand, a_colon, alias_is_at, item_is_at, mapping_is_at, no_colon, no_items_stand, no_pairs_stand, pair_is_at, scalar_is_at, sequence_is_at, is_at_nowhere}
+use Rattle.yf_grammar.proofs.NodesInText.NodePlaces.{ColonIsAt, ItemsStand, NodeIsAt, PairsStand, a_colon, alias_is_at, item_is_at, mapping_is_at, no_colon, no_items_stand, no_pairs_stand, pair_is_at, scalar_is_at, sequence_is_at, is_at_nowhere, colon_order}
 use Rattle.yf_stream.specs.LeafPass.{BeginInOrder, begins, no_events, no_place}
 use Rattle.yf_stream.proofs.Offsets.DirectiveOrder.{directives_order}
 use Rattle.yf_stream.proofs.LeafPass.LeafLemmas.{sooner}
 use Rattle.yf_stream.proofs.Offsets.ReadingTrees.{TreesStand, no_trees_stand, tree_is_at}
-
-colon_order : {t : List ℕ} {i j : ℕ} {c : Option ℕ} → ColonIsAt t i j c → i ≤ j
-colon_order (no_colon l) = l
-colon_order (a_colon l e m) = omega arith
 
 moved : {i : ℕ} {x y : List EventInText} → x ≡ y → BeginInOrder i y → BeginInOrder i x
 moved {i} e b = subst (λ z. BeginInOrder i z) (sym e) b

@@ -32,6 +32,7 @@ use Rattle.yf_stream.specs.declared.documents.StreamStep.{StreamStep}
 use Rattle.yf_stream.specs.declared.documents.StreamStep.TheVariants.{Go, Syntax, TooDeep}
 use Rattle.yf_stream.specs.declared.documents.Parts.{Parts}
 use Rattle.yf_stream.specs.declared.documents.StreamCursor.{StreamCursor}
+use Rattle.yf_chars.proofs.Tests.{turned_false}
 
 grown_by : (a : Parts) {b : Parts} (part : Part) → b.part.events ≡ a.part.events ++ part.events → b.part.comments ≡ a.part.comments ++ part.comments
     → b.part.escapes ≡ a.part.escapes ++ part.escapes → b.documents ≡ a.documents → b ≡ grown part a
@@ -156,10 +157,6 @@ pub later_next : (t : List ℕ) (at : ℕ) (next : StreamStep) → NextAt t (at 
 later_next t at (Go after) n = (record { boundary = n.0.boundary; order = omega (arith, n.0.order) }, n.1)
 later_next t at (Syntax place) n = n
 later_next t at (TooDeep place) n = n
-
-pub turned_false : (b : Bool) → not b ≡ true → b ≡ false
-turned_false true e = absurd (true≢false (sym e))
-turned_false false e = refl
 
 pub turned_true : (b : Bool) → not b ≡ false → b ≡ true
 turned_true true e = refl

@@ -4,7 +4,7 @@ use Rattle.std.proofs.lemmas.Bool.{cases_eq, ne_eqb}
 use Rattle.yf_chars.specs.Text.{code}
 use Rattle.yf_lines.specs.Basic.{ForbiddenLine, is_three}
 use Rattle.yf_lines.proofs.BasicLemmas.{no_marker, three_all, three_first, three_second}
-use Rattle.yf_stream.proofs.Uniqueness.StreamPath.{three_code}
+use Rattle.yf_lines.proofs.MarkLemmas.{three_code}
 
 module _ (t : List ℕ) (i : ℕ) where
   other_sign : (c : ℕ) → code t (i + 2) ≢ c → is_three t i c ≡ false

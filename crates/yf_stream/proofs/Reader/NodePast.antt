@@ -26,9 +26,10 @@ use Rattle.yf_grammar.proofs.LawsHold.{no_block_node_is_missed, whole_nodes_are_
 use Rattle.yf_grammar.proofs.BlockReader.WholeAnswered.{whole_answered}
 use Rattle.yf_stream.specs.Stream.{RootNode}
 use Rattle.yf_stream.proofs.HasReading.{noting_exists}
-use Rattle.yf_stream.proofs.Uniqueness.OneStream.{Known, all_of_it, alone_nothing, but_lines, known_of, known_some, line_stuck, node_one, settled_still}
+use Rattle.yf_stream.proofs.Uniqueness.OneStream.{Known, all_of_it, but_lines, known_of, known_some, line_stuck, node_one, settled_still}
 use Rattle.yf_stream.proofs.Uniqueness.Stable.{stable_nat}
 use Rattle.yf_stream.proofs.Uniqueness.StreamPath.{NodeTo, Settled}
+use Rattle.yf_grammar.proofs.BlockReader.BlockSound.{alone_nothing}
 
 -- where what is found ends
 abbrev end_of : ParsedNode → Option ParsedNode → ℕ

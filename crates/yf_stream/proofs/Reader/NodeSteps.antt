@@ -29,7 +29,8 @@ use Rattle.yf_stream.proofs.Uniqueness.OneDirective.{DirectivesTo, last_to, line
 use Rattle.yf_stream.proofs.Uniqueness.OneStream.{lines_end}
 use Rattle.yf_stream.proofs.Reader.PathLemmas.{path_at_dash}
 use Rattle.yf_stream.proofs.Reader.PathsThrough.{PathsThrough, past_rows, settled_here}
-use Rattle.yf_stream.proofs.Uniqueness.StreamPath.{ExplicitTo, NodeTo, Path, Settled, end_code, node_to, nothing_to, path_bare, path_directives, path_ends, path_explicit, path_mark, path_suffix, settled_more}
+use Rattle.yf_stream.proofs.Uniqueness.StreamPath.{ExplicitTo, NodeTo, Path, Settled, node_to, nothing_to, path_bare, path_directives, path_ends, path_explicit, path_mark, path_suffix, settled_more}
+use Rattle.yf_block_scalar.proofs.BodyLemmas.{end_code}
 
 -- a document from its `---` on, and a path after it
 pub record MarkedAt (t : List ℕ) (p : ℕ) : Type 0 where

@@ -12,7 +12,8 @@ use Rattle.yf_grammar.specs.Productions.Meaning.{Meaning}
 use Rattle.yf_stream.specs.Stream.{ContentAt, Documents, document_of, only_comments, with_comments, with_document}
 use Rattle.yf_stream.specs.Stream.ContentAt.{content_at}
 use Rattle.yf_stream.proofs.Uniqueness.OneStream.{mark_facts, no_content}
-use Rattle.yf_stream.proofs.Uniqueness.StreamPath.{ExplicitTo, Path, Settled, end_code, path_bare, path_directives, path_ends, path_explicit, path_mark, path_suffix}
+use Rattle.yf_stream.proofs.Uniqueness.StreamPath.{ExplicitTo, Path, Settled, path_bare, path_directives, path_ends, path_explicit, path_mark, path_suffix}
+use Rattle.yf_block_scalar.proofs.BodyLemmas.{end_code}
 
 -- the document that begins with a `---` there, and the path after it
 pub record ExplicitStep (t : List ℕ) (h k : ℕ) (x : Documents) : Type 0 where

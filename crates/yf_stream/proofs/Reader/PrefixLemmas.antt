@@ -19,7 +19,8 @@ use Rattle.yf_stream.specs.DocumentReaders.{FloorNote, CommentsAdded, PrefixRead
 use Rattle.yf_stream.specs.Stream.{PrefixPart, Prefixes}
 use Rattle.yf_stream.specs.Stream.PrefixPart.{order_mark, prefix_comment}
 use Rattle.yf_stream.proofs.ReaderLaws.{PrefixesAreRead}
-use Rattle.yf_stream.proofs.Uniqueness.StreamPath.{end_code, mark_still}
+use Rattle.yf_stream.proofs.Uniqueness.StreamPath.{mark_still}
+use Rattle.yf_block_scalar.proofs.BodyLemmas.{end_code}
 
 -- comments that are kept
 renoted_more : {t : List ℕ} {f : ℕ} {cs ns : List CommentValue} (c : CommentValue) (b : Bool) → FloorNote t f c.offset b → SameButNotes t f cs ns

@@ -23,7 +23,7 @@ use Rattle.yf_comments.specs.Comments.SeparateLines.{in_line, over_lines}
 use Rattle.yf_comments.proofs.RowLemmas.{break_or_end_forward, rest_unique, separate_whites, text_hash}
 use Rattle.yf_comments.proofs.LineEndLemmas.{line_end_rows}
 use Rattle.yf_comments.proofs.SeparateLemmas.{prefix_whites}
-use Rattle.yf_plain.proofs.PlainLemmas.{ns_below, ns_cr, ns_hash, ns_lf, white_not_ns}
+use Rattle.yf_plain.proofs.PlainLemmas.{ns_below, ns_cr, white_not_ns}
 use Rattle.yf_grammar.proofs.Ends.Forward.{in_line_forward, whites_forward}
 use Rattle.yf_grammar.specs.Productions.Meaning.{Meaning}
 use Rattle.yf_stream.specs.Stream.{Documents, ExplicitNode, PrefixPart, Prefixes, StreamRest, with_comments}
@@ -31,6 +31,7 @@ use Rattle.yf_stream.specs.Stream.PrefixPart.{order_mark, prefix_comment}
 use Rattle.yf_stream.specs.Stream.StreamRest.{past_explicit, past_prefix, past_suffixes, past_suffixes_and_document, stream_ended}
 use Rattle.yf_stream.proofs.Shown.ShownParts.{all_at, holds_at}
 use Rattle.yf_stream.proofs.Shown.ShownPlain.{explicit_dash, is_sign, no_suffix}
+use Rattle.yf_chars.proofs.CharFacts.{feed_no_ns, hash_ns}
 
 -- the characters: one # at p, dashes before d alone, no other sign and no byte order mark
 unfoldable pub is_simple : ℕ → ℕ → ℕ → ℕ → Bool
@@ -140,13 +141,13 @@ module _ (t : List ℕ) (r : ℕ) (content : is_ns_char (code t r) ≡ true) whe
 
   pub end_side : {i j : ℕ} → BreakOrEnd t i j → i ≤ r → j ≤ r
   end_side (by_end f) l = let n = code-past t r (omega arith) in let b = ns_below _ content in absurd (omega arith)
-  end_side (by_break (cr_lf {i = i} a b)) l = let f = other_char i 13 a ns_cr in let g = other_char (i + 1) 10 b ns_lf in omega (arith, f, g)
+  end_side (by_break (cr_lf {i = i} a b)) l = let f = other_char i 13 a ns_cr in let g = other_char (i + 1) 10 b feed_no_ns in omega (arith, f, g)
   end_side (by_break (lone_cr {i = i} a b)) l = let f = other_char i 13 a ns_cr in omega (arith, f)
-  end_side (by_break (lone_lf {i = i} a b)) l = let f = other_char i 10 a ns_lf in omega (arith, f)
+  end_side (by_break (lone_lf {i = i} a b)) l = let f = other_char i 10 a feed_no_ns in omega (arith, f)
 
 module _ {t : List ℕ} {p e d : ℕ} {remark : CommentValue} (o : OneComment t p e d remark) where
   hash_content : is_ns_char (code t p) ≡ true
-  hash_content = ap is_ns_char o.sign ∙ ns_hash
+  hash_content = ap is_ns_char o.sign ∙ hash_ns
 
   takes_whites : {i j : ℕ} {w : List ℕ} → Many t is_white i j w → Takes p remark i j []
   takes_whites c = same_side remark (whites_forward c) (whites_side t p hash_content c)

@@ -3,7 +3,7 @@ use Rattle.std.proofs.Common.{◌≡◌, ◌≢◌, ℕ, zero, suc, ◌+◌, ◌
 use Rattle.std.proofs.lemmas.Bool.{true≢false, eqb-true, cases_Bool, cases_eq, and_parts}
 use Rattle.yf_chars.specs.Text.{code, next}
 use Rattle.yf_chars.specs.Class.{is_white, is_break_char}
-use Rattle.yf_chars.proofs.TextLemmas.{next_later, next_ascii}
+use Rattle.yf_chars.proofs.TextLemmas.{next_later, next_ascii, next-mark}
 use Rattle.yf_lines.proofs.BasicLemmas.{white_below}
 use Rattle.yf_lines.specs.Basic.{Break, Clear, is_marker}
 use Rattle.yf_lines.specs.Basic.Break.{cr_lf, lone_cr, lone_lf}
@@ -33,10 +33,6 @@ gap_at t i e = ⊎_elim (λ (w : is_white (code t i) ≡ true). inl (next_ascii 
   others : is_white (code t i) ≡ false → (next t i ≡ i + 1) ⊎ (code t i ≡ 0xFEFF)
   others w = ⊎_elim (λ (b : (code t i == 10) || (code t i == 13) ≡ true). inl (breaks b))
       (λ (b : (code t i == 10) || (code t i == 13) ≡ false). inr (eqb-true (code t i) 0xFEFF (rw (w, b) at e))) (cases_Bool ((code t i == 10) || (code t i == 13)))
-
-mark_at : (t : List ℕ) (i : ℕ) → code t i ≡ 0xFEFF → next t i ≡ i + 3
-unfolding next
-mark_at t i e = rw e refl
 
 -- a comment at the start of the text, or after a line that ends with the character at p, which is none of a gap, and a line
 -- feed; no mark is near
@@ -73,13 +69,13 @@ module _ (t : List ℕ) where
     gap_end e (blank_line {i = i} b k) =
         ⊎_elim (λ a. no_feed i (omega (arith, a.0)) a.1) (λ a. no_feed (i + 1) (omega (arith, a.0)) (inl a.1.1)) (break_at k)
     gap_end e (past_gap {i = i} b g) =
-        ⊎_elim (λ (a : next t i ≡ i + 1). no_gap i (omega arith) g) (λ (a : code t i ≡ 0xFEFF). let m = mark_at t i a in none i (omega arith) a) (gap_at t i g)
+        ⊎_elim (λ (a : next t i ≡ i + 1). no_gap i (omega arith) g) (λ (a : code t i ≡ 0xFEFF). let m = next-mark t i a in none i (omega arith) a) (gap_at t i g)
 
     line_end : {j : ℕ} → j ≡ p + 2 → BlankBefore t j → ⊥
     line_end e (blank_line {i = i} b k) =
         ⊎_elim (λ a. blank_end (omega (arith, a.0)) b) (λ a. no_feed i (omega (arith, a.0)) (inr a.1.0)) (break_at k)
     line_end e (past_gap {i = i} b g) =
-        ⊎_elim (λ (a : next t i ≡ i + 1). gap_end (omega arith) b) (λ (a : code t i ≡ 0xFEFF). let m = mark_at t i a in none i (omega arith) a) (gap_at t i g)
+        ⊎_elim (λ (a : next t i ≡ i + 1). gap_end (omega arith) b) (λ (a : code t i ≡ 0xFEFF). let m = next-mark t i a in none i (omega arith) a) (gap_at t i g)
 
     pub later_comment : HasBlankNote t (p + 2) false
     later_comment = not_noted (line_end refl)

@@ -24,12 +24,13 @@ use Rattle.yf_plain.specs.Plain.PlainItem.{set_off}
 use Rattle.yf_plain.specs.Plain.PlainLine.{one_line}
 use Rattle.yf_plain.specs.Plain.PlainNext.{next_line}
 use Rattle.yf_plain.specs.Plain.PlainText.{as_key, as_lines}
-use Rattle.yf_plain.proofs.PlainLemmas.{ns_lf, plain_at_end, plain_hash, plain_is_ns}
+use Rattle.yf_plain.proofs.PlainLemmas.{plain_at_end, plain_hash, plain_is_ns}
 use Rattle.yf_events.specs.declared.event.ScalarStyle.TheVariants.{Plain}
 use Rattle.yf_grammar.specs.Productions.Grammar.{Derives, FlowNode, NodeOf}
 use Rattle.yf_grammar.specs.Productions.Grammar.Derives.{flow_node, an_alias, a_plain, a_plain_with, properties_alone, a_json, a_json_with}
 use Rattle.yf_grammar.specs.Productions.Meaning.{Meaning, scalar}
 use Rattle.yf_stream.proofs.Shown.ShownPlain.{is_sign, no_alias, no_json, no_properties}
+use Rattle.yf_chars.proofs.CharFacts.{feed_no_ns, hash_no_white, end_no_white, feed_no_white}
 
 -- the word at q
 pub record WordAt (t : List ℕ) (q : ℕ) : Type 0 where
@@ -41,18 +42,6 @@ pub record WordAt (t : List ℕ) (q : ℕ) : Type 0 where
 abbrev pub word_at : ℕ → Meaning
 word_at q = scalar Plain (codes "a") [] q (q + 1)
 
-white_feed : is_white 10 ≡ false
-unfolding is_white
-white_feed = refl
-
-white_hash : is_white 35 ≡ false
-unfolding is_white
-white_hash = refl
-
-white_end : is_white no_char ≡ false
-unfolding is_white
-white_end = refl
-
 pub whites_stay : {t : List ℕ} {i j : ℕ} {w : List ℕ} → is_white (code t i) ≡ false → Many t is_white i j w → j ≡ i
 whites_stay n done = refl
 whites_stay n (step (one e) c) = absurd (true≢false (sym e ∙ n))
@@ -62,10 +51,10 @@ module _ {t : List ℕ} {q : ℕ} (w : WordAt t q) where
   feed_break = lone_lf w.feed (λ e. let f : code t q ≡ 13 = subst (λ k. code t k ≡ 13) (omega arith) e in let g = w.word in omega arith)
 
   feed_white : is_white (code t (q + 1)) ≡ false
-  feed_white = ap is_white w.feed ∙ white_feed
+  feed_white = ap is_white w.feed ∙ feed_no_white
 
   dead_white : is_white (code t (q + 1 + 1)) ≡ false
-  dead_white = ⊎_elim (λ (e : code t (q + 1 + 1) ≡ no_char). ap is_white e ∙ white_end) (λ e. ap is_white e.0 ∙ white_hash) w.follows
+  dead_white = ⊎_elim (λ (e : code t (q + 1 + 1) ≡ no_char). ap is_white e ∙ end_no_white) (λ e. ap is_white e.0 ∙ hash_no_white) w.follows
 
   no_break_there : {i j : ℕ} → i ≡ q + 1 + 1 → Break t i j → ⊥
   no_break_there {i} e b =
@@ -94,12 +83,12 @@ module _ {t : List ℕ} {q : ℕ} (w : WordAt t q) where
 
   -- the plain scalar
   no_plain_feed : (c : Ctx) (i : ℕ) → i ≡ q + 1 → is_plain_char t c i ≡ true → ⊥
-  no_plain_feed c i e p = true≢false (sym (plain_is_ns t c i p) ∙ ap is_ns_char (ap (code t) e ∙ w.feed) ∙ ns_lf)
+  no_plain_feed c i e p = true≢false (sym (plain_is_ns t c i p) ∙ ap is_ns_char (ap (code t) e ∙ w.feed) ∙ feed_no_ns)
 
   no_plain_there : (c : Ctx) (i : ℕ) → i ≡ q + 1 + 1 → is_plain_char t c i ≡ true → ⊥
   no_plain_there c i e p = ⊎_elim
       (λ (f : code t (q + 1 + 1) ≡ no_char). true≢false (sym p ∙ plain_at_end t c i (ap (code t) e ∙ f)))
-      (λ f. true≢false (sym p ∙ plain_hash t c i (ap (code t) e ∙ f.0) ∙ ap (λ k. is_ns_char (before t k)) e ∙ ap is_ns_char f.1 ∙ ns_lf)) w.follows
+      (λ f. true≢false (sym p ∙ plain_hash t c i (ap (code t) e ∙ f.0) ∙ ap (λ k. is_ns_char (before t k)) e ∙ ap is_ns_char f.1 ∙ feed_no_ns)) w.follows
 
   items_stay : {c : Ctx} {i j : ℕ} {x : List ℕ} → i ≡ q + 1 → Chain (PlainItem t c) i j x → (j ≡ q + 1) × (x ≡ [])
   items_stay e done = (e, refl)

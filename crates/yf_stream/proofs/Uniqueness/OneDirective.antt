@@ -25,7 +25,7 @@ use Rattle.yf_props.specs.Names.TagPrefix.{local_prefix, global_prefix}
 use Rattle.yf_props.proofs.NameLemmas.{run_unique}
 use Rattle.yf_props.proofs.SeparationEnds.{Solid}
 use Rattle.yf_props.proofs.SolidLemmas.{hex_solid, tag_solid, uri_solid, word_solid}
-use Rattle.yf_props.proofs.TagLemmas.{mark_word, percent_tag, percent_uri, spelled_functional, spelled_stuck, tag_functional}
+use Rattle.yf_props.proofs.TagLemmas.{percent_tag, percent_uri, spelled_functional, spelled_stuck, tag_functional}
 use Rattle.yf_events.specs.declared.directive.Directive.{Directive}
 use Rattle.yf_grammar.proofs.Ends.BlankRuns.{ContentBefore, after_byte, no_start_past}
 use Rattle.yf_grammar.proofs.FlowReader.FlowStarts.{no_end_there}
@@ -35,6 +35,7 @@ use Rattle.yf_stream.specs.Stream.{DirectiveLines, Directives, Parameters, Reser
 use Rattle.yf_stream.specs.Stream.DirectiveLines.{last_directive, more_directives}
 use Rattle.yf_stream.specs.Stream.Parameters.{version_parameter, tag_parameters, reserved_parameters}
 use Rattle.yf_stream.specs.Stream.ReservedParameter.{reserved_parameter}
+use Rattle.yf_chars.proofs.CharFacts.{exclamation_no_word, exclamation_no_tag}
 
 solid_ns : (c : ℕ) → 33 ≤ c → c < 127 → is_ns_char c ≡ true
 unfolding is_ns_char is_nb_char is_printable is_between is_break_char is_white
@@ -49,10 +50,6 @@ digit_bounds c e = (grind (arith, nat_tests), grind (arith, nat_tests))
 
 pub digit_ns : (c : ℕ) → is_digit c ≡ true → is_ns_char c ≡ true
 digit_ns c e = let b = digit_bounds c e in solid_ns c (omega (arith, b.0)) (omega (arith, b.1))
-
-mark_no_tag : is_tag_char 33 ≡ false
-unfolding is_tag_char is_uri_char is_word_char is_digit is_between
-mark_no_tag = refl
 
 pub yaml_no_tag : codes "YAML" ≡ codes "TAG" → ⊥
 yaml_no_tag e = let f = ap length e in absurd (omega arith)
@@ -125,7 +122,7 @@ module _ {t : List ℕ} (u : IsUtf8 t) where
   word_white {i} r = no_ns_white i (ns_of (word_solid (code t i) (run_first r.chain r.some)))
 
   pub word_mark : {i j : ℕ} → Run (One t is_word_char) i j → code t i ≡ 33 → ⊥
-  word_mark {i} r e = true≢false (sym (run_first r.chain r.some) ∙ ap is_word_char e ∙ mark_word)
+  word_mark {i} r e = true≢false (sym (run_first r.chain r.some) ∙ ap is_word_char e ∙ exclamation_no_word)
 
   pub handle_one : {i h g : ℕ} → Handle t i h → is_white (code t h) ≡ true → Handle t i g → is_white (code t g) ≡ true → h ≡ g
   handle_one (primary_handle a) v (primary_handle b) w = refl
@@ -154,7 +151,7 @@ module _ {t : List ℕ} (u : IsUtf8 t) where
   prefix_ns (global_prefix s c) = spelled_ns tag_solid s
 
   pub no_tag_at_mark : {i j : ℕ} {x : List ℕ} → code t i ≡ 33 → TagChar t i j x → ⊥
-  no_tag_at_mark {i} {j} {x} e s = (spelled_stuck t is_tag_char percent_tag i (ap is_tag_char e ∙ mark_no_tag) (λ q. absurd (omega arith))).none j x s
+  no_tag_at_mark {i} {j} {x} e s = (spelled_stuck t is_tag_char percent_tag i (ap is_tag_char e ∙ exclamation_no_tag) (λ q. absurd (omega arith))).none j x s
 
   prefix_one : {i j k m n : ℕ} {x y : List ℕ} {a b : List CommentValue} → TagPrefix t i j x → LineEnd t j m a → TagPrefix t i k y → LineEnd t k n b → j ≡ k
   prefix_one (local_prefix {i = i} e c) d (local_prefix g h) f = uris_one (after_byte i u e (omega arith) (solid_ns 33 (omega arith) (omega arith))) c d h f

@@ -31,6 +31,8 @@ use Rattle.yf_stream.specs.Stream.EndIsMarked.{marked_end, unmarked_end}
 use Rattle.yf_stream.specs.Stream.PrefixPart.{order_mark, prefix_comment}
 use Rattle.yf_stream.proofs.Uniqueness.OneDirective.{dot_still}
 use Rattle.yf_stream.proofs.Uniqueness.StreamPath.{mark_still}
+use Rattle.yf_chars.proofs.Tests.{none_some}
+use Rattle.yf_grammar.proofs.Prefixes.PrefixWhole.{some_is}
 
 -- resolved tags
 suffix_one : {s x y : List ℕ} → SuffixText s x → SuffixText s y → x ≡ y
@@ -43,27 +45,20 @@ the_value : {A : Type 0} → A → Option A → A
 the_value d None = d
 the_value d (Some x) = x
 
-some_one : {A : Type 0} (x y : A) → Some x ≡ Some y → x ≡ y
-unfolding the_value
-some_one x y e = ap (the_value x) e
-
-no_some : {A : Type 0} {x : A} → None ≡ Some x → ⊥
-no_some e = cc
-
 tag_text_one : {ds : List Declaration} {tag : TagValue} {x y : List ℕ} → TagText ds tag x → TagText ds tag y → x ≡ y
 tag_text_one verbatim_text verbatim_text = refl
 tag_text_one (shorthand_text {prefix = p} {x = x} e a) (shorthand_text {prefix = q} {x = y} f b) =
-    let same = some_one p q (sym e ∙ f) in
+    let same = some_is p q (sym e ∙ f) in
     ap (λ w. w ++ x) same ∙ ap (λ w. q ++ w) (suffix_one a b)
 tag_text_one non_specific_text non_specific_text = refl
 
 pub tags_one : {ds : List Declaration} {es : List EventInText} {x y : List (Option (List ℕ))} → EventTags ds es x → EventTags ds es y → x ≡ y
 tags_one no_event no_event = refl
 tags_one (untagged e r) (untagged f s) = ap (λ w. None ∷ w) (tags_one r s)
-tags_one (untagged e r) (tagged f a s) = absurd (no_some (sym e ∙ f))
-tags_one (tagged e a r) (untagged f s) = absurd (no_some (sym f ∙ e))
+tags_one (untagged e r) (tagged f a s) = absurd (none_some (sym e ∙ f))
+tags_one (tagged e a r) (untagged f s) = absurd (none_some (sym f ∙ e))
 tags_one {ds} (tagged {tags = tags} {tag = v} {text = text} e a r) (tagged {tag = w} {text = other} f b s) =
-    let same = some_one w v (sym f ∙ e) in
+    let same = some_is w v (sym f ∙ e) in
     ap (λ z. Some z ∷ tags) (tag_text_one a (subst (λ z. TagText ds z other) same b)) ∙ ap (λ z. Some other ∷ z) (tags_one r s)
 
 record Later (t : List ℕ) (k q : ℕ) : Type 0 where

@@ -28,7 +28,10 @@ use Rattle.yf_stream.specs.Stream.{ContentAt, Documents, Stream, document_of, wi
 use Rattle.yf_stream.specs.Stream.ContentAt.{content_at}
 use Rattle.yf_stream.proofs.Uniqueness.OneDirective.{directives_one}
 use Rattle.yf_stream.proofs.Uniqueness.Stable.{stable_nat, stable_meaning}
-use Rattle.yf_stream.proofs.Uniqueness.StreamPath.{Settled, NodeTo, ExplicitTo, node_to, nothing_to, Path, path_ends, path_mark, path_suffix, path_explicit, path_directives, path_bare, settled_one, end_code, stream_from}
+use Rattle.yf_stream.proofs.Uniqueness.StreamPath.{Settled, NodeTo, ExplicitTo, node_to, nothing_to, Path, path_ends, path_mark, path_suffix, path_explicit, path_directives, path_bare, settled_one, stream_from}
+use Rattle.yf_block_scalar.proofs.BodyLemmas.{end_code}
+use Rattle.yf_grammar.proofs.BlockReader.BlockSound.{alone_nothing}
+use Rattle.yf_grammar.proofs.WrittenTexts.LeafBack.{noting_nothing}
 
 -- parts of what is found
 abbrev end_of : Option ParsedNode → ℕ
@@ -45,14 +48,6 @@ found_one a b = (ap end_of (sym a.is ∙ b.is), ap (meaning_of 0) (sym a.is ∙ 
 
 not_none : {o : Option ParsedNode} {j h : ℕ} {x : Meaning} → IsFound o j h x → o ≡ None → ⊥
 not_none {j = j} {h = h} {x = x} a e = none_found j h false x (sym e ∙ a.is)
-
-noting_nothing : (x : Meaning) → noting x [] ≡ x
-unfolding noting
-noting_nothing x = ap (λ w. record x { comments = w }) (append-nil x.comments)
-
-pub alone_nothing : (k : ℕ) (ds : List CommentValue) → alone Nothing k ds ≡ None
-unfolding alone
-alone_nothing k ds = refl
 
 -- two nodes of one place end at one place, with one meaning
 pub record Same (l m : ℕ) (x y : Meaning) : Type 0 where

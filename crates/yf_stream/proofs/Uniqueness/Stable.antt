@@ -11,6 +11,7 @@ use Rattle.yf_events.specs.declared.event.ScalarStyle.TheVariants.{Plain, Single
 use Rattle.yf_events.specs.declared.event.Span.{Span}
 use Rattle.yf_grammar.specs.Productions.Meaning.{Meaning}
 use Rattle.yf_grammar.proofs.Ends.Irrefutable.{Irrefutable}
+use Rattle.yf_flow.proofs.Stack.TiedClose.{no_cons}
 
 pub record Stable (A : Type 0) : Type 0 where
   pub same : (x y : A) → Irrefutable (x ≡ y) → x ≡ y
@@ -53,9 +54,6 @@ head_or d (x ∷ xs) = x
 abbrev tail : {A : Type 0} → List A → List A
 tail [] = []
 tail (x ∷ xs) = xs
-
-no_cons : {A : Type 0} {x : A} {xs : List A} → [] ≡ x ∷ xs → ⊥
-no_cons e = cc
 
 pub stable_list : {A : Type 0} → Stable A → Stable (List A)
 stable_list {A} s = record { same = go } where

@@ -14,7 +14,7 @@ use Rattle.yf_chars.proofs.TextLemmas.{code-past}
 use Rattle.yf_lines.specs.Basic.{ForbiddenLine, LineStart, SeparateInLine, is_three}
 use Rattle.yf_lines.specs.Basic.LineStart.{at_text, after_mark}
 use Rattle.yf_lines.specs.Basic.SeparateInLine.{by_whites, at_start}
-use Rattle.yf_lines.proofs.BasicLemmas.{break_char, marker_of_dashes, marker_of_dots, three_all, three_first, three_second}
+use Rattle.yf_lines.proofs.BasicLemmas.{break_char, marker_of_dashes, marker_of_dots, three_all, three_first, three_second, ends_by_white}
 use Rattle.yf_comments.specs.Comment.{CommentValue}
 use Rattle.yf_comments.specs.Comments.{BreakOrEnd, LineEnd, Row, Separate}
 use Rattle.yf_comments.specs.Comments.BreakOrEnd.{by_break, by_end}
@@ -43,6 +43,11 @@ use Rattle.yf_stream.specs.Stream.StreamRest.{past_explicit, past_prefix, past_s
 use Rattle.yf_stream.specs.Stream.Suffixes.{last_suffix, more_suffixes}
 use Rattle.yf_stream.proofs.Uniqueness.NoPercent.{no_percent_node}
 use Rattle.yf_stream.proofs.Uniqueness.OneDirective.{DirectivesTo, lines_begin, lines_to, percent_still, dash_still, dot_still}
+use Rattle.yf_block.proofs.LineSteps.LeafEnds.{noting_comments}
+use Rattle.yf_block_scalar.proofs.BodyLemmas.{end_code}
+use Rattle.yf_chars.proofs.CharFacts.{mark_no_white}
+use Rattle.yf_grammar.proofs.FlowReader.CompleteSteps.{noting_twice}
+use Rattle.yf_lines.proofs.MarkLemmas.{three_code}
 
 -- comment lines, as many as there are
 pub record Settled (t : List ℕ) (i l : ℕ) (es : List CommentValue) : Type 0 where
@@ -108,32 +113,9 @@ noted_document : (k : ℕ) (b : Bool) (ds : List Directive) (x : Meaning) (es : 
 unfolding document_of noting
 noted_document k b ds x es = refl
 
-noted_comments : (x : Meaning) (es : List CommentValue) → (noting x es).comments ≡ x.comments ++ es
-unfolding noting
-noted_comments x es = refl
-
-noted_twice : (x : Meaning) (cs es : List CommentValue) → noting (noting x cs) es ≡ noting x (cs ++ es)
-unfolding noting
-noted_twice x cs es = ap (λ w. record x { comments = w }) (append_assoc x.comments cs es)
-
-white_mark : is_white 0xFEFF ≡ false
-unfolding is_white
-white_mark = refl
-
-ends_by_white : (c : ℕ) → is_white c ≡ true → is_white_or_end c ≡ true
-unfolding is_white_or_end
-ends_by_white c e = rw e refl
-
 signs_visible : (is_ns_char 45 ≡ true) × (is_ns_char 46 ≡ true)
 unfolding is_ns_char is_nb_char is_printable is_between is_break_char is_white
 signs_visible = (refl, refl)
-
-pub end_code : (t : List ℕ) (k : ℕ) → k ≡ length t → code t k ≡ no_char
-end_code t k e = code-past t k (omega arith)
-
--- three signs
-pub three_code : (t : List ℕ) (k c : ℕ) → is_three t k c ≡ true → code t k ≡ c
-three_code t k c e = ⊎_elim (λ (q : code t k ≡ c). q) (λ (q : code t k ≢ c). absurd (true≢false (sym e ∙ three_first t k c q))) (cases_eq (code t k) c)
 
 pub three_last : (t : List ℕ) (k c : ℕ) → is_three t k c ≡ true → code t (k + 2) ≡ c
 three_last t k c e =
@@ -154,7 +136,7 @@ module _ {t : List ℕ} where
   mark_no_end {k = k} e (by_end f) = let g = end_code t k f in absurd (omega arith)
 
   pub mark_still : {k : ℕ} → code t k ≡ 0xFEFF → Stuck (Row t k)
-  mark_still {k} e = row_stuck (stuck_at_solid (done {i = k}) (ap is_white e ∙ white_mark) (λ q. absurd (omega arith)) (record { none = λ j f. mark_no_end e f }))
+  mark_still {k} e = row_stuck (stuck_at_solid (done {i = k}) (ap is_white e ∙ mark_no_white) (λ q. absurd (omega arith)) (record { none = λ j f. mark_no_end e f }))
 
   pub content_still : {k p : ℕ} → ContentAt t k p → Stuck (Row t k)
   content_still (content_at s n h) = let v = visible_solid (record { ns = n; no_hash = h }) in row_stuck (stuck_at_solid (separate_whites s).1 v.not_white v.no_comment v.no_end)
@@ -265,13 +247,13 @@ module _ {t : List ℕ} (u : IsUtf8 t) where
   explicit_to : {h k j l : ℕ} {x : Meaning} {es : List CommentValue} → ExplicitNode t h k j x → Settled t j l es → ExplicitTo t h k l (noting x es)
   explicit_to {j = j} {x = x} {es = es} (marked_node e n) s = node_to (record { end = j; meaning = x; comments = es; node = n; settled = s; is = refl })
   explicit_to {k = k} {l = l} {es = es} (marked_nothing {cs = cs} e d) s =
-      subst (λ w. ExplicitTo t 0 k l w) (sym (noted_twice (empty_node (k + 3)) cs es)) (nothing_to d s)
+      subst (λ w. ExplicitTo t 0 k l w) (sym (noting_twice (empty_node (k + 3)) cs es)) (nothing_to d s)
 
   with_later : (cs es : List CommentValue) (k : ℕ) (b : Bool) (ds : List Directive) (x : Meaning) (y z : Documents) → y ≡ with_comments es z
       → with_document (cs ++ (noting x es).comments) (document_of k b ds (noting x es)) z ≡ with_document (cs ++ x.comments) (document_of k b ds x) y
   with_later cs es k b ds x y z e =
       let d = document_of k b ds x in
-      ap (λ w. with_document (cs ++ w) (document_of k b ds (noting x es)) z) (noted_comments x es)
+      ap (λ w. with_document (cs ++ w) (document_of k b ds (noting x es)) z) (noting_comments x es)
       ∙ ap (λ w. with_document (cs ++ (x.comments ++ es)) w z) (noted_document k b ds x es)
       ∙ ap (λ w. with_document w d z) (sym (append_assoc cs x.comments es))
       ∙ sym (document_join (cs ++ x.comments) es d z)

@@ -1,11 +1,12 @@
 use Rattle.std.proofs.Common.{◌+◌, arith}
 use Rattle.std.proofs.lemmas.Bool.{leb-true}
-use Rattle.yf_block.proofs.Ends.KeyEndLemmas.{line_begins, line_upto, short_line}
+use Rattle.yf_block.proofs.Ends.KeyEndLemmas.{line_upto, short_line}
 use Rattle.yf_block.proofs.Ends.ShortLines.{line_through}
 use Rattle.yf_block.proofs.look.is_short_line.Goals as goal
+use Rattle.yf_grammar.proofs.FlowReader.KeyLines.{line_none}
 
 pub lanes-init : goal.lanes-init
-lanes-init c = record { order = omega arith; within = let b = c.requires.0 in omega (arith, b); line = line_begins _ _ }
+lanes-init c = record { order = omega arith; within = let b = c.requires.0 in omega (arith, b); line = line_none _ _ }
 
 pub returns-then-clear-lt16 : goal.returns-then-clear-lt16
 returns-then-clear-lt16 c = λ r b.

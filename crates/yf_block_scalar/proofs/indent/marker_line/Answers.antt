@@ -1,6 +1,7 @@
 use Rattle.std.proofs.Common.{arith}
-use Rattle.yf_block_scalar.proofs.BodyLemmas.{mark_within, marker_past, marker_rest, match_marker}
+use Rattle.yf_block_scalar.proofs.BodyLemmas.{marker_past, marker_rest, match_marker}
 use Rattle.yf_block_scalar.proofs.indent.marker_line.Goals as goal
+use Rattle.yf_lines.proofs.MarkLemmas.{mark_within}
 
 pub overflow_add-place : goal.overflow_add-place
 overflow_add-place c =

@@ -4,8 +4,9 @@ use Rattle.std.specs.List.{All}
 use Rattle.std.specs.Str.{IsCharBoundary}
 use Rattle.yf_stream.specs.DocumentReaders.{IsMarker, closed, opened}
 use Rattle.yf_stream.specs.DocumentSteps.{MarkedRead, at_dashes, at_dots, not_bare, without_dashes}
-use Rattle.yf_stream.proofs.Reader.DocumentAnswers.{bare_of, documents_opened, no_directives_at, turned_false, turned_true}
+use Rattle.yf_stream.proofs.Reader.DocumentAnswers.{bare_of, documents_opened, no_directives_at, turned_true}
 use Rattle.yf_stream.proofs.documents.Parts.read_next.Goals as goal
+use Rattle.yf_chars.proofs.Tests.{turned_false}
 
 pub returns-in-Some-DocumentEnd-clause-next : goal.returns-in-Some-DocumentEnd-clause-next
 returns-in-Some-DocumentEnd-clause-next c = c.read_suffix.ensures.next

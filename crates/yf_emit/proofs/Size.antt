@@ -1,0 +1,18 @@
+-- how long what formatting gives may be (`SizeKept`)
+pub mod SizesKept
+-- how many bytes what is read has in the text: events, comments, documents
+pub mod Weights
+pub mod CommentBytes
+pub mod NameBytes
+pub mod TextBytes
+pub mod BlockBytes
+pub mod NodeBytes
+pub mod StreamBytes
+pub mod TreeBytes
+pub mod ReadingBytes
+-- how many bytes rows have by these
+pub mod LeafBytes
+pub mod NodeCosts
+pub mod RowBytes
+pub mod DocumentRows
+pub mod LayoutBytes
