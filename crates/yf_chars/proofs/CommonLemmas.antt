@@ -7,7 +7,9 @@ use Rattle.std.proofs.lemmas.Str.{chars-IsAscii, encodes-IsAscii}
 use Rattle.yf_chars.specs.Class.{is_between}
 use Rattle.yf_chars.specs.Common.{AreCommon, is_common}
 use Rattle.yf_chars.specs.Escape.{is_by_two, is_by_four, short_name, spelled}
+use Rattle.yf_chars.specs.Hidden.{spelled_out}
 use Rattle.yf_chars.proofs.EscapeLemmas.{spelled_none, spelled_self}
+use Rattle.yf_chars.proofs.HiddenLemmas.{low_itself, spelled_alike}
 
 pub common_below : (c : ℕ) → is_common c ≡ true → c < 128
 unfolding is_common is_between
@@ -37,13 +39,24 @@ common_ascii [] a i = omega arith
 common_ascii (b ∷ t) a zero = common_below b (a 0 (omega arith))
 common_ascii (b ∷ t) a (suc i) = common_ascii t (λ k l. a (suc k) (omega (arith, l))) i
 
-common_each : (t : List ℕ) → AreCommon t → flat_map spelled t ≡ t
-common_each [] a = refl
-common_each (b ∷ t) a =
-    ap (λ w. w ++ flat_map spelled t) (common_spelled b (a 0 (omega arith))) ∙ ap (λ w. b ∷ w) (common_each t (λ k l. a (suc k) (omega (arith, l))))
+pub common_out : (c : ℕ) → is_common c ≡ true → spelled_out c ≡ c ∷ []
+common_out c e = let low = common_below c e in spelled_alike c (low_itself c (omega arith)) ∙ common_spelled c e
+
+-- such a text is spelled by itself, where each common character is
+module _ (f : ℕ → List ℕ) (itself : (c : ℕ) → is_common c ≡ true → f c ≡ c ∷ []) where
+  common_each : (t : List ℕ) → AreCommon t → flat_map f t ≡ t
+  common_each [] a = refl
+  common_each (b ∷ t) a =
+      ap (λ w. w ++ flat_map f t) (itself b (a 0 (omega arith))) ∙ ap (λ w. b ∷ w) (common_each t (λ k l. a (suc k) (omega (arith, l))))
+
+  pub common_spelling_by : (t : List ℕ) → AreCommon t → flat_map f (chars t) ≡ t
+  common_spelling_by t a = ap (λ w. flat_map f w) (chars-IsAscii t (common_ascii t a)) ∙ common_each t a
+
+  pub common_text_by : (t : List ℕ) → AreCommon t → encode_utf8_all (flat_map f (chars t)) ≡ t
+  common_text_by t a = ap encode_utf8_all (common_spelling_by t a) ∙ encodes-IsAscii t (common_ascii t a)
 
 pub common_spelling : (t : List ℕ) → AreCommon t → flat_map spelled (chars t) ≡ t
-common_spelling t a = ap (λ w. flat_map spelled w) (chars-IsAscii t (common_ascii t a)) ∙ common_each t a
+common_spelling = common_spelling_by spelled common_spelled
 
 pub common_text : (t : List ℕ) → AreCommon t → encode_utf8_all (flat_map spelled (chars t)) ≡ t
-common_text t a = ap encode_utf8_all (common_spelling t a) ∙ encodes-IsAscii t (common_ascii t a)
+common_text = common_text_by spelled common_spelled

@@ -2,7 +2,7 @@
 use Rattle.std.proofs.Common.{◌≢◌, ◌⊎◌, ◌≡◌, ℕ, ◌+◌, ◌-◌, ◌*◌, ◌^◌, ◌<◌, ◌≤◌, true, false, true≢false, Some, None, refl, sym, ap, ◌∙◌, subst, ⊎_elim, arith, add-one, leb, List, [], ◌∷◌, ◌++◌, ◌/◌, ◌%◌, encode_utf8_all, encode_utf8, append-nil, append_assoc}
 use native.Mathlib.Numerals.{unary_clauses}
 use Rattle.std.proofs.Math.Nat.{pow-le-pow_right}
-use Rattle.std.proofs.lemmas.Bool.{cases_lt, and_parts, leb-true}
+use Rattle.std.proofs.lemmas.Bool.{cases_lt, and_parts, leb-true, lt-ltb, le-ltb}
 use Rattle.std.proofs.lemmas.Bool.Decides.{nat_tests}
 use lib.Utf8.{encode}
 use Rattle.std.proofs.lemmas.Str.{encode_ascii, encodes-append}
@@ -10,7 +10,7 @@ use Rattle.std.specs.Char.{digit_value}
 use Rattle.yf_chars.specs.Text.{code}
 use Rattle.yf_chars.specs.Chain.{Stuck, Chosen}
 use Rattle.yf_chars.specs.Class.{is_between}
-use Rattle.yf_chars.specs.Escape.{named, number, Digits, NumericEscape, is_high, is_low, joined, NoLow, Escape, upper_digit, two_digits, is_by_two, is_by_four, spelled_long, spelled_by, spelled, short_name}
+use Rattle.yf_chars.specs.Escape.{named, number, Digits, NumericEscape, is_high, is_low, joined, NoLow, Escape, upper_digit, two_digits, is_by_two, is_by_four, spelled_long, spelled_by, spelled, short_name, by_number}
 use Rattle.yf_chars.specs.Escape.Escape.{by_letter, by_two, by_four, by_half, by_pair, by_eight}
 
 -- what has one end and one meaning is the longest
@@ -213,15 +213,37 @@ pub two_spelled : (c : ℕ) → is_by_two c ≡ true → encode_utf8_all (spelle
 unfolding encode
 two_spelled c e = ap encode_utf8_all (spelled_two c e) ∙ ap (λ w. 92 ∷ 120 ∷ w) (two_bytes c (by_two_below c e))
 
+-- after two digits, the bytes of what is in ASCII
+more_bytes : (v : ℕ) {w : List ℕ} → v < 256 → encode_utf8_all w ≡ w → encode_utf8_all (two_digits v ++ w) ≡ two_digits v ++ w
+more_bytes v {w} l e = encodes-append (two_digits v) w ∙ ap (λ z. z ++ encode_utf8_all w) (two_bytes v l) ∙ ap (λ z. two_digits v ++ z) e
+
+four_bytes : (c : ℕ) → c < 65536 → encode_utf8_all (92 ∷ 117 ∷ two_digits (c / 256) ++ two_digits (c % 256)) ≡ 92 ∷ 117 ∷ two_digits (c / 256) ++ two_digits (c % 256)
+unfolding encode
+four_bytes c l = ap (λ w. 92 ∷ 117 ∷ w) (more_bytes (c / 256) (omega arith) (two_bytes (c % 256) (omega arith)))
+
 pub four_spelled : (c : ℕ) → is_by_two c ≡ false → is_by_four c ≡ true
     → encode_utf8_all (spelled_long c) ≡ 92 ∷ 117 ∷ two_digits (c / 256) ++ two_digits (c % 256)
+four_spelled c e f = ap encode_utf8_all (spelled_four c e f) ∙ four_bytes c (by_four_below c f)
+
+-- by a number
+pub few_digits : (c : ℕ) → c < 0x10000 → by_number c ≡ 92 ∷ 117 ∷ two_digits (c / 256) ++ two_digits (c % 256)
+unfolding by_number
+few_digits c l = rw (lt-ltb c 0x10000 l) refl
+
+pub many_digits : (c : ℕ) → 0x10000 ≤ c
+    → by_number c ≡ 92 ∷ 85 ∷ two_digits 0 ++ (two_digits (c / 65536) ++ (two_digits (c / 256 % 256) ++ two_digits (c % 256)))
+unfolding by_number
+many_digits c l = rw (le-ltb c 0x10000 l) refl
+
+pub few_spelled : (c : ℕ) → c < 0x10000 → encode_utf8_all (by_number c) ≡ 92 ∷ 117 ∷ two_digits (c / 256) ++ two_digits (c % 256)
+few_spelled c l = ap encode_utf8_all (few_digits c l) ∙ four_bytes c l
+
+pub many_spelled : (c : ℕ) → 0x10000 ≤ c → c < 0x110000
+    → encode_utf8_all (by_number c) ≡ 92 ∷ 85 ∷ two_digits 0 ++ (two_digits (c / 65536) ++ (two_digits (c / 256 % 256) ++ two_digits (c % 256)))
 unfolding encode
-four_spelled c e f =
-    let l = by_four_below c f in
-    let a : encode_utf8_all (two_digits (c / 256) ++ two_digits (c % 256)) ≡ two_digits (c / 256) ++ two_digits (c % 256) =
-    encodes-append (two_digits (c / 256)) (two_digits (c % 256)) ∙ ap (λ w. w ++ encode_utf8_all (two_digits (c % 256))) (two_bytes (c / 256) (omega arith))
-    ∙ ap (λ w. two_digits (c / 256) ++ w) (two_bytes (c % 256) (omega arith)) in
-    ap encode_utf8_all (spelled_four c e f) ∙ ap (λ w. 92 ∷ 117 ∷ w) a
+many_spelled c l h =
+    ap encode_utf8_all (many_digits c l)
+    ∙ ap (λ w. 92 ∷ 85 ∷ w) (more_bytes 0 (omega arith) (more_bytes (c / 65536) (omega arith) (more_bytes (c / 256 % 256) (omega arith) (two_bytes (c % 256) (omega arith)))))
 
 pub self_spelled : (c : ℕ) → is_by_two c ≡ false → is_by_four c ≡ false → encode_utf8_all (spelled_long c) ≡ encode_utf8 c
 self_spelled c e f = ap encode_utf8_all (spelled_self c e f) ∙ append-nil (encode_utf8 c)

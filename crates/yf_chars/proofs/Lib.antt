@@ -12,6 +12,8 @@ pub mod ChainLemmas
 pub mod EscapeLemmas
 pub mod SpelledLemmas
 pub mod CommonLemmas
+-- `is_hidden`
+pub mod HiddenLemmas
 -- bytes that are looked at 16 at once, in the crates above
 pub mod LaneLemmas
 pub mod LaneMasks

@@ -1,6 +1,6 @@
 -- A spelled character is read again.
-use Rattle.std.proofs.Common.{◌⊎◌, ◌≡◌, ℕ, ◌+◌, ◌*◌, ◌/◌, ◌%◌, ◌<◌, ◌≤◌, true, false, Option, Some, None, refl, sym, ap, ◌∙◌, subst, inl, inr, ⊎_elim, arith, List, [], ◌∷◌, ◌++◌, length, drop, encode_utf8_all}
-use Rattle.std.proofs.lemmas.Bool.{cases_Bool}
+use Rattle.std.proofs.Common.{◌⊎◌, ◌≡◌, ℕ, ◌+◌, ◌*◌, ◌/◌, ◌%◌, ◌<◌, ◌≤◌, Bool, true, false, Option, Some, None, refl, sym, ap, ◌∙◌, subst, inl, inr, ⊎_elim, arith, List, [], ◌∷◌, ◌++◌, length, drop, encode_utf8_all, if◌then◌else◌}
+use Rattle.std.proofs.lemmas.Bool.{cases_Bool, cases_lt}
 use Rattle.std.proofs.lemmas.Bool.Decides.{nat_tests}
 use Rattle.std.proofs.lemmas.List.{length-append, length-drop}
 use lib.Utf8.{encode, scalar_cases}
@@ -9,12 +9,13 @@ use Rattle.std.specs.Char.{digit_value, len_utf8, IsScalar}
 use Rattle.std.specs.Str.{IsUtf8, IsCharBoundary}
 use Rattle.yf_chars.specs.Text.{code, CharAt}
 use Rattle.yf_chars.specs.Class.{is_between, is_printable, is_break_char, is_nb_char}
-use Rattle.yf_chars.specs.Escape.{named, Digits, is_high, upper_digit, two_digits, is_by_two, is_by_four, spelled, short_name}
-use Rattle.yf_chars.specs.Escape.Escape.{by_letter, by_two, by_four}
+use Rattle.yf_chars.specs.Escape.{named, Digits, is_high, upper_digit, two_digits, is_by_two, is_by_four, spelled, short_name, by_number}
+use Rattle.yf_chars.specs.Escape.Escape.{by_letter, by_two, by_four, by_eight}
+use Rattle.yf_chars.specs.Hidden.{is_spelled_out, spelled_out}
 use Rattle.yf_chars.specs.Spelled.{SpellsChar, ReadsBack}
 use Rattle.yf_chars.specs.Spelled.SpellsChar.{as_escape, as_itself}
 use Rattle.yf_chars.proofs.TextLemmas.{reads_char}
-use Rattle.yf_chars.proofs.EscapeLemmas.{no_digits, more_digits, upper_below, by_two_below, by_four_below, spelled_none, two_spelled, four_spelled, self_spelled, letter_spelled}
+use Rattle.yf_chars.proofs.EscapeLemmas.{no_digits, more_digits, upper_below, by_two_below, by_four_below, spelled_none, two_spelled, four_spelled, self_spelled, letter_spelled, few_spelled, many_spelled}
 
 -- the bytes from a place on
 pub record IsAt (t : List ℕ) (q : ℕ) (r : List ℕ) : Type 0 where
@@ -88,23 +89,54 @@ back_two c l = record { holds = holds } where
       let sum : 0 * 256 + c ≡ c = omega arith in
       as_escape (by_two (record { backslash = first.0.char; letter = second.0.char; digits = subst (λ v. Digits t (i + 2) 2 v) sum digits.0 }))
 
-four_high : (c : ℕ) → is_by_four c ≡ true → is_high c ≡ false
-unfolding is_by_four is_high is_between
-four_high c e = grind (arith, nat_tests)
-
-back_four : (c : ℕ) → is_by_four c ≡ true → ReadsBack (92 ∷ 117 ∷ two_digits (c / 256) ++ two_digits (c % 256)) c
+back_four : (c : ℕ) → c < 65536 → is_high c ≡ false → ReadsBack (92 ∷ 117 ∷ two_digits (c / 256) ++ two_digits (c % 256)) c
 unfolding two_digits
-back_four c f = record { holds = holds } where
+back_four c l f = record { holds = holds } where
   holds : (t : List ℕ) (i : ℕ) (rest : List ℕ) → IsUtf8 t → IsCharBoundary t i → drop i t ≡ 92 ∷ 117 ∷ (two_digits (c / 256) ++ (two_digits (c % 256) ++ rest)) → SpellsChar t c i (i + 6)
   holds t i rest u b d =
-      let l = by_four_below c f in
       let first = is_at_ascii 92 u (omega arith) (record { bytes = d; boundary = b }) in
       let second = is_at_ascii 117 u (omega arith) first.1 in
       let place : (i + 2) + 0 ≡ i + 1 + 1 = omega arith in
       let high = next_two (c / 256) u (omega arith) place (no_digits t (i + 2)) second.1 in
       let low = next_two (c % 256) u (omega arith) (omega arith) high.0 high.1 in
       let sum : (0 * 256 + c / 256) * 256 + c % 256 ≡ c = omega arith in
-      as_escape (by_four (record { backslash = first.0.char; letter = second.0.char; digits = subst (λ v. Digits t (i + 2) 4 v) sum low.0 }) (four_high c f))
+      as_escape (by_four (record { backslash = first.0.char; letter = second.0.char; digits = subst (λ v. Digits t (i + 2) 4 v) sum low.0 }) f)
+
+back_eight : (c : ℕ) → c < 0x110000 → ReadsBack (92 ∷ 85 ∷ two_digits 0 ++ (two_digits (c / 65536) ++ (two_digits (c / 256 % 256) ++ two_digits (c % 256)))) c
+unfolding two_digits
+back_eight c l = record { holds = holds } where
+  holds : (t : List ℕ) (i : ℕ) (rest : List ℕ) → IsUtf8 t → IsCharBoundary t i
+      → drop i t ≡ 92 ∷ 85 ∷ (two_digits 0 ++ (two_digits (c / 65536) ++ (two_digits (c / 256 % 256) ++ (two_digits (c % 256) ++ rest)))) → SpellsChar t c i (i + 10)
+  holds t i rest u b d =
+      let first = is_at_ascii 92 u (omega arith) (record { bytes = d; boundary = b }) in
+      let second = is_at_ascii 85 u (omega arith) first.1 in
+      let place : (i + 2) + 0 ≡ i + 1 + 1 = omega arith in
+      let one = next_two 0 u (omega arith) place (no_digits t (i + 2)) second.1 in
+      let two = next_two (c / 65536) u (omega arith) (omega arith) one.0 one.1 in
+      let three = next_two (c / 256 % 256) u (omega arith) (omega arith) two.0 two.1 in
+      let four = next_two (c % 256) u (omega arith) (omega arith) three.0 three.1 in
+      let sum : (((0 * 256 + 0) * 256 + c / 65536) * 256 + c / 256 % 256) * 256 + c % 256 ≡ c = omega arith in
+      as_escape (by_eight (record { backslash = first.0.char; letter = second.0.char; digits = subst (λ v. Digits t (i + 2) 8 v) sum four.0 }))
+
+-- no half of a pair is a character
+low_high : (c : ℕ) → c < 55296 → is_high c ≡ false
+unfolding is_high is_between
+low_high c l = grind (arith, nat_tests)
+
+above_high : (c : ℕ) → 57344 ≤ c → is_high c ≡ false
+unfolding is_high is_between
+above_high c l = grind (arith, nat_tests)
+
+scalar_high : (c : ℕ) → IsScalar c → is_high c ≡ false
+scalar_high c s = ⊎_elim (λ (h : c < 55296). low_high c h) (λ (h : (57344 ≤ c) × (c < 1114112)). above_high c h.0) (scalar_cases c s)
+
+pub scalar_below : (c : ℕ) → IsScalar c → c < 0x110000
+scalar_below c s = ⊎_elim (λ (h : c < 55296). omega arith) (λ (h : (57344 ≤ c) × (c < 1114112)). h.1) (scalar_cases c s)
+
+pub number_back : (c : ℕ) → IsScalar c → ReadsBack (encode_utf8_all (by_number c)) c
+number_back c s =
+    ⊎_elim (λ (l : c < 0x10000). subst (λ w. ReadsBack w c) (sym (few_spelled c l)) (back_four c l (scalar_high c s)))
+    (λ (l : 0x10000 ≤ c). let h = scalar_below c s in subst (λ w. ReadsBack w c) (sym (many_spelled c l h)) (back_eight c h)) (cases_lt c 0x10000)
 
 pub plain_char : (c : ℕ) → c < 0x110000 → (c < 0xD800) ⊎ (0xE000 ≤ c) → short_name c ≡ None → is_by_two c ≡ false → is_by_four c ≡ false → is_nb_char c ≡ true
 unfolding short_name is_by_two is_by_four is_nb_char is_printable is_break_char is_between
@@ -136,7 +168,7 @@ long_back : (c : ℕ) → IsScalar c → short_name c ≡ None → ReadsBack (en
 long_back c s n =
     ⊎_elim (λ (e : is_by_two c ≡ true). subst (λ w. ReadsBack w c) (sym (ap encode_utf8_all (spelled_none c n) ∙ two_spelled c e)) (back_two c (by_two_below c e)))
     (λ (e : is_by_two c ≡ false).
-    ⊎_elim (λ (f : is_by_four c ≡ true). subst (λ w. ReadsBack w c) (sym (ap encode_utf8_all (spelled_none c n) ∙ four_spelled c e f)) (back_four c f))
+    ⊎_elim (λ (f : is_by_four c ≡ true). subst (λ w. ReadsBack w c) (sym (ap encode_utf8_all (spelled_none c n) ∙ four_spelled c e f)) (back_four c (by_four_below c f) (scalar_high c s)))
     (λ (f : is_by_four c ≡ false). subst (λ w. ReadsBack w c) (sym (ap encode_utf8_all (spelled_none c n) ∙ self_spelled c e f)) (back_itself c s n e f))
     (cases_Bool (is_by_four c)))
     (cases_Bool (is_by_two c))
@@ -146,3 +178,10 @@ reads_back c s = go (short_name c) refl where
   go : (o : Option ℕ) → short_name c ≡ o → ReadsBack (encode_utf8_all (spelled c)) c
   go (Some l) e = let n = name_letter c l e in subst (λ w. ReadsBack w c) (sym (letter_spelled c l e n.1)) (back_letter c l e)
   go None e = long_back c s e
+
+pub out_back : (c : ℕ) → IsScalar c → ReadsBack (encode_utf8_all (spelled_out c)) c
+unfolding spelled_out
+out_back c s = go (is_spelled_out c) refl where
+  go : (b : Bool) → is_spelled_out c ≡ b → ReadsBack (encode_utf8_all (if b then by_number c else spelled c)) c
+  go true e = number_back c s
+  go false e = reads_back c s

@@ -107,3 +107,9 @@ spelled_by None c = spelled_long c
 -- how a character is spelled in double quotes
 unfoldable pub spelled : ℕ → List ℕ
 spelled c = spelled_by (short_name c) c
+
+-- how a character is spelled in double quotes by its number: by four digits, above U+FFFF by eight
+unfoldable pub by_number : ℕ → List ℕ
+by_number c =
+    if nat_lt c 0x10000 then BACKSLASH ∷ 117 ∷ two_digits (c / 256) ++ two_digits (c % 256)
+    else BACKSLASH ∷ 85 ∷ two_digits 0 ++ (two_digits (c / 65536) ++ (two_digits (c / 256 % 256) ++ two_digits (c % 256)))

@@ -2,6 +2,7 @@ pub mod Chain
 pub mod Class
 pub mod Common
 pub mod Escape
+pub mod Hidden
 pub mod Lanes
 pub mod Spelled
 pub mod Text

@@ -277,6 +277,46 @@ fn upper_digit(digit: u32) -> char
     char::from(b'A' + (digit - 10) as u8)
 }
 
+/// Appends a character as it is spelled in double quotes by its number: as `\uHHHH`, above U+FFFF as `\UHHHHHHHH`, digits in
+/// upper case. Wherever the bytes that are appended are in a text, they are read as that character in double quotes.
+///
+/// # Errors
+///
+/// `NoMemory` where a growth of memory was refused; the string is then as before.
+pub fn push_number(out: &mut String, c: char) -> Result<(), NoMemory>
+    ensures spelled { string_bytes out.new ≡ (if is_ok result then string_bytes out.old ++ encode_utf8_all (Escapes.by_number c)
+        else string_bytes out.old) }
+    ensures read { ReadsBack (encode_utf8_all (Escapes.by_number c)) c }
+{
+    match out.reserve(10) {
+        Ok(()) => {
+            put_number(out, c);
+            Ok(())
+        }
+        Err(_) => Err(NoMemory),
+    }
+}
+
+// The same where there is room.
+fn put_number(out: &mut String, c: char)
+    requires { string_len out.old + 10 ≤ string_capacity out.old }
+    ensures { string_bytes out.new ≡ string_bytes out.old ++ encode_utf8_all (Escapes.by_number c) }
+{
+    let code = c as u32;
+    put(out, '\\');
+    if code < 0x10000 {
+        put(out, 'u');
+        put_digits(out, code / 256);
+        put_digits(out, code % 256);
+        return;
+    }
+    put(out, 'U');
+    put_digits(out, 0);
+    put_digits(out, code / 0x10000);
+    put_digits(out, code / 256 % 256);
+    put_digits(out, code % 256);
+}
+
 /// Whether it is an ASCII character that is spelled by itself, as most are. Lower-case letters take two tests.
 #[inline(always)]
 #[tactic(auto, unfolding(crate::specs::Common::is_common, crate::specs::Class::is_between))]

@@ -7,6 +7,7 @@ mod common;
 pub mod context;
 pub mod error;
 pub mod escapes;
+pub mod hidden;
 pub mod lanes;
 pub mod nb_runs;
 pub mod runs;

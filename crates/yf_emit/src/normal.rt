@@ -10,8 +10,8 @@ ghost use Rattle.yf_emit.specs.Passes.NormalEvents.{is_flow_at, normal_from};
 ghost use Rattle.yf_emit.specs.NormalForms.Measures.{no_measure};
 ghost use Rattle.yf_emit.specs.NormalForms.Restyled.{IsRestyled, restyled_event};
 ghost use Rattle.yf_emit.specs.NormalForms.Textual.{IsTextual};
+ghost use Rattle.yf_emit.specs.declared.style.Style.{Style};
 ghost use Rattle.yf_emit.specs.Nodes.ScalarStyles.{wanted_of_event};
-ghost use Rattle.yf_lines.specs.declared.quotes.Quotes.{Quotes};
 
 pub mod copies;
 
@@ -27,16 +27,15 @@ use yf_events::event::{Event, ScalarStyle};
 use yf_events::events::Events;
 use yf_events::reading::Reading;
 use yf_lines::fault::Fault;
-use yf_lines::quotes::Quotes;
 use yf_lines::source_text::Src;
 
 /// The style that the house gives the scalar that the event is; `Plain` of any other event.
 #[inline(always)]
-fn style_of(event: Event, quotes: Quotes) -> ScalarStyle
-    ensures { result ≡ wanted_of_event (event_value event.entry) quotes }
+fn style_of(event: Event, house: &Style) -> ScalarStyle
+    ensures { result ≡ wanted_of_event (event_value event.entry) house.now }
 {
     match event {
-        Event::Scalar { style, text, .. } => wanted_of(style, text, quotes),
+        Event::Scalar { style, text, .. } => wanted_of(style, text, house),
         _ => ScalarStyle::Plain,
     }
 }
@@ -45,8 +44,8 @@ fn style_of(event: Event, quotes: Quotes) -> ScalarStyle
 /// line. Of any other event the answer says nothing.
 #[inline(always)]
 fn flow_of(event: Event, measures: &Measures, i: usize, kept_until: usize) -> bool
-    ensures { (quotes : Quotes) → restyled_event quotes result (event_value event.entry)
-        ≡ restyled_event quotes (is_flow_at i kept_until (get_or measures.now i no_measure)) (event_value event.entry) }
+    ensures { (house : Style) → restyled_event house result (event_value event.entry)
+        ≡ restyled_event house (is_flow_at i kept_until (get_or measures.now i no_measure)) (event_value event.entry) }
 {
     match event {
         Event::Scalar { .. } => false,
@@ -63,7 +62,7 @@ fn normalize<'a>(
     forms: &Forms,
     style: &Style,
 ) -> Result<(), AllocError>
-    ensures { IfOk result (λ _. events.new ≡ normal_from style.now.quotes measures.now 0 0 forms.now events.old) }
+    ensures { IfOk result (λ _. events.new ≡ normal_from style.now measures.now 0 0 forms.now events.old) }
 {
     let mut kept_until = 0;
     for i in 0..events.len() {
@@ -72,7 +71,7 @@ fn normalize<'a>(
             kept_until = measure.last;
         }
         let flow = flow_of(events.event(i), measures, i, kept_until);
-        let wanted = style_of(events.event(i), style.quotes);
+        let wanted = style_of(events.event(i), style);
         events.set_form(alloc, i, flow, wanted)?;
     }
     Ok(())
@@ -86,9 +85,9 @@ pub(crate) fn normalized<'a>(
     forms: &Forms,
     style: &Style,
 ) -> Result<Reading<'a>, AllocError>
-    ensures restyled { IfOk result (λ normal. IsRestyled style.now.quotes reading.entry normal) }
+    ensures restyled { IfOk result (λ normal. IsRestyled style.now reading.entry normal) }
     ensures events { IfOk result (λ normal. normal.events
-        ≡ normal_from style.now.quotes measures.now 0 0 forms.now reading.entry.events) }
+        ≡ normal_from style.now measures.now 0 0 forms.now reading.entry.events) }
     ensures content { IfOk result (λ normal. content_of normal ≡ content_of reading.entry) }
     ensures nested { IfOk result (λ normal. IsStream DEPTH (events_of normal)) }
 {
@@ -108,7 +107,7 @@ fn normal_copy<'a>(
     reading: Reading<'a>,
     style: &Style,
 ) -> Result<Reading<'a>, AllocError>
-    ensures restyled { IfOk result (λ normal. IsRestyled style.now.quotes reading.entry normal) }
+    ensures restyled { IfOk result (λ normal. IsRestyled style.now reading.entry normal) }
     ensures is_normal { IfOk result (λ normal. IsTextual reading.entry → Normal text.now reading.entry style.now normal) }
     ensures content { IfOk result (λ normal. content_of normal ≡ content_of reading.entry) }
     ensures nested { IfOk result (λ normal. IsStream DEPTH (events_of normal)) }
@@ -132,7 +131,7 @@ pub fn normal<'a>(
     reading: &'a Reading<'a>,
     style: &Style,
 ) -> Result<Reading<'a>, Fault>
-    ensures restyled { IfOk result (λ normal. IsRestyled style.now.quotes reading.now normal) }
+    ensures restyled { IfOk result (λ normal. IsRestyled style.now reading.now normal) }
     ensures is_normal { IfOk result (λ normal. IsTextual reading.now → Normal src.now.text reading.now style.now normal) }
     ensures content { IfOk result (λ normal. content_of normal ≡ content_of reading.now) }
     ensures nested { IfOk result (λ normal. IsStream DEPTH (events_of normal)) }

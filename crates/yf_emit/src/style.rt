@@ -1,6 +1,7 @@
 //! The settings of the house style.
 ghost use Rattle.std.specs.Prelude.{◌≡◌, ◌≤◌, true};
 
+use yf_lines::invisible::Invisible;
 use yf_lines::quotes::Quotes;
 
 /// Which documents begin with a `---`.
@@ -26,6 +27,8 @@ pub struct Style {
     pub seq_indent: bool,
     /// Which documents begin with a `---`.
     pub document_start: DocumentStart,
+    /// How quoted scalars hold hidden characters.
+    pub invisible: Invisible,
     pub ghost indent_from: { 2 ≤ indent },
     pub ghost indent_to: { indent ≤ 8 },
     pub ghost max_line_from: { 40 ≤ max_line },
@@ -34,13 +37,14 @@ pub struct Style {
 
 impl Style {
     /// The style where nothing is set: indent 2, lines of 100 columns, double quotes, sequences to the right of their
-    /// keys, `---` before each document.
+    /// keys, `---` before each document, hidden characters as they are.
     pub fn house() -> Style
         ensures indent { result.indent ≡ 2 }
         ensures max_line { result.max_line ≡ 100 }
         ensures quotes { result.quotes ≡ Quotes.Double }
         ensures seq_indent { result.seq_indent ≡ true }
         ensures document_start { result.document_start ≡ DocumentStart.Always }
+        ensures invisible { result.invisible ≡ Invisible.Plain }
     {
         Style {
             indent: 2,
@@ -48,6 +52,7 @@ impl Style {
             quotes: Quotes::Double,
             seq_indent: true,
             document_start: DocumentStart::Always,
+            invisible: Invisible::Plain,
         }
     }
 }

@@ -7,6 +7,7 @@ pub mod contexts;
 pub mod fault;
 mod feeds;
 pub mod fold;
+pub mod invisible;
 pub mod line;
 pub mod output;
 pub mod packed_lines;

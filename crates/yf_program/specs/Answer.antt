@@ -7,6 +7,7 @@ use Rattle.std.specs.Io.KnownBytes.{Keeps}
 use Rattle.clap.specs.Words.{Text}
 use Rattle.yf_emit.specs.declared.style.Style.{Style}
 use Rattle.yf_emit.specs.declared.style.DocumentStart.TheVariants.{Always}
+use Rattle.yf_lines.specs.declared.invisible.Invisible.TheVariants.{Plain}
 use Rattle.yf_lines.specs.declared.quotes.Quotes.TheVariants.{Double}
 use Rattle.yf_lines.specs.declared.fault.Fault.{Fault}
 use Rattle.yf_lines.specs.declared.fault.Fault.TheVariants as fault
@@ -47,6 +48,7 @@ pub record IsHouse (style : Style) : Type 0 where
   pub quotes : style.quotes ≡ Double
   pub seq_indent : style.seq_indent ≡ true
   pub document_start : style.document_start ≡ Always
+  pub invisible : style.invisible ≡ Plain
 
 -- the settings are those of the file that is named, or the house style's
 abbrev pub StyleOfFile : Type 0 → (Input → Option (List ℕ)) → Option (List ℕ) → Style → Type 0

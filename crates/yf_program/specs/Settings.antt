@@ -9,6 +9,8 @@ use Rattle.toml.specs.Errors.{IsBlank}
 use Rattle.yf_emit.specs.declared.style.DocumentStart.{DocumentStart}
 use Rattle.yf_emit.specs.declared.style.DocumentStart.TheVariants.{Always, Keep}
 use Rattle.yf_emit.specs.declared.style.Style.{Style}
+use Rattle.yf_lines.specs.declared.invisible.Invisible.{Invisible}
+use Rattle.yf_lines.specs.declared.invisible.Invisible.TheVariants.{Plain, Escaped}
 use Rattle.yf_lines.specs.declared.quotes.Quotes.{Quotes}
 use Rattle.yf_lines.specs.declared.quotes.Quotes.TheVariants.{Single, Double}
 use Rattle.yf_lines.specs.declared.fault.Fault.{Fault}
@@ -44,6 +46,14 @@ document_start_of (string word) =
     else None
 document_start_of _ = None
 
+-- the word `plain` or the word `escaped`
+abbrev pub invisible_of : Data → Option Invisible
+invisible_of (string word) =
+    if bytes_eq word (codes "plain") then Some Plain
+    else if bytes_eq word (codes "escaped") then Some Escaped
+    else None
+invisible_of _ = None
+
 -- the key is one of the settings, and the value is one that it may have
 abbrev pub is_right : List ℕ → Data → Bool
 is_right key value =
@@ -52,6 +62,7 @@ is_right key value =
     else if bytes_eq key (codes "quotes") then is_some (quotes_of value)
     else if bytes_eq key (codes "seq_indent") then is_some (seq_indent_of value)
     else if bytes_eq key (codes "document_start") then is_some (document_start_of value)
+    else if bytes_eq key (codes "invisible") then is_some (invisible_of value)
     else false
 
 abbrev pub IsRight : Members → List ℕ → Type 0
@@ -77,6 +88,7 @@ pub record StyleOfTable (table : Members) (style : Style) : Type 0 where
   pub quotes : style.quotes ≡ setting quotes_of (codes "quotes") Double table
   pub seq_indent : style.seq_indent ≡ setting seq_indent_of (codes "seq_indent") true table
   pub document_start : style.document_start ≡ setting document_start_of (codes "document_start") Always table
+  pub invisible : style.invisible ≡ setting invisible_of (codes "invisible") Plain table
 
 -- the text is TOML, and its table sets the style
 abbrev pub SetsStyle : List ℕ → Style → Type 0

@@ -15,7 +15,7 @@ use yf_stream::stream::read_stream;
 const REPEATED: &str = "repeated-keys";
 
 /// The rules, and what `fmt` does about a finding of each.
-static WORDS: [(&str, &str); 13] = [
+static WORDS: [(&str, &str); 14] = [
     ("trailing-blanks", "fmt leaves this white space out"),
     ("indentation", "fmt indents it as the house style has it"),
     (
@@ -41,6 +41,10 @@ static WORDS: [(&str, &str); 13] = [
     ),
     ("repeated-keys", "fmt leaves it as it is"),
     ("key-mark", "fmt writes this key without `?`"),
+    (
+        "hidden-character",
+        "fmt escapes it in quoted scalars alone",
+    ),
 ];
 
 /// How many events are looked at for the first ones of all repeated keys of a text.

@@ -6,19 +6,20 @@ use yf_explain::{Page, explain, page_at};
 use yf_lines::fault::Fault;
 
 /// The keys, and what each may be set to.
-const ALLOWED: [(&str, &str); 5] = [
+const ALLOWED: [(&str, &str); 6] = [
     (
         "document_start",
         "`document_start` is \"always\" or \"keep\"",
     ),
     ("indent", "`indent` is a whole number from 2 to 8"),
+    ("invisible", "`invisible` is \"plain\" or \"escaped\""),
     ("max_line", "`max_line` is a whole number from 40 to 1000"),
     ("quotes", "`quotes` is \"double\" or \"single\""),
     ("seq_indent", "`seq_indent` is true or false"),
 ];
 
 /// What is told of a key that is no other.
-const NO_KEY: &str = "keys: `document_start`, `indent`, `max_line`, `quotes`, `seq_indent`";
+const NO_KEY: &str = "keys: `document_start`, `indent`, `invisible`, `max_line`, `quotes`, `seq_indent`";
 
 /// What is told of the settings' bytes, where a key is refused, or all of them, where it is empty.
 ///

@@ -18,20 +18,23 @@ use Rattle.yf_chars.specs.Chain.{Chain, Chosen}
 use Rattle.yf_chars.specs.Chain.Chain.{done, step}
 use Rattle.yf_chars.specs.Escape.{Escape, NumericEscape, named, spelled}
 use Rattle.yf_chars.specs.Escape.Escape.{by_letter, by_two, by_four, by_half, by_pair, by_eight}
-use Rattle.yf_chars.specs.Spelled.{SpellsChar}
+use Rattle.yf_chars.specs.Hidden.{spelled_out}
+use Rattle.yf_chars.specs.Spelled.{ReadsBack, SpellsChar}
 use Rattle.yf_chars.specs.Spelled.SpellsChar.{as_escape, as_itself}
 use Rattle.yf_chars.proofs.EscapeLemmas.{named_below, digit_below, no_name}
-use Rattle.yf_chars.proofs.SpelledLemmas.{IsAt, is_at_char, is_at_ascii, reads_back}
+use Rattle.yf_chars.proofs.SpelledLemmas.{IsAt, is_at_char, is_at_ascii, out_back, reads_back}
 use Rattle.yf_chars.proofs.TextLemmas.{reads_byte}
 use Rattle.yf_lines.specs.Basic.{LineStart, Clear, is_block}
 use Rattle.yf_lines.proofs.BasicLemmas.{clear_join, clear_nothing}
 use Rattle.yf_lines.proofs.ClearLemmas.{clear_char, line_start_after}
+use Rattle.yf_lines.specs.declared.invisible.Invisible.{Invisible}
+use Rattle.yf_lines.specs.declared.invisible.Invisible.TheVariants.{Plain, Escaped}
 use Rattle.yf_lines.specs.declared.quotes.Quotes.TheVariants.{Single, Double}
 use Rattle.yf_quoted.specs.Quoted.{SingleChar, DoubleChar, Piece, goods, text_of, bad_escapes, SingleQuoted, DoubleQuoted}
 use Rattle.yf_quoted.specs.Quoted.Piece.{good}
 use Rattle.yf_quoted.specs.Quoted.SingleChar.{doubled, unquoted}
 use Rattle.yf_quoted.specs.Quoted.DoubleChar.{unescaped, escaped}
-use Rattle.yf_quoted.specs.Written.{all_nb, quotes_for, twice, single_bytes, double_bytes, BytesGrown, SingleBack, DoubleBack}
+use Rattle.yf_quoted.specs.Written.{all_nb, quotes_for, twice, single_bytes, double_bytes, double_bytes_in, BytesGrown, SingleBack, DoubleBack}
 use Rattle.yf_quoted.proofs.BodyLemmas.{chars_body}
 use Rattle.yf_quoted.proofs.GapLemmas.{text_of_goods, no_bad_goods}
 use Rattle.yf_quoted.proofs.QuotedLemmas.{double_chosen}
@@ -272,16 +275,16 @@ single_one {t} u c i r e s n = ⊎_elim (λ (q : c ≡ 39). pair q s) (λ (q : c
 is_at_past : (t : List ℕ) (i : ℕ) (x r : List ℕ) → drop i t ≡ x ++ r → drop (i + length x) t ≡ r
 is_at_past t i x r e = sym (drop-drop (length x) i t) ∙ ap (drop (length x)) e ∙ drop-append_seam x r
 
-double_one : {t : List ℕ} → IsUtf8 t → (c i : ℕ) (r : List ℕ) → scalar c ≡ true → IsAt t i (encode_utf8_all (spelled c) ++ r) → NoLine t i
-    → Stepped t (DoubleChar t) i (i + length (encode_utf8_all (spelled c))) (good c ∷ []) r
-double_one {t} u c i r e s n = go refl ((reads_back c e).holds t i r u s.boundary s.bytes) where
-  go : {j : ℕ} → j ≡ i + length (encode_utf8_all (spelled c)) → SpellsChar t c i j → Stepped t (DoubleChar t) i j (good c ∷ []) r
-  go {j} q (as_escape f) =
-      let l = last_of u f in
+double_one : (f : ℕ → List ℕ) → ((c : ℕ) → scalar c ≡ true → ReadsBack (encode_utf8_all (f c)) c) → {t : List ℕ} → IsUtf8 t → (c i : ℕ) (r : List ℕ) → scalar c ≡ true
+    → IsAt t i (encode_utf8_all (f c) ++ r) → NoLine t i → Stepped t (DoubleChar t) i (i + length (encode_utf8_all (f c))) (good c ∷ []) r
+double_one f back {t} u c i r e s n = go refl ((back c e).holds t i r u s.boundary s.bytes) where
+  go : {j : ℕ} → j ≡ i + length (encode_utf8_all (f c)) → SpellsChar t c i j → Stepped t (DoubleChar t) i j (good c ∷ []) r
+  go {j} q (as_escape g) =
+      let l = last_of u g in
       record {
-        is = escaped f e;
-        clear = clear_escape f;
-        rest = record { bytes = ap (λ k. drop k t) q ∙ is_at_past t i (encode_utf8_all (spelled c)) r s.bytes; boundary = l.reads.boundary };
+        is = escaped g e;
+        clear = clear_escape g;
+        rest = record { bytes = ap (λ k. drop k t) q ∙ is_at_past t i (encode_utf8_all (f c)) r s.bytes; boundary = l.reads.boundary };
         inside = no_line_after u l.reads l.no_lf l.no_cr (λ z. let w = l.low in omega arith);
       }
   go {j} q (as_itself read nb no_quote no_backslash) =
@@ -290,8 +293,8 @@ double_one {t} u c i r e s n = go refl ((reads_back c e).holds t i r u s.boundar
       let is' : DoubleChar t i j (good (code t i) ∷ []) = subst (λ k. DoubleChar t i k (good (code t i) ∷ [])) read.end is in
       record {
         is = subst (λ v. DoubleChar t i j (good v ∷ [])) read.char is';
-        clear = clear_char u read (λ f. n.none f.start);
-        rest = record { bytes = ap (λ k. drop k t) q ∙ is_at_past t i (encode_utf8_all (spelled c)) r s.bytes; boundary = read.boundary };
+        clear = clear_char u read (λ z. n.none z.start);
+        rest = record { bytes = ap (λ k. drop k t) q ∙ is_at_past t i (encode_utf8_all (f c)) r s.bytes; boundary = read.boundary };
         inside = no_line_after u read (nb_no 10 nb_lf c nb) (nb_no 13 nb_cr c nb) (nb_no 0xFEFF nb_mark c nb);
       }
 
@@ -348,18 +351,27 @@ single_back cs a = record { derived = derived; chosen = chosen } where
       let end = frame_length (encode_utf8_all (flat_map twice cs)) 39 i in
       subst (λ k. Chosen (SingleQuoted t n c i) k cs) end (line_chosen u w.1 f.opening f.inside f.clear f.closing (λ z. q (ap (code t) (sym end) ∙ z)))
 
-pub double_back : (cs : List ℕ) → scalars cs ≡ true → DoubleBack (double_bytes cs) cs
-double_back cs a = record { chosen = chosen } where
-  chosen : (t : List ℕ) (i : ℕ) (rest : List ℕ) (n : ℤ) (c : Ctx) → IsUtf8 t → drop i t ≡ double_bytes cs ++ rest → is_block c ≡ false
-      → (y : List Piece) × (text_of y ≡ cs) × (bad_escapes y ≡ []) × Chosen (DoubleQuoted t n c i) (i + length (double_bytes cs)) y
+-- a text in double quotes, each character of which is spelled in a way that is read back
+pub double_back_by : (f : ℕ → List ℕ) → ((c : ℕ) → scalar c ≡ true → ReadsBack (encode_utf8_all (f c)) c) → (cs : List ℕ) → scalars cs ≡ true
+    → DoubleBack (34 ∷ encode_utf8_all (flat_map f cs) ++ 34 ∷ []) cs
+double_back_by f back cs a = record { chosen = chosen } where
+  chosen : (t : List ℕ) (i : ℕ) (rest : List ℕ) (n : ℤ) (c : Ctx) → IsUtf8 t → drop i t ≡ (34 ∷ encode_utf8_all (flat_map f cs) ++ 34 ∷ []) ++ rest → is_block c ≡ false
+      → (y : List Piece) × (text_of y ≡ cs) × (bad_escapes y ≡ []) × Chosen (DoubleQuoted t n c i) (i + length (34 ∷ encode_utf8_all (flat_map f cs) ++ 34 ∷ [])) y
   chosen t i rest n c u e b =
-      let middle = encode_utf8_all (flat_map spelled cs) in
+      let middle = encode_utf8_all (flat_map f cs) in
       let w = some_width n c b in
-      let inner : (r : List ℕ) → IsAt t (i + 1) (middle ++ r) → NoLine t (i + 1) → Walked t (DoubleChar t) (i + 1) (i + 1 + length middle) (goods cs) r = λ r s q. walk spelled goods refl (λ c cs. refl) scalar (double_one u) scalars (λ c cs h. and_parts (scalar c) (scalars cs) h) cs (i + 1) r a s q in
-      let f = framed middle rest u (omega arith) (omega arith) e inner in
-      let body = chars_body {B = λ i j x. ⊥} (char_functional t) (double_means t) (λ i j x b. b) f.inside f.closing f.clear in (
+      let inner : (r : List ℕ) → IsAt t (i + 1) (middle ++ r) → NoLine t (i + 1) → Walked t (DoubleChar t) (i + 1) (i + 1 + length middle) (goods cs) r = λ r s q. walk f goods refl (λ c cs. refl) scalar (double_one f back u) scalars (λ c cs h. and_parts (scalar c) (scalars cs) h) cs (i + 1) r a s q in
+      let g = framed middle rest u (omega arith) (omega arith) e inner in
+      let body = chars_body {B = λ i j x. ⊥} (char_functional t) (double_means t) (λ i j x b. b) g.inside g.closing g.clear in (
         goods cs,
         text_of_goods cs,
         no_bad_goods cs,
-        subst (λ k. Chosen (DoubleQuoted t n c i) k (goods cs)) (frame_length middle 34 i) (double_chosen u w.1 f.opening (body_map (λ i j x b. absurd b) body)),
+        subst (λ k. Chosen (DoubleQuoted t n c i) k (goods cs)) (frame_length middle 34 i) (double_chosen u w.1 g.opening (body_map (λ i j x b. absurd b) body)),
       )
+
+pub double_back : (cs : List ℕ) → scalars cs ≡ true → DoubleBack (double_bytes cs) cs
+double_back cs a = double_back_by spelled reads_back cs a
+
+pub double_in_back : (i : Invisible) (cs : List ℕ) → scalars cs ≡ true → DoubleBack (double_bytes_in i cs) cs
+double_in_back Plain cs a = double_back cs a
+double_in_back Escaped cs a = double_back_by spelled_out out_back cs a

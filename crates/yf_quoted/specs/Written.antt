@@ -1,5 +1,6 @@
 -- How a text is written in quotes on one line (YAML 1.2.2, sections 7.3.1 and 7.3.2), and what reading that gives.
 use Rattle.std.specs.Prelude.{◌≡◌, ◌≢◌, ℕ, ◌+◌, ℤ, Bool, true, false, ◌==◌, ◌&&◌, List, [], ◌∷◌, ◌++◌, drop, length, flat_map, encode_utf8_all, if◌then◌else◌}
+use Rattle.std.specs.List.{list_any}
 use Rattle.std.specs.Str.{IsUtf8}
 use Rattle.yf_chars.specs.Signs.{DOUBLE_QUOTE, SINGLE_QUOTE}
 use Rattle.yf_chars.specs.declared.context.Ctx.{Ctx}
@@ -7,7 +8,10 @@ use Rattle.yf_chars.specs.Text.{code}
 use Rattle.yf_chars.specs.Class.{is_nb_char}
 use Rattle.yf_chars.specs.Chain.{Chosen}
 use Rattle.yf_chars.specs.Escape.{spelled}
+use Rattle.yf_chars.specs.Hidden.{is_hidden, spelled_out}
 use Rattle.yf_lines.specs.Basic.{is_block}
+use Rattle.yf_lines.specs.declared.invisible.Invisible.{Invisible}
+use Rattle.yf_lines.specs.declared.invisible.Invisible.TheVariants.{Plain, Escaped}
 use Rattle.yf_lines.specs.declared.quotes.Quotes.{Quotes}
 use Rattle.yf_lines.specs.declared.quotes.Quotes.TheVariants.{Single, Double}
 use Rattle.yf_quoted.specs.Quoted.{SingleQuoted, DoubleQuoted, Piece, text_of, bad_escapes}
@@ -32,6 +36,20 @@ single_bytes cs = SINGLE_QUOTE ∷ encode_utf8_all (flat_map twice cs) ++ SINGLE
 
 abbrev pub double_bytes : List ℕ → List ℕ
 double_bytes cs = DOUBLE_QUOTE ∷ encode_utf8_all (flat_map spelled cs) ++ DOUBLE_QUOTE ∷ []
+
+-- The same where hidden characters are held in one of two ways.
+
+-- a text with a hidden character that is to be seen is in double quotes
+abbrev pub quotes_in : Invisible → List ℕ → Quotes → Quotes
+quotes_in Plain cs quotes = quotes_for cs quotes
+quotes_in Escaped cs quotes = if list_any is_hidden cs then Double else quotes_for cs quotes
+
+abbrev pub spelled_in : Invisible → ℕ → List ℕ
+spelled_in Plain = spelled
+spelled_in Escaped = spelled_out
+
+abbrev pub double_bytes_in : Invisible → List ℕ → List ℕ
+double_bytes_in invisible cs = DOUBLE_QUOTE ∷ encode_utf8_all (flat_map (spelled_in invisible) cs) ++ DOUBLE_QUOTE ∷ []
 
 -- bytes that grew at the end
 pub record BytesGrown (old new : List ℕ) : Type 0 where

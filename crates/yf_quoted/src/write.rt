@@ -2,7 +2,8 @@
 ghost use Rattle.std.specs.Prelude.{◌≡◌, ◌++◌, ◌∷◌, [], IfErr, OnErr, OnOk, chars, encode_utf8_all, flat_map};
 ghost use Rattle.std.specs.String.{string_bytes};
 ghost use Rattle.yf_chars.specs.Escape.{spelled};
-ghost use Rattle.yf_quoted.specs.Written.{DoubleBack, BytesGrown, SingleBack, all_nb, double_bytes, quotes_for, single_bytes, twice};
+ghost use Rattle.yf_chars.specs.Hidden.{spelled_out};
+ghost use Rattle.yf_quoted.specs.Written.{DoubleBack, BytesGrown, SingleBack, all_nb, double_bytes, double_bytes_in, quotes_for, quotes_in, single_bytes, twice};
 
 use crate::filled::push_if_filled;
 use crate::own::{is_escape_at, own_run};
@@ -10,8 +11,10 @@ use std::alloc::AllocError;
 use yf_chars::classes::is_nb_char;
 use yf_chars::error::NoMemory;
 use yf_chars::escapes::{are_common, push_escaped};
+use yf_chars::hidden::{has_hidden, push_spelled_out};
 use yf_chars::text::peek;
 use yf_lines::fault::Fault;
+use yf_lines::invisible::Invisible;
 use yf_lines::quotes::Quotes;
 
 /// The quotes for a text: single ones where they are preferred and every character of the text is printable, no line
@@ -27,6 +30,21 @@ pub fn choose(text: &str, preferred: Quotes) -> Quotes
             Quotes::Double
         }
         Quotes::Double => Quotes::Double,
+    }
+}
+
+/// The same where hidden characters are held in one of two ways: double ones for a text with a hidden character that is to be escaped.
+pub fn choose_in(text: &str, preferred: Quotes, invisible: Invisible) -> Quotes
+    ensures { result ≡ quotes_in invisible (chars text.now) preferred }
+{
+    match invisible {
+        Invisible::Plain => choose(text, preferred),
+        Invisible::Escaped => {
+            if has_hidden(text) {
+                return Quotes::Double;
+            }
+            choose(text, preferred)
+        }
     }
 }
 
@@ -159,4 +177,45 @@ fn push_runs(out: &mut String, text: &str) -> Result<(), NoMemory>
             }
         }
     }
+}
+
+/// Appends the text in double quotes, its hidden characters held in one of two ways, or a part of that where memory is refused.
+///
+/// Wherever the bytes that are appended are, at any indentation and in each context of flow scalars and keys, the
+/// longest double-quoted scalar there is these bytes, with this text.
+pub fn push_double_in(out: &mut String, text: &str, invisible: Invisible) -> Result<(), NoMemory>
+    ensures written { OnOk result (string_bytes out.new ≡ string_bytes out.old ++ double_bytes_in invisible (chars text.now)) }
+    ensures read { DoubleBack (double_bytes_in invisible (chars text.now)) (chars text.now) }
+    ensures grown { BytesGrown (string_bytes out.old) (string_bytes out.new) }
+{
+    match invisible {
+        Invisible::Plain => push_double(out, text),
+        Invisible::Escaped => push_escaped_text(out, text),
+    }
+}
+
+// The same where each hidden character is escaped.
+fn push_escaped_text(out: &mut String, text: &str) -> Result<(), NoMemory>
+    ensures written { OnOk result (string_bytes out.new ≡ string_bytes out.old ++ double_bytes_in Invisible.Escaped (chars text.now)) }
+    ensures grown { BytesGrown (string_bytes out.old) (string_bytes out.new) }
+{
+    out.push('"')?;
+    push_each(out, text)?;
+    out.push('"')?;
+    Ok(())
+}
+
+// Appends each character as it is spelled where hidden ones are escaped.
+fn push_each(out: &mut String, text: &str) -> Result<(), NoMemory>
+    ensures written { OnOk result (string_bytes out.new ≡ string_bytes out.old ++ encode_utf8_all (flat_map spelled_out (chars text.now))) }
+    ensures grown { BytesGrown (string_bytes out.old) (string_bytes out.new) }
+{
+    if are_common(text) {
+        out.push_str(text)?;
+        return Ok(());
+    }
+    for c in text.chars() {
+        push_spelled_out(out, c)?;
+    }
+    Ok(())
 }

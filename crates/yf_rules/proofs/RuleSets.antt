@@ -4,6 +4,7 @@ pub mod StyleLemmas
 pub mod DocumentLemmas
 pub mod BreakLemmas
 pub mod MarkPassLemmas
+pub mod HiddenLemmas
 pub mod BlankLemmas
 pub mod DisplacedLemmas
 pub mod RunLemmas

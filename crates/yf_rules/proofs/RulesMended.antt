@@ -6,7 +6,7 @@ use Rattle.yf_lines.specs.Lines.{Table}
 use Rattle.yf_emit.specs.declared.style.Style.{Style}
 use Rattle.yf_rules.specs.Definition.{RuleDefinition}
 use Rattle.yf_rules.specs.declared.rules.StyleRule.{StyleRule}
-use Rattle.yf_rules.specs.declared.rules.StyleRule.TheVariants.{TrailingBlanks, Indentation, Quoting, DocumentStart, FinalBreak, LineBreaks, ByteOrderMark, BlankLines, FlowLayout, CommentSpace, LineLength, RepeatedKeys, KeyMark}
+use Rattle.yf_rules.specs.declared.rules.StyleRule.TheVariants.{TrailingBlanks, Indentation, Quoting, DocumentStart, FinalBreak, LineBreaks, ByteOrderMark, BlankLines, FlowLayout, CommentSpace, LineLength, RepeatedKeys, KeyMark, HiddenCharacter}
 use Rattle.yf_rules.specs.NothingToFix.{FormatsAreMended, IsFormatted}
 use Rattle.yf_rules.specs.RuleOf.{definition_of}
 use Rattle.yf_rules.proofs.Formatted.MendedTrailingBlanks.{trailing_blanks_mended}
@@ -33,6 +33,7 @@ rule_mended CommentSpace = comment_space_mended
 rule_mended LineLength = λ fixable. absurd (true≢false (sym fixable))
 rule_mended RepeatedKeys = λ fixable. absurd (true≢false (sym fixable))
 rule_mended KeyMark = key_mark_mended
+rule_mended HiddenCharacter = λ fixable. absurd (true≢false (sym fixable))
 
 -- what the offsets are of which a rule tells that they are at fault
 pub none_at_fault : {V E : Type 0} (rule : RuleDefinition) (src : Table) (r : Lists) (s : Style) (items : V → List ℕ) (o : Result V E) → FormatsAreMended rule → IfOk o (λ v. rule.faults src r s (items v))

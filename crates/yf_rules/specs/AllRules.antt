@@ -5,7 +5,7 @@ use Rattle.yf_emit.specs.declared.style.Style.{Style}
 use Rattle.yf_events.specs.declared.lists.Lists.{Lists}
 use Rattle.yf_lines.specs.Lines.{Table}
 use Rattle.yf_rules.specs.declared.rules.StyleRule.{StyleRule}
-use Rattle.yf_rules.specs.declared.rules.StyleRule.TheVariants.{TrailingBlanks, Indentation, Quoting, DocumentStart, FinalBreak, LineBreaks, ByteOrderMark, BlankLines, FlowLayout, CommentSpace, LineLength, RepeatedKeys, KeyMark}
+use Rattle.yf_rules.specs.declared.rules.StyleRule.TheVariants.{TrailingBlanks, Indentation, Quoting, DocumentStart, FinalBreak, LineBreaks, ByteOrderMark, BlankLines, FlowLayout, CommentSpace, LineLength, RepeatedKeys, KeyMark, HiddenCharacter}
 use Rattle.yf_rules.specs.declared.finding.Finding.{Finding}
 use Rattle.yf_rules.specs.Asked.{asked}
 use Rattle.yf_rules.specs.Check.{CheckAnswer, RuleFindings}
@@ -16,7 +16,7 @@ use Rattle.yf_rules.specs.RuleOf.{definition_of}
 abbrev pub all_rules : List StyleRule
 all_rules =
     TrailingBlanks ∷ Indentation ∷ Quoting ∷ DocumentStart ∷ FinalBreak ∷ LineBreaks ∷ ByteOrderMark ∷ BlankLines
-    ∷ FlowLayout ∷ CommentSpace ∷ LineLength ∷ RepeatedKeys ∷ KeyMark ∷ []
+    ∷ FlowLayout ∷ CommentSpace ∷ LineLength ∷ RepeatedKeys ∷ KeyMark ∷ HiddenCharacter ∷ []
 
 -- Each rule is listed.
 abbrev pub RulesAreListed : Type 0

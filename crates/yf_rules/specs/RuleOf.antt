@@ -1,8 +1,8 @@
 -- The definition of each rule.
 use Rattle.yf_rules.specs.declared.rules.StyleRule.{StyleRule}
-use Rattle.yf_rules.specs.declared.rules.StyleRule.TheVariants.{TrailingBlanks, Indentation, Quoting, DocumentStart, FinalBreak, LineBreaks, ByteOrderMark, BlankLines, FlowLayout, CommentSpace, LineLength, RepeatedKeys, KeyMark}
+use Rattle.yf_rules.specs.declared.rules.StyleRule.TheVariants.{TrailingBlanks, Indentation, Quoting, DocumentStart, FinalBreak, LineBreaks, ByteOrderMark, BlankLines, FlowLayout, CommentSpace, LineLength, RepeatedKeys, KeyMark, HiddenCharacter}
 use Rattle.yf_rules.specs.Definition.{RuleDefinition}
-use Rattle.yf_rules.specs.Rules.{blank_lines, byte_order_mark, comment_space, document_start, final_break, flow_layout, indentation, key_mark, line_breaks, line_length, quoting, repeated_keys, trailing_blanks}
+use Rattle.yf_rules.specs.Rules.{blank_lines, byte_order_mark, comment_space, document_start, final_break, flow_layout, hidden_character, indentation, key_mark, line_breaks, line_length, quoting, repeated_keys, trailing_blanks}
 
 abbrev pub definition_of : StyleRule → RuleDefinition
 definition_of TrailingBlanks = trailing_blanks
@@ -18,3 +18,4 @@ definition_of CommentSpace = comment_space
 definition_of LineLength = line_length
 definition_of RepeatedKeys = repeated_keys
 definition_of KeyMark = key_mark
+definition_of HiddenCharacter = hidden_character

@@ -3,6 +3,7 @@ pub mod ByLine
 pub mod Whites
 pub mod Scalars
 pub mod Styles
+pub mod HiddenCharacters
 pub mod Documents
 pub mod BlankLines
 pub mod Indents

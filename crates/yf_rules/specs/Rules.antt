@@ -1,7 +1,7 @@
 -- The rules, in the order of their numbers.
 use Rattle.std.specs.Prelude.{true, false, codes}
 use Rattle.yf_rules.specs.Definition.{RuleDefinition}
-use Rattle.yf_rules.specs.Sets.{blank_lines_at, byte_order_mark_at, comment_space_at, document_start_at, final_break_at, flow_layout_at, indentation_at, key_mark_at, line_breaks_at, line_length_at, quoting_at, repeated_keys_at, trailing_blanks_at}
+use Rattle.yf_rules.specs.Sets.{blank_lines_at, byte_order_mark_at, comment_space_at, document_start_at, final_break_at, flow_layout_at, hidden_character_at, indentation_at, key_mark_at, line_breaks_at, line_length_at, quoting_at, repeated_keys_at, trailing_blanks_at}
 
 abbrev pub trailing_blanks : RuleDefinition
 trailing_blanks = record { number = 1; id = codes "trailing-blanks"; fixable = true; faults = trailing_blanks_at }
@@ -41,3 +41,6 @@ repeated_keys = record { number = 12; id = codes "repeated-keys"; fixable = fals
 
 abbrev pub key_mark : RuleDefinition
 key_mark = record { number = 13; id = codes "key-mark"; fixable = true; faults = key_mark_at }
+
+abbrev pub hidden_character : RuleDefinition
+hidden_character = record { number = 14; id = codes "hidden-character"; fixable = false; faults = hidden_character_at }

@@ -13,6 +13,7 @@ use Rattle.yf_rules.specs.RuleSets.BlankLines.{MisplacedBlank}
 use Rattle.yf_rules.specs.RuleSets.ByLine.{BeyondLimit, TrailingBlank}
 use Rattle.yf_rules.specs.RuleSets.Documents.{NoMarkerLine}
 use Rattle.yf_rules.specs.RuleSets.Exact.{Exactly}
+use Rattle.yf_rules.specs.RuleSets.HiddenCharacters.{HiddenCharacter}
 use Rattle.yf_rules.specs.RuleSets.Indents.{IndentFault}
 use Rattle.yf_rules.specs.RuleSets.Layouts.{LayoutFault, NeedlessMark}
 use Rattle.yf_rules.specs.RuleSets.Nodes.{RepeatedKey}
@@ -74,3 +75,6 @@ repeated_keys_at src reading style offsets = (trees : List DocumentTree) → Tre
 -- of a reading as texts have them
 abbrev pub key_mark_at : Table → Lists → Style → List ℕ → Type 0
 key_mark_at src reading style offsets = (w : IsTextual reading) → Exactly (NeedlessMark src reading style w.trees) offsets
+
+abbrev pub hidden_character_at : Table → Lists → Style → List ℕ → Type 0
+hidden_character_at src reading style offsets = Exactly (HiddenCharacter src.text reading style) offsets

@@ -6,7 +6,7 @@ ghost use Rattle.yf_rules.specs.Asked.{is_among};
 use yf_lines::text::OwnedText;
 
 /// The names of all rules, in the order of their numbers. A new rule is a new line.
-pub const RULE_NAMES: [&str; 13] = [
+pub const RULE_NAMES: [&str; 14] = [
     "trailing-blanks",
     "indentation",
     "quoting",
@@ -20,6 +20,7 @@ pub const RULE_NAMES: [&str; 13] = [
     "line-length",
     "repeated-keys",
     "key-mark",
+    "hidden-character",
 ];
 
 /// Whether a rule has this name.

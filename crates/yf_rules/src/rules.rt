@@ -8,6 +8,7 @@ pub mod comment_space;
 pub mod document_start;
 pub mod final_break;
 pub mod flow_layout;
+pub mod hidden_character;
 pub mod indentation;
 pub mod key_mark;
 pub mod line_breaks;
@@ -47,6 +48,8 @@ pub enum StyleRule {
     RepeatedKeys,
     /// The `?` of an entry of a block mapping whose key the house style writes without it.
     KeyMark,
+    /// Each hidden character but a byte order mark that no quoted scalar holds, where the style escapes them between quotes.
+    HiddenCharacter,
 }
 
 /// The byte offsets at fault by a rule.
@@ -73,6 +76,7 @@ fn offsets_by(
         StyleRule::LineLength => line_length::offsets(alloc, src, style),
         StyleRule::RepeatedKeys => repeated_keys::offsets(alloc, reading),
         StyleRule::KeyMark => key_mark::offsets(alloc, src, reading, style),
+        StyleRule::HiddenCharacter => hidden_character::offsets(alloc, src, reading, style),
     }
 }
 
@@ -94,6 +98,7 @@ impl Rule for StyleRule {
             StyleRule::LineLength => About::unfixable(11, "line-length"),
             StyleRule::RepeatedKeys => About::unfixable(12, "repeated-keys"),
             StyleRule::KeyMark => About::fixable(13, "key-mark"),
+            StyleRule::HiddenCharacter => About::unfixable(14, "hidden-character"),
         }
     }
 

@@ -26,7 +26,7 @@ pub fn with_all_rules<W: WithRules>(alloc: Global, work: &mut W) -> Result<W::An
     ensures given { IfOk result (λ answer. W.Gives work.old work.new answer) }
     ensures kept { OnErr result (work.new ≡ work.old) }
 {
-    let rules: [Box<dyn Rule>; 13] = [
+    let rules: [Box<dyn Rule>; 14] = [
         Box::new(alloc, StyleRule::TrailingBlanks)?,
         Box::new(alloc, StyleRule::Indentation)?,
         Box::new(alloc, StyleRule::Quoting)?,
@@ -40,6 +40,7 @@ pub fn with_all_rules<W: WithRules>(alloc: Global, work: &mut W) -> Result<W::An
         Box::new(alloc, StyleRule::LineLength)?,
         Box::new(alloc, StyleRule::RepeatedKeys)?,
         Box::new(alloc, StyleRule::KeyMark)?,
+        Box::new(alloc, StyleRule::HiddenCharacter)?,
     ];
     Ok(work.with_rules(&rules))
 }

@@ -8,7 +8,7 @@ use yf_rules::with_rules::{WithRules, with_all_rules};
 /// Settings, a text that is checked, the status, and what is found or why the text is refused.
 type Row = (&'static str, &'static str, u8, &'static str);
 
-static ROWS: [Row; 42] = [
+static ROWS: [Row; 47] = [
     ("", "- a\n- b\n", 1, "1:1 document-start (fixable)\n"),
     (
         "",
@@ -115,6 +115,28 @@ static ROWS: [Row; 42] = [
         1,
         "1:1 document-start (fixable)\n",
     ),
+    // hidden characters: none is told of, unless they are to be escaped
+    ("", "---\na: x\u{200B}y  # \u{202E}\n", 0, ""),
+    (
+        "invisible = \"escaped\"\n",
+        "---\na: x\u{200B}y\u{AD}  # \u{202E}\n\"\u{200B}\": 'z'\n",
+        1,
+        "2:5 hidden-character\n2:7 hidden-character\n2:12 hidden-character\n3:6 quoting (fixable)\n",
+    ),
+    (
+        "invisible = \"escaped\"\nquotes = \"single\"\n",
+        "---\na: '\u{2060}'\nb: \"\u{2060}\"\nc: 'd'\n",
+        1,
+        "2:4 quoting (fixable)\n",
+    ),
+    // in names, block scalars and directives, but in no quoted scalar, and no byte order mark
+    (
+        "invisible = \"escaped\"\n",
+        "\u{FEFF}%A \u{A0}\n---\n- &\u{E000}a \"\u{200B}\"\n- *\u{E000}a\n- |\n  \u{3164}\n",
+        1,
+        "1:1 byte-order-mark (fixable)\n1:4 hidden-character\n3:4 hidden-character\n4:4 hidden-character\n6:3 hidden-character\n",
+    ),
+    ("invisible = \"plain\"\n", "---\na: \u{AD}\n", 0, ""),
     // what `fmt` changes beyond the rules
     ("", "---\na:  b\n", 0, ""),
     ("", "---\na : b\n", 0, ""),

@@ -3,7 +3,7 @@
 use crate::tests::answers::{Asked, is_run};
 
 /// Settings, a text, and what is written of it. That a second run changes nothing is in `laws`.
-pub static FORMATTED: [(&str, &str, &str); 66] = [
+pub static FORMATTED: [(&str, &str, &str); 74] = [
     // sequences, documents, directives and markers:
     // a sequence
     ("", "- a\n- b\n", "---\n- a\n- b\n"),
@@ -282,6 +282,54 @@ pub static FORMATTED: [(&str, &str, &str); 66] = [
         "document_start = \"keep\"\nseq_indent = false",
         "a: [b, # c\n  d]\n...\n# e\n- f\n",
         "a:\n- b  # c\n- d\n# e\n---\n- f\n",
+    ),
+    // hidden characters in quotes are escaped
+    (
+        "invisible = \"escaped\"",
+        "a: \"x\u{200B}y\"\nb: 'x\u{202E}y'\nc: \"\u{E9}\"\n",
+        "---\na: \"x\\u200By\"\nb: \"x\\u202Ey\"\nc: \"\u{E9}\"\n",
+    ),
+    // in double quotes, whichever are preferred
+    (
+        "invisible = \"escaped\"\nquotes = \"single\"",
+        "a: \"x\u{202E}y\"\nb: \"z\"\nc: '\u{AD}'\n",
+        "---\na: \"x\\u202Ey\"\nb: 'z'\nc: \"\\u00AD\"\n",
+    ),
+    // which are hidden, and how each is written
+    (
+        "invisible = \"escaped\"",
+        "a: \"\u{AD}\u{2003}\u{E000}\u{E0041}\u{A0}\u{85}\u{2028}\u{2007}\u{FEFF}\u{FE0F}\u{FFFE}\"\n",
+        "---\na: \"\\u00AD\u{2003}\\uE000\\U000E0041\\xA0\\x85\\u2028\\u2007\\uFEFF\\uFE0F\\uFFFE\"\n",
+    ),
+    // all others stay: in plain and block scalars, names and comments
+    (
+        "invisible = \"escaped\"",
+        "a: x\u{200B}y\nb: [\u{200B}, \"\u{200B}\"]\nc: |\n  z\u{2066}\nd: &\u{200B}x z  # \u{202E}\n",
+        "---\na: x\u{200B}y\nb: [\u{200B}, \"\\u200B\"]\nc: |\n  z\u{2066}\nd: &\u{200B}x z  # \u{202E}\n",
+    ),
+    // a plain scalar that becomes quoted, and a block scalar without content
+    (
+        "invisible = \"escaped\"",
+        "- x\u{200B}\n\n  y\n- >\n\n- \"\u{3164}\"\n",
+        "---\n- \"x\\u200B\\ny\"\n- \"\"\n\n- \"\\u3164\"\n",
+    ),
+    // widths count the escapes
+    (
+        "invisible = \"escaped\"\nmax_line = 40",
+        "\"\u{200B}\u{200B}\": [\"\u{200B}\u{200B}\", abcdef]\n\"\u{200B}\u{200B}\u{200B}\": [\"\u{200B}\", abcdefg]\n",
+        "---\n\"\\u200B\\u200B\": [\"\\u200B\\u200B\", abcdef]\n\"\\u200B\\u200B\\u200B\":\n  - \"\\u200B\"\n  - abcdefg\n",
+    ),
+    // with the other settings
+    (
+        "invisible = \"escaped\"\nseq_indent = false\ndocument_start = \"keep\"",
+        "\"\u{200B}\":\n  - '\u{2060}'\n",
+        "\"\\u200B\":\n- \"\\u2060\"\n",
+    ),
+    // and as they are, where that is not set
+    (
+        "invisible = \"plain\"",
+        "a: \"\\u200B\\U000E0041\\u00AD\"\nb: '\u{202E}'\n",
+        "---\na: \"\u{200B}\u{E0041}\u{AD}\"\nb: \"\u{202E}\"\n",
     ),
 ];
 

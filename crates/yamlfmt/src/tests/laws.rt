@@ -9,6 +9,7 @@ use yf_emit::style::{DocumentStart, Style};
 use yf_events::content::Content;
 use yf_events::reading::Reading;
 use yf_lines::fault::Fault;
+use yf_lines::invisible::Invisible;
 use yf_lines::quotes::Quotes;
 use yf_lines::source_text::Src;
 use yf_rules::check::check;
@@ -116,15 +117,17 @@ fn hold_for(trial: Trial, text: &str) -> bool {
     )
 }
 
-/// Whether the laws hold of a text under both quotes, both widths, and both places of sequences and beginnings of documents.
+/// Whether the laws hold of a text under both quotes, both widths, and both places of sequences, beginnings of documents and ways to hold
+/// hidden characters.
 fn hold_at(alloc: Global, rules: &[Box<dyn Rule>], indent: usize, text: &str) -> bool
     requires from { 2 ≤ indent }
     requires to { indent ≤ 8 }
 {
     for quotes in [Quotes::Double, Quotes::Single] {
-        for (seq_indent, document_start) in [
-            (true, DocumentStart::Always),
-            (false, DocumentStart::Keep),
+        for (seq_indent, document_start, invisible) in [
+            (true, DocumentStart::Always, Invisible::Plain),
+            (false, DocumentStart::Keep, Invisible::Plain),
+            (false, DocumentStart::Keep, Invisible::Escaped),
         ] {
             for max_line in [40, 100] {
                 let style = Style {
@@ -133,6 +136,7 @@ fn hold_at(alloc: Global, rules: &[Box<dyn Rule>], indent: usize, text: &str) ->
                     quotes,
                     seq_indent,
                     document_start,
+                    invisible,
                 };
                 let trial = Trial {
                     alloc,

@@ -3,16 +3,18 @@
 use crate::tests::answers::{Asked, is_run};
 use std::alloc::Global;
 use yf_emit::style::DocumentStart;
+use yf_lines::invisible::Invisible;
 use yf_lines::quotes::Quotes;
 use yf_program::settings::style_from_toml;
 
-/// A settings file, and what it sets: `indent`, `max_line`, `quotes`, `seq_indent`, and whether a first document without a `---` stays so.
-type Row = (&'static str, usize, usize, Quotes, bool, bool);
+/// A settings file, and what it sets: `indent`, `max_line`, `quotes`, `seq_indent`, whether a first document without a `---` stays so, and
+/// whether hidden characters are escaped.
+type Row = (&'static str, usize, usize, Quotes, bool, bool, bool);
 
-static SET: [Row; 6] = [
-    ("", 2, 100, Quotes::Double, true, false),
-    ("indent = 4", 4, 100, Quotes::Double, true, false),
-    ("# none\n", 2, 100, Quotes::Double, true, false),
+static SET: [Row; 8] = [
+    ("", 2, 100, Quotes::Double, true, false, false),
+    ("indent = 4", 4, 100, Quotes::Double, true, false, false),
+    ("# none\n", 2, 100, Quotes::Double, true, false, false),
     (
         "document_start = \"always\"",
         2,
@@ -20,13 +22,33 @@ static SET: [Row; 6] = [
         Quotes::Double,
         true,
         false,
+        false,
     ),
     (
-        "seq_indent = false\nquotes = \"single\"\ndocument_start = 'keep'\nmax_line = 40\nindent = 8\n",
+        "invisible = \"plain\"",
+        2,
+        100,
+        Quotes::Double,
+        true,
+        false,
+        false,
+    ),
+    (
+        "invisible = 'escaped'",
+        2,
+        100,
+        Quotes::Double,
+        true,
+        false,
+        true,
+    ),
+    (
+        "seq_indent = false\ninvisible = \"escaped\"\nquotes = \"single\"\ndocument_start = 'keep'\nmax_line = 40\nindent = 8\n",
         8,
         40,
         Quotes::Single,
         false,
+        true,
         true,
     ),
     (
@@ -35,6 +57,7 @@ static SET: [Row; 6] = [
         1000,
         Quotes::Double,
         true,
+        false,
         false,
     ),
 ];
@@ -46,13 +69,14 @@ fn sets(alloc: Global, row: &Row) -> bool {
             (row.1, row.2, row.3, row.4)
                 == (style.indent, style.max_line, style.quotes, style.seq_indent)
                 && row.5 == matches!(style.document_start, DocumentStart::Keep)
+                && row.6 == matches!(style.invisible, Invisible::Escaped)
         }
         Err(_) => false,
     }
 }
 
 /// Settings files that are refused, and the line that is printed: the least wrong key.
-static REFUSED: [(&str, &str); 24] = [
+static REFUSED: [(&str, &str); 27] = [
     ("indent = 9", "config: indent\n"),
     ("tabs = 1", "config: tabs\n"),
     ("indent =", "config: \n"),
@@ -64,6 +88,9 @@ static REFUSED: [(&str, &str); 24] = [
         "seq_indent = 3\ndocument_start = 2\n",
         "config: document_start\n",
     ),
+    ("invisible = \"Escaped\"", "config: invisible\n"),
+    ("invisible = true", "config: invisible\n"),
+    ("max_line = 3\ninvisible = 2\n", "config: invisible\n"),
     ("indent = 1", "config: indent\n"),
     ("indent = -4", "config: indent\n"),
     ("indent = 2.0", "config: indent\n"),

@@ -16,6 +16,7 @@ use Rattle.yf_props.specs.Written.{props_at, props_bytes}
 use Rattle.yf_events.specs.Tree.{Node, scalar, alias, sequence, mapping, no_items, item, no_pairs, pair, props_of}
 use Rattle.yf_grammar.proofs.WrittenTexts.LeafBack.{propertied}
 use Rattle.yf_grammar.proofs.NodesInText.NodePlaces.{content_alone}
+use Rattle.yf_emit.specs.declared.style.Style.{Style}
 use Rattle.yf_emit.specs.Nodes.ContentStart.{content_start}
 use Rattle.yf_emit.specs.Layouts.ReadableTrees.{FitProps, no_fit_props, some_fit_props}
 use Rattle.yf_emit.specs.Nodes.OneLine.{bare, props_text, spaced, written}
@@ -30,19 +31,19 @@ use Rattle.yf_emit.proofs.Columns.WrittenNodes.{WrittenAt}
 -- From bracket to bracket.
 
 -- its content begins with a bracket
-record Opened (y : Node) : Type 0 where
+record Opened (house : Style) (y : Node) : Type 0 where
   sign : ℕ
   more : List ℕ
-  is : bare y ≡ sign ∷ more
+  is : bare house y ≡ sign ∷ more
   bracket : (sign ≡ 91) ⊎ (sign ≡ 123)
 
-opened : (y : Node) → is_bracketed y ≡ true → Opened y
-opened (scalar at props style text lines) f = absurd (true≢false (sym f))
-opened (alias at name) f = absurd (true≢false (sym f))
-opened (sequence at flow props no_items) f = record { sign = 91; more = 93 ∷ []; is = refl; bracket = inl refl }
-opened (sequence at flow props (item x xs)) f = record { sign = 91; more = _; is = refl; bracket = inl refl }
-opened (mapping at flow props no_pairs) f = record { sign = 123; more = 125 ∷ []; is = refl; bracket = inr refl }
-opened (mapping at flow props (pair k v ps)) f = record { sign = 123; more = _; is = refl; bracket = inr refl }
+opened : (house : Style) (y : Node) → is_bracketed y ≡ true → Opened house y
+opened house (scalar at props style text lines) f = absurd (true≢false (sym f))
+opened house (alias at name) f = absurd (true≢false (sym f))
+opened house (sequence at flow props no_items) f = record { sign = 91; more = 93 ∷ []; is = refl; bracket = inl refl }
+opened house (sequence at flow props (item x xs)) f = record { sign = 91; more = _; is = refl; bracket = inl refl }
+opened house (mapping at flow props no_pairs) f = record { sign = 123; more = 125 ∷ []; is = refl; bracket = inr refl }
+opened house (mapping at flow props (pair k v ps)) f = record { sign = 123; more = _; is = refl; bracket = inr refl }
 
 sign_low : (c : ℕ) → (c ≡ 91) ⊎ (c ≡ 123) → (39 ≤ c) × (c < 127)
 sign_low c f = ⊎_elim (λ (e : c ≡ 91). (omega (arith, e), omega (arith, e))) (λ (e : c ≡ 123). (omega (arith, e), omega (arith, e))) f
@@ -71,9 +72,9 @@ content_at {t} {i} c w r u (some_fit_props {p = p} k n) f s =
     (λ e. omega (arith, low_from, sign, e)) (λ e. omega (arith, low_from, sign, e)) (λ e. omega (arith, low_from, sign, e)) (omega (arith, last)) in
     ap (λ k. slice_range t k end) begins ∙ (ap (λ k. slice_range t (g + 1) k) (sym last) ∙ slice_back (c ∷ w) r (rest_is_at at.rest))
 
-written_text : {t : List ℕ} {i : ℕ} (y : Node) (r : List ℕ) → IsUtf8 t → FitProps (props_of y) → Opened y → Rest t i (written y ++ r)
-    → slice_range t (content_start t (record { start = i; end = i + length (written y) }) (props_of y)) (i + length (written y)) ≡ bare y
-written_text {t} {i} y r u fit o s =
+written_text : (house : Style) {t : List ℕ} {i : ℕ} (y : Node) (r : List ℕ) → IsUtf8 t → FitProps (props_of y) → Opened house y → Rest t i (written house y ++ r)
+    → slice_range t (content_start t (record { start = i; end = i + length (written house y) }) (props_of y)) (i + length (written house y)) ≡ bare house y
+written_text house {t} {i} y r u fit o s =
     let there : Rest t i (spaced (props_text (props_of y)) (o.sign ∷ o.more) ++ r) = subst (λ w. Rest t i (spaced (props_text (props_of y)) w ++ r)) o.is s in
     subst (λ w. slice_range t (content_start t (record { start = i; end = i + length (spaced (props_text (props_of y)) w) }) (props_of y)) (i + length (spaced (props_text (props_of y)) w)) ≡ w)
     (sym o.is) (content_at o.sign o.more r u fit o.bracket there)
@@ -85,8 +86,8 @@ spaced_long [] y l = l
 spaced_long (b ∷ x) [] l = omega arith
 spaced_long (b ∷ x) (c ∷ y) l = omega arith
 
-long_of : (y : Node) → Opened y → 0 < length (written y)
-long_of y o = spaced_long (props_text (props_of y)) (bare y) (let l : length (bare y) ≡ length (o.sign ∷ o.more) = ap length o.is in omega (arith, l))
+long_of : (house : Style) (y : Node) → Opened house y → 0 < length (written house y)
+long_of house y o = spaced_long (props_text (props_of y)) (bare house y) (let l : length (bare house y) ≡ length (o.sign ∷ o.more) = ap length o.is in omega (arith, l))
 
 line_before : {t : List ℕ} {m i j : ℕ} (a : OnLine t m j) → Quiet t i j → i < j → a.line < j
 line_before {t} {m} {i} {j} a q l =
@@ -97,18 +98,18 @@ line_before {t} {m} {i} {j} a q l =
     absurd (q.none j l (omega arith) (subst (λ k. LineStart t k) same a.start)))
     (cases_lt a.line j)
 
-pub flow_written : {t : List ℕ} {column i : ℕ} {y : Node} → IsUtf8 t → NodeText t i y → is_bracketed y ≡ true → OnLine t column i → WrittenAt t column y
-flow_written {t} {column} {i} {y} u a f on =
+pub flow_written : (house : Style) {t : List ℕ} {column i : ℕ} {y : Node} → IsUtf8 t → NodeText house t i y → is_bracketed y ≡ true → OnLine t column i → WrittenAt house t column y
+flow_written house {t} {column} {i} {y} u a f on =
     let b = a.flow f in
-    let o = opened y f in
-    let long : 0 < length (written y) = long_of y o in
-    let there = on_more (written y) a.follows u a.line on a.there in
-    let quiet = (rest_text (written y) u a.line a.there).quiet in
-    let e : ℕ = i + length (written y) in
+    let o = opened house y f in
+    let long : 0 < length (written house y) = long_of house y o in
+    let there = on_more (written house y) a.follows u a.line on a.there in
+    let quiet = (rest_text (written house y) u a.line a.there).quiet in
+    let e : ℕ = i + length (written house y) in
     record {
       span = record { start = i; end = e };
       is = b.span;
-      text = written_text y a.follows u b.props o a.there;
+      text = written_text house y a.follows u b.props o a.there;
       on = there;
       some = line_before there quiet (omega (arith, long));
       last = ⊎_elim (λ (z : code t (e - 1) ≡ 93). omega (arith, z)) (λ (z : code t (e - 1) ≡ 125). omega (arith, z)) b.last;

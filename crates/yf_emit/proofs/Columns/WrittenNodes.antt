@@ -7,6 +7,7 @@ use Rattle.yf_props.specs.Props.{PropsValue}
 use Rattle.yf_events.specs.declared.event.ScalarStyle.{ScalarStyle}
 use Rattle.yf_events.specs.declared.event.Span.{Span}
 use Rattle.yf_events.specs.Tree.{NodeOffsets, Node, scalar, alias, sequence, mapping, Items, no_items, item, Pairs, no_pairs, pair, DocumentTree, props_of, standing}
+use Rattle.yf_emit.specs.declared.style.Style.{Style}
 use Rattle.yf_emit.specs.Nodes.ContentStart.{content_start}
 use Rattle.yf_emit.specs.NormalForms.Normal.{LayoutSetting, Spot, inner_spot, key_spot, root_spot, value_spot}
 use Rattle.yf_emit.specs.Nodes.OneLine.{bare, width, written}
@@ -14,11 +15,11 @@ use Rattle.yf_emit.proofs.Columns.LinePlaces.{OnLine}
 
 -- The flow collection is written so from bracket to bracket; it ends in the line that it begins in, as many characters after the column as it is
 -- wide, and its last character is one byte.
-pub record WrittenAt (t : List ℕ) (column : ℕ) (x : Node) : Type 0 where
+pub record WrittenAt (house : Style) (t : List ℕ) (column : ℕ) (x : Node) : Type 0 where
   pub span : Span
   pub is : (standing x).span ≡ Some span
-  pub text : slice_range t (content_start t span (props_of x)) span.end ≡ bare x
-  pub on : OnLine t (column + width (written x)) span.end
+  pub text : slice_range t (content_start t span (props_of x)) span.end ≡ bare house x
+  pub on : OnLine t (column + width (written house x)) span.end
   pub some : on.line < span.end
   pub last : code t (span.end - 1) < 128
 
@@ -27,9 +28,9 @@ mutual
     written_scalar : {spot : Spot} {at : NodeOffsets} {props : PropsValue} {style : ScalarStyle} {text : List ℕ} {lines : List (List ℕ)}
         → WrittenNode t c spot (scalar at props style text lines)
     written_alias : {spot : Spot} {at : NodeOffsets} {name : List ℕ} → WrittenNode t c spot (alias at name)
-    sequence_on_line : {spot : Spot} {at : NodeOffsets} {props : PropsValue} {xs : Items} → WrittenAt t spot.column (sequence at true props xs)
+    sequence_on_line : {spot : Spot} {at : NodeOffsets} {props : PropsValue} {xs : Items} → WrittenAt c.style t spot.column (sequence at true props xs)
         → WrittenNode t c spot (sequence at true props xs)
-    mapping_on_line : {spot : Spot} {at : NodeOffsets} {props : PropsValue} {ps : Pairs} → WrittenAt t spot.column (mapping at true props ps)
+    mapping_on_line : {spot : Spot} {at : NodeOffsets} {props : PropsValue} {ps : Pairs} → WrittenAt c.style t spot.column (mapping at true props ps)
         → WrittenNode t c spot (mapping at true props ps)
     written_sequence : {spot : Spot} {at : NodeOffsets} {props : PropsValue} {xs : Items} → WrittenItems t c spot.entries xs → WrittenNode t c spot (sequence at false props xs)
     written_mapping : {spot : Spot} {at : NodeOffsets} {props : PropsValue} {ps : Pairs} → WrittenPairs t c spot.entries ps → WrittenNode t c spot (mapping at false props ps)

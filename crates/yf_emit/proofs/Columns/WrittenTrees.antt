@@ -68,28 +68,28 @@ key_lined (key_joined e f g l m o) (lined_row b a) = lined_row (o b) a
 
 -- Nodes on their rows.
 
-on_row : {t : List ℕ} {m : ℕ} (p : PlacedRow) (y : Node) → IsUtf8 t → p.column ≡ m → NodeText t p.from y → OnLine t p.column p.from → is_bracketed y ≡ true → WrittenAt t m y
-on_row p y u e w a f = flow_written u w f (on_same e refl a)
+on_row : (house : Style) {t : List ℕ} {m : ℕ} (p : PlacedRow) (y : Node) → IsUtf8 t → p.column ≡ m → NodeText house t p.from y → OnLine t p.column p.from → is_bracketed y ≡ true → WrittenAt house t m y
+on_row house p y u e w a f = flow_written house u w f (on_same e refl a)
 
 module _ {t : List ℕ} (c : LayoutSetting) (cs : List CommentValue) (u : IsUtf8 t) where
-  line_written : {spot : Spot} (p : PlacedRow) (y : Node) → is_inline y ≡ true → p.column ≡ spot.column → NodeText t p.from y → OnLine t p.column p.from → WrittenNode t (setting c.style cs) spot y
+  line_written : {spot : Spot} (p : PlacedRow) (y : Node) → is_inline y ≡ true → p.column ≡ spot.column → NodeText c.style t p.from y → OnLine t p.column p.from → WrittenNode t (setting c.style cs) spot y
   line_written p (scalar at props style text lines) i e w a = written_scalar
   line_written p (alias at name) i e w a = written_alias
-  line_written p (sequence at true props xs) i e w a = sequence_on_line (on_row p (sequence at true props xs) u e w a refl)
+  line_written p (sequence at true props xs) i e w a = sequence_on_line (on_row c.style p (sequence at true props xs) u e w a refl)
   line_written p (sequence at false props xs) i e w a = absurd (true≢false (sym i))
-  line_written p (mapping at true props ps) i e w a = mapping_on_line (on_row p (mapping at true props ps) u e w a refl)
+  line_written p (mapping at true props ps) i e w a = mapping_on_line (on_row c.style p (mapping at true props ps) u e w a refl)
   line_written p (mapping at false props ps) i e w a = absurd (true≢false (sym i))
 
-  key_written : (m : ℕ) (p : PlacedRow) (k : Node) → is_implicit c.style m k ≡ true → p.column ≡ m → NodeText t p.from k → OnLine t p.column p.from
+  key_written : (m : ℕ) (p : PlacedRow) (k : Node) → is_implicit c.style m k ≡ true → p.column ≡ m → NodeText c.style t p.from k → OnLine t p.column p.from
       → WrittenNode t (setting c.style cs) (key_spot c.style m k) k
   key_written m p (scalar at props style text lines) i e w a = written_scalar
   key_written m p (alias at name) i e w a = written_alias
   key_written m p (sequence at true props xs) i e w a =
-      sequence_on_line (on_row p (sequence at true props xs) u (e ∙ sym (ap (λ b. if b then m else m + c.style.indent) i)) w a refl)
+      sequence_on_line (on_row c.style p (sequence at true props xs) u (e ∙ sym (ap (λ b. if b then m else m + c.style.indent) i)) w a refl)
   key_written m p (sequence at false props no_items) i e w a = written_sequence no_written_items
   key_written m p (sequence at false props (item x xs)) i e w a = absurd (true≢false (sym i))
   key_written m p (mapping at true props ps) i e w a =
-      mapping_on_line (on_row p (mapping at true props ps) u (e ∙ sym (ap (λ b. if b then m else m + c.style.indent) i)) w a refl)
+      mapping_on_line (on_row c.style p (mapping at true props ps) u (e ∙ sym (ap (λ b. if b then m else m + c.style.indent) i)) w a refl)
   key_written m p (mapping at false props no_pairs) i e w a = written_mapping no_written_pairs
   key_written m p (mapping at false props (pair k v ps)) i e w a = absurd (true≢false (sym i))
 
@@ -163,13 +163,13 @@ mutual
   turned_pairs alike_no_pairs = alike_no_pairs
   turned_pairs (alike_pair a b g more) = alike_pair (turned a) (turned b) tt (turned_pairs more)
 
-written_alike : {t : List ℕ} {m : ℕ} {x y : Node} → Alike Anywhere x y → (standing y).span ≡ (standing x).span → WrittenAt t m x → WrittenAt t m y
-written_alike {t} {m} {x} {y} b e a =
-    let same : width (written x) ≡ width (written y) = ap width (same_written b) in
+written_alike : (house : Style) {t : List ℕ} {m : ℕ} {x y : Node} → Alike Anywhere x y → (standing y).span ≡ (standing x).span → WrittenAt house t m x → WrittenAt house t m y
+written_alike house {t} {m} {x} {y} b e a =
+    let same : width (written house x) ≡ width (written house y) = ap width (same_written house b) in
     record {
       span = a.span;
       is = e ∙ a.is;
-      text = subst (λ p. slice_range t (content_start t a.span p) a.span.end ≡ bare y) (same_props b) (a.text ∙ same_bare b);
+      text = subst (λ p. slice_range t (content_start t a.span p) a.span.end ≡ bare house y) (same_props b) (a.text ∙ same_bare house b);
       on = record { line = a.on.line; start = a.on.start; before = a.on.before; run = a.on.run; wide = a.on.wide ∙ ap (λ n. m + n) same; quiet = a.on.quiet };
       some = a.some;
       last = a.last;
@@ -186,8 +186,8 @@ module _ {t : List ℕ} {s : Style} {cs : List CommentValue} where
     bare_written : {spot : Spot} {y : Node} → WrittenNode t (setting s cs) spot y → WrittenNode t (setting s cs) spot (unnoted y)
     bare_written written_scalar = written_scalar
     bare_written written_alias = written_alias
-    bare_written (sequence_on_line {at = at} {props = props} {xs = xs} a) = sequence_on_line (written_alike (noted (sequence at true props xs)) refl a)
-    bare_written (mapping_on_line {at = at} {props = props} {ps = ps} a) = mapping_on_line (written_alike (noted (mapping at true props ps)) refl a)
+    bare_written (sequence_on_line {at = at} {props = props} {xs = xs} a) = sequence_on_line (written_alike s (noted (sequence at true props xs)) refl a)
+    bare_written (mapping_on_line {at = at} {props = props} {ps = ps} a) = mapping_on_line (written_alike s (noted (mapping at true props ps)) refl a)
     bare_written (written_sequence a) = written_sequence (bare_items_written a)
     bare_written (written_mapping a) = written_mapping (bare_pairs_written a)
 
@@ -205,8 +205,8 @@ module _ {t : List ℕ} {s : Style} {cs : List CommentValue} where
     noted_written : {spot : Spot} (z : Node) → WrittenNode t (setting s cs) spot (unnoted z) → WrittenNode t (setting s cs) spot z
     noted_written (scalar at props style text lines) a = written_scalar
     noted_written (alias at name) a = written_alias
-    noted_written (sequence at true props xs) (sequence_on_line a) = sequence_on_line (written_alike (turned (noted (sequence at true props xs))) refl a)
-    noted_written (mapping at true props ps) (mapping_on_line a) = mapping_on_line (written_alike (turned (noted (mapping at true props ps))) refl a)
+    noted_written (sequence at true props xs) (sequence_on_line a) = sequence_on_line (written_alike s (turned (noted (sequence at true props xs))) refl a)
+    noted_written (mapping at true props ps) (mapping_on_line a) = mapping_on_line (written_alike s (turned (noted (mapping at true props ps))) refl a)
     noted_written (sequence at false props xs) (written_sequence a) = written_sequence (noted_items_written xs a)
     noted_written (mapping at false props ps) (written_mapping a) = written_mapping (noted_pairs_written ps a)
 

@@ -4,6 +4,7 @@ use Rattle.std.specs.Prelude.{replicate, ◌==◌}
 use Rattle.std.proofs.lemmas.Bool.{and_parts, cases_Bool}
 use Rattle.std.proofs.lemmas.List.{length-append, length-replicate}
 use Rattle.std.proofs.lemmas.Option.{get_or_from_slice_get}
+use Rattle.yf_comments.specs.Comment.{CommentValue}
 use Rattle.yf_events.specs.Event.{EventInText, sequence_starts, sequence_ends, mapping_starts, mapping_ends}
 use Rattle.yf_props.specs.Props.{PropsValue}
 use Rattle.yf_emit.specs.declared.form.decide.Form.{Form}
@@ -25,14 +26,18 @@ use Rattle.yf_emit.proofs.Decide.SiteLemmas.{is_kept_there}
 use Rattle.yf_emit.proofs.Decide.ValueLemmas.{event_of}
 use Rattle.yf_emit.proofs.Decide.WholeLemmas.{last_one, not_last, whole_if_kept, whole_if_leaf, whole_if_last, open_if}
 
--- what the pass is given: the text, with what it was measured, with what it is laid out, all events, and their measures
+-- what the pass is given: the text, with which comments it was measured, with what it is laid out, all events, and their measures
 pub record Known : Type 0 where
   pub text : List ℕ
-  pub by : LayoutSetting
+  pub others : List CommentValue
   pub setting : LayoutSetting
   pub events : List EventInText
   pub measures : List Measure
-  pub measured : AreMeasures text by events measures
+  pub measured : AreMeasures text (record { style = setting.style; comments = others }) events measures
+
+-- with what it was measured
+abbrev pub by_of : Known → LayoutSetting
+by_of k = record { style = k.setting.style; comments = k.others }
 
 abbrev pub given_of : Known → DecideInput
 given_of k = given k.setting.style k.setting.comments k.events
@@ -88,18 +93,18 @@ level_at k site x = record { is_map = is_map x; column = up_to_greatest site.spo
 
 -- at its site, where the stack after it is that one
 pub record AtSite (k : Known) (x : Node) (i : ℕ) (stack follows : List LayoutFrame) (site : Site) : Type 0 where
-  pub place : next_place (given_of k) (event_of x) i (measure_of k.text k.by i x) stack ≡ place_of site
-  pub stack_is : next_stack (given_of k) (event_of x) i (measure_of k.text k.by i x) stack ≡ follows
+  pub place : next_place (given_of k) (event_of x) i (measure_of k.text (by_of k) i x) stack ≡ place_of site
+  pub stack_is : next_stack (given_of k) (event_of x) i (measure_of k.text (by_of k) i x) stack ≡ follows
 
 begun : (k : Known) (x : Node) (p : ℕ) (list : List Form) (stack follows : List LayoutFrame) (site : Site) → Among k.events (flat x) (suc p)
     → length list ≡ suc p → AtSite k x (suc p) stack follows site
     → next (given_of k) k.measures (event_of x) (state list stack p)
-    ≡ after_node (suc p) (measure_of k.text k.by (suc p) x) (is_map x) (level_at k site x) (list ++ form_of k.setting.style site (styled k.text k.by x) ∷ []) follows
-    (is_whole (suc p) (measure_of k.text k.by (suc p) x) (is_kept_at k.setting.style site.spot (styled k.text k.by x)))
+    ≡ after_node (suc p) (measure_of k.text (by_of k) (suc p) x) (is_map x) (level_at k site x) (list ++ form_of k.setting.style site (styled k.text (by_of k) x) ∷ []) follows
+    (is_whole (suc p) (measure_of k.text (by_of k) (suc p) x) (is_kept_at k.setting.style site.spot (styled k.text (by_of k) x)))
 begun k x p list stack follows site a l s =
     let g : DecideInput = given_of k in
-    let m : Measure = measure_of k.text k.by (suc p) x in
-    let kept = is_kept_there k.text k.by k.setting.style site.spot (suc p) x in
+    let m : Measure = measure_of k.text (by_of k) (suc p) x in
+    let kept = is_kept_there k.text (by_of k) site.spot (suc p) x in
     looked_at g k.measures (event_of x) (suc p) list stack p (omega arith) l
     ∙ ap (λ w. past g (event_of x) (suc p) w list stack) (get_or_from_slice_get k.measures (suc p) m no_measure (k.measured.each (suc p) x (node_at x a)))
     ∙ past_node g x (suc p) m list stack
@@ -110,26 +115,26 @@ begun k x p list stack follows site a l s =
 
 -- the form of a node at its site
 abbrev form_there : Known → Site → Node → Form
-form_there k site x = form_of k.setting.style site (styled k.text k.by x)
+form_there k site x = form_of k.setting.style site (styled k.text (by_of k) x)
 
 abbrev is_kept_in : Known → Site → Node → Bool
-is_kept_in k site x = is_kept_at k.setting.style site.spot (styled k.text k.by x)
+is_kept_in k site x = is_kept_at k.setting.style site.spot (styled k.text (by_of k) x)
 
 begun_whole : (k : Known) (x : Node) (p done : ℕ) (list : List Form) (stack follows : List LayoutFrame) (site : Site) → Among k.events (flat x) (suc p)
-    → length list ≡ suc p → AtSite k x (suc p) stack follows site → is_whole (suc p) (measure_of k.text k.by (suc p) x) (is_kept_in k site x) ≡ true
-    → (measure_of k.text k.by (suc p) x).last ≡ done
+    → length list ≡ suc p → AtSite k x (suc p) stack follows site → is_whole (suc p) (measure_of k.text (by_of k) (suc p) x) (is_kept_in k site x) ≡ true
+    → (measure_of k.text (by_of k) (suc p) x).last ≡ done
     → next (given_of k) k.measures (event_of x) (state list stack p) ≡ state (list ++ form_there k site x ∷ []) follows done
 begun_whole k x p done list stack follows site a l s w e =
     begun k x p list stack follows site a l s
-    ∙ ap (after_node (suc p) (measure_of k.text k.by (suc p) x) (is_map x) (level_at k site x) (list ++ form_there k site x ∷ []) follows) w
+    ∙ ap (after_node (suc p) (measure_of k.text (by_of k) (suc p) x) (is_map x) (level_at k site x) (list ++ form_there k site x ∷ []) follows) w
     ∙ ap (state (list ++ form_there k site x ∷ []) follows) e
 
 begun_open : (k : Known) (x : Node) (p : ℕ) (list : List Form) (stack follows : List LayoutFrame) (site : Site) → Among k.events (flat x) (suc p)
-    → length list ≡ suc p → AtSite k x (suc p) stack follows site → is_whole (suc p) (measure_of k.text k.by (suc p) x) (is_kept_in k site x) ≡ false
+    → length list ≡ suc p → AtSite k x (suc p) stack follows site → is_whole (suc p) (measure_of k.text (by_of k) (suc p) x) (is_kept_in k site x) ≡ false
     → next (given_of k) k.measures (event_of x) (state list stack p) ≡ state (list ++ form_there k site x ∷ []) (level_at k site x ∷ follows) (suc p)
 begun_open k x p list stack follows site a l s w =
     begun k x p list stack follows site a l s
-    ∙ ap (after_node (suc p) (measure_of k.text k.by (suc p) x) (is_map x) (level_at k site x) (list ++ form_there k site x ∷ []) follows) w
+    ∙ ap (after_node (suc p) (measure_of k.text (by_of k) (suc p) x) (is_map x) (level_at k site x) (list ++ form_there k site x ∷ []) follows) w
 
 -- a collection with entries
 
@@ -172,7 +177,7 @@ kept_passed k x ys first last n p list inner stack follows site rest q c a l s e
     let long : length (flat x) ≡ length ys + 2 = ap length q.flat_is ∙ between_count first last ys in
     let done : suc p + length (flat x) - 1 ≡ p + length (flat x) = omega arith in
     first_passed k x ys first last rest (state list stack p) q
-    ∙ ap (run k ((ys ++ (last ∷ [])) ++ rest)) (begun_whole k x p (p + length (flat x)) list stack follows site a l s (whole_if_kept (suc p) (measure_of k.text k.by (suc p) x) (is_kept_in k site x) e) done)
+    ∙ ap (run k ((ys ++ (last ∷ [])) ++ rest)) (begun_whole k x p (p + length (flat x)) list stack follows site a l s (whole_if_kept (suc p) (measure_of k.text (by_of k) (suc p) x) (is_kept_in k site x) e) done)
     ∙ skipped_within k ys rest last list (form_there k site x) follows (p + length (flat x)) (omega (arith, long, l))
     ∙ ap (λ w. run k rest (state (list ++ (form_there k site x ∷ (w ++ (no_form ∷ [])))) follows (p + length (flat x)))) (within_kept _ (length ys) n inner e c)
 
@@ -187,7 +192,7 @@ unfolding pass
 open_passed k x ys first last n p list inner stack follows site rest q c a l s e h =
     let long : length (flat x) ≡ length ys + 2 = ap length q.flat_is ∙ between_count first last ys in
     let f : Form = form_there k site x in
-    let m : Measure = measure_of k.text k.by (suc p) x in
+    let m : Measure = measure_of k.text (by_of k) (suc p) x in
     let all : List Form = (list ++ f ∷ []) ++ inner in
     let one : length (list ++ f ∷ []) ≡ length list + 1 = length-append list (f ∷ []) in
     let count : length all ≡ length (list ++ f ∷ []) + length inner = length-append (list ++ f ∷ []) inner in
@@ -222,7 +227,7 @@ one_passed : (k : Known) (x : Node) (e : EventInText) (p : ℕ) (list : List For
     → run k (flat x ++ rest) (state list stack p) ≡ run k rest (state (list ++ form_there k site x ∷ []) follows (p + length (flat x)))
 unfolding pass
 one_passed k x e p list stack follows site rest f v a l s =
-    let m : Measure = measure_of k.text k.by (suc p) x in
+    let m : Measure = measure_of k.text (by_of k) (suc p) x in
     let one : length (flat x) ≡ 1 = ap length f in
     let last : (suc p + length (flat x) - 1 == suc p) ≡ true = ap (λ n. suc p + n - 1 == suc p) one ∙ last_one (suc p) in
     let done : suc p + length (flat x) - 1 ≡ p + length (flat x) = omega arith in
@@ -235,7 +240,7 @@ empty_passed : (k : Known) (x : Node) (first last : EventInText) (p : ℕ) (list
     → run k (flat x ++ rest) (state list stack p) ≡ run k rest (state (list ++ (form_there k site x ∷ no_form ∷ [])) follows (p + length (flat x)))
 unfolding pass
 empty_passed k x first last p list stack follows site rest f v t h a l s =
-    let m : Measure = measure_of k.text k.by (suc p) x in
+    let m : Measure = measure_of k.text (by_of k) (suc p) x in
     let two : length (flat x) ≡ 2 = ap length f in
     let done : suc p + length (flat x) - 1 ≡ p + length (flat x) = omega arith in
     ap (λ w. run k (w ++ rest) (state list stack p)) f ∙ ap (λ w. run k (last ∷ rest) (next (given_of k) k.measures w (state list stack p))) v
@@ -270,7 +275,7 @@ mutual
   pub node_passed : (k : Known) (p : ℕ) (list : List Form) (stack follows : List LayoutFrame) (site : Site) (x : Node) (rest : List EventInText)
       → is_placed x ≡ true → Among k.events (flat x) (suc p) → length list ≡ suc p → AtSite k x (suc p) stack follows site
       → run k (flat x ++ rest) (state list stack p)
-      ≡ run k rest (state (list ++ forms k.setting site (styled k.text k.by x)) follows (p + length (flat x)))
+      ≡ run k rest (state (list ++ forms k.setting site (styled k.text (by_of k) x)) follows (p + length (flat x)))
   node_passed k p list stack follows site (scalar at props style text lines) rest h a l s =
       one_passed k (scalar at props style text lines) _ p list stack follows site rest refl refl a l s
   node_passed k p list stack follows site (alias at name) rest h a l s = one_passed k (alias at name) _ p list stack follows site rest refl refl a l s
@@ -279,42 +284,42 @@ mutual
   node_passed k p list stack follows site (sequence at flow props (item x xs)) rest h a l s =
       let whole : Node = sequence at flow props (item x xs) in
       let ys : List EventInText = flat_items (item x xs) in
-      let inner : List Form = forms_of_items k.setting site.spot.entries (styled_items k.text k.by (item x xs)) in
+      let inner : List Form = forms_of_items k.setting site.spot.entries (styled_items k.text (by_of k) (item x xs)) in
       let first : List Form = list ++ form_there k site whole ∷ [] in
       let one : length first ≡ suc (suc p) = let e = length-append list (form_there k site whole ∷ []) in omega (arith, e, l) in
       let next_to : suc p + 1 ≡ suc (suc p) = omega arith in
       let within = front ys (unplaced sequence_ends ∷ []) (after_first _ (ys ++ (unplaced sequence_ends ∷ [])) a) in
-      collection_passed k whole ys _ (unplaced sequence_ends) (length (flat_items (styled_items k.text k.by (item x xs)))) p list inner stack follows site rest
-      (sequence_is k at flow props x xs h) (items_count k.text k.by (item x xs))
-      (items_forms k.setting site.spot.entries (styled_items k.text k.by (item x xs)) ∙ items_count k.text k.by (item x xs)) a l s
+      collection_passed k whole ys _ (unplaced sequence_ends) (length (flat_items (styled_items k.text (by_of k) (item x xs)))) p list inner stack follows site rest
+      (sequence_is k at flow props x xs h) (items_count k.text (by_of k) (item x xs))
+      (items_forms k.setting site.spot.entries (styled_items k.text (by_of k) (item x xs)) ∙ items_count k.text (by_of k) (item x xs)) a l s
       (items_passed k (suc p) first follows site.spot.entries (item x xs) (unplaced sequence_ends ∷ rest) h (subst (λ i. Among k.events ys i) next_to within) one)
   node_passed k p list stack follows site (mapping at flow props no_pairs) rest h a l s =
       empty_passed k (mapping at flow props no_pairs) _ _ p list stack follows site rest refl refl h h a l s
   node_passed k p list stack follows site (mapping at flow props (pair x y ps)) rest h a l s =
       let whole : Node = mapping at flow props (pair x y ps) in
       let ys : List EventInText = flat_pairs (pair x y ps) in
-      let inner : List Form = forms_of_pairs k.setting site.spot.entries (styled_pairs k.text k.by (pair x y ps)) in
+      let inner : List Form = forms_of_pairs k.setting site.spot.entries (styled_pairs k.text (by_of k) (pair x y ps)) in
       let first : List Form = list ++ form_there k site whole ∷ [] in
       let one : length first ≡ suc (suc p) = let e = length-append list (form_there k site whole ∷ []) in omega (arith, e, l) in
       let next_to : suc p + 1 ≡ suc (suc p) = omega arith in
       let within = front ys (unplaced mapping_ends ∷ []) (after_first _ (ys ++ (unplaced mapping_ends ∷ [])) a) in
-      collection_passed k whole ys _ (unplaced mapping_ends) (length (flat_pairs (styled_pairs k.text k.by (pair x y ps)))) p list inner stack follows site rest
-      (mapping_is k at flow props x y ps h) (pairs_count k.text k.by (pair x y ps))
-      (pairs_forms k.setting site.spot.entries (styled_pairs k.text k.by (pair x y ps)) ∙ pairs_count k.text k.by (pair x y ps)) a l s
+      collection_passed k whole ys _ (unplaced mapping_ends) (length (flat_pairs (styled_pairs k.text (by_of k) (pair x y ps)))) p list inner stack follows site rest
+      (mapping_is k at flow props x y ps h) (pairs_count k.text (by_of k) (pair x y ps))
+      (pairs_forms k.setting site.spot.entries (styled_pairs k.text (by_of k) (pair x y ps)) ∙ pairs_count k.text (by_of k) (pair x y ps)) a l s
       (pairs_passed k (suc p) first follows site.spot.entries (pair x y ps) (unplaced mapping_ends ∷ rest) h (subst (λ i. Among k.events ys i) next_to within) one)
 
   items_passed : (k : Known) (p : ℕ) (list : List Form) (others : List LayoutFrame) (column : ℕ) (xs : Items) (rest : List EventInText)
       → items_are_placed xs ≡ true → Among k.events (flat_items xs) (suc p) → length list ≡ suc p
       → run k (flat_items xs ++ rest) (state list (level false column None ∷ others) p)
-      ≡ run k rest (state (list ++ forms_of_items k.setting column (styled_items k.text k.by xs)) (level false column None ∷ others) (p + length (flat_items xs)))
+      ≡ run k rest (state (list ++ forms_of_items k.setting column (styled_items k.text (by_of k) xs)) (level false column None ∷ others) (p + length (flat_items xs)))
   items_passed k p list others column no_items rest h a l =
       let done : p ≡ p + 0 = omega arith in
       ap (λ w. run k rest (state w (level false column None ∷ others) p)) (sym (append-nil list))
       ∙ ap (λ n. run k rest (state (list ++ []) (level false column None ∷ others) n)) done
   items_passed k p list others column (item x xs) rest h a l =
       let site : Site = site_at (inner_spot k.setting.style column) in
-      let fs : List Form = forms k.setting site (styled k.text k.by x) in
-      let gs : List Form = forms_of_items k.setting column (styled_items k.text k.by xs) in
+      let fs : List Form = forms k.setting site (styled k.text (by_of k) x) in
+      let gs : List Form = forms_of_items k.setting column (styled_items k.text (by_of k) xs) in
       let stack : List LayoutFrame = level false column None ∷ others in
       let here : AtSite k x (suc p) stack stack site = record { place = item_there k.setting.style column; stack_is = refl } in
       let n : length (flat x ++ flat_items xs) ≡ length (flat x) + length (flat_items xs) = length-append (flat x) (flat_items xs) in
@@ -322,28 +327,28 @@ mutual
       ap (λ w. run k w (state list stack p)) (append_assoc (flat x) (flat_items xs) rest)
       ∙ node_passed k p list stack stack site x (flat_items xs ++ rest) (and_parts _ _ h).0 (front (flat x) (flat_items xs) a) l here
       ∙ items_passed k (p + length (flat x)) (list ++ fs) others column xs rest (and_parts _ _ h).1 (moved p (length (flat x)) (back (flat x) (flat_items xs) a))
-      (longer list fs p (length (flat x)) l (node_forms k.setting site k.text k.by x))
+      (longer list fs p (length (flat x)) l (node_forms k.setting site k.text (by_of k) x))
       ∙ ap (λ w. run k rest (state w stack (p + length (flat x) + length (flat_items xs)))) (append_assoc list fs gs)
       ∙ ap (λ n. run k rest (state (list ++ (fs ++ gs)) stack n)) done
 
   pairs_passed : (k : Known) (p : ℕ) (list : List Form) (others : List LayoutFrame) (column : ℕ) (ps : Pairs) (rest : List EventInText)
       → pairs_are_placed ps ≡ true → Among k.events (flat_pairs ps) (suc p) → length list ≡ suc p
       → run k (flat_pairs ps ++ rest) (state list (level true column None ∷ others) p)
-      ≡ run k rest (state (list ++ forms_of_pairs k.setting column (styled_pairs k.text k.by ps)) (level true column None ∷ others) (p + length (flat_pairs ps)))
+      ≡ run k rest (state (list ++ forms_of_pairs k.setting column (styled_pairs k.text (by_of k) ps)) (level true column None ∷ others) (p + length (flat_pairs ps)))
   pairs_passed k p list others column no_pairs rest h a l =
       let done : p ≡ p + 0 = omega arith in
       ap (λ w. run k rest (state w (level true column None ∷ others) p)) (sym (append-nil list))
       ∙ ap (λ n. run k rest (state (list ++ []) (level true column None ∷ others) n)) done
   pairs_passed k p list others column (pair x y ps) rest h a l =
-      let X : Node = styled k.text k.by x in
-      let Y : Node = styled k.text k.by y in
-      let mx : Measure = measure_of k.text k.by (suc p) x in
+      let X : Node = styled k.text (by_of k) x in
+      let Y : Node = styled k.text (by_of k) y in
+      let mx : Measure = measure_of k.text (by_of k) (suc p) x in
       let key : PendingKey = key_of k.events (event_of x) (suc p) mx (may_be_implicit k.setting.style (up_to_greatest column) mx.can_be_kept mx.width) in
       let at_key : Site = key_site k.setting.style column X in
       let at_value : Site = value_site k.setting column X Y in
       let fx : List Form = forms k.setting at_key X in
       let fy : List Form = forms k.setting at_value Y in
-      let gs : List Form = forms_of_pairs k.setting column (styled_pairs k.text k.by ps) in
+      let gs : List Form = forms_of_pairs k.setting column (styled_pairs k.text (by_of k) ps) in
       let waiting : List LayoutFrame = level true column None ∷ others in
       let stack : List LayoutFrame = level true column (Some key) ∷ others in
       let q : ℕ = p + length (flat x) in
@@ -356,12 +361,12 @@ mutual
       let hx = (and_parts _ _ h).0 in
       let hy = (and_parts _ _ (and_parts _ _ h).1).0 in
       let hp = (and_parts _ _ (and_parts _ _ h).1).1 in
-      let lx : length (list ++ fx) ≡ suc q = longer list fx p (length (flat x)) l (node_forms k.setting at_key k.text k.by x) in
-      let ly : length ((list ++ fx) ++ fy) ≡ suc r = longer (list ++ fx) fy q (length (flat y)) lx (node_forms k.setting at_value k.text k.by y) in
+      let lx : length (list ++ fx) ≡ suc q = longer list fx p (length (flat x)) l (node_forms k.setting at_key k.text (by_of k) x) in
+      let ly : length ((list ++ fx) ++ fy) ≡ suc r = longer (list ++ fx) fy q (length (flat y)) lx (node_forms k.setting at_value k.text (by_of k) y) in
       let of_key : AtSite k x (suc p) waiting stack at_key =
-      record { place = key_there k.setting k.events k.text k.by column x (suc p); stack_is = refl } in
+      record { place = key_there k.setting k.events k.text k.others column x (suc p); stack_is = refl } in
       let of_value : AtSite k y (suc q) stack waiting at_value = record {
-        place = value_there k.setting k.events k.text k.by column X y (suc q) key hy ay (key_waits k.setting k.events k.text k.by column x (suc p) hx ax);
+        place = value_there k.setting k.events k.text k.others column X y (suc q) key hy ay (key_waits k.setting k.events k.text k.others column x (suc p) hx ax);
         stack_is = refl;
       } in
       let n : length (flat x ++ (flat y ++ flat_pairs ps)) ≡ length (flat x) + length (flat y ++ flat_pairs ps) = length-append (flat x) _ in

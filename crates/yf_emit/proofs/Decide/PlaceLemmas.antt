@@ -9,6 +9,7 @@ use Rattle.yf_emit.specs.declared.form.keys.PendingKey.{PendingKey}
 use Rattle.yf_emit.specs.declared.form.layout_context.LayoutContext.{LayoutContext}
 use Rattle.yf_emit.specs.declared.style.Style.{Style}
 use Rattle.yf_emit.specs.Passes.DecidePass as Deciding
+use Rattle.yf_emit.specs.Passes.MeasurePass.{setting}
 use Rattle.yf_emit.specs.Passes.DecidePass.{DecideInput, given, further, has_room, colon_width, is_leaf_at, comment_if, context_after, value_place, key_place, place_in_map, key_width, key_of, key_after, may_be_implicit}
 use Rattle.yf_emit.specs.NormalForms.Forms.{Site, site_at, key_site, value_site, key_comment_index, index_between, is_placed}
 use Rattle.yf_emit.specs.NormalForms.Measures.{up_to_greatest, width_if, is_one_line, measure_of, leaf_indices, first_of}
@@ -49,7 +50,7 @@ where_it_fits cs k v w true false j e n s = absurd cc
 where_it_fits cs k v w false true j e n s = absurd cc
 
 pub settled_comment : (c : LayoutSetting) (k v : Node) (spot : Spot) (j : ℕ) → key_comment_index c.comments k v ≡ Some j
-    → comment_if (is_text v || has_room c.style (up_to_greatest spot.column) (width_if (is_one_line v) (written v))) j
+    → comment_if (is_text v || has_room c.style (up_to_greatest spot.column) (width_if (is_one_line v) (written c.style v))) j
     ≡ key_comment_index c.comments k (settled c spot v)
 settled_comment c k (scalar at props style text lines) spot j e = as_it_is c.comments k (scalar at props style text lines) _ j refl e
 settled_comment c k (alias at name) spot j e = as_it_is c.comments k (alias at name) _ j refl e
@@ -113,9 +114,9 @@ implicit_site c column k v = record {
 }
 
 column_there : (c : LayoutSetting) (column : ℕ) (k v : Node) (o : Option ℕ) → key_comment_index c.comments k v ≡ o
-    → Normal.value_column c column k v ≡ (if is_some o then column + c.style.indent else column + width (written k) + width (colon_after k) + 1)
+    → Normal.value_column c column k v ≡ (if is_some o then column + c.style.indent else column + width (written c.style k) + width (colon_after k) + 1)
 column_there c column k v o e =
-    ap (λ b. if b then column + c.style.indent else column + width (written k) + width (colon_after k) + 1)
+    ap (λ b. if b then column + c.style.indent else column + width (written c.style k) + width (colon_after k) + 1)
     (sym (same_comment c.comments k v) ∙ ap (λ (w : Option ℕ). is_some w) e)
 
 abbrev node_place : ℕ → ℕ → Bool → Option ℕ → LayoutContext
@@ -128,36 +129,36 @@ same_place u v w z i = node_place (u i) (v i) (w i) (z i)
 -- a key that waits for its value
 pub record Waits (s : Style) (column : ℕ) (k : Node) (key : PendingKey) : Type 0 where
   pub implicit : key.is_implicit ≡ is_implicit s column k
-  pub width : is_implicit s column k ≡ true → key.width ≡ further (up_to_greatest (width (written k))) (width (colon_after k))
+  pub width : is_implicit s column k ≡ true → key.width ≡ further (up_to_greatest (width (written s k))) (width (colon_after k))
   pub start : key.start ≡ Normal.key_start k
 
-implicit_value : (c : LayoutSetting) (es : List EventInText) (t : List ℕ) (m : LayoutSetting) (column : ℕ) (k v : Node) (i : ℕ) (key : PendingKey) → is_placed v ≡ true
-    → Among es (flat v) i → key.width ≡ further (up_to_greatest (width (written k))) (width (colon_after k)) → key.start ≡ Normal.key_start k
-    → value_place (given c.style c.comments es) (event_of v) i (measure_of t m i v) key (up_to_greatest column)
-    ≡ place_of (implicit_site c column k (styled t m v))
-implicit_value c es t m column k v i key h a wide start =
-    ap (context_after c.style i (measure_of t m i v) key.width (up_to_greatest column) (Deciding.value_entries c.style (event_of v) (up_to_greatest column)))
-    (trailing_there c.comments es t m k i v key.start h a start) ∙ by (key_comment_index c.comments k (styled t m v)) refl where
-      leaf : is_leaf_at i (first_of (leaf_indices i v)) ≡ is_text (styled t m v)
-      leaf = is_own_leaf i v h ∙ sym (styled_text t m v)
+implicit_value : (c : LayoutSetting) (es : List EventInText) (t : List ℕ) (cs : List CommentValue) (column : ℕ) (k v : Node) (i : ℕ) (key : PendingKey) → is_placed v ≡ true
+    → Among es (flat v) i → key.width ≡ further (up_to_greatest (width (written c.style k))) (width (colon_after k)) → key.start ≡ Normal.key_start k
+    → value_place (given c.style c.comments es) (event_of v) i (measure_of t (setting c.style cs) i v) key (up_to_greatest column)
+    ≡ place_of (implicit_site c column k (styled t (setting c.style cs) v))
+implicit_value c es t cs column k v i key h a wide start =
+    ap (context_after c.style i (measure_of t (setting c.style cs) i v) key.width (up_to_greatest column) (Deciding.value_entries c.style (event_of v) (up_to_greatest column)))
+    (trailing_there c.comments es t (setting c.style cs) k i v key.start h a start) ∙ by (key_comment_index c.comments k (styled t (setting c.style cs) v)) refl where
+      leaf : is_leaf_at i (first_of (leaf_indices i v)) ≡ is_text (styled t (setting c.style cs) v)
+      leaf = is_own_leaf i v h ∙ sym (styled_text t (setting c.style cs) v)
 
-      entries : Deciding.value_entries c.style (event_of v) (up_to_greatest column) ≡ up_to_greatest (Normal.value_entries c.style column (styled t m v))
-      entries = entries_there c.style column _ _ (styled_sequence t m v)
+      entries : Deciding.value_entries c.style (event_of v) (up_to_greatest column) ≡ up_to_greatest (Normal.value_entries c.style column (styled t (setting c.style cs) v))
+      entries = entries_there c.style column _ _ (styled_sequence t (setting c.style cs) v)
 
-      by : (o : Option ℕ) → key_comment_index c.comments k (styled t m v) ≡ o
-          → context_after c.style i (measure_of t m i v) key.width (up_to_greatest column) (Deciding.value_entries c.style (event_of v) (up_to_greatest column)) o
-          ≡ place_of (implicit_site c column k (styled t m v))
+      by : (o : Option ℕ) → key_comment_index c.comments k (styled t (setting c.style cs) v) ≡ o
+          → context_after c.style i (measure_of t (setting c.style cs) i v) key.width (up_to_greatest column) (Deciding.value_entries c.style (event_of v) (up_to_greatest column)) o
+          ≡ place_of (implicit_site c column k (styled t (setting c.style cs) v))
       by None e =
-          same_place (ap (λ w. further (further (up_to_greatest column) w) 1) wide ∙ cut_sum column (width (written k)) (width (colon_after k))
-          ∙ sym (ap up_to_greatest (column_there c column k (styled t m v) None e))) entries refl
-          (settled_no_comment c k (styled t m v) (Normal.value_of_implicit c column k (styled t m v)) e)
+          same_place (ap (λ w. further (further (up_to_greatest column) w) 1) wide ∙ cut_sum column (width (written c.style k)) (width (colon_after k))
+          ∙ sym (ap up_to_greatest (column_there c column k (styled t (setting c.style cs) v) None e))) entries refl
+          (settled_no_comment c k (styled t (setting c.style cs) v) (Normal.value_of_implicit c column k (styled t (setting c.style cs) v)) e)
       by (Some j) e =
-          let there : further (up_to_greatest column) c.style.indent ≡ up_to_greatest (Normal.value_column c column k (styled t m v)) =
-          cut_twice column c.style.indent ∙ sym (ap up_to_greatest (column_there c column k (styled t m v) (Some j) e)) in
+          let there : further (up_to_greatest column) c.style.indent ≡ up_to_greatest (Normal.value_column c column k (styled t (setting c.style cs) v)) =
+          cut_twice column c.style.indent ∙ sym (ap up_to_greatest (column_there c column k (styled t (setting c.style cs) v) (Some j) e)) in
           same_place there entries refl
-          (ap (λ b. comment_if (b || has_room c.style (further (up_to_greatest column) c.style.indent) (measure_of t m i v).width) j) leaf
-          ∙ ap (λ n. comment_if (is_text (styled t m v) || has_room c.style n (measure_of t m i v).width) j) there
-          ∙ settled_comment c k (styled t m v) (Normal.value_of_implicit c column k (styled t m v)) j e)
+          (ap (λ b. comment_if (b || has_room c.style (further (up_to_greatest column) c.style.indent) (measure_of t (setting c.style cs) i v).width) j) leaf
+          ∙ ap (λ n. comment_if (is_text (styled t (setting c.style cs) v) || has_room c.style n (measure_of t (setting c.style cs) i v).width) j) there
+          ∙ settled_comment c k (styled t (setting c.style cs) v) (Normal.value_of_implicit c column k (styled t (setting c.style cs) v)) j e)
 
 -- keys and values at their sites
 
@@ -167,22 +168,22 @@ key_at : (s : Style) (column : ℕ) (b : Bool)
 key_at s column true = same_place refl (cut_twice column s.indent) refl refl
 key_at s column false = same_place (cut_twice column s.indent) (cut_twice column s.indent) refl refl
 
-pub key_there : (c : LayoutSetting) (es : List EventInText) (t : List ℕ) (m : LayoutSetting) (column : ℕ) (k : Node) (i : ℕ)
-    → place_in_map (given c.style c.comments es) (event_of k) i (measure_of t m i k) (up_to_greatest column) None
-    ≡ place_of (key_site c.style column (styled t m k))
-key_there c es t m column k i =
-    ap (key_place c.style (up_to_greatest column)) (is_implicit_there t m c.style column i k)
-    ∙ key_at c.style column (is_implicit c.style column (styled t m k))
+pub key_there : (c : LayoutSetting) (es : List EventInText) (t : List ℕ) (cs : List CommentValue) (column : ℕ) (k : Node) (i : ℕ)
+    → place_in_map (given c.style c.comments es) (event_of k) i (measure_of t (setting c.style cs) i k) (up_to_greatest column) None
+    ≡ place_of (key_site c.style column (styled t (setting c.style cs) k))
+key_there c es t cs column k i =
+    ap (key_place c.style (up_to_greatest column)) (is_implicit_there t (setting c.style cs) column i k)
+    ∙ key_at c.style column (is_implicit c.style column (styled t (setting c.style cs) k))
 
-pub key_waits : (c : LayoutSetting) (es : List EventInText) (t : List ℕ) (m : LayoutSetting) (column : ℕ) (k : Node) (i : ℕ) → is_placed k ≡ true → Among es (flat k) i
-    → Waits c.style column (styled t m k) (key_of es (event_of k) i (measure_of t m i k)
-    (may_be_implicit c.style (up_to_greatest column) (measure_of t m i k).can_be_kept (measure_of t m i k).width))
-key_waits c es t m column k i h a = record {
-  implicit = is_implicit_there t m c.style column i k;
-  width = λ e. ap (λ b. key_width (width_if b (written (styled t m k))) (colon_width (event_of k) (is_leaf_at i (first_of (leaf_indices i k)))))
-      (one_line_of_key c.style column (styled t m k) e)
-      ∙ ap (further (up_to_greatest (width (written (styled t m k))))) (colon_there t m i k h);
-  start = key_start_there es t m i k h a;
+pub key_waits : (c : LayoutSetting) (es : List EventInText) (t : List ℕ) (cs : List CommentValue) (column : ℕ) (k : Node) (i : ℕ) → is_placed k ≡ true → Among es (flat k) i
+    → Waits c.style column (styled t (setting c.style cs) k) (key_of es (event_of k) i (measure_of t (setting c.style cs) i k)
+    (may_be_implicit c.style (up_to_greatest column) (measure_of t (setting c.style cs) i k).can_be_kept (measure_of t (setting c.style cs) i k).width))
+key_waits c es t cs column k i h a = record {
+  implicit = is_implicit_there t (setting c.style cs) column i k;
+  width = λ e. ap (λ b. key_width (width_if b (written c.style (styled t (setting c.style cs) k))) (colon_width (event_of k) (is_leaf_at i (first_of (leaf_indices i k)))))
+      (one_line_of_key c.style column (styled t (setting c.style cs) k) e)
+      ∙ ap (further (up_to_greatest (width (written c.style (styled t (setting c.style cs) k))))) (colon_there t (setting c.style cs) i k h);
+  start = key_start_there es t (setting c.style cs) i k h a;
 }
 
 site_if : LayoutSetting → ℕ → Node → Node → Bool → Site
@@ -192,19 +193,19 @@ site_if c column k v b = record {
   key_comment = if b then key_comment_index c.comments k (settled c (if b then Normal.value_of_implicit c column k v else inner_spot c.style column) v) else None;
 }
 
-pub value_there : (c : LayoutSetting) (es : List EventInText) (t : List ℕ) (m : LayoutSetting) (column : ℕ) (k v : Node) (i : ℕ) (key : PendingKey) → is_placed v ≡ true
+pub value_there : (c : LayoutSetting) (es : List EventInText) (t : List ℕ) (cs : List CommentValue) (column : ℕ) (k v : Node) (i : ℕ) (key : PendingKey) → is_placed v ≡ true
     → Among es (flat v) i → Waits c.style column k key
-    → place_in_map (given c.style c.comments es) (event_of v) i (measure_of t m i v) (up_to_greatest column) (Some key)
-    ≡ place_of (value_site c column k (styled t m v))
+    → place_in_map (given c.style c.comments es) (event_of v) i (measure_of t (setting c.style cs) i v) (up_to_greatest column) (Some key)
+    ≡ place_of (value_site c column k (styled t (setting c.style cs) v))
 unfolding site_if
-value_there c es t m column k v i key h a w =
-    ap (λ b. if b then value_place (given c.style c.comments es) (event_of v) i (measure_of t m i v) key (up_to_greatest column)
+value_there c es t cs column k v i key h a w =
+    ap (λ b. if b then value_place (given c.style c.comments es) (event_of v) i (measure_of t (setting c.style cs) i v) key (up_to_greatest column)
     else Deciding.place_at (further (up_to_greatest column) c.style.indent)) w.implicit
     ∙ by (is_implicit c.style column k) refl where
       by : (b : Bool) → is_implicit c.style column k ≡ b
-          → (if b then value_place (given c.style c.comments es) (event_of v) i (measure_of t m i v) key (up_to_greatest column)
-          else Deciding.place_at (further (up_to_greatest column) c.style.indent)) ≡ place_of (site_if c column k (styled t m v) b)
-      by true e = implicit_value c es t m column k v i key h a (w.width e) w.start
+          → (if b then value_place (given c.style c.comments es) (event_of v) i (measure_of t (setting c.style cs) i v) key (up_to_greatest column)
+          else Deciding.place_at (further (up_to_greatest column) c.style.indent)) ≡ place_of (site_if c column k (styled t (setting c.style cs) v) b)
+      by true e = implicit_value c es t cs column k v i key h a (w.width e) w.start
       by false e = same_place (cut_twice column c.style.indent) (cut_twice column c.style.indent) refl refl
 
 pub item_there : (s : Style) (column : ℕ) → Deciding.place_at (further (up_to_greatest column) s.indent) ≡ place_of (site_at (inner_spot s column))

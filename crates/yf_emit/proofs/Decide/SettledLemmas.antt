@@ -64,11 +64,11 @@ settled_key c column (alias at name) = refl
 settled_key c column (sequence at flow props no_items) = refl
 settled_key c column (sequence at flow props (item x xs)) =
     filled_key c.style column flow (sequence at flow props (item x xs)) _
-    (twice (is_one_line_key c.style column (sequence at flow props (item x xs))) (nat_le (width (written (sequence at flow props (item x xs)))) 1023)) refl
+    (twice (is_one_line_key c.style column (sequence at flow props (item x xs))) (nat_le (width (written c.style (sequence at flow props (item x xs)))) 1023)) refl
 settled_key c column (mapping at flow props no_pairs) = refl
 settled_key c column (mapping at flow props (pair k v ps)) =
     filled_key c.style column flow (mapping at flow props (pair k v ps)) _
-    (twice (is_one_line_key c.style column (mapping at flow props (pair k v ps))) (nat_le (width (written (mapping at flow props (pair k v ps)))) 1023)) refl
+    (twice (is_one_line_key c.style column (mapping at flow props (pair k v ps))) (nat_le (width (written c.style (mapping at flow props (pair k v ps)))) 1023)) refl
 
 -- entries
 

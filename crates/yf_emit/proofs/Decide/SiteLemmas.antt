@@ -51,20 +51,20 @@ filled_one_line (mapping at flow props no_pairs) e = absurd cc
 filled_one_line (mapping at flow props (pair k v ps)) e = e
 
 room_of : (s : Style) (column : ℕ) (x : Node) → is_one_line x ≡ true
-    → has_room s (up_to_greatest column) (width_if (is_one_line x) (written x)) ≡ fits s column x
-room_of s column x e = ap (λ b. has_room s (up_to_greatest column) (width_if b (written x))) e ∙ cut_room s column (width (written x))
+    → has_room s (up_to_greatest column) (width_if (is_one_line x) (written s x)) ≡ fits s column x
+room_of s column x e = ap (λ b. has_room s (up_to_greatest column) (width_if b (written s x))) e ∙ cut_room s column (width (written s x))
 
 -- a flow collection with entries has room where it fits
 pub filled_room : (s : Style) (column : ℕ) (x : Node) → is_filled_flow x ≡ true
-    → has_room s (up_to_greatest column) (width_if (is_one_line x) (written x)) ≡ fits s column x
+    → has_room s (up_to_greatest column) (width_if (is_one_line x) (written s x)) ≡ fits s column x
 filled_room s column x e = room_of s column x (filled_one_line x e)
 
-pub is_kept_there : (t : List ℕ) (m : LayoutSetting) (s : Style) (spot : Spot) (i : ℕ) (x : Node)
-    → is_kept s (up_to_greatest spot.column) (measure_of t m i x) ≡ is_kept_at s spot (styled t m x)
-is_kept_there t m s spot i x = rw (can_be_kept t m x) (by (is_filled_flow (styled t m x)) refl) where
+pub is_kept_there : (t : List ℕ) (m : LayoutSetting) (spot : Spot) (i : ℕ) (x : Node)
+    → is_kept m.style (up_to_greatest spot.column) (measure_of t m i x) ≡ is_kept_at m.style spot (styled t m x)
+is_kept_there t m spot i x = rw (can_be_kept t m x) (by (is_filled_flow (styled t m x)) refl) where
   by : (b : Bool) → is_filled_flow (styled t m x) ≡ b
-      → (b && has_room s (up_to_greatest spot.column) (width_if (is_one_line (styled t m x)) (written (styled t m x)))) ≡ (b && fits s spot.column (styled t m x))
-  by true e = filled_room s spot.column (styled t m x) e
+      → (b && has_room m.style (up_to_greatest spot.column) (width_if (is_one_line (styled t m x)) (written m.style (styled t m x)))) ≡ (b && fits m.style spot.column (styled t m x))
+  by true e = filled_room m.style spot.column (styled t m x) e
   by false e = refl
 
 -- an implicit key is found by its width
@@ -78,10 +78,10 @@ implicit_leaf s column text true = rw (cut_key (width text)) (by (nat_le (width 
   by false = refl
 
 implicit_filled : (s : Style) (column : ℕ) (x : Node) (b : Bool)
-    → may_be_implicit s (up_to_greatest column) b (width_if b (written x)) ≡ ((b && fits s column x) && nat_le (width (written x)) 1023)
+    → may_be_implicit s (up_to_greatest column) b (width_if b (written s x)) ≡ ((b && fits s column x) && nat_le (width (written s x)) 1023)
 implicit_filled s column x false = refl
 implicit_filled s column x true =
-    rw (cut_key (width (written x)), cut_room s column (width (written x))) (by (nat_le (width (written x)) 1023) (fits s column x)) where
+    rw (cut_key (width (written s x)), cut_room s column (width (written s x))) (by (nat_le (width (written s x)) 1023) (fits s column x)) where
       by : (b c : Bool) → (if not b then false else c) ≡ (c && b)
       by true true = refl
       by true false = refl
@@ -89,7 +89,7 @@ implicit_filled s column x true =
       by false false = refl
 
 implicit_styled : (s : Style) (column : ℕ) (x : Node)
-    → may_be_implicit s (up_to_greatest column) (is_filled_flow x) (width_if (is_one_line x) (written x)) ≡ is_implicit s column x
+    → may_be_implicit s (up_to_greatest column) (is_filled_flow x) (width_if (is_one_line x) (written s x)) ≡ is_implicit s column x
 implicit_styled s column (scalar at props Plain text lines) = implicit_leaf s column _ true
 implicit_styled s column (scalar at props Single text lines) = implicit_leaf s column _ true
 implicit_styled s column (scalar at props Double text lines) = implicit_leaf s column _ true
@@ -101,8 +101,8 @@ implicit_styled s column (sequence at flow props (item x xs)) = implicit_filled 
 implicit_styled s column (mapping at flow props no_pairs) = implicit_leaf s column _ true
 implicit_styled s column (mapping at flow props (pair k v ps)) = implicit_filled s column (mapping at flow props (pair k v ps)) flow
 
-pub is_implicit_there : (t : List ℕ) (m : LayoutSetting) (s : Style) (column i : ℕ) (x : Node)
-    → may_be_implicit s (up_to_greatest column) (measure_of t m i x).can_be_kept (measure_of t m i x).width ≡ is_implicit s column (styled t m x)
-is_implicit_there t m s column i x =
-    ap (λ b. may_be_implicit s (up_to_greatest column) b (width_if (is_one_line (styled t m x)) (written (styled t m x)))) (can_be_kept t m x)
-    ∙ implicit_styled s column (styled t m x)
+pub is_implicit_there : (t : List ℕ) (m : LayoutSetting) (column i : ℕ) (x : Node)
+    → may_be_implicit m.style (up_to_greatest column) (measure_of t m i x).can_be_kept (measure_of t m i x).width ≡ is_implicit m.style column (styled t m x)
+is_implicit_there t m column i x =
+    ap (λ b. may_be_implicit m.style (up_to_greatest column) b (width_if (is_one_line (styled t m x)) (written m.style (styled t m x)))) (can_be_kept t m x)
+    ∙ implicit_styled m.style column (styled t m x)

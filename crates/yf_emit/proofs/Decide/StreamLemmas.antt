@@ -2,6 +2,7 @@
 use Rattle.std.proofs.Common.{◌≡◌, ℕ, suc, ◌+◌, true, List, [], ◌∷◌, ◌++◌, length, flat_map, refl, sym, ap, ◌∙◌, subst, arith, append_assoc, append-nil}
 use Rattle.std.proofs.lemmas.Bool.{and_parts}
 use Rattle.std.proofs.lemmas.List.{length-append}
+use Rattle.yf_comments.specs.Comment.{CommentValue}
 use Rattle.yf_events.specs.Event.{EventInText, stream_starts, stream_ends, document_starts, document_ends}
 use Rattle.yf_events.specs.declared.lists.Lists.{Lists}
 use Rattle.yf_emit.specs.declared.form.decide.Form.{Form}
@@ -14,7 +15,7 @@ use Rattle.yf_emit.specs.NormalForms.Normal.{LayoutSetting, setting_of, root_spo
 use Rattle.yf_events.specs.Tree.{DocumentTree, TreesOf, flat, flat_document, flat_stream, unplaced}
 use Rattle.yf_emit.proofs.Decide.AmongLemmas.{Among, front, back, after_first}
 use Rattle.yf_emit.proofs.Decide.CountLemmas.{node_forms}
-use Rattle.yf_emit.proofs.Decide.FormLemmas.{Known, given_of, run, enclosed, AtSite, node_passed}
+use Rattle.yf_emit.proofs.Decide.FormLemmas.{by_of, Known, given_of, run, enclosed, AtSite, node_passed}
 use Rattle.yf_emit.proofs.Decide.RunLemmas.{looked_at, passed_over}
 
 root_site : Known → Site
@@ -27,17 +28,17 @@ root_there k d i = record { place = refl; stack_is = refl }
 document_passed : (k : Known) (p : ℕ) (list : List Form) (d : DocumentTree) (rest : List EventInText) → is_placed d.root ≡ true
     → Among k.events (flat_document d) (suc p) → length list ≡ suc p
     → run k (flat_document d ++ rest) (state list [] p)
-    ≡ run k rest (state (list ++ document_forms k.text k.by k.setting d) [] (p + length (flat_document d)))
+    ≡ run k rest (state (list ++ document_forms k.text (by_of k) k.setting d) [] (p + length (flat_document d)))
 unfolding pass root_site
 document_passed k p list d rest h a l =
     let start : EventInText = unplaced (document_starts d.marked) in
     let end : EventInText = unplaced (document_ends d.closed) in
     let first : List Form = list ++ no_form ∷ [] in
-    let fs : List Form = forms k.setting (root_site k) (styled k.text k.by d.root) in
+    let fs : List Form = forms k.setting (root_site k) (styled k.text (by_of k) d.root) in
     let all : List Form = first ++ fs in
     let one : length first ≡ length list + 1 = length-append list (no_form ∷ []) in
     let one' : length first ≡ suc (suc p) = omega (arith, one, l) in
-    let n : length fs ≡ length (flat d.root) = node_forms k.setting (root_site k) k.text k.by d.root in
+    let n : length fs ≡ length (flat d.root) = node_forms k.setting (root_site k) k.text (by_of k) d.root in
     let count : length all ≡ length first + length fs = length-append first fs in
     let inner : length (flat d.root ++ (end ∷ [])) ≡ length (flat d.root) + 1 = length-append (flat d.root) (end ∷ []) in
     let done : length all ≡ p + length (flat_document d) = omega (arith, count, one, n, inner, l) in
@@ -51,23 +52,23 @@ document_passed k p list d rest h a l =
     ∙ ap (λ w. run k rest (state w [] (length all))) (enclosed list fs no_form no_form)
     ∙ ap (λ n. run k rest (state (list ++ (no_form ∷ (fs ++ (no_form ∷ [])))) [] n)) done
 
-document_count : (k : Known) (d : DocumentTree) → length (document_forms k.text k.by k.setting d) ≡ length (flat_document d)
+document_count : (k : Known) (d : DocumentTree) → length (document_forms k.text (by_of k) k.setting d) ≡ length (flat_document d)
 unfolding root_site
 document_count k d =
-    let fs : List Form = forms k.setting (root_site k) (styled k.text k.by d.root) in
-    let n : length fs ≡ length (flat d.root) = node_forms k.setting (root_site k) k.text k.by d.root in
+    let fs : List Form = forms k.setting (root_site k) (styled k.text (by_of k) d.root) in
+    let n : length fs ≡ length (flat d.root) = node_forms k.setting (root_site k) k.text (by_of k) d.root in
     let a : length (fs ++ (no_form ∷ [])) ≡ length fs + 1 = length-append fs (no_form ∷ []) in
     let b : length (flat d.root ++ (unplaced (document_ends d.closed) ∷ [])) ≡ length (flat d.root) + 1 = length-append (flat d.root) _ in
     omega (arith, n, a, b)
 
 documents_count : (k : Known) (ds : List DocumentTree)
-    → length (flat_map (document_forms k.text k.by k.setting) ds) ≡ length (flat_map flat_document ds)
+    → length (flat_map (document_forms k.text (by_of k) k.setting) ds) ≡ length (flat_map flat_document ds)
 documents_count k [] = refl
 documents_count k (d ∷ ds) =
     let a = document_count k d in
     let b = documents_count k ds in
-    let e : length (document_forms k.text k.by k.setting d ++ flat_map (document_forms k.text k.by k.setting) ds)
-    ≡ length (document_forms k.text k.by k.setting d) + length (flat_map (document_forms k.text k.by k.setting) ds) = length-append (document_forms k.text k.by k.setting d) _ in
+    let e : length (document_forms k.text (by_of k) k.setting d ++ flat_map (document_forms k.text (by_of k) k.setting) ds)
+    ≡ length (document_forms k.text (by_of k) k.setting d) + length (flat_map (document_forms k.text (by_of k) k.setting) ds) = length-append (document_forms k.text (by_of k) k.setting d) _ in
     let f : length (flat_document d ++ flat_map flat_document ds) ≡ length (flat_document d) + length (flat_map flat_document ds) =
     length-append (flat_document d) _ in
     omega (arith, a, b, e, f)
@@ -75,15 +76,15 @@ documents_count k (d ∷ ds) =
 documents_passed : (k : Known) (p : ℕ) (list : List Form) (ds : List DocumentTree) (rest : List EventInText) → documents_are_placed ds ≡ true
     → Among k.events (flat_map flat_document ds) (suc p) → length list ≡ suc p
     → run k (flat_map flat_document ds ++ rest) (state list [] p)
-    ≡ run k rest (state (list ++ flat_map (document_forms k.text k.by k.setting) ds) [] (p + length (flat_map flat_document ds)))
+    ≡ run k rest (state (list ++ flat_map (document_forms k.text (by_of k) k.setting) ds) [] (p + length (flat_map flat_document ds)))
 documents_passed k p list [] rest h a l =
     let done : p ≡ p + 0 = omega arith in
     ap (λ w. run k rest (state w [] p)) (sym (append-nil list)) ∙ ap (λ n. run k rest (state (list ++ []) [] n)) done
 documents_passed k p list (d ∷ ds) rest h a l =
     let es : List EventInText = flat_document d in
     let more : List EventInText = flat_map flat_document ds in
-    let fs : List Form = document_forms k.text k.by k.setting d in
-    let gs : List Form = flat_map (document_forms k.text k.by k.setting) ds in
+    let fs : List Form = document_forms k.text (by_of k) k.setting d in
+    let gs : List Form = flat_map (document_forms k.text (by_of k) k.setting) ds in
     let moved : suc p + length es ≡ suc (p + length es) = omega arith in
     let longer : length (list ++ fs) ≡ length list + length fs = length-append list fs in
     let count = document_count k d in
@@ -96,12 +97,12 @@ documents_passed k p list (d ∷ ds) rest h a l =
     ∙ ap (λ n. run k rest (state (list ++ (fs ++ gs)) [] n)) done
 
 stream_passed : (k : Known) (ds : List DocumentTree) → k.events ≡ flat_stream ds → documents_are_placed ds ≡ true
-    → (run k (flat_stream ds) (state [] [] 0)).list ≡ stream_forms k.text k.by k.setting ds
+    → (run k (flat_stream ds) (state [] [] 0)).list ≡ stream_forms k.text (by_of k) k.setting ds
 unfolding pass
 stream_passed k ds e h =
     let end : EventInText = unplaced stream_ends in
     let es : List EventInText = flat_map flat_document ds in
-    let fs : List Form = flat_map (document_forms k.text k.by k.setting) ds in
+    let fs : List Form = flat_map (document_forms k.text (by_of k) k.setting) ds in
     let all : List Form = no_form ∷ fs in
     let whole : Among k.events (flat_stream ds) 0 = record { before = []; after = []; is = e ∙ sym (append-nil (flat_stream ds)); index = refl } in
     let within : Among k.events es 1 = front es (end ∷ []) (after_first (unplaced stream_starts) (es ++ (end ∷ [])) whole) in
@@ -114,9 +115,9 @@ stream_passed k ds e h =
     ∙ looked_at (given_of k) k.measures stream_ends (length all) all [] (0 + length es) (omega (arith, same)) refl)
 
 -- the pass over a reading's events gives the forms of its trees
-pub decides : (r : Lists) (s : Style) (ms : List Measure) (t : List ℕ) (m : LayoutSetting) (ds : List DocumentTree) → TreesOf r ds
-    → documents_are_placed ds ≡ true → AreMeasures t m r.events ms
-    → (pass (given s r.comments r.events) ms r.events (state [] [] 0)).list ≡ stream_forms t m (setting_of r s) ds
-decides r s ms t m ds trees h measured =
+pub decides : (r : Lists) (s : Style) (ms : List Measure) (t : List ℕ) (cs : List CommentValue) (ds : List DocumentTree) → TreesOf r ds
+    → documents_are_placed ds ≡ true → AreMeasures t (record { style = s; comments = cs }) r.events ms
+    → (pass (given s r.comments r.events) ms r.events (state [] [] 0)).list ≡ stream_forms t (record { style = s; comments = cs }) (setting_of r s) ds
+decides r s ms t cs ds trees h measured =
     ap (λ es. (pass (given s r.comments r.events) ms es (state [] [] 0)).list) trees.events
-    ∙ stream_passed (record { text = t; by = m; setting = setting_of r s; events = r.events; measures = ms; measured = measured }) ds trees.events h
+    ∙ stream_passed (record { text = t; others = cs; setting = setting_of r s; events = r.events; measures = ms; measured = measured }) ds trees.events h

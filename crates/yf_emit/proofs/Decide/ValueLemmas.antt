@@ -11,7 +11,7 @@ use Rattle.yf_events.specs.declared.event.Span.{Span}
 use Rattle.yf_lines.specs.Steady.{is_steady, has_line_feed, ends_with_colon, is_only, is_marker_of}
 use Rattle.yf_lines.specs.declared.quotes.Quotes.{Quotes}
 use Rattle.yf_props.specs.Props.{PropsValue}
-use Rattle.yf_quoted.specs.Written.{quotes_for}
+use Rattle.yf_quoted.specs.Written.{quotes_in}
 use Rattle.yf_emit.specs.Passes.DecidePass as Deciding
 use Rattle.yf_emit.specs.Passes.DecidePass.{DecideInput, given, further, has_room, has_space, colon_width, is_leaf_at, leaf_start, start_or, start_of_entry, comment_between, comment_if, context_after, value_place}
 use Rattle.yf_emit.specs.NormalForms.Forms.{index_between, key_comment_index, is_placed, is_empty_node, is_nothing, agree}
@@ -108,23 +108,23 @@ one_colon text e = sym (ap width e)
 
 scalar_colon : (t : List ℕ) (m : LayoutSetting) (at : NodeOffsets) (props : PropsValue) (style : ScalarStyle) (text : List ℕ) (lines : List (List ℕ))
     → is_some at.span ≡ not (is_empty_node props style text)
-    → colon_width (scalar_node props style text) (is_some at.span) ≡ width (colon_after (scalar at props (wanted style text m.style.quotes) text lines))
+    → colon_width (scalar_node props style text) (is_some at.span) ≡ width (colon_after (scalar at props (wanted style text m.style) text lines))
 scalar_colon t m at props Plain [] lines h =
     ap (λ b. if b then 2 else 1) h ∙ colon_of_props (props_text props)
-    ∙ ap (λ b. width (colon_after (scalar at props (if b then Plain else quoted_in [] m.style.quotes) [] lines))) (sym nothing_steady)
-scalar_colon t m at props Single [] lines h = one_colon _ (colon_in_quotes at props [] lines (quotes_for (chars []) m.style.quotes))
-scalar_colon t m at props Double [] lines h = one_colon _ (colon_in_quotes at props [] lines (quotes_for (chars []) m.style.quotes))
-scalar_colon t m at props Literal [] lines h = one_colon _ (colon_in_quotes at props [] lines (quotes_for (chars []) m.style.quotes))
-scalar_colon t m at props Folded [] lines h = one_colon _ (colon_in_quotes at props [] lines (quotes_for (chars []) m.style.quotes))
-scalar_colon t m at props Plain (b ∷ text) lines h = one_colon _ (colon_after_text at props b text lines (wanted Plain (b ∷ text) m.style.quotes))
-scalar_colon t m at props Single (b ∷ text) lines h = one_colon _ (colon_after_text at props b text lines (wanted Single (b ∷ text) m.style.quotes))
-scalar_colon t m at props Double (b ∷ text) lines h = one_colon _ (colon_after_text at props b text lines (wanted Double (b ∷ text) m.style.quotes))
-scalar_colon t m at props Literal (b ∷ text) lines h = one_colon _ (colon_after_text at props b text lines (wanted Literal (b ∷ text) m.style.quotes))
-scalar_colon t m at props Folded (b ∷ text) lines h = one_colon _ (colon_after_text at props b text lines (wanted Folded (b ∷ text) m.style.quotes))
+    ∙ ap (λ b. width (colon_after (scalar at props (if b then Plain else quoted_in [] m.style) [] lines))) (sym nothing_steady)
+scalar_colon t m at props Single [] lines h = one_colon _ (colon_in_quotes at props [] lines (quotes_in m.style.invisible (chars []) m.style.quotes))
+scalar_colon t m at props Double [] lines h = one_colon _ (colon_in_quotes at props [] lines (quotes_in m.style.invisible (chars []) m.style.quotes))
+scalar_colon t m at props Literal [] lines h = one_colon _ (colon_in_quotes at props [] lines (quotes_in m.style.invisible (chars []) m.style.quotes))
+scalar_colon t m at props Folded [] lines h = one_colon _ (colon_in_quotes at props [] lines (quotes_in m.style.invisible (chars []) m.style.quotes))
+scalar_colon t m at props Plain (b ∷ text) lines h = one_colon _ (colon_after_text at props b text lines (wanted Plain (b ∷ text) m.style))
+scalar_colon t m at props Single (b ∷ text) lines h = one_colon _ (colon_after_text at props b text lines (wanted Single (b ∷ text) m.style))
+scalar_colon t m at props Double (b ∷ text) lines h = one_colon _ (colon_after_text at props b text lines (wanted Double (b ∷ text) m.style))
+scalar_colon t m at props Literal (b ∷ text) lines h = one_colon _ (colon_after_text at props b text lines (wanted Literal (b ∷ text) m.style))
+scalar_colon t m at props Folded (b ∷ text) lines h = one_colon _ (colon_after_text at props b text lines (wanted Folded (b ∷ text) m.style))
 
 colon_of : (t : List ℕ) (m : LayoutSetting) (x : Node) → is_placed x ≡ true → colon_width (event_of x) (is_text x) ≡ width (colon_after (styled t m x))
 unfolding chars
-colon_of t m (scalar at props style text lines) h = scalar_colon t m at props style text (lines_in (wanted style text m.style.quotes) lines) (agreed _ _ h)
+colon_of t m (scalar at props style text lines) h = scalar_colon t m at props style text (lines_in (wanted style text m.style) lines) (agreed _ _ h)
 colon_of t m (alias at name) h = refl
 colon_of t m (sequence at flow props no_items) h = refl
 colon_of t m (sequence at flow props (item x xs)) h = refl

@@ -155,7 +155,7 @@ found_bare m s f =
 -- Its documents.
 
 record FormDocuments (m : Lists) (s : Style) (ds : List DocumentTree) : Type 0 where
-  fits : FitDocuments m.documents ds
+  fits : FitDocuments s m.documents ds
   bare : FitsBare (is_found_bare m s) m.documents ds
 
 form_documents : (m : Lists) (s : Style) (f : NormalForm m s) (ds : List DocumentTree) → TreesOf m ds → FormDocuments m s ds
@@ -166,18 +166,18 @@ form_documents m s f ds a =
     let b = is_found_bare m s in
     let same : trees ≡ ds = trees_unique m trees ds (trees_of f) a in
     record {
-      fits = subst (λ xs. FitDocuments m.documents xs) same (subst (λ es. FitDocuments es trees) (sym documents) (reading_fits f.utf8 f.text c f.reads f.is.of_reading));
+      fits = subst (λ xs. FitDocuments s m.documents xs) same (subst (λ es. FitDocuments s es trees) (sym documents) (reading_fits f.utf8 f.text c f.reads f.is.of_reading));
       bare = subst (λ xs. FitsBare b m.documents xs) same (subst (λ es. FitsBare b es trees) (sym documents)
           (reading_bare f.utf8 f.text c b f.reads f.is.of_reading (λ e. sym (reading_begins f.reads) ∙ (sym (normal_begins f.is) ∙ bare_begins m s (sym (found_bare m s f) ∙ e)))));
     }
 
-pub rows_some : (c : LayoutSetting) {x : _} → Fit x → is_some (standing x).span ≡ true → rows c (root_spot c.style) x ≡ [] → ⊥
+pub rows_some : (c : LayoutSetting) {x : _} → Fit c.style x → is_some (standing x).span ≡ true → rows c (root_spot c.style) x ≡ [] → ⊥
 rows_some c {x} fit some e = by (node_claim c (root_spot c.style) fit) e where
   by : {rs : List _} → Claim c x (root_spot c.style) rs → rs ≡ [] → ⊥
   by (no_row m) e = true≢false (sym some ∙ meant_none 0 (m.meant 0))
   by (some_rows f g m) e = cc
 
-pub laid_by : (c : LayoutSetting) (b : Bool) {es : List Doc} {xs : List DocumentTree} → FitDocuments es xs → FitsBare b es xs → RootsLaid c b xs
+pub laid_by : (c : LayoutSetting) (b : Bool) {es : List Doc} {xs : List DocumentTree} → FitDocuments c.style es xs → FitsBare b es xs → RootsLaid c b xs
 laid_by c false fits bare = tt
 laid_by c true fit_no_documents bare = elim bare [ ]
 laid_by c true (fit_document g fit more) (fits_bare none some) = rows_some c fit some

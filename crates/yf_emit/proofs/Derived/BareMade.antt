@@ -164,13 +164,13 @@ column_of : (c : LayoutSetting) (x : Node) (y : Row) (b : Bool) → begins_below
 column_of c x y true e f g = g e
 column_of c x y false e f g = f e
 
-pub bare_row : (c : LayoutSetting) (x : DocumentTree) → is_some (standing x.root).span ≡ true → Fit x.root → BareRow (root_rows c x)
+pub bare_row : (c : LayoutSetting) (x : DocumentTree) → is_some (standing x.root).span ≡ true → Fit c.style x.root → BareRow (root_rows c x)
 bare_row c x some fit = by (node_claim c (root_spot c.style) fit) where
   by : {rs : List Row} → Claim c x.root (root_spot c.style) rs → BareRow rs
   by (no_row m) = absurd (true≢false (sym some ∙ meant_none 0 (m.meant 0)))
   by (some_rows {r = y} {rs = ys} f g m) = record { row = y; others = ys; are = refl; column = column_of c x.root y (begins_below x.root) refl f g }
 
-pub bare_made : {t : List ℕ} (c : LayoutSetting) {d : Doc} (x : DocumentTree) (start : ℕ) (ds : List Deco) (r : List ℕ) (q : ℕ) → d.directives ≡ [] → is_some (standing x.root).span ≡ true → Fit x.root → IsUtf8 t → AreDecos ds
+pub bare_made : {t : List ℕ} (c : LayoutSetting) {d : Doc} (x : DocumentTree) (start : ℕ) (ds : List Deco) (r : List ℕ) (q : ℕ) → d.directives ≡ [] → is_some (standing x.root).span ≡ true → Fit c.style x.root → IsUtf8 t → AreDecos ds
     → LineStart t q → Calm (begun_at start (root_rows c x)) ds r → Rest t q (lines_then (begun_at start (root_rows c x)) ds r) → FirstMade t c true d x (begun_at start (root_rows c x)) ds q r
 bare_made {t} c {d} x start ds r q none some fit u a line k w = by (node_claim c (root_spot c.style) fit) (row_texts c (root_spot c.style) (root_deep c) fit) (rows_none c (root_spot c.style) x.root) k w where
   by : {rs : List Row} → Claim c x.root (root_spot c.style) rs → AreRowTexts rs → NoStarts rs → Calm (begun_at start rs) ds r → Rest t q (lines_then (begun_at start rs) ds r) → FirstMade t c true d x (begun_at start rs) ds q r

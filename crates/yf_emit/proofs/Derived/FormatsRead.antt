@@ -5,7 +5,6 @@ use Rattle.std.specs.Str.{IsUtf8}
 use Rattle.yf_chars.specs.Chain.{Chain}
 use Rattle.yf_lines.specs.Basic.{LineStart}
 use Rattle.yf_lines.specs.Rest.{Rest}
-use Rattle.yf_lines.specs.declared.quotes.Quotes.{Quotes}
 use Rattle.yf_comments.specs.Comment.{CommentValue}
 use Rattle.yf_comments.specs.Comments.{CommentLine}
 use Rattle.yf_comments.specs.GapLines.{remarks_of}
@@ -119,7 +118,7 @@ root_tall t c d = settled_tall c (root_spot c.style) (styled t c d.root) ∙ sty
 
 -- Signs: neither do they change what the rules ask of an event.
 
-restyled_sign : (q : Quotes) (flow : Bool) (v : EventValue) → sign (restyled_event q flow v) ≡ sign v
+restyled_sign : (q : Style) (flow : Bool) (v : EventValue) → sign (restyled_event q flow v) ≡ sign v
 restyled_sign q flow stream_starts = refl
 restyled_sign q flow stream_ends = refl
 restyled_sign q flow (document_starts marked) = refl
@@ -131,7 +130,7 @@ restyled_sign q flow mapping_ends = refl
 restyled_sign q flow (scalar_node props style text) = refl
 restyled_sign q flow (alias_node name) = refl
 
-restyled_signs : {q : Quotes} {es fs : List EventInText} → SameButStyles q es fs → signs es ≡ signs fs
+restyled_signs : {q : Style} {es fs : List EventInText} → SameButStyles q es fs → signs es ≡ signs fs
 restyled_signs none_left = refl
 restyled_signs {q} (one_more {e = e} {es = es} flow a) =
     ap (λ w. w ∷ signs es) (sym (restyled_sign q flow e.event)) ∙ ap (λ w. sign (restyled_event q flow e.event) ∷ w) (restyled_signs a)
@@ -169,11 +168,11 @@ reading_meant : {t : List ℕ} {r : Lists} {trees : List DocumentTree} → IsUtf
 reading_meant {t} {r} {trees} u a of_reading =
     let w = reading_is_at u a in subst (λ xs. TreesMeant a.derived.documents xs) (trees_unique r w.trees trees w.of_reading of_reading) w.meant
 
-pub formats_fit : {t u : List ℕ} {s : Style} → IsUtf8 t → (f : IsFormatting t s u) → FitDocuments f.normal.documents f.writes.trees
+pub formats_fit : {t u : List ℕ} {s : Style} → IsUtf8 t → (f : IsFormatting t s u) → FitDocuments s f.normal.documents f.writes.trees
 formats_fit {t} {u} {s} utf8 f =
     let n = normal_trees f in
-    subst (λ xs. FitDocuments f.normal.documents xs) (sym n.same)
-    (subst (λ ds. FitDocuments ds (map (normal_document t (setting_of f.reading s)) n.trees)) (sym n.documents) (reading_fits utf8 t (setting_of f.reading s) f.reads n.of_reading))
+    subst (λ xs. FitDocuments s f.normal.documents xs) (sym n.same)
+    (subst (λ ds. FitDocuments s ds (map (normal_document t (setting_of f.reading s)) n.trees)) (sym n.documents) (reading_fits utf8 t (setting_of f.reading s) f.reads n.of_reading))
 
 -- and a first document without a `---` may be laid out without one
 pub formats_bare : {t u : List ℕ} {s : Style} → IsUtf8 t → (f : IsFormatting t s u) → FitsBare (is_bare f.normal s) f.normal.documents f.writes.trees

@@ -296,27 +296,27 @@ value_made {t} {s} {v} {spot} {q = q} {a = h} {found = found} {ls = ls} column t
 module _ {s : LayoutSetting} {k v : Node} {spot : Spot} {rs : List Row} (column : ℕ) (items : List ℕ) (leaves : List Span) (blank : Bool) (o : Option CommentValue) (below : Bool)
     (value : Claim s v spot rs) (same : below ≡ begins_below v) (deep : is_some o ≡ true → begins_below v ≡ false → column + 1 ≤ spot.column) (stood : Stood s v (pos column) BlockOut spot)
     (is_spot : spot ≡ value_of_implicit s column k v) (implicit : is_implicit s.style column k ≡ true) (flag : is_some o ≡ is_some (key_comment s.comments k v)) where
-  pub keyed_makes : KeyNode k → length leaves ≡ length (leaves_of k) → length (chars (written k)) ≤ 1023
-      → EntryMakes s false column (max (tall k) (tall v)) (λ t m ps. FoundPair t s column k v m ps) (after_key (key_head column (written k ++ colon_after k) items leaves blank) o below rs)
-  keyed_makes n count l = record { starts = after_begins column (written k ++ colon_after k) items leaves blank o below rs; made = made } where
-    made : {t : List ℕ} (ds : List Deco) (r : List ℕ) (q : ℕ) → IsUtf8 t → AreDecos ds → Calm (after_key (key_head column (written k ++ colon_after k) items leaves blank) o below rs) ds r
-        → Rest t q (inline_then (after_key (key_head column (written k ++ colon_after k) items leaves blank) o below rs) ds r)
-        → EntryMade s false column (max (tall k) (tall v)) (λ t m ps. FoundPair t s column k v m ps) t (after_key (key_head column (written k ++ colon_after k) items leaves blank) o below rs) ds q r
+  pub keyed_makes : KeyNode s.style k → length leaves ≡ length (leaves_of k) → length (chars (written s.style k)) ≤ 1023
+      → EntryMakes s false column (max (tall k) (tall v)) (λ t m ps. FoundPair t s column k v m ps) (after_key (key_head column (written s.style k ++ colon_after k) items leaves blank) o below rs)
+  keyed_makes n count l = record { starts = after_begins column (written s.style k ++ colon_after k) items leaves blank o below rs; made = made } where
+    made : {t : List ℕ} (ds : List Deco) (r : List ℕ) (q : ℕ) → IsUtf8 t → AreDecos ds → Calm (after_key (key_head column (written s.style k ++ colon_after k) items leaves blank) o below rs) ds r
+        → Rest t q (inline_then (after_key (key_head column (written s.style k ++ colon_after k) items leaves blank) o below rs) ds r)
+        → EntryMade s false column (max (tall k) (tall v)) (λ t m ps. FoundPair t s column k v m ps) t (after_key (key_head column (written s.style k ++ colon_after k) items leaves blank) o below rs) ds q r
     made {t} ds r q u a calm w =
-        let shaped : Rest t q (written k ++ (colon_after k ++ after_then o below rs ds r)) =
-        subst (λ z. Rest t q z) (after_inline column (written k ++ colon_after k) items leaves blank o below rs ds r ∙ append_assoc (written k) (colon_after k) (after_then o below rs ds r)) w in
-        let key = key_made q (after_then o below rs ds r) (colon_after k) n.node n.colon l u shaped in
+        let shaped : Rest t q (written s.style k ++ (colon_after k ++ after_then o below rs ds r)) =
+        subst (λ z. Rest t q z) (after_inline column (written s.style k ++ colon_after k) items leaves blank o below rs ds r ∙ append_assoc (written s.style k) (colon_after k) (after_then o below rs ds r)) w in
+        let key = key_made s.style q (after_then o below rs ds r) (colon_after k) n.node n.colon l u shaped in
         let at = places u key.derived refl in
         let found = at.node in
         let is_there : NodeIsAt t q (key.place + 1) found = node_upto at.is_there (let e = at.ends in omega (arith, e)) in
         let order : q ≤ key.place + 1 = node_order is_there in
-        let head : AnyHead column (written k ++ colon_after k) items leaves blank q key.place q (items_in found) (leaves_of found) =
+        let head : AnyHead column (written s.style k ++ colon_after k) items leaves blank q key.place q (items_in found) (leaves_of found) =
         record { width = key.width; items_stand = one_inside (omega arith) order (items_inside is_there); leaves_stand = leaves_inside is_there; leaves_to = leaves_end is_there } in
         let alike = placed_node at (n.node.meant q) in
         let line = n.node.back.line in
-        let derived = key_node q (after_then o below rs ds r) (colon_after k) n.node n.colon u shaped in
-        let one = value_made column (written k ++ colon_after k) items leaves blank o below ds r key.place (width (written k) + width (colon_after k)) head
-        (λ b. over_key key.place (written k) (colon_after k) (after_then o below rs ds r) u line (colon_line n.colon) shaped key.width b) (λ e. value_right s spot column k v (is_some o) is_spot flag e) value same deep key.colon u stood a calm key.rest in
+        let derived = key_node s.style q (after_then o below rs ds r) (colon_after k) n.node n.colon u shaped in
+        let one = value_made column (written s.style k ++ colon_after k) items leaves blank o below ds r key.place (width (written s.style k) + width (colon_after k)) head
+        (λ b. over_key key.place (written s.style k) (colon_after k) (after_then o below rs ds r) u line (colon_line n.colon) shaped key.width b) (λ e. value_right s spot column k v (is_some o) is_spot flag e) value same deep key.colon u stood a calm key.rest in
         let value_set : SetDone t s.style (value_entries s.style column v) (column + s.style.indent) one.meaning.events = subst (λ z. SetDone t s.style z (column + s.style.indent) one.meaning.events) (ap (λ z. z.entries) is_spot) one.set in
         let low : n.node.height ≤ tall k = n.node.low in
         let high : one.height ≤ tall v = one.low in
@@ -330,24 +330,24 @@ module _ {s : LayoutSetting} {k v : Node} {spot : Spot} {rs : List Row} (column 
           start = one.start;
           found_rows = one.found_rows;
           meant = found_implicit (n.node.mean q) q key.place found (is_some o) flag implicit alike at.events (n.node.meant q).escapes (node_upto at.is_there at.ends)
-              (node_text (colon_after k ++ after_then o below rs ds r) alike line shaped (λ f. bracketed found u derived at.events f)) one.head
+              (node_text s.style (colon_after k ++ after_then o below rs ds r) alike line shaped (λ f. bracketed found u derived at.events f)) one.head
               (subst (λ z. FoundNode t s z v one.meaning one.inner) is_spot one.meant) (subst (λ z. KeyRows t (q ∷ items_in found) (leaves_of found) (is_some o) z one.inner one.found_rows) same one.keyed);
-          placed = subst (λ z. RowsIn t (after_key (key_head column (written k ++ colon_after k) items leaves blank) o below rs) one.found_rows ds q z one.place r)
+          placed = subst (λ z. RowsIn t (after_key (key_head column (written s.style k ++ colon_after k) items leaves blank) o below rs) one.found_rows ds q z one.place r)
               (sym (comments_both (entering q (Some key.place) (n.node.mean q)) one.meaning
               ∙ ap (λ z. z ++ one.meaning.comments) (comments_entering q (Some key.place) (n.node.mean q) ∙ n.node.silent q))) one.placed;
           is = texts_both (entering q (Some key.place) (n.node.mean q)) one.meaning
               ∙ (ap (λ z. z ++ texts one.meaning.comments) (texts_entering q (Some key.place) (n.node.mean q) ∙ ap (λ z. texts z) (n.node.silent q)) ∙ one.is);
-          laid = subst (λ z. MeaningLaid q one.place (entering q (Some key.place) (n.node.mean q) ⊕ one.meaning) z) (sym (after_steps column (written k ++ colon_after k) items leaves blank o below rs ds))
+          laid = subst (λ z. MeaningLaid q one.place (entering q (Some key.place) (n.node.mean q) ⊕ one.meaning) z) (sym (after_steps column (written s.style k ++ colon_after k) items leaves blank o below rs ds))
               (laid_both (entering q (Some key.place) (n.node.mean q)) one.meaning
               (laid_entering q (Some key.place) (n.node.mean q) (laid_line leaves (places u key.derived refl) (n.node.meant q) (n.node.silent q) count)) one.laid (omega arith));
           set = set_implicit column q key.place (n.node.mean q) one.meaning found alike implicit (flow_means key.derived tt) at.events
               (λ f g. key_no_question key.derived (record { sign_is_at = f; follows = g })) (meant_of one.meant) value_set;
-          held = held_after (entering q (Some key.place) (n.node.mean q)) one.meaning (after_key (key_head column (written k ++ colon_after k) items leaves blank) o below rs) ds r
+          held = held_after (entering q (Some key.place) (n.node.mean q)) one.meaning (after_key (key_head column (written s.style k ++ colon_after k) items leaves blank) o below rs) ds r
               (entering_silent q (Some key.place) (n.node.mean q) (n.node.silent q)) one.held;
         }
 
   -- the key is an empty node
-  pub unkeyed_makes : MeansNothing k → written k ≡ [] → colon_after k ≡ 58 ∷ [] → leaves ≡ [] → EntryMakes s false column (max (tall k) (tall v)) (λ t m ps. FoundPair t s column k v m ps) (after_key (key_head column (58 ∷ []) items leaves blank) o below rs)
+  pub unkeyed_makes : MeansNothing k → written s.style k ≡ [] → colon_after k ≡ 58 ∷ [] → leaves ≡ [] → EntryMakes s false column (max (tall k) (tall v)) (λ t m ps. FoundPair t s column k v m ps) (after_key (key_head column (58 ∷ []) items leaves blank) o below rs)
   unkeyed_makes n said colon_is none = record { starts = after_begins column (58 ∷ []) items leaves blank o below rs; made = made } where
     made : {t : List ℕ} (ds : List Deco) (r : List ℕ) (q : ℕ) → IsUtf8 t → AreDecos ds → Calm (after_key (key_head column (58 ∷ []) items leaves blank) o below rs) ds r
         → Rest t q (inline_then (after_key (key_head column (58 ∷ []) items leaves blank) o below rs) ds r)
@@ -355,9 +355,9 @@ module _ {s : LayoutSetting} {k v : Node} {spot : Spot} {rs : List Row} (column 
     made {t} ds r q u a calm w =
         let here : Rest t q (58 ∷ after_then o below rs ds r) = subst (λ z. Rest t q z) (after_inline column (58 ∷ []) items leaves blank o below rs ds r) w in
         let colon = visible_at 58 u (omega arith) (omega arith) here in
-        let wide : width (written k) + width (colon_after k) ≡ 1 = ap (λ z. width z + width (colon_after k)) said ∙ (ap (λ z. width [] + width z) colon_is ∙ bare_width) in
+        let wide : width (written s.style k) + width (colon_after k) ≡ 1 = ap (λ z. width z + width (colon_after k)) said ∙ (ap (λ z. width [] + width z) colon_is ∙ bare_width) in
         let head : AnyHead column (58 ∷ []) items leaves blank q q q [] [] = record { width = refl; items_stand = one_inside (omega arith) (omega arith) none_inside; leaves_stand = none_inside; leaves_to = no_leaf_to } in
-        let one = value_made column (58 ∷ []) items leaves blank o below ds r q (width (written k) + width (colon_after k)) head
+        let one = value_made column (58 ∷ []) items leaves blank o below ds r q (width (written s.style k) + width (colon_after k)) head
         (λ b. on_same (omega (arith, wide)) refl (on_sign 58 (after_then o below rs ds r) u (omega arith) (omega arith) b here)) (λ e. value_right s spot column k v (is_some o) is_spot flag e) value same deep colon.0 u stood a calm colon.1 in
         let value_set : SetDone t s.style (value_entries s.style column v) (column + s.style.indent) one.meaning.events = subst (λ z. SetDone t s.style z (column + s.style.indent) one.meaning.events) (ap (λ z. z.entries) is_spot) one.set in
         let high : one.height ≤ tall v = one.low in

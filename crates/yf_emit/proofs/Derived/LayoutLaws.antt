@@ -29,12 +29,12 @@ printed_comments m s trees = remarks_of (first_gap m (rows_of m s trees)) ++ com
 
 -- The layout is a text: where the texts of its rows are.
 abbrev pub LayoutsAreTexts : Type 0
-LayoutsAreTexts = (m : Lists) (s : Style) (trees : List DocumentTree) → FitDocuments m.documents trees → AreRemarks m.comments
+LayoutsAreTexts = (m : Lists) (s : Style) (trees : List DocumentTree) → FitDocuments s m.documents trees → AreRemarks m.comments
     → TrailsFit (source_of m (rows_of m s trees)) (rows_of m s trees) → IsUtf8 (layout m s trees)
 
 -- What is laid out is derived again: where each node on one line reads back, and the comments are texts of comments of which one at most trails
 -- a row, the layout is a stream of documents that mean the same trees up to their places, with the same directives, and its comments are those
 -- that were printed, in that order.
 abbrev pub LayoutsAreDerived : Type 0
-LayoutsAreDerived = (m : Lists) (s : Style) (trees : List DocumentTree) → FitDocuments m.documents trees → FitsBare (is_bare m s) m.documents trees → AreRemarks m.comments
+LayoutsAreDerived = (m : Lists) (s : Style) (trees : List DocumentTree) → FitDocuments s m.documents trees → FitsBare (is_bare m s) m.documents trees → AreRemarks m.comments
     → TrailsFit (source_of m (rows_of m s trees)) (rows_of m s trees) → StreamMade (layout m s trees) (is_bare m s) m.documents trees (printed_comments m s trees)

@@ -23,7 +23,7 @@ layouts_are_texts m s trees fit remarks trails =
     subst (λ w. IsUtf8 w) (sym (layout_then m s trees)) (layout_utf8 (setting_of m s) (is_bare m s) (first_gap m (rows_of m s trees)) (row_decos m (rows_of m s trees)) fit fits.0 fits.1)
 
 -- what is laid out is derived again, with its leaves and comments in the order in which they were laid out
-pub layouts_are_laid : (m : Lists) (s : Style) (trees : List DocumentTree) → FitDocuments m.documents trees → FitsBare (is_bare m s) m.documents trees → AreRemarks m.comments
+pub layouts_are_laid : (m : Lists) (s : Style) (trees : List DocumentTree) → FitDocuments s m.documents trees → FitsBare (is_bare m s) m.documents trees → AreRemarks m.comments
     → TrailsFit (source_of m (rows_of m s trees)) (rows_of m s trees)
     → StreamLaid (layout m s trees) (setting_of m s) (is_bare m s) m.documents trees (first_gap m (rows_of m s trees)) (rows_of m s trees) (row_decos m (rows_of m s trees))
 layouts_are_laid m s trees fit bare remarks trails =

@@ -85,13 +85,13 @@ pub data Claim (s : LayoutSetting) (x : Node) (spot : Spot) : List Row → Type 
 -- A leaf or a flow collection on one line.
 
 pub line_made : {t : List ℕ} {s : LayoutSetting} {x : Node} {r : Row} (spot : Spot) (n : ℤ) (c : Ctx) (ds : List Deco) (z : List ℕ) (q : ℕ) → begins_below x ≡ false
-    → is_inline x ≡ true → written x ≢ [] → is_some r.key_comment ≡ false → r.text ≡ written x → r.column ≡ spot.column → r.body ≡ [] → length r.leaves ≡ length (leaves x) → LineNode FlowOut x → IsUtf8 t → Stood s x n c spot → AreDecos ds → Rest t q (inline_then (r ∷ []) ds z)
+    → is_inline x ≡ true → written s.style x ≢ [] → is_some r.key_comment ≡ false → r.text ≡ written s.style x → r.column ≡ spot.column → r.body ≡ [] → length r.leaves ≡ length (leaves x) → LineNode s.style FlowOut x → IsUtf8 t → Stood s x n c spot → AreDecos ds → Rest t q (inline_then (r ∷ []) ds z)
     → NodeMade t s n c spot x (r ∷ []) ds q z
 line_made {t} {s} {x} {r} spot n c ds z q b inline some key text column body count node u stood a w =
-    let there : Rest t q (written x ++ end_then (first ds) [] z) =
-    subst (λ l. Rest t q (written x ++ end_then (first ds) l z)) body (subst (λ v. Rest t q (v ++ end_then (first ds) r.body z)) text w) in
+    let there : Rest t q (written s.style x ++ end_then (first ds) [] z) =
+    subst (λ l. Rest t q (written s.style x ++ end_then (first ds) l z)) body (subst (λ v. Rest t q (v ++ end_then (first ds) r.body z)) text w) in
     let derived = node.back.made (n +ℤ pos 1) q (end_then (first ds) [] z) u (any_follow node.colon (end_follows (first ds) [] z)) there in
-    let after_text = rest_text (written x) u node.back.line there in
+    let after_text = rest_text (written s.style x) u node.back.line there in
     let end = row_end (first ds) z u (first_deco a) after_text.rest in
     let at = leaf_at {c = c} spot.entries stood.block (flow_node derived) end.end in
     let found = line_found {row = r} s spot ds (end_then (first ds) [] z) inline some text column body key node.back.line there (λ y e f. bracketed y u derived e f) (places u derived refl) (node.meant q) (node.silent q) end.end end.is end.start end.rest in

@@ -84,7 +84,7 @@ directive_kinds (fit_directive f fs) =
 start_kind : KindRow start_row
 start_kind = a_marker (record { column = refl; text = inl refl; leaves = refl; key = refl; body = refl; starts = λ e. refl; unspaced = refl })
 
-pub stream_kinds : (c : LayoutSetting) {ds : List Doc} {xs : List DocumentTree} (b : Bool) → FitDocuments ds xs → KindRows (stream_rows c b ds xs)
+pub stream_kinds : (c : LayoutSetting) {ds : List Doc} {xs : List DocumentTree} (b : Bool) → FitDocuments c.style ds xs → KindRows (stream_rows c b ds xs)
 stream_kinds c b fit_no_documents = no_kind
 stream_kinds c b (fit_document {d = d} {x = x} f fit more) =
     let wide : 2 ≤ c.style.indent = c.style.indent_from in
@@ -97,7 +97,7 @@ begun_kinds start (kind_more (a_text a) more) = kind_more (a_text (record { text
 begun_kinds start (kind_more (a_marker a) more) =
     kind_more (a_marker (record { column = a.column; text = a.text; leaves = a.leaves; key = a.key; body = a.body; starts = a.starts; unspaced = a.unspaced })) more
 
-pub all_kinds : (c : LayoutSetting) (bare : Bool) {ds : List Doc} {xs : List DocumentTree} → FitDocuments ds xs → KindRows (all_rows c bare ds xs)
+pub all_kinds : (c : LayoutSetting) (bare : Bool) {ds : List Doc} {xs : List DocumentTree} → FitDocuments c.style ds xs → KindRows (all_rows c bare ds xs)
 all_kinds c false fit = stream_kinds c true fit
 all_kinds c true fit_no_documents = no_kind
 all_kinds c true (fit_document {d = d} {x = x} f fit more) =

@@ -119,12 +119,12 @@ fit_props_texts column (some_fit_props {p = p} k n) =
 
 -- Keys and pairs.
 
-colon_text : {k : Node} (b : Bool) (w : List ℕ) → ColonFits b w → LineNode BlockKey k → IsLineText (written k ++ w) × IsNoMarker (written k ++ w)
-colon_text b w (colon_at_once e) node = (line_append node.back.line (ascii_line 58 (omega arith) (omega arith)), unmarked_more 58 [] node.unmarked (omega arith) colon_after_text)
-colon_text b w colon_apart node =
+colon_text : (house : Style) {k : Node} (b : Bool) (w : List ℕ) → ColonFits b w → LineNode house BlockKey k → IsLineText (written house k ++ w) × IsNoMarker (written house k ++ w)
+colon_text house b w (colon_at_once e) node = (line_append node.back.line (ascii_line 58 (omega arith) (omega arith)), unmarked_more 58 [] node.unmarked (omega arith) colon_after_text)
+colon_text house b w colon_apart node =
     (line_append node.back.line (line_ascii 32 (omega arith) (sign_nb 32 (omega arith) (omega arith)) (ascii_line 58 (omega arith) (omega arith))), unmarked_more 32 (58 ∷ []) node.unmarked (omega arith) space_after_text)
 
-key_texts : (c : LayoutSetting) (column : ℕ) {k : Node} → is_implicit c.style column k ≡ true → Fit k → IsRowText (key_row column k)
+key_texts : (c : LayoutSetting) (column : ℕ) {k : Node} → is_implicit c.style column k ≡ true → Fit c.style k → IsRowText (key_row c.style column k)
 key_texts c column e (fit_nothing f) = record {
   text = ascii_line 58 (omega arith) (omega arith);
   unmarked = unmarked_first 58 [] (omega arith) (λ e. omega arith) (λ e. omega arith) (λ e. omega arith);
@@ -132,7 +132,7 @@ key_texts c column e (fit_nothing f) = record {
   body = no_body_text;
 }
 key_texts c column {k} e (fit_line inline some node key) =
-    let both = colon_text key.node.colon (colon_after k) key.colon key.node in record { text = both.0; unmarked = both.1; seen = seen_more (colon_after k) (seen_back refl key.node.back); body = no_body_text }
+    let both = colon_text c.style key.node.colon (colon_after k) key.colon key.node in record { text = both.0; unmarked = both.1; seen = seen_more (colon_after k) (seen_back refl key.node.back); body = no_body_text }
 key_texts c column {k} e (fit_scalar {at = at} {p = p} {style = style} {text = text} {lines = lines} f g h) =
     absurd (not_implicit c column k (block_is_no_key c column at p text lines style h.block) e)
 key_texts c column {k} e (fit_sequence f p g gs) = absurd (not_implicit c column k refl e)
@@ -177,7 +177,7 @@ scalar_texts at {style = style} {text = text} {lines = lines} s spot l (some_fit
       body = body_texts spot.lines (final_feeds text - 1) (content_lines style text lines) l f.texts;
     }) no_row_text
 
-pair_texts : (c : LayoutSetting) (column : ℕ) {k v : Node} → Fit k → TextsEverywhere c k → TextsEverywhere c v
+pair_texts : (c : LayoutSetting) (column : ℕ) {k v : Node} → Fit c.style k → TextsEverywhere c k → TextsEverywhere c v
     → AreRowTexts (pair_rows c column k v (rows c (key_spot c.style column k) k) (rows c (value_spot c column k v) v))
 pair_texts c column {k} {v} fit f g = go (is_implicit c.style column k) refl where
   go : (b : Bool) → is_implicit c.style column k ≡ b → AreRowTexts (either_pair (is_implicit c.style column k) c column k v)
@@ -192,30 +192,31 @@ dash_texts c column {x} f =
 
 -- Trees.
 
-mutual
-  texts_everywhere : (c : LayoutSetting) {x : Node} → Fit x → TextsEverywhere c x
-  texts_everywhere c (fit_nothing e) = record { texts = λ spot l. no_row_text }
-  texts_everywhere c {x} (fit_line inline some node key) = record {
-    texts = λ spot l.
-        subst (λ rs. AreRowTexts rs) (sym (inline_rows c spot x inline)) (one_line_texts spot.column x (written x) node.back.line node.unmarked (seen_back refl node.back));
-  }
-  texts_everywhere c (fit_scalar {at = at} {p = p} {style = style} {text = text} {lines = lines} e props f) = record {
-    texts = λ spot l.
-        subst (λ rs. AreRowTexts rs) (sym (scalar_rows_are c spot at p text lines style f.block)) (scalar_texts at c.style spot l props f);
-  }
-  texts_everywhere c (fit_sequence e props f fs) = record { texts = λ spot l. append_texts (fit_props_texts spot.column props) (texts_of_items c spot.entries (texts_everywhere c f) fs) }
-  texts_everywhere c (fit_mapping e props f g fs) = record {
-    texts = λ spot l.
-        append_texts (fit_props_texts spot.column props) (texts_of_pairs c spot.entries f (texts_everywhere c f) (texts_everywhere c g) fs);
-  }
+module _ (c : LayoutSetting) where
+  mutual
+    texts_everywhere : {x : Node} → Fit c.style x → TextsEverywhere c x
+    texts_everywhere (fit_nothing e) = record { texts = λ spot l. no_row_text }
+    texts_everywhere {x} (fit_line inline some node key) = record {
+      texts = λ spot l.
+          subst (λ rs. AreRowTexts rs) (sym (inline_rows c spot x inline)) (one_line_texts spot.column x (written c.style x) node.back.line node.unmarked (seen_back refl node.back));
+    }
+    texts_everywhere (fit_scalar {at = at} {p = p} {style = style} {text = text} {lines = lines} e props f) = record {
+      texts = λ spot l.
+          subst (λ rs. AreRowTexts rs) (sym (scalar_rows_are c spot at p text lines style f.block)) (scalar_texts at c.style spot l props f);
+    }
+    texts_everywhere (fit_sequence e props f fs) = record { texts = λ spot l. append_texts (fit_props_texts spot.column props) (texts_of_items spot.entries (texts_everywhere f) fs) }
+    texts_everywhere (fit_mapping e props f g fs) = record {
+      texts = λ spot l.
+          append_texts (fit_props_texts spot.column props) (texts_of_pairs spot.entries f (texts_everywhere f) (texts_everywhere g) fs);
+    }
 
-  texts_of_items : (c : LayoutSetting) (column : ℕ) {x : Node} {xs : Items} → TextsEverywhere c x → FitItems xs → AreRowTexts (rows_of_items c column (item x xs))
-  texts_of_items c column f fit_no_items = append_texts (dash_texts c column f) no_row_text
-  texts_of_items c column f (fit_item g gs) = append_texts (dash_texts c column f) (texts_of_items c column (texts_everywhere c g) gs)
+    texts_of_items : (column : ℕ) {x : Node} {xs : Items} → TextsEverywhere c x → FitItems c.style xs → AreRowTexts (rows_of_items c column (item x xs))
+    texts_of_items column f fit_no_items = append_texts (dash_texts c column f) no_row_text
+    texts_of_items column f (fit_item g gs) = append_texts (dash_texts c column f) (texts_of_items column (texts_everywhere g) gs)
 
-  texts_of_pairs : (c : LayoutSetting) (column : ℕ) {k v : Node} {ps : Pairs} → Fit k → TextsEverywhere c k → TextsEverywhere c v → FitPairs ps → AreRowTexts (rows_of_pairs c column (pair k v ps))
-  texts_of_pairs c column fit f g fit_no_pairs = append_texts (pair_texts c column fit f g) no_row_text
-  texts_of_pairs c column fit f g (fit_pair a b fs) = append_texts (pair_texts c column fit f g) (texts_of_pairs c column a (texts_everywhere c a) (texts_everywhere c b) fs)
+    texts_of_pairs : (column : ℕ) {k v : Node} {ps : Pairs} → Fit c.style k → TextsEverywhere c k → TextsEverywhere c v → FitPairs c.style ps → AreRowTexts (rows_of_pairs c column (pair k v ps))
+    texts_of_pairs column fit f g fit_no_pairs = append_texts (pair_texts c column fit f g) no_row_text
+    texts_of_pairs column fit f g (fit_pair a b fs) = append_texts (pair_texts c column fit f g) (texts_of_pairs column a (texts_everywhere a) (texts_everywhere b) fs)
 
-pub row_texts : (c : LayoutSetting) (spot : Spot) {x : Node} → 0 < spot.lines → Fit x → AreRowTexts (rows c spot x)
+pub row_texts : (c : LayoutSetting) (spot : Spot) {x : Node} → 0 < spot.lines → Fit c.style x → AreRowTexts (rows c spot x)
 row_texts c spot l f = (texts_everywhere c f).texts spot l

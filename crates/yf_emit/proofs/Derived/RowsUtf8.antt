@@ -87,7 +87,7 @@ directive_lines : {dirs : List Directive} → FitDirectives dirs → RowLines (m
 directive_lines fit_no_directives = no_rows
 directive_lines (fit_directive f fs) = row_more (visible_line 37 (omega arith) (omega arith) f.line) (seen_ascii 37 _ (omega arith) (omega arith) (λ e. omega arith)) no_line (directive_lines fs)
 
-pub stream_lines : (c : LayoutSetting) {ds : List Doc} {xs : List DocumentTree} (b : Bool) → FitDocuments ds xs → RowLines (stream_rows c b ds xs)
+pub stream_lines : (c : LayoutSetting) {ds : List Doc} {xs : List DocumentTree} (b : Bool) → FitDocuments c.style ds xs → RowLines (stream_rows c b ds xs)
 stream_lines c b fit_no_documents = no_rows
 stream_lines c b (fit_document {d = d} {x = x} f fit more) =
     let wide : 2 ≤ c.style.indent = c.style.indent_from in
@@ -98,7 +98,7 @@ begun_lines : (start : ℕ) {rs : List Row} → RowLines rs → RowLines (begun_
 begun_lines start no_rows = no_rows
 begun_lines start (row_more a s k more) = row_more a s k more
 
-pub all_lines : (c : LayoutSetting) (bare : Bool) {ds : List Doc} {xs : List DocumentTree} → FitDocuments ds xs → RowLines (all_rows c bare ds xs)
+pub all_lines : (c : LayoutSetting) (bare : Bool) {ds : List Doc} {xs : List DocumentTree} → FitDocuments c.style ds xs → RowLines (all_rows c bare ds xs)
 all_lines c false fit = stream_lines c true fit
 all_lines c true fit_no_documents = no_rows
 all_lines c true (fit_document {d = d} {x = x} f fit more) =
@@ -106,6 +106,6 @@ all_lines c true (fit_document {d = d} {x = x} f fit more) =
     both_lines (begun_lines d.start (text_lines (row_texts c (root_spot c.style) (omega (arith, wide)) fit))) (stream_lines c false more)
 
 -- so the layout of such documents is UTF-8
-pub layout_utf8 : (c : LayoutSetting) (bare : Bool) {ds : List Doc} {xs : List DocumentTree} (gap : List GapLine) (decos : List Deco) → FitDocuments ds xs → AreGapLines gap → AreDecos decos
+pub layout_utf8 : (c : LayoutSetting) (bare : Bool) {ds : List Doc} {xs : List DocumentTree} (gap : List GapLine) (decos : List Deco) → FitDocuments c.style ds xs → AreGapLines gap → AreDecos decos
     → IsUtf8 (gap_then gap (lines_then (all_rows c bare ds xs) decos []))
 layout_utf8 c bare {ds} {xs} gap decos fit g k = gap_utf8 gap (lines_then (all_rows c bare ds xs) decos []) g (rows_utf8 decos [] (all_lines c bare fit) k IsUtf8-nil)

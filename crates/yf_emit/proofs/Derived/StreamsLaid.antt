@@ -63,7 +63,7 @@ pub record StreamLaid (t : List ℕ) (s : LayoutSetting) (bare : Bool) (ds : Lis
   pub set : SetAll t s.style made.documents.documents
 
 -- a stream that begins with these rows
-stream_from : {t : List ℕ} (c : LayoutSetting) {bare : Bool} {d : Doc} {ds : List Doc} {x : DocumentTree} {xs : List DocumentTree} (head : List Row) (gap : List GapLine) (decos : List Deco) → Begins 0 head → FitDocuments ds xs
+stream_from : {t : List ℕ} (c : LayoutSetting) {bare : Bool} {d : Doc} {ds : List Doc} {x : DocumentTree} {xs : List DocumentTree} (head : List Row) (gap : List GapLine) (decos : List Deco) → Begins 0 head → FitDocuments c.style ds xs
     → ((r : List ℕ) (q : ℕ) → LineStart t q → Calm head decos r → Rest t q (lines_then head decos r) → FirstMade t c bare d x head decos q r) → IsUtf8 t → AreGapLines gap → AreDecos decos
     → Calm (head ++ stream_rows c false ds xs) decos [] → Rest t 0 (gap_then gap (lines_then (head ++ stream_rows c false ds xs) decos []))
     → StreamLaid t c bare (d ∷ ds) (x ∷ xs) gap (head ++ stream_rows c false ds xs) decos
@@ -115,7 +115,7 @@ stream_from {t} c {bare = bare} {d = d} {ds = ds} {x = x} {xs = xs} head gap dec
 begins_bare_rows : {rs : List Row} (start : ℕ) → BareRow rs → Begins 0 (begun_at start rs)
 begins_bare_rows start b = subst (λ z. Begins 0 (begun_at start z)) (sym b.are) (begins b.column)
 
-stream_made : {t : List ℕ} (c : LayoutSetting) (bare : Bool) {ds : List Doc} {xs : List DocumentTree} (gap : List GapLine) (decos : List Deco) → FitDocuments ds xs → FitsBare bare ds xs → IsUtf8 t → AreGapLines gap → AreDecos decos
+stream_made : {t : List ℕ} (c : LayoutSetting) (bare : Bool) {ds : List Doc} {xs : List DocumentTree} (gap : List GapLine) (decos : List Deco) → FitDocuments c.style ds xs → FitsBare bare ds xs → IsUtf8 t → AreGapLines gap → AreDecos decos
     → Calm (all_rows c bare ds xs) decos [] → Rest t 0 (gap_then gap (lines_then (all_rows c bare ds xs) decos []))
     → StreamLaid t c bare ds xs gap (all_rows c bare ds xs) decos
 stream_made {t} c false gap decos fit_no_documents fits u g a k w =
@@ -157,7 +157,7 @@ stream_made c true gap decos (fit_document {d = d} {x = x} f fit more) (fits_bar
     (λ r q l calm rest. bare_made c {d = d} x d.start decos r q none some fit u a l calm rest) u g a k w
 
 -- what is laid out is derived again, with its leaves and comments in the order in which they were laid out
-pub layout_derived : {t : List ℕ} (c : LayoutSetting) (bare : Bool) {ds : List Doc} {xs : List DocumentTree} (gap : List GapLine) (decos : List Deco) → FitDocuments ds xs → FitsBare bare ds xs → IsUtf8 t → AreGapLines gap → AreDecos decos
+pub layout_derived : {t : List ℕ} (c : LayoutSetting) (bare : Bool) {ds : List Doc} {xs : List DocumentTree} (gap : List GapLine) (decos : List Deco) → FitDocuments c.style ds xs → FitsBare bare ds xs → IsUtf8 t → AreGapLines gap → AreDecos decos
     → Calm (all_rows c bare ds xs) decos [] → t ≡ gap_then gap (lines_then (all_rows c bare ds xs) decos [])
     → StreamLaid t c bare ds xs gap (all_rows c bare ds xs) decos
 layout_derived {t} c bare gap decos fit fits u g a k e = stream_made c bare gap decos fit fits u g a k (subst (λ z. Rest t 0 z) e (rest_start t u))

@@ -70,13 +70,13 @@ root_rows c x = rows c (root_spot c.style) x.root
 pub root_deep : (c : LayoutSetting) → 0 < c.style.indent
 root_deep c = let wide : 2 ≤ c.style.indent = c.style.indent_from in omega (arith, wide)
 
-explicit_at : {t : List ℕ} (c : LayoutSetting) (x : DocumentTree) (row : Row) (ds : List Deco) (r : List ℕ) (q : ℕ) → row.leaves ≡ [] → row.body ≡ [] → row.column ≡ 0 → length row.text ≡ 3 → is_some row.key_comment ≡ false → Fit x.root → IsUtf8 t → AreDecos ds → Calm (root_rows c x) (after ds) r
+explicit_at : {t : List ℕ} (c : LayoutSetting) (x : DocumentTree) (row : Row) (ds : List Deco) (r : List ℕ) (q : ℕ) → row.leaves ≡ [] → row.body ≡ [] → row.column ≡ 0 → length row.text ≡ 3 → is_some row.key_comment ≡ false → Fit c.style x.root → IsUtf8 t → AreDecos ds → Calm (root_rows c x) (after ds) r
     → Rest t q (45 ∷ 45 ∷ 45 ∷ end_then (first ds) [] (lines_then (root_rows c x) (after ds) r)) → ExplicitMade t c x.root (row ∷ root_rows c x) ds q r
 explicit_at c x row ds r q none bare column width key fit u a k w = explicit_made row ds r q none bare column width key (node_claim c (root_spot c.style) fit) (row_texts c (root_spot c.style) (root_deep c) fit) u a k w
 
 -- where the first row is given, of any items
 directed : {t : List ℕ} (c : LayoutSetting) {d : Doc} (x : DocumentTree) {e : Directive} {es : List Directive} (row : Row) (ds : List Deco) (r : List ℕ) (q : ℕ) → row.leaves ≡ [] → row.body ≡ [] → row.text ≡ 37 ∷ joined_words e.words → is_some row.key_comment ≡ false → documents_begin row ≡ [] → d.directives ≡ e ∷ es
-    → FitDirective e.words → FitDirectives es → Fit x.root → IsUtf8 t → AreDecos ds → Calm ((row ∷ map directive_row es) ++ (start_row ∷ root_rows c x)) ds r
+    → FitDirective e.words → FitDirectives es → Fit c.style x.root → IsUtf8 t → AreDecos ds → Calm ((row ∷ map directive_row es) ++ (start_row ∷ root_rows c x)) ds r
     → Rest t q (37 ∷ (joined_words e.words ++ end_then (first ds) [] (lines_then (map directive_row es ++ (start_row ∷ root_rows c x)) (after ds) r)))
     → AnyMade t c d x ((row ∷ map directive_row es) ++ (start_row ∷ root_rows c x)) ds q r
 directed {t} c {d} x {e} {es} row ds r q none bare said key plain same f fs fit u a k w =
@@ -116,7 +116,7 @@ directed {t} c {d} x {e} {es} row ds r q none bare said key plain same f fs fit 
 
 -- The first document of a stream.
 
-pub first_with : {t : List ℕ} (c : LayoutSetting) {d : Doc} (x : DocumentTree) (start : ℕ) (dirs : List Directive) (ds : List Deco) (r : List ℕ) (q : ℕ) → d.directives ≡ dirs → FitDirectives dirs → Fit x.root → IsUtf8 t → AreDecos ds
+pub first_with : {t : List ℕ} (c : LayoutSetting) {d : Doc} (x : DocumentTree) (start : ℕ) (dirs : List Directive) (ds : List Deco) (r : List ℕ) (q : ℕ) → d.directives ≡ dirs → FitDirectives dirs → Fit c.style x.root → IsUtf8 t → AreDecos ds
     → Calm (head_rows true start dirs ++ root_rows c x) ds r → Rest t q (lines_then (head_rows true start dirs ++ root_rows c x) ds r) → AnyMade t c d x (head_rows true start dirs ++ root_rows c x) ds q r
 first_with {t} c {d} x start [] ds r q same f fit u a k w =
     let node = explicit_at c x (record start_row { items = start ∷ [] }) ds r q refl refl refl refl refl fit u a k.1 w in
@@ -167,7 +167,7 @@ record StepMade (t : List ℕ) (s : LayoutSetting) (d : Doc) (x : DocumentTree) 
 no_words : {w : List (List ℕ)} {ws : List (List (List ℕ))} → [] ≡ w ∷ ws → ⊥
 no_words e = absurd cc
 
-step_with : {t : List ℕ} (c : LayoutSetting) {d : Doc} (x : DocumentTree) (start : ℕ) (dirs : List Directive) (ds : List Deco) (r : List ℕ) (q : ℕ) → d.directives ≡ dirs → FitDirectives dirs → Fit x.root → IsUtf8 t → AreDecos ds
+step_with : {t : List ℕ} (c : LayoutSetting) {d : Doc} (x : DocumentTree) (start : ℕ) (dirs : List Directive) (ds : List Deco) (r : List ℕ) (q : ℕ) → d.directives ≡ dirs → FitDirectives dirs → Fit c.style x.root → IsUtf8 t → AreDecos ds
     → Calm (head_rows false start dirs ++ root_rows c x) ds r → Rest t q (lines_then (head_rows false start dirs ++ root_rows c x) ds r) → StepMade t c d x (head_rows false start dirs ++ root_rows c x) ds q r
 step_with {t} c {d} x start [] ds r q same f fit u a k w =
     let node = explicit_at c x (record start_row { items = start ∷ [] }) ds r q refl refl refl refl refl fit u a k.1 w in
@@ -254,7 +254,7 @@ pub record RestMade (t : List ℕ) (s : LayoutSetting) (ds : List Doc) (xs : Lis
   pub held : EventsHeld t (all_events documents.documents) documents.comments rs decos []
   pub set : SetAll t s.style documents.documents
 
-pub rest_made : {t : List ℕ} (c : LayoutSetting) {ds : List Doc} {xs : List DocumentTree} → FitDocuments ds xs → (decos : List Deco) (q : ℕ) → IsUtf8 t → AreDecos decos → Calm (stream_rows c false ds xs) decos []
+pub rest_made : {t : List ℕ} (c : LayoutSetting) {ds : List Doc} {xs : List DocumentTree} → FitDocuments c.style ds xs → (decos : List Deco) (q : ℕ) → IsUtf8 t → AreDecos decos → Calm (stream_rows c false ds xs) decos []
     → Rest t q (lines_then (stream_rows c false ds xs) decos []) → RestMade t c ds xs (stream_rows c false ds xs) decos q
 rest_made {t} c fit_no_documents decos q u a k w = record {
   height = 0;

@@ -29,7 +29,7 @@ use Rattle.yf_emit.proofs.Derived.NodesMade.{Stood, Claim, no_row, some_rows, li
 
 -- A node on one line.
 
-pub inline_rows : (c : LayoutSetting) (spot : Spot) (x : Node) → is_inline x ≡ true → rows c spot x ≡ one_line spot x
+pub inline_rows : (c : LayoutSetting) (spot : Spot) (x : Node) → is_inline x ≡ true → rows c spot x ≡ one_line c.style spot x
 inline_rows c spot (scalar at props Plain text lines) e = refl
 inline_rows c spot (scalar at props Single text lines) e = refl
 inline_rows c spot (scalar at props Double text lines) e = refl
@@ -51,7 +51,7 @@ inline_beside (mapping at true props no_pairs) e = refl
 inline_beside (mapping at true props (pair k v ps)) e = refl
 inline_beside (mapping at false props pairs) e = absurd (true≢false (sym e))
 
-line_claim : {s : LayoutSetting} {x : Node} (spot : Spot) (w : List ℕ) → w ≡ written x → w ≢ [] → begins_below x ≡ false → is_inline x ≡ true → LineNode FlowOut x → Claim s x spot (one_line_row spot.column x w)
+line_claim : {s : LayoutSetting} {x : Node} (spot : Spot) (w : List ℕ) → w ≡ written s.style x → w ≢ [] → begins_below x ≡ false → is_inline x ≡ true → LineNode s.style FlowOut x → Claim s x spot (one_line_row spot.column x w)
 line_claim spot [] e some b inline node = absurd (some refl)
 line_claim {s} {x} spot (a ∷ w) e some b inline node =
     some_rows (λ z. refl) (λ z. absurd (true≢false (sym z ∙ b))) (record {
@@ -90,7 +90,7 @@ within_limit : (n : ℕ) → nat_le n 1023 ≡ true → n ≤ 1023
 within_limit n e = grind (arith, nat_tests)
 
 pub not_implicit : (c : LayoutSetting) (column : ℕ) (k : Node) → is_one_line_key c.style column k ≡ false → is_implicit c.style column k ≡ true → ⊥
-not_implicit c column k e f = true≢false (sym (and_parts (is_one_line_key c.style column k) (nat_le (width (written k)) 1023) f).0 ∙ e)
+not_implicit c column k e f = true≢false (sym (and_parts (is_one_line_key c.style column k) (nat_le (width (written c.style k)) 1023) f).0 ∙ e)
 
 pub block_is_no_key : (c : LayoutSetting) (column : ℕ) (at : NodeOffsets) (p : PropsValue) (text : List ℕ) (lines : List (List ℕ)) (style : ScalarStyle) → is_block_style style ≡ true
     → is_one_line_key c.style column (scalar at p style text lines) ≡ false
@@ -104,7 +104,7 @@ no_leaf : (o : Option Span) → is_some o ≡ false → spans_of_leaf o ≡ []
 no_leaf None e = refl
 no_leaf (Some s) e = absurd (true≢false e)
 
-implicit_makes : (c : LayoutSetting) (column : ℕ) {k v : Node} → is_implicit c.style column k ≡ true → Fit k → Claim c v (value_of_implicit c column k v) (rows c (value_of_implicit c column k v) v)
+implicit_makes : (c : LayoutSetting) (column : ℕ) {k v : Node} → is_implicit c.style column k ≡ true → Fit c.style k → Claim c v (value_of_implicit c column k v) (rows c (value_of_implicit c column k v) v)
     → EntryMakes c false column (max (tall k) (tall v)) (λ t m ps. FoundPair t c column k v m ps) (implicit_pair c column k v (rows c (value_of_implicit c column k v) v))
 implicit_makes c column {k} {v} e (fit_nothing {at = at} f) value =
     unkeyed_makes column (entry_start k ++ items_in k) (leaves k) (blank_before_entry (standing k).entry) (key_comment c.comments k v) (begins_below v) value refl
@@ -112,7 +112,7 @@ implicit_makes c column {k} {v} e (fit_nothing {at = at} f) value =
 implicit_makes c column {k} {v} e (fit_line inline some node key) value =
     keyed_makes column (entry_start k ++ items_in k) (leaves k) (blank_before_entry (standing k).entry) (key_comment c.comments k v) (begins_below v) value refl
     (λ z b. commented_column (is_some (key_comment c.comments k v)) column c.style.indent _ c.style.indent_from z) (value_stood c column k v) refl e refl key refl
-    (within_limit (width (written k)) (and_parts (is_one_line_key c.style column k) (nat_le (width (written k)) 1023) e).1)
+    (within_limit (width (written c.style k)) (and_parts (is_one_line_key c.style column k) (nat_le (width (written c.style k)) 1023) e).1)
 implicit_makes c column {k} {v} e (fit_scalar {at = at} {p = p} {style = style} {text = text} {lines = lines} f g h) value =
     absurd (not_implicit c column k (block_is_no_key c column at p text lines style h.block) e)
 implicit_makes c column {k} {v} e (fit_sequence f p g gs) value = absurd (not_implicit c column k refl e)
@@ -132,7 +132,7 @@ either_pair b c column k v =
     if b then implicit_pair c column k v (rows c (if b then value_of_implicit c column k v else inner_spot c.style column) v)
     else explicit_pair c.style column k (rows c (key_spot c.style column k) k) (rows c (if b then value_of_implicit c column k v else inner_spot c.style column) v)
 
-pair_makes : (c : LayoutSetting) (column : ℕ) {k v : Node} → Fit k → Everywhere c k → Everywhere c v
+pair_makes : (c : LayoutSetting) (column : ℕ) {k v : Node} → Fit c.style k → Everywhere c k → Everywhere c v
     → EntryMakes c false column (max (tall k) (tall v)) (λ t m ps. FoundPair t c column k v m ps) (pair_rows c column k v (rows c (key_spot c.style column k) k) (rows c (value_spot c column k v) v))
 pair_makes c column {k} {v} fit key value = go (is_implicit c.style column k) refl where
   go : (b : Bool) → is_implicit c.style column k ≡ b → EntryMakes c false column (max (tall k) (tall v)) (λ t m ps. FoundPair t c column k v m ps) (either_pair (is_implicit c.style column k) c column k v)
@@ -153,41 +153,42 @@ bound_last {c} {sequence} {column} {P = P} {rs = rs} e = subst (λ n. EntriesMak
 
 -- Trees.
 
-mutual
-  node_everywhere : (c : LayoutSetting) {x : Node} → Fit x → Everywhere c x
-  node_everywhere c (fit_nothing {at = at} e) = record { claim = λ spot. no_row (record { meant = λ i. meant_nothing i e refl }) }
-  node_everywhere c {x} (fit_line inline some node key) = record {
-    claim = λ spot.
-        subst (λ rs. Claim c x spot rs) (sym (inline_rows c spot x inline)) (line_claim spot (written x) refl some (inline_beside x inline) inline node);
-  }
-  node_everywhere c (fit_scalar e props f) = record { claim = λ spot. scalar_claim c spot e props f }
-  node_everywhere c (fit_sequence {at = at} {p = p} {x = x} {xs = xs} e props f fs) = record { claim = λ spot. sequence_claim spot props (items_everywhere c spot.entries (node_everywhere c f) fs) } where
-    sequence_claim : (spot : Spot) {p : PropsValue} → FitProps p → EntriesMakes c true spot.entries (tall_items (item x xs)) (λ t m ps. FoundItems t c spot.entries (item x xs) m ps) (rows_of_items c spot.entries (item x xs))
-        → Claim c (sequence at false p (item x xs)) spot (props_row spot.column (props_text p) ++ rows_of_items c spot.entries (item x xs))
-    sequence_claim spot no_fit_props made = bare_claim refl refl refl (λ t i j m ps a. found_sequence i j e refl a) made
-    sequence_claim spot (some_fit_props {p = p} k n) made =
-        propertied_claim k n (ap is_empty_text (same_props k) ∙ some_props k n) refl refl
-        (λ t o f g i j m h ps y z w a. found_sequence_with p o f g i j e refl (ap is_empty_text (same_props k) ∙ some_props k n) y z w a) made
-  node_everywhere c (fit_mapping {at = at} {p = p} {k = k} {v = v} {ps = ps} e props f g fs) =
-      record { claim = λ spot. mapping_claim spot props (pairs_everywhere c spot.entries f (node_everywhere c f) (node_everywhere c g) fs) } where
-        mapping_claim : (spot : Spot) {p : PropsValue} → FitProps p → EntriesMakes c false spot.entries (tall_pairs (pair k v ps)) (λ t m qs. FoundPairs t c spot.entries (pair k v ps) m qs) (rows_of_pairs c spot.entries (pair k v ps))
-            → Claim c (mapping at false p (pair k v ps)) spot (props_row spot.column (props_text p) ++ rows_of_pairs c spot.entries (pair k v ps))
-        mapping_claim spot no_fit_props made = bare_claim refl refl refl (λ t i j m qs a. found_mapping i j e refl a) made
-        mapping_claim spot (some_fit_props {p = p} k n) made =
-            propertied_claim k n (ap is_empty_text (same_props k) ∙ some_props k n) refl refl
-            (λ t o f g i j m h qs y z w a. found_mapping_with p o f g i j e refl (ap is_empty_text (same_props k) ∙ some_props k n) y z w a) made
+module _ (c : LayoutSetting) where
+  mutual
+    node_everywhere : {x : Node} → Fit c.style x → Everywhere c x
+    node_everywhere (fit_nothing {at = at} e) = record { claim = λ spot. no_row (record { meant = λ i. meant_nothing i e refl }) }
+    node_everywhere {x} (fit_line inline some node key) = record {
+      claim = λ spot.
+          subst (λ rs. Claim c x spot rs) (sym (inline_rows c spot x inline)) (line_claim spot (written c.style x) refl some (inline_beside x inline) inline node);
+    }
+    node_everywhere (fit_scalar e props f) = record { claim = λ spot. scalar_claim c spot e props f }
+    node_everywhere (fit_sequence {at = at} {p = p} {x = x} {xs = xs} e props f fs) = record { claim = λ spot. sequence_claim spot props (items_everywhere spot.entries (node_everywhere f) fs) } where
+      sequence_claim : (spot : Spot) {p : PropsValue} → FitProps p → EntriesMakes c true spot.entries (tall_items (item x xs)) (λ t m ps. FoundItems t c spot.entries (item x xs) m ps) (rows_of_items c spot.entries (item x xs))
+          → Claim c (sequence at false p (item x xs)) spot (props_row spot.column (props_text p) ++ rows_of_items c spot.entries (item x xs))
+      sequence_claim spot no_fit_props made = bare_claim refl refl refl (λ t i j m ps a. found_sequence i j e refl a) made
+      sequence_claim spot (some_fit_props {p = p} k n) made =
+          propertied_claim k n (ap is_empty_text (same_props k) ∙ some_props k n) refl refl
+          (λ t o f g i j m h ps y z w a. found_sequence_with p o f g i j e refl (ap is_empty_text (same_props k) ∙ some_props k n) y z w a) made
+    node_everywhere (fit_mapping {at = at} {p = p} {k = k} {v = v} {ps = ps} e props f g fs) =
+        record { claim = λ spot. mapping_claim spot props (pairs_everywhere spot.entries f (node_everywhere f) (node_everywhere g) fs) } where
+          mapping_claim : (spot : Spot) {p : PropsValue} → FitProps p → EntriesMakes c false spot.entries (tall_pairs (pair k v ps)) (λ t m qs. FoundPairs t c spot.entries (pair k v ps) m qs) (rows_of_pairs c spot.entries (pair k v ps))
+              → Claim c (mapping at false p (pair k v ps)) spot (props_row spot.column (props_text p) ++ rows_of_pairs c spot.entries (pair k v ps))
+          mapping_claim spot no_fit_props made = bare_claim refl refl refl (λ t i j m qs a. found_mapping i j e refl a) made
+          mapping_claim spot (some_fit_props {p = p} k n) made =
+              propertied_claim k n (ap is_empty_text (same_props k) ∙ some_props k n) refl refl
+              (λ t o f g i j m h qs y z w a. found_mapping_with p o f g i j e refl (ap is_empty_text (same_props k) ∙ some_props k n) y z w a) made
 
-  items_everywhere : (c : LayoutSetting) (column : ℕ) {x : Node} {xs : Items} → Everywhere c x → FitItems xs
-      → EntriesMakes c true column (tall_items (item x xs)) (λ t m ps. FoundItems t c column (item x xs) m ps) (rows_of_items c column (item x xs))
-  items_everywhere c column {x} f fit_no_items = bound_last (omega arith) (entries_last (λ t m ps a. found_last_item a) (dash_makes c column f))
-  items_everywhere c column f (fit_item g gs) = entries_more (λ t m n ps qs a b. found_more_items a b) (dash_makes c column f) (items_everywhere c column (node_everywhere c g) gs)
+    items_everywhere : (column : ℕ) {x : Node} {xs : Items} → Everywhere c x → FitItems c.style xs
+        → EntriesMakes c true column (tall_items (item x xs)) (λ t m ps. FoundItems t c column (item x xs) m ps) (rows_of_items c column (item x xs))
+    items_everywhere column {x} f fit_no_items = bound_last (omega arith) (entries_last (λ t m ps a. found_last_item a) (dash_makes c column f))
+    items_everywhere column f (fit_item g gs) = entries_more (λ t m n ps qs a b. found_more_items a b) (dash_makes c column f) (items_everywhere column (node_everywhere g) gs)
 
-  pairs_everywhere : (c : LayoutSetting) (column : ℕ) {k v : Node} {ps : Pairs} → Fit k → Everywhere c k → Everywhere c v → FitPairs ps
-      → EntriesMakes c false column (tall_pairs (pair k v ps)) (λ t m qs. FoundPairs t c column (pair k v ps) m qs) (rows_of_pairs c column (pair k v ps))
-  pairs_everywhere c column {k} {v} fit f g fit_no_pairs = bound_last (omega arith) (entries_last (λ t m qs a. found_last_pair a) (pair_makes c column fit f g))
-  pairs_everywhere c column fit f g (fit_pair a b fs) =
-      entries_more (λ t m n hs qs a b. found_more_pairs a b) (pair_makes c column fit f g) (pairs_everywhere c column a (node_everywhere c a) (node_everywhere c b) fs)
+    pairs_everywhere : (column : ℕ) {k v : Node} {ps : Pairs} → Fit c.style k → Everywhere c k → Everywhere c v → FitPairs c.style ps
+        → EntriesMakes c false column (tall_pairs (pair k v ps)) (λ t m qs. FoundPairs t c column (pair k v ps) m qs) (rows_of_pairs c column (pair k v ps))
+    pairs_everywhere column {k} {v} fit f g fit_no_pairs = bound_last (omega arith) (entries_last (λ t m qs a. found_last_pair a) (pair_makes c column fit f g))
+    pairs_everywhere column fit f g (fit_pair a b fs) =
+        entries_more (λ t m n hs qs a b. found_more_pairs a b) (pair_makes c column fit f g) (pairs_everywhere column a (node_everywhere a) (node_everywhere b) fs)
 
 -- the rows of a node are derived as the node, wherever they are
-pub node_claim : (c : LayoutSetting) (spot : Spot) {x : Node} → Fit x → Claim c x spot (rows c spot x)
+pub node_claim : (c : LayoutSetting) (spot : Spot) {x : Node} → Fit c.style x → Claim c x spot (rows c spot x)
 node_claim c spot f = (node_everywhere c f).claim spot

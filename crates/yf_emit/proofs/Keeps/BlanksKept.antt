@@ -4,7 +4,6 @@ use Rattle.std.specs.Prelude.{◌&&◌, filter, not}
 use Rattle.std.specs.Str.{IsUtf8}
 use Rattle.yf_comments.specs.Comment.{CommentValue}
 use Rattle.yf_comments.specs.GapLines.{GapLine}
-use Rattle.yf_lines.specs.declared.quotes.Quotes.{Quotes}
 use Rattle.yf_events.specs.Event.{EventInText}
 use Rattle.yf_events.specs.declared.lists.Lists.{Lists}
 use Rattle.yf_emit.specs.declared.style.Style.{Style}
@@ -99,7 +98,7 @@ module _ (c d : Source) where
 
 -- The law.
 
-restyled_entries : {quotes : Quotes} {es fs : List EventInText} → SameButStyles quotes es fs → map (λ (e : EventInText). e.entry) fs ≡ map (λ (e : EventInText). e.entry) es
+restyled_entries : {house : Style} {es fs : List EventInText} → SameButStyles house es fs → map (λ (e : EventInText). e.entry) fs ≡ map (λ (e : EventInText). e.entry) es
 restyled_entries none_left = refl
 restyled_entries (one_more {e = e} flow more) = ap (λ w. e.entry ∷ w) (restyled_entries more)
 

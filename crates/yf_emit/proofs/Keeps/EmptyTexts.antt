@@ -63,12 +63,12 @@ documents_none c (d ∷ ds) (x ∷ xs) l e =
     absurd (begun_some d.start d.directives
     (first_none (beginning_at d.start (end_rows true d.directives ++ (map directive_row d.directives ++ (start_row ∷ [])))) (rows c (root_spot c.style) x.root) (stream_rows c false ds xs) e))
 
-fit_count : {ds : List Doc} {xs : List DocumentTree} → FitDocuments ds xs → length ds ≡ length xs
-fit_count fit_no_documents = refl
-fit_count (fit_document f fit more) = let n = fit_count more in omega (arith, n)
+fit_count : (house : Style) {ds : List Doc} {xs : List DocumentTree} → FitDocuments house ds xs → length ds ≡ length xs
+fit_count house fit_no_documents = refl
+fit_count house (fit_document f fit more) = let n = fit_count house more in omega (arith, n)
 
-all_none : (c : LayoutSetting) (bare : Bool) (ds : List Doc) (trees : List DocumentTree) → FitDocuments ds trees → FitsBare bare ds trees → all_rows c bare ds trees ≡ [] → ds ≡ []
-all_none c false ds trees fit fits e = documents_none c ds trees (fit_count fit) e
+all_none : (c : LayoutSetting) (bare : Bool) (ds : List Doc) (trees : List DocumentTree) → FitDocuments c.style ds trees → FitsBare bare ds trees → all_rows c bare ds trees ≡ [] → ds ≡ []
+all_none c false ds trees fit fits e = documents_none c ds trees (fit_count c.style fit) e
 all_none c true [] trees fit fits e = elim fits [ ]
 all_none c true (d ∷ ds) [] fit fits e = elim fit [ ]
 all_none c true (d ∷ ds) (x ∷ xs) (fit_document f fit more) (fits_bare none some) e = absurd (bare_none (rows c (root_spot c.style) x.root) e (rows_some c fit some)) where

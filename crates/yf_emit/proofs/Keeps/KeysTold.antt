@@ -7,6 +7,7 @@ use Rattle.yf_events.specs.declared.directive.Directive.{Directive}
 use Rattle.yf_events.specs.declared.document.Doc.{Doc}
 use Rattle.yf_events.specs.declared.event.ScalarStyle.TheVariants.{Plain, Single, Double, Literal, Folded}
 use Rattle.yf_events.specs.Tree.{DocumentTree, Node, scalar, alias, sequence, mapping, Items, no_items, item, Pairs, no_pairs, pair}
+use Rattle.yf_emit.specs.declared.style.Style.{Style}
 use Rattle.yf_emit.specs.Preservation.KeyComments.{keyed_in, keyed_in_documents, keyed_in_items, keyed_in_pairs}
 use Rattle.yf_emit.specs.NormalForms.Normal.{LayoutSetting, Spot, inner_spot, is_implicit, key_comment, key_spot, root_spot, value_spot}
 use Rattle.yf_emit.specs.Nodes.OneLine.{props_text, written}
@@ -35,16 +36,16 @@ keys_props : (column : ℕ) (w : List ℕ) (xs : List Row) → keys_on (props_ro
 keys_props column [] xs = refl
 keys_props column (b ∷ w) xs = refl
 
-keys_after : (column : ℕ) (k : Node) (o : Option CommentValue) (below : Bool) (xs : List Row) → keys_on (after_key (key_row column k) o below xs) ≡ option_to_list o ++ keys_on xs
-keys_after column k (Some c) below xs = refl
-keys_after column k None true xs = refl
-keys_after column k None false xs = keys_joined (key_row column k) 1 xs refl
+keys_after : (house : Style) (column : ℕ) (k : Node) (o : Option CommentValue) (below : Bool) (xs : List Row) → keys_on (after_key (key_row house column k) o below xs) ≡ option_to_list o ++ keys_on xs
+keys_after house column k (Some c) below xs = refl
+keys_after house column k None true xs = refl
+keys_after house column k None false xs = keys_joined (key_row house column k) 1 xs refl
 
 keys_pair : (c : LayoutSetting) (column : ℕ) (k v : Node) (xs ys : List Row)
     → keys_on (pair_rows c column k v xs ys) ≡ (if is_implicit c.style column k then option_to_list (key_comment c.comments k v) else keys_on xs) ++ keys_on ys
 keys_pair c column k v xs ys = by (is_implicit c.style column k) where
   by : (p : Bool) → keys_on (if p then implicit_pair c column k v ys else explicit_pair c.style column k xs ys) ≡ (if p then option_to_list (key_comment c.comments k v) else keys_on xs) ++ keys_on ys
-  by true = keys_after column k (key_comment c.comments k v) (begins_below v) ys
+  by true = keys_after c.style column k (key_comment c.comments k v) (begins_below v) ys
   by false =
       keys_append (joined (entry_row column (63 ∷ []) k) (c.style.indent - 1) xs) (joined (colon_row column k) (c.style.indent - 1) ys)
       ∙ both (keys_joined (entry_row column (63 ∷ []) k) (c.style.indent - 1) xs refl) (keys_joined (colon_row column k) (c.style.indent - 1) ys refl)
@@ -53,15 +54,15 @@ keys_pair c column k v xs ys = by (is_implicit c.style column k) where
 
 mutual
   keys_of_node : (c : LayoutSetting) (spot : Spot) (x : Node) → keys_on (rows c spot x) ≡ keyed_in c spot x
-  keys_of_node c spot (scalar at props Plain text lines) = keys_line spot.column (scalar at props Plain text lines) (written (scalar at props Plain text lines))
-  keys_of_node c spot (scalar at props Single text lines) = keys_line spot.column (scalar at props Single text lines) (written (scalar at props Single text lines))
-  keys_of_node c spot (scalar at props Double text lines) = keys_line spot.column (scalar at props Double text lines) (written (scalar at props Double text lines))
+  keys_of_node c spot (scalar at props Plain text lines) = keys_line spot.column (scalar at props Plain text lines) (written c.style (scalar at props Plain text lines))
+  keys_of_node c spot (scalar at props Single text lines) = keys_line spot.column (scalar at props Single text lines) (written c.style (scalar at props Single text lines))
+  keys_of_node c spot (scalar at props Double text lines) = keys_line spot.column (scalar at props Double text lines) (written c.style (scalar at props Double text lines))
   keys_of_node c spot (scalar at props Literal text lines) = refl
   keys_of_node c spot (scalar at props Folded text lines) = refl
-  keys_of_node c spot (alias at name) = keys_line spot.column (alias at name) (written (alias at name))
-  keys_of_node c spot (sequence at true props items) = keys_line spot.column (sequence at true props items) (written (sequence at true props items))
+  keys_of_node c spot (alias at name) = keys_line spot.column (alias at name) (written c.style (alias at name))
+  keys_of_node c spot (sequence at true props items) = keys_line spot.column (sequence at true props items) (written c.style (sequence at true props items))
   keys_of_node c spot (sequence at false props items) = keys_props spot.column (props_text props) (rows_of_items c spot.entries items) ∙ keys_of_items c spot.entries items
-  keys_of_node c spot (mapping at true props pairs) = keys_line spot.column (mapping at true props pairs) (written (mapping at true props pairs))
+  keys_of_node c spot (mapping at true props pairs) = keys_line spot.column (mapping at true props pairs) (written c.style (mapping at true props pairs))
   keys_of_node c spot (mapping at false props pairs) = keys_props spot.column (props_text props) (rows_of_pairs c spot.entries pairs) ∙ keys_of_pairs c spot.entries pairs
 
   keys_of_items : (c : LayoutSetting) (column : ℕ) (xs : Items) → keys_on (rows_of_items c column xs) ≡ keyed_in_items c column xs

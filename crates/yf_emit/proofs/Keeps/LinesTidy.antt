@@ -172,9 +172,9 @@ lines_tidy t u s utf8 f =
           let scalars : block_scalars (flat_map flat_document trees) ≡ block_scalars q.events =
           sym (scalars_ended (flat_map flat_document trees) stream_ends refl) ∙ (ap block_scalars (sym f.writes.of_reading.events) ∙ told_scalars m.events q.events (events_told utf8 f b)) in
           let found = (found_reading t u s q utf8 f b).alike in
-          let pieces : pieces_in q.events ≡ pieces_in (flat_map flat_document trees) =
-          sym (told_pieces m.events q.events (events_told utf8 f b)) ∙ (ap pieces_in f.writes.of_reading.events ∙ pieces_ended (flat_map flat_document trees) stream_ends refl) in
-          let read : PiecesTabless (IsToken q) q.events = reading_pieces a.utf8 (IsToken q) b (λ w h. text_left (comment_texts q) h) in
+          let pieces : pieces_in s q.events ≡ pieces_in s (flat_map flat_document trees) =
+          sym (told_pieces s m.events q.events (events_told utf8 f b)) ∙ (ap (pieces_in s) f.writes.of_reading.events ∙ pieces_ended s (flat_map flat_document trees) stream_ends refl) in
+          let read : PiecesTabless (IsToken q) s q.events = reading_pieces a.utf8 (IsToken q) s b (λ w h. text_left (comment_texts q) h) in
           let tabs : TokenRows (IsToken q) rows =
           laid_tokens (IsToken q) (setting_of m s) (is_bare m s) m.documents trees (words_tabless (IsToken q) a.fit) (λ w h. read w (subst (λ z. HasText w z) (sym pieces) h)) in
           let texts : comment_texts q ≡ comment_texts m =

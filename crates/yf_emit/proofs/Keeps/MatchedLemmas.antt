@@ -48,7 +48,7 @@ either_if false true e a = absurd (true≢false (sym e))
 
 module _ {ps : PairedOffsets} where
   mutual
-    pub matched_alike : {x y : Node} → NodesMatch ps x y → Alike Anywhere x y
+    pub matched_alike : {s : Style} {x y : Node} → NodesMatch ps s x y → Alike Anywhere x y
     matched_alike (matched_scalars a e) = alike_scalars (some_either a)
     matched_alike (matched_aliases a e) = alike_aliases (some_either a)
     matched_alike (matched_empty_sequences a e) = alike_sequences (some_either a) alike_nothing
@@ -56,11 +56,11 @@ module _ {ps : PairedOffsets} where
     matched_alike (matched_sequences a e m more) = alike_sequences a (alike_item (matched_alike m) (items_alike more))
     matched_alike (matched_mappings a e i m n more) = alike_mappings a (alike_pair (matched_alike m) (matched_alike n) tt (pairs_alike more))
 
-    items_alike : {xs ys : Items} → ItemsMatch ps xs ys → AlikeItems Anywhere xs ys
+    items_alike : {s : Style} {xs ys : Items} → ItemsMatch ps s xs ys → AlikeItems Anywhere xs ys
     items_alike no_matched_items = alike_nothing
     items_alike (matched_item m more) = alike_item (matched_alike m) (items_alike more)
 
-    pairs_alike : {qs rs : Pairs} → PairsMatch ps qs rs → AlikePairs Anywhere qs rs
+    pairs_alike : {s : Style} {qs rs : Pairs} → PairsMatch ps s qs rs → AlikePairs Anywhere qs rs
     pairs_alike no_matched_pairs = alike_no_pairs
     pairs_alike (matched_pair i m n more) = alike_pair (matched_alike m) (matched_alike n) tt (pairs_alike more)
 
@@ -74,7 +74,7 @@ module _ {ps : PairedOffsets} where
   starts_each none_each = none_each
   starts_each (one_each a more) = one_each a.start (starts_each more)
 
-  pub entry_of : {x y : Node} → NodesMatch ps x y → Either (SameEntry ps) (standing x).entry (standing y).entry
+  pub entry_of : {s : Style} {x y : Node} → NodesMatch ps s x y → Either (SameEntry ps) (standing x).entry (standing y).entry
   entry_of (matched_scalars a e) = e
   entry_of (matched_aliases a e) = e
   entry_of (matched_empty_sequences a e) = e
@@ -86,11 +86,11 @@ module _ {ps : PairedOffsets} where
   entry_starts in_neither = none_each
   entry_starts (in_both e) = one_each e.start none_each
 
-  pub entry_each : {x y : Node} → NodesMatch ps x y → Each (SameSide ps.comments) (entry_start x) (entry_start y)
+  pub entry_each : {s : Style} {x y : Node} → NodesMatch ps s x y → Each (SameSide ps.comments) (entry_start x) (entry_start y)
   entry_each m = entry_starts (entry_of m)
 
   mutual
-    pub leaves_each : {x y : Node} → NodesMatch ps x y → Each (SameSpan ps) (leaves x) (leaves y)
+    pub leaves_each : {s : Style} {x y : Node} → NodesMatch ps s x y → Each (SameSpan ps) (leaves x) (leaves y)
     leaves_each (matched_scalars a e) = leaf_spans a
     leaves_each (matched_aliases a e) = leaf_spans a
     leaves_each (matched_empty_sequences a e) = leaf_spans a
@@ -98,16 +98,16 @@ module _ {ps : PairedOffsets} where
     leaves_each (matched_sequences a e m more) = each_append (leaves_each m) (items_leaves more)
     leaves_each (matched_mappings a e i m n more) = each_append (leaves_each m) (each_append (leaves_each n) (pairs_leaves more))
 
-    items_leaves : {xs ys : Items} → ItemsMatch ps xs ys → Each (SameSpan ps) (leaves_of_items xs) (leaves_of_items ys)
+    items_leaves : {s : Style} {xs ys : Items} → ItemsMatch ps s xs ys → Each (SameSpan ps) (leaves_of_items xs) (leaves_of_items ys)
     items_leaves no_matched_items = none_each
     items_leaves (matched_item m more) = each_append (leaves_each m) (items_leaves more)
 
-    pairs_leaves : {qs rs : Pairs} → PairsMatch ps qs rs → Each (SameSpan ps) (leaves_of_pairs qs) (leaves_of_pairs rs)
+    pairs_leaves : {s : Style} {qs rs : Pairs} → PairsMatch ps s qs rs → Each (SameSpan ps) (leaves_of_pairs qs) (leaves_of_pairs rs)
     pairs_leaves no_matched_pairs = none_each
     pairs_leaves (matched_pair i m n more) = each_append (leaves_each m) (each_append (leaves_each n) (pairs_leaves more))
 
   mutual
-    pub items_each : {x y : Node} → NodesMatch ps x y → Each (SameSide ps.comments) (items_in x) (items_in y)
+    pub items_each : {s : Style} {x y : Node} → NodesMatch ps s x y → Each (SameSide ps.comments) (items_in x) (items_in y)
     items_each (matched_scalars a e) = starts_each (leaf_spans a)
     items_each (matched_aliases a e) = starts_each (leaf_spans a)
     items_each (matched_empty_sequences a e) = starts_each (leaf_spans a)
@@ -115,11 +115,11 @@ module _ {ps : PairedOffsets} where
     items_each (matched_sequences a e m more) = each_append (entry_each m) (each_append (items_each m) (items_items more))
     items_each (matched_mappings a e i m n more) = each_append (entry_each m) (each_append (items_each m) (each_append (items_each n) (pairs_items more)))
 
-    items_items : {xs ys : Items} → ItemsMatch ps xs ys → Each (SameSide ps.comments) (items_in_items xs) (items_in_items ys)
+    items_items : {s : Style} {xs ys : Items} → ItemsMatch ps s xs ys → Each (SameSide ps.comments) (items_in_items xs) (items_in_items ys)
     items_items no_matched_items = none_each
     items_items (matched_item m more) = each_append (entry_each m) (each_append (items_each m) (items_items more))
 
-    pairs_items : {qs rs : Pairs} → PairsMatch ps qs rs → Each (SameSide ps.comments) (items_in_pairs qs) (items_in_pairs rs)
+    pairs_items : {s : Style} {qs rs : Pairs} → PairsMatch ps s qs rs → Each (SameSide ps.comments) (items_in_pairs qs) (items_in_pairs rs)
     pairs_items no_matched_pairs = none_each
     pairs_items (matched_pair i m n more) = each_append (entry_each m) (each_append (items_each m) (each_append (items_each n) (pairs_items more)))
 
@@ -133,7 +133,7 @@ module _ {ps : PairedOffsets} where
   entry_side i in_neither = absurd (true≢false (sym i))
   entry_side i (in_both e) = e.start
 
-  start_side : {k l : Node} → is_some (standing k).entry ≡ true → NodesMatch ps k l → SameSide ps.comments (key_start k) (key_start l)
+  start_side : {s : Style} {k l : Node} → is_some (standing k).entry ≡ true → NodesMatch ps s k l → SameSide ps.comments (key_start k) (key_start l)
   start_side i m = last_each (entry_side i (entry_of m)) (leaves_each m)
 
   between : {cs ds : List CommentValue} {a b : ℕ} {xs ys : List Span} → Each (SameComment ps) cs ds → SameSide ps.comments a b → Each (SameSpan ps) xs ys → Either (SameComment ps) (first_between cs a xs) (first_between ds b ys)
@@ -142,12 +142,12 @@ module _ {ps : PairedOffsets} where
       find_each (λ c. nat_lt a c.offset && nat_lt c.offset x.start) (λ d. nat_lt b d.offset && nat_lt d.offset y.start)
       (λ c d e. both_lt (s.before c.offset d.offset e.paired) (l.start.after c.offset d.offset e.paired)) cs
 
-  pub key_each : {cs ds : List CommentValue} {k l v w : Node} → Each (SameComment ps) cs ds → is_some (standing k).entry ≡ true → NodesMatch ps k l → NodesMatch ps v w
+  pub key_each : {s : Style} {cs ds : List CommentValue} {k l v w : Node} → Each (SameComment ps) cs ds → is_some (standing k).entry ≡ true → NodesMatch ps s k l → NodesMatch ps s v w
       → Either (SameComment ps) (key_comment cs k v) (key_comment ds l w)
   key_each {v = v} {w = w} cs i m n =
       either_if (is_text v || is_filled_flow v) (is_text w || is_filled_flow w)
       (ap (λ z. z || is_filled_flow v) (same_text (matched_alike n)) ∙ ap (λ z. is_text w || z) (same_filled_flow (matched_alike n)))
       (between cs (start_side i m) (leaves_each n))
 
-  pub keys_agree : {cs ds : List CommentValue} {k l v w : Node} (s : Style) → Each (SameComment ps) cs ds → is_some (standing k).entry ≡ true → NodesMatch ps k l → NodesMatch ps v w → KeysAgree s cs ds k v l w
+  pub keys_agree : {cs ds : List CommentValue} {k l v w : Node} (s : Style) → Each (SameComment ps) cs ds → is_some (standing k).entry ≡ true → NodesMatch ps s k l → NodesMatch ps s v w → KeysAgree s cs ds k v l w
   keys_agree s cs i m n = record { comment = λ column e. some_either (key_each cs i m n) }

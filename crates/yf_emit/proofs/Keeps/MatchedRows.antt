@@ -24,7 +24,7 @@ standing_either true x y e f = e
 standing_either false x y e f = f
 
 module _ {ps : PairedOffsets} {cs ds : List CommentValue} (s : Style) (same : Each (SameComment ps) cs ds) where
-  either_node : (p q : Bool) {x y z w : Node} → p ≡ q → NodesMatch ps x y → NodesMatch ps z w → NodesMatch ps (if p then x else z) (if q then y else w)
+  either_node : (p q : Bool) {x y z w : Node} → p ≡ q → NodesMatch ps s x y → NodesMatch ps s z w → NodesMatch ps s (if p then x else z) (if q then y else w)
   either_node true true e a b = a
   either_node false false e a b = b
   either_node true false e a b = absurd (true≢false e)
@@ -42,7 +42,7 @@ module _ {ps : PairedOffsets} {cs ds : List CommentValue} (s : Style) (same : Ea
       standing_either (flow && fits s spot.column (mapping at flow props (pair k v qs))) (mapping at flow props (pair k v qs))
       (mapping at false props (pair (settled (setting s bs) (key_spot s spot.entries k) k) (settled (setting s bs) (value_spot (setting s bs) spot.entries k v) v) (settled_pairs (setting s bs) spot.entries qs))) refl refl
 
-  leaf_settled : (bs : List CommentValue) (spot : Spot) (k : Node) → is_leaf_key k ≡ true → settled (setting s bs) spot k ≡ k
+  leaf_settled : (bs : List CommentValue) (spot : Spot) (k : Node) → is_leaf_key s k ≡ true → settled (setting s bs) spot k ≡ k
   leaf_settled bs spot (scalar at props style text lines) e = refl
   leaf_settled bs spot (alias at name) e = refl
   leaf_settled bs spot (sequence at flow props no_items) e = refl
@@ -50,18 +50,18 @@ module _ {ps : PairedOffsets} {cs ds : List CommentValue} (s : Style) (same : Ea
   leaf_settled bs spot (mapping at flow props no_pairs) e = refl
   leaf_settled bs spot (mapping at flow props (pair k v qs)) e = absurd (true≢false (sym e))
 
-  colons_kept : (spot other : Spot) (k l : Node) → SameColons ps k l → SameColons ps (settled (setting s cs) spot k) (settled (setting s ds) other l)
+  colons_kept : (spot other : Spot) (k l : Node) → SameColons ps s k l → SameColons ps s (settled (setting s cs) spot k) (settled (setting s ds) other l)
   colons_kept spot other k l (colons_match e) =
       colons_match
       (subst (λ (z : NodeOffsets). Each (SameSide ps.comments) (colon_offset z.entry) (colon_offset (standing (settled (setting s ds) other l)).entry)) (sym (standing_settled cs spot k))
       (subst (λ (z : NodeOffsets). Each (SameSide ps.comments) (colon_offset (standing k).entry) (colon_offset z.entry)) (sym (standing_settled ds other l)) e))
-  colons_kept spot other k l (no_colon_counts e) = no_colon_counts (ap is_leaf_key (leaf_settled cs spot k e) ∙ e)
+  colons_kept spot other k l (no_colon_counts e) = no_colon_counts (ap (is_leaf_key s) (leaf_settled cs spot k e) ∙ e)
 
-  keys_kept : (spot other : Spot) (k l : Node) → SameKeys ps k l → SameKeys ps (settled (setting s cs) spot k) (settled (setting s ds) other l)
+  keys_kept : (spot other : Spot) (k l : Node) → SameKeys ps s k l → SameKeys ps s (settled (setting s cs) spot k) (settled (setting s ds) other l)
   keys_kept spot other k l i = record { begins = ap (λ (z : NodeOffsets). is_some z.entry) (standing_settled cs spot k) ∙ i.begins; colon = colons_kept spot other k l i.colon }
 
   mutual
-    pub settled_matched : (spot : Spot) {x y : Node} → NodesMatch ps x y → NodesMatch ps (settled (setting s cs) spot x) (settled (setting s ds) spot y)
+    pub settled_matched : (spot : Spot) {x y : Node} → NodesMatch ps s x y → NodesMatch ps s (settled (setting s cs) spot x) (settled (setting s ds) spot y)
     settled_matched spot (matched_scalars a e) = matched_scalars a e
     settled_matched spot (matched_aliases a e) = matched_aliases a e
     settled_matched spot (matched_empty_sequences a e) = matched_empty_sequences a e
@@ -74,21 +74,21 @@ module _ {ps : PairedOffsets} {cs ds : List CommentValue} (s : Style) (same : Ea
         either_node (flow && fits s spot.column (mapping at flow props (pair k v qs))) (flow && fits s spot.column (mapping bt flow props (pair l w rs)))
         (ap (λ b. flow && b) (same_fit s spot.column (matched_alike (matched_mappings {at = at} {bt = bt} {flow = flow} {props = props} a e i m n more)))) (matched_mappings a e i m n more)
         (matched_mappings a e (keys_kept (key_spot s spot.entries k) (key_spot s spot.entries l) k l i)
-        (subst (λ z. NodesMatch ps (settled (setting s cs) (key_spot s spot.entries k) k) (settled (setting s ds) z l)) (same_key_spot s spot.entries (matched_alike m)) (settled_matched (key_spot s spot.entries k) m))
-        (subst (λ z. NodesMatch ps (settled (setting s cs) (value_spot (setting s cs) spot.entries k v) v) (settled (setting s ds) z w)) (same_value_spot s spot.entries (matched_alike m) (matched_alike n) (keys_agree s same i.begins m n))
+        (subst (λ z. NodesMatch ps s (settled (setting s cs) (key_spot s spot.entries k) k) (settled (setting s ds) z l)) (same_key_spot s spot.entries (matched_alike m)) (settled_matched (key_spot s spot.entries k) m))
+        (subst (λ z. NodesMatch ps s (settled (setting s cs) (value_spot (setting s cs) spot.entries k v) v) (settled (setting s ds) z w)) (same_value_spot s spot.entries (matched_alike m) (matched_alike n) (keys_agree s same i.begins m n))
         (settled_matched (value_spot (setting s cs) spot.entries k v) n))
         (pairs_settled spot.entries more))
 
-    items_settled : (column : ℕ) {xs ys : Items} → ItemsMatch ps xs ys → ItemsMatch ps (settled_items (setting s cs) column xs) (settled_items (setting s ds) column ys)
+    items_settled : (column : ℕ) {xs ys : Items} → ItemsMatch ps s xs ys → ItemsMatch ps s (settled_items (setting s cs) column xs) (settled_items (setting s ds) column ys)
     items_settled column no_matched_items = no_matched_items
     items_settled column (matched_item m more) = matched_item (settled_matched (inner_spot s column) m) (items_settled column more)
 
-    pairs_settled : (column : ℕ) {qs rs : Pairs} → PairsMatch ps qs rs → PairsMatch ps (settled_pairs (setting s cs) column qs) (settled_pairs (setting s ds) column rs)
+    pairs_settled : (column : ℕ) {qs rs : Pairs} → PairsMatch ps s qs rs → PairsMatch ps s (settled_pairs (setting s cs) column qs) (settled_pairs (setting s ds) column rs)
     pairs_settled column no_matched_pairs = no_matched_pairs
     pairs_settled column (matched_pair {k = k} {v = v} {l = l} {w = w} i m n more) =
         matched_pair (keys_kept (key_spot s column k) (key_spot s column l) k l i)
-        (subst (λ z. NodesMatch ps (settled (setting s cs) (key_spot s column k) k) (settled (setting s ds) z l)) (same_key_spot s column (matched_alike m)) (settled_matched (key_spot s column k) m))
-        (subst (λ z. NodesMatch ps (settled (setting s cs) (value_spot (setting s cs) column k v) v) (settled (setting s ds) z w)) (same_value_spot s column (matched_alike m) (matched_alike n) (keys_agree s same i.begins m n))
+        (subst (λ z. NodesMatch ps s (settled (setting s cs) (key_spot s column k) k) (settled (setting s ds) z l)) (same_key_spot s column (matched_alike m)) (settled_matched (key_spot s column k) m))
+        (subst (λ z. NodesMatch ps s (settled (setting s cs) (value_spot (setting s cs) column k v) v) (settled (setting s ds) z w)) (same_value_spot s column (matched_alike m) (matched_alike n) (keys_agree s same i.begins m n))
         (settled_matched (value_spot (setting s cs) column k v) n))
         (pairs_settled column more)
 
@@ -113,8 +113,8 @@ module _ {ps : PairedOffsets} where
   line_match column x y [] a b = none_each
   line_match column x y (c ∷ w) a b = one_each (record { items = a; leaves = b; key = in_neither; blank = refl }) none_each
 
-  one_match : (spot : Spot) (x y : Node) → NodesMatch ps x y → Each (RowMatch ps) (one_line spot x) (one_line spot y)
-  one_match spot x y m = subst (λ w. Each (RowMatch ps) (one_line spot x) (one_line_row spot.column y w)) (same_written (matched_alike m)) (line_match spot.column x y (written x) (items_each m) (leaves_each m))
+  one_match : (house : Style) (spot : Spot) (x y : Node) → NodesMatch ps house x y → Each (RowMatch ps) (one_line house spot x) (one_line house spot y)
+  one_match house spot x y m = subst (λ w. Each (RowMatch ps) (one_line house spot x) (one_line_row spot.column y w)) (same_written house (matched_alike m)) (line_match spot.column x y (written house x) (items_each m) (leaves_each m))
 
   bare_row : {x y : Row} → x.items ≡ [] → y.items ≡ [] → x.leaves ≡ [] → y.leaves ≡ [] → x.key_comment ≡ None → y.key_comment ≡ None → x.blank_before ≡ y.blank_before → RowMatch ps x y
   bare_row {x} {y} a b c d e f g = record {
@@ -128,27 +128,27 @@ module _ {ps : PairedOffsets} where
   props_match column [] a = a
   props_match column (b ∷ w) a = one_each (bare_row refl refl refl refl refl refl refl) a
 
-  entry_match : (column : ℕ) (w : List ℕ) {x y : Node} → NodesMatch ps x y → RowMatch ps (entry_row column w x) (entry_row column w y)
+  entry_match : {s : Style} (column : ℕ) (w : List ℕ) {x y : Node} → NodesMatch ps s x y → RowMatch ps (entry_row column w x) (entry_row column w y)
   entry_match column w m = record { items = entry_each m; leaves = none_each; key = in_neither; blank = blank_same (entry_of m) }
 
-  key_match : (column : ℕ) {k l : Node} → NodesMatch ps k l → RowMatch ps (key_row column k) (key_row column l)
-  key_match column m = record { items = each_append (entry_each m) (items_each m); leaves = leaves_each m; key = in_neither; blank = blank_same (entry_of m) }
+  key_match : (house : Style) (column : ℕ) {k l : Node} → NodesMatch ps house k l → RowMatch ps (key_row house column k) (key_row house column l)
+  key_match house column m = record { items = each_append (entry_each m) (items_each m); leaves = leaves_each m; key = in_neither; blank = blank_same (entry_of m) }
 
-  after_match : (column : ℕ) {k l : Node} {o p : Option CommentValue} (a b : Bool) {xs ys : List Row} → NodesMatch ps k l → Either (SameComment ps) o p → a ≡ b → Each (RowMatch ps) xs ys
-      → Each (RowMatch ps) (after_key (key_row column k) o a xs) (after_key (key_row column l) p b ys)
-  after_match column a b m (in_both c) e more =
-      let head = key_match column m in one_each (record { items = head.items; leaves = head.leaves; key = in_both c; blank = head.blank }) more
-  after_match column true true m in_neither e more = let head = key_match column m in one_each (record { items = head.items; leaves = head.leaves; key = in_neither; blank = head.blank }) more
-  after_match column {k = k} {l = l} false false m in_neither e more = joined_match (key_row column k) (key_row column l) 1 (key_match column m) more
-  after_match column true false m in_neither e more = absurd (true≢false e)
-  after_match column false true m in_neither e more = absurd (true≢false (sym e))
+  after_match : (house : Style) (column : ℕ) {k l : Node} {o p : Option CommentValue} (a b : Bool) {xs ys : List Row} → NodesMatch ps house k l → Either (SameComment ps) o p → a ≡ b → Each (RowMatch ps) xs ys
+      → Each (RowMatch ps) (after_key (key_row house column k) o a xs) (after_key (key_row house column l) p b ys)
+  after_match house column a b m (in_both c) e more =
+      let head = key_match house column m in one_each (record { items = head.items; leaves = head.leaves; key = in_both c; blank = head.blank }) more
+  after_match house column true true m in_neither e more = let head = key_match house column m in one_each (record { items = head.items; leaves = head.leaves; key = in_neither; blank = head.blank }) more
+  after_match house column {k = k} {l = l} false false m in_neither e more = joined_match (key_row house column k) (key_row house column l) 1 (key_match house column m) more
+  after_match house column true false m in_neither e more = absurd (true≢false e)
+  after_match house column false true m in_neither e more = absurd (true≢false (sym e))
 
   block_match : {at bt : NodeOffsets} {props : PropsValue} {text : List ℕ} {lines : List (List ℕ)} (s : Style) (cs ds : List CommentValue) (spot : Spot) (style : ScalarStyle)
-      → NodesMatch ps (scalar at props style text lines) (scalar bt props style text lines)
+      → NodesMatch ps s (scalar at props style text lines) (scalar bt props style text lines)
       → Each (RowMatch ps) (rows (setting s cs) spot (scalar at props style text lines)) (rows (setting s ds) spot (scalar bt props style text lines))
-  block_match {at} {bt} {props} {text} {lines} s cs ds spot Plain m = one_match spot (scalar at props Plain text lines) (scalar bt props Plain text lines) m
-  block_match {at} {bt} {props} {text} {lines} s cs ds spot Single m = one_match spot (scalar at props Single text lines) (scalar bt props Single text lines) m
-  block_match {at} {bt} {props} {text} {lines} s cs ds spot Double m = one_match spot (scalar at props Double text lines) (scalar bt props Double text lines) m
+  block_match {at} {bt} {props} {text} {lines} s cs ds spot Plain m = one_match s spot (scalar at props Plain text lines) (scalar bt props Plain text lines) m
+  block_match {at} {bt} {props} {text} {lines} s cs ds spot Single m = one_match s spot (scalar at props Single text lines) (scalar bt props Single text lines) m
+  block_match {at} {bt} {props} {text} {lines} s cs ds spot Double m = one_match s spot (scalar at props Double text lines) (scalar bt props Double text lines) m
   block_match s cs ds spot Literal m = one_each (record { items = items_each m; leaves = leaves_each m; key = in_neither; blank = refl }) none_each
   block_match s cs ds spot Folded m = one_each (record { items = items_each m; leaves = leaves_each m; key = in_neither; blank = refl }) none_each
 
@@ -156,7 +156,7 @@ module _ {ps : PairedOffsets} {cs ds : List CommentValue} (s : Style) (same : Ea
   abbrev Match : List Row → List Row → Type 0
   Match xs ys = Each (RowMatch ps) xs ys
 
-  leaf_implicit : (column : ℕ) (k : Node) → is_leaf_key k ≡ true → is_implicit s column k ≡ true
+  leaf_implicit : (column : ℕ) (k : Node) → is_leaf_key s k ≡ true → is_implicit s column k ≡ true
   leaf_implicit column (scalar at props Plain text lines) e = e
   leaf_implicit column (scalar at props Single text lines) e = e
   leaf_implicit column (scalar at props Double text lines) e = e
@@ -169,15 +169,15 @@ module _ {ps : PairedOffsets} {cs ds : List CommentValue} (s : Style) (same : Ea
   leaf_implicit column (mapping at flow props (pair k v qs)) e = absurd (true≢false (sym e))
 
   -- the `:` of a key that has a `?`
-  colon_counts : (column : ℕ) (k l : Node) → SameColons ps k l → is_implicit s column k ≡ false → Each (SameSide ps.comments) (colon_offset (standing k).entry) (colon_offset (standing l).entry)
+  colon_counts : (column : ℕ) (k l : Node) → SameColons ps s k l → is_implicit s column k ≡ false → Each (SameSide ps.comments) (colon_offset (standing k).entry) (colon_offset (standing l).entry)
   colon_counts column k l (colons_match e) f = e
   colon_counts column k l (no_colon_counts e) f = absurd (true≢false (sym (leaf_implicit column k e) ∙ f))
 
-  pair_match : (column : ℕ) {k l v w : Node} {xs ys us vs : List Row} → SameKeys ps k l → NodesMatch ps k l → NodesMatch ps v w → Match xs ys → Match us vs
+  pair_match : (column : ℕ) {k l v w : Node} {xs ys us vs : List Row} → SameKeys ps s k l → NodesMatch ps s k l → NodesMatch ps s v w → Match xs ys → Match us vs
       → Match (pair_rows (setting s cs) column k v xs us) (pair_rows (setting s ds) column l w ys vs)
   pair_match column {k} {l} {v} {w} {xs} {ys} {us} {vs} i m n a b = by (is_implicit s column k) (is_implicit s column l) refl (same_implicit s column (matched_alike m)) where
     by : (p q : Bool) → is_implicit s column k ≡ p → p ≡ q → Match (if p then implicit_pair (setting s cs) column k v us else explicit_pair s column k xs us) (if q then implicit_pair (setting s ds) column l w vs else explicit_pair s column l ys vs)
-    by true true f e = after_match column (begins_below v) (begins_below w) m (key_each same i.begins m n) (same_below (matched_alike n)) b
+    by true true f e = after_match s column (begins_below v) (begins_below w) m (key_each same i.begins m n) (same_below (matched_alike n)) b
     by false false f e =
         each_append (joined_match (entry_row column (63 ∷ []) k) (entry_row column (63 ∷ []) l) (s.indent - 1) (entry_match column (63 ∷ []) m) a)
         (joined_match (colon_row column k) (colon_row column l) (s.indent - 1) (record { items = colon_counts column k l i.colon f; leaves = none_each; key = in_neither; blank = refl }) b)
@@ -185,22 +185,22 @@ module _ {ps : PairedOffsets} {cs ds : List CommentValue} (s : Style) (same : Ea
     by false true f e = absurd (true≢false (sym e))
 
   mutual
-    pub rows_match : (spot : Spot) {x y : Node} → NodesMatch ps x y → Match (rows (setting s cs) spot x) (rows (setting s ds) spot y)
+    pub rows_match : (spot : Spot) {x y : Node} → NodesMatch ps s x y → Match (rows (setting s cs) spot x) (rows (setting s ds) spot y)
     rows_match spot (matched_scalars {at = at} {bt = bt} {props = props} {style = style} {text = text} {lines = lines} a e) =
         block_match {at = at} {bt = bt} {props = props} {text = text} {lines = lines} s cs ds spot style (matched_scalars {at = at} {bt = bt} a e)
-    rows_match spot (matched_aliases {at = at} {bt = bt} {name = name} a e) = one_match spot (alias at name) (alias bt name) (matched_aliases a e)
-    rows_match spot (matched_empty_sequences {at = at} {bt = bt} {flow = true} {props = props} a e) = one_match spot (sequence at true props no_items) (sequence bt true props no_items) (matched_empty_sequences a e)
+    rows_match spot (matched_aliases {at = at} {bt = bt} {name = name} a e) = one_match s spot (alias at name) (alias bt name) (matched_aliases a e)
+    rows_match spot (matched_empty_sequences {at = at} {bt = bt} {flow = true} {props = props} a e) = one_match s spot (sequence at true props no_items) (sequence bt true props no_items) (matched_empty_sequences a e)
     rows_match spot (matched_empty_sequences {flow = false} {props = props} a e) = props_match spot.column (props_text props) none_each
-    rows_match spot (matched_empty_mappings {at = at} {bt = bt} {flow = true} {props = props} a e) = one_match spot (mapping at true props no_pairs) (mapping bt true props no_pairs) (matched_empty_mappings a e)
+    rows_match spot (matched_empty_mappings {at = at} {bt = bt} {flow = true} {props = props} a e) = one_match s spot (mapping at true props no_pairs) (mapping bt true props no_pairs) (matched_empty_mappings a e)
     rows_match spot (matched_empty_mappings {flow = false} {props = props} a e) = props_match spot.column (props_text props) none_each
     rows_match spot (matched_sequences {at = at} {bt = bt} {flow = true} {props = props} {x = x} {y = y} {xs = xs} {ys = ys} a e m more) =
-        one_match spot (sequence at true props (item x xs)) (sequence bt true props (item y ys)) (matched_sequences a e m more)
+        one_match s spot (sequence at true props (item x xs)) (sequence bt true props (item y ys)) (matched_sequences a e m more)
     rows_match spot (matched_sequences {flow = false} {props = props} {x = x} {y = y} a e m more) =
         props_match spot.column (props_text props)
         (each_append (joined_match (entry_row spot.entries (45 ∷ []) x) (entry_row spot.entries (45 ∷ []) y) (s.indent - 1) (entry_match spot.entries (45 ∷ []) m) (rows_match (inner_spot s spot.entries) m))
         (items_match spot.entries more))
     rows_match spot (matched_mappings {at = at} {bt = bt} {flow = true} {props = props} {k = k} {v = v} {l = l} {w = w} {qs = qs} {rs = rs} a e i m n more) =
-        one_match spot (mapping at true props (pair k v qs)) (mapping bt true props (pair l w rs)) (matched_mappings a e i m n more)
+        one_match s spot (mapping at true props (pair k v qs)) (mapping bt true props (pair l w rs)) (matched_mappings a e i m n more)
     rows_match spot (matched_mappings {flow = false} {props = props} {k = k} {v = v} {l = l} {w = w} a e i m n more) =
         props_match spot.column (props_text props)
         (each_append
@@ -210,12 +210,12 @@ module _ {ps : PairedOffsets} {cs ds : List CommentValue} (s : Style) (same : Ea
         (rows_match (value_spot (setting s cs) spot.entries k v) n)))
         (pairs_match spot.entries more))
 
-    items_match : (column : ℕ) {xs ys : Items} → ItemsMatch ps xs ys → Match (rows_of_items (setting s cs) column xs) (rows_of_items (setting s ds) column ys)
+    items_match : (column : ℕ) {xs ys : Items} → ItemsMatch ps s xs ys → Match (rows_of_items (setting s cs) column xs) (rows_of_items (setting s ds) column ys)
     items_match column no_matched_items = none_each
     items_match column (matched_item {x = x} {y = y} m more) =
         each_append (joined_match (entry_row column (45 ∷ []) x) (entry_row column (45 ∷ []) y) (s.indent - 1) (entry_match column (45 ∷ []) m) (rows_match (inner_spot s column) m)) (items_match column more)
 
-    pairs_match : (column : ℕ) {qs rs : Pairs} → PairsMatch ps qs rs → Match (rows_of_pairs (setting s cs) column qs) (rows_of_pairs (setting s ds) column rs)
+    pairs_match : (column : ℕ) {qs rs : Pairs} → PairsMatch ps s qs rs → Match (rows_of_pairs (setting s cs) column qs) (rows_of_pairs (setting s ds) column rs)
     pairs_match column no_matched_pairs = none_each
     pairs_match column (matched_pair {k = k} {v = v} {l = l} {w = w} i m n more) =
         each_append

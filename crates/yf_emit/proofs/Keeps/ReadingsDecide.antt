@@ -132,21 +132,21 @@ module _ {ps : PairedOffsets} where
 
 module _ {ps : PairedOffsets} {cs ds : List CommentValue} (s : Style) (same : Each (SameComment ps) cs ds) where
   mutual
-    blocks : {x y : Node} → NodesMatch ps x y → AlikeBlocks s cs ds x y
-    blocks (matched_scalars {at = at} {bt = bt} a e) = alike_lines (matched_alike (matched_scalars {at = at} {bt = bt} a e)) refl
-    blocks (matched_aliases {at = at} {bt = bt} a e) = alike_lines (matched_alike (matched_aliases {at = at} {bt = bt} a e)) refl
-    blocks (matched_empty_sequences {at = at} {bt = bt} a e) = alike_lines (matched_alike (matched_empty_sequences {at = at} {bt = bt} a e)) refl
-    blocks (matched_empty_mappings {at = at} {bt = bt} a e) = alike_lines (matched_alike (matched_empty_mappings {at = at} {bt = bt} a e)) refl
+    blocks : {x y : Node} → NodesMatch ps s x y → AlikeBlocks s cs ds x y
+    blocks (matched_scalars {at = at} {bt = bt} a e) = alike_lines (matched_alike {s = s} (matched_scalars {at = at} {bt = bt} a e)) refl
+    blocks (matched_aliases {at = at} {bt = bt} a e) = alike_lines (matched_alike {s = s} (matched_aliases {at = at} {bt = bt} a e)) refl
+    blocks (matched_empty_sequences {at = at} {bt = bt} a e) = alike_lines (matched_alike {s = s} (matched_empty_sequences {at = at} {bt = bt} a e)) refl
+    blocks (matched_empty_mappings {at = at} {bt = bt} a e) = alike_lines (matched_alike {s = s} (matched_empty_mappings {at = at} {bt = bt} a e)) refl
     blocks (matched_sequences {at = at} {bt = bt} {flow = true} a e m more) = alike_lines (matched_alike (matched_sequences {at = at} {bt = bt} a e m more)) refl
     blocks (matched_sequences {flow = false} a e m more) = alike_block_sequences a (block_item (blocks m) (item_blocks more))
     blocks (matched_mappings {at = at} {bt = bt} {flow = true} a e i m n more) = alike_lines (matched_alike (matched_mappings {at = at} {bt = bt} a e i m n more)) refl
     blocks (matched_mappings {flow = false} a e i m n more) = alike_block_mappings a (block_pair (blocks m) (blocks n) (keys_agree s same i.begins m n) (pair_blocks more))
 
-    item_blocks : {xs ys : Items} → ItemsMatch ps xs ys → AlikeBlockItems s cs ds xs ys
+    item_blocks : {xs ys : Items} → ItemsMatch ps s xs ys → AlikeBlockItems s cs ds xs ys
     item_blocks no_matched_items = no_block_items
     item_blocks (matched_item m more) = block_item (blocks m) (item_blocks more)
 
-    pair_blocks : {qs rs : Pairs} → PairsMatch ps qs rs → AlikeBlockPairs s cs ds qs rs
+    pair_blocks : {qs rs : Pairs} → PairsMatch ps s qs rs → AlikeBlockPairs s cs ds qs rs
     pair_blocks no_matched_pairs = no_block_pairs
     pair_blocks (matched_pair i m n more) = block_pair (blocks m) (blocks n) (keys_agree s same i.begins m n) (pair_blocks more)
 

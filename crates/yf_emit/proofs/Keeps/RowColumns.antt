@@ -183,7 +183,7 @@ module _ (c : LayoutSetting) (limit : ℕ) where
 
   -- the value after an implicit key
   value_rows : {n : ℕ} (k : Node) {v : Node} (column : ℕ) → NodeStepped (suc n) v → AtStep n column → (o : Option CommentValue) → key_comment c.comments k v ≡ o → (below : Bool) → begins_below v ≡ below
-      → AreStepped (block_scalars (flat v)) (after_key (key_row column k) o below (rows c (value_of_implicit c column k v) v))
+      → AreStepped (block_scalars (flat v)) (after_key (key_row c.style column k) o below (rows c (value_of_implicit c column k v) v))
   value_rows {n} k {v} column b d o e below f = by o e below f where
     room : suc (suc n) ≤ limit
     room = b.room
@@ -198,28 +198,28 @@ module _ (c : LayoutSetting) (limit : ℕ) where
     inner = b.rows_loose (value_of_implicit c column k v) entries (wider (suc (suc n)) (omega arith) (one_on d))
 
     by : (o : Option CommentValue) → key_comment c.comments k v ≡ o → (below : Bool) → begins_below v ≡ below
-        → AreStepped (block_scalars (flat v)) (after_key (key_row column k) o below (rows c (value_of_implicit c column k v) v))
+        → AreStepped (block_scalars (flat v)) (after_key (key_row c.style column k) o below (rows c (value_of_implicit c column k v) v))
     by (Some comment) e below f =
         let at : value_column c column k v ≡ column + c.style.indent =
-        ap (λ (z : Option CommentValue). if is_some z then column + c.style.indent else column + width (written k) + width (colon_after k) + 1) e in
+        ap (λ (z : Option CommentValue). if is_some z then column + c.style.indent else column + width (written c.style k) + width (colon_after k) + 1) e in
         row_stepped here bare_body
         (whole c.style.indent limit inner (b.first (value_of_implicit c column k v) (subst (λ z. AtStep limit z) (sym at) (wider limit (omega (arith, room)) (one_on d))) entries))
     by None e true f = row_stepped here bare_body (whole c.style.indent limit inner (b.below (value_of_implicit c column k v) f entries))
-    by None e false f = joined_stepped c.style.indent limit (key_row column k) 1 here refl inner
+    by None e false f = joined_stepped c.style.indent limit (key_row c.style column k) 1 here refl inner
 
-  pair_stepped : {n : ℕ} {k v : Node} (column : ℕ) → Fit k → NodeStepped (suc n) k → NodeStepped (suc n) v → AtStep n column
+  pair_stepped : {n : ℕ} {k v : Node} (column : ℕ) → Fit c.style k → NodeStepped (suc n) k → NodeStepped (suc n) v → AtStep n column
       → AreStepped (block_scalars (flat k) ++ block_scalars (flat v)) (pair_rows c column k v (rows c (key_spot c.style column k) k) (rows c (value_spot c column k v) v))
   pair_stepped {k = k} {v = v} column fit a b d = by (is_implicit c.style column k) refl where
     by : (p : Bool) → is_implicit c.style column k ≡ p → AreStepped (block_scalars (flat k) ++ block_scalars (flat v)) (either_pair p c column k v)
     by true e = subst (λ z. AreStepped (z ++ block_scalars (flat v)) (either_pair true c column k v)) (sym (flow_none (flat k) (key_flow c column fit e))) (value_rows k column b d (key_comment c.comments k v) refl (begins_below v) refl)
     by false e = explicit_stepped column a b d
 
-  line_stepped : {n : ℕ} {x : Node} → suc n ≤ limit → AllFlow (flat x) → ((spot : Spot) → rows c spot x ≡ one_line spot x) → (begins_below x ≡ true → ⊥) → NodeStepped n x
+  line_stepped : {n : ℕ} {x : Node} → suc n ≤ limit → AllFlow (flat x) → ((spot : Spot) → rows c spot x ≡ one_line c.style spot x) → (begins_below x ≡ true → ⊥) → NodeStepped n x
   line_stepped {x = x} l flow e n = record {
     room = l;
     rows_loose = λ spot a b.
-        subst (λ z. AreLoose z (rows c spot x)) (sym (flow_none (flat x) flow)) (subst (λ z. AreLoose [] z) (sym (e spot)) (line_loose c.style.indent limit spot.column x (written x)));
-    first = λ spot a b. subst (λ z. BeginAtStep z) (sym (e spot)) (line_first c.style.indent limit spot.column x (written x) a);
+        subst (λ z. AreLoose z (rows c spot x)) (sym (flow_none (flat x) flow)) (subst (λ z. AreLoose [] z) (sym (e spot)) (line_loose c.style.indent limit spot.column x (written c.style x)));
+    first = λ spot a b. subst (λ z. BeginAtStep z) (sym (e spot)) (line_first c.style.indent limit spot.column x (written c.style x) a);
     below = λ spot f a. absurd (n f);
   }
 
@@ -241,10 +241,10 @@ module _ (c : LayoutSetting) (limit : ℕ) where
       two_scalars xs (ys ++ zs) (subst (λ z. AreStepped (block_scalars xs ++ z) rs) (sym (scalars_append ys zs)) (subst (λ z. AreStepped z rs) (append_assoc (block_scalars xs) (block_scalars ys) (block_scalars zs)) a))
 
   mutual
-    node_stepped : (n : ℕ) (x : Node) → suc (n + tall x) ≤ limit → Fit x → NodeStepped n x
-    node_stepped n (scalar at props Plain text lines) l fit = line_stepped (omega (arith, l)) (inline_flow fit refl) (λ spot. refl) no_below
-    node_stepped n (scalar at props Single text lines) l fit = line_stepped (omega (arith, l)) (inline_flow fit refl) (λ spot. refl) no_below
-    node_stepped n (scalar at props Double text lines) l fit = line_stepped (omega (arith, l)) (inline_flow fit refl) (λ spot. refl) no_below
+    node_stepped : (n : ℕ) (x : Node) → suc (n + tall x) ≤ limit → Fit c.style x → NodeStepped n x
+    node_stepped n (scalar at props Plain text lines) l fit = line_stepped (omega (arith, l)) (inline_flow c.style fit refl) (λ spot. refl) no_below
+    node_stepped n (scalar at props Single text lines) l fit = line_stepped (omega (arith, l)) (inline_flow c.style fit refl) (λ spot. refl) no_below
+    node_stepped n (scalar at props Double text lines) l fit = line_stepped (omega (arith, l)) (inline_flow c.style fit refl) (λ spot. refl) no_below
     node_stepped n (scalar at props Literal text lines) l fit = record {
       room = omega (arith, l);
       rows_loose = λ spot a b.
@@ -259,12 +259,12 @@ module _ (c : LayoutSetting) (limit : ℕ) where
       first = λ spot a b. one_first a;
       below = λ spot f a. absurd (no_below f);
     }
-    node_stepped n (alias at name) l fit = line_stepped (omega (arith, l)) (inline_flow fit refl) (λ spot. refl) no_below
-    node_stepped n (sequence at true props no_items) l fit = line_stepped (omega (arith, l)) (inline_flow fit refl) (λ spot. refl) no_below
-    node_stepped n (sequence at true props (item x xs)) l fit = line_stepped (omega (arith, l)) (inline_flow fit refl) (λ spot. refl) no_below
+    node_stepped n (alias at name) l fit = line_stepped (omega (arith, l)) (inline_flow c.style fit refl) (λ spot. refl) no_below
+    node_stepped n (sequence at true props no_items) l fit = line_stepped (omega (arith, l)) (inline_flow c.style fit refl) (λ spot. refl) no_below
+    node_stepped n (sequence at true props (item x xs)) l fit = line_stepped (omega (arith, l)) (inline_flow c.style fit refl) (λ spot. refl) no_below
     node_stepped n (sequence at false props xs) l fit =
         let less : suc (suc n + tall_items xs) ≤ limit = omega (arith, l) in
-        let inside : FitItems xs = items_fit fit in
+        let inside : FitItems c.style xs = items_fit c.style fit in
         record {
           room = omega (arith, l);
           rows_loose = λ spot a b.
@@ -276,11 +276,11 @@ module _ (c : LayoutSetting) (limit : ℕ) where
           below_bare : (xs : Items) → begins_below (sequence at false props xs) ≡ true → is_empty_text (props_text props) ≡ true
           below_bare no_items e = absurd (no_below e)
           below_bare (item x xs) e = e
-    node_stepped n (mapping at true props no_pairs) l fit = line_stepped (omega (arith, l)) (inline_flow fit refl) (λ spot. refl) no_below
-    node_stepped n (mapping at true props (pair k v ps)) l fit = line_stepped (omega (arith, l)) (inline_flow fit refl) (λ spot. refl) no_below
+    node_stepped n (mapping at true props no_pairs) l fit = line_stepped (omega (arith, l)) (inline_flow c.style fit refl) (λ spot. refl) no_below
+    node_stepped n (mapping at true props (pair k v ps)) l fit = line_stepped (omega (arith, l)) (inline_flow c.style fit refl) (λ spot. refl) no_below
     node_stepped n (mapping at false props ps) l fit =
         let less : suc (suc n + tall_pairs ps) ≤ limit = omega (arith, l) in
-        let inside : FitPairs ps = pairs_fit fit in
+        let inside : FitPairs c.style ps = pairs_fit c.style fit in
         record {
           room = omega (arith, l);
           rows_loose = λ spot a b.
@@ -293,7 +293,7 @@ module _ (c : LayoutSetting) (limit : ℕ) where
           below_bare no_pairs e = absurd (no_below e)
           below_bare (pair k v ps) e = e
 
-    items_stepped : (n column : ℕ) (xs : Items) → AtStep n column → suc (suc n + tall_items xs) ≤ limit → FitItems xs → AreStepped (block_scalars (flat_items xs)) (rows_of_items c column xs)
+    items_stepped : (n column : ℕ) (xs : Items) → AtStep n column → suc (suc n + tall_items xs) ≤ limit → FitItems c.style xs → AreStepped (block_scalars (flat_items xs)) (rows_of_items c column xs)
     items_stepped n column no_items a l fit = none_stepped
     items_stepped n column (item x xs) a l (fit_item f fs) =
         let less = two_less (suc n) (tall x) (tall_items xs) l in
@@ -303,7 +303,7 @@ module _ (c : LayoutSetting) (limit : ℕ) where
         (inner_loose (inner_spot c.style column) (node_stepped (suc n) x less.0 f) (one_on a) refl))
         (items_stepped n column xs a less.1 fs))
 
-    pairs_stepped : (n column : ℕ) (ps : Pairs) → AtStep n column → suc (suc n + tall_pairs ps) ≤ limit → FitPairs ps → AreStepped (block_scalars (flat_pairs ps)) (rows_of_pairs c column ps)
+    pairs_stepped : (n column : ℕ) (ps : Pairs) → AtStep n column → suc (suc n + tall_pairs ps) ≤ limit → FitPairs c.style ps → AreStepped (block_scalars (flat_pairs ps)) (rows_of_pairs c column ps)
     pairs_stepped n column no_pairs a l fit = none_stepped
     pairs_stepped n column (pair k v ps) a l (fit_pair f g fs) =
         let less = two_less (suc n) (max (tall k) (tall v)) (tall_pairs ps) l in
@@ -326,7 +326,7 @@ module _ (c : LayoutSetting) (limit : ℕ) where
   directives_stepped [] = none_stepped
   directives_stepped (d ∷ ds) = row_stepped no_step bare_body (directives_stepped ds)
 
-  stream_stepped : {ds : List Doc} {xs : List DocumentTree} (b : Bool) → suc (tall_documents xs) ≤ limit → FitDocuments ds xs → AreStepped (block_scalars (flat_map flat_document xs)) (stream_rows c b ds xs)
+  stream_stepped : {ds : List Doc} {xs : List DocumentTree} (b : Bool) → suc (tall_documents xs) ≤ limit → FitDocuments c.style ds xs → AreStepped (block_scalars (flat_map flat_document xs)) (stream_rows c b ds xs)
   stream_stepped b l fit_no_documents = none_stepped
   stream_stepped b l (fit_document {d = d} {ds = ds} {x = x} {xs = xs} directives fit fits) =
       let room : suc (0 + max (tall x.root) (tall_documents xs)) ≤ limit = omega (arith, l) in
@@ -345,7 +345,7 @@ module _ (c : LayoutSetting) (limit : ℕ) where
   begun_stepped start none_stepped = none_stepped
   begun_stepped start (row_stepped a b more) = row_stepped a b more
 
-  pub all_stepped : {ds : List Doc} {xs : List DocumentTree} (bare : Bool) → suc (tall_documents xs) ≤ limit → FitDocuments ds xs → AreStepped (block_scalars (flat_map flat_document xs)) (all_rows c bare ds xs)
+  pub all_stepped : {ds : List Doc} {xs : List DocumentTree} (bare : Bool) → suc (tall_documents xs) ≤ limit → FitDocuments c.style ds xs → AreStepped (block_scalars (flat_map flat_document xs)) (all_rows c bare ds xs)
   all_stepped false l fits = stream_stepped true l fits
   all_stepped true l fit_no_documents = none_stepped
   all_stepped true l (fit_document {d = d} {ds = ds} {x = x} {xs = xs} directives fit fits) =

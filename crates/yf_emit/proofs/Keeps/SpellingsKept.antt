@@ -13,7 +13,7 @@ use Rattle.yf_events.specs.Reading.{events_of}
 use Rattle.yf_events.specs.declared.event.ScalarStyle.{ScalarStyle}
 use Rattle.yf_events.specs.declared.event.ScalarStyle.TheVariants.{Plain, Single, Double, Literal, Folded}
 use Rattle.yf_events.specs.declared.lists.Lists.{Lists}
-use Rattle.yf_quoted.specs.Written.{quotes_for}
+use Rattle.yf_quoted.specs.Written.{quotes_in}
 use Rattle.yf_stream.proofs.Existence.BreachLemmas.{values}
 use Rattle.yf_stream.proofs.LawsHold.{readings_are_one}
 use Rattle.yf_stream.specs.ReadingOf.{ReadingOf}
@@ -31,12 +31,12 @@ use Rattle.yf_emit.proofs.SameReading.SameContent.{formats_tags, formats_values,
 
 -- What is asked of each event: g of the formatted text's, h of the text's.
 
-module _ {X : Type 0} (s : Style) (g h : EventValue → X) (bare : (v : EventValue) → g (unmarked_value v) ≡ g v) (styled : (flow : Bool) (v : EventValue) → g (restyled_event s.quotes flow v) ≡ h v) where
+module _ {X : Type 0} (s : Style) (g h : EventValue → X) (bare : (v : EventValue) → g (unmarked_value v) ≡ g v) (styled : (flow : Bool) (v : EventValue) → g (restyled_event s flow v) ≡ h v) where
   asked_unmarked : (vs : List EventValue) → map g (unmarked vs) ≡ map g vs
   asked_unmarked [] = refl
   asked_unmarked (v ∷ vs) = ap (λ w. w ∷ map g (unmarked vs)) (bare v) ∙ ap (λ w. g v ∷ w) (asked_unmarked vs)
 
-  asked_styled : {es fs : List EventInText} → SameButStyles s.quotes es fs → map g (values fs) ≡ map h (values es)
+  asked_styled : {es fs : List EventInText} → SameButStyles s es fs → map g (values fs) ≡ map h (values es)
   asked_styled none_left = refl
   asked_styled (one_more {e = e} {es = es} {fs = fs} flow more) =
       ap (λ w. w ∷ map g (values fs)) (styled flow e.event) ∙ ap (λ w. h e.event ∷ w) (asked_styled more)
@@ -62,17 +62,17 @@ unstyled_bare mapping_ends = refl
 unstyled_bare (scalar_node props style text) = refl
 unstyled_bare (alias_node name) = refl
 
-unstyled_styled : (quotes : Quotes) (flow : Bool) (v : EventValue) → unstyled (restyled_event quotes flow v) ≡ unstyled v
-unstyled_styled quotes flow stream_starts = refl
-unstyled_styled quotes flow stream_ends = refl
-unstyled_styled quotes flow (document_starts marked) = refl
-unstyled_styled quotes flow (document_ends marked) = refl
-unstyled_styled quotes flow (sequence_starts g props) = refl
-unstyled_styled quotes flow sequence_ends = refl
-unstyled_styled quotes flow (mapping_starts g props) = refl
-unstyled_styled quotes flow mapping_ends = refl
-unstyled_styled quotes flow (scalar_node props style text) = refl
-unstyled_styled quotes flow (alias_node name) = refl
+unstyled_styled : (house : Style) (flow : Bool) (v : EventValue) → unstyled (restyled_event house flow v) ≡ unstyled v
+unstyled_styled house flow stream_starts = refl
+unstyled_styled house flow stream_ends = refl
+unstyled_styled house flow (document_starts marked) = refl
+unstyled_styled house flow (document_ends marked) = refl
+unstyled_styled house flow (sequence_starts g props) = refl
+unstyled_styled house flow sequence_ends = refl
+unstyled_styled house flow (mapping_starts g props) = refl
+unstyled_styled house flow mapping_ends = refl
+unstyled_styled house flow (scalar_node props style text) = refl
+unstyled_styled house flow (alias_node name) = refl
 
 style_bare : (v : EventValue) → style_of_event (unmarked_value v) ≡ style_of_event v
 style_bare stream_starts = refl
@@ -86,36 +86,36 @@ style_bare mapping_ends = refl
 style_bare (scalar_node props style text) = refl
 style_bare (alias_node name) = refl
 
-style_styled : (quotes : Quotes) (flow : Bool) (v : EventValue) → style_of_event (restyled_event quotes flow v) ≡ wanted_of_event v quotes
-style_styled quotes flow stream_starts = refl
-style_styled quotes flow stream_ends = refl
-style_styled quotes flow (document_starts marked) = refl
-style_styled quotes flow (document_ends marked) = refl
-style_styled quotes flow (sequence_starts g props) = refl
-style_styled quotes flow sequence_ends = refl
-style_styled quotes flow (mapping_starts g props) = refl
-style_styled quotes flow mapping_ends = refl
-style_styled quotes flow (scalar_node props style text) = refl
-style_styled quotes flow (alias_node name) = refl
+style_styled : (house : Style) (flow : Bool) (v : EventValue) → style_of_event (restyled_event house flow v) ≡ wanted_of_event v house
+style_styled house flow stream_starts = refl
+style_styled house flow stream_ends = refl
+style_styled house flow (document_starts marked) = refl
+style_styled house flow (document_ends marked) = refl
+style_styled house flow (sequence_starts g props) = refl
+style_styled house flow sequence_ends = refl
+style_styled house flow (mapping_starts g props) = refl
+style_styled house flow mapping_ends = refl
+style_styled house flow (scalar_node props style text) = refl
+style_styled house flow (alias_node name) = refl
 
 -- Lines of folded scalars.
 
-brackets_free : (quotes : Quotes) (flow : Bool) (v : EventValue) (lines : List (List ℕ)) → lines_of (restyled_event quotes flow v) lines ≡ lines_of (restyled_event quotes false v) lines
-brackets_free quotes flow stream_starts lines = refl
-brackets_free quotes flow stream_ends lines = refl
-brackets_free quotes flow (document_starts marked) lines = refl
-brackets_free quotes flow (document_ends marked) lines = refl
-brackets_free quotes flow (sequence_starts g props) lines = refl
-brackets_free quotes flow sequence_ends lines = refl
-brackets_free quotes flow (mapping_starts g props) lines = refl
-brackets_free quotes flow mapping_ends lines = refl
-brackets_free quotes flow (scalar_node props style text) lines = refl
-brackets_free quotes flow (alias_node name) lines = refl
+brackets_free : (house : Style) (flow : Bool) (v : EventValue) (lines : List (List ℕ)) → lines_of (restyled_event house flow v) lines ≡ lines_of (restyled_event house false v) lines
+brackets_free house flow stream_starts lines = refl
+brackets_free house flow stream_ends lines = refl
+brackets_free house flow (document_starts marked) lines = refl
+brackets_free house flow (document_ends marked) lines = refl
+brackets_free house flow (sequence_starts g props) lines = refl
+brackets_free house flow sequence_ends lines = refl
+brackets_free house flow (mapping_starts g props) lines = refl
+brackets_free house flow mapping_ends lines = refl
+brackets_free house flow (scalar_node props style text) lines = refl
+brackets_free house flow (alias_node name) lines = refl
 
-restyled_folded : {quotes : Quotes} {es fs : List EventInText} → SameButStyles quotes es fs → folded_in fs ≡ map (folded_lines quotes) es
+restyled_folded : {house : Style} {es fs : List EventInText} → SameButStyles house es fs → folded_in fs ≡ map (folded_lines house) es
 restyled_folded none_left = refl
-restyled_folded {quotes} (one_more {e = e} {es = es} {fs = fs} flow more) =
-    ap (λ w. w ∷ folded_in fs) (brackets_free quotes flow e.event e.folded) ∙ ap (λ w. folded_lines quotes e ∷ w) (restyled_folded more)
+restyled_folded {house} (one_more {e = e} {es = es} {fs = fs} flow more) =
+    ap (λ w. w ∷ folded_in fs) (brackets_free house flow e.event e.folded) ∙ ap (λ w. folded_lines house e ∷ w) (restyled_folded more)
 
 -- Words of directives.
 
@@ -127,11 +127,11 @@ found_words (one_found {d = d} {e = e} {ds = ds} {fs = fs} w a f more) =
 
 pub spellings_kept : (t u : List ℕ) (s : Style) → IsUtf8 t → IsFormatting t s u → SameSpellings s t u
 spellings_kept t u s utf8 f = record {
-  events = λ r q a b. asked s unstyled unstyled unstyled_bare (unstyled_styled s.quotes) utf8 f a b;
-  styles = λ r q a b. asked s style_of_event (λ e. wanted_of_event e s.quotes) style_bare (style_styled s.quotes) utf8 f a b;
+  events = λ r q a b. asked s unstyled unstyled unstyled_bare (unstyled_styled s) utf8 f a b;
+  styles = λ r q a b. asked s style_of_event (λ e. wanted_of_event e s) style_bare (style_styled s) utf8 f a b;
   lines = λ r q a b.
       sym (told_folded f.normal.events q.events (events_told utf8 f b))
-      ∙ (restyled_folded (normal_restyled f.is_normal).events ∙ sym (ap (λ (w : Lists). map (folded_lines s.quotes) w.events) (readings_are_one t f.reading r f.reads a)));
+      ∙ (restyled_folded (normal_restyled f.is_normal).events ∙ sym (ap (λ (w : Lists). map (folded_lines s) w.events) (readings_are_one t f.reading r f.reads a)));
   words = λ r q a b.
       found_words (found_reading t u s q utf8 f b).alike
       ∙ (ap directive_words f.is_normal.is ∙ sym (ap directive_words (readings_are_one t f.reading r f.reads a)));
@@ -139,26 +139,26 @@ spellings_kept t u s utf8 f = record {
 
 -- Types.
 
-never_plain : (x : List ℕ) (quotes : Quotes) → is_plain (quoted_in x quotes) ≡ false
-never_plain x quotes = by (quotes_for (chars x) quotes) where
+never_plain : (x : List ℕ) (house : Style) → is_plain (quoted_in x house) ≡ false
+never_plain x house = by (quotes_in house.invisible (chars x) house.quotes) where
   by : (q : Quotes) → is_plain (style_in q) ≡ false
   by Quotes.Single = refl
   by Quotes.Double = refl
 
-block_or_quoted : (style : ScalarStyle) (x : List ℕ) (quotes : Quotes) (b : Bool) → is_plain style ≡ false → is_plain (if b then style else quoted_in x quotes) ≡ false
-block_or_quoted style x quotes true e = e
-block_or_quoted style x quotes false e = never_plain x quotes
+block_or_quoted : (style : ScalarStyle) (x : List ℕ) (house : Style) (b : Bool) → is_plain style ≡ false → is_plain (if b then style else quoted_in x house) ≡ false
+block_or_quoted style x house true e = e
+block_or_quoted style x house false e = never_plain x house
 
-plain_stays : (x : List ℕ) (quotes : Quotes) (b : Bool) → is_steady x ≡ b → (is_plain (if b then Plain else quoted_in x quotes) && is_steady x) ≡ is_steady x
-plain_stays x quotes true e = refl
-plain_stays x quotes false e = ap (λ w. w && is_steady x) (never_plain x quotes) ∙ sym e
+plain_stays : (x : List ℕ) (house : Style) (b : Bool) → is_steady x ≡ b → (is_plain (if b then Plain else quoted_in x house) && is_steady x) ≡ is_steady x
+plain_stays x house true e = refl
+plain_stays x house false e = ap (λ w. w && is_steady x) (never_plain x house) ∙ sym e
 
-steady_stays : (style : ScalarStyle) (x : List ℕ) (quotes : Quotes) → (is_plain (wanted style x quotes) && is_steady x) ≡ (is_plain style && is_steady x)
-steady_stays Plain x quotes = plain_stays x quotes (is_steady x) refl
-steady_stays Single x quotes = ap (λ w. w && is_steady x) (never_plain x quotes)
-steady_stays Double x quotes = ap (λ w. w && is_steady x) (never_plain x quotes)
-steady_stays Literal x quotes = ap (λ w. w && is_steady x) (block_or_quoted Literal x quotes (has_block_content x) refl)
-steady_stays Folded x quotes = ap (λ w. w && is_steady x) (block_or_quoted Folded x quotes (has_block_content x) refl)
+steady_stays : (style : ScalarStyle) (x : List ℕ) (house : Style) → (is_plain (wanted style x house) && is_steady x) ≡ (is_plain style && is_steady x)
+steady_stays Plain x house = plain_stays x house (is_steady x) refl
+steady_stays Single x house = ap (λ w. w && is_steady x) (never_plain x house)
+steady_stays Double x house = ap (λ w. w && is_steady x) (never_plain x house)
+steady_stays Literal x house = ap (λ w. w && is_steady x) (block_or_quoted Literal x house (has_block_content x) refl)
+steady_stays Folded x house = ap (λ w. w && is_steady x) (block_or_quoted Folded x house (has_block_content x) refl)
 
 typed_bare : (v : EventValue) → typed_of_event (unmarked_value v) ≡ typed_of_event v
 typed_bare stream_starts = refl
@@ -172,17 +172,17 @@ typed_bare mapping_ends = refl
 typed_bare (scalar_node props style text) = refl
 typed_bare (alias_node name) = refl
 
-typed_styled : (quotes : Quotes) (flow : Bool) (v : EventValue) → typed_of_event (restyled_event quotes flow v) ≡ typed_of_event v
-typed_styled quotes flow stream_starts = refl
-typed_styled quotes flow stream_ends = refl
-typed_styled quotes flow (document_starts marked) = refl
-typed_styled quotes flow (document_ends marked) = refl
-typed_styled quotes flow (sequence_starts g props) = refl
-typed_styled quotes flow sequence_ends = refl
-typed_styled quotes flow (mapping_starts g props) = refl
-typed_styled quotes flow mapping_ends = refl
-typed_styled quotes flow (scalar_node props style text) = ap (λ (b : Bool). λ (tag : Option (List ℕ)). typed_scalar tag b text ∷ []) (steady_stays style text quotes)
-typed_styled quotes flow (alias_node name) = refl
+typed_styled : (house : Style) (flow : Bool) (v : EventValue) → typed_of_event (restyled_event house flow v) ≡ typed_of_event v
+typed_styled house flow stream_starts = refl
+typed_styled house flow stream_ends = refl
+typed_styled house flow (document_starts marked) = refl
+typed_styled house flow (document_ends marked) = refl
+typed_styled house flow (sequence_starts g props) = refl
+typed_styled house flow sequence_ends = refl
+typed_styled house flow (mapping_starts g props) = refl
+typed_styled house flow mapping_ends = refl
+typed_styled house flow (scalar_node props style text) = ap (λ (b : Bool). λ (tag : Option (List ℕ)). typed_scalar tag b text ∷ []) (steady_stays style text house)
+typed_styled house flow (alias_node name) = refl
 
 -- what each event adds, with its tag
 abbrev with_tags : List (Option (List ℕ) → List TypedNode) → List (Option (List ℕ)) → List TypedNode
@@ -201,7 +201,7 @@ types_kept t u s utf8 f = record {
       let tags : q.resolved ≡ r.resolved =
       formats_tags utf8 f b ∙ (ap (λ (w : Lists). w.resolved) f.is_normal.is ∙ sym (ap (λ (w : Lists). w.resolved) (readings_are_one t f.reading r f.reads a))) in
       tagged_so (events_of q) q.resolved
-      ∙ (ap (λ w. with_tags w q.resolved) (asked s typed_of_event typed_of_event typed_bare (typed_styled s.quotes) utf8 f a b)
+      ∙ (ap (λ w. with_tags w q.resolved) (asked s typed_of_event typed_of_event typed_bare (typed_styled s) utf8 f a b)
       ∙ (ap (λ w. with_tags (map typed_of_event (events_of r)) w) tags ∙ sym (tagged_so (events_of r) r.resolved)));
   core = core_is_steady;
 }

@@ -91,11 +91,11 @@ ended_items t c i end at flow props (item x xs) e l =
     let v = written_utf8 t c x h.0 in
     let f : Bool = flow && not (has_comment t c.comments at.span props) in
     let b : Bool = (f && may_be_kept t c.comments x) && items_may_be_kept t c.comments xs in
-    let y : List ℕ = written (styled t c x) ++ more_items (styled_items t c xs) in
-    let text : spaced (props_text props) (91 ∷ (y ++ (93 ∷ []))) ≡ written (styled t c (sequence at flow props (item x xs))) =
-    ap (λ z. spaced (props_text props) (91 ∷ z)) (append_assoc (written (styled t c x)) (more_items (styled_items t c xs)) (93 ∷ [])) in
+    let y : List ℕ = written c.style (styled t c x) ++ more_items c.style (styled_items t c xs) in
+    let text : spaced (props_text props) (91 ∷ (y ++ (93 ∷ []))) ≡ written c.style (styled t c (sequence at flow props (item x xs))) =
+    ap (λ z. spaced (props_text props) (91 ∷ z)) (append_assoc (written c.style (styled t c x)) (more_items c.style (styled_items t c xs)) (93 ∷ [])) in
     ap (λ o. closed o end) (ap (with_items t c (i + 1 + length (flat x)) xs) (first_item_in t c (i + 1) i (up_to_greatest (width (props_text props))) f x v)
-    ∙ items_in t c (i + 1 + length (flat x)) i _ (f && may_be_kept t c.comments x) (written (styled t c x)) (leaf_indices (i + 1) x) xs v h.1)
+    ∙ items_in t c (i + 1 + length (flat x)) i _ (f && may_be_kept t c.comments x) (written c.style (styled t c x)) (leaf_indices (i + 1) x) xs v h.1)
     ∙ closed_as (props_text props) 91 93 i end false false b y _ refl refl u (IsUtf8-append _ _ v (items_utf8 t c xs h.1))
     ∙ same_ended false l (ap (width_if b) text) (kept_flow flow _ _ _) refl refl (ap (width_if b) text)
 
@@ -115,8 +115,8 @@ ended_pairs t c i end at flow props (pair k v ps) e l =
     let j : ℕ = i + 1 + length (flat k) in
     let f : Bool = flow && not (has_comment t c.comments at.span props) in
     let b : Bool = ((f && may_be_kept t c.comments k) && may_be_kept t c.comments v) && pairs_may_be_kept t c.comments ps in
-    let y : List ℕ = pair_text t c k v ++ more_pairs (styled_pairs t c ps) in
-    let text : spaced (props_text props) (123 ∷ (y ++ (125 ∷ []))) ≡ written (styled t c (mapping at flow props (pair k v ps))) =
+    let y : List ℕ = pair_text t c k v ++ more_pairs c.style (styled_pairs t c ps) in
+    let text : spaced (props_text props) (123 ∷ (y ++ (125 ∷ []))) ≡ written c.style (styled t c (mapping at flow props (pair k v ps))) =
     ap (λ w. spaced (props_text props) (123 ∷ w)) (simp append_assoc) in
     let whole : IsUtf8 (pair_text t c k v) = pair_utf8 t c k v a z in
     ap (λ o. closed o end) (ap (with_pairs t c (j + length (flat v)) ps) (first_pair_in t c (i + 1) j i (up_to_greatest (width (props_text props))) f k v a z)
@@ -127,7 +127,7 @@ ended_pairs t c i end at flow props (pair k v ps) e l =
     (ap last_of (append_assoc (leaf_indices (i + 1) k) _ _)) (ap (width_if b) text)
 
 pub ended_as_scalar : (t : List ℕ) (c : LayoutSetting) (i : ℕ) (at : NodeOffsets) (props : PropsValue) (style : ScalarStyle) (text : List ℕ) (lines : List (List ℕ))
-    → ended_scalar c.style.quotes i at.span props style text ≡ ended_of t c i (scalar at props style text lines)
+    → ended_scalar c.style i at.span props style text ≡ ended_of t c i (scalar at props style text lines)
 ended_as_scalar t c i at props style text lines =
     let l : i ≡ i + 1 - 1 = omega arith in
     same_ended false l refl refl (first at.span) (last at.span) refl where

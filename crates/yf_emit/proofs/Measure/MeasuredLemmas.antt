@@ -139,7 +139,7 @@ keeps_event t c span (sequence_starts flow props) list stack = keeps_start list 
 keeps_event t c span sequence_ends list stack = keeps_end list stack (length list)
 keeps_event t c span (mapping_starts flow props) list stack = keeps_start list stack (opened t c.comments (length list) span props flow true) refl
 keeps_event t c span mapping_ends list stack = keeps_end list stack (length list)
-keeps_event t c span (scalar_node props style text) list stack = keeps_node list stack (ended_scalar c.style.quotes (length list) span props style text)
+keeps_event t c span (scalar_node props style text) list stack = keeps_node list stack (ended_scalar c.style (length list) span props style text)
 keeps_event t c span (alias_node name) list stack = keeps_node list stack (ended_alias (length list) name)
 
 -- whole lists of events

@@ -98,7 +98,7 @@ mutual
       → have_texts (flat x) ≡ true → length list ≡ i
       → pass t c (flat x ++ rest) (found list stack) ≡ pass t c rest (found (list ++ measures_in t c i x) (handed (ended_of t c i x) stack))
   node_passed t c i list stack (scalar at props style text lines) rest h e =
-      ap (λ n. pass t c rest (noted n (ended_scalar c.style.quotes n at.span props style text) (found (list ++ (no_measure ∷ [])) stack))) e
+      ap (λ n. pass t c rest (noted n (ended_scalar c.style n at.span props style text) (found (list ++ (no_measure ∷ [])) stack))) e
       ∙ ap (λ w. pass t c rest (noted i w (found (list ++ (no_measure ∷ [])) stack))) (ended_as_scalar t c i at props style text lines)
       ∙ ap (pass t c rest) (same_found _ (set_at list i no_measure _ [] e))
   node_passed t c i list stack (alias at name) rest h e =

@@ -37,12 +37,12 @@ use Rattle.yf_emit.proofs.Printer.MeasureFacts.{MeasuresTell, asked, measured_te
 
 -- the events that are made by measures and forms of a reading are those of its normal form
 pub normal_made : (t : List ℕ) (r m : Lists) (s : Style) (ms : List Measure) (fs : List Form) → IsTextual r
-    → (CommentsAscend r → FoundInPass t (setting_of r s) r.events ms) → AreForms r s ms fs → IsRestyled s.quotes r m
-    → m.events ≡ normal_from s.quotes ms 0 0 fs r.events → Normal t r s m
+    → (CommentsAscend r → FoundInPass t (setting_of r s) r.events ms) → AreForms r s ms fs → IsRestyled s r m
+    → m.events ≡ normal_from s ms 0 0 fs r.events → Normal t r s m
 normal_made t r m s ms fs w measured decided k e =
     let is_measured : AreMeasures t (setting_of r s) r.events ms = measured_in_pass (measured w.comments) in
     normal_reading t r m s ms fs w.trees w.of_reading is_measured
-    (decided.are w.comments t (setting_of r s) w.trees w.of_reading w.placed is_measured) e k.rest
+    (decided.are w.comments t r.comments w.trees w.of_reading w.placed is_measured) e k.rest
 
 -- what is known where a normal form is printed by what was found of the reading of the text
 pub record HandedOn (t : List ℕ) (r m : Lists) (s : Style) (ms : List Measure) (fs : List Form) : Type 0 where
@@ -50,8 +50,8 @@ pub record HandedOn (t : List ℕ) (r m : Lists) (s : Style) (ms : List Measure)
   pub reads : ReadingOf t r
   pub measured : CommentsAscend r → FoundInPass t (setting_of r s) r.events ms
   pub decided : AreForms r s ms fs
-  pub restyled : IsRestyled s.quotes r m
-  pub events : m.events ≡ normal_from s.quotes ms 0 0 fs r.events
+  pub restyled : IsRestyled s r m
+  pub events : m.events ≡ normal_from s ms 0 0 fs r.events
   pub nested : IsStream DEPTH (events_of m)
 
 module _ {t : List ℕ} {r m : Lists} {s : Style} {ms : List Measure} {fs : List Form} (h : HandedOn t r m s ms fs) where
@@ -82,7 +82,7 @@ module _ {t : List ℕ} {r m : Lists} {s : Style} {ms : List Measure} {fs : List
 
   same_forms : fs ≡ stream_forms [] (setting s []) (setting_of m s) (trees_in normal)
   same_forms =
-      h.decided.are textual.comments t (setting_of r s) made.trees made.of_reading placed (measured_in_pass in_pass)
+      h.decided.are textual.comments t r.comments made.trees made.of_reading placed (measured_in_pass in_pass)
       ∙ (sym (stream_stays t (setting_of r s) made.trees) ∙ ap (λ c. stream_forms [] (setting s []) c (trees_in normal)) (sym same_setting))
 
   abbrev own : List Measure

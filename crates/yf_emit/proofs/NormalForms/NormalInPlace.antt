@@ -2,7 +2,6 @@
 use Rattle.std.proofs.Common.{◌≡◌, ℕ, zero, suc, ◌+◌, Bool, List, [], ◌∷◌, ◌++◌, Some, length, take, drop, get_or, map, add-one, refl, sym, ap, ◌∙◌, subst, arith, append_assoc}
 use Rattle.std.specs.Prelude.{slice_get}
 use Rattle.std.proofs.lemmas.Option.{slice_get_within}
-use Rattle.yf_lines.specs.declared.quotes.Quotes.{Quotes}
 use Rattle.yf_props.specs.Props.{PropsValue}
 use Rattle.yf_events.specs.Edit.{edited}
 use Rattle.yf_events.specs.Event.{EventValue, EventInText, stream_starts, stream_ends, document_starts, document_ends, sequence_starts, sequence_ends, mapping_starts, mapping_ends, scalar_node, alias_node}
@@ -11,6 +10,7 @@ use Rattle.yf_events.proofs.PackedRows.{length-edited}
 use Rattle.yf_events.specs.declared.event.ScalarStyle.{ScalarStyle}
 use Rattle.yf_events.specs.declared.event.ScalarStyle.TheVariants.{Plain, Single, Double, Literal, Folded}
 use Rattle.yf_events.specs.declared.lists.Lists.{Lists}
+use Rattle.yf_emit.specs.declared.style.Style.{Style}
 use Rattle.yf_emit.specs.declared.form.decide.Form.{Form}
 use Rattle.yf_emit.specs.declared.form.measure.Measure.{Measure}
 use Rattle.yf_emit.specs.NormalForms.Forms.{no_form}
@@ -30,7 +30,7 @@ lines_same Double props text lines = refl
 lines_same Literal props text lines = refl
 lines_same Folded props text lines = refl
 
-event_same : (q : Quotes) (flow : Bool) (e : EventValue) → with_form flow (wanted_of_event e q) e ≡ restyled_event q flow e
+event_same : (q : Style) (flow : Bool) (e : EventValue) → with_form flow (wanted_of_event e q) e ≡ restyled_event q flow e
 event_same q flow stream_starts = refl
 event_same q flow stream_ends = refl
 event_same q flow (document_starts b) = refl
@@ -42,7 +42,7 @@ event_same q flow mapping_ends = refl
 event_same q flow (scalar_node props style text) = refl
 event_same q flow (alias_node name) = refl
 
-kept_same : (q : Quotes) (flow : Bool) (e : EventValue) (lines : List (List ℕ))
+kept_same : (q : Style) (flow : Bool) (e : EventValue) (lines : List (List ℕ))
     → lines_if (is_folded (restyled_event q flow e)) lines ≡ lines_of (restyled_event q flow e) lines
 kept_same q flow stream_starts lines = refl
 kept_same q flow stream_ends lines = refl
@@ -56,7 +56,7 @@ kept_same q flow (scalar_node props style text) lines = lines_same (wanted style
 kept_same q flow (alias_node name) lines = refl
 
 -- the event in its form is the event in its normal form
-pub formed_restyled : (q : Quotes) (flow : Bool) (e : EventInText) → formed flow (wanted_of_event e.event q) e ≡ restyled q flow e
+pub formed_restyled : (q : Style) (flow : Bool) (e : EventInText) → formed flow (wanted_of_event e.event q) e ≡ restyled q flow e
 formed_restyled q flow e =
     ap (λ w. record e { event = w; folded = lines_if (is_folded w) e.folded }) (event_same q flow e.event)
     ∙ ap (λ w. record e { event = restyled_event q flow e.event; folded = w }) (kept_same q flow e.event e.folded)
@@ -87,9 +87,9 @@ found (x ∷ es) zero v e = record { placed = x; at = refl; is = some_is e }
 found (x ∷ es) (suc i) v e = let f = found es i v e in record { placed = f.placed; at = f.at; is = f.is }
 
 -- one more event, of a list in which those before it are in their normal form
-pub step_in_place : (q : Quotes) (ms : List Measure) (fs : List Form) (es after all : List EventInText) (i u v : ℕ) (event : EventValue) (m : Measure) (g : Form)
+pub step_in_place : (q : Style) (ms : List Measure) (fs : List Form) (es after all : List EventInText) (i u v : ℕ) (event : EventValue) (m : Measure) (g : Form)
     (b : Bool) (s : ScalarStyle) → slice_get (map (λ e. e.event) es) i ≡ Some event → m ≡ get_or ms i no_measure → g ≡ get_or fs i no_form
-    → v ≡ kept_until u m g → ((q : Quotes) → restyled_event q b event ≡ restyled_event q (is_flow_at i v m) event) → s ≡ wanted_of_event event q → after ≡ edited (formed b s) i es
+    → v ≡ kept_until u m g → ((q : Style) → restyled_event q b event ≡ restyled_event q (is_flow_at i v m) event) → s ≡ wanted_of_event event q → after ≡ edited (formed b s) i es
     → take i es ++ normal_from q ms i u (drop i fs) (drop i es) ≡ all
     → take (i + 1) after ++ normal_from q ms (i + 1) v (drop (i + 1) fs) (drop (i + 1) after) ≡ all
 step_in_place q ms fs es after all i u v event m g b s at k n w c styles is before =
@@ -110,7 +110,7 @@ pub same_long : (f : EventInText → EventInText) (es after : List EventInText) 
 same_long f es after i is = ap length is ∙ length-edited f i es
 
 -- the lists, whose events alone are changed
-pub in_place : (q : Quotes) (ms : List Measure) (fs : List Form) (r before : Lists) (es : List EventInText) → before ≡ r → es ≡ normal_from q ms 0 0 fs before.events
+pub in_place : (q : Style) (ms : List Measure) (fs : List Form) (r before : Lists) (es : List EventInText) → before ≡ r → es ≡ normal_from q ms 0 0 fs before.events
     → IsRestyled q r (record before { events = es }) × (es ≡ normal_from q ms 0 0 fs r.events)
 in_place q ms fs r before es same e =
     let now : es ≡ normal_from q ms 0 0 fs r.events = e ∙ ap (λ w. normal_from q ms 0 0 fs w.events) same in (

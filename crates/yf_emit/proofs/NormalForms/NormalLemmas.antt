@@ -8,7 +8,6 @@ use Rattle.std.proofs.lemmas.Bool.Decides.{nat_tests}
 use Rattle.std.proofs.lemmas.List.{append-nil, length-append, replicate-append-replicate}
 use Rattle.yf_comments.specs.Comment.{CommentValue}
 use Rattle.yf_props.specs.Props.{PropsValue}
-use Rattle.yf_lines.specs.declared.quotes.Quotes.{Quotes}
 use Rattle.yf_events.specs.Event.{EventInText, stream_starts, stream_ends, document_starts, document_ends, sequence_starts, sequence_ends, mapping_starts, mapping_ends}
 use Rattle.yf_emit.specs.declared.form.decide.Form.{Form}
 use Rattle.yf_emit.specs.declared.form.measure.Measure.{Measure}
@@ -27,7 +26,7 @@ use Rattle.yf_emit.proofs.Decide.LeafLemmas.{items_above, not_first, pairs_above
 use Rattle.yf_emit.proofs.NormalForms.RestyledLemmas.{restyled_length}
 
 -- nothing differs but styles and brackets
-pub pass_restyles : (q : Quotes) (ms : List Measure) (i u : ℕ) (fs : List Form) (es : List EventInText)
+pub pass_restyles : (q : Style) (ms : List Measure) (i u : ℕ) (fs : List Form) (es : List EventInText)
     → SameButStyles q es (normal_from q ms i u fs es)
 pass_restyles q ms i u fs [] = none_left
 pass_restyles q ms i u fs (e ∷ es) =
@@ -36,14 +35,14 @@ pass_restyles q ms i u fs (e ∷ es) =
 
 -- the pass makes the events ys of the events xs, which have these forms and are from the index i on; before them the last kept
 -- collection ends at the index u, and after them at v
-pub record Becomes (q : Quotes) (ms : List Measure) (i u v : ℕ) (gs : List Form) (xs ys : List EventInText) : Type 0 where
+pub record Becomes (q : Style) (ms : List Measure) (i u v : ℕ) (gs : List Form) (xs ys : List EventInText) : Type 0 where
   pub is : (fs : List Form) (es : List EventInText)
       → normal_from q ms i u (gs ++ fs) (xs ++ es) ≡ ys ++ normal_from q ms (i + length xs) v fs es
 
-nothing : {q : Quotes} {ms : List Measure} {i u : ℕ} → Becomes q ms i u u [] [] []
+nothing : {q : Style} {ms : List Measure} {i u : ℕ} → Becomes q ms i u u [] [] []
 nothing {q} {ms} {i} {u} = record { is = λ fs es. ap (λ n. normal_from q ms n u fs es) (omega arith) }
 
-both : {q : Quotes} {ms : List Measure} {i u v w : ℕ} {gs hs : List Form} {xs ys zs rs : List EventInText}
+both : {q : Style} {ms : List Measure} {i u v w : ℕ} {gs hs : List Form} {xs ys zs rs : List EventInText}
     → Becomes q ms i u v gs xs ys → Becomes q ms (i + length xs) v w hs zs rs → Becomes q ms i u w (gs ++ hs) (xs ++ zs) (ys ++ rs)
 both {q} {ms} {i} {u} {v} {w} {gs} {hs} {xs} {ys} {zs} {rs} a b = record {
   is = λ fs es.
@@ -57,7 +56,7 @@ both {q} {ms} {i} {u} {v} {w} {gs} {hs} {xs} {ys} {zs} {rs} a b = record {
   far : (i : ℕ) (xs zs : List EventInText) → i + length xs + length zs ≡ i + length (xs ++ zs)
   far i xs zs = let l : length (xs ++ zs) ≡ length xs + length zs = length-append xs zs in omega (arith, l)
 
-one : {q : Quotes} {ms : List Measure} {i u : ℕ} (v : ℕ) (b : Bool) (f : Form) (e : EventInText)
+one : {q : Style} {ms : List Measure} {i u : ℕ} (v : ℕ) (b : Bool) (f : Form) (e : EventInText)
     → kept_until u (get_or ms i no_measure) f ≡ v → is_flow_at i v (get_or ms i no_measure) ≡ b → Becomes q ms i u v (f ∷ []) (e ∷ []) (restyled q b e ∷ [])
 one {q} {ms} {i} {u} v b f e k l = record {
   is = λ fs es.
@@ -66,7 +65,7 @@ one {q} {ms} {i} {u} v b f e k l = record {
 }
 
 -- an event that begins no collection with entries
-other : {q : Quotes} {ms : List Measure} {i u : ℕ} (f : Form) (e r : EventInText) → f.is_kept ≡ false → ((b : Bool) → restyled q b e ≡ r)
+other : {q : Style} {ms : List Measure} {i u : ℕ} (f : Form) (e r : EventInText) → f.is_kept ≡ false → ((b : Bool) → restyled q b e ≡ r)
     → Becomes q ms i u u (f ∷ []) (e ∷ []) (r ∷ [])
 other {q} {ms} {i} {u} f e r k h = record {
   is = λ fs es.
@@ -90,19 +89,19 @@ none_of xs = replicate (length xs) no_form
 none_joined : (xs zs : List EventInText) → none_of xs ++ none_of zs ≡ none_of (xs ++ zs)
 none_joined xs zs = replicate-append-replicate (length xs) (length zs) no_form ∙ ap (λ n. replicate n no_form) (sym (length-append xs zs))
 
-abbrev Within : Quotes → List Measure → ℕ → ℕ → List EventInText → List EventInText → Type 0
+abbrev Within : Style → List Measure → ℕ → ℕ → List EventInText → List EventInText → Type 0
 Within q ms i u xs ys = Becomes q ms i u u (none_of xs) xs ys
 
-first_within : {q : Quotes} {ms : List Measure} {i u : ℕ} (e : EventInText) → i < u → Within q ms i u (e ∷ []) (restyled q true e ∷ [])
+first_within : {q : Style} {ms : List Measure} {i u : ℕ} (e : EventInText) → i < u → Within q ms i u (e ∷ []) (restyled q true e ∷ [])
 first_within {q} {ms} {i} {u} e l = one u true no_form e refl (flow_within (is_leaf_at i (get_or ms i no_measure).first_leaf) i u l)
 
-both_within : {q : Quotes} {ms : List Measure} {i u : ℕ} {xs ys zs rs : List EventInText} → Within q ms i u xs ys
+both_within : {q : Style} {ms : List Measure} {i u : ℕ} {xs ys zs rs : List EventInText} → Within q ms i u xs ys
     → Within q ms (i + length xs) u zs rs → Within q ms i u (xs ++ zs) (ys ++ rs)
 both_within {q} {ms} {i} {u} {xs} {ys} {zs} {rs} a b =
     subst (λ gs. Becomes q ms i u u gs (xs ++ zs) (ys ++ rs)) (none_joined xs zs) (both a b)
 
 -- a collection with its brackets
-around_within : {q : Quotes} {ms : List Measure} {i u : ℕ} {xs ys : List EventInText} (e z : EventInText) → i < u → ((b : Bool) → restyled q b z ≡ z)
+around_within : {q : Style} {ms : List Measure} {i u : ℕ} {xs ys : List EventInText} (e z : EventInText) → i < u → ((b : Bool) → restyled q b z ≡ z)
     → Within q ms (i + 1) u xs ys → Within q ms i u (e ∷ (xs ++ (z ∷ []))) (restyled q true e ∷ (ys ++ (z ∷ [])))
 around_within e z l h a = both_within (first_within e l) (both_within a (other no_form z z refl h))
 
@@ -133,24 +132,24 @@ pairs_kept t cs at flow props k v ps h =
 
 mutual
   within : (t : List ℕ) (c : LayoutSetting) {ms : List Measure} (i u : ℕ) (x : Node) → may_be_kept t c.comments x ≡ true → i + length (flat x) ≤ u
-      → Within c.style.quotes ms i u (flat x) (flat (styled t c x))
+      → Within c.style ms i u (flat x) (flat (styled t c x))
   within t c i u (scalar at props style text lines) h l = first_within _ (omega (arith, l))
   within t c i u (alias at name) h l = first_within _ (omega (arith, l))
   within t c i u (sequence at flow props no_items) h l = around_within _ _ (omega (arith, l)) (λ b. refl) nothing
   within t c {ms} i u (sequence at flow props (item x xs)) h l =
       let n = inner (flat_items (item x xs)) (unplaced sequence_ends) (unplaced sequence_ends) i u l in
       let z = sequence at flow props (item x xs) in
-      subst (λ b. Within c.style.quotes ms i u (flat z) (flat (sequence at b props (styled_items t c (item x xs))))) (sym h)
+      subst (λ b. Within c.style ms i u (flat z) (flat (sequence at b props (styled_items t c (item x xs))))) (sym h)
       (around_within _ _ n.0 (λ b. refl) (items_within t c (i + 1) u (item x xs) (items_kept t c.comments at flow props x xs h) n.1))
   within t c i u (mapping at flow props no_pairs) h l = around_within _ _ (omega (arith, l)) (λ b. refl) nothing
   within t c {ms} i u (mapping at flow props (pair k v ps)) h l =
       let n = inner (flat_pairs (pair k v ps)) (unplaced mapping_ends) (unplaced mapping_ends) i u l in
       let z = mapping at flow props (pair k v ps) in
-      subst (λ b. Within c.style.quotes ms i u (flat z) (flat (mapping at b props (styled_pairs t c (pair k v ps))))) (sym h)
+      subst (λ b. Within c.style ms i u (flat z) (flat (mapping at b props (styled_pairs t c (pair k v ps))))) (sym h)
       (around_within _ _ n.0 (λ b. refl) (pairs_within t c (i + 1) u (pair k v ps) (pairs_kept t c.comments at flow props k v ps h) n.1))
 
   items_within : (t : List ℕ) (c : LayoutSetting) {ms : List Measure} (i u : ℕ) (xs : Items) → items_may_be_kept t c.comments xs ≡ true
-      → i + length (flat_items xs) ≤ u → Within c.style.quotes ms i u (flat_items xs) (flat_items (styled_items t c xs))
+      → i + length (flat_items xs) ≤ u → Within c.style ms i u (flat_items xs) (flat_items (styled_items t c xs))
   items_within t c i u no_items h l = nothing
   items_within t c i u (item x xs) h l =
       let p = and_parts _ _ h in
@@ -158,7 +157,7 @@ mutual
       both_within (within t c i u x p.0 s.0) (items_within t c (i + length (flat x)) u xs p.1 s.1)
 
   pairs_within : (t : List ℕ) (c : LayoutSetting) {ms : List Measure} (i u : ℕ) (ps : Pairs) → pairs_may_be_kept t c.comments ps ≡ true
-      → i + length (flat_pairs ps) ≤ u → Within c.style.quotes ms i u (flat_pairs ps) (flat_pairs (styled_pairs t c ps))
+      → i + length (flat_pairs ps) ≤ u → Within c.style ms i u (flat_pairs ps) (flat_pairs (styled_pairs t c ps))
   pairs_within t c i u no_pairs h l = nothing
   pairs_within t c i u (pair k v ps) h l =
       let p = and_parts _ _ h in
@@ -171,15 +170,15 @@ mutual
 -- Outside of collections on one line.
 
 -- the same, where nothing is kept after them
-record Outside (q : Quotes) (ms : List Measure) (i u : ℕ) (gs : List Form) (xs ys : List EventInText) : Type 0 where
+record Outside (q : Style) (ms : List Measure) (i u : ℕ) (gs : List Form) (xs ys : List EventInText) : Type 0 where
   until : ℕ
   ended : until ≤ i + length xs
   becomes : Becomes q ms i u until gs xs ys
 
-nothing_outside : {q : Quotes} {ms : List Measure} {i u : ℕ} → u ≤ i → Outside q ms i u [] [] []
+nothing_outside : {q : Style} {ms : List Measure} {i u : ℕ} → u ≤ i → Outside q ms i u [] [] []
 nothing_outside {q} {ms} {i} {u} l = record { until = u; ended = omega (arith, l); becomes = nothing }
 
-both_outside : {q : Quotes} {ms : List Measure} {i u : ℕ} {gs hs : List Form} {xs ys zs rs : List EventInText}
+both_outside : {q : Style} {ms : List Measure} {i u : ℕ} {gs hs : List Form} {xs ys zs rs : List EventInText}
     (a : Outside q ms i u gs xs ys) → Outside q ms (i + length xs) a.until hs zs rs → Outside q ms i u (gs ++ hs) (xs ++ zs) (ys ++ rs)
 both_outside {i = i} {xs = xs} {zs = zs} a b = record {
   until = b.until;
@@ -187,7 +186,7 @@ both_outside {i = i} {xs = xs} {zs = zs} a b = record {
   becomes = both a.becomes b.becomes;
 }
 
-other_outside : {q : Quotes} {ms : List Measure} {i u : ℕ} (f : Form) (e r : EventInText) → f.is_kept ≡ false → ((b : Bool) → restyled q b e ≡ r)
+other_outside : {q : Style} {ms : List Measure} {i u : ℕ} (f : Form) (e r : EventInText) → f.is_kept ≡ false → ((b : Bool) → restyled q b e ≡ r)
     → u ≤ i → Outside q ms i u (f ∷ []) (e ∷ []) (r ∷ [])
 other_outside {i = i} {u = u} f e r k h l = record { until = u; ended = omega (arith, l); becomes = other f e r k h }
 
@@ -202,7 +201,7 @@ is_leaf false c e = absurd cc
 longer : (xs : List EventInText) (e z : EventInText) → length (e ∷ (xs ++ (z ∷ []))) ≡ length xs + 2
 longer xs e z = let n : length (xs ++ (z ∷ [])) ≡ length xs + 1 = length-append xs (z ∷ []) in omega (arith, n)
 
-empty_outside : {q : Quotes} {ms : List Measure} {i u : ℕ} (f : Form) (e z : EventInText) → f.is_kept ≡ false
+empty_outside : {q : Style} {ms : List Measure} {i u : ℕ} (f : Form) (e z : EventInText) → f.is_kept ≡ false
     → is_leaf_at i (get_or ms i no_measure).first_leaf ≡ true → u ≤ i → ((b : Bool) → restyled q b z ≡ z)
     → Outside q ms i u (f ∷ (no_form ∷ [])) (e ∷ (z ∷ [])) (restyled q true e ∷ (z ∷ []))
 empty_outside {q} {ms} {i} {u} f e z k b l h = record {
@@ -211,7 +210,7 @@ empty_outside {q} {ms} {i} {u} f e z k b l h = record {
   becomes = both (one u true f e (rw k refl) (is_leaf _ _ b)) (other no_form z z refl h);
 }
 
-block_outside : {q : Quotes} {ms : List Measure} {i u : ℕ} {gs : List Form} {xs ys : List EventInText} (f : Form) (e z : EventInText) → f.is_kept ≡ false
+block_outside : {q : Style} {ms : List Measure} {i u : ℕ} {gs : List Form} {xs ys : List EventInText} (f : Form) (e z : EventInText) → f.is_kept ≡ false
     → is_leaf_at i (get_or ms i no_measure).first_leaf ≡ false → u ≤ i → ((b : Bool) → restyled q b z ≡ z) → Outside q ms (i + 1) u gs xs ys
     → Outside q ms i u (f ∷ (gs ++ (no_form ∷ []))) (e ∷ (xs ++ (z ∷ []))) (restyled q false e ∷ (ys ++ (z ∷ [])))
 block_outside {q} {ms} {i} {u} {xs = xs} f e z k b l h a = record {
@@ -220,7 +219,7 @@ block_outside {q} {ms} {i} {u} {xs = xs} f e z k b l h a = record {
   becomes = both (one u false f e (rw k refl) (not_before _ i u b l)) (both a.becomes (other no_form z z refl h));
 }
 
-kept_outside : {q : Quotes} {ms : List Measure} {i u : ℕ} {gs : List Form} {xs ys : List EventInText} (f : Form) (e z : EventInText) → f.is_kept ≡ true
+kept_outside : {q : Style} {ms : List Measure} {i u : ℕ} {gs : List Form} {xs ys : List EventInText} (f : Form) (e z : EventInText) → f.is_kept ≡ true
     → (get_or ms i no_measure).last ≡ i + 1 + length xs → gs ≡ none_of xs → ((b : Bool) → restyled q b z ≡ z)
     → Within q ms (i + 1) (i + 1 + length xs) xs ys
     → Outside q ms i u (f ∷ (gs ++ (no_form ∷ []))) (e ∷ (xs ++ (z ∷ []))) (restyled q true e ∷ (ys ++ (z ∷ [])))
@@ -243,7 +242,7 @@ measure_at : {t : List ℕ} {c : LayoutSetting} {es : List EventInText} {ms : Li
 measure_at {t} {c} {es} {ms} m i x a = got ms i no_measure (measure_of t c i x) (m.each i x (node_at x a))
 
 -- a list of events becomes one of the same length
-same_length : {q : Quotes} {ms : List Measure} {i u v : ℕ} {gs : List Form} {xs ys : List EventInText} → Becomes q ms i u v gs xs ys → length ys ≡ length xs
+same_length : {q : Style} {ms : List Measure} {i u v : ℕ} {gs : List Form} {xs ys : List EventInText} → Becomes q ms i u v gs xs ys → length ys ≡ length xs
 same_length {q} {ms} {i} {u} {v} {gs} {xs} {ys} b =
     ap length (sym (append-nil ys) ∙ sym (b.is [] [])) ∙ restyled_length (pass_restyles q ms i u (gs ++ []) (xs ++ [])) ∙ ap length (append-nil xs)
 
@@ -251,7 +250,7 @@ same_length {q} {ms} {i} {u} {v} {gs} {xs} {ys} b =
 abbrev form : Bool → Site → Form
 form r site = record { is_kept = r; is_implicit = site.is_implicit; key_comment = site.key_comment; column = up_to_greatest site.spot.entries }
 
-filled_sequence : {q : Quotes} {ms : List Measure} {i u : ℕ} {gs : List Form} {xs : List EventInText} (site : Site) (at : NodeOffsets)
+filled_sequence : {q : Style} {ms : List Measure} {i u : ℕ} {gs : List Form} {xs : List EventInText} (site : Site) (at : NodeOffsets)
     (flow b : Bool) (props : PropsValue) (ys zs : Items) → is_leaf_at i (get_or ms i no_measure).first_leaf ≡ false
     → (get_or ms i no_measure).last ≡ i + 1 + length xs → u ≤ i → Outside q ms (i + 1) u gs xs (flat_items zs)
     → (b ≡ true → Within q ms (i + 1) (i + 1 + length xs) xs (flat_items ys)) → (r : Bool)
@@ -263,7 +262,7 @@ filled_sequence site at flow true props ys zs f m l o w false = block_outside (f
 filled_sequence site at flow true props ys zs f m l o w true =
     kept_outside (form true site) _ _ refl m (ap (λ n. replicate n no_form) (same_length (w refl))) (λ b. refl) (w refl)
 
-filled_mapping : {q : Quotes} {ms : List Measure} {i u : ℕ} {gs : List Form} {xs : List EventInText} (site : Site) (at : NodeOffsets)
+filled_mapping : {q : Style} {ms : List Measure} {i u : ℕ} {gs : List Form} {xs : List EventInText} (site : Site) (at : NodeOffsets)
     (flow b : Bool) (props : PropsValue) (ys zs : Pairs) → is_leaf_at i (get_or ms i no_measure).first_leaf ≡ false
     → (get_or ms i no_measure).last ≡ i + 1 + length xs → u ≤ i → Outside q ms (i + 1) u gs xs (flat_pairs zs)
     → (b ≡ true → Within q ms (i + 1) (i + 1 + length xs) xs (flat_pairs ys)) → (r : Bool)
@@ -289,7 +288,7 @@ leaf_at m i x a = ap (λ w. is_leaf_at i w.first_leaf) (measure_at m i x a)
 mutual
   node_outside : (t : List ℕ) (c : LayoutSetting) {es : List EventInText} {ms : List Measure} → AreMeasures t c es ms → (i u : ℕ) → u ≤ i
       → (site : Site) (x : Node) → Among es (flat x) i
-      → Outside c.style.quotes ms i u (forms c site (styled t c x)) (flat x) (flat (settled c site.spot (styled t c x)))
+      → Outside c.style ms i u (forms c site (styled t c x)) (flat x) (flat (settled c site.spot (styled t c x)))
   node_outside t c m i u l site (scalar at props style text lines) a = other_outside _ _ _ refl (λ b. refl) l
   node_outside t c m i u l site (alias at name) a = other_outside _ _ _ refl (λ b. refl) l
   node_outside t c m i u l site (sequence at flow props no_items) a =
@@ -319,7 +318,7 @@ mutual
 
   items_outside : (t : List ℕ) (c : LayoutSetting) {es : List EventInText} {ms : List Measure} → AreMeasures t c es ms → (i u : ℕ) → u ≤ i
       → (column : ℕ) (xs : Items) → Among es (flat_items xs) i
-      → Outside c.style.quotes ms i u (forms_of_items c column (styled_items t c xs)) (flat_items xs)
+      → Outside c.style ms i u (forms_of_items c column (styled_items t c xs)) (flat_items xs)
       (flat_items (settled_items c column (styled_items t c xs)))
   items_outside t c m i u l column no_items a = nothing_outside l
   items_outside t c m i u l column (item x xs) a =
@@ -328,7 +327,7 @@ mutual
 
   pairs_outside : (t : List ℕ) (c : LayoutSetting) {es : List EventInText} {ms : List Measure} → AreMeasures t c es ms → (i u : ℕ) → u ≤ i
       → (column : ℕ) (ps : Pairs) → Among es (flat_pairs ps) i
-      → Outside c.style.quotes ms i u (forms_of_pairs c column (styled_pairs t c ps)) (flat_pairs ps)
+      → Outside c.style ms i u (forms_of_pairs c column (styled_pairs t c ps)) (flat_pairs ps)
       (flat_pairs (settled_pairs c column (styled_pairs t c ps)))
   pairs_outside t c m i u l column no_pairs a = nothing_outside l
   pairs_outside t c m i u l column (pair k v ps) a =
@@ -343,7 +342,7 @@ mutual
 
 document_outside : (t : List ℕ) (c : LayoutSetting) {es : List EventInText} {ms : List Measure} → AreMeasures t c es ms → (i u : ℕ) → u ≤ i
     → (d : DocumentTree) → Among es (flat_document d) i
-    → Outside c.style.quotes ms i u (document_forms t c c d) (flat_document d) (flat_document (normal_document t c d))
+    → Outside c.style ms i u (document_forms t c c d) (flat_document d) (flat_document (normal_document t c d))
 document_outside t c m i u l d a =
     let first = unplaced (document_starts d.marked) in
     let last = unplaced (document_ends d.closed) in
@@ -354,21 +353,21 @@ document_outside t c m i u l d a =
 
 documents_outside : (t : List ℕ) (c : LayoutSetting) {es : List EventInText} {ms : List Measure} → AreMeasures t c es ms → (i u : ℕ) → u ≤ i
     → (ds : List DocumentTree) → Among es (flat_map flat_document ds) i
-    → Outside c.style.quotes ms i u (flat_map (document_forms t c c) ds) (flat_map flat_document ds)
+    → Outside c.style ms i u (flat_map (document_forms t c c) ds) (flat_map flat_document ds)
     (flat_map flat_document (map (normal_document t c) ds))
 documents_outside t c m i u l [] a = nothing_outside l
 documents_outside t c m i u l (d ∷ ds) a =
     let o = document_outside t c m i u l d (front (flat_document d) (flat_map flat_document ds) a) in
     both_outside o (documents_outside t c m (i + length (flat_document d)) o.until o.ended ds (back (flat_document d) (flat_map flat_document ds) a))
 
-whole : {q : Quotes} {ms : List Measure} {gs : List Form} {xs ys : List EventInText} → Outside q ms 0 0 gs xs ys → normal_from q ms 0 0 gs xs ≡ ys
+whole : {q : Style} {ms : List Measure} {gs : List Form} {xs ys : List EventInText} → Outside q ms 0 0 gs xs ys → normal_from q ms 0 0 gs xs ≡ ys
 whole {q} {ms} {gs} {xs} {ys} o =
     ap (λ l. normal_from q ms 0 0 l xs) (sym (append-nil gs)) ∙ ap (λ l. normal_from q ms 0 0 (gs ++ []) l) (sym (append-nil xs))
     ∙ o.becomes.is [] [] ∙ append-nil ys
 
 -- the pass over a reading makes the events of its documents with their forms settled
 pub normal_stream : (t : List ℕ) (c : LayoutSetting) (ms : List Measure) (ds : List DocumentTree) → AreMeasures t c (flat_stream ds) ms
-    → normal_from c.style.quotes ms 0 0 (stream_forms t c c ds) (flat_stream ds) ≡ flat_stream (map (normal_document t c) ds)
+    → normal_from c.style ms 0 0 (stream_forms t c c ds) (flat_stream ds) ≡ flat_stream (map (normal_document t c) ds)
 normal_stream t c ms ds m =
     let all : Among (flat_stream ds) (flat_map flat_document ds) 1 =
     record { before = unplaced stream_starts ∷ []; after = unplaced stream_ends ∷ []; is = refl; index = refl } in
@@ -380,11 +379,11 @@ normal_stream t c ms ds m =
 -- a reading with these events is the normal form
 pub normal_reading : (t : List ℕ) (r m : Lists) (s : Style) (ms : List Measure) (fs : List Form) (ds : List DocumentTree) → TreesOf r ds
     → AreMeasures t (setting_of r s) r.events ms → fs ≡ stream_forms t (setting_of r s) (setting_of r s) ds
-    → m.events ≡ normal_from s.quotes ms 0 0 fs r.events → m ≡ record r { events = m.events } → Normal t r s m
+    → m.events ≡ normal_from s ms 0 0 fs r.events → m ≡ record r { events = m.events } → Normal t r s m
 normal_reading t r m s ms fs ds o d f e k = record {
   trees = ds;
   of_reading = o;
-  is = k ∙ ap (λ es. record r { events = es }) (e ∙ ap (λ l. normal_from s.quotes ms 0 0 l r.events) f
-      ∙ ap (λ es. normal_from s.quotes ms 0 0 (stream_forms t (setting_of r s) (setting_of r s) ds) es) o.events
+  is = k ∙ ap (λ es. record r { events = es }) (e ∙ ap (λ l. normal_from s ms 0 0 l r.events) f
+      ∙ ap (λ es. normal_from s ms 0 0 (stream_forms t (setting_of r s) (setting_of r s) ds) es) o.events
       ∙ normal_stream t (setting_of r s) ms ds (subst (λ es. AreMeasures t (setting_of r s) es ms) o.events d));
 }

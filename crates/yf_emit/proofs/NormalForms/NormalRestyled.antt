@@ -1,7 +1,6 @@
 -- A normal form is the reading with other styles of scalars and other brackets of collections, and nothing else.
 use Rattle.std.proofs.Common.{◌≡◌, ℕ, Bool, true, false, List, [], ◌∷◌, ◌++◌, map, flat_map, sym, ap, ◌∙◌, subst}
 use Rattle.std.specs.Prelude.{◌&&◌, if◌then◌else◌}
-use Rattle.yf_lines.specs.declared.quotes.Quotes.{Quotes}
 use Rattle.yf_events.specs.Event.{EventInText}
 use Rattle.yf_events.specs.declared.lists.Lists.{Lists}
 use Rattle.yf_events.specs.Tree.{Node, scalar, alias, sequence, mapping, Items, no_items, item, Pairs, no_pairs, pair, DocumentTree, flat, flat_items, flat_pairs, flat_document, flat_stream}
@@ -10,14 +9,14 @@ use Rattle.yf_emit.specs.Nodes.OneLineFlows.{may_be_kept}
 use Rattle.yf_emit.specs.NormalForms.Normal.{LayoutSetting, Spot, Normal, fits, settled, settled_items, settled_pairs, styled, styled_items, styled_pairs, inner_spot, key_spot, value_spot, root_spot, normal_document, setting_of}
 use Rattle.yf_emit.specs.NormalForms.Restyled.{SameButStyles, none_left, one_more, IsRestyled}
 
-module _ {q : Quotes} where
+module _ {q : Style} where
   restyled_append : {xs ys zs ws : List EventInText} → SameButStyles q xs ys → SameButStyles q zs ws → SameButStyles q (xs ++ zs) (ys ++ ws)
   restyled_append none_left b = b
   restyled_append (one_more flow a) b = one_more flow (restyled_append a b)
 
 -- scalars in their styles
 mutual
-  styled_restyled : (t : List ℕ) (c : LayoutSetting) (x : Node) → SameButStyles c.style.quotes (flat x) (flat (styled t c x))
+  styled_restyled : (t : List ℕ) (c : LayoutSetting) (x : Node) → SameButStyles c.style (flat x) (flat (styled t c x))
   styled_restyled t c (scalar at props style text lines) = one_more false none_left
   styled_restyled t c (alias at name) = one_more false none_left
   styled_restyled t c (sequence at flow props xs) =
@@ -25,21 +24,21 @@ mutual
   styled_restyled t c (mapping at flow props ps) =
       one_more (may_be_kept t c.comments (mapping at flow props ps)) (restyled_append (styled_pairs_restyled t c ps) (one_more false none_left))
 
-  styled_items_restyled : (t : List ℕ) (c : LayoutSetting) (xs : Items) → SameButStyles c.style.quotes (flat_items xs) (flat_items (styled_items t c xs))
+  styled_items_restyled : (t : List ℕ) (c : LayoutSetting) (xs : Items) → SameButStyles c.style (flat_items xs) (flat_items (styled_items t c xs))
   styled_items_restyled t c no_items = none_left
   styled_items_restyled t c (item x xs) = restyled_append (styled_restyled t c x) (styled_items_restyled t c xs)
 
-  styled_pairs_restyled : (t : List ℕ) (c : LayoutSetting) (ps : Pairs) → SameButStyles c.style.quotes (flat_pairs ps) (flat_pairs (styled_pairs t c ps))
+  styled_pairs_restyled : (t : List ℕ) (c : LayoutSetting) (ps : Pairs) → SameButStyles c.style (flat_pairs ps) (flat_pairs (styled_pairs t c ps))
   styled_pairs_restyled t c no_pairs = none_left
   styled_pairs_restyled t c (pair k v ps) = restyled_append (styled_restyled t c k) (restyled_append (styled_restyled t c v) (styled_pairs_restyled t c ps))
 
-either : {q : Quotes} {es : List EventInText} (x y : Node) (b : Bool) → SameButStyles q es (flat x) → SameButStyles q es (flat y) → SameButStyles q es (flat (if b then x else y))
+either : {q : Style} {es : List EventInText} (x y : Node) (b : Bool) → SameButStyles q es (flat x) → SameButStyles q es (flat y) → SameButStyles q es (flat (if b then x else y))
 either x y true a d = a
 either x y false a d = d
 
 -- and with the brackets that are kept
 mutual
-  settled_restyled : (t : List ℕ) (c : LayoutSetting) (spot : Spot) (x : Node) → SameButStyles c.style.quotes (flat x) (flat (settled c spot (styled t c x)))
+  settled_restyled : (t : List ℕ) (c : LayoutSetting) (spot : Spot) (x : Node) → SameButStyles c.style (flat x) (flat (settled c spot (styled t c x)))
   settled_restyled t c spot (scalar at props style text lines) = one_more false none_left
   settled_restyled t c spot (alias at name) = one_more false none_left
   settled_restyled t c spot (sequence at flow props no_items) = one_more true (one_more false none_left)
@@ -60,32 +59,32 @@ mutual
       (one_more false (restyled_append (restyled_append (settled_restyled t c (key_spot c.style spot.entries (styled t c k)) k)
       (restyled_append (settled_restyled t c (value_spot c spot.entries (styled t c k) (styled t c v)) v) (settled_pairs_restyled t c spot.entries ps))) (one_more false none_left)))
 
-  settled_items_restyled : (t : List ℕ) (c : LayoutSetting) (column : ℕ) (xs : Items) → SameButStyles c.style.quotes (flat_items xs) (flat_items (settled_items c column (styled_items t c xs)))
+  settled_items_restyled : (t : List ℕ) (c : LayoutSetting) (column : ℕ) (xs : Items) → SameButStyles c.style (flat_items xs) (flat_items (settled_items c column (styled_items t c xs)))
   settled_items_restyled t c column no_items = none_left
   settled_items_restyled t c column (item x xs) = restyled_append (settled_restyled t c (inner_spot c.style column) x) (settled_items_restyled t c column xs)
 
-  settled_pairs_restyled : (t : List ℕ) (c : LayoutSetting) (column : ℕ) (ps : Pairs) → SameButStyles c.style.quotes (flat_pairs ps) (flat_pairs (settled_pairs c column (styled_pairs t c ps)))
+  settled_pairs_restyled : (t : List ℕ) (c : LayoutSetting) (column : ℕ) (ps : Pairs) → SameButStyles c.style (flat_pairs ps) (flat_pairs (settled_pairs c column (styled_pairs t c ps)))
   settled_pairs_restyled t c column no_pairs = none_left
   settled_pairs_restyled t c column (pair k v ps) =
       restyled_append (settled_restyled t c (key_spot c.style column (styled t c k)) k)
       (restyled_append (settled_restyled t c (value_spot c column (styled t c k) (styled t c v)) v) (settled_pairs_restyled t c column ps))
 
 -- of a document's root
-pub root_restyled : (t : List ℕ) (c : LayoutSetting) (d : DocumentTree) → SameButStyles c.style.quotes (flat d.root) (flat (normal_document t c d).root)
+pub root_restyled : (t : List ℕ) (c : LayoutSetting) (d : DocumentTree) → SameButStyles c.style (flat d.root) (flat (normal_document t c d).root)
 root_restyled t c d = settled_restyled t c (root_spot c.style) d.root
 
 documents_restyled : (t : List ℕ) (c : LayoutSetting) (ds : List DocumentTree)
-    → SameButStyles c.style.quotes (flat_map flat_document ds) (flat_map flat_document (map (normal_document t c) ds))
+    → SameButStyles c.style (flat_map flat_document ds) (flat_map flat_document (map (normal_document t c) ds))
 documents_restyled t c [] = none_left
 documents_restyled t c (d ∷ ds) = restyled_append (one_more false (restyled_append (root_restyled t c d) (one_more false none_left))) (documents_restyled t c ds)
 
-pub normal_restyled : {t : List ℕ} {r m : Lists} {s : Style} → Normal t r s m → IsRestyled s.quotes r m
+pub normal_restyled : {t : List ℕ} {r m : Lists} {s : Style} → Normal t r s m → IsRestyled s r m
 normal_restyled {t} {r} {m} {s} a =
     let c = setting_of r s in
-    let all : SameButStyles s.quotes (flat_stream a.trees) (flat_stream (map (normal_document t c) a.trees)) =
+    let all : SameButStyles s (flat_stream a.trees) (flat_stream (map (normal_document t c) a.trees)) =
     one_more false (restyled_append (documents_restyled t c a.trees) (one_more false none_left)) in
     let events : m.events ≡ flat_stream (map (normal_document t c) a.trees) = ap (λ (w : Lists). w.events) a.is in
     record {
-      events = subst (λ z. SameButStyles s.quotes z m.events) (sym a.of_reading.events) (subst (λ z. SameButStyles s.quotes (flat_stream a.trees) z) (sym events) all);
+      events = subst (λ z. SameButStyles s z m.events) (sym a.of_reading.events) (subst (λ z. SameButStyles s (flat_stream a.trees) z) (sym events) all);
       rest = a.is ∙ ap (λ z. record r { events = z }) (sym events);
     }

@@ -5,10 +5,11 @@ use Rattle.std.specs.Str.{chars}
 use Rattle.yf_lines.specs.Steady.{is_steady}
 use Rattle.yf_lines.specs.declared.quotes.Quotes.{Quotes}
 use Rattle.yf_props.specs.Props.{PropsValue}
-use Rattle.yf_quoted.specs.Written.{quotes_for}
+use Rattle.yf_quoted.specs.Written.{quotes_in}
 use Rattle.yf_events.specs.declared.event.ScalarStyle.{ScalarStyle}
 use Rattle.yf_events.specs.declared.event.ScalarStyle.TheVariants.{Plain, Single, Double, Literal, Folded}
 use Rattle.yf_events.specs.Tree.{DocumentTree, Node, NodeOffsets, scalar, alias, sequence, mapping, Items, no_items, item, Pairs, no_pairs, pair, leaves, leaves_of_items, leaves_of_pairs, standing}
+use Rattle.yf_emit.specs.declared.style.Style.{Style}
 use Rattle.yf_emit.proofs.OfTexts.KeyEntries.{keys_begin, keys_begin_in_items, keys_begin_in_pairs}
 use Rattle.yf_emit.specs.NormalForms.Forms.{agree, is_empty_node, is_placed, items_are_placed, pairs_are_placed}
 use Rattle.yf_emit.specs.NormalForms.Normal.{LayoutSetting, Spot, fits, inner_spot, key_spot, normal_document, root_spot, settled, settled_items, settled_pairs, styled, styled_items, styled_pairs, value_spot}
@@ -105,21 +106,21 @@ full_if : (b : Bool) (props : PropsValue) (one other : ScalarStyle) (text : List
 full_if true props one other text h k = h
 full_if false props one other text h k = k
 
-same_emptiness : (props : PropsValue) (style : ScalarStyle) (text : List ℕ) (quotes : Quotes) → is_empty_node props (wanted style text quotes) text ≡ is_empty_node props style text
-same_emptiness props Plain [] quotes = ap (λ b. is_empty_node props (if b then Plain else quoted_in [] quotes) []) nothing_steady
-same_emptiness props Plain (b ∷ text) quotes =
-    full_if (is_steady (b ∷ text)) props Plain (quoted_in (b ∷ text) quotes) (b ∷ text) refl (quoted_full props (b ∷ text) (quotes_for (chars (b ∷ text)) quotes))
-same_emptiness props Single text quotes = quoted_full props text (quotes_for (chars text) quotes)
-same_emptiness props Double text quotes = quoted_full props text (quotes_for (chars text) quotes)
-same_emptiness props Literal text quotes =
-    full_if (has_block_content text) props Literal (quoted_in text quotes) text refl (quoted_full props text (quotes_for (chars text) quotes))
-same_emptiness props Folded text quotes =
-    full_if (has_block_content text) props Folded (quoted_in text quotes) text refl (quoted_full props text (quotes_for (chars text) quotes))
+same_emptiness : (props : PropsValue) (style : ScalarStyle) (text : List ℕ) (house : Style) → is_empty_node props (wanted style text house) text ≡ is_empty_node props style text
+same_emptiness props Plain [] house = ap (λ b. is_empty_node props (if b then Plain else quoted_in [] house) []) nothing_steady
+same_emptiness props Plain (b ∷ text) house =
+    full_if (is_steady (b ∷ text)) props Plain (quoted_in (b ∷ text) house) (b ∷ text) refl (quoted_full props (b ∷ text) (quotes_in house.invisible (chars (b ∷ text)) house.quotes))
+same_emptiness props Single text house = quoted_full props text (quotes_in house.invisible (chars text) house.quotes)
+same_emptiness props Double text house = quoted_full props text (quotes_in house.invisible (chars text) house.quotes)
+same_emptiness props Literal text house =
+    full_if (has_block_content text) props Literal (quoted_in text house) text refl (quoted_full props text (quotes_in house.invisible (chars text) house.quotes))
+same_emptiness props Folded text house =
+    full_if (has_block_content text) props Folded (quoted_in text house) text refl (quoted_full props text (quotes_in house.invisible (chars text) house.quotes))
 
 mutual
   pub styled_same : (t : List ℕ) (c : LayoutSetting) (x : Node) → SameNode (styled t c x) x
   styled_same t c (scalar at props style text lines) =
-      record { placed = ap (λ b. agree (is_some at.span) (not b)) (same_emptiness props style text c.style.quotes); begins = refl; leaves = refl; standing = refl }
+      record { placed = ap (λ b. agree (is_some at.span) (not b)) (same_emptiness props style text c.style); begins = refl; leaves = refl; standing = refl }
   styled_same t c (alias at name) = node_as_is (alias at name)
   styled_same t c (sequence at flow props no_items) = record { placed = refl; begins = refl; leaves = refl; standing = refl }
   styled_same t c (sequence at flow props (item x xs)) = same_sequence (styled_items_same t c (item x xs))

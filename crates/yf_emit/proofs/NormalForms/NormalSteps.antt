@@ -2,8 +2,8 @@
 use Rattle.std.proofs.Common.{◌≡◌, ℕ, zero, suc, ◌+◌, Bool, List, [], ◌∷◌, ◌++◌, get_or, Some, refl, sym, ap, ◌∙◌, arith, append_assoc, add-one}
 use Rattle.std.specs.Prelude.{slice_get, drop}
 use Rattle.std.proofs.lemmas.List.{drop-drop, get_or-drop}
-use Rattle.yf_lines.specs.declared.quotes.Quotes.{Quotes}
 use Rattle.yf_events.specs.Event.{EventInText}
+use Rattle.yf_emit.specs.declared.style.Style.{Style}
 use Rattle.yf_emit.specs.declared.form.decide.Form.{Form}
 use Rattle.yf_emit.specs.declared.form.measure.Measure.{Measure}
 use Rattle.yf_emit.specs.NormalForms.Forms.{no_form}
@@ -16,7 +16,7 @@ cut_at [] i e h = cc
 cut_at (x ∷ es) zero e h = ap (λ w. w ∷ es) (let same : x ≡ e = cc in same)
 cut_at (x ∷ es) (suc i) e h = cut_at es i e h
 
-one_step : (q : Quotes) (ms : List Measure) (fs : List Form) (es : List EventInText) (i u : ℕ) (e : EventInText) → slice_get es i ≡ Some e
+one_step : (q : Style) (ms : List Measure) (fs : List Form) (es : List EventInText) (i u : ℕ) (e : EventInText) → slice_get es i ≡ Some e
     → normal_from q ms i u (drop i fs) (drop i es)
     ≡ restyled q (is_flow_at i (kept_until u (get_or ms i no_measure) (get_or fs i no_form)) (get_or ms i no_measure)) e
     ∷ normal_from q ms (i + 1) (kept_until u (get_or ms i no_measure) (get_or fs i no_form)) (drop (i + 1) fs) (drop (i + 1) es)
@@ -33,7 +33,7 @@ one_step q ms fs es i u e a =
       same_form : get_or (drop i fs) 0 no_form ≡ get_or fs i no_form
       same_form = get_or-drop i fs 0 no_form ∙ ap (λ n. get_or fs n no_form) here
 
-pub pass_step : (q : Quotes) (ms : List Measure) (fs : List Form) (es : List EventInText) (i u v : ℕ) (x : EventInText) (m : Measure) (g : Form)
+pub pass_step : (q : Style) (ms : List Measure) (fs : List Form) (es : List EventInText) (i u v : ℕ) (x : EventInText) (m : Measure) (g : Form)
     (b : Bool) (done : List EventInText) (p : EventInText) → slice_get es i ≡ Some x → m ≡ get_or ms i no_measure → g ≡ get_or fs i no_form
     → v ≡ kept_until u m g → b ≡ is_flow_at i v m → p ≡ restyled q b x
     → (done ++ (p ∷ [])) ++ normal_from q ms (i + 1) v (drop (i + 1) fs) (drop (i + 1) es) ≡ done ++ normal_from q ms i u (drop i fs) (drop i es)

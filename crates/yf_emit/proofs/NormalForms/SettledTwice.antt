@@ -25,14 +25,14 @@ key_stays c column (sequence at flow props no_items) e = refl
 key_stays c column (sequence at flow props (item x xs)) e =
     let x' : Node = sequence at flow props (item x xs) in
     let y' : Node = sequence at false props (settled_items c (column + c.style.indent) (item x xs)) in
-    let here : (flow && fits c.style column x') ≡ true = (and_parts (flow && fits c.style column x') (nat_le (width (written x')) 1023) e).0 in
+    let here : (flow && fits c.style column x') ≡ true = (and_parts (flow && fits c.style column x') (nat_le (width (written c.style x')) 1023) e).0 in
     ap (λ b. if flow && fits c.style (if b then column else column + c.style.indent) x' then x' else y') e
     ∙ ap (λ b. if b then x' else y') here
 key_stays c column (mapping at flow props no_pairs) e = refl
 key_stays c column (mapping at flow props (pair k v ps)) e =
     let x' : Node = mapping at flow props (pair k v ps) in
     let y' : Node = mapping at false props (settled_pairs c (column + c.style.indent) (pair k v ps)) in
-    let here : (flow && fits c.style column x') ≡ true = (and_parts (flow && fits c.style column x') (nat_le (width (written x')) 1023) e).0 in
+    let here : (flow && fits c.style column x') ≡ true = (and_parts (flow && fits c.style column x') (nat_le (width (written c.style x')) 1023) e).0 in
     ap (λ b. if flow && fits c.style (if b then column else column + c.style.indent) x' then x' else y') e
     ∙ ap (λ b. if b then x' else y') here
 

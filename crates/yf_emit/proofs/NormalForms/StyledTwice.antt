@@ -4,11 +4,12 @@ use Rattle.std.specs.Prelude.{if◌then◌else◌}
 use Rattle.std.proofs.lemmas.Bool.{and_parts}
 use Rattle.yf_lines.specs.declared.quotes.Quotes.{Quotes}
 use Rattle.yf_props.specs.Props.{PropsValue}
-use Rattle.yf_quoted.specs.Written.{quotes_for}
+use Rattle.yf_quoted.specs.Written.{quotes_in}
 use Rattle.yf_events.specs.declared.event.ScalarStyle.{ScalarStyle}
 use Rattle.yf_events.specs.declared.event.ScalarStyle.TheVariants.{Plain, Single, Double, Literal, Folded}
 use Rattle.yf_events.specs.declared.event.Span.{Span}
 use Rattle.yf_events.specs.Tree.{Node, NodeOffsets, scalar, alias, sequence, mapping, Items, no_items, item, Pairs, no_pairs, pair}
+use Rattle.yf_emit.specs.declared.style.Style.{Style}
 use Rattle.yf_emit.specs.Nodes.OneLineFlows.{has_comment, items_may_be_kept, may_be_kept, pairs_may_be_kept, scalar_may_be_kept}
 use Rattle.yf_emit.specs.Passes.MeasurePass.{setting}
 use Rattle.yf_emit.specs.NormalForms.Normal.{LayoutSetting, Spot, fits, inner_spot, key_spot, settled, settled_items, settled_pairs, styled, styled_items, styled_pairs, value_spot}
@@ -28,11 +29,11 @@ quoted_kept : (q : Quotes) (text : List ℕ) → scalar_may_be_kept (style_in q)
 quoted_kept Quotes.Single text = refl
 quoted_kept Quotes.Double text = refl
 
-scalar_kept : (style : ScalarStyle) (text : List ℕ) (q : Quotes) → scalar_may_be_kept style text ≡ true → scalar_may_be_kept (wanted style text q) text ≡ true
+scalar_kept : (style : ScalarStyle) (text : List ℕ) (q : Style) → scalar_may_be_kept style text ≡ true → scalar_may_be_kept (wanted style text q) text ≡ true
 scalar_kept Plain [] q k = absurd (true≢false (sym k))
 scalar_kept Plain (b ∷ text) q k = rw k k
-scalar_kept Single text q k = quoted_kept (quotes_for (chars text) q) text
-scalar_kept Double text q k = quoted_kept (quotes_for (chars text) q) text
+scalar_kept Single text q k = quoted_kept (quotes_in q.invisible (chars text) q.quotes) text
+scalar_kept Double text q k = quoted_kept (quotes_in q.invisible (chars text) q.quotes) text
 scalar_kept Literal text q k = absurd (true≢false (sym k))
 scalar_kept Folded text q k = absurd (true≢false (sym k))
 
@@ -46,7 +47,7 @@ all_five a b c d e h i j k l = rw (h, i, j, k, l) refl
 
 mutual
   pub still_kept : (t : List ℕ) (c : LayoutSetting) (x : Node) → may_be_kept t c.comments x ≡ true → may_be_kept [] [] (styled t c x) ≡ true
-  still_kept t c (scalar at props style text lines) k = scalar_kept style text c.style.quotes k
+  still_kept t c (scalar at props style text lines) k = scalar_kept style text c.style k
   still_kept t c (alias at name) k = refl
   still_kept t c (sequence at flow props no_items) k = refl
   still_kept t c (sequence at flow props (item x xs)) k =
@@ -72,8 +73,8 @@ mutual
 scalar_house : (t : List ℕ) (c : LayoutSetting) (at : NodeOffsets) (props : PropsValue) (style : ScalarStyle) (text : List ℕ) (lines : List (List ℕ))
     → House c (styled t c (scalar at props style text lines))
 scalar_house t c at props style text lines =
-    let w : ScalarStyle = wanted style text c.style.quotes in
-    ap (λ s. scalar at props s text (lines_in s (lines_in w lines))) (wanted_stays style text c.style.quotes)
+    let w : ScalarStyle = wanted style text c.style in
+    ap (λ s. scalar at props s text (lines_in s (lines_in w lines))) (wanted_stays style text c.style)
     ∙ ap (λ l. scalar at props w text l) (lines_stay w lines)
 
 mutual

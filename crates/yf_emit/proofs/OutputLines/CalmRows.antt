@@ -76,8 +76,8 @@ one_line_steps : {k : ℕ} (column : ℕ) (x : Node) (w : List ℕ) → Steps k 
 one_line_steps column x [] = no_steps
 one_line_steps column x (b ∷ w) = one_step tt no_steps
 
-line_steps : {k : ℕ} (spot : Spot) (x : Node) → Steps k (one_line spot x)
-line_steps spot x = one_line_steps spot.column x (written x)
+line_steps : (house : Style) {k : ℕ} (spot : Spot) (x : Node) → Steps k (one_line house spot x)
+line_steps house spot x = one_line_steps spot.column x (written house x)
 
 props_steps : {k : ℕ} (column : ℕ) (w : List ℕ) {rs : List Row} → Steps k rs → Steps k (props_row column w ++ rs)
 props_steps column [] a = a
@@ -154,21 +154,21 @@ pair_steps {c} {k} {v} column {ys} f g a = go (is_implicit c.style column k) whe
 
   go : (b : Bool) → EntriesSteps column (either_pair b c column k v ++ ys)
   go true = entries_of
-      (λ m l. after_key_steps (key_row column k) (key_comment c.comments k v) (begins_below v) refl (implicit_steps column m k g l))
-      (λ m. after_key_column m (key_row column k) (key_comment c.comments k v) (begins_below v) (rows c (value_of_implicit c column k v) v)) a
+      (λ m l. after_key_steps (key_row c.style column k) (key_comment c.comments k v) (begins_below v) refl (implicit_steps column m k g l))
+      (λ m. after_key_column m (key_row c.style column k) (key_comment c.comments k v) (begins_below v) (rows c (value_of_implicit c column k v) v)) a
   go false = entries_of (λ m l. (signs m l).0) (signs column (omega arith)).1 a
 
 mutual
   node_steps : (c : LayoutSetting) (x : Node) → NodeSteps c x
-  node_steps c (scalar at props Plain text lines) = record { steps = λ spot k l m. line_steps spot (scalar at props Plain text lines) }
-  node_steps c (scalar at props Single text lines) = record { steps = λ spot k l m. line_steps spot (scalar at props Single text lines) }
-  node_steps c (scalar at props Double text lines) = record { steps = λ spot k l m. line_steps spot (scalar at props Double text lines) }
+  node_steps c (scalar at props Plain text lines) = record { steps = λ spot k l m. line_steps c.style spot (scalar at props Plain text lines) }
+  node_steps c (scalar at props Single text lines) = record { steps = λ spot k l m. line_steps c.style spot (scalar at props Single text lines) }
+  node_steps c (scalar at props Double text lines) = record { steps = λ spot k l m. line_steps c.style spot (scalar at props Double text lines) }
   node_steps c (scalar at props Literal text lines) = record { steps = λ spot k l m. one_step (left_all (block_lines Literal spot.lines text lines) k spot.lines l) no_steps }
   node_steps c (scalar at props Folded text lines) = record { steps = λ spot k l m. one_step (left_all (block_lines Folded spot.lines text lines) k spot.lines l) no_steps }
-  node_steps c (alias at name) = record { steps = λ spot k l m. line_steps spot (alias at name) }
-  node_steps c (sequence at true props xs) = record { steps = λ spot k l m. line_steps spot (sequence at true props xs) }
+  node_steps c (alias at name) = record { steps = λ spot k l m. line_steps c.style spot (alias at name) }
+  node_steps c (sequence at true props xs) = record { steps = λ spot k l m. line_steps c.style spot (sequence at true props xs) }
   node_steps c (sequence at false props xs) = record { steps = λ spot k l m. props_steps spot.column (props_text props) ((items_steps c spot.entries xs).steps k m) }
-  node_steps c (mapping at true props ps) = record { steps = λ spot k l m. line_steps spot (mapping at true props ps) }
+  node_steps c (mapping at true props ps) = record { steps = λ spot k l m. line_steps c.style spot (mapping at true props ps) }
   node_steps c (mapping at false props ps) = record { steps = λ spot k l m. props_steps spot.column (props_text props) ((pairs_steps c spot.entries ps).steps k m) }
 
   items_steps : (c : LayoutSetting) (column : ℕ) (xs : Items) → EntriesSteps column (rows_of_items c column xs)
@@ -285,7 +285,7 @@ calm_rows c cs (row_more {x = x} {xs = xs} a s k more) (one_step l b) =
     (calm_body x.body x.lines x.ending (comments_left x cs) (decos_of c (comments_left x cs) xs) more l, calm_rows c (comments_left x cs) more b)
 
 -- of a layout
-pub layout_calm : (m : Lists) (s : Style) (trees : List DocumentTree) → FitDocuments m.documents trees → Calm (rows_of m s trees) (row_decos m (rows_of m s trees)) []
+pub layout_calm : (m : Lists) (s : Style) (trees : List DocumentTree) → FitDocuments s m.documents trees → Calm (rows_of m s trees) (row_decos m (rows_of m s trees)) []
 layout_calm m s trees fit =
     let c = setting_of m s in
     calm_rows (source_of m (rows_of m s trees)) (own_line_comments (source_of m (rows_of m s trees)) (rows_of m s trees)) (all_lines c (is_bare m s) fit)

@@ -46,7 +46,7 @@ row_texts ds (row_more {x = x} {xs = xs} a s b more) k =
 
 pub record Formed {t : List ℕ} {s : Style} {u : List ℕ} (f : IsFormatting t s u) : Type 0 where
   pub utf8 : IsUtf8 u
-  pub fit : FitDocuments f.normal.documents f.writes.trees
+  pub fit : FitDocuments s f.normal.documents f.writes.trees
   pub gap : AreGapLines (first_gap f.normal (rows_of f.normal s f.writes.trees))
   pub decos : AreDecos (row_decos f.normal (rows_of f.normal s f.writes.trees))
   pub rows : RowLines (rows_of f.normal s f.writes.trees)

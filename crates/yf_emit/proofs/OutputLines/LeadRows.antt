@@ -80,9 +80,9 @@ back_lead {w = c ∷ w} a some e =
     let byte : get_or (c ∷ w) 0 0 ≡ 37 = e in
     no_percent_flow refl (code_from_byte (c ∷ w) 0 u (omega arith) (omega (arith, byte)) ∙ byte) (a.made (pos 0) 0 [] u nothing_follows there)
 
-key_lead : (c : LayoutSetting) (column : ℕ) {k : Node} → is_implicit c.style column k ≡ true → Fit k → (first_byte (written k ++ colon_after k) ≢ 37) × (written k ++ colon_after k ≢ [])
+key_lead : (c : LayoutSetting) (column : ℕ) {k : Node} → is_implicit c.style column k ≡ true → Fit c.style k → (first_byte (written c.style k ++ colon_after k) ≢ 37) × (written c.style k ++ colon_after k ≢ [])
 key_lead c column e (fit_nothing f) = ((λ z. omega (arith, z)), (λ z. absurd cc))
-key_lead c column {k} e (fit_line inline some node key) = go (written k) some (back_lead key.node.back some) where
+key_lead c column {k} e (fit_line inline some node key) = go (written c.style k) some (back_lead key.node.back some) where
   go : (w : List ℕ) → w ≢ [] → first_byte w ≢ 37 → (first_byte (w ++ colon_after k) ≢ 37) × (w ++ colon_after k ≢ [])
   go [] s n = absurd (s refl)
   go (b ∷ w) s n = (n, (λ z. absurd cc))
@@ -99,37 +99,38 @@ record Leading (c : LayoutSetting) (x : Node) : Type 0 where
 sign_leads : (s : Style) (column sign : ℕ) (x : Node) {rs : List Row} → sign ≢ 37 → LeadRows rs → LeadRows (after_sign s (entry_row column (sign ∷ []) x) rs)
 sign_leads s column sign x n a = joined_leads (entry_row column (sign ∷ []) x) (s.indent - 1) (λ e. absurd cc) (signed n) a
 
-pair_leads : (c : LayoutSetting) (column : ℕ) {k v : Node} → Fit k → Leading c k → Leading c v → LeadRows (pair_rows c column k v (rows c (key_spot c.style column k) k) (rows c (value_spot c column k v) v))
+pair_leads : (c : LayoutSetting) (column : ℕ) {k v : Node} → Fit c.style k → Leading c k → Leading c v → LeadRows (pair_rows c column k v (rows c (key_spot c.style column k) k) (rows c (value_spot c column k v) v))
 pair_leads c column {k} {v} fit f g = go (is_implicit c.style column k) refl where
   go : (b : Bool) → is_implicit c.style column k ≡ b → LeadRows (either_pair (is_implicit c.style column k) c column k v)
   go true e = let key = key_lead c column e fit in
-      subst (λ b. LeadRows (either_pair b c column k v)) (sym e) (after_leads (key_row column k) (key_comment c.comments k v) (begins_below v) key.1 (signed key.0) (g.leads _))
+      subst (λ b. LeadRows (either_pair b c column k v)) (sym e) (after_leads (key_row c.style column k) (key_comment c.comments k v) (begins_below v) key.1 (signed key.0) (g.leads _))
   go false e = subst (λ b. LeadRows (either_pair b c column k v)) (sym e)
       (leads_append (sign_leads c.style column 63 k (λ z. omega (arith, z)) (f.leads (key_spot c.style column k)))
       (joined_leads (colon_row column k) (c.style.indent - 1) (λ z. absurd cc) (unspaced refl) (g.leads (inner_spot c.style column))))
 
 scalar_leads : (c : LayoutSetting) (spot : Spot) (at : NodeOffsets) (p : PropsValue) (style : ScalarStyle) (text : List ℕ) (lines : List (List ℕ)) → LeadRows (rows c spot (scalar at p style text lines))
-scalar_leads c spot at p Plain text lines = line_leads spot.column (scalar at p Plain text lines) (written (scalar at p Plain text lines))
-scalar_leads c spot at p Single text lines = line_leads spot.column (scalar at p Single text lines) (written (scalar at p Single text lines))
-scalar_leads c spot at p Double text lines = line_leads spot.column (scalar at p Double text lines) (written (scalar at p Double text lines))
+scalar_leads c spot at p Plain text lines = line_leads spot.column (scalar at p Plain text lines) (written c.style (scalar at p Plain text lines))
+scalar_leads c spot at p Single text lines = line_leads spot.column (scalar at p Single text lines) (written c.style (scalar at p Single text lines))
+scalar_leads c spot at p Double text lines = line_leads spot.column (scalar at p Double text lines) (written c.style (scalar at p Double text lines))
 scalar_leads c spot at p Literal text lines = lead_more (unspaced refl) no_lead
 scalar_leads c spot at p Folded text lines = lead_more (unspaced refl) no_lead
 
-mutual
-  leading : (c : LayoutSetting) {x : Node} → Fit x → Leading c x
-  leading c (fit_nothing {at = at} e) = record { leads = λ spot. no_lead }
-  leading c {x} (fit_line inline some node key) = record { leads = λ spot. subst (λ rs. LeadRows rs) (sym (inline_rows c spot x inline)) (line_leads spot.column x (written x)) }
-  leading c (fit_scalar {at = at} {p = p} {style = style} {text = text} {lines = lines} e props f) = record { leads = λ spot. scalar_leads c spot at p style text lines }
-  leading c (fit_sequence {p = p} e props f fs) = record { leads = λ spot. leads_append (props_leads spot.column (props_text p)) (items_lead c spot.entries (leading c f) fs) }
-  leading c (fit_mapping {p = p} e props f g fs) = record { leads = λ spot. leads_append (props_leads spot.column (props_text p)) (pairs_lead c spot.entries f (leading c f) (leading c g) fs) }
+module _ (c : LayoutSetting) where
+  mutual
+    leading : {x : Node} → Fit c.style x → Leading c x
+    leading (fit_nothing {at = at} e) = record { leads = λ spot. no_lead }
+    leading {x} (fit_line inline some node key) = record { leads = λ spot. subst (λ rs. LeadRows rs) (sym (inline_rows c spot x inline)) (line_leads spot.column x (written c.style x)) }
+    leading (fit_scalar {at = at} {p = p} {style = style} {text = text} {lines = lines} e props f) = record { leads = λ spot. scalar_leads c spot at p style text lines }
+    leading (fit_sequence {p = p} e props f fs) = record { leads = λ spot. leads_append (props_leads spot.column (props_text p)) (items_lead spot.entries (leading f) fs) }
+    leading (fit_mapping {p = p} e props f g fs) = record { leads = λ spot. leads_append (props_leads spot.column (props_text p)) (pairs_lead spot.entries f (leading f) (leading g) fs) }
 
-  items_lead : (c : LayoutSetting) (column : ℕ) {x : Node} {xs : Items} → Leading c x → FitItems xs → LeadRows (rows_of_items c column (item x xs))
-  items_lead c column {x} f fit_no_items = leads_append (sign_leads c.style column 45 x (λ z. omega (arith, z)) (f.leads (inner_spot c.style column))) no_lead
-  items_lead c column {x} f (fit_item g gs) = leads_append (sign_leads c.style column 45 x (λ z. omega (arith, z)) (f.leads (inner_spot c.style column))) (items_lead c column (leading c g) gs)
+    items_lead : (column : ℕ) {x : Node} {xs : Items} → Leading c x → FitItems c.style xs → LeadRows (rows_of_items c column (item x xs))
+    items_lead column {x} f fit_no_items = leads_append (sign_leads c.style column 45 x (λ z. omega (arith, z)) (f.leads (inner_spot c.style column))) no_lead
+    items_lead column {x} f (fit_item g gs) = leads_append (sign_leads c.style column 45 x (λ z. omega (arith, z)) (f.leads (inner_spot c.style column))) (items_lead column (leading g) gs)
 
-  pairs_lead : (c : LayoutSetting) (column : ℕ) {k v : Node} {ps : Pairs} → Fit k → Leading c k → Leading c v → FitPairs ps → LeadRows (rows_of_pairs c column (pair k v ps))
-  pairs_lead c column fit f g fit_no_pairs = leads_append (pair_leads c column fit f g) no_lead
-  pairs_lead c column fit f g (fit_pair a b fs) = leads_append (pair_leads c column fit f g) (pairs_lead c column a (leading c a) (leading c b) fs)
+    pairs_lead : (column : ℕ) {k v : Node} {ps : Pairs} → Fit c.style k → Leading c k → Leading c v → FitPairs c.style ps → LeadRows (rows_of_pairs c column (pair k v ps))
+    pairs_lead column fit f g fit_no_pairs = leads_append (pair_leads c column fit f g) no_lead
+    pairs_lead column fit f g (fit_pair a b fs) = leads_append (pair_leads c column fit f g) (pairs_lead column a (leading a) (leading b) fs)
 
 -- Documents.
 
@@ -149,7 +150,7 @@ directive_leads : (dirs : List Directive) → LeadRows (map directive_row dirs)
 directive_leads [] = no_lead
 directive_leads (d ∷ ds) = lead_more (unspaced refl) (directive_leads ds)
 
-pub stream_leads : (c : LayoutSetting) {ds : List Doc} {xs : List DocumentTree} (b : Bool) → FitDocuments ds xs → LeadRows (stream_rows c b ds xs)
+pub stream_leads : (c : LayoutSetting) {ds : List Doc} {xs : List DocumentTree} (b : Bool) → FitDocuments c.style ds xs → LeadRows (stream_rows c b ds xs)
 stream_leads c b fit_no_documents = no_lead
 stream_leads c b (fit_document {d = d} {x = x} f fit more) =
     leads_append (leads_append (beginning_leads d.start (leads_append (end_leads b d.directives) (leads_append (directive_leads d.directives) (lead_more (unspaced refl) no_lead))))
@@ -159,7 +160,7 @@ begun_leads : (start : ℕ) {xs : List Row} → LeadRows xs → LeadRows (begun_
 begun_leads start no_lead = no_lead
 begun_leads start (lead_more a more) = lead_more (record { none = a.none }) more
 
-pub all_leads : (c : LayoutSetting) (bare : Bool) {ds : List Doc} {xs : List DocumentTree} → FitDocuments ds xs → LeadRows (all_rows c bare ds xs)
+pub all_leads : (c : LayoutSetting) (bare : Bool) {ds : List Doc} {xs : List DocumentTree} → FitDocuments c.style ds xs → LeadRows (all_rows c bare ds xs)
 all_leads c false fit = stream_leads c true fit
 all_leads c true fit_no_documents = no_lead
 all_leads c true (fit_document {d = d} {x = x} f fit more) = leads_append (begun_leads d.start ((leading c fit).leads (root_spot c.style))) (stream_leads c false more)

@@ -80,7 +80,7 @@ entry_past k false column None d = refl
 entry_past k false column (Some e) d = refl
 
 key_row_begun : (k : Known) (inline : Bool) (column : ℕ) (x : Node) (d : Draft)
-    → with_row (remarks_of k.work) k.trail (key_row column x) (head_line k inline column (standing x).entry d) ≡ begun k inline (key_row column x ∷ []) d
+    → with_row (remarks_of k.work) k.trail (key_row k.work.style column x) (head_line k inline column (standing x).entry d) ≡ begun k inline (key_row k.work.style column x ∷ []) d
 key_row_begun k true column x d = refl
 key_row_begun k false column x d = refl
 
@@ -96,8 +96,8 @@ key_met k column place x (b ∷ w) d h = sym (row_met k place (b ∷ w) (items_i
 
 -- an entry's beginning, a text, what is met in it, and the `:`
 key_added : (k : Known) (column : ℕ) (x : Node) (d : Draft)
-    → with_text (colon_after x) (met k (items_in x) (leaves x) (with_text (written x) (all_past k.work.reading.comments (entry_start x) d)))
-    ≡ with_row (remarks_of k.work) k.trail (key_row column x) d
+    → with_text (colon_after x) (met k (items_in x) (leaves x) (with_text (written k.work.style x) (all_past k.work.reading.comments (entry_start x) d)))
+    ≡ with_row (remarks_of k.work) k.trail (key_row k.work.style column x) d
 key_added k column x d =
     let cs : List CommentValue = k.work.reading.comments in
     let colon : List ℕ = colon_after x in
@@ -106,20 +106,20 @@ key_added k column x d =
     let a : Draft = all_past cs es d in
     let trails : List ℕ = d.trails ++ flat_map k.trail (leaves x) in
     let begins : a ≡ edited d.line d.trails d.body d.may_follow a = past_edited cs es d.line d.trails d.body d.may_follow d in
-    ap (λ w. with_text colon (met k is (leaves x) (with_text (written x) w))) begins
-    ∙ (ap (λ w. with_text colon w) (past_edited cs is (d.line ++ written x) trails d.body d.may_follow a)
-    ∙ (ap (λ w. edited w trails d.body d.may_follow (all_past cs is a)) (append_assoc d.line (written x) colon)
-    ∙ (ap (λ w. edited (d.line ++ (written x ++ colon)) trails d.body d.may_follow w) (sym (past_append cs es is d))
-    ∙ (sym (past_edited cs (es ++ is) (d.line ++ (written x ++ colon)) trails d.body d.may_follow d)
-    ∙ row_met k column (written x ++ colon) (es ++ is) (leaves x) d))))
+    ap (λ w. with_text colon (met k is (leaves x) (with_text (written k.work.style x) w))) begins
+    ∙ (ap (λ w. with_text colon w) (past_edited cs is (d.line ++ written k.work.style x) trails d.body d.may_follow a)
+    ∙ (ap (λ w. edited w trails d.body d.may_follow (all_past cs is a)) (append_assoc d.line (written k.work.style x) colon)
+    ∙ (ap (λ w. edited (d.line ++ (written k.work.style x ++ colon)) trails d.body d.may_follow w) (sym (past_append cs es is d))
+    ∙ (sym (past_edited cs (es ++ is) (d.line ++ (written k.work.style x ++ colon)) trails d.body d.may_follow d)
+    ∙ row_met k column (written k.work.style x ++ colon) (es ++ is) (leaves x) d))))
 
 -- a key's text and its `:` on the line of its entry
-pub key_begun : (k : Known) (inline : Bool) (column place : ℕ) (x : Node) (d : Draft) → (is_empty_text (written x) ≡ true → (items_in x ≡ []) × (leaves x ≡ []))
-    → with_text (colon_after x) (fed_on (remarks_of k.work) k.trail (one_line_row place x (written x)) (entry_begun k.work inline column (standing x).entry d))
-    ≡ begun k inline (key_row column x ∷ []) d
+pub key_begun : (k : Known) (inline : Bool) (column place : ℕ) (x : Node) (d : Draft) → (is_empty_text (written k.work.style x) ≡ true → (items_in x ≡ []) × (leaves x ≡ []))
+    → with_text (colon_after x) (fed_on (remarks_of k.work) k.trail (one_line_row place x (written k.work.style x)) (entry_begun k.work inline column (standing x).entry d))
+    ≡ begun k inline (key_row k.work.style column x ∷ []) d
 key_begun k inline column place x d h =
-    ap (λ w. with_text (colon_after x) (fed_on (remarks_of k.work) k.trail (one_line_row place x (written x)) w)) (entry_past k inline column (standing x).entry d)
-    ∙ (ap (with_text (colon_after x)) (key_met k column place x (written x) (all_past k.work.reading.comments (entry_start x) (head_line k inline column (standing x).entry d)) h)
+    ap (λ w. with_text (colon_after x) (fed_on (remarks_of k.work) k.trail (one_line_row place x (written k.work.style x)) w)) (entry_past k inline column (standing x).entry d)
+    ∙ (ap (with_text (colon_after x)) (key_met k column place x (written k.work.style x) (all_past k.work.reading.comments (entry_start x) (head_line k inline column (standing x).entry d)) h)
     ∙ (key_added k column x (head_line k inline column (standing x).entry d) ∙ key_row_begun k inline column x d))
 
 -- Values.

@@ -30,7 +30,7 @@ ascends {m} {s} f = subst CommentsAscend (sym f.is.is) (comments_of_readings_asc
 
 forms_are : {m : Lists} {s : Style} {ms : List Measure} {fs : List Form} (ds : List DocumentTree) → NormalForm m s → TreesOf m ds → Laid m s ds
     → AreMeasures [] (setting s []) m.events ms → AreForms m s ms fs → fs ≡ stream_forms [] (setting s []) (setting_of m s) ds
-forms_are {m} {s} ds f a l measured decided = decided.are (ascends f) [] (setting s []) ds a l.placing.placed measured
+forms_are {m} {s} ds f a l measured decided = decided.are (ascends f) [] [] ds a l.placing.placed measured
 
 trails_hold : (m : Lists) (s : Style) (ms : List Measure) (fs : List Form) → NormalForm m s → MeasuresTell m.events ms
     → (ds : List DocumentTree) → TreesOf m ds → fs ≡ stream_forms [] (setting s []) (setting_of m s) ds → LayoutTrails m s ds (all_found m ms fs)

@@ -113,15 +113,15 @@ filled_row column x (b ∷ w) e = refl
 
 -- a node on one line
 pub one_line_put : (k : Known) (f : Form) (sp : Printer.Role) (spot : Spot) (x : Node) (i last : ℕ) (e : EventInText) (d : Draft)
-    → ((d : Draft) → with_node k.work i last e sp d ≡ with_text (written x) d) → ((d : Draft) → Printing.node_noted k.work i last e d ≡ met k (items_in x) (leaves x) d)
-    → is_empty_text (written x) ≡ false → ColumnAt k.work.style.indent f.key_comment sp spot.column
-    → Printing.node_noted k.work i last e (with_node k.work i last e sp (before_text k.work f sp d)) ≡ put k f.key_comment false sp (one_line spot x) d
+    → ((d : Draft) → with_node k.work i last e sp d ≡ with_text (written k.work.style x) d) → ((d : Draft) → Printing.node_noted k.work i last e d ≡ met k (items_in x) (leaves x) d)
+    → is_empty_text (written k.work.style x) ≡ false → ColumnAt k.work.style.indent f.key_comment sp spot.column
+    → Printing.node_noted k.work i last e (with_node k.work i last e sp (before_text k.work f sp d)) ≡ put k f.key_comment false sp (one_line k.work.style spot x) d
 one_line_put k f sp spot x i last e d t n filled c =
-    let row : Row = record (plain_row spot.column (written x)) { items = items_in x; leaves = leaves x } in
+    let row : Row = record (plain_row spot.column (written k.work.style x)) { items = items_in x; leaves = leaves x } in
     ap (Printing.node_noted k.work i last e) (t (before_text k.work f sp d))
-    ∙ (n (with_text (written x) (before_text k.work f sp d))
-    ∙ (row_met k spot.column (written x) (items_in x) (leaves x) (before_text k.work f sp d)
-    ∙ (row_put k f sp row d refl c ∙ ap (λ w. put k f.key_comment false sp w d) (sym (filled_row spot.column x (written x) filled)))))
+    ∙ (n (with_text (written k.work.style x) (before_text k.work f sp d))
+    ∙ (row_met k spot.column (written k.work.style x) (items_in x) (leaves x) (before_text k.work f sp d)
+    ∙ (row_put k f sp row d refl c ∙ ap (λ w. put k f.key_comment false sp w d) (sym (filled_row spot.column x (written k.work.style x) filled)))))
 
 -- Block scalars.
 

@@ -102,20 +102,20 @@ node_within k i last (mapping at flow props (pair x y ps)) d h b a l =
 -- Texts.
 
 scalar_added : (k : Known) (i last : ℕ) (sp : Printer.Role) (at : NodeOffsets) (props : PropsValue) (style : ScalarStyle) (text : List ℕ) (lines : List (List ℕ)) (d : Draft)
-    → is_empty_text (scalar_text style text) ≡ false → with_text (scalar_text style text) (with_props_before props d) ≡ with_text (written (scalar at props style text lines)) d
+    → is_empty_text (scalar_text k.work.style style text) ≡ false → with_text (scalar_text k.work.style style text) (with_props_before props d) ≡ with_text (written k.work.style (scalar at props style text lines)) d
 scalar_added k i last sp at props style text lines d e =
-    ap (λ w. record d { line = w }) (append_assoc d.line (space_after (props_text props)) (scalar_text style text)
-    ∙ ap (λ w. d.line ++ w) (sym (spaced_filled (props_text props) (scalar_text style text) e)))
+    ap (λ w. record d { line = w }) (append_assoc d.line (space_after (props_text props)) (scalar_text k.work.style style text)
+    ∙ ap (λ w. d.line ++ w) (sym (spaced_filled (props_text props) (scalar_text k.work.style style text) e)))
 
 collection_added : (k : Known) (i last : ℕ) (x : Node) (d : Draft) → House (setting_in k) x → is_collection x ≡ true → may_be_kept [] [] x ≡ true
-    → is_empty_text (bare x) ≡ false → NodeAt k.work.reading.events i x → last + 1 ≡ i + length (flat x)
-    → Printing.with_kept k.work i last (props_of x) d ≡ with_text (written x) d
+    → is_empty_text (bare k.work.style x) ≡ false → NodeAt k.work.reading.events i x → last + 1 ≡ i + length (flat x)
+    → Printing.with_kept k.work i last (props_of x) d ≡ with_text (written k.work.style x) d
 collection_added k i last x d h c m e n l =
-    let text : run k.work.style.quotes [] (between i last k.work.reading.events) ≡ bare x =
-    kept_run [] (setting k.work.style []) x k.work.reading.events i last k.work.style.quotes refl n l c m ∙ ap bare h in
+    let text : run k.work.style [] (between i last k.work.reading.events) ≡ bare k.work.style x =
+    kept_run [] (setting k.work.style []) x k.work.reading.events i last n l c m ∙ ap (bare k.work.style) h in
     ap (λ w. with_text w (with_props_before (props_of x) d)) text
-    ∙ ap (λ w. record d { line = w }) (append_assoc d.line (space_after (props_text (props_of x))) (bare x)
-    ∙ ap (λ w. d.line ++ w) (sym (spaced_filled (props_text (props_of x)) (bare x) e)))
+    ∙ ap (λ w. record d { line = w }) (append_assoc d.line (space_after (props_text (props_of x))) (bare k.work.style x)
+    ∙ ap (λ w. d.line ++ w) (sym (spaced_filled (props_text (props_of x)) (bare k.work.style x) e)))
 
 -- a flow collection of a normal form may be kept
 pub same_flag : {at : NodeOffsets} {a b : Bool} {p q : PropsValue} {xs ys : Items} → sequence at a p xs ≡ sequence at b q ys → a ≡ b
@@ -215,9 +215,9 @@ last_of_node i x = let l = flat_filled x in omega (arith, l)
 
 -- a node with characters on one line
 one_line_printed : (k : Known) (i : ℕ) (f : Form) (sp : Printer.Role) (spot : Spot) (x : Node) (d : Draft) → Laid k i x → Spotted k f.key_comment sp spot x
-    → is_some (first_of (leaf_indices i x)) ≡ true → ((d : Draft) → with_node k.work i (measure k i x).last (head_of x) sp d ≡ with_text (written x) d)
-    → is_empty_text (written x) ≡ false
-    → text_if (is_some (first_of (leaf_indices i x))) k.work i (measure k i x) f (head_of x) sp d ≡ put k f.key_comment false sp (one_line spot x) d
+    → is_some (first_of (leaf_indices i x)) ≡ true → ((d : Draft) → with_node k.work i (measure k i x).last (head_of x) sp d ≡ with_text (written k.work.style x) d)
+    → is_empty_text (written k.work.style x) ≡ false
+    → text_if (is_some (first_of (leaf_indices i x))) k.work i (measure k i x) f (head_of x) sp d ≡ put k f.key_comment false sp (one_line k.work.style spot x) d
 one_line_printed k i f sp spot x d l s e t w =
     ap (λ b. text_if b k.work i (measure k i x) f (head_of x) sp d) e
     ∙ one_line_put k f sp spot x i (measure k i x).last (head_of x) d t (λ d. node_within k i (measure k i x).last x d l.placed l.begins l.among (last_of_node i x)) w s.column
@@ -233,12 +233,12 @@ written_filled (b ∷ x) (c ∷ y) e = refl
 -- a scalar with a text
 scalar_printed : (k : Known) (i : ℕ) (f : Form) (sp : Printer.Role) (spot : Spot) (at : NodeOffsets) (props : PropsValue) (style : ScalarStyle) (text : List ℕ) (lines : List (List ℕ)) (d : Draft)
     → Laid k i (scalar at props style text lines) → Spotted k f.key_comment sp spot (scalar at props style text lines) → is_empty_node props style text ≡ false
-    → ((d : Draft) → with_scalar k.work.style sp props style text lines d ≡ with_text (scalar_text style text) (with_props_before props d)) → is_empty_text (scalar_text style text) ≡ false
+    → ((d : Draft) → with_scalar k.work.style sp props style text lines d ≡ with_text (scalar_text k.work.style style text) (with_props_before props d)) → is_empty_text (scalar_text k.work.style style text) ≡ false
     → text_if (is_some (first_of (leaf_indices i (scalar at props style text lines)))) k.work i (measure k i (scalar at props style text lines)) f (head_of (scalar at props style text lines)) sp d
-    ≡ put k f.key_comment false sp (one_line spot (scalar at props style text lines)) d
+    ≡ put k f.key_comment false sp (one_line k.work.style spot (scalar at props style text lines)) d
 scalar_printed k i f sp spot at props style text lines d l s n t w =
     one_line_printed k i f sp spot (scalar at props style text lines) d l s (some_leaf i (is_some at.span) (agreed _ _ l.placed ∙ ap not n))
-    (λ d. t d ∙ scalar_added k i i sp at props style text lines d w) (written_filled (props_text props) (scalar_text style text) w)
+    (λ d. t d ∙ scalar_added k i i sp at props style text lines d w) (written_filled (props_text props) (scalar_text k.work.style style text) w)
 
 block_printed : (k : Known) (i : ℕ) (f : Form) (sp : Printer.Role) (spot : Spot) (at : NodeOffsets) (props : PropsValue) (style : ScalarStyle) (text : List ℕ) (lines : List (List ℕ)) (d : Draft)
     → Laid k i (scalar at props style text lines) → Spotted k f.key_comment sp spot (scalar at props style text lines) → is_empty_node props style text ≡ false → has_lines (scalar at props style text lines) ≡ true
@@ -289,12 +289,12 @@ plain_printed k i f sp spot at props lines d l s = by (props_text props) refl wh
 
 -- a flow collection
 flow_printed : (k : Known) (i : ℕ) (f : Form) (sp : Printer.Role) (spot : Spot) (x : Node) (d : Draft) → Laid k i x → Spotted k f.key_comment sp spot x
-    → is_collection x ≡ true → may_be_kept [] [] x ≡ true → is_empty_text (bare x) ≡ false
+    → is_collection x ≡ true → may_be_kept [] [] x ≡ true → is_empty_text (bare k.work.style x) ≡ false
     → ((d : Draft) → with_node k.work i (measure k i x).last (head_of x) sp d ≡ Printing.with_kept k.work i (measure k i x).last (props_of x) d)
-    → text_if (is_some (first_of (leaf_indices i x))) k.work i (measure k i x) f (head_of x) sp d ≡ put k f.key_comment false sp (one_line spot x) d
+    → text_if (is_some (first_of (leaf_indices i x))) k.work i (measure k i x) f (head_of x) sp d ≡ put k f.key_comment false sp (one_line k.work.style spot x) d
 flow_printed k i f sp spot x d l s c m e t =
     one_line_printed k i f sp spot x d l s (kept_leaf k.work.style i x m l.placed)
-    (λ d. t d ∙ collection_added k i (measure k i x).last x d l.house c m e (node_at x l.among) (last_of_node i x)) (written_filled (props_text (props_of x)) (bare x) e)
+    (λ d. t d ∙ collection_added k i (measure k i x).last x d l.house c m e (node_at x l.among) (last_of_node i x)) (written_filled (props_text (props_of x)) (bare k.work.style x) e)
 
 header_filled : (style : ScalarStyle) (n : ℕ) (text : List ℕ) → is_empty_text (header_text style n text) ≡ false
 header_filled Plain n text = refl

@@ -31,7 +31,7 @@ use Rattle.yf_emit.proofs.Decide.ValueLemmas.{same_comment}
 pair_filled : (c : LayoutSetting) (column : ℕ) (x y : Node) (xs ys : List Row) → filled (pair_rows c column x y xs ys) ≡ true
 pair_filled c column x y xs ys = by (is_implicit c.style column x) where
   by : (b : Bool) → filled (if b then implicit_pair c column x y ys else explicit_pair c.style column x xs ys) ≡ true
-  by true = filled_pair (key_row column x) (key_comment c.comments x y) _ ys
+  by true = filled_pair (key_row c.style column x) (key_comment c.comments x y) _ ys
   by false = filled_append (after_sign c.style (entry_row column (codes "?") x) xs) (after_sign c.style (colon_row column x) ys) (filled_joined (entry_row column (codes "?") x) (c.style.indent - 1) xs)
 
 -- whether the next entry goes on the line that is being made

@@ -55,7 +55,7 @@ no_block s column (mapping at false props (pair k v ps)) e = refl
 
 -- the rows of an implicit key are one, or none
 pub key_rows : (c : LayoutSetting) (spot : Normal.Spot) (column : ℕ) (x : Node) → House c x → is_implicit c.style column x ≡ true
-    → rows c spot x ≡ one_line_row spot.column x (written x)
+    → rows c spot x ≡ one_line_row spot.column x (written c.style x)
 key_rows c spot column (scalar at props Plain text lines) h e = refl
 key_rows c spot column (scalar at props Single text lines) h e = refl
 key_rows c spot column (scalar at props Double text lines) h e = refl
@@ -81,21 +81,21 @@ nothing_spaced (b ∷ p) e = absurd (true≢false (sym e))
 not_empty : (p y : List ℕ) → is_empty_text y ≡ false → is_empty_text (spaced p y) ≡ true → true ≡ false
 not_empty p y f e = sym e ∙ written_filled p y f
 
-pub empty_key : (s : Style) (column : ℕ) (x : Node) → is_placed x ≡ true → is_implicit s column x ≡ true → is_empty_text (written x) ≡ true
+pub empty_key : (s : Style) (column : ℕ) (x : Node) → is_placed x ≡ true → is_implicit s column x ≡ true → is_empty_text (written s x) ≡ true
     → (items_in x ≡ []) × (leaves x ≡ [])
 empty_key s column (scalar at props Plain [] lines) h b e =
     let none : at.span ≡ None = none_of at.span (agreed _ _ h ∙ ap not (nothing_spaced (props_text props) e)) in
     (ap (λ o. map (λ s. s.start) (spans_of_leaf o)) none, ap spans_of_leaf none)
 empty_key s column (scalar at props Plain (c ∷ text) lines) h b e = absurd (true≢false (not_empty (props_text props) (c ∷ text) refl e))
-empty_key s column (scalar at props Single text lines) h b e = absurd (true≢false (not_empty (props_text props) (scalar_text Single text) refl e))
-empty_key s column (scalar at props Double text lines) h b e = absurd (true≢false (not_empty (props_text props) (scalar_text Double text) refl e))
+empty_key s column (scalar at props Single text lines) h b e = absurd (true≢false (not_empty (props_text props) (scalar_text s Single text) refl e))
+empty_key s column (scalar at props Double text lines) h b e = absurd (true≢false (not_empty (props_text props) (scalar_text s Double text) refl e))
 empty_key s column (scalar at props Literal text lines) h b e = absurd (true≢false (sym b))
 empty_key s column (scalar at props Folded text lines) h b e = absurd (true≢false (sym b))
 empty_key s column (alias at name) h b e = absurd (true≢false (sym e))
-empty_key s column (sequence at flow props no_items) h b e = absurd (true≢false (not_empty (props_text props) (bare (sequence at flow props no_items)) refl e))
-empty_key s column (sequence at flow props (item x xs)) h b e = absurd (true≢false (not_empty (props_text props) (bare (sequence at flow props (item x xs))) refl e))
-empty_key s column (mapping at flow props no_pairs) h b e = absurd (true≢false (not_empty (props_text props) (bare (mapping at flow props no_pairs)) refl e))
-empty_key s column (mapping at flow props (pair k v ps)) h b e = absurd (true≢false (not_empty (props_text props) (bare (mapping at flow props (pair k v ps))) refl e))
+empty_key s column (sequence at flow props no_items) h b e = absurd (true≢false (not_empty (props_text props) (bare s (sequence at flow props no_items)) refl e))
+empty_key s column (sequence at flow props (item x xs)) h b e = absurd (true≢false (not_empty (props_text props) (bare s (sequence at flow props (item x xs))) refl e))
+empty_key s column (mapping at flow props no_pairs) h b e = absurd (true≢false (not_empty (props_text props) (bare s (mapping at flow props no_pairs)) refl e))
+empty_key s column (mapping at flow props (pair k v ps)) h b e = absurd (true≢false (not_empty (props_text props) (bare s (mapping at flow props (pair k v ps))) refl e))
 
 -- The key at its site.
 
@@ -149,7 +149,7 @@ value_spotted k column n x y w f entry true e r = record {
   by : (o : Option ℕ) → key_comment_index cs x w ≡ o → ColumnAt k.work.style.indent o (spot_in f column (value_awaited true entry)) (value_column (setting_in k) column x y)
   by None q = tt
   by (Some j) q =
-      ap (λ b. if b then column + k.work.style.indent else column + width (written x) + width (colon_after x) + 1)
+      ap (λ b. if b then column + k.work.style.indent else column + width (written k.work.style x) + width (colon_after x) + 1)
       (sym (same_comment cs x y) ∙ ap is_some (ap (key_comment_index cs x) (sym e) ∙ q))
       ∙ sym (cut k.work.style column n r)
 

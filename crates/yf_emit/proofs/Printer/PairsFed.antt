@@ -44,7 +44,7 @@ comment_text cs k v = by (is_text v || is_filled_flow v) (leaves v) where
 
 -- b says whether the key x is implicit; o is the comment that trails it, and xs and ys are the rows of the key and of its value y
 pub pair_fed : (k : Known) (inline b : Bool) (column place : ℕ) (x y : Node) (f : Form) (entry : Option Entry) (o : Option ℕ) (xs ys : List Row) (d : Draft)
-    → (b ≡ true → xs ≡ one_line_row place x (written x)) → (b ≡ true → is_empty_text (written x) ≡ true → (items_in x ≡ []) × (leaves x ≡ []))
+    → (b ≡ true → xs ≡ one_line_row place x (written k.work.style x)) → (b ≡ true → is_empty_text (written k.work.style x) ≡ true → (items_in x ≡ []) × (leaves x ≡ []))
     → (b ≡ true → trailing_if k.work.reading.comments o ≡ key_text (key_comment k.work.reading.comments x y))
     → (b ≡ true → is_some o ≡ is_some (key_comment k.work.reading.comments x y))
     → with_colon_of y (spot_in f column (value_awaited b (standing x).entry)) (put k o (begins_below y) (spot_in f column (value_awaited b (standing x).entry)) ys
@@ -54,7 +54,7 @@ pub pair_fed : (k : Known) (inline b : Bool) (column place : ℕ) (x y : Node) (
 pair_fed k inline true column place x y f entry o xs ys d r e t s =
     ap (λ w. put_value k o (begins_below y) ys (with_text (colon_after x) (fed_on (remarks_of k.work) k.trail w (entry_begun k.work inline column (standing x).entry d)))) (r refl)
     ∙ (ap (λ w. put_value k o (begins_below y) ys w) (key_begun k inline column place x d (e refl))
-    ∙ value_begun k inline (key_row column x) o (key_comment k.work.reading.comments x y) (begins_below y) ys d (record { key = refl; body = refl; ending = refl }) (t refl) (s refl))
+    ∙ value_begun k inline (key_row k.work.style column x) o (key_comment k.work.reading.comments x y) (begins_below y) ys d (record { key = refl; body = refl; ending = refl }) (t refl) (s refl))
 pair_fed k inline false column place x y f entry o xs ys d r e t s =
     let n : ℕ = k.work.style.indent - 1 in
     let before : List Row = after_sign k.work.style (entry_row column (codes "?") x) xs in

@@ -4,7 +4,7 @@ use Rattle.std.specs.Prelude.{if◌then◌else◌}
 use Rattle.std.proofs.lemmas.List.{length-map, map-append}
 use Rattle.yf_events.specs.Event.{EventValue, EventInText, stream_starts, stream_ends, document_starts, document_ends, sequence_starts, sequence_ends, mapping_starts, mapping_ends, scalar_node, alias_node}
 use Rattle.yf_events.specs.declared.event.Span.{Span}
-use Rattle.yf_lines.specs.declared.quotes.Quotes.{Quotes}
+use Rattle.yf_emit.specs.declared.style.Style.{Style}
 use Rattle.yf_emit.specs.declared.form.collection.Open.{Open}
 use Rattle.yf_emit.specs.declared.form.ended.Ended.{Ended}
 use Rattle.yf_emit.specs.declared.form.measure.Measure.{Measure}
@@ -64,10 +64,10 @@ alike_popped i ms ns e (one_open {o} {p} {os} {ps} s m l a) =
     subst (λ n. AlikeFound (noted o.start (closed o i) (found ms os)) (noted n (closed p i) (found ns ps))) s
     (alike_noted o.start (closed o i) (closed p i) (found ms os) (found ns ps) q (record { lists = e; stacks = a }))
 
-alike_passed : (t u : List ℕ) (c d : LayoutSetting) (q : Quotes) (flow : Bool) (i : ℕ) (span : Option Span) (v : EventValue) (f g : MeasuredSoFar) → AlikeFound f g
+alike_passed : (t u : List ℕ) (c d : LayoutSetting) (q : Style) (flow : Bool) (i : ℕ) (span : Option Span) (v : EventValue) (f g : MeasuredSoFar) → AlikeFound f g
     → AlikeFound (passed t c i span v f) (passed u d i span (restyled_event q flow v) g)
 alike_passed t u c d q flow i span (scalar_node props style text) f g a =
-    alike_noted i (ended_scalar c.style.quotes i span props style text) (ended_scalar d.style.quotes i span props (wanted style text q) text) f g refl a
+    alike_noted i (ended_scalar c.style i span props style text) (ended_scalar d.style i span props (wanted style text q) text) f g refl a
 alike_passed t u c d q flow i span (alias_node name) f g a = alike_noted i (ended_alias i name) (ended_alias i name) f g refl a
 alike_passed t u c d q flow i span (sequence_starts old props) f g a =
     record { lists = a.lists; stacks = one_open refl refl refl a.stacks }
@@ -83,7 +83,7 @@ alike_passed t u c d q flow i span (document_ends b) f g a = a
 same_length : (ms ns : List Measure) → map asked ms ≡ map asked ns → length ms ≡ length ns
 same_length ms ns e = sym (length-map ms asked) ∙ (ap length e ∙ length-map ns asked)
 
-alike_past : (t u : List ℕ) (c d : LayoutSetting) (q : Quotes) (flow : Bool) (e : EventInText) (f g : MeasuredSoFar) → AlikeFound f g
+alike_past : (t u : List ℕ) (c d : LayoutSetting) (q : Style) (flow : Bool) (e : EventInText) (f g : MeasuredSoFar) → AlikeFound f g
     → AlikeFound (past t c e f) (past u d (restyled q flow e) g)
 alike_past t u c d q flow e f g a =
     subst (λ n. AlikeFound (past t c e f) (passed u d n e.span (restyled_event q flow e.event) (found (g.list ++ (no_measure ∷ [])) g.stack))) (same_length f.list g.list a.lists)
@@ -93,20 +93,20 @@ alike_past t u c d q flow e f g a =
       stacks = a.stacks;
     }))
 
-alike_pass : (t u : List ℕ) (c d : LayoutSetting) {q : Quotes} {es ns : List EventInText} (f g : MeasuredSoFar) → SameButStyles q es ns → AlikeFound f g
+alike_pass : (t u : List ℕ) (c d : LayoutSetting) {q : Style} {es ns : List EventInText} (f g : MeasuredSoFar) → SameButStyles q es ns → AlikeFound f g
     → AlikeFound (pass t c es f) (pass u d ns g)
 unfolding pass
 alike_pass t u c d f g none_left a = a
 alike_pass t u c d {q} f g (one_more {e} flow r) a =
     alike_pass t u c d (past t c e f) (past u d (restyled q flow e) g) r (alike_past t u c d q flow e f g a)
 
-pub same_measures : (t u : List ℕ) (c d : LayoutSetting) {q : Quotes} {es ns : List EventInText} → SameButStyles q es ns
+pub same_measures : (t u : List ℕ) (c d : LayoutSetting) {q : Style} {es ns : List EventInText} → SameButStyles q es ns
     → map asked (pass t c es (found [] [])).list ≡ map asked (pass u d ns (found [] [])).list
 same_measures t u c d r = (alike_pass t u c d (found [] []) (found [] []) r (record { lists = refl; stacks = none_open })).lists
 
 -- and texts are still UTF-8
 
-text_stays : (q : Quotes) (flow : Bool) (v : EventValue) → has_text (restyled_event q flow v) ≡ has_text v
+text_stays : (q : Style) (flow : Bool) (v : EventValue) → has_text (restyled_event q flow v) ≡ has_text v
 text_stays q flow (scalar_node props style text) = refl
 text_stays q flow (alias_node name) = refl
 text_stays q flow (sequence_starts old props) = refl
@@ -118,6 +118,6 @@ text_stays q flow stream_ends = refl
 text_stays q flow (document_starts b) = refl
 text_stays q flow (document_ends b) = refl
 
-pub same_texts : {q : Quotes} {es ns : List EventInText} → SameButStyles q es ns → have_texts ns ≡ have_texts es
+pub same_texts : {q : Style} {es ns : List EventInText} → SameButStyles q es ns → have_texts ns ≡ have_texts es
 same_texts none_left = refl
 same_texts {q} (one_more {e} {es} {fs} flow r) = ap (λ b. b && have_texts fs) (text_stays q flow e.event) ∙ ap (λ b. has_text e.event && b) (same_texts r)

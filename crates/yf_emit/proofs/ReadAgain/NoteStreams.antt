@@ -80,7 +80,7 @@ document_made {f = f} c is_first d b x y cs heads e h a = record {
 }
 
 pub documents_noted : {t : List ℕ} {c : LayoutSetting} (cs : List CommentValue) (ys : List DocumentTree) {is_first : Bool} {f : ℕ} {ds es : List Doc} {xs zs : List DocumentTree} {ps : List PlacedRow} → FoundRoots t c is_first es xs zs ps
-    → map bare_tree zs ≡ map bare_tree ys → FoundTrees c.style c.comments t cs ds xs es ys → FitDocuments ds xs → (rest : List EventInText) → AllNoted t f (flat_map flat_document ys ++ rest)
+    → map bare_tree zs ≡ map bare_tree ys → FoundTrees c.style c.comments t cs ds xs es ys → FitDocuments c.style ds xs → (rest : List EventInText) → AllNoted t f (flat_map flat_document ys ++ rest)
     → NotesMade t f ps (stream_rows c is_first ds xs) (stream_rows (setting c.style cs) is_first es ys) (flat_map flat_document ys) rest
 documents_noted cs [] no_roots e none_found fit_no_documents rest n = record { ends = []; rows = no_row_notes; notes = n; at = λ o z. refl }
 documents_noted cs [] (one_root heads h alike r others) e found fit rest n = elim found [ ]
@@ -112,7 +112,7 @@ bare_made c d b x y cs a = record {
 }
 
 pub all_noted_documents : {t : List ℕ} {c : LayoutSetting} (cs : List CommentValue) (ys : List DocumentTree) {bare_first : Bool} {f : ℕ} {ds es : List Doc} {xs zs : List DocumentTree} {ps : List PlacedRow} → AllRoots t c bare_first es xs zs ps
-    → map bare_tree zs ≡ map bare_tree ys → FoundTrees c.style c.comments t cs ds xs es ys → FitDocuments ds xs → (rest : List EventInText) → AllNoted t f (flat_map flat_document ys ++ rest)
+    → map bare_tree zs ≡ map bare_tree ys → FoundTrees c.style c.comments t cs ds xs es ys → FitDocuments c.style ds xs → (rest : List EventInText) → AllNoted t f (flat_map flat_document ys ++ rest)
     → NotesMade t f ps (all_rows c bare_first ds xs) (all_rows (setting c.style cs) bare_first es ys) (flat_map flat_document ys) rest
 all_noted_documents cs ys (marked_roots roots) e found fit rest n = documents_noted cs ys roots e found fit rest n
 all_noted_documents cs [] (bare_root alike r others) e found fit rest n = elim found [ ]

@@ -20,6 +20,7 @@ use Rattle.yf_stream.specs.ReadingOf.{end_before, floor_at}
 use Rattle.yf_stream.proofs.Existence.BreachLemmas.{alike_values, values}
 use Rattle.yf_stream.proofs.BlankNotes.FloorWalk.{end_same, floor_join}
 use Rattle.yf_stream.proofs.BlankNotes.NodeNotes.{collection_floor}
+use Rattle.yf_emit.specs.declared.style.Style.{Style}
 use Rattle.yf_emit.specs.Preservation.AlikeBlocks.{AlikeBlocks, alike_lines, AlikeBlockItems, no_block_items, block_item, AlikeBlockPairs, no_block_pairs, block_pair}
 use Rattle.yf_emit.specs.Nodes.BlockLines.{content_lines, final_feeds}
 use Rattle.yf_emit.specs.Layouts.ReadableTrees.{Fit, fit_nothing, fit_line, fit_scalar, fit_sequence, fit_mapping, FitItems, fit_item, FitPairs, fit_pair, FitScalar, LineNode, is_block_style, is_inline}
@@ -58,10 +59,10 @@ flow_values (e ∷ es) (f ∷ fs) q a =
     let others : values es ≡ values fs = cc in
     (subst (λ v. IsFlowEvent v) first a.0, flow_values es fs others a.1)
 
-line_flow : {x : Node} → LineNode FlowOut x → AllFlow (flat x)
-line_flow {x} node =
-    let u : IsUtf8 (written x) = line_utf8 node.back.line in
-    let there : Rest (written x) 0 (written x ++ []) = subst (λ z. Rest (written x) 0 z) (sym (append-nil (written x))) (rest_start (written x) u) in
+line_flow : (house : Style) {x : Node} → LineNode house FlowOut x → AllFlow (flat x)
+line_flow house {x} node =
+    let u : IsUtf8 (written house x) = line_utf8 node.back.line in
+    let there : Rest (written house x) 0 (written house x ++ []) = subst (λ z. Rest (written house x) 0 z) (sym (append-nil (written house x))) (rest_start (written house x) u) in
     let derived = node.back.made (pos 0) 0 [] u nothing_follows there in
     let flow = flow_means derived tt in
     let meant = node.meant 0 in
@@ -74,16 +75,16 @@ block_not_inline at p text lines Double e f = true≢false (sym e)
 block_not_inline at p text lines Literal e f = true≢false (sym f)
 block_not_inline at p text lines Folded e f = true≢false (sym f)
 
-pub inline_flow : {x : Node} → Fit x → is_inline x ≡ true → AllFlow (flat x)
-inline_flow (fit_nothing f) e = (refl, tt)
-inline_flow (fit_line inline some node key) e = line_flow node
-inline_flow (fit_scalar {at = at} {p = p} {style = style} {text = text} {lines = lines} f g h) e = absurd (block_not_inline at p text lines style h.block e)
-inline_flow (fit_sequence f p g gs) e = absurd (true≢false (sym e))
-inline_flow (fit_mapping f p g h gs) e = absurd (true≢false (sym e))
+pub inline_flow : (house : Style) {x : Node} → Fit house x → is_inline x ≡ true → AllFlow (flat x)
+inline_flow house (fit_nothing f) e = (refl, tt)
+inline_flow house (fit_line inline some node key) e = line_flow house node
+inline_flow house (fit_scalar {at = at} {p = p} {style = style} {text = text} {lines = lines} f g h) e = absurd (block_not_inline at p text lines style h.block e)
+inline_flow house (fit_sequence f p g gs) e = absurd (true≢false (sym e))
+inline_flow house (fit_mapping f p g h gs) e = absurd (true≢false (sym e))
 
-pub key_flow : {k : Node} (c : LayoutSetting) (column : ℕ) → Fit k → is_implicit c.style column k ≡ true → AllFlow (flat k)
+pub key_flow : {k : Node} (c : LayoutSetting) (column : ℕ) → Fit c.style k → is_implicit c.style column k ≡ true → AllFlow (flat k)
 key_flow c column (fit_nothing f) e = (refl, tt)
-key_flow c column (fit_line inline some node key) e = line_flow node
+key_flow c column (fit_line inline some node key) e = line_flow c.style node
 key_flow c column (fit_scalar {at = at} {p = p} {style = style} {text = text} {lines = lines} f g h) e =
     absurd (not_implicit c column (scalar at p style text lines) (block_is_no_key c column at p text lines style h.block) e)
 key_flow c column (fit_sequence {at = at} {p = p} {x = x} {xs = xs} f q g gs) e = absurd (not_implicit c column (sequence at false p (item x xs)) refl e)
@@ -92,18 +93,18 @@ key_flow c column (fit_mapping {at = at} {p = p} {k = k} {v = v} {ps = ps} f q g
 alike_flow : {x y : Node} → Alike Anywhere x y → AllFlow (flat x) → AllFlow (flat y)
 alike_flow {x} {y} a b = flow_values (flat x) (flat y) (alike_values a) b
 
-scalar_fits : {at : NodeOffsets} {p : PropsValue} {text : List ℕ} {lines : List (List ℕ)} {style : ScalarStyle} → is_block_style style ≡ true → Fit (scalar at p style text lines) → (is_some at.span ≡ true) × FitScalar style text lines
-scalar_fits e (fit_nothing f) = absurd (true≢false (sym e))
-scalar_fits {at} {p} {text} {lines} {style} e (fit_line inline some node key) = absurd (block_not_inline at p text lines style e inline)
-scalar_fits e (fit_scalar f g h) = (f, h)
+scalar_fits : (house : Style) {at : NodeOffsets} {p : PropsValue} {text : List ℕ} {lines : List (List ℕ)} {style : ScalarStyle} → is_block_style style ≡ true → Fit house (scalar at p style text lines) → (is_some at.span ≡ true) × FitScalar style text lines
+scalar_fits house e (fit_nothing f) = absurd (true≢false (sym e))
+scalar_fits house {at} {p} {text} {lines} {style} e (fit_line inline some node key) = absurd (block_not_inline at p text lines style e inline)
+scalar_fits house e (fit_scalar f g h) = (f, h)
 
-pub items_fit : {at : NodeOffsets} {p : PropsValue} {xs : Items} → Fit (sequence at false p xs) → FitItems xs
-items_fit (fit_line inline some node key) = absurd (true≢false (sym inline))
-items_fit (fit_sequence f p g gs) = fit_item g gs
+pub items_fit : (house : Style) {at : NodeOffsets} {p : PropsValue} {xs : Items} → Fit house (sequence at false p xs) → FitItems house xs
+items_fit house (fit_line inline some node key) = absurd (true≢false (sym inline))
+items_fit house (fit_sequence f p g gs) = fit_item g gs
 
-pub pairs_fit : {at : NodeOffsets} {p : PropsValue} {ps : Pairs} → Fit (mapping at false p ps) → FitPairs ps
-pairs_fit (fit_line inline some node key) = absurd (true≢false (sym inline))
-pairs_fit (fit_mapping f p g h gs) = fit_pair g h gs
+pub pairs_fit : (house : Style) {at : NodeOffsets} {p : PropsValue} {ps : Pairs} → Fit house (mapping at false p ps) → FitPairs house ps
+pairs_fit house (fit_line inline some node key) = absurd (true≢false (sym inline))
+pairs_fit house (fit_mapping f p g h gs) = fit_pair g h gs
 
 -- Single rows.
 
@@ -120,8 +121,8 @@ span_of : (o : Option Span) → is_some o ≡ true → (s : Span) × (o ≡ Some
 span_of None e = absurd (true≢false (sym e))
 span_of (Some s) e = (s, refl)
 
-key_heads : {t : List ℕ} {f : ℕ} {k : Node} {m : ℕ} {hs : List PlacedRow} (a : Bool) → KeyOn t m k hs → EntryNoted t f (standing k).entry → HeadsWith t f a (blank_before_entry (standing k).entry) hs
-key_heads {t} {f} {k} a (key_on {h = h} st l m e column text some) n = heads_with (by (standing k).entry e some n) where
+key_heads : (house : Style) {t : List ℕ} {f : ℕ} {k : Node} {m : ℕ} {hs : List PlacedRow} (a : Bool) → KeyOn house t m k hs → EntryNoted t f (standing k).entry → HeadsWith t f a (blank_before_entry (standing k).entry) hs
+key_heads house {t} {f} {k} a (key_on {h = h} st l m e column text some) n = heads_with (by (standing k).entry e some n) where
   by : (o : Option Entry) → entry_or 0 o ≡ h.from → is_some o ≡ true → EntryNoted t f o → HeadNote t f h.from a (blank_before_entry o)
   by None e some n = absurd (true≢false (sym some))
   by (Some entry) e some n = entry_head (subst (λ z. NotedSince t f z entry.blank_before) e n)
@@ -165,24 +166,24 @@ module _ {t : List ℕ} {f : ℕ} where
 
 -- Trees: x was laid out, and y is found.
 mutual
-  pub node_notes : {t : List ℕ} {c : LayoutSetting} {laid : Spot} {f : ℕ} {x y : Node} {ps : List PlacedRow} (cs : List CommentValue) (spot to : Spot) → spot.entries ≡ laid.entries → to.entries ≡ laid.entries → AlikeBlocks c.style c.comments cs x y → NodeRows t c laid x y ps → Fit x
+  pub node_notes : {t : List ℕ} {c : LayoutSetting} {laid : Spot} {f : ℕ} {x y : Node} {ps : List PlacedRow} (cs : List CommentValue) (spot to : Spot) → spot.entries ≡ laid.entries → to.entries ≡ laid.entries → AlikeBlocks c.style c.comments cs x y → NodeRows t c laid x y ps → Fit c.style x
       → (rest : List EventInText) → AllNoted t f (flat y ++ rest) → NotesMade t f ps (rows c spot x) (rows (setting c.style cs) to y) (flat y) rest
   node_notes cs spot to e g (alike_lines (alike_scalars q) b) (no_rows h) fit rest n = record { ends = []; rows = no_row_notes; notes = n.1; at = λ o z. end_same o z }
   node_notes {t} {c} {f = f} {x = x} cs spot to e g a (line_rows {y = y} {p = p} inline some h i k st l m o w) fit rest n =
       let alike : Alike Anywhere x y = blocks_alike a in
       let within : is_inline x ≡ true = same_inline alike ∙ inline in
-      let flow : AllFlow (flat y) = alike_flow alike (inline_flow fit within) in
-      let base : RowNotes t f (p ∷ []) (one_line_row spot.column x (written x)) (one_line_row to.column y (written y)) [] =
-      line_notes spot.column to.column x y (written x) (written y) (λ z. some (sym (same_written alike) ∙ z)) some in
+      let flow : AllFlow (flat y) = alike_flow alike (inline_flow c.style fit within) in
+      let base : RowNotes t f (p ∷ []) (one_line_row spot.column x (written c.style x)) (one_line_row to.column y (written c.style y)) [] =
+      line_notes spot.column to.column x y (written c.style x) (written c.style y) (λ z. some (sym (same_written c.style alike) ∙ z)) some in
       record {
         ends = [];
         rows = subst (λ z. RowNotes t f (p ∷ []) z (rows (setting c.style cs) to y) []) (sym (inline_rows c spot x within))
-            (subst (λ z. RowNotes t f (p ∷ []) (one_line_row spot.column x (written x)) z []) (sym (inline_rows (setting c.style cs) to y inline)) base);
+            (subst (λ z. RowNotes t f (p ∷ []) (one_line_row spot.column x (written c.style x)) z []) (sym (inline_rows (setting c.style cs) to y inline)) base);
         notes = flow_passed t f (flat y) rest flow n;
         at = λ o z. flow_at o z (flat y) flow;
       }
   node_notes {t} {c} {f = f} cs spot to e g (alike_lines (alike_scalars {at = at} {bt = bt} {props = props} {style = style} {text = text} {lines = lines} q) b) (scalar_rows {p = p} block inside items leaves key) fit rest n =
-      let fits = scalar_fits block fit in
+      let fits = scalar_fits c.style block fit in
       let s = span_of bt.span (sym q ∙ fits.0) in
       let x : Node = scalar at props style text lines in
       let y : Node = scalar bt props style text lines in
@@ -200,7 +201,7 @@ mutual
       }
   node_notes {t} {c} {f = f} cs spot to e g a (sequence_rows {at = at} {bt = bt} {props = props} {xs = xs} {ys = ys} {ps = ps} block none r) fit rest n =
       let last : List EventInText = unplaced sequence_ends ∷ [] in
-      let inner = items_notes cs spot.entries to.entries e g (sequence_blocks a block) r (items_fit fit) (last ++ rest) (regrouped t f (flat_items ys) last rest n.1) in
+      let inner = items_notes cs spot.entries to.entries e g (sequence_blocks a block) r (items_fit c.style fit) (last ++ rest) (regrouped t f (flat_items ys) last rest n.1) in
       record {
         ends = inner.ends;
         rows = subst (λ z. RowNotes t f ps (z ++ rows_of_items c spot.entries xs) (rows (setting c.style cs) to (sequence bt false props ys)) inner.ends) (sym (no_props_marks spot.column (props_text props) none))
@@ -210,7 +211,7 @@ mutual
       }
   node_notes {t} {c} {f = f} cs spot to e g a (sequence_after {at = at} {bt = bt} {props = props} {xs = xs} {ys = ys} {ps = ps} block some h i k r) fit rest n =
       let last : List EventInText = unplaced sequence_ends ∷ [] in
-      let inner = items_notes cs spot.entries to.entries e g (sequence_blocks a block) r (items_fit fit) (last ++ rest) (regrouped t f (flat_items ys) last rest n.1) in
+      let inner = items_notes cs spot.entries to.entries e g (sequence_blocks a block) r (items_fit c.style fit) (last ++ rest) (regrouped t f (flat_items ys) last rest n.1) in
       record {
         ends = inner.ends;
         rows = notes_join (props_notes spot.column to.column (props_text props) some) inner.rows;
@@ -219,7 +220,7 @@ mutual
       }
   node_notes {t} {c} {f = f} cs spot to e g a (mapping_rows {at = at} {bt = bt} {props = props} {xs = xs} {ys = ys} {ps = ps} block none r) fit rest n =
       let last : List EventInText = unplaced mapping_ends ∷ [] in
-      let inner = pairs_notes cs spot.entries to.entries e g (mapping_blocks a block) r (pairs_fit fit) (last ++ rest) (regrouped t f (flat_pairs ys) last rest n.1) in
+      let inner = pairs_notes cs spot.entries to.entries e g (mapping_blocks a block) r (pairs_fit c.style fit) (last ++ rest) (regrouped t f (flat_pairs ys) last rest n.1) in
       record {
         ends = inner.ends;
         rows = subst (λ z. RowNotes t f ps (z ++ rows_of_pairs c spot.entries xs) (rows (setting c.style cs) to (mapping bt false props ys)) inner.ends) (sym (no_props_marks spot.column (props_text props) none))
@@ -229,7 +230,7 @@ mutual
       }
   node_notes {t} {c} {f = f} cs spot to e g a (mapping_after {at = at} {bt = bt} {props = props} {xs = xs} {ys = ys} {ps = ps} block some h i k r) fit rest n =
       let last : List EventInText = unplaced mapping_ends ∷ [] in
-      let inner = pairs_notes cs spot.entries to.entries e g (mapping_blocks a block) r (pairs_fit fit) (last ++ rest) (regrouped t f (flat_pairs ys) last rest n.1) in
+      let inner = pairs_notes cs spot.entries to.entries e g (mapping_blocks a block) r (pairs_fit c.style fit) (last ++ rest) (regrouped t f (flat_pairs ys) last rest n.1) in
       record {
         ends = inner.ends;
         rows = notes_join (props_notes spot.column to.column (props_text props) some) inner.rows;
@@ -237,7 +238,7 @@ mutual
         at = λ o z. start_unlined (placed bt (mapping_starts false props) []) (unplaced mapping_ends) (λ v p. refl) (λ v p. refl) (flat_pairs ys) o z ∙ inner.at o z;
       }
 
-  items_notes : {t : List ℕ} {c : LayoutSetting} {m f : ℕ} {xs ys : Items} {ps : List PlacedRow} (cs : List CommentValue) (column to : ℕ) → column ≡ m → to ≡ m → AlikeBlockItems c.style c.comments cs xs ys → ItemsRows t c m xs ys ps → FitItems xs
+  items_notes : {t : List ℕ} {c : LayoutSetting} {m f : ℕ} {xs ys : Items} {ps : List PlacedRow} (cs : List CommentValue) (column to : ℕ) → column ≡ m → to ≡ m → AlikeBlockItems c.style c.comments cs xs ys → ItemsRows t c m xs ys ps → FitItems c.style xs
       → (rest : List EventInText) → AllNoted t f (flat_items ys ++ rest) → NotesMade t f ps (rows_of_items c column xs) (rows_of_items (setting c.style cs) to ys) (flat_items ys) rest
   items_notes cs column to e g no_block_items no_item_rows fit rest n = record { ends = []; rows = no_row_notes; notes = n; at = λ o z. refl }
   items_notes {t} {c} {f = f} cs column to e g (block_item a b) (item_rows {x = x} {y = y} {ys = ys} r s more) (fit_item fit fits) rest n =
@@ -248,7 +249,7 @@ mutual
       both_made (with_rows one signed) (items_notes cs column to e g b more fits rest one.notes)
 
   pair_notes : {t : List ℕ} {c : LayoutSetting} {m f : ℕ} {k v l w : Node} {ps : List PlacedRow} (cs : List CommentValue) (column to : ℕ) → column ≡ m → to ≡ m → AlikeBlocks c.style c.comments cs k l → AlikeBlocks c.style c.comments cs v w
-      → KeysAgree c.style c.comments cs k v l w → PairRows t c m k v l w ps → Fit k → Fit v → (rest : List EventInText) → AllNoted t f (flat l ++ (flat w ++ rest))
+      → KeysAgree c.style c.comments cs k v l w → PairRows t c m k v l w ps → Fit c.style k → Fit c.style v → (rest : List EventInText) → AllNoted t f (flat l ++ (flat w ++ rest))
       → NotesMade t f ps (either_pair (is_implicit c.style column k) c column k v) (either_pair (is_implicit c.style to l) (setting c.style cs) to l w) (flat l ++ flat w) rest
   pair_notes {t} {c} {m} {f} {k} {v} {l} {w} cs column to e g a b agree (explicit_rows n r s d j) fit fits rest noted =
       let here : is_implicit c.style to l ≡ false = ap (λ z. is_implicit c.style z l) g ∙ n in
@@ -267,11 +268,11 @@ mutual
       let second : value_entries c.style to w ≡ value_entries c.style m v =
       ap (λ z. value_entries c.style z w) g ∙ ap (λ z. if z && not c.style.seq_indent then m else m + c.style.indent) (sym (same_sequence (blocks_alike b))) in
       let value = node_notes cs (value_of_implicit c column k v) (value_of_implicit (setting c.style cs) to l w) (ap (λ z. value_entries c.style z v) e) second b d fits rest (flow_passed t f (flat l) (flat w ++ rest) flow noted) in
-      let keyed = key_notes (key_row column k) (key_row to l) (key_comment c.comments k v) (key_comment cs l w) (begins_below v) (begins_below w) (sym q) told (same_below (blocks_alike b)) refl j
-      (key_heads (blank_before_entry (standing k).entry) on (entry_noted t f l (flat w ++ rest) noted)) refl value.rows in
+      let keyed = key_notes (key_row c.style column k) (key_row c.style to l) (key_comment c.comments k v) (key_comment cs l w) (begins_below v) (begins_below w) (sym q) told (same_below (blocks_alike b)) refl j
+      (key_heads c.style (blank_before_entry (standing k).entry) on (entry_noted t f l (flat w ++ rest) noted)) refl value.rows in
       by_pair c (setting c.style cs) column to k v l w true there here (flow_made (flat l) flow (with_rows value keyed))
 
-  pairs_notes : {t : List ℕ} {c : LayoutSetting} {m f : ℕ} {xs ys : Pairs} {ps : List PlacedRow} (cs : List CommentValue) (column to : ℕ) → column ≡ m → to ≡ m → AlikeBlockPairs c.style c.comments cs xs ys → PairsRows t c m xs ys ps → FitPairs xs
+  pairs_notes : {t : List ℕ} {c : LayoutSetting} {m f : ℕ} {xs ys : Pairs} {ps : List PlacedRow} (cs : List CommentValue) (column to : ℕ) → column ≡ m → to ≡ m → AlikeBlockPairs c.style c.comments cs xs ys → PairsRows t c m xs ys ps → FitPairs c.style xs
       → (rest : List EventInText) → AllNoted t f (flat_pairs ys ++ rest) → NotesMade t f ps (rows_of_pairs c column xs) (rows_of_pairs (setting c.style cs) to ys) (flat_pairs ys) rest
   pairs_notes cs column to e g no_block_pairs no_pair_rows fit rest n = record { ends = []; rows = no_row_notes; notes = n; at = λ o z. refl }
   pairs_notes {t} {c} {f = f} cs column to e g (block_pair a b agree more) (pair_rows {l = l} {w = w} {ys = ys} {hs = hs} {rs = rs} r others) (fit_pair fit fits all) rest n =

@@ -11,6 +11,7 @@ use Rattle.yf_events.specs.Tree.{NodeOffsets, Node, scalar, alias, sequence, map
 use Rattle.yf_grammar.specs.Productions.TreesOfMeaning.{Anywhere}
 use Rattle.yf_grammar.proofs.WrittenTexts.KeptNodes.{SameEntry, no_entry, same_entry, SameStanding, Kept, kept_scalar, kept_alias, kept_sequence, kept_mapping, KeptItems, kept_no_items, kept_item, KeptPairs, kept_no_pairs, kept_pair, kept_standing}
 use Rattle.yf_grammar.proofs.NodesInText.NodePlaces.{Begins, ColonIsAt, NodeIsAt, is_at_nowhere, scalar_is_at, alias_is_at, sequence_is_at, mapping_is_at, ItemsStand, no_items_stand, item_is_at, PairsStand, no_pairs_stand, pair_is_at}
+use Rattle.yf_emit.specs.declared.style.Style.{Style}
 use Rattle.yf_emit.specs.Layouts.ReadableTrees.{FitProps}
 use Rattle.yf_emit.specs.NormalForms.Normal.{LayoutSetting, Spot, entry_or}
 use Rattle.yf_emit.specs.Nodes.OneLine.{written}
@@ -214,9 +215,9 @@ props_same (kept_mapping s a) = refl
 bracketed_stays : {t : List ℕ} {i j : ℕ} {y z : Node} → Kept y z → Bracketed t i j y → Bracketed t i j z
 bracketed_stays k a = record { span = sym (kept_standing k).span ∙ a.span; last = a.last; props = subst (λ p. FitProps p) (props_same k) a.props }
 
-text_stays : {t : List ℕ} {i : ℕ} {y z : Node} → Kept y z → NodeText t i y → NodeText t i z
-text_stays {t} {i} {y} {z} k a =
-    let said : written y ≡ written z = same_written (kept_alike k) in
+text_stays : (house : Style) {t : List ℕ} {i : ℕ} {y z : Node} → Kept y z → NodeText house t i y → NodeText house t i z
+text_stays house {t} {i} {y} {z} k a =
+    let said : written house y ≡ written house z = same_written house (kept_alike k) in
     record {
       line = subst (λ w. IsLineText w) said a.line;
       follows = a.follows;
@@ -226,9 +227,9 @@ text_stays {t} {i} {y} {z} k a =
 
 -- Rows.
 
-key_stays : {t : List ℕ} {m : ℕ} {k l : Node} {hs : List PlacedRow} → Kept k l → KeyOn t m k hs → KeyOn t m l hs
-key_stays k (key_on st l m e c text w) =
-    key_on (node_stays k st) l m (sym (by_entry (entry_or 0) (λ e b. refl) (kept_standing k).entry) ∙ e) c (text_stays k text) (sym (by_entry (λ o. is_some o) (λ e b. refl) (kept_standing k).entry) ∙ w)
+key_stays : (house : Style) {t : List ℕ} {m : ℕ} {k l : Node} {hs : List PlacedRow} → Kept k l → KeyOn house t m k hs → KeyOn house t m l hs
+key_stays house k (key_on st l m e c text w) =
+    key_on (node_stays k st) l m (sym (by_entry (entry_or 0) (λ e b. refl) (kept_standing k).entry) ∙ e) c (text_stays house k text) (sym (by_entry (λ o. is_some o) (λ e b. refl) (kept_standing k).entry) ∙ w)
 
 sequence_block : (at bt : NodeOffsets) (props : PropsValue) {xs ys : Items} → KeptItems xs ys → is_block_collection (sequence at false props xs) ≡ true → is_block_collection (sequence bt false props ys) ≡ true
 sequence_block at bt props kept_no_items e = e
@@ -241,8 +242,8 @@ mapping_block at bt props (kept_pair a b more) e = e
 mutual
   pub rows_kept : {t : List ℕ} {c : LayoutSetting} {spot : Spot} {x y z : Node} {ps : List PlacedRow} → Kept y z → NodeRows t c spot x y ps → NodeRows t c spot x z ps
   rows_kept (kept_scalar s) (no_rows e) = no_rows (sym s.span ∙ e)
-  rows_kept k (line_rows f n g h i st a b column text) =
-      line_rows (sym (same_inline (kept_alike k)) ∙ f) (λ e. n (same_written (kept_alike k) ∙ e)) (g ∙ items_same k) (h ∙ leaves_same k) i (node_stays k st) a b column (text_stays k text)
+  rows_kept {c = c} k (line_rows f n g h i st a b column text) =
+      line_rows (sym (same_inline (kept_alike k)) ∙ f) (λ e. n (same_written c.style (kept_alike k) ∙ e)) (g ∙ items_same k) (h ∙ leaves_same k) i (node_stays k st) a b column (text_stays c.style k text)
   rows_kept (kept_scalar s) (scalar_rows {p = p} f a g h i) =
       scalar_rows f (subst (λ o. Inside p.from p.upto (map (λ (w : Span). w.start) (spans_of_leaf o))) s.span a) (g ∙ ap (λ o. map (λ (w : Span). w.start) (spans_of_leaf o)) s.span) (h ∙ ap spans_of_leaf s.span) i
   rows_kept (kept_sequence {at = at} {bt = bt} {props = props} s a) (sequence_rows b e r) = sequence_rows (sequence_block at bt props a b) e (items_rows_kept a r)
@@ -258,7 +259,7 @@ mutual
   pair_rows_kept {t} {c} {m} a b (explicit_rows {ps = ps} {hs = hs} {qs = qs} {gs = gs} n r s d f) =
       explicit_rows (sym (same_implicit c.style m (kept_alike a)) ∙ n) (rows_kept a r) (subst (λ z. SignRows t z ps hs) (start_same a) s) (rows_kept b d) (subst (λ z. SignRows t z qs gs) (colon_same a) f)
   pair_rows_kept {t} {c} {m} {v = v} {l = l} {w = w} {g = g} {u = u} a b (implicit_rows {ps = ps} {hs = hs} flag q n on d f) =
-      implicit_rows flag q (sym (same_implicit c.style m (kept_alike a)) ∙ n) (key_stays a on) (rows_kept b d)
+      implicit_rows flag q (sym (same_implicit c.style m (kept_alike a)) ∙ n) (key_stays c.style a on) (rows_kept b d)
       (subst (λ z. KeyRows t (entry_start g ++ items_in g) (leaves g) flag z ps hs) (same_below (kept_alike b))
       (subst (λ z. KeyRows t (entry_start g ++ items_in g) z flag (begins_below w) ps hs) (leaves_same a)
       (subst (λ z. KeyRows t (entry_start g ++ z) (leaves l) flag (begins_below w) ps hs) (items_same a) (subst (λ z. KeyRows t (z ++ items_in l) (leaves l) flag (begins_below w) ps hs) (start_same a) f))))

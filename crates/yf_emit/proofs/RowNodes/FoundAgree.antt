@@ -9,6 +9,7 @@ use Rattle.yf_events.specs.declared.event.Span.{Span}
 use Rattle.yf_events.specs.Tree.{Node, scalar, alias, sequence, mapping, Items, no_items, item, Pairs, no_pairs, pair, leaves, is_text, is_filled_flow, is_block_collection}
 use Rattle.yf_grammar.specs.Productions.Meaning.{from_to}
 use Rattle.yf_grammar.proofs.NodesInText.NodePlaces.{NodeIsAt, is_at_nowhere, scalar_is_at, alias_is_at, sequence_is_at, mapping_is_at, ItemsStand, no_items_stand, item_is_at, PairsStand, no_pairs_stand, pair_is_at, node_order, items_order, pairs_order}
+use Rattle.yf_emit.specs.declared.style.Style.{Style}
 use Rattle.yf_emit.specs.Nodes.ContentStart.{content_start, past_gap, past_second, property_len}
 use Rattle.yf_emit.specs.Nodes.OneLineFlows.{has_comment, is_within}
 use Rattle.yf_emit.specs.NormalForms.Normal.{LayoutSetting, Spot, key_start, last_start}
@@ -129,8 +130,8 @@ mutual
 row_none : {cs : List CommentValue} {a b : ℕ} (p : PlacedRow) → p.from ≤ a → b ≤ p.upto → Quiet cs p → NoneIn cs a b
 row_none p l m q = each_map (λ d n o. ⊎_elim (λ (z : d.offset < p.from). inl (omega (arith, l, z))) (λ (z : p.upto ≤ d.offset). inr (omega (arith, m, z))) o) q
 
-key_undisturbed : {t : List ℕ} {cs : List CommentValue} {m : ℕ} {k : Node} {hs : List PlacedRow} → KeyOn t m k hs → AllQuiet cs hs → Undisturbed t cs k
-key_undisturbed (key_on {h = h} st l m e c text w) (quiet_row q a) = is_at_undisturbed st (row_none h l (omega (arith, m)) q)
+key_undisturbed : (house : Style) {t : List ℕ} {cs : List CommentValue} {m : ℕ} {k : Node} {hs : List PlacedRow} → KeyOn house t m k hs → AllQuiet cs hs → Undisturbed t cs k
+key_undisturbed house (key_on {h = h} st l m e c text w) (quiet_row q a) = is_at_undisturbed st (row_none h l (omega (arith, m)) q)
 
 mutual
   pub rows_undisturbed : {t : List ℕ} {c : LayoutSetting} {cs : List CommentValue} {spot : Spot} {x y : Node} {ps : List PlacedRow} → NodeRows t c spot x y ps → AllQuiet cs ps → Undisturbed t cs y
@@ -151,7 +152,7 @@ mutual
       → UndisturbedPairs t cs qs → UndisturbedPairs t cs (pair l w qs)
   one_pair_undisturbed (explicit_rows {hs = hs} {gs = gs} e r s v f) a more =
       undisturbed_pair (rows_undisturbed r (sign_quiet s (quiet_left hs gs a))) (rows_undisturbed v (sign_quiet f (quiet_right hs gs a))) more
-  one_pair_undisturbed (implicit_rows b g e k v f) a more = undisturbed_pair (key_undisturbed k a) (rows_undisturbed v (key_quiet f a)) more
+  one_pair_undisturbed {c = c} (implicit_rows b g e k v f) a more = undisturbed_pair (key_undisturbed c.style k a) (rows_undisturbed v (key_quiet f a)) more
 
   pair_rows_undisturbed : {t : List ℕ} {c : LayoutSetting} {cs : List CommentValue} {m : ℕ} {xs ys : Pairs} {ps : List PlacedRow} → PairsRows t c m xs ys ps → AllQuiet cs ps → UndisturbedPairs t cs ys
   pair_rows_undisturbed no_pair_rows a = undisturbed_last
@@ -163,8 +164,8 @@ later_last : {i j : ℕ} (other : ℕ) (ss : List Span) → i ≤ other → othe
 later_last other [] l m a = (l, m)
 later_last other (s ∷ ss) l m (one_inside n o a) = later_last s.start ss n o a
 
-pub key_between : {t : List ℕ} {n : ℕ} {k : Node} {h : PlacedRow} {hs : List PlacedRow} → KeyOn t n k (h ∷ hs) → (h.from ≤ key_start k) × (key_start k < h.upto)
-key_between {k = k} {h = h} (key_on {a = a} {b = b} st l m e c text w) =
+pub key_between : (house : Style) {t : List ℕ} {n : ℕ} {k : Node} {h : PlacedRow} {hs : List PlacedRow} → KeyOn house t n k (h ∷ hs) → (h.from ≤ key_start k) × (key_start k < h.upto)
+key_between house {k = k} {h = h} (key_on {a = a} {b = b} st l m e c text w) =
     let o = node_order st in
     let w = later_last {i = h.from} {j = b} _ (leaves k) (omega (arith, e)) (omega (arith, e, l, o)) (inside_wider l (omega arith) (leaves_inside st)) in
     (w.0, let z = w.1 in omega (arith, z, m))

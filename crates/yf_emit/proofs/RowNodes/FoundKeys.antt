@@ -38,14 +38,14 @@ first_met : (p : PlacedRow) (cs : List CommentValue) (from : ℕ) (ls : List Spa
 first_met p cs from [] n a f = absurd (n refl)
 first_met p cs from (s ∷ ss) n (one_inside l m a) f = f s.start l
 
-commented_key : {t : List ℕ} {c : LayoutSetting} {cs : List CommentValue} {m : ℕ} {spot : Spot} {l v w : Node} {items : List ℕ} {ls : List Span} {below : Bool} {ps hs : List PlacedRow} → KeyOn t m l hs → NodeRows t c spot v w ps
+commented_key : {t : List ℕ} {c : LayoutSetting} {cs : List CommentValue} {m : ℕ} {spot : Spot} {l v w : Node} {items : List ℕ} {ls : List Span} {below : Bool} {ps hs : List PlacedRow} → KeyOn c.style t m l hs → NodeRows t c spot v w ps
     → KeyRows t items ls true below ps hs → Linked cs hs → (is_text w || is_filled_flow w) ≡ true → leaves w ≢ [] → is_some (key_comment cs l w) ≡ true
-commented_key {cs = cs} {l = l} {w = w} k r (key_commented {h = h} e f g) a q n = ap (λ b. is_some (if b then first_between cs (key_start l) (leaves w) else None)) q ∙ go (value_row r q) a where
+commented_key {c = c} {cs = cs} {l = l} {w = w} k r (key_commented {h = h} e f g) a q n = ap (λ b. is_some (if b then first_between cs (key_start l) (leaves w) else None)) q ∙ go (value_row r q) a where
   go : {ps : List PlacedRow} → OnRow w ps → Linked cs (h ∷ ps) → is_some (first_between cs (key_start l) (leaves w)) ≡ true
   go (on_row {p = p} inside) (linked_row trails more) = at (trails g) where
     at : TrailsTo cs h (p ∷ []) → is_some (first_between cs (key_start l) (leaves w)) ≡ true
     at (trails_to d i lo hi) =
-        let b = (key_between k).1 in
+        let b = (key_between c.style k).1 in
         first_met p cs (key_start l) (leaves w) n inside (λ to z. some_found (key_start l) to i (omega (arith, b, lo)) (omega (arith, hi, z)))
 
 no_row : {w : Node} → OnRow w [] → ⊥
@@ -56,24 +56,24 @@ none_met : (p : PlacedRow) (cs : List CommentValue) (from : ℕ) (ls : List Span
 none_met p cs from [] a f = refl
 none_met p cs from (s ∷ ss) (one_inside l m a) f = f s.start m
 
-silent_rows : {t : List ℕ} {cs : List CommentValue} {m : ℕ} {l w : Node} {items : List ℕ} {ls : List Span} {below : Bool} {ps hs : List PlacedRow} → (is_text w || is_filled_flow w) ≡ true → begins_below w ≡ below
-    → KeyRows t items ls false below ps hs → KeyOn t m l hs → OnRow w ps → AllQuiet cs hs → first_between cs (key_start l) (leaves w) ≡ None
-silent_rows {w = w} q e (key_above f g h) k o a = absurd (no_value w (and_parts (is_block_collection w) (is_empty_text (props_text (props_of w))) e).0 q)
-silent_rows q e (key_alone f g h) k o a = absurd (no_row o)
-silent_rows {cs = cs} {l = l} {w = w} q e (key_joined {h = h} {p = p} f g i lo same on) k (on_row inside) (quiet_row quiet more) =
-    let b = (key_between k).0 in
+silent_rows : (house : Style) {t : List ℕ} {cs : List CommentValue} {m : ℕ} {l w : Node} {items : List ℕ} {ls : List Span} {below : Bool} {ps hs : List PlacedRow} → (is_text w || is_filled_flow w) ≡ true → begins_below w ≡ below
+    → KeyRows t items ls false below ps hs → KeyOn house t m l hs → OnRow w ps → AllQuiet cs hs → first_between cs (key_start l) (leaves w) ≡ None
+silent_rows house {w = w} q e (key_above f g h) k o a = absurd (no_value w (and_parts (is_block_collection w) (is_empty_text (props_text (props_of w))) e).0 q)
+silent_rows house q e (key_alone f g h) k o a = absurd (no_row o)
+silent_rows house {cs = cs} {l = l} {w = w} q e (key_joined {h = h} {p = p} f g i lo same on) k (on_row inside) (quiet_row quiet more) =
+    let b = (key_between house k).0 in
     none_met p cs (key_start l) (leaves w) inside (λ to z. none_found (key_start l) to h.from h.upto b (omega (arith, same, z)) quiet)
 
-silent_key : {t : List ℕ} {c : LayoutSetting} {cs : List CommentValue} {m : ℕ} {spot : Spot} {l v w : Node} {items : List ℕ} {ls : List Span} {below : Bool} {ps hs : List PlacedRow} → begins_below w ≡ below → KeyOn t m l hs
+silent_key : {t : List ℕ} {c : LayoutSetting} {cs : List CommentValue} {m : ℕ} {spot : Spot} {l v w : Node} {items : List ℕ} {ls : List Span} {below : Bool} {ps hs : List PlacedRow} → begins_below w ≡ below → KeyOn c.style t m l hs
     → NodeRows t c spot v w ps → KeyRows t items ls false below ps hs → AllQuiet cs hs → key_comment cs l w ≡ None
-silent_key {cs = cs} {l = l} {v = v} {w = w} e k r rows a = by (is_text w || is_filled_flow w) refl where
+silent_key {c = c} {cs = cs} {l = l} {v = v} {w = w} e k r rows a = by (is_text w || is_filled_flow w) refl where
   by : (b : Bool) → (is_text w || is_filled_flow w) ≡ b → key_comment cs l w ≡ None
   by false q = ap (λ b. if b then first_between cs (key_start l) (leaves w) else None) q
-  by true q = ap (λ b. if b then first_between cs (key_start l) (leaves w) else None) q ∙ silent_rows q e rows k (value_row r q) a
+  by true q = ap (λ b. if b then first_between cs (key_start l) (leaves w) else None) q ∙ silent_rows c.style q e rows k (value_row r q) a
 
 -- as the key was laid out
 key_agrees : {t : List ℕ} {c : LayoutSetting} {cs : List CommentValue} {m : ℕ} {spot : Spot} {l v w : Node} {items : List ℕ} {ls : List Span} {ps hs : List PlacedRow} (k : Node) (b : Bool) → b ≡ is_some (key_comment c.comments k v) → Alike Anywhere v w
-    → KeyOn t m l hs → NodeRows t c spot v w ps → KeyRows t items ls b (begins_below w) ps hs → AllQuiet cs hs → Linked cs hs
+    → KeyOn c.style t m l hs → NodeRows t c spot v w ps → KeyRows t items ls b (begins_below w) ps hs → AllQuiet cs hs → Linked cs hs
     → is_some (key_comment c.comments k v) ≡ is_some (key_comment cs l w)
 key_agrees {c = c} {v = v} {w = w} k true e a on r rows quiet linked =
     let value = some_value c.comments k v (sym e) in
@@ -113,7 +113,7 @@ marked_flow : (s : Style) (m column : ℕ) (flow wide : Bool) (X block : Node) �
 marked_flow s m column flow wide X block same none e f h =
     let w : (flow ≡ true) × (fits s (m + s.indent) X ≡ false) =
     flow_test flow true wide (fits s column X) (fits s m X) (fits s (m + s.indent) X) e f
-    (λ z. wider_test m column s.indent (width (written X)) s.max_line (and_parts flow (fits s column X) (and_parts (flow && fits s column X) wide e).0).1 z) in
+    (λ z. wider_test m column s.indent (width (written s X)) s.max_line (and_parts flow (fits s column X) (and_parts (flow && fits s column X) wide e).0).1 z) in
     let test : (flow && fits s (if (flow && fits s m X) && wide then m else m + s.indent) X) ≡ false =
     ap (λ b. flow && fits s (if b then m else m + s.indent) X) f ∙ (ap (λ b. flow && b) w.1 ∙ ap (λ b. b && false) w.0) in
     let blocks : block ≡ X = ap (λ b. if b then X else block) (sym test) ∙ h in
@@ -129,11 +129,11 @@ explicit_nowhere c m column (alias at name) e h f = true≢false (sym f ∙ e)
 explicit_nowhere c m column (sequence at flow props no_items) e h f = true≢false (sym f ∙ e)
 explicit_nowhere c m column (sequence at flow props (item x xs)) e h f =
     let X : Node = sequence at flow props (item x xs) in
-    marked_flow c.style m column flow (nat_le (width (written X)) 1023) X (sequence at false props (settled_items c (m + c.style.indent) (item x xs))) refl refl f e h
+    marked_flow c.style m column flow (nat_le (width (written c.style X)) 1023) X (sequence at false props (settled_items c (m + c.style.indent) (item x xs))) refl refl f e h
 explicit_nowhere c m column (mapping at flow props no_pairs) e h f = true≢false (sym f ∙ e)
 explicit_nowhere c m column (mapping at flow props (pair k v ps)) e h f =
     let X : Node = mapping at flow props (pair k v ps) in
-    marked_flow c.style m column flow (nat_le (width (written X)) 1023) X (mapping at false props (settled_pairs c (m + c.style.indent) (pair k v ps))) refl refl f e h
+    marked_flow c.style m column flow (nat_le (width (written c.style X)) 1023) X (mapping at false props (settled_pairs c (m + c.style.indent) (pair k v ps))) refl refl f e h
 
 -- Trees.
 

@@ -19,6 +19,7 @@ use Rattle.yf_grammar.specs.Productions.TreesOfMeaning.{Anywhere, MeansTrees}
 use Rattle.yf_grammar.proofs.Documents.CommentOrder.{Ascend, end_ascends}
 use Rattle.yf_grammar.proofs.NodesInText.NodePlaces.{ColonIsAt, no_colon, a_colon, NodeIsAt, is_at_nowhere, scalar_is_at, alias_is_at, sequence_is_at, mapping_is_at, ItemsStand, no_items_stand, item_is_at, PairsStand, no_pairs_stand, pair_is_at, node_order, items_order, pairs_order, node_upto}
 use Rattle.yf_grammar.proofs.NodesInText.PlacedNodes.{NodeAt}
+use Rattle.yf_emit.specs.declared.style.Style.{Style}
 use Rattle.yf_emit.specs.NormalForms.Normal.{LayoutSetting, Spot}
 use Rattle.yf_emit.specs.Layouts.RowComments.{carried_texts}
 use Rattle.yf_emit.specs.Layouts.Decorated.{Deco, first}
@@ -142,14 +143,14 @@ entry_some : (e : Entry) (o : Option Entry) (rest : List ℕ) → o ≡ Some e �
 entry_some e None rest f z = absurd cc
 entry_some e (Some g) rest f z = absurd cc
 
-pub items_some : {t : List ℕ} {i j : ℕ} {x : Node} → NodeIsAt t i j x → written x ≢ [] → items_in x ≡ [] → ⊥
-items_some (is_at_nowhere m e) n z = n refl
-items_some (scalar_is_at {at = at} e b l m w s) n z = some_start _ _ at.span e z
-items_some (alias_is_at {at = at} e b l m s) n z = some_start _ _ at.span e z
-items_some (sequence_is_at {at = at} e b (no_items_stand l) m s) n z = some_start _ _ at.span e z
-items_some (sequence_is_at e b (item_is_at f q l a c) m s) n z = entry_some f _ _ q z
-items_some (mapping_is_at {at = at} e b (no_pairs_stand l) m s) n z = some_start _ _ at.span e z
-items_some (mapping_is_at e b (pair_is_at f q l a c d g) m s) n z = entry_some f _ _ q.key z
+pub items_some : (house : Style) {t : List ℕ} {i j : ℕ} {x : Node} → NodeIsAt t i j x → written house x ≢ [] → items_in x ≡ [] → ⊥
+items_some house (is_at_nowhere m e) n z = n refl
+items_some house (scalar_is_at {at = at} e b l m w s) n z = some_start _ _ at.span e z
+items_some house (alias_is_at {at = at} e b l m s) n z = some_start _ _ at.span e z
+items_some house (sequence_is_at {at = at} e b (no_items_stand l) m s) n z = some_start _ _ at.span e z
+items_some house (sequence_is_at e b (item_is_at f q l a c) m s) n z = entry_some f _ _ q z
+items_some house (mapping_is_at {at = at} e b (no_pairs_stand l) m s) n z = some_start _ _ at.span e z
+items_some house (mapping_is_at e b (pair_is_at f q l a c d g) m s) n z = entry_some f _ _ q.key z
 
 pub same_inline : {K : Node → Node → Node → Node → Type 0} {x y : Node} → Alike K x y → is_inline x ≡ is_inline y
 same_inline (alike_scalars {at = at} {bt = bt} {props = props} {style = style} {text = text} {lines = lines} e) = by style where
@@ -181,10 +182,10 @@ placed_node {x = x} a b =
     subst (λ z. Alike Anywhere x z) same b.alike
 
 -- it is there as it was written
-pub node_text : {t : List ℕ} {x y : Node} {q : ℕ} (follows : List ℕ) → Alike Anywhere x y → IsLineText (written x) → Rest t q (written x ++ follows)
-    → (is_bracketed y ≡ true → Bracketed t q (q + length (written x)) y) → NodeText t q y
-node_text {t} {x} {y} {q} follows alike line there flow =
-    let said : written x ≡ written y = same_written alike in
+pub node_text : (house : Style) {t : List ℕ} {x y : Node} {q : ℕ} (follows : List ℕ) → Alike Anywhere x y → IsLineText (written house x) → Rest t q (written house x ++ follows)
+    → (is_bracketed y ≡ true → Bracketed t q (q + length (written house x)) y) → NodeText house t q y
+node_text house {t} {x} {y} {q} follows alike line there flow =
+    let said : written house x ≡ written house y = same_written house alike in
     record {
       line = subst (λ w. IsLineText w) said line;
       follows = follows;
@@ -192,14 +193,14 @@ node_text {t} {x} {y} {q} follows alike line there flow =
       flow = λ f. subst (λ w. Bracketed t q (q + length w) y) said (flow f);
     }
 
-pub line_found : {t : List ℕ} {x : Node} {row : Row} {place q : ℕ} {cs : List CommentValue} {z : List ℕ} {mean : Meaning} (s : LayoutSetting) (spot : Spot) (ds : List Deco) (follows : List ℕ) → is_inline x ≡ true → written x ≢ []
-    → row.text ≡ written x → row.column ≡ spot.column → row.body ≡ [] → is_some row.key_comment ≡ false → IsLineText (written x) → Rest t q (written x ++ follows)
-    → ((y : Node) → mean.events ≡ flat y → is_bracketed y ≡ true → Bracketed t q (q + length (written x)) y) → NodeAt t q (q + length (written x)) mean → MeansTrees x mean → mean.comments ≡ []
-    → LineEnd t (q + length (written x)) place cs → texts cs ≡ carried_texts (first ds) → LineStart t place → Rest t place z → LineFound t s spot x (noting mean cs) row ds q place z
+pub line_found : {t : List ℕ} {x : Node} {row : Row} {place q : ℕ} {cs : List CommentValue} {z : List ℕ} {mean : Meaning} (s : LayoutSetting) (spot : Spot) (ds : List Deco) (follows : List ℕ) → is_inline x ≡ true → written s.style x ≢ []
+    → row.text ≡ written s.style x → row.column ≡ spot.column → row.body ≡ [] → is_some row.key_comment ≡ false → IsLineText (written s.style x) → Rest t q (written s.style x ++ follows)
+    → ((y : Node) → mean.events ≡ flat y → is_bracketed y ≡ true → Bracketed t q (q + length (written s.style x)) y) → NodeAt t q (q + length (written s.style x)) mean → MeansTrees x mean → mean.comments ≡ []
+    → LineEnd t (q + length (written s.style x)) place cs → texts cs ≡ carried_texts (first ds) → LineStart t place → Rest t place z → LineFound t s spot x (noting mean cs) row ds q place z
 line_found {t} {x} {row} {place} {q} {cs} {z} {mean} s spot ds follows inline some text column body key line there flow a b silent up is start w =
     let alike : Alike Anywhere x a.node = placed_node a b in
-    let is_there : NodeIsAt t q (q + length (written x)) a.node = node_upto a.is_there a.ends in
-    let width : length (written x) ≡ length row.text = ap length (sym text) in
+    let is_there : NodeIsAt t q (q + length (written s.style x)) a.node = node_upto a.is_there a.ends in
+    let width : length (written s.style x) ≡ length row.text = ap length (sym text) in
     let here : NodeIsAt t q (q + length row.text) a.node = subst (λ k. NodeIsAt t q (q + k) a.node) width is_there in
     let p : PlacedRow = record { items = items_in a.node; leaves = leaves a.node; commented = false; column = row.column; from = q; upto = q + length row.text } in
     let same : (noting mean cs).comments ≡ cs = comments_noting mean cs ∙ ap (λ w. w ++ cs) silent in
@@ -210,7 +211,7 @@ line_found {t} {x} {row} {place} {q} {cs} {z} {mean} s spot ds follows inline so
         alike = alike;
         events = a.events;
         escapes = b.escapes;
-        rows = line_rows (sym (same_inline alike) ∙ inline) (λ e. some (same_written alike ∙ e)) refl refl refl here (omega arith) (omega arith) column (node_text follows alike line there (λ f. flow a.node a.events f));
+        rows = line_rows (sym (same_inline alike) ∙ inline) (λ e. some (same_written s.style alike ∙ e)) refl refl refl here (omega arith) (omega arith) column (node_text s.style follows alike line there (λ f. flow a.node a.events f));
       });
       placed = subst (λ v. RowsIn t (row ∷ []) (p ∷ []) ds q v place z) (sym same) (last_row (record {
         from = refl;
@@ -219,7 +220,7 @@ line_found {t} {x} {row} {place} {q} {cs} {z} {mean} s spot ds follows inline so
         items = items_inside here;
         leaves = leaves_inside here;
         commented = key;
-        bare = λ z. absurd (items_some here (λ e. some (same_written alike ∙ e)) z);
+        bare = λ z. absurd (items_some s.style here (λ e. some (same_written s.style alike ∙ e)) z);
         column = refl;
       }) (record {
         ascend = subst (λ k. Ascend t (q + k) cs place) width (end_ascends up);

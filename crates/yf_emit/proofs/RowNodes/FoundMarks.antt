@@ -99,7 +99,7 @@ mutual
       → marks (rows (setting c.style cs) spot y) ≡ placed_marks ps
   node_marks cs spot e a (no_rows f) = refl
   node_marks {c = c} cs spot e a (line_rows {y = y} {p = p} f n g h i st k l o w) =
-      ap marks (inline_rows (setting c.style cs) spot y f) ∙ line_marks spot.column y (written y) p n g h
+      ap marks (inline_rows (setting c.style cs) spot y f) ∙ line_marks spot.column y (written c.style y) p n g h
   node_marks {c = c} cs spot e a (scalar_rows {at = at} {props = props} {style = style} {text = text} {lines = lines} f n g h i) =
       ap marks (scalar_rows_are (setting c.style cs) spot at props text lines style f) ∙ both_marks [] (sym g) (sym h)
   node_marks {c = c} cs spot e a (sequence_rows {props = props} {ys = ys} n f r) =
@@ -140,7 +140,7 @@ mutual
       let told : is_some (key_comment cs l w) ≡ flag = sym (g.comment column (same_implicit c.style column (blocks_alike a) ∙ here)) ∙ sym q in
       ap (λ z. marks (if z then implicit_pair (setting c.style cs) column l w (rows (setting c.style cs) (value_spot (setting c.style cs) column l w) w)
       else explicit_pair c.style column l (rows (setting c.style cs) (key_spot c.style column l) l) (rows (setting c.style cs) (value_spot (setting c.style cs) column l w) w))) here
-      ∙ key_marks (key_row column l) (key_comment cs l w) _ refl refl told f
+      ∙ key_marks (key_row c.style column l) (key_comment cs l w) _ refl refl told f
       (node_marks cs (value_spot (setting c.style cs) column l w) (spot ∙ (ap (λ z. value_entries c.style z w) e ∙ sym (same_value_entries c.style m (blocks_alike b)))) b d)
 
   pairs_marks : {t : List ℕ} {c : LayoutSetting} {m : ℕ} {xs ys : Pairs} {ps : List PlacedRow} (cs : List CommentValue) (column : ℕ) → column ≡ m → AlikeBlockPairs c.style c.comments cs xs ys → PairsRows t c m xs ys ps

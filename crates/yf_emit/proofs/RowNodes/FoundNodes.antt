@@ -16,6 +16,7 @@ use Rattle.yf_grammar.specs.Productions.TreesOfMeaning.{Anywhere, MeansTrees}
 use Rattle.yf_grammar.proofs.NodesInText.MeantLemmas.{entered, entered_events}
 use Rattle.yf_events.proofs.TreeLemmas.{node_unique}
 use Rattle.yf_grammar.proofs.NodesInText.NodePlaces.{NodeIsAt, is_at_nowhere, scalar_is_at, alias_is_at, sequence_is_at, mapping_is_at}
+use Rattle.yf_emit.specs.declared.style.Style.{Style}
 use Rattle.yf_emit.specs.Layouts.ReadableTrees.{is_block_style, is_inline}
 use Rattle.yf_emit.specs.NormalForms.Normal.{LayoutSetting, Spot, entry_or, inner_spot, is_implicit, key_comment, key_spot, value_of_implicit}
 use Rattle.yf_emit.specs.Nodes.OneLine.{written, props_text}
@@ -50,26 +51,26 @@ pub data HeadAt (m q e : ℕ) : List PlacedRow → Type 0 where
   head_at : {h : PlacedRow} {hs : List PlacedRow} → h.column ≡ m → h.from ≡ q → e ≤ h.upto → HeadAt m q e (h ∷ hs)
 
 -- a node on one line is as it is written from i on; a flow collection has this part of the text
-pub record NodeText (t : List ℕ) (i : ℕ) (y : Node) : Type 0 where
-  pub line : IsLineText (written y)
+pub record NodeText (house : Style) (t : List ℕ) (i : ℕ) (y : Node) : Type 0 where
+  pub line : IsLineText (written house y)
   pub follows : List ℕ
-  pub there : Rest t i (written y ++ follows)
-  pub flow : is_bracketed y ≡ true → Bracketed t i (i + length (written y)) y
+  pub there : Rest t i (written house y ++ follows)
+  pub flow : is_bracketed y ≡ true → Bracketed t i (i + length (written house y)) y
 
 -- the key is on the first of these rows, which is at the column m
-pub data KeyOn (t : List ℕ) (m : ℕ) (k : Node) : List PlacedRow → Type 0 where
-  key_on : {a b : ℕ} {h : PlacedRow} {hs : List PlacedRow} → NodeIsAt t a b k → h.from ≤ a → b < h.upto → entry_or 0 (standing k).entry ≡ h.from → h.column ≡ m → NodeText t h.from k
-      → is_some (standing k).entry ≡ true → KeyOn t m k (h ∷ hs)
+pub data KeyOn (house : Style) (t : List ℕ) (m : ℕ) (k : Node) : List PlacedRow → Type 0 where
+  key_on : {a b : ℕ} {h : PlacedRow} {hs : List PlacedRow} → NodeIsAt t a b k → h.from ≤ a → b < h.upto → entry_or 0 (standing k).entry ≡ h.from → h.column ≡ m → NodeText house t h.from k
+      → is_some (standing k).entry ≡ true → KeyOn house t m k (h ∷ hs)
 
-pub key_at : {t : List ℕ} {m : ℕ} {k : Node} {q e : ℕ} {hs : List PlacedRow} → NodeIsAt t q e k → entry_or 0 (standing k).entry ≡ q → NodeText t q k → is_some (standing k).entry ≡ true → HeadAt m q (e + 1) hs → KeyOn t m k hs
-key_at {t} {k = k} n g w some (head_at c f l) = key_on n (omega (arith, f)) (omega (arith, l)) (g ∙ sym f) c (subst (λ i. NodeText t i k) (sym f) w) some
+pub key_at : (house : Style) {t : List ℕ} {m : ℕ} {k : Node} {q e : ℕ} {hs : List PlacedRow} → NodeIsAt t q e k → entry_or 0 (standing k).entry ≡ q → NodeText house t q k → is_some (standing k).entry ≡ true → HeadAt m q (e + 1) hs → KeyOn house t m k hs
+key_at house {t} {k = k} n g w some (head_at c f l) = key_on n (omega (arith, f)) (omega (arith, l)) (g ∙ sym f) c (subst (λ i. NodeText house t i k) (sym f) w) some
 
 -- The rows of a node that was laid out at a spot.
 mutual
   pub data NodeRows (t : List ℕ) (s : LayoutSetting) : Spot → Node → Node → List PlacedRow → Type 0 where
     no_rows : {spot : Spot} {x : Node} {at : NodeOffsets} {lines : List (List ℕ)} → at.span ≡ None → NodeRows t s spot x (scalar at no_props Plain [] lines) []
-    line_rows : {spot : Spot} {a b : ℕ} {x y : Node} {p : PlacedRow} → is_inline y ≡ true → written y ≢ [] → p.items ≡ items_in y → p.leaves ≡ leaves y → p.commented ≡ false
-        → NodeIsAt t a b y → p.from ≤ a → b ≤ p.upto → p.column ≡ spot.column → NodeText t p.from y → NodeRows t s spot x y (p ∷ [])
+    line_rows : {spot : Spot} {a b : ℕ} {x y : Node} {p : PlacedRow} → is_inline y ≡ true → written s.style y ≢ [] → p.items ≡ items_in y → p.leaves ≡ leaves y → p.commented ≡ false
+        → NodeIsAt t a b y → p.from ≤ a → b ≤ p.upto → p.column ≡ spot.column → NodeText s.style t p.from y → NodeRows t s spot x y (p ∷ [])
     scalar_rows : {spot : Spot} {x : Node} {at : NodeOffsets} {props : PropsValue} {style : ScalarStyle} {text : List ℕ} {lines : List (List ℕ)} {p : PlacedRow} → is_block_style style ≡ true
         → Inside p.from p.upto (map (λ s. s.start) (spans_of_leaf at.span)) → p.items ≡ map (λ s. s.start) (spans_of_leaf at.span) → p.leaves ≡ spans_of_leaf at.span → p.commented ≡ false → NodeRows t s spot x (scalar at props style text lines) (p ∷ [])
     sequence_rows : {spot : Spot} {at bt : NodeOffsets} {props : PropsValue} {xs ys : Items} {ps : List PlacedRow} → is_block_collection (sequence bt false props ys) ≡ true → is_empty_text (props_text props) ≡ true → ItemsRows t s spot.entries xs ys ps
@@ -92,7 +93,7 @@ mutual
   pub data PairRows (t : List ℕ) (s : LayoutSetting) : ℕ → Node → Node → Node → Node → List PlacedRow → Type 0 where
     explicit_rows : {m : ℕ} {k v l w : Node} {ps hs qs gs : List PlacedRow} → is_implicit s.style m l ≡ false → NodeRows t s (key_spot s.style m k) k l ps → SignRows t (entry_start l) ps hs
         → NodeRows t s (inner_spot s.style m) v w qs → SignRows t (colon_offset (standing l).entry) qs gs → PairRows t s m k v l w (hs ++ gs)
-    implicit_rows : {m : ℕ} {k v l w : Node} {ps hs : List PlacedRow} (b : Bool) → b ≡ is_some (key_comment s.comments k v) → is_implicit s.style m l ≡ true → KeyOn t m l hs
+    implicit_rows : {m : ℕ} {k v l w : Node} {ps hs : List PlacedRow} (b : Bool) → b ≡ is_some (key_comment s.comments k v) → is_implicit s.style m l ≡ true → KeyOn s.style t m l hs
         → NodeRows t s (value_of_implicit s m k v) v w ps → KeyRows t (entry_start l ++ items_in l) (leaves l) b (begins_below w) ps hs → PairRows t s m k v l w hs
 
   pub data PairsRows (t : List ℕ) (s : LayoutSetting) : ℕ → Pairs → Pairs → List PlacedRow → Type 0 where
@@ -151,13 +152,13 @@ inline_entered e (alias at name) f = f
 inline_entered e (sequence at flow props xs) f = f
 inline_entered e (mapping at flow props ps) f = f
 
-written_entered : (e : Entry) (y : Node) → written (entered e y) ≡ written y
-written_entered e (scalar at props style text lines) = refl
-written_entered e (alias at name) = refl
-written_entered e (sequence at flow props no_items) = refl
-written_entered e (sequence at flow props (item x xs)) = refl
-written_entered e (mapping at flow props no_pairs) = refl
-written_entered e (mapping at flow props (pair k v ps)) = refl
+written_entered : (house : Style) (e : Entry) (y : Node) → written house (entered e y) ≡ written house y
+written_entered house e (scalar at props style text lines) = refl
+written_entered house e (alias at name) = refl
+written_entered house e (sequence at flow props no_items) = refl
+written_entered house e (sequence at flow props (item x xs)) = refl
+written_entered house e (mapping at flow props no_pairs) = refl
+written_entered house e (mapping at flow props (pair k v ps)) = refl
 
 items_entered : (e : Entry) (y : Node) → items_in (entered e y) ≡ items_in y
 items_entered e (scalar at props style text lines) = refl
@@ -202,9 +203,9 @@ block_entered e (sequence at flow props (item x xs)) f = f
 block_entered e (mapping at flow props no_pairs) f = f
 block_entered e (mapping at flow props (pair k v ps)) f = f
 
-text_entered : {t : List ℕ} {i : ℕ} (e : Entry) (y : Node) → NodeText t i y → NodeText t i (entered e y)
-text_entered {t} {i} e y a =
-    let same : written y ≡ written (entered e y) = sym (written_entered e y) in
+text_entered : (house : Style) {t : List ℕ} {i : ℕ} (e : Entry) (y : Node) → NodeText house t i y → NodeText house t i (entered e y)
+text_entered house {t} {i} e y a =
+    let same : written house y ≡ written house (entered e y) = sym (written_entered house e y) in
     record {
       line = subst (λ w. IsLineText w) same a.line;
       follows = a.follows;
@@ -214,8 +215,8 @@ text_entered {t} {i} e y a =
 
 pub rows_entered : {t : List ℕ} {s : LayoutSetting} {spot : Spot} {x y : Node} {ps : List PlacedRow} (e : Entry) → NodeRows t s spot x y ps → NodeRows t s spot x (entered e y) ps
 rows_entered e (no_rows q) = no_rows q
-rows_entered e (line_rows {y = y} f n g h i st j k c w) =
-    line_rows (inline_entered e y f) (λ z. n (sym (written_entered e y) ∙ z)) (g ∙ sym (items_entered e y)) (h ∙ sym (leaves_entered e y)) i (is_at_entered e st) j k c (text_entered e y w)
+rows_entered {s = s} e (line_rows {y = y} f n g h i st j k c w) =
+    line_rows (inline_entered e y f) (λ z. n (sym (written_entered s.style e y) ∙ z)) (g ∙ sym (items_entered e y)) (h ∙ sym (leaves_entered e y)) i (is_at_entered e st) j k c (text_entered s.style e y w)
 rows_entered e (scalar_rows f n g h i) = scalar_rows f n g h i
 rows_entered e (sequence_rows {bt = bt} {props = props} {ys = ys} b f a) = sequence_rows (block_entered e (sequence bt false props ys) b) f a
 rows_entered e (sequence_after {bt = bt} {props = props} {ys = ys} b f g h i a) = sequence_after (block_entered e (sequence bt false props ys) b) f g h i a
@@ -345,7 +346,7 @@ module _ {t : List ℕ} {s : LayoutSetting} {m : ℕ} where
 
   -- an implicit key, which begins at q and whose `:` is at colon, and its value
   pub found_implicit : {k v : Node} {two : Meaning} {ps hs : List PlacedRow} (one : Meaning) (q colon : ℕ) (key : Node) (b : Bool) → b ≡ is_some (key_comment s.comments k v) → is_implicit s.style m k ≡ true → Alike Anywhere k key → one.events ≡ flat key → one.escapes ≡ []
-      → NodeIsAt t q colon key → NodeText t q key → HeadAt m q (colon + 1) hs → FoundNode t s (value_of_implicit s m k v) v two ps → KeyRows t (q ∷ items_in key) (leaves key) b (begins_below v) ps hs
+      → NodeIsAt t q colon key → NodeText s.style t q key → HeadAt m q (colon + 1) hs → FoundNode t s (value_of_implicit s m k v) v two ps → KeyRows t (q ∷ items_in key) (leaves key) b (begins_below v) ps hs
       → FoundPair t s m k v (entering q (Some colon) one ⊕ two) hs
   unfolding entering ◌⊕◌
   found_implicit {k} {v} {two} {ps} {hs} one q colon key b flag e a events escapes st text head value rows =
@@ -365,5 +366,5 @@ module _ {t : List ℕ} {s : LayoutSetting} {m : ℕ} where
         events = ap (λ z. z ++ two.events) (ap (first_entering entry) events ∙ entered_events entry key) ∙ ap (λ z. flat (entered entry key) ++ z) value.events;
         escapes = ap (λ z. z ++ two.escapes) escapes ∙ value.escapes;
         rows = implicit_rows b flag (sym (same_implicit s.style m alike) ∙ e)
-            (key_at (is_at_entered entry st) (ap (λ o. entry_or 0 o) (entry_entered entry key)) (text_entered entry key text) (ap (λ o. is_some o) (entry_entered entry key)) head) value.rows moved;
+            (key_at s.style (is_at_entered entry st) (ap (λ o. entry_or 0 o) (entry_entered entry key)) (text_entered s.style entry key text) (ap (λ o. is_some o) (entry_entered entry key)) head) value.rows moved;
       }

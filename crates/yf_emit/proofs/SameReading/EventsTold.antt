@@ -105,22 +105,22 @@ pub told_scalars : (es fs : List EventInText) → told_in es ≡ told_in fs → 
 told_scalars es fs e = sym (scalars_of_told es) ∙ (ap (λ ws. flat_map (λ (w : Told). block_scalar_of w.0 w.1) ws) e ∙ scalars_of_told fs)
 
 -- and the pieces that are written
-unmarked_pieces : (v : EventValue) → pieces_of_event (unmarked_value v) ≡ pieces_of_event v
-unmarked_pieces stream_starts = refl
-unmarked_pieces stream_ends = refl
-unmarked_pieces (document_starts marked) = refl
-unmarked_pieces (document_ends marked) = refl
-unmarked_pieces (sequence_starts flow props) = refl
-unmarked_pieces sequence_ends = refl
-unmarked_pieces (mapping_starts flow props) = refl
-unmarked_pieces mapping_ends = refl
-unmarked_pieces (scalar_node props style text) = refl
-unmarked_pieces (alias_node name) = refl
+unmarked_pieces : (house : Style) (v : EventValue) → pieces_of_event house (unmarked_value v) ≡ pieces_of_event house v
+unmarked_pieces house stream_starts = refl
+unmarked_pieces house stream_ends = refl
+unmarked_pieces house (document_starts marked) = refl
+unmarked_pieces house (document_ends marked) = refl
+unmarked_pieces house (sequence_starts flow props) = refl
+unmarked_pieces house sequence_ends = refl
+unmarked_pieces house (mapping_starts flow props) = refl
+unmarked_pieces house mapping_ends = refl
+unmarked_pieces house (scalar_node props style text) = refl
+unmarked_pieces house (alias_node name) = refl
 
-pieces_of_told : (es : List EventInText) → flat_map (λ (w : Told). pieces_of_event w.0) (told_in es) ≡ pieces_in es
-pieces_of_told [] = refl
-pieces_of_told (e ∷ es) =
-    ap (λ w. w ++ flat_map (λ (w : Told). pieces_of_event w.0) (told_in es)) (unmarked_pieces e.event) ∙ ap (λ w. pieces_of_event e.event ++ w) (pieces_of_told es)
+pieces_of_told : (house : Style) (es : List EventInText) → flat_map (λ (w : Told). pieces_of_event house w.0) (told_in es) ≡ pieces_in house es
+pieces_of_told house [] = refl
+pieces_of_told house (e ∷ es) =
+    ap (λ w. w ++ flat_map (λ (w : Told). pieces_of_event house w.0) (told_in es)) (unmarked_pieces house e.event) ∙ ap (λ w. pieces_of_event house e.event ++ w) (pieces_of_told house es)
 
-pub told_pieces : (es fs : List EventInText) → told_in es ≡ told_in fs → pieces_in es ≡ pieces_in fs
-told_pieces es fs e = sym (pieces_of_told es) ∙ (ap (λ ws. flat_map (λ (w : Told). pieces_of_event w.0) ws) e ∙ pieces_of_told fs)
+pub told_pieces : (house : Style) (es fs : List EventInText) → told_in es ≡ told_in fs → pieces_in house es ≡ pieces_in house fs
+told_pieces house es fs e = sym (pieces_of_told house es) ∙ (ap (λ ws. flat_map (λ (w : Told). pieces_of_event house w.0) ws) e ∙ pieces_of_told house fs)

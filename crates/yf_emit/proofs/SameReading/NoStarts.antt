@@ -6,6 +6,7 @@ use Rattle.yf_comments.specs.Comment.{CommentValue}
 use Rattle.yf_events.specs.Tree.{Node, scalar, alias, sequence, mapping, Items, no_items, item, Pairs, no_pairs, pair}
 use Rattle.yf_events.specs.declared.directive.Directive.{Directive}
 use Rattle.yf_events.specs.declared.event.ScalarStyle.TheVariants.{Plain, Single, Double, Literal, Folded}
+use Rattle.yf_emit.specs.declared.style.Style.{Style}
 use Rattle.yf_emit.proofs.SameReading.RowSteps.{begins_after, documents_begin, steps_with, begins_on}
 use Rattle.yf_emit.specs.Nodes.BlockLines.{final_feeds, is_kept_tail}
 use Rattle.yf_emit.specs.Layouts.RowComments.{carried_texts, comments_in}
@@ -48,29 +49,29 @@ tail_none : (b : Bool) → begins_after (tail_ending b) ≡ []
 tail_none true = refl
 tail_none false = refl
 
-key_none : (column : ℕ) (k : Node) (o : Option CommentValue) (below : Bool) (xs : List Row) → NoStarts xs → NoStarts (after_key (key_row column k) o below xs)
-key_none column k (Some c) below xs a = no_start_on refl a
-key_none column k None true xs a = no_start_on refl a
-key_none column k None false xs a = joined_none (key_row column k) 1 xs refl a
+key_none : (house : Style) (column : ℕ) (k : Node) (o : Option CommentValue) (below : Bool) (xs : List Row) → NoStarts xs → NoStarts (after_key (key_row house column k) o below xs)
+key_none house column k (Some c) below xs a = no_start_on refl a
+key_none house column k None true xs a = no_start_on refl a
+key_none house column k None false xs a = joined_none (key_row house column k) 1 xs refl a
 
 pair_none : (c : LayoutSetting) (column : ℕ) (k v : Node) (xs ys : List Row) → NoStarts xs → NoStarts ys → NoStarts (pair_rows c column k v xs ys)
 pair_none c column k v xs ys a b = by (is_implicit c.style column k) where
   by : (p : Bool) → NoStarts (if p then implicit_pair c column k v ys else explicit_pair c.style column k xs ys)
-  by true = key_none column k (key_comment c.comments k v) (begins_below v) ys b
+  by true = key_none c.style column k (key_comment c.comments k v) (begins_below v) ys b
   by false =
       starts_none (joined_none (entry_row column (codes "?") k) (c.style.indent - 1) xs refl a) (joined_none (colon_row column k) (c.style.indent - 1) ys refl b)
 
 mutual
   pub rows_none : (c : LayoutSetting) (spot : Spot) (x : Node) → NoStarts (rows c spot x)
-  rows_none c spot (scalar at props Plain text lines) = line_none spot.column (scalar at props Plain text lines) (written (scalar at props Plain text lines))
-  rows_none c spot (scalar at props Single text lines) = line_none spot.column (scalar at props Single text lines) (written (scalar at props Single text lines))
-  rows_none c spot (scalar at props Double text lines) = line_none spot.column (scalar at props Double text lines) (written (scalar at props Double text lines))
+  rows_none c spot (scalar at props Plain text lines) = line_none spot.column (scalar at props Plain text lines) (written c.style (scalar at props Plain text lines))
+  rows_none c spot (scalar at props Single text lines) = line_none spot.column (scalar at props Single text lines) (written c.style (scalar at props Single text lines))
+  rows_none c spot (scalar at props Double text lines) = line_none spot.column (scalar at props Double text lines) (written c.style (scalar at props Double text lines))
   rows_none c spot (scalar at props Literal text lines) = no_start_on (tail_none (is_kept_tail (final_feeds text))) no_starts
   rows_none c spot (scalar at props Folded text lines) = no_start_on (tail_none (is_kept_tail (final_feeds text))) no_starts
-  rows_none c spot (alias at name) = line_none spot.column (alias at name) (written (alias at name))
-  rows_none c spot (sequence at true props items) = line_none spot.column (sequence at true props items) (written (sequence at true props items))
+  rows_none c spot (alias at name) = line_none spot.column (alias at name) (written c.style (alias at name))
+  rows_none c spot (sequence at true props items) = line_none spot.column (sequence at true props items) (written c.style (sequence at true props items))
   rows_none c spot (sequence at false props items) = starts_none (props_none spot.column (props_text props)) (items_none c spot.entries items)
-  rows_none c spot (mapping at true props pairs) = line_none spot.column (mapping at true props pairs) (written (mapping at true props pairs))
+  rows_none c spot (mapping at true props pairs) = line_none spot.column (mapping at true props pairs) (written c.style (mapping at true props pairs))
   rows_none c spot (mapping at false props pairs) = starts_none (props_none spot.column (props_text props)) (pairs_none c spot.entries pairs)
 
   items_none : (c : LayoutSetting) (column : ℕ) (xs : Items) → NoStarts (rows_of_items c column xs)

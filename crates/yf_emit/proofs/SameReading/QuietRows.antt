@@ -55,7 +55,7 @@ module _ (c : LayoutSetting) (column : ℕ) {i l m n : ℕ} (k v : Node) (a : Pa
 
   -- where a comment trails the key
   commented : (spot : Spot) (d : CommentValue) (b : Bool) → is_text v || is_filled_flow v ≡ b → (if b then first_between c.comments (key_start k) (leaves v) else None) ≡ Some d → OneLine c.comments a.entry.start l k
-      → RowsFit c.comments (record (key_row column k) { key_comment = Some d; ending = before_node } ∷ rows c spot v)
+      → RowsFit c.comments (record (key_row c.style column k) { key_comment = Some d; ending = before_node } ∷ rows c spot v)
   commented spot d false h e line = absurd cc
   commented spot d true h e line = go (rows c spot v) (a.leaves_are spot) (first_of c spot v a.house (whole_not_below v h)) (a.value.fits spot) where
     s : Span
@@ -73,7 +73,7 @@ module _ (c : LayoutSetting) (column : ℕ) {i l m n : ℕ} (k v : Node) (a : Pa
     start_is : entry_start k ≡ a.entry.start ∷ []
     start_is = ap starts_of_entry a.is
 
-    keyed : (ks : List Span) → leaves k ≡ ks → (rest : List Row) (row : Row) → row.leaves ≡ s ∷ ss → KeyFits c.comments (record (key_row column k) { key_comment = Some d; ending = before_node }) (row ∷ rest)
+    keyed : (ks : List Span) → leaves k ≡ ks → (rest : List Row) (row : Row) → row.leaves ≡ s ∷ ss → KeyFits c.comments (record (key_row c.style column k) { key_comment = Some d; ending = before_node }) (row ∷ rest)
     keyed [] q rest row f =
         let at : key_start k ≡ a.entry.start = ap (last_start (entry_or 0 (standing k).entry)) q ∙ ap (entry_or 0) a.is in
         let alone : entry_start k ++ items_in k ≡ a.entry.start ∷ [] = ap (λ w. entry_start k ++ w) (line.bare q) ∙ (append-nil (entry_start k) ∙ start_is) in
@@ -83,13 +83,13 @@ module _ (c : LayoutSetting) (column : ℕ) {i l m n : ℕ} (k v : Node) (a : Pa
         let here : Sub (key_start k ∷ []) (starts_of (leaves k)) = subst (λ w. Sub (last_start (entry_or 0 (standing k).entry) w ∷ []) (starts_of w)) (sym q) (last_among (entry_or 0 (standing k).entry) r rs) in
         a_key d (key_start k) s ss refl (sub_after (entry_start k) (sub_twice here line.fits.among)) (line.free (key_start k) here) (inl here) f found
 
-    go : (xs : List Row) → leaves_on xs ≡ leaves v → FirstOf v xs → RowsFit c.comments xs → RowsFit c.comments (record (key_row column k) { key_comment = Some d; ending = before_node } ∷ xs)
+    go : (xs : List Row) → leaves_on xs ≡ leaves v → FirstOf v xs → RowsFit c.comments xs → RowsFit c.comments (record (key_row c.style column k) { key_comment = Some d; ending = before_node } ∷ xs)
     go [] f none g = absurd (let w : [] ≡ s ∷ ss = f ∙ some in cc)
     go (x ∷ xs) f (bare_first p q r z) g = absurd (true≢false (sym h ∙ p))
     go (x ∷ xs) f (whole_first p q r z) g = row_fits (key_fits line) (keyed (leaves k) refl xs x (r ∙ some)) g
 
   -- beside it
-  beside : (spot : Spot) → key_comment c.comments k v ≡ None → OneLine c.comments a.entry.start l k → (xs : List Row) → FirstOf v xs → Rises m (items_on xs) n → RowsFit c.comments xs → RowsFit c.comments (joined (key_row column k) 1 xs)
+  beside : (spot : Spot) → key_comment c.comments k v ≡ None → OneLine c.comments a.entry.start l k → (xs : List Row) → FirstOf v xs → Rises m (items_on xs) n → RowsFit c.comments xs → RowsFit c.comments (joined (key_row c.style column k) 1 xs)
   beside spot e line [] f r g = row_fits (key_fits line) (no_key refl) no_rows_fit
   beside spot e line (x ∷ xs) (bare_first b p q z) r (row_fits h y more) =
       let none : entry_start k ++ items_in k ++ x.items ≡ entry_start k ++ items_in k = ap (λ w. entry_start k ++ items_in k ++ w) p ∙ append-nil (entry_start k ++ items_in k) in
@@ -109,16 +109,16 @@ module _ (c : LayoutSetting) (column : ℕ) {i l m n : ℕ} (k v : Node) (a : Pa
       (no_key z) more
 
   implicit_fit : (spot : Spot) → OneLine c.comments a.entry.start l k → (o : Option CommentValue) → key_comment c.comments k v ≡ o → (below : Bool) → begins_below v ≡ below
-      → RowsFit c.comments (after_key (key_row column k) o below (rows c spot v))
+      → RowsFit c.comments (after_key (key_row c.style column k) o below (rows c spot v))
   implicit_fit spot line (Some d) e below f = commented spot d (is_text v || is_filled_flow v) refl e line
   implicit_fit spot line None e true f = row_fits (key_fits line) (no_key refl) (a.value.fits spot)
   implicit_fit spot line None e false f = beside spot e line (rows c spot v) (first_of c spot v a.house f) (a.value.rises spot) (a.value.fits spot)
 
-  implicit_rises : (spot : Spot) → OneLine c.comments a.entry.start l k → (o : Option CommentValue) (below : Bool) → Rises i (items_on (after_key (key_row column k) o below (rows c spot v))) n
+  implicit_rises : (spot : Spot) → OneLine c.comments a.entry.start l k → (o : Option CommentValue) (below : Bool) → Rises i (items_on (after_key (key_row c.style column k) o below (rows c spot v))) n
   implicit_rises spot line (Some d) below = rises_join (key_row_rises line) (value_rises spot)
   implicit_rises spot line None true = rises_join (key_row_rises line) (value_rises spot)
   implicit_rises spot line None false =
-      subst (λ z. Rises i z n) (sym (items_joined (key_row column k) 1 (rows c spot v))) (rises_join (key_row_rises line) (value_rises spot))
+      subst (λ z. Rises i z n) (sym (items_joined (key_row c.style column k) 1 (rows c spot v))) (rises_join (key_row_rises line) (value_rises spot))
 
   -- with `?` and `:`
   question : (key : NodeFlows c a.entry.start l k) → Rises i (items_on (after_sign c.style (entry_row column (codes "?") k) (rows c (key_spot c.style column k) k))) l

@@ -38,49 +38,49 @@ same_colon (alike_sequences e a) = refl
 same_colon (alike_mappings e a) = refl
 
 -- the text of a node within a collection, with its properties, and r after it
-in_collection : {K : Node → Node → Node → Node → Type 0} {x y : Node} (r s : List ℕ) → Alike K x y → bare x ≡ bare y → r ≡ s
-    → spaced (props_text (props_of x)) (bare x) ++ r ≡ spaced (props_text (props_of y)) (bare y) ++ s
-in_collection {x = x} {y = y} r s a e p =
-    ap (λ z. spaced (props_text z) (bare x) ++ r) (same_props a)
-    ∙ (ap (λ z. spaced (props_text (props_of y)) z ++ r) e ∙ ap (λ z. spaced (props_text (props_of y)) (bare y) ++ z) p)
+in_collection : (house : Style) {K : Node → Node → Node → Node → Type 0} {x y : Node} (r s : List ℕ) → Alike K x y → bare house x ≡ bare house y → r ≡ s
+    → spaced (props_text (props_of x)) (bare house x) ++ r ≡ spaced (props_text (props_of y)) (bare house y) ++ s
+in_collection house {x = x} {y = y} r s a e p =
+    ap (λ z. spaced (props_text z) (bare house x) ++ r) (same_props a)
+    ∙ (ap (λ z. spaced (props_text (props_of y)) z ++ r) e ∙ ap (λ z. spaced (props_text (props_of y)) (bare house y) ++ z) p)
 
 -- of a key with its value
-in_mapping : {K : Node → Node → Node → Node → Type 0} {k l v w : Node} (r s : List ℕ) → Alike K k l → Alike K v w → bare k ≡ bare l → bare v ≡ bare w → r ≡ s
-    → spaced (props_text (props_of k)) (bare k) ++ (colon_after k ++ (codes " " ++ (spaced (props_text (props_of v)) (bare v) ++ r)))
-    ≡ spaced (props_text (props_of l)) (bare l) ++ (colon_after l ++ (codes " " ++ (spaced (props_text (props_of w)) (bare w) ++ s)))
-in_mapping {k = k} {l = l} {v = v} {w = w} r s a b e f p =
-    let value = in_collection r s b f p in
-    in_collection _ _ a e
-    (ap (λ z. z ++ (codes " " ++ (spaced (props_text (props_of v)) (bare v) ++ r))) (same_colon a)
+in_mapping : (house : Style) {K : Node → Node → Node → Node → Type 0} {k l v w : Node} (r s : List ℕ) → Alike K k l → Alike K v w → bare house k ≡ bare house l → bare house v ≡ bare house w → r ≡ s
+    → spaced (props_text (props_of k)) (bare house k) ++ (colon_after k ++ (codes " " ++ (spaced (props_text (props_of v)) (bare house v) ++ r)))
+    ≡ spaced (props_text (props_of l)) (bare house l) ++ (colon_after l ++ (codes " " ++ (spaced (props_text (props_of w)) (bare house w) ++ s)))
+in_mapping house {k = k} {l = l} {v = v} {w = w} r s a b e f p =
+    let value = in_collection house r s b f p in
+    in_collection house _ _ a e
+    (ap (λ z. z ++ (codes " " ++ (spaced (props_text (props_of v)) (bare house v) ++ r))) (same_colon a)
     ∙ ap (λ z. colon_after l ++ (codes " " ++ z)) value)
 
 mutual
-  pub same_bare : {K : Node → Node → Node → Node → Type 0} {x y : Node} → Alike K x y → bare x ≡ bare y
-  same_bare (alike_scalars e) = refl
-  same_bare (alike_aliases e) = refl
-  same_bare (alike_sequences e alike_nothing) = refl
-  same_bare (alike_sequences e (alike_item {xs = xs} {ys = ys} a rest)) =
-      ap (λ z. codes "[" ++ z) (in_collection _ _ a (same_bare a) (ap (λ z. z ++ codes "]") (same_items rest)))
-  same_bare (alike_mappings e alike_no_pairs) = refl
-  same_bare (alike_mappings e (alike_pair a b k rest)) =
-      ap (λ z. codes "{" ++ z) (in_mapping _ _ a b (same_bare a) (same_bare b) (ap (λ z. z ++ codes "}") (same_pairs rest)))
+  pub same_bare : (house : Style) {K : Node → Node → Node → Node → Type 0} {x y : Node} → Alike K x y → bare house x ≡ bare house y
+  same_bare house (alike_scalars e) = refl
+  same_bare house (alike_aliases e) = refl
+  same_bare house (alike_sequences e alike_nothing) = refl
+  same_bare house (alike_sequences e (alike_item {xs = xs} {ys = ys} a rest)) =
+      ap (λ z. codes "[" ++ z) (in_collection house _ _ a (same_bare house a) (ap (λ z. z ++ codes "]") (same_items house rest)))
+  same_bare house (alike_mappings e alike_no_pairs) = refl
+  same_bare house (alike_mappings e (alike_pair a b k rest)) =
+      ap (λ z. codes "{" ++ z) (in_mapping house _ _ a b (same_bare house a) (same_bare house b) (ap (λ z. z ++ codes "}") (same_pairs house rest)))
 
-  same_items : {K : Node → Node → Node → Node → Type 0} {xs ys : Items} → AlikeItems K xs ys → more_items xs ≡ more_items ys
-  same_items alike_nothing = refl
-  same_items (alike_item a rest) = ap (λ z. codes ", " ++ z) (in_collection _ _ a (same_bare a) (same_items rest))
+  same_items : (house : Style) {K : Node → Node → Node → Node → Type 0} {xs ys : Items} → AlikeItems K xs ys → more_items house xs ≡ more_items house ys
+  same_items house alike_nothing = refl
+  same_items house (alike_item a rest) = ap (λ z. codes ", " ++ z) (in_collection house _ _ a (same_bare house a) (same_items house rest))
 
-  same_pairs : {K : Node → Node → Node → Node → Type 0} {ps qs : Pairs} → AlikePairs K ps qs → more_pairs ps ≡ more_pairs qs
-  same_pairs alike_no_pairs = refl
-  same_pairs (alike_pair a b k rest) = ap (λ z. codes ", " ++ z) (in_mapping _ _ a b (same_bare a) (same_bare b) (same_pairs rest))
+  same_pairs : (house : Style) {K : Node → Node → Node → Node → Type 0} {ps qs : Pairs} → AlikePairs K ps qs → more_pairs house ps ≡ more_pairs house qs
+  same_pairs house alike_no_pairs = refl
+  same_pairs house (alike_pair a b k rest) = ap (λ z. codes ", " ++ z) (in_mapping house _ _ a b (same_bare house a) (same_bare house b) (same_pairs house rest))
 
-pub same_written : {K : Node → Node → Node → Node → Type 0} {x y : Node} → Alike K x y → written x ≡ written y
-same_written {x = x} {y = y} a =
-    ap (λ z. spaced (props_text z) (bare x)) (same_props a) ∙ ap (λ z. spaced (props_text (props_of y)) z) (same_bare a)
+pub same_written : (house : Style) {K : Node → Node → Node → Node → Type 0} {x y : Node} → Alike K x y → written house x ≡ written house y
+same_written house {x = x} {y = y} a =
+    ap (λ z. spaced (props_text z) (bare house x)) (same_props a) ∙ ap (λ z. spaced (props_text (props_of y)) z) (same_bare house a)
 
 -- Widths, and what is decided by them.
 
 pub same_fit : {K : Node → Node → Node → Node → Type 0} {x y : Node} (s : Style) (column : ℕ) → Alike K x y → fits s column x ≡ fits s column y
-same_fit s column a = ap (λ z. nat_le (column + width z) s.max_line) (same_written a)
+same_fit s column a = ap (λ z. nat_le (column + width z) s.max_line) (same_written s a)
 
 same_one_line_key : {K : Node → Node → Node → Node → Type 0} {x y : Node} (s : Style) (column : ℕ) → Alike K x y
     → is_one_line_key s column x ≡ is_one_line_key s column y
@@ -102,8 +102,8 @@ same_one_line_key s column (alike_mappings {at = at} {bt = bt} {flow = flow} {pr
 pub same_implicit : {K : Node → Node → Node → Node → Type 0} {x y : Node} (s : Style) (column : ℕ) → Alike K x y
     → is_implicit s column x ≡ is_implicit s column y
 same_implicit {x = x} {y = y} s column a =
-    ap (λ z. z && nat_le (width (written x)) 1023) (same_one_line_key s column a)
-    ∙ ap (λ z. is_one_line_key s column y && nat_le (width z) 1023) (same_written a)
+    ap (λ z. z && nat_le (width (written s x)) 1023) (same_one_line_key s column a)
+    ∙ ap (λ z. is_one_line_key s column y && nat_le (width z) 1023) (same_written s a)
 
 -- Kinds of nodes, and how many leaves they have.
 
@@ -188,9 +188,9 @@ same_key_spot s column a =
 same_value_column : {K : Node → Node → Node → Node → Type 0} {k l : Node} (cs ds : List CommentValue) (v w : Node) (s : Style) (column : ℕ) → Alike K k l
     → is_some (key_comment cs k v) ≡ is_some (key_comment ds l w) → value_column (setting s cs) column k v ≡ value_column (setting s ds) column l w
 same_value_column {k = k} {l = l} cs ds v w s column a e =
-    ap (λ z. if z then column + s.indent else column + width (written k) + width (colon_after k) + 1) e
-    ∙ (ap (λ z. if is_some (key_comment ds l w) then column + s.indent else column + width z + width (colon_after k) + 1) (same_written a)
-    ∙ ap (λ z. if is_some (key_comment ds l w) then column + s.indent else column + width (written l) + width z + 1) (same_colon a))
+    ap (λ z. if z then column + s.indent else column + width (written s k) + width (colon_after k) + 1) e
+    ∙ (ap (λ z. if is_some (key_comment ds l w) then column + s.indent else column + width z + width (colon_after k) + 1) (same_written s a)
+    ∙ ap (λ z. if is_some (key_comment ds l w) then column + s.indent else column + width (written s l) + width z + 1) (same_colon a))
 
 pub same_value_entries : {K : Node → Node → Node → Node → Type 0} {v w : Node} (s : Style) (column : ℕ) → Alike K v w
     → value_entries s column v ≡ value_entries s column w
@@ -268,16 +268,16 @@ unfolding text_shape
 same_one_row column x y [] e = refl
 same_one_row column x y (b ∷ text) e = ap (λ z. text_shape column (b ∷ text) z ∷ []) e
 
-pub same_row : {K : Node → Node → Node → Node → Type 0} {x y : Node} (spot : Spot) → Alike K x y → shapes (one_line spot x) ≡ shapes (one_line spot y)
-same_row {x = x} {y = y} spot a =
-    same_one_row spot.column x y (written x) (same_leaves a) ∙ ap (λ z. shapes (one_line_row spot.column y z)) (same_written a)
+pub same_row : (house : Style) {K : Node → Node → Node → Node → Type 0} {x y : Node} (spot : Spot) → Alike K x y → shapes (one_line house spot x) ≡ shapes (one_line house spot y)
+same_row house {x = x} {y = y} spot a =
+    same_one_row spot.column x y (written house x) (same_leaves a) ∙ ap (λ z. shapes (one_line_row spot.column y z)) (same_written house a)
 
-same_key_row : {K : Node → Node → Node → Node → Type 0} {k l : Node} (column : ℕ) → Alike K k l → shape_of (key_row column k) ≡ shape_of (key_row column l)
+same_key_row : (house : Style) {K : Node → Node → Node → Node → Type 0} {k l : Node} (column : ℕ) → Alike K k l → shape_of (key_row house column k) ≡ shape_of (key_row house column l)
 unfolding text_shape
-same_key_row {k = k} {l = l} column a =
-    ap (λ z. text_shape column (z ++ colon_after k) (length (leaves k))) (same_written a)
-    ∙ (ap (λ z. text_shape column (written l ++ z) (length (leaves k))) (same_colon a)
-    ∙ ap (λ z. text_shape column (written l ++ colon_after l) z) (same_leaves a))
+same_key_row house {k = k} {l = l} column a =
+    ap (λ z. text_shape column (z ++ colon_after k) (length (leaves k))) (same_written house a)
+    ∙ (ap (λ z. text_shape column (written house l ++ z) (length (leaves k))) (same_colon a)
+    ∙ ap (λ z. text_shape column (written house l ++ colon_after l) z) (same_leaves a))
 
 same_block_scalar : (s : Style) (spot : Spot) (x y : Node) (props : PropsValue) (style : ScalarStyle) (text : List ℕ) (lines : List (List ℕ))
     → length (leaves x) ≡ length (leaves y) → shapes (block_scalar s spot x props style text lines) ≡ shapes (block_scalar s spot y props style text lines)
@@ -295,9 +295,9 @@ same_block_scalar s spot x y props style text lines e =
 pub same_scalar : {K : Node → Node → Node → Node → Type 0} {at bt : NodeOffsets} {props : PropsValue} {text : List ℕ} {lines : List (List ℕ)} (s : Style) (spot : Spot)
     (style : ScalarStyle) → Alike K (scalar at props style text lines) (scalar bt props style text lines)
     → shapes (scalar_rows s spot (scalar at props style text lines) props style text lines) ≡ shapes (scalar_rows s spot (scalar bt props style text lines) props style text lines)
-same_scalar s spot Plain a = same_row spot a
-same_scalar s spot Single a = same_row spot a
-same_scalar s spot Double a = same_row spot a
+same_scalar s spot Plain a = same_row s spot a
+same_scalar s spot Single a = same_row s spot a
+same_scalar s spot Double a = same_row s spot a
 same_scalar {at = at} {bt = bt} {props = props} {text = text} {lines = lines} s spot Literal a =
     same_block_scalar s spot (scalar at props Literal text lines) (scalar bt props Literal text lines) props Literal text lines (same_leaves a)
 same_scalar {at = at} {bt = bt} {props = props} {text = text} {lines = lines} s spot Folded a =
@@ -309,8 +309,8 @@ pub same_pair_rows : {K : Node → Node → Node → Node → Type 0} {cs ds : L
 same_pair_rows {cs = cs} {ds = ds} {k = k} {l = l} {v = v} {w = w} s column kr lr vr wr a b g e f = by_form (is_implicit s column k) refl where
   implicit : is_implicit s column k ≡ true → shapes (implicit_pair (setting s cs) column k v vr) ≡ shapes (implicit_pair (setting s ds) column l w wr)
   implicit h =
-      same_after (key_row column k) (key_row column l) (key_comment cs k v) (key_comment ds l w) (begins_below v) (begins_below w) vr wr
-      (same_key_row column a) (g.comment column h) (same_below b) f
+      same_after (key_row s column k) (key_row s column l) (key_comment cs k v) (key_comment ds l w) (begins_below v) (begins_below w) vr wr
+      (same_key_row s column a) (g.comment column h) (same_below b) f
 
   explicit : shapes (explicit_pair s column k kr vr) ≡ shapes (explicit_pair s column l lr wr)
   explicit =

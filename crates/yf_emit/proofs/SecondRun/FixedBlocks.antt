@@ -85,13 +85,13 @@ mutual
 line_rows : {x y : Node} (cs ds : List CommentValue) (s : Style) (spot : Spot) → Alike Anywhere x y → is_block_collection x ≡ false → shapes (rows (setting s cs) spot x) ≡ shapes (rows (setting s ds) spot y)
 line_rows cs ds s spot (alike_scalars {at = at} {bt = bt} {props = props} {style = style} {text = text} {lines = lines} e) n =
     same_scalar {K = Anywhere} {at = at} {bt = bt} {props = props} {text = text} {lines = lines} s spot style (alike_scalars e)
-line_rows cs ds s spot (alike_aliases {at = at} {bt = bt} {name = name} e) n = same_row {K = Anywhere} {x = alias at name} {y = alias bt name} spot (alike_aliases e)
+line_rows cs ds s spot (alike_aliases {at = at} {bt = bt} {name = name} e) n = same_row s {K = Anywhere} {x = alias at name} {y = alias bt name} spot (alike_aliases e)
 line_rows cs ds s spot (alike_sequences {at = at} {bt = bt} {flow = true} {props = props} {xs = xs} {ys = ys} e a) n =
-    same_row {K = Anywhere} {x = sequence at true props xs} {y = sequence bt true props ys} spot (alike_sequences e a)
+    same_row s {K = Anywhere} {x = sequence at true props xs} {y = sequence bt true props ys} spot (alike_sequences e a)
 line_rows cs ds s spot (alike_sequences {flow = false} e alike_nothing) n = refl
 line_rows cs ds s spot (alike_sequences {flow = false} e (alike_item a more)) n = absurd (true≢false n)
 line_rows cs ds s spot (alike_mappings {at = at} {bt = bt} {flow = true} {props = props} {ps = ps} {qs = qs} e a) n =
-    same_row {K = Anywhere} {x = mapping at true props ps} {y = mapping bt true props qs} spot (alike_mappings e a)
+    same_row s {K = Anywhere} {x = mapping at true props ps} {y = mapping bt true props qs} spot (alike_mappings e a)
 line_rows cs ds s spot (alike_mappings {flow = false} e alike_no_pairs) n = refl
 line_rows cs ds s spot (alike_mappings {flow = false} e (alike_pair a b g more)) n = absurd (true≢false n)
 

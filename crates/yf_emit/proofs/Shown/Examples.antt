@@ -5,6 +5,7 @@ use Rattle.yf_chars.specs.Escape.{upper_digit, short_name, is_by_two, is_by_four
 use Rattle.yf_chars.specs.Text.{begins, code}
 use Rattle.std.specs.Str.{chars}
 use Rattle.yf_lines.specs.Steady.{is_steady, has_line_feed, ends_with_colon, is_only, is_marker_of}
+use Rattle.yf_lines.specs.declared.invisible.Invisible.{Invisible}
 use Rattle.yf_lines.specs.declared.quotes.Quotes.{Quotes}
 use Rattle.yf_props.specs.Props.{PropsValue, TagValue, no_props}
 use Rattle.yf_events.specs.declared.document.Doc.{Doc}
@@ -24,7 +25,7 @@ abbrev pub style_with : (indent : ℕ) → 2 ≤ indent → indent ≤ 8 → Quo
 style_with indent from to quotes seq_indent =
     let a : 40 ≤ 100 = omega arith in
     let b : 100 ≤ 1000 = omega arith in
-    record { indent = indent; max_line = 100; quotes = quotes; seq_indent = seq_indent; document_start = DocumentStart.Always; indent_from = from; indent_to = to; max_line_from = a; max_line_to = b }
+    record { indent = indent; max_line = 100; quotes = quotes; seq_indent = seq_indent; document_start = DocumentStart.Always; invisible = Invisible.Plain; indent_from = from; indent_to = to; max_line_from = a; max_line_to = b }
 
 abbrev pub house : Style
 house = let a : 2 ≤ 2 = omega arith in let b : 2 ≤ 8 = omega arith in style_with 2 a b Quotes.Double true

@@ -32,15 +32,15 @@ small_tree = block_pairs (at 0 9 None) no_props ((
 some_text : {b : ℕ} {w : List ℕ} → b ∷ w ≡ [] → ⊥
 some_text {b} {w} e = let long : length (b ∷ w) ≡ 0 = ap length e in omega arith
 
-small_fits : Fit small_tree
+small_fits : Fit house small_tree
 unfolding is_utf8 chars is_nb_char is_printable is_between is_break_char encode
 small_fits = fit_mapping refl no_fit_props
-    (fit_line refl (λ e. some_text e) (single_inline refl refl (IsUtf8-from_is_utf8 (codes "a") refl) refl).node (single_inline refl refl (IsUtf8-from_is_utf8 (codes "a") refl) refl))
+    (fit_line refl (λ e. some_text e) (single_inline house refl refl (IsUtf8-from_is_utf8 (codes "a") refl) refl).node (single_inline house refl refl (IsUtf8-from_is_utf8 (codes "a") refl) refl))
     (fit_sequence refl no_fit_props
-    (fit_line refl (λ e. some_text e) (single_inline refl refl (IsUtf8-from_is_utf8 (codes "x") refl) refl).node (single_inline refl refl (IsUtf8-from_is_utf8 (codes "x") refl) refl))
+    (fit_line refl (λ e. some_text e) (single_inline house refl refl (IsUtf8-from_is_utf8 (codes "x") refl) refl).node (single_inline house refl refl (IsUtf8-from_is_utf8 (codes "x") refl) refl))
     (fit_item (fit_nothing refl) (fit_item (fit_line refl (λ e. some_text e)
-    (flow_inline refl (flow_sequence refl no_fit_props (flow_leaf (single_inline refl refl (IsUtf8-from_is_utf8 (codes "y") refl) refl)) flow_last_item)).node
-    (flow_inline refl (flow_sequence refl no_fit_props (flow_leaf (single_inline refl refl (IsUtf8-from_is_utf8 (codes "y") refl) refl)) flow_last_item))) fit_no_items)))
+    (flow_inline house refl (flow_sequence refl no_fit_props (flow_leaf (single_inline house refl refl (IsUtf8-from_is_utf8 (codes "y") refl) refl)) flow_last_item)).node
+    (flow_inline house refl (flow_sequence refl no_fit_props (flow_leaf (single_inline house refl refl (IsUtf8-from_is_utf8 (codes "y") refl) refl)) flow_last_item))) fit_no_items)))
     fit_no_pairs
 
 abbrev small_decos : List Deco

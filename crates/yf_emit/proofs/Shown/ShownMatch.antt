@@ -4,6 +4,7 @@ use Rattle.std.specs.Prelude.{nat_lt}
 use Rattle.yf_props.specs.Props.{no_props}
 use Rattle.yf_events.specs.Tree.{Node, scalar, mapping, no_pairs, pair}
 use Rattle.yf_events.specs.declared.event.ScalarStyle.TheVariants.{Plain}
+use Rattle.yf_emit.specs.declared.style.Style.{Style}
 use Rattle.yf_emit.specs.Preservation.ReadingKey.{HasPair, first_pair, later_pair, PairedOffsets, SameSide, SameSpan, one_each, none_each, colons_match, in_neither, in_both, NodesMatch, matched_scalars, matched_mappings, no_matched_pairs}
 
 -- of each pair in turn
@@ -43,8 +44,8 @@ key_span = record { paired = first_pair refl refl; among = sides 0 4 pairs.leave
 value_span : SameSpan pairs (record { start = 3; end = 4 }) (record { start = 7; end = 8 })
 value_span = record { paired = later_pair (first_pair refl refl); among = sides 3 7 pairs.leaves (refl, (refl, (refl, (refl, tt)))); start = sides 3 7 [] tt; end = sides 4 8 [] tt }
 
-trees_match : NodesMatch pairs (tree_at 0) (tree_at 4)
-trees_match =
+trees_match : (s : Style) → NodesMatch pairs s (tree_at 0) (tree_at 4)
+trees_match s =
     matched_mappings refl in_neither (record { begins = refl; colon = colons_match (one_each (sides 1 5 [] tt) none_each) })
     (matched_scalars (in_both key_span) (in_both (record { start = sides 0 4 [] tt; blank = refl }))) (matched_scalars (in_both value_span) in_neither) no_matched_pairs
 

@@ -27,12 +27,12 @@ spaces_keep_no_lines : normal_document (codes "--- >1\n   \n") (setting_of (list
 unfolding formatted
 spaces_keep_no_lines = refl
 
-spaces_are_written : written normal_spaces ≢ []
+spaces_are_written : written house normal_spaces ≢ []
 spaces_are_written e = cc
 
-spaces_fit : FitDocuments (one_document 0) (root normal_spaces)
+spaces_fit : FitDocuments house (one_document 0) (root normal_spaces)
 unfolding is_utf8 chars lib.Utf8.encode
 spaces_fit =
     let text : IsUtf8 (codes "  \n") = IsUtf8-from_is_utf8 (codes "  \n") refl in
     fit_document fit_no_directives
-    (fit_line refl spaces_are_written (double_fits refl refl no_fit_props text).node (double_fits refl refl no_fit_props text)) fit_no_documents
+    (fit_line refl spaces_are_written (double_fits house refl refl no_fit_props text).node (double_fits house refl refl no_fit_props text)) fit_no_documents

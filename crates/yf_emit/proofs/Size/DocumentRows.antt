@@ -5,6 +5,7 @@ use Rattle.yf_events.specs.Tree.{DocumentTree}
 use Rattle.yf_events.specs.declared.directive.Directive.{Directive}
 use Rattle.yf_events.specs.declared.document.Doc.{Doc}
 use Rattle.yf_grammar.specs.Productions.TreesOfMeaning.{tall}
+use Rattle.yf_emit.specs.declared.style.Style.{Style}
 use Rattle.yf_emit.specs.Layouts.FitDocuments.{tall_documents}
 use Rattle.yf_emit.specs.NormalForms.Normal.{LayoutSetting, root_spot}
 use Rattle.yf_emit.specs.Layouts.Rows.{Row, all_rows, bare_rows, beginning_at, begun_at, directive_row, document_rows, end_rows, joined_words, rows, start_row, stream_rows}
@@ -18,9 +19,9 @@ abbrev pub documents_weight : List Doc → ℕ
 documents_weight [] = 0
 documents_weight (d ∷ ds) = suc (directives_weight d.directives) + documents_weight ds
 
-pub data TreesCost (indent : ℕ) : ℕ → List DocumentTree → Type 0 where
-  no_tree_costs : TreesCost indent 0 []
-  one_tree_costs : {a m : ℕ} {x : DocumentTree} {xs : List DocumentTree} → Costs indent a x.root → TreesCost indent m xs → TreesCost indent (a + m) (x ∷ xs)
+pub data TreesCost (house : Style) : ℕ → List DocumentTree → Type 0 where
+  no_tree_costs : TreesCost house 0 []
+  one_tree_costs : {a m : ℕ} {x : DocumentTree} {xs : List DocumentTree} → Costs house a x.root → TreesCost house m xs → TreesCost house (a + m) (x ∷ xs)
 
 -- Directives.
 
@@ -54,10 +55,10 @@ module _ (c : LayoutSetting) (w : ℕ) where
       let two = mul-le-mul_right c.style.indent (le-max_right a b) in
       (omega (arith, one, l), omega (arith, two, l))
 
-  root_size : {a : ℕ} (x : DocumentTree) → Costs c.style.indent a x.root → tall x.root * c.style.indent + c.style.indent ≤ w → size (rows c (root_spot c.style) x.root) ≤ price w a
+  root_size : {a : ℕ} (x : DocumentTree) → Costs c.style a x.root → tall x.root * c.style.indent + c.style.indent ≤ w → size (rows c (root_spot c.style) x.root) ≤ price w a
   root_size x d l = laid_size c w (omega arith) (node_laid c w d (root_spot c.style) (omega (arith, l)) (omega (arith, l)))
 
-  stream_size : (ds : List Doc) (b : Bool) {m : ℕ} {xs : List DocumentTree} → TreesCost c.style.indent m xs → tall_documents xs * c.style.indent + c.style.indent ≤ w → size (stream_rows c b ds xs) ≤ price w (documents_weight ds + m)
+  stream_size : (ds : List Doc) (b : Bool) {m : ℕ} {xs : List DocumentTree} → TreesCost c.style m xs → tall_documents xs * c.style.indent + c.style.indent ≤ w → size (stream_rows c b ds xs) ≤ price w (documents_weight ds + m)
   stream_size [] b d l = omega arith
   stream_size (d ∷ ds) b no_tree_costs l = omega arith
   stream_size (d ∷ ds) b (one_tree_costs {a = a} {m = m} {x = x} {xs = xs} e more) l =
@@ -82,7 +83,7 @@ module _ (c : LayoutSetting) (w : ℕ) where
         price_add w a (documents_weight ds + m),
       )
 
-  pub all_size : {m : ℕ} {xs : List DocumentTree} (bare : Bool) (ds : List Doc) → TreesCost c.style.indent m xs → tall_documents xs * c.style.indent + c.style.indent ≤ w → size (all_rows c bare ds xs) ≤ price w (documents_weight ds + m)
+  pub all_size : {m : ℕ} {xs : List DocumentTree} (bare : Bool) (ds : List Doc) → TreesCost c.style m xs → tall_documents xs * c.style.indent + c.style.indent ≤ w → size (all_rows c bare ds xs) ≤ price w (documents_weight ds + m)
   all_size false ds d l = stream_size ds true d l
   all_size true [] d l = omega arith
   all_size true (d ∷ ds) no_tree_costs l = omega arith

@@ -3,22 +3,27 @@ use Rattle.std.proofs.Common.{◌≡◌, ℕ, zero, suc, ◌+◌, ◌-◌, ◌*�
 use Rattle.std.specs.Prelude.{◌==◌, ◌/◌, ◌%◌, if◌then◌else◌, max}
 use Rattle.std.specs.List.{list_all}
 use Rattle.std.proofs.Math.Nat.{add-mul, le-max_left, le-max_right, mul-add, mul-le-mul_right, suc-mul}
-use Rattle.std.proofs.lemmas.Bool.{cases_Bool}
+use Rattle.std.proofs.lemmas.Bool.{and_parts, cases_Bool, cases_lt}
 use Rattle.std.proofs.lemmas.Bool.Decides.{nat_tests}
 use Rattle.std.proofs.lemmas.List.{length-replicate}
-use Rattle.std.proofs.lemmas.Str.{encodes-chars, len_utf8_bounds, length-encode}
+use Rattle.std.proofs.lemmas.Str.{encodes-chars, len_utf8_bounds, length-encode, scalars-chars}
 use Rattle.std.specs.Char.{len_utf8}
 use Rattle.std.specs.Str.{IsUtf8, chars}
-use lib.Utf8.{encode, encodes}
-use Rattle.yf_chars.specs.Escape.{is_by_four, is_by_two, short_name, spelled, spelled_long, two_digits}
-use Rattle.yf_chars.proofs.EscapeLemmas.{four_spelled, letter_spelled, self_spelled, spelled_none, two_spelled}
+use lib.Utf8.{encode, encodes, scalar, scalars}
+use Rattle.yf_chars.specs.Hidden.{is_spelled_out, spelled_out}
+use Rattle.yf_chars.specs.Escape.{by_number, is_by_four, is_by_two, short_name, spelled, spelled_long, two_digits}
+use Rattle.yf_chars.proofs.HiddenLemmas.{low_itself, spelled_alike, spelled_apart}
+use Rattle.yf_chars.proofs.SpelledLemmas.{scalar_below}
+use Rattle.yf_chars.proofs.EscapeLemmas.{few_spelled, four_spelled, letter_spelled, many_spelled, self_spelled, spelled_none, two_spelled}
 use Rattle.yf_lines.specs.Steady.{is_steady}
+use Rattle.yf_lines.specs.declared.invisible.Invisible.{Invisible}
 use Rattle.yf_lines.specs.declared.quotes.Quotes.{Quotes}
 use Rattle.yf_block_scalar.specs.Content.{literal, literal_after}
-use Rattle.yf_quoted.specs.Written.{quotes_for, twice}
+use Rattle.yf_quoted.specs.Written.{quotes_in, spelled_in, twice}
 use Rattle.yf_props.specs.Props.{PropsValue}
 use Rattle.yf_events.specs.declared.event.ScalarStyle.{ScalarStyle}
 use Rattle.yf_events.specs.declared.event.ScalarStyle.TheVariants.{Plain, Single, Double, Literal, Folded}
+use Rattle.yf_emit.specs.declared.style.Style.{Style}
 use Rattle.yf_emit.specs.Layouts.ReadableTrees.{is_block_style}
 use Rattle.yf_emit.specs.Nodes.BlockLines.{block_lines, chomping_sign, cut_at_feeds, digit_text, begins_with_space, final_feeds, header_text, into_first, is_feed, line_at, style_sign, without_final_feeds}
 use Rattle.yf_emit.specs.Nodes.OneLine.{anchor_text, props_text, scalar_text, spaced, tag_text}
@@ -92,9 +97,43 @@ spelled_most c = by (short_name c) refl where
       (cases_Bool (is_by_four c)))
       (cases_Bool (is_by_two c))
 
-all_spelled : (cs : List ℕ) → length (encode_utf8_all (flat_map spelled cs)) ≤ 4 * length (encode_utf8_all cs)
-all_spelled [] = omega arith
-all_spelled (c ∷ cs) = let l = all_spelled cs in omega (arith, l, spelled_most c, bytes_append (spelled c) (flat_map spelled cs), bytes_more c cs)
+-- a hidden character by its number: six bytes, and it has two at least, or ten, and it has four
+beyond_ascii : (c : ℕ) → 160 < c → 2 ≤ len_utf8 c
+beyond_ascii c l = grind (arith, nat_tests)
+
+beyond_few : (c : ℕ) → 0x10000 ≤ c → 4 ≤ len_utf8 c
+beyond_few c l = grind (arith, nat_tests)
+
+number_most : (c : ℕ) → scalar c ≡ true → 160 < c → length (encode_utf8_all (by_number c)) ≤ 4 * len_utf8 c
+number_most c s k =
+    ⊎_elim (λ (l : c < 0x10000). let same = ap length (few_spelled c l) in
+    omega (arith, same, beyond_ascii c k, two_long (c / 256), two_long (c % 256), length-append (92 ∷ 117 ∷ two_digits (c / 256)) (two_digits (c % 256))))
+    (λ (l : 0x10000 ≤ c). let same = ap length (many_spelled c l (scalar_below c s)) in
+    omega (arith, same, beyond_few c l, two_long 0, two_long (c / 65536), two_long (c / 256 % 256), two_long (c % 256),
+    length-append (92 ∷ 85 ∷ two_digits 0) (two_digits (c / 65536) ++ (two_digits (c / 256 % 256) ++ two_digits (c % 256))),
+    length-append (two_digits (c / 65536)) (two_digits (c / 256 % 256) ++ two_digits (c % 256)), length-append (two_digits (c / 256 % 256)) (two_digits (c % 256))))
+    (cases_lt c 0x10000)
+
+spelled_out_most : (c : ℕ) → scalar c ≡ true → length (encode_utf8_all (spelled_out c)) ≤ 4 * len_utf8 c
+spelled_out_most c s =
+    ⊎_elim (λ (e : is_spelled_out c ≡ true). let same = ap (λ z. length (encode_utf8_all z)) (spelled_apart c e) in
+    let most = number_most c s (above e) in omega (arith, same, most))
+    (λ (e : is_spelled_out c ≡ false). let same = ap (λ z. length (encode_utf8_all z)) (spelled_alike c e) in omega (arith, same, spelled_most c))
+    (cases_Bool (is_spelled_out c)) where
+      above : is_spelled_out c ≡ true → 160 < c
+      above e = ⊎_elim (λ (l : 160 < c). l) (λ (l : c ≤ 160). absurd (true≢false (sym e ∙ low_itself c l))) (cases_lt 160 c)
+
+spelled_in_most : (i : Invisible) (c : ℕ) → scalar c ≡ true → length (encode_utf8_all (spelled_in i c)) ≤ 4 * len_utf8 c
+spelled_in_most Invisible.Plain c s = spelled_most c
+spelled_in_most Invisible.Escaped c s = spelled_out_most c s
+
+all_spelled : (i : Invisible) (cs : List ℕ) → scalars cs ≡ true → length (encode_utf8_all (flat_map (spelled_in i) cs)) ≤ 4 * length (encode_utf8_all cs)
+all_spelled i [] e = omega arith
+all_spelled i (c ∷ cs) e =
+    let parts = and_parts (scalar c) (scalars cs) e in
+    let one = spelled_in_most i c parts.0 in
+    let l = all_spelled i cs parts.1 in
+    omega (arith, one, l, bytes_append (spelled_in i c) (flat_map (spelled_in i) cs), bytes_more c cs)
 
 quotes_two : length (encode_utf8_all (39 ∷ 39 ∷ [])) ≡ 2
 unfolding encode
@@ -113,11 +152,13 @@ all_twice : (cs : List ℕ) → length (encode_utf8_all (flat_map twice cs)) ≤
 all_twice [] = omega arith
 all_twice (c ∷ cs) = let l = all_twice cs in omega (arith, l, twice_most c, bytes_append (twice c) (flat_map twice cs), bytes_more c cs)
 
-quoted_most : (q : Quotes) (text : List ℕ) → IsUtf8 text → length (scalar_text (style_in q) text) ≤ 4 * length text + 2
-quoted_most Quotes.Single text u =
+quoted_most : (house : Style) (q : Quotes) (text : List ℕ) → IsUtf8 text → length (scalar_text house (style_in q) text) ≤ 4 * length text + 2
+quoted_most house Quotes.Single text u =
     let l = all_twice (chars text) in let same = ap length (encodes-chars text u) in omega (arith, l, same, length-append (39 ∷ encode_utf8_all (flat_map twice (chars text))) (39 ∷ []))
-quoted_most Quotes.Double text u =
-    let l = all_spelled (chars text) in let same = ap length (encodes-chars text u) in omega (arith, l, same, length-append (34 ∷ encode_utf8_all (flat_map spelled (chars text))) (34 ∷ []))
+quoted_most house Quotes.Double text u =
+    let l = all_spelled house.invisible (chars text) (scalars-chars text u) in
+    let same = ap length (encodes-chars text u) in
+    omega (arith, l, same, length-append (34 ∷ encode_utf8_all (flat_map (spelled_in house.invisible) (chars text))) (34 ∷ []))
 
 -- Block scalars.
 
@@ -221,10 +262,10 @@ block_most w column ls tail n l a b d =
     omega (arith, one, two, a, b, d, at_append column ls (replicate tail []), empty_lines column tail)
 
 -- What a scalar takes: on one line, or with its lines at a column of w at most, where each of the n bytes stands for w and eight more.
-pub record LeafCost (indent n : ℕ) (props : PropsValue) (style : ScalarStyle) (text : List ℕ) (lines : List (List ℕ)) : Type 0 where
-  pub short : Short n (spaced (props_text props) (scalar_text style text))
+pub record LeafCost (house : Style) (n : ℕ) (props : PropsValue) (style : ScalarStyle) (text : List ℕ) (lines : List (List ℕ)) : Type 0 where
+  pub short : Short n (spaced (props_text props) (scalar_text house style text))
   pub block : is_block_style style ≡ true → (w column : ℕ) → column ≤ w
-      → w + (length (spaced (props_text props) (header_text style indent text)) + (2 + body_size (block_lines style column text lines))) ≤ n * (w + 8)
+      → w + (length (spaced (props_text props) (header_text style house.indent text)) + (2 + body_size (block_lines style column text lines))) ≤ n * (w + 8)
 
 lines_cost : (indent : ℕ) (props : PropsValue) (style : ScalarStyle) (text : List ℕ) (ls : List (List ℕ)) (tail n w column : ℕ) → column ≤ w → chars_in ls ≤ n → length (literal_after ls) ≤ suc n → tail ≤ n
     → w + (length (spaced (props_text props) (header_text style indent text)) + (2 + body_size (map (line_at column) (ls ++ replicate tail [])))) ≤ (props_weight props + suc n) * (w + 8)
@@ -254,32 +295,32 @@ plain_short : (text : List ℕ) → Short (length text) text
 plain_short [] = nothing_short
 plain_short (b ∷ bs) = some_short (omega arith) (omega arith)
 
-one_line_cost : {indent m : ℕ} {props : PropsValue} {style : ScalarStyle} {text : List ℕ} {lines : List (List ℕ)} → is_block_style style ≡ false → Short m (scalar_text style text)
-    → LeafCost indent (props_weight props + m) props style text lines
-one_line_cost {m = m} {props = props} {style = style} {text = text} off a = record {
-  short = short_spaced (props_weight props) m (props_weight props + m) (props_text props) (scalar_text style text) (props_most props) a (omega arith);
+one_line_cost : {house : Style} {m : ℕ} {props : PropsValue} {style : ScalarStyle} {text : List ℕ} {lines : List (List ℕ)} → is_block_style style ≡ false → Short m (scalar_text house style text)
+    → LeafCost house (props_weight props + m) props style text lines
+one_line_cost {house = house} {m = m} {props = props} {style = style} {text = text} off a = record {
+  short = short_spaced (props_weight props) m (props_weight props + m) (props_text props) (scalar_text house style text) (props_most props) a (omega arith);
   block = λ e w column l. absurd (true≢false (sym e ∙ off));
 }
 
-quoted_cost : {indent m : ℕ} {props : PropsValue} {text : List ℕ} {lines : List (List ℕ)} (quotes : Quotes) → IsUtf8 text → 1 ≤ m → 4 * length text + 4 ≤ 8 * m
-    → LeafCost indent (props_weight props + m) props (quoted_in text quotes) text lines
-quoted_cost {text = text} quotes u some l =
-    let q : Quotes = quotes_for (chars text) quotes in
-    let most = quoted_most q text u in
+quoted_cost : {m : ℕ} {props : PropsValue} {text : List ℕ} {lines : List (List ℕ)} (house : Style) → IsUtf8 text → 1 ≤ m → 4 * length text + 4 ≤ 8 * m
+    → LeafCost house (props_weight props + m) props (quoted_in text house) text lines
+quoted_cost {text = text} house u some l =
+    let q : Quotes = quotes_in house.invisible (chars text) house.quotes in
+    let most = quoted_most house q text u in
     one_line_cost (quoted_off q) (some_short some (omega (arith, most, l)))
 
-literal_cost : {indent : ℕ} {props : PropsValue} (text : List ℕ) (lines : List (List ℕ)) → LeafCost indent (props_weight props + suc (length text)) props Literal text lines
-literal_cost {indent} {props} text lines =
+literal_cost : {house : Style} {props : PropsValue} (text : List ℕ) (lines : List (List ℕ)) → LeafCost house (props_weight props + suc (length text)) props Literal text lines
+literal_cost {house} {props} text lines =
     let off = feeds_off text in
     let chars = cut_chars (without_final_feeds text) in
     let joined = cut_joined (without_final_feeds text) in
     record {
       short = short_spaced (props_weight props) (suc (length text)) (props_weight props + suc (length text)) (props_text props) [] (props_most props) nothing_short (omega arith);
-      block = λ e w column l. lines_cost indent props Literal text (cut_at_feeds (without_final_feeds text)) (final_feeds text - 1) (length text) w column l (omega (arith, chars, off)) (omega (arith, joined, off)) (omega (arith, off));
+      block = λ e w column l. lines_cost house.indent props Literal text (cut_at_feeds (without_final_feeds text)) (final_feeds text - 1) (length text) w column l (omega (arith, chars, off)) (omega (arith, joined, off)) (omega (arith, off));
     }
 
-folded_cost : {indent : ℕ} {props : PropsValue} (text : List ℕ) (lines : List (List ℕ)) → LeafCost indent (props_weight props + suc (max (length text) (length (literal lines)))) props Folded text lines
-folded_cost {indent} {props} text lines =
+folded_cost : {house : Style} {props : PropsValue} (text : List ℕ) (lines : List (List ℕ)) → LeafCost house (props_weight props + suc (max (length text) (length (literal lines)))) props Folded text lines
+folded_cost {house} {props} text lines =
     let n : ℕ = max (length text) (length (literal lines)) in
     let one : length text ≤ n = le-max_left (length text) (length (literal lines)) in
     let two : length (literal lines) ≤ n = le-max_right (length text) (length (literal lines)) in
@@ -287,26 +328,26 @@ folded_cost {indent} {props} text lines =
     let joined = joined_after lines in
     record {
       short = short_spaced (props_weight props) (suc n) (props_weight props + suc n) (props_text props) [] (props_most props) nothing_short (omega arith);
-      block = λ e w column l. lines_cost indent props Folded text lines (final_feeds text - 1) n w column l (omega (arith, chars, two)) (omega (arith, joined, two)) (omega (arith, one));
+      block = λ e w column l. lines_cost house.indent props Folded text lines (final_feeds text - 1) n w column l (omega (arith, chars, two)) (omega (arith, joined, two)) (omega (arith, one));
     }
 
-pub leaf_cost : (indent : ℕ) (quotes : Quotes) (props : PropsValue) (style : ScalarStyle) (text : List ℕ) (lines : List (List ℕ)) → IsUtf8 text
-    → LeafCost indent (props_weight props + text_weight style text lines) props (wanted style text quotes) text (lines_in (wanted style text quotes) lines)
-leaf_cost indent quotes props Plain text lines u = by (is_steady text) refl where
+pub leaf_cost : (house : Style) (props : PropsValue) (style : ScalarStyle) (text : List ℕ) (lines : List (List ℕ)) → IsUtf8 text
+    → LeafCost house (props_weight props + text_weight style text lines) props (wanted style text house) text (lines_in (wanted style text house) lines)
+leaf_cost house props Plain text lines u = by (is_steady text) refl where
   by : (b : Bool) → is_steady text ≡ b
-      → LeafCost indent (props_weight props + length text) props (if b then Plain else quoted_in text quotes) text (lines_in (if b then Plain else quoted_in text quotes) lines)
+      → LeafCost house (props_weight props + length text) props (if b then Plain else quoted_in text house) text (lines_in (if b then Plain else quoted_in text house) lines)
   by true e = one_line_cost refl (plain_short text)
-  by false e = let some = some_text text e in quoted_cost quotes u some (omega (arith, some))
-leaf_cost indent quotes props Single text lines u = let l = half_low (length text) in quoted_cost quotes u (omega arith) (omega (arith, l))
-leaf_cost indent quotes props Double text lines u = let l = half_low (length text) in quoted_cost quotes u (omega arith) (omega (arith, l))
-leaf_cost indent quotes props Literal text lines u = by (has_block_content text) where
-  by : (b : Bool) → LeafCost indent (props_weight props + suc (length text)) props (if b then Literal else quoted_in text quotes) text (lines_in (if b then Literal else quoted_in text quotes) lines)
+  by false e = let some = some_text text e in quoted_cost house u some (omega (arith, some))
+leaf_cost house props Single text lines u = let l = half_low (length text) in quoted_cost house u (omega arith) (omega (arith, l))
+leaf_cost house props Double text lines u = let l = half_low (length text) in quoted_cost house u (omega arith) (omega (arith, l))
+leaf_cost house props Literal text lines u = by (has_block_content text) where
+  by : (b : Bool) → LeafCost house (props_weight props + suc (length text)) props (if b then Literal else quoted_in text house) text (lines_in (if b then Literal else quoted_in text house) lines)
   by true = literal_cost text []
-  by false = quoted_cost quotes u (omega arith) (omega arith)
-leaf_cost indent quotes props Folded text lines u = by (has_block_content text) where
+  by false = quoted_cost house u (omega arith) (omega arith)
+leaf_cost house props Folded text lines u = by (has_block_content text) where
   most : length text ≤ max (length text) (length (literal lines))
   most = le-max_left (length text) (length (literal lines))
 
-  by : (b : Bool) → LeafCost indent (props_weight props + suc (max (length text) (length (literal lines)))) props (if b then Folded else quoted_in text quotes) text (lines_in (if b then Folded else quoted_in text quotes) lines)
+  by : (b : Bool) → LeafCost house (props_weight props + suc (max (length text) (length (literal lines)))) props (if b then Folded else quoted_in text house) text (lines_in (if b then Folded else quoted_in text house) lines)
   by true = folded_cost text lines
-  by false = quoted_cost quotes u (omega arith) (omega (arith, most))
+  by false = quoted_cost house u (omega arith) (omega (arith, most))

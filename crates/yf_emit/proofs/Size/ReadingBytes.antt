@@ -88,27 +88,27 @@ reading_bytes {t} {r} u a =
 
 module _ (t : List ℕ) (c : LayoutSetting) where
   mutual
-    styled_costs : {b : Bool} {x : Node} → ReadNode b x → Costs c.style.indent (bulk x) (styled t c x)
-    styled_costs (read_nothing e) = scalar_costs (leaf_cost c.style.indent c.style.quotes no_props Plain [] [] IsUtf8-nil)
-    styled_costs (read_props {p = p} e i n) = scalar_costs (leaf_cost c.style.indent c.style.quotes p Plain [] [] IsUtf8-nil)
-    styled_costs (read_scalar {p = p} {style = style} {text = text} {lines = lines} e i u r) = scalar_costs (leaf_cost c.style.indent c.style.quotes p style text lines u)
+    styled_costs : {b : Bool} {x : Node} → ReadNode b x → Costs c.style (bulk x) (styled t c x)
+    styled_costs (read_nothing e) = scalar_costs (leaf_cost c.style no_props Plain [] [] IsUtf8-nil)
+    styled_costs (read_props {p = p} e i n) = scalar_costs (leaf_cost c.style p Plain [] [] IsUtf8-nil)
+    styled_costs (read_scalar {p = p} {style = style} {text = text} {lines = lines} e i u r) = scalar_costs (leaf_cost c.style p style text lines u)
     styled_costs (read_alias e n) = alias_costs (omega arith)
     styled_costs (read_sequence e f read_no_items) = no_items_cost (omega arith)
     styled_costs (read_sequence e f (read_item a more)) = items_cost (items_costs (read_item a more)) (omega arith)
     styled_costs (read_mapping e f read_no_pairs) = no_pairs_cost (omega arith)
     styled_costs (read_mapping e f (read_pair a b more)) = pairs_cost (pairs_costs (read_pair a b more)) (omega arith)
 
-    items_costs : {b : Bool} {xs : Items} → ReadItems b xs → ItemsCost c.style.indent (items_bulk xs) (styled_items t c xs)
+    items_costs : {b : Bool} {xs : Items} → ReadItems b xs → ItemsCost c.style (items_bulk xs) (styled_items t c xs)
     items_costs read_no_items = no_more_items
     items_costs (read_item a more) = more_items_cost (styled_costs a) (items_costs more)
 
-    pairs_costs : {b : Bool} {ps : Pairs} → ReadPairs b ps → PairsCost c.style.indent (pairs_bulk ps) (styled_pairs t c ps)
+    pairs_costs : {b : Bool} {ps : Pairs} → ReadPairs b ps → PairsCost c.style (pairs_bulk ps) (styled_pairs t c ps)
     pairs_costs read_no_pairs = no_more_pairs
     pairs_costs (read_pair a b more) = more_pairs_cost (styled_costs a) (styled_costs b) (pairs_costs more)
 
   -- and no more collections are open in it than within the limit
   pub record DocumentsCost (h : ℕ) (trees : List DocumentTree) : Type 0 where
-    pub costs : TreesCost c.style.indent (trees_bulk trees) (map (normal_document t c) trees)
+    pub costs : TreesCost c.style (trees_bulk trees) (map (normal_document t c) trees)
     pub low : tall_documents trees ≤ h
 
   pub documents_cost : {v : List ℕ} {h : ℕ} {ds : List Document} {trees : List DocumentTree} → IsUtf8 v → DocumentsDerived v h ds → TreesMeant ds trees → DocumentsCost h trees

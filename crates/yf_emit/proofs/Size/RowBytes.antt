@@ -106,8 +106,8 @@ module _ (c : LayoutSetting) (w : ℕ) where
 
   -- The value after an implicit key.
 
-  key_size : {a : ℕ} {k : Node} → Costs c.style.indent a k → w + (length (written k ++ colon_after k) + 3) ≤ price w (suc a)
-  key_size {a} {k} d = by (written k) (written_short d) where
+  key_size : {a : ℕ} {k : Node} → Costs c.style a k → w + (length (written c.style k ++ colon_after k) + 3) ≤ price w (suc a)
+  key_size {a} {k} d = by (written c.style k) (written_short d) where
     colon : length (colon_after k) ≤ 2
     colon = colon_most k
 
@@ -116,17 +116,17 @@ module _ (c : LayoutSetting) (w : ℕ) where
     by x (some_short one l) = let m = price_line w a one in let n = price_next w a in omega (arith, colon, l, m, n, length-append x (colon_after k))
 
   value_size : {b : ℕ} {v : Node} (k : Node) (column : ℕ) {rs : List Row} → column + c.style.indent ≤ w → Laid b (value_of_implicit c column k v) v rs → (o : Option CommentValue) → key_comment c.comments k v ≡ o
-      → (below : Bool) → begins_below v ≡ below → size (after_key (key_row column k) o below rs) ≤ (w + (length (written k ++ colon_after k) + 3)) + price w b
+      → (below : Bool) → begins_below v ≡ below → size (after_key (key_row c.style column k) o below rs) ≤ (w + (length (written c.style k ++ colon_after k) + 3)) + price w b
   value_size {b} {v} k column l a (Some comment) e below f =
       let at : value_column c column k v ≡ column + c.style.indent =
-      ap (λ (z : Option CommentValue). if is_some z then column + c.style.indent else column + width (written k) + width (colon_after k) + 1) e in
+      ap (λ (z : Option CommentValue). if is_some z then column + c.style.indent else column + width (written c.style k) + width (colon_after k) + 1) e in
       let rest = laid_size (omega (arith, at, l)) a in
       omega (arith, l, rest)
   value_size k column l (laid_nothing g) None e true f = omega (arith, l)
   value_size k column l (laid_line g h m) None e true f = absurd (true≢false (sym f ∙ g))
   value_size k column l (laid_below g h m) None e true f = omega (arith, l, m)
   value_size k column l (laid_nothing g) None e false f = omega (arith, l)
-  value_size k column l (laid_line {r = r} g h m) None e false f = omega (arith, l, m, length-append (written k ++ colon_after k) (32 ∷ r.text))
+  value_size k column l (laid_line {r = r} g h m) None e false f = omega (arith, l, m, length-append (written c.style k ++ colon_after k) (32 ∷ r.text))
   value_size k column l (laid_below g h m) None e false f = absurd (true≢false (sym g ∙ f))
 
   -- Nodes on one line.
@@ -136,8 +136,8 @@ module _ (c : LayoutSetting) (w : ℕ) where
   line_laid {n} spot (b ∷ x) e f (some_short one l) = laid_line e refl (let m = price_line w n one in omega (arith, l, m))
 
   -- an empty text has a width within the limit of implicit keys
-  narrow_key : (y : Node) → ((column : ℕ) → is_one_line_key c.style column y ≡ true) → written y ≡ [] → (column : ℕ) → is_implicit c.style column y ≡ true
-  narrow_key y f e column = ap (λ b. b && nat_le (width (written y)) 1023) (f column) ∙ (ap (λ z. nat_le (width z) 1023) e ∙ ap (λ z. nat_le (length z) 1023) chars-nil)
+  narrow_key : (y : Node) → ((column : ℕ) → is_one_line_key c.style column y ≡ true) → written c.style y ≡ [] → (column : ℕ) → is_implicit c.style column y ≡ true
+  narrow_key y f e column = ap (λ b. b && nat_le (width (written c.style y)) 1023) (f column) ∙ (ap (λ z. nat_le (width z) 1023) e ∙ ap (λ z. nat_le (length z) 1023) chars-nil)
 
   spaced_some : (x : List ℕ) (b : ℕ) (y : List ℕ) → spaced x (b ∷ y) ≡ [] → ⊥
   spaced_some [] b y e = cc
@@ -164,10 +164,10 @@ module _ (c : LayoutSetting) (w : ℕ) where
   items_first : (column : ℕ) (x : Node) (xs : Items) → FirstAt column (rows_of_items c column (item x xs))
   items_first column x xs = first_more (rows_of_items c column xs) (joined_first (entry_row column (45 ∷ []) x) (c.style.indent - 1) (rows c (inner_spot c.style column) x))
 
-  after_first : (column : ℕ) (k : Node) (o : Option CommentValue) (below : Bool) (rs : List Row) → FirstAt column (after_key (key_row column k) o below rs)
+  after_first : (column : ℕ) (k : Node) (o : Option CommentValue) (below : Bool) (rs : List Row) → FirstAt column (after_key (key_row c.style column k) o below rs)
   after_first column k (Some comment) below rs = first_at refl
   after_first column k None true rs = first_at refl
-  after_first column k None false rs = joined_first (key_row column k) 1 rs
+  after_first column k None false rs = joined_first (key_row c.style column k) 1 rs
 
   pair_first : (column : ℕ) (k v : Node) (b : Bool) → FirstAt column (either_pair b c column k v)
   pair_first column k v true = after_first column k (key_comment c.comments k v) (begins_below v) (rows c (value_of_implicit c column k v) v)
@@ -188,13 +188,13 @@ module _ (c : LayoutSetting) (w : ℕ) where
     by [] few e = laid_first e first (omega (arith, l, sum))
     by (b ∷ p) few e = laid_line e refl (let one = price_line w (props_weight props) (omega (arith, few)) in omega (arith, one, few, l, sum))
 
-  pair_size : {a b : ℕ} {k v : Node} (column : ℕ) → column + c.style.indent ≤ w → Costs c.style.indent a k → Costs c.style.indent b v
+  pair_size : {a b : ℕ} {k v : Node} (column : ℕ) → column + c.style.indent ≤ w → Costs c.style a k → Costs c.style b v
       → ((spot : Spot) → spot.entries ≤ column + c.style.indent → spot.lines ≤ column + c.style.indent → Laid a spot k (rows c spot k))
       → ((spot : Spot) → spot.entries ≤ column + c.style.indent → spot.lines ≤ column + c.style.indent → Laid b spot v (rows c spot v))
       → (p : Bool) → is_implicit c.style column k ≡ p → size (either_pair p c column k v) ≤ price w (suc (a + b))
   pair_size {a} {b} {k} {v} column near d e key value true f =
       let one = key_size d in
-      let two : size (either_pair true c column k v) ≤ (w + (length (written k ++ colon_after k) + 3)) + price w b = value_size k column near (value (value_of_implicit c column k v) (entries_most column v) (omega arith)) (key_comment c.comments k v) refl (begins_below v) refl in
+      let two : size (either_pair true c column k v) ≤ (w + (length (written c.style k ++ colon_after k) + 3)) + price w b = value_size k column near (value (value_of_implicit c column k v) (entries_most column v) (omega arith)) (key_comment c.comments k v) refl (begins_below v) refl in
       let sum : suc a + b ≡ suc (a + b) = omega arith in
       omega (arith, one, two, price_add w (suc a) b, ap (price w) sum)
   pair_size {a} {b} {k} {v} column near d e key value false f =
@@ -204,32 +204,32 @@ module _ (c : LayoutSetting) (w : ℕ) where
       omega (arith, one, two, price_next w (a + b), price_add w a b, size_append (after_sign c.style (entry_row column (63 ∷ []) k) (rows c (key_spot c.style column k) k)) (after_sign c.style (colon_row column k) (rows c (inner_spot c.style column) v)))
 
   mutual
-    pub node_laid : {n : ℕ} {y : Node} → Costs c.style.indent n y → (spot : Spot) → spot.entries + tall y * c.style.indent ≤ w → spot.lines ≤ w → Laid n spot y (rows c spot y)
+    pub node_laid : {n : ℕ} {y : Node} → Costs c.style n y → (spot : Spot) → spot.entries + tall y * c.style.indent ≤ w → spot.lines ≤ w → Laid n spot y (rows c spot y)
     node_laid (scalar_costs {at = at} {props = props} {style = Plain} {text = text} {lines = lines} a) spot l m =
-        line_laid spot (written (scalar at props Plain text lines)) refl (narrow_key (scalar at props Plain text lines) (λ column. refl)) a.short
+        line_laid spot (written c.style (scalar at props Plain text lines)) refl (narrow_key (scalar at props Plain text lines) (λ column. refl)) a.short
     node_laid (scalar_costs {at = at} {props = props} {style = Single} {text = text} {lines = lines} a) spot l m =
-        line_laid spot (written (scalar at props Single text lines)) refl (narrow_key (scalar at props Single text lines) (λ column. refl)) a.short
+        line_laid spot (written c.style (scalar at props Single text lines)) refl (narrow_key (scalar at props Single text lines) (λ column. refl)) a.short
     node_laid (scalar_costs {at = at} {props = props} {style = Double} {text = text} {lines = lines} a) spot l m =
-        line_laid spot (written (scalar at props Double text lines)) refl (narrow_key (scalar at props Double text lines) (λ column. refl)) a.short
+        line_laid spot (written c.style (scalar at props Double text lines)) refl (narrow_key (scalar at props Double text lines) (λ column. refl)) a.short
     node_laid {n} (scalar_costs {style = Literal} a) spot l m = laid_line refl refl (let b = a.block refl w spot.lines m in let e = price_is n in omega (arith, b, e))
     node_laid {n} (scalar_costs {style = Folded} a) spot l m = laid_line refl refl (let b = a.block refl w spot.lines m in let e = price_is n in omega (arith, b, e))
-    node_laid (alias_costs {at = at} {name = name} k) spot l m = line_laid spot (42 ∷ name) refl (λ e. absurd cc) (written_short {indent = c.style.indent} (alias_costs {at = at} k))
+    node_laid (alias_costs {at = at} {name = name} k) spot l m = line_laid spot (42 ∷ name) refl (λ e. absurd cc) (written_short {house = c.style} (alias_costs {at = at} k))
     node_laid (no_items_cost {at = at} {props = props} k) spot l m =
-        line_laid spot (written (sequence at true props no_items)) refl (λ e. absurd (spaced_some (props_text props) 91 (93 ∷ []) e)) (written_short {indent = c.style.indent} (no_items_cost {at = at} {props = props} k))
+        line_laid spot (written c.style (sequence at true props no_items)) refl (λ e. absurd (spaced_some (props_text props) 91 (93 ∷ []) e)) (written_short {house = c.style} (no_items_cost {at = at} {props = props} k))
     node_laid (items_cost {at = at} {flow = true} {props = props} {x = x} {xs = xs} a k) spot l m =
-        line_laid spot (written (sequence at true props (item x xs))) refl (λ e. absurd (spaced_some (props_text props) 91 _ e)) (written_short (items_cost {at = at} {flow = true} {props = props} a k))
+        line_laid spot (written c.style (sequence at true props (item x xs))) refl (λ e. absurd (spaced_some (props_text props) 91 _ e)) (written_short (items_cost {at = at} {flow = true} {props = props} a k))
     node_laid (items_cost {flow = false} {props = props} {x = x} {xs = xs} a k) spot l m =
         let height = suc-mul (tall_items (item x xs)) c.style.indent in
         collection_laid _ props spot refl (items_first spot.entries x xs) (items_laid a spot.entries (omega (arith, l, height))) k
     node_laid (no_pairs_cost {at = at} {props = props} k) spot l m =
-        line_laid spot (written (mapping at true props no_pairs)) refl (λ e. absurd (spaced_some (props_text props) 123 (125 ∷ []) e)) (written_short {indent = c.style.indent} (no_pairs_cost {at = at} {props = props} k))
+        line_laid spot (written c.style (mapping at true props no_pairs)) refl (λ e. absurd (spaced_some (props_text props) 123 (125 ∷ []) e)) (written_short {house = c.style} (no_pairs_cost {at = at} {props = props} k))
     node_laid (pairs_cost {at = at} {flow = true} {props = props} {k = key} {v = v} {ps = ps} a k) spot l m =
-        line_laid spot (written (mapping at true props (pair key v ps))) refl (λ e. absurd (spaced_some (props_text props) 123 _ e)) (written_short (pairs_cost {at = at} {flow = true} {props = props} a k))
+        line_laid spot (written c.style (mapping at true props (pair key v ps))) refl (λ e. absurd (spaced_some (props_text props) 123 _ e)) (written_short (pairs_cost {at = at} {flow = true} {props = props} a k))
     node_laid (pairs_cost {at = at} {flow = false} {props = props} {k = key} {v = v} {ps = ps} a k) spot l m =
         let height = suc-mul (tall_pairs (pair key v ps)) c.style.indent in
         collection_laid _ props spot refl (pairs_first spot.entries key v ps) (pairs_laid a spot.entries (omega (arith, l, height))) k
 
-    items_laid : {n : ℕ} {xs : Items} → ItemsCost c.style.indent n xs → (column : ℕ) → (column + c.style.indent) + tall_items xs * c.style.indent ≤ w → size (rows_of_items c column xs) ≤ price w n
+    items_laid : {n : ℕ} {xs : Items} → ItemsCost c.style n xs → (column : ℕ) → (column + c.style.indent) + tall_items xs * c.style.indent ≤ w → size (rows_of_items c column xs) ≤ price w n
     items_laid no_more_items column l = omega arith
     items_laid (more_items_cost {a = a} {m = m} {x = x} {xs = xs} d more) column l =
         let lower = two_lower (column + c.style.indent) (tall x) (tall_items xs) l in
@@ -238,7 +238,7 @@ module _ (c : LayoutSetting) (w : ℕ) where
         let others = items_laid more column lower.1 in
         omega (arith, one, others, size_append (after_sign c.style (entry_row column (45 ∷ []) x) (rows c (inner_spot c.style column) x)) (rows_of_items c column xs), price_add w (suc a) m, price_next w a)
 
-    pairs_laid : {n : ℕ} {ps : Pairs} → PairsCost c.style.indent n ps → (column : ℕ) → (column + c.style.indent) + tall_pairs ps * c.style.indent ≤ w → size (rows_of_pairs c column ps) ≤ price w n
+    pairs_laid : {n : ℕ} {ps : Pairs} → PairsCost c.style n ps → (column : ℕ) → (column + c.style.indent) + tall_pairs ps * c.style.indent ≤ w → size (rows_of_pairs c column ps) ≤ price w n
     pairs_laid no_more_pairs column l = omega arith
     pairs_laid (more_pairs_cost {a = a} {b = b} {m = m} {k = k} {v = v} {ps = ps} d e more) column l =
         let lower = two_lower (column + c.style.indent) (max (tall k) (tall v)) (tall_pairs ps) l in

@@ -67,7 +67,7 @@ module _ {t u : List ℕ} {s : Style} (utf8 : IsUtf8 t) (f : IsFormatting t s u)
       let steps : Stepped s.indent (suc d) (block_scalars (flat_map flat_document f.writes.trees)) rows = all_stepped (setting_of m s) (suc d) (is_bare m s) (omega (arith, height, l)) (formed utf8 f).fit in
       let lay : u ≡ gap_then (first_gap m rows) (lines_then rows (row_decos m rows) []) = f.writes.is ∙ layout_then m s f.writes.trees in
       let all = rows_size w at_text_start (source_of m rows) (own_line_comments (source_of m rows) rows) (stepped_low steps) in
-      let costs : TreesCost s.indent (trees_bulk trees) f.writes.trees = subst (λ xs. TreesCost s.indent (trees_bulk trees) xs) (sym laid) cost.costs in
+      let costs : TreesCost s (trees_bulk trees) f.writes.trees = subst (λ xs. TreesCost s (trees_bulk trees) xs) (sym laid) cost.costs in
       let fits : tall_documents f.writes.trees * s.indent + s.indent ≤ w =
       (let a = mul-le-mul_right s.indent l in let b = suc-mul d s.indent in let e = mul_comm (suc d) s.indent in let g = ap (λ k. k * s.indent) height in omega (arith, a, b, e, g)) in
       let lines = all_size (setting_of m s) w (is_bare m s) m.documents costs fits in

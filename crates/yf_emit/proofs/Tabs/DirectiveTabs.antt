@@ -11,6 +11,7 @@ use Rattle.yf_props.proofs.SolidLemmas.{hex_solid, tag_solid, uri_solid}
 use Rattle.yf_events.specs.declared.directive.Directive.{Directive}
 use Rattle.yf_events.specs.declared.document.Doc.{Doc}
 use Rattle.yf_events.specs.Tree.{DocumentTree}
+use Rattle.yf_emit.specs.declared.style.Style.{Style}
 use Rattle.yf_emit.specs.Layouts.FitDocuments.{FitDirective, FitDirectives, fit_no_directives, fit_directive, FitDocuments, fit_no_documents, fit_document}
 use Rattle.yf_emit.specs.Layouts.Rows.{joined_words}
 use Rattle.yf_emit.specs.Preservation.Tokens.{HasText, first_text, later_text, TabsWithin}
@@ -79,6 +80,6 @@ module _ (Token : List ℕ → Type 0) where
   directives_tabs fit_no_directives = no_words
   directives_tabs (fit_directive {d = d} {ds = ds} f fs) = joined_tabless d.words (flat_map (λ (e : Directive). e.words) ds) (directive_tabs f) (directives_tabs fs)
 
-  pub words_tabless : {ds : List Doc} {xs : List DocumentTree} → FitDocuments ds xs → AreTabless Token (words_in ds)
+  pub words_tabless : {house : Style} {ds : List Doc} {xs : List DocumentTree} → FitDocuments house ds xs → AreTabless Token (words_in ds)
   words_tabless fit_no_documents = no_words
   words_tabless (fit_document {d = d} {ds = ds} f fit more) = joined_tabless (flat_map (λ (e : Directive). e.words) d.directives) (words_in ds) (directives_tabs f) (words_tabless more)

@@ -7,6 +7,7 @@ use Rattle.yf_events.specs.Event.{EventValue, EventInText, mapping_ends, sequenc
 use Rattle.yf_events.specs.declared.event.ScalarStyle.{ScalarStyle}
 use Rattle.yf_events.specs.declared.event.ScalarStyle.TheVariants.{Plain, Single, Double, Literal, Folded}
 use Rattle.yf_events.specs.Tree.{NodeOffsets, Node, scalar, Items, Pairs, flat, flat_items, flat_pairs, unplaced}
+use Rattle.yf_emit.specs.declared.style.Style.{Style}
 use Rattle.yf_emit.specs.Layouts.ReadableTrees.{FitProps, no_fit_props, some_fit_props}
 use Rattle.yf_emit.specs.Nodes.OneLine.{props_text, scalar_text}
 use Rattle.yf_emit.proofs.Writable.ReadTrees.{ReadNode, read_nothing, read_props, read_scalar, read_alias, read_sequence, read_mapping, ReadItems, read_no_items, read_item, ReadPairs, read_no_pairs, read_pair}
@@ -26,7 +27,7 @@ none_text a = elim a [ ]
 tokens_append : (es fs : List EventInText) → tokens_in (es ++ fs) ≡ tokens_in es ++ tokens_in fs
 tokens_append es fs = flat_map-append (λ (e : EventInText). tokens_of_event e.event) es fs
 
-module _ (Token : List ℕ → Type 0) where
+module _ (Token : List ℕ → Type 0) (house : Style) where
   abbrev Tabs : List ℕ → Type 0
   Tabs x = TabsWithin Token x
 
@@ -36,7 +37,7 @@ module _ (Token : List ℕ → Type 0) where
 
   -- and no tab is elsewhere in their pieces
   abbrev pub PiecesTabless : List EventInText → Type 0
-  PiecesTabless es = (w : List ℕ) → HasText w (pieces_in es) → Tabs w
+  PiecesTabless es = (w : List ℕ) → HasText w (pieces_in house es) → Tabs w
 
   pub left_tokens : (es fs : List EventInText) → AreTokens (es ++ fs) → AreTokens es
   left_tokens es fs h = λ w a. h w (subst (λ z. HasText w z) (sym (tokens_append es fs)) (text_left (tokens_in fs) a))
@@ -45,7 +46,7 @@ module _ (Token : List ℕ → Type 0) where
   right_tokens es fs h = λ w a. h w (subst (λ z. HasText w z) (sym (tokens_append es fs)) (text_right (tokens_in es) a))
 
   pub pieces_joined : (es fs : List EventInText) → PiecesTabless es → PiecesTabless fs → PiecesTabless (es ++ fs)
-  pieces_joined es fs a b = λ w h. ⊎_elim (λ (k : HasText w (pieces_in es)). a w k) (λ (k : HasText w (pieces_in fs)). b w k) (either_text (pieces_in es) (pieces_in fs) (subst (λ z. HasText w z) (pieces_append es fs) h))
+  pieces_joined es fs a b = λ w h. ⊎_elim (λ (k : HasText w (pieces_in house es)). a w k) (λ (k : HasText w (pieces_in house fs)). b w k) (either_text (pieces_in house es) (pieces_in house fs) (subst (λ z. HasText w z) (pieces_append house es fs) h))
 
   props_read : {p : PropsValue} → FitProps p → Tabs (props_text p)
   props_read no_fit_props = at_end
@@ -63,15 +64,15 @@ module _ (Token : List ℕ → Type 0) where
   more_pieces a f (first_text e) = subst (λ z. Tabs z) (sym e) a
   more_pieces a f (later_text b) = f b
 
-  scalar_read : (at : NodeOffsets) (props : PropsValue) (style : ScalarStyle) (text : List ℕ) (lines : List (List ℕ)) → AreTokens (flat (scalar at props style text lines)) → Tabs (scalar_text style text)
+  scalar_read : (at : NodeOffsets) (props : PropsValue) (style : ScalarStyle) (text : List ℕ) (lines : List (List ℕ)) → AreTokens (flat (scalar at props style text lines)) → Tabs (scalar_text house style text)
   scalar_read at props Plain text lines h = one_token Token (h text (first_text refl))
-  scalar_read at props Single text lines h = one_token Token (h (scalar_text Single text) (first_text refl))
-  scalar_read at props Double text lines h = double_tabs Token (chars text)
+  scalar_read at props Single text lines h = one_token Token (h (scalar_text house Single text) (first_text refl))
+  scalar_read at props Double text lines h = double_tabs Token house.invisible (chars text)
   scalar_read at props Literal text lines h = at_end
   scalar_read at props Folded text lines h = at_end
 
   -- before the event that ends a collection, which has no piece
-  pub ended : (es : List EventInText) (e : EventValue) → pieces_in (unplaced e ∷ []) ≡ [] → PiecesTabless es → PiecesTabless (es ++ (unplaced e ∷ []))
+  pub ended : (es : List EventInText) (e : EventValue) → pieces_in house (unplaced e ∷ []) ≡ [] → PiecesTabless es → PiecesTabless (es ++ (unplaced e ∷ []))
   ended es e none a = pieces_joined es (unplaced e ∷ []) a (λ w h. none_text (subst (λ z. HasText w z) none h))
 
   mutual

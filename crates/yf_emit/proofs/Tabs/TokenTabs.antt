@@ -6,13 +6,17 @@ use Rattle.std.proofs.lemmas.Bool.Decides.{nat_tests}
 use Rattle.std.proofs.lemmas.Str.{encode_ascii}
 use lib.Utf8.{encode}
 use Rattle.yf_chars.specs.Class.{is_anchor_char, is_between, is_break_char, is_flow_indicator, is_nb_char, is_ns_char, is_printable, is_white, is_word_char}
-use Rattle.yf_chars.specs.Escape.{is_by_four, is_by_two, short_name, spelled, spelled_long, two_digits, upper_digit}
-use Rattle.yf_chars.proofs.EscapeLemmas.{spelled_four, spelled_letter, spelled_none, spelled_self, spelled_two}
+use Rattle.yf_chars.specs.Hidden.{is_spelled_out}
+use Rattle.yf_chars.proofs.HiddenLemmas.{spelled_alike, spelled_apart}
+use Rattle.yf_lines.specs.declared.invisible.Invisible.{Invisible}
+use Rattle.yf_lines.specs.declared.invisible.Invisible.TheVariants.{Plain, Escaped}
+use Rattle.yf_chars.specs.Escape.{by_number, is_by_four, is_by_two, short_name, spelled, spelled_long, two_digits, upper_digit}
+use Rattle.yf_chars.proofs.EscapeLemmas.{few_digits, many_digits, spelled_four, spelled_letter, spelled_none, spelled_self, spelled_two}
 use Rattle.yf_props.specs.Props.{PropsValue, TagValue}
 use Rattle.yf_props.specs.Written.{AllOf, IsName, IsSpelled, nothing_spelled, itself_spelled, escape_spelled, IsHandle, primary_form, secondary_form, named_form, IsTag, verbatim_form, short_form, lone_form, IsProps, tag_bytes, parts_bytes, props_bytes}
 use Rattle.yf_props.proofs.SeparationEnds.{Solid}
 use Rattle.yf_props.proofs.SolidLemmas.{hex_solid, tag_solid, uri_solid, word_solid}
-use Rattle.yf_quoted.specs.Written.{double_bytes}
+use Rattle.yf_quoted.specs.Written.{double_bytes_in, spelled_in}
 use Rattle.yf_emit.specs.Preservation.Tokens.{TabsWithin, a_token, at_end, no_tab}
 use Rattle.yf_emit.proofs.Texts.HighBytes.{AllHigh, all_high}
 use Rattle.yf_emit.proofs.Tabs.RowTokens.{sign, tabs_append}
@@ -121,9 +125,24 @@ module _ (Token : List ℕ → Type 0) where
     go (Some l) e = subst (λ z. Tabless z) (sym (spelled_letter c l e)) ((λ z. omega (arith, z)), (no_letter c l e, tt))
     go None e = subst (λ z. Tabless z) (sym (spelled_none c e)) (long_tabless c)
 
-  all_spelled : (cs : List ℕ) → Tabless (flat_map spelled cs)
-  all_spelled [] = tt
-  all_spelled (c ∷ cs) = tabless_append (spelled c) (flat_map spelled cs) (spelled_tabless c) (all_spelled cs)
+  number_tabless : (c : ℕ) → Tabless (by_number c)
+  number_tabless c =
+      ⊎_elim (λ (l : c < 0x10000). subst (λ z. Tabless z) (sym (few_digits c l))
+      (tabless_append (92 ∷ 117 ∷ two_digits (c / 256)) (two_digits (c % 256)) ((λ z. omega (arith, z)), ((λ z. omega (arith, z)), digits (c / 256))) (digits (c % 256))))
+      (λ (l : 0x10000 ≤ c). subst (λ z. Tabless z) (sym (many_digits c l))
+      (tabless_append (92 ∷ 85 ∷ two_digits 0) _ ((λ z. omega (arith, z)), ((λ z. omega (arith, z)), digits 0))
+      (tabless_append (two_digits (c / 65536)) _ (digits (c / 65536)) (tabless_append (two_digits (c / 256 % 256)) _ (digits (c / 256 % 256)) (digits (c % 256))))))
+      (cases_lt c 0x10000)
 
-  pub double_tabs : (cs : List ℕ) → Tabs (double_bytes cs)
-  double_tabs cs = sign Token 34 (omega arith) (tabs_append Token (chars_tabs (flat_map spelled cs) (all_spelled cs)) (sign Token 34 (omega arith) at_end))
+  spelled_in_tabless : (i : Invisible) (c : ℕ) → Tabless (spelled_in i c)
+  spelled_in_tabless Plain c = spelled_tabless c
+  spelled_in_tabless Escaped c =
+      ⊎_elim (λ (e : is_spelled_out c ≡ true). subst (λ z. Tabless z) (sym (spelled_apart c e)) (number_tabless c))
+      (λ (e : is_spelled_out c ≡ false). subst (λ z. Tabless z) (sym (spelled_alike c e)) (spelled_tabless c)) (cases_Bool (is_spelled_out c))
+
+  all_spelled : (i : Invisible) (cs : List ℕ) → Tabless (flat_map (spelled_in i) cs)
+  all_spelled i [] = tt
+  all_spelled i (c ∷ cs) = tabless_append (spelled_in i c) (flat_map (spelled_in i) cs) (spelled_in_tabless i c) (all_spelled i cs)
+
+  pub double_tabs : (i : Invisible) (cs : List ℕ) → Tabs (double_bytes_in i cs)
+  double_tabs i cs = sign Token 34 (omega arith) (tabs_append Token (chars_tabs (flat_map (spelled_in i) cs) (all_spelled i cs)) (sign Token 34 (omega arith) at_end))

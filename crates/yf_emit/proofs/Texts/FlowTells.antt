@@ -1,7 +1,6 @@
 -- The text of a flow collection from the measures of flow collections alone.
 use Rattle.std.proofs.Common.{◌≡◌, ℕ, ◌+◌, true, false, List, [], ◌++◌, Some, None, length, get_or, refl, sym, ap, ◌∙◌, subst}
 use Rattle.std.proofs.lemmas.Option.{get_or_from_slice_get}
-use Rattle.yf_lines.specs.declared.quotes.Quotes.{Quotes}
 use Rattle.yf_events.specs.Event.{EventInText}
 use Rattle.yf_events.specs.Tree.{Node, flat}
 use Rattle.yf_emit.specs.declared.form.measure.Measure.{Measure}
@@ -37,13 +36,13 @@ flow_tells_none es s ms i m f k = record {
       sym (kept_text_none t c x (sym (ap (λ v. v.can_be_kept) here) ∙ k));
 }
 
-pub text_some : (q : Quotes) (es : List EventInText) (i : ℕ) (m n : Measure) (old new : List ℕ) → m ≡ n → old ≡ [] → new ≡ old ++ run q [] (between i m.last es)
+pub text_some : (q : Style) (es : List EventInText) (i : ℕ) (m n : Measure) (old new : List ℕ) → m ≡ n → old ≡ [] → new ≡ old ++ run q [] (between i m.last es)
     → m.can_be_kept ≡ true → Some new ≡ text_measured q es i n
 text_some q es i m n old new e b a k =
     let h : n.can_be_kept ≡ true = sym (ap (λ w. w.can_be_kept) e) ∙ k in
     rw h (ap Some (a ∙ ap (λ w. w ++ run q [] (between i m.last es)) b ∙ ap (λ w. run q [] (between i w.last es)) e))
 
-pub text_none : (q : Quotes) (es : List EventInText) (i : ℕ) (m n : Measure) → m ≡ n → m.can_be_kept ≡ false → None ≡ text_measured q es i n
+pub text_none : (q : Style) (es : List EventInText) (i : ℕ) (m n : Measure) → m ≡ n → m.can_be_kept ≡ false → None ≡ text_measured q es i n
 text_none q es i m n e k =
     let h : n.can_be_kept ≡ false = sym (ap (λ w. w.can_be_kept) e) ∙ k in
     rw h refl

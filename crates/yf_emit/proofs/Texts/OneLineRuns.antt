@@ -5,7 +5,7 @@ use Rattle.std.proofs.lemmas.Bool.{and_parts}
 use Rattle.std.proofs.lemmas.List.{drop_all}
 use Rattle.yf_lines.specs.declared.quotes.Quotes.{Quotes}
 use Rattle.yf_props.specs.Props.{PropsValue}
-use Rattle.yf_quoted.specs.Written.{quotes_for}
+use Rattle.yf_quoted.specs.Written.{quotes_in}
 use Rattle.yf_events.specs.Event.{EventValue, EventInText, sequence_ends, mapping_ends}
 use Rattle.yf_events.specs.declared.event.ScalarStyle.{ScalarStyle}
 use Rattle.yf_events.specs.declared.event.ScalarStyle.TheVariants.{Plain, Single, Double, Literal, Folded}
@@ -28,16 +28,16 @@ spaced_filled [] y n = refl
 spaced_filled (b ∷ x) [] n = absurd (true≢false n)
 spaced_filled (b ∷ x) (c ∷ y) n = sym (append_assoc (b ∷ x) (32 ∷ []) (c ∷ y))
 
-quoted_text : (q : Quotes) (s : List ℕ) → is_empty_text (scalar_text (style_in q) s) ≡ false
-quoted_text Quotes.Single s = refl
-quoted_text Quotes.Double s = refl
+quoted_text : (house : Style) (q : Quotes) (s : List ℕ) → is_empty_text (scalar_text house (style_in q) s) ≡ false
+quoted_text house Quotes.Single s = refl
+quoted_text house Quotes.Double s = refl
 
-pub scalar_filled : (style : ScalarStyle) (text : List ℕ) (q : Quotes) → scalar_may_be_kept style text ≡ true
-    → is_empty_text (scalar_text (wanted style text q) text) ≡ false
+pub scalar_filled : (style : ScalarStyle) (text : List ℕ) (q : Style) → scalar_may_be_kept style text ≡ true
+    → is_empty_text (scalar_text q (wanted style text q) text) ≡ false
 scalar_filled Plain [] q k = absurd (true≢false (sym k))
 scalar_filled Plain (b ∷ text) q k = rw k refl
-scalar_filled Single text q k = quoted_text (quotes_for (chars text) q) text
-scalar_filled Double text q k = quoted_text (quotes_for (chars text) q) text
+scalar_filled Single text q k = quoted_text q (quotes_in q.invisible (chars text) q.quotes) text
+scalar_filled Double text q k = quoted_text q (quotes_in q.invisible (chars text) q.quotes) text
 scalar_filled Literal text q k = absurd (true≢false (sym k))
 scalar_filled Folded text q k = absurd (true≢false (sym k))
 
@@ -46,17 +46,17 @@ quoted_colon : (q : Quotes) (at : NodeOffsets) (props : PropsValue) (s : List �
 quoted_colon Quotes.Single at props s lines = refl
 quoted_colon Quotes.Double at props s lines = refl
 
-scalar_colon : (at : NodeOffsets) (props : PropsValue) (style : ScalarStyle) (text : List ℕ) (lines : List (List ℕ)) (q : Quotes)
+scalar_colon : (at : NodeOffsets) (props : PropsValue) (style : ScalarStyle) (text : List ℕ) (lines : List (List ℕ)) (q : Style)
     → scalar_may_be_kept style text ≡ true → colon_after (scalar at props (wanted style text q) text lines) ≡ codes ":"
 scalar_colon at props Plain [] lines q k = absurd (true≢false (sym k))
 scalar_colon at props Plain (b ∷ text) lines q k = rw k refl
-scalar_colon at props Single text lines q k = quoted_colon (quotes_for (chars text) q) at props text lines
-scalar_colon at props Double text lines q k = quoted_colon (quotes_for (chars text) q) at props text lines
+scalar_colon at props Single text lines q k = quoted_colon (quotes_in q.invisible (chars text) q.quotes) at props text lines
+scalar_colon at props Double text lines q k = quoted_colon (quotes_in q.invisible (chars text) q.quotes) at props text lines
 scalar_colon at props Literal text lines q k = absurd (true≢false (sym k))
 scalar_colon at props Folded text lines q k = absurd (true≢false (sym k))
 
-pub node_filled : (t : List ℕ) (c : LayoutSetting) (x : Node) → may_be_kept t c.comments x ≡ true → is_empty_text (bare (styled t c x)) ≡ false
-node_filled t c (scalar at props style text lines) k = scalar_filled style text c.style.quotes k
+pub node_filled : (t : List ℕ) (c : LayoutSetting) (x : Node) → may_be_kept t c.comments x ≡ true → is_empty_text (bare c.style (styled t c x)) ≡ false
+node_filled t c (scalar at props style text lines) k = scalar_filled style text c.style k
 node_filled t c (alias at name) k = refl
 node_filled t c (sequence at flow props no_items) k = refl
 node_filled t c (sequence at flow props (item x xs)) k = refl
@@ -70,10 +70,10 @@ same_props t c (sequence at flow props xs) = refl
 same_props t c (mapping at flow props ps) = refl
 
 written_is : (t : List ℕ) (c : LayoutSetting) (x : Node) → may_be_kept t c.comments x ≡ true
-    → written (styled t c x) ≡ space_after (props_text (props_of x)) ++ bare (styled t c x)
+    → written c.style (styled t c x) ≡ space_after (props_text (props_of x)) ++ bare c.style (styled t c x)
 written_is t c x k =
-    spaced_filled (props_text (props_of (styled t c x))) (bare (styled t c x)) (node_filled t c x k)
-    ∙ ap (λ p. space_after (props_text p) ++ bare (styled t c x)) (same_props t c x)
+    spaced_filled (props_text (props_of (styled t c x))) (bare c.style (styled t c x)) (node_filled t c x k)
+    ∙ ap (λ p. space_after (props_text p) ++ bare c.style (styled t c x)) (same_props t c x)
 
 -- and where it is a key, what is before its value is its `:`
 
@@ -86,7 +86,7 @@ is_alias (mapping at flow props ps) = false
 colon_is : (t : List ℕ) (c : LayoutSetting) (x : Node) → may_be_kept t c.comments x ≡ true
     → separator (value_of (is_alias x)) ≡ colon_after (styled t c x) ++ codes " "
 colon_is t c (scalar at props style text lines) k =
-    ap (λ w. w ++ codes " ") (sym (scalar_colon at props style text (lines_in (wanted style text c.style.quotes) lines) c.style.quotes k))
+    ap (λ w. w ++ codes " ") (sym (scalar_colon at props style text (lines_in (wanted style text c.style) lines) c.style k))
 colon_is t c (alias at name) k = refl
 colon_is t c (sequence at flow props xs) k = refl
 colon_is t c (mapping at flow props ps) k = refl
@@ -95,15 +95,15 @@ colon_is t c (mapping at flow props ps) k = refl
 
 abbrev Runs : List ℕ → LayoutSetting → Node → Type 0
 Runs t c x = (f : Expected) (stack : List Expected) (es : List EventInText)
-    → run c.style.quotes (f ∷ stack) (flat x ++ es) ≡ separator f ++ (written (styled t c x) ++ run c.style.quotes (expected_after (is_alias x) f ∷ stack) es)
+    → run c.style (f ∷ stack) (flat x ++ es) ≡ separator f ++ (written c.style (styled t c x) ++ run c.style (expected_after (is_alias x) f ∷ stack) es)
 
 abbrev RunsItems : List ℕ → LayoutSetting → Items → Type 0
 RunsItems t c xs = (stack : List Expected) (es : List EventInText)
-    → run c.style.quotes (Item ∷ stack) (flat_items xs ++ es) ≡ more_items (styled_items t c xs) ++ run c.style.quotes (Item ∷ stack) es
+    → run c.style (Item ∷ stack) (flat_items xs ++ es) ≡ more_items c.style (styled_items t c xs) ++ run c.style (Item ∷ stack) es
 
 abbrev RunsPairs : List ℕ → LayoutSetting → Pairs → Type 0
 RunsPairs t c ps = (stack : List Expected) (es : List EventInText)
-    → run c.style.quotes (Key ∷ stack) (flat_pairs ps ++ es) ≡ more_pairs (styled_pairs t c ps) ++ run c.style.quotes (Key ∷ stack) es
+    → run c.style (Key ∷ stack) (flat_pairs ps ++ es) ≡ more_pairs c.style (styled_pairs t c ps) ++ run c.style (Key ∷ stack) es
 
 key_after : (a b : Bool) → expected_after a (value_of b) ≡ Key
 key_after a true = refl
@@ -111,16 +111,16 @@ key_after a false = refl
 
 pair_run : (t : List ℕ) (c : LayoutSetting) (x y : Node) → may_be_kept t c.comments x ≡ true → Runs t c x → Runs t c y → (f : Expected)
     → ((b : Bool) → expected_after b f ≡ value_of b) → (stack : List Expected) (es : List EventInText)
-    → run c.style.quotes (f ∷ stack) (flat x ++ (flat y ++ es)) ≡ separator f ++ (written (styled t c x) ++ (colon_after (styled t c x)
-    ++ (codes " " ++ (written (styled t c y) ++ run c.style.quotes (Key ∷ stack) es))))
+    → run c.style (f ∷ stack) (flat x ++ (flat y ++ es)) ≡ separator f ++ (written c.style (styled t c x) ++ (colon_after (styled t c x)
+    ++ (codes " " ++ (written c.style (styled t c y) ++ run c.style (Key ∷ stack) es))))
 pair_run t c x y k r s f h stack es =
     r f stack (flat y ++ es)
-    ∙ ap (λ w. separator f ++ (written (styled t c x) ++ w))
-    (ap (λ g. run c.style.quotes (g ∷ stack) (flat y ++ es)) (h (is_alias x))
+    ∙ ap (λ w. separator f ++ (written c.style (styled t c x) ++ w))
+    (ap (λ g. run c.style (g ∷ stack) (flat y ++ es)) (h (is_alias x))
     ∙ s (value_of (is_alias x)) stack es
-    ∙ ap (λ g. separator (value_of (is_alias x)) ++ (written (styled t c y) ++ run c.style.quotes (g ∷ stack) es)) (key_after (is_alias y) (is_alias x))
-    ∙ ap (λ w. w ++ (written (styled t c y) ++ run c.style.quotes (Key ∷ stack) es)) (colon_is t c x k)
-    ∙ append_assoc (colon_after (styled t c x)) (codes " ") (written (styled t c y) ++ run c.style.quotes (Key ∷ stack) es))
+    ∙ ap (λ g. separator (value_of (is_alias x)) ++ (written c.style (styled t c y) ++ run c.style (g ∷ stack) es)) (key_after (is_alias y) (is_alias x))
+    ∙ ap (λ w. w ++ (written c.style (styled t c y) ++ run c.style (Key ∷ stack) es)) (colon_is t c x k)
+    ∙ append_assoc (colon_after (styled t c x)) (codes " ") (written c.style (styled t c y) ++ run c.style (Key ∷ stack) es))
 
 -- Groups
 
@@ -153,26 +153,26 @@ more_pairs_group a w p b v m r = simp append_assoc
 
 items_inside : (t : List ℕ) (c : LayoutSetting) (at : NodeOffsets) (flow : Bool) (props : PropsValue) (x : Node) (xs : Items) → Runs t c x → RunsItems t c xs
     → (stack : List Expected) (es : List EventInText)
-    → codes "[" ++ run c.style.quotes (FirstItem ∷ stack) (((flat x ++ flat_items xs) ++ (unplaced sequence_ends ∷ [])) ++ es)
-    ≡ bare (styled t c (sequence at flow props (item x xs))) ++ run c.style.quotes stack es
+    → codes "[" ++ run c.style (FirstItem ∷ stack) (((flat x ++ flat_items xs) ++ (unplaced sequence_ends ∷ [])) ++ es)
+    ≡ bare c.style (styled t c (sequence at flow props (item x xs))) ++ run c.style stack es
 unfolding run
 items_inside t c at flow props x xs r s stack es =
-    ap (λ w. codes "[" ++ run c.style.quotes (FirstItem ∷ stack) w) (entries_group (flat x) (flat_items xs) (unplaced sequence_ends ∷ []) es)
+    ap (λ w. codes "[" ++ run c.style (FirstItem ∷ stack) w) (entries_group (flat x) (flat_items xs) (unplaced sequence_ends ∷ []) es)
     ∙ ap (λ w. codes "[" ++ w) (r FirstItem stack (flat_items xs ++ (unplaced sequence_ends ∷ es)))
-    ∙ ap (λ w. codes "[" ++ (written (styled t c x) ++ w)) (s stack (unplaced sequence_ends ∷ es))
-    ∙ items_close (codes "[") (written (styled t c x)) (more_items (styled_items t c xs)) (codes "]") (run c.style.quotes stack es)
+    ∙ ap (λ w. codes "[" ++ (written c.style (styled t c x) ++ w)) (s stack (unplaced sequence_ends ∷ es))
+    ∙ items_close (codes "[") (written c.style (styled t c x)) (more_items c.style (styled_items t c xs)) (codes "]") (run c.style stack es)
 
 pairs_inside : (t : List ℕ) (c : LayoutSetting) (at : NodeOffsets) (flow : Bool) (props : PropsValue) (x y : Node) (ps : Pairs)
     → may_be_kept t c.comments x ≡ true → Runs t c x → Runs t c y → RunsPairs t c ps → (stack : List Expected) (es : List EventInText)
-    → codes "{" ++ run c.style.quotes (FirstKey ∷ stack) (((flat x ++ (flat y ++ flat_pairs ps)) ++ (unplaced mapping_ends ∷ [])) ++ es)
-    ≡ bare (styled t c (mapping at flow props (pair x y ps))) ++ run c.style.quotes stack es
+    → codes "{" ++ run c.style (FirstKey ∷ stack) (((flat x ++ (flat y ++ flat_pairs ps)) ++ (unplaced mapping_ends ∷ [])) ++ es)
+    ≡ bare c.style (styled t c (mapping at flow props (pair x y ps))) ++ run c.style stack es
 unfolding run
 pairs_inside t c at flow props x y ps k r s u stack es =
-    ap (λ w. codes "{" ++ run c.style.quotes (FirstKey ∷ stack) w) (pairs_group (flat x) (flat y) (flat_pairs ps) (unplaced mapping_ends ∷ []) es)
+    ap (λ w. codes "{" ++ run c.style (FirstKey ∷ stack) w) (pairs_group (flat x) (flat y) (flat_pairs ps) (unplaced mapping_ends ∷ []) es)
     ∙ ap (λ w. codes "{" ++ w) (pair_run t c x y k r s FirstKey (λ b. refl) stack (flat_pairs ps ++ (unplaced mapping_ends ∷ es)))
-    ∙ ap (λ w. codes "{" ++ (written (styled t c x) ++ (colon_after (styled t c x) ++ (codes " " ++ (written (styled t c y) ++ w))))) (u stack (unplaced mapping_ends ∷ es))
-    ∙ pairs_close (codes "{") (written (styled t c x)) (colon_after (styled t c x)) (codes " ") (written (styled t c y)) (more_pairs (styled_pairs t c ps)) (codes "}")
-    (run c.style.quotes stack es)
+    ∙ ap (λ w. codes "{" ++ (written c.style (styled t c x) ++ (colon_after (styled t c x) ++ (codes " " ++ (written c.style (styled t c y) ++ w))))) (u stack (unplaced mapping_ends ∷ es))
+    ∙ pairs_close (codes "{") (written c.style (styled t c x)) (colon_after (styled t c x)) (codes " ") (written c.style (styled t c y)) (more_pairs c.style (styled_pairs t c ps)) (codes "}")
+    (run c.style stack es)
 
 -- what may be kept holds nodes that may
 
@@ -204,32 +204,32 @@ mutual
 
   node_run : (t : List ℕ) (c : LayoutSetting) (x : Node) → may_be_kept t c.comments x ≡ true → Runs t c x
   node_run t c (scalar at props style text lines) k = λ f stack es.
-      leaf_group (separator f) (space_after (props_text props)) (scalar_text (wanted style text c.style.quotes) text)
-      (run c.style.quotes (expected_after false f ∷ stack) es) _ (written_is t c (scalar at props style text lines) k)
+      leaf_group (separator f) (space_after (props_text props)) (scalar_text c.style (wanted style text c.style) text)
+      (run c.style (expected_after false f ∷ stack) es) _ (written_is t c (scalar at props style text lines) k)
   node_run t c (alias at name) k = λ f stack es.
-      append_assoc (separator f) (42 ∷ name) (run c.style.quotes (expected_after true f ∷ stack) es)
+      append_assoc (separator f) (42 ∷ name) (run c.style (expected_after true f ∷ stack) es)
   node_run t c (sequence at flow props no_items) k = λ f stack es.
       bracket_group (separator f) (space_after (props_text props)) (codes "[")
-      (run c.style.quotes (FirstItem ∷ (expected_after false f ∷ stack)) (unplaced sequence_ends ∷ es)) _
-      (bare (styled t c (sequence at flow props no_items))) (run c.style.quotes (expected_after false f ∷ stack) es)
+      (run c.style (FirstItem ∷ (expected_after false f ∷ stack)) (unplaced sequence_ends ∷ es)) _
+      (bare c.style (styled t c (sequence at flow props no_items))) (run c.style (expected_after false f ∷ stack) es)
       (written_is t c (sequence at flow props no_items) k) refl
   node_run t c (sequence at flow props (item x xs)) k = λ f stack es.
       let parts = kept_items t c at flow props x xs k in
       bracket_group (separator f) (space_after (props_text props)) (codes "[")
-      (run c.style.quotes (FirstItem ∷ (expected_after false f ∷ stack)) (((flat x ++ flat_items xs) ++ (unplaced sequence_ends ∷ [])) ++ es)) _
-      (bare (styled t c (sequence at flow props (item x xs)))) (run c.style.quotes (expected_after false f ∷ stack) es)
+      (run c.style (FirstItem ∷ (expected_after false f ∷ stack)) (((flat x ++ flat_items xs) ++ (unplaced sequence_ends ∷ [])) ++ es)) _
+      (bare c.style (styled t c (sequence at flow props (item x xs)))) (run c.style (expected_after false f ∷ stack) es)
       (written_is t c (sequence at flow props (item x xs)) k)
       (items_inside t c at flow props x xs (node_run t c x parts.0) (items_run t c xs parts.1) (expected_after false f ∷ stack) es)
   node_run t c (mapping at flow props no_pairs) k = λ f stack es.
       bracket_group (separator f) (space_after (props_text props)) (codes "{")
-      (run c.style.quotes (FirstKey ∷ (expected_after false f ∷ stack)) (unplaced mapping_ends ∷ es)) _
-      (bare (styled t c (mapping at flow props no_pairs))) (run c.style.quotes (expected_after false f ∷ stack) es)
+      (run c.style (FirstKey ∷ (expected_after false f ∷ stack)) (unplaced mapping_ends ∷ es)) _
+      (bare c.style (styled t c (mapping at flow props no_pairs))) (run c.style (expected_after false f ∷ stack) es)
       (written_is t c (mapping at flow props no_pairs) k) refl
   node_run t c (mapping at flow props (pair x y ps)) k = λ f stack es.
       let parts = kept_pairs t c at flow props x y ps k in
       bracket_group (separator f) (space_after (props_text props)) (codes "{")
-      (run c.style.quotes (FirstKey ∷ (expected_after false f ∷ stack)) (((flat x ++ (flat y ++ flat_pairs ps)) ++ (unplaced mapping_ends ∷ [])) ++ es)) _
-      (bare (styled t c (mapping at flow props (pair x y ps)))) (run c.style.quotes (expected_after false f ∷ stack) es)
+      (run c.style (FirstKey ∷ (expected_after false f ∷ stack)) (((flat x ++ (flat y ++ flat_pairs ps)) ++ (unplaced mapping_ends ∷ [])) ++ es)) _
+      (bare c.style (styled t c (mapping at flow props (pair x y ps)))) (run c.style (expected_after false f ∷ stack) es)
       (written_is t c (mapping at flow props (pair x y ps)) k)
       (pairs_inside t c at flow props x y ps parts.0 (node_run t c x parts.0) (node_run t c y parts.1) (pairs_run t c ps parts.2) (expected_after false f ∷ stack) es)
 
@@ -237,25 +237,25 @@ mutual
   items_run t c no_items k = λ stack es. refl
   items_run t c (item x xs) k = λ stack es.
       let parts = and_parts (may_be_kept t c.comments x) (items_may_be_kept t c.comments xs) k in
-      ap (λ w. run c.style.quotes (Item ∷ stack) w) (append_assoc (flat x) (flat_items xs) es)
+      ap (λ w. run c.style (Item ∷ stack) w) (append_assoc (flat x) (flat_items xs) es)
       ∙ node_run t c x parts.0 Item stack (flat_items xs ++ es)
-      ∙ ap (λ w. codes ", " ++ (written (styled t c x) ++ w)) (items_run t c xs parts.1 stack es)
-      ∙ more_group (codes ", ") (written (styled t c x)) (more_items (styled_items t c xs)) (run c.style.quotes (Item ∷ stack) es)
+      ∙ ap (λ w. codes ", " ++ (written c.style (styled t c x) ++ w)) (items_run t c xs parts.1 stack es)
+      ∙ more_group (codes ", ") (written c.style (styled t c x)) (more_items c.style (styled_items t c xs)) (run c.style (Item ∷ stack) es)
 
   pairs_run : (t : List ℕ) (c : LayoutSetting) (ps : Pairs) → pairs_may_be_kept t c.comments ps ≡ true → RunsPairs t c ps
   pairs_run t c no_pairs k = λ stack es. refl
   pairs_run t c (pair x y ps) k = λ stack es.
       let parts = kept_more_pairs t c x y ps k in
-      ap (λ w. run c.style.quotes (Key ∷ stack) w) (append_assoc (flat x) (flat y ++ flat_pairs ps) es ∙ ap (λ w. flat x ++ w) (append_assoc (flat y) (flat_pairs ps) es))
+      ap (λ w. run c.style (Key ∷ stack) w) (append_assoc (flat x) (flat y ++ flat_pairs ps) es ∙ ap (λ w. flat x ++ w) (append_assoc (flat y) (flat_pairs ps) es))
       ∙ pair_run t c x y parts.0 (node_run t c x parts.0) (node_run t c y parts.1) Key (λ b. refl) stack (flat_pairs ps ++ es)
-      ∙ ap (λ w. codes ", " ++ (written (styled t c x) ++ (colon_after (styled t c x) ++ (codes " " ++ (written (styled t c y) ++ w))))) (pairs_run t c ps parts.2 stack es)
-      ∙ more_pairs_group (codes ", ") (written (styled t c x)) (colon_after (styled t c x)) (codes " ") (written (styled t c y)) (more_pairs (styled_pairs t c ps))
-      (run c.style.quotes (Key ∷ stack) es)
+      ∙ ap (λ w. codes ", " ++ (written c.style (styled t c x) ++ (colon_after (styled t c x) ++ (codes " " ++ (written c.style (styled t c y) ++ w))))) (pairs_run t c ps parts.2 stack es)
+      ∙ more_pairs_group (codes ", ") (written c.style (styled t c x)) (colon_after (styled t c x)) (codes " ") (written c.style (styled t c y)) (more_pairs c.style (styled_pairs t c ps))
+      (run c.style (Key ∷ stack) es)
 
 -- a collection from bracket to bracket, outside of all others
 
 collection_run : (t : List ℕ) (c : LayoutSetting) (x : Node) → is_collection x ≡ true → may_be_kept t c.comments x ≡ true → (es : List EventInText)
-    → run c.style.quotes [] (flat x ++ es) ≡ bare (styled t c x) ++ run c.style.quotes [] es
+    → run c.style [] (flat x ++ es) ≡ bare c.style (styled t c x) ++ run c.style [] es
 unfolding run
 collection_run t c (scalar at props style text lines) b k es = absurd (true≢false (sym b))
 collection_run t c (alias at name) b k es = absurd (true≢false (sym b))
@@ -269,10 +269,10 @@ collection_run t c (mapping at flow props (pair x y ps)) b k es =
     pairs_inside t c at flow props x y ps parts.0 (node_run t c x parts.0) (node_run t c y parts.1) (pairs_run t c ps parts.2) [] es
 
 whole_run : (t : List ℕ) (c : LayoutSetting) (x : Node) → is_collection x ≡ true → may_be_kept t c.comments x ≡ true
-    → run c.style.quotes [] (flat x) ≡ bare (styled t c x)
+    → run c.style [] (flat x) ≡ bare c.style (styled t c x)
 unfolding run
 whole_run t c x b k =
-    ap (run c.style.quotes []) (sym (append-nil (flat x))) ∙ collection_run t c x b k [] ∙ append-nil (bare (styled t c x))
+    ap (run c.style []) (sym (append-nil (flat x))) ∙ collection_run t c x b k [] ∙ append-nil (bare c.style (styled t c x))
 
 between_node : (es : List EventInText) (first last : ℕ) (x : Node) → NodeAt es first x → last + 1 ≡ first + length (flat x)
     → between first last es ≡ flat x
@@ -283,10 +283,10 @@ between_node es first last x n e =
     ∙ take_at (flat x) n.after (length (flat x)) refl
 
 -- so the events of one that may be kept add its text
-pub kept_run : (t : List ℕ) (c : LayoutSetting) (x : Node) (es : List EventInText) (first last : ℕ) (q : Quotes) → c.style.quotes ≡ q → NodeAt es first x
-    → last + 1 ≡ first + length (flat x) → is_collection x ≡ true → may_be_kept t c.comments x ≡ true → run q [] (between first last es) ≡ bare (styled t c x)
-kept_run t c x es first last q s n e b k =
-    ap (λ w. run w [] (between first last es)) (sym s) ∙ ap (run c.style.quotes []) (between_node es first last x n e) ∙ whole_run t c x b k
+pub kept_run : (t : List ℕ) (c : LayoutSetting) (x : Node) (es : List EventInText) (first last : ℕ) → NodeAt es first x
+    → last + 1 ≡ first + length (flat x) → is_collection x ≡ true → may_be_kept t c.comments x ≡ true → run c.style [] (between first last es) ≡ bare c.style (styled t c x)
+kept_run t c x es first last n e b k =
+    ap (run c.style []) (between_node es first last x n e) ∙ whole_run t c x b k
 
 -- One event of the pass over the events from one index to another
 
@@ -304,7 +304,7 @@ one_event k last es v h l =
     let later : suc k ≡ k + 1 = omega arith in
     (here.0, ap (λ m. take m (drop k es)) count ∙ ap (take (suc (last + 1 - (k + 1)))) here.1 ∙ ap (λ m. here.0 ∷ take (last + 1 - (k + 1)) (drop m es)) later, here.2)
 
-pub run_step : (q : Quotes) (stack next : List Expected) (k last : ℕ) (es : List EventInText) (v : EventValue) (old new all : List ℕ)
+pub run_step : (q : Style) (stack next : List Expected) (k last : ℕ) (es : List EventInText) (v : EventValue) (old new all : List ℕ)
     → slice_get (map (λ e. e.event) es) k ≡ Some v → k ≤ last → new ≡ old ++ added q stack v → next ≡ next_open stack v
     → old ++ run q stack (between k last es) ≡ all → new ++ run q next (between (k + 1) last es) ≡ all
 unfolding run
@@ -316,7 +316,7 @@ run_step q stack next k last es v old new all h l a n i =
     ∙ ap (λ w. old ++ run q stack w) (sym one.1) ∙ i)
 
 -- nothing is left after the last one, nor past the end
-pub run_end : (q : Quotes) (stack : List Expected) (k last : ℕ) (es : List EventInText) (old all : List ℕ) → last + 1 ≤ k
+pub run_end : (q : Style) (stack : List Expected) (k last : ℕ) (es : List EventInText) (old all : List ℕ) → last + 1 ≤ k
     → old ++ run q stack (between k last es) ≡ all → old ≡ all
 unfolding run
 run_end q stack k last es old all l i =
@@ -327,7 +327,7 @@ nothing_taken : (m : ℕ) (es : List EventInText) → es ≡ [] → take m es �
 nothing_taken zero es e = refl
 nothing_taken (suc m) es e = rw e refl
 
-pub run_past : (q : Quotes) (stack : List Expected) (k last : ℕ) (es : List EventInText) (old all : List ℕ) → length es ≤ k
+pub run_past : (q : Style) (stack : List Expected) (k last : ℕ) (es : List EventInText) (old all : List ℕ) → length es ≤ k
     → old ++ run q stack (between k last es) ≡ all → old ≡ all
 unfolding run
 run_past q stack k last es old all l i =
@@ -340,11 +340,11 @@ flat_filled (sequence at flow props xs) = omega arith
 flat_filled (mapping at flow props ps) = omega arith
 
 pub kept_adds : (es : List EventInText) (s : Style) (first last : ℕ) (stack : List Expected) (old new : List ℕ) → stack ≡ []
-    → (first ≤ last → new ≡ old ++ run s.quotes (reverse stack) (between first last es)) → AddsKept es s first last old new
+    → (first ≤ last → new ≡ old ++ run s (reverse stack) (between first last es)) → AddsKept es s first last old new
 kept_adds es s first last stack old new e h = record {
   adds = λ t c x same n l b k.
       let filled : 1 ≤ length (flat x) = flat_filled x in
       let order : first ≤ last = omega arith in
-      h order ∙ ap (λ w. old ++ run s.quotes (reverse w) (between first last es)) e
-      ∙ ap (λ w. old ++ w) (kept_run t c x es first last s.quotes (ap (λ w. w.quotes) same) n l b k);
+      h order ∙ ap (λ w. old ++ run s (reverse w) (between first last es)) e
+      ∙ ap (λ w. old ++ w) (ap (λ w. run w [] (between first last es)) (sym same) ∙ kept_run t c x es first last n l b k);
 }

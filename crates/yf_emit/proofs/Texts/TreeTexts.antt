@@ -6,6 +6,7 @@ use Rattle.std.proofs.lemmas.Str.{IsUtf8-append, IsUtf8-from_is_utf8, IsUtf8-nil
 use Rattle.yf_events.specs.Event.{EventInText}
 use Rattle.yf_events.specs.declared.event.ScalarStyle.{ScalarStyle}
 use Rattle.yf_events.specs.declared.event.ScalarStyle.TheVariants.{Plain, Single, Double, Literal, Folded}
+use Rattle.yf_emit.specs.declared.style.Style.{Style}
 use Rattle.yf_emit.specs.Passes.MeasurePass.{has_text, have_texts}
 use Rattle.yf_emit.specs.NormalForms.Normal.{LayoutSetting, styled, styled_items, styled_pairs}
 use Rattle.yf_emit.specs.Nodes.OneLine.{props_text, scalar_text, bare, written, more_items, more_pairs, colon_after, colon_after_props}
@@ -21,12 +22,12 @@ texts_join (x ∷ xs) ys e =
     let q = texts_join xs ys p.1 in
     (rw (p.0, q.0) refl, q.1)
 
-pub scalar_utf8 : (style : ScalarStyle) (text : List ℕ) → IsUtf8 text → IsUtf8 (scalar_text style text)
-scalar_utf8 Plain text u = u
-scalar_utf8 Single text u = single_utf8 text u
-scalar_utf8 Double text u = double_utf8 text u
-scalar_utf8 Literal text u = IsUtf8-nil
-scalar_utf8 Folded text u = IsUtf8-nil
+pub scalar_utf8 : (house : Style) (style : ScalarStyle) (text : List ℕ) → IsUtf8 text → IsUtf8 (scalar_text house style text)
+scalar_utf8 house Plain text u = u
+scalar_utf8 house Single text u = single_utf8 text u
+scalar_utf8 house Double text u = double_utf8 house.invisible text u
+scalar_utf8 house Literal text u = IsUtf8-nil
+scalar_utf8 house Folded text u = IsUtf8-nil
 
 pub colon_utf8 : (x : Node) → IsUtf8 (colon_after x)
 colon_utf8 (scalar at props Plain [] lines) = by_props (props_text props) where
@@ -66,14 +67,14 @@ pair_texts k v ps e =
     let b = texts_join (flat v) (flat_pairs ps) a.1 in
     record { key = a.0; value = b.0; others = b.1 }
 
-spaced_utf8 : (t : List ℕ) (c : LayoutSetting) (x : Node) → have_texts (flat x) ≡ true → IsUtf8 (bare (styled t c x)) → IsUtf8 (written (styled t c x))
+spaced_utf8 : (t : List ℕ) (c : LayoutSetting) (x : Node) → have_texts (flat x) ≡ true → IsUtf8 (bare c.style (styled t c x)) → IsUtf8 (written c.style (styled t c x))
 spaced_utf8 t c x e u = utf8_spaced _ _ (props_utf8 t c x e) u
 
 mutual
-  pub bare_utf8 : (t : List ℕ) (c : LayoutSetting) (x : Node) → have_texts (flat x) ≡ true → IsUtf8 (bare (styled t c x))
+  pub bare_utf8 : (t : List ℕ) (c : LayoutSetting) (x : Node) → have_texts (flat x) ≡ true → IsUtf8 (bare c.style (styled t c x))
   bare_utf8 t c (scalar at props style text lines) e =
       let p = and_parts (is_utf8 (props_text props) && is_utf8 text) true e in
-      scalar_utf8 (wanted style text c.style.quotes) text (IsUtf8-from_is_utf8 _ (and_parts (is_utf8 (props_text props)) (is_utf8 text) p.0).1)
+      scalar_utf8 c.style (wanted style text c.style) text (IsUtf8-from_is_utf8 _ (and_parts (is_utf8 (props_text props)) (is_utf8 text) p.0).1)
   bare_utf8 t c (alias at name) e = utf8_head 42 name refl (IsUtf8-from_is_utf8 _ (and_parts (is_utf8 name) true e).0)
   bare_utf8 t c (sequence at flow props no_items) e = utf8_head 91 (93 ∷ []) refl (utf8_head 93 [] refl IsUtf8-nil)
   bare_utf8 t c (sequence at flow props (item x xs)) e =
@@ -85,18 +86,18 @@ mutual
       utf8_head 123 _ refl (IsUtf8-append _ _ (spaced_utf8 t c k h.key (bare_utf8 t c k h.key)) (IsUtf8-append _ _ (colon_utf8 (styled t c k)) (utf8_head 32 _ refl
       (IsUtf8-append _ _ (spaced_utf8 t c v h.value (bare_utf8 t c v h.value)) (IsUtf8-append _ _ (pairs_utf8 t c ps h.others) (utf8_head 125 [] refl IsUtf8-nil))))))
 
-  pub items_utf8 : (t : List ℕ) (c : LayoutSetting) (xs : Items) → have_texts (flat_items xs) ≡ true → IsUtf8 (more_items (styled_items t c xs))
+  pub items_utf8 : (t : List ℕ) (c : LayoutSetting) (xs : Items) → have_texts (flat_items xs) ≡ true → IsUtf8 (more_items c.style (styled_items t c xs))
   items_utf8 t c no_items e = IsUtf8-nil
   items_utf8 t c (item x xs) e =
       let h = texts_join (flat x) (flat_items xs) e in
       utf8_head 44 _ refl (utf8_head 32 _ refl (IsUtf8-append _ _ (spaced_utf8 t c x h.0 (bare_utf8 t c x h.0)) (items_utf8 t c xs h.1)))
 
-  pub pairs_utf8 : (t : List ℕ) (c : LayoutSetting) (ps : Pairs) → have_texts (flat_pairs ps) ≡ true → IsUtf8 (more_pairs (styled_pairs t c ps))
+  pub pairs_utf8 : (t : List ℕ) (c : LayoutSetting) (ps : Pairs) → have_texts (flat_pairs ps) ≡ true → IsUtf8 (more_pairs c.style (styled_pairs t c ps))
   pairs_utf8 t c no_pairs e = IsUtf8-nil
   pairs_utf8 t c (pair k v ps) e =
       let h = pair_texts k v ps e in
       utf8_head 44 _ refl (utf8_head 32 _ refl (IsUtf8-append _ _ (spaced_utf8 t c k h.key (bare_utf8 t c k h.key)) (IsUtf8-append _ _ (colon_utf8 (styled t c k)) (utf8_head 32 _ refl
       (IsUtf8-append _ _ (spaced_utf8 t c v h.value (bare_utf8 t c v h.value)) (pairs_utf8 t c ps h.others))))))
 
-pub written_utf8 : (t : List ℕ) (c : LayoutSetting) (x : Node) → have_texts (flat x) ≡ true → IsUtf8 (written (styled t c x))
+pub written_utf8 : (t : List ℕ) (c : LayoutSetting) (x : Node) → have_texts (flat x) ≡ true → IsUtf8 (written c.style (styled t c x))
 written_utf8 t c x e = spaced_utf8 t c x e (bare_utf8 t c x e)

@@ -3,24 +3,25 @@ use Rattle.std.proofs.Common.{◌≡◌, ℕ, Bool, true, false, List, chars, re
 use Rattle.std.specs.Prelude.{if◌then◌else◌}
 use Rattle.yf_lines.specs.Steady.{is_steady}
 use Rattle.yf_lines.specs.declared.quotes.Quotes.{Quotes}
-use Rattle.yf_quoted.specs.Written.{quotes_for}
+use Rattle.yf_quoted.specs.Written.{quotes_in}
 use Rattle.yf_events.specs.declared.event.ScalarStyle.{ScalarStyle}
 use Rattle.yf_events.specs.declared.event.ScalarStyle.TheVariants.{Plain, Single, Double, Literal, Folded}
+use Rattle.yf_emit.specs.declared.style.Style.{Style}
 use Rattle.yf_emit.specs.Nodes.ScalarStyles.{has_block_content, lines_in, quoted_in, style_in, wanted}
 
-quoted_stays : (t : List ℕ) (q : Quotes) → wanted (quoted_in t q) t q ≡ quoted_in t q
-quoted_stays t q = by (quotes_for (chars t) q) where
+quoted_stays : (t : List ℕ) (q : Style) → wanted (quoted_in t q) t q ≡ quoted_in t q
+quoted_stays t q = by (quotes_in q.invisible (chars t) q.quotes) where
   by : (x : Quotes) → wanted (style_in x) t q ≡ quoted_in t q
   by Quotes.Single = refl
   by Quotes.Double = refl
 
 -- a style that is kept where it is chosen, else quotes
-choice_stays : (s : ScalarStyle) (t : List ℕ) (q : Quotes) (b : Bool) → (b ≡ true → wanted s t q ≡ s)
+choice_stays : (s : ScalarStyle) (t : List ℕ) (q : Style) (b : Bool) → (b ≡ true → wanted s t q ≡ s)
     → wanted (if b then s else quoted_in t q) t q ≡ (if b then s else quoted_in t q)
 choice_stays s t q true kept = kept refl
 choice_stays s t q false kept = quoted_stays t q
 
-pub wanted_stays : (style : ScalarStyle) (t : List ℕ) (q : Quotes) → wanted (wanted style t q) t q ≡ wanted style t q
+pub wanted_stays : (style : ScalarStyle) (t : List ℕ) (q : Style) → wanted (wanted style t q) t q ≡ wanted style t q
 wanted_stays Plain t q = choice_stays Plain t q (is_steady t) (λ e. ap (λ b. if b then Plain else quoted_in t q) e)
 wanted_stays Single t q = quoted_stays t q
 wanted_stays Double t q = quoted_stays t q

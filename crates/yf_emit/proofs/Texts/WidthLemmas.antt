@@ -2,15 +2,20 @@
 use Rattle.std.proofs.Common.{◌≡◌, ℕ, zero, suc, ◌+◌, ◌<◌, ◌≤◌, ◌^◌, ◌/◌, ◌%◌, true, false, ◌==◌, List, [], ◌∷◌, ◌++◌, length, flat_map, encode_utf8_all, Option, Some, None, refl, sym, ap, ◌∙◌, arith, append-nil, ⊎_elim}
 use Rattle.std.specs.Prelude.{min, nat_lt, is_some}
 use Rattle.std.specs.Str.{chars, IsUtf8, IsAscii}
-use Rattle.std.proofs.lemmas.Bool.{cases_Bool, and_parts, ne_eqb}
+use Rattle.std.proofs.lemmas.Bool.{cases_Bool, cases_lt, and_parts, ne_eqb}
 use Rattle.std.proofs.lemmas.Bool.Decides.{nat_tests}
 use Rattle.std.proofs.lemmas.Grind.{flat_map-append}
 use Rattle.std.proofs.lemmas.List.{length-append}
 use Rattle.std.proofs.lemmas.Str.{chars-append, chars-encodes, encodes-chars, scalars-chars, IsUtf8-append, IsUtf8-from_ascii, IsUtf8-nil}
 use lib.Utf8.{scalar, scalars, encodes, low_scalar}
-use Rattle.yf_chars.specs.Escape.{spelled, spelled_long, short_name, is_by_two, is_by_four, two_digits, upper_digit}
-use Rattle.yf_chars.proofs.EscapeLemmas.{upper_below, by_two_below, by_four_below, spelled_two, spelled_four, spelled_self, spelled_letter, spelled_none}
-use Rattle.yf_quoted.specs.Written.{twice, single_bytes, double_bytes}
+use Rattle.yf_chars.specs.Hidden.{is_spelled_out, spelled_out}
+use Rattle.yf_chars.proofs.HiddenLemmas.{spelled_alike, spelled_apart}
+use Rattle.yf_chars.proofs.SpelledLemmas.{scalar_below}
+use Rattle.yf_chars.specs.Escape.{by_number, spelled, spelled_long, short_name, is_by_two, is_by_four, two_digits, upper_digit}
+use Rattle.yf_chars.proofs.EscapeLemmas.{few_digits, many_digits, upper_below, by_two_below, by_four_below, spelled_two, spelled_four, spelled_self, spelled_letter, spelled_none}
+use Rattle.yf_lines.specs.declared.invisible.Invisible.{Invisible}
+use Rattle.yf_lines.specs.declared.invisible.Invisible.TheVariants.{Plain, Escaped}
+use Rattle.yf_quoted.specs.Written.{twice, single_bytes, double_bytes_in, spelled_in}
 use Rattle.yf_emit.specs.NormalForms.Measures.{up_to_greatest, joined_width}
 use Rattle.yf_emit.specs.Nodes.OneLine.{width, spaced}
 
@@ -160,14 +165,29 @@ quoted_utf8 q f l each cs s =
 pub single_width : (text : List ℕ) → IsUtf8 text → width (single_bytes (chars text)) ≡ 2 + length (flat_map twice (chars text))
 single_width text u = quoted_width 39 twice refl twice_scalars (chars text) (scalars-chars text u)
 
-pub double_width : (text : List ℕ) → IsUtf8 text → width (double_bytes (chars text)) ≡ 2 + length (flat_map spelled (chars text))
-double_width text u = quoted_width 34 spelled refl spelled_scalars (chars text) (scalars-chars text u)
+number_scalars : (c : ℕ) → scalar c ≡ true → scalars (by_number c) ≡ true
+number_scalars c s =
+    ⊎_elim (λ (l : c < 0x10000). rw (few_digits c l)
+    (scalars_join (two_digits (c / 256)) (two_digits (c % 256)) (digits_scalars (c / 256) (omega arith)) (digits_scalars (c % 256) (omega arith))))
+    (λ (l : 0x10000 ≤ c). let h : c < 0x110000 = scalar_below c s in rw (many_digits c l)
+    (scalars_join (two_digits 0) _ (digits_scalars 0 (omega arith)) (scalars_join (two_digits (c / 65536)) _ (digits_scalars (c / 65536) (omega arith))
+    (scalars_join (two_digits (c / 256 % 256)) _ (digits_scalars (c / 256 % 256) (omega arith)) (digits_scalars (c % 256) (omega arith))))))
+    (cases_lt c 0x10000)
+
+spelled_in_scalars : (i : Invisible) (c : ℕ) → scalar c ≡ true → scalars (spelled_in i c) ≡ true
+spelled_in_scalars Plain c s = spelled_scalars c s
+spelled_in_scalars Escaped c s =
+    ⊎_elim (λ (e : is_spelled_out c ≡ true). rw (spelled_apart c e) (number_scalars c s))
+    (λ (e : is_spelled_out c ≡ false). rw (spelled_alike c e) (spelled_scalars c s)) (cases_Bool (is_spelled_out c))
+
+pub double_width : (i : Invisible) (text : List ℕ) → IsUtf8 text → width (double_bytes_in i (chars text)) ≡ 2 + length (flat_map (spelled_in i) (chars text))
+double_width i text u = quoted_width 34 (spelled_in i) refl (spelled_in_scalars i) (chars text) (scalars-chars text u)
 
 pub single_utf8 : (text : List ℕ) → IsUtf8 text → IsUtf8 (single_bytes (chars text))
 single_utf8 text u = quoted_utf8 39 twice refl twice_scalars (chars text) (scalars-chars text u)
 
-pub double_utf8 : (text : List ℕ) → IsUtf8 text → IsUtf8 (double_bytes (chars text))
-double_utf8 text u = quoted_utf8 34 spelled refl spelled_scalars (chars text) (scalars-chars text u)
+pub double_utf8 : (i : Invisible) (text : List ℕ) → IsUtf8 text → IsUtf8 (double_bytes_in i (chars text))
+double_utf8 i text u = quoted_utf8 34 (spelled_in i) refl (spelled_in_scalars i) (chars text) (scalars-chars text u)
 
 -- the loops that count them
 
@@ -206,3 +226,15 @@ by_four c n e f = ap length (not_by_letter c n ∙ spelled_four c e f)
 
 pub by_itself : (c : ℕ) → is_some (short_name c) ≡ false → is_by_two c ≡ false → is_by_four c ≡ false → length (spelled c) ≡ 1
 by_itself c n e f = ap length (not_by_letter c n ∙ spelled_self c e f)
+
+-- where hidden characters are escaped
+pub by_few : (c : ℕ) → is_spelled_out c ≡ true → c < 0x10000 → length (spelled_out c) ≡ 6
+unfolding two_digits
+by_few c e l = ap length (spelled_apart c e ∙ few_digits c l)
+
+pub by_many : (c : ℕ) → is_spelled_out c ≡ true → 0x10000 ≤ c → length (spelled_out c) ≡ 10
+unfolding two_digits
+by_many c e l = ap length (spelled_apart c e ∙ many_digits c l)
+
+pub not_out : (c : ℕ) → is_spelled_out c ≡ false → length (spelled_out c) ≡ length (spelled c)
+not_out c e = ap length (spelled_alike c e)

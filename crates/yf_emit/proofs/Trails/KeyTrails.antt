@@ -116,8 +116,8 @@ leaf_given : (c : LayoutSetting) (site : Site) (f : Form) (xs : List Row) → f.
 leaf_given c site f xs e g =
     given_one c f ∙ (ap (at_some c.comments) e ∙ (sym (append-nil (at_some c.comments site.key_comment)) ∙ ap (λ v. at_some c.comments site.key_comment ++ v) (sym g)))
 
-line_given : (c : LayoutSetting) (site : Site) (x : Node) → given c (form_of c.style site x ∷ []) ≡ at_some c.comments site.key_comment ++ keys_on (one_line_row site.spot.column x (written x))
-line_given c site x = leaf_given c site (form_of c.style site x) (one_line_row site.spot.column x (written x)) refl (keys_line site.spot.column x (written x))
+line_given : (c : LayoutSetting) (site : Site) (x : Node) → given c (form_of c.style site x ∷ []) ≡ at_some c.comments site.key_comment ++ keys_on (one_line_row site.spot.column x (written c.style x))
+line_given c site x = leaf_given c site (form_of c.style site x) (one_line_row site.spot.column x (written c.style x)) refl (keys_line site.spot.column x (written c.style x))
 
 -- of a block collection
 block_given : (c : LayoutSetting) (site : Site) (f : Form) (p : List ℕ) (fs : List Form) (xs : List Row) → f.key_comment ≡ site.key_comment → given c fs ≡ keys_on xs
@@ -135,7 +135,7 @@ key_given c column true k v w xs ys e h =
     ap (λ z. z ++ (at_some c.comments (key_comment_index c.comments k w) ++ keys_on ys)) (h refl)
     ∙ (ap (λ x. at_some c.comments (key_comment_index c.comments k x) ++ keys_on ys) e
     ∙ (ap (λ z. z ++ keys_on ys) (comment_at c.comments k v)
-    ∙ sym (keys_after (key_row column k) (key_comment c.comments k v) (begins_below v) ys refl)))
+    ∙ sym (keys_after (key_row c.style column k) (key_comment c.comments k v) (begins_below v) ys refl)))
 key_given c column false k v w xs ys e h =
     ap (λ z. z ++ keys_on ys) (sym (keys_joined (entry_row column (codes "?") k) (c.style.indent - 1) xs refl))
     ∙ (ap (λ z. keys_on (after_sign c.style (entry_row column (codes "?") k) xs) ++ z) (sym (keys_joined (colon_row column k) (c.style.indent - 1) ys refl))
@@ -146,7 +146,7 @@ three a b d x y e f = ap (λ w. w ++ (b ++ d)) e ∙ (ap (λ w. x ++ (w ++ d)) f
 
 key_lines : (c : LayoutSetting) (column : ℕ) (k : Node) → House c k → is_implicit c.style column k ≡ true → keys_on (rows c (key_spot c.style column k) k) ≡ []
 key_lines c column k h e =
-    ap keys_on (key_rows c (key_spot c.style column k) column k h e) ∙ keys_line (key_spot c.style column k).column k (written k)
+    ap keys_on (key_rows c (key_spot c.style column k) column k h e) ∙ keys_line (key_spot c.style column k).column k (written c.style k)
 
 mutual
   -- the comments given to keys are those on its rows, after the one of its own site
@@ -159,11 +159,11 @@ mutual
   node_given c site (scalar at props Folded text lines) h s = leaf_given c site (form_of c.style site (scalar at props Folded text lines)) (rows c site.spot (scalar at props Folded text lines)) refl refl
   node_given c site (alias at name) h s = line_given c site (alias at name)
   node_given c site (sequence at true props no_items) h s =
-      whole_given c site (form_of c.style site (sequence at true props no_items)) site.spot.column (sequence at true props no_items) (written (sequence at true props no_items)) [] refl refl
+      whole_given c site (form_of c.style site (sequence at true props no_items)) site.spot.column (sequence at true props no_items) (written c.style (sequence at true props no_items)) [] refl refl
   node_given c site (sequence at false props no_items) h s = absurd (true≢false (same_flag h))
   node_given c site (sequence at true props (item x xs)) h s =
       let whole : Node = sequence at true props (item x xs) in
-      whole_given c site (form_of c.style site whole) site.spot.column whole (written whole)
+      whole_given c site (form_of c.style site whole) site.spot.column whole (written c.style whole)
       (forms_within (is_kept_at c.style site.spot whole) (length (flat_items (item x xs))) (forms_of_items c site.spot.entries (item x xs))) refl
       (given_kept c (is_kept_at c.style site.spot whole) (length (flat_items (item x xs))) (forms_of_items c site.spot.entries (item x xs))
       (kept_where (fits c.style site.spot.column whole) whole _ refl refl s))
@@ -171,11 +171,11 @@ mutual
       block_given c site (form_of c.style site (sequence at false props (item x xs))) (props_text props) (forms_of_items c site.spot.entries (item x xs)) (rows_of_items c site.spot.entries (item x xs)) refl
       (items_given c site.spot.entries (item x xs) (items_of h) (items_of s))
   node_given c site (mapping at true props no_pairs) h s =
-      whole_given c site (form_of c.style site (mapping at true props no_pairs)) site.spot.column (mapping at true props no_pairs) (written (mapping at true props no_pairs)) [] refl refl
+      whole_given c site (form_of c.style site (mapping at true props no_pairs)) site.spot.column (mapping at true props no_pairs) (written c.style (mapping at true props no_pairs)) [] refl refl
   node_given c site (mapping at false props no_pairs) h s = absurd (true≢false (same_flag_of_map h))
   node_given c site (mapping at true props (pair k v ps)) h s =
       let whole : Node = mapping at true props (pair k v ps) in
-      whole_given c site (form_of c.style site whole) site.spot.column whole (written whole)
+      whole_given c site (form_of c.style site whole) site.spot.column whole (written c.style whole)
       (forms_within (is_kept_at c.style site.spot whole) (length (flat_pairs (pair k v ps))) (forms_of_pairs c site.spot.entries (pair k v ps))) refl
       (given_kept c (is_kept_at c.style site.spot whole) (length (flat_pairs (pair k v ps))) (forms_of_pairs c site.spot.entries (pair k v ps))
       (kept_where (fits c.style site.spot.column whole) whole _ refl refl s))

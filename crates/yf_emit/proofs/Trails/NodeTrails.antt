@@ -131,20 +131,20 @@ module _ (cs : List CommentValue) where
 
 first_value : (c : LayoutSetting) (spot : Spot) (k v : Node) → key_comment c.comments k v ≡ None → begins_below v ≡ false → Still c.comments (leaves k) → KeptStill c.comments v
     → FirstStill c.comments (leaves k) (rows c spot v)
-first_value c spot k (scalar at props Plain text lines) e f a h = one_first c.comments (leaves k) spot.column (scalar at props Plain text lines) (written (scalar at props Plain text lines)) (leaf_first c.comments k at.span a e)
-first_value c spot k (scalar at props Single text lines) e f a h = one_first c.comments (leaves k) spot.column (scalar at props Single text lines) (written (scalar at props Single text lines)) (leaf_first c.comments k at.span a e)
-first_value c spot k (scalar at props Double text lines) e f a h = one_first c.comments (leaves k) spot.column (scalar at props Double text lines) (written (scalar at props Double text lines)) (leaf_first c.comments k at.span a e)
+first_value c spot k (scalar at props Plain text lines) e f a h = one_first c.comments (leaves k) spot.column (scalar at props Plain text lines) (written c.style (scalar at props Plain text lines)) (leaf_first c.comments k at.span a e)
+first_value c spot k (scalar at props Single text lines) e f a h = one_first c.comments (leaves k) spot.column (scalar at props Single text lines) (written c.style (scalar at props Single text lines)) (leaf_first c.comments k at.span a e)
+first_value c spot k (scalar at props Double text lines) e f a h = one_first c.comments (leaves k) spot.column (scalar at props Double text lines) (written c.style (scalar at props Double text lines)) (leaf_first c.comments k at.span a e)
 first_value c spot k (scalar at props Literal text lines) e f a h = (refl, leaf_first c.comments k at.span a e)
 first_value c spot k (scalar at props Folded text lines) e f a h = (refl, leaf_first c.comments k at.span a e)
-first_value c spot k (alias at name) e f a h = one_first c.comments (leaves k) spot.column (alias at name) (written (alias at name)) (leaf_first c.comments k at.span a e)
-first_value c spot k (sequence at true props no_items) e f a h = one_first c.comments (leaves k) spot.column (sequence at true props no_items) (written (sequence at true props no_items)) (leaf_first c.comments k at.span a e)
+first_value c spot k (alias at name) e f a h = one_first c.comments (leaves k) spot.column (alias at name) (written c.style (alias at name)) (leaf_first c.comments k at.span a e)
+first_value c spot k (sequence at true props no_items) e f a h = one_first c.comments (leaves k) spot.column (sequence at true props no_items) (written c.style (sequence at true props no_items)) (leaf_first c.comments k at.span a e)
 first_value c spot k (sequence at true props (item x xs)) e f a h =
-    one_first c.comments (leaves k) spot.column (sequence at true props (item x xs)) (written (sequence at true props (item x xs))) (between_key c.comments (entry_or 0 (standing k).entry) (leaves k) (leaves (sequence at true props (item x xs))) a h e)
+    one_first c.comments (leaves k) spot.column (sequence at true props (item x xs)) (written c.style (sequence at true props (item x xs))) (between_key c.comments (entry_or 0 (standing k).entry) (leaves k) (leaves (sequence at true props (item x xs))) a h e)
 first_value c spot k (sequence at false props no_items) e f a h = props_first c.comments (leaves k) spot.column (props_text props) [] (λ g. refl) a
 first_value c spot k (sequence at false props (item x xs)) e f a h = props_first c.comments (leaves k) spot.column (props_text props) (rows_of_items c spot.entries (item x xs)) (no_props_below c.comments (props_text props) f) a
-first_value c spot k (mapping at true props no_pairs) e f a h = one_first c.comments (leaves k) spot.column (mapping at true props no_pairs) (written (mapping at true props no_pairs)) (leaf_first c.comments k at.span a e)
+first_value c spot k (mapping at true props no_pairs) e f a h = one_first c.comments (leaves k) spot.column (mapping at true props no_pairs) (written c.style (mapping at true props no_pairs)) (leaf_first c.comments k at.span a e)
 first_value c spot k (mapping at true props (pair x y ps)) e f a h =
-    one_first c.comments (leaves k) spot.column (mapping at true props (pair x y ps)) (written (mapping at true props (pair x y ps))) (between_key c.comments (entry_or 0 (standing k).entry) (leaves k) (leaves (mapping at true props (pair x y ps))) a h e)
+    one_first c.comments (leaves k) spot.column (mapping at true props (pair x y ps)) (written c.style (mapping at true props (pair x y ps))) (between_key c.comments (entry_or 0 (standing k).entry) (leaves k) (leaves (mapping at true props (pair x y ps))) a h e)
 first_value c spot k (mapping at false props no_pairs) e f a h = props_first c.comments (leaves k) spot.column (props_text props) [] (λ g. refl) a
 first_value c spot k (mapping at false props (pair x y ps)) e f a h = props_first c.comments (leaves k) spot.column (props_text props) (rows_of_pairs c spot.entries (pair x y ps)) (no_props_below c.comments (props_text props) f) a
 
@@ -170,7 +170,7 @@ implicit_tidy c column k v post a i f g = go (key_comment c.comments k v) refl (
   commented true d e = (between_remark c.comments (key_start k) (leaves v) d a e, key_last_of c.comments d (entry_or 0 (standing k).entry) (leaves k) (leaves v) post e)
   commented false d e = absurd cc
 
-  go : (o : Option CommentValue) → key_comment c.comments k v ≡ o → (below : Bool) → begins_below v ≡ below → TidyRows c.comments (after_key (key_row column k) o below value) post
+  go : (o : Option CommentValue) → key_comment c.comments k v ≡ o → (below : Bool) → begins_below v ≡ below → TidyRows c.comments (after_key (key_row c.style column k) o below value) post
   go (Some d) e below h =
       let both = commented (is_text v || is_filled_flow v) d e in
       let last : KeyLast c.comments d (leaves k) (leaves_on value ++ post) = subst (λ w. KeyLast c.comments d (leaves k) (w ++ post)) (sym (g.leaves_are (value_of_implicit c column k v))) both.1 in (
@@ -182,7 +182,7 @@ implicit_tidy c column k v post a i f g = go (key_comment c.comments k v) refl (
       )
   go None e true h = (keyless c.comments still refl, g.tidy (value_of_implicit c column k v) post)
   go None e false h =
-      beside_tidy c.comments post (key_row column k) 1 value still refl (first_value c (value_of_implicit c column k v) k v e h still g.kept) (g.tidy (value_of_implicit c column k v) post)
+      beside_tidy c.comments post (key_row c.style column k) 1 value still refl (first_value c (value_of_implicit c column k v) k v e h still g.kept) (g.tidy (value_of_implicit c column k v) post)
 
 pair_tidy : (c : LayoutSetting) (column : ℕ) (k v : Node) (post : List Span) → AreRemarks c.comments → NodeTidy c k → NodeTidy c v
     → TidyRows c.comments (pair_rows c column k v (rows c (key_spot c.style column k) k) (rows c (value_spot c column k v) v)) post
@@ -201,20 +201,20 @@ made_tidy c x p h k f = record { tidy = f; leaves_are = λ spot. node_leaves c s
 mutual
   node_tidy : (c : LayoutSetting) (x : Node) → AreRemarks c.comments → is_placed x ≡ true → House c x → KeptStill c.comments x → NodeTidy c x
   node_tidy c (scalar at props Plain text lines) a p h k =
-      made_tidy c (scalar at props Plain text lines) p h k (λ spot post. one_line_tidy c.comments post spot.column (scalar at props Plain text lines) (written (scalar at props Plain text lines)) (leaf_still c.comments at.span))
+      made_tidy c (scalar at props Plain text lines) p h k (λ spot post. one_line_tidy c.comments post spot.column (scalar at props Plain text lines) (written c.style (scalar at props Plain text lines)) (leaf_still c.comments at.span))
   node_tidy c (scalar at props Single text lines) a p h k =
-      made_tidy c (scalar at props Single text lines) p h k (λ spot post. one_line_tidy c.comments post spot.column (scalar at props Single text lines) (written (scalar at props Single text lines)) (leaf_still c.comments at.span))
+      made_tidy c (scalar at props Single text lines) p h k (λ spot post. one_line_tidy c.comments post spot.column (scalar at props Single text lines) (written c.style (scalar at props Single text lines)) (leaf_still c.comments at.span))
   node_tidy c (scalar at props Double text lines) a p h k =
-      made_tidy c (scalar at props Double text lines) p h k (λ spot post. one_line_tidy c.comments post spot.column (scalar at props Double text lines) (written (scalar at props Double text lines)) (leaf_still c.comments at.span))
+      made_tidy c (scalar at props Double text lines) p h k (λ spot post. one_line_tidy c.comments post spot.column (scalar at props Double text lines) (written c.style (scalar at props Double text lines)) (leaf_still c.comments at.span))
   node_tidy c (scalar at props Literal text lines) a p h k = made_tidy c (scalar at props Literal text lines) p h k (λ spot post. (keyless c.comments (leaf_still c.comments at.span) refl, tt))
   node_tidy c (scalar at props Folded text lines) a p h k = made_tidy c (scalar at props Folded text lines) p h k (λ spot post. (keyless c.comments (leaf_still c.comments at.span) refl, tt))
-  node_tidy c (alias at name) a p h k = made_tidy c (alias at name) p h k (λ spot post. one_line_tidy c.comments post spot.column (alias at name) (written (alias at name)) (leaf_still c.comments at.span))
-  node_tidy c (sequence at true props xs) a p h k = made_tidy c (sequence at true props xs) p h k (λ spot post. one_line_tidy c.comments post spot.column (sequence at true props xs) (written (sequence at true props xs)) k)
+  node_tidy c (alias at name) a p h k = made_tidy c (alias at name) p h k (λ spot post. one_line_tidy c.comments post spot.column (alias at name) (written c.style (alias at name)) (leaf_still c.comments at.span))
+  node_tidy c (sequence at true props xs) a p h k = made_tidy c (sequence at true props xs) p h k (λ spot post. one_line_tidy c.comments post spot.column (sequence at true props xs) (written c.style (sequence at true props xs)) k)
   node_tidy c (sequence at false props no_items) a p h k = absurd (true≢false (same_flag h))
   node_tidy c (sequence at false props (item x xs)) a p h k =
       let all = items_tidy c (item x xs) a p (items_of h) k in
       made_tidy c (sequence at false props (item x xs)) p h k (λ spot post. props_tidy c.comments post spot.column (props_text props) (rows_of_items c spot.entries (item x xs)) (all spot.entries post))
-  node_tidy c (mapping at true props ps) a p h k = made_tidy c (mapping at true props ps) p h k (λ spot post. one_line_tidy c.comments post spot.column (mapping at true props ps) (written (mapping at true props ps)) k)
+  node_tidy c (mapping at true props ps) a p h k = made_tidy c (mapping at true props ps) p h k (λ spot post. one_line_tidy c.comments post spot.column (mapping at true props ps) (written c.style (mapping at true props ps)) k)
   node_tidy c (mapping at false props no_pairs) a p h k = absurd (true≢false (same_flag_of_map h))
   node_tidy c (mapping at false props (pair x y ps)) a p h k =
       let all = pairs_tidy c (pair x y ps) a p (pairs_of h) k in

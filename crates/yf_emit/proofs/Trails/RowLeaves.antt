@@ -45,7 +45,7 @@ on_key head None false xs = on_joined head 1 xs
 on_pair : (c : LayoutSetting) (column : ℕ) (k v : Node) (xs ys : List Row) → leaves_on xs ≡ leaves k → leaves_on ys ≡ leaves v → leaves_on (pair_rows c column k v xs ys) ≡ leaves k ++ leaves v
 on_pair c column k v xs ys e f = by (is_implicit c.style column k) where
   by : (b : Bool) → leaves_on (if b then implicit_pair c column k v ys else explicit_pair c.style column k xs ys) ≡ leaves k ++ leaves v
-  by true = on_key (key_row column k) (key_comment c.comments k v) (begins_below v) ys ∙ ap (λ w. leaves k ++ w) f
+  by true = on_key (key_row c.style column k) (key_comment c.comments k v) (begins_below v) ys ∙ ap (λ w. leaves k ++ w) f
   by false =
       on_append (after_sign c.style (entry_row column (codes "?") k) xs) (after_sign c.style (colon_row column k) ys)
       ∙ (ap (λ w. w ++ leaves_on (after_sign c.style (colon_row column k) ys)) (on_joined (entry_row column (codes "?") k) (c.style.indent - 1) xs ∙ e)
@@ -61,24 +61,24 @@ mutual
       (λ e. ap spans_of_leaf (none_of at.span (agreed _ _ h ∙ ap not (nothing_spaced (props_text props) e))))
   node_leaves c spot (scalar at props Plain (b ∷ text) lines) h s =
       on_line spot.column (scalar at props Plain (b ∷ text) lines) _ (λ e. filled_text (props_text props) (b ∷ text) _ refl e)
-  node_leaves c spot (scalar at props Single text lines) h s = on_line spot.column (scalar at props Single text lines) _ (λ e. filled_text (props_text props) (scalar_text Single text) _ refl e)
-  node_leaves c spot (scalar at props Double text lines) h s = on_line spot.column (scalar at props Double text lines) _ (λ e. filled_text (props_text props) (scalar_text Double text) _ refl e)
+  node_leaves c spot (scalar at props Single text lines) h s = on_line spot.column (scalar at props Single text lines) _ (λ e. filled_text (props_text props) (scalar_text c.style Single text) _ refl e)
+  node_leaves c spot (scalar at props Double text lines) h s = on_line spot.column (scalar at props Double text lines) _ (λ e. filled_text (props_text props) (scalar_text c.style Double text) _ refl e)
   node_leaves c spot (scalar at props Literal text lines) h s = append-nil _
   node_leaves c spot (scalar at props Folded text lines) h s = append-nil _
   node_leaves c spot (alias at name) h s = append-nil _
   node_leaves c spot (sequence at true props no_items) h s =
-      on_line spot.column (sequence at true props no_items) _ (λ e. filled_text (props_text props) (bare (sequence at true props no_items)) _ refl e)
+      on_line spot.column (sequence at true props no_items) _ (λ e. filled_text (props_text props) (bare c.style (sequence at true props no_items)) _ refl e)
   node_leaves c spot (sequence at true props (item x xs)) h s =
-      on_line spot.column (sequence at true props (item x xs)) _ (λ e. filled_text (props_text props) (bare (sequence at true props (item x xs))) _ refl e)
+      on_line spot.column (sequence at true props (item x xs)) _ (λ e. filled_text (props_text props) (bare c.style (sequence at true props (item x xs))) _ refl e)
   node_leaves c spot (sequence at false props no_items) h s = absurd (true≢false (same_flag s))
   node_leaves c spot (sequence at false props (item x xs)) h s =
       on_append (props_row spot.column (props_text props)) (rows_of_items c spot.entries (item x xs))
       ∙ (ap (λ w. w ++ leaves_on (rows_of_items c spot.entries (item x xs))) (on_props spot.column (props_text props))
       ∙ items_leaves c spot.entries (item x xs) h (items_of s))
   node_leaves c spot (mapping at true props no_pairs) h s =
-      on_line spot.column (mapping at true props no_pairs) _ (λ e. filled_text (props_text props) (bare (mapping at true props no_pairs)) _ refl e)
+      on_line spot.column (mapping at true props no_pairs) _ (λ e. filled_text (props_text props) (bare c.style (mapping at true props no_pairs)) _ refl e)
   node_leaves c spot (mapping at true props (pair x y ps)) h s =
-      on_line spot.column (mapping at true props (pair x y ps)) _ (λ e. filled_text (props_text props) (bare (mapping at true props (pair x y ps))) _ refl e)
+      on_line spot.column (mapping at true props (pair x y ps)) _ (λ e. filled_text (props_text props) (bare c.style (mapping at true props (pair x y ps))) _ refl e)
   node_leaves c spot (mapping at false props no_pairs) h s = absurd (true≢false (same_flag_of_map s))
   node_leaves c spot (mapping at false props (pair x y ps)) h s =
       on_append (props_row spot.column (props_text props)) (rows_of_pairs c spot.entries (pair x y ps))

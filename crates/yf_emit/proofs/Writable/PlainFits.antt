@@ -10,6 +10,7 @@ use Rattle.yf_events.specs.declared.event.ScalarStyle.TheVariants.{Plain}
 use Rattle.yf_events.specs.Tree.{NodeOffsets, scalar}
 use Rattle.yf_grammar.proofs.WrittenTexts.LeafBack.{plain_node_back, plain_props_back}
 use Rattle.yf_grammar.proofs.WrittenTexts.PlainUnmarked.{plain_unmarked}
+use Rattle.yf_emit.specs.declared.style.Style.{Style}
 use Rattle.yf_emit.specs.Layouts.ReadableTrees.{InlineNode, FitProps, no_fit_props, some_fit_props}
 use Rattle.yf_emit.proofs.Writable.LeafFits.{plain_inline, plain_with_inline}
 
@@ -22,8 +23,8 @@ plain_some {c} {text} p = go p.chars p.bytes p.line where
   go (x ∷ cs) e l = λ none.
       let short : length (encode_utf8_all (x ∷ cs)) ≡ 0 = ap length (e ∙ none) in absurd (omega (arith, short, length-le-encodes (x ∷ cs)))
 
-pub plain_fits : {c : Ctx} {at : NodeOffsets} {p : PropsValue} {text : List ℕ} → is_block c ≡ false → is_some at.span ≡ true → FitProps p → IsPlain c text
-    → InlineNode c (scalar at p Plain text [])
-plain_fits {text = []} k e f plain = absurd (plain_some plain refl)
-plain_fits {c} {text = b ∷ w} k e no_fit_props plain = plain_inline b w e (plain_node_back c k plain) (plain_unmarked k plain)
-plain_fits {c} {text = b ∷ w} k e (some_fit_props props some) plain = plain_with_inline b w e props some (plain_props_back c k props some plain)
+pub plain_fits : (house : Style) {c : Ctx} {at : NodeOffsets} {p : PropsValue} {text : List ℕ} → is_block c ≡ false → is_some at.span ≡ true → FitProps p → IsPlain c text
+    → InlineNode house c (scalar at p Plain text [])
+plain_fits house {text = []} k e f plain = absurd (plain_some plain refl)
+plain_fits house {c} {text = b ∷ w} k e no_fit_props plain = plain_inline house b w e (plain_node_back c k plain) (plain_unmarked k plain)
+plain_fits house {c} {text = b ∷ w} k e (some_fit_props props some) plain = plain_with_inline house b w e props some (plain_props_back c k props some plain)

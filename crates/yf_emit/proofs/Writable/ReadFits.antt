@@ -12,11 +12,12 @@ use Rattle.yf_lines.specs.declared.quotes.Quotes.{Quotes}
 use Rattle.yf_plain.specs.Kept.{is_inside}
 use Rattle.yf_props.specs.Props.{PropsValue, no_props}
 use Rattle.yf_props.specs.Written.{IsProps}
-use Rattle.yf_quoted.specs.Written.{quotes_for}
+use Rattle.yf_quoted.specs.Written.{quotes_in}
 use Rattle.yf_events.specs.declared.event.ScalarStyle.{ScalarStyle}
 use Rattle.yf_events.specs.declared.event.ScalarStyle.TheVariants.{Plain, Single, Double, Literal, Folded}
 use Rattle.yf_events.specs.Tree.{NodeOffsets, Node, scalar, sequence, mapping, Items, item, Pairs, pair}
 use Rattle.yf_grammar.proofs.FlowReader.FlowStarts.{in_flow_not_block}
+use Rattle.yf_emit.specs.declared.style.Style.{Style}
 use Rattle.yf_emit.proofs.Writable.FitFlows.{FitFlow, flow_leaf, flow_no_items, flow_no_pairs, flow_sequence, flow_mapping, FitFlowItems, flow_last_item, flow_item, FitFlowPairs, flow_last_pair, flow_pair}
 use Rattle.yf_emit.specs.Layouts.ReadableTrees.{InlineNode, is_inline, FitProps, FitScalar, Fit, fit_nothing, fit_line, fit_scalar, fit_sequence, fit_mapping, FitItems, fit_no_items, fit_item, FitPairs, fit_no_pairs, fit_pair}
 use Rattle.yf_emit.specs.Nodes.OneLineFlows.{may_be_kept, items_may_be_kept, pairs_may_be_kept, scalar_may_be_kept, has_comment}
@@ -41,9 +42,9 @@ spaced_filled [] w n = n
 spaced_filled (b ∷ v) [] n = absurd (n refl)
 spaced_filled (b ∷ v) (c ∷ w) n = filled b _
 
-quotes_filled : (at : NodeOffsets) (p : PropsValue) (text : List ℕ) (lines : List (List ℕ)) (q : Quotes) → written (scalar at p (style_in q) text lines) ≢ []
-quotes_filled at p text lines Quotes.Single = spaced_filled (props_text p) _ (filled 39 _)
-quotes_filled at p text lines Quotes.Double = spaced_filled (props_text p) _ (filled 34 _)
+quotes_filled : (house : Style) (at : NodeOffsets) (p : PropsValue) (text : List ℕ) (lines : List (List ℕ)) (q : Quotes) → written house (scalar at p (style_in q) text lines) ≢ []
+quotes_filled house at p text lines Quotes.Single = spaced_filled (props_text p) _ (filled 39 _)
+quotes_filled house at p text lines Quotes.Double = spaced_filled (props_text p) _ (filled 34 _)
 
 quotes_inline : (at : NodeOffsets) (p : PropsValue) (text : List ℕ) (lines : List (List ℕ)) (q : Quotes) → is_inline (scalar at p (style_in q) text lines) ≡ true
 quotes_inline at p text lines Quotes.Single = refl
@@ -63,25 +64,25 @@ no_lines Quotes.Single lines = refl
 no_lines Quotes.Double lines = refl
 
 -- in quotes, where none of its lines are kept
-quoted_inline : {c : Ctx} {at : NodeOffsets} {p : PropsValue} {text : List ℕ} (q : Quotes) (lines : List (List ℕ)) → is_block c ≡ false → is_some at.span ≡ true
-    → FitProps p → IsUtf8 text → InlineNode c (scalar at p (quoted_in text q) text (lines_in (quoted_in text q) lines))
+quoted_inline : {c : Ctx} {at : NodeOffsets} {p : PropsValue} {text : List ℕ} (q : Style) (lines : List (List ℕ)) → is_block c ≡ false → is_some at.span ≡ true
+    → FitProps p → IsUtf8 text → InlineNode q c (scalar at p (quoted_in text q) text (lines_in (quoted_in text q) lines))
 quoted_inline {c} {at} {p} {text} q lines k e f u =
-    subst (λ ls. InlineNode c (scalar at p (quoted_in text q) text ls)) (sym (no_lines (quotes_for (chars text) q) lines)) (quoted_fits q k e f u)
+    subst (λ ls. InlineNode q c (scalar at p (quoted_in text q) text ls)) (sym (no_lines (quotes_in q.invisible (chars text) q.quotes) lines)) (quoted_fits q k e f u)
 
 -- plain where that stays so, and quoted else
-plain_inline : {b : Bool} {c : Ctx} {at : NodeOffsets} {p : PropsValue} {text : List ℕ} (q : Quotes) (lines : List (List ℕ)) → is_block c ≡ false
+plain_inline : {b : Bool} {c : Ctx} {at : NodeOffsets} {p : PropsValue} {text : List ℕ} (q : Style) (lines : List (List ℕ)) → is_block c ≡ false
     → (is_inside c ≡ true → b ≡ true) → is_some at.span ≡ true → FitProps p → IsUtf8 text → ReadPlain b text
-    → InlineNode c (scalar at p (wanted Plain text q) text (lines_in (wanted Plain text q) lines))
+    → InlineNode q c (scalar at p (wanted Plain text q) text (lines_in (wanted Plain text q) lines))
 plain_inline {b} {c} {at} {p} {text} q lines k i e f u r = go (is_steady text) refl where
   go : (s : Bool) → is_steady text ≡ s
-      → InlineNode c (scalar at p (if s then Plain else quoted_in text q) text (lines_in (if s then Plain else quoted_in text q) lines))
-  go true h = plain_fits k e f (r.stays c k i h)
+      → InlineNode q c (scalar at p (if s then Plain else quoted_in text q) text (lines_in (if s then Plain else quoted_in text q) lines))
+  go true h = plain_fits q k e f (r.stays c k i h)
   go false h = quoted_inline q lines k e f u
 
 -- in a flow collection on one line
-kept_scalar : (b : Bool) {c : Ctx} {at : NodeOffsets} {p : PropsValue} {text : List ℕ} (lines : List (List ℕ)) (q : Quotes) (style : ScalarStyle) → is_block c ≡ false
+kept_scalar : (b : Bool) {c : Ctx} {at : NodeOffsets} {p : PropsValue} {text : List ℕ} (lines : List (List ℕ)) (q : Style) (style : ScalarStyle) → is_block c ≡ false
     → (is_inside c ≡ true → b ≡ true) → is_some at.span ≡ true → FitProps p → IsUtf8 text → ReadText b style text lines → scalar_may_be_kept style text ≡ true
-    → InlineNode c (scalar at p (wanted style text q) text (lines_in (wanted style text q) lines))
+    → InlineNode q c (scalar at p (wanted style text q) text (lines_in (wanted style text q) lines))
 kept_scalar b lines q Plain k i e f u r m = plain_inline q lines k i e f u r
 kept_scalar b lines q Single k i e f u r m = quoted_inline q lines k e f u
 kept_scalar b lines q Double k i e f u r m = quoted_inline q lines k e f u
@@ -92,39 +93,39 @@ kept_scalar b lines q Folded k i e f u r m = absurd (true≢false (sym m))
 outside : (b : Bool) → false ≡ true → b ≡ true
 outside b e = absurd (true≢false (sym e))
 
-quoted_fit : {at : NodeOffsets} {p : PropsValue} {text : List ℕ} (q : Quotes) (lines : List (List ℕ)) → is_some at.span ≡ true → FitProps p → IsUtf8 text
-    → Fit (scalar at p (quoted_in text q) text (lines_in (quoted_in text q) lines))
+quoted_fit : {at : NodeOffsets} {p : PropsValue} {text : List ℕ} (q : Style) (lines : List (List ℕ)) → is_some at.span ≡ true → FitProps p → IsUtf8 text
+    → Fit q (scalar at p (quoted_in text q) text (lines_in (quoted_in text q) lines))
 quoted_fit {at} {p} {text} q lines e f u =
-    fit_line (quotes_inline at p text (lines_in (quoted_in text q) lines) (quotes_for (chars text) q))
-    (quotes_filled at p text (lines_in (quoted_in text q) lines) (quotes_for (chars text) q)) (quoted_inline q lines refl e f u).node (quoted_inline q lines refl e f u)
+    fit_line (quotes_inline at p text (lines_in (quoted_in text q) lines) (quotes_in q.invisible (chars text) q.quotes))
+    (quotes_filled q at p text (lines_in (quoted_in text q) lines) (quotes_in q.invisible (chars text) q.quotes)) (quoted_inline q lines refl e f u).node (quoted_inline q lines refl e f u)
 
-plain_fit : {b : Bool} {at : NodeOffsets} {p : PropsValue} {text : List ℕ} (q : Quotes) (lines : List (List ℕ)) → is_some at.span ≡ true → FitProps p → IsUtf8 text
-    → ReadPlain b text → Fit (scalar at p (wanted Plain text q) text (lines_in (wanted Plain text q) lines))
+plain_fit : {b : Bool} {at : NodeOffsets} {p : PropsValue} {text : List ℕ} (q : Style) (lines : List (List ℕ)) → is_some at.span ≡ true → FitProps p → IsUtf8 text
+    → ReadPlain b text → Fit q (scalar at p (wanted Plain text q) text (lines_in (wanted Plain text q) lines))
 plain_fit {b} {at} {p} {text} q lines e f u r = go (is_steady text) refl where
-  go : (s : Bool) → is_steady text ≡ s → Fit (scalar at p (if s then Plain else quoted_in text q) text (lines_in (if s then Plain else quoted_in text q) lines))
+  go : (s : Bool) → is_steady text ≡ s → Fit q (scalar at p (if s then Plain else quoted_in text q) text (lines_in (if s then Plain else quoted_in text q) lines))
   go true h =
       let plain = r.stays FlowOut refl (outside b) h in
-      fit_line refl (spaced_filled (props_text p) text (plain_some plain)) (plain_fits refl e f plain).node (plain_fits refl e f (r.stays BlockKey refl (outside b) h))
+      fit_line refl (spaced_filled (props_text p) text (plain_some plain)) (plain_fits q refl e f plain).node (plain_fits q refl e f (r.stays BlockKey refl (outside b) h))
   go false h = quoted_fit q lines e f u
 
-literal_fit : {at : NodeOffsets} {p : PropsValue} {text : List ℕ} (q : Quotes) (lines : List (List ℕ)) → is_some at.span ≡ true → FitProps p → IsUtf8 text
-    → (has_block_content text ≡ true → FitScalar Literal text []) → Fit (scalar at p (wanted Literal text q) text (lines_in (wanted Literal text q) lines))
+literal_fit : {at : NodeOffsets} {p : PropsValue} {text : List ℕ} (q : Style) (lines : List (List ℕ)) → is_some at.span ≡ true → FitProps p → IsUtf8 text
+    → (has_block_content text ≡ true → FitScalar Literal text []) → Fit q (scalar at p (wanted Literal text q) text (lines_in (wanted Literal text q) lines))
 literal_fit {at} {p} {text} q lines e f u r = go (has_block_content text) refl where
   go : (s : Bool) → has_block_content text ≡ s
-      → Fit (scalar at p (if s then Literal else quoted_in text q) text (lines_in (if s then Literal else quoted_in text q) lines))
+      → Fit q (scalar at p (if s then Literal else quoted_in text q) text (lines_in (if s then Literal else quoted_in text q) lines))
   go true h = fit_scalar e f (r h)
   go false h = quoted_fit q lines e f u
 
-folded_fit : {at : NodeOffsets} {p : PropsValue} {text : List ℕ} (q : Quotes) (lines : List (List ℕ)) → is_some at.span ≡ true → FitProps p → IsUtf8 text
-    → (has_block_content text ≡ true → FitScalar Folded text lines) → Fit (scalar at p (wanted Folded text q) text (lines_in (wanted Folded text q) lines))
+folded_fit : {at : NodeOffsets} {p : PropsValue} {text : List ℕ} (q : Style) (lines : List (List ℕ)) → is_some at.span ≡ true → FitProps p → IsUtf8 text
+    → (has_block_content text ≡ true → FitScalar Folded text lines) → Fit q (scalar at p (wanted Folded text q) text (lines_in (wanted Folded text q) lines))
 folded_fit {at} {p} {text} q lines e f u r = go (has_block_content text) refl where
   go : (s : Bool) → has_block_content text ≡ s
-      → Fit (scalar at p (if s then Folded else quoted_in text q) text (lines_in (if s then Folded else quoted_in text q) lines))
+      → Fit q (scalar at p (if s then Folded else quoted_in text q) text (lines_in (if s then Folded else quoted_in text q) lines))
   go true h = fit_scalar e f (r h)
   go false h = quoted_fit q lines e f u
 
-scalar_fit : (b : Bool) {at : NodeOffsets} {p : PropsValue} {text : List ℕ} (lines : List (List ℕ)) (q : Quotes) (style : ScalarStyle) → is_some at.span ≡ true → FitProps p
-    → IsUtf8 text → ReadText b style text lines → Fit (scalar at p (wanted style text q) text (lines_in (wanted style text q) lines))
+scalar_fit : (b : Bool) {at : NodeOffsets} {p : PropsValue} {text : List ℕ} (lines : List (List ℕ)) (q : Style) (style : ScalarStyle) → is_some at.span ≡ true → FitProps p
+    → IsUtf8 text → ReadText b style text lines → Fit q (scalar at p (wanted style text q) text (lines_in (wanted style text q) lines))
 scalar_fit b lines q Plain e f u r = plain_fit q lines e f u r
 scalar_fit b lines q Single e f u r = quoted_fit q lines e f u
 scalar_fit b lines q Double e f u r = quoted_fit q lines e f u
@@ -136,9 +137,9 @@ nothing_steady : is_steady [] ≡ true
 unfolding is_steady has_line_feed ends_with_colon is_only is_marker_of
 nothing_steady = refl
 
-empty_fit : {at : NodeOffsets} {p : PropsValue} (q : Quotes) → Fit (scalar at p Plain [] []) → Fit (scalar at p (wanted Plain [] q) [] (lines_in (wanted Plain [] q) []))
+empty_fit : {at : NodeOffsets} {p : PropsValue} (q : Style) → Fit q (scalar at p Plain [] []) → Fit q (scalar at p (wanted Plain [] q) [] (lines_in (wanted Plain [] q) []))
 empty_fit {at} {p} q a =
-    subst (λ s. Fit (scalar at p (if s then Plain else quoted_in [] q) [] (lines_in (if s then Plain else quoted_in [] q) []))) (sym nothing_steady) a
+    subst (λ s. Fit q (scalar at p (if s then Plain else quoted_in [] q) [] (lines_in (if s then Plain else quoted_in [] q) []))) (sym nothing_steady) a
 
 -- Flow collections on one line.
 
@@ -150,32 +151,32 @@ kept_one a b c d h =
 
 mutual
   kept : (t : List ℕ) (s : LayoutSetting) {b : Bool} {x : Node} {c : Ctx} → is_block c ≡ false → (is_inside c ≡ true → b ≡ true) → ReadNode b x
-      → may_be_kept t s.comments x ≡ true → FitFlow c (styled t s x)
+      → may_be_kept t s.comments x ≡ true → FitFlow s.style c (styled t s x)
   kept t s k i (read_nothing e) m = absurd (true≢false (sym m))
   kept t s k i (read_props e p n) m = absurd (true≢false (sym m))
-  kept t s {b} k i (read_scalar {style = style} {lines = lines} e f u r) m = flow_leaf (kept_scalar b lines s.style.quotes style k i e f u r m)
-  kept t s k i (read_alias e n) m = flow_leaf (alias_inline k e n)
+  kept t s {b} k i (read_scalar {style = style} {lines = lines} e f u r) m = flow_leaf (kept_scalar b lines s.style style k i e f u r m)
+  kept t s k i (read_alias e n) m = flow_leaf (alias_inline s.style k e n)
   kept t s k i (read_sequence e f read_no_items) m = flow_no_items e f
   kept t s {b} {c = c} k i (read_sequence {at = at} {flow = flow} {p = p} e f (read_item {x = x} {xs = xs} a more)) m =
       let l = kept_one flow (not (has_comment t s.comments at.span p)) (may_be_kept t s.comments x) (items_may_be_kept t s.comments xs) m in
-      subst (λ g. FitFlow c (sequence at g p (item (styled t s x) (styled_items t s xs)))) (sym m)
+      subst (λ g. FitFlow s.style c (sequence at g p (item (styled t s x) (styled_items t s xs)))) (sym m)
       (flow_sequence e f (kept t s (in_flow_not_block c k) (λ _. or_right b flow l.0) a l.1.0) (items_kept t s (in_flow_not_block c k) (λ _. or_right b flow l.0) more l.1.1))
   kept t s k i (read_mapping e f read_no_pairs) m = flow_no_pairs e f
   kept t s {b} {c = c} k i (read_mapping {at = at} {flow = flow} {p = p} e f (read_pair {k = x} {v = y} {ps = ps} a d more)) m =
       let o = and_parts (flow && not (has_comment t s.comments at.span p) && may_be_kept t s.comments x && may_be_kept t s.comments y) (pairs_may_be_kept t s.comments ps) m in
       let l = kept_one flow (not (has_comment t s.comments at.span p)) (may_be_kept t s.comments x) (may_be_kept t s.comments y) o.0 in
-      subst (λ g. FitFlow c (mapping at g p (pair (styled t s x) (styled t s y) (styled_pairs t s ps)))) (sym m)
+      subst (λ g. FitFlow s.style c (mapping at g p (pair (styled t s x) (styled t s y) (styled_pairs t s ps)))) (sym m)
       (flow_mapping e f (kept t s (in_flow_not_block c k) (λ _. or_right b flow l.0) a l.1.0) (kept t s (in_flow_not_block c k) (λ _. or_right b flow l.0) d l.1.1)
       (pairs_kept t s (in_flow_not_block c k) (λ _. or_right b flow l.0) more o.1))
 
   items_kept : (t : List ℕ) (s : LayoutSetting) {b : Bool} {xs : Items} {c : Ctx} → is_block c ≡ false → (is_inside c ≡ true → b ≡ true) → ReadItems b xs
-      → items_may_be_kept t s.comments xs ≡ true → FitFlowItems c (styled_items t s xs)
+      → items_may_be_kept t s.comments xs ≡ true → FitFlowItems s.style c (styled_items t s xs)
   items_kept t s k i read_no_items m = flow_last_item
   items_kept t s k i (read_item {x = x} {xs = xs} a more) m =
       let l = and_parts (may_be_kept t s.comments x) (items_may_be_kept t s.comments xs) m in flow_item (kept t s k i a l.0) (items_kept t s k i more l.1)
 
   pairs_kept : (t : List ℕ) (s : LayoutSetting) {b : Bool} {ps : Pairs} {c : Ctx} → is_block c ≡ false → (is_inside c ≡ true → b ≡ true) → ReadPairs b ps
-      → pairs_may_be_kept t s.comments ps ≡ true → FitFlowPairs c (styled_pairs t s ps)
+      → pairs_may_be_kept t s.comments ps ≡ true → FitFlowPairs s.style c (styled_pairs t s ps)
   pairs_kept t s k i read_no_pairs m = flow_last_pair
   pairs_kept t s k i (read_pair {k = x} {v = y} {ps = ps} a d more) m =
       let l = and_parts (may_be_kept t s.comments x && may_be_kept t s.comments y) (pairs_may_be_kept t s.comments ps) m in
@@ -183,71 +184,71 @@ mutual
       flow_pair (kept t s k i a o.0) (kept t s k i d o.1) (pairs_kept t s k i more l.1)
 
 -- as a node on one line
-line_fit : {x : Node} → is_inline x ≡ true → written x ≢ [] → FitFlow FlowOut x → FitFlow BlockKey x → Fit x
-line_fit a n o k = fit_line a n (flow_inline refl o).node (flow_inline refl k)
+line_fit : (house : Style) {x : Node} → is_inline x ≡ true → written house x ≢ [] → FitFlow house FlowOut x → FitFlow house BlockKey x → Fit house x
+line_fit house a n o k = fit_line a n (flow_inline house refl o).node (flow_inline house refl k)
 
 -- Trees.
 
-either : {x y : Node} (b : Bool) → Fit x → Fit y → Fit (if b then x else y)
-either true f g = f
-either false f g = g
+either : (house : Style) {x y : Node} (b : Bool) → Fit house x → Fit house y → Fit house (if b then x else y)
+either house true f g = f
+either house false f g = g
 
 sequence_fit : (t : List ℕ) (s : LayoutSetting) (spot : Spot) {b : Bool} {at : NodeOffsets} {flow : Bool} {p : PropsValue} {x : Node} {xs : Items}
     → ReadNode b (sequence at flow p (item x xs))
-    → Fit (sequence at false p (item (settled s (inner_spot s.style spot.entries) (styled t s x)) (settled_items s spot.entries (styled_items t s xs))))
-    → Fit (settled s spot (styled t s (sequence at flow p (item x xs))))
+    → Fit s.style (sequence at false p (item (settled s (inner_spot s.style spot.entries) (styled t s x)) (settled_items s spot.entries (styled_items t s xs))))
+    → Fit s.style (settled s spot (styled t s (sequence at flow p (item x xs))))
 sequence_fit t s spot {b} {at} {flow} {p} {x} {xs} r block = go (may_be_kept t s.comments (sequence at flow p (item x xs))) refl where
   in_brackets : Bool → Node
   in_brackets m = sequence at m p (item (styled t s x) (styled_items t s xs))
 
-  go : (m : Bool) → may_be_kept t s.comments (sequence at flow p (item x xs)) ≡ m → Fit (settled s spot (sequence at m p (item (styled t s x) (styled_items t s xs))))
+  go : (m : Bool) → may_be_kept t s.comments (sequence at flow p (item x xs)) ≡ m → Fit s.style (settled s spot (sequence at m p (item (styled t s x) (styled_items t s xs))))
   go true m =
-      either (fits s.style spot.column (in_brackets true))
-      (line_fit refl (spaced_filled (props_text p) _ (filled 91 _)) (subst (λ g. FitFlow FlowOut (in_brackets g)) m (kept t s refl (outside b) r m))
-      (subst (λ g. FitFlow BlockKey (in_brackets g)) m (kept t s refl (outside b) r m))) block
+      either s.style (fits s.style spot.column (in_brackets true))
+      (line_fit s.style refl (spaced_filled (props_text p) _ (filled 91 _)) (subst (λ g. FitFlow s.style FlowOut (in_brackets g)) m (kept t s refl (outside b) r m))
+      (subst (λ g. FitFlow s.style BlockKey (in_brackets g)) m (kept t s refl (outside b) r m))) block
   go false m = block
 
 mapping_fit : (t : List ℕ) (s : LayoutSetting) (spot : Spot) {b : Bool} {at : NodeOffsets} {flow : Bool} {p : PropsValue} {k v : Node} {ps : Pairs}
     → ReadNode b (mapping at flow p (pair k v ps))
-    → Fit (mapping at false p (pair (settled s (key_spot s.style spot.entries (styled t s k)) (styled t s k))
+    → Fit s.style (mapping at false p (pair (settled s (key_spot s.style spot.entries (styled t s k)) (styled t s k))
     (settled s (value_spot s spot.entries (styled t s k) (styled t s v)) (styled t s v)) (settled_pairs s spot.entries (styled_pairs t s ps))))
-    → Fit (settled s spot (styled t s (mapping at flow p (pair k v ps))))
+    → Fit s.style (settled s spot (styled t s (mapping at flow p (pair k v ps))))
 mapping_fit t s spot {b} {at} {flow} {p} {k} {v} {ps} r block = go (may_be_kept t s.comments (mapping at flow p (pair k v ps))) refl where
   in_brackets : Bool → Node
   in_brackets m = mapping at m p (pair (styled t s k) (styled t s v) (styled_pairs t s ps))
 
   go : (m : Bool) → may_be_kept t s.comments (mapping at flow p (pair k v ps)) ≡ m
-      → Fit (settled s spot (mapping at m p (pair (styled t s k) (styled t s v) (styled_pairs t s ps))))
+      → Fit s.style (settled s spot (mapping at m p (pair (styled t s k) (styled t s v) (styled_pairs t s ps))))
   go true m =
-      either (fits s.style spot.column (in_brackets true))
-      (line_fit refl (spaced_filled (props_text p) _ (filled 123 _)) (subst (λ g. FitFlow FlowOut (in_brackets g)) m (kept t s refl (outside b) r m))
-      (subst (λ g. FitFlow BlockKey (in_brackets g)) m (kept t s refl (outside b) r m))) block
+      either s.style (fits s.style spot.column (in_brackets true))
+      (line_fit s.style refl (spaced_filled (props_text p) _ (filled 123 _)) (subst (λ g. FitFlow s.style FlowOut (in_brackets g)) m (kept t s refl (outside b) r m))
+      (subst (λ g. FitFlow s.style BlockKey (in_brackets g)) m (kept t s refl (outside b) r m))) block
   go false m = block
 
 mutual
-  pub read_fits : (t : List ℕ) (s : LayoutSetting) (spot : Spot) {b : Bool} {x : Node} → ReadNode b x → Fit (settled s spot (styled t s x))
-  read_fits t s spot (read_nothing e) = empty_fit s.style.quotes (fit_nothing e)
+  pub read_fits : (t : List ℕ) (s : LayoutSetting) (spot : Spot) {b : Bool} {x : Node} → ReadNode b x → Fit s.style (settled s spot (styled t s x))
+  read_fits t s spot (read_nothing e) = empty_fit s.style (fit_nothing e)
   read_fits t s spot (read_props e p n) =
-      empty_fit s.style.quotes (fit_line refl (props_filled p n) (props_inline refl e p n).node (props_inline refl e p n))
-  read_fits t s spot {b} (read_scalar {style = style} {lines = lines} e f u r) = scalar_fit b lines s.style.quotes style e f u r
-  read_fits t s spot (read_alias {name = name} e n) = fit_line refl (filled 42 name) (alias_inline refl e n).node (alias_inline refl e n)
+      empty_fit s.style (fit_line refl (props_filled p n) (props_inline s.style refl e p n).node (props_inline s.style refl e p n))
+  read_fits t s spot {b} (read_scalar {style = style} {lines = lines} e f u r) = scalar_fit b lines s.style style e f u r
+  read_fits t s spot (read_alias {name = name} e n) = fit_line refl (filled 42 name) (alias_inline s.style refl e n).node (alias_inline s.style refl e n)
   read_fits t s spot (read_sequence {p = p} e f read_no_items) =
-      line_fit refl (spaced_filled (props_text p) _ (filled 91 (93 ∷ []))) (flow_no_items e f) (flow_no_items e f)
+      line_fit s.style refl (spaced_filled (props_text p) _ (filled 91 (93 ∷ []))) (flow_no_items e f) (flow_no_items e f)
   read_fits t s spot (read_sequence e f (read_item a more)) =
       sequence_fit t s spot (read_sequence e f (read_item a more))
       (fit_sequence e f (read_fits t s (inner_spot s.style spot.entries) a) (items_fit t s spot.entries more))
   read_fits t s spot (read_mapping {p = p} e f read_no_pairs) =
-      line_fit refl (spaced_filled (props_text p) _ (filled 123 (125 ∷ []))) (flow_no_pairs e f) (flow_no_pairs e f)
+      line_fit s.style refl (spaced_filled (props_text p) _ (filled 123 (125 ∷ []))) (flow_no_pairs e f) (flow_no_pairs e f)
   read_fits t s spot (read_mapping e f (read_pair {k = k} {v = v} a d more)) =
       mapping_fit t s spot (read_mapping e f (read_pair a d more))
       (fit_mapping e f (read_fits t s (key_spot s.style spot.entries (styled t s k)) a)
       (read_fits t s (value_spot s spot.entries (styled t s k) (styled t s v)) d) (pairs_fit t s spot.entries more))
 
-  items_fit : (t : List ℕ) (s : LayoutSetting) (column : ℕ) {b : Bool} {xs : Items} → ReadItems b xs → FitItems (settled_items s column (styled_items t s xs))
+  items_fit : (t : List ℕ) (s : LayoutSetting) (column : ℕ) {b : Bool} {xs : Items} → ReadItems b xs → FitItems s.style (settled_items s column (styled_items t s xs))
   items_fit t s column read_no_items = fit_no_items
   items_fit t s column (read_item a more) = fit_item (read_fits t s (inner_spot s.style column) a) (items_fit t s column more)
 
-  pairs_fit : (t : List ℕ) (s : LayoutSetting) (column : ℕ) {b : Bool} {ps : Pairs} → ReadPairs b ps → FitPairs (settled_pairs s column (styled_pairs t s ps))
+  pairs_fit : (t : List ℕ) (s : LayoutSetting) (column : ℕ) {b : Bool} {ps : Pairs} → ReadPairs b ps → FitPairs s.style (settled_pairs s column (styled_pairs t s ps))
   pairs_fit t s column read_no_pairs = fit_no_pairs
   pairs_fit t s column (read_pair {k = k} {v = v} a d more) =
       fit_pair (read_fits t s (key_spot s.style column (styled t s k)) a) (read_fits t s (value_spot s column (styled t s k) (styled t s v)) d)

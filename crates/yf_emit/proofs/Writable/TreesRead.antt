@@ -85,7 +85,7 @@ module _ {t : List ℕ} (u : IsUtf8 t) where
   document_read (directive_document {k = k} {ds = ds} d e) = document_with k true ds.directives (directives_fit u d) (explicit_read e) marked_so
 
   documents_fit : {h : ℕ} {ds : List Document} {trees : List DocumentTree} (s : List ℕ) (c : LayoutSetting) → DocumentsDerived t h ds → TreesMeant ds trees
-      → FitDocuments (map doc_of ds) (map (normal_document s c) trees)
+      → FitDocuments c.style (map doc_of ds) (map (normal_document s c) trees)
   documents_fit s c no_documents_derived no_trees_meant = fit_no_documents
   documents_fit s c (document_derived a l more) (tree_meant {x = x} e b others) =
       let d = document_read a in
@@ -118,10 +118,10 @@ module _ {t : List ℕ} (u : IsUtf8 t) where
 
   -- of a reading
   pub reading_fits : {r : Lists} {trees : List DocumentTree} (s : List ℕ) (c : LayoutSetting) → ReadingOf t r → TreesOf r trees
-      → FitDocuments r.documents (map (normal_document s c) trees)
+      → FitDocuments c.style r.documents (map (normal_document s c) trees)
   reading_fits {r = r} {trees = trees} s c a of_reading =
       let w = reading_is_at u a in
       let same : w.trees ≡ trees = trees_unique r w.trees trees w.of_reading of_reading in
       let fits = documents_fit s c (stream_derived a.reads.shapes.derived) w.meant in
-      subst (λ ds. FitDocuments ds (map (normal_document s c) trees)) (sym a.documents)
-      (subst (λ xs. FitDocuments (map doc_of a.derived.documents) (map (normal_document s c) xs)) same fits)
+      subst (λ ds. FitDocuments c.style ds (map (normal_document s c) trees)) (sym a.documents)
+      (subst (λ xs. FitDocuments c.style (map doc_of a.derived.documents) (map (normal_document s c) xs)) same fits)

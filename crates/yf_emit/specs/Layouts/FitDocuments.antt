@@ -12,6 +12,7 @@ use Rattle.yf_events.specs.declared.document.Doc.{Doc}
 use Rattle.yf_events.specs.Tree.{Node, DocumentTree, flat, standing}
 use Rattle.yf_grammar.specs.Productions.TreesOfMeaning.{Anywhere, tall}
 use Rattle.yf_stream.specs.Stream.{Document, Parameters}
+use Rattle.yf_emit.specs.declared.style.Style.{Style}
 use Rattle.yf_emit.specs.Layouts.ReadableTrees.{Fit}
 use Rattle.yf_emit.specs.Layouts.Rows.{joined_words}
 
@@ -37,11 +38,11 @@ pub data FitDirectives : List Directive → Type 0 where
   fit_no_directives : FitDirectives []
   fit_directive : {d : Directive} {ds : List Directive} → FitDirective d.words → FitDirectives ds → FitDirectives (d ∷ ds)
 
--- as many documents as trees
-pub data FitDocuments : List Doc → List DocumentTree → Type 0 where
-  fit_no_documents : FitDocuments [] []
-  fit_document : {d : Doc} {ds : List Doc} {x : DocumentTree} {xs : List DocumentTree} → FitDirectives d.directives → Fit x.root → FitDocuments ds xs
-      → FitDocuments (d ∷ ds) (x ∷ xs)
+-- as many documents as trees, which are read again where they are laid out in that style
+pub data FitDocuments (s : Style) : List Doc → List DocumentTree → Type 0 where
+  fit_no_documents : FitDocuments s [] []
+  fit_document : {d : Doc} {ds : List Doc} {x : DocumentTree} {xs : List DocumentTree} → FitDirectives d.directives → Fit s x.root → FitDocuments s ds xs
+      → FitDocuments s (d ∷ ds) (x ∷ xs)
 
 -- a `---` may be left out before the first document, if the flag says so: it has no directives, and its root has characters
 pub data FitsBare : Bool → List Doc → List DocumentTree → Type 0 where

@@ -16,16 +16,17 @@ use Rattle.yf_grammar.specs.Productions.TreesOfMeaning.{MeansTrees, tall}
 pub use Rattle.yf_grammar.specs.Productions.Unmarked.{IsNoMarker}
 use Rattle.yf_emit.specs.Nodes.BlockLines.{begins_with_space, content_lines, final_feeds}
 use Rattle.yf_emit.specs.Nodes.BlockValues.{is_folded, header_of}
+use Rattle.yf_emit.specs.declared.style.Style.{Style}
 use Rattle.yf_emit.specs.Nodes.OneLine.{written, colon_after}
 
--- a node on one line is derived wherever its text is, and means the same node
-pub record LineNode (c : Ctx) (x : Node) : Type 0 where
+-- a node on one line is derived wherever its text is in that style, and means the same node
+pub record LineNode (s : Style) (c : Ctx) (x : Node) : Type 0 where
   pub json : Bool
   pub colon : Bool
   pub height : ℕ
   pub mean : ℕ → Meaning
-  pub back : Back json colon c (written x) height mean
-  pub unmarked : IsNoMarker (written x)
+  pub back : Back json colon c (written s x) height mean
+  pub unmarked : IsNoMarker (written s x)
   pub low : height ≤ tall x
   pub meant : (q : ℕ) → MeansTrees x (mean q)
   pub silent : (q : ℕ) → (mean q).comments ≡ []
@@ -35,12 +36,12 @@ pub data ColonFits (at_once : Bool) : List ℕ → Type 0 where
   colon_at_once : at_once ≡ true → ColonFits at_once (58 ∷ [])
   colon_apart : ColonFits at_once (32 ∷ 58 ∷ [])
 
-pub record InlineNode (c : Ctx) (x : Node) : Type 0 where
-  pub node : LineNode c x
+pub record InlineNode (s : Style) (c : Ctx) (x : Node) : Type 0 where
+  pub node : LineNode s c x
   pub colon : ColonFits node.colon (colon_after x)
 
-abbrev pub KeyNode : Node → Type 0
-KeyNode = InlineNode BlockKey
+abbrev pub KeyNode : Style → Node → Type 0
+KeyNode s = InlineNode s BlockKey
 
 -- whether a node is written on one line wherever it is
 abbrev pub is_inline : Node → Bool
@@ -76,20 +77,20 @@ pub record FitScalar (style : ScalarStyle) (text : List ℕ) (lines : List (List
   pub unspaced : begins_with_space text ≡ false → StartsUnspaced (content_lines style text lines)
 
 mutual
-  pub data Fit : Node → Type 0 where
-    fit_nothing : {at : NodeOffsets} → is_some at.span ≡ false → Fit (scalar at no_props Plain [] [])
-    fit_line : {x : Node} → is_inline x ≡ true → written x ≢ [] → LineNode FlowOut x → KeyNode x → Fit x
+  pub data Fit (s : Style) : Node → Type 0 where
+    fit_nothing : {at : NodeOffsets} → is_some at.span ≡ false → Fit s (scalar at no_props Plain [] [])
+    fit_line : {x : Node} → is_inline x ≡ true → written s x ≢ [] → LineNode s FlowOut x → KeyNode s x → Fit s x
     fit_scalar : {at : NodeOffsets} {p : PropsValue} {style : ScalarStyle} {text : List ℕ} {lines : List (List ℕ)} → is_some at.span ≡ true → FitProps p
-        → FitScalar style text lines → Fit (scalar at p style text lines)
-    fit_sequence : {at : NodeOffsets} {p : PropsValue} {x : Node} {xs : Items} → is_some at.span ≡ true → FitProps p → Fit x → FitItems xs
-        → Fit (sequence at false p (item x xs))
-    fit_mapping : {at : NodeOffsets} {p : PropsValue} {k v : Node} {ps : Pairs} → is_some at.span ≡ true → FitProps p → Fit k → Fit v → FitPairs ps
-        → Fit (mapping at false p (pair k v ps))
+        → FitScalar style text lines → Fit s (scalar at p style text lines)
+    fit_sequence : {at : NodeOffsets} {p : PropsValue} {x : Node} {xs : Items} → is_some at.span ≡ true → FitProps p → Fit s x → FitItems s xs
+        → Fit s (sequence at false p (item x xs))
+    fit_mapping : {at : NodeOffsets} {p : PropsValue} {k v : Node} {ps : Pairs} → is_some at.span ≡ true → FitProps p → Fit s k → Fit s v → FitPairs s ps
+        → Fit s (mapping at false p (pair k v ps))
 
-  pub data FitItems : Items → Type 0 where
-    fit_no_items : FitItems no_items
-    fit_item : {x : Node} {xs : Items} → Fit x → FitItems xs → FitItems (item x xs)
+  pub data FitItems (s : Style) : Items → Type 0 where
+    fit_no_items : FitItems s no_items
+    fit_item : {x : Node} {xs : Items} → Fit s x → FitItems s xs → FitItems s (item x xs)
 
-  pub data FitPairs : Pairs → Type 0 where
-    fit_no_pairs : FitPairs no_pairs
-    fit_pair : {k v : Node} {ps : Pairs} → Fit k → Fit v → FitPairs ps → FitPairs (pair k v ps)
+  pub data FitPairs (s : Style) : Pairs → Type 0 where
+    fit_no_pairs : FitPairs s no_pairs
+    fit_pair : {k v : Node} {ps : Pairs} → Fit s k → Fit s v → FitPairs s ps → FitPairs s (pair k v ps)

@@ -74,8 +74,8 @@ abbrev pub one_line_row : ℕ → Node → List ℕ → List Row
 one_line_row column x [] = []
 one_line_row column x (b ∷ text) = record (plain_row column (b ∷ text)) { items = items_in x; leaves = leaves x } ∷ []
 
-abbrev pub one_line : Spot → Node → List Row
-one_line spot x = one_line_row spot.column x (written x)
+abbrev pub one_line : Style → Spot → Node → List Row
+one_line s spot x = one_line_row spot.column x (written s x)
 
 -- a block scalar: its properties and its header, and its lines
 abbrev pub tail_ending : Bool → Ending
@@ -94,7 +94,7 @@ block_scalar s spot x props style text lines = record (plain_row spot.column (sp
 abbrev pub scalar_rows : Style → Spot → Node → PropsValue → ScalarStyle → List ℕ → List (List ℕ) → List Row
 scalar_rows s spot x props Literal text lines = block_scalar s spot x props Literal text lines
 scalar_rows s spot x props Folded text lines = block_scalar s spot x props Folded text lines
-scalar_rows s spot x props style text lines = one_line spot x
+scalar_rows s spot x props style text lines = one_line s spot x
 
 -- the properties of a block collection are before its first entry's line
 abbrev pub props_row : ℕ → List ℕ → List Row
@@ -129,9 +129,9 @@ explicit_pair s column k key_rows value_rows =
     after_sign s (entry_row column (codes "?") k) key_rows ++ after_sign s (colon_row column k) value_rows
 
 -- an implicit key with its `:`; an empty node as key is the `:` alone
-abbrev pub key_row : ℕ → Node → Row
-key_row column k =
-    let row = entry_row column (written k ++ colon_after k) k in
+abbrev pub key_row : Style → ℕ → Node → Row
+key_row s column k =
+    let row = entry_row column (written s k ++ colon_after k) k in
     record row { items = row.items ++ items_in k; leaves = leaves k }
 
 abbrev pub is_empty_text : List ℕ → Bool
@@ -149,7 +149,7 @@ after_key head None true rows = record head { ending = before_node } ∷ rows
 after_key head None false rows = joined head 1 rows
 
 abbrev pub implicit_pair : LayoutSetting → ℕ → Node → Node → List Row → List Row
-implicit_pair c column k v rows = after_key (key_row column k) (key_comment c.comments k v) (begins_below v) rows
+implicit_pair c column k v rows = after_key (key_row c.style column k) (key_comment c.comments k v) (begins_below v) rows
 
 abbrev pub pair_rows : LayoutSetting → ℕ → Node → Node → List Row → List Row → List Row
 pair_rows c column k v key_rows value_rows =
@@ -159,10 +159,10 @@ pair_rows c column k v key_rows value_rows =
 abbrev mutual
   pub rows : LayoutSetting → Spot → Node → List Row
   rows c spot (scalar at props style text lines) = scalar_rows c.style spot (scalar at props style text lines) props style text lines
-  rows c spot (alias at name) = one_line spot (alias at name)
-  rows c spot (sequence at true props items) = one_line spot (sequence at true props items)
+  rows c spot (alias at name) = one_line c.style spot (alias at name)
+  rows c spot (sequence at true props items) = one_line c.style spot (sequence at true props items)
   rows c spot (sequence at false props items) = props_row spot.column (props_text props) ++ rows_of_items c spot.entries items
-  rows c spot (mapping at true props pairs) = one_line spot (mapping at true props pairs)
+  rows c spot (mapping at true props pairs) = one_line c.style spot (mapping at true props pairs)
   rows c spot (mapping at false props pairs) = props_row spot.column (props_text props) ++ rows_of_pairs c spot.entries pairs
 
   -- of entries at that column

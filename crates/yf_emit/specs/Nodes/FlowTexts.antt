@@ -1,6 +1,5 @@
 -- The text of a flow collection that may be kept on one line, from the measures of flow collections alone.
 use Rattle.std.specs.Prelude.{◌≡◌, ℕ, true, if◌then◌else◌, List, [], Option, Some, None}
-use Rattle.yf_lines.specs.declared.quotes.Quotes.{Quotes}
 use Rattle.yf_events.specs.Event.{EventInText}
 use Rattle.yf_events.specs.Tree.{Node}
 use Rattle.yf_emit.specs.declared.form.measure.Measure.{Measure}
@@ -18,5 +17,5 @@ pub record TellsFlow (es : List EventInText) (s : Style) (ms : List Measure) (i 
 
 -- what is answered whatever was measured: the text of the events from an index to the last of the measure there, where it says that
 -- they may be kept
-abbrev pub text_measured : Quotes → List EventInText → ℕ → Measure → Option (List ℕ)
-text_measured quotes es i m = if m.can_be_kept then Some (run quotes [] (between i m.last es)) else None
+abbrev pub text_measured : Style → List EventInText → ℕ → Measure → Option (List ℕ)
+text_measured house es i m = if m.can_be_kept then Some (run house [] (between i m.last es)) else None

@@ -2,9 +2,10 @@
 use Rattle.std.specs.Prelude.{ℕ, List, [], ◌∷◌, ◌++◌, chars, codes, length, Option, Some, None}
 use Rattle.yf_props.specs.Props.{PropsValue, TagValue}
 use Rattle.yf_props.specs.Props.TagValue.{IsVerbatim, IsShort, IsNonSpecific}
-use Rattle.yf_quoted.specs.Written.{single_bytes, double_bytes}
+use Rattle.yf_quoted.specs.Written.{single_bytes, double_bytes_in}
 use Rattle.yf_events.specs.declared.event.ScalarStyle.{ScalarStyle}
 use Rattle.yf_events.specs.declared.event.ScalarStyle.TheVariants.{Plain, Single, Double, Literal, Folded}
+use Rattle.yf_emit.specs.declared.style.Style.{Style}
 use Rattle.yf_events.specs.Tree.{Node, scalar, alias, sequence, mapping, Items, no_items, item, Pairs, no_pairs, pair, props_of}
 
 -- how many characters a text has
@@ -41,12 +42,12 @@ abbrev pub props_text : PropsValue → List ℕ
 props_text props = spaced (anchor_text props.anchor) (tag_text props.tag)
 
 -- a scalar's text in its style; a block scalar is not written on one line
-abbrev pub scalar_text : ScalarStyle → List ℕ → List ℕ
-scalar_text Plain text = text
-scalar_text Single text = single_bytes (chars text)
-scalar_text Double text = double_bytes (chars text)
-scalar_text Literal text = []
-scalar_text Folded text = []
+abbrev pub scalar_text : Style → ScalarStyle → List ℕ → List ℕ
+scalar_text s Plain text = text
+scalar_text s Single text = single_bytes (chars text)
+scalar_text s Double text = double_bytes_in s.invisible (chars text)
+scalar_text s Literal text = []
+scalar_text s Folded text = []
 
 -- the `:` after a key; before it is a space where it would be read as a part of the key: after an alias, and after
 -- properties without a text
@@ -62,26 +63,26 @@ colon_after x = codes ":"
 -- the text of a node without its properties; a flow collection from bracket to bracket, with one space after each comma and
 -- each `:`, and a single pair as a mapping
 abbrev mutual
-  pub bare : Node → List ℕ
-  bare (scalar at props style text lines) = scalar_text style text
-  bare (alias at name) = 42 ∷ name
-  bare (sequence at flow props no_items) = codes "[]"
-  bare (sequence at flow props (item x xs)) = codes "[" ++ (spaced (props_text (props_of x)) (bare x) ++ (more_items xs ++ codes "]"))
-  bare (mapping at flow props no_pairs) = codes "{}"
-  bare (mapping at flow props (pair k v ps)) =
-      codes "{" ++ (spaced (props_text (props_of k)) (bare k) ++ (colon_after k ++ (codes " " ++ (spaced (props_text (props_of v)) (bare v)
-      ++ (more_pairs ps ++ codes "}")))))
+  pub bare : Style → Node → List ℕ
+  bare s (scalar at props style text lines) = scalar_text s style text
+  bare s (alias at name) = 42 ∷ name
+  bare s (sequence at flow props no_items) = codes "[]"
+  bare s (sequence at flow props (item x xs)) = codes "[" ++ (spaced (props_text (props_of x)) (bare s x) ++ (more_items s xs ++ codes "]"))
+  bare s (mapping at flow props no_pairs) = codes "{}"
+  bare s (mapping at flow props (pair k v ps)) =
+      codes "{" ++ (spaced (props_text (props_of k)) (bare s k) ++ (colon_after k ++ (codes " " ++ (spaced (props_text (props_of v)) (bare s v)
+      ++ (more_pairs s ps ++ codes "}")))))
 
-  pub more_items : Items → List ℕ
-  more_items no_items = []
-  more_items (item x xs) = codes ", " ++ (spaced (props_text (props_of x)) (bare x) ++ more_items xs)
+  pub more_items : Style → Items → List ℕ
+  more_items s no_items = []
+  more_items s (item x xs) = codes ", " ++ (spaced (props_text (props_of x)) (bare s x) ++ more_items s xs)
 
-  pub more_pairs : Pairs → List ℕ
-  more_pairs no_pairs = []
-  more_pairs (pair k v ps) =
-      codes ", " ++ (spaced (props_text (props_of k)) (bare k) ++ (colon_after k ++ (codes " " ++ (spaced (props_text (props_of v)) (bare v)
-      ++ more_pairs ps))))
+  pub more_pairs : Style → Pairs → List ℕ
+  more_pairs s no_pairs = []
+  more_pairs s (pair k v ps) =
+      codes ", " ++ (spaced (props_text (props_of k)) (bare s k) ++ (colon_after k ++ (codes " " ++ (spaced (props_text (props_of v)) (bare s v)
+      ++ more_pairs s ps))))
 
 -- the same with its properties
-abbrev pub written : Node → List ℕ
-written x = spaced (props_text (props_of x)) (bare x)
+abbrev pub written : Style → Node → List ℕ
+written s x = spaced (props_text (props_of x)) (bare s x)

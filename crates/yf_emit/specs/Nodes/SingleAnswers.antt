@@ -18,13 +18,13 @@ pub record NodeAt (es : List EventInText) (i : ℕ) (x : Node) : Type 0 where
 -- the text on one line, from bracket to bracket, of a flow collection with entries that may be kept, wherever it is; t is the
 -- text that was read
 abbrev pub kept_text_of : List ℕ → LayoutSetting → Node → Option (List ℕ)
-kept_text_of t c x = if is_filled_flow x && may_be_kept t c.comments x then Some (bare (styled t c x)) else None
+kept_text_of t c x = if is_filled_flow x && may_be_kept t c.comments x then Some (bare c.style (styled t c x)) else None
 
 -- The new text is the old one and after it the text on one line of the collection, empty or not, whose events are from the
 -- first index to the last, where it may be kept.
 pub record AddsKept (es : List EventInText) (s : Style) (first last : ℕ) (old new : List ℕ) : Type 0 where
   pub adds : (t : List ℕ) (c : LayoutSetting) (x : Node) → c.style ≡ s → NodeAt es first x → last + 1 ≡ first + length (flat x)
-      → is_collection x ≡ true → may_be_kept t c.comments x ≡ true → new ≡ old ++ bare (styled t c x)
+      → is_collection x ≡ true → may_be_kept t c.comments x ≡ true → new ≡ old ++ bare c.style (styled t c x)
 
 -- The keys of the block mappings of a normal form, in order, each as the index of the event that begins it, and whether it is
 -- implicit. The event at index i begins the node.

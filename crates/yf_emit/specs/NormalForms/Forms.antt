@@ -152,7 +152,8 @@ documents_are_placed [] = true
 documents_are_placed (d ∷ ds) = is_placed d.root && documents_are_placed ds
 
 -- Decisions: these are the forms of the events of the reading r in the house style s, if its comments ascend and its trees are placed
--- as those of texts are. Whatever text and setting it was measured with, the widths ms say how its scalars are written.
+-- as those of texts are. Whatever text and comments it was measured with in that style, the widths ms say how its scalars are written.
 pub record AreForms (r : Lists) (s : Style) (ms : List Measure) (fs : List Form) : Type 0 where
-  pub are : IsNonDecreasingBy (λ c. c.offset) r.comments → (t : List ℕ) (m : LayoutSetting) (ds : List DocumentTree) → TreesOf r ds
-      → documents_are_placed ds ≡ true → AreMeasures t m r.events ms → fs ≡ stream_forms t m (setting_of r s) ds
+  pub are : IsNonDecreasingBy (λ c. c.offset) r.comments → (t : List ℕ) (cs : List CommentValue) (ds : List DocumentTree) → TreesOf r ds
+      → documents_are_placed ds ≡ true → AreMeasures t (record { style = s; comments = cs }) r.events ms
+      → fs ≡ stream_forms t (record { style = s; comments = cs }) (setting_of r s) ds

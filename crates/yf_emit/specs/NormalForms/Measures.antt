@@ -30,8 +30,8 @@ is_one_line_style Literal = false
 is_one_line_style Folded = false
 
 -- how many characters a scalar has in that style
-abbrev pub scalar_width : ScalarStyle → List ℕ → Option ℕ
-scalar_width style text = width_if (is_one_line_style style) (scalar_text style text)
+abbrev pub scalar_width : Style → ScalarStyle → List ℕ → Option ℕ
+scalar_width s style text = width_if (is_one_line_style style) (scalar_text s style text)
 
 -- two widths with a space between them, where neither part is missing
 abbrev pub joined_width : ℕ → ℕ → ℕ
@@ -82,7 +82,7 @@ last_of (i ∷ j ∷ is) = last_of (j ∷ is)
 abbrev pub measure_of : List ℕ → LayoutSetting → ℕ → Node → Measure
 measure_of t c i x = record {
   last = i + length (flat x) - 1;
-  width = width_if (is_one_line (styled t c x)) (written (styled t c x));
+  width = width_if (is_one_line (styled t c x)) (written c.style (styled t c x));
   can_be_kept = is_filled_flow x && may_be_kept t c.comments x;
   first_leaf = first_of (leaf_indices i x);
   last_leaf = last_of (leaf_indices i x);

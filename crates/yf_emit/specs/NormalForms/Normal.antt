@@ -23,7 +23,7 @@ pub record LayoutSetting : Type 0 where
 abbrev mutual
   pub styled : List ℕ → LayoutSetting → Node → Node
   styled t c (scalar at props style text lines) =
-      scalar at props (wanted style text c.style.quotes) text (lines_in (wanted style text c.style.quotes) lines)
+      scalar at props (wanted style text c.style) text (lines_in (wanted style text c.style) lines)
   styled t c (alias at name) = alias at name
   styled t c (sequence at flow props items) =
       sequence at (may_be_kept t c.comments (sequence at flow props items)) props (styled_items t c items)
@@ -57,7 +57,7 @@ inner_spot s column = record { column = column + s.indent; entries = column + s.
 
 -- written on one line from that column on, the node ends at the last column that a line may have, or before it
 abbrev pub fits : Style → ℕ → Node → Bool
-fits s column x = nat_le (column + width (written x)) s.max_line
+fits s column x = nat_le (column + width (written s x)) s.max_line
 
 -- a key is implicit where it is written on one line, in an entry at that column, with so many characters at most
 abbrev pub is_one_line_key : Style → ℕ → Node → Bool
@@ -73,7 +73,7 @@ is_one_line_key s column (mapping at flow props no_pairs) = true
 is_one_line_key s column (mapping at flow props (pair k v ps)) = flow && fits s column (mapping at flow props (pair k v ps))
 
 abbrev pub is_implicit : Style → ℕ → Node → Bool
-is_implicit s column k = is_one_line_key s column k && nat_le (width (written k)) 1023
+is_implicit s column k = is_one_line_key s column k && nat_le (width (written s k)) 1023
 
 -- The comment that trails an implicit key: the first one after the beginning of the key's last leaf (of its entry, where the
 -- key is an empty node) and before the value's first leaf, where the value is a leaf with characters or is kept on one line.
@@ -102,7 +102,7 @@ key_comment cs k v = if is_text v || is_filled_flow v then first_between cs (key
 -- a comment trails the key; a sequence's entries may be at the key's column
 abbrev pub value_column : LayoutSetting → ℕ → Node → Node → ℕ
 value_column c column k v =
-    if is_some (key_comment c.comments k v) then column + c.style.indent else column + width (written k) + width (colon_after k) + 1
+    if is_some (key_comment c.comments k v) then column + c.style.indent else column + width (written c.style k) + width (colon_after k) + 1
 
 abbrev pub value_entries : Style → ℕ → Node → ℕ
 value_entries s column v = if is_sequence v && not s.seq_indent then column else column + s.indent

@@ -5,7 +5,6 @@ use Rattle.yf_comments.specs.Comment.{CommentValue}
 use Rattle.yf_events.specs.Event.{EventValue, EventInText, sequence_starts, sequence_ends, mapping_starts, mapping_ends, scalar_node, alias_node}
 use Rattle.yf_events.specs.declared.event.ScalarStyle.{ScalarStyle}
 use Rattle.yf_events.specs.declared.event.Span.{Span}
-use Rattle.yf_lines.specs.declared.quotes.Quotes.{Quotes}
 use Rattle.yf_props.specs.Props.{PropsValue}
 use Rattle.yf_emit.specs.declared.form.ended.Ended.{Ended}
 use Rattle.yf_emit.specs.declared.form.measure.Measure.{Measure}
@@ -34,19 +33,19 @@ sum_of (Some a) None = None
 sum_of None b = None
 
 -- a scalar in the style of the house, with its properties
-abbrev pub scalar_written : Quotes → PropsValue → ScalarStyle → List ℕ → List ℕ
-scalar_written quotes props style text = spaced (props_text props) (scalar_text (wanted style text quotes) text)
+abbrev pub scalar_written : Style → PropsValue → ScalarStyle → List ℕ → List ℕ
+scalar_written house props style text = spaced (props_text props) (scalar_text house (wanted style text house) text)
 
-abbrev pub ended_scalar : Quotes → ℕ → Option Span → PropsValue → ScalarStyle → List ℕ → Ended
-ended_scalar quotes i span props style text = record {
+abbrev pub ended_scalar : Style → ℕ → Option Span → PropsValue → ScalarStyle → List ℕ → Ended
+ended_scalar house i span props style text = record {
   measure = record {
     last = i;
-    width = width_if (is_one_line_style (wanted style text quotes)) (scalar_written quotes props style text);
+    width = width_if (is_one_line_style (wanted style text house)) (scalar_written house props style text);
     can_be_kept = false;
     first_leaf = leaf_if span i;
     last_leaf = leaf_if span i;
   };
-  inside = width_if (scalar_may_be_kept style text) (scalar_written quotes props style text);
+  inside = width_if (scalar_may_be_kept style text) (scalar_written house props style text);
   is_alias = false;
 }
 
@@ -152,7 +151,7 @@ popped i list (o ∷ os) = noted o.start (closed o i) (record { list = list; sta
 
 -- past the event at index i, whose place in the list is there already
 abbrev pub passed : List ℕ → LayoutSetting → ℕ → Option Span → EventValue → MeasuredSoFar → MeasuredSoFar
-passed t c i span (scalar_node props style text) f = noted i (ended_scalar c.style.quotes i span props style text) f
+passed t c i span (scalar_node props style text) f = noted i (ended_scalar c.style i span props style text) f
 passed t c i span (alias_node name) f = noted i (ended_alias i name) f
 passed t c i span (sequence_starts flow props) f = begun (opened t c.comments i span props flow false) f
 passed t c i span (mapping_starts flow props) f = begun (opened t c.comments i span props flow true) f

@@ -1,6 +1,6 @@
 -- The text on one line that events add from one to the next, with what comes next between each pair of brackets that is open.
 use Rattle.std.specs.Prelude.{ℕ, ◌+◌, ◌-◌, Bool, true, false, List, [], ◌∷◌, ◌++◌, codes, take, drop}
-use Rattle.yf_lines.specs.declared.quotes.Quotes.{Quotes}
+use Rattle.yf_emit.specs.declared.style.Style.{Style}
 use Rattle.yf_props.specs.Props.{PropsValue}
 use Rattle.yf_events.specs.Event.{EventValue, EventInText, stream_starts, stream_ends, document_starts, document_ends, sequence_starts, sequence_ends, mapping_starts, mapping_ends, scalar_node, alias_node}
 use Rattle.yf_emit.specs.declared.form.kept.Expected.{Expected}
@@ -52,17 +52,17 @@ before_bracket [] props = []
 before_bracket (e ∷ stack) props = before_text (e ∷ stack) props
 
 -- what an event adds, and what comes next after it
-abbrev pub added : Quotes → List Expected → EventValue → List ℕ
-added quotes stack (scalar_node props style text) = before_text stack props ++ scalar_text (wanted style text quotes) text
-added quotes stack (alias_node name) = separator_in stack ++ (42 ∷ name)
-added quotes stack (sequence_starts flow props) = before_bracket stack props ++ codes "["
-added quotes stack sequence_ends = codes "]"
-added quotes stack (mapping_starts flow props) = before_bracket stack props ++ codes "{"
-added quotes stack mapping_ends = codes "}"
-added quotes stack stream_starts = []
-added quotes stack stream_ends = []
-added quotes stack (document_starts marked) = []
-added quotes stack (document_ends marked) = []
+abbrev pub added : Style → List Expected → EventValue → List ℕ
+added house stack (scalar_node props style text) = before_text stack props ++ scalar_text house (wanted style text house) text
+added house stack (alias_node name) = separator_in stack ++ (42 ∷ name)
+added house stack (sequence_starts flow props) = before_bracket stack props ++ codes "["
+added house stack sequence_ends = codes "]"
+added house stack (mapping_starts flow props) = before_bracket stack props ++ codes "{"
+added house stack mapping_ends = codes "}"
+added house stack stream_starts = []
+added house stack stream_ends = []
+added house stack (document_starts marked) = []
+added house stack (document_ends marked) = []
 
 abbrev pub next_open : List Expected → EventValue → List Expected
 next_open stack (scalar_node props style text) = expected_after_in false stack
@@ -77,9 +77,9 @@ next_open stack (document_starts marked) = stack
 next_open stack (document_ends marked) = stack
 
 -- what all events add
-unfoldable pub run : Quotes → List Expected → List EventInText → List ℕ
-run quotes stack [] = []
-run quotes stack (e ∷ es) = added quotes stack e.event ++ run quotes (next_open stack e.event) es
+unfoldable pub run : Style → List Expected → List EventInText → List ℕ
+run house stack [] = []
+run house stack (e ∷ es) = added house stack e.event ++ run house (next_open stack e.event) es
 
 -- the events from one index to another, this one too
 abbrev pub between : ℕ → ℕ → List EventInText → List EventInText

@@ -126,16 +126,16 @@ with_props_before props d = with_text (space_after (props_text props)) d
 
 abbrev pub with_scalar : Style → Role → PropsValue → ScalarStyle → List ℕ → List (List ℕ) → Draft → Draft
 with_scalar s spot props Plain [] lines d = with_text (props_text props) d
-with_scalar s spot props Plain (b ∷ text) lines d = with_text (scalar_text Plain (b ∷ text)) (with_props_before props d)
-with_scalar s spot props Single text lines d = with_text (scalar_text Single text) (with_props_before props d)
-with_scalar s spot props Double text lines d = with_text (scalar_text Double text) (with_props_before props d)
+with_scalar s spot props Plain (b ∷ text) lines d = with_text (scalar_text s Plain (b ∷ text)) (with_props_before props d)
+with_scalar s spot props Single text lines d = with_text (scalar_text s Single text) (with_props_before props d)
+with_scalar s spot props Double text lines d = with_text (scalar_text s Double text) (with_props_before props d)
 with_scalar s spot props Literal text lines d = with_block s spot Literal text lines (with_props_before props d)
 with_scalar s spot props Folded text lines d = with_block s spot Folded text lines (with_props_before props d)
 
 -- a flow collection whose events are from the one index to the other
 abbrev pub with_kept : Work → ℕ → ℕ → PropsValue → Draft → Draft
 with_kept g i last props d =
-    with_text (OneLineRun.run g.style.quotes [] (OneLineRun.between i last g.reading.events)) (with_props_before props d)
+    with_text (OneLineRun.run g.style [] (OneLineRun.between i last g.reading.events)) (with_props_before props d)
 
 abbrev pub with_node_event : Work → ℕ → ℕ → EventValue → List (List ℕ) → Role → Draft → Draft
 with_node_event g i last (scalar_node props style text) lines spot d = with_scalar g.style spot props style text lines d

@@ -55,49 +55,49 @@ pub record SameEntry (ps : PairedOffsets) (a b : Entry) : Type 0 where
   pub blank : a.blank_before ≡ b.blank_before
 
 -- a scalar, an alias or an empty collection that is a key without `?` at each column
-abbrev pub is_leaf_key : Node → Bool
-is_leaf_key (scalar at props Plain text lines) = nat_le (width (written (scalar at props Plain text lines))) 1023
-is_leaf_key (scalar at props Single text lines) = nat_le (width (written (scalar at props Single text lines))) 1023
-is_leaf_key (scalar at props Double text lines) = nat_le (width (written (scalar at props Double text lines))) 1023
-is_leaf_key (scalar at props Literal text lines) = false
-is_leaf_key (scalar at props Folded text lines) = false
-is_leaf_key (alias at name) = nat_le (width (written (alias at name))) 1023
-is_leaf_key (sequence at flow props no_items) = nat_le (width (written (sequence at flow props no_items))) 1023
-is_leaf_key (sequence at flow props (item x xs)) = false
-is_leaf_key (mapping at flow props no_pairs) = nat_le (width (written (mapping at flow props no_pairs))) 1023
-is_leaf_key (mapping at flow props (pair k v qs)) = false
+abbrev pub is_leaf_key : Style → Node → Bool
+is_leaf_key s (scalar at props Plain text lines) = nat_le (width (written s (scalar at props Plain text lines))) 1023
+is_leaf_key s (scalar at props Single text lines) = nat_le (width (written s (scalar at props Single text lines))) 1023
+is_leaf_key s (scalar at props Double text lines) = nat_le (width (written s (scalar at props Double text lines))) 1023
+is_leaf_key s (scalar at props Literal text lines) = false
+is_leaf_key s (scalar at props Folded text lines) = false
+is_leaf_key s (alias at name) = nat_le (width (written s (alias at name))) 1023
+is_leaf_key s (sequence at flow props no_items) = nat_le (width (written s (sequence at flow props no_items))) 1023
+is_leaf_key s (sequence at flow props (item x xs)) = false
+is_leaf_key s (mapping at flow props no_pairs) = nat_le (width (written s (mapping at flow props no_pairs))) 1023
+is_leaf_key s (mapping at flow props (pair k v qs)) = false
 
 -- the `:` after a key is on the same sides, or doesn't count
-pub data SameColons (ps : PairedOffsets) (k l : Node) : Type 0 where
-  colons_match : Each (SameSide ps.comments) (colon_offset (standing k).entry) (colon_offset (standing l).entry) → SameColons ps k l
-  no_colon_counts : is_leaf_key k ≡ true → SameColons ps k l
+pub data SameColons (ps : PairedOffsets) (s : Style) (k l : Node) : Type 0 where
+  colons_match : Each (SameSide ps.comments) (colon_offset (standing k).entry) (colon_offset (standing l).entry) → SameColons ps s k l
+  no_colon_counts : is_leaf_key s k ≡ true → SameColons ps s k l
 
-pub record SameKeys (ps : PairedOffsets) (k l : Node) : Type 0 where
+pub record SameKeys (ps : PairedOffsets) (s : Style) (k l : Node) : Type 0 where
   pub begins : is_some (standing k).entry ≡ true
-  pub colon : SameColons ps k l
+  pub colon : SameColons ps s k l
 
 -- Nodes in the styles of the house that differ by offsets alone, and whose leaves and entries are on the same sides.
 mutual
-  pub data NodesMatch (ps : PairedOffsets) : Node → Node → Type 0 where
+  pub data NodesMatch (ps : PairedOffsets) (s : Style) : Node → Node → Type 0 where
     matched_scalars : {at bt : NodeOffsets} {props : PropsValue} {style : ScalarStyle} {text : List ℕ} {lines : List (List ℕ)} → Either (SameSpan ps) at.span bt.span → Either (SameEntry ps) at.entry bt.entry
-        → NodesMatch ps (scalar at props style text lines) (scalar bt props style text lines)
-    matched_aliases : {at bt : NodeOffsets} {name : List ℕ} → Either (SameSpan ps) at.span bt.span → Either (SameEntry ps) at.entry bt.entry → NodesMatch ps (alias at name) (alias bt name)
+        → NodesMatch ps s (scalar at props style text lines) (scalar bt props style text lines)
+    matched_aliases : {at bt : NodeOffsets} {name : List ℕ} → Either (SameSpan ps) at.span bt.span → Either (SameEntry ps) at.entry bt.entry → NodesMatch ps s (alias at name) (alias bt name)
     matched_empty_sequences : {at bt : NodeOffsets} {flow : _} {props : PropsValue} → Either (SameSpan ps) at.span bt.span → Either (SameEntry ps) at.entry bt.entry
-        → NodesMatch ps (sequence at flow props no_items) (sequence bt flow props no_items)
+        → NodesMatch ps s (sequence at flow props no_items) (sequence bt flow props no_items)
     matched_empty_mappings : {at bt : NodeOffsets} {flow : _} {props : PropsValue} → Either (SameSpan ps) at.span bt.span → Either (SameEntry ps) at.entry bt.entry
-        → NodesMatch ps (mapping at flow props no_pairs) (mapping bt flow props no_pairs)
+        → NodesMatch ps s (mapping at flow props no_pairs) (mapping bt flow props no_pairs)
     matched_sequences : {at bt : NodeOffsets} {flow : _} {props : PropsValue} {x y : Node} {xs ys : Items} → is_some at.span ≡ is_some bt.span → Either (SameEntry ps) at.entry bt.entry
-        → NodesMatch ps x y → ItemsMatch ps xs ys → NodesMatch ps (sequence at flow props (item x xs)) (sequence bt flow props (item y ys))
+        → NodesMatch ps s x y → ItemsMatch ps s xs ys → NodesMatch ps s (sequence at flow props (item x xs)) (sequence bt flow props (item y ys))
     matched_mappings : {at bt : NodeOffsets} {flow : _} {props : PropsValue} {k v l w : Node} {qs rs : Pairs} → is_some at.span ≡ is_some bt.span → Either (SameEntry ps) at.entry bt.entry
-        → SameKeys ps k l → NodesMatch ps k l → NodesMatch ps v w → PairsMatch ps qs rs → NodesMatch ps (mapping at flow props (pair k v qs)) (mapping bt flow props (pair l w rs))
+        → SameKeys ps s k l → NodesMatch ps s k l → NodesMatch ps s v w → PairsMatch ps s qs rs → NodesMatch ps s (mapping at flow props (pair k v qs)) (mapping bt flow props (pair l w rs))
 
-  pub data ItemsMatch (ps : PairedOffsets) : Items → Items → Type 0 where
-    no_matched_items : ItemsMatch ps no_items no_items
-    matched_item : {x y : Node} {xs ys : Items} → NodesMatch ps x y → ItemsMatch ps xs ys → ItemsMatch ps (item x xs) (item y ys)
+  pub data ItemsMatch (ps : PairedOffsets) (s : Style) : Items → Items → Type 0 where
+    no_matched_items : ItemsMatch ps s no_items no_items
+    matched_item : {x y : Node} {xs ys : Items} → NodesMatch ps s x y → ItemsMatch ps s xs ys → ItemsMatch ps s (item x xs) (item y ys)
 
-  pub data PairsMatch (ps : PairedOffsets) : Pairs → Pairs → Type 0 where
-    no_matched_pairs : PairsMatch ps no_pairs no_pairs
-    matched_pair : {k v l w : Node} {qs rs : Pairs} → SameKeys ps k l → NodesMatch ps k l → NodesMatch ps v w → PairsMatch ps qs rs → PairsMatch ps (pair k v qs) (pair l w rs)
+  pub data PairsMatch (ps : PairedOffsets) (s : Style) : Pairs → Pairs → Type 0 where
+    no_matched_pairs : PairsMatch ps s no_pairs no_pairs
+    matched_pair : {k v l w : Node} {qs rs : Pairs} → SameKeys ps s k l → NodesMatch ps s k l → NodesMatch ps s v w → PairsMatch ps s qs rs → PairsMatch ps s (pair k v qs) (pair l w rs)
 
 -- a comment, with the same text but for the white space at its end, and the same note on a blank line before it
 pub record SameComment (ps : PairedOffsets) (c d : CommentValue) : Type 0 where
@@ -115,7 +115,7 @@ pub record SameRemark (ps : PairedOffsets) (c d : Remark) : Type 0 where
 pub data DocumentsMatch (ps : PairedOffsets) (s : Style) (t : List ℕ) (r : Lists) (v : List ℕ) (q : Lists) : List Doc → List DocumentTree → List Doc → List DocumentTree → Type 0 where
   no_matched_documents : DocumentsMatch ps s t r v q [] [] [] []
   matched_document : {d e : Doc} {ds es : List Doc} {x y : DocumentTree} {xs ys : List DocumentTree} → words_of d.directives ≡ words_of e.directives → SameSide ps.comments d.start e.start
-      → NodesMatch ps (styled t (setting_of r s) x.root) (styled v (setting_of q s) y.root) → DocumentsMatch ps s t r v q ds xs es ys
+      → NodesMatch ps s (styled t (setting_of r s) x.root) (styled v (setting_of q s) y.root) → DocumentsMatch ps s t r v q ds xs es ys
       → DocumentsMatch ps s t r v q (d ∷ ds) (x ∷ xs) (e ∷ es) (y ∷ ys)
 
 -- The readings of two texts match: all comments are pairs, and each offset of a node is on the same side of all of these; the beginnings of leaves are pairs, too,

@@ -1,6 +1,5 @@
 -- What formatting leaves as it is spelled.
 use Rattle.std.specs.Prelude.{◌≡◌, ℕ, false, List, map}
-use Rattle.yf_lines.specs.declared.quotes.Quotes.{Quotes}
 use Rattle.yf_events.specs.Event.{EventValue, EventInText, document_starts, document_ends, sequence_starts, mapping_starts, scalar_node}
 use Rattle.yf_events.specs.Reading.{events_of, folded_of}
 use Rattle.yf_events.specs.declared.document.Doc.{Doc}
@@ -29,8 +28,8 @@ style_of_event (scalar_node props style text) = style
 style_of_event e = Plain
 
 -- the lines of a folded scalar, where it stays one
-abbrev pub folded_lines : Quotes → EventInText → List (List ℕ)
-folded_lines quotes e = lines_of (restyled_event quotes false e.event) e.folded
+abbrev pub folded_lines : Style → EventInText → List (List ℕ)
+folded_lines house e = lines_of (restyled_event house false e.event) e.folded
 
 abbrev pub directive_words : Lists → List (List (List (List ℕ)))
 directive_words r = map (λ (d : Doc). words_of d.directives) r.documents
@@ -40,8 +39,8 @@ pub record SameSpellings (s : Style) (t u : List ℕ) : Type 0 where
   pub events : (r q : Lists) → ReadingOf t r → ReadingOf u q → map unstyled (events_of q) ≡ map unstyled (events_of r)
   -- a plain scalar stays plain exactly where its text is steady, a literal or folded one what it is exactly where it has a character other than space
   -- and line feed, and all others are quoted
-  pub styles : (r q : Lists) → ReadingOf t r → ReadingOf u q → map style_of_event (events_of q) ≡ map (λ e. wanted_of_event e s.quotes) (events_of r)
+  pub styles : (r q : Lists) → ReadingOf t r → ReadingOf u q → map style_of_event (events_of q) ≡ map (λ e. wanted_of_event e s) (events_of r)
   -- the lines of folded scalars; those of literal ones are lines of their texts
-  pub lines : (r q : Lists) → ReadingOf t r → ReadingOf u q → folded_of q ≡ map (folded_lines s.quotes) r.events
+  pub lines : (r q : Lists) → ReadingOf t r → ReadingOf u q → folded_of q ≡ map (folded_lines s) r.events
   -- the words of each document's directives
   pub words : (r q : Lists) → ReadingOf t r → ReadingOf u q → directive_words q ≡ directive_words r

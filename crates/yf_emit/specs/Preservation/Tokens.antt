@@ -1,10 +1,10 @@
 -- Where a tab may be in a line of a formatted text that is none of a block scalar's lines.
-use Rattle.std.specs.Prelude.{◌≡◌, ◌≢◌, ℕ, List, [], ◌∷◌, ◌++◌, flat_map, map}
+use Rattle.std.specs.Prelude.{◌≡◌, ◌≢◌, ℕ, List, [], ◌∷◌, ◌++◌, chars, flat_map, map}
+use Rattle.yf_quoted.specs.Written.{single_bytes}
 use Rattle.yf_events.specs.Event.{EventValue, EventInText, scalar_node}
 use Rattle.yf_events.specs.declared.event.ScalarStyle.TheVariants.{Plain, Single}
 use Rattle.yf_events.specs.declared.lists.Lists.{Lists}
 use Rattle.yf_emit.specs.Layouts.Layout.{trimmed}
-use Rattle.yf_emit.specs.Nodes.OneLine.{scalar_text}
 
 -- a text is among these
 pub data HasText (w : List ℕ) : List (List ℕ) → Type 0 where
@@ -14,7 +14,7 @@ pub data HasText (w : List ℕ) : List (List ℕ) → Type 0 where
 -- a plain or single-quoted scalar, as it is written
 abbrev pub tokens_of_event : EventValue → List (List ℕ)
 tokens_of_event (scalar_node props Plain text) = text ∷ []
-tokens_of_event (scalar_node props Single text) = scalar_text Single text ∷ []
+tokens_of_event (scalar_node props Single text) = single_bytes (chars text) ∷ []
 tokens_of_event e = []
 
 abbrev pub tokens_in : List EventInText → List (List ℕ)

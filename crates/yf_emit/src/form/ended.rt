@@ -5,8 +5,8 @@ ghost use Rattle.yf_emit.specs.Nodes.OneLineFlows.{scalar_may_be_kept};
 ghost use Rattle.yf_emit.specs.NormalForms.Measures.{is_one_line_style, width_if};
 ghost use Rattle.yf_emit.specs.Passes.MeasurePass as Measuring;
 ghost use Rattle.yf_emit.specs.Nodes.OneLine.{props_text, scalar_text, spaced};
+ghost use Rattle.yf_emit.specs.declared.style.Style.{Style};
 ghost use Rattle.yf_emit.specs.Nodes.ScalarStyles as Wanted;
-ghost use Rattle.yf_lines.specs.declared.quotes.Quotes.{Quotes};
 ghost use Rattle.yf_props.specs.Props.{props_value};
 
 use crate::form::measure::Measure;
@@ -28,7 +28,7 @@ pub(crate) struct Ended {
 /// that stays plain.
 #[inline(always)]
 fn may_be_inside(written: ScalarStyle, wanted: ScalarStyle, text: &str) -> bool
-    ensures { (quotes : Quotes) → wanted ≡ Wanted.wanted written text.now quotes → result ≡ scalar_may_be_kept written text.now }
+    ensures { (house : Style) → wanted ≡ Wanted.wanted written text.now house → result ≡ scalar_may_be_kept written text.now }
 {
     match written {
         ScalarStyle::Plain => {
@@ -69,12 +69,17 @@ fn leaf(i: usize, width: Option<usize>, leaf: Option<usize>) -> Measure
 
 /// How many characters a scalar has in a style, with its properties; `None` where it is a block scalar.
 #[inline(always)]
-fn width_in_style(props: &Props, style: ScalarStyle, text: &str) -> Option<usize>
-    ensures width { result ≡ width_if (is_one_line_style style) (spaced (props_text (props_value props.now)) (scalar_text style text.now)) }
+fn width_in_style(
+    props: &Props,
+    style: ScalarStyle,
+    text: &str,
+    house: &Style,
+) -> Option<usize>
+    ensures width { result ≡ width_if (is_one_line_style style) (spaced (props_text (props_value props.now)) (scalar_text house.now style text.now)) }
     ensures utf8 { (IsUtf8 (props_text (props_value props.now))) × (IsUtf8 text.now) }
 {
     let before = props_width(props);
-    match scalar_width(style, text) {
+    match scalar_width(style, text, house) {
         Some(width) => Some(joined_width(before, width)),
         None => None,
     }
@@ -90,11 +95,11 @@ pub(crate) fn scalar(
     text: &str,
     style: &Style,
 ) -> Ended
-    ensures ended { result ≡ Measuring.ended_scalar style.now.quotes i span (props_value props.now) written text.now }
+    ensures ended { result ≡ Measuring.ended_scalar style.now i span (props_value props.now) written text.now }
     ensures utf8 { (IsUtf8 (props_text (props_value props.now))) × (IsUtf8 text.now) }
 {
-    let wanted = wanted_of(written, text, style.quotes);
-    let width = width_in_style(props, wanted, text);
+    let wanted = wanted_of(written, text, style);
+    let width = width_in_style(props, wanted, text, style);
     let measure = leaf(i, width, leaf_if(span, i));
     if may_be_inside(written, wanted, text) {
         return Ended {

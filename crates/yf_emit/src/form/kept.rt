@@ -20,7 +20,6 @@ use std::alloc::{AllocError, Global};
 use yf_events::event::Event;
 use yf_events::reading::Reading;
 use yf_lines::fault::Fault;
-use yf_lines::quotes::Quotes;
 use yf_lines::source_text::Src;
 use yf_props::props::Props;
 
@@ -152,16 +151,16 @@ impl Brackets {
         &mut self,
         out: &mut String,
         event: &Event,
-        quotes: Quotes,
+        house: &Style,
     ) -> Result<(), AllocError>
-        ensures adds { OnOk result (string_bytes out.new ≡ string_bytes out.old ++ added quotes (reverse self.old.open.items)
+        ensures adds { OnOk result (string_bytes out.new ≡ string_bytes out.old ++ added house.now (reverse self.old.open.items)
             (event_value event.now)) }
         ensures next { OnOk result (reverse self.new.open.items ≡ next_open (reverse self.old.open.items) (event_value event.now)) }
     {
         match event {
             Event::Scalar { props, style, text } => {
                 self.before_text(out, props)?;
-                push_scalar(out, wanted_of(*style, text, quotes), text)
+                push_scalar(out, wanted_of(*style, text, house), text, house)
             }
             Event::Alias { name } => {
                 self.before_node(out, true)?;
@@ -187,14 +186,14 @@ fn push_between(
     last: usize,
     style: &Style,
 ) -> Result<(), AllocError>
-    ensures { OnOk result (string_bytes text.new ≡ string_bytes text.old ++ run style.now.quotes (reverse brackets.old.open.items)
+    ensures { OnOk result (string_bytes text.new ≡ string_bytes text.old ++ run style.now (reverse brackets.old.open.items)
         (between first last reading.now.events)) }
 {
     for k in first..reading.len() {
         if last < k {
             break;
         }
-        brackets.push_event(text, &reading.event(k), style.quotes)?;
+        brackets.push_event(text, &reading.event(k), style)?;
     }
     Ok(())
 }
@@ -213,7 +212,7 @@ pub fn kept_text_of(
 ) -> Result<Option<String>, AllocError>
     ensures kept { IfOk result (λ o. TellsKept reading.now.events style.now measures.now i (option_map string_bytes o)) }
     ensures exact { IfOk result (λ o. option_map string_bytes o
-        ≡ text_measured style.now.quotes reading.now.events i (get_or measures.now i no_measure)) }
+        ≡ text_measured style.now reading.now.events i (get_or measures.now i no_measure)) }
     ensures tells { IfOk result (λ o. TellsFlow reading.now.events style.now measures.now i (option_map string_bytes o)) }
 {
     let measure = measures.at(i);
@@ -234,7 +233,7 @@ pub fn push_kept(
     last: usize,
     style: &Style,
 ) -> Result<(), AllocError>
-    ensures run { OnOk result (string_bytes text.new ≡ string_bytes text.old ++ run style.now.quotes []
+    ensures run { OnOk result (string_bytes text.new ≡ string_bytes text.old ++ run style.now []
         (between first last reading.now.events)) }
     ensures kept { OnOk result (AddsKept reading.now.events style.now first last (string_bytes text.old) (string_bytes text.new)) }
 {

@@ -119,7 +119,7 @@ fn push_scalar_node(
         }
         ScalarStyle::Single | ScalarStyle::Double => {
             push_props_before_at(&mut output.line, page, i)?;
-            push_scalar(&mut output.line, style, text)
+            push_scalar(&mut output.line, style, text, &page.plan.style)
         }
         ScalarStyle::Literal | ScalarStyle::Folded => {
             push_props_before_at(&mut output.line, page, i)?;

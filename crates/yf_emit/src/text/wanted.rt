@@ -9,14 +9,14 @@ use yf_events::event::{Event, ScalarStyle};
 use yf_events::reading::Reading;
 use yf_lines::quotes::Quotes;
 use yf_lines::steady::is_steady;
-use yf_quoted::write::choose;
+use yf_quoted::write::choose_in;
 
 /// The quotes that the house style takes for a text: the preferred ones, but single quotes only where each character is
-/// an nb-char (production 27), since they have no escapes.
-fn quotes_of(text: &str, preferred: Quotes) -> ScalarStyle
-    ensures { result ≡ quoted_in text.now preferred }
+/// an nb-char (production 27) and none is a hidden one that is to be escaped, since they have no escapes.
+fn quotes_of(text: &str, house: &Style) -> ScalarStyle
+    ensures { result ≡ quoted_in text.now house.now }
 {
-    match choose(text, preferred) {
+    match choose_in(text, house.quotes, house.invisible) {
         Quotes::Single => ScalarStyle::Single,
         Quotes::Double => ScalarStyle::Double,
     }
@@ -31,28 +31,28 @@ fn has_block_content(text: &str) -> bool
 
 /// The style in which the house style writes a scalar of this style and text.
 #[inline(always)]
-pub fn wanted_of(written: ScalarStyle, text: &str, quotes: Quotes) -> ScalarStyle
-    ensures { result ≡ wanted written text.now quotes }
+pub fn wanted_of(written: ScalarStyle, text: &str, house: &Style) -> ScalarStyle
+    ensures { result ≡ wanted written text.now house.now }
 {
     match written {
         ScalarStyle::Plain => {
             if is_steady(text) {
                 return ScalarStyle::Plain;
             }
-            quotes_of(text, quotes)
+            quotes_of(text, house)
         }
-        ScalarStyle::Single | ScalarStyle::Double => quotes_of(text, quotes),
+        ScalarStyle::Single | ScalarStyle::Double => quotes_of(text, house),
         ScalarStyle::Literal => {
             if has_block_content(text) {
                 return ScalarStyle::Literal;
             }
-            quotes_of(text, quotes)
+            quotes_of(text, house)
         }
         ScalarStyle::Folded => {
             if has_block_content(text) {
                 return ScalarStyle::Folded;
             }
-            quotes_of(text, quotes)
+            quotes_of(text, house)
         }
     }
 }
@@ -62,14 +62,14 @@ pub fn wanted_of(written: ScalarStyle, text: &str, quotes: Quotes) -> ScalarStyl
 /// any other is quoted. Of an event that is no scalar it is `Plain`. It takes no memory.
 pub fn wanted_style(reading: &Reading, i: usize, style: &Style) -> ScalarStyle
     requires { i < length reading.now.events }
-    ensures { IfSome (slice_get (events_of reading.now) i) (λ e. result ≡ wanted_of_event e style.now.quotes) }
+    ensures { IfSome (slice_get (events_of reading.now) i) (λ e. result ≡ wanted_of_event e style.now) }
 {
     match reading.event(i) {
         Event::Scalar {
             style: written,
             text,
             ..
-        } => wanted_of(written, text, style.quotes),
+        } => wanted_of(written, text, style),
         _ => ScalarStyle::Plain,
     }
 }

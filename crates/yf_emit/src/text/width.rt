@@ -4,14 +4,18 @@ ghost use Rattle.std.specs.Str.{IsUtf8};
 ghost use Rattle.yf_chars.specs.Common.{is_common};
 ghost use Rattle.yf_chars.specs.Escape as Escape;
 ghost use Rattle.yf_chars.specs.Escape.{spelled};
+ghost use Rattle.yf_chars.specs.Hidden.{spelled_out};
 ghost use Rattle.yf_emit.specs.NormalForms.Measures as Measures;
 ghost use Rattle.yf_emit.specs.NormalForms.Measures.{up_to_greatest};
 ghost use Rattle.yf_emit.specs.Nodes.OneLine.{anchor_text, props_text, tag_text, width};
 ghost use Rattle.yf_props.specs.Props.{name_value, optional_tag_value, props_value, tag_value};
-ghost use Rattle.yf_quoted.specs.Written.{double_bytes, single_bytes, twice};
+ghost use Rattle.yf_quoted.specs.Written.{double_bytes, double_bytes_in, single_bytes, twice};
 
+use crate::style::Style;
 use yf_chars::escapes::{are_common, is_by_four, is_by_two, is_common};
+use yf_chars::hidden::is_spelled_out;
 use yf_events::event::ScalarStyle;
+use yf_lines::invisible::Invisible;
 use yf_props::props::{Props, Tag};
 
 /// How many bytes a text has.
@@ -103,6 +107,41 @@ fn double_width(text: &str) -> usize
     width
 }
 
+/// How many characters the spelling of one has in double quotes where hidden ones are escaped.
+fn spelled_out_width(c: char) -> usize
+    ensures { result ≡ length (spelled_out c) }
+{
+    if is_spelled_out(c) {
+        if c < '\u{10000}' {
+            return 6;
+        }
+        return 10;
+    }
+    spelled_width(c)
+}
+
+fn escaped_width(text: &str) -> usize
+    ensures { result ≡ up_to_greatest (width (double_bytes_in Invisible.Escaped (chars text.now))) }
+{
+    if are_common(text) {
+        return byte_count(text).saturating_add(2);
+    }
+    let mut width = 2usize;
+    for c in text.chars() {
+        width = width.saturating_add(spelled_out_width(c));
+    }
+    width
+}
+
+fn double_width_in(text: &str, invisible: Invisible) -> usize
+    ensures { result ≡ up_to_greatest (width (double_bytes_in invisible (chars text.now))) }
+{
+    match invisible {
+        Invisible::Plain => double_width(text),
+        Invisible::Escaped => escaped_width(text),
+    }
+}
+
 fn single_width(text: &str) -> usize
     ensures { result ≡ up_to_greatest (width (single_bytes (chars text.now))) }
 {
@@ -114,14 +153,14 @@ fn single_width(text: &str) -> usize
 }
 
 /// How many characters a scalar has in a style on one line; `None` in a block style.
-pub fn scalar_width(style: ScalarStyle, text: &str) -> Option<usize>
-    ensures width { result ≡ Measures.scalar_width style text.now }
+pub fn scalar_width(style: ScalarStyle, text: &str, house: &Style) -> Option<usize>
+    ensures width { result ≡ Measures.scalar_width house.now style text.now }
     ensures utf8 { IsUtf8 text.now }
 {
     match style {
         ScalarStyle::Plain => Some(counted(text)),
         ScalarStyle::Single => Some(single_width(text)),
-        ScalarStyle::Double => Some(double_width(text)),
+        ScalarStyle::Double => Some(double_width_in(text, house.invisible)),
         ScalarStyle::Literal | ScalarStyle::Folded => None,
     }
 }

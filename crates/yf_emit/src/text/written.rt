@@ -5,20 +5,21 @@ ghost use Rattle.yf_props.specs.Props.{optional_tag_value, props_value, tag_valu
 ghost use Rattle.yf_emit.specs.Nodes.OneLine.{props_text, scalar_text, space_before, space_after, tag_text};
 ghost use Rattle.yf_emit.specs.Layouts.Rows.{is_empty_text};
 
+use crate::style::Style;
 use std::alloc::AllocError;
 use yf_chars::error::NoMemory;
 use yf_events::event::ScalarStyle;
 use yf_props::props::{Props, Tag};
-use yf_quoted::write::{push_double, push_single};
+use yf_quoted::write::{push_double_in, push_single};
 
 /// Appends the text of a scalar in a style on one line; nothing of a block style.
-pub fn push_scalar(out: &mut String, style: ScalarStyle, text: &str) -> Result<(), AllocError>
-    ensures { OnOk result (string_bytes out.new ≡ string_bytes out.old ++ scalar_text style text.now) }
+pub fn push_scalar(out: &mut String, style: ScalarStyle, text: &str, house: &Style) -> Result<(), AllocError>
+    ensures { OnOk result (string_bytes out.new ≡ string_bytes out.old ++ scalar_text house.now style text.now) }
 {
     match style {
         ScalarStyle::Plain => out.push_str(text),
         ScalarStyle::Single => push_single(out, text),
-        ScalarStyle::Double => match push_double(out, text) {
+        ScalarStyle::Double => match push_double_in(out, text, house.invisible) {
             Ok(()) => Ok(()),
             Err(NoMemory) => Err(AllocError),
         },

@@ -14,8 +14,8 @@ use Rattle.yf_comments.proofs.SpaceLemmas.{space_separates}
 use Rattle.yf_plain.specs.Kept.{IsPlain}
 use Rattle.yf_plain.proofs.PlainBack.{plain_text_back, plain_line_text}
 use Rattle.yf_quoted.specs.Quoted.{text_of}
-use Rattle.yf_quoted.specs.Written.{all_nb, single_bytes, double_bytes}
-use Rattle.yf_quoted.proofs.QuotedBack.{single_line_text, double_line_text, single_is_at, double_is_at}
+use Rattle.yf_quoted.specs.Written.{DoubleBack, all_nb, single_bytes}
+use Rattle.yf_quoted.proofs.QuotedBack.{single_line_text, single_is_at, double_there}
 use Rattle.yf_props.specs.Props.{PropsValue, no_props}
 use Rattle.yf_props.specs.Names.{Properties}
 use Rattle.yf_props.specs.Written.{IsName, IsProps, alias_bytes, props_bytes, tag_offset_at, props_at}
@@ -61,17 +61,17 @@ pub single_json_back : (c : Ctx) (cs : List ℕ) → is_block c ≡ false → al
     → JsonBack c (single_bytes cs) 0 (λ q. scalar Single (encode_utf8_all cs) [] q (q + length (single_bytes cs)))
 single_json_back c cs b a = record { line = single_line_text cs a; made = λ n q r u s. a_single (single_is_at n c cs r u b a (rest_is_at s)) }
 
-pub double_json_back : (c : Ctx) (cs : List ℕ) → is_block c ≡ false → scalars cs ≡ true
-    → JsonBack c (double_bytes cs) 0 (λ q. scalar Double (encode_utf8_all cs) [] q (q + length (double_bytes cs)))
-double_json_back c cs b a = record { line = double_line_text cs a; made = made } where
-  made : {t : List ℕ} (n : ℤ) (q : ℕ) (r : List ℕ) → IsUtf8 t → Rest t q (double_bytes cs ++ r)
-      → Derives t 0 (JsonContent n c) q (q + length (double_bytes cs)) (scalar Double (encode_utf8_all cs) [] q (q + length (double_bytes cs)))
+pub double_json_back : (c : Ctx) {w : List ℕ} (cs : List ℕ) → is_block c ≡ false → IsLineText w → DoubleBack w cs
+    → JsonBack c w 0 (λ q. scalar Double (encode_utf8_all cs) [] q (q + length w))
+double_json_back c {w} cs b line back = record { line = line; made = made } where
+  made : {t : List ℕ} (n : ℤ) (q : ℕ) (r : List ℕ) → IsUtf8 t → Rest t q (w ++ r)
+      → Derives t 0 (JsonContent n c) q (q + length w) (scalar Double (encode_utf8_all cs) [] q (q + length w))
   made {t} n q r u s =
-      let got = double_is_at n c cs r u b a (rest_is_at s) in
-      let whole : Derives t 0 (JsonContent n c) q (q + length (double_bytes cs)) (scalar Double (encode_utf8_all (text_of got.pieces)) (bad_escapes got.pieces) q (q + length (double_bytes cs))) =
+      let got = double_there n c r back u b (rest_is_at s) in
+      let whole : Derives t 0 (JsonContent n c) q (q + length w) (scalar Double (encode_utf8_all (text_of got.pieces)) (bad_escapes got.pieces) q (q + length w)) =
       a_double got.derived in
-      subst (λ v. Derives t 0 (JsonContent n c) q (q + length (double_bytes cs)) (scalar Double (encode_utf8_all cs) v q (q + length (double_bytes cs)))) got.no_bad
-      (subst (λ v. Derives t 0 (JsonContent n c) q (q + length (double_bytes cs)) (scalar Double (encode_utf8_all v) (bad_escapes got.pieces) q (q + length (double_bytes cs)))) got.text whole)
+      subst (λ v. Derives t 0 (JsonContent n c) q (q + length w) (scalar Double (encode_utf8_all cs) v q (q + length w))) got.no_bad
+      (subst (λ v. Derives t 0 (JsonContent n c) q (q + length w) (scalar Double (encode_utf8_all v) (bad_escapes got.pieces) q (q + length w))) got.text whole)
 
 pub json_back : {c : Ctx} {w : List ℕ} {height : ℕ} {mean : ℕ → Meaning} → JsonBack c w height mean → Back true true c w height mean
 json_back b = record { line = b.line; made = λ n q r u f s. a_json (b.made n q r u s) }

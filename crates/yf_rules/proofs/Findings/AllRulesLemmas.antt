@@ -8,7 +8,7 @@ use Rattle.yf_lines.specs.declared.fault.Fault.{Fault}
 use Rattle.yf_lines.specs.declared.fault.Fault.TheVariants.{NotUtf8, Syntax, TooDeep, UnknownHandle, UnknownAlias, RepeatedDirective, BadVersion, EscapeValue, Memory, ReadFailed, WriteFailed, Config}
 use Rattle.yf_rules.specs.declared.finding.Finding.{Finding}
 use Rattle.yf_rules.specs.declared.rules.StyleRule.{StyleRule}
-use Rattle.yf_rules.specs.declared.rules.StyleRule.TheVariants.{TrailingBlanks, Indentation, Quoting, DocumentStart, FinalBreak, LineBreaks, ByteOrderMark, BlankLines, FlowLayout, CommentSpace, LineLength, RepeatedKeys, KeyMark}
+use Rattle.yf_rules.specs.declared.rules.StyleRule.TheVariants.{TrailingBlanks, Indentation, Quoting, DocumentStart, FinalBreak, LineBreaks, ByteOrderMark, BlankLines, FlowLayout, CommentSpace, LineLength, RepeatedKeys, KeyMark, HiddenCharacter}
 use Rattle.yf_rules.specs.AllRules.{Are, FoundWithout, IsDefinition, RulesAreListed, all_rules, rules_without}
 use Rattle.yf_rules.specs.Asked.{asked, is_among}
 use Rattle.yf_rules.specs.Check.{CheckAnswer, FindingsOf, InOrder, RuleFindings}
@@ -36,6 +36,7 @@ rules_are_listed CommentSpace = (9, omega arith, refl)
 rules_are_listed LineLength = (10, omega arith, refl)
 rules_are_listed RepeatedKeys = (11, omega arith, refl)
 rules_are_listed KeyMark = (12, omega arith, refl)
+rules_are_listed HiddenCharacter = (13, omega arith, refl)
 
 -- a definition that is a rule's own is that of the rule
 pub is_definition : (d : RuleDefinition) (rule : StyleRule) → d ≡ definition_of rule → IsDefinition d rule

@@ -48,7 +48,7 @@ chosen x y z false f g e = absurd (true≢false (sym g ∙ sym (ap is_flow e) �
 
 pub record Fine (t : List ℕ) (c : LayoutSetting) (x : Node) : Type 0 where
   pub column : ℕ
-  pub written : WrittenAt t column x
+  pub written : WrittenAt c.style t column x
   pub may : is_filled_flow x ≡ true → may_be_kept t c.comments x ≡ true
   pub same : is_filled_flow x ≡ true → styled t c x ≡ x
   pub fit : is_filled_flow x ≡ true → fits c.style column x ≡ true

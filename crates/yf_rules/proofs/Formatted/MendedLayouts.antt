@@ -26,15 +26,15 @@ some_span : {a b : Span} → Some a ≡ Some b → a ≡ b
 some_span e = cc
 
 -- it is wanted as it is written
-wanted_bare : (t : List ℕ) (c : LayoutSetting) (x : Node) → Fine t c x → wanted_text t c x ≡ Some (bare x)
+wanted_bare : (t : List ℕ) (c : LayoutSetting) (x : Node) → Fine t c x → wanted_text t c x ≡ Some (bare c.style x)
 wanted_bare t c x a = by (is_filled_flow x) refl where
-  by : (b : Bool) → is_filled_flow x ≡ b → wanted_text t c x ≡ Some (bare x)
+  by : (b : Bool) → is_filled_flow x ≡ b → wanted_text t c x ≡ Some (bare c.style x)
   by true e =
       let may : may_be_kept t c.comments x ≡ true = a.may e in
       let same : styled t c x ≡ x = a.same e in
-      ap (λ b. if b then (if b && may_be_kept t c.comments x then Some (bare (styled t c x)) else None) else Some (bare x)) e
-      ∙ (ap (λ b. if b then Some (bare (styled t c x)) else None) may ∙ ap (λ z. Some (bare z)) same)
-  by false e = ap (λ b. if b then (if b && may_be_kept t c.comments x then Some (bare (styled t c x)) else None) else Some (bare x)) e
+      ap (λ b. if b then (if b && may_be_kept t c.comments x then Some (bare c.style (styled t c x)) else None) else Some (bare c.style x)) e
+      ∙ (ap (λ b. if b then Some (bare c.style (styled t c x)) else None) may ∙ ap (λ z. Some (bare c.style z)) same)
+  by false e = ap (λ b. if b then (if b && may_be_kept t c.comments x then Some (bare c.style (styled t c x)) else None) else Some (bare c.style x)) e
 
 module _ (src : Table) (r : Lists) (s : Style) (trees : List DocumentTree) (of_reading : TreesOf r trees) (u : IsUtf8 src.text) (lines : AreLines src.text src.lines)
     (broken : (k : ℕ) (l : Line) → slice_get src.lines k ≡ Some l → l.end < l.next) (written_all : WrittenDocuments src.text (setting_of r s) trees)
@@ -42,11 +42,11 @@ module _ (src : Table) (r : Lists) (s : Style) (trees : List DocumentTree) (of_r
   not_displaced : {x : Node} {span : Span} (a : Fine src.text (setting_of r s) x) → span ≡ a.written.span → IsDisplaced src (setting_of r s) x (bracketed src.text (props_of x) span) → ⊥
   not_displaced {x} {span} a e (other_text n) =
       n (wanted_bare src.text (setting_of r s) x a
-      ∙ ap (λ w. Some w) (sym (subst (λ (z : Span). slice_range src.text (content_start src.text z (props_of x)) z.end ≡ bare x) (sym e) a.written.text)))
+      ∙ ap (λ w. Some w) (sym (subst (λ (z : Span). slice_range src.text (content_start src.text z (props_of x)) z.end ≡ bare s x) (sym e) a.written.text)))
   not_displaced {x} {span} a e (too_wide filled (follows {line = line} {column = column} place more)) =
       let there : PlaceOf src.text (a.written.span.end - 1) line column = subst (λ (z : Span). PlaceOf src.text (z.end - 1) line column) e place in
-      let most : column ≤ a.column + width (written x) = column_most u a.written lines broken there in
-      let fits : a.column + width (written x) ≤ s.max_line = leb-true (a.column + width (written x)) s.max_line (a.fit filled) in
+      let most : column ≤ a.column + width (written s x) = column_most u a.written lines broken there in
+      let fits : a.column + width (written s x) ≤ s.max_line = leb-true (a.column + width (written s x)) s.max_line (a.fit filled) in
       omega (arith, most, fits, more)
 
   pub none_displaced : (i o : ℕ) → LayoutFault src r s i o → ⊥

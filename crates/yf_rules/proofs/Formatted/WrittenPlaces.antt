@@ -20,6 +20,7 @@ use Rattle.yf_lines.proofs.LineLemmas.{lines_unique}
 use Rattle.yf_lines.proofs.MarkLemmas.{code_mark, marks_order, marks_stop, start_in_line}
 use Rattle.yf_lines.proofs.TableLemmas.{table_cut, table_line, table_start}
 use Rattle.yf_events.specs.Tree.{Node}
+use Rattle.yf_emit.specs.declared.style.Style.{Style}
 use Rattle.yf_emit.specs.Nodes.OneLine.{width, written}
 use Rattle.yf_rules.proofs.Formatted.MendedColumns.{ascii_next, char_boundary, chars_past}
 use Rattle.yf_emit.proofs.Columns.WrittenNodes.{WrittenAt}
@@ -49,7 +50,7 @@ nb_real c e = grind (arith, nat_tests)
 below : (m n : ℕ) → m < n → nat_lt m n ≡ true
 below m n l = grind (arith, nat_tests)
 
-module _ {t : List ℕ} (u : IsUtf8 t) {m : ℕ} {x : Node} (a : WrittenAt t m x) where
+module _ {t : List ℕ} (u : IsUtf8 t) {house : Style} {m : ℕ} {x : Node} (a : WrittenAt house t m x) where
   abbrev last : ℕ
   last = a.span.end - 1
 
@@ -86,25 +87,25 @@ module _ {t : List ℕ} (u : IsUtf8 t) {m : ℕ} {x : Node} (a : WrittenAt t m x
         no_mark_at e = true≢false (sym (code_mark t j e) ∙ marks.stops)
 
   -- a character before it is there, or it is the first
-  some_wide : 1 ≤ m + width (written x)
+  some_wide : 1 ≤ m + width (written house x)
   some_wide = by a.on.run a.on.wide a.some where
-    by : {i j : ℕ} {y : List ℕ} → Many t is_nb_char i j y → length y ≡ m + width (written x) → i < j → 1 ≤ m + width (written x)
+    by : {i j : ℕ} {y : List ℕ} → Many t is_nb_char i j y → length y ≡ m + width (written house x) → i < j → 1 ≤ m + width (written house x)
     by done w l = absurd (omega (arith, l))
     by (step (one n) c) w l = omega (arith, w)
 
-  column_in : {s c : ℕ} {y : List ℕ} → s ≤ from → Many t is_mark s from y → ColumnOf t s last c → c ≤ m + width (written x)
+  column_in : {s c : ℕ} {y : List ℕ} → s ≤ from → Many t is_mark s from y → ColumnOf t s last c → c ≤ m + width (written house x)
   column_in l run (among_marks marks n) = some_wide
   column_in l run (after_marks {j = j} {x = z} marks c) =
       let same : from ≡ j = after_run l run marks c in
       let whole : Many t is_char j (next t last) (z ++ code t last ∷ []) = many_more t is_char c last_char in
       let long : length (z ++ code t last ∷ []) ≡ length a.on.before = same_run (subst (λ k. Many t is_char k (next t last) (z ++ code t last ∷ [])) (sym same) whole) a.on.run last_step in
       let count : length (z ++ code t last ∷ []) ≡ length z + 1 = length-append z (code t last ∷ []) in
-      let w : length a.on.before ≡ m + width (written x) = a.on.wide in
+      let w : length a.on.before ≡ m + width (written house x) = a.on.wide in
       omega (arith, long, count, w)
 
   -- in a text whose lines all end with a break
   module _ {ls : List Line} (lines : AreLines t ls) (broken : (k : ℕ) (l : Line) → slice_get ls k ≡ Some l → l.end < l.next) where
-    column_held : {c : ℕ} (k : ℕ) (l : Line) → slice_get ls k ≡ Some l → LineHolds l last → ColumnOf t l.start last c → c ≤ m + width (written x)
+    column_held : {c : ℕ} (k : ℕ) (l : Line) → slice_get ls k ≡ Some l → LineHolds l last → ColumnOf t l.start last c → c ≤ m + width (written house x)
     column_held k l e (at_text_end f g) d = absurd (let b = broken k l e in omega (arith, f, b))
     column_held k l e (inside f g) d =
         let s : from < a.span.end = a.some in
@@ -114,7 +115,7 @@ module _ {t : List ℕ} (u : IsUtf8 t) {m : ℕ} {x : Node} (a : WrittenAt t m x
         let run = start_in_line l u (table_line t ls k l lines e) (table_cut t ls k l u lines e) a.on.start begins (omega (arith, g, reach)) in
         column_in begins run.1 d
 
-    pub column_most : {line c : ℕ} → PlaceOf t last line c → c ≤ m + width (written x)
+    pub column_most : {line c : ℕ} → PlaceOf t last line c → c ≤ m + width (written house x)
     column_most (in_line {ls = ms} {l = l} k are e h d) =
         let same : ms ≡ ls = lines_unique t ms ls are lines in
         column_held k l (subst (λ w. slice_get w k ≡ Some l) same e) h d

@@ -61,13 +61,13 @@ pub is_filled_by : (x : Node) (i last : ℕ) → last + 1 ≡ i + length (flat x
 is_filled_by x i last e h l = ⊎_elim (λ (f : is_filled_flow x ≡ true). f) (λ (f : is_filled_flow x ≡ false). let n = empty_size x h f in absurd (omega (arith, n, e, l))) (cases_Bool (is_filled_flow x))
 
 -- the text of an empty one
-pub empty_bare : (x : Node) → is_flow x ≡ true → is_filled_flow x ≡ false → empty_text (event_of x) ≡ bare x
-empty_bare (scalar at props style text lines) h f = absurd (true≢false (sym h))
-empty_bare (alias at name) h f = absurd (true≢false (sym h))
-empty_bare (sequence at flow props no_items) h f = refl
-empty_bare (sequence at flow props (item x xs)) h f = absurd (true≢false (sym h ∙ f))
-empty_bare (mapping at flow props no_pairs) h f = refl
-empty_bare (mapping at flow props (pair k v ps)) h f = absurd (true≢false (sym h ∙ f))
+pub empty_bare : (house : Style) (x : Node) → is_flow x ≡ true → is_filled_flow x ≡ false → empty_text (event_of x) ≡ bare house x
+empty_bare house (scalar at props style text lines) h f = absurd (true≢false (sym h))
+empty_bare house (alias at name) h f = absurd (true≢false (sym h))
+empty_bare house (sequence at flow props no_items) h f = refl
+empty_bare house (sequence at flow props (item x xs)) h f = absurd (true≢false (sym h ∙ f))
+empty_bare house (mapping at flow props no_pairs) h f = refl
+empty_bare house (mapping at flow props (pair k v ps)) h f = absurd (true≢false (sym h ∙ f))
 
 -- a part of a text
 
@@ -113,17 +113,17 @@ module _ (t bytes other others : List ℕ) (a b e : ℕ) (p : bytes ≡ t) (q : 
 -- a collection is at fault
 
 module _ (src : Table) (c : LayoutSetting) (x : Node) (inside : Span) where
-  wanted_empty : is_filled_flow x ≡ false → wanted_text src.text c x ≡ Some (bare x)
-  wanted_empty f = ap (λ b. if b then kept_text_of src.text c x else Some (bare x)) f
+  wanted_empty : is_filled_flow x ≡ false → wanted_text src.text c x ≡ Some (bare c.style x)
+  wanted_empty f = ap (λ b. if b then kept_text_of src.text c x else Some (bare c.style x)) f
 
   wanted_filled : is_filled_flow x ≡ true → wanted_text src.text c x ≡ kept_text_of src.text c x
-  wanted_filled f = ap (λ b. if b then kept_text_of src.text c x else Some (bare x)) f
+  wanted_filled f = ap (λ b. if b then kept_text_of src.text c x else Some (bare c.style x)) f
 
-  pub empty_same : is_filled_flow x ≡ false → slice_range src.text inside.start inside.end ≡ bare x → IsDisplaced src c x inside → ⊥
+  pub empty_same : is_filled_flow x ≡ false → slice_range src.text inside.start inside.end ≡ bare c.style x → IsDisplaced src c x inside → ⊥
   empty_same f e (other_text n) = n (wanted_empty f ∙ ap (λ w. Some w) (sym e))
   empty_same f e (too_wide g b) = true≢false (sym g ∙ f)
 
-  pub empty_other : is_filled_flow x ≡ false → slice_range src.text inside.start inside.end ≢ bare x → IsDisplaced src c x inside
+  pub empty_other : is_filled_flow x ≡ false → slice_range src.text inside.start inside.end ≢ bare c.style x → IsDisplaced src c x inside
   empty_other f n = other_text (λ e. n (same_Some _ _ (sym e ∙ wanted_empty f)))
 
   pub kept_same : (text : List ℕ) (b : Bool) → is_filled_flow x ≡ true → Some text ≡ kept_text_of src.text c x → slice_range src.text inside.start inside.end ≡ text

@@ -21,7 +21,7 @@ use Rattle.yf_props.specs.declared.props.Props.{Props}
 use Rattle.yf_events.specs.Reading.{events_of, spans_of}
 use Rattle.yf_events.specs.declared.event.Span.{Span}
 use Rattle.yf_events.specs.declared.lists.Lists.{Lists}
-use Rattle.yf_rules.specs.Passes.FarthestEnds.{Covers, AllBegin, NoneBegins, IsBeyond}
+use Rattle.yf_rules.specs.Passes.FarthestEnds.{Covers, AllBegin, NoneBegins, IsBeyond, IsMark}
 use Rattle.yf_rules.specs.Passes.FarthestEnds.IsBeyond.{is_beyond}
 use Rattle.yf_rules.specs.RuleSets.Exact.{Exactly, Sole, IsTheOne}
 use Rattle.yf_rules.proofs.Texts.ExactLemmas.{none_yet}
@@ -50,8 +50,8 @@ span_none {x = x} e (of_scalar h) = nothing (some_span (sym h.part ∙ e)) where
   nothing e = cc
 
 -- the same parts in another order
-pub sorted_same : (r : Lists) (xs ys : List Span) → IsPermutation xs ys → Exactly (ScalarSpan r) xs → Exactly (ScalarSpan r) ys
-sorted_same r xs ys p s = record {
+pub sorted_same : {Part : ℕ → Span → Type 0} (xs ys : List Span) → IsPermutation xs ys → Exactly Part xs → Exactly Part ys
+sorted_same xs ys p s = record {
   only = λ x c. s.only x (Contains-permutation ys xs x (IsPermutation-sym xs ys p) c);
   all = λ k x h. Contains-permutation xs ys x p (s.all k x h);
 }
@@ -108,10 +108,10 @@ none_left spans count offset h = record { none = λ k x f l. absurd (let n = sli
 pub begin_later : (spans : List Span) (count i j : ℕ) → i ≤ j → AllBegin spans count i → AllBegin spans count j
 begin_later spans count i j l b = record { all = λ k s e h. let w = b.all k s e h in omega (arith, w, l) }
 
--- a mark that nothing reaches is in no scalar, and one in no scalar is not reached
-module _ (t : List ℕ) (r : Lists) (spans : List Span) (count reach k : ℕ) (s : Exactly (ScalarSpan r) spans) (c : Covers spans count reach)
+-- what nothing reaches is in no part, and what is in no part is not reached
+module _ {Part : ℕ → Span → Type 0} {spans : List Span} {count reach k : ℕ} (s : Exactly Part spans) (c : Covers spans count reach)
     (b : AllBegin spans count k) (n : NoneBegins spans count k) where
-  in_cover : (i : ℕ) (x : Span) → ScalarSpan r i x → IsWithin x k → k < reach
+  pub in_cover : (i : ℕ) (x : Span) → Part i x → IsWithin x k → k < reach
   in_cover i x h w =
       let m = s.all i x h in
       let e = slice_get-get_or spans m.0 x m.1 in
@@ -120,7 +120,7 @@ module _ (t : List ℕ) (r : Lists) (spans : List Span) (count reach k : ℕ) (s
       (λ (l : count ≤ m.0). absurd (let q = n.none m.0 x f l in omega (arith, q, w.from)))
       (cases_lt m.0 count)
 
-  out_of_cover : ((i : ℕ) (x : Span) → ScalarSpan r i x → IsWithin x k → ⊥) → reach ≤ k
+  pub out_of_cover : ((i : ℕ) (x : Span) → Part i x → IsWithin x k → ⊥) → reach ≤ k
   out_of_cover f = ⊎_elim (λ (z : reach ≡ 0). omega (arith, z))
       (λ (w : (m : ℕ) × (x : Span) × (slice_get spans m ≡ Some x) × (m < count) × (x.end ≡ reach)).
       ⊎_elim (λ (l : k < reach).
@@ -129,26 +129,28 @@ module _ (t : List ℕ) (r : Lists) (spans : List Span) (count reach k : ℕ) (s
       (λ (l : reach ≤ k). l) (cases_lt k reach))
       c.reached
 
-  loose : {o : ℕ} → IsBeyond t reach k o → LooseMark t r k o
-  loose (is_beyond e l) = in_no_scalar e (λ i x h w. let q = in_cover i x h w in omega (arith, q, l))
+-- what is at fault exactly where a character of a kind is that nothing reaches
+pub kind_answered : {Kind : ℕ → Type 0} {t : List ℕ} {reach k : ℕ} {Fault : ℕ → Type 0} → ((o : ℕ) → IsBeyond Kind t reach k o → Fault o)
+    → ((o : ℕ) → Fault o → IsBeyond Kind t reach k o) → (answer : Option ℕ) → IsTheOne (IsBeyond Kind t reach k) answer → IsTheOne Fault answer
+kind_answered to back None f = λ o h. f o (back o h)
+kind_answered to back (Some o) a = record { holds = to o a.holds; only = λ x h. a.only x (back x h) }
 
-  beyond_all : {o : ℕ} → LooseMark t r k o → IsBeyond t reach k o
-  beyond_all (in_no_scalar e f) = is_beyond e (out_of_cover f)
-
-  mark_found : (o : ℕ) → Sole (IsBeyond t reach k) o → Sole (LooseMark t r k) o
-  mark_found o a = record { holds = loose a.holds; only = λ x h. a.only x (beyond_all h) }
-
-  mark_not_found : ((o : ℕ) → IsBeyond t reach k o → ⊥) → (o : ℕ) → LooseMark t r k o → ⊥
-  mark_not_found f o h = f o (beyond_all h)
-
-  pub mark_answered : (answer : Option ℕ) → IsTheOne (IsBeyond t reach k) answer → IsTheOne (LooseMark t r k) answer
-  mark_answered None f = mark_not_found f
-  mark_answered (Some o) s = mark_found o s
-
-pub sole_mark : (t : List ℕ) (reach k : ℕ) → code t k ≡ 0xFEFF → reach ≤ k → Sole (IsBeyond t reach k) k
-sole_mark t reach k e l = record { holds = is_beyond e l; only = λ o h. there h } where
-  there : {o : ℕ} → IsBeyond t reach k o → o ≡ k
+pub sole_kind : {Kind : ℕ → Type 0} (t : List ℕ) (reach k : ℕ) → Kind (code t k) → reach ≤ k → Sole (IsBeyond Kind t reach k) k
+sole_kind {Kind} t reach k e l = record { holds = is_beyond e l; only = λ o h. there h } where
+  there : {o : ℕ} → IsBeyond Kind t reach k o → o ≡ k
   there (is_beyond e l) = refl
+
+-- a mark that nothing reaches is in no scalar
+module _ (t : List ℕ) (r : Lists) (spans : List Span) (count reach k : ℕ) (s : Exactly (ScalarSpan r) spans) (c : Covers spans count reach)
+    (b : AllBegin spans count k) (n : NoneBegins spans count k) where
+  loose : (o : ℕ) → IsBeyond IsMark t reach k o → LooseMark t r k o
+  loose _ (is_beyond e l) = in_no_scalar e (λ i x h w. let q = in_cover s c b n i x h w in omega (arith, q, l))
+
+  beyond_all : (o : ℕ) → LooseMark t r k o → IsBeyond IsMark t reach k o
+  beyond_all _ (in_no_scalar e f) = is_beyond e (out_of_cover s c b n f)
+
+  pub mark_answered : (answer : Option ℕ) → IsTheOne (IsBeyond IsMark t reach k) answer → IsTheOne (LooseMark t r k) answer
+  mark_answered answer a = kind_answered loose beyond_all answer a
 
 pub mark_text : {t : List ℕ} {r : Lists} {k o : ℕ} → LooseMark t r k o → k < length t
 mark_text {t} {k = k} (in_no_scalar e f) = within_from_code t k (omega (arith, e))

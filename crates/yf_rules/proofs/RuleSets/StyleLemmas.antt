@@ -25,17 +25,17 @@ use Rattle.yf_rules.proofs.Texts.BlockLemmas.{event_same, part_same, scalar_same
 
 module _ (t : List ℕ) (r : Lists) (house : Style) (i : ℕ) (props : PropsValue) (style : ScalarStyle) (text : List ℕ)
     (e : slice_get (events_of r) i ≡ Some (scalar_node props style text)) where
-  pub as_wanted : wanted style text house.quotes ≡ style → (o : ℕ) → QuotingFault t r house i o → ⊥
+  pub as_wanted : wanted style text house ≡ style → (o : ℕ) → QuotingFault t r house i o → ⊥
   as_wanted w o (other_style {style = v} {text = x} h n) =
       let q = event_same (sym h.event ∙ e) in
-      n (subst (λ y. wanted v y house.quotes ≡ v) (sym (text_same q)) (subst (λ y. wanted y text house.quotes ≡ y) (sym (style_same q)) w))
+      n (subst (λ y. wanted v y house ≡ v) (sym (text_same q)) (subst (λ y. wanted y text house ≡ y) (sym (style_same q)) w))
 
   pub without_part : slice_get (spans_of r) i ≡ Some None → (o : ℕ) → QuotingFault t r house i o → ⊥
   without_part p o (other_style {s = s} h n) = nothing (part_same (sym h.part ∙ p)) where
     nothing : {x : Span} → Some x ≡ None → ⊥
     nothing e = cc
 
-  pub misquoted_found : (s : Span) → slice_get (spans_of r) i ≡ Some (Some s) → wanted style text house.quotes ≢ style → Sole (QuotingFault t r house i) (content_start t s props)
+  pub misquoted_found : (s : Span) → slice_get (spans_of r) i ≡ Some (Some s) → wanted style text house ≢ style → Sole (QuotingFault t r house i) (content_start t s props)
   misquoted_found s p n =
       let is : IsScalar r i props style text s = record { event = e; part = p } in
       record { holds = other_style is n; only = λ o h. there is h }
@@ -61,7 +61,7 @@ misquoted_scalar : {t : List ℕ} {r : Lists} {house : Style} {i o : ℕ} → ((
 misquoted_scalar f (other_style {props} {style} {text} {s} h n) = f props style text s h
 
 pub misquoted_told : (t : List ℕ) (r : Lists) (house : Style) (i : ℕ) (props : PropsValue) (style result : ScalarStyle) (text : List ℕ) (answer : Option ℕ)
-    → slice_get (events_of r) i ≡ Some (scalar_node props style text) → result ≡ wanted style text house.quotes → (result ≡ style → ⊥) → StartOf t r i answer
+    → slice_get (events_of r) i ≡ Some (scalar_node props style text) → result ≡ wanted style text house → (result ≡ style → ⊥) → StartOf t r i answer
     → IsTheOne (QuotingFault t r house i) answer
 misquoted_told t r house i props style result text None e w n (no_part f) = λ o h. misquoted_scalar f h
 misquoted_told t r house i props style result text (Some o) e w n (of_part {props = p} {style = v} {text = x} {s = s} is) =

@@ -1,6 +1,8 @@
 -- Up to where parts of a text reach that begin at an offset or before it: what one pass over the text keeps of them.
-use Rattle.std.specs.Prelude.{◌≡◌, ℕ, ◌<◌, ◌≤◌, ◌⊎◌, List, slice_get, Some}
-use Rattle.yf_chars.specs.Text.{code}
+use Rattle.std.specs.Prelude.{◌≡◌, ◌≢◌, ℕ, ◌<◌, ◌≤◌, ◌⊎◌, true, List, slice_get, Some}
+use Rattle.yf_chars.specs.Hidden.{is_hidden}
+use Rattle.yf_chars.specs.Signs.{BYTE_ORDER_MARK}
+use Rattle.yf_chars.specs.Text.{code, no_char}
 use Rattle.yf_events.specs.declared.event.Span.{Span}
 
 -- of the first parts, so many, the farthest end; 0 where there is none or none ends after 0
@@ -15,6 +17,15 @@ pub record AllBegin (spans : List Span) (count offset : ℕ) : Type 0 where
 pub record NoneBegins (spans : List Span) (count offset : ℕ) : Type 0 where
   pub none : (k : ℕ) (s : Span) → slice_get spans k ≡ Some s → count ≤ k → offset < s.start
 
--- a mark begins at k, and nothing reaches beyond k
-pub data IsBeyond (t : List ℕ) (reach k : ℕ) : ℕ → Type 0 where
-  is_beyond : code t k ≡ 0xFEFF → reach ≤ k → IsBeyond t reach k k
+-- a character of a kind begins at k, and nothing reaches beyond k
+pub data IsBeyond (Kind : ℕ → Type 0) (t : List ℕ) (reach k : ℕ) : ℕ → Type 0 where
+  is_beyond : Kind (code t k) → reach ≤ k → IsBeyond Kind t reach k k
+
+abbrev pub IsMark : ℕ → Type 0
+IsMark c = c ≡ BYTE_ORDER_MARK
+
+-- a hidden character other than a mark
+pub record IsHiddenSign (c : ℕ) : Type 0 where
+  pub is_char : c < no_char
+  pub hidden : is_hidden c ≡ true
+  pub no_mark : c ≢ BYTE_ORDER_MARK

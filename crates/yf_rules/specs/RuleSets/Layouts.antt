@@ -21,7 +21,7 @@ pub record OuterFlow (r : Lists) (i : ℕ) (x : Node) : Type 0 where
 
 -- how it is written from bracket to bracket; `None` where it may not be kept on one line
 abbrev pub wanted_text : List ℕ → LayoutSetting → Node → Option (List ℕ)
-wanted_text t c x = if is_filled_flow x then kept_text_of t c x else Some (bare x)
+wanted_text t c x = if is_filled_flow x then kept_text_of t c x else Some (bare c.style x)
 
 -- the part of the text that ends there ends after the last column that a line may have
 pub data EndsPastLimit (src : Table) (max_line end : ℕ) : Type 0 where

@@ -13,4 +13,4 @@ use Rattle.yf_rules.specs.RuleSets.Scalars.{IsScalar}
 -- quoting: the first character of content of a scalar, after its properties, whose style is not the one wanted
 pub data QuotingFault (t : List ℕ) (r : Lists) (house : Style) (i : ℕ) : ℕ → Type 0 where
   other_style : {props : PropsValue} {style : ScalarStyle} {text : List ℕ} {s : Span} → IsScalar r i props style text s
-      → wanted_of_event (scalar_node props style text) house.quotes ≢ style → QuotingFault t r house i (content_start t s props)
+      → wanted_of_event (scalar_node props style text) house ≢ style → QuotingFault t r house i (content_start t s props)

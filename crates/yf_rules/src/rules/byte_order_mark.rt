@@ -2,7 +2,7 @@
 ghost use Rattle.std.specs.Prelude.{◌<◌, ◌≢◌, ℕ, length, IfOk, MatchBool};
 ghost use Rattle.std.specs.List.Sorted.{IsNonDecreasingBy};
 ghost use Rattle.yf_chars.specs.Text.{code};
-ghost use Rattle.yf_rules.specs.Passes.FarthestEnds.{AllBegin, Covers, IsBeyond, NoneBegins};
+ghost use Rattle.yf_rules.specs.Passes.FarthestEnds.{AllBegin, Covers, IsBeyond, IsMark, NoneBegins};
 ghost use Rattle.yf_rules.specs.RuleSets.Exact.{IsTheOne, Exactly};
 ghost use Rattle.yf_rules.specs.RuleSets.Scalars.{LooseMark, ScalarSpan};
 
@@ -63,13 +63,13 @@ fn sorted_spans(alloc: Global, reading: &Reading) -> Result<Vec<Span>, AllocErro
 
 /// How many of the parts begin at an offset or before it, and the farthest end of these, or 0.
 #[derive(Clone, Copy)]
-struct Cover {
-    count: usize,
-    reach: usize,
+pub(crate) struct Cover {
+    pub(crate) count: usize,
+    pub(crate) reach: usize,
 }
 
 /// The cover up to the byte offset, from that up to an earlier one on.
-fn cover_to(spans: &[Span], from: Cover, offset: usize) -> Cover
+pub(crate) fn cover_to(spans: &[Span], from: Cover, offset: usize) -> Cover
     requires sorted { IsNonDecreasingBy (λ s. s.start) spans.now }
     requires cover { Covers spans.now from.count from.reach }
     requires begun { AllBegin spans.now from.count offset }
@@ -92,7 +92,7 @@ fn cover_to(spans: &[Span], from: Cover, offset: usize) -> Cover
 
 /// The byte offset, if a mark begins there that the parts up to it don't reach.
 fn loose_mark(text: &str, reach: usize, offset: usize) -> Option<usize>
-    ensures { IsTheOne (IsBeyond text.now reach offset) result }
+    ensures { IsTheOne (IsBeyond IsMark text.now reach offset) result }
 {
     if is_mark_at(text, offset) {
         if reach <= offset {

@@ -48,7 +48,7 @@ fn misquoted(src: &Src, reading: &Reading, i: usize, style: &Style) -> Option<us
             text,
             ..
         } => {
-            if wanted_of(written, text, style.quotes) == written {
+            if wanted_of(written, text, style) == written {
                 return None;
             }
             start_of(src, reading, i)

@@ -16,8 +16,8 @@ until_now c = elim c.if-at.branch [
 pub loop-i-preserved : goal.loop-i-preserved
 loop-i-preserved c = (
   same_long _ _ _ _ c.in_ok-set_form.ensures ∙ c.loop-i.invariant.0,
-  step_in_place c.args.style.now.quotes c.args.measures.now c.args.forms.now c.loop-i.events _ _ c.loop-i.i c.loop-i.kept_until c.if-at.kept_until
+  step_in_place c.args.style.now c.args.measures.now c.args.forms.now c.loop-i.events _ _ c.loop-i.i c.loop-i.kept_until c.if-at.kept_until
       (event_value c.event.result) (get_or c.args.measures.now c.loop-i.i no_measure) c.at.result c.flow_of-flow.result c.style_of-wanted.result c.event.ensures refl c.at.ensures
-      (until_now c) c.flow_of-flow.ensures (c.style_of-wanted.ensures ∙ ap (λ e. wanted_of_event e c.args.style.now.quotes) (some_is (sym c.event-in-loop-i.ensures ∙ c.event.ensures)))
+      (until_now c) c.flow_of-flow.ensures (c.style_of-wanted.ensures ∙ ap (λ e. wanted_of_event e c.args.style.now) (some_is (sym c.event-in-loop-i.ensures ∙ c.event.ensures)))
       c.in_ok-set_form.ensures c.loop-i.invariant.1,
 )

@@ -35,6 +35,8 @@ with_rules-requires g c =
     c.in_ok-new-12.field-0.value c.into_dyn_box-in_ok-new-12.ensures.1 in
     let made-13 = read_made own-1 (own-1.entry at-1-1) at-1-1 refl RuleDefinition (λ j w. j.1.definition w) _ _
     c.in_ok-new-13.field-0.value c.into_dyn_box-in_ok-new-13.ensures.1 in
+    let made-14 = read_made own-1 (own-1.entry at-1-1) at-1-1 refl RuleDefinition (λ j w. j.1.definition w) _ _
+    c.in_ok-new-14.field-0.value c.into_dyn_box-in_ok-new-14.ensures.1 in
     let is-1 = is_definition _ _ (made-1 ∙ ap definition_of c.in_ok-new.ensures.ok) in
     let is-2 = is_definition _ _ (made-2 ∙ ap definition_of c.in_ok-new-2.ensures.ok) in
     let is-3 = is_definition _ _ (made-3 ∙ ap definition_of c.in_ok-new-3.ensures.ok) in
@@ -48,4 +50,5 @@ with_rules-requires g c =
     let is-11 = is_definition _ _ (made-11 ∙ ap definition_of c.in_ok-new-11.ensures.ok) in
     let is-12 = is_definition _ _ (made-12 ∙ ap definition_of c.in_ok-new-12.ensures.ok) in
     let is-13 = is_definition _ _ (made-13 ∙ ap definition_of c.in_ok-new-13.ensures.ok) in
-    (is-1, (is-2, (is-3, (is-4, (is-5, (is-6, (is-7, (is-8, (is-9, (is-10, (is-11, (is-12, (is-13, tt)))))))))))))
+    let is-14 = is_definition _ _ (made-14 ∙ ap definition_of c.in_ok-new-14.ensures.ok) in
+    (is-1, (is-2, (is-3, (is-4, (is-5, (is-6, (is-7, (is-8, (is-9, (is-10, (is-11, (is-12, (is-13, (is-14, tt))))))))))))))

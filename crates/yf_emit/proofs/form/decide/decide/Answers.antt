@@ -26,10 +26,10 @@ loop-i-preserved c = record {
 
 pub returns : goal.returns
 returns c = record {
-  are = λ s t m ds trees placed measured.
+  are = λ s t cs ds trees placed measured.
       at_end (given c.args.style.now c.args.reading.now.comments c.args.reading.now.events) c.args.measures.now c.args.reading.now.events c.loop-i.i
       c.loop-i.list (reverse c.loop-i.stack.items) c.loop-i.done
       (pass (given c.args.style.now c.args.reading.now.comments c.args.reading.now.events) c.args.measures.now c.args.reading.now.events (state [] [] 0))
       (omega arith) (c.loop-i.invariant.runs s)
-      ∙ decides c.args.reading.now c.args.style.now c.args.measures.now t m ds trees placed measured;
+      ∙ decides c.args.reading.now c.args.style.now c.args.measures.now t cs ds trees placed measured;
 }

@@ -13,7 +13,7 @@ returns-then-not-measure c = record {
 pub returns : goal.returns
 returns c = record {
   kept = tells_some _ _ _ _ c.at-measure.result _ _ c.at-measure.ensures c.new-text.ensures.bytes c.in_ok-push_kept.ensures.kept (not-false _ c.if-not-measure.false);
-  exact = text_some c.args.style.now.quotes c.args.reading.now.events c.args.i c.at-measure.result _ _ _ c.at-measure.ensures c.new-text.ensures.bytes
+  exact = text_some c.args.style.now c.args.reading.now.events c.args.i c.at-measure.result _ _ _ c.at-measure.ensures c.new-text.ensures.bytes
       c.in_ok-push_kept.ensures.run (not-false _ c.if-not-measure.false);
   tells = flow_tells_some _ _ _ _ c.at-measure.result _ _ c.at-measure.ensures c.new-text.ensures.bytes c.in_ok-push_kept.ensures.kept (not-false _ c.if-not-measure.false);
 }

@@ -6,5 +6,5 @@ use Rattle.yf_emit.proofs.form.kept.push_between.Given as goal
 
 abbrev pub invariant-loop-k : goal.invariant-loop-k
 invariant-loop-k l =
-    string_bytes l.text ++ run l.style.quotes (reverse l.brackets.open.items) (between l.k l.last l.reading.events)
-    ≡ string_bytes l.initial.text ++ run l.style.quotes (reverse l.initial.brackets.open.items) (between l.first l.last l.reading.events)
+    string_bytes l.text ++ run l.style (reverse l.brackets.open.items) (between l.k l.last l.reading.events)
+    ≡ string_bytes l.initial.text ++ run l.style (reverse l.initial.brackets.open.items) (between l.first l.last l.reading.events)

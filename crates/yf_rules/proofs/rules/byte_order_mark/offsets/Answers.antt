@@ -1,6 +1,6 @@
 use Rattle.std.proofs.Common.{ℕ, ◌+◌, ◌≢◌, ap, subst, length, arith}
 use Rattle.yf_chars.specs.Text.{code}
-use Rattle.yf_rules.specs.Passes.FarthestEnds.{Covers, AllBegin, NoneBegins, IsBeyond}
+use Rattle.yf_rules.specs.Passes.FarthestEnds.{Covers, AllBegin, NoneBegins, IsBeyond, IsMark}
 use Rattle.yf_rules.specs.RuleSets.Exact.{IsTheOne, Exactly}
 use Rattle.yf_rules.specs.RuleSets.Scalars.{LooseMark, ScalarSpan}
 use Rattle.yf_rules.proofs.Texts.ExactLemmas.{none_yet, answer_found, all_found_upto}
@@ -29,7 +29,7 @@ loop-i-preserved c =
     let answer = c.loose_mark.result in
     record {
       marks = answer_found (LooseMark t r) i _ _ answer c.loop-i.invariant.marks
-          (mark_answered t r xs count reach i all cover begun others answer (subst (λ v. IsTheOne (IsBeyond v reach i) answer) c.text-text.ensures c.loose_mark.ensures))
+          (mark_answered t r xs count reach i all cover begun others answer (subst (λ v. IsTheOne (IsBeyond IsMark v reach i) answer) c.text-text.ensures c.loose_mark.ensures))
           c.in_ok-push_found.ensures;
       cover = cover;
       begun = begin_later xs count i (i + 1) (omega arith) begun;

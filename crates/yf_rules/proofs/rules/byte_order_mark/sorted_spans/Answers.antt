@@ -6,6 +6,6 @@ use Rattle.yf_rules.proofs.rules.byte_order_mark.sorted_spans.Goals as goal
 
 pub returns : goal.returns
 returns c = (
-  sorted_same c.args.reading.now c.in_ok-spans.spans.items c.sort_unstable_by_key.new.self.items c.sort_unstable_by_key.ensures.permutation c.in_ok-spans.ensures,
+  sorted_same c.in_ok-spans.spans.items c.sort_unstable_by_key.new.self.items c.sort_unstable_by_key.ensures.permutation c.in_ok-spans.ensures,
   IsNonDecreasingBy-from_sort_by_key (λ (s : Span). s.start) _ c.sort_unstable_by_key.ensures.sorted (λ a r q k. search rules),
 )

@@ -11,14 +11,14 @@ pub returns-then-is_text : goal.returns-then-is_text
 returns-then-is_text c = λ x m n f.
     let e = c.if-is_empty.ensures _ _ _ x m n f in
     empty_same c.args.src.now (setting_of c.args.reading.now c.args.style.now) x c.args.inside e
-    (ap (λ t. slice_range t c.args.inside.start c.args.inside.end) (sym c.text.ensures) ∙ c.if-is_text.ensures ∙ c.empty_text.ensures (event_of x) (event_there n) ∙ empty_bare x f e)
+    (ap (λ t. slice_range t c.args.inside.start c.args.inside.end) (sym c.text.ensures) ∙ c.if-is_text.ensures ∙ c.empty_text.ensures (event_of x) (event_there n) ∙ empty_bare c.args.style.now x f e)
 
 pub returns-then-is_empty : goal.returns-then-is_empty
 returns-then-is_empty c = λ x m n f.
     let e = c.if-is_empty.ensures _ _ _ x m n f in
     empty_other c.args.src.now (setting_of c.args.reading.now c.args.style.now) x c.args.inside e
     (λ h. c.if-is_text.ensures (ap (λ t. slice_range t c.args.inside.start c.args.inside.end) c.text.ensures ∙ h
-    ∙ sym (empty_bare x f e) ∙ sym (c.empty_text.ensures (event_of x) (event_there n))))
+    ∙ sym (empty_bare c.args.style.now x f e) ∙ sym (c.empty_text.ensures (event_of x) (event_there n))))
 
 pub returns-then-is_text-2 : goal.returns-then-is_text-2
 returns-then-is_text-2 c = λ x m n f.

@@ -1,5 +1,4 @@
 use Rattle.std.proofs.Common.{arith}
-use Rattle.yf_emit.specs.NormalForms.Normal.{setting_of}
 use Rattle.yf_rules.specs.RuleSets.Layouts.{NeedlessMark}
 use Rattle.yf_rules.specs.Passes.MarkedKeys.{TellsKeys}
 use Rattle.yf_rules.proofs.Texts.ExactLemmas.{all_found_upto, answer_found}
@@ -15,7 +14,7 @@ loop-i-preserved c = λ w.
     let v = c.loop-i.invariant w in
     let m = c.in_ok-measures.ensures w.comments in
     let k : TellsKeys t r s w.trees c.in_ok-forms.forms = tells_keys t r s w.trees c.in_ok-forms.forms
-    (c.in_ok-forms.ensures.are w.comments t (setting_of r s) w.trees w.of_reading w.placed m) in (
+    (c.in_ok-forms.ensures.are w.comments t r.comments w.trees w.of_reading w.placed m) in (
       answer_found (NeedlessMark c.args.src.now r s w.trees) i _ _ c.needless.result v.0 (c.needless.ensures s w.trees k v.1) c.in_ok-push_found.ensures,
       c.past_flow-done.ensures.measured _ _ w.trees w.of_reading m v.1,
     )
