@@ -5,8 +5,8 @@ Usage: bench/hostile.py [--program PROGRAM] [--list] [NAME..]
 
 PROGRAM is the one that ./yamlfmt builds unless another is named; build it first. With NAMEs, only those shapes. Run by hand,
 not part of rt ci; what is known of the shapes stands in docs/HOSTILE.md. Each shape is a text of a size; each of the three
-verbs is timed (in processor seconds) at a size, at twice and at four times that. It is a fault where the time grows more than
-2.5-fold twice in a row, where more bytes of memory are taken a byte of input than LIMIT says (and, of shapes that `fmt` writes much
+verbs, and `fmt` with `comments = "block"`, is timed (in processor seconds) at a size, at twice and at four times that. It is a
+fault where the time grows more than 2.5-fold twice in a row, where more bytes of memory are taken a byte of input than LIMIT says (and, of shapes that `fmt` writes much
 longer, WRITTEN), where a run takes more than two minutes, or where it ends with a signal or with another status than 0, 1 and 2.
 """
 import os
@@ -17,10 +17,11 @@ import time
 
 TOP = os.path.dirname(os.path.dirname(os.path.abspath(__file__)))
 
-VERBS = ('events', 'check', 'fmt')
+# The last is `fmt` where comments keep their blocks.
+VERBS = ('events', 'check', 'fmt', 'block')
 
 # Bytes of memory a byte of input.
-LIMIT = {'events': 150, 'check': 250, 'fmt': 1000}
+LIMIT = {'events': 150, 'check': 250, 'fmt': 1000, 'block': 1000}
 
 # The shapes of which `fmt` writes much more than it reads, with the bytes that it writes a byte of input. It holds all of them before it
 # writes the first, and twice as many where their room grows: so much memory it may take beside LIMIT.
@@ -41,7 +42,7 @@ def shape(name, make, written=0):
 
 def limit(name, verb):
     """Bytes of memory a byte of input."""
-    return LIMIT[verb] + (2 * WRITTEN.get(name, 0) if verb == 'fmt' else 0)
+    return LIMIT[verb] + (2 * WRITTEN.get(name, 0) if verb in ('fmt', 'block') else 0)
 
 
 def repeated(name, part, front='', end=''):
@@ -115,6 +116,11 @@ repeated('flow-lines-never-closed', '- [a\n')
 
 # Short lines that are laid out at the column of the deepest entry.
 shape('deep-comments', lambda n: '- ' * 1000 + 'a\n' + '#\n' * max(1, n // 2 - 2000) + ' ' * 1998 + '- b\n', 1000)
+# comments at 1,000 columns, falling and rising, each of a block of its own
+shape('deep-comments-in-blocks', lambda n: '- ' * 1000 + 'a\n' + ''.join(' ' * (2 * abs(999 - k % 1998)) + '#\n'
+                                                                                for k in range(max(1, n // 1000 - 4))), 1000)
+# each comment is compared with all that is open, where comments keep their blocks
+shape('deep-comments-at-margin', lambda n: '- ' * 1000 + 'a\n' + '#\n' * max(1, n // 2 - 1000) + '- b\n')
 shape('deep-wide-flow-comment', lambda n: '[' * 1000 + 'a,' * max(1, n // 2 - 1000) + ' #\n' + ']' * 1000 + '\n', 1001)
 
 # Block scalars.
@@ -301,10 +307,21 @@ repeated('refused-after-documents', '---\na\n', '', 'a: b: c')
 repeated('refused-after-literal', ' a\n', '|\n', 'b: c: d\n@')
 
 
+def command(program, verb, path):
+    """The words of a command; the settings of the last verb are in a file beside the text."""
+    if verb != 'block':
+        return [program, verb]
+    config = path + '.toml'
+    if not os.path.exists(config):
+        with open(config, 'w', encoding='utf-8') as out:
+            out.write('comments = "block"\n')
+    return [program, 'fmt', '--config', config]
+
+
 def run(program, verb, path):
     """Processor seconds, peak of resident memory in bytes, and the status (None where it took too long)."""
     with open(path, 'rb') as source:
-        child = subprocess.Popen([program, verb], stdin=source, stdout=subprocess.DEVNULL, stderr=subprocess.DEVNULL)
+        child = subprocess.Popen(command(program, verb, path), stdin=source, stdout=subprocess.DEVNULL, stderr=subprocess.DEVNULL)
         deadline = time.monotonic() + 120
         while True:
             pid, status, usage = os.wait4(child.pid, os.WNOHANG)

@@ -154,13 +154,20 @@ def cell(text):
 
 
 def style_rows(program):
-    """The rows `Read | Written` of docs/STYLE.md that say no more than text."""
-    rows = re.findall(r'^\| (`.*?) \| (`.*?) \|', read(TOP + '/docs/STYLE.md'), re.M)
-    for left, right in rows:
-        if re.sub(r'`[^`]*`|\(empty\)|[ /]', '', left + right):
+    """The rows `Read | Written` of docs/STYLE.md that say no more than text, each under the setting that the head of its table names."""
+    setting = ''
+    for line in read(TOP + '/docs/STYLE.md').splitlines():
+        head = re.match(r'\| Read \| Written(?: under `([^`]*)`)? \|', line)
+        if head:
+            setting = head.group(1) or ''
+        row = re.match(r'\| (`.*?) \| (`.*?) \|', line)
+        if not row or re.sub(r'`[^`]*`|\(empty\)|[ /]', '', row.group(1) + row.group(2)):
             continue
-        text, wanted = cell(left), cell(right)
-        said = subprocess.run([program, 'fmt'], input=text, stdout=subprocess.PIPE, text=True).stdout
+        text, wanted = cell(row.group(1)), cell(row.group(2))
+        with tempfile.NamedTemporaryFile('w', suffix='.toml') as config:
+            config.write(setting + '\n')
+            config.flush()
+            said = subprocess.run([program, 'fmt', '--config', config.name], input=text, stdout=subprocess.PIPE, text=True).stdout
         if said not in (wanted, '---\n' + wanted):
             print('  %r gives %r, and not %r' % (text, said, wanted))
             yield False

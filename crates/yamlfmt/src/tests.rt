@@ -5,6 +5,7 @@ mod answer;
 mod answers;
 mod check;
 mod command_line;
+mod comments;
 mod crates_below;
 mod events;
 mod failing_files;

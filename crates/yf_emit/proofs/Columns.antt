@@ -4,6 +4,7 @@ pub mod SetMeant
 pub mod SetStreams
 pub mod FormattedSet
 pub mod LinePlaces
+pub mod SourceColumns
 pub mod FlowHeads
 pub mod FlowEvents
 pub mod WrittenNodes

@@ -9,6 +9,9 @@ pub mod LineSorts
 pub mod LinedRows
 pub mod GapSpread
 pub mod LeadRows
+pub mod ColumnsHold
+pub mod ChainedRows
+pub mod OpenChains
 pub mod CalmRows
 pub mod ScalarBytes
 pub mod ScalarHeld

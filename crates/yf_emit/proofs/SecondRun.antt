@@ -4,5 +4,7 @@ pub mod FixedNodes
 pub mod FixedRows
 pub mod FixedFormats
 pub mod FixedBlocks
+pub mod ColumnsAgain
+pub mod ColumnsStay
 pub mod FormatsFixed
 pub mod FixedLawsHold

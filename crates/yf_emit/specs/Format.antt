@@ -12,4 +12,4 @@ pub record IsFormatting (t : List ℕ) (s : Style) (u : List ℕ) : Type 0 where
   pub normal : Lists
   pub reads : ReadingOf t reading
   pub is_normal : Normal t reading s normal
-  pub writes : IsLayout normal s u
+  pub writes : IsLayout t normal s u

@@ -32,7 +32,7 @@ fn formatted(
     let measures = measure_text(alloc, text, &reading, style)?;
     let forms = decide(alloc, &measures, &reading, style)?;
     let normal = normalized(alloc, reading, &measures, &forms, style)?;
-    layout_by(alloc, &normal, measures, forms, style)
+    layout_by(alloc, text, &normal, measures, forms, style)
 }
 
 /// The stream of the text in the house style: the layout of the normal form of the text's reading, and nothing else is that. It is

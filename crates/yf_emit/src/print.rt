@@ -7,6 +7,7 @@ pub mod layout;
 pub(crate) mod leaf_trails;
 pub(crate) mod leaves;
 pub(crate) mod looks;
+pub mod open_blocks;
 pub mod output;
 pub(crate) mod printer;
 pub mod trails;
@@ -19,7 +20,8 @@ use yf_lines::fault::Fault;
 use yf_lines::output::write_text;
 use yf_lines::watched::Sink;
 
-/// Writes a normal reading, which is one that `normal` gave for this style, in the house style: its layout, with nothing beside it.
+/// Writes a normal reading, which is one that `normal` gave for this style, in the house style: its layout, with nothing beside it. The text
+/// is the one that was read.
 /// Of a reading that is not the normal form of a text's reading, it writes what one pass over its events prints of it. Nothing is
 /// written before all memory that is needed has been granted.
 ///
@@ -29,17 +31,18 @@ use yf_lines::watched::Sink;
 /// the writer failed; a prefix of the text has then been written.
 pub fn print<W: Sink>(
     alloc: Global,
+    text: &str,
     reading: &Reading,
     style: &Style,
     writer: &mut W,
 ) -> Result<(), Fault>
-    ensures printed { OnOk result (WroteMade reading.now style.now (W.contents writer.old) (W.contents writer.new)
+    ensures printed { OnOk result (WroteMade text.now reading.now style.now (W.contents writer.old) (W.contents writer.new)
         (W.has_failed writer.old) (W.has_failed writer.new)) }
-    ensures refused { IfErr result (λ fault. RefusedPrint reading.now style.now (W.contents writer.old) (W.contents writer.new)
+    ensures refused { IfErr result (λ fault. RefusedPrint text.now reading.now style.now (W.contents writer.old) (W.contents writer.new)
         (W.has_failed writer.old) (W.has_failed writer.new) fault) }
 {
-    match layout(alloc, reading, style) {
-        Ok(text) => write_text(writer, text.as_str().as_bytes()),
+    match layout(alloc, text, reading, style) {
+        Ok(layout) => write_text(writer, layout.as_str().as_bytes()),
         Err(AllocError) => Err(Fault::Memory),
     }
 }

@@ -13,6 +13,15 @@ pub enum DocumentStart {
     Keep,
 }
 
+/// At which column a comment on a line of its own is.
+#[derive(Clone, Copy)]
+pub enum CommentColumns {
+    /// At that of the next line.
+    Next,
+    /// At that of the block in which it was written.
+    Block,
+}
+
 /// The settings of the house style. Each value of this type is within the ranges that its fields name.
 #[derive(Clone, Copy)]
 pub struct Style {
@@ -27,6 +36,8 @@ pub struct Style {
     pub seq_indent: bool,
     /// Which documents begin with a `---`.
     pub document_start: DocumentStart,
+    /// Where comments on lines of their own are.
+    pub comments: CommentColumns,
     /// How quoted scalars hold hidden characters.
     pub invisible: Invisible,
     pub ghost indent_from: { 2 ≤ indent },
@@ -37,13 +48,14 @@ pub struct Style {
 
 impl Style {
     /// The style where nothing is set: indent 2, lines of 100 columns, double quotes, sequences to the right of their
-    /// keys, `---` before each document, hidden characters as they are.
+    /// keys, `---` before each document, comments at the columns of the next lines, hidden characters as they are.
     pub fn house() -> Style
         ensures indent { result.indent ≡ 2 }
         ensures max_line { result.max_line ≡ 100 }
         ensures quotes { result.quotes ≡ Quotes.Double }
         ensures seq_indent { result.seq_indent ≡ true }
         ensures document_start { result.document_start ≡ DocumentStart.Always }
+        ensures comments { result.comments ≡ CommentColumns.Next }
         ensures invisible { result.invisible ≡ Invisible.Plain }
     {
         Style {
@@ -52,6 +64,7 @@ impl Style {
             quotes: Quotes::Double,
             seq_indent: true,
             document_start: DocumentStart::Always,
+            comments: CommentColumns::Next,
             invisible: Invisible::Plain,
         }
     }

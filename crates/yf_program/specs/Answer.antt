@@ -6,6 +6,7 @@ use Rattle.std.specs.Prelude.{◌≡◌, ◌≢◌, ◌⊎◌, ◌++◌, ◌∷�
 use Rattle.std.specs.Io.KnownBytes.{Keeps}
 use Rattle.clap.specs.Words.{Text}
 use Rattle.yf_emit.specs.declared.style.Style.{Style}
+use Rattle.yf_emit.specs.declared.style.CommentColumns.TheVariants.{Next}
 use Rattle.yf_emit.specs.declared.style.DocumentStart.TheVariants.{Always}
 use Rattle.yf_lines.specs.declared.invisible.Invisible.TheVariants.{Plain}
 use Rattle.yf_lines.specs.declared.quotes.Quotes.TheVariants.{Double}
@@ -48,6 +49,7 @@ pub record IsHouse (style : Style) : Type 0 where
   pub quotes : style.quotes ≡ Double
   pub seq_indent : style.seq_indent ≡ true
   pub document_start : style.document_start ≡ Always
+  pub comments : style.comments ≡ Next
   pub invisible : style.invisible ≡ Plain
 
 -- the settings are those of the file that is named, or the house style's

@@ -6,6 +6,8 @@ use Rattle.std.specs.Cmp.Lexicographic.{slice_cmp}
 use Rattle.toml.specs.Data.{Data, string, integer, as_bool, Members, get_member}
 use Rattle.toml.specs.Parse.{parse_document}
 use Rattle.toml.specs.Errors.{IsBlank}
+use Rattle.yf_emit.specs.declared.style.CommentColumns.{CommentColumns}
+use Rattle.yf_emit.specs.declared.style.CommentColumns.TheVariants.{Block, Next}
 use Rattle.yf_emit.specs.declared.style.DocumentStart.{DocumentStart}
 use Rattle.yf_emit.specs.declared.style.DocumentStart.TheVariants.{Always, Keep}
 use Rattle.yf_emit.specs.declared.style.Style.{Style}
@@ -46,6 +48,14 @@ document_start_of (string word) =
     else None
 document_start_of _ = None
 
+-- the word `next` or the word `block`
+abbrev pub comments_of : Data → Option CommentColumns
+comments_of (string word) =
+    if bytes_eq word (codes "next") then Some Next
+    else if bytes_eq word (codes "block") then Some Block
+    else None
+comments_of _ = None
+
 -- the word `plain` or the word `escaped`
 abbrev pub invisible_of : Data → Option Invisible
 invisible_of (string word) =
@@ -62,6 +72,7 @@ is_right key value =
     else if bytes_eq key (codes "quotes") then is_some (quotes_of value)
     else if bytes_eq key (codes "seq_indent") then is_some (seq_indent_of value)
     else if bytes_eq key (codes "document_start") then is_some (document_start_of value)
+    else if bytes_eq key (codes "comments") then is_some (comments_of value)
     else if bytes_eq key (codes "invisible") then is_some (invisible_of value)
     else false
 
@@ -88,6 +99,7 @@ pub record StyleOfTable (table : Members) (style : Style) : Type 0 where
   pub quotes : style.quotes ≡ setting quotes_of (codes "quotes") Double table
   pub seq_indent : style.seq_indent ≡ setting seq_indent_of (codes "seq_indent") true table
   pub document_start : style.document_start ≡ setting document_start_of (codes "document_start") Always table
+  pub comments : style.comments ≡ setting comments_of (codes "comments") Next table
   pub invisible : style.invisible ≡ setting invisible_of (codes "invisible") Plain table
 
 -- the text is TOML, and its table sets the style

@@ -41,10 +41,7 @@ static WORDS: [(&str, &str); 14] = [
     ),
     ("repeated-keys", "fmt leaves it as it is"),
     ("key-mark", "fmt writes this key without `?`"),
-    (
-        "hidden-character",
-        "fmt escapes it in quoted scalars alone",
-    ),
+    ("hidden-character", "fmt escapes it in quoted scalars alone"),
 ];
 
 /// How many events are looked at for the first ones of all repeated keys of a text.

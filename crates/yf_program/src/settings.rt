@@ -3,15 +3,16 @@ ghost use Rattle.std.specs.Prelude.{◌≡◌, ◌⊎◌, ℕ, ◌≤◌, [], So
 ghost use Rattle.std.specs.Prelude.{List, option_map};
 ghost use Rattle.toml.specs.Data.{get_member};
 ghost use Rattle.toml.specs.View.{view, table_view};
-ghost use Rattle.yf_program.specs.Settings.{number_between, indent_of, max_line_of, quotes_of, seq_indent_of, document_start_of, invisible_of, is_right, IsRight, IsLeastWrong};
+ghost use Rattle.yf_program.specs.Settings.{number_between, indent_of, max_line_of, quotes_of, seq_indent_of, document_start_of, comments_of, invisible_of, is_right, IsRight, IsLeastWrong};
 ghost use Rattle.yf_program.specs.Settings.{setting, SetsStyle, RefusesSettings, StyleOfTable};
+ghost use Rattle.yf_emit.specs.declared.style.CommentColumns.TheVariants.{Next};
 ghost use Rattle.yf_emit.specs.declared.style.DocumentStart.TheVariants.{Always};
 ghost use Rattle.yf_lines.specs.declared.invisible.Invisible.TheVariants.{Plain};
 ghost use Rattle.yf_lines.specs.declared.quotes.Quotes.TheVariants.{Double};
 
 use std::alloc::Global;
 use toml::{Table, Value};
-use yf_emit::style::{DocumentStart, Style};
+use yf_emit::style::{CommentColumns, DocumentStart, Style};
 use yf_lines::fault::Fault;
 use yf_lines::invisible::Invisible;
 use yf_lines::quotes::Quotes;
@@ -27,11 +28,14 @@ const SEQ_INDENT: &str = "seq_indent";
 
 const DOCUMENT_START: &str = "document_start";
 
+const COMMENTS: &str = "comments";
+
 const INVISIBLE: &str = "invisible";
 
 /// The style that a settings text sets: a TOML document with the keys `indent` (an integer from 2 to 8), `max_line` (an
 /// integer from 40 to 1000), `quotes` (`"double"` or `"single"`), `seq_indent` (a boolean), `document_start` (`"always"` or
-/// `"keep"`) and `invisible` (`"plain"` or `"escaped"`). A key that is not there has the value of the house style.
+/// `"keep"`), `comments` (`"next"` or `"block"`) and `invisible` (`"plain"` or `"escaped"`). A key that is not there has the
+/// value of the house style.
 ///
 /// Answers `Fault::Config` with the least key, by its bytes, that is none of these or has another value, and with the
 /// empty key where the text is no TOML; `Fault::Memory` in the place of each answer, where a growth of memory was
@@ -106,6 +110,9 @@ fn is_right(key: &str, value: &Value) -> bool
     if key == DOCUMENT_START {
         return document_start_of(value).is_some();
     }
+    if key == COMMENTS {
+        return comments_of(value).is_some();
+    }
     if key == INVISIBLE {
         return invisible_of(value).is_some();
     }
@@ -166,6 +173,23 @@ fn document_start_of(value: &Value) -> Option<DocumentStart>
     }
 }
 
+fn comments_of(value: &Value) -> Option<CommentColumns>
+    ensures { result ≡ comments_of (view value.now) }
+{
+    match value.as_str() {
+        Some(word) => {
+            if word == "next" {
+                return Some(CommentColumns::Next);
+            }
+            if word == "block" {
+                return Some(CommentColumns::Block);
+            }
+            None
+        }
+        None => None,
+    }
+}
+
 fn invisible_of(value: &Value) -> Option<Invisible>
     ensures { result ≡ invisible_of (view value.now) }
 {
@@ -190,6 +214,7 @@ fn style_of(table: &Table) -> Style
     ensures quotes { result.quotes ≡ setting quotes_of (codes "quotes") Double (table_view table.now) }
     ensures seq_indent { result.seq_indent ≡ setting seq_indent_of (codes "seq_indent") true (table_view table.now) }
     ensures document_start { result.document_start ≡ setting document_start_of (codes "document_start") Always (table_view table.now) }
+    ensures comments { result.comments ≡ setting comments_of (codes "comments") Next (table_view table.now) }
     ensures invisible { result.invisible ≡ setting invisible_of (codes "invisible") Plain (table_view table.now) }
 {
     let house = Style::house();
@@ -199,6 +224,7 @@ fn style_of(table: &Table) -> Style
         quotes: quotes_at(table, house.quotes),
         seq_indent: seq_indent_at(table, house.seq_indent),
         document_start: document_start_at(table, house.document_start),
+        comments: comments_at(table, house.comments),
         invisible: invisible_at(table, house.invisible),
     }
 }
@@ -242,6 +268,15 @@ fn document_start_at(table: &Table, house: DocumentStart) -> DocumentStart
 {
     match value_at(table, DOCUMENT_START) {
         Some(value) => document_start_of(value).unwrap_or(house),
+        None => house,
+    }
+}
+
+fn comments_at(table: &Table, house: CommentColumns) -> CommentColumns
+    ensures { result ≡ setting comments_of (codes "comments") house (table_view table.now) }
+{
+    match value_at(table, COMMENTS) {
+        Some(value) => comments_of(value).unwrap_or(house),
         None => house,
     }
 }

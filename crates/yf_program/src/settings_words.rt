@@ -6,7 +6,8 @@ use yf_explain::{Page, explain, page_at};
 use yf_lines::fault::Fault;
 
 /// The keys, and what each may be set to.
-const ALLOWED: [(&str, &str); 6] = [
+const ALLOWED: [(&str, &str); 7] = [
+    ("comments", "`comments` is \"next\" or \"block\""),
     (
         "document_start",
         "`document_start` is \"always\" or \"keep\"",
@@ -19,7 +20,7 @@ const ALLOWED: [(&str, &str); 6] = [
 ];
 
 /// What is told of a key that is no other.
-const NO_KEY: &str = "keys: `document_start`, `indent`, `invisible`, `max_line`, `quotes`, `seq_indent`";
+const NO_KEY: &str = "keys: comments document_start indent invisible max_line quotes seq_indent";
 
 /// What is told of the settings' bytes, where a key is refused, or all of them, where it is empty.
 ///

@@ -94,9 +94,14 @@ number_nb c s =
     ⊎_elim
     (λ (l : c < 0x10000). rw (few_digits c l)
     (slash, (visible_nb 117 (omega arith) (omega arith), digits (c / 256) (two_digits (c % 256)) (omega arith) (digits_nb (c % 256) (omega arith)))))
-    (λ (l : 0x10000 ≤ c). let h : c < 0x110000 = scalar_below c s in rw (many_digits c l)
-    (slash, (visible_nb 85 (omega arith) (omega arith), digits 0 _ (omega arith) (digits (c / 65536) _ (omega arith)
-    (digits (c / 256 % 256) _ (omega arith) (digits_nb (c % 256) (omega arith)))))))
+    (λ (l : 0x10000 ≤ c). let h : c < 0x110000 = scalar_below c s in rw (many_digits c l) (
+      slash,
+      (
+        visible_nb 85 (omega arith) (omega arith),
+        digits 0 _ (omega arith) (digits (c / 65536) _ (omega arith)
+            (digits (c / 256 % 256) _ (omega arith) (digits_nb (c % 256) (omega arith)))),
+      ),
+    ))
     (cases_lt c 0x10000)
 
 out_nb : (c : ℕ) → scalar c ≡ true → AllNb (spelled_out c)

@@ -342,7 +342,7 @@ static ROWS: [Row; 44] = [
         "fmt --explain --config bad.toml a.yaml",
         3,
         "",
-        "config: a\n  2:1: keys: `document_start`, `indent`, `invisible`, `max_line`, `quotes`, `seq_indent`\n  | a = 1\n  | ^\n",
+        "config: a\n  2:1: keys: comments document_start indent invisible max_line quotes seq_indent\n  | a = 1\n  | ^\n",
         "bad.toml ",
         BEFORE,
     ),

@@ -8,7 +8,7 @@ use yf_rules::with_rules::{WithRules, with_all_rules};
 /// Settings, a text that is checked, the status, and what is found or why the text is refused.
 type Row = (&'static str, &'static str, u8, &'static str);
 
-static ROWS: [Row; 47] = [
+static ROWS: [Row; 49] = [
     ("", "- a\n- b\n", 1, "1:1 document-start (fixable)\n"),
     (
         "",
@@ -137,6 +137,19 @@ static ROWS: [Row; 47] = [
         "1:1 byte-order-mark (fixable)\n1:4 hidden-character\n3:4 hidden-character\n4:4 hidden-character\n6:3 hidden-character\n",
     ),
     ("invisible = \"plain\"\n", "---\na: \u{AD}\n", 0, ""),
+    // where a comment is has nothing to do with the rules
+    (
+        "comments = \"block\"\n",
+        "---\na:\n  b: 1\n  # c\nd: 2\n",
+        0,
+        "",
+    ),
+    (
+        "comments = \"block\"\n",
+        "---\na:\n  b: 1\n# c\nd: 2\n",
+        0,
+        "",
+    ),
     // what `fmt` changes beyond the rules
     ("", "---\na:  b\n", 0, ""),
     ("", "---\na : b\n", 0, ""),

@@ -3,9 +3,10 @@
 ghost use Rattle.std.specs.Prelude.{◌≤◌};
 
 use crate::tests::answers::{formatted, reading_of};
+use crate::tests::comments::IN_BLOCKS;
 use crate::tests::fmt::FORMATTED;
 use std::alloc::{AllocError, Global};
-use yf_emit::style::{DocumentStart, Style};
+use yf_emit::style::{CommentColumns, DocumentStart, Style};
 use yf_events::content::Content;
 use yf_events::reading::Reading;
 use yf_lines::fault::Fault;
@@ -117,39 +118,102 @@ fn hold_for(trial: Trial, text: &str) -> bool {
     )
 }
 
-/// Whether the laws hold of a text under both quotes, both widths, and both places of sequences, beginnings of documents and ways to hold
-/// hidden characters.
+/// Quotes, places of sequences, beginnings of documents, columns of comments, and ways to hold hidden characters.
+type Choice = (Quotes, bool, DocumentStart, CommentColumns, Invisible);
+
+/// What is tried with narrow lines, and what with wide ones: so that any two values of two settings are together in one of these.
+static NARROW: [Choice; 3] = [
+    (
+        Quotes::Single,
+        false,
+        DocumentStart::Always,
+        CommentColumns::Block,
+        Invisible::Plain,
+    ),
+    (
+        Quotes::Single,
+        true,
+        DocumentStart::Keep,
+        CommentColumns::Next,
+        Invisible::Plain,
+    ),
+    (
+        Quotes::Double,
+        false,
+        DocumentStart::Always,
+        CommentColumns::Block,
+        Invisible::Escaped,
+    ),
+];
+
+static WIDE: [Choice; 3] = [
+    (
+        Quotes::Double,
+        true,
+        DocumentStart::Always,
+        CommentColumns::Next,
+        Invisible::Plain,
+    ),
+    (
+        Quotes::Single,
+        false,
+        DocumentStart::Keep,
+        CommentColumns::Next,
+        Invisible::Escaped,
+    ),
+    (
+        Quotes::Double,
+        true,
+        DocumentStart::Keep,
+        CommentColumns::Block,
+        Invisible::Escaped,
+    ),
+];
+
+/// Whether the laws hold of a text in lines of that width, under these choices.
+fn hold_under(
+    alloc: Global,
+    rules: &[Box<dyn Rule>],
+    indent: usize,
+    max_line: usize,
+    choices: &[Choice],
+    text: &str,
+) -> bool
+    requires from { 2 ≤ indent }
+    requires to { indent ≤ 8 }
+    requires line_from { 40 ≤ max_line }
+    requires line_to { max_line ≤ 1000 }
+{
+    for choice in choices {
+        let (quotes, seq_indent, document_start, comments, invisible) = *choice;
+        let style = Style {
+            indent,
+            max_line,
+            quotes,
+            seq_indent,
+            document_start,
+            comments,
+            invisible,
+        };
+        let trial = Trial {
+            alloc,
+            rules,
+            style: &style,
+        };
+        if !hold_for(trial, text) {
+            return false;
+        }
+    }
+    true
+}
+
+/// Whether the laws hold of a text with each value of each setting but the indentation.
 fn hold_at(alloc: Global, rules: &[Box<dyn Rule>], indent: usize, text: &str) -> bool
     requires from { 2 ≤ indent }
     requires to { indent ≤ 8 }
 {
-    for quotes in [Quotes::Double, Quotes::Single] {
-        for (seq_indent, document_start, invisible) in [
-            (true, DocumentStart::Always, Invisible::Plain),
-            (false, DocumentStart::Keep, Invisible::Plain),
-            (false, DocumentStart::Keep, Invisible::Escaped),
-        ] {
-            for max_line in [40, 100] {
-                let style = Style {
-                    indent,
-                    max_line,
-                    quotes,
-                    seq_indent,
-                    document_start,
-                    invisible,
-                };
-                let trial = Trial {
-                    alloc,
-                    rules,
-                    style: &style,
-                };
-                if !hold_for(trial, text) {
-                    return false;
-                }
-            }
-        }
-    }
-    true
+    hold_under(alloc, rules, indent, 40, &NARROW, text)
+        && hold_under(alloc, rules, indent, 100, &WIDE, text)
 }
 
 /// Whether the laws hold of a text under all indentations.
@@ -213,6 +277,20 @@ fn laws_of_rows(rt: HostRuntime) {
 #[test]
 fn laws_of_cuts(rt: HostRuntime) {
     for (_, text, _) in &FORMATTED {
+        assert!(rt; laws_hold(rt.alloc(), text, true), "{text}");
+    }
+}
+
+#[test]
+fn laws_of_comments(rt: HostRuntime) {
+    for (_, text, _) in &IN_BLOCKS {
+        assert!(rt; laws_hold(rt.alloc(), text, false), "{text}");
+    }
+}
+
+#[test]
+fn laws_of_cut_comments(rt: HostRuntime) {
+    for (_, text, _) in &IN_BLOCKS {
         assert!(rt; laws_hold(rt.alloc(), text, true), "{text}");
     }
 }

@@ -2,25 +2,44 @@
 
 use crate::tests::answers::{Asked, is_run};
 use std::alloc::Global;
-use yf_emit::style::DocumentStart;
+use yf_emit::style::{CommentColumns, DocumentStart};
 use yf_lines::invisible::Invisible;
 use yf_lines::quotes::Quotes;
 use yf_program::settings::style_from_toml;
 
-/// A settings file, and what it sets: `indent`, `max_line`, `quotes`, `seq_indent`, whether a first document without a `---` stays so, and
-/// whether hidden characters are escaped.
-type Row = (&'static str, usize, usize, Quotes, bool, bool, bool);
+/// A settings file, and what it sets: `indent`, `max_line`, `quotes`, `seq_indent`, whether a first document without a `---` stays so,
+/// whether comments keep their blocks, and whether hidden characters are escaped.
+type Row = (&'static str, usize, usize, Quotes, bool, bool, bool, bool);
 
-static SET: [Row; 8] = [
-    ("", 2, 100, Quotes::Double, true, false, false),
-    ("indent = 4", 4, 100, Quotes::Double, true, false, false),
-    ("# none\n", 2, 100, Quotes::Double, true, false, false),
+static SET: [Row; 10] = [
+    ("", 2, 100, Quotes::Double, true, false, false, false),
+    (
+        "indent = 4",
+        4,
+        100,
+        Quotes::Double,
+        true,
+        false,
+        false,
+        false,
+    ),
+    (
+        "# none\n",
+        2,
+        100,
+        Quotes::Double,
+        true,
+        false,
+        false,
+        false,
+    ),
     (
         "document_start = \"always\"",
         2,
         100,
         Quotes::Double,
         true,
+        false,
         false,
         false,
     ),
@@ -32,6 +51,7 @@ static SET: [Row; 8] = [
         true,
         false,
         false,
+        false,
     ),
     (
         "invisible = 'escaped'",
@@ -40,14 +60,36 @@ static SET: [Row; 8] = [
         Quotes::Double,
         true,
         false,
+        false,
         true,
     ),
     (
-        "seq_indent = false\ninvisible = \"escaped\"\nquotes = \"single\"\ndocument_start = 'keep'\nmax_line = 40\nindent = 8\n",
+        "comments = \"next\"",
+        2,
+        100,
+        Quotes::Double,
+        true,
+        false,
+        false,
+        false,
+    ),
+    (
+        "comments = 'block'",
+        2,
+        100,
+        Quotes::Double,
+        true,
+        false,
+        true,
+        false,
+    ),
+    (
+        "seq_indent = false\ninvisible = \"escaped\"\nquotes = \"single\"\ndocument_start = 'keep'\nmax_line = 40\ncomments = \"block\"\nindent = 8\n",
         8,
         40,
         Quotes::Single,
         false,
+        true,
         true,
         true,
     ),
@@ -57,6 +99,7 @@ static SET: [Row; 8] = [
         1000,
         Quotes::Double,
         true,
+        false,
         false,
         false,
     ),
@@ -69,14 +112,17 @@ fn sets(alloc: Global, row: &Row) -> bool {
             (row.1, row.2, row.3, row.4)
                 == (style.indent, style.max_line, style.quotes, style.seq_indent)
                 && row.5 == matches!(style.document_start, DocumentStart::Keep)
-                && row.6 == matches!(style.invisible, Invisible::Escaped)
+                && row.6 == matches!(style.comments, CommentColumns::Block)
+                && row.7 == matches!(style.invisible, Invisible::Escaped)
         }
         Err(_) => false,
     }
 }
 
 /// Settings files that are refused, and the line that is printed: the least wrong key.
-static REFUSED: [(&str, &str); 27] = [
+static REFUSED: [(&str, &str); 29] = [
+    ("comments = \"Block\"", "config: comments\n"),
+    ("comments = true\nindent = 9", "config: comments\n"),
     ("indent = 9", "config: indent\n"),
     ("tabs = 1", "config: tabs\n"),
     ("indent =", "config: \n"),

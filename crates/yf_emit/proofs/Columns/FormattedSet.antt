@@ -89,13 +89,13 @@ module _ {t : List ℕ} {s : Style} where
 
     items_kept : {m : ℕ} {xs ys : Items} → KeptItems xs ys → SetItems t s (BlockAt t) m xs → SetItems t s (BlockAt t) m ys
     items_kept kept_no_items no_set_items = no_set_items
-    items_kept (kept_item k more) (set_item a b) = set_item (set_kept k a) (items_kept more b)
+    items_kept (kept_item k more) (set_item o a b) = set_item (on_kept k o) (set_kept k a) (items_kept more b)
 
     pairs_kept : {m : ℕ} {ps qs : Pairs} → KeptPairs ps qs → SetPairs t s (BlockAt t) m ps → SetPairs t s (BlockAt t) m qs
     pairs_kept kept_no_pairs no_set_pairs = no_set_pairs
-    pairs_kept {m} (kept_pair {w = w} k v more) (set_pair free marked a b c) =
+    pairs_kept {m} (kept_pair {w = w} k v more) (set_pair o free marked a b c) =
         let same = same_implicit s m (kept_alike k) in
-        set_pair (λ e. unquestioned_kept k (free (same ∙ e))) (λ e. questioned_kept k (marked (same ∙ e))) (set_kept k a)
+        set_pair (on_kept k o) (λ e. unquestioned_kept k (free (same ∙ e))) (λ e. questioned_kept k (marked (same ∙ e))) (set_kept k a)
         (subst (λ n. SetAt t s n (m + s.indent) w) (after_same s m k v) (set_kept v b)) (pairs_kept more c)
 
 -- Documents.

@@ -1,5 +1,5 @@
 -- What a production means of rows that were laid out is a set node, with its entries at their column and the content of its block scalars as far in.
-use Rattle.std.proofs.Common.{◌≡◌, ℕ, ◌+◌, ◌-◌, ◌<◌, ◌≤◌, ⊎_elim, Bool, true, false, true≢false, not, List, [], ◌∷◌, ◌++◌, Option, Some, None, refl, sym, ap, ◌∙◌, subst, arith, append_assoc, append-nil}
+use Rattle.std.proofs.Common.{zero-add, ◌≡◌, ℕ, ◌+◌, ◌-◌, ◌<◌, ◌≤◌, ⊎_elim, Bool, true, false, true≢false, not, List, [], ◌∷◌, ◌++◌, Option, Some, None, refl, sym, ap, ◌∙◌, subst, arith, append_assoc, append-nil}
 use Rattle.std.specs.Prelude.{◌&&◌, if◌then◌else◌}
 use Rattle.std.proofs.lemmas.Bool.{cases_lt}
 use Rattle.yf_chars.specs.Class.{is_white_or_end}
@@ -27,6 +27,9 @@ use Rattle.yf_emit.proofs.Columns.FlowEvents.{AllFlow, MeansFlow, blockless}
 use Rattle.yf_emit.proofs.RowNodes.FoundNodes.{alike_entered}
 use Rattle.yf_emit.proofs.OutputLines.HeldLemmas.{Holds, here, there, ScalarAt, ScalarHeld}
 use Rattle.yf_emit.proofs.Columns.SetNodes.{Blockless, ColumnAt, entries_after, EntryOn, Questioned, SetFirst, set_first, SetFirstPair, set_first_pair, SetItems, no_set_items, set_item, SetNode, set_line, set_scalar, set_sequence, set_mapping, SetPairs, no_set_pairs, set_pair, Unquestioned}
+use Rattle.yf_emit.proofs.Columns.SourceColumns.{column_line, column_one, column_spaces, sign_breaks, signs_low, space_signs}
+use Rattle.yf_emit.specs.Layouts.SourceColumns.{is_white_or_sign}
+use Rattle.std.specs.Str.{IsUtf8}
 
 -- the lines of a block scalar are at a column
 pub data BlockAt (t : List ℕ) (l : ℕ) : Node → Type 0 where
@@ -38,23 +41,25 @@ SetAt t s m l x = SetNode t s (BlockAt t) m l x
 
 -- Columns.
 
-pub column_start : {t : List ℕ} {p m : ℕ} → LineStart t p → Spaces t p m → ColumnAt t m (p + m)
-column_start {t} {p} {m} a s = record {
+pub column_start : {t : List ℕ} {p m : ℕ} → IsUtf8 t → LineStart t p → Spaces t p m → ColumnAt t m (p + m)
+column_start {t} {p} {m} u a s = record {
   line = p;
   start = a;
   is = refl;
   least = λ k l. let e : code t (p + k) ≡ 32 = s.each k l in omega (arith, e);
   most = λ k l. let e : code t (p + k) ≡ 32 = s.each k l in omega (arith, e);
+  source = column_spaces is_white_or_sign space_signs s (column_line u is_white_or_sign signs_low a) ∙ ap Some (zero-add m);
 }
 
 -- after a sign and spaces
-pub column_more : {t : List ℕ} {m q : ℕ} (sign n : ℕ) → ColumnAt t m q → code t q ≡ sign → 32 ≤ sign → sign < 127 → Spaces t (q + 1) n → ColumnAt t (m + 1 + n) (q + 1 + n)
-column_more {t} {m} {q} sign n a e low high s = record {
+pub column_more : {t : List ℕ} {m q : ℕ} (sign n : ℕ) → ColumnAt t m q → code t q ≡ sign → 32 ≤ sign → sign < 127 → is_white_or_sign sign ≡ true → Spaces t (q + 1) n → ColumnAt t (m + 1 + n) (q + 1 + n)
+column_more {t} {m} {q} sign n a e low high class s = record {
   line = a.line;
   start = a.start;
   is = let f : q ≡ a.line + m = a.is in omega (arith, f);
   least = λ k l. (all k l).0;
   most = λ k l. (all k l).1;
+  source = column_spaces is_white_or_sign space_signs s (column_one t q is_white_or_sign e (sign_breaks sign low) class a.source);
 } where
   all : (k : ℕ) → k < m + 1 + n → (32 ≤ code t (a.line + k)) × (code t (a.line + k) < 127)
   all k l =
@@ -152,11 +157,11 @@ SetEntries false t s m q x = SetPairList t s m q x
 -- Entries one after the other.
 
 pub set_last : (t : List ℕ) (s : Style) (b : Bool) (m q : ℕ) (x : Meaning) → SetEntry b t s m q x → SetEntries b t s m q x
-set_last t s true m q x a = record { items = item a.node no_items; events = a.events ∙ sym (append-nil (flat a.node)); set = λ c. set_first (a.on c) (set_item (a.set c) no_set_items) }
+set_last t s true m q x a = record { items = item a.node no_items; events = a.events ∙ sym (append-nil (flat a.node)); set = λ c. set_first (a.on c) (set_item (a.on c) (a.set c) no_set_items) }
 set_last t s false m q x a = record {
   pairs = pair a.key a.value no_pairs;
   events = a.events ∙ ap (λ z. flat a.key ++ z) (sym (append-nil (flat a.value)));
-  set = λ c. set_first_pair (a.on c) (set_pair a.free a.marked (a.set c) (a.value_set c) no_set_pairs);
+  set = λ c. set_first_pair (a.on c) (set_pair (a.on c) a.free a.marked (a.set c) (a.value_set c) no_set_pairs);
 }
 
 all_items : {t : List ℕ} {s : Style} {m : ℕ} {xs : Items} → SetFirst t s (BlockAt t) m xs → SetItems t s (BlockAt t) m xs
@@ -170,12 +175,12 @@ unfolding ◌⊕◌
 set_more t s true m q p x y d a o = record {
   items = item a.node o.items;
   events = ap (λ z. z ++ y.events) a.events ∙ ap (λ z. flat a.node ++ z) o.events;
-  set = λ c. set_first (a.on c) (set_item (a.set c) (all_items (o.set d)));
+  set = λ c. set_first (a.on c) (set_item (a.on c) (a.set c) (all_items (o.set d)));
 }
 set_more t s false m q p x y d a o = record {
   pairs = pair a.key a.value o.pairs;
   events = ap (λ z. z ++ y.events) a.events ∙ (append_assoc (flat a.key) (flat a.value) y.events ∙ ap (λ z. flat a.key ++ (flat a.value ++ z)) o.events);
-  set = λ c. set_first_pair (a.on c) (set_pair a.free a.marked (a.set c) (a.value_set c) (all_pairs (o.set d)));
+  set = λ c. set_first_pair (a.on c) (set_pair (a.on c) a.free a.marked (a.set c) (a.value_set c) (all_pairs (o.set d)));
 }
 
 one_held : {event : EventValue} {part : Option Span} {e : EventInText} → Holds event part (e ∷ []) → (e.event ≡ event) × (e.span ≡ part)

@@ -11,6 +11,7 @@ use Rattle.yf_events.specs.Tree.{NodeOffsets, Node, scalar, alias, sequence, map
 use Rattle.yf_emit.specs.Layouts.ReadableTrees.{is_block_style}
 use Rattle.yf_emit.specs.NormalForms.Normal.{is_implicit, value_entries}
 use Rattle.yf_emit.specs.declared.style.Style.{Style}
+use Rattle.yf_emit.specs.Layouts.SourceColumns.{column_by, is_white_or_sign}
 
 -- the offset is so many columns right of where a line starts, after signs and spaces of one byte
 pub record ColumnAt (t : List ℕ) (m i : ℕ) : Type 0 where
@@ -19,6 +20,8 @@ pub record ColumnAt (t : List ℕ) (m i : ℕ) : Type 0 where
   pub is : i ≡ line + m
   pub least : (k : ℕ) → k < m → 32 ≤ code t (line + k)
   pub most : (k : ℕ) → k < m → code t (line + k) < 127
+  -- and nothing else
+  pub source : column_by is_white_or_sign t i ≡ Some m
 
 -- the entry of the node begins at the column, counted from 0
 pub record EntryOn (t : List ℕ) (m : ℕ) (x : Node) : Type 0 where
@@ -72,11 +75,11 @@ mutual
 
   pub data SetItems (t : List ℕ) (s : Style) (Content : ℕ → Node → Type 0) : ℕ → Items → Type 0 where
     no_set_items : {m : ℕ} → SetItems t s Content m no_items
-    set_item : {m : ℕ} {x : Node} {xs : Items} → SetNode t s Content (m + s.indent) (m + s.indent) x → SetItems t s Content m xs → SetItems t s Content m (item x xs)
+    set_item : {m : ℕ} {x : Node} {xs : Items} → EntryOn t m x → SetNode t s Content (m + s.indent) (m + s.indent) x → SetItems t s Content m xs → SetItems t s Content m (item x xs)
 
   pub data SetPairs (t : List ℕ) (s : Style) (Content : ℕ → Node → Type 0) : ℕ → Pairs → Type 0 where
     no_set_pairs : {m : ℕ} → SetPairs t s Content m no_pairs
-    set_pair : {m : ℕ} {k v : Node} {ps : Pairs} → (is_implicit s m k ≡ true → Unquestioned t k) → (is_implicit s m k ≡ false → Questioned t k)
+    set_pair : {m : ℕ} {k v : Node} {ps : Pairs} → EntryOn t m k → (is_implicit s m k ≡ true → Unquestioned t k) → (is_implicit s m k ≡ false → Questioned t k)
         → SetNode t s Content (m + s.indent) (m + s.indent) k → SetNode t s Content (entries_after s m k v) (m + s.indent) v → SetPairs t s Content m ps
         → SetPairs t s Content m (pair k v ps)
 

@@ -49,8 +49,8 @@ use Rattle.yf_emit.proofs.Derived.StreamParts.{laid_bare, meant_bare}
 use Rattle.yf_emit.proofs.Derived.StreamsMade.{AnyMade, root_deep, root_rows}
 use Rattle.yf_emit.proofs.Derived.TreesMade.{node_claim}
 use Rattle.yf_emit.specs.declared.style.Style.{Style}
-
 use Rattle.yf_grammar.proofs.FlowReader.ParserLemmas.{after_nothing}
+
 pub record FirstMade (t : List ℕ) (s : LayoutSetting) (bare : Bool) (d : Doc) (x : DocumentTree) (rs : List Row) (ds : List Deco) (q : ℕ) (r : List ℕ) : Type 0 where
   pub height : ℕ
   pub place : ℕ
@@ -203,6 +203,6 @@ bare_made {t} c {d} x start ds r q none some fit u a line k w = by (node_claim c
         placed = begun_in start q refl (subst (λ p. RowsIn t (y ∷ ys) node.found_rows ds p node.meaning.comments node.place r) same node.placed);
         begun = begun_is_at q node.meaning (subst (λ z. Stand q (q ∷ []) node.meaning.comments z node.place) (sym (begun_steps start ds silent)) (leaf_is_at (omega arith) (comments_stand (derived_ascends derived) node.is)));
         held = record { comments = node.held.comments; bodies = bare_bodies t (begun_at start (y ∷ ys)) ds r q node.meaning (begun_held t node.meaning.events y ys ds r start node.held.bodies) };
-        set = bare_set c.style q node.meaning (set_done (λ b. subst (λ z. ColumnAt t z (q + y.column)) (g b) (column_start line spaces.0))
+        set = bare_set c.style q node.meaning (set_done (λ b. subst (λ z. ColumnAt t z (q + y.column)) (g b) (column_start u line spaces.0))
             (subst (λ p. SetMeant t c.style 0 p (begins_below x.root) (q + y.column) node.meaning) (omega arith) node.set));
       }

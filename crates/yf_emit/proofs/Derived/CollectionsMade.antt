@@ -190,7 +190,7 @@ module _ {s : LayoutSetting} {x : Node} {spot : Spot} {es : List Row} {sequence 
         laid = subst (λ z. MeaningLaid q one.place (meaning_after end.comments (with_props p offset q g inner)) (leaf_steps z ++ (comment_steps (carried_texts (first ds)) ++ steps_in es (after ds)))) (sym none)
             (laid_after (omega arith) (laid_next end.comments (with_props p offset q g inner) (end_ascends end.end) end.is (omega arith)
             (laid_collection_with p offset q g sequence false (end.place + spot.entries) one.meaning.finish one.meaning one.laid)));
-        set = set_after end.comments (set_propertied sequence p offset q g spot.entries (end.place + spot.entries) (end.place + spot.entries) one.meaning.finish one.meaning (column_start end.start spaces.0) one.set);
+        set = set_after end.comments (set_propertied sequence p offset q g spot.entries (end.place + spot.entries) (end.place + spot.entries) one.meaning.finish one.meaning (column_start u end.start spaces.0) one.set);
         held = held_next end.comments (with_props p offset q g inner) row es ds r body
             (row_ended (first ds) (lines_then es (after ds) r) u (properties_after u properties) (first_deco a) after_props.rest end.end)
             (held_collection_with p offset q g sequence false (end.place + spot.entries) one.meaning.finish one.meaning es (after ds) r one.held);

@@ -9,6 +9,7 @@ use Rattle.yf_emit.specs.declared.style.Style.{Style}
 use Rattle.yf_emit.specs.Layouts.Decorated.{GapLine, blank, remark, Deco, first, after, past, gap_then, trails_then, body_then, end_then, lines_then, inline_then, blank_if, remarks_after, ending_after, gap_of, comments_left, decos_of, decorated, rows_of}
 use Rattle.yf_emit.specs.Layouts.Layout.{Source, Line, layout, lines_of, comment_line, row_line, bytes_after, line_bytes, ended, after_two_spaces, trailing, trimmed, precedes_item, may_be_blank_after, own_line_comments, source_of}
 use Rattle.yf_emit.specs.Layouts.Rows.{Row, Ending, anywhere, at_text_start}
+use Rattle.yf_emit.specs.Layouts.KeptColumns.{Columns, columns_of}
 
 -- Rows one after the other.
 
@@ -61,37 +62,37 @@ blank_law : (b : Bool) (r : List ℕ) → cond b (10 ∷ []) [] ++ r ≡ gap_the
 blank_law true r = refl
 blank_law false r = refl
 
-comments_law : (before : Ending) (column : ℕ) (cs : List CommentValue) (ls : List Line)
-    → bytes_after before (map (comment_line column) cs ++ ls) ≡ gap_then (remarks_after before column cs) (bytes_after (ending_after before cs) ls)
-comments_law before column [] ls = refl
-comments_law before column (c ∷ cs) ls =
-    let rest = comments_law anywhere column cs ls in
-    let here : line_bytes (comment_line column c) ++ bytes_after anywhere (map (comment_line column) cs ++ ls)
-    ≡ gap_then (remark column (trimmed c.text) ∷ remarks_after anywhere column cs) (bytes_after (ending_after anywhere cs) ls) =
-    line_law column (trimmed c.text) [] _ ∙ ap (λ z. replicate column 32 ++ (trimmed c.text ++ (10 ∷ z))) rest in
+comments_law : (g : Columns) (before : Ending) (column : ℕ) (cs : List CommentValue) (ls : List Line)
+    → bytes_after before (map (comment_line g column) cs ++ ls) ≡ gap_then (remarks_after g before column cs) (bytes_after (ending_after before cs) ls)
+comments_law g before column [] ls = refl
+comments_law g before column (c ∷ cs) ls =
+    let rest = comments_law g anywhere column cs ls in
+    let here : line_bytes (comment_line g column c) ++ bytes_after anywhere (map (comment_line g column) cs ++ ls)
+    ≡ gap_then (remark (g c column) (trimmed c.text) ∷ remarks_after g anywhere column cs) (bytes_after (ending_after anywhere cs) ls) =
+    line_law (g c column) (trimmed c.text) [] _ ∙ ap (λ z. replicate (g c column) 32 ++ (trimmed c.text ++ (10 ∷ z))) rest in
     blank_law (may_be_blank_after before && c.blank_before) _
-    ∙ (ap (λ z. gap_then (blank_if (may_be_blank_after before && c.blank_before)) z) (here ∙ ap (λ e. gap_then (remark column (trimmed c.text) ∷ remarks_after anywhere column cs) (bytes_after e ls)) (always cs))
+    ∙ (ap (λ z. gap_then (blank_if (may_be_blank_after before && c.blank_before)) z) (here ∙ ap (λ e. gap_then (remark (g c column) (trimmed c.text) ∷ remarks_after g anywhere column cs) (bytes_after e ls)) (always cs))
     ∙ sym (gap_append (blank_if (may_be_blank_after before && c.blank_before)) _ _)) where
       always : (cs : List CommentValue) → ending_after anywhere cs ≡ anywhere
       always [] = refl
       always (d ∷ ds) = refl
 
-rows_law : (c : Source) (before : Ending) (comments : List CommentValue) (rows : List Row)
-    → bytes_after before (lines_of c comments rows) ≡ gap_then (gap_of before comments rows) (lines_then rows (decos_of c comments rows) [])
-rows_law c before comments [] =
-    ap (λ z. bytes_after before z) (sym (append-nil (map (comment_line 0) comments))) ∙ comments_law before 0 comments []
-rows_law c before comments (row ∷ rows) =
+rows_law : (g : Columns) (c : Source) (before : Ending) (comments : List CommentValue) (rows : List Row)
+    → bytes_after before (lines_of g c comments rows) ≡ gap_then (gap_of g before comments rows) (lines_then rows (decos_of g c comments rows) [])
+rows_law g c before comments [] =
+    ap (λ z. bytes_after before z) (sym (append-nil (map (comment_line g 0) comments))) ∙ comments_law g before 0 comments []
+rows_law g c before comments (row ∷ rows) =
     let own = filter (precedes_item row) comments in
-    let rest = rows_law c row.ending (comments_left row comments) rows in
-    let here = row_law c row (bytes_after row.ending (lines_of c (comments_left row comments) rows)) in
-    comments_law before row.column own _
-    ∙ (ap (λ z. gap_then (remarks_after before row.column own) z)
+    let rest = rows_law g c row.ending (comments_left row comments) rows in
+    let here = row_law c row (bytes_after row.ending (lines_of g c (comments_left row comments) rows)) in
+    comments_law g before row.column own _
+    ∙ (ap (λ z. gap_then (remarks_after g before row.column own) z)
     (blank_law (may_be_blank_after (ending_after before own) && row.blank_before) _
     ∙ ap (λ z. gap_then (blank_if (may_be_blank_after (ending_after before own) && row.blank_before)) z)
     (here ∙ ap (λ z. replicate row.column 32 ++ (row.text ++ trails_then (map (λ d. trimmed d.text) (trailing c row)) (10 ∷ body_then row.body z))) rest))
-    ∙ sym (gap_append (remarks_after before row.column own) _ _))
+    ∙ sym (gap_append (remarks_after g before row.column own) _ _))
 
 -- the layout of a normal reading is its rows with what they carry
-pub layout_then : (m : Lists) (s : Style) (trees : List DocumentTree) → layout m s trees ≡ decorated m (rows_of m s trees)
-layout_then m s trees =
-    rows_law (source_of m (rows_of m s trees)) at_text_start (own_line_comments (source_of m (rows_of m s trees)) (rows_of m s trees)) (rows_of m s trees)
+pub layout_then : (t : List ℕ) (m : Lists) (s : Style) (trees : List DocumentTree) → layout t m s trees ≡ decorated (columns_of t s (rows_of m s trees)) m (rows_of m s trees)
+layout_then t m s trees =
+    rows_law (columns_of t s (rows_of m s trees)) (source_of m (rows_of m s trees)) at_text_start (own_line_comments (source_of m (rows_of m s trees)) (rows_of m s trees)) (rows_of m s trees)

@@ -48,8 +48,8 @@ use Rattle.yf_emit.proofs.Derived.RowEnds.{row_end, first_deco, after_decos}
 use Rattle.yf_emit.proofs.Columns.SetMeant.{column_start, SetDone, SetMeant, set_done, done_after, done_empty}
 use Rattle.yf_emit.proofs.Columns.SetNodes.{ColumnAt}
 use Rattle.yf_emit.proofs.Derived.StepsInText.{Stand, stand_after, stand_join, comments_stand, MeaningLaid, laid_after, laid_next, laid_empty}
-
 use Rattle.yf_lines.proofs.VisibleLines.{visible_line, visible_at}
+
 -- The `---` and the node after it.
 
 pub record ExplicitMade (t : List ℕ) (s : LayoutSetting) (x : Node) (rs : List Row) (ds : List Deco) (q : ℕ) (r : List ℕ) : Type 0 where
@@ -183,7 +183,7 @@ explicit_made {t} {s} {x} row ds r q none bare column width key (some_rows {r = 
       is = texts_after end.comments node.meaning ∙ (ap (λ z. z ++ texts node.meaning.comments) end.is ∙ ap (λ z. carried_texts (first ds) ++ z) node.is);
       laid = subst (λ z. MeaningLaid q node.place (meaning_after end.comments node.meaning) (leaf_steps z ++ (comment_steps (carried_texts (first ds)) ++ steps_in (y ∷ ys) (after ds)))) (sym none)
           (laid_after (omega arith) (laid_next end.comments node.meaning (end_ascends end.end) end.is (omega arith) node.laid));
-      set = done_after end.comments node.meaning (set_done (λ b. subst (λ z. ColumnAt t z (end.place + y.column)) (g b) (column_start end.start spaces.0))
+      set = done_after end.comments node.meaning (set_done (λ b. subst (λ z. ColumnAt t z (end.place + y.column)) (g b) (column_start u end.start spaces.0))
           (subst (λ k. SetMeant t s.style 0 k (begins_below x) (end.place + y.column) node.meaning) (omega arith) node.set));
       held = held_next end.comments node.meaning row (y ∷ ys) ds r bare
           (row_ended (first ds) (lines_then (y ∷ ys) (after ds) r) u (three_after 45 u (omega arith) (omega arith) w) (first_deco a) mark.1 end.end) node.held;

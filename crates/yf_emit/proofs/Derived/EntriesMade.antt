@@ -29,6 +29,7 @@ use Rattle.yf_emit.proofs.RowNodes.PlacedRows.{PlacedRow, RowsIn, rows_in_append
 use Rattle.yf_emit.proofs.Derived.RowEnds.{past_decos, comments_append, calm_append}
 use Rattle.yf_emit.proofs.Columns.SetMeant.{column_start, SetEntry, SetEntries, set_last, set_more, set_item_entered, set_explicit}
 use Rattle.yf_emit.proofs.Derived.StepsInText.{MeaningLaid, laid_both, laid_entering}
+use Rattle.yf_emit.proofs.Columns.SourceColumns.{colon_sign, dash_sign, question_sign}
 
 -- rows of which the first is at that column
 pub data Begins (column : ℕ) : List Row → Type 0 where
@@ -89,10 +90,10 @@ inline_more : {column : ℕ} {rs : List Row} (more : List Row) (ds : List Deco) 
     → inline_then (rs ++ more) ds r ≡ inline_then rs ds (lines_then more (past rs ds) r)
 inline_more more ds r (begins {r = x} {rs = xs} e) = inline_append x xs more ds r
 
-pub sign_begins : {s : LayoutSetting} {x : Node} {spot : Spot} {rs : List Row} (column sign : ℕ) (items : List ℕ) (blank : Bool) (n : ℕ) → Claim s x spot rs
-    → Begins column (joined (sign_row column sign items blank) n rs)
-sign_begins column sign items blank n (no_row m) = begins refl
-sign_begins column sign items blank n (some_rows f g m) = begins refl
+pub sign_begins : {s : LayoutSetting} {x : Node} {spot : Spot} {rs : List Row} (column sign : ℕ) (offsets items : List ℕ) (blank : Bool) (n : ℕ) → Claim s x spot rs
+    → Begins column (joined (sign_row column sign offsets items blank) n rs)
+sign_begins column sign offsets items blank n (no_row m) = begins refl
+sign_begins column sign offsets items blank n (some_rows f g m) = begins refl
 
 pub comments_both : (x y : Meaning) → (x ⊕ y).comments ≡ x.comments ++ y.comments
 unfolding ◌⊕◌
@@ -160,7 +161,7 @@ entries_more {s} {sequence} {column} {bound} {least} {P} {Q} {S} {rs} {ls} f e o
             ∙ (ap (λ z. comments_in rs ds ++ z) more.is ∙ sym (comments_append rs ls ds)));
         laid = subst (λ z. MeaningLaid q more.place (one.meaning ⊕ more.meaning) z) (sym (steps_append rs ls ds)) (laid_both one.meaning more.meaning one.laid more.laid (omega arith));
         held = held_both one.meaning more.meaning rs ls ds r one.held more.held;
-        set = set_more t s.style sequence column q (one.place + column) one.meaning more.meaning (column_start one.start there.0) one.set more.set;
+        set = set_more t s.style sequence column q (one.place + column) one.meaning more.meaning (column_start u one.start there.0) one.set more.set;
       }
 
 -- An item after its `-`.
@@ -189,13 +190,13 @@ ends_white t i e = ⊎_elim (λ (z : code t i ≡ 32). ap is_white_or_end z ∙ 
 
 pub item_makes : {s : LayoutSetting} {x : Node} {spot : Spot} {rs : List Row} (column : ℕ) (items : List ℕ) (blank : Bool) → 2 ≤ s.style.indent → spot ≡ inner_spot s.style column
     → Stood s x (pos column) BlockIn spot → Claim s x spot rs
-    → EntryMakes s true column (tall x) (λ t m ps. FoundItem t s column x m ps) (joined (sign_row column 45 items blank) (s.style.indent - 1) rs)
-item_makes {s} {x} {spot} {rs} column items blank wide e stood k = record { starts = sign_begins column 45 items blank (s.style.indent - 1) k; made = made } where
-  made : {t : List ℕ} (ds : List Deco) (r : List ℕ) (q : ℕ) → IsUtf8 t → AreDecos ds → Calm (joined (sign_row column 45 items blank) (s.style.indent - 1) rs) ds r
-      → Rest t q (inline_then (joined (sign_row column 45 items blank) (s.style.indent - 1) rs) ds r)
-      → EntryMade s true column (tall x) (λ t m ps. FoundItem t s column x m ps) t (joined (sign_row column 45 items blank) (s.style.indent - 1) rs) ds q r
+    → EntryMakes s true column (tall x) (λ t m ps. FoundItem t s column x m ps) (joined (sign_row column 45 items items blank) (s.style.indent - 1) rs)
+item_makes {s} {x} {spot} {rs} column items blank wide e stood k = record { starts = sign_begins column 45 items items blank (s.style.indent - 1) k; made = made } where
+  made : {t : List ℕ} (ds : List Deco) (r : List ℕ) (q : ℕ) → IsUtf8 t → AreDecos ds → Calm (joined (sign_row column 45 items items blank) (s.style.indent - 1) rs) ds r
+      → Rest t q (inline_then (joined (sign_row column 45 items items blank) (s.style.indent - 1) rs) ds r)
+      → EntryMade s true column (tall x) (λ t m ps. FoundItem t s column x m ps) t (joined (sign_row column 45 items items blank) (s.style.indent - 1) rs) ds q r
   made {t} ds r q u a calm w =
-      let one = sign_made column 45 items blank BlockIn ds r q (omega arith) (omega arith) wide k (ap (λ z. z.column) e) (ap (λ z. z.entries) e) u stood a calm w in
+      let one = sign_made column 45 items items blank BlockIn ds r q (omega arith) (omega arith) dash_sign wide k (ap (λ z. z.column) e) (ap (λ z. z.entries) e) u stood a calm w in
       record {
         height = one.height;
         place = one.place;
@@ -206,39 +207,39 @@ item_makes {s} {x} {spot} {rs} column items blank wide e stood k = record { star
         start = one.start;
         found_rows = one.found_rows;
         meant = found_item q (subst (λ z. FoundNode t s z x one.meaning one.inner) e one.meant) one.signed;
-        placed = subst (λ z. RowsIn t (joined (sign_row column 45 items blank) (s.style.indent - 1) rs) one.found_rows ds q z one.place r) (sym (comments_entering q None one.meaning)) one.placed;
+        placed = subst (λ z. RowsIn t (joined (sign_row column 45 items items blank) (s.style.indent - 1) rs) one.found_rows ds q z one.place r) (sym (comments_entering q None one.meaning)) one.placed;
         is = texts_entering q None one.meaning ∙ one.is;
         laid = laid_entering q None one.meaning one.laid;
         set = set_item_entered column q one.meaning one.set;
-        held = held_entering q None one.meaning (joined (sign_row column 45 items blank) (s.style.indent - 1) rs) ds r one.held;
+        held = held_entering q None one.meaning (joined (sign_row column 45 items items blank) (s.style.indent - 1) rs) ds r one.held;
       }
 
 -- A pair after its `?`, with the value after a `:` on a line of its own.
 pub explicit_makes : {s : LayoutSetting} {k v : Node} {at to : Spot} {rs ls : List Row} (column : ℕ) (items : List ℕ) (blank : Bool) (places : List ℕ) → is_implicit s.style column k ≡ false → 2 ≤ s.style.indent
     → at ≡ key_spot s.style column k → to ≡ inner_spot s.style column → Stood s k (pos column) BlockOut at → Stood s v (pos column) BlockOut to → Claim s k at rs → Claim s v to ls
     → EntryMakes s false column (max (tall k) (tall v)) (λ t m ps. FoundPair t s column k v m ps)
-    (joined (sign_row column 63 items blank) (s.style.indent - 1) rs ++ joined (sign_row column 58 places false) (s.style.indent - 1) ls)
+    (joined (sign_row column 63 items items blank) (s.style.indent - 1) rs ++ joined (sign_row column 58 items places false) (s.style.indent - 1) ls)
 explicit_makes {s} {k} {v} {at} {to} {rs} {ls} column items blank places marked wide e f stood is_there a b = record {
-  starts = append_begins values (sign_begins column 63 items blank (s.style.indent - 1) a);
+  starts = append_begins values (sign_begins column 63 items items blank (s.style.indent - 1) a);
   made = made;
 } where
   keys : List Row
-  keys = joined (sign_row column 63 items blank) (s.style.indent - 1) rs
+  keys = joined (sign_row column 63 items items blank) (s.style.indent - 1) rs
 
   after_question : (key_spot s.style column k).column ≡ column + s.style.indent
   after_question = ap (λ z. if z then column else column + s.style.indent) marked
 
   values : List Row
-  values = joined (sign_row column 58 places false) (s.style.indent - 1) ls
+  values = joined (sign_row column 58 items places false) (s.style.indent - 1) ls
 
   made : {t : List ℕ} (ds : List Deco) (r : List ℕ) (q : ℕ) → IsUtf8 t → AreDecos ds → Calm (keys ++ values) ds r → Rest t q (inline_then (keys ++ values) ds r)
       → EntryMade s false column (max (tall k) (tall v)) (λ t m ps. FoundPair t s column k v m ps) t (keys ++ values) ds q r
   made {t} ds r q u ok calm w =
       let ks = calm_append keys values ds r calm in
-      let one = sign_made column 63 items blank BlockOut ds (lines_then values (past keys ds) r) q (omega arith) (omega arith) wide a (ap (λ z. z.column) e ∙ after_question) (ap (λ z. z.entries) e) u stood ok ks.0
-      (subst (λ z. Rest t q z) (inline_more values ds r (sign_begins column 63 items blank (s.style.indent - 1) a)) w) in
-      let there = rest_spaces column one.place u (subst (λ z. Rest t one.place z) (lines_begin (past keys ds) r (sign_begins column 58 places false (s.style.indent - 1) b)) one.rest) in
-      let two = sign_made column 58 places false BlockOut (past keys ds) r (one.place + column) (omega arith) (omega arith) wide b (ap (λ z. z.column) f) (ap (λ z. z.entries) f) u is_there (past_decos keys ok) ks.1 there.1 in
+      let one = sign_made column 63 items items blank BlockOut ds (lines_then values (past keys ds) r) q (omega arith) (omega arith) question_sign wide a (ap (λ z. z.column) e ∙ after_question) (ap (λ z. z.entries) e) u stood ok ks.0
+      (subst (λ z. Rest t q z) (inline_more values ds r (sign_begins column 63 items items blank (s.style.indent - 1) a)) w) in
+      let there = rest_spaces column one.place u (subst (λ z. Rest t one.place z) (lines_begin (past keys ds) r (sign_begins column 58 items places false (s.style.indent - 1) b)) one.rest) in
+      let two = sign_made column 58 items places false BlockOut (past keys ds) r (one.place + column) (omega arith) (omega arith) colon_sign wide b (ap (λ z. z.column) f) (ap (λ z. z.entries) f) u is_there (past_decos keys ok) ks.1 there.1 in
       let colon : ColonLine t column one.place = record { indent = there.0; colon = two.is_there; follows = ends_white t (one.place + column + 1) two.follows } in
       let low : one.height ≤ tall k = one.low in
       let high : two.height ≤ tall v = two.low in
@@ -254,13 +255,13 @@ explicit_makes {s} {k} {v} {at} {to} {rs} {ls} column items blank places marked 
         meant = found_explicit q (one.place + column) marked (subst (λ z. FoundNode t s z k one.meaning one.inner) e one.meant) one.signed (subst (λ z. FoundNode t s z v two.meaning two.inner) f two.meant) two.signed;
         placed = subst (λ z. RowsIn t (keys ++ values) (one.found_rows ++ two.found_rows) ds q z two.place r)
             (sym (comments_both (entering q (Some (one.place + column)) one.meaning) two.meaning ∙ ap (λ z. z ++ two.meaning.comments) (comments_entering q (Some (one.place + column)) one.meaning)))
-            (rows_in_more (sign_begins column 58 places false (s.style.indent - 1) b) one.placed two.placed);
+            (rows_in_more (sign_begins column 58 items places false (s.style.indent - 1) b) one.placed two.placed);
         is = texts_both (entering q (Some (one.place + column)) one.meaning) two.meaning
             ∙ (ap (λ z. z ++ texts two.meaning.comments) (texts_entering q (Some (one.place + column)) one.meaning ∙ one.is)
             ∙ (ap (λ z. comments_in keys ds ++ z) two.is ∙ sym (comments_append keys values ds)));
         laid = subst (λ z. MeaningLaid q two.place (entering q (Some (one.place + column)) one.meaning ⊕ two.meaning) z) (sym (steps_append keys values ds))
             (laid_both (entering q (Some (one.place + column)) one.meaning) two.meaning (laid_entering q (Some (one.place + column)) one.meaning one.laid) two.laid (omega arith));
-        set = set_explicit column q (one.place + column) (one.place + column) one.meaning two.meaning (meant_of one.meant) marked one.is_there (ends_white t (q + 1) one.follows) one.set (column_start one.start there.0) two.set;
+        set = set_explicit column q (one.place + column) (one.place + column) one.meaning two.meaning (meant_of one.meant) marked one.is_there (ends_white t (q + 1) one.follows) one.set (column_start u one.start there.0) two.set;
         held = held_both (entering q (Some (one.place + column)) one.meaning) two.meaning keys values ds r
             (held_entering q (Some (one.place + column)) one.meaning keys ds (lines_then values (past keys ds) r) one.held) two.held;
       }

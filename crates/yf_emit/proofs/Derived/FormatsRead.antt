@@ -49,6 +49,7 @@ use Rattle.yf_emit.proofs.Derived.StreamsLaid.{StreamLaid}
 use Rattle.yf_emit.proofs.Writable.TreesRead.{document_read, reading_fits, same_node, reading_bare}
 use Rattle.yf_emit.specs.Layouts.BareStart.{is_bare}
 use Rattle.yf_emit.proofs.Derived.BareReadings.{bare_begins, normal_begins, reading_begins}
+use Rattle.yf_emit.specs.Layouts.KeptColumns.{columns_of}
 
 -- Heights: styles and brackets change none.
 
@@ -196,24 +197,24 @@ same_in_documents {t} {u} {s} {es} utf8 f meant =
 -- what is derived of it has its leaves and comments in the order in which they were laid out
 pub record FormattedLaid {t : List ℕ} {s : Style} {u : List ℕ} (f : IsFormatting t s u) : Type 0 where
   pub well : WellFormed f
-  pub laid : DocumentsLaid 0 (length u) well.documents (steps_of f.normal (rows_of f.normal s f.writes.trees))
+  pub laid : DocumentsLaid 0 (length u) well.documents (steps_of (columns_of t s (rows_of f.normal s f.writes.trees)) f.normal (rows_of f.normal s f.writes.trees))
   pub begun : Stand 0 (map (λ (d : Document). d.start) well.documents.documents) well.documents.comments
-      (comment_steps (remarks_of (first_gap f.normal (rows_of f.normal s f.writes.trees)))
-      ++ steps_with documents_begin (rows_of f.normal s f.writes.trees) (row_decos f.normal (rows_of f.normal s f.writes.trees))) (length u)
-  pub held : EventsHeld u (all_events well.documents.documents) well.documents.comments (rows_of f.normal s f.writes.trees) (row_decos f.normal (rows_of f.normal s f.writes.trees)) []
+      (comment_steps (remarks_of (first_gap (columns_of t s (rows_of f.normal s f.writes.trees)) f.normal (rows_of f.normal s f.writes.trees)))
+      ++ steps_with documents_begin (rows_of f.normal s f.writes.trees) (row_decos (columns_of t s (rows_of f.normal s f.writes.trees)) f.normal (rows_of f.normal s f.writes.trees))) (length u)
+  pub held : EventsHeld u (all_events well.documents.documents) well.documents.comments (rows_of f.normal s f.writes.trees) (row_decos (columns_of t s (rows_of f.normal s f.writes.trees)) f.normal (rows_of f.normal s f.writes.trees)) []
   pub set : SetAll u s well.documents.documents
   pub line : ℕ
   pub starts : LineStart u line
   pub firsts : List CommentValue
   pub others : List CommentValue
-  pub told : texts firsts ≡ remarks_of (first_gap f.normal (rows_of f.normal s f.writes.trees))
+  pub told : texts firsts ≡ remarks_of (first_gap (columns_of t s (rows_of f.normal s f.writes.trees)) f.normal (rows_of f.normal s f.writes.trees))
   pub lines : Chain (CommentLine u) 0 line firsts
-  pub begin : Rest u line (lines_then (rows_of f.normal s f.writes.trees) (row_decos f.normal (rows_of f.normal s f.writes.trees)) [])
+  pub begin : Rest u line (lines_then (rows_of f.normal s f.writes.trees) (row_decos (columns_of t s (rows_of f.normal s f.writes.trees)) f.normal (rows_of f.normal s f.writes.trees)) [])
   pub ascend : Ascend u 0 firsts line
   pub are : well.documents.comments ≡ firsts ++ others
   pub found_rows : List PlacedRow
   pub found : AllFound u (setting_of f.normal s) (is_bare f.normal s) f.writes.trees well.documents.documents found_rows
-  pub placed : StreamIn u (rows_of f.normal s f.writes.trees) found_rows (row_decos f.normal (rows_of f.normal s f.writes.trees)) line others
+  pub placed : StreamIn u (rows_of f.normal s f.writes.trees) found_rows (row_decos (columns_of t s (rows_of f.normal s f.writes.trees)) f.normal (rows_of f.normal s f.writes.trees)) line others
 
 pub formats_laid : (t u : List ℕ) (s : Style) → IsUtf8 t → (f : IsFormatting t s u) → FormattedLaid f
 formats_laid t u s utf8 f =
@@ -224,10 +225,10 @@ formats_laid t u s utf8 f =
     let trees : List DocumentTree = f.writes.trees in
     let fit = formats_fit utf8 f in
     let remarks : AreRemarks m.comments = subst (λ cs. AreRemarks cs) (sym n.comments) (reading_remarks utf8 f.reads) in
-    let text : IsUtf8 u = subst (λ w. IsUtf8 w) (sym f.writes.is) (layouts_are_texts m s trees fit remarks trails) in
-    let laid : StreamLaid u (setting_of m s) (is_bare m s) m.documents trees (first_gap m (rows_of m s trees)) (rows_of m s trees) (row_decos m (rows_of m s trees)) =
-    subst (λ w. StreamLaid w (setting_of m s) (is_bare m s) m.documents trees (first_gap m (rows_of m s trees)) (rows_of m s trees) (row_decos m (rows_of m s trees))) (sym f.writes.is) (layouts_are_laid m s trees fit (formats_bare utf8 f) remarks trails) in
-    let made : StreamMade u (is_bare m s) m.documents trees (printed_comments m s trees) = laid.made in
+    let text : IsUtf8 u = subst (λ w. IsUtf8 w) (sym f.writes.is) (layouts_are_texts t m s trees fit remarks trails) in
+    let laid : StreamLaid u (setting_of m s) (is_bare m s) m.documents trees (first_gap (columns_of t s (rows_of m s trees)) m (rows_of m s trees)) (rows_of m s trees) (row_decos (columns_of t s (rows_of m s trees)) m (rows_of m s trees)) =
+    subst (λ w. StreamLaid w (setting_of m s) (is_bare m s) m.documents trees (first_gap (columns_of t s (rows_of m s trees)) m (rows_of m s trees)) (rows_of m s trees) (row_decos (columns_of t s (rows_of m s trees)) m (rows_of m s trees))) (sym f.writes.is) (layouts_are_laid t m s trees fit (formats_bare utf8 f) remarks trails) in
+    let made : StreamMade u (is_bare m s) m.documents trees (printed_comments t m s trees) = laid.made in
     let shapes = f.reads.reads.shapes in
     let derived = stream_derived shapes.derived in
     let meant = reading_meant utf8 f.reads n.of_reading in

@@ -8,6 +8,7 @@ use Rattle.yf_emit.specs.Layouts.RowComments.{AreDecos, nothing_carried, one_car
 use Rattle.yf_emit.specs.Layouts.Decorated.{GapLine, blank, remark, blank_if, remarks_after, ending_after, gap_of, decos_of, first_gap, row_decos}
 use Rattle.yf_emit.specs.Layouts.Layout.{Source, Remark, trimmed, trailing, own_line_comments, precedes_item, is_among, may_be_blank_after, source_of}
 use Rattle.yf_emit.specs.Layouts.Rows.{Row, Ending, anywhere, at_text_start}
+use Rattle.yf_emit.specs.Layouts.KeptColumns.{Columns}
 
 gap_append_fits : (xs ys : List GapLine) → AreGapLines xs → AreGapLines ys → AreGapLines (xs ++ ys)
 gap_append_fits [] ys a b = b
@@ -25,39 +26,39 @@ filter_fits p (one_remark {c = c} {cs = cs} a more) = chosen (p c) (filter_fits 
   chosen true rest = one_remark a rest
   chosen false rest = rest
 
-remarks_fit : (before : Ending) (column : ℕ) {cs : List CommentValue} → AreRemarks cs → AreGapLines (remarks_after before column cs)
-remarks_fit before column no_remark = tt
-remarks_fit before column (one_remark {c = c} {cs = cs} a more) =
-    gap_append_fits (blank_if (may_be_blank_after before && c.blank_before)) (remark column (trimmed c.text) ∷ remarks_after anywhere column cs) (blank_fits (may_be_blank_after before && c.blank_before))
-    (a, remarks_fit anywhere column more)
+remarks_fit : (g : Columns) (before : Ending) (column : ℕ) {cs : List CommentValue} → AreRemarks cs → AreGapLines (remarks_after g before column cs)
+remarks_fit g before column no_remark = tt
+remarks_fit g before column (one_remark {c = c} {cs = cs} a more) =
+    gap_append_fits (blank_if (may_be_blank_after before && c.blank_before)) (remark (g c column) (trimmed c.text) ∷ remarks_after g anywhere column cs) (blank_fits (may_be_blank_after before && c.blank_before))
+    (a, remarks_fit g anywhere column more)
 
-pub gap_fits : (before : Ending) {cs : List CommentValue} (rows : List Row) → AreRemarks cs → AreGapLines (gap_of before cs rows)
-gap_fits before [] a = remarks_fit before 0 a
-gap_fits before {cs} (row ∷ rows) a =
-    gap_append_fits (remarks_after before row.column (filter (precedes_item row) cs))
+pub gap_fits : (g : Columns) (before : Ending) {cs : List CommentValue} (rows : List Row) → AreRemarks cs → AreGapLines (gap_of g before cs rows)
+gap_fits g before [] a = remarks_fit g before 0 a
+gap_fits g before {cs} (row ∷ rows) a =
+    gap_append_fits (remarks_after g before row.column (filter (precedes_item row) cs))
     (blank_if (may_be_blank_after (ending_after before (filter (precedes_item row) cs)) && row.blank_before))
-    (remarks_fit before row.column (filter_fits (precedes_item row) a)) (blank_fits (may_be_blank_after (ending_after before (filter (precedes_item row) cs)) && row.blank_before))
+    (remarks_fit g before row.column (filter_fits (precedes_item row) a)) (blank_fits (may_be_blank_after (ending_after before (filter (precedes_item row) cs)) && row.blank_before))
 
-pub decos_fit : (c : Source) (rows : List Row) {cs : List CommentValue} → TrailsFit c rows → AreRemarks cs → AreDecos (decos_of c cs rows)
-decos_fit c [] t a = nothing_carried
-decos_fit c (row ∷ rows) t a =
+pub decos_fit : (g : Columns) (c : Source) (rows : List Row) {cs : List CommentValue} → TrailsFit c rows → AreRemarks cs → AreDecos (decos_of g c cs rows)
+decos_fit g c [] t a = nothing_carried
+decos_fit g c (row ∷ rows) t a =
     let left = filter_fits (λ d. not (precedes_item row d)) a in
-    one_carried (record { trails = t.0; gap = gap_fits row.ending rows left }) (decos_fit c rows t.1 left)
+    one_carried (record { trails = t.0; gap = gap_fits g row.ending rows left }) (decos_fit g c rows t.1 left)
 
 own_lines_fit : (c : Source) (rows : List Row) → AreRemarks (map (λ (r : Remark). r.0) c.remarks) → AreRemarks (own_line_comments c rows)
 own_lines_fit c rows a = filter_fits (λ d. not (is_among (flat_map (trailing c) rows) d)) a
 
 -- of a normal reading with these rows
-first_gap_fits : (m : Lists) (rows : List Row) → AreRemarks (map (λ (r : Remark). r.0) (source_of m rows).remarks) → AreGapLines (first_gap m rows)
-first_gap_fits m rows a = gap_fits at_text_start rows (own_lines_fit (source_of m rows) rows a)
+first_gap_fits : (g : Columns) (m : Lists) (rows : List Row) → AreRemarks (map (λ (r : Remark). r.0) (source_of m rows).remarks) → AreGapLines (first_gap g m rows)
+first_gap_fits g m rows a = gap_fits g at_text_start rows (own_lines_fit (source_of m rows) rows a)
 
-row_decos_fit : (m : Lists) (rows : List Row) → TrailsFit (source_of m rows) rows → AreRemarks (map (λ (r : Remark). r.0) (source_of m rows).remarks) → AreDecos (row_decos m rows)
-row_decos_fit m rows t a = decos_fit (source_of m rows) rows t (own_lines_fit (source_of m rows) rows a)
+row_decos_fit : (g : Columns) (m : Lists) (rows : List Row) → TrailsFit (source_of m rows) rows → AreRemarks (map (λ (r : Remark). r.0) (source_of m rows).remarks) → AreDecos (row_decos g m rows)
+row_decos_fit g m rows t a = decos_fit g (source_of m rows) rows t (own_lines_fit (source_of m rows) rows a)
 
 zip_fits : {cs : List CommentValue} (bs : List Bool) → AreRemarks cs → AreRemarks (map (λ (r : Remark). r.0) (zip cs bs))
 zip_fits bs no_remark = no_remark
 zip_fits [] (one_remark a more) = no_remark
 zip_fits (b ∷ bs) (one_remark a more) = one_remark a (zip_fits bs more)
 
-pub all_fit : (m : Lists) (rows : List Row) → TrailsFit (source_of m rows) rows → AreRemarks m.comments → AreGapLines (first_gap m rows) × AreDecos (row_decos m rows)
-all_fit m rows t a = let each = zip_fits m.on_leaf_line a in (first_gap_fits m rows each, row_decos_fit m rows t each)
+pub all_fit : (g : Columns) (m : Lists) (rows : List Row) → TrailsFit (source_of m rows) rows → AreRemarks m.comments → AreGapLines (first_gap g m rows) × AreDecos (row_decos g m rows)
+all_fit g m rows t a = let each = zip_fits m.on_leaf_line a in (first_gap_fits g m rows each, row_decos_fit g m rows t each)

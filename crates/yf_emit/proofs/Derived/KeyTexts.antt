@@ -20,8 +20,8 @@ use Rattle.yf_emit.specs.NormalForms.Normal.{LayoutSetting, Spot, key_comment, v
 use Rattle.yf_emit.specs.Nodes.OneLine.{width, written, colon_after}
 use Rattle.yf_emit.proofs.Columns.LinePlaces.{OnLine, on_more, on_same}
 use Rattle.yf_emit.proofs.Texts.LineUtf8.{space_chars, written_utf8}
-
 use Rattle.yf_lines.proofs.VisibleLines.{visible_line, visible_at}
+
 -- the `:` after a key, and what is after it
 pub record KeyMade (t : List ℕ) (h : ℕ) (mean : Meaning) (q : ℕ) (z written_text : List ℕ) : Type 0 where
   pub json : Bool

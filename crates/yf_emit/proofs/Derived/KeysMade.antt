@@ -25,7 +25,7 @@ use Rattle.yf_emit.specs.Layouts.Decorated.{Deco, first, after, end_then, lines_
 use Rattle.yf_emit.specs.Layouts.ReadableTrees.{KeyNode}
 use Rattle.yf_emit.specs.NormalForms.Normal.{LayoutSetting, Spot, is_implicit, key_comment, value_entries, value_of_implicit}
 use Rattle.yf_emit.specs.Nodes.OneLine.{width, written, colon_after}
-use Rattle.yf_emit.specs.Layouts.Rows.{Row, Ending, anywhere, before_node, after_key, begins_below, joined}
+use Rattle.yf_emit.specs.Layouts.Rows.{Row, Ending, anywhere, before_node, after_key, begins_below, joined, start_of}
 use Rattle.yf_events.specs.declared.event.Span.{Span}
 use Rattle.yf_emit.proofs.Derived.LayoutSteps.{Step, leaf_steps, comment_steps, steps_in}
 use Rattle.yf_emit.proofs.Derived.CollectionsMade.{comments_after}
@@ -46,12 +46,12 @@ use Rattle.yf_emit.proofs.OutputLines.SeenTexts.{ascii_ns}
 use Rattle.yf_emit.proofs.Columns.SetMeant.{column_start, SetDone, set_done, done_after, done_empty, set_implicit}
 use Rattle.yf_emit.proofs.Columns.SetNodes.{ColumnAt}
 use Rattle.yf_emit.proofs.Derived.StepsInText.{starts_of, MeaningLaid, laid_after, laid_both, laid_next, laid_empty, laid_entering}
-
 use Rattle.yf_lines.proofs.VisibleLines.{visible_at}
+
 -- the row of a key with its `:`, as it is before its value is known
-abbrev pub key_head : ℕ → List ℕ → List ℕ → List Span → Bool → Row
-key_head column text items leaves blank =
-    record { column = column; text = text; items = items; leaves = leaves; key_comment = None; blank_before = blank; begins = false; ending = anywhere; body = []; lines = 0 }
+abbrev pub key_head : ℕ → List ℕ → List ℕ → List ℕ → List Span → Bool → Row
+key_head column text offsets items leaves blank =
+    record { column = column; text = text; starts = start_of column false offsets ∷ []; items = items; leaves = leaves; key_comment = None; blank_before = blank; begins = false; ending = anywhere; body = []; lines = 0 }
 
 -- what is after the `:`
 abbrev after_then : Option CommentValue → Bool → List Row → List Deco → List ℕ → List ℕ
@@ -60,19 +60,19 @@ after_then None true rs ds r = end_then (first ds) [] (lines_then rs (after ds) 
 after_then None false [] ds r = end_then (first ds) [] r
 after_then None false (x ∷ xs) ds r = 32 ∷ inline_then (x ∷ xs) ds r
 
-after_inline : (column : ℕ) (text items : List ℕ) (leaves : List Span) (blank : Bool) (o : Option CommentValue) (below : Bool) (rs : List Row) (ds : List Deco) (r : List ℕ)
-    → inline_then (after_key (key_head column text items leaves blank) o below rs) ds r ≡ text ++ after_then o below rs ds r
-after_inline column text items leaves blank (Some c) below rs ds r = refl
-after_inline column text items leaves blank None true rs ds r = refl
-after_inline column text items leaves blank None false [] ds r = refl
-after_inline column text items leaves blank None false (x ∷ xs) ds r = append_assoc text (32 ∷ x.text) (end_then (first ds) x.body (lines_then xs (after ds) r))
+after_inline : (column : ℕ) (text offsets items : List ℕ) (leaves : List Span) (blank : Bool) (o : Option CommentValue) (below : Bool) (rs : List Row) (ds : List Deco) (r : List ℕ)
+    → inline_then (after_key (key_head column text offsets items leaves blank) o below rs) ds r ≡ text ++ after_then o below rs ds r
+after_inline column text offsets items leaves blank (Some c) below rs ds r = refl
+after_inline column text offsets items leaves blank None true rs ds r = refl
+after_inline column text offsets items leaves blank None false [] ds r = refl
+after_inline column text offsets items leaves blank None false (x ∷ xs) ds r = append_assoc text (32 ∷ x.text) (end_then (first ds) x.body (lines_then xs (after ds) r))
 
-after_begins : (column : ℕ) (text items : List ℕ) (leaves : List Span) (blank : Bool) (o : Option CommentValue) (below : Bool) (rs : List Row)
-    → Begins column (after_key (key_head column text items leaves blank) o below rs)
-after_begins column text items leaves blank (Some c) below rs = begins refl
-after_begins column text items leaves blank None true rs = begins refl
-after_begins column text items leaves blank None false [] = begins refl
-after_begins column text items leaves blank None false (x ∷ xs) = begins refl
+after_begins : (column : ℕ) (text offsets items : List ℕ) (leaves : List Span) (blank : Bool) (o : Option CommentValue) (below : Bool) (rs : List Row)
+    → Begins column (after_key (key_head column text offsets items leaves blank) o below rs)
+after_begins column text offsets items leaves blank (Some c) below rs = begins refl
+after_begins column text offsets items leaves blank None true rs = begins refl
+after_begins column text offsets items leaves blank None false [] = begins refl
+after_begins column text offsets items leaves blank None false (x ∷ xs) = begins refl
 
 -- the steps of what is after the `:`
 abbrev steps_after : Option CommentValue → Bool → List Row → List Deco → List Step
@@ -81,12 +81,12 @@ steps_after None true rs ds = comment_steps (carried_texts (first ds)) ++ steps_
 steps_after None false [] ds = comment_steps (carried_texts (first ds)) ++ []
 steps_after None false (x ∷ xs) ds = steps_in (x ∷ xs) ds
 
-after_steps : (column : ℕ) (text items : List ℕ) (leaves : List Span) (blank : Bool) (o : Option CommentValue) (below : Bool) (rs : List Row) (ds : List Deco)
-    → steps_in (after_key (key_head column text items leaves blank) o below rs) ds ≡ leaf_steps leaves ++ steps_after o below rs ds
-after_steps column text items leaves blank (Some c) below rs ds = refl
-after_steps column text items leaves blank None true rs ds = refl
-after_steps column text items leaves blank None false [] ds = refl
-after_steps column text items leaves blank None false (x ∷ xs) ds = leaves_apart leaves x.leaves (comment_steps (carried_texts (first ds)) ++ steps_in xs (after ds))
+after_steps : (column : ℕ) (text offsets items : List ℕ) (leaves : List Span) (blank : Bool) (o : Option CommentValue) (below : Bool) (rs : List Row) (ds : List Deco)
+    → steps_in (after_key (key_head column text offsets items leaves blank) o below rs) ds ≡ leaf_steps leaves ++ steps_after o below rs ds
+after_steps column text offsets items leaves blank (Some c) below rs ds = refl
+after_steps column text offsets items leaves blank None true rs ds = refl
+after_steps column text offsets items leaves blank None false [] ds = refl
+after_steps column text offsets items leaves blank None false (x ∷ xs) ds = leaves_apart leaves x.leaves (comment_steps (carried_texts (first ds)) ++ steps_in xs (after ds))
 
 -- the `:` at i and the value after it
 record ValueMade (t : List ℕ) (s : LayoutSetting) (spot : Spot) (column : ℕ) (v : Node) (rs : List Row) (ds : List Deco) (q : ℕ) (items : List ℕ) (leaves : List Span) (b below : Bool) (i : ℕ) (r : List ℕ) (steps : List Step) : Type 0 where
@@ -224,7 +224,7 @@ value_below {t} {s} {v} {spot} {q = q} {a = h} {items = items} {ls = ls} {b = b}
           (row_before (head_is_at head) (record { ascend = end_ascends end.end; is = end.is; start = end.start; tail = after_line bare end.end head.leaves_to }) end.rest node.placed);
       is = texts_after end.comments node.meaning ∙ (ap (λ z. z ++ texts node.meaning.comments) end.is ∙ ap (λ z. carried_texts (first ds) ++ z) node.is);
       laid = laid_after (omega arith) (laid_next end.comments node.meaning (end_ascends end.end) end.is (omega arith) node.laid);
-      set = done_after end.comments node.meaning (set_done (λ b. subst (λ z. ColumnAt t z (end.place + y.column)) (g b) (column_start end.start there.0)) node.set);
+      set = done_after end.comments node.meaning (set_done (λ b. subst (λ z. ColumnAt t z (end.place + y.column)) (g b) (column_start u end.start there.0)) node.set);
       held = held_next end.comments node.meaning row (y ∷ ys) ds r bare (row_ended (first ds) (lines_then (y ∷ ys) (after ds) r) u (colon_seen i u colon) (first_deco a) w end.end) node.held;
     }
   where
@@ -249,27 +249,27 @@ record AnyHead (column : ℕ) (text items : List ℕ) (leaves : List Span) (blan
   leaves_stand : Inside q (i + 1) (starts_of ls)
   leaves_to : LeavesTo (i + 1) ls
 
-head_of : {column q i a : ℕ} {text items found : List ℕ} {leaves ls : List Span} {blank : Bool} {ending : Ending} (o : Option CommentValue) → AnyHead column text items leaves blank q i a found ls
-    → Head column (record (key_head column text items leaves blank) { key_comment = o; ending = ending }) q i a found ls (is_some o)
+head_of : {column q i a : ℕ} {text offsets items found : List ℕ} {leaves ls : List Span} {blank : Bool} {ending : Ending} (o : Option CommentValue) → AnyHead column text items leaves blank q i a found ls
+    → Head column (record (key_head column text offsets items leaves blank) { key_comment = o; ending = ending }) q i a found ls (is_some o)
 head_of o h = record { is_there = refl; width = h.width; items_stand = h.items_stand; leaves_stand = h.leaves_stand; leaves_to = h.leaves_to; commented = refl }
 
-value_made : {t : List ℕ} {s : LayoutSetting} {v : Node} {spot : Spot} {rs : List Row} {q a : ℕ} {found : List ℕ} {ls : List Span} (column : ℕ) (text items : List ℕ) (leaves : List Span) (blank : Bool) (o : Option CommentValue) (below : Bool)
+value_made : {t : List ℕ} {s : LayoutSetting} {v : Node} {spot : Spot} {rs : List Row} {q a : ℕ} {found : List ℕ} {ls : List Span} (column : ℕ) (text offsets items : List ℕ) (leaves : List Span) (blank : Bool) (o : Option CommentValue) (below : Bool)
     (ds : List Deco) (r : List ℕ) (i wide : ℕ) → AnyHead column text items leaves blank q i a found ls → (OnLine t column q → OnLine t (column + wide) (i + 1))
     → (is_some o ≡ false → spot.column ≡ column + wide + 1) → Claim s v spot rs → below ≡ begins_below v → (is_some o ≡ true → begins_below v ≡ false → column + 1 ≤ spot.column)
-    → code t i ≡ 58 → IsUtf8 t → Stood s v (pos column) BlockOut spot → AreDecos ds → Calm (after_key (key_head column text items leaves blank) o below rs) ds r
+    → code t i ≡ 58 → IsUtf8 t → Stood s v (pos column) BlockOut spot → AreDecos ds → Calm (after_key (key_head column text offsets items leaves blank) o below rs) ds r
     → Rest t (i + 1) (after_then o below rs ds r)
-    → ValueMade t s spot column v (after_key (key_head column text items leaves blank) o below rs) ds q (a ∷ found) ls (is_some o) below i r (steps_after o below rs ds)
-value_made {q = q} {a = a} {found = found} {ls = ls} column text items leaves blank (Some c) below ds r i wide head over right v e deep colon u stood k calm w =
-    value_below column (record (key_head column text items leaves blank) { key_comment = Some c; ending = before_node }) ds r refl (head_of (Some c) head) (λ ps h x y z. key_commented x y z) v (deep refl) colon u stood k calm.1 w
-value_made {v = v} {spot = spot} column text items leaves blank None true ds r i wide head over right k e deep colon u stood a calm w =
-    value_below column (record (key_head column text items leaves blank) { key_comment = None; ending = before_node }) ds r refl (head_of None head) (λ ps h x y z. key_above x y z) k (λ f. absurd (true≢false (e ∙ f))) colon u stood a calm.1 w
-value_made {s = s} {spot = spot} column text items leaves blank None false ds r i wide head over right (no_row m) e deep colon u stood a calm w =
-    value_missing s spot column (key_head column text items leaves blank) ds r refl (head_of {ending = anywhere} None head) (λ h x y z. key_alone x y z) m colon u a w
-value_made {t} {s} {v} {spot} {q = q} {a = h} {found = found} {ls = ls} column text items leaves blank None false ds r i wide head over right (some_rows {r = y} {rs = ys} f g m) e deep colon u stood a calm w =
+    → ValueMade t s spot column v (after_key (key_head column text offsets items leaves blank) o below rs) ds q (a ∷ found) ls (is_some o) below i r (steps_after o below rs ds)
+value_made {q = q} {a = a} {found = found} {ls = ls} column text offsets items leaves blank (Some c) below ds r i wide head over right v e deep colon u stood k calm w =
+    value_below column (record (key_head column text offsets items leaves blank) { key_comment = Some c; ending = before_node }) ds r refl (head_of (Some c) head) (λ ps h x y z. key_commented x y z) v (deep refl) colon u stood k calm.1 w
+value_made {v = v} {spot = spot} column text offsets items leaves blank None true ds r i wide head over right k e deep colon u stood a calm w =
+    value_below column (record (key_head column text offsets items leaves blank) { key_comment = None; ending = before_node }) ds r refl (head_of None head) (λ ps h x y z. key_above x y z) k (λ f. absurd (true≢false (e ∙ f))) colon u stood a calm.1 w
+value_made {s = s} {spot = spot} column text offsets items leaves blank None false ds r i wide head over right (no_row m) e deep colon u stood a calm w =
+    value_missing s spot column (key_head column text offsets items leaves blank) ds r refl (head_of {ending = anywhere} None head) (λ h x y z. key_alone x y z) m colon u a w
+value_made {t} {s} {v} {spot} {q = q} {a = h} {found = found} {ls = ls} column text offsets items leaves blank None false ds r i wide head over right (some_rows {r = y} {rs = ys} f g m) e deep colon u stood a calm w =
     let space = visible_at 32 u (omega arith) (omega arith) w in
     let node = m.made (pos column) BlockOut ds r (i + 1 + 1) u stood a calm space.1 in
     let is_there : y.column ≡ column + wide + 1 = f (sym e) ∙ right refl in
-    let joint = keyed_after column (key_head column text items leaves blank) q i h found ls (head_of {ending = anywhere} None head) refl
+    let joint = keyed_after column (key_head column text offsets items leaves blank) q i h found ls (head_of {ending = anywhere} None head) refl
     (λ z. on_same (sym is_there) refl (on_sign 32 (inline_then (y ∷ ys) ds r) u (omega arith) (omega arith) (over z) w)) node.placed in
     record {
       height = node.height;
@@ -288,23 +288,23 @@ value_made {t} {s} {v} {spot} {q = q} {a = h} {found = found} {ls = ls} column t
       is = node.is;
       laid = laid_after (omega arith) node.laid;
       set = set_done (λ b. absurd (true≢false (sym b ∙ sym e))) node.set;
-      held = held_joined (key_head column text items leaves blank) 1 y ys ds r node.held;
+      held = held_joined (key_head column text offsets items leaves blank) 1 y ys ds r node.held;
     }
 
 -- A pair with an implicit key.
 
-module _ {s : LayoutSetting} {k v : Node} {spot : Spot} {rs : List Row} (column : ℕ) (items : List ℕ) (leaves : List Span) (blank : Bool) (o : Option CommentValue) (below : Bool)
+module _ {s : LayoutSetting} {k v : Node} {spot : Spot} {rs : List Row} (column : ℕ) (offsets items : List ℕ) (leaves : List Span) (blank : Bool) (o : Option CommentValue) (below : Bool)
     (value : Claim s v spot rs) (same : below ≡ begins_below v) (deep : is_some o ≡ true → begins_below v ≡ false → column + 1 ≤ spot.column) (stood : Stood s v (pos column) BlockOut spot)
     (is_spot : spot ≡ value_of_implicit s column k v) (implicit : is_implicit s.style column k ≡ true) (flag : is_some o ≡ is_some (key_comment s.comments k v)) where
   pub keyed_makes : KeyNode s.style k → length leaves ≡ length (leaves_of k) → length (chars (written s.style k)) ≤ 1023
-      → EntryMakes s false column (max (tall k) (tall v)) (λ t m ps. FoundPair t s column k v m ps) (after_key (key_head column (written s.style k ++ colon_after k) items leaves blank) o below rs)
-  keyed_makes n count l = record { starts = after_begins column (written s.style k ++ colon_after k) items leaves blank o below rs; made = made } where
-    made : {t : List ℕ} (ds : List Deco) (r : List ℕ) (q : ℕ) → IsUtf8 t → AreDecos ds → Calm (after_key (key_head column (written s.style k ++ colon_after k) items leaves blank) o below rs) ds r
-        → Rest t q (inline_then (after_key (key_head column (written s.style k ++ colon_after k) items leaves blank) o below rs) ds r)
-        → EntryMade s false column (max (tall k) (tall v)) (λ t m ps. FoundPair t s column k v m ps) t (after_key (key_head column (written s.style k ++ colon_after k) items leaves blank) o below rs) ds q r
+      → EntryMakes s false column (max (tall k) (tall v)) (λ t m ps. FoundPair t s column k v m ps) (after_key (key_head column (written s.style k ++ colon_after k) offsets items leaves blank) o below rs)
+  keyed_makes n count l = record { starts = after_begins column (written s.style k ++ colon_after k) offsets items leaves blank o below rs; made = made } where
+    made : {t : List ℕ} (ds : List Deco) (r : List ℕ) (q : ℕ) → IsUtf8 t → AreDecos ds → Calm (after_key (key_head column (written s.style k ++ colon_after k) offsets items leaves blank) o below rs) ds r
+        → Rest t q (inline_then (after_key (key_head column (written s.style k ++ colon_after k) offsets items leaves blank) o below rs) ds r)
+        → EntryMade s false column (max (tall k) (tall v)) (λ t m ps. FoundPair t s column k v m ps) t (after_key (key_head column (written s.style k ++ colon_after k) offsets items leaves blank) o below rs) ds q r
     made {t} ds r q u a calm w =
         let shaped : Rest t q (written s.style k ++ (colon_after k ++ after_then o below rs ds r)) =
-        subst (λ z. Rest t q z) (after_inline column (written s.style k ++ colon_after k) items leaves blank o below rs ds r ∙ append_assoc (written s.style k) (colon_after k) (after_then o below rs ds r)) w in
+        subst (λ z. Rest t q z) (after_inline column (written s.style k ++ colon_after k) offsets items leaves blank o below rs ds r ∙ append_assoc (written s.style k) (colon_after k) (after_then o below rs ds r)) w in
         let key = key_made s.style q (after_then o below rs ds r) (colon_after k) n.node n.colon l u shaped in
         let at = places u key.derived refl in
         let found = at.node in
@@ -315,7 +315,7 @@ module _ {s : LayoutSetting} {k v : Node} {spot : Spot} {rs : List Row} (column 
         let alike = placed_node at (n.node.meant q) in
         let line = n.node.back.line in
         let derived = key_node s.style q (after_then o below rs ds r) (colon_after k) n.node n.colon u shaped in
-        let one = value_made column (written s.style k ++ colon_after k) items leaves blank o below ds r key.place (width (written s.style k) + width (colon_after k)) head
+        let one = value_made column (written s.style k ++ colon_after k) offsets items leaves blank o below ds r key.place (width (written s.style k) + width (colon_after k)) head
         (λ b. over_key key.place (written s.style k) (colon_after k) (after_then o below rs ds r) u line (colon_line n.colon) shaped key.width b) (λ e. value_right s spot column k v (is_some o) is_spot flag e) value same deep key.colon u stood a calm key.rest in
         let value_set : SetDone t s.style (value_entries s.style column v) (column + s.style.indent) one.meaning.events = subst (λ z. SetDone t s.style z (column + s.style.indent) one.meaning.events) (ap (λ z. z.entries) is_spot) one.set in
         let low : n.node.height ≤ tall k = n.node.low in
@@ -332,32 +332,32 @@ module _ {s : LayoutSetting} {k v : Node} {spot : Spot} {rs : List Row} (column 
           meant = found_implicit (n.node.mean q) q key.place found (is_some o) flag implicit alike at.events (n.node.meant q).escapes (node_upto at.is_there at.ends)
               (node_text s.style (colon_after k ++ after_then o below rs ds r) alike line shaped (λ f. bracketed found u derived at.events f)) one.head
               (subst (λ z. FoundNode t s z v one.meaning one.inner) is_spot one.meant) (subst (λ z. KeyRows t (q ∷ items_in found) (leaves_of found) (is_some o) z one.inner one.found_rows) same one.keyed);
-          placed = subst (λ z. RowsIn t (after_key (key_head column (written s.style k ++ colon_after k) items leaves blank) o below rs) one.found_rows ds q z one.place r)
+          placed = subst (λ z. RowsIn t (after_key (key_head column (written s.style k ++ colon_after k) offsets items leaves blank) o below rs) one.found_rows ds q z one.place r)
               (sym (comments_both (entering q (Some key.place) (n.node.mean q)) one.meaning
               ∙ ap (λ z. z ++ one.meaning.comments) (comments_entering q (Some key.place) (n.node.mean q) ∙ n.node.silent q))) one.placed;
           is = texts_both (entering q (Some key.place) (n.node.mean q)) one.meaning
               ∙ (ap (λ z. z ++ texts one.meaning.comments) (texts_entering q (Some key.place) (n.node.mean q) ∙ ap (λ z. texts z) (n.node.silent q)) ∙ one.is);
-          laid = subst (λ z. MeaningLaid q one.place (entering q (Some key.place) (n.node.mean q) ⊕ one.meaning) z) (sym (after_steps column (written s.style k ++ colon_after k) items leaves blank o below rs ds))
+          laid = subst (λ z. MeaningLaid q one.place (entering q (Some key.place) (n.node.mean q) ⊕ one.meaning) z) (sym (after_steps column (written s.style k ++ colon_after k) offsets items leaves blank o below rs ds))
               (laid_both (entering q (Some key.place) (n.node.mean q)) one.meaning
               (laid_entering q (Some key.place) (n.node.mean q) (laid_line leaves (places u key.derived refl) (n.node.meant q) (n.node.silent q) count)) one.laid (omega arith));
           set = set_implicit column q key.place (n.node.mean q) one.meaning found alike implicit (flow_means key.derived tt) at.events
               (λ f g. key_no_question key.derived (record { sign_is_at = f; follows = g })) (meant_of one.meant) value_set;
-          held = held_after (entering q (Some key.place) (n.node.mean q)) one.meaning (after_key (key_head column (written s.style k ++ colon_after k) items leaves blank) o below rs) ds r
+          held = held_after (entering q (Some key.place) (n.node.mean q)) one.meaning (after_key (key_head column (written s.style k ++ colon_after k) offsets items leaves blank) o below rs) ds r
               (entering_silent q (Some key.place) (n.node.mean q) (n.node.silent q)) one.held;
         }
 
   -- the key is an empty node
-  pub unkeyed_makes : MeansNothing k → written s.style k ≡ [] → colon_after k ≡ 58 ∷ [] → leaves ≡ [] → EntryMakes s false column (max (tall k) (tall v)) (λ t m ps. FoundPair t s column k v m ps) (after_key (key_head column (58 ∷ []) items leaves blank) o below rs)
-  unkeyed_makes n said colon_is none = record { starts = after_begins column (58 ∷ []) items leaves blank o below rs; made = made } where
-    made : {t : List ℕ} (ds : List Deco) (r : List ℕ) (q : ℕ) → IsUtf8 t → AreDecos ds → Calm (after_key (key_head column (58 ∷ []) items leaves blank) o below rs) ds r
-        → Rest t q (inline_then (after_key (key_head column (58 ∷ []) items leaves blank) o below rs) ds r)
-        → EntryMade s false column (max (tall k) (tall v)) (λ t m ps. FoundPair t s column k v m ps) t (after_key (key_head column (58 ∷ []) items leaves blank) o below rs) ds q r
+  pub unkeyed_makes : MeansNothing k → written s.style k ≡ [] → colon_after k ≡ 58 ∷ [] → leaves ≡ [] → EntryMakes s false column (max (tall k) (tall v)) (λ t m ps. FoundPair t s column k v m ps) (after_key (key_head column (58 ∷ []) offsets items leaves blank) o below rs)
+  unkeyed_makes n said colon_is none = record { starts = after_begins column (58 ∷ []) offsets items leaves blank o below rs; made = made } where
+    made : {t : List ℕ} (ds : List Deco) (r : List ℕ) (q : ℕ) → IsUtf8 t → AreDecos ds → Calm (after_key (key_head column (58 ∷ []) offsets items leaves blank) o below rs) ds r
+        → Rest t q (inline_then (after_key (key_head column (58 ∷ []) offsets items leaves blank) o below rs) ds r)
+        → EntryMade s false column (max (tall k) (tall v)) (λ t m ps. FoundPair t s column k v m ps) t (after_key (key_head column (58 ∷ []) offsets items leaves blank) o below rs) ds q r
     made {t} ds r q u a calm w =
-        let here : Rest t q (58 ∷ after_then o below rs ds r) = subst (λ z. Rest t q z) (after_inline column (58 ∷ []) items leaves blank o below rs ds r) w in
+        let here : Rest t q (58 ∷ after_then o below rs ds r) = subst (λ z. Rest t q z) (after_inline column (58 ∷ []) offsets items leaves blank o below rs ds r) w in
         let colon = visible_at 58 u (omega arith) (omega arith) here in
         let wide : width (written s.style k) + width (colon_after k) ≡ 1 = ap (λ z. width z + width (colon_after k)) said ∙ (ap (λ z. width [] + width z) colon_is ∙ bare_width) in
         let head : AnyHead column (58 ∷ []) items leaves blank q q q [] [] = record { width = refl; items_stand = one_inside (omega arith) (omega arith) none_inside; leaves_stand = none_inside; leaves_to = no_leaf_to } in
-        let one = value_made column (58 ∷ []) items leaves blank o below ds r q (width (written s.style k) + width (colon_after k)) head
+        let one = value_made column (58 ∷ []) offsets items leaves blank o below ds r q (width (written s.style k) + width (colon_after k)) head
         (λ b. on_same (omega (arith, wide)) refl (on_sign 58 (after_then o below rs ds r) u (omega arith) (omega arith) b here)) (λ e. value_right s spot column k v (is_some o) is_spot flag e) value same deep colon.0 u stood a calm colon.1 in
         let value_set : SetDone t s.style (value_entries s.style column v) (column + s.style.indent) one.meaning.events = subst (λ z. SetDone t s.style z (column + s.style.indent) one.meaning.events) (ap (λ z. z.entries) is_spot) one.set in
         let high : one.height ≤ tall v = one.low in
@@ -373,15 +373,15 @@ module _ {s : LayoutSetting} {k v : Node} {spot : Spot} {rs : List Row} (column 
           meant = found_implicit (empty_node q) q q bare_node (is_some o) flag implicit (bare_alike q (n.meant q)) (bare_events q) (bare_escapes q) (is_at_nowhere (omega arith) refl)
               (record { line = line_nothing; follows = 58 ∷ after_then o below rs ds r; there = here; flow = λ f. absurd (true≢false (sym f)) }) one.head
               (subst (λ z. FoundNode t s z v one.meaning one.inner) is_spot one.meant) (subst (λ z. KeyRows t (q ∷ []) [] (is_some o) z one.inner one.found_rows) same one.keyed);
-          placed = subst (λ z. RowsIn t (after_key (key_head column (58 ∷ []) items leaves blank) o below rs) one.found_rows ds q z one.place r)
+          placed = subst (λ z. RowsIn t (after_key (key_head column (58 ∷ []) offsets items leaves blank) o below rs) one.found_rows ds q z one.place r)
               (sym (comments_both (entering q (Some q) (empty_node q)) one.meaning ∙ ap (λ z. z ++ one.meaning.comments) (comments_entering q (Some q) (empty_node q) ∙ bare_comments q))) one.placed;
           is = texts_both (entering q (Some q) (empty_node q)) one.meaning
               ∙ (ap (λ z. z ++ texts one.meaning.comments) (texts_entering q (Some q) (empty_node q) ∙ texts_empty q) ∙ one.is);
           laid = subst (λ z. MeaningLaid q one.place (entering q (Some q) (empty_node q) ⊕ one.meaning) z)
-              (ap (λ z. leaf_steps z ++ steps_after o below rs ds) (sym none) ∙ sym (after_steps column (58 ∷ []) items leaves blank o below rs ds))
+              (ap (λ z. leaf_steps z ++ steps_after o below rs ds) (sym none) ∙ sym (after_steps column (58 ∷ []) offsets items leaves blank o below rs ds))
               (laid_both {k = q} (entering q (Some q) (empty_node q)) one.meaning (laid_entering q (Some q) (empty_node q) (laid_empty q (omega arith))) one.laid (omega arith));
           set = set_implicit column q q (empty_node q) one.meaning bare_node (bare_alike q (n.meant q)) implicit (empty_flow q) (bare_events q)
               (λ f g. let here : code t q ≡ 58 = colon.0 in absurd (omega (arith, f, here))) (meant_of one.meant) value_set;
-          held = held_after (entering q (Some q) (empty_node q)) one.meaning (after_key (key_head column (58 ∷ []) items leaves blank) o below rs) ds r
+          held = held_after (entering q (Some q) (empty_node q)) one.meaning (after_key (key_head column (58 ∷ []) offsets items leaves blank) o below rs) ds r
               (entering_silent q (Some q) (empty_node q) (empty_silent q)) one.held;
         }

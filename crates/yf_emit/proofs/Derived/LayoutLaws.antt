@@ -13,6 +13,7 @@ use Rattle.yf_emit.specs.Layouts.RowComments.{comments_in, AreRemarks, TrailsFit
 use Rattle.yf_emit.specs.Layouts.Decorated.{first_gap, row_decos, rows_of}
 use Rattle.yf_emit.specs.Layouts.FitDocuments.{FitDocuments, FitsBare, DocumentsMeant, tall_documents}
 use Rattle.yf_emit.specs.Layouts.Layout.{layout, source_of}
+use Rattle.yf_emit.specs.Layouts.KeptColumns.{columns_of}
 
 -- The text is a stream of documents that mean these trees, with these directives and markers, and its comments have these texts, in order.
 pub record StreamMade (t : List ℕ) (bare : Bool) (ds : List Doc) (xs : List DocumentTree) (comments : List (List ℕ)) : Type 0 where
@@ -24,17 +25,18 @@ pub record StreamMade (t : List ℕ) (bare : Bool) (ds : List Doc) (xs : List Do
   pub is : map (λ (c : CommentValue). c.text) documents.comments ≡ comments
 
 -- the texts of the comments that a layout prints, in order
-abbrev pub printed_comments : Lists → Style → List DocumentTree → List (List ℕ)
-printed_comments m s trees = remarks_of (first_gap m (rows_of m s trees)) ++ comments_in (rows_of m s trees) (row_decos m (rows_of m s trees))
+abbrev pub printed_comments : List ℕ → Lists → Style → List DocumentTree → List (List ℕ)
+printed_comments t m s trees =
+    remarks_of (first_gap (columns_of t s (rows_of m s trees)) m (rows_of m s trees)) ++ comments_in (rows_of m s trees) (row_decos (columns_of t s (rows_of m s trees)) m (rows_of m s trees))
 
 -- The layout is a text: where the texts of its rows are.
 abbrev pub LayoutsAreTexts : Type 0
-LayoutsAreTexts = (m : Lists) (s : Style) (trees : List DocumentTree) → FitDocuments s m.documents trees → AreRemarks m.comments
-    → TrailsFit (source_of m (rows_of m s trees)) (rows_of m s trees) → IsUtf8 (layout m s trees)
+LayoutsAreTexts = (t : List ℕ) (m : Lists) (s : Style) (trees : List DocumentTree) → FitDocuments s m.documents trees → AreRemarks m.comments
+    → TrailsFit (source_of m (rows_of m s trees)) (rows_of m s trees) → IsUtf8 (layout t m s trees)
 
 -- What is laid out is derived again: where each node on one line reads back, and the comments are texts of comments of which one at most trails
 -- a row, the layout is a stream of documents that mean the same trees up to their places, with the same directives, and its comments are those
 -- that were printed, in that order.
 abbrev pub LayoutsAreDerived : Type 0
-LayoutsAreDerived = (m : Lists) (s : Style) (trees : List DocumentTree) → FitDocuments s m.documents trees → FitsBare (is_bare m s) m.documents trees → AreRemarks m.comments
-    → TrailsFit (source_of m (rows_of m s trees)) (rows_of m s trees) → StreamMade (layout m s trees) (is_bare m s) m.documents trees (printed_comments m s trees)
+LayoutsAreDerived = (t : List ℕ) (m : Lists) (s : Style) (trees : List DocumentTree) → FitDocuments s m.documents trees → FitsBare (is_bare m s) m.documents trees → AreRemarks m.comments
+    → TrailsFit (source_of m (rows_of m s trees)) (rows_of m s trees) → StreamMade (layout t m s trees) (is_bare m s) m.documents trees (printed_comments t m s trees)

@@ -1,5 +1,5 @@
 -- The laws of layouts hold.
-use Rattle.std.proofs.Common.{List, sym, subst}
+use Rattle.std.proofs.Common.{ℕ, List, sym, subst}
 use Rattle.std.specs.Str.{IsUtf8}
 use Rattle.yf_events.specs.declared.lists.Lists.{Lists}
 use Rattle.yf_events.specs.Tree.{DocumentTree}
@@ -16,20 +16,21 @@ use Rattle.yf_emit.proofs.Derived.DecoratedLemmas.{layout_then}
 use Rattle.yf_emit.proofs.Derived.GapsFit.{all_fit}
 use Rattle.yf_emit.proofs.Derived.RowsUtf8.{layout_utf8}
 use Rattle.yf_emit.proofs.Derived.StreamsLaid.{StreamLaid, layout_derived}
+use Rattle.yf_emit.specs.Layouts.KeptColumns.{columns_of}
 
 pub layouts_are_texts : LayoutsAreTexts
-layouts_are_texts m s trees fit remarks trails =
-    let fits = all_fit m (rows_of m s trees) trails remarks in
-    subst (λ w. IsUtf8 w) (sym (layout_then m s trees)) (layout_utf8 (setting_of m s) (is_bare m s) (first_gap m (rows_of m s trees)) (row_decos m (rows_of m s trees)) fit fits.0 fits.1)
+layouts_are_texts t m s trees fit remarks trails =
+    let fits = all_fit (columns_of t s (rows_of m s trees)) m (rows_of m s trees) trails remarks in
+    subst (λ w. IsUtf8 w) (sym (layout_then t m s trees)) (layout_utf8 (setting_of m s) (is_bare m s) (first_gap (columns_of t s (rows_of m s trees)) m (rows_of m s trees)) (row_decos (columns_of t s (rows_of m s trees)) m (rows_of m s trees)) fit fits.0 fits.1)
 
 -- what is laid out is derived again, with its leaves and comments in the order in which they were laid out
-pub layouts_are_laid : (m : Lists) (s : Style) (trees : List DocumentTree) → FitDocuments s m.documents trees → FitsBare (is_bare m s) m.documents trees → AreRemarks m.comments
+pub layouts_are_laid : (t : List ℕ) (m : Lists) (s : Style) (trees : List DocumentTree) → FitDocuments s m.documents trees → FitsBare (is_bare m s) m.documents trees → AreRemarks m.comments
     → TrailsFit (source_of m (rows_of m s trees)) (rows_of m s trees)
-    → StreamLaid (layout m s trees) (setting_of m s) (is_bare m s) m.documents trees (first_gap m (rows_of m s trees)) (rows_of m s trees) (row_decos m (rows_of m s trees))
-layouts_are_laid m s trees fit bare remarks trails =
-    let fits = all_fit m (rows_of m s trees) trails remarks in
-    layout_derived (setting_of m s) (is_bare m s) (first_gap m (rows_of m s trees)) (row_decos m (rows_of m s trees)) fit bare (layouts_are_texts m s trees fit remarks trails) fits.0 fits.1
-    (layout_calm m s trees fit) (layout_then m s trees)
+    → StreamLaid (layout t m s trees) (setting_of m s) (is_bare m s) m.documents trees (first_gap (columns_of t s (rows_of m s trees)) m (rows_of m s trees)) (rows_of m s trees) (row_decos (columns_of t s (rows_of m s trees)) m (rows_of m s trees))
+layouts_are_laid t m s trees fit bare remarks trails =
+    let fits = all_fit (columns_of t s (rows_of m s trees)) m (rows_of m s trees) trails remarks in
+    layout_derived (setting_of m s) (is_bare m s) (first_gap (columns_of t s (rows_of m s trees)) m (rows_of m s trees)) (row_decos (columns_of t s (rows_of m s trees)) m (rows_of m s trees)) fit bare (layouts_are_texts t m s trees fit remarks trails) fits.0 fits.1
+    (layout_calm t m s trees fit) (layout_then t m s trees)
 
 pub layouts_are_derived : LayoutsAreDerived
-layouts_are_derived m s trees fit bare remarks trails = (layouts_are_laid m s trees fit bare remarks trails).made
+layouts_are_derived t m s trees fit bare remarks trails = (layouts_are_laid t m s trees fit bare remarks trails).made

@@ -6,6 +6,7 @@ use Rattle.yf_events.specs.declared.lists.Lists.{Lists}
 use Rattle.yf_emit.specs.Layouts.RowComments.{carried_texts}
 use Rattle.yf_emit.specs.Layouts.Decorated.{Deco, first, after, first_gap, row_decos}
 use Rattle.yf_emit.specs.Layouts.Rows.{Row}
+use Rattle.yf_emit.specs.Layouts.KeptColumns.{Columns}
 
 pub data Step : Type 0 where
   a_leaf : Step
@@ -23,8 +24,8 @@ steps_in [] ds = []
 steps_in (x ∷ xs) ds = leaf_steps x.leaves ++ (comment_steps (carried_texts (first ds)) ++ steps_in xs (after ds))
 
 -- of a normal reading with these rows
-abbrev pub steps_of : Lists → List Row → List Step
-steps_of m rows = comment_steps (remarks_of (first_gap m rows)) ++ steps_in rows (row_decos m rows)
+abbrev pub steps_of : Columns → Lists → List Row → List Step
+steps_of g m rows = comment_steps (remarks_of (first_gap g m rows)) ++ steps_in rows (row_decos g m rows)
 
 -- each comment's text, and how many leaves come before it, after so many
 abbrev pub comments_of : ℕ → List Step → List (List ℕ × ℕ)

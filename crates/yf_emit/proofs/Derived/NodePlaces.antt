@@ -19,8 +19,8 @@ use Rattle.yf_props.specs.Written.{tag_offset_at, props_at}
 use Rattle.yf_grammar.specs.Productions.Grammar.{Derives, FlowNode, BlockNode, BlockIndented, BlockEntries, least_column}
 use Rattle.yf_grammar.specs.Productions.Grammar.Derives.{a_block_collection, a_block_collection_with, flow_in_block, a_compact_collection, an_indented_node}
 use Rattle.yf_grammar.specs.Productions.Meaning.{Meaning, meaning_after, noting, collection, with_props}
-
 use Rattle.yf_grammar.proofs.FlowReader.ParserLemmas.{after_nothing}
+
 -- A node's text begins at i and its last line ends before j: after any separation it is a block node at n, or (where the flag says that
 -- nothing is before its entries) it is the entries of a collection at the column m.
 pub data NodeAt (t : List ℕ) (n : ℤ) (c : Ctx) (m : ℕ) (beside : Bool) (h i j : ℕ) (x : Meaning) : Type 0 where

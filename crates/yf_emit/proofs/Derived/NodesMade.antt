@@ -27,7 +27,7 @@ use Rattle.yf_emit.specs.Layouts.Decorated.{Deco, first, after, trails_then, end
 use Rattle.yf_emit.specs.Layouts.ReadableTrees.{LineNode, is_inline}
 use Rattle.yf_emit.specs.NormalForms.Normal.{LayoutSetting, Spot}
 use Rattle.yf_emit.specs.Nodes.OneLine.{written}
-use Rattle.yf_emit.specs.Layouts.Rows.{Row, anywhere, joined, begins_below}
+use Rattle.yf_emit.specs.Layouts.Rows.{Row, anywhere, joined, begins_below, start_of, is_dash}
 use Rattle.yf_emit.proofs.Derived.LayoutSteps.{steps_in}
 use Rattle.yf_emit.proofs.OutputLines.HeldLemmas.{Held, empty_silent, held_joined, held_line, row_ended}
 use Rattle.yf_emit.proofs.Columns.FlowEvents.{flow_means}
@@ -43,8 +43,9 @@ use Rattle.yf_emit.proofs.OutputLines.SeenTexts.{ascii_ns}
 use Rattle.yf_emit.proofs.Columns.SetMeant.{column_more, SetMeant, SetSigned, set_flow, set_noting, signed_of, signed_empty}
 use Rattle.yf_emit.proofs.Columns.SetNodes.{ColumnAt}
 use Rattle.yf_emit.proofs.Derived.StepsInText.{MeaningLaid, laid_after, laid_empty}
-
+use Rattle.yf_emit.specs.Layouts.SourceColumns.{is_white_or_sign}
 use Rattle.yf_lines.proofs.VisibleLines.{visible_at}
+
 -- where a node is in its block: in a block context, its entries at a column at which they may be, and the lines of a block scalar
 -- so many columns right of the indentation around it
 pub record Stood (s : LayoutSetting) (x : Node) (n : ℤ) (c : Ctx) (spot : Spot) : Type 0 where
@@ -114,9 +115,9 @@ line_made {t} {s} {x} {r} spot n c ds z q b inline some key text column body cou
 
 -- After a sign.
 
-abbrev pub sign_row : ℕ → ℕ → List ℕ → Bool → Row
-sign_row column sign items blank =
-    record { column = column; text = sign ∷ []; items = items; leaves = []; key_comment = None; blank_before = blank; begins = false; ending = anywhere; body = []; lines = 0 }
+abbrev pub sign_row : ℕ → ℕ → List ℕ → List ℕ → Bool → Row
+sign_row column sign offsets items blank =
+    record { column = column; text = sign ∷ []; starts = start_of column (is_dash (sign ∷ [])) offsets ∷ []; items = items; leaves = []; key_comment = None; blank_before = blank; begins = false; ending = anywhere; body = []; lines = 0 }
 
 pub record SignMade (t : List ℕ) (s : LayoutSetting) (a : ℕ) (c : Ctx) (sign : ℕ) (spot : Spot) (x : Node) (rs : List Row) (ds : List Deco) (q : ℕ) (r : List ℕ) : Type 0 where
   pub height : ℕ
@@ -153,17 +154,17 @@ record After (t : List ℕ) (rs : List Row) (inner : List PlacedRow) (ds : List 
   signed : SignRows t (q ∷ []) inner found_rows
   placed : RowsIn t rs found_rows ds q cs place r
 
-rows_after : {t : List ℕ} {y : Row} {ys : List Row} {ps : List PlacedRow} {ds : List Deco} {i place : ℕ} {cs : List CommentValue} {r : List ℕ} (sign column : ℕ) (items : List ℕ) (blank : Bool) (n q : ℕ)
-    → i ≡ q + 1 + n → (OnLine t column q → OnLine t y.column i) → RowsIn t (y ∷ ys) ps ds i cs place r → After t (joined (sign_row column sign items blank) n (y ∷ ys)) ps ds q cs place r
-rows_after sign column items blank n q e on (last_row {p = p} at end w) = record {
+rows_after : {t : List ℕ} {y : Row} {ys : List Row} {ps : List PlacedRow} {ds : List Deco} {i place : ℕ} {cs : List CommentValue} {r : List ℕ} (sign column : ℕ) (offsets items : List ℕ) (blank : Bool) (n q : ℕ)
+    → i ≡ q + 1 + n → (OnLine t column q → OnLine t y.column i) → RowsIn t (y ∷ ys) ps ds i cs place r → After t (joined (sign_row column sign offsets items blank) n (y ∷ ys)) ps ds q cs place r
+rows_after sign column offsets items blank n q e on (last_row {p = p} at end w) = record {
   found_rows = joined_placed (q ∷ []) [] column q p ∷ [];
   signed = sign_joined refl refl refl (let f = at.from in omega (arith, e, f)) refl (λ a. on_same at.column (sym at.from) (on a)) refl;
-  placed = rows_joined (sign_row column sign items blank) n q q [] [] e (one_inside (omega arith) (omega (arith, e)) none_inside) none_inside no_leaf_to (last_row at end w);
+  placed = rows_joined (sign_row column sign offsets items blank) n q q [] [] e (one_inside (omega arith) (omega (arith, e)) none_inside) none_inside no_leaf_to (last_row at end w);
 }
-rows_after sign column items blank n q e on (row_before {p = p} {ps = ps} at end w more) = record {
+rows_after sign column offsets items blank n q e on (row_before {p = p} {ps = ps} at end w more) = record {
   found_rows = joined_placed (q ∷ []) [] column q p ∷ ps;
   signed = sign_joined refl refl refl (let f = at.from in omega (arith, e, f)) refl (λ a. on_same at.column (sym at.from) (on a)) refl;
-  placed = rows_joined (sign_row column sign items blank) n q q [] [] e (one_inside (omega arith) (omega (arith, e)) none_inside) none_inside no_leaf_to (row_before at end w more);
+  placed = rows_joined (sign_row column sign offsets items blank) n q q [] [] e (one_inside (omega arith) (omega (arith, e)) none_inside) none_inside no_leaf_to (row_before at end w more);
 }
 
 -- where the first row of a node is
@@ -171,11 +172,11 @@ row_column : {k m : ℕ} (b : Bool) → (b ≡ false → k ≡ m) → (b ≡ tru
 row_column true f g = g refl
 row_column false f g = f refl
 
-pub sign_made : {t : List ℕ} {s : LayoutSetting} {x : Node} {spot : Spot} {rs : List Row} (a sign : ℕ) (items : List ℕ) (blank : Bool) (c : Ctx) (ds : List Deco) (r : List ℕ) (q : ℕ)
-    → 33 ≤ sign → sign < 127 → 2 ≤ s.style.indent → Claim s x spot rs → spot.column ≡ a + s.style.indent → spot.entries ≡ a + s.style.indent → IsUtf8 t → Stood s x (pos a) c spot → AreDecos ds
-    → Calm (joined (sign_row a sign items blank) (s.style.indent - 1) rs) ds r → Rest t q (inline_then (joined (sign_row a sign items blank) (s.style.indent - 1) rs) ds r)
-    → SignMade t s a c sign spot x (joined (sign_row a sign items blank) (s.style.indent - 1) rs) ds q r
-sign_made {t} {s} {x} {spot} a sign items blank c ds r q low high wide (no_row m) f e u stood k calm w =
+pub sign_made : {t : List ℕ} {s : LayoutSetting} {x : Node} {spot : Spot} {rs : List Row} (a sign : ℕ) (offsets items : List ℕ) (blank : Bool) (c : Ctx) (ds : List Deco) (r : List ℕ) (q : ℕ)
+    → 33 ≤ sign → sign < 127 → is_white_or_sign sign ≡ true → 2 ≤ s.style.indent → Claim s x spot rs → spot.column ≡ a + s.style.indent → spot.entries ≡ a + s.style.indent → IsUtf8 t → Stood s x (pos a) c spot → AreDecos ds
+    → Calm (joined (sign_row a sign offsets items blank) (s.style.indent - 1) rs) ds r → Rest t q (inline_then (joined (sign_row a sign offsets items blank) (s.style.indent - 1) rs) ds r)
+    → SignMade t s a c sign spot x (joined (sign_row a sign offsets items blank) (s.style.indent - 1) rs) ds q r
+sign_made {t} {s} {x} {spot} a sign offsets items blank c ds r q low high class wide (no_row m) f e u stood k calm w =
     let at = visible_at sign u (omega (arith, low)) high w in
     let end = row_end (first ds) r u (first_deco k) at.1 in
     let row : PlacedRow = record { items = q ∷ []; leaves = []; commented = false; column = a; from = q; upto = q + 1 } in
@@ -193,7 +194,7 @@ sign_made {t} {s} {x} {spot} a sign items blank c ds r q low high wide (no_row m
       meant = found_noting end.comments (found_nothing (q + 1) (m.meant (q + 1)));
       found_rows = row ∷ [];
       signed = sign_alone refl refl refl refl;
-      placed = subst (λ v. RowsIn t (sign_row a sign items blank ∷ []) (row ∷ []) ds q v end.place r) (sym (noting_nothing (q + 1) end.comments))
+      placed = subst (λ v. RowsIn t (sign_row a sign offsets items blank ∷ []) (row ∷ []) ds q v end.place r) (sym (noting_nothing (q + 1) end.comments))
           (last_row (record {
             from = refl;
             order = omega arith;
@@ -207,10 +208,10 @@ sign_made {t} {s} {x} {spot} a sign items blank c ds r q low high wide (no_row m
       is = texts_noting (empty_node (q + 1)) end.comments ∙ (ap (λ z. z ++ texts end.comments) (texts_empty (q + 1)) ∙ (end.is ∙ sym (append-nil (carried_texts (first ds)))));
       laid = laid_row (empty_node (q + 1)) end.comments [] (laid_empty (q + 1) (omega arith)) (end_ascends end.end) end.is;
       set = signed_empty (q + 1) end.comments;
-      held = held_line (empty_node (q + 1)) end.comments (sign_row a sign items blank) ds r refl (empty_silent (q + 1))
+      held = held_line (empty_node (q + 1)) end.comments (sign_row a sign offsets items blank) ds r refl (empty_silent (q + 1))
           (row_ended (first ds) r u (after_byte q u at.0 (omega arith) (ascii_ns sign low high)) (first_deco k) at.1 end.end);
     }
-sign_made {t} {s} {x} {spot} a sign items blank c ds r q low high wide (some_rows {r = y} {rs = ys} f g m) h e u stood k calm w =
+sign_made {t} {s} {x} {spot} a sign offsets items blank c ds r q low high class wide (some_rows {r = y} {rs = ys} f g m) h e u stood k calm w =
     let n : ℕ = s.style.indent - 1 in
     let same : (replicate n 32 ++ y.text) ++ end_then (first ds) y.body (lines_then ys (after ds) r) ≡ replicate n 32 ++ inline_then (y ∷ ys) ds r =
     append_assoc (replicate n 32) y.text (end_then (first ds) y.body (lines_then ys (after ds) r)) in
@@ -220,7 +221,7 @@ sign_made {t} {s} {x} {spot} a sign items blank c ds r q low high wide (some_row
     let is_there : y.column ≡ a + 1 + n = row_column (begins_below x) (λ z. f z ∙ (h ∙ omega arith)) (λ z. g z ∙ (e ∙ omega arith)) in
     let node = m.made (pos a) c ds r (q + 1 + n) u stood k calm spaces.1 in
     let zero_more : q + 1 + 0 ≡ q + 1 = omega arith in
-    let after_it = rows_after sign a items blank n q refl
+    let after_it = rows_after sign a offsets items blank n q refl
     (λ b. on_same (sym is_there) refl (on_spaces n (inline_then (y ∷ ys) ds r) u (on_sign sign (replicate n 32 ++ inline_then (y ∷ ys) ds r) u (omega (arith, low)) high b here) at.1)) node.placed in
     record {
       height = node.height;
@@ -238,8 +239,8 @@ sign_made {t} {s} {x} {spot} a sign items blank c ds r q low high wide (some_row
       signed = after_it.signed;
       placed = after_it.placed;
       is = node.is;
-      set = signed_of (λ b. subst (λ z. ColumnAt t z (q + 1 + n)) (omega arith) (column_more sign n b at.0 (omega (arith, low)) high spaces.0))
+      set = signed_of (λ b. subst (λ z. ColumnAt t z (q + 1 + n)) (omega arith) (column_more sign n b at.0 (omega (arith, low)) high class spaces.0))
           (subst (λ z. SetMeant t s.style z (a + s.style.indent) (begins_below x) (q + 1 + n) node.meaning) e node.set);
       laid = laid_after (omega arith) node.laid;
-      held = held_joined (sign_row a sign items blank) n y ys ds r node.held;
+      held = held_joined (sign_row a sign offsets items blank) n y ys ds r node.held;
     }

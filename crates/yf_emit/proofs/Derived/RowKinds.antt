@@ -19,8 +19,9 @@ use Rattle.yf_emit.proofs.OutputLines.LaidLines.{gap_lines, laid_lines, own_line
 use Rattle.yf_emit.proofs.Derived.RowEnds.{first_deco, after_decos}
 use Rattle.yf_emit.proofs.Derived.RowTexts.{row_texts}
 use Rattle.yf_emit.proofs.OutputLines.SeenTexts.{seen_ascii}
-
+use Rattle.yf_emit.specs.Layouts.KeptColumns.{Columns}
 use Rattle.yf_lines.proofs.VisibleLines.{visible_line}
+
 -- Rows.
 
 abbrev pub dashes : List ℕ
@@ -148,13 +149,13 @@ body_of : {x : Row} → KindRow x → LineKinds x.body
 body_of (a_text a) = body_kinds a.body
 body_of (a_marker a) = subst (λ w. LineKinds w) (sym a.body) no_line
 
-row_kinds : {xs : List Row} (c : Source) (cs : List CommentValue) → KindRows xs → AreDecos (decos_of c cs xs) → LineKinds (row_lines xs (decos_of c cs xs))
-row_kinds c cs no_kind k = no_line
-row_kinds c cs (kind_more {x = x} {xs = xs} a more) k =
-    line_more (own_kind (first (decos_of c cs (x ∷ xs))) a (untrailed c x))
-    (lines_append (body_of a) (lines_append (gap_kinds (first (decos_of c cs (x ∷ xs))).gap (first_deco k).gap) (row_kinds c (comments_left x cs) more (after_decos k))))
+row_kinds : {xs : List Row} (g : Columns) (c : Source) (cs : List CommentValue) → KindRows xs → AreDecos (decos_of g c cs xs) → LineKinds (row_lines xs (decos_of g c cs xs))
+row_kinds g c cs no_kind k = no_line
+row_kinds g c cs (kind_more {x = x} {xs = xs} a more) k =
+    line_more (own_kind (first (decos_of g c cs (x ∷ xs))) a (untrailed c x))
+    (lines_append (body_of a) (lines_append (gap_kinds (first (decos_of g c cs (x ∷ xs))).gap (first_deco k).gap) (row_kinds g c (comments_left x cs) more (after_decos k))))
 
 -- of a layout
-pub laid_kinds : {xs : List Row} (gap : List GapLine) (c : Source) (cs : List CommentValue) → AreGapLines gap → KindRows xs → AreDecos (decos_of c cs xs)
-    → LineKinds (laid_lines gap xs (decos_of c cs xs))
-laid_kinds gap c cs g a k = lines_append (gap_kinds gap g) (row_kinds c cs a k)
+pub laid_kinds : {xs : List Row} (g : Columns) (gap : List GapLine) (c : Source) (cs : List CommentValue) → AreGapLines gap → KindRows xs → AreDecos (decos_of g c cs xs)
+    → LineKinds (laid_lines gap xs (decos_of g c cs xs))
+laid_kinds g gap c cs b a k = lines_append (gap_kinds gap b) (row_kinds g c cs a k)

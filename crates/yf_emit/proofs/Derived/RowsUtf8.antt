@@ -18,8 +18,8 @@ use Rattle.yf_emit.proofs.Texts.LineUtf8.{line_utf8, feed_utf8}
 use Rattle.yf_emit.proofs.Derived.RowEnds.{first_deco, after_decos}
 use Rattle.yf_emit.proofs.Derived.RowTexts.{row_texts}
 use Rattle.yf_emit.proofs.OutputLines.SeenTexts.{IsSeen, seen_ascii}
-
 use Rattle.yf_lines.proofs.VisibleLines.{visible_line}
+
 ended_utf8 : {w z : List ℕ} → IsLineText w → IsUtf8 z → IsUtf8 (w ++ (10 ∷ z))
 ended_utf8 {w} {z} a u = IsUtf8-append w (10 ∷ z) (line_utf8 a) (feed_utf8 u)
 

@@ -56,9 +56,9 @@ use Rattle.yf_emit.proofs.OutputLines.ScalarTails.{ScalarTail, scalar_tail}
 use Rattle.yf_emit.proofs.Derived.StepsInText.{MeaningLaid, laid_scalar, laid_scalar_with}
 use Rattle.yf_emit.proofs.OutputLines.WellSet.{AllSet}
 use Rattle.yf_emit.proofs.OutputLines.ScalarBytes.{header_bytes_are, lines_are, trail_of, trail_is, trail_fits, trail_comments}
-
 use Rattle.yf_grammar.proofs.FlowReader.ParserLemmas.{after_nothing}
 use Rattle.yf_lines.proofs.VisibleLines.{visible_line}
+
 -- What follows it.
 
 kept_gap : (text : List ℕ) (gap : List GapLine) → (may_be_blank_after (tail_ending (is_kept_tail (final_feeds text))) ≡ false → KeptGap Keep gap) → KeptGap (chomp_of (final_feeds text)) gap

@@ -107,10 +107,10 @@ no_leaf (Some s) e = absurd (true≢false e)
 implicit_makes : (c : LayoutSetting) (column : ℕ) {k v : Node} → is_implicit c.style column k ≡ true → Fit c.style k → Claim c v (value_of_implicit c column k v) (rows c (value_of_implicit c column k v) v)
     → EntryMakes c false column (max (tall k) (tall v)) (λ t m ps. FoundPair t c column k v m ps) (implicit_pair c column k v (rows c (value_of_implicit c column k v) v))
 implicit_makes c column {k} {v} e (fit_nothing {at = at} f) value =
-    unkeyed_makes column (entry_start k ++ items_in k) (leaves k) (blank_before_entry (standing k).entry) (key_comment c.comments k v) (begins_below v) value refl
+    unkeyed_makes column (entry_start k) (entry_start k ++ items_in k) (leaves k) (blank_before_entry (standing k).entry) (key_comment c.comments k v) (begins_below v) value refl
     (λ z b. commented_column (is_some (key_comment c.comments k v)) column c.style.indent _ c.style.indent_from z) (value_stood c column k v) refl e refl (record { meant = λ i. meant_nothing i f refl }) refl refl (no_leaf at.span f)
 implicit_makes c column {k} {v} e (fit_line inline some node key) value =
-    keyed_makes column (entry_start k ++ items_in k) (leaves k) (blank_before_entry (standing k).entry) (key_comment c.comments k v) (begins_below v) value refl
+    keyed_makes column (entry_start k) (entry_start k ++ items_in k) (leaves k) (blank_before_entry (standing k).entry) (key_comment c.comments k v) (begins_below v) value refl
     (λ z b. commented_column (is_some (key_comment c.comments k v)) column c.style.indent _ c.style.indent_from z) (value_stood c column k v) refl e refl key refl
     (within_limit (width (written c.style k)) (and_parts (is_one_line_key c.style column k) (nat_le (width (written c.style k)) 1023) e).1)
 implicit_makes c column {k} {v} e (fit_scalar {at = at} {p = p} {style = style} {text = text} {lines = lines} f g h) value =

@@ -25,32 +25,34 @@ use Rattle.yf_emit.proofs.NormalForms.NormalRestyled.{normal_restyled}
 use Rattle.yf_emit.proofs.ReadAgain.ReadingsAgain.{OwnCarried, alone_carried, rows_carried}
 use Rattle.yf_emit.proofs.ReadAgain.RowsAgain.{Apart, Carry, last_carries, row_carries, kept_first, kept_others}
 use Rattle.yf_emit.specs.Layouts.BareStart.{is_bare}
+use Rattle.yf_emit.specs.Layouts.KeptColumns.{Columns, columns_of}
+use Rattle.yf_emit.specs.Preservation.CommentsPlaced.{columns_in}
 
 -- Between two rows.
 
-abbrev comments_at : ℕ → List CommentValue → List Line
-comments_at column cs = map (comment_line column) cs
+abbrev comments_at : Columns → ℕ → List CommentValue → List Line
+comments_at g column cs = map (comment_line g column) cs
 
 -- hs are the comments that were laid out, and cs those that are found there; a row follows, or none
-gap_spaced : (e : Ending) (column other : ℕ) (hs : List CommentValue) {b : Bool} {cs : List CommentValue} (x y : Line) (xs ys : List Line)
-    → Blanks (may_be_blank_after e) false (gap_with e column hs x.blank_before) cs b → y.blank_before ≡ b → notes_of ys ≡ left_blank x.ending xs
-    → notes_of (comments_at other cs ++ (y ∷ ys)) ≡ left_blank e (comments_at column hs ++ (x ∷ xs))
-gap_spaced e column other [] x y xs ys w f more =
+gap_spaced : {t : List ℕ} (g fs : Columns) (e : Ending) (column other : ℕ) (hs : List CommentValue) {b : Bool} {cs : List CommentValue} (x y : Line) (xs ys : List Line)
+    → Blanks t (may_be_blank_after e) false (gap_with g e column hs x.blank_before) cs b → y.blank_before ≡ b → notes_of ys ≡ left_blank x.ending xs
+    → notes_of (comments_at fs other cs ++ (y ∷ ys)) ≡ left_blank e (comments_at g column hs ++ (x ∷ xs))
+gap_spaced g fs e column other [] x y xs ys w f more =
     let l = last_line (may_be_blank_after e) x.blank_before w in
-    ap (λ z. notes_of (comments_at other z ++ (y ∷ ys))) l.none ∙ (ap (λ z. z ∷ notes_of ys) (f ∙ l.exact) ∙ ap (λ z. (may_be_blank_after e && x.blank_before) ∷ z) more)
-gap_spaced e column other (h ∷ hs) {b} {cs} x y xs ys w f more =
-    let r = first_remark (may_be_blank_after e) h.blank_before column (subst (λ z. Blanks (may_be_blank_after e) false z cs b) (gap_more e column h hs x.blank_before) w) in
-    ap (λ z. notes_of (comments_at other z ++ (y ∷ ys))) r.are
-    ∙ (ap (λ z. z ∷ notes_of (comments_at other r.cs ++ (y ∷ ys))) r.exact
-    ∙ ap (λ z. (may_be_blank_after e && h.blank_before) ∷ z) (gap_spaced anywhere column other hs x y xs ys r.more f more))
+    ap (λ z. notes_of (comments_at fs other z ++ (y ∷ ys))) l.none ∙ (ap (λ z. z ∷ notes_of ys) (f ∙ l.exact) ∙ ap (λ z. (may_be_blank_after e && x.blank_before) ∷ z) more)
+gap_spaced {t} g fs e column other (h ∷ hs) {b} {cs} x y xs ys w f more =
+    let r = first_remark (may_be_blank_after e) h.blank_before (g h column) (subst (λ z. Blanks t (may_be_blank_after e) false z cs b) (gap_more g e column h hs x.blank_before) w) in
+    ap (λ z. notes_of (comments_at fs other z ++ (y ∷ ys))) r.are
+    ∙ (ap (λ z. z ∷ notes_of (comments_at fs other r.cs ++ (y ∷ ys))) r.exact
+    ∙ ap (λ z. (may_be_blank_after e && h.blank_before) ∷ z) (gap_spaced g fs anywhere column other hs x y xs ys r.more f more))
 
-end_spaced : (e : Ending) (column other : ℕ) (hs : List CommentValue) {b : Bool} {cs : List CommentValue} → Blanks (may_be_blank_after e) false (gap_with e column hs false) cs b
-    → notes_of (comments_at other cs) ≡ left_blank e (comments_at column hs)
-end_spaced e column other [] w = ap (λ z. notes_of (comments_at other z)) (last_line (may_be_blank_after e) false w).none
-end_spaced e column other (h ∷ hs) {b} {cs} w =
-    let r = first_remark (may_be_blank_after e) h.blank_before column (subst (λ z. Blanks (may_be_blank_after e) false z cs b) (gap_more e column h hs false) w) in
-    ap (λ z. notes_of (comments_at other z)) r.are
-    ∙ (ap (λ z. z ∷ notes_of (comments_at other r.cs)) r.exact ∙ ap (λ z. (may_be_blank_after e && h.blank_before) ∷ z) (end_spaced anywhere column other hs r.more))
+end_spaced : {t : List ℕ} (g fs : Columns) (e : Ending) (column other : ℕ) (hs : List CommentValue) {b : Bool} {cs : List CommentValue} → Blanks t (may_be_blank_after e) false (gap_with g e column hs false) cs b
+    → notes_of (comments_at fs other cs) ≡ left_blank e (comments_at g column hs)
+end_spaced g fs e column other [] w = ap (λ z. notes_of (comments_at fs other z)) (last_line (may_be_blank_after e) false w).none
+end_spaced {t} g fs e column other (h ∷ hs) {b} {cs} w =
+    let r = first_remark (may_be_blank_after e) h.blank_before (g h column) (subst (λ z. Blanks t (may_be_blank_after e) false z cs b) (gap_more g e column h hs false) w) in
+    ap (λ z. notes_of (comments_at fs other z)) r.are
+    ∙ (ap (λ z. z ∷ notes_of (comments_at fs other r.cs)) r.exact ∙ ap (λ z. (may_be_blank_after e && h.blank_before) ∷ z) (end_spaced g fs anywhere column other hs r.more))
 
 -- Rows.
 
@@ -58,43 +60,43 @@ same_end : (x y : Row) → shape_of x ≡ shape_of y → y.ending ≡ x.ending
 same_end x y e = ap (λ s. s.ending) (sym e)
 
 -- the comments before a row, and those after it
-apart_lines : {y : Row} {here left : List CommentValue} (d : Source) (ys : List Row) → Apart y here left
-    → lines_of d (here ++ left) (y ∷ ys) ≡ comments_at y.column here ++ (row_line d y ∷ lines_of d left ys)
-apart_lines {y} {here} {left} d ys a =
-    ap (λ z. comments_at y.column z ++ (row_line d y ∷ lines_of d (filter (λ c. not (precedes_item y c)) (here ++ left)) ys)) (kept_first (precedes_item y) here left a.before a.follows)
-    ∙ ap (λ z. comments_at y.column here ++ (row_line d y ∷ lines_of d z ys)) (kept_others (precedes_item y) here left a.before a.follows)
+apart_lines : {y : Row} {here left : List CommentValue} (fs : Columns) (d : Source) (ys : List Row) → Apart y here left
+    → lines_of fs d (here ++ left) (y ∷ ys) ≡ comments_at fs y.column here ++ (row_line d y ∷ lines_of fs d left ys)
+apart_lines {y} {here} {left} fs d ys a =
+    ap (λ z. comments_at fs y.column z ++ (row_line d y ∷ lines_of fs d (filter (λ c. not (precedes_item y c)) (here ++ left)) ys)) (kept_first (precedes_item y) here left a.before a.follows)
+    ∙ ap (λ z. comments_at fs y.column here ++ (row_line d y ∷ lines_of fs d z ys)) (kept_others (precedes_item y) here left a.before a.follows)
 
-module _ (c d : Source) where
+module _ {u : List ℕ} (g fs : Columns) (c d : Source) where
   -- after a row
   rows_spaced : (own : List CommentValue) (x : Row) (xs : List Row) {y : Row} {ys : List Row} {others : List CommentValue} → shapes (x ∷ xs) ≡ shapes (y ∷ ys)
-      → Carry d (y ∷ ys) (decos_of c own (x ∷ xs)) others → notes_of (lines_of d others ys) ≡ left_blank x.ending (lines_of c (comments_left x own) xs)
+      → Carry u g d (y ∷ ys) (decos_of g c own (x ∷ xs)) others → notes_of (lines_of fs d others ys) ≡ left_blank x.ending (lines_of g c (comments_left x own) xs)
   rows_spaced own x [] {y} same (last_carries {here = here} hs t q w) =
       let one : shape_of x ≡ shape_of y = cc in
-      let blanks : Blanks (may_be_blank_after x.ending) false (gap_of x.ending (comments_left x own) []) here false =
-      subst (λ z. Blanks (may_be_blank_after z) false (gap_of x.ending (comments_left x own) []) here false) (same_end x y one) w in
-      end_spaced x.ending 0 0 (comments_left x own) (subst (λ z. Blanks (may_be_blank_after x.ending) false z here false) (gap_at_end x.ending (comments_left x own)) blanks)
+      let blanks : Blanks u (may_be_blank_after x.ending) false (gap_of g x.ending (comments_left x own) []) here false =
+      subst (λ z. Blanks u (may_be_blank_after z) false (gap_of g x.ending (comments_left x own) []) here false) (same_end x y one) w in
+      end_spaced g fs x.ending 0 0 (comments_left x own) (subst (λ z. Blanks u (may_be_blank_after x.ending) false z here false) (gap_at_end g x.ending (comments_left x own)) blanks)
   rows_spaced own x [] same (row_carries hs b t q w a more) = absurd cc
   rows_spaced own x (v ∷ xs) {y} same (row_carries {next = next} {rows = ys} {here = here} {left = left} hs b t q w a more) =
       let one : shape_of x ≡ shape_of y = cc in
       let rest : shapes (v ∷ xs) ≡ shapes (next ∷ ys) = cc in
-      let gap : List GapLine = gap_of x.ending (comments_left x own) (v ∷ xs) in
-      let blanks : Blanks (may_be_blank_after x.ending) false gap here next.blank_before =
-      subst (λ z. Blanks (may_be_blank_after z) false gap here next.blank_before) (same_end x y one) w in
-      ap notes_of (apart_lines d ys a)
-      ∙ gap_spaced x.ending v.column next.column (filter (precedes_item v) (comments_left x own)) (row_line c v) (row_line d next) (lines_of c (comments_left v (comments_left x own)) xs) (lines_of d left ys) blanks refl
+      let gap : List GapLine = gap_of g x.ending (comments_left x own) (v ∷ xs) in
+      let blanks : Blanks u (may_be_blank_after x.ending) false gap here next.blank_before =
+      subst (λ z. Blanks u (may_be_blank_after z) false gap here next.blank_before) (same_end x y one) w in
+      ap notes_of (apart_lines fs d ys a)
+      ∙ gap_spaced g fs x.ending v.column next.column (filter (precedes_item v) (comments_left x own)) (row_line c v) (row_line d next) (lines_of g c (comments_left v (comments_left x own)) xs) (lines_of fs d left ys) blanks refl
       (rows_spaced (comments_left x own) v xs rest more)
 
-  all_spaced : (own : List CommentValue) (xs : List Row) (q : Lists) (ys : List Row) → d ≡ source_of q ys → shapes xs ≡ shapes ys → OwnCarried q ys (gap_of at_text_start own xs) (decos_of c own xs)
-      → notes_of (lines_of d (own_line_comments d ys) ys) ≡ left_blank at_text_start (lines_of c own xs)
+  all_spaced : (own : List CommentValue) (xs : List Row) (q : Lists) (ys : List Row) → d ≡ source_of q ys → shapes xs ≡ shapes ys → OwnCarried u g q ys (gap_of g at_text_start own xs) (decos_of g c own xs)
+      → notes_of (lines_of fs d (own_line_comments d ys) ys) ≡ left_blank at_text_start (lines_of g c own xs)
   all_spaced own [] q [] e same (alone_carried firsts f w) =
-      ap (λ z. notes_of (comments_at 0 (own_line_comments z []))) e ∙ (ap (λ z. notes_of (comments_at 0 z)) f
-      ∙ end_spaced at_text_start 0 0 own (subst (λ z. Blanks false false z firsts false) (gap_at_end at_text_start own) w))
+      ap (λ z. notes_of (comments_at fs 0 (own_line_comments z []))) e ∙ (ap (λ z. notes_of (comments_at fs 0 z)) f
+      ∙ end_spaced g fs at_text_start 0 0 own (subst (λ z. Blanks u false false z firsts false) (gap_at_end g at_text_start own) w))
   all_spaced own [] q (y ∷ ys) e same f = absurd cc
   all_spaced own (x ∷ xs) q [] e same f = absurd cc
   all_spaced own (x ∷ xs) q (y ∷ ys) e same (rows_carried firsts others f w a more) =
-      ap (λ z. notes_of (lines_of d (own_line_comments z (y ∷ ys)) (y ∷ ys))) e ∙ (ap (λ z. notes_of (lines_of d z (y ∷ ys))) f ∙ (ap notes_of (apart_lines d ys a)
-      ∙ gap_spaced at_text_start x.column y.column (filter (precedes_item x) own) (row_line c x) (row_line d y) (lines_of c (comments_left x own) xs) (lines_of d others ys) w refl
-      (rows_spaced own x xs same (subst (λ z. Carry z (y ∷ ys) (decos_of c own (x ∷ xs)) others) (sym e) more))))
+      ap (λ z. notes_of (lines_of fs d (own_line_comments z (y ∷ ys)) (y ∷ ys))) e ∙ (ap (λ z. notes_of (lines_of fs d z (y ∷ ys))) f ∙ (ap notes_of (apart_lines fs d ys a)
+      ∙ gap_spaced g fs at_text_start x.column y.column (filter (precedes_item x) own) (row_line c x) (row_line d y) (lines_of g c (comments_left x own) xs) (lines_of fs d others ys) w refl
+      (rows_spaced own x xs same (subst (λ z. Carry u g z (y ∷ ys) (decos_of g c own (x ∷ xs)) others) (sym e) more))))
 
 -- The law.
 
@@ -113,7 +115,7 @@ blanks_kept t u s utf8 given = record {
       let ys : List Row = rows_of q s b.trees in
       let w = found_reading t u s q utf8 f b in
       let carried = again_carried q utf8 f b w (blanks_found t u s q utf8 f b w) in
-      all_spaced (source_of m xs) (source_of q ys) (own_line_comments (source_of m xs) xs) xs q ys refl (found_rows (is_bare m s) (is_bare q s) w.bare w.alike) carried.own;
+      all_spaced (columns_in f) (columns_of u s ys) (source_of m xs) (source_of q ys) (own_line_comments (source_of m xs) xs) xs q ys refl (found_rows (is_bare m s) (is_bare q s) w.bare w.alike) carried.own;
   comments = λ f. ap (λ (w : Lists). w.comments) f.is_normal.is;
   entries = λ f. restyled_entries (normal_restyled f.is_normal).events;
 }

@@ -171,7 +171,7 @@ comments_stay t u s utf8 = record {
       rows_exact f.normal (rows_in f) d
       ∙ (ap (λ b. b || list_any (λ l. is_among (at_leaf l (first_comment c l)) d) c.leaves) no_key ∙ none_at (λ l. is_among (at_leaf l (first_comment c l)) d) c.leaves nowhere);
   once = λ f. formats_trail t u s utf8 f;
-  printed = λ f. f.writes.is ∙ layout_then f.normal s f.writes.trees;
+  printed = λ f. f.writes.is ∙ layout_then t f.normal s f.writes.trees;
   before = λ f q b. let w = found_reading t u s q utf8 f b in (again_same q utf8 f b w (blanks_found t u s q utf8 f b w)).gap;
   follows = λ f q b. let w = found_reading t u s q utf8 f b in (again_same q utf8 f b w (blanks_found t u s q utf8 f b w)).decos;
 }

@@ -8,7 +8,7 @@ use Rattle.yf_events.specs.declared.document.Doc.{Doc}
 use Rattle.yf_events.specs.declared.lists.Lists.{Lists}
 use Rattle.yf_stream.proofs.LawsHold.{readings_are_one}
 use Rattle.yf_emit.specs.declared.style.Style.{Style}
-use Rattle.yf_emit.specs.Preservation.CommentsPlaced.{rows_in, source_in}
+use Rattle.yf_emit.specs.Preservation.CommentsPlaced.{rows_in, source_in, columns_in}
 use Rattle.yf_emit.specs.Preservation.EmptyTexts.{IsEmptyAlike}
 use Rattle.yf_emit.specs.Format.{IsFormatting}
 use Rattle.yf_emit.specs.Layouts.Layout.{Line, Source, blank_line, bytes_after, ended, comment_line, is_among, line_bytes, lines_of, lines_with_comments, own_line_comments, precedes_item, row_line, source_of}
@@ -21,6 +21,7 @@ use Rattle.yf_emit.specs.Layouts.BareStart.{is_bare}
 use Rattle.yf_emit.specs.Layouts.FitDocuments.{FitDocuments, fit_document, FitsBare, fits_bare, fit_no_documents}
 use Rattle.yf_emit.proofs.Derived.FormatsRead.{formats_bare, formats_fit}
 use Rattle.std.specs.Str.{IsUtf8}
+use Rattle.yf_emit.specs.Layouts.KeptColumns.{Columns}
 
 -- Lines have bytes, and documents rows.
 
@@ -42,11 +43,11 @@ joined_none : {X : Type 0} (xs : List X) (y : X) (ys : List X) → xs ++ (y ∷ 
 joined_none [] y ys e = cc
 joined_none (x ∷ xs) y ys e = cc
 
-rows_none : (c : Source) (own : List CommentValue) (rows : List Row) → lines_of c own rows ≡ [] → (rows ≡ []) × (own ≡ [])
-rows_none c [] [] e = (refl, refl)
-rows_none c (d ∷ own) [] e = absurd cc
-rows_none c own (x ∷ xs) e =
-    absurd (joined_none (map (comment_line x.column) (filter (precedes_item x) own)) (row_line c x) (lines_of c (filter (λ d. not (precedes_item x d)) own) xs) e)
+rows_none : (g : Columns) (c : Source) (own : List CommentValue) (rows : List Row) → lines_of g c own rows ≡ [] → (rows ≡ []) × (own ≡ [])
+rows_none g c [] [] e = (refl, refl)
+rows_none g c (d ∷ own) [] e = absurd cc
+rows_none g c own (x ∷ xs) e =
+    absurd (joined_none (map (comment_line g x.column) (filter (precedes_item x) own)) (row_line c x) (lines_of g c (filter (λ d. not (precedes_item x d)) own) xs) e)
 
 begun_some : (start : ℕ) (ds : List Directive) → beginning_at start (end_rows true ds ++ (map directive_row ds ++ (start_row ∷ []))) ≡ [] → ⊥
 begun_some start [] e = cc
@@ -98,13 +99,13 @@ empty_alike t u s utf8 f = record {
       let same : m.documents ≡ r.documents = ap (λ (w : Lists). w.documents) f.is_normal.is ∙ ap (λ (w : Lists). w.documents) (sym (readings_are_one t f.reading r f.reads a)) in
       let comments : m.comments ≡ r.comments = ap (λ (w : Lists). w.comments) f.is_normal.is ∙ ap (λ (w : Lists). w.comments) (sym (readings_are_one t f.reading r f.reads a)) in
       let bare : rows_in f ≡ [] = ap (λ ds. all_rows (setting_of m s) (is_bare m s) ds f.writes.trees) (same ∙ none) ∙ nothing_laid (setting_of m s) (is_bare m s) f.writes.trees in
-      f.writes.is ∙ (ap (λ xs. bytes_after at_text_start (lines_with_comments m xs)) bare ∙ ap (λ cs. bytes_after at_text_start (lines_of (source_of m []) cs [])) (own_alone f ∙ (comments ∙ alone)));
+      f.writes.is ∙ (ap (λ xs. bytes_after at_text_start (lines_with_comments (columns_in f) m xs)) bare ∙ ap (λ cs. bytes_after at_text_start (lines_of (columns_in f) (source_of m []) cs [])) (own_alone f ∙ (comments ∙ alone)));
   of_none_else = λ r a none.
       let m : Lists = f.normal in
       let same : r.documents ≡ m.documents = ap (λ (w : Lists). w.documents) (readings_are_one t f.reading r f.reads a) ∙ sym (ap (λ (w : Lists). w.documents) f.is_normal.is) in
       let comments : r.comments ≡ m.comments = ap (λ (w : Lists). w.comments) (readings_are_one t f.reading r f.reads a) ∙ sym (ap (λ (w : Lists). w.comments) f.is_normal.is) in
-      let lines : lines_with_comments m (rows_in f) ≡ [] = no_lines at_text_start (lines_with_comments m (rows_in f)) (sym f.writes.is ∙ none) in
-      let both = rows_none (source_in f) (own_line_comments (source_in f) (rows_in f)) (rows_in f) lines in
+      let lines : lines_with_comments (columns_in f) m (rows_in f) ≡ [] = no_lines at_text_start (lines_with_comments (columns_in f) m (rows_in f)) (sym f.writes.is ∙ none) in
+      let both = rows_none (columns_in f) (source_in f) (own_line_comments (source_in f) (rows_in f)) (rows_in f) lines in
       let bare : rows_in f ≡ [] = both.0 in (
         same ∙ all_none (setting_of m s) (is_bare m s) m.documents f.writes.trees (formats_fit utf8 f) (formats_bare utf8 f) bare,
         comments ∙ (sym (own_alone f) ∙ (sym (ap (λ xs. own_line_comments (source_of m xs) xs) bare) ∙ both.1)),

@@ -52,6 +52,9 @@ use Rattle.yf_emit.proofs.Derived.RowEnds.{after_decos, first_deco}
 use Rattle.yf_emit.proofs.Derived.RowsUtf8.{AreLines, no_line, line_more, RowLines, no_rows, row_more}
 use Rattle.yf_emit.proofs.OutputLines.TidyTexts.{IsTidy, TidyDecos, TidyGap, decos_tidy, gap_tidy, last_append, tidy_line}
 use Rattle.yf_emit.specs.Layouts.BareStart.{is_bare}
+use Rattle.yf_emit.specs.Preservation.CommentsPlaced.{columns_in}
+use Rattle.yf_emit.proofs.OutputLines.ColumnsHold.{WalkFrom, every, no_blocks}
+use Rattle.yf_emit.proofs.SameReading.CommentsCut.{Each}
 
 -- A comment on a line of its own, and rows.
 
@@ -122,7 +125,7 @@ module _ {t : List ℕ} (u : IsUtf8 t) (hs : List EventInText) (indent limit : �
       → LinesAre t ls (row_lines xs ds) → TidyLines indent limit Token bs (row_lines xs ds)
   rows_part ds ls no_rows none_stepped tabs told fit tidy gaps held are = no_more_lines
   rows_part ds [] (row_more text seen body more) steps tabs told fit tidy gaps held are = elim are [ ]
-  rows_part ds (l ∷ ls) (row_more {x = x} {xs = xs} text seen body more) (row_stepped {rest = rest} e b steps) (token_row one tabs) told fit tidy gaps held (more_lines a f are) =
+  rows_part ds (l ∷ ls) (row_more {x = x} {xs = xs} text seen body more) (row_stepped {rest = rest} e h b steps) (token_row one tabs) told fit tidy gaps held (more_lines a f are) =
       let d : Deco = first ds in
       let line = own_seen u hs [] x d (lines_then xs (after ds) []) a (own_next x xs ds a.follows f) (seen_long seen) (first_deco fit).trails (first_tidy tidy).0 held.0.seen in
       let bodies = past_lines x.body are in
@@ -161,12 +164,12 @@ lines_tidy t u s utf8 f =
     let a = formed utf8 f in
     let m : Lists = f.normal in
     let rows : List Row = rows_of m s f.writes.trees in
-    let decos : List Deco = row_decos m rows in
+    let decos : List Deco = row_decos (columns_in f) m rows in
     let comments = own_line_comments (source_of m rows) rows in
     record {
       lines = formed_lines f;
       is = formed_text f;
-      texts = line_texts (append_lines (gap_texts (first_gap m rows) a.gap) (row_texts decos a.rows a.decos));
+      texts = line_texts (append_lines (gap_texts (first_gap (columns_in f) m rows) a.gap) (row_texts decos a.rows a.decos));
       tidy = λ q b.
           let trees : List DocumentTree = f.writes.trees in
           let scalars : block_scalars (flat_map flat_document trees) ≡ block_scalars q.events =
@@ -187,9 +190,10 @@ lines_tidy t u s utf8 f =
           let limit : ℕ = suc (tall_documents b.trees) in
           let room : suc (tall_documents trees) ≤ limit = let same = found_tall found in omega (arith, same) in
           let steps : Stepped s.indent limit (block_scalars (flat_map flat_document trees)) rows = all_stepped (setting_of m s) limit (is_bare m s) room a.fit in
-          let lines = past_lines (gap_lines (first_gap m rows)) (formed_are b.lines f a b.are_lines) in
+          let walks : Each (WalkFrom t s (columns_in f) [] true rows) comments = every (λ d. record { is = λ next. refl }) comments in
+          let lines = past_lines (gap_lines (first_gap (columns_in f) m rows)) (formed_are b.lines f a b.are_lines) in
           subst (λ bs. TidyLines s.indent limit (IsToken q) bs (formed_lines f)) scalars
-          (gap_part a.utf8 q.events s.indent limit (IsToken q) (gap_stepped s.indent limit at_text_start comments steps) a.gap (gap_tidy at_text_start comments rows) (gap_tokens (IsToken q) at_text_start comments rows own)
-          (rows_part a.utf8 q.events s.indent limit (IsToken q) decos lines.0 a.rows steps tabs (decos_tokens (IsToken q) (source_of m rows) comments rows remarks keys own) a.decos (decos_tidy (source_of m rows) comments rows) (decos_stepped s.indent limit (source_of m rows) comments steps)
+          (gap_part a.utf8 q.events s.indent limit (IsToken q) (gap_stepped limit t s (columns_in f) at_text_start walks no_blocks steps) a.gap (gap_tidy (columns_in f) at_text_start comments rows) (gap_tokens (IsToken q) (columns_in f) at_text_start comments rows own)
+          (rows_part a.utf8 q.events s.indent limit (IsToken q) decos lines.0 a.rows steps tabs (decos_tokens (IsToken q) (columns_in f) (source_of m rows) comments rows remarks keys own) a.decos (decos_tidy (columns_in f) (source_of m rows) comments rows) (decos_stepped limit t s (columns_in f) (source_of m rows) walks no_blocks steps)
           (reading_held utf8 f b).bodies lines.1));
     }

@@ -16,13 +16,14 @@ use Rattle.yf_emit.specs.Format.{IsFormatting}
 use Rattle.yf_emit.specs.Layouts.Layout.{Remark, Source, first_comment, is_among, is_before, next_leaf, trailing, trailing_leaf, trimmed}
 use Rattle.yf_emit.specs.Preservation.LayoutKey.{SameDocuments, no_documents, same_document, SameEnds, no_ends, same_end, SameKey, SamePlace, no_place, same_place, SamePlaces, no_comments, same_comment, SameRows, no_more_rows, same_row}
 use Rattle.yf_emit.specs.NormalForms.Normal.{normal_document, root_spot, setting_of}
-use Rattle.yf_emit.specs.Preservation.ReadingKey.{DependsOnReading, Each, none_each, one_each, Either, in_neither, in_both, PairedOffsets, SameSpan, SameComment, SameRemark, NodesMatch, matched_scalars, matched_aliases, matched_empty_sequences, matched_empty_mappings, matched_sequences, matched_mappings, ItemsMatch, no_matched_items, matched_item, PairsMatch, no_matched_pairs, matched_pair, DocumentsMatch, no_matched_documents, matched_document, SameReadings}
+use Rattle.yf_emit.specs.Preservation.ReadingKey.{DependsOnReading, Each, none_each, one_each, Either, in_neither, in_both, PairedOffsets, SameSpan, SameComment, SameRemark, NodesMatch, matched_scalars, matched_aliases, matched_empty_sequences, matched_empty_mappings, matched_sequences, matched_mappings, ItemsMatch, no_matched_items, matched_item, PairsMatch, no_matched_pairs, matched_pair, DocumentsMatch, no_matched_documents, matched_document, SameReadings, SameColumn}
 use Rattle.yf_emit.specs.Layouts.Rows.{Row, all_rows, stream_rows}
 use Rattle.yf_emit.proofs.SameReading.StepComments.{firsts}
 use Rattle.yf_emit.proofs.Keeps.KeyDecides.{as_many_notes, key_decides}
 use Rattle.yf_emit.proofs.SameReading.StepLeaves.{laid_trees}
 use Rattle.yf_emit.proofs.Keeps.MatchedLemmas.{any_each, both_lt, each_append, find_each, keys_agree, matched_alike}
 use Rattle.yf_emit.proofs.Keeps.MatchedRows.{RowMatch, bare_match, begun_match, directives_match, ends_match, rows_match, settled_matched, start_match}
+use Rattle.yf_emit.specs.Layouts.KeptColumns.{Columns, column_among_rows, columns_if, columns_of, keeps_blocks}
 
 same_eq : (a m b n : ℕ) → nat_lt a m ≡ nat_lt b n → nat_lt m a ≡ nat_lt n b → (a == m) ≡ (b == n)
 same_eq a m b n e f = grind (arith, nat_tests)
@@ -120,9 +121,9 @@ module _ {ps : PairedOffsets} where
   place_same {c} {d} a (one_each r more) =
       same_place (any_each (λ item. nat_lt c.offset item) (λ item. nat_lt d.offset item) (λ i j s. s.after c.offset d.offset a.paired) r.items) (place_same a more)
 
-  places_same : {cs ds : List CommentValue} {xs ys : List Row} → Each (SameComment ps) cs ds → Each (RowMatch ps) xs ys → SamePlaces xs ys cs ds
-  places_same none_each rows = no_comments
-  places_same (one_each a more) rows = same_comment a.text a.blank (place_same a rows) (places_same more rows)
+  places_same : {p q : Columns} {cs ds : List CommentValue} {xs ys : List Row} → Each (SameComment ps) cs ds → Each (SameColumn p q) cs ds → Each (RowMatch ps) xs ys → SamePlaces p q xs ys cs ds
+  places_same none_each none_each rows = no_comments
+  places_same (one_each a more) (one_each b columns) rows = same_comment a.text a.blank (place_same a rows) b.is (places_same more columns rows)
 
   remark_comments : {xs ys : List Remark} → Each (SameRemark ps) xs ys → Each (SameComment ps) (map (λ (r : Remark). r.0) xs) (map (λ (r : Remark). r.0) ys)
   remark_comments none_each = none_each
@@ -182,6 +183,14 @@ rows_are {t} {s = s} f =
 reading_notes : {t u : List ℕ} {s : Style} (f : IsFormatting t s u) → length f.reading.on_leaf_line ≡ length f.reading.comments
 reading_notes f = sym (ap (λ (m : Lists). length m.on_leaf_line) f.is_normal.is) ∙ (as_many_notes f ∙ ap (λ (m : Lists). length m.comments) f.is_normal.is)
 
+-- where comments are at the columns of the next lines
+columns_same : {ps : PairedOffsets} {cs ds : List CommentValue} (t v : List ℕ) (s : Style) (xs ys : List Row) (b : Bool) → keeps_blocks s ≡ b → (keeps_blocks s ≡ true → Each (SameColumn (columns_of t s xs) (columns_of v s ys)) cs ds) → Each (SameComment ps) cs ds
+    → Each (SameColumn (columns_of t s xs) (columns_of v s ys)) cs ds
+columns_same t v s xs ys true e f a = f e
+columns_same t v s xs ys false e f none_each = none_each
+columns_same t v s xs ys false e f (one_each {x = c} {y = d} a more) =
+    one_each (record { is = λ next. ap (λ z. columns_if z (column_among_rows t s [] true xs c) next) e ∙ sym (ap (λ z. columns_if z (column_among_rows v s [] true ys d) next) e) }) (columns_same t v s xs ys false e (λ h. absurd (true≢false (sym h ∙ e))) more)
+
 same_key : {t u v w : List ℕ} {s : Style} (f : IsFormatting t s u) (g : IsFormatting v s w) → SameReadings f g → SameKey f g
 same_key {t} {u} {v} {w} {s} f g a =
     let ps : PairedOffsets = a.pairs in
@@ -209,7 +218,7 @@ same_key {t} {u} {v} {w} {s} f g a =
       documents =
           subst (λ (m : Lists). SameDocuments s m.comments g.normal.comments m.documents f.writes.trees g.normal.documents g.writes.trees) (sym f.is_normal.is)
           (subst (λ (m : Lists). SameDocuments s r.comments m.comments r.documents f.writes.trees m.documents g.writes.trees) (sym g.is_normal.is) trees);
-      places = places_same comments rows;
+      places = places_same comments (columns_same t v s (rows_in f) (rows_in g) (keeps_blocks s) refl a.columns comments) rows;
       ends = ends_same sources comments;
       rows = rows_same sources rows;
     }

@@ -19,12 +19,16 @@ use Rattle.yf_emit.specs.Layouts.ReadableTrees.{Fit, FitItems, fit_item, FitPair
 use Rattle.yf_emit.specs.Layouts.Layout.{Source, may_be_blank_after, precedes_item}
 use Rattle.yf_emit.specs.NormalForms.Normal.{LayoutSetting, Spot, inner_spot, is_implicit, key_comment, key_spot, root_spot, value_column, value_entries, value_of_implicit, value_spot}
 use Rattle.yf_emit.specs.Nodes.OneLine.{colon_after, props_text, spaced, width, written}
-use Rattle.yf_emit.specs.Layouts.Rows.{Ending, Row, anywhere, begins_below, beginning_at, after_key, colon_row, directive_row, document_rows, end_rows, entry_row, explicit_pair, is_empty_text, joined, key_row, one_line, one_line_row, pair_rows, props_row, rows, rows_of_items, rows_of_pairs, all_rows, bare_rows, begun_at, stream_rows}
+use Rattle.yf_emit.specs.Layouts.Rows.{Ending, Row, anywhere, begins_below, beginning_at, after_key, colon_row, directive_row, document_rows, end_rows, entry_row, explicit_pair, is_empty_text, joined, key_row, one_line, one_line_row, pair_rows, props_row, rows, rows_of_items, rows_of_pairs, all_rows, bare_rows, begun_at, stream_rows, Start}
 use Rattle.yf_emit.specs.Preservation.TidyLines.{BlockScalar, block_scalars}
 use Rattle.yf_emit.proofs.Columns.FlowEvents.{AllFlow}
 use Rattle.yf_emit.proofs.ReadAgain.NoteTrees.{inline_flow, items_fit, key_flow, pairs_fit}
 use Rattle.yf_emit.proofs.Keeps.ScalarsAmong.{flow_none, scalars_append, scalars_ended}
 use Rattle.yf_emit.proofs.Derived.TreesMade.{either_pair}
+use Rattle.yf_emit.specs.Layouts.KeptColumns.{Columns}
+use Rattle.yf_emit.proofs.OutputLines.ColumnsHold.{AllBlocks, GapHolds, StartsHold, WalkFrom, after_blocks, blank_holds, blocks_map, gap_columns, left_walk, none_holds, remark_holds}
+use Rattle.yf_emit.specs.Layouts.CommentColumns.{OpenBlock}
+use Rattle.yf_emit.proofs.SameReading.CommentsCut.{Each}
 
 -- Columns.
 
@@ -34,7 +38,7 @@ pub record IsStep (indent limit column : ℕ) : Type 0 where
   pub is : column ≡ steps * indent
   pub low : steps ≤ limit
 
-no_step : {indent limit : ℕ} → IsStep indent limit 0
+pub no_step : {indent limit : ℕ} → IsStep indent limit 0
 no_step {indent} = record { steps = 0; is = omega arith; low = omega arith }
 
 one_on : {indent limit column : ℕ} → IsStep indent limit column → IsStep indent (suc limit) (column + indent)
@@ -60,6 +64,14 @@ entries_step s limit column v a = by (is_sequence v && not s.seq_indent) where
 -- Rows.
 
 module _ (indent limit : ℕ) where
+  -- the entries that begin on a row are at such columns, and what is in them too
+  abbrev pub StartSteps : List Start → Type 0
+  StartSteps ss = StartsHold (λ k. IsStep indent limit k × IsStep indent limit (k + indent)) ss
+
+  starts_append : (xs ys : List Start) → StartSteps xs → StartSteps ys → StartSteps (xs ++ ys)
+  starts_append [] ys a b = b
+  starts_append (x ∷ xs) ys a b = (a.0, starts_append xs ys a.1 b)
+
   -- a text ends with the header of a block scalar
   pub record HeaderEnds (b : BlockScalar) (text : List ℕ) : Type 0 where
     pub before : List ℕ
@@ -72,12 +84,12 @@ module _ (indent limit : ℕ) where
 
   pub data Stepped : List BlockScalar → List Row → Type 0 where
     none_stepped : Stepped [] []
-    row_stepped : {rest bs : List BlockScalar} {x : Row} {xs : List Row} → IsStep indent limit x.column → StepBody x.text rest bs x.body → Stepped rest xs → Stepped bs (x ∷ xs)
+    row_stepped : {rest bs : List BlockScalar} {x : Row} {xs : List Row} → IsStep indent limit x.column → StartSteps x.starts → StepBody x.text rest bs x.body → Stepped rest xs → Stepped bs (x ∷ xs)
 
   -- the same, where the first row may be anywhere
   data Loose : List BlockScalar → List Row → Type 0 where
     no_loose : Loose [] []
-    one_loose : {rest bs : List BlockScalar} {x : Row} {xs : List Row} → StepBody x.text rest bs x.body → Stepped rest xs → Loose bs (x ∷ xs)
+    one_loose : {rest bs : List BlockScalar} {x : Row} {xs : List Row} → StartSteps x.starts → StepBody x.text rest bs x.body → Stepped rest xs → Loose bs (x ∷ xs)
 
   data FirstStep : List Row → Type 0 where
     no_first : FirstStep []
@@ -85,15 +97,15 @@ module _ (indent limit : ℕ) where
 
   whole : {bs : List BlockScalar} {xs : List Row} → Loose bs xs → FirstStep xs → Stepped bs xs
   whole no_loose b = none_stepped
-  whole (one_loose a more) (one_first b) = row_stepped b a more
+  whole (one_loose h a more) (one_first b) = row_stepped b h a more
 
   loose : {bs : List BlockScalar} {xs : List Row} → Stepped bs xs → Loose bs xs
   loose none_stepped = no_loose
-  loose (row_stepped a b more) = one_loose b more
+  loose (row_stepped a h b more) = one_loose h b more
 
   first_of : {bs : List BlockScalar} {xs : List Row} → Stepped bs xs → FirstStep xs
   first_of none_stepped = no_first
-  first_of (row_stepped a b more) = one_first a
+  first_of (row_stepped a h b more) = one_first a
 
   -- with other scalars after them, and with a text before theirs
   body_append : {text : List ℕ} {rest bs : List BlockScalar} {body : List (List ℕ)} (cs : List BlockScalar) → StepBody text rest bs body → StepBody text (rest ++ cs) (bs ++ cs) body
@@ -107,15 +119,15 @@ module _ (indent limit : ℕ) where
 
   stepped_append : {bs cs : List BlockScalar} {xs ys : List Row} → Stepped bs xs → Stepped cs ys → Stepped (bs ++ cs) (xs ++ ys)
   stepped_append none_stepped b = b
-  stepped_append {cs = cs} (row_stepped a c more) b = row_stepped a (body_append cs c) (stepped_append more b)
+  stepped_append {cs = cs} (row_stepped a h c more) b = row_stepped a h (body_append cs c) (stepped_append more b)
 
-  joined_stepped : (head : Row) (n : ℕ) {bs : List BlockScalar} {rs : List Row} → IsStep indent limit head.column → head.body ≡ [] → Loose bs rs → Stepped bs (joined head n rs)
-  joined_stepped head n a e no_loose = row_stepped a (subst (λ z. StepBody head.text [] [] z) (sym e) bare_body) none_stepped
-  joined_stepped head n a e (one_loose b more) = row_stepped a (body_before head.text (body_before (replicate n 32) b)) more
+  joined_stepped : (head : Row) (n : ℕ) {bs : List BlockScalar} {rs : List Row} → IsStep indent limit head.column → StartSteps head.starts → head.body ≡ [] → Loose bs rs → Stepped bs (joined head n rs)
+  joined_stepped head n a h e no_loose = row_stepped a h (subst (λ z. StepBody head.text [] [] z) (sym e) bare_body) none_stepped
+  joined_stepped head n a h e (one_loose {x = x} i b more) = row_stepped a (starts_append head.starts x.starts h i) (body_before head.text (body_before (replicate n 32) b)) more
 
   line_loose : (column : ℕ) (x : Node) (w : List ℕ) → Loose [] (one_line_row column x w)
   line_loose column x [] = no_loose
-  line_loose column x (b ∷ w) = one_loose bare_body none_stepped
+  line_loose column x (b ∷ w) = one_loose tt bare_body none_stepped
 
   line_first : (column : ℕ) (x : Node) (w : List ℕ) → IsStep indent limit column → FirstStep (one_line_row column x w)
   line_first column x [] a = no_first
@@ -123,7 +135,7 @@ module _ (indent limit : ℕ) where
 
   props_loose : (column : ℕ) (w : List ℕ) {bs : List BlockScalar} {rs : List Row} → Stepped bs rs → Loose bs (props_row column w ++ rs)
   props_loose column [] a = loose a
-  props_loose column (b ∷ w) a = one_loose bare_body a
+  props_loose column (b ∷ w) a = one_loose tt bare_body a
 
   props_first : (column : ℕ) (w : List ℕ) {rs : List Row} → IsStep indent limit column → FirstStep rs → FirstStep (props_row column w ++ rs)
   props_first column [] a b = b
@@ -177,9 +189,10 @@ module _ (c : LayoutSetting) (limit : ℕ) where
   explicit_stepped {n} {k} {v} column a b d =
       let room : suc (suc n) ≤ limit = a.room in
       let here : AtStep limit column = wider limit (omega (arith, room)) d in
+      let start : AtStep limit column × AtStep limit (column + c.style.indent) = (here, wider limit (omega (arith, room)) (one_on d)) in
       stepped_append c.style.indent limit
-      (joined_stepped c.style.indent limit (entry_row column (63 ∷ []) k) (c.style.indent - 1) here refl (inner_loose (key_spot c.style column k) a (one_on d) refl))
-      (joined_stepped c.style.indent limit (colon_row column k) (c.style.indent - 1) here refl (inner_loose (inner_spot c.style column) b (one_on d) refl))
+      (joined_stepped c.style.indent limit (entry_row column (63 ∷ []) k) (c.style.indent - 1) here (start, tt) refl (inner_loose (key_spot c.style column k) a (one_on d) refl))
+      (joined_stepped c.style.indent limit (colon_row column k) (c.style.indent - 1) here (start, tt) refl (inner_loose (inner_spot c.style column) b (one_on d) refl))
 
   -- the value after an implicit key
   value_rows : {n : ℕ} (k : Node) {v : Node} (column : ℕ) → NodeStepped (suc n) v → AtStep n column → (o : Option CommentValue) → key_comment c.comments k v ≡ o → (below : Bool) → begins_below v ≡ below
@@ -190,6 +203,9 @@ module _ (c : LayoutSetting) (limit : ℕ) where
 
     here : AtStep limit column
     here = wider limit (omega (arith, room)) d
+
+    start : AtStep limit column × AtStep limit (column + c.style.indent)
+    start = (here, wider limit (omega (arith, room)) (one_on d))
 
     entries : AtStep (suc n) (value_entries c.style column v)
     entries = entries_step c.style n column v d
@@ -202,10 +218,10 @@ module _ (c : LayoutSetting) (limit : ℕ) where
     by (Some comment) e below f =
         let at : value_column c column k v ≡ column + c.style.indent =
         ap (λ (z : Option CommentValue). if is_some z then column + c.style.indent else column + width (written c.style k) + width (colon_after k) + 1) e in
-        row_stepped here bare_body
+        row_stepped here (start, tt) bare_body
         (whole c.style.indent limit inner (b.first (value_of_implicit c column k v) (subst (λ z. AtStep limit z) (sym at) (wider limit (omega (arith, room)) (one_on d))) entries))
-    by None e true f = row_stepped here bare_body (whole c.style.indent limit inner (b.below (value_of_implicit c column k v) f entries))
-    by None e false f = joined_stepped c.style.indent limit (key_row c.style column k) 1 here refl inner
+    by None e true f = row_stepped here (start, tt) bare_body (whole c.style.indent limit inner (b.below (value_of_implicit c column k v) f entries))
+    by None e false f = joined_stepped c.style.indent limit (key_row c.style column k) 1 here (start, tt) refl inner
 
   pair_stepped : {n : ℕ} {k v : Node} (column : ℕ) → Fit c.style k → NodeStepped (suc n) k → NodeStepped (suc n) v → AtStep n column
       → AreStepped (block_scalars (flat k) ++ block_scalars (flat v)) (pair_rows c column k v (rows c (key_spot c.style column k) k) (rows c (value_spot c column k v) v))
@@ -248,14 +264,14 @@ module _ (c : LayoutSetting) (limit : ℕ) where
     node_stepped n (scalar at props Literal text lines) l fit = record {
       room = omega (arith, l);
       rows_loose = λ spot a b.
-          one_loose (step_body {b = record { style = Literal; text = text; lines = lines }} (wider limit (omega (arith, l)) b) (header_spaced c.style.indent limit (props_text props) (record { style = Literal; text = text; lines = lines }))) none_stepped;
+          one_loose tt (step_body {b = record { style = Literal; text = text; lines = lines }} (wider limit (omega (arith, l)) b) (header_spaced c.style.indent limit (props_text props) (record { style = Literal; text = text; lines = lines }))) none_stepped;
       first = λ spot a b. one_first a;
       below = λ spot f a. absurd (no_below f);
     }
     node_stepped n (scalar at props Folded text lines) l fit = record {
       room = omega (arith, l);
       rows_loose = λ spot a b.
-          one_loose (step_body {b = record { style = Folded; text = text; lines = lines }} (wider limit (omega (arith, l)) b) (header_spaced c.style.indent limit (props_text props) (record { style = Folded; text = text; lines = lines }))) none_stepped;
+          one_loose tt (step_body {b = record { style = Folded; text = text; lines = lines }} (wider limit (omega (arith, l)) b) (header_spaced c.style.indent limit (props_text props) (record { style = Folded; text = text; lines = lines }))) none_stepped;
       first = λ spot a b. one_first a;
       below = λ spot f a. absurd (no_below f);
     }
@@ -299,7 +315,7 @@ module _ (c : LayoutSetting) (limit : ℕ) where
         let less = two_less (suc n) (tall x) (tall_items xs) l in
         two_scalars (flat x) (flat_items xs)
         (stepped_append c.style.indent limit
-        (joined_stepped c.style.indent limit (entry_row column (45 ∷ []) x) (c.style.indent - 1) (wider limit (omega (arith, l)) a) refl
+        (joined_stepped c.style.indent limit (entry_row column (45 ∷ []) x) (c.style.indent - 1) (wider limit (omega (arith, l)) a) ((wider limit (omega (arith, l)) a, wider limit (omega (arith, l)) (one_on a)), tt) refl
         (inner_loose (inner_spot c.style column) (node_stepped (suc n) x less.0 f) (one_on a) refl))
         (items_stepped n column xs a less.1 fs))
 
@@ -315,16 +331,16 @@ module _ (c : LayoutSetting) (limit : ℕ) where
 
   beginning_stepped : (start : ℕ) {bs : List BlockScalar} {xs : List Row} → AreStepped bs xs → AreStepped bs (beginning_at start xs)
   beginning_stepped start none_stepped = none_stepped
-  beginning_stepped start (row_stepped a b more) = row_stepped a b more
+  beginning_stepped start (row_stepped a h b more) = row_stepped a h b more
 
   ends_stepped : (b : Bool) (ds : List Directive) → AreStepped [] (end_rows b ds)
   ends_stepped true ds = none_stepped
   ends_stepped false [] = none_stepped
-  ends_stepped false (d ∷ ds) = row_stepped no_step bare_body none_stepped
+  ends_stepped false (d ∷ ds) = row_stepped no_step tt bare_body none_stepped
 
   directives_stepped : (ds : List Directive) → AreStepped [] (map directive_row ds)
   directives_stepped [] = none_stepped
-  directives_stepped (d ∷ ds) = row_stepped no_step bare_body (directives_stepped ds)
+  directives_stepped (d ∷ ds) = row_stepped no_step tt bare_body (directives_stepped ds)
 
   stream_stepped : {ds : List Doc} {xs : List DocumentTree} (b : Bool) → suc (tall_documents xs) ≤ limit → FitDocuments c.style ds xs → AreStepped (block_scalars (flat_map flat_document xs)) (stream_rows c b ds xs)
   stream_stepped b l fit_no_documents = none_stepped
@@ -335,7 +351,7 @@ module _ (c : LayoutSetting) (limit : ℕ) where
       let here : AreStepped (block_scalars (flat x.root)) (document_rows c b d x) =
       stepped_append c.style.indent limit
       (beginning_stepped d.start (stepped_append c.style.indent limit (ends_stepped b d.directives)
-      (stepped_append c.style.indent limit (directives_stepped d.directives) (row_stepped no_step bare_body none_stepped))))
+      (stepped_append c.style.indent limit (directives_stepped d.directives) (row_stepped no_step tt bare_body none_stepped))))
       (node_whole (root_spot c.style) (node_stepped 0 x.root less.0 fit) no_step no_step one_step) in
       two_scalars (flat_document x) (flat_map flat_document xs)
       (stepped_append c.style.indent limit (subst (λ z. AreStepped z (document_rows c b d x)) (sym (scalars_ended (flat x.root) (document_ends x.closed) refl)) here)
@@ -343,7 +359,7 @@ module _ (c : LayoutSetting) (limit : ℕ) where
 
   begun_stepped : (start : ℕ) {bs : List BlockScalar} {xs : List Row} → AreStepped bs xs → AreStepped bs (begun_at start xs)
   begun_stepped start none_stepped = none_stepped
-  begun_stepped start (row_stepped a b more) = row_stepped a b more
+  begun_stepped start (row_stepped a h b more) = row_stepped a h b more
 
   pub all_stepped : {ds : List Doc} {xs : List DocumentTree} (bare : Bool) → suc (tall_documents xs) ≤ limit → FitDocuments c.style ds xs → AreStepped (block_scalars (flat_map flat_document xs)) (all_rows c bare ds xs)
   all_stepped false l fits = stream_stepped true l fits
@@ -369,25 +385,27 @@ module _ (indent limit : ℕ) where
     no_decos : DecoSteps []
     more_decos : {d : Deco} {ds : List Deco} → GapSteps d.gap → DecoSteps ds → DecoSteps (d ∷ ds)
 
-  gaps_append : {gs hs : List GapLine} → GapSteps gs → GapSteps hs → GapSteps (gs ++ hs)
-  gaps_append no_gap b = b
-  gaps_append (blank_step a) b = blank_step (gaps_append a b)
-  gaps_append (remark_step e a) b = remark_step e (gaps_append a b)
+  gap_steps : {gs : List GapLine} → GapHolds (IsStep indent limit) gs → GapSteps gs
+  gap_steps none_holds = no_gap
+  gap_steps (blank_holds h) = blank_step (gap_steps h)
+  gap_steps (remark_holds a h) = remark_step a (gap_steps h)
 
-  blank_stepped : (b : Bool) → GapSteps (blank_if b)
-  blank_stepped true = blank_step no_gap
-  blank_stepped false = no_gap
+-- what is open is at such columns, and what is in it too
+abbrev pub BlockSteps : ℕ → ℕ → List OpenBlock → Type 0
+BlockSteps indent limit bs = AllBlocks (λ k. IsStep indent limit k × IsStep indent limit (k + indent)) bs
 
-  remarks_stepped : (before : Ending) (column : ℕ) (cs : List CommentValue) → IsStep indent limit column → GapSteps (remarks_after before column cs)
-  remarks_stepped before column [] a = no_gap
-  remarks_stepped before column (c ∷ cs) a = gaps_append (blank_stepped (may_be_blank_after before && c.blank_before)) (remark_step a (remarks_stepped anywhere column cs a))
+module _ (limit : ℕ) (t : List ℕ) (s : Style) (g : Columns) where
+  first_column : {bs : List BlockScalar} {xs : List Row} (row : Row) (others : List Row) → xs ≡ row ∷ others → Stepped s.indent limit bs xs → IsStep s.indent limit row.column
+  first_column row others e none_stepped = absurd cc
+  first_column row others e (row_stepped {x = x} b h c more) = let same : x ≡ row = cc in subst (λ (z : Row). IsStep s.indent limit z.column) same b
 
-  pub gap_stepped : {bs : List BlockScalar} (before : Ending) (cs : List CommentValue) {xs : List Row} → Stepped indent limit bs xs → GapSteps (gap_of before cs xs)
-  gap_stepped before cs none_stepped = remarks_stepped before 0 cs no_step
-  gap_stepped before cs (row_stepped {x = x} a b more) =
-      gaps_append (remarks_stepped before x.column (filter (precedes_item x) cs) a)
-      (blank_stepped (may_be_blank_after (ending_after before (filter (precedes_item x) cs)) && x.blank_before))
+  pub gap_stepped : {bs : List BlockScalar} {os : List OpenBlock} {may : Bool} (before : Ending) {cs : List CommentValue} {xs : List Row} → Each (WalkFrom t s g os may xs) cs → BlockSteps s.indent limit os → Stepped s.indent limit bs xs
+      → GapSteps s.indent limit (gap_of g before cs xs)
+  gap_stepped before {xs = xs} w o a =
+      gap_steps s.indent limit (gap_columns (IsStep s.indent limit) t s before xs w no_step (λ row others e. first_column row others e a) (blocks_map (λ k p. p.0) o) (λ e. blocks_map (λ k p. p.1) o))
 
-  pub decos_stepped : {bs : List BlockScalar} (c : Source) (cs : List CommentValue) {xs : List Row} → Stepped indent limit bs xs → DecoSteps (decos_of c cs xs)
-  decos_stepped c cs none_stepped = no_decos
-  decos_stepped c cs (row_stepped {x = x} a b more) = more_decos (gap_stepped x.ending (comments_left x cs) more) (decos_stepped c (comments_left x cs) more)
+  pub decos_stepped : {bs : List BlockScalar} {os : List OpenBlock} {may : Bool} (c : Source) {cs : List CommentValue} {xs : List Row} → Each (WalkFrom t s g os may xs) cs → BlockSteps s.indent limit os → Stepped s.indent limit bs xs
+      → DecoSteps s.indent limit (decos_of g c cs xs)
+  decos_stepped c w o none_stepped = no_decos
+  decos_stepped c w o (row_stepped {x = x} a h b more) =
+      more_decos (gap_stepped x.ending (left_walk w) (after_blocks t x h o) more) (decos_stepped c (left_walk w) (after_blocks t x h o) more)

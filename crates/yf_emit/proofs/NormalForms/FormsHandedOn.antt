@@ -94,11 +94,11 @@ module _ {t : List ℕ} {r m : Lists} {s : Style} {ms : List Measure} {fs : List
   told : MeasuresTell m.events ms
   told = told_alike (ap (map asked) in_pass.is ∙ same_measures t [] (setting_of r s) (setting s []) h.restyled.events) (measured_tells own_measured)
 
-  lays_out : printed (work_of m s ms fs (all_found m ms fs)) ≡ layout m s (trees_in normal)
-  lays_out = printed_lays_out m s ms fs normal (trees_in normal) (trees_of normal) told same_forms
+  lays_out : printed (work_of t m s ms fs (all_found m ms fs)) ≡ layout t m s (trees_in normal)
+  lays_out = printed_lays_out t m s ms fs normal (trees_in normal) (trees_of normal) told same_forms
 
   -- so it is what formatting the text gives
-  pub kept_so : (u : List ℕ) → u ≡ printed (work_of m s ms fs (all_found m ms fs)) → FormatKept t s u
+  pub kept_so : (u : List ℕ) → u ≡ printed (work_of t m s ms fs (all_found m ms fs)) → FormatKept t s u
   kept_so u e = format_keeps t s u h.utf8 (record {
     reading = r;
     normal = m;

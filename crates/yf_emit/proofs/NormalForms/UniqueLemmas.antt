@@ -12,5 +12,5 @@ normal_unique t r s m n a b =
     a.is ∙ (ap (λ ds. record r { events = flat_stream (map (normal_document t (setting_of r s)) ds) }) (trees_unique r _ _ a.of_reading b.of_reading)
     ∙ sym b.is)
 
-pub layout_unique : (m : Lists) (s : Style) (u v : List ℕ) → IsLayout m s u → IsLayout m s v → u ≡ v
-layout_unique m s u v a b = a.is ∙ (ap (λ ds. layout m s ds) (trees_unique m _ _ a.of_reading b.of_reading) ∙ sym b.is)
+pub layout_unique : (t : List ℕ) (m : Lists) (s : Style) (u v : List ℕ) → IsLayout t m s u → IsLayout t m s v → u ≡ v
+layout_unique t m s u v a b = a.is ∙ (ap (λ ds. layout t m s ds) (trees_unique m _ _ a.of_reading b.of_reading) ∙ sym b.is)

@@ -22,6 +22,12 @@ use Rattle.yf_emit.specs.Layouts.Rows.{Row, Ending, anywhere, one_line, one_line
 use Rattle.yf_emit.specs.Nodes.OneLine.{written, props_text}
 use Rattle.yf_emit.proofs.Derived.RowsUtf8.{RowLines, no_rows, row_more, all_lines}
 use Rattle.yf_emit.proofs.Derived.TreesMade.{either_pair}
+use Rattle.yf_emit.specs.Layouts.KeptColumns.{Columns, columns_of, is_bodyless}
+use Rattle.yf_emit.proofs.OutputLines.ColumnsHold.{GapHolds, WalkFrom, blank_holds, every, gap_columns, left_walk, none_holds, remark_holds}
+use Rattle.yf_emit.proofs.OutputLines.ChainedRows.{layout_chain}
+use Rattle.yf_emit.proofs.OutputLines.OpenChains.{BodyRight, Chained, chain_row}
+use Rattle.yf_emit.specs.Layouts.CommentColumns.{OpenBlock}
+use Rattle.yf_emit.proofs.SameReading.CommentsCut.{Each}
 
 -- Columns of rows.
 
@@ -236,19 +242,10 @@ gap_join k [] ys a b = b
 gap_join k (blank ∷ xs) ys a b = gap_join k xs ys a b
 gap_join k (remark column text ∷ xs) ys a b = (a.0, gap_join k xs ys a.1 b)
 
-blank_left : (k : ℕ) (b : Bool) → AllLeft k (blank_if b)
-blank_left k true = tt
-blank_left k false = tt
-
-remarks_left : (k : ℕ) (before : Ending) (column : ℕ) (cs : List CommentValue) → column < k → AllLeft k (remarks_after before column cs)
-remarks_left k before column [] l = tt
-remarks_left k before column (c ∷ cs) l = gap_join k (blank_if (may_be_blank_after before && c.blank_before)) (remark column (trimmed c.text) ∷ remarks_after anywhere column cs)
-    (blank_left k (may_be_blank_after before && c.blank_before)) (l, remarks_left k anywhere column cs l)
-
-gap_left : (k : ℕ) (before : Ending) (cs : List CommentValue) (rs : List Row) → next_column 0 rs < k → AllLeft k (gap_of before cs rs)
-gap_left k before cs [] l = remarks_left k before 0 cs l
-gap_left k before cs (r ∷ rs) l = gap_join k (remarks_after before r.column (filter (precedes_item r) cs)) (blank_if (may_be_blank_after (ending_after before (filter (precedes_item r) cs)) && r.blank_before))
-    (remarks_left k before r.column (filter (precedes_item r) cs) l) (blank_left k (may_be_blank_after (ending_after before (filter (precedes_item r) cs)) && r.blank_before))
+gap_left : {k : ℕ} {gs : List GapLine} → GapHolds (λ c. c < k) gs → AllLeft k gs
+gap_left none_holds = tt
+gap_left (blank_holds h) = gap_left h
+gap_left (remark_holds l h) = (l, gap_left h)
 
 rows_below : {k : ℕ} {rs : List Row} (ds : List Deco) → RowLines rs → next_column 0 rs < k → Below k (lines_then rs ds [])
 rows_below ds no_rows l = nothing_below
@@ -262,31 +259,37 @@ no_blank : (m b : Bool) → m ≡ false → blank_if (m && b) ≡ []
 no_blank true b e = absurd (true≢false e)
 no_blank false b e = refl
 
-after_kept : (before : Ending) (column : ℕ) (b : Bool) (cs : List CommentValue) → may_be_blank_after before ≡ false
-    → KeptGap Keep (remarks_after before column cs ++ blank_if (may_be_blank_after (ending_after before cs) && b))
-after_kept before column b [] e = subst (λ g. KeptGap Keep g) (sym (no_blank (may_be_blank_after before) b e)) tt
-after_kept before column b (c ∷ cs) e =
-    subst (λ g. KeptGap Keep ((g ++ (remark column (trimmed c.text) ∷ remarks_after anywhere column cs)) ++ blank_if b)) (sym (no_blank (may_be_blank_after before) c.blank_before e)) tt
+after_kept : (g : Columns) (before : Ending) (column : ℕ) (b : Bool) (cs : List CommentValue) → may_be_blank_after before ≡ false
+    → KeptGap Keep (remarks_after g before column cs ++ blank_if (may_be_blank_after (ending_after before cs) && b))
+after_kept g before column b [] e = subst (λ z. KeptGap Keep z) (sym (no_blank (may_be_blank_after before) b e)) tt
+after_kept g before column b (c ∷ cs) e =
+    subst (λ z. KeptGap Keep ((z ++ (remark (g c column) (trimmed c.text) ∷ remarks_after g anywhere column cs)) ++ blank_if b)) (sym (no_blank (may_be_blank_after before) c.blank_before e)) tt
 
-gap_kept : (before : Ending) (cs : List CommentValue) (rs : List Row) → may_be_blank_after before ≡ false → KeptGap Keep (gap_of before cs rs)
-gap_kept before [] [] e = tt
-gap_kept before (c ∷ cs) [] e =
-    subst (λ g. KeptGap Keep (g ++ (remark 0 (trimmed c.text) ∷ remarks_after anywhere 0 cs))) (sym (no_blank (may_be_blank_after before) c.blank_before e)) tt
-gap_kept before cs (r ∷ rs) e = after_kept before r.column r.blank_before (filter (precedes_item r) cs) e
+gap_kept : (g : Columns) (before : Ending) (cs : List CommentValue) (rs : List Row) → may_be_blank_after before ≡ false → KeptGap Keep (gap_of g before cs rs)
+gap_kept g before [] [] e = tt
+gap_kept g before (c ∷ cs) [] e =
+    subst (λ z. KeptGap Keep (z ++ (remark (g c 0) (trimmed c.text) ∷ remarks_after g anywhere 0 cs))) (sym (no_blank (may_be_blank_after before) c.blank_before e)) tt
+gap_kept g before cs (r ∷ rs) e = after_kept g before r.column r.blank_before (filter (precedes_item r) cs) e
 
-calm_body : (body : List (List ℕ)) (lines : ℕ) {rs : List Row} (before : Ending) (cs : List CommentValue) (ds : List Deco) → RowLines rs → IsLeft body (next_column 0 rs) lines
-    → CalmBody body lines before (gap_of before cs rs) (lines_then rs ds [])
-calm_body [] lines before cs ds a l = tt
-calm_body (x ∷ xs) lines {rs = rs} before cs ds a l = (gap_left lines before cs rs l, (rows_below ds a l, λ e. gap_kept before cs rs e))
+first_column : (k : ℕ) (rs : List Row) (row : Row) (others : List Row) → next_column 0 rs < k → rs ≡ row ∷ others → row.column < k
+first_column k rs row others l e = subst (λ z. next_column 0 z < k) e l
 
-calm_rows : {rs : List Row} (c : Source) (cs : List CommentValue) → RowLines rs → Steps 0 rs → Calm rs (decos_of c cs rs) []
-calm_rows c cs no_rows b = tt
-calm_rows c cs (row_more {x = x} {xs = xs} a s k more) (one_step l b) =
-    (calm_body x.body x.lines x.ending (comments_left x cs) (decos_of c (comments_left x cs) xs) more l, calm_rows c (comments_left x cs) more b)
+module _ (t : List ℕ) (s : Style) (g : Columns) where
+  calm_body : (body : List (List ℕ)) (lines : ℕ) {rs : List Row} {bs : List OpenBlock} (before : Ending) (cs : List CommentValue) (ds : List Deco) → RowLines rs → IsLeft body (next_column 0 rs) lines → BodyRight body lines bs
+      → Each (WalkFrom t s g bs (is_bodyless body) rs) cs → CalmBody body lines before (gap_of g before cs rs) (lines_then rs ds [])
+  calm_body [] lines before cs ds a l r w = tt
+  calm_body (x ∷ xs) lines {rs = rs} before cs ds a l r w =
+      (gap_left (gap_columns (λ c. c < lines) t s before rs w (omega (arith, l)) (λ row others e. first_column lines rs row others l e) r (λ e. absurd (true≢false (sym e)))), (rows_below ds a l, λ e. gap_kept g before cs rs e))
+
+  calm_rows : {rs : List Row} {bs now : List OpenBlock} {may : Bool} (c : Source) (cs : List CommentValue) → RowLines rs → Steps 0 rs → Chained t s.indent bs rs now → Each (WalkFrom t s g bs may rs) cs → Calm rs (decos_of g c cs rs) []
+  calm_rows c cs no_rows b chain w = tt
+  calm_rows c cs (row_more {x = x} {xs = xs} a e k more) (one_step l b) (chain_row i n r chain) w =
+      (calm_body x.body x.lines x.ending (comments_left x cs) (decos_of g c (comments_left x cs) xs) more l r (left_walk w), calm_rows c (comments_left x cs) more b chain (left_walk w))
 
 -- of a layout
-pub layout_calm : (m : Lists) (s : Style) (trees : List DocumentTree) → FitDocuments s m.documents trees → Calm (rows_of m s trees) (row_decos m (rows_of m s trees)) []
-layout_calm m s trees fit =
+pub layout_calm : (t : List ℕ) (m : Lists) (s : Style) (trees : List DocumentTree) → FitDocuments s m.documents trees → Calm (rows_of m s trees) (row_decos (columns_of t s (rows_of m s trees)) m (rows_of m s trees)) []
+layout_calm t m s trees fit =
     let c = setting_of m s in
-    calm_rows (source_of m (rows_of m s trees)) (own_line_comments (source_of m (rows_of m s trees)) (rows_of m s trees)) (all_lines c (is_bare m s) fit)
-    (all_steps c (is_bare m s) m.documents trees)
+    let own = own_line_comments (source_of m (rows_of m s trees)) (rows_of m s trees) in
+    calm_rows t s (columns_of t s (rows_of m s trees)) (source_of m (rows_of m s trees)) own (all_lines c (is_bare m s) fit) (all_steps c (is_bare m s) m.documents trees) (layout_chain t m s trees fit).rows
+    (every (λ d. record { is = λ next. refl }) own)

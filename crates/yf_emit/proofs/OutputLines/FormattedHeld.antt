@@ -17,6 +17,7 @@ use Rattle.yf_emit.proofs.Derived.FormatsRead.{formats_laid}
 use Rattle.yf_emit.proofs.OutputLines.HeldLemmas.{BodiesHeld, EventsHeld, Holds, bodies_more, here, holds_left, there}
 use Rattle.yf_emit.proofs.Derived.DocumentsHeld.{all_events}
 use Rattle.yf_emit.proofs.OutputLines.WellSet.{AllSet, WellSet}
+use Rattle.yf_emit.specs.Preservation.CommentsPlaced.{columns_in}
 
 -- Comments.
 
@@ -62,14 +63,14 @@ in_noted (with_entry entry n s more) (there h) = there (in_noted more h)
 
 pub record ReadingHeld {t u : List ℕ} {s : Style} (f : IsFormatting t s u) (q : Lists) : Type 0 where
   pub comments : (k : ℕ) (c : CommentValue) → slice_get q.comments k ≡ Some c → WellSet u c.offset
-  pub bodies : BodiesHeld u q.events (rows_of f.normal s f.writes.trees) (row_decos f.normal (rows_of f.normal s f.writes.trees)) []
+  pub bodies : BodiesHeld u q.events (rows_of f.normal s f.writes.trees) (row_decos (columns_in f) f.normal (rows_of f.normal s f.writes.trees)) []
 
 pub reading_held : {t u : List ℕ} {s : Style} {q : Lists} → IsUtf8 t → (f : IsFormatting t s u) → ReadingOf u q → ReadingHeld f q
 reading_held {t} {u} {s} {q} utf8 f a =
     let all = formats_laid t u s utf8 f in
     let shapes = a.reads.shapes in
     let rows = rows_of f.normal s f.writes.trees in
-    let decos = row_decos f.normal rows in
+    let decos = row_decos (columns_in f) f.normal rows in
     let derived : a.derived ≡ all.well.documents = all.well.reads.shapes.only shapes.height a.derived shapes.derived shapes.within in
     let held : EventsHeld u (all_events a.derived.documents) a.derived.comments rows decos [] = subst (λ (x : Documents). EventsHeld u (all_events x.documents) x.comments rows decos []) (sym derived) all.held in
     record {

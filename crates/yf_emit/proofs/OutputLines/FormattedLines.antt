@@ -24,6 +24,7 @@ use Rattle.yf_emit.proofs.Derived.RowEnds.{first_deco, after_decos}
 use Rattle.yf_emit.proofs.Derived.RowsUtf8.{AreLines, no_line, line_more, RowLines, no_rows, row_more, all_lines}
 use Rattle.yf_lines.proofs.RestLemmas.{line_nothing, line_append}
 use Rattle.yf_emit.specs.Layouts.BareStart.{is_bare}
+use Rattle.yf_emit.specs.Preservation.CommentsPlaced.{columns_in}
 
 -- Each line is a text within a line.
 
@@ -47,8 +48,8 @@ row_texts ds (row_more {x = x} {xs = xs} a s b more) k =
 pub record Formed {t : List ℕ} {s : Style} {u : List ℕ} (f : IsFormatting t s u) : Type 0 where
   pub utf8 : IsUtf8 u
   pub fit : FitDocuments s f.normal.documents f.writes.trees
-  pub gap : AreGapLines (first_gap f.normal (rows_of f.normal s f.writes.trees))
-  pub decos : AreDecos (row_decos f.normal (rows_of f.normal s f.writes.trees))
+  pub gap : AreGapLines (first_gap (columns_in f) f.normal (rows_of f.normal s f.writes.trees))
+  pub decos : AreDecos (row_decos (columns_in f) f.normal (rows_of f.normal s f.writes.trees))
   pub rows : RowLines (rows_of f.normal s f.writes.trees)
 
 pub formed : {t u : List ℕ} {s : Style} → IsUtf8 t → (f : IsFormatting t s u) → Formed f
@@ -56,20 +57,20 @@ formed {t} {u} {s} utf8 f =
     let n = normal_trees f in
     let fit = formats_fit utf8 f in
     let remarks : AreRemarks f.normal.comments = subst (λ cs. AreRemarks cs) (sym n.comments) (reading_remarks utf8 f.reads) in
-    let fits = all_fit f.normal (rows_of f.normal s f.writes.trees) (formats_trail t u s utf8 f) remarks in
+    let fits = all_fit (columns_in f) f.normal (rows_of f.normal s f.writes.trees) (formats_trail t u s utf8 f) remarks in
     record { utf8 = (formats_well t u s utf8 f).utf8; fit = fit; gap = fits.0; decos = fits.1; rows = all_lines (setting_of f.normal s) (is_bare f.normal s) fit }
 
 -- its lines
 abbrev pub formed_lines : {t u : List ℕ} {s : Style} → IsFormatting t s u → List (List ℕ)
-formed_lines {s = s} f = laid_lines (first_gap f.normal (rows_of f.normal s f.writes.trees)) (rows_of f.normal s f.writes.trees) (row_decos f.normal (rows_of f.normal s f.writes.trees))
+formed_lines {s = s} f = laid_lines (first_gap (columns_in f) f.normal (rows_of f.normal s f.writes.trees)) (rows_of f.normal s f.writes.trees) (row_decos (columns_in f) f.normal (rows_of f.normal s f.writes.trees))
 
 pub formed_text : {t u : List ℕ} {s : Style} (f : IsFormatting t s u) → u ≡ body_then (formed_lines f) []
-formed_text {s = s} f =
+formed_text {t = t} {s = s} f =
     let rows : List Row = rows_of f.normal s f.writes.trees in
-    f.writes.is ∙ (layout_then f.normal s f.writes.trees ∙ layout_is (first_gap f.normal rows) rows (row_decos f.normal rows))
+    f.writes.is ∙ (layout_then t f.normal s f.writes.trees ∙ layout_is (first_gap (columns_in f) f.normal rows) rows (row_decos (columns_in f) f.normal rows))
 
 pub formed_are : {t u : List ℕ} {s : Style} (ls : List Line) (f : IsFormatting t s u) → Formed f → LinesOf u ls → LinesAre u ls (formed_lines f)
 formed_are {u = u} {s = s} ls f a lines =
     let rows : List Row = rows_of f.normal s f.writes.trees in
-    lines_are ls a.utf8 (append_lines (gap_texts (first_gap f.normal rows) a.gap) (row_texts (row_decos f.normal rows) a.rows a.decos)) (follow lines)
+    lines_are ls a.utf8 (append_lines (gap_texts (first_gap (columns_in f) f.normal rows) a.gap) (row_texts (row_decos (columns_in f) f.normal rows) a.rows a.decos)) (follow lines)
     (subst (λ w. Rest u 0 w) (formed_text f) (rest_start u a.utf8))

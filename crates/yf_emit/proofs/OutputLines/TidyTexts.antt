@@ -17,6 +17,7 @@ use Rattle.yf_emit.specs.Layouts.Layout.{Source, may_be_blank_after, precedes_it
 use Rattle.yf_emit.specs.Layouts.Rows.{Row, Ending, anywhere}
 use Rattle.yf_emit.proofs.OutputLines.LaidLines.{LineIs}
 use Rattle.std.specs.Prelude.{filter}
+use Rattle.yf_emit.specs.Layouts.KeptColumns.{Columns}
 
 -- none, or one that ends with no white space
 abbrev pub IsTidy : List ℕ → Type 0
@@ -76,25 +77,25 @@ blank_tidy : (b : Bool) → TidyGap (blank_if b)
 blank_tidy true = tt
 blank_tidy false = tt
 
-remarks_tidy : (before : Ending) (column : ℕ) (cs : List CommentValue) → TidyGap (remarks_after before column cs)
-remarks_tidy before column [] = tt
-remarks_tidy before column (c ∷ cs) =
-    gap_join (blank_if (may_be_blank_after before && c.blank_before)) (remark column (trimmed c.text) ∷ remarks_after anywhere column cs)
-    (blank_tidy (may_be_blank_after before && c.blank_before)) (trimmed_tidy c.text, remarks_tidy anywhere column cs)
+remarks_tidy : (g : Columns) (before : Ending) (column : ℕ) (cs : List CommentValue) → TidyGap (remarks_after g before column cs)
+remarks_tidy g before column [] = tt
+remarks_tidy g before column (c ∷ cs) =
+    gap_join (blank_if (may_be_blank_after before && c.blank_before)) (remark (g c column) (trimmed c.text) ∷ remarks_after g anywhere column cs)
+    (blank_tidy (may_be_blank_after before && c.blank_before)) (trimmed_tidy c.text, remarks_tidy g anywhere column cs)
 
-pub gap_tidy : (before : Ending) (cs : List CommentValue) (rows : List Row) → TidyGap (gap_of before cs rows)
-gap_tidy before cs [] = remarks_tidy before 0 cs
-gap_tidy before cs (row ∷ rows) =
-    gap_join (remarks_after before row.column (filter (precedes_item row) cs)) (blank_if (may_be_blank_after (ending_after before (filter (precedes_item row) cs)) && row.blank_before))
-    (remarks_tidy before row.column (filter (precedes_item row) cs)) (blank_tidy (may_be_blank_after (ending_after before (filter (precedes_item row) cs)) && row.blank_before))
+pub gap_tidy : (g : Columns) (before : Ending) (cs : List CommentValue) (rows : List Row) → TidyGap (gap_of g before cs rows)
+gap_tidy g before cs [] = remarks_tidy g before 0 cs
+gap_tidy g before cs (row ∷ rows) =
+    gap_join (remarks_after g before row.column (filter (precedes_item row) cs)) (blank_if (may_be_blank_after (ending_after before (filter (precedes_item row) cs)) && row.blank_before))
+    (remarks_tidy g before row.column (filter (precedes_item row) cs)) (blank_tidy (may_be_blank_after (ending_after before (filter (precedes_item row) cs)) && row.blank_before))
 
 trails_tidy : (cs : List CommentValue) → TidyTrails (map (λ (d : CommentValue). trimmed d.text) cs)
 trails_tidy [] = tt
 trails_tidy (c ∷ cs) = (trimmed_tidy c.text, trails_tidy cs)
 
-pub decos_tidy : (c : Source) (cs : List CommentValue) (rows : List Row) → TidyDecos (decos_of c cs rows)
-decos_tidy c cs [] = none_tidy
-decos_tidy c cs (row ∷ rows) = more_tidy (trails_tidy (trailing c row)) (gap_tidy row.ending (comments_left row cs) rows) (decos_tidy c (comments_left row cs) rows)
+pub decos_tidy : (g : Columns) (c : Source) (cs : List CommentValue) (rows : List Row) → TidyDecos (decos_of g c cs rows)
+decos_tidy g c cs [] = none_tidy
+decos_tidy g c cs (row ∷ rows) = more_tidy (trails_tidy (trailing c row)) (gap_tidy g row.ending (comments_left row cs) rows) (decos_tidy g c (comments_left row cs) rows)
 
 -- Lines.
 

@@ -5,7 +5,7 @@ use Rattle.std.proofs.lemmas.Bool.Decides.{nat_tests}
 use Rattle.std.proofs.lemmas.List.{drop_all}
 use Rattle.yf_comments.specs.Comment.{CommentValue, comment_value}
 use Rattle.yf_comments.specs.declared.comment.Comment.{Comment}
-use Rattle.yf_emit.specs.Passes.Drafts.{Draft, trailing_at, trailing_if, between, count_to, own_line_if, own_lines}
+use Rattle.yf_emit.specs.Passes.Drafts.{Draft, Remarks, trailing_at, trailing_if, between, count_to, line_column, own_line_if, own_lines}
 use Rattle.yf_emit.specs.Layouts.Layout.{after_two_spaces}
 
 below : (a b : ℕ) → a < b → nat_lt a b ≡ true
@@ -86,19 +86,28 @@ one_between (x ∷ xs) (suc k) (suc end) e l b =
     ap (λ w. take w (drop k (map comment_value xs))) n
     ∙ (one_between xs k end e (omega arith) (omega arith) ∙ ap (λ w. comment_value (get_or xs k e) ∷ take w (drop (suc k) (map comment_value xs))) (sym m))
 
-pub own_on : (trailing : List Bool) (column k end : ℕ) (xs : List Comment) (e : Comment) (b : Bool) (d new all : Draft) → k < end → end ≤ length xs
-    → b ≡ get_or trailing k false → new ≡ own_line_if b column (comment_value (get_or xs k e)) d
-    → own_lines trailing column k (between k end (map comment_value xs)) d ≡ all
-    → own_lines trailing column (k + 1) (between (k + 1) end (map comment_value xs)) new ≡ all
+pub own_on : (r : Remarks) (next : ℕ) (trailing : List Bool) (h : CommentValue → ℕ) (k end : ℕ) (xs : List Comment) (e : Comment) (b : Bool) (column : ℕ) (d new all : Draft) → k < end → end ≤ length xs
+    → b ≡ get_or trailing k false → column ≡ line_column r next d (comment_value (get_or xs k e)) → ((c : CommentValue) → line_column r next d c ≡ h c) → new ≡ own_line_if b column (comment_value (get_or xs k e)) d
+    → own_lines trailing h k (between k end (map comment_value xs)) d ≡ all
+    → own_lines trailing h (k + 1) (between (k + 1) end (map comment_value xs)) new ≡ all
 unfolding own_lines
-own_on trailing column k end xs e is d new all l b t n h =
-    ap (own_lines trailing column (k + 1) (between (k + 1) end (map comment_value xs))) (n ∙ ap (λ w. own_line_if w column (comment_value (get_or xs k e)) d) t)
-    ∙ (ap (λ w. own_lines trailing column (k + 1) (between w end (map comment_value xs)) (own_line_if (get_or trailing k false) column (comment_value (get_or xs k e)) d)) (add-one k)
-    ∙ (ap (λ w. own_lines trailing column k w d) (sym (one_between xs k end e l b)) ∙ h))
+own_on r next trailing h k end xs e is column d new all l b t own stays n f =
+    let c : CommentValue = comment_value (get_or xs k e) in
+    ap (own_lines trailing h (k + 1) (between (k + 1) end (map comment_value xs))) (n ∙ (ap (λ w. own_line_if w column c d) t ∙ ap (λ w. own_line_if (get_or trailing k false) w c d) (own ∙ stays c)))
+    ∙ (ap (λ w. own_lines trailing h (k + 1) (between w end (map comment_value xs)) (own_line_if (get_or trailing k false) (h c) c d)) (add-one k)
+    ∙ (ap (λ w. own_lines trailing h k w d) (sym (one_between xs k end e l b)) ∙ f))
 
-pub own_end : (trailing : List Bool) (column k end : ℕ) (cs : List CommentValue) (d all : Draft) → end ≤ k
-    → own_lines trailing column k (between k end cs) d ≡ all → d ≡ all
+pub own_end : (trailing : List Bool) (h : CommentValue → ℕ) (k end : ℕ) (cs : List CommentValue) (d all : Draft) → end ≤ k
+    → own_lines trailing h k (between k end cs) d ≡ all → d ≡ all
 unfolding own_lines
-own_end trailing column k end cs d all l h =
+own_end trailing h k end cs d all l f =
     let none : end - k ≡ 0 = omega arith in
-    ap (λ w. own_lines trailing column k (take w (drop k cs)) d) (sym none) ∙ h
+    ap (λ w. own_lines trailing h k (take w (drop k cs)) d) (sym none) ∙ f
+
+-- a comment on its line changes no column
+pub column_stays : (r : Remarks) (column : ℕ) (b : Bool) (n : ℕ) (c : CommentValue) (d new first : Draft) → new ≡ own_line_if b n c d
+    → ((e : CommentValue) → line_column r column d e ≡ line_column r column first e) → (e : CommentValue) → line_column r column new e ≡ line_column r column first e
+column_stays r column b n c d new first h k e = ap (λ w. line_column r column w e) h ∙ (by b ∙ k e) where
+  by : (b : Bool) → line_column r column (own_line_if b n c d) e ≡ line_column r column d e
+  by true = refl
+  by false = refl

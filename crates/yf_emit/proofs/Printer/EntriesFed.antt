@@ -5,13 +5,14 @@ use Rattle.yf_comments.specs.Comment.{CommentValue}
 use Rattle.yf_events.specs.Tree.{Node, entry_start, is_block_collection, items_in, leaves, props_of, standing, starts_of_entry}
 use Rattle.yf_events.specs.declared.event.Entry.{Entry}
 use Rattle.yf_emit.specs.declared.print.printer.Role as Printer
-use Rattle.yf_emit.specs.Passes.Drafts.{Draft, trailing_if, opened, with_blank, with_key_trail, with_text, without_blank}
+use Rattle.yf_emit.specs.Passes.Drafts.{Draft, LineMarks, start_marked, trailing_if, opened, with_blank, with_start, with_key_trail, with_text, without_blank}
 use Rattle.yf_emit.specs.Layouts.Layout.{ended, may_be_blank_after}
 use Rattle.yf_emit.specs.Nodes.OneLine.{colon_after, props_text, written}
 use Rattle.yf_emit.specs.Passes.PrintPass.{before_collection, collection_begun, entry_begun, has_props, is_after_sign, next_line, remarks_of}
-use Rattle.yf_emit.specs.Layouts.Rows.{Row, before_node, begins_below, after_key, blank_before_entry, entry_row, is_empty_text, joined, key_row, one_line_row, plain_row, props_row}
+use Rattle.yf_emit.specs.Layouts.Rows.{Row, Start, before_node, begins_below, after_key, blank_before_entry, entry_row, is_dash, is_empty_text, joined, key_row, one_line_row, plain_row, props_row, start_of}
+use Rattle.yf_emit.proofs.Printer.ColumnsFed.{leaves_marked}
 use Rattle.yf_emit.proofs.Printer.FedLemmas.{all_past, fed, key_text, with_row}
-use Rattle.yf_emit.proofs.Printer.JoinLemmas.{IsHead, edited, entry_below, entry_on_line, fed_append, fed_after, fed_on, fed_on_append, joined_fed, joined_on, past_append, past_edited}
+use Rattle.yf_emit.proofs.Printer.JoinLemmas.{IsHead, row_marks, edited, entry_below, entry_on_line, fed_append, fed_after, fed_on, fed_on_append, joined_fed, joined_on, past_append, past_edited}
 use Rattle.yf_emit.proofs.Printer.LeafFed.{ColumnAt, never, put, put_value, row_met}
 use Rattle.yf_emit.proofs.Printer.NotedLemmas.{Known, met, met_nothing}
 
@@ -56,7 +57,7 @@ after_filled k n (row ∷ rows) d e = refl
 -- Signs.
 
 pub sign_begun : (k : Known) (inline : Bool) (column : ℕ) (text : List ℕ) (x : Node) (d : Draft)
-    → with_text text (entry_begun k.work inline column (standing x).entry d) ≡ begun k inline (entry_row column text x ∷ []) d
+    → with_text text (entry_begun k.work inline column (is_dash text) (standing x).entry d) ≡ begun k inline (entry_row column text x ∷ []) d
 sign_begun k true column text x d = entry_on_line k.work k.trail column text x d
 sign_begun k false column text x d = entry_below k.work k.trail column text x d
 
@@ -73,7 +74,7 @@ head_line k true column entry d = d
 head_line k false column entry d = with_blank (blank_before_entry entry) (opened (remarks_of k.work) column d)
 
 entry_past : (k : Known) (inline : Bool) (column : ℕ) (entry : Option Entry) (d : Draft)
-    → entry_begun k.work inline column entry d ≡ all_past k.work.reading.comments (starts_of_entry entry) (head_line k inline column entry d)
+    → entry_begun k.work inline column false entry d ≡ all_past k.work.reading.comments (starts_of_entry entry) (with_start (remarks_of k.work) (start_of column false (starts_of_entry entry)) (head_line k inline column entry d))
 entry_past k true column None d = refl
 entry_past k true column (Some e) d = refl
 entry_past k false column None d = refl
@@ -96,30 +97,34 @@ key_met k column place x (b ∷ w) d h = sym (row_met k place (b ∷ w) (items_i
 
 -- an entry's beginning, a text, what is met in it, and the `:`
 key_added : (k : Known) (column : ℕ) (x : Node) (d : Draft)
-    → with_text (colon_after x) (met k (items_in x) (leaves x) (with_text (written k.work.style x) (all_past k.work.reading.comments (entry_start x) d)))
+    → with_text (colon_after x) (met k (items_in x) (leaves x) (with_text (written k.work.style x) (all_past k.work.reading.comments (entry_start x) (with_start (remarks_of k.work) (start_of column false (entry_start x)) d))))
     ≡ with_row (remarks_of k.work) k.trail (key_row k.work.style column x) d
 key_added k column x d =
     let cs : List CommentValue = k.work.reading.comments in
     let colon : List ℕ = colon_after x in
     let es : List ℕ = entry_start x in
     let is : List ℕ = items_in x in
+    let start : Start = start_of column false es in
+    let m : LineMarks = start_marked (remarks_of k.work) start d.marks in
+    let marks : LineMarks = leaves_marked (leaves x) m in
+    let e : Draft = with_start (remarks_of k.work) start d in
     let a : Draft = all_past cs es d in
     let trails : List ℕ = d.trails ++ flat_map k.trail (leaves x) in
-    let begins : a ≡ edited d.line d.trails d.body d.may_follow a = past_edited cs es d.line d.trails d.body d.may_follow d in
+    let begins : all_past cs es e ≡ edited d.line d.trails d.body d.may_follow m a = past_edited cs es d.line d.trails d.body d.may_follow m d in
     ap (λ w. with_text colon (met k is (leaves x) (with_text (written k.work.style x) w))) begins
-    ∙ (ap (λ w. with_text colon w) (past_edited cs is (d.line ++ written k.work.style x) trails d.body d.may_follow a)
-    ∙ (ap (λ w. edited w trails d.body d.may_follow (all_past cs is a)) (append_assoc d.line (written k.work.style x) colon)
-    ∙ (ap (λ w. edited (d.line ++ (written k.work.style x ++ colon)) trails d.body d.may_follow w) (sym (past_append cs es is d))
-    ∙ (sym (past_edited cs (es ++ is) (d.line ++ (written k.work.style x ++ colon)) trails d.body d.may_follow d)
-    ∙ row_met k column (written k.work.style x ++ colon) (es ++ is) (leaves x) d))))
+    ∙ (ap (λ w. with_text colon w) (past_edited cs is (d.line ++ written k.work.style x) trails d.body d.may_follow marks a)
+    ∙ (ap (λ w. edited w trails d.body d.may_follow marks (all_past cs is a)) (append_assoc d.line (written k.work.style x) colon)
+    ∙ (ap (λ w. edited (d.line ++ (written k.work.style x ++ colon)) trails d.body d.may_follow marks w) (sym (past_append cs es is d))
+    ∙ (sym (past_edited cs (es ++ is) (d.line ++ (written k.work.style x ++ colon)) trails d.body d.may_follow marks d)
+    ∙ row_met k column (written k.work.style x ++ colon) (es ++ is) (leaves x) e))))
 
 -- a key's text and its `:` on the line of its entry
 pub key_begun : (k : Known) (inline : Bool) (column place : ℕ) (x : Node) (d : Draft) → (is_empty_text (written k.work.style x) ≡ true → (items_in x ≡ []) × (leaves x ≡ []))
-    → with_text (colon_after x) (fed_on (remarks_of k.work) k.trail (one_line_row place x (written k.work.style x)) (entry_begun k.work inline column (standing x).entry d))
+    → with_text (colon_after x) (fed_on (remarks_of k.work) k.trail (one_line_row place x (written k.work.style x)) (entry_begun k.work inline column false (standing x).entry d))
     ≡ begun k inline (key_row k.work.style column x ∷ []) d
 key_begun k inline column place x d h =
     ap (λ w. with_text (colon_after x) (fed_on (remarks_of k.work) k.trail (one_line_row place x (written k.work.style x)) w)) (entry_past k inline column (standing x).entry d)
-    ∙ (ap (with_text (colon_after x)) (key_met k column place x (written k.work.style x) (all_past k.work.reading.comments (entry_start x) (head_line k inline column (standing x).entry d)) h)
+    ∙ (ap (with_text (colon_after x)) (key_met k column place x (written k.work.style x) (all_past k.work.reading.comments (entry_start x) (with_start (remarks_of k.work) (start_of column false (entry_start x)) (head_line k inline column (standing x).entry d))) h)
     ∙ (key_added k column x (head_line k inline column (standing x).entry d) ∙ key_row_begun k inline column x d))
 
 -- Values.
@@ -132,9 +137,9 @@ before_text k head d =
     let line : List ℕ = d.line ++ (head.text ++ key_text head.key_comment) in
     let trails : List ℕ = d.trails ++ flat_map k.trail head.leaves in
     let body : List ℕ = d.body ++ flat_map ended head.body in
-    ap without_blank (past_edited cs head.items line trails body (d.may_follow && may_be_blank_after head.ending) d)
-    ∙ (ap (λ b. edited line trails body b (all_past cs head.items d)) (sym (never d.may_follow))
-    ∙ sym (past_edited cs head.items line trails body (d.may_follow && false) d))
+    ap without_blank (past_edited cs head.items line trails body (d.may_follow && may_be_blank_after head.ending) (row_marks (remarks_of k.work) head d.marks) d)
+    ∙ (ap (λ b. edited line trails body b (row_marks (remarks_of k.work) head d.marks) (all_past cs head.items d)) (sym (never d.may_follow))
+    ∙ sym (past_edited cs head.items line trails body (d.may_follow && false) (row_marks (remarks_of k.work) head d.marks) d))
 
 -- a head whose key a comment trails
 before_comment : (k : Known) (head : Row) (j : ℕ) (c : CommentValue) (d : Draft) → IsHead head → trailing_if k.work.reading.comments (Some j) ≡ key_text (Some c)
@@ -148,10 +153,10 @@ before_comment k head j c d h t =
     ap (λ w. (d.line ++ (head.text ++ key_text w)) ++ trailing_if cs (Some j)) h.key
     ∙ (ap (λ w. (d.line ++ w) ++ trailing_if cs (Some j)) (append-nil head.text)
     ∙ (append_assoc d.line head.text (trailing_if cs (Some j)) ∙ ap (λ w. d.line ++ (head.text ++ w)) t)) in
-    ap (λ w. without_blank (with_key_trail cs (Some j) w)) (past_edited cs head.items (d.line ++ (head.text ++ key_text head.key_comment)) trails body (d.may_follow && may_be_blank_after head.ending) d)
-    ∙ (ap (λ b. edited ((d.line ++ (head.text ++ key_text head.key_comment)) ++ trailing_if cs (Some j)) trails body b (all_past cs head.items d)) (sym (never d.may_follow))
-    ∙ (ap (λ w. edited w trails body (d.may_follow && false) (all_past cs head.items d)) line
-    ∙ sym (past_edited cs head.items (d.line ++ (head.text ++ key_text (Some c))) trails body (d.may_follow && false) d)))
+    ap (λ w. without_blank (with_key_trail cs (Some j) w)) (past_edited cs head.items (d.line ++ (head.text ++ key_text head.key_comment)) trails body (d.may_follow && may_be_blank_after head.ending) (row_marks (remarks_of k.work) head d.marks) d)
+    ∙ (ap (λ b. edited ((d.line ++ (head.text ++ key_text head.key_comment)) ++ trailing_if cs (Some j)) trails body b (row_marks (remarks_of k.work) head d.marks) (all_past cs head.items d)) (sym (never d.may_follow))
+    ∙ (ap (λ w. edited w trails body (d.may_follow && false) (row_marks (remarks_of k.work) head d.marks) (all_past cs head.items d)) line
+    ∙ sym (past_edited cs head.items (d.line ++ (head.text ++ key_text (Some c))) trails body (d.may_follow && false) (row_marks (remarks_of k.work) head d.marks) d)))
 
 pub value_begun : (k : Known) (inline : Bool) (head : Row) (o : Option ℕ) (q : Option CommentValue) (below : Bool) (rows : List Row) (d : Draft) → IsHead head
     → trailing_if k.work.reading.comments o ≡ key_text q → is_some o ≡ is_some q

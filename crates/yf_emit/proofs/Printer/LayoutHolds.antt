@@ -47,27 +47,27 @@ room : 8 * DEPTH + 8 ≤ 2 ^ 64 - 1
 room = let e : DEPTH ≡ 1024 = refl in omega (arith, e)
 
 -- what is printed with these forms is the layout, where the measures say of each node where it ends and which is its first leaf
-pub printed_lays_out : (m : Lists) (s : Style) (ms : List Measure) (fs : List Form) → NormalForm m s → (ds : List DocumentTree) → TreesOf m ds
-    → MeasuresTell m.events ms → fs ≡ stream_forms [] (setting s []) (setting_of m s) ds → printed (work_of m s ms fs (all_found m ms fs)) ≡ layout m s ds
-printed_lays_out m s ms fs f ds a told forms =
+pub printed_lays_out : (t : List ℕ) (m : Lists) (s : Style) (ms : List Measure) (fs : List Form) → NormalForm m s → (ds : List DocumentTree) → TreesOf m ds
+    → MeasuresTell m.events ms → fs ≡ stream_forms [] (setting s []) (setting_of m s) ds → printed (work_of t m s ms fs (all_found m ms fs)) ≡ layout t m s ds
+printed_lays_out t m s ms fs f ds a told forms =
     let l = laid_out f ds a in
-    printed_layout m s ms fs (all_found m ms fs) DEPTH ds a told forms l.placing.placed l.begin l.placing.normal room l.placing.ascend l.placing.noted
+    printed_layout t m s ms fs (all_found m ms fs) DEPTH ds a told forms l.placing.placed l.begin l.placing.normal room l.placing.ascend l.placing.noted
     (trails_hold m s ms fs f told ds a forms) (found_bare m s f) (form_bare m s f ds a) (form_laid m s f ds a)
 
-printout_writes : (m : Lists) (s : Style) (u : List ℕ) → Printout m s u → NormalForm m s → IsLayout m s u
-printout_writes m s u p f =
+printout_writes : (t : List ℕ) (m : Lists) (s : Style) (u : List ℕ) → Printout t m s u → (f : NormalForm m s) → f.text ≡ t → IsLayout t m s u
+printout_writes t m s u p f e =
     let ds : List DocumentTree = trees_in f in
     let a : TreesOf m ds = trees_of f in
     record {
       trees = ds;
       of_reading = a;
-      is = p.is ∙ printed_lays_out m s p.measures p.forms f ds a (measured_tells p.measured) (forms_are ds f a (laid_out f ds a) p.measured p.decided);
+      is = p.is ∙ printed_lays_out t m s p.measures p.forms f ds a (measured_tells p.measured) (forms_are ds f a (laid_out f ds a) p.measured p.decided);
     }
 
-pub is_printed : (m : Lists) (s : Style) (u : List ℕ) → Printout m s u → IsPrinted m s u
-is_printed m s u p = record { printout = p; writes = printout_writes m s u p }
+pub is_printed : (t : List ℕ) (m : Lists) (s : Style) (u : List ℕ) → Printout t m s u → IsPrinted t m s u
+is_printed t m s u p = record { printout = p; writes = printout_writes t m s u p }
 
 -- so is the text that is printed by measures and forms of the reading
-pub planned : (m : Lists) (s : Style) (ms : List Measure) (fs : List Form) (u : List ℕ) → AreMeasures [] (setting s []) m.events ms → AreForms m s ms fs
-    → u ≡ printed (work_of m s ms fs (all_found m ms fs)) → IsPrinted m s u
-planned m s ms fs u measured decided e = is_printed m s u (record { measures = ms; forms = fs; measured = measured; decided = decided; is = e })
+pub planned : (t : List ℕ) (m : Lists) (s : Style) (ms : List Measure) (fs : List Form) (u : List ℕ) → AreMeasures [] (setting s []) m.events ms → AreForms m s ms fs
+    → u ≡ printed (work_of t m s ms fs (all_found m ms fs)) → IsPrinted t m s u
+planned t m s ms fs u measured decided e = is_printed t m s u (record { measures = ms; forms = fs; measured = measured; decided = decided; is = e })

@@ -28,18 +28,18 @@ use Rattle.yf_emit.specs.Layouts.FitDocuments.{FitsBare}
 use Rattle.yf_emit.specs.Passes.Drafts.{finished, no_draft, remarks}
 use Rattle.yf_emit.specs.Layouts.Rows.{all_rows}
 
-pub printed_layout : (m : Lists) (s : Style) (ms : List Measure) (fs : List Form) (f : TrailsSoFar) (n : ℕ) (ds : List DocumentTree) → TreesOf m ds
+pub printed_layout : (t : List ℕ) (m : Lists) (s : Style) (ms : List Measure) (fs : List Form) (f : TrailsSoFar) (n : ℕ) (ds : List DocumentTree) → TreesOf m ds
     → MeasuresTell m.events ms → fs ≡ stream_forms [] (setting s []) (setting_of m s) ds → documents_are_placed ds ≡ true
     → keys_begin_in_documents ds ≡ true → AreNormal (setting_of m s) n ds → 8 * n + 8 ≤ 2 ^ 64 - 1 → ascend m.comments ≡ true
     → length m.on_leaf_line ≡ length m.comments → LayoutTrails m s ds f → is_found_bare m s ≡ is_bare m s → FitsBare (is_found_bare m s) m.documents ds → RootsLaid (setting_of m s) (is_found_bare m s) ds
-    → printed (work_of m s ms fs f) ≡ layout m s ds
-printed_layout m s ms fs f n ds trees measured decided h b a r up noted t same fits laid =
+    → printed (work_of t m s ms fs f) ≡ layout t m s ds
+printed_layout t m s ms fs f n ds trees measured decided h b a r up noted tr same fits laid =
     let c : Source = source_of m (rows_of m s ds) in
     let k : Known = record {
-      work = work_of m s ms fs f;
+      work = work_of t m s ms fs f;
       trail = trail c;
       measured = measured;
-      trails = λ j x leaf at is q. text_of m.comments (get_or f.of_leaf j None) ∙ ap (flat_map after_two_spaces) (t.of_leaf j x leaf at is q);
+      trails = λ j x leaf at is q. text_of m.comments (get_or f.of_leaf j None) ∙ ap (flat_map after_two_spaces) (tr.of_leaf j x leaf at is q);
     } in
     stream_printed k n ds trees.events trees.documents h b a r decided fits laid
-    ∙ (ap (λ e. finished (remarks m.comments f.trailing) (fed (remarks m.comments f.trailing) (trail c) (all_rows (setting_of m s) e m.documents ds) no_draft)) same ∙ layout_fed m s ds f.trailing up (others_left c m.comments m.on_leaf_line f.trailing (rows_of m s ds) refl noted t.of_comment))
+    ∙ (ap (λ e. finished (remarks t s m.comments f.trailing) (fed (remarks t s m.comments f.trailing) (trail c) (all_rows (setting_of m s) e m.documents ds) no_draft)) same ∙ layout_fed t m s ds f.trailing up (others_left c m.comments m.on_leaf_line f.trailing (rows_of m s ds) refl noted tr.of_comment))

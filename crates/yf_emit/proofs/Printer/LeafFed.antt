@@ -17,6 +17,7 @@ use Rattle.yf_emit.specs.Passes.PrintPass as Printing
 use Rattle.yf_emit.specs.Passes.PrintPass.{Work, before_text, blank_unless, is_leaf, leaf_noted_if, lines_column, remarks_of, with_block, with_node, with_props_before, with_scalar}
 use Rattle.yf_emit.specs.Layouts.Rows.{Row, is_empty_text, one_line, one_line_row, plain_row, tail_ending}
 use Rattle.yf_emit.proofs.Decide.AmongLemmas.{Among, after_first}
+use Rattle.yf_emit.proofs.Printer.ColumnsFed.{leaves_marked}
 use Rattle.yf_emit.proofs.Printer.FedLemmas.{all_past, fed, with_row}
 use Rattle.yf_emit.proofs.Printer.JoinLemmas.{fed_after, fed_on}
 use Rattle.yf_emit.proofs.Printer.NotedLemmas.{Known, EventsPrinted, met, met_more}
@@ -102,9 +103,9 @@ pub row_met : (k : Known) (column : ℕ) (text : List ℕ) (is : List ℕ) (ss :
 row_met k column text is ss d =
     let line : List ℕ = d.line ++ text in
     let trails : List ℕ = d.trails ++ flat_map k.trail ss in
-    sym (ap (λ w. all_past k.work.reading.comments is (record d { line = d.line ++ w; trails = trails; body = d.body ++ []; may_follow = d.may_follow && true })) (append-nil text)
-    ∙ (ap (λ w. all_past k.work.reading.comments is (record d { line = line; trails = trails; body = w; may_follow = d.may_follow && true })) (append-nil d.body)
-    ∙ ap (λ w. all_past k.work.reading.comments is (record d { line = line; trails = trails; may_follow = w })) (and_true d.may_follow)))
+    sym (ap (λ w. all_past k.work.reading.comments is (record d { line = d.line ++ w; trails = trails; body = d.body ++ []; may_follow = d.may_follow && true; marks = leaves_marked ss d.marks })) (append-nil text)
+    ∙ (ap (λ w. all_past k.work.reading.comments is (record d { line = line; trails = trails; body = w; may_follow = d.may_follow && true; marks = leaves_marked ss d.marks })) (append-nil d.body)
+    ∙ ap (λ w. all_past k.work.reading.comments is (record d { line = line; trails = trails; may_follow = w; marks = leaves_marked ss d.marks })) (and_true d.may_follow)))
 
 filled_row : (column : ℕ) (x : Node) (w : List ℕ) → is_empty_text w ≡ false
     → one_line_row column x w ≡ record (plain_row column w) { items = items_in x; leaves = leaves x } ∷ []
@@ -145,23 +146,26 @@ block_met k spot x props style text lines sp d h c =
     let kept : Bool = is_kept_tail (final_feeds text) in
     ap (λ n. met k (items_in x) (leaves x) (with_body (flat_map ended (block_lines style n text lines)) (blank_unless kept (with_text header (with_props_before props d))))) c
     ∙ (by kept
-    ∙ sym (ap (λ w. all_past k.work.reading.comments (items_in x) (record d { line = w; trails = trails; body = d.body ++ body; may_follow = d.may_follow && may_be_blank_after (tail_ending kept) })) line)) where
+    ∙ sym (ap (λ w. all_past k.work.reading.comments (items_in x) (record d { line = w; trails = trails; body = d.body ++ body; may_follow = d.may_follow && may_be_blank_after (tail_ending kept); marks = leaves_marked (leaves x) d.marks })) line)) where
       by : (b : Bool) → met k (items_in x) (leaves x) (with_body (flat_map ended (block_lines style spot.lines text lines)) (blank_unless b (with_text (header_text style k.work.style.indent text) (with_props_before props d))))
           ≡ all_past k.work.reading.comments (items_in x) (record d {
             line = (d.line ++ space_after (props_text props)) ++ header_text style k.work.style.indent text;
             trails = d.trails ++ flat_map k.trail (leaves x);
             body = d.body ++ flat_map ended (block_lines style spot.lines text lines);
             may_follow = d.may_follow && may_be_blank_after (tail_ending b);
+            marks = leaves_marked (leaves x) d.marks;
           })
       by true = ap (λ w. all_past k.work.reading.comments (items_in x) (record d {
         line = (d.line ++ space_after (props_text props)) ++ header_text style k.work.style.indent text;
         trails = d.trails ++ flat_map k.trail (leaves x);
         body = d.body ++ flat_map ended (block_lines style spot.lines text lines);
         may_follow = w;
+        marks = leaves_marked (leaves x) d.marks;
       })) (sym (never d.may_follow))
       by false = ap (λ w. all_past k.work.reading.comments (items_in x) (record d {
         line = (d.line ++ space_after (props_text props)) ++ header_text style k.work.style.indent text;
         trails = d.trails ++ flat_map k.trail (leaves x);
         body = d.body ++ flat_map ended (block_lines style spot.lines text lines);
         may_follow = w;
+        marks = leaves_marked (leaves x) d.marks;
       })) (sym (and_true d.may_follow))

@@ -12,14 +12,15 @@ use Rattle.yf_events.specs.declared.event.Entry.{Entry}
 use Rattle.yf_events.specs.declared.event.Span.{Span}
 use Rattle.yf_emit.proofs.OfTexts.KeyEntries.{keys_begin, keys_begin_in_items, keys_begin_in_pairs, no_entry}
 use Rattle.yf_emit.specs.Passes.DecidePass as Deciding
-use Rattle.yf_emit.specs.Passes.Drafts.{Draft, trailing_if}
+use Rattle.yf_emit.specs.Passes.Drafts.{Draft, LineMarks, leaf_marked, trailing_if}
 use Rattle.yf_emit.specs.NormalForms.Forms.{is_placed, items_are_placed, pairs_are_placed}
 use Rattle.yf_emit.specs.Nodes.SingleAnswers.{NodeAt}
 use Rattle.yf_emit.specs.NormalForms.Measures.{no_measure}
 use Rattle.yf_emit.specs.Passes.PrintPass.{Work, entry_met, event_noted, events_noted, is_leaf, leaf_noted_if}
 use Rattle.yf_emit.proofs.Decide.AmongLemmas.{Among, back, after_first, front, node_at}
+use Rattle.yf_emit.proofs.Printer.ColumnsFed.{leaves_marked}
 use Rattle.yf_emit.proofs.Printer.FedLemmas.{all_past}
-use Rattle.yf_emit.proofs.Printer.JoinLemmas.{edited, past_append, past_edited}
+use Rattle.yf_emit.proofs.Printer.JoinLemmas.{edited, leaves_both, past_append, past_edited}
 use Rattle.yf_emit.proofs.Decide.LeafLemmas.{is_own_leaf}
 use Rattle.yf_emit.proofs.Printer.MeasureFacts.{MeasuresTell, asked, asked_of}
 
@@ -37,7 +38,7 @@ measure_there k i x n = k.measured.each i x n
 
 -- past these items, with what trails these leaves
 abbrev pub met : Known → List ℕ → List Span → Draft → Draft
-met k items spans d = all_past k.work.reading.comments items (record d { trails = d.trails ++ flat_map k.trail spans })
+met k items spans d = all_past k.work.reading.comments items (record d { trails = d.trails ++ flat_map k.trail spans; marks = leaves_marked spans d.marks })
 
 pub met_nothing : (k : Known) (d : Draft) → met k [] [] d ≡ d
 met_nothing k d = ap (λ w. record d { trails = w }) (append-nil d.trails)
@@ -48,11 +49,14 @@ met_more k is js ss rs d =
     let one : List ℕ = d.trails ++ flat_map k.trail ss in
     let both : List ℕ = d.trails ++ flat_map k.trail (ss ++ rs) in
     let e : one ++ flat_map k.trail rs ≡ both = append_assoc d.trails (flat_map k.trail ss) (flat_map k.trail rs) ∙ ap (λ w. d.trails ++ w) (sym (flat_map-append k.trail ss rs)) in
-    let p : all_past cs is (record d { trails = one }) ≡ edited d.line one d.body d.may_follow (all_past cs is d) = past_edited cs is d.line one d.body d.may_follow d in
-    ap (λ w. all_past cs js (record w { trails = w.trails ++ flat_map k.trail rs })) p
-    ∙ (ap (λ w. all_past cs js (record (all_past cs is d) { line = d.line; trails = w; body = d.body; may_follow = d.may_follow })) e
-    ∙ (ap (λ w. all_past cs js w) (sym (past_edited cs is d.line both d.body d.may_follow d))
-    ∙ sym (past_append cs is js (record d { trails = both }))))
+    let m : LineMarks = leaves_marked ss d.marks in
+    let all : LineMarks = leaves_marked (ss ++ rs) d.marks in
+    let p : all_past cs is (record d { trails = one; marks = m }) ≡ edited d.line one d.body d.may_follow m (all_past cs is d) = past_edited cs is d.line one d.body d.may_follow m d in
+    ap (λ w. all_past cs js (record w { trails = w.trails ++ flat_map k.trail rs; marks = leaves_marked rs w.marks })) p
+    ∙ (ap (λ w. all_past cs js (record (all_past cs is d) { line = d.line; trails = w; body = d.body; may_follow = d.may_follow; marks = leaves_marked rs m })) e
+    ∙ (ap (λ w. all_past cs js (record (all_past cs is d) { line = d.line; trails = both; body = d.body; may_follow = d.may_follow; marks = w })) (leaves_both ss rs d.marks)
+    ∙ (ap (λ w. all_past cs js w) (sym (past_edited cs is d.line both d.body d.may_follow all d))
+    ∙ sym (past_append cs is js (record d { trails = both; marks = all })))))
 
 -- Leaves.
 
@@ -61,7 +65,7 @@ pub leaf_met : (k : Known) (i : ℕ) (x : Node) (o : Option Span) (d : Draft) �
 leaf_met k i x None d n e t = ap (λ b. leaf_noted_if b k.work i None d) t ∙ sym (met_nothing k d)
 leaf_met k i x (Some span) d n e t =
     ap (λ b. leaf_noted_if b k.work i (Some span) d) t
-    ∙ ap (λ w. all_past k.work.reading.comments (span.start ∷ []) (record d { trails = d.trails ++ w })) (k.trails i x span n t e ∙ sym (append-nil (k.trail span)))
+    ∙ ap (λ w. all_past k.work.reading.comments (span.start ∷ []) (record d { trails = d.trails ++ w; marks = leaf_marked d.marks })) (k.trails i x span n t e ∙ sym (append-nil (k.trail span)))
 
 pub leaf_there : (k : Known) (i : ℕ) (x : Node) → is_placed x ≡ true → NodeAt k.work.reading.events i x → is_leaf k.work i ≡ is_text x
 leaf_there k i x h n = ap (λ w. Deciding.is_leaf_at i w.first_leaf) (measure_there k i x n) ∙ is_own_leaf i x h

@@ -49,19 +49,19 @@ pub pair_fed : (k : Known) (inline b : Bool) (column place : ℕ) (x y : Node) (
     → (b ≡ true → is_some o ≡ is_some (key_comment k.work.reading.comments x y))
     → with_colon_of y (spot_in f column (value_awaited b (standing x).entry)) (put k o (begins_below y) (spot_in f column (value_awaited b (standing x).entry)) ys
     (sign_in k.work f entry false column (value_awaited b (standing x).entry)
-    (with_colon_of x (key_spot b column) (put k None (begins_below x) (key_spot b column) xs (question_if b (entry_begun k.work inline column (standing x).entry d))))))
+    (with_colon_of x (key_spot b column) (put k None (begins_below x) (key_spot b column) xs (question_if b (entry_begun k.work inline column false (standing x).entry d))))))
     ≡ begun k inline (if b then implicit_pair (setting_in k) column x y ys else explicit_pair k.work.style column x xs ys) d
 pair_fed k inline true column place x y f entry o xs ys d r e t s =
-    ap (λ w. put_value k o (begins_below y) ys (with_text (colon_after x) (fed_on (remarks_of k.work) k.trail w (entry_begun k.work inline column (standing x).entry d)))) (r refl)
+    ap (λ w. put_value k o (begins_below y) ys (with_text (colon_after x) (fed_on (remarks_of k.work) k.trail w (entry_begun k.work inline column false (standing x).entry d)))) (r refl)
     ∙ (ap (λ w. put_value k o (begins_below y) ys w) (key_begun k inline column place x d (e refl))
     ∙ value_begun k inline (key_row k.work.style column x) o (key_comment k.work.reading.comments x y) (begins_below y) ys d (record { key = refl; body = refl; ending = refl }) (t refl) (s refl))
 pair_fed k inline false column place x y f entry o xs ys d r e t s =
     let n : ℕ = k.work.style.indent - 1 in
     let before : List Row = after_sign k.work.style (entry_row column (codes "?") x) xs in
-    let key : fed_after (remarks_of k.work) k.trail n xs (with_text (codes "?") (entry_begun k.work inline column (standing x).entry d)) ≡ begun k inline before d =
+    let key : fed_after (remarks_of k.work) k.trail n xs (with_text (codes "?") (entry_begun k.work inline column false (standing x).entry d)) ≡ begun k inline before d =
     ap (λ w. fed_after (remarks_of k.work) k.trail n xs w) (sign_begun k inline column (codes "?") x d)
     ∙ sym (joined_begun k inline (entry_row column (codes "?") x) n xs d (record { key = refl; body = refl; ending = refl })) in
-    ap (λ w. fed_after (remarks_of k.work) k.trail n ys (with_colon k.work column (colon_of (standing x).entry) w)) key
+    ap (λ w. fed_after (remarks_of k.work) k.trail n ys (with_colon k.work column (standing x).entry w)) key
     ∙ (ap (λ w. fed_after (remarks_of k.work) k.trail n ys w) (colon_fed k.work k.trail column x (begun k inline before d))
     ∙ (sym (joined_fed (remarks_of k.work) k.trail (colon_row column x) n ys (begun k inline before d) (record { key = refl; body = refl; ending = refl }))
     ∙ sym (begun_append k inline before (after_sign k.work.style (colon_row column x) ys) d (filled_joined (entry_row column (codes "?") x) n xs))))

@@ -38,12 +38,12 @@ start_added : (g : Work) (t : Span → List ℕ) (items : List ℕ) (d : Draft)
 start_added g t items d =
     let after : Draft = all_past g.reading.comments items d in
     let line : List ℕ = d.line ++ codes "---" in
-    past_edited g.reading.comments items (d.line ++ (codes "---" ++ [])) (d.trails ++ []) (d.body ++ []) (d.may_follow && false) d
-    ∙ (ap (λ w. edited (d.line ++ w) (d.trails ++ []) (d.body ++ []) (d.may_follow && false) after) (append-nil (codes "---"))
-    ∙ (ap (λ w. edited line w (d.body ++ []) (d.may_follow && false) after) (append-nil d.trails)
-    ∙ (ap (λ w. edited line d.trails w (d.may_follow && false) after) (append-nil d.body)
-    ∙ (ap (λ w. edited line d.trails d.body w after) (and-false d.may_follow)
-    ∙ sym (ap marked (past_edited g.reading.comments items d.line d.trails d.body d.may_follow d))))))
+    past_edited g.reading.comments items (d.line ++ (codes "---" ++ [])) (d.trails ++ []) (d.body ++ []) (d.may_follow && false) d.marks d
+    ∙ (ap (λ w. edited (d.line ++ w) (d.trails ++ []) (d.body ++ []) (d.may_follow && false) d.marks after) (append-nil (codes "---"))
+    ∙ (ap (λ w. edited line w (d.body ++ []) (d.may_follow && false) d.marks after) (append-nil d.trails)
+    ∙ (ap (λ w. edited line d.trails w (d.may_follow && false) d.marks after) (append-nil d.body)
+    ∙ (ap (λ w. edited line d.trails d.body w d.marks after) (and-false d.may_follow)
+    ∙ sym (ap marked (past_edited g.reading.comments items d.line d.trails d.body d.may_follow d.marks d))))))
 
 -- directives, and the `---` after them
 lines_fed : (g : Work) (t : Span → List ℕ) (xs : List Directive) (d : Draft)

@@ -32,13 +32,14 @@ use Rattle.yf_emit.proofs.OutputLines.HeldLemmas.{BodiesHeld}
 use Rattle.yf_emit.proofs.RowNodes.PlacedRows.{AtRow, EndsRow, LastEnd, last_end, later_end, OwnTail, after_line, after_scalar, PlacedRow, RowsIn, last_row, row_before}
 use Rattle.yf_emit.proofs.ReadAgain.RowGaps.{Renoted, as_they_are, first_so, RowGap, row_gap}
 use Rattle.yf_emit.proofs.ReadAgain.RowNotes.{RowNotes, no_row_notes, note_kept, note_moved, pick}
+use Rattle.yf_emit.specs.Layouts.KeptColumns.{Columns}
 
 -- Notes of comments.
 
 pub noted_gap : {t : List ℕ} {es : List EventInText} {f i j : ℕ} {gs : List GapLine} {cs ns : List CommentValue} → GapIsAt t i gs cs j → ((o : ℕ) → i ≤ o → o < j → floor_at o 0 es ≡ f) → NotedComments t es cs ns → NotedOver t f cs ns
 noted_gap gap_over f no_comment = none_over
 noted_gap (blank_is_at b a) f n = noted_gap a (λ o l m. f o (omega (arith, l)) m) n
-noted_gap {t} (remark_is_at {column = column} s q e m z none a) f (one_comment {c = c} {b = b} n ns) =
+noted_gap {t} (remark_is_at {column = column} v s q e m z none a) f (one_comment {c = c} {b = b} n ns) =
     let l = gap_order a in
     one_over (subst (λ w. NotedSince t w c.offset b) (f c.offset (omega (arith, q)) (omega (arith, q, m, l))) n) (noted_gap a (λ o k w. f o (omega (arith, m, k)) w) ns)
 
@@ -123,13 +124,13 @@ record Floored (t : List ℕ) (es : List EventInText) (f gap place : ℕ) : Type
   none : BlankSince t f gap → ⊥
   at : (o : ℕ) → gap ≤ o → o < place → floor_at o 0 es ≡ f
 
-row_noted : {t : List ℕ} {es : List EventInText} {f place : ℕ} {body : List (List ℕ)} {d : Deco} {p : PlacedRow} {own ns : List CommentValue} (e to : Ending) (column : ℕ) (hs : List CommentValue) (a : Bool) → IsUtf8 t → (g : RowGap t body d p own place)
-    → Floored t es f g.gap place → NotedComments t es own ns → e ≡ to → d.gap ≡ gap_with e column hs a → (k : ℕ) → Spaces t place k → (b : Bool) → HeadNote t f (place + k) a b → Blanks (may_be_blank_after to) false d.gap (standing_of d ns) b
-row_noted {t} {es} {f} {place} {d = d} {ns = ns} e to column hs a u g w notes same shape k s b head =
+row_noted : (h : Columns) {t : List ℕ} {es : List EventInText} {f place : ℕ} {body : List (List ℕ)} {d : Deco} {p : PlacedRow} {own ns : List CommentValue} (e to : Ending) (column : ℕ) (hs : List CommentValue) (a : Bool) → IsUtf8 t → (g : RowGap t body d p own place)
+    → Floored t es f g.gap place → NotedComments t es own ns → e ≡ to → d.gap ≡ gap_with h e column hs a → (k : ℕ) → Spaces t place k → (b : Bool) → HeadNote t f (place + k) a b → Blanks t (may_be_blank_after to) false d.gap (standing_of d ns) b
+row_noted h {t} {es} {f} {place} {d = d} {ns = ns} e to column hs a u g w notes same shape k s b head =
     let over : NotedOver t f g.comments (standing_of d ns) = noted_gap g.is_there w.at (as_noted g.same (noted_drop (length d.trails) notes)) in
-    let here : Blanks (may_be_blank_after e) false (gap_with e column hs a) (standing_of d ns) b =
-    gap_noted e column hs a u (subst (λ z. GapIsAt t g.gap z g.comments place) shape g.is_there) g.blank w.low w.none over k s head in
-    subst (λ z. Blanks (may_be_blank_after z) false d.gap (standing_of d ns) b) same (subst (λ z. Blanks (may_be_blank_after e) false z (standing_of d ns) b) (sym shape) here)
+    let here : Blanks t (may_be_blank_after e) false (gap_with h e column hs a) (standing_of d ns) b =
+    gap_noted h e column hs a u (subst (λ z. GapIsAt t g.gap z g.comments place) shape g.is_there) g.blank w.low w.none over k s head in
+    subst (λ z. Blanks t (may_be_blank_after z) false d.gap (standing_of d ns) b) same (subst (λ z. Blanks t (may_be_blank_after e) false z (standing_of d ns) b) (sym shape) here)
 
 -- without a block scalar, and with one
 kept_floor : {t : List ℕ} {es : List EventInText} {f i place : ℕ} {body : List (List ℕ)} {d : Deco} {p : PlacedRow} {own : List CommentValue} (gs : List ℕ) (g : RowGap t body d p own place) → i ≤ p.upto → body ≡ [] → f ≤ i
@@ -166,37 +167,37 @@ first_of (note_kept h e a) = first_note h
 first_of (note_moved h n l a) = first_note h
 
 add_row : {t : List ℕ} {f i j : ℕ} {next y : Row} {xs ys : List Row} {ps : List PlacedRow} {d : Deco} {ds es : List Deco} {own : List CommentValue} {owns : List (List CommentValue)} {cs : List CommentValue} {r : List ℕ} → FirstNote t f ps next ys
-    → RowsIn t xs ps es i cs j r → ((b : Bool) → HeadNote t f i next.blank_before b → Blanks (may_be_blank_after y.ending) false d.gap (standing_of d own) b) → AllBlanks ys ds owns → AllBlanks (y ∷ ys) (d ∷ ds) (own ∷ owns)
+    → RowsIn t xs ps es i cs j r → ((b : Bool) → HeadNote t f i next.blank_before b → Blanks t (may_be_blank_after y.ending) false d.gap (standing_of d own) b) → AllBlanks t ys ds owns → AllBlanks t (y ∷ ys) (d ∷ ds) (own ∷ owns)
 add_row {t} {f} {next = next} (first_note {y = after} h) rows blanks more = row_blanks (blanks after.blank_before (subst (λ z. HeadNote t f z next.blank_before after.blank_before) (rows_from rows) h)) more
 
 -- the gaps as they were laid out
-pub data GapForms : List Row → List Deco → Type 0 where
-  no_form : GapForms [] []
-  last_form : {x : Row} {d : Deco} (hs : List CommentValue) → d.gap ≡ gap_with x.ending 0 hs false → GapForms (x ∷ []) (d ∷ [])
-  next_form : {x y : Row} {xs : List Row} {d : Deco} {ds : List Deco} (hs : List CommentValue) → d.gap ≡ gap_with x.ending y.column hs y.blank_before → GapForms (y ∷ xs) ds → GapForms (x ∷ y ∷ xs) (d ∷ ds)
+pub data GapForms (g : Columns) : List Row → List Deco → Type 0 where
+  no_form : GapForms g [] []
+  last_form : {x : Row} {d : Deco} (hs : List CommentValue) → d.gap ≡ gap_with g x.ending 0 hs false → GapForms g (x ∷ []) (d ∷ [])
+  next_form : {x y : Row} {xs : List Row} {d : Deco} {ds : List Deco} (hs : List CommentValue) → d.gap ≡ gap_with g x.ending y.column hs y.blank_before → GapForms g (y ∷ xs) ds → GapForms g (x ∷ y ∷ xs) (d ∷ ds)
 
-pub gap_forms : (c : Source) (comments : List CommentValue) (xs : List Row) → GapForms xs (decos_of c comments xs)
-gap_forms c comments [] = no_form
-gap_forms c comments (x ∷ []) = last_form (comments_left x comments) (gap_at_end x.ending (comments_left x comments))
-gap_forms c comments (x ∷ y ∷ xs) = next_form (filter (precedes_item y) (comments_left x comments)) refl (gap_forms c (comments_left x comments) (y ∷ xs))
+pub gap_forms : (g : Columns) (c : Source) (comments : List CommentValue) (xs : List Row) → GapForms g xs (decos_of g c comments xs)
+gap_forms g c comments [] = no_form
+gap_forms g c comments (x ∷ []) = last_form (comments_left x comments) (gap_at_end g x.ending (comments_left x comments))
+gap_forms g c comments (x ∷ y ∷ xs) = next_form (filter (precedes_item y) (comments_left x comments)) refl (gap_forms g c (comments_left x comments) (y ∷ xs))
 
-module _ {t : List ℕ} (u : IsUtf8 t) (es hs : List EventInText) where
-  pub rows_blanks : {f i j a b : ℕ} {xs ys : List Row} {ps : List PlacedRow} {cs : List CommentValue} {owns : List (List CommentValue)} {ds : List Deco} {r : List ℕ} {gs : List ℕ} → RowsIn t xs ps ds i cs j r → GapForms xs ds
+module _ (columns : Columns) {t : List ℕ} (u : IsUtf8 t) (es hs : List EventInText) where
+  pub rows_blanks : {f i j a b : ℕ} {xs ys : List Row} {ps : List PlacedRow} {cs : List CommentValue} {owns : List (List CommentValue)} {ds : List Deco} {r : List ℕ} {gs : List ℕ} → RowsIn t xs ps ds i cs j r → GapForms columns xs ds
       → AreDecos ds → BodiesHeld t hs xs ds r → Rest t i (inline_then xs ds r) → RowNotes t f ps xs ys gs → shapes xs ≡ shapes ys → f ≤ i
-      → ((o : ℕ) → i ≤ o → floor_at o 0 es ≡ pick o f gs) → Owns ps ds a owns b → NotedComments t es cs (all_of owns) → AllBlanks ys ds owns
+      → ((o : ℕ) → i ≤ o → floor_at o 0 es ≡ pick o f gs) → Owns ps ds a owns b → NotedComments t es cs (all_of owns) → AllBlanks t ys ds owns
   rows_blanks {f} (last_row {x = x} {own = own} at end w) (last_form comments shape) (one_carried d none) held begin (note_kept {y = y} h bare no_row_notes) s low floor (last_owns {own = ns} m l n up v is) notes =
       let same : shape_of x ≡ shape_of y = cc in
       let g = row_gap u d at end held.0.seen begin w in
       let floored = kept_floor [] g at.order (same_body x y same ∙ bare) low floor (λ o k. tt) in
       let mine : NotedComments t es own ns = subst (λ z. NotedComments t es own z) (append-nil ns) notes in
-      last_blanks (row_noted x.ending y.ending 0 comments false u g floored mine (same_ending x y same) shape 0
+      last_blanks (row_noted columns x.ending y.ending 0 comments false u g floored mine (same_ending x y same) shape 0
       (record { each = λ k z. absurd (omega (arith, z)) }) false bare_head)
   rows_blanks {f} (last_row {x = x} {own = own} at end w) (last_form comments shape) (one_carried d none) held begin (note_moved {y = y} h some last no_row_notes) s low floor (last_owns {own = ns} m l n up v is) notes =
       let same : shape_of x ≡ shape_of y = cc in
       let g = row_gap u d at end held.0.seen begin w in
       let floored = moved_floor f [] g at.order (one_end last (g.last (λ z. some (sym (same_body x y same) ∙ z)))) floor (λ o k. tt) in
       let mine : NotedComments t es own ns = subst (λ z. NotedComments t es own z) (append-nil ns) notes in
-      last_blanks (row_noted x.ending y.ending 0 comments false u g floored mine (same_ending x y same) shape 0
+      last_blanks (row_noted columns x.ending y.ending 0 comments false u g floored mine (same_ending x y same) shape 0
       (record { each = λ k z. absurd (omega (arith, z)) }) false bare_head)
   rows_blanks (last_row at end w) forms decos held begin notes s low floor (row_owns m l n up v is k more) noted = elim more [ ]
   rows_blanks {f} (row_before {x = x} {y = next} {xs = xs} {k = place} {own = own} at end w more) (next_form comments shape forms) (one_carried d others) held begin (note_kept {y = y} {ys = ys} {gs = gs} h bare rest) s low floor
@@ -211,7 +212,7 @@ module _ {t : List ℕ} (u : IsUtf8 t) (es hs : List EventInText) where
       let floored = kept_floor gs g order (same_body x y same ∙ bare) low floor over in
       let split = noted_split own ns (as_many own ns end.is is) notes in
       add_row {y = y} (first_of rest) more
-      (λ b head. row_noted x.ending y.ending next.column comments next.blank_before u g floored split.0 (same_ending x y same) shape next.column spaces.0 b head)
+      (λ b head. row_noted columns x.ending y.ending next.column comments next.blank_before u g floored split.0 (same_ending x y same) shape next.column spaces.0 b head)
       (rows_blanks more forms others held.1 spaces.1 rest after (omega (arith, low, order, follows)) (λ o b. floor o (omega (arith, order, follows, b))) owned split.1)
   rows_blanks {f} (row_before {x = x} {y = next} {xs = xs} {k = place} {own = own} at end w more) (next_form comments shape forms) (one_carried d others) held begin (note_moved {g = e} {y = y} {ys = ys} {gs = gs} h some last rest) s low floor
       (row_owns {own = ns} {owns = owns} m l n up v is k owned) notes =
@@ -230,6 +231,6 @@ module _ {t : List ℕ} (u : IsUtf8 t) (es hs : List EventInText) where
       let later : (o : ℕ) → place + next.column ≤ o → floor_at o 0 es ≡ pick o e gs =
       λ o b. floor o (omega (arith, order, follows, b)) ∙ ap (λ z. pick o z gs) (end_taken o f e (omega (arith, ended, inside, b))) in
       add_row {y = y} (first_of rest) more
-      (λ b head. row_noted x.ending y.ending next.column comments next.blank_before u g floored split.0 (same_ending x y same) shape next.column spaces.0 b head)
+      (λ b head. row_noted columns x.ending y.ending next.column comments next.blank_before u g floored split.0 (same_ending x y same) shape next.column spaces.0 b head)
       (rows_blanks {f = e} more forms others held.1 spaces.1 rest after (omega (arith, ended, inside)) later owned split.1)
   rows_blanks (row_before at end w more) forms decos held begin notes s low floor (last_owns m l n up v is) noted = elim more [ ]

@@ -15,6 +15,7 @@ use Rattle.yf_emit.proofs.ReadAgain.GapsAgain.{Blanks, gap_with}
 use Rattle.yf_emit.proofs.RowNodes.PlacedRows.{PlacedRow}
 use Rattle.yf_emit.proofs.SameReading.PrintSteps.{trimmed_texts}
 use Rattle.yf_emit.proofs.ReadAgain.RowsAgain.{Apart, Carry, last_carries, row_carries, Merged, none_merged, one_trails, one_is_at, merged_stand}
+use Rattle.yf_emit.specs.Layouts.KeptColumns.{Columns, is_before_first}
 
 -- the comments after each row, the last list is of each row its own
 pub data Owns : List PlacedRow → List Deco → ℕ → List (List CommentValue) → ℕ → Type 0 where
@@ -44,18 +45,18 @@ pub data TrailTied (c : Source) (cs : List CommentValue) (row : Row) (p : Placed
 -- the items of a row are where the row is, or no comment is between; before a row without items no comment was laid out on a line of its own
 pub data NextTied (cs : List CommentValue) (next : Row) (o : PlacedRow) (d : Deco) : Type 0 where
   bare_next : next.items ≡ [] → remarks_of d.gap ≡ [] → NextTied cs next o d
-  items_next : (cut : ℕ) → ((b : CommentValue) → precedes_item next b ≡ nat_lt b.offset cut) → o.from ≤ cut → ((b : CommentValue) → In b cs → o.upto ≤ b.offset → cut ≤ b.offset) → NextTied cs next o d
+  items_next : (cut : ℕ) → ((b : CommentValue) → precedes_item next b ≡ nat_lt b.offset cut) → ((b : CommentValue) → b.offset < o.from → is_before_first next.items b.offset ≡ true) → o.from ≤ cut → ((b : CommentValue) → In b cs → o.upto ≤ b.offset → cut ≤ b.offset) → NextTied cs next o d
 
 -- rows of a reading with the comments cs, where the rows with what they carry are
-pub data Tied (c : Source) (cs : List CommentValue) : List Row → List PlacedRow → List Deco → List (List CommentValue) → Type 0 where
-  last_tied : {row : Row} {p : PlacedRow} {d : Deco} {own : List CommentValue} (hs : List CommentValue) → TrailTied c cs row p d → d.gap ≡ gap_with row.ending 0 hs false
-      → Blanks (may_be_blank_after row.ending) false d.gap (standing_of d own) false → Tied c cs (row ∷ []) (p ∷ []) (d ∷ []) (own ∷ [])
+pub data Tied (t : List ℕ) (g : Columns) (c : Source) (cs : List CommentValue) : List Row → List PlacedRow → List Deco → List (List CommentValue) → Type 0 where
+  last_tied : {row : Row} {p : PlacedRow} {d : Deco} {own : List CommentValue} (hs : List CommentValue) → TrailTied c cs row p d → d.gap ≡ gap_with g row.ending 0 hs false
+      → Blanks t (may_be_blank_after row.ending) false d.gap (standing_of d own) false → Tied t g c cs (row ∷ []) (p ∷ []) (d ∷ []) (own ∷ [])
   row_tied : {row next : Row} {rows : List Row} {p o : PlacedRow} {ps : List PlacedRow} {d : Deco} {ds : List Deco} {own : List CommentValue} {owns : List (List CommentValue)} (hs : List CommentValue) (b : Bool)
-      → TrailTied c cs row p d → d.gap ≡ gap_with row.ending next.column hs b → Blanks (may_be_blank_after row.ending) false d.gap (standing_of d own) next.blank_before → NextTied cs next o d
-      → Tied c cs (next ∷ rows) (o ∷ ps) ds owns → Tied c cs (row ∷ next ∷ rows) (p ∷ o ∷ ps) (d ∷ ds) (own ∷ owns)
+      → TrailTied c cs row p d → d.gap ≡ gap_with g row.ending next.column hs b → Blanks t (may_be_blank_after row.ending) false d.gap (standing_of d own) next.blank_before → NextTied cs next o d
+      → Tied t g c cs (next ∷ rows) (o ∷ ps) ds owns → Tied t g c cs (row ∷ next ∷ rows) (p ∷ o ∷ ps) (d ∷ ds) (own ∷ owns)
 
-pub record CarryAgain (c : Source) (rows : List Row) (ds : List Deco) (owns : List (List CommentValue)) : Type 0 where
-  pub carry : Carry c rows ds (all_standing ds owns)
+pub record CarryAgain (t : List ℕ) (g : Columns) (c : Source) (rows : List Row) (ds : List Deco) (owns : List (List CommentValue)) : Type 0 where
+  pub carry : Carry t g c rows ds (all_standing ds owns)
   pub merged : Merged (flat_map (trailing c) rows) (all_standing ds owns) (all_of owns)
 
 -- Order.
@@ -80,7 +81,7 @@ each_right : {P : CommentValue → Type 0} (xs : List CommentValue) {ys : List C
 each_right [] a = a
 each_right (x ∷ xs) (each_more e a) = each_right xs a
 
-each_all : {P : CommentValue → Type 0} → ((d : CommentValue) → P d) → (xs : List CommentValue) → Each P xs
+pub each_all : {P : CommentValue → Type 0} → ((d : CommentValue) → P d) → (xs : List CommentValue) → Each P xs
 each_all f [] = each_none
 each_all f (x ∷ xs) = each_more (f x) (each_all f xs)
 
@@ -156,8 +157,8 @@ each_not {cut} row f l (each_more {d = d} m a) = each_more (f d ∙ not_less d.o
 pub next_apart : {cs : List CommentValue} {next : Row} {o : PlacedRow} {d : Deco} {k : ℕ} (here left : List CommentValue) → NextTied cs next o d → (remarks_of d.gap ≡ [] → here ≡ []) → k ≤ o.from → Under k here
     → ((cut : ℕ) → ((b : CommentValue) → In b cs → o.upto ≤ b.offset → cut ≤ b.offset) → Over cut left) → Apart next here left
 next_apart {next = next} here left (bare_next e f) g l u v =
-    record { before = subst (λ z. Each (λ d. precedes_item next d ≡ true) z) (sym (g f)) each_none; follows = each_all (λ d. ap (λ z. list_any (λ i. nat_lt d.offset i) z) e) left }
-next_apart {next = next} here left (items_next cut f l m) g n u v = record { before = each_less next f (omega (arith, l, n)) u; follows = each_not {k = cut} next f (omega arith) (v cut m) }
+    record { first = subst (λ z. Each (λ d. is_before_first next.items d.offset ≡ true) z) (sym (g f)) each_none; before = subst (λ z. Each (λ d. precedes_item next d ≡ true) z) (sym (g f)) each_none; follows = each_all (λ d. ap (λ z. list_any (λ i. nat_lt d.offset i) z) e) left }
+next_apart {next = next} here left (items_next cut f h l m) g n u v = record { first = each_map (λ d i z. h d (omega (arith, n, z))) u; before = each_less next f (omega (arith, l, n)) u; follows = each_not {k = cut} next f (omega arith) (v cut m) }
 
 -- what follows is from a cut on
 pub cut_over : {ts hs all cs : List CommentValue} {upto : ℕ} (before : List CommentValue) → cs ≡ before ++ all → Merged ts hs all → Over upto all → (cut : ℕ) → ((b : CommentValue) → In b cs → upto ≤ b.offset → cut ≤ b.offset) → Over cut hs
@@ -173,21 +174,21 @@ pub first_from : {o : PlacedRow} {ps : List PlacedRow} {ds : List Deco} {i j : �
 first_from (last_owns f l m up u is) = f
 first_from (row_owns f l m up u is n more) = f
 
-pub carry_again : {c : Source} {cs : List CommentValue} {rows : List Row} {ps : List PlacedRow} {ds : List Deco} {i j : ℕ} {owns : List (List CommentValue)} (before : List CommentValue) → Under i before → cs ≡ before ++ all_of owns
-    → Owns ps ds i owns j → Tied c cs rows ps ds owns → CarryAgain c rows ds owns
-carry_again {c} before u e (last_owns {p = p} {d = d} {own = own} f l m up v is) (last_tied {row = row} hs t q w) =
+pub carry_again : {t : List ℕ} {g : Columns} {c : Source} {cs : List CommentValue} {rows : List Row} {ps : List PlacedRow} {ds : List Deco} {i j : ℕ} {owns : List (List CommentValue)} (before : List CommentValue) → Under i before → cs ≡ before ++ all_of owns
+    → Owns ps ds i owns j → Tied t g c cs rows ps ds owns → CarryAgain t g c rows ds owns
+carry_again {t = text} {g = g} {c = c} before u e (last_owns {p = p} {d = d} {own = own} f l m up v is) (last_tied {row = row} hs t q w) =
     let s = own_split before own [] (subst (λ z. Under z before) (sym f) u) (omega (arith, l, f)) (subst (λ z. Upward p.upto z) (sym (append-nil own)) up) is e t in
     record {
-      carry = subst (λ z. Carry c (row ∷ []) (d ∷ []) z) (sym (append-nil (standing_of d own))) (last_carries hs s.trails q w);
+      carry = subst (λ z. Carry text g c (row ∷ []) (d ∷ []) z) (sym (append-nil (standing_of d own))) (last_carries hs s.trails q w);
       merged = both_merged (trailing c row) (standing_of d own) s.is none_merged;
     }
 carry_again before u e (row_owns f l m up v is n more) (last_tied hs t q w) = elim more [ ]
-carry_again {c} before u e (row_owns {p = p} {d = d} {ds = ds} {k = k} {l = low} {own = own} {owns = owns} f l m up v is n more) (row_tied {row = row} {next = next} {rows = rows} {o = o} hs b t q w x others) =
+carry_again {t = text} {g = g} {c = c} before u e (row_owns {p = p} {d = d} {ds = ds} {k = k} {l = low} {own = own} {owns = owns} f l m up v is n more) (row_tied {row = row} {next = next} {rows = rows} {o = o} hs b t q w x others) =
     let from : o.from ≡ low = first_from more in
     let rest : Upward k (all_of owns) = upward_less n (owns_upward more) in
     let s = own_split before own (all_of owns) (subst (λ z. Under z before) (sym f) u) (omega (arith, l, f)) (upward_join m up v rest) is e t in
     let down : Under low (before ++ own) = each_join (under_more (omega (arith, l, m, n)) u) (under_more n v) in
-    let further : CarryAgain c (next ∷ rows) ds owns = carry_again (before ++ own) down (e ∙ sym (append_assoc before own (all_of owns))) more others in
+    let further : CarryAgain text g c (next ∷ rows) ds owns = carry_again (before ++ own) down (e ∙ sym (append_assoc before own (all_of owns))) more others in
     let here : Under k (standing_of d own) = each_right (trailing c row) (subst (λ z. Under k z) s.is v) in
     let bare : remarks_of d.gap ≡ [] → standing_of d own ≡ [] = λ z. none_is_at d.trails own (is ∙ (ap (λ y. d.trails ++ y) z ∙ append-nil d.trails)) in
     let apart : Apart next (standing_of d own) (all_standing ds owns) =

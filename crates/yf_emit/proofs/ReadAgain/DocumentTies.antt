@@ -25,6 +25,7 @@ use Rattle.yf_emit.proofs.ReadAgain.RowTies.{node_tie, start_tie, head_tie, Ties
 use Rattle.yf_emit.proofs.ReadAgain.TrailAgain.{in_parts}
 use Rattle.yf_emit.proofs.RowNodes.FoundStreams.{begun_placed}
 use Rattle.yf_emit.proofs.SecondRun.FixedRows.{begun_shaped}
+use Rattle.yf_emit.specs.Layouts.KeptColumns.{Columns}
 
 -- a row without items was laid out without any
 pub data Barely : List Row → List PlacedRow → Type 0 where
@@ -38,7 +39,7 @@ rows_barely (row_before at e w more) = row_barely at.bare (rows_barely more)
 -- rows that are still to come, after comments
 pub data Left (cs : List CommentValue) (j : ℕ) : List Row → List Row → List PlacedRow → Type 0 where
   none_left : Left cs j [] [] []
-  some_left : {xs found : List Row} {ps : List PlacedRow} {ds : List Deco} {i : ℕ} {owns : List (List CommentValue)} (before : List CommentValue) → Barely xs ps → Owns ps ds i owns j → LaidRows xs found ds → Under i before
+  some_left : {g : Columns} {xs found : List Row} {ps : List PlacedRow} {ds : List Deco} {i : ℕ} {owns : List (List CommentValue)} (before : List CommentValue) → Barely xs ps → Owns ps ds i owns j → LaidRows g xs found ds → Under i before
       → cs ≡ before ++ all_of owns → Left cs j xs found ps
 
 under_wider : {m n : ℕ} {bs : List CommentValue} → m ≤ n → Under m bs → Under n bs

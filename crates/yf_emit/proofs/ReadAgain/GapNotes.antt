@@ -1,5 +1,5 @@
 -- Each comment of a gap, as it is in a text, and what is after it carry the note whether a blank line was printed before them.
-use Rattle.std.proofs.Common.{◌≡◌, ℕ, zero, suc, ◌+◌, ◌≤◌, Bool, true, false, List, [], ◌∷◌, ◌++◌, refl, sym, ap, ◌∙◌, subst, arith, add-zero}
+use Rattle.std.proofs.Common.{Some, zero-add, ◌≡◌, ℕ, zero, suc, ◌+◌, ◌≤◌, Bool, true, false, List, [], ◌∷◌, ◌++◌, refl, sym, ap, ◌∙◌, subst, arith, add-zero}
 use Rattle.std.specs.Prelude.{◌&&◌}
 use Rattle.std.specs.Str.{IsUtf8}
 use Rattle.yf_chars.specs.Class.{is_white, is_break_char}
@@ -19,6 +19,9 @@ use Rattle.yf_emit.specs.Layouts.Layout.{may_be_blank_after, trimmed}
 use Rattle.yf_emit.specs.Layouts.Rows.{Ending, anywhere}
 use Rattle.yf_emit.proofs.ReadAgain.GapsAgain.{Blanks, gap_ends, gap_blank, gap_remark, gap_more, gap_with, trimmed_twice}
 use Rattle.yf_emit.proofs.ReadAgain.GapsInText.{GapIsAt, gap_over, blank_is_at, remark_is_at}
+use Rattle.yf_emit.specs.Layouts.KeptColumns.{Columns}
+use Rattle.yf_emit.specs.Layouts.SourceColumns.{own_column}
+use Rattle.yf_emit.proofs.Columns.SourceColumns.{column_spaces, space_white}
 
 -- comments with their notes over a floor
 pub data NotedOver (t : List ℕ) (f : ℕ) : List CommentValue → List CommentValue → Type 0 where
@@ -85,7 +88,7 @@ since_back {t} {f} (suc k) i u s d =
 -- The last line.
 
 last_noted : {t : List ℕ} {f i j : ℕ} {b : Bool} {cs ns : List CommentValue} (may a : Bool) → IsUtf8 t → GapIsAt t i (blank_if (may && a)) cs j → Blank t i → f ≤ i → (BlankSince t f i → ⊥) → NotedOver t f cs ns
-    → (k : ℕ) → Spaces t j k → HeadNote t f (j + k) a b → Blanks may false (blank_if (may && a)) ns b
+    → (k : ℕ) → Spaces t j k → HeadNote t f (j + k) a b → Blanks t may false (blank_if (may && a)) ns b
 last_noted {i = i} true true u (blank_is_at br gap_over) line l none none_over k s (entry_head n) = gap_blank (gap_ends (noted_true n (since_past k (i + 1) s (blank_line l line br))))
 last_noted true false u gap_over line l none none_over k s bare_head = gap_ends refl
 last_noted {i = i} true false u gap_over line l none none_over k s (entry_head n) = gap_ends (noted_false n (λ d. none (since_back k i u s d)))
@@ -96,20 +99,20 @@ last_noted {i = i} false a u gap_over line l none none_over k s (entry_head n) =
 
 remark_noted : {t : List ℕ} {f i j : ℕ} {b : Bool} {text : List ℕ} {gs : List GapLine} {cs ns : List CommentValue} (column : ℕ) (may a : Bool) → IsUtf8 t → trimmed text ≡ text → GapIsAt t i (blank_if (may && a) ++ (remark column text ∷ gs)) cs j
     → Blank t i → f ≤ i → (BlankSince t f i → ⊥) → NotedOver t f cs ns
-    → ((k : ℕ) (es ms : List CommentValue) → GapIsAt t k gs es j → Blank t k → f ≤ k → (BlankSince t f k → ⊥) → NotedOver t f es ms → Blanks true false gs ms b)
-    → Blanks may false (blank_if (may && a) ++ (remark column text ∷ gs)) ns b
-remark_noted {t} {f} {i} column true true u e (blank_is_at br (remark_is_at {k = k} s o q m z n rest)) line l none (one_over {cs = es} {ns = ms} {b = note} d ds) more =
-    gap_blank (gap_remark (ap trimmed q ∙ e) (noted_true (subst (λ p. NotedSince t f p note) o d) (since_past column (i + 1) s (blank_line l line br))) (more k es ms rest z (omega (arith, l, m)) (λ w. n (since_before w)) ds))
-remark_noted {t} {f} {i} column true false u e (remark_is_at {k = k} s o q m z n rest) line l none (one_over {cs = es} {ns = ms} {b = note} d ds) more =
-    gap_remark (ap trimmed q ∙ e) (noted_false (subst (λ p. NotedSince t f p note) o d) (λ y. none (since_back column i u s y))) (more k es ms rest z (omega (arith, l, m)) (λ w. n (since_before w)) ds)
-remark_noted {t} {f} {i} column false a u e (remark_is_at {k = k} s o q m z n rest) line l none (one_over {cs = es} {ns = ms} {b = note} d ds) more =
-    gap_remark (ap trimmed q ∙ e) (noted_false (subst (λ p. NotedSince t f p note) o d) (λ y. none (since_back column i u s y))) (more k es ms rest z (omega (arith, l, m)) (λ w. n (since_before w)) ds)
+    → ((k : ℕ) (es ms : List CommentValue) → GapIsAt t k gs es j → Blank t k → f ≤ k → (BlankSince t f k → ⊥) → NotedOver t f es ms → Blanks t true false gs ms b)
+    → Blanks t may false (blank_if (may && a) ++ (remark column text ∷ gs)) ns b
+remark_noted {t} {f} {i} column true true u e (blank_is_at br (remark_is_at {k = k} w s o q m z n rest)) line l none (one_over {cs = es} {ns = ms} {b = note} d ds) more =
+    gap_blank (gap_remark (ap trimmed q ∙ e) (noted_true (subst (λ p. NotedSince t f p note) o d) (since_past column (i + 1) s (blank_line l line br))) (ap (own_column t) o ∙ (column_spaces is_white space_white s w ∙ ap Some (zero-add column))) (more k es ms rest z (omega (arith, l, m)) (λ v. n (since_before v)) ds))
+remark_noted {t} {f} {i} column true false u e (remark_is_at {k = k} w s o q m z n rest) line l none (one_over {cs = es} {ns = ms} {b = note} d ds) more =
+    gap_remark (ap trimmed q ∙ e) (noted_false (subst (λ p. NotedSince t f p note) o d) (λ y. none (since_back column i u s y))) (ap (own_column t) o ∙ (column_spaces is_white space_white s w ∙ ap Some (zero-add column))) (more k es ms rest z (omega (arith, l, m)) (λ v. n (since_before v)) ds)
+remark_noted {t} {f} {i} column false a u e (remark_is_at {k = k} w s o q m z n rest) line l none (one_over {cs = es} {ns = ms} {b = note} d ds) more =
+    gap_remark (ap trimmed q ∙ e) (noted_false (subst (λ p. NotedSince t f p note) o d) (λ y. none (since_back column i u s y))) (ap (own_column t) o ∙ (column_spaces is_white space_white s w ∙ ap Some (zero-add column))) (more k es ms rest z (omega (arith, l, m)) (λ v. n (since_before v)) ds)
 
 -- of a gap that was laid out so, before a row that is k spaces after it
-pub gap_noted : {t : List ℕ} {f i j : ℕ} {b : Bool} {cs ns : List CommentValue} (e : Ending) (column : ℕ) (hs : List CommentValue) (a : Bool) → IsUtf8 t → GapIsAt t i (gap_with e column hs a) cs j → Blank t i → f ≤ i
-    → (BlankSince t f i → ⊥) → NotedOver t f cs ns → (k : ℕ) → Spaces t j k → HeadNote t f (j + k) a b → Blanks (may_be_blank_after e) false (gap_with e column hs a) ns b
-gap_noted e column [] a u is_there line l none notes k s n = last_noted (may_be_blank_after e) a u is_there line l none notes k s n
-gap_noted {t} {f} {i} {j} {b} {cs} {ns} e column (h ∷ hs) a u is_there line l none notes k s n =
-    subst (λ z. Blanks (may_be_blank_after e) false z ns b) (sym (gap_more e column h hs a))
-    (remark_noted column (may_be_blank_after e) h.blank_before u (trimmed_twice h.text) (subst (λ z. GapIsAt t i z cs j) (gap_more e column h hs a) is_there) line l none notes
-    (λ p es ms rest w m nothing others. gap_noted anywhere column hs a u rest w m nothing others k s n))
+pub gap_noted : (g : Columns) {t : List ℕ} {f i j : ℕ} {b : Bool} {cs ns : List CommentValue} (e : Ending) (column : ℕ) (hs : List CommentValue) (a : Bool) → IsUtf8 t → GapIsAt t i (gap_with g e column hs a) cs j → Blank t i → f ≤ i
+    → (BlankSince t f i → ⊥) → NotedOver t f cs ns → (k : ℕ) → Spaces t j k → HeadNote t f (j + k) a b → Blanks t (may_be_blank_after e) false (gap_with g e column hs a) ns b
+gap_noted g e column [] a u is_there line l none notes k s n = last_noted (may_be_blank_after e) a u is_there line l none notes k s n
+gap_noted g {t} {f} {i} {j} {b} {cs} {ns} e column (h ∷ hs) a u is_there line l none notes k s n =
+    subst (λ z. Blanks t (may_be_blank_after e) false z ns b) (sym (gap_more g e column h hs a))
+    (remark_noted (g h column) (may_be_blank_after e) h.blank_before u (trimmed_twice h.text) (subst (λ z. GapIsAt t i z cs j) (gap_more g e column h hs a) is_there) line l none notes
+    (λ p es ms rest w m nothing others. gap_noted g anywhere column hs a u rest w m nothing others k s n))

@@ -1,5 +1,5 @@
 -- Where the lines of a gap are in a text, each comment at its offset; no blank line is before what follows a comment.
-use Rattle.std.proofs.Common.{◌≡◌, ℕ, suc, ◌+◌, ◌<◌, ◌≤◌, true, false, true≢false, ⊎_elim, List, [], ◌∷◌, ◌++◌, drop, length, refl, sym, ap, ◌∙◌, subst, arith, length-drop}
+use Rattle.std.proofs.Common.{Some, ◌≡◌, ℕ, suc, ◌+◌, ◌<◌, ◌≤◌, true, false, true≢false, ⊎_elim, List, [], ◌∷◌, ◌++◌, drop, length, refl, sym, ap, ◌∙◌, subst, arith, length-drop}
 use Rattle.std.proofs.lemmas.Bool.{cases_eq}
 use Rattle.std.specs.Str.{IsUtf8}
 use Rattle.yf_chars.specs.Chain.{Chain}
@@ -27,18 +27,20 @@ use Rattle.yf_comments.proofs.GapLinesLemmas.{texts, remark_at, spaces_in_line}
 use Rattle.yf_grammar.specs.Productions.ReadParts.{BlankSince}
 use Rattle.yf_grammar.specs.Productions.ReadParts.BlankSince.{blank_line, past_gap}
 use Rattle.yf_stream.proofs.BlankNotes.FloorLemmas.{since_over}
+use Rattle.yf_emit.specs.Layouts.SourceColumns.{own_column}
+use Rattle.yf_emit.proofs.Columns.SourceColumns.{column_break}
 
 -- the lines from i on, with the comments on them, up to j
 pub data GapIsAt (t : List ℕ) : ℕ → List GapLine → List CommentValue → ℕ → Type 0 where
   gap_over : {i : ℕ} → GapIsAt t i [] [] i
   blank_is_at : {i j : ℕ} {gs : List GapLine} {cs : List CommentValue} → Break t i (i + 1) → GapIsAt t (i + 1) gs cs j → GapIsAt t i (blank ∷ gs) cs j
-  remark_is_at : {i k j column : ℕ} {text : List ℕ} {gs : List GapLine} {c : CommentValue} {cs : List CommentValue} → Spaces t i column → c.offset ≡ i + column → c.text ≡ text → i + column < k → Blank t k
+  remark_is_at : {i k j column : ℕ} {text : List ℕ} {gs : List GapLine} {c : CommentValue} {cs : List CommentValue} → own_column t i ≡ Some 0 → Spaces t i column → c.offset ≡ i + column → c.text ≡ text → i + column < k → Blank t k
       → (BlankBefore t k → ⊥) → GapIsAt t k gs cs j → GapIsAt t i (remark column text ∷ gs) (c ∷ cs) j
 
 pub gap_order : {t : List ℕ} {i j : ℕ} {gs : List GapLine} {cs : List CommentValue} → GapIsAt t i gs cs j → i ≤ j
 gap_order gap_over = omega arith
 gap_order (blank_is_at b a) = let l = gap_order a in omega (arith, l)
-gap_order (remark_is_at s e f l b n a) = let m = gap_order a in omega (arith, l, m)
+gap_order (remark_is_at w s e f l b n a) = let m = gap_order a in omega (arith, l, m)
 
 -- After a comment.
 
@@ -149,11 +151,11 @@ pub record GapPlaced (t : List ℕ) (q : ℕ) (gap : List GapLine) (r : List ℕ
   pub is : texts comments ≡ remarks_of gap
   pub is_there : GapIsAt t q gap comments place
 
-pub gap_placed : {t : List ℕ} (gap : List GapLine) (r : List ℕ) {q : ℕ} → IsUtf8 t → AreGapLines gap → LineStart t q → Rest t q (gap_then gap r) → GapPlaced t q gap r
-gap_placed [] r {q} u a l s = record { place = q; comments = []; lines = done; start = l; rest = s; is = refl; is_there = gap_over }
-gap_placed (blank ∷ gs) r {q} u a l s =
+pub gap_placed : {t : List ℕ} (gap : List GapLine) (r : List ℕ) {q : ℕ} → IsUtf8 t → AreGapLines gap → LineStart t q → own_column t q ≡ Some 0 → Rest t q (gap_then gap r) → GapPlaced t q gap r
+gap_placed [] r {q} u a l w s = record { place = q; comments = []; lines = done; start = l; rest = s; is = refl; is_there = gap_over }
+gap_placed (blank ∷ gs) r {q} u a l w s =
     let end = rest_break u s in
-    let more = gap_placed gs r u a (after_break end.0) end.1 in
+    let more = gap_placed gs r u a (after_break end.0) (column_break is_white end.0) end.1 in
     record {
       place = more.place;
       comments = more.comments;
@@ -163,10 +165,10 @@ gap_placed (blank ∷ gs) r {q} u a l s =
       is = more.is;
       is_there = blank_is_at end.0 more.is_there;
     }
-gap_placed (remark column text ∷ gs) r {q} u a l s =
+gap_placed (remark column text ∷ gs) r {q} u a l w s =
     let spaces = rest_spaces column q u s in
     let at = note_at (gap_then gs r) u a.0 spaces.1 in
-    let more = gap_placed gs r u a.1 (after_break at.break) at.rest in
+    let more = gap_placed gs r u a.1 (after_break at.break) (column_break is_white at.break) at.rest in
     record {
       place = more.place;
       comments = at.note ∷ more.comments;
@@ -174,5 +176,5 @@ gap_placed (remark column text ∷ gs) r {q} u a l s =
       start = more.start;
       rest = more.rest;
       is = ap (λ z. z ∷ texts more.comments) at.is ∙ ap (λ z. text ∷ z) more.is;
-      is_there = remark_is_at spaces.0 at.offset at.is at.later (break_ends at.break) at.none more.is_there;
+      is_there = remark_is_at w spaces.0 at.offset at.is at.later (break_ends at.break) at.none more.is_there;
     }

@@ -19,15 +19,16 @@ use Rattle.yf_emit.proofs.RowNodes.QuietPlaces.{ascend_under}
 use Rattle.yf_emit.proofs.Derived.RowEnds.{first_deco, after_decos}
 use Rattle.yf_emit.proofs.ReadAgain.RowSpots.{Spot, spot_noted, spot_of}
 use Rattle.yf_emit.proofs.Derived.RowsUtf8.{RowLines, row_more}
+use Rattle.yf_emit.specs.Layouts.KeptColumns.{Columns}
 
 -- as many rows as there is carried by rows
 pub data Beside : List Row → List Deco → Type 0 where
   none_beside : Beside [] []
   one_beside : {x : Row} {xs : List Row} {d : Deco} {ds : List Deco} → Beside xs ds → Beside (x ∷ xs) (d ∷ ds)
 
-pub decos_beside : (c : Source) (comments : List CommentValue) (rows : List Row) → Beside rows (decos_of c comments rows)
-decos_beside c comments [] = none_beside
-decos_beside c comments (row ∷ rows) = one_beside (decos_beside c (comments_left row comments) rows)
+pub decos_beside : (g : Columns) (c : Source) (comments : List CommentValue) (rows : List Row) → Beside rows (decos_of g c comments rows)
+decos_beside g c comments [] = none_beside
+decos_beside g c comments (row ∷ rows) = one_beside (decos_beside g c (comments_left row comments) rows)
 
 -- where the comments after each row are
 pub data Spots (t : List ℕ) : List PlacedRow → List Deco → List (List CommentValue) → Type 0 where

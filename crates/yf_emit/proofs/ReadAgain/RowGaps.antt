@@ -35,6 +35,7 @@ use Rattle.yf_emit.specs.Layouts.Rows.{Row}
 use Rattle.yf_emit.proofs.ReadAgain.GapsInText.{GapIsAt, gap_over, gap_placed, note_at, place_of}
 use Rattle.yf_emit.proofs.OutputLines.HeldLemmas.{SeenEnd}
 use Rattle.yf_emit.proofs.RowNodes.PlacedRows.{AtRow, EndsRow, LastEnd, OwnTail, after_line, after_scalar, PlacedRow}
+use Rattle.yf_emit.proofs.Columns.SourceColumns.{column_break}
 
 -- Chains.
 
@@ -67,7 +68,7 @@ no_gap (remark (suc k) text ∷ gs) r a e = absurd (omega (arith, e))
 
 pub gap_found : {t : List ℕ} (gap : List GapLine) (r : List ℕ) {q : ℕ} → IsUtf8 t → AreGapLines gap → Broken t q → Rest t q (gap_then gap r) → GapFound t q gap r
 gap_found gap r u a (at_break b) w =
-    let at = gap_placed gap r u a (after_break b) w in
+    let at = gap_placed gap r u a (after_break b) (column_break is_white b) w in
     record { place = at.place; comments = at.comments; rows = lines_rows at.lines; rest = at.rest; is_there = at.is_there }
 gap_found {t} gap r {q} u a (at_text_end e) w =
     let long : length (drop q t) ≡ length (gap_then gap r) = ap length w.bytes in

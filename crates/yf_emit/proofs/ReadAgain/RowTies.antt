@@ -1,5 +1,5 @@
 -- The rows of a text that was laid out: row by row as they were laid out, with what each carried, as they are found, and as they are in the text.
-use Rattle.std.proofs.Common.{◌≡◌, ℕ, max, ◌≤◌, Bool, true, false, List, [], ◌∷◌, ◌++◌, flat_map, length, Option, Some, None, refl, sym, ap, ◌∙◌, subst, arith}
+use Rattle.std.proofs.Common.{◌≡◌, ℕ, max, ◌<◌, ◌≤◌, Bool, true, false, List, [], ◌∷◌, ◌++◌, flat_map, length, Option, Some, None, refl, sym, ap, ◌∙◌, subst, arith}
 use Rattle.std.specs.Prelude.{◌&&◌, filter, is_some, nat_lt, option_to_list}
 use Rattle.std.specs.List.{list_any}
 use Rattle.yf_comments.specs.Comment.{CommentValue}
@@ -20,6 +20,8 @@ use Rattle.yf_emit.proofs.Derived.RowEnds.{first_deco, after_decos}
 use Rattle.yf_emit.proofs.SameReading.RowFlow.{greatest, precedes_greatest}
 use Rattle.yf_emit.proofs.Trails.RowTrails.{trail_of}
 use Rattle.yf_emit.proofs.ReadAgain.TrailAgain.{LaidRow}
+use Rattle.yf_emit.specs.Layouts.KeptColumns.{Columns, is_before_first}
+use Rattle.std.proofs.lemmas.Bool.Decides.{nat_tests}
 
 -- A row x that was laid out, as it is found, and as it is: of a node, or before the node of a document. The item of a document is on the first of
 -- its rows, and no comment is between.
@@ -44,11 +46,11 @@ tie_leaves (head_tie a b c d e) = c ∙ sym d
 -- What each row carried.
 
 -- rows that were laid out, and as they are found
-pub data LaidRows : List Row → List Row → List Deco → Type 0 where
-  none_laid : LaidRows [] [] []
-  last_laid : {x row : Row} {d : Deco} (hs : List CommentValue) → LaidRow d row → d.gap ≡ gap_with row.ending 0 hs false → LaidRows (x ∷ []) (row ∷ []) (d ∷ [])
-  row_laid : {x y row next : Row} {xs rows : List Row} {d : Deco} {ds : List Deco} (hs : List CommentValue) (b : Bool) → LaidRow d row → d.gap ≡ gap_with row.ending next.column hs b → (y.items ≡ [] → remarks_of d.gap ≡ [])
-      → LaidRows (y ∷ xs) (next ∷ rows) ds → LaidRows (x ∷ y ∷ xs) (row ∷ next ∷ rows) (d ∷ ds)
+pub data LaidRows (g : Columns) : List Row → List Row → List Deco → Type 0 where
+  none_laid : LaidRows g [] [] []
+  last_laid : {x row : Row} {d : Deco} (hs : List CommentValue) → LaidRow d row → d.gap ≡ gap_with g row.ending 0 hs false → LaidRows g (x ∷ []) (row ∷ []) (d ∷ [])
+  row_laid : {x y row next : Row} {xs rows : List Row} {d : Deco} {ds : List Deco} (hs : List CommentValue) (b : Bool) → LaidRow d row → d.gap ≡ gap_with g row.ending next.column hs b → (y.items ≡ [] → remarks_of d.gap ≡ [])
+      → LaidRows g (y ∷ xs) (next ∷ rows) ds → LaidRows g (x ∷ y ∷ xs) (row ∷ next ∷ rows) (d ∷ ds)
 
 no_leaves : (ls : List Span) → length ls ≡ 0 → ls ≡ []
 no_leaves [] e = refl
@@ -89,8 +91,8 @@ no_blank_remarks : (b : Bool) → remarks_of (blank_if b) ≡ []
 no_blank_remarks true = refl
 no_blank_remarks false = refl
 
-pub bare_gap : (e : Ending) (column : ℕ) (hs : List CommentValue) (b : Bool) → hs ≡ [] → remarks_of (gap_with e column hs b) ≡ []
-bare_gap e column hs b f = ap (λ z. remarks_of (gap_with e column z b)) f ∙ no_blank_remarks (may_be_blank_after e && b)
+pub bare_gap : (g : Columns) (e : Ending) (column : ℕ) (hs : List CommentValue) (b : Bool) → hs ≡ [] → remarks_of (gap_with g e column hs b) ≡ []
+bare_gap g e column hs b f = ap (λ z. remarks_of (gap_with g e column z b)) f ∙ no_blank_remarks (may_be_blank_after e && b)
 
 abbrev pub first_shape : RowShape → List RowShape → RowShape
 first_shape other [] = other
@@ -100,28 +102,28 @@ abbrev pub other_shapes : List RowShape → List RowShape
 other_shapes [] = []
 other_shapes (s ∷ ss) = ss
 
-pub laid_rows : (m : Source) (comments : List CommentValue) (xs rows : List Row) → shapes xs ≡ shapes rows → AreDecos (decos_of m comments xs) → LaidRows xs rows (decos_of m comments xs)
-laid_rows m comments [] [] e a = none_laid
-laid_rows m comments [] (row ∷ rows) e a = absurd cc
-laid_rows m comments (x ∷ xs) [] e a = absurd cc
-laid_rows m comments (x ∷ []) (row ∷ []) e a =
+pub laid_rows : (g : Columns) (m : Source) (comments : List CommentValue) (xs rows : List Row) → shapes xs ≡ shapes rows → AreDecos (decos_of g m comments xs) → LaidRows g xs rows (decos_of g m comments xs)
+laid_rows g m comments [] [] e a = none_laid
+laid_rows g m comments [] (row ∷ rows) e a = absurd cc
+laid_rows g m comments (x ∷ xs) [] e a = absurd cc
+laid_rows g m comments (x ∷ []) (row ∷ []) e a =
     let left : List CommentValue = comments_left x comments in
-    let d : Deco = record { trails = trimmed_texts (trailing m x); gap = gap_of x.ending left [] } in
+    let d : Deco = record { trails = trimmed_texts (trailing m x); gap = gap_of g x.ending left [] } in
     let one : shape_of x ≡ shape_of row = ap (first_shape (shape_of x)) e in
     last_laid left (row_is_laid m d x row refl (first_deco a).trails (ap (λ (s : RowShape). s.leaves) one) (ap (λ (s : RowShape). s.is_commented) one))
-    (gap_at_end x.ending left ∙ ap (λ z. gap_with z 0 left false) (ap (λ (s : RowShape). s.ending) one))
-laid_rows m comments (x ∷ []) (row ∷ next ∷ rows) e a = absurd cc
-laid_rows m comments (x ∷ y ∷ xs) (row ∷ []) e a = absurd cc
-laid_rows m comments (x ∷ y ∷ xs) (row ∷ next ∷ rows) e a =
+    (gap_at_end g x.ending left ∙ ap (λ z. gap_with g z 0 left false) (ap (λ (s : RowShape). s.ending) one))
+laid_rows g m comments (x ∷ []) (row ∷ next ∷ rows) e a = absurd cc
+laid_rows g m comments (x ∷ y ∷ xs) (row ∷ []) e a = absurd cc
+laid_rows g m comments (x ∷ y ∷ xs) (row ∷ next ∷ rows) e a =
     let left : List CommentValue = comments_left x comments in
     let here : List CommentValue = filter (precedes_item y) left in
-    let d : Deco = record { trails = trimmed_texts (trailing m x); gap = gap_of x.ending left (y ∷ xs) } in
+    let d : Deco = record { trails = trimmed_texts (trailing m x); gap = gap_of g x.ending left (y ∷ xs) } in
     let one : shape_of x ≡ shape_of row = ap (first_shape (shape_of x)) e in
     let two : shape_of y ≡ shape_of next = ap (λ z. first_shape (shape_of y) (other_shapes z)) e in
     row_laid here y.blank_before (row_is_laid m d x row refl (first_deco a).trails (ap (λ (s : RowShape). s.leaves) one) (ap (λ (s : RowShape). s.is_commented) one))
-    (ap (λ z. gap_with z y.column here y.blank_before) (ap (λ (s : RowShape). s.ending) one) ∙ ap (λ z. gap_with row.ending z here y.blank_before) (ap (λ (s : RowShape). s.column) two))
-    (λ f. bare_gap x.ending y.column here y.blank_before (none_precedes y left f))
-    (laid_rows m left (y ∷ xs) (next ∷ rows) (ap other_shapes e) (after_decos a))
+    (ap (λ z. gap_with g z y.column here y.blank_before) (ap (λ (s : RowShape). s.ending) one) ∙ ap (λ z. gap_with g row.ending z here y.blank_before) (ap (λ (s : RowShape). s.column) two))
+    (λ f. bare_gap g x.ending y.column here y.blank_before (none_precedes y left f))
+    (laid_rows g m left (y ∷ xs) (next ∷ rows) (ap other_shapes e) (after_decos a))
 
 -- Where a comment is to the items of the next row.
 
@@ -132,6 +134,14 @@ greatest_upto (one_inside l m a) = let n = greatest_upto a in omega (arith, m, n
 greatest_from : {i j a : ℕ} {is : List ℕ} → Inside i j (a ∷ is) → i ≤ greatest (a ∷ is)
 greatest_from (one_inside l m a) = omega (arith, l)
 
+before_below : (items : List ℕ) (i offset : ℕ) (is : List ℕ) → items ≡ i ∷ is → offset < i → is_before_first items offset ≡ true
+before_below items i offset is e l = ap (λ z. is_before_first z offset) e ∙ below offset i l where
+  below : (m n : ℕ) → m < n → nat_lt m n ≡ true
+  below m n k = grind (arith, nat_tests)
+
+inside_first : {i j a : ℕ} {is : List ℕ} → Inside i j (a ∷ is) → i ≤ a
+inside_first (one_inside l m a) = l
+
 pub next_tied : {cs : List CommentValue} {x row : Row} {p : PlacedRow} {d : Deco} → Tie cs x row p → Inside p.from p.upto p.items → (x.items ≡ [] → remarks_of d.gap ≡ []) → NextTied cs row p d
 next_tied {cs} {row = row} {p = p} {d = d} (node_tie a b c) inside f = go p.items refl where
   go : (is : List ℕ) → p.items ≡ is → NextTied cs row p d
@@ -141,8 +151,8 @@ next_tied {cs} {row = row} {p = p} {d = d} (node_tie a b c) inside f = go p.item
       let same : greatest row.items ≡ greatest (i ∷ is) = ap greatest (a ∙ e) in
       let low : p.from ≤ greatest (i ∷ is) = greatest_from here in
       let high : greatest (i ∷ is) ≤ p.upto = greatest_upto here in
-      items_next (greatest row.items) (λ b. precedes_greatest row.items b.offset) (omega (arith, same, low)) (λ b j l. omega (arith, same, high, l))
+      items_next (greatest row.items) (λ b. precedes_greatest row.items b.offset) (λ b z. let first = inside_first here in before_below row.items i b.offset is (a ∙ e) (omega (arith, z, first))) (omega (arith, same, low)) (λ b j l. omega (arith, same, high, l))
 next_tied {row = row} (start_tie start a b c d l g) inside f =
     let same : greatest row.items ≡ max start 0 = ap greatest a in
-    items_next (greatest row.items) (λ v. precedes_greatest row.items v.offset) (omega (arith, same, l)) (λ v j m. let n : start ≤ v.offset = g v j m in omega (arith, same, n))
+    items_next (greatest row.items) (λ v. precedes_greatest row.items v.offset) (λ v z. before_below row.items start v.offset [] a (omega (arith, z, l))) (omega (arith, same, l)) (λ v j m. let n : start ≤ v.offset = g v j m in omega (arith, same, n))
 next_tied (head_tie a b c d e) inside f = bare_next a (f b)

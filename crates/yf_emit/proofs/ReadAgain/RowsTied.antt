@@ -30,6 +30,7 @@ use Rattle.yf_emit.proofs.SameReading.StartsBefore.{AllFrom, none_later, one_lat
 use Rattle.yf_emit.proofs.Derived.StepsInText.{starts_of, starts_append}
 use Rattle.yf_emit.proofs.ReadAgain.TrailAgain.{LaidRow, row_trail_tied, sub_inside}
 use Rattle.yf_emit.proofs.Trails.TrailChoice.{rising}
+use Rattle.yf_emit.specs.Layouts.KeptColumns.{Columns}
 
 abbrev offset_or : List CommentValue → ℕ
 offset_or [] = 0
@@ -139,9 +140,9 @@ module _ {t : List ℕ} (lines : List Line) (are_lines : AreLines t lines) (c : 
   under_wider : {m n : ℕ} {bs : List CommentValue} → m ≤ n → Under m bs → Under n bs
   under_wider l a = each_map (λ b i m. omega (arith, l, m)) a
 
-  pub tied_rows : {xs rows : List Row} {ps : List PlacedRow} {ds : List Deco} {i j it : ℕ} {owns : List (List CommentValue)} (pre : List Span) (kb before : List CommentValue) → Ties cs xs rows ps → LaidRows xs rows ds → Owns ps ds i owns j
-      → Spots t ps ds owns → Upright c cs it rows → AllQuiet cs ps → AllBlanks rows ds owns → c.leaves ≡ pre ++ leaves_on rows → c.key_comments ≡ kb ++ keys_of rows → Under i kb → Under i before → cs ≡ before ++ all_of owns
-      → Tied c cs rows ps ds owns
+  pub tied_rows : {g : Columns} {xs rows : List Row} {ps : List PlacedRow} {ds : List Deco} {i j it : ℕ} {owns : List (List CommentValue)} (pre : List Span) (kb before : List CommentValue) → Ties cs xs rows ps → LaidRows g xs rows ds → Owns ps ds i owns j
+      → Spots t ps ds owns → Upright c cs it rows → AllQuiet cs ps → AllBlanks t rows ds owns → c.leaves ≡ pre ++ leaves_on rows → c.key_comments ≡ kb ++ keys_of rows → Under i kb → Under i before → cs ≡ before ++ all_of owns
+      → Tied t g c cs rows ps ds owns
   tied_rows pre kb before no_ties laid own spots rising_rows quiet notes all keys kbs early are = elim own [ ]
   tied_rows pre kb before (a_tie tie no_ties) (last_laid hs laid gap) (row_owns f l m over under is n more) spots rising_rows quiet notes all keys kbs early are = elim more [ ]
   tied_rows pre kb before (a_tie tie no_ties) (last_laid hs laid gap) (last_owns {p = p} f l m over under is) (last_spot spot) (an_upright first later fits trail more) (quiet_row q quiet) (last_blanks here_noted) all keys kbs early are =

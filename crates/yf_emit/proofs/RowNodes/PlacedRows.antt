@@ -131,6 +131,7 @@ at_joined {y} {p} {i} head ys n q a items leaves e f g at x xs same =
     let here : record {
       column = head.column;
       text = head.text ++ (replicate n 32 ++ y.text);
+      starts = head.starts ++ y.starts;
       items = head.items ++ y.items;
       leaves = head.leaves ++ y.leaves;
       key_comment = y.key_comment;

@@ -14,6 +14,7 @@ use Rattle.yf_emit.specs.Layouts.Layout.{Source, first_comment, trailing_leaf, t
 use Rattle.yf_emit.specs.Layouts.Rows.{Row}
 use Rattle.yf_emit.proofs.SameReading.CommentsCut.{In, in_first, in_rest, in_after, in_before, Each, each_none, each_more, each_map, each_join, Under, Over}
 use Rattle.yf_emit.proofs.RowNodes.PlacedRows.{PlacedRow, RowsIn, last_row, row_before}
+use Rattle.yf_emit.specs.Layouts.KeptColumns.{Columns}
 
 -- before or after an offset
 
@@ -86,13 +87,13 @@ pub data Carries : List Row → List Deco → Type 0 where
   carries_none : {ds : List Deco} → Carries [] ds
   carries_row : {x : Row} {xs : List Row} {ds : List Deco} → (is_some x.key_comment ≡ true → (first ds).trails ≢ []) → Carries xs (after ds) → Carries (x ∷ xs) ds
 
-pub decos_carry : (c : Source) (comments : List CommentValue) (rows : List Row) → Carries rows (decos_of c comments rows)
-decos_carry c comments [] = carries_none
-decos_carry c comments (row ∷ rows) = carries_row (λ e f. go row.key_comment refl e f) (decos_carry c (comments_left row comments) rows) where
+pub decos_carry : (g : Columns) (c : Source) (comments : List CommentValue) (rows : List Row) → Carries rows (decos_of g c comments rows)
+decos_carry g c comments [] = carries_none
+decos_carry g c comments (row ∷ rows) = carries_row (λ e f. go row.key_comment refl e f) (decos_carry g c (comments_left row comments) rows) where
   some_text : {x : List ℕ} {xs : List (List ℕ)} → x ∷ xs ≡ [] → ⊥
   some_text e = absurd cc
 
-  go : (o : Option CommentValue) → row.key_comment ≡ o → is_some row.key_comment ≡ true → (first (decos_of c comments (row ∷ rows))).trails ≡ [] → ⊥
+  go : (o : Option CommentValue) → row.key_comment ≡ o → is_some row.key_comment ≡ true → (first (decos_of g c comments (row ∷ rows))).trails ≡ [] → ⊥
   go None e f g = absurd (true≢false (sym f ∙ ap is_some e))
   go (Some d) e f g = some_text (ap (λ z. map (λ (v : CommentValue). trimmed v.text) (option_to_list z ++ flat_map (λ leaf. trailing_leaf c leaf (first_comment c leaf)) row.leaves)) (sym e) ∙ g)
 

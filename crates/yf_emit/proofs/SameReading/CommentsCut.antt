@@ -47,6 +47,9 @@ each_at each_none i = elim i [ ]
 each_at (each_more p a) in_first = p
 each_at (each_more p a) (in_rest i) = each_at a i
 
+pub each_rest : {P : CommentValue → Type 0} {d : CommentValue} {ds : List CommentValue} → Each P (d ∷ ds) → Each P ds
+each_rest (each_more p a) = a
+
 abbrev pub Under : ℕ → List CommentValue → Type 0
 Under h ds = Each (λ d. d.offset < h) ds
 

@@ -23,10 +23,11 @@ use Rattle.yf_emit.proofs.Derived.FormatsRead.{formats_laid}
 use Rattle.yf_emit.proofs.SameReading.FoundAgain.{Unsigned, no_start, a_start, noted_told, stand_told, told_by}
 use Rattle.yf_emit.proofs.SameReading.StartsBefore.{starts_before}
 use Rattle.yf_emit.proofs.Derived.StepsInText.{Stand}
+use Rattle.yf_emit.specs.Layouts.KeptColumns.{Columns, columns_of}
 
 -- the comments of a layout and the documents that begin in it, as steps
-abbrev pub document_steps : Lists → List Row → List Step
-document_steps m rows = comment_steps (remarks_of (first_gap m rows)) ++ steps_with documents_begin rows (row_decos m rows)
+abbrev pub document_steps : Columns → Lists → List Row → List Step
+document_steps g m rows = comment_steps (remarks_of (first_gap g m rows)) ++ steps_with documents_begin rows (row_decos g m rows)
 
 abbrev pub document_starts : List Doc → List ℕ
 document_starts ds = map (λ d. d.start) ds
@@ -63,10 +64,10 @@ documents_counted {t} {j} {q} {steps} u a stand =
 
 -- of what formatting gives
 pub documents_found : (t u : List ℕ) (s : Style) (q : Lists) → IsUtf8 t → (f : IsFormatting t s u) → ReadingOf u q
-    → told_by (documents_before q) q.comments ≡ comments_of 0 (document_steps f.normal (rows_of f.normal s f.writes.trees))
+    → told_by (documents_before q) q.comments ≡ comments_of 0 (document_steps (columns_of t s (rows_of f.normal s f.writes.trees)) f.normal (rows_of f.normal s f.writes.trees))
 documents_found t u s q utf8 f a =
     let all = formats_laid t u s utf8 f in
     let shapes = a.reads.shapes in
-    let steps : List Step = document_steps f.normal (rows_of f.normal s f.writes.trees) in
+    let steps : List Step = document_steps (columns_of t s (rows_of f.normal s f.writes.trees)) f.normal (rows_of f.normal s f.writes.trees) in
     let derived : a.derived ≡ all.well.documents = all.well.reads.shapes.only shapes.height a.derived shapes.derived shapes.within in
     documents_counted all.well.utf8 a (subst (λ (x : Documents). Stand 0 (map (λ (d : Document). d.start) x.documents) x.comments steps (length u)) (sym derived) all.begun)

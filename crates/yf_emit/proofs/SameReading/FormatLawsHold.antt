@@ -35,7 +35,7 @@ formats_are_one t u v s f g =
     let reading : g.reading ≡ f.reading = readings_are_one t f.reading g.reading f.reads g.reads in
     let normal : g.normal ≡ f.normal =
     normal_unique t f.reading s g.normal f.normal (subst (λ r. Normal t r s g.normal) reading g.is_normal) f.is_normal in
-    layout_unique f.normal s u v f.writes (subst (λ m. IsLayout m s v) normal g.writes)
+    layout_unique t f.normal s u v f.writes (subst (λ m. IsLayout t m s v) normal g.writes)
 
 pub formats_accepted : FormatsAreAccepted
 formats_accepted t u s utf8 f = let well = formats_well t u s utf8 f in well_formed_texts_have_readings u well.documents well.utf8 well.reads

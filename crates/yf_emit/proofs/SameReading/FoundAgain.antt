@@ -23,6 +23,7 @@ use Rattle.yf_emit.proofs.Derived.FormatsRead.{formats_laid}
 use Rattle.yf_emit.proofs.SameReading.StartsBefore.{AllFrom, none_later, one_later, starts_before, none_before, one_before}
 use Rattle.yf_emit.proofs.Derived.StepsInText.{Stand, nothing_is_at, leaf_is_at, comment_is_at}
 use Rattle.yf_emit.proofs.Derived.StreamParts.{DocumentsLaid}
+use Rattle.yf_emit.specs.Layouts.KeptColumns.{columns_of}
 
 -- Leaves and comments from an offset on.
 
@@ -133,9 +134,9 @@ reading_told {t} {j} {q} {steps} u a laid =
 
 -- of what formatting gives
 pub found_again : (t u : List ℕ) (s : Style) (q : Lists) → IsUtf8 t → (f : IsFormatting t s u) → ReadingOf u q
-    → told_by (leaves_before q) q.comments ≡ comments_of 0 (steps_of f.normal (rows_of f.normal s f.writes.trees))
+    → told_by (leaves_before q) q.comments ≡ comments_of 0 (steps_of (columns_of t s (rows_of f.normal s f.writes.trees)) f.normal (rows_of f.normal s f.writes.trees))
 found_again t u s q utf8 f a =
     let all = formats_laid t u s utf8 f in
     let shapes = a.reads.shapes in
     let derived : a.derived ≡ all.well.documents = all.well.reads.shapes.only shapes.height a.derived shapes.derived shapes.within in
-    reading_told all.well.utf8 a (subst (λ x. DocumentsLaid 0 (length u) x (steps_of f.normal (rows_of f.normal s f.writes.trees))) (sym derived) all.laid)
+    reading_told all.well.utf8 a (subst (λ x. DocumentsLaid 0 (length u) x (steps_of (columns_of t s (rows_of f.normal s f.writes.trees)) f.normal (rows_of f.normal s f.writes.trees))) (sym derived) all.laid)

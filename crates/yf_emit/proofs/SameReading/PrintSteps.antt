@@ -12,6 +12,7 @@ use Rattle.yf_emit.specs.Layouts.Layout.{Source, may_be_blank_after, precedes_it
 use Rattle.yf_emit.specs.Layouts.Rows.{Row, Ending, anywhere}
 use Rattle.yf_emit.proofs.Derived.LayoutSteps.{Step, a_comment, a_leaf, comment_steps, leaf_steps, steps_in, comments_of}
 use Rattle.yf_emit.proofs.SameReading.StartsBefore.{AllFrom, AllBelow, starts_before, none_before, all_before}
+use Rattle.yf_emit.specs.Layouts.KeptColumns.{Columns}
 
 abbrev pub trimmed_texts : List CommentValue → List (List ℕ)
 trimmed_texts ds = map (λ d. trimmed d.text) ds
@@ -38,16 +39,16 @@ remarks_blank : (b : Bool) (gs : List GapLine) → remarks_of (blank_if b ++ gs)
 remarks_blank true gs = refl
 remarks_blank false gs = refl
 
-remarks_are : (before : Ending) (column : ℕ) (cs : List CommentValue) → remarks_of (remarks_after before column cs) ≡ trimmed_texts cs
-remarks_are before column [] = refl
-remarks_are before column (c ∷ cs) =
-    remarks_blank (may_be_blank_after before && c.blank_before) (GapLine.remark column (trimmed c.text) ∷ remarks_after anywhere column cs)
-    ∙ ap (λ w. trimmed c.text ∷ w) (remarks_are anywhere column cs)
+remarks_are : (g : Columns) (before : Ending) (column : ℕ) (cs : List CommentValue) → remarks_of (remarks_after g before column cs) ≡ trimmed_texts cs
+remarks_are g before column [] = refl
+remarks_are g before column (c ∷ cs) =
+    remarks_blank (may_be_blank_after before && c.blank_before) (GapLine.remark (g c column) (trimmed c.text) ∷ remarks_after g anywhere column cs)
+    ∙ ap (λ w. trimmed c.text ∷ w) (remarks_are g anywhere column cs)
 
-remarks_then : (before : Ending) (column : ℕ) (cs : List CommentValue) (b : Bool) → remarks_of (remarks_after before column cs ++ blank_if b) ≡ trimmed_texts cs
-remarks_then before column cs b =
-    remarks_append (remarks_after before column cs) (blank_if b) ∙ (ap (λ w. remarks_of (remarks_after before column cs) ++ w) (none b)
-    ∙ (append-nil (remarks_of (remarks_after before column cs)) ∙ remarks_are before column cs)) where
+remarks_then : (g : Columns) (before : Ending) (column : ℕ) (cs : List CommentValue) (b : Bool) → remarks_of (remarks_after g before column cs ++ blank_if b) ≡ trimmed_texts cs
+remarks_then g before column cs b =
+    remarks_append (remarks_after g before column cs) (blank_if b) ∙ (ap (λ w. remarks_of (remarks_after g before column cs) ++ w) (none b)
+    ∙ (append-nil (remarks_of (remarks_after g before column cs)) ∙ remarks_are g before column cs)) where
       none : (b : Bool) → remarks_of (blank_if b) ≡ []
       none true = refl
       none false = refl
@@ -55,18 +56,18 @@ remarks_then before column cs b =
 comments_apart : (xs ys : List (List ℕ)) (r : List Step) → comment_steps (xs ++ ys) ++ r ≡ comment_steps xs ++ (comment_steps ys ++ r)
 comments_apart xs ys r = ap (λ w. w ++ r) (map-append (λ (x : List ℕ). a_comment x) xs ys) ∙ append_assoc (comment_steps xs) (comment_steps ys) r
 
-pub steps_printed : (f : Row → List Step) (c : Source) (before : Ending) (comments : List CommentValue) (rows : List Row)
-    → comment_steps (remarks_of (gap_of before comments rows)) ++ steps_with f rows (decos_of c comments rows) ≡ printed_steps f c comments rows
-steps_printed f c before comments [] = append-nil (comment_steps (remarks_of (remarks_after before 0 comments))) ∙ ap comment_steps (remarks_are before 0 comments)
-steps_printed f c before comments (row ∷ rows) =
+pub steps_printed : (g : Columns) (f : Row → List Step) (c : Source) (before : Ending) (comments : List CommentValue) (rows : List Row)
+    → comment_steps (remarks_of (gap_of g before comments rows)) ++ steps_with f rows (decos_of g c comments rows) ≡ printed_steps f c comments rows
+steps_printed g f c before comments [] = append-nil (comment_steps (remarks_of (remarks_after g before 0 comments))) ∙ ap comment_steps (remarks_are g before 0 comments)
+steps_printed g f c before comments (row ∷ rows) =
     let left : List CommentValue = comments_left row comments in
     let ahead : List CommentValue = filter (precedes_item row) comments in
     let trails : List (List ℕ) = trimmed_texts (trailing c row) in
-    let gap : List (List ℕ) = remarks_of (gap_of row.ending left rows) in
-    ap (λ w. comment_steps w ++ (f row ++ (comment_steps (trails ++ gap) ++ steps_with f rows (decos_of c left rows))))
-    (remarks_then before row.column ahead (may_be_blank_after (ending_after before ahead) && row.blank_before))
+    let gap : List (List ℕ) = remarks_of (gap_of g row.ending left rows) in
+    ap (λ w. comment_steps w ++ (f row ++ (comment_steps (trails ++ gap) ++ steps_with f rows (decos_of g c left rows))))
+    (remarks_then g before row.column ahead (may_be_blank_after (ending_after before ahead) && row.blank_before))
     ∙ ap (λ w. comment_steps (trimmed_texts ahead) ++ (f row ++ w))
-    (comments_apart trails gap (steps_with f rows (decos_of c left rows)) ∙ ap (λ w. comment_steps trails ++ w) (steps_printed f c row.ending left rows))
+    (comments_apart trails gap (steps_with f rows (decos_of g c left rows)) ∙ ap (λ w. comment_steps trails ++ w) (steps_printed g f c row.ending left rows))
 
 -- What they tell.
 

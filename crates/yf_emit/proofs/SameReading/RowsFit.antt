@@ -147,7 +147,7 @@ sign_fits {cs} {i} {m} {j} head n (x ∷ xs) e q a b (row_fits f k more) =
           let from : m ≤ r = sub_one_from s (rises_from parts.one) in
           omega (arith, low, all, from, l)
 
-      key : {zs : List Row} → KeyFits cs x zs → KeyFits cs (record { column = head.column; text = head.text ++ (replicate n 32 ++ x.text); items = head.items ++ x.items; leaves = head.leaves ++ x.leaves; key_comment = x.key_comment; blank_before = head.blank_before; begins = head.begins; ending = x.ending; body = x.body; lines = x.lines }) zs
+      key : {zs : List Row} → KeyFits cs x zs → KeyFits cs (record { column = head.column; text = head.text ++ (replicate n 32 ++ x.text); starts = head.starts ++ x.starts; items = head.items ++ x.items; leaves = head.leaves ++ x.leaves; key_comment = x.key_comment; blank_before = head.blank_before; begins = head.begins; ending = x.ending; body = x.body; lines = x.lines }) zs
       key (no_key r) = no_key r
       key (a_key d r s ss z w free at next g) =
           a_key d r s ss z (sub_after head.items w) free

@@ -38,6 +38,7 @@ use Rattle.yf_emit.proofs.SameReading.RowFlow.{starts_on, starts_are}
 use Rattle.yf_emit.proofs.Derived.StepsInText.{starts_of}
 use Rattle.yf_emit.proofs.NormalForms.NormalParts.{normal_leaves}
 use Rattle.yf_emit.proofs.SameReading.CommentsCut.{In}
+use Rattle.yf_emit.specs.Layouts.KeptColumns.{Columns, columns_of}
 
 -- Documents of the source.
 
@@ -45,9 +46,9 @@ trimmed_alike : (m n : ℕ → ℕ) (cs : List CommentValue) → ((o : ℕ) → 
 trimmed_alike m n [] e = refl
 trimmed_alike m n (c ∷ cs) e = ap (λ z. (trimmed c.text, z) ∷ trimmed_by m cs) (e c.offset) ∙ ap (λ z. (trimmed c.text, n c.offset) ∷ z) (trimmed_alike m n cs e)
 
-documents_of_source : (t : List ℕ) (s : Style) (r : Lists) (trees : List DocumentTree) → IsUtf8 t → ReadingOf t r → TreesOf r trees
-    → comments_of 0 (document_steps (normal_of t s r trees) (normal_rows t s r trees)) ≡ trimmed_by (documents_before r) r.comments
-documents_of_source t s r trees u a of_reading =
+documents_of_source : (g : Columns) (t : List ℕ) (s : Style) (r : Lists) (trees : List DocumentTree) → IsUtf8 t → ReadingOf t r → TreesOf r trees
+    → comments_of 0 (document_steps g (normal_of t s r trees) (normal_rows t s r trees)) ≡ trimmed_by (documents_before r) r.comments
+documents_of_source g t s r trees u a of_reading =
     let w = source_is_at t s r trees u a of_reading in
     let m : Lists = normal_of t s r trees in
     let all : List Row = normal_rows t s r trees in
@@ -64,7 +65,7 @@ documents_of_source t s r trees u a of_reading =
     let unled = λ (e : bare ≡ true) (d : CommentValue) (i : In d r.comments) (f : starts_before (document_starts r.documents) d.offset ≡ 1) (g : AllFrom d.offset (starts_on all)).
     true≢false (sym (lead_there (documents_before m d.offset) (leaves_before m d.offset) (documents_are r.documents d.offset ∙ f) (ap (λ ss. starts_before ss d.offset) leaves ∙ none_before g)) ∙ none_leads m r.comments d (bare_unled m s e) i) in
     let flow = all_flow a.lines a.are_lines c r.comments (ap (zip r.comments) notes) w.sign u st refl bare (omega arith) w.stand laid unled w.upright in
-    counts_told documents_begin m all (document_starts r.documents) w.noted w.order flow
+    counts_told g documents_begin m all (document_starts r.documents) w.noted w.order flow
     ∙ trimmed_alike (starts_before (document_starts r.documents)) (documents_before r) r.comments (λ o. sym (documents_are r.documents o))
 
 documents_told : (t u : List ℕ) (s : Style) (q : Lists) → IsUtf8 t → (f : IsFormatting t s u) → ReadingOf u q
@@ -72,9 +73,9 @@ documents_told : (t u : List ℕ) (s : Style) (q : Lists) → IsUtf8 t → (f : 
 documents_told t u s q utf8 f a =
     let trees : List DocumentTree = map (normal_document t (setting_of f.reading s)) f.is_normal.trees in
     documents_found t u s q utf8 f a
-    ∙ (ap (λ xs. comments_of 0 (document_steps f.normal (rows_of f.normal s xs))) (laid_trees f)
-    ∙ (ap (λ (m : Lists). comments_of 0 (document_steps m (rows_of m s trees))) f.is_normal.is
-    ∙ documents_of_source t s f.reading f.is_normal.trees utf8 f.reads f.is_normal.of_reading))
+    ∙ (ap (λ xs. comments_of 0 (document_steps (columns_of t s (rows_of f.normal s f.writes.trees)) f.normal (rows_of f.normal s xs))) (laid_trees f)
+    ∙ (ap (λ (m : Lists). comments_of 0 (document_steps (columns_of t s (rows_of f.normal s f.writes.trees)) m (rows_of m s trees))) f.is_normal.is
+    ∙ documents_of_source (columns_of t s (rows_of f.normal s f.writes.trees)) t s f.reading f.is_normal.trees utf8 f.reads f.is_normal.of_reading))
 
 -- Texts without the white space that ends them.
 

@@ -50,6 +50,7 @@ use Rattle.yf_emit.proofs.NormalForms.StyledTwice.{normal_house}
 use Rattle.yf_emit.proofs.Trails.TrailChoice.{rising}
 use Rattle.yf_emit.proofs.SameReading.UprightRows.{rows_upright}
 use Rattle.yf_emit.specs.Layouts.BareStart.{is_bare}
+use Rattle.yf_emit.specs.Layouts.KeptColumns.{Columns}
 
 -- The rows that begin a document.
 
@@ -177,11 +178,11 @@ source_is_at t s r trees u a of_reading =
     }
 
 -- So the layout tells of each comment how many leaves of the reading begin before it.
-pub source_told : (t : List ℕ) (s : Style) (r : Lists) (trees : List DocumentTree) → IsUtf8 t → ReadingOf t r → TreesOf r trees
-    → comments_of 0 (steps_of (normal_of t s r trees) (normal_rows t s r trees)) ≡ trimmed_by (leaves_before r) r.comments
-source_told t s r trees u a of_reading =
+pub source_told : (g : Columns) (t : List ℕ) (s : Style) (r : Lists) (trees : List DocumentTree) → IsUtf8 t → ReadingOf t r → TreesOf r trees
+    → comments_of 0 (steps_of g (normal_of t s r trees) (normal_rows t s r trees)) ≡ trimmed_by (leaves_before r) r.comments
+source_told g t s r trees u a of_reading =
     let w = source_is_at t s r trees u a of_reading in
     let m : Lists = normal_of t s r trees in
     let all : List Row = normal_rows t s r trees in
     let starts : starts_on all ≡ leaf_starts r.events = starts_are all ∙ (ap starts_of w.leaves_are ∙ (sym (stream_starts_are trees) ∙ ap leaf_starts (sym of_reading.events))) in
-    comments_told m all (starts_on all) w.noted w.order (rows_flow (source_of m all) r.comments w.sign w.unsigned w.upright) ∙ ap (λ ss. trimmed_by (starts_before ss) r.comments) starts
+    comments_told g m all (starts_on all) w.noted w.order (rows_flow (source_of m all) r.comments w.sign w.unsigned w.upright) ∙ ap (λ ss. trimmed_by (starts_before ss) r.comments) starts

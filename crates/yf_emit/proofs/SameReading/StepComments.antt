@@ -17,6 +17,7 @@ use Rattle.yf_emit.proofs.Trails.DocumentTrails.{leaves_of}
 use Rattle.yf_emit.proofs.SameReading.PrintSteps.{steps_of_leaves, steps_printed, trimmed_by, printed_steps, cuts_told}
 use Rattle.yf_emit.proofs.SameReading.StartsBefore.{starts_before}
 use Rattle.yf_emit.proofs.Derived.StepsInText.{starts_of, starts_append, node_starts}
+use Rattle.yf_emit.specs.Layouts.KeptColumns.{Columns}
 
 pub firsts : (cs : List CommentValue) (bs : List Bool) → length bs ≡ length cs → map (λ (r : Remark). r.0) (zip cs bs) ≡ cs
 firsts [] bs e = refl
@@ -28,21 +29,21 @@ without_zero ss [] = refl
 without_zero ss (c ∷ cs) = λ n. trimmed_by (λ o. zero-add (starts_before ss o) n) (c ∷ cs)
 
 -- of a reading with these rows, by what begins on them
-pub counts_told : (f : Row → List Step) (m : Lists) (rows : List Row) (starts : List ℕ) → length m.on_leaf_line ≡ length m.comments → Upward 0 m.comments → Flowing f (source_of m rows) m.comments 0 rows starts
-    → comments_of 0 (comment_steps (remarks_of (first_gap m rows)) ++ steps_with f rows (row_decos m rows)) ≡ trimmed_by (starts_before starts) m.comments
-counts_told f m rows starts notes up flow =
+pub counts_told : (g : Columns) (f : Row → List Step) (m : Lists) (rows : List Row) (starts : List ℕ) → length m.on_leaf_line ≡ length m.comments → Upward 0 m.comments → Flowing f (source_of m rows) m.comments 0 rows starts
+    → comments_of 0 (comment_steps (remarks_of (first_gap g m rows)) ++ steps_with f rows (row_decos g m rows)) ≡ trimmed_by (starts_before starts) m.comments
+counts_told g f m rows starts notes up flow =
     let all : List CommentValue = flat_map (trailing (source_of m rows)) rows in
     let own : CommentValue → Bool = own_of all in
     let cuts = cuts_made f (source_of m rows) m.comments all flow 0 [] m.comments [] (omega arith) refl each_none up each_none refl (flowing_over 0 (omega arith) flow) in
-    ap (comments_of 0) (steps_printed f (source_of m rows) at_text_start (filter own (map (λ (r : Remark). r.0) (zip m.comments m.on_leaf_line))) rows)
+    ap (comments_of 0) (steps_printed g f (source_of m rows) at_text_start (filter own (map (λ (r : Remark). r.0) (zip m.comments m.on_leaf_line))) rows)
     ∙ (ap (λ w. comments_of 0 (printed_steps f (source_of m rows) (filter own w) rows)) (firsts m.comments m.on_leaf_line notes)
     ∙ (cuts_told cuts 0 ∙ without_zero starts m.comments))
 
 -- by its leaves
-pub comments_told : (m : Lists) (rows : List Row) (starts : List ℕ) → length m.on_leaf_line ≡ length m.comments → Upward 0 m.comments → Flowing leaves_begin (source_of m rows) m.comments 0 rows starts
-    → comments_of 0 (steps_of m rows) ≡ trimmed_by (starts_before starts) m.comments
-comments_told m rows starts notes up flow =
-    ap (λ w. comments_of 0 (comment_steps (remarks_of (first_gap m rows)) ++ w)) (steps_of_leaves rows (row_decos m rows)) ∙ counts_told leaves_begin m rows starts notes up flow
+pub comments_told : (g : Columns) (m : Lists) (rows : List Row) (starts : List ℕ) → length m.on_leaf_line ≡ length m.comments → Upward 0 m.comments → Flowing leaves_begin (source_of m rows) m.comments 0 rows starts
+    → comments_of 0 (steps_of g m rows) ≡ trimmed_by (starts_before starts) m.comments
+comments_told g m rows starts notes up flow =
+    ap (λ w. comments_of 0 (comment_steps (remarks_of (first_gap g m rows)) ++ w)) (steps_of_leaves rows (row_decos g m rows)) ∙ counts_told g leaves_begin m rows starts notes up flow
 
 -- The leaves of the trees of a reading.
 

@@ -10,6 +10,7 @@ use Rattle.yf_stream.specs.ReadingOf.{ReadingOf}
 use Rattle.yf_emit.specs.declared.style.Style.{Style}
 use Rattle.yf_emit.specs.Layouts.Decorated.{rows_of}
 use Rattle.yf_emit.specs.Format.{IsFormatting}
+use Rattle.yf_emit.specs.Preservation.CommentsPlaced.{columns_in}
 use Rattle.yf_emit.specs.NormalForms.Normal.{normal_document, setting_of}
 use Rattle.yf_emit.proofs.Derived.LayoutSteps.{steps_of, comments_of}
 use Rattle.yf_emit.proofs.Trails.FormatTrails.{normal_trees}
@@ -25,12 +26,12 @@ laid_trees {t} {s} f =
 
 -- what a layout tells of the comments is that of the reading
 pub comments_laid : {t u : List ℕ} {s : Style} → IsUtf8 t → (f : IsFormatting t s u)
-    → comments_of 0 (steps_of f.normal (rows_of f.normal s f.writes.trees)) ≡ trimmed_by (leaves_before f.reading) f.reading.comments
+    → comments_of 0 (steps_of (columns_in f) f.normal (rows_of f.normal s f.writes.trees)) ≡ trimmed_by (leaves_before f.reading) f.reading.comments
 comments_laid {t} {u} {s} utf8 f =
     let trees : List DocumentTree = map (normal_document t (setting_of f.reading s)) f.is_normal.trees in
-    ap (λ xs. comments_of 0 (steps_of f.normal (rows_of f.normal s xs))) (laid_trees f)
-    ∙ (ap (λ (m : Lists). comments_of 0 (steps_of m (rows_of m s trees))) f.is_normal.is
-    ∙ source_told t s f.reading f.is_normal.trees utf8 f.reads f.is_normal.of_reading)
+    ap (λ xs. comments_of 0 (steps_of (columns_in f) f.normal (rows_of f.normal s xs))) (laid_trees f)
+    ∙ (ap (λ (m : Lists). comments_of 0 (steps_of (columns_in f) m (rows_of m s trees))) f.is_normal.is
+    ∙ source_told (columns_in f) t s f.reading f.is_normal.trees utf8 f.reads f.is_normal.of_reading)
 
 pub leaves_told : (t u : List ℕ) (s : Style) (q : Lists) → IsUtf8 t → (f : IsFormatting t s u) → ReadingOf u q
     → told_by (leaves_before q) q.comments ≡ trimmed_by (leaves_before f.reading) f.reading.comments

@@ -14,7 +14,7 @@ use Rattle.yf_emit.specs.NormalForms.Normal.{LayoutSetting, Spot, inner_spot, fi
 use Rattle.yf_emit.specs.Nodes.OneLine.{width, spaced, props_text, bare, more_items, more_pairs, written, colon_after}
 use Rattle.yf_emit.specs.Layouts.RowShapes.{RowShape, shape_of, joined_shapes, shapes_after_key, KeysAgree}
 use Rattle.yf_emit.specs.Nodes.BlockLines.{header_text, block_lines, final_feeds, is_kept_tail}
-use Rattle.yf_emit.specs.Layouts.Rows.{Row, anywhere, tail_ending, block_scalar, joined, one_line_row, one_line, scalar_rows, entry_row, colon_row, key_row, after_sign, begins_below, is_empty_text, after_key, explicit_pair, implicit_pair, pair_rows}
+use Rattle.yf_emit.specs.Layouts.Rows.{Row, anywhere, tail_ending, block_scalar, joined, one_line_row, one_line, scalar_rows, entry_row, colon_row, key_row, after_sign, begins_below, is_empty_text, after_key, explicit_pair, implicit_pair, pair_rows, Start}
 
 -- Texts on one line.
 
@@ -232,6 +232,17 @@ joined_shape head n (r ∷ rs) =
     ap (λ z. record {
       column = head.column;
       text = head.text ++ (replicate n 32 ++ r.text);
+      starts = z;
+      leaves = length (head.leaves ++ r.leaves);
+      is_commented = is_some r.key_comment;
+      ending = r.ending;
+      body = r.body;
+      lines = r.lines;
+    } ∷ shapes rs) (map-append (λ (s : Start). (s.column, s.is_item)) head.starts r.starts)
+    ∙ ap (λ z. record {
+      column = head.column;
+      text = head.text ++ (replicate n 32 ++ r.text);
+      starts = map (λ (s : Start). (s.column, s.is_item)) head.starts ++ map (λ (s : Start). (s.column, s.is_item)) r.starts;
       leaves = z;
       is_commented = is_some r.key_comment;
       ending = r.ending;
@@ -260,13 +271,13 @@ same_after h g c d a b xs ys e k p f =
     ∙ sym (after_shape g d b ys)))))
 
 -- a row with a text, so many leaves and no more
-text_shape : ℕ → List ℕ → ℕ → RowShape
-text_shape column text n = record { column = column; text = text; leaves = n; is_commented = false; ending = anywhere; body = []; lines = 0 }
+text_shape : List (ℕ × Bool) → ℕ → List ℕ → ℕ → RowShape
+text_shape starts column text n = record { column = column; text = text; starts = starts; leaves = n; is_commented = false; ending = anywhere; body = []; lines = 0 }
 
 same_one_row : (column : ℕ) (x y : Node) (text : List ℕ) → length (leaves x) ≡ length (leaves y) → shapes (one_line_row column x text) ≡ shapes (one_line_row column y text)
 unfolding text_shape
 same_one_row column x y [] e = refl
-same_one_row column x y (b ∷ text) e = ap (λ z. text_shape column (b ∷ text) z ∷ []) e
+same_one_row column x y (b ∷ text) e = ap (λ z. text_shape [] column (b ∷ text) z ∷ []) e
 
 pub same_row : (house : Style) {K : Node → Node → Node → Node → Type 0} {x y : Node} (spot : Spot) → Alike K x y → shapes (one_line house spot x) ≡ shapes (one_line house spot y)
 same_row house {x = x} {y = y} spot a =
@@ -275,9 +286,9 @@ same_row house {x = x} {y = y} spot a =
 same_key_row : (house : Style) {K : Node → Node → Node → Node → Type 0} {k l : Node} (column : ℕ) → Alike K k l → shape_of (key_row house column k) ≡ shape_of (key_row house column l)
 unfolding text_shape
 same_key_row house {k = k} {l = l} column a =
-    ap (λ z. text_shape column (z ++ colon_after k) (length (leaves k))) (same_written house a)
-    ∙ (ap (λ z. text_shape column (written house l ++ z) (length (leaves k))) (same_colon a)
-    ∙ ap (λ z. text_shape column (written house l ++ colon_after l) z) (same_leaves a))
+    ap (λ z. text_shape ((column, false) ∷ []) column (z ++ colon_after k) (length (leaves k))) (same_written house a)
+    ∙ (ap (λ z. text_shape ((column, false) ∷ []) column (written house l ++ z) (length (leaves k))) (same_colon a)
+    ∙ ap (λ z. text_shape ((column, false) ∷ []) column (written house l ++ colon_after l) z) (same_leaves a))
 
 same_block_scalar : (s : Style) (spot : Spot) (x y : Node) (props : PropsValue) (style : ScalarStyle) (text : List ℕ) (lines : List (List ℕ))
     → length (leaves x) ≡ length (leaves y) → shapes (block_scalar s spot x props style text lines) ≡ shapes (block_scalar s spot y props style text lines)
@@ -285,6 +296,7 @@ same_block_scalar s spot x y props style text lines e =
     ap (λ z. record {
       column = spot.column;
       text = spaced (props_text props) (header_text style s.indent text);
+      starts = [];
       leaves = z;
       is_commented = false;
       ending = tail_ending (is_kept_tail (final_feeds text));

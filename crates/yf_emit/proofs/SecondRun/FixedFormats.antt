@@ -20,6 +20,8 @@ use Rattle.yf_emit.proofs.Trails.FormatTrails.{normal_trees}
 use Rattle.yf_emit.proofs.NormalForms.SettledTwice.{settled_twice}
 use Rattle.yf_emit.proofs.NormalForms.StyledTwice.{House, normal_house}
 use Rattle.yf_emit.specs.Layouts.BareStart.{is_bare}
+use Rattle.yf_emit.specs.Layouts.KeptColumns.{Columns, columns_of}
+use Rattle.yf_emit.specs.Preservation.CommentsPlaced.{columns_in}
 
 -- the normal form of a tree that is alike to a normal one is itself
 abbrev fixed : List ℕ → LayoutSetting → List DocumentTree → Type 0
@@ -62,18 +64,20 @@ found_normal {u = u} {s = s} f q found of_reading alike =
     record { trees = found; of_reading = of_reading; is = ap (λ z. record q { events = z }) of_reading.events ∙ ap (λ z. record q { events = flat_stream z }) (sym roots) }
 
 -- the text is the layout of what is found in it
-pub found_layout : {t u : List ℕ} {s : Style} (f : IsFormatting t s u) (q : Lists) (found : List DocumentTree) → FoundSame f.normal s f.writes.trees u q found → u ≡ layout q s found
-found_layout {s = s} f q found same =
+pub found_layout : {t u : List ℕ} {s : Style} (f : IsFormatting t s u) (q : Lists) (found : List DocumentTree) → FoundSame t f.normal s f.writes.trees u q found → u ≡ layout u q s found
+found_layout {t} {u} {s} f q found same =
     let m : Lists = f.normal in
     let trees : List DocumentTree = f.writes.trees in
+    let g : Columns = columns_in f in
+    let k : Columns = columns_of u s (rows_of q s found) in
     let shaped = found_rows (is_bare m s) (is_bare q s) same.bare same.alike in
-    let lines : decorated m (rows_of m s trees) ≡ decorated q (rows_of q s found) =
-    ap (λ z. gap_then z (lines_then (rows_of m s trees) (row_decos m (rows_of m s trees)) [])) (sym same.gap)
-    ∙ (ap (λ z. gap_then (first_gap q (rows_of q s found)) (lines_then (rows_of m s trees) z [])) (sym same.decos)
-    ∙ ap (λ z. gap_then (first_gap q (rows_of q s found)) z) (same_lines (rows_of m s trees) (rows_of q s found) (row_decos q (rows_of q s found)) [] shaped)) in
-    f.writes.is ∙ (layout_then m s trees ∙ (lines ∙ sym (layout_then q s found)))
+    let lines : decorated g m (rows_of m s trees) ≡ decorated k q (rows_of q s found) =
+    ap (λ z. gap_then z (lines_then (rows_of m s trees) (row_decos g m (rows_of m s trees)) [])) (sym same.gap)
+    ∙ (ap (λ z. gap_then (first_gap k q (rows_of q s found)) (lines_then (rows_of m s trees) z [])) (sym same.decos)
+    ∙ ap (λ z. gap_then (first_gap k q (rows_of q s found)) z) (same_lines (rows_of m s trees) (rows_of q s found) (row_decos k q (rows_of q s found)) [] shaped)) in
+    f.writes.is ∙ (layout_then t m s trees ∙ (lines ∙ sym (layout_then u q s found)))
 
-pub found_fixed : {t u : List ℕ} {s : Style} (f : IsFormatting t s u) (q : Lists) (found : List DocumentTree) → ReadingOf u q → FoundSame f.normal s f.writes.trees u q found → IsFormatting u s u
+pub found_fixed : {t u : List ℕ} {s : Style} (f : IsFormatting t s u) (q : Lists) (found : List DocumentTree) → ReadingOf u q → FoundSame t f.normal s f.writes.trees u q found → IsFormatting u s u
 found_fixed f q found a same = record {
   reading = q;
   normal = q;

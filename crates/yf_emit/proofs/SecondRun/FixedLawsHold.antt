@@ -73,7 +73,7 @@ roots_read t u s utf8 f q a =
       same = trees_bare q roots.trees a.trees (count ∙ roots.count) a.of_reading.documents events;
       settled = subst (λ z. Settled c z) (sym (n.same ∙ ap (λ cs. map (normal_document t (record { style = s; comments = cs })) n.trees) (sym n.comments))) (normal_settled t c n.trees);
       quiet = quiet_offsets a.comments (subst (λ z. AllQuiet z all.found_rows) comments (stream_quiet all.firsts (ascend_under all.ascend) all.placed));
-      linked = linked_offsets a.comments (subst (λ z. Linked z all.found_rows) comments (stream_linked all.firsts (decos_carry _ _ (rows_of m s trees)) all.placed));
+      linked = linked_offsets a.comments (subst (λ z. Linked z all.found_rows) comments (stream_linked all.firsts (decos_carry _ _ _ (rows_of m s trees)) all.placed));
     }
 
 -- What is found in each reading q of what formatting gives: its trees, as they were laid out, on the rows of the layout.

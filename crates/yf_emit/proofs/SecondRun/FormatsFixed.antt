@@ -55,6 +55,11 @@ use Rattle.yf_emit.proofs.Derived.StepsInText.{starts_of}
 use Rattle.yf_emit.proofs.Trails.TrailChoice.{rising}
 use Rattle.yf_emit.specs.Layouts.BareStart.{is_bare}
 use Rattle.yf_events.specs.Tree.{flat_stream}
+use Rattle.yf_emit.specs.Layouts.KeptColumns.{Columns, columns_of}
+use Rattle.yf_emit.specs.Preservation.CommentsPlaced.{columns_in}
+use Rattle.yf_emit.proofs.ReadAgain.RowsAgain.{AllStay}
+use Rattle.yf_emit.proofs.SecondRun.ColumnsStay.{formatted_stay}
+use Rattle.yf_emit.proofs.OutputLines.ColumnsHold.{WalkFrom}
 
 -- What is known of the rows of a reading q of the text u.
 pub record RowsKnown (u : List ℕ) (q : Lists) (rows : List Row) : Type 0 where
@@ -84,54 +89,55 @@ rows_known u s q utf8 a fixed =
     }))
 
 -- the first row, where one is laid out
-first_again : {u : List ℕ} {q : Lists} (mc : Source) (own : List CommentValue) (x row : Row) (xs found : List Row) (p : PlacedRow) (ps : List PlacedRow) {line end : ℕ} {owns : List (List CommentValue)} (known : RowsKnown u q (row ∷ found)) (ones : List CommentValue)
-    → shapes (x ∷ xs) ≡ shapes (row ∷ found) → AreDecos (decos_of mc own (x ∷ xs)) → q.comments ≡ ones ++ all_of owns → Upward 0 ones → Under line ones → texts ones ≡ remarks_of (gap_of at_text_start own (x ∷ xs))
-    → Ties q.comments (x ∷ xs) (row ∷ found) (p ∷ ps) → Owns (p ∷ ps) (decos_of mc own (x ∷ xs)) line owns end → Spots u (p ∷ ps) (decos_of mc own (x ∷ xs)) owns → AllQuiet q.comments (p ∷ ps)
-    → BlanksFound q.comments (gap_of at_text_start own (x ∷ xs)) (decos_of mc own (x ∷ xs)) (row ∷ found) (p ∷ ps) line end
-    → CarriedSame q (row ∷ found) (gap_of at_text_start own (x ∷ xs)) (decos_of mc own (x ∷ xs))
-first_again {u} {q} mc own x row xs found p ps {line} {end} {owns} known ones same fit are up under told (a_tie tie ties) each spots quiet blanks =
-    let gap : List GapLine = gap_of at_text_start own (x ∷ xs) in
+first_again : {u : List ℕ} {s : Style} {q : Lists} (g f : Columns) (mc : Source) (own : List CommentValue) (x row : Row) (xs found : List Row) (p : PlacedRow) (ps : List PlacedRow) {line end : ℕ} {owns : List (List CommentValue)} (known : RowsKnown u q (row ∷ found)) (ones : List CommentValue) → ((d : CommentValue) → WalkFrom u s f [] true (row ∷ found) d)
+    → AllStay u s [] true (row ∷ found) (gap_of g at_text_start own (x ∷ xs)) (decos_of g mc own (x ∷ xs))
+    → shapes (x ∷ xs) ≡ shapes (row ∷ found) → AreDecos (decos_of g mc own (x ∷ xs)) → q.comments ≡ ones ++ all_of owns → Upward 0 ones → Under line ones → texts ones ≡ remarks_of (gap_of g at_text_start own (x ∷ xs))
+    → Ties q.comments (x ∷ xs) (row ∷ found) (p ∷ ps) → Owns (p ∷ ps) (decos_of g mc own (x ∷ xs)) line owns end → Spots u (p ∷ ps) (decos_of g mc own (x ∷ xs)) owns → AllQuiet q.comments (p ∷ ps)
+    → BlanksFound u q.comments (gap_of g at_text_start own (x ∷ xs)) (decos_of g mc own (x ∷ xs)) (row ∷ found) (p ∷ ps) line end
+    → CarriedSame u g f q (row ∷ found) (gap_of g at_text_start own (x ∷ xs)) (decos_of g mc own (x ∷ xs))
+first_again {u} {s} {q} g f mc own x row xs found p ps {line} {end} {owns} known ones walk stays same fit are up under told (a_tie tie ties) each spots quiet blanks =
+    let gap : List GapLine = gap_of g at_text_start own (x ∷ xs) in
     let here : List CommentValue = filter (precedes_item x) own in
     let c : Source = source_of q (row ∷ found) in
     let one : shape_of x ≡ shape_of row = ap (first_shape (shape_of x)) same in
-    let laid : LaidRows (x ∷ xs) (row ∷ found) (decos_of mc own (x ∷ xs)) = laid_rows mc own (x ∷ xs) (row ∷ found) same fit in
+    let laid : LaidRows g (x ∷ xs) (row ∷ found) (decos_of g mc own (x ∷ xs)) = laid_rows g mc own (x ∷ xs) (row ∷ found) same fit in
     let all : remarks q (row ∷ found) ≡ q.comments = firsts q.comments q.on_leaf_line known.count in
-    let tied : Tied c q.comments (row ∷ found) (p ∷ ps) (decos_of mc own (x ∷ xs)) owns =
+    let tied : Tied u g c q.comments (row ∷ found) (p ∷ ps) (decos_of g mc own (x ∷ xs)) owns =
     tied_rows known.lines known.are_lines c q.comments (ap (zip q.comments) known.leaf_notes) known.sign known.rises known.unsigned [] [] ones (a_tie tie ties) laid each spots known.upright quiet
     (blanks.after ones owns are told each) refl refl each_none under are in
-    let next : NextTied q.comments row p (before_text gap) = next_tied tie (spot_first spots) (λ f. bare_gap at_text_start x.column here x.blank_before (none_precedes x own f)) in
-    carried_same q row found ones here x.blank_before (all ∙ are) up under told (ap (λ z. gap_with at_text_start z here x.blank_before) (ap (λ (z : RowShape). z.column) one)) (blanks.first ones (all_of owns) are told)
-    (subst (λ z. NextTied z row p (before_text gap)) are next) each (subst (λ z. Tied c z (row ∷ found) (p ∷ ps) (decos_of mc own (x ∷ xs)) owns) are tied)
+    let next : NextTied q.comments row p (before_text gap) = next_tied tie (spot_first spots) (λ z. bare_gap g at_text_start x.column here x.blank_before (none_precedes x own z)) in
+    carried_same f q row found ones here x.blank_before walk stays (all ∙ are) up under told (ap (λ z. gap_with g at_text_start z here x.blank_before) (ap (λ (z : RowShape). z.column) one)) (blanks.first ones (all_of owns) are told)
+    (subst (λ z. NextTied z row p (before_text gap)) are next) each (subst (λ z. Tied u g c z (row ∷ found) (p ∷ ps) (decos_of g mc own (x ∷ xs)) owns) are tied)
 
 -- all rows
-carried_again : {u : List ℕ} {es : List EventInText} {q : Lists} (mc : Source) (own : List CommentValue) (xs found : List Row) {ps : List PlacedRow} {line : ℕ} (befores others : List CommentValue) → IsUtf8 u → RowsKnown u q found
-    → shapes xs ≡ shapes found → RowLines xs → AreDecos (decos_of mc own xs) → Rest u line (lines_then xs (decos_of mc own xs) []) → StreamIn u xs ps (decos_of mc own xs) line others → Ascend u 0 befores line
-    → texts befores ≡ remarks_of (gap_of at_text_start own xs) → NotedComments u es (befores ++ others) q.comments → (Left q.comments (length u) xs found ps → Ties q.comments xs found ps) → AllQuiet q.comments ps
-    → BlanksFound q.comments (gap_of at_text_start own xs) (decos_of mc own xs) found ps line (length u) → CarriedSame q found (gap_of at_text_start own xs) (decos_of mc own xs)
-carried_again mc own [] [] befores others utf8 known same lines fit w (stream_in b rows) ascend told noted ties quiet blanks = elim rows [ ]
-carried_again {u} {es = es} {q = q} mc own [] [] befores others utf8 known same lines fit w no_stream ascend told noted ties quiet blanks =
+carried_again : {u : List ℕ} {s : Style} {es : List EventInText} {q : Lists} (g f : Columns) (mc : Source) (own : List CommentValue) (xs found : List Row) {ps : List PlacedRow} {line : ℕ} (befores others : List CommentValue) → ((d : CommentValue) → WalkFrom u s f [] true found d) → AllStay u s [] true found (gap_of g at_text_start own xs) (decos_of g mc own xs) → IsUtf8 u → RowsKnown u q found
+    → shapes xs ≡ shapes found → RowLines xs → AreDecos (decos_of g mc own xs) → Rest u line (lines_then xs (decos_of g mc own xs) []) → StreamIn u xs ps (decos_of g mc own xs) line others → Ascend u 0 befores line
+    → texts befores ≡ remarks_of (gap_of g at_text_start own xs) → NotedComments u es (befores ++ others) q.comments → (Left q.comments (length u) xs found ps → Ties q.comments xs found ps) → AllQuiet q.comments ps
+    → BlanksFound u q.comments (gap_of g at_text_start own xs) (decos_of g mc own xs) found ps line (length u) → CarriedSame u g f q found (gap_of g at_text_start own xs) (decos_of g mc own xs)
+carried_again g f mc own [] [] befores others walk stays utf8 known same lines fit w (stream_in b rows) ascend told noted ties quiet blanks = elim rows [ ]
+carried_again {u} {es = es} {q = q} g f mc own [] [] befores others walk stays utf8 known same lines fit w no_stream ascend told noted ties quiet blanks =
     let all : remarks q [] ≡ q.comments = firsts q.comments q.on_leaf_line known.count in
     let parts = noted_parts befores noted in
-    let same_texts : texts parts.one ≡ remarks_of (gap_of at_text_start own []) = noted_texts parts.first ∙ told in
+    let same_texts : texts parts.one ≡ remarks_of (gap_of g at_text_start own []) = noted_texts parts.first ∙ told in
     let none : parts.two ≡ [] = nothing parts.second in
-    alone_same q parts.one own (all ∙ (parts.are ∙ (ap (λ z. parts.one ++ z) none ∙ append-nil parts.one))) (noted_upward (upward_of ascend) parts.first) (gap_at_end at_text_start own)
+    alone_same g f q parts.one own walk stays (all ∙ (parts.are ∙ (ap (λ z. parts.one ++ z) none ∙ append-nil parts.one))) (noted_upward (upward_of ascend) parts.first) (gap_at_end g at_text_start own)
     (blanks.first parts.one parts.two parts.are same_texts) where
       nothing : {ys : List CommentValue} → NotedComments u es [] ys → ys ≡ []
       nothing no_comment = refl
-carried_again mc own [] (row ∷ found) befores others utf8 known same lines fit w rows ascend told noted ties quiet blanks = absurd cc
-carried_again mc own (x ∷ xs) [] befores others utf8 known same lines fit w rows ascend told noted ties quiet blanks = absurd cc
-carried_again {u} {es = es} {q = q} mc own (x ∷ xs) (row ∷ found) {ps = []} befores others utf8 known same lines fit w (stream_in b rows) ascend told noted ties quiet blanks = elim rows [ ]
-carried_again {u} {es = es} {q = q} mc own (x ∷ xs) (row ∷ found) {ps = p ∷ ps} {line = line} befores others utf8 known same lines fit w (stream_in b rows) ascend told noted ties quiet blanks =
+carried_again g f mc own [] (row ∷ found) befores others walk stays utf8 known same lines fit w rows ascend told noted ties quiet blanks = absurd cc
+carried_again g f mc own (x ∷ xs) [] befores others walk stays utf8 known same lines fit w rows ascend told noted ties quiet blanks = absurd cc
+carried_again {u} {es = es} {q = q} g f mc own (x ∷ xs) (row ∷ found) {ps = []} befores others walk stays utf8 known same lines fit w (stream_in b rows) ascend told noted ties quiet blanks = elim rows [ ]
+carried_again {u} {es = es} {q = q} g f mc own (x ∷ xs) (row ∷ found) {ps = p ∷ ps} {line = line} befores others walk stays utf8 known same lines fit w (stream_in b rows) ascend told noted ties quiet blanks =
     let spaces = rest_spaces x.column line utf8 w in
     let column : x.column ≡ 0 = begin_column b in
-    let start : Rest u line (inline_then (x ∷ xs) (decos_of mc own (x ∷ xs)) []) = subst (λ k. Rest u k (inline_then (x ∷ xs) (decos_of mc own (x ∷ xs)) [])) (omega (arith, column)) spaces.1 in
-    let owned = rows_own utf8 (decos_beside mc own (x ∷ xs)) lines fit start rows in
+    let start : Rest u line (inline_then (x ∷ xs) (decos_of g mc own (x ∷ xs)) []) = subst (λ k. Rest u k (inline_then (x ∷ xs) (decos_of g mc own (x ∷ xs)) [])) (omega (arith, column)) spaces.1 in
+    let owned = rows_own utf8 (decos_beside g mc own (x ∷ xs)) lines fit start rows in
     let parts = noted_parts befores noted in
     let owns = owns_noted owned.each owned.spots (subst (λ z. NotedComments u es z parts.two) owned.are parts.second) in
     let are : q.comments ≡ parts.one ++ all_of owns.owns = parts.are ∙ ap (λ z. parts.one ++ z) owns.are in
     let under : Under line parts.one = noted_under (ascend_under ascend) parts.first in
-    let laid = laid_rows mc own (x ∷ xs) (row ∷ found) same fit in
-    first_again mc own x row xs found p ps known parts.one same fit are (noted_upward (upward_of ascend) parts.first) under (noted_texts parts.first ∙ told)
+    let laid = laid_rows g mc own (x ∷ xs) (row ∷ found) same fit in
+    first_again g f mc own x row xs found p ps known parts.one walk stays same fit are (noted_upward (upward_of ascend) parts.first) under (noted_texts parts.first ∙ told)
     (ties (some_left parts.one (rows_barely rows) owns.each laid under are)) owns.each owns.spots quiet blanks where
       begin_column : {rs : List Row} → Begins 0 (x ∷ rs) → x.column ≡ 0
       begin_column (begins f) = f
@@ -139,8 +145,8 @@ carried_again {u} {es = es} {q = q} mc own (x ∷ xs) (row ∷ found) {ps = p �
 -- Where the notes on blank lines are right.
 
 pub again_carried : {t u : List ℕ} {s : Style} (q : Lists) → IsUtf8 t → (f : IsFormatting t s u) → (a : ReadingOf u q) → (w : FoundReading f q a)
-    → BlanksFound q.comments (first_gap f.normal (rows_of f.normal s f.writes.trees)) (row_decos f.normal (rows_of f.normal s f.writes.trees)) (rows_of q s a.trees) w.laid.found_rows w.laid.line (length u)
-    → CarriedSame q (rows_of q s a.trees) (first_gap f.normal (rows_of f.normal s f.writes.trees)) (row_decos f.normal (rows_of f.normal s f.writes.trees))
+    → BlanksFound u q.comments (first_gap (columns_in f) f.normal (rows_of f.normal s f.writes.trees)) (row_decos (columns_in f) f.normal (rows_of f.normal s f.writes.trees)) (rows_of q s a.trees) w.laid.found_rows w.laid.line (length u)
+    → CarriedSame u (columns_in f) (columns_of u s (rows_of q s a.trees)) q (rows_of q s a.trees) (first_gap (columns_in f) f.normal (rows_of f.normal s f.writes.trees)) (row_decos (columns_in f) f.normal (rows_of f.normal s f.writes.trees))
 again_carried {t} {u} {s} q utf8 f a w blanks =
     let m : Lists = f.normal in
     let xs : List Row = rows_of m s f.writes.trees in
@@ -148,12 +154,12 @@ again_carried {t} {u} {s} q utf8 f a w blanks =
     let fixed : map (normal_document u (setting_of q s)) a.trees ≡ a.trees = roots_fixed f q a.trees w.alike in
     let noted : NotedComments u q.events (w.laid.firsts ++ w.laid.others) q.comments =
     subst (λ z. NotedComments u q.events z q.comments) (ap (λ (v : Documents). v.comments) w.derived ∙ w.laid.are) a.comments in
-    carried_again {es = q.events} (source_of m xs) (own_line_comments (source_of m xs) xs) xs (rows_of q s a.trees) w.laid.firsts w.laid.others form.utf8 (rows_known u s q form.utf8 a fixed)
+    carried_again {es = q.events} (columns_in f) (columns_of u s (rows_of q s a.trees)) (source_of m xs) (own_line_comments (source_of m xs) xs) xs (rows_of q s a.trees) w.laid.firsts w.laid.others (λ d. record { is = λ next. refl }) (formatted_stay q utf8 f a w) form.utf8 (rows_known u s q form.utf8 a fixed)
     (found_rows (is_bare m s) (is_bare q s) w.bare w.alike) form.rows form.decos w.laid.begin w.laid.placed w.laid.ascend w.laid.told noted (λ left. all_ties a.trees w.bare w.roots w.same w.alike left) w.quiet blanks
 
 pub again_same : {t u : List ℕ} {s : Style} (q : Lists) → IsUtf8 t → (f : IsFormatting t s u) → (a : ReadingOf u q) → (w : FoundReading f q a)
-    → BlanksFound q.comments (first_gap f.normal (rows_of f.normal s f.writes.trees)) (row_decos f.normal (rows_of f.normal s f.writes.trees)) (rows_of q s a.trees) w.laid.found_rows w.laid.line (length u)
-    → FoundSame f.normal s f.writes.trees u q a.trees
+    → BlanksFound u q.comments (first_gap (columns_in f) f.normal (rows_of f.normal s f.writes.trees)) (row_decos (columns_in f) f.normal (rows_of f.normal s f.writes.trees)) (rows_of q s a.trees) w.laid.found_rows w.laid.line (length u)
+    → FoundSame t f.normal s f.writes.trees u q a.trees
 again_same q utf8 f a w blanks =
     let carried = again_carried q utf8 f a w blanks in
     record { of_reading = a.of_reading; alike = w.alike; bare = w.bare; gap = carried.gap_is; decos = carried.decos_are }

@@ -13,11 +13,13 @@ use Rattle.yf_events.specs.declared.event.Entry.{Entry}
 use Rattle.yf_events.specs.declared.event.ScalarStyle.TheVariants.{Plain}
 use Rattle.yf_events.specs.declared.lists.Lists.{Lists}
 use Rattle.yf_emit.specs.declared.style.DocumentStart.{DocumentStart}
+use Rattle.yf_emit.specs.declared.style.CommentColumns.{CommentColumns}
 use Rattle.yf_emit.specs.declared.style.Style.{Style}
 use Rattle.yf_emit.specs.Nodes.ContentStart.{property_len, gap_len, past_gap, past_second, content_start}
 use Rattle.yf_emit.specs.Layouts.Layout.{Remark, layout}
 use Rattle.yf_emit.specs.NormalForms.Normal.{setting_of, normal_document}
 use Rattle.yf_events.specs.Tree.{NodeOffsets, Node, scalar, sequence, mapping, Items, no_items, item, Pairs, no_pairs, pair, DocumentTree}
+use Rattle.yf_emit.specs.Layouts.KeptColumns.{keeps_blocks}
 
 -- settings
 
@@ -25,7 +27,7 @@ abbrev pub style_with : (indent : ℕ) → 2 ≤ indent → indent ≤ 8 → Quo
 style_with indent from to quotes seq_indent =
     let a : 40 ≤ 100 = omega arith in
     let b : 100 ≤ 1000 = omega arith in
-    record { indent = indent; max_line = 100; quotes = quotes; seq_indent = seq_indent; document_start = DocumentStart.Always; invisible = Invisible.Plain; indent_from = from; indent_to = to; max_line_from = a; max_line_to = b }
+    record { indent = indent; max_line = 100; quotes = quotes; seq_indent = seq_indent; document_start = DocumentStart.Always; comments = CommentColumns.Next; invisible = Invisible.Plain; indent_from = from; indent_to = to; max_line_from = a; max_line_to = b }
 
 abbrev pub house : Style
 house = let a : 2 ≤ 2 = omega arith in let b : 2 ≤ 8 = omega arith in style_with 2 a b Quotes.Double true
@@ -119,6 +121,6 @@ lists_of remarks docs = record {
 
 -- the layout of the normal form of a reading of the text t
 unfoldable pub formatted : Style → List ℕ → List Remark → List Doc → List DocumentTree → List ℕ
-unfolding is_steady has_line_feed ends_with_colon is_only is_marker_of is_between is_printable is_break_char is_nb_char is_white upper_digit short_name is_by_two is_by_four two_digits spelled_long spelled_by spelled begins code chars lib.Utf8.encode property_len gap_len past_gap past_second content_start
+unfolding is_steady has_line_feed ends_with_colon is_only is_marker_of is_between is_printable is_break_char is_nb_char is_white upper_digit short_name is_by_two is_by_four two_digits spelled_long spelled_by spelled begins code chars lib.Utf8.encode property_len gap_len past_gap past_second content_start keeps_blocks
 formatted s t remarks docs trees =
-    layout (lists_of remarks docs) s (map (normal_document t (setting_of (lists_of remarks docs) s)) trees)
+    layout t (lists_of remarks docs) s (map (normal_document t (setting_of (lists_of remarks docs) s)) trees)

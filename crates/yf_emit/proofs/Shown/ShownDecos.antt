@@ -16,6 +16,7 @@ use Rattle.yf_emit.specs.Preservation.SameComments.{kept}
 use Rattle.yf_emit.proofs.Shown.Examples.{house, at, key, word, block_pairs, one_document, root, remark, lists_of}
 use Rattle.yf_emit.proofs.Trails.RowLeaves.{leaves_on}
 use Rattle.yf_emit.proofs.Trails.TrailChoice.{rising}
+use Rattle.yf_emit.specs.Layouts.KeptColumns.{next_columns}
 
 -- the normal reading of "# top\na: x  # c \n\n# d\nb: |\n  y\n"
 
@@ -41,18 +42,18 @@ shown_columns : map (λ (r : Row). r.lines) small_rows ≡ 0 ∷ 0 ∷ 2 ∷ []
 unfolding is_white is_between chars begins code lib.Utf8.encode
 shown_columns = refl
 
-shown_first_gap : first_gap small_lists small_rows ≡ own_line 0 (codes "# top") ∷ []
+shown_first_gap : first_gap next_columns small_lists small_rows ≡ own_line 0 (codes "# top") ∷ []
 unfolding is_white is_between chars begins code lib.Utf8.encode
 shown_first_gap = refl
 
-shown_decos : row_decos small_lists small_rows
+shown_decos : row_decos next_columns small_lists small_rows
     ≡ record { trails = []; gap = [] }
     ∷ record { trails = codes "# c" ∷ []; gap = blank ∷ own_line 0 (codes "# d") ∷ [] }
     ∷ record { trails = []; gap = [] } ∷ []
 unfolding is_white is_between chars begins code lib.Utf8.encode
 shown_decos = refl
 
-shown_bytes : decorated small_lists small_rows ≡ codes "# top\n---\na: x  # c\n\n# d\nb: |\n  y\n"
+shown_bytes : decorated next_columns small_lists small_rows ≡ codes "# top\n---\na: x  # c\n\n# d\nb: |\n  y\n"
 unfolding is_white is_between chars begins code lib.Utf8.encode
 shown_bytes = refl
 

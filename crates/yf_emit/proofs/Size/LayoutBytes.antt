@@ -8,6 +8,7 @@ use Rattle.yf_comments.specs.Comment.{CommentValue}
 use Rattle.yf_comments.specs.GapLines.{GapLine, blank, remark, gap_then, remarks_of}
 use Rattle.yf_events.specs.declared.event.Span.{Span}
 use Rattle.yf_emit.specs.Layouts.Decorated.{blank_if, body_then, comments_left, decos_of, ending_after, gap_of, lines_then, remarks_after, trails_then}
+use Rattle.yf_emit.specs.Layouts.KeptColumns.{Columns}
 use Rattle.yf_emit.specs.Layouts.Layout.{Source, may_be_blank_after, precedes_item, trailing, trimmed}
 use Rattle.yf_emit.specs.Layouts.Rows.{Ending, Row, anywhere}
 use Rattle.yf_emit.proofs.Derived.LayoutSteps.{Step, a_comment, a_leaf, comment_steps, comments_of, leaf_steps, steps_in}
@@ -19,6 +20,10 @@ use Rattle.yf_emit.proofs.Size.Weights.{remark_low, remark_weight, remarks_weigh
 pub data LowRows (w : ℕ) : List Row → Type 0 where
   no_rows_low : LowRows w []
   one_row_low : {x : Row} {xs : List Row} → x.column ≤ w → LowRows w xs → LowRows w (x ∷ xs)
+
+-- and no comment, before a line that is not
+abbrev pub LowColumns : ℕ → Columns → Type 0
+LowColumns w g = (c : CommentValue) (next : ℕ) → next ≤ w → g c next ≤ w
 
 -- a comment's line, with a blank line before it
 abbrev pub steps_cost : ℕ → List Step → ℕ
@@ -53,20 +58,20 @@ blank_size : (b : Bool) (r : List ℕ) → length (gap_then (blank_if b) r) ≤ 
 blank_size true r = omega arith
 blank_size false r = omega arith
 
-remarks_size : (w : ℕ) (before : Ending) (column : ℕ) (cs : List CommentValue) (gs : List GapLine) (r : List ℕ) → column ≤ w
-    → length (gap_then (remarks_after before column cs ++ gs) r) ≤ steps_cost w (comment_steps (remarks_of (remarks_after before column cs))) + length (gap_then gs r)
-remarks_size w before column [] gs r l = omega arith
-remarks_size w before column (c ∷ cs) gs r l = by (may_be_blank_after before && c.blank_before) (remarks_size w anywhere column cs gs r l) where
+remarks_size : (w : ℕ) (g : Columns) (before : Ending) (next : ℕ) (cs : List CommentValue) (gs : List GapLine) (r : List ℕ) → LowColumns w g → next ≤ w
+    → length (gap_then (remarks_after g before next cs ++ gs) r) ≤ steps_cost w (comment_steps (remarks_of (remarks_after g before next cs))) + length (gap_then gs r)
+remarks_size w g before next [] gs r low l = omega arith
+remarks_size w g before next (c ∷ cs) gs r low l = by (may_be_blank_after before && c.blank_before) (g c next) (low c next l) (remarks_size w g anywhere next cs gs r low l) where
   text : List ℕ
   text = trimmed c.text
 
   others : List GapLine
-  others = remarks_after anywhere column cs
+  others = remarks_after g anywhere next cs
 
-  by : (b : Bool) → length (gap_then (others ++ gs) r) ≤ steps_cost w (comment_steps (remarks_of others)) + length (gap_then gs r)
+  by : (b : Bool) (column : ℕ) → column ≤ w → length (gap_then (others ++ gs) r) ≤ steps_cost w (comment_steps (remarks_of others)) + length (gap_then gs r)
       → length (gap_then ((blank_if b ++ (remark column text ∷ others)) ++ gs) r) ≤ steps_cost w (comment_steps (remarks_of (blank_if b ++ (remark column text ∷ others)))) + length (gap_then gs r)
-  by true m = omega (arith, l, m, length-append (replicate column 32) (text ++ (10 ∷ gap_then (others ++ gs) r)), length-replicate {A = ℕ} column 32, length-append text (10 ∷ gap_then (others ++ gs) r))
-  by false m = omega (arith, l, m, length-append (replicate column 32) (text ++ (10 ∷ gap_then (others ++ gs) r)), length-replicate {A = ℕ} column 32, length-append text (10 ∷ gap_then (others ++ gs) r))
+  by true column k m = omega (arith, k, m, length-append (replicate column 32) (text ++ (10 ∷ gap_then (others ++ gs) r)), length-replicate {A = ℕ} column 32, length-append text (10 ∷ gap_then (others ++ gs) r))
+  by false column k m = omega (arith, k, m, length-append (replicate column 32) (text ++ (10 ∷ gap_then (others ++ gs) r)), length-replicate {A = ℕ} column 32, length-append text (10 ∷ gap_then (others ++ gs) r))
 
 remarks_end : (gs : List GapLine) (b : Bool) → remarks_of (gs ++ blank_if b) ≡ remarks_of gs
 remarks_end [] true = refl
@@ -77,35 +82,35 @@ remarks_end (remark column text ∷ gs) b = ap (λ z. text ∷ z) (remarks_end g
 -- Layouts.
 
 -- rows with the lines before them, after a line with that ending; a blank line before a row is the row's
-pub rows_size : (w : ℕ) (before : Ending) (c : Source) (comments : List CommentValue) {rows : List Row} → LowRows w rows
-    → length (gap_then (gap_of before comments rows) (lines_then rows (decos_of c comments rows) []))
-    ≤ size rows + (steps_cost w (comment_steps (remarks_of (gap_of before comments rows))) + steps_cost w (steps_in rows (decos_of c comments rows)))
-rows_size w before c comments no_rows_low =
-    let l = remarks_size w before 0 comments [] [] (omega arith) in
-    let same : gap_then (remarks_after before 0 comments ++ []) [] ≡ gap_then (remarks_after before 0 comments) [] = ap (λ z. gap_then z []) (append-nil (remarks_after before 0 comments)) in
+pub rows_size : (w : ℕ) (g : Columns) (before : Ending) (c : Source) (comments : List CommentValue) {rows : List Row} → LowColumns w g → LowRows w rows
+    → length (gap_then (gap_of g before comments rows) (lines_then rows (decos_of g c comments rows) []))
+    ≤ size rows + (steps_cost w (comment_steps (remarks_of (gap_of g before comments rows))) + steps_cost w (steps_in rows (decos_of g c comments rows)))
+rows_size w g before c comments bound no_rows_low =
+    let l = remarks_size w g before 0 comments [] [] bound (omega arith) in
+    let same : gap_then (remarks_after g before 0 comments ++ []) [] ≡ gap_then (remarks_after g before 0 comments) [] = ap (λ z. gap_then z []) (append-nil (remarks_after g before 0 comments)) in
     omega (arith, l, ap length same)
-rows_size w before c comments (one_row_low {x = x} {xs = xs} low more) =
+rows_size w g before c comments bound (one_row_low {x = x} {xs = xs} low more) =
     let ahead : List CommentValue = filter (precedes_item x) comments in
     let left : List CommentValue = comments_left x comments in
     let b : Bool = may_be_blank_after (ending_after before ahead) && x.blank_before in
     let trails : List (List ℕ) = map (λ (d : CommentValue). trimmed d.text) (trailing c x) in
-    let gap : List GapLine = gap_of x.ending left xs in
-    let below : List ℕ = gap_then gap (lines_then xs (decos_of c left xs) []) in
-    let line : List ℕ = lines_then (x ∷ xs) (decos_of c comments (x ∷ xs)) [] in
-    let others = rows_size w x.ending c left more in
-    let remarks = remarks_size w before x.column ahead (blank_if b) line low in
+    let gap : List GapLine = gap_of g x.ending left xs in
+    let below : List ℕ = gap_then gap (lines_then xs (decos_of g c left xs) []) in
+    let line : List ℕ = lines_then (x ∷ xs) (decos_of g c comments (x ∷ xs)) [] in
+    let others = rows_size w g x.ending c left bound more in
+    let remarks = remarks_size w g before x.column ahead (blank_if b) line bound low in
     let one = blank_size b line in
-    let same : steps_cost w (comment_steps (remarks_of (remarks_after before x.column ahead ++ blank_if b))) ≡ steps_cost w (comment_steps (remarks_of (remarks_after before x.column ahead))) =
-    ap (λ z. steps_cost w (comment_steps z)) (remarks_end (remarks_after before x.column ahead) b) in
+    let same : steps_cost w (comment_steps (remarks_of (remarks_after g before x.column ahead ++ blank_if b))) ≡ steps_cost w (comment_steps (remarks_of (remarks_after g before x.column ahead))) =
+    ap (λ z. steps_cost w (comment_steps z)) (remarks_end (remarks_after g before x.column ahead) b) in
     let two = trails_size w trails (10 ∷ body_then x.body below) in
     let three = body_length x.body below in
     let four : length line ≡ x.column + (length x.text + length (trails_then trails (10 ∷ body_then x.body below))) =
     (let p = length-append (replicate x.column 32) (x.text ++ trails_then trails (10 ∷ body_then x.body below)) in
     let q = length-append x.text (trails_then trails (10 ∷ body_then x.body below)) in
     omega (arith, p, q, length-replicate {A = ℕ} x.column 32)) in
-    let carried : steps_cost w (steps_in (x ∷ xs) (decos_of c comments (x ∷ xs))) ≡ steps_cost w (comment_steps trails) + (steps_cost w (comment_steps (remarks_of gap)) + steps_cost w (steps_in xs (decos_of c left xs))) =
-    (let p = cost_append w (leaf_steps x.leaves) (comment_steps (trails ++ remarks_of gap) ++ steps_in xs (decos_of c left xs)) in
-    let q = cost_append w (comment_steps (trails ++ remarks_of gap)) (steps_in xs (decos_of c left xs)) in
+    let carried : steps_cost w (steps_in (x ∷ xs) (decos_of g c comments (x ∷ xs))) ≡ steps_cost w (comment_steps trails) + (steps_cost w (comment_steps (remarks_of gap)) + steps_cost w (steps_in xs (decos_of g c left xs))) =
+    (let p = cost_append w (leaf_steps x.leaves) (comment_steps (trails ++ remarks_of gap) ++ steps_in xs (decos_of g c left xs)) in
+    let q = cost_append w (comment_steps (trails ++ remarks_of gap)) (steps_in xs (decos_of g c left xs)) in
     omega (arith, p, q, leaves_cost w x.leaves, texts_append w trails (remarks_of gap))) in
     omega (arith, others, remarks, one, same, two, three, four, carried)
 

@@ -109,9 +109,18 @@ number_most c s k =
     ⊎_elim (λ (l : c < 0x10000). let same = ap length (few_spelled c l) in
     omega (arith, same, beyond_ascii c k, two_long (c / 256), two_long (c % 256), length-append (92 ∷ 117 ∷ two_digits (c / 256)) (two_digits (c % 256))))
     (λ (l : 0x10000 ≤ c). let same = ap length (many_spelled c l (scalar_below c s)) in
-    omega (arith, same, beyond_few c l, two_long 0, two_long (c / 65536), two_long (c / 256 % 256), two_long (c % 256),
-    length-append (92 ∷ 85 ∷ two_digits 0) (two_digits (c / 65536) ++ (two_digits (c / 256 % 256) ++ two_digits (c % 256))),
-    length-append (two_digits (c / 65536)) (two_digits (c / 256 % 256) ++ two_digits (c % 256)), length-append (two_digits (c / 256 % 256)) (two_digits (c % 256))))
+    omega (
+      arith,
+      same,
+      beyond_few c l,
+      two_long 0,
+      two_long (c / 65536),
+      two_long (c / 256 % 256),
+      two_long (c % 256),
+      length-append (92 ∷ 85 ∷ two_digits 0) (two_digits (c / 65536) ++ (two_digits (c / 256 % 256) ++ two_digits (c % 256))),
+      length-append (two_digits (c / 65536)) (two_digits (c / 256 % 256) ++ two_digits (c % 256)),
+      length-append (two_digits (c / 256 % 256)) (two_digits (c % 256)),
+    ))
     (cases_lt c 0x10000)
 
 spelled_out_most : (c : ℕ) → scalar c ≡ true → length (encode_utf8_all (spelled_out c)) ≤ 4 * len_utf8 c

@@ -12,6 +12,7 @@ use Rattle.yf_emit.specs.Layouts.Layout.{Remark, Source, first_comment, is_among
 use Rattle.yf_emit.specs.NormalForms.Normal.{LayoutSetting, Spot, first_between, inner_spot, is_implicit, key_comment, key_spot, key_start, root_spot, value_spot}
 use Rattle.yf_emit.specs.Layouts.Rows.{Ending, Row, anywhere}
 use Rattle.yf_emit.proofs.Keeps.KeysTold.{keys_on}
+use Rattle.yf_emit.specs.Layouts.KeptColumns.{Columns}
 
 module _ (Token : List ℕ → Type 0) where
   abbrev pub AllTokens : List CommentValue → Type 0
@@ -69,16 +70,16 @@ module _ (Token : List ℕ → Type 0) where
   blank_tokens true = tt
   blank_tokens false = tt
 
-  remark_tokens : (e : Ending) (column : ℕ) (cs : List CommentValue) → AllTokens cs → GapTokens (remarks_after e column cs)
-  remark_tokens e column [] a = tt
-  remark_tokens e column (c ∷ cs) a =
-      gaps_join (blank_if (may_be_blank_after e && c.blank_before)) (remark column (trimmed c.text) ∷ remarks_after anywhere column cs) (blank_tokens (may_be_blank_after e && c.blank_before)) (a.0, remark_tokens anywhere column cs a.1)
+  remark_tokens : (g : Columns) (e : Ending) (column : ℕ) (cs : List CommentValue) → AllTokens cs → GapTokens (remarks_after g e column cs)
+  remark_tokens g e column [] a = tt
+  remark_tokens g e column (c ∷ cs) a =
+      gaps_join (blank_if (may_be_blank_after e && c.blank_before)) (remark (g c column) (trimmed c.text) ∷ remarks_after g anywhere column cs) (blank_tokens (may_be_blank_after e && c.blank_before)) (a.0, remark_tokens g anywhere column cs a.1)
 
-  pub gap_tokens : (e : Ending) (cs : List CommentValue) (xs : List Row) → AllTokens cs → GapTokens (gap_of e cs xs)
-  gap_tokens e cs [] a = remark_tokens e 0 cs a
-  gap_tokens e cs (x ∷ xs) a =
-      gaps_join (remarks_after e x.column (filter (precedes_item x) cs)) (blank_if (may_be_blank_after (ending_after e (filter (precedes_item x) cs)) && x.blank_before))
-      (remark_tokens e x.column (filter (precedes_item x) cs) (all_filter (precedes_item x) cs a)) (blank_tokens (may_be_blank_after (ending_after e (filter (precedes_item x) cs)) && x.blank_before))
+  pub gap_tokens : (g : Columns) (e : Ending) (cs : List CommentValue) (xs : List Row) → AllTokens cs → GapTokens (gap_of g e cs xs)
+  gap_tokens g e cs [] a = remark_tokens g e 0 cs a
+  gap_tokens g e cs (x ∷ xs) a =
+      gaps_join (remarks_after g e x.column (filter (precedes_item x) cs)) (blank_if (may_be_blank_after (ending_after e (filter (precedes_item x) cs)) && x.blank_before))
+      (remark_tokens g e x.column (filter (precedes_item x) cs) (all_filter (precedes_item x) cs a)) (blank_tokens (may_be_blank_after (ending_after e (filter (precedes_item x) cs)) && x.blank_before))
 
   -- Trails.
 
@@ -114,16 +115,16 @@ module _ (Token : List ℕ → Type 0) where
   texts_tokens [] a = tt
   texts_tokens (c ∷ cs) a = (a.0, texts_tokens cs a.1)
 
-  pub decos_tokens : (c : Source) (cs : List CommentValue) (xs : List Row) → RemarkTokens c.remarks → AllTokens (keys_on xs) → AllTokens cs → DecoTokens (decos_of c cs xs)
-  decos_tokens c cs [] r k a = tt
-  decos_tokens c cs (x ∷ xs) r k a =
+  pub decos_tokens : (g : Columns) (c : Source) (cs : List CommentValue) (xs : List Row) → RemarkTokens c.remarks → AllTokens (keys_on xs) → AllTokens cs → DecoTokens (decos_of g c cs xs)
+  decos_tokens g c cs [] r k a = tt
+  decos_tokens g c cs (x ∷ xs) r k a =
       let left : AllTokens (comments_left x cs) = all_filter (λ d. not (precedes_item x d)) cs a in (
         (
           texts_tokens (trailing c x)
               (all_append (option_to_list x.key_comment) (flat_map (λ leaf. trailing_leaf c leaf (first_comment c leaf)) x.leaves) (all_left (option_to_list x.key_comment) (keys_on xs) k) (leaves_tokens c x.leaves r)),
-          gap_tokens x.ending (comments_left x cs) xs left,
+          gap_tokens g x.ending (comments_left x cs) xs left,
         ),
-        decos_tokens c (comments_left x cs) xs r (all_right (option_to_list x.key_comment) (keys_on xs) k) left,
+        decos_tokens g c (comments_left x cs) xs r (all_right (option_to_list x.key_comment) (keys_on xs) k) left,
       )
 
   pub zip_tokens : (cs : List CommentValue) (bs : List Bool) → AllTokens cs → RemarkTokens (zip cs bs)

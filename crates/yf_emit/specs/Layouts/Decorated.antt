@@ -7,7 +7,7 @@ use Rattle.yf_events.specs.Tree.{DocumentTree}
 use Rattle.yf_events.specs.declared.lists.Lists.{Lists}
 use Rattle.yf_emit.specs.declared.style.Style.{Style}
 use Rattle.yf_emit.specs.Layouts.BareStart.{is_bare}
-use Rattle.yf_emit.specs.Layouts.Layout.{Source, may_be_blank_after, own_line_comments, precedes_item, source_of, trailing, trimmed}
+use Rattle.yf_emit.specs.Layouts.Layout.{Columns, Source, may_be_blank_after, own_line_comments, precedes_item, source_of, trailing, trimmed}
 use Rattle.yf_emit.specs.NormalForms.Normal.{setting_of}
 use Rattle.yf_emit.specs.Layouts.Rows.{Row, Ending, anywhere, at_text_start, all_rows}
 
@@ -65,40 +65,40 @@ blank_if true = blank ∷ []
 blank_if false = []
 
 -- comments on lines of their own, after a line with that ending
-abbrev pub remarks_after : Ending → ℕ → List CommentValue → List GapLine
-remarks_after before column [] = []
-remarks_after before column (c ∷ cs) =
-    blank_if (may_be_blank_after before && c.blank_before) ++ (remark column (trimmed c.text) ∷ remarks_after anywhere column cs)
+abbrev pub remarks_after : Columns → Ending → ℕ → List CommentValue → List GapLine
+remarks_after columns before next [] = []
+remarks_after columns before next (c ∷ cs) =
+    blank_if (may_be_blank_after before && c.blank_before) ++ (remark (columns c next) (trimmed c.text) ∷ remarks_after columns anywhere next cs)
 
 abbrev pub ending_after : Ending → List CommentValue → Ending
 ending_after before [] = before
 ending_after before (c ∷ cs) = anywhere
 
 -- the lines before the first of these rows, after a line with that ending
-abbrev pub gap_of : Ending → List CommentValue → List Row → List GapLine
-gap_of before comments [] = remarks_after before 0 comments
-gap_of before comments (row ∷ rows) =
-    remarks_after before row.column (filter (precedes_item row) comments)
+abbrev pub gap_of : Columns → Ending → List CommentValue → List Row → List GapLine
+gap_of columns before comments [] = remarks_after columns before 0 comments
+gap_of columns before comments (row ∷ rows) =
+    remarks_after columns before row.column (filter (precedes_item row) comments)
     ++ blank_if (may_be_blank_after (ending_after before (filter (precedes_item row) comments)) && row.blank_before)
 
 abbrev pub comments_left : Row → List CommentValue → List CommentValue
 comments_left row comments = filter (λ d. not (precedes_item row d)) comments
 
-abbrev pub decos_of : Source → List CommentValue → List Row → List Deco
-decos_of c comments [] = []
-decos_of c comments (row ∷ rows) =
-    record { trails = map (λ d. trimmed d.text) (trailing c row); gap = gap_of row.ending (comments_left row comments) rows }
-    ∷ decos_of c (comments_left row comments) rows
+abbrev pub decos_of : Columns → Source → List CommentValue → List Row → List Deco
+decos_of columns c comments [] = []
+decos_of columns c comments (row ∷ rows) =
+    record { trails = map (λ d. trimmed d.text) (trailing c row); gap = gap_of columns row.ending (comments_left row comments) rows }
+    ∷ decos_of columns c (comments_left row comments) rows
 
--- of a normal reading with these rows
-abbrev pub first_gap : Lists → List Row → List GapLine
-first_gap m rows = gap_of at_text_start (own_line_comments (source_of m rows) rows) rows
+-- of a normal reading with these rows, with the columns of comments
+abbrev pub first_gap : Columns → Lists → List Row → List GapLine
+first_gap columns m rows = gap_of columns at_text_start (own_line_comments (source_of m rows) rows) rows
 
-abbrev pub row_decos : Lists → List Row → List Deco
-row_decos m rows = decos_of (source_of m rows) (own_line_comments (source_of m rows) rows) rows
+abbrev pub row_decos : Columns → Lists → List Row → List Deco
+row_decos columns m rows = decos_of columns (source_of m rows) (own_line_comments (source_of m rows) rows) rows
 
-abbrev pub decorated : Lists → List Row → List ℕ
-decorated m rows = gap_then (first_gap m rows) (lines_then rows (row_decos m rows) [])
+abbrev pub decorated : Columns → Lists → List Row → List ℕ
+decorated columns m rows = gap_then (first_gap columns m rows) (lines_then rows (row_decos columns m rows) [])
 
 abbrev pub rows_of : Lists → Style → List DocumentTree → List Row
 rows_of m s trees = all_rows (setting_of m s) (is_bare m s) m.documents trees

@@ -7,6 +7,7 @@ use Rattle.yf_events.specs.declared.event.Span.{Span}
 use Rattle.yf_events.specs.declared.lists.Lists.{Lists}
 use Rattle.yf_emit.specs.declared.style.Style.{Style}
 use Rattle.yf_emit.specs.Layouts.BareStart.{is_bare}
+pub use Rattle.yf_emit.specs.Layouts.KeptColumns.{Columns, columns_of, next_columns, precedes_item}
 use Rattle.yf_emit.specs.NormalForms.Normal.{setting_of}
 use Rattle.yf_emit.specs.Layouts.Rows.{Row, Ending, at_text_start, at_document_start, at_kept_tail, before_node, anywhere, all_rows}
 use Rattle.yf_events.specs.Tree.{DocumentTree, TreesOf}
@@ -62,10 +63,6 @@ after_two_spaces c = 32 ∷ 32 ∷ trimmed c.text
 abbrev pub own_line_comments : Source → List Row → List CommentValue
 own_line_comments c rows = filter (λ d. not (is_among (flat_map (trailing c) rows) d)) (map (λ r. r.0) c.remarks)
 
--- an item that is on the line follows the comment in the source
-abbrev pub precedes_item : Row → CommentValue → Bool
-precedes_item row c = list_any (λ item. nat_lt c.offset item) row.items
-
 -- Lines as they are printed.
 
 pub record Line : Type 0 where
@@ -76,9 +73,9 @@ pub record Line : Type 0 where
   pub ending : Ending
   pub body : List (List ℕ)
 
-abbrev pub comment_line : ℕ → CommentValue → Line
-comment_line column c =
-    record { column = column; text = trimmed c.text; blank_before = c.blank_before; ending = anywhere; body = [] }
+abbrev pub comment_line : Columns → ℕ → CommentValue → Line
+comment_line columns next c =
+    record { column = columns c next; text = trimmed c.text; blank_before = c.blank_before; ending = anywhere; body = [] }
 
 abbrev pub row_line : Source → Row → Line
 row_line c row = record {
@@ -89,13 +86,13 @@ row_line c row = record {
   body = row.body;
 }
 
--- each comment on a line of its own is directly before the line that holds the first item after it, at that line's column;
--- where no item follows it is at the end, at column 0. Items are in the order of the source.
-abbrev pub lines_of : Source → List CommentValue → List Row → List Line
-lines_of c comments [] = map (comment_line 0) comments
-lines_of c comments (row ∷ rows) =
-    map (comment_line row.column) (filter (precedes_item row) comments)
-    ++ (row_line c row ∷ lines_of c (filter (λ d. not (precedes_item row d)) comments) rows)
+-- each comment on a line of its own is directly before the line that holds the first item after it, at that line's column or where it keeps its block;
+-- where no item follows it is at the end, where the column is 0. Items are in the order of the source.
+abbrev pub lines_of : Columns → Source → List CommentValue → List Row → List Line
+lines_of columns c comments [] = map (comment_line columns 0) comments
+lines_of columns c comments (row ∷ rows) =
+    map (comment_line columns row.column) (filter (precedes_item row) comments)
+    ++ (row_line c row ∷ lines_of columns c (filter (λ d. not (precedes_item row d)) comments) rows)
 
 -- a blank line is not repeated at the beginning, after a document's `---` line or a kept tail, and where a node's text is still
 -- to come
@@ -129,14 +126,16 @@ source_of m rows = record {
   key_comments = flat_map (λ row. option_to_list row.key_comment) rows;
 }
 
-abbrev pub lines_with_comments : Lists → List Row → List Line
-lines_with_comments m rows = lines_of (source_of m rows) (own_line_comments (source_of m rows) rows) rows
+abbrev pub lines_with_comments : Columns → Lists → List Row → List Line
+lines_with_comments columns m rows = lines_of columns (source_of m rows) (own_line_comments (source_of m rows) rows) rows
 
-abbrev pub layout : Lists → Style → List DocumentTree → List ℕ
-layout m s trees = bytes_after at_text_start (lines_with_comments m (all_rows (setting_of m s) (is_bare m s) m.documents trees))
+abbrev pub layout : List ℕ → Lists → Style → List DocumentTree → List ℕ
+layout t m s trees =
+    let rows = all_rows (setting_of m s) (is_bare m s) m.documents trees in
+    bytes_after at_text_start (lines_with_comments (columns_of t s rows) m rows)
 
--- u is the layout of the normal reading m
-pub record IsLayout (m : Lists) (s : Style) (u : List ℕ) : Type 0 where
+-- u is the layout of the normal reading m of the text t
+pub record IsLayout (t : List ℕ) (m : Lists) (s : Style) (u : List ℕ) : Type 0 where
   pub trees : List DocumentTree
   pub of_reading : TreesOf m trees
-  pub is : u ≡ layout m s trees
+  pub is : u ≡ layout t m s trees

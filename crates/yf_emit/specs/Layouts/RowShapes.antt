@@ -1,15 +1,17 @@
 -- What of a row does not depend on where the nodes are in the text.
-use Rattle.std.specs.Prelude.{◌≡◌, ℕ, ◌+◌, Bool, true, false, is_some, List, [], ◌∷◌, ◌++◌, length, replicate}
+use Rattle.std.specs.Prelude.{◌≡◌, ℕ, ◌+◌, Bool, true, false, is_some, List, [], ◌∷◌, ◌++◌, length, map, replicate}
 use Rattle.yf_comments.specs.Comment.{CommentValue}
 use Rattle.yf_events.specs.Tree.{Node}
 use Rattle.yf_emit.specs.declared.style.Style.{Style}
 use Rattle.yf_emit.specs.NormalForms.Normal.{is_implicit, key_comment}
-use Rattle.yf_emit.specs.Layouts.Rows.{Row, Ending, before_node}
+use Rattle.yf_emit.specs.Layouts.Rows.{Row, Ending, Start, before_node}
 
 -- a row: how many leaves with characters are on it, and whether a comment trails its key
 pub record RowShape : Type 0 where
   pub column : ℕ
   pub text : List ℕ
+  -- the columns of the entries that begin on it, and whether these are those of sequences
+  pub starts : List (ℕ × Bool)
   pub leaves : ℕ
   pub is_commented : Bool
   pub ending : Ending
@@ -20,6 +22,7 @@ abbrev pub shape_of : Row → RowShape
 shape_of r = record {
   column = r.column;
   text = r.text;
+  starts = map (λ (s : Start). (s.column, s.is_item)) r.starts;
   leaves = length r.leaves;
   is_commented = is_some r.key_comment;
   ending = r.ending;
@@ -33,6 +36,7 @@ joined_shapes head spaces [] = head ∷ []
 joined_shapes head spaces (r ∷ rs) = record {
   column = head.column;
   text = head.text ++ (replicate spaces 32 ++ r.text);
+  starts = head.starts ++ r.starts;
   leaves = head.leaves + r.leaves;
   is_commented = r.is_commented;
   ending = r.ending;

@@ -1,6 +1,6 @@
 -- The lines that the house style gives a normal reading, without their comments: each with its column and text, what of the
 -- source is on it, and what kind of end it has. Columns count from 0.
-use Rattle.std.specs.Prelude.{ℕ, ◌-◌, Bool, true, false, ◌&&◌, if◌then◌else◌, List, [], ◌∷◌, ◌++◌, codes, map, replicate, option_to_list, Option, Some, None}
+use Rattle.std.specs.Prelude.{ℕ, ◌-◌, Bool, true, false, ◌==◌, ◌&&◌, if◌then◌else◌, List, [], ◌∷◌, ◌++◌, codes, map, replicate, option_to_list, Option, Some, None}
 use Rattle.yf_comments.specs.Comment.{CommentValue}
 use Rattle.yf_props.specs.Props.{PropsValue}
 use Rattle.yf_events.specs.declared.directive.Directive.{Directive}
@@ -27,9 +27,18 @@ pub data Ending : Type 0 where
   before_node : Ending
   anywhere : Ending
 
+-- where an entry begins, or the `:` of a key that has a `?`: the offset of that in the text that was read, where it has one, and what begins with it; the
+-- column at which the entries of its collection are; and whether that is a sequence
+pub record Start : Type 0 where
+  pub offsets : List ℕ
+  pub column : ℕ
+  pub is_item : Bool
+
 pub record Row : Type 0 where
   pub column : ℕ
   pub text : List ℕ
+  -- the entries that begin on it
+  pub starts : List Start
   -- what is on it of the items: the beginnings of documents and entries, each `:` of a key that has a `?`, and the
   -- beginnings of leaves with characters
   pub items : List ℕ
@@ -48,7 +57,7 @@ pub record Row : Type 0 where
 -- a line with that text alone
 abbrev pub plain_row : ℕ → List ℕ → Row
 plain_row column text =
-    record { column = column; text = text; items = []; leaves = []; key_comment = None; blank_before = false; begins = false; ending = anywhere; body = []; lines = 0 }
+    record { column = column; text = text; starts = []; items = []; leaves = []; key_comment = None; blank_before = false; begins = false; ending = anywhere; body = []; lines = 0 }
 
 -- the first line of a node is on the line that a sign or key begins, after so many spaces; an empty node has no line, and no
 -- space is left before it
@@ -57,6 +66,7 @@ joined head spaces [] = head ∷ []
 joined head spaces (r ∷ rs) = record {
   column = head.column;
   text = head.text ++ (replicate spaces 32 ++ r.text);
+  starts = head.starts ++ r.starts;
   items = head.items ++ r.items;
   leaves = head.leaves ++ r.leaves;
   key_comment = r.key_comment;
@@ -107,10 +117,21 @@ abbrev pub blank_before_entry : Option Entry → Bool
 blank_before_entry None = false
 blank_before_entry (Some entry) = entry.blank_before
 
+abbrev pub start_of : ℕ → Bool → List ℕ → Start
+start_of column is_item offsets = record { offsets = offsets; column = column; is_item = is_item }
+
+abbrev pub is_dash : List ℕ → Bool
+is_dash [] = false
+is_dash (c ∷ []) = c == 45
+is_dash (c ∷ d ∷ cs) = false
+
 -- the line that an entry begins with this text, at the column of the entries
 abbrev pub entry_row : ℕ → List ℕ → Node → Row
-entry_row column text x =
-    record (plain_row column text) { items = entry_start x; blank_before = blank_before_entry (standing x).entry }
+entry_row column text x = record (plain_row column text) {
+  starts = start_of column (is_dash text) (entry_start x) ∷ [];
+  items = entry_start x;
+  blank_before = blank_before_entry (standing x).entry;
+}
 
 -- after `-`, `?` and the `:` of an explicit value are as many spaces as make up the indentation
 abbrev pub after_sign : Style → Row → List Row → List Row
@@ -122,7 +143,7 @@ colon_offset None = []
 colon_offset (Some entry) = option_to_list entry.colon
 
 abbrev pub colon_row : ℕ → Node → Row
-colon_row column k = record (plain_row column (codes ":")) { items = colon_offset (standing k).entry }
+colon_row column k = record (plain_row column (codes ":")) { starts = start_of column false (entry_start k) ∷ []; items = colon_offset (standing k).entry }
 
 abbrev pub explicit_pair : Style → ℕ → Node → List Row → List Row → List Row
 explicit_pair s column k key_rows value_rows =
@@ -132,7 +153,7 @@ explicit_pair s column k key_rows value_rows =
 abbrev pub key_row : Style → ℕ → Node → Row
 key_row s column k =
     let row = entry_row column (written s k ++ colon_after k) k in
-    record row { items = row.items ++ items_in k; leaves = leaves k }
+    record row { starts = start_of column false row.items ∷ []; items = row.items ++ items_in k; leaves = leaves k }
 
 abbrev pub is_empty_text : List ℕ → Bool
 is_empty_text [] = true

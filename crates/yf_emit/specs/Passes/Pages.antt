@@ -9,7 +9,7 @@ use Rattle.yf_emit.specs.NormalForms.Measures.{no_measure}
 use Rattle.yf_emit.specs.Passes.PrintPass.{Work, work}
 
 abbrev pub work_on : PrintContext → Work
-work_on page = work page.reading.now page.plan.now
+work_on page = work page.text.now page.reading.now page.plan.now
 
 -- what the event at an index is, past the end one without a place
 abbrev pub no_event : EventInText

@@ -9,6 +9,7 @@ use Rattle.yf_events.specs.declared.event.ScalarStyle.{ScalarStyle}
 use Rattle.yf_events.specs.declared.event.ScalarStyle.TheVariants.{Plain, Single, Double, Literal, Folded}
 use Rattle.yf_events.specs.declared.event.Span.{Span}
 use Rattle.yf_events.specs.declared.lists.Lists.{Lists}
+use Rattle.yf_events.specs.Tree.{starts_of_entry}
 use Rattle.yf_emit.specs.declared.form.decide.Form.{Form}
 use Rattle.yf_emit.specs.declared.form.measure.Measure.{Measure}
 use Rattle.yf_emit.specs.declared.print.printer.FrameState.{FrameState}
@@ -20,17 +21,18 @@ use Rattle.yf_emit.specs.declared.style.Style.{Style}
 use Rattle.yf_emit.specs.Layouts.BareSearch.{is_found_bare}
 use Rattle.yf_emit.specs.Nodes.BlockLines.{block_lines, final_feeds, header_text, is_kept_tail}
 use Rattle.yf_emit.specs.Passes.DecidePass.{further, has_space, is_leaf_at}
-use Rattle.yf_emit.specs.Passes.Drafts.{Draft, Remarks, no_draft, opened, past, remarks, with_blank, with_body, with_key_trail, with_text, with_trail, without_blank, finished}
+use Rattle.yf_emit.specs.Passes.Drafts.{Draft, Remarks, no_draft, opened, past, remarks, with_blank, with_body, with_key_trail, with_text, with_trail, without_blank, finished, with_start}
 use Rattle.yf_emit.specs.NormalForms.Forms.{no_form}
 use Rattle.yf_emit.specs.Layouts.Layout.{ended}
 use Rattle.yf_emit.specs.NormalForms.Measures.{no_measure}
 use Rattle.yf_emit.specs.Nodes.OneLine.{props_text, scalar_text, space_after}
 use Rattle.yf_emit.specs.Passes.OneLinePass as OneLineRun
-use Rattle.yf_emit.specs.Layouts.Rows.{is_empty_text, joined_words}
+use Rattle.yf_emit.specs.Layouts.Rows.{is_empty_text, joined_words, start_of}
 use Rattle.yf_emit.specs.Passes.TrailPass.{TrailsSoFar, found}
 
--- what the pass looks at: the reading, and what was found of it before
+-- what the pass looks at: the text that was read, the reading, and what was found of it before
 pub record Work : Type 0 where
+  pub text : List ℕ
   pub reading : Lists
   pub style : Style
   pub measures : List Measure
@@ -39,8 +41,9 @@ pub record Work : Type 0 where
   pub trails : List (Option ℕ)
   pub trailing : List Bool
 
-abbrev pub work_of : Lists → Style → List Measure → List Form → TrailsSoFar → Work
-work_of reading style measures forms trails = record {
+abbrev pub work_of : List ℕ → Lists → Style → List Measure → List Form → TrailsSoFar → Work
+work_of text reading style measures forms trails = record {
+  text = text;
   reading = reading;
   style = style;
   measures = measures;
@@ -49,11 +52,11 @@ work_of reading style measures forms trails = record {
   trailing = trails.trailing;
 }
 
-abbrev pub work : Lists → Plan → Work
-work reading plan = work_of reading plan.style plan.measures plan.forms (found plan.trails)
+abbrev pub work : List ℕ → Lists → Plan → Work
+work text reading plan = work_of text reading plan.style plan.measures plan.forms (found plan.trails)
 
 abbrev pub remarks_of : Work → Remarks
-remarks_of g = remarks g.reading.comments g.trailing
+remarks_of g = remarks g.text g.style g.reading.comments g.trailing
 
 abbrev pub next_line : Work → ℕ → Draft → Draft
 next_line g column d = opened (remarks_of g) column d
@@ -245,8 +248,9 @@ abbrev pub entry_noted : Work → Bool → Option Entry → Draft → Draft
 entry_noted g inline None d = d
 entry_noted g inline (Some entry) d = past g.reading.comments entry.start (blank_noted inline entry.blank_before d)
 
-abbrev pub entry_begun : Work → Bool → ℕ → Option Entry → Draft → Draft
-entry_begun g inline column entry d = entry_noted g inline entry (line_begun g inline column d)
+abbrev pub entry_begun : Work → Bool → ℕ → Bool → Option Entry → Draft → Draft
+entry_begun g inline column is_item entry d =
+    entry_noted g inline entry (with_start (remarks_of g) (start_of column is_item (starts_of_entry entry)) (line_begun g inline column d))
 
 abbrev pub colon_past : Work → Option ℕ → Draft → Draft
 colon_past g None d = d
@@ -266,7 +270,7 @@ abbrev pub spot_in : Form → ℕ → FrameState → Role
 spot_in f column Item = Role.After column
 spot_in f column Key = key_spot f.is_implicit column
 spot_in f column Value = Role.Value column
-spot_in f column (ExplicitValue colon) = Role.After column
+spot_in f column (ExplicitValue key) = Role.After column
 
 abbrev pub spot : Form → List PrintFrame → Role
 spot f [] = Role.Root
@@ -274,13 +278,13 @@ spot f (level ∷ levels) = spot_in f level.column level.awaited
 
 abbrev pub value_awaited : Bool → Option Entry → FrameState
 value_awaited true entry = Value
-value_awaited false entry = ExplicitValue (colon_of entry)
+value_awaited false entry = ExplicitValue entry
 
 abbrev pub awaited_after : Form → Option Entry → FrameState → FrameState
 awaited_after f entry Item = Item
 awaited_after f entry Key = value_awaited f.is_implicit entry
 awaited_after f entry Value = Key
-awaited_after f entry (ExplicitValue colon) = Key
+awaited_after f entry (ExplicitValue key) = Key
 
 abbrev pub frames_after : Form → Option Entry → List PrintFrame → List PrintFrame
 frames_after f entry [] = []
@@ -291,14 +295,16 @@ abbrev pub question_if : Bool → Draft → Draft
 question_if true d = d
 question_if false d = with_text (codes "?") d
 
-abbrev pub with_colon : Work → ℕ → Option ℕ → Draft → Draft
-with_colon g column colon d = with_text (codes ":") (colon_past g colon (next_line g column d))
+-- the entry is that of the key
+abbrev pub with_colon : Work → ℕ → Option Entry → Draft → Draft
+with_colon g column entry d =
+    with_text (codes ":") (colon_past g (colon_of entry) (with_start (remarks_of g) (start_of column false (starts_of_entry entry)) (next_line g column d)))
 
 abbrev pub sign_in : Work → Form → Option Entry → Bool → ℕ → FrameState → Draft → Draft
-sign_in g f entry inline column Item d = with_text (codes "-") (entry_begun g inline column entry d)
-sign_in g f entry inline column Key d = question_if f.is_implicit (entry_begun g inline column entry d)
+sign_in g f entry inline column Item d = with_text (codes "-") (entry_begun g inline column true entry d)
+sign_in g f entry inline column Key d = question_if f.is_implicit (entry_begun g inline column false entry d)
 sign_in g f entry inline column Value d = d
-sign_in g f entry inline column (ExplicitValue colon) d = with_colon g column colon d
+sign_in g f entry inline column (ExplicitValue key) d = with_colon g column key d
 
 abbrev pub sign : Work → Form → Option Entry → List PrintFrame → Draft → Draft
 sign g f entry [] d = d

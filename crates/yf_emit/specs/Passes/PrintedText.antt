@@ -12,15 +12,15 @@ use Rattle.yf_emit.specs.NormalForms.NormalForm.{NormalForm}
 use Rattle.yf_emit.specs.Passes.PrintPass.{printed, work_of}
 use Rattle.yf_emit.specs.Passes.TrailPass.{all_found}
 
--- u is the text that is printed of the reading m
-pub record Printout (m : Lists) (s : Style) (u : List ℕ) : Type 0 where
+-- u is the text that is printed of the reading m, where t is the text that was read
+pub record Printout (t : List ℕ) (m : Lists) (s : Style) (u : List ℕ) : Type 0 where
   pub measures : List Measure
   pub forms : List Form
   pub measured : AreMeasures [] (setting s []) m.events measures
   pub decided : AreForms m s measures forms
-  pub is : u ≡ printed (work_of m s measures forms (all_found m measures forms))
+  pub is : u ≡ printed (work_of t m s measures forms (all_found m measures forms))
 
--- and it is the layout of m, where m is the normal form of a text's reading
-pub record IsPrinted (m : Lists) (s : Style) (u : List ℕ) : Type 0 where
-  pub printout : Printout m s u
-  pub writes : NormalForm m s → IsLayout m s u
+-- and it is the layout of m, where m is the normal form of the reading of t
+pub record IsPrinted (t : List ℕ) (m : Lists) (s : Style) (u : List ℕ) : Type 0 where
+  pub printout : Printout t m s u
+  pub writes : (n : NormalForm m s) → n.text ≡ t → IsLayout t m s u

@@ -9,23 +9,23 @@ use Rattle.yf_events.specs.declared.lists.Lists.{Lists}
 use Rattle.yf_emit.specs.declared.style.Style.{Style}
 use Rattle.yf_emit.specs.Passes.PrintedText.{IsPrinted}
 
--- the text of the reading m was made, and all of it was written
+-- the text of the reading m was made, where t is the text that was read, and all of it was written
 -- (old, new: what the writer holds; before, after: the note that it has failed)
-pub record WroteMade (m : Lists) (s : Style) (old new : Option (List ℕ)) (before after : Bool) : Type 0 where
+pub record WroteMade (t : List ℕ) (m : Lists) (s : Style) (old new : Option (List ℕ)) (before after : Bool) : Type 0 where
   pub text : List ℕ
-  pub is : IsPrinted m s text
+  pub is : IsPrinted t m s text
   pub utf8 : IsUtf8 text
   pub wrote : Wrote old new before after text
 
 -- the text was made, the writer has failed, and a prefix of the text was written
-pub record BrokeMade (m : Lists) (s : Style) (old new : Option (List ℕ)) (after : Bool) : Type 0 where
+pub record BrokeMade (t : List ℕ) (m : Lists) (s : Style) (old new : Option (List ℕ)) (after : Bool) : Type 0 where
   pub text : List ℕ
-  pub is : IsPrinted m s text
+  pub is : IsPrinted t m s text
   pub utf8 : IsUtf8 text
   pub broke : Broke old new after text
 
 -- why nothing is printed, or not all
-abbrev pub RefusedPrint : Lists → Style → Option (List ℕ) → Option (List ℕ) → Bool → Bool → Fault → Type 0
-RefusedPrint m s old new before after Memory = (new ≡ old) × (after ≡ before)
-RefusedPrint m s old new before after WriteFailed = BrokeMade m s old new after
-RefusedPrint m s old new before after _ = ⊥
+abbrev pub RefusedPrint : List ℕ → Lists → Style → Option (List ℕ) → Option (List ℕ) → Bool → Bool → Fault → Type 0
+RefusedPrint t m s old new before after Memory = (new ≡ old) × (after ≡ before)
+RefusedPrint t m s old new before after WriteFailed = BrokeMade t m s old new after
+RefusedPrint t m s old new before after _ = ⊥

@@ -11,7 +11,7 @@ use Rattle.yf_emit.specs.Layouts.Decorated.{decorated, first_gap, row_decos, row
 use Rattle.yf_emit.specs.Format.{IsFormatting}
 use Rattle.yf_emit.specs.FormatLaws.{TrailsFitIn}
 use Rattle.yf_emit.specs.Preservation.KeyComments.{keyed_in_documents}
-use Rattle.yf_emit.specs.Layouts.Layout.{Remark, Source, first_comment, is_among, source_of, trailing}
+use Rattle.yf_emit.specs.Layouts.Layout.{Columns, Remark, Source, columns_of, first_comment, is_among, source_of, trailing}
 use Rattle.yf_emit.specs.NormalForms.Normal.{setting_of}
 use Rattle.yf_emit.specs.Layouts.Rows.{Row}
 
@@ -27,6 +27,9 @@ ends_line c d = is_among c.key_comments d || list_any (λ leaf. is_among (at_lea
 -- what is laid out of the text, and by what its comments are placed
 abbrev pub rows_in : {t u : List ℕ} {s : Style} → IsFormatting t s u → List Row
 rows_in {s = s} f = rows_of f.normal s f.writes.trees
+
+abbrev pub columns_in : {t u : List ℕ} {s : Style} → IsFormatting t s u → Columns
+columns_in {t = t} {s = s} f = columns_of t s (rows_in f)
 
 abbrev pub source_in : {t u : List ℕ} {s : Style} → IsFormatting t s u → Source
 source_in f = source_of f.normal (rows_in f)
@@ -48,7 +51,7 @@ pub record CommentsPlaced (t : List ℕ) (s : Style) (u : List ℕ) : Type 0 whe
   -- one at most ends each line, and its text is the comment's without the white space at its end
   pub once : (f : IsFormatting t s u) → TrailsFitIn f
   -- u are its rows, each with the comment that ends it and those on lines of their own after it
-  pub printed : (f : IsFormatting t s u) → u ≡ decorated f.normal (rows_in f)
+  pub printed : (f : IsFormatting t s u) → u ≡ decorated (columns_in f) f.normal (rows_in f)
   -- and its own reading finds them there: the same between the lines, and at the end of each
-  pub before : (f : IsFormatting t s u) (q : Lists) (b : ReadingOf u q) → first_gap q (rows_of q s b.trees) ≡ first_gap f.normal (rows_in f)
-  pub follows : (f : IsFormatting t s u) (q : Lists) (b : ReadingOf u q) → row_decos q (rows_of q s b.trees) ≡ row_decos f.normal (rows_in f)
+  pub before : (f : IsFormatting t s u) (q : Lists) (b : ReadingOf u q) → first_gap (columns_of u s (rows_of q s b.trees)) q (rows_of q s b.trees) ≡ first_gap (columns_in f) f.normal (rows_in f)
+  pub follows : (f : IsFormatting t s u) (q : Lists) (b : ReadingOf u q) → row_decos (columns_of u s (rows_of q s b.trees)) q (rows_of q s b.trees) ≡ row_decos (columns_in f) f.normal (rows_in f)

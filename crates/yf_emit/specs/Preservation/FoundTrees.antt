@@ -10,6 +10,7 @@ use Rattle.yf_emit.specs.declared.style.Style.{Style}
 use Rattle.yf_emit.specs.Preservation.AlikeBlocks.{AlikeBlocks}
 use Rattle.yf_emit.specs.Layouts.BareStart.{is_bare}
 use Rattle.yf_emit.specs.Layouts.Decorated.{first_gap, row_decos, rows_of}
+use Rattle.yf_emit.specs.Layouts.KeptColumns.{columns_of}
 use Rattle.yf_emit.specs.Nodes.FlowsWithoutComments.{Undisturbed}
 
 abbrev pub words_of : List Directive → List (List (List ℕ))
@@ -21,10 +22,10 @@ pub data FoundTrees (s : Style) (cs : List CommentValue) (u : List ℕ) (es : Li
   one_found : {d e : Doc} {ds fs : List Doc} {x y : DocumentTree} {xs ys : List DocumentTree} → words_of d.directives ≡ words_of e.directives
       → AlikeBlocks s cs es x.root y.root → Undisturbed u es y.root → FoundTrees s cs u es ds xs fs ys → FoundTrees s cs u es (d ∷ ds) (x ∷ xs) (e ∷ fs) (y ∷ ys)
 
--- a normal reading m with its trees, and what is found in the text u that it is laid out as: each row carries what it carried
-pub record FoundSame (m : Lists) (s : Style) (trees : List DocumentTree) (u : List ℕ) (q : Lists) (found : List DocumentTree) : Type 0 where
+-- a normal reading m of t with its trees, and what is found in the text u that it is laid out as: each row carries what it carried
+pub record FoundSame (t : List ℕ) (m : Lists) (s : Style) (trees : List DocumentTree) (u : List ℕ) (q : Lists) (found : List DocumentTree) : Type 0 where
   pub of_reading : TreesOf q found
   pub alike : FoundTrees s m.comments u q.comments m.documents trees q.documents found
   pub bare : is_bare q s ≡ is_bare m s
-  pub gap : first_gap q (rows_of q s found) ≡ first_gap m (rows_of m s trees)
-  pub decos : row_decos q (rows_of q s found) ≡ row_decos m (rows_of m s trees)
+  pub gap : first_gap (columns_of u s (rows_of q s found)) q (rows_of q s found) ≡ first_gap (columns_of t s (rows_of m s trees)) m (rows_of m s trees)
+  pub decos : row_decos (columns_of u s (rows_of q s found)) q (rows_of q s found) ≡ row_decos (columns_of t s (rows_of m s trees)) m (rows_of m s trees)

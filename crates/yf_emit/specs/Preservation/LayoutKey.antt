@@ -6,10 +6,10 @@ use Rattle.yf_events.specs.declared.document.Doc.{Doc}
 use Rattle.yf_emit.specs.declared.style.Style.{Style}
 use Rattle.yf_emit.specs.Preservation.AlikeBlocks.{AlikeBlocks}
 use Rattle.yf_emit.specs.Layouts.BareStart.{is_bare}
-use Rattle.yf_emit.specs.Preservation.CommentsPlaced.{ends_line, rows_in, source_in}
+use Rattle.yf_emit.specs.Preservation.CommentsPlaced.{columns_in, ends_line, rows_in, source_in}
 use Rattle.yf_emit.specs.Format.{IsFormatting}
 use Rattle.yf_emit.specs.Preservation.FoundTrees.{words_of}
-use Rattle.yf_emit.specs.Layouts.Layout.{Source, precedes_item, trailing, trimmed}
+use Rattle.yf_emit.specs.Layouts.Layout.{Columns, Source, precedes_item, trailing, trimmed}
 use Rattle.yf_emit.specs.Layouts.Rows.{Row}
 
 -- documents with the same words of directives, and trees that differ by places alone; cs and es are the comments beside them
@@ -25,11 +25,12 @@ pub data SamePlace (c d : CommentValue) : List Row → List Row → Type 0 where
   no_place : SamePlace c d [] []
   same_place : {x y : Row} {xs ys : List Row} → precedes_item x c ≡ precedes_item y d → SamePlace c d xs ys → SamePlace c d (x ∷ xs) (y ∷ ys)
 
--- as many comments, each with the same text but for the white space at its end, the same note on a blank line before it, before the same rows
-pub data SamePlaces (xs ys : List Row) : List CommentValue → List CommentValue → Type 0 where
-  no_comments : SamePlaces xs ys [] []
-  same_comment : {c d : CommentValue} {cs ds : List CommentValue} → trimmed c.text ≡ trimmed d.text → c.blank_before ≡ d.blank_before → SamePlace c d xs ys → SamePlaces xs ys cs ds
-      → SamePlaces xs ys (c ∷ cs) (d ∷ ds)
+-- as many comments, each with the same text but for the white space at its end, the same note on a blank line before it, before the same rows, at the
+-- same columns
+pub data SamePlaces (p q : Columns) (xs ys : List Row) : List CommentValue → List CommentValue → Type 0 where
+  no_comments : SamePlaces p q xs ys [] []
+  same_comment : {c d : CommentValue} {cs ds : List CommentValue} → trimmed c.text ≡ trimmed d.text → c.blank_before ≡ d.blank_before → SamePlace c d xs ys → ((next : ℕ) → p c next ≡ q d next) → SamePlaces p q xs ys cs ds
+      → SamePlaces p q xs ys (c ∷ cs) (d ∷ ds)
 
 -- the comments of the one and of the other that end a line are the same ones
 pub data SameEnds (b c : Source) : List CommentValue → List CommentValue → Type 0 where
@@ -47,7 +48,7 @@ pub record SameKey {t u v w : List ℕ} {s : Style} (f : IsFormatting t s u) (g 
   -- the `---` of the first document is left out in both or in neither: the style keeps it so, and it is missing
   pub bare : is_bare f.normal s ≡ is_bare g.normal s
   pub documents : SameDocuments s f.normal.comments g.normal.comments f.normal.documents f.writes.trees g.normal.documents g.writes.trees
-  pub places : SamePlaces (rows_in f) (rows_in g) f.normal.comments g.normal.comments
+  pub places : SamePlaces (columns_in f) (columns_in g) (rows_in f) (rows_in g) f.normal.comments g.normal.comments
   pub ends : SameEnds (source_in f) (source_in g) f.normal.comments g.normal.comments
   pub rows : SameRows (source_in f) (source_in g) (rows_in f) (rows_in g)
 

@@ -14,9 +14,11 @@ use Rattle.yf_emit.specs.declared.style.Style.{Style}
 use Rattle.yf_emit.specs.Layouts.BareStart.{is_bare}
 use Rattle.yf_emit.specs.Format.{IsFormatting}
 use Rattle.yf_emit.specs.Preservation.FoundTrees.{words_of}
+use Rattle.yf_emit.specs.Layouts.KeptColumns.{Columns, keeps_blocks}
 use Rattle.yf_emit.specs.Layouts.Layout.{Remark, trimmed}
 use Rattle.yf_emit.specs.Layouts.Rows.{colon_offset}
 use Rattle.yf_emit.specs.Nodes.OneLine.{width, written}
+use Rattle.yf_emit.specs.Preservation.CommentsPlaced.{columns_in}
 use Rattle.yf_emit.specs.NormalForms.Normal.{setting_of, styled}
 
 -- as many, one by one
@@ -118,6 +120,10 @@ pub data DocumentsMatch (ps : PairedOffsets) (s : Style) (t : List ℕ) (r : Lis
       → NodesMatch ps s (styled t (setting_of r s) x.root) (styled v (setting_of q s) y.root) → DocumentsMatch ps s t r v q ds xs es ys
       → DocumentsMatch ps s t r v q (d ∷ ds) (x ∷ xs) (e ∷ es) (y ∷ ys)
 
+-- two comments at the same column, whatever the next lines are
+pub record SameColumn (p q : Columns) (c d : CommentValue) : Type 0 where
+  pub is : (next : ℕ) → p c next ≡ q d next
+
 -- The readings of two texts match: all comments are pairs, and each offset of a node is on the same side of all of these; the beginnings of leaves are pairs, too,
 -- and are on the same side of one another.
 pub record SameReadings {t u v w : List ℕ} {s : Style} (f : IsFormatting t s u) (g : IsFormatting v s w) : Type 0 where
@@ -126,6 +132,8 @@ pub record SameReadings {t u v w : List ℕ} {s : Style} (f : IsFormatting t s u
   pub bare : is_bare f.normal s ≡ is_bare g.normal s
   pub documents : DocumentsMatch pairs s t f.reading v g.reading f.reading.documents f.is_normal.trees g.reading.documents g.is_normal.trees
   pub remarks : Each (SameRemark pairs) (zip f.reading.comments f.reading.on_leaf_line) (zip g.reading.comments g.reading.on_leaf_line)
+  -- where comments keep the blocks that they were written in, they are laid out at the same columns
+  pub columns : keeps_blocks s ≡ true → Each (SameColumn (columns_in f) (columns_in g)) f.normal.comments g.normal.comments
 
 -- u is what formatting gives of each text whose reading matches that of t
 abbrev pub DependsOnReading : List ℕ → Style → List ℕ → Type 0

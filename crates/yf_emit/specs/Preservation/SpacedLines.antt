@@ -7,13 +7,13 @@ use Rattle.yf_stream.specs.ReadingOf.{ReadingOf}
 use Rattle.yf_emit.specs.declared.style.Style.{Style}
 use Rattle.yf_emit.specs.Layouts.Decorated.{rows_of}
 use Rattle.yf_emit.specs.Format.{IsFormatting}
-use Rattle.yf_emit.specs.Layouts.Layout.{Line, bytes_after, lines_with_comments, may_be_blank_after}
+use Rattle.yf_emit.specs.Layouts.Layout.{Line, bytes_after, columns_of, lines_with_comments, may_be_blank_after}
 use Rattle.yf_emit.specs.Layouts.Rows.{Ending, at_text_start}
 
--- the lines that a normal reading is laid out on, but for blank ones and those of block scalars: comments, and what begins with an entry or
+-- the lines that a normal reading of t is laid out on, but for blank ones and those of block scalars: comments, and what begins with an entry or
 -- is a part of one. Each has the note whether a blank line is before it.
-abbrev pub laid_out : Lists → Style → List DocumentTree → List Line
-laid_out m s trees = lines_with_comments m (rows_of m s trees)
+abbrev pub laid_out : List ℕ → Lists → Style → List DocumentTree → List Line
+laid_out t m s trees = lines_with_comments (columns_of t s (rows_of m s trees)) m (rows_of m s trees)
 
 abbrev pub notes_of : List Line → List Bool
 notes_of ls = map (λ l. l.blank_before) ls
@@ -25,9 +25,9 @@ left_blank before (l ∷ ls) = (may_be_blank_after before && l.blank_before) ∷
 
 pub record SameBlanks (t : List ℕ) (s : Style) (u : List ℕ) : Type 0 where
   -- u is those lines, with one blank line before each that has the note, where it may be, and none else
-  pub lines : (q : Lists) (b : ReadingOf u q) → u ≡ bytes_after at_text_start (laid_out q s b.trees)
+  pub lines : (q : Lists) (b : ReadingOf u q) → u ≡ bytes_after at_text_start (laid_out u q s b.trees)
   -- line by line, a blank line is noted before it in u exactly where one may be there and one is noted before it in t
-  pub notes : (f : IsFormatting t s u) (q : Lists) (b : ReadingOf u q) → notes_of (laid_out q s b.trees) ≡ left_blank at_text_start (laid_out f.normal s f.writes.trees)
+  pub notes : (f : IsFormatting t s u) (q : Lists) (b : ReadingOf u q) → notes_of (laid_out u q s b.trees) ≡ left_blank at_text_start (laid_out t f.normal s f.writes.trees)
   -- where the notes of comments and entries are those of the reading of t
   pub comments : (f : IsFormatting t s u) → f.normal.comments ≡ f.reading.comments
   pub entries : (f : IsFormatting t s u) → entries_of f.normal ≡ entries_of f.reading

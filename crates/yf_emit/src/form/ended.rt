@@ -69,12 +69,7 @@ fn leaf(i: usize, width: Option<usize>, leaf: Option<usize>) -> Measure
 
 /// How many characters a scalar has in a style, with its properties; `None` where it is a block scalar.
 #[inline(always)]
-fn width_in_style(
-    props: &Props,
-    style: ScalarStyle,
-    text: &str,
-    house: &Style,
-) -> Option<usize>
+fn width_in_style(props: &Props, style: ScalarStyle, text: &str, house: &Style) -> Option<usize>
     ensures width { result ≡ width_if (is_one_line_style style) (spaced (props_text (props_value props.now)) (scalar_text house.now style text.now)) }
     ensures utf8 { (IsUtf8 (props_text (props_value props.now))) × (IsUtf8 text.now) }
 {

@@ -163,19 +163,20 @@ fn text_of(page: &PrintContext) -> Result<String, AllocError>
         printer.advance(page, i)?;
     }
     let Printer { output, .. } = printer;
-    output.finish(page.reading, &page.plan.trails)
+    output.finish(page)
 }
 
 /// The text that is printed of a reading by what was measured of it and by the forms of its nodes.
 pub(crate) fn layout_by(
     alloc: Global,
+    text: &str,
     reading: &Reading,
     measures: Measures,
     forms: Forms,
     style: &Style,
 ) -> Result<String, AllocError>
-    ensures printed { IfOk result (λ text. string_bytes text
-        ≡ Printing.printed (work_of reading.now style.now measures forms (all_found reading.now measures forms))) }
+    ensures printed { IfOk result (λ layout. string_bytes layout
+        ≡ Printing.printed (work_of text.now reading.now style.now measures forms (all_found reading.now measures forms))) }
     ensures within { IfOk result (λ text. length (string_bytes text) ≤ LONGEST) }
 {
     let trails = find_trails(alloc, reading, &measures, &forms)?;
@@ -187,18 +188,24 @@ pub(crate) fn layout_by(
     };
     text_of(&PrintContext {
         alloc,
+        text,
         reading,
         plan: &plan,
     })
 }
 
 /// The text of a normal reading in the house style: of the normal form of a text's reading, its layout; of any other reading, what one
-/// pass over its events prints of it. A text of more than `LONGEST` bytes is refused as a growth of memory is.
-pub fn layout(alloc: Global, reading: &Reading, style: &Style) -> Result<String, AllocError>
-    ensures printed { IfOk result (λ text. IsPrinted reading.now style.now (string_bytes text)) }
-    ensures within { IfOk result (λ text. length (string_bytes text) ≤ LONGEST) }
+/// pass over its events prints of it. A text of more than `LONGEST` bytes is refused as a growth of memory is. The text is the one that was read.
+pub fn layout(
+    alloc: Global,
+    text: &str,
+    reading: &Reading,
+    style: &Style,
+) -> Result<String, AllocError>
+    ensures printed { IfOk result (λ layout. IsPrinted text.now reading.now style.now (string_bytes layout)) }
+    ensures within { IfOk result (λ layout. length (string_bytes layout) ≤ LONGEST) }
 {
     let measures = measure_normal(alloc, reading, style)?;
     let forms = decide(alloc, &measures, reading, style)?;
-    layout_by(alloc, reading, measures, forms, style)
+    layout_by(alloc, text, reading, measures, forms, style)
 }

@@ -34,11 +34,7 @@ fn before_value(
     }
     output.add_key_trail(page.reading, comment)?;
     output.forbid_blank();
-    output.open_line(
-        page.reading,
-        &page.plan.trails,
-        column.saturating_add(page.plan.style.indent),
-    )
+    output.open_line(page, column.saturating_add(page.plan.style.indent))
 }
 
 /// Prints what is between the line so far and a node that has characters, which the event at an index begins.
@@ -52,7 +48,7 @@ fn before_text(
     ensures { OnOk result (draft output.new ≡ Printing.before_text (work_on page.now) (form_at page.now i) spot (draft output.old)) }
 {
     match spot {
-        Role::Root => output.open_line(page.reading, &page.plan.trails, 0),
+        Role::Root => output.open_line(page, 0),
         Role::After(_) => push_spaces(&mut output.line, page.plan.style.indent.saturating_sub(1)),
         Role::Key => Ok(()),
         Role::Value(column) => {

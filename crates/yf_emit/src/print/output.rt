@@ -1,18 +1,26 @@
 //! The text that is printed, line by line. Columns count from 0 here.
-ghost use Rattle.std.specs.Prelude.{◌≡◌, ◌++◌, ◌+◌, ◌≤◌, ◌&&◌, drop, length, map, OnOk, IfOk};
+ghost use Rattle.std.specs.Prelude.{◌≡◌, ◌++◌, ◌+◌, ◌≤◌, ◌&&◌, drop, length, map, Option, OnOk, IfOk};
 ghost use Rattle.std.specs.String.{string_bytes};
 ghost use Rattle.yf_comments.specs.Comment.{comment_value};
 ghost use Rattle.yf_emit.specs.Passes.Drafts as Drafts;
-ghost use Rattle.yf_emit.specs.Passes.Drafts.{trailing_if, between, blank_text, closed, count_to, draft, fresh, met_lines, no_draft, opened, own_line, own_line_if, own_lines, remarks, with_blank, with_trail, without_blank};
+ghost use Rattle.yf_emit.specs.Passes.Drafts.{trailing_if, between, blank_text, closed, count_to, draft, fresh, kept_column, line_column, met_lines, no_draft, opened, own_line, own_line_if, own_lines, remarks, with_blank, with_start, with_trail, without_blank};
+ghost use Rattle.yf_events.specs.Tree.{starts_of_entry};
+ghost use Rattle.yf_emit.specs.Layouts.KeptColumns.{keeps_blocks};
 ghost use Rattle.yf_emit.specs.Layouts.Layout.{after_two_spaces, trimmed};
+ghost use Rattle.yf_emit.specs.Layouts.Rows.{start_of};
+ghost use Rattle.yf_emit.specs.Passes.Pages.{work_on};
+ghost use Rattle.yf_emit.specs.Passes.PrintPass.{remarks_of};
 ghost use Rattle.yf_stream.specs.declared.stream.TheConstants.{LONGEST};
 
 use crate::form::comments_before::first_after;
-use crate::print::trails::Trails;
+use crate::print::open_blocks::{OpenBlock, column_by, column_in, push_entries};
+use crate::print::printer::PrintContext;
+use crate::style::{CommentColumns, Style};
 use crate::text::block::push_spaces;
 use crate::text::limit::limited;
 use std::alloc::{AllocError, Global};
 use yf_comments::comment::Comment;
+use yf_events::event::Entry;
 use yf_events::reading::Reading;
 use yf_quoted::filled::push_if_filled;
 
@@ -42,6 +50,36 @@ pub struct Output {
     passed: usize,
     /// Whether a blank line may be after what is printed.
     blank_may_follow: bool,
+    /// The byte offset of the first item that was gone past since a line was printed.
+    first: Option<usize>,
+    /// Where comments keep their blocks, the collections of which an entry begins on the line.
+    starts: Vec<OpenBlock>,
+    /// Whether a leaf is on the line.
+    has_leaf: bool,
+    /// The collections that are open on the line that was printed last, the innermost last, and whether that has no block scalar.
+    chain: Vec<OpenBlock>,
+    is_bodyless: bool,
+}
+
+/// Whether comments keep the blocks in which they were written.
+#[tactic(auto, unfolding(crate::specs::Layouts::KeptColumns::keeps_blocks))]
+fn keeps(style: &Style) -> bool
+    ensures { result ≡ keeps_blocks style.now }
+{
+    match style.comments {
+        CommentColumns::Next => false,
+        CommentColumns::Block => true,
+    }
+}
+
+/// Whether the offset is before an item, where there is one.
+fn is_before(item: Option<usize>, offset: usize) -> bool
+    ensures { result ≡ Drafts.is_before item offset }
+{
+    match item {
+        Some(item) => offset < item,
+        None => true,
+    }
 }
 
 /// A text without the white space at its end.
@@ -111,6 +149,11 @@ impl Output {
             met: 0,
             passed: 0,
             blank_may_follow: false,
+            first: None,
+            starts: Vec::new(alloc),
+            has_leaf: false,
+            chain: Vec::new(alloc),
+            is_bodyless: true,
         }
     }
 
@@ -119,23 +162,58 @@ impl Output {
         ensures { draft self.new ≡ Drafts.past reading.now.comments offset (draft self.old) }
     {
         self.met = first_after(reading.comments(), self.met, offset);
+        if self.first.is_none() {
+            self.first = Some(offset);
+        }
     }
 
     /// Prints the line that is being made, and begins the next one at that column.
-    pub fn open_line(
-        &mut self,
-        reading: &Reading,
-        trails: &Trails,
-        column: usize,
-    ) -> Result<(), AllocError>
-        ensures { OnOk result (draft self.new ≡ opened (remarks reading.now.comments trails.now.is_trailing.items) column
-            (draft self.old)) }
+    pub(crate) fn open_line(&mut self, page: &PrintContext, column: usize) -> Result<(), AllocError>
+        ensures { OnOk result (draft self.new ≡ opened (remarks_of (work_on page.now)) column (draft self.old)) }
     {
-        self.close_line(reading, trails)?;
+        self.close_line(page)?;
         self.is_open = true;
         self.column = column;
         self.blank_before = false;
         self.may_follow = true;
+        Ok(())
+    }
+
+    /// Notes that an entry of a collection at that column begins on the line.
+    pub(crate) fn mark_start(
+        &mut self,
+        page: &PrintContext,
+        column: usize,
+        is_item: bool,
+        entry: Option<Entry>,
+    ) -> Result<(), AllocError>
+        ensures { OnOk result (draft self.new ≡ with_start (remarks_of (work_on page.now)) (start_of column is_item (starts_of_entry entry))
+            (draft self.old)) }
+    {
+        if keeps(&page.plan.style) {
+            return self.push_start(page.text, column, is_item, entry);
+        }
+        Ok(())
+    }
+
+    fn push_start(
+        &mut self,
+        text: &str,
+        column: usize,
+        is_item: bool,
+        entry: Option<Entry>,
+    ) -> Result<(), AllocError>
+        ensures { OnOk result (draft self.new ≡ Drafts.with_block_start text.now (start_of column is_item (starts_of_entry entry)) (draft self.old)) }
+    {
+        let source = match entry {
+            Some(entry) => column_by(text, entry.start, true),
+            None => None,
+        };
+        self.starts.push(OpenBlock {
+            source,
+            printed: column,
+            is_sequence: is_item,
+        })?;
         Ok(())
     }
 
@@ -153,11 +231,12 @@ impl Output {
         self.may_follow = false;
     }
 
-    /// Ends the line by a comment, if there is one.
+    /// Ends the line by the comment of a leaf, if it has one.
     #[inline(always)]
     pub fn add_trail(&mut self, reading: &Reading, comment: Option<usize>) -> Result<(), AllocError>
         ensures { OnOk result (draft self.new ≡ Drafts.with_trail reading.now.comments comment (draft self.old)) }
     {
+        self.has_leaf = true;
         push_after_space_if(&mut self.trails, reading.comments(), comment)
     }
 
@@ -173,11 +252,11 @@ impl Output {
     }
 
     /// Prints the line that is being made, with the comments that were met before it.
-    fn close_line(&mut self, reading: &Reading, trails: &Trails) -> Result<(), AllocError>
-        ensures { OnOk result (draft self.new ≡ closed (remarks reading.now.comments trails.now.is_trailing.items) (draft self.old)) }
+    fn close_line(&mut self, page: &PrintContext) -> Result<(), AllocError>
+        ensures { OnOk result (draft self.new ≡ closed (remarks_of (work_on page.now)) (draft self.old)) }
     {
         if self.is_open {
-            self.push_own_lines(reading, trails, self.column)?;
+            self.push_own_lines(page, self.column)?;
             self.push_line()?;
         }
         Ok(())
@@ -193,50 +272,103 @@ impl Output {
         push_if_filled(&mut self.text, self.trails.as_str())?;
         self.text.push('\n')?;
         push_if_filled(&mut self.text, self.body.as_str())?;
+        self.is_bodyless = self.body.as_str().is_empty();
+        self.note_open()?;
         self.line.clear();
         self.trails.clear();
         self.body.clear();
         self.is_open = false;
         self.blank_may_follow = self.may_follow;
+        self.first = None;
+        Ok(())
+    }
+
+    /// Notes which collections are open after the line.
+    fn note_open(&mut self) -> Result<(), AllocError>
+        ensures { OnOk result (draft self.new ≡ Drafts.with_open (draft self.old)) }
+    {
+        if self.starts.as_slice().is_empty() {
+            if !self.has_leaf {
+                self.chain.clear();
+            }
+        }
+        push_entries(&mut self.chain, self.starts.as_slice())?;
+        self.starts.clear();
+        self.has_leaf = false;
         Ok(())
     }
 
     /// Prints the comments that were met and do not trail, each on a line of its own at that column.
     #[inline(always)]
-    fn push_own_lines(
-        &mut self,
-        reading: &Reading,
-        trails: &Trails,
-        column: usize,
-    ) -> Result<(), AllocError>
-        ensures { OnOk result (draft self.new ≡ met_lines (remarks reading.now.comments trails.now.is_trailing.items) column
-            (draft self.old)) }
+    fn push_own_lines(&mut self, page: &PrintContext, column: usize) -> Result<(), AllocError>
+        ensures { OnOk result (draft self.new ≡ met_lines (remarks_of (work_on page.now)) column (draft self.old)) }
     {
-        let comments = reading.comments();
+        let comments = page.reading.comments();
         let end = self.met.min(comments.len());
-        self.push_between(comments, trails, column, self.passed, end)?;
+        self.push_between(page, comments, column, self.passed, end)?;
         self.passed = self.met;
         Ok(())
     }
 
-    /// Prints the comments between two indices that do not trail, each on a line of its own at that column.
+    /// Prints the comments between two indices that do not trail, each on a line of its own before a line at that column.
     #[inline(always)]
     fn push_between(
         &mut self,
+        page: &PrintContext,
         comments: &[Comment],
-        trails: &Trails,
         column: usize,
         first: usize,
         end: usize,
     ) -> Result<(), AllocError>
         requires { end ≤ length comments.now }
-        ensures { OnOk result (draft self.new ≡ own_lines trails.now.is_trailing.items column first
+        ensures { OnOk result (draft self.new ≡ own_lines (work_on page.now).trailing (line_column (remarks_of (work_on page.now)) column (draft self.old)) first
             (between first end (map comment_value comments.now)) (draft self.old)) }
     {
         for k in first..end {
-            self.push_own_line(&comments[k], trails.is_trailing(k), column)?;
+            let own = self.own_column(page, &comments[k], column)?;
+            self.push_own_line(&comments[k], page.plan.trails.is_trailing(k), own)?;
         }
         Ok(())
+    }
+
+    /// The column of a comment on a line of its own before a line at that column.
+    fn own_column(
+        &self,
+        page: &PrintContext,
+        comment: &Comment,
+        column: usize,
+    ) -> Result<usize, AllocError>
+        ensures { IfOk result (λ own. own ≡ line_column (remarks_of (work_on page.now)) column (draft self.now) (comment_value comment.now)) }
+    {
+        if keeps(&page.plan.style) {
+            return self.kept_column(page, comment.offset, column);
+        }
+        Ok(column)
+    }
+
+    fn kept_column(
+        &self,
+        page: &PrintContext,
+        offset: usize,
+        column: usize,
+    ) -> Result<usize, AllocError>
+        ensures { IfOk result (λ kept. kept ≡ Drafts.column_kept (remarks_of (work_on page.now)) column (draft self.now) offset) }
+    {
+        if !is_before(self.first, offset) {
+            return Ok(column);
+        }
+        match column_by(page.text, offset, false) {
+            Some(own) => column_in(
+                page.plan.style.indent,
+                self.is_bodyless,
+                column,
+                own,
+                self.starts.as_slice(),
+                self.has_leaf,
+                self.chain.as_slice(),
+            ),
+            None => Ok(column),
+        }
     }
 
     /// Prints a comment that does not trail, on a line of its own at that column.
@@ -262,14 +394,13 @@ impl Output {
     }
 
     /// The whole text: with the last line, and after it the comments that are left. A text of more than `LONGEST` bytes is refused.
-    pub fn finish(mut self, reading: &Reading, trails: &Trails) -> Result<String, AllocError>
-        ensures finished { IfOk result (λ text. string_bytes text ≡ Drafts.finished
-            (remarks reading.now.comments trails.now.is_trailing.items) (draft self)) }
+    pub(crate) fn finish(mut self, page: &PrintContext) -> Result<String, AllocError>
+        ensures finished { IfOk result (λ text. string_bytes text ≡ Drafts.finished (remarks_of (work_on page.now)) (draft self)) }
         ensures within { IfOk result (λ text. length (string_bytes text) ≤ LONGEST) }
     {
-        self.close_line(reading, trails)?;
-        self.met = reading.comments().len();
-        self.push_own_lines(reading, trails, 0)?;
+        self.close_line(page)?;
+        self.met = page.reading.comments().len();
+        self.push_own_lines(page, 0)?;
         limited(self.text.len())?;
         let Output { text, .. } = self;
         Ok(text)

@@ -36,6 +36,8 @@ pub(crate) struct Plan {
 #[derive(Clone, Copy)]
 pub(crate) struct PrintContext<'r, 'a> {
     pub(crate) alloc: Global,
+    /// The text that was read.
+    pub(crate) text: &'r str,
     pub(crate) reading: &'r Reading<'a>,
     pub(crate) plan: &'r Plan,
 }
@@ -49,8 +51,8 @@ pub(crate) enum FrameState {
     Key,
     /// The value of a key that is written without `?`.
     Value,
-    /// The value of a key that is written with `?`: the byte offset of its `:`, where it has one.
-    ExplicitValue(Option<usize>),
+    /// The value of a key that is written with `?`: the entry that the key begins.
+    ExplicitValue(Option<Entry>),
 }
 
 /// A block collection whose end has not come yet.
@@ -110,7 +112,7 @@ fn push_directives(
     for directive in directives {
         output.line.push('%')?;
         push_words(&mut output.line, directive.words.as_slice())?;
-        output.open_line(page.reading, &page.plan.trails, 0)?;
+        output.open_line(page, 0)?;
     }
     Ok(())
 }
@@ -129,7 +131,7 @@ fn push_document_directives(
     }
     if !is_first {
         output.line.push_str("...")?;
-        output.open_line(page.reading, &page.plan.trails, 0)?;
+        output.open_line(page, 0)?;
     }
     push_directives(output, page, directives)
 }
@@ -162,13 +164,15 @@ fn begin_entry(
     page: &PrintContext,
     is_inline: bool,
     column: usize,
+    is_item: bool,
     entry: Option<Entry>,
 ) -> Result<(), AllocError>
-    ensures { OnOk result (draft output.new ≡ Printing.entry_begun (work_on page.now) is_inline column entry (draft output.old)) }
+    ensures { OnOk result (draft output.new ≡ Printing.entry_begun (work_on page.now) is_inline column is_item entry (draft output.old)) }
 {
     if !is_inline {
-        output.open_line(page.reading, &page.plan.trails, column)?;
+        output.open_line(page, column)?;
     }
+    output.mark_start(page, column, is_item, entry)?;
     if let Some(entry) = entry {
         if !is_inline {
             output.set_blank_before(entry.blank_before);
@@ -178,17 +182,18 @@ fn begin_entry(
     Ok(())
 }
 
-/// Begins the value of a key with `?`, whose `:` is at that byte offset.
+/// Begins the value of a key with `?`, which began that entry.
 fn begin_explicit_value(
     output: &mut Output,
     page: &PrintContext,
     column: usize,
-    colon: Option<usize>,
+    entry: Option<Entry>,
 ) -> Result<(), AllocError>
-    ensures { OnOk result (draft output.new ≡ Printing.with_colon (work_on page.now) column colon (draft output.old)) }
+    ensures { OnOk result (draft output.new ≡ Printing.with_colon (work_on page.now) column entry (draft output.old)) }
 {
-    output.open_line(page.reading, &page.plan.trails, column)?;
-    if let Some(offset) = colon {
+    output.open_line(page, column)?;
+    output.mark_start(page, column, false, entry)?;
+    if let Some(offset) = colon_of(entry) {
         output.meet(page.reading, offset);
     }
     output.line.push(':')
@@ -228,18 +233,18 @@ fn next_role(
     level.is_inline = false;
     match level.awaited {
         FrameState::Item => {
-            begin_entry(output, page, is_inline, column, entry_at(page, i))?;
+            begin_entry(output, page, is_inline, column, true, entry_at(page, i))?;
             output.line.push('-')?;
             Ok(Role::After(column))
         }
         FrameState::Key => {
             let entry = entry_at(page, i);
-            begin_entry(output, page, is_inline, column, entry)?;
+            begin_entry(output, page, is_inline, column, false, entry)?;
             if page.plan.forms.at(i).is_implicit {
                 level.awaited = FrameState::Value;
                 return Ok(Role::Key);
             }
-            level.awaited = FrameState::ExplicitValue(colon_of(entry));
+            level.awaited = FrameState::ExplicitValue(entry);
             output.line.push('?')?;
             Ok(Role::After(column))
         }
@@ -247,9 +252,9 @@ fn next_role(
             level.awaited = FrameState::Key;
             Ok(Role::Value(column))
         }
-        FrameState::ExplicitValue(colon) => {
+        FrameState::ExplicitValue(key) => {
             level.awaited = FrameState::Key;
-            begin_explicit_value(output, page, column, colon)?;
+            begin_explicit_value(output, page, column, key)?;
             Ok(Role::After(column))
         }
     }
@@ -289,7 +294,7 @@ fn before_collection(
     match spot {
         Role::Root => {
             if has_props {
-                output.open_line(page.reading, &page.plan.trails, 0)?;
+                output.open_line(page, 0)?;
                 output.forbid_blank();
             }
             Ok(())
@@ -355,12 +360,12 @@ pub(crate) fn next_document(
             output.meet(page.reading, document.start);
             return Ok(1);
         }
-        output.open_line(page.reading, &page.plan.trails, 0)?;
+        output.open_line(page, 0)?;
         begin_document(output, page, documents == 0, document)?;
         push_document_mark(output)?;
         return Ok(documents + 1);
     }
-    output.open_line(page.reading, &page.plan.trails, 0)?;
+    output.open_line(page, 0)?;
     push_document_mark(output)?;
     Ok(documents)
 }

@@ -13,7 +13,12 @@ use yf_props::props::{Props, Tag};
 use yf_quoted::write::{push_double_in, push_single};
 
 /// Appends the text of a scalar in a style on one line; nothing of a block style.
-pub fn push_scalar(out: &mut String, style: ScalarStyle, text: &str, house: &Style) -> Result<(), AllocError>
+pub fn push_scalar(
+    out: &mut String,
+    style: ScalarStyle,
+    text: &str,
+    house: &Style,
+) -> Result<(), AllocError>
     ensures { OnOk result (string_bytes out.new ≡ string_bytes out.old ++ scalar_text house.now style text.now) }
 {
     match style {

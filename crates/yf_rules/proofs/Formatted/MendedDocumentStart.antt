@@ -30,6 +30,7 @@ use Rattle.yf_emit.specs.declared.style.Style.{Style}
 use Rattle.yf_emit.specs.Layouts.Decorated.{rows_of, first_gap}
 use Rattle.yf_emit.specs.Layouts.Layout.{own_line_comments, source_of}
 use Rattle.yf_emit.specs.NormalForms.Normal.{setting_of}
+use Rattle.yf_emit.specs.Preservation.CommentsPlaced.{columns_in}
 use Rattle.yf_emit.proofs.Derived.ClearRows.{feed_follows}
 use Rattle.yf_emit.proofs.OutputLines.FormattedLines.{Formed, formed, formed_are, formed_lines}
 use Rattle.yf_emit.proofs.OutputLines.LaidLines.{LineIs, line_feed, line_text}
@@ -118,7 +119,7 @@ formed_kinds : {src : Table} {r : Lists} {s : Style} (w : IsFormatted src r s) �
 formed_kinds {s = s} w a =
     let m : Lists = w.formats.normal in
     let rows = rows_of m s w.formats.writes.trees in
-    laid_kinds (first_gap m rows) (source_of m rows) (own_line_comments (source_of m rows) rows) a.gap (all_kinds (setting_of m s) (is_bare m s) a.fit) a.decos
+    laid_kinds (columns_in w.formats) (first_gap (columns_in w.formats) m rows) (source_of m rows) (own_line_comments (source_of m rows) rows) a.gap (all_kinds (setting_of m s) (is_bare m s) a.fit) a.decos
 
 -- a line that begins with dashes as a marker is such a marker alone
 alone_there : {t : List ℕ} {l : Line} {x : List ℕ} → IsUtf8 t → LineIs t l x → LineKind x → ForbiddenLine t l.start → code t l.start ≡ 45 → IsAlone t l.start

@@ -119,14 +119,14 @@ module _ (src : Table) (s : Style) (trees : List DocumentTree) (Content : ℕ �
 
   item_set : {m : ℕ} (i : ℕ) (xs : Items) (y : NumberedNode) → SetItems src.text s Content m xs → Contains (items_from i xs) y → SetAt (m + s.indent) (m + s.indent) y.1
   item_set i no_items y no_set_items q = absurd (nothing_in y q)
-  item_set {m} i (item x xs) y (set_item a more) q =
+  item_set {m} i (item x xs) y (set_item o a more) q =
       ⊎_elim (λ (e : ◌≡◌ {A = NumberedNode} (i, x) y). subst (λ z. SetAt (m + s.indent) (m + s.indent) z) (ap (λ (p : NumberedNode). p.1) e) a)
       (λ (l : Contains (items_from (i + length (flat x)) xs) y). item_set (i + length (flat x)) xs y more l)
       (head_or_later (i, x) (items_from (i + length (flat x)) xs) y q)
 
   key_set : {m : ℕ} (i : ℕ) (ps : Pairs) (k v : NumberedNode) → SetPairs src.text s Content m ps → Contains (pairs_from i ps) (k, v) → SetAt (m + s.indent) (m + s.indent) k.1
   key_set i no_pairs k v no_set_pairs q = absurd (nothing_in (k, v) q)
-  key_set {m} i (pair x y ps) k v (set_pair free marked a b more) q =
+  key_set {m} i (pair x y ps) k v (set_pair o free marked a b more) q =
       let j = i + length (flat x) in
       ⊎_elim (λ (e : ◌≡◌ {A = NumberedPair} ((i, x), (j, y)) (k, v)). subst (λ z. SetAt (m + s.indent) (m + s.indent) z) (ap (λ (p : NumberedPair). p.0.1) e) a)
       (λ (l : Contains (pairs_from (j + length (flat y)) ps) (k, v)). key_set (j + length (flat y)) ps k v more l)
@@ -134,7 +134,7 @@ module _ (src : Table) (s : Style) (trees : List DocumentTree) (Content : ℕ �
 
   value_set : {m : ℕ} (i : ℕ) (ps : Pairs) (k v : NumberedNode) → SetPairs src.text s Content m ps → Contains (pairs_from i ps) (k, v) → SetValue src.text s Content m k.1 v.1
   value_set i no_pairs k v no_set_pairs q = absurd (nothing_in (k, v) q)
-  value_set {m} i (pair x y ps) k v (set_pair free marked a b more) q =
+  value_set {m} i (pair x y ps) k v (set_pair o free marked a b more) q =
       let j = i + length (flat x) in
       ⊎_elim (λ (e : ◌≡◌ {A = NumberedPair} ((i, x), (j, y)) (k, v)).
       subst (λ z. SetValue src.text s Content m k.1 z) (ap (λ (p : NumberedPair). p.1.1) e) (subst (λ z. SetValue src.text s Content m z y) (ap (λ (p : NumberedPair). p.0.1) e) (value_here free marked b)))

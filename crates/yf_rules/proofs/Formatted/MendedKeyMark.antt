@@ -90,7 +90,7 @@ module _ (t : List ℕ) (c : LayoutSetting) (trees : List DocumentTree) (Content
     items_free : {m : ℕ} (i column : ℕ) (xs : Items) (j : ℕ) → SetItems t c.style Content m xs → m ≡ column → ((y : NumberedNode) → Contains (items_from i xs) y → IsNodeOf trees y)
         → Contains (keys_of_items c i column xs) (j, true) → FreeKey j
     items_free i column no_items j no_set_items e f q = absurd (nothing_in (j, true) q)
-    items_free i column (item x xs) j (set_item a more) e f q =
+    items_free i column (item x xs) j (set_item o a more) e f q =
         let n = i + length (flat x) in
         ⊎_elim
         (λ (h : Contains (keys c i (inner_spot c.style column) x) (j, true)). node_free i (inner_spot c.style column) x j a (ap (λ k. k + c.style.indent) e) (f (i, x) (is_head (i, x) (items_from n xs))) h)
@@ -100,7 +100,7 @@ module _ (t : List ℕ) (c : LayoutSetting) (trees : List DocumentTree) (Content
     pairs_free : {m : ℕ} (i column : ℕ) (ps : Pairs) (j : ℕ) → SetPairs t c.style Content m ps → m ≡ column → ((k v : NumberedNode) → Contains (pairs_from i ps) (k, v) → IsNodeOf trees k)
         → ((k v : NumberedNode) → Contains (pairs_from i ps) (k, v) → IsNodeOf trees v) → Contains (keys_of_pairs c i column ps) (j, true) → FreeKey j
     pairs_free i column no_pairs j no_set_pairs e f g q = absurd (nothing_in (j, true) q)
-    pairs_free {m} i column (pair k v ps) j (set_pair free other a b more) e f g q =
+    pairs_free {m} i column (pair k v ps) j (set_pair o free other a b more) e f g q =
         let n = i + length (flat k) in
         let o = n + length (flat v) in
         let K = keys c i (key_spot c.style column k) k in

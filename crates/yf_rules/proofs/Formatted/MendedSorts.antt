@@ -21,6 +21,7 @@ use Rattle.yf_rules.specs.NothingToFix.{IsFormatted}
 use Rattle.yf_emit.proofs.Derived.RowKinds.{all_kinds}
 use Rattle.yf_emit.proofs.OutputLines.LeadRows.{all_leads}
 use Rattle.yf_emit.specs.Layouts.BareStart.{is_bare}
+use Rattle.yf_emit.specs.Preservation.CommentsPlaced.{columns_in}
 
 formed_sorts : {src : Table} {r : Lists} {s : Style} (w : IsFormatted src r s) → Lined (λ n l x. Sort src.text r.events src.lines n l x) 0 src.lines (formed_lines w.formats)
 formed_sorts {src} {r} {s} w =
@@ -28,8 +29,8 @@ formed_sorts {src} {r} {s} w =
     let m : Lists = w.formats.normal in
     let rows = rows_of m s w.formats.writes.trees in
     let cs = own_line_comments (source_of m rows) rows in
-    layout_sorted a.utf8 r.events src.lines (row_decos m rows) (gap_spread at_text_start cs rows) a.gap (gap_tidy at_text_start cs rows) a.rows (all_kinds (setting_of m s) (is_bare m s) a.fit)
-    (all_leads (setting_of m s) (is_bare m s) a.fit) (decos_spread (source_of m rows) cs rows) a.decos (decos_tidy (source_of m rows) cs rows) (reading_held w.utf8 w.formats w.reads).bodies
+    layout_sorted a.utf8 r.events src.lines (row_decos (columns_in w.formats) m rows) (gap_spread (columns_in w.formats) at_text_start cs rows) a.gap (gap_tidy (columns_in w.formats) at_text_start cs rows) a.rows (all_kinds (setting_of m s) (is_bare m s) a.fit)
+    (all_leads (setting_of m s) (is_bare m s) a.fit) (decos_spread (columns_in w.formats) (source_of m rows) cs rows) a.decos (decos_tidy (columns_in w.formats) (source_of m rows) cs rows) (reading_held w.utf8 w.formats w.reads).bodies
     (formed_are src.lines w.formats a w.lines)
 
 record LinedAt (P : ℕ → Line → List ℕ → Type 0) (k : ℕ) (xs : List (List ℕ)) (i : ℕ) (l : Line) : Type 0 where

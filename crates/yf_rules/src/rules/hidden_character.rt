@@ -7,8 +7,8 @@ ghost use Rattle.yf_rules.specs.RuleSets.HiddenCharacters as Hidden;
 ghost use Rattle.yf_rules.specs.RuleSets.HiddenCharacters.{QuotedPart};
 
 use crate::rule::{AllocError, FoundOffsets, Global, Reading, Src, Style, push_found};
-use crate::rules::byte_order_mark::{Cover, cover_to};
 pub use crate::rules::StyleRule::HiddenCharacter;
+use crate::rules::byte_order_mark::{Cover, cover_to};
 use yf_chars::hidden::is_hidden;
 use yf_chars::text::peek;
 use yf_emit::text::content_start::content_start;

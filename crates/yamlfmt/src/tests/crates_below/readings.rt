@@ -180,11 +180,11 @@ fn is_kept(kept: &Result<Option<String>, Fault>, wanted: &str) -> bool {
 }
 
 /// Whether there is a normal form, and it is printed so.
-fn is_printed(alloc: Global, normal: &Read, wanted: &str) -> bool {
+fn is_printed(alloc: Global, src: &Src, normal: &Read, wanted: &str) -> bool {
     let mut writer = Watched::new(Vec::new(alloc));
     match normal {
         Ok(normal) => {
-            print(alloc, normal, &Style::house(), &mut writer).is_ok()
+            print(alloc, src.text(), normal, &Style::house(), &mut writer).is_ok()
                 && writer.get_ref().as_slice() == wanted.as_bytes()
         }
         Err(_) => false,
@@ -203,7 +203,12 @@ fn is_told_of(alloc: Global, src: &Src, reading: &Reading, asked: Asked) -> bool
         Asked::Implicit(i, wanted) => {
             matches!(implicit_key(alloc, src, reading, i, &style), Ok(told) if told == wanted)
         }
-        Asked::Printed(wanted) => is_printed(alloc, &normal(alloc, src, reading, &style), wanted),
+        Asked::Printed(wanted) => is_printed(
+            alloc,
+            src,
+            &normal(alloc, src, reading, &style),
+            wanted,
+        ),
     }
 }
 

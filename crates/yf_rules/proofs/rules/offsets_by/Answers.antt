@@ -41,3 +41,6 @@ returns-in-RepeatedKeys c = subst (λ rule. IfOk c.offsets-in-RepeatedKeys.resul
 
 pub returns-in-KeyMark : goal.returns-in-KeyMark
 returns-in-KeyMark c = subst (λ rule. IfOk c.offsets-in-KeyMark.result (λ found. (definition_of rule).faults c.args.src.now c.args.reading.now c.args.style.now found.items)) (sym c.in-KeyMark.is) c.offsets-in-KeyMark.ensures
+
+pub returns-in-HiddenCharacter : goal.returns-in-HiddenCharacter
+returns-in-HiddenCharacter c = subst (λ rule. IfOk c.offsets-in-HiddenCharacter.result (λ found. (definition_of rule).faults c.args.src.now c.args.reading.now c.args.style.now found.items)) (sym c.in-HiddenCharacter.is) c.offsets-in-HiddenCharacter.ensures

@@ -1,0 +1,35 @@
+-- Columns in a text that is read: of an offset before which nothing but characters of a class is on its line.
+use Rattle.std.specs.Prelude.{ℕ, zero, suc, ◌-◌, Bool, true, false, ◌==◌, ◌||◌, if◌then◌else◌, List, [], ◌∷◌, option_map, Option, Some, None}
+use Rattle.yf_chars.specs.Class.{is_break_char, is_white}
+use Rattle.yf_chars.specs.Signs.{BYTE_ORDER_MARK}
+use Rattle.yf_chars.specs.Text.{code}
+
+-- white space, and the signs of entries
+abbrev pub is_sign : ℕ → Bool
+is_sign c = (c == 45) || ((c == 63) || (c == 58))
+
+abbrev pub is_white_or_sign : ℕ → Bool
+is_white_or_sign c = is_white c || is_sign c
+
+abbrev pub counts : Bool → ℕ → Bool
+counts true = is_white_or_sign
+counts false = is_white
+
+-- after a character, where mark is the one that ends with it if it is a byte order mark: a line begins after a break and after a mark
+abbrev pub column_after : (ℕ → Bool) → ℕ → ℕ → Option ℕ → Option ℕ
+column_after p c mark column =
+    if is_break_char c then Some 0 else if p c then option_map suc column else if mark == BYTE_ORDER_MARK then Some 0 else None
+
+-- how many characters of the class are between the start of the line and the offset; None where others are there too
+unfoldable pub column_by : (ℕ → Bool) → List ℕ → ℕ → Option ℕ
+column_by p t zero = Some 0
+column_by p t (suc i) = column_after p (code t i) (code t (i - 2)) (column_by p t i)
+
+-- of what is alone on its line, but for white space before it
+abbrev pub own_column : List ℕ → ℕ → Option ℕ
+own_column t i = column_by is_white t i
+
+-- of the first entry of a collection, where that has an offset
+abbrev pub source_column : List ℕ → List ℕ → Option ℕ
+source_column t [] = None
+source_column t (i ∷ is) = column_by is_white_or_sign t i
