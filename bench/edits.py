@@ -6,7 +6,7 @@ Usage: bench/edits.py            writes the page
 
 An edit, crates/NAME/must-fail/*.edit, has one line `# promise: TEXT`; edits with one text share a row. What no edit shows stands in
 docs/proving/promises.txt, a line `NAME, tab, TEXT, tab, what holds it` for each promise. The last is `-` where there is nothing to
-hold, or begins with `as ` where an edit of the crate answers for it, by the same clause. With or without --check it fails where
+hold, or begins with `as ` where an edit of the crate answers for it, by the same clause, or one `of` another crate, by a clause that holds it. With or without --check it fails where
 
 - an edit has no promise, or two; or its `old:` text isn't in its file exactly once;
 - a function in backticks isn't in the sources of the crate that promises it;
@@ -112,7 +112,8 @@ def others(wrong):
         holders = re.findall('`([^`]+)`', held)
         if held != '-' and not holders:
             wrong.append(f'{PROMISES}:{number}: what holds it is named in backticks')
-        edit_of = crate if held.startswith('as ') else None
+        other = re.search(r'` of (\w+)$', held)
+        edit_of = None if not held.startswith('as ') else other[1] if other else crate
         wrong.extend(f'{PROMISES}:{number}: there is no {holder}' for holder in holders if not is_there(holder, tests, edit_of))
         shown = 'nothing to hold' if held == '-' else held if edit_of else 'none: ' + held
         rows.setdefault(crate, []).append((promise, shown))

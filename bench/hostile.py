@@ -119,7 +119,7 @@ shape('deep-comments', lambda n: '- ' * 1000 + 'a\n' + '#\n' * max(1, n // 2 - 2
 # comments at 1,000 columns, falling and rising, each of a block of its own
 shape('deep-comments-in-blocks', lambda n: '- ' * 1000 + 'a\n' + ''.join(' ' * (2 * abs(999 - k % 1998)) + '#\n'
                                                                                 for k in range(max(1, n // 1000 - 4))), 1000)
-# each comment is compared with all that is open, where comments keep their blocks
+# each comment is looked for among all that is open, where comments keep their blocks
 shape('deep-comments-at-margin', lambda n: '- ' * 1000 + 'a\n' + '#\n' * max(1, n // 2 - 1000) + '- b\n')
 shape('deep-wide-flow-comment', lambda n: '[' * 1000 + 'a,' * max(1, n // 2 - 1000) + ' #\n' + ']' * 1000 + '\n', 1001)
 

@@ -117,9 +117,9 @@ def run(words, path, good):
 PHASES = {
     'events': (('reading the stream', 'yf_stream::stream::read_stream'), ('writing the lines', 'yf_events::notation::write_events')),
     'check': (('the table of lines', 'yf_lines::table::LineTable::build'), ('reading the stream', 'yf_stream::stream::read_stream'),
-              ('the rules', 'yf_rules::rules::offsets_by')),
-    'fmt': (('reading the stream', 'yf_stream::stream::read_stream'), ('measuring the nodes', 'yf_emit::form::measure::measure_text'),
-            ('deciding their forms', 'yf_emit::form::decide::decide')),
+              ('the rules', 'yf_rule_sets::rules::offsets_by')),
+    'fmt': (('reading the stream', 'yf_stream::stream::read_stream'), ('measuring the nodes', 'yf_forms::form::measure::measure_text'),
+            ('deciding their forms', 'yf_forms::form::decide::decide')),
 }
 
 

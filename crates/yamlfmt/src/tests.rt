@@ -2,6 +2,7 @@
 //! proved twice.
 
 mod answer;
+mod answer_rows;
 mod answers;
 mod check;
 mod command_line;

@@ -6,7 +6,7 @@ use std::alloc::{AllocError, Global};
 use std::mem;
 use yf_chars::utf8::check_utf8;
 use yf_emit::format::format;
-use yf_emit::style::Style;
+use yf_forms::style::Style;
 use yf_events::notation::write_events;
 use yf_events::reading::Reading;
 use yf_lines::fault::Fault;

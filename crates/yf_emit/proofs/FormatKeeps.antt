@@ -2,7 +2,7 @@
 -- form, and a second run changes nothing.
 use Rattle.std.proofs.Common.{List, ℕ}
 use Rattle.std.specs.Str.{IsUtf8}
-use Rattle.yf_emit.specs.declared.style.Style.{Style}
+use Rattle.yf_forms.specs.declared.style.Style.{Style}
 use Rattle.yf_emit.specs.Format.{IsFormatting}
 use Rattle.yf_emit.specs.FormatPromises.{FormatKept}
 use Rattle.yf_emit.proofs.SecondRun.FixedLawsHold.{formats_normal}

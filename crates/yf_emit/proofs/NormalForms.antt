@@ -1,8 +1,3 @@
--- `normal`: the normal form of a reading, which is settled, and the only one
-pub mod RestyledLemmas
-pub mod NormalLemmas
-pub mod NormalSteps
-pub mod NormalInPlace
 pub mod StyledTwice
 pub mod SettledTwice
 pub mod SettledForms

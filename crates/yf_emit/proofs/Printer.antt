@@ -1,8 +1,4 @@
--- `layout`: the pass of the printer prints the rows of the layout
-pub mod BlockLemmas
 pub mod ColumnsFed
-pub mod DraftLemmas
-pub mod PrintLemmas
 pub mod SkipLemmas
 pub mod FeedLemmas
 pub mod FedLemmas

@@ -1,12 +1,12 @@
 -- the definitions by small readings
-mod Examples
-mod ShownComments
-mod ShownCore
-mod ShownDecos
-mod ShownKeys
-mod ShownLayouts
-mod ShownMatch
-mod ShownNodes
-mod ShownScalars
-mod ShownSize
-mod ShownTidy
+pub mod Examples
+pub mod ShownComments
+pub mod ShownCore
+pub mod ShownDecos
+pub mod ShownKeys
+pub mod ShownLayouts
+pub mod ShownMatch
+pub mod ShownNodes
+pub mod ShownScalars
+pub mod ShownSize
+pub mod ShownTidy

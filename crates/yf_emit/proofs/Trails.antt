@@ -1,6 +1,3 @@
--- `find_trails`: the comments that trail are those of the layout
-pub mod TrailLemmas
-pub mod LeafTrailLemmas
 pub mod LeafMarks
 pub mod TrailChoice
 pub mod TrailRuns

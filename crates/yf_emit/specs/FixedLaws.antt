@@ -3,10 +3,10 @@ use Rattle.std.specs.Prelude.{ℕ, List}
 use Rattle.std.specs.Str.{IsUtf8}
 use Rattle.yf_events.specs.declared.lists.Lists.{Lists}
 use Rattle.yf_stream.specs.ReadingOf.{ReadingOf}
-use Rattle.yf_emit.specs.declared.style.Style.{Style}
+use Rattle.yf_forms.specs.declared.style.Style.{Style}
 use Rattle.yf_emit.specs.Format.{IsFormatting}
 use Rattle.yf_emit.specs.Laws.{IsUnchanged}
-use Rattle.yf_emit.specs.NormalForms.Normal.{Normal}
+use Rattle.yf_forms.specs.NormalForms.Normal.{Normal}
 
 -- the reading of u is its own normal form in the style
 abbrev pub IsNormalText : Style → List ℕ → Type 0

@@ -1,9 +1,9 @@
 -- What formatting a text gives.
 use Rattle.std.specs.Prelude.{ℕ, List}
 use Rattle.yf_events.specs.declared.lists.Lists.{Lists}
-use Rattle.yf_emit.specs.declared.style.Style.{Style}
+use Rattle.yf_forms.specs.declared.style.Style.{Style}
 use Rattle.yf_emit.specs.Layouts.Layout.{IsLayout}
-use Rattle.yf_emit.specs.NormalForms.Normal.{Normal}
+use Rattle.yf_forms.specs.NormalForms.Normal.{Normal}
 use Rattle.yf_stream.specs.ReadingOf.{ReadingOf}
 
 -- u is the layout of the normal form of the reading of t

@@ -6,8 +6,8 @@ use Rattle.yf_events.specs.declared.lists.Lists.{Lists}
 use Rattle.yf_stream.specs.ReadingOf.{ReadingOf}
 use Rattle.yf_stream.specs.Stream.{Documents}
 use Rattle.yf_stream.specs.WellFormed.{ReadsWithoutBreach}
-use Rattle.yf_emit.specs.declared.style.Style.{Style}
-use Rattle.yf_emit.specs.Layouts.BareStart.{is_bare}
+use Rattle.yf_forms.specs.declared.style.Style.{Style}
+use Rattle.yf_print.specs.Layouts.BareStart.{is_bare}
 use Rattle.yf_emit.specs.Layouts.RowComments.{TrailsFit}
 use Rattle.yf_emit.specs.Layouts.Decorated.{rows_of}
 use Rattle.yf_emit.specs.Layouts.FitDocuments.{DocumentsMeant}

@@ -1,6 +1,6 @@
 -- What is proved of what formatting gives.
 use Rattle.std.specs.Prelude.{◌≡◌, ℕ, List}
-use Rattle.yf_emit.specs.declared.style.Style.{Style}
+use Rattle.yf_forms.specs.declared.style.Style.{Style}
 use Rattle.yf_emit.specs.FixedLaws.{IsNormalText}
 use Rattle.yf_emit.specs.Format.{IsFormatting}
 use Rattle.yf_emit.specs.Keeps.{Keeps}

@@ -1,6 +1,6 @@
 -- What formatting leaves as it was, said as people mean it: u is a formatting of the text t.
 use Rattle.std.specs.Prelude.{ℕ, List}
-use Rattle.yf_emit.specs.declared.style.Style.{Style}
+use Rattle.yf_forms.specs.declared.style.Style.{Style}
 use Rattle.yf_emit.specs.Preservation.CommentsPlaced.{CommentsPlaced}
 use Rattle.yf_emit.specs.Preservation.EmptyTexts.{IsEmptyAlike}
 use Rattle.yf_emit.specs.Preservation.LayoutKey.{DependsOnKey}

@@ -1,12 +1,2 @@
--- a node on one line: its text, width and style, and where its content begins
-pub mod OneLine
-pub mod OneLineFlows
-pub mod ScalarStyles
-pub mod ContentStart
-pub mod BlockLines
 pub mod BlockValues
-pub mod FlowTexts
-pub mod FlowsAlone
-pub mod ImplicitKeys
-pub mod SingleAnswers
 pub mod FlowsWithoutComments

@@ -1,9 +1,2 @@
--- the normal form of a reading
-pub mod Normal
 pub mod NormalForm
-pub mod Forms
-pub mod Measures
-pub mod Packed
 pub mod OfText
-pub mod Textual
-pub mod Restyled

@@ -7,14 +7,14 @@ ghost use Rattle.yf_stream.specs.ReadingOf.{ReadingOf};
 ghost use Rattle.yf_stream.specs.StreamReader.{StreamFault};
 ghost use Rattle.yf_stream.specs.declared.stream.TheConstants.{LONGEST};
 
-use crate::form::decide::decide;
-use crate::form::measure::measure_text;
-use crate::normal::normalized;
-use crate::print::layout::layout_by;
-use crate::style::Style;
 use std::alloc::{AllocError, Global};
 use yf_events::reading::Reading;
+use yf_forms::form::decide::decide;
+use yf_forms::form::measure::measure_text;
+use yf_forms::normal::normalized;
+use yf_forms::style::Style;
 use yf_lines::fault::Fault;
+use yf_print::layout::layout_by;
 use yf_stream::stream::read_stream;
 
 /// The text of a reading of the text in the house style. The normal form has the forms of the reading, and where its nodes end and their first

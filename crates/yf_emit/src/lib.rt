@@ -1,9 +1,6 @@
-//! The house style: in which of the forms that YAML allows a stream is written.
+//! The house style: formatting a text, and what is proved of it.
 #![tactic(auto)]
 
-pub mod form;
 pub mod format;
 pub mod normal;
 pub mod print;
-pub mod style;
-pub mod text;

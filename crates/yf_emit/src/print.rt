@@ -2,26 +2,19 @@
 ghost use Rattle.std.specs.Prelude.{IfErr, OnOk};
 ghost use Rattle.yf_emit.specs.Passes.WriterAfterPrint.{RefusedPrint, WroteMade};
 
-pub(crate) mod bare;
 pub mod layout;
-pub(crate) mod leaf_trails;
-pub(crate) mod leaves;
-pub(crate) mod looks;
-pub mod open_blocks;
-pub mod output;
-pub(crate) mod printer;
 pub mod trails;
 
 use crate::print::layout::layout;
-use crate::style::Style;
 use std::alloc::{AllocError, Global};
 use yf_events::reading::Reading;
+use yf_forms::style::Style;
 use yf_lines::fault::Fault;
 use yf_lines::output::write_text;
 use yf_lines::watched::Sink;
 
 /// Writes a normal reading, which is one that `normal` gave for this style, in the house style: its layout, with nothing beside it. The text
-/// is the one that was read.
+/// is the one that was read, by whose columns comments keep their blocks where the style asks for that.
 /// Of a reading that is not the normal form of a text's reading, it writes what one pass over its events prints of it. Nothing is
 /// written before all memory that is needed has been granted.
 ///

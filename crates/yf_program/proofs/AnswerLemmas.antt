@@ -3,9 +3,9 @@ use Rattle.std.proofs.Common.{◌≡◌, ◌∙◌, ◌∷◌, ◌++◌, ◌+◌
 use Rattle.std.specs.Prelude.{max}
 use Rattle.std.proofs.Math.Seq.{take-suc}
 use Rattle.std.proofs.lemmas.List.{take_all}
-use Rattle.yf_emit.specs.declared.style.Style.{Style}
+use Rattle.yf_forms.specs.declared.style.Style.{Style}
 use Rattle.yf_rules.specs.AllRules.{Are, FoundWithout, all_rules}
-use Rattle.yf_rules.specs.Definition.{RuleDefinition}
+use Rattle.yf_rule_sets.specs.Definition.{RuleDefinition}
 use Rattle.yf_rules.proofs.Findings.AllRulesLemmas.{ByValues, refused_by_all, told_by_all}
 use Rattle.yf_program.specs.Answer.{DoesEach, DoesFile, DoesIn, DoesNamed, DoesOver, Input, RewriteClaim, ToldNamed}
 use Rattle.yf_program.specs.Answer.DoesEach.{one_done, one_more}

@@ -11,10 +11,10 @@ use Rattle.yf_events.specs.declared.lists.Lists.{Lists}
 use Rattle.yf_lines.specs.Lines.{Table}
 use Rattle.yf_rules.specs.Asked.{asked}
 use Rattle.yf_rules.specs.Check.{CheckAnswer, RuleFindings}
-use Rattle.yf_rules.specs.Definition.{RuleDefinition}
+use Rattle.yf_rule_sets.specs.Definition.{RuleDefinition}
 use Rattle.yf_rules.specs.declared.finding.Finding.{Finding}
 use Rattle.yf_rules.specs.declared.run.TheConstants.{INPUT_LIMIT}
-use Rattle.yf_emit.specs.declared.style.Style.{Style}
+use Rattle.yf_forms.specs.declared.style.Style.{Style}
 use Rattle.yf_rules.specs.Runs.Compare.{IsClean}
 use Rattle.yf_rules.specs.Runs.Diffed.{DiffRun}
 use Rattle.yf_rules.specs.Runs.Run.{Gave}

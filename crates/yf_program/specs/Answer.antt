@@ -5,9 +5,9 @@
 use Rattle.std.specs.Prelude.{◌≡◌, ◌≢◌, ◌⊎◌, ◌++◌, ◌∷◌, ℕ, max, List, [], Bool, true, false, Option, Some, None}
 use Rattle.std.specs.Io.KnownBytes.{Keeps}
 use Rattle.clap.specs.Words.{Text}
-use Rattle.yf_emit.specs.declared.style.Style.{Style}
-use Rattle.yf_emit.specs.declared.style.CommentColumns.TheVariants.{Next}
-use Rattle.yf_emit.specs.declared.style.DocumentStart.TheVariants.{Always}
+use Rattle.yf_forms.specs.declared.style.Style.{Style}
+use Rattle.yf_forms.specs.declared.style.CommentColumns.TheVariants.{Next}
+use Rattle.yf_forms.specs.declared.style.DocumentStart.TheVariants.{Always}
 use Rattle.yf_lines.specs.declared.invisible.Invisible.TheVariants.{Plain}
 use Rattle.yf_lines.specs.declared.quotes.Quotes.TheVariants.{Double}
 use Rattle.yf_lines.specs.declared.fault.Fault.{Fault}

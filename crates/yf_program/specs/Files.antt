@@ -1,7 +1,7 @@
 -- What is promised of a file that is rewritten in the house style, and what is told where it is not.
 use Rattle.std.specs.Prelude.{◌≡◌, ◌⊎◌, ℕ, List, Bool, Option, Result, Ok, Err, MatchResult, codes}
 use Rattle.std.specs.Str.{IsUtf8, IsValidUpTo}
-use Rattle.yf_emit.specs.declared.style.Style.{Style}
+use Rattle.yf_forms.specs.declared.style.Style.{Style}
 use Rattle.yf_files.specs.Replaced.{AtAnyMoment}
 use Rattle.yf_files.specs.Rewritten.{IsFormatting, IsUntouched, LeavesRefused, Rewrote, WhyRefused, new_name_of}
 use Rattle.yf_files.specs.Tree.{FilesState}

@@ -6,11 +6,11 @@ use Rattle.std.specs.Cmp.Lexicographic.{slice_cmp}
 use Rattle.toml.specs.Data.{Data, string, integer, as_bool, Members, get_member}
 use Rattle.toml.specs.Parse.{parse_document}
 use Rattle.toml.specs.Errors.{IsBlank}
-use Rattle.yf_emit.specs.declared.style.CommentColumns.{CommentColumns}
-use Rattle.yf_emit.specs.declared.style.CommentColumns.TheVariants.{Block, Next}
-use Rattle.yf_emit.specs.declared.style.DocumentStart.{DocumentStart}
-use Rattle.yf_emit.specs.declared.style.DocumentStart.TheVariants.{Always, Keep}
-use Rattle.yf_emit.specs.declared.style.Style.{Style}
+use Rattle.yf_forms.specs.declared.style.CommentColumns.{CommentColumns}
+use Rattle.yf_forms.specs.declared.style.CommentColumns.TheVariants.{Block, Next}
+use Rattle.yf_forms.specs.declared.style.DocumentStart.{DocumentStart}
+use Rattle.yf_forms.specs.declared.style.DocumentStart.TheVariants.{Always, Keep}
+use Rattle.yf_forms.specs.declared.style.Style.{Style}
 use Rattle.yf_lines.specs.declared.invisible.Invisible.{Invisible}
 use Rattle.yf_lines.specs.declared.invisible.Invisible.TheVariants.{Plain, Escaped}
 use Rattle.yf_lines.specs.declared.quotes.Quotes.{Quotes}

@@ -12,7 +12,7 @@ use crate::further::report_settings;
 use crate::inputs::Inputs;
 use crate::program::{answer_usage, read_style, written_out};
 use std::alloc::Global;
-use yf_emit::style::Style;
+use yf_forms::style::Style;
 use yf_lines::fault::Fault;
 use yf_lines::text::OwnedText;
 use yf_lines::watched::Sink;

@@ -14,7 +14,7 @@ use crate::named::named_lines;
 use crate::program::{GOOD, run};
 use crate::report::report;
 use std::alloc::Global;
-use yf_emit::style::Style;
+use yf_forms::style::Style;
 use yf_files::RewriteError;
 use yf_lines::fault::Fault;
 use yf_lines::output::write_text;

@@ -11,7 +11,7 @@ use std::fs::File;
 use std::rt::Files;
 use yf_chars::utf8::{BadByte, check_utf8};
 use yf_emit::format::format;
-use yf_emit::style::Style;
+use yf_forms::style::Style;
 use yf_files::{FileSystem, Formatter, MemoryFiles, ReplaceError, RewriteError};
 use yf_lines::fault::Fault;
 use yf_lines::output::write_text;

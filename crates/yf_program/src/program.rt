@@ -12,7 +12,7 @@ use crate::report::report;
 use crate::settings::{no_key, style_from_toml};
 use std::alloc::Global;
 use yf_chars::utf8::check_utf8;
-use yf_emit::style::Style;
+use yf_forms::style::Style;
 use yf_lines::fault::Fault;
 use yf_lines::output::write_text;
 use yf_lines::text::OwnedText;

@@ -5,14 +5,14 @@ ghost use Rattle.toml.specs.Data.{get_member};
 ghost use Rattle.toml.specs.View.{view, table_view};
 ghost use Rattle.yf_program.specs.Settings.{number_between, indent_of, max_line_of, quotes_of, seq_indent_of, document_start_of, comments_of, invisible_of, is_right, IsRight, IsLeastWrong};
 ghost use Rattle.yf_program.specs.Settings.{setting, SetsStyle, RefusesSettings, StyleOfTable};
-ghost use Rattle.yf_emit.specs.declared.style.CommentColumns.TheVariants.{Next};
-ghost use Rattle.yf_emit.specs.declared.style.DocumentStart.TheVariants.{Always};
+ghost use Rattle.yf_forms.specs.declared.style.CommentColumns.TheVariants.{Next};
+ghost use Rattle.yf_forms.specs.declared.style.DocumentStart.TheVariants.{Always};
 ghost use Rattle.yf_lines.specs.declared.invisible.Invisible.TheVariants.{Plain};
 ghost use Rattle.yf_lines.specs.declared.quotes.Quotes.TheVariants.{Double};
 
 use std::alloc::Global;
 use toml::{Table, Value};
-use yf_emit::style::{CommentColumns, DocumentStart, Style};
+use yf_forms::style::{CommentColumns, DocumentStart, Style};
 use yf_lines::fault::Fault;
 use yf_lines::invisible::Invisible;
 use yf_lines::quotes::Quotes;

@@ -9,7 +9,7 @@ use Rattle.yf_stream.proofs.LawsHold.{read_texts_have_no_fault, readings_are_the
 use Rattle.yf_stream.proofs.Offsets.NestedStreams.{reading_nests}
 use Rattle.yf_emit.specs.Format.{IsFormatting}
 use Rattle.yf_emit.specs.FormatPromises.{FormatKept}
-use Rattle.yf_emit.specs.declared.style.Style.{Style}
+use Rattle.yf_forms.specs.declared.style.Style.{Style}
 use Rattle.yf_emit.proofs.FormatKeeps.{format_keeps}
 use Rattle.yf_emit.proofs.SameReading.FormatLawsHold.{formats_exist}
 use Rattle.yf_emit.proofs.Derived.FormatsRead.{formats_well}
@@ -20,13 +20,13 @@ use Rattle.yf_rules.specs.Check.CheckAnswer.{checked}
 use Rattle.yf_rules.specs.Check.FindingsOf.{at_places}
 use Rattle.yf_rules.specs.Check.InOrder.{no_rules, one_more}
 use Rattle.yf_rules.specs.declared.finding.Finding.{Finding}
-use Rattle.yf_rules.specs.declared.rules.StyleRule.{StyleRule}
+use Rattle.yf_rule_sets.specs.declared.rules.StyleRule.{StyleRule}
 use Rattle.yf_rules.specs.Headline.{Headline, IsMended, RefusedTextsHaveNoReading, StandardTextsAreFormatted}
 use Rattle.yf_rules.specs.NothingToFix.{IsFormatted, NoneFixable}
-use Rattle.yf_rules.specs.RuleSets.Places.{PlacesOf}
-use Rattle.yf_rules.specs.RuleSets.Places.FoundAt.{found_at}
+use Rattle.yf_rule_sets.specs.RuleSets.Places.{PlacesOf}
+use Rattle.yf_rule_sets.specs.RuleSets.Places.FoundAt.{found_at}
 use Rattle.yf_rules.specs.CheckAfterFormat.{FormattedTextsAreClean}
-use Rattle.yf_rules.specs.RuleOf.{definition_of}
+use Rattle.yf_rule_sets.specs.RuleOf.{definition_of}
 use Rattle.yf_rules.specs.Runs.Run.{Gave, FormattingGiven}
 use Rattle.yf_stream.specs.declared.stream.TheConstants.{LONGEST}
 use Rattle.yf_rules.specs.declared.run.TheConstants.{INPUT_LIMIT}

@@ -4,12 +4,6 @@ pub mod HeadlineHolds
 pub mod RulesMended
 -- `check`: what rules find, as findings at positions
 pub mod Findings
--- what is known of texts, lines and readings, for several rules
-pub mod Texts
--- each rule but indentation: what its pass finds is its set
-pub mod RuleSets
--- indentation: what its passes find is its set
-pub mod Indentation
 -- in what formatting gives nothing is at fault that the house style fixes (`Mended`)
 pub mod Formatted
 -- what the runs read and write: `run_fmt`, `run_fmt_check`, `run_fmt_diff`

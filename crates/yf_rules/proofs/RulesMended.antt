@@ -3,12 +3,12 @@ use Rattle.std.proofs.Common.{◌≡◌, ℕ, true, true≢false, List, [], Ok, 
 use Rattle.std.specs.Prelude.{IfOk}
 use Rattle.yf_events.specs.declared.lists.Lists.{Lists}
 use Rattle.yf_lines.specs.Lines.{Table}
-use Rattle.yf_emit.specs.declared.style.Style.{Style}
-use Rattle.yf_rules.specs.Definition.{RuleDefinition}
-use Rattle.yf_rules.specs.declared.rules.StyleRule.{StyleRule}
-use Rattle.yf_rules.specs.declared.rules.StyleRule.TheVariants.{TrailingBlanks, Indentation, Quoting, DocumentStart, FinalBreak, LineBreaks, ByteOrderMark, BlankLines, FlowLayout, CommentSpace, LineLength, RepeatedKeys, KeyMark, HiddenCharacter}
+use Rattle.yf_forms.specs.declared.style.Style.{Style}
+use Rattle.yf_rule_sets.specs.Definition.{RuleDefinition}
+use Rattle.yf_rule_sets.specs.declared.rules.StyleRule.{StyleRule}
+use Rattle.yf_rule_sets.specs.declared.rules.StyleRule.TheVariants.{TrailingBlanks, Indentation, Quoting, DocumentStart, FinalBreak, LineBreaks, ByteOrderMark, BlankLines, FlowLayout, CommentSpace, LineLength, RepeatedKeys, KeyMark, HiddenCharacter}
 use Rattle.yf_rules.specs.NothingToFix.{FormatsAreMended, IsFormatted}
-use Rattle.yf_rules.specs.RuleOf.{definition_of}
+use Rattle.yf_rule_sets.specs.RuleOf.{definition_of}
 use Rattle.yf_rules.proofs.Formatted.MendedTrailingBlanks.{trailing_blanks_mended}
 use Rattle.yf_rules.proofs.Formatted.MendedFlowLayout.{flow_layout_mended}
 use Rattle.yf_rules.proofs.Formatted.MendedCommentSpace.{comment_space_mended}

@@ -1,3 +1,3 @@
 -- the definitions by small readings
 pub mod ShownMarks
-mod ShownKeys
+pub mod ShownKeys

@@ -1,16 +1,16 @@
 -- All rules of style, and when values are those rules.
 use Rattle.std.specs.Prelude.{◌≡◌, ℕ, List, [], ◌∷◌, ⊤, map}
 use Rattle.std.specs.List.{Contains}
-use Rattle.yf_emit.specs.declared.style.Style.{Style}
+use Rattle.yf_forms.specs.declared.style.Style.{Style}
 use Rattle.yf_events.specs.declared.lists.Lists.{Lists}
 use Rattle.yf_lines.specs.Lines.{Table}
-use Rattle.yf_rules.specs.declared.rules.StyleRule.{StyleRule}
-use Rattle.yf_rules.specs.declared.rules.StyleRule.TheVariants.{TrailingBlanks, Indentation, Quoting, DocumentStart, FinalBreak, LineBreaks, ByteOrderMark, BlankLines, FlowLayout, CommentSpace, LineLength, RepeatedKeys, KeyMark, HiddenCharacter}
+use Rattle.yf_rule_sets.specs.declared.rules.StyleRule.{StyleRule}
+use Rattle.yf_rule_sets.specs.declared.rules.StyleRule.TheVariants.{TrailingBlanks, Indentation, Quoting, DocumentStart, FinalBreak, LineBreaks, ByteOrderMark, BlankLines, FlowLayout, CommentSpace, LineLength, RepeatedKeys, KeyMark, HiddenCharacter}
 use Rattle.yf_rules.specs.declared.finding.Finding.{Finding}
 use Rattle.yf_rules.specs.Asked.{asked}
 use Rattle.yf_rules.specs.Check.{CheckAnswer, RuleFindings}
-use Rattle.yf_rules.specs.Definition.{RuleDefinition}
-use Rattle.yf_rules.specs.RuleOf.{definition_of}
+use Rattle.yf_rule_sets.specs.Definition.{RuleDefinition}
+use Rattle.yf_rule_sets.specs.RuleOf.{definition_of}
 
 -- all rules, in the order of their numbers
 abbrev pub all_rules : List StyleRule

@@ -2,7 +2,7 @@
 use Rattle.std.specs.Prelude.{ℕ, Bool, not, List, filter}
 use Rattle.std.specs.List.{list_any}
 use Rattle.std.specs.Str.{bytes_eq}
-use Rattle.yf_rules.specs.Definition.{RuleDefinition}
+use Rattle.yf_rule_sets.specs.Definition.{RuleDefinition}
 
 -- the name is one of these
 abbrev pub is_among : List (List ℕ) → List ℕ → Bool

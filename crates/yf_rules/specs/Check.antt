@@ -7,10 +7,10 @@ use Rattle.yf_lines.specs.declared.place.Position.{Position}
 use Rattle.std.specs.Borrow.{Bor}
 use Rattle.yf_lines.specs.Lines.{Table}
 use Rattle.yf_events.specs.declared.lists.Lists.{Lists}
-use Rattle.yf_emit.specs.declared.style.Style.{Style}
+use Rattle.yf_forms.specs.declared.style.Style.{Style}
 use Rattle.yf_rules.specs.declared.finding.Finding.{Finding}
-use Rattle.yf_rules.specs.Definition.{RuleDefinition}
-use Rattle.yf_rules.specs.RuleSets.Places.{FoundAt}
+use Rattle.yf_rule_sets.specs.Definition.{RuleDefinition}
+use Rattle.yf_rule_sets.specs.RuleSets.Places.{FoundAt}
 
 -- the finding at a place
 abbrev pub finding_at : ℕ → Bor (List ℕ) → Bool → Position → Finding

@@ -12,10 +12,10 @@ use Rattle.yf_stream.specs.ReadingOf.{ReadingOf}
 use Rattle.yf_stream.specs.StreamReader.{StreamFault, TheReading}
 use Rattle.yf_standard.specs.Acceptance.{IsStandardText}
 use Rattle.yf_emit.specs.FormatPromises.{FormatKept}
-use Rattle.yf_emit.specs.declared.style.Style.{Style}
-use Rattle.yf_rules.specs.Definition.{RuleDefinition}
-use Rattle.yf_rules.specs.RuleOf.{definition_of}
-use Rattle.yf_rules.specs.declared.rules.StyleRule.{StyleRule}
+use Rattle.yf_forms.specs.declared.style.Style.{Style}
+use Rattle.yf_rule_sets.specs.Definition.{RuleDefinition}
+use Rattle.yf_rule_sets.specs.RuleOf.{definition_of}
+use Rattle.yf_rule_sets.specs.declared.rules.StyleRule.{StyleRule}
 use Rattle.yf_rules.specs.declared.run.TheConstants.{INPUT_LIMIT}
 
 -- nothing in u is at fault by the rule: in each table of its lines and each reading of it, each list of what is at fault is empty

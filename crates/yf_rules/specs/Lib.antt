@@ -1,9 +1,3 @@
--- The definitions, in folders.
--- the rules and what is proved of them, of a check and of the runs
-pub mod Definition
-pub mod Rules
-pub mod RuleOf
-pub mod Sets
 pub mod AllRules
 pub mod Asked
 pub mod Check
@@ -13,7 +7,3 @@ pub mod NothingToFix
 pub mod CheckAfterFormat
 -- what the runs are given, and what they give
 pub mod Runs
--- the set of each rule
-pub mod RuleSets
--- what a pass keeps on its way, for private clauses
-pub mod Passes

@@ -3,11 +3,11 @@ use Rattle.std.specs.Prelude.{◌≡◌, ℕ, true, false, List, []}
 use Rattle.std.specs.List.{Contains}
 use Rattle.std.specs.Str.{IsUtf8}
 use Rattle.yf_emit.specs.Format.{IsFormatting}
-use Rattle.yf_emit.specs.declared.style.Style.{Style}
+use Rattle.yf_forms.specs.declared.style.Style.{Style}
 use Rattle.yf_events.specs.declared.lists.Lists.{Lists}
 use Rattle.yf_lines.specs.Lines.{AreLines, Table}
 use Rattle.yf_rules.specs.declared.finding.Finding.{Finding}
-use Rattle.yf_rules.specs.Definition.{RuleDefinition}
+use Rattle.yf_rule_sets.specs.Definition.{RuleDefinition}
 use Rattle.yf_stream.specs.ReadingOf.{ReadingOf}
 
 -- the text of the table is what formatting some text gives in this style, these are its lines, and r is its reading

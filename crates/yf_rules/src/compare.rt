@@ -12,7 +12,7 @@ use std::alloc::{AllocError, Global};
 use yf_chars::text::peek;
 use yf_chars::utf8::{BadByte, check_utf8};
 use yf_emit::format::format;
-use yf_emit::style::Style;
+use yf_forms::style::Style;
 use yf_lines::fault::Fault;
 use yf_lines::output::write_texts;
 use yf_lines::place::Position;

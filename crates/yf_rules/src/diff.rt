@@ -11,7 +11,7 @@ use std::alloc::{AllocError, Global};
 use yf_chars::utf8::{BadByte, check_utf8};
 use yf_diff::diff::push_diff;
 use yf_emit::format::format;
-use yf_emit::style::Style;
+use yf_forms::style::Style;
 use yf_lines::fault::Fault;
 use yf_lines::output::write_text;
 use yf_lines::watched::{Sink, Source};

@@ -5,7 +5,6 @@ pub mod asked;
 pub mod check;
 pub mod compare;
 pub mod diff;
-pub mod facts;
 pub mod finding;
 pub mod headline;
 pub mod input;

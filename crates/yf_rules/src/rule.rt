@@ -1,15 +1,11 @@
 //! What a rule is.
 ghost use Rattle.std.specs.Prelude.{◌≡◌, ℕ, List, true, false, IfErr, IfOk};
-ghost use Rattle.yf_rules.specs.RuleSets.Places.{Ascending, PlacesOf};
+ghost use Rattle.yf_rule_sets.specs.RuleSets.Places.{Ascending, PlacesOf};
 
-pub use crate::facts::found::{listed, push_found};
-use crate::facts::places::known_positions;
-pub use std::alloc::{AllocError, Global};
-pub use yf_emit::style::Style;
-pub use yf_events::reading::Reading;
 use yf_lines::fault::Fault;
 use yf_lines::place::Position;
-pub use yf_lines::source_text::Src;
+pub use yf_rule_sets::facts::found::{AllocError, FoundOffsets, Global, Reading, Src, Style};
+use yf_rule_sets::facts::places::known_positions;
 
 /// What a rule is known by.
 #[derive(Clone, Copy)]
@@ -48,15 +44,12 @@ impl About {
     }
 }
 
-/// The byte offsets at fault, in any order, unless memory was refused.
-pub type FoundOffsets = Result<Vec<usize>, AllocError>;
-
-/// A rule of style. What it is says its definition, one of `specs/Rules.antt`.
+/// A rule of style. What it is says its definition; those of the house style are in `specs/Rules.antt` of yf_rule_sets.
 pub trait Rule: Drop {
     ghost use Rattle.std.specs.Prelude.{[]};
-    ghost use Rattle.yf_rules.specs.Definition.{RuleDefinition};
+    ghost use Rattle.yf_rule_sets.specs.Definition.{RuleDefinition};
     ghost use Rattle.yf_rules.specs.NothingToFix.{IsFormatted};
-    ghost use Rattle.yf_rules.specs.RuleSets.Places.{Ascending, FoundAt};
+    ghost use Rattle.yf_rule_sets.specs.RuleSets.Places.{Ascending, FoundAt};
 
     ghost definition: { Self → RuleDefinition };
 

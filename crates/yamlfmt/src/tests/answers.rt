@@ -3,8 +3,8 @@
 use std::alloc::{AllocError, Global};
 use std::io;
 use yf_emit::format::format;
-use yf_emit::style::Style;
 use yf_events::reading::Reading;
+use yf_forms::style::Style;
 use yf_lines::fault::Fault;
 use yf_lines::watched::{Sink, Source, Watched};
 use yf_program::command_line::{Cmd, Verb};

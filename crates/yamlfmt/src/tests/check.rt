@@ -8,7 +8,7 @@ use yf_rules::with_rules::{WithRules, with_all_rules};
 /// Settings, a text that is checked, the status, and what is found or why the text is refused.
 type Row = (&'static str, &'static str, u8, &'static str);
 
-static ROWS: [Row; 49] = [
+static ROWS: [Row; 50] = [
     ("", "- a\n- b\n", 1, "1:1 document-start (fixable)\n"),
     (
         "",
@@ -135,6 +135,13 @@ static ROWS: [Row; 49] = [
         "\u{FEFF}%A \u{A0}\n---\n- &\u{E000}a \"\u{200B}\"\n- *\u{E000}a\n- |\n  \u{3164}\n",
         1,
         "1:1 byte-order-mark (fixable)\n1:4 hidden-character\n3:4 hidden-character\n4:4 hidden-character\n6:3 hidden-character\n",
+    ),
+    // a collection that is too wide by the escapes of what is hidden
+    (
+        "invisible = \"escaped\"\nmax_line = 40\n",
+        "---\n\"\u{200B}\u{200B}\u{200B}\": [\"\u{200B}\", abcdefg]\n",
+        1,
+        "2:8 flow-layout (fixable)\n",
     ),
     ("invisible = \"plain\"\n", "---\na: \u{AD}\n", 0, ""),
     // where a comment is has nothing to do with the rules

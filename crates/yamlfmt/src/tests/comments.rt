@@ -3,7 +3,7 @@
 use crate::tests::answers::{Asked, is_run};
 
 /// Settings, a text, and what is written of it. That a second run changes nothing is in `laws`.
-pub static IN_BLOCKS: [(&str, &str, &str); 30] = [
+pub static IN_BLOCKS: [(&str, &str, &str); 56] = [
     (
         "comments = \"block\"",
         "a:\n  b: 1\n  # c\nd: 2\n",
@@ -163,11 +163,189 @@ pub static IN_BLOCKS: [(&str, &str, &str); 30] = [
         "  a:\n    b: 1\n# c\n  e: 1\n",
         "---\na:\n  b: 1\n# c\ne: 1\n",
     ),
+    // breaks of other kinds, a byte order mark, a tab before a comment
+    (
+        "comments = \"block\"",
+        "a:\r\n  b: 1\r\n  # c\r\nd: 2\r\n",
+        "---\na:\n  b: 1\n  # c\nd: 2\n",
+    ),
+    (
+        "comments = \"block\"",
+        "a:\r  b: 1\r  # c\r# d\r",
+        "---\na:\n  b: 1\n  # c\n# d\n",
+    ),
+    (
+        "comments = \"block\"",
+        "\u{feff}a:\n  b: 1\n  # c\nd: 2\n",
+        "---\na:\n  b: 1\n  # c\nd: 2\n",
+    ),
+    (
+        "comments = \"block\"",
+        "\u{feff}  # c\na: 1\n",
+        "# c\n---\na: 1\n",
+    ),
+    (
+        "comments = \"block\"",
+        "a:\n  b: 1\n...\n\u{feff}# c\n---\nd\n",
+        "---\na:\n  b: 1\n# c\n---\nd\n",
+    ),
+    (
+        "comments = \"block\"",
+        "a:\n  b: 1\n\t# c\nd: 2\n",
+        "---\na:\n  b: 1\n# c\nd: 2\n",
+    ),
+    (
+        "comments = \"block\"",
+        "a:\n  b: 1\n \t# c\nd: 2\n",
+        "---\na:\n  b: 1\n  # c\nd: 2\n",
+    ),
+    // steps of eight, and sequences at their keys
+    (
+        "comments = \"block\"\nindent = 8",
+        "a:\n  - b: 1\n    # c\n  # d\ne:\n  f:\n    # g: 1\nh: 1\n",
+        "---\na:\n        -       b: 1\n                # c\n        # d\ne:\n        f:\n                # g: 1\nh: 1\n",
+    ),
+    (
+        "comments = \"block\"\nindent = 8\nseq_indent = false",
+        "a:\n- b: 1\n  # c\n# d\n  # e\nf: 1\n",
+        "---\na:\n-       b: 1\n        # c\n# d\n        # e\nf: 1\n",
+    ),
+    (
+        "comments = \"block\"\nindent = 4",
+        "a:\n- b: 1\n  # c\n# d\n  # e\nf: 1\n",
+        "---\na:\n    -   b: 1\n        # c\n    # d\n        # e\nf: 1\n",
+    ),
+    // after each kind of block scalar, and an empty one
+    (
+        "comments = \"block\"",
+        "a:\n  - |\n    b\n  # c\n      # d\ne: 1\n",
+        "---\na:\n  - |\n    b\n  # c\n  # d\ne: 1\n",
+    ),
+    (
+        "comments = \"block\"",
+        "a:\n  - |-\n    b\n  # c\n      # d\ne: 1\n",
+        "---\na:\n  - |-\n    b\n  # c\n  # d\ne: 1\n",
+    ),
+    (
+        "comments = \"block\"",
+        "a:\n  - |+\n    b\n  # c\n      # d\ne: 1\n",
+        "---\na:\n  - |\n    b\n  # c\n  # d\ne: 1\n",
+    ),
+    (
+        "comments = \"block\"",
+        "a:\n  - >-\n    b\n# c\n      # d\ne: 1\n",
+        "---\na:\n  - >-\n    b\n# c\n  # d\ne: 1\n",
+    ),
+    (
+        "comments = \"block\"",
+        "a:\n  b: |\n  # c\nd: 1\n",
+        "---\na:\n  b: \"\"\n  # c\nd: 1\n",
+    ),
+    (
+        "comments = \"block\"",
+        "a:\n  b: |\n# c\nd: 1\n",
+        "---\na:\n  b: \"\"\n# c\nd: 1\n",
+    ),
+    // at the end of the text without a break, before `---`, before `...`
+    (
+        "comments = \"block\"",
+        "a:\n  b:\n    c: 1\n    # 1\n  # 2\n# 3",
+        "---\na:\n  b:\n    c: 1\n    # 1\n  # 2\n# 3\n",
+    ),
+    (
+        "comments = \"block\"",
+        "a:\n  b: 1\n  # 1\n# 2\n---\nc: 1\n",
+        "---\na:\n  b: 1\n  # 1\n# 2\n---\nc: 1\n",
+    ),
+    (
+        "comments = \"block\"",
+        "a:\n  b: 1\n# 1\n  # 2\n---\nc: 1\n",
+        "---\na:\n  b: 1\n# 1\n  # 2\n---\nc: 1\n",
+    ),
+    (
+        "comments = \"block\"",
+        "a:\n  b: 1\n  # c\n...\n%YAML 1.2\n---\nd\n",
+        "---\na:\n  b: 1\n  # c\n...\n%YAML 1.2\n---\nd\n",
+    ),
+    // blank lines are as they are
+    (
+        "comments = \"block\"",
+        "a:\n  b: 1\n\n\n  # c\n\nd: 1\n",
+        "---\na:\n  b: 1\n\n  # c\n\nd: 1\n",
+    ),
+    // with the other settings
+    (
+        "comments = \"block\"\ndocument_start = \"keep\"\nquotes = \"single\"\ninvisible = \"escaped\"",
+        "a:\n  b: \"x\\u202ey\"\n  # c\nd: 'e'\n",
+        "a:\n  b: \"x\\u202Ey\"\n  # c\nd: 'e'\n",
+    ),
+    // brackets over several lines: aligned with their first entry a comment stays so
+    (
+        "comments = \"block\"",
+        "a: [\n    b,\n    # c\n    d\n  ]\ne: 1\n",
+        "---\na:\n  - b\n  # c\n  - d\ne: 1\n",
+    ),
+    (
+        "comments = \"block\"",
+        "a: [\n    b,\n  # c\n    d\n  ]\ne: 1\n",
+        "---\na:\n  - b\n  # c\n  - d\ne: 1\n",
+    ),
+    // after the end of a document what it had open still is
+    (
+        "comments = \"block\"",
+        "a:\n  b: 1\n...\n  # c\n---\nd\n",
+        "---\na:\n  b: 1\n  # c\n---\nd\n",
+    ),
+    (
+        "comments = \"block\"\nseq_indent = false",
+        "a: [\n    b,\n    # c\n  ]\ne: 1\n",
+        "---\na:\n- b\n# c\ne: 1\n",
+    ),
+];
+
+/// The same of longer texts, which are not cut in `laws`: a chart, a deployment and a workflow.
+pub static MANIFESTS: [(&str, &str, &str); 6] = [
+    (
+        "comments = \"block\"\ndocument_start = \"keep\"",
+        "# Defaults of the chart.\nreplicas: 1\n\nimage:\n  name: web\n  # tag: latest\n\npodLabels: {}\n  # team: core\n\ningress:\n  enabled: false\n  annotations: {}\n    # kubernetes.io/ingress.class: nginx\n  hosts:\n    - host: example.org\n      paths:\n        - path: /\n  tls: []\n  #  - secretName: tls\n  #    hosts:\n  #      - example.org\n\nresources: {}\n  # limits:\n  #   cpu: 100m\n",
+        "# Defaults of the chart.\nreplicas: 1\n\nimage:\n  name: web\n  # tag: latest\n\npodLabels: {}\n  # team: core\n\ningress:\n  enabled: false\n  annotations: {}\n    # kubernetes.io/ingress.class: nginx\n  hosts:\n    - host: example.org\n      paths:\n        - path: /\n  tls: []\n  #  - secretName: tls\n  #    hosts:\n  #      - example.org\n\nresources: {}\n  # limits:\n  #   cpu: 100m\n",
+    ),
+    (
+        "comments = \"block\"\ndocument_start = \"keep\"\nseq_indent = false",
+        "kind: Deployment\nspec:\n  template:\n    spec:\n      containers:\n      - name: web\n        image: web:1\n        # args:\n        # - --verbose\n        ports:\n        - containerPort: 80\n        # livenessProbe:\n        #   httpGet:\n        #     path: /\n      # - name: sidecar\n      #   image: sidecar:1\n      volumes:\n      - name: data\n        emptyDir: {}\n      # tolerations:\n      # - key: a\n    # end of the template\n# end\n",
+        "kind: Deployment\nspec:\n  template:\n    spec:\n      containers:\n      - name: web\n        image: web:1\n        # args:\n        # - --verbose\n        ports:\n        - containerPort: 80\n        # livenessProbe:\n        #   httpGet:\n        #     path: /\n      # - name: sidecar\n      #   image: sidecar:1\n      volumes:\n      - name: data\n        emptyDir: {}\n      # tolerations:\n      # - key: a\n    # end of the template\n# end\n",
+    ),
+    (
+        "comments = \"block\"",
+        "kind: Deployment\nspec:\n  template:\n    spec:\n      containers:\n      - name: web\n        image: web:1\n        # args:\n        # - --verbose\n        ports:\n        - containerPort: 80\n        # livenessProbe:\n        #   httpGet:\n        #     path: /\n      # - name: sidecar\n      #   image: sidecar:1\n      volumes:\n      - name: data\n        emptyDir: {}\n      # tolerations:\n      # - key: a\n    # end of the template\n# end\n",
+        "---\nkind: Deployment\nspec:\n  template:\n    spec:\n      containers:\n        - name: web\n          image: web:1\n          # args:\n          # - --verbose\n          ports:\n            - containerPort: 80\n            # livenessProbe:\n            #   httpGet:\n            #     path: /\n        # - name: sidecar\n        #   image: sidecar:1\n      volumes:\n        - name: data\n          emptyDir: {}\n        # tolerations:\n        # - key: a\n    # end of the template\n# end\n",
+    ),
+    (
+        "comments = \"next\"\nseq_indent = false",
+        "kind: Deployment\nspec:\n  template:\n    spec:\n      containers:\n      - name: web\n        image: web:1\n        # args:\n        # - --verbose\n        ports:\n        - containerPort: 80\n        # livenessProbe:\n        #   httpGet:\n        #     path: /\n      # - name: sidecar\n      #   image: sidecar:1\n      volumes:\n      - name: data\n        emptyDir: {}\n      # tolerations:\n      # - key: a\n    # end of the template\n# end\n",
+        "---\nkind: Deployment\nspec:\n  template:\n    spec:\n      containers:\n      - name: web\n        image: web:1\n        # args:\n        # - --verbose\n        ports:\n        - containerPort: 80\n      # livenessProbe:\n      #   httpGet:\n      #     path: /\n      # - name: sidecar\n      #   image: sidecar:1\n      volumes:\n      - name: data\n        emptyDir: {}\n# tolerations:\n# - key: a\n# end of the template\n# end\n",
+    ),
+    (
+        "comments = \"block\"\nindent = 4",
+        "name: build\non:\n  push:\n    branches: [main]\n  # schedule:\n  #   - cron: \"0 0 * * *\"\njobs:\n    test:\n        runs-on: ubuntu-latest\n        # needs: lint\n        steps:\n            - uses: actions/checkout@v4\n            # - uses: actions/cache@v4\n            #   with:\n            #       path: target\n            - run: make test\n              # env:\n              #     CI: 1\n    # deploy:\n    #     runs-on: ubuntu-latest\n",
+        "---\nname: build\non:\n    push:\n        branches: [main]\n    # schedule:\n    #   - cron: \"0 0 * * *\"\njobs:\n    test:\n        runs-on: ubuntu-latest\n        # needs: lint\n        steps:\n            -   uses: actions/checkout@v4\n            # - uses: actions/cache@v4\n            #   with:\n            #       path: target\n            -   run: make test\n                # env:\n                #     CI: 1\n    # deploy:\n    #     runs-on: ubuntu-latest\n",
+    ),
+    (
+        "comments = \"block\"",
+        "name: build\non:\n  push:\n    branches: [main]\n  # schedule:\n  #   - cron: \"0 0 * * *\"\njobs:\n    test:\n        runs-on: ubuntu-latest\n        # needs: lint\n        steps:\n            - uses: actions/checkout@v4\n            # - uses: actions/cache@v4\n            #   with:\n            #       path: target\n            - run: make test\n              # env:\n              #     CI: 1\n    # deploy:\n    #     runs-on: ubuntu-latest\n",
+        "---\nname: build\non:\n  push:\n    branches: [main]\n  # schedule:\n  #   - cron: \"0 0 * * *\"\njobs:\n  test:\n    runs-on: ubuntu-latest\n    # needs: lint\n    steps:\n      - uses: actions/checkout@v4\n      # - uses: actions/cache@v4\n      #   with:\n      #       path: target\n      - run: make test\n        # env:\n        #     CI: 1\n  # deploy:\n  #     runs-on: ubuntu-latest\n",
+    ),
 ];
 
 #[test]
 fn comments_keep_their_blocks(rt: HostRuntime) {
     for (settings, input, text) in &IN_BLOCKS {
+        assert!(rt;
+            is_run(rt.alloc(), &[], &(Asked::Fmt, settings, input, 0, text)),
+            "{input}"
+        );
+    }
+    for (settings, input, text) in &MANIFESTS {
         assert!(rt;
             is_run(rt.alloc(), &[], &(Asked::Fmt, settings, input, 0, text)),
             "{input}"

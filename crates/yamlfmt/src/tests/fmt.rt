@@ -3,7 +3,7 @@
 use crate::tests::answers::{Asked, is_run};
 
 /// Settings, a text, and what is written of it. That a second run changes nothing is in `laws`.
-pub static FORMATTED: [(&str, &str, &str); 74] = [
+pub static FORMATTED: [(&str, &str, &str); 76] = [
     // sequences, documents, directives and markers:
     // a sequence
     ("", "- a\n- b\n", "---\n- a\n- b\n"),
@@ -300,6 +300,17 @@ pub static FORMATTED: [(&str, &str, &str); 74] = [
         "invisible = \"escaped\"",
         "a: \"\u{AD}\u{2003}\u{E000}\u{E0041}\u{A0}\u{85}\u{2028}\u{2007}\u{FEFF}\u{FE0F}\u{FFFE}\"\n",
         "---\na: \"\\u00AD\u{2003}\\uE000\\U000E0041\\xA0\\x85\\u2028\\u2007\\uFEFF\\uFE0F\\uFFFE\"\n",
+    ),
+    // the ends of the set, and what is beside them
+    (
+        "invisible = \"escaped\"",
+        "\"\u{84}\u{85}\u{86}\u{9F}\u{A0}\u{A1}\u{AC}\u{AD}\u{AE}\u{34E}\u{34F}\u{350}\u{61B}\u{61C}\u{61D}\u{115E}\u{115F}\u{1160}\u{1161}\u{17B3}\u{17B4}\u{17B5}\u{17B6}\u{180A}\u{180B}\u{180F}\u{1810}\u{2006}\u{2007}\u{2008}\u{200A}\u{200B}\u{200F}\u{2010}\u{2027}\u{2028}\u{2029}\u{202A}\u{202E}\u{202F}\u{2030}\u{205F}\u{2060}\u{206F}\u{2070}\u{3163}\u{3164}\u{3165}\u{E000}\u{F8FF}\u{F900}\u{FDFF}\u{FE00}\u{FE0F}\u{FE10}\u{FEFE}\u{FEFF}\u{FF00}\u{FF9F}\u{FFA0}\u{FFA1}\u{FFEF}\u{FFF0}\u{FFF8}\u{FFF9}\"\n",
+        "---\n\"\\x84\\x85\\x86\\x9F\\xA0\u{A1}\u{AC}\\u00AD\u{AE}\u{34E}\\u034F\u{350}\u{61B}\\u061C\u{61D}\u{115E}\\u115F\\u1160\u{1161}\u{17B3}\\u17B4\\u17B5\u{17B6}\u{180A}\\u180B\\u180F\u{1810}\u{2006}\\u2007\u{2008}\u{200A}\\u200B\\u200F\u{2010}\u{2027}\\u2028\\u2029\\u202A\\u202E\\u202F\u{2030}\u{205F}\\u2060\\u206F\u{2070}\u{3163}\\u3164\u{3165}\\uE000\\uF8FF\u{F900}\u{FDFF}\\uFE00\\uFE0F\u{FE10}\u{FEFE}\\uFEFF\u{FF00}\u{FF9F}\\uFFA0\u{FFA1}\u{FFEF}\\uFFF0\\uFFF8\u{FFF9}\"\n",
+    ),
+    (
+        "invisible = \"escaped\"",
+        "\"\u{1BC9F}\u{1BCA0}\u{1BCA3}\u{1BCA4}\u{1D172}\u{1D173}\u{1D17A}\u{1D17B}\u{DFFFF}\u{E0000}\u{E0FFF}\u{E1000}\u{EFFFF}\u{F0000}\u{FFFFD}\u{FFFFE}\u{FFFFF}\u{100000}\u{10FFFD}\u{10FFFE}\"\n",
+        "---\n\"\u{1BC9F}\\U0001BCA0\\U0001BCA3\u{1BCA4}\u{1D172}\\U0001D173\\U0001D17A\u{1D17B}\u{DFFFF}\\U000E0000\\U000E0FFF\u{E1000}\u{EFFFF}\\U000F0000\\U000FFFFD\u{FFFFE}\u{FFFFF}\\U00100000\\U0010FFFD\u{10FFFE}\"\n",
     ),
     // all others stay: in plain and block scalars, names and comments
     (

@@ -161,6 +161,13 @@ fn is_told(alloc: Global, row: &Row) -> bool {
         && is_run(alloc, &[], &(asked, "", formatted, 0, ""))
 }
 
+/// Settings, a text in which a character is hidden that they escape, and what is told of it.
+const HIDDEN: (&str, &str, &str) = (
+    "invisible = \"escaped\"",
+    "---\na: \"\u{200B}\"\n",
+    "2:5 not formatted\n",
+);
+
 /// A text that is refused, and what is said of it.
 const REFUSED: (&str, &str) = ("---\n- a\n- b: *x\n", "3:6 refused: unknown-alias\n");
 
@@ -169,6 +176,13 @@ fn tells_what_fmt_changes(rt: HostRuntime) {
     for row in &ROWS {
         assert!(rt; is_told(rt.alloc(), row), "{}", row.1);
     }
+    assert!(rt;
+        is_run(
+            rt.alloc(),
+            &[],
+            &(Asked::FmtCheck, HIDDEN.0, HIDDEN.1, 1, HIDDEN.2)
+        )
+    );
     for asked in [Asked::FmtCheck, Asked::FmtDiff] {
         assert!(rt; is_run(rt.alloc(), &[], &(asked, "", REFUSED.0, 2, REFUSED.1)));
     }

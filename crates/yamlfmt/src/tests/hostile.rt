@@ -4,7 +4,7 @@ use crate::tests::answers::{Answer, Asked, answer_over, answer_to, command};
 use crate::tests::events::{ACCEPTED, REFUSED};
 use crate::tests::faulty::{FaultyReader, FaultyWriter};
 use std::alloc::{AllocError, Global};
-use yf_emit::style::Style;
+use yf_forms::style::Style;
 use yf_lines::watched::{Sink, Source, Watched};
 use yf_program::program::run;
 use yf_rules::rule::Rule;

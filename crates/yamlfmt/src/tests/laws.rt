@@ -3,12 +3,12 @@
 ghost use Rattle.std.specs.Prelude.{◌≤◌};
 
 use crate::tests::answers::{formatted, reading_of};
-use crate::tests::comments::IN_BLOCKS;
+use crate::tests::comments::{IN_BLOCKS, MANIFESTS};
 use crate::tests::fmt::FORMATTED;
 use std::alloc::{AllocError, Global};
-use yf_emit::style::{CommentColumns, DocumentStart, Style};
 use yf_events::content::Content;
 use yf_events::reading::Reading;
+use yf_forms::style::{CommentColumns, DocumentStart, Style};
 use yf_lines::fault::Fault;
 use yf_lines::invisible::Invisible;
 use yf_lines::quotes::Quotes;
@@ -284,6 +284,9 @@ fn laws_of_cuts(rt: HostRuntime) {
 #[test]
 fn laws_of_comments(rt: HostRuntime) {
     for (_, text, _) in &IN_BLOCKS {
+        assert!(rt; laws_hold(rt.alloc(), text, false), "{text}");
+    }
+    for (_, text, _) in &MANIFESTS {
         assert!(rt; laws_hold(rt.alloc(), text, false), "{text}");
     }
 }

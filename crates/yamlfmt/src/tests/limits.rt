@@ -2,7 +2,7 @@
 
 use crate::tests::answers::{Asked, Repeated, answer_to, is_run, repeated};
 use std::alloc::{AllocError, Global};
-use yf_emit::style::Style;
+use yf_forms::style::Style;
 
 /// Streams that hold a long key or many open collections, and the line of the fault, where there is one. Reading ends at the
 /// opener of the one that is too many; what is wrong before it is told in its place.
@@ -79,22 +79,50 @@ static NESTED_LINES: [(&str, usize, &str); 8] = [
     ("k: v", 1030, "2:3 refused: syntax\n"),
 ];
 
-/// Streams with long keys and deep sequences, and what is written of them.
-static LONG: [(Repeated, Repeated); 5] = [
+/// Settings, streams with long keys and deep sequences, and what is written of them.
+static LONG: [(&str, Repeated, Repeated); 8] = [
     (
+        "",
         ("", "k", 1023, ": v\n", 1),
         ("---\n", "k", 1023, ": v\n", 1),
     ),
     (
+        "",
         ("", "k", 1024, ": v\n", 1),
         ("---\n? ", "k", 1024, "\n: v\n", 1),
     ),
     (
+        "",
         ("{", "k", 1025, ": v}\n", 1),
         ("---\n? ", "k", 1025, "\n: v\n", 1),
     ),
-    (("", "- ", 1024, "a\n", 1), ("---\n", "- ", 1024, "a\n", 1)),
-    (("", "[", 1024, "]", 1024), ("---\n", "- ", 1023, "[]\n", 1)),
+    (
+        "",
+        ("", "- ", 1024, "a\n", 1),
+        ("---\n", "- ", 1024, "a\n", 1),
+    ),
+    (
+        "",
+        ("", "[", 1024, "]", 1024),
+        ("---\n", "- ", 1023, "[]\n", 1),
+    ),
+    // a key that is too long by its escapes, which are six characters each
+    (
+        "invisible = \"escaped\"",
+        ("\"", "\u{200B}", 170, "\": v\n", 1),
+        ("---\n\"", "\\u200B", 170, "\": v\n", 1),
+    ),
+    (
+        "invisible = \"escaped\"",
+        ("\"", "\u{200B}", 171, "\": v\n", 1),
+        ("---\n? \"", "\\u200B", 171, "\"\n: v\n", 1),
+    ),
+    // comments after 1,024 sequences on one line
+    (
+        "comments = \"block\"",
+        ("", "- ", 1024, "a\n# b\n", 1),
+        ("---\n", "- ", 1024, "a\n# b\n", 1),
+    ),
 ];
 
 /// Whether a text is refused with that line, or accepted where there is none.
@@ -122,18 +150,55 @@ fn nested_lines(alloc: Global, line: &str, count: usize) -> Result<String, Alloc
     Ok(text)
 }
 
+/// A text of so many lines, each indented by two spaces more than the line before, and a comment in the block of each, and in that of the last
+/// key's value, the innermost first.
+fn nested_comments(alloc: Global, count: usize) -> Result<String, AllocError> {
+    let mut text = String::new(alloc);
+    for level in 0..count {
+        for _ in 0..level {
+            text.push_str("  ")?;
+        }
+        text.push_str("k:\n")?;
+    }
+    for level in 0..count {
+        for _ in level..count {
+            text.push_str("  ")?;
+        }
+        text.push_str("# c\n")?;
+    }
+    Ok(text)
+}
+
+/// Whether comments in so many blocks stay where they are.
+fn keeps_blocks(alloc: Global, count: usize) -> bool {
+    match &nested_comments(alloc, count) {
+        Ok(text) => is_run(
+            alloc,
+            &[],
+            &(
+                Asked::Fmt,
+                "comments = \"block\"\ndocument_start = \"keep\"",
+                text.as_str(),
+                0,
+                text.as_str(),
+            ),
+        ),
+        Err(AllocError) => false,
+    }
+}
+
 /// Whether the formatter writes the second text of the first one, and of itself.
-fn formats(alloc: Global, input: &Repeated, text: &Repeated) -> bool {
+fn formats(alloc: Global, settings: &str, input: &Repeated, text: &Repeated) -> bool {
     match (&repeated(alloc, input), &repeated(alloc, text)) {
         (Ok(input), Ok(text)) => {
             is_run(
                 alloc,
                 &[],
-                &(Asked::Fmt, "", input.as_str(), 0, text.as_str()),
+                &(Asked::Fmt, settings, input.as_str(), 0, text.as_str()),
             ) && is_run(
                 alloc,
                 &[],
-                &(Asked::Fmt, "", text.as_str(), 0, text.as_str()),
+                &(Asked::Fmt, settings, text.as_str(), 0, text.as_str()),
             )
         }
         _ => false,
@@ -157,7 +222,8 @@ fn counts_characters_of_keys_and_open_collections(rt: HostRuntime) {
             "{part} {count}"
         );
     }
-    for (input, text) in &LONG {
-        assert!(rt; formats(rt.alloc(), input, text), "{}", text.0);
+    for (settings, input, text) in &LONG {
+        assert!(rt; formats(rt.alloc(), settings, input, text), "{}", text.0);
     }
+    assert!(rt; keeps_blocks(rt.alloc(), 1024));
 }

@@ -1,8 +1,8 @@
 //! A file in memory that is rewritten, where a call fails, and where the run or the machine stops at each moment.
 
 use std::alloc::Global;
-use yf_emit::style::Style;
 use yf_files::{FileSystem, MemoryFiles, ReplaceError, RewriteError};
+use yf_forms::style::Style;
 use yf_lines::fault::Fault;
 use yf_program::files::rewrite_in;
 

@@ -2,7 +2,7 @@
 
 use crate::tests::answers::{Asked, is_run};
 use std::alloc::Global;
-use yf_emit::style::{CommentColumns, DocumentStart};
+use yf_forms::style::{CommentColumns, DocumentStart};
 use yf_lines::invisible::Invisible;
 use yf_lines::quotes::Quotes;
 use yf_program::settings::style_from_toml;

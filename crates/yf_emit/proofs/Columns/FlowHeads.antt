@@ -16,6 +16,8 @@ use Rattle.yf_grammar.specs.Productions.Grammar.Derives.{an_alias, a_plain, a_pl
 use Rattle.yf_grammar.specs.Productions.Meaning.{Meaning, alias_to, meaning_after, collection, empty_node, event_with, first_with, from_to, plain_event, scalar as scalar_meaning, span_since, start_of, with_props}
 use Rattle.yf_grammar.proofs.NodesInText.MeantLemmas.{entered}
 use Rattle.yf_emit.specs.Layouts.ReadableTrees.{FitProps, no_fit_props, some_fit_props}
+use Rattle.yf_chars.proofs.Tests.{some_none}
+use Rattle.yf_emit.proofs.Writable.PropsFits.{props_some}
 
 -- whether a flow collection begins with the event, and with which properties
 abbrev pub opens_flow : EventValue → Bool
@@ -66,15 +68,6 @@ json_head {t} (a_collection {j = j} series b o m d e) f = record { span = refl; 
 
 -- With properties.
 
-some_none : {A : Type 0} {a : A} → Some a ≡ None → ⊥
-some_none e = cc
-
-props_there : {t : List ℕ} {n : ℤ} {c : Ctx} {i j : ℕ} {p : PropertiesValue} → Properties t n c i j p → p.props ≢ no_props
-props_there (by_tag x) e = some_none (ap (λ (p : PropsValue). p.tag) e)
-props_there (by_anchor x) e = some_none (ap (λ (p : PropsValue). p.anchor) e)
-props_there (tag_first x r y) e = some_none (ap (λ (p : PropsValue). p.tag) e)
-props_there (anchor_first x r y) e = some_none (ap (λ (p : PropsValue). p.tag) e)
-
 flow_with : (props : PropsValue) (e : EventValue) → opens_flow (event_with props e) ≡ opens_flow e
 flow_with props stream_starts = refl
 flow_with props stream_ends = refl
@@ -116,7 +109,7 @@ node_head u (a_plain_with q s a) f = absurd (true≢false (sym f))
 node_head u (properties_alone b q) f = absurd (true≢false (sym f))
 node_head u (a_json d) f = json_head d f
 node_head u (a_json_with {i = i} {g = g} {k = k} {j = j} {p = p} {x = x} q s d) f =
-    with_head p.props p.tag_offset i g k j x.events (some_fit_props (props_made u q) (props_there q)) (λ z. json_head d z) f
+    with_head p.props p.tag_offset i g k j x.events (some_fit_props (props_made u q) (props_some q)) (λ z. json_head d z) f
 
 -- Trees.
 

@@ -4,6 +4,7 @@ use Rattle.std.specs.Str.{IsUtf8}
 use Rattle.yf_chars.specs.Class.{is_white_or_end}
 use Rattle.yf_chars.specs.Text.{code}
 use Rattle.std.specs.Prelude.{not, ◌&&◌, if◌then◌else◌}
+use Rattle.std.proofs.lemmas.Option.{same_Some}
 use Rattle.yf_events.specs.Event.{EventInText, document_starts, document_ends, stream_starts, stream_ends, scalar_node}
 use Rattle.yf_events.specs.Tree.{Node, Items, Pairs, DocumentTree, TreesOf, unplaced, flat, flat_document, standing}
 use Rattle.yf_events.specs.declared.document.Doc.{Doc}
@@ -16,8 +17,8 @@ use Rattle.yf_stream.specs.ReadingOf.{DocumentEvents, no_document, one_document,
 use Rattle.yf_stream.specs.Stream.{Document, Documents}
 use Rattle.yf_emit.specs.Layouts.Decorated.{body_then}
 use Rattle.yf_emit.specs.Format.{IsFormatting}
-use Rattle.yf_emit.specs.declared.style.Style.{Style}
-use Rattle.yf_emit.specs.NormalForms.Normal.{is_implicit, value_entries}
+use Rattle.yf_forms.specs.declared.style.Style.{Style}
+use Rattle.yf_forms.specs.NormalForms.Normal.{is_implicit, value_entries}
 use Rattle.yf_emit.proofs.SecondRun.AlikeLemmas.{same_implicit, same_sequence}
 use Rattle.yf_emit.proofs.Derived.FormatsRead.{formats_laid}
 use Rattle.yf_emit.proofs.OutputLines.HeldLemmas.{ScalarAt}
@@ -27,9 +28,6 @@ use Rattle.yf_emit.proofs.Columns.SetNodes.{Blockless, BlocklessItems, Blockless
 use Rattle.yf_emit.proofs.Columns.SetStreams.{SetAll, none_set, some_set}
 
 -- Kept nodes.
-
-some_one : {e f : Entry} → Some e ≡ Some f → e ≡ f
-some_one e = cc
 
 mutual
   kept_line : {x y : Node} → Kept x y → Blockless x → Blockless y
@@ -56,7 +54,7 @@ module _ {t : List ℕ} where
     go : SameEntry (standing x).entry (standing y).entry → EntryOn t m y
     go (no_entry e f) = let no : None ≡ Some o.entry = sym e ∙ o.is in absurd cc
     go (same_entry e b f g) =
-        let one : o.entry ≡ e = some_one (sym o.is ∙ f) in
+        let one : o.entry ≡ e = same_Some _ _ (sym o.is ∙ f) in
         let start : o.entry.start ≡ e.start = ap (λ (w : Entry). w.start) one in
         record { entry = record e { blank_before = b }; is = g; column = subst (λ i. ColumnAt t m i) start o.column }
 
@@ -65,7 +63,7 @@ module _ {t : List ℕ} where
     go : SameEntry (standing x).entry (standing y).entry → Unquestioned t y
     go (no_entry e f) = let no : None ≡ Some o.entry = sym e ∙ o.is in absurd cc
     go (same_entry e b f g) =
-        let one : o.entry ≡ e = some_one (sym o.is ∙ f) in
+        let one : o.entry ≡ e = same_Some _ _ (sym o.is ∙ f) in
         let start : o.entry.start ≡ e.start = ap (λ (w : Entry). w.start) one in
         record { entry = record e { blank_before = b }; is = g; none = λ c d. o.none (ap (code t) start ∙ c) (ap (λ i. is_white_or_end (code t (i + 1))) start ∙ d) }
 
@@ -74,7 +72,7 @@ module _ {t : List ℕ} where
     go : SameEntry (standing x).entry (standing y).entry → Questioned t y
     go (no_entry e f) = let no : None ≡ Some o.entry = sym e ∙ o.is in absurd cc
     go (same_entry e b f g) =
-        let one : o.entry ≡ e = some_one (sym o.is ∙ f) in
+        let one : o.entry ≡ e = same_Some _ _ (sym o.is ∙ f) in
         let start : e.start ≡ o.entry.start = ap (λ (w : Entry). w.start) (sym one) in
         record { entry = record e { blank_before = b }; is = g; sign = ap (code t) start ∙ o.sign; white = ap (λ i. is_white_or_end (code t (i + 1))) start ∙ o.white }
 

@@ -17,9 +17,13 @@ use Rattle.yf_lines.specs.LineText.{AllNb, IsLineText}
 use Rattle.yf_lines.specs.Rest.{Rest}
 use Rattle.yf_lines.proofs.ClearLemmas.{Quiet, quiet_nothing, quiet_join}
 use Rattle.yf_lines.proofs.RestLemmas.{line_ascii, line_nothing, rest_char, rest_text}
-use Rattle.yf_emit.specs.Nodes.OneLine.{width}
+use Rattle.yf_forms.specs.Nodes.OneLine.{width}
 use Rattle.yf_emit.proofs.Texts.LineUtf8.{line_utf8}
-use Rattle.yf_emit.proofs.Texts.WidthLemmas.{width_head}
+use Rattle.yf_forms.proofs.Texts.WidthLemmas.{width_head}
+use Rattle.yf_chars.proofs.Tests.{below}
+use Rattle.yf_chars.proofs.CharBounds.{visible_nb}
+use Rattle.yf_chars.proofs.CharFacts.{return_no_nb}
+use Rattle.yf_emit.proofs.Writable.GapPasses.{no_return}
 
 -- m characters are between the start of the line and the offset, and in them no line starts
 pub record OnLine (t : List ℕ) (m i : ℕ) : Type 0 where
@@ -38,13 +42,6 @@ line_begins {t} {p} s = record { line = p; start = s; before = []; run = done; w
 
 -- Characters in a row.
 
-no_return : is_nb_char 13 ≡ false
-unfolding is_nb_char is_printable is_between is_break_char
-no_return = refl
-
-nb_no_return : (c : ℕ) → is_nb_char c ≡ true → c ≢ 13
-nb_no_return c e q = true≢false (sym e ∙ (ap is_nb_char q ∙ no_return))
-
 record Counted (t : List ℕ) (q j n : ℕ) : Type 0 where
   meaning : List ℕ
   run : Many t is_nb_char q j meaning
@@ -54,7 +51,7 @@ counted : {t : List ℕ} (cs : List ℕ) (q : ℕ) (r : List ℕ) → IsUtf8 t �
 counted {t} [] q r u a s = record { meaning = []; run = subst (λ w. Many t is_nb_char q w []) (sym (add-zero q)) done; count = refl }
 counted {t} (c ∷ cs) q r u a s =
     let here : Rest t q (encode c ++ (encodes cs ++ r)) = subst (λ w. Rest t q w) (append_assoc (encode c) (encodes cs) r) s in
-    let got = rest_char c u (nb_no_return c a.0) here in
+    let got = rest_char c u (no_return c a.0) here in
     let more = counted cs (q + len_utf8 c) r u a.1 got.1 in
     let there : q + len_utf8 c + length (encodes cs) ≡ q + length (encode c ++ encodes cs) = omega (arith, length-append (encode c) (encodes cs), length-encode c) in
     let nb : is_nb_char (code t q) ≡ true = ap is_nb_char got.0.char ∙ a.0 in
@@ -92,12 +89,6 @@ on_more {t} {m} {i} w r u text a s =
     }
 
 -- a sign
-visible_nb : (c : ℕ) → 32 ≤ c → c < 127 → is_nb_char c ≡ true
-unfolding is_nb_char is_printable is_between is_break_char
-visible_nb c l h = grind (arith, nat_tests)
-
-below : (m n : ℕ) → m < n → nat_lt m n ≡ true
-below m n l = grind (arith, nat_tests)
 
 one_char : (c : ℕ) → c < 128 → width (c ∷ []) ≡ 1
 one_char c l = width_head c [] (below c 128 l) ∙ ap suc (ap length chars-nil)

@@ -20,15 +20,15 @@ use Rattle.yf_grammar.specs.Productions.TreesOfMeaning.{Anywhere, MeansTrees}
 use Rattle.yf_grammar.proofs.NodesInText.MeantLemmas.{entered, entered_events}
 use Rattle.yf_emit.specs.Layouts.Decorated.{body_then}
 use Rattle.yf_emit.specs.Layouts.ReadableTrees.{is_block_style}
-use Rattle.yf_emit.specs.declared.style.Style.{Style}
-use Rattle.yf_emit.specs.NormalForms.Normal.{is_implicit, value_entries}
+use Rattle.yf_forms.specs.declared.style.Style.{Style}
+use Rattle.yf_forms.specs.NormalForms.Normal.{is_implicit, value_entries}
 use Rattle.yf_emit.proofs.SecondRun.AlikeLemmas.{same_implicit, same_sequence}
 use Rattle.yf_emit.proofs.Columns.FlowEvents.{AllFlow, MeansFlow, blockless}
 use Rattle.yf_emit.proofs.RowNodes.FoundNodes.{alike_entered}
 use Rattle.yf_emit.proofs.OutputLines.HeldLemmas.{Holds, here, there, ScalarAt, ScalarHeld}
 use Rattle.yf_emit.proofs.Columns.SetNodes.{Blockless, ColumnAt, entries_after, EntryOn, Questioned, SetFirst, set_first, SetFirstPair, set_first_pair, SetItems, no_set_items, set_item, SetNode, set_line, set_scalar, set_sequence, set_mapping, SetPairs, no_set_pairs, set_pair, Unquestioned}
 use Rattle.yf_emit.proofs.Columns.SourceColumns.{column_line, column_one, column_spaces, sign_breaks, signs_low, space_signs}
-use Rattle.yf_emit.specs.Layouts.SourceColumns.{is_white_or_sign}
+use Rattle.yf_print.specs.Layouts.SourceColumns.{is_white_or_sign}
 use Rattle.std.specs.Str.{IsUtf8}
 
 -- the lines of a block scalar are at a column

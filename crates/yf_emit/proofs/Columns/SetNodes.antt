@@ -1,6 +1,7 @@
 -- Trees whose block collections have their entries at the columns of the layout: so the trees of what is laid out are to be found.
 use Rattle.std.proofs.Common.{◌≡◌, ℕ, ◌+◌, ◌<◌, ◌≤◌, Bool, true, false, true≢false, List, [], ◌∷◌, Some, refl, sym, ◌∙◌, subst}
 use Rattle.std.specs.Prelude.{◌&&◌, not, if◌then◌else◌}
+use Rattle.std.proofs.lemmas.Option.{same_Some}
 use Rattle.yf_chars.specs.Class.{is_white_or_end}
 use Rattle.yf_chars.specs.Text.{code}
 use Rattle.yf_lines.specs.Basic.{LineStart}
@@ -9,9 +10,9 @@ use Rattle.yf_events.specs.declared.event.Entry.{Entry}
 use Rattle.yf_events.specs.declared.event.ScalarStyle.{ScalarStyle}
 use Rattle.yf_events.specs.Tree.{NodeOffsets, Node, scalar, alias, sequence, mapping, Items, no_items, item, Pairs, no_pairs, pair, DocumentTree, is_block_collection, is_sequence, standing}
 use Rattle.yf_emit.specs.Layouts.ReadableTrees.{is_block_style}
-use Rattle.yf_emit.specs.NormalForms.Normal.{is_implicit, value_entries}
-use Rattle.yf_emit.specs.declared.style.Style.{Style}
-use Rattle.yf_emit.specs.Layouts.SourceColumns.{column_by, is_white_or_sign}
+use Rattle.yf_forms.specs.NormalForms.Normal.{is_implicit, value_entries}
+use Rattle.yf_forms.specs.declared.style.Style.{Style}
+use Rattle.yf_print.specs.Layouts.SourceColumns.{column_by, is_white_or_sign}
 
 -- the offset is so many columns right of where a line starts, after signs and spaces of one byte
 pub record ColumnAt (t : List ℕ) (m i : ℕ) : Type 0 where
@@ -95,12 +96,9 @@ pub data SetValue (t : List ℕ) (s : Style) (Content : ℕ → Node → Type 0)
   inside : (s.seq_indent ≡ false → is_block_collection v ≡ true → is_sequence v ≡ true → Unquestioned t k → ⊥) → SetNode t s Content (m + s.indent) (m + s.indent) v
       → SetValue t s Content m k v
 
-same_entry : {a b : Entry} → Some a ≡ Some b → a ≡ b
-same_entry e = cc
-
 questioned_not : {t : List ℕ} {k : Node} → Questioned t k → Unquestioned t k → ⊥
 questioned_not {t} a b =
-    let one : a.entry ≡ b.entry = same_entry (sym a.is ∙ b.is) in
+    let one : a.entry ≡ b.entry = same_Some _ _ (sym a.is ∙ b.is) in
     b.none (subst (λ (e : Entry). code t e.start ≡ 63) one a.sign) (subst (λ (e : Entry). is_white_or_end (code t (e.start + 1)) ≡ true) one a.white)
 
 -- a node that is no block collection has no entries at a column

@@ -4,7 +4,7 @@ use Rattle.yf_comments.specs.Comment.{CommentValue}
 use Rattle.yf_events.specs.declared.directive.Directive.{Directive}
 use Rattle.yf_grammar.specs.Productions.Meaning.{Meaning}
 use Rattle.yf_stream.specs.Stream.{Document, document_of, Documents, with_document}
-use Rattle.yf_emit.specs.declared.style.Style.{Style}
+use Rattle.yf_forms.specs.declared.style.Style.{Style}
 use Rattle.yf_emit.proofs.Columns.SetMeant.{SetDone}
 
 pub data SetAll (t : List ℕ) (s : Style) : List Document → Type 0 where

@@ -12,7 +12,8 @@ use Rattle.yf_chars.specs.Text.{code, next}
 use Rattle.yf_lines.specs.Basic.{Break, LineStart, Spaces}
 use Rattle.yf_lines.specs.Basic.LineStart.{after_break, after_mark, at_text}
 use Rattle.yf_lines.specs.Basic.Break.{cr_lf, lone_cr, lone_lf}
-use Rattle.yf_emit.specs.Layouts.SourceColumns.{column_after, column_by, is_white_or_sign}
+use Rattle.yf_print.specs.Layouts.SourceColumns.{column_after, column_by, is_white_or_sign}
+use Rattle.yf_chars.proofs.CharFacts.{space_white}
 
 -- after one character
 column_step : (t : List ℕ) (i : ℕ) {c : ℕ} (p : ℕ → Bool) → code t i ≡ c → column_by p t (i + 1) ≡ column_after p c (code t (i - 2)) (column_by p t i)
@@ -66,10 +67,6 @@ space_breaks = refl
 -- after spaces
 pub column_spaces : {t : List ℕ} {i m n : ℕ} (p : ℕ → Bool) → p 32 ≡ true → Spaces t i n → column_by p t i ≡ Some m → column_by p t (i + n) ≡ Some (m + n)
 column_spaces {t} {i} {m} {n} p q s e = column_run t p i m n (λ k l. (ap is_break_char (s.each k l) ∙ space_breaks, ap p (s.each k l) ∙ q)) e
-
-pub space_white : is_white 32 ≡ true
-unfolding is_white
-space_white = refl
 
 pub space_signs : is_white_or_sign 32 ≡ true
 unfolding is_white

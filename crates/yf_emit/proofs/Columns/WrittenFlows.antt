@@ -16,10 +16,10 @@ use Rattle.yf_props.specs.Written.{props_at, props_bytes}
 use Rattle.yf_events.specs.Tree.{Node, scalar, alias, sequence, mapping, no_items, item, no_pairs, pair, props_of}
 use Rattle.yf_grammar.proofs.WrittenTexts.LeafBack.{propertied}
 use Rattle.yf_grammar.proofs.NodesInText.NodePlaces.{content_alone}
-use Rattle.yf_emit.specs.declared.style.Style.{Style}
-use Rattle.yf_emit.specs.Nodes.ContentStart.{content_start}
+use Rattle.yf_forms.specs.declared.style.Style.{Style}
+use Rattle.yf_forms.specs.Nodes.ContentStart.{content_start}
 use Rattle.yf_emit.specs.Layouts.ReadableTrees.{FitProps, no_fit_props, some_fit_props}
-use Rattle.yf_emit.specs.Nodes.OneLine.{bare, props_text, spaced, written}
+use Rattle.yf_forms.specs.Nodes.OneLine.{bare, props_text, spaced, written}
 use Rattle.yf_emit.proofs.Writable.ContentFound.{content_found, content_starts_are_found}
 use Rattle.yf_emit.proofs.Columns.FlowHeads.{is_bracketed}
 use Rattle.yf_emit.proofs.RowNodes.FoundNodes.{NodeText}

@@ -7,10 +7,10 @@ use Rattle.yf_props.specs.Props.{PropsValue}
 use Rattle.yf_events.specs.declared.event.ScalarStyle.{ScalarStyle}
 use Rattle.yf_events.specs.declared.event.Span.{Span}
 use Rattle.yf_events.specs.Tree.{NodeOffsets, Node, scalar, alias, sequence, mapping, Items, no_items, item, Pairs, no_pairs, pair, DocumentTree, props_of, standing}
-use Rattle.yf_emit.specs.declared.style.Style.{Style}
-use Rattle.yf_emit.specs.Nodes.ContentStart.{content_start}
-use Rattle.yf_emit.specs.NormalForms.Normal.{LayoutSetting, Spot, inner_spot, key_spot, root_spot, value_spot}
-use Rattle.yf_emit.specs.Nodes.OneLine.{bare, width, written}
+use Rattle.yf_forms.specs.declared.style.Style.{Style}
+use Rattle.yf_forms.specs.Nodes.ContentStart.{content_start}
+use Rattle.yf_forms.specs.NormalForms.Normal.{LayoutSetting, Spot, inner_spot, key_spot, root_spot, value_spot}
+use Rattle.yf_forms.specs.Nodes.OneLine.{bare, width, written}
 use Rattle.yf_emit.proofs.Columns.LinePlaces.{OnLine}
 
 -- The flow collection is written so from bracket to bracket; it ends in the line that it begins in, as many characters after the column as it is

@@ -7,11 +7,11 @@ use Rattle.yf_events.specs.Tree.{Node, DocumentTree}
 use Rattle.yf_events.specs.declared.document.Doc.{Doc}
 use Rattle.yf_events.specs.declared.lists.Lists.{Lists}
 use Rattle.yf_stream.specs.ReadingOf.{ReadingOf}
-use Rattle.yf_emit.specs.declared.style.Style.{Style}
+use Rattle.yf_forms.specs.declared.style.Style.{Style}
 use Rattle.yf_emit.specs.Layouts.Decorated.{Deco}
 use Rattle.yf_emit.specs.Format.{IsFormatting}
-use Rattle.yf_emit.specs.NormalForms.Normal.{LayoutSetting, root_spot, setting_of}
-use Rattle.yf_emit.specs.Layouts.Rows.{Row}
+use Rattle.yf_forms.specs.NormalForms.Normal.{LayoutSetting, root_spot, setting_of}
+use Rattle.yf_print.specs.Layouts.Rows.{Row}
 use Rattle.yf_emit.proofs.SecondRun.AlikeLemmas.{setting}
 use Rattle.yf_emit.proofs.RowNodes.BareNodes.{bare, bare_tree}
 use Rattle.yf_emit.proofs.SecondRun.FixedLawsHold.{roots_read}

@@ -8,15 +8,15 @@ use Rattle.yf_events.specs.Alike.{Alike, alike_scalars, alike_aliases, alike_seq
 use Rattle.yf_events.specs.declared.event.Span.{Span}
 use Rattle.yf_events.specs.Tree.{Node, scalar, alias, sequence, mapping, Items, no_items, item, Pairs, no_pairs, pair, standing}
 use Rattle.yf_grammar.specs.Productions.TreesOfMeaning.{Anywhere}
-use Rattle.yf_emit.specs.declared.style.Style.{Style}
+use Rattle.yf_forms.specs.declared.style.Style.{Style}
 use Rattle.yf_emit.specs.Preservation.AlikeBlocks.{AlikeBlocks, AlikeBlockItems, no_block_items, block_item, AlikeBlockPairs, no_block_pairs, block_pair}
-use Rattle.yf_emit.specs.Nodes.ContentStart.{content_start}
+use Rattle.yf_forms.specs.Nodes.ContentStart.{content_start}
 use Rattle.yf_emit.specs.Layouts.Decorated.{Deco, after, inline_then}
 use Rattle.yf_emit.specs.Layouts.ReadableTrees.{is_inline}
-use Rattle.yf_emit.specs.NormalForms.Normal.{LayoutSetting, Spot, inner_spot, is_implicit, key_spot, value_of_implicit, value_spot}
-use Rattle.yf_emit.specs.Nodes.OneLine.{bare, width, written}
+use Rattle.yf_forms.specs.NormalForms.Normal.{LayoutSetting, Spot, inner_spot, is_implicit, key_spot, value_of_implicit, value_spot}
+use Rattle.yf_forms.specs.Nodes.OneLine.{bare, width, written}
 use Rattle.yf_emit.specs.Layouts.RowShapes.{KeysAgree}
-use Rattle.yf_emit.specs.Layouts.Rows.{Row}
+use Rattle.yf_print.specs.Layouts.Rows.{Row}
 use Rattle.yf_emit.proofs.SecondRun.AlikeLemmas.{same_bare, same_implicit, same_key_spot, same_props, same_value_spot, same_written, setting}
 use Rattle.yf_emit.proofs.RowNodes.BareNodes.{bare as unnoted, bare_comment, bare_items, bare_pairs}
 use Rattle.yf_emit.proofs.Derived.EntriesMade.{Begins, begins}

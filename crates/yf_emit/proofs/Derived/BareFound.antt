@@ -15,15 +15,15 @@ use Rattle.yf_events.specs.declared.lists.Lists.{Lists}
 use Rattle.yf_grammar.proofs.NodesInText.NodePlaces.{node_order}
 use Rattle.yf_stream.proofs.Offsets.DirectiveOrder.{directives_order}
 use Rattle.yf_stream.proofs.Offsets.ReadingTrees.{TreesStand, no_trees_stand, tree_is_at}
-use Rattle.yf_emit.specs.declared.style.Style.{Style}
-use Rattle.yf_emit.specs.Layouts.BareSearch.{is_found_bare, is_leading, is_led_from}
-use Rattle.yf_emit.specs.Layouts.BareStart.{begins_bare, has_lead, is_bare, keeps_starts, leads}
-use Rattle.yf_emit.specs.Passes.Drafts.{count_to}
+use Rattle.yf_forms.specs.declared.style.Style.{Style}
+use Rattle.yf_print.specs.Layouts.BareSearch.{is_found_bare, is_leading, is_led_from}
+use Rattle.yf_print.specs.Layouts.BareStart.{begins_bare, has_lead, is_bare, keeps_starts, leads}
+use Rattle.yf_forms.specs.Passes.Searches.{count_to}
 use Rattle.yf_emit.specs.Layouts.FitDocuments.{FitDocuments, fit_document, FitsBare, fits_bare, fit_no_documents}
 use Rattle.yf_emit.specs.Layouts.ReadableTrees.{Fit}
-use Rattle.yf_emit.specs.NormalForms.Normal.{LayoutSetting, root_spot, setting_of}
+use Rattle.yf_forms.specs.NormalForms.Normal.{LayoutSetting, root_spot, setting_of}
 use Rattle.yf_emit.specs.NormalForms.NormalForm.{NormalForm}
-use Rattle.yf_emit.specs.Layouts.Rows.{rows}
+use Rattle.yf_print.specs.Layouts.Rows.{rows}
 use Rattle.yf_emit.proofs.Derived.BareReadings.{bare_begins, normal_begins, reading_begins}
 use Rattle.yf_emit.proofs.SameReading.CommentsCut.{In, in_first, in_rest, Upward, upward_none, upward_more}
 use Rattle.yf_emit.proofs.SameReading.DocumentsFound.{document_starts, documents_are}

@@ -28,8 +28,8 @@ use Rattle.yf_emit.specs.Layouts.RowComments.{AreDecos, carried_texts, comments_
 use Rattle.yf_emit.specs.Layouts.Decorated.{Deco, first, after, inline_then, lines_then, end_then}
 use Rattle.yf_emit.specs.Layouts.FitDocuments.{DocumentMeant}
 use Rattle.yf_emit.specs.Layouts.ReadableTrees.{Fit}
-use Rattle.yf_emit.specs.NormalForms.Normal.{LayoutSetting, root_spot}
-use Rattle.yf_emit.specs.Layouts.Rows.{Row, begins_below, begun_at}
+use Rattle.yf_forms.specs.NormalForms.Normal.{LayoutSetting, root_spot}
+use Rattle.yf_print.specs.Layouts.Rows.{Row, begins_below, begun_at}
 use Rattle.yf_emit.proofs.Derived.LayoutSteps.{Step, a_comment, a_leaf, comment_steps, steps_in}
 use Rattle.yf_emit.proofs.Derived.ClearRows.{AreRowTexts, row_text, IsRowText, place_of_rest, rows_clear}
 use Rattle.yf_emit.proofs.Derived.DocumentsMade.{not_beside, root_stood}
@@ -48,7 +48,7 @@ use Rattle.yf_emit.proofs.Derived.StepsInText.{Stand, leaf_is_at, comments_stand
 use Rattle.yf_emit.proofs.Derived.StreamParts.{laid_bare, meant_bare}
 use Rattle.yf_emit.proofs.Derived.StreamsMade.{AnyMade, root_deep, root_rows}
 use Rattle.yf_emit.proofs.Derived.TreesMade.{node_claim}
-use Rattle.yf_emit.specs.declared.style.Style.{Style}
+use Rattle.yf_forms.specs.declared.style.Style.{Style}
 use Rattle.yf_grammar.proofs.FlowReader.ParserLemmas.{after_nothing}
 
 pub record FirstMade (t : List ℕ) (s : LayoutSetting) (bare : Bool) (d : Doc) (x : DocumentTree) (rs : List Row) (ds : List Deco) (q : ℕ) (r : List ℕ) : Type 0 where

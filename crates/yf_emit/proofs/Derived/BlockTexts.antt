@@ -4,7 +4,7 @@ use Rattle.std.specs.Prelude.{if◌then◌else◌}
 use Rattle.yf_block_scalar.specs.Written.{digit_bytes, sign_bytes, style_bytes, indented}
 use Rattle.yf_events.specs.declared.event.ScalarStyle.{ScalarStyle}
 use Rattle.yf_events.specs.declared.event.ScalarStyle.TheVariants.{Plain, Single, Double, Literal, Folded}
-use Rattle.yf_emit.specs.Nodes.BlockLines.{chomping_sign, line_at, style_sign}
+use Rattle.yf_forms.specs.Nodes.BlockLines.{chomping_sign, line_at, style_sign}
 use Rattle.yf_emit.specs.Nodes.BlockValues.{is_folded, chomp_of}
 
 -- The header.

@@ -13,9 +13,10 @@ pub use Rattle.yf_grammar.proofs.WrittenTexts.PlainUnmarked.{unmarked_nothing}
 use Rattle.yf_emit.specs.Layouts.RowComments.{AreTrails, IsDeco, AreDecos}
 use Rattle.yf_emit.specs.Layouts.Decorated.{GapLine, blank, remark, gap_then, Deco, first, after, trails_then, body_then, end_then, lines_then}
 use Rattle.yf_emit.specs.Layouts.ReadableTrees.{IsNoMarker}
-use Rattle.yf_emit.specs.Layouts.Rows.{Row}
+use Rattle.yf_print.specs.Layouts.Rows.{Row}
 use Rattle.yf_emit.proofs.Derived.RowEnds.{first_deco, after_decos}
 use Rattle.yf_emit.proofs.OutputLines.SeenTexts.{IsSeen}
+use Rattle.yf_chars.proofs.CharFacts.{hash_nb, space_nb}
 
 -- Texts that are no markers.
 
@@ -32,14 +33,6 @@ unmarked_more {w} c z a l e = record { none = λ {t} q r u f s n. a.none q (c �
 pub unmarked_indented : (k : ℕ) {w : List ℕ} → IsNoMarker w → IsNoMarker (replicate k 32 ++ w)
 unmarked_indented zero a = a
 unmarked_indented (suc k) {w} a = unmarked_first 32 (replicate k 32 ++ w) (omega arith) (λ e. omega arith) (λ e. omega arith) (λ e. omega arith)
-
-space_nb : is_nb_char 32 ≡ true
-unfolding is_nb_char is_printable is_between is_break_char
-space_nb = refl
-
-hash_nb : is_nb_char 35 ≡ true
-unfolding is_nb_char is_printable is_between is_break_char
-hash_nb = refl
 
 pub line_indented : (k : ℕ) {w : List ℕ} → IsLineText w → IsLineText (replicate k 32 ++ w)
 line_indented zero a = a

@@ -21,9 +21,10 @@ use Rattle.yf_grammar.proofs.BlockOutcomes.NodesAfter.{properties_after}
 use Rattle.yf_grammar.proofs.NodesInText.MeantLemmas.{texts_after, texts_collection, texts_with_props}
 use Rattle.yf_emit.specs.Layouts.RowComments.{AreDecos, carried_texts, Calm}
 use Rattle.yf_emit.specs.Layouts.Decorated.{Deco, first, after, end_then, lines_then, inline_then}
-use Rattle.yf_emit.specs.NormalForms.Normal.{LayoutSetting, Spot}
-use Rattle.yf_emit.specs.Nodes.OneLine.{spaced, anchor_text, tag_text, props_text}
-use Rattle.yf_emit.specs.Layouts.Rows.{Row, before_node, plain_row, props_row, is_empty_text, begins_below}
+use Rattle.yf_forms.specs.NormalForms.Normal.{LayoutSetting, Spot}
+use Rattle.yf_forms.specs.Nodes.OneLine.{spaced, anchor_text, tag_text, props_text}
+use Rattle.yf_print.specs.Layouts.Rows.{Row, before_node, plain_row, props_row, begins_below}
+use Rattle.yf_forms.specs.Nodes.Lines.{is_empty_text}
 use Rattle.yf_emit.proofs.Derived.LayoutSteps.{leaf_steps, comment_steps, steps_in}
 use Rattle.yf_emit.proofs.Derived.EntriesMade.{Begins, begins, EntriesMakes, lines_begin}
 use Rattle.yf_emit.proofs.OutputLines.HeldLemmas.{held_next, held_collection, held_collection_with, row_ended}

@@ -5,11 +5,12 @@ use Rattle.std.specs.Prelude.{filter}
 use Rattle.yf_comments.specs.Comment.{CommentValue}
 use Rattle.yf_events.specs.Tree.{DocumentTree}
 use Rattle.yf_events.specs.declared.lists.Lists.{Lists}
-use Rattle.yf_emit.specs.declared.style.Style.{Style}
+use Rattle.yf_forms.specs.declared.style.Style.{Style}
 use Rattle.yf_emit.specs.Layouts.Decorated.{GapLine, blank, remark, Deco, first, after, past, gap_then, trails_then, body_then, end_then, lines_then, inline_then, blank_if, remarks_after, ending_after, gap_of, comments_left, decos_of, decorated, rows_of}
-use Rattle.yf_emit.specs.Layouts.Layout.{Source, Line, layout, lines_of, comment_line, row_line, bytes_after, line_bytes, ended, after_two_spaces, trailing, trimmed, precedes_item, may_be_blank_after, own_line_comments, source_of}
-use Rattle.yf_emit.specs.Layouts.Rows.{Row, Ending, anywhere, at_text_start}
-use Rattle.yf_emit.specs.Layouts.KeptColumns.{Columns, columns_of}
+use Rattle.yf_emit.specs.Layouts.Layout.{Source, Line, layout, lines_of, comment_line, row_line, bytes_after, line_bytes, trailing, precedes_item, may_be_blank_after, own_line_comments, source_of}
+use Rattle.yf_forms.specs.Nodes.Lines.{ended, after_two_spaces, trimmed}
+use Rattle.yf_print.specs.Layouts.Rows.{Row, Ending, anywhere, at_text_start}
+use Rattle.yf_print.specs.Layouts.KeptColumns.{Columns, columns_of}
 
 -- Rows one after the other.
 

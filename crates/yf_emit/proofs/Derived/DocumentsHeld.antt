@@ -6,7 +6,7 @@ use Rattle.yf_events.specs.declared.directive.Directive.{Directive}
 use Rattle.yf_grammar.specs.Productions.Meaning.{Meaning}
 use Rattle.yf_stream.specs.Stream.{Document, document_of, Documents, only_comments, with_document, with_comments}
 use Rattle.yf_emit.specs.Layouts.Decorated.{Deco, past, lines_then}
-use Rattle.yf_emit.specs.Layouts.Rows.{Row}
+use Rattle.yf_print.specs.Layouts.Rows.{Row}
 use Rattle.yf_emit.proofs.OutputLines.HeldLemmas.{BodiesHeld, EventsHeld, bodies_append, bodies_more, holds_left, holds_right}
 use Rattle.yf_emit.proofs.OutputLines.WellSet.{AllSet, set_append}
 

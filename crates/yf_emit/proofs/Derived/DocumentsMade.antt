@@ -29,8 +29,8 @@ use Rattle.yf_stream.specs.Stream.DirectiveLines.{last_directive, more_directive
 use Rattle.yf_emit.specs.Layouts.RowComments.{AreDecos, carried_texts, comments_in, Calm}
 use Rattle.yf_emit.specs.Layouts.Decorated.{Deco, first, after, trails_then, end_then, lines_then}
 use Rattle.yf_emit.specs.Layouts.FitDocuments.{is_apart, FitDirective, FitDirectives, fit_no_directives, fit_directive}
-use Rattle.yf_emit.specs.NormalForms.Normal.{LayoutSetting, root_spot}
-use Rattle.yf_emit.specs.Layouts.Rows.{Row, directive_row, joined_words, begins_below}
+use Rattle.yf_forms.specs.NormalForms.Normal.{LayoutSetting, root_spot}
+use Rattle.yf_print.specs.Layouts.Rows.{Row, directive_row, joined_words, begins_below}
 use Rattle.yf_emit.proofs.Derived.LayoutSteps.{leaf_steps, comment_steps, steps_in}
 use Rattle.yf_emit.proofs.Derived.ClearRows.{AreRowTexts, rows_clear_after, place_of_rest}
 use Rattle.yf_emit.proofs.OutputLines.DirectiveEnds.{directive_seen}
@@ -49,6 +49,7 @@ use Rattle.yf_emit.proofs.Columns.SetMeant.{column_start, SetDone, SetMeant, set
 use Rattle.yf_emit.proofs.Columns.SetNodes.{ColumnAt}
 use Rattle.yf_emit.proofs.Derived.StepsInText.{Stand, stand_after, stand_join, comments_stand, MeaningLaid, laid_after, laid_next, laid_empty}
 use Rattle.yf_lines.proofs.VisibleLines.{visible_line, visible_at}
+use Rattle.yf_forms.proofs.Decide.LeafLemmas.{same}
 
 -- The `---` and the node after it.
 
@@ -88,14 +89,11 @@ mark_is_at q column width key = record {
   column = column;
 }
 
-same_number : (c : ℕ) → (c == c) ≡ true
-same_number c = grind (arith, nat_tests)
-
 three_stand : (t : List ℕ) (q c : ℕ) → code t q ≡ c → code t (q + 1) ≡ c → code t (q + 2) ≡ c → is_three t q c ≡ true
 unfolding is_three
 three_stand t q c a b d =
     ap (λ z. (z == c) && ((code t (q + 1) == c) && (code t (q + 2) == c))) a ∙ (ap (λ z. (c == c) && ((z == c) && (code t (q + 2) == c))) b
-    ∙ (ap (λ z. (c == c) && ((c == c) && (z == c))) d ∙ ap (λ z. z && (z && z)) (same_number c)))
+    ∙ (ap (λ z. (c == c) && ((c == c) && (z == c))) d ∙ ap (λ z. z && (z && z)) (same c)))
 
 pub three_at : {t : List ℕ} (c : ℕ) {q : ℕ} {r : List ℕ} → IsUtf8 t → 32 ≤ c → c < 127 → Rest t q (c ∷ c ∷ c ∷ r) → (is_three t q c ≡ true) × Rest t (q + 3) r
 three_at {t} c {q} {r} u l h s =

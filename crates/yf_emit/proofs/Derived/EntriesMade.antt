@@ -17,8 +17,8 @@ use Rattle.yf_grammar.specs.Productions.TreesOfMeaning.{tall}
 use Rattle.yf_grammar.proofs.NodesInText.MeantLemmas.{texts_entering, texts_both}
 use Rattle.yf_emit.specs.Layouts.RowComments.{AreDecos, comments_in, Calm}
 use Rattle.yf_emit.specs.Layouts.Decorated.{Deco, past, lines_then, inline_then}
-use Rattle.yf_emit.specs.NormalForms.Normal.{LayoutSetting, Spot, inner_spot, is_implicit, key_spot}
-use Rattle.yf_emit.specs.Layouts.Rows.{Row, joined}
+use Rattle.yf_forms.specs.NormalForms.Normal.{LayoutSetting, Spot, inner_spot, is_implicit, key_spot}
+use Rattle.yf_print.specs.Layouts.Rows.{Row, joined}
 use Rattle.yf_emit.proofs.Derived.LayoutSteps.{steps_in}
 use Rattle.yf_emit.proofs.Derived.DecoratedLemmas.{inline_append}
 use Rattle.yf_emit.proofs.OutputLines.HeldLemmas.{Held, held_both, held_entering}
@@ -30,6 +30,8 @@ use Rattle.yf_emit.proofs.Derived.RowEnds.{past_decos, comments_append, calm_app
 use Rattle.yf_emit.proofs.Columns.SetMeant.{column_start, SetEntry, SetEntries, set_last, set_more, set_item_entered, set_explicit}
 use Rattle.yf_emit.proofs.Derived.StepsInText.{MeaningLaid, laid_both, laid_entering}
 use Rattle.yf_emit.proofs.Columns.SourceColumns.{colon_sign, dash_sign, question_sign}
+use Rattle.yf_chars.proofs.CharFacts.{feed_no_ns, space_no_ns}
+use Rattle.yf_lines.proofs.BasicLemmas.{ends_at_lf}
 
 -- rows of which the first is at that column
 pub data Begins (column : ℕ) : List Row → Type 0 where
@@ -166,27 +168,15 @@ entries_more {s} {sequence} {column} {bound} {least} {P} {Q} {S} {rs} {ls} f e o
 
 -- An item after its `-`.
 
-space_no_ns : is_ns_char 32 ≡ false
-unfolding is_ns_char is_nb_char is_printable is_between is_break_char is_white
-space_no_ns = refl
-
-feed_no_ns : is_ns_char 10 ≡ false
-unfolding is_ns_char is_nb_char is_printable is_between is_break_char is_white
-feed_no_ns = refl
-
 space_ends : is_white_or_end 32 ≡ true
 unfolding is_white_or_end is_white is_break_char
 space_ends = refl
-
-feed_ends : is_white_or_end 10 ≡ true
-unfolding is_white_or_end is_white is_break_char
-feed_ends = refl
 
 no_ns : (t : List ℕ) (i : ℕ) → (code t i ≡ 32) ⊎ (code t i ≡ 10) → is_ns_char (code t i) ≡ false
 no_ns t i e = ⊎_elim (λ (z : code t i ≡ 32). ap is_ns_char z ∙ space_no_ns) (λ (z : code t i ≡ 10). ap is_ns_char z ∙ feed_no_ns) e
 
 ends_white : (t : List ℕ) (i : ℕ) → (code t i ≡ 32) ⊎ (code t i ≡ 10) → is_white_or_end (code t i) ≡ true
-ends_white t i e = ⊎_elim (λ (z : code t i ≡ 32). ap is_white_or_end z ∙ space_ends) (λ (z : code t i ≡ 10). ap is_white_or_end z ∙ feed_ends) e
+ends_white t i e = ⊎_elim (λ (z : code t i ≡ 32). ap is_white_or_end z ∙ space_ends) (λ (z : code t i ≡ 10). ap is_white_or_end z ∙ ends_at_lf) e
 
 pub item_makes : {s : LayoutSetting} {x : Node} {spot : Spot} {rs : List Row} (column : ℕ) (items : List ℕ) (blank : Bool) → 2 ≤ s.style.indent → spot ≡ inner_spot s.style column
     → Stood s x (pos column) BlockIn spot → Claim s x spot rs

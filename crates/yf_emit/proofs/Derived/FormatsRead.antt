@@ -23,7 +23,7 @@ use Rattle.yf_stream.proofs.Existence.BreachLemmas.{SameDocument, SameDocuments,
 use Rattle.yf_stream.proofs.LawsHold.{derived_streams_are_shapes}
 use Rattle.yf_stream.proofs.Offsets.ReadingTrees.{TreesMeant, no_trees_meant, tree_meant, reading_is_at}
 use Rattle.yf_stream.proofs.Uniqueness.StreamDocuments.{DocumentsDerived, no_documents_derived, document_derived, stream_derived}
-use Rattle.yf_emit.specs.declared.style.Style.{Style}
+use Rattle.yf_forms.specs.declared.style.Style.{Style}
 use Rattle.yf_emit.proofs.SameReading.RowSteps.{documents_begin, steps_with}
 use Rattle.yf_emit.specs.Layouts.RowComments.{AreRemarks}
 use Rattle.yf_emit.specs.Layouts.Decorated.{first_gap, lines_then, row_decos, rows_of}
@@ -31,8 +31,8 @@ use Rattle.yf_emit.specs.Layouts.FitDocuments.{FitDocuments, DocumentMeant, Docu
 use Rattle.yf_emit.specs.Format.{IsFormatting}
 use Rattle.yf_emit.specs.FormatLaws.{WellFormed, FormatsAreWellFormed}
 use Rattle.yf_emit.proofs.Derived.LayoutLaws.{StreamMade, printed_comments}
-use Rattle.yf_emit.specs.NormalForms.Normal.{LayoutSetting, Spot, fits, settled, settled_items, settled_pairs, styled, styled_items, styled_pairs, inner_spot, key_spot, value_spot, root_spot, normal_document, setting_of}
-use Rattle.yf_emit.specs.NormalForms.Restyled.{SameButStyles, none_left, one_more, restyled_event}
+use Rattle.yf_forms.specs.NormalForms.Normal.{LayoutSetting, Spot, fits, settled, settled_items, settled_pairs, styled, styled_items, styled_pairs, inner_spot, key_spot, value_spot, root_spot, normal_document, setting_of}
+use Rattle.yf_forms.specs.NormalForms.Restyled.{SameButStyles, none_left, one_more, restyled_event}
 use Rattle.yf_emit.proofs.Derived.LayoutSteps.{comment_steps, steps_of}
 use Rattle.yf_emit.proofs.Writable.CommentsFit.{reading_remarks}
 use Rattle.yf_emit.proofs.RowNodes.FoundStreams.{StreamIn, AllFound}
@@ -47,9 +47,9 @@ use Rattle.yf_emit.proofs.RowNodes.PlacedRows.{PlacedRow}
 use Rattle.yf_emit.proofs.Derived.StreamParts.{DocumentsLaid}
 use Rattle.yf_emit.proofs.Derived.StreamsLaid.{StreamLaid}
 use Rattle.yf_emit.proofs.Writable.TreesRead.{document_read, reading_fits, same_node, reading_bare}
-use Rattle.yf_emit.specs.Layouts.BareStart.{is_bare}
+use Rattle.yf_print.specs.Layouts.BareStart.{is_bare}
 use Rattle.yf_emit.proofs.Derived.BareReadings.{bare_begins, normal_begins, reading_begins}
-use Rattle.yf_emit.specs.Layouts.KeptColumns.{columns_of}
+use Rattle.yf_print.specs.Layouts.KeptColumns.{columns_of}
 
 -- Heights: styles and brackets change none.
 

@@ -7,9 +7,9 @@ use Rattle.yf_events.specs.Event.{sequence_starts, sequence_ends, mapping_starts
 use Rattle.yf_events.specs.Tree.{NodeOffsets, sequence, mapping, Items, Pairs, is_block_collection, placed, unplaced}
 use Rattle.yf_grammar.specs.Productions.Meaning.{Meaning, collection, from_to, plain_event, with_props}
 use Rattle.yf_grammar.specs.Productions.TreesOfMeaning.{Anywhere}
-use Rattle.yf_emit.specs.NormalForms.Normal.{LayoutSetting, Spot}
-use Rattle.yf_emit.specs.Nodes.OneLine.{props_text}
-use Rattle.yf_emit.specs.Layouts.Rows.{is_empty_text}
+use Rattle.yf_forms.specs.NormalForms.Normal.{LayoutSetting, Spot}
+use Rattle.yf_forms.specs.Nodes.OneLine.{props_text}
+use Rattle.yf_forms.specs.Nodes.Lines.{is_empty_text}
 use Rattle.yf_emit.proofs.SecondRun.AlikeLemmas.{same_block}
 use Rattle.yf_emit.proofs.RowNodes.FoundNodes.{FoundNode, FoundItems, FoundPairs, sequence_rows, sequence_after, mapping_rows, mapping_after}
 use Rattle.yf_emit.proofs.RowNodes.PlacedRows.{PlacedRow}

@@ -6,9 +6,10 @@ use Rattle.yf_comments.specs.GapLines.{AreGapLines}
 use Rattle.yf_events.specs.declared.lists.Lists.{Lists}
 use Rattle.yf_emit.specs.Layouts.RowComments.{AreDecos, nothing_carried, one_carried, AreRemarks, no_remark, one_remark, TrailsFit}
 use Rattle.yf_emit.specs.Layouts.Decorated.{GapLine, blank, remark, blank_if, remarks_after, ending_after, gap_of, decos_of, first_gap, row_decos}
-use Rattle.yf_emit.specs.Layouts.Layout.{Source, Remark, trimmed, trailing, own_line_comments, precedes_item, is_among, may_be_blank_after, source_of}
-use Rattle.yf_emit.specs.Layouts.Rows.{Row, Ending, anywhere, at_text_start}
-use Rattle.yf_emit.specs.Layouts.KeptColumns.{Columns}
+use Rattle.yf_emit.specs.Layouts.Layout.{Source, Remark, trailing, own_line_comments, precedes_item, is_among, may_be_blank_after, source_of}
+use Rattle.yf_forms.specs.Nodes.Lines.{trimmed}
+use Rattle.yf_print.specs.Layouts.Rows.{Row, Ending, anywhere, at_text_start}
+use Rattle.yf_print.specs.Layouts.KeptColumns.{Columns}
 
 gap_append_fits : (xs ys : List GapLine) → AreGapLines xs → AreGapLines ys → AreGapLines (xs ++ ys)
 gap_append_fits [] ys a b = b

@@ -14,10 +14,10 @@ use Rattle.yf_grammar.specs.Productions.Meaning.{Meaning}
 use Rattle.yf_grammar.proofs.WrittenTexts.FlowBack.{colon_follows}
 use Rattle.yf_grammar.proofs.WrittenTexts.LeafBack.{any_follow, space_follows}
 use Rattle.yf_grammar.proofs.WrittenTexts.PairsBack.{key_back, key_apart_back}
-use Rattle.yf_emit.specs.declared.style.Style.{Style}
+use Rattle.yf_forms.specs.declared.style.Style.{Style}
 use Rattle.yf_emit.specs.Layouts.ReadableTrees.{LineNode, ColonFits, colon_at_once, colon_apart}
-use Rattle.yf_emit.specs.NormalForms.Normal.{LayoutSetting, Spot, key_comment, value_of_implicit}
-use Rattle.yf_emit.specs.Nodes.OneLine.{width, written, colon_after}
+use Rattle.yf_forms.specs.NormalForms.Normal.{LayoutSetting, Spot, key_comment, value_of_implicit}
+use Rattle.yf_forms.specs.Nodes.OneLine.{width, written, colon_after}
 use Rattle.yf_emit.proofs.Columns.LinePlaces.{OnLine, on_more, on_same}
 use Rattle.yf_emit.proofs.Texts.LineUtf8.{space_chars, written_utf8}
 use Rattle.yf_lines.proofs.VisibleLines.{visible_line, visible_at}

@@ -23,9 +23,9 @@ use Rattle.yf_grammar.proofs.NodesInText.PlacesDerived.{places}
 use Rattle.yf_emit.specs.Layouts.RowComments.{AreDecos, carried_texts, comments_in, Calm}
 use Rattle.yf_emit.specs.Layouts.Decorated.{Deco, first, after, end_then, lines_then, inline_then}
 use Rattle.yf_emit.specs.Layouts.ReadableTrees.{KeyNode}
-use Rattle.yf_emit.specs.NormalForms.Normal.{LayoutSetting, Spot, is_implicit, key_comment, value_entries, value_of_implicit}
-use Rattle.yf_emit.specs.Nodes.OneLine.{width, written, colon_after}
-use Rattle.yf_emit.specs.Layouts.Rows.{Row, Ending, anywhere, before_node, after_key, begins_below, joined, start_of}
+use Rattle.yf_forms.specs.NormalForms.Normal.{LayoutSetting, Spot, is_implicit, key_comment, value_entries, value_of_implicit}
+use Rattle.yf_forms.specs.Nodes.OneLine.{width, written, colon_after}
+use Rattle.yf_print.specs.Layouts.Rows.{Row, Ending, anywhere, before_node, after_key, begins_below, joined, start_of}
 use Rattle.yf_events.specs.declared.event.Span.{Span}
 use Rattle.yf_emit.proofs.Derived.LayoutSteps.{Step, leaf_steps, comment_steps, steps_in}
 use Rattle.yf_emit.proofs.Derived.CollectionsMade.{comments_after}

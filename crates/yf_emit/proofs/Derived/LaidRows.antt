@@ -12,7 +12,7 @@ use Rattle.yf_grammar.proofs.Documents.CommentOrder.{Ascend}
 use Rattle.yf_grammar.proofs.NodesInText.PlacedNodes.{NodeAt}
 use Rattle.yf_emit.specs.Layouts.RowComments.{carried_texts}
 use Rattle.yf_emit.specs.Layouts.Decorated.{Deco, first, after, past}
-use Rattle.yf_emit.specs.Layouts.Rows.{Row}
+use Rattle.yf_print.specs.Layouts.Rows.{Row}
 use Rattle.yf_emit.proofs.Derived.LayoutSteps.{Step, a_leaf, leaf_steps, comment_steps, steps_in}
 use Rattle.yf_emit.proofs.SecondRun.AlikeLemmas.{same_leaves}
 use Rattle.yf_emit.proofs.Derived.StepsInText.{MeaningLaid, laid_node, laid_noting}

@@ -7,13 +7,13 @@ use Rattle.yf_events.specs.declared.document.Doc.{Doc}
 use Rattle.yf_events.specs.declared.lists.Lists.{Lists}
 use Rattle.yf_events.specs.Tree.{DocumentTree}
 use Rattle.yf_stream.specs.Stream.{Documents, Stream}
-use Rattle.yf_emit.specs.declared.style.Style.{Style}
-use Rattle.yf_emit.specs.Layouts.BareStart.{is_bare}
+use Rattle.yf_forms.specs.declared.style.Style.{Style}
+use Rattle.yf_print.specs.Layouts.BareStart.{is_bare}
 use Rattle.yf_emit.specs.Layouts.RowComments.{comments_in, AreRemarks, TrailsFit}
 use Rattle.yf_emit.specs.Layouts.Decorated.{first_gap, row_decos, rows_of}
 use Rattle.yf_emit.specs.Layouts.FitDocuments.{FitDocuments, FitsBare, DocumentsMeant, tall_documents}
 use Rattle.yf_emit.specs.Layouts.Layout.{layout, source_of}
-use Rattle.yf_emit.specs.Layouts.KeptColumns.{columns_of}
+use Rattle.yf_print.specs.Layouts.KeptColumns.{columns_of}
 
 -- The text is a stream of documents that mean these trees, with these directives and markers, and its comments have these texts, in order.
 pub record StreamMade (t : List ℕ) (bare : Bool) (ds : List Doc) (xs : List DocumentTree) (comments : List (List ℕ)) : Type 0 where

@@ -3,20 +3,20 @@ use Rattle.std.proofs.Common.{ℕ, List, sym, subst}
 use Rattle.std.specs.Str.{IsUtf8}
 use Rattle.yf_events.specs.declared.lists.Lists.{Lists}
 use Rattle.yf_events.specs.Tree.{DocumentTree}
-use Rattle.yf_emit.specs.declared.style.Style.{Style}
-use Rattle.yf_emit.specs.Layouts.BareStart.{is_bare}
+use Rattle.yf_forms.specs.declared.style.Style.{Style}
+use Rattle.yf_print.specs.Layouts.BareStart.{is_bare}
 use Rattle.yf_emit.specs.Layouts.RowComments.{AreRemarks, TrailsFit}
 use Rattle.yf_emit.specs.Layouts.Decorated.{first_gap, row_decos, rows_of}
 use Rattle.yf_emit.specs.Layouts.FitDocuments.{FitDocuments, FitsBare}
 use Rattle.yf_emit.specs.Layouts.Layout.{layout, source_of}
 use Rattle.yf_emit.proofs.Derived.LayoutLaws.{LayoutsAreTexts, LayoutsAreDerived}
-use Rattle.yf_emit.specs.NormalForms.Normal.{setting_of}
+use Rattle.yf_forms.specs.NormalForms.Normal.{setting_of}
 use Rattle.yf_emit.proofs.OutputLines.CalmRows.{layout_calm}
 use Rattle.yf_emit.proofs.Derived.DecoratedLemmas.{layout_then}
 use Rattle.yf_emit.proofs.Derived.GapsFit.{all_fit}
 use Rattle.yf_emit.proofs.Derived.RowsUtf8.{layout_utf8}
 use Rattle.yf_emit.proofs.Derived.StreamsLaid.{StreamLaid, layout_derived}
-use Rattle.yf_emit.specs.Layouts.KeptColumns.{columns_of}
+use Rattle.yf_print.specs.Layouts.KeptColumns.{columns_of}
 
 pub layouts_are_texts : LayoutsAreTexts
 layouts_are_texts t m s trees fit remarks trails =

@@ -5,8 +5,8 @@ use Rattle.yf_events.specs.declared.event.Span.{Span}
 use Rattle.yf_events.specs.declared.lists.Lists.{Lists}
 use Rattle.yf_emit.specs.Layouts.RowComments.{carried_texts}
 use Rattle.yf_emit.specs.Layouts.Decorated.{Deco, first, after, first_gap, row_decos}
-use Rattle.yf_emit.specs.Layouts.Rows.{Row}
-use Rattle.yf_emit.specs.Layouts.KeptColumns.{Columns}
+use Rattle.yf_print.specs.Layouts.Rows.{Row}
+use Rattle.yf_print.specs.Layouts.KeptColumns.{Columns}
 
 pub data Step : Type 0 where
   a_leaf : Step

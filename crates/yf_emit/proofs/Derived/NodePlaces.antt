@@ -20,6 +20,7 @@ use Rattle.yf_grammar.specs.Productions.Grammar.{Derives, FlowNode, BlockNode, B
 use Rattle.yf_grammar.specs.Productions.Grammar.Derives.{a_block_collection, a_block_collection_with, flow_in_block, a_compact_collection, an_indented_node}
 use Rattle.yf_grammar.specs.Productions.Meaning.{Meaning, meaning_after, noting, collection, with_props}
 use Rattle.yf_grammar.proofs.FlowReader.ParserLemmas.{after_nothing}
+use Rattle.yf_grammar.proofs.BlockOutcomes.BlockGaps.{block_no_key}
 
 -- A node's text begins at i and its last line ends before j: after any separation it is a block node at n, or (where the flag says that
 -- nothing is before its entries) it is the entries of a collection at the column m.
@@ -28,14 +29,6 @@ pub data NodeAt (t : List ℕ) (n : ℤ) (c : Ctx) (m : ℕ) (beside : Bool) (h 
       → NodeAt t n c m beside h i j x
   entries_at : {g : ℕ} {sequence : Bool} {y : Meaning} → beside ≡ false → h ≡ suc g → x ≡ collection sequence false i y.finish y
       → least_column sequence n c ≤ℤ pos m → Derives t g (BlockEntries sequence m) i j y → NodeAt t n c m beside h i j x
-
-pub block_no_key : (c : Ctx) → is_block c ≡ true → is_key c ≡ false
-block_no_key BlockOut e = refl
-block_no_key BlockIn e = refl
-block_no_key FlowOut e = absurd (true≢false (sym e))
-block_no_key FlowIn e = absurd (true≢false (sym e))
-block_no_key BlockKey e = absurd (true≢false (sym e))
-block_no_key FlowKey e = absurd (true≢false (sym e))
 
 -- Nodes at their first character.
 

@@ -25,9 +25,9 @@ use Rattle.yf_grammar.proofs.NodesInText.PlacesDerived.{places}
 use Rattle.yf_emit.specs.Layouts.RowComments.{AreDecos, carried_texts, comments_in, Calm}
 use Rattle.yf_emit.specs.Layouts.Decorated.{Deco, first, after, trails_then, end_then, lines_then, inline_then}
 use Rattle.yf_emit.specs.Layouts.ReadableTrees.{LineNode, is_inline}
-use Rattle.yf_emit.specs.NormalForms.Normal.{LayoutSetting, Spot}
-use Rattle.yf_emit.specs.Nodes.OneLine.{written}
-use Rattle.yf_emit.specs.Layouts.Rows.{Row, anywhere, joined, begins_below, start_of, is_dash}
+use Rattle.yf_forms.specs.NormalForms.Normal.{LayoutSetting, Spot}
+use Rattle.yf_forms.specs.Nodes.OneLine.{written}
+use Rattle.yf_print.specs.Layouts.Rows.{Row, anywhere, joined, begins_below, start_of, is_dash}
 use Rattle.yf_emit.proofs.Derived.LayoutSteps.{steps_in}
 use Rattle.yf_emit.proofs.OutputLines.HeldLemmas.{Held, empty_silent, held_joined, held_line, row_ended}
 use Rattle.yf_emit.proofs.Columns.FlowEvents.{flow_means}
@@ -43,7 +43,7 @@ use Rattle.yf_emit.proofs.OutputLines.SeenTexts.{ascii_ns}
 use Rattle.yf_emit.proofs.Columns.SetMeant.{column_more, SetMeant, SetSigned, set_flow, set_noting, signed_of, signed_empty}
 use Rattle.yf_emit.proofs.Columns.SetNodes.{ColumnAt}
 use Rattle.yf_emit.proofs.Derived.StepsInText.{MeaningLaid, laid_after, laid_empty}
-use Rattle.yf_emit.specs.Layouts.SourceColumns.{is_white_or_sign}
+use Rattle.yf_print.specs.Layouts.SourceColumns.{is_white_or_sign}
 use Rattle.yf_lines.proofs.VisibleLines.{visible_at}
 
 -- where a node is in its block: in a block context, its entries at a column at which they may be, and the lines of a block scalar

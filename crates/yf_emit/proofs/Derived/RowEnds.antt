@@ -15,7 +15,7 @@ use Rattle.yf_comments.specs.Comments.LineRest.{nothing, comment}
 use Rattle.yf_comments.proofs.GapLinesLemmas.{texts, texts_append, spaces_whites, remark_at, gap_at}
 use Rattle.yf_emit.specs.Layouts.RowComments.{AreTrails, IsDeco, AreDecos, nothing_carried, one_carried, carried_texts, comments_in, CalmBody, Calm}
 use Rattle.yf_emit.specs.Layouts.Decorated.{Deco, first, after, past, trails_then, end_then, lines_then}
-use Rattle.yf_emit.specs.Layouts.Rows.{Row}
+use Rattle.yf_print.specs.Layouts.Rows.{Row}
 use Rattle.yf_emit.proofs.Derived.DecoratedLemmas.{lines_append}
 
 -- The end of a line.

@@ -11,15 +11,16 @@ use Rattle.yf_emit.specs.Layouts.RowComments.{AreDecos}
 use Rattle.yf_emit.specs.Layouts.Decorated.{Deco, first, comments_left, decos_of}
 use Rattle.yf_emit.specs.Layouts.FitDocuments.{FitDirectives, fit_no_directives, fit_directive, FitDocuments, fit_no_documents, fit_document}
 use Rattle.yf_emit.specs.Layouts.ReadableTrees.{IsNoMarker}
-use Rattle.yf_emit.specs.Layouts.Layout.{Source, trailing, trailing_leaf, first_comment, trimmed}
-use Rattle.yf_emit.specs.NormalForms.Normal.{LayoutSetting, root_spot}
-use Rattle.yf_emit.specs.Layouts.Rows.{Row, at_document_start, directive_row, end_rows, beginning_at, begun_at, start_row, all_rows, stream_rows}
+use Rattle.yf_emit.specs.Layouts.Layout.{Source, trailing, trailing_leaf, first_comment}
+use Rattle.yf_forms.specs.Nodes.Lines.{trimmed}
+use Rattle.yf_forms.specs.NormalForms.Normal.{LayoutSetting, root_spot}
+use Rattle.yf_print.specs.Layouts.Rows.{Row, at_document_start, directive_row, end_rows, beginning_at, begun_at, start_row, all_rows, stream_rows}
 use Rattle.yf_emit.proofs.Derived.ClearRows.{AreBodyTexts, no_body_text, body_text, AreRowTexts, no_row_text, row_text, IsRowText, remark_unmarked, trails_bytes, trails_unmarked, unmarked_first, unmarked_indented, unmarked_nothing}
 use Rattle.yf_emit.proofs.OutputLines.LaidLines.{gap_lines, laid_lines, own_line, row_lines}
 use Rattle.yf_emit.proofs.Derived.RowEnds.{first_deco, after_decos}
 use Rattle.yf_emit.proofs.Derived.RowTexts.{row_texts}
 use Rattle.yf_emit.proofs.OutputLines.SeenTexts.{seen_ascii}
-use Rattle.yf_emit.specs.Layouts.KeptColumns.{Columns}
+use Rattle.yf_print.specs.Layouts.KeptColumns.{Columns}
 use Rattle.yf_lines.proofs.VisibleLines.{visible_line}
 
 -- Rows.

@@ -16,17 +16,18 @@ use Rattle.yf_props.proofs.PropsLines.{props_line_text}
 use Rattle.yf_events.specs.declared.event.ScalarStyle.{ScalarStyle}
 use Rattle.yf_events.specs.declared.event.ScalarStyle.TheVariants.{Plain, Single, Double, Literal, Folded}
 use Rattle.yf_events.specs.Tree.{NodeOffsets, Node, scalar, Items, item, Pairs, pair}
-use Rattle.yf_emit.specs.declared.style.Style.{Style}
-use Rattle.yf_emit.specs.Nodes.BlockLines.{content_lines, final_feeds, header_text}
+use Rattle.yf_forms.specs.declared.style.Style.{Style}
+use Rattle.yf_forms.specs.Nodes.BlockLines.{content_lines, final_feeds, header_text}
 use Rattle.yf_emit.specs.Layouts.ReadableTrees.{IsNoMarker, FitScalar, LineNode, ColonFits, colon_at_once, colon_apart, FitProps, no_fit_props, some_fit_props, Fit, fit_nothing, fit_line, fit_scalar, fit_sequence, fit_mapping, FitItems, fit_no_items, fit_item, FitPairs, fit_no_pairs, fit_pair}
-use Rattle.yf_emit.specs.NormalForms.Normal.{LayoutSetting, Spot, inner_spot, key_spot, value_of_implicit, value_spot, is_implicit, key_comment}
-use Rattle.yf_emit.specs.Nodes.OneLine.{written, colon_after, props_text}
-use Rattle.yf_emit.specs.Layouts.Rows.{Row, block_scalar, joined, one_line_row, props_row, after_sign, entry_row, colon_row, key_row, after_key, begins_below, explicit_pair, pair_rows, rows, rows_of_items, rows_of_pairs}
+use Rattle.yf_forms.specs.NormalForms.Normal.{LayoutSetting, Spot, inner_spot, key_spot, value_of_implicit, value_spot, is_implicit, key_comment}
+use Rattle.yf_forms.specs.Nodes.OneLine.{written, colon_after, props_text}
+use Rattle.yf_print.specs.Layouts.Rows.{Row, block_scalar, joined, one_line_row, props_row, after_sign, entry_row, colon_row, key_row, after_key, begins_below, explicit_pair, pair_rows, rows, rows_of_items, rows_of_pairs}
 use Rattle.yf_emit.proofs.Derived.ClearRows.{unmarked_first, unmarked_more, line_indented, IsRowText, no_body_text, AreRowTexts, no_row_text, row_text}
 use Rattle.yf_emit.proofs.Derived.CollectionsMade.{same_props}
 use Rattle.yf_emit.proofs.Derived.ScalarsMade.{header_line, header_unmarked, header_with, body_texts, scalar_rows_are}
 use Rattle.yf_emit.proofs.OutputLines.SeenTexts.{IsSeen, seen_ascii, seen_more, seen_back, props_seen}
 use Rattle.yf_emit.proofs.Derived.TreesMade.{inline_rows, not_implicit, block_is_no_key, either_pair}
+use Rattle.yf_chars.proofs.CharBounds.{visible_nb}
 
 -- Single texts.
 
@@ -47,12 +48,8 @@ dash_unmarked = record {
       not_second t q no.0 no.1 n.marker;
 }
 
-sign_nb : (c : ℕ) → 32 ≤ c → c < 127 → is_nb_char c ≡ true
-unfolding is_nb_char is_printable is_between is_break_char
-sign_nb c l h = grind (arith, nat_tests)
-
 ascii_line : (c : ℕ) → 32 ≤ c → c < 127 → IsLineText (c ∷ [])
-ascii_line c l h = line_ascii c (omega arith) (sign_nb c l h) line_nothing
+ascii_line c l h = line_ascii c (omega arith) (visible_nb c l h) line_nothing
 
 pub space_after_text : is_after_text 32 ≡ true
 unfolding is_after_text is_after_name
@@ -122,7 +119,7 @@ fit_props_texts column (some_fit_props {p = p} k n) =
 colon_text : (house : Style) {k : Node} (b : Bool) (w : List ℕ) → ColonFits b w → LineNode house BlockKey k → IsLineText (written house k ++ w) × IsNoMarker (written house k ++ w)
 colon_text house b w (colon_at_once e) node = (line_append node.back.line (ascii_line 58 (omega arith) (omega arith)), unmarked_more 58 [] node.unmarked (omega arith) colon_after_text)
 colon_text house b w colon_apart node =
-    (line_append node.back.line (line_ascii 32 (omega arith) (sign_nb 32 (omega arith) (omega arith)) (ascii_line 58 (omega arith) (omega arith))), unmarked_more 32 (58 ∷ []) node.unmarked (omega arith) space_after_text)
+    (line_append node.back.line (line_ascii 32 (omega arith) (visible_nb 32 (omega arith) (omega arith)) (ascii_line 58 (omega arith) (omega arith))), unmarked_more 32 (58 ∷ []) node.unmarked (omega arith) space_after_text)
 
 key_texts : (c : LayoutSetting) (column : ℕ) {k : Node} → is_implicit c.style column k ≡ true → Fit c.style k → IsRowText (key_row c.style column k)
 key_texts c column e (fit_nothing f) = record {
@@ -171,7 +168,7 @@ scalar_texts at {style = style} {text = text} {lines = lines} s spot l no_fit_pr
 scalar_texts at {style = style} {text = text} {lines = lines} s spot l (some_fit_props {p = p} k n) f =
     let is = header_with style s.indent text k n in
     row_text (record {
-      text = subst (λ w. IsLineText w) (sym is) (line_append (props_line_text k) (line_ascii 32 (omega arith) (sign_nb 32 (omega arith) (omega arith)) (header_line style s.indent text s.indent_to)));
+      text = subst (λ w. IsLineText w) (sym is) (line_append (props_line_text k) (line_ascii 32 (omega arith) (visible_nb 32 (omega arith) (omega arith)) (header_line style s.indent text s.indent_to)));
       unmarked = subst (λ w. IsNoMarker w) (sym is) (unmarked_more 32 (header_text style s.indent text) (props_unmarked k n) (omega arith) space_after_text);
       seen = subst (λ w. IsSeen w) (sym is) (seen_more (32 ∷ header_text style s.indent text) (props_seen k n));
       body = body_texts spot.lines (final_feeds text - 1) (content_lines style text lines) l f.texts;

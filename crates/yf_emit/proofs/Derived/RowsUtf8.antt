@@ -11,8 +11,8 @@ use Rattle.yf_events.specs.Tree.{DocumentTree}
 use Rattle.yf_emit.specs.Layouts.RowComments.{IsDeco, AreDecos}
 use Rattle.yf_emit.specs.Layouts.Decorated.{GapLine, blank, remark, gap_then, Deco, first, after, trails_then, body_then, end_then, lines_then}
 use Rattle.yf_emit.specs.Layouts.FitDocuments.{FitDirectives, fit_no_directives, fit_directive, FitDocuments, fit_no_documents, fit_document}
-use Rattle.yf_emit.specs.NormalForms.Normal.{LayoutSetting, root_spot}
-use Rattle.yf_emit.specs.Layouts.Rows.{Row, directive_row, end_rows, beginning_at, begun_at, all_rows, stream_rows}
+use Rattle.yf_forms.specs.NormalForms.Normal.{LayoutSetting, root_spot}
+use Rattle.yf_print.specs.Layouts.Rows.{Row, directive_row, end_rows, beginning_at, begun_at, all_rows, stream_rows}
 use Rattle.yf_emit.proofs.Derived.ClearRows.{line_indented, remark_line, trails_bytes, trails_are, trails_line, AreBodyTexts, no_body_text, body_text, AreRowTexts, no_row_text, row_text}
 use Rattle.yf_emit.proofs.Texts.LineUtf8.{line_utf8, feed_utf8}
 use Rattle.yf_emit.proofs.Derived.RowEnds.{first_deco, after_decos}

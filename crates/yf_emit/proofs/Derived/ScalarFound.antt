@@ -8,11 +8,11 @@ use Rattle.yf_events.specs.declared.event.ScalarStyle.{ScalarStyle}
 use Rattle.yf_events.specs.Tree.{NodeOffsets, scalar}
 use Rattle.yf_grammar.specs.Productions.Meaning.{Meaning, first_with, with_props, from_to}
 use Rattle.yf_grammar.proofs.WrittenTexts.ScalarPlaced.{scalar_event}
-use Rattle.yf_emit.specs.Nodes.BlockLines.{content_lines, final_feeds}
+use Rattle.yf_forms.specs.Nodes.BlockLines.{content_lines, final_feeds}
 use Rattle.yf_emit.specs.Nodes.BlockValues.{header_of}
 use Rattle.yf_emit.specs.Layouts.ReadableTrees.{FitScalar}
-use Rattle.yf_emit.specs.NormalForms.Normal.{LayoutSetting, Spot}
-use Rattle.yf_emit.specs.Layouts.Rows.{Row}
+use Rattle.yf_forms.specs.NormalForms.Normal.{LayoutSetting, Spot}
+use Rattle.yf_print.specs.Layouts.Rows.{Row}
 use Rattle.yf_emit.proofs.RowNodes.FoundNodes.{FoundNode, scalar_rows}
 use Rattle.yf_emit.proofs.RowNodes.PlacedRows.{never_bare, none_inside, one_inside, PlacedRow, AtRow}
 use Rattle.yf_emit.proofs.Derived.ScalarsInText.{style_back}

@@ -30,22 +30,22 @@ use Rattle.yf_grammar.specs.Productions.Meaning.{Meaning, meaning_after, with_pr
 use Rattle.yf_grammar.proofs.Documents.CommentOrder.{ascend_after, scalar_ascends}
 use Rattle.yf_grammar.proofs.WrittenTexts.LeafBack.{propertied}
 use Rattle.yf_grammar.proofs.NodesInText.MeantLemmas.{texts_with_props}
-use Rattle.yf_emit.specs.Nodes.BlockLines.{begins_with_space, block_lines, chomping_sign, content_lines, digit_text, final_feeds, header_text, is_kept_tail, line_at, style_sign}
+use Rattle.yf_forms.specs.Nodes.BlockLines.{begins_with_space, block_lines, chomping_sign, content_lines, digit_text, final_feeds, header_text, is_kept_tail, line_at, style_sign}
 use Rattle.yf_emit.specs.Nodes.BlockValues.{chomp_of, digit_of, header_of}
 use Rattle.yf_emit.specs.Layouts.RowComments.{IsDeco, AreDecos, carried_texts, CalmBody}
 use Rattle.yf_emit.specs.Layouts.Decorated.{GapLine, gap_then, Deco, first, trails_then, body_then, end_then, inline_then}
 use Rattle.yf_emit.specs.Layouts.ReadableTrees.{FitScalar, FitProps, no_fit_props, some_fit_props, is_block_style, IsNoMarker}
 use Rattle.yf_emit.specs.Layouts.Layout.{may_be_blank_after}
-use Rattle.yf_emit.specs.NormalForms.Normal.{LayoutSetting, Spot}
-use Rattle.yf_emit.specs.Nodes.OneLine.{spaced, props_text}
-use Rattle.yf_emit.specs.Layouts.Rows.{begins_below, Row, Ending, block_scalar, tail_ending, is_empty_text, rows}
+use Rattle.yf_forms.specs.NormalForms.Normal.{LayoutSetting, Spot}
+use Rattle.yf_forms.specs.Nodes.OneLine.{spaced, props_text}
+use Rattle.yf_print.specs.Layouts.Rows.{begins_below, Row, Ending, block_scalar, tail_ending, rows}
+use Rattle.yf_forms.specs.Nodes.Lines.{is_empty_text}
 use Rattle.yf_emit.proofs.Derived.LayoutSteps.{a_leaf, leaf_steps, comment_steps, steps_in}
 use Rattle.yf_emit.proofs.Derived.ClearRows.{unmarked_first, unmarked_nothing, line_indented, AreBodyTexts, no_body_text, body_text, place_of_rest}
-use Rattle.yf_emit.proofs.Derived.CollectionsMade.{same_props, some_props}
+use Rattle.yf_emit.proofs.Derived.CollectionsMade.{same_props, some_props, comments_with_props}
 use Rattle.yf_emit.proofs.OutputLines.HeldLemmas.{held_scalar}
 use Rattle.yf_emit.proofs.Columns.SetMeant.{SetMeant, set_block}
-use Rattle.yf_emit.proofs.Derived.CollectionsMade.{comments_with_props, same_props, some_props}
-use Rattle.yf_emit.proofs.Derived.NodePlaces.{apart_at, both_after, block_no_key}
+use Rattle.yf_emit.proofs.Derived.NodePlaces.{apart_at, both_after}
 use Rattle.yf_emit.proofs.Derived.NodesMade.{Stood, NodeMade, Claim, some_rows}
 use Rattle.yf_emit.proofs.RowNodes.PlacedRows.{after_scalar, last_end, leaf_to, no_leaf_to, RowsIn, last_row}
 use Rattle.yf_emit.proofs.Derived.RowEnds.{trails_at, first_deco}
@@ -58,6 +58,8 @@ use Rattle.yf_emit.proofs.OutputLines.WellSet.{AllSet}
 use Rattle.yf_emit.proofs.OutputLines.ScalarBytes.{header_bytes_are, lines_are, trail_of, trail_is, trail_fits, trail_comments}
 use Rattle.yf_grammar.proofs.FlowReader.ParserLemmas.{after_nothing}
 use Rattle.yf_lines.proofs.VisibleLines.{visible_line}
+use Rattle.yf_emit.proofs.Printer.LeafPrinted.{header_filled}
+use Rattle.yf_grammar.proofs.BlockOutcomes.BlockGaps.{block_no_key}
 
 -- What follows it.
 
@@ -166,13 +168,6 @@ some_bytes : (w : List ℕ) → is_empty_text w ≡ false → w ≢ []
 some_bytes [] e f = true≢false e
 some_bytes (b ∷ w) e f = cc
 
-header_some : (style : ScalarStyle) (indent : ℕ) (text : List ℕ) → is_empty_text (header_text style indent text) ≡ false
-header_some Plain indent text = refl
-header_some Single indent text = refl
-header_some Double indent text = refl
-header_some Literal indent text = refl
-header_some Folded indent text = refl
-
 -- the scalar from its header on, after the text of the row before it
 scalar_at : {t : List ℕ} {style : ScalarStyle} {text : List ℕ} {lines : List (List ℕ)} (indent : ℕ) (n : ℤ) (column : ℕ) (d : Deco) (r : List ℕ) (q : ℕ) → FitScalar style text lines → 2 ≤ indent → indent ≤ 8
     → column ≡ base n + indent → IsUtf8 t → IsDeco d → CalmBody (block_lines style column text lines) column (tail_ending (is_kept_tail (final_feeds text))) d.gap r
@@ -196,7 +191,7 @@ scalar_at {t} {style} {text} {lines} indent n column d r q f wide near e u a cal
     let header : List ℕ = header_text style indent text in
     let body : List (List ℕ) = block_lines style column text lines in
     let signs = header_signs style indent text near in
-    let some = some_bytes header (header_some style indent text) in
+    let some = some_bytes header (header_filled style indent text) in
     let text_end = rest_text header u (header_line style indent text near) w in
     record {
       reached = made;
@@ -225,7 +220,7 @@ body_some column n (x ∷ ls) last e = absurd cc
 -- with properties
 pub header_with : {p : PropsValue} (style : ScalarStyle) (indent : ℕ) (text : List ℕ) → IsProps p → p ≢ no_props → spaced (props_text p) (header_text style indent text) ≡ props_bytes p ++ (32 ∷ header_text style indent text)
 header_with {p} style indent text k n =
-    ap (λ z. spaced z (header_text style indent text)) (same_props k) ∙ spaced_some (props_bytes p) (header_text style indent text) (some_props k n) (header_some style indent text)
+    ap (λ z. spaced z (header_text style indent text)) (same_props k) ∙ spaced_some (props_bytes p) (header_text style indent text) (some_props k n) (header_filled style indent text)
 
 props_set : (t : List ℕ) (p : PropsValue) (o : Option ℕ) (q g : ℕ) (m : Meaning) → AllSet t m.comments → AllSet t (with_props p o q g m).comments
 unfolding with_props
@@ -245,7 +240,7 @@ notes_of : {t : List ℕ} {n : ℤ} (s : LayoutSetting) (style : ScalarStyle) (t
     → Rest t q (header_text style s.style.indent text ++ end_then (first ds) (block_lines style spot.lines text lines) r) → HeaderNotes t q made.reached.start made.reached.header.comments (first ds).trails
 notes_of s style text lines spot ds r q u a made w =
     header_notes (header_text style s.style.indent text) (first ds) (block_lines style spot.lines text lines) r u (header_line style s.style.indent text s.style.indent_to) (header_signs style s.style.indent text s.style.indent_to)
-    (some_bytes (header_text style s.style.indent text) (header_some style s.style.indent text)) (first_deco a) w made.reached.head
+    (some_bytes (header_text style s.style.indent text) (header_filled style s.style.indent text)) (first_deco a) w made.reached.head
 
 tail_of : {t : List ℕ} {n : ℤ} (s : LayoutSetting) {style : ScalarStyle} {text : List ℕ} {lines : List (List ℕ)} (f : FitScalar style text lines) (spot : Spot) (ds : List Deco) (r : List ℕ) (q : ℕ) → IsUtf8 t → 0 < spot.lines
     → (made : ScalarMade t n (header_of style s.style.indent text) (content_lines style text lines) (final_feeds text - 1) ((first ds).trails ++ remarks_of (first ds).gap) q r (body_then (block_lines style spot.lines text lines) (gap_then (first ds).gap r))

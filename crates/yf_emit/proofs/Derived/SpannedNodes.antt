@@ -16,6 +16,7 @@ use Rattle.yf_grammar.specs.Productions.Grammar.{Production, FlowNode, NodeOf, J
 use Rattle.yf_grammar.specs.Productions.Grammar.Derives.{flow_node, an_alias, a_plain, a_plain_with, properties_alone, a_json, a_json_with, a_single, a_double, an_empty_collection, a_collection, last_entry, last_entry_with_comma, more_entries, a_node_entry, a_pair_entry, an_explicit_entry, an_implicit_entry, an_explicit_pair, a_keyed_pair, an_unkeyed_pair, explicit_with, explicit_without, key_alone, key_and_value, value_alone, empty_value, a_value, a_key, a_block_scalar, a_block_scalar_with, a_block_collection, a_block_collection_with, flow_in_block, a_last_entry, an_entry_before, a_dash_entry, an_explicit_entry_with, an_explicit_key_alone, a_keyed_entry, an_unkeyed_entry, a_block_value, an_empty_block_value, a_compact_collection, an_indented_node, nothing_indented}
 use Rattle.yf_grammar.specs.Productions.Meaning.{Meaning, scalar as scalar_meaning, alias_to, collection, plain_event, from_to, span_since, first_with, with_props, meaning_after, noting, empty_node}
 use Rattle.yf_grammar.specs.Productions.TreesOfMeaning.{MeansTrees}
+use Rattle.yf_emit.proofs.Writable.ReadParts.{since}
 
 abbrev pub has_span : List EventInText → Bool
 has_span [] = false
@@ -45,21 +46,16 @@ SpanClaim (JsonContent n c) x = has_span x.events ≡ true
 SpanClaim (BlockNode n c) x = has_span x.events ≡ true
 SpanClaim p x = Unit {0}
 
-since_some : (i j : ℕ) (o : Option Span) → is_some (span_since i j o) ≡ true
-unfolding from_to
-since_some i j (Some span) = refl
-since_some i j None = refl
-
 with_some : (props : PropsValue) (tag : Option ℕ) (i j : ℕ) (x : Meaning) → has_span x.events ≡ true → has_span (with_props props tag i j x).events ≡ true
 unfolding with_props
 with_some props tag i j x e = by x.events e where
   by : (es : List EventInText) → has_span es ≡ true → has_span (first_with props tag i j es) ≡ true
   by [] f = f
-  by (v ∷ es) f = since_some i j v.span
+  by (v ∷ es) f = since i j v.span
 
 empty_some : (props : PropsValue) (tag : Option ℕ) (i j k : ℕ) → has_span (with_props props tag i j (empty_node k)).events ≡ true
 unfolding with_props empty_node plain_event from_to
-empty_some props tag i j k = since_some i j None
+empty_some props tag i j k = since i j None
 
 scalar_some : (style : ScalarStyle) (text escapes : List ℕ) (i j : ℕ) → has_span (scalar_meaning style text escapes i j).events ≡ true
 unfolding scalar_meaning plain_event from_to

@@ -12,7 +12,7 @@ use Rattle.yf_events.specs.declared.event.ScalarStyle.{ScalarStyle}
 use Rattle.yf_events.specs.declared.event.Span.{Span}
 use Rattle.yf_grammar.specs.Productions.Meaning.{Meaning, ◌⊕◌, meaning_after, noting, plain_event, from_to, empty_node, collection, with_props, first_entering, first_with, entering}
 use Rattle.yf_grammar.proofs.Documents.CommentOrder.{Ascend, no_more, one_more}
-use Rattle.yf_grammar.proofs.NodesInText.NodePlaces.{ColonIsAt, no_colon, a_colon, NodeIsAt, is_at_nowhere, scalar_is_at, alias_is_at, sequence_is_at, mapping_is_at, ItemsStand, no_items_stand, item_is_at, PairsStand, no_pairs_stand, pair_is_at}
+use Rattle.yf_grammar.proofs.NodesInText.NodePlaces.{ColonIsAt, no_colon, a_colon, NodeIsAt, is_at_nowhere, scalar_is_at, alias_is_at, sequence_is_at, mapping_is_at, ItemsStand, no_items_stand, item_is_at, PairsStand, no_pairs_stand, pair_is_at, colon_order}
 use Rattle.yf_grammar.proofs.NodesInText.PlacedNodes.{NodeAt}
 use Rattle.yf_emit.proofs.Derived.LayoutSteps.{Step, a_leaf, a_comment, leaf_steps, comment_steps}
 
@@ -22,11 +22,6 @@ pub data Stand : ℕ → List ℕ → List CommentValue → List Step → ℕ �
   leaf_is_at : {i s j : ℕ} {ss : List ℕ} {cs : List CommentValue} {steps : List Step} → i ≤ s → Stand s ss cs steps j → Stand i (s ∷ ss) cs (a_leaf ∷ steps) j
   comment_is_at : {i j : ℕ} {c : CommentValue} {ss : List ℕ} {cs : List CommentValue} {steps : List Step} → i ≤ c.offset → Stand c.offset ss cs steps j
       → Stand i ss (c ∷ cs) (a_comment c.text ∷ steps) j
-
-pub stand_order : {i j : ℕ} {ss : List ℕ} {cs : List CommentValue} {steps : List Step} → Stand i ss cs steps j → i ≤ j
-stand_order (nothing_is_at l) = l
-stand_order (leaf_is_at l a) = let m = stand_order a in omega (arith, l, m)
-stand_order (comment_is_at l a) = let m = stand_order a in omega (arith, l, m)
 
 pub stand_after : {h i j : ℕ} {ss : List ℕ} {cs : List CommentValue} {steps : List Step} → h ≤ i → Stand i ss cs steps j → Stand h ss cs steps j
 stand_after l (nothing_is_at m) = nothing_is_at (omega (arith, l, m))
@@ -69,10 +64,6 @@ leaves_join {i} {k} {j} xs ys a b =
 leaf_stand : {i j : ℕ} (a b : ℕ) (o : Option Span) → o ≡ from_to a b → i ≤ a → a ≤ j → Stand i (starts_of (spans_of_leaf o)) [] (leaf_steps (spans_of_leaf o)) j
 unfolding from_to
 leaf_stand {i} {j} a b o e l m = subst (λ w. Stand i (starts_of (spans_of_leaf w)) [] (leaf_steps (spans_of_leaf w)) j) (sym e) (leaf_is_at l (nothing_is_at m))
-
-colon_order : {t : List ℕ} {i j : ℕ} {c : Option ℕ} → ColonIsAt t i j c → i ≤ j
-colon_order (no_colon l) = l
-colon_order (a_colon l e m) = omega (arith, l, m)
 
 mutual
   pub node_stand : {t : List ℕ} {i j : ℕ} {x : Node} → NodeIsAt t i j x → Stand i (starts_of (leaves x)) [] (leaf_steps (leaves x)) j

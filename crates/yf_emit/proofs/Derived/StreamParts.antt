@@ -17,7 +17,7 @@ use Rattle.yf_stream.specs.ReadingOf.{DocumentEvents, no_document, one_document}
 use Rattle.yf_stream.specs.Stream.{Document, document_of, Documents, only_comments, with_document, with_comments, Prefixes}
 use Rattle.yf_stream.specs.Stream.PrefixPart.{prefix_comment}
 use Rattle.yf_emit.specs.Layouts.FitDocuments.{DocumentMeant, DocumentsMeant, document_meant}
-use Rattle.yf_emit.specs.Layouts.Rows.{Row, directive_row, start_row, end_rows, beginning_at}
+use Rattle.yf_print.specs.Layouts.Rows.{Row, directive_row, start_row, end_rows, beginning_at}
 use Rattle.yf_emit.proofs.Derived.LayoutSteps.{Step}
 use Rattle.yf_emit.proofs.Derived.StepsInText.{Stand, nothing_is_at, stand_join, MeaningLaid, EventsLaid}
 use Rattle.std.specs.Prelude.{not}

@@ -22,8 +22,8 @@ use Rattle.yf_emit.specs.Layouts.RowComments.{AreDecos, comments_in, Calm}
 use Rattle.yf_emit.specs.Layouts.Decorated.{GapLine, gap_then, Deco, past, lines_then}
 use Rattle.yf_emit.specs.Layouts.FitDocuments.{FitDocuments, fit_no_documents, fit_document, DocumentsMeant, no_documents_meant, tall_documents, FitsBare, fits_bare}
 use Rattle.yf_emit.proofs.Derived.LayoutLaws.{StreamMade}
-use Rattle.yf_emit.specs.NormalForms.Normal.{LayoutSetting}
-use Rattle.yf_emit.specs.Layouts.Rows.{Row, document_rows, stream_rows, all_rows, bare_rows, begun_at}
+use Rattle.yf_forms.specs.NormalForms.Normal.{LayoutSetting}
+use Rattle.yf_print.specs.Layouts.Rows.{Row, document_rows, stream_rows, all_rows, bare_rows, begun_at}
 use Rattle.yf_emit.proofs.Derived.LayoutSteps.{comment_steps, steps_in}
 use Rattle.yf_emit.proofs.Derived.DecoratedLemmas.{lines_append}
 use Rattle.yf_emit.proofs.SameReading.DocumentsBegun.{comments_begun, documents_begun, starts_in}

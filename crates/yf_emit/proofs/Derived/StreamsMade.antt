@@ -21,8 +21,8 @@ use Rattle.yf_emit.specs.Layouts.RowComments.{AreDecos, carried_texts, comments_
 use Rattle.yf_emit.specs.Layouts.Decorated.{Deco, first, after, past, end_then, lines_then}
 use Rattle.yf_emit.specs.Layouts.FitDocuments.{FitDirective, FitDirectives, fit_directive, FitDocuments, fit_no_documents, fit_document, DocumentMeant, DocumentsMeant, no_documents_meant, tall_documents}
 use Rattle.yf_emit.specs.Layouts.ReadableTrees.{Fit}
-use Rattle.yf_emit.specs.NormalForms.Normal.{LayoutSetting, root_spot}
-use Rattle.yf_emit.specs.Layouts.Rows.{Row, plain_row, directive_row, start_row, joined_words, rows, document_rows, stream_rows}
+use Rattle.yf_forms.specs.NormalForms.Normal.{LayoutSetting, root_spot}
+use Rattle.yf_print.specs.Layouts.Rows.{Row, plain_row, directive_row, start_row, joined_words, rows, document_rows, stream_rows}
 use Rattle.yf_emit.proofs.Derived.LayoutSteps.{steps_in}
 use Rattle.yf_emit.proofs.Derived.DecoratedLemmas.{lines_append}
 use Rattle.yf_emit.proofs.SameReading.DocumentsBegun.{document_begun, documents_begun, explicit_begun, starts_in}

@@ -15,9 +15,10 @@ use Rattle.yf_grammar.specs.Productions.Meaning.{Meaning}
 use Rattle.yf_grammar.specs.Productions.TreesOfMeaning.{tall, tall_items, tall_pairs}
 use Rattle.yf_grammar.proofs.NodesInText.MeantLemmas.{meant_nothing}
 use Rattle.yf_emit.specs.Layouts.ReadableTrees.{LineNode, is_inline, is_block_style, FitProps, no_fit_props, some_fit_props, Fit, fit_nothing, fit_line, fit_scalar, fit_sequence, fit_mapping, FitItems, fit_no_items, fit_item, FitPairs, fit_no_pairs, fit_pair}
-use Rattle.yf_emit.specs.NormalForms.Normal.{LayoutSetting, Spot, inner_spot, key_spot, value_of_implicit, value_spot, is_implicit, is_one_line_key, key_comment}
-use Rattle.yf_emit.specs.Nodes.OneLine.{written, width, props_text}
-use Rattle.yf_emit.specs.Layouts.Rows.{Row, plain_row, one_line, one_line_row, props_row, after_sign, entry_row, colon_offset, blank_before_entry, begins_below, is_empty_text, implicit_pair, explicit_pair, pair_rows, rows, rows_of_items, rows_of_pairs}
+use Rattle.yf_forms.specs.NormalForms.Normal.{LayoutSetting, Spot, inner_spot, key_spot, value_of_implicit, value_spot, is_implicit, is_one_line_key, key_comment}
+use Rattle.yf_forms.specs.Nodes.OneLine.{written, width, props_text}
+use Rattle.yf_print.specs.Layouts.Rows.{Row, plain_row, one_line, one_line_row, props_row, after_sign, entry_row, colon_offset, blank_before_entry, begins_below, implicit_pair, explicit_pair, pair_rows, rows, rows_of_items, rows_of_pairs}
+use Rattle.yf_forms.specs.Nodes.Lines.{is_empty_text}
 use Rattle.yf_emit.proofs.Derived.CollectionsMade.{same_props, some_props, bare_claim, propertied_claim}
 use Rattle.yf_emit.proofs.Derived.EntriesMade.{EntryMakes, EntriesMakes, entries_last, entries_more, item_makes, explicit_makes}
 use Rattle.yf_emit.proofs.Derived.FoundCollections.{found_sequence, found_mapping, found_sequence_with, found_mapping_with}

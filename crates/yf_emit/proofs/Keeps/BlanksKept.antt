@@ -6,13 +6,13 @@ use Rattle.yf_comments.specs.Comment.{CommentValue}
 use Rattle.yf_comments.specs.GapLines.{GapLine}
 use Rattle.yf_events.specs.Event.{EventInText}
 use Rattle.yf_events.specs.declared.lists.Lists.{Lists}
-use Rattle.yf_emit.specs.declared.style.Style.{Style}
+use Rattle.yf_forms.specs.declared.style.Style.{Style}
 use Rattle.yf_emit.specs.Layouts.Decorated.{comments_left, decos_of, gap_of, rows_of}
 use Rattle.yf_emit.specs.Format.{IsFormatting}
 use Rattle.yf_emit.specs.Layouts.Layout.{Line, Source, comment_line, lines_of, may_be_blank_after, own_line_comments, precedes_item, row_line, source_of}
-use Rattle.yf_emit.specs.NormalForms.Restyled.{SameButStyles, none_left, one_more}
+use Rattle.yf_forms.specs.NormalForms.Restyled.{SameButStyles, none_left, one_more}
 use Rattle.yf_emit.specs.Layouts.RowShapes.{shape_of}
-use Rattle.yf_emit.specs.Layouts.Rows.{Ending, Row, anywhere, at_text_start}
+use Rattle.yf_print.specs.Layouts.Rows.{Ending, Row, anywhere, at_text_start}
 use Rattle.yf_emit.specs.Preservation.SpacedLines.{SameBlanks, left_blank, notes_of}
 use Rattle.yf_emit.proofs.SecondRun.AlikeLemmas.{shapes}
 use Rattle.yf_emit.proofs.ReadAgain.BlanksAgain.{blanks_found}
@@ -24,8 +24,8 @@ use Rattle.yf_emit.proofs.ReadAgain.GapsAgain.{Blanks, first_remark, gap_at_end,
 use Rattle.yf_emit.proofs.NormalForms.NormalRestyled.{normal_restyled}
 use Rattle.yf_emit.proofs.ReadAgain.ReadingsAgain.{OwnCarried, alone_carried, rows_carried}
 use Rattle.yf_emit.proofs.ReadAgain.RowsAgain.{Apart, Carry, last_carries, row_carries, kept_first, kept_others}
-use Rattle.yf_emit.specs.Layouts.BareStart.{is_bare}
-use Rattle.yf_emit.specs.Layouts.KeptColumns.{Columns, columns_of}
+use Rattle.yf_print.specs.Layouts.BareStart.{is_bare}
+use Rattle.yf_print.specs.Layouts.KeptColumns.{Columns, columns_of}
 use Rattle.yf_emit.specs.Preservation.CommentsPlaced.{columns_in}
 
 -- Between two rows.

@@ -10,16 +10,16 @@ use Rattle.yf_comments.specs.Comment.{CommentValue}
 use Rattle.yf_events.specs.Tree.{DocumentTree}
 use Rattle.yf_events.specs.declared.event.Span.{Span}
 use Rattle.yf_events.specs.declared.lists.Lists.{Lists}
-use Rattle.yf_emit.specs.declared.style.Style.{Style}
-use Rattle.yf_emit.specs.Layouts.BareStart.{is_bare}
+use Rattle.yf_forms.specs.declared.style.Style.{Style}
+use Rattle.yf_print.specs.Layouts.BareStart.{is_bare}
 use Rattle.yf_emit.specs.Preservation.CommentsPlaced.{CommentsPlaced, at_leaf, ends_line, rows_in, source_in}
 use Rattle.yf_emit.specs.Layouts.Decorated.{rows_of}
 use Rattle.yf_emit.specs.Format.{IsFormatting}
 use Rattle.yf_emit.specs.Layouts.Layout.{Remark, Source, first_comment, is_among, source_of, trailing, trailing_leaf}
-use Rattle.yf_emit.specs.NormalForms.Normal.{normal_document, setting_of}
-use Rattle.yf_emit.specs.Layouts.Rows.{Row}
+use Rattle.yf_forms.specs.NormalForms.Normal.{normal_document, setting_of}
+use Rattle.yf_print.specs.Layouts.Rows.{Row}
 use Rattle.yf_emit.proofs.ReadAgain.BlanksAgain.{blanks_found}
-use Rattle.yf_emit.proofs.SameReading.CommentsCut.{among_join, itself}
+use Rattle.yf_emit.proofs.SameReading.CommentsCut.{among_join}
 use Rattle.yf_emit.proofs.Derived.DecoratedLemmas.{layout_then}
 use Rattle.yf_emit.proofs.Trails.DocumentTrails.{leaves_of}
 use Rattle.yf_emit.proofs.SecondRun.FixedLawsHold.{found_reading}
@@ -29,6 +29,8 @@ use Rattle.yf_emit.proofs.Keeps.KeysTold.{laid_keys}
 use Rattle.yf_emit.proofs.SameReading.StepLeaves.{laid_trees}
 use Rattle.yf_emit.proofs.Trails.RowLeaves.{leaves_on}
 use Rattle.yf_emit.proofs.SameReading.SourceOffsets.{source_is_at}
+use Rattle.yf_forms.proofs.Measure.OffsetLemmas.{or_true}
+use Rattle.yf_forms.proofs.Decide.LeafLemmas.{same as itself}
 
 -- Tests.
 
@@ -134,14 +136,10 @@ rows_exact m rows d =
     let c : Source = source_of m rows in
     all_rows c d rows ∙ absorb (is_among c.key_comments d) (list_any (λ leaf. is_among (at_leaf leaf (first_comment c leaf)) d) c.leaves)
 
-either_late : (b : Bool) → (b || true) ≡ true
-either_late true = refl
-either_late false = refl
-
 any_at : (p : Span → Bool) (xs : List Span) (i : ℕ) (x : Span) → slice_get xs i ≡ Some x → p x ≡ true → list_any p xs ≡ true
 any_at p [] i x e f = absurd cc
 any_at p (y ∷ xs) zero x e f = let same : y ≡ x = same_Some _ _ e in ap (λ b. b || list_any p xs) (ap p same ∙ f)
-any_at p (y ∷ xs) (suc i) x e f = ap (λ b. p y || b) (any_at p xs i x e f) ∙ either_late (p y)
+any_at p (y ∷ xs) (suc i) x e f = ap (λ b. p y || b) (any_at p xs i x e f) ∙ or_true (p y)
 
 none_at : (p : Span → Bool) (xs : List Span) → ((i : ℕ) (x : Span) → slice_get xs i ≡ Some x → p x ≡ false) → list_any p xs ≡ false
 none_at p [] f = refl
@@ -165,7 +163,7 @@ comments_stay t u s utf8 = record {
       let here : is_among (at_leaf leaf (first_comment c leaf)) d ≡ true =
       ap (λ o. is_among (at_leaf leaf o) d) first ∙ (ap (λ b. is_among (if b then d ∷ [] else []) d) near ∙ ap (λ b. b || false) (itself d.offset)) in
       rows_exact f.normal (rows_in f) d
-      ∙ (ap (λ b. is_among c.key_comments d || b) (any_at (λ l. is_among (at_leaf l (first_comment c l)) d) c.leaves i leaf got here) ∙ either_late (is_among c.key_comments d));
+      ∙ (ap (λ b. is_among c.key_comments d || b) (any_at (λ l. is_among (at_leaf l (first_comment c l)) d) c.leaves i leaf got here) ∙ or_true (is_among c.key_comments d));
   stays_alone = λ f d no_key nowhere.
       let c : Source = source_in f in
       rows_exact f.normal (rows_in f) d

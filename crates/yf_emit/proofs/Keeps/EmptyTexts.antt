@@ -7,21 +7,22 @@ use Rattle.yf_events.specs.declared.directive.Directive.{Directive}
 use Rattle.yf_events.specs.declared.document.Doc.{Doc}
 use Rattle.yf_events.specs.declared.lists.Lists.{Lists}
 use Rattle.yf_stream.proofs.LawsHold.{readings_are_one}
-use Rattle.yf_emit.specs.declared.style.Style.{Style}
+use Rattle.yf_forms.specs.declared.style.Style.{Style}
 use Rattle.yf_emit.specs.Preservation.CommentsPlaced.{rows_in, source_in, columns_in}
 use Rattle.yf_emit.specs.Preservation.EmptyTexts.{IsEmptyAlike}
 use Rattle.yf_emit.specs.Format.{IsFormatting}
-use Rattle.yf_emit.specs.Layouts.Layout.{Line, Source, blank_line, bytes_after, ended, comment_line, is_among, line_bytes, lines_of, lines_with_comments, own_line_comments, precedes_item, row_line, source_of}
-use Rattle.yf_emit.specs.NormalForms.Normal.{LayoutSetting, root_spot, setting_of}
-use Rattle.yf_emit.specs.Layouts.Rows.{Ending, Row, at_text_start, beginning_at, directive_row, end_rows, rows, start_row, stream_rows, all_rows, begun_at}
+use Rattle.yf_emit.specs.Layouts.Layout.{Line, Source, blank_line, bytes_after, comment_line, is_among, line_bytes, lines_of, lines_with_comments, own_line_comments, precedes_item, row_line, source_of}
+use Rattle.yf_forms.specs.Nodes.Lines.{ended}
+use Rattle.yf_forms.specs.NormalForms.Normal.{LayoutSetting, root_spot, setting_of}
+use Rattle.yf_print.specs.Layouts.Rows.{Ending, Row, at_text_start, beginning_at, directive_row, end_rows, rows, start_row, stream_rows, all_rows, begun_at}
 use Rattle.yf_emit.proofs.SameReading.StepComments.{firsts}
 use Rattle.yf_emit.proofs.Keeps.KeyDecides.{as_many_notes}
 use Rattle.yf_emit.proofs.Derived.BareFound.{rows_some}
-use Rattle.yf_emit.specs.Layouts.BareStart.{is_bare}
+use Rattle.yf_print.specs.Layouts.BareStart.{is_bare}
 use Rattle.yf_emit.specs.Layouts.FitDocuments.{FitDocuments, fit_document, FitsBare, fits_bare, fit_no_documents}
 use Rattle.yf_emit.proofs.Derived.FormatsRead.{formats_bare, formats_fit}
 use Rattle.std.specs.Str.{IsUtf8}
-use Rattle.yf_emit.specs.Layouts.KeptColumns.{Columns}
+use Rattle.yf_print.specs.Layouts.KeptColumns.{Columns}
 
 -- Lines have bytes, and documents rows.
 

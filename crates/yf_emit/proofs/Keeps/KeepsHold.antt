@@ -1,7 +1,7 @@
 -- What formatting leaves as it was.
 use Rattle.std.proofs.Common.{List, ℕ}
 use Rattle.std.specs.Str.{IsUtf8}
-use Rattle.yf_emit.specs.declared.style.Style.{Style}
+use Rattle.yf_forms.specs.declared.style.Style.{Style}
 use Rattle.yf_emit.specs.Format.{IsFormatting}
 use Rattle.yf_emit.specs.Keeps.{Keeps}
 use Rattle.yf_emit.proofs.Keeps.BlanksKept.{blanks_kept}

@@ -5,22 +5,23 @@ use Rattle.std.proofs.lemmas.List.{length-map}
 use Rattle.yf_comments.specs.Comment.{CommentValue}
 use Rattle.yf_comments.specs.GapLines.{remark}
 use Rattle.yf_events.specs.declared.lists.Lists.{Lists}
-use Rattle.yf_emit.specs.declared.style.Style.{Style}
+use Rattle.yf_forms.specs.declared.style.Style.{Style}
 use Rattle.yf_emit.specs.Preservation.CommentsPlaced.{ends_line, rows_in, source_in, columns_in}
 use Rattle.yf_emit.specs.Layouts.Decorated.{blank_if, comments_left, decorated, decos_of, ending_after, first_gap, gap_of, gap_then, lines_then, remarks_after, row_decos, rows_of}
 use Rattle.yf_emit.specs.Format.{IsFormatting}
-use Rattle.yf_emit.specs.Layouts.Layout.{Source, is_among, may_be_blank_after, own_line_comments, precedes_item, source_of, trailing, trimmed}
+use Rattle.yf_emit.specs.Layouts.Layout.{Source, is_among, may_be_blank_after, own_line_comments, precedes_item, source_of, trailing}
+use Rattle.yf_forms.specs.Nodes.Lines.{trimmed}
 use Rattle.yf_emit.specs.Preservation.LayoutKey.{DependsOnKey, SameEnds, no_ends, same_end, SameKey, no_place, same_place, SamePlaces, no_comments, same_comment, SameRows, no_more_rows, same_row}
 use Rattle.yf_emit.specs.Layouts.RowShapes.{shape_of}
-use Rattle.yf_emit.specs.Layouts.Rows.{Ending, Row, anywhere, at_text_start, all_rows}
+use Rattle.yf_print.specs.Layouts.Rows.{Ending, Row, anywhere, at_text_start, all_rows}
 use Rattle.yf_emit.proofs.SecondRun.AlikeLemmas.{shapes}
 use Rattle.yf_emit.proofs.Keeps.CommentsStay.{rows_exact}
 use Rattle.yf_emit.proofs.SameReading.StepComments.{firsts}
 use Rattle.yf_emit.proofs.Derived.DecoratedLemmas.{layout_then}
 use Rattle.yf_emit.proofs.SecondRun.FixedRows.{same_lines, all_same_rows}
-use Rattle.yf_emit.specs.Layouts.BareStart.{is_bare}
-use Rattle.yf_emit.specs.NormalForms.Normal.{setting_of}
-use Rattle.yf_emit.specs.Layouts.KeptColumns.{Columns}
+use Rattle.yf_print.specs.Layouts.BareStart.{is_bare}
+use Rattle.yf_forms.specs.NormalForms.Normal.{setting_of}
+use Rattle.yf_print.specs.Layouts.KeptColumns.{Columns}
 
 -- Comments that are taken out.
 

@@ -14,16 +14,17 @@ use Rattle.yf_events.specs.Tree.{DocumentTree, flat_document}
 use Rattle.yf_events.specs.declared.document.Doc.{Doc}
 use Rattle.yf_events.specs.declared.lists.Lists.{Lists}
 use Rattle.yf_grammar.specs.Productions.TreesOfMeaning.{tall}
-use Rattle.yf_emit.specs.declared.style.Style.{Style}
-use Rattle.yf_emit.specs.Nodes.BlockLines.{block_lines, header_text}
+use Rattle.yf_forms.specs.declared.style.Style.{Style}
+use Rattle.yf_forms.specs.Nodes.BlockLines.{block_lines, header_text}
 use Rattle.yf_emit.specs.Layouts.RowComments.{AreDecos, AreTrails}
 use Rattle.yf_emit.specs.Layouts.Decorated.{Deco, after, first, first_gap, lines_then, row_decos, rows_of}
 use Rattle.yf_emit.specs.Layouts.FitDocuments.{tall_documents}
 use Rattle.yf_emit.specs.Preservation.FoundTrees.{FoundTrees, none_found, one_found}
 use Rattle.yf_emit.specs.Format.{IsFormatting}
-use Rattle.yf_emit.specs.Layouts.Layout.{Remark, is_among, own_line_comments, source_of, trailing, trimmed}
-use Rattle.yf_emit.specs.NormalForms.Normal.{setting_of}
-use Rattle.yf_emit.specs.Layouts.Rows.{Row, at_text_start}
+use Rattle.yf_emit.specs.Layouts.Layout.{Remark, is_among, own_line_comments, source_of, trailing}
+use Rattle.yf_forms.specs.Nodes.Lines.{trimmed}
+use Rattle.yf_forms.specs.NormalForms.Normal.{setting_of}
+use Rattle.yf_print.specs.Layouts.Rows.{Row, at_text_start}
 use Rattle.yf_emit.specs.Preservation.TidyLines.{BlockScalar, block_scalars, CommentAfter, no_comment_after, comment_after, EndsWithHeader, IsStripped, IsTidyText, LineTexts, no_text, one_text, TidyLines, no_more_lines, a_blank_line, a_text_line, scalar_lines}
 use Rattle.yf_emit.specs.Preservation.SameComments.{KeptComment, kept}
 use Rattle.yf_emit.specs.Preservation.Tokens.{HasText, first_text, later_text, IsToken, TabsWithin, a_token, at_end, comment_texts, no_tab, tokens_in}
@@ -51,7 +52,7 @@ use Rattle.yf_emit.proofs.OutputLines.SeenTexts.{IsSeen, ascii_ns, seen_more}
 use Rattle.yf_emit.proofs.Derived.RowEnds.{after_decos, first_deco}
 use Rattle.yf_emit.proofs.Derived.RowsUtf8.{AreLines, no_line, line_more, RowLines, no_rows, row_more}
 use Rattle.yf_emit.proofs.OutputLines.TidyTexts.{IsTidy, TidyDecos, TidyGap, decos_tidy, gap_tidy, last_append, tidy_line}
-use Rattle.yf_emit.specs.Layouts.BareStart.{is_bare}
+use Rattle.yf_print.specs.Layouts.BareStart.{is_bare}
 use Rattle.yf_emit.specs.Preservation.CommentsPlaced.{columns_in}
 use Rattle.yf_emit.proofs.OutputLines.ColumnsHold.{WalkFrom, every, no_blocks}
 use Rattle.yf_emit.proofs.SameReading.CommentsCut.{Each}

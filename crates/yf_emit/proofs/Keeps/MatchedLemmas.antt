@@ -8,8 +8,8 @@ use Rattle.yf_events.specs.Tree.{Node, Items, Pairs, standing, leaves, leaves_of
 use Rattle.yf_events.specs.declared.event.Entry.{Entry}
 use Rattle.yf_events.specs.declared.event.Span.{Span}
 use Rattle.yf_grammar.specs.Productions.TreesOfMeaning.{Anywhere}
-use Rattle.yf_emit.specs.declared.style.Style.{Style}
-use Rattle.yf_emit.specs.NormalForms.Normal.{entry_or, first_between, key_comment, key_start, last_start}
+use Rattle.yf_forms.specs.declared.style.Style.{Style}
+use Rattle.yf_forms.specs.NormalForms.Normal.{entry_or, first_between, key_comment, key_start, last_start}
 use Rattle.yf_emit.specs.Preservation.ReadingKey.{Each, none_each, one_each, Either, in_neither, in_both, PairedOffsets, SameSide, SameSpan, SameEntry, SameComment, NodesMatch, matched_scalars, matched_aliases, matched_empty_sequences, matched_empty_mappings, matched_sequences, matched_mappings, ItemsMatch, no_matched_items, matched_item, PairsMatch, no_matched_pairs, matched_pair}
 use Rattle.yf_emit.specs.Layouts.RowShapes.{KeysAgree}
 use Rattle.yf_emit.proofs.SecondRun.AlikeLemmas.{same_filled_flow, same_text}

@@ -8,12 +8,12 @@ use Rattle.yf_events.specs.declared.directive.Directive.{Directive}
 use Rattle.yf_events.specs.declared.event.Entry.{Entry}
 use Rattle.yf_events.specs.declared.event.ScalarStyle.{ScalarStyle}
 use Rattle.yf_events.specs.declared.event.ScalarStyle.TheVariants.{Plain, Single, Double, Literal, Folded}
-use Rattle.yf_emit.specs.declared.style.Style.{Style}
+use Rattle.yf_forms.specs.declared.style.Style.{Style}
 use Rattle.yf_emit.specs.Preservation.FoundTrees.{words_of}
-use Rattle.yf_emit.specs.NormalForms.Normal.{Spot, fits, inner_spot, is_implicit, key_spot, settled, settled_items, settled_pairs, value_spot}
-use Rattle.yf_emit.specs.Nodes.OneLine.{props_text, written}
+use Rattle.yf_forms.specs.NormalForms.Normal.{Spot, fits, inner_spot, is_implicit, key_spot, settled, settled_items, settled_pairs, value_spot}
+use Rattle.yf_forms.specs.Nodes.OneLine.{props_text, written}
 use Rattle.yf_emit.specs.Preservation.ReadingKey.{Each, none_each, one_each, Either, in_neither, in_both, PairedOffsets, SameSide, SameSpan, SameEntry, SameColons, colons_match, no_colon_counts, SameKeys, is_leaf_key, SameComment, NodesMatch, matched_scalars, matched_aliases, matched_empty_sequences, matched_empty_mappings, matched_sequences, matched_mappings, ItemsMatch, no_matched_items, matched_item, PairsMatch, no_matched_pairs, matched_pair}
-use Rattle.yf_emit.specs.Layouts.Rows.{Row, begins_below, beginning_at, begun_at, after_key, blank_before_entry, colon_offset, colon_row, directive_row, end_rows, entry_row, explicit_pair, implicit_pair, joined, key_row, one_line, one_line_row, pair_rows, props_row, rows, rows_of_items, rows_of_pairs, start_row}
+use Rattle.yf_print.specs.Layouts.Rows.{Row, begins_below, beginning_at, begun_at, after_key, blank_before_entry, colon_offset, colon_row, directive_row, end_rows, entry_row, explicit_pair, implicit_pair, joined, key_row, one_line, one_line_row, pair_rows, props_row, rows, rows_of_items, rows_of_pairs, start_row}
 use Rattle.yf_emit.proofs.SecondRun.AlikeLemmas.{same_below, same_fit, same_implicit, same_key_spot, same_value_spot, same_written, setting}
 use Rattle.yf_emit.proofs.Keeps.MatchedLemmas.{each_append, entry_each, entry_of, items_each, key_each, keys_agree, leaves_each, matched_alike}
 

@@ -8,22 +8,23 @@ use Rattle.yf_events.specs.Tree.{DocumentTree, Node, Items, Pairs}
 use Rattle.yf_events.specs.declared.document.Doc.{Doc}
 use Rattle.yf_events.specs.declared.event.Span.{Span}
 use Rattle.yf_events.specs.declared.lists.Lists.{Lists}
-use Rattle.yf_emit.specs.declared.style.Style.{Style}
+use Rattle.yf_forms.specs.declared.style.Style.{Style}
 use Rattle.yf_emit.specs.Preservation.AlikeBlocks.{AlikeBlocks, alike_lines, alike_block_sequences, alike_block_mappings, AlikeBlockItems, no_block_items, block_item, AlikeBlockPairs, no_block_pairs, block_pair}
-use Rattle.yf_emit.specs.Layouts.BareStart.{is_bare}
+use Rattle.yf_print.specs.Layouts.BareStart.{is_bare}
 use Rattle.yf_emit.specs.Preservation.CommentsPlaced.{at_leaf, ends_line, rows_in, source_in}
 use Rattle.yf_emit.specs.Format.{IsFormatting}
-use Rattle.yf_emit.specs.Layouts.Layout.{Remark, Source, first_comment, is_among, is_before, next_leaf, trailing, trailing_leaf, trimmed}
+use Rattle.yf_emit.specs.Layouts.Layout.{Remark, Source, first_comment, is_among, is_before, next_leaf, trailing, trailing_leaf}
+use Rattle.yf_forms.specs.Nodes.Lines.{trimmed}
 use Rattle.yf_emit.specs.Preservation.LayoutKey.{SameDocuments, no_documents, same_document, SameEnds, no_ends, same_end, SameKey, SamePlace, no_place, same_place, SamePlaces, no_comments, same_comment, SameRows, no_more_rows, same_row}
-use Rattle.yf_emit.specs.NormalForms.Normal.{normal_document, root_spot, setting_of}
+use Rattle.yf_forms.specs.NormalForms.Normal.{normal_document, root_spot, setting_of}
 use Rattle.yf_emit.specs.Preservation.ReadingKey.{DependsOnReading, Each, none_each, one_each, Either, in_neither, in_both, PairedOffsets, SameSpan, SameComment, SameRemark, NodesMatch, matched_scalars, matched_aliases, matched_empty_sequences, matched_empty_mappings, matched_sequences, matched_mappings, ItemsMatch, no_matched_items, matched_item, PairsMatch, no_matched_pairs, matched_pair, DocumentsMatch, no_matched_documents, matched_document, SameReadings, SameColumn}
-use Rattle.yf_emit.specs.Layouts.Rows.{Row, all_rows, stream_rows}
+use Rattle.yf_print.specs.Layouts.Rows.{Row, all_rows, stream_rows}
 use Rattle.yf_emit.proofs.SameReading.StepComments.{firsts}
 use Rattle.yf_emit.proofs.Keeps.KeyDecides.{as_many_notes, key_decides}
 use Rattle.yf_emit.proofs.SameReading.StepLeaves.{laid_trees}
 use Rattle.yf_emit.proofs.Keeps.MatchedLemmas.{any_each, both_lt, each_append, find_each, keys_agree, matched_alike}
 use Rattle.yf_emit.proofs.Keeps.MatchedRows.{RowMatch, bare_match, begun_match, directives_match, ends_match, rows_match, settled_matched, start_match}
-use Rattle.yf_emit.specs.Layouts.KeptColumns.{Columns, column_among_rows, columns_if, columns_of, keeps_blocks}
+use Rattle.yf_print.specs.Layouts.KeptColumns.{Columns, column_among_rows, columns_if, columns_of, keeps_blocks}
 
 same_eq : (a m b n : ℕ) → nat_lt a m ≡ nat_lt b n → nat_lt m a ≡ nat_lt n b → (a == m) ≡ (b == n)
 same_eq a m b n e f = grind (arith, nat_tests)

@@ -11,23 +11,24 @@ use Rattle.yf_events.specs.declared.directive.Directive.{Directive}
 use Rattle.yf_events.specs.declared.document.Doc.{Doc}
 use Rattle.yf_events.specs.declared.event.ScalarStyle.TheVariants.{Plain, Single, Double, Literal, Folded}
 use Rattle.yf_grammar.specs.Productions.TreesOfMeaning.{tall, tall_items, tall_pairs}
-use Rattle.yf_emit.specs.declared.style.Style.{Style}
-use Rattle.yf_emit.specs.Nodes.BlockLines.{block_lines, header_text}
+use Rattle.yf_forms.specs.declared.style.Style.{Style}
+use Rattle.yf_forms.specs.Nodes.BlockLines.{block_lines, header_text}
 use Rattle.yf_emit.specs.Layouts.Decorated.{Deco, blank_if, comments_left, decos_of, ending_after, gap_of, remarks_after}
 use Rattle.yf_emit.specs.Layouts.FitDocuments.{FitDocuments, fit_no_documents, fit_document, tall_documents}
 use Rattle.yf_emit.specs.Layouts.ReadableTrees.{Fit, FitItems, fit_item, FitPairs, fit_pair}
 use Rattle.yf_emit.specs.Layouts.Layout.{Source, may_be_blank_after, precedes_item}
-use Rattle.yf_emit.specs.NormalForms.Normal.{LayoutSetting, Spot, inner_spot, is_implicit, key_comment, key_spot, root_spot, value_column, value_entries, value_of_implicit, value_spot}
-use Rattle.yf_emit.specs.Nodes.OneLine.{colon_after, props_text, spaced, width, written}
-use Rattle.yf_emit.specs.Layouts.Rows.{Ending, Row, anywhere, begins_below, beginning_at, after_key, colon_row, directive_row, document_rows, end_rows, entry_row, explicit_pair, is_empty_text, joined, key_row, one_line, one_line_row, pair_rows, props_row, rows, rows_of_items, rows_of_pairs, all_rows, bare_rows, begun_at, stream_rows, Start}
+use Rattle.yf_forms.specs.NormalForms.Normal.{LayoutSetting, Spot, inner_spot, is_implicit, key_comment, key_spot, root_spot, value_column, value_entries, value_of_implicit, value_spot}
+use Rattle.yf_forms.specs.Nodes.OneLine.{colon_after, props_text, spaced, width, written}
+use Rattle.yf_print.specs.Layouts.Rows.{Ending, Row, anywhere, begins_below, beginning_at, after_key, colon_row, directive_row, document_rows, end_rows, entry_row, explicit_pair, joined, key_row, one_line, one_line_row, pair_rows, props_row, rows, rows_of_items, rows_of_pairs, all_rows, bare_rows, begun_at, stream_rows, Start}
+use Rattle.yf_forms.specs.Nodes.Lines.{is_empty_text}
 use Rattle.yf_emit.specs.Preservation.TidyLines.{BlockScalar, block_scalars}
 use Rattle.yf_emit.proofs.Columns.FlowEvents.{AllFlow}
 use Rattle.yf_emit.proofs.ReadAgain.NoteTrees.{inline_flow, items_fit, key_flow, pairs_fit}
 use Rattle.yf_emit.proofs.Keeps.ScalarsAmong.{flow_none, scalars_append, scalars_ended}
 use Rattle.yf_emit.proofs.Derived.TreesMade.{either_pair}
-use Rattle.yf_emit.specs.Layouts.KeptColumns.{Columns}
+use Rattle.yf_print.specs.Layouts.KeptColumns.{Columns}
 use Rattle.yf_emit.proofs.OutputLines.ColumnsHold.{AllBlocks, GapHolds, StartsHold, WalkFrom, after_blocks, blank_holds, blocks_map, gap_columns, left_walk, none_holds, remark_holds}
-use Rattle.yf_emit.specs.Layouts.CommentColumns.{OpenBlock}
+use Rattle.yf_print.specs.declared.open_blocks.OpenBlock.{OpenBlock}
 use Rattle.yf_emit.proofs.SameReading.CommentsCut.{Each}
 
 -- Columns.

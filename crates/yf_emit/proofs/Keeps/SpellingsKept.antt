@@ -17,13 +17,13 @@ use Rattle.yf_quoted.specs.Written.{quotes_in}
 use Rattle.yf_stream.proofs.Existence.BreachLemmas.{values}
 use Rattle.yf_stream.proofs.LawsHold.{readings_are_one}
 use Rattle.yf_stream.specs.ReadingOf.{ReadingOf}
-use Rattle.yf_emit.specs.declared.style.Style.{Style}
+use Rattle.yf_forms.specs.declared.style.Style.{Style}
 use Rattle.yf_emit.specs.Format.{IsFormatting}
 use Rattle.yf_emit.specs.Preservation.FoundTrees.{FoundTrees, none_found, one_found, words_of}
-use Rattle.yf_emit.specs.NormalForms.Restyled.{lines_of, restyled_event, SameButStyles, none_left, one_more}
+use Rattle.yf_forms.specs.NormalForms.Restyled.{lines_of, restyled_event, SameButStyles, none_left, one_more}
 use Rattle.yf_emit.specs.Preservation.Spellings.{SameSpellings, directive_words, folded_lines, style_of_event, unstyled}
 use Rattle.yf_emit.specs.Types.{SameTypes, TypedNode, typed_scalar, is_plain, typed_of_event}
-use Rattle.yf_emit.specs.Nodes.ScalarStyles.{has_block_content, quoted_in, style_in, wanted, wanted_of_event}
+use Rattle.yf_forms.specs.Nodes.ScalarStyles.{has_block_content, quoted_in, style_in, wanted, wanted_of_event}
 use Rattle.yf_emit.proofs.SecondRun.FixedLawsHold.{found_reading}
 use Rattle.yf_emit.proofs.NormalForms.NormalRestyled.{normal_restyled}
 use Rattle.yf_emit.proofs.SameReading.EventsTold.{events_told, folded_in, told_folded}

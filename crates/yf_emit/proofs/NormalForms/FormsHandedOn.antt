@@ -8,31 +8,31 @@ use Rattle.yf_events.specs.declared.lists.Lists.{Lists}
 use Rattle.yf_events.specs.declared.reading.TheConstants.{DEPTH}
 use Rattle.yf_events.proofs.TreeLemmas.{trees_unique}
 use Rattle.yf_stream.specs.ReadingOf.{ReadingOf}
-use Rattle.yf_emit.specs.declared.form.decide.Form.{Form}
-use Rattle.yf_emit.specs.declared.form.measure.Measure.{Measure}
-use Rattle.yf_emit.specs.declared.style.Style.{Style}
+use Rattle.yf_forms.specs.declared.form.decide.Form.{Form}
+use Rattle.yf_forms.specs.declared.form.measure.Measure.{Measure}
+use Rattle.yf_forms.specs.declared.style.Style.{Style}
 use Rattle.yf_emit.specs.FormatPromises.{FormatKept}
-use Rattle.yf_emit.specs.NormalForms.Forms.{AreForms, documents_are_placed, stream_forms}
-use Rattle.yf_emit.specs.Passes.FoundInPass.{FoundInPass}
+use Rattle.yf_forms.specs.NormalForms.Forms.{AreForms, documents_are_placed, stream_forms}
+use Rattle.yf_forms.specs.Passes.FoundInPass.{FoundInPass}
 use Rattle.yf_emit.specs.Layouts.Layout.{layout}
-use Rattle.yf_emit.specs.NormalForms.Measures.{AreMeasures}
-use Rattle.yf_emit.specs.Passes.MeasurePass.{found, pass, setting}
-use Rattle.yf_emit.specs.NormalForms.Normal.{Normal, setting_of}
-use Rattle.yf_emit.specs.Passes.NormalEvents.{normal_from}
+use Rattle.yf_forms.specs.NormalForms.Measures.{AreMeasures}
+use Rattle.yf_forms.specs.Passes.MeasurePass.{found, pass, setting}
+use Rattle.yf_forms.specs.NormalForms.Normal.{Normal, setting_of}
+use Rattle.yf_forms.specs.Passes.NormalEvents.{normal_from}
 use Rattle.yf_emit.specs.NormalForms.NormalForm.{NormalForm}
-use Rattle.yf_emit.specs.Passes.PrintPass.{printed, work_of}
-use Rattle.yf_emit.specs.NormalForms.Restyled.{IsRestyled}
-use Rattle.yf_emit.specs.NormalForms.Textual.{CommentsAscend, IsTextual}
-use Rattle.yf_emit.specs.Passes.TrailPass.{all_found}
+use Rattle.yf_print.specs.Passes.PrintPass.{printed, work_of}
+use Rattle.yf_forms.specs.NormalForms.Restyled.{IsRestyled}
+use Rattle.yf_forms.specs.NormalForms.Textual.{CommentsAscend, IsTextual}
+use Rattle.yf_print.specs.Passes.TrailPass.{all_found}
 use Rattle.yf_emit.proofs.FormatKeeps.{format_keeps}
 use Rattle.yf_emit.proofs.Printer.LayoutHolds.{printed_lays_out}
-use Rattle.yf_emit.proofs.Measure.MeasuredLemmas.{measured_all}
-use Rattle.yf_emit.proofs.NormalForms.NormalLemmas.{normal_reading}
+use Rattle.yf_forms.proofs.Measure.MeasuredLemmas.{measured_all}
+use Rattle.yf_forms.proofs.NormalForms.NormalLemmas.{normal_reading}
 use Rattle.yf_emit.proofs.NormalForms.NormalParts.{trees_in, trees_of}
 use Rattle.yf_emit.proofs.OfTexts.ReadingsOfTexts.{reading_is_textual}
 use Rattle.yf_emit.proofs.Printer.SameMeasures.{same_measures, same_texts}
 use Rattle.yf_emit.proofs.NormalForms.SettledForms.{stream_stays}
-use Rattle.yf_emit.proofs.Measure.StepLemmas.{measured_in_pass}
+use Rattle.yf_forms.proofs.Measure.StepLemmas.{measured_in_pass}
 use Rattle.yf_emit.proofs.Printer.MeasureFacts.{MeasuresTell, asked, measured_tells, told_alike}
 
 -- the events that are made by measures and forms of a reading are those of its normal form

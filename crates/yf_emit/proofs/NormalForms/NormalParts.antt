@@ -18,10 +18,10 @@ use Rattle.yf_grammar.proofs.Ends.GapLemmas.{Visible}
 use Rattle.yf_grammar.proofs.NodesInText.NodePlaces.{NodeIsAt, is_at_nowhere, scalar_is_at, alias_is_at, sequence_is_at, mapping_is_at, ItemsStand, no_items_stand, item_is_at, PairsStand, no_pairs_stand, pair_is_at}
 use Rattle.yf_stream.proofs.PlaceLawsHold.{comments_of_readings_ascend_strictly, comments_of_readings_have_signs}
 use Rattle.yf_stream.proofs.Offsets.ReadingTrees.{TreesStand, no_trees_stand, tree_is_at, reading_is_at}
-use Rattle.yf_emit.specs.declared.style.Style.{Style}
+use Rattle.yf_forms.specs.declared.style.Style.{Style}
 use Rattle.yf_emit.proofs.OfTexts.KeyEntries.{keys_begin_in_documents}
-use Rattle.yf_emit.specs.NormalForms.Forms.{documents_are_placed}
-use Rattle.yf_emit.specs.NormalForms.Normal.{LayoutSetting, normal_document, root_spot, setting_of, styled}
+use Rattle.yf_forms.specs.NormalForms.Forms.{documents_are_placed}
+use Rattle.yf_forms.specs.NormalForms.Normal.{LayoutSetting, normal_document, root_spot, setting_of, styled}
 use Rattle.yf_emit.specs.NormalForms.NormalForm.{NormalForm}
 use Rattle.yf_emit.proofs.Trails.DocumentTrails.{leaves_of}
 use Rattle.yf_emit.proofs.Printer.DocumentsPrinted.{AreNormal, no_documents, one_more}
@@ -38,14 +38,12 @@ use Rattle.yf_emit.proofs.Trails.TrailChoice.{none_at, rising}
 use Rattle.yf_emit.proofs.Trails.TrailOthers.{strict}
 use Rattle.yf_emit.proofs.Trails.TrailsAgree.{none_at_starts}
 use Rattle.yf_emit.proofs.Trails.TrailsHold.{Placing}
+use Rattle.yf_chars.proofs.Tests.{below}
 
 -- The order of comments.
 
 abbrev OneAfterOther : List CommentValue → Type 0
 OneAfterOther cs = (i j : ℕ) (d : CommentValue) → i < j → j < length cs → (slice_index_or cs i d).offset < (slice_index_or cs j d).offset
-
-below : (a b : ℕ) → a < b → nat_lt a b ≡ true
-below a b l = grind (arith, nat_tests)
 
 not_above : (a b : ℕ) → nat_lt a b ≡ true → nat_le a b ≡ true
 not_above a b e = grind (arith, nat_tests)

@@ -4,10 +4,10 @@ use Rattle.std.specs.Prelude.{◌&&◌, if◌then◌else◌}
 use Rattle.yf_events.specs.Event.{EventInText}
 use Rattle.yf_events.specs.declared.lists.Lists.{Lists}
 use Rattle.yf_events.specs.Tree.{Node, scalar, alias, sequence, mapping, Items, no_items, item, Pairs, no_pairs, pair, DocumentTree, flat, flat_items, flat_pairs, flat_document, flat_stream}
-use Rattle.yf_emit.specs.declared.style.Style.{Style}
-use Rattle.yf_emit.specs.Nodes.OneLineFlows.{may_be_kept}
-use Rattle.yf_emit.specs.NormalForms.Normal.{LayoutSetting, Spot, Normal, fits, settled, settled_items, settled_pairs, styled, styled_items, styled_pairs, inner_spot, key_spot, value_spot, root_spot, normal_document, setting_of}
-use Rattle.yf_emit.specs.NormalForms.Restyled.{SameButStyles, none_left, one_more, IsRestyled}
+use Rattle.yf_forms.specs.declared.style.Style.{Style}
+use Rattle.yf_forms.specs.Nodes.OneLineFlows.{may_be_kept}
+use Rattle.yf_forms.specs.NormalForms.Normal.{LayoutSetting, Spot, Normal, fits, settled, settled_items, settled_pairs, styled, styled_items, styled_pairs, inner_spot, key_spot, value_spot, root_spot, normal_document, setting_of}
+use Rattle.yf_forms.specs.NormalForms.Restyled.{SameButStyles, none_left, one_more, IsRestyled}
 
 module _ {q : Style} where
   restyled_append : {xs ys zs ws : List EventInText} → SameButStyles q xs ys → SameButStyles q zs ws → SameButStyles q (xs ++ zs) (ys ++ ws)

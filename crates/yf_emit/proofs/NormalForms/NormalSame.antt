@@ -9,12 +9,12 @@ use Rattle.yf_quoted.specs.Written.{quotes_in}
 use Rattle.yf_events.specs.declared.event.ScalarStyle.{ScalarStyle}
 use Rattle.yf_events.specs.declared.event.ScalarStyle.TheVariants.{Plain, Single, Double, Literal, Folded}
 use Rattle.yf_events.specs.Tree.{DocumentTree, Node, NodeOffsets, scalar, alias, sequence, mapping, Items, no_items, item, Pairs, no_pairs, pair, leaves, leaves_of_items, leaves_of_pairs, standing}
-use Rattle.yf_emit.specs.declared.style.Style.{Style}
+use Rattle.yf_forms.specs.declared.style.Style.{Style}
 use Rattle.yf_emit.proofs.OfTexts.KeyEntries.{keys_begin, keys_begin_in_items, keys_begin_in_pairs}
-use Rattle.yf_emit.specs.NormalForms.Forms.{agree, is_empty_node, is_placed, items_are_placed, pairs_are_placed}
-use Rattle.yf_emit.specs.NormalForms.Normal.{LayoutSetting, Spot, fits, inner_spot, key_spot, normal_document, root_spot, settled, settled_items, settled_pairs, styled, styled_items, styled_pairs, value_spot}
-use Rattle.yf_emit.specs.Nodes.ScalarStyles.{has_block_content, quoted_in, style_in, wanted}
-use Rattle.yf_emit.proofs.Decide.ValueLemmas.{nothing_steady}
+use Rattle.yf_forms.specs.NormalForms.Forms.{agree, is_empty_node, is_placed, items_are_placed, pairs_are_placed}
+use Rattle.yf_forms.specs.NormalForms.Normal.{LayoutSetting, Spot, fits, inner_spot, key_spot, normal_document, root_spot, settled, settled_items, settled_pairs, styled, styled_items, styled_pairs, value_spot}
+use Rattle.yf_forms.specs.Nodes.ScalarStyles.{has_block_content, quoted_in, style_in, wanted}
+use Rattle.yf_forms.proofs.Decide.ValueLemmas.{nothing_steady}
 
 pub record SameNode (x y : Node) : Type 0 where
   pub placed : is_placed x ≡ is_placed y

@@ -4,12 +4,12 @@ use Rattle.std.proofs.Common.{◌≡◌, ℕ, Bool, true, false, ◌&&◌, ◌++
 use Rattle.std.specs.Prelude.{if◌then◌else◌}
 use Rattle.std.proofs.lemmas.Bool.{and_parts}
 use Rattle.yf_events.specs.Tree.{DocumentTree, Node, scalar, alias, sequence, mapping, Items, no_items, item, Pairs, no_pairs, pair, flat_items, flat_pairs, is_filled_flow}
-use Rattle.yf_emit.specs.declared.form.decide.Form.{Form}
-use Rattle.yf_emit.specs.NormalForms.Forms.{Site, document_forms, forms, forms_of_items, forms_of_pairs, forms_within, key_comment_index, key_site, no_form, site_at, stream_forms, value_comment, value_site}
-use Rattle.yf_emit.specs.NormalForms.Measures.{up_to_greatest}
-use Rattle.yf_emit.specs.Passes.MeasurePass.{setting}
-use Rattle.yf_emit.specs.NormalForms.Normal.{LayoutSetting, fits, inner_spot, is_implicit, key_spot, normal_document, root_spot, settled, settled_items, settled_pairs, styled, value_spot}
-use Rattle.yf_emit.proofs.Decide.SettledLemmas.{settled_key}
+use Rattle.yf_forms.specs.declared.form.decide.Form.{Form}
+use Rattle.yf_forms.specs.NormalForms.Forms.{Site, document_forms, forms, forms_of_items, forms_of_pairs, forms_within, key_comment_index, key_site, no_form, site_at, stream_forms, value_comment, value_site}
+use Rattle.yf_forms.specs.NormalForms.Measures.{up_to_greatest}
+use Rattle.yf_forms.specs.Passes.MeasurePass.{setting}
+use Rattle.yf_forms.specs.NormalForms.Normal.{LayoutSetting, fits, inner_spot, is_implicit, key_spot, normal_document, root_spot, settled, settled_items, settled_pairs, styled, value_spot}
+use Rattle.yf_forms.proofs.Decide.SettledLemmas.{settled_key}
 use Rattle.yf_emit.proofs.NormalForms.SettledTwice.{SameSpot, key_stays, same_key_spot, same_value_spot, settled_twice}
 use Rattle.yf_emit.proofs.NormalForms.StyledTwice.{normal_house}
 

@@ -2,10 +2,10 @@
 use Rattle.std.proofs.Common.{◌≡◌, ℕ, Bool, true, false, ◌&&◌, ◌+◌, refl, sym, ap, ◌∙◌}
 use Rattle.std.specs.Prelude.{nat_le, if◌then◌else◌}
 use Rattle.std.proofs.lemmas.Bool.{and_parts}
-use Rattle.yf_emit.specs.NormalForms.Normal.{LayoutSetting, Spot, inner_spot, key_spot, value_spot, value_of_implicit, is_implicit, fits, settled, settled_items, settled_pairs}
-use Rattle.yf_emit.specs.Nodes.OneLine.{width, written}
+use Rattle.yf_forms.specs.NormalForms.Normal.{LayoutSetting, Spot, inner_spot, key_spot, value_spot, value_of_implicit, is_implicit, fits, settled, settled_items, settled_pairs}
+use Rattle.yf_forms.specs.Nodes.OneLine.{width, written}
 use Rattle.yf_events.specs.Tree.{Node, scalar, alias, sequence, mapping, Items, no_items, item, Pairs, no_pairs, pair, is_filled_flow}
-use Rattle.yf_emit.proofs.Decide.SettledLemmas.{settled_key, settled_value_entries}
+use Rattle.yf_forms.proofs.Decide.SettledLemmas.{settled_key, settled_value_entries}
 
 -- the two spots are alike for a node
 pub record SameSpot (x : Node) (one other : Spot) : Type 0 where

@@ -9,12 +9,12 @@ use Rattle.yf_events.specs.declared.event.ScalarStyle.{ScalarStyle}
 use Rattle.yf_events.specs.declared.event.ScalarStyle.TheVariants.{Plain, Single, Double, Literal, Folded}
 use Rattle.yf_events.specs.declared.event.Span.{Span}
 use Rattle.yf_events.specs.Tree.{Node, NodeOffsets, scalar, alias, sequence, mapping, Items, no_items, item, Pairs, no_pairs, pair}
-use Rattle.yf_emit.specs.declared.style.Style.{Style}
-use Rattle.yf_emit.specs.Nodes.OneLineFlows.{has_comment, items_may_be_kept, may_be_kept, pairs_may_be_kept, scalar_may_be_kept}
-use Rattle.yf_emit.specs.Passes.MeasurePass.{setting}
-use Rattle.yf_emit.specs.NormalForms.Normal.{LayoutSetting, Spot, fits, inner_spot, key_spot, settled, settled_items, settled_pairs, styled, styled_items, styled_pairs, value_spot}
-use Rattle.yf_emit.specs.Nodes.ScalarStyles.{lines_in, style_in, wanted}
-use Rattle.yf_emit.proofs.Texts.OneLineRuns.{kept_items, kept_more_pairs, kept_pairs}
+use Rattle.yf_forms.specs.declared.style.Style.{Style}
+use Rattle.yf_forms.specs.Nodes.OneLineFlows.{has_comment, items_may_be_kept, may_be_kept, pairs_may_be_kept, scalar_may_be_kept}
+use Rattle.yf_forms.specs.Passes.MeasurePass.{setting}
+use Rattle.yf_forms.specs.NormalForms.Normal.{LayoutSetting, Spot, fits, inner_spot, key_spot, settled, settled_items, settled_pairs, styled, styled_items, styled_pairs, value_spot}
+use Rattle.yf_forms.specs.Nodes.ScalarStyles.{lines_in, style_in, wanted}
+use Rattle.yf_forms.proofs.Texts.OneLineRuns.{kept_items, kept_more_pairs, kept_pairs}
 use Rattle.yf_emit.proofs.Texts.WantedLemmas.{lines_stay, wanted_stays}
 
 no_comment : (t : List ℕ) (o : Option Span) (props : PropsValue) → has_comment t [] o props ≡ false

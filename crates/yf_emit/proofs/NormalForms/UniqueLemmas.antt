@@ -3,9 +3,9 @@ use Rattle.std.proofs.Common.{◌≡◌, ℕ, List, map, sym, ap, ◌∙◌}
 use Rattle.yf_events.specs.Tree.{flat_stream}
 use Rattle.yf_events.specs.declared.lists.Lists.{Lists}
 use Rattle.yf_events.proofs.TreeLemmas.{trees_unique}
-use Rattle.yf_emit.specs.declared.style.Style.{Style}
+use Rattle.yf_forms.specs.declared.style.Style.{Style}
 use Rattle.yf_emit.specs.Layouts.Layout.{IsLayout, layout}
-use Rattle.yf_emit.specs.NormalForms.Normal.{Normal, normal_document, setting_of}
+use Rattle.yf_forms.specs.NormalForms.Normal.{Normal, normal_document, setting_of}
 
 pub normal_unique : (t : List ℕ) (r : Lists) (s : Style) (m n : Lists) → Normal t r s m → Normal t r s n → m ≡ n
 normal_unique t r s m n a b =

@@ -8,11 +8,12 @@ use Rattle.yf_events.specs.Tree.{Node, Items, Pairs, DocumentTree, leaves, leave
 use Rattle.yf_events.specs.declared.document.Doc.{Doc}
 use Rattle.yf_events.specs.declared.event.Span.{Span}
 use Rattle.yf_grammar.specs.Productions.Meaning.{from_to}
-use Rattle.yf_grammar.proofs.NodesInText.NodePlaces.{ColonIsAt, no_colon, a_colon, NodeIsAt, is_at_nowhere, scalar_is_at, alias_is_at, sequence_is_at, mapping_is_at, ItemsStand, no_items_stand, item_is_at, PairsStand, no_pairs_stand, pair_is_at}
+use Rattle.yf_grammar.proofs.NodesInText.NodePlaces.{ColonIsAt, no_colon, a_colon, NodeIsAt, is_at_nowhere, scalar_is_at, alias_is_at, sequence_is_at, mapping_is_at, ItemsStand, no_items_stand, item_is_at, PairsStand, no_pairs_stand, pair_is_at, colon_order}
 use Rattle.yf_stream.proofs.Offsets.DirectiveOrder.{directives_order}
 use Rattle.yf_stream.proofs.Offsets.ReadingTrees.{TreesStand, no_trees_stand, tree_is_at}
 use Rattle.yf_emit.proofs.Trails.DocumentTrails.{leaves_of}
 use Rattle.yf_emit.proofs.Trails.TrailChoice.{rising}
+use Rattle.yf_chars.proofs.Tests.{below}
 
 -- leaves between two places, each after the end of the one before it
 pub data Steps : ℕ → List Span → ℕ → Type 0 where
@@ -37,9 +38,6 @@ steps_to l m (a_step n w a) = a_step (omega (arith, l, n)) w (steps_to (omega ar
 
 -- such leaves begin one after the other
 
-below : (a b : ℕ) → a < b → nat_lt a b ≡ true
-below a b l = grind (arith, nat_tests)
-
 all_later : {n j : ℕ} {ss : List Span} (m : ℕ) → m < n → Steps n ss j → list_all (λ (r : Span). nat_lt m r.start) ss ≡ true
 all_later m l (no_step k) = refl
 all_later {ss = s ∷ ss} m l (a_step k w a) =
@@ -54,10 +52,6 @@ steps_rise {ss = s ∷ ss} (a_step l w a) = and_from _ _ (all_later s.start w a)
 leaf_steps : {i j : ℕ} (a b : ℕ) (o : Option Span) → o ≡ from_to a b → i ≤ a → a < b → b ≤ j → Steps i (spans_of_leaf o) j
 unfolding from_to
 leaf_steps {i} {j} a b o e l w m = subst (λ z. Steps i (spans_of_leaf z) j) (sym e) (a_step l w (no_step m))
-
-colon_order : {t : List ℕ} {i j : ℕ} {c : Option ℕ} → ColonIsAt t i j c → i ≤ j
-colon_order (no_colon l) = l
-colon_order (a_colon l e m) = omega (arith, l, m)
 
 mutual
   pub node_steps : {t : List ℕ} {i j : ℕ} {x : Node} → NodeIsAt t i j x → Steps i (leaves x) j

@@ -11,7 +11,7 @@ use Rattle.yf_grammar.proofs.NodesInText.NodePlaces.{ColonIsAt, no_colon, a_colo
 use Rattle.yf_stream.proofs.Offsets.DirectiveOrder.{DirectivesStand, no_directives_stand, directive_is_at}
 use Rattle.yf_stream.proofs.Offsets.ReadingTrees.{TreesStand, no_trees_stand, tree_is_at}
 use Rattle.yf_emit.specs.NormalForms.OfText.{around, marks_in, marks_in_items, marks_in_pairs, marks_in_documents}
-use Rattle.yf_emit.specs.Layouts.Rows.{colon_offset}
+use Rattle.yf_print.specs.Layouts.Rows.{colon_offset}
 
 -- places in order, from one up to another
 pub data Rises : ℕ → List ℕ → ℕ → Type 0 where

@@ -9,8 +9,8 @@ use Rattle.yf_events.specs.declared.event.Span.{Span}
 use Rattle.yf_events.specs.Tree.{Node, Items, Pairs}
 use Rattle.yf_grammar.specs.Productions.Meaning.{from_to}
 use Rattle.yf_grammar.proofs.NodesInText.NodePlaces.{HasText, verbatim_text, short_text, non_specific_text, HasProps, has_tag, has_anchor, HasCharacters, by_props, by_text, by_style, NodeIsAt, is_at_nowhere, scalar_is_at, alias_is_at, sequence_is_at, mapping_is_at, ItemsStand, no_items_stand, item_is_at, PairsStand, no_pairs_stand, pair_is_at}
-use Rattle.yf_emit.specs.NormalForms.Forms.{agree, is_empty_node, is_nothing, is_placed, items_are_placed, pairs_are_placed}
-use Rattle.yf_emit.specs.Nodes.OneLine.{tag_text, props_text, spaced}
+use Rattle.yf_forms.specs.NormalForms.Forms.{agree, is_empty_node, is_nothing, is_placed, items_are_placed, pairs_are_placed}
+use Rattle.yf_forms.specs.Nodes.OneLine.{tag_text, props_text, spaced}
 
 -- a scalar with characters is no empty node
 

@@ -12,10 +12,10 @@ use Rattle.yf_stream.specs.ReadingOf.{ReadingOf}
 use Rattle.yf_stream.proofs.LawsHold.{comments_of_readings_ascend, comments_of_readings_are_within}
 use Rattle.yf_stream.proofs.NodeLawsHold.{reading_events}
 use Rattle.yf_stream.proofs.Offsets.ReadingTrees.{TreesStand, no_trees_stand, tree_is_at, reading_is_at}
-use Rattle.yf_emit.specs.NormalForms.Forms.{documents_are_placed}
+use Rattle.yf_forms.specs.NormalForms.Forms.{documents_are_placed}
 use Rattle.yf_emit.specs.Laws.{ReadingsAreOfTexts}
 use Rattle.yf_emit.specs.NormalForms.OfText.{marks_in_documents}
-use Rattle.yf_emit.specs.NormalForms.Textual.{IsTextual}
+use Rattle.yf_forms.specs.NormalForms.Textual.{IsTextual}
 use Rattle.yf_emit.proofs.OfTexts.MarksOrder.{rises_in_order, rises_within, trees_rise}
 use Rattle.yf_emit.proofs.OfTexts.PlacedTrees.{node_placed}
 

@@ -10,23 +10,24 @@ use Rattle.yf_events.specs.declared.document.Doc.{Doc}
 use Rattle.yf_events.specs.declared.event.ScalarStyle.TheVariants.{Plain, Single, Double, Literal, Folded}
 use Rattle.yf_events.specs.declared.lists.Lists.{Lists}
 use Rattle.yf_events.specs.Tree.{Node, scalar, alias, sequence, mapping, Items, no_items, item, Pairs, no_pairs, pair, DocumentTree, is_sequence}
-use Rattle.yf_emit.specs.declared.style.Style.{Style}
-use Rattle.yf_emit.specs.Nodes.BlockLines.{block_lines}
+use Rattle.yf_forms.specs.declared.style.Style.{Style}
+use Rattle.yf_forms.specs.Nodes.BlockLines.{block_lines}
 use Rattle.yf_emit.specs.Layouts.RowComments.{CalmBody, Calm}
 use Rattle.yf_emit.specs.Layouts.Decorated.{GapLine, blank, remark, Deco, blank_if, remarks_after, ending_after, gap_of, comments_left, decos_of, end_then, lines_then, first, after, row_decos, rows_of}
 use Rattle.yf_emit.specs.Layouts.FitDocuments.{FitDocuments}
-use Rattle.yf_emit.specs.Layouts.Layout.{Source, trimmed, precedes_item, may_be_blank_after, own_line_comments, source_of}
-use Rattle.yf_emit.specs.NormalForms.Normal.{LayoutSetting, Spot, inner_spot, key_spot, value_of_implicit, value_entries, value_spot, root_spot, is_implicit, key_comment, setting_of}
-use Rattle.yf_emit.specs.Layouts.BareStart.{is_bare}
-use Rattle.yf_emit.specs.Layouts.Rows.{Row, Ending, anywhere, one_line, one_line_row, props_row, joined, after_sign, after_key, begins_below, entry_row, colon_row, key_row, explicit_pair, pair_rows, rows, rows_of_items, rows_of_pairs, directive_row, end_rows, start_row, beginning_at, begun_at, all_rows, stream_rows}
-use Rattle.yf_emit.specs.Nodes.OneLine.{written, props_text}
+use Rattle.yf_emit.specs.Layouts.Layout.{Source, precedes_item, may_be_blank_after, own_line_comments, source_of}
+use Rattle.yf_forms.specs.Nodes.Lines.{trimmed}
+use Rattle.yf_forms.specs.NormalForms.Normal.{LayoutSetting, Spot, inner_spot, key_spot, value_of_implicit, value_entries, value_spot, root_spot, is_implicit, key_comment, setting_of}
+use Rattle.yf_print.specs.Layouts.BareStart.{is_bare}
+use Rattle.yf_print.specs.Layouts.Rows.{Row, Ending, anywhere, one_line, one_line_row, props_row, joined, after_sign, after_key, begins_below, entry_row, colon_row, key_row, explicit_pair, pair_rows, rows, rows_of_items, rows_of_pairs, directive_row, end_rows, start_row, beginning_at, begun_at, all_rows, stream_rows}
+use Rattle.yf_forms.specs.Nodes.OneLine.{written, props_text}
 use Rattle.yf_emit.proofs.Derived.RowsUtf8.{RowLines, no_rows, row_more, all_lines}
 use Rattle.yf_emit.proofs.Derived.TreesMade.{either_pair}
-use Rattle.yf_emit.specs.Layouts.KeptColumns.{Columns, columns_of, is_bodyless}
+use Rattle.yf_print.specs.Layouts.KeptColumns.{Columns, columns_of, is_bodyless}
 use Rattle.yf_emit.proofs.OutputLines.ColumnsHold.{GapHolds, WalkFrom, blank_holds, every, gap_columns, left_walk, none_holds, remark_holds}
 use Rattle.yf_emit.proofs.OutputLines.ChainedRows.{layout_chain}
 use Rattle.yf_emit.proofs.OutputLines.OpenChains.{BodyRight, Chained, chain_row}
-use Rattle.yf_emit.specs.Layouts.CommentColumns.{OpenBlock}
+use Rattle.yf_print.specs.declared.open_blocks.OpenBlock.{OpenBlock}
 use Rattle.yf_emit.proofs.SameReading.CommentsCut.{Each}
 
 -- Columns of rows.
@@ -53,11 +54,6 @@ left_all (x ∷ xs) column lines l = l
 left_of : (body : List (List ℕ)) (i j lines : ℕ) → i ≤ j → IsLeft body j lines → IsLeft body i lines
 left_of [] i j lines l a = tt
 left_of (x ∷ xs) i j lines l a = omega arith
-
-steps_left : {i k : ℕ} {xs : List Row} → i ≤ k → Steps k xs → Steps i xs
-steps_left l no_steps = no_steps
-steps_left {i} {k} l (one_step {x = x} {xs = []} a more) = one_step (left_of x.body i k x.lines l a) no_steps
-steps_left l (one_step {xs = y ∷ ys} a more) = one_step a (steps_left l more)
 
 steps_append : {k : ℕ} {ys xs : List Row} → Steps (next_column k ys) xs → Steps k ys → Steps k (xs ++ ys)
 steps_append no_steps b = b
@@ -236,11 +232,6 @@ all_steps c true (d ∷ ds) (x ∷ xs) =
     steps_append (subst (λ k. Steps k (begun_at d.start (rows c (root_spot c.style) x.root))) (sym others.1) (begun_steps d.start root)) others.0
 
 -- What is after the lines of a block scalar.
-
-gap_join : (k : ℕ) (xs ys : List GapLine) → AllLeft k xs → AllLeft k ys → AllLeft k (xs ++ ys)
-gap_join k [] ys a b = b
-gap_join k (blank ∷ xs) ys a b = gap_join k xs ys a b
-gap_join k (remark column text ∷ xs) ys a b = (a.0, gap_join k xs ys a.1 b)
 
 gap_left : {k : ℕ} {gs : List GapLine} → GapHolds (λ c. c < k) gs → AllLeft k gs
 gap_left none_holds = tt

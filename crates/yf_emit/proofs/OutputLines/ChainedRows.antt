@@ -9,37 +9,27 @@ use Rattle.yf_events.specs.declared.document.Doc.{Doc}
 use Rattle.yf_events.specs.declared.event.ScalarStyle.TheVariants.{Plain, Single, Double, Literal, Folded}
 use Rattle.yf_events.specs.declared.event.Span.{Span}
 use Rattle.yf_events.specs.Tree.{Node, scalar, alias, sequence, mapping, Items, no_items, item, Pairs, no_pairs, pair, DocumentTree, is_block_collection, is_filled_flow, entry_start, is_sequence, is_text, leaves}
-use Rattle.yf_emit.specs.declared.style.Style.{Style}
-use Rattle.yf_emit.specs.Layouts.BareStart.{is_bare}
-use Rattle.yf_emit.specs.Layouts.CommentColumns.{OpenBlock, open_after}
+use Rattle.yf_forms.specs.declared.style.Style.{Style}
+use Rattle.yf_print.specs.Layouts.BareStart.{is_bare}
+use Rattle.yf_print.specs.Layouts.CommentColumns.{open_after}
+use Rattle.yf_print.specs.declared.open_blocks.OpenBlock.{OpenBlock}
 use Rattle.yf_emit.specs.Layouts.Decorated.{rows_of}
 use Rattle.yf_emit.specs.Layouts.FitDocuments.{FitDocuments, fit_document, fit_no_documents}
-use Rattle.yf_emit.specs.Layouts.KeptColumns.{after_row, after_starts, beginning, block_of, unless_document}
+use Rattle.yf_print.specs.Layouts.KeptColumns.{after_row, after_starts, beginning, block_of, unless_document}
 use Rattle.yf_emit.specs.Layouts.ReadableTrees.{Fit, fit_nothing, fit_line, fit_scalar, fit_sequence, fit_mapping, FitItems, fit_no_items, fit_item, FitPairs, fit_no_pairs, fit_pair, is_inline}
-use Rattle.yf_emit.specs.Layouts.Rows.{Row, after_key, all_rows, before_node, is_empty_text, plain_row, begins_below, beginning_at, begun_at, colon_row, directive_row, end_rows, entry_row, joined, key_row, one_line, one_line_row, pair_rows, props_row, rows, rows_of_items, rows_of_pairs, start_of, start_row, stream_rows}
-use Rattle.yf_emit.specs.Nodes.OneLine.{props_text, written}
-use Rattle.yf_emit.specs.NormalForms.Normal.{LayoutSetting, Spot, first_between, inner_spot, is_implicit, key_comment, key_spot, key_start, root_spot, setting_of, value_entries, value_of_implicit, value_spot}
+use Rattle.yf_print.specs.Layouts.Rows.{Row, after_key, all_rows, before_node, plain_row, begins_below, beginning_at, begun_at, colon_row, directive_row, end_rows, entry_row, joined, key_row, one_line, one_line_row, pair_rows, props_row, rows, rows_of_items, rows_of_pairs, start_of, start_row, stream_rows}
+use Rattle.yf_forms.specs.Nodes.Lines.{is_empty_text}
+use Rattle.yf_forms.specs.Nodes.OneLine.{props_text, written}
+use Rattle.yf_forms.specs.NormalForms.Normal.{LayoutSetting, Spot, first_between, inner_spot, is_implicit, key_comment, key_spot, key_start, root_spot, setting_of, value_entries, value_of_implicit, value_spot}
 use Rattle.yf_events.specs.declared.lists.Lists.{Lists}
-use Rattle.yf_emit.proofs.Derived.TreesMade.{either_pair}
+use Rattle.yf_emit.proofs.Derived.TreesMade.{either_pair, inline_rows}
 use Rattle.yf_emit.proofs.OutputLines.ColumnsHold.{AllBlocks, no_blocks}
 use Rattle.yf_emit.proofs.SecondRun.ColumnsAgain.{InSteps, no_step, NextIsAt, next_document, next_node}
 use Rattle.yf_emit.proofs.OutputLines.OpenChains.{Kept, Enters, Where, Opened, opening, kept_around, steps_below, BodyRight, body_right, no_body, Chained, Inline, Starting, chain_append, is_filled, inline_append, starting_append, alone, joined_filled, joined_starting, joined_inline, head_inline, line_inline, leaf_alone, line_alone, enters_none, enters_further, enters_same, at_first, at_later, chain_over, chain_row, inline_over, inline_row, none_starting, row_starting}
 
 -- Nodes that are no block collections.
 
-inline_rows : (c : LayoutSetting) (spot : Spot) (x : Node) → is_inline x ≡ true → rows c spot x ≡ one_line c.style spot x
-inline_rows c spot (scalar at props Plain text lines) e = refl
-inline_rows c spot (scalar at props Single text lines) e = refl
-inline_rows c spot (scalar at props Double text lines) e = refl
-inline_rows c spot (scalar at props Literal text lines) e = absurd (true≢false (sym e))
-inline_rows c spot (scalar at props Folded text lines) e = absurd (true≢false (sym e))
-inline_rows c spot (alias at name) e = refl
-inline_rows c spot (sequence at true props xs) e = refl
-inline_rows c spot (sequence at false props xs) e = absurd (true≢false (sym e))
-inline_rows c spot (mapping at true props ps) e = refl
-inline_rows c spot (mapping at false props ps) e = absurd (true≢false (sym e))
-
-inline_no_block : (x : Node) → is_inline x ≡ true → is_block_collection x ≡ false
+pub inline_no_block : (x : Node) → is_inline x ≡ true → is_block_collection x ≡ false
 inline_no_block (scalar at props style text lines) e = refl
 inline_no_block (alias at name) e = refl
 inline_no_block (sequence at flow props no_items) e = refl

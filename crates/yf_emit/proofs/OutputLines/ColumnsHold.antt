@@ -3,13 +3,15 @@ use Rattle.std.proofs.Common.{◌≡◌, ℕ, zero, suc, ◌+◌, Bool, true, fa
 use Rattle.std.specs.Prelude.{◌&&◌, filter, if◌then◌else◌, nat_lt, not}
 use Rattle.yf_comments.specs.Comment.{CommentValue}
 use Rattle.yf_comments.specs.GapLines.{GapLine, blank, remark}
-use Rattle.yf_emit.specs.declared.style.Style.{Style}
-use Rattle.yf_emit.specs.Layouts.CommentColumns.{Beginning, begins_document, begins_entry, begins_node, OpenBlock, at_margin, column_among, column_at, column_before_new, column_in, column_left, comment_column, further_in, goes_on, inward_from, is_ended_by, is_source, left_or, not_ended, open_after, or_else}
+use Rattle.yf_forms.specs.declared.style.Style.{Style}
+use Rattle.yf_print.specs.Layouts.CommentColumns.{Beginning, begins_document, begins_entry, begins_node, at_margin, column_among, column_at, column_before_new, column_in, column_left, comment_column, further_in, goes_on, inward_from, is_ended_by, is_source, left_or, not_ended, open_after, or_else, placed_in}
+use Rattle.yf_print.specs.declared.open_blocks.OpenBlock.{OpenBlock}
 use Rattle.yf_emit.specs.Layouts.Decorated.{blank_if, comments_left, ending_after, gap_of, remarks_after}
-use Rattle.yf_emit.specs.Layouts.KeptColumns.{Columns, after_row, beginning, column_above, column_among_rows, columns_if, is_before_first, is_bodyless, keeps_blocks, precedes_item, after_starts, block_of, unless_document}
-use Rattle.yf_emit.specs.Layouts.Layout.{may_be_blank_after, trimmed}
-use Rattle.yf_emit.specs.Layouts.Rows.{Ending, Row, anywhere, Start}
-use Rattle.yf_emit.specs.Layouts.SourceColumns.{own_column}
+use Rattle.yf_print.specs.Layouts.KeptColumns.{Columns, after_row, beginning, column_above, column_among_rows, columns_if, is_before_first, is_bodyless, keeps_blocks, precedes_item, after_starts, block_of, unless_document}
+use Rattle.yf_emit.specs.Layouts.Layout.{may_be_blank_after}
+use Rattle.yf_forms.specs.Nodes.Lines.{trimmed}
+use Rattle.yf_print.specs.Layouts.Rows.{Ending, Row, anywhere, Start}
+use Rattle.yf_print.specs.Layouts.SourceColumns.{own_column}
 use Rattle.yf_emit.proofs.SameReading.CommentsCut.{Each, each_map, each_more, each_none}
 use Rattle.yf_events.specs.declared.event.Span.{Span}
 
@@ -20,11 +22,6 @@ pub data GapHolds (P : ℕ → Type 0) : List GapLine → Type 0 where
   none_holds : GapHolds P []
   blank_holds : {gs : List GapLine} → GapHolds P gs → GapHolds P (blank ∷ gs)
   remark_holds : {column : ℕ} {text : List ℕ} {gs : List GapLine} → P column → GapHolds P gs → GapHolds P (remark column text ∷ gs)
-
-pub gap_map : {P Q : ℕ → Type 0} {gs : List GapLine} → ((k : ℕ) → P k → Q k) → GapHolds P gs → GapHolds Q gs
-gap_map f none_holds = none_holds
-gap_map f (blank_holds h) = blank_holds (gap_map f h)
-gap_map f (remark_holds {column = column} p h) = remark_holds (f column p) (gap_map f h)
 
 gaps_hold : {P : ℕ → Type 0} {gs hs : List GapLine} → GapHolds P gs → GapHolds P hs → GapHolds P (gs ++ hs)
 gaps_hold none_holds b = b
@@ -94,10 +91,10 @@ pub blocks_map : {P Q : ℕ → Type 0} {bs : List OpenBlock} → ((k : ℕ) →
 blocks_map f no_blocks = no_blocks
 blocks_map f (one_block {b = b} p a) = one_block (f b.printed p) (blocks_map f a)
 
-some_is : {m n : ℕ} → Some m ≡ Some n → m ≡ n
+pub some_is : {m n : ℕ} → Some m ≡ Some n → m ≡ n
 some_is {m} {n} e = ap (λ o. or_else o m) e
 
-none_is : {A : Type 0} {n : ℕ} → None ≡ Some n → A
+pub none_is : {A : Type 0} {n : ℕ} → None ≡ Some n → A
 none_is e = absurd cc
 
 module _ (P : ℕ → Type 0) where
@@ -196,7 +193,7 @@ not_ended_blocks {Q} y (one_block {b = b} {bs = bs} p a) = go (is_ended_by y b) 
 
 open_blocks : {Q : ℕ → Type 0} (y : OpenBlock) {bs : List OpenBlock} → Q y.printed → AllBlocks Q bs → AllBlocks Q (open_after y bs)
 open_blocks {Q} y {bs} p a = go (goes_on y (not_ended y bs)) (not_ended_blocks y a) where
-  go : (v : Bool) → AllBlocks Q (not_ended y bs) → AllBlocks Q (if v then not_ended y bs else y ∷ not_ended y bs)
+  go : (v : Bool) → AllBlocks Q (not_ended y bs) → AllBlocks Q (if v then not_ended y bs else placed_in y (not_ended y bs) ∷ not_ended y bs)
   go true more = more
   go false more = one_block p more
 

@@ -20,13 +20,11 @@ use Rattle.yf_stream.specs.Stream.Parameters.{version_parameter, tag_parameters,
 use Rattle.yf_stream.specs.Stream.ReservedParameter.{reserved_parameter}
 use Rattle.yf_emit.specs.Layouts.FitDocuments.{DirectiveAt}
 use Rattle.yf_emit.proofs.OutputLines.SeenTexts.{ascii_ns}
+use Rattle.yf_stream.proofs.Uniqueness.OneDirective.{digit_ns}
 
 bounds : (c : ℕ) → is_digit c ≡ true → (48 ≤ c) × (c ≤ 57)
 unfolding is_digit is_between
 bounds c e = grind (arith, nat_tests)
-
-digit_ns : (c : ℕ) → is_digit c ≡ true → is_ns_char c ≡ true
-digit_ns c e = let b = bounds c e in ascii_ns c (omega (arith, b.0)) (omega (arith, b.1))
 
 solid_ns : (c : ℕ) → Solid c → is_ns_char c ≡ true
 solid_ns c s = ascii_ns c s.low s.high

@@ -2,6 +2,7 @@
 use Rattle.std.proofs.Common.{◌≡◌, ℕ, zero, suc, List, [], ◌∷◌, ◌++◌, Option, Some, sym, subst}
 use Rattle.std.specs.Prelude.{slice_get}
 use Rattle.std.specs.Str.{IsUtf8}
+use Rattle.std.proofs.lemmas.Option.{same_Some}
 use Rattle.yf_comments.specs.Comment.{CommentValue}
 use Rattle.yf_events.specs.Event.{EventValue, EventInText, stream_ends}
 use Rattle.yf_events.specs.Tree.{unplaced}
@@ -12,7 +13,7 @@ use Rattle.yf_stream.specs.ReadingOf.{DocumentEvents, no_document, one_document,
 use Rattle.yf_stream.specs.Stream.{Document, Documents}
 use Rattle.yf_emit.specs.Layouts.Decorated.{row_decos, rows_of}
 use Rattle.yf_emit.specs.Format.{IsFormatting}
-use Rattle.yf_emit.specs.declared.style.Style.{Style}
+use Rattle.yf_forms.specs.declared.style.Style.{Style}
 use Rattle.yf_emit.proofs.Derived.FormatsRead.{formats_laid}
 use Rattle.yf_emit.proofs.OutputLines.HeldLemmas.{BodiesHeld, EventsHeld, Holds, bodies_more, here, holds_left, there}
 use Rattle.yf_emit.proofs.Derived.DocumentsHeld.{all_events}
@@ -28,12 +29,9 @@ noted_set (one_comment n more) a = (a.0, noted_set more a.1)
 no_comment_there : (k : ℕ) (c : CommentValue) → slice_get [] k ≡ Some c → ⊥
 no_comment_there k c e = cc
 
-same_comment : {c d : CommentValue} → Some c ≡ Some d → c ≡ d
-same_comment e = cc
-
 set_at : (t : List ℕ) (cs : List CommentValue) (k : ℕ) (c : CommentValue) → AllSet t cs → slice_get cs k ≡ Some c → WellSet t c.offset
 set_at t [] k c a e = absurd (no_comment_there k c e)
-set_at t (d ∷ cs) zero c a e = subst (λ (w : CommentValue). WellSet t w.offset) (same_comment e) a.0
+set_at t (d ∷ cs) zero c a e = subst (λ (w : CommentValue). WellSet t w.offset) (same_Some _ _ e) a.0
 set_at t (d ∷ cs) (suc k) c a e = set_at t cs k c a.1 e
 
 -- Events.

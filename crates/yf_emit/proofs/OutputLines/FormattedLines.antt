@@ -6,13 +6,13 @@ use Rattle.yf_lines.specs.Lines.{AreLines as LinesOf}
 use Rattle.yf_lines.proofs.RestLemmas.{Rest, rest_start}
 use Rattle.yf_lines.proofs.TableLemmas.{follow}
 use Rattle.yf_comments.specs.GapLines.{GapLine, blank, remark, AreGapLines}
-use Rattle.yf_emit.specs.declared.style.Style.{Style}
+use Rattle.yf_forms.specs.declared.style.Style.{Style}
 use Rattle.yf_emit.specs.Layouts.RowComments.{AreRemarks, AreDecos}
 use Rattle.yf_emit.specs.Layouts.Decorated.{Deco, body_then, first, after, first_gap, row_decos, rows_of}
 use Rattle.yf_emit.specs.Layouts.FitDocuments.{FitDocuments}
 use Rattle.yf_emit.specs.Format.{IsFormatting}
-use Rattle.yf_emit.specs.NormalForms.Normal.{setting_of}
-use Rattle.yf_emit.specs.Layouts.Rows.{Row}
+use Rattle.yf_forms.specs.NormalForms.Normal.{setting_of}
+use Rattle.yf_print.specs.Layouts.Rows.{Row}
 use Rattle.yf_emit.proofs.Derived.ClearRows.{line_indented, remark_line, trails_line}
 use Rattle.yf_emit.proofs.Writable.CommentsFit.{reading_remarks}
 use Rattle.yf_emit.proofs.Derived.DecoratedLemmas.{layout_then}
@@ -23,7 +23,7 @@ use Rattle.yf_emit.proofs.OutputLines.LaidLines.{gap_lines, row_lines, laid_line
 use Rattle.yf_emit.proofs.Derived.RowEnds.{first_deco, after_decos}
 use Rattle.yf_emit.proofs.Derived.RowsUtf8.{AreLines, no_line, line_more, RowLines, no_rows, row_more, all_lines}
 use Rattle.yf_lines.proofs.RestLemmas.{line_nothing, line_append}
-use Rattle.yf_emit.specs.Layouts.BareStart.{is_bare}
+use Rattle.yf_print.specs.Layouts.BareStart.{is_bare}
 use Rattle.yf_emit.specs.Preservation.CommentsPlaced.{columns_in}
 
 -- Each line is a text within a line.

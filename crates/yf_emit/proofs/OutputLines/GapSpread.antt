@@ -4,9 +4,10 @@ use Rattle.std.specs.Prelude.{filter}
 use Rattle.yf_comments.specs.Comment.{CommentValue}
 use Rattle.yf_comments.specs.GapLines.{GapLine, blank, remark}
 use Rattle.yf_emit.specs.Layouts.Decorated.{Deco, blank_if, comments_left, decos_of, ending_after, gap_of, remarks_after}
-use Rattle.yf_emit.specs.Layouts.Layout.{Source, may_be_blank_after, precedes_item, trimmed}
-use Rattle.yf_emit.specs.Layouts.Rows.{Row, Ending, anywhere}
-use Rattle.yf_emit.specs.Layouts.KeptColumns.{Columns}
+use Rattle.yf_emit.specs.Layouts.Layout.{Source, may_be_blank_after, precedes_item}
+use Rattle.yf_forms.specs.Nodes.Lines.{trimmed}
+use Rattle.yf_print.specs.Layouts.Rows.{Row, Ending, anywhere}
+use Rattle.yf_print.specs.Layouts.KeptColumns.{Columns}
 
 -- the flags say whether a blank line may be after what is before the lines, and before what is after them
 pub data Spread : Bool → List GapLine → Bool → Type 0 where
@@ -15,7 +16,7 @@ pub data Spread : Bool → List GapLine → Bool → Type 0 where
   spread_blank : {e : Bool} {column : ℕ} {text : List ℕ} {gs : List GapLine} → Spread true gs e → Spread true (blank ∷ remark column text ∷ gs) e
   spread_last : Spread true (blank ∷ []) true
 
-any_after : (cs : List CommentValue) → ending_after anywhere cs ≡ anywhere
+pub any_after : (cs : List CommentValue) → ending_after anywhere cs ≡ anywhere
 any_after [] = refl
 any_after (c ∷ cs) = refl
 

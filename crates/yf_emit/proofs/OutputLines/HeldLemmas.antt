@@ -17,12 +17,12 @@ pub use Rattle.yf_grammar.specs.Productions.BlockScalar.{LinesBetween}
 pub use Rattle.yf_grammar.specs.Productions.BlockScalar.LinesBetween.{counted}
 use Rattle.yf_grammar.proofs.Ends.BlankRuns.{ContentBefore}
 use Rattle.yf_grammar.specs.Productions.Meaning.{Meaning, ◌⊕◌, meaning_after, noting, empty_node, collection, first_entering, with_props, entering}
-use Rattle.yf_emit.specs.Nodes.BlockLines.{block_lines}
-use Rattle.yf_emit.specs.Nodes.ContentStart.{content_start}
+use Rattle.yf_forms.specs.Nodes.BlockLines.{block_lines}
+use Rattle.yf_forms.specs.Nodes.ContentStart.{content_start}
 use Rattle.yf_emit.specs.Layouts.RowComments.{IsDeco}
 use Rattle.yf_emit.specs.Layouts.Decorated.{Deco, first, after, past, body_then, end_then, lines_then}
 use Rattle.yf_emit.specs.Layouts.ReadableTrees.{FitScalar}
-use Rattle.yf_emit.specs.Layouts.Rows.{Row, joined}
+use Rattle.yf_print.specs.Layouts.Rows.{Row, joined}
 use Rattle.yf_emit.proofs.Derived.DecoratedLemmas.{lines_append}
 use Rattle.yf_emit.proofs.OutputLines.WellSet.{AllSet, row_set, set_append}
 

@@ -23,9 +23,12 @@ use Rattle.yf_lines.proofs.RestLemmas.{Rest, rest_ascii, rest_text, rest_break}
 use Rattle.yf_lines.proofs.TableLemmas.{Follow}
 use Rattle.yf_comments.specs.GapLines.{GapLine, blank, remark, gap_then}
 use Rattle.yf_emit.specs.Layouts.Decorated.{Deco, first, after, trails_then, body_then, lines_then}
-use Rattle.yf_emit.specs.Layouts.Rows.{Row}
+use Rattle.yf_print.specs.Layouts.Rows.{Row}
 use Rattle.yf_emit.proofs.Derived.ClearRows.{trails_bytes, trails_are}
 use Rattle.yf_emit.proofs.Derived.RowsUtf8.{AreLines, no_line, line_more}
+use Rattle.yf_chars.proofs.Tests.{not_true}
+use Rattle.yf_chars.proofs.CharFacts.{feed_no_nb, return_no_nb}
+use Rattle.yf_emit.proofs.Derived.StreamParts.{ended_at}
 
 -- The texts of the lines.
 
@@ -97,14 +100,6 @@ nb_there {t} {i = i} u (step (one e) c) h l m =
     (λ (n : next t i ≤ h). nb_there u c h n m) (cases_lt h (next t i)))
     (cases_eq h i)
 
-no_nb_feed : is_nb_char 10 ≡ false
-unfolding is_nb_char is_printable is_between is_break_char
-no_nb_feed = refl
-
-no_nb_return : is_nb_char 13 ≡ false
-unfolding is_nb_char is_printable is_between is_break_char
-no_nb_return = refl
-
 -- such an offset is at no character that is none of a line
 pub nb_no : (c d : ℕ) → c < no_char → is_nb_char c ≡ false → (is_nb_char d ≡ true) ⊎ (d ≡ no_char) → d ≢ c
 nb_no c d l n a e = ⊎_elim (λ (b : is_nb_char d ≡ true). true≢false (sym b ∙ (ap is_nb_char e ∙ n))) (λ (b : d ≡ no_char). omega (arith, l, b, e)) a
@@ -112,22 +107,13 @@ nb_no c d l n a e = ⊎_elim (λ (b : is_nb_char d ≡ true). true≢false (sym 
 no_break_there : (c : ℕ) → c ≢ 10 → c ≢ 13 → is_break_char c ≡ true → ⊥
 no_break_there c n m e = ⊎_elim (λ (q : c ≡ 13). m q) (λ (q : c ≡ 10). n q) (break_char_cases c e)
 
-is_false : (b : Bool) → (b ≡ true → ⊥) → b ≡ false
-is_false true n = absurd (n refl)
-is_false false n = refl
-
 text_unbroken : {t : List ℕ} {i j : ℕ} {x : List ℕ} → IsUtf8 t → i ≤ j → Many t is_nb_char i j x → NoBreakIn t i j
 text_unbroken {t} u o c = record {
   order = o;
   none = λ h l m.
       let a = nb_there u c h l m in
-      is_false (is_break_char (code t h)) (no_break_there (code t h) (nb_no 10 (code t h) (omega arith) no_nb_feed a) (nb_no 13 (code t h) (omega arith) no_nb_return a));
+      not_true (is_break_char (code t h)) (no_break_there (code t h) (nb_no 10 (code t h) (omega arith) feed_no_nb a) (nb_no 13 (code t h) (omega arith) return_no_nb a));
 }
-
-at_text_end : {t : List ℕ} {q : ℕ} → Rest t q [] → q ≡ length t
-at_text_end {t} {q} s =
-    let none : length (drop q t) ≡ 0 = ap length s.bytes in
-    omega (arith, none, length-drop q t, s.boundary.0)
 
 pub before_text_end : {t : List ℕ} {q : ℕ} (x r : List ℕ) → Rest t q (x ++ (10 ∷ r)) → q < length t
 before_text_end {t} {q} x r s =
@@ -149,7 +135,7 @@ pub lines_are : {t : List ℕ} {xs : List (List ℕ)} (ls : List Line) {q : ℕ}
 lines_are [] u no_line f s = no_lines
 lines_are (l ∷ ls) u no_line f s =
     let o = f.1.order in let w = end_within f.1.ends in
-    absurd (let e = at_text_end s in omega (arith, f.0, o, w.1, e))
+    absurd (let e = ended_at s in omega (arith, f.0, o, w.1, e))
 lines_are [] u (line_more {x = x} {xs = xs} a more) f s = absurd (let l = before_text_end x (body_then xs []) s in omega (arith, l, f))
 lines_are {t} (l ∷ ls) {q} u (line_more {x = x} {xs = xs} a more) f s =
     let here : Rest t l.start (x ++ (10 ∷ body_then xs [])) = subst (λ k. Rest t k (x ++ (10 ∷ body_then xs []))) (sym f.0) s in
@@ -183,7 +169,7 @@ pub record LineText (t : List ℕ) (xs : List (List ℕ)) (k : ℕ) (l : Line) :
   pub among : slice_get xs k ≡ Some text
   pub is : LineIs t l text
 
-nothing_there : (k : ℕ) (l : Line) → slice_get [] k ≡ Some l → ⊥
+pub nothing_there : (k : ℕ) (l : Line) → slice_get [] k ≡ Some l → ⊥
 nothing_there k l e = cc
 
 pub line_text : {t : List ℕ} {ls : List Line} {xs : List (List ℕ)} (k : ℕ) (l : Line) → LinesAre t ls xs → slice_get ls k ≡ Some l → LineText t xs k l

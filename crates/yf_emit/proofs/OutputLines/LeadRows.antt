@@ -15,12 +15,12 @@ use Rattle.yf_events.specs.Tree.{NodeOffsets, Node, scalar, Items, item, Pairs, 
 use Rattle.yf_props.specs.Props.{PropsValue}
 use Rattle.yf_grammar.specs.Productions.OneLineTexts.{Back}
 use Rattle.yf_stream.proofs.Uniqueness.NoPercent.{no_percent_flow}
-use Rattle.yf_emit.specs.declared.style.Style.{Style}
+use Rattle.yf_forms.specs.declared.style.Style.{Style}
 use Rattle.yf_emit.specs.Layouts.FitDocuments.{FitDocuments, fit_no_documents, fit_document}
 use Rattle.yf_emit.specs.Layouts.ReadableTrees.{Fit, fit_nothing, fit_line, fit_scalar, fit_sequence, fit_mapping, FitItems, fit_no_items, fit_item, FitPairs, fit_no_pairs, fit_pair}
-use Rattle.yf_emit.specs.NormalForms.Normal.{LayoutSetting, Spot, inner_spot, key_spot, value_spot, is_implicit, key_comment, root_spot}
-use Rattle.yf_emit.specs.Nodes.OneLine.{written, colon_after, props_text}
-use Rattle.yf_emit.specs.Layouts.Rows.{Row, one_line_row, props_row, joined, after_sign, after_key, begins_below, entry_row, colon_row, key_row, pair_rows, rows, rows_of_items, rows_of_pairs, directive_row, end_rows, beginning_at, begun_at, all_rows, stream_rows}
+use Rattle.yf_forms.specs.NormalForms.Normal.{LayoutSetting, Spot, inner_spot, key_spot, value_spot, is_implicit, key_comment, root_spot}
+use Rattle.yf_forms.specs.Nodes.OneLine.{written, colon_after, props_text}
+use Rattle.yf_print.specs.Layouts.Rows.{Row, one_line_row, props_row, joined, after_sign, after_key, begins_below, entry_row, colon_row, key_row, pair_rows, rows, rows_of_items, rows_of_pairs, directive_row, end_rows, beginning_at, begun_at, all_rows, stream_rows}
 use Rattle.yf_emit.proofs.Texts.LineUtf8.{line_utf8}
 use Rattle.yf_emit.proofs.Derived.TreesMade.{block_is_no_key, either_pair, inline_rows, not_implicit}
 

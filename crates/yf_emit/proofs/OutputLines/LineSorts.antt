@@ -69,7 +69,7 @@ pub data Sort (t : List ℕ) (es : List EventInText) (all : List Line) (k : ℕ)
 
 -- Lists and bytes.
 
-no_line : (k : ℕ) (l : Line) (ls : List Line) → drop k [] ≡ l ∷ ls → ⊥
+pub no_line : (k : ℕ) (l : Line) (ls : List Line) → drop k [] ≡ l ∷ ls → ⊥
 no_line zero l ls e = cc
 no_line (suc k) l ls e = cc
 

@@ -3,6 +3,7 @@ use Rattle.std.proofs.Common.{◌≡◌, ◌≢◌, ℕ, zero, suc, ◌+◌, ◌
 use Rattle.std.proofs.lemmas.Str.{len_utf8_bounds, length-encode}
 use Rattle.std.specs.Prelude.{slice_get}
 use Rattle.std.specs.Str.{IsUtf8}
+use Rattle.std.proofs.lemmas.Option.{same_Some}
 use Rattle.yf_chars.specs.Class.{is_white}
 use Rattle.yf_chars.specs.Text.{code, last_or}
 use Rattle.yf_chars.proofs.TextLemmas.{byte_from_code}
@@ -17,7 +18,7 @@ use Rattle.yf_grammar.specs.Productions.Unmarked.{IsNoMarker}
 use Rattle.yf_emit.specs.Layouts.RowComments.{AreTrails, AreDecos}
 use Rattle.yf_emit.specs.Layouts.Decorated.{Deco, first, after, body_then, end_then, lines_then, trails_then}
 use Rattle.yf_emit.specs.Layouts.Layout.{may_be_blank_after}
-use Rattle.yf_emit.specs.Layouts.Rows.{Row}
+use Rattle.yf_print.specs.Layouts.Rows.{Row}
 use Rattle.yf_emit.proofs.Derived.ClearRows.{AreBodyTexts, no_body_text, body_text, IsRowText, feed_follows, place_of_rest, remark_unmarked, trails_bytes, trails_unmarked, unmarked_indented}
 use Rattle.yf_emit.proofs.OutputLines.GapSpread.{Spread, spread_end, spread_remark, spread_blank, spread_last, Spreads, more_spreads, next_blank}
 use Rattle.yf_emit.proofs.OutputLines.HeldLemmas.{BodiesHeld, BodyHeld, SeenEnd}
@@ -31,14 +32,11 @@ use Rattle.yf_emit.proofs.OutputLines.SeenTexts.{IsSeen}
 use Rattle.yf_emit.proofs.OutputLines.TidyTexts.{IsTidy, TidyDecos, none_tidy, more_tidy, TidyGap, TidyTrails, last_append, line_tidy}
 use Rattle.yf_emit.proofs.OutputLines.WellSet.{after_no_white}
 
-nothing_got : (i : ℕ) (y : List ℕ) → slice_get [] i ≡ Some y → ⊥
+pub nothing_got : (i : ℕ) (y : List ℕ) → slice_get [] i ≡ Some y → ⊥
 nothing_got i y e = cc
 
 remark_some : {w v : List ℕ} → w ≡ 35 ∷ v → w ≡ [] → ⊥
 remark_some e f = cc
-
-same_text : {p q : List ℕ} → Some p ≡ Some q → p ≡ q
-same_text e = cc
 
 pub seen_long : {w : List ℕ} → IsSeen w → 0 < length w
 seen_long a = let l = ap length a.is in let b = len_utf8_bounds a.char in omega (arith, l, length-append (encode_utf8 a.char) a.follows, length-encode a.char, b)

@@ -5,9 +5,10 @@ use Rattle.std.specs.Prelude.{◌==◌, ◌&&◌, ◌||◌, nat_lt, if◌then◌
 use Rattle.std.proofs.lemmas.Bool.Decides.{nat_tests}
 use Rattle.yf_events.specs.declared.event.Span.{Span}
 use Rattle.yf_events.specs.Tree.{Node, scalar, sequence, mapping, is_sequence, leaves}
-use Rattle.yf_emit.specs.Layouts.CommentColumns.{OpenBlock, goes_on, is_ended_by, is_same_block, not_ended, open_after}
-use Rattle.yf_emit.specs.Layouts.KeptColumns.{after_row, after_starts, beginning, block_of, unless_document}
-use Rattle.yf_emit.specs.Layouts.Rows.{Row, Start, joined, one_line_row, rows}
+use Rattle.yf_print.specs.Layouts.CommentColumns.{goes_on, is_ended_by, is_same_block, not_ended, open_after, placed_in}
+use Rattle.yf_print.specs.declared.open_blocks.OpenBlock.{OpenBlock}
+use Rattle.yf_print.specs.Layouts.KeptColumns.{after_row, after_starts, beginning, block_of, unless_document}
+use Rattle.yf_print.specs.Layouts.Rows.{Row, Start, joined, one_line_row, rows}
 use Rattle.yf_emit.proofs.OutputLines.ColumnsHold.{AllBlocks, no_blocks, one_block}
 use Rattle.yf_emit.proofs.SecondRun.ColumnsAgain.{InSteps, inner_step, last_step, same_step, NextIsAt, next_entry, next_node}
 
@@ -102,11 +103,11 @@ first_kept y b bs e = ap (λ v. if v then not_ended y bs else b ∷ bs) e
 first_stays : (y b : OpenBlock) (bs : List OpenBlock) → is_ended_by y b ≡ false → not_ended y (b ∷ bs) ≡ b ∷ bs
 first_stays y b bs e = ap (λ v. if v then not_ended y bs else b ∷ bs) e
 
-opened_new : (y : OpenBlock) (bs : List OpenBlock) → not_ended y bs ≡ bs → goes_on y bs ≡ false → open_after y bs ≡ y ∷ bs
-opened_new y bs e f = ap (λ z. if goes_on y z then z else y ∷ z) e ∙ ap (λ v. if v then bs else y ∷ bs) f
+opened_new : (y : OpenBlock) (bs : List OpenBlock) → not_ended y bs ≡ bs → goes_on y bs ≡ false → open_after y bs ≡ placed_in y bs ∷ bs
+opened_new y bs e f = ap (λ z. if goes_on y z then z else placed_in y z ∷ z) e ∙ ap (λ v. if v then bs else placed_in y bs ∷ bs) f
 
 opened_again : (y : OpenBlock) (now : List OpenBlock) {bs : List OpenBlock} → not_ended y now ≡ bs → goes_on y bs ≡ true → open_after y now ≡ bs
-opened_again y now {bs} e f = ap (λ z. if goes_on y z then z else y ∷ z) e ∙ ap (λ v. if v then bs else y ∷ bs) f
+opened_again y now {bs} e f = ap (λ z. if goes_on y z then z else placed_in y z ∷ z) e ∙ ap (λ v. if v then bs else placed_in y bs ∷ bs) f
 
 module _ (w : ℕ) (wide : 0 < w) where
   -- the entries of a collection begin at that column within the first of those that are open
@@ -128,12 +129,12 @@ module _ (w : ℕ) (wide : 0 < w) where
     pub steps : InSteps w (block ∷ bs)
 
   pub opening : {e : ℕ} {k : Bool} {bs now : List OpenBlock} (y : OpenBlock) → InSteps w bs → Where e k bs now → y.printed ≡ e → y.is_sequence ≡ k → Opened e k bs (open_after y now)
-  opening y s (at_first enters_none) f g = record { block = y; is = refl; at = f; kind = g; steps = last_step }
+  opening y s (at_first enters_none) f g = record { block = placed_in y []; is = refl; at = f; kind = g; steps = last_step }
   opening {e} y s (at_first (enters_further {b = b} {bs = bs} m)) f g =
       let right : b.printed < y.printed = omega (arith, f, m, wide) in
-      record { block = y; is = opened_new y (b ∷ bs) (first_stays y b bs (not_ended_right y b right)) (not_same_column y b right); at = f; kind = g; steps = inner_step (f ∙ m) s }
+      record { block = placed_in y (b ∷ bs); is = opened_new y (b ∷ bs) (first_stays y b bs (not_ended_right y b right)) (not_same_column y b right); at = f; kind = g; steps = inner_step (f ∙ m) s }
   opening y s (at_first (enters_same {b = b} {bs = bs} m n o)) f g =
-      record { block = y; is = opened_new y (b ∷ bs) (first_stays y b bs (not_ended_mapping y b (f ∙ m) o)) (not_same_kind y b (g ∙ n) o); at = f; kind = g; steps = same_step (f ∙ m) s }
+      record { block = placed_in y (b ∷ bs); is = opened_new y (b ∷ bs) (first_stays y b bs (not_ended_mapping y b (f ∙ m) o)) (not_same_kind y b (g ∙ n) o); at = f; kind = g; steps = same_step (f ∙ m) s }
   opening {bs = bs} {now = now} y s (at_later {b = b} m n kept steps) f g =
       let there : y.printed ≡ b.printed = f ∙ sym m in
       let like : y.is_sequence ≡ b.is_sequence = g ∙ sym n in

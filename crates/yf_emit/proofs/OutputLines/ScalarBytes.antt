@@ -4,7 +4,7 @@ use Rattle.yf_block_scalar.specs.Content.{feeds}
 use Rattle.yf_block_scalar.specs.Placed.{lines_then as scalar_lines, trail_then, IsTrail, trail_texts}
 use Rattle.yf_block_scalar.specs.Written.{style_bytes, digit_bytes, sign_bytes}
 use Rattle.yf_events.specs.declared.event.ScalarStyle.{ScalarStyle}
-use Rattle.yf_emit.specs.Nodes.BlockLines.{begins_with_space, chomping_sign, digit_text, final_feeds, header_text, line_at, style_sign}
+use Rattle.yf_forms.specs.Nodes.BlockLines.{begins_with_space, chomping_sign, digit_text, final_feeds, header_text, line_at, style_sign}
 use Rattle.yf_emit.specs.Nodes.BlockValues.{is_folded, chomp_of, digit_of}
 use Rattle.yf_emit.specs.Layouts.RowComments.{AreTrails}
 use Rattle.yf_emit.specs.Layouts.Decorated.{trails_then, body_then}

@@ -89,7 +89,7 @@ pub record ScalarReached (t : List ℕ) (n : ℤ) (h : Header) (ls : List (List 
   pub reaches : lines ≡ reach header.header.chomp (length value.lines) value.tail
   pub comments : node.meaning.comments ≡ header.comments ++ value.comments
 
-feeds_long : (k : ℕ) → length (feeds k) ≡ k
+pub feeds_long : (k : ℕ) → length (feeds k) ≡ k
 feeds_long zero = refl
 feeds_long (suc k) = ap suc (feeds_long k)
 

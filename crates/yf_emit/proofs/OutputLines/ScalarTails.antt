@@ -38,7 +38,7 @@ use Rattle.yf_grammar.specs.Productions.BlockScalar.{LinesBetween, reach}
 use Rattle.yf_grammar.specs.Productions.BlockScalar.LinesBetween.{counted}
 use Rattle.yf_stream.proofs.Offsets.BrokenEnds.{Broken}
 use Rattle.yf_stream.proofs.Offsets.BrokenEnds.Broken.{at_break as break_at}
-use Rattle.yf_emit.specs.Nodes.BlockLines.{block_lines, content_lines, final_feeds, line_at}
+use Rattle.yf_forms.specs.Nodes.BlockLines.{block_lines, content_lines, final_feeds, line_at}
 use Rattle.yf_emit.specs.Nodes.BlockValues.{chomp_of, header_of}
 use Rattle.yf_emit.specs.Layouts.Decorated.{Deco, body_then}
 use Rattle.yf_emit.proofs.Derived.ClearRows.{AreBodyTexts, no_body_text, body_text}

@@ -1,6 +1,6 @@
 -- Texts that end with no white space: comments as they are printed; and lines of a text with such a text.
 use Rattle.std.proofs.Common.{◌≡◌, ◌≢◌, ℕ, zero, suc, ◌+◌, ◌-◌, ◌<◌, ◌⊎◌, inl, inr, ⊎_elim, Bool, true, false, true≢false, List, [], ◌∷◌, ◌++◌, length, get_or, get_or-drop, length-append, refl, sym, ap, ◌∙◌, arith}
-use Rattle.std.specs.Prelude.{◌&&◌, if◌then◌else◌, map}
+use Rattle.std.specs.Prelude.{◌&&◌, if◌then◌else◌, map, filter}
 use Rattle.std.specs.List.{list_all}
 use Rattle.std.specs.Str.{IsUtf8}
 use Rattle.std.proofs.lemmas.Bool.{cases_Bool}
@@ -13,11 +13,11 @@ use Rattle.yf_lines.proofs.BasicLemmas.{white_below}
 use Rattle.yf_comments.specs.Comment.{CommentValue}
 use Rattle.yf_comments.specs.GapLines.{GapLine, blank, remark}
 use Rattle.yf_emit.specs.Layouts.Decorated.{Deco, blank_if, comments_left, decos_of, ending_after, gap_of, remarks_after}
-use Rattle.yf_emit.specs.Layouts.Layout.{Source, may_be_blank_after, precedes_item, trailing, trimmed}
-use Rattle.yf_emit.specs.Layouts.Rows.{Row, Ending, anywhere}
+use Rattle.yf_emit.specs.Layouts.Layout.{Source, may_be_blank_after, precedes_item, trailing}
+use Rattle.yf_forms.specs.Nodes.Lines.{trimmed}
+use Rattle.yf_print.specs.Layouts.Rows.{Row, Ending, anywhere}
 use Rattle.yf_emit.proofs.OutputLines.LaidLines.{LineIs}
-use Rattle.std.specs.Prelude.{filter}
-use Rattle.yf_emit.specs.Layouts.KeptColumns.{Columns}
+use Rattle.yf_print.specs.Layouts.KeptColumns.{Columns}
 
 -- none, or one that ends with no white space
 abbrev pub IsTidy : List ℕ → Type 0

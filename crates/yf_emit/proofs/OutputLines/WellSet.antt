@@ -27,6 +27,8 @@ use Rattle.yf_grammar.proofs.Ends.BlankRuns.{ContentBefore, no_start_past}
 use Rattle.yf_grammar.proofs.BlockOutcomes.BlockEnds.{LineOrEnd}
 use Rattle.yf_emit.specs.Layouts.RowComments.{AreTrails, IsDeco}
 use Rattle.yf_emit.specs.Layouts.Decorated.{Deco, trails_then, end_then, body_then, gap_then}
+use Rattle.yf_chars.proofs.Tests.{not_true}
+use Rattle.yf_chars.proofs.CharFacts.{feed_no_white, hash_no_white}
 
 -- an offset at which a comment may begin
 pub data WellSet (t : List ℕ) (o : ℕ) : Type 0 where
@@ -80,24 +82,12 @@ module _ {t : List ℕ} where
 
 -- After a character that is no white.
 
-hash_no_white : is_white 35 ≡ false
-unfolding is_white
-hash_no_white = refl
-
-feed_no_white : is_white 10 ≡ false
-unfolding is_white
-feed_no_white = refl
-
 first_white : {t : List ℕ} {i j : ℕ} {x : List ℕ} → Many t is_white i j x → i < j → is_white (code t i) ≡ true
 first_white done l = absurd (omega (arith, l))
 first_white (step (one e) c) l = e
 
-no_white : (b : Bool) → (b ≡ true → ⊥) → b ≡ false
-no_white true n = absurd (n refl)
-no_white false n = refl
-
 pub after_no_white : {t : List ℕ} {q : ℕ} → IsUtf8 t → ContentBefore t q → is_white (code t (q - 1)) ≡ false
-after_no_white {t} {q} u b = no_white (is_white (code t (q - 1))) (λ e.
+after_no_white {t} {q} u b = not_true (is_white (code t (q - 1))) (λ e.
     let read = reads_white t (q - 1) u e in
     let later = b.reads.later in
     let place : q - 1 + 1 ≡ q = omega (arith, later) in

@@ -3,13 +3,15 @@ use Rattle.std.proofs.Common.{◌≡◌, ℕ, ◌+◌, ◌-◌, Bool, true, fals
 use Rattle.std.specs.Prelude.{if◌then◌else◌}
 use Rattle.yf_comments.specs.Comment.{CommentValue}
 use Rattle.yf_events.specs.declared.event.Span.{Span}
-use Rattle.yf_emit.specs.Passes.Drafts.{after_blocks, after_line, begins_with, Draft, has_no_lines, is_before, kept_column, leaf_marked, line_column, LineMarks, no_marks, or_first, Remarks, start_if, start_marked}
-use Rattle.yf_emit.specs.Layouts.CommentColumns.{OpenBlock, begins_document, comment_column, open_after}
-use Rattle.yf_emit.specs.Layouts.Layout.{ended}
-use Rattle.yf_emit.specs.Layouts.Rows.{Row, Start}
-use Rattle.yf_emit.specs.Layouts.KeptColumns.{Columns, after_starts, beginning, block_of, column_above, column_among_rows, columns_if, is_before_first, is_bodyless, keeps_blocks, unless_document}
-use Rattle.yf_emit.specs.Layouts.SourceColumns.{own_column}
+use Rattle.yf_print.specs.Passes.Drafts.{after_blocks, after_line, begins_with, Draft, has_no_lines, is_before, kept_column, leaf_marked, line_column, LineMarks, known_if, no_marks, or_first, Remarks, start_if, start_marked, unless_begun}
+use Rattle.yf_print.specs.Layouts.CommentColumns.{begins_document, comment_column, open_after}
+use Rattle.yf_print.specs.declared.open_blocks.OpenBlock.{OpenBlock}
+use Rattle.yf_forms.specs.Nodes.Lines.{ended}
+use Rattle.yf_print.specs.Layouts.Rows.{Row, Start}
+use Rattle.yf_print.specs.Layouts.KeptColumns.{Columns, after_row, after_starts, beginning, block_of, column_above, column_among_rows, columns_if, is_before_first, is_bodyless, keeps_blocks, unless_document}
+use Rattle.yf_print.specs.Layouts.SourceColumns.{own_column}
 use Rattle.yf_emit.proofs.OutputLines.ColumnsHold.{WalkAbove, WalkFrom}
+use Rattle.yf_print.proofs.Pass.KnownLines.{IsKnown, block_is, known_on, text_known}
 use Rattle.yf_emit.proofs.SameReading.CommentsCut.{Each, each_more, each_none}
 
 -- the entries that begin on a line, and the leaves on it
@@ -47,11 +49,16 @@ module _ (r : Remarks) {g : Columns} where
   chains same each_none = each_none
   chains same (each_more w more) = each_more (any_chain same w) (chains same more)
 
-starts_are : (r : Remarks) (ss : List Start) (m : LineMarks) → keeps_blocks r.style ≡ true → starts_marked r ss m ≡ record m { starts = m.starts ++ map (block_of r.text) ss }
-starts_are r [] m e = ap (λ w. record m { starts = w }) (sym (append-nil m.starts))
-starts_are r (s ∷ ss) m e =
-    starts_are r ss (start_marked r s m) e
-    ∙ (ap (λ b. record m { starts = start_if b r.text s m.starts ++ map (block_of r.text) ss }) e ∙ ap (λ w. record m { starts = w }) (append_assoc m.starts (block_of r.text s ∷ []) (map (block_of r.text) ss)))
+starts_are : (r : Remarks) (ss : List Start) (m : LineMarks) → keeps_blocks r.style ≡ true → IsKnown r.text m.known → (starts_marked r ss m).starts ≡ m.starts ++ map (block_of r.text) ss
+starts_are r [] m e k = sym (append-nil m.starts)
+starts_are r (s ∷ ss) m e k =
+    starts_are r ss (start_marked r s m) e (subst (λ b. IsKnown r.text (known_if b r.text s m.known)) (sym e) (known_on r.text m.known s.offsets k))
+    ∙ (ap (λ b. start_if b r.text s m.known m.starts ++ map (block_of r.text) ss) e
+    ∙ (ap (λ b. (m.starts ++ (b ∷ [])) ++ map (block_of r.text) ss) (block_is r.text m.known s k) ∙ append_assoc m.starts (block_of r.text s ∷ []) (map (block_of r.text) ss)))
+
+leaf_stays : (r : Remarks) (ss : List Start) (m : LineMarks) → (starts_marked r ss m).has_leaf ≡ m.has_leaf
+leaf_stays r [] m = refl
+leaf_stays r (s ∷ ss) m = leaf_stays r ss (start_marked r s m)
 
 leaves_are : (ls : List Span) (m : LineMarks) → leaves_marked ls m ≡ record m { has_leaf = any_leaf ls m.has_leaf }
 leaves_are [] m = refl
@@ -60,24 +67,43 @@ leaves_are (l ∷ ls) m = leaves_are ls (leaf_marked m) ∙ ap (λ b. record m {
   all [] = refl
   all (k ∷ ks) = refl
 
-pub marks_are : (r : Remarks) (row : Row) → keeps_blocks r.style ≡ true
-    → leaves_marked row.leaves (starts_marked r row.starts no_marks) ≡ record { starts = map (block_of r.text) row.starts; has_leaf = any_leaf row.leaves false }
-marks_are r row e = ap (leaves_marked row.leaves) (starts_are r row.starts no_marks e) ∙ leaves_are row.leaves (record { starts = map (block_of r.text) row.starts; has_leaf = false })
+-- those of a row
+pub record RowMarks (t : List ℕ) (row : Row) (m : LineMarks) : Type 0 where
+  pub starts : m.starts ≡ map (block_of t) row.starts
+  pub leaf : m.has_leaf ≡ any_leaf row.leaves false
+
+pub marks_are : (r : Remarks) (row : Row) → keeps_blocks r.style ≡ true → RowMarks r.text row (leaves_marked row.leaves (starts_marked r row.starts no_marks))
+marks_are r row e =
+    let m : LineMarks = starts_marked r row.starts no_marks in
+    let same : leaves_marked row.leaves m ≡ record m { has_leaf = any_leaf row.leaves m.has_leaf } = leaves_are row.leaves m in
+    record {
+      starts = ap (λ (w : LineMarks). w.starts) same ∙ starts_are r row.starts no_marks e (text_known r.text);
+      leaf = ap (λ (w : LineMarks). w.has_leaf) same ∙ ap (any_leaf row.leaves) (leaf_stays r row.starts no_marks);
+    }
 
 begins_same : (t : List ℕ) (ss : List Start) (ls : List Span) → begins_with (map (block_of t) ss) (any_leaf ls false) ≡ beginning t ss ls
 begins_same t [] [] = refl
 begins_same t [] (l ∷ ls) = refl
 begins_same t (s ∷ ss) ls = refl
 
+begins_are : {t : List ℕ} {row : Row} {m : LineMarks} → RowMarks t row m → begins_with m.starts m.has_leaf ≡ beginning t row.starts row.leaves
+begins_are {t} {row} {m} a =
+    ap (λ z. begins_with z m.has_leaf) a.starts ∙ (ap (begins_with (map (block_of t) row.starts)) a.leaf ∙ begins_same t row.starts row.leaves)
+
 blocks_same : (t : List ℕ) (ss : List Start) (bs : List OpenBlock) → after_blocks (map (block_of t) ss) bs ≡ after_starts t ss bs
 blocks_same t [] bs = refl
 blocks_same t (s ∷ ss) bs = blocks_same t ss (open_after (block_of t s) bs)
 
-pub after_same : (t : List ℕ) (ss : List Start) (ls : List Span) (bs : List OpenBlock)
-    → after_line (record { starts = map (block_of t) ss; has_leaf = any_leaf ls false }) bs ≡ after_starts t ss (unless_document ss ls bs)
-after_same t [] [] bs = refl
-after_same t [] (l ∷ ls) bs = refl
-after_same t (s ∷ ss) ls bs = blocks_same t (s ∷ ss) bs
+after_lists : (t : List ℕ) (ss : List Start) (ls : List Span) (bs : List OpenBlock)
+    → after_blocks (map (block_of t) ss) (unless_begun (map (block_of t) ss) (any_leaf ls false) bs) ≡ after_starts t ss (unless_document ss ls bs)
+after_lists t [] [] bs = refl
+after_lists t [] (l ∷ ls) bs = refl
+after_lists t (s ∷ ss) ls bs = blocks_same t (s ∷ ss) bs
+
+pub after_same : {t : List ℕ} {row : Row} {m : LineMarks} (bs : List OpenBlock) → RowMarks t row m → after_line m bs ≡ after_row t row bs
+after_same {t} {row} {m} bs a =
+    ap (λ z. after_blocks z (unless_begun z m.has_leaf bs)) a.starts
+    ∙ (ap (λ b. after_blocks (map (block_of t) row.starts) (unless_begun (map (block_of t) row.starts) b bs)) a.leaf ∙ after_lists t row.starts row.leaves bs)
 
 pub no_lines_same : (body : List (List ℕ)) → has_no_lines (flat_map ended body) ≡ is_bodyless body
 no_lines_same [] = refl
@@ -102,10 +128,9 @@ above_same r row bs may d c first marks chain bodyless = by (keeps_blocks r.styl
       ap (λ z. if z then comment_column r.style.indent d.is_bodyless row.column (own_column r.text c.offset) (begins_with d.marks.starts d.marks.has_leaf) d.chain else row.column)
       (ap (λ z. is_before z c.offset) first ∙ before_same row.items c.offset)
       ∙ ap (λ z. if is_before_first row.items c.offset then z else row.column)
-      (ap (λ (m : LineMarks). comment_column r.style.indent d.is_bodyless row.column (own_column r.text c.offset) (begins_with m.starts m.has_leaf) d.chain) (marks ∙ marks_are r row e)
-      ∙ (ap (λ z. comment_column r.style.indent d.is_bodyless row.column (own_column r.text c.offset) z d.chain) (begins_same r.text row.starts row.leaves)
+      (ap (λ z. comment_column r.style.indent d.is_bodyless row.column (own_column r.text c.offset) z d.chain) (ap (λ (m : LineMarks). begins_with m.starts m.has_leaf) marks ∙ begins_are (marks_are r row e))
       ∙ (ap (λ z. comment_column r.style.indent z row.column (own_column r.text c.offset) (beginning r.text row.starts row.leaves) d.chain) bodyless
-      ∙ ap (λ z. comment_column r.style.indent may row.column (own_column r.text c.offset) (beginning r.text row.starts row.leaves) z) chain)))
+      ∙ ap (λ z. comment_column r.style.indent may row.column (own_column r.text c.offset) (beginning r.text row.starts row.leaves) z) chain))
 
 pub each_column : (r : Remarks) {g : Columns} {row : Row} {bs : List OpenBlock} {may : Bool} {cs : List CommentValue} (d : Draft) → d.first ≡ firsts row.items None
     → d.marks ≡ leaves_marked row.leaves (starts_marked r row.starts no_marks) → d.chain ≡ bs → d.is_bodyless ≡ may

@@ -7,17 +7,17 @@ use Rattle.std.proofs.lemmas.List.{length-append}
 use Rattle.yf_events.specs.Event.{EventInText, stream_starts, stream_ends, document_starts, document_ends}
 use Rattle.yf_events.specs.Tree.{DocumentTree, flat, flat_document, flat_stream, unplaced}
 use Rattle.yf_events.specs.declared.document.Doc.{Doc}
-use Rattle.yf_emit.specs.declared.form.decide.Form.{Form}
+use Rattle.yf_forms.specs.declared.form.decide.Form.{Form}
 use Rattle.yf_emit.proofs.OfTexts.KeyEntries.{keys_begin, keys_begin_in_documents}
-use Rattle.yf_emit.specs.Passes.Drafts.{Draft, finished, no_draft, past}
-use Rattle.yf_emit.specs.NormalForms.Forms.{Site, document_forms, documents_are_placed, forms, is_placed, no_form, site_at, stream_forms}
-use Rattle.yf_emit.specs.Passes.MeasurePass.{setting}
-use Rattle.yf_emit.specs.NormalForms.Normal.{LayoutSetting, root_spot, settled, styled}
-use Rattle.yf_emit.specs.Passes.PrintPass as Printing
-use Rattle.yf_emit.specs.Passes.PrintPass.{PrintState, Work, document_begun, looked, marked, next_line, pass, printed, remarks_of, start, state, document_in}
-use Rattle.yf_emit.specs.Layouts.Rows.{Row, beginning_at, directive_row, document_rows, end_rows, rows, start_row, stream_rows, all_rows, bare_rows, begun_at}
-use Rattle.yf_emit.proofs.Decide.AmongLemmas.{Among, back, after_first, front}
-use Rattle.yf_emit.proofs.Decide.CountLemmas.{node_forms, two_counts}
+use Rattle.yf_print.specs.Passes.Drafts.{Draft, finished, no_draft, past}
+use Rattle.yf_forms.specs.NormalForms.Forms.{Site, document_forms, documents_are_placed, forms, is_placed, no_form, site_at, stream_forms}
+use Rattle.yf_forms.specs.Passes.MeasurePass.{setting}
+use Rattle.yf_forms.specs.NormalForms.Normal.{LayoutSetting, root_spot, settled, styled}
+use Rattle.yf_print.specs.Passes.PrintPass as Printing
+use Rattle.yf_print.specs.Passes.PrintPass.{PrintState, Work, document_begun, looked, marked, next_line, pass, printed, remarks_of, start, state, document_in}
+use Rattle.yf_print.specs.Layouts.Rows.{Row, beginning_at, directive_row, document_rows, end_rows, rows, start_row, stream_rows, all_rows, bare_rows, begun_at}
+use Rattle.yf_forms.proofs.Decide.AmongLemmas.{Among, back, after_first, front}
+use Rattle.yf_forms.proofs.Decide.CountLemmas.{node_forms, two_counts}
 use Rattle.yf_emit.proofs.Printer.FedLemmas.{fed}
 use Rattle.yf_emit.proofs.Printer.JoinLemmas.{fed_append}
 use Rattle.yf_emit.proofs.Printer.LeafPrinted.{setting_in}
@@ -27,9 +27,10 @@ use Rattle.yf_emit.proofs.Printer.PrintNodes.{At, nests}
 use Rattle.yf_emit.proofs.Printer.Reaching.{Part, back_part, front_part}
 use Rattle.yf_emit.proofs.Printer.SkipLemmas.{document_fed, pass_append}
 use Rattle.yf_emit.proofs.NormalForms.StyledTwice.{House}
-use Rattle.yf_emit.specs.Layouts.BareSearch.{is_found_bare}
+use Rattle.yf_print.specs.Layouts.BareSearch.{is_found_bare}
 use Rattle.yf_emit.specs.Layouts.FitDocuments.{FitsBare, fits_bare}
 use Rattle.yf_events.specs.declared.event.Span.{Span}
+use Rattle.yf_chars.proofs.Tests.{below}
 
 -- a document of a normal form, with so many open collections at most
 pub record IsNormal (c : LayoutSetting) (n : ℕ) (d : DocumentTree) : Type 0 where
@@ -61,9 +62,6 @@ record DocumentsAt (k : Known) (i n : ℕ) (ds : List DocumentTree) : Type 0 whe
   among : Among k.work.reading.events (flat_map flat_document ds) i
   forms : Part k.work.forms (flat_map (forms_in k) ds) i
   room : 8 * n + 8 ≤ 2 ^ 64 - 1
-
-below : (a b : ℕ) → a < b → nat_lt a b ≡ true
-below a b l = grind (arith, nat_tests)
 
 -- an event of a document that gets a look
 looked_at : (g : Work) (i : ℕ) (e : EventInText) (es : List EventInText) (w v : PrintState) → w.done < i → looked g i e w ≡ v → pass g i (e ∷ es) w ≡ pass g (i + 1) es v

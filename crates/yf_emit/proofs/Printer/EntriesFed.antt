@@ -4,17 +4,19 @@ use Rattle.std.specs.Prelude.{is_some}
 use Rattle.yf_comments.specs.Comment.{CommentValue}
 use Rattle.yf_events.specs.Tree.{Node, entry_start, is_block_collection, items_in, leaves, props_of, standing, starts_of_entry}
 use Rattle.yf_events.specs.declared.event.Entry.{Entry}
-use Rattle.yf_emit.specs.declared.print.printer.Role as Printer
-use Rattle.yf_emit.specs.Passes.Drafts.{Draft, LineMarks, start_marked, trailing_if, opened, with_blank, with_start, with_key_trail, with_text, without_blank}
-use Rattle.yf_emit.specs.Layouts.Layout.{ended, may_be_blank_after}
-use Rattle.yf_emit.specs.Nodes.OneLine.{colon_after, props_text, written}
-use Rattle.yf_emit.specs.Passes.PrintPass.{before_collection, collection_begun, entry_begun, has_props, is_after_sign, next_line, remarks_of}
-use Rattle.yf_emit.specs.Layouts.Rows.{Row, Start, before_node, begins_below, after_key, blank_before_entry, entry_row, is_dash, is_empty_text, joined, key_row, one_line_row, plain_row, props_row, start_of}
+use Rattle.yf_print.specs.declared.printer.Role as Printer
+use Rattle.yf_print.specs.Passes.Drafts.{Draft, LineMarks, start_marked, trailing_if, opened, with_blank, with_start, with_key_trail, with_text, without_blank}
+use Rattle.yf_emit.specs.Layouts.Layout.{may_be_blank_after}
+use Rattle.yf_forms.specs.Nodes.Lines.{ended, is_empty_text}
+use Rattle.yf_forms.specs.Nodes.OneLine.{colon_after, props_text, written}
+use Rattle.yf_print.specs.Passes.PrintPass.{before_collection, collection_begun, entry_begun, has_props, is_after_sign, next_line, remarks_of}
+use Rattle.yf_print.specs.Layouts.Rows.{Row, Start, before_node, begins_below, after_key, blank_before_entry, entry_row, is_dash, joined, key_row, one_line_row, plain_row, props_row, start_of}
 use Rattle.yf_emit.proofs.Printer.ColumnsFed.{leaves_marked}
 use Rattle.yf_emit.proofs.Printer.FedLemmas.{all_past, fed, key_text, with_row}
 use Rattle.yf_emit.proofs.Printer.JoinLemmas.{IsHead, row_marks, edited, entry_below, entry_on_line, fed_append, fed_after, fed_on, fed_on_append, joined_fed, joined_on, past_append, past_edited}
-use Rattle.yf_emit.proofs.Printer.LeafFed.{ColumnAt, never, put, put_value, row_met}
+use Rattle.yf_emit.proofs.Printer.LeafFed.{ColumnAt, put, put_value, row_met}
 use Rattle.yf_emit.proofs.Printer.NotedLemmas.{Known, met, met_nothing}
+use Rattle.yf_forms.proofs.Decide.FlagLemmas.{and_false as never}
 
 -- rows of which the first one goes on the line that is being made, or on a line of its own
 abbrev pub begun : Known → Bool → List Row → Draft → Draft

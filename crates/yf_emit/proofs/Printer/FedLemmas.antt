@@ -7,14 +7,16 @@ use Rattle.yf_comments.specs.Comment.{CommentValue}
 use Rattle.yf_events.specs.declared.event.Span.{Span}
 use Rattle.yf_events.specs.Tree.{DocumentTree}
 use Rattle.yf_events.specs.declared.lists.Lists.{Lists}
-use Rattle.yf_emit.specs.declared.style.Style.{Style}
+use Rattle.yf_forms.specs.declared.style.Style.{Style}
 use Rattle.yf_emit.specs.Layouts.Decorated.{ending_after, rows_of}
-use Rattle.yf_emit.specs.Passes.Drafts.{after_line, all_met, all_passed, between, blank_text, closed, count_to, Draft, finished, fresh, has_no_lines, line_column, LineMarks, met_lines, no_draft, no_marks, opened, or_first, own_line, own_line_if, own_lines, past, remarks, Remarks, with_blank, with_line}
-use Rattle.yf_emit.specs.Layouts.CommentColumns.{OpenBlock}
-use Rattle.yf_emit.specs.Layouts.Layout.{after_two_spaces, bytes_after, comment_line, ended, first_comment, layout, Line, line_bytes, lines_of, may_be_blank_after, own_line_comments, precedes_item, row_line, Source, source_of, trailing, trailing_leaf, trimmed}
-use Rattle.yf_emit.specs.Layouts.Rows.{Row, Ending, anywhere, at_text_start}
+use Rattle.yf_print.specs.Passes.Drafts.{after_line, all_met, all_passed, between, blank_text, closed, Draft, finished, fresh, has_no_lines, line_column, LineMarks, met_lines, no_draft, no_marks, opened, or_first, own_line, own_line_if, own_lines, past, remarks, Remarks, with_blank, with_line}
+use Rattle.yf_forms.specs.Passes.Searches.{count_to}
+use Rattle.yf_print.specs.declared.open_blocks.OpenBlock.{OpenBlock}
+use Rattle.yf_emit.specs.Layouts.Layout.{bytes_after, comment_line, first_comment, layout, Line, line_bytes, lines_of, may_be_blank_after, own_line_comments, precedes_item, row_line, Source, source_of, trailing, trailing_leaf}
+use Rattle.yf_forms.specs.Nodes.Lines.{after_two_spaces, ended, trimmed}
+use Rattle.yf_print.specs.Layouts.Rows.{Row, Ending, anywhere, at_text_start}
 use Rattle.yf_emit.proofs.Printer.FeedLemmas.{ascend, ascend_rest, counted, drop_twice, first_ones, left, other_ones}
-use Rattle.yf_emit.specs.Layouts.KeptColumns.{Columns, after_row, columns_of, is_bodyless, keeps_blocks}
+use Rattle.yf_print.specs.Layouts.KeptColumns.{Columns, after_row, columns_of, is_bodyless, keeps_blocks}
 use Rattle.yf_emit.proofs.OutputLines.ColumnsHold.{WalkFrom, above_walk, every, left_walk}
 use Rattle.yf_emit.proofs.SameReading.CommentsCut.{Each, each_more, each_none}
 use Rattle.yf_emit.proofs.Printer.ColumnsFed.{after_same, chains, each_column, firsts, last_column, leaves_marked, marks_are, no_lines_same, starts_marked}
@@ -225,7 +227,7 @@ closing r t (row ∷ rows) d e h k =
 
 -- All rows.
 
-count_within : (o : ℕ) (cs : List CommentValue) → count_to o cs ≤ length cs
+pub count_within : (o : ℕ) (cs : List CommentValue) → count_to o cs ≤ length cs
 count_within o [] = omega arith
 count_within o (c ∷ cs) = by (nat_lt c.offset o) (count_within o cs) where
   by : (b : Bool) → count_to o cs ≤ length cs → (if b then suc (count_to o cs) else 0) ≤ suc (length cs)
@@ -314,7 +316,7 @@ fed_bytes c r g a (row ∷ rows) before text column blank follow p bs bodyless l
     ∙ closed_is r text key trails body row.column row.blank_before next may (p + n) p (firsts row.items None) marks bs bodyless h refl in
     let columns : Each (λ d. h d ≡ g d row.column) mine = each_column r now refl refl refl refl (above_walk walk) in
     let opens : keeps_blocks r.style ≡ true → (after_row r.text row bs ≡ after_line marks bs) × (is_bodyless row.body ≡ has_no_lines body) =
-    λ e. (sym (ap (λ m. after_line m bs) (marks_are r row e) ∙ after_same r.text row.starts row.leaves bs), sym (no_lines_same row.body)) in
+    λ e. (sym (after_same bs (marks_are r row e)), sym (no_lines_same row.body)) in
     let more : Each (WalkFrom r.text r.style g (after_line marks bs) (has_no_lines body) rows) (left r.trailing (p + n) (drop (p + n) cs)) =
     subst (λ z. Each (WalkFrom r.text r.style g (after_line marks bs) (has_no_lines body) rows) z) (sym rest) (chains r opens (left_walk walk)) in
     closing r (trail c) rows (with_row r (trail c) row (with_blank row.blank_before (fresh row.column (between_rows text column blank follow p may bs bodyless)))) _ shut refl

@@ -8,7 +8,7 @@ use Rattle.std.proofs.lemmas.Bool.Decides.{nat_tests}
 use Rattle.std.proofs.lemmas.List.{take-append-drop}
 use Rattle.std.proofs.lemmas.List.Elements.{filter-append}
 use Rattle.yf_comments.specs.Comment.{CommentValue}
-use Rattle.yf_emit.specs.Passes.Drafts.{count_to}
+use Rattle.yf_forms.specs.Passes.Searches.{count_to}
 
 -- comments that ascend
 abbrev pub ascend : List CommentValue → Bool

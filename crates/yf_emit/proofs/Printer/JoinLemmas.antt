@@ -5,12 +5,14 @@ use Rattle.yf_comments.specs.Comment.{CommentValue}
 use Rattle.yf_events.specs.Tree.{Node, entry_start, standing, starts_of_entry}
 use Rattle.yf_events.specs.declared.event.Entry.{Entry}
 use Rattle.yf_events.specs.declared.event.Span.{Span}
-use Rattle.yf_emit.specs.Passes.Drafts.{Draft, LineMarks, Remarks, leaf_marked, opened, past, start_marked, with_blank, with_start, with_text}
-use Rattle.yf_emit.specs.Layouts.Layout.{ended, may_be_blank_after}
-use Rattle.yf_emit.specs.Passes.PrintPass.{Work, entry_begun, remarks_of}
-use Rattle.yf_emit.specs.Layouts.Rows.{Row, Start, anywhere, blank_before_entry, entry_row, is_dash, joined, start_of}
+use Rattle.yf_print.specs.Passes.Drafts.{Draft, LineMarks, Remarks, leaf_marked, opened, past, start_marked, with_blank, with_start, with_text}
+use Rattle.yf_emit.specs.Layouts.Layout.{may_be_blank_after}
+use Rattle.yf_forms.specs.Nodes.Lines.{ended}
+use Rattle.yf_print.specs.Passes.PrintPass.{Work, entry_begun, remarks_of}
+use Rattle.yf_print.specs.Layouts.Rows.{Row, Start, anywhere, blank_before_entry, entry_row, is_dash, joined, start_of}
 use Rattle.yf_emit.proofs.Printer.ColumnsFed.{leaves_marked, starts_marked}
 use Rattle.yf_emit.proofs.Printer.FedLemmas.{all_past, fed, key_text, with_row}
+use Rattle.yf_forms.proofs.Measure.SumLemmas.{true_right}
 
 -- rows of which the first one goes on the line that is being made
 abbrev pub fed_on : Remarks → (Span → List ℕ) → List Row → Draft → Draft
@@ -93,10 +95,6 @@ pub record IsHead (row : Row) : Type 0 where
   pub body : row.body ≡ []
   pub ending : row.ending ≡ anywhere
 
-and_true : (b : Bool) → (b && true) ≡ b
-and_true true = refl
-and_true false = refl
-
 -- a head alone
 pub head_is : (r : Remarks) (t : Span → List ℕ) (head : Row) (d : Draft) → IsHead head
     → with_row r t head d ≡ edited (d.line ++ head.text) (d.trails ++ flat_map t head.leaves) d.body d.may_follow (row_marks r head d.marks) (all_past r.comments head.items d)
@@ -109,7 +107,7 @@ head_is r t head d h =
     ∙ (ap (λ w. edited (d.line ++ (head.text ++ [])) (d.trails ++ flat_map t head.leaves) (d.body ++ []) (d.may_follow && may_be_blank_after w) m (all_past r.comments head.items d)) h.ending
     ∙ (ap (λ w. edited (d.line ++ w) (d.trails ++ flat_map t head.leaves) (d.body ++ []) (d.may_follow && true) m (all_past r.comments head.items d)) (append-nil head.text)
     ∙ (ap (λ w. edited (d.line ++ head.text) (d.trails ++ flat_map t head.leaves) w (d.may_follow && true) m (all_past r.comments head.items d)) (append-nil d.body)
-    ∙ ap (λ w. edited (d.line ++ head.text) (d.trails ++ flat_map t head.leaves) d.body w m (all_past r.comments head.items d)) (and_true d.may_follow))))))
+    ∙ ap (λ w. edited (d.line ++ head.text) (d.trails ++ flat_map t head.leaves) d.body w m (all_past r.comments head.items d)) (true_right d.may_follow))))))
 
 -- a row joined to a head is the head, the spaces and the row
 pub joined_is : (r : Remarks) (t : Span → List ℕ) (head : Row) (n : ℕ) (row : Row) (d : Draft) → IsHead head

@@ -5,19 +5,19 @@ use Rattle.yf_events.specs.Tree.{DocumentTree, TreesOf}
 use Rattle.yf_events.specs.declared.lists.Lists.{Lists}
 use Rattle.yf_events.specs.declared.reading.TheConstants.{DEPTH}
 use Rattle.yf_stream.proofs.LawsHold.{comments_of_readings_ascend}
-use Rattle.yf_emit.specs.declared.form.decide.Form.{Form}
-use Rattle.yf_emit.specs.declared.form.measure.Measure.{Measure}
-use Rattle.yf_emit.specs.declared.style.Style.{Style}
-use Rattle.yf_emit.specs.NormalForms.Forms.{AreForms, stream_forms}
+use Rattle.yf_forms.specs.declared.form.decide.Form.{Form}
+use Rattle.yf_forms.specs.declared.form.measure.Measure.{Measure}
+use Rattle.yf_forms.specs.declared.style.Style.{Style}
+use Rattle.yf_forms.specs.NormalForms.Forms.{AreForms, stream_forms}
 use Rattle.yf_emit.specs.Layouts.Layout.{IsLayout, layout}
-use Rattle.yf_emit.specs.NormalForms.Measures.{AreMeasures}
-use Rattle.yf_emit.specs.Passes.MeasurePass.{setting}
-use Rattle.yf_emit.specs.NormalForms.Normal.{setting_of}
+use Rattle.yf_forms.specs.NormalForms.Measures.{AreMeasures}
+use Rattle.yf_forms.specs.Passes.MeasurePass.{setting}
+use Rattle.yf_forms.specs.NormalForms.Normal.{setting_of}
 use Rattle.yf_emit.specs.NormalForms.NormalForm.{NormalForm}
-use Rattle.yf_emit.specs.Passes.PrintPass.{printed, work_of}
+use Rattle.yf_print.specs.Passes.PrintPass.{printed, work_of}
 use Rattle.yf_emit.specs.Passes.PrintedText.{IsPrinted, Printout}
-use Rattle.yf_emit.specs.NormalForms.Textual.{CommentsAscend}
-use Rattle.yf_emit.specs.Passes.TrailPass.{TrailsSoFar, all_found}
+use Rattle.yf_forms.specs.NormalForms.Textual.{CommentsAscend}
+use Rattle.yf_print.specs.Passes.TrailPass.{TrailsSoFar, all_found}
 use Rattle.yf_emit.specs.Layouts.TrailsOf.{FindsTrails, LayoutTrails}
 use Rattle.yf_emit.proofs.Printer.LayoutPrinted.{printed_layout}
 use Rattle.yf_emit.proofs.NormalForms.NormalParts.{Laid, laid_out, trees_in, trees_of}
@@ -54,8 +54,8 @@ printed_lays_out t m s ms fs f ds a told forms =
     printed_layout t m s ms fs (all_found m ms fs) DEPTH ds a told forms l.placing.placed l.begin l.placing.normal room l.placing.ascend l.placing.noted
     (trails_hold m s ms fs f told ds a forms) (found_bare m s f) (form_bare m s f ds a) (form_laid m s f ds a)
 
-printout_writes : (t : List ℕ) (m : Lists) (s : Style) (u : List ℕ) → Printout t m s u → (f : NormalForm m s) → f.text ≡ t → IsLayout t m s u
-printout_writes t m s u p f e =
+printout_writes : (t : List ℕ) (m : Lists) (s : Style) (u : List ℕ) → Printout t m s u → NormalForm m s → IsLayout t m s u
+printout_writes t m s u p f =
     let ds : List DocumentTree = trees_in f in
     let a : TreesOf m ds = trees_of f in
     record {

@@ -3,17 +3,18 @@ use Rattle.std.proofs.Common.{◌≡◌, ℕ, ◌+◌, ◌≤◌, true, List, []
 use Rattle.std.specs.Prelude.{◌-◌, ◌*◌, ◌^◌}
 use Rattle.yf_events.specs.Tree.{DocumentTree, TreesOf}
 use Rattle.yf_events.specs.declared.lists.Lists.{Lists}
-use Rattle.yf_emit.specs.declared.form.decide.Form.{Form}
-use Rattle.yf_emit.specs.declared.form.measure.Measure.{Measure}
-use Rattle.yf_emit.specs.declared.style.Style.{Style}
+use Rattle.yf_forms.specs.declared.form.decide.Form.{Form}
+use Rattle.yf_forms.specs.declared.form.measure.Measure.{Measure}
+use Rattle.yf_forms.specs.declared.style.Style.{Style}
 use Rattle.yf_emit.proofs.OfTexts.KeyEntries.{keys_begin_in_documents}
 use Rattle.yf_emit.specs.Layouts.Decorated.{rows_of}
-use Rattle.yf_emit.specs.NormalForms.Forms.{documents_are_placed, stream_forms}
-use Rattle.yf_emit.specs.Layouts.Layout.{Source, after_two_spaces, layout, source_of}
-use Rattle.yf_emit.specs.Passes.MeasurePass.{setting}
-use Rattle.yf_emit.specs.NormalForms.Normal.{setting_of}
-use Rattle.yf_emit.specs.Passes.PrintPass.{printed, work_of}
-use Rattle.yf_emit.specs.Passes.TrailPass.{TrailsSoFar}
+use Rattle.yf_forms.specs.NormalForms.Forms.{documents_are_placed, stream_forms}
+use Rattle.yf_emit.specs.Layouts.Layout.{Source, layout, source_of}
+use Rattle.yf_forms.specs.Nodes.Lines.{after_two_spaces}
+use Rattle.yf_forms.specs.Passes.MeasurePass.{setting}
+use Rattle.yf_forms.specs.NormalForms.Normal.{setting_of}
+use Rattle.yf_print.specs.Passes.PrintPass.{printed, work_of}
+use Rattle.yf_print.specs.Passes.TrailPass.{TrailsSoFar}
 use Rattle.yf_emit.specs.Layouts.TrailsOf.{LayoutTrails}
 use Rattle.yf_emit.proofs.Printer.DocumentsPrinted.{AreNormal, stream_printed, RootsLaid}
 use Rattle.yf_emit.proofs.Printer.FedLemmas.{layout_fed, trail, fed}
@@ -22,11 +23,11 @@ use Rattle.yf_emit.proofs.Printer.NotedLemmas.{Known}
 use Rattle.yf_emit.proofs.Printer.MeasureFacts.{MeasuresTell}
 use Rattle.yf_emit.proofs.Trails.TrailLeaves.{text_of}
 use Rattle.yf_emit.proofs.Trails.TrailOthers.{others_left}
-use Rattle.yf_emit.specs.Layouts.BareSearch.{is_found_bare}
-use Rattle.yf_emit.specs.Layouts.BareStart.{is_bare}
+use Rattle.yf_print.specs.Layouts.BareSearch.{is_found_bare}
+use Rattle.yf_print.specs.Layouts.BareStart.{is_bare}
 use Rattle.yf_emit.specs.Layouts.FitDocuments.{FitsBare}
-use Rattle.yf_emit.specs.Passes.Drafts.{finished, no_draft, remarks}
-use Rattle.yf_emit.specs.Layouts.Rows.{all_rows}
+use Rattle.yf_print.specs.Passes.Drafts.{finished, no_draft, remarks}
+use Rattle.yf_print.specs.Layouts.Rows.{all_rows}
 
 pub printed_layout : (t : List ℕ) (m : Lists) (s : Style) (ms : List Measure) (fs : List Form) (f : TrailsSoFar) (n : ℕ) (ds : List DocumentTree) → TreesOf m ds
     → MeasuresTell m.events ms → fs ≡ stream_forms [] (setting s []) (setting_of m s) ds → documents_are_placed ds ≡ true

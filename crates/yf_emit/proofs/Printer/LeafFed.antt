@@ -5,24 +5,27 @@ use Rattle.yf_events.specs.Event.{EventInText}
 use Rattle.yf_events.specs.Tree.{Node, items_in, leaves}
 use Rattle.yf_events.specs.declared.event.ScalarStyle.{ScalarStyle}
 use Rattle.yf_events.specs.declared.event.Span.{Span}
-use Rattle.yf_emit.specs.declared.form.decide.Form.{Form}
-use Rattle.yf_emit.specs.declared.print.printer.Role as Printer
-use Rattle.yf_emit.specs.Nodes.BlockLines.{block_lines, final_feeds, header_text, is_kept_tail}
-use Rattle.yf_emit.specs.Passes.DecidePass.{further}
-use Rattle.yf_emit.specs.Passes.Drafts.{Draft, opened, with_blank, with_body, with_key_trail, with_text, without_blank}
-use Rattle.yf_emit.specs.Layouts.Layout.{ended, may_be_blank_after}
-use Rattle.yf_emit.specs.NormalForms.Normal.{Spot}
-use Rattle.yf_emit.specs.Nodes.OneLine.{colon_after, props_text, space_after, spaced, written}
-use Rattle.yf_emit.specs.Passes.PrintPass as Printing
-use Rattle.yf_emit.specs.Passes.PrintPass.{Work, before_text, blank_unless, is_leaf, leaf_noted_if, lines_column, remarks_of, with_block, with_node, with_props_before, with_scalar}
-use Rattle.yf_emit.specs.Layouts.Rows.{Row, is_empty_text, one_line, one_line_row, plain_row, tail_ending}
-use Rattle.yf_emit.proofs.Decide.AmongLemmas.{Among, after_first}
+use Rattle.yf_forms.specs.declared.form.decide.Form.{Form}
+use Rattle.yf_print.specs.declared.printer.Role as Printer
+use Rattle.yf_forms.specs.Nodes.BlockLines.{block_lines, final_feeds, header_text, is_kept_tail}
+use Rattle.yf_forms.specs.Passes.DecidePass.{further}
+use Rattle.yf_print.specs.Passes.Drafts.{Draft, opened, with_blank, with_body, with_key_trail, with_text, without_blank}
+use Rattle.yf_emit.specs.Layouts.Layout.{may_be_blank_after}
+use Rattle.yf_forms.specs.Nodes.Lines.{ended, is_empty_text}
+use Rattle.yf_forms.specs.NormalForms.Normal.{Spot}
+use Rattle.yf_forms.specs.Nodes.OneLine.{colon_after, props_text, space_after, spaced, written}
+use Rattle.yf_print.specs.Passes.PrintPass as Printing
+use Rattle.yf_print.specs.Passes.PrintPass.{Work, before_text, blank_unless, is_leaf, leaf_noted_if, lines_column, remarks_of, with_block, with_node, with_props_before, with_scalar}
+use Rattle.yf_print.specs.Layouts.Rows.{Row, one_line, one_line_row, plain_row, tail_ending}
+use Rattle.yf_forms.proofs.Decide.AmongLemmas.{Among, after_first}
 use Rattle.yf_emit.proofs.Printer.ColumnsFed.{leaves_marked}
 use Rattle.yf_emit.proofs.Printer.FedLemmas.{all_past, fed, with_row}
 use Rattle.yf_emit.proofs.Printer.JoinLemmas.{fed_after, fed_on}
 use Rattle.yf_emit.proofs.Printer.NotedLemmas.{Known, EventsPrinted, met, met_more}
-use Rattle.yf_emit.proofs.Texts.OneLineRuns.{spaced_filled}
-use Rattle.yf_emit.proofs.Printer.PrintLemmas.{stopped}
+use Rattle.yf_forms.proofs.Texts.OneLineRuns.{spaced_filled}
+use Rattle.yf_print.proofs.Pass.PrintLemmas.{stopped}
+use Rattle.yf_forms.proofs.Decide.FlagLemmas.{and_false}
+use Rattle.yf_forms.proofs.Measure.SumLemmas.{true_right}
 
 -- Where rows go.
 
@@ -89,14 +92,6 @@ within k i last e tail is js ss rs d a l h n =
     ∙ (stopped k.work last (i + 1 + length tail) b.after (met k js rs (met k is ss d)) past
     ∙ met_more k is js ss rs d)))
 
-pub and_true : (b : Bool) → (b && true) ≡ b
-and_true true = refl
-and_true false = refl
-
-pub never : (b : Bool) → (b && false) ≡ false
-never true = refl
-never false = refl
-
 -- a row with a text alone
 pub row_met : (k : Known) (column : ℕ) (text : List ℕ) (is : List ℕ) (ss : List Span) (d : Draft)
     → met k is ss (with_text text d) ≡ with_row (remarks_of k.work) k.trail (record (plain_row column text) { items = is; leaves = ss }) d
@@ -105,7 +100,7 @@ row_met k column text is ss d =
     let trails : List ℕ = d.trails ++ flat_map k.trail ss in
     sym (ap (λ w. all_past k.work.reading.comments is (record d { line = d.line ++ w; trails = trails; body = d.body ++ []; may_follow = d.may_follow && true; marks = leaves_marked ss d.marks })) (append-nil text)
     ∙ (ap (λ w. all_past k.work.reading.comments is (record d { line = line; trails = trails; body = w; may_follow = d.may_follow && true; marks = leaves_marked ss d.marks })) (append-nil d.body)
-    ∙ ap (λ w. all_past k.work.reading.comments is (record d { line = line; trails = trails; may_follow = w; marks = leaves_marked ss d.marks })) (and_true d.may_follow)))
+    ∙ ap (λ w. all_past k.work.reading.comments is (record d { line = line; trails = trails; may_follow = w; marks = leaves_marked ss d.marks })) (true_right d.may_follow)))
 
 filled_row : (column : ℕ) (x : Node) (w : List ℕ) → is_empty_text w ≡ false
     → one_line_row column x w ≡ record (plain_row column w) { items = items_in x; leaves = leaves x } ∷ []
@@ -161,11 +156,11 @@ block_met k spot x props style text lines sp d h c =
         body = d.body ++ flat_map ended (block_lines style spot.lines text lines);
         may_follow = w;
         marks = leaves_marked (leaves x) d.marks;
-      })) (sym (never d.may_follow))
+      })) (sym (and_false d.may_follow))
       by false = ap (λ w. all_past k.work.reading.comments (items_in x) (record d {
         line = (d.line ++ space_after (props_text props)) ++ header_text style k.work.style.indent text;
         trails = d.trails ++ flat_map k.trail (leaves x);
         body = d.body ++ flat_map ended (block_lines style spot.lines text lines);
         may_follow = w;
         marks = leaves_marked (leaves x) d.marks;
-      })) (sym (and_true d.may_follow))
+      })) (sym (true_right d.may_follow))

@@ -8,32 +8,33 @@ use Rattle.yf_events.specs.Tree.{NodeOffsets, Node, scalar, alias, sequence, map
 use Rattle.yf_events.specs.declared.event.ScalarStyle.{ScalarStyle}
 use Rattle.yf_events.specs.declared.event.ScalarStyle.TheVariants.{Plain, Single, Double, Literal, Folded}
 use Rattle.yf_events.specs.declared.event.Span.{Span}
-use Rattle.yf_emit.specs.declared.form.decide.Form.{Form}
-use Rattle.yf_emit.specs.declared.form.measure.Measure.{Measure}
-use Rattle.yf_emit.specs.declared.print.printer.Role as Printer
-use Rattle.yf_emit.specs.declared.style.Style.{Style}
+use Rattle.yf_forms.specs.declared.form.decide.Form.{Form}
+use Rattle.yf_forms.specs.declared.form.measure.Measure.{Measure}
+use Rattle.yf_print.specs.declared.printer.Role as Printer
+use Rattle.yf_forms.specs.declared.style.Style.{Style}
 use Rattle.yf_emit.proofs.OfTexts.KeyEntries.{keys_begin}
-use Rattle.yf_emit.specs.Nodes.BlockLines.{block_lines, final_feeds, header_text, is_kept_tail}
-use Rattle.yf_emit.specs.Passes.DecidePass.{has_space, is_leaf_at}
-use Rattle.yf_emit.specs.Passes.Drafts.{Draft, with_text}
-use Rattle.yf_emit.specs.NormalForms.Forms.{is_empty_node, is_nothing, is_placed}
-use Rattle.yf_emit.specs.Nodes.OneLineFlows.{may_be_kept, scalar_may_be_kept}
-use Rattle.yf_emit.specs.Nodes.SingleAnswers.{NodeAt}
-use Rattle.yf_emit.specs.NormalForms.Measures.{first_of, leaf_indices, leaf_indices_of_items, leaf_indices_of_pairs, measure_of}
-use Rattle.yf_emit.specs.Passes.MeasurePass.{setting}
-use Rattle.yf_emit.specs.NormalForms.Normal.{LayoutSetting, Spot, setting_of}
-use Rattle.yf_emit.specs.Nodes.OneLine.{bare, colon_after, colon_after_props, props_text, scalar_text, space_after, spaced, written}
-use Rattle.yf_emit.specs.Passes.OneLinePass.{between, run}
-use Rattle.yf_emit.specs.Passes.PrintPass as Printing
-use Rattle.yf_emit.specs.Passes.PrintPass.{Work, before_text, colon_if, colon_text, leaf_noted_if, lines_column, remarks_of, text_if, with_node, with_props_before, with_scalar}
-use Rattle.yf_emit.specs.Layouts.Rows.{Row, block_scalar, is_empty_text, one_line, one_line_row, plain_row, rows, tail_ending}
-use Rattle.yf_emit.proofs.Decide.AmongLemmas.{Among, after_first, front, node_at}
+use Rattle.yf_forms.specs.Nodes.BlockLines.{block_lines, final_feeds, header_text, is_kept_tail}
+use Rattle.yf_forms.specs.Passes.DecidePass.{has_space, is_leaf_at}
+use Rattle.yf_print.specs.Passes.Drafts.{Draft, with_text}
+use Rattle.yf_forms.specs.NormalForms.Forms.{is_empty_node, is_nothing, is_placed}
+use Rattle.yf_forms.specs.Nodes.OneLineFlows.{may_be_kept, scalar_may_be_kept}
+use Rattle.yf_forms.specs.Nodes.SingleAnswers.{NodeAt}
+use Rattle.yf_forms.specs.NormalForms.Measures.{first_of, leaf_indices, leaf_indices_of_items, leaf_indices_of_pairs, measure_of}
+use Rattle.yf_forms.specs.Passes.MeasurePass.{setting}
+use Rattle.yf_forms.specs.NormalForms.Normal.{LayoutSetting, Spot, setting_of}
+use Rattle.yf_forms.specs.Nodes.OneLine.{bare, colon_after, colon_after_props, props_text, scalar_text, space_after, spaced, written}
+use Rattle.yf_forms.specs.Passes.OneLinePass.{between, run}
+use Rattle.yf_print.specs.Passes.PrintPass as Printing
+use Rattle.yf_print.specs.Passes.PrintPass.{Work, before_text, colon_if, colon_text, leaf_noted_if, lines_column, remarks_of, text_if, with_node, with_props_before, with_scalar}
+use Rattle.yf_print.specs.Layouts.Rows.{Row, block_scalar, one_line, one_line_row, plain_row, rows, tail_ending}
+use Rattle.yf_forms.specs.Nodes.Lines.{is_empty_text}
+use Rattle.yf_forms.proofs.Decide.AmongLemmas.{Among, after_first, front, node_at}
 use Rattle.yf_emit.proofs.Printer.LeafFed.{ColumnAt, block_met, one_line_put, put, row_put, with_colon_of, within}
-use Rattle.yf_emit.proofs.Decide.LeafLemmas.{is_own_leaf}
+use Rattle.yf_forms.proofs.Decide.LeafLemmas.{is_own_leaf}
 use Rattle.yf_emit.proofs.Printer.NotedLemmas.{Known, EventsPrinted, end_noted, items_noted, leaf_met, leaf_there, met, met_nothing, noted_none, noted_append, noted_same, pairs_noted}
-use Rattle.yf_emit.proofs.Texts.OneLineRuns.{flat_filled, kept_items, kept_pairs, kept_run, spaced_filled}
+use Rattle.yf_forms.proofs.Texts.OneLineRuns.{flat_filled, kept_items, kept_pairs, kept_run, spaced_filled}
 use Rattle.yf_emit.proofs.NormalForms.StyledTwice.{House}
-use Rattle.yf_emit.proofs.Decide.ValueLemmas.{agreed, event_of}
+use Rattle.yf_forms.proofs.Decide.ValueLemmas.{agreed, event_of}
 
 abbrev pub setting_in : Known → LayoutSetting
 setting_in k = setting_of k.work.reading k.work.style
@@ -296,7 +297,7 @@ flow_printed k i f sp spot x d l s c m e t =
     one_line_printed k i f sp spot x d l s (kept_leaf k.work.style i x m l.placed)
     (λ d. t d ∙ collection_added k i (measure k i x).last x d l.house c m e (node_at x l.among) (last_of_node i x)) (written_filled (props_text (props_of x)) (bare k.work.style x) e)
 
-header_filled : (style : ScalarStyle) (n : ℕ) (text : List ℕ) → is_empty_text (header_text style n text) ≡ false
+pub header_filled : (style : ScalarStyle) (n : ℕ) (text : List ℕ) → is_empty_text (header_text style n text) ≡ false
 header_filled Plain n text = refl
 header_filled Single n text = refl
 header_filled Double n text = refl

@@ -5,18 +5,18 @@ use Rattle.std.proofs.lemmas.Option.{get_or_from_slice_get}
 use Rattle.yf_events.specs.Event.{EventValue, EventInText, stream_starts, stream_ends, document_starts, document_ends, sequence_starts, sequence_ends, mapping_starts, mapping_ends, scalar_node, alias_node}
 use Rattle.yf_events.specs.Tree.{Node, flat}
 use Rattle.yf_props.specs.Props.{PropsValue}
-use Rattle.yf_emit.specs.declared.form.decide.Form.{Form}
-use Rattle.yf_emit.specs.declared.form.measure.Measure.{Measure}
-use Rattle.yf_emit.specs.declared.print.printer.FrameState.{FrameState}
-use Rattle.yf_emit.specs.declared.print.printer.FrameState.TheVariants.{Item, Key}
-use Rattle.yf_emit.specs.declared.print.printer.Role.{Role}
-use Rattle.yf_emit.specs.Passes.DecidePass.{has_space, is_leaf_at}
-use Rattle.yf_emit.specs.Passes.Drafts.{Draft}
-use Rattle.yf_emit.specs.Nodes.SingleAnswers.{NodeAt}
-use Rattle.yf_emit.specs.NormalForms.Measures.{AreMeasures, first_of, leaf_indices, measure_of, no_measure}
-use Rattle.yf_emit.specs.NormalForms.Normal.{LayoutSetting}
-use Rattle.yf_emit.specs.Passes.PrintPass as Printing
-use Rattle.yf_emit.specs.Passes.PrintPass.{PrintState, Work}
+use Rattle.yf_forms.specs.declared.form.decide.Form.{Form}
+use Rattle.yf_forms.specs.declared.form.measure.Measure.{Measure}
+use Rattle.yf_print.specs.declared.printer.FrameState.{FrameState}
+use Rattle.yf_print.specs.declared.printer.FrameState.TheVariants.{Item, Key}
+use Rattle.yf_print.specs.declared.printer.Role.{Role}
+use Rattle.yf_forms.specs.Passes.DecidePass.{has_space, is_leaf_at}
+use Rattle.yf_print.specs.Passes.Drafts.{Draft}
+use Rattle.yf_forms.specs.Nodes.SingleAnswers.{NodeAt}
+use Rattle.yf_forms.specs.NormalForms.Measures.{AreMeasures, first_of, leaf_indices, measure_of, no_measure}
+use Rattle.yf_forms.specs.NormalForms.Normal.{LayoutSetting}
+use Rattle.yf_print.specs.Passes.PrintPass as Printing
+use Rattle.yf_print.specs.Passes.PrintPass.{PrintState, Work}
 
 -- what is asked of a measure
 abbrev pub asked : Measure → Measure

@@ -5,18 +5,18 @@ use Rattle.yf_comments.specs.Comment.{CommentValue}
 use Rattle.yf_events.specs.Event.{EventInText, sequence_starts, sequence_ends, mapping_starts, mapping_ends}
 use Rattle.yf_events.specs.Tree.{Node, scalar, alias, sequence, mapping, Items, no_items, item, Pairs, no_pairs, pair, flat, flat_items, flat_pairs, placed, standing, unplaced}
 use Rattle.yf_events.specs.declared.event.Entry.{Entry}
-use Rattle.yf_emit.specs.declared.form.decide.Form.{Form}
-use Rattle.yf_emit.specs.declared.print.printer.FrameState.TheVariants.{Item, Key}
-use Rattle.yf_emit.specs.declared.print.printer.PrintFrame.{PrintFrame}
-use Rattle.yf_emit.specs.Passes.Drafts.{Draft, trailing_if}
-use Rattle.yf_emit.specs.NormalForms.Forms.{Site, key_comment_index, key_site, site_at, value_site}
-use Rattle.yf_emit.specs.NormalForms.Normal.{LayoutSetting, inner_spot, is_implicit, key_comment, key_spot, settled, value_spot}
-use Rattle.yf_emit.specs.Passes.PrintPass as Printing
-use Rattle.yf_emit.specs.Passes.PrintPass.{awaited_after, remarks_of, state, value_awaited}
-use Rattle.yf_emit.specs.Layouts.Rows.{Row, after_sign, colon_row, entry_row, explicit_pair, implicit_pair, key_row, pair_rows, rows, rows_of_items, rows_of_pairs}
+use Rattle.yf_forms.specs.declared.form.decide.Form.{Form}
+use Rattle.yf_print.specs.declared.printer.FrameState.TheVariants.{Item, Key}
+use Rattle.yf_print.specs.declared.printer.PrintFrame.{PrintFrame}
+use Rattle.yf_print.specs.Passes.Drafts.{Draft, trailing_if}
+use Rattle.yf_forms.specs.NormalForms.Forms.{Site, key_comment_index, key_site, site_at, value_site}
+use Rattle.yf_forms.specs.NormalForms.Normal.{LayoutSetting, inner_spot, is_implicit, key_comment, key_spot, settled, value_spot}
+use Rattle.yf_print.specs.Passes.PrintPass as Printing
+use Rattle.yf_print.specs.Passes.PrintPass.{awaited_after, remarks_of, state, value_awaited}
+use Rattle.yf_print.specs.Layouts.Rows.{Row, after_sign, colon_row, entry_row, explicit_pair, implicit_pair, key_row, pair_rows, rows, rows_of_items, rows_of_pairs}
 use Rattle.yf_emit.proofs.Printer.EntriesFed.{begun, begun_append, begun_none, filled, filled_append, filled_joined, filled_pair, joined_begun, sign_begun}
 use Rattle.yf_emit.proofs.Printer.JoinLemmas.{fed_after}
-use Rattle.yf_emit.proofs.Decide.LeafLemmas.{is_own_leaf}
+use Rattle.yf_forms.proofs.Decide.LeafLemmas.{is_own_leaf}
 use Rattle.yf_emit.proofs.Printer.LeafPrinted.{measure, setting_in}
 use Rattle.yf_emit.proofs.Printer.NotedLemmas.{Known}
 use Rattle.yf_emit.proofs.Printer.PairSites.{empty_key, key_at, key_rows, pairs_after, value_at}
@@ -24,7 +24,7 @@ use Rattle.yf_emit.proofs.Printer.PairsFed.{comment_text, pair_fed}
 use Rattle.yf_emit.proofs.Printer.PrintNodes.{At, NodeReaches, form, node_draft, whole_reaches}
 use Rattle.yf_emit.proofs.Printer.PrintTrees.{ItemsAt, PairsAt, item_at, items_after, items_within, level, open_reaches, pair_parts, pairs_within}
 use Rattle.yf_emit.proofs.Printer.Reaching.{Reaches, reaches_append, reaches_none, reaches_same}
-use Rattle.yf_emit.proofs.Decide.ValueLemmas.{same_comment}
+use Rattle.yf_forms.proofs.Decide.ValueLemmas.{same_comment}
 
 -- Entries have rows.
 

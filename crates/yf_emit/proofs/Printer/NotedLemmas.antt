@@ -11,18 +11,19 @@ use Rattle.yf_events.specs.Tree.{Node, scalar, alias, sequence, mapping, Items, 
 use Rattle.yf_events.specs.declared.event.Entry.{Entry}
 use Rattle.yf_events.specs.declared.event.Span.{Span}
 use Rattle.yf_emit.proofs.OfTexts.KeyEntries.{keys_begin, keys_begin_in_items, keys_begin_in_pairs, no_entry}
-use Rattle.yf_emit.specs.Passes.DecidePass as Deciding
-use Rattle.yf_emit.specs.Passes.Drafts.{Draft, LineMarks, leaf_marked, trailing_if}
-use Rattle.yf_emit.specs.NormalForms.Forms.{is_placed, items_are_placed, pairs_are_placed}
-use Rattle.yf_emit.specs.Nodes.SingleAnswers.{NodeAt}
-use Rattle.yf_emit.specs.NormalForms.Measures.{no_measure}
-use Rattle.yf_emit.specs.Passes.PrintPass.{Work, entry_met, event_noted, events_noted, is_leaf, leaf_noted_if}
-use Rattle.yf_emit.proofs.Decide.AmongLemmas.{Among, back, after_first, front, node_at}
+use Rattle.yf_forms.specs.Passes.DecidePass as Deciding
+use Rattle.yf_print.specs.Passes.Drafts.{Draft, LineMarks, leaf_marked, trailing_if}
+use Rattle.yf_forms.specs.NormalForms.Forms.{is_placed, items_are_placed, pairs_are_placed}
+use Rattle.yf_forms.specs.Nodes.SingleAnswers.{NodeAt}
+use Rattle.yf_forms.specs.NormalForms.Measures.{no_measure}
+use Rattle.yf_print.specs.Passes.PrintPass.{Work, entry_met, event_noted, events_noted, is_leaf, leaf_noted_if}
+use Rattle.yf_forms.proofs.Decide.AmongLemmas.{Among, back, after_first, front, node_at}
 use Rattle.yf_emit.proofs.Printer.ColumnsFed.{leaves_marked}
 use Rattle.yf_emit.proofs.Printer.FedLemmas.{all_past}
 use Rattle.yf_emit.proofs.Printer.JoinLemmas.{edited, leaves_both, past_append, past_edited}
-use Rattle.yf_emit.proofs.Decide.LeafLemmas.{is_own_leaf}
+use Rattle.yf_forms.proofs.Decide.LeafLemmas.{is_own_leaf}
 use Rattle.yf_emit.proofs.Printer.MeasureFacts.{MeasuresTell, asked, asked_of}
+use Rattle.yf_print.proofs.Pass.PrintLemmas.{at_most}
 
 -- what the pass looks at, with what is asked of the measures of a reading, and what trails each leaf
 pub record Known : Type 0 where
@@ -105,9 +106,6 @@ noted_append k j ys zs is js ss rs h i = record {
       ∙ (ap (λ m. events_noted k.work last m rest (met k js rs (met k is ss d))) end
       ∙ ap (λ w. events_noted k.work last (j + length (ys ++ zs)) rest w) (met_more k is js ss rs d))));
 }
-
-at_most : (a b : ℕ) → a ≤ b → nat_le a b ≡ true
-at_most a b l = grind (arith, nat_tests)
 
 noted_event : (k : Known) (j : ℕ) (e : EventInText) (is : List ℕ) (ss : List Span) → ((d : Draft) → event_noted k.work j e d ≡ met k is ss d) → EventsPrinted k j (e ∷ []) is ss
 unfolding events_noted

@@ -7,20 +7,21 @@ use Rattle.yf_events.specs.Tree.{Node, scalar, alias, sequence, mapping, no_item
 use Rattle.yf_events.specs.declared.event.Entry.{Entry}
 use Rattle.yf_events.specs.declared.event.ScalarStyle.TheVariants.{Plain, Single, Double, Literal, Folded}
 use Rattle.yf_events.specs.declared.event.Span.{Span}
-use Rattle.yf_emit.specs.declared.form.decide.Form.{Form}
-use Rattle.yf_emit.specs.declared.print.printer.FrameState.TheVariants.{Key}
-use Rattle.yf_emit.specs.declared.print.printer.PrintFrame.{PrintFrame}
-use Rattle.yf_emit.specs.declared.style.Style.{Style}
+use Rattle.yf_forms.specs.declared.form.decide.Form.{Form}
+use Rattle.yf_print.specs.declared.printer.FrameState.TheVariants.{Key}
+use Rattle.yf_print.specs.declared.printer.PrintFrame.{PrintFrame}
+use Rattle.yf_forms.specs.declared.style.Style.{Style}
 use Rattle.yf_emit.proofs.OfTexts.KeyEntries.{keys_begin, keys_begin_in_pairs, no_entry}
-use Rattle.yf_emit.specs.Passes.DecidePass.{further}
-use Rattle.yf_emit.specs.NormalForms.Forms.{forms, forms_of_pairs, index_between, is_nothing, is_placed, key_comment_index, key_site, pairs_are_placed, value_site}
-use Rattle.yf_emit.specs.NormalForms.Normal as Normal
-use Rattle.yf_emit.specs.NormalForms.Normal.{LayoutSetting, inner_spot, is_implicit, key_comment, settled, value_column, value_entries, value_of_implicit, value_spot}
-use Rattle.yf_emit.specs.Nodes.OneLine.{bare, colon_after, props_text, scalar_text, spaced, width, written}
-use Rattle.yf_emit.specs.Passes.PrintPass as Printing
-use Rattle.yf_emit.specs.Passes.PrintPass.{lines_column, spot_in, value_awaited}
-use Rattle.yf_emit.specs.Layouts.Rows.{is_empty_text, one_line_row, rows}
-use Rattle.yf_emit.proofs.Decide.AmongLemmas.{back, front}
+use Rattle.yf_forms.specs.Passes.DecidePass.{further}
+use Rattle.yf_forms.specs.NormalForms.Forms.{forms, forms_of_pairs, index_between, is_nothing, is_placed, key_comment_index, key_site, pairs_are_placed, value_site}
+use Rattle.yf_forms.specs.NormalForms.Normal as Normal
+use Rattle.yf_forms.specs.NormalForms.Normal.{LayoutSetting, inner_spot, is_implicit, key_comment, settled, value_column, value_entries, value_of_implicit, value_spot}
+use Rattle.yf_forms.specs.Nodes.OneLine.{bare, colon_after, props_text, scalar_text, spaced, width, written}
+use Rattle.yf_print.specs.Passes.PrintPass as Printing
+use Rattle.yf_print.specs.Passes.PrintPass.{lines_column, spot_in, value_awaited}
+use Rattle.yf_print.specs.Layouts.Rows.{one_line_row, rows}
+use Rattle.yf_forms.specs.Nodes.Lines.{is_empty_text}
+use Rattle.yf_forms.proofs.Decide.AmongLemmas.{back, front}
 use Rattle.yf_emit.proofs.Printer.EntriesFed.{is_key}
 use Rattle.yf_emit.proofs.Printer.LeafFed.{ColumnAt}
 use Rattle.yf_emit.proofs.Printer.LeafPrinted.{Spotted, has_lines, same_flag, same_flag_of_map, setting_in, written_filled}
@@ -29,7 +30,7 @@ use Rattle.yf_emit.proofs.Printer.PrintNodes.{At, form, nests, pairs_nest}
 use Rattle.yf_emit.proofs.Printer.PrintTrees.{PairsAt, level, next_part, pair_parts}
 use Rattle.yf_emit.proofs.Printer.Reaching.{front_part}
 use Rattle.yf_emit.proofs.NormalForms.StyledTwice.{House}
-use Rattle.yf_emit.proofs.Decide.ValueLemmas.{agreed, same_comment}
+use Rattle.yf_forms.proofs.Decide.ValueLemmas.{agreed, same_comment}
 
 -- Implicit keys.
 

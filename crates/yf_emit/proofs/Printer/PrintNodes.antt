@@ -2,28 +2,29 @@
 use Rattle.std.proofs.Common.{◌≡◌, ℕ, zero, suc, ◌+◌, ◌-◌, ◌≤◌, Bool, true, false, ◌&&◌, List, [], ◌∷◌, length, get_or, refl, sym, ap, ◌∙◌, subst, arith, true≢false}
 use Rattle.std.specs.Prelude.{◌^◌, ◌*◌, if◌then◌else◌}
 use Rattle.yf_events.specs.Tree.{Node, scalar, alias, sequence, mapping, Items, no_items, item, Pairs, no_pairs, pair, flat, is_block_collection, is_collection, is_filled_flow, props_of, standing}
-use Rattle.yf_emit.specs.declared.form.decide.Form.{Form}
-use Rattle.yf_emit.specs.declared.form.measure.Measure.{Measure}
-use Rattle.yf_emit.specs.declared.print.printer.FrameState.TheVariants.{Item, Key}
-use Rattle.yf_emit.specs.declared.print.printer.PrintFrame.{PrintFrame}
-use Rattle.yf_emit.specs.declared.print.printer.Role as Printer
-use Rattle.yf_emit.specs.Passes.DecidePass.{is_leaf_at}
-use Rattle.yf_emit.specs.Passes.Drafts.{Draft}
-use Rattle.yf_emit.specs.NormalForms.Forms.{Site, form_of, forms, is_placed, no_form}
-use Rattle.yf_emit.specs.NormalForms.Measures.{first_of, leaf_indices, no_measure}
-use Rattle.yf_emit.specs.NormalForms.Normal.{fits, settled}
-use Rattle.yf_emit.specs.Nodes.OneLine.{props_text}
-use Rattle.yf_emit.specs.Passes.PrintPass as Printing
-use Rattle.yf_emit.specs.Passes.PrintPass.{PrintState, Work, collection_begun, has_props, is_after_sign, level_of, frames_after, looked, sign, state}
-use Rattle.yf_emit.specs.Layouts.Rows.{begins_below, is_empty_text, rows}
-use Rattle.yf_emit.proofs.Decide.AmongLemmas.{node_at}
+use Rattle.yf_forms.specs.declared.form.decide.Form.{Form}
+use Rattle.yf_forms.specs.declared.form.measure.Measure.{Measure}
+use Rattle.yf_print.specs.declared.printer.FrameState.TheVariants.{Item, Key}
+use Rattle.yf_print.specs.declared.printer.PrintFrame.{PrintFrame}
+use Rattle.yf_print.specs.declared.printer.Role as Printer
+use Rattle.yf_forms.specs.Passes.DecidePass.{is_leaf_at}
+use Rattle.yf_print.specs.Passes.Drafts.{Draft}
+use Rattle.yf_forms.specs.NormalForms.Forms.{Site, form_of, forms, is_placed, no_form}
+use Rattle.yf_forms.specs.NormalForms.Measures.{first_of, leaf_indices, no_measure}
+use Rattle.yf_forms.specs.NormalForms.Normal.{fits, settled}
+use Rattle.yf_forms.specs.Nodes.OneLine.{props_text}
+use Rattle.yf_print.specs.Passes.PrintPass as Printing
+use Rattle.yf_print.specs.Passes.PrintPass.{PrintState, Work, collection_begun, has_props, is_after_sign, level_of, frames_after, looked, sign, state}
+use Rattle.yf_print.specs.Layouts.Rows.{begins_below, rows}
+use Rattle.yf_forms.specs.Nodes.Lines.{is_empty_text}
+use Rattle.yf_forms.proofs.Decide.AmongLemmas.{node_at}
 use Rattle.yf_emit.proofs.Printer.EntriesFed.{is_key}
 use Rattle.yf_emit.proofs.Printer.LeafFed.{put, with_colon_of}
-use Rattle.yf_emit.proofs.Decide.LeafLemmas.{is_own_leaf}
+use Rattle.yf_forms.proofs.Decide.LeafLemmas.{is_own_leaf}
 use Rattle.yf_emit.proofs.Printer.LeafPrinted.{Laid, Spotted, flat_is, head_of, leaf_printed, measure, setting_in, tail_of}
 use Rattle.yf_emit.proofs.Printer.NotedLemmas.{Known, measure_there}
 use Rattle.yf_emit.proofs.Printer.MeasureFacts.{asked, same_asked}
-use Rattle.yf_emit.proofs.Texts.OneLineRuns.{flat_filled}
+use Rattle.yf_forms.proofs.Texts.OneLineRuns.{flat_filled}
 use Rattle.yf_emit.proofs.Printer.Reaching.{Part, Reaches, first_form, reaches_same, reaches_whole}
 
 -- so many collections are open at once in a node, or fewer

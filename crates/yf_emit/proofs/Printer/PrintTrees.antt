@@ -5,23 +5,23 @@ use Rattle.std.proofs.lemmas.Bool.{and_parts}
 use Rattle.yf_props.specs.Props.{PropsValue}
 use Rattle.yf_events.specs.Event.{EventInText, sequence_starts, sequence_ends, mapping_starts, mapping_ends}
 use Rattle.yf_events.specs.Tree.{NodeOffsets, Node, sequence, mapping, Items, item, Pairs, pair, flat, flat_items, flat_pairs, is_block_collection, is_filled_flow, is_text, placed, props_of, standing, unplaced}
-use Rattle.yf_emit.specs.declared.form.decide.Form.{Form}
-use Rattle.yf_emit.specs.declared.print.printer.FrameState.{FrameState}
-use Rattle.yf_emit.specs.declared.print.printer.FrameState.TheVariants.{Item}
-use Rattle.yf_emit.specs.declared.print.printer.PrintFrame.{PrintFrame}
-use Rattle.yf_emit.specs.declared.print.printer.Role as Printer
+use Rattle.yf_forms.specs.declared.form.decide.Form.{Form}
+use Rattle.yf_print.specs.declared.printer.FrameState.{FrameState}
+use Rattle.yf_print.specs.declared.printer.FrameState.TheVariants.{Item}
+use Rattle.yf_print.specs.declared.printer.PrintFrame.{PrintFrame}
+use Rattle.yf_print.specs.declared.printer.Role as Printer
 use Rattle.yf_emit.proofs.OfTexts.KeyEntries.{keys_begin, keys_begin_in_items, keys_begin_in_pairs}
-use Rattle.yf_emit.specs.Passes.Drafts.{Draft}
-use Rattle.yf_emit.specs.NormalForms.Forms.{Site, forms, forms_of_items, forms_of_pairs, is_placed, items_are_placed, no_form, pairs_are_placed, site_at}
-use Rattle.yf_emit.specs.NormalForms.Measures.{no_measure, up_to_greatest}
-use Rattle.yf_emit.specs.Passes.MeasurePass.{setting}
-use Rattle.yf_emit.specs.NormalForms.Normal.{inner_spot, settled_items, settled_pairs, styled_items, styled_pairs}
-use Rattle.yf_emit.specs.Nodes.OneLine.{props_text}
-use Rattle.yf_emit.specs.Passes.PrintPass as Printing
-use Rattle.yf_emit.specs.Passes.PrintPass.{collection_begun, has_props, is_after_sign, level_of, frames_after, looked, sign, spot_in, state, value_awaited}
-use Rattle.yf_emit.specs.Layouts.Rows.{Row, begins_below, props_row, rows}
-use Rattle.yf_emit.proofs.Decide.AmongLemmas.{Among, back, after_first, front, node_at}
-use Rattle.yf_emit.proofs.Decide.CountLemmas.{forms_count}
+use Rattle.yf_print.specs.Passes.Drafts.{Draft}
+use Rattle.yf_forms.specs.NormalForms.Forms.{Site, forms, forms_of_items, forms_of_pairs, is_placed, items_are_placed, no_form, pairs_are_placed, site_at}
+use Rattle.yf_forms.specs.NormalForms.Measures.{no_measure, up_to_greatest}
+use Rattle.yf_forms.specs.Passes.MeasurePass.{setting}
+use Rattle.yf_forms.specs.NormalForms.Normal.{inner_spot, settled_items, settled_pairs, styled_items, styled_pairs}
+use Rattle.yf_forms.specs.Nodes.OneLine.{props_text}
+use Rattle.yf_print.specs.Passes.PrintPass as Printing
+use Rattle.yf_print.specs.Passes.PrintPass.{collection_begun, has_props, is_after_sign, level_of, frames_after, looked, sign, spot_in, state, value_awaited}
+use Rattle.yf_print.specs.Layouts.Rows.{Row, begins_below, props_row, rows}
+use Rattle.yf_forms.proofs.Decide.AmongLemmas.{Among, back, after_first, front, node_at}
+use Rattle.yf_forms.proofs.Decide.CountLemmas.{forms_count}
 use Rattle.yf_emit.proofs.Printer.EntriesFed.{begun, collection_put, filled, is_key}
 use Rattle.yf_emit.proofs.Printer.LeafFed.{ColumnAt, put, with_colon_of}
 use Rattle.yf_emit.proofs.Printer.LeafPrinted.{measure, setting_in}

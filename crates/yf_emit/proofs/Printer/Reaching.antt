@@ -4,12 +4,13 @@ use Rattle.std.specs.Prelude.{nat_lt, if◌then◌else◌}
 use Rattle.std.proofs.lemmas.Bool.Decides.{nat_tests}
 use Rattle.std.proofs.lemmas.List.{length-append}
 use Rattle.yf_events.specs.Event.{EventInText}
-use Rattle.yf_emit.specs.declared.form.decide.Form.{Form}
-use Rattle.yf_emit.specs.declared.print.printer.PrintFrame.{PrintFrame}
-use Rattle.yf_emit.specs.Passes.Drafts.{Draft}
-use Rattle.yf_emit.specs.NormalForms.Forms.{no_form}
-use Rattle.yf_emit.specs.Passes.PrintPass.{PrintState, Work, looked, pass, state}
+use Rattle.yf_forms.specs.declared.form.decide.Form.{Form}
+use Rattle.yf_print.specs.declared.printer.PrintFrame.{PrintFrame}
+use Rattle.yf_print.specs.Passes.Drafts.{Draft}
+use Rattle.yf_forms.specs.NormalForms.Forms.{no_form}
+use Rattle.yf_print.specs.Passes.PrintPass.{PrintState, Work, looked, pass, state}
 use Rattle.yf_emit.proofs.Printer.SkipLemmas.{pass_append, pass_skips}
+use Rattle.yf_chars.proofs.Tests.{below}
 
 -- the last event that needs no look is among those that were passed
 pub record PrinterAt (g : Work) (i : ℕ) (ys : List EventInText) (docs : ℕ) (w : PrintState) (e : Draft) (follows : List PrintFrame) : Type 0 where
@@ -44,9 +45,6 @@ pub reaches_same : (g : Work) (i docs : ℕ) (ys : List EventInText) (d e f : Dr
 reaches_same g i docs ys d e f levels follows q h = record {
   goes = λ p l. let one = h.goes p l in record { done = one.done; within = one.within; is = one.is ∙ ap (λ w. state w follows docs one.done) q };
 }
-
-below : (a b : ℕ) → a < b → nat_lt a b ≡ true
-below a b l = grind (arith, nat_tests)
 
 -- an event that gets a look
 pub reaches_event : (g : Work) (i docs : ℕ) (x : EventInText) (d e : Draft) (levels follows : List PrintFrame)

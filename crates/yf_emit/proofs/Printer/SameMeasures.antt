@@ -4,15 +4,15 @@ use Rattle.std.specs.Prelude.{if◌then◌else◌}
 use Rattle.std.proofs.lemmas.List.{length-map, map-append}
 use Rattle.yf_events.specs.Event.{EventValue, EventInText, stream_starts, stream_ends, document_starts, document_ends, sequence_starts, sequence_ends, mapping_starts, mapping_ends, scalar_node, alias_node}
 use Rattle.yf_events.specs.declared.event.Span.{Span}
-use Rattle.yf_emit.specs.declared.style.Style.{Style}
-use Rattle.yf_emit.specs.declared.form.collection.Open.{Open}
-use Rattle.yf_emit.specs.declared.form.ended.Ended.{Ended}
-use Rattle.yf_emit.specs.declared.form.measure.Measure.{Measure}
-use Rattle.yf_emit.specs.NormalForms.Measures.{no_measure}
-use Rattle.yf_emit.specs.Passes.MeasurePass.{MeasuredSoFar, closed, closed_empty, closed_filled, ended_alias, ended_scalar, found, handed, has_text, have_texts, noted, or_else, pass, passed, past, popped}
-use Rattle.yf_emit.specs.NormalForms.Normal.{LayoutSetting}
-use Rattle.yf_emit.specs.NormalForms.Restyled.{SameButStyles, none_left, one_more, restyled, restyled_event}
-use Rattle.yf_emit.specs.Nodes.ScalarStyles.{wanted}
+use Rattle.yf_forms.specs.declared.style.Style.{Style}
+use Rattle.yf_forms.specs.declared.form.collection.Open.{Open}
+use Rattle.yf_forms.specs.declared.form.ended.Ended.{Ended}
+use Rattle.yf_forms.specs.declared.form.measure.Measure.{Measure}
+use Rattle.yf_forms.specs.NormalForms.Measures.{no_measure}
+use Rattle.yf_forms.specs.Passes.MeasurePass.{MeasuredSoFar, closed, closed_empty, closed_filled, ended_alias, ended_scalar, found, handed, has_text, have_texts, noted, or_else, pass, passed, past, popped}
+use Rattle.yf_forms.specs.NormalForms.Normal.{LayoutSetting}
+use Rattle.yf_forms.specs.NormalForms.Restyled.{SameButStyles, none_left, one_more, restyled, restyled_event}
+use Rattle.yf_forms.specs.Nodes.ScalarStyles.{wanted}
 use Rattle.yf_emit.proofs.Printer.MeasureFacts.{asked}
 
 -- open collections that began at the same index, hold a node or none, and have the same first leaf

@@ -5,7 +5,7 @@ use Rattle.std.specs.Str.{IsUtf8}
 use Rattle.yf_lines.specs.Output.{TextWritten}
 use Rattle.yf_lines.specs.declared.fault.Fault.{Fault}
 use Rattle.yf_events.specs.declared.lists.Lists.{Lists}
-use Rattle.yf_emit.specs.declared.style.Style.{Style}
+use Rattle.yf_forms.specs.declared.style.Style.{Style}
 use Rattle.yf_emit.specs.Passes.WriterAfterPrint.{RefusedPrint, WroteMade}
 use Rattle.yf_emit.specs.Passes.PrintedText.{IsPrinted}
 

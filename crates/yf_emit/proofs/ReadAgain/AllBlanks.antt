@@ -5,7 +5,7 @@ use Rattle.yf_comments.specs.GapLines.{GapLine, remarks_of}
 use Rattle.yf_comments.proofs.GapLinesLemmas.{texts}
 use Rattle.yf_emit.specs.Layouts.Decorated.{Deco}
 use Rattle.yf_emit.specs.Layouts.Layout.{may_be_blank_after}
-use Rattle.yf_emit.specs.Layouts.Rows.{Row}
+use Rattle.yf_print.specs.Layouts.Rows.{Row}
 use Rattle.yf_emit.proofs.ReadAgain.CarriedAgain.{Owns, all_of, standing_of}
 use Rattle.yf_emit.proofs.ReadAgain.GapsAgain.{Blanks}
 use Rattle.yf_emit.proofs.RowNodes.PlacedRows.{PlacedRow}

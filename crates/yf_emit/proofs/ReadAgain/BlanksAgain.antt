@@ -23,9 +23,9 @@ use Rattle.yf_emit.specs.Layouts.RowComments.{AreDecos}
 use Rattle.yf_emit.specs.Layouts.Decorated.{Deco, first_gap, inline_then, lines_then, row_decos, rows_of}
 use Rattle.yf_emit.specs.Format.{IsFormatting}
 use Rattle.yf_emit.specs.Layouts.Layout.{Source, own_line_comments, precedes_item, source_of}
-use Rattle.yf_emit.specs.NormalForms.Normal.{setting_of}
-use Rattle.yf_emit.specs.Layouts.Rows.{Row, at_text_start, all_rows}
-use Rattle.yf_emit.specs.declared.style.Style.{Style}
+use Rattle.yf_forms.specs.NormalForms.Normal.{setting_of}
+use Rattle.yf_print.specs.Layouts.Rows.{Row, at_text_start, all_rows}
+use Rattle.yf_forms.specs.declared.style.Style.{Style}
 use Rattle.yf_emit.proofs.SecondRun.AlikeLemmas.{shapes}
 use Rattle.yf_emit.proofs.ReadAgain.AllBlanks.{BlanksFound, first_blank}
 use Rattle.yf_emit.proofs.ReadAgain.BlanksRows.{as_many, ends_over, gap_forms, noted_gap, noted_split, pick_early, rows_blanks, rows_from}
@@ -39,18 +39,19 @@ use Rattle.yf_emit.proofs.RowNodes.FoundStreams.{StreamIn, no_stream, stream_in}
 use Rattle.yf_emit.proofs.Derived.EntriesMade.{begins, lines_begin}
 use Rattle.yf_emit.proofs.ReadAgain.GapsAgain.{Blanks, gap_at_end, gap_with}
 use Rattle.yf_emit.proofs.ReadAgain.GapNotes.{HeadNote, bare_head, gap_noted}
-use Rattle.yf_emit.proofs.ReadAgain.GapsInText.{GapIsAt, gap_placed, place_of, since_later}
+use Rattle.yf_emit.proofs.ReadAgain.GapsInText.{GapIsAt, gap_placed, since_later}
 use Rattle.yf_emit.proofs.OutputLines.HeldLemmas.{BodiesHeld}
 use Rattle.yf_emit.proofs.ReadAgain.NoteTrees.{start_unlined}
 use Rattle.yf_emit.proofs.RowNodes.PlacedRows.{PlacedRow, RowsIn}
 use Rattle.yf_emit.proofs.ReadAgain.RowGaps.{one_chain}
 use Rattle.yf_emit.proofs.ReadAgain.RowNotes.{AllNoted, RowNotes, no_row_notes, note_kept, note_moved, all_noted, pick}
 use Rattle.yf_emit.proofs.ReadAgain.NoteStreams.{all_noted_documents}
-use Rattle.yf_emit.specs.Layouts.BareStart.{is_bare}
-use Rattle.yf_emit.specs.Layouts.KeptColumns.{Columns}
+use Rattle.yf_print.specs.Layouts.BareStart.{is_bare}
+use Rattle.yf_print.specs.Layouts.KeptColumns.{Columns}
 use Rattle.yf_emit.specs.Preservation.CommentsPlaced.{columns_in}
 use Rattle.yf_emit.proofs.Columns.SourceColumns.{text_column}
 use Rattle.yf_chars.specs.Class.{is_white}
+use Rattle.yf_emit.proofs.Derived.ClearRows.{place_of_rest as place_of}
 
 -- the gap before the first row
 first_found : (g : Columns) {t : List ℕ} {es : List EventInText} {line : ℕ} {gap : List GapLine} {firsts own noted : List CommentValue} {z : List ℕ} (others rest : List CommentValue) (column : ℕ) (hs : List CommentValue) (a : Bool) → IsUtf8 t → AreGapLines gap → gap ≡ gap_with g at_text_start column hs a

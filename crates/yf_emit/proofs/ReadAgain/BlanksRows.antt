@@ -21,7 +21,7 @@ use Rattle.yf_emit.specs.Layouts.RowComments.{AreDecos, one_carried}
 use Rattle.yf_emit.specs.Layouts.Decorated.{Deco, comments_left, decos_of, inline_then}
 use Rattle.yf_emit.specs.Layouts.Layout.{Source, may_be_blank_after, precedes_item}
 use Rattle.yf_emit.specs.Layouts.RowShapes.{shape_of}
-use Rattle.yf_emit.specs.Layouts.Rows.{Ending, Row}
+use Rattle.yf_print.specs.Layouts.Rows.{Ending, Row}
 use Rattle.yf_emit.proofs.SecondRun.AlikeLemmas.{shapes}
 use Rattle.yf_emit.proofs.ReadAgain.AllBlanks.{AllBlanks, last_blanks, row_blanks}
 use Rattle.yf_emit.proofs.ReadAgain.CarriedAgain.{Owns, last_owns, row_owns, all_of, standing_of}
@@ -32,7 +32,7 @@ use Rattle.yf_emit.proofs.OutputLines.HeldLemmas.{BodiesHeld}
 use Rattle.yf_emit.proofs.RowNodes.PlacedRows.{AtRow, EndsRow, LastEnd, last_end, later_end, OwnTail, after_line, after_scalar, PlacedRow, RowsIn, last_row, row_before}
 use Rattle.yf_emit.proofs.ReadAgain.RowGaps.{Renoted, as_they_are, first_so, RowGap, row_gap}
 use Rattle.yf_emit.proofs.ReadAgain.RowNotes.{RowNotes, no_row_notes, note_kept, note_moved, pick}
-use Rattle.yf_emit.specs.Layouts.KeptColumns.{Columns}
+use Rattle.yf_print.specs.Layouts.KeptColumns.{Columns}
 
 -- Notes of comments.
 

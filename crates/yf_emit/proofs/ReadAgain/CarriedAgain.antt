@@ -8,14 +8,18 @@ use Rattle.yf_comments.specs.GapLines.{remarks_of}
 use Rattle.yf_comments.proofs.GapLinesLemmas.{texts}
 use Rattle.yf_emit.specs.Layouts.RowComments.{carried_texts}
 use Rattle.yf_emit.specs.Layouts.Decorated.{Deco}
-use Rattle.yf_emit.specs.Layouts.Layout.{Source, may_be_blank_after, precedes_item, trailing, trimmed}
-use Rattle.yf_emit.specs.Layouts.Rows.{Row}
-use Rattle.yf_emit.proofs.SameReading.CommentsCut.{In, in_first, in_rest, Each, each_none, each_more, each_at, each_join, each_map, Under, Over, Upward, upward_none, upward_more, upward_over}
+use Rattle.yf_emit.specs.Layouts.Layout.{Source, may_be_blank_after, precedes_item, trailing}
+use Rattle.yf_forms.specs.Nodes.Lines.{trimmed}
+use Rattle.yf_print.specs.Layouts.Rows.{Row}
+use Rattle.yf_emit.proofs.SameReading.CommentsCut.{In, in_first, in_rest, Each, each_none, each_more, each_at, each_join, each_map, Under, Over, Upward, upward_none, upward_more, upward_over, in_after}
 use Rattle.yf_emit.proofs.ReadAgain.GapsAgain.{Blanks, gap_with}
 use Rattle.yf_emit.proofs.RowNodes.PlacedRows.{PlacedRow}
 use Rattle.yf_emit.proofs.SameReading.PrintSteps.{trimmed_texts}
 use Rattle.yf_emit.proofs.ReadAgain.RowsAgain.{Apart, Carry, last_carries, row_carries, Merged, none_merged, one_trails, one_is_at, merged_stand}
-use Rattle.yf_emit.specs.Layouts.KeptColumns.{Columns, is_before_first}
+use Rattle.yf_print.specs.Layouts.KeptColumns.{Columns, is_before_first}
+use Rattle.yf_chars.proofs.Tests.{below, not_below}
+use Rattle.yf_emit.proofs.OutputLines.ColumnsHold.{every}
+use Rattle.yf_emit.proofs.RowNodes.QuietPlaces.{under_more}
 
 -- the comments after each row, the last list is of each row its own
 pub data Owns : List PlacedRow → List Deco → ℕ → List (List CommentValue) → ℕ → Type 0 where
@@ -73,17 +77,9 @@ pub owns_upward : {ps : List PlacedRow} {ds : List Deco} {i j : ℕ} {owns : Lis
 owns_upward (last_owns {i = i} {own = own} f l m up u is) = subst (λ z. Upward i z) (sym (append-nil own)) (upward_less l up)
 owns_upward (row_owns f l m up u is n more) = upward_less l (upward_join m up u (upward_less n (owns_upward more)))
 
-under_more : {h k : ℕ} {cs : List CommentValue} → h ≤ k → Under h cs → Under k cs
-under_more l each_none = each_none
-under_more l (each_more m a) = each_more (omega (arith, l, m)) (under_more l a)
-
 each_right : {P : CommentValue → Type 0} (xs : List CommentValue) {ys : List CommentValue} → Each P (xs ++ ys) → Each P ys
 each_right [] a = a
 each_right (x ∷ xs) (each_more e a) = each_right xs a
-
-pub each_all : {P : CommentValue → Type 0} → ((d : CommentValue) → P d) → (xs : List CommentValue) → Each P xs
-each_all f [] = each_none
-each_all f (x ∷ xs) = each_more (f x) (each_all f xs)
 
 pub standing_over : {h : ℕ} {ts hs cs : List CommentValue} → Merged ts hs cs → Over h cs → Over h hs
 standing_over none_merged a = each_none
@@ -98,10 +94,6 @@ same_first {e = e} {o = o} each_none l (upward_more m a) n (in_rest i) = absurd 
 same_first (each_more m a) l up n in_first = absurd (omega (arith, m, l))
 same_first (each_more m a) l up n (in_rest i) = same_first a l up n i
 
-pub in_join : {e : CommentValue} {xs : List CommentValue} (before : List CommentValue) → In e xs → In e (before ++ xs)
-in_join [] i = i
-in_join (b ∷ before) i = in_rest (in_join before i)
-
 record OwnSplit (c : Source) (row : Row) (d : Deco) (own : List CommentValue) : Type 0 where
   is : own ≡ trailing c row ++ standing_of d own
   trails : trimmed_texts (trailing c row) ≡ d.trails
@@ -113,7 +105,7 @@ own_split {c} {row = row} {d = d} before own rest u l up is e (nothing_trails f 
 own_split {d = d} before [] rest u l up is e (first_trails x w f g t i m n) = absurd (let none : [] ≡ w ∷ remarks_of d.gap = is ∙ ap (λ z. z ++ remarks_of d.gap) g in cc)
 own_split {c} {row = row} {p = p} {d = d} before (o ∷ own) rest u l up is e (first_trails x w f g t i m n) =
     let low : p.upto ≤ o.offset = first_low up in
-    let near : x.offset ≤ o.offset = n o (subst (λ z. In o z) (sym e) (in_join before in_first)) low in
+    let near : x.offset ≤ o.offset = n o (subst (λ z. In o z) (sym e) (in_after before in_first)) low in
     let same : x ≡ o = same_first (under_more l u) m up near (subst (λ z. In x z) e i) in
     let all : o.text ∷ texts own ≡ w ∷ remarks_of d.gap = is ∙ ap (λ z. z ++ remarks_of d.gap) g in
     let text : o.text ≡ w = cc in
@@ -140,29 +132,23 @@ none_is_at [] (o ∷ own) e = absurd cc
 none_is_at (x ∷ xs) [] e = absurd cc
 none_is_at (x ∷ xs) (o ∷ own) e = none_is_at xs own (let rest : texts own ≡ xs = cc in rest)
 
-less : (m n : ℕ) → m < n → nat_lt m n ≡ true
-less m n z = grind (arith, nat_tests)
-
-not_less : (m n : ℕ) → n ≤ m → nat_lt m n ≡ false
-not_less m n z = grind (arith, nat_tests)
-
 each_less : {cut k : ℕ} {cs : List CommentValue} (row : Row) → ((b : CommentValue) → precedes_item row b ≡ nat_lt b.offset cut) → k ≤ cut → Under k cs → Each (λ d. precedes_item row d ≡ true) cs
 each_less row f l each_none = each_none
-each_less {cut} row f l (each_more {d = d} m a) = each_more (f d ∙ less d.offset cut (omega (arith, l, m))) (each_less row f l a)
+each_less {cut} row f l (each_more {d = d} m a) = each_more (f d ∙ below d.offset cut (omega (arith, l, m))) (each_less row f l a)
 
 each_not : {cut k : ℕ} {cs : List CommentValue} (row : Row) → ((b : CommentValue) → precedes_item row b ≡ nat_lt b.offset cut) → cut ≤ k → Over k cs → Each (λ d. precedes_item row d ≡ false) cs
 each_not row f l each_none = each_none
-each_not {cut} row f l (each_more {d = d} m a) = each_more (f d ∙ not_less d.offset cut (omega (arith, l, m))) (each_not row f l a)
+each_not {cut} row f l (each_more {d = d} m a) = each_more (f d ∙ not_below d.offset cut (omega (arith, l, m))) (each_not row f l a)
 
 pub next_apart : {cs : List CommentValue} {next : Row} {o : PlacedRow} {d : Deco} {k : ℕ} (here left : List CommentValue) → NextTied cs next o d → (remarks_of d.gap ≡ [] → here ≡ []) → k ≤ o.from → Under k here
     → ((cut : ℕ) → ((b : CommentValue) → In b cs → o.upto ≤ b.offset → cut ≤ b.offset) → Over cut left) → Apart next here left
 next_apart {next = next} here left (bare_next e f) g l u v =
-    record { first = subst (λ z. Each (λ d. is_before_first next.items d.offset ≡ true) z) (sym (g f)) each_none; before = subst (λ z. Each (λ d. precedes_item next d ≡ true) z) (sym (g f)) each_none; follows = each_all (λ d. ap (λ z. list_any (λ i. nat_lt d.offset i) z) e) left }
+    record { first = subst (λ z. Each (λ d. is_before_first next.items d.offset ≡ true) z) (sym (g f)) each_none; before = subst (λ z. Each (λ d. precedes_item next d ≡ true) z) (sym (g f)) each_none; follows = every (λ d. ap (λ z. list_any (λ i. nat_lt d.offset i) z) e) left }
 next_apart {next = next} here left (items_next cut f h l m) g n u v = record { first = each_map (λ d i z. h d (omega (arith, n, z))) u; before = each_less next f (omega (arith, l, n)) u; follows = each_not {k = cut} next f (omega arith) (v cut m) }
 
 -- what follows is from a cut on
 pub cut_over : {ts hs all cs : List CommentValue} {upto : ℕ} (before : List CommentValue) → cs ≡ before ++ all → Merged ts hs all → Over upto all → (cut : ℕ) → ((b : CommentValue) → In b cs → upto ≤ b.offset → cut ≤ b.offset) → Over cut hs
-cut_over {cs = cs} before e m a cut f = standing_over m (each_map (λ b i l. f b (subst (λ z. In b z) (sym e) (in_join before i)) l) a)
+cut_over {cs = cs} before e m a cut f = standing_over m (each_map (λ b i l. f b (subst (λ z. In b z) (sym e) (in_after before i)) l) a)
 
 -- Rows.
 

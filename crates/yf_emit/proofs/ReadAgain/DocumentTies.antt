@@ -6,11 +6,11 @@ use Rattle.yf_comments.proofs.GapLinesLemmas.{texts}
 use Rattle.yf_events.specs.Tree.{Node, DocumentTree}
 use Rattle.yf_events.specs.declared.directive.Directive.{Directive}
 use Rattle.yf_events.specs.declared.document.Doc.{Doc}
-use Rattle.yf_emit.specs.declared.style.Style.{Style}
+use Rattle.yf_forms.specs.declared.style.Style.{Style}
 use Rattle.yf_emit.specs.Layouts.Decorated.{Deco}
 use Rattle.yf_emit.specs.Preservation.FoundTrees.{FoundTrees, none_found, one_found, words_of}
-use Rattle.yf_emit.specs.NormalForms.Normal.{root_spot}
-use Rattle.yf_emit.specs.Layouts.Rows.{Row, beginning_at, directive_row, end_rows, rows, start_row, stream_rows, all_rows, begun_at}
+use Rattle.yf_forms.specs.NormalForms.Normal.{root_spot}
+use Rattle.yf_print.specs.Layouts.Rows.{Row, beginning_at, directive_row, end_rows, rows, start_row, stream_rows, all_rows, begun_at}
 use Rattle.yf_emit.proofs.SecondRun.AlikeLemmas.{setting, shapes}
 use Rattle.yf_emit.proofs.RowNodes.BareNodes.{bare, bare_tree}
 use Rattle.yf_emit.proofs.ReadAgain.CarriedAgain.{Owns, last_owns, row_owns, all_of, first_from, owns_upward}
@@ -25,7 +25,8 @@ use Rattle.yf_emit.proofs.ReadAgain.RowTies.{node_tie, start_tie, head_tie, Ties
 use Rattle.yf_emit.proofs.ReadAgain.TrailAgain.{in_parts}
 use Rattle.yf_emit.proofs.RowNodes.FoundStreams.{begun_placed}
 use Rattle.yf_emit.proofs.SecondRun.FixedRows.{begun_shaped}
-use Rattle.yf_emit.specs.Layouts.KeptColumns.{Columns}
+use Rattle.yf_print.specs.Layouts.KeptColumns.{Columns}
+use Rattle.yf_emit.proofs.RowNodes.QuietPlaces.{under_more}
 
 -- a row without items was laid out without any
 pub data Barely : List Row → List PlacedRow → Type 0 where
@@ -42,9 +43,6 @@ pub data Left (cs : List CommentValue) (j : ℕ) : List Row → List Row → Lis
   some_left : {g : Columns} {xs found : List Row} {ps : List PlacedRow} {ds : List Deco} {i : ℕ} {owns : List (List CommentValue)} (before : List CommentValue) → Barely xs ps → Owns ps ds i owns j → LaidRows g xs found ds → Under i before
       → cs ≡ before ++ all_of owns → Left cs j xs found ps
 
-under_wider : {m n : ℕ} {bs : List CommentValue} → m ≤ n → Under m bs → Under n bs
-under_wider l a = each_map (λ b i m. omega (arith, l, m)) a
-
 step : {cs : List CommentValue} {j : ℕ} {x row : Row} {xs found : List Row} {p : PlacedRow} {ps : List PlacedRow} → Left cs j (x ∷ xs) (row ∷ found) (p ∷ ps) → Left cs j xs found ps
 step (some_left before (row_barely f b) (last_owns g l m up u is) (last_laid hs laid gap) early are) = ended b where
   ended : {cs : List CommentValue} {j : ℕ} {xs : List Row} → Barely xs [] → Left cs j xs [] []
@@ -52,7 +50,7 @@ step (some_left before (row_barely f b) (last_owns g l m up u is) (last_laid hs 
 step (some_left before b (last_owns g l m up u is) (row_laid hs v laid gap quiet more) early are) = elim more [ ]
 step (some_left before b (row_owns g l m up u is n more) (last_laid hs laid gap) early are) = elim more [ ]
 step (some_left before (row_barely f b) (row_owns {own = own} {owns = owns} g l m up u is n more) (row_laid hs v laid gap quiet others) early are) =
-    some_left (before ++ own) b more others (each_join (under_wider (omega (arith, l, m, n)) early) (under_wider n u)) (are ∙ sym (append_assoc before own (all_of owns)))
+    some_left (before ++ own) b more others (each_join (under_more (omega (arith, l, m, n)) early) (under_more n u)) (are ∙ sym (append_assoc before own (all_of owns)))
 
 barely_first : {cs : List CommentValue} {j : ℕ} {x row : Row} {xs found : List Row} {p : PlacedRow} {ps : List PlacedRow} → Left cs j (x ∷ xs) (row ∷ found) (p ∷ ps) → p.items ≡ [] → x.items ≡ []
 barely_first (some_left before (row_barely f b) own laid early are) = f
@@ -115,7 +113,7 @@ free_to ys others qs (more_heads {hs = q ∷ ps} a h) none key (a_plain_head unm
     (some_left before (row_barely z bs) (row_owns {own = own} {owns = owns} g l m up u is n more) (row_laid {d = d} hs v laid gap quiet further) early are) =
     let silent : own ≡ [] = no_texts own (is ∙ (ap (λ w. w ++ remarks_of d.gap) (laid.bare none key) ∙ quiet unmarked)) in
     free_one before own silent g (omega (arith, l, m, n)) early are more
-    (free_to ys others qs h unleaved unkeyed b (some_left (before ++ own) bs more further (each_join (under_wider (omega (arith, l, m, n)) early) (under_wider n u)) (are ∙ sym (append_assoc before own (all_of owns)))))
+    (free_to ys others qs h unleaved unkeyed b (some_left (before ++ own) bs more further (each_join (under_more (omega (arith, l, m, n)) early) (under_more n u)) (are ∙ sym (append_assoc before own (all_of owns)))))
 
 left_order : {cs : List CommentValue} {j : ℕ} {x row : Row} {xs found : List Row} {p : PlacedRow} {ps : List PlacedRow} → Left cs j (x ∷ xs) (row ∷ found) (p ∷ ps) → p.from ≤ p.upto
 left_order (some_left before b (last_owns f l m up u is) laid early are) = omega (arith, f, l)

@@ -15,13 +15,15 @@ use Rattle.yf_grammar.specs.Productions.ReadParts.BlankSince.{blank_line, past_g
 use Rattle.yf_grammar.specs.Productions.ReadParts.NotedSince.{noted, not_noted}
 use Rattle.yf_grammar.proofs.Ends.SinceKnown.{since_before}
 use Rattle.yf_emit.specs.Layouts.Decorated.{blank_if}
-use Rattle.yf_emit.specs.Layouts.Layout.{may_be_blank_after, trimmed}
-use Rattle.yf_emit.specs.Layouts.Rows.{Ending, anywhere}
+use Rattle.yf_emit.specs.Layouts.Layout.{may_be_blank_after}
+use Rattle.yf_forms.specs.Nodes.Lines.{trimmed}
+use Rattle.yf_print.specs.Layouts.Rows.{Ending, anywhere}
 use Rattle.yf_emit.proofs.ReadAgain.GapsAgain.{Blanks, gap_ends, gap_blank, gap_remark, gap_more, gap_with, trimmed_twice}
 use Rattle.yf_emit.proofs.ReadAgain.GapsInText.{GapIsAt, gap_over, blank_is_at, remark_is_at}
-use Rattle.yf_emit.specs.Layouts.KeptColumns.{Columns}
-use Rattle.yf_emit.specs.Layouts.SourceColumns.{own_column}
-use Rattle.yf_emit.proofs.Columns.SourceColumns.{column_spaces, space_white}
+use Rattle.yf_print.specs.Layouts.KeptColumns.{Columns}
+use Rattle.yf_print.specs.Layouts.SourceColumns.{own_column}
+use Rattle.yf_emit.proofs.Columns.SourceColumns.{column_spaces}
+use Rattle.yf_chars.proofs.CharFacts.{space_white}
 
 -- comments with their notes over a floor
 pub data NotedOver (t : List ℕ) (f : ℕ) : List CommentValue → List CommentValue → Type 0 where

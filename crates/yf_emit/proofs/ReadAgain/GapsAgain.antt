@@ -6,12 +6,14 @@ use Rattle.std.specs.List.{list_all}
 use Rattle.yf_chars.specs.Class.{is_white}
 use Rattle.yf_comments.specs.Comment.{CommentValue}
 use Rattle.yf_emit.specs.Layouts.Decorated.{GapLine, blank, remark, blank_if, ending_after, gap_of, remarks_after}
-use Rattle.yf_emit.specs.Layouts.Layout.{may_be_blank_after, trimmed}
-use Rattle.yf_emit.specs.Layouts.Rows.{Ending, anywhere}
-use Rattle.yf_emit.specs.Layouts.KeptColumns.{Columns}
-use Rattle.yf_emit.specs.Layouts.SourceColumns.{own_column}
+use Rattle.yf_emit.specs.Layouts.Layout.{may_be_blank_after}
+use Rattle.yf_forms.specs.Nodes.Lines.{trimmed}
+use Rattle.yf_print.specs.Layouts.Rows.{Ending, anywhere}
+use Rattle.yf_print.specs.Layouts.KeptColumns.{Columns}
+use Rattle.yf_print.specs.Layouts.SourceColumns.{own_column}
 use Rattle.yf_emit.proofs.SameReading.CommentsCut.{Each, each_at, each_rest, in_first}
 use Rattle.yf_emit.proofs.OutputLines.ColumnsHold.{GapHolds, blank_holds, remark_holds}
+use Rattle.yf_emit.proofs.OutputLines.GapSpread.{any_after}
 
 -- a text without the white space that ends it stays what it is
 whites_left : (x : List ℕ) → list_all is_white (trimmed x) ≡ list_all is_white x
@@ -68,16 +70,12 @@ first_remark false a column (gap_remark {c = c} {cs = cs} e f o more) = record {
 abbrev pub gap_with : Columns → Ending → ℕ → List CommentValue → Bool → List GapLine
 gap_with g e column cs b = remarks_after g e column cs ++ blank_if (may_be_blank_after (ending_after e cs) && b)
 
-still_anywhere : (cs : List CommentValue) → ending_after anywhere cs ≡ anywhere
-still_anywhere [] = refl
-still_anywhere (c ∷ cs) = refl
-
 pub gap_more : (g : Columns) (e : Ending) (column : ℕ) (c : CommentValue) (cs : List CommentValue) (b : Bool)
     → gap_with g e column (c ∷ cs) b ≡ blank_if (may_be_blank_after e && c.blank_before) ++ (remark (g c column) (trimmed c.text) ∷ gap_with g anywhere column cs b)
 gap_more g e column c cs b =
     let lines : List GapLine = remark (g c column) (trimmed c.text) ∷ remarks_after g anywhere column cs in
     append_assoc (blank_if (may_be_blank_after e && c.blank_before)) lines (blank_if b)
-    ∙ ap (λ z. blank_if (may_be_blank_after e && c.blank_before) ++ (remark (g c column) (trimmed c.text) ∷ (remarks_after g anywhere column cs ++ blank_if (may_be_blank_after z && b)))) (sym (still_anywhere cs))
+    ∙ ap (λ z. blank_if (may_be_blank_after e && c.blank_before) ++ (remark (g c column) (trimmed c.text) ∷ (remarks_after g anywhere column cs ++ blank_if (may_be_blank_after z && b)))) (sym (any_after cs))
 
 past_blank : {P : ℕ → Type 0} (b : Bool) (gs : List GapLine) → GapHolds P (blank_if b ++ gs) → GapHolds P gs
 past_blank true gs (blank_holds h) = h

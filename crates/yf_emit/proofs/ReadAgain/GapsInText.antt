@@ -27,8 +27,10 @@ use Rattle.yf_comments.proofs.GapLinesLemmas.{texts, remark_at, spaces_in_line}
 use Rattle.yf_grammar.specs.Productions.ReadParts.{BlankSince}
 use Rattle.yf_grammar.specs.Productions.ReadParts.BlankSince.{blank_line, past_gap}
 use Rattle.yf_stream.proofs.BlankNotes.FloorLemmas.{since_over}
-use Rattle.yf_emit.specs.Layouts.SourceColumns.{own_column}
+use Rattle.yf_print.specs.Layouts.SourceColumns.{own_column}
 use Rattle.yf_emit.proofs.Columns.SourceColumns.{column_break}
+use Rattle.yf_chars.proofs.CharFacts.{hash_nb}
+use Rattle.yf_emit.proofs.Derived.ClearRows.{remark_line, place_of_rest}
 
 -- the lines from i on, with the comments on them, up to j
 pub data GapIsAt (t : List ℕ) : ℕ → List GapLine → List CommentValue → ℕ → Type 0 where
@@ -82,19 +84,6 @@ none_after {t} {p} {k} {j} u e q l b d =
 
 -- Lines of a gap.
 
-pub place_of : {t : List ℕ} {i j : ℕ} {r : List ℕ} → Rest t i r → Rest t j r → i ≡ j
-place_of {t} {i} {j} {r} a b =
-    let x : length (drop i t) ≡ length r = ap length a.bytes in
-    let y : length (drop j t) ≡ length r = ap length b.bytes in
-    omega (arith, x, y, length-drop i t, length-drop j t, a.boundary.0, b.boundary.0)
-
-hash_nb : is_nb_char 35 ≡ true
-unfolding is_nb_char is_printable is_between is_break_char
-hash_nb = refl
-
-remark_line : {text : List ℕ} → IsRemark text → IsLineText text
-remark_line a = subst (λ w. IsLineText w) (sym a.is) (line_ascii 35 (omega arith) hash_nb a.line)
-
 -- the one comment of a comment's text
 record OneNote (t : List ℕ) (i : ℕ) (cs : List CommentValue) : Type 0 where
   note : CommentValue
@@ -123,7 +112,7 @@ note_at {t} {text} r {q} u m s =
     let at = remark_at (10 ∷ r) u m s in
     let one = one_note at.comment in
     let line = rest_text text u (remark_line m) s in
-    let same : q + length text ≡ at.end = place_of line.rest at.rest in
+    let same : q + length text ≡ at.end = place_of_rest line.rest at.rest in
     let some : length text ≡ suc (length m.follows) = ap length m.is in
     let quiet : Quiet t q at.end = subst (λ k. Quiet t q k) same line.quiet in
     let end = rest_break u at.rest in

@@ -8,8 +8,8 @@ use Rattle.yf_events.specs.declared.directive.Directive.{Directive}
 use Rattle.yf_events.specs.declared.document.Doc.{Doc}
 use Rattle.yf_emit.specs.Layouts.FitDocuments.{FitDocuments, fit_no_documents, fit_document}
 use Rattle.yf_emit.specs.Preservation.FoundTrees.{FoundTrees, none_found, one_found, words_of}
-use Rattle.yf_emit.specs.NormalForms.Normal.{LayoutSetting, root_spot}
-use Rattle.yf_emit.specs.Layouts.Rows.{Row, beginning_at, directive_row, document_rows, end_rows, rows, start_row, stream_rows, all_rows, bare_rows, begun_at}
+use Rattle.yf_forms.specs.NormalForms.Normal.{LayoutSetting, root_spot}
+use Rattle.yf_print.specs.Layouts.Rows.{Row, beginning_at, directive_row, document_rows, end_rows, rows, start_row, stream_rows, all_rows, bare_rows, begun_at}
 use Rattle.yf_emit.proofs.SecondRun.AlikeLemmas.{setting}
 use Rattle.yf_emit.proofs.RowNodes.BareNodes.{bare, bare_tree}
 use Rattle.yf_emit.proofs.RowNodes.FoundTexts.{FoundRoots, no_roots, one_root, AllRoots, marked_roots, bare_root}

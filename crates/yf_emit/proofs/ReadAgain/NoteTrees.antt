@@ -20,14 +20,15 @@ use Rattle.yf_stream.specs.ReadingOf.{end_before, floor_at}
 use Rattle.yf_stream.proofs.Existence.BreachLemmas.{alike_values, values}
 use Rattle.yf_stream.proofs.BlankNotes.FloorWalk.{end_same, floor_join}
 use Rattle.yf_stream.proofs.BlankNotes.NodeNotes.{collection_floor}
-use Rattle.yf_emit.specs.declared.style.Style.{Style}
+use Rattle.yf_forms.specs.declared.style.Style.{Style}
 use Rattle.yf_emit.specs.Preservation.AlikeBlocks.{AlikeBlocks, alike_lines, AlikeBlockItems, no_block_items, block_item, AlikeBlockPairs, no_block_pairs, block_pair}
-use Rattle.yf_emit.specs.Nodes.BlockLines.{content_lines, final_feeds}
+use Rattle.yf_forms.specs.Nodes.BlockLines.{content_lines, final_feeds}
 use Rattle.yf_emit.specs.Layouts.ReadableTrees.{Fit, fit_nothing, fit_line, fit_scalar, fit_sequence, fit_mapping, FitItems, fit_item, FitPairs, fit_pair, FitScalar, LineNode, is_block_style, is_inline}
-use Rattle.yf_emit.specs.NormalForms.Normal.{LayoutSetting, Spot, entry_or, inner_spot, is_implicit, key_comment, key_spot, value_entries, value_of_implicit}
-use Rattle.yf_emit.specs.Nodes.OneLine.{props_text, written}
+use Rattle.yf_forms.specs.NormalForms.Normal.{LayoutSetting, Spot, entry_or, inner_spot, is_implicit, key_comment, key_spot, value_entries, value_of_implicit}
+use Rattle.yf_forms.specs.Nodes.OneLine.{props_text, written}
 use Rattle.yf_emit.specs.Layouts.RowShapes.{KeysAgree}
-use Rattle.yf_emit.specs.Layouts.Rows.{Row, begins_below, blank_before_entry, block_scalar, colon_row, entry_row, is_empty_text, key_row, one_line_row, props_row, rows, rows_of_items, rows_of_pairs}
+use Rattle.yf_print.specs.Layouts.Rows.{Row, begins_below, blank_before_entry, block_scalar, colon_row, entry_row, key_row, one_line_row, props_row, rows, rows_of_items, rows_of_pairs}
+use Rattle.yf_forms.specs.Nodes.Lines.{is_empty_text}
 use Rattle.yf_emit.proofs.SecondRun.AlikeLemmas.{same_below, same_implicit, same_sequence, same_written, setting}
 use Rattle.yf_emit.proofs.SecondRun.FixedBlocks.{blocks_alike}
 use Rattle.yf_emit.proofs.Columns.FlowEvents.{AllFlow, IsFlowEvent, flow_means}

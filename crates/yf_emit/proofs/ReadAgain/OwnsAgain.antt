@@ -11,7 +11,7 @@ use Rattle.yf_stream.specs.ReadingOf.{NotedComments, no_comment, one_comment}
 use Rattle.yf_emit.specs.Layouts.RowComments.{AreDecos}
 use Rattle.yf_emit.specs.Layouts.Decorated.{Deco, comments_left, decos_of, inline_then, lines_then}
 use Rattle.yf_emit.specs.Layouts.Layout.{Source}
-use Rattle.yf_emit.specs.Layouts.Rows.{Row}
+use Rattle.yf_print.specs.Layouts.Rows.{Row}
 use Rattle.yf_emit.proofs.ReadAgain.CarriedAgain.{Owns, last_owns, row_owns, all_of}
 use Rattle.yf_emit.proofs.SameReading.CommentsCut.{each_none, each_more, Under, Upward, upward_none, upward_more, upward_of}
 use Rattle.yf_emit.proofs.RowNodes.PlacedRows.{PlacedRow, RowsIn, last_row, row_before}
@@ -19,7 +19,8 @@ use Rattle.yf_emit.proofs.RowNodes.QuietPlaces.{ascend_under}
 use Rattle.yf_emit.proofs.Derived.RowEnds.{first_deco, after_decos}
 use Rattle.yf_emit.proofs.ReadAgain.RowSpots.{Spot, spot_noted, spot_of}
 use Rattle.yf_emit.proofs.Derived.RowsUtf8.{RowLines, row_more}
-use Rattle.yf_emit.specs.Layouts.KeptColumns.{Columns}
+use Rattle.yf_print.specs.Layouts.KeptColumns.{Columns}
+use Rattle.yf_emit.proofs.SameReading.SourceOffsets.{noted_upward}
 
 -- as many rows as there is carried by rows
 pub data Beside : List Row → List Deco → Type 0 where
@@ -83,10 +84,6 @@ noted_parts (x ∷ xs) (one_comment {b = b} n a) =
     let w = noted_parts xs a in
     let here : CommentValue = record x { blank_before = b } in
     record { one = here ∷ w.one; two = w.two; are = ap (λ z. here ∷ z) w.are; first = one_comment n w.first; second = w.second }
-
-pub noted_upward : {t : List ℕ} {es : List EventInText} {i : ℕ} {xs ys : List CommentValue} → Upward i xs → NotedComments t es xs ys → Upward i ys
-noted_upward upward_none no_comment = upward_none
-noted_upward (upward_more l u) (one_comment n a) = upward_more l (noted_upward u a)
 
 pub noted_under : {t : List ℕ} {es : List EventInText} {k : ℕ} {xs ys : List CommentValue} → Under k xs → NotedComments t es xs ys → Under k ys
 noted_under each_none no_comment = each_none

@@ -8,15 +8,15 @@ use Rattle.yf_comments.proofs.GapLinesLemmas.{texts}
 use Rattle.yf_events.specs.declared.lists.Lists.{Lists}
 use Rattle.yf_emit.specs.Layouts.Decorated.{Deco, comments_left, first_gap, gap_of, row_decos}
 use Rattle.yf_emit.specs.Layouts.Layout.{Source, own_line_comments, source_of, trailing}
-use Rattle.yf_emit.specs.Layouts.Rows.{Row, at_text_start}
+use Rattle.yf_print.specs.Layouts.Rows.{Row, at_text_start}
 use Rattle.yf_emit.proofs.SameReading.CommentsCut.{Each, each_none, Under, Upward, upward_none, upward_more, own_of}
 use Rattle.yf_emit.proofs.ReadAgain.GapsAgain.{Blanks, gap_at_end, gap_with}
 use Rattle.yf_emit.proofs.RowNodes.PlacedRows.{PlacedRow}
 use Rattle.yf_emit.proofs.ReadAgain.RowsAgain.{AllStay, stays_end, stays_row, Apart, Carry, apart_gap, apart_left, decos_again, gap_is, merged_own, merged_stand, stay_at_end, stay_before, walk_after}
-use Rattle.yf_emit.proofs.ReadAgain.CarriedAgain.{CarryAgain, NextTied, Owns, Tied, all_of, all_standing, carry_again, each_all, cut_over, first_from, first_over, next_apart, none_is_at, owns_upward, upward_join}
-use Rattle.yf_emit.specs.Layouts.KeptColumns.{Columns}
-use Rattle.yf_emit.specs.declared.style.Style.{Style}
-use Rattle.yf_emit.proofs.OutputLines.ColumnsHold.{WalkFrom}
+use Rattle.yf_emit.proofs.ReadAgain.CarriedAgain.{CarryAgain, NextTied, Owns, Tied, all_of, all_standing, carry_again, cut_over, first_from, first_over, next_apart, none_is_at, owns_upward, upward_join}
+use Rattle.yf_print.specs.Layouts.KeptColumns.{Columns}
+use Rattle.yf_forms.specs.declared.style.Style.{Style}
+use Rattle.yf_emit.proofs.OutputLines.ColumnsHold.{WalkFrom, every as each_all}
 
 -- The comments of q on lines of their own, as they are between its rows in the text t: those before the first row, and those after each. g are the
 -- columns that were laid out.

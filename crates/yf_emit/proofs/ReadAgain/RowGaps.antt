@@ -31,11 +31,12 @@ use Rattle.yf_grammar.proofs.Ends.BlankRuns.{ContentBefore}
 use Rattle.yf_stream.proofs.Offsets.BrokenEnds.{Broken, at_break, at_text_end}
 use Rattle.yf_emit.specs.Layouts.RowComments.{AreTrails, IsDeco}
 use Rattle.yf_emit.specs.Layouts.Decorated.{Deco, end_then, trails_then}
-use Rattle.yf_emit.specs.Layouts.Rows.{Row}
-use Rattle.yf_emit.proofs.ReadAgain.GapsInText.{GapIsAt, gap_over, gap_placed, note_at, place_of}
+use Rattle.yf_print.specs.Layouts.Rows.{Row}
+use Rattle.yf_emit.proofs.ReadAgain.GapsInText.{GapIsAt, gap_over, gap_placed, note_at}
 use Rattle.yf_emit.proofs.OutputLines.HeldLemmas.{SeenEnd}
 use Rattle.yf_emit.proofs.RowNodes.PlacedRows.{AtRow, EndsRow, LastEnd, OwnTail, after_line, after_scalar, PlacedRow}
 use Rattle.yf_emit.proofs.Columns.SourceColumns.{column_break}
+use Rattle.yf_emit.proofs.Derived.ClearRows.{place_of_rest as place_of}
 
 -- Chains.
 

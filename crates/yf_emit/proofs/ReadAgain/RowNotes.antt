@@ -14,7 +14,7 @@ use Rattle.yf_grammar.specs.Productions.ReadParts.{Noting, NotedSince, end_or, f
 use Rattle.yf_stream.specs.ReadingOf.{end_before, floor_at}
 use Rattle.yf_stream.proofs.BlankNotes.FloorWalk.{end_same}
 use Rattle.yf_emit.specs.Layouts.ReadableTrees.{is_block_style}
-use Rattle.yf_emit.specs.Layouts.Rows.{Row, after_key, blank_before_entry, joined}
+use Rattle.yf_print.specs.Layouts.Rows.{Row, after_key, blank_before_entry, joined}
 use Rattle.yf_emit.proofs.Columns.FlowEvents.{AllFlow, IsFlowEvent}
 use Rattle.yf_emit.proofs.RowNodes.FoundNodes.{IsHead, KeyRows, key_commented, key_above, key_alone, key_joined, SignRows, sign_alone, sign_joined}
 use Rattle.yf_emit.proofs.ReadAgain.GapNotes.{HeadNote, entry_head}

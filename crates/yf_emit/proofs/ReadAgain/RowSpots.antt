@@ -32,13 +32,15 @@ use Rattle.yf_stream.specs.ReadingOf.{NotedComments, no_comment, one_comment}
 use Rattle.yf_stream.proofs.Offsets.BrokenEnds.{Broken, at_break}
 use Rattle.yf_emit.specs.Layouts.RowComments.{AreTrails, IsDeco}
 use Rattle.yf_emit.specs.Layouts.Decorated.{Deco, body_then, end_then, gap_then, trails_then}
-use Rattle.yf_emit.specs.Layouts.Rows.{Row}
+use Rattle.yf_print.specs.Layouts.Rows.{Row}
 use Rattle.yf_emit.proofs.Derived.ClearRows.{trails_are, trails_bytes, trails_line}
 use Rattle.yf_emit.proofs.SameReading.CommentsCut.{each_none, each_more, Over, Under, upward_over, upward_of}
 use Rattle.yf_emit.proofs.RowNodes.PlacedRows.{Inside, one_inside, PlacedRow, AtRow, LeavesTo, leaf_to, leaves_to_wider, LastEnd, last_end, later_end, OwnTail, after_line, after_scalar, EndsRow}
 use Rattle.yf_emit.proofs.RowNodes.QuietPlaces.{ascend_under}
 use Rattle.yf_emit.proofs.OutputLines.SeenTexts.{IsSeen}
 use Rattle.yf_emit.proofs.Derived.StepsInText.{starts_of}
+use Rattle.yf_chars.proofs.CharFacts.{hash_no_white, space_white}
+use Rattle.yf_emit.proofs.OutputLines.LinedRows.{seen_long}
 
 -- an offset in a leaf, or after it on the line of an earlier place
 pub data InOrBeside (t : List ℕ) (from : ℕ) (s : Span) (o : ℕ) : Type 0 where
@@ -58,9 +60,6 @@ pub record Spot (t : List ℕ) (d : Deco) (p : PlacedRow) (own : List CommentVal
   pub starts : Inside p.from p.upto (starts_of p.leaves)
   pub clear : d.trails ≡ [] → ClearEnd t p own place
   pub trailed : (o : CommentValue) (os : List CommentValue) → own ≡ o ∷ os → (d.trails ≡ [] → ⊥) → (ls : List Span) (s : Span) → p.leaves ≡ ls ++ (s ∷ []) → InOrBeside t p.from s o.offset
-
-seen_long : {w : List ℕ} → IsSeen w → 0 < length w
-seen_long a = let l = ap length a.is in let b = len_utf8_bounds a.char in omega (arith, l, length-append (encode_utf8 a.char) a.follows, length-encode a.char, b)
 
 -- The last leaf.
 
@@ -97,20 +96,12 @@ abbrev offset_or : List CommentValue → ℕ
 offset_or [] = 0
 offset_or (c ∷ cs) = c.offset
 
-white_space : is_white 32 ≡ true
-unfolding is_white
-white_space = refl
-
-hash_no_white : is_white 35 ≡ false
-unfolding is_white
-hash_no_white = refl
-
 no_end_at_sign : {t : List ℕ} {i j : ℕ} → BreakOrEnd t i j → code t i ≡ 35 → ⊥
 no_end_at_sign {t} (by_break b) e = ⊎_elim (λ z. omega (arith, z, e)) (λ z. omega (arith, z, e)) (break_char b)
 no_end_at_sign {t} (by_end q) e = let end : code t (length t) ≡ no_char = code-end t in let here : code t (length t) ≡ 35 = ap (code t) (sym q) ∙ e in omega (arith, end, here)
 
 no_end_at_space : {t : List ℕ} {i j : ℕ} → BreakOrEnd t i j → code t i ≡ 32 → ⊥
-no_end_at_space b e = true≢false (sym white_space ∙ (ap is_white (sym e) ∙ end_white b))
+no_end_at_space b e = true≢false (sym space_white ∙ (ap is_white (sym e) ∙ end_white b))
 
 first_place : {t : List ℕ} {q j : ℕ} {own : List CommentValue} (x z : List ℕ) (o : CommentValue) (os : List CommentValue) → IsUtf8 t → IsRemark x → (LineStart t q → ⊥) → Rest t q (32 ∷ 32 ∷ (x ++ (10 ∷ z)))
     → LineEnd t q j own → own ≡ o ∷ os → o.offset ≡ q + 2

@@ -7,9 +7,10 @@ use Rattle.yf_comments.specs.GapLines.{remarks_of}
 use Rattle.yf_events.specs.declared.event.Span.{Span}
 use Rattle.yf_emit.specs.Layouts.RowComments.{AreDecos, AreTrails}
 use Rattle.yf_emit.specs.Layouts.Decorated.{Deco, blank_if, comments_left, decos_of, gap_of}
-use Rattle.yf_emit.specs.Layouts.Layout.{Source, may_be_blank_after, precedes_item, trailing, trimmed}
+use Rattle.yf_emit.specs.Layouts.Layout.{Source, may_be_blank_after, precedes_item, trailing}
+use Rattle.yf_forms.specs.Nodes.Lines.{trimmed}
 use Rattle.yf_emit.specs.Layouts.RowShapes.{RowShape, shape_of}
-use Rattle.yf_emit.specs.Layouts.Rows.{Row, Ending}
+use Rattle.yf_print.specs.Layouts.Rows.{Row, Ending}
 use Rattle.yf_emit.proofs.SecondRun.AlikeLemmas.{shapes}
 use Rattle.yf_emit.proofs.ReadAgain.CarriedAgain.{NextTied, bare_next, items_next}
 use Rattle.yf_emit.proofs.SameReading.CommentsCut.{In, Each, each_none, each_more, drop_all}
@@ -20,7 +21,7 @@ use Rattle.yf_emit.proofs.Derived.RowEnds.{first_deco, after_decos}
 use Rattle.yf_emit.proofs.SameReading.RowFlow.{greatest, precedes_greatest}
 use Rattle.yf_emit.proofs.Trails.RowTrails.{trail_of}
 use Rattle.yf_emit.proofs.ReadAgain.TrailAgain.{LaidRow}
-use Rattle.yf_emit.specs.Layouts.KeptColumns.{Columns, is_before_first}
+use Rattle.yf_print.specs.Layouts.KeptColumns.{Columns, is_before_first}
 use Rattle.std.proofs.lemmas.Bool.Decides.{nat_tests}
 
 -- A row x that was laid out, as it is found, and as it is: of a node, or before the node of a document. The item of a document is on the first of
@@ -33,10 +34,6 @@ pub data Tie (cs : List CommentValue) (x row : Row) (p : PlacedRow) : Type 0 whe
 pub data Ties (cs : List CommentValue) : List Row → List Row → List PlacedRow → Type 0 where
   no_ties : Ties cs [] [] []
   a_tie : {x row : Row} {xs rows : List Row} {p : PlacedRow} {ps : List PlacedRow} → Tie cs x row p → Ties cs xs rows ps → Ties cs (x ∷ xs) (row ∷ rows) (p ∷ ps)
-
-pub ties_join : {cs : List CommentValue} {xs ys rows others : List Row} {ps qs : List PlacedRow} → Ties cs xs rows ps → Ties cs ys others qs → Ties cs (xs ++ ys) (rows ++ others) (ps ++ qs)
-ties_join no_ties b = b
-ties_join (a_tie t a) b = a_tie t (ties_join a b)
 
 pub tie_leaves : {cs : List CommentValue} {x row : Row} {p : PlacedRow} → Tie cs x row p → row.leaves ≡ p.leaves
 tie_leaves (node_tie a b c) = b

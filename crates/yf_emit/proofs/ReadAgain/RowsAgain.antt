@@ -6,15 +6,18 @@ use Rattle.std.proofs.lemmas.List.Elements.{filter-append}
 use Rattle.yf_comments.specs.Comment.{CommentValue}
 use Rattle.yf_emit.specs.Layouts.Decorated.{Deco, GapLine, comments_left, decos_of, gap_of}
 use Rattle.yf_emit.specs.Layouts.Layout.{Source, is_among, may_be_blank_after, precedes_item, trailing}
-use Rattle.yf_emit.specs.Layouts.Rows.{Row, Ending}
-use Rattle.yf_emit.proofs.SameReading.CommentsCut.{Each, each_at, each_map, each_none, each_more, Under, Over, Upward, upward_none, upward_more, upward_over, keep_all, drop_all, itself, none_below, none_above, among_join, own_of}
+use Rattle.yf_print.specs.Layouts.Rows.{Row, Ending}
+use Rattle.yf_emit.proofs.SameReading.CommentsCut.{Each, each_at, each_map, each_none, each_more, Under, Over, Upward, upward_none, upward_more, upward_over, keep_all, drop_all, none_below, none_above, among_join, own_of}
 use Rattle.yf_emit.proofs.ReadAgain.GapsAgain.{Blanks, gap_again, gap_at_end, gap_with}
 use Rattle.yf_emit.proofs.SameReading.PrintSteps.{trimmed_texts}
-use Rattle.yf_emit.specs.Layouts.KeptColumns.{Columns, after_row, beginning, column_above, column_among_rows, columns_if, is_before_first, is_bodyless, keeps_blocks}
-use Rattle.yf_emit.specs.Layouts.SourceColumns.{own_column}
-use Rattle.yf_emit.specs.Layouts.CommentColumns.{Beginning, OpenBlock, begins_document, comment_column}
-use Rattle.yf_emit.specs.declared.style.Style.{Style}
+use Rattle.yf_print.specs.Layouts.KeptColumns.{Columns, after_row, beginning, column_above, column_among_rows, columns_if, is_before_first, is_bodyless, keeps_blocks}
+use Rattle.yf_print.specs.Layouts.SourceColumns.{own_column}
+use Rattle.yf_print.specs.Layouts.CommentColumns.{Beginning, begins_document, comment_column}
+use Rattle.yf_print.specs.declared.open_blocks.OpenBlock.{OpenBlock}
+use Rattle.yf_forms.specs.declared.style.Style.{Style}
 use Rattle.yf_emit.proofs.OutputLines.ColumnsHold.{GapHolds, WalkFrom, walk_above, walk_past}
+use Rattle.yf_emit.proofs.RowNodes.QuietPlaces.{under_more}
+use Rattle.yf_forms.proofs.Decide.LeafLemmas.{same as itself}
 
 -- Two lists of comments as one.
 
@@ -26,10 +29,6 @@ pub data Merged : List CommentValue → List CommentValue → List CommentValue 
 pub merged_stand : (xs : List CommentValue) {ts hs cs : List CommentValue} → Merged ts hs cs → Merged ts (xs ++ hs) (xs ++ cs)
 merged_stand [] m = m
 merged_stand (x ∷ xs) m = one_is_at (merged_stand xs m)
-
-under_wider : {h k : ℕ} {ds : List CommentValue} → h ≤ k → Under h ds → Under k ds
-under_wider l each_none = each_none
-under_wider l (each_more {d = d} m a) = each_more (omega (arith, l, m)) (under_wider l a)
 
 under_one : {h : ℕ} {gone : List CommentValue} (e : CommentValue) → h ≤ e.offset → Under h gone → Under (e.offset + 1) (gone ++ (e ∷ []))
 under_one e l each_none = each_more {d = e} (omega arith) each_none
@@ -55,7 +54,7 @@ merged_own gone u (upward_more {c = h} {cs = cs} l a) (one_is_at {ts = ts} {hs =
     let here : is_among (gone ++ ts) h ≡ false =
     among_join gone ts h ∙ (ap (λ b. b || is_among ts h) (none_below h l u) ∙ none_above h (omega arith) (merged_over m (upward_over (h.offset + 1) (omega arith) a))) in
     ap (λ b. cond (not b) (h ∷ filter own cs) (filter own cs)) here
-    ∙ ap (λ z. h ∷ z) (merged_own gone (under_wider (omega (arith, l)) u) a m)
+    ∙ ap (λ z. h ∷ z) (merged_own gone (under_more (omega (arith, l)) u) a m)
 
 -- Filters.
 

@@ -13,7 +13,7 @@ use Rattle.yf_stream.specs.ReadingOf.{leaf_lines}
 use Rattle.yf_emit.specs.Layouts.RowComments.{carried_texts}
 use Rattle.yf_emit.specs.Layouts.Decorated.{Deco}
 use Rattle.yf_emit.specs.Layouts.Layout.{Source, is_among, trailing}
-use Rattle.yf_emit.specs.Layouts.Rows.{Row}
+use Rattle.yf_print.specs.Layouts.Rows.{Row}
 use Rattle.yf_emit.proofs.ReadAgain.AllBlanks.{AllBlanks, last_blanks, row_blanks}
 use Rattle.yf_emit.proofs.ReadAgain.CarriedAgain.{Owns, last_owns, row_owns, Tied, last_tied, row_tied, TrailTied, nothing_trails, all_of, first_from, owns_upward}
 use Rattle.yf_emit.proofs.SameReading.CommentsCut.{In, in_first, in_after, in_before, each_none, each_more, each_join, each_map, Under, Over, upward_over, among_join, none_below, none_above}
@@ -30,7 +30,8 @@ use Rattle.yf_emit.proofs.SameReading.StartsBefore.{AllFrom, none_later, one_lat
 use Rattle.yf_emit.proofs.Derived.StepsInText.{starts_of, starts_append}
 use Rattle.yf_emit.proofs.ReadAgain.TrailAgain.{LaidRow, row_trail_tied, sub_inside}
 use Rattle.yf_emit.proofs.Trails.TrailChoice.{rising}
-use Rattle.yf_emit.specs.Layouts.KeptColumns.{Columns}
+use Rattle.yf_print.specs.Layouts.KeptColumns.{Columns}
+use Rattle.yf_chars.proofs.Tests.{none_some}
 
 abbrev offset_or : List CommentValue → ℕ
 offset_or [] = 0
@@ -38,9 +39,6 @@ offset_or (c ∷ cs) = c.offset
 
 no_comments : {x : CommentValue} {xs : List CommentValue} → x ∷ xs ≡ [] → ⊥
 no_comments e = absurd cc
-
-no_option : {A : Type 0} {a : A} → None ≡ Some a → ⊥
-no_option e = absurd cc
 
 no_texts : {x : List ℕ} {xs : List (List ℕ)} → [] ≡ x ∷ xs → ⊥
 no_texts e = absurd cc
@@ -74,8 +72,8 @@ module _ {t : List ℕ} (lines : List Line) (are_lines : AreLines t lines) (c : 
   -- it is after an item on the row, and no other comment between
   key_is_at : {x row : Row} {rows : List Row} {p : PlacedRow} (P : ℕ → Type 0) (k : CommentValue) → row.key_comment ≡ Some k → Tie cs x row p → Inside p.from p.upto p.items → RowTrail c cs row rows
       → ((a : ℕ) → p.from ≤ a → a ≤ p.upto → a < k.offset → ((d : CommentValue) → In d cs → d.offset < k.offset → d.offset < a) → P k.offset) → P k.offset
-  key_is_at P k e (start_tie s a b d none f g) inside trail go = absurd (no_option (sym none ∙ e))
-  key_is_at P k e (head_tie a b d f none) inside trail go = absurd (no_option (sym none ∙ e))
+  key_is_at P k e (start_tie s a b d none f g) inside trail go = absurd (none_some (sym none ∙ e))
+  key_is_at P k e (head_tie a b d f none) inside trail go = absurd (none_some (sym none ∙ e))
   key_is_at {row = row} P k e (node_tie items leaves bare) inside (untrailed q) go = absurd (no_comments (sym (key_trails row k e) ∙ q))
   key_is_at {row = row} {p = p} P k e (node_tie items leaves bare) inside (trailed_after d a q i s l f g h m n near) go =
       let same : d.offset ≡ k.offset = ap offset_or (sym q ∙ key_trails row k e) in
@@ -96,7 +94,7 @@ module _ {t : List ℕ} (lines : List Line) (are_lines : AreLines t lines) (c : 
       subst (λ z. Under place (option_to_list z)) (sym e) (each_more (key_is_at (λ z. z < place) k e tie inside trail (λ a low high after first. by own d.trails refl among over under is a high first)) each_none) where
         by : (os : List CommentValue) (xs : List (List ℕ)) → d.trails ≡ xs → ((b : CommentValue) → In b os → In b cs) → Over p.upto os → Under place os → texts os ≡ carried_texts d → (a : ℕ) → a ≤ p.upto
             → ((v : CommentValue) → In v cs → v.offset < k.offset → v.offset < a) → k.offset < place
-        by os [] f g m n w a high first = absurd (no_option (sym (laid.keyless f) ∙ e))
+        by os [] f g m n w a high first = absurd (none_some (sym (laid.keyless f) ∙ e))
         by [] (x ∷ xs) f g m n w a high first = absurd (no_texts (w ∙ ap (λ z. z ++ remarks_of d.gap) f))
         by (o ∷ os) (x ∷ xs) f g (each_more m ms) (each_more n ns) w a high first =
             ⊎_elim (λ (z : o.offset < k.offset). let y : o.offset < a = first o (g o in_first) z in absurd (omega (arith, y, high, m))) (λ (z : k.offset ≤ o.offset). omega (arith, z, n)) (cases_lt o.offset k.offset)

@@ -1,6 +1,7 @@
 -- The rows of a node that is found are those of the same node with other notes on blank lines.
 use Rattle.std.proofs.Common.{◌≡◌, ℕ, ◌+◌, Bool, true, false, List, ◌++◌, length, map, Option, Some, None, refl, sym, ap, ◌∙◌, subst}
 use Rattle.std.specs.Prelude.{is_some}
+use Rattle.std.proofs.lemmas.Option.{same_Some}
 use Rattle.yf_lines.specs.LineText.{IsLineText}
 use Rattle.yf_lines.specs.Rest.{Rest}
 use Rattle.yf_props.specs.Props.{PropsValue}
@@ -11,11 +12,11 @@ use Rattle.yf_events.specs.Tree.{NodeOffsets, Node, scalar, alias, sequence, map
 use Rattle.yf_grammar.specs.Productions.TreesOfMeaning.{Anywhere}
 use Rattle.yf_grammar.proofs.WrittenTexts.KeptNodes.{SameEntry, no_entry, same_entry, SameStanding, Kept, kept_scalar, kept_alias, kept_sequence, kept_mapping, KeptItems, kept_no_items, kept_item, KeptPairs, kept_no_pairs, kept_pair, kept_standing}
 use Rattle.yf_grammar.proofs.NodesInText.NodePlaces.{Begins, ColonIsAt, NodeIsAt, is_at_nowhere, scalar_is_at, alias_is_at, sequence_is_at, mapping_is_at, ItemsStand, no_items_stand, item_is_at, PairsStand, no_pairs_stand, pair_is_at}
-use Rattle.yf_emit.specs.declared.style.Style.{Style}
+use Rattle.yf_forms.specs.declared.style.Style.{Style}
 use Rattle.yf_emit.specs.Layouts.ReadableTrees.{FitProps}
-use Rattle.yf_emit.specs.NormalForms.Normal.{LayoutSetting, Spot, entry_or}
-use Rattle.yf_emit.specs.Nodes.OneLine.{written}
-use Rattle.yf_emit.specs.Layouts.Rows.{begins_below, colon_offset}
+use Rattle.yf_forms.specs.NormalForms.Normal.{LayoutSetting, Spot, entry_or}
+use Rattle.yf_forms.specs.Nodes.OneLine.{written}
+use Rattle.yf_print.specs.Layouts.Rows.{begins_below, colon_offset}
 use Rattle.yf_emit.proofs.SecondRun.AlikeLemmas.{same_below, same_implicit, same_written}
 use Rattle.yf_emit.proofs.RowNodes.BareNodes.{bare, bare_entry, bare_items, bare_pairs, bare_standing}
 use Rattle.yf_emit.proofs.Columns.FlowHeads.{Bracketed, is_bracketed}
@@ -163,13 +164,10 @@ record EntryStays (e : Entry) (o : Option Entry) : Type 0 where
   start : e.start ≡ entry.start
   colon : e.colon ≡ entry.colon
 
-some_one : {e f : Entry} → Some e ≡ Some f → e ≡ f
-some_one e = cc
-
 entry_stays : {o p : Option Entry} {e : Entry} → SameEntry o p → o ≡ Some e → EntryStays e p
 entry_stays {e = e} (no_entry f g) q = let no : None ≡ Some e = sym f ∙ q in absurd cc
 entry_stays (same_entry w b f g) q =
-    let one = some_one (sym q ∙ f) in
+    let one = same_Some _ _ (sym q ∙ f) in
     record { entry = record w { blank_before = b }; is = g; start = ap (λ (v : Entry). v.start) one; colon = ap (λ (v : Entry). v.colon) one }
 
 none_stays : {o p : Option Entry} → SameEntry o p → o ≡ None → p ≡ None

@@ -23,8 +23,9 @@ use Rattle.yf_stream.specs.ReadingOf.{is_on_line, last_leaf, leaf_lines, on_line
 use Rattle.yf_stream.proofs.Offsets.BrokenEnds.{Broken}
 use Rattle.yf_emit.specs.Layouts.RowComments.{AreTrails, carried_texts}
 use Rattle.yf_emit.specs.Layouts.Decorated.{Deco}
-use Rattle.yf_emit.specs.Layouts.Layout.{Remark, Source, first_comment, is_among, is_before, next_leaf, trailing, trailing_leaf, trimmed}
-use Rattle.yf_emit.specs.Layouts.Rows.{Row}
+use Rattle.yf_emit.specs.Layouts.Layout.{Remark, Source, first_comment, is_among, is_before, next_leaf, trailing, trailing_leaf}
+use Rattle.yf_forms.specs.Nodes.Lines.{trimmed}
+use Rattle.yf_print.specs.Layouts.Rows.{Row}
 use Rattle.yf_emit.proofs.ReadAgain.CarriedAgain.{TrailTied, nothing_trails, first_trails}
 use Rattle.yf_emit.proofs.SameReading.CommentsCut.{In, in_first, in_rest, Each, each_more, each_at, each_map, Under, Over}
 use Rattle.yf_emit.proofs.SameReading.DocumentsFlow.{note_is, on_line_before}
@@ -39,6 +40,8 @@ use Rattle.yf_emit.proofs.SameReading.StartsBefore.{AllFrom, none_later, one_lat
 use Rattle.yf_emit.proofs.Derived.StepsInText.{starts_of}
 use Rattle.yf_emit.proofs.Trails.TrailChoice.{next_after, rising, start_of_first}
 use Rattle.yf_emit.proofs.SameReading.UprightRows.{EndsIn, ends_in_none, ends_in, ending_of, last_is}
+use Rattle.yf_chars.proofs.Tests.{below, not_below, is_less, none_some}
+use Rattle.yf_forms.proofs.Measure.OffsetLemmas.{or_true}
 
 -- A row as it is found, and what it carried where it was laid out.
 pub record LaidRow (d : Deco) (row : Row) : Type 0 where
@@ -52,15 +55,11 @@ pub record LaidRow (d : Deco) (row : Row) : Type 0 where
 holds_both : (s n end o : ℕ) → s ≤ o → o < n → s < end → end ≤ n → (nat_le s o && nat_lt o n && nat_lt s end && nat_le end n) ≡ true
 holds_both s n end o a b c d = grind (arith, nat_tests)
 
-always : (b : Bool) → (b || true) ≡ true
-always true = refl
-always false = refl
-
 -- a place after which no line begins up to an offset is on the offset's line
 line_holds : {t : List ℕ} {h k : ℕ} {ls : List Line} → Chain (OneLine t) h k ls → k ≡ length t → (from end o : ℕ) → h ≤ from → from < end → end ≤ o → o < length t → Quiet t from o → list_any (is_on_line end o) ls ≡ true
 line_holds done e from end o a b c d q = absurd (omega (arith, e, a, b, c, d))
 line_holds {t} (step {y = others} (one_line {l = line} s) more) e from end o a b c d q =
-    ⊎_elim (λ (z : from < line.next). here z) (λ (z : line.next ≤ from). ap (λ w. is_on_line end o line || w) (line_holds more e from end o z b c d q) ∙ always (is_on_line end o line)) (cases_lt from line.next) where
+    ⊎_elim (λ (z : from < line.next). here z) (λ (z : line.next ≤ from). ap (λ w. is_on_line end o line || w) (line_holds more e from end o z b c d q) ∙ or_true (is_on_line end o line)) (cases_lt from line.next) where
       ended : {h n : ℕ} → LineEnd t h n → from < n → n ≤ o → ⊥
       ended {n = n} (at_break f) z y = q.none n z y (after_break f)
       ended (at_end f) z y = omega (arith, y, f, d)
@@ -77,15 +76,6 @@ first_passing : (p g : CommentValue → Bool) (before : List CommentValue) (o : 
 first_passing p g [] o rest a e = ap (λ b. if b then Some (o, g o) else find (λ (q : Remark). p q.0) (zip rest (map g rest))) e
 first_passing p g (b ∷ before) o rest (each_more f a) e =
     ap (λ w. if w then Some (b, g b) else find (λ (q : Remark). p q.0) (zip (before ++ (o ∷ rest)) (map g (before ++ (o ∷ rest))))) f ∙ first_passing p g before o rest a e
-
-less : (m n : ℕ) → nat_lt m n ≡ true → m < n
-less m n e = grind (arith, nat_tests)
-
-below : (m n : ℕ) → m < n → nat_lt m n ≡ true
-below m n l = grind (arith, nat_tests)
-
-not_below : (m n : ℕ) → n ≤ m → nat_lt m n ≡ false
-not_below m n l = grind (arith, nat_tests)
 
 right_nothing : (xs ys : List CommentValue) → xs ++ ys ≡ [] → ys ≡ []
 right_nothing [] ys e = e
@@ -112,9 +102,6 @@ in_parts (x ∷ xs) ys (in_rest i) = ⊎_elim (λ z. inl (in_rest z)) (λ z. inr
 pub sub_inside : {a i j : ℕ} {is : List ℕ} → Sub (a ∷ []) is → Inside i j is → (i ≤ a) × (a ≤ j)
 sub_inside (sub_take s) (one_inside l m b) = (l, m)
 sub_inside (sub_skip s) (one_inside l m b) = sub_inside s b
-
-no_option : {A : Type 0} {a : A} → None ≡ Some a → ⊥
-no_option e = absurd cc
 
 no_texts : {x : List ℕ} {xs : List (List ℕ)} → x ∷ xs ≡ [] → ⊥
 no_texts e = absurd cc
@@ -149,13 +136,13 @@ module _ {t : List ℕ} (lines : List Line) (are_lines : AreLines t lines) (c : 
 
   -- a comment that trails a row where none was laid out
   trails_unseen : (row : Row) (rows : List Row) (e : CommentValue) (j : ℕ) → row.key_comment ≡ None → LeavesTo j row.leaves → Broken t j → j ≤ e.offset → In e cs → Near c row e rows → ⊥
-  trails_unseen row rows e j none reach broken low i (before_leaf key next more q s has l) = no_option (sym none ∙ key)
+  trails_unseen row rows e j none reach broken low i (before_leaf key next more q s has l) = none_some (sym none ∙ key)
   trails_unseen row rows e j none reach broken low i (at_leaf s r has last first same test) = go (nat_lt e.offset s.end) refl test where
     end : s.end ≤ j
     end = has_to reach has
 
     go : (b : Bool) → nat_lt e.offset s.end ≡ b → (b || r.1) ≡ true → ⊥
-    go true q f = let l : e.offset < s.end = less e.offset s.end q in omega (arith, l, end, low)
+    go true q f = let l : e.offset < s.end = is_less e.offset s.end q in omega (arith, l, end, low)
     go false q f =
         let noted : mark e ≡ true = ap mark (sym same) ∙ (sym (note_is lines are_lines c cs remarks sign s r first) ∙ f) in
         let on : list_any (is_on_line s.end e.offset) lines ≡ true = sym (ap (λ o. on_line_of lines o e.offset) last) ∙ noted in
@@ -170,7 +157,7 @@ module _ {t : List ℕ} (lines : List Line) (are_lines : AreLines t lines) (c : 
       let last : last_leaf None o.offset c.leaves ≡ Some s = ap (last_leaf None o.offset) apart ∙ last_is (pre ++ ls) s post o.offset after later None in
       let within : o.offset < length t = within_from_code t o.offset (omega (arith, sign o i)) in
       let on : list_any (is_on_line s.end o.offset) lines ≡ true = line_holds are_lines refl from s.end o.offset (omega arith) l m within quiet in
-      ap (λ b. nat_lt o.offset s.end || b) (ap (λ w. on_line_of lines w o.offset) last ∙ on) ∙ always (nat_lt o.offset s.end)
+      ap (λ b. nat_lt o.offset s.end || b) (ap (λ w. on_line_of lines w o.offset) last ∙ on) ∙ or_true (nat_lt o.offset s.end)
 
   module _ {d : Deco} {p : PlacedRow} {own : List CommentValue} {place top : ℕ} (row : Row) (rows : List Row) (pre : List Span) (before rest : List CommentValue) (laid : LaidRow d row) (leaves : row.leaves ≡ p.leaves) (spot : Spot t d p own place)
       (all : c.leaves ≡ pre ++ (row.leaves ++ leaves_on rows)) (later : AllFrom top (starts_of (leaves_on rows)))

@@ -7,7 +7,7 @@ use Rattle.yf_events.specs.Event.{EventInText, sequence_ends, mapping_ends}
 use Rattle.yf_events.specs.declared.event.Entry.{Entry}
 use Rattle.yf_events.specs.Tree.{NodeOffsets, Node, scalar, alias, sequence, mapping, Items, no_items, item, Pairs, no_pairs, pair, DocumentTree, flat, flat_items, flat_pairs, leaves, leaves_of_items, leaves_of_pairs, is_text, is_filled_flow, standing, unplaced}
 use Rattle.yf_grammar.specs.Productions.ReadParts.{Noting, no_event, without_entry, with_entry}
-use Rattle.yf_emit.specs.NormalForms.Normal.{entry_or, first_between, key_comment, key_start, last_start}
+use Rattle.yf_forms.specs.NormalForms.Normal.{entry_or, first_between, key_comment, key_start, last_start}
 
 abbrev pub bare_entry : Option Entry → Option Entry
 bare_entry None = None

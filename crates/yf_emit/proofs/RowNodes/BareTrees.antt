@@ -9,7 +9,7 @@ use Rattle.yf_events.specs.Tree.{Node, scalar, alias, sequence, mapping, Items, 
 use Rattle.yf_events.specs.declared.lists.Lists.{Lists}
 use Rattle.yf_events.proofs.TreeLemmas.{trees_unique}
 use Rattle.yf_grammar.specs.Productions.TreesOfMeaning.{Anywhere}
-use Rattle.yf_emit.specs.declared.style.Style.{Style}
+use Rattle.yf_forms.specs.declared.style.Style.{Style}
 use Rattle.yf_emit.specs.Preservation.AlikeBlocks.{AlikeBlocks, alike_lines, alike_block_sequences, alike_block_mappings, AlikeBlockItems, no_block_items, block_item, AlikeBlockPairs, no_block_pairs, block_pair}
 use Rattle.yf_emit.specs.Layouts.RowShapes.{KeysAgree}
 use Rattle.yf_emit.specs.Nodes.FlowsWithoutComments.{Undisturbed, undisturbed_scalar, undisturbed_alias, undisturbed_sequence, undisturbed_mapping, UndisturbedItems, undisturbed_end, undisturbed_item, UndisturbedPairs, undisturbed_last, undisturbed_pair}

@@ -8,14 +8,14 @@ use Rattle.yf_props.specs.Props.{PropsValue}
 use Rattle.yf_events.specs.declared.event.Span.{Span}
 use Rattle.yf_events.specs.Tree.{Node, scalar, alias, sequence, mapping, Items, no_items, item, Pairs, no_pairs, pair, leaves, is_text, is_filled_flow, is_block_collection}
 use Rattle.yf_grammar.specs.Productions.Meaning.{from_to}
-use Rattle.yf_grammar.proofs.NodesInText.NodePlaces.{NodeIsAt, is_at_nowhere, scalar_is_at, alias_is_at, sequence_is_at, mapping_is_at, ItemsStand, no_items_stand, item_is_at, PairsStand, no_pairs_stand, pair_is_at, node_order, items_order, pairs_order}
-use Rattle.yf_emit.specs.declared.style.Style.{Style}
-use Rattle.yf_emit.specs.Nodes.ContentStart.{content_start, past_gap, past_second, property_len}
-use Rattle.yf_emit.specs.Nodes.OneLineFlows.{has_comment, is_within}
-use Rattle.yf_emit.specs.NormalForms.Normal.{LayoutSetting, Spot, key_start, last_start}
+use Rattle.yf_grammar.proofs.NodesInText.NodePlaces.{NodeIsAt, is_at_nowhere, scalar_is_at, alias_is_at, sequence_is_at, mapping_is_at, ItemsStand, no_items_stand, item_is_at, PairsStand, no_pairs_stand, pair_is_at, node_order, items_order, pairs_order, colon_order}
+use Rattle.yf_forms.specs.declared.style.Style.{Style}
+use Rattle.yf_forms.specs.Nodes.ContentStart.{content_start, past_gap, past_second, property_len}
+use Rattle.yf_forms.specs.Nodes.OneLineFlows.{has_comment, is_within}
+use Rattle.yf_forms.specs.NormalForms.Normal.{LayoutSetting, Spot, key_start, last_start}
 use Rattle.yf_emit.specs.Nodes.FlowsWithoutComments.{Undisturbed, undisturbed_scalar, undisturbed_alias, undisturbed_sequence, undisturbed_mapping, UndisturbedItems, undisturbed_end, undisturbed_item, UndisturbedPairs, undisturbed_last, undisturbed_pair}
 use Rattle.yf_emit.proofs.SameReading.CommentsCut.{In, in_first, in_rest, Each, each_none, each_more, each_map}
-use Rattle.yf_emit.proofs.RowNodes.FoundLines.{colon_order, leaves_inside}
+use Rattle.yf_emit.proofs.RowNodes.FoundLines.{leaves_inside}
 use Rattle.yf_emit.proofs.RowNodes.FoundNodes.{SignRows, sign_alone, sign_joined, KeyRows, key_commented, key_above, key_alone, key_joined, KeyOn, key_on, NodeRows, no_rows, line_rows, scalar_rows, sequence_rows, sequence_after, mapping_rows, mapping_after, ItemsRows, no_item_rows, item_rows, PairRows, explicit_rows, implicit_rows, PairsRows, no_pair_rows, pair_rows}
 use Rattle.yf_emit.proofs.RowNodes.PlacedRows.{Inside, one_inside, inside_wider, PlacedRow}
 use Rattle.yf_emit.proofs.RowNodes.QuietPlaces.{Quiet, AllQuiet, quiet_none, quiet_row, TrailsTo, trails_nothing, trails_to, Linked, linked_none, linked_row, quiet_left, quiet_right}

@@ -10,12 +10,13 @@ use Rattle.yf_events.specs.declared.event.ScalarStyle.TheVariants.{Plain, Single
 use Rattle.yf_events.specs.declared.event.Span.{Span}
 use Rattle.yf_events.specs.Tree.{Node, NodeOffsets, scalar, alias, sequence, mapping, Items, no_items, item, Pairs, no_pairs, pair, leaves, is_text, is_filled_flow, is_block_collection, props_of}
 use Rattle.yf_grammar.specs.Productions.TreesOfMeaning.{Anywhere}
-use Rattle.yf_emit.specs.declared.style.Style.{Style}
+use Rattle.yf_forms.specs.declared.style.Style.{Style}
 use Rattle.yf_emit.specs.Preservation.AlikeBlocks.{AlikeBlocks, alike_lines, alike_block_sequences, alike_block_mappings, AlikeBlockItems, no_block_items, block_item, AlikeBlockPairs, no_block_pairs, block_pair}
 use Rattle.yf_emit.specs.Layouts.ReadableTrees.{is_inline}
-use Rattle.yf_emit.specs.NormalForms.Normal.{LayoutSetting, Spot, first_between, fits, inner_spot, is_implicit, key_comment, key_spot, key_start, settled, settled_items, settled_pairs, value_entries, value_of_implicit, value_spot}
-use Rattle.yf_emit.specs.Nodes.OneLine.{props_text, width, written}
-use Rattle.yf_emit.specs.Layouts.Rows.{begins_below, is_empty_text}
+use Rattle.yf_forms.specs.NormalForms.Normal.{LayoutSetting, Spot, first_between, fits, inner_spot, is_implicit, key_comment, key_spot, key_start, settled, settled_items, settled_pairs, value_entries, value_of_implicit, value_spot}
+use Rattle.yf_forms.specs.Nodes.OneLine.{props_text, width, written}
+use Rattle.yf_print.specs.Layouts.Rows.{begins_below}
+use Rattle.yf_forms.specs.Nodes.Lines.{is_empty_text}
 use Rattle.yf_emit.proofs.SecondRun.AlikeLemmas.{same_block, same_filled_flow, same_implicit, same_leaves, same_text}
 use Rattle.yf_emit.proofs.SecondRun.FixedNodes.{first_item, first_key, first_value, flow_of, items_of, more_items, more_pairs, pairs_of}
 use Rattle.yf_emit.proofs.RowNodes.FoundAgree.{OnRow, on_row, key_between, key_linked, key_quiet, no_value, none_found, sign_linked, sign_quiet, some_found, value_row}
@@ -23,6 +24,7 @@ use Rattle.yf_emit.proofs.RowNodes.FoundNodes.{KeyRows, key_commented, key_above
 use Rattle.yf_emit.proofs.RowNodes.PlacedRows.{Inside, one_inside, PlacedRow}
 use Rattle.yf_emit.proofs.RowNodes.QuietPlaces.{AllQuiet, quiet_row, TrailsTo, trails_to, Linked, linked_row, quiet_left, quiet_right, linked_left, linked_right}
 use Rattle.yf_emit.proofs.Derived.StepsInText.{starts_of}
+use Rattle.yf_emit.proofs.OutputLines.ChainedRows.{inline_no_block}
 
 -- The comment of a key.
 
@@ -136,16 +138,6 @@ explicit_nowhere c m column (mapping at flow props (pair k v ps)) e h f =
     marked_flow c.style m column flow (nat_le (width (written c.style X)) 1023) X (mapping at false props (settled_pairs c (m + c.style.indent) (pair k v ps))) refl refl f e h
 
 -- Trees.
-
-inline_no_block : (y : Node) → is_inline y ≡ true → is_block_collection y ≡ false
-inline_no_block (scalar at props style text lines) e = refl
-inline_no_block (alias at name) e = refl
-inline_no_block (sequence at true props no_items) e = refl
-inline_no_block (sequence at true props (item x xs)) e = refl
-inline_no_block (sequence at false props xs) e = absurd (true≢false (sym e))
-inline_no_block (mapping at true props no_pairs) e = refl
-inline_no_block (mapping at true props (pair k v ps)) e = refl
-inline_no_block (mapping at false props ps) e = absurd (true≢false (sym e))
 
 items_settle : (c : LayoutSetting) (spot : Spot) (at : NodeOffsets) (props : PropsValue) (xs : Items) → settled c spot (sequence at false props xs) ≡ sequence at false props xs → settled_items c spot.entries xs ≡ xs
 items_settle c spot at props no_items h = refl

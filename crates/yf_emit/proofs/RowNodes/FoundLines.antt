@@ -17,15 +17,15 @@ use Rattle.yf_events.proofs.TreeLemmas.{node_unique}
 use Rattle.yf_grammar.specs.Productions.Meaning.{Meaning, noting, from_to}
 use Rattle.yf_grammar.specs.Productions.TreesOfMeaning.{Anywhere, MeansTrees}
 use Rattle.yf_grammar.proofs.Documents.CommentOrder.{Ascend, end_ascends}
-use Rattle.yf_grammar.proofs.NodesInText.NodePlaces.{ColonIsAt, no_colon, a_colon, NodeIsAt, is_at_nowhere, scalar_is_at, alias_is_at, sequence_is_at, mapping_is_at, ItemsStand, no_items_stand, item_is_at, PairsStand, no_pairs_stand, pair_is_at, node_order, items_order, pairs_order, node_upto}
+use Rattle.yf_grammar.proofs.NodesInText.NodePlaces.{ColonIsAt, no_colon, a_colon, NodeIsAt, is_at_nowhere, scalar_is_at, alias_is_at, sequence_is_at, mapping_is_at, ItemsStand, no_items_stand, item_is_at, PairsStand, no_pairs_stand, pair_is_at, node_order, items_order, pairs_order, node_upto, colon_order}
 use Rattle.yf_grammar.proofs.NodesInText.PlacedNodes.{NodeAt}
-use Rattle.yf_emit.specs.declared.style.Style.{Style}
-use Rattle.yf_emit.specs.NormalForms.Normal.{LayoutSetting, Spot}
+use Rattle.yf_forms.specs.declared.style.Style.{Style}
+use Rattle.yf_forms.specs.NormalForms.Normal.{LayoutSetting, Spot}
 use Rattle.yf_emit.specs.Layouts.RowComments.{carried_texts}
 use Rattle.yf_emit.specs.Layouts.Decorated.{Deco, first}
 use Rattle.yf_emit.specs.Layouts.ReadableTrees.{is_inline}
-use Rattle.yf_emit.specs.Nodes.OneLine.{written}
-use Rattle.yf_emit.specs.Layouts.Rows.{Row}
+use Rattle.yf_forms.specs.Nodes.OneLine.{written}
+use Rattle.yf_print.specs.Layouts.Rows.{Row}
 use Rattle.yf_emit.proofs.SecondRun.AlikeLemmas.{same_written}
 use Rattle.yf_emit.proofs.Columns.FlowHeads.{Bracketed, is_bracketed}
 use Rattle.yf_emit.proofs.RowNodes.FoundNodes.{FoundNode, NodeText, line_rows, found_noting}
@@ -37,10 +37,6 @@ use Rattle.yf_emit.proofs.Derived.StepsInText.{starts_of, starts_append}
 leaf_inside : {i j : ℕ} (a b : ℕ) (o : Option Span) → o ≡ from_to a b → i ≤ a → a ≤ j → Inside i j (starts_of (spans_of_leaf o))
 unfolding from_to
 leaf_inside {i} {j} a b o e l m = subst (λ w. Inside i j (starts_of (spans_of_leaf w))) (sym e) (one_inside l m none_inside)
-
-pub colon_order : {t : List ℕ} {i j : ℕ} {c : Option ℕ} → ColonIsAt t i j c → i ≤ j
-colon_order (no_colon l) = l
-colon_order (a_colon l e m) = omega (arith, l, m)
 
 mutual
   pub items_inside : {t : List ℕ} {i j : ℕ} {x : Node} → NodeIsAt t i j x → Inside i j (items_in x)

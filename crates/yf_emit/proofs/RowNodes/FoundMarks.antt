@@ -6,12 +6,13 @@ use Rattle.yf_comments.specs.Comment.{CommentValue}
 use Rattle.yf_props.specs.Props.{PropsValue}
 use Rattle.yf_events.specs.declared.event.Span.{Span}
 use Rattle.yf_events.specs.Tree.{Node, NodeOffsets, sequence, mapping, Items, Pairs, items_in, leaves, is_block_collection}
-use Rattle.yf_emit.specs.declared.style.Style.{Style}
+use Rattle.yf_forms.specs.declared.style.Style.{Style}
 use Rattle.yf_emit.specs.Preservation.AlikeBlocks.{AlikeBlocks, alike_lines, alike_block_sequences, alike_block_mappings, AlikeBlockItems, no_block_items, block_item, AlikeBlockPairs, no_block_pairs, block_pair}
-use Rattle.yf_emit.specs.NormalForms.Normal.{LayoutSetting, Spot, inner_spot, is_implicit, key_comment, key_spot, value_entries, value_of_implicit, value_spot}
-use Rattle.yf_emit.specs.Nodes.OneLine.{props_text, written}
+use Rattle.yf_forms.specs.NormalForms.Normal.{LayoutSetting, Spot, inner_spot, is_implicit, key_comment, key_spot, value_entries, value_of_implicit, value_spot}
+use Rattle.yf_forms.specs.Nodes.OneLine.{props_text, written}
 use Rattle.yf_emit.specs.Layouts.RowShapes.{KeysAgree}
-use Rattle.yf_emit.specs.Layouts.Rows.{Row, after_key, after_sign, colon_row, entry_row, explicit_pair, implicit_pair, is_empty_text, joined, key_row, one_line_row, pair_rows as rows_of_pair, props_row, rows, rows_of_items, rows_of_pairs}
+use Rattle.yf_print.specs.Layouts.Rows.{Row, after_key, after_sign, colon_row, entry_row, explicit_pair, implicit_pair, joined, key_row, one_line_row, pair_rows as rows_of_pair, props_row, rows, rows_of_items, rows_of_pairs}
+use Rattle.yf_forms.specs.Nodes.Lines.{is_empty_text}
 use Rattle.yf_emit.proofs.SecondRun.AlikeLemmas.{same_block, same_implicit, same_value_entries, setting}
 use Rattle.yf_emit.proofs.SecondRun.FixedBlocks.{blocks_alike}
 use Rattle.yf_emit.proofs.RowNodes.FoundNodes.{SignRows, sign_alone, sign_joined, KeyRows, key_commented, key_above, key_alone, key_joined, NodeRows, no_rows, line_rows, scalar_rows, sequence_rows, sequence_after, mapping_rows, mapping_after, ItemsRows, no_item_rows, item_rows, PairRows, explicit_rows, implicit_rows, PairsRows, no_pair_rows, pair_rows}

@@ -16,11 +16,12 @@ use Rattle.yf_grammar.specs.Productions.TreesOfMeaning.{Anywhere, MeansTrees}
 use Rattle.yf_grammar.proofs.NodesInText.MeantLemmas.{entered, entered_events}
 use Rattle.yf_events.proofs.TreeLemmas.{node_unique}
 use Rattle.yf_grammar.proofs.NodesInText.NodePlaces.{NodeIsAt, is_at_nowhere, scalar_is_at, alias_is_at, sequence_is_at, mapping_is_at}
-use Rattle.yf_emit.specs.declared.style.Style.{Style}
+use Rattle.yf_forms.specs.declared.style.Style.{Style}
 use Rattle.yf_emit.specs.Layouts.ReadableTrees.{is_block_style, is_inline}
-use Rattle.yf_emit.specs.NormalForms.Normal.{LayoutSetting, Spot, entry_or, inner_spot, is_implicit, key_comment, key_spot, value_of_implicit}
-use Rattle.yf_emit.specs.Nodes.OneLine.{written, props_text}
-use Rattle.yf_emit.specs.Layouts.Rows.{begins_below, colon_offset, is_empty_text}
+use Rattle.yf_forms.specs.NormalForms.Normal.{LayoutSetting, Spot, entry_or, inner_spot, is_implicit, key_comment, key_spot, value_of_implicit}
+use Rattle.yf_forms.specs.Nodes.OneLine.{written, props_text}
+use Rattle.yf_print.specs.Layouts.Rows.{begins_below, colon_offset}
+use Rattle.yf_forms.specs.Nodes.Lines.{is_empty_text}
 use Rattle.yf_emit.proofs.SecondRun.AlikeLemmas.{same_below, same_implicit}
 use Rattle.yf_emit.proofs.Columns.FlowHeads.{Bracketed, bracketed_entered, is_bracketed, is_bracketed_entered}
 use Rattle.yf_emit.proofs.Columns.LinePlaces.{OnLine}

@@ -7,9 +7,9 @@ use Rattle.yf_events.specs.Tree.{Node, DocumentTree, flat}
 use Rattle.yf_grammar.specs.Productions.Meaning.{Meaning}
 use Rattle.yf_grammar.specs.Productions.TreesOfMeaning.{Anywhere}
 use Rattle.yf_stream.specs.Stream.{Document, document_of, Documents, with_document, with_comments, only_comments}
-use Rattle.yf_emit.specs.NormalForms.Normal.{LayoutSetting, root_spot}
+use Rattle.yf_forms.specs.NormalForms.Normal.{LayoutSetting, root_spot}
 use Rattle.yf_emit.specs.Layouts.Decorated.{Deco, past, lines_then}
-use Rattle.yf_emit.specs.Layouts.Rows.{Row, directive_row, start_row, end_rows, beginning_at}
+use Rattle.yf_print.specs.Layouts.Rows.{Row, directive_row, start_row, end_rows, beginning_at}
 use Rattle.yf_emit.proofs.Derived.EntriesMade.{Begins, begins, append_begins, rows_in_more}
 use Rattle.yf_emit.proofs.RowNodes.FoundNodes.{FoundNode, NodeRows}
 use Rattle.yf_emit.proofs.RowNodes.HeadRows.{HeadRows, heads_before}

@@ -10,7 +10,7 @@ use Rattle.yf_stream.specs.ReadingOf.{DocumentEvents, no_document, one_document,
 use Rattle.yf_stream.specs.Stream.{Document}
 use Rattle.yf_emit.specs.Layouts.FitDocuments.{DocumentsMeant, no_documents_meant, document_meant}
 use Rattle.yf_emit.specs.Preservation.FoundTrees.{FoundTrees, none_found, one_found}
-use Rattle.yf_emit.specs.NormalForms.Normal.{LayoutSetting, normal_document, root_spot, settled, styled}
+use Rattle.yf_forms.specs.NormalForms.Normal.{LayoutSetting, normal_document, root_spot, settled, styled}
 use Rattle.yf_emit.proofs.RowNodes.BareNodes.{bare, bare_tree}
 use Rattle.yf_emit.proofs.RowNodes.BareTrees.{blocks_renoted, undisturbed_renoted}
 use Rattle.yf_emit.proofs.RowNodes.FoundAgree.{rows_undisturbed}

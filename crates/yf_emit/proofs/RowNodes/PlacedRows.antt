@@ -14,7 +14,7 @@ use Rattle.yf_grammar.proofs.Documents.CommentOrder.{Ascend}
 use Rattle.yf_stream.proofs.Offsets.BrokenEnds.{Broken}
 use Rattle.yf_emit.specs.Layouts.RowComments.{carried_texts}
 use Rattle.yf_emit.specs.Layouts.Decorated.{Deco, first, after, past, gap_then, lines_then}
-use Rattle.yf_emit.specs.Layouts.Rows.{Row, joined}
+use Rattle.yf_print.specs.Layouts.Rows.{Row, joined}
 use Rattle.yf_emit.proofs.Derived.DecoratedLemmas.{lines_append}
 use Rattle.yf_emit.proofs.Derived.StepsInText.{starts_of, starts_append}
 

@@ -10,11 +10,12 @@ use Rattle.yf_events.specs.Event.{EventInText}
 use Rattle.yf_stream.specs.ReadingOf.{NotedComments, no_comment, one_comment}
 use Rattle.yf_emit.specs.Layouts.RowComments.{carried_texts}
 use Rattle.yf_emit.specs.Layouts.Decorated.{Deco, first, after, comments_left, decos_of}
-use Rattle.yf_emit.specs.Layouts.Layout.{Source, first_comment, trailing_leaf, trimmed}
-use Rattle.yf_emit.specs.Layouts.Rows.{Row}
+use Rattle.yf_emit.specs.Layouts.Layout.{Source, first_comment, trailing_leaf}
+use Rattle.yf_forms.specs.Nodes.Lines.{trimmed}
+use Rattle.yf_print.specs.Layouts.Rows.{Row}
 use Rattle.yf_emit.proofs.SameReading.CommentsCut.{In, in_first, in_rest, in_after, in_before, Each, each_none, each_more, each_map, each_join, Under, Over}
 use Rattle.yf_emit.proofs.RowNodes.PlacedRows.{PlacedRow, RowsIn, last_row, row_before}
-use Rattle.yf_emit.specs.Layouts.KeptColumns.{Columns}
+use Rattle.yf_print.specs.Layouts.KeptColumns.{Columns}
 
 -- before or after an offset
 
@@ -26,7 +27,7 @@ pub ascend_under : {t : List ℕ} {i j : ℕ} {cs : List CommentValue} → Ascen
 ascend_under (no_more m) = each_none
 ascend_under (one_more m s a) = each_more (let o = ascend_order a in omega (arith, o)) (ascend_under a)
 
-under_more : {h k : ℕ} {cs : List CommentValue} → h ≤ k → Under h cs → Under k cs
+pub under_more : {h k : ℕ} {cs : List CommentValue} → h ≤ k → Under h cs → Under k cs
 under_more l a = each_map (λ d i m. omega (arith, l, m)) a
 
 over_less : {h k : ℕ} {cs : List CommentValue} → k ≤ h → Over h cs → Over k cs

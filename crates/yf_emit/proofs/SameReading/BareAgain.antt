@@ -10,12 +10,12 @@ use Rattle.yf_events.specs.declared.document.Doc.{Doc}
 use Rattle.yf_events.specs.declared.lists.Lists.{Lists}
 use Rattle.yf_stream.specs.ReadingOf.{ReadingOf}
 use Rattle.yf_stream.specs.Stream.{Document}
-use Rattle.yf_emit.specs.declared.style.Style.{Style}
-use Rattle.yf_emit.specs.Layouts.BareStart.{begins_bare, has_lead, is_bare, keeps_starts, leads}
+use Rattle.yf_forms.specs.declared.style.Style.{Style}
+use Rattle.yf_print.specs.Layouts.BareStart.{begins_bare, has_lead, is_bare, keeps_starts, leads}
 use Rattle.yf_emit.specs.Layouts.FitDocuments.{DocumentsMeant, no_documents_meant, document_meant, FitsBare}
 use Rattle.yf_emit.specs.Format.{IsFormatting}
-use Rattle.yf_emit.specs.Layouts.Layout.{trimmed}
-use Rattle.yf_emit.specs.NormalForms.Normal.{Normal, normal_document, setting_of}
+use Rattle.yf_forms.specs.Nodes.Lines.{trimmed}
+use Rattle.yf_forms.specs.NormalForms.Normal.{Normal, normal_document, setting_of}
 use Rattle.yf_emit.specs.Preservation.SameComments.{KeptComment, kept}
 use Rattle.yf_emit.proofs.Derived.BareReadings.{reading_begins}
 use Rattle.yf_emit.proofs.SameReading.StepComments.{stream_starts_are}

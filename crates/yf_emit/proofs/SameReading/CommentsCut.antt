@@ -10,10 +10,11 @@ use Rattle.yf_comments.specs.Comment.{CommentValue}
 use Rattle.yf_grammar.proofs.Documents.CommentOrder.{Ascend, no_more, one_more}
 use Rattle.yf_emit.specs.Layouts.Decorated.{comments_left}
 use Rattle.yf_emit.specs.Layouts.Layout.{Source, is_among, precedes_item, trailing}
-use Rattle.yf_emit.specs.Layouts.Rows.{Row}
+use Rattle.yf_print.specs.Layouts.Rows.{Row}
 use Rattle.yf_emit.proofs.Derived.LayoutSteps.{Step}
 use Rattle.yf_emit.proofs.SameReading.PrintSteps.{begun, AllLater, no_later, more_later, AllEarlier, no_earlier, more_earlier, Cuts, none_cut, row_cut}
 use Rattle.yf_emit.proofs.SameReading.StartsBefore.{AllFrom, later_join, later_from, AllBelow}
+use Rattle.yf_forms.proofs.Decide.LeafLemmas.{same as itself}
 
 -- Comments of a list.
 
@@ -115,9 +116,6 @@ other_below x d h l m = grind (arith, nat_tests)
 
 other_above : (x d h : ℕ) → d < h → h ≤ x → (x == d) ≡ false
 other_above x d h l m = grind (arith, nat_tests)
-
-pub itself : (n : ℕ) → (n == n) ≡ true
-itself n = grind (arith, nat_tests)
 
 pub none_below : {h : ℕ} {ds : List CommentValue} (d : CommentValue) → h ≤ d.offset → Under h ds → is_among ds d ≡ false
 none_below d l each_none = refl

@@ -10,8 +10,8 @@ use Rattle.yf_stream.proofs.Offsets.ReadingOrder.{explicit_ascends}
 use Rattle.yf_emit.proofs.SameReading.RowSteps.{begins_after, documents_begin, steps_with, begins_on}
 use Rattle.yf_emit.specs.Layouts.RowComments.{carried_texts, comments_in}
 use Rattle.yf_emit.specs.Layouts.Decorated.{Deco, first, after}
-use Rattle.yf_emit.specs.NormalForms.Normal.{LayoutSetting}
-use Rattle.yf_emit.specs.Layouts.Rows.{Row, at_document_start}
+use Rattle.yf_forms.specs.NormalForms.Normal.{LayoutSetting}
+use Rattle.yf_print.specs.Layouts.Rows.{Row, at_document_start}
 use Rattle.yf_emit.proofs.Derived.LayoutSteps.{Step, a_comment, a_leaf, comment_steps}
 use Rattle.yf_emit.proofs.Derived.DocumentsMade.{ExplicitMade}
 use Rattle.yf_emit.proofs.SameReading.NoStarts.{NoStarts, quiet_steps}

@@ -28,8 +28,8 @@ use Rattle.yf_stream.proofs.Offsets.DirectiveOrder.{directives_order}
 use Rattle.yf_stream.proofs.Offsets.ReadingTrees.{TreesStand, no_trees_stand, tree_is_at}
 use Rattle.yf_emit.proofs.SameReading.RowSteps.{documents_begin}
 use Rattle.yf_emit.specs.Layouts.Layout.{Remark, Source, first_comment, is_before, next_leaf, trailing}
-use Rattle.yf_emit.specs.NormalForms.Normal.{LayoutSetting, normal_document, root_spot}
-use Rattle.yf_emit.specs.Layouts.Rows.{Row, beginning_at, directive_row, end_rows, rows, start_row, stream_rows, all_rows, begun_at}
+use Rattle.yf_forms.specs.NormalForms.Normal.{LayoutSetting, normal_document, root_spot}
+use Rattle.yf_print.specs.Layouts.Rows.{Row, beginning_at, directive_row, end_rows, rows, start_row, stream_rows, all_rows, begun_at}
 use Rattle.yf_emit.proofs.SameReading.CommentsCut.{In, in_first, in_rest, Flowing, no_flow, a_flow, none_trails}
 use Rattle.yf_emit.proofs.SameReading.ItemsOrder.{items_on, rises_greatest}
 use Rattle.yf_emit.proofs.OfTexts.LeavesRise.{Steps, no_step, a_step, node_steps, steps_order}

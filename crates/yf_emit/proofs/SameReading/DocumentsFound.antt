@@ -13,17 +13,17 @@ use Rattle.yf_stream.specs.ReadingOf.{ReadingOf, doc_of}
 use Rattle.yf_stream.specs.Stream.{Document, Documents}
 use Rattle.yf_stream.proofs.Offsets.ReadingOrder.{stream_ascends}
 use Rattle.yf_stream.proofs.Offsets.ReadingTrees.{TreesStand, no_trees_stand, tree_is_at, reading_is_at}
-use Rattle.yf_emit.specs.declared.style.Style.{Style}
+use Rattle.yf_forms.specs.declared.style.Style.{Style}
 use Rattle.yf_emit.proofs.SameReading.RowSteps.{documents_begin, steps_with}
 use Rattle.yf_emit.specs.Layouts.Decorated.{first_gap, row_decos, rows_of}
 use Rattle.yf_emit.specs.Format.{IsFormatting}
-use Rattle.yf_emit.specs.Layouts.Rows.{Row}
+use Rattle.yf_print.specs.Layouts.Rows.{Row}
 use Rattle.yf_emit.proofs.Derived.LayoutSteps.{Step, comment_steps, comments_of}
 use Rattle.yf_emit.proofs.Derived.FormatsRead.{formats_laid}
 use Rattle.yf_emit.proofs.SameReading.FoundAgain.{Unsigned, no_start, a_start, noted_told, stand_told, told_by}
 use Rattle.yf_emit.proofs.SameReading.StartsBefore.{starts_before}
 use Rattle.yf_emit.proofs.Derived.StepsInText.{Stand}
-use Rattle.yf_emit.specs.Layouts.KeptColumns.{Columns, columns_of}
+use Rattle.yf_print.specs.Layouts.KeptColumns.{Columns, columns_of}
 
 -- the comments of a layout and the documents that begin in it, as steps
 abbrev pub document_steps : Columns → Lists → List Row → List Step

@@ -8,7 +8,7 @@ use Rattle.yf_events.specs.Tree.{DocumentTree, Node, Items, Pairs, flat, flat_it
 use Rattle.yf_events.specs.declared.document.Doc.{Doc}
 use Rattle.yf_events.specs.declared.lists.Lists.{Lists}
 use Rattle.yf_stream.specs.ReadingOf.{ReadingOf}
-use Rattle.yf_emit.specs.declared.style.Style.{Style}
+use Rattle.yf_forms.specs.declared.style.Style.{Style}
 use Rattle.yf_emit.specs.Format.{IsFormatting}
 use Rattle.yf_emit.specs.Preservation.FoundTrees.{FoundTrees, none_found, one_found}
 use Rattle.yf_emit.specs.Preservation.TidyLines.{block_scalar_of, block_scalars}

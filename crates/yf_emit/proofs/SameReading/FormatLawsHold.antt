@@ -7,7 +7,7 @@ use Rattle.yf_stream.proofs.HasReading.{well_formed_texts_have_readings}
 use Rattle.yf_stream.proofs.LawsHold.{readings_are_one}
 use Rattle.yf_emit.specs.FormatLaws.{FormatsAreAccepted, FormatsAreOne, FormatsExist}
 use Rattle.yf_emit.specs.Layouts.Layout.{IsLayout}
-use Rattle.yf_emit.specs.NormalForms.Normal.{Normal, normal_document, setting_of}
+use Rattle.yf_forms.specs.NormalForms.Normal.{Normal, normal_document, setting_of}
 use Rattle.yf_emit.proofs.Derived.FormatsRead.{formats_well}
 use Rattle.yf_emit.proofs.NormalForms.UniqueLemmas.{layout_unique, normal_unique}
 

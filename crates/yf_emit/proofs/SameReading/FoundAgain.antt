@@ -15,7 +15,7 @@ use Rattle.yf_stream.proofs.NodeLaws.{IsVisibleAt}
 use Rattle.yf_stream.specs.ReadingOf.{NotedComments, no_comment, one_comment, ReadingOf}
 use Rattle.yf_stream.proofs.NodeLawsHold.{nodes_of_readings_begin_visibly}
 use Rattle.yf_stream.proofs.Offsets.ReadingOrder.{stream_ascends}
-use Rattle.yf_emit.specs.declared.style.Style.{Style}
+use Rattle.yf_forms.specs.declared.style.Style.{Style}
 use Rattle.yf_emit.specs.Layouts.Decorated.{rows_of}
 use Rattle.yf_emit.specs.Format.{IsFormatting}
 use Rattle.yf_emit.proofs.Derived.LayoutSteps.{Step, steps_of, comments_of}
@@ -23,7 +23,7 @@ use Rattle.yf_emit.proofs.Derived.FormatsRead.{formats_laid}
 use Rattle.yf_emit.proofs.SameReading.StartsBefore.{AllFrom, none_later, one_later, starts_before, none_before, one_before}
 use Rattle.yf_emit.proofs.Derived.StepsInText.{Stand, nothing_is_at, leaf_is_at, comment_is_at}
 use Rattle.yf_emit.proofs.Derived.StreamParts.{DocumentsLaid}
-use Rattle.yf_emit.specs.Layouts.KeptColumns.{columns_of}
+use Rattle.yf_print.specs.Layouts.KeptColumns.{columns_of}
 
 -- Leaves and comments from an offset on.
 

@@ -6,9 +6,9 @@ use Rattle.yf_events.specs.Tree.{Node, scalar, alias, sequence, mapping, Items, 
 use Rattle.yf_events.specs.declared.event.Span.{Span}
 use Rattle.yf_grammar.specs.Productions.Meaning.{from_to}
 use Rattle.yf_grammar.proofs.Ends.GapLemmas.{Visible}
-use Rattle.yf_grammar.proofs.NodesInText.NodePlaces.{ColonIsAt, no_colon, a_colon, NodeIsAt, is_at_nowhere, scalar_is_at, alias_is_at, sequence_is_at, mapping_is_at, ItemsStand, no_items_stand, item_is_at, PairsStand, no_pairs_stand, pair_is_at}
-use Rattle.yf_emit.specs.NormalForms.Normal.{LayoutSetting, styled, styled_items, styled_pairs}
-use Rattle.yf_emit.specs.Layouts.Rows.{Row, joined}
+use Rattle.yf_grammar.proofs.NodesInText.NodePlaces.{ColonIsAt, no_colon, a_colon, NodeIsAt, is_at_nowhere, scalar_is_at, alias_is_at, sequence_is_at, mapping_is_at, ItemsStand, no_items_stand, item_is_at, PairsStand, no_pairs_stand, pair_is_at, colon_order}
+use Rattle.yf_forms.specs.NormalForms.Normal.{LayoutSetting, styled, styled_items, styled_pairs}
+use Rattle.yf_print.specs.Layouts.Rows.{Row, joined}
 use Rattle.yf_emit.proofs.SameReading.FoundAgain.{Unsigned, no_start, a_start}
 use Rattle.yf_emit.proofs.OfTexts.MarksOrder.{Rises, no_place, a_place, rises_after, rises_join, entry_rises}
 use Rattle.yf_emit.proofs.NormalForms.NormalSame.{styled_same}
@@ -32,11 +32,6 @@ items_joined head n (x ∷ xs) = append_assoc head.items x.items (items_on xs)
 pub sub_after : {ss js : List ℕ} (is : List ℕ) → Sub ss js → Sub ss (is ++ js)
 sub_after [] a = a
 sub_after (i ∷ is) a = sub_skip (sub_after is a)
-
-pub sub_before : {ss is : List ℕ} (js : List ℕ) → Sub ss is → Sub ss (is ++ js)
-sub_before js sub_none = sub_none
-sub_before js (sub_take a) = sub_take (sub_before js a)
-sub_before js (sub_skip a) = sub_skip (sub_before js a)
 
 pub sub_join : {ss rs is js : List ℕ} → Sub ss is → Sub rs js → Sub (ss ++ rs) (is ++ js)
 sub_join {is = is} sub_none b = sub_after is b
@@ -71,10 +66,6 @@ rises_greatest (a_place {k = k} l a) = let m = rises_greatest a in let n = order
 leaf_rises : {i j : ℕ} (a b : ℕ) (o : Option Span) → o ≡ from_to a b → i ≤ a → a ≤ j → Rises i (map (λ s. s.start) (spans_of_leaf o)) j
 unfolding from_to
 leaf_rises {i} {j} a b o e l m = subst (λ z. Rises i (map (λ s. s.start) (spans_of_leaf z)) j) (sym e) (a_place l (no_place m))
-
-colon_order : {t : List ℕ} {i j : ℕ} {c : Option ℕ} → ColonIsAt t i j c → i ≤ j
-colon_order (no_colon l) = l
-colon_order (a_colon l e m) = omega (arith, l, m)
 
 mutual
   node_items : {t : List ℕ} {i j : ℕ} {x : Node} → NodeIsAt t i j x → Rises i (items_in x) j

@@ -6,14 +6,14 @@ use Rattle.yf_comments.specs.Comment.{CommentValue}
 use Rattle.yf_events.specs.Tree.{Node, scalar, alias, sequence, mapping, Items, no_items, item, Pairs, no_pairs, pair}
 use Rattle.yf_events.specs.declared.directive.Directive.{Directive}
 use Rattle.yf_events.specs.declared.event.ScalarStyle.TheVariants.{Plain, Single, Double, Literal, Folded}
-use Rattle.yf_emit.specs.declared.style.Style.{Style}
+use Rattle.yf_forms.specs.declared.style.Style.{Style}
 use Rattle.yf_emit.proofs.SameReading.RowSteps.{begins_after, documents_begin, steps_with, begins_on}
-use Rattle.yf_emit.specs.Nodes.BlockLines.{final_feeds, is_kept_tail}
+use Rattle.yf_forms.specs.Nodes.BlockLines.{final_feeds, is_kept_tail}
 use Rattle.yf_emit.specs.Layouts.RowComments.{carried_texts, comments_in}
 use Rattle.yf_emit.specs.Layouts.Decorated.{Deco, after, first, past}
-use Rattle.yf_emit.specs.NormalForms.Normal.{LayoutSetting, Spot, inner_spot, is_implicit, key_comment, key_spot, value_spot}
-use Rattle.yf_emit.specs.Nodes.OneLine.{props_text, written}
-use Rattle.yf_emit.specs.Layouts.Rows.{Row, begins_below, after_key, colon_row, directive_row, entry_row, explicit_pair, implicit_pair, joined, key_row, one_line_row, pair_rows, props_row, rows, rows_of_items, rows_of_pairs, tail_ending, Ending}
+use Rattle.yf_forms.specs.NormalForms.Normal.{LayoutSetting, Spot, inner_spot, is_implicit, key_comment, key_spot, value_spot}
+use Rattle.yf_forms.specs.Nodes.OneLine.{props_text, written}
+use Rattle.yf_print.specs.Layouts.Rows.{Row, begins_below, after_key, colon_row, directive_row, entry_row, explicit_pair, implicit_pair, joined, key_row, one_line_row, pair_rows, props_row, rows, rows_of_items, rows_of_pairs, tail_ending, Ending}
 use Rattle.yf_emit.proofs.Derived.LayoutSteps.{Step, a_comment, comment_steps}
 
 pub data NoStarts : List Row → Type 0 where

@@ -8,11 +8,12 @@ use Rattle.yf_comments.specs.GapLines.{GapLine, remarks_of}
 use Rattle.yf_emit.proofs.SameReading.RowSteps.{leaves_begin, steps_with}
 use Rattle.yf_emit.specs.Layouts.RowComments.{carried_texts}
 use Rattle.yf_emit.specs.Layouts.Decorated.{Deco, after, blank_if, comments_left, decos_of, ending_after, first, gap_of, remarks_after}
-use Rattle.yf_emit.specs.Layouts.Layout.{Source, may_be_blank_after, precedes_item, trailing, trimmed}
-use Rattle.yf_emit.specs.Layouts.Rows.{Row, Ending, anywhere}
+use Rattle.yf_emit.specs.Layouts.Layout.{Source, may_be_blank_after, precedes_item, trailing}
+use Rattle.yf_forms.specs.Nodes.Lines.{trimmed}
+use Rattle.yf_print.specs.Layouts.Rows.{Row, Ending, anywhere}
 use Rattle.yf_emit.proofs.Derived.LayoutSteps.{Step, a_comment, a_leaf, comment_steps, leaf_steps, steps_in, comments_of}
 use Rattle.yf_emit.proofs.SameReading.StartsBefore.{AllFrom, AllBelow, starts_before, none_before, all_before}
-use Rattle.yf_emit.specs.Layouts.KeptColumns.{Columns}
+use Rattle.yf_print.specs.Layouts.KeptColumns.{Columns}
 
 abbrev pub trimmed_texts : List CommentValue → List (List ℕ)
 trimmed_texts ds = map (λ d. trimmed d.text) ds

@@ -8,10 +8,11 @@ use Rattle.yf_events.specs.declared.event.ScalarStyle.{ScalarStyle}
 use Rattle.yf_events.specs.declared.event.ScalarStyle.TheVariants.{Plain, Single, Double, Literal, Folded}
 use Rattle.yf_events.specs.declared.event.Span.{Span}
 use Rattle.yf_events.specs.Tree.{NodeOffsets, Node, scalar, alias, sequence, mapping, no_items, item, no_pairs, pair, items_in, leaves, props_of, spans_of_leaf, is_block_collection, is_filled_flow, is_text}
-use Rattle.yf_emit.specs.declared.style.Style.{Style}
-use Rattle.yf_emit.specs.NormalForms.Normal.{LayoutSetting, Spot, fits, is_one_line_key}
-use Rattle.yf_emit.specs.Nodes.OneLine.{props_text, written}
-use Rattle.yf_emit.specs.Layouts.Rows.{Row, begins_below, is_empty_text, one_line_row, props_row, rows, rows_of_items, rows_of_pairs}
+use Rattle.yf_forms.specs.declared.style.Style.{Style}
+use Rattle.yf_forms.specs.NormalForms.Normal.{LayoutSetting, Spot, fits, is_one_line_key}
+use Rattle.yf_forms.specs.Nodes.OneLine.{props_text, written}
+use Rattle.yf_print.specs.Layouts.Rows.{Row, begins_below, one_line_row, props_row, rows, rows_of_items, rows_of_pairs}
+use Rattle.yf_forms.specs.Nodes.Lines.{is_empty_text}
 use Rattle.yf_emit.proofs.SameReading.CommentsCut.{In}
 use Rattle.yf_emit.proofs.SameReading.ItemsOrder.{items_on, rises_greatest, rises_upto}
 use Rattle.yf_emit.proofs.Printer.LeafPrinted.{same_flag, same_flag_of_map}

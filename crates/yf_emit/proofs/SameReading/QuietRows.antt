@@ -6,11 +6,11 @@ use Rattle.yf_comments.specs.Comment.{CommentValue}
 use Rattle.yf_events.specs.declared.event.Entry.{Entry}
 use Rattle.yf_events.specs.declared.event.Span.{Span}
 use Rattle.yf_events.specs.Tree.{Node, alias, sequence, mapping, Items, no_items, item, Pairs, no_pairs, pair, entry_start, items_in, leaves, standing, starts_of_entry, is_filled_flow, is_text}
-use Rattle.yf_emit.specs.NormalForms.Forms.{is_placed, items_are_placed, pairs_are_placed}
-use Rattle.yf_emit.specs.Passes.MeasurePass.{setting}
-use Rattle.yf_emit.specs.NormalForms.Normal.{LayoutSetting, Spot, entry_or, first_between, inner_spot, is_implicit, is_one_line_key, key_comment, key_spot, key_start, last_start, styled_items, styled_pairs, value_of_implicit, value_spot}
-use Rattle.yf_emit.specs.Nodes.OneLine.{props_text}
-use Rattle.yf_emit.specs.Layouts.Rows.{Row, before_node, begins_below, after_key, after_sign, colon_offset, colon_row, entry_row, explicit_pair, joined, key_row, pair_rows, rows, rows_of_items, rows_of_pairs}
+use Rattle.yf_forms.specs.NormalForms.Forms.{is_placed, items_are_placed, pairs_are_placed}
+use Rattle.yf_forms.specs.Passes.MeasurePass.{setting}
+use Rattle.yf_forms.specs.NormalForms.Normal.{LayoutSetting, Spot, entry_or, first_between, inner_spot, is_implicit, is_one_line_key, key_comment, key_spot, key_start, last_start, styled_items, styled_pairs, value_of_implicit, value_spot}
+use Rattle.yf_forms.specs.Nodes.OneLine.{props_text}
+use Rattle.yf_print.specs.Layouts.Rows.{Row, before_node, begins_below, after_key, after_sign, colon_offset, colon_row, entry_row, explicit_pair, joined, key_row, pair_rows, rows, rows_of_items, rows_of_pairs}
 use Rattle.yf_emit.proofs.Writable.StillLeaves.{between}
 use Rattle.yf_emit.proofs.SameReading.ItemsOrder.{items_on, items_append, items_joined, rises_upto, sub_after, sub_twice}
 use Rattle.yf_emit.proofs.Printer.LeafPrinted.{same_flag, same_flag_of_map}

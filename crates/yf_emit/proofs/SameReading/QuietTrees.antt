@@ -14,10 +14,10 @@ use Rattle.yf_events.specs.Tree.{NodeOffsets, Node, scalar, alias, sequence, map
 use Rattle.yf_grammar.specs.Productions.Meaning.{from_to}
 use Rattle.yf_grammar.proofs.Ends.GapLemmas.{Visible}
 use Rattle.yf_grammar.proofs.NodesInText.NodePlaces.{Opens, NodeIsAt, is_at_nowhere, scalar_is_at, alias_is_at, sequence_is_at, mapping_is_at, ItemsStand, no_items_stand, item_is_at, PairsStand, no_pairs_stand, pair_is_at}
-use Rattle.yf_emit.specs.Nodes.ContentStart.{content_start}
-use Rattle.yf_emit.specs.Nodes.OneLineFlows.{has_comment, is_within, items_may_be_kept, may_be_kept, pairs_may_be_kept}
-use Rattle.yf_emit.specs.NormalForms.Normal.{LayoutSetting, Spot, fits, inner_spot, key_spot, settled, settled_items, settled_pairs, styled, styled_items, styled_pairs, value_spot}
-use Rattle.yf_emit.specs.Layouts.Rows.{colon_offset}
+use Rattle.yf_forms.specs.Nodes.ContentStart.{content_start}
+use Rattle.yf_forms.specs.Nodes.OneLineFlows.{has_comment, is_within, items_may_be_kept, may_be_kept, pairs_may_be_kept}
+use Rattle.yf_forms.specs.NormalForms.Normal.{LayoutSetting, Spot, fits, inner_spot, key_spot, settled, settled_items, settled_pairs, styled, styled_items, styled_pairs, value_spot}
+use Rattle.yf_print.specs.Layouts.Rows.{colon_offset}
 use Rattle.yf_emit.proofs.SameReading.CommentsCut.{In, in_first, in_rest}
 use Rattle.yf_emit.proofs.Writable.ContentFound.{content_found}
 use Rattle.yf_emit.proofs.SameReading.FoundAgain.{Unsigned}

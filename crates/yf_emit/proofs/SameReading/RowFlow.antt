@@ -11,7 +11,7 @@ use Rattle.yf_events.specs.declared.event.Span.{Span}
 use Rattle.yf_stream.specs.ReadingOf.{last_leaf}
 use Rattle.yf_emit.proofs.SameReading.RowSteps.{leaves_begin}
 use Rattle.yf_emit.specs.Layouts.Layout.{Remark, Source, first_comment, is_among, trailing}
-use Rattle.yf_emit.specs.Layouts.Rows.{Row}
+use Rattle.yf_print.specs.Layouts.Rows.{Row}
 use Rattle.yf_emit.proofs.Derived.LayoutSteps.{a_leaf, leaf_steps}
 use Rattle.yf_emit.proofs.SameReading.CommentsCut.{In, in_first, in_rest, Each, each_none, each_more, Over, BegunCut, TrailCut, none_trails, one_trails, Flowing, no_flow, a_flow}
 use Rattle.yf_emit.proofs.SameReading.FoundAgain.{Unsigned, no_start, a_start}

@@ -2,7 +2,7 @@
 use Rattle.std.specs.Prelude.{Bool, true, false, List, [], ◌∷◌, ◌++◌}
 use Rattle.yf_emit.specs.Layouts.RowComments.{carried_texts}
 use Rattle.yf_emit.specs.Layouts.Decorated.{Deco, first, after}
-use Rattle.yf_emit.specs.Layouts.Rows.{Row, Ending, at_text_start, at_document_start, at_kept_tail, before_node, anywhere}
+use Rattle.yf_print.specs.Layouts.Rows.{Row, Ending, at_text_start, at_document_start, at_kept_tail, before_node, anywhere}
 use Rattle.yf_emit.proofs.Derived.LayoutSteps.{Step, a_leaf, comment_steps, leaf_steps}
 
 abbrev pub steps_with : (Row → List Step) → List Row → List Deco → List Step

@@ -6,8 +6,8 @@ use Rattle.std.proofs.lemmas.Bool.{and_from, cases_lt}
 use Rattle.std.proofs.lemmas.Bool.Decides.{nat_tests}
 use Rattle.yf_comments.specs.Comment.{CommentValue}
 use Rattle.yf_events.specs.declared.event.Span.{Span}
-use Rattle.yf_emit.specs.NormalForms.Normal.{last_start}
-use Rattle.yf_emit.specs.Layouts.Rows.{Row, joined, begun_at}
+use Rattle.yf_forms.specs.NormalForms.Normal.{last_start}
+use Rattle.yf_print.specs.Layouts.Rows.{Row, joined, begun_at}
 use Rattle.yf_emit.proofs.Writable.StillLeaves.{between}
 use Rattle.yf_emit.proofs.SameReading.CommentsCut.{In, in_first, in_rest}
 use Rattle.yf_emit.proofs.SameReading.ItemsOrder.{items_on, sub_after, sub_join, sub_twice, rises_greatest}
@@ -16,6 +16,7 @@ use Rattle.yf_emit.proofs.SameReading.QuietTrees.{Free}
 use Rattle.yf_emit.proofs.SameReading.RowFlow.{Sub, sub_none, sub_take, sub_skip, sub_one_below, sub_one_from, greatest}
 use Rattle.yf_emit.proofs.SameReading.StartsBefore.{AllFrom, none_later, one_later, later_join, later_from}
 use Rattle.yf_emit.proofs.Derived.StepsInText.{starts_of, starts_append}
+use Rattle.yf_chars.proofs.Tests.{below}
 
 -- Items on a line, and the leaves that begin at some of them.
 pub record LineFits (cs : List CommentValue) (is ss : List ℕ) : Type 0 where
@@ -65,9 +66,6 @@ not_found p d e (in_rest {c = c} {cs = cs} i) = not_found p d (go (p c) e) i whe
   go : (b : Bool) → (if b then Some c else find p cs) ≡ None → find p cs ≡ None
   go true f = absurd cc
   go false f = f
-
-below : (m n : ℕ) → m < n → nat_lt m n ≡ true
-below m n l = grind (arith, nat_tests)
 
 pub last_among : (o : ℕ) (k : Span) (ks : List Span) → Sub (last_start o (k ∷ ks) ∷ []) (starts_of (k ∷ ks))
 last_among o k [] = sub_take sub_none

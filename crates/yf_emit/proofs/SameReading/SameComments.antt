@@ -9,14 +9,15 @@ use Rattle.yf_events.specs.Tree.{DocumentTree, TreesOf}
 use Rattle.yf_events.specs.declared.lists.Lists.{Lists}
 use Rattle.yf_stream.proofs.LawsHold.{readings_are_one}
 use Rattle.yf_stream.specs.ReadingOf.{ReadingOf, leaf_lines}
-use Rattle.yf_emit.specs.declared.style.Style.{Style}
+use Rattle.yf_forms.specs.declared.style.Style.{Style}
 use Rattle.yf_emit.proofs.SameReading.RowSteps.{documents_begin}
 use Rattle.yf_emit.specs.Layouts.Decorated.{rows_of}
 use Rattle.yf_emit.specs.Format.{IsFormatting}
 use Rattle.yf_emit.specs.FormatLaws.{FormatsKeepComments}
-use Rattle.yf_emit.specs.Layouts.Layout.{Source, source_of, trimmed}
-use Rattle.yf_emit.specs.NormalForms.Normal.{normal_document, setting_of, Normal, LayoutSetting}
-use Rattle.yf_emit.specs.Layouts.Rows.{Row}
+use Rattle.yf_emit.specs.Layouts.Layout.{Source, source_of}
+use Rattle.yf_forms.specs.Nodes.Lines.{trimmed}
+use Rattle.yf_forms.specs.NormalForms.Normal.{normal_document, setting_of, Normal, LayoutSetting}
+use Rattle.yf_print.specs.Layouts.Rows.{Row}
 use Rattle.yf_emit.specs.Preservation.SameComments.{KeptComment, kept}
 use Rattle.yf_emit.proofs.Derived.LayoutSteps.{comments_of}
 use Rattle.yf_emit.proofs.SameReading.StepComments.{counts_told, stream_starts_are}
@@ -30,7 +31,7 @@ use Rattle.yf_emit.proofs.Trails.RowLeaves.{leaves_on}
 use Rattle.yf_emit.proofs.SameReading.SourceOffsets.{normal_of, normal_rows, source_is_at}
 use Rattle.yf_emit.proofs.SameReading.StartsBefore.{starts_before, AllFrom, none_before}
 use Rattle.yf_emit.proofs.SameReading.DocumentsFlow.{all_flow}
-use Rattle.yf_emit.specs.Layouts.BareStart.{is_bare}
+use Rattle.yf_print.specs.Layouts.BareStart.{is_bare}
 use Rattle.yf_emit.proofs.Writable.TreesRead.{reading_bare, reading_fits}
 use Rattle.yf_emit.proofs.Derived.BareReadings.{reading_begins, normal_begins, bare_begins, bare_unled}
 use Rattle.yf_emit.proofs.Derived.BareFound.{laid_by, lead_there, none_leads}
@@ -38,7 +39,7 @@ use Rattle.yf_emit.proofs.SameReading.RowFlow.{starts_on, starts_are}
 use Rattle.yf_emit.proofs.Derived.StepsInText.{starts_of}
 use Rattle.yf_emit.proofs.NormalForms.NormalParts.{normal_leaves}
 use Rattle.yf_emit.proofs.SameReading.CommentsCut.{In}
-use Rattle.yf_emit.specs.Layouts.KeptColumns.{Columns, columns_of}
+use Rattle.yf_print.specs.Layouts.KeptColumns.{Columns, columns_of}
 
 -- Documents of the source.
 

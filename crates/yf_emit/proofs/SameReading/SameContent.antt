@@ -12,14 +12,14 @@ use Rattle.yf_stream.proofs.Existence.BreachLemmas.{alike_values, values, values
 use Rattle.yf_stream.proofs.LawsHold.{readings_are_one}
 use Rattle.yf_stream.proofs.TagPass.SameTags.{noting_values, same_tags}
 use Rattle.std.specs.Str.{IsUtf8}
-use Rattle.yf_emit.specs.declared.style.Style.{Style}
+use Rattle.yf_forms.specs.declared.style.Style.{Style}
 use Rattle.yf_emit.specs.Format.{IsFormatting}
 use Rattle.yf_emit.specs.Layouts.FitDocuments.{DocumentsMeant, no_documents_meant, document_meant}
 use Rattle.yf_emit.specs.FormatLaws.{FormatsKeepContent}
 use Rattle.yf_emit.proofs.Derived.FormatsRead.{formats_well, same_in_documents}
 use Rattle.yf_emit.proofs.NormalForms.NormalRestyled.{normal_restyled}
-use Rattle.yf_emit.proofs.NormalForms.RestyledLemmas.{same_content}
-use Rattle.yf_emit.specs.Layouts.BareStart.{is_bare}
+use Rattle.yf_forms.proofs.NormalForms.RestyledLemmas.{same_content}
+use Rattle.yf_print.specs.Layouts.BareStart.{is_bare}
 
 -- Markers say nothing.
 

@@ -16,12 +16,12 @@ use Rattle.yf_stream.specs.ReadingOf.{NotedComments, no_comment, one_comment, Re
 use Rattle.yf_stream.proofs.Offsets.DirectiveOrder.{directives_order}
 use Rattle.yf_stream.proofs.Offsets.ReadingOrder.{stream_ascends}
 use Rattle.yf_stream.proofs.Offsets.ReadingTrees.{TreesStand, no_trees_stand, tree_is_at, reading_is_at}
-use Rattle.yf_emit.specs.declared.style.Style.{Style}
+use Rattle.yf_forms.specs.declared.style.Style.{Style}
 use Rattle.yf_emit.specs.Layouts.RowComments.{AreRemarks}
-use Rattle.yf_emit.specs.NormalForms.Forms.{documents_are_placed}
+use Rattle.yf_forms.specs.NormalForms.Forms.{documents_are_placed}
 use Rattle.yf_emit.specs.Layouts.Layout.{source_of}
-use Rattle.yf_emit.specs.NormalForms.Normal.{LayoutSetting, normal_document, root_spot, setting_of}
-use Rattle.yf_emit.specs.Layouts.Rows.{Row, beginning_at, directive_row, end_rows, rows, start_row, stream_rows, all_rows, begun_at}
+use Rattle.yf_forms.specs.NormalForms.Normal.{LayoutSetting, normal_document, root_spot, setting_of}
+use Rattle.yf_print.specs.Layouts.Rows.{Row, beginning_at, directive_row, end_rows, rows, start_row, stream_rows, all_rows, begun_at}
 use Rattle.yf_emit.proofs.Derived.LayoutSteps.{steps_of, comments_of}
 use Rattle.yf_emit.proofs.SameReading.CommentsCut.{In, in_first, in_rest, Upward, upward_none, upward_more, upward_of}
 use Rattle.yf_emit.proofs.Writable.CommentsFit.{reading_remarks}
@@ -49,8 +49,8 @@ use Rattle.yf_emit.proofs.Trails.StillHolds.{trees_kept}
 use Rattle.yf_emit.proofs.NormalForms.StyledTwice.{normal_house}
 use Rattle.yf_emit.proofs.Trails.TrailChoice.{rising}
 use Rattle.yf_emit.proofs.SameReading.UprightRows.{rows_upright}
-use Rattle.yf_emit.specs.Layouts.BareStart.{is_bare}
-use Rattle.yf_emit.specs.Layouts.KeptColumns.{Columns}
+use Rattle.yf_print.specs.Layouts.BareStart.{is_bare}
+use Rattle.yf_print.specs.Layouts.KeptColumns.{Columns}
 
 -- The rows that begin a document.
 
@@ -117,7 +117,7 @@ trees_unsigned (tree_is_at {tree = tree} {trees = trees} a b more z) = unsigned_
 
 -- Comments with their notes.
 
-noted_upward : {t : List ℕ} {es : List EventInText} {i : ℕ} {xs ys : List CommentValue} → Upward i xs → NotedComments t es xs ys → Upward i ys
+pub noted_upward : {t : List ℕ} {es : List EventInText} {i : ℕ} {xs ys : List CommentValue} → Upward i xs → NotedComments t es xs ys → Upward i ys
 noted_upward upward_none no_comment = upward_none
 noted_upward (upward_more l a) (one_comment n b) = upward_more l (noted_upward a b)
 

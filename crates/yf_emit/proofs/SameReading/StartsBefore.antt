@@ -3,6 +3,7 @@ use Rattle.std.proofs.Common.{◌≡◌, ℕ, ◌+◌, ◌<◌, ◌≤◌, true,
 use Rattle.std.specs.Prelude.{count_by, nat_lt}
 use Rattle.std.proofs.lemmas.Bool.Decides.{nat_tests}
 use Rattle.std.proofs.lemmas.List.Sums.{sum_by-cons}
+use Rattle.yf_chars.proofs.Tests.{below, not_below}
 
 -- from an offset on, and all before it
 pub data AllFrom : ℕ → List ℕ → Type 0 where
@@ -24,19 +25,13 @@ later_from l (one_later m a) = one_later (omega (arith, l, m)) (later_from l a)
 abbrev pub starts_before : List ℕ → ℕ → ℕ
 starts_before ss o = count_by (λ s. nat_lt s o) ss
 
-not_less : (s o : ℕ) → o ≤ s → nat_lt s o ≡ false
-not_less s o l = grind (arith, nat_tests)
-
-less : (s o : ℕ) → s < o → nat_lt s o ≡ true
-less s o l = grind (arith, nat_tests)
-
 pub none_before : {o : ℕ} {ss : List ℕ} → AllFrom o ss → starts_before ss o ≡ 0
 none_before none_later = refl
 none_before {o = o} (one_later {s = s} {ss = ss} l a) =
-    sum_by-cons (λ w. cond (nat_lt w o) 1 0) s ss ∙ (ap (λ b. cond b 1 0 + starts_before ss o) (not_less s o l) ∙ (zero-add (starts_before ss o) ∙ none_before a))
+    sum_by-cons (λ w. cond (nat_lt w o) 1 0) s ss ∙ (ap (λ b. cond b 1 0 + starts_before ss o) (not_below s o l) ∙ (zero-add (starts_before ss o) ∙ none_before a))
 
 pub one_before : (s o : ℕ) (ss : List ℕ) → s < o → starts_before (s ∷ ss) o ≡ 1 + starts_before ss o
-one_before s o ss l = sum_by-cons (λ w. cond (nat_lt w o) 1 0) s ss ∙ ap (λ b. cond b 1 0 + starts_before ss o) (less s o l)
+one_before s o ss l = sum_by-cons (λ w. cond (nat_lt w o) 1 0) s ss ∙ ap (λ b. cond b 1 0 + starts_before ss o) (below s o l)
 
 pub all_before : {o : ℕ} {ss : List ℕ} (rs : List ℕ) → AllBelow o ss → starts_before (ss ++ rs) o ≡ length ss + starts_before rs o
 all_before {o} rs none_earlier = sym (zero-add (starts_before rs o))

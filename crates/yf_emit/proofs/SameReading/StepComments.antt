@@ -10,14 +10,14 @@ use Rattle.yf_events.specs.declared.lists.Lists.{Lists}
 use Rattle.yf_emit.proofs.SameReading.RowSteps.{leaves_begin, steps_with}
 use Rattle.yf_emit.specs.Layouts.Decorated.{first_gap, row_decos}
 use Rattle.yf_emit.specs.Layouts.Layout.{Remark, source_of, trailing}
-use Rattle.yf_emit.specs.Layouts.Rows.{Row, at_text_start}
+use Rattle.yf_print.specs.Layouts.Rows.{Row, at_text_start}
 use Rattle.yf_emit.proofs.Derived.LayoutSteps.{Step, comment_steps, steps_of, comments_of}
 use Rattle.yf_emit.proofs.SameReading.CommentsCut.{each_none, Upward, own_of, Flowing, flowing_over, cuts_made}
 use Rattle.yf_emit.proofs.Trails.DocumentTrails.{leaves_of}
 use Rattle.yf_emit.proofs.SameReading.PrintSteps.{steps_of_leaves, steps_printed, trimmed_by, printed_steps, cuts_told}
 use Rattle.yf_emit.proofs.SameReading.StartsBefore.{starts_before}
 use Rattle.yf_emit.proofs.Derived.StepsInText.{starts_of, starts_append, node_starts}
-use Rattle.yf_emit.specs.Layouts.KeptColumns.{Columns}
+use Rattle.yf_print.specs.Layouts.KeptColumns.{Columns}
 
 pub firsts : (cs : List CommentValue) (bs : List Bool) → length bs ≡ length cs → map (λ (r : Remark). r.0) (zip cs bs) ≡ cs
 firsts [] bs e = refl

@@ -7,11 +7,11 @@ use Rattle.yf_events.specs.Reading.{leaves_before}
 use Rattle.yf_events.specs.Tree.{DocumentTree}
 use Rattle.yf_events.specs.declared.lists.Lists.{Lists}
 use Rattle.yf_stream.specs.ReadingOf.{ReadingOf}
-use Rattle.yf_emit.specs.declared.style.Style.{Style}
+use Rattle.yf_forms.specs.declared.style.Style.{Style}
 use Rattle.yf_emit.specs.Layouts.Decorated.{rows_of}
 use Rattle.yf_emit.specs.Format.{IsFormatting}
 use Rattle.yf_emit.specs.Preservation.CommentsPlaced.{columns_in}
-use Rattle.yf_emit.specs.NormalForms.Normal.{normal_document, setting_of}
+use Rattle.yf_forms.specs.NormalForms.Normal.{normal_document, setting_of}
 use Rattle.yf_emit.proofs.Derived.LayoutSteps.{steps_of, comments_of}
 use Rattle.yf_emit.proofs.Trails.FormatTrails.{normal_trees}
 use Rattle.yf_emit.proofs.SameReading.FoundAgain.{found_again, told_by}

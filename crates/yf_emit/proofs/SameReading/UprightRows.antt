@@ -8,7 +8,7 @@ use Rattle.yf_comments.specs.Comment.{CommentValue}
 use Rattle.yf_events.specs.declared.event.Span.{Span}
 use Rattle.yf_stream.specs.ReadingOf.{last_leaf}
 use Rattle.yf_emit.specs.Layouts.Layout.{Source, is_among, is_before, trailing}
-use Rattle.yf_emit.specs.Layouts.Rows.{Row}
+use Rattle.yf_print.specs.Layouts.Rows.{Row}
 use Rattle.yf_emit.proofs.Writable.StillLeaves.{Still, between}
 use Rattle.yf_emit.proofs.SameReading.CommentsCut.{In, Upward}
 use Rattle.yf_emit.proofs.SameReading.ItemsOrder.{items_on, sub_join, sub_twice, rises_greatest}
@@ -22,6 +22,7 @@ use Rattle.yf_emit.proofs.SameReading.StartsBefore.{AllFrom, none_later, one_lat
 use Rattle.yf_emit.proofs.Derived.StepsInText.{starts_of, starts_append}
 use Rattle.yf_emit.proofs.Trails.TrailChoice.{rising, rising_after, start_of_first}
 use Rattle.yf_emit.proofs.Trails.TrailFirst.{found_first, LeafTrail, nothing_trails, it_trails, leaf_trail, last_trails}
+use Rattle.yf_chars.proofs.Tests.{below, not_below, is_less}
 
 -- The leaves on rows are among their items.
 rows_among : {cs : List CommentValue} {rows : List Row} → RowsFit cs rows → Sub (starts_of (leaves_on rows)) (items_on rows)
@@ -50,27 +51,18 @@ last_has (l ∷ ls) s = has_rest (last_has ls s)
 
 -- Leaves after a comment.
 
-less : (m n : ℕ) → nat_lt m n ≡ true → m < n
-less m n e = grind (arith, nat_tests)
-
-below : (m n : ℕ) → m < n → nat_lt m n ≡ true
-below m n l = grind (arith, nat_tests)
-
 later_all : (n m : ℕ) (ss : List Span) → n ≤ m → list_all (λ (r : Span). nat_lt m r.start) ss ≡ true → AllFrom n (starts_of ss)
 later_all n m [] l e = none_later
 later_all n m (s ∷ ss) l e =
     let parts = and_parts (nat_lt m s.start) (list_all (λ (r : Span). nat_lt m r.start) ss) e in
-    let far : m < s.start = less m s.start parts.0 in
+    let far : m < s.start = is_less m s.start parts.0 in
     one_later (omega (arith, l, far)) (later_all n m ss l parts.1)
 
 leaves_later : (o : ℕ) (post : List Span) → is_before o (start_of_first post) ≡ true → rising post ≡ true → AllFrom (o + 1) (starts_of post)
 leaves_later o [] e r = none_later
 leaves_later o (s ∷ ss) e r =
-    let l : o < s.start = less o s.start e in
+    let l : o < s.start = is_less o s.start e in
     one_later (omega (arith, l)) (later_all (o + 1) s.start ss (omega (arith, l)) (and_parts (list_all (λ (x : Span). nat_lt s.start x.start) ss) (rising ss) r).0)
-
-not_below : (m n : ℕ) → n ≤ m → nat_lt m n ≡ false
-not_below m n l = grind (arith, nat_tests)
 
 -- the last leaf that begins before a comment
 stays : (s : Span) (o : ℕ) (post : List Span) → AllFrom (o + 1) (starts_of post) → last_leaf (Some s) o post ≡ Some s
@@ -142,8 +134,8 @@ module _ (c : Source) (cs : List CommentValue) (bs : List Bool) (remarks : c.rem
       ap (λ o. option_to_list o ++ flat_map (trail_of c) row.leaves) q ∙ ap (λ w. e ∷ w) (leaves_silent c cs bs remarks up e pre row.leaves (leaves_on (next ∷ rows)) eq among still last) in
       let w = found_first (between a s.start) cs 0 e order g in
       let parts = and_parts (nat_lt a e.offset) (nat_lt e.offset s.start) w.passes in
-      let after : a < e.offset = less a e.offset parts.0 in
-      let before : e.offset < s.start = less e.offset s.start parts.1 in
+      let after : a < e.offset = is_less a e.offset parts.0 in
+      let before : e.offset < s.start = is_less e.offset s.start parts.1 in
       let rest : rising (leaves_on (next ∷ rows)) ≡ true = rising_after row.leaves (leaves_on (next ∷ rows)) (rising_after pre (row.leaves ++ leaves_on (next ∷ rows)) (subst (λ z. rising z ≡ true) eq up)) in
       let there : is_before e.offset (start_of_first (leaves_on (next ∷ rows))) ≡ true = ap (λ z. is_before e.offset (start_of_first (z ++ leaves_on rows))) first ∙ parts.1 in
       trailed_after e a trails w.among item after

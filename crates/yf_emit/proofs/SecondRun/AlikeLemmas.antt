@@ -9,12 +9,13 @@ use Rattle.yf_events.specs.Tree.{NodeOffsets, Node, scalar, Items, Pairs, props_
 use Rattle.yf_events.specs.declared.event.ScalarStyle.{ScalarStyle}
 use Rattle.yf_events.specs.declared.event.ScalarStyle.TheVariants.{Plain, Single, Double, Literal, Folded}
 use Rattle.yf_events.specs.declared.event.Span.{Span}
-use Rattle.yf_emit.specs.declared.style.Style.{Style}
-use Rattle.yf_emit.specs.NormalForms.Normal.{LayoutSetting, Spot, inner_spot, fits, is_one_line_key, is_implicit, key_comment, key_spot, value_spot, value_column, value_entries, value_of_implicit}
-use Rattle.yf_emit.specs.Nodes.OneLine.{width, spaced, props_text, bare, more_items, more_pairs, written, colon_after}
+use Rattle.yf_forms.specs.declared.style.Style.{Style}
+use Rattle.yf_forms.specs.NormalForms.Normal.{LayoutSetting, Spot, inner_spot, fits, is_one_line_key, is_implicit, key_comment, key_spot, value_spot, value_column, value_entries, value_of_implicit}
+use Rattle.yf_forms.specs.Nodes.OneLine.{width, spaced, props_text, bare, more_items, more_pairs, written, colon_after}
 use Rattle.yf_emit.specs.Layouts.RowShapes.{RowShape, shape_of, joined_shapes, shapes_after_key, KeysAgree}
-use Rattle.yf_emit.specs.Nodes.BlockLines.{header_text, block_lines, final_feeds, is_kept_tail}
-use Rattle.yf_emit.specs.Layouts.Rows.{Row, anywhere, tail_ending, block_scalar, joined, one_line_row, one_line, scalar_rows, entry_row, colon_row, key_row, after_sign, begins_below, is_empty_text, after_key, explicit_pair, implicit_pair, pair_rows, Start}
+use Rattle.yf_forms.specs.Nodes.BlockLines.{header_text, block_lines, final_feeds, is_kept_tail}
+use Rattle.yf_print.specs.Layouts.Rows.{Row, anywhere, tail_ending, block_scalar, joined, one_line_row, one_line, scalar_rows, entry_row, colon_row, key_row, after_sign, begins_below, after_key, explicit_pair, implicit_pair, pair_rows, Start}
+use Rattle.yf_forms.specs.Nodes.Lines.{is_empty_text}
 
 -- Texts on one line.
 

@@ -3,7 +3,11 @@ use Rattle.std.proofs.Common.{◌≡◌, ℕ, zero, suc, ◌+◌, ◌<◌, Bool,
 use Rattle.std.specs.Prelude.{◌==◌, ◌&&◌, not, nat_lt, if◌then◌else◌}
 use Rattle.std.proofs.lemmas.Bool.{and_parts}
 use Rattle.std.proofs.lemmas.Bool.Decides.{nat_tests}
-use Rattle.yf_emit.specs.Layouts.CommentColumns.{OpenBlock, Beginning, begins_node, begins_document, begins_entry, is_ended_by, is_same_block, not_ended, goes_on, inward_from, is_source, or_else, column_at, at_margin, further_in, left_or, column_left, column_among, column_before_new, column_in, comment_column}
+use Rattle.yf_print.specs.Layouts.CommentColumns.{Beginning, begins_node, begins_document, begins_entry, is_ended_by, is_same_block, not_ended, goes_on, inward_from, is_source, or_else, column_at, at_margin, further_in, left_or, column_left, column_among, column_before_new, column_in, comment_column}
+use Rattle.yf_print.specs.declared.open_blocks.OpenBlock.{OpenBlock}
+use Rattle.yf_chars.proofs.Tests.{below, is_less}
+use Rattle.yf_emit.proofs.OutputLines.ColumnsHold.{some_is, none_is}
+use Rattle.yf_forms.proofs.Decide.FlagLemmas.{same as equal_to}
 
 -- a collection as it is printed
 abbrev pub as_printed : OpenBlock → OpenBlock
@@ -40,37 +44,22 @@ pub data NextIsAt (next : ℕ) : Beginning → Type 0 where
 equal_from : (m n : ℕ) → (m == n) ≡ true → m ≡ n
 equal_from m n e = grind (arith, nat_tests)
 
-equal_to : (m n : ℕ) → m ≡ n → (m == n) ≡ true
-equal_to m n e = grind (arith, nat_tests)
-
-below_to : (m n : ℕ) → m < n → nat_lt m n ≡ true
-below_to m n l = grind (arith, nat_tests)
-
-below_from : (m n : ℕ) → nat_lt m n ≡ true → m < n
-below_from m n e = grind (arith, nat_tests)
-
-some_same : {m n : ℕ} → Some m ≡ Some n → m ≡ n
-some_same {m} {n} e = ap (λ o. or_else o m) e
-
-no_some : {A : Type 0} {n : ℕ} → None ≡ Some n → A
-no_some e = absurd cc
-
 -- Where a column is found.
 
 -- what is found is a column of one of them
 found_in : (k : ℕ) (bs : List OpenBlock) {c : ℕ} → column_at k bs ≡ Some c → HasColumn c bs
-found_in k [] e = no_some e
+found_in k [] e = none_is e
 found_in k (b ∷ bs) {c} e = go (is_source k b.source) (λ f. found_in k bs f) e where
   go : (p : Bool) → (column_at k bs ≡ Some c → HasColumn c bs) → (if p then Some b.printed else column_at k bs) ≡ Some c → HasColumn c (b ∷ bs)
-  go true rest f = column_here (some_same f)
+  go true rest f = column_here (some_is f)
   go false rest f = column_there (rest f)
 
 -- where they are at their columns it is the column that was looked for
 found_same : (k : ℕ) (bs : List OpenBlock) {c : ℕ} → column_at k (all_printed bs) ≡ Some c → c ≡ k
-found_same k [] e = no_some e
+found_same k [] e = none_is e
 found_same k (b ∷ bs) {c} e = go (b.printed == k) refl (λ f. found_same k bs f) e where
   go : (p : Bool) → (b.printed == k) ≡ p → (column_at k (all_printed bs) ≡ Some c → c ≡ k) → (if p then Some b.printed else column_at k (all_printed bs)) ≡ Some c → c ≡ k
-  go true f rest g = sym (some_same g) ∙ equal_from b.printed k f
+  go true f rest g = sym (some_is g) ∙ equal_from b.printed k f
   go false f rest g = rest g
 
 -- and each such column is found
@@ -100,14 +89,14 @@ steps_after (same_step e s) = s
 steps_after (inner_step e s) = s
 
 left_found : (indent : ℕ) (may : Bool) (k : ℕ) (bs : List OpenBlock) {c : ℕ} → InSteps indent bs → column_left indent may k bs ≡ Some c → LeftFound indent c may bs
-left_found indent may k [] s e = no_some e
+left_found indent may k [] s e = none_is e
 left_found indent may k (b ∷ bs) {c} s e = go b.source (λ f. left_found indent may k bs (steps_after s) f) (λ f. left_found indent false k bs (steps_after s) f) e where
   further : (m : Bool) → further_in indent m b.printed ≡ c → LeftFound indent c m (b ∷ bs)
   further true f = right_of_all f
   further false f = left_column (column_here f)
 
   chosen : (p : Bool) → (column_left indent false k bs ≡ Some c → LeftFound indent c false bs) → (if p then Some (further_in indent may b.printed) else column_left indent false k bs) ≡ Some c → LeftFound indent c may (b ∷ bs)
-  chosen true later f = further may (some_same f)
+  chosen true later f = further may (some_is f)
   chosen false later f = left_never (later f)
 
   go : (o : Option ℕ) → (column_left indent may k bs ≡ Some c → LeftFound indent c may bs) → (column_left indent false k bs ≡ Some c → LeftFound indent c false bs)
@@ -144,7 +133,7 @@ stays indent next c {may} {inner} l (stays_at_margin {b = b} {bs = bs} e) =
     (λ n f. found_same c (b ∷ bs) f) (margin_none (all_printed bs) c (or_else (column_left indent may c (all_printed inner)) next) e (as_printed b))
 stays indent next c {all = all} l (stays_right {b = b} {inner = inner} e) =
     let left : column_left indent true c (all_printed (b ∷ inner)) ≡ Some (b.printed + indent) =
-    ap (λ p. if p then Some (b.printed + indent) else column_left indent false c (all_printed inner)) (below_to b.printed c (omega (arith, e, l))) in
+    ap (λ p. if p then Some (b.printed + indent) else column_left indent false c (all_printed inner)) (below b.printed c (omega (arith, e, l))) in
     or_found (column_at c (all_printed all)) c (at_margin c (all_printed all) (or_else (column_left indent true c (all_printed (b ∷ inner))) next)) (λ n f. found_same c all f)
     (margin_only c (all_printed all) (or_else (column_left indent true c (all_printed (b ∷ inner))) next) (omega (arith, e, l)) ∙ (ap (λ o. or_else o next) left ∙ e))
 stays indent next c l (stays_alone e) = sym e

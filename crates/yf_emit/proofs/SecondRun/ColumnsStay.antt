@@ -1,6 +1,7 @@
 -- Each comment on a line of its own that was laid out at its column is found there, and is laid out at that column again.
 use Rattle.std.proofs.Common.{◌≡◌, ℕ, ◌+◌, ◌<◌, ◌≤◌, Bool, true, false, true≢false, List, [], ◌∷◌, ◌++◌, length, map, Option, Some, None, refl, sym, ap, ◌∙◌, subst, arith}
-use Rattle.std.specs.Prelude.{◌-◌, filter, if◌then◌else◌}
+use Rattle.std.specs.Prelude.{◌-◌, ◌==◌, ◌&&◌, not, nat_lt, filter, if◌then◌else◌}
+use Rattle.std.proofs.lemmas.Bool.{or_parts}
 use Rattle.std.specs.Str.{IsUtf8}
 use Rattle.yf_comments.specs.Comment.{CommentValue}
 use Rattle.yf_props.specs.Props.{PropsValue}
@@ -13,9 +14,9 @@ use Rattle.yf_events.specs.declared.lists.Lists.{Lists}
 use Rattle.yf_events.proofs.TreeLemmas.{trees_unique}
 use Rattle.yf_stream.specs.ReadingOf.{ReadingOf}
 use Rattle.yf_emit.specs.Format.{IsFormatting}
-use Rattle.yf_emit.specs.Layouts.BareStart.{is_bare}
-use Rattle.yf_emit.specs.Nodes.OneLine.{props_text, written}
-use Rattle.yf_emit.specs.NormalForms.Normal.{LayoutSetting, Spot, inner_spot, is_implicit, key_comment, key_spot, root_spot, setting_of, value_entries, value_of_implicit, value_spot}
+use Rattle.yf_print.specs.Layouts.BareStart.{is_bare}
+use Rattle.yf_forms.specs.Nodes.OneLine.{props_text, written}
+use Rattle.yf_forms.specs.NormalForms.Normal.{LayoutSetting, Spot, inner_spot, is_implicit, key_comment, key_spot, root_spot, setting_of, value_entries, value_of_implicit, value_spot}
 use Rattle.yf_emit.specs.Preservation.CommentsPlaced.{columns_in}
 use Rattle.yf_emit.proofs.Columns.FormattedSet.{reading_set}
 use Rattle.yf_emit.proofs.Columns.SetMeant.{BlockAt}
@@ -24,14 +25,15 @@ use Rattle.yf_emit.proofs.Derived.TreesMade.{either_pair}
 use Rattle.yf_emit.proofs.SecondRun.FixedLawsHold.{FoundReading}
 use Rattle.yf_emit.proofs.SecondRun.FixedRows.{found_rows}
 use Rattle.yf_emit.proofs.Derived.FormatsRead.{formats_fit}
-use Rattle.yf_emit.specs.declared.style.Style.{Style}
-use Rattle.yf_emit.specs.Layouts.CommentColumns.{Beginning, begins_document, begins_entry, begins_node, OpenBlock, comment_column, goes_on, not_ended, open_after}
+use Rattle.yf_forms.specs.declared.style.Style.{Style}
+use Rattle.yf_print.specs.Layouts.CommentColumns.{Beginning, begins_document, begins_entry, begins_node, comment_column, goes_on, is_ended_by, not_ended, open_after, placed_in}
+use Rattle.yf_print.specs.declared.open_blocks.OpenBlock.{OpenBlock}
 use Rattle.yf_emit.specs.Layouts.Decorated.{comments_left, decos_of, first_gap, gap_of, row_decos, rows_of}
-use Rattle.yf_emit.specs.Layouts.KeptColumns.{Columns, after_row, after_starts, beginning, block_of, column_above, columns_if, is_before_first, is_bodyless, keeps_blocks, precedes_item, unless_document}
+use Rattle.yf_print.specs.Layouts.KeptColumns.{Columns, after_row, after_starts, beginning, block_of, column_above, columns_if, is_before_first, is_bodyless, keeps_blocks, precedes_item, unless_document}
 use Rattle.yf_emit.specs.Layouts.Layout.{Source, own_line_comments, source_of}
 use Rattle.yf_emit.specs.Layouts.RowShapes.{RowShape, shape_of}
-use Rattle.yf_emit.specs.Layouts.Rows.{Ending, Row, Start, after_key, all_rows, at_text_start, beginning_at, begins_below, begun_at, colon_row, directive_row, end_rows, entry_row, joined, key_row, one_line_row, pair_rows, props_row, rows, rows_of_items, rows_of_pairs, start_row, stream_rows}
-use Rattle.yf_emit.specs.Layouts.SourceColumns.{own_column, source_column}
+use Rattle.yf_print.specs.Layouts.Rows.{Ending, Row, Start, after_key, all_rows, at_text_start, beginning_at, begins_below, begun_at, colon_row, directive_row, end_rows, entry_row, joined, key_row, one_line_row, pair_rows, props_row, rows, rows_of_items, rows_of_pairs, start_row, stream_rows}
+use Rattle.yf_print.specs.Layouts.SourceColumns.{own_column, source_column}
 use Rattle.yf_emit.proofs.OutputLines.ChainedRows.{layout_chain}
 use Rattle.yf_emit.proofs.OutputLines.OpenChains.{Chained, chain_over, chain_row}
 use Rattle.yf_emit.proofs.OutputLines.ColumnsHold.{GapHolds, WalkAbove, WalkFrom, above_walk, every, gap_holds, left_walk, remarks_hold}
@@ -59,11 +61,26 @@ block_found t u s r a e f =
     ap (λ z. record { source = z; printed = r.column; is_sequence = r.is_item }) a
     ∙ (ap (λ z. record { source = Some z; printed = z; is_sequence = r.is_item }) (sym e) ∙ ap (λ z. record { source = Some s.column; printed = s.column; is_sequence = z }) (sym f))
 
+-- where all are at their columns, none is left of one around it
+placed_printed : (y : OpenBlock) (bs : List OpenBlock) → placed_in (as_printed y) (all_printed (not_ended y bs)) ≡ as_printed y
+placed_printed y [] = refl
+placed_printed y (b ∷ bs) = go (is_ended_by y b) refl (placed_printed y bs) where
+  go : (v : Bool) → is_ended_by y b ≡ v → placed_in (as_printed y) (all_printed (not_ended y bs)) ≡ as_printed y → placed_in (as_printed y) (all_printed (if v then not_ended y bs else b ∷ bs)) ≡ as_printed y
+  go true e rest = rest
+  go false e rest =
+      let right : nat_lt y.printed b.printed ≡ false = (or_parts (nat_lt y.printed b.printed) ((y.printed == b.printed) && (b.is_sequence && not y.is_sequence)) e).0 in
+      ap (λ z. record (as_printed y) { source = if z then None else Some y.printed }) right
+
 open_printed : (y : OpenBlock) (bs : List OpenBlock) → open_after (as_printed y) (all_printed bs) ≡ all_printed (open_after y bs)
-open_printed y bs = ap (λ z. if goes_on (as_printed y) z then z else as_printed y ∷ z) (printed_not_ended y bs) ∙ (ap (λ v. if v then all_printed (not_ended y bs) else as_printed y ∷ all_printed (not_ended y bs)) (printed_goes_on y (not_ended y bs)) ∙ go (goes_on y (not_ended y bs))) where
-  go : (v : Bool) → (if v then all_printed (not_ended y bs) else as_printed y ∷ all_printed (not_ended y bs)) ≡ all_printed (if v then not_ended y bs else y ∷ not_ended y bs)
-  go true = refl
-  go false = refl
+open_printed y bs =
+    ap (λ z. if goes_on (as_printed y) z then z else placed_in (as_printed y) z ∷ z) (printed_not_ended y bs)
+    ∙ (ap (λ v. if v then all_printed now else placed_in (as_printed y) (all_printed now) ∷ all_printed now) (printed_goes_on y now) ∙ go (goes_on y now)) where
+      now : List OpenBlock
+      now = not_ended y bs
+
+      go : (v : Bool) → (if v then all_printed now else placed_in (as_printed y) (all_printed now) ∷ all_printed now) ≡ all_printed (if v then now else placed_in y now ∷ now)
+      go true = refl
+      go false = ap (λ z. z ∷ all_printed now) (placed_printed y bs)
 
 starts_found : (t u : List ℕ) (ss rs : List Start) (bs : List OpenBlock) → AtColumns u rs → kinds ss ≡ kinds rs → after_starts u rs (all_printed bs) ≡ all_printed (after_starts t ss bs)
 starts_found t u [] [] bs a e = refl

@@ -5,11 +5,11 @@ use Rattle.yf_comments.specs.Comment.{CommentValue}
 use Rattle.yf_events.specs.Alike.{Alike, alike_scalars, alike_aliases, alike_sequences, alike_mappings, AlikeItems, alike_nothing, alike_item, AlikePairs, alike_no_pairs, alike_pair}
 use Rattle.yf_events.specs.Tree.{Node, alias, sequence, mapping, Items, item, Pairs, pair, is_block_collection}
 use Rattle.yf_grammar.specs.Productions.TreesOfMeaning.{Anywhere}
-use Rattle.yf_emit.specs.declared.style.Style.{Style}
+use Rattle.yf_forms.specs.declared.style.Style.{Style}
 use Rattle.yf_emit.specs.Preservation.AlikeBlocks.{AlikeBlocks, alike_lines, alike_block_sequences, alike_block_mappings, AlikeBlockItems, no_block_items, block_item, AlikeBlockPairs, no_block_pairs, block_pair}
-use Rattle.yf_emit.specs.NormalForms.Normal.{Spot, fits, inner_spot, key_spot, settled, settled_items, settled_pairs, value_spot}
-use Rattle.yf_emit.specs.Nodes.OneLine.{props_text}
-use Rattle.yf_emit.specs.Layouts.Rows.{after_sign, entry_row, pair_rows, props_row, rows, rows_of_items, rows_of_pairs}
+use Rattle.yf_forms.specs.NormalForms.Normal.{Spot, fits, inner_spot, key_spot, settled, settled_items, settled_pairs, value_spot}
+use Rattle.yf_forms.specs.Nodes.OneLine.{props_text}
+use Rattle.yf_print.specs.Layouts.Rows.{after_sign, entry_row, pair_rows, props_row, rows, rows_of_items, rows_of_pairs}
 use Rattle.yf_emit.proofs.SecondRun.AlikeLemmas.{both_shapes, same_fit, same_joined, same_key_spot, same_pair_rows, same_row, same_scalar, same_value_spot, setting, shapes}
 use Rattle.yf_emit.proofs.SecondRun.FixedNodes.{first_item, first_key, first_value, flow_of, items_of, more_items, more_pairs, pairs_of}
 

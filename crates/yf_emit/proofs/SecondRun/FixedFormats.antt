@@ -5,12 +5,12 @@ use Rattle.yf_events.specs.Tree.{DocumentTree, TreesOf, flat_stream}
 use Rattle.yf_events.specs.declared.document.Doc.{Doc}
 use Rattle.yf_events.specs.declared.lists.Lists.{Lists}
 use Rattle.yf_stream.specs.ReadingOf.{ReadingOf}
-use Rattle.yf_emit.specs.declared.style.Style.{Style}
+use Rattle.yf_forms.specs.declared.style.Style.{Style}
 use Rattle.yf_emit.specs.Layouts.Decorated.{decorated, first_gap, gap_then, lines_then, row_decos, rows_of}
 use Rattle.yf_emit.specs.Format.{IsFormatting}
 use Rattle.yf_emit.specs.Layouts.Layout.{layout}
 use Rattle.yf_emit.specs.Preservation.FoundTrees.{FoundSame, FoundTrees, none_found, one_found}
-use Rattle.yf_emit.specs.NormalForms.Normal.{Normal, LayoutSetting, normal_document, root_spot, setting_of, settled, styled}
+use Rattle.yf_forms.specs.NormalForms.Normal.{Normal, LayoutSetting, normal_document, root_spot, setting_of, settled, styled}
 use Rattle.yf_emit.proofs.SecondRun.AlikeLemmas.{setting}
 use Rattle.yf_emit.proofs.Derived.DecoratedLemmas.{layout_then}
 use Rattle.yf_emit.proofs.SecondRun.FixedBlocks.{blocks_alike, settled_blocks}
@@ -19,8 +19,8 @@ use Rattle.yf_emit.proofs.SecondRun.FixedRows.{found_rows, same_lines}
 use Rattle.yf_emit.proofs.Trails.FormatTrails.{normal_trees}
 use Rattle.yf_emit.proofs.NormalForms.SettledTwice.{settled_twice}
 use Rattle.yf_emit.proofs.NormalForms.StyledTwice.{House, normal_house}
-use Rattle.yf_emit.specs.Layouts.BareStart.{is_bare}
-use Rattle.yf_emit.specs.Layouts.KeptColumns.{Columns, columns_of}
+use Rattle.yf_print.specs.Layouts.BareStart.{is_bare}
+use Rattle.yf_print.specs.Layouts.KeptColumns.{Columns, columns_of}
 use Rattle.yf_emit.specs.Preservation.CommentsPlaced.{columns_in}
 
 -- the normal form of a tree that is alike to a normal one is itself

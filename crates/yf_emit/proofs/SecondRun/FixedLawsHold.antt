@@ -9,14 +9,14 @@ use Rattle.yf_events.specs.declared.document.Doc.{Doc}
 use Rattle.yf_events.specs.declared.lists.Lists.{Lists}
 use Rattle.yf_stream.specs.ReadingOf.{ReadingOf, doc_of}
 use Rattle.yf_stream.specs.Stream.{Documents}
-use Rattle.yf_emit.specs.declared.style.Style.{Style}
+use Rattle.yf_forms.specs.declared.style.Style.{Style}
 use Rattle.yf_emit.specs.Layouts.Decorated.{Deco, rows_of}
 use Rattle.yf_emit.specs.Layouts.FitDocuments.{DocumentsMeant}
 use Rattle.yf_emit.specs.FixedLaws.{FormatsAreNormal}
 use Rattle.yf_emit.specs.Format.{IsFormatting}
 use Rattle.yf_emit.specs.Preservation.FoundTrees.{FoundTrees}
-use Rattle.yf_emit.specs.NormalForms.Normal.{LayoutSetting, normal_document, setting_of}
-use Rattle.yf_emit.specs.Layouts.Rows.{Row}
+use Rattle.yf_forms.specs.NormalForms.Normal.{LayoutSetting, normal_document, setting_of}
+use Rattle.yf_print.specs.Layouts.Rows.{Row}
 use Rattle.yf_emit.proofs.RowNodes.BareNodes.{bare_tree, bared, noting_bare}
 use Rattle.yf_emit.proofs.RowNodes.BareTrees.{trees_bare}
 use Rattle.yf_emit.proofs.SameReading.CommentsCut.{Each, each_none}
@@ -27,7 +27,7 @@ use Rattle.yf_emit.proofs.RowNodes.FoundStreams.{StreamIn, no_stream, stream_in,
 use Rattle.yf_emit.proofs.RowNodes.FoundTexts.{Settled, normal_settled, AllRoots, all_roots_found, all_trees_found}
 use Rattle.yf_emit.proofs.RowNodes.PlacedRows.{PlacedRow}
 use Rattle.yf_emit.proofs.RowNodes.QuietPlaces.{AllQuiet, quiet_none, ascend_under, Carries, decos_carry, Linked, linked_none, quiet_offsets, linked_offsets, rows_linked, rows_quiet}
-use Rattle.yf_emit.specs.Layouts.BareStart.{is_bare}
+use Rattle.yf_print.specs.Layouts.BareStart.{is_bare}
 use Rattle.yf_emit.proofs.SameReading.BareAgain.{same_bare}
 
 -- Streams.

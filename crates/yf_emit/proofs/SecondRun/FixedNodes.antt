@@ -5,11 +5,12 @@ use Rattle.yf_comments.specs.Comment.{CommentValue}
 use Rattle.yf_props.specs.Props.{PropsValue}
 use Rattle.yf_events.specs.Alike.{Alike, alike_scalars, alike_aliases, alike_sequences, alike_mappings, AlikeItems, alike_nothing, alike_item, AlikePairs, alike_no_pairs, alike_pair}
 use Rattle.yf_events.specs.Tree.{NodeOffsets, Node, scalar, alias, sequence, mapping, Items, no_items, item, Pairs, no_pairs, pair}
-use Rattle.yf_emit.specs.Nodes.OneLineFlows.{has_comment, items_may_be_kept, may_be_kept, pairs_may_be_kept}
-use Rattle.yf_emit.specs.NormalForms.Normal.{LayoutSetting, styled, styled_items, styled_pairs}
+use Rattle.yf_forms.specs.Nodes.OneLineFlows.{has_comment, items_may_be_kept, may_be_kept, pairs_may_be_kept}
+use Rattle.yf_forms.specs.NormalForms.Normal.{LayoutSetting, styled, styled_items, styled_pairs}
 use Rattle.yf_emit.specs.Nodes.FlowsWithoutComments.{Undisturbed, undisturbed_sequence, undisturbed_mapping, UndisturbedItems, undisturbed_item, UndisturbedPairs, undisturbed_pair}
 use Rattle.yf_emit.proofs.SecondRun.AlikeLemmas.{setting}
 use Rattle.yf_emit.proofs.NormalForms.StyledTwice.{House}
+use Rattle.yf_lines.proofs.CoreSteady.{both_parts}
 
 -- Parts of nodes.
 
@@ -80,11 +81,6 @@ of_five true false false d f e = absurd (true≢false (sym e))
 of_five true true c d f e = absurd (true≢false (sym e))
 of_five false b c d f e = absurd (true≢false (sym e))
 
-of_two : (a b : Bool) → (a && b) ≡ true → (a ≡ true) × (b ≡ true)
-of_two true true e = (refl, refl)
-of_two true false e = absurd (true≢false (sym e))
-of_two false b e = absurd (true≢false (sym e))
-
 of_three : (a b c : Bool) → (a && b && c) ≡ true → (a ≡ true) × (b ≡ true) × (c ≡ true)
 of_three true true true e = (refl, refl, refl)
 of_three true true false e = absurd (true≢false (sym e))
@@ -111,7 +107,7 @@ mutual
       → UndisturbedItems u cs ys → items_may_be_kept u cs ys ≡ true
   items_kept_alike u cs alike_nothing k f = refl
   items_kept_alike u cs (alike_item {x = x} {xs = xs} a more) k (undisturbed_item f fs) =
-      let parts = of_two (may_be_kept [] [] x) (items_may_be_kept [] [] xs) k in
+      let parts = both_parts (may_be_kept [] [] x) (items_may_be_kept [] [] xs) k in
       rw (kept_alike u cs a parts.0 f, items_kept_alike u cs more parts.1 fs) refl
 
   pairs_kept_alike : {K : Node → Node → Node → Node → Type 0} {ps qs : Pairs} (u : List ℕ) (cs : List CommentValue) → AlikePairs K ps qs → pairs_may_be_kept [] [] ps ≡ true

@@ -5,13 +5,13 @@ use Rattle.yf_comments.specs.Comment.{CommentValue}
 use Rattle.yf_events.specs.Tree.{DocumentTree}
 use Rattle.yf_events.specs.declared.directive.Directive.{Directive}
 use Rattle.yf_events.specs.declared.document.Doc.{Doc}
-use Rattle.yf_emit.specs.declared.style.Style.{Style}
+use Rattle.yf_forms.specs.declared.style.Style.{Style}
 use Rattle.yf_emit.specs.Layouts.Decorated.{Deco, first, after, end_then, lines_then}
 use Rattle.yf_emit.specs.Preservation.FoundTrees.{FoundTrees, none_found, one_found, words_of}
 use Rattle.yf_emit.specs.Preservation.LayoutKey.{SameDocuments, no_documents, same_document}
-use Rattle.yf_emit.specs.NormalForms.Normal.{root_spot}
+use Rattle.yf_forms.specs.NormalForms.Normal.{root_spot}
 use Rattle.yf_emit.specs.Layouts.RowShapes.{RowShape, shape_of}
-use Rattle.yf_emit.specs.Layouts.Rows.{Row, all_rows, bare_rows, beginning_at, begun_at, directive_row, document_rows, end_rows, joined_words, plain_row, rows, start_row, stream_rows}
+use Rattle.yf_print.specs.Layouts.Rows.{Row, all_rows, bare_rows, beginning_at, begun_at, directive_row, document_rows, end_rows, joined_words, plain_row, rows, start_row, stream_rows}
 use Rattle.yf_emit.proofs.SecondRun.AlikeLemmas.{both_shapes, setting, shapes}
 use Rattle.yf_emit.proofs.SecondRun.FixedBlocks.{same_block_rows}
 

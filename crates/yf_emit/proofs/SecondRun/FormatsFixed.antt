@@ -15,16 +15,16 @@ use Rattle.yf_events.specs.declared.lists.Lists.{Lists}
 use Rattle.yf_grammar.proofs.Documents.CommentOrder.{Ascend}
 use Rattle.yf_stream.specs.ReadingOf.{NotedComments, no_comment, ReadingOf, leaf_lines}
 use Rattle.yf_stream.specs.Stream.{Documents}
-use Rattle.yf_emit.specs.declared.style.Style.{Style}
+use Rattle.yf_forms.specs.declared.style.Style.{Style}
 use Rattle.yf_emit.specs.Layouts.RowComments.{AreDecos}
 use Rattle.yf_emit.specs.Layouts.Decorated.{decos_of, first_gap, gap_of, inline_then, lines_then, row_decos, rows_of}
 use Rattle.yf_emit.specs.FixedLaws.{FormatsAreFixed}
 use Rattle.yf_emit.specs.Format.{IsFormatting}
 use Rattle.yf_emit.specs.Preservation.FoundTrees.{FoundSame}
 use Rattle.yf_emit.specs.Layouts.Layout.{Source, own_line_comments, precedes_item, source_of}
-use Rattle.yf_emit.specs.NormalForms.Normal.{normal_document, setting_of}
+use Rattle.yf_forms.specs.NormalForms.Normal.{normal_document, setting_of}
 use Rattle.yf_emit.specs.Layouts.RowShapes.{RowShape, shape_of}
-use Rattle.yf_emit.specs.Layouts.Rows.{Row, at_text_start, all_rows}
+use Rattle.yf_print.specs.Layouts.Rows.{Row, at_text_start, all_rows}
 use Rattle.yf_emit.proofs.SecondRun.AlikeLemmas.{shapes}
 use Rattle.yf_emit.proofs.ReadAgain.BlanksAgain.{blanks_found}
 use Rattle.yf_emit.proofs.ReadAgain.AllBlanks.{BlanksFound}
@@ -41,7 +41,7 @@ use Rattle.yf_emit.proofs.OutputLines.FormattedLines.{formed}
 use Rattle.yf_emit.proofs.SameReading.FoundAgain.{Unsigned}
 use Rattle.yf_emit.proofs.RowNodes.FoundStreams.{StreamIn, no_stream, stream_in}
 use Rattle.yf_emit.proofs.ReadAgain.GapsAgain.{gap_at_end, gap_with}
-use Rattle.yf_emit.proofs.ReadAgain.OwnsAgain.{decos_beside, noted_parts, noted_texts, noted_under, noted_upward, owns_noted, rows_own, Spots}
+use Rattle.yf_emit.proofs.ReadAgain.OwnsAgain.{decos_beside, noted_parts, noted_texts, noted_under, owns_noted, rows_own, Spots}
 use Rattle.yf_emit.proofs.RowNodes.PlacedRows.{PlacedRow}
 use Rattle.yf_emit.proofs.RowNodes.QuietPlaces.{AllQuiet, ascend_under}
 use Rattle.yf_emit.proofs.ReadAgain.ReadingsAgain.{CarriedSame, alone_same, before_text, carried_same, remarks}
@@ -50,12 +50,12 @@ use Rattle.yf_emit.proofs.Trails.RowLeaves.{leaves_on}
 use Rattle.yf_emit.proofs.ReadAgain.RowsTied.{spot_first, tied_rows}
 use Rattle.yf_emit.proofs.Derived.RowsUtf8.{RowLines}
 use Rattle.yf_emit.proofs.ReadAgain.RowTies.{Ties, a_tie, LaidRows, bare_gap, first_shape, laid_rows, next_tied, none_precedes}
-use Rattle.yf_emit.proofs.SameReading.SourceOffsets.{source_is_at, normal_of}
+use Rattle.yf_emit.proofs.SameReading.SourceOffsets.{source_is_at, normal_of, noted_upward}
 use Rattle.yf_emit.proofs.Derived.StepsInText.{starts_of}
 use Rattle.yf_emit.proofs.Trails.TrailChoice.{rising}
-use Rattle.yf_emit.specs.Layouts.BareStart.{is_bare}
+use Rattle.yf_print.specs.Layouts.BareStart.{is_bare}
 use Rattle.yf_events.specs.Tree.{flat_stream}
-use Rattle.yf_emit.specs.Layouts.KeptColumns.{Columns, columns_of}
+use Rattle.yf_print.specs.Layouts.KeptColumns.{Columns, columns_of}
 use Rattle.yf_emit.specs.Preservation.CommentsPlaced.{columns_in}
 use Rattle.yf_emit.proofs.ReadAgain.RowsAgain.{AllStay}
 use Rattle.yf_emit.proofs.SecondRun.ColumnsStay.{formatted_stay}

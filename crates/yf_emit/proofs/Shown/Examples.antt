@@ -12,14 +12,14 @@ use Rattle.yf_events.specs.declared.document.Doc.{Doc}
 use Rattle.yf_events.specs.declared.event.Entry.{Entry}
 use Rattle.yf_events.specs.declared.event.ScalarStyle.TheVariants.{Plain}
 use Rattle.yf_events.specs.declared.lists.Lists.{Lists}
-use Rattle.yf_emit.specs.declared.style.DocumentStart.{DocumentStart}
-use Rattle.yf_emit.specs.declared.style.CommentColumns.{CommentColumns}
-use Rattle.yf_emit.specs.declared.style.Style.{Style}
-use Rattle.yf_emit.specs.Nodes.ContentStart.{property_len, gap_len, past_gap, past_second, content_start}
+use Rattle.yf_forms.specs.declared.style.DocumentStart.{DocumentStart}
+use Rattle.yf_forms.specs.declared.style.CommentColumns.{CommentColumns}
+use Rattle.yf_forms.specs.declared.style.Style.{Style}
+use Rattle.yf_forms.specs.Nodes.ContentStart.{property_len, gap_len, past_gap, past_second, content_start}
 use Rattle.yf_emit.specs.Layouts.Layout.{Remark, layout}
-use Rattle.yf_emit.specs.NormalForms.Normal.{setting_of, normal_document}
+use Rattle.yf_forms.specs.NormalForms.Normal.{setting_of, normal_document}
 use Rattle.yf_events.specs.Tree.{NodeOffsets, Node, scalar, sequence, mapping, Items, no_items, item, Pairs, no_pairs, pair, DocumentTree}
-use Rattle.yf_emit.specs.Layouts.KeptColumns.{keeps_blocks}
+use Rattle.yf_print.specs.Layouts.KeptColumns.{keeps_blocks}
 
 -- settings
 

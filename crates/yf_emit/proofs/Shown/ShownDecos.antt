@@ -11,12 +11,12 @@ use Rattle.yf_events.specs.declared.lists.Lists.{Lists}
 use Rattle.yf_emit.specs.Layouts.RowComments.{TrailsFit}
 use Rattle.yf_emit.specs.Layouts.Decorated.{blank, remark as own_line, first_gap, row_decos, rows_of, decorated}
 use Rattle.yf_emit.specs.Layouts.Layout.{source_of}
-use Rattle.yf_emit.specs.Layouts.Rows.{Row}
+use Rattle.yf_print.specs.Layouts.Rows.{Row}
 use Rattle.yf_emit.specs.Preservation.SameComments.{kept}
 use Rattle.yf_emit.proofs.Shown.Examples.{house, at, key, word, block_pairs, one_document, root, remark, lists_of}
 use Rattle.yf_emit.proofs.Trails.RowLeaves.{leaves_on}
 use Rattle.yf_emit.proofs.Trails.TrailChoice.{rising}
-use Rattle.yf_emit.specs.Layouts.KeptColumns.{next_columns}
+use Rattle.yf_print.specs.Layouts.KeptColumns.{next_columns}
 
 -- the normal reading of "# top\na: x  # c \n\n# d\nb: |\n  y\n"
 

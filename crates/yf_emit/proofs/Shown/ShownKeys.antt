@@ -1,8 +1,8 @@
 -- What the definitions of the layout say of single nodes.
 use Rattle.std.proofs.Common.{◌≡◌, true, false, [], ◌∷◌, Some, None, codes, refl, replicate}
 use Rattle.yf_props.specs.Props.{no_props}
-use Rattle.yf_emit.specs.Nodes.SingleAnswers.{kept_text_of, block_keys}
-use Rattle.yf_emit.specs.NormalForms.Normal.{is_implicit, setting_of}
+use Rattle.yf_forms.specs.Nodes.SingleAnswers.{kept_text_of, block_keys}
+use Rattle.yf_forms.specs.NormalForms.Normal.{is_implicit, setting_of}
 use Rattle.yf_events.specs.Tree.{sequence, no_items}
 use Rattle.yf_emit.proofs.Shown.Examples.{house, at, entry, key, word, nothing, flow_items, flow_pairs, block_pairs, one_document, root, remark, lists_of, formatted}
 

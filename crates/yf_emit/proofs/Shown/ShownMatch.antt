@@ -4,7 +4,7 @@ use Rattle.std.specs.Prelude.{nat_lt}
 use Rattle.yf_props.specs.Props.{no_props}
 use Rattle.yf_events.specs.Tree.{Node, scalar, mapping, no_pairs, pair}
 use Rattle.yf_events.specs.declared.event.ScalarStyle.TheVariants.{Plain}
-use Rattle.yf_emit.specs.declared.style.Style.{Style}
+use Rattle.yf_forms.specs.declared.style.Style.{Style}
 use Rattle.yf_emit.specs.Preservation.ReadingKey.{HasPair, first_pair, later_pair, PairedOffsets, SameSide, SameSpan, one_each, none_each, colons_match, in_neither, in_both, NodesMatch, matched_scalars, matched_mappings, no_matched_pairs}
 
 -- of each pair in turn

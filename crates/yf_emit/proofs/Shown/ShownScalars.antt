@@ -7,8 +7,8 @@ use Rattle.yf_events.specs.declared.event.ScalarStyle.TheVariants.{Double, Folde
 use Rattle.yf_events.specs.Tree.{Node, scalar}
 use Rattle.yf_emit.specs.Layouts.FitDocuments.{FitDocuments, fit_no_directives, fit_document, fit_no_documents}
 use Rattle.yf_emit.specs.Layouts.ReadableTrees.{fit_line, no_fit_props}
-use Rattle.yf_emit.specs.NormalForms.Normal.{normal_document, setting_of}
-use Rattle.yf_emit.specs.Nodes.OneLine.{written}
+use Rattle.yf_forms.specs.NormalForms.Normal.{normal_document, setting_of}
+use Rattle.yf_forms.specs.Nodes.OneLine.{written}
 use Rattle.yf_emit.proofs.Shown.Examples.{house, at, one_document, tree, root, lists_of, formatted}
 use Rattle.yf_emit.proofs.Writable.QuotedFits.{double_fits}
 

@@ -5,9 +5,10 @@ use Rattle.std.proofs.lemmas.Str.{len_utf8_bounds, length-encode}
 use Rattle.yf_chars.specs.Class.{is_white}
 use Rattle.yf_chars.specs.Text.{last_or}
 use Rattle.yf_events.specs.declared.event.ScalarStyle.TheVariants.{Literal}
-use Rattle.yf_emit.specs.Nodes.BlockLines.{content_lines, line_at, tail_lines}
+use Rattle.yf_forms.specs.Nodes.BlockLines.{content_lines, line_at, tail_lines}
 use Rattle.yf_emit.specs.Preservation.TidyLines.{BlockScalar, IsStripped, TidyLines, no_more_lines, a_blank_line, a_text_line, scalar_lines}
 use Rattle.yf_emit.proofs.OutputLines.TidyTexts.{last_append}
+use Rattle.yf_emit.proofs.Writable.ReadFits.{filled as some}
 
 abbrev counted : Bool → ℕ → ℕ
 counted white n = if white then suc n else n
@@ -19,9 +20,6 @@ white_ends (x ∷ xs) = counted (is_white (last_or 0 x)) (white_ends xs)
 -- the lines of block scalars, without their indentation
 abbrev pub lines_of_scalars : List BlockScalar → List (List ℕ)
 lines_of_scalars bs = flat_map (λ (b : BlockScalar). content_lines b.style b.text b.lines ++ tail_lines b.text) bs
-
-some : (c : ℕ) (x : List ℕ) → c ∷ x ≢ []
-some c x e = cc
 
 same_end : (column : ℕ) (l : List ℕ) → is_white (last_or 0 (line_at column l)) ≡ is_white (last_or 0 l)
 same_end column [] = refl

@@ -30,6 +30,7 @@ use Rattle.yf_block_scalar.proofs.ScalarOrder.{marks_forward, style_later}
 use Rattle.yf_block_scalar.proofs.UniqueLemmas.{line_functional}
 use Rattle.yf_emit.proofs.Size.CommentBytes.{end_remarks, rest_remarks, slice_short}
 use Rattle.yf_emit.proofs.Size.Weights.{remarks_weight}
+use Rattle.yf_emit.proofs.OutputLines.ScalarHeld.{feeds_long}
 
 -- Texts of lines.
 
@@ -42,15 +43,12 @@ literal_append : (xs : List (List ℕ)) (y : List ℕ) → length (literal (xs +
 literal_append [] y = omega (arith, length-append y [])
 literal_append (x ∷ xs) y = let l = after_append xs y in omega (arith, l, length-append x (literal_after (xs ++ y ∷ [])), length-append x (literal_after xs))
 
-feeds_length : (n : ℕ) → length (feeds n) ≡ n
-feeds_length n = length-replicate n 10
-
 joint_short : (s : Bool) (n : ℕ) → length (joint s n) ≤ suc n
-joint_short true n = omega (arith, feeds_length (n + 1))
+joint_short true n = omega (arith, feeds_long (n + 1))
 joint_short false n = by (n == 0) where
   by : (b : Bool) → length (if b then 32 ∷ [] else feeds n) ≤ suc n
   by true = omega arith
-  by false = omega (arith, feeds_length n)
+  by false = omega (arith, feeds_long n)
 
 -- folded lines are no longer than lines that are joined by line feeds
 after_short : (s : Bool) (n : ℕ) (ls : List (List ℕ)) → length (folded_after s n ls) ≤ n + length (literal_after ls)
@@ -71,12 +69,12 @@ folded_short ((d ∷ x) ∷ xs) c y =
 lone_short : (c : Chomp) (tail : ℕ) → length (lone_tail c tail) ≤ tail
 lone_short Strip tail = omega arith
 lone_short Clip tail = omega arith
-lone_short Keep tail = omega (arith, feeds_length tail)
+lone_short Keep tail = omega (arith, feeds_long tail)
 
 ending_short : (c : Chomp) (tail : ℕ) → length (ending c tail) ≤ suc tail
 ending_short Strip tail = omega arith
 ending_short Clip tail = omega arith
-ending_short Keep tail = omega (arith, feeds_length (tail + 1))
+ending_short Keep tail = omega (arith, feeds_long (tail + 1))
 
 -- the break of the last content line, where it has one
 abbrev break_of : Bool → ℕ

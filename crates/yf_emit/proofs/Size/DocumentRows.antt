@@ -5,10 +5,10 @@ use Rattle.yf_events.specs.Tree.{DocumentTree}
 use Rattle.yf_events.specs.declared.directive.Directive.{Directive}
 use Rattle.yf_events.specs.declared.document.Doc.{Doc}
 use Rattle.yf_grammar.specs.Productions.TreesOfMeaning.{tall}
-use Rattle.yf_emit.specs.declared.style.Style.{Style}
+use Rattle.yf_forms.specs.declared.style.Style.{Style}
 use Rattle.yf_emit.specs.Layouts.FitDocuments.{tall_documents}
-use Rattle.yf_emit.specs.NormalForms.Normal.{LayoutSetting, root_spot}
-use Rattle.yf_emit.specs.Layouts.Rows.{Row, all_rows, bare_rows, beginning_at, begun_at, directive_row, document_rows, end_rows, joined_words, rows, start_row, stream_rows}
+use Rattle.yf_forms.specs.NormalForms.Normal.{LayoutSetting, root_spot}
+use Rattle.yf_print.specs.Layouts.Rows.{Row, all_rows, bare_rows, beginning_at, begun_at, directive_row, document_rows, end_rows, joined_words, rows, start_row, stream_rows}
 use Rattle.yf_emit.proofs.Size.NodeCosts.{Costs}
 use Rattle.yf_emit.proofs.Size.RowBytes.{laid_size, node_laid, price, price_add, price_eight, price_more, size, size_append}
 use Rattle.yf_emit.proofs.Size.StreamBytes.{directives_weight, words_weight}

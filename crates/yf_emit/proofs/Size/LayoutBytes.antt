@@ -8,9 +8,10 @@ use Rattle.yf_comments.specs.Comment.{CommentValue}
 use Rattle.yf_comments.specs.GapLines.{GapLine, blank, remark, gap_then, remarks_of}
 use Rattle.yf_events.specs.declared.event.Span.{Span}
 use Rattle.yf_emit.specs.Layouts.Decorated.{blank_if, body_then, comments_left, decos_of, ending_after, gap_of, lines_then, remarks_after, trails_then}
-use Rattle.yf_emit.specs.Layouts.KeptColumns.{Columns}
-use Rattle.yf_emit.specs.Layouts.Layout.{Source, may_be_blank_after, precedes_item, trailing, trimmed}
-use Rattle.yf_emit.specs.Layouts.Rows.{Ending, Row, anywhere}
+use Rattle.yf_print.specs.Layouts.KeptColumns.{Columns}
+use Rattle.yf_emit.specs.Layouts.Layout.{Source, may_be_blank_after, precedes_item, trailing}
+use Rattle.yf_forms.specs.Nodes.Lines.{trimmed}
+use Rattle.yf_print.specs.Layouts.Rows.{Ending, Row, anywhere}
 use Rattle.yf_emit.proofs.Derived.LayoutSteps.{Step, a_comment, a_leaf, comment_steps, comments_of, leaf_steps, steps_in}
 use Rattle.yf_emit.proofs.Size.LeafBytes.{body_size}
 use Rattle.yf_emit.proofs.Size.RowBytes.{price, price_add, price_line, size}

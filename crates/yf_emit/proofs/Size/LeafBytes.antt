@@ -23,14 +23,15 @@ use Rattle.yf_quoted.specs.Written.{quotes_in, spelled_in, twice}
 use Rattle.yf_props.specs.Props.{PropsValue}
 use Rattle.yf_events.specs.declared.event.ScalarStyle.{ScalarStyle}
 use Rattle.yf_events.specs.declared.event.ScalarStyle.TheVariants.{Plain, Single, Double, Literal, Folded}
-use Rattle.yf_emit.specs.declared.style.Style.{Style}
+use Rattle.yf_forms.specs.declared.style.Style.{Style}
 use Rattle.yf_emit.specs.Layouts.ReadableTrees.{is_block_style}
-use Rattle.yf_emit.specs.Nodes.BlockLines.{block_lines, chomping_sign, cut_at_feeds, digit_text, begins_with_space, final_feeds, header_text, into_first, is_feed, line_at, style_sign, without_final_feeds}
-use Rattle.yf_emit.specs.Nodes.OneLine.{anchor_text, props_text, scalar_text, spaced, tag_text}
-use Rattle.yf_emit.specs.Nodes.ScalarStyles.{has_block_content, lines_in, quoted_in, style_in, wanted}
-use Rattle.yf_emit.proofs.Decide.ValueLemmas.{nothing_steady}
+use Rattle.yf_forms.specs.Nodes.BlockLines.{block_lines, chomping_sign, cut_at_feeds, digit_text, begins_with_space, final_feeds, header_text, into_first, is_feed, line_at, style_sign, without_final_feeds}
+use Rattle.yf_forms.specs.Nodes.OneLine.{anchor_text, props_text, scalar_text, spaced, tag_text}
+use Rattle.yf_forms.specs.Nodes.ScalarStyles.{has_block_content, lines_in, quoted_in, style_in, wanted}
+use Rattle.yf_forms.proofs.Decide.ValueLemmas.{nothing_steady}
 use Rattle.yf_emit.proofs.Size.TextBytes.{bytes_append, bytes_more}
 use Rattle.yf_emit.proofs.Size.Weights.{half_low, props_weight, text_weight}
+use Rattle.yf_forms.proofs.Texts.WidthLemmas.{letter_low}
 
 -- A text on one line: nothing, or one with room for the end of its line and a blank line before it, at eight bytes for each of n.
 pub data Short (n : ℕ) : List ℕ → Type 0 where
@@ -69,10 +70,6 @@ bytes_one c = let l = length-append (encode c) [] in omega (arith, l, length-enc
 four_wide : (c : ℕ) → is_by_four c ≡ true → 2 ≤ len_utf8 c
 unfolding is_by_four
 four_wide c e = grind (arith, nat_tests)
-
-letter_low : (c l : ℕ) → short_name c ≡ Some l → l < 128
-unfolding short_name
-letter_low c l e = grind (arith, nat_tests)
 
 two_long : (v : ℕ) → length (two_digits v) ≡ 2
 unfolding two_digits

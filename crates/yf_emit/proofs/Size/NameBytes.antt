@@ -11,7 +11,7 @@ use Rattle.yf_props.specs.Names.ShorthandTag.{handle_suffix}
 use Rattle.yf_props.specs.Names.TagProperty.{verbatim_tag, shorthand_tag, non_specific_tag}
 use Rattle.yf_props.specs.Names.Properties.{by_tag, by_anchor, tag_first, anchor_first}
 use Rattle.yf_props.specs.Props.{TagValue}
-use Rattle.yf_emit.specs.Nodes.OneLine.{tag_text}
+use Rattle.yf_forms.specs.Nodes.OneLine.{tag_text}
 use Rattle.yf_emit.proofs.Size.CommentBytes.{separate_remarks, slice_short}
 use Rattle.yf_emit.proofs.Size.Weights.{props_weight, remarks_weight}
 

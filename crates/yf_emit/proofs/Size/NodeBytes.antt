@@ -33,17 +33,6 @@ one_alias : (name : List ℕ) (span : Option Span) → Weighs (suc (length name)
 one_alias name span = record { adds = λ after rest. omega arith }
 
 -- an event that begins a collection, and one that ends it
-start_opens : (sequence flow : Bool) → opens (start_of sequence flow) ≡ true
-start_opens true flow = refl
-start_opens false flow = refl
-
-start_weight : (sequence flow : Bool) → value_weight (start_of sequence flow) [] ≡ 0
-start_weight true flow = refl
-start_weight false flow = refl
-
-start_closing : (sequence flow after : Bool) → closing (start_of sequence flow) after ≡ 0
-start_closing true flow after = refl
-start_closing false flow after = refl
 
 end_weight : (sequence : Bool) (after : Bool) (rest : List EventInText) → weigh after (record { event = end_of sequence; span = None; tag_offset = None; entry = None; folded = [] } ∷ rest) ≡ one_if after + weigh false rest
 end_weight true after rest = omega arith

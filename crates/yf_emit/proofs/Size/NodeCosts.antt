@@ -5,9 +5,9 @@ use Rattle.yf_props.specs.Props.{PropsValue}
 use Rattle.yf_events.specs.Tree.{NodeOffsets, Node, scalar, alias, sequence, mapping, Items, no_items, item, Pairs, no_pairs, pair}
 use Rattle.yf_events.specs.declared.event.ScalarStyle.{ScalarStyle}
 use Rattle.yf_events.specs.declared.event.ScalarStyle.TheVariants.{Plain, Single, Double, Literal, Folded}
-use Rattle.yf_emit.specs.declared.style.Style.{Style}
-use Rattle.yf_emit.specs.NormalForms.Normal.{LayoutSetting, Spot, fits, inner_spot, key_spot, settled, settled_items, settled_pairs, value_spot}
-use Rattle.yf_emit.specs.Nodes.OneLine.{bare, colon_after, colon_after_props, more_items, more_pairs, props_text, written}
+use Rattle.yf_forms.specs.declared.style.Style.{Style}
+use Rattle.yf_forms.specs.NormalForms.Normal.{LayoutSetting, Spot, fits, inner_spot, key_spot, settled, settled_items, settled_pairs, value_spot}
+use Rattle.yf_forms.specs.Nodes.OneLine.{bare, colon_after, colon_after_props, more_items, more_pairs, props_text, written}
 use Rattle.yf_emit.proofs.Size.LeafBytes.{LeafCost, Short, nothing_short, some_short, props_most, short_spaced}
 use Rattle.yf_emit.proofs.Size.Weights.{props_weight}
 

@@ -9,9 +9,10 @@ use Rattle.yf_props.specs.Props.{PropsValue}
 use Rattle.yf_events.specs.Tree.{Node, scalar, sequence, mapping, Items, no_items, item, Pairs, no_pairs, pair, is_sequence}
 use Rattle.yf_events.specs.declared.event.ScalarStyle.TheVariants.{Plain, Single, Double, Literal, Folded}
 use Rattle.yf_grammar.specs.Productions.TreesOfMeaning.{tall, tall_items, tall_pairs}
-use Rattle.yf_emit.specs.NormalForms.Normal.{LayoutSetting, Spot, inner_spot, is_implicit, is_one_line_key, key_comment, key_spot, value_column, value_entries, value_of_implicit}
-use Rattle.yf_emit.specs.Nodes.OneLine.{colon_after, props_text, spaced, width, written}
-use Rattle.yf_emit.specs.Layouts.Rows.{Row, after_key, after_sign, begins_below, colon_row, entry_row, is_empty_text, joined, key_row, one_line_row, props_row, rows, rows_of_items, rows_of_pairs}
+use Rattle.yf_forms.specs.NormalForms.Normal.{LayoutSetting, Spot, inner_spot, is_implicit, is_one_line_key, key_comment, key_spot, value_column, value_entries, value_of_implicit}
+use Rattle.yf_forms.specs.Nodes.OneLine.{colon_after, props_text, spaced, width, written}
+use Rattle.yf_print.specs.Layouts.Rows.{Row, after_key, after_sign, begins_below, colon_row, entry_row, joined, key_row, one_line_row, props_row, rows, rows_of_items, rows_of_pairs}
+use Rattle.yf_forms.specs.Nodes.Lines.{is_empty_text}
 use Rattle.yf_emit.proofs.Derived.TreesMade.{either_pair}
 use Rattle.yf_emit.proofs.Size.LeafBytes.{Short, body_size, nothing_short, some_short, props_most}
 use Rattle.yf_emit.proofs.Size.NodeCosts.{Costs, scalar_costs, alias_costs, no_items_cost, items_cost, no_pairs_cost, pairs_cost, ItemsCost, no_more_items, more_items_cost, PairsCost, no_more_pairs, more_pairs_cost, colon_most, written_short}

@@ -13,17 +13,18 @@ use Rattle.yf_events.specs.declared.reading.TheConstants.{DEPTH}
 use Rattle.yf_stream.proofs.LawsHold.{readings_are_one}
 use Rattle.yf_stream.proofs.Offsets.ReadingTrees.{reading_is_at}
 use Rattle.yf_stream.proofs.Uniqueness.StreamDocuments.{stream_derived}
-use Rattle.yf_emit.specs.declared.style.Style.{Style}
+use Rattle.yf_forms.specs.declared.style.Style.{Style}
 use Rattle.yf_emit.specs.Format.{IsFormatting}
-use Rattle.yf_emit.specs.Layouts.BareStart.{is_bare}
+use Rattle.yf_print.specs.Layouts.BareStart.{is_bare}
 use Rattle.yf_emit.specs.Layouts.Decorated.{first_gap, lines_then, row_decos, rows_of}
-use Rattle.yf_emit.specs.Layouts.CommentColumns.{OpenBlock, begins_document}
+use Rattle.yf_print.specs.Layouts.CommentColumns.{begins_document}
+use Rattle.yf_print.specs.declared.open_blocks.OpenBlock.{OpenBlock}
 use Rattle.yf_emit.specs.Layouts.FitDocuments.{tall_documents}
-use Rattle.yf_emit.specs.Layouts.KeptColumns.{Columns, after_row, column_above, column_among_rows, is_bodyless, keeps_blocks, precedes_item}
+use Rattle.yf_print.specs.Layouts.KeptColumns.{Columns, after_row, column_above, column_among_rows, is_bodyless, keeps_blocks, precedes_item}
 use Rattle.yf_emit.specs.Layouts.Layout.{own_line_comments, source_of}
-use Rattle.yf_emit.specs.Layouts.Rows.{Row, at_text_start}
-use Rattle.yf_emit.specs.Layouts.SourceColumns.{own_column}
-use Rattle.yf_emit.specs.NormalForms.Normal.{LayoutSetting, normal_document, setting_of}
+use Rattle.yf_print.specs.Layouts.Rows.{Row, at_text_start}
+use Rattle.yf_print.specs.Layouts.SourceColumns.{own_column}
+use Rattle.yf_forms.specs.NormalForms.Normal.{LayoutSetting, normal_document, setting_of}
 use Rattle.yf_emit.specs.Preservation.CommentsPlaced.{columns_in}
 use Rattle.yf_emit.specs.Preservation.SizeKept.{SizeKept}
 use Rattle.yf_emit.specs.Preservation.TidyLines.{BlockScalar, block_scalars}

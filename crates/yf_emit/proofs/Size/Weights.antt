@@ -8,7 +8,7 @@ use Rattle.yf_events.specs.Event.{EventValue, EventInText, stream_starts, stream
 use Rattle.yf_events.specs.declared.event.Entry.{Entry}
 use Rattle.yf_events.specs.declared.event.ScalarStyle.{ScalarStyle}
 use Rattle.yf_events.specs.declared.event.ScalarStyle.TheVariants.{Plain, Single, Double, Literal, Folded}
-use Rattle.yf_emit.specs.Nodes.OneLine.{anchor_text, tag_text}
+use Rattle.yf_forms.specs.Nodes.OneLine.{anchor_text, tag_text}
 
 -- half of a number, or half of the next one
 abbrev pub half : ℕ → ℕ

@@ -8,11 +8,12 @@ use Rattle.yf_events.specs.Tree.{DocumentTree, Node, scalar, alias, sequence, ma
 use Rattle.yf_events.specs.declared.event.Span.{Span}
 use Rattle.yf_emit.specs.Layouts.Decorated.{Deco, after, blank_if, comments_left, decos_of, ending_after, first, gap_of, remarks_after}
 use Rattle.yf_emit.specs.Preservation.KeyComments.{keyed_in, keyed_in_documents, keyed_in_items, keyed_in_pairs}
-use Rattle.yf_emit.specs.Layouts.Layout.{Remark, Source, first_comment, is_among, is_before, may_be_blank_after, next_leaf, precedes_item, trailing, trailing_leaf, trimmed}
-use Rattle.yf_emit.specs.NormalForms.Normal.{LayoutSetting, Spot, first_between, inner_spot, is_implicit, key_comment, key_spot, key_start, root_spot, value_spot}
-use Rattle.yf_emit.specs.Layouts.Rows.{Ending, Row, anywhere}
+use Rattle.yf_emit.specs.Layouts.Layout.{Remark, Source, first_comment, is_among, is_before, may_be_blank_after, next_leaf, precedes_item, trailing, trailing_leaf}
+use Rattle.yf_forms.specs.Nodes.Lines.{trimmed}
+use Rattle.yf_forms.specs.NormalForms.Normal.{LayoutSetting, Spot, first_between, inner_spot, is_implicit, key_comment, key_spot, key_start, root_spot, value_spot}
+use Rattle.yf_print.specs.Layouts.Rows.{Ending, Row, anywhere}
 use Rattle.yf_emit.proofs.Keeps.KeysTold.{keys_on}
-use Rattle.yf_emit.specs.Layouts.KeptColumns.{Columns}
+use Rattle.yf_print.specs.Layouts.KeptColumns.{Columns}
 
 module _ (Token : List ℕ → Type 0) where
   abbrev pub AllTokens : List CommentValue → Type 0

@@ -11,9 +11,9 @@ use Rattle.yf_props.proofs.SolidLemmas.{hex_solid, tag_solid, uri_solid}
 use Rattle.yf_events.specs.declared.directive.Directive.{Directive}
 use Rattle.yf_events.specs.declared.document.Doc.{Doc}
 use Rattle.yf_events.specs.Tree.{DocumentTree}
-use Rattle.yf_emit.specs.declared.style.Style.{Style}
+use Rattle.yf_forms.specs.declared.style.Style.{Style}
 use Rattle.yf_emit.specs.Layouts.FitDocuments.{FitDirective, FitDirectives, fit_no_directives, fit_directive, FitDocuments, fit_no_documents, fit_document}
-use Rattle.yf_emit.specs.Layouts.Rows.{joined_words}
+use Rattle.yf_print.specs.Layouts.Rows.{joined_words}
 use Rattle.yf_emit.specs.Preservation.Tokens.{HasText, first_text, later_text, TabsWithin}
 use Rattle.yf_emit.proofs.Writable.DirectivesFit.{AreParameters, no_parameters, a_parameter, AreWords, version_words, tag_words, other_words, IsPrefix, local_text, itself_text, escape_text, IsVersion, word_made, words_made}
 use Rattle.yf_emit.proofs.Texts.LineUtf8.{line_utf8}

@@ -7,9 +7,9 @@ use Rattle.yf_events.specs.Event.{EventValue, EventInText, mapping_ends, sequenc
 use Rattle.yf_events.specs.declared.event.ScalarStyle.{ScalarStyle}
 use Rattle.yf_events.specs.declared.event.ScalarStyle.TheVariants.{Plain, Single, Double, Literal, Folded}
 use Rattle.yf_events.specs.Tree.{NodeOffsets, Node, scalar, Items, Pairs, flat, flat_items, flat_pairs, unplaced}
-use Rattle.yf_emit.specs.declared.style.Style.{Style}
+use Rattle.yf_forms.specs.declared.style.Style.{Style}
 use Rattle.yf_emit.specs.Layouts.ReadableTrees.{FitProps, no_fit_props, some_fit_props}
-use Rattle.yf_emit.specs.Nodes.OneLine.{props_text, scalar_text}
+use Rattle.yf_forms.specs.Nodes.OneLine.{props_text, scalar_text}
 use Rattle.yf_emit.proofs.Writable.ReadTrees.{ReadNode, read_nothing, read_props, read_scalar, read_alias, read_sequence, read_mapping, ReadItems, read_no_items, read_item, ReadPairs, read_no_pairs, read_pair}
 use Rattle.yf_emit.specs.Preservation.Tokens.{HasText, first_text, later_text, TabsWithin, at_end, tokens_in, tokens_of_event}
 use Rattle.yf_emit.proofs.Derived.CollectionsMade.{same_props}

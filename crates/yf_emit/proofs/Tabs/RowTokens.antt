@@ -10,11 +10,11 @@ use Rattle.yf_events.specs.declared.document.Doc.{Doc}
 use Rattle.yf_events.specs.declared.event.ScalarStyle.{ScalarStyle}
 use Rattle.yf_events.specs.declared.event.ScalarStyle.TheVariants.{Plain, Single, Double, Literal, Folded}
 use Rattle.yf_events.specs.Tree.{DocumentTree, NodeOffsets, Node, scalar, alias, sequence, mapping, Items, no_items, item, Pairs, no_pairs, pair, flat, flat_document, flat_items, flat_pairs, props_of, unplaced}
-use Rattle.yf_emit.specs.declared.style.Style.{Style}
-use Rattle.yf_emit.specs.Nodes.BlockLines.{begins_with_space, chomping_sign, final_feeds, header_text, style_sign}
-use Rattle.yf_emit.specs.NormalForms.Normal.{LayoutSetting, Spot, inner_spot, is_implicit, key_comment, key_spot, root_spot, value_spot}
-use Rattle.yf_emit.specs.Nodes.OneLine.{bare, colon_after, colon_after_props, more_items, more_pairs, props_text, scalar_text, spaced, written}
-use Rattle.yf_emit.specs.Layouts.Rows.{Row, begins_below, beginning_at, after_key, colon_row, directive_row, end_rows, entry_row, explicit_pair, implicit_pair, joined, joined_words, key_row, one_line_row, pair_rows, props_row, rows, rows_of_items, rows_of_pairs, stream_rows, all_rows, begun_at}
+use Rattle.yf_forms.specs.declared.style.Style.{Style}
+use Rattle.yf_forms.specs.Nodes.BlockLines.{begins_with_space, chomping_sign, final_feeds, header_text, style_sign}
+use Rattle.yf_forms.specs.NormalForms.Normal.{LayoutSetting, Spot, inner_spot, is_implicit, key_comment, key_spot, root_spot, value_spot}
+use Rattle.yf_forms.specs.Nodes.OneLine.{bare, colon_after, colon_after_props, more_items, more_pairs, props_text, scalar_text, spaced, written}
+use Rattle.yf_print.specs.Layouts.Rows.{Row, begins_below, beginning_at, after_key, colon_row, directive_row, end_rows, entry_row, explicit_pair, implicit_pair, joined, joined_words, key_row, one_line_row, pair_rows, props_row, rows, rows_of_items, rows_of_pairs, stream_rows, all_rows, begun_at}
 use Rattle.yf_emit.specs.Preservation.Tokens.{HasText, first_text, later_text, TabsWithin, at_end, no_tab, a_token}
 
 -- The pieces that are written of an event: properties, a scalar in its style, the name of an alias.

@@ -8,7 +8,7 @@ use Rattle.yf_stream.specs.ReadingOf.{ReadingOf}
 use Rattle.yf_stream.specs.Stream.{Document}
 use Rattle.yf_stream.proofs.Offsets.ReadingTrees.{TreesMeant, no_trees_meant, tree_meant, reading_is_at}
 use Rattle.yf_stream.proofs.Uniqueness.StreamDocuments.{DocumentsDerived, no_documents_derived, document_derived, stream_derived}
-use Rattle.yf_emit.specs.declared.style.Style.{Style}
+use Rattle.yf_forms.specs.declared.style.Style.{Style}
 use Rattle.yf_emit.proofs.Writable.ReadTrees.{ReadNode}
 use Rattle.yf_emit.proofs.Tabs.PiecesRead.{AreTokens, PiecesTabless, ended, left_tokens, node_read, none_text, pieces_joined, right_tokens}
 use Rattle.yf_emit.proofs.Writable.TreesRead.{document_read, read_alike, same_node}

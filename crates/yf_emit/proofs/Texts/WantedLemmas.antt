@@ -6,8 +6,8 @@ use Rattle.yf_lines.specs.declared.quotes.Quotes.{Quotes}
 use Rattle.yf_quoted.specs.Written.{quotes_in}
 use Rattle.yf_events.specs.declared.event.ScalarStyle.{ScalarStyle}
 use Rattle.yf_events.specs.declared.event.ScalarStyle.TheVariants.{Plain, Single, Double, Literal, Folded}
-use Rattle.yf_emit.specs.declared.style.Style.{Style}
-use Rattle.yf_emit.specs.Nodes.ScalarStyles.{has_block_content, lines_in, quoted_in, style_in, wanted}
+use Rattle.yf_forms.specs.declared.style.Style.{Style}
+use Rattle.yf_forms.specs.Nodes.ScalarStyles.{has_block_content, lines_in, quoted_in, style_in, wanted}
 
 quoted_stays : (t : List ℕ) (q : Style) → wanted (quoted_in t q) t q ≡ quoted_in t q
 quoted_stays t q = by (quotes_in q.invisible (chars t) q.quotes) where

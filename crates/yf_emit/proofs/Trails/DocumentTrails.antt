@@ -5,11 +5,11 @@ use Rattle.yf_events.specs.Tree.{DocumentTree, leaves}
 use Rattle.yf_events.specs.declared.directive.Directive.{Directive}
 use Rattle.yf_events.specs.declared.document.Doc.{Doc}
 use Rattle.yf_events.specs.declared.event.Span.{Span}
-use Rattle.yf_emit.specs.declared.form.decide.Form.{Form}
-use Rattle.yf_emit.specs.NormalForms.Forms.{document_forms, documents_are_placed, forms, is_placed, no_form, site_at, stream_forms}
-use Rattle.yf_emit.specs.Passes.MeasurePass.{setting}
-use Rattle.yf_emit.specs.NormalForms.Normal.{LayoutSetting, root_spot, styled}
-use Rattle.yf_emit.specs.Layouts.Rows.{Row, all_rows, bare_rows, beginning_at, begun_at, directive_row, document_rows, end_rows, rows, start_row, stream_rows}
+use Rattle.yf_forms.specs.declared.form.decide.Form.{Form}
+use Rattle.yf_forms.specs.NormalForms.Forms.{document_forms, documents_are_placed, forms, is_placed, no_form, site_at, stream_forms}
+use Rattle.yf_forms.specs.Passes.MeasurePass.{setting}
+use Rattle.yf_forms.specs.NormalForms.Normal.{LayoutSetting, root_spot, styled}
+use Rattle.yf_print.specs.Layouts.Rows.{Row, all_rows, bare_rows, beginning_at, begun_at, directive_row, document_rows, end_rows, rows, start_row, stream_rows}
 use Rattle.yf_emit.proofs.Printer.DocumentsPrinted.{AreNormal, IsNormal, normal_parts}
 use Rattle.yf_emit.proofs.Trails.KeyTrails.{given, given_append, given_enclosed, keys_append, keys_on, node_given}
 use Rattle.yf_emit.proofs.Trails.RowLeaves.{leaves_on, node_leaves, on_append}

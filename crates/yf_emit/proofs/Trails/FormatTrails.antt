@@ -4,15 +4,15 @@ use Rattle.yf_events.proofs.TreeLemmas.{trees_unique}
 use Rattle.yf_events.specs.Tree.{DocumentTree, TreesOf}
 use Rattle.yf_events.specs.declared.lists.Lists.{Lists}
 use Rattle.yf_stream.proofs.Offsets.ReadingTrees.{TreesStand, reading_is_at}
-use Rattle.yf_emit.specs.declared.style.Style.{Style}
-use Rattle.yf_emit.specs.Layouts.BareStart.{is_bare}
+use Rattle.yf_forms.specs.declared.style.Style.{Style}
+use Rattle.yf_print.specs.Layouts.BareStart.{is_bare}
 use Rattle.yf_emit.specs.Layouts.RowComments.{AreRemarks, TrailsFit}
 use Rattle.yf_emit.specs.Layouts.Decorated.{rows_of}
 use Rattle.yf_emit.specs.Format.{IsFormatting}
 use Rattle.yf_emit.specs.FormatLaws.{FormatsTrailOnce}
-use Rattle.yf_emit.specs.NormalForms.Forms.{documents_are_placed}
+use Rattle.yf_forms.specs.NormalForms.Forms.{documents_are_placed}
 use Rattle.yf_emit.specs.Layouts.Layout.{source_of}
-use Rattle.yf_emit.specs.NormalForms.Normal.{LayoutSetting, normal_document, setting_of}
+use Rattle.yf_forms.specs.NormalForms.Normal.{LayoutSetting, normal_document, setting_of}
 use Rattle.yf_emit.proofs.Writable.CommentsFit.{reading_remarks}
 use Rattle.yf_emit.proofs.Trails.DocumentTrails.{InHouse, all_leaves, leaves_of}
 use Rattle.yf_emit.proofs.OfTexts.LeavesRise.{leaves_rise}

@@ -6,13 +6,13 @@ use Rattle.yf_comments.specs.Comment.{CommentValue}
 use Rattle.yf_events.specs.Tree.{Node, scalar, alias, sequence, mapping, Items, no_items, item, Pairs, no_pairs, pair, flat_items, flat_pairs, is_filled_flow, is_text, leaves}
 use Rattle.yf_events.specs.declared.event.ScalarStyle.TheVariants.{Plain, Single, Double, Literal, Folded}
 use Rattle.yf_events.specs.declared.event.Span.{Span}
-use Rattle.yf_emit.specs.declared.form.decide.Form.{Form}
-use Rattle.yf_emit.specs.NormalForms.Forms.{Site, first_index, form_of, forms, forms_of_items, forms_of_pairs, forms_within, index_between, is_kept_at, key_comment_index, key_site, no_form, site_at, value_comment, value_site}
-use Rattle.yf_emit.specs.Passes.MeasurePass.{setting}
-use Rattle.yf_emit.specs.NormalForms.Normal as Normal
-use Rattle.yf_emit.specs.NormalForms.Normal.{LayoutSetting, first_between, fits, inner_spot, is_implicit, key_comment, key_spot, settled, settled_items, settled_pairs, styled_items, styled_pairs, value_spot}
-use Rattle.yf_emit.specs.Nodes.OneLine.{props_text, written}
-use Rattle.yf_emit.specs.Layouts.Rows.{Row, begins_below, after_key, after_sign, colon_row, entry_row, explicit_pair, implicit_pair, joined, key_row, one_line_row, pair_rows, props_row, rows, rows_of_items, rows_of_pairs}
+use Rattle.yf_forms.specs.declared.form.decide.Form.{Form}
+use Rattle.yf_forms.specs.NormalForms.Forms.{Site, first_index, form_of, forms, forms_of_items, forms_of_pairs, forms_within, index_between, is_kept_at, key_comment_index, key_site, no_form, site_at, value_comment, value_site}
+use Rattle.yf_forms.specs.Passes.MeasurePass.{setting}
+use Rattle.yf_forms.specs.NormalForms.Normal as Normal
+use Rattle.yf_forms.specs.NormalForms.Normal.{LayoutSetting, first_between, fits, inner_spot, is_implicit, key_comment, key_spot, settled, settled_items, settled_pairs, styled_items, styled_pairs, value_spot}
+use Rattle.yf_forms.specs.Nodes.OneLine.{props_text, written}
+use Rattle.yf_print.specs.Layouts.Rows.{Row, begins_below, after_key, after_sign, colon_row, entry_row, explicit_pair, implicit_pair, joined, key_row, one_line_row, pair_rows, props_row, rows, rows_of_items, rows_of_pairs}
 use Rattle.yf_emit.proofs.Printer.LeafPrinted.{same_flag, same_flag_of_map}
 use Rattle.yf_emit.proofs.Printer.PairSites.{key_rows}
 use Rattle.yf_emit.proofs.Printer.PrintNodes.{kept_where}

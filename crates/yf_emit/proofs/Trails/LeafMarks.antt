@@ -7,10 +7,11 @@ use Rattle.std.proofs.lemmas.Bool.Decides.{nat_tests}
 use Rattle.yf_events.specs.Event.{EventInText}
 use Rattle.yf_events.specs.declared.event.Span.{Span}
 use Rattle.yf_events.specs.declared.lists.Lists.{Lists}
-use Rattle.yf_emit.specs.declared.form.measure.Measure.{Measure}
-use Rattle.yf_emit.specs.declared.print.trails.Leaf.{Leaf}
-use Rattle.yf_emit.specs.Passes.Drafts.{count_to}
-use Rattle.yf_emit.specs.Passes.TrailPass.{TrailState, first_of, is_leaf, leaf_if, pass, with_leaf}
+use Rattle.yf_forms.specs.declared.form.measure.Measure.{Measure}
+use Rattle.yf_print.specs.declared.trails.Leaf.{Leaf}
+use Rattle.yf_forms.specs.Passes.Searches.{count_to}
+use Rattle.yf_print.specs.Passes.TrailPass.{TrailState, first_of, is_leaf, leaf_if, pass, with_leaf}
+use Rattle.yf_chars.proofs.Tests.{below}
 
 -- a leaf with characters: the index of the event that begins it, and its part of the text
 pub record Mark : Type 0 where
@@ -80,9 +81,6 @@ not_at j ls = list_all (λ l. nat_lt j l.event) ls
 abbrev pub in_order : List Mark → Bool
 in_order [] = true
 in_order (l ∷ ls) = not_at l.event ls && in_order ls
-
-below : (a b : ℕ) → a < b → nat_lt a b ≡ true
-below a b l = grind (arith, nat_tests)
 
 pub marks_after : (ms : List Measure) (j i : ℕ) (es : List EventInText) → j < i → not_at j (event_marks ms i es) ≡ true
 marks_after ms j i [] l = refl

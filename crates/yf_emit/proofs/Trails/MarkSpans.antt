@@ -6,14 +6,14 @@ use Rattle.std.proofs.lemmas.List.{length-append, map-append}
 use Rattle.yf_events.specs.Event.{EventInText, sequence_starts, sequence_ends, mapping_starts, mapping_ends, scalar_node, alias_node, document_starts, document_ends, stream_starts, stream_ends}
 use Rattle.yf_events.specs.Tree.{Node, scalar, alias, sequence, mapping, Items, no_items, item, Pairs, no_pairs, pair, DocumentTree, flat, flat_document, flat_items, flat_pairs, flat_stream, is_text, leaves, leaves_of_items, leaves_of_pairs, placed, spans_of_leaf, standing, unplaced}
 use Rattle.yf_events.specs.declared.event.Span.{Span}
-use Rattle.yf_emit.specs.declared.form.measure.Measure.{Measure}
-use Rattle.yf_emit.specs.Passes.DecidePass as Deciding
-use Rattle.yf_emit.specs.NormalForms.Forms.{documents_are_placed, is_placed, items_are_placed, pairs_are_placed}
-use Rattle.yf_emit.specs.Nodes.SingleAnswers.{NodeAt}
-use Rattle.yf_emit.specs.NormalForms.Measures.{first_of, leaf_indices}
-use Rattle.yf_emit.specs.Passes.TrailPass.{is_leaf}
-use Rattle.yf_emit.proofs.Decide.AmongLemmas.{Among, back, after_first, front, node_at}
-use Rattle.yf_emit.proofs.Decide.LeafLemmas.{is_own_leaf, same}
+use Rattle.yf_forms.specs.declared.form.measure.Measure.{Measure}
+use Rattle.yf_forms.specs.Passes.DecidePass as Deciding
+use Rattle.yf_forms.specs.NormalForms.Forms.{documents_are_placed, is_placed, items_are_placed, pairs_are_placed}
+use Rattle.yf_forms.specs.Nodes.SingleAnswers.{NodeAt}
+use Rattle.yf_forms.specs.NormalForms.Measures.{first_of, leaf_indices}
+use Rattle.yf_print.specs.Passes.TrailPass.{is_leaf}
+use Rattle.yf_forms.proofs.Decide.AmongLemmas.{Among, back, after_first, front, node_at}
+use Rattle.yf_forms.proofs.Decide.LeafLemmas.{is_own_leaf, same}
 use Rattle.yf_emit.proofs.Trails.LeafMarks.{Mark, event_marks, mark, mark_if, marks_append}
 use Rattle.yf_emit.proofs.Printer.MeasureFacts.{MeasuresTell}
 use Rattle.yf_emit.proofs.Trails.TrailRuns.{spans}

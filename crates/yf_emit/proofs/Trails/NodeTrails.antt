@@ -11,16 +11,17 @@ use Rattle.yf_events.specs.declared.directive.Directive.{Directive}
 use Rattle.yf_events.specs.declared.document.Doc.{Doc}
 use Rattle.yf_events.specs.declared.lists.Lists.{Lists}
 use Rattle.yf_events.specs.Tree.{DocumentTree, Node, scalar, alias, sequence, mapping, Items, no_items, item, Pairs, no_pairs, pair, standing, leaves, spans_of_leaf, is_text, is_filled_flow}
-use Rattle.yf_emit.specs.declared.style.Style.{Style}
+use Rattle.yf_forms.specs.declared.style.Style.{Style}
 use Rattle.yf_emit.specs.Layouts.RowComments.{AreRemarks, TrailsFit}
 use Rattle.yf_emit.specs.Layouts.Decorated.{rows_of}
-use Rattle.yf_emit.specs.NormalForms.Forms.{is_placed, items_are_placed, pairs_are_placed}
-use Rattle.yf_emit.specs.Layouts.Layout.{source_of, trimmed}
-use Rattle.yf_emit.specs.Passes.MeasurePass.{setting}
-use Rattle.yf_emit.specs.NormalForms.Normal.{LayoutSetting, Spot, entry_or, first_between, inner_spot, is_implicit, is_one_line_key, key_comment, key_spot, key_start, last_start, styled_items, styled_pairs, value_of_implicit, value_spot, root_spot, setting_of}
-use Rattle.yf_emit.specs.Nodes.OneLine.{written, props_text}
-use Rattle.yf_emit.specs.Layouts.BareStart.{is_bare}
-use Rattle.yf_emit.specs.Layouts.Rows.{Row, begins_below, after_key, after_sign, colon_row, entry_row, implicit_pair, is_empty_text, joined, key_row, one_line_row, pair_rows, props_row, rows, rows_of_items, rows_of_pairs, beginning_at, directive_row, document_rows, end_rows, start_row, begun_at, all_rows, stream_rows}
+use Rattle.yf_forms.specs.NormalForms.Forms.{is_placed, items_are_placed, pairs_are_placed}
+use Rattle.yf_emit.specs.Layouts.Layout.{source_of}
+use Rattle.yf_forms.specs.Nodes.Lines.{trimmed, is_empty_text}
+use Rattle.yf_forms.specs.Passes.MeasurePass.{setting}
+use Rattle.yf_forms.specs.NormalForms.Normal.{LayoutSetting, Spot, entry_or, first_between, inner_spot, is_implicit, is_one_line_key, key_comment, key_spot, key_start, last_start, styled_items, styled_pairs, value_of_implicit, value_spot, root_spot, setting_of}
+use Rattle.yf_forms.specs.Nodes.OneLine.{written, props_text}
+use Rattle.yf_print.specs.Layouts.BareStart.{is_bare}
+use Rattle.yf_print.specs.Layouts.Rows.{Row, begins_below, after_key, after_sign, colon_row, entry_row, implicit_pair, joined, key_row, one_line_row, pair_rows, props_row, rows, rows_of_items, rows_of_pairs, beginning_at, directive_row, document_rows, end_rows, start_row, begun_at, all_rows, stream_rows}
 use Rattle.yf_emit.proofs.Writable.StillLeaves.{Still, nothing_still, one_still, more_still, between, KeptStill, ItemsStill, PairsStill}
 use Rattle.yf_emit.proofs.Printer.LeafPrinted.{same_flag, same_flag_of_map}
 use Rattle.yf_emit.proofs.Printer.PrintTrees.{item_parts, items_of, pair_parts, pairs_of}

@@ -7,16 +7,17 @@ use Rattle.yf_comments.specs.Comment.{CommentValue}
 use Rattle.yf_events.specs.Tree.{Node, scalar, alias, sequence, mapping, Items, no_items, item, Pairs, no_pairs, pair, leaves, leaves_of_items, leaves_of_pairs, spans_of_leaf}
 use Rattle.yf_events.specs.declared.event.ScalarStyle.TheVariants.{Plain, Single, Double, Literal, Folded}
 use Rattle.yf_events.specs.declared.event.Span.{Span}
-use Rattle.yf_emit.specs.NormalForms.Forms.{is_placed, items_are_placed, pairs_are_placed}
-use Rattle.yf_emit.specs.Passes.MeasurePass.{setting}
-use Rattle.yf_emit.specs.NormalForms.Normal.{LayoutSetting, Spot, inner_spot, is_implicit, key_comment, key_spot, styled_items, styled_pairs, value_spot}
-use Rattle.yf_emit.specs.Nodes.OneLine.{bare, props_text, scalar_text, spaced}
-use Rattle.yf_emit.specs.Layouts.Rows.{Row, begins_below, after_key, after_sign, colon_row, entry_row, explicit_pair, implicit_pair, is_empty_text, joined, key_row, one_line_row, pair_rows, props_row, rows, rows_of_items, rows_of_pairs}
+use Rattle.yf_forms.specs.NormalForms.Forms.{is_placed, items_are_placed, pairs_are_placed}
+use Rattle.yf_forms.specs.Passes.MeasurePass.{setting}
+use Rattle.yf_forms.specs.NormalForms.Normal.{LayoutSetting, Spot, inner_spot, is_implicit, key_comment, key_spot, styled_items, styled_pairs, value_spot}
+use Rattle.yf_forms.specs.Nodes.OneLine.{bare, props_text, scalar_text, spaced}
+use Rattle.yf_print.specs.Layouts.Rows.{Row, begins_below, after_key, after_sign, colon_row, entry_row, explicit_pair, implicit_pair, joined, key_row, one_line_row, pair_rows, props_row, rows, rows_of_items, rows_of_pairs}
+use Rattle.yf_forms.specs.Nodes.Lines.{is_empty_text}
 use Rattle.yf_emit.proofs.Printer.LeafPrinted.{same_flag, same_flag_of_map, written_filled}
 use Rattle.yf_emit.proofs.Printer.PairSites.{none_of, nothing_spaced}
 use Rattle.yf_emit.proofs.Printer.PrintTrees.{item_parts, items_of, pair_parts, pairs_of}
 use Rattle.yf_emit.proofs.NormalForms.StyledTwice.{House}
-use Rattle.yf_emit.proofs.Decide.ValueLemmas.{agreed}
+use Rattle.yf_forms.proofs.Decide.ValueLemmas.{agreed}
 
 abbrev pub leaves_on : List Row → List Span
 leaves_on rows = flat_map (λ row. row.leaves) rows

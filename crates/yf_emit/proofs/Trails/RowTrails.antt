@@ -7,8 +7,9 @@ use Rattle.yf_comments.specs.Comment.{CommentValue}
 use Rattle.yf_comments.specs.GapLines.{IsRemark}
 use Rattle.yf_events.specs.declared.event.Span.{Span}
 use Rattle.yf_emit.specs.Layouts.RowComments.{AreTrails, AreRemarks, no_remark, one_remark, TrailsFit}
-use Rattle.yf_emit.specs.Layouts.Layout.{Source, Remark, first_comment, is_among, is_before, next_leaf, trailing, trailing_leaf, trimmed}
-use Rattle.yf_emit.specs.Layouts.Rows.{Row}
+use Rattle.yf_emit.specs.Layouts.Layout.{Source, Remark, first_comment, is_among, is_before, next_leaf, trailing, trailing_leaf}
+use Rattle.yf_forms.specs.Nodes.Lines.{trimmed}
+use Rattle.yf_print.specs.Layouts.Rows.{Row}
 use Rattle.yf_emit.proofs.Writable.StillLeaves.{Still, nothing_still, one_still, more_still, between}
 use Rattle.yf_emit.proofs.Trails.RowLeaves.{leaves_on}
 use Rattle.yf_emit.proofs.Trails.TrailChoice.{next_after, rising}

@@ -13,9 +13,9 @@ use Rattle.yf_events.specs.Tree.{DocumentTree, NodeOffsets, Node, sequence, mapp
 use Rattle.yf_grammar.specs.Productions.Meaning.{from_to}
 use Rattle.yf_grammar.proofs.NodesInText.NodePlaces.{Opens, NodeIsAt, is_at_nowhere, scalar_is_at, alias_is_at, sequence_is_at, mapping_is_at, ItemsStand, no_items_stand, item_is_at, PairsStand, no_pairs_stand, pair_is_at}
 use Rattle.yf_stream.proofs.Offsets.ReadingTrees.{TreesStand, no_trees_stand, tree_is_at}
-use Rattle.yf_emit.specs.Nodes.ContentStart.{content_start}
-use Rattle.yf_emit.specs.Nodes.OneLineFlows.{has_comment, is_within, items_may_be_kept, may_be_kept, pairs_may_be_kept}
-use Rattle.yf_emit.specs.NormalForms.Normal.{LayoutSetting, Spot, fits, inner_spot, key_spot, normal_document, root_spot, settled, settled_items, settled_pairs, styled, styled_items, styled_pairs, value_spot}
+use Rattle.yf_forms.specs.Nodes.ContentStart.{content_start}
+use Rattle.yf_forms.specs.Nodes.OneLineFlows.{has_comment, is_within, items_may_be_kept, may_be_kept, pairs_may_be_kept}
+use Rattle.yf_forms.specs.NormalForms.Normal.{LayoutSetting, Spot, fits, inner_spot, key_spot, normal_document, root_spot, settled, settled_items, settled_pairs, styled, styled_items, styled_pairs, value_spot}
 use Rattle.yf_emit.proofs.Writable.StillLeaves.{ItemsStill, KeptStill, PairsStill, Still, nothing_still, one_still, more_still, between}
 use Rattle.yf_emit.proofs.Writable.ContentFound.{content_found}
 use Rattle.yf_emit.proofs.OfTexts.LeavesRise.{Steps, a_step, items_steps, pairs_steps, steps_order}

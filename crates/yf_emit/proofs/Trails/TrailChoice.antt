@@ -6,7 +6,7 @@ use Rattle.std.proofs.lemmas.Bool.{and_parts}
 use Rattle.std.proofs.lemmas.Bool.Decides.{nat_tests}
 use Rattle.yf_comments.specs.Comment.{CommentValue}
 use Rattle.yf_events.specs.declared.event.Span.{Span}
-use Rattle.yf_emit.specs.Passes.Drafts.{count_to}
+use Rattle.yf_forms.specs.Passes.Searches.{count_to}
 use Rattle.yf_emit.specs.Layouts.Layout.{Remark, Source, first_comment, is_before, next_leaf}
 use Rattle.yf_emit.proofs.Printer.FeedLemmas.{ascend}
 

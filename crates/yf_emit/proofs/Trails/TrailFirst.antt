@@ -11,6 +11,7 @@ use Rattle.yf_emit.proofs.Writable.StillLeaves.{Still, more_still}
 use Rattle.yf_emit.proofs.SameReading.CommentsCut.{In, in_first, in_rest, each_at, Upward, upward_more, upward_over}
 use Rattle.yf_emit.proofs.Trails.RowTrails.{silent, trail_of}
 use Rattle.yf_emit.proofs.Trails.TrailChoice.{next_after, rising, start_of_first}
+use Rattle.yf_chars.proofs.Tests.{below, is_less}
 
 -- The first of the comments that pass a test.
 pub record FoundFirst (p : CommentValue → Bool) (cs : List CommentValue) (e : CommentValue) : Type 0 where
@@ -52,22 +53,16 @@ pub record FirstAfter (cs : List CommentValue) (from : ℕ) (post : List Span) (
   pub before : is_before e.offset (start_of_first post) ≡ true
   pub first : (d : CommentValue) → In d cs → d.offset < e.offset → d.offset ≤ from
 
-less : (m n : ℕ) → nat_lt m n ≡ true → m < n
-less m n e = grind (arith, nat_tests)
-
-below : (m n : ℕ) → m < n → nat_lt m n ≡ true
-below m n e = grind (arith, nat_tests)
-
 earlier_before : (o : Option ℕ) (d e : ℕ) → d < e → is_before e o ≡ true → is_before d o ≡ true
 earlier_before None d e l h = refl
-earlier_before (Some n) d e l h = let k : e < n = less e n h in below d n (omega (arith, l, k))
+earlier_before (Some n) d e l h = let k : e < n = is_less e n h in below d n (omega (arith, l, k))
 
 pub first_after : (cs : List CommentValue) (from : ℕ) (post : List Span) (e : CommentValue) → FoundFirst (λ d. nat_lt from d.offset && is_before d.offset (start_of_first post)) cs e → FirstAfter cs from post e
 first_after cs from post e a =
     let parts = and_parts (nat_lt from e.offset) (is_before e.offset (start_of_first post)) a.passes in
     record {
       among = a.among;
-      after = less from e.offset parts.0;
+      after = is_less from e.offset parts.0;
       before = parts.1;
       first = λ d j l. go d j l (nat_lt from d.offset) refl;
     } where

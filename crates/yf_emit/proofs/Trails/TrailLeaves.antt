@@ -3,14 +3,18 @@ use Rattle.std.proofs.Common.{◌≡◌, ℕ, zero, suc, ◌≤◌, ◌<◌, Boo
 use Rattle.std.specs.Prelude.{◌||◌, nat_lt, option_to_list, slice_get, zip, if◌then◌else◌}
 use Rattle.yf_comments.specs.Comment.{CommentValue}
 use Rattle.yf_events.specs.declared.lists.Lists.{Lists}
-use Rattle.yf_emit.specs.Passes.Drafts.{trailing_at, trailing_if, count_to}
-use Rattle.yf_emit.specs.Layouts.Layout.{Source, after_two_spaces, first_comment, is_among, trailing_leaf}
-use Rattle.yf_emit.specs.Passes.TrailPass.{is_at, is_at_end}
+use Rattle.yf_print.specs.Passes.Drafts.{trailing_at, trailing_if}
+use Rattle.yf_forms.specs.Passes.Searches.{count_to}
+use Rattle.yf_emit.specs.Layouts.Layout.{Source, first_comment, is_among, trailing_leaf}
+use Rattle.yf_forms.specs.Nodes.Lines.{after_two_spaces}
+use Rattle.yf_print.specs.Passes.TrailPass.{is_at, is_at_end}
 use Rattle.yf_emit.specs.Layouts.TrailsOf.{at_index}
 use Rattle.yf_emit.proofs.Printer.FeedLemmas.{ascend}
 use Rattle.yf_emit.proofs.Trails.LeafMarks.{Mark}
 use Rattle.yf_emit.proofs.Trails.TrailChoice.{first_counted, none_at, rising}
-use Rattle.yf_emit.proofs.Trails.TrailRuns.{counted_within, end_of, found_of, less, spans}
+use Rattle.yf_emit.proofs.Trails.TrailRuns.{end_of, found_of, spans}
+use Rattle.yf_emit.proofs.Printer.FedLemmas.{count_within as counted_within}
+use Rattle.yf_chars.proofs.Tests.{is_less as less}
 
 -- a comment and its note at an index
 record Both (cs : List CommentValue) (bs : List Bool) (n : ℕ) : Type 0 where

@@ -8,17 +8,12 @@ use Rattle.std.proofs.lemmas.Grind.{flat_map-append}
 use Rattle.yf_comments.specs.Comment.{CommentValue}
 use Rattle.yf_events.specs.declared.event.Span.{Span}
 use Rattle.yf_emit.specs.Layouts.Layout.{Remark, Source, first_comment, is_among, own_line_comments, trailing, trailing_leaf}
-use Rattle.yf_emit.specs.Layouts.Rows.{Row}
+use Rattle.yf_print.specs.Layouts.Rows.{Row}
 use Rattle.yf_emit.proofs.Printer.FeedLemmas.{left}
+use Rattle.yf_forms.proofs.Decide.LeafLemmas.{same, other as differ_back}
+use Rattle.yf_emit.proofs.SameReading.CommentsCut.{among_join}
 
 -- Comments by their offsets.
-
-among_append : (xs ys : List CommentValue) (d : CommentValue) → is_among (xs ++ ys) d ≡ (is_among xs d || is_among ys d)
-among_append [] ys d = refl
-among_append (x ∷ xs) ys d = by (x.offset == d.offset) (among_append xs ys d) where
-  by : (b : Bool) → is_among (xs ++ ys) d ≡ (is_among xs d || is_among ys d) → (b || is_among (xs ++ ys) d) ≡ ((b || is_among xs d) || is_among ys d)
-  by true h = refl
-  by false h = h
 
 shuffled : (a b c d : Bool) → ((a || b) || (c || d)) ≡ ((a || c) || (b || d))
 shuffled true b c d = refl
@@ -39,12 +34,12 @@ among_rows c (row ∷ rows) d =
     let mine : List CommentValue = flat_map of_leaf row.leaves in
     let keys : List CommentValue = flat_map (λ (r : Row). option_to_list r.key_comment) rows in
     let others : List Span = flat_map (λ (r : Row). r.leaves) rows in
-    among_append (trailing c row) (flat_map (trailing c) rows) d
-    ∙ (ap (λ b. b || is_among (flat_map (trailing c) rows) d) (among_append key mine d)
+    among_join (trailing c row) (flat_map (trailing c) rows) d
+    ∙ (ap (λ b. b || is_among (flat_map (trailing c) rows) d) (among_join key mine d)
     ∙ (ap (λ b. (is_among key d || is_among mine d) || b) (among_rows c rows d)
     ∙ (shuffled (is_among key d) (is_among mine d) (is_among keys d) (is_among (flat_map of_leaf others) d)
-    ∙ (ap (λ b. b || (is_among mine d || is_among (flat_map of_leaf others) d)) (sym (among_append key keys d))
-    ∙ (ap (λ b. is_among (key ++ keys) d || b) (sym (among_append mine (flat_map of_leaf others) d))
+    ∙ (ap (λ b. b || (is_among mine d || is_among (flat_map of_leaf others) d)) (sym (among_join key keys d))
+    ∙ (ap (λ b. is_among (key ++ keys) d || b) (sym (among_join mine (flat_map of_leaf others) d))
     ∙ ap (λ w. is_among (key ++ keys) d || is_among w d) (sym (flat_map-append of_leaf row.leaves others)))))))
 
 -- What is left.
@@ -89,12 +84,6 @@ later_one n (c ∷ cs) (suc k) d a e = later_one n cs k d (and_parts (nat_lt n c
 differ : (n m : ℕ) → nat_lt n m ≡ true → (n == m) ≡ false
 differ n m e = grind (arith, nat_tests)
 
-differ_back : (n m : ℕ) → nat_lt n m ≡ true → (m == n) ≡ false
-differ_back n m e = grind (arith, nat_tests)
-
-same : (n : ℕ) → (n == n) ≡ true
-same n = grind (arith, nat_tests)
-
 zero_suc : (n : ℕ) → (0 == suc n) ≡ false
 zero_suc n = grind (arith, nat_tests)
 
@@ -136,7 +125,7 @@ within_get (c ∷ cs) (suc n) (suc k) d e f = suc_suc n k ∙ within_get cs n k 
 pub among_indices : (cs : List CommentValue) (ns : List ℕ) (k : ℕ) (d : CommentValue) → strict cs ≡ true → slice_get cs k ≡ Some d → is_among (at_indices cs ns) d ≡ has k ns
 among_indices cs [] k d s e = refl
 among_indices cs (n ∷ ns) k d s e =
-    among_append (option_to_list (slice_get cs n)) (at_indices cs ns) d
+    among_join (option_to_list (slice_get cs n)) (at_indices cs ns) d
     ∙ (ap (λ b. is_among (option_to_list (slice_get cs n)) d || b) (among_indices cs ns k d s e) ∙ ap (λ b. b || has k ns) (by (slice_get cs n) refl)) where
       or_false : (b : Bool) → (b || false) ≡ b
       or_false true = refl

@@ -8,19 +8,15 @@ use Rattle.std.proofs.lemmas.List.{get_or-set_other, get_or-set_same, length-set
 use Rattle.yf_comments.specs.Comment.{CommentValue}
 use Rattle.yf_events.specs.declared.event.Span.{Span}
 use Rattle.yf_events.specs.declared.lists.Lists.{Lists}
-use Rattle.yf_emit.specs.declared.print.trails.Leaf.{Leaf}
-use Rattle.yf_emit.specs.Passes.Drafts.{count_to}
-use Rattle.yf_emit.specs.Passes.TrailPass.{TrailsSoFar, ended, given, given_if, is_at, state, trails_leaf}
+use Rattle.yf_print.specs.declared.trails.Leaf.{Leaf}
+use Rattle.yf_forms.specs.Passes.Searches.{count_to}
+use Rattle.yf_print.specs.Passes.TrailPass.{TrailsSoFar, ended, given, given_if, is_at, state, trails_leaf}
 use Rattle.yf_emit.proofs.Trails.LeafMarks.{Mark, in_order, not_at, past_marks}
 use Rattle.yf_emit.proofs.Trails.TrailChoice.{rising, start_of_first, until}
+use Rattle.yf_chars.proofs.Tests.{below, is_less}
+use Rattle.yf_emit.proofs.Printer.FedLemmas.{count_within}
 
 -- Counting on from one offset to a later one counts all before the later one.
-
-below : (a b : ℕ) → a < b → nat_lt a b ≡ true
-below a b l = grind (arith, nat_tests)
-
-pub less : (a b : ℕ) → nat_lt a b ≡ true → a < b
-less a b e = grind (arith, nat_tests)
 
 pub counted_on : (o p : ℕ) (cs : List CommentValue) → o < p → count_to o cs + count_to p (drop (count_to o cs) cs) ≡ count_to p cs
 counted_on o p [] l = refl
@@ -29,7 +25,7 @@ counted_on o p (c ∷ cs) l = by (nat_lt c.offset o) refl (counted_on o p cs l) 
       → (if b then suc (count_to o cs) else 0) + count_to p (drop (if b then suc (count_to o cs) else 0) (c ∷ cs)) ≡ count_to p (c ∷ cs)
   by true e h =
       let more : suc (count_to o cs) + count_to p (drop (count_to o cs) cs) ≡ suc (count_to p cs) = omega (arith, h) in
-      let low : c.offset < o = less c.offset o e in
+      let low : c.offset < o = is_less c.offset o e in
       more ∙ sym (ap (λ w. if w then suc (count_to p cs) else 0) (below c.offset p (omega (arith, l, low))))
   by false e h = none (count_to p (c ∷ cs)) where
     none : (n : ℕ) → 0 + n ≡ n
@@ -57,7 +53,7 @@ run_after r l (m ∷ ls) f u =
     let parts = and_parts (list_all (λ (s : Span). nat_lt l.span.start s.start) (spans (m ∷ ls))) (rising (spans (m ∷ ls))) u in
     let later : nat_lt l.span.start m.span.start ≡ true = (and_parts (nat_lt l.span.start m.span.start) (list_all (λ (s : Span). nat_lt l.span.start s.start) (spans ls)) parts.0).0 in
     ap (λ n. ended r (past_marks r ls (state (given r (Some (leaf_in r l)) n f) (Some (record { event = m.event; end = m.span.end; first = n })))))
-    (counted_on l.span.start m.span.start r.comments (less l.span.start m.span.start later))
+    (counted_on l.span.start m.span.start r.comments (is_less l.span.start m.span.start later))
     ∙ run_after r m ls (given r (Some (leaf_in r l)) (end_of r (m ∷ ls)) f) parts.1
 
 pub run_is : (r : Lists) (ls : List Mark) (f : TrailsSoFar) → rising (spans ls) ≡ true → ended r (past_marks r ls (state f None)) ≡ closed_all r ls f
@@ -84,7 +80,7 @@ given_agrees r l u f other h a = by (trails_leaf r f.trailing l u) refl where
   by : (b : Bool) → trails_leaf r f.trailing l u ≡ b → Agree u (given_if b l f).trailing other
   by false e = agree_later l.first u f.trailing other h a
   by true e =
-      let low : l.first < u = less l.first u (and_parts (nat_lt l.first u) _ e).0 in
+      let low : l.first < u = is_less l.first u (and_parts (nat_lt l.first u) _ e).0 in
       record {
         agree = λ k g.
             let other_one : k ≢ l.first = λ q. absurd (omega (arith, low, g, q)) in
@@ -103,7 +99,7 @@ closed_elsewhere : (r : Lists) (ls : List Mark) (f : TrailsSoFar) (j : ℕ) → 
 closed_elsewhere r [] f j n = refl
 closed_elsewhere r (l ∷ ls) f j n =
     let parts = and_parts (nat_lt j l.event) (not_at j ls) n in
-    let low : j < l.event = less j l.event parts.0 in
+    let low : j < l.event = is_less j l.event parts.0 in
     closed_elsewhere r ls (given r (Some (leaf_in r l)) (end_of r ls) f) j parts.1
     ∙ given_elsewhere r (leaf_in r l) (end_of r ls) f j (λ q. absurd (omega (arith, low, q)))
 
@@ -116,19 +112,12 @@ given_length r l u f = by (trails_leaf r f.trailing l u) where
 counted_later : (o p : ℕ) (cs : List CommentValue) → o < p → count_to o cs ≤ count_to p cs
 counted_later o p cs l = let e = counted_on o p cs l in omega (arith, e)
 
-pub counted_within : (o : ℕ) (cs : List CommentValue) → count_to o cs ≤ length cs
-counted_within o [] = omega arith
-counted_within o (c ∷ cs) = by (nat_lt c.offset o) (counted_within o cs) where
-  by : (b : Bool) → count_to o cs ≤ length cs → (if b then suc (count_to o cs) else 0) ≤ suc (length cs)
-  by true h = omega (arith, h)
-  by false h = omega arith
-
 counted_to_end : (r : Lists) (l : Mark) (ls : List Mark) → rising (spans (l ∷ ls)) ≡ true → count_to l.span.start r.comments ≤ end_of r ls
-counted_to_end r l [] u = counted_within l.span.start r.comments
+counted_to_end r l [] u = count_within l.span.start r.comments
 counted_to_end r l (m ∷ ls) u =
     let parts = and_parts (list_all (λ (s : Span). nat_lt l.span.start s.start) (spans (m ∷ ls))) (rising (spans (m ∷ ls))) u in
     let later : nat_lt l.span.start m.span.start ≡ true = (and_parts (nat_lt l.span.start m.span.start) (list_all (λ (s : Span). nat_lt l.span.start s.start) (spans ls)) parts.0).0 in
-    counted_later l.span.start m.span.start r.comments (less l.span.start m.span.start later)
+    counted_later l.span.start m.span.start r.comments (is_less l.span.start m.span.start later)
 
 -- the comment that trails the leaf, where these trail keys
 abbrev pub found_of : Lists → List Bool → Mark → List Mark → Option ℕ
@@ -159,7 +148,7 @@ found_at r (x ∷ xs) l ys f keys u o a w n =
     let os = and_parts (not_at x.event (xs ++ (l ∷ ys))) (in_order (xs ++ (l ∷ ys))) o in
     let end : ℕ = end_of r (xs ++ (l ∷ ys)) in
     let g : TrailsSoFar = given r (Some (leaf_in r x)) end f in
-    let low : x.event < l.event = less x.event l.event (among xs os.0) in
+    let low : x.event < l.event = is_less x.event l.event (among xs os.0) in
     let long = given_length r (leaf_in r x) end f in
     found_at r xs l ys g keys us.1 os.1 (agree_after r x (xs ++ (l ∷ ys)) f keys u a) (omega (arith, w, long))
     (given_elsewhere r (leaf_in r x) end f l.event (λ q. absurd (omega (arith, low, q))) ∙ n) where

@@ -8,10 +8,10 @@ use Rattle.std.proofs.lemmas.List.{get_or-set_other, get_or-set_same, length-set
 use Rattle.yf_comments.specs.Comment.{CommentValue}
 use Rattle.yf_events.specs.declared.event.Span.{Span}
 use Rattle.yf_events.specs.declared.lists.Lists.{Lists}
-use Rattle.yf_emit.specs.declared.print.trails.Leaf.{Leaf}
+use Rattle.yf_print.specs.declared.trails.Leaf.{Leaf}
 use Rattle.yf_emit.specs.Layouts.Layout.{Source, first_comment, is_among, trailing, trailing_leaf}
-use Rattle.yf_emit.specs.Layouts.Rows.{Row}
-use Rattle.yf_emit.specs.Passes.TrailPass.{TrailsSoFar, given, given_if, trails_leaf}
+use Rattle.yf_print.specs.Layouts.Rows.{Row}
+use Rattle.yf_print.specs.Passes.TrailPass.{TrailsSoFar, given, given_if, trails_leaf}
 use Rattle.yf_emit.specs.Layouts.TrailsOf.{at_index}
 use Rattle.yf_emit.proofs.Printer.FeedLemmas.{ascend}
 use Rattle.yf_emit.proofs.Trails.LeafMarks.{Mark}
@@ -19,6 +19,7 @@ use Rattle.yf_emit.proofs.Trails.TrailChoice.{none_at, rising}
 use Rattle.yf_emit.proofs.Trails.TrailLeaves.{KeyMarks, chosen_of}
 use Rattle.yf_emit.proofs.Trails.TrailOthers.{among_indices, among_rows, at_indices, has, strict}
 use Rattle.yf_emit.proofs.Trails.TrailRuns.{AgreeFrom, agree_after, closed_all, end_of, found_of, leaf_in, spans, trails_alike}
+use Rattle.yf_forms.proofs.Decide.FlagLemmas.{or_assoc}
 
 -- the comments that are found to trail leaves, in order
 abbrev pub founds : Lists → List Bool → List Mark → List ℕ
@@ -28,10 +29,6 @@ founds r keys (l ∷ ls) = option_to_list (found_of r keys l ls) ++ founds r key
 pub or_false : (b : Bool) → b ≡ (b || false)
 or_false true = refl
 or_false false = refl
-
-pub or_assoc : (a b c : Bool) → ((a || b) || c) ≡ (a || (b || c))
-or_assoc true b c = refl
-or_assoc false b c = refl
 
 or_true : (b : Bool) → true ≡ (b || true)
 or_true true = refl

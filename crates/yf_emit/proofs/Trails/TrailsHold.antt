@@ -7,16 +7,16 @@ use Rattle.yf_comments.specs.Comment.{CommentValue}
 use Rattle.yf_events.specs.Tree.{DocumentTree, Node, TreesOf, is_text, standing}
 use Rattle.yf_events.specs.declared.event.Span.{Span}
 use Rattle.yf_events.specs.declared.lists.Lists.{Lists}
-use Rattle.yf_emit.specs.declared.form.decide.Form.{Form}
-use Rattle.yf_emit.specs.declared.form.measure.Measure.{Measure}
-use Rattle.yf_emit.specs.declared.style.Style.{Style}
+use Rattle.yf_forms.specs.declared.form.decide.Form.{Form}
+use Rattle.yf_forms.specs.declared.form.measure.Measure.{Measure}
+use Rattle.yf_forms.specs.declared.style.Style.{Style}
 use Rattle.yf_emit.specs.Layouts.Decorated.{rows_of}
-use Rattle.yf_emit.specs.NormalForms.Forms.{documents_are_placed, stream_forms}
-use Rattle.yf_emit.specs.Nodes.SingleAnswers.{NodeAt}
+use Rattle.yf_forms.specs.NormalForms.Forms.{documents_are_placed, stream_forms}
+use Rattle.yf_forms.specs.Nodes.SingleAnswers.{NodeAt}
 use Rattle.yf_emit.specs.Layouts.Layout.{Source, first_comment, is_among, source_of, trailing, trailing_leaf}
-use Rattle.yf_emit.specs.Passes.MeasurePass.{setting}
-use Rattle.yf_emit.specs.NormalForms.Normal.{setting_of}
-use Rattle.yf_emit.specs.Passes.TrailPass.{TrailsSoFar, all_found, ended, keys_taken, start, taken}
+use Rattle.yf_forms.specs.Passes.MeasurePass.{setting}
+use Rattle.yf_forms.specs.NormalForms.Normal.{setting_of}
+use Rattle.yf_print.specs.Passes.TrailPass.{TrailsSoFar, all_found, ended, keys_taken, start, taken}
 use Rattle.yf_emit.specs.Layouts.TrailsOf.{LayoutTrails, at_index}
 use Rattle.yf_emit.proofs.Trails.DocumentTrails.{all_leaves, in_house, leaves_of, stream_keys}
 use Rattle.yf_emit.proofs.Printer.DocumentsPrinted.{AreNormal}
@@ -29,8 +29,9 @@ use Rattle.yf_emit.proofs.Trails.TrailChoice.{none_at, rising}
 use Rattle.yf_emit.proofs.Trails.TrailLeaves.{KeyMarks, chosen_of}
 use Rattle.yf_emit.proofs.Trails.TrailOthers.{among_indices, at_indices, has, strict}
 use Rattle.yf_emit.proofs.Trails.TrailRuns.{AgreeFrom, closed_all, found_at, run_is, spans}
-use Rattle.yf_emit.proofs.Trails.TrailsAgree.{has_append, marked_one, marks_agree, none_at_starts, or_assoc, or_false, some_within}
-use Rattle.yf_emit.specs.Layouts.BareStart.{is_bare}
+use Rattle.yf_emit.proofs.Trails.TrailsAgree.{has_append, marked_one, marks_agree, none_at_starts, or_false, some_within}
+use Rattle.yf_print.specs.Layouts.BareStart.{is_bare}
+use Rattle.yf_forms.proofs.Decide.FlagLemmas.{or_assoc}
 
 -- a stream of normal forms, with so many open collections at most, whose places are in order
 pub record Placing (m : Lists) (s : Style) (n : ℕ) (ds : List DocumentTree) : Type 0 where

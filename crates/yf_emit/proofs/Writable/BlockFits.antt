@@ -18,10 +18,10 @@ use Rattle.yf_block_scalar.specs.declared.header.Header.{Header}
 use Rattle.yf_block_scalar.proofs.ScalarLemmas.{body_scalar}
 use Rattle.yf_events.specs.declared.event.ScalarStyle.TheVariants.{Literal, Folded}
 use Rattle.yf_grammar.specs.Productions.BlockScalar.{kept_lines, style_of}
-use Rattle.yf_emit.specs.Nodes.BlockLines.{begins_with_space, content_lines, cut_at_feeds, final_feeds, into_first, is_feed, without_final_feeds}
+use Rattle.yf_forms.specs.Nodes.BlockLines.{begins_with_space, content_lines, cut_at_feeds, final_feeds, into_first, is_feed, without_final_feeds}
 use Rattle.yf_emit.specs.Nodes.BlockValues.{chomp_of, header_of}
 use Rattle.yf_emit.specs.Layouts.ReadableTrees.{FitScalar}
-use Rattle.yf_emit.specs.Nodes.ScalarStyles.{has_block_content}
+use Rattle.yf_forms.specs.Nodes.ScalarStyles.{has_block_content}
 
 -- Lines hold no line feeds.
 

@@ -19,9 +19,11 @@ use Rattle.yf_grammar.proofs.Documents.CommentOrder.{Ascend, no_more, one_more, 
 use Rattle.yf_stream.specs.ReadingOf.{ReadingOf}
 use Rattle.yf_stream.proofs.Offsets.ReadingOrder.{reading_ascends}
 use Rattle.yf_emit.specs.Layouts.RowComments.{AreRemarks, no_remark, one_remark}
-use Rattle.yf_emit.specs.Layouts.Layout.{trimmed}
+use Rattle.yf_forms.specs.Nodes.Lines.{trimmed}
 use Rattle.yf_emit.proofs.Writable.DirectivesFit.{all_nb}
 use Rattle.yf_emit.proofs.Texts.HighBytes.{AllHigh, all_high}
+use Rattle.yf_chars.proofs.CharBounds.{nb_below}
+use Rattle.yf_chars.proofs.CharFacts.{hash_no_white}
 
 -- Bytes of characters that are no ASCII are no white space.
 
@@ -77,22 +79,14 @@ trimmed_line a =
     let r = line_chars a.chars a.each in
     subst (λ w. IsLineText (trimmed w)) a.bytes (record { chars = r.chars; bytes = r.bytes; each = r.each })
 
-sign_no_white : is_white 35 ≡ false
-unfolding is_white
-sign_no_white = refl
-
 trimmed_remark : {w : List ℕ} → IsRemark w → IsRemark (trimmed w)
 trimmed_remark a = record {
   follows = trimmed a.follows;
-  is = ap trimmed a.is ∙ trimmed_past (35 ∷ []) a.follows (sign_no_white, tt);
+  is = ap trimmed a.is ∙ trimmed_past (35 ∷ []) a.follows (hash_no_white, tt);
   line = trimmed_line a.line;
 }
 
 -- Comments that are in a text.
-
-nb_below : (c : ℕ) → is_nb_char c ≡ true → c < no_char
-unfolding is_nb_char is_printable is_between
-nb_below c e = grind (arith, nat_tests)
 
 comment_remark : {t : List ℕ} {i : ℕ} {text : List ℕ} → IsUtf8 t → CommentIsAt t i text → IsRemark text
 comment_remark {t} {i} u a =

@@ -25,8 +25,8 @@ use Rattle.yf_grammar.proofs.Ends.GapLemmas.{Visible}
 use Rattle.yf_grammar.proofs.NodesInText.NodePlaces.{ContentFrom, content_alone, content_after}
 use Rattle.yf_grammar.proofs.NodesInText.PlacedLeaves.{content_visible, properties_visible}
 use Rattle.yf_emit.proofs.Writable.ContentLaws.{ContentStartsAreFound}
-use Rattle.yf_emit.specs.Nodes.ContentStart.{anchor_len, content_start, past_gap, past_second, property_len, tag_len, written_len}
-use Rattle.yf_emit.proofs.Texts.GapLemmas.{gap_none, gap_over, past_gap_is}
+use Rattle.yf_forms.specs.Nodes.ContentStart.{anchor_len, content_start, past_gap, past_second, property_len, tag_len, written_len}
+use Rattle.yf_forms.proofs.Texts.GapLemmas.{gap_none, gap_over, past_gap_is}
 use Rattle.yf_emit.proofs.Writable.GapPasses.{gap_left, separate_pass}
 use Rattle.yf_emit.proofs.Texts.HighBytes.{high_there}
 

@@ -7,7 +7,7 @@ use Rattle.yf_chars.specs.Text.{code}
 use Rattle.yf_comments.specs.Comment.{CommentValue}
 use Rattle.yf_comments.specs.Comments.{Separate}
 use Rattle.yf_props.specs.Names.{Properties, PropertiesValue}
-use Rattle.yf_emit.specs.Nodes.ContentStart.{content_start}
+use Rattle.yf_forms.specs.Nodes.ContentStart.{content_start}
 
 -- Where properties are derived, and content is separated from them that begins with a visible character other than `#`, `&` and `!`, as each
 -- scalar and each flow collection does, `content_start` is where it begins, whatever comments are between.

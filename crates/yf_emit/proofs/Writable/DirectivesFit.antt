@@ -34,7 +34,8 @@ use Rattle.yf_stream.specs.Stream.DirectiveLines.{last_directive, more_directive
 use Rattle.yf_stream.specs.Stream.Parameters.{version_parameter, tag_parameters, reserved_parameters}
 use Rattle.yf_stream.specs.Stream.ReservedParameter.{reserved_parameter}
 use Rattle.yf_emit.specs.Layouts.FitDocuments.{is_apart, DirectiveAt, FitDirective, FitDirectives, fit_no_directives, fit_directive}
-use Rattle.yf_emit.specs.Layouts.Rows.{joined_words}
+use Rattle.yf_print.specs.Layouts.Rows.{joined_words}
+use Rattle.yf_chars.proofs.CharFacts.{space_nb}
 
 -- What words are made of.
 
@@ -173,10 +174,6 @@ run_line f a = record { chars = a.chars; bytes = a.bytes; each = all_nb f a.char
 digit_nb : (c : ℕ) → is_digit c ≡ true → is_nb_char c ≡ true
 unfolding is_digit is_nb_char is_printable is_between is_break_char
 digit_nb c e = grind (arith, nat_tests)
-
-space_nb : is_nb_char 32 ≡ true
-unfolding is_nb_char is_printable is_between is_break_char
-space_nb = refl
 
 apart_line : {w z : List ℕ} → IsLineText w → IsLineText z → IsLineText (32 ∷ (w ++ z))
 apart_line a b = line_ascii 32 (omega arith) space_nb (line_append a b)

@@ -4,7 +4,7 @@ use Rattle.yf_chars.specs.declared.context.Ctx.{Ctx}
 use Rattle.yf_props.specs.Props.{PropsValue}
 use Rattle.yf_events.specs.Tree.{NodeOffsets, Node, sequence, mapping, Items, no_items, item, Pairs, no_pairs, pair}
 use Rattle.yf_grammar.specs.Productions.Grammar.{in_flow}
-use Rattle.yf_emit.specs.declared.style.Style.{Style}
+use Rattle.yf_forms.specs.declared.style.Style.{Style}
 use Rattle.yf_emit.specs.Layouts.ReadableTrees.{InlineNode, FitProps}
 
 mutual

@@ -16,12 +16,13 @@ use Rattle.yf_grammar.proofs.WrittenTexts.FlowBack.{empty_json_back, collection_
 use Rattle.yf_grammar.proofs.WrittenTexts.LeafBack.{json_back, json_props_back}
 use Rattle.yf_grammar.proofs.NodesInText.MeantLemmas.{meant_entering, last_pair_meant, more_pairs_meant, last_item_meant, more_items_meant, sequence_meant, mapping_meant, sequence_with_meant, mapping_with_meant}
 use Rattle.yf_grammar.proofs.WrittenTexts.PairsBack.{pair_back, pair_apart_back}
-use Rattle.yf_emit.specs.declared.style.Style.{Style}
+use Rattle.yf_forms.specs.declared.style.Style.{Style}
 use Rattle.yf_emit.proofs.Writable.FitFlows.{FitFlow, flow_leaf, flow_no_items, flow_no_pairs, flow_sequence, flow_mapping, FitFlowItems, flow_last_item, flow_item, FitFlowPairs, flow_last_pair, flow_pair}
 use Rattle.yf_emit.specs.Layouts.ReadableTrees.{FitProps, no_fit_props, some_fit_props, ColonFits, colon_at_once, colon_apart, InlineNode}
-use Rattle.yf_emit.specs.Nodes.OneLine.{spaced, props_text, written, bare, more_items, more_pairs, colon_after}
+use Rattle.yf_forms.specs.Nodes.OneLine.{spaced, props_text, written, bare, more_items, more_pairs, colon_after}
 use Rattle.yf_emit.proofs.Derived.ClearRows.{unmarked_first}
 use Rattle.yf_emit.proofs.Writable.LeafFits.{props_before, unmarked_with, no_comments_with, line_node}
+use Rattle.yf_grammar.proofs.FlowReader.FlowStarts.{in_flow_not_block}
 
 -- Comments: there are none.
 
@@ -36,14 +37,6 @@ silent_entering i o x e = e
 silent_collection : (s f : Bool) (i j : ℕ) (x : Meaning) → x.comments ≡ [] → (collection s f i j x).comments ≡ []
 unfolding collection
 silent_collection s f i j x e = e
-
-flow_context : (c : Ctx) → is_block c ≡ false → is_block (in_flow c) ≡ false
-flow_context BlockOut e = e
-flow_context BlockIn e = e
-flow_context FlowOut e = refl
-flow_context FlowIn e = refl
-flow_context BlockKey e = refl
-flow_context FlowKey e = refl
 
 -- Entries.
 
@@ -265,9 +258,9 @@ mutual
   flow_inline house k (flow_leaf n) = n
   flow_inline house k (flow_no_items e f) = no_items_inline house k e f
   flow_inline house k (flow_no_pairs e f) = no_pairs_inline house k e f
-  flow_inline house k (flow_sequence {c = c} e f a more) = sequence_inline house k e f (items_node house (flow_context c k) (flow_inline house (flow_context c k) a) more)
+  flow_inline house k (flow_sequence {c = c} e f a more) = sequence_inline house k e f (items_node house (in_flow_not_block c k) (flow_inline house (in_flow_not_block c k) a) more)
   flow_inline house k (flow_mapping {c = c} e f a b more) =
-      mapping_inline house k e f (pairs_node house (flow_context c k) (flow_inline house (flow_context c k) a) (flow_inline house (flow_context c k) b) more)
+      mapping_inline house k e f (pairs_node house (in_flow_not_block c k) (flow_inline house (in_flow_not_block c k) a) (flow_inline house (in_flow_not_block c k) b) more)
 
   items_node : (house : Style) {c : Ctx} {x : Node} {xs : Items} → is_block c ≡ false → InlineNode house c x → FitFlowItems house c xs → ItemsNode house c x xs
   items_node house k n flow_last_item = one_item house n

@@ -14,7 +14,7 @@ use Rattle.yf_chars.proofs.TextLemmas.{byte_from_code, next_ascii, reads_real}
 use Rattle.yf_lines.specs.Basic.{Break, FlowPrefix, SeparateInLine}
 use Rattle.yf_lines.specs.Basic.Break.{cr_lf, lone_cr, lone_lf}
 use Rattle.yf_lines.specs.Basic.SeparateInLine.{by_whites, at_start}
-use Rattle.yf_lines.proofs.BasicLemmas.{break_forward}
+use Rattle.yf_lines.proofs.BasicLemmas.{break_forward, white_below}
 use Rattle.yf_comments.specs.Comment.{CommentValue}
 use Rattle.yf_comments.specs.Comments.{BreakOrEnd, CommentLine, CommentText, LineEnd, LineRest, Separate, SeparateLines}
 use Rattle.yf_comments.specs.Comments.BreakOrEnd.{by_break, by_end}
@@ -25,8 +25,8 @@ use Rattle.yf_comments.specs.Comments.LineRest.{comment, nothing, whites}
 use Rattle.yf_comments.specs.Comments.Separate.{in_key, in_node}
 use Rattle.yf_comments.specs.Comments.SeparateLines.{in_line, over_lines}
 use Rattle.yf_comments.proofs.SeparateLemmas.{prefix_whites}
-use Rattle.yf_emit.specs.Nodes.ContentStart.{gap_len}
-use Rattle.yf_emit.proofs.Texts.GapLemmas.{gap_comment, gap_feed, gap_more, gap_return, gap_sign, gap_space, gap_tab}
+use Rattle.yf_forms.specs.Nodes.ContentStart.{gap_len}
+use Rattle.yf_forms.proofs.Texts.GapLemmas.{gap_comment, gap_feed, gap_more, gap_return, gap_sign, gap_space, gap_tab}
 use Rattle.yf_emit.proofs.Texts.HighBytes.{high_there}
 
 -- how many bytes of the gap are left from a place on, which is in a comment or not; end: where the part of the text ends
@@ -37,10 +37,6 @@ gap_left t end i k = gap_len k (drop i (take (min end (length t)) t))
 abbrev pub Passes : List ℕ → ℕ → ℕ → Bool → ℕ → Bool → Type 0
 Passes t end i k j d = (m : ℕ) → m ≡ i + gap_left t end i k → m ≡ j + gap_left t end j d
 
-white_below : (c : ℕ) → is_white c ≡ true → c < 128
-unfolding is_white
-white_below c e = grind (arith, nat_tests)
-
 white_tab : (c : ℕ) → is_white c ≡ true → c ≢ 32 → c ≡ 9
 unfolding is_white
 white_tab c e n = grind (arith, nat_tests)
@@ -49,7 +45,7 @@ no_feed : (c : ℕ) → is_nb_char c ≡ true → c ≢ 10
 unfolding is_nb_char is_printable is_between is_break_char
 no_feed c e q = grind (arith, nat_tests)
 
-no_return : (c : ℕ) → is_nb_char c ≡ true → c ≢ 13
+pub no_return : (c : ℕ) → is_nb_char c ≡ true → c ≢ 13
 unfolding is_nb_char is_printable is_between is_break_char
 no_return c e q = grind (arith, nat_tests)
 

@@ -18,10 +18,10 @@ use Rattle.yf_grammar.specs.Productions.OneLineTexts.{Back, JsonBack}
 use Rattle.yf_grammar.specs.Productions.Meaning.{Meaning, scalar, alias_to, empty_node, plain_event, from_to, with_props}
 use Rattle.yf_grammar.specs.Productions.TreesOfMeaning.{Anywhere, MeansTrees, tall}
 use Rattle.yf_grammar.proofs.WrittenTexts.LeafBack.{alias_node_back, single_json_back, double_json_back, json_back, props_node_back, json_props_back}
-use Rattle.yf_emit.specs.declared.style.Style.{Style}
+use Rattle.yf_forms.specs.declared.style.Style.{Style}
 use Rattle.yf_emit.specs.Layouts.ReadableTrees.{IsNoMarker, ColonFits, colon_at_once, colon_apart, InlineNode}
-use Rattle.yf_emit.specs.Nodes.OneLine.{spaced, props_text, written, colon_after, colon_after_props}
-use Rattle.yf_emit.specs.Layouts.Rows.{is_empty_text}
+use Rattle.yf_forms.specs.Nodes.OneLine.{spaced, props_text, written, colon_after, colon_after_props}
+use Rattle.yf_forms.specs.Nodes.Lines.{is_empty_text}
 use Rattle.yf_emit.proofs.Derived.ClearRows.{unmarked_first, unmarked_more}
 use Rattle.yf_emit.proofs.Derived.CollectionsMade.{same_props, some_props}
 use Rattle.yf_emit.proofs.Derived.RowTexts.{props_unmarked, space_after_text}

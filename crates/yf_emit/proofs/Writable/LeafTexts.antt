@@ -39,6 +39,8 @@ use Rattle.yf_block_scalar.specs.declared.header.Chomp.TheVariants.{Strip, Clip,
 use Rattle.yf_block_scalar.specs.declared.header.Header.{Header}
 use Rattle.yf_block_scalar.proofs.ScalarLemmas.{body_scalar}
 use Rattle.yf_emit.proofs.Texts.LineUtf8.{line_utf8, feed_utf8}
+use Rattle.yf_chars.proofs.CharBounds.{json_below}
+use Rattle.yf_print.proofs.Pass.WhiteLemmas.{white_scalar}
 
 -- Characters.
 
@@ -66,14 +68,6 @@ code_scalar t i u l = ⊎_elim (λ (e : begins t i ≡ true). there e) (λ (e : 
 ns_scalar : (c : ℕ) → is_ns_char c ≡ true → IsScalar c
 unfolding is_ns_char is_nb_char is_printable is_between is_break_char
 ns_scalar c e = grind (arith, nat_tests)
-
-white_scalar : (c : ℕ) → is_white c ≡ true → IsScalar c
-unfolding is_white
-white_scalar c e = grind (arith, nat_tests)
-
-json_below : (c : ℕ) → is_nb_json c ≡ true → c < no_char
-unfolding is_nb_json is_between
-json_below c e = grind (arith, nat_tests)
 
 chain_fine : {S : ℕ → ℕ → List ℕ → Type 0} {i j : ℕ} {x : List ℕ} → ((h k : ℕ) (y : List ℕ) → S h k y → Fine y) → Chain S i j x → Fine x
 chain_fine f done = IsUtf8-nil

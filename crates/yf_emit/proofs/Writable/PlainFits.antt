@@ -10,7 +10,7 @@ use Rattle.yf_events.specs.declared.event.ScalarStyle.TheVariants.{Plain}
 use Rattle.yf_events.specs.Tree.{NodeOffsets, scalar}
 use Rattle.yf_grammar.proofs.WrittenTexts.LeafBack.{plain_node_back, plain_props_back}
 use Rattle.yf_grammar.proofs.WrittenTexts.PlainUnmarked.{plain_unmarked}
-use Rattle.yf_emit.specs.declared.style.Style.{Style}
+use Rattle.yf_forms.specs.declared.style.Style.{Style}
 use Rattle.yf_emit.specs.Layouts.ReadableTrees.{InlineNode, FitProps, no_fit_props, some_fit_props}
 use Rattle.yf_emit.proofs.Writable.LeafFits.{plain_inline, plain_with_inline}
 

@@ -13,9 +13,9 @@ use Rattle.yf_quoted.specs.Written.{all_nb, quotes_for, quotes_in}
 use Rattle.yf_quoted.proofs.WriteLemmas.{nb_chosen}
 use Rattle.yf_events.specs.declared.event.ScalarStyle.TheVariants.{Single, Double}
 use Rattle.yf_events.specs.Tree.{NodeOffsets, scalar}
-use Rattle.yf_emit.specs.declared.style.Style.{Style}
+use Rattle.yf_forms.specs.declared.style.Style.{Style}
 use Rattle.yf_emit.specs.Layouts.ReadableTrees.{InlineNode, FitProps, no_fit_props, some_fit_props}
-use Rattle.yf_emit.specs.Nodes.ScalarStyles.{quoted_in, style_in}
+use Rattle.yf_forms.specs.Nodes.ScalarStyles.{quoted_in, style_in}
 use Rattle.yf_emit.proofs.Writable.LeafFits.{single_inline, single_with_inline, double_inline, double_with_inline}
 
 -- in single quotes, where they can hold the text, and in double ones

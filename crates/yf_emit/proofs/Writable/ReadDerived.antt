@@ -24,11 +24,12 @@ use Rattle.yf_grammar.specs.Productions.Grammar.Derives.{flow_node, an_alias, a_
 use Rattle.yf_grammar.specs.Productions.Meaning.{Meaning, scalar, alias_to, plain_event}
 use Rattle.yf_emit.specs.Layouts.ReadableTrees.{FitScalar, no_fit_props}
 use Rattle.yf_emit.proofs.Writable.ReadTrees.{ReadText, read_scalar, read_alias}
-use Rattle.yf_emit.specs.Nodes.ScalarStyles.{has_block_content}
+use Rattle.yf_forms.specs.Nodes.ScalarStyles.{has_block_content}
 use Rattle.yf_emit.proofs.Writable.BlockFits.{read_block_fits}
 use Rattle.yf_emit.proofs.Writable.LeafTexts.{plain_utf8, single_utf8, double_utf8, block_utf8}
 use Rattle.yf_emit.proofs.Writable.PropsFits.{props_some}
 use Rattle.yf_emit.proofs.Writable.ReadParts.{NodeRead, PairRead, EntryRead, an_item, a_pair, EntriesRead, spanned, some_span, node_next, node_noting, pair_after, entry_noting, entries_after, node_entering, nothing_read, pair_of, last_of, more_of, none_of, collection_read, node_with}
+use Rattle.yf_emit.proofs.Writable.ReadFits.{outside}
 
 -- in a flow collection a node is known to be so; elsewhere nothing is asked
 abbrev pub ReadClaim : ℕ → Production → Meaning → Type 0
@@ -65,9 +66,6 @@ in_flow_inside FlowOut k = refl
 in_flow_inside FlowIn k = refl
 in_flow_inside BlockKey k = refl
 in_flow_inside FlowKey k = refl
-
-nowhere : (b : Bool) → false ≡ true → b ≡ true
-nowhere b e = absurd (true≢false (sym e))
 
 -- Leaves.
 
@@ -143,13 +141,13 @@ module _ {t : List ℕ} (u : IsUtf8 t) where
   reads (a_block_collection {k = k} {m = m} {cs = cs} {x = x} b e s o d) = node_next cs (collection_read false (k + m) x.finish (reads d))
   reads (a_block_collection_with {f = f} {g = g} {k = k} {m = m} {cs = cs} {ds = ds} {p = v} {x = x} b s q e r o d) =
       node_next (cs ++ v.comments ++ ds) (node_with v.tag_offset f g (props_made u q) (props_some q) (collection_read false (k + m) x.finish (reads d)))
-  reads (flow_in_block {cs = cs} {ds = ds} b s d e) = node_next cs (node_noting ds (reads d refl false (nowhere false)))
+  reads (flow_in_block {cs = cs} {ds = ds} b s d e) = node_next cs (node_noting ds (reads d refl false (outside false)))
   reads (a_last_entry d) = last_of (reads d)
   reads (an_entry_before d s e) = more_of (reads d) (reads e)
   reads (a_dash_entry {i = i} e n d) = an_item (node_entering i None (reads d))
   reads (an_explicit_entry_with {m = m} {i = i} {k = k} e w d c r) = a_pair (pair_of (node_entering i (Some (k + m)) (reads d)) (reads r) (omega arith))
   reads (an_explicit_key_alone {i = i} {x = x} e w d c) = a_pair (pair_of (node_entering i None (reads d)) (nothing_read false x.finish) (omega arith))
-  reads (a_keyed_entry {i = i} {k = k} d v) = a_pair (pair_of (node_entering i (Some k) (reads d refl false (nowhere false))) (reads v) (omega arith))
+  reads (a_keyed_entry {i = i} {k = k} d v) = a_pair (pair_of (node_entering i (Some k) (reads d refl false (outside false))) (reads v) (omega arith))
   reads (an_unkeyed_entry {i = i} v) = a_pair (pair_of (node_entering i (Some i) (nothing_read false i)) (reads v) (omega arith))
   reads (a_block_value e d) = reads d
   reads (an_empty_block_value {i = i} {cs = cs} e d) = node_noting cs (nothing_read false (i + 1))

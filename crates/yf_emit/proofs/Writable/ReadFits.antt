@@ -17,24 +17,25 @@ use Rattle.yf_events.specs.declared.event.ScalarStyle.{ScalarStyle}
 use Rattle.yf_events.specs.declared.event.ScalarStyle.TheVariants.{Plain, Single, Double, Literal, Folded}
 use Rattle.yf_events.specs.Tree.{NodeOffsets, Node, scalar, sequence, mapping, Items, item, Pairs, pair}
 use Rattle.yf_grammar.proofs.FlowReader.FlowStarts.{in_flow_not_block}
-use Rattle.yf_emit.specs.declared.style.Style.{Style}
+use Rattle.yf_forms.specs.declared.style.Style.{Style}
 use Rattle.yf_emit.proofs.Writable.FitFlows.{FitFlow, flow_leaf, flow_no_items, flow_no_pairs, flow_sequence, flow_mapping, FitFlowItems, flow_last_item, flow_item, FitFlowPairs, flow_last_pair, flow_pair}
 use Rattle.yf_emit.specs.Layouts.ReadableTrees.{InlineNode, is_inline, FitProps, FitScalar, Fit, fit_nothing, fit_line, fit_scalar, fit_sequence, fit_mapping, FitItems, fit_no_items, fit_item, FitPairs, fit_no_pairs, fit_pair}
-use Rattle.yf_emit.specs.Nodes.OneLineFlows.{may_be_kept, items_may_be_kept, pairs_may_be_kept, scalar_may_be_kept, has_comment}
-use Rattle.yf_emit.specs.NormalForms.Normal.{LayoutSetting, Spot, styled, styled_items, styled_pairs, fits, settled, settled_items, settled_pairs, inner_spot, key_spot, value_spot}
-use Rattle.yf_emit.specs.Nodes.OneLine.{spaced, props_text, written}
+use Rattle.yf_forms.specs.Nodes.OneLineFlows.{may_be_kept, items_may_be_kept, pairs_may_be_kept, scalar_may_be_kept, has_comment}
+use Rattle.yf_forms.specs.NormalForms.Normal.{LayoutSetting, Spot, styled, styled_items, styled_pairs, fits, settled, settled_items, settled_pairs, inner_spot, key_spot, value_spot}
+use Rattle.yf_forms.specs.Nodes.OneLine.{spaced, props_text, written}
 use Rattle.yf_emit.proofs.Writable.ReadTrees.{ReadPlain, ReadText, ReadNode, read_nothing, read_props, read_scalar, read_alias, read_sequence, read_mapping, ReadItems, read_no_items, read_item, ReadPairs, read_no_pairs, read_pair}
-use Rattle.yf_emit.specs.Nodes.ScalarStyles.{has_block_content, lines_in, quoted_in, style_in, wanted}
-use Rattle.yf_emit.specs.Layouts.Rows.{is_empty_text}
+use Rattle.yf_forms.specs.Nodes.ScalarStyles.{has_block_content, lines_in, quoted_in, style_in, wanted}
+use Rattle.yf_forms.specs.Nodes.Lines.{is_empty_text}
 use Rattle.yf_emit.proofs.Derived.CollectionsMade.{same_props, some_props}
 use Rattle.yf_emit.proofs.Writable.FlowFits.{flow_inline}
 use Rattle.yf_emit.proofs.Writable.LeafFits.{alias_inline, props_inline}
 use Rattle.yf_emit.proofs.Writable.PlainFits.{plain_fits, plain_some}
 use Rattle.yf_emit.proofs.Writable.QuotedFits.{quoted_fits}
+use Rattle.yf_forms.proofs.Decide.ValueLemmas.{nothing_steady}
 
 -- Texts on one line that are not empty.
 
-filled : (b : ℕ) (w : List ℕ) → b ∷ w ≢ []
+pub filled : (b : ℕ) (w : List ℕ) → b ∷ w ≢ []
 filled b w e = cc
 
 spaced_filled : (v w : List ℕ) → w ≢ [] → spaced v w ≢ []
@@ -90,7 +91,7 @@ kept_scalar b lines q Literal k i e f u r m = absurd (true≢false (sym m))
 kept_scalar b lines q Folded k i e f u r m = absurd (true≢false (sym m))
 
 -- outside of flow collections a text may come from anywhere
-outside : (b : Bool) → false ≡ true → b ≡ true
+pub outside : (b : Bool) → false ≡ true → b ≡ true
 outside b e = absurd (true≢false (sym e))
 
 quoted_fit : {at : NodeOffsets} {p : PropsValue} {text : List ℕ} (q : Style) (lines : List (List ℕ)) → is_some at.span ≡ true → FitProps p → IsUtf8 text
@@ -133,9 +134,6 @@ scalar_fit b lines q Literal e f u r = literal_fit q lines e f u r
 scalar_fit b lines q Folded e f u r = folded_fit q lines e f u r
 
 -- an empty text stays plain
-nothing_steady : is_steady [] ≡ true
-unfolding is_steady has_line_feed ends_with_colon is_only is_marker_of
-nothing_steady = refl
 
 empty_fit : {at : NodeOffsets} {p : PropsValue} (q : Style) → Fit q (scalar at p Plain [] []) → Fit q (scalar at p (wanted Plain [] q) [] (lines_in (wanted Plain [] q) []))
 empty_fit {at} {p} q a =

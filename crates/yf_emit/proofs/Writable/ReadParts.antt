@@ -171,7 +171,7 @@ collection_read flow i j (some_pairs a) = record {
 
 -- Properties.
 
-since : (i j : ℕ) (s : Option Span) → is_some (span_since i j s) ≡ true
+pub since : (i j : ℕ) (s : Option Span) → is_some (span_since i j s) ≡ true
 unfolding from_to
 since i j None = refl
 since i j (Some s) = refl

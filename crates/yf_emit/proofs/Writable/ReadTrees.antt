@@ -12,7 +12,7 @@ use Rattle.yf_events.specs.declared.event.ScalarStyle.{ScalarStyle}
 use Rattle.yf_events.specs.declared.event.ScalarStyle.TheVariants.{Plain, Single, Double, Literal, Folded}
 use Rattle.yf_events.specs.Tree.{NodeOffsets, Node, scalar, alias, sequence, mapping, Items, no_items, item, Pairs, no_pairs, pair}
 use Rattle.yf_emit.specs.Layouts.ReadableTrees.{FitProps, FitScalar}
-use Rattle.yf_emit.specs.Nodes.ScalarStyles.{has_block_content}
+use Rattle.yf_forms.specs.Nodes.ScalarStyles.{has_block_content}
 
 -- the text of a plain scalar: where it is steady, it is one on one line outside of flow collections, and in them where it comes from one
 pub record ReadPlain (inside : Bool) (text : List ℕ) : Type 0 where

@@ -17,7 +17,7 @@ use Rattle.yf_stream.specs.Stream.ExplicitNode.{marked_node, marked_nothing}
 use Rattle.yf_stream.proofs.Offsets.ReadingTrees.{TreesMeant, no_trees_meant, tree_meant, reading_is_at}
 use Rattle.yf_stream.proofs.Uniqueness.StreamDocuments.{DocumentsDerived, no_documents_derived, document_derived, stream_derived}
 use Rattle.yf_emit.specs.Layouts.FitDocuments.{FitDirectives, fit_no_directives, FitDocuments, fit_no_documents, fit_document, FitsBare, fits_marked, fits_bare}
-use Rattle.yf_emit.specs.NormalForms.Normal.{LayoutSetting, root_spot, normal_document}
+use Rattle.yf_forms.specs.NormalForms.Normal.{LayoutSetting, root_spot, normal_document}
 use Rattle.yf_emit.proofs.Writable.ReadTrees.{ReadNode, read_nothing, read_props, read_scalar, read_alias, read_sequence, read_mapping, ReadItems, read_no_items, read_item, ReadPairs, read_no_pairs, read_pair}
 use Rattle.yf_emit.proofs.Writable.DirectivesFit.{directives_fit}
 use Rattle.yf_emit.proofs.Writable.ReadDerived.{reads}

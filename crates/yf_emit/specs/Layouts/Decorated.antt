@@ -5,11 +5,12 @@ use Rattle.yf_comments.specs.Comment.{CommentValue}
 pub use Rattle.yf_comments.specs.GapLines.{GapLine, blank, remark, gap_then}
 use Rattle.yf_events.specs.Tree.{DocumentTree}
 use Rattle.yf_events.specs.declared.lists.Lists.{Lists}
-use Rattle.yf_emit.specs.declared.style.Style.{Style}
-use Rattle.yf_emit.specs.Layouts.BareStart.{is_bare}
-use Rattle.yf_emit.specs.Layouts.Layout.{Columns, Source, may_be_blank_after, own_line_comments, precedes_item, source_of, trailing, trimmed}
-use Rattle.yf_emit.specs.NormalForms.Normal.{setting_of}
-use Rattle.yf_emit.specs.Layouts.Rows.{Row, Ending, anywhere, at_text_start, all_rows}
+use Rattle.yf_forms.specs.declared.style.Style.{Style}
+use Rattle.yf_print.specs.Layouts.BareStart.{is_bare}
+use Rattle.yf_emit.specs.Layouts.Layout.{Columns, Source, may_be_blank_after, own_line_comments, precedes_item, source_of, trailing}
+use Rattle.yf_forms.specs.Nodes.Lines.{trimmed}
+use Rattle.yf_forms.specs.NormalForms.Normal.{setting_of}
+use Rattle.yf_print.specs.Layouts.Rows.{Row, Ending, anywhere, at_text_start, all_rows}
 
 -- the texts of the comments that trail a row, and the lines after it
 pub record Deco : Type 0 where

@@ -12,9 +12,9 @@ use Rattle.yf_events.specs.declared.document.Doc.{Doc}
 use Rattle.yf_events.specs.Tree.{Node, DocumentTree, flat, standing}
 use Rattle.yf_grammar.specs.Productions.TreesOfMeaning.{Anywhere, tall}
 use Rattle.yf_stream.specs.Stream.{Document, Parameters}
-use Rattle.yf_emit.specs.declared.style.Style.{Style}
+use Rattle.yf_forms.specs.declared.style.Style.{Style}
 use Rattle.yf_emit.specs.Layouts.ReadableTrees.{Fit}
-use Rattle.yf_emit.specs.Layouts.Rows.{joined_words}
+use Rattle.yf_print.specs.Layouts.Rows.{joined_words}
 
 -- a space or a break
 abbrev pub is_apart : ℕ → Bool

@@ -5,12 +5,13 @@ use Rattle.yf_chars.specs.Class.{is_white}
 use Rattle.yf_comments.specs.Comment.{CommentValue}
 use Rattle.yf_events.specs.declared.event.Span.{Span}
 use Rattle.yf_events.specs.declared.lists.Lists.{Lists}
-use Rattle.yf_emit.specs.declared.style.Style.{Style}
-use Rattle.yf_emit.specs.Layouts.BareStart.{is_bare}
-pub use Rattle.yf_emit.specs.Layouts.KeptColumns.{Columns, columns_of, next_columns, precedes_item}
-use Rattle.yf_emit.specs.NormalForms.Normal.{setting_of}
-use Rattle.yf_emit.specs.Layouts.Rows.{Row, Ending, at_text_start, at_document_start, at_kept_tail, before_node, anywhere, all_rows}
+use Rattle.yf_forms.specs.declared.style.Style.{Style}
+use Rattle.yf_print.specs.Layouts.BareStart.{is_bare}
+pub use Rattle.yf_print.specs.Layouts.KeptColumns.{Columns, columns_of, next_columns, precedes_item}
+use Rattle.yf_forms.specs.NormalForms.Normal.{setting_of}
+use Rattle.yf_print.specs.Layouts.Rows.{Row, Ending, at_text_start, at_document_start, at_kept_tail, before_node, anywhere, all_rows}
 use Rattle.yf_events.specs.Tree.{DocumentTree, TreesOf}
+use Rattle.yf_forms.specs.Nodes.Lines.{ended, trimmed, after_two_spaces}
 
 -- a comment, and whether it is on the line on which the last leaf ends that begins before it
 abbrev pub Remark : Type 0
@@ -48,14 +49,6 @@ trailing_leaf c leaf (Some r) =
 
 abbrev pub trailing : Source → Row → List CommentValue
 trailing c row = option_to_list row.key_comment ++ flat_map (λ leaf. trailing_leaf c leaf (first_comment c leaf)) row.leaves
-
--- a comment's text without the white space that ends it
-abbrev pub trimmed : List ℕ → List ℕ
-trimmed [] = []
-trimmed (b ∷ bs) = if list_all is_white (b ∷ bs) then [] else b ∷ trimmed bs
-
-abbrev pub after_two_spaces : CommentValue → List ℕ
-after_two_spaces c = 32 ∷ 32 ∷ trimmed c.text
 
 -- Comments on lines of their own.
 
@@ -102,9 +95,6 @@ may_be_blank_after at_document_start = false
 may_be_blank_after at_kept_tail = false
 may_be_blank_after before_node = false
 may_be_blank_after anywhere = true
-
-abbrev pub ended : List ℕ → List ℕ
-ended text = text ++ (10 ∷ [])
 
 abbrev pub blank_line : Ending → Line → List ℕ
 blank_line before l = if may_be_blank_after before && l.blank_before then 10 ∷ [] else []

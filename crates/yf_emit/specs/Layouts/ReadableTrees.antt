@@ -14,10 +14,10 @@ use Rattle.yf_grammar.specs.Productions.BlockScalar.{kept_lines}
 use Rattle.yf_grammar.specs.Productions.Meaning.{Meaning}
 use Rattle.yf_grammar.specs.Productions.TreesOfMeaning.{MeansTrees, tall}
 pub use Rattle.yf_grammar.specs.Productions.Unmarked.{IsNoMarker}
-use Rattle.yf_emit.specs.Nodes.BlockLines.{begins_with_space, content_lines, final_feeds}
+use Rattle.yf_forms.specs.Nodes.BlockLines.{begins_with_space, content_lines, final_feeds}
 use Rattle.yf_emit.specs.Nodes.BlockValues.{is_folded, header_of}
-use Rattle.yf_emit.specs.declared.style.Style.{Style}
-use Rattle.yf_emit.specs.Nodes.OneLine.{written, colon_after}
+use Rattle.yf_forms.specs.declared.style.Style.{Style}
+use Rattle.yf_forms.specs.Nodes.OneLine.{written, colon_after}
 
 -- a node on one line is derived wherever its text is in that style, and means the same node
 pub record LineNode (s : Style) (c : Ctx) (x : Node) : Type 0 where

@@ -5,8 +5,9 @@ use Rattle.yf_comments.specs.GapLines.{IsRemark, AreGapLines, AllLeft, remarks_o
 use Rattle.yf_block_scalar.specs.Placed.{Below, KeptGap}
 use Rattle.yf_block_scalar.specs.declared.header.Chomp.TheVariants.{Keep}
 use Rattle.yf_emit.specs.Layouts.Decorated.{GapLine, Deco, first, after, lines_then}
-use Rattle.yf_emit.specs.Layouts.Layout.{Source, may_be_blank_after, trailing, trimmed}
-use Rattle.yf_emit.specs.Layouts.Rows.{Row, Ending}
+use Rattle.yf_emit.specs.Layouts.Layout.{Source, may_be_blank_after, trailing}
+use Rattle.yf_forms.specs.Nodes.Lines.{trimmed}
+use Rattle.yf_print.specs.Layouts.Rows.{Row, Ending}
 
 -- one comment at most trails a row
 abbrev pub AreTrails : List (List ℕ) → Type 0

@@ -2,9 +2,9 @@
 use Rattle.std.specs.Prelude.{◌≡◌, ℕ, ◌+◌, Bool, true, false, is_some, List, [], ◌∷◌, ◌++◌, length, map, replicate}
 use Rattle.yf_comments.specs.Comment.{CommentValue}
 use Rattle.yf_events.specs.Tree.{Node}
-use Rattle.yf_emit.specs.declared.style.Style.{Style}
-use Rattle.yf_emit.specs.NormalForms.Normal.{is_implicit, key_comment}
-use Rattle.yf_emit.specs.Layouts.Rows.{Row, Ending, Start, before_node}
+use Rattle.yf_forms.specs.declared.style.Style.{Style}
+use Rattle.yf_forms.specs.NormalForms.Normal.{is_implicit, key_comment}
+use Rattle.yf_print.specs.Layouts.Rows.{Row, Ending, Start, before_node}
 
 -- a row: how many leaves with characters are on it, and whether a comment trails its key
 pub record RowShape : Type 0 where

@@ -4,17 +4,17 @@ use Rattle.yf_comments.specs.Comment.{CommentValue}
 use Rattle.yf_events.specs.Tree.{DocumentTree, Node, TreesOf, is_text, standing}
 use Rattle.yf_events.specs.declared.event.Span.{Span}
 use Rattle.yf_events.specs.declared.lists.Lists.{Lists}
-use Rattle.yf_emit.specs.declared.form.decide.Form.{Form}
-use Rattle.yf_emit.specs.declared.form.measure.Measure.{Measure}
-use Rattle.yf_emit.specs.declared.style.Style.{Style}
+use Rattle.yf_forms.specs.declared.form.decide.Form.{Form}
+use Rattle.yf_forms.specs.declared.form.measure.Measure.{Measure}
+use Rattle.yf_forms.specs.declared.style.Style.{Style}
 use Rattle.yf_emit.specs.Layouts.Decorated.{rows_of}
-use Rattle.yf_emit.specs.NormalForms.Forms.{AreForms}
-use Rattle.yf_emit.specs.Nodes.SingleAnswers.{NodeAt}
+use Rattle.yf_forms.specs.NormalForms.Forms.{AreForms}
+use Rattle.yf_forms.specs.Nodes.SingleAnswers.{NodeAt}
 use Rattle.yf_emit.specs.Layouts.Layout.{first_comment, is_among, source_of, trailing, trailing_leaf}
-use Rattle.yf_emit.specs.NormalForms.Measures.{AreMeasures}
-use Rattle.yf_emit.specs.Passes.MeasurePass.{setting}
+use Rattle.yf_forms.specs.NormalForms.Measures.{AreMeasures}
+use Rattle.yf_forms.specs.Passes.MeasurePass.{setting}
 use Rattle.yf_emit.specs.NormalForms.NormalForm.{NormalForm}
-use Rattle.yf_emit.specs.Passes.TrailPass.{TrailsSoFar}
+use Rattle.yf_print.specs.Passes.TrailPass.{TrailsSoFar}
 
 -- the comment at an index, as a list
 abbrev pub at_index : List CommentValue → Option ℕ → List CommentValue

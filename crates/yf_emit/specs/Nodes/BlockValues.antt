@@ -6,7 +6,7 @@ use Rattle.yf_block_scalar.specs.declared.header.Chomp.TheVariants.{Strip, Clip,
 use Rattle.yf_block_scalar.specs.declared.header.Header.{Header}
 use Rattle.yf_events.specs.declared.event.ScalarStyle.{ScalarStyle}
 use Rattle.yf_events.specs.declared.event.ScalarStyle.TheVariants.{Folded}
-use Rattle.yf_emit.specs.Nodes.BlockLines.{begins_with_space, final_feeds}
+use Rattle.yf_forms.specs.Nodes.BlockLines.{begins_with_space, final_feeds}
 
 abbrev pub is_folded : ScalarStyle → Bool
 is_folded Folded = true

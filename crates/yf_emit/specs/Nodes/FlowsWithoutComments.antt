@@ -4,7 +4,7 @@ use Rattle.yf_comments.specs.Comment.{CommentValue}
 use Rattle.yf_props.specs.Props.{PropsValue}
 use Rattle.yf_events.specs.declared.event.ScalarStyle.{ScalarStyle}
 use Rattle.yf_events.specs.Tree.{NodeOffsets, Node, scalar, alias, sequence, mapping, Items, no_items, item, Pairs, no_pairs, pair}
-use Rattle.yf_emit.specs.Nodes.OneLineFlows.{has_comment}
+use Rattle.yf_forms.specs.Nodes.OneLineFlows.{has_comment}
 
 mutual
   pub data Undisturbed (u : List ℕ) (cs : List CommentValue) : Node → Type 0 where

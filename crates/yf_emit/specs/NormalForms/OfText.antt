@@ -11,8 +11,8 @@ use Rattle.yf_events.specs.declared.document.Doc.{Doc}
 use Rattle.yf_events.specs.declared.event.Span.{Span}
 use Rattle.yf_events.specs.declared.lists.Lists.{Lists}
 use Rattle.yf_grammar.specs.Productions.SpellableTexts.{IsSpelled}
-use Rattle.yf_emit.specs.Layouts.Rows.{colon_offset}
-use Rattle.yf_emit.specs.NormalForms.Textual.{IsTextual}
+use Rattle.yf_print.specs.Layouts.Rows.{colon_offset}
+use Rattle.yf_forms.specs.NormalForms.Textual.{IsTextual}
 
 -- Places in order: of each node its beginning, what is in it, and its end; of each entry its beginning, and its `:` between the key
 -- and the value; of each document its directives and its beginning.

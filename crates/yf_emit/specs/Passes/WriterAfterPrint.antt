@@ -6,7 +6,7 @@ use Rattle.yf_lines.specs.Output.{Wrote, Broke}
 use Rattle.yf_lines.specs.declared.fault.Fault.{Fault}
 use Rattle.yf_lines.specs.declared.fault.Fault.TheVariants.{Memory, WriteFailed}
 use Rattle.yf_events.specs.declared.lists.Lists.{Lists}
-use Rattle.yf_emit.specs.declared.style.Style.{Style}
+use Rattle.yf_forms.specs.declared.style.Style.{Style}
 use Rattle.yf_emit.specs.Passes.PrintedText.{IsPrinted}
 
 -- the text of the reading m was made, where t is the text that was read, and all of it was written

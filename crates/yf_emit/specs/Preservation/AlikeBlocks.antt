@@ -5,7 +5,7 @@ use Rattle.yf_props.specs.Props.{PropsValue}
 use Rattle.yf_events.specs.Alike.{Alike}
 use Rattle.yf_events.specs.Tree.{NodeOffsets, Node, sequence, mapping, Items, no_items, item, Pairs, no_pairs, pair, is_block_collection}
 use Rattle.yf_grammar.specs.Productions.TreesOfMeaning.{Anywhere}
-use Rattle.yf_emit.specs.declared.style.Style.{Style}
+use Rattle.yf_forms.specs.declared.style.Style.{Style}
 use Rattle.yf_emit.specs.Layouts.RowShapes.{KeysAgree}
 
 -- cs are the comments beside the one tree, and ds those beside the other

@@ -6,14 +6,14 @@ use Rattle.yf_events.specs.Tree.{leaves}
 use Rattle.yf_events.specs.declared.event.Span.{Span}
 use Rattle.yf_events.specs.declared.lists.Lists.{Lists}
 use Rattle.yf_stream.specs.ReadingOf.{ReadingOf}
-use Rattle.yf_emit.specs.declared.style.Style.{Style}
+use Rattle.yf_forms.specs.declared.style.Style.{Style}
 use Rattle.yf_emit.specs.Layouts.Decorated.{decorated, first_gap, row_decos, rows_of}
 use Rattle.yf_emit.specs.Format.{IsFormatting}
 use Rattle.yf_emit.specs.FormatLaws.{TrailsFitIn}
 use Rattle.yf_emit.specs.Preservation.KeyComments.{keyed_in_documents}
 use Rattle.yf_emit.specs.Layouts.Layout.{Columns, Remark, Source, columns_of, first_comment, is_among, source_of, trailing}
-use Rattle.yf_emit.specs.NormalForms.Normal.{setting_of}
-use Rattle.yf_emit.specs.Layouts.Rows.{Row}
+use Rattle.yf_forms.specs.NormalForms.Normal.{setting_of}
+use Rattle.yf_print.specs.Layouts.Rows.{Row}
 
 -- the first comment since a leaf began, and before the next one begins, where it is within the leaf or on the line on which the leaf ends
 abbrev pub at_leaf : Span → Option Remark → List CommentValue

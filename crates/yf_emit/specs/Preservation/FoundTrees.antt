@@ -6,11 +6,11 @@ use Rattle.yf_events.specs.Tree.{DocumentTree, TreesOf}
 use Rattle.yf_events.specs.declared.directive.Directive.{Directive}
 use Rattle.yf_events.specs.declared.document.Doc.{Doc}
 use Rattle.yf_events.specs.declared.lists.Lists.{Lists}
-use Rattle.yf_emit.specs.declared.style.Style.{Style}
+use Rattle.yf_forms.specs.declared.style.Style.{Style}
 use Rattle.yf_emit.specs.Preservation.AlikeBlocks.{AlikeBlocks}
-use Rattle.yf_emit.specs.Layouts.BareStart.{is_bare}
+use Rattle.yf_print.specs.Layouts.BareStart.{is_bare}
 use Rattle.yf_emit.specs.Layouts.Decorated.{first_gap, row_decos, rows_of}
-use Rattle.yf_emit.specs.Layouts.KeptColumns.{columns_of}
+use Rattle.yf_print.specs.Layouts.KeptColumns.{columns_of}
 use Rattle.yf_emit.specs.Nodes.FlowsWithoutComments.{Undisturbed}
 
 abbrev pub words_of : List Directive → List (List (List ℕ))

@@ -3,14 +3,15 @@ use Rattle.std.specs.Prelude.{◌≡◌, ℕ, List, [], ◌∷◌, map}
 use Rattle.yf_comments.specs.Comment.{CommentValue}
 use Rattle.yf_events.specs.Tree.{DocumentTree}
 use Rattle.yf_events.specs.declared.document.Doc.{Doc}
-use Rattle.yf_emit.specs.declared.style.Style.{Style}
+use Rattle.yf_forms.specs.declared.style.Style.{Style}
 use Rattle.yf_emit.specs.Preservation.AlikeBlocks.{AlikeBlocks}
-use Rattle.yf_emit.specs.Layouts.BareStart.{is_bare}
+use Rattle.yf_print.specs.Layouts.BareStart.{is_bare}
 use Rattle.yf_emit.specs.Preservation.CommentsPlaced.{columns_in, ends_line, rows_in, source_in}
 use Rattle.yf_emit.specs.Format.{IsFormatting}
 use Rattle.yf_emit.specs.Preservation.FoundTrees.{words_of}
-use Rattle.yf_emit.specs.Layouts.Layout.{Columns, Source, precedes_item, trailing, trimmed}
-use Rattle.yf_emit.specs.Layouts.Rows.{Row}
+use Rattle.yf_emit.specs.Layouts.Layout.{Columns, Source, precedes_item, trailing}
+use Rattle.yf_forms.specs.Nodes.Lines.{trimmed}
+use Rattle.yf_print.specs.Layouts.Rows.{Row}
 
 -- documents with the same words of directives, and trees that differ by places alone; cs and es are the comments beside them
 pub data SameDocuments (s : Style) (cs es : List CommentValue) : List Doc → List DocumentTree → List Doc → List DocumentTree → Type 0 where

@@ -10,16 +10,17 @@ use Rattle.yf_events.specs.declared.event.ScalarStyle.{ScalarStyle}
 use Rattle.yf_events.specs.declared.event.ScalarStyle.TheVariants.{Plain, Single, Double, Literal, Folded}
 use Rattle.yf_events.specs.declared.event.Span.{Span}
 use Rattle.yf_events.specs.declared.lists.Lists.{Lists}
-use Rattle.yf_emit.specs.declared.style.Style.{Style}
-use Rattle.yf_emit.specs.Layouts.BareStart.{is_bare}
+use Rattle.yf_forms.specs.declared.style.Style.{Style}
+use Rattle.yf_print.specs.Layouts.BareStart.{is_bare}
 use Rattle.yf_emit.specs.Format.{IsFormatting}
 use Rattle.yf_emit.specs.Preservation.FoundTrees.{words_of}
-use Rattle.yf_emit.specs.Layouts.KeptColumns.{Columns, keeps_blocks}
-use Rattle.yf_emit.specs.Layouts.Layout.{Remark, trimmed}
-use Rattle.yf_emit.specs.Layouts.Rows.{colon_offset}
-use Rattle.yf_emit.specs.Nodes.OneLine.{width, written}
+use Rattle.yf_print.specs.Layouts.KeptColumns.{Columns, keeps_blocks}
+use Rattle.yf_emit.specs.Layouts.Layout.{Remark}
+use Rattle.yf_forms.specs.Nodes.Lines.{trimmed}
+use Rattle.yf_print.specs.Layouts.Rows.{colon_offset}
+use Rattle.yf_forms.specs.Nodes.OneLine.{width, written}
 use Rattle.yf_emit.specs.Preservation.CommentsPlaced.{columns_in}
-use Rattle.yf_emit.specs.NormalForms.Normal.{setting_of, styled}
+use Rattle.yf_forms.specs.NormalForms.Normal.{setting_of, styled}
 
 -- as many, one by one
 pub data Each {A : Type 0} (R : A → A → Type 0) : List A → List A → Type 0 where

@@ -3,7 +3,7 @@
 use Rattle.std.specs.Prelude.{ℕ, List, map}
 use Rattle.yf_events.specs.Reading.{documents_before, leaves_before}
 use Rattle.yf_events.specs.declared.lists.Lists.{Lists}
-use Rattle.yf_emit.specs.Layouts.Layout.{trimmed}
+use Rattle.yf_forms.specs.Nodes.Lines.{trimmed}
 
 abbrev pub KeptComment : Type 0
 KeptComment = List ℕ × (ℕ × ℕ)

@@ -3,7 +3,7 @@ use Rattle.std.specs.Prelude.{ℕ, suc, ◌+◌, ◌*◌, ◌≤◌, List, lengt
 use Rattle.yf_events.specs.declared.lists.Lists.{Lists}
 use Rattle.yf_events.specs.declared.reading.TheConstants.{DEPTH}
 use Rattle.yf_stream.specs.ReadingOf.{ReadingOf}
-use Rattle.yf_emit.specs.declared.style.Style.{Style}
+use Rattle.yf_forms.specs.declared.style.Style.{Style}
 use Rattle.yf_emit.specs.Layouts.FitDocuments.{tall_documents}
 
 -- each byte of t, and one more, stands for the greatest column that a line of u may begin at, and eight bytes

@@ -4,11 +4,11 @@ use Rattle.yf_events.specs.Reading.{entries_of}
 use Rattle.yf_events.specs.Tree.{DocumentTree}
 use Rattle.yf_events.specs.declared.lists.Lists.{Lists}
 use Rattle.yf_stream.specs.ReadingOf.{ReadingOf}
-use Rattle.yf_emit.specs.declared.style.Style.{Style}
+use Rattle.yf_forms.specs.declared.style.Style.{Style}
 use Rattle.yf_emit.specs.Layouts.Decorated.{rows_of}
 use Rattle.yf_emit.specs.Format.{IsFormatting}
 use Rattle.yf_emit.specs.Layouts.Layout.{Line, bytes_after, columns_of, lines_with_comments, may_be_blank_after}
-use Rattle.yf_emit.specs.Layouts.Rows.{Ending, at_text_start}
+use Rattle.yf_print.specs.Layouts.Rows.{Ending, at_text_start}
 
 -- the lines that a normal reading of t is laid out on, but for blank ones and those of block scalars: comments, and what begins with an entry or
 -- is a part of one. Each has the note whether a blank line is before it.

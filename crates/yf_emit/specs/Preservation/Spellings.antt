@@ -7,10 +7,10 @@ use Rattle.yf_events.specs.declared.event.ScalarStyle.{ScalarStyle}
 use Rattle.yf_events.specs.declared.event.ScalarStyle.TheVariants.{Plain}
 use Rattle.yf_events.specs.declared.lists.Lists.{Lists}
 use Rattle.yf_stream.specs.ReadingOf.{ReadingOf}
-use Rattle.yf_emit.specs.declared.style.Style.{Style}
+use Rattle.yf_forms.specs.declared.style.Style.{Style}
 use Rattle.yf_emit.specs.Preservation.FoundTrees.{words_of}
-use Rattle.yf_emit.specs.NormalForms.Restyled.{lines_of, restyled_event}
-use Rattle.yf_emit.specs.Nodes.ScalarStyles.{wanted_of_event}
+use Rattle.yf_forms.specs.NormalForms.Restyled.{lines_of, restyled_event}
+use Rattle.yf_forms.specs.Nodes.ScalarStyles.{wanted_of_event}
 
 -- an event but for what the house chooses: markers of documents, brackets, styles of scalars. It has the name of an alias, an anchor, a tag
 -- with the handle and the suffix as they are spelled, and the text.

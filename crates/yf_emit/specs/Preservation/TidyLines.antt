@@ -7,8 +7,8 @@ use Rattle.yf_events.specs.Event.{EventValue, EventInText, scalar_node}
 use Rattle.yf_events.specs.declared.event.ScalarStyle.{ScalarStyle}
 use Rattle.yf_events.specs.declared.lists.Lists.{Lists}
 use Rattle.yf_stream.specs.ReadingOf.{ReadingOf}
-use Rattle.yf_emit.specs.declared.style.Style.{Style}
-use Rattle.yf_emit.specs.Nodes.BlockLines.{block_lines, header_text}
+use Rattle.yf_forms.specs.declared.style.Style.{Style}
+use Rattle.yf_forms.specs.Nodes.BlockLines.{block_lines, header_text}
 use Rattle.yf_emit.specs.Layouts.Decorated.{body_then}
 use Rattle.yf_emit.specs.Layouts.FitDocuments.{tall_documents}
 use Rattle.yf_emit.specs.Layouts.ReadableTrees.{is_block_style}

@@ -4,7 +4,7 @@ use Rattle.yf_quoted.specs.Written.{single_bytes}
 use Rattle.yf_events.specs.Event.{EventValue, EventInText, scalar_node}
 use Rattle.yf_events.specs.declared.event.ScalarStyle.TheVariants.{Plain, Single}
 use Rattle.yf_events.specs.declared.lists.Lists.{Lists}
-use Rattle.yf_emit.specs.Layouts.Layout.{trimmed}
+use Rattle.yf_forms.specs.Nodes.Lines.{trimmed}
 
 -- a text is among these
 pub data HasText (w : List ℕ) : List (List ℕ) → Type 0 where

@@ -1,24 +1,24 @@
 -- What values find that are the rules, the rules find.
 use Rattle.std.proofs.Common.{◌≡◌, ℕ, Bool, true, false, Option, List, [], ◌∷◌, ◌++◌, refl, ap, sym, subst, ◌∙◌, arith}
 use Rattle.std.specs.Prelude.{cond, not}
-use Rattle.yf_emit.specs.declared.style.Style.{Style}
+use Rattle.yf_forms.specs.declared.style.Style.{Style}
 use Rattle.yf_events.specs.declared.lists.Lists.{Lists}
 use Rattle.yf_lines.specs.Lines.{Table}
 use Rattle.yf_lines.specs.declared.fault.Fault.{Fault}
 use Rattle.yf_lines.specs.declared.fault.Fault.TheVariants.{NotUtf8, Syntax, TooDeep, UnknownHandle, UnknownAlias, RepeatedDirective, BadVersion, EscapeValue, Memory, ReadFailed, WriteFailed, Config}
 use Rattle.yf_rules.specs.declared.finding.Finding.{Finding}
-use Rattle.yf_rules.specs.declared.rules.StyleRule.{StyleRule}
-use Rattle.yf_rules.specs.declared.rules.StyleRule.TheVariants.{TrailingBlanks, Indentation, Quoting, DocumentStart, FinalBreak, LineBreaks, ByteOrderMark, BlankLines, FlowLayout, CommentSpace, LineLength, RepeatedKeys, KeyMark, HiddenCharacter}
+use Rattle.yf_rule_sets.specs.declared.rules.StyleRule.{StyleRule}
+use Rattle.yf_rule_sets.specs.declared.rules.StyleRule.TheVariants.{TrailingBlanks, Indentation, Quoting, DocumentStart, FinalBreak, LineBreaks, ByteOrderMark, BlankLines, FlowLayout, CommentSpace, LineLength, RepeatedKeys, KeyMark, HiddenCharacter}
 use Rattle.yf_rules.specs.AllRules.{Are, FoundWithout, IsDefinition, RulesAreListed, all_rules, rules_without}
 use Rattle.yf_rules.specs.Asked.{asked, is_among}
 use Rattle.yf_rules.specs.Check.{CheckAnswer, FindingsOf, InOrder, RuleFindings}
 use Rattle.yf_rules.specs.Check.CheckAnswer.{checked}
 use Rattle.yf_rules.specs.Check.FindingsOf.{at_places}
 use Rattle.yf_rules.specs.Check.InOrder.{no_rules, one_more}
-use Rattle.yf_rules.specs.Definition.{RuleDefinition}
-use Rattle.yf_rules.specs.RuleSets.Places.{FoundAt}
-use Rattle.yf_rules.specs.RuleSets.Places.FoundAt.{found_at}
-use Rattle.yf_rules.specs.RuleOf.{definition_of}
+use Rattle.yf_rule_sets.specs.Definition.{RuleDefinition}
+use Rattle.yf_rule_sets.specs.RuleSets.Places.{FoundAt}
+use Rattle.yf_rule_sets.specs.RuleSets.Places.FoundAt.{found_at}
+use Rattle.yf_rule_sets.specs.RuleOf.{definition_of}
 use Rattle.yf_rules.specs.Runs.Run.{CheckResult, RefusedCheck, FindingsWritten}
 
 -- each rule is listed, at its number less one

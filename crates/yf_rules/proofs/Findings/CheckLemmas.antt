@@ -8,7 +8,7 @@ use Rattle.yf_rules.specs.Asked.{asked, is_among}
 use Rattle.yf_rules.specs.Check.{InOrder, SortedFrom, CheckAnswer}
 use Rattle.yf_rules.specs.Check.InOrder.{no_rules, one_more}
 use Rattle.yf_rules.specs.Check.CheckAnswer.{checked}
-use Rattle.yf_rules.specs.Definition.{RuleDefinition}
+use Rattle.yf_rule_sets.specs.Definition.{RuleDefinition}
 
 pub none_checked : {B : Type 0} (R : B → List Finding → Type 0) (xs : List Finding) → xs ≡ [] → InOrder R [] xs
 none_checked R xs e = subst (λ ys. InOrder R [] ys) (sym e) no_rules

@@ -10,7 +10,7 @@ use Rattle.yf_events.specs.Nested.{IsStream}
 use Rattle.yf_events.specs.Reading.{events_of}
 use Rattle.yf_lines.proofs.OutputLemmas.{Progress}
 use Rattle.yf_emit.specs.Format.{IsFormatting}
-use Rattle.yf_emit.specs.declared.style.Style.{Style}
+use Rattle.yf_forms.specs.declared.style.Style.{Style}
 use Rattle.yf_rules.specs.declared.finding.Finding.{Finding}
 use Rattle.yf_rules.specs.declared.run.TheConstants.{INPUT_LIMIT}
 use Rattle.yf_rules.specs.NothingToFix.{IsFormatted, NoneFixable}

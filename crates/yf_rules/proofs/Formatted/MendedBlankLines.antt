@@ -16,22 +16,22 @@ use Rattle.yf_events.specs.declared.lists.Lists.{Lists}
 use Rattle.yf_stream.specs.ReadingOf.{ReadingOf, doc_of}
 use Rattle.yf_stream.specs.Stream.{Document}
 use Rattle.yf_stream.proofs.Offsets.DirectivesStand.{AllDirected, none_directed, one_directed, DirectivesStand, no_directives, directive_is_at, stream_directed}
-use Rattle.yf_emit.specs.declared.style.Style.{Style}
+use Rattle.yf_forms.specs.declared.style.Style.{Style}
 use Rattle.yf_emit.proofs.OutputLines.FormattedLines.{formed}
 use Rattle.yf_emit.proofs.OutputLines.LineSorts.{LineAfter, LineBefore, Solid, solid_seen, solid_scalar, Sort, between_rows, ends_seen, in_scalar}
-use Rattle.yf_rules.specs.RuleSets.BlankLines.{DirectiveOf, HasOffset, IsBlank, MarkerOf, MisplacedBlank, WrongPlace}
-use Rattle.yf_rules.specs.RuleSets.BlankLines.DirectiveIn.{is_directive}
-use Rattle.yf_rules.specs.RuleSets.BlankLines.DirectiveOf.{of_document}
-use Rattle.yf_rules.specs.RuleSets.BlankLines.MarkerOf.{has_marker}
-use Rattle.yf_rules.specs.RuleSets.BlankLines.MisplacedBlank.{misplaced}
-use Rattle.yf_rules.specs.RuleSets.BlankLines.WrongPlace.{is_first, after_blank, after_marker, before_marker, before_directive, at_text_end}
+use Rattle.yf_rule_sets.specs.RuleSets.BlankLines.{DirectiveOf, HasOffset, IsBlank, MarkerOf, MisplacedBlank, WrongPlace}
+use Rattle.yf_rule_sets.specs.RuleSets.BlankLines.DirectiveIn.{is_directive}
+use Rattle.yf_rule_sets.specs.RuleSets.BlankLines.DirectiveOf.{of_document}
+use Rattle.yf_rule_sets.specs.RuleSets.BlankLines.MarkerOf.{has_marker}
+use Rattle.yf_rule_sets.specs.RuleSets.BlankLines.MisplacedBlank.{misplaced}
+use Rattle.yf_rule_sets.specs.RuleSets.BlankLines.WrongPlace.{is_first, after_blank, after_marker, before_marker, before_directive, at_text_end}
 use Rattle.yf_rules.specs.NothingToFix.{FormatsAreMended, IsFormatted}
-use Rattle.yf_rules.specs.Rules.{blank_lines}
+use Rattle.yf_rule_sets.specs.Rules.{blank_lines}
 use Rattle.yf_rules.proofs.Formatted.MendedLines.{exactly_none, no_mark_there}
 use Rattle.yf_rules.proofs.Formatted.MendedScalars.{scalar_line}
 use Rattle.yf_rules.proofs.Formatted.MendedSorts.{sorted_line}
 use Rattle.yf_rules.proofs.Formatted.MendedDocumentStart.{first_mark, marker_at}
-use Rattle.yf_rules.proofs.Texts.WhitesLemmas.{white_within}
+use Rattle.yf_rule_sets.proofs.Texts.WhitesLemmas.{white_within}
 
 -- Lines that are no blank ones.
 
@@ -68,23 +68,17 @@ forbidden_there {src} w k l e f =
 no_directive : (j : ℕ) (d : Directive) → slice_get [] j ≡ Some d → ⊥
 no_directive j d e = cc
 
-same_directive : {a b : Directive} → Some a ≡ Some b → a ≡ b
-same_directive e = cc
-
 directive_at : {t : List ℕ} {ds : List Directive} (j : ℕ) (d : Directive) → DirectivesStand t ds → slice_get ds j ≡ Some d → LineStart t d.offset × (code t d.offset ≡ 37)
 directive_at j d no_directives e = absurd (no_directive j d e)
-directive_at {t} zero d (directive_is_at l c more) e = subst (λ (w : Directive). LineStart t w.offset × (code t w.offset ≡ 37)) (same_directive e) (l, c)
+directive_at {t} zero d (directive_is_at l c more) e = subst (λ (w : Directive). LineStart t w.offset × (code t w.offset ≡ 37)) (same_Some _ _ e) (l, c)
 directive_at (suc j) d (directive_is_at l c more) e = directive_at j d more e
 
 no_document : (k : ℕ) (d : Doc) → slice_get [] k ≡ Some d → ⊥
 no_document k d e = cc
 
-same_document : {a b : Doc} → Some a ≡ Some b → a ≡ b
-same_document e = cc
-
 document_at : {t : List ℕ} {ds : List Document} (k : ℕ) (d : Doc) → AllDirected t ds → slice_get (map doc_of ds) k ≡ Some d → DirectivesStand t d.directives
 document_at k d none_directed e = absurd (no_document k d e)
-document_at {t} zero d (one_directed a more) e = subst (λ (w : Doc). DirectivesStand t w.directives) (same_document e) a
+document_at {t} zero d (one_directed a more) e = subst (λ (w : Doc). DirectivesStand t w.directives) (same_Some _ _ e) a
 document_at (suc k) d (one_directed a more) e = document_at k d more e
 
 -- Places.

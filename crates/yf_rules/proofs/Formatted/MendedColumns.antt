@@ -23,15 +23,12 @@ use Rattle.yf_lines.proofs.LineLemmas.{lines_unique}
 use Rattle.yf_lines.proofs.MarkLemmas.{code_mark, marks_order, marks_stop, start_in_line}
 use Rattle.yf_lines.proofs.TableLemmas.{table_cut, table_line, table_start}
 use Rattle.yf_emit.proofs.Columns.SetNodes.{ColumnAt}
+use Rattle.yf_rule_sets.proofs.RuleSets.DocumentLemmas.{char_boundary}
 
 -- characters of one byte
 
 pub ascii_next : {t : List ℕ} (i : ℕ) → IsUtf8 t → code t i < 128 → next t i ≡ i + 1
 ascii_next {t} i u l = let b = byte_from_code t i u l in (reads_ascii t i u b.0 (let e = b.1 in omega (arith, e, l))).end
-
-pub char_boundary : (t : List ℕ) (i : ℕ) → code t i < no_char → IsCharBoundary t i
-char_boundary t i l =
-    ⊎_elim (λ (e : begins t i ≡ true). boundary_from_begins t i e) (λ (e : begins t i ≡ false). absurd (let n : code t i ≡ no_char = code-nowhere t i e in omega (arith, n, l))) (cases_Bool (begins t i))
 
 ascii_many : {t : List ℕ} {i o : ℕ} {x : List ℕ} (m : ℕ) → IsUtf8 t → Many t is_char i o x → o ≡ i + m → ((k : ℕ) → k < m → code t (i + k) < 127) → length x ≡ m
 ascii_many {i = i} m u done e f = omega (arith, e)

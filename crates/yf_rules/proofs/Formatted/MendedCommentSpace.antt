@@ -10,16 +10,16 @@ use Rattle.yf_lines.proofs.BasicLemmas.{reads_white, white_cases}
 use Rattle.yf_lines.proofs.ClearLemmas.{quiet_char}
 use Rattle.yf_comments.proofs.GapLinesLemmas.{spaces_whites}
 use Rattle.yf_events.specs.declared.lists.Lists.{Lists}
-use Rattle.yf_emit.specs.declared.style.Style.{Style}
+use Rattle.yf_forms.specs.declared.style.Style.{Style}
 use Rattle.yf_emit.proofs.OutputLines.FormattedHeld.{reading_held}
 use Rattle.yf_emit.proofs.OutputLines.FormattedLines.{formed}
 use Rattle.yf_emit.proofs.OutputLines.WellSet.{WellSet, at_line, after_two}
 use Rattle.yf_rules.specs.NothingToFix.{FormatsAreMended, IsFormatted}
-use Rattle.yf_rules.specs.Rules.{comment_space}
-use Rattle.yf_rules.specs.RuleSets.Whites.{CloseComment, IsClose, WhitesEnd}
-use Rattle.yf_rules.specs.RuleSets.Whites.CloseComment.{of_comment}
+use Rattle.yf_rule_sets.specs.Rules.{comment_space}
+use Rattle.yf_rule_sets.specs.RuleSets.Whites.{CloseComment, IsClose, WhitesEnd}
+use Rattle.yf_rule_sets.specs.RuleSets.Whites.CloseComment.{of_comment}
 use Rattle.yf_rules.proofs.Formatted.MendedLines.{exactly_none}
-use Rattle.yf_rules.proofs.Texts.WhitesLemmas.{at_line_start, at_two_spaces}
+use Rattle.yf_rule_sets.proofs.Texts.WhitesLemmas.{at_line_start, at_two_spaces}
 
 -- no white is before the start of a line
 start_no_white : {t : List ℕ} {k : ℕ} → IsUtf8 t → LineStart t k → (k ≡ 0) ⊎ (is_white (code t (k - 1)) ≡ false)

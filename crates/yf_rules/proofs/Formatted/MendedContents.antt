@@ -17,11 +17,12 @@ use Rattle.yf_block_scalar.specs.declared.header.Chomp.{Chomp}
 use Rattle.yf_block_scalar.specs.declared.header.Chomp.TheVariants.{Strip, Clip, Keep}
 use Rattle.yf_block_scalar.specs.declared.header.Header.{Header}
 use Rattle.yf_events.specs.declared.event.ScalarStyle.{ScalarStyle}
-use Rattle.yf_emit.specs.Nodes.BlockLines.{block_lines, content_lines, final_feeds, line_at, tail_lines}
+use Rattle.yf_forms.specs.Nodes.BlockLines.{block_lines, content_lines, final_feeds, line_at, tail_lines}
 use Rattle.yf_emit.specs.Nodes.BlockValues.{header_of}
 use Rattle.yf_emit.specs.Layouts.ReadableTrees.{FitScalar}
 use Rattle.yf_emit.proofs.OutputLines.LaidLines.{LineIs, LinesAre, no_lines, more_lines, line_char, nb_no}
-use Rattle.yf_rules.specs.RuleSets.Scalars.{head_count}
+use Rattle.yf_rule_sets.specs.RuleSets.Scalars.{head_count}
+use Rattle.yf_chars.proofs.CharFacts.{feed_no_nb, space_white}
 
 -- Texts that begin with no space.
 
@@ -119,15 +120,11 @@ record TextLeads (m b : ℕ) (y text : List ℕ) : Type 0 where
   pub is : text ≡ feeds m ++ ((b ∷ y) ++ rest)
   pub none : b ≡ 32 → NoSpace rest
 
-white_space : is_white 32 ≡ true
-unfolding is_white
-white_space = refl
-
 text_leads : (f : Bool) (m b : ℕ) (y : List ℕ) (ls : List (List ℕ)) (e : List ℕ) → NoSpace e → TextLeads m b y (text_of f (nothings m ++ ((b ∷ y) ∷ ls)) ++ e)
 text_leads true m b y ls e n = record {
   rest = folded_after (is_white b) 0 ls ++ e;
   is = ap (λ w. w ++ e) (folded_leads m b y ls) ∙ (append_assoc (feeds m) ((b ∷ y) ++ folded_after (is_white b) 0 ls) e ∙ ap (λ w. feeds m ++ w) (append_assoc (b ∷ y) (folded_after (is_white b) 0 ls) e));
-  none = λ q. subst (λ s. NoSpace (folded_after s 0 ls ++ e)) (sym (ap is_white q ∙ white_space)) (no_space_append (folded_no_space 0 ls) n);
+  none = λ q. subst (λ s. NoSpace (folded_after s 0 ls ++ e)) (sym (ap is_white q ∙ space_white)) (no_space_append (folded_no_space 0 ls) n);
 }
 text_leads false m b y ls e n = record {
   rest = literal_after ls ++ e;
@@ -267,10 +264,6 @@ line_there {t} zero x (more_lines {l = l} {ls = ls} a f more) e = subst (λ w. L
   same e = cc
 line_there (suc i) x (more_lines a f more) e = let r = line_there i x more e in record { line = r.line; at = r.at; is = r.is }
 
-no_nb_feed : is_nb_char 10 ≡ false
-unfolding is_nb_char is_printable is_between is_break_char
-no_nb_feed = refl
-
 -- the first content line, by the text
 pub record FirstContent (t : List ℕ) (ls : List Line) (text : List ℕ) (column : ℕ) (body : List (List ℕ)) : Type 0 where
   pub number : ℕ
@@ -311,7 +304,7 @@ first_at {t} {ls} column m b y text others more u lines got a =
         let long : length (replicate column 32 ++ (b ∷ y)) ≡ length (replicate column 32) + length (b ∷ y) = length-append (replicate column 32) (b ∷ y) in
         let wide = columns column in
         let char = line_char u c (l.start + column) (omega arith) (omega (arith, end, long, wide)) in
-        nb_no 10 (code t (l.start + column)) (omega arith) no_nb_feed char (feed_there (l.start + column) b (y ++ (10 ∷ c.follows)) u spaces.1 e)
+        nb_no 10 (code t (l.start + column)) (omega arith) feed_no_nb char (feed_there (l.start + column) b (y ++ (10 ∷ c.follows)) u spaces.1 e)
       where
         feed_there : (q b : ℕ) (w : List ℕ) → IsUtf8 t → Rest t q (b ∷ w) → b ≡ 10 → code t q ≡ 10
         feed_there q b w u s e = (rest_ascii 10 u (omega arith) (λ z. absurd (omega arith)) (subst (λ c. Rest t q (c ∷ w)) e s)).0.char

@@ -26,25 +26,27 @@ use Rattle.yf_stream.proofs.Existence.BreachLemmas.{values, values_append}
 use Rattle.yf_stream.proofs.Offsets.DocumentMarkers.{MarkersStand, no_markers, marker_is_at, stream_markers}
 use Rattle.yf_stream.proofs.TagPass.SameTags.{noting_values}
 use Rattle.yf_emit.specs.Layouts.FitDocuments.{DocumentsMeant, no_documents_meant, document_meant}
-use Rattle.yf_emit.specs.declared.style.Style.{Style}
+use Rattle.yf_forms.specs.declared.style.Style.{Style}
 use Rattle.yf_emit.specs.Layouts.Decorated.{rows_of, first_gap}
 use Rattle.yf_emit.specs.Layouts.Layout.{own_line_comments, source_of}
-use Rattle.yf_emit.specs.NormalForms.Normal.{setting_of}
+use Rattle.yf_forms.specs.NormalForms.Normal.{setting_of}
 use Rattle.yf_emit.specs.Preservation.CommentsPlaced.{columns_in}
 use Rattle.yf_emit.proofs.Derived.ClearRows.{feed_follows}
 use Rattle.yf_emit.proofs.OutputLines.FormattedLines.{Formed, formed, formed_are, formed_lines}
 use Rattle.yf_emit.proofs.OutputLines.LaidLines.{LineIs, line_feed, line_text}
 use Rattle.yf_emit.proofs.Derived.RowKinds.{LineKind, no_marker, document_start, document_end, LineKinds, no_line, line_more, laid_kinds, all_kinds}
 use Rattle.yf_emit.proofs.SameReading.SameContent.{formats_meant}
-use Rattle.yf_rules.specs.RuleSets.Documents.{IsUnmarked, NoMarkerLine, markers_in, may_be_bare}
-use Rattle.yf_rules.specs.RuleSets.Documents.IsUnmarked.{without_marker, not_alone}
-use Rattle.yf_rules.specs.RuleSets.Documents.NoMarkerLine.{of_document}
+use Rattle.yf_rule_sets.specs.RuleSets.Documents.{IsUnmarked, NoMarkerLine, markers_in, may_be_bare}
+use Rattle.yf_rule_sets.specs.RuleSets.Documents.IsUnmarked.{without_marker, not_alone}
+use Rattle.yf_rule_sets.specs.RuleSets.Documents.NoMarkerLine.{of_document}
 use Rattle.yf_rules.specs.NothingToFix.{FormatsAreMended, IsFormatted}
-use Rattle.yf_rules.specs.Rules.{document_start as document_start_rule}
-use Rattle.yf_rules.specs.RuleSets.Whites.{IsAlone}
+use Rattle.yf_rule_sets.specs.Rules.{document_start as document_start_rule}
+use Rattle.yf_rule_sets.specs.RuleSets.Whites.{IsAlone}
 use Rattle.yf_rules.proofs.Formatted.MendedLines.{exactly_none, no_mark_there}
 use Rattle.std.proofs.lemmas.Bool.{and_parts}
-use Rattle.yf_emit.specs.Layouts.BareStart.{begins_bare, has_lead, is_bare, keeps_starts}
+use Rattle.std.proofs.lemmas.Option.{same_Some}
+use Rattle.yf_print.specs.Layouts.BareStart.{begins_bare, has_lead, is_bare, keeps_starts}
+use Rattle.yf_emit.proofs.OutputLines.LinedRows.{nothing_got}
 
 -- The events of documents tell their markers alone.
 
@@ -90,13 +92,10 @@ reading_marks {src} {r} {s} w =
 no_flag : (k : ℕ) (b : Bool) → slice_get [] k ≡ Some b → ⊥
 no_flag k b e = cc
 
-same_flag : {a b : Bool} → Some a ≡ Some b → a ≡ b
-same_flag e = cc
-
 -- only a first document that may be bare is without a `---`
 marked_alone : {bare : Bool} {ms : List Doc} {trees : List _} {es : List Document} (k : ℕ) → DocumentsMeant bare ms trees es → slice_get (marks es) k ≡ Some false → (k ≡ 0) × (bare ≡ true)
 marked_alone k no_documents_meant e = absurd (no_flag k false e)
-marked_alone zero (document_meant {bare = bare} a more) e = (refl, turned bare (sym a.marked ∙ same_flag e)) where
+marked_alone zero (document_meant {bare = bare} a more) e = (refl, turned bare (sym a.marked ∙ same_Some _ _ e)) where
   turned : (b : Bool) → not b ≡ false → b ≡ true
   turned true f = refl
   turned false f = absurd (true≢false f)
@@ -104,15 +103,9 @@ marked_alone (suc k) (document_meant a more) e = absurd (true≢false (sym (mark
 
 -- Where documents begin.
 
-no_kind_there : (k : ℕ) (x : List ℕ) → slice_get [] k ≡ Some x → ⊥
-no_kind_there k x e = cc
-
-same_text : {a b : List ℕ} → Some a ≡ Some b → a ≡ b
-same_text e = cc
-
 kind_at : {xs : List (List ℕ)} (k : ℕ) (x : List ℕ) → LineKinds xs → slice_get xs k ≡ Some x → LineKind x
-kind_at k x no_line e = absurd (no_kind_there k x e)
-kind_at zero x (line_more a more) e = subst (λ w. LineKind w) (same_text e) a
+kind_at k x no_line e = absurd (nothing_got k x e)
+kind_at zero x (line_more a more) e = subst (λ w. LineKind w) (same_Some _ _ e) a
 kind_at (suc k) x (line_more a more) e = kind_at k x more e
 
 formed_kinds : {src : Table} {r : Lists} {s : Style} (w : IsFormatted src r s) → Formed w.formats → LineKinds (formed_lines w.formats)
@@ -149,12 +142,9 @@ begins_alone {src} w i f e =
 no_document_there : (k : ℕ) (d : Doc) → slice_get [] k ≡ Some d → ⊥
 no_document_there k d e = cc
 
-same_document : {a b : Doc} → Some a ≡ Some b → a ≡ b
-same_document e = cc
-
 pub start_at : {t : List ℕ} {ds : List Document} (k : ℕ) (d : Doc) → MarkersStand t ds → slice_get (map doc_of ds) k ≡ Some d → slice_get (marks ds) k ≡ Some true → ForbiddenLine t d.start × (code t d.start ≡ 45)
 start_at k d no_markers e g = absurd (no_document_there k d e)
-start_at {t} zero d (marker_is_at f more) e g = subst (λ (w : Doc). ForbiddenLine t w.start × (code t w.start ≡ 45)) (same_document e) (f (same_flag g))
+start_at {t} zero d (marker_is_at f more) e g = subst (λ (w : Doc). ForbiddenLine t w.start × (code t w.start ≡ 45)) (same_Some _ _ e) (f (same_Some _ _ g))
 start_at (suc k) d (marker_is_at f more) e g = start_at k d more e g
 
 pub marker_at : {src : Table} {r : Lists} {s : Style} (w : IsFormatted src r s) (k : ℕ) (d : Doc) → slice_get r.documents k ≡ Some d → slice_get (markers_in (events_of r)) k ≡ Some true

@@ -10,8 +10,8 @@ use Rattle.yf_lines.specs.declared.place.Position.{Position}
 use Rattle.yf_rules.specs.declared.finding.Finding.{Finding}
 use Rattle.yf_rules.specs.Check.{SortedFrom, finding_at}
 use Rattle.yf_rules.specs.NothingToFix.{NoneFixable}
-use Rattle.yf_rules.specs.RuleSets.Places.{PlacesOf}
-use Rattle.yf_rules.proofs.RuleSets.KeySetLemmas.{head_or_later, is_head, nothing_in}
+use Rattle.yf_rule_sets.specs.RuleSets.Places.{PlacesOf}
+use Rattle.yf_rule_sets.proofs.RuleSets.KeySetLemmas.{head_or_later, is_head, nothing_in}
 
 -- Places.
 

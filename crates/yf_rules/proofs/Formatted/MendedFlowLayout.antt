@@ -8,7 +8,7 @@ use Rattle.yf_emit.proofs.OutputLines.LaidLines.{line_text}
 use Rattle.yf_emit.proofs.OfTexts.ReadingsOfTexts.{reading_is_textual}
 use Rattle.yf_emit.proofs.Columns.WrittenReadings.{reading_written}
 use Rattle.yf_rules.specs.NothingToFix.{FormatsAreMended}
-use Rattle.yf_rules.specs.Rules.{flow_layout}
+use Rattle.yf_rule_sets.specs.Rules.{flow_layout}
 use Rattle.yf_rules.proofs.Formatted.MendedLayouts.{none_displaced}
 use Rattle.yf_rules.proofs.Formatted.MendedLines.{exactly_none}
 use Rattle.yf_rules.proofs.Formatted.MendedKeyMark.{normal_same}

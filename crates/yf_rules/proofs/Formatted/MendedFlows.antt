@@ -6,14 +6,14 @@ use Rattle.yf_events.specs.Event.{EventInText, document_starts, document_ends, s
 use Rattle.yf_events.specs.Tree.{NodeOffsets, Node, scalar, alias, sequence, mapping, Items, no_items, item, Pairs, no_pairs, pair, DocumentTree, TreesOf, flat, flat_document, flat_items, flat_pairs, is_filled_flow, unplaced}
 use Rattle.yf_events.specs.declared.lists.Lists.{Lists}
 use Rattle.yf_props.specs.Props.{PropsValue}
-use Rattle.yf_emit.specs.Nodes.OneLineFlows.{may_be_kept}
-use Rattle.yf_emit.specs.Nodes.SingleAnswers.{NodeAt}
-use Rattle.yf_emit.specs.NormalForms.Normal.{LayoutSetting, Spot, fits, inner_spot, key_spot, normal_document, root_spot, settled, settled_items, settled_pairs, styled, styled_items, styled_pairs, value_spot}
-use Rattle.yf_emit.proofs.Decide.AmongLemmas.{Among, back, after_first, first_at, front, node_at}
+use Rattle.yf_forms.specs.Nodes.OneLineFlows.{may_be_kept}
+use Rattle.yf_forms.specs.Nodes.SingleAnswers.{NodeAt}
+use Rattle.yf_forms.specs.NormalForms.Normal.{LayoutSetting, Spot, fits, inner_spot, key_spot, normal_document, root_spot, settled, settled_items, settled_pairs, styled, styled_items, styled_pairs, value_spot}
+use Rattle.yf_forms.proofs.Decide.AmongLemmas.{Among, back, after_first, first_at, front, node_at}
 use Rattle.yf_emit.proofs.NormalForms.SettledTwice.{settled_twice}
-use Rattle.yf_rules.specs.Passes.OuterFlow.{IsOutsideFlow, is_flow, starts_flow}
-use Rattle.yf_rules.proofs.Texts.FlowLemmas.{no_flow_begun}
-use Rattle.yf_rules.proofs.Texts.NodeLemmas.{same_node}
+use Rattle.yf_rule_sets.specs.Passes.OuterFlow.{IsOutsideFlow, is_flow, starts_flow}
+use Rattle.yf_rule_sets.proofs.Texts.FlowLemmas.{no_flow_begun}
+use Rattle.yf_rule_sets.proofs.Texts.NodeLemmas.{same_node}
 use Rattle.yf_emit.proofs.Columns.WrittenNodes.{WrittenAt, WrittenNode, sequence_on_line, mapping_on_line, written_sequence, written_mapping, WrittenItems, no_written_items, written_item, WrittenPairs, no_written_pairs, written_pair, WrittenDocuments, written_document}
 
 -- Parts of equations.

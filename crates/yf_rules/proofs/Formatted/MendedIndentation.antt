@@ -2,6 +2,7 @@
 use Rattle.std.proofs.Common.{◌≡◌, ℕ, ◌+◌, ◌<◌, ⊎_elim, true, false, true≢false, List, [], ◌∷◌, Some, length, sym, ap, ◌∙◌, subst, arith}
 use Rattle.std.specs.List.{Contains}
 use Rattle.std.specs.Prelude.{slice_get}
+use Rattle.std.proofs.lemmas.Option.{same_Some}
 use Rattle.yf_lines.specs.Lines.{LinesBegunAt, PlaceOf, Table}
 use Rattle.yf_lines.specs.declared.line.Line.{Line}
 use Rattle.yf_props.specs.Props.{PropsValue}
@@ -10,39 +11,30 @@ use Rattle.yf_events.specs.declared.event.ScalarStyle.{ScalarStyle}
 use Rattle.yf_events.specs.declared.event.ScalarStyle.TheVariants.{Plain, Single, Double, Literal, Folded}
 use Rattle.yf_events.specs.declared.event.Span.{Span}
 use Rattle.yf_events.specs.Tree.{Node, scalar, alias, sequence, mapping, Items, no_items, item, Pairs, no_pairs, pair, DocumentTree, flat, flat_document, is_block_collection, standing}
-use Rattle.yf_emit.specs.Nodes.ContentStart.{content_start}
+use Rattle.yf_forms.specs.Nodes.ContentStart.{content_start}
 use Rattle.yf_emit.specs.Layouts.ReadableTrees.{is_block_style as is_block}
-use Rattle.yf_emit.specs.declared.style.Style.{Style}
+use Rattle.yf_forms.specs.declared.style.Style.{Style}
 use Rattle.yf_emit.proofs.OutputLines.FormattedLines.{formed, formed_are}
 use Rattle.yf_emit.proofs.Columns.FormattedSet.{reading_set}
 use Rattle.yf_emit.proofs.OutputLines.LaidLines.{line_text}
 use Rattle.yf_emit.proofs.Columns.SetMeant.{BlockAt}
 use Rattle.yf_emit.proofs.Columns.SetNodes.{Blockless, BlocklessItems, BlocklessPairs, ColumnAt, EntryOn, SetDocuments, no_set_documents, set_document, SetItems, no_set_items, set_item, SetNode, set_line, set_scalar, set_sequence, set_mapping, SetPairs, no_set_pairs, set_pair, SetValue, beside, inside, Unquestioned, value_set as value_here}
-use Rattle.yf_rules.specs.RuleSets.Indents.{EntriesAt, ImplicitValue, IndentFault, WantedColumn, WantedIndent, WithoutMark}
-use Rattle.yf_rules.specs.RuleSets.Indents.EntriesAt.{at_first}
-use Rattle.yf_rules.specs.RuleSets.Indents.IndentFault.{entries, content}
-use Rattle.yf_rules.specs.RuleSets.Indents.WantedColumn.{of_root, further, at_key}
-use Rattle.yf_rules.specs.RuleSets.Indents.WantedIndent.{at_root, in_entry}
-use Rattle.yf_rules.specs.RuleSets.Indents.WithoutMark.{no_mark}
-use Rattle.yf_rules.specs.RuleSets.Nodes.{IsChildOf, NumberedNode, NumberedPair, IsNodeOf, items_from, pairs_from, roots_from}
-use Rattle.yf_rules.specs.RuleSets.Nodes.IsChildOf.{as_item, as_key, as_value}
-use Rattle.yf_rules.specs.RuleSets.Nodes.IsNodeOf.{is_root, is_inner}
-use Rattle.yf_rules.specs.RuleSets.Scalars.{BlockContent, is_block_style}
+use Rattle.yf_rule_sets.specs.RuleSets.Indents.{EntriesAt, ImplicitValue, IndentFault, WantedColumn, WantedIndent, WithoutMark}
+use Rattle.yf_rule_sets.specs.RuleSets.Indents.EntriesAt.{at_first}
+use Rattle.yf_rule_sets.specs.RuleSets.Indents.IndentFault.{entries, content}
+use Rattle.yf_rule_sets.specs.RuleSets.Indents.WantedColumn.{of_root, further, at_key}
+use Rattle.yf_rule_sets.specs.RuleSets.Indents.WantedIndent.{at_root, in_entry}
+use Rattle.yf_rule_sets.specs.RuleSets.Indents.WithoutMark.{no_mark}
+use Rattle.yf_rule_sets.specs.RuleSets.Nodes.{IsChildOf, NumberedNode, NumberedPair, IsNodeOf, items_from, pairs_from, roots_from}
+use Rattle.yf_rule_sets.specs.RuleSets.Nodes.IsChildOf.{as_item, as_key, as_value}
+use Rattle.yf_rule_sets.specs.RuleSets.Nodes.IsNodeOf.{is_root, is_inner}
+use Rattle.yf_rule_sets.specs.RuleSets.Scalars.{BlockContent, is_block_style}
 use Rattle.yf_rules.specs.NothingToFix.{FormatsAreMended}
-use Rattle.yf_rules.specs.Rules.{indentation}
-use Rattle.yf_rules.proofs.RuleSets.KeySetLemmas.{head_or_later, nothing_in}
+use Rattle.yf_rule_sets.specs.Rules.{indentation}
+use Rattle.yf_rule_sets.proofs.RuleSets.KeySetLemmas.{head_or_later, nothing_in}
 use Rattle.yf_rules.proofs.Formatted.MendedColumns.{column_place}
 use Rattle.yf_rules.proofs.Formatted.MendedLines.{exactly_none}
 use Rattle.yf_rules.proofs.Formatted.MendedScalarIndents.{content_is_at}
-
-same_node : {a b : Node} → Some a ≡ Some b → a ≡ b
-same_node e = cc
-
-same_entry : {a b : Entry} → Some a ≡ Some b → a ≡ b
-same_entry e = cc
-
-second_same : {i j : ℕ} {x y : Node} → ◌≡◌ {A = NumberedNode} (i, x) (j, y) → x ≡ y
-second_same e = ap (λ (p : NumberedNode). p.1) e
 
 block_there : (style : ScalarStyle) → is_block_style style ≡ true → is_block style ≡ true
 block_there Plain e = e
@@ -108,7 +100,7 @@ module _ (src : Table) (s : Style) (trees : List DocumentTree) (Content : ℕ �
   first_column : {m : ℕ} (f : Node) (column line : ℕ) (first : Node) (entry : Entry) → EntryOn src.text m f → Some f ≡ Some first → (standing first).entry ≡ Some entry → PlaceOf src.text entry.start line (column + 1)
       → column ≡ m
   first_column {m} f column line first entry e same g p =
-      let one : e.entry ≡ entry = same_entry (sym e.is ∙ (ap (λ x. (standing x).entry) (same_node same) ∙ g)) in
+      let one : e.entry ≡ entry = same_Some _ _ (sym e.is ∙ (ap (λ x. (standing x).entry) (same_Some _ _ same) ∙ g)) in
       let q = right m entry.start line (column + 1) (subst (λ (v : Entry). ColumnAt src.text m v.start) one e.column) p in
       omega (arith, q)
 

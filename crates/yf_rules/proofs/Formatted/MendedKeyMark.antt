@@ -4,6 +4,7 @@ use Rattle.std.specs.List.{Contains}
 use Rattle.std.specs.Prelude.{slice_get, if◌then◌else◌}
 use Rattle.std.proofs.lemmas.List.{length-map}
 use Rattle.std.proofs.lemmas.List.Elements.{Contains-append_cases}
+use Rattle.std.proofs.lemmas.Option.{same_Some}
 use Rattle.yf_chars.specs.Class.{is_white_or_end}
 use Rattle.yf_chars.specs.Text.{code}
 use Rattle.yf_lines.specs.Lines.{Table}
@@ -13,26 +14,26 @@ use Rattle.yf_events.specs.Tree.{Node, scalar, alias, sequence, mapping, Items, 
 use Rattle.yf_events.specs.declared.event.Entry.{Entry}
 use Rattle.yf_events.proofs.TreeLemmas.{trees_unique}
 use Rattle.yf_events.specs.declared.lists.Lists.{Lists}
-use Rattle.yf_emit.specs.Nodes.SingleAnswers.{NodeAt, keys, keys_of_documents, keys_of_items, keys_of_pairs}
-use Rattle.yf_emit.specs.NormalForms.Normal.{Normal, LayoutSetting, Spot, inner_spot, is_implicit, key_spot, normal_document, root_spot, setting_of, value_of_implicit, value_spot}
-use Rattle.yf_emit.specs.declared.style.Style.{Style}
+use Rattle.yf_forms.specs.Nodes.SingleAnswers.{NodeAt, keys, keys_of_documents, keys_of_items, keys_of_pairs}
+use Rattle.yf_forms.specs.NormalForms.Normal.{Normal, LayoutSetting, Spot, inner_spot, is_implicit, key_spot, normal_document, root_spot, setting_of, value_of_implicit, value_spot}
+use Rattle.yf_forms.specs.declared.style.Style.{Style}
 use Rattle.yf_emit.proofs.SecondRun.FixedLawsHold.{formats_normal}
 use Rattle.yf_emit.proofs.OutputLines.FormattedLines.{formed}
 use Rattle.yf_emit.proofs.Columns.FormattedSet.{reading_set}
 use Rattle.yf_emit.proofs.OfTexts.ReadingsOfTexts.{reading_is_textual}
 use Rattle.yf_emit.proofs.Columns.SetMeant.{BlockAt}
 use Rattle.yf_emit.proofs.Columns.SetNodes.{Blockless, entries_after, SetDocuments, no_set_documents, set_document, SetItems, no_set_items, set_item, SetNode, set_line, set_scalar, set_sequence, set_mapping, SetPairs, no_set_pairs, set_pair, Unquestioned}
-use Rattle.yf_rules.specs.RuleSets.Layouts.{NeedlessMark}
+use Rattle.yf_rule_sets.specs.RuleSets.Layouts.{NeedlessMark}
 use Rattle.yf_rules.specs.NothingToFix.{FormatsAreMended}
-use Rattle.yf_rules.specs.RuleSets.Nodes.{NumberedNode, IsNodeOf, items_from, pairs_from, roots_from}
-use Rattle.yf_rules.specs.RuleSets.Nodes.IsChildOf.{as_item, as_key, as_value}
-use Rattle.yf_rules.specs.RuleSets.Nodes.IsNodeOf.{is_root, is_inner}
-use Rattle.yf_rules.specs.RuleSets.QuestionMarks.{IsMarked}
-use Rattle.yf_rules.specs.RuleSets.QuestionMarks.IsMarked.{marked}
-use Rattle.yf_rules.specs.Rules.{key_mark}
-use Rattle.yf_rules.proofs.RuleSets.KeySetLemmas.{head_or_later, is_head, is_later, nothing_in}
+use Rattle.yf_rule_sets.specs.RuleSets.Nodes.{NumberedNode, IsNodeOf, items_from, pairs_from, roots_from}
+use Rattle.yf_rule_sets.specs.RuleSets.Nodes.IsChildOf.{as_item, as_key, as_value}
+use Rattle.yf_rule_sets.specs.RuleSets.Nodes.IsNodeOf.{is_root, is_inner}
+use Rattle.yf_rule_sets.specs.RuleSets.QuestionMarks.{IsMarked}
+use Rattle.yf_rule_sets.specs.RuleSets.QuestionMarks.IsMarked.{marked}
+use Rattle.yf_rule_sets.specs.Rules.{key_mark}
+use Rattle.yf_rule_sets.proofs.RuleSets.KeySetLemmas.{head_or_later, is_head, is_later, nothing_in}
 use Rattle.yf_rules.proofs.Formatted.MendedLines.{exactly_none}
-use Rattle.yf_rules.proofs.Texts.NodePlaceLemmas.{node_there}
+use Rattle.yf_rule_sets.proofs.Texts.NodePlaceLemmas.{node_there}
 
 -- The entry that an event begins.
 
@@ -50,12 +51,6 @@ entry_at : (r : Lists) {i : ℕ} {x : Node} → NodeAt r.events i x → slice_ge
 entry_at r {i} {x} a =
     ap (λ es. slice_get (map (λ (p : EventInText). p.entry) es) i) a.is ∙ subst (λ n. slice_get (map (λ (p : EventInText). p.entry) (a.before ++ (flat x ++ a.after))) n ≡ Some (standing x).entry) a.index
     (first_entry x a.before a.after)
-
-same_entry : {a b : Option Entry} → Some a ≡ Some b → a ≡ b
-same_entry e = cc
-
-inner_entry : {a b : Entry} → Some a ≡ Some b → a ≡ b
-inner_entry e = cc
 
 -- Keys.
 
@@ -138,8 +133,8 @@ module _ (t : List ℕ) (c : LayoutSetting) (trees : List DocumentTree) (Content
 -- a mark of such a key
 not_marked_there : {t : List ℕ} {r : Lists} {i o : ℕ} (x : Node) → NodeAt r.events i x → Unquestioned t x → IsMarked t r i o → ⊥
 not_marked_there {t} {r} x a free (marked {entry = entry} e sign) =
-    let one : (standing x).entry ≡ Some entry = same_entry (sym (entry_at r a) ∙ e) in
-    let same : free.entry ≡ entry = inner_entry (sym free.is ∙ one) in
+    let one : (standing x).entry ≡ Some entry = same_Some _ _ (sym (entry_at r a) ∙ e) in
+    let same : free.entry ≡ entry = same_Some _ _ (sym free.is ∙ one) in
     (subst (λ (z : Entry). (code t z.start ≡ 63 → is_white_or_end (code t (z.start + 1)) ≡ true → ⊥)) same free.none) sign.sign sign.white
 
 pub none_needless : (src : Table) (r : Lists) (s : Style) (trees : List DocumentTree) (Content : ℕ → Node → Type 0) → TreesOf r trees → SetDocuments src.text s Content trees

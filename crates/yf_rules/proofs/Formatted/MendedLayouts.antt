@@ -3,27 +3,25 @@ use Rattle.std.proofs.Common.{◌≡◌, ℕ, ◌+◌, ◌-◌, ◌<◌, ◌≤�
 use Rattle.std.specs.Prelude.{◌&&◌, if◌then◌else◌, slice_get, slice_range}
 use Rattle.std.specs.Str.{IsUtf8}
 use Rattle.std.proofs.lemmas.Bool.{leb-true}
+use Rattle.std.proofs.lemmas.Option.{same_Some}
 use Rattle.yf_lines.specs.Lines.{AreLines, PlaceOf, Table}
 use Rattle.yf_lines.specs.declared.line.Line.{Line}
 use Rattle.yf_events.specs.Tree.{Node, DocumentTree, TreesOf, is_filled_flow, props_of}
 use Rattle.yf_events.specs.declared.event.Span.{Span}
 use Rattle.yf_events.specs.declared.lists.Lists.{Lists}
-use Rattle.yf_emit.specs.Nodes.ContentStart.{content_start}
-use Rattle.yf_emit.specs.Nodes.OneLineFlows.{may_be_kept}
-use Rattle.yf_emit.specs.NormalForms.Normal.{LayoutSetting, normal_document, setting_of, styled}
-use Rattle.yf_emit.specs.Nodes.OneLine.{bare, width, written}
-use Rattle.yf_emit.specs.declared.style.Style.{Style}
-use Rattle.yf_rules.specs.RuleSets.Layouts.{LayoutFault, IsDisplaced, wanted_text}
-use Rattle.yf_rules.specs.RuleSets.Layouts.LayoutFault.{displaced}
-use Rattle.yf_rules.specs.RuleSets.Layouts.EndsPastLimit.{follows}
-use Rattle.yf_rules.specs.RuleSets.Layouts.IsDisplaced.{other_text, too_wide}
-use Rattle.yf_rules.specs.Passes.OuterFlow.{bracketed}
+use Rattle.yf_forms.specs.Nodes.ContentStart.{content_start}
+use Rattle.yf_forms.specs.Nodes.OneLineFlows.{may_be_kept}
+use Rattle.yf_forms.specs.NormalForms.Normal.{LayoutSetting, normal_document, setting_of, styled}
+use Rattle.yf_forms.specs.Nodes.OneLine.{bare, width, written}
+use Rattle.yf_forms.specs.declared.style.Style.{Style}
+use Rattle.yf_rule_sets.specs.RuleSets.Layouts.{LayoutFault, IsDisplaced, wanted_text}
+use Rattle.yf_rule_sets.specs.RuleSets.Layouts.LayoutFault.{displaced}
+use Rattle.yf_rule_sets.specs.RuleSets.Layouts.EndsPastLimit.{follows}
+use Rattle.yf_rule_sets.specs.RuleSets.Layouts.IsDisplaced.{other_text, too_wide}
+use Rattle.yf_rule_sets.specs.Passes.OuterFlow.{bracketed}
 use Rattle.yf_rules.proofs.Formatted.MendedFlows.{Fine, fine_outer}
 use Rattle.yf_emit.proofs.Columns.WrittenNodes.{WrittenDocuments}
 use Rattle.yf_rules.proofs.Formatted.WrittenPlaces.{column_most}
-
-some_span : {a b : Span} → Some a ≡ Some b → a ≡ b
-some_span e = cc
 
 -- it is wanted as it is written
 wanted_bare : (t : List ℕ) (c : LayoutSetting) (x : Node) → Fine t c x → wanted_text t c x ≡ Some (bare c.style x)
@@ -52,4 +50,4 @@ module _ (src : Table) (r : Lists) (s : Style) (trees : List DocumentTree) (of_r
   pub none_displaced : (i o : ℕ) → LayoutFault src r s i o → ⊥
   none_displaced i o (displaced {x = x} {s = span} outer is bad) =
       let a = fine_outer trees of_reading written_all normal outer.node outer.flow outer.outer in
-      not_displaced a (some_span (sym is ∙ a.written.is)) bad
+      not_displaced a (same_Some _ _ (sym is ∙ a.written.is)) bad

@@ -11,16 +11,16 @@ use Rattle.yf_lines.specs.declared.line.Line.{Line}
 use Rattle.yf_lines.specs.Lines.{Table}
 use Rattle.yf_lines.proofs.TableLemmas.{Follow, follow, line_of}
 use Rattle.yf_events.specs.declared.lists.Lists.{Lists}
-use Rattle.yf_emit.specs.declared.style.Style.{Style}
+use Rattle.yf_forms.specs.declared.style.Style.{Style}
 use Rattle.yf_emit.proofs.OutputLines.FormattedLines.{formed, formed_are, formed_lines}
 use Rattle.yf_emit.proofs.OutputLines.LaidLines.{LinesAre, no_lines, more_lines, line_break, line_char, line_feed, line_text, nb_no}
-use Rattle.yf_rules.specs.RuleSets.Exact.{Exactly}
+use Rattle.yf_rule_sets.specs.RuleSets.Exact.{Exactly}
 use Rattle.yf_rules.specs.NothingToFix.{FormatsAreMended, IsFormatted}
-use Rattle.yf_rules.specs.Rules.{byte_order_mark, final_break, line_breaks}
-use Rattle.yf_rules.specs.RuleSets.Scalars.{LooseMark}
-use Rattle.yf_rules.specs.RuleSets.Scalars.LooseMark.{in_no_scalar}
-use Rattle.yf_rules.specs.Sets.{WithoutFinalBreak, first_return}
-use Rattle.yf_rules.specs.Sets.WithoutFinalBreak.{has_break, no_break, of_empty_text}
+use Rattle.yf_rule_sets.specs.Rules.{byte_order_mark, final_break, line_breaks}
+use Rattle.yf_rule_sets.specs.RuleSets.Scalars.{LooseMark}
+use Rattle.yf_rule_sets.specs.RuleSets.Scalars.LooseMark.{in_no_scalar}
+use Rattle.yf_rule_sets.specs.Sets.{WithoutFinalBreak, first_return}
+use Rattle.yf_rule_sets.specs.Sets.WithoutFinalBreak.{has_break, no_break, of_empty_text}
 
 -- What is known of a formatted text.
 

@@ -1,19 +1,20 @@
 -- In what formatting gives, each scalar has the style of the house.
 use Rattle.std.proofs.Common.{◌≡◌, ℕ, zero, suc, Bool, List, [], ◌∷◌, Some, sym, subst}
 use Rattle.std.specs.Prelude.{slice_get}
+use Rattle.std.proofs.lemmas.Option.{same_Some}
 use Rattle.yf_events.specs.Event.{EventValue, EventInText, stream_starts, stream_ends, document_starts, document_ends, sequence_starts, sequence_ends, mapping_starts, mapping_ends, scalar_node, alias_node}
 use Rattle.yf_events.specs.declared.lists.Lists.{Lists}
 use Rattle.yf_stream.proofs.Existence.BreachLemmas.{values}
-use Rattle.yf_emit.specs.NormalForms.Restyled.{SameButStyles, none_left, one_more, restyled_event}
-use Rattle.yf_emit.specs.Nodes.ScalarStyles.{wanted}
-use Rattle.yf_emit.specs.declared.style.Style.{Style}
+use Rattle.yf_forms.specs.NormalForms.Restyled.{SameButStyles, none_left, one_more, restyled_event}
+use Rattle.yf_forms.specs.Nodes.ScalarStyles.{wanted}
+use Rattle.yf_forms.specs.declared.style.Style.{Style}
 use Rattle.yf_emit.proofs.NormalForms.NormalRestyled.{normal_restyled}
 use Rattle.yf_emit.proofs.SameReading.SameContent.{bare, formats_values, unmarked, unmarked_value}
 use Rattle.yf_emit.proofs.Texts.WantedLemmas.{wanted_stays}
 use Rattle.yf_rules.specs.NothingToFix.{FormatsAreMended}
-use Rattle.yf_rules.specs.Rules.{quoting}
-use Rattle.yf_rules.specs.RuleSets.Styles.{QuotingFault}
-use Rattle.yf_rules.specs.RuleSets.Styles.QuotingFault.{other_style}
+use Rattle.yf_rule_sets.specs.Rules.{quoting}
+use Rattle.yf_rule_sets.specs.RuleSets.Styles.{QuotingFault}
+use Rattle.yf_rule_sets.specs.RuleSets.Styles.QuotingFault.{other_style}
 use Rattle.yf_rules.proofs.Formatted.MendedLines.{exactly_none}
 
 -- a scalar in the style of the house, or no scalar
@@ -66,12 +67,9 @@ with_marker q (alias_node name) a = tt
 no_event : (i : ℕ) (v : EventValue) → slice_get [] i ≡ Some v → ⊥
 no_event i v e = cc
 
-same_event : {v w : EventValue} → Some v ≡ Some w → v ≡ w
-same_event e = cc
-
 styled_at : (q : Style) (vs : List EventValue) (i : ℕ) (v : EventValue) → AreStyled q (unmarked vs) → slice_get vs i ≡ Some v → IsStyled q v
 styled_at q [] i v a e = absurd (no_event i v e)
-styled_at q (w ∷ vs) zero v a e = subst (λ z. IsStyled q z) (same_event e) (with_marker q w a.0)
+styled_at q (w ∷ vs) zero v a e = subst (λ z. IsStyled q z) (same_Some _ _ e) (with_marker q w a.0)
 styled_at q (w ∷ vs) (suc i) v a e = styled_at q vs i v a.1 e
 
 none_misquoted : {src_text : List ℕ} {r : Lists} {s : Style} {i x : ℕ} → AreStyled s (bare r.events) → QuotingFault src_text r s i x → ⊥

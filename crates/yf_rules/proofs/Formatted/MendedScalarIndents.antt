@@ -16,8 +16,8 @@ use Rattle.yf_events.specs.Event.{EventValue, scalar_node}
 use Rattle.yf_events.specs.declared.event.ScalarStyle.{ScalarStyle}
 use Rattle.yf_events.specs.declared.event.Span.{Span}
 use Rattle.yf_events.specs.Tree.{Node, scalar, standing}
-use Rattle.yf_emit.specs.Nodes.BlockLines.{content_lines, final_feeds}
-use Rattle.yf_emit.specs.Nodes.ContentStart.{content_start}
+use Rattle.yf_forms.specs.Nodes.BlockLines.{content_lines, final_feeds}
+use Rattle.yf_forms.specs.Nodes.ContentStart.{content_start}
 use Rattle.yf_emit.specs.Layouts.Decorated.{body_then}
 use Rattle.yf_emit.proofs.OutputLines.HeldLemmas.{ScalarAt}
 use Rattle.yf_emit.proofs.OutputLines.LaidLines.{LineIs, before_text_end, line_is}
@@ -25,10 +25,10 @@ use Rattle.yf_emit.proofs.OutputLines.LineSorts.{got_drop}
 use Rattle.yf_emit.proofs.Derived.RowsUtf8.{AreLines as AreTexts, no_line, line_more, body_lines}
 use Rattle.yf_emit.proofs.Derived.ScalarsMade.{body_some, body_texts}
 use Rattle.yf_emit.proofs.Columns.SetMeant.{BlockAt, block_at}
-use Rattle.yf_rules.specs.RuleSets.Scalars.{BlockContent, head_count}
-use Rattle.yf_rules.proofs.Formatted.MendedColumns.{char_boundary}
+use Rattle.yf_rule_sets.specs.RuleSets.Scalars.{BlockContent, head_count}
 use Rattle.yf_rules.proofs.Formatted.MendedContents.{LineThere, first_content_of}
 use Rattle.yf_rules.proofs.Formatted.MendedScalars.{follow_drop}
+use Rattle.yf_rule_sets.proofs.RuleSets.DocumentLemmas.{char_boundary}
 
 -- Lines that are read from a place on.
 

@@ -15,12 +15,13 @@ use Rattle.yf_lines.proofs.TableLemmas.{Follow, follow, line_before, table_line,
 use Rattle.yf_events.specs.Event.{EventValue, EventInText}
 use Rattle.yf_events.specs.declared.event.Span.{Span}
 use Rattle.yf_events.specs.declared.lists.Lists.{Lists}
-use Rattle.yf_emit.specs.Nodes.ContentStart.{content_start}
+use Rattle.yf_forms.specs.Nodes.ContentStart.{content_start}
 use Rattle.yf_emit.proofs.OutputLines.HeldLemmas.{Holds, here, there, LinesBetween, counted, ScalarAt}
-use Rattle.yf_emit.proofs.OutputLines.LineSorts.{InScalar, got_drop}
-use Rattle.yf_rules.specs.RuleSets.BlankLines.{ScalarLine}
-use Rattle.yf_rules.specs.RuleSets.BlankLines.ScalarLine.{of_scalar}
-use Rattle.yf_rules.specs.RuleSets.Scalars.{IsScalar}
+use Rattle.yf_emit.proofs.OutputLines.LineSorts.{InScalar, got_drop, no_line as no_drop}
+use Rattle.yf_rule_sets.specs.RuleSets.BlankLines.{ScalarLine}
+use Rattle.yf_rule_sets.specs.RuleSets.BlankLines.ScalarLine.{of_scalar}
+use Rattle.yf_rule_sets.specs.RuleSets.Scalars.{IsScalar}
+use Rattle.yf_emit.proofs.OutputLines.LaidLines.{nothing_there}
 
 -- The event.
 
@@ -35,15 +36,8 @@ event_at (there h) = let r = event_at h in record { index = suc r.index; event_i
 
 -- The lines from its first one on.
 
-no_line : (k : ℕ) (l : Line) → slice_get [] k ≡ Some l → ⊥
-no_line k l e = cc
-
 first_of : {m l : Line} {ms ls : List Line} → m ∷ ms ≡ l ∷ ls → (m ≡ l) × (ms ≡ ls)
 first_of e = (cc, cc)
-
-no_drop : (h : ℕ) (m : Line) (ms : List Line) → drop h [] ≡ m ∷ ms → ⊥
-no_drop zero m ms e = cc
-no_drop (suc h) m ms e = cc
 
 pub follow_drop : (t : List ℕ) (h i j : ℕ) (all : List Line) (m : Line) (ms : List Line) → Follow t i j all → drop h all ≡ m ∷ ms → Follow t m.start j (m ∷ ms)
 follow_drop t zero i j [] m ms f e = absurd cc
@@ -56,7 +50,7 @@ follow_drop t (suc h) i j (l ∷ all) m ms f e = follow_drop t h l.next j all m 
 -- a line among the first ones of a chain begins before the chain ends
 chain_past : {t : List ℕ} {p e : ℕ} {cs : List Line} (j : ℕ) (ms : List Line) (n : ℕ) (l : Line) → Chain (OneLine t) p e cs → Follow t p j ms → n < length cs → slice_get ms n ≡ Some l → l.start < e
 chain_past j ms n l done f m g = absurd (omega (arith, m))
-chain_past j [] n l (step s c) f m g = absurd (no_line n l g)
+chain_past j [] n l (step s c) f m g = absurd (nothing_there n l g)
 chain_past {t} j (a ∷ ms) zero l (step (one_line {l = b} made) c) f m g =
     let same : a ≡ b = same_line t a b f.1 made f.0 in
     let far = chain_forward (line_functional t) c in

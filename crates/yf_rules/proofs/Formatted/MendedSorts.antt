@@ -2,14 +2,15 @@
 use Rattle.std.proofs.Common.{◌≡◌, ℕ, zero, suc, ◌+◌, true, List, ◌∷◌, Some, refl, sym, ◌∙◌, subst, arith}
 use Rattle.std.specs.Prelude.{slice_get}
 use Rattle.std.specs.Str.{IsUtf8}
+use Rattle.std.proofs.lemmas.Option.{same_Some}
 use Rattle.yf_lines.specs.Lines.{Table}
 use Rattle.yf_lines.specs.declared.line.Line.{Line}
 use Rattle.yf_events.specs.declared.lists.Lists.{Lists}
 use Rattle.yf_emit.specs.Layouts.Decorated.{row_decos, rows_of}
 use Rattle.yf_emit.specs.Layouts.Layout.{own_line_comments, source_of}
-use Rattle.yf_emit.specs.NormalForms.Normal.{setting_of}
-use Rattle.yf_emit.specs.Layouts.Rows.{at_text_start}
-use Rattle.yf_emit.specs.declared.style.Style.{Style}
+use Rattle.yf_forms.specs.NormalForms.Normal.{setting_of}
+use Rattle.yf_print.specs.Layouts.Rows.{at_text_start}
+use Rattle.yf_forms.specs.declared.style.Style.{Style}
 use Rattle.yf_emit.proofs.OutputLines.FormattedHeld.{reading_held}
 use Rattle.yf_emit.proofs.OutputLines.FormattedLines.{formed, formed_are, formed_lines}
 use Rattle.yf_emit.proofs.OutputLines.GapSpread.{decos_spread, gap_spread}
@@ -20,7 +21,7 @@ use Rattle.yf_emit.proofs.OutputLines.TidyTexts.{decos_tidy, gap_tidy}
 use Rattle.yf_rules.specs.NothingToFix.{IsFormatted}
 use Rattle.yf_emit.proofs.Derived.RowKinds.{all_kinds}
 use Rattle.yf_emit.proofs.OutputLines.LeadRows.{all_leads}
-use Rattle.yf_emit.specs.Layouts.BareStart.{is_bare}
+use Rattle.yf_print.specs.Layouts.BareStart.{is_bare}
 use Rattle.yf_emit.specs.Preservation.CommentsPlaced.{columns_in}
 
 formed_sorts : {src : Table} {r : Lists} {s : Style} (w : IsFormatted src r s) → Lined (λ n l x. Sort src.text r.events src.lines n l x) 0 src.lines (formed_lines w.formats)
@@ -60,15 +61,12 @@ pub record SortedLine (src : Table) (r : Lists) (k : ℕ) (l : Line) : Type 0 wh
   pub is : LineIs src.text l text
   pub sort : Sort src.text r.events src.lines k l text
 
-same_text : {p q : List ℕ} → Some p ≡ Some q → p ≡ q
-same_text e = cc
-
 pub sorted_line : {src : Table} {r : Lists} {s : Style} (k : ℕ) (l : Line) → IsFormatted src r s → slice_get src.lines k ≡ Some l → SortedLine src r k l
 sorted_line {src} {r} {s} k l w e =
     let a = formed w.utf8 w.formats in
     let line = line_text k l (formed_are src.lines w.formats a w.lines) e in
     let found = lined_at k l (formed_sorts w) e in
-    let same : found.text ≡ line.text = same_text (sym found.among ∙ line.among) in
+    let same : found.text ≡ line.text = same_Some _ _ (sym found.among ∙ line.among) in
     record {
       utf8 = a.utf8;
       text = line.text;

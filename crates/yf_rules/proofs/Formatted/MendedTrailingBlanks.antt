@@ -9,23 +9,23 @@ use Rattle.yf_lines.proofs.TableLemmas.{table_line}
 use Rattle.yf_events.specs.declared.event.ScalarStyle.{ScalarStyle}
 use Rattle.yf_events.specs.declared.event.ScalarStyle.TheVariants.{Plain, Single, Double, Literal, Folded}
 use Rattle.yf_events.specs.declared.lists.Lists.{Lists}
-use Rattle.yf_emit.specs.Nodes.BlockLines.{block_lines, content_lines, tail_lines}
+use Rattle.yf_forms.specs.Nodes.BlockLines.{block_lines, content_lines, tail_lines}
 use Rattle.yf_emit.specs.Layouts.ReadableTrees.{is_block_style as is_block}
-use Rattle.yf_emit.specs.declared.style.Style.{Style}
+use Rattle.yf_forms.specs.declared.style.Style.{Style}
 use Rattle.yf_emit.proofs.OutputLines.LaidLines.{LineIs, LinesAre}
 use Rattle.yf_emit.proofs.OutputLines.LineSorts.{InScalar, Sort, between_rows, ends_seen, in_scalar, got_drop}
-use Rattle.yf_rules.specs.RuleSets.ByLine.{TrailingBlank}
-use Rattle.yf_rules.specs.RuleSets.ByLine.BlankEnd.{at_line_end}
-use Rattle.yf_rules.specs.RuleSets.ByLine.TrailingBlank.{trailing}
+use Rattle.yf_rule_sets.specs.RuleSets.ByLine.{TrailingBlank}
+use Rattle.yf_rule_sets.specs.RuleSets.ByLine.BlankEnd.{at_line_end}
+use Rattle.yf_rule_sets.specs.RuleSets.ByLine.TrailingBlank.{trailing}
 use Rattle.yf_rules.specs.NothingToFix.{FormatsAreMended, IsFormatted}
-use Rattle.yf_rules.specs.Rules.{trailing_blanks}
-use Rattle.yf_rules.specs.RuleSets.Scalars.{ContentLine, head_count, is_block_style}
-use Rattle.yf_rules.specs.RuleSets.Scalars.ContentLine.{of_block}
+use Rattle.yf_rule_sets.specs.Rules.{trailing_blanks}
+use Rattle.yf_rule_sets.specs.RuleSets.Scalars.{ContentLine, head_count, is_block_style}
+use Rattle.yf_rule_sets.specs.RuleSets.Scalars.ContentLine.{of_block}
 use Rattle.yf_rules.proofs.Formatted.MendedContents.{first_content, line_long}
 use Rattle.yf_rules.proofs.Formatted.MendedLines.{exactly_none}
 use Rattle.yf_rules.proofs.Formatted.MendedScalars.{line_of_scalar}
 use Rattle.yf_rules.proofs.Formatted.MendedSorts.{sorted_line}
-use Rattle.yf_rules.proofs.Texts.WhitesLemmas.{white_within}
+use Rattle.yf_rule_sets.proofs.Texts.WhitesLemmas.{white_within}
 
 block_here : (style : ScalarStyle) → is_block style ≡ true → is_block_style style ≡ true
 block_here Plain e = e

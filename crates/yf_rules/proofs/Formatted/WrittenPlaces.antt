@@ -20,10 +20,13 @@ use Rattle.yf_lines.proofs.LineLemmas.{lines_unique}
 use Rattle.yf_lines.proofs.MarkLemmas.{code_mark, marks_order, marks_stop, start_in_line}
 use Rattle.yf_lines.proofs.TableLemmas.{table_cut, table_line, table_start}
 use Rattle.yf_events.specs.Tree.{Node}
-use Rattle.yf_emit.specs.declared.style.Style.{Style}
-use Rattle.yf_emit.specs.Nodes.OneLine.{width, written}
-use Rattle.yf_rules.proofs.Formatted.MendedColumns.{ascii_next, char_boundary, chars_past}
+use Rattle.yf_forms.specs.declared.style.Style.{Style}
+use Rattle.yf_forms.specs.Nodes.OneLine.{width, written}
+use Rattle.yf_rules.proofs.Formatted.MendedColumns.{ascii_next, chars_past}
 use Rattle.yf_emit.proofs.Columns.WrittenNodes.{WrittenAt}
+use Rattle.yf_chars.proofs.Tests.{below}
+use Rattle.yf_chars.proofs.CharBounds.{nb_below}
+use Rattle.yf_rule_sets.proofs.RuleSets.DocumentLemmas.{char_boundary}
 
 -- Runs of characters.
 
@@ -42,13 +45,6 @@ first_passes (step (one n) c) l = n
 no_nb_mark : is_nb_char 0xFEFF ≡ false
 unfolding is_nb_char is_printable is_between is_break_char
 no_nb_mark = refl
-
-nb_real : (c : ℕ) → is_nb_char c ≡ true → c < no_char
-unfolding is_nb_char is_printable is_between is_break_char
-nb_real c e = grind (arith, nat_tests)
-
-below : (m n : ℕ) → m < n → nat_lt m n ≡ true
-below m n l = grind (arith, nat_tests)
 
 module _ {t : List ℕ} (u : IsUtf8 t) {house : Style} {m : ℕ} {x : Node} (a : WrittenAt house t m x) where
   abbrev last : ℕ
@@ -80,7 +76,7 @@ module _ {t : List ℕ} (u : IsUtf8 t) {house : Style} {m : ℕ} {x : Node} (a :
   -- after the marks of a line that holds it
   after_run : {s j : ℕ} {y z : List ℕ} → s ≤ from → Many t is_mark s from y → Marks t s j → Many t is_char j last z → from ≡ j
   after_run {s} {j} {y} {z} l run marks c =
-      let far : j ≤ from = marks_stop from u (char_boundary t from (nb_real (code t from) nb)) no_mark l marks.run in
+      let far : j ≤ from = marks_stop from u (char_boundary t from (nb_below (code t from) nb)) no_mark l marks.run in
       let near : from ≤ j = chars_past u no_mark_at (marks_order t s j marks) run upto c in
       omega (arith, far, near) where
         no_mark_at : code t j ≢ 0xFEFF

@@ -12,7 +12,7 @@ use Rattle.yf_lines.specs.Output.{Wrote}
 use Rattle.yf_lines.specs.declared.place.Position.{Position}
 use Rattle.yf_emit.specs.Format.{IsFormatting}
 use Rattle.yf_emit.specs.FormatPromises.{FormatKept}
-use Rattle.yf_emit.specs.declared.style.Style.{Style}
+use Rattle.yf_forms.specs.declared.style.Style.{Style}
 use Rattle.yf_rules.specs.declared.run.TheConstants.{INPUT_LIMIT}
 use Rattle.yf_rules.specs.Runs.Compare.{CompareRun, DifferAt, Difference, DifferenceIn, DiffersFirst, IsClean, SameUpTo}
 use Rattle.yf_rules.specs.Runs.Compare.DiffersFirst.{differs_first}

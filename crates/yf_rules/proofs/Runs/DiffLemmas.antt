@@ -2,7 +2,7 @@
 use Rattle.std.proofs.Common.{◌≡◌, ℕ, ◌≤◌, Bool, true, List, [], ap, length, sym, subst}
 use Rattle.std.specs.Prelude.{Option, Result, Ok, Err, IfOk, IfSome}
 use Rattle.std.specs.Str.{IsUtf8}
-use Rattle.yf_emit.specs.declared.style.Style.{Style}
+use Rattle.yf_forms.specs.declared.style.Style.{Style}
 use Rattle.yf_lines.specs.Output.{Wrote}
 use Rattle.yf_rules.specs.declared.run.TheConstants.{INPUT_LIMIT}
 use Rattle.yf_rules.specs.Runs.Compare.{IsClean}

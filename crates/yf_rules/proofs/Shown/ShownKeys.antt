@@ -5,7 +5,7 @@ use Rattle.yf_events.specs.Tree.{NodeOffsets, Node, scalar, mapping, no_pairs, p
 use Rattle.yf_events.specs.declared.event.Entry.{Entry}
 use Rattle.yf_events.specs.declared.event.ScalarStyle.TheVariants.{Plain, Double}
 use Rattle.yf_events.specs.declared.lists.Lists.{Lists}
-use Rattle.yf_rules.specs.RuleSets.Nodes.{RepeatedKey, repeats, is_root}
+use Rattle.yf_rule_sets.specs.RuleSets.Nodes.{RepeatedKey, repeats, is_root}
 
 -- the reading of "a: 1\n\"a\": 2\n: 3\n: 4\n": the second key has the text of the first, and the last is as empty as the one before it
 

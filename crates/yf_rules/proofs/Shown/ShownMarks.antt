@@ -4,12 +4,12 @@ use Rattle.std.proofs.lemmas.Bool.{true≢false}
 use Rattle.std.specs.Str.{chars}
 use Rattle.yf_chars.specs.Class.{is_break_char, is_white, is_white_or_end}
 use Rattle.yf_chars.specs.Text.{begins, code}
-use Rattle.yf_emit.specs.declared.style.Style.{Style}
+use Rattle.yf_forms.specs.declared.style.Style.{Style}
 use Rattle.yf_events.specs.Tree.{DocumentTree}
 use Rattle.yf_events.specs.declared.lists.Lists.{Lists}
 use Rattle.yf_lines.specs.Lines.{Table}
-use Rattle.yf_rules.specs.RuleSets.Layouts.{NeedlessMark}
-use Rattle.yf_rules.specs.RuleSets.QuestionMarks.{IsMarked, marked}
+use Rattle.yf_rule_sets.specs.RuleSets.Layouts.{NeedlessMark}
+use Rattle.yf_rule_sets.specs.RuleSets.QuestionMarks.{IsMarked, marked}
 
 -- in `---` and `?a: b` the `?` is at offset 4, and is not at fault in any reading
 no_needless_mark : (src : Table) (r : Lists) (house : Style) (trees : List DocumentTree) (i offset : ℕ) → src.text ≡ codes "---\n?a: b\n" → offset ≡ 4

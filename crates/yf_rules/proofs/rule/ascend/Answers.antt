@@ -2,7 +2,7 @@ use Rattle.std.proofs.lemmas.List.Filters.{dedup_is}
 use Rattle.std.proofs.lemmas.List.Kept.{IsStrictlySortedBy-dedup, Contains-dedup, Contains-from_dedup}
 use Rattle.std.proofs.lemmas.List.Sorted.{Contains-permutation, IsPermutation-sym, answers_always}
 use Rattle.std.proofs.Common.{rules}
-use Rattle.yf_rules.proofs.Findings.PlacesLemmas.{place_total, place_ties, same_equivalence, same_is}
+use Rattle.yf_rule_sets.proofs.Findings.PlacesLemmas.{place_total, place_ties, same_equivalence, same_is}
 use Rattle.yf_rules.proofs.rule.ascend.Goals as goal
 
 pub returns-clause-ascending : goal.returns-clause-ascending

@@ -1,7 +1,7 @@
 use Rattle.std.proofs.Common.{refl, ◌∙◌, ap}
 use denote.Param.Object.{read_made}
-use Rattle.yf_rules.specs.Definition.{RuleDefinition}
-use Rattle.yf_rules.specs.RuleOf.{definition_of}
+use Rattle.yf_rule_sets.specs.Definition.{RuleDefinition}
+use Rattle.yf_rule_sets.specs.RuleOf.{definition_of}
 use Rattle.yf_rules.proofs.Findings.AllRulesLemmas.{is_definition}
 use Rattle.yf_rules.proofs.with_rules.with_all_rules.OwnLists.{own-1, at-1-1}
 use Rattle.yf_rules.proofs.with_rules.with_all_rules.Goals as goal

@@ -1,6 +1,6 @@
 use Rattle.std.proofs.Common.{refl}
 use Rattle.yf_events.specs.Event.{view_value}
-use Rattle.yf_emit.proofs.NormalForms.NormalInPlace.{copied_step}
+use Rattle.yf_forms.proofs.NormalForms.NormalInPlace.{copied_step}
 use Rattle.yf_emit.proofs.normal.copies.push_events.Goals as goal
 
 pub loop-i-preserved : goal.loop-i-preserved

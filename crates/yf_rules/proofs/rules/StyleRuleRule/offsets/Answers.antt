@@ -1,4 +1,4 @@
-use Rattle.yf_rules.specs.RuleOf.{definition_of}
+use Rattle.yf_rule_sets.specs.RuleOf.{definition_of}
 use Rattle.yf_rules.proofs.RulesMended.{none_at_fault, rule_mended}
 use Rattle.yf_rules.proofs.rules.StyleRuleRule.offsets.Goals as goal
 

@@ -1,7 +1,0 @@
-use Rattle.yf_events.specs.Event.{EventInText}
-use Rattle.yf_emit.specs.Passes.Pages.{no_event}
-use Rattle.yf_emit.proofs.Measure.LookLemmas.{part_at}
-use Rattle.yf_emit.proofs.print.looks.span_at.Goals as goal
-
-pub returns : goal.returns
-returns c = part_at (λ (e : EventInText). e.span) c.args.page.now.reading.now.events c.args.i no_event _ c.span.ensures

@@ -1,5 +1,0 @@
-use Rattle.yf_emit.proofs.Texts.BlockLemmas.{without_feeds_is}
-use Rattle.yf_emit.proofs.text.block.without_feeds.Goals as goal
-
-pub returns : goal.returns
-returns c = without_feeds_is c.trim_end_matches.ensures.matches

@@ -1,7 +1,0 @@
-use Rattle.std.proofs.Common.{◌≡◌, ◌+◌, flat_map, length}
-use Rattle.yf_chars.specs.Hidden.{spelled_out}
-use Rattle.yf_emit.specs.NormalForms.Measures.{up_to_greatest}
-use Rattle.yf_emit.proofs.text.width.escaped_width.Given as goal
-
-abbrev pub invariant-loop-c : goal.invariant-loop-c
-invariant-loop-c l = l.width ≡ up_to_greatest (2 + length (flat_map spelled_out l.yielded))

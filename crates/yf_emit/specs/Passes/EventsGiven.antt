@@ -1,6 +1,0 @@
--- What is given where the form of a node is decided.
-use Rattle.yf_emit.specs.Passes.DecidePass.{DecideInput, given}
-use Rattle.yf_emit.specs.declared.form.layout_context.EventFacts.{EventFacts}
-
-abbrev pub given_in : EventFacts → DecideInput
-given_in facts = given facts.style.now facts.reading.now.comments facts.reading.now.events

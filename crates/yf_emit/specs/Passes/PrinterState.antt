@@ -1,8 +1,0 @@
--- The printer between two events, as what it has printed and what it awaits.
-use Rattle.std.specs.Prelude.{reverse}
-use Rattle.yf_emit.specs.declared.print.layout.Printer.{Printer}
-use Rattle.yf_emit.specs.Passes.Drafts.{draft}
-use Rattle.yf_emit.specs.Passes.PrintPass.{PrintState, state}
-
-abbrev pub state_of : Printer → PrintState
-state_of p = state (draft p.output) (reverse p.levels.items) p.documents p.done

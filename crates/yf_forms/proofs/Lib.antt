@@ -1,0 +1,8 @@
+-- texts on one line and their widths: `width`, `written`, `kept_text`; lines of block scalars
+pub mod Texts
+-- `measure_all`: how wide each node is (`Measures`)
+pub mod Measure
+-- `decide` and `implicit_key`: the form of each node (`Forms`)
+pub mod Decide
+-- `normal`: the normal form of a reading, which is settled, and the only one
+pub mod NormalForms

@@ -1,0 +1,9 @@
+-- `measure_all`: how wide each node is (`Measures`)
+pub mod LevelLemmas
+pub mod OffsetLemmas
+pub mod SumLemmas
+pub mod EndedLemmas
+pub mod PassLemmas
+pub mod StepLemmas
+pub mod MeasuredLemmas
+pub mod FlowParts

@@ -1,0 +1,11 @@
+-- a node on one line: its text, width and style, and where its content begins
+pub mod Lines
+pub mod OneLine
+pub mod OneLineFlows
+pub mod ScalarStyles
+pub mod ContentStart
+pub mod BlockLines
+pub mod FlowTexts
+pub mod FlowsAlone
+pub mod ImplicitKeys
+pub mod SingleAnswers

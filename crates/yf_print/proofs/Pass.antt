@@ -1,0 +1,12 @@
+-- what the printer writes, step by step
+pub mod LookLemmas
+pub mod SpotLemmas
+pub mod DraftLemmas
+pub mod HeldBlocks
+pub mod HeldColumns
+pub mod HeldLists
+pub mod KnownLines
+pub mod PrintLemmas
+pub mod WhiteLemmas
+pub mod LeafTrailLemmas
+pub mod TrailLemmas

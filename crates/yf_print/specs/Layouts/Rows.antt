@@ -1,0 +1,245 @@
+-- The lines that the house style gives a normal reading, without their comments: each with its column and text, what of the
+-- source is on it, and what kind of end it has. Columns count from 0.
+use Rattle.std.specs.Prelude.{ℕ, ◌-◌, Bool, true, false, ◌==◌, ◌&&◌, if◌then◌else◌, List, [], ◌∷◌, ◌++◌, codes, map, replicate, option_to_list, Option, Some, None}
+use Rattle.yf_comments.specs.Comment.{CommentValue}
+use Rattle.yf_props.specs.Props.{PropsValue}
+use Rattle.yf_events.specs.declared.directive.Directive.{Directive}
+use Rattle.yf_events.specs.declared.document.Doc.{Doc}
+use Rattle.yf_events.specs.declared.event.Entry.{Entry}
+use Rattle.yf_events.specs.declared.event.ScalarStyle.TheVariants.{Literal, Folded}
+use Rattle.yf_events.specs.declared.event.ScalarStyle.{ScalarStyle}
+use Rattle.yf_events.specs.declared.event.Span.{Span}
+use Rattle.yf_forms.specs.declared.style.Style.{Style}
+use Rattle.yf_forms.specs.Nodes.BlockLines.{header_text, block_lines, final_feeds, is_kept_tail}
+use Rattle.yf_forms.specs.NormalForms.Normal.{LayoutSetting, Spot, root_spot, inner_spot, key_spot, value_spot, is_implicit, key_comment}
+use Rattle.yf_forms.specs.Nodes.OneLine.{spaced, props_text, written, colon_after}
+use Rattle.yf_events.specs.Tree.{Node, scalar, alias, sequence, mapping, Items, no_items, item, Pairs, no_pairs, pair, DocumentTree, standing, props_of, leaves, items_in, entry_start, is_block_collection}
+use Rattle.yf_forms.specs.Nodes.Lines.{is_empty_text}
+
+-- with what a line ends, for the blank line after it
+pub data Ending : Type 0 where
+  -- nothing is printed yet
+  at_text_start : Ending
+  -- the `---` of a document
+  at_document_start : Ending
+  -- a block scalar whose sign is `+`
+  at_kept_tail : Ending
+  -- the `:` of an implicit key, or the properties of a collection, where the node's text is still to come
+  before_node : Ending
+  anywhere : Ending
+
+-- where an entry begins, or the `:` of a key that has a `?`: the offset of that in the text that was read, where it has one, and what begins with it; the
+-- column at which the entries of its collection are; and whether that is a sequence
+pub record Start : Type 0 where
+  pub offsets : List ℕ
+  pub column : ℕ
+  pub is_item : Bool
+
+pub record Row : Type 0 where
+  pub column : ℕ
+  pub text : List ℕ
+  -- the entries that begin on it
+  pub starts : List Start
+  -- what is on it of the items: the beginnings of documents and entries, each `:` of a key that has a `?`, and the
+  -- beginnings of leaves with characters
+  pub items : List ℕ
+  pub leaves : List Span
+  -- the comment that trails its key
+  pub key_comment : Option CommentValue
+  -- it begins with an entry before which a blank line is
+  pub blank_before : Bool
+  -- a document without `---` begins on it
+  pub begins : Bool
+  pub ending : Ending
+  -- the lines of a block scalar, and the column at which they are; 0 where there are none
+  pub body : List (List ℕ)
+  pub lines : ℕ
+
+-- a line with that text alone
+abbrev pub plain_row : ℕ → List ℕ → Row
+plain_row column text =
+    record { column = column; text = text; starts = []; items = []; leaves = []; key_comment = None; blank_before = false; begins = false; ending = anywhere; body = []; lines = 0 }
+
+-- the first line of a node is on the line that a sign or key begins, after so many spaces; an empty node has no line, and no
+-- space is left before it
+abbrev pub joined : Row → ℕ → List Row → List Row
+joined head spaces [] = head ∷ []
+joined head spaces (r ∷ rs) = record {
+  column = head.column;
+  text = head.text ++ (replicate spaces 32 ++ r.text);
+  starts = head.starts ++ r.starts;
+  items = head.items ++ r.items;
+  leaves = head.leaves ++ r.leaves;
+  key_comment = r.key_comment;
+  blank_before = head.blank_before;
+  begins = head.begins;
+  ending = r.ending;
+  body = r.body;
+  lines = r.lines;
+} ∷ rs
+
+-- Nodes.
+
+-- a leaf or a flow collection on one line; an empty node prints nothing
+abbrev pub one_line_row : ℕ → Node → List ℕ → List Row
+one_line_row column x [] = []
+one_line_row column x (b ∷ text) = record (plain_row column (b ∷ text)) { items = items_in x; leaves = leaves x } ∷ []
+
+abbrev pub one_line : Style → Spot → Node → List Row
+one_line s spot x = one_line_row spot.column x (written s x)
+
+-- a block scalar: its properties and its header, and its lines
+abbrev pub tail_ending : Bool → Ending
+tail_ending true = at_kept_tail
+tail_ending false = anywhere
+
+abbrev pub block_scalar : Style → Spot → Node → PropsValue → ScalarStyle → List ℕ → List (List ℕ) → List Row
+block_scalar s spot x props style text lines = record (plain_row spot.column (spaced (props_text props) (header_text style s.indent text))) {
+  items = items_in x;
+  leaves = leaves x;
+  ending = tail_ending (is_kept_tail (final_feeds text));
+  body = block_lines style spot.lines text lines;
+  lines = spot.lines;
+} ∷ []
+
+abbrev pub scalar_rows : Style → Spot → Node → PropsValue → ScalarStyle → List ℕ → List (List ℕ) → List Row
+scalar_rows s spot x props Literal text lines = block_scalar s spot x props Literal text lines
+scalar_rows s spot x props Folded text lines = block_scalar s spot x props Folded text lines
+scalar_rows s spot x props style text lines = one_line s spot x
+
+-- the properties of a block collection are before its first entry's line
+abbrev pub props_row : ℕ → List ℕ → List Row
+props_row column [] = []
+props_row column (b ∷ text) = record (plain_row column (b ∷ text)) { ending = before_node } ∷ []
+
+-- Entries.
+
+abbrev pub blank_before_entry : Option Entry → Bool
+blank_before_entry None = false
+blank_before_entry (Some entry) = entry.blank_before
+
+abbrev pub start_of : ℕ → Bool → List ℕ → Start
+start_of column is_item offsets = record { offsets = offsets; column = column; is_item = is_item }
+
+abbrev pub is_dash : List ℕ → Bool
+is_dash [] = false
+is_dash (c ∷ []) = c == 45
+is_dash (c ∷ d ∷ cs) = false
+
+-- the line that an entry begins with this text, at the column of the entries
+abbrev pub entry_row : ℕ → List ℕ → Node → Row
+entry_row column text x = record (plain_row column text) {
+  starts = start_of column (is_dash text) (entry_start x) ∷ [];
+  items = entry_start x;
+  blank_before = blank_before_entry (standing x).entry;
+}
+
+-- after `-`, `?` and the `:` of an explicit value are as many spaces as make up the indentation
+abbrev pub after_sign : Style → Row → List Row → List Row
+after_sign s head rows = joined head (s.indent - 1) rows
+
+-- the line of a `:` whose key has a `?`
+abbrev pub colon_offset : Option Entry → List ℕ
+colon_offset None = []
+colon_offset (Some entry) = option_to_list entry.colon
+
+abbrev pub colon_row : ℕ → Node → Row
+colon_row column k = record (plain_row column (codes ":")) { starts = start_of column false (entry_start k) ∷ []; items = colon_offset (standing k).entry }
+
+abbrev pub explicit_pair : Style → ℕ → Node → List Row → List Row → List Row
+explicit_pair s column k key_rows value_rows =
+    after_sign s (entry_row column (codes "?") k) key_rows ++ after_sign s (colon_row column k) value_rows
+
+-- an implicit key with its `:`; an empty node as key is the `:` alone
+abbrev pub key_row : Style → ℕ → Node → Row
+key_row s column k =
+    let row = entry_row column (written s k ++ colon_after k) k in
+    record row { starts = start_of column false row.items ∷ []; items = row.items ++ items_in k; leaves = leaves k }
+
+-- whether a value begins on a line of its own: the entries of a block collection that has no properties
+abbrev pub begins_below : Node → Bool
+begins_below v = is_block_collection v && is_empty_text (props_text (props_of v))
+
+-- the value after an implicit key: on the next line where a comment trails the key, else after one space
+abbrev pub after_key : Row → Option CommentValue → Bool → List Row → List Row
+after_key head (Some c) below rows = record head { key_comment = Some c; ending = before_node } ∷ rows
+after_key head None true rows = record head { ending = before_node } ∷ rows
+after_key head None false rows = joined head 1 rows
+
+abbrev pub implicit_pair : LayoutSetting → ℕ → Node → Node → List Row → List Row
+implicit_pair c column k v rows = after_key (key_row c.style column k) (key_comment c.comments k v) (begins_below v) rows
+
+abbrev pub pair_rows : LayoutSetting → ℕ → Node → Node → List Row → List Row → List Row
+pair_rows c column k v key_rows value_rows =
+    if is_implicit c.style column k then implicit_pair c column k v value_rows else explicit_pair c.style column k key_rows value_rows
+
+-- the lines of a node
+abbrev mutual
+  pub rows : LayoutSetting → Spot → Node → List Row
+  rows c spot (scalar at props style text lines) = scalar_rows c.style spot (scalar at props style text lines) props style text lines
+  rows c spot (alias at name) = one_line c.style spot (alias at name)
+  rows c spot (sequence at true props items) = one_line c.style spot (sequence at true props items)
+  rows c spot (sequence at false props items) = props_row spot.column (props_text props) ++ rows_of_items c spot.entries items
+  rows c spot (mapping at true props pairs) = one_line c.style spot (mapping at true props pairs)
+  rows c spot (mapping at false props pairs) = props_row spot.column (props_text props) ++ rows_of_pairs c spot.entries pairs
+
+  -- of entries at that column
+  pub rows_of_items : LayoutSetting → ℕ → Items → List Row
+  rows_of_items c column no_items = []
+  rows_of_items c column (item x xs) =
+      after_sign c.style (entry_row column (codes "-") x) (rows c (inner_spot c.style column) x) ++ rows_of_items c column xs
+
+  pub rows_of_pairs : LayoutSetting → ℕ → Pairs → List Row
+  rows_of_pairs c column no_pairs = []
+  rows_of_pairs c column (pair k v ps) =
+      pair_rows c column k v (rows c (key_spot c.style column k) k) (rows c (value_spot c column k v) v) ++ rows_of_pairs c column ps
+
+-- Documents.
+
+-- a directive's parts are joined by one space
+abbrev pub joined_words : List (List ℕ) → List ℕ
+joined_words [] = []
+joined_words (w ∷ []) = w
+joined_words (w ∷ w2 ∷ ws) = w ++ (32 ∷ joined_words (w2 ∷ ws))
+
+abbrev pub directive_row : Directive → Row
+directive_row d = plain_row 0 (37 ∷ joined_words d.words)
+
+-- `...` is only before a document with directives that is not the first
+abbrev pub end_rows : Bool → List Directive → List Row
+end_rows true ds = []
+end_rows false [] = []
+end_rows false (d ∷ ds) = plain_row 0 (codes "...") ∷ []
+
+abbrev pub start_row : Row
+start_row = record (plain_row 0 (codes "---")) { ending = at_document_start }
+
+-- the beginning of a document is on the first of these lines
+abbrev pub beginning_at : ℕ → List Row → List Row
+beginning_at start [] = []
+beginning_at start (r ∷ rs) = record r { items = start ∷ r.items } ∷ rs
+
+abbrev pub document_rows : LayoutSetting → Bool → Doc → DocumentTree → List Row
+document_rows c is_first d tree =
+    beginning_at d.start (end_rows is_first d.directives ++ (map directive_row d.directives ++ (start_row ∷ [])))
+    ++ rows c (root_spot c.style) tree.root
+
+abbrev pub stream_rows : LayoutSetting → Bool → List Doc → List DocumentTree → List Row
+stream_rows c is_first [] trees = []
+stream_rows c is_first (d ∷ ds) [] = []
+stream_rows c is_first (d ∷ ds) (tree ∷ trees) = document_rows c is_first d tree ++ stream_rows c false ds trees
+
+-- a document without its `---` begins on the first line of its root
+abbrev pub begun_at : ℕ → List Row → List Row
+begun_at start [] = []
+begun_at start (r ∷ rs) = record r { items = start ∷ r.items; begins = true } ∷ rs
+
+abbrev pub bare_rows : LayoutSetting → Doc → DocumentTree → List Row
+bare_rows c d tree = begun_at d.start (rows c (root_spot c.style) tree.root)
+
+-- all lines; the flag says whether the `---` of the first document is left out
+abbrev pub all_rows : LayoutSetting → Bool → List Doc → List DocumentTree → List Row
+all_rows c false ds trees = stream_rows c true ds trees
+all_rows c true [] trees = []
+all_rows c true (d ∷ ds) [] = []
+all_rows c true (d ∷ ds) (tree ∷ trees) = bare_rows c d tree ++ stream_rows c false ds trees

@@ -1,0 +1,7 @@
+pub mod TrailPass
+pub mod PrintPass
+pub mod Drafts
+pub mod HeldBlocks
+pub mod KnownLines
+pub mod Pages
+pub mod PrinterState

@@ -1,0 +1,192 @@
+//! The layout of a normal reading: one pass over its events. Columns count from 0 here.
+ghost use Rattle.std.specs.Prelude.{◌<◌, ◌≡◌, ◌≤◌, length, OnOk, IfOk};
+ghost use Rattle.std.specs.String.{string_bytes};
+ghost use Rattle.yf_stream.specs.WellFormed.{props_of};
+ghost use Rattle.yf_events.specs.Event.{event_value};
+ghost use Rattle.yf_print.specs.Passes.PrintPass as Printing;
+ghost use Rattle.yf_print.specs.Passes.Pages.{form_at, measure_at, placed_at, work_on};
+ghost use Rattle.yf_print.specs.Passes.PrintPass.{work_of};
+ghost use Rattle.yf_print.specs.Passes.PrinterState.{state_of};
+ghost use Rattle.yf_print.specs.Passes.TrailPass.{all_found};
+ghost use Rattle.yf_stream.specs.declared.stream.TheConstants.{LONGEST};
+
+use crate::leaves::push_leaf;
+use crate::looks::event_at;
+use crate::output::Output;
+use crate::printer::{
+    FrameState, Plan, PrintContext, PrintFrame, Role, begin_collection, next_document, next_spot,
+};
+use crate::trails::find_trails;
+use std::alloc::{AllocError, Global};
+use yf_events::event::Event;
+use yf_events::reading::Reading;
+use yf_forms::form::forms::Forms;
+use yf_forms::form::measures::Measures;
+use yf_forms::style::Style;
+
+/// The printer between two events.
+#[derive(Drop)]
+pub(crate) struct Printer {
+    output: Output,
+    /// The block collections that are open, the innermost last.
+    levels: Vec<PrintFrame>,
+    /// How many documents have begun.
+    documents: usize,
+    /// The index of the last event that needs no look.
+    done: usize,
+}
+
+impl Printer {
+    /// Prints a leaf, an empty node or a flow collection that is kept.
+    #[inline(always)]
+    fn leaf(&mut self, page: &PrintContext, i: usize, spot: Role) -> Result<(), AllocError>
+        requires { i < length page.now.reading.now.events }
+        ensures { OnOk result (state_of self.new ≡ Printing.leaf_at (work_on page.now) i (measure_at page.now i) (form_at page.now i)
+            (placed_at page.now i) spot (state_of self.old)) }
+    {
+        self.done = push_leaf(&mut self.output, page, i, spot)?;
+        Ok(())
+    }
+
+    /// Begins a block collection, or prints a collection that is kept or empty.
+    #[inline(always)]
+    fn collection(
+        &mut self,
+        page: &PrintContext,
+        i: usize,
+        spot: Role,
+        first: FrameState,
+    ) -> Result<(), AllocError>
+        requires { i < length page.now.reading.now.events }
+        ensures { OnOk result (state_of self.new ≡ Printing.collection_if (Printing.is_whole i (measure_at page.now i) (form_at page.now i))
+            (work_on page.now) i (measure_at page.now i) (form_at page.now i) (placed_at page.now i)
+            (props_of (placed_at page.now i).event) first spot (state_of self.old)) }
+    {
+        if page.plan.forms.at(i).is_kept || page.plan.measures.at(i).is_leaf(i) {
+            return self.leaf(page, i, spot);
+        }
+        begin_collection(&mut self.output, &mut self.levels, page, i, spot, first)?;
+        self.done = i;
+        Ok(())
+    }
+
+    /// Prints the node that the event begins, or begins it where it is a block collection.
+    #[inline(always)]
+    fn node_at(&mut self, page: &PrintContext, i: usize, spot: Role) -> Result<(), AllocError>
+        requires { i < length page.now.reading.now.events }
+        ensures { OnOk result (state_of self.new ≡ Printing.node_in (work_on page.now) i (measure_at page.now i) (form_at page.now i)
+            (placed_at page.now i) (placed_at page.now i).event spot (state_of self.old)) }
+    {
+        match event_at(page, i) {
+            Event::SeqStart { .. } => self.collection(page, i, spot, FrameState::Item),
+            Event::MapStart { .. } => self.collection(page, i, spot, FrameState::Key),
+            _ => self.leaf(page, i, spot),
+        }
+    }
+
+    /// Prints what is before the node that the event begins, and the node.
+    fn node(&mut self, page: &PrintContext, i: usize) -> Result<(), AllocError>
+        requires { i < length page.now.reading.now.events }
+        ensures { OnOk result (state_of self.new ≡ Printing.node (work_on page.now) i (measure_at page.now i) (form_at page.now i)
+            (placed_at page.now i) (state_of self.old)) }
+    {
+        let spot = next_spot(&mut self.output, &mut self.levels, page, i)?;
+        if page.plan.measures.at(i).is_leaf(i) {
+            return self.leaf(page, i, spot);
+        }
+        self.node_at(page, i, spot)
+    }
+
+    /// Begins the next document.
+    fn document(&mut self, page: &PrintContext) -> Result<(), AllocError>
+        ensures { OnOk result (state_of self.new ≡ Printing.document (work_on page.now) (state_of self.old)) }
+    {
+        self.documents = next_document(&mut self.output, page, self.documents)?;
+        Ok(())
+    }
+
+    /// Goes past one event.
+    #[inline(always)]
+    fn event(&mut self, page: &PrintContext, i: usize, event: &Event) -> Result<(), AllocError>
+        requires { i < length page.now.reading.now.events }
+        ensures { OnOk result (state_of self.new ≡ Printing.past_event (work_on page.now) i (measure_at page.now i) (form_at page.now i)
+            (placed_at page.now i) (event_value event.now) (state_of self.old)) }
+    {
+        match event {
+            Event::StreamStart => Ok(()),
+            Event::StreamEnd => Ok(()),
+            Event::DocEnd { .. } => Ok(()),
+            Event::DocStart { .. } => self.document(page),
+            Event::SeqEnd => {
+                let _ = self.levels.pop();
+                Ok(())
+            }
+            Event::MapEnd => {
+                let _ = self.levels.pop();
+                Ok(())
+            }
+            Event::Scalar { .. } => self.node(page, i),
+            Event::Alias { .. } => self.node(page, i),
+            Event::SeqStart { .. } => self.node(page, i),
+            Event::MapStart { .. } => self.node(page, i),
+        }
+    }
+
+    /// Goes past one event, which gets no look where it is within a node that is printed.
+    #[inline(always)]
+    fn advance(&mut self, page: &PrintContext, i: usize) -> Result<(), AllocError>
+        requires { i < length page.now.reading.now.events }
+        ensures { OnOk result (state_of self.new ≡ Printing.next (work_on page.now) i (placed_at page.now i) (state_of self.old)) }
+    {
+        if self.done < i {
+            return self.event(page, i, &event_at(page, i));
+        }
+        Ok(())
+    }
+}
+
+/// The text that is printed of a page.
+fn text_of(page: &PrintContext) -> Result<String, AllocError>
+    ensures printed { IfOk result (λ text. string_bytes text ≡ Printing.printed (work_on page.now)) }
+    ensures within { IfOk result (λ text. length (string_bytes text) ≤ LONGEST) }
+{
+    let mut printer = Printer {
+        output: Output::new(page.alloc),
+        levels: Vec::new(page.alloc),
+        documents: 0,
+        done: 0,
+    };
+    for i in 0..page.reading.len() {
+        printer.advance(page, i)?;
+    }
+    let Printer { output, .. } = printer;
+    output.finish(page)
+}
+
+/// The text that is printed of a reading by what was measured of it and by the forms of its nodes.
+pub fn layout_by(
+    alloc: Global,
+    text: &str,
+    reading: &Reading,
+    measures: Measures,
+    forms: Forms,
+    style: &Style,
+) -> Result<String, AllocError>
+    ensures printed { IfOk result (λ layout. string_bytes layout
+        ≡ Printing.printed (work_of text.now reading.now style.now measures forms (all_found reading.now measures forms))) }
+    ensures within { IfOk result (λ text. length (string_bytes text) ≤ LONGEST) }
+{
+    let trails = find_trails(alloc, reading, &measures, &forms)?;
+    let plan = Plan {
+        measures,
+        forms,
+        trails,
+        style: *style,
+    };
+    text_of(&PrintContext {
+        alloc,
+        text,
+        reading,
+        plan: &plan,
+    })
+}

@@ -1,0 +1,14 @@
+//! Printing a normal reading: one pass over its events, by what was measured and decided of them.
+#![tactic(auto)]
+
+pub(crate) mod bare;
+pub(crate) mod comment_texts;
+pub mod layout;
+pub(crate) mod leaf_trails;
+pub(crate) mod leaves;
+pub(crate) mod looks;
+pub mod open_blocks;
+pub mod output;
+pub mod printer;
+pub mod source_columns;
+pub mod trails;

@@ -1,0 +1,228 @@
+//! Which comments are after the text of a line, at its end: they trail a leaf or a key.
+ghost use Rattle.std.specs.Prelude.{◌≡◌, ◌<◌, ◌≤◌, false, get_or, length, map, replicate, set, slice_get, true, IfOk, None};
+ghost use Rattle.yf_comments.specs.Comment.{comment_value};
+ghost use Rattle.yf_print.specs.Passes.TrailPass as Trailing;
+ghost use Rattle.yf_print.specs.Passes.TrailPass.{all_found, found, given, keys_taken, leaf_if, state, taken};
+
+use crate::leaf_trails::LeafTrails;
+use std::alloc::{AllocError, Global};
+use yf_events::event::Span;
+use yf_events::reading::Reading;
+use yf_forms::form::comments_before::first_after;
+use yf_forms::form::forms::Forms;
+use yf_forms::form::measures::Measures;
+
+/// The comments of a reading that trail a leaf or a key.
+#[derive(Drop)]
+pub struct Trails {
+    /// For each event that begins a leaf, the index of the comment that trails it.
+    of_leaf: LeafTrails,
+    /// For each comment, whether it trails a leaf or a key.
+    is_trailing: Vec<bool>,
+}
+
+impl Trails {
+    /// The index of the comment that trails the leaf that the event at an index begins.
+    pub fn of_leaf(&self, i: usize) -> Option<usize>
+        ensures { result ≡ get_or self.now.of_leaf i None }
+    {
+        self.of_leaf.at(i)
+    }
+
+    /// Whether the comment at an index trails a leaf or a key.
+    pub fn is_trailing(&self, k: usize) -> bool
+        ensures { result ≡ get_or self.now.is_trailing.items k false }
+    {
+        match self.is_trailing.get(k) {
+            Some(is_trailing) => *is_trailing,
+            None => false,
+        }
+    }
+}
+
+/// A leaf after which the next comment may be.
+#[derive(Clone, Copy)]
+pub struct Leaf {
+    pub event: usize,
+    /// The byte offset of its end.
+    pub end: usize,
+    /// The index of the first comment that begins after its start.
+    pub first: usize,
+}
+
+/// Notes that a comment trails.
+fn take(is_trailing: &mut Vec<bool>, k: usize)
+    ensures { is_trailing.new.items ≡ set is_trailing.old.items k true }
+{
+    if k < is_trailing.len() {
+        is_trailing[k] = true;
+    }
+}
+
+/// Notes that a comment, if there is one, trails a key.
+fn take_key(is_trailing: &mut Vec<bool>, comment: Option<usize>)
+    ensures { is_trailing.new.items ≡ taken is_trailing.old.items comment }
+{
+    if let Some(k) = comment {
+        take(is_trailing, k);
+    }
+}
+
+/// Whether a comment that begins after the leaf's start, and before the next leaf, is inside of the leaf or on the line
+/// on which it ends.
+fn is_at(reading: &Reading, end: usize, k: usize) -> bool
+    ensures { result ≡ Trailing.is_at reading.now end k }
+{
+    let comments = reading.comments();
+    if k < comments.len() {
+        if comments[k].offset < end {
+            return true;
+        }
+        return reading.on_leaf_line(k);
+    }
+    false
+}
+
+/// Whether the first comment after a leaf trails it, where the next leaf begins after the comments before `until`.
+fn trails_leaf(trails: &Trails, reading: &Reading, leaf: &Leaf, until: usize) -> bool
+    ensures { result ≡ Trailing.trails_leaf reading.now trails.now.is_trailing.items leaf.now until }
+{
+    if leaf.first < until {
+        if trails.is_trailing(leaf.first) {
+            return false;
+        }
+        return is_at(reading, leaf.end, leaf.first);
+    }
+    false
+}
+
+/// Gives the leaf the first of the comments from its start to the one of the index `until`, if that trails it.
+fn close(
+    trails: &mut Trails,
+    reading: &Reading,
+    leaf: Option<Leaf>,
+    until: usize,
+) -> Result<(), AllocError>
+    ensures { IfOk result (λ _. found trails.new ≡ given reading.now leaf until (found trails.old)) }
+{
+    if let Some(leaf) = leaf {
+        if trails_leaf(trails, reading, &leaf, until) {
+            take(&mut trails.is_trailing, leaf.first);
+            trails.of_leaf.set(leaf.event, leaf.first)?;
+        }
+    }
+    Ok(())
+}
+
+/// The leaf that the event at an index begins, where it begins one; the comments before the index `from` begin before it.
+fn leaf_at(
+    reading: &Reading,
+    measures: &Measures,
+    i: usize,
+    span: Option<Span>,
+    from: usize,
+) -> Option<Leaf>
+    ensures { result ≡ leaf_if (Trailing.is_leaf measures.now i) reading.now.comments i from span }
+{
+    if measures.at(i).is_leaf(i) {
+        if let Some(span) = span {
+            return Some(Leaf {
+                event: i,
+                end: span.end,
+                first: first_after(reading.comments(), from, span.start),
+            });
+        }
+    }
+    None
+}
+
+/// The index of the first comment after a leaf.
+fn first_of(leaf: Option<Leaf>) -> usize
+    ensures { result ≡ Trailing.first_of leaf }
+{
+    match leaf {
+        Some(leaf) => leaf.first,
+        None => 0,
+    }
+}
+
+/// Goes past one event, which begins a leaf with this place in the text, or none, and answers the last leaf.
+fn pass(
+    trails: &mut Trails,
+    reading: &Reading,
+    measures: &Measures,
+    i: usize,
+    span: Option<Span>,
+    last: Option<Leaf>,
+) -> Result<Option<Leaf>, AllocError>
+    ensures { IfOk result (λ next. state (found trails.new) next ≡ Trailing.next reading.now measures.now i span
+        (state (found trails.old) last)) }
+{
+    match leaf_at(reading, measures, i, span, first_of(last)) {
+        Some(leaf) => {
+            close(trails, reading, last, leaf.first)?;
+            Ok(Some(leaf))
+        }
+        None => Ok(last),
+    }
+}
+
+/// How many comments there are.
+fn comment_count(reading: &Reading) -> usize
+    ensures { result ≡ length reading.now.comments }
+{
+    reading.comments().len()
+}
+
+/// So many comments of which none trails.
+fn none_trailing(alloc: Global, count: usize) -> Result<Vec<bool>, AllocError>
+    ensures { IfOk result (λ list. list.items ≡ replicate count false) }
+{
+    let list = vec![in alloc; false; count]?;
+    Ok(list)
+}
+
+/// Notes the comments that trail a key.
+fn take_keys(is_trailing: &mut Vec<bool>, forms: &Forms)
+    ensures { is_trailing.new.items ≡ keys_taken forms.now is_trailing.old.items }
+{
+    for i in 0..forms.len() {
+        take_key(is_trailing, forms.at(i).key_comment);
+    }
+}
+
+/// No comment trails yet but those that end the line of a key.
+fn trails_of_keys(alloc: Global, reading: &Reading, forms: &Forms) -> Result<Trails, AllocError>
+    ensures { IfOk result (λ trails. found trails ≡ (Trailing.start reading.now forms.now).found) }
+{
+    let mut is_trailing = none_trailing(alloc, comment_count(reading))?;
+    take_keys(&mut is_trailing, forms);
+    let of_leaf = LeafTrails::none(alloc, reading.len())?;
+    Ok(Trails {
+        of_leaf,
+        is_trailing,
+    })
+}
+
+/// Finds the comments that trail: those that end a key's line, and for each leaf the first comment after its start and before
+/// the next leaf, where it is inside of the leaf or on the line on which the leaf ends.
+pub fn find_trails(
+    alloc: Global,
+    reading: &Reading,
+    measures: &Measures,
+    forms: &Forms,
+) -> Result<Trails, AllocError>
+    ensures { IfOk result (λ trails. found trails ≡ all_found reading.now measures.now forms.now) }
+{
+    let mut trails = trails_of_keys(alloc, reading, forms)?;
+    let mut last: Option<Leaf> = None;
+    let count = comment_count(reading);
+    for i in 0..reading.len() {
+        if count <= first_of(last) {
+            return Ok(trails);
+        }
+        last = pass(&mut trails, reading, measures, i, reading.span(i), last)?;
+    }
+    close(&mut trails, reading, last, count)?;
+    Ok(trails)
+}

@@ -1,0 +1,8 @@
+-- `check`: what rules find, as findings at positions
+pub mod Findings
+-- what is known of texts, lines and readings, for several rules
+pub mod Texts
+-- each rule but indentation: what its pass finds is its set
+pub mod RuleSets
+-- indentation: what its passes find is its set
+pub mod Indentation

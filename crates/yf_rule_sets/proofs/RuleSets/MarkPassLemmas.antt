@@ -1,0 +1,175 @@
+-- Laws of a pass over byte order marks and the parts of the text that scalars have.
+use Rattle.std.proofs.Common.{◌≡◌, ◌≢◌, ℕ, ◌+◌, ◌<◌, ◌≤◌, Bool, true, false, List, [], Option, Some, None, length, max, refl, sym, subst, ap, ◌∙◌, inl, inr, ⊎_elim, arith, eqb, MatchBool}
+use Rattle.std.specs.Borrow.{Bor}
+use Rattle.std.specs.Prelude.{slice_get}
+use Rattle.std.specs.List.Sorted.{IsNonDecreasingBy, IsPermutation}
+use Rattle.std.proofs.lemmas.Bool.{cases_lt, false≢true}
+use Rattle.std.proofs.lemmas.List.{length-map}
+use Rattle.std.proofs.lemmas.List.Sorted.{Contains-permutation, IsPermutation-sym}
+use Rattle.std.proofs.lemmas.Option.{slice_get_within, slice_get-get_or, get_or_from_slice_get, same_Some}
+use Rattle.yf_chars.specs.Text.{code}
+use Rattle.std.specs.List.{list_any}
+use Rattle.std.specs.Str.{IsUtf8}
+use Rattle.std.proofs.lemmas.List.Folds.{list_any_at}
+use Rattle.yf_chars.proofs.TextLemmas.{bytes_from_mark, within_from_code}
+use Rattle.yf_events.specs.Event.{event_value, scalar_node}
+use Rattle.yf_events.specs.declared.event.Event.{Event}
+use Rattle.yf_events.specs.declared.event.Event.TheVariants.{Scalar}
+use Rattle.yf_events.specs.declared.event.ScalarStyle.{ScalarStyle}
+use Rattle.yf_props.specs.Props.{PropsValue, props_value}
+use Rattle.yf_props.specs.declared.props.Props.{Props}
+use Rattle.yf_events.specs.Reading.{events_of, spans_of}
+use Rattle.yf_events.specs.declared.event.Span.{Span}
+use Rattle.yf_events.specs.declared.lists.Lists.{Lists}
+use Rattle.yf_rule_sets.specs.Passes.FarthestEnds.{Covers, AllBegin, NoneBegins, IsBeyond, IsMark}
+use Rattle.yf_rule_sets.specs.Passes.FarthestEnds.IsBeyond.{is_beyond}
+use Rattle.yf_rule_sets.specs.RuleSets.Exact.{Exactly, Sole, IsTheOne}
+use Rattle.yf_rule_sets.proofs.Texts.ExactLemmas.{none_yet}
+use Rattle.yf_rule_sets.specs.RuleSets.Scalars.{ScalarSpan, IsWithin, LooseMark}
+use Rattle.yf_rule_sets.specs.RuleSets.Scalars.ScalarSpan.{of_scalar}
+use Rattle.yf_rule_sets.specs.RuleSets.Scalars.LooseMark.{in_no_scalar}
+
+-- an index at which something is said is one of an event
+pub span_event : {r : Lists} {i : ℕ} {s : Span} → ScalarSpan r i s → i < length r.events
+span_event {r} {i} (of_scalar {props} {style} {text} h) =
+    let n = slice_get_within (events_of r) i (scalar_node props style text) h.event in omega (arith, n, length-map r.events (λ e. e.event))
+
+-- the part of a scalar is one
+pub span_sole : {r : Lists} {i : ℕ} {s x : Span} → slice_get (spans_of r) i ≡ Some (Some s) → ScalarSpan r i x → x ≡ s
+span_sole e (of_scalar h) = same_Some _ _ (same_Some _ _ (sym h.part ∙ e))
+
+pub span_none : {r : Lists} {i : ℕ} {x : Span} → slice_get (spans_of r) i ≡ Some None → ScalarSpan r i x → ⊥
+span_none {x = x} e (of_scalar h) = nothing (same_Some _ _ (sym h.part ∙ e)) where
+  nothing : {x : Span} → Some x ≡ None → ⊥
+  nothing e = cc
+
+-- the same parts in another order
+pub sorted_same : {Part : ℕ → Span → Type 0} (xs ys : List Span) → IsPermutation xs ys → Exactly Part xs → Exactly Part ys
+sorted_same xs ys p s = record {
+  only = λ x c. s.only x (Contains-permutation ys xs x (IsPermutation-sym xs ys p) c);
+  all = λ k x h. Contains-permutation xs ys x p (s.all k x h);
+}
+
+-- no parts before the first, and one more
+pub covers_none : (spans : List Span) → Covers spans 0 0
+covers_none spans = record { bound = λ k s e l. absurd (omega arith); reached = inl refl }
+
+pub begin_none : (spans : List Span) (offset : ℕ) → AllBegin spans 0 offset
+begin_none spans offset = record { all = λ k s e l. absurd (omega arith) }
+
+pub covers_more : (spans : List Span) (count reach : ℕ) (s : Span) → slice_get spans count ≡ Some s → Covers spans count reach → Covers spans (count + 1) (max reach s.end)
+covers_more spans count reach s e c = record {
+  bound = λ k x f l. ⊎_elim (λ (h : k < count). let b = c.bound k x f h in omega (arith, b))
+      (λ (h : count ≤ k). let q : x ≡ s = same_Some _ _ (sym f ∙ subst (λ m. slice_get spans m ≡ Some s) (omega (arith, h, l)) e) in
+      let v = ap (λ (w : Span). w.end) q in omega (arith, v))
+      (cases_lt k count);
+  reached = ⊎_elim
+      (λ (h : reach < s.end). inr (count, s, e, omega arith, omega (arith, h)))
+      (λ (h : s.end ≤ reach). ⊎_elim
+      (λ (z : reach ≡ 0). inl (omega (arith, h, z)))
+      (λ (w : (k : ℕ) × (x : Span) × (slice_get spans k ≡ Some x) × (k < count) × (x.end ≡ reach)). inr (w.0, w.1, w.2, omega (arith, w.3), omega (arith, w.4, h)))
+      c.reached)
+      (cases_lt reach s.end);
+}
+
+pub begin_more : (spans : List Span) (count offset : ℕ) (s : Span) → slice_get spans count ≡ Some s → s.start ≤ offset → AllBegin spans count offset
+    → AllBegin spans (count + 1) offset
+begin_more spans count offset s e b c = record {
+  all = λ k x f l. ⊎_elim (λ (h : k < count). c.all k x f h)
+      (λ (h : count ≤ k). let q : x ≡ s = same_Some _ _ (sym f ∙ subst (λ m. slice_get spans m ≡ Some s) (omega (arith, h, l)) e) in
+      let v = ap (λ (w : Span). w.start) q in omega (arith, v, b))
+      (cases_lt k count);
+}
+
+-- the parts from that one on begin after the offset, since they ascend
+pub none_from : (spans : List Span) (count offset : ℕ) (s : Span) → slice_get spans count ≡ Some s → offset < s.start → IsNonDecreasingBy (λ (x : Span). x.start) spans
+    → NoneBegins spans count offset
+none_from spans count offset s e b up = record {
+  none = λ k x f l.
+      let n = slice_get_within spans k x f in
+      let u = up count k s l n in
+      let p = ap (λ (w : Span). w.start) (get_or_from_slice_get spans count s s e) in
+      let q = ap (λ (w : Span). w.start) (get_or_from_slice_get spans k x s f) in
+      omega (arith, u, p, q, b);
+}
+
+pub none_left : (spans : List Span) (count offset : ℕ) → length spans ≤ count → NoneBegins spans count offset
+none_left spans count offset h = record { none = λ k x f l. absurd (let n = slice_get_within spans k x f in omega (arith, n, l, h)) }
+
+pub begin_later : (spans : List Span) (count i j : ℕ) → i ≤ j → AllBegin spans count i → AllBegin spans count j
+begin_later spans count i j l b = record { all = λ k s e h. let w = b.all k s e h in omega (arith, w, l) }
+
+-- what nothing reaches is in no part, and what is in no part is not reached
+module _ {Part : ℕ → Span → Type 0} {spans : List Span} {count reach k : ℕ} (s : Exactly Part spans) (c : Covers spans count reach)
+    (b : AllBegin spans count k) (n : NoneBegins spans count k) where
+  pub in_cover : (i : ℕ) (x : Span) → Part i x → IsWithin x k → k < reach
+  in_cover i x h w =
+      let m = s.all i x h in
+      let e = slice_get-get_or spans m.0 x m.1 in
+      let f : slice_get spans m.0 ≡ Some x = subst (λ v. slice_get spans m.0 ≡ Some v) m.2 e in
+      ⊎_elim (λ (l : m.0 < count). let q = c.bound m.0 x f l in omega (arith, q, w.to))
+      (λ (l : count ≤ m.0). absurd (let q = n.none m.0 x f l in omega (arith, q, w.from)))
+      (cases_lt m.0 count)
+
+  pub out_of_cover : ((i : ℕ) (x : Span) → Part i x → IsWithin x k → ⊥) → reach ≤ k
+  out_of_cover f = ⊎_elim (λ (z : reach ≡ 0). omega (arith, z))
+      (λ (w : (m : ℕ) × (x : Span) × (slice_get spans m ≡ Some x) × (m < count) × (x.end ≡ reach)).
+      ⊎_elim (λ (l : k < reach).
+      let h = s.only w.1 (w.0, slice_get_within spans w.0 w.1 w.2, get_or_from_slice_get spans w.0 w.1 w.1 w.2) in
+      absurd (f h.0 w.1 h.1 (record { from = b.all w.0 w.1 w.2 w.3; to = omega (arith, l, w.4) })))
+      (λ (l : reach ≤ k). l) (cases_lt k reach))
+      c.reached
+
+-- what is at fault exactly where a character of a kind is that nothing reaches
+pub kind_answered : {Kind : ℕ → Type 0} {t : List ℕ} {reach k : ℕ} {Fault : ℕ → Type 0} → ((o : ℕ) → IsBeyond Kind t reach k o → Fault o)
+    → ((o : ℕ) → Fault o → IsBeyond Kind t reach k o) → (answer : Option ℕ) → IsTheOne (IsBeyond Kind t reach k) answer → IsTheOne Fault answer
+kind_answered to back None f = λ o h. f o (back o h)
+kind_answered to back (Some o) a = record { holds = to o a.holds; only = λ x h. a.only x (back x h) }
+
+pub sole_kind : {Kind : ℕ → Type 0} (t : List ℕ) (reach k : ℕ) → Kind (code t k) → reach ≤ k → Sole (IsBeyond Kind t reach k) k
+sole_kind {Kind} t reach k e l = record { holds = is_beyond e l; only = λ o h. there h } where
+  there : {o : ℕ} → IsBeyond Kind t reach k o → o ≡ k
+  there (is_beyond e l) = refl
+
+-- a mark that nothing reaches is in no scalar
+module _ (t : List ℕ) (r : Lists) (spans : List Span) (count reach k : ℕ) (s : Exactly (ScalarSpan r) spans) (c : Covers spans count reach)
+    (b : AllBegin spans count k) (n : NoneBegins spans count k) where
+  loose : (o : ℕ) → IsBeyond IsMark t reach k o → LooseMark t r k o
+  loose _ (is_beyond e l) = in_no_scalar e (λ i x h w. let q = in_cover s c b n i x h w in omega (arith, q, l))
+
+  beyond_all : (o : ℕ) → LooseMark t r k o → IsBeyond IsMark t reach k o
+  beyond_all _ (in_no_scalar e f) = is_beyond e (out_of_cover s c b n f)
+
+  pub mark_answered : (answer : Option ℕ) → IsTheOne (IsBeyond IsMark t reach k) answer → IsTheOne (LooseMark t r k) answer
+  mark_answered answer a = kind_answered loose beyond_all answer a
+
+pub mark_text : {t : List ℕ} {r : Lists} {k o : ℕ} → LooseMark t r k o → k < length t
+mark_text {t} {k = k} (in_no_scalar e f) = within_from_code t k (omega (arith, e))
+
+-- the scalar that an event is, as the code has it
+pub scalar_event : (r : Lists) (i : ℕ) (e : Event) (props : Props) (style : ScalarStyle) (text : Bor (List ℕ)) → slice_get (events_of r) i ≡ Some (event_value e)
+    → e ≡ Scalar props style text → slice_get (events_of r) i ≡ Some (scalar_node (props_value props) style text.now)
+scalar_event r i e props style text h q = h ∙ ap (λ v. Some (event_value v)) q
+
+pub span_answers : (r : Lists) (i : ℕ) (props : PropsValue) (style : ScalarStyle) (text : List ℕ) (o : Option Span)
+    → slice_get (events_of r) i ≡ Some (scalar_node props style text) → slice_get (spans_of r) i ≡ Some o → IsTheOne (ScalarSpan r i) o
+span_answers r i props style text None e p = λ x h. span_none p h
+span_answers r i props style text (Some s) e p = record { holds = of_scalar (record { event = e; part = p }); only = λ x h. span_sole p h }
+
+-- a text without the first byte of a mark has no mark
+pub no_mark : (t : List ℕ) (b : Bool) → IsUtf8 t → b ≡ list_any (λ y. eqb y 239) t → MatchBool b (Unit {0}) ((k : ℕ) → code t k ≢ 0xFEFF)
+no_mark t true u e = tt
+no_mark t false u e = λ k h.
+    let marked = bytes_from_mark t k u h in
+    false≢true (e ∙ list_any_at (λ y. eqb y 239) t k 0 (omega (arith, marked.0)) (ap (λ y. eqb y 239) marked.1))
+
+-- and so no mark outside of scalars
+pub no_loose_mark : (t : List ℕ) (r : Lists) (xs : List ℕ) → xs ≡ [] → ((k : ℕ) → code t k ≢ 0xFEFF) → Exactly (LooseMark t r) xs
+no_loose_mark t r xs e none =
+    let empty = none_yet (LooseMark t r) xs e in
+    record {
+      only = λ x c. let found = empty.only x c in (found.0, found.2);
+      all = λ k x p. absurd (never k x p);
+    } where
+      never : (k x : ℕ) → LooseMark t r k x → ⊥
+      never k _ (in_no_scalar h f) = none k h

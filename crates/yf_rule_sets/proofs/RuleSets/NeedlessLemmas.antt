@@ -1,0 +1,108 @@
+-- Laws of keys that are written with a `?` and wanted without.
+use Rattle.std.proofs.Common.{◌≡◌, ℕ, ◌<◌, ◌≤◌, ◌⊎◌, Bool, true, false, ◌&&◌, List, [], ◌∷◌, Option, Some, None, length, get_or, refl, sym, ap, subst, ◌∙◌, inl, inr, ⊎_elim, arith, true≢false}
+use Rattle.std.specs.List.{Contains}
+use Rattle.std.specs.Prelude.{◌||◌, ◌==◌, slice_get}
+use Rattle.std.proofs.lemmas.Bool.{and_parts, cases_lt}
+use Rattle.std.proofs.lemmas.Bool.Decides.{nat_tests}
+use Rattle.std.proofs.lemmas.List.{length-map}
+use Rattle.std.proofs.lemmas.Option.{same_Some, slice_get_within}
+use Rattle.yf_forms.specs.NormalForms.Forms.{no_form, stream_forms}
+use Rattle.yf_forms.specs.Nodes.ImplicitKeys.{begins_implicit}
+use Rattle.yf_forms.specs.Nodes.SingleAnswers.{block_keys}
+use Rattle.yf_forms.specs.NormalForms.Normal.{setting_of}
+use Rattle.yf_forms.specs.declared.form.decide.Form.{Form}
+use Rattle.yf_forms.specs.declared.style.Style.{Style}
+use Rattle.yf_forms.proofs.Decide.FlagLemmas.{implicit_there}
+use Rattle.yf_events.specs.Reading.{entries_of}
+use Rattle.yf_events.specs.Tree.{DocumentTree}
+use Rattle.yf_events.specs.declared.event.Entry.{Entry}
+use Rattle.yf_events.specs.declared.lists.Lists.{Lists}
+use Rattle.yf_lines.specs.Lines.{Table}
+use Rattle.yf_rule_sets.specs.RuleSets.Exact.{IsTheOne, Sole}
+use Rattle.yf_rule_sets.specs.RuleSets.Layouts.{NeedlessMark}
+use Rattle.yf_rule_sets.specs.Passes.MarkedKeys.{TellsKeys}
+use Rattle.yf_rule_sets.specs.Passes.OuterFlow.{FlowsDone}
+use Rattle.yf_rule_sets.specs.RuleSets.QuestionMarks.{HasQuestionMark, IsMarked, marked}
+use Rattle.yf_rule_sets.proofs.Texts.FlowLemmas.{is_inside, is_outside}
+use Rattle.yf_rule_sets.proofs.RuleSets.KeySetLemmas.{head_or_later, is_head, is_later}
+use Rattle.yf_chars.proofs.Tests.{some_none}
+use Rattle.yf_forms.proofs.NormalForms.NormalLemmas.{is_leaf}
+
+-- a list of keys, and the test whether one begins at an index
+
+or_other : (a b : Bool) → b ≡ true → (a || b) ≡ true
+or_other true b e = refl
+or_other false b e = e
+
+or_cases : (a b : Bool) → (a || b) ≡ true → (a ≡ true) ⊎ (b ≡ true)
+or_cases true b e = inl refl
+or_cases false b e = inr e
+
+same_number : (j i : ℕ) → (j == i) ≡ true → j ≡ i
+same_number j i e = grind (arith, nat_tests)
+
+its_number : (i : ℕ) → ((i == i) && true) ≡ true
+its_number i = grind (arith, nat_tests)
+
+listed : (ks : List (ℕ × Bool)) (i : ℕ) → begins_implicit ks i ≡ true → Contains ks (i, true)
+listed [] i e = absurd (true≢false (sym e))
+listed ((j, b) ∷ ks) i e = ⊎_elim
+    (λ (h : ((j == i) && b) ≡ true).
+    let p = and_parts (j == i) b h in
+    subst (λ w. Contains ((j, b) ∷ ks) (w, true)) (same_number j i p.0) (subst (λ w. Contains ((j, b) ∷ ks) (j, w)) p.1 (is_head (j, b) ks)))
+    (λ (h : begins_implicit ks i ≡ true). is_later (j, b) ks (i, true) (listed ks i h))
+    (or_cases ((j == i) && b) (begins_implicit ks i) e)
+
+tested : (ks : List (ℕ × Bool)) (i : ℕ) → Contains ks (i, true) → begins_implicit ks i ≡ true
+tested [] i c = absurd (omega (arith, c.1))
+tested (k ∷ ks) i c = ⊎_elim
+    (λ (e : k ≡ (i, true)). is_leaf ((k.0 == i) && k.1) (begins_implicit ks i) (ap (λ w. (w.0 == i) && w.1) e ∙ its_number i))
+    (λ (h : Contains ks (i, true)). or_other ((k.0 == i) && k.1) (begins_implicit ks i) (tested ks i h))
+    (head_or_later k ks (i, true) c)
+
+-- the event 0 begins no key
+no_first_key : (t : List ℕ) (r : Lists) (s : Style) (trees : List DocumentTree) → begins_implicit (block_keys t r s trees) 0 ≡ false
+no_first_key t r s trees = sym (implicit_there t r s trees 0)
+
+pub tells_keys : (t : List ℕ) (r : Lists) (s : Style) (trees : List DocumentTree) (forms : List Form) → forms ≡ stream_forms t (setting_of r s) (setting_of r s) trees → TellsKeys t r s trees forms
+tells_keys t r s trees forms e = record { tells = λ i. ap (λ fs. (get_or fs i no_form).is_implicit) e ∙ implicit_there t r s trees i }
+
+-- entries with a `?`
+
+pub marked_within : {t : List ℕ} {r : Lists} {i o : ℕ} → IsMarked t r i o → i < length r.events
+marked_within {r = r} {i = i} (marked {entry = entry} at mark) =
+    let w = slice_get_within (entries_of r) i (Some entry) at in omega (arith, w, length-map r.events (λ e. e.entry))
+
+module _ (t : List ℕ) (r : Lists) (i : ℕ) where
+  pub marked_here : (entry : Entry) → slice_get (entries_of r) i ≡ Some (Some entry) → HasQuestionMark t entry.start → Sole (IsMarked t r i) entry.start
+  marked_here entry e m = record { holds = marked e m; only = λ o q. only q } where
+    only : {o : ℕ} → IsMarked t r i o → o ≡ entry.start
+    only (marked f n) = ap (λ (w : Entry). w.start) (same_Some _ _ (same_Some _ _ (sym f ∙ e)))
+
+  pub not_marked : (entry : Entry) → slice_get (entries_of r) i ≡ Some (Some entry) → (HasQuestionMark t entry.start → ⊥) → (o : ℕ) → IsMarked t r i o → ⊥
+  not_marked entry e n o (marked f m) = n (subst (λ (w : Entry). HasQuestionMark t w.start) (same_Some _ _ (same_Some _ _ (sym f ∙ e))) m)
+
+  pub no_entry : slice_get (entries_of r) i ≡ Some None → (o : ℕ) → IsMarked t r i o → ⊥
+  no_entry e o (marked f m) = some_none (same_Some _ _ (sym f ∙ e))
+
+-- what is answered of one event
+
+module _ (src : Table) (r : Lists) (house : Style) (trees : List DocumentTree) (i done : ℕ) (d : FlowsDone r.events i done) where
+  pub not_outside : i ≤ done → (o : ℕ) → NeedlessMark src r house trees i o → ⊥
+  not_outside l o n = ⊎_elim (λ (z : 0 < i). is_inside d z l n.outside)
+      (λ (z : i ≤ 0).
+      let e = tested (block_keys src.text r house trees) i n.key in
+      true≢false (sym e ∙ ap (begins_implicit (block_keys src.text r house trees)) (let q : i ≡ 0 = omega (arith, z) in q) ∙ no_first_key src.text r house trees))
+      (cases_lt 0 i)
+
+  module _ (forms : List Form) (k : TellsKeys src.text r house trees forms) where
+    pub not_implicit : (get_or forms i no_form).is_implicit ≡ false → (o : ℕ) → NeedlessMark src r house trees i o → ⊥
+    not_implicit f o n = true≢false (sym (tested (block_keys src.text r house trees) i n.key) ∙ sym (k.tells i) ∙ f)
+
+    pub if_marked : (answer : Option ℕ) → done < i → (get_or forms i no_form).is_implicit ≡ true → IsTheOne (IsMarked src.text r i) answer
+        → IsTheOne (NeedlessMark src r house trees i) answer
+    if_marked None l f a = λ o n. a o n.marked
+    if_marked (Some o) l f a = record {
+      holds = record { key = listed (block_keys src.text r house trees) i (sym (k.tells i) ∙ f); outside = is_outside d l; marked = a.holds };
+      only = λ p n. a.only p n.marked;
+    }

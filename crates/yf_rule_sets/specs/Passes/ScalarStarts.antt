@@ -1,0 +1,13 @@
+-- Where the content of a scalar begins.
+use Rattle.std.specs.Prelude.{ℕ, List, Option, Some, None}
+use Rattle.yf_forms.specs.Nodes.ContentStart.{content_start}
+use Rattle.yf_events.specs.declared.event.ScalarStyle.{ScalarStyle}
+use Rattle.yf_events.specs.declared.event.Span.{Span}
+use Rattle.yf_events.specs.declared.lists.Lists.{Lists}
+use Rattle.yf_props.specs.Props.{PropsValue}
+use Rattle.yf_rule_sets.specs.RuleSets.Scalars.{IsScalar}
+
+-- what is answered of the event of index i: nothing where it is no scalar with a part of the text
+pub data StartOf (t : List ℕ) (r : Lists) (i : ℕ) : Option ℕ → Type 0 where
+  no_part : ((props : PropsValue) (style : ScalarStyle) (text : List ℕ) (s : Span) → IsScalar r i props style text s → ⊥) → StartOf t r i None
+  of_part : {props : PropsValue} {style : ScalarStyle} {text : List ℕ} {s : Span} → IsScalar r i props style text s → StartOf t r i (Some (content_start t s props))

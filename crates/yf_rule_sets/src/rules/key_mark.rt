@@ -1,0 +1,80 @@
+//! Rule 13, key-mark.
+ghost use Rattle.std.specs.Prelude.{◌≡◌, ◌<◌, ℕ, false, List, length, IfOk};
+ghost use Rattle.yf_forms.specs.declared.style.Style.{Style};
+ghost use Rattle.yf_events.specs.Tree.{DocumentTree};
+ghost use Rattle.yf_rule_sets.specs.RuleSets.Exact.{IsTheOne};
+ghost use Rattle.yf_rule_sets.specs.RuleSets.Layouts.{NeedlessMark};
+ghost use Rattle.yf_rule_sets.specs.Passes.MarkedKeys.{TellsKeys};
+ghost use Rattle.yf_rule_sets.specs.RuleSets.QuestionMarks.{IsMarked};
+ghost use Rattle.yf_rule_sets.specs.Passes.OuterFlow.{FlowsDone};
+ghost use Rattle.yf_rule_sets.specs.Sets.{key_mark_at};
+
+use crate::facts::found::{FoundOffsets, Global, Reading, Src, Style, push_found};
+use crate::facts::outer_flow::past_flow;
+use crate::facts::whites::has_question_mark;
+pub use crate::rules::StyleRule::KeyMark;
+use yf_forms::form::decide::decide;
+use yf_forms::form::forms::Forms;
+use yf_forms::form::measure::measure_all;
+
+/// The `?` of an entry of a block mapping whose key the house style writes without it.
+pub fn offsets(alloc: Global, src: &Src, reading: &Reading, style: &Style) -> FoundOffsets
+    ensures { IfOk result (λ offsets. key_mark_at src.now reading.now style.now offsets.items) }
+{
+    if !has_marks(src, reading) {
+        return Ok(Vec::new(alloc));
+    }
+    let measures = measure_all(alloc, src, reading, style)?;
+    let forms = decide(alloc, &measures, reading, style)?;
+    let mut offsets = Vec::new(alloc);
+    let mut done = 0;
+    for i in 0..reading.len() {
+        push_found(&mut offsets, needless(src, reading, &forms, i, done))?;
+        done = past_flow(reading, &measures, i, done);
+    }
+    Ok(offsets)
+}
+
+/// The `?` with which the entry is written that the event begins, if it begins one that is.
+fn mark_of(src: &Src, reading: &Reading, i: usize) -> Option<usize>
+    requires { i < length reading.now.events }
+    ensures { IsTheOne (IsMarked src.now.text reading.now i) result }
+{
+    match reading.entry(i) {
+        Some(entry) => {
+            if has_question_mark(src.text(), entry) {
+                return Some(entry.start);
+            }
+            None
+        }
+        None => None,
+    }
+}
+
+/// Whether any entry is written with a `?`.
+fn has_marks(src: &Src, reading: &Reading) -> bool
+    ensures { result ≡ false → (i o : ℕ) → IsMarked src.now.text reading.now i o → ⊥ }
+{
+    for i in 0..reading.len() {
+        match mark_of(src, reading, i) {
+            Some(_) => return true,
+            None => {}
+        }
+    }
+    false
+}
+
+/// The `?` before the key, if it is to be written without; keys that begin up to the event of the index `done` are in a flow collection.
+fn needless(src: &Src, reading: &Reading, forms: &Forms, i: usize, done: usize) -> Option<usize>
+    requires { i < length reading.now.events }
+    ensures { (house : Style) (trees : List DocumentTree) → TellsKeys src.now.text reading.now house trees forms.now
+        → FlowsDone reading.now.events i done → IsTheOne (NeedlessMark src.now reading.now house trees i) result }
+{
+    if i <= done {
+        return None;
+    }
+    if forms.at(i).is_implicit {
+        return mark_of(src, reading, i);
+    }
+    None
+}

@@ -1,6 +1,0 @@
-use Rattle.yf_rules.specs.RuleSets.BlankLines.{MisplacedBlank}
-use Rattle.yf_rules.specs.RuleSets.Exact.{UpTo}
-use Rattle.yf_rules.proofs.rules.blank_lines.offsets.Given as goal
-
-abbrev pub invariant-loop-k : goal.invariant-loop-k
-invariant-loop-k l = UpTo (MisplacedBlank l.src l.reading) l.k l.offsets.items

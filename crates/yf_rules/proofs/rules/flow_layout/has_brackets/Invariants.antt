@@ -1,7 +1,0 @@
-use Rattle.std.proofs.Common.{◌<◌, ℕ}
-use Rattle.yf_emit.specs.declared.style.Style.{Style}
-use Rattle.yf_rules.specs.RuleSets.Layouts.{LayoutFault}
-use Rattle.yf_rules.proofs.rules.flow_layout.has_brackets.Given as goal
-
-abbrev pub invariant-loop-i : goal.invariant-loop-i
-invariant-loop-i l = (house : Style) (k o : ℕ) → k < l.i → LayoutFault l.src l.reading house k o → ⊥
