@@ -13,14 +13,13 @@ ghost use Rattle.yf_block.specs.InlineTied.{EntrySignAt};
 ghost use Rattle.yf_block.specs.Machine.{PropertiesTo, IsReaderReady};
 ghost use Rattle.yf_block.specs.StepAnswers.{StepPromises};
 
-use crate::frame::{AwaitedNode, BlockContext, BlockReader, CollectionKind, Step};
+use crate::frame::{BlockContext, BlockReader, CollectionKind, Step};
 use crate::halt::Counts;
 use crate::inline::read_inline;
 use crate::line::read_line_end;
-use crate::look::{is_entry_sign_at, is_key_char_at, line_ends};
+use crate::look::{is_entry_sign_at, line_ends};
 use crate::properties::{
-    PlacedProperties, copied, is_property_at, joined, joined_after, lead_of, line_properties,
-    place_after,
+    PlacedProperties, is_property_at, joined, joined_after, lead_of, line_properties, place_after,
 };
 use crate::scalar::is_block_scalar_at;
 use std::alloc::AllocError;
@@ -80,39 +79,9 @@ pub(crate) fn is_apart(belonging: Belonging) -> bool
 }
 
 impl<'a> BlockReader<'a> {
-    /// Begins the content of a node at a place of a line. Most nodes begin as words do, which settles most of what is asked of
-    /// their first character, so they have a way of their own.
+    /// Begins the content of a node at a place of a line.
     #[inline(always)]
     pub(crate) fn take_content(
-        &mut self,
-        scope: BlockContext<'a>,
-        node_start: NodeStart,
-    ) -> Result<Step, AllocError>
-        requires { IsReaderReady scope.text.now node_start.at self.old }
-        ensures { StepPromises (AtUndashed node_start.column) CountedAt scope.entry node_start.at 0 self.old self.new result }
-    {
-        if is_key_char_at(scope.text, node_start.at) {
-            return self.take_any_content(scope, node_start);
-        }
-        self.take_other_content(scope, node_start)
-    }
-
-    // The same where another character is there.
-    #[inline(never)]
-    fn take_other_content(
-        &mut self,
-        scope: BlockContext<'a>,
-        node_start: NodeStart,
-    ) -> Result<Step, AllocError>
-        requires { IsReaderReady scope.text.now node_start.at self.old }
-        ensures { StepPromises (AtUndashed node_start.column) CountedAt scope.entry node_start.at 0 self.old self.new result }
-    {
-        self.take_any_content(scope, node_start)
-    }
-
-    // The same whatever is there. Few nodes have properties.
-    #[inline(always)]
-    fn take_any_content(
         &mut self,
         scope: BlockContext<'a>,
         node_start: NodeStart,
@@ -141,7 +110,7 @@ impl<'a> BlockReader<'a> {
         }
     }
 
-    // The same where its first character is that of a property.
+    // The same where its first character is that of a property. Kept apart for speed: row `take_held_content` of docs/PERF.md.
     #[inline(never)]
     fn take_held_content(
         &mut self,
@@ -185,14 +154,7 @@ impl<'a> BlockReader<'a> {
         ensures { StepPromises (AtAfterProperties after.now) CountedAt scope.entry after.now.node_start.at 0 self.old self.new result }
     {
         match self.progress.wanted.outer {
-            Some(_) => {
-                let held = AfterProperties {
-                    at: after.at,
-                    inner: after.inner,
-                    node_start: after.node_start,
-                };
-                self.take_after_lines(scope, &held)
-            }
+            Some(outer) => self.take_after_lines(scope, after, outer),
             None => {
                 let facts = facts_alone(after, self.progress.wanted.entry, &self.part);
                 self.take_text(scope, after, &facts)
@@ -200,19 +162,27 @@ impl<'a> BlockReader<'a> {
         }
     }
 
-    // The same where properties may be on lines before.
+    // The same where properties are on lines before. Kept apart for speed: row `take_after_lines` of docs/PERF.md.
     #[inline(never)]
     fn take_after_lines(
         &mut self,
         scope: BlockContext<'a>,
         after: &AfterProperties<'a>,
+        outer: PlacedProperties<'a>,
     ) -> Result<Step, AllocError>
         requires standing { IsReaderReady scope.text.now after.now.at self.old }
         requires start { IsCharBoundary scope.text.now after.now.node_start.at }
         requires properties { PropertiesTo scope.text.now after.now.node_start.at after.now.at after.now.inner }
+        requires outer { self.old.progress.wanted.outer ≡ Some outer }
         ensures { StepPromises (AtAfterProperties after.now) CountedAt scope.entry after.now.node_start.at 0 self.old self.new result }
     {
-        let facts = facts_of(scope.text, after, &self.progress.wanted, &self.part);
+        let facts = facts_with_outer(
+            scope.text,
+            after,
+            outer,
+            self.progress.wanted.entry,
+            Counts::of(&self.part),
+        );
         self.take_text(scope, after, &facts)
     }
 
@@ -238,7 +208,7 @@ impl<'a> BlockReader<'a> {
             if is_apart(facts.belonging) {
                 return Ok(Step::Failed(after.node_start.at));
             }
-            return self.take_block_scalar(scope, after.at, &copied(&facts.lead));
+            return self.take_block_scalar(scope, after.at, &facts.lead);
         }
         match read_inline(
             scope,
@@ -311,25 +281,8 @@ fn signed_column(text: &str, node_start: NodeStart) -> Option<usize>
     }
 }
 
-// What is known of the node after the properties of a line, as long as it is not known whether it is a key.
-fn facts_of<'a>(
-    text: &str,
-    after: &AfterProperties<'a>,
-    wanted: &AwaitedNode<'a>,
-    part: &Part<'a>,
-) -> NodeFacts<'a>
-    ensures counts { CountsOf part.now result.before }
-    ensures belonging { (a : Ahead) → AheadTied a wanted.now.outer
-        → ((h : PropertiesThere) → after.now.inner ≡ Some h → LineProperties text.now after.now.node_start.at h)
-        → BelongingTied text.now after.now.node_start.at after.now.at a after.now.inner wanted.now.entry result.lead result.belonging }
-{
-    match wanted.outer {
-        None => facts_alone(after, wanted.entry, part),
-        Some(outer) => facts_with_outer(text, after, outer, wanted.entry, Counts::of(part)),
-    }
-}
-
-// The same where none are on lines before.
+// What is known of the node after the properties of a line, as long as it is not known whether it is a key, where none are on
+// lines before.
 #[inline(always)]
 fn facts_alone<'a>(
     after: &AfterProperties<'a>,

@@ -27,7 +27,7 @@ use crate::frame::{
 };
 use crate::inline::read_inline;
 use crate::line::read_line_end;
-use crate::look::{is_blank_after, is_key_char_at, is_sign_at, key_ends};
+use crate::look::{is_blank_after, is_sign_at, key_ends};
 use crate::properties::{PlacedProperties, is_property_at, lead_of, line_properties, place_after};
 use std::alloc::{AllocError, Global};
 use yf_chars::context::Ctx;
@@ -177,41 +177,9 @@ impl<'a> BlockReader<'a> {
         self.take_key(scope, frame.column, entry)
     }
 
-    /// An implicit key of an open mapping (ns-s-block-map-implicit-key, production 193), from its properties on. Most keys begin
-    /// as words do.
+    /// An implicit key of an open mapping (ns-s-block-map-implicit-key, production 193), from its properties on.
     #[inline(always)]
     pub(crate) fn take_key(
-        &mut self,
-        scope: BlockContext<'a>,
-        column: usize,
-        key: Entry,
-    ) -> Result<Step, AllocError>
-        requires { IsReaderReady scope.text.now key.start self.old }
-        ensures { StepPromises (KeyAwaited column key) CountedAt scope.entry key.start 0 self.old self.new result }
-    {
-        if is_key_char_at(scope.text, key.start) {
-            return self.take_any_key(scope, column, key);
-        }
-        self.take_other_key(scope, column, key)
-    }
-
-    // The same where another character is there.
-    #[inline(never)]
-    fn take_other_key(
-        &mut self,
-        scope: BlockContext<'a>,
-        column: usize,
-        key: Entry,
-    ) -> Result<Step, AllocError>
-        requires { IsReaderReady scope.text.now key.start self.old }
-        ensures { StepPromises (KeyAwaited column key) CountedAt scope.entry key.start 0 self.old self.new result }
-    {
-        self.take_any_key(scope, column, key)
-    }
-
-    // The same whatever is there. Few keys have properties.
-    #[inline(always)]
-    fn take_any_key(
         &mut self,
         scope: BlockContext<'a>,
         column: usize,
@@ -226,7 +194,7 @@ impl<'a> BlockReader<'a> {
         self.take_key_after(scope, column, key, &None)
     }
 
-    // The same where its first character is that of a property.
+    // The same where its first character is that of a property. Kept apart for speed: row `take_held_key` of docs/PERF.md.
     #[inline(never)]
     fn take_held_key(
         &mut self,

@@ -22,7 +22,7 @@ use crate::frame::{AwaitedNode, BlockContext, BlockReader, CollectionKind, Frame
 use crate::halt::{note_node, note_shorter};
 use crate::line::read_line_end;
 use crate::look::{is_sign_at, key_ends};
-use crate::properties::{PlacedProperties, copied, lead_of};
+use crate::properties::{PlacedProperties, lead_of};
 use std::alloc::{AllocError, Global};
 use yf_chars::context::Ctx;
 use yf_chars::text::is_char_at;
@@ -69,7 +69,7 @@ pub(crate) fn read_inline<'a>(
             if is_char_at(scope.text, at, b'*') {
                 return match *inner {
                     Some(_) => Ok(Ending::Nothing),
-                    None => read_alias(scope, at, &copied(lead), depth, part),
+                    None => read_alias(scope, at, lead, depth, part),
                 };
             }
             let scene = FlowContext {
@@ -149,8 +149,7 @@ pub(crate) fn flow_indentation(least: usize) -> i32
 }
 
 impl<'a> BlockReader<'a> {
-    /// After a flow node on its line: it is the first key of a mapping, or the end of the line follows. What is lent to a first
-    /// key is copied for it, so that of other nodes it need not be in memory.
+    /// After a flow node on its line: it is the first key of a mapping, or the end of the line follows.
     #[inline(always)]
     pub(crate) fn finish_inline(
         &mut self,
@@ -169,17 +168,7 @@ impl<'a> BlockReader<'a> {
                 if node.deepest.max(self.frames.len()) >= scope.limit {
                     return Ok(Step::TooDeep(after.node_start.at));
                 }
-                let key_after = AfterProperties {
-                    at: after.at,
-                    inner: after.inner,
-                    node_start: after.node_start,
-                };
-                let key_facts = NodeFacts {
-                    lead: copied(&facts.lead),
-                    belonging: facts.belonging,
-                    before: facts.before,
-                };
-                self.take_first_key(scope, column, colon, &key_after, &key_facts)
+                self.take_first_key(scope, column, colon, after, facts)
             }
             None => {
                 if is_apart(facts.belonging) {
@@ -254,6 +243,7 @@ impl<'a> BlockReader<'a> {
 }
 
 // The column of a mapping that begins there with a key whose `:` is at the other place.
+#[inline(always)]
 fn keyed_column(text: &str, node_start: NodeStart, colon: usize) -> Option<usize>
     requires { IsCharBoundary text.now node_start.at }
     ensures boundary { IfSome result (λ _. IsCharBoundary text.now (colon + 1)) }
@@ -289,7 +279,7 @@ fn plain_place(node: Node, at: usize) -> Option<usize>
     if node.json { None } else { Some(at) }
 }
 
-// Puts a mapping's beginning before its first key. Properties of lines before are its own; few mappings have any.
+// Puts a mapping's beginning before its first key. Properties of lines before are its own.
 #[inline(always)]
 fn begin_mapping<'a>(
     scope: BlockContext<'a>,
@@ -324,6 +314,7 @@ fn begin_mapping<'a>(
 }
 
 // The same where properties are on lines before: a key read with them is read again.
+// Kept apart for speed: row `begin_held_mapping` of docs/PERF.md.
 #[inline(never)]
 fn begin_held_mapping<'a>(
     scope: BlockContext<'a>,

@@ -1,6 +1,6 @@
 //! Tests of what is at a place of a block node, and walks that read nothing.
 ghost use Rattle.std.specs.List.{prefix_len};
-ghost use Rattle.std.specs.Prelude.{◌≡◌, ◌≢◌, ◌+◌, ◌-◌, ◌<◌, ◌≤◌, true, false, not, nat_lt, ℕ, IfSome, MatchBool, MatchOption, length, slice_index, ⊤};
+ghost use Rattle.std.specs.Prelude.{◌≡◌, ◌≢◌, ◌+◌, ◌-◌, ◌<◌, ◌≤◌, true, false, not, nat_lt, ℕ, IfSome, MatchBool, MatchOption, length, ⊤};
 ghost use Rattle.std.specs.Simd.Lanes.{chunk};
 ghost use Rattle.std.specs.Str.{IsCharBoundary};
 ghost use Rattle.yf_chars.specs.Text.{code};
@@ -62,25 +62,6 @@ pub(crate) fn is_entry_sign_at(text: &str, at: usize) -> bool
         return true;
     }
     is_sign_at(text, at, b':')
-}
-
-/// Whether one of the characters from `0` to `z` is there: neither a property nor an alias nor a quoted node begins with one.
-#[inline(always)]
-pub(crate) fn is_key_char_at(text: &str, at: usize) -> bool
-    ensures { MatchBool result ((48 ≤ slice_index text.now at) × (slice_index text.now at ≤ 122))
-        (48 ≤ slice_index text.now at → slice_index text.now at ≤ 122 → ⊥) }
-{
-    let bytes = text.as_bytes();
-    if at >= bytes.len() {
-        return false;
-    }
-    if bytes[at] < b'0' {
-        return false;
-    }
-    if bytes[at] > b'z' {
-        return false;
-    }
-    true
 }
 
 /// Whether the `:` after an implicit key is there, on the line on which the key starts.

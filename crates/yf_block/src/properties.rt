@@ -57,19 +57,6 @@ pub(crate) fn lead_of<'a>(
     }
 }
 
-/// The same once more, for a call that is lent it: the first need not be in memory then.
-#[inline(always)]
-pub(crate) fn copied<'a>(lead: &Lead<'a>) -> Lead<'a>
-    ensures { result ≡ lead.now }
-{
-    Lead {
-        start: lead.start,
-        props: lead.props,
-        tag_offset: lead.tag_offset,
-        entry: lead.entry,
-    }
-}
-
 /// Reads the properties that begin at an offset, on one line.
 pub(crate) fn line_properties<'a>(
     alloc: Global,

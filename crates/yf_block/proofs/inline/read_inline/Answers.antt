@@ -22,7 +22,7 @@ pub returns-in-Some-inner-clause-answers : goal.returns-in-Some-inner-clause-ans
 returns-in-Some-inner-clause-answers c = λ u l room r. alias_after c.in-None.ensures.reads c.in-Some-inner.is (alias_there _ c.if-is_char_at.ensures.cases.char)
 
 pub returns-in-None-inner-clause-answers : goal.returns-in-None-inner-clause-answers
-returns-in-None-inner-clause-answers c = λ u l room r. rw c.in-None-inner.is (rw c.copied.ensures at (c.read_alias.ensures.answers room (pos c.args.least)))
+returns-in-None-inner-clause-answers c = λ u l room r. rw c.in-None-inner.is (c.read_alias.ensures.answers room (pos c.args.least))
 
 pub returns-else-is_char_at-clause-answers : goal.returns-else-is_char_at-clause-answers
 returns-else-is_char_at-clause-answers c = λ u l room r.

@@ -30,8 +30,8 @@ returns-else-max-scope c = record {
       c.take_first_key.ensures.tied d root before j r (record {
         depth = z.depth;
         earlier = z.earlier;
-        key = rw c.copied.ensures (first_key_there a k.0 c.skip_whites-colon.ensures.whites.1 k.1
-            (omega (arith, r, c.max.ensures, c.if-max-scope.false)) (omega (arith, r, n, o, c.len.ensures.value, c.max.ensures, c.if-max-scope.false)));
+        key = first_key_there a k.0 c.skip_whites-colon.ensures.whites.1 k.1
+            (omega (arith, r, c.max.ensures, c.if-max-scope.false)) (omega (arith, r, n, o, c.len.ensures.value, c.max.ensures, c.if-max-scope.false));
       });
   stepped = c.take_first_key.ensures.stepped;
   counted = λ u total q.

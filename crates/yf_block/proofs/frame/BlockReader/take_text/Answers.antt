@@ -22,7 +22,7 @@ returns-then-is_block_scalar_at c = record {
   tied = λ d root before j r a.
       let s = a.content.start in
       let belonging = c.requires.belonging s.ahead s.wanted.outer (text_properties a.text) in
-      c.take_block_scalar.ensures.tied d root before j r (rw c.copied.ensures (scalar_there a c.args.facts.now.belonging belonging c.if-is_apart.ensures c.if-is_block_scalar_at.ensures));
+      c.take_block_scalar.ensures.tied d root before j r (scalar_there a c.args.facts.now.belonging belonging c.if-is_apart.ensures c.if-is_block_scalar_at.ensures);
   stepped = moved_later {at = c.args.after.now.node_start.at} {place = c.args.after.now.at} {more = 0} {less = 0} _ _ _ (held_after _ _ _ c.args.after.now.inner c.requires.properties) (omega arith) c.take_block_scalar.ensures.stepped;
   counted = λ u total q.
       c.take_block_scalar.ensures.counted u total (later _ (length c.args.self.now.frames.items) total c.args.after.now.node_start.at c.args.after.now.at (held_after _ _ _ c.args.after.now.inner c.requires.properties) q);

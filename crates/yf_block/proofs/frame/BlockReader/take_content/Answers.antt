@@ -2,7 +2,7 @@ use Rattle.std.proofs.Common.{refl, sym, ◌∙◌}
 use Rattle.yf_block.specs.ContentTied.{text_alone}
 use Rattle.yf_block.proofs.LineSteps.ContentSteps.{signless_there}
 use Rattle.yf_block.proofs.Ends.PropertiesLemmas.{no_properties}
-use Rattle.yf_block.proofs.frame.BlockReader.take_any_content.Goals as goal
+use Rattle.yf_block.proofs.frame.BlockReader.take_content.Goals as goal
 
 pub returns-in-Some : goal.returns-in-Some
 returns-in-Some c = record {
