@@ -1,13 +1,13 @@
 -- The lemmas, a folder for each theorem or for what several rest on.
 -- what is proved of `format` (`FormatKept`)
 pub mod FormatKeeps
--- texts on one line and their widths: `width`, `written`, `kept_text`; lines of block scalars
+-- the bytes of lines, and that styles stay as they are wanted
 pub mod Texts
 -- `normal`: the normal form of a reading, which is settled, and the only one
 pub mod NormalForms
 -- `layout`: the pass of the printer prints the rows of the layout
 pub mod Printer
--- `find_trails`: the comments that trail are those of the layout
+-- `trails_of`: the comments that trail are those of the layout
 pub mod Trails
 -- the reading of a text is one of a text (`ReadingsAreOfTexts`)
 pub mod OfTexts

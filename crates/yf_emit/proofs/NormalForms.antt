@@ -1,3 +1,4 @@
+-- `normal`: the normal form of a reading, which is settled, and the only one
 pub mod StyledTwice
 pub mod SettledTwice
 pub mod SettledForms

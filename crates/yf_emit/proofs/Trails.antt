@@ -1,3 +1,4 @@
+-- `trails_of`: the comments that trail are those of the layout
 pub mod LeafMarks
 pub mod TrailChoice
 pub mod TrailRuns

@@ -1,3 +1,4 @@
+-- the lines of a normal reading, its comments and its blank lines
 pub mod Layout
 pub mod Decorated
 pub mod RowComments

@@ -7,13 +7,13 @@ pub mod FixedLaws
 pub mod Keeps
 pub mod Laws
 pub mod Types
--- a node on one line: its text, width and style, and where its content begins
+-- block scalars as yf_block_scalar writes them; flow collections without comments
 pub mod Nodes
--- the normal form of a reading
+-- which readings are laid out, and what holds of the readings of texts
 pub mod NormalForms
 -- the lines of a normal reading, its comments and its blank lines
 pub mod Layouts
--- what the passes do, event by event, for private clauses
+-- what printing gives, and does to a writer
 pub mod Passes
 -- what formatting keeps: content, comments, lines, spellings
 pub mod Preservation

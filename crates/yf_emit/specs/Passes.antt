@@ -1,2 +1,3 @@
+-- what printing gives, and does to a writer
 pub mod WriterAfterPrint
 pub mod PrintedText

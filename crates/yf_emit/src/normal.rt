@@ -1,4 +1,4 @@
-//! The normal form of a reading: each scalar in the style, and each collection in the form, that the house style gives it.
+//! The normal form of a reading, as a copy: each scalar in the style, and each collection in the form, that the house style gives it.
 ghost use Rattle.std.specs.Prelude.{◌≡◌, IfErr, IfOk};
 ghost use Rattle.yf_events.specs.Content.{content_of};
 ghost use Rattle.yf_events.specs.Nested.{IsStream};

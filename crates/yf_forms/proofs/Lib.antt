@@ -4,5 +4,5 @@ pub mod Texts
 pub mod Measure
 -- `decide` and `implicit_key`: the form of each node (`Forms`)
 pub mod Decide
--- `normal`: the normal form of a reading, which is settled, and the only one
+-- `normalized`: the pass that makes the normal form in place
 pub mod NormalForms

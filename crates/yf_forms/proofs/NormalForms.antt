@@ -1,4 +1,4 @@
--- `normal`: the normal form of a reading, which is settled, and the only one
+-- `normalized`: the pass that makes the normal form in place
 pub mod RestyledLemmas
 pub mod NormalLemmas
 pub mod NormalSteps

@@ -1,4 +1,4 @@
--- the lines of a normal reading, its comments and its blank lines
+-- the rows of a normal reading, the columns of comments, and whether the first `---` is left out
 pub mod Rows
 pub mod CommentColumns
 pub mod SourceColumns

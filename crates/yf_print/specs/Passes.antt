@@ -1,3 +1,4 @@
+-- what the passes do, event by event
 pub mod TrailPass
 pub mod PrintPass
 pub mod Drafts

@@ -1,5 +1,5 @@
-//! The printer between two events of a normal reading, and what it prints round nodes: documents, entries, and the
-//! beginning of block collections. Columns count from 0 here.
+//! What the printer is given, its frames, and what it prints round nodes: documents, entries, and the beginning of block
+//! collections. Columns count from 0 here.
 ghost use Rattle.std.specs.Prelude.{◌<◌, ◌≡◌, ◌++◌, ◌∷◌, ◌==◌, false, length, map, not, reverse, slice_get, OnOk, IfOk};
 ghost use Rattle.std.specs.String.{string_bytes};
 ghost use Rattle.yf_stream.specs.WellFormed.{props_of};

@@ -1,4 +1,4 @@
--- `check`: what rules find, as findings at positions
+-- `known_positions`, `columns_of`: places and columns of offsets, and going back from an offset
 pub mod Findings
 -- what is known of texts, lines and readings, for several rules
 pub mod Texts

@@ -1,5 +1,5 @@
 -- The definitions, in folders.
--- the rules and what is proved of them, of a check and of the runs
+-- the rules: by what each is known, and its set
 pub mod Definition
 pub mod Rules
 pub mod RuleOf

@@ -1,4 +1,4 @@
--- in what formatting gives nothing is at fault that the house style fixes (`Mended`)
+-- in what formatting gives nothing is at fault that the house style fixes (`FormatsAreMended`)
 pub mod MendedTrailingBlanks
 pub mod MendedFlowLayout
 pub mod MendedColumns

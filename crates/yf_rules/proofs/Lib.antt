@@ -4,7 +4,7 @@ pub mod HeadlineHolds
 pub mod RulesMended
 -- `check`: what rules find, as findings at positions
 pub mod Findings
--- in what formatting gives nothing is at fault that the house style fixes (`Mended`)
+-- in what formatting gives nothing is at fault that the house style fixes (`FormatsAreMended`)
 pub mod Formatted
 -- what the runs read and write: `run_fmt`, `run_fmt_check`, `run_fmt_diff`
 pub mod Runs

@@ -1,4 +1,4 @@
-//! How a text differs from its formatting, as a unified diff. The contracts are told in `DiffRun` of the specs.
+//! How a text differs from its formatting, as a unified diff. The contracts are told in `specs/Runs/Diffed`.
 ghost use Rattle.std.specs.Prelude.{◌≡◌, true, IfErr, IfOk, IfSome, MatchResult, OnOk};
 ghost use Rattle.yf_stream.specs.StreamReader.{StreamFault};
 ghost use Rattle.yf_rules.specs.Runs.Compare.{IsClean};
