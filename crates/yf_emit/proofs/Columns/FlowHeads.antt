@@ -1,10 +1,8 @@
 -- A flow collection that is derived from one place to another has this part of the text, and ends with its bracket.
-use Rattle.std.proofs.Common.{◌≡◌, ◌≢◌, ℕ, ℤ, ◌+◌, ◌-◌, ◌⊎◌, inl, inr, Bool, true, false, true≢false, List, [], ◌∷◌, Option, Some, None, refl, sym, ap, ◌∙◌, subst, arith}
+use Rattle.std.proofs.Common.{◌≡◌, ℕ, ℤ, ◌+◌, ◌-◌, ◌⊎◌, inl, inr, Bool, true, false, true≢false, List, [], ◌∷◌, Option, Some, None, refl, sym, ap, ◌∙◌, subst, arith}
 use Rattle.std.specs.Str.{IsUtf8}
 use Rattle.yf_chars.specs.declared.context.Ctx.{Ctx}
 use Rattle.yf_chars.specs.Text.{code}
-use Rattle.yf_props.specs.Names.{Properties, PropertiesValue}
-use Rattle.yf_props.specs.Names.Properties.{anchor_first, by_anchor, by_tag, tag_first}
 use Rattle.yf_props.specs.Props.{PropsValue, no_props}
 use Rattle.yf_props.proofs.NamesMade.{props_made}
 use Rattle.yf_events.specs.Event.{EventValue, EventInText, stream_starts, stream_ends, document_starts, document_ends, sequence_starts, sequence_ends, mapping_starts, mapping_ends, scalar_node, alias_node}
@@ -16,7 +14,6 @@ use Rattle.yf_grammar.specs.Productions.Grammar.Derives.{an_alias, a_plain, a_pl
 use Rattle.yf_grammar.specs.Productions.Meaning.{Meaning, alias_to, meaning_after, collection, empty_node, event_with, first_with, from_to, plain_event, scalar as scalar_meaning, span_since, start_of, with_props}
 use Rattle.yf_grammar.proofs.NodesInText.MeantLemmas.{entered}
 use Rattle.yf_emit.specs.Layouts.ReadableTrees.{FitProps, no_fit_props, some_fit_props}
-use Rattle.yf_chars.proofs.Tests.{some_none}
 use Rattle.yf_emit.proofs.Writable.PropsFits.{props_some}
 
 -- whether a flow collection begins with the event, and with which properties

@@ -1,15 +1,13 @@
 -- Offsets on a line with so many characters before them, counted from where the line starts.
-use Rattle.std.proofs.Common.{◌≡◌, ◌≢◌, ℕ, zero, suc, ◌+◌, ◌<◌, ◌≤◌, true, false, true≢false, List, [], ◌∷◌, ◌++◌, length, replicate, refl, sym, ap, ◌∙◌, subst, arith, add-zero, append_assoc, length-append}
+use Rattle.std.proofs.Common.{◌≡◌, ℕ, zero, suc, ◌+◌, ◌<◌, ◌≤◌, true, List, [], ◌∷◌, ◌++◌, length, replicate, refl, sym, ap, ◌∙◌, subst, arith, add-zero, append_assoc, length-append}
 use Rattle.std.specs.Char.{len_utf8}
-use Rattle.std.specs.Prelude.{nat_lt}
 use Rattle.std.specs.Str.{IsUtf8}
-use Rattle.std.proofs.lemmas.Bool.Decides.{nat_tests}
 use Rattle.std.proofs.lemmas.Str.{chars_from_encodes, chars-nil, length-encode}
 use lib.Utf8.{encode, encodes}
 use Rattle.yf_chars.specs.Chain.{Many}
 use Rattle.yf_chars.specs.Chain.Chain.{done, step}
 use Rattle.yf_chars.specs.Chain.One.{one}
-use Rattle.yf_chars.specs.Class.{is_nb_char, is_printable, is_between, is_break_char}
+use Rattle.yf_chars.specs.Class.{is_nb_char}
 use Rattle.yf_chars.specs.Text.{code, next}
 use Rattle.yf_chars.proofs.ChainLemmas.{chain_append}
 use Rattle.yf_lines.specs.Basic.{LineStart}
@@ -22,7 +20,6 @@ use Rattle.yf_emit.proofs.Texts.LineUtf8.{line_utf8}
 use Rattle.yf_forms.proofs.Texts.WidthLemmas.{width_head}
 use Rattle.yf_chars.proofs.Tests.{below}
 use Rattle.yf_chars.proofs.CharBounds.{visible_nb}
-use Rattle.yf_chars.proofs.CharFacts.{return_no_nb}
 use Rattle.yf_emit.proofs.Writable.GapPasses.{no_return}
 
 -- m characters are between the start of the line and the offset, and in them no line starts

@@ -13,7 +13,6 @@ use Rattle.yf_lines.specs.Basic.{Break, LineStart, Spaces}
 use Rattle.yf_lines.specs.Basic.LineStart.{after_break, after_mark, at_text}
 use Rattle.yf_lines.specs.Basic.Break.{cr_lf, lone_cr, lone_lf}
 use Rattle.yf_print.specs.Layouts.SourceColumns.{column_after, column_by, is_white_or_sign}
-use Rattle.yf_chars.proofs.CharFacts.{space_white}
 
 -- after one character
 column_step : (t : List ℕ) (i : ℕ) {c : ℕ} (p : ℕ → Bool) → code t i ≡ c → column_by p t (i + 1) ≡ column_after p c (code t (i - 2)) (column_by p t i)

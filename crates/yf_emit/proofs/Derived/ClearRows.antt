@@ -1,7 +1,6 @@
 -- Rows whose texts are no document markers cover no forbidden line, whatever they carry.
 use Rattle.std.proofs.Common.{◌≡◌, ◌≢◌, ℕ, zero, suc, ◌+◌, ◌<◌, List, [], ◌∷◌, ◌++◌, length, replicate, refl, sym, ap, ◌∙◌, subst, arith, append_assoc, append-nil, true, drop, length-drop}
 use Rattle.std.specs.Str.{IsUtf8}
-use Rattle.yf_chars.specs.Class.{is_nb_char, is_printable, is_between, is_break_char}
 use Rattle.yf_lines.specs.Basic.{Clear}
 use Rattle.yf_lines.specs.LineText.{IsLineText, Follows, is_after_name, is_after_text}
 use Rattle.yf_lines.specs.LineText.Follows.{byte_follows}

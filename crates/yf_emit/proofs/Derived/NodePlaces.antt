@@ -3,9 +3,9 @@
 use Rattle.std.proofs.Common.{◌≡◌, ℕ, suc, ◌+◌, ◌-◌, ◌<◌, ◌≤◌, ℤ, pos, Bool, true, false, List, [], ◌++◌, refl, sym, ap, ◌∙◌, subst, arith, true≢false, append_assoc, append-nil}
 use Rattle.std.specs.Prelude.{◌+ℤ◌, ◌≤ℤ◌}
 use Rattle.yf_chars.specs.declared.context.Ctx.{Ctx}
-use Rattle.yf_chars.specs.declared.context.Ctx.TheVariants.{BlockOut, BlockIn, FlowOut, FlowIn, BlockKey, FlowKey}
+use Rattle.yf_chars.specs.declared.context.Ctx.TheVariants.{FlowOut}
 use Rattle.yf_chars.specs.Chain.Chain.{done}
-use Rattle.yf_lines.specs.Basic.{is_block, is_key, Spaces, LineStart, SeparateInLine, FlowPrefix}
+use Rattle.yf_lines.specs.Basic.{is_block, Spaces, LineStart, SeparateInLine, FlowPrefix}
 use Rattle.yf_lines.specs.Basic.SeparateInLine.{by_whites}
 use Rattle.yf_lines.proofs.FoldLemmas.{prefix_found}
 use Rattle.yf_comments.specs.Comment.{CommentValue}

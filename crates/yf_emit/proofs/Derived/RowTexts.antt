@@ -2,10 +2,9 @@
 use Rattle.std.proofs.Common.{◌≡◌, ◌≢◌, ℕ, zero, suc, ◌+◌, ◌-◌, ◌<◌, ◌≤◌, Bool, true, false, List, [], ◌∷◌, ◌++◌, replicate, Option, Some, None, refl, sym, ap, ◌∙◌, subst, arith, ⊎_elim, eqb}
 use Rattle.std.specs.Prelude.{◌||◌}
 use Rattle.std.proofs.lemmas.Bool.{and_parts, or_cases, eqb-true}
-use Rattle.std.proofs.lemmas.Bool.Decides.{nat_tests}
 use Rattle.yf_chars.specs.declared.context.Ctx.TheVariants.{BlockKey}
 use Rattle.yf_chars.specs.Text.{code}
-use Rattle.yf_chars.specs.Class.{is_nb_char, is_printable, is_between, is_break_char, is_white_or_end}
+use Rattle.yf_chars.specs.Class.{is_white_or_end}
 use Rattle.yf_lines.specs.Basic.{is_marker, is_three}
 use Rattle.yf_lines.specs.LineText.{IsLineText, is_after_name, is_after_text}
 use Rattle.yf_lines.proofs.RestLemmas.{rest_is_at, rest_ascii, follows_not, line_nothing, line_append, line_ascii}

@@ -1,5 +1,5 @@
 -- A block node has characters: the first of its events has a part of the text. So the root of a document without `---` has a row.
-use Rattle.std.proofs.Common.{◌≡◌, ℕ, ◌+◌, ℤ, Bool, true, false, List, [], ◌∷◌, ◌++◌, Option, Some, None, refl, sym, ap, ◌∙◌, encode_utf8_all}
+use Rattle.std.proofs.Common.{◌≡◌, ℕ, ◌+◌, ℤ, Bool, true, false, List, [], ◌∷◌, ◌++◌, Option, None, refl, sym, ap, ◌∙◌, encode_utf8_all}
 use Rattle.std.specs.Prelude.{is_some}
 use Rattle.yf_quoted.specs.Quoted.{text_of, bad_escapes}
 use Rattle.yf_comments.specs.Comment.{CommentValue}
@@ -8,13 +8,12 @@ use Rattle.yf_events.specs.Alike.{Alike, alike_scalars, alike_aliases, alike_seq
 use Rattle.yf_events.specs.Event.{EventInText}
 use Rattle.yf_events.specs.declared.event.ScalarStyle.{ScalarStyle}
 use Rattle.yf_events.specs.declared.event.ScalarStyle.TheVariants.{Plain, Single, Double}
-use Rattle.yf_events.specs.declared.event.Span.{Span}
 use Rattle.yf_events.specs.Tree.{Node, scalar, alias, sequence, mapping, flat, standing}
 use Rattle.yf_grammar.specs.Productions.BlockScalar.{BlockScalar}
 use Rattle.yf_grammar.specs.Productions.BlockScalar.BlockScalar.{block_scalar}
 use Rattle.yf_grammar.specs.Productions.Grammar.{Production, FlowNode, NodeOf, JsonContent, BlockNode, Derives}
 use Rattle.yf_grammar.specs.Productions.Grammar.Derives.{flow_node, an_alias, a_plain, a_plain_with, properties_alone, a_json, a_json_with, a_single, a_double, an_empty_collection, a_collection, last_entry, last_entry_with_comma, more_entries, a_node_entry, a_pair_entry, an_explicit_entry, an_implicit_entry, an_explicit_pair, a_keyed_pair, an_unkeyed_pair, explicit_with, explicit_without, key_alone, key_and_value, value_alone, empty_value, a_value, a_key, a_block_scalar, a_block_scalar_with, a_block_collection, a_block_collection_with, flow_in_block, a_last_entry, an_entry_before, a_dash_entry, an_explicit_entry_with, an_explicit_key_alone, a_keyed_entry, an_unkeyed_entry, a_block_value, an_empty_block_value, a_compact_collection, an_indented_node, nothing_indented}
-use Rattle.yf_grammar.specs.Productions.Meaning.{Meaning, scalar as scalar_meaning, alias_to, collection, plain_event, from_to, span_since, first_with, with_props, meaning_after, noting, empty_node}
+use Rattle.yf_grammar.specs.Productions.Meaning.{Meaning, scalar as scalar_meaning, alias_to, collection, plain_event, from_to, first_with, with_props, meaning_after, noting, empty_node}
 use Rattle.yf_grammar.specs.Productions.TreesOfMeaning.{MeansTrees}
 use Rattle.yf_emit.proofs.Writable.ReadParts.{since}
 

@@ -1,7 +1,7 @@
 -- Each row of a layout is at a multiple of the indentation, which the open collections limit, and so are the lines of block scalars: of those of the trees, in
 -- order and each once, below its header.
 use Rattle.std.proofs.Common.{◌≡◌, ℕ, ◌+◌, ◌*◌, ◌≤◌, suc, Bool, true, false, true≢false, List, [], ◌∷◌, ◌++◌, map, Option, Some, None, refl, sym, ap, ◌∙◌, subst, arith, flat_map, append_assoc, append-nil, replicate}
-use Rattle.std.specs.Prelude.{◌&&◌, ◌-◌, filter, if◌then◌else◌, not, is_some, max}
+use Rattle.std.specs.Prelude.{◌&&◌, ◌-◌, if◌then◌else◌, not, is_some, max}
 use Rattle.std.proofs.Math.Nat.{add-mul, le-max_left, le-max_right}
 use Rattle.yf_comments.specs.Comment.{CommentValue}
 use Rattle.yf_comments.specs.GapLines.{GapLine, blank, remark}
@@ -13,13 +13,13 @@ use Rattle.yf_events.specs.declared.event.ScalarStyle.TheVariants.{Plain, Single
 use Rattle.yf_grammar.specs.Productions.TreesOfMeaning.{tall, tall_items, tall_pairs}
 use Rattle.yf_forms.specs.declared.style.Style.{Style}
 use Rattle.yf_forms.specs.Nodes.BlockLines.{block_lines, header_text}
-use Rattle.yf_emit.specs.Layouts.Decorated.{Deco, blank_if, comments_left, decos_of, ending_after, gap_of, remarks_after}
+use Rattle.yf_emit.specs.Layouts.Decorated.{Deco, decos_of, gap_of}
 use Rattle.yf_emit.specs.Layouts.FitDocuments.{FitDocuments, fit_no_documents, fit_document, tall_documents}
 use Rattle.yf_emit.specs.Layouts.ReadableTrees.{Fit, FitItems, fit_item, FitPairs, fit_pair}
-use Rattle.yf_emit.specs.Layouts.Layout.{Source, may_be_blank_after, precedes_item}
+use Rattle.yf_emit.specs.Layouts.Layout.{Source}
 use Rattle.yf_forms.specs.NormalForms.Normal.{LayoutSetting, Spot, inner_spot, is_implicit, key_comment, key_spot, root_spot, value_column, value_entries, value_of_implicit, value_spot}
 use Rattle.yf_forms.specs.Nodes.OneLine.{colon_after, props_text, spaced, width, written}
-use Rattle.yf_print.specs.Layouts.Rows.{Ending, Row, anywhere, begins_below, beginning_at, after_key, colon_row, directive_row, document_rows, end_rows, entry_row, explicit_pair, joined, key_row, one_line, one_line_row, pair_rows, props_row, rows, rows_of_items, rows_of_pairs, all_rows, bare_rows, begun_at, stream_rows, Start}
+use Rattle.yf_print.specs.Layouts.Rows.{Ending, Row, begins_below, beginning_at, after_key, colon_row, directive_row, document_rows, end_rows, entry_row, explicit_pair, joined, key_row, one_line, one_line_row, pair_rows, props_row, rows, rows_of_items, rows_of_pairs, all_rows, bare_rows, begun_at, stream_rows, Start}
 use Rattle.yf_forms.specs.Nodes.Lines.{is_empty_text}
 use Rattle.yf_emit.specs.Preservation.TidyLines.{BlockScalar, block_scalars}
 use Rattle.yf_emit.proofs.Columns.FlowEvents.{AllFlow}

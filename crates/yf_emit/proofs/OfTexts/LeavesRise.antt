@@ -3,12 +3,11 @@ use Rattle.std.proofs.Common.{◌≡◌, ℕ, ◌<◌, ◌≤◌, true, List, []
 use Rattle.std.specs.Prelude.{nat_lt}
 use Rattle.std.specs.List.{list_all}
 use Rattle.std.proofs.lemmas.Bool.{and_from}
-use Rattle.std.proofs.lemmas.Bool.Decides.{nat_tests}
 use Rattle.yf_events.specs.Tree.{Node, Items, Pairs, DocumentTree, leaves, leaves_of_items, leaves_of_pairs, spans_of_leaf}
 use Rattle.yf_events.specs.declared.document.Doc.{Doc}
 use Rattle.yf_events.specs.declared.event.Span.{Span}
 use Rattle.yf_grammar.specs.Productions.Meaning.{from_to}
-use Rattle.yf_grammar.proofs.NodesInText.NodePlaces.{ColonIsAt, no_colon, a_colon, NodeIsAt, is_at_nowhere, scalar_is_at, alias_is_at, sequence_is_at, mapping_is_at, ItemsStand, no_items_stand, item_is_at, PairsStand, no_pairs_stand, pair_is_at, colon_order}
+use Rattle.yf_grammar.proofs.NodesInText.NodePlaces.{NodeIsAt, is_at_nowhere, scalar_is_at, alias_is_at, sequence_is_at, mapping_is_at, ItemsStand, no_items_stand, item_is_at, PairsStand, no_pairs_stand, pair_is_at, colon_order}
 use Rattle.yf_stream.proofs.Offsets.DirectiveOrder.{directives_order}
 use Rattle.yf_stream.proofs.Offsets.ReadingTrees.{TreesStand, no_trees_stand, tree_is_at}
 use Rattle.yf_emit.proofs.Trails.DocumentTrails.{leaves_of}

@@ -13,7 +13,7 @@ use Rattle.yf_events.specs.Tree.{Node, scalar, alias, sequence, mapping, Items, 
 use Rattle.yf_forms.specs.declared.style.Style.{Style}
 use Rattle.yf_forms.specs.Nodes.BlockLines.{block_lines}
 use Rattle.yf_emit.specs.Layouts.RowComments.{CalmBody, Calm}
-use Rattle.yf_emit.specs.Layouts.Decorated.{GapLine, blank, remark, Deco, blank_if, remarks_after, ending_after, gap_of, comments_left, decos_of, end_then, lines_then, first, after, row_decos, rows_of}
+use Rattle.yf_emit.specs.Layouts.Decorated.{GapLine, remark, Deco, blank_if, remarks_after, ending_after, gap_of, comments_left, decos_of, end_then, lines_then, first, after, row_decos, rows_of}
 use Rattle.yf_emit.specs.Layouts.FitDocuments.{FitDocuments}
 use Rattle.yf_emit.specs.Layouts.Layout.{Source, precedes_item, may_be_blank_after, own_line_comments, source_of}
 use Rattle.yf_forms.specs.Nodes.Lines.{trimmed}

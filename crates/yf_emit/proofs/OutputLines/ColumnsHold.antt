@@ -4,12 +4,11 @@ use Rattle.std.specs.Prelude.{◌&&◌, filter, if◌then◌else◌, nat_lt, not
 use Rattle.yf_comments.specs.Comment.{CommentValue}
 use Rattle.yf_comments.specs.GapLines.{GapLine, blank, remark}
 use Rattle.yf_forms.specs.declared.style.Style.{Style}
-use Rattle.yf_print.specs.Layouts.CommentColumns.{Beginning, begins_document, begins_entry, begins_node, at_margin, column_among, column_at, column_before_new, column_in, column_left, comment_column, further_in, goes_on, inward_from, is_ended_by, is_source, left_or, not_ended, open_after, or_else, placed_in}
+use Rattle.yf_print.specs.Layouts.CommentColumns.{Beginning, begins_document, begins_entry, begins_node, at_margin, column_among, column_at, column_left, comment_column, further_in, goes_on, inward_from, is_ended_by, is_source, left_or, not_ended, open_after, or_else, placed_in}
 use Rattle.yf_print.specs.declared.open_blocks.OpenBlock.{OpenBlock}
 use Rattle.yf_emit.specs.Layouts.Decorated.{blank_if, comments_left, ending_after, gap_of, remarks_after}
 use Rattle.yf_print.specs.Layouts.KeptColumns.{Columns, after_row, beginning, column_above, column_among_rows, columns_if, is_before_first, is_bodyless, keeps_blocks, precedes_item, after_starts, block_of, unless_document}
 use Rattle.yf_emit.specs.Layouts.Layout.{may_be_blank_after}
-use Rattle.yf_forms.specs.Nodes.Lines.{trimmed}
 use Rattle.yf_print.specs.Layouts.Rows.{Ending, Row, anywhere, Start}
 use Rattle.yf_print.specs.Layouts.SourceColumns.{own_column}
 use Rattle.yf_emit.proofs.SameReading.CommentsCut.{Each, each_map, each_more, each_none}

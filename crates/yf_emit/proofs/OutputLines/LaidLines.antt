@@ -1,6 +1,6 @@
 -- The lines of a layout, each with its text: those of rows, with the comments that trail them and the lines of block scalars, and those
 -- between rows; and that they are the lines of the text.
-use Rattle.std.proofs.Common.{◌≡◌, ◌≢◌, ℕ, zero, suc, ◌+◌, ◌<◌, ◌≤◌, ◌⊎◌, inl, inr, ⊎_elim, Bool, true, false, true≢false, List, [], ◌∷◌, ◌++◌, length, drop, replicate, Some, refl, sym, ap, ◌∙◌, subst, arith, append_assoc, length-append, length-drop}
+use Rattle.std.proofs.Common.{◌≡◌, ◌≢◌, ℕ, zero, suc, ◌+◌, ◌<◌, ◌≤◌, ◌⊎◌, inl, inr, ⊎_elim, true, false, true≢false, List, [], ◌∷◌, ◌++◌, length, drop, replicate, Some, refl, sym, ap, ◌∙◌, subst, arith, append_assoc, length-append, length-drop}
 use Rattle.std.specs.Prelude.{slice_get}
 use Rattle.std.specs.Str.{IsUtf8}
 use Rattle.std.proofs.lemmas.Bool.{cases_eq, cases_lt}
@@ -8,7 +8,7 @@ use Rattle.std.proofs.lemmas.Option.{same_Some}
 use Rattle.yf_chars.specs.Chain.{Many}
 use Rattle.yf_chars.specs.Chain.Chain.{done, step}
 use Rattle.yf_chars.specs.Chain.One.{one}
-use Rattle.yf_chars.specs.Class.{is_break_char, is_nb_char, is_printable, is_between}
+use Rattle.yf_chars.specs.Class.{is_break_char, is_nb_char}
 use Rattle.yf_chars.specs.Text.{code, next, no_char}
 use Rattle.yf_chars.proofs.CharBounds.{nb_below}
 use Rattle.yf_chars.proofs.TextLemmas.{reads_real}

@@ -3,7 +3,6 @@ use Rattle.std.proofs.Common.{◌≡◌, ◌≢◌, ℕ, zero, suc, ◌+◌, ◌
 use Rattle.std.proofs.lemmas.Str.{len_utf8_bounds, length-encode}
 use Rattle.std.specs.Prelude.{slice_get}
 use Rattle.std.specs.Str.{IsUtf8}
-use Rattle.std.proofs.lemmas.Option.{same_Some}
 use Rattle.yf_chars.specs.Class.{is_white}
 use Rattle.yf_chars.specs.Text.{code, last_or}
 use Rattle.yf_chars.proofs.TextLemmas.{byte_from_code}

@@ -1,14 +1,14 @@
 -- Open collections along rows, each at the column of the one that holds it or one indentation further in: what an entry leaves of them, and rows that go on with
 -- what is open.
-use Rattle.std.proofs.Common.{◌≡◌, ℕ, ◌+◌, ◌-◌, ◌<◌, Bool, true, false, true≢false, not, List, [], ◌∷◌, ◌++◌, refl, sym, ap, ◌∙◌, subst, arith}
+use Rattle.std.proofs.Common.{◌≡◌, ℕ, ◌+◌, ◌<◌, Bool, true, false, true≢false, not, List, [], ◌∷◌, ◌++◌, refl, sym, ap, ◌∙◌, subst, arith}
 use Rattle.std.specs.Prelude.{◌==◌, ◌&&◌, ◌||◌, nat_lt, if◌then◌else◌}
 use Rattle.std.proofs.lemmas.Bool.Decides.{nat_tests}
 use Rattle.yf_events.specs.declared.event.Span.{Span}
-use Rattle.yf_events.specs.Tree.{Node, scalar, sequence, mapping, is_sequence, leaves}
+use Rattle.yf_events.specs.Tree.{Node, leaves}
 use Rattle.yf_print.specs.Layouts.CommentColumns.{goes_on, is_ended_by, is_same_block, not_ended, open_after, placed_in}
 use Rattle.yf_print.specs.declared.open_blocks.OpenBlock.{OpenBlock}
 use Rattle.yf_print.specs.Layouts.KeptColumns.{after_row, after_starts, beginning, block_of, unless_document}
-use Rattle.yf_print.specs.Layouts.Rows.{Row, Start, joined, one_line_row, rows}
+use Rattle.yf_print.specs.Layouts.Rows.{Row, Start, joined, one_line_row}
 use Rattle.yf_emit.proofs.OutputLines.ColumnsHold.{AllBlocks, no_blocks, one_block}
 use Rattle.yf_emit.proofs.SecondRun.ColumnsAgain.{InSteps, inner_step, last_step, same_step, NextIsAt, next_entry, next_node}
 

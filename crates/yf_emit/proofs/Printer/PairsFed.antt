@@ -11,7 +11,7 @@ use Rattle.yf_forms.specs.NormalForms.Forms.{first_index, index_between, key_com
 use Rattle.yf_forms.specs.NormalForms.Normal as Normal
 use Rattle.yf_forms.specs.NormalForms.Normal.{LayoutSetting, first_between, key_comment}
 use Rattle.yf_forms.specs.Nodes.OneLine.{colon_after, written}
-use Rattle.yf_print.specs.Passes.PrintPass.{colon_of, entry_begun, key_spot, question_if, remarks_of, sign_in, spot_in, value_awaited, with_colon}
+use Rattle.yf_print.specs.Passes.PrintPass.{entry_begun, key_spot, question_if, remarks_of, sign_in, spot_in, value_awaited, with_colon}
 use Rattle.yf_print.specs.Layouts.Rows.{Row, begins_below, after_sign, colon_row, entry_row, explicit_pair, implicit_pair, key_row, one_line_row}
 use Rattle.yf_forms.specs.Nodes.Lines.{is_empty_text}
 use Rattle.yf_emit.proofs.Printer.EntriesFed.{begun, begun_append, filled_joined, joined_begun, key_begun, sign_begun, value_begun}

@@ -14,7 +14,7 @@ use Rattle.yf_print.specs.Layouts.Rows.{Row, beginning_at, directive_row, end_ro
 use Rattle.yf_emit.proofs.SecondRun.AlikeLemmas.{setting, shapes}
 use Rattle.yf_emit.proofs.RowNodes.BareNodes.{bare, bare_tree}
 use Rattle.yf_emit.proofs.ReadAgain.CarriedAgain.{Owns, last_owns, row_owns, all_of, first_from, owns_upward}
-use Rattle.yf_emit.proofs.SameReading.CommentsCut.{In, Under, each_at, each_join, each_map, upward_over}
+use Rattle.yf_emit.proofs.SameReading.CommentsCut.{In, Under, each_at, each_join, upward_over}
 use Rattle.yf_emit.proofs.SecondRun.FixedBlocks.{same_block_rows}
 use Rattle.yf_emit.proofs.RowNodes.FoundMarks.{Mark, marks, placed_marks, node_marks}
 use Rattle.yf_emit.proofs.RowNodes.FoundTexts.{FoundRoots, no_roots, one_root, AllRoots, marked_roots, bare_root}

@@ -1,19 +1,18 @@
 -- Where the lines of a gap are in a text, each comment at its offset; no blank line is before what follows a comment.
-use Rattle.std.proofs.Common.{Some, ◌≡◌, ℕ, suc, ◌+◌, ◌<◌, ◌≤◌, true, false, true≢false, ⊎_elim, List, [], ◌∷◌, ◌++◌, drop, length, refl, sym, ap, ◌∙◌, subst, arith, length-drop}
+use Rattle.std.proofs.Common.{Some, ◌≡◌, ℕ, suc, ◌+◌, ◌<◌, ◌≤◌, false, true≢false, ⊎_elim, List, [], ◌∷◌, ◌++◌, length, refl, sym, ap, ◌∙◌, subst, arith}
 use Rattle.std.proofs.lemmas.Bool.{cases_eq}
 use Rattle.std.specs.Str.{IsUtf8}
 use Rattle.yf_chars.specs.Chain.{Chain}
 use Rattle.yf_chars.specs.Chain.Chain.{done, step}
-use Rattle.yf_chars.specs.Class.{is_white, is_nb_char, is_printable, is_between, is_break_char}
+use Rattle.yf_chars.specs.Class.{is_white, is_break_char}
 use Rattle.yf_chars.specs.Text.{code, next}
 use Rattle.yf_chars.proofs.TextLemmas.{next_ascii, next_later}
 use Rattle.yf_lines.specs.Basic.{Break, LineStart, Spaces}
 use Rattle.yf_lines.specs.Basic.LineStart.{after_break}
 use Rattle.yf_lines.specs.Basic.SeparateInLine.{at_start}
-use Rattle.yf_lines.specs.LineText.{IsLineText}
 use Rattle.yf_lines.proofs.BasicLemmas.{break_forward, white_below}
 use Rattle.yf_lines.proofs.ClearLemmas.{Quiet}
-use Rattle.yf_lines.proofs.RestLemmas.{Rest, rest_break, rest_spaces, rest_text, line_ascii}
+use Rattle.yf_lines.proofs.RestLemmas.{Rest, rest_break, rest_spaces, rest_text}
 use Rattle.yf_comments.specs.Comment.{CommentValue}
 use Rattle.yf_comments.specs.Comments.{Blank, BlankBefore, CommentLine, CommentText, is_gap}
 use Rattle.yf_comments.specs.Comments.Blank.{text_begins, break_ends, white_ends}
@@ -29,7 +28,6 @@ use Rattle.yf_grammar.specs.Productions.ReadParts.BlankSince.{blank_line, past_g
 use Rattle.yf_stream.proofs.BlankNotes.FloorLemmas.{since_over}
 use Rattle.yf_print.specs.Layouts.SourceColumns.{own_column}
 use Rattle.yf_emit.proofs.Columns.SourceColumns.{column_break}
-use Rattle.yf_chars.proofs.CharFacts.{hash_nb}
 use Rattle.yf_emit.proofs.Derived.ClearRows.{remark_line, place_of_rest}
 
 -- the lines from i on, with the comments on them, up to j

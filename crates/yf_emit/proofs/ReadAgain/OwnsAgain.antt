@@ -13,7 +13,7 @@ use Rattle.yf_emit.specs.Layouts.Decorated.{Deco, comments_left, decos_of, inlin
 use Rattle.yf_emit.specs.Layouts.Layout.{Source}
 use Rattle.yf_print.specs.Layouts.Rows.{Row}
 use Rattle.yf_emit.proofs.ReadAgain.CarriedAgain.{Owns, last_owns, row_owns, all_of}
-use Rattle.yf_emit.proofs.SameReading.CommentsCut.{each_none, each_more, Under, Upward, upward_none, upward_more, upward_of}
+use Rattle.yf_emit.proofs.SameReading.CommentsCut.{each_none, each_more, Under, upward_of}
 use Rattle.yf_emit.proofs.RowNodes.PlacedRows.{PlacedRow, RowsIn, last_row, row_before}
 use Rattle.yf_emit.proofs.RowNodes.QuietPlaces.{ascend_under}
 use Rattle.yf_emit.proofs.Derived.RowEnds.{first_deco, after_decos}

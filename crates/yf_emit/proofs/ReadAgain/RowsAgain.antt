@@ -10,7 +10,7 @@ use Rattle.yf_print.specs.Layouts.Rows.{Row, Ending}
 use Rattle.yf_emit.proofs.SameReading.CommentsCut.{Each, each_at, each_map, each_none, each_more, Under, Over, Upward, upward_none, upward_more, upward_over, keep_all, drop_all, none_below, none_above, among_join, own_of}
 use Rattle.yf_emit.proofs.ReadAgain.GapsAgain.{Blanks, gap_again, gap_at_end, gap_with}
 use Rattle.yf_emit.proofs.SameReading.PrintSteps.{trimmed_texts}
-use Rattle.yf_print.specs.Layouts.KeptColumns.{Columns, after_row, beginning, column_above, column_among_rows, columns_if, is_before_first, is_bodyless, keeps_blocks}
+use Rattle.yf_print.specs.Layouts.KeptColumns.{Columns, after_row, beginning, column_above, columns_if, is_before_first, is_bodyless, keeps_blocks}
 use Rattle.yf_print.specs.Layouts.SourceColumns.{own_column}
 use Rattle.yf_print.specs.Layouts.CommentColumns.{Beginning, begins_document, comment_column}
 use Rattle.yf_print.specs.declared.open_blocks.OpenBlock.{OpenBlock}

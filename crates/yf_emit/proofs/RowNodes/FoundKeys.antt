@@ -12,7 +12,6 @@ use Rattle.yf_events.specs.Tree.{Node, NodeOffsets, scalar, alias, sequence, map
 use Rattle.yf_grammar.specs.Productions.TreesOfMeaning.{Anywhere}
 use Rattle.yf_forms.specs.declared.style.Style.{Style}
 use Rattle.yf_emit.specs.Preservation.AlikeBlocks.{AlikeBlocks, alike_lines, alike_block_sequences, alike_block_mappings, AlikeBlockItems, no_block_items, block_item, AlikeBlockPairs, no_block_pairs, block_pair}
-use Rattle.yf_emit.specs.Layouts.ReadableTrees.{is_inline}
 use Rattle.yf_forms.specs.NormalForms.Normal.{LayoutSetting, Spot, first_between, fits, inner_spot, is_implicit, key_comment, key_spot, key_start, settled, settled_items, settled_pairs, value_entries, value_of_implicit, value_spot}
 use Rattle.yf_forms.specs.Nodes.OneLine.{props_text, width, written}
 use Rattle.yf_print.specs.Layouts.Rows.{begins_below}

@@ -17,7 +17,7 @@ use Rattle.yf_events.proofs.TreeLemmas.{node_unique}
 use Rattle.yf_grammar.specs.Productions.Meaning.{Meaning, noting, from_to}
 use Rattle.yf_grammar.specs.Productions.TreesOfMeaning.{Anywhere, MeansTrees}
 use Rattle.yf_grammar.proofs.Documents.CommentOrder.{Ascend, end_ascends}
-use Rattle.yf_grammar.proofs.NodesInText.NodePlaces.{ColonIsAt, no_colon, a_colon, NodeIsAt, is_at_nowhere, scalar_is_at, alias_is_at, sequence_is_at, mapping_is_at, ItemsStand, no_items_stand, item_is_at, PairsStand, no_pairs_stand, pair_is_at, node_order, items_order, pairs_order, node_upto, colon_order}
+use Rattle.yf_grammar.proofs.NodesInText.NodePlaces.{NodeIsAt, is_at_nowhere, scalar_is_at, alias_is_at, sequence_is_at, mapping_is_at, ItemsStand, no_items_stand, item_is_at, PairsStand, no_pairs_stand, pair_is_at, node_order, items_order, pairs_order, node_upto, colon_order}
 use Rattle.yf_grammar.proofs.NodesInText.PlacedNodes.{NodeAt}
 use Rattle.yf_forms.specs.declared.style.Style.{Style}
 use Rattle.yf_forms.specs.NormalForms.Normal.{LayoutSetting, Spot}

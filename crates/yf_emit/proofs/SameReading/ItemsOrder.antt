@@ -6,7 +6,7 @@ use Rattle.yf_events.specs.Tree.{Node, scalar, alias, sequence, mapping, Items, 
 use Rattle.yf_events.specs.declared.event.Span.{Span}
 use Rattle.yf_grammar.specs.Productions.Meaning.{from_to}
 use Rattle.yf_grammar.proofs.Ends.GapLemmas.{Visible}
-use Rattle.yf_grammar.proofs.NodesInText.NodePlaces.{ColonIsAt, no_colon, a_colon, NodeIsAt, is_at_nowhere, scalar_is_at, alias_is_at, sequence_is_at, mapping_is_at, ItemsStand, no_items_stand, item_is_at, PairsStand, no_pairs_stand, pair_is_at, colon_order}
+use Rattle.yf_grammar.proofs.NodesInText.NodePlaces.{NodeIsAt, is_at_nowhere, scalar_is_at, alias_is_at, sequence_is_at, mapping_is_at, ItemsStand, no_items_stand, item_is_at, PairsStand, no_pairs_stand, pair_is_at, colon_order}
 use Rattle.yf_forms.specs.NormalForms.Normal.{LayoutSetting, styled, styled_items, styled_pairs}
 use Rattle.yf_print.specs.Layouts.Rows.{Row, joined}
 use Rattle.yf_emit.proofs.SameReading.FoundAgain.{Unsigned, no_start, a_start}

@@ -1,9 +1,8 @@
 -- Rows that fit the comments: the leaves of each are among its items, no comment is between its first leaf and its last item, and the comment
 -- that trails its key is the first after an item on it and before the leaves of the next row.
 use Rattle.std.proofs.Common.{◌≡◌, ◌≢◌, ℕ, max, ◌<◌, ◌≤◌, Bool, true, false, true≢false, List, [], ◌∷◌, ◌++◌, Some, None, refl, sym, ap, ◌∙◌, subst, arith, ◌⊎◌, inl, inr, ⊎_elim}
-use Rattle.std.specs.Prelude.{find, nat_lt, replicate, if◌then◌else◌}
+use Rattle.std.specs.Prelude.{find, replicate, if◌then◌else◌}
 use Rattle.std.proofs.lemmas.Bool.{and_from, cases_lt}
-use Rattle.std.proofs.lemmas.Bool.Decides.{nat_tests}
 use Rattle.yf_comments.specs.Comment.{CommentValue}
 use Rattle.yf_events.specs.declared.event.Span.{Span}
 use Rattle.yf_forms.specs.NormalForms.Normal.{last_start}

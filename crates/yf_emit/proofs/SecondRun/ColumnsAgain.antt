@@ -3,9 +3,9 @@ use Rattle.std.proofs.Common.{◌≡◌, ℕ, zero, suc, ◌+◌, ◌<◌, Bool,
 use Rattle.std.specs.Prelude.{◌==◌, ◌&&◌, not, nat_lt, if◌then◌else◌}
 use Rattle.std.proofs.lemmas.Bool.{and_parts}
 use Rattle.std.proofs.lemmas.Bool.Decides.{nat_tests}
-use Rattle.yf_print.specs.Layouts.CommentColumns.{Beginning, begins_node, begins_document, begins_entry, is_ended_by, is_same_block, not_ended, goes_on, inward_from, is_source, or_else, column_at, at_margin, further_in, left_or, column_left, column_among, column_before_new, column_in, comment_column}
+use Rattle.yf_print.specs.Layouts.CommentColumns.{Beginning, begins_node, begins_document, begins_entry, is_ended_by, not_ended, goes_on, inward_from, is_source, or_else, column_at, at_margin, further_in, left_or, column_left, column_among, column_before_new, column_in, comment_column}
 use Rattle.yf_print.specs.declared.open_blocks.OpenBlock.{OpenBlock}
-use Rattle.yf_chars.proofs.Tests.{below, is_less}
+use Rattle.yf_chars.proofs.Tests.{below}
 use Rattle.yf_emit.proofs.OutputLines.ColumnsHold.{some_is, none_is}
 use Rattle.yf_forms.proofs.Decide.FlagLemmas.{same as equal_to}
 

@@ -1,11 +1,11 @@
 -- Each comment on a line of its own that was laid out at its column is found there, and is laid out at that column again.
 use Rattle.std.proofs.Common.{◌≡◌, ℕ, ◌+◌, ◌<◌, ◌≤◌, Bool, true, false, true≢false, List, [], ◌∷◌, ◌++◌, length, map, Option, Some, None, refl, sym, ap, ◌∙◌, subst, arith}
-use Rattle.std.specs.Prelude.{◌-◌, ◌==◌, ◌&&◌, not, nat_lt, filter, if◌then◌else◌}
+use Rattle.std.specs.Prelude.{◌-◌, ◌==◌, ◌&&◌, not, nat_lt, if◌then◌else◌}
 use Rattle.std.proofs.lemmas.Bool.{or_parts}
 use Rattle.std.specs.Str.{IsUtf8}
 use Rattle.yf_comments.specs.Comment.{CommentValue}
 use Rattle.yf_props.specs.Props.{PropsValue}
-use Rattle.yf_events.specs.Tree.{DocumentTree, Node, NodeOffsets, scalar, alias, sequence, mapping, Items, no_items, item, Pairs, no_pairs, pair, entry_start, items_in, starts_of_entry}
+use Rattle.yf_events.specs.Tree.{DocumentTree, Node, NodeOffsets, scalar, alias, sequence, mapping, Items, no_items, item, Pairs, no_pairs, pair, entry_start, starts_of_entry}
 use Rattle.yf_events.specs.declared.directive.Directive.{Directive}
 use Rattle.yf_events.specs.declared.document.Doc.{Doc}
 use Rattle.yf_events.specs.declared.event.ScalarStyle.TheVariants.{Plain, Single, Double, Literal, Folded}
@@ -20,28 +20,28 @@ use Rattle.yf_forms.specs.NormalForms.Normal.{LayoutSetting, Spot, inner_spot, i
 use Rattle.yf_emit.specs.Preservation.CommentsPlaced.{columns_in}
 use Rattle.yf_emit.proofs.Columns.FormattedSet.{reading_set}
 use Rattle.yf_emit.proofs.Columns.SetMeant.{BlockAt}
-use Rattle.yf_emit.proofs.Columns.SetNodes.{EntryOn, SetDocuments, no_set_documents, set_document, SetItems, no_set_items, set_item, SetNode, set_line, set_scalar, set_sequence, set_mapping, SetPairs, no_set_pairs, set_pair, entries_after}
+use Rattle.yf_emit.proofs.Columns.SetNodes.{EntryOn, SetDocuments, set_document, SetItems, set_item, SetNode, set_line, set_sequence, set_mapping, SetPairs, set_pair, entries_after}
 use Rattle.yf_emit.proofs.Derived.TreesMade.{either_pair}
 use Rattle.yf_emit.proofs.SecondRun.FixedLawsHold.{FoundReading}
 use Rattle.yf_emit.proofs.SecondRun.FixedRows.{found_rows}
 use Rattle.yf_emit.proofs.Derived.FormatsRead.{formats_fit}
 use Rattle.yf_forms.specs.declared.style.Style.{Style}
-use Rattle.yf_print.specs.Layouts.CommentColumns.{Beginning, begins_document, begins_entry, begins_node, comment_column, goes_on, is_ended_by, not_ended, open_after, placed_in}
+use Rattle.yf_print.specs.Layouts.CommentColumns.{Beginning, begins_document, begins_entry, comment_column, goes_on, is_ended_by, not_ended, open_after, placed_in}
 use Rattle.yf_print.specs.declared.open_blocks.OpenBlock.{OpenBlock}
-use Rattle.yf_emit.specs.Layouts.Decorated.{comments_left, decos_of, first_gap, gap_of, row_decos, rows_of}
-use Rattle.yf_print.specs.Layouts.KeptColumns.{Columns, after_row, after_starts, beginning, block_of, column_above, columns_if, is_before_first, is_bodyless, keeps_blocks, precedes_item, unless_document}
+use Rattle.yf_emit.specs.Layouts.Decorated.{decos_of, first_gap, gap_of, row_decos, rows_of}
+use Rattle.yf_print.specs.Layouts.KeptColumns.{Columns, after_row, after_starts, beginning, block_of, column_above, columns_if, is_before_first, is_bodyless, keeps_blocks, unless_document}
 use Rattle.yf_emit.specs.Layouts.Layout.{Source, own_line_comments, source_of}
 use Rattle.yf_emit.specs.Layouts.RowShapes.{RowShape, shape_of}
 use Rattle.yf_print.specs.Layouts.Rows.{Ending, Row, Start, after_key, all_rows, at_text_start, beginning_at, begins_below, begun_at, colon_row, directive_row, end_rows, entry_row, joined, key_row, one_line_row, pair_rows, props_row, rows, rows_of_items, rows_of_pairs, start_row, stream_rows}
 use Rattle.yf_print.specs.Layouts.SourceColumns.{own_column, source_column}
 use Rattle.yf_emit.proofs.OutputLines.ChainedRows.{layout_chain}
 use Rattle.yf_emit.proofs.OutputLines.OpenChains.{Chained, chain_over, chain_row}
-use Rattle.yf_emit.proofs.OutputLines.ColumnsHold.{GapHolds, WalkAbove, WalkFrom, above_walk, every, gap_holds, left_walk, remarks_hold}
+use Rattle.yf_emit.proofs.OutputLines.ColumnsHold.{GapHolds, WalkFrom, above_walk, every, gap_holds, left_walk, remarks_hold}
 use Rattle.yf_emit.proofs.ReadAgain.RowTies.{first_shape, other_shapes}
 use Rattle.yf_emit.proofs.ReadAgain.RowsAgain.{AllStay, stays_end, stays_row, StaysAt}
 use Rattle.yf_emit.proofs.SameReading.CommentsCut.{Each, each_map}
 use Rattle.yf_emit.proofs.SecondRun.AlikeLemmas.{shapes}
-use Rattle.yf_emit.proofs.SecondRun.ColumnsAgain.{InSteps, NextIsAt, all_printed, as_printed, begin_printed, column_again, goes_on_printed, next_document, next_stays, printed_goes_on, printed_not_ended}
+use Rattle.yf_emit.proofs.SecondRun.ColumnsAgain.{InSteps, NextIsAt, all_printed, as_printed, begin_printed, column_again, next_document, next_stays, printed_goes_on, printed_not_ended}
 
 -- Entries that are at their columns in the text.
 

@@ -1,7 +1,7 @@
 -- A block scalar has a sign, and its text and its lines are no longer than what is after it.
 use Rattle.std.proofs.Common.{◌≡◌, ℕ, ℤ, suc, ◌+◌, ◌-◌, ◌<◌, ◌≤◌, Bool, true, false, List, [], ◌∷◌, ◌++◌, length, refl, arith, length-append}
 use Rattle.std.specs.Prelude.{◌==◌, ◌||◌, drop, if◌then◌else◌, slice_range}
-use Rattle.std.proofs.lemmas.List.{length-drop, length-replicate, length-take}
+use Rattle.std.proofs.lemmas.List.{length-drop, length-take}
 use Rattle.yf_chars.specs.Text.{code}
 use Rattle.yf_chars.specs.Class.{is_nb_char, is_white}
 use Rattle.yf_chars.specs.Chain.{Chain, Many}

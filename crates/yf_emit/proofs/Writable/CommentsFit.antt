@@ -7,8 +7,7 @@ use Rattle.std.specs.Prelude.{◌&&◌, if◌then◌else◌}
 use Rattle.std.specs.List.{list_all}
 use Rattle.std.specs.Str.{IsUtf8}
 use lib.Utf8.{encode, encodes}
-use Rattle.yf_chars.specs.Class.{is_between, is_nb_char, is_printable, is_white}
-use Rattle.yf_chars.specs.Text.{no_char}
+use Rattle.yf_chars.specs.Class.{is_white}
 use Rattle.yf_chars.proofs.TextLemmas.{reads_byte}
 use Rattle.yf_lines.specs.LineText.{AllNb, IsLineText}
 use Rattle.yf_comments.specs.Comment.{CommentValue}

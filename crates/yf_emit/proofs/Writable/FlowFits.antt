@@ -2,7 +2,6 @@
 use Rattle.std.proofs.Common.{◌≡◌, ℕ, max, ◌+◌, ◌<◌, ◌≤◌, Bool, true, false, List, [], ◌∷◌, ◌++◌, length, Option, Some, None, refl, sym, ap, ◌∙◌, subst, arith, append_assoc, append-nil}
 use Rattle.std.specs.Prelude.{is_some}
 use Rattle.yf_chars.specs.declared.context.Ctx.{Ctx}
-use Rattle.yf_chars.specs.declared.context.Ctx.TheVariants.{BlockOut, BlockIn, FlowOut, FlowIn, BlockKey, FlowKey}
 use Rattle.yf_lines.specs.Basic.{is_block}
 use Rattle.yf_props.specs.Props.{PropsValue, no_props}
 use Rattle.yf_props.specs.Written.{props_bytes, tag_offset_at}

@@ -9,7 +9,7 @@ use Rattle.std.proofs.lemmas.Str.{IsUtf8-append, IsUtf8-drop, IsUtf8-encode, IsU
 use lib.Utf8.{encode, encodes, scalar, scalars}
 use Rattle.yf_chars.specs.declared.context.Ctx.{Ctx}
 use Rattle.yf_chars.specs.Text.{begins, code, no_char}
-use Rattle.yf_chars.specs.Class.{is_nb_char, is_nb_json, is_ns_char, is_printable, is_between, is_break_char, is_white}
+use Rattle.yf_chars.specs.Class.{is_nb_char, is_ns_char, is_printable, is_between, is_break_char, is_white}
 use Rattle.yf_chars.specs.Chain.{Chain, Many, One}
 use Rattle.yf_chars.specs.Chain.Chain.{done, step}
 use Rattle.yf_chars.specs.Chain.One.{one}

@@ -1,7 +1,6 @@
 -- The layout of a normal reading: where its comments are among the lines, which blank lines are printed, and the bytes.
 use Rattle.std.specs.Prelude.{◌≡◌, ℕ, Bool, true, false, not, ◌==◌, ◌&&◌, ◌||◌, nat_lt, if◌then◌else◌, List, [], ◌∷◌, ◌++◌, map, flat_map, filter, find, zip, replicate, option_to_list, option_map, Option, Some, None}
-use Rattle.std.specs.List.{list_any, list_all}
-use Rattle.yf_chars.specs.Class.{is_white}
+use Rattle.std.specs.List.{list_any}
 use Rattle.yf_comments.specs.Comment.{CommentValue}
 use Rattle.yf_events.specs.declared.event.Span.{Span}
 use Rattle.yf_events.specs.declared.lists.Lists.{Lists}

@@ -1,9 +1,8 @@
 -- How many comments begin before an offset (`first_after`).
-use Rattle.std.proofs.Common.{◌≡◌, ℕ, zero, suc, ◌+◌, ◌<◌, ◌≤◌, Bool, true, false, List, [], ◌∷◌, length, map, get_or, drop, ap, arith, add-one}
-use Rattle.std.specs.Prelude.{nat_lt, if◌then◌else◌}
-use Rattle.std.proofs.lemmas.Bool.Decides.{nat_tests}
+use Rattle.std.proofs.Common.{◌≡◌, ℕ, zero, suc, ◌+◌, ◌<◌, ◌≤◌, List, [], ◌∷◌, length, map, get_or, drop, ap, arith, add-one}
+use Rattle.std.specs.Prelude.{if◌then◌else◌}
 use Rattle.std.proofs.lemmas.List.{drop_all}
-use Rattle.yf_comments.specs.Comment.{CommentValue, comment_value}
+use Rattle.yf_comments.specs.Comment.{comment_value}
 use Rattle.yf_comments.specs.declared.comment.Comment.{Comment}
 use Rattle.yf_forms.specs.Passes.Searches.{count_to}
 use Rattle.yf_chars.proofs.Tests.{below, not_below}

@@ -1,5 +1,5 @@
 -- Where lines begin in the text that was read: counted back step by step, and the columns by that, which are those of the definition.
-use Rattle.std.proofs.Common.{◌≡◌, ℕ, zero, suc, ◌+◌, ◌-◌, ◌<◌, ◌≤◌, Bool, true, false, List, [], ◌∷◌, Option, Some, None, refl, sym, ap, ◌∙◌, subst, arith, add-zero, zero-add}
+use Rattle.std.proofs.Common.{◌≡◌, ℕ, zero, suc, ◌+◌, ◌-◌, ◌<◌, ◌≤◌, Bool, true, false, List, [], ◌∷◌, Option, Some, None, refl, sym, ap, ◌∙◌, arith, add-zero, zero-add}
 use Rattle.std.specs.Prelude.{◌==◌, nat_lt, option_map, if◌then◌else◌}
 use Rattle.std.proofs.lemmas.Bool.{ne_eqb}
 use Rattle.std.proofs.lemmas.Bool.Decides.{nat_tests}
@@ -12,7 +12,7 @@ use Rattle.yf_print.specs.Layouts.KeptColumns.{block_of}
 use Rattle.yf_print.specs.Layouts.Rows.{Start}
 use Rattle.yf_print.specs.Layouts.SourceColumns.{column_by, is_white_or_sign, own_column, source_column}
 use Rattle.yf_print.specs.Passes.Drafts.{block_since}
-use Rattle.yf_print.specs.Passes.KnownLines.{column_if, known_after, known_at, known_before, start_after, start_on, start_since, text_start}
+use Rattle.yf_print.specs.Passes.KnownLines.{column_if, known_after, known_before, start_after, start_on, start_since, text_start}
 
 -- One character back.
 

@@ -1,5 +1,5 @@
 -- What is printed so far, and the line that is being made: how it changes by each part of a line. Columns count from 0.
-use Rattle.std.specs.Prelude.{ℕ, suc, ◌+◌, ◌-◌, min, Bool, true, false, ◌&&◌, nat_lt, if◌then◌else◌, List, [], ◌∷◌, ◌++◌, length, replicate, reverse, take, drop, get_or, slice_get, Option, Some, None}
+use Rattle.std.specs.Prelude.{ℕ, ◌+◌, ◌-◌, min, Bool, true, false, ◌&&◌, nat_lt, if◌then◌else◌, List, [], ◌∷◌, ◌++◌, length, replicate, take, drop, get_or, slice_get, Option, Some, None}
 use Rattle.std.specs.String.{string_bytes}
 use Rattle.yf_comments.specs.Comment.{CommentValue}
 use Rattle.yf_print.specs.declared.output.Output.{Output}

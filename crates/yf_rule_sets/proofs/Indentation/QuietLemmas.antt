@@ -1,6 +1,5 @@
 -- Laws of scalars of which the rule indentation finds nothing.
-use Rattle.std.proofs.Common.{◌≡◌, ℕ, ◌+◌, ◌<◌, Bool, true, false, List, None, length, reverse, refl, sym, ap, subst, ◌∙◌}
-use Rattle.std.specs.Prelude.{not}
+use Rattle.std.proofs.Common.{◌≡◌, ℕ, ◌+◌, ◌<◌, List, None, length, reverse, sym, ap, subst, ◌∙◌}
 use Rattle.std.proofs.lemmas.List.{append-nil}
 use Rattle.std.proofs.lemmas.Option.{same_Some}
 use Rattle.yf_forms.specs.declared.style.Style.{Style}
@@ -15,7 +14,6 @@ use Rattle.yf_rule_sets.specs.declared.facts.node_context.Pass.{Pass}
 use Rattle.yf_rule_sets.proofs.Indentation.FaultLemmas.{one_reached}
 use Rattle.yf_rule_sets.proofs.RuleSets.KeyPassLemmas.{event_at}
 use Rattle.yf_rule_sets.proofs.Texts.ScalarPasses.{block_told, passed_style}
-use Rattle.yf_chars.proofs.Tests.{turned_false}
 
 pub quiet_reached : (src : Table) (r : Lists) (house : Style) (i : ℕ) (old after : Pass) (os : List ℕ) (q : IsQuiet r i) → i < length r.events
     → Passes src.text r.events i (scalar_node q.props q.style q.text) old after (stand_in (reverse old.stack.items) None 0)

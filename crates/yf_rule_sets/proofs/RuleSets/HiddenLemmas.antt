@@ -1,17 +1,12 @@
 -- hidden-character: what its pass finds are the hidden characters that no quoted scalar holds.
-use Rattle.std.proofs.Common.{◌≡◌, ◌≢◌, ℕ, ◌<◌, ◌≤◌, Bool, true, false, true≢false, List, [], Option, Some, None, length, refl, sym, subst, ap, ◌∙◌, ⊎_elim, arith}
-use Rattle.std.specs.Prelude.{slice_get}
+use Rattle.std.proofs.Common.{◌≡◌, ℕ, ◌<◌, ◌≤◌, true, false, List, [], Option, Some, length, sym, subst, ap, ◌∙◌, ⊎_elim, arith}
 use Rattle.std.specs.Str.{IsCharBoundary}
 use Rattle.std.proofs.lemmas.Bool.{cases_Bool}
-use Rattle.std.proofs.lemmas.List.{length-map}
-use Rattle.std.proofs.lemmas.Option.{slice_get_within}
-use Rattle.yf_chars.specs.Hidden.{is_hidden}
 use Rattle.yf_chars.specs.Text.{begins, code, no_char}
 use Rattle.yf_chars.proofs.TextLemmas.{boundary_from_begins, code-nowhere, within_from_code}
 use Rattle.yf_forms.specs.Nodes.ContentStart.{content_start}
 use Rattle.yf_forms.specs.declared.style.Style.{Style}
 use Rattle.yf_events.specs.Event.{scalar_node}
-use Rattle.yf_events.specs.Reading.{events_of, spans_of}
 use Rattle.yf_events.specs.declared.event.ScalarStyle.{ScalarStyle}
 use Rattle.yf_events.specs.declared.event.Span.{Span}
 use Rattle.yf_events.specs.declared.lists.Lists.{Lists}
@@ -23,9 +18,9 @@ use Rattle.yf_rule_sets.specs.RuleSets.Exact.{Exactly, IsTheOne, Sole}
 use Rattle.yf_rule_sets.specs.RuleSets.HiddenCharacters.{HiddenCharacter, QuotedPart, is_quoted}
 use Rattle.yf_rule_sets.specs.RuleSets.HiddenCharacters.HiddenCharacter.{in_no_quotes}
 use Rattle.yf_rule_sets.specs.RuleSets.HiddenCharacters.QuotedPart.{of_quoted}
-use Rattle.yf_rule_sets.specs.RuleSets.Scalars.{IsScalar, ScalarSpan}
+use Rattle.yf_rule_sets.specs.RuleSets.Scalars.{IsScalar}
 use Rattle.yf_rule_sets.specs.RuleSets.Scalars.ScalarSpan.{of_scalar}
-use Rattle.yf_rule_sets.proofs.RuleSets.MarkPassLemmas.{in_cover, kind_answered, out_of_cover, sole_kind, span_event, span_none, span_sole}
+use Rattle.yf_rule_sets.proofs.RuleSets.MarkPassLemmas.{in_cover, kind_answered, out_of_cover, sole_kind, span_event, span_sole}
 use Rattle.yf_rule_sets.proofs.Texts.ExactLemmas.{none_yet}
 
 -- the part of a quoted scalar is one

@@ -1,12 +1,11 @@
 -- An offset at which no character begins has column 1, if it has any.
-use Rattle.std.proofs.Common.{◌≡◌, ℕ, ◌+◌, ◌-◌, ◌<◌, ◌≤◌, ◌⊎◌, true, List, [], length, refl, subst, inl, inr, ⊎_elim, ap, arith}
+use Rattle.std.proofs.Common.{◌≡◌, ℕ, ◌+◌, ◌-◌, ◌≤◌, ◌⊎◌, List, [], length, refl, subst, inl, inr, ⊎_elim, ap, arith}
 use Rattle.std.specs.Str.{IsCharBoundary, IsUtf8}
-use Rattle.std.proofs.lemmas.Bool.Decides.{nat_tests}
 use Rattle.yf_chars.specs.Chain.{Many, one}
 use Rattle.yf_chars.specs.Chain.Chain.{done, step}
-use Rattle.yf_chars.specs.Text.{code, no_char}
+use Rattle.yf_chars.specs.Text.{code}
 use Rattle.yf_chars.proofs.TextLemmas.{reads_real}
-use Rattle.yf_rule_sets.specs.RuleSets.Columns.{ColumnsTo, IsColumn}
+use Rattle.yf_rule_sets.specs.RuleSets.Columns.{IsColumn}
 use Rattle.yf_lines.specs.Lines.{ColumnOf, PlaceOf, among_marks, after_marks, after_lines, in_line, is_char}
 use Rattle.yf_rule_sets.proofs.Findings.BackLemmas.{is_real}
 

@@ -11,7 +11,7 @@ use Rattle.yf_rule_sets.specs.declared.rules.StyleRule.{StyleRule}
 use Rattle.yf_rule_sets.specs.declared.rules.StyleRule.TheVariants.{TrailingBlanks, Indentation, Quoting, DocumentStart, FinalBreak, LineBreaks, ByteOrderMark, BlankLines, FlowLayout, CommentSpace, LineLength, RepeatedKeys, KeyMark, HiddenCharacter}
 use Rattle.yf_rules.specs.AllRules.{Are, FoundWithout, IsDefinition, RulesAreListed, all_rules, rules_without}
 use Rattle.yf_rules.specs.Asked.{asked, is_among}
-use Rattle.yf_rules.specs.Check.{CheckAnswer, FindingsOf, InOrder, RuleFindings}
+use Rattle.yf_rules.specs.Check.{CheckAnswer, InOrder, RuleFindings}
 use Rattle.yf_rules.specs.Check.CheckAnswer.{checked}
 use Rattle.yf_rules.specs.Check.FindingsOf.{at_places}
 use Rattle.yf_rules.specs.Check.InOrder.{no_rules, one_more}

@@ -1,14 +1,14 @@
 -- An offset that is so many characters of one byte after a line's start has that column, in a text whose lines all end with a break.
-use Rattle.std.proofs.Common.{◌≡◌, ◌≢◌, ℕ, ◌+◌, ◌-◌, ◌<◌, ◌≤◌, ⊎_elim, true, false, true≢false, List, length, Some, sym, ◌∙◌, subst, arith}
+use Rattle.std.proofs.Common.{◌≡◌, ◌≢◌, ℕ, ◌+◌, ◌-◌, ◌<◌, ◌≤◌, ⊎_elim, true≢false, List, length, Some, sym, ◌∙◌, subst, arith}
 use Rattle.std.specs.Prelude.{slice_get}
-use Rattle.std.specs.Str.{IsUtf8, IsCharBoundary}
-use Rattle.std.proofs.lemmas.Bool.{cases_Bool, cases_lt, ltb-true}
-use Rattle.yf_chars.specs.Text.{begins, code, next, no_char}
+use Rattle.std.specs.Str.{IsUtf8}
+use Rattle.std.proofs.lemmas.Bool.{cases_lt, ltb-true}
+use Rattle.yf_chars.specs.Text.{code, next, no_char}
 use Rattle.yf_chars.specs.Chain.{Many}
 use Rattle.yf_chars.specs.Chain.Chain.{done, step}
 use Rattle.yf_chars.specs.Chain.One.{one}
 use Rattle.yf_chars.proofs.ChainLemmas.{chain_forward, one_functional}
-use Rattle.yf_chars.proofs.TextLemmas.{boundary_from_begins, byte_from_code, code-nowhere, next_later, next-mark, reads_ascii, reads_real}
+use Rattle.yf_chars.proofs.TextLemmas.{byte_from_code, next_later, next-mark, reads_ascii, reads_real}
 use Rattle.yf_lines.specs.Basic.{LineStart}
 use Rattle.yf_lines.specs.Basic.LineStart.{at_text, after_break, after_mark}
 use Rattle.yf_lines.specs.Lines.{AreLines, ColumnOf, LineHolds, Marks, NewLine, PlaceOf, is_char, is_mark}

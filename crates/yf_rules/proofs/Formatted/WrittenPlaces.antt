@@ -1,9 +1,8 @@
 -- The last character of a flow collection that is as it is written has the last column of its width.
 use Rattle.std.proofs.Common.{◌≡◌, ◌≢◌, ℕ, ◌+◌, ◌-◌, ◌<◌, ◌≤◌, ⊎_elim, Bool, true, false, true≢false, List, [], ◌∷◌, ◌++◌, length, length-append, Some, refl, sym, ap, ◌∙◌, subst, arith}
-use Rattle.std.specs.Prelude.{nat_lt, slice_get}
+use Rattle.std.specs.Prelude.{slice_get}
 use Rattle.std.specs.Str.{IsUtf8}
 use Rattle.std.proofs.lemmas.Bool.{cases_lt}
-use Rattle.std.proofs.lemmas.Bool.Decides.{nat_tests}
 use Rattle.yf_chars.specs.Class.{is_nb_char, is_printable, is_between, is_break_char}
 use Rattle.yf_chars.specs.Text.{code, next, no_char}
 use Rattle.yf_chars.specs.Chain.{Many}

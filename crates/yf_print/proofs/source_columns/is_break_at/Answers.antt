@@ -1,4 +1,4 @@
-use Rattle.std.proofs.Common.{refl, sym, ap, ◌∙◌, ◌≡◌, true, false, Bool}
+use Rattle.std.proofs.Common.{sym, ap, ◌∙◌, ◌≡◌, true, false}
 use Rattle.std.specs.Prelude.{◌||◌, ◌==◌}
 use Rattle.yf_chars.specs.Class.{is_break_char}
 use Rattle.yf_chars.specs.Text.{code}

@@ -1,4 +1,4 @@
-use Rattle.std.proofs.Common.{◌≡◌, ◌-◌, refl, sym, ◌∙◌}
+use Rattle.std.proofs.Common.{◌-◌, refl, sym, ◌∙◌}
 use Rattle.yf_print.specs.Layouts.SourceColumns.{counts}
 use Rattle.yf_print.proofs.Pass.KnownLines.{after_break, after_counted, after_mark, after_other, at_known, is_mark, not_mark}
 use Rattle.yf_print.proofs.source_columns.line_start.Goals as goal

@@ -1,6 +1,5 @@
-use Rattle.std.proofs.Common.{◌≡◌, IfErr, rules, sym, subst}
+use Rattle.std.proofs.Common.{IfErr, rules, sym, subst}
 use Rattle.std.proofs.lemmas.Result.{IfErr-weaker}
-use Rattle.yf_lines.specs.declared.fault.Fault.TheVariants.{Memory}
 use Rattle.yf_stream.specs.StreamReader.{StreamFault, for_memory}
 use Rattle.yf_stream.proofs.Offsets.FaultsPlaced.{faults_are_placed}
 use Rattle.yf_rules.proofs.Findings.FindingLemmas.{found_text, nested_same}

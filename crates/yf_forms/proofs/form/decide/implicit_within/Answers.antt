@@ -1,6 +1,5 @@
 use Rattle.std.proofs.Common.{◌∙◌, ap, get_or}
 use Rattle.yf_forms.specs.NormalForms.Forms.{no_form}
-use Rattle.yf_forms.specs.NormalForms.Normal.{setting_of}
 use Rattle.yf_forms.specs.declared.form.decide.Form.{Form}
 use Rattle.yf_forms.proofs.Decide.FlagLemmas.{implicit_there}
 use Rattle.yf_forms.proofs.form.decide.implicit_within.Goals as goal

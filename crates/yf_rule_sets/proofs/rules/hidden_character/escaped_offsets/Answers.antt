@@ -1,4 +1,4 @@
-use Rattle.std.proofs.Common.{ℕ, ◌+◌, ap, subst, length, arith}
+use Rattle.std.proofs.Common.{◌+◌, ap, subst, length, arith}
 use Rattle.yf_rule_sets.specs.Passes.FarthestEnds.{Covers, AllBegin, NoneBegins, IsBeyond, IsHiddenSign}
 use Rattle.yf_rule_sets.specs.RuleSets.Exact.{IsTheOne, Exactly}
 use Rattle.yf_rule_sets.specs.RuleSets.HiddenCharacters.{HiddenCharacter, QuotedPart}

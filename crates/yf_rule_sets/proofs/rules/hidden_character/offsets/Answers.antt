@@ -1,4 +1,3 @@
-use Rattle.std.proofs.Common.{sym}
 use Rattle.yf_rule_sets.proofs.RuleSets.HiddenLemmas.{none_asked}
 use Rattle.yf_rule_sets.proofs.rules.hidden_character.offsets.Goals as goal
 
