@@ -8,69 +8,16 @@ use crate::build::build_lines;
 use crate::commands::{
     CHECK, CONFIG, DIFF, EVENTS, EXPLAIN, FILE, FMT, WITHOUT, WRITE, yamlfmt_command,
 };
+use crate::refused_words::{
+    NO_COMMAND, NO_FILE, NO_STANDARD_INPUT, NOT_SHOWN, NOTHING_WRITTEN, SEVERAL_DIFFS,
+    SEVERAL_FILES,
+};
 use crate::shown::shown_text;
 use crate::without::{names_of, unknown_name, unknown_text};
 use clap::error::ErrorKind;
 use clap::{ArgMatches, Error};
 use std::alloc::{AllocError, Global};
 use yf_lines::text::OwnedText;
-
-/// The refusal of words that name no command.
-const NO_COMMAND: &str = "error: a command is missing
-
-Usage: yamlfmt <COMMAND>
-
-For more information, try '--help'.
-";
-
-/// The refusal of `--write` without a file.
-const NO_FILE: &str = "error: the argument '--write' needs a FILE
-
-Usage: yamlfmt fmt [OPTIONS] [FILE]...
-
-For more information, try '--help'.
-";
-
-/// The refusal of `--write` with `-` for a file.
-const NO_STANDARD_INPUT: &str =
-    "error: the argument '--write' cannot be used with '-', which is standard input
-
-Usage: yamlfmt fmt [OPTIONS] [FILE]...
-
-For more information, try '--help'.
-";
-
-/// The refusal of `--write` with `--check`.
-const NOTHING_WRITTEN: &str = "error: the argument '--write' cannot be used with '--check'
-
-Usage: yamlfmt fmt [OPTIONS] [FILE]...
-
-For more information, try '--help'.
-";
-
-/// The refusal of `--write` with `--diff`.
-const NOT_SHOWN: &str = "error: the argument '--write' cannot be used with '--diff'
-
-Usage: yamlfmt fmt [OPTIONS] [FILE]...
-
-For more information, try '--help'.
-";
-
-/// The refusal of several files that are neither rewritten nor told of.
-const SEVERAL_FILES: &str = "error: several FILEs need '--write' or '--check'
-
-Usage: yamlfmt fmt [OPTIONS] [FILE]...
-
-For more information, try '--help'.
-";
-
-/// The refusal of several files with `--diff`.
-const SEVERAL_DIFFS: &str = "error: the argument '--diff' takes one FILE
-
-Usage: yamlfmt fmt [OPTIONS] [FILE]...
-
-For more information, try '--help'.
-";
 
 /// What is to be done with a stream.
 #[derive(Clone, Copy, PartialEq, Eq)]

@@ -13,6 +13,7 @@ pub mod inputs;
 pub mod left;
 pub mod named;
 pub mod program;
+pub(crate) mod refused_words;
 pub mod replacing;
 pub mod report;
 pub mod settings;

@@ -1,0 +1,58 @@
+//! What is said of command lines that name no command.
+
+/// The refusal of words that name no command.
+pub const NO_COMMAND: &str = "error: a command is missing
+
+Usage: yamlfmt <COMMAND>
+
+For more information, try '--help'.
+";
+
+/// The refusal of `--write` without a file.
+pub const NO_FILE: &str = "error: the argument '--write' needs a FILE
+
+Usage: yamlfmt fmt [OPTIONS] [FILE]...
+
+For more information, try '--help'.
+";
+
+/// The refusal of `--write` with `-` for a file.
+pub const NO_STANDARD_INPUT: &str =
+    "error: the argument '--write' cannot be used with '-', which is standard input
+
+Usage: yamlfmt fmt [OPTIONS] [FILE]...
+
+For more information, try '--help'.
+";
+
+/// The refusal of `--write` with `--check`.
+pub const NOTHING_WRITTEN: &str = "error: the argument '--write' cannot be used with '--check'
+
+Usage: yamlfmt fmt [OPTIONS] [FILE]...
+
+For more information, try '--help'.
+";
+
+/// The refusal of `--write` with `--diff`.
+pub const NOT_SHOWN: &str = "error: the argument '--write' cannot be used with '--diff'
+
+Usage: yamlfmt fmt [OPTIONS] [FILE]...
+
+For more information, try '--help'.
+";
+
+/// The refusal of several files that are neither rewritten nor told of.
+pub const SEVERAL_FILES: &str = "error: several FILEs need '--write' or '--check'
+
+Usage: yamlfmt fmt [OPTIONS] [FILE]...
+
+For more information, try '--help'.
+";
+
+/// The refusal of several files with `--diff`.
+pub const SEVERAL_DIFFS: &str = "error: the argument '--diff' takes one FILE
+
+Usage: yamlfmt fmt [OPTIONS] [FILE]...
+
+For more information, try '--help'.
+";
