@@ -89,7 +89,7 @@ struct Words<'a, E: Sink> {
 }
 
 impl<E: Sink> WithRules for Words<'_, E> {
-    type Answer = u8;
+    type Value = u8;
 
     /// Answers the words, and gives the status.
     fn with_rules(&mut self, rules: &[Box<dyn Rule>]) -> u8 {

@@ -27,7 +27,7 @@ struct Checking<'a, 't> {
 }
 
 impl WithRules for Checking<'_, '_> {
-    type Answer = Result<Vec<Finding>, Fault>;
+    type Value = Result<Vec<Finding>, Fault>;
 
     /// What the rules find.
     fn with_rules(&mut self, rules: &[Box<dyn Rule>]) -> Result<Vec<Finding>, Fault> {

@@ -3,8 +3,8 @@
 use Rattle.std.specs.Prelude.{◌≡◌, ℕ, ◌+◌, ◌-◌, ◌*◌, ◌≤◌, length, List, Option, Some, None}
 use Rattle.std.specs.List.{All}
 use Rattle.std.specs.Str.{IsCharBoundary}
+use Rattle.yf_chars.specs.Boundary.{BoundaryFrom}
 use Rattle.yf_grammar.specs.BlockReader.BlockParser.{DashAt}
-use Rattle.yf_flow.specs.Machine.{BoundaryFrom}
 use Rattle.yf_flow.specs.declared.nodes.Ending.{Ending}
 use Rattle.yf_flow.specs.declared.nodes.Ending.TheVariants.{End}
 use Rattle.yf_block.specs.declared.content.AfterProperties.{AfterProperties}

@@ -1,9 +1,10 @@
 //! The readers of block nodes over a text with its lines.
 ghost use Rattle.std.specs.Prelude.{◌≡◌, ◌+◌, [], IfOk, IfSome, MatchResult, true, false, ◌^◌, ◌≤◌, length, Ok, None};
 ghost use Rattle.std.specs.Str.{IsCharBoundary};
+ghost use Rattle.yf_chars.specs.Boundary.{BoundaryFrom};
 ghost use Rattle.yf_lines.specs.Basic.{is_block};
 ghost use Rattle.yf_lines.specs.FaultPlaces.{IsFirstPlace};
-ghost use Rattle.yf_flow.specs.Machine.{BoundaryFrom, IsReadFault, IsScanFault};
+ghost use Rattle.yf_flow.specs.Machine.{IsReadFault, IsScanFault};
 ghost use Rattle.yf_block.specs.NodeGiven.{Indentation};
 ghost use Rattle.yf_block.specs.NodeReaders.{ReadsBlockNode, ScansBlockNode};
 

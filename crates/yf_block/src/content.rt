@@ -1,7 +1,7 @@
 //! What a node has on one line: the sign of an entry, properties, a block scalar, or a flow node.
 ghost use Rattle.std.specs.Prelude.{◌≡◌, ◌+◌, Some, MatchBool, ℕ, MatchOption};
 ghost use Rattle.std.specs.Str.{IsCharBoundary};
-ghost use Rattle.yf_flow.specs.Machine.{BoundaryFrom};
+ghost use Rattle.yf_chars.specs.Boundary.{BoundaryFrom};
 ghost use Rattle.yf_grammar.specs.BlockReader.BlockParser.{Ahead};
 ghost use Rattle.yf_block.specs.declared.properties.PlacedProperties.{PlacedProperties as PropertiesThere};
 ghost use Rattle.yf_block.specs.BlockStepTied.{AheadTied};

@@ -3,6 +3,7 @@ ghost use Rattle.std.specs.Prelude.{◌≡◌, ◌≢◌, ◌+◌, ◌-◌, ◌^
 ghost use Rattle.std.specs.Str.{IsCharBoundary};
 ghost use Rattle.yf_chars.specs.Chain.{Stuck};
 ghost use Rattle.yf_chars.specs.Text.{code};
+ghost use Rattle.yf_chars.specs.Boundary.{BoundaryFrom};
 ghost use Rattle.yf_comments.specs.Comments.{Blank};
 ghost use Rattle.yf_events.specs.Event.{placed_value};
 ghost use Rattle.yf_props.specs.Names as Names;
@@ -11,7 +12,6 @@ ghost use Rattle.yf_grammar.specs.BlockReader.BlockParser.{DashAt};
 ghost use Rattle.yf_grammar.specs.Productions.Meaning.{event_with, start_of};
 ghost use Rattle.yf_grammar.specs.Productions.ReadParts.{NotedSince};
 ghost use Rattle.yf_flow.specs.NodeStarts.{lead_event};
-ghost use Rattle.yf_flow.specs.Machine.{BoundaryFrom};
 ghost use Rattle.yf_block.specs.BlockTied.{NodeAwaited};
 ghost use Rattle.yf_block.specs.Counted.{CountedAt, EntryCounted};
 ghost use Rattle.yf_block.specs.InlineTied.{is_sequence, started};

@@ -3,11 +3,12 @@ ghost use Rattle.std.specs.Prelude.{◌≡◌, ℕ, ℤ, ◌+◌, ◌^◌, ◌<�
 ghost use Rattle.std.specs.List.{All};
 ghost use Rattle.std.specs.Str.{IsCharBoundary, IsUtf8};
 ghost use Rattle.yf_chars.specs.Text.{code};
+ghost use Rattle.yf_chars.specs.Boundary.{BoundaryFrom};
 ghost use Rattle.yf_events.specs.Event.{EventInText};
 ghost use Rattle.yf_props.specs.Props.{props_value};
 ghost use Rattle.yf_grammar.specs.Productions.Meaning.{event_with, start_of};
 ghost use Rattle.yf_flow.specs.NodeStarts.{lead_event};
-ghost use Rattle.yf_flow.specs.Machine.{BoundaryFrom, EndingAt};
+ghost use Rattle.yf_flow.specs.Machine.{EndingAt};
 ghost use Rattle.yf_flow.specs.Depth.{EndCounted, openers_from};
 ghost use Rattle.yf_block.specs.ContentTied.{AtKeyEnd, AtNodeEnd, KeyOrLost, KeyRead, LeafEnding};
 ghost use Rattle.yf_block.specs.Counted.{CountedAt, CountedPast, CountedWith};
@@ -30,8 +31,8 @@ use yf_comments::comments::Separation;
 use yf_events::event::{Entry, NewEvent, ScalarStyle};
 use yf_events::part::Part;
 use yf_flow::frame::{FlowContext, Node};
-use yf_flow::node::{Lead, push_scalar_with};
-use yf_flow::nodes::{Ending, read_content_with};
+use yf_flow::node::{Lead, push_scalar};
+use yf_flow::nodes::{Ending, read_content};
 use yf_lines::basic::skip_whites;
 use yf_lines::text::Text;
 use yf_props::alias::alias_node;
@@ -62,7 +63,7 @@ pub(crate) fn read_inline<'a>(
     match empty_key_end(scope.text, at, inner) {
         Some(end) => {
             let style = ScalarStyle::Plain;
-            push_scalar_with(scope.alloc, lead, style, Text::Part(""), end, part)?;
+            push_scalar(scope.alloc, lead, style, Text::Part(""), end, part)?;
             Ok(inline_end(end, depth))
         }
         None => {
@@ -78,7 +79,7 @@ pub(crate) fn read_inline<'a>(
                 context: Ctx::FlowOut,
                 limit: scope.limit,
             };
-            read_content_with(scope.alloc, &scene, at, lead, depth, part)
+            read_content(scope.alloc, &scene, at, lead, depth, part)
         }
     }
 }

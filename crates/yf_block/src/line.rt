@@ -2,9 +2,9 @@
 ghost use Rattle.std.specs.Prelude.{◌≡◌, ◌<◌, ◌≤◌, ℕ, IfOk, IfSome, ◌+◌, Some, true, false, ◌⊎◌, MatchBool, MatchOption};
 ghost use Rattle.std.specs.Str.{IsCharBoundary};
 ghost use Rattle.yf_chars.specs.Chain.{Chosen, Stuck};
+ghost use Rattle.yf_chars.specs.Boundary.{BoundaryFrom};
 ghost use Rattle.yf_comments.specs.Comments.{LineEnd};
 ghost use Rattle.yf_grammar.specs.BlockReader.BlockParser.{DashAt};
-ghost use Rattle.yf_flow.specs.Machine.{BoundaryFrom};
 ghost use Rattle.yf_block.specs.BlockStepTied.{AtNode, AtLine};
 ghost use Rattle.yf_block.specs.ColumnsTied.{CompactTied, SequenceBegins, SequenceTied};
 ghost use Rattle.yf_block.specs.Counted.{CountedAt};
@@ -127,9 +127,10 @@ impl<'a> BlockReader<'a> {
     {
         match self.progress.wanted.outer {
             Some(properties) => {
+                let lead = properties.lead(self.progress.wanted.entry);
                 push_scalar(
                     scope.alloc,
-                    properties.lead(self.progress.wanted.entry),
+                    &lead,
                     ScalarStyle::Plain,
                     Text::Part(""),
                     properties.end,

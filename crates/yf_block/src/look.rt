@@ -4,13 +4,13 @@ ghost use Rattle.std.specs.Prelude.{◌≡◌, ◌≢◌, ◌+◌, ◌-◌, ◌<
 ghost use Rattle.std.specs.Simd.Lanes.{chunk};
 ghost use Rattle.std.specs.Str.{IsCharBoundary};
 ghost use Rattle.yf_chars.specs.Text.{code};
+ghost use Rattle.yf_chars.specs.Boundary.{BoundaryFrom};
 ghost use Rattle.yf_lines.specs.Basic.{Break, Spaces};
 ghost use Rattle.yf_comments.specs.Comments.{Blank};
 ghost use Rattle.yf_grammar.specs.BlockReader.BlockParser.{DashAt, LineText, LinesEnd, SignAt};
 ghost use Rattle.yf_grammar.specs.Productions.BlockScalar.{LinesBetween};
 ghost use Rattle.yf_grammar.specs.Productions.ReadParts.{NotedSince};
 ghost use Rattle.yf_flow.specs.Leaves.{KeyLine};
-ghost use Rattle.yf_flow.specs.Machine.{BoundaryFrom};
 ghost use Rattle.yf_block.specs.InlineAnswers.{KeyEnds};
 ghost use Rattle.yf_block.specs.InlineTied.{EntrySignAt};
 ghost use Rattle.yf_block.specs.LastStarts.{LastStartIs};

@@ -3,7 +3,7 @@ ghost use Rattle.std.specs.Prelude.{◌≡◌, pos, ◌+◌, IfOk, IfSome, Match
 ghost use Rattle.std.specs.Str.{IsCharBoundary};
 ghost use Rattle.yf_chars.specs.Chain.{Stuck};
 ghost use Rattle.yf_chars.specs.Text.{code};
-ghost use Rattle.yf_flow.specs.Machine.{BoundaryFrom};
+ghost use Rattle.yf_chars.specs.Boundary.{BoundaryFrom};
 ghost use Rattle.yf_grammar.specs.BlockReader.BlockParser.{Ahead, PropertiesHeld as HeldValue};
 ghost use Rattle.yf_grammar.specs.FlowReader.Parser.{begins_properties};
 ghost use Rattle.yf_props.specs.Names as Names;

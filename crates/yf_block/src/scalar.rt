@@ -2,11 +2,11 @@
 ghost use Rattle.std.specs.Prelude.{◌≡◌, IfOk, IfSome, MatchBool, MatchOption, ℤ, pos, ◌+ℤ◌, ◌+◌, ◌≤◌, ◌≤ℤ◌, length, ◌^◌, ◌<◌, ◌++◌, ◌∷◌, [], Ok};
 ghost use Rattle.std.specs.Str.{IsCharBoundary};
 ghost use Rattle.yf_chars.specs.Chain.{Chosen, Stuck};
+ghost use Rattle.yf_chars.specs.Boundary.{BoundaryFrom};
 ghost use Rattle.yf_lines.specs.Basic.{LineStart};
 ghost use Rattle.yf_comments.specs.Comment.{row_comments};
 ghost use Rattle.yf_block_scalar.specs.Body.{Body, body_value};
 ghost use Rattle.yf_grammar.specs.Productions.BlockScalar.{kept_lines as kept_of, reach as reach_of, style_of as style_by};
-ghost use Rattle.yf_flow.specs.Machine.{BoundaryFrom};
 ghost use Rattle.yf_block.specs.ContentTied.{ScalarSignAt};
 ghost use Rattle.yf_block.specs.Counted.{CountedAt};
 ghost use Rattle.yf_block.specs.Machine.{IsReaderReady};

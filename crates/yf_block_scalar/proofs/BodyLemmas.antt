@@ -1,17 +1,19 @@
 -- Laws of the lines of a block scalar: where they end, that they are unique, and how a scalar is read line by line.
-use Rattle.std.proofs.Common.{◌≡◌, ◌≢◌, ℕ, zero, suc, ◌+◌, ◌-◌, ◌<◌, ◌≤◌, ℤ, max, Bool, true, false, true≢false, List, [], ◌∷◌, ◌++◌, length, MatchBool, take, slice_range, refl, sym, ap, ◌∙◌, subst, arith, ⊎_elim, ◌⊎◌, inl, inr, append_assoc, append-nil, add-zero, length-append}
+use Rattle.std.proofs.Common.{◌≡◌, ◌≢◌, ℕ, zero, suc, ◌+◌, ◌-◌, ◌<◌, ◌≤◌, ℤ, max, Bool, true, false, true≢false, List, [], ◌∷◌, ◌++◌, length, MatchBool, take, slice_range, refl, sym, ap, ◌∙◌, subst, arith, ⊎_elim, ◌⊎◌, append_assoc, append-nil, add-zero, length-append}
 use Rattle.std.proofs.Math.Seq.{take-append_seam}
-use Rattle.std.proofs.lemmas.Bool.{cases_eq, cases_lt}
+use Rattle.std.proofs.lemmas.Bool.{cases_lt}
 use Rattle.std.specs.Str.{IsUtf8, IsCharBoundary}
 use Rattle.yf_chars.specs.Text.{code, next, no_char}
-use Rattle.yf_chars.specs.Class.{is_nb_char, is_printable, is_between, is_break_char}
+use Rattle.yf_chars.specs.Class.{is_nb_char}
 use Rattle.yf_chars.specs.Chain.{Chain, Many, Stuck, Functional, Nowhere}
 use Rattle.yf_chars.specs.Chain.Chain.{done, step}
-use Rattle.yf_chars.proofs.TextLemmas.{reads_byte, reads_real, code-end, next-mark, code_at_boundary}
+use Rattle.yf_chars.specs.ClassEnds.{no_nb_char}
+use Rattle.yf_chars.proofs.TextLemmas.{reads_byte, code-end, next-mark, code_at_boundary}
 use Rattle.yf_chars.proofs.ChainLemmas.{chain_more, many_unique, stuck_unique}
 use Rattle.yf_lines.specs.Basic.{Spaces, Break, LineStart, is_marker}
 use Rattle.yf_lines.specs.Basic.LineStart.{after_break}
-use Rattle.yf_lines.proofs.BasicLemmas.{break_char, break_forward, break_unique, no_break_here, no_marker, three_first}
+use Rattle.yf_lines.proofs.BasicLemmas.{break_char, break_forward, break_unique, no_break_here}
+use Rattle.yf_comments.proofs.RowLemmas.{end_code}
 use Rattle.yf_block_scalar.specs.Body.{SpaceLine, EmptyLines, largest, Ends, LineContent, Line, Lines, Tail, LinesTaken, Other, IndentedLine, DetectedIndent, Shallow, MarkerLine}
 use Rattle.yf_block_scalar.specs.Body.EmptyLines.{bare}
 use Rattle.yf_block_scalar.specs.Body.Ends.{by_break, by_text}
@@ -22,7 +24,6 @@ use Rattle.yf_block_scalar.specs.Body.MarkerLine.{marker_here, past_mark}
 use Rattle.yf_block_scalar.specs.Body.Shallow.{missing, left_of, forbidden}
 use Rattle.yf_chars.proofs.CharFacts.{return_no_nb, feed_no_nb}
 use Rattle.yf_lines.proofs.ClearLemmas.{marker_char}
-use Rattle.yf_lines.proofs.MarkLemmas.{mark_within}
 
 -- spaces
 pub spaces_fewer : {t : List ℕ} {i m : ℕ} (k : ℕ) → k ≤ m → Spaces t i m → Spaces t i k
@@ -60,16 +61,12 @@ space_line_there t at e j l s b =
     let same : e ≡ at + (e - at) = omega arith in
     record { spaces = s; ends = subst (λ h. Break t h j) same b }
 
-pub no_nb_end : is_nb_char no_char ≡ false
-unfolding is_nb_char is_printable is_between is_break_char
-no_nb_end = refl
-
 pub break_no_nb : {t : List ℕ} {h j : ℕ} → Break t h j → is_nb_char (code t h) ≡ false
 break_no_nb b = ⊎_elim (λ h. ap is_nb_char h ∙ return_no_nb) (λ h. ap is_nb_char h ∙ feed_no_nb) (break_char b)
 
 pub ends_no_nb : {t : List ℕ} {h j : ℕ} {o : Bool} → Ends t h j o → is_nb_char (code t h) ≡ false
 ends_no_nb (by_break b) = break_no_nb b
-ends_no_nb {t} (by_text e) = ap is_nb_char (ap (code t) e ∙ code-end t) ∙ no_nb_end
+ends_no_nb {t} (by_text e) = ap is_nb_char (ap (code t) e ∙ code-end t) ∙ no_nb_char
 
 -- a content line
 pub few_spaces : {t : List ℕ} {at k j : ℕ} {x : List ℕ} {o : Bool} (e : ℕ) → at ≤ e → code t e ≢ 32 → e - at < k → LineContent t k at j x o → ⊥
@@ -235,20 +232,17 @@ marker_stuck {t} {i} (marker_here e) =
     (marker_char t i e)
 marker_stuck {t} {i} (past_mark e l) = stuck_at t i 0xFEFF e (λ w. absurd (omega arith)) (λ w. absurd (omega arith)) (λ w. absurd (omega arith))
 
-pub end_code : (t : List ℕ) (i : ℕ) → i ≡ length t → code t i ≡ no_char
-end_code t i e = ap (code t) e ∙ code-end t
-
 pub shallow_stuck : {t : List ℕ} {n : ℤ} {i : ℕ} → Shallow t n i → Stuck (EmptyLines t i)
 shallow_stuck {t} {n} {i} (missing m s e) =
-    bare_stuck t i m s (λ h. let q = end_code t (i + m) e in absurd (omega arith))
-    (no_break_code t (i + m) no_char (end_code t (i + m) e) (λ w. absurd (omega arith)) (λ w. absurd (omega arith)))
+    bare_stuck t i m s (λ h. let q = end_code t e in absurd (omega arith))
+    (no_break_code t (i + m) no_char (end_code t e) (λ w. absurd (omega arith)) (λ w. absurd (omega arith)))
 shallow_stuck {t} {n} {i} (left_of m s o l) = bare_stuck t i m s o.no_space o.no_break
 shallow_stuck (forbidden l) = marker_stuck l
 
 -- such a line is one that is indented or one that is not
 pub not_both : {t : List ℕ} {n : ℤ} {i k : ℕ} → IndentedLine t n i k → Shallow t n i → ⊥
 not_both {t} {n} {i} {k} d (missing m s e) =
-    let q : code t (i + m) ≡ no_char = end_code t (i + m) e in
+    let q : code t (i + m) ≡ no_char = end_code t e in
     let same : k ≡ m = spaces_unique d.spaces d.other.no_space s (λ h. absurd (omega arith)) in
     d.other.inside (ap (λ w. code t (i + w)) same ∙ q)
 not_both {t} {n} {i} {k} d (left_of m s o l) =

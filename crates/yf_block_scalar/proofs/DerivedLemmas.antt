@@ -9,6 +9,7 @@ use Rattle.yf_chars.specs.Class.{is_white, is_nb_char}
 use Rattle.yf_chars.specs.Chain.{Many, One, Stuck}
 use Rattle.yf_chars.specs.Chain.Chain.{done, step}
 use Rattle.yf_chars.specs.Chain.One.{one}
+use Rattle.yf_chars.specs.ClassEnds.{no_nb_char}
 use Rattle.yf_chars.proofs.TextLemmas.{code-past, byte_from_code}
 use Rattle.yf_lines.specs.Basic.{SeparateInLine}
 use Rattle.yf_lines.specs.Basic.SeparateInLine.{by_whites}
@@ -40,7 +41,7 @@ use Rattle.yf_block_scalar.specs.Body.Trail.{no_comment}
 use Rattle.yf_block_scalar.specs.Body.Body.{indicated, detected}
 use Rattle.yf_block_scalar.specs.Content.{feeds, literal_after, content_of}
 use Rattle.yf_block_scalar.specs.Written.{style_bytes, digit_bytes, sign_bytes, comment_bytes, header_bytes, indented, tail_bytes, break_bytes, body_bytes, written_of, IsLineText, AreLineTexts, EndsWithContent, StartsUnspaced, IsCommentText, IsScalar, IsRead}
-use Rattle.yf_block_scalar.proofs.BodyLemmas.{no_nb_end, break_no_nb}
+use Rattle.yf_block_scalar.proofs.BodyLemmas.{break_no_nb}
 use Rattle.yf_block_scalar.proofs.HeaderLemmas.{between_from, mark_inside}
 use Rattle.yf_block_scalar.proofs.WrittenLemmas.{Rest, rest_start, rest_ascii, rest_spaces, rest_chars, rest_break, space_marker, empty_made, empty_or, indented_full, after_line, some_chars, ContentLineEnd, Lasts, lines_made, tail_made}
 use Rattle.yf_block_scalar.proofs.WrittenLemmas.ContentLineEnd.{open_after, break_after}
@@ -54,7 +55,7 @@ no_line_past (content_line c) = no_content_past c where
   no_content_past : {t : List ℕ} {k j : ℕ} {x : List ℕ} {o : Bool} → LineContent t k (length t) j x o → ⊥
   no_content_past {t} {k} (content s m l q n) =
       let past = code-past t (length t + k) (omega arith) in
-      true≢false (sym (many_nb m l) ∙ ap is_nb_char past ∙ no_nb_end)
+      true≢false (sym (many_nb m l) ∙ ap is_nb_char past ∙ no_nb_char)
 
 pub stuck_past : (t : List ℕ) (k : ℕ) → Stuck (Line t k (length t))
 stuck_past t k = record { none = λ j x l. no_line_past l }
@@ -108,7 +109,7 @@ indented_made {t} {k} {q} {n} {x} ls r u wide deep text full first s =
     record {
       spaces = spaces.0;
       other = record {
-        inside = λ e. true≢false (sym nb ∙ ap is_nb_char e ∙ no_nb_end);
+        inside = λ e. true≢false (sym nb ∙ ap is_nb_char e ∙ no_nb_char);
         no_space = no_space;
         no_break = record { none = λ j b. true≢false (sym nb ∙ break_no_nb b) };
       };

@@ -200,7 +200,7 @@ break_stop {t} {i} (by_end e) = ends_by_code (code t i) no_char (ap (code t) e �
 one_white : {t : List ℕ} {i j : ℕ} {x : List ℕ} → One t is_white i j x → is_white (code t i) ≡ true
 one_white (one e) = e
 
-many_white : {t : List ℕ} {i j : ℕ} {x : List ℕ} → Many t is_white i j x → i < j → is_white (code t i) ≡ true
+pub many_white : {t : List ℕ} {i j : ℕ} {x : List ℕ} → Many t is_white i j x → i < j → is_white (code t i) ≡ true
 many_white done l = absurd (omega arith)
 many_white (step s c) l = one_white s
 

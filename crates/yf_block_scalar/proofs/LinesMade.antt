@@ -2,7 +2,7 @@
 use Rattle.std.proofs.Common.{◌≡◌, ◌≢◌, ℕ, zero, suc, ◌+◌, ◌-◌, ◌<◌, ◌≤◌, Bool, false, List, [], ◌∷◌, ◌++◌, length, length-append, refl, sym, ap, ◌∙◌, ⊎_elim, arith}
 use Rattle.std.proofs.lemmas.Bool.{cases_eq, cases_lt}
 use Rattle.std.specs.Str.{IsUtf8}
-use Rattle.yf_chars.specs.Text.{code, no_char, CharAt}
+use Rattle.yf_chars.specs.Text.{code, CharAt}
 use Rattle.yf_chars.specs.Class.{is_nb_char, is_break_char}
 use Rattle.yf_chars.specs.Chain.{Chain, Many}
 use Rattle.yf_chars.specs.Chain.Chain.{done, step}
@@ -16,7 +16,7 @@ use Rattle.yf_lines.specs.Lines.{NoBreakIn, OneLine}
 use Rattle.yf_lines.specs.declared.line.Line.{Line as TextLine}
 use Rattle.yf_lines.proofs.BasicLemmas.{break_forward, break_char}
 use Rattle.yf_lines.proofs.ClearLemmas.{code_inside}
-use Rattle.yf_lines.proofs.LineLemmas.{break_within, line_to_break, line_to_end}
+use Rattle.yf_lines.proofs.LineLemmas.{break_within, line_to_break, line_to_end, unbroken_nothing}
 use Rattle.yf_block_scalar.specs.Body.{SpaceLine, EmptyLines, Ends, LineContent, Line, Lines, LinesTaken}
 use Rattle.yf_block_scalar.specs.Body.EmptyLines.{bare}
 use Rattle.yf_block_scalar.specs.Body.Ends.{by_break, by_text}
@@ -38,9 +38,6 @@ unbroken_join {j = j} a b = record {
   none = λ h l m. ⊎_elim (λ (f : h < j). a.none h l f) (λ (f : j ≤ h). b.none h f m) (cases_lt h j);
 }
 
-unbroken_here : {t : List ℕ} (i : ℕ) → NoBreakIn t i i
-unbroken_here i = record { order = omega arith; none = λ h l m. absurd (omega arith) }
-
 unbroken_char : {t : List ℕ} {i c j : ℕ} → IsUtf8 t → CharAt t i c j → is_break_char c ≡ false → NoBreakIn t i j
 unbroken_char {t} {i} {c} {j} u r e = record {
   order = let l = r.later in omega arith;
@@ -49,7 +46,7 @@ unbroken_char {t} {i} {c} {j} u r e = record {
 }
 
 pub unbroken_nb : {t : List ℕ} {i j : ℕ} {x : List ℕ} → IsUtf8 t → Many t is_nb_char i j x → NoBreakIn t i j
-unbroken_nb {i = i} u done = unbroken_here i
+unbroken_nb {i = i} u done = unbroken_nothing _ i
 unbroken_nb {t} u (step (one {i = i} e) m) = unbroken_join (unbroken_char u (reads_real t i u (nb_below (code t i) e)) (nb_no_break (code t i) e)) (unbroken_nb u m)
 
 unbroken_spaces : {t : List ℕ} {i k : ℕ} → Spaces t i k → NoBreakIn t i (i + k)
@@ -103,7 +100,7 @@ lines_join c x y e = record {
   counts = omega (arith, length-append x.lines y.lines, x.counts, y.counts);
 }
 
-lines_none : {t : List ℕ} (i : ℕ) → LinesTo t i i 0
+pub lines_none : {t : List ℕ} (i : ℕ) → LinesTo t i i 0
 lines_none i = record { lines = []; chain = done; counts = refl }
 
 space_line_one : {t : List ℕ} {i m j : ℕ} → SpaceLine t i m j → LinesTo t i j 1

@@ -38,7 +38,7 @@ use Rattle.yf_block_scalar.proofs.DerivedLemmas.{stuck_past, trail_past, largest
 use Rattle.yf_chars.proofs.CharFacts.{hash_ns}
 
 -- the end of the text
-rest_end : {t : List ℕ} {q : ℕ} → Rest t q [] → q ≡ length t
+pub rest_end : {t : List ℕ} {q : ℕ} → Rest t q [] → q ≡ length t
 rest_end {t} {q} s =
     let long : length (drop q t) ≡ 0 = ap length s.bytes in
     omega (arith, length-drop q t, s.boundary.0)

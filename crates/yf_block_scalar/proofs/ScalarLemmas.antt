@@ -12,6 +12,7 @@ use Rattle.yf_chars.specs.Class.{is_nb_char, is_printable, is_between, is_break_
 use Rattle.yf_chars.specs.Chain.{Chain, Many, One}
 use Rattle.yf_chars.specs.Chain.Chain.{done, step}
 use Rattle.yf_chars.specs.Chain.One.{one}
+use Rattle.yf_chars.specs.ClassEnds.{no_nb_char}
 use Rattle.yf_chars.proofs.TextLemmas.{drop_there, code_from_byte, code-past, next_ascii, code-nowhere}
 use Rattle.yf_chars.proofs.ChainLemmas.{chain_forward, one_functional}
 use Rattle.yf_lines.proofs.BasicLemmas.{break_char}
@@ -30,13 +31,13 @@ use Rattle.yf_block_scalar.specs.Body.Line.{empty_line, content_line}
 use Rattle.yf_block_scalar.specs.Body.Lines.{no_content, up_to}
 use Rattle.yf_block_scalar.specs.Body.Body.{indicated, detected, without_content}
 use Rattle.yf_block_scalar.specs.Written.{AllNb, IsLineText, AreLineTexts, EndsWithContent, StartsUnspaced, IsCommentText, IsScalar}
-use Rattle.yf_block_scalar.proofs.BodyLemmas.{no_nb_end, indented_stuck}
+use Rattle.yf_block_scalar.proofs.BodyLemmas.{indented_stuck}
 use Rattle.yf_block_scalar.proofs.UniqueLemmas.{content_text, not_empty_too, space_line_unique, lines_chain}
 use Rattle.yf_chars.proofs.CharFacts.{hash_nb}
 
 nb_begins : (t : List ℕ) (i : ℕ) → is_nb_char (code t i) ≡ true → begins t i ≡ true
 nb_begins t i e = ⊎_elim (λ (h : begins t i ≡ true). h)
-    (λ (h : begins t i ≡ false). absurd (true≢false (sym e ∙ ap is_nb_char (code-nowhere t i h) ∙ no_nb_end))) (cases_Bool (begins t i))
+    (λ (h : begins t i ≡ false). absurd (true≢false (sym e ∙ ap is_nb_char (code-nowhere t i h) ∙ no_nb_char))) (cases_Bool (begins t i))
 
 next_is : (t : List ℕ) (i : ℕ) → next t i ≡ i + len_utf8 (code t i)
 unfolding next

@@ -1,5 +1,5 @@
 -- What single characters are: facts of the classes of characters, each once.
-use Rattle.std.proofs.Common.{◌≡◌, Bool, true, false, refl}
+use Rattle.std.proofs.Common.{◌≡◌, true, false, refl}
 use Rattle.yf_chars.specs.Class.{is_between, is_break_char, is_digit, is_flow_indicator, is_nb_char, is_nb_json, is_ns_char, is_printable, is_tag_char, is_uri_char, is_white, is_word_char}
 use Rattle.yf_chars.specs.Text.{no_char}
 
@@ -34,10 +34,6 @@ end_no_json = refl
 pub colon_ns : is_ns_char 58 ≡ true
 unfolding is_ns_char is_nb_char is_printable is_between is_break_char is_white
 colon_ns = refl
-
-pub end_no_ns : is_ns_char no_char ≡ false
-unfolding is_ns_char is_nb_char is_printable is_between is_break_char is_white
-end_no_ns = refl
 
 pub feed_no_ns : is_ns_char 10 ≡ false
 unfolding is_ns_char is_nb_char is_printable is_between is_break_char is_white

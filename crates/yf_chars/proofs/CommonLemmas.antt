@@ -1,5 +1,5 @@
 -- Texts of characters that are spelled by themselves are in double quotes as they are.
-use Rattle.std.proofs.Common.{◌≡◌, ℕ, zero, suc, ◌<◌, true, false, true≢false, List, [], ◌∷◌, ◌++◌, Option, Some, None, refl, ap, ◌∙◌, arith, flat_map, encode_utf8_all}
+use Rattle.std.proofs.Common.{◌≡◌, ℕ, zero, suc, ◌<◌, true, false, List, [], ◌∷◌, ◌++◌, refl, ap, ◌∙◌, arith, flat_map, encode_utf8_all}
 use Rattle.std.specs.Prelude.{is_some}
 use Rattle.std.specs.Str.{IsAscii, chars}
 use Rattle.std.proofs.lemmas.Bool.Decides.{nat_tests}
@@ -10,6 +10,7 @@ use Rattle.yf_chars.specs.Escape.{is_by_two, is_by_four, short_name, spelled}
 use Rattle.yf_chars.specs.Hidden.{spelled_out}
 use Rattle.yf_chars.proofs.EscapeLemmas.{spelled_none, spelled_self}
 use Rattle.yf_chars.proofs.HiddenLemmas.{low_itself, spelled_alike}
+use Rattle.yf_chars.proofs.Tests.{none_there}
 
 pub common_below : (c : ℕ) → is_common c ≡ true → c < 128
 unfolding is_common is_between
@@ -26,10 +27,6 @@ common_not_by_two c e = grind (arith, nat_tests)
 common_not_by_four : (c : ℕ) → is_common c ≡ true → is_by_four c ≡ false
 unfolding is_common is_between is_by_four
 common_not_by_four c e = grind (arith, nat_tests)
-
-pub none_there : (o : Option ℕ) → is_some o ≡ false → o ≡ None
-none_there None e = refl
-none_there (Some x) e = absurd (true≢false e)
 
 pub common_spelled : (c : ℕ) → is_common c ≡ true → spelled c ≡ c ∷ []
 common_spelled c e = spelled_none c (none_there (short_name c) (common_no_letter c e)) ∙ spelled_self c (common_not_by_two c e) (common_not_by_four c e)

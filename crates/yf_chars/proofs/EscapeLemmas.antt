@@ -259,9 +259,6 @@ glue_two a x y p q = q ∙ ap (λ w. w ++ y ∷ []) p ∙ append_assoc a (x ∷ 
 pub glue : {b d e : List ℕ} (a : List ℕ) (x y : ℕ) (z : List ℕ) → b ≡ a ++ x ∷ [] → d ≡ b ++ y ∷ [] → e ≡ d ++ z → e ≡ a ++ x ∷ y ∷ z
 glue a x y z p q r = r ∙ ap (λ w. w ++ z) (glue_two a x y p q) ∙ append_assoc a (x ∷ y ∷ []) z
 
-pub glue_more : {d e : List ℕ} (a z w : List ℕ) → d ≡ a ++ z → e ≡ d ++ w → e ≡ a ++ (z ++ w)
-glue_more a z w p q = q ∙ ap (λ v. v ++ w) p ∙ append_assoc a z w
-
 -- an escape is one
 escape_chosen : {t : List ℕ} {i j v : ℕ} → Escape t i j v → Chosen (Escape t i) j v
 escape_chosen (by_letter b e) = chosen_letter b e
@@ -295,11 +292,11 @@ escape_forward (by_half n h o) = omega arith
 escape_forward (by_pair n h o l) = omega arith
 escape_forward (by_eight n) = omega arith
 
-unnamed_lf : named 10 ≡ None
+pub unnamed_lf : named 10 ≡ None
 unfolding named
 unnamed_lf = refl
 
-unnamed_cr : named 13 ≡ None
+pub unnamed_cr : named 13 ≡ None
 unfolding named
 unnamed_cr = refl
 

@@ -14,8 +14,9 @@ use Rattle.yf_chars.specs.Escape.Escape.{by_letter, by_two, by_four, by_eight}
 use Rattle.yf_chars.specs.Hidden.{is_spelled_out, spelled_out}
 use Rattle.yf_chars.specs.Spelled.{SpellsChar, ReadsBack}
 use Rattle.yf_chars.specs.Spelled.SpellsChar.{as_escape, as_itself}
-use Rattle.yf_chars.proofs.TextLemmas.{reads_char}
+use Rattle.yf_chars.proofs.TextLemmas.{reads_char, scalar_below}
 use Rattle.yf_chars.proofs.EscapeLemmas.{no_digits, more_digits, upper_below, by_two_below, by_four_below, spelled_none, two_spelled, four_spelled, self_spelled, letter_spelled, few_spelled, many_spelled}
+use Rattle.yf_chars.proofs.Tests.{none_some}
 
 -- the bytes from a place on
 pub record IsAt (t : List ℕ) (q : ℕ) (r : List ℕ) : Type 0 where
@@ -130,9 +131,6 @@ above_high c l = grind (arith, nat_tests)
 scalar_high : (c : ℕ) → IsScalar c → is_high c ≡ false
 scalar_high c s = ⊎_elim (λ (h : c < 55296). low_high c h) (λ (h : (57344 ≤ c) × (c < 1114112)). above_high c h.0) (scalar_cases c s)
 
-pub scalar_below : (c : ℕ) → IsScalar c → c < 0x110000
-scalar_below c s = ⊎_elim (λ (h : c < 55296). omega arith) (λ (h : (57344 ≤ c) × (c < 1114112)). h.1) (scalar_cases c s)
-
 pub number_back : (c : ℕ) → IsScalar c → ReadsBack (encode_utf8_all (by_number c)) c
 number_back c s =
     ⊎_elim (λ (l : c < 0x10000). subst (λ w. ReadsBack w c) (sym (few_spelled c l)) (back_four c l (scalar_high c s)))
@@ -150,9 +148,6 @@ short_backslash : short_name 92 ≡ Some 92
 unfolding short_name
 short_backslash = refl
 
-pub never : {l : ℕ} → None ≡ Some l → ⊥
-never e = cc
-
 back_itself : (c : ℕ) → IsScalar c → short_name c ≡ None → is_by_two c ≡ false → is_by_four c ≡ false → ReadsBack (encode c) c
 back_itself c s n e f = record {
   holds = λ t i rest u b d.
@@ -161,7 +156,7 @@ back_itself c s n e f = record {
       (λ (h : (57344 ≤ c) × (c < 1114112)). plain_char c h.1 (inr h.0) n e f) (scalar_cases c s) in
       let end : i + len_utf8 c ≡ i + length (encode c) = omega (arith, length-encode c) in
       as_itself (subst (λ j. CharAt t i c j) end read.0) nb
-      (λ q. never (sym n ∙ ap short_name q ∙ short_quote)) (λ q. never (sym n ∙ ap short_name q ∙ short_backslash));
+      (λ q. none_some (sym n ∙ ap short_name q ∙ short_quote)) (λ q. none_some (sym n ∙ ap short_name q ∙ short_backslash));
 }
 
 long_back : (c : ℕ) → IsScalar c → short_name c ≡ None → ReadsBack (encode_utf8_all (spelled c)) c

@@ -15,8 +15,8 @@ last_or-snoc : (d c : ℕ) (cs : List ℕ) → last_or d (cs ++ (c ∷ [])) ≡ 
 last_or-snoc d c [] = refl
 last_or-snoc d c (x ∷ xs) = last_or-snoc x c xs
 
-below_from_scalar : (c : ℕ) → IsScalar c → c < 0x110000
-below_from_scalar c s = ⊎_elim (λ (h : c < 55296). omega arith) (λ (h : (57344 ≤ c) × (c < 1114112)). h.1) (scalar_cases c s)
+pub scalar_below : (c : ℕ) → IsScalar c → c < 0x110000
+scalar_below c s = ⊎_elim (λ (h : c < 55296). omega arith) (λ (h : (57344 ≤ c) × (c < 1114112)). h.1) (scalar_cases c s)
 
 -- a character begins at each boundary before the end
 pub begins_from_boundary : (t : List ℕ) (i : ℕ) → IsCharBoundary t i → i < length t → begins t i ≡ true
@@ -61,7 +61,7 @@ reads_char t i c rest u b l e =
       later = omega (arith, len_utf8_bounds c);
       within = past.0;
       boundary = past;
-      below = below_from_scalar c s;
+      below = scalar_below c s;
       bytes = whole;
     }
 

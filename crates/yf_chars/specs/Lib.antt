@@ -1,3 +1,4 @@
+pub mod Boundary
 pub mod Chain
 pub mod Class
 pub mod Common

@@ -19,7 +19,7 @@ use Rattle.yf_comments.specs.Comments.BreakOrEnd.{by_break, by_end}
 use Rattle.yf_comments.specs.Comments.LineRest.{nothing, whites, comment}
 
 -- which characters no white and no character of a comment is
-hash_white : (c : ℕ) → c ≡ 35 → is_white c ≡ false
+pub hash_white : (c : ℕ) → c ≡ 35 → is_white c ≡ false
 unfolding is_white
 hash_white c e = ap is_white e
 
@@ -41,7 +41,7 @@ pub none_nb : (c : ℕ) → c ≡ no_char → is_nb_char c ≡ false
 unfolding is_nb_char is_printable is_between is_break_char
 none_nb c e = ap is_nb_char e
 
-end_code : (t : List ℕ) {i : ℕ} → i ≡ length t → code t i ≡ no_char
+pub end_code : (t : List ℕ) {i : ℕ} → i ≡ length t → code t i ≡ no_char
 end_code t e = ap (code t) e ∙ code-end t
 
 module _ {t : List ℕ} where

@@ -5,6 +5,7 @@ pub mod CommentsStay
 pub mod KeyDecides
 pub mod EmptyTexts
 pub mod RowColumns
+pub mod GapColumns
 pub mod LinesTidy
 pub mod SpellingsKept
 pub mod KeysTold

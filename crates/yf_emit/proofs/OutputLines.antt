@@ -11,6 +11,7 @@ pub mod GapSpread
 pub mod LeadRows
 pub mod ColumnsHold
 pub mod ChainedRows
+pub mod ChainedDocuments
 pub mod OpenChains
 pub mod CalmRows
 pub mod ScalarBytes

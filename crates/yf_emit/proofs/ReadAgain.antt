@@ -10,7 +10,7 @@ pub mod RowGaps
 pub mod RowNotes
 pub mod NoteTrees
 pub mod NoteStreams
-pub mod RowSpots
+pub mod RowExtents
 pub mod OwnsAgain
 pub mod TrailAgain
 pub mod RowTies

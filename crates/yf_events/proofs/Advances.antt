@@ -70,7 +70,7 @@ bare limit f (x ∷ b) a e m is n = absurd (omega (arith, n))
 
 -- The end of the pass
 
-not_zero : (n : ℕ) → (suc n == 0) ≡ false
+pub not_zero : (n : ℕ) → (suc n == 0) ≡ false
 not_zero n = grind (arith, nat_tests)
 
 over_is : (b : List NestingState) → is_over Nothing b ≡ (length b == 0)

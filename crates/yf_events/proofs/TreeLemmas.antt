@@ -1,26 +1,11 @@
 -- A list of events is that of one list of trees at most.
 use Rattle.std.proofs.Common.{◌≡◌, ℕ, List, [], ◌∷◌, ◌++◌, flat_map, refl, sym, ap, ◌∙◌, append_assoc}
+use Rattle.yf_chars.proofs.Tests.{same_head, same_tail}
 use Rattle.yf_events.specs.Event.{EventValue, EventInText, stream_ends, document_starts, document_ends, sequence_starts, sequence_ends, mapping_starts, mapping_ends, scalar_node, alias_node}
 use Rattle.yf_events.specs.declared.lists.Lists.{Lists}
 use Rattle.yf_events.specs.Tree.{DocumentTree, TreesOf, flat_document, NodeOffsets, Node, scalar, alias, sequence, mapping, Items, no_items, item, Pairs, no_pairs, pair, placed, unplaced, flat, flat_items, flat_pairs}
 
 -- what two equal lists have in common at their front
-
-first_of_both : EventInText → List EventInText → EventInText
-first_of_both d [] = d
-first_of_both d (e ∷ es) = e
-
-rest_of : List EventInText → List EventInText
-rest_of [] = []
-rest_of (e ∷ es) = es
-
-same_first : (a b : EventInText) (x y : List EventInText) → a ∷ x ≡ b ∷ y → a ≡ b
-unfolding first_of_both
-same_first a b x y e = ap (first_of_both a) e
-
-same_rest : (a b : EventInText) (x y : List EventInText) → a ∷ x ≡ b ∷ y → x ≡ y
-unfolding rest_of
-same_rest a b x y e = ap rest_of e
 
 pub standing_in : EventInText → NodeOffsets
 standing_in e = record { span = e.span; tag_offset = e.tag_offset; entry = e.entry }
@@ -36,10 +21,10 @@ same_lines : (d e : EventInText) → d ≡ e → d.folded ≡ e.folded
 same_lines d e p = ap (λ x. x.folded) p
 
 same_first_event : (d e : EventInText) (x y : List EventInText) → d ∷ x ≡ e ∷ y → d.event ≡ e.event
-same_first_event d e x y p = same_event d e (same_first d e x y p)
+same_first_event d e x y p = same_event d e (same_head p)
 
 -- after the entries of a collection is its end
-regrouped : (x : List EventInText) (d : EventInText) (r : List EventInText) → (x ++ (d ∷ [])) ++ r ≡ x ++ (d ∷ r)
+pub regrouped : (x : List EventInText) (d : EventInText) (r : List EventInText) → (x ++ (d ∷ [])) ++ r ≡ x ++ (d ∷ r)
 regrouped x d r = append_assoc x (d ∷ []) r
 
 three : (x y z r : List EventInText) → (x ++ (y ++ z)) ++ r ≡ x ++ (y ++ (z ++ r))
@@ -49,11 +34,11 @@ three x y z r = append_assoc x (y ++ z) r ∙ ap (λ w. x ++ w) (append_assoc y 
 mutual
   pub node_unique : (x y : Node) (r s : List EventInText) → flat x ++ r ≡ flat y ++ s → (x ≡ y) × (r ≡ s)
   node_unique (scalar a p st t l) (scalar b q su u m) r s e =
-      let h : placed a (scalar_node p st t) l ≡ placed b (scalar_node q su u) m = same_first _ _ _ _ e in
+      let h : placed a (scalar_node p st t) l ≡ placed b (scalar_node q su u) m = same_head e in
       let e1 : a ≡ b = same_standing _ _ _ _ _ _ h in
       let e2 : scalar_node p st t ≡ scalar_node q su u = same_event _ _ h in
       let e3 : l ≡ m = same_lines _ _ h in
-      (cc, same_rest _ _ _ _ e)
+      (cc, same_tail e)
   node_unique (scalar a p st t l) (alias b o) r s e =
       let h : scalar_node p st t ≡ alias_node o = same_first_event _ _ _ _ e in absurd cc
   node_unique (scalar a p st t l) (sequence b g q ys) r s e =
@@ -63,10 +48,10 @@ mutual
   node_unique (alias a n) (scalar b q su u m) r s e =
       let h : alias_node n ≡ scalar_node q su u = same_first_event _ _ _ _ e in absurd cc
   node_unique (alias a n) (alias b o) r s e =
-      let h : placed a (alias_node n) [] ≡ placed b (alias_node o) [] = same_first _ _ _ _ e in
+      let h : placed a (alias_node n) [] ≡ placed b (alias_node o) [] = same_head e in
       let e1 : a ≡ b = same_standing _ _ _ _ _ _ h in
       let e2 : alias_node n ≡ alias_node o = same_event _ _ h in
-      (cc, same_rest _ _ _ _ e)
+      (cc, same_tail e)
   node_unique (alias a n) (sequence b g q ys) r s e =
       let h : alias_node n ≡ sequence_starts g q = same_first_event _ _ _ _ e in absurd cc
   node_unique (alias a n) (mapping b g q qs) r s e =
@@ -76,10 +61,10 @@ mutual
   node_unique (sequence a f p xs) (alias b o) r s e =
       let h : sequence_starts f p ≡ alias_node o = same_first_event _ _ _ _ e in absurd cc
   node_unique (sequence a f p xs) (sequence b g q ys) r s e =
-      let h : placed a (sequence_starts f p) [] ≡ placed b (sequence_starts g q) [] = same_first _ _ _ _ e in
+      let h : placed a (sequence_starts f p) [] ≡ placed b (sequence_starts g q) [] = same_head e in
       let e1 : a ≡ b = same_standing _ _ _ _ _ _ h in
       let e2 : sequence_starts f p ≡ sequence_starts g q = same_event _ _ h in
-      let e3 : (flat_items xs ++ (unplaced sequence_ends ∷ [])) ++ r ≡ (flat_items ys ++ (unplaced sequence_ends ∷ [])) ++ s = same_rest _ _ _ _ e in
+      let e3 : (flat_items xs ++ (unplaced sequence_ends ∷ [])) ++ r ≡ (flat_items ys ++ (unplaced sequence_ends ∷ [])) ++ s = same_tail e in
       let inner : (xs ≡ ys) × (r ≡ s) = items_unique xs ys r s (sym (regrouped (flat_items xs) _ r) ∙ (e3 ∙ regrouped (flat_items ys) _ s)) in
       let e4 : xs ≡ ys = inner.0 in
       (cc, inner.1)
@@ -92,17 +77,17 @@ mutual
   node_unique (mapping a f p ps) (sequence b g q ys) r s e =
       let h : mapping_starts f p ≡ sequence_starts g q = same_first_event _ _ _ _ e in absurd cc
   node_unique (mapping a f p ps) (mapping b g q qs) r s e =
-      let h : placed a (mapping_starts f p) [] ≡ placed b (mapping_starts g q) [] = same_first _ _ _ _ e in
+      let h : placed a (mapping_starts f p) [] ≡ placed b (mapping_starts g q) [] = same_head e in
       let e1 : a ≡ b = same_standing _ _ _ _ _ _ h in
       let e2 : mapping_starts f p ≡ mapping_starts g q = same_event _ _ h in
-      let e3 : (flat_pairs ps ++ (unplaced mapping_ends ∷ [])) ++ r ≡ (flat_pairs qs ++ (unplaced mapping_ends ∷ [])) ++ s = same_rest _ _ _ _ e in
+      let e3 : (flat_pairs ps ++ (unplaced mapping_ends ∷ [])) ++ r ≡ (flat_pairs qs ++ (unplaced mapping_ends ∷ [])) ++ s = same_tail e in
       let inner : (ps ≡ qs) × (r ≡ s) = pairs_unique ps qs r s (sym (regrouped (flat_pairs ps) _ r) ∙ (e3 ∙ regrouped (flat_pairs qs) _ s)) in
       let e4 : ps ≡ qs = inner.0 in
       (cc, inner.1)
 
   items_unique : (xs ys : Items) (r s : List EventInText)
       → flat_items xs ++ (unplaced sequence_ends ∷ r) ≡ flat_items ys ++ (unplaced sequence_ends ∷ s) → (xs ≡ ys) × (r ≡ s)
-  items_unique no_items no_items r s e = (refl, same_rest _ _ _ _ e)
+  items_unique no_items no_items r s e = (refl, same_tail e)
   items_unique no_items (item (scalar b q su u m) zs) r s e =
       let h : sequence_ends ≡ scalar_node q su u = same_first_event _ _ _ _ e in absurd cc
   items_unique no_items (item (alias b o) zs) r s e =
@@ -131,7 +116,7 @@ mutual
 
   pairs_unique : (xs ys : Pairs) (r s : List EventInText)
       → flat_pairs xs ++ (unplaced mapping_ends ∷ r) ≡ flat_pairs ys ++ (unplaced mapping_ends ∷ s) → (xs ≡ ys) × (r ≡ s)
-  pairs_unique no_pairs no_pairs r s e = (refl, same_rest _ _ _ _ e)
+  pairs_unique no_pairs no_pairs r s e = (refl, same_tail e)
   pairs_unique no_pairs (pair (scalar b q su u m) v zs) r s e =
       let h : mapping_ends ≡ scalar_node q su u = same_first_event _ _ _ _ e in absurd cc
   pairs_unique no_pairs (pair (alias b o) v zs) r s e =
@@ -186,12 +171,12 @@ documents_unique (d ∷ ds) (f ∷ es) r s e =
     let marks : d.marked ≡ f.marked = cc in
     let roots : (d.root ≡ f.root) × (unplaced (document_ends d.closed) ∷ (flat_map flat_document ds ++ (unplaced stream_ends ∷ r))
     ≡ unplaced (document_ends f.closed) ∷ (flat_map flat_document es ++ (unplaced stream_ends ∷ s))) =
-    node_unique d.root f.root _ _ (same_rest _ _ _ _ e1) in
+    node_unique d.root f.root _ _ (same_tail e1) in
     let k : document_ends d.closed ≡ document_ends f.closed = same_first_event _ _ _ _ roots.1 in
     let closes : d.closed ≡ f.closed = cc in
     let firsts : d ≡ f = same_document d f marks closes roots.0 in
-    let others : ds ≡ es = documents_unique ds es r s (same_rest _ _ _ _ roots.1) in
+    let others : ds ≡ es = documents_unique ds es r s (same_tail roots.1) in
     cc
 
 pub trees_unique : (r : Lists) (ds es : List DocumentTree) → TreesOf r ds → TreesOf r es → ds ≡ es
-trees_unique r ds es a b = documents_unique ds es [] [] (same_rest _ _ _ _ (sym a.events ∙ b.events))
+trees_unique r ds es a b = documents_unique ds es [] [] (same_tail (sym a.events ∙ b.events))

@@ -5,8 +5,8 @@ ghost use Rattle.yf_explain.specs.Explained.{AddsWords, Explains, Extends, Tells
 
 use crate::opened::opened_before;
 use crate::page::Page;
+use crate::position::{line_span, push_place, push_words};
 use crate::source::push_source;
-use crate::spot::{line_span, push_place, push_words};
 use itoa::Buffer;
 use std::alloc::{AllocError, Global};
 use yf_chars::utf8::check_utf8;

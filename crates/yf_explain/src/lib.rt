@@ -6,9 +6,9 @@ mod explained;
 mod look;
 mod opened;
 mod page;
+mod position;
 mod source;
-mod spot;
 
 pub use explained::{explain, page_at, page_of_words, push_line};
 pub use page::Page;
-pub use spot::place_offset;
+pub use position::place_offset;

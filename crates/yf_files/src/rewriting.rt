@@ -10,16 +10,16 @@ use std::alloc::{AllocError, Global};
 /// What gives a text in the house style.
 pub trait Formatter {
     /// Why it gives none.
-    type Refusal: Drop;
+    type Error: Drop;
 
     /// The second text is a formatting of the first.
     ghost Formats: { Self → List ℕ → List ℕ → Type 0 };
 
     /// That is why the text has no formatting.
-    ghost Refuses: { Self → List ℕ → Self.Refusal → Type 0 };
+    ghost Refuses: { Self → List ℕ → Self.Error → Type 0 };
 
     /// The formatting of the text that the bytes are.
-    fn format(&self, alloc: Global, bytes: &[u8]) -> Result<String, Self::Refusal>
+    fn format(&self, alloc: Global, bytes: &[u8]) -> Result<String, Self::Error>
         ensures formats { IfOk result (λ formatted. Formats self.now bytes.now (string_bytes formatted)) }
         ensures refuses { IfErr result (Refuses self.now bytes.now) };
 }
@@ -52,7 +52,7 @@ pub fn rewrite<S: FileSystem, F: Formatter>(
     files: &mut S,
     formatter: &F,
     file: &str,
-) -> Result<(), RewriteError<F::Refusal>>
+) -> Result<(), RewriteError<F::Error>>
     ensures any_moment { S.tells → AtAnyMoment (S.state files.old) (S.state files.new) (new_name_of file.now)
         (IsFormatting (F.Formats formatter.now) (S.state files.old) file.now) }
     ensures rewrote { S.tells → OnOk result (Rewrote (F.Formats formatter.now) (S.state files.old) (S.state files.new) file.now) }

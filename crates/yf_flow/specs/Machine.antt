@@ -2,6 +2,7 @@
 -- change are there, and less of the text is left at each step.
 use Rattle.std.specs.Prelude.{ℕ, ◌+◌, ◌-◌, ◌*◌, ◌<◌, ◌≤◌, List}
 use Rattle.std.specs.Str.{IsCharBoundary}
+use Rattle.yf_chars.specs.Boundary.{BoundaryFrom}
 use Rattle.yf_lines.specs.declared.fault.Fault.{Fault}
 use Rattle.yf_lines.specs.declared.fault.Fault.TheVariants.{Memory, EscapeValue, TooDeep as TooDeepFault}
 use Rattle.yf_lines.specs.FaultPlaces.{InText}
@@ -12,11 +13,6 @@ use Rattle.yf_flow.specs.declared.nodes.Ending.{Ending}
 use Rattle.yf_flow.specs.declared.nodes.Ending.TheVariants.{End, Nothing as NoEnd, TooDeep as TooDeepThere}
 use Rattle.yf_flow.specs.declared.node.Begun.{Begun}
 use Rattle.yf_flow.specs.declared.node.Begun.TheVariants.{Leaf, Opened, Nothing, TooDeep as TooDeepAt}
-
--- a place at an offset or after it
-pub record BoundaryFrom (t : List ℕ) (at p : ℕ) : Type 0 where
-  pub boundary : IsCharBoundary t p
-  pub order : at ≤ p
 
 -- of m events, those are there that begin the collection and its present entry, which begins between characters
 pub record EntryIsIn (t : List ℕ) (m : ℕ) (f : Frame) : Type 0 where

@@ -3,6 +3,7 @@
 use Rattle.std.specs.Prelude.{◌≡◌, ℕ, ◌+◌, ◌<◌, ℤ, false, List, Some, None}
 use Rattle.std.specs.Str.{IsCharBoundary}
 use Rattle.yf_chars.specs.declared.context.Ctx.{Ctx}
+use Rattle.yf_chars.specs.Boundary.{BoundaryFrom}
 use Rattle.yf_lines.specs.Basic.{is_block}
 use Rattle.yf_events.specs.declared.part.Part.{Part}
 use Rattle.yf_grammar.specs.Productions.Grammar.{in_flow}
@@ -13,7 +14,6 @@ use Rattle.yf_flow.specs.declared.nodes.Ending.TheVariants.{End, Nothing as NoEn
 use Rattle.yf_flow.specs.declared.nodes.FlowOutcome.{FlowOutcome}
 use Rattle.yf_flow.specs.declared.nodes.FlowOutcome.TheVariants.{Found as NodeThere, Nothing as NoNode, TooDeep as TooDeepHere}
 use Rattle.yf_flow.specs.Depth.{openers_from}
-use Rattle.yf_flow.specs.Machine.{BoundaryFrom}
 use Rattle.yf_flow.specs.ReadNodes.{NodeRead, NodeLost}
 use Rattle.yf_flow.specs.StackMeaning.{PartSoFar}
 

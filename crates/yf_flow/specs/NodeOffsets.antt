@@ -3,6 +3,7 @@ use Rattle.std.specs.Prelude.{◌≡◌, ℕ, ◌+◌, ◌≤◌, Bool, true, fa
 use Rattle.std.specs.List.{All}
 use Rattle.std.specs.Str.{IsCharBoundary}
 use Rattle.yf_chars.specs.Chain.{Chosen, Stuck}
+use Rattle.yf_chars.specs.Boundary.{BoundaryFrom}
 use Rattle.yf_lines.specs.Text.{text_bytes}
 use Rattle.yf_plain.specs.Plain as Plains
 use Rattle.yf_props.specs.Names as Names
@@ -19,26 +20,26 @@ use Rattle.yf_flow.specs.declared.node.Begun.{Begun}
 use Rattle.yf_flow.specs.declared.node.Begun.TheVariants.{Leaf}
 use Rattle.yf_flow.specs.declared.node.Lead.{Lead}
 use Rattle.yf_flow.specs.NodeStarts.{ContentBegun, leaf_event}
-use Rattle.yf_flow.specs.Machine.{BegunAt, BoundaryFrom}
+use Rattle.yf_flow.specs.Machine.{BegunAt}
 use Rattle.yf_flow.specs.NodeParts.{NodeBegun}
 
-abbrev pub SpotBegun : FlowCursor → Option Entry → Part → Part → Begun → Type 0
-SpotBegun spot entry old new b = NodeBegun spot.scene.text.now spot.scene.indentation spot.scene.context spot.at spot.depth spot.scene.limit entry old new b
+abbrev pub CursorBegun : FlowCursor → Option Entry → Part → Part → Begun → Type 0
+CursorBegun cursor entry old new b = NodeBegun cursor.scene.text.now cursor.scene.indentation cursor.scene.context cursor.at cursor.depth cursor.scene.limit entry old new b
 
-abbrev pub SpotContent : FlowCursor → Lead → Part → Part → Begun → Type 0
-SpotContent spot lead old new b = ContentBegun spot.scene.text.now spot.scene.indentation spot.scene.context spot.at spot.depth spot.scene.limit lead old new b
+abbrev pub CursorContent : FlowCursor → Lead → Part → Part → Begun → Type 0
+CursorContent cursor lead old new b = ContentBegun cursor.scene.text.now cursor.scene.indentation cursor.scene.context cursor.at cursor.depth cursor.scene.limit lead old new b
 
 -- a place between characters, where the bad escapes that were noted begin between characters too
-pub record NodeIsAwaited (spot : FlowCursor) (old : Part) : Type 0 where
-  pub boundary : IsCharBoundary spot.scene.text.now spot.at
-  pub escapes : All (IsCharBoundary spot.scene.text.now) old.escapes
+pub record NodeIsAwaited (cursor : FlowCursor) (old : Part) : Type 0 where
+  pub boundary : IsCharBoundary cursor.scene.text.now cursor.at
+  pub escapes : All (IsCharBoundary cursor.scene.text.now) old.escapes
 
 -- what has begun in that sense, after some events or with none
-pub record Begins (HasBegun : Part → Part → Begun → Type 0) (spot : FlowCursor) (old new : Part) (b : Begun) : Type 0 where
+pub record Begins (HasBegun : Part → Part → Begun → Type 0) (cursor : FlowCursor) (old new : Part) (b : Begun) : Type 0 where
   pub exact : HasBegun old new b
-  pub begun : BegunAt spot.scene.text.now spot.at (length old.events) (length new.events) b
+  pub begun : BegunAt cursor.scene.text.now cursor.at (length old.events) (length new.events) b
   pub grows : length old.events ≤ length new.events
-  pub escapes : All (IsCharBoundary spot.scene.text.now) new.escapes
+  pub escapes : All (IsCharBoundary cursor.scene.text.now) new.escapes
 
 -- the longest properties and the longest plain scalar there, or that there are none
 abbrev pub PropertiesRead : FlowContext → ℕ → Option Properties → Type 0
@@ -46,12 +47,12 @@ PropertiesRead scene at o = MatchOption o (Stuck (Names.Properties scene.text.no
     (λ p. Chosen (Names.Properties scene.text.now scene.indentation scene.context at) p.end (properties_value p))
 
 abbrev pub PlainRead : FlowCursor → Option Scalar → Type 0
-PlainRead spot o = MatchOption o (Stuck (Plains.Plain spot.scene.text.now spot.scene.indentation spot.scene.context spot.at))
-    (λ p. (x : List ℕ) × (text_bytes p.text ≡ encode_utf8_all x) × Chosen (Plains.Plain spot.scene.text.now spot.scene.indentation spot.scene.context spot.at) p.end x)
+PlainRead cursor o = MatchOption o (Stuck (Plains.Plain cursor.scene.text.now cursor.scene.indentation cursor.scene.context cursor.at))
+    (λ p. (x : List ℕ) × (text_bytes p.text ≡ encode_utf8_all x) × Chosen (Plains.Plain cursor.scene.text.now cursor.scene.indentation cursor.scene.context cursor.at) p.end x)
 
-pub record PropertiesAt (spot : FlowCursor) (p : Properties) : Type 0 where
-  pub place : BoundaryFrom spot.scene.text.now (spot.at + 1) p.end
-  pub chosen : Chosen (Names.Properties spot.scene.text.now spot.scene.indentation spot.scene.context spot.at) p.end (properties_value p)
+pub record PropertiesAt (cursor : FlowCursor) (p : Properties) : Type 0 where
+  pub place : BoundaryFrom cursor.scene.text.now (cursor.at + 1) p.end
+  pub chosen : Chosen (Names.Properties cursor.scene.text.now cursor.scene.indentation cursor.scene.context cursor.at) p.end (properties_value p)
 
 -- a scalar has been added as a node
 abbrev pub is_quoted : ScalarStyle → Bool
@@ -61,8 +62,8 @@ is_quoted Double = true
 is_quoted Literal = false
 is_quoted Folded = false
 
-pub record LeafPushed (spot : FlowCursor) (lead : Lead) (style : ScalarStyle) (s : Scalar) (old new : Part) (b : Begun) : Type 0 where
-  pub leaf : b ≡ Leaf (record { end = s.end; json = is_quoted style; deepest = spot.depth })
+pub record LeafPushed (cursor : FlowCursor) (lead : Lead) (style : ScalarStyle) (s : Scalar) (old new : Part) (b : Begun) : Type 0 where
+  pub leaf : b ≡ Leaf (record { end = s.end; json = is_quoted style; deepest = cursor.depth })
   pub events : new.events ≡ old.events ++ (leaf_event lead style (text_bytes s.text) s.end ∷ [])
   pub comments : new.comments ≡ old.comments
   pub escapes : new.escapes ≡ old.escapes

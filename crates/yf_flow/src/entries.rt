@@ -4,10 +4,11 @@ ghost use Rattle.std.specs.Prelude.{◌≢◌, ℕ, ◌+◌, ◌-◌, ◌*◌, �
 ghost use Rattle.std.specs.List.{All};
 ghost use Rattle.std.specs.Str.{IsCharBoundary};
 ghost use Rattle.yf_chars.specs.Text.{code};
+ghost use Rattle.yf_chars.specs.Boundary.{BoundaryFrom};
 ghost use Rattle.yf_events.specs.Event.{placed_value};
 ghost use Rattle.yf_flow.specs.EntryOfRole.{EntryBegun};
 ghost use Rattle.yf_flow.specs.EntryStarts.{AtQuestioned, QuestionMark};
-ghost use Rattle.yf_flow.specs.Machine.{EntryIsNext, BoundaryFrom, left};
+ghost use Rattle.yf_flow.specs.Machine.{EntryIsNext, left};
 ghost use Rattle.yf_flow.specs.StepContract.{At, InMapping, StepLeads, QuestionRoom, ReaderCounted, ReaderTied, Ready, Room, SceneRead, IsReaderReady};
 ghost use Rattle.yf_flow.specs.StackMeaning.{AtEntry, AtNode, Base, EntryNoted, NoteFilled, pair_event};
 
@@ -99,13 +100,13 @@ impl<'a> FlowReader<'a> {
         ensures escapes { IfOk result (λ _. All (IsCharBoundary scene.entry.text.now) self.new.part.escapes) }
     {
         let entry = entry_begun(scene.text, self.top);
-        let spot = FlowCursor {
+        let cursor = FlowCursor {
             alloc: self.alloc,
             scene,
             at,
             depth: self.top.depth,
         };
-        match begin_node(spot, entry, &mut self.part)? {
+        match begin_node(cursor, entry, &mut self.part)? {
             Begun::Leaf(node) => Ok(Step::Ended(node)),
             Begun::Opened(frame) => {
                 self.below.push(self.top)?;

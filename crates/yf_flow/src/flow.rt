@@ -2,9 +2,10 @@
 ghost use Rattle.std.specs.Prelude.{◌≡◌, ◌+◌, [], false, true, IfOk, IfSome, MatchResult, Ok, None};
 ghost use Rattle.std.specs.List.{All};
 ghost use Rattle.std.specs.Str.{IsCharBoundary};
+ghost use Rattle.yf_chars.specs.Boundary.{BoundaryFrom};
 ghost use Rattle.yf_lines.specs.Basic.{is_block};
 ghost use Rattle.yf_lines.specs.FaultPlaces.{IsFirstPlace};
-ghost use Rattle.yf_flow.specs.Machine.{IsReadFault, IsScanFault, BoundaryFrom};
+ghost use Rattle.yf_flow.specs.Machine.{IsReadFault, IsScanFault};
 ghost use Rattle.yf_flow.specs.NodeReaders.{ReadsFlowNode, ReadsKey, ScansFlowNode, ScansKey};
 
 use crate::frame::FlowContext;

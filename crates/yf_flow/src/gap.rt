@@ -1,7 +1,7 @@
 //! Separation within flow nodes, and its comments.
 ghost use Rattle.std.specs.Prelude.{IfOk};
 ghost use Rattle.std.specs.Str.{IsCharBoundary};
-ghost use Rattle.yf_flow.specs.Machine.{BoundaryFrom};
+ghost use Rattle.yf_chars.specs.Boundary.{BoundaryFrom};
 ghost use Rattle.yf_flow.specs.Leaves.{GapRead};
 
 use crate::frame::FlowContext;

@@ -7,7 +7,7 @@ ghost use Rattle.yf_events.specs.Event.{new_event_value};
 ghost use Rattle.yf_grammar.specs.FlowReader.Parser.{begins_content};
 ghost use Rattle.yf_flow.specs.NodeStarts.{IsOpening, is_sequence};
 ghost use Rattle.yf_chars.specs.Text.{code};
-ghost use Rattle.yf_flow.specs.NodeOffsets.{NodeIsAwaited, Begins, SpotContent};
+ghost use Rattle.yf_flow.specs.NodeOffsets.{NodeIsAwaited, Begins, CursorContent};
 
 use crate::frame::{CollectionKind, FlowCursor, Frame, Role};
 use crate::leaf::{Scalar, keep_escapes};
@@ -23,32 +23,44 @@ use yf_quoted::single::{Single, single_in};
 /// A quoted scalar, or the opening bracket of a flow collection (c-flow-json-content, production 157).
 #[inline(always)]
 pub(crate) fn json_content<'a>(
-    spot: &FlowCursor<'a>,
+    cursor: &FlowCursor<'a>,
     lead: &Lead<'a>,
     part: &mut Part<'a>,
 ) -> Result<Begun, AllocError>
-    requires awaited { NodeIsAwaited spot.now part.old }
-    requires content { begins_content (code spot.now.scene.text.now spot.now.at) ≡ true }
-    ensures { IfOk result (Begins (SpotContent spot.now lead.now) spot.now part.old part.new) }
+    requires awaited { NodeIsAwaited cursor.now part.old }
+    requires content { begins_content (code cursor.now.scene.text.now cursor.now.at) ≡ true }
+    ensures { IfOk result (Begins (CursorContent cursor.now lead.now) cursor.now part.old part.new) }
 {
-    let alloc = spot.alloc;
-    let scene = &spot.scene;
-    if is_char_at(scene.text, spot.at, b'\'') {
-        match single_in(alloc, scene.text, spot.at, scene.indentation, scene.context)? {
+    let alloc = cursor.alloc;
+    let scene = &cursor.scene;
+    if is_char_at(scene.text, cursor.at, b'\'') {
+        match single_in(
+            alloc,
+            scene.text,
+            cursor.at,
+            scene.indentation,
+            scene.context,
+        )? {
             Some(Single { text, end }) => {
-                return push_leaf(spot, lead, ScalarStyle::Single, Scalar { text, end }, part);
+                return push_leaf(
+                    cursor,
+                    lead,
+                    ScalarStyle::Single,
+                    Scalar { text, end },
+                    part,
+                );
             }
             None => return Ok(Begun::Nothing),
         }
     }
-    if is_char_at(scene.text, spot.at, b'"') {
-        return double_node(spot, lead, part);
+    if is_char_at(scene.text, cursor.at, b'"') {
+        return double_node(cursor, lead, part);
     }
-    if is_char_at(scene.text, spot.at, b'[') {
-        return open(spot, CollectionKind::Sequence, lead, part);
+    if is_char_at(scene.text, cursor.at, b'[') {
+        return open(cursor, CollectionKind::Sequence, lead, part);
     }
-    if is_char_at(scene.text, spot.at, b'{') {
-        return open(spot, CollectionKind::Mapping, lead, part);
+    if is_char_at(scene.text, cursor.at, b'{') {
+        return open(cursor, CollectionKind::Mapping, lead, part);
     }
     Ok(Begun::Nothing)
 }
@@ -56,20 +68,32 @@ pub(crate) fn json_content<'a>(
 // A double-quoted scalar (c-double-quoted(n,c), production 109), whose escapes that are no character are kept.
 #[inline(always)]
 fn double_node<'a>(
-    spot: &FlowCursor<'a>,
+    cursor: &FlowCursor<'a>,
     lead: &Lead<'a>,
     part: &mut Part<'a>,
 ) -> Result<Begun, AllocError>
-    requires awaited { NodeIsAwaited spot.now part.old }
-    requires quote { code spot.now.scene.text.now spot.now.at ≡ 34 }
-    ensures { IfOk result (Begins (SpotContent spot.now lead.now) spot.now part.old part.new) }
+    requires awaited { NodeIsAwaited cursor.now part.old }
+    requires quote { code cursor.now.scene.text.now cursor.now.at ≡ 34 }
+    ensures { IfOk result (Begins (CursorContent cursor.now lead.now) cursor.now part.old part.new) }
 {
-    let alloc = spot.alloc;
-    let scene = &spot.scene;
-    match double_in(alloc, scene.text, spot.at, scene.indentation, scene.context)? {
+    let alloc = cursor.alloc;
+    let scene = &cursor.scene;
+    match double_in(
+        alloc,
+        scene.text,
+        cursor.at,
+        scene.indentation,
+        scene.context,
+    )? {
         Some(Double { text, bad, end }) => {
             keep_escapes(&bad, &mut part.escapes)?;
-            push_leaf(spot, lead, ScalarStyle::Double, Scalar { text, end }, part)
+            push_leaf(
+                cursor,
+                lead,
+                ScalarStyle::Double,
+                Scalar { text, end },
+                part,
+            )
         }
         None => Ok(Begun::Nothing),
     }
@@ -89,29 +113,29 @@ fn collection_start<'a>(kind: CollectionKind, props: Props<'a>) -> NewEvent<'a>
 // Opens the collection whose bracket is there, if there is room for it. Where it ends is noted once it is closed.
 #[inline(always)]
 fn open<'a>(
-    spot: &FlowCursor<'a>,
+    cursor: &FlowCursor<'a>,
     kind: CollectionKind,
     lead: &Lead<'a>,
     part: &mut Part<'a>,
 ) -> Result<Begun, AllocError>
-    requires awaited { NodeIsAwaited spot.now part.old }
-    requires follows { IsCharBoundary spot.now.scene.text.now (spot.now.at + 1) }
-    requires bracket { IsOpening kind (code spot.now.scene.text.now spot.now.at) }
-    ensures { IfOk result (Begins (SpotContent spot.now lead.now) spot.now part.old part.new) }
+    requires awaited { NodeIsAwaited cursor.now part.old }
+    requires follows { IsCharBoundary cursor.now.scene.text.now (cursor.now.at + 1) }
+    requires bracket { IsOpening kind (code cursor.now.scene.text.now cursor.now.at) }
+    ensures { IfOk result (Begins (CursorContent cursor.now lead.now) cursor.now part.old part.new) }
 {
-    if spot.depth >= spot.scene.limit {
-        return Ok(Begun::TooDeep(spot.at));
+    if cursor.depth >= cursor.scene.limit {
+        return Ok(Begun::TooDeep(cursor.at));
     }
     let event = part.events.len();
     let start = collection_start(kind, lead.props);
     part.events
-        .push(lead.placed(spot.alloc, start, spot.at + 1))?;
+        .push(lead.placed(cursor.alloc, start, cursor.at + 1))?;
     Ok(Begun::Opened(Frame {
         kind,
-        depth: spot.depth + 1,
-        deepest: spot.depth + 1,
+        depth: cursor.depth + 1,
+        deepest: cursor.depth + 1,
         event,
-        entry: spot.at + 1,
+        entry: cursor.at + 1,
         entry_event: event,
         role: Role::Item,
     }))

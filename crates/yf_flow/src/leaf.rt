@@ -1,7 +1,7 @@
 //! The readers of scalars and properties, as flow nodes take them.
 ghost use Rattle.std.specs.Prelude.{◌≡◌, ◌+◌, ◌++◌, IfOk, IfSome};
 ghost use Rattle.std.specs.Str.{IsCharBoundary};
-ghost use Rattle.yf_flow.specs.Machine.{BoundaryFrom};
+ghost use Rattle.yf_chars.specs.Boundary.{BoundaryFrom};
 ghost use Rattle.yf_flow.specs.NodeOffsets.{PlainRead, PropertiesRead};
 
 use crate::frame::{FlowContext, FlowCursor};
@@ -10,7 +10,6 @@ use yf_events::values::Values;
 use yf_lines::text::Text;
 use yf_plain::plain::read_plain_in;
 use yf_props::properties::{Properties, node_properties};
-use yf_quoted::offsets::Offsets;
 
 /// A scalar that was read: its text, and the byte offset after it.
 #[derive(Drop)]
@@ -37,16 +36,16 @@ pub(crate) fn read_properties<'a>(
 
 /// Reads a plain scalar (ns-plain(n,c), production 131).
 #[inline(always)]
-pub(crate) fn read_plain<'a>(spot: &FlowCursor<'a>) -> Result<Option<Scalar<'a>>, AllocError>
-    requires { IsCharBoundary spot.now.scene.text.now spot.now.at }
-    ensures place { IfOk result (λ o. IfSome o (λ p. BoundaryFrom spot.now.scene.text.now (spot.now.at + 1) p.end)) }
-    ensures reads { IfOk result (PlainRead spot.now) }
+pub(crate) fn read_plain<'a>(cursor: &FlowCursor<'a>) -> Result<Option<Scalar<'a>>, AllocError>
+    requires { IsCharBoundary cursor.now.scene.text.now cursor.now.at }
+    ensures place { IfOk result (λ o. IfSome o (λ p. BoundaryFrom cursor.now.scene.text.now (cursor.now.at + 1) p.end)) }
+    ensures reads { IfOk result (PlainRead cursor.now) }
 {
-    let scene = &spot.scene;
+    let scene = &cursor.scene;
     match read_plain_in(
-        spot.alloc,
+        cursor.alloc,
         scene.text,
-        spot.at,
+        cursor.at,
         scene.indentation,
         scene.context,
     ) {
@@ -57,7 +56,10 @@ pub(crate) fn read_plain<'a>(spot: &FlowCursor<'a>) -> Result<Option<Scalar<'a>>
 }
 
 /// Adds offsets of escapes that are no character.
-pub(crate) fn keep_escapes(bad: &Offsets, escapes: &mut Values<usize>) -> Result<(), AllocError>
+pub(crate) fn keep_escapes(
+    bad: &Values<usize>,
+    escapes: &mut Values<usize>,
+) -> Result<(), AllocError>
     ensures { IfOk result (λ _. escapes.new ≡ escapes.old ++ bad.now) }
 {
     let offsets = bad.as_slice();

@@ -6,7 +6,7 @@ ghost use Rattle.yf_props.specs.Props.{no_props};
 ghost use Rattle.yf_events.specs.Event.{new_event_value, placed_value, scalar_node};
 ghost use Rattle.yf_grammar.specs.FlowReader.Parser.{begins_content};
 ghost use Rattle.yf_chars.specs.Text.{code};
-ghost use Rattle.yf_flow.specs.NodeOffsets.{NodeIsAwaited, Begins, LeafPushed, PropertiesAt, SpotBegun, SpotContent, is_quoted};
+ghost use Rattle.yf_flow.specs.NodeOffsets.{NodeIsAwaited, Begins, LeafPushed, PropertiesAt, CursorBegun, CursorContent, is_quoted};
 ghost use Rattle.yf_flow.specs.NodeStarts.{bare_lead, entry_event, leaf_event, lead_event};
 
 use crate::frame::{FlowCursor, Frame, Node};
@@ -109,59 +109,59 @@ pub fn empty_node<'a>(alloc: Global, entry: Option<Entry>) -> PlacedEvent<'a>
 
 /// Begins a node (ns-flow-node, production 161), where so many collections are open.
 pub(crate) fn begin_node<'a>(
-    spot: FlowCursor<'a>,
+    cursor: FlowCursor<'a>,
     entry: Option<Entry>,
     part: &mut Part<'a>,
 ) -> Result<Begun, AllocError>
-    requires { NodeIsAwaited spot part.old }
-    ensures { IfOk result (Begins (SpotBegun spot.entry entry) spot.entry part.old part.new) }
+    requires { NodeIsAwaited cursor part.old }
+    ensures { IfOk result (Begins (CursorBegun cursor.entry entry) cursor.entry part.old part.new) }
 {
-    match alias_node(spot.scene.text, spot.at) {
+    match alias_node(cursor.scene.text, cursor.at) {
         Some((name, end)) => {
             let event = NewEvent::Alias { name };
-            let lead = Lead::bare(spot.at, entry);
-            part.events.push(lead.placed(spot.alloc, event, end))?;
+            let lead = Lead::bare(cursor.at, entry);
+            part.events.push(lead.placed(cursor.alloc, event, end))?;
             return Ok(Begun::Leaf(Node {
                 end,
                 json: false,
-                deepest: spot.depth,
+                deepest: cursor.depth,
             }));
         }
         None => {}
     }
-    match read_properties(spot.alloc, spot.scene, spot.at)? {
-        Some(properties) => propertied_node(spot, properties, entry, part),
-        None => begin_content(&spot, &Lead::bare(spot.at, entry), part),
+    match read_properties(cursor.alloc, cursor.scene, cursor.at)? {
+        Some(properties) => propertied_node(cursor, properties, entry, part),
+        None => begin_content(&cursor, &Lead::bare(cursor.at, entry), part),
     }
 }
 
 /// Begins the content of a node: a plain scalar, a quoted one or a flow collection.
 #[inline(always)]
 pub(crate) fn begin_content<'a>(
-    spot: &FlowCursor<'a>,
+    cursor: &FlowCursor<'a>,
     lead: &Lead<'a>,
     part: &mut Part<'a>,
 ) -> Result<Begun, AllocError>
-    requires { NodeIsAwaited spot.now part.old }
-    ensures { IfOk result (Begins (SpotContent spot.now lead.now) spot.now part.old part.new) }
+    requires { NodeIsAwaited cursor.now part.old }
+    ensures { IfOk result (Begins (CursorContent cursor.now lead.now) cursor.now part.old part.new) }
 {
-    if content_begins(spot.scene.text, spot.at) {
-        return json_content(spot, lead, part);
+    if content_begins(cursor.scene.text, cursor.at) {
+        return json_content(cursor, lead, part);
     }
-    plain_node(spot, lead, part)
+    plain_node(cursor, lead, part)
 }
 
 // A node with properties: its content is a plain scalar, a quoted scalar or a flow collection, and else it is empty.
 #[inline(never)]
 fn propertied_node<'a>(
-    spot: FlowCursor<'a>,
+    cursor: FlowCursor<'a>,
     properties: Properties<'a>,
     entry: Option<Entry>,
     part: &mut Part<'a>,
 ) -> Result<Begun, AllocError>
-    requires awaited { NodeIsAwaited spot part.old }
-    requires properties { PropertiesAt spot properties }
-    ensures { IfOk result (Begins (SpotBegun spot.entry entry) spot.entry part.old part.new) }
+    requires awaited { NodeIsAwaited cursor part.old }
+    requires properties { PropertiesAt cursor properties }
+    ensures { IfOk result (Begins (CursorBegun cursor.entry entry) cursor.entry part.old part.new) }
 {
     let Properties {
         props,
@@ -170,15 +170,15 @@ fn propertied_node<'a>(
         end,
     } = properties;
     let lead = Lead {
-        start: spot.at,
+        start: cursor.at,
         props,
         tag_offset,
         entry,
     };
-    let scene = spot.scene;
+    let scene = cursor.scene;
     part.comments.append(comments)?;
     match separate(
-        spot.alloc,
+        cursor.alloc,
         scene.text,
         end,
         scene.indentation,
@@ -192,12 +192,22 @@ fn propertied_node<'a>(
         ) => {
             if content_begins(scene.text, place) {
                 part.comments.append(comments)?;
-                return json_content(&FlowCursor { at: place, ..spot }, &lead, part);
+                return json_content(
+                    &FlowCursor {
+                        at: place,
+                        ..cursor
+                    },
+                    &lead,
+                    part,
+                );
             }
-            match read_plain(&FlowCursor { at: place, ..spot })? {
+            match read_plain(&FlowCursor {
+                at: place,
+                ..cursor
+            })? {
                 Some(plain) => {
                     part.comments.append(comments)?;
-                    return push_leaf(&spot, &lead, ScalarStyle::Plain, plain, part);
+                    return push_leaf(&cursor, &lead, ScalarStyle::Plain, plain, part);
                 }
                 None => {}
             }
@@ -205,27 +215,33 @@ fn propertied_node<'a>(
         None => {}
     }
     let text = Text::Part("");
-    push_leaf(&spot, &lead, ScalarStyle::Plain, Scalar { text, end }, part)
+    push_leaf(
+        &cursor,
+        &lead,
+        ScalarStyle::Plain,
+        Scalar { text, end },
+        part,
+    )
 }
 
 /// Adds a scalar as a node.
 #[inline(always)]
 pub(crate) fn push_leaf<'a>(
-    spot: &FlowCursor<'a>,
+    cursor: &FlowCursor<'a>,
     lead: &Lead<'a>,
     style: ScalarStyle,
     scalar: Scalar<'a>,
     part: &mut Part<'a>,
 ) -> Result<Begun, AllocError>
-    ensures { IfOk result (LeafPushed spot.now lead.now style scalar.entry part.old part.new) }
+    ensures { IfOk result (LeafPushed cursor.now lead.now style scalar.entry part.old part.new) }
 {
     let Scalar { text, end } = scalar;
     let json = is_quoted(style);
-    push_scalar_with(spot.alloc, lead, style, text, end, part)?;
+    push_scalar(cursor.alloc, lead, style, text, end, part)?;
     Ok(Begun::Leaf(Node {
         end,
         json,
-        deepest: spot.depth,
+        deepest: cursor.depth,
     }))
 }
 
@@ -239,28 +255,9 @@ fn is_quoted(style: ScalarStyle) -> bool
     }
 }
 
-/// Adds a scalar that ends at an offset.
+/// Adds a scalar that ends at an offset, as a node of which that is known before its content.
 #[inline(always)]
 pub fn push_scalar<'a>(
-    alloc: Global,
-    lead: Lead<'a>,
-    style: ScalarStyle,
-    text: Text<'a>,
-    end: usize,
-    part: &mut Part<'a>,
-) -> Result<(), AllocError>
-    ensures pushed { IfOk result (λ _. part.new.events ≡ part.old.events ++
-        (leaf_event lead.entry style (text_bytes text.entry) end ∷ [])) }
-    ensures found { IfOk result (λ _. length part.new.events ≡ length part.old.events + 1) }
-    ensures comments { IfOk result (λ _. part.new.comments ≡ part.old.comments) }
-    ensures escapes { IfOk result (λ _. part.new.escapes ≡ part.old.escapes) }
-{
-    push_scalar_with(alloc, &lead, style, text, end, part)
-}
-
-/// The same for what is known of a node that stays where it is.
-#[inline(always)]
-pub fn push_scalar_with<'a>(
     alloc: Global,
     lead: &Lead<'a>,
     style: ScalarStyle,
@@ -327,16 +324,16 @@ fn push_marked<'a>(
 // A plain scalar as a node (ns-plain, production 131).
 #[inline(always)]
 fn plain_node<'a>(
-    spot: &FlowCursor<'a>,
+    cursor: &FlowCursor<'a>,
     lead: &Lead<'a>,
     part: &mut Part<'a>,
 ) -> Result<Begun, AllocError>
-    requires awaited { NodeIsAwaited spot.now part.old }
-    requires other { begins_content (code spot.now.scene.text.now spot.now.at) ≡ false }
-    ensures { IfOk result (Begins (SpotContent spot.now lead.now) spot.now part.old part.new) }
+    requires awaited { NodeIsAwaited cursor.now part.old }
+    requires other { begins_content (code cursor.now.scene.text.now cursor.now.at) ≡ false }
+    ensures { IfOk result (Begins (CursorContent cursor.now lead.now) cursor.now part.old part.new) }
 {
-    match read_plain(spot)? {
-        Some(plain) => push_leaf(spot, lead, ScalarStyle::Plain, plain, part),
+    match read_plain(cursor)? {
+        Some(plain) => push_leaf(cursor, lead, ScalarStyle::Plain, plain, part),
         None => Ok(Begun::Nothing),
     }
 }

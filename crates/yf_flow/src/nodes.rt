@@ -12,7 +12,7 @@ ghost use Rattle.yf_flow.specs.Machine.{EntryIsNext, BegunAt, EndingAt};
 ghost use Rattle.yf_flow.specs.NodeAnswers.{InnerContext, NodeAnswers, NodeEnds, OutcomeAt};
 ghost use Rattle.yf_flow.specs.StepContract.{CollectionEnds, IsReaderReady};
 ghost use Rattle.yf_flow.specs.ReadNodes.{NodeLost};
-ghost use Rattle.yf_flow.specs.NodeOffsets.{NodeIsAwaited, Begins, PropertiesAt, SpotContent};
+ghost use Rattle.yf_flow.specs.NodeOffsets.{NodeIsAwaited, Begins, PropertiesAt, CursorContent};
 ghost use Rattle.yf_flow.specs.LeafEnds.{begun_of};
 ghost use Rattle.yf_flow.specs.StepTerms.{Reading};
 ghost use Rattle.yf_flow.specs.StackMeaning.{AtEntry, Base};
@@ -21,7 +21,7 @@ use crate::frame::{FlowContext, FlowCursor, FlowReader, Frame, Node, Step};
 use crate::json::json_content;
 use crate::leaf::{Scalar, read_plain, read_properties};
 use crate::look::content_begins;
-use crate::node::{Begun, Lead, begin_node, push_scalar_with};
+use crate::node::{Begun, Lead, begin_node, push_scalar};
 use smallvec::SmallVec;
 use std::alloc::{AllocError, Global};
 use std::mem::{drop, replace, swap};
@@ -73,22 +73,22 @@ pub(crate) fn read_node<'a>(
     match inner_context(scene.context) {
         None => Ok(FlowOutcome::Nothing),
         Some(inner) => {
-            let spot = FlowCursor {
+            let cursor = FlowCursor {
                 alloc,
                 scene,
                 at,
                 depth: 0,
             };
-            let begun = begin_node(spot, None, part)?;
+            let begun = begin_node(cursor, None, part)?;
             let inside = FlowCursor {
                 scene: FlowContext {
                     context: inner,
                     ..scene
                 },
-                ..spot
+                ..cursor
             };
             let ending = end_node(inside, begun, part)?;
-            node_found(spot, ending, part)
+            node_found(cursor, ending, part)
         }
     }
 }
@@ -101,32 +101,6 @@ pub(crate) fn read_node<'a>(
 /// `AllocError` where a growth of memory was refused.
 #[inline(always)]
 pub fn read_content<'a>(
-    alloc: Global,
-    scene: FlowContext<'a>,
-    at: usize,
-    lead: Lead<'a>,
-    depth: usize,
-    part: &mut Part<'a>,
-) -> Result<Ending, AllocError>
-    requires boundary { IsCharBoundary scene.text.now at }
-    requires escapes { All (IsCharBoundary scene.text.now) part.old.escapes }
-    ensures answers { IsUtf8 scene.entry.text.now → is_block scene.entry.context ≡ false → (room : ℕ) → depth + room ≡ scene.entry.limit
-        → IfOk result (λ e. ContentEnds scene.entry.text.now scene.entry.indentation scene.entry.context room at depth lead.entry part.old part.new e) }
-    ensures counted { IsUtf8 scene.entry.text.now → (total : ℕ) → depth + openers_from scene.entry.text.now at ≤ total
-        → IfOk result (λ e. EndCounted scene.entry.text.now scene.entry.limit total e) }
-    ensures found { IfOk result (λ e. EndingAt scene.entry.text.now (at + 1) e) }
-    ensures escapes { IfOk result (λ _. All (IsCharBoundary scene.entry.text.now) part.new.escapes) }
-{
-    read_content_with(alloc, &scene, at, &lead, depth, part)
-}
-
-/// The same for a scene and what is known of a node that stay where they are.
-///
-/// # Errors
-///
-/// `AllocError` where a growth of memory was refused.
-#[inline(always)]
-pub fn read_content_with<'a>(
     alloc: Global,
     scene: &FlowContext<'a>,
     at: usize,
@@ -146,24 +120,24 @@ pub fn read_content_with<'a>(
     match inner_context(scene.context) {
         None => Ok(Ending::Nothing),
         Some(inner) => {
-            let spot = FlowCursor {
+            let cursor = FlowCursor {
                 alloc,
                 scene: *scene,
                 at,
                 depth,
             };
             if content_begins(scene.text, at) {
-                let begun = json_content(&spot, lead, part)?;
+                let begun = json_content(&cursor, lead, part)?;
                 let inside = FlowCursor {
                     scene: FlowContext {
                         context: inner,
                         ..*scene
                     },
-                    ..spot
+                    ..cursor
                 };
                 return end_node(inside, begun, part);
             }
-            plain_ending(&spot, lead, part)
+            plain_ending(&cursor, lead, part)
         }
     }
 }
@@ -171,21 +145,21 @@ pub fn read_content_with<'a>(
 // A plain scalar as a whole node (ns-plain, production 131).
 #[inline(always)]
 fn plain_ending<'a>(
-    spot: &FlowCursor<'a>,
+    cursor: &FlowCursor<'a>,
     lead: &Lead<'a>,
     part: &mut Part<'a>,
 ) -> Result<Ending, AllocError>
-    requires awaited { NodeIsAwaited spot.now part.old }
-    requires other { begins_content (code spot.now.scene.text.now spot.now.at) ≡ false }
-    ensures { IfOk result (λ e. Begins (SpotContent spot.now lead.now) spot.now part.old part.new (begun_of e)) }
+    requires awaited { NodeIsAwaited cursor.now part.old }
+    requires other { begins_content (code cursor.now.scene.text.now cursor.now.at) ≡ false }
+    ensures { IfOk result (λ e. Begins (CursorContent cursor.now lead.now) cursor.now part.old part.new (begun_of e)) }
 {
-    match read_plain(spot)? {
+    match read_plain(cursor)? {
         Some(Scalar { text, end }) => {
-            push_scalar_with(spot.alloc, lead, ScalarStyle::Plain, text, end, part)?;
+            push_scalar(cursor.alloc, lead, ScalarStyle::Plain, text, end, part)?;
             Ok(Ending::End(Node {
                 end,
                 json: false,
-                deepest: spot.depth,
+                deepest: cursor.depth,
             }))
         }
         None => Ok(Ending::Nothing),
@@ -195,21 +169,21 @@ fn plain_ending<'a>(
 // Reads on where a node has begun, and tells how it ends.
 #[inline(always)]
 fn end_node<'a>(
-    spot: FlowCursor<'a>,
+    cursor: FlowCursor<'a>,
     begun: Begun,
     part: &mut Part<'a>,
 ) -> Result<Ending, AllocError>
-    requires begun { (m : ℕ) × BegunAt spot.scene.text.now spot.at m (length part.old.events) begun }
-    requires escapes { All (IsCharBoundary spot.scene.text.now) part.old.escapes }
-    ensures ends { (base : Base) → BegunTied spot.entry.scene.text.now spot.entry.scene.indentation spot.entry.scene.context spot.entry.scene.limit base begun part.old → IfOk result (λ e. EndsAs spot.entry.scene.text.now spot.entry.scene.indentation base begun part.old part.new e) }
-    ensures counted { IsUtf8 spot.entry.scene.text.now → (total : ℕ) → BegunCounted spot.entry.scene.text.now spot.entry.scene.limit total begun
-        → IfOk result (λ e. EndCounted spot.entry.scene.text.now spot.entry.scene.limit total e) }
-    ensures found { IfOk result (λ e. EndingAt spot.entry.scene.text.now (spot.entry.at + 1) e) }
-    ensures escapes { IfOk result (λ _. All (IsCharBoundary spot.entry.scene.text.now) part.new.escapes) }
+    requires begun { (m : ℕ) × BegunAt cursor.scene.text.now cursor.at m (length part.old.events) begun }
+    requires escapes { All (IsCharBoundary cursor.scene.text.now) part.old.escapes }
+    ensures ends { (base : Base) → BegunTied cursor.entry.scene.text.now cursor.entry.scene.indentation cursor.entry.scene.context cursor.entry.scene.limit base begun part.old → IfOk result (λ e. EndsAs cursor.entry.scene.text.now cursor.entry.scene.indentation base begun part.old part.new e) }
+    ensures counted { IsUtf8 cursor.entry.scene.text.now → (total : ℕ) → BegunCounted cursor.entry.scene.text.now cursor.entry.scene.limit total begun
+        → IfOk result (λ e. EndCounted cursor.entry.scene.text.now cursor.entry.scene.limit total e) }
+    ensures found { IfOk result (λ e. EndingAt cursor.entry.scene.text.now (cursor.entry.at + 1) e) }
+    ensures escapes { IfOk result (λ _. All (IsCharBoundary cursor.entry.scene.text.now) part.new.escapes) }
 {
     match begun {
         Begun::Leaf(node) => Ok(Ending::End(node)),
-        Begun::Opened(frame) => read_entries(spot, frame, part),
+        Begun::Opened(frame) => read_entries(cursor, frame, part),
         Begun::Nothing => Ok(Ending::Nothing),
         Begun::TooDeep(place) => Ok(Ending::TooDeep(place)),
     }
@@ -242,22 +216,22 @@ pub fn new_part<'a>(alloc: Global) -> Part<'a>
 // Reads the entries of a collection up to its closing bracket.
 #[inline(never)]
 fn read_entries<'a>(
-    spot: FlowCursor<'a>,
+    cursor: FlowCursor<'a>,
     top: Frame,
     part: &mut Part<'a>,
 ) -> Result<Ending, AllocError>
-    requires boundary { IsCharBoundary spot.scene.text.now top.entry }
-    requires top { EntryIsNext spot.scene.text.now (length part.old.events) top }
-    requires escapes { All (IsCharBoundary spot.scene.text.now) part.old.escapes }
-    ensures tied { (base : Base) → Reading spot.entry.scene.text.now spot.entry.scene.context spot.entry.scene.limit base
-        → AtEntry spot.entry.scene.text.now spot.entry.scene.indentation spot.entry.scene.context base [] top top.entry part.old
-        → IfOk result (λ e. EndTied spot.entry.scene.text.now spot.entry.scene.indentation base e part.new) }
-    ensures counted { (total : ℕ) → AllCounted spot.entry.scene.text.now total top.entry [] top
-        → IfOk result (λ e. EndCounted spot.entry.scene.text.now spot.entry.scene.limit total e) }
-    ensures found { IfOk result (λ e. EndingAt spot.entry.scene.text.now top.entry e) }
-    ensures escapes { IfOk result (λ _. All (IsCharBoundary spot.entry.scene.text.now) part.new.escapes) }
+    requires boundary { IsCharBoundary cursor.scene.text.now top.entry }
+    requires top { EntryIsNext cursor.scene.text.now (length part.old.events) top }
+    requires escapes { All (IsCharBoundary cursor.scene.text.now) part.old.escapes }
+    ensures tied { (base : Base) → Reading cursor.entry.scene.text.now cursor.entry.scene.context cursor.entry.scene.limit base
+        → AtEntry cursor.entry.scene.text.now cursor.entry.scene.indentation cursor.entry.scene.context base [] top top.entry part.old
+        → IfOk result (λ e. EndTied cursor.entry.scene.text.now cursor.entry.scene.indentation base e part.new) }
+    ensures counted { (total : ℕ) → AllCounted cursor.entry.scene.text.now total top.entry [] top
+        → IfOk result (λ e. EndCounted cursor.entry.scene.text.now cursor.entry.scene.limit total e) }
+    ensures found { IfOk result (λ e. EndingAt cursor.entry.scene.text.now top.entry e) }
+    ensures escapes { IfOk result (λ _. All (IsCharBoundary cursor.entry.scene.text.now) part.new.escapes) }
 {
-    let alloc = spot.alloc;
+    let alloc = cursor.alloc;
     let mut reader = FlowReader {
         alloc,
         top,
@@ -265,7 +239,7 @@ fn read_entries<'a>(
         part: new_part(alloc),
     };
     swap(part, &mut reader.part);
-    let ending = reader.read_on(spot.scene, top.entry);
+    let ending = reader.read_on(cursor.scene, top.entry);
     swap(part, &mut reader.part);
     ending
 }
@@ -294,27 +268,27 @@ impl<'a> FlowReader<'a> {
 // What is found of a node that ends so. Where the content after properties is not derived, the node is empty and the
 // properties are all of it.
 fn node_found<'a>(
-    spot: FlowCursor<'a>,
+    cursor: FlowCursor<'a>,
     ending: Ending,
     part: &mut Part<'a>,
 ) -> Result<FlowOutcome, AllocError>
-    requires boundary { IsCharBoundary spot.scene.text.now spot.at }
-    requires ending { EndingAt spot.scene.text.now (spot.at + 1) ending }
-    requires escapes { All (IsCharBoundary spot.scene.text.now) part.old.escapes }
-    ensures place { IfOk result (λ o. OutcomeAt spot.entry.scene.text.now spot.entry.at o) }
-    ensures escapes { IfOk result (λ _. All (IsCharBoundary spot.entry.scene.text.now) part.new.escapes) }
-    ensures answers { IsUtf8 spot.entry.scene.text.now → is_block spot.entry.scene.context ≡ false
-        → NodeEnds spot.entry.scene.text.now spot.entry.scene.indentation spot.entry.scene.context spot.entry.scene.limit spot.entry.at (only [] 0) part.old ending
-        → EndCounted spot.entry.scene.text.now spot.entry.scene.limit (openers_from spot.entry.scene.text.now spot.entry.at) ending
-        → IfOk result (λ o. NodeAnswers spot.entry.scene.text.now spot.entry.scene.indentation spot.entry.scene.context spot.entry.scene.limit spot.entry.at part.new o) }
+    requires boundary { IsCharBoundary cursor.scene.text.now cursor.at }
+    requires ending { EndingAt cursor.scene.text.now (cursor.at + 1) ending }
+    requires escapes { All (IsCharBoundary cursor.scene.text.now) part.old.escapes }
+    ensures place { IfOk result (λ o. OutcomeAt cursor.entry.scene.text.now cursor.entry.at o) }
+    ensures escapes { IfOk result (λ _. All (IsCharBoundary cursor.entry.scene.text.now) part.new.escapes) }
+    ensures answers { IsUtf8 cursor.entry.scene.text.now → is_block cursor.entry.scene.context ≡ false
+        → NodeEnds cursor.entry.scene.text.now cursor.entry.scene.indentation cursor.entry.scene.context cursor.entry.scene.limit cursor.entry.at (only [] 0) part.old ending
+        → EndCounted cursor.entry.scene.text.now cursor.entry.scene.limit (openers_from cursor.entry.scene.text.now cursor.entry.at) ending
+        → IfOk result (λ o. NodeAnswers cursor.entry.scene.text.now cursor.entry.scene.indentation cursor.entry.scene.context cursor.entry.scene.limit cursor.entry.at part.new o) }
 {
     let otherwise = match ending {
         Ending::End(node) => return Ok(FlowOutcome::Found(node.end)),
         Ending::Nothing => FlowOutcome::Nothing,
         Ending::TooDeep(place) => FlowOutcome::TooDeep(place),
     };
-    match read_properties(spot.alloc, spot.scene, spot.at) {
-        Ok(Some(properties)) => lone_node(spot, properties, part),
+    match read_properties(cursor.alloc, cursor.scene, cursor.at) {
+        Ok(Some(properties)) => lone_node(cursor, properties, part),
         Ok(None) => Ok(otherwise),
         Err(error) => Err(error),
     }
@@ -322,16 +296,16 @@ fn node_found<'a>(
 
 // The properties alone, as an empty node, in place of what the part holds.
 fn lone_node<'a>(
-    spot: FlowCursor<'a>,
+    cursor: FlowCursor<'a>,
     properties: Properties<'a>,
     part: &mut Part<'a>,
 ) -> Result<FlowOutcome, AllocError>
-    requires { PropertiesAt spot properties }
-    ensures place { IfOk result (λ o. OutcomeAt spot.entry.scene.text.now spot.entry.at o) }
+    requires { PropertiesAt cursor properties }
+    ensures place { IfOk result (λ o. OutcomeAt cursor.entry.scene.text.now cursor.entry.at o) }
     ensures escapes { IfOk result (λ _. part.new.escapes ≡ []) }
-    ensures answers { IsUtf8 spot.entry.scene.text.now → is_block spot.entry.scene.context ≡ false
-        → NodeLost spot.entry.scene.text.now spot.entry.scene.limit spot.entry.scene.indentation spot.entry.scene.context spot.entry.at
-        → IfOk result (λ o. NodeAnswers spot.entry.scene.text.now spot.entry.scene.indentation spot.entry.scene.context spot.entry.scene.limit spot.entry.at part.new o) }
+    ensures answers { IsUtf8 cursor.entry.scene.text.now → is_block cursor.entry.scene.context ≡ false
+        → NodeLost cursor.entry.scene.text.now cursor.entry.scene.limit cursor.entry.scene.indentation cursor.entry.scene.context cursor.entry.at
+        → IfOk result (λ o. NodeAnswers cursor.entry.scene.text.now cursor.entry.scene.indentation cursor.entry.scene.context cursor.entry.scene.limit cursor.entry.at part.new o) }
 {
     let Properties {
         props,
@@ -339,16 +313,16 @@ fn lone_node<'a>(
         comments,
         end,
     } = properties;
-    empty(spot.alloc, part);
+    empty(cursor.alloc, part);
     part.comments.append(comments)?;
     let lead = Lead {
-        start: spot.at,
+        start: cursor.at,
         props,
         tag_offset,
         entry: None,
     };
     let text = Text::Part("");
-    push_scalar_with(spot.alloc, &lead, ScalarStyle::Plain, text, end, part)?;
+    push_scalar(cursor.alloc, &lead, ScalarStyle::Plain, text, end, part)?;
     Ok(FlowOutcome::Found(end))
 }
 

@@ -1,3 +1,5 @@
+-- lists: facts that several of these rest on
+pub mod ListLemmas
 -- texts on one line and their widths: `width`, `written`, `kept_text`; lines of block scalars
 pub mod Texts
 -- `measure_all`: how wide each node is (`Measures`)

@@ -1,5 +1,6 @@
 -- the recursive reader of flow nodes: one outcome (`Outcome`), sound, complete, the longest; and that it has an outcome
 pub mod ParserLemmas
+pub mod TaskWays
 pub mod Outcome
 pub mod OneLine
 pub mod Sound

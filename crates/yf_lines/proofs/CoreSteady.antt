@@ -216,7 +216,7 @@ steady x a e =
 
 -- The law.
 
-nothing_steady : is_steady [] ≡ true
+pub nothing_steady : is_steady [] ≡ true
 unfolding is_steady has_line_feed ends_with_colon is_only is_marker_of
 nothing_steady = refl
 

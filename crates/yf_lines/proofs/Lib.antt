@@ -3,7 +3,10 @@
 -- breaks, white space, starts of lines and document markers: `line_break`, `skip_whites`, `is_line_start`, `marker_is_at`
 pub mod BasicLemmas
 pub mod ClearLemmas
+-- contexts
+pub mod ContextFacts
 -- `fold_lines` and `flow_folded`
+pub mod FoldBytes
 pub mod FoldLemmas
 -- the table of lines and places: `LineTable::build`, `line`, `is_forbidden`, `place`
 pub mod LineLemmas

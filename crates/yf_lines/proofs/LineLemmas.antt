@@ -76,7 +76,7 @@ same_next (at_end e) (at_end f) = refl
 no_fewer : {t : List ℕ} {i k k' : ℕ} → SpacesFrom t i k → SpacesFrom t i k' → k < k' → ⊥
 no_fewer {k = k} a b l = a.stops (b.spaces.each k l)
 
-same_indent : {t : List ℕ} {i k k' : ℕ} → SpacesFrom t i k → SpacesFrom t i k' → k ≡ k'
+pub same_indent : {t : List ℕ} {i k k' : ℕ} → SpacesFrom t i k → SpacesFrom t i k' → k ≡ k'
 same_indent {k = k} {k' = k'} a b =
     ⊎_elim (λ (l : k < k'). absurd (no_fewer a b l))
     (λ (l : k' ≤ k). ⊎_elim (λ (q : k ≡ k'). q) (λ (q : k ≢ k'). absurd (no_fewer b a (omega arith))) (cases_eq k k'))

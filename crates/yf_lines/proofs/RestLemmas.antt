@@ -7,7 +7,7 @@ use Rattle.std.specs.Char.{len_utf8}
 use Rattle.std.specs.Str.{IsUtf8}
 use lib.Utf8.{encode, encodes}
 use Rattle.yf_chars.specs.Text.{code, next, before, last_or, CharAt, no_char}
-use Rattle.yf_chars.specs.Class.{is_nb_char, is_printable, is_break_char, is_between}
+use Rattle.yf_chars.specs.Class.{is_nb_char}
 use Rattle.yf_chars.specs.Chain.{Many}
 use Rattle.yf_chars.specs.Chain.Chain.{done, step}
 use Rattle.yf_chars.specs.Chain.One.{one}
@@ -71,7 +71,7 @@ rest_spaces {t} (suc k) q {r} u s =
     (spaces_more got.0.char more.0, subst (λ w. Rest t w r) there more.1)
 
 -- nb-chars
-nb_not : (d c : ℕ) → is_nb_char d ≡ false → is_nb_char c ≡ true → c ≢ d
+pub nb_not : (d c : ℕ) → is_nb_char d ≡ false → is_nb_char c ≡ true → c ≢ d
 nb_not d c n e q = true≢false (sym e ∙ ap is_nb_char q ∙ n)
 
 -- characters of which none begins a line: what is after them, and that no line begins in them

@@ -1,13 +1,14 @@
 -- Laws of rows: the lines that they stand for.
 use Rattle.std.proofs.Common.{◌≡◌, ◌≢◌, ℕ, zero, suc, ◌+◌, ◌-◌, ◌<◌, ◌≤◌, true, false, List, [], ◌∷◌, ◌++◌, length, get_or, Some, refl, sym, ap, ◌∙◌, subst, ⊎_elim, arith, true≢false, leb}
 use Rattle.std.proofs.lemmas.Bool.{cases_lt, cases_eq, ne_eqb, leb-true, le-leb}
-use Rattle.std.proofs.lemmas.Option.{slice_get_within, get_or_from_slice_get}
+use Rattle.std.proofs.lemmas.Option.{slice_get_within, get_or_from_slice_get, same_Some}
 use Rattle.std.specs.List.{slice_get}
 use Rattle.std.specs.List.Sorted.{IsNonDecreasingBy, IsPartitionPoint}
 use Rattle.yf_chars.specs.Class.{is_break_char}
 use Rattle.yf_chars.specs.Text.{code}
 use Rattle.yf_chars.specs.Chain.{Chain}
 use Rattle.yf_chars.proofs.ChainLemmas.{chain_more}
+use Rattle.yf_chars.proofs.Tests.{no_item, same_head}
 use Rattle.yf_lines.specs.declared.line.Line.{Line}
 use Rattle.yf_lines.specs.declared.packed_lines.PackedLine.{PackedLine}
 use Rattle.yf_lines.specs.Basic.{Break}
@@ -16,7 +17,7 @@ use Rattle.yf_lines.specs.Lines.{NoBreakIn, LineEnd, IsLine, OneLine, AreLines, 
 use Rattle.yf_lines.specs.Lines.LineEnd.{at_break, at_end}
 use Rattle.yf_lines.specs.Rows.{RowsBegun, break_width, end_before, first_start, line_of, lines_of, next_start}
 use Rattle.yf_lines.proofs.LineLemmas.{Made, line_made, lf_breaks, cr_breaks, same_fields}
-use Rattle.yf_lines.proofs.TableLemmas.{starts_ascend, nothing_there}
+use Rattle.yf_lines.proofs.TableLemmas.{starts_ascend}
 
 -- the width of each break
 width_cr_lf : (b l : ℕ) → l ≡ 10 → b ≡ 13 → break_width b l ≡ 2
@@ -74,16 +75,13 @@ rows_more t [] r n = refl
 rows_more t (q ∷ []) r n = refl
 rows_more t (q ∷ p ∷ rs) r n = ap (λ w. line_of t q p.start ∷ w) (rows_more t (p ∷ rs) r n)
 
-first_same : (a b : Line) (x y : List Line) → a ∷ x ≡ b ∷ y → a ≡ b
-first_same a b x y e = cc
-
 -- one more row is one more line
 pub lines_more : (t : List ℕ) (at : ℕ) (rows after : List PackedLine) (r : PackedLine) (l : Line) → after ≡ rows ++ r ∷ []
     → Chain (OneLine t) 0 at (lines_of t at rows) → OneLine t at l.next (l ∷ []) → r.start ≡ l.start → r.indent ≡ l.indent
     → Chain (OneLine t) 0 l.next (lines_of t l.next after)
 lines_more t at rows after r l is a o s d =
     let m : Made t at l.next (l ∷ []) = line_made o in
-    let q : l ≡ m.line = first_same l m.line [] [] m.is in
+    let q : l ≡ m.line = same_head m.is in
     let made : IsLine t l = subst (λ w. IsLine t w) (sym q) m.made in
     let from : r.start ≡ at = s ∙ ap (λ w. w.start) q ∙ m.start in
     let k : l ≡ line_of t r l.next = line_kept t l r made s d in
@@ -115,17 +113,11 @@ next_past (r ∷ []) zero e l = refl
 next_past (r ∷ q ∷ rs) zero e l = absurd (omega arith)
 next_past (r ∷ rs) (suc k) e l = next_past rs k e (omega arith)
 
-some_row : {a b : PackedLine} → Some a ≡ Some b → a ≡ b
-some_row e = cc
-
-no_row : (k : ℕ) (r : PackedLine) → slice_get [] k ≡ Some r → ⊥
-no_row k r e = cc
-
 -- the line at an index
 pub got_line : (t : List ℕ) (e : ℕ) (rs : List PackedLine) (k : ℕ) (r : PackedLine) → slice_get rs k ≡ Some r
     → slice_get (lines_of t e rs) k ≡ Some (line_of t r (next_start rs k e))
-got_line t e [] k r is = absurd (no_row k r is)
-got_line t e (q ∷ rs) zero r is = ap (λ w. Some (line_of t w (first_start rs e))) (some_row is)
+got_line t e [] k r is = absurd (no_item k r is)
+got_line t e (q ∷ rs) zero r is = ap (λ w. Some (line_of t w (first_start rs e))) (same_Some _ _ is)
 got_line t e (q ∷ rs) (suc k) r is = got_line t e rs k r is
 
 -- the line whose next line begins at n, and which ends at h
@@ -140,13 +132,10 @@ pub record RowAt (rs : List PackedLine) (k : ℕ) (l : Line) : Type 0 where
   pub is : slice_get rs k ≡ Some row
   pub start : row.start ≡ l.start
 
-some_line : {a b : Line} → Some a ≡ Some b → a ≡ b
-some_line e = cc
-
 row_at : (t : List ℕ) (e : ℕ) (rs : List PackedLine) (k : ℕ) (l : Line) → slice_get (lines_of t e rs) k ≡ Some l → RowAt rs k l
-row_at t e [] k l is = absurd (nothing_there k l is)
+row_at t e [] k l is = absurd (no_item k l is)
 row_at t e (q ∷ rs) zero l is =
-    let s : line_of t q (first_start rs e) ≡ l = some_line is in
+    let s : line_of t q (first_start rs e) ≡ l = same_Some _ _ is in
     record { row = q; is = refl; start = ap (λ w. w.start) s }
 row_at t e (q ∷ rs) (suc k) l is = let r = row_at t e rs k l is in record { row = r.row; is = r.is; start = r.start }
 

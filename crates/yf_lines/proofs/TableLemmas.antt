@@ -8,6 +8,7 @@ use Rattle.std.specs.List.Sorted.{IsNonDecreasingBy}
 use Rattle.std.specs.Str.{IsUtf8, IsCharBoundary}
 use Rattle.yf_chars.specs.Chain.{Chain}
 use Rattle.yf_chars.specs.Chain.Chain.{done, step}
+use Rattle.yf_chars.proofs.Tests.{no_item}
 use Rattle.yf_lines.specs.declared.line.Line.{Line}
 use Rattle.yf_lines.specs.Basic.{LineStart}
 use Rattle.yf_lines.specs.Basic.LineStart.{at_text, after_break}
@@ -40,15 +41,12 @@ pub record LineAt (t : List ℕ) (i j : ℕ) (ls : List Line) (k : ℕ) (l : Lin
   pub first : k ≡ 0 → l.start ≡ i
   pub last : k + 1 ≡ length ls → l.next ≡ j
 
-pub nothing_there : (k : ℕ) (l : Line) → slice_get [] k ≡ Some l → ⊥
-nothing_there k l e = cc
-
 last_end : (t : List ℕ) (ls : List Line) (i j : ℕ) → Follow t i j ls → length ls ≡ 0 → i ≡ j
 last_end t [] i j f e = f
 last_end t (l ∷ ls) i j f e = absurd (omega (arith, e))
 
 pub line_at : (t : List ℕ) (ls : List Line) (i j k : ℕ) (l : Line) → Follow t i j ls → slice_get ls k ≡ Some l → LineAt t i j ls k l
-line_at t [] i j k l f e = absurd (nothing_there k l e)
+line_at t [] i j k l f e = absurd (no_item k l e)
 line_at t (m ∷ ls) i j zero l f e =
     let q : m ≡ l = same_Some _ _ e in
     subst (λ w. LineAt t i j (m ∷ ls) 0 w) q (record {
@@ -72,7 +70,7 @@ line_at t (m ∷ ls) i j (suc k) l f e =
 -- an earlier line ends before a later one begins, and right there where they are neighbours
 pub line_before : (t : List ℕ) (ls : List Line) (i j k m : ℕ) (a b : Line) → Follow t i j ls → slice_get ls k ≡ Some a → slice_get ls m ≡ Some b
     → k < m → (a.next ≤ b.start) × (k + 1 ≡ m → a.next ≡ b.start)
-line_before t [] i j k m a b f e g l = absurd (nothing_there k a e)
+line_before t [] i j k m a b f e g l = absurd (no_item k a e)
 line_before t (c ∷ ls) i j k zero a b f e g l = absurd (omega arith)
 line_before t (c ∷ ls) i j zero (suc m) a b f e g l =
     let r : LineAt t c.next j ls m b = line_at t ls c.next j m b f.2 g in
@@ -97,7 +95,7 @@ starts_ascend t ls a k m d o w =
 
 -- the text may be cut at its lines
 follow_cut : (t : List ℕ) (ls : List Line) (i j k : ℕ) (l : Line) → IsUtf8 t → IsCharBoundary t i → Follow t i j ls → slice_get ls k ≡ Some l → IsCutAt t l
-follow_cut t [] i j k l u b f e = absurd (nothing_there k l e)
+follow_cut t [] i j k l u b f e = absurd (no_item k l e)
 follow_cut t (m ∷ ls) i j zero l u b f e =
     subst (λ w. IsCutAt t w) (same_Some _ _ e) (line_cut t m u f.1 (subst (λ w. IsCharBoundary t w) (sym f.0) b))
 follow_cut t (m ∷ ls) i j (suc k) l u b f e =
@@ -120,7 +118,7 @@ start_of_line t i l m e (inl s) = subst (λ k. LineStart t k) (sym e) s
 start_of_line t i l m e (inr s) = let o = m.order in let w = end_within m.ends in absurd (omega (arith, w.1))
 
 follow_start : (t : List ℕ) (ls : List Line) (i j k : ℕ) (l : Line) → (LineStart t i) ⊎ (length t ≤ i) → Follow t i j ls → slice_get ls k ≡ Some l → LineStart t l.start
-follow_start t [] i j k l s f e = absurd (nothing_there k l e)
+follow_start t [] i j k l s f e = absurd (no_item k l e)
 follow_start t (m ∷ ls) i j zero l s f e = subst (λ w. LineStart t w.start) (same_Some _ _ e) (start_of_line t i m f.1 f.0 s)
 follow_start t (m ∷ ls) i j (suc k) l s f e = follow_start t ls m.next j k l (next_start f.1.ends) f.2 e
 

@@ -18,4 +18,5 @@ pub mod source_text;
 pub mod steady;
 pub mod table;
 pub mod text;
+pub mod values;
 pub mod watched;

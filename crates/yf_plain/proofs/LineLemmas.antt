@@ -1,11 +1,9 @@
 -- Laws of plain scalars over several lines: character by character there is one way to go on.
-use lib.Utf8.{encode}
 use Rattle.std.proofs.lemmas.Str.{encodes-append}
 use Rattle.std.proofs.Common.{◌≡◌, ◌≢◌, ℕ, zero, suc, ◌<◌, ◌≤◌, ℤ, pos, ◌<ℤ◌, true, false, List, [], ◌∷◌, ◌++◌, refl, sym, ap, ◌∙◌, subst, inl, inr, ◌⊎◌, ⊎_elim, arith, append_assoc, append-nil, encode_utf8_all}
 use Rattle.std.proofs.lemmas.Bool.{true≢false}
 use Rattle.std.specs.Str.{IsUtf8}
 use Rattle.yf_chars.specs.declared.context.Ctx.{Ctx}
-use Rattle.yf_chars.specs.declared.context.Ctx.TheVariants.{BlockOut, BlockIn, FlowOut, FlowIn, BlockKey, FlowKey}
 use Rattle.yf_chars.specs.Text.{code, next, before, CharAt}
 use Rattle.yf_chars.specs.Class.{is_ns_char, is_white}
 use Rattle.yf_chars.specs.Chain.{Chain, Functional, Stuck, Chosen, Nowhere}
@@ -15,10 +13,12 @@ use Rattle.yf_chars.proofs.ChainLemmas.Meets.{goes_on, falls_short}
 use Rattle.yf_chars.proofs.TextLemmas.{reads_real, next_later}
 use Rattle.yf_lines.specs.Basic.{Break, ForbiddenLine, Clear, FlowFolded, is_block, is_flow, is_key}
 use Rattle.yf_lines.specs.Basic.LineStart.{after_break}
-use Rattle.yf_lines.specs.Fold.{FoldsTo, line_feeds, fold_text}
+use Rattle.yf_lines.specs.Fold.{FoldsTo, fold_text}
 use Rattle.yf_lines.proofs.BasicLemmas.{clear_join, clear_front, clear_back, clear_nothing, break_forward, no_break_here}
 use Rattle.yf_lines.proofs.ClearLemmas.{Quiet, quiet_join, clear_quiet, line_start_after, Spelled, spelled_join, spelled_char, spelled_whites, spelled_nothing}
 use Rattle.yf_lines.proofs.FoldLemmas.{folds_functional, folds_forward, clear_fold, fold_line, FoldLine, no_fold_indent, fold_not_item}
+use Rattle.yf_lines.proofs.ContextFacts.{key_not_flow, block_alone}
+use Rattle.yf_lines.proofs.FoldBytes.{fold_bytes}
 use Rattle.yf_plain.specs.Plain.{is_plain_first, is_plain_char, PlainItem, PlainLine, PlainNext, PlainText, PlainFront, Plain, NextLine, NoNextLine}
 use Rattle.yf_plain.specs.Plain.PlainItem.{set_off}
 use Rattle.yf_plain.specs.Plain.PlainLine.{one_line}
@@ -187,14 +187,6 @@ make_steps {t} {i = i} {x = x} e d a =
     let g = next_later t i in
     record { first = e; allowed = clear_front f a; rest = x; steps = clear_split d (clear_back (omega arith) a); text = refl }
 
-pub key_not_flow : (c : Ctx) → is_key c ≡ true → is_flow c ≡ true → ⊥
-key_not_flow BlockOut k f = true≢false (sym k)
-key_not_flow BlockIn k f = true≢false (sym k)
-key_not_flow FlowOut k f = true≢false (sym k)
-key_not_flow FlowIn k f = true≢false (sym k)
-key_not_flow BlockKey k f = true≢false (sym f)
-key_not_flow FlowKey k f = true≢false (sym f)
-
 to_steps : {t : List ℕ} {n : ℤ} {c : Ctx} {i j : ℕ} {x : List ℕ} → is_flow c ≡ true → Plain t n c i j x → PlainSteps t n c i j x
 to_steps {t} {n} {c} {i} f p = go f p.text p.clear where
   with_line : {h j : ℕ} {x y : List ℕ} → PlainLine t c i h x → Chain (PlainNext t n c) h j y → Clear t i j → PlainSteps t n c i j (x ++ y)
@@ -289,14 +281,6 @@ key_chosen {t} {n} {c} {i} k best = record {
   front k (as_key e d) a = record { text = d; clear = a }
   front k (as_lines e d g) a = absurd (key_not_flow c k e)
 
-block_alone : (c : Ctx) → is_block c ≡ true → (is_key c ≡ true) ⊎ (is_flow c ≡ true) → ⊥
-block_alone BlockOut b o = ⊎_elim (λ (e : false ≡ true). true≢false (sym e)) (λ (e : false ≡ true). true≢false (sym e)) o
-block_alone BlockIn b o = ⊎_elim (λ (e : false ≡ true). true≢false (sym e)) (λ (e : false ≡ true). true≢false (sym e)) o
-block_alone FlowOut b o = true≢false (sym b)
-block_alone FlowIn b o = true≢false (sym b)
-block_alone BlockKey b o = true≢false (sym b)
-block_alone FlowKey b o = true≢false (sym b)
-
 pub block_stuck : {t : List ℕ} {n : ℤ} {c : Ctx} {i : ℕ} → is_block c ≡ true → Stuck (Plain t n c i)
 block_stuck {t} {n} {c} {i} b = record { none = λ j x p. go b p.text } where
   go : {j : ℕ} {x : List ℕ} → is_block c ≡ true → PlainText t n c i j x → ⊥
@@ -312,25 +296,7 @@ no_plain {t} {n} {c} {i} s = record { none = λ j x p. go p.text p.clear } where
   go {j} {x} (as_key e d) a = s.none j x (record { text = d; clear = a })
   go (as_lines e d g) a = with_line d g a
 
-pub not_others : (c : Ctx) → is_block c ≡ false → is_key c ≡ false → is_flow c ≡ true
-not_others BlockOut b k = absurd (true≢false b)
-not_others BlockIn b k = absurd (true≢false b)
-not_others FlowOut b k = refl
-not_others FlowIn b k = refl
-not_others BlockKey b k = absurd (true≢false k)
-not_others FlowKey b k = absurd (true≢false k)
-
 -- the bytes of a scalar so far, with one more line
-feeds_bytes : (k : ℕ) → encode_utf8_all (line_feeds k) ≡ line_feeds k
-unfolding encode
-feeds_bytes zero = refl
-feeds_bytes (suc k) = ap (λ w. 10 ∷ w) (feeds_bytes k)
-
-fold_bytes : (k : ℕ) → encode_utf8_all (fold_text k) ≡ fold_text k
-unfolding encode
-fold_bytes zero = refl
-fold_bytes (suc k) = feeds_bytes (suc k)
-
 pub more_bytes : {b f l : List ℕ} (x y : List ℕ) (k : ℕ) → b ≡ encode_utf8_all x → l ≡ encode_utf8_all y → f ≡ b ++ fold_text k
     → f ++ l ≡ encode_utf8_all (x ++ (fold_text k ++ y))
 more_bytes {b} {f} {l} x y k e g h =

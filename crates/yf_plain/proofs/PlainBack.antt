@@ -20,13 +20,13 @@ use Rattle.yf_lines.specs.Steady.{is_steady, is_marker_of}
 use Rattle.yf_lines.proofs.BasicLemmas.{white_cases}
 use Rattle.yf_lines.proofs.ClearLemmas.{clear_quiet}
 use Rattle.yf_lines.proofs.RestLemmas.{follows_not, is_at_chars, chars_quiet}
+use Rattle.yf_lines.proofs.ContextFacts.{not_others}
 use Rattle.yf_plain.specs.Plain.{is_plain_first, is_plain_char, is_sign, PlainItem, PlainLine, PlainText, Plain}
 use Rattle.yf_plain.specs.Plain.PlainItem.{set_off}
 use Rattle.yf_plain.specs.Plain.PlainLine.{one_line}
 use Rattle.yf_plain.specs.Plain.PlainText.{as_key, as_lines}
 use Rattle.yf_plain.specs.Kept.{starts_plain, goes_on_plain, is_plain_after, is_plain_line, IsPlain}
 use Rattle.yf_plain.proofs.PlainLemmas.{white_not_ns, safe_at_end, ns_sign, sign_below}
-use Rattle.yf_plain.proofs.LineLemmas.{not_others}
 use Rattle.yf_plain.proofs.KeptLemmas.{char_is, first_is, goes_moves, starts_moves, goes_is_ns, steady_parts, Steady}
 
 -- the character after, where it is safe
@@ -210,7 +210,7 @@ no_forbidden {t} x q cs r u e k f s s' h =
     parts.0
 
 -- its characters are nb-chars
-ns_nb : (c : ℕ) → is_ns_char c ≡ true → is_nb_char c ≡ true
+pub ns_nb : (c : ℕ) → is_ns_char c ≡ true → is_nb_char c ≡ true
 unfolding is_ns_char
 ns_nb c e = (and_parts (is_nb_char c) (not (is_white c)) e).0
 

@@ -11,6 +11,7 @@ use Rattle.yf_chars.specs.Class.{is_ns_char, is_nb_char, is_printable, is_betwee
 use Rattle.yf_chars.specs.Chain.{Chain, Many, Functional, Stuck, Chosen}
 use Rattle.yf_chars.specs.Chain.Chain.{done, step}
 use Rattle.yf_chars.specs.Chain.One.{one}
+use Rattle.yf_chars.specs.ClassEnds.{no_ns_char}
 use Rattle.yf_chars.proofs.ChainLemmas.{chain_chosen, chain_forward, many_unique, one_functional}
 use Rattle.yf_chars.proofs.TextLemmas.{reads_real, next_ascii, next_later}
 use Rattle.yf_lines.specs.Basic.{ForbiddenLine}
@@ -19,7 +20,7 @@ use Rattle.yf_lines.proofs.ClearLemmas.{Quiet, quiet_nothing, quiet_join, quiet_
 use Rattle.yf_plain.specs.Plain.{is_plain_first, is_plain_char, is_sign, PlainItem, PlainLine, PlainFront}
 use Rattle.yf_plain.specs.Plain.PlainItem.{set_off}
 use Rattle.yf_plain.specs.Plain.PlainLine.{one_line}
-use Rattle.yf_chars.proofs.CharFacts.{feed_no_ns, end_no_ns, colon_ns, hash_ns, mark_no_ns}
+use Rattle.yf_chars.proofs.CharFacts.{feed_no_ns, colon_ns, hash_ns, mark_no_ns}
 use Rattle.yf_chars.proofs.Tests.{turned_false}
 
 pub ns_not_white : (c : ℕ) → is_ns_char c ≡ true → is_white c ≡ false
@@ -138,7 +139,7 @@ no_char_first a e = rw e refl
 
 pub first_at_end : (t : List ℕ) (c : Ctx) (i : ℕ) → code t i ≡ no_char → is_plain_first t c i ≡ false
 first_at_end t c i e =
-    ⊎_elim (λ (h : is_plain_first t c i ≡ true). absurd (true≢false (sym (first_is_ns t c i h) ∙ ap is_ns_char e ∙ end_no_ns)))
+    ⊎_elim (λ (h : is_plain_first t c i ≡ true). absurd (true≢false (sym (first_is_ns t c i h) ∙ ap is_ns_char e ∙ no_ns_char)))
     (λ (h : is_plain_first t c i ≡ false). h) (cases_Bool (is_plain_first t c i))
 
 -- after white space is a white

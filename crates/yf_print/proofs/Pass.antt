@@ -1,6 +1,6 @@
 -- what the printer writes, step by step
 pub mod LookLemmas
-pub mod SpotLemmas
+pub mod AwaitedLemmas
 pub mod DraftLemmas
 pub mod HeldBlocks
 pub mod HeldColumns

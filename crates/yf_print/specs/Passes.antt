@@ -1,5 +1,6 @@
 -- what the passes do, event by event
 pub mod TrailPass
+pub mod PrintWork
 pub mod PrintPass
 pub mod Drafts
 pub mod HeldBlocks

@@ -5,7 +5,7 @@ ghost use Rattle.yf_stream.specs.WellFormed.{props_of};
 ghost use Rattle.yf_events.specs.Event.{event_value};
 ghost use Rattle.yf_print.specs.Passes.PrintPass as Printing;
 ghost use Rattle.yf_print.specs.Passes.Pages.{form_at, measure_at, placed_at, work_on};
-ghost use Rattle.yf_print.specs.Passes.PrintPass.{work_of};
+ghost use Rattle.yf_print.specs.Passes.PrintWork.{work_of};
 ghost use Rattle.yf_print.specs.Passes.PrinterState.{state_of};
 ghost use Rattle.yf_print.specs.Passes.TrailPass.{all_found};
 ghost use Rattle.yf_stream.specs.declared.stream.TheConstants.{LONGEST};
@@ -14,7 +14,7 @@ use crate::leaves::push_leaf;
 use crate::looks::event_at;
 use crate::output::Output;
 use crate::printer::{
-    FrameState, Plan, PrintContext, PrintFrame, Role, begin_collection, next_document, next_spot,
+    FrameState, Plan, PrintContext, PrintFrame, Role, begin_collection, next_document, node_role,
 };
 use crate::trails::find_trails;
 use std::alloc::{AllocError, Global};
@@ -39,12 +39,12 @@ pub(crate) struct Printer {
 impl Printer {
     /// Prints a leaf, an empty node or a flow collection that is kept.
     #[inline(always)]
-    fn leaf(&mut self, page: &PrintContext, i: usize, spot: Role) -> Result<(), AllocError>
+    fn leaf(&mut self, page: &PrintContext, i: usize, role: Role) -> Result<(), AllocError>
         requires { i < length page.now.reading.now.events }
         ensures { OnOk result (state_of self.new ≡ Printing.leaf_at (work_on page.now) i (measure_at page.now i) (form_at page.now i)
-            (placed_at page.now i) spot (state_of self.old)) }
+            (placed_at page.now i) role (state_of self.old)) }
     {
-        self.done = push_leaf(&mut self.output, page, i, spot)?;
+        self.done = push_leaf(&mut self.output, page, i, role)?;
         Ok(())
     }
 
@@ -54,33 +54,33 @@ impl Printer {
         &mut self,
         page: &PrintContext,
         i: usize,
-        spot: Role,
+        role: Role,
         first: FrameState,
     ) -> Result<(), AllocError>
         requires { i < length page.now.reading.now.events }
         ensures { OnOk result (state_of self.new ≡ Printing.collection_if (Printing.is_whole i (measure_at page.now i) (form_at page.now i))
             (work_on page.now) i (measure_at page.now i) (form_at page.now i) (placed_at page.now i)
-            (props_of (placed_at page.now i).event) first spot (state_of self.old)) }
+            (props_of (placed_at page.now i).event) first role (state_of self.old)) }
     {
         if page.plan.forms.at(i).is_kept || page.plan.measures.at(i).is_leaf(i) {
-            return self.leaf(page, i, spot);
+            return self.leaf(page, i, role);
         }
-        begin_collection(&mut self.output, &mut self.levels, page, i, spot, first)?;
+        begin_collection(&mut self.output, &mut self.levels, page, i, role, first)?;
         self.done = i;
         Ok(())
     }
 
     /// Prints the node that the event begins, or begins it where it is a block collection.
     #[inline(always)]
-    fn node_at(&mut self, page: &PrintContext, i: usize, spot: Role) -> Result<(), AllocError>
+    fn node_at(&mut self, page: &PrintContext, i: usize, role: Role) -> Result<(), AllocError>
         requires { i < length page.now.reading.now.events }
         ensures { OnOk result (state_of self.new ≡ Printing.node_in (work_on page.now) i (measure_at page.now i) (form_at page.now i)
-            (placed_at page.now i) (placed_at page.now i).event spot (state_of self.old)) }
+            (placed_at page.now i) (placed_at page.now i).event role (state_of self.old)) }
     {
         match event_at(page, i) {
-            Event::SeqStart { .. } => self.collection(page, i, spot, FrameState::Item),
-            Event::MapStart { .. } => self.collection(page, i, spot, FrameState::Key),
-            _ => self.leaf(page, i, spot),
+            Event::SeqStart { .. } => self.collection(page, i, role, FrameState::Item),
+            Event::MapStart { .. } => self.collection(page, i, role, FrameState::Key),
+            _ => self.leaf(page, i, role),
         }
     }
 
@@ -90,11 +90,11 @@ impl Printer {
         ensures { OnOk result (state_of self.new ≡ Printing.node (work_on page.now) i (measure_at page.now i) (form_at page.now i)
             (placed_at page.now i) (state_of self.old)) }
     {
-        let spot = next_spot(&mut self.output, &mut self.levels, page, i)?;
+        let role = node_role(&mut self.output, &mut self.levels, page, i)?;
         if page.plan.measures.at(i).is_leaf(i) {
-            return self.leaf(page, i, spot);
+            return self.leaf(page, i, role);
         }
-        self.node_at(page, i, spot)
+        self.node_at(page, i, role)
     }
 
     /// Begins the next document.

@@ -41,11 +41,11 @@ fn before_text(
     output: &mut Output,
     page: &PrintContext,
     i: usize,
-    spot: Role,
+    role: Role,
 ) -> Result<(), AllocError>
-    ensures { OnOk result (draft output.new ≡ Printing.before_text (work_on page.now) (form_at page.now i) spot (draft output.old)) }
+    ensures { OnOk result (draft output.new ≡ Printing.before_text (work_on page.now) (form_at page.now i) role (draft output.old)) }
 {
-    match spot {
+    match role {
         Role::Root => output.open_line(page, 0),
         Role::After(_) => push_spaces(&mut output.line, page.plan.style.indent.saturating_sub(1)),
         Role::Key => Ok(()),
@@ -56,10 +56,10 @@ fn before_text(
 }
 
 /// The column of the lines of a block scalar.
-fn column_of_lines(indent: usize, spot: Role) -> usize
-    ensures { result ≡ lines_column indent spot }
+fn column_of_lines(indent: usize, role: Role) -> usize
+    ensures { result ≡ lines_column indent role }
 {
-    match spot {
+    match role {
         Role::Root | Role::Key => indent,
         Role::After(column) | Role::Value(column) => column.saturating_add(indent),
     }
@@ -69,16 +69,16 @@ fn column_of_lines(indent: usize, spot: Role) -> usize
 fn push_block_scalar(
     output: &mut Output,
     plan: &Plan,
-    spot: Role,
+    role: Role,
     style: ScalarStyle,
     text: &str,
     lines: &[&str],
 ) -> Result<(), AllocError>
-    ensures { OnOk result (draft output.new ≡ Printing.with_block plan.now.style spot style text.now
+    ensures { OnOk result (draft output.new ≡ Printing.with_block plan.now.style role style text.now
         (map (λ line. line.now) lines.now) (draft output.old)) }
 {
     let indent = plan.style.indent;
-    let column = column_of_lines(indent, spot);
+    let column = column_of_lines(indent, role);
     push_header(&mut output.line, style, text, indent)?;
     if is_kept_whole(text) {
         output.forbid_blank();
@@ -95,12 +95,12 @@ fn push_scalar_node(
     output: &mut Output,
     page: &PrintContext,
     i: usize,
-    spot: Role,
+    role: Role,
     style: ScalarStyle,
     text: &str,
 ) -> Result<(), AllocError>
     requires { i < length page.now.reading.now.events }
-    ensures { OnOk result (draft output.new ≡ Printing.with_scalar page.now.plan.now.style spot (props_of (placed_at page.now i).event) style text.now
+    ensures { OnOk result (draft output.new ≡ Printing.with_scalar page.now.plan.now.style role (props_of (placed_at page.now i).event) style text.now
         (placed_at page.now i).folded (draft output.old)) }
 {
     match style {
@@ -117,7 +117,7 @@ fn push_scalar_node(
         }
         ScalarStyle::Literal | ScalarStyle::Folded => {
             push_props_before_at(&mut output.line, page, i)?;
-            push_block_scalar(output, page.plan, spot, style, text, folded_at(page, i))
+            push_block_scalar(output, page.plan, role, style, text, folded_at(page, i))
         }
     }
 }
@@ -150,14 +150,14 @@ fn push_node(
     page: &PrintContext,
     i: usize,
     last: usize,
-    spot: Role,
+    role: Role,
 ) -> Result<(), AllocError>
     requires { i < length page.now.reading.now.events }
     ensures { OnOk result (draft output.new ≡ with_node_event (work_on page.now) i last (placed_at page.now i).event
-        (placed_at page.now i).folded spot (draft output.old)) }
+        (placed_at page.now i).folded role (draft output.old)) }
 {
     match event_at(page, i) {
-        Event::Scalar { style, text, .. } => push_scalar_node(output, page, i, spot, style, text),
+        Event::Scalar { style, text, .. } => push_scalar_node(output, page, i, role, style, text),
         Event::Alias { name } => {
             output.line.push('*')?;
             output.line.push_str(name)
@@ -238,13 +238,13 @@ fn push_colon(
     page: &PrintContext,
     i: usize,
     is_leaf: bool,
-    spot: Role,
+    role: Role,
 ) -> Result<(), AllocError>
     requires { i < length page.now.reading.now.events }
-    ensures { OnOk result (draft output.new ≡ Printing.colon_if spot (Deciding.has_space (placed_at page.now i).event is_leaf)
+    ensures { OnOk result (draft output.new ≡ Printing.colon_if role (Deciding.has_space (placed_at page.now i).event is_leaf)
         (draft output.old)) }
 {
-    match spot {
+    match role {
         Role::Key => push_mark(output, has_space(&event_at(page, i), is_leaf)),
         _ => Ok(()),
     }
@@ -255,22 +255,22 @@ pub(crate) fn push_leaf(
     output: &mut Output,
     page: &PrintContext,
     i: usize,
-    spot: Role,
+    role: Role,
 ) -> Result<usize, AllocError>
     requires { i < length page.now.reading.now.events }
     ensures printed { OnOk result (draft output.new ≡ Printing.leaf (work_on page.now) i (measure_at page.now i) (form_at page.now i)
-        (placed_at page.now i) spot (draft output.old)) }
+        (placed_at page.now i) role (draft output.old)) }
     ensures last { IfOk result (λ last. last ≡ (measure_at page.now i).last) }
 {
     let measure = page.plan.measures.at(i);
     let is_leaf = measure.is_leaf(i);
     let last = measure.last;
     if measure.first_leaf.is_some() {
-        before_text(output, page, i, spot)?;
-        push_node(output, page, i, last, spot)?;
+        before_text(output, page, i, role)?;
+        push_node(output, page, i, last, role)?;
         note_leaf(output, page, i, is_leaf, span_at(page, i))?;
         note_within(output, page, i, last)?;
     }
-    push_colon(output, page, i, is_leaf, spot)?;
+    push_colon(output, page, i, is_leaf, role)?;
     Ok(last)
 }

@@ -9,7 +9,7 @@ ghost use Rattle.yf_events.specs.Tree.{starts_of_entry};
 ghost use Rattle.yf_print.specs.Layouts.KeptColumns.{keeps_blocks};
 ghost use Rattle.yf_print.specs.Layouts.Rows.{start_of};
 ghost use Rattle.yf_print.specs.Passes.Pages.{work_on};
-ghost use Rattle.yf_print.specs.Passes.PrintPass.{remarks_of};
+ghost use Rattle.yf_print.specs.Passes.PrintWork.{remarks_of};
 ghost use Rattle.yf_stream.specs.declared.stream.TheConstants.{LONGEST};
 
 use crate::comment_texts::{push_after_space_if, push_comment};

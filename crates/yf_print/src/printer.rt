@@ -219,7 +219,7 @@ fn next_role(
     i: usize,
 ) -> Result<Role, AllocError>
     requires { i < length page.now.reading.now.events }
-    ensures spot { IfOk result (λ spot. spot ≡ Printing.spot_in (form_at page.now i) level.old.column level.old.awaited) }
+    ensures role { IfOk result (λ role. role ≡ Printing.role_in (form_at page.now i) level.old.column level.old.awaited) }
     ensures printed { OnOk result (draft output.new ≡ Printing.sign_in (work_on page.now) (form_at page.now i)
         (placed_at page.now i).entry level.old.is_inline level.old.column level.old.awaited (draft output.old)) }
     ensures level { OnOk result (level.new ≡ record {
@@ -262,14 +262,14 @@ fn next_role(
 
 /// Prints what is before the node that the event at an index begins, and answers where the node goes.
 #[inline(always)]
-pub(crate) fn next_spot(
+pub(crate) fn node_role(
     output: &mut Output,
     levels: &mut Vec<PrintFrame>,
     page: &PrintContext,
     i: usize,
 ) -> Result<Role, AllocError>
     requires { i < length page.now.reading.now.events }
-    ensures spot { IfOk result (λ spot. spot ≡ Printing.spot (form_at page.now i) (reverse levels.old.items)) }
+    ensures role { IfOk result (λ role. role ≡ Printing.role (form_at page.now i) (reverse levels.old.items)) }
     ensures printed { OnOk result (draft output.new ≡ sign (work_on page.now) (form_at page.now i) (placed_at page.now i).entry
         (reverse levels.old.items) (draft output.old)) }
     ensures levels { OnOk result (reverse levels.new.items ≡ frames_after (form_at page.now i) (placed_at page.now i).entry
@@ -287,11 +287,11 @@ fn before_collection(
     output: &mut Output,
     page: &PrintContext,
     has_props: bool,
-    spot: Role,
+    role: Role,
 ) -> Result<(), AllocError>
-    ensures { OnOk result (draft output.new ≡ Printing.before_collection (work_on page.now) has_props spot (draft output.old)) }
+    ensures { OnOk result (draft output.new ≡ Printing.before_collection (work_on page.now) has_props role (draft output.old)) }
 {
-    match spot {
+    match role {
         Role::Root => {
             if has_props {
                 output.open_line(page, 0)?;
@@ -323,22 +323,22 @@ pub(crate) fn begin_collection(
     levels: &mut Vec<PrintFrame>,
     page: &PrintContext,
     i: usize,
-    spot: Role,
+    role: Role,
     first: FrameState,
 ) -> Result<(), AllocError>
     requires { i < length page.now.reading.now.events }
     ensures printed { OnOk result (draft output.new ≡ Printing.collection_begun (work_on page.now)
-        (props_of (placed_at page.now i).event) spot (draft output.old)) }
+        (props_of (placed_at page.now i).event) role (draft output.old)) }
     ensures levels { OnOk result (reverse levels.new.items ≡ level_of (form_at page.now i)
-        (Printing.has_props (props_of (placed_at page.now i).event)) first spot ∷ reverse levels.old.items) }
+        (Printing.has_props (props_of (placed_at page.now i).event)) first role ∷ reverse levels.old.items) }
 {
     let with_props = has_props_at(page, i);
-    before_collection(output, page, with_props, spot)?;
+    before_collection(output, page, with_props, role)?;
     push_props_if(&mut output.line, page, i, with_props)?;
     levels.push(PrintFrame {
         column: page.plan.forms.at(i).column,
         awaited: first,
-        is_inline: !with_props && matches!(spot, Role::After(_)),
+        is_inline: !with_props && matches!(role, Role::After(_)),
     })?;
     Ok(())
 }

@@ -96,7 +96,7 @@ struct InStyle<'a> {
 }
 
 impl Formatter for InStyle<'_> {
-    type Refusal = Fault;
+    type Error = Fault;
 
     ghost Formats = { λ it bytes text. FormatsBytes it.style.now bytes text };
 

@@ -1,5 +1,5 @@
 -- What derived names, tags and properties are made of.
-use Rattle.std.proofs.Common.{◌≡◌, ◌≢◌, ℕ, suc, ◌+◌, ◌<◌, ◌≤◌, ℤ, Bool, true, List, [], ◌∷◌, ◌++◌, Some, None, length, slice_range, encode_utf8_all, refl, sym, ap, ◌∙◌, subst, arith}
+use Rattle.std.proofs.Common.{◌≡◌, ◌≢◌, ℕ, suc, ◌+◌, ◌<◌, ◌≤◌, ℤ, Bool, true, List, [], ◌∷◌, ◌++◌, length, slice_range, encode_utf8_all, refl, sym, ap, ◌∙◌, subst, arith}
 use Rattle.std.proofs.lemmas.Bool.Decides.{nat_tests}
 use Rattle.std.proofs.lemmas.Str.{encode_ascii}
 use Rattle.std.specs.Str.{IsUtf8}
@@ -12,6 +12,7 @@ use Rattle.yf_chars.specs.Chain.{Chain, Many, One}
 use Rattle.yf_chars.specs.Chain.Chain.{done, step}
 use Rattle.yf_chars.specs.Chain.One.{one}
 use Rattle.yf_chars.proofs.TextLemmas.{reads_real, reads_byte}
+use Rattle.yf_chars.proofs.Tests.{none_some}
 use Rattle.yf_lines.proofs.ClearLemmas as C
 use Rattle.yf_lines.proofs.ClearLemmas.{spelled_nothing, spelled_join, spelled_char, spelled_slice}
 use Rattle.yf_props.specs.Props.{TagValue}
@@ -206,13 +207,9 @@ tag_made u (verbatim_tag d) = verbatim_made u d
 tag_made u (shorthand_tag d) = shorthand_made u d
 tag_made u (non_specific_tag a s) = lone_form
 
--- properties
-none_some : {A : Type 0} {B : Type 0} {x : A} → None ≡ Some x → B
-none_some e = cc
-
 pub props_made : {t : List ℕ} {n : ℤ} {c : Ctx} {i j : ℕ} {p : PropertiesValue} → IsUtf8 t → Properties t n c i j p → IsProps p.props
-props_made u (by_tag d) = let made = tag_made u d in record { anchor = λ name e. none_some e; tag = λ v e. subst (λ w. IsTag w) (same_Some _ _ e) made }
-props_made u (by_anchor a) = let made = anchor_made u a in record { anchor = λ name e. subst (λ w. IsName w) (same_Some _ _ e) made; tag = λ v e. none_some e }
+props_made u (by_tag d) = let made = tag_made u d in record { anchor = λ name e. absurd (none_some e); tag = λ v e. subst (λ w. IsTag w) (same_Some _ _ e) made }
+props_made u (by_anchor a) = let made = anchor_made u a in record { anchor = λ name e. subst (λ w. IsName w) (same_Some _ _ e) made; tag = λ v e. absurd (none_some e) }
 props_made u (tag_first d s a) =
     let made = tag_made u d in
     let named = anchor_made u a in

@@ -21,6 +21,7 @@ use Rattle.yf_props.specs.Names.VerbatimTag.{in_brackets}
 use Rattle.yf_props.specs.Names.ShorthandTag.{handle_suffix}
 use Rattle.yf_props.specs.Names.TagProperty.{verbatim_tag, shorthand_tag, non_specific_tag}
 use Rattle.yf_props.proofs.NameLemmas.{chosen_over, chosen_cases, run_unique, run_stuck}
+use Rattle.yf_chars.specs.ClassEnds as Ends
 use Rattle.yf_chars.proofs.CharFacts.{exclamation_no_tag, exclamation_no_word, angle_no_tag, end_no_tag, end_no_uri, angle_no_word}
 use Rattle.yf_chars.proofs.EscapeLemmas.{chosen_only}
 
@@ -45,12 +46,8 @@ pub none_of : (class : Chars) (c : ℕ) → c ≡ no_char → class_of class c �
 none_of Uri c e = ap is_uri_char e ∙ end_no_uri
 none_of Suffix c e = ap is_tag_char e ∙ end_no_tag
 
-none_word : is_word_char no_char ≡ false
-unfolding is_word_char is_digit is_between
-none_word = refl
-
 pub no_word_char : (c : ℕ) → c ≡ no_char → is_word_char c ≡ false
-no_word_char c e = ap is_word_char e ∙ none_word
+no_word_char c e = ap is_word_char e ∙ Ends.no_word_char
 
 pub no_hex_digit : (c : ℕ) → c ≡ no_char → is_hex_digit c ≡ false
 unfolding is_hex_digit is_digit is_between

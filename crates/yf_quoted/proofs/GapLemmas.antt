@@ -12,9 +12,11 @@ use Rattle.yf_lines.specs.Basic.{Break}
 use Rattle.yf_lines.specs.Fold.{FoldsTo, FoldLines, line_feeds, fold_text}
 use Rattle.yf_lines.proofs.BasicLemmas.{break_char, break_unique, no_break_here}
 use Rattle.yf_chars.proofs.TextLemmas.{reads_byte}
+use Rattle.yf_chars.proofs.Tests.{same_value}
 use Rattle.yf_lines.proofs.BasicLemmas.{clear_join}
 use Rattle.yf_lines.proofs.ClearLemmas.{clear_whites, clear_char, clear_break, not_forbidden, spelled_whites, spelled_slice}
 use Rattle.yf_lines.proofs.FoldLemmas.{clear_fold, clear_lines, folds_functional, fold_not_item, lines_unique, break_no_white}
+use Rattle.yf_lines.proofs.FoldBytes.{feeds_bytes}
 use Rattle.yf_quoted.specs.Quoted.{DoubleBreak, Piece, goods, text_of, bad_escapes}
 use Rattle.yf_quoted.specs.Quoted.DoubleBreak.{folded_break, escaped_break}
 use Rattle.yf_quoted.specs.Body.{Gap, DoubleBreaks, PlainGap, NoPlainGap, DoubleGap, NoDoubleGap, gap_bytes}
@@ -49,11 +51,6 @@ text_of_goods (c ∷ x) = ap (λ w. c ∷ w) (text_of_goods x)
 pub no_bad_goods : (x : List ℕ) → bad_escapes (goods x) ≡ []
 no_bad_goods [] = refl
 no_bad_goods (c ∷ x) = no_bad_goods x
-
-feeds_bytes : (k : ℕ) → encode_utf8_all (line_feeds k) ≡ line_feeds k
-unfolding encode
-feeds_bytes zero = refl
-feeds_bytes (suc k) = ap (λ w. 10 ∷ w) (feeds_bytes k)
 
 no_slice : (t : List ℕ) (i : ℕ) → take (i - i) (drop i t) ≡ []
 no_slice t i = let z : i - i ≡ 0 = omega arith in rw z refl
@@ -93,9 +90,6 @@ whites_only {o = o} m n b e (by_break d f) g = let r = break_of o d in absurd (w
 fold_no_escape : {t : List ℕ} {n : ℤ} {i h j : ℕ} {w x : List ℕ} → FoldsTo t n i j x → Many t is_white i h w → code t h ≡ 92 → ⊥
 fold_no_escape {t} {h = h} f m q = fold_not_item m (no_break_here t h (λ e. omega arith) (λ e. omega arith)) (backslash t h q) f
 
-pub same_width : {v w : ℕ} {o : Option ℕ} → o ≡ Some v → o ≡ Some w → v ≡ w
-same_width a b = cc
-
 fold_break_only : {t : List ℕ} {w i j k : ℕ} {x : List ℕ} {y : List Piece} → FoldsTo t (pos w) i j x → DoubleBreak t (pos w) i k y → is_white (code t k) ≡ false → Good t k
     → (k ≡ j) × (y ≡ goods x)
 fold_break_only {t} {w} f (folded_break d) v g =
@@ -109,7 +103,7 @@ fold_only : {t : List ℕ} {o : Option ℕ} {w i j k : ℕ} {x : List ℕ} {y : 
 fold_only f s (by_whites v e) g = absurd (fold_not_item v g.no_break e f)
 fold_only {t} {o} {w} {i} {j} {k} {x} {y} f s (by_break d e) g =
     let r = break_of o d in
-    let b : DoubleBreak t (pos w) i k y = subst (λ v. DoubleBreak t (pos v) i k y) (same_width r.1 s) r.2 in
+    let b : DoubleBreak t (pos w) i k y = subst (λ v. DoubleBreak t (pos v) i k y) (same_value r.1 s) r.2 in
     fold_break_only f b e g
 
 pub double_of_plain : {t : List ℕ} {o : Option ℕ} {i blank_end feeds j : ℕ} {space : Bool} → IsUtf8 t → blank_end ≤ length t → NoEscape t o i
@@ -147,7 +141,7 @@ no_double_of_plain {t} {o} {i} (at_break {j = j} {k = l} w s m b stuck) = record
       g.no_break.none l (subst (λ h. Break t h l) same.0 b)
   go {k} {y} (by_break d e) g =
       let r = break_of o d in
-      stuck_break m b stuck (subst (λ v. DoubleBreak t (pos v) i k y) (same_width r.1 s) r.2) e g
+      stuck_break m b stuck (subst (λ v. DoubleBreak t (pos v) i k y) (same_value r.1 s) r.2) e g
 
 -- an escaped break
 escaped_break_only : {t : List ℕ} {w i h l j k : ℕ} {x z : List ℕ} {y : List Piece} → Many t is_white i h x → code t h ≡ 92 → Break t (h + 1) l → FoldLines t (pos w) l j z

@@ -11,9 +11,10 @@ use Rattle.yf_chars.specs.Class.{is_between}
 use Rattle.yf_chars.specs.Common.{is_common}
 use Rattle.yf_chars.specs.Escape.{is_by_two, is_by_four, short_name, spelled}
 use Rattle.yf_chars.specs.Text.{code, CharAt}
-use Rattle.yf_chars.proofs.CommonLemmas.{common_below, common_spelled, none_there}
+use Rattle.yf_chars.proofs.CommonLemmas.{common_below, common_spelled}
 use Rattle.yf_chars.proofs.EscapeLemmas.{spelled_none, spelled_self}
 use Rattle.yf_chars.proofs.TextLemmas.{reads_ascii}
+use Rattle.yf_chars.proofs.Tests.{none_there}
 use Rattle.yf_lines.proofs.ClearLemmas.{Spelled, spelled_nothing, spelled_join, spelled_char, spelled_slice}
 use Rattle.yf_quoted.specs.Own.{OwnAt, OwnRun}
 

@@ -10,8 +10,9 @@ use Rattle.yf_chars.specs.Escape.{upper_digit, two_digits, is_by_two, is_by_four
 use Rattle.yf_chars.specs.Hidden.{is_spelled_out, spelled_out}
 use Rattle.yf_chars.proofs.EscapeLemmas.{by_two_below, by_four_below, few_digits, many_digits}
 use Rattle.yf_chars.proofs.HiddenLemmas.{spelled_alike, spelled_apart}
-use Rattle.yf_chars.proofs.SpelledLemmas.{IsAt, plain_char, scalar_below}
+use Rattle.yf_chars.proofs.SpelledLemmas.{IsAt, plain_char}
 use Rattle.yf_chars.proofs.CharBounds.{visible_nb}
+use Rattle.yf_chars.proofs.TextLemmas.{scalar_below}
 use Rattle.yf_lines.specs.Basic.{is_block}
 use Rattle.yf_lines.specs.LineText.{AllNb, IsLineText}
 use Rattle.yf_lines.specs.declared.invisible.Invisible.{Invisible}

@@ -1,5 +1,5 @@
 -- Whole double-quoted scalars: what the reader of the inside finds is the scalar.
-use Rattle.std.proofs.Common.{◌≡◌, ℕ, ◌+◌, ◌≤◌, ℤ, pos, ◌<ℤ◌, List, [], ◌∷◌, Option, None, refl, sym, ap, ◌∙◌, subst, arith, encode_utf8_all, length, take, drop, ◌-◌}
+use Rattle.std.proofs.Common.{◌≡◌, ℕ, ◌+◌, ◌≤◌, ℤ, pos, ◌<ℤ◌, List, [], ◌∷◌, Option, None, sym, ap, ◌∙◌, subst, arith, encode_utf8_all, length, take, drop, ◌-◌}
 use Rattle.std.specs.Str.{IsUtf8}
 use Rattle.yf_chars.specs.declared.context.Ctx.{Ctx}
 use Rattle.yf_chars.specs.Text.{code}
@@ -21,6 +21,7 @@ use Rattle.yf_quoted.specs.Fault.DoubleFault.{for_escape}
 use Rattle.yf_quoted.proofs.ScalarLemmas.{Kind, body_map, no_negative_prefix, no_negative_fold, quoted_body, body_quoted}
 use Rattle.yf_quoted.proofs.BodyLemmas.{chars_body, body_unique}
 use Rattle.yf_quoted.proofs.DoubleLemmas.{double_laws, double_means, no_quote_char, char_functional}
+use Rattle.yf_quoted.proofs.GapLemmas.{text_of_goods, no_bad_goods}
 
 no_negative_break : {t : List ℕ} {n : ℤ} {i j : ℕ} {x : List Piece} → n <ℤ pos 0 → DoubleBreak t n i j x → ⊥
 no_negative_break l (folded_break f) = no_negative_fold l f
@@ -69,19 +70,11 @@ simple_body : {t : List ℕ} {i j : ℕ} {x : List ℕ} (o : Option ℕ) → IsU
 simple_body {t} o u c q =
     body_map (λ i j x b. absurd b) (chars_body {B = DoubleBreaks t None} (char_functional t) (double_means t) (λ i j x b. b) (simple_chars c) q (simple_clear u c))
 
-goods_text : (x : List ℕ) → text_of (goods x) ≡ x
-goods_text [] = refl
-goods_text (c ∷ x) = ap (λ w. c ∷ w) (goods_text x)
-
-goods_no_bad : (x : List ℕ) → bad_escapes (goods x) ≡ []
-goods_no_bad [] = refl
-goods_no_bad (c ∷ x) = goods_no_bad x
-
 pub simple_read : {t slice none : List ℕ} {n : ℤ} {c : Ctx} {o : Option ℕ} {i j : ℕ} {x : List ℕ} → IsUtf8 t → WidthOf n c o → code t i ≡ 34 → j ≤ length t
     → Chain (SimpleChar t) (i + 1) j x → code t j ≡ 34 → slice ≡ take (j - (i + 1)) (drop (i + 1) t) → none ≡ []
     → (y : List Piece) × (slice ≡ encode_utf8_all (text_of y)) × (none ≡ bad_escapes y) × Chosen (DoubleQuoted t n c i) (j + 1) y
 simple_read {t} {slice} {none} {n} {c} {o} {i} {j} {x} u w q l d e s b =
-    (goods x, s ∙ spelled_slice l (simple_spelled d) ∙ ap encode_utf8_all (sym (goods_text x)), b ∙ sym (goods_no_bad x), double_chosen u w q (simple_body o u d e))
+    (goods x, s ∙ spelled_slice l (simple_spelled d) ∙ ap encode_utf8_all (sym (text_of_goods x)), b ∙ sym (no_bad_goods x), double_chosen u w q (simple_body o u d e))
 
 pub body_read : {t bytes : List ℕ} {n : ℤ} {c : Ctx} {wrong : List ℕ} {o : Option ℕ} {i j : ℕ} → IsUtf8 t → WidthOf n c o → code t i ≡ 34 → DoubleRead t o (i + 1) bytes wrong j
     → (y : List Piece) × (bytes ≡ encode_utf8_all (text_of y)) × (wrong ≡ bad_escapes y) × Chosen (DoubleQuoted t n c i) j y

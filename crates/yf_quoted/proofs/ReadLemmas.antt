@@ -1,5 +1,5 @@
 -- Laws for the reader of double-quoted scalars.
-use Rattle.std.proofs.Common.{◌≡◌, ◌≢◌, ℕ, ◌+◌, Bool, false, List, [], ◌∷◌, ◌++◌, Option, Some, None, refl, sym, ap, ◌∙◌, subst, inl, inr, arith, append_assoc, append-nil, encode_utf8_all, encode_utf8, SomeIff}
+use Rattle.std.proofs.Common.{◌≡◌, ◌≢◌, ℕ, ◌+◌, Bool, List, [], ◌∷◌, ◌++◌, Option, Some, None, refl, sym, ap, ◌∙◌, subst, inl, inr, arith, append_assoc, append-nil, encode_utf8_all, encode_utf8, SomeIff}
 use Rattle.std.proofs.lemmas.Bool.{true≢false}
 use Rattle.std.proofs.lemmas.List.Elements.{All-append, All-cons, All-nil}
 use Rattle.std.proofs.lemmas.Str.{encodes-append}
@@ -7,12 +7,13 @@ use Rattle.std.specs.Char.{IsScalar}
 use Rattle.std.specs.List.{All}
 use Rattle.std.specs.Str.{IsUtf8, IsCharBoundary}
 use Rattle.yf_chars.specs.Text.{code, no_char}
-use Rattle.yf_chars.specs.Class.{is_nb_json, is_between}
+use Rattle.yf_chars.specs.Class.{is_nb_json}
 use Rattle.yf_chars.specs.Chain.{Chain}
 use Rattle.yf_chars.specs.Chain.Chain.{done}
 use Rattle.yf_chars.specs.Escape.{Escape}
 use Rattle.yf_chars.proofs.EscapeLemmas.{escape_backslash, escape_no_sign}
 use Rattle.yf_chars.proofs.ChainLemmas.{chain_more}
+use Rattle.yf_chars.proofs.CharFacts.{end_no_json}
 use Rattle.yf_lines.specs.Basic.{Clear}
 use Rattle.yf_lines.proofs.BasicLemmas.{clear_join, clear_back}
 use Rattle.yf_lines.proofs.ClearLemmas.{clear_char, not_forbidden}
@@ -24,12 +25,8 @@ use Rattle.yf_quoted.proofs.BodyLemmas.{no_body}
 use Rattle.yf_quoted.proofs.DoubleLemmas.{Written, written, double_laws, no_quote_char}
 use Rattle.yf_quoted.proofs.DoubleLemmas.Written.{itself, by_escape}
 
-json_end : is_nb_json no_char ≡ false
-unfolding is_nb_json is_between
-json_end = refl
-
 pub no_simple_end : {t : List ℕ} {i : ℕ} → code t i ≡ no_char → NoSimple t i
-no_simple_end e = record { none = λ j n m a. true≢false (sym j ∙ ap is_nb_json e ∙ json_end) }
+no_simple_end e = record { none = λ j n m a. true≢false (sym j ∙ ap is_nb_json e ∙ end_no_json) }
 
 -- characters
 pub clear_escape : {t : List ℕ} {i j v : ℕ} → Escape t i j v → Clear t i j
@@ -38,7 +35,7 @@ clear_escape {t} e = let n = escape_no_sign e in record { none = λ h l m f. let
 pub no_char_end : {t : List ℕ} {i : ℕ} → code t i ≡ no_char → NoDoubleChar t i
 no_char_end {t} {i} e = record { none = λ j y d a. go (written d) } where
   go : {j : ℕ} {y : List Piece} → Written t i j y → ⊥
-  go (itself b q f p x) = true≢false (sym f ∙ ap is_nb_json e ∙ json_end)
+  go (itself b q f p x) = true≢false (sym f ∙ ap is_nb_json e ∙ end_no_json)
   go (by_escape v f) = let b = escape_backslash f in omega arith
 
 pub simple_char : {t : List ℕ} {i j c : ℕ} → IsUtf8 t → Simple t i j → code t i ≡ c → DoubleChar t i j (piece (Some c) i ∷ []) × Clear t i j

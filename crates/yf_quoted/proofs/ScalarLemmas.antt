@@ -1,10 +1,9 @@
 -- Whole quoted scalars of either kind: what the reader of the inside finds is the scalar.
 use Rattle.std.proofs.Common.{◌≡◌, ℕ, ◌+◌, ◌<◌, ◌≤◌, ℤ, pos, negsuc, ◌<ℤ◌, true, false, List, Option, Some, None, refl, sym, ap, ◌∙◌, subst, inl, inr, ◌⊎◌, ⊎_elim, arith}
-use Rattle.std.proofs.lemmas.Bool.{true≢false, cases_Bool}
+use Rattle.std.proofs.lemmas.Bool.{cases_Bool}
 use Rattle.std.proofs.lemmas.Int.{ints}
 use Rattle.std.specs.Str.{IsUtf8}
 use Rattle.yf_chars.specs.declared.context.Ctx.{Ctx}
-use Rattle.yf_chars.specs.declared.context.Ctx.TheVariants.{BlockOut, BlockIn, FlowOut, FlowIn, BlockKey, FlowKey}
 use Rattle.yf_chars.specs.Text.{code}
 use Rattle.yf_chars.specs.Class.{is_white}
 use Rattle.yf_chars.specs.Chain.{Chain, Stuck}
@@ -17,6 +16,7 @@ use Rattle.yf_lines.specs.Basic.FlowPrefix.{indented, set_off}
 use Rattle.yf_lines.specs.Basic.FlowFolded.{at_break, past_whites}
 use Rattle.yf_lines.proofs.BasicLemmas.{clear_join, clear_front, clear_back}
 use Rattle.yf_lines.proofs.ClearLemmas.{clear_char, not_forbidden}
+use Rattle.yf_lines.proofs.ContextFacts.{key_not_flow, block_alone, not_others}
 use Rattle.yf_quoted.specs.Quoted.{Rest, Inside, QuotedScalar}
 use Rattle.yf_quoted.specs.Quoted.Rest.{blank, last_break, next_line}
 use Rattle.yf_quoted.specs.Quoted.Inside.{as_key, as_lines}
@@ -24,31 +24,6 @@ use Rattle.yf_quoted.specs.Body.{Gap, Step, Body, WidthOf}
 use Rattle.yf_quoted.specs.Body.Gap.{by_whites, by_break}
 use Rattle.yf_quoted.specs.Body.WidthOf.{of_key, of_lines, of_negative}
 use Rattle.yf_quoted.proofs.BodyLemmas.{Laws, Means, items_order, rest_order, lines_body, body_lines, body_clear, body_chars, chars_body}
-
--- contexts
-pub not_others : (c : Ctx) → is_block c ≡ false → is_key c ≡ false → is_flow c ≡ true
-not_others BlockOut b k = absurd (true≢false b)
-not_others BlockIn b k = absurd (true≢false b)
-not_others FlowOut b k = refl
-not_others FlowIn b k = refl
-not_others BlockKey b k = absurd (true≢false k)
-not_others FlowKey b k = absurd (true≢false k)
-
-key_not_flow : (c : Ctx) → is_key c ≡ true → is_flow c ≡ true → ⊥
-key_not_flow BlockOut k f = true≢false (sym k)
-key_not_flow BlockIn k f = true≢false (sym k)
-key_not_flow FlowOut k f = true≢false (sym k)
-key_not_flow FlowIn k f = true≢false (sym k)
-key_not_flow BlockKey k f = true≢false (sym f)
-key_not_flow FlowKey k f = true≢false (sym f)
-
-block_alone : (c : Ctx) → is_block c ≡ true → (is_key c ≡ true) ⊎ (is_flow c ≡ true) → ⊥
-block_alone BlockOut b o = ⊎_elim (λ (e : false ≡ true). true≢false (sym e)) (λ (e : false ≡ true). true≢false (sym e)) o
-block_alone BlockIn b o = ⊎_elim (λ (e : false ≡ true). true≢false (sym e)) (λ (e : false ≡ true). true≢false (sym e)) o
-block_alone FlowOut b o = true≢false (sym b)
-block_alone FlowIn b o = true≢false (sym b)
-block_alone BlockKey b o = true≢false (sym b)
-block_alone FlowKey b o = true≢false (sym b)
 
 pub some_width : (n : ℤ) (c : Ctx) → is_block c ≡ false → (o : Option ℕ) × WidthOf n c o
 some_width n c b =

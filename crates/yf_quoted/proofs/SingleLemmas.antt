@@ -7,6 +7,7 @@ use Rattle.yf_chars.specs.Class.{is_white, is_nb_json}
 use Rattle.yf_chars.specs.Chain.{Many, Functional, Nowhere}
 use Rattle.yf_chars.proofs.ChainLemmas.{chain_forward, many_unique, one_functional}
 use Rattle.yf_chars.proofs.TextLemmas.{next_later}
+use Rattle.yf_chars.proofs.Tests.{same_value}
 use Rattle.yf_lines.specs.Basic.{Break, FlowFolded}
 use Rattle.yf_lines.specs.Fold.{FoldsTo, fold_text}
 use Rattle.yf_lines.proofs.BasicLemmas.{no_break_here, white_cases}
@@ -21,7 +22,7 @@ use Rattle.yf_quoted.specs.Body.PlainGap.{of_whites, of_fold}
 use Rattle.yf_quoted.specs.Body.NoPlainGap.{at_break}
 use Rattle.yf_quoted.proofs.BodyLemmas.{Laws, Means}
 use Rattle.yf_quoted.proofs.DoubleLemmas.{json_lf, json_cr, white_json}
-use Rattle.yf_quoted.proofs.GapLemmas.{fold_gap_bytes, is_some, same_width}
+use Rattle.yf_quoted.proofs.GapLemmas.{fold_gap_bytes, is_some}
 use Rattle.yf_quoted.proofs.ScalarLemmas.{Kind, no_negative_fold}
 
 white_single : is_white 39 ≡ false
@@ -81,7 +82,7 @@ to_fold : {t : List ℕ} {n : ℤ} {i j : ℕ} {x : List ℕ} → FlowFolded t n
 to_fold f w g = record { folded = f; no_white = w; no_break = g }
 
 fold_from : {t : List ℕ} {o : Option ℕ} {i k v w : ℕ} {y : List ℕ} → o ≡ Some v → o ≡ Some w → FlowFolded t (pos v) i k y → FlowFolded t (pos w) i k y
-fold_from {t} {i = i} {k = k} {y = y} a b f = subst (λ u. FlowFolded t (pos u) i k y) (same_width a b) f
+fold_from {t} {i = i} {k = k} {y = y} a b f = subst (λ u. FlowFolded t (pos u) i k y) (same_value a b) f
 
 whites_view : {t : List ℕ} {o : Option ℕ} {i j k : ℕ} {x y : List ℕ} → Many t is_white i j x → is_white (code t j) ≡ false → (IsSome o → Nowhere (Break t j))
     → View t o i k y → Nowhere (Break t k) → (k ≡ j) × (y ≡ x)

@@ -7,13 +7,14 @@ use Rattle.std.specs.Str.{IsUtf8}
 use Rattle.std.proofs.lemmas.Option.{same_Some}
 use Rattle.yf_chars.specs.declared.context.Ctx.{Ctx}
 use Rattle.yf_chars.specs.Text.{code, next, CharAt, no_char}
-use Rattle.yf_chars.specs.Class.{is_nb_json, is_between}
+use Rattle.yf_chars.specs.Class.{is_nb_json}
 use Rattle.yf_chars.specs.Chain.{Chain, Stuck, Chosen}
 use Rattle.yf_chars.specs.Chain.Chain.{done, step}
 use Rattle.yf_chars.proofs.ChainLemmas.{chain_more}
 use Rattle.yf_lines.specs.Basic.{Clear, ForbiddenLine}
 use Rattle.yf_chars.proofs.TextLemmas.{next_later, next_ascii, reads_real}
 use Rattle.yf_chars.proofs.CharBounds.{json_below}
+use Rattle.yf_chars.proofs.CharFacts.{end_no_json}
 use Rattle.yf_lines.proofs.BasicLemmas.{clear_join, clear_back, clear_nothing}
 use Rattle.yf_lines.proofs.ClearLemmas.{clear_char, Spelled, spelled_nothing, spelled_join, spelled_char, spelled_slice}
 use Rattle.yf_quoted.specs.declared.single.Mark.{Mark}
@@ -29,16 +30,12 @@ use Rattle.yf_quoted.proofs.ScalarLemmas.{clear_byte, body_map, body_quoted, quo
 use Rattle.yf_quoted.proofs.SingleLemmas.{SingleWritten, single_written, single_functional, single_means, single_laws, single_kind, place_no_break, SingleGap, NoSingleGap}
 use Rattle.yf_quoted.proofs.SingleLemmas.SingleWritten.{as_pair, as_itself}
 
-json_end : is_nb_json no_char ≡ false
-unfolding is_nb_json is_between
-json_end = refl
-
 -- characters
 pub no_single_end : {t : List ℕ} {i : ℕ} → code t i ≡ no_char → NoSingleChar t i
 no_single_end {t} {i} e = record { none = λ j y d a. go (single_written d) } where
   go : {j : ℕ} {y : List ℕ} → SingleWritten t i j y → ⊥
   go (as_pair a b p q) = omega arith
-  go (as_itself n f p q) = true≢false (sym f ∙ ap is_nb_json e ∙ json_end)
+  go (as_itself n f p q) = true≢false (sym f ∙ ap is_nb_json e ∙ end_no_json)
 
 pub no_single_half : {t : List ℕ} {i : ℕ} → code t i ≡ 39 → code t (i + 1) ≢ 39 → Stuck (SingleChar t i)
 no_single_half {t} {i} e n = record { none = λ j y d. go (single_written d) } where

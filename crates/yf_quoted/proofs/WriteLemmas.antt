@@ -1,5 +1,5 @@
 -- Quoted scalars that are written are read again.
-use Rattle.std.proofs.Common.{◌≡◌, ◌≢◌, ℕ, zero, suc, ◌+◌, ◌<◌, ◌≤◌, ℤ, Bool, true, false, true≢false, List, [], ◌∷◌, ◌++◌, ◌&&◌, Some, None, length, take, drop, get_or, flat_map, refl, sym, ap, ◌∙◌, subst, inl, inr, ◌⊎◌, ⊎_elim, arith, append_assoc, append-nil, add-zero, encode_utf8_all, if◌then◌else◌, get_or-drop}
+use Rattle.std.proofs.Common.{◌≡◌, ◌≢◌, ℕ, zero, suc, ◌+◌, ◌<◌, ◌≤◌, ℤ, Bool, true, false, List, [], ◌∷◌, ◌++◌, ◌&&◌, Some, length, take, drop, get_or, flat_map, refl, sym, ap, ◌∙◌, subst, inl, inr, ◌⊎◌, ⊎_elim, arith, append_assoc, append-nil, add-zero, encode_utf8_all, if◌then◌else◌, get_or-drop}
 use Rattle.std.proofs.Math.Seq.{take-append_seam, drop-append_seam}
 use Rattle.std.proofs.lemmas.Bool.{cases_Bool, cases_eq, ne_eqb, and_parts}
 use Rattle.std.proofs.lemmas.Bool.Decides.{nat_tests}
@@ -21,12 +21,14 @@ use Rattle.yf_chars.specs.Escape.Escape.{by_letter, by_two, by_four, by_half, by
 use Rattle.yf_chars.specs.Hidden.{spelled_out}
 use Rattle.yf_chars.specs.Spelled.{ReadsBack, SpellsChar}
 use Rattle.yf_chars.specs.Spelled.SpellsChar.{as_escape, as_itself}
-use Rattle.yf_chars.proofs.EscapeLemmas.{named_below, digit_below, no_name}
+use Rattle.yf_chars.proofs.EscapeLemmas.{named_below, digit_below, no_name, unnamed_lf, unnamed_cr}
 use Rattle.yf_chars.proofs.SpelledLemmas.{IsAt, is_at_char, is_at_ascii, out_back, reads_back}
 use Rattle.yf_chars.proofs.TextLemmas.{reads_byte}
+use Rattle.yf_chars.proofs.CharFacts.{feed_no_nb, return_no_nb, mark_no_nb}
 use Rattle.yf_lines.specs.Basic.{LineStart, Clear, is_block}
 use Rattle.yf_lines.proofs.BasicLemmas.{clear_join, clear_nothing}
 use Rattle.yf_lines.proofs.ClearLemmas.{clear_char, line_start_after}
+use Rattle.yf_lines.proofs.RestLemmas.{nb_not}
 use Rattle.yf_lines.specs.declared.invisible.Invisible.{Invisible}
 use Rattle.yf_lines.specs.declared.invisible.Invisible.TheVariants.{Plain, Escaped}
 use Rattle.yf_lines.specs.declared.quotes.Quotes.TheVariants.{Single, Double}
@@ -80,22 +82,6 @@ all_written f old quote ys cs a b e d =
     d ∙ ap (λ w. w ++ quote ∷ []) (b ∙ ap (λ w. w ++ encode_utf8_all (flat_map f ys)) a ∙ ap (λ v. (old ++ quote ∷ []) ++ encode_utf8_all (flat_map f v)) e)
     ∙ ap (λ w. w ++ quote ∷ []) (append_assoc old (quote ∷ []) middle) ∙ append_assoc old (quote ∷ middle) (quote ∷ [])
 
--- classes
-nb_no : (d : ℕ) → is_nb_char d ≡ false → (c : ℕ) → is_nb_char c ≡ true → c ≢ d
-nb_no d n c e q = true≢false (sym e ∙ ap is_nb_char q ∙ n)
-
-nb_lf : is_nb_char 10 ≡ false
-unfolding is_nb_char is_printable is_break_char is_between
-nb_lf = refl
-
-nb_cr : is_nb_char 13 ≡ false
-unfolding is_nb_char is_printable is_break_char is_between
-nb_cr = refl
-
-nb_mark : is_nb_char 0xFEFF ≡ false
-unfolding is_nb_char is_printable is_break_char is_between
-nb_mark = refl
-
 nb_json : (c : ℕ) → is_nb_char c ≡ true → is_nb_json c ≡ true
 unfolding is_nb_char is_printable is_break_char is_nb_json is_between
 nb_json c e = grind (arith, nat_tests)
@@ -139,14 +125,6 @@ record LastOf (t : List ℕ) (j : ℕ) : Type 0 where
   low : char < 128
   no_lf : char ≢ 10
   no_cr : char ≢ 13
-
-unnamed_lf : named 10 ≡ None
-unfolding named
-unnamed_lf = refl
-
-unnamed_cr : named 13 ≡ None
-unfolding named
-unnamed_cr = refl
 
 last_letter : {t : List ℕ} (i : ℕ) {v : ℕ} → IsUtf8 t → named (code t (i + 1)) ≡ Some v → LastOf t (i + 2)
 last_letter {t} i {v} u e =
@@ -267,7 +245,7 @@ single_one {t} u c i r e s n = ⊎_elim (λ (q : c ≡ 39). pair q s) (λ (q : c
         is = subst (λ v. SingleChar t i (i + len_utf8 c) (v ∷ [])) got.0.char is';
         clear = clear_char u got.0 (λ f. n.none f.start);
         rest = got.1;
-        inside = no_line_after u got.0 (nb_no 10 nb_lf c e) (nb_no 13 nb_cr c e) (nb_no 0xFEFF nb_mark c e);
+        inside = no_line_after u got.0 (nb_not 10 c feed_no_nb e) (nb_not 13 c return_no_nb e) (nb_not 0xFEFF c mark_no_nb e);
       } in
       subst (λ k. Stepped t (SingleChar t) i k (c ∷ []) r) end here
 
@@ -295,7 +273,7 @@ double_one f back {t} u c i r e s n = go refl ((back c e).holds t i r u s.bounda
         is = subst (λ v. DoubleChar t i j (good v ∷ [])) read.char is';
         clear = clear_char u read (λ z. n.none z.start);
         rest = record { bytes = ap (λ k. drop k t) q ∙ is_at_past t i (encode_utf8_all (f c)) r s.bytes; boundary = read.boundary };
-        inside = no_line_after u read (nb_no 10 nb_lf c nb) (nb_no 13 nb_cr c nb) (nb_no 0xFEFF nb_mark c nb);
+        inside = no_line_after u read (nb_not 10 c feed_no_nb nb) (nb_not 13 c return_no_nb nb) (nb_not 0xFEFF c mark_no_nb nb);
       }
 
 -- the quotes around them

@@ -12,7 +12,6 @@ ghost use Rattle.yf_chars.specs.Text.{CharAt};
 
 use crate::filled::push_if_filled;
 use crate::gap::{double_gap, lines_width, push_gap};
-use crate::offsets::Offsets;
 use crate::simple::{is_wide_at, ordinary_run, simple_char, words_end};
 use std::alloc::{AllocError, Global};
 use yf_chars::context::Ctx;
@@ -23,6 +22,7 @@ use yf_lines::fault::Fault;
 use yf_lines::place::Position;
 use yf_lines::source_text::Src;
 use yf_lines::text::{FoundText, OwnedText, Text};
+use yf_lines::values::Values;
 
 /// Reads a double-quoted scalar (c-double-quoted(n,c), production 109) that begins at the byte offset: its text, and the
 /// offset after it, or `None` where no such scalar is there. `n` is the indentation, from -1.
@@ -45,7 +45,7 @@ pub fn read_double<'a>(alloc: Global, src: &Src<'a>, at: usize, n: i32, ctx: Ctx
         Ok(Some(read)) => match read.bad.first() {
             None => Ok(Some((read.text, read.end))),
             Some(bad) => Err(Fault::EscapeValue {
-                place: src.place(bad),
+                place: src.place(*bad),
             }),
         },
         Err(_) => Err(Fault::Memory),
@@ -77,7 +77,7 @@ pub fn scan_double<'a>(
         Ok(Some(read)) => {
             let place = match read.bad.first() {
                 None => None,
-                Some(bad) => Some(src.place(bad)),
+                Some(bad) => Some(src.place(*bad)),
             };
             Ok(Some((read.text, place, read.end)))
         }
@@ -89,7 +89,7 @@ pub fn scan_double<'a>(
 #[derive(Drop)]
 pub struct Double<'a> {
     pub text: Text<'a>,
-    pub bad: Offsets,
+    pub bad: Values<usize>,
     pub end: usize,
 }
 
@@ -120,7 +120,7 @@ pub fn double_in<'a>(
     match simple_end(s, at + 1) {
         Some(close) => Ok(Some(Double {
             text: Text::Part(&s[at + 1..close]),
-            bad: Offsets::new(alloc),
+            bad: Values::new(alloc),
             end: close + 1,
         })),
         None => match double_body(alloc, s, at + 1, width)? {
@@ -206,7 +206,7 @@ fn double_body<'a>(
     ensures place { IfOk result (λ o. IfSome o (λ p. All (IsCharBoundary s.now) p.bad)) }
 {
     let mut text = String::new(alloc);
-    let mut bad = Offsets::new(alloc);
+    let mut bad = Values::new(alloc);
     let mut end = at;
     'chars: loop {
         let word_end = words_end(s, end);
@@ -245,7 +245,7 @@ fn shown(value: Option<char>) -> char
 }
 
 // Notes a bad escape at the place, where the value is none.
-fn note_bad(bad: &mut Offsets, value: Option<char>, place: usize) -> Result<(), AllocError>
+fn note_bad(bad: &mut Values<usize>, value: Option<char>, place: usize) -> Result<(), AllocError>
     ensures { IfOk result (λ _. bad.new ≡ bad.old ++ Q.bad_escapes (piece value place ∷ [])) }
 {
     match value {

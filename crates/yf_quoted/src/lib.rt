@@ -4,7 +4,6 @@
 pub mod double;
 pub mod filled;
 pub mod gap;
-pub mod offsets;
 mod own;
 mod simple;
 pub mod single;

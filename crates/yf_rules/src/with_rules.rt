@@ -9,20 +9,20 @@ use std::alloc::{AllocError, Global};
 /// Work that takes all rules of style.
 pub trait WithRules {
     /// What the work gives.
-    type Answer: Drop;
+    type Value: Drop;
 
-    /// What is true of what it gives: of itself before and after, and its answer.
-    ghost Gives: { Self → Self → Self.Answer → Type 0 } = { λ _ _ _. Unit {0} };
+    /// What is true of what it gives: of itself before and after, and the value.
+    ghost Gives: { Self → Self → Self.Value → Type 0 } = { λ _ _ _. Unit {0} };
 
     /// Does the work with these rules, which are all of them, in the order of their numbers.
-    fn with_rules(&mut self, rules: &[Box<dyn Rule>]) -> Self::Answer
+    fn with_rules(&mut self, rules: &[Box<dyn Rule>]) -> Self::Value
         requires { Are (λ rule. definition rule) rules.now all_rules }
         ensures { Gives self.old self.new result };
 }
 
 /// Does work with all rules of style, unless memory for them was refused: then none of it is done. A new rule is a new line
 /// of this list, and of `all_rules` in the specs.
-pub fn with_all_rules<W: WithRules>(alloc: Global, work: &mut W) -> Result<W::Answer, AllocError>
+pub fn with_all_rules<W: WithRules>(alloc: Global, work: &mut W) -> Result<W::Value, AllocError>
     ensures given { IfOk result (λ answer. W.Gives work.old work.new answer) }
     ensures kept { OnErr result (work.new ≡ work.old) }
 {

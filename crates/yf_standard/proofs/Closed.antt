@@ -1,9 +1,8 @@
 -- Each production derives, with the reading rules, what it stands for alone: a clause for each, and so all that is derived.
-use Rattle.std.proofs.Common.{◌≡◌, ℕ, zero, suc, ◌<◌, ◌≤◌, ℤ, pos, negsuc, Bool, true, false, List, [], length, refl, sym, subst, ◌⊎◌, inl, inr, arith}
+use Rattle.std.proofs.Common.{◌≡◌, ℕ, zero, suc, ◌<◌, ◌≤◌, pos, negsuc, Bool, true, false, List, [], length, refl, sym, subst, inl, inr, arith}
 use Rattle.std.specs.Str.{IsUtf8}
 use Rattle.yf_chars.specs.declared.context.Ctx.TheVariants.{BlockOut, BlockIn, FlowOut, FlowIn, BlockKey, FlowKey}
 use Rattle.yf_lines.specs.Basic.LinePrefix.{in_block, in_flow}
-use Rattle.yf_comments.specs.Comments.{CommentLine, LineEnd}
 use Rattle.yf_comments.specs.Comments.Separate.{in_key, in_node}
 use Rattle.yf_standard.specs.Notation.{Form}
 use Rattle.yf_standard.specs.Notation.Form.{b-break, b-as-line-feed, b-non-content, s-indent, s-indent-less-than, s-separate-in-line, s-line-prefix, s-block-line-prefix, s-flow-line-prefix, l-empty, b-l-trimmed, b-as-space, b-l-folded, s-flow-folded, c-nb-comment-text, b-comment, s-b-comment, l-comment, s-l-comments, s-separate, s-separate-lines, ns-plain, ns-plain-first, ns-plain-char, nb-ns-plain-in-line, ns-plain-one-line, s-ns-plain-next-line, ns-plain-multi-line}
@@ -18,38 +17,32 @@ use Rattle.yf_plain.specs.Plain.PlainText.{as_key}
 use Rattle.yf_standard.proofs.Plains.{first_read, char_read, item_read, line_read, next_read, multi_read}
 use Rattle.yf_standard.specs.Characters.{c-anchor, c-alias, c-tag}
 use Rattle.yf_standard.specs.Notation.Form.{ns-uri-char, ns-tag-char, c-tag-handle, c-primary-tag-handle, c-secondary-tag-handle, c-named-tag-handle, c-ns-tag-property, c-verbatim-tag, c-ns-shorthand-tag, c-non-specific-tag, c-ns-anchor-property, ns-anchor-name}
-use Rattle.yf_standard.proofs.Reading.{Star}
-use Rattle.yf_standard.proofs.Basics.{CharOf, char_is}
+use Rattle.yf_standard.proofs.Basics.{char_is}
 use Rattle.yf_standard.proofs.Properties.{uri_signs, uri_read, tag_char_read, handle_read, verbatim_read, tag_read, name_read, anchor_read, alias_read, properties_read}
 use Rattle.yf_grammar.specs.Productions.Grammar.Production.{ValueOf}
 use Rattle.yf_grammar.specs.Productions.Grammar.Derives.{a_single, a_double}
-use Rattle.yf_grammar.specs.Productions.BlockScalar.{BlockScalar}
 use Rattle.yf_grammar.specs.Productions.Grammar.Production.{BlockNode}
 use Rattle.yf_standard.proofs.Blocks.{column_read, dash_read, explicit_entry_read, implicit_entry_read, indented_read, compact_read, question_read, colon_read, value_read, flow_in_block_read, block_scalar_read, collection_read, seq_space_out_read, dash_sign, question_sign, either_key, either_scalar, either_column}
 use Rattle.yf_standard.proofs.Flows.{SomeNode, node_is, brackets_read, entries_read, map_entry_read, pair_read, explicit_read, key_entry_read, separate_value_read, adjacent_value_read, keyed_pair_read, key_read, yaml_node_read, json_node_read, flow_node_read, sequence_read, mapping_read, entries_signs, seq_entry_read, marked_signs, empty_key_read, colon_sign, unkeyed_read}
-use Rattle.yf_standard.proofs.Basics.{star_chain, SomeOf, break_read, indent_none, indent_more, less_none, less_more, separate_in_line_read, flow_prefix_read, empty_read, trimmed_read, folded_read, flow_folded_read, comment_read, b_comment_read, rest_read, l_comment_read, comments_read, separate_lines_read}
-use Rattle.std.proofs.Common.{true≢false, ap, ◌+◌, ◌∙◌}
+use Rattle.yf_standard.proofs.Basics.{star_chain, break_read, indent_none, indent_more, less_none, less_more, separate_in_line_read, flow_prefix_read, empty_read, trimmed_read, folded_read, flow_folded_read, comment_read, b_comment_read, rest_read, l_comment_read, comments_read, separate_lines_read}
+use Rattle.std.proofs.Common.{true≢false, ap, ◌∙◌}
 use Rattle.yf_lines.specs.Basic.{Clear, ForbiddenLine}
-use Rattle.yf_lines.proofs.BasicLemmas.{clear_front, clear_back}
-use Rattle.yf_block_scalar.specs.Header.{Style}
-use Rattle.yf_block_scalar.specs.Header.Style.{literal_sign, folded_sign}
 use Rattle.yf_quoted.specs.Quoted.{SingleChar}
 use Rattle.yf_quoted.specs.Quoted.DoubleBreak.{folded_break}
-use Rattle.yf_stream.specs.Stream.{Prefixes, Documents, Stream}
-use Rattle.yf_standard.specs.Characters.{c-literal, c-folded, c-byte-order-mark, c-directive, c-escape, c-double-quote, c-single-quote}
-use Rattle.yf_standard.specs.Notation.{Chomping}
+use Rattle.yf_stream.specs.Stream.{Documents, Stream}
+use Rattle.yf_standard.specs.Characters.{c-directive, c-escape, c-double-quote, c-single-quote}
 use Rattle.yf_standard.specs.Notation.Chomping.{STRIP, CLIP, KEEP}
 use Rattle.yf_standard.specs.Notation.Indicator.{GIVEN, DETECTED}
 use Rattle.yf_standard.specs.Literal.{Kind, kind}
 use Rattle.yf_standard.specs.Literal.Kind.{OPERATOR, PRODUCTION, COLLECTION}
 use Rattle.yf_standard.specs.Notation.Form.{s-indent-less-or-equal, ns-tag-prefix, c-ns-local-tag-prefix, ns-global-tag-prefix, ns-directive-name, ns-directive-parameter, ns-yaml-version, ns-yaml-directive, ns-tag-directive, ns-reserved-directive, l-directive, ns-esc-8-bit, ns-esc-16-bit, ns-esc-32-bit, c-ns-esc-char, nb-double-char, ns-double-char, nb-double-one-line, nb-ns-double-in-line, s-double-escaped, s-double-break, s-double-next-line, nb-double-multi-line, nb-double-text, c-quoted-quote, nb-single-char, ns-single-char, nb-single-one-line, nb-ns-single-in-line, s-single-next-line, nb-single-multi-line, nb-single-text, c-b-block-header, c-indentation-indicator, c-chomping-indicator, b-chomped-last, l-chomped-empty, l-strip-empty, l-keep-empty, l-trail-comments, l-nb-literal-text, s-nb-folded-text, s-nb-spaced-text, l-nb-folded-lines, l-nb-spaced-lines, l-nb-same-lines, l-nb-diff-lines, b-nb-literal-next, b-l-spaced, l-literal-content, l-folded-content, l-document-prefix, c-directives-end, c-document-end, c-forbidden, l-document-suffix, l-bare-document, l-explicit-document, l-directive-document, l-any-document, l-yaml-stream}
 use Rattle.yf_standard.proofs.QuotedRead.{SingleItem, hex_of_read, escape_read, double_char_read, lone_items, double_next_read, double_lines_read, double_as_lines, double_as_key, double_quoted_read, single_char_read, single_item_read, single_next_read, single_lines_read, single_as_lines, single_as_key, single_quoted_read}
-use Rattle.yf_standard.proofs.ScalarsRead.{AtWidth, up_to_none, up_to_more, digit_read, strip_read, keep_read, header_read, last_read, trail_comments_read, strip_empty_read, keep_empty_read, literal_text_read, next_text_read, folded_text_read, spaced_text_read, spaced_break_read, folded_lines_read, spaced_lines_read, same_lines_read, diff_lines_read, ContentRead, literal_content_read, folded_content_read}
-use Rattle.yf_standard.proofs.ScalarsWhole.{HeaderPart, scalar_read}
+use Rattle.yf_standard.proofs.ScalarsRead.{up_to_none, up_to_more, digit_read, strip_read, keep_read, header_read, last_read, trail_comments_read, strip_empty_read, keep_empty_read, literal_text_read, next_text_read, folded_text_read, spaced_text_read, spaced_break_read, folded_lines_read, spaced_lines_read, same_lines_read, diff_lines_read, literal_content_read, folded_content_read}
 use Rattle.yf_standard.proofs.DirectivesRead.{directive_read}
-use Rattle.yf_standard.proofs.PartsRead.{star_map, forbidden_read, names_read, version_read, parameter_read, reserved_directive_read, yaml_directive_read, tag_directive_read, local_prefix_read, global_prefix_read, double_escaped_read, prefix_read, Three, three_read, suffix_read, round_read}
-use Rattle.yf_standard.proofs.StreamsRead.{SomeRoot, SomeExplicit, Suffix, Any, Round, directives_read, explicit_node_read, stream_read}
+use Rattle.yf_standard.proofs.PartsRead.{forbidden_read, names_read, version_read, parameter_read, reserved_directive_read, yaml_directive_read, tag_directive_read, local_prefix_read, global_prefix_read, double_escaped_read, prefix_read, three_read, suffix_read}
+use Rattle.yf_standard.proofs.StreamsRead.{SomeRoot, directives_read}
 use Rattle.yf_standard.proofs.Standing.{StandsFor}
+use Rattle.yf_standard.proofs.Zones.{Zone, clear_within, literal_scalar, folded_scalar, explicit_document_read, stream_of}
 
 is_collection : Kind → Bool
 is_collection OPERATOR = false
@@ -63,49 +56,6 @@ no_opening e = absurd (true≢false (ap is_collection e))
 not_opening : {A : Type 0} {k : Kind} → is_collection k ≡ false → k ≡ COLLECTION → A
 unfolding is_collection
 not_opening e q = absurd (true≢false (sym (ap is_collection q) ∙ e))
-
--- the part of a text where productions are read: a document's node, which covers no forbidden line, or all of it
-pub record Zone (t : List ℕ) (s : Bool) : Type 0 where
-  pub utf : IsUtf8 t
-  pub low : ℕ
-  pub high : ℕ
-  pub clear : s ≡ true → Clear t low high
-  pub root : s ≡ false → (e i j : ℕ) → Derived (read t) t e (s-l+block-node (negsuc 0) BlockIn) i j → Clear t i j → SomeRoot t e i j
-
-clear_within : {t : List ℕ} {i j : ℕ} (z : Zone t true) → z.low ≤ i → j ≤ z.high → Clear t i j
-clear_within z a b = clear_front b (clear_back a (z.clear refl))
-
--- [170] and [174]
-literal_scalar : (t : List ℕ) (z : Zone t true) (n : ℤ) (c : Chomping) (i j : ℕ) → j ≤ z.high
-    → (k : ℤ) × ((a : ℕ) × (CharOf t c-literal i a × ((b : ℕ) × (HeaderPart t n c k a b × (AtWidth (ContentRead t) k b j × (z.low ≤ b)))))) → SomeOf (BlockScalar t n) i j
-unfolding c-literal
-literal_scalar t z n c i j b d =
-    let s = char_is t i d.1.0 124 (omega arith) d.1.1.0 in
-    scalar_read t z.utf (z.clear refl) n false c i d.1.0 j (subst (λ w. Style t i w false) s.1 (literal_sign s.0)) b (d.0, d.1.1.1)
-
-folded_scalar : (t : List ℕ) (z : Zone t true) (n : ℤ) (c : Chomping) (i j : ℕ) → j ≤ z.high
-    → (k : ℤ) × ((a : ℕ) × (CharOf t c-folded i a × ((b : ℕ) × (HeaderPart t n c k a b × (AtWidth (ContentRead t) k b j × (z.low ≤ b)))))) → SomeOf (BlockScalar t n) i j
-unfolding c-folded
-folded_scalar t z n c i j b d =
-    let s = char_is t i d.1.0 62 (omega arith) d.1.1.0 in
-    scalar_read t z.utf (z.clear refl) n true c i d.1.0 j (subst (λ w. Style t i w true) s.1 (folded_sign s.0)) b (d.0, d.1.1.1)
-
--- [208] and [211]
-explicit_document_read : (t : List ℕ) (e i j : ℕ) → (k : ℕ) × (Three t 45 i k × (SomeRoot t e k j ⊎ ((h : ℕ) × ((k ≡ h) × SomeOf (LineEnd t) h j)))) → SomeExplicit t e i j
-explicit_document_read t e i j d = explicit_node_read t e i j d.1.0.0 (go d.1.1) where
-  go : SomeRoot t e d.0 j ⊎ ((h : ℕ) × ((d.0 ≡ h) × SomeOf (LineEnd t) h j)) → SomeRoot t e (i + 3) j ⊎ ((h : ℕ) × ((i + 3 ≡ h) × SomeOf (LineEnd t) h j))
-  go (inl r) = inl (subst (λ w. SomeRoot t e w j) (sym d.1.0.1) r)
-  go (inr r) = inr (r.0, (d.1.0.1 ∙ r.1.0, r.1.1))
-
-abbrev RoundForm : List ℕ → ℕ → ℕ → ℕ → Type 0
-RoundForm t e i j =
-    ((k : ℕ) × (((h : ℕ) × (Suffix t i h × Star (Suffix t) h k)) × ((m : ℕ) × (Star (SomeOf (Prefixes t)) k m × ((m ≡ j) ⊎ Any t e m j)))))
-    ⊎ (CharOf t c-byte-order-mark i j ⊎ (SomeOf (CommentLine t) i j ⊎ SomeExplicit t e i j))
-
-stream_of : (t : List ℕ) → IsUtf8 t → (e i j : ℕ) → i ≡ 0 → j ≡ length t
-    → (k : ℕ) × (Star (SomeOf (Prefixes t)) i k × ((m : ℕ) × (((k ≡ m) ⊎ Any t e k m) × Star (RoundForm t e) m j))) → (h : ℕ) × ((x : Documents) × (Stream t h x × (h ≤ e)))
-stream_of t u e i j p q d =
-    stream_read t e u j q (d.0, (subst (λ w. Star (SomeOf (Prefixes t)) w d.0) p d.1.0, (d.1.1.0, (d.1.1.1.0, star_map {R = RoundForm t e} {S = Round t e} (round_read t e) d.1.1.1.1))))
 
 closed_by : (t : List ℕ) (s : Bool) (z : Zone t s) (e : ℕ) (f : Form) → kind f ≡ PRODUCTION → (i j : ℕ) → z.low ≤ i → j ≤ z.high → FormRead t (read t) (StandsFor t z.low s) e (rule f) i j → StandsFor t z.low s e f i j
 unfolding StandsFor rule read kind uri_signs c-anchor c-alias c-tag c-directive c-escape c-double-quote c-single-quote

@@ -1,18 +1,18 @@
 -- The names YAML and TAG of directives (6.8), as bytes and as characters.
-use Rattle.std.proofs.Common.{◌≡◌, ℕ, min, ◌+◌, ◌-◌, ◌<◌, ◌≤◌, Bool, true, false, true≢false, List, [], ◌∷◌, length, take, drop, get_or, codes, slice_range, refl, sym, ap, ◌∙◌, subst, ◌⊎◌, inl, inr, ⊎_elim, arith}
+use Rattle.std.proofs.Common.{◌≡◌, ℕ, min, ◌+◌, ◌-◌, ◌<◌, ◌≤◌, Bool, true, true≢false, List, [], ◌∷◌, length, take, drop, get_or, codes, slice_range, refl, sym, ap, ◌∙◌, subst, ◌⊎◌, inl, inr, ⊎_elim, arith}
 use Rattle.std.proofs.lemmas.Bool.{cases_lt}
 use Rattle.std.proofs.lemmas.List.{get_or-take, get_or-drop, length-take, length-drop, drop_more}
 use Rattle.std.proofs.lemmas.Bool.Decides.{nat_tests}
 use Rattle.std.specs.Str.{IsUtf8}
-use Rattle.yf_chars.specs.Text.{code, no_char}
+use Rattle.yf_chars.specs.Text.{code}
 use Rattle.yf_chars.specs.Class.{is_ns_char, is_nb_char, is_white, is_break_char, is_white_or_end, is_printable, is_between}
 use Rattle.yf_chars.specs.Chain.{One, Many}
 use Rattle.yf_chars.specs.Chain.Chain.{done, step}
 use Rattle.yf_chars.specs.Chain.One.{one}
+use Rattle.yf_chars.specs.ClassEnds.{no_ns_char}
 use Rattle.yf_props.specs.Names.{Run}
 use Rattle.yf_standard.proofs.Texts.{some_first}
 use Rattle.yf_chars.proofs.TextLemmas.{next_ascii, code-past, code_from_byte, byte_from_code}
-use Rattle.yf_block_scalar.proofs.BodyLemmas.{no_nb_end}
 use Rattle.yf_grammar.proofs.BlockOutcomes.BlockKeys.{end_not_ns}
 
 yaml_codes : codes "YAML" ≡ 89 ∷ 65 ∷ 77 ∷ 76 ∷ []
@@ -37,14 +37,10 @@ pub many_tail : {t : List ℕ} {p : ℕ → Bool} {i j : ℕ} {w : List ℕ} →
 many_tail done l b = absurd (omega arith)
 many_tail {t} {p} {j = j} (step {i = i} {y = v} (one e) r) l b = (v, subst (λ z. Many t p z j v) (next_ascii t i b) r)
 
-pub no_ns_end : is_ns_char no_char ≡ false
-unfolding is_ns_char
-no_ns_end = rw no_nb_end refl
-
 -- no character follows where the text ends
 run_within : (t : List ℕ) (a k : ℕ) → ((w : List ℕ) × Many t is_ns_char a k w) → length t ≤ a → k ≤ a
 run_within t a k r l =
-    ⊎_elim (λ (b : a < k). absurd (true≢false (sym (some_first r.1 b) ∙ ap is_ns_char (code-past t a l) ∙ no_ns_end))) (λ (b : k ≤ a). b) (cases_lt a k)
+    ⊎_elim (λ (b : a < k). absurd (true≢false (sym (some_first r.1 b) ∙ ap is_ns_char (code-past t a l) ∙ no_ns_char))) (λ (b : k ≤ a). b) (cases_lt a k)
 
 pub record YamlName (t : List ℕ) (a k : ℕ) : Type 0 where
   pub y : code t a ≡ 89

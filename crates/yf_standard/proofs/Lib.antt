@@ -22,6 +22,7 @@ pub mod DirectivesRead
 pub mod StreamsRead
 pub mod PartsRead
 pub mod Standing
+pub mod Zones
 pub mod Closed
 pub mod LawsHold
 pub mod AcceptanceHolds

@@ -1,7 +1,7 @@
 -- Plain scalars (7.3.3): the standard's productions and `PlainText` derive the same.
 use Rattle.std.proofs.Common.{◌≡◌, ℕ, ◌+◌, ◌<◌, ℤ, Bool, true, false, true≢false, ◌&&◌, ◌||◌, ◌==◌, not, List, [], ◌∷◌, ◌++◌, refl, sym, ap, ◌∙◌, subst, ◌⊎◌, inl, inr, arith}
 use Rattle.std.proofs.Math.Bool.{and_assoc, or_assoc, or-true, or-false}
-use Rattle.std.proofs.lemmas.Bool.{and_parts, eqb-true}
+use Rattle.std.proofs.lemmas.Bool.{and_parts, eqb-true, or_cases, or_left, or_right}
 use Rattle.std.proofs.lemmas.Bool.Decides.{nat_tests}
 use Rattle.yf_chars.specs.declared.context.Ctx.{Ctx}
 use Rattle.yf_chars.specs.declared.context.Ctx.TheVariants.{BlockOut, BlockIn, FlowOut, FlowIn, BlockKey, FlowKey}
@@ -26,17 +26,6 @@ use Rattle.yf_standard.proofs.BasicsMade.{Read, chars_made, many_made, flow_fold
 use Rattle.yf_standard.proofs.Sets.{white_is, ns_char_is, plain_safe_is}
 use Rattle.yf_chars.proofs.TextLemmas.{next_ascii}
 use Rattle.yf_plain.proofs.PlainLemmas.{sign_below}
-
-pub or_cases : (a b : Bool) → (a || b) ≡ true → (a ≡ true) ⊎ (b ≡ true)
-or_cases true b e = inl refl
-or_cases false b e = inr e
-
-or_left : (a b : Bool) → a ≡ true → (a || b) ≡ true
-or_left a b e = rw e refl
-
-or_right : (a b : Bool) → b ≡ true → (a || b) ≡ true
-or_right true b e = refl
-or_right false b e = e
 
 swap : (m d e f g h : Bool) → (m || d || e || f || g || h) ≡ (d || e || f || g || h || m)
 swap true d e f g h = sym (or-true (d || e || f || g || h))

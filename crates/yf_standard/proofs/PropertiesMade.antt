@@ -1,6 +1,6 @@
 -- Aliases, anchors, tags and properties (5.6, 6.8.2, 6.9, 7.1), from the relations of `Names` to the standard's productions.
 use Rattle.std.proofs.Common.{◌≡◌, ℕ, ◌+◌, ◌<◌, ℤ, Bool, true, false, true≢false, ◌&&◌, ◌==◌, not, List, [], ◌∷◌, refl, sym, ap, ◌∙◌, subst, ⊎_elim, arith}
-use Rattle.std.proofs.lemmas.Bool.{cases_Bool, and_parts}
+use Rattle.std.proofs.lemmas.Bool.{cases_Bool, and_parts, or_cases}
 use Rattle.yf_chars.specs.declared.context.Ctx.{Ctx}
 use Rattle.yf_chars.specs.Text.{code, next}
 use Rattle.yf_chars.specs.Class.{is_anchor_char, is_word_char, is_uri_char, is_tag_char, is_hex_digit, is_flow_indicator}
@@ -27,7 +27,6 @@ use Rattle.yf_standard.specs.Literal.{kind}
 use Rattle.yf_standard.specs.Literal.Derived.{by_rule, nothing, one_of, one_then, in_left, in_right, absent, present, at_least_one, without, where_holds}
 use Rattle.yf_standard.proofs.BasicsMade.{Read, one_char, many_made, some_chars_made, separate_made}
 use Rattle.yf_standard.proofs.Properties.{uri_signs, uri_is}
-use Rattle.yf_standard.proofs.Plains.{or_cases}
 use Rattle.yf_standard.proofs.Sets.{anchor_char_is, word_char_is, hex_digit_is, flow_indicator_is}
 use Rattle.yf_chars.proofs.TextLemmas.{next_ascii}
 use Rattle.yf_props.proofs.TagLemmas.{hex_below}

@@ -7,6 +7,7 @@ use Rattle.yf_chars.specs.Text.{code}
 use Rattle.yf_chars.specs.Class.{is_nb_char}
 use Rattle.yf_chars.specs.Chain.{Chain, Many, Stuck}
 use Rattle.yf_chars.specs.Chain.Chain.{done, step}
+use Rattle.yf_chars.specs.ClassEnds.{no_nb_char}
 use Rattle.yf_lines.specs.Basic.{LineStart, Spaces, Empty, Clear, SeparateInLine, is_marker}
 use Rattle.yf_lines.specs.Basic.LineStart.{after_break}
 use Rattle.yf_lines.specs.Basic.SeparateInLine.{by_whites, at_start}
@@ -43,7 +44,7 @@ use Rattle.yf_chars.proofs.ChainLemmas.{chain_append}
 use Rattle.yf_lines.proofs.BasicLemmas.{break_forward}
 use Rattle.yf_lines.proofs.LineLemmas.{break_within}
 use Rattle.yf_comments.proofs.LineEndLemmas.{rest_line, next_starts, line_end_chosen, row_stuck_end}
-use Rattle.yf_block_scalar.proofs.BodyLemmas.{no_nb_end, taken_starts}
+use Rattle.yf_block_scalar.proofs.BodyLemmas.{taken_starts}
 use Rattle.yf_block_scalar.proofs.UniqueLemmas.{taken_unique, ends_forward}
 use Rattle.yf_block.proofs.LineSteps.ScalarLines.{body_between}
 use Rattle.yf_grammar.proofs.Ends.Forward.{in_line_forward}
@@ -84,7 +85,7 @@ empties_start {t} {k} s (step {i = i} {h = h} {x = w} e r) l = let a = empty_lin
 
 text_within : {t : List ℕ} {i j : ℕ} {w : List ℕ} → Many t is_nb_char i j w → i < j → i < length t
 text_within {t} {i} m l =
-    ⊎_elim (λ (b : i < length t). b) (λ (b : length t ≤ i). absurd (true≢false (sym (some_first m l) ∙ ap is_nb_char (code-past t i b) ∙ no_nb_end))) (cases_lt i (length t))
+    ⊎_elim (λ (b : i < length t). b) (λ (b : length t ≤ i). absurd (true≢false (sym (some_first m l) ∙ ap is_nb_char (code-past t i b) ∙ no_nb_char))) (cases_lt i (length t))
 
 texts_forward : {t : List ℕ} {k i z : ℕ} → Texts t k i z → i ≤ z
 texts_forward (last_text e p m f) = let c = empties_forward e.1 in omega (arith, c, f)

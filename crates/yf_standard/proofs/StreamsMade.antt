@@ -1,6 +1,6 @@
 -- Directives and streams (6.8, 9), from the relations of `Stream` to the standard's productions.
 use Rattle.std.proofs.Common.{◌≡◌, ◌≢◌, ℕ, ◌+◌, ◌<◌, ◌≤◌, Bool, true, false, true≢false, ◌&&◌, ◌==◌, List, [], ◌∷◌, length, codes, slice_range, refl, sym, ap, ◌∙◌, subst, ⊎_elim, arith}
-use Rattle.std.proofs.lemmas.Bool.{cases_lt, cases_Bool, and_parts, eqb-true, eq-eqb}
+use Rattle.std.proofs.lemmas.Bool.{cases_lt, cases_Bool, and_parts, eqb-true, eq-eqb, or_cases}
 use Rattle.std.specs.Str.{IsUtf8}
 use Rattle.yf_chars.specs.Text.{code, next}
 use Rattle.yf_chars.specs.Class.{is_ns_char, is_nb_char, is_printable, is_between, is_break_char, is_white, is_digit, is_white_or_end}
@@ -25,7 +25,6 @@ use Rattle.yf_standard.specs.Characters.{x, c-directive, c-byte-order-mark}
 use Rattle.yf_standard.specs.Notation.{Form}
 use Rattle.yf_standard.specs.Notation.Condition.{end-of-input}
 use Rattle.yf_standard.specs.Characters.{b-char, s-white}
-use Rattle.yf_standard.proofs.Plains.{or_cases}
 use Rattle.yf_standard.proofs.Sets.{white_is, break_char_is}
 use Rattle.yf_chars.proofs.TextLemmas.{reads_byte, code_at_boundary}
 use Rattle.std.specs.Str.{IsCharBoundary}

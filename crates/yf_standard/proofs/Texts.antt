@@ -8,6 +8,7 @@ use Rattle.yf_chars.specs.Class.{is_nb_char}
 use Rattle.yf_chars.specs.Chain.{Chain, Many}
 use Rattle.yf_chars.specs.Chain.One.{one}
 use Rattle.yf_chars.specs.Chain.Chain.{done, step}
+use Rattle.yf_chars.specs.ClassEnds.{no_nb_char}
 use Rattle.yf_lines.specs.Basic.{Break, Spaces, Empty}
 use Rattle.yf_lines.specs.Basic.Indent.{exactly}
 use Rattle.yf_lines.specs.Basic.IndentLess.{fewer}
@@ -21,7 +22,6 @@ use Rattle.yf_block_scalar.specs.Body.Line.{empty_line, content_line}
 use Rattle.yf_chars.proofs.ChainLemmas.{chain_append}
 use Rattle.yf_chars.proofs.TextLemmas.{code-past}
 use Rattle.yf_lines.proofs.BasicLemmas.{break_char}
-use Rattle.yf_block_scalar.proofs.BodyLemmas.{no_nb_end}
 use Rattle.yf_standard.proofs.Basics.{SomeOf}
 use Rattle.yf_lines.proofs.FoldLemmas.{indent_width}
 
@@ -82,7 +82,7 @@ no_line_past {t} {k} {i} l (empty_line {m = m} s w) =
     ⊎_elim (λ h. absurd (omega arith)) (λ h. absurd (omega arith)) (break_char s.ends)
 no_line_past {t} {k} {i} l (content_line (content s m w e n)) =
     let q : code t (i + k) ≡ no_char = code-past t (i + k) (omega arith) in
-    true≢false (sym (some_first m w) ∙ ap is_nb_char q ∙ no_nb_end)
+    true≢false (sym (some_first m w) ∙ ap is_nb_char q ∙ no_nb_char)
 
 -- lines up to a content line, and the end of that one
 pub lines_texts : {t : List ℕ} {k i h j : ℕ} {ls : List (List ℕ)} {x : List ℕ} {o : Bool} → Chain (Line t k) i h ls → LineContent t k h j x o → (z : ℕ) × (Texts t k i z × Ends t z j o)

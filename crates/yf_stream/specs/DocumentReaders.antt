@@ -76,15 +76,15 @@ abbrev pub commented : List CommentValue → Parts → Parts
 commented cs p = record p { part = record p.part { comments = p.part.comments ++ cs } }
 
 -- a `...` ends there with the comment lines after it, and a document may begin without a `---`
-pub record SuffixEnds (t : List ℕ) (spot : StreamCursor) (a b : Parts) (after : StreamCursor) : Type 0 where
+pub record SuffixEnds (t : List ℕ) (cursor : StreamCursor) (a b : Parts) (after : StreamCursor) : Type 0 where
   pub comments : List CommentValue
-  pub line : Chosen (LineEnd t (spot.at + 3)) after.at comments
+  pub line : Chosen (LineEnd t (cursor.at + 3)) after.at comments
   pub bare : after.may_be_bare ≡ true
   pub floor : after.floor ≡ 0
-  pub parts : b ≡ commented comments (closed true (not spot.may_be_bare) a)
+  pub parts : b ≡ commented comments (closed true (not cursor.may_be_bare) a)
 
--- what comes after the three dots at a spot: the next spot, or no line ends there
+-- what comes after the three dots at a cursor: the next cursor, or no line ends there
 abbrev pub SuffixRead : List ℕ → StreamCursor → Parts → Parts → StreamStep → Type 0
-SuffixRead t spot a b (Go after) = SuffixEnds t spot a b after
-SuffixRead t spot a b (Syntax place) = Stuck (LineEnd t (spot.at + 3))
-SuffixRead t spot a b (TooDeep place) = ⊥
+SuffixRead t cursor a b (Go after) = SuffixEnds t cursor a b after
+SuffixRead t cursor a b (Syntax place) = Stuck (LineEnd t (cursor.at + 3))
+SuffixRead t cursor a b (TooDeep place) = ⊥

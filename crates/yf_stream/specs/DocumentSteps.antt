@@ -114,14 +114,14 @@ pub data BareRead (t : List ℕ) (at : ℕ) (a b : Parts) : StreamStep → Type 
 abbrev pub with_comments_read : List CommentValue → Parts → Parts
 with_comments_read cs p = record p { part = record p.part { comments = cs } }
 
--- what begins at a spot where no comment line and no byte order mark does
-pub data NextRead (t : List ℕ) (spot : StreamCursor) (a b : Parts) : StreamStep → Type 0 where
-  at_dots : {next : StreamStep} → ForbiddenLine t spot.at → code t spot.at ≡ 46 → SuffixRead t spot a b next → NextRead t spot a b next
-  at_dashes : {next : StreamStep} → ForbiddenLine t spot.at → code t spot.at ≡ 45 → MarkedRead t spot.at [] (closed false (not spot.may_be_bare) a) b next → NextRead t spot a b next
-  not_bare : {place : ℕ} → (ForbiddenLine t spot.at → ⊥) → spot.may_be_bare ≡ false → NextRead t spot a b (Syntax place)
-  after_directives : {next : StreamStep} {p : ℕ} {ds : List Directive} {cs : List CommentValue} → spot.may_be_bare ≡ true → code t spot.at ≡ 37
-      → DirectivesRead t spot.at p ds a.part.comments cs → ForbiddenLine t p → code t p ≡ 45 → MarkedRead t p ds (with_comments_read cs a) b next → NextRead t spot a b next
-  no_dashes : {place p : ℕ} {ds : List Directive} {ca cb : List CommentValue} → code t spot.at ≡ 37 → DirectivesRead t spot.at p ds ca cb
-      → (ForbiddenLine t p → code t p ≡ 45 → ⊥) → NextRead t spot a b (Syntax place)
-  no_directive : {place p : ℕ} → code t spot.at ≡ 37 → DirectivesEnd t spot.at p → NextRead t spot a b (Syntax place)
-  without_dashes : {next : StreamStep} → (ForbiddenLine t spot.at → ⊥) → spot.may_be_bare ≡ true → code t spot.at ≢ 37 → BareRead t spot.at a b next → NextRead t spot a b next
+-- what begins at a cursor where no comment line and no byte order mark does
+pub data NextRead (t : List ℕ) (cursor : StreamCursor) (a b : Parts) : StreamStep → Type 0 where
+  at_dots : {next : StreamStep} → ForbiddenLine t cursor.at → code t cursor.at ≡ 46 → SuffixRead t cursor a b next → NextRead t cursor a b next
+  at_dashes : {next : StreamStep} → ForbiddenLine t cursor.at → code t cursor.at ≡ 45 → MarkedRead t cursor.at [] (closed false (not cursor.may_be_bare) a) b next → NextRead t cursor a b next
+  not_bare : {place : ℕ} → (ForbiddenLine t cursor.at → ⊥) → cursor.may_be_bare ≡ false → NextRead t cursor a b (Syntax place)
+  after_directives : {next : StreamStep} {p : ℕ} {ds : List Directive} {cs : List CommentValue} → cursor.may_be_bare ≡ true → code t cursor.at ≡ 37
+      → DirectivesRead t cursor.at p ds a.part.comments cs → ForbiddenLine t p → code t p ≡ 45 → MarkedRead t p ds (with_comments_read cs a) b next → NextRead t cursor a b next
+  no_dashes : {place p : ℕ} {ds : List Directive} {ca cb : List CommentValue} → code t cursor.at ≡ 37 → DirectivesRead t cursor.at p ds ca cb
+      → (ForbiddenLine t p → code t p ≡ 45 → ⊥) → NextRead t cursor a b (Syntax place)
+  no_directive : {place p : ℕ} → code t cursor.at ≡ 37 → DirectivesEnd t cursor.at p → NextRead t cursor a b (Syntax place)
+  without_dashes : {next : StreamStep} → (ForbiddenLine t cursor.at → ⊥) → cursor.may_be_bare ≡ true → code t cursor.at ≢ 37 → BareRead t cursor.at a b next → NextRead t cursor a b next

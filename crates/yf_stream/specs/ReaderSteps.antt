@@ -2,16 +2,12 @@
 -- the text is left at each step.
 use Rattle.std.specs.Prelude.{ℕ, ◌≤◌, List}
 use Rattle.std.specs.Str.{IsCharBoundary}
+use Rattle.yf_chars.specs.Boundary.{BoundaryFrom}
 use Rattle.yf_stream.specs.declared.documents.StreamStep.{StreamStep}
 use Rattle.yf_stream.specs.declared.documents.StreamStep.TheVariants.{Go, Syntax, TooDeep}
 
--- a place at an offset or after it
-pub record BoundaryFrom (t : List ℕ) (at p : ℕ) : Type 0 where
-  pub boundary : IsCharBoundary t p
-  pub order : at ≤ p
-
 -- the reading goes on at the offset or after it, or stops at a place between characters
 abbrev pub NextAt : List ℕ → ℕ → StreamStep → Type 0
-NextAt t at (Go spot) = BoundaryFrom t at spot.at × IsCharBoundary t spot.reached
+NextAt t at (Go cursor) = BoundaryFrom t at cursor.at × IsCharBoundary t cursor.reached
 NextAt t at (Syntax place) = IsCharBoundary t place
 NextAt t at (TooDeep place) = IsCharBoundary t place

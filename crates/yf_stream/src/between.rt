@@ -1,9 +1,10 @@
 //! What is between the documents of a stream (YAML 1.2.2, section 9.1): byte order marks and comment lines, and `...`.
 ghost use Rattle.std.specs.Prelude.{◌≡◌, ◌+◌, ◌≤◌, IfOk};
 ghost use Rattle.std.specs.Str.{IsCharBoundary};
+ghost use Rattle.yf_chars.specs.Boundary.{BoundaryFrom};
 ghost use Rattle.yf_stream.specs.DocumentReaders.{CommentsAdded, PrefixRead, SuffixRead};
 ghost use Rattle.yf_stream.specs.PartsPlaces.{PartsAt};
-ghost use Rattle.yf_stream.specs.ReaderSteps.{BoundaryFrom, NextAt};
+ghost use Rattle.yf_stream.specs.ReaderSteps.{NextAt};
 
 use crate::documents::{Parts, StreamContext, StreamCursor, StreamStep};
 use std::alloc::{AllocError, Global};
@@ -18,18 +19,18 @@ use yf_lines::basic::is_mark_at;
 pub(crate) fn skip_prefix<'a>(
     alloc: Global,
     text: &'a str,
-    spot: StreamCursor,
+    cursor: StreamCursor,
     parts: &mut Parts<'a>,
 ) -> Result<StreamCursor, AllocError>
-    requires { IsCharBoundary text.now spot.at }
-    ensures reads { IfOk result (λ s. PrefixRead text.now spot.floor spot.at s.at parts.old.part.comments parts.new.part.comments) }
-    ensures spot { IfOk result (λ s. s ≡ record spot { at = s.at }) }
-    ensures place { IfOk result (λ s. BoundaryFrom text.now spot.at s.at) }
+    requires { IsCharBoundary text.now cursor.at }
+    ensures reads { IfOk result (λ s. PrefixRead text.now cursor.floor cursor.at s.at parts.old.part.comments parts.new.part.comments) }
+    ensures cursor { IfOk result (λ s. s ≡ record cursor { at = s.at }) }
+    ensures place { IfOk result (λ s. BoundaryFrom text.now cursor.at s.at) }
     ensures events { IfOk result (λ _. parts.new.part.events ≡ parts.old.part.events) }
     ensures escapes { IfOk result (λ _. parts.new.part.escapes ≡ parts.old.part.escapes) }
     ensures documents { IfOk result (λ _. parts.new.documents ≡ parts.old.documents) }
 {
-    let mut at = spot.at;
+    let mut at = cursor.at;
     'lines: loop {
         if is_mark_at(text, at) {
             at += 3;
@@ -37,13 +38,13 @@ pub(crate) fn skip_prefix<'a>(
         }
         match line_end(alloc, text, at)? {
             Some(Separation { comments, end }) => {
-                keep_comments(text, spot.floor, &comments, parts)?;
+                keep_comments(text, cursor.floor, &comments, parts)?;
                 if end == at {
-                    return Ok(StreamCursor { at, ..spot });
+                    return Ok(StreamCursor { at, ..cursor });
                 }
                 at = end;
             }
-            None => return Ok(StreamCursor { at, ..spot }),
+            None => return Ok(StreamCursor { at, ..cursor }),
         }
     }
 }
@@ -73,17 +74,17 @@ fn keep_comments<'a>(
 /// Reads `...` (l-document-suffix, production 205).
 pub(crate) fn read_suffix<'a>(
     source: StreamContext<'a>,
-    spot: StreamCursor,
+    cursor: StreamCursor,
     parts: &mut Parts<'a>,
 ) -> Result<StreamStep, AllocError>
-    requires boundary { IsCharBoundary source.text.now (spot.at + 3) }
+    requires boundary { IsCharBoundary source.text.now (cursor.at + 3) }
     requires parts { PartsAt source.text.now parts.old }
-    ensures reads { IfOk result (λ next. SuffixRead source.entry.text.now spot parts.old parts.new next) }
-    ensures next { IfOk result (λ next. NextAt source.entry.text.now (spot.at + 1) next) }
+    ensures reads { IfOk result (λ next. SuffixRead source.entry.text.now cursor parts.old parts.new next) }
+    ensures next { IfOk result (λ next. NextAt source.entry.text.now (cursor.at + 1) next) }
     ensures parts { IfOk result (λ _. PartsAt source.entry.text.now parts.new) }
 {
-    parts.close(source.alloc, spot, true)?;
-    match line_end(source.alloc, source.text, spot.at + 3)? {
+    parts.close(source.alloc, cursor, true)?;
+    match line_end(source.alloc, source.text, cursor.at + 3)? {
         Some(Separation { comments, end }) => {
             parts.part.comments.append(comments)?;
             Ok(StreamStep::Go(StreamCursor {
@@ -93,6 +94,6 @@ pub(crate) fn read_suffix<'a>(
                 may_be_bare: true,
             }))
         }
-        None => Ok(StreamStep::Syntax(spot.at + 3)),
+        None => Ok(StreamStep::Syntax(cursor.at + 3)),
     }
 }

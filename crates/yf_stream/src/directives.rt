@@ -2,11 +2,11 @@
 ghost use Rattle.std.specs.Prelude.{◌≡◌, ◌+◌, ◌<◌, ◌≤◌, [], ◌∷◌, codes, IfOk, IfSome, MatchOption, MatchResult};
 ghost use Rattle.std.specs.Str.{IsCharBoundary};
 ghost use Rattle.yf_chars.specs.Chain.{Chosen, Stuck};
+ghost use Rattle.yf_chars.specs.Boundary.{BoundaryFrom};
 ghost use Rattle.yf_stream.specs.DirectiveReaders.{DirectivesEnd, DirectivesRead, IsDirective, ReservedRead, WordsRead};
 ghost use Rattle.yf_stream.specs.WithinLine.{InLine};
 ghost use Rattle.yf_stream.specs.RefusalPlaces.{DirectivesAt};
 ghost use Rattle.yf_stream.specs.Stream.{Parameters};
-ghost use Rattle.yf_stream.specs.ReaderSteps.{BoundaryFrom};
 
 use std::alloc::{AllocError, Global};
 use yf_chars::runs::{Digits, NsChars, skip_while};

@@ -136,14 +136,14 @@ impl<'a> Parts<'a> {
     pub(crate) fn close(
         &mut self,
         alloc: Global,
-        spot: StreamCursor,
+        cursor: StreamCursor,
         explicit: bool,
     ) -> Result<(), AllocError>
         ensures documents { IfOk result (λ _. self.new.documents ≡ self.old.documents) }
-        ensures parts { IfOk result (λ _. self.new ≡ closed explicit (not spot.may_be_bare) self.old) }
+        ensures parts { IfOk result (λ _. self.new ≡ closed explicit (not cursor.may_be_bare) self.old) }
         ensures escapes { IfOk result (λ _. self.new.part.escapes ≡ self.old.part.escapes) }
     {
-        if spot.may_be_bare {
+        if cursor.may_be_bare {
             return Ok(());
         }
         self.push_unplaced(alloc, NewEvent::DocEnd { explicit })
@@ -169,52 +169,57 @@ impl<'a> Parts<'a> {
     pub(crate) fn read_next(
         &mut self,
         source: StreamContext<'a>,
-        spot: StreamCursor,
+        cursor: StreamCursor,
     ) -> Result<StreamStep, AllocError>
-        requires boundary { IsCharBoundary source.text.now spot.at }
-        requires reached { IsCharBoundary source.text.now spot.reached }
+        requires boundary { IsCharBoundary source.text.now cursor.at }
+        requires reached { IsCharBoundary source.text.now cursor.reached }
         requires parts { PartsAt source.text.now self.old }
         ensures reads { length source.entry.text.now ≤ 2 ^ 30
-            → IfOk result (λ next. NextRead source.entry.text.now spot self.old self.new next) }
-        ensures next { IfOk result (λ next. NextAt source.entry.text.now (spot.at + 1) next) }
+            → IfOk result (λ next. NextRead source.entry.text.now cursor self.old self.new next) }
+        ensures next { IfOk result (λ next. NextAt source.entry.text.now (cursor.at + 1) next) }
         ensures parts { IfOk result (λ _. PartsAt source.entry.text.now self.new) }
     {
-        match marker_at(source.text, spot.at) {
-            Some(Marker::DocumentEnd) => return read_suffix(source, spot, self),
+        match marker_at(source.text, cursor.at) {
+            Some(Marker::DocumentEnd) => return read_suffix(source, cursor, self),
             Some(Marker::DocumentStart) => {
-                self.close(source.alloc, spot, false)?;
-                return self.explicit_document(source, spot.at, Directives::new(source.alloc));
+                self.close(source.alloc, cursor, false)?;
+                return self.explicit_document(source, cursor.at, Directives::new(source.alloc));
             }
             None => {}
         }
-        if !spot.may_be_bare {
-            return Ok(StreamStep::Syntax(spot.reached.max(spot.at)));
+        if !cursor.may_be_bare {
+            return Ok(StreamStep::Syntax(cursor.reached.max(cursor.at)));
         }
-        if is_char_at(source.text, spot.at, b'%') {
-            return self.directive_document(source, spot);
+        if is_char_at(source.text, cursor.at, b'%') {
+            return self.directive_document(source, cursor);
         }
         // A document without `---` (l-bare-document, production 207).
-        let start = skip_whites(source.text, spot.at);
+        let start = skip_whites(source.text, cursor.at);
         self.open(source.alloc, start, false, Directives::new(source.alloc))?;
-        self.root_node(source, spot.at)
+        self.root_node(source, cursor.at)
     }
 
     // Reads directives and the document after them (l-directive-document, production 209).
     fn directive_document(
         &mut self,
         source: StreamContext<'a>,
-        spot: StreamCursor,
+        cursor: StreamCursor,
     ) -> Result<StreamStep, AllocError>
-        requires boundary { IsCharBoundary source.text.now spot.at }
-        requires percent { code source.text.now spot.at ≡ 37 }
-        requires bare { spot.may_be_bare ≡ true }
+        requires boundary { IsCharBoundary source.text.now cursor.at }
+        requires percent { code source.text.now cursor.at ≡ 37 }
+        requires bare { cursor.may_be_bare ≡ true }
         requires parts { PartsAt source.text.now self.old }
         ensures reads { length source.entry.text.now ≤ 2 ^ 30
-            → IfOk result (λ next. NextRead source.entry.text.now spot self.old self.new next) }
-        ensures next { IfOk result (λ next. NextAt source.entry.text.now (spot.at + 1) next) }
+            → IfOk result (λ next. NextRead source.entry.text.now cursor self.old self.new next) }
+        ensures next { IfOk result (λ next. NextAt source.entry.text.now (cursor.at + 1) next) }
         ensures parts { IfOk result (λ _. PartsAt source.entry.text.now self.new) }
     {
-        match read_directives(source.alloc, source.text, spot.at, &mut self.part.comments)? {
+        match read_directives(
+            source.alloc,
+            source.text,
+            cursor.at,
+            &mut self.part.comments,
+        )? {
             Ok(DirectiveLines { directives, end }) => {
                 if has_dashes(source.text, end) {
                     return self.explicit_document(source, end, directives);

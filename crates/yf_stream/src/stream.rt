@@ -222,21 +222,21 @@ fn read_documents<'a>(
     ensures parts { IfOk result (λ _. PartsAt text.now parts.new) }
 {
     parts.push_unplaced(alloc, NewEvent::StreamStart)?;
-    let mut spot = StreamCursor {
+    let mut cursor = StreamCursor {
         at: 0,
         floor: 0,
         reached: 0,
         may_be_bare: true,
     };
     'documents: loop {
-        spot = skip_prefix(alloc, text, spot, parts)?;
-        if spot.at == text.len() {
-            parts.close(alloc, spot, false)?;
+        cursor = skip_prefix(alloc, text, cursor, parts)?;
+        if cursor.at == text.len() {
+            parts.close(alloc, cursor, false)?;
             parts.push_unplaced(alloc, NewEvent::StreamEnd)?;
             return Ok(None);
         }
-        match parts.read_next(StreamContext { alloc, text }, spot)? {
-            StreamStep::Go(next) => spot = next,
+        match parts.read_next(StreamContext { alloc, text }, cursor)? {
+            StreamStep::Go(next) => cursor = next,
             StreamStep::Syntax(offset) => return Ok(Some(Refusal::Syntax(offset))),
             StreamStep::TooDeep(offset) => return Ok(Some(Refusal::TooDeep(offset))),
         }

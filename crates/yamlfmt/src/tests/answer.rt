@@ -135,7 +135,7 @@ struct Answers {
 }
 
 impl WithRules for Answers {
-    type Answer = bool;
+    type Value = bool;
 
     /// Whether the command line of the row is answered as the row says.
     fn with_rules(&mut self, rules: &[Box<dyn Rule>]) -> bool {

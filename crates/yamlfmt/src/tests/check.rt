@@ -181,7 +181,7 @@ struct Check {
 }
 
 impl WithRules for Check {
-    type Answer = bool;
+    type Value = bool;
 
     /// Whether the checker answers as the row says.
     fn with_rules(&mut self, rules: &[Box<dyn Rule>]) -> bool {

@@ -47,7 +47,7 @@ struct Failures {
 }
 
 impl WithRules for Failures {
-    type Answer = bool;
+    type Value = bool;
 
     /// Whether each command answers as it should on each input, with these rules.
     fn with_rules(&mut self, rules: &[Box<dyn Rule>]) -> bool {

@@ -245,7 +245,7 @@ struct Laws {
 }
 
 impl WithRules for Laws {
-    type Answer = bool;
+    type Value = bool;
 
     /// Whether the laws hold of the text, with these rules.
     fn with_rules(&mut self, rules: &[Box<dyn Rule>]) -> bool {

@@ -53,7 +53,7 @@ struct Gives<'a> {
 }
 
 impl Formatter for Gives<'_> {
-    type Refusal = ();
+    type Error = ();
 
     ghost Formats = { λ _ _ _. ⊤ };
 

@@ -1,6 +1,8 @@
 -- Whose the properties of lines before are: those of the node on the line, or those of a mapping that begins there.
 use Rattle.std.proofs.Common.{◌≡◌, ◌≢◌, ℕ, List, Option, Some, None, refl, sym, subst}
+use Rattle.std.proofs.lemmas.Option.{same_Some}
 use Rattle.yf_chars.specs.Text.{code}
+use Rattle.yf_chars.proofs.Tests.{none_some, some_none}
 use Rattle.yf_events.specs.declared.event.Entry as TheEntry
 use Rattle.yf_grammar.specs.BlockReader.BlockParser.{Ahead, Nothing, Indicator, Props, PropertiesHeld as HeldValue, Clash, more_held, both}
 use Rattle.yf_flow.specs.declared.node.Lead.{Lead}
@@ -10,13 +12,12 @@ use Rattle.yf_block.specs.declared.properties.PlacedProperties.{PlacedProperties
 use Rattle.yf_block.specs.BlockStepTied.{PropertiesTied, AheadTied, nothing_held, none_held, props_held}
 use Rattle.yf_block.specs.BelongingTied.{none_more, more_there, two_alike, before_alias, BelongingTied}
 use Rattle.yf_block.specs.PropertiesAnswers.{line_held, LineProperties, BothProperties, HoldsProperties, held_lead, lead_at}
-use Rattle.yf_block.proofs.Stack.TiedLeads.{no_held, no_none, same_held}
 
 -- properties on hold are those that are ahead
 pub held_ahead : {a : Ahead} {outer : Option PlacedProperties} {held : PlacedProperties} → AheadTied a outer → outer ≡ Some held → HoldsProperties a held
-held_ahead nothing_held q = absurd (no_held q)
-held_ahead none_held q = absurd (no_held q)
-held_ahead (props_held {h = h} t) q = record { value = h; is = refl; tied = subst (λ z. PropertiesTied h z) (same_held q) t }
+held_ahead nothing_held q = absurd (none_some q)
+held_ahead none_held q = absurd (none_some q)
+held_ahead (props_held {h = h} t) q = record { value = h; is = refl; tied = subst (λ z. PropertiesTied h z) (same_Some _ _ q) t }
 
 pub no_props_nothing : {h : HeldValue} → Nothing ≡ Props h → ⊥
 no_props_nothing e = cc
@@ -27,7 +28,7 @@ no_props_sign e = cc
 pub none_ahead : {a : Ahead} {outer : Option PlacedProperties} → AheadTied a outer → outer ≡ None → (h : HeldValue) → a ≡ Props h → ⊥
 none_ahead nothing_held q h e = no_props_nothing e
 none_ahead none_held q h e = no_props_sign e
-none_ahead (props_held t) q h e = no_none q
+none_ahead (props_held t) q h e = some_none q
 
 -- properties of a line as they are joined with those before
 pub line_tied : {t : List ℕ} {p : ℕ} {held : PlacedProperties} (l : LineProperties t p held) → PropertiesTied (line_held l.value held.start held.end) held

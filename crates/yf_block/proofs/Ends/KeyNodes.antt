@@ -5,7 +5,7 @@ use Rattle.std.proofs.lemmas.Bool.Decides.{nat_tests}
 use Rattle.std.specs.Str.{IsUtf8}
 use Rattle.yf_chars.specs.declared.context.Ctx.TheVariants.{FlowOut}
 use Rattle.yf_chars.specs.Text.{code}
-use Rattle.yf_chars.specs.Class.{is_white, is_ns_char, is_plain_safe}
+use Rattle.yf_chars.specs.Class.{is_white}
 use Rattle.yf_chars.specs.Chain.{Stuck, Many}
 use Rattle.yf_chars.specs.Chain.Chain.{done}
 use Rattle.yf_chars.proofs.ChainLemmas.{many_unique}
@@ -17,7 +17,7 @@ use Rattle.yf_props.specs.Names.{PropertiesValue}
 use Rattle.yf_grammar.specs.BlockReader.BlockParser.{SignAt, KeyBefore, NoKey, key_missed, key_unfit, Keyless, node_unfit, properties_end_line}
 use Rattle.yf_grammar.specs.Productions.Grammar.Derives.{a_plain}
 use Rattle.yf_grammar.specs.Productions.Meaning.{meaning_after, with_props, empty_node, scalar}
-use Rattle.yf_grammar.specs.FlowReader.Parser.{ParsedNode, ANode, AContent, Parses, propertied, lone_properties, begins_alias, begins_properties, begins_content, begins_plain}
+use Rattle.yf_grammar.specs.FlowReader.Parser.{ParsedNode, ANode, AContent, Parses, propertied, lone_properties, begins_alias, begins_properties, begins_content}
 use Rattle.yf_grammar.specs.FlowReader.Parser.Parses.{content_read, plain_read, plain_missed}
 use Rattle.yf_grammar.proofs.FlowStack.AwaitEntries.{found_is}
 use Rattle.yf_grammar.proofs.BlockOutcomes.BlockKeys.{end_not_ns, safe_out}
@@ -26,13 +26,13 @@ use Rattle.yf_grammar.proofs.FlowReader.FlowStarts.{flow_starts}
 use Rattle.yf_grammar.proofs.Ends.Forward.{whites_forward}
 use Rattle.yf_grammar.proofs.BlockContent.LineNodes.{line_alone, line_content, line_broken, line_other, line_plain}
 use Rattle.yf_grammar.proofs.FlowReader.NodeExact.{lone_is, plain_is}
-use Rattle.yf_grammar.proofs.Ends.NodeExits.{some_found, none_some, alias_no_plain, plain_no_properties}
+use Rattle.yf_grammar.proofs.Ends.NodeExits.{some_found, alias_no_plain, plain_no_properties}
 use Rattle.yf_flow.specs.NodeStarts.{ContentAt, content_there, plain_there, plain_missing}
 use Rattle.yf_flow.proofs.Ends.LookLemmas.{nothing_begins}
 use Rattle.yf_block.specs.declared.properties.PlacedProperties.{PlacedProperties}
 use Rattle.yf_block.specs.PropertiesAnswers.{LineProperties, PlaceAfter, NoPlaceAfter, other_beside, property_after}
 use Rattle.yf_block.specs.InlineAnswers.{KeyEnds, InlineLost, content_lost, alias_lost, alias_after}
-use Rattle.yf_chars.proofs.Tests.{some_none}
+use Rattle.yf_chars.proofs.Tests.{some_none, none_some}
 use Rattle.yf_grammar.proofs.BlockContent.PlainCut.{colon_no_white}
 use Rattle.yf_grammar.proofs.FlowReader.NodesAnswered.{plain_else}
 

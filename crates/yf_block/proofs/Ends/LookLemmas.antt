@@ -1,13 +1,11 @@
 -- What is at a place of a block node.
-use Rattle.std.proofs.Common.{◌≡◌, ◌+◌, arith, ℕ, List, Option, Some, None, IfSome, false, refl}
-use Rattle.yf_chars.specs.Text.{no_char}
-use Rattle.yf_chars.specs.Class.{is_ns_char, is_nb_char, is_printable, is_between, is_break_char, is_white}
-use Rattle.yf_flow.specs.Machine.{BoundaryFrom, EndingAt}
+use Rattle.std.proofs.Common.{◌≡◌, ◌+◌, arith, ℕ, List, Option, Some, None, IfSome}
+use Rattle.yf_chars.specs.Boundary.{BoundaryFrom}
+use Rattle.yf_flow.specs.Machine.{EndingAt}
 use Rattle.yf_flow.specs.declared.nodes.Ending.{Ending}
 use Rattle.yf_flow.specs.declared.nodes.Ending.TheVariants.{End, Nothing as NoEnd, TooDeep}
 use Rattle.yf_block.specs.declared.properties.PlacedProperties.{PlacedProperties}
 use Rattle.yf_block.specs.Machine.{MayPlace, PropertiesBefore, PropertiesTo, earliest_end}
-use Rattle.yf_chars.proofs.CharFacts.{end_no_ns}
 
 pub may_place : (t : List ℕ) (at : ℕ) (o : Option ℕ) → IfSome o (λ p. BoundaryFrom t at p) → MayPlace t at o
 may_place t at None p = tt

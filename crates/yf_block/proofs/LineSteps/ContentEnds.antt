@@ -1,6 +1,7 @@
 -- A flow node on its line that is no key: the leaf that it is, whose line is to end; or an empty key after which the line goes on.
 use Rattle.std.proofs.Common.{◌≡◌, ℕ, pos, ◌+ℤ◌, ◌<◌, ◌≤◌, Bool, true, false, List, Option, Some, None, refl, sym, ap, ◌∙◌, subst, arith, ⊎_elim}
 use Rattle.std.proofs.lemmas.Bool.{cases_Bool}
+use Rattle.std.proofs.lemmas.Option.{same_Some}
 use Rattle.std.specs.Str.{IsUtf8}
 use Rattle.yf_chars.specs.declared.context.Ctx.TheVariants.{FlowOut}
 use Rattle.yf_chars.specs.Text.{code}
@@ -13,7 +14,6 @@ use Rattle.yf_grammar.specs.FlowReader.Parser.Parses.{properties_missed}
 use Rattle.yf_grammar.specs.BlockReader.BlockParser.{SignAt, Ahead, PropertiesHeld as HeldValue, Props, Columns, NoSign, NoKeyAt, BlockTask}
 use Rattle.yf_grammar.proofs.FlowReader.FlowStarts.{flow_starts}
 use Rattle.yf_grammar.proofs.Ends.Forward.{whites_forward}
-use Rattle.yf_grammar.proofs.Ends.NodeExits.{none_some}
 use Rattle.yf_grammar.proofs.FlowReader.Outcome.{outcome_is_one}
 use Rattle.yf_grammar.proofs.FlowReader.Sound.{found_is_derived}
 use Rattle.yf_flow.specs.NodeStarts.{ContentAt, plain_missing}
@@ -37,9 +37,9 @@ use Rattle.yf_block.proofs.LineSteps.ContentLeaves.{leaf_task, after_comments, L
 use Rattle.yf_block.proofs.LineSteps.ContentNodes.{leaf_lost}
 use Rattle.yf_block.proofs.Ends.KeyNodes.{content_node, colon_bare, sign_no_plain, after_later}
 use Rattle.yf_block.proofs.Stack.TiedKeys.{none_spread}
-use Rattle.yf_block.proofs.Stack.TiedLeads.{bare_content, no_none, same_held}
+use Rattle.yf_block.proofs.Stack.TiedLeads.{bare_content}
 use Rattle.yf_block.proofs.Stack.TiedReads.{read_moved}
-use Rattle.yf_chars.proofs.SpelledLemmas.{never}
+use Rattle.yf_chars.proofs.Tests.{none_some, some_none}
 use Rattle.yf_block.proofs.LineSteps.LeafEnds.{same_plain}
 use Rattle.yf_props.proofs.NameOrder.{properties_forward}
 
@@ -61,19 +61,19 @@ colon_no_alias c e = rw e refl
 
 module _ {t : List ℕ} {p : ℕ} where
   stuck_after : {j : Option PlacedProperties} {y : PlacedProperties} {k end : ℕ} → TextAfter t p j k → j ≡ Some y → end ≡ y.end → Stuck (LineEnd t end)
-  stuck_after (text_alone q) z e = absurd (no_none (sym z))
-  stuck_after (text_held {held = h} l q b) z e = subst (λ (i : ℕ). Stuck (LineEnd t i)) (ap (λ (g : PlacedProperties). g.end) (same_held z) ∙ sym e) q
+  stuck_after (text_alone q) z e = absurd (some_none (sym z))
+  stuck_after (text_held {held = h} l q b) z e = subst (λ (i : ℕ). Stuck (LineEnd t i)) (ap (λ (g : PlacedProperties). g.end) (same_Some _ _ z) ∙ sym e) q
 
   end_before : {j : Option PlacedProperties} {y : PlacedProperties} {k : ℕ} → TextAfter t p j k → j ≡ Some y → y.end ≤ k
-  end_before (text_alone q) z = absurd (no_none (sym z))
-  end_before (text_held {held = h} l q b) z = let f = whites_forward b.run in let e = ap (λ (g : PlacedProperties). g.end) (same_held z) in omega (arith, f, e)
+  end_before (text_alone q) z = absurd (some_none (sym z))
+  end_before (text_held {held = h} l q b) z = let f = whites_forward b.run in let e = ap (λ (g : PlacedProperties). g.end) (same_Some _ _ z) in omega (arith, f, e)
 
 module _ {t : List ℕ} {at end : ℕ} {f : ParsedNode} {json : Bool} {plain : Option ℕ} (as_json : json ≡ true → plain ≡ None) (as_plain : json ≡ false → plain ≡ Some at) where
   known_kind : json ≡ f.json → end ≡ f.end → NodeKind t at f → PlainIs t at end plain
   known_kind j k (plain_kind b v) = plain_known b (as_plain (j ∙ v))
-  known_kind j k (json_kind b v) = other_known b (λ q x. absurd (never (sym (as_json (j ∙ v)) ∙ x)))
+  known_kind j k (json_kind b v) = other_known b (λ q x. absurd (none_some (sym (as_json (j ∙ v)) ∙ x)))
   known_kind j k (alias_kind b o) = other_known b (λ q x. ⊎_elim
-      (λ (v : json ≡ true). absurd (never (sym (as_json v) ∙ x)))
+      (λ (v : json ≡ true). absurd (none_some (sym (as_json v) ∙ x)))
       (λ (v : json ≡ false). subst (λ (z : ℕ). NoStart t z end) (sym (same_plain (sym (as_plain v) ∙ x))) (subst (λ (z : ℕ). NoStart t at z) (sym k) (no_start_inside o)))
       (cases_Bool json))
 
@@ -137,12 +137,12 @@ module _ {t : List ℕ} {d : ℕ} {root : BlockTask} {before old : Part} {frames
           bare (text_held l q b) r = b.no_property
 
           later : {j : Option PlacedProperties} {k : ℕ} → TextAfter t p j k → Answers.NoEmptyKey t k j → (held : PlacedProperties) → j ≡ Some held → held.end < k
-          later (text_alone q) e held z = absurd (no_none (sym z))
-          later (text_held {held = h} {at = k} l q b) e held z = subst (λ (g : PlacedProperties). g.end < k) (same_held z) (after_later utf8 l q b (e h refl))
+          later (text_alone q) e held z = absurd (some_none (sym z))
+          later (text_held {held = h} {at = k} l q b) e held z = subst (λ (g : PlacedProperties). g.end < k) (same_Some _ _ z) (after_later utf8 l q b (e h refl))
 
     go_alias : {f : ParsedNode} → inner ≡ None → Parses t a.room (ANode (pos progress.wanted.least) FlowOut at) (Some f) → NodeIs depth f node → WrittenWith t lead f.meaning (from_to at node.end) node.end old new
         → AtLeaf t d root before frames plain node.end after new
-    go_alias q r i w = leaf_here (indented r) (bare x q r) (λ h z. v.no_alias (sym (alone_ahead (subst (λ j. AfterLine t p a.ahead j v.ahead) q v.joined)) ∙ z)) (λ held z. absurd (no_none (sym z ∙ q))) i w as_json as_plain last fl co ha where
+    go_alias q r i w = leaf_here (indented r) (bare x q r) (λ h z. v.no_alias (sym (alone_ahead (subst (λ j. AfterLine t p a.ahead j v.ahead) q v.joined)) ∙ z)) (λ held z. absurd (some_none (sym z ∙ q))) i w as_json as_plain last fl co ha where
       bare : {j : Option PlacedProperties} {k : ℕ} {g : ParsedNode} → TextAfter t p j k → j ≡ None → Parses t a.room (ANode (pos progress.wanted.least) FlowOut k) (Some g) → begins_properties (code t k) ≡ false
       bare {k = k} (text_alone y) z r = ⊎_elim
           (λ (b : begins_properties (code t k) ≡ true). absurd (none_some (outcome_is_one (properties_missed b (none_spread y)) r)))

@@ -74,9 +74,6 @@ module _ {t : List ℕ} {before : Part} {w : Meaning} {progress : BlockCursor} {
       read_added r (entering p (Some v) x) (subst (λ z. Noting t progress.floor z (record a.first { entry = Some (record { start = p; colon = Some v; blank_before = b }) } ∷ a.noted_others)) (sym events) noted)
       still a.added (entered_comments p v x) (entered_escapes p v x)
 
-pub same_found : {f g : ParsedNode} → Some f ≡ Some g → f ≡ g
-same_found e = cc
-
 module _ {t : List ℕ} {d : ℕ} {root : BlockTask} {before old : Part} {frames : List Frame} {cols : Columns} {p : ℕ} {progress : BlockCursor}
     (a : AtStart t d root before frames cols p progress old) (s : NoSign t cols p) where
   node_indent : pos progress.wanted.least ≡ a.indentation +ℤ pos 1

@@ -1,11 +1,11 @@
 -- A flow node that is no key, as a leaf: it has the properties that are ahead of it, and it was written with them.
 use Rattle.std.proofs.Common.{◌≡◌, ◌≢◌, ℕ, ℤ, pos, ◌+◌, ◌<◌, ◌≤◌, true, false, List, [], ◌∷◌, ◌++◌, Option, Some, None, refl, sym, ap, ◌∙◌, subst, arith, append_assoc, append-nil, ⊎_elim, true≢false}
 use Rattle.std.proofs.lemmas.Bool.{cases_Bool}
-use Rattle.std.proofs.lemmas.Bool.Decides.{nat_tests}
 use Rattle.std.specs.Str.{IsUtf8}
 use Rattle.yf_chars.specs.declared.context.Ctx.{Ctx}
 use Rattle.yf_chars.specs.declared.context.Ctx.TheVariants.{FlowKey}
 use Rattle.yf_chars.specs.Text.{code}
+use Rattle.yf_chars.proofs.Tests.{none_some}
 use Rattle.yf_lines.specs.Basic.{is_block}
 use Rattle.yf_lines.proofs.BasicLemmas.{break_forward}
 use Rattle.yf_lines.proofs.LineLemmas.{break_breaks}
@@ -17,7 +17,7 @@ use Rattle.yf_events.specs.Event.{EventValue, EventInText}
 use Rattle.yf_events.specs.declared.event.Entry as TheEntry
 use Rattle.yf_events.specs.declared.part.Part.{Part}
 use Rattle.yf_grammar.specs.Productions.Meaning.{Meaning, ◌⊕◌, meaning_after, plain_event, from_to, event_with, with_props, first_with, entering}
-use Rattle.yf_grammar.specs.FlowReader.Parser.{ParsedNode, found, ANode, AContent, Parses, OnOneLine, only, begins_alias, begins_properties, begins_content, begins_plain}
+use Rattle.yf_grammar.specs.FlowReader.Parser.{ParsedNode, ANode, AContent, Parses, OnOneLine, only, begins_alias, begins_properties, begins_plain}
 use Rattle.yf_grammar.specs.FlowReader.Parser.Parses.{alias_read, alias_missed, plain_read, plain_missed, content_read, properties_missed, properties_content, properties_plain, properties_end, properties_before_broken, properties_before_other}
 use Rattle.yf_grammar.specs.FlowReader.Parser as Parsing
 use Rattle.yf_grammar.specs.BlockReader.BlockParser.{Ahead, Nothing, Indicator, Props, PropertiesHeld as HeldValue, headed, both, Joins, first_held, more_held, Columns, NoSign, NoKeyAt, BlockTask, Leaf}
@@ -26,7 +26,7 @@ use Rattle.yf_grammar.proofs.BlockStack.BlockNodeSteps.{node_through}
 use Rattle.yf_grammar.proofs.BlockStack.BlockStepNodes.{held_leaf_awaits, held_leaf_halts, leaf_awaits, leaf_halts}
 use Rattle.yf_grammar.proofs.Ends.GapLemmas.{Visible}
 use Rattle.yf_grammar.proofs.FlowReader.KeyLines.{key_line}
-use Rattle.yf_grammar.proofs.Ends.NodeExits.{alias_begins, alias_no_plain, plain_no_content, some_found, none_some}
+use Rattle.yf_grammar.proofs.Ends.NodeExits.{alias_begins, alias_no_plain, plain_no_content, some_found}
 use Rattle.yf_grammar.proofs.FlowReader.NodeExact.{plain_is}
 use Rattle.yf_grammar.proofs.FlowReader.ParserLemmas.{Same}
 use Rattle.yf_grammar.proofs.FlowReader.PropertiesEnds.{properties_begin}
@@ -142,9 +142,6 @@ headed_by Nothing x at end {others = others} q n = q ∙ ap (λ y. record { even
 headed_by (Indicator i) x at end {others = others} q n = q ∙ ap (λ y. record { event = y; span = Some (record { start = at; end = end }); tag_offset = None; entry = None; folded = [] } ∷ others) (sym n)
 headed_by (Props h) x at end q n = ap (λ y. first_with h.value.props h.value.tag_offset h.start h.end y) q
 
-no_entry_there : {f : TheEntry.Entry} → None ≡ Some f → ⊥
-no_entry_there e = cc
-
 pub begins_same : (o : Option ℕ) (x y : Meaning) → x.events ≡ y.events → (begins o x).events ≡ (begins o y).events
 unfolding entering
 begins_same None x y q = q
@@ -170,7 +167,7 @@ module _ {t : List ℕ} {before : Part} (w : Meaning) {progress : BlockCursor} {
   unfolding events_of
   leaf_added {at} {end} {o} {lead} {z} {x} l v f n a c b =
       let events = headed_by z x at end b.events b.no_properties ∙ ap (λ y. y ∷ b.others) (known_is b.event end a) in
-      let from : EntriesFrom (at + 1) (headed z x).events = subst (λ y. EntriesFrom (at + 1) y) (sym events) (one_from (λ g q. absurd (no_entry_there q)) (rest_from f b.events)) in
+      let from : EntriesFrom (at + 1) (headed z x).events = subst (λ y. EntriesFrom (at + 1) y) (sym events) (one_from (λ g q. absurd (none_some q)) (rest_from f b.events)) in
       read_as (node_added r {x = events_of (headed z x) x} l v from n (written_as b (events_of (headed z x) x) events refl refl)) (leaf_same w o cs ac z x c)
 
 alias_line : {t : List ℕ} {i j : ℕ} {x : List ℕ} → IsUtf8 t → Alias t i j x → OnOneLine t i j

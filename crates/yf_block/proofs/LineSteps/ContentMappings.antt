@@ -2,10 +2,11 @@
 use Rattle.std.proofs.Common.{◌≡◌, ℕ, zero, suc, ℤ, pos, ◌+◌, ◌<◌, ◌≤◌, Bool, true, false, List, [], ◌∷◌, ◌++◌, length, take, drop, Option, Some, None, refl, sym, ap, ◌∙◌, subst, arith, append_assoc, true≢false}
 use Rattle.std.proofs.Math.Seq.{take-append_seam, drop-append_seam}
 use Rattle.std.proofs.lemmas.List.{length-append}
+use Rattle.std.proofs.lemmas.Option.{same_Some}
 use Rattle.std.specs.Str.{IsUtf8}
 use Rattle.yf_chars.specs.declared.context.Ctx.TheVariants.{FlowOut}
 use Rattle.yf_chars.specs.Text.{code}
-use Rattle.yf_chars.specs.Class.{is_white, is_ns_char, is_nb_char, is_printable, is_between, is_break_char}
+use Rattle.yf_chars.specs.Class.{is_ns_char}
 use Rattle.yf_chars.proofs.TextLemmas.{within_from_code}
 use Rattle.yf_plain.proofs.PlainLemmas.{ns_below}
 use Rattle.yf_events.specs.Event.{EventInText, with_entry}
@@ -20,7 +21,6 @@ use Rattle.yf_grammar.specs.FlowReader.Parser.{ParsedNode, ANode, Parses}
 use Rattle.yf_grammar.specs.BlockReader.BlockParser.{Ahead, KeyBefore, NoKey, key_missed, key_unfit, Keyless, node_unfit, properties_end_line, BlockTask}
 use Rattle.yf_grammar.proofs.FlowReader.FlowStarts.{flow_starts}
 use Rattle.yf_grammar.proofs.Ends.GapLemmas.{Visible}
-use Rattle.yf_grammar.proofs.Ends.NodeExits.{none_some}
 use Rattle.yf_grammar.proofs.FlowReader.Outcome.{outcome_is_one}
 use Rattle.yf_grammar.proofs.FlowReader.Sound.{found_is_derived}
 use Rattle.yf_grammar.proofs.Ends.Ways.{chosen_one}
@@ -44,13 +44,14 @@ use Rattle.yf_block.specs.BlockTied.{wanted_after}
 use Rattle.yf_block.specs.BlockStepTied.{AtNode}
 use Rattle.yf_block.specs.ContentTied.{TextAfter, text_alone, text_held, AtFirstKey, KeyOrLost, key_again, key_lost, KeyRead}
 use Rattle.yf_block.specs.PropertiesAnswers.{lead_at}
-use Rattle.yf_block.specs.InlineAnswers.{InlineRead, InlineLost, InlineEnds}
+use Rattle.yf_block.specs.InlineAnswers.{InlineRead, InlineEnds}
 use Rattle.yf_block.specs.InlineAnswers as Answers
 use Rattle.yf_block.specs.InlineTied.{AtStart, started}
-use Rattle.yf_block.proofs.LineSteps.ContentKeys.{same_found, is_key, key_awaits}
+use Rattle.yf_block.proofs.LineSteps.ContentKeys.{is_key, key_awaits}
 use Rattle.yf_block.proofs.LineSteps.ContentNodes.{node_here, lost_keyless}
 use Rattle.yf_block.proofs.Stack.TiedLeads.{NodeThere, bare_there, held_there}
 use Rattle.yf_chars.proofs.CharFacts.{feed_no_ns}
+use Rattle.yf_chars.proofs.Tests.{none_some}
 
 -- a node begins an entry
 with_entry_of : (p : ℕ) (inner : Option PlacedProperties) (a b : Option TheEntry.Entry) {lead : Lead} → lead ≡ lead_at p inner a → record lead { entry = b } ≡ lead_at p inner b
@@ -149,7 +150,7 @@ no_key_lost : {t : List ℕ} {e p k : ℕ} {n : ℤ} {inner : Option PlacedPrope
 no_key_lost {t} {p = p} {k = k} {f = f} x (node_unfit r u) w b = go u (outcome_is_one r w) where
   go : {o : Option ParsedNode} → NoKey t p o → o ≡ Some f → ⊥
   go key_missed q = none_some q
-  go (key_unfit g) q = g k (subst (λ h. KeyBefore t p h k) (sym (same_found q)) b)
+  go (key_unfit g) q = g k (subst (λ h. KeyBefore t p h k) (sym (same_Some _ _ q)) b)
 no_key_lost (text_alone s) (properties_end_line {g = g} {q = q} c l) w b = s.none g q c.derived
 no_key_lost {t} (text_held l s y) (properties_end_line {l = k} {ds = ds} c d) w b = let same = chosen_one l.chosen c in s.none k ds (subst (λ (z : ℕ). LineEnd t z k ds) same.0 d)
 
@@ -183,7 +184,7 @@ module _ {t : List ℕ} {d : ℕ} {root : BlockTask} {before old : Part} {frames
       let x = a.inline.there in
       let n = node_here utf8 x.text a.inline.read in
       let m = key_there_again utf8 x.text (subst (λ j. InlineRead t start.room (pos progress.wanted.least) b.at depth b.inner (lead_at b.node_start.at b.inner (Some j)) k.opened new k.node) e k.read) in
-      let same = same_found (outcome_is_one n.1.parsed m.parsed) in
+      let same = same_Some _ _ (outcome_is_one n.1.parsed m.parsed) in
       let kb = subst (λ f. KeyBefore t b.node_start.at f colon) same (is_key start x.content.signless n.1 a.run a.ends) in
       let deep = n.1.deepest in
       let within = a.within in

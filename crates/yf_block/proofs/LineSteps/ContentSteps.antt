@@ -1,5 +1,6 @@
 -- The steps of the reader on a line, as their functions take them.
 use Rattle.std.proofs.Common.{◌≡◌, ℕ, ℤ, pos, ◌<◌, true, false, List, ◌++◌, Option, Some, None, refl, sym, ◌∙◌, subst, arith, ◌⊎◌, inl, inr, ⊎_elim}
+use Rattle.std.proofs.lemmas.Option.{same_Some}
 use Rattle.std.specs.Str.{IsUtf8}
 use Rattle.yf_chars.specs.declared.context.Ctx.TheVariants.{FlowOut}
 use Rattle.yf_chars.specs.Text.{code}
@@ -38,14 +39,13 @@ use Rattle.yf_block.proofs.LineSteps.ContentKeys.{too_many_open, no_key_there}
 use Rattle.yf_block.proofs.LineSteps.ContentLeaves.{leaf_task, after_comments, LeafAhead, ahead_of_none, ahead_of_all}
 use Rattle.yf_block.proofs.LineSteps.ContentNodes.{node_here, lost_keyless, no_key_here}
 use Rattle.yf_block.proofs.Ends.KeyNodes.{after_later}
-use Rattle.yf_block.proofs.Stack.TiedLeads.{no_none, same_held}
 use Rattle.yf_block.proofs.LineSteps.TiedScalar.{bar_is}
-use Rattle.yf_chars.proofs.SpelledLemmas.{never}
+use Rattle.yf_chars.proofs.Tests.{some_none}
 
 -- properties on the line
 pub text_properties : {t : List ℕ} {p at : ℕ} {inner : Option PlacedProperties} → TextAfter t p inner at → (h : PlacedProperties) → inner ≡ Some h → LineProperties t p h
-text_properties (text_alone s) h q = absurd (no_none (sym q))
-text_properties {t} {p} (text_held l s b) h q = subst (λ z. LineProperties t p z) (same_held q) l
+text_properties (text_alone s) h q = absurd (some_none (sym q))
+text_properties {t} {p} (text_held l s b) h q = subst (λ z. LineProperties t p z) (same_Some _ _ q) l
 
 pub signless_there : {t : List ℕ} {cols : Columns} {p : ℕ} {column : Option ℕ} → cols.mapping ≡ column → ((m : ℕ) → cols.sequence ≡ Some m → DashAt t p → ⊥) → ((m : ℕ) → column ≡ Some m → EntrySignAt t p → ⊥) → NoSign t cols p
 signless_there q f g = record {
@@ -118,8 +118,8 @@ module _ {t : List ℕ} {d : ℕ} {root : BlockTask} {before part : Part} {frame
         read = subst (λ z. ReadTied t before (all_written start.layers ⊕ only (start.comments ++ z) 0) progress part) (sym (after_comments v.joined)) start.read;
       } where
         later : {j : Option PlacedProperties} {k : ℕ} → TextAfter t b.node_start.at j k → ScalarSignAt t k → (held : PlacedProperties) → j ≡ Some held → held.end < k
-        later (text_alone q) w held z = absurd (no_none (sym z))
-        later (text_held {held = h} {at = m} l q k) w held z = subst (λ (g : PlacedProperties). g.end < m) (same_held z) (after_later utf8 l q k (λ c. bar_no_colon w c))
+        later (text_alone q) w held z = absurd (some_none (sym z))
+        later (text_held {held = h} {at = m} l q k) w held z = subst (λ (g : PlacedProperties). g.end < m) (same_Some _ _ z) (after_later utf8 l q k (λ c. bar_no_colon w c))
 
   -- no node was read
   pub nothing_read : InlineLost t start.room (pos progress.wanted.least) b.at b.inner → (ScalarSignAt t b.at → ⊥) → AtFailed t d root progress

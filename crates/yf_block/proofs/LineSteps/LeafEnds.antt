@@ -4,6 +4,7 @@ use Rattle.std.specs.Str.{IsUtf8}
 use Rattle.yf_chars.specs.declared.context.Ctx.TheVariants.{FlowOut}
 use Rattle.yf_chars.specs.Text.{code}
 use Rattle.yf_chars.specs.Chain.{Stuck, Chosen}
+use Rattle.yf_chars.proofs.Tests.{none_some}
 use Rattle.yf_lines.specs.Basic.{LineStart}
 use Rattle.yf_comments.specs.Comment.{CommentValue}
 use Rattle.yf_comments.specs.Comments.{LineEnd}
@@ -28,6 +29,7 @@ use Rattle.yf_grammar.proofs.BlockOutcomes.OutcomeEnds.{leaf_is, with_plain_is}
 use Rattle.yf_grammar.proofs.FlowReader.ParserLemmas.{Same}
 use Rattle.yf_grammar.proofs.BlockContent.PlainCut.{whole_plain, plain_without_last, plain_one_line}
 use Rattle.yf_grammar.proofs.FlowReader.Sound.{found_is_derived}
+use Rattle.yf_grammar.proofs.NodesInText.MeantLemmas.{after_comments, noting_comments}
 use Rattle.yf_block.specs.declared.frame.Frame.{Frame}
 use Rattle.yf_block.specs.declared.frame.BlockCursor.{BlockCursor}
 use Rattle.yf_block.specs.BlockTied.{layers_entry, begins, ahead_comments, all_written, ReadTied, halt_end}
@@ -41,7 +43,6 @@ use Rattle.yf_block.proofs.LineSteps.ContentLeaves.{headed_finish, headed_commen
 use Rattle.yf_block.proofs.Ends.LineHalts.{colons_counted, outside_end, rounds_end, last_line_of, no_last_line, may_end_at, may_end_before, may_end_nowhere}
 use Rattle.yf_block.proofs.Stack.TiedLeads.{read_added, begins_comments, begins_escapes}
 use Rattle.yf_block.proofs.Stack.TiedReads.{read_as, read_moved}
-use Rattle.yf_chars.proofs.SpelledLemmas.{never}
 
 -- the last place that is noted, where one was noted before
 abbrev pub noted_end : Option ℕ → Option ParsedNode → Option ℕ
@@ -94,7 +95,7 @@ module _ {t : List ℕ} (u : IsUtf8 t) {e : ℕ} {ws : List ℕ} {n : ℤ} {a : 
     halted = halts_plain_missed s m b (plain_one_line u (plain_was_read b r refl).chosen d (no_last_line (subst (λ (z : ℕ). NoStart t z f.end) (sym (same_plain q)) l)));
     noted = refl;
   }
-  leaf_before (plain_known b q) d no_plain = absurd (never q)
+  leaf_before (plain_known b q) d no_plain = absurd (none_some q)
   leaf_before (other_known b q) d (shorter_noted {start = i} {p = k} l) = absurd (q i refl l.begins k l.later l.ended l.earlier)
   leaf_before (other_known b q) d (one_line l) = record { outcome = None; halted = halts_content_unended s m b r d; noted = refl }
   leaf_before (other_known b q) d no_plain = record { outcome = None; halted = halts_content_unended s m b r d; noted = refl }
@@ -116,17 +117,9 @@ after_events : (cs : List CommentValue) (x : Meaning) → (meaning_after cs x).e
 unfolding meaning_after
 after_events cs x = refl
 
-after_comments : (cs : List CommentValue) (x : Meaning) → (meaning_after cs x).comments ≡ cs ++ x.comments
-unfolding meaning_after
-after_comments cs x = refl
-
 after_escapes : (cs : List CommentValue) (x : Meaning) → (meaning_after cs x).escapes ≡ x.escapes
 unfolding meaning_after
 after_escapes cs x = refl
-
-pub noting_comments : (x : Meaning) (ds : List CommentValue) → (noting x ds).comments ≡ x.comments ++ ds
-unfolding noting
-noting_comments x ds = refl
 
 pub noting_escapes : (x : Meaning) (ds : List CommentValue) → (noting x ds).escapes ≡ x.escapes
 unfolding noting

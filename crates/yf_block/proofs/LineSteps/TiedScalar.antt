@@ -3,6 +3,7 @@ use Rattle.std.proofs.Common.{◌≡◌, ℕ, ℤ, pos, ◌+ℤ◌, ◌+◌, ◌
 use Rattle.std.specs.Str.{IsUtf8}
 use Rattle.yf_chars.specs.Chain.{Stuck, Chosen}
 use Rattle.yf_chars.specs.Text.{code}
+use Rattle.yf_chars.proofs.Tests.{some_none}
 use Rattle.yf_lines.proofs.BasicLemmas.{break_forward}
 use Rattle.yf_comments.specs.Comment.{CommentValue}
 use Rattle.yf_comments.specs.Comments.{Blank}
@@ -47,7 +48,7 @@ use Rattle.yf_block.specs.ScalarTied.{AtScalar, AtBody, scalar_event}
 use Rattle.yf_block.proofs.Stack.TiedFailed.{broken_fails}
 use Rattle.yf_block.proofs.LineSteps.ContentLeaves.{headed_comments, headed_escapes, headed_finish, begins_same}
 use Rattle.yf_block.proofs.LineSteps.ContentNodes.{leaf_lost}
-use Rattle.yf_block.proofs.LineSteps.LeafEnds.{HaltNoted, leaf_made, noted_round, after_finish, noting_comments, noting_escapes, noting_finish}
+use Rattle.yf_block.proofs.LineSteps.LeafEnds.{HaltNoted, leaf_made, noted_round, after_finish, noting_escapes, noting_finish}
 use Rattle.yf_block.proofs.Ends.NotingLemmas.{floor_more, noting_more}
 use Rattle.yf_block.proofs.LineSteps.ScalarLines.{Reaching, body_between, between_blank, header_blank, body_outside, header_is_longest}
 use Rattle.yf_block.proofs.Stack.TiedFrames.{allowed_there, refused_there}
@@ -55,6 +56,7 @@ use Rattle.yf_block.proofs.Stack.TiedOpenings.{node_missing}
 use Rattle.yf_grammar.proofs.Ends.Ways.{chosen_one}
 use Rattle.yf_grammar.proofs.NodesInText.PlacedScalars.{body_reached}
 use Rattle.yf_grammar.proofs.FlowReader.ParserLemmas.{Same}
+use Rattle.yf_grammar.proofs.NodesInText.MeantLemmas.{noting_comments}
 use Rattle.yf_block.proofs.Stack.TiedLeads.{begins_comments, begins_escapes}
 
 abbrev scalar_as : ℕ → ℕ → HeaderValue → BodyValue → Meaning
@@ -70,9 +72,6 @@ scalar_as i e h b = record {
   escapes = [];
   finish = e;
 }
-
-known_none : {x : ℕ} → Some x ≡ None → ⊥
-known_none e = cc
 
 -- the event of a scalar, field by field
 abbrev scalar_by : ℕ → PropsValue → Option ℕ → Option TheEntry.Entry → Header → BodyValue → ℕ → EventInText
@@ -208,8 +207,8 @@ module _ {t : List ℕ} {d : ℕ} {root : BlockTask} {before old : Part} {frames
     go (node_before c l) q = let later = l.later in let end = break_forward l.ended in let earlier = l.earlier in absurd (omega (arith, later, end, earlier))
     go (node_shorter c n r) q = last r q where
       last : {plain new : Option ℕ} → ShorterNoted t block.next progress.halt plain new → plain ≡ None → HaltNoted t a.scalar.room (asked a.scalar.layers) (Leaf a.scalar.indentation a.scalar.ahead a.place) progress.halt new
-      last (shorter_noted x) z = absurd (known_none z)
-      last (one_line x) z = absurd (known_none z)
+      last (shorter_noted x) z = absurd (some_none z)
+      last (one_line x) z = absurd (some_none z)
       last no_plain z = record { outcome = None; halted = halts_scalar_before chosen (stuck c); noted = refl }
 
   abbrev leaf_meaning : Meaning

@@ -2,8 +2,8 @@
 use Rattle.std.proofs.Common.{ℕ, ◌+◌, ◌-◌, ◌*◌, ◌<◌, ◌≤◌, Bool, List, length, Option, Result, Ok, Err, IfOk, sym, subst, arith}
 use Rattle.std.specs.List.{All}
 use Rattle.std.specs.Str.{IsCharBoundary}
+use Rattle.yf_chars.specs.Boundary.{BoundaryFrom}
 use Rattle.yf_events.specs.declared.event.Entry as TheEntry
-use Rattle.yf_flow.specs.Machine.{BoundaryFrom}
 use Rattle.yf_block.specs.declared.frame.BlockCursor.{BlockCursor}
 use Rattle.yf_block.specs.declared.frame.BlockReader.{BlockReader}
 use Rattle.yf_block.specs.declared.frame.Step.{Step}

@@ -1,12 +1,11 @@
 -- A collection that ends is a node of the entry round it, or the outermost one; what is written at its end.
 use Rattle.std.proofs.Common.{◌≡◌, ℕ, Bool, true, false, List, [], ◌∷◌, ◌++◌, length, Option, Some, None, refl, sym, ap, ◌∙◌, subst, append_assoc, append-nil, true≢false}
 use Rattle.yf_comments.specs.Comment.{CommentValue}
-use Rattle.yf_props.specs.Props.{PropsValue}
 use Rattle.yf_events.specs.Event.{EventInText}
 use Rattle.yf_events.specs.Edit.{edited, ended}
 use Rattle.yf_events.specs.declared.part.Part.{Part}
 use Rattle.yf_grammar.specs.Productions.Meaning.{Meaning, ◌⊕◌, meaning_after, noting, plain_event, from_to, start_of, end_of, event_with, collection, with_props, entering, empty_node}
-use Rattle.yf_grammar.specs.Productions.ReadParts.{Noting, floor_after_event}
+use Rattle.yf_grammar.specs.Productions.ReadParts.{Noting}
 use Rattle.yf_grammar.specs.Productions.ReadParts.Noting.{no_event, without_entry}
 use Rattle.yf_grammar.specs.FlowReader.Parser.{ParsedNode, only}
 use Rattle.yf_grammar.specs.BlockReader.BlockParser.{Ahead, Nothing, Indicator, Props, headed, BlockTask}
@@ -18,6 +17,7 @@ use Rattle.yf_block.specs.declared.frame.BlockCursor.{BlockCursor}
 use Rattle.yf_block.specs.CollectionEnds.{value_missing, end_event, closing}
 use Rattle.yf_block.specs.BlockTied.{kind_of, stage_entry, layers_entry, begins, stage_written, ahead_comments, ahead_props, ahead_tag, ahead_start, entry_at, begun_event, all_written, floor_after, ReadTied, FrameTied}
 use Rattle.yf_block.proofs.Ends.NotingLemmas.{floor_more, Keeps, floor_kept, edited_after, noting_more, noting_ended}
+use Rattle.yf_block.proofs.Stack.TiedOpenings.{begun_floor}
 
 -- the events at the end change no floor, and begin no entry
 module _ {t : List ℕ} where
@@ -37,13 +37,9 @@ floor_end : (floor : ℕ) (s : Bool) → floor_after floor (entry_event (end_of 
 floor_end floor true = refl
 floor_end floor false = refl
 
-begun_floor : (s : Bool) (props : PropsValue) (e : EventInText) (floor : ℕ) → floor_after_event floor e (event_with props (start_of s false)) ≡ floor
-begun_floor true props e floor = refl
-begun_floor false props e floor = refl
-
 pub begun_keeps : (j : ℕ) (l : Layer) (o : Option ℕ) → Keeps (ended j) (begun_event l (entry_at o))
 begun_keeps j l o floor =
-    begun_floor l.sequence (ahead_props l.ahead) (ended j (begun_event l (entry_at o))) floor ∙ sym (begun_floor l.sequence (ahead_props l.ahead) (begun_event l (entry_at o)) floor)
+    begun_floor floor l.sequence (ahead_props l.ahead) (ended j (begun_event l (entry_at o))) ∙ sym (begun_floor floor l.sequence (ahead_props l.ahead) (begun_event l (entry_at o)))
 
 -- the present entry with the node that is awaited in it, and an empty value where its `:` is awaited
 pub stage_events : (s : Stage) (f : ParsedNode) → ((stage_written s).events ++ (begins (stage_entry s) f.meaning).events) ++ value_missing (asks s) ≡ (entry_made s f).meaning.events

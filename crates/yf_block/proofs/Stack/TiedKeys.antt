@@ -3,10 +3,12 @@ use Rattle.std.proofs.Common.{◌≡◌, ℕ, suc, ◌+◌, ◌^◌, ◌≤◌, 
 use Rattle.std.proofs.lemmas.Bool.{cases_Bool}
 use Rattle.std.proofs.lemmas.Int.{ints}
 use Rattle.std.proofs.lemmas.List.{length-reverse}
+use Rattle.std.proofs.lemmas.Option.{same_Some}
 use Rattle.yf_chars.specs.declared.context.Ctx.TheVariants.{BlockOut, FlowOut, FlowKey}
 use Rattle.yf_chars.specs.Text.{code}
 use Rattle.yf_chars.specs.Class.{is_white}
 use Rattle.yf_chars.specs.Chain.{Stuck, Chosen, Many}
+use Rattle.yf_chars.proofs.Tests.{none_some, some_none}
 use Rattle.yf_comments.specs.Comment.{CommentValue}
 use Rattle.yf_comments.specs.Comments.{LineEnd}
 use Rattle.yf_props.specs.Names.{Properties, PropertiesValue}
@@ -43,7 +45,7 @@ use Rattle.yf_block.specs.BlockStepTied.{AtNode, AtEntry, AtFailed}
 use Rattle.yf_block.proofs.Ends.KeyNodes.{keyless_line, keyless_nowhere, keyless_after, keyless_bare, key_before, keyless_unended}
 use Rattle.yf_block.proofs.Stack.TiedFailed.{broken_fails}
 use Rattle.yf_block.proofs.Stack.TiedFits.{is_mapping_of}
-use Rattle.yf_block.proofs.Stack.TiedLeads.{no_held, no_none, same_held, NodeThere, bare_there, held_there, node_added}
+use Rattle.yf_block.proofs.Stack.TiedLeads.{NodeThere, bare_there, held_there, node_added}
 use Rattle.yf_block.proofs.Stack.TiedNodes.{node_there, after_colon, coloned_read}
 use Rattle.yf_block.proofs.Stack.TiedOpenings.{frames_count}
 use Rattle.yf_block.proofs.Stack.TiedReads.{read_moved, count_read}
@@ -54,11 +56,11 @@ PropertiesMay t p o = MatchOption o (Stuck (Properties t (pos 0) FlowKey p)) (Li
 
 pub none_of : (t : List ℕ) (p : ℕ) (o : Option PlacedProperties) → PropertiesMay t p o → o ≡ None → Stuck (Properties t (pos 0) FlowKey p)
 none_of t p None m q = m
-none_of t p (Some h) m q = absurd (no_none q)
+none_of t p (Some h) m q = absurd (some_none q)
 
 pub some_of : (t : List ℕ) (p : ℕ) (o : Option PlacedProperties) → PropertiesMay t p o → (h : PlacedProperties) → o ≡ Some h → LineProperties t p h
-some_of t p None m h q = absurd (no_held q)
-some_of t p (Some g) m h q = subst (λ z. LineProperties t p z) (same_held q) m
+some_of t p None m h q = absurd (none_some q)
+some_of t p (Some g) m h q = subst (λ z. LineProperties t p z) (same_Some _ _ q) m
 
 -- where none are read on the line, none are read over lines
 module _ {t : List ℕ} {p : ℕ} (s : Stuck (Properties t (pos 0) FlowKey p)) where

@@ -1,10 +1,12 @@
 -- A node on a line as it was written: its first event with what was known of the node before it, and the notes of the entries in it.
 use Rattle.std.proofs.Common.{◌≡◌, ℕ, ℤ, ◌+◌, ◌≤◌, true, false, List, [], ◌∷◌, ◌++◌, Option, Some, None, refl, sym, ap, ◌∙◌, subst, arith, append_assoc, append-nil, ⊎_elim}
 use Rattle.std.proofs.lemmas.Bool.{cases_Bool}
+use Rattle.std.proofs.lemmas.Option.{same_Some}
 use Rattle.std.specs.Str.{IsUtf8}
 use Rattle.yf_chars.specs.declared.context.Ctx.TheVariants.{FlowOut}
 use Rattle.yf_chars.specs.Text.{code}
 use Rattle.yf_chars.specs.Chain.{Stuck}
+use Rattle.yf_chars.proofs.Tests.{none_some, some_none}
 use Rattle.yf_comments.specs.Comment.{CommentValue}
 use Rattle.yf_comments.specs.Comments.{LineEnd}
 use Rattle.yf_props.specs.Names.{PropertiesValue}
@@ -197,18 +199,6 @@ pub record NodeThere (t : List ℕ) (e : ℕ) (n : ℤ) (p depth : ℕ) (entry :
   pub finish : answer.meaning.finish ≡ answer.end
   pub written : WrittenAs t entry answer.meaning old new
 
-pub no_held : {held : PlacedProperties} → None ≡ Some held → ⊥
-no_held e = cc
-
-pub no_none : {held : PlacedProperties} → Some held ≡ None → ⊥
-no_none e = cc
-
-pub same_held : {a b : PlacedProperties} → Some a ≡ Some b → a ≡ b
-same_held e = cc
-
-some_none : {f : ParsedNode} → Some f ≡ None → ⊥
-some_none e = cc
-
 -- where properties are not derived none begins content
 pub bare_content : {t : List ℕ} {e p : ℕ} {n : ℤ} {o : Option ParsedNode} {f : ParsedNode} → ContentAt t e n FlowOut p o → o ≡ Some f → begins_properties (code t p) ≡ false
 bare_content {t} {p = p} (content_there b z) q = ⊎_elim (λ (y : begins_properties (code t p) ≡ true). absurd (content_no_properties (code t p) b y)) (λ (y : begins_properties (code t p) ≡ false). y) (cases_Bool (begins_properties (code t p)))
@@ -240,7 +230,7 @@ module _ {t : List ℕ} {e p depth : ℕ} {n : ℤ} {entry : Option TheEntry.Ent
     written = bare_written w;
   }
   bare_there (alias_read {f = f} q r i w) = record { answer = f; parsed = r; end = i.end; json = i.json; deepest = i.deepest; finish = i.finish; written = bare_written w }
-  bare_there (empty_key_read k j d w) = absurd (no_held k.is)
+  bare_there (empty_key_read k j d w) = absurd (none_some k.is)
 
   pub held_there : {held : PlacedProperties} {at : ℕ} (u : IsUtf8 t) (l : LineProperties t p held) → Stuck (LineEnd t held.end) → PlaceAfter t held.end at
       → InlineRead t e n at depth (Some held) (held_lead held entry) old new node → NodeThere t e n p depth entry old new node
@@ -253,9 +243,9 @@ module _ {t : List ℕ} {e p depth : ℕ} {n : ℤ} {entry : Option TheEntry.Ent
     finish = with_finish (l.value.comments ++ []) l.value p held.end f.meaning ∙ i.finish;
     written = content_written l at w;
   }
-  held_there u l s b (alias_read q r i w) = absurd (no_none q)
+  held_there u l s b (alias_read q r i w) = absurd (some_none q)
   held_there {held} {at} u l s b (empty_key_read k j d w) =
-      let end : node.end ≡ held.end = k.ends ∙ ap (λ (z : PlacedProperties). z.end) (sym (same_held k.is)) in
+      let end : node.end ≡ held.end = k.ends ∙ ap (λ (z : PlacedProperties). z.end) (sym (same_Some _ _ k.is)) in
       let m = meaning_after l.value.comments (with_props l.value.props l.value.tag_offset p held.end (empty_node held.end)) in
       record {
         answer = record { end = held.end; height = 0; json = false; meaning = m };

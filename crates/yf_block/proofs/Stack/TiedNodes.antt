@@ -6,8 +6,9 @@ use Rattle.yf_chars.specs.declared.context.Ctx.{Ctx}
 use Rattle.yf_chars.specs.declared.context.Ctx.TheVariants.{BlockOut, BlockIn}
 use Rattle.yf_chars.specs.Text.{code, no_char}
 use Rattle.yf_chars.proofs.TextLemmas.{within_from_code}
+use Rattle.yf_chars.proofs.Tests.{no_nil}
 use Rattle.yf_comments.specs.Comments.{Blank}
-use Rattle.yf_chars.specs.Class.{is_ns_char, is_nb_char, is_printable, is_between, is_break_char, is_white, is_white_or_end}
+use Rattle.yf_chars.specs.Class.{is_ns_char, is_white_or_end}
 use Rattle.yf_lines.specs.Basic.{LineStart, Spaces}
 use Rattle.yf_props.specs.Props.{no_props}
 use Rattle.yf_events.specs.Event.{EventInText, scalar_node}
@@ -78,9 +79,6 @@ all_within (one_within a r) l = one_within (omega arith) (all_within r l)
 no_indicator : {i : ℕ} → Indicator i ≡ Nothing → ⊥
 no_indicator e = cc
 
-no_layers : {l : Layer} {ls : List Layer} → l ∷ ls ≡ [] → ⊥
-no_layers e = cc
-
 -- a node is awaited in the innermost collection, whose frame is on the stack
 module _ {t : List ℕ} {d : ℕ} {root : BlockTask} {before part : Part} {old new : BlockCursor} {e p : ℕ} {l : Layer} {ls : List Layer} {h : Option ParsedNode} where
   pub node_there : {frames stack : List Frame} {top : Frame} (b : Bool) (c : Ctx) (entry : Option TheEntry.Entry) → NodeAt t d root (l ∷ ls) e [] (Awaited b (pos l.column) c (Indicator p) p) h → AllWithin l.column ls
@@ -104,7 +102,7 @@ module _ {t : List ℕ} {d : ℕ} {root : BlockTask} {before part : Part} {old n
           entry = y;
           within = λ v j. let j' : l.column ≤ v = omega (arith, ints, j) in one_within j' (all_within o j');
           nested = λ e. absurd (no_indicator e);
-          rooted = λ i e q. no_layers q;
+          rooted = λ i e q. no_nil q;
           narrow = let a = z.within in let b = r.text.size in omega (arith, a, b, s);
         });
     shallow = λ v. let least : new.wanted.least ≡ l.column + 1 = ap (λ v. v.least) w in (omega (arith, least), omega (arith, least, s));

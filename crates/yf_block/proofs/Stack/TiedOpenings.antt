@@ -65,7 +65,7 @@ begun_as s at entry (props_held {h = h} {held = held} t) =
     ∙ ap (λ (v : ℕ). record { event = event_with h.value.props (start_of s false); span = Some (record { start = v; end = at }); tag_offset = held.tag_offset; entry = entry; folded = [] }) t.start
     ∙ ap (λ v. record { event = event_with h.value.props (start_of s false); span = Some (record { start = h.start; end = at }); tag_offset = v; entry = entry; folded = [] }) t.tag
 
-begun_floor : (floor : ℕ) (s : Bool) (props : PropsValue) (e : EventInText) → floor_after_event floor e (event_with props (start_of s false)) ≡ floor
+pub begun_floor : (floor : ℕ) (s : Bool) (props : PropsValue) (e : EventInText) → floor_after_event floor e (event_with props (start_of s false)) ≡ floor
 begun_floor floor true props e = refl
 begun_floor floor false props e = refl
 

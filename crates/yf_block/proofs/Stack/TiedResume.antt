@@ -1,5 +1,6 @@
 -- After a node that was found whole, collection by collection: its frame is taken off the stack, and the line ends it or goes on with it.
 use Rattle.std.proofs.Common.{◌≡◌, ℕ, suc, ◌-◌, Bool, true, false, List, [], ◌∷◌, ◌++◌, length, Option, Some, None, MatchOption, sym, ap, ◌∙◌, subst, arith}
+use Rattle.yf_chars.proofs.Tests.{no_cons}
 use Rattle.yf_events.specs.Edit.{edited, ended}
 use Rattle.yf_events.specs.declared.part.Part.{Part}
 use Rattle.yf_grammar.specs.Productions.Meaning.{Meaning, ◌⊕◌}
@@ -15,7 +16,7 @@ use Rattle.yf_block.specs.LineFits.{PlaceTied, EndLine}
 use Rattle.yf_block.specs.CollectionEnds.{closing}
 use Rattle.yf_block.specs.BlockTied.{layers_entry, begins, all_written, ReadTied, frame_tied, no_frames, FramesTied, colons_if, FrameTied}
 use Rattle.yf_block.specs.BlockStepTied.{AtResume, AtTop, AtDone}
-use Rattle.yf_flow.proofs.Stack.TiedClose.{cons_parts, no_cons}
+use Rattle.yf_flow.proofs.Stack.TiedClose.{cons_parts}
 use Rattle.yf_block.proofs.Stack.TiedClosing.{asks_mapping, closed_read, closed_finish}
 use Rattle.yf_block.proofs.Stack.TiedFits.{tied_ends}
 use Rattle.yf_block.proofs.Stack.TiedReads.{read_moved}

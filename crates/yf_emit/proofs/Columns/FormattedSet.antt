@@ -1,20 +1,21 @@
 -- The trees of the reading of a formatted text are set: the entries of each block collection and the content of each block scalar are where they are to.
-use Rattle.std.proofs.Common.{◌≡◌, ℕ, suc, ◌+◌, List, [], ◌∷◌, ◌++◌, length, map, flat_map, Option, Some, None, refl, sym, ap, ◌∙◌, subst, append_assoc}
+use Rattle.std.proofs.Common.{◌≡◌, ℕ, suc, ◌+◌, List, [], ◌∷◌, ◌++◌, length, flat_map, Option, Some, None, refl, sym, ap, ◌∙◌, subst}
 use Rattle.std.specs.Str.{IsUtf8}
 use Rattle.yf_chars.specs.Class.{is_white_or_end}
 use Rattle.yf_chars.specs.Text.{code}
 use Rattle.std.specs.Prelude.{not, ◌&&◌, if◌then◌else◌}
 use Rattle.std.proofs.lemmas.Option.{same_Some}
+use Rattle.std.proofs.lemmas.List.{length-map}
 use Rattle.yf_events.specs.Event.{EventInText, document_starts, document_ends, stream_starts, stream_ends, scalar_node}
 use Rattle.yf_events.specs.Tree.{Node, Items, Pairs, DocumentTree, TreesOf, unplaced, flat, flat_document, standing}
-use Rattle.yf_events.specs.declared.document.Doc.{Doc}
 use Rattle.yf_events.specs.declared.event.Entry.{Entry}
 use Rattle.yf_events.specs.declared.lists.Lists.{Lists}
-use Rattle.yf_grammar.specs.Productions.ReadParts.{Noting, no_event}
+use Rattle.yf_grammar.specs.Productions.ReadParts.{Noting}
 use Rattle.yf_grammar.proofs.WrittenTexts.KeptNodes.{SameEntry, no_entry, same_entry, Kept, kept_scalar, kept_alias, kept_sequence, kept_mapping, KeptItems, kept_no_items, kept_item, KeptPairs, kept_no_pairs, kept_pair, kept_standing, kept_node}
 use Rattle.yf_grammar.proofs.NodesInText.NotedNodes.{noted_plain}
 use Rattle.yf_stream.specs.ReadingOf.{DocumentEvents, no_document, one_document, ReadingOf, doc_of}
 use Rattle.yf_stream.specs.Stream.{Document, Documents}
+use Rattle.yf_stream.proofs.Offsets.ReadingTrees.{enclosed, joined, nothing_noted, parted}
 use Rattle.yf_emit.specs.Layouts.Decorated.{body_then}
 use Rattle.yf_emit.specs.Format.{IsFormatting}
 use Rattle.yf_forms.specs.declared.style.Style.{Style}
@@ -107,26 +108,6 @@ record SetTrees (t : List ℕ) (s : Style) (ds : List Document) (rest ys : List 
   is : ys ≡ flat_map flat_document trees ++ more
   noting : Noting t floor rest more
 
--- how the events of documents are joined
-
-parted : (s e : EventInText) (root x rest : List EventInText) → (s ∷ (root ++ (e ∷ x))) ++ rest ≡ s ∷ (root ++ (e ∷ (x ++ rest)))
-parted s e root x rest = ap (λ z. s ∷ z) (append_assoc root (e ∷ x) rest)
-
-document_joined : (s e : EventInText) (root x rest : List EventInText) → ((s ∷ (root ++ (e ∷ []))) ++ x) ++ rest ≡ s ∷ (root ++ (e ∷ (x ++ rest)))
-document_joined s e root x rest = ap (λ z. s ∷ z) (append_assoc (root ++ (e ∷ [])) x rest ∙ append_assoc root (e ∷ []) (x ++ rest))
-
-joined : (ys more more2 more3 more4 root x : List EventInText) (s e : EventInText) → ys ≡ s ∷ more → more ≡ root ++ more2 → more2 ≡ e ∷ more3
-    → more3 ≡ x ++ more4 → ys ≡ ((s ∷ (root ++ (e ∷ []))) ++ x) ++ more4
-joined ys more more2 more3 more4 root x s e p q f g =
-    let whole : ys ≡ s ∷ (root ++ (e ∷ (x ++ more4))) = cc in whole ∙ sym (document_joined s e root x more4)
-
-enclosed : (ys more more2 more3 x : List EventInText) (s e : EventInText) → ys ≡ s ∷ more → more ≡ x ++ more2 → more2 ≡ e ∷ more3 → more3 ≡ []
-    → ys ≡ s ∷ (x ++ (e ∷ []))
-enclosed ys more more2 more3 x s e p q f g = cc
-
-nothing_noted : {t : List ℕ} {floor : ℕ} {ys : List EventInText} → Noting t floor [] ys → ys ≡ []
-nothing_noted no_event = refl
-
 module _ {t : List ℕ} {style : Style} where
   set_trees : {ds : List Document} {floor : ℕ} {x rest ys : List EventInText} {tags : List (Option (List ℕ))} → SetAll t style ds → DocumentEvents t ds x tags → Noting t floor (x ++ rest) ys
       → SetTrees t style ds rest ys
@@ -151,10 +132,6 @@ module _ {t : List ℕ} {style : Style} where
         noting = more.noting;
       }
 
-count_map : (f : Document → Doc) (ds : List Document) → length (map f ds) ≡ length ds
-count_map f [] = refl
-count_map f (d ∷ ds) = ap suc (count_map f ds)
-
 -- the trees of a reading of a formatted text
 pub record ReadingSet (u : List ℕ) (s : Style) (q : Lists) : Type 0 where
   pub trees : List DocumentTree
@@ -174,7 +151,7 @@ reading_set {t} {u} {s} {q} utf8 f a =
       trees = inner.trees;
       of_reading = record {
         events = enclosed q.events first.more inner.more last.more (flat_map flat_document inner.trees) (unplaced stream_starts) (unplaced stream_ends) first.is inner.is last.is (nothing_noted last.noting);
-        documents = ap length a.documents ∙ (count_map doc_of a.derived.documents ∙ inner.count);
+        documents = ap length a.documents ∙ (length-map a.derived.documents doc_of ∙ inner.count);
       };
       set = inner.set;
     }

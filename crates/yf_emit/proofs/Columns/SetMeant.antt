@@ -13,18 +13,18 @@ use Rattle.yf_events.specs.declared.event.Entry.{Entry}
 use Rattle.yf_events.specs.declared.event.ScalarStyle.{ScalarStyle}
 use Rattle.yf_events.specs.declared.event.ScalarStyle.TheVariants.{Plain}
 use Rattle.yf_events.specs.declared.event.Span.{Span}
-use Rattle.yf_events.specs.Tree.{NodeOffsets, Node, scalar, alias, sequence, mapping, Items, no_items, item, Pairs, no_pairs, pair, flat, flat_items, flat_pairs, is_sequence, placed, standing, unplaced}
+use Rattle.yf_events.specs.Tree.{NodeOffsets, Node, scalar, alias, sequence, mapping, Items, no_items, item, Pairs, no_pairs, pair, flat, flat_items, flat_pairs, is_sequence, placed, unplaced}
 use Rattle.yf_events.proofs.TreeLemmas.{node_unique}
 use Rattle.yf_grammar.specs.Productions.Meaning.{Meaning, ◌⊕◌, meaning_after, noting, plain_event, from_to, empty_node, collection, with_props, first_entering, entering}
 use Rattle.yf_grammar.specs.Productions.TreesOfMeaning.{Anywhere, MeansTrees}
-use Rattle.yf_grammar.proofs.NodesInText.MeantLemmas.{entered, entered_events}
+use Rattle.yf_grammar.proofs.NodesInText.MeantLemmas.{entered, entered_alike, entered_events}
+use Rattle.yf_grammar.proofs.NodesInText.PlacedNodes.{entered_standing}
 use Rattle.yf_emit.specs.Layouts.Decorated.{body_then}
 use Rattle.yf_emit.specs.Layouts.ReadableTrees.{is_block_style}
 use Rattle.yf_forms.specs.declared.style.Style.{Style}
 use Rattle.yf_forms.specs.NormalForms.Normal.{is_implicit, value_entries}
 use Rattle.yf_emit.proofs.SecondRun.AlikeLemmas.{same_implicit, same_sequence}
 use Rattle.yf_emit.proofs.Columns.FlowEvents.{AllFlow, MeansFlow, blockless}
-use Rattle.yf_emit.proofs.RowNodes.FoundNodes.{alike_entered}
 use Rattle.yf_emit.proofs.OutputLines.HeldLemmas.{Holds, here, there, ScalarAt, ScalarHeld}
 use Rattle.yf_emit.proofs.Columns.SetNodes.{Blockless, ColumnAt, entries_after, EntryOn, Questioned, SetFirst, set_first, SetFirstPair, set_first_pair, SetItems, no_set_items, set_item, SetNode, set_line, set_scalar, set_sequence, set_mapping, SetPairs, no_set_pairs, set_pair, Unquestioned}
 use Rattle.yf_emit.proofs.Columns.SourceColumns.{column_line, column_one, column_spaces, sign_breaks, signs_low, space_signs}
@@ -93,12 +93,6 @@ set_entered e (set_line {x = x} b) = set_line (blockless_entered e x b)
 set_entered e (set_scalar f (block_at body z n a)) = set_scalar f (block_at body z n a)
 set_entered e (set_sequence o a) = set_sequence o a
 set_entered e (set_mapping o a) = set_mapping o a
-
-entry_is : (e : Entry) (x : Node) → (standing (entered e x)).entry ≡ Some e
-entry_is e (scalar at props style text lines) = refl
-entry_is e (alias at name) = refl
-entry_is e (sequence at flow props xs) = refl
-entry_is e (mapping at flow props ps) = refl
 
 -- What is meant.
 
@@ -273,7 +267,7 @@ module _ {t : List ℕ} {s : Style} where
       record {
         node = entered entry a.node;
         events = ap (first_entering entry) a.events ∙ entered_events entry a.node;
-        on = λ c. record { entry = entry; is = entry_is entry a.node; column = c };
+        on = λ c. record { entry = entry; is = entered_standing entry a.node; column = c };
         set = λ c. set_entered entry (a.set c);
       }
 
@@ -283,14 +277,14 @@ module _ {t : List ℕ} {s : Style} where
   unfolding entering ◌⊕◌
   set_explicit m q k h x y meant explicit sign white a d o =
       let entry : Entry = record { start = q; colon = Some k; blank_before = false } in
-      let no : is_implicit s m (entered entry a.node) ≡ false = sym (same_implicit s m (alike_entered entry (alike_of meant a.events))) ∙ explicit in
+      let no : is_implicit s m (entered entry a.node) ≡ false = sym (same_implicit s m (entered_alike entry (alike_of meant a.events))) ∙ explicit in
       record {
         key = entered entry a.node;
         value = o.node;
         events = ap (λ z. z ++ y.events) (ap (first_entering entry) a.events ∙ entered_events entry a.node) ∙ ap (λ z. flat (entered entry a.node) ++ z) o.events;
-        on = λ c. record { entry = entry; is = entry_is entry a.node; column = c };
+        on = λ c. record { entry = entry; is = entered_standing entry a.node; column = c };
         free = λ e. absurd (true≢false (sym e ∙ no));
-        marked = λ e. record { entry = entry; is = entry_is entry a.node; sign = sign; white = white };
+        marked = λ e. record { entry = entry; is = entered_standing entry a.node; sign = sign; white = white };
         set = λ c. set_entered entry (a.set c);
         value_set = λ c. subst (λ b. SetAt t s (if b then value_entries s m o.node else m + s.indent) (m + s.indent) o.node) (sym no) (o.set d);
       }
@@ -312,14 +306,14 @@ module _ {t : List ℕ} {s : Style} where
   unfolding entering ◌⊕◌
   set_implicit {v = v} m q k x y node alike implicit b e none meant a =
       let entry : Entry = record { start = q; colon = Some k; blank_before = false } in
-      let yes : is_implicit s m (entered entry node) ≡ true = sym (same_implicit s m (alike_entered entry alike)) ∙ implicit in
+      let yes : is_implicit s m (entered entry node) ≡ true = sym (same_implicit s m (entered_alike entry alike)) ∙ implicit in
       let kind : is_sequence v ≡ is_sequence a.node = same_sequence (alike_of meant a.events) in
       record {
         key = entered entry node;
         value = a.node;
         events = ap (λ z. z ++ y.events) (ap (first_entering entry) e ∙ entered_events entry node) ∙ ap (λ z. flat (entered entry node) ++ z) a.events;
-        on = λ c. record { entry = entry; is = entry_is entry node; column = c };
-        free = λ f. record { entry = entry; is = entry_is entry node; none = none };
+        on = λ c. record { entry = entry; is = entered_standing entry node; column = c };
+        free = λ f. record { entry = entry; is = entered_standing entry node; none = none };
         marked = λ f. absurd (true≢false (sym yes ∙ f));
         set = λ c. set_line (blockless_entered entry node (blockless node (subst (λ z. AllFlow z) e b.all)));
         value_set = λ c. subst (λ z. SetAt t s (if z then value_entries s m a.node else m + s.indent) (m + s.indent) a.node) (sym yes)

@@ -16,6 +16,7 @@ use Rattle.yf_props.specs.Written.{props_at, props_bytes}
 use Rattle.yf_events.specs.Tree.{Node, scalar, alias, sequence, mapping, no_items, item, no_pairs, pair, props_of}
 use Rattle.yf_grammar.proofs.WrittenTexts.LeafBack.{propertied}
 use Rattle.yf_grammar.proofs.NodesInText.NodePlaces.{content_alone}
+use Rattle.yf_stream.proofs.Uniqueness.OneDirective.{ascii_ns}
 use Rattle.yf_forms.specs.declared.style.Style.{Style}
 use Rattle.yf_forms.specs.Nodes.ContentStart.{content_start}
 use Rattle.yf_emit.specs.Layouts.ReadableTrees.{FitProps, no_fit_props, some_fit_props}
@@ -25,7 +26,6 @@ use Rattle.yf_emit.proofs.Columns.FlowHeads.{is_bracketed}
 use Rattle.yf_emit.proofs.RowNodes.FoundNodes.{NodeText}
 use Rattle.yf_emit.proofs.Writable.LeafFits.{props_before}
 use Rattle.yf_emit.proofs.Columns.LinePlaces.{OnLine, on_more}
-use Rattle.yf_emit.proofs.OutputLines.SeenTexts.{ascii_ns}
 use Rattle.yf_emit.proofs.Columns.WrittenNodes.{WrittenAt}
 
 -- From bracket to bracket.

@@ -9,7 +9,7 @@ use Rattle.yf_events.specs.declared.event.Span.{Span}
 use Rattle.yf_events.specs.Tree.{NodeOffsets, Node, scalar, alias, sequence, mapping, Items, no_items, item, Pairs, no_pairs, pair, DocumentTree, props_of, standing}
 use Rattle.yf_forms.specs.declared.style.Style.{Style}
 use Rattle.yf_forms.specs.Nodes.ContentStart.{content_start}
-use Rattle.yf_forms.specs.NormalForms.Normal.{LayoutSetting, Spot, inner_spot, key_spot, root_spot, value_spot}
+use Rattle.yf_forms.specs.NormalForms.Normal.{LayoutSetting, Margins, inner_margins, key_margins, root_margins, value_margins}
 use Rattle.yf_forms.specs.Nodes.OneLine.{bare, width, written}
 use Rattle.yf_emit.proofs.Columns.LinePlaces.{OnLine}
 
@@ -24,28 +24,28 @@ pub record WrittenAt (house : Style) (t : List ℕ) (column : ℕ) (x : Node) : 
   pub last : code t (span.end - 1) < 128
 
 mutual
-  pub data WrittenNode (t : List ℕ) (c : LayoutSetting) : Spot → Node → Type 0 where
-    written_scalar : {spot : Spot} {at : NodeOffsets} {props : PropsValue} {style : ScalarStyle} {text : List ℕ} {lines : List (List ℕ)}
-        → WrittenNode t c spot (scalar at props style text lines)
-    written_alias : {spot : Spot} {at : NodeOffsets} {name : List ℕ} → WrittenNode t c spot (alias at name)
-    sequence_on_line : {spot : Spot} {at : NodeOffsets} {props : PropsValue} {xs : Items} → WrittenAt c.style t spot.column (sequence at true props xs)
-        → WrittenNode t c spot (sequence at true props xs)
-    mapping_on_line : {spot : Spot} {at : NodeOffsets} {props : PropsValue} {ps : Pairs} → WrittenAt c.style t spot.column (mapping at true props ps)
-        → WrittenNode t c spot (mapping at true props ps)
-    written_sequence : {spot : Spot} {at : NodeOffsets} {props : PropsValue} {xs : Items} → WrittenItems t c spot.entries xs → WrittenNode t c spot (sequence at false props xs)
-    written_mapping : {spot : Spot} {at : NodeOffsets} {props : PropsValue} {ps : Pairs} → WrittenPairs t c spot.entries ps → WrittenNode t c spot (mapping at false props ps)
+  pub data WrittenNode (t : List ℕ) (c : LayoutSetting) : Margins → Node → Type 0 where
+    written_scalar : {margins : Margins} {at : NodeOffsets} {props : PropsValue} {style : ScalarStyle} {text : List ℕ} {lines : List (List ℕ)}
+        → WrittenNode t c margins (scalar at props style text lines)
+    written_alias : {margins : Margins} {at : NodeOffsets} {name : List ℕ} → WrittenNode t c margins (alias at name)
+    sequence_on_line : {margins : Margins} {at : NodeOffsets} {props : PropsValue} {xs : Items} → WrittenAt c.style t margins.column (sequence at true props xs)
+        → WrittenNode t c margins (sequence at true props xs)
+    mapping_on_line : {margins : Margins} {at : NodeOffsets} {props : PropsValue} {ps : Pairs} → WrittenAt c.style t margins.column (mapping at true props ps)
+        → WrittenNode t c margins (mapping at true props ps)
+    written_sequence : {margins : Margins} {at : NodeOffsets} {props : PropsValue} {xs : Items} → WrittenItems t c margins.entries xs → WrittenNode t c margins (sequence at false props xs)
+    written_mapping : {margins : Margins} {at : NodeOffsets} {props : PropsValue} {ps : Pairs} → WrittenPairs t c margins.entries ps → WrittenNode t c margins (mapping at false props ps)
 
   -- of entries at that column
   pub data WrittenItems (t : List ℕ) (c : LayoutSetting) : ℕ → Items → Type 0 where
     no_written_items : {m : ℕ} → WrittenItems t c m no_items
-    written_item : {m : ℕ} {x : Node} {xs : Items} → WrittenNode t c (inner_spot c.style m) x → WrittenItems t c m xs → WrittenItems t c m (item x xs)
+    written_item : {m : ℕ} {x : Node} {xs : Items} → WrittenNode t c (inner_margins c.style m) x → WrittenItems t c m xs → WrittenItems t c m (item x xs)
 
   pub data WrittenPairs (t : List ℕ) (c : LayoutSetting) : ℕ → Pairs → Type 0 where
     no_written_pairs : {m : ℕ} → WrittenPairs t c m no_pairs
-    written_pair : {m : ℕ} {k v : Node} {ps : Pairs} → WrittenNode t c (key_spot c.style m k) k → WrittenNode t c (value_spot c m k v) v → WrittenPairs t c m ps
+    written_pair : {m : ℕ} {k v : Node} {ps : Pairs} → WrittenNode t c (key_margins c.style m k) k → WrittenNode t c (value_margins c m k v) v → WrittenPairs t c m ps
         → WrittenPairs t c m (pair k v ps)
 
 -- documents' roots
 pub data WrittenDocuments (t : List ℕ) (c : LayoutSetting) : List DocumentTree → Type 0 where
   no_written_documents : WrittenDocuments t c []
-  written_document : {d : DocumentTree} {ds : List DocumentTree} → WrittenNode t c (root_spot c.style) d.root → WrittenDocuments t c ds → WrittenDocuments t c (d ∷ ds)
+  written_document : {d : DocumentTree} {ds : List DocumentTree} → WrittenNode t c (root_margins c.style) d.root → WrittenDocuments t c ds → WrittenDocuments t c (d ∷ ds)

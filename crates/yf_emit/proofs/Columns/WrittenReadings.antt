@@ -10,7 +10,7 @@ use Rattle.yf_stream.specs.ReadingOf.{ReadingOf}
 use Rattle.yf_forms.specs.declared.style.Style.{Style}
 use Rattle.yf_emit.specs.Layouts.Decorated.{Deco}
 use Rattle.yf_emit.specs.Format.{IsFormatting}
-use Rattle.yf_forms.specs.NormalForms.Normal.{LayoutSetting, root_spot, setting_of}
+use Rattle.yf_forms.specs.NormalForms.Normal.{LayoutSetting, root_margins, setting_of}
 use Rattle.yf_print.specs.Layouts.Rows.{Row}
 use Rattle.yf_emit.proofs.SecondRun.AlikeLemmas.{setting}
 use Rattle.yf_emit.proofs.RowNodes.BareNodes.{bare, bare_tree}
@@ -46,7 +46,7 @@ documents_written {u} {c} {cs} (y ∷ ys) utf8 (one_root {z = z} {zs = zs} {inne
     let quiet = quiet_right heads inner (quiet_left (heads ++ inner) qs q) in
     let linked = linked_right heads inner (linked_left (heads ++ inner) qs l) in
     let lined = lined_right heads inner (lined_left (heads ++ inner) qs a) in
-    written_document (renoted_written y.root root (rows_written c cs utf8 r lined (blocks_found (root_spot c.style) refl h b r quiet linked)))
+    written_document (renoted_written y.root root (rows_written c cs utf8 r lined (blocks_found (root_margins c.style) refl h b r quiet linked)))
     (documents_written ys utf8 others rest hs (quiet_right (heads ++ inner) qs q) (linked_right (heads ++ inner) qs l) (lined_right (heads ++ inner) qs a))
 
 begun_lined : {t : List ℕ} {ps : List PlacedRow} (start : ℕ) → AllLined t (begun_placed start ps) → AllLined t ps
@@ -64,7 +64,7 @@ all_documents_written {u} {c} {cs} (y ∷ ys) utf8 (bare_root {d = d} {z = z} {z
     let quiet = begun_quiet d.start (quiet_left head qs q) in
     let linked = begun_linked d.start (linked_left head qs l) in
     let lined = begun_lined d.start (lined_left head qs a) in
-    written_document (renoted_written y.root root (rows_written c cs utf8 r lined (blocks_found (root_spot c.style) refl h b r quiet linked)))
+    written_document (renoted_written y.root root (rows_written c cs utf8 r lined (blocks_found (root_margins c.style) refl h b r quiet linked)))
     (documents_written ys utf8 others rest hs (quiet_right head qs q) (linked_right head qs l) (lined_right head qs a))
 
 pub reading_written : {t u : List ℕ} {s : Style} {q : Lists} → IsUtf8 t → (f : IsFormatting t s u) → (a : ReadingOf u q) → WrittenDocuments u (setting_of q s) a.trees

@@ -13,11 +13,11 @@ use Rattle.yf_emit.specs.Preservation.AlikeBlocks.{AlikeBlocks, AlikeBlockItems,
 use Rattle.yf_forms.specs.Nodes.ContentStart.{content_start}
 use Rattle.yf_emit.specs.Layouts.Decorated.{Deco, after, inline_then}
 use Rattle.yf_emit.specs.Layouts.ReadableTrees.{is_inline}
-use Rattle.yf_forms.specs.NormalForms.Normal.{LayoutSetting, Spot, inner_spot, is_implicit, key_spot, value_of_implicit, value_spot}
+use Rattle.yf_forms.specs.NormalForms.Normal.{LayoutSetting, Margins, inner_margins, is_implicit, key_margins, value_of_implicit, value_margins}
 use Rattle.yf_forms.specs.Nodes.OneLine.{bare, width, written}
 use Rattle.yf_emit.specs.Layouts.RowShapes.{KeysAgree}
 use Rattle.yf_print.specs.Layouts.Rows.{Row}
-use Rattle.yf_emit.proofs.SecondRun.AlikeLemmas.{same_bare, same_implicit, same_key_spot, same_props, same_value_spot, same_written, setting}
+use Rattle.yf_emit.proofs.SecondRun.AlikeLemmas.{same_bare, same_implicit, same_key_margins, same_props, same_value_margins, same_written, setting}
 use Rattle.yf_emit.proofs.RowNodes.BareNodes.{bare as unnoted, bare_comment, bare_items, bare_pairs}
 use Rattle.yf_emit.proofs.Derived.EntriesMade.{Begins, begins}
 use Rattle.yf_emit.proofs.SecondRun.FixedBlocks.{blocks_alike}
@@ -72,7 +72,7 @@ on_row : (house : Style) {t : List ℕ} {m : ℕ} (p : PlacedRow) (y : Node) →
 on_row house p y u e w a f = flow_written house u w f (on_same e refl a)
 
 module _ {t : List ℕ} (c : LayoutSetting) (cs : List CommentValue) (u : IsUtf8 t) where
-  line_written : {spot : Spot} (p : PlacedRow) (y : Node) → is_inline y ≡ true → p.column ≡ spot.column → NodeText c.style t p.from y → OnLine t p.column p.from → WrittenNode t (setting c.style cs) spot y
+  line_written : {margins : Margins} (p : PlacedRow) (y : Node) → is_inline y ≡ true → p.column ≡ margins.column → NodeText c.style t p.from y → OnLine t p.column p.from → WrittenNode t (setting c.style cs) margins y
   line_written p (scalar at props style text lines) i e w a = written_scalar
   line_written p (alias at name) i e w a = written_alias
   line_written p (sequence at true props xs) i e w a = sequence_on_line (on_row c.style p (sequence at true props xs) u e w a refl)
@@ -81,7 +81,7 @@ module _ {t : List ℕ} (c : LayoutSetting) (cs : List CommentValue) (u : IsUtf8
   line_written p (mapping at false props ps) i e w a = absurd (true≢false (sym i))
 
   key_written : (m : ℕ) (p : PlacedRow) (k : Node) → is_implicit c.style m k ≡ true → p.column ≡ m → NodeText c.style t p.from k → OnLine t p.column p.from
-      → WrittenNode t (setting c.style cs) (key_spot c.style m k) k
+      → WrittenNode t (setting c.style cs) (key_margins c.style m k) k
   key_written m p (scalar at props style text lines) i e w a = written_scalar
   key_written m p (alias at name) i e w a = written_alias
   key_written m p (sequence at true props xs) i e w a =
@@ -93,17 +93,17 @@ module _ {t : List ℕ} (c : LayoutSetting) (cs : List CommentValue) (u : IsUtf8
   key_written m p (mapping at false props no_pairs) i e w a = written_mapping no_written_pairs
   key_written m p (mapping at false props (pair k v ps)) i e w a = absurd (true≢false (sym i))
 
-  -- the spot of the value of an implicit key, and of another one
+  -- the margins of the value of an implicit key, and of another one
   value_at : (m : ℕ) {k v l w : Node} → is_implicit c.style m l ≡ true → Alike Anywhere k l → Alike Anywhere v w → KeysAgree c.style c.comments cs k v l w
-      → value_of_implicit c m k v ≡ value_spot (setting c.style cs) m l w
+      → value_of_implicit c m k v ≡ value_margins (setting c.style cs) m l w
   value_at m {k} {v} n a b g =
-      sym (ap (λ z. if z then value_of_implicit c m k v else inner_spot c.style m) (same_implicit c.style m a ∙ n)) ∙ same_value_spot {cs = c.comments} {ds = cs} c.style m a b g
+      sym (ap (λ z. if z then value_of_implicit c m k v else inner_margins c.style m) (same_implicit c.style m a ∙ n)) ∙ same_value_margins {cs = c.comments} {ds = cs} c.style m a b g
 
-  value_after : (m : ℕ) (l w : Node) → is_implicit c.style m l ≡ false → inner_spot c.style m ≡ value_spot (setting c.style cs) m l w
-  value_after m l w n = sym (ap (λ z. if z then value_of_implicit (setting c.style cs) m l w else inner_spot c.style m) n)
+  value_after : (m : ℕ) (l w : Node) → is_implicit c.style m l ≡ false → inner_margins c.style m ≡ value_margins (setting c.style cs) m l w
+  value_after m l w n = sym (ap (λ z. if z then value_of_implicit (setting c.style cs) m l w else inner_margins c.style m) n)
 
   mutual
-    pub rows_written : {spot : Spot} {x y : Node} {ps : List PlacedRow} → NodeRows t c spot x y ps → AllLined t ps → AlikeBlocks c.style c.comments cs x y → WrittenNode t (setting c.style cs) spot y
+    pub rows_written : {margins : Margins} {x y : Node} {ps : List PlacedRow} → NodeRows t c margins x y ps → AllLined t ps → AlikeBlocks c.style c.comments cs x y → WrittenNode t (setting c.style cs) margins y
     rows_written (no_rows e) l a = written_scalar
     rows_written (line_rows {y = y} {p = p} f n g h i st j k e w) (lined_row o l) a = line_written p y f e w o
     rows_written (scalar_rows f n g h i) l a = written_scalar
@@ -120,7 +120,7 @@ module _ {t : List ℕ} (c : LayoutSetting) (cs : List CommentValue) (u : IsUtf8
     pair_written : {m : ℕ} {k v l w : Node} {qs : Pairs} {ps : List PlacedRow} → PairRows t c m k v l w ps → AllLined t ps → AlikeBlocks c.style c.comments cs k l → AlikeBlocks c.style c.comments cs v w
         → KeysAgree c.style c.comments cs k v l w → WrittenPairs t (setting c.style cs) m qs → WrittenPairs t (setting c.style cs) m (pair l w qs)
     pair_written {m} {l = l} {w = w} (explicit_rows {hs = hs} {gs = gs} n r s d f) o a b g more =
-        written_pair (subst (λ z. WrittenNode t (setting c.style cs) z l) (same_key_spot c.style m (blocks_alike a)) (rows_written r (sign_lined s (lined_left hs gs o)) a))
+        written_pair (subst (λ z. WrittenNode t (setting c.style cs) z l) (same_key_margins c.style m (blocks_alike a)) (rows_written r (sign_lined s (lined_left hs gs o)) a))
         (subst (λ z. WrittenNode t (setting c.style cs) z w) (value_after m l w n) (rows_written d (sign_lined f (lined_right hs gs o)) b)) more
     pair_written {m} {l = l} {w = w} (implicit_rows flag q n (key_on {h = h} st j k e column text some) r f) (lined_row o os) a b g more =
         written_pair (key_written m h l n column text o)
@@ -183,7 +183,7 @@ other_comments {cs = cs} k v = record { comment = λ column e. ap is_some (bare_
 
 module _ {t : List ℕ} {s : Style} {cs : List CommentValue} where
   mutual
-    bare_written : {spot : Spot} {y : Node} → WrittenNode t (setting s cs) spot y → WrittenNode t (setting s cs) spot (unnoted y)
+    bare_written : {margins : Margins} {y : Node} → WrittenNode t (setting s cs) margins y → WrittenNode t (setting s cs) margins (unnoted y)
     bare_written written_scalar = written_scalar
     bare_written written_alias = written_alias
     bare_written (sequence_on_line {at = at} {props = props} {xs = xs} a) = sequence_on_line (written_alike s (noted (sequence at true props xs)) refl a)
@@ -198,11 +198,11 @@ module _ {t : List ℕ} {s : Style} {cs : List CommentValue} where
     bare_pairs_written : {m : ℕ} {ps : Pairs} → WrittenPairs t (setting s cs) m ps → WrittenPairs t (setting s cs) m (bare_pairs ps)
     bare_pairs_written no_written_pairs = no_written_pairs
     bare_pairs_written {m} (written_pair {k = k} {v = v} a b more) =
-        written_pair (subst (λ z. WrittenNode t (setting s cs) z (unnoted k)) (same_key_spot s m (noted k)) (bare_written a))
-        (subst (λ z. WrittenNode t (setting s cs) z (unnoted v)) (same_value_spot s m (noted k) (noted v) (same_comments k v)) (bare_written b)) (bare_pairs_written more)
+        written_pair (subst (λ z. WrittenNode t (setting s cs) z (unnoted k)) (same_key_margins s m (noted k)) (bare_written a))
+        (subst (λ z. WrittenNode t (setting s cs) z (unnoted v)) (same_value_margins s m (noted k) (noted v) (same_comments k v)) (bare_written b)) (bare_pairs_written more)
 
   mutual
-    noted_written : {spot : Spot} (z : Node) → WrittenNode t (setting s cs) spot (unnoted z) → WrittenNode t (setting s cs) spot z
+    noted_written : {margins : Margins} (z : Node) → WrittenNode t (setting s cs) margins (unnoted z) → WrittenNode t (setting s cs) margins z
     noted_written (scalar at props style text lines) a = written_scalar
     noted_written (alias at name) a = written_alias
     noted_written (sequence at true props xs) (sequence_on_line a) = sequence_on_line (written_alike s (turned (noted (sequence at true props xs))) refl a)
@@ -217,8 +217,8 @@ module _ {t : List ℕ} {s : Style} {cs : List CommentValue} where
     noted_pairs_written : {m : ℕ} (qs : Pairs) → WrittenPairs t (setting s cs) m (bare_pairs qs) → WrittenPairs t (setting s cs) m qs
     noted_pairs_written no_pairs a = no_written_pairs
     noted_pairs_written {m} (pair k v qs) (written_pair a b more) =
-        written_pair (subst (λ z. WrittenNode t (setting s cs) z k) (same_key_spot s m (turned (noted k))) (noted_written k a))
-        (subst (λ z. WrittenNode t (setting s cs) z v) (same_value_spot s m (turned (noted k)) (turned (noted v)) (other_comments k v)) (noted_written v b)) (noted_pairs_written qs more)
+        written_pair (subst (λ z. WrittenNode t (setting s cs) z k) (same_key_margins s m (turned (noted k))) (noted_written k a))
+        (subst (λ z. WrittenNode t (setting s cs) z v) (same_value_margins s m (turned (noted k)) (turned (noted v)) (other_comments k v)) (noted_written v b)) (noted_pairs_written qs more)
 
-  pub renoted_written : {spot : Spot} {y : Node} (z : Node) → unnoted y ≡ unnoted z → WrittenNode t (setting s cs) spot y → WrittenNode t (setting s cs) spot z
-  renoted_written {spot} z e a = noted_written z (subst (λ w. WrittenNode t (setting s cs) spot w) e (bare_written a))
+  pub renoted_written : {margins : Margins} {y : Node} (z : Node) → unnoted y ≡ unnoted z → WrittenNode t (setting s cs) margins y → WrittenNode t (setting s cs) margins z
+  renoted_written {margins} z e a = noted_written z (subst (λ w. WrittenNode t (setting s cs) margins w) e (bare_written a))

@@ -21,7 +21,7 @@ use Rattle.yf_print.specs.Layouts.BareStart.{begins_bare, has_lead, is_bare, kee
 use Rattle.yf_forms.specs.Passes.Searches.{count_to}
 use Rattle.yf_emit.specs.Layouts.FitDocuments.{FitDocuments, fit_document, FitsBare, fits_bare, fit_no_documents}
 use Rattle.yf_emit.specs.Layouts.ReadableTrees.{Fit}
-use Rattle.yf_forms.specs.NormalForms.Normal.{LayoutSetting, root_spot, setting_of}
+use Rattle.yf_forms.specs.NormalForms.Normal.{LayoutSetting, root_margins, setting_of}
 use Rattle.yf_emit.specs.NormalForms.NormalForm.{NormalForm}
 use Rattle.yf_print.specs.Layouts.Rows.{rows}
 use Rattle.yf_emit.proofs.Derived.BareReadings.{bare_begins, normal_begins, reading_begins}
@@ -171,9 +171,9 @@ form_documents m s f ds a =
           (reading_bare f.utf8 f.text c b f.reads f.is.of_reading (λ e. sym (reading_begins f.reads) ∙ (sym (normal_begins f.is) ∙ bare_begins m s (sym (found_bare m s f) ∙ e)))));
     }
 
-pub rows_some : (c : LayoutSetting) {x : _} → Fit c.style x → is_some (standing x).span ≡ true → rows c (root_spot c.style) x ≡ [] → ⊥
-rows_some c {x} fit some e = by (node_claim c (root_spot c.style) fit) e where
-  by : {rs : List _} → Claim c x (root_spot c.style) rs → rs ≡ [] → ⊥
+pub rows_some : (c : LayoutSetting) {x : _} → Fit c.style x → is_some (standing x).span ≡ true → rows c (root_margins c.style) x ≡ [] → ⊥
+rows_some c {x} fit some e = by (node_claim c (root_margins c.style) fit) e where
+  by : {rs : List _} → Claim c x (root_margins c.style) rs → rs ≡ [] → ⊥
   by (no_row m) e = true≢false (sym some ∙ meant_none 0 (m.meant 0))
   by (some_rows f g m) e = cc
 

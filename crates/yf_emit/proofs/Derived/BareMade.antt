@@ -2,6 +2,7 @@
 use Rattle.std.proofs.Common.{◌≡◌, ◌≢◌, ℕ, ◌+◌, ◌≤◌, pos, Bool, true, false, true≢false, List, [], ◌∷◌, ◌++◌, refl, sym, ap, ◌∙◌, subst, arith, append_assoc, encode_utf8}
 use Rattle.std.specs.Prelude.{is_some, not, ◌-ℤ◌}
 use Rattle.std.proofs.lemmas.List.{map-append}
+use Rattle.std.proofs.lemmas.Bool.{not-false}
 use Rattle.std.specs.Str.{IsUtf8}
 use Rattle.yf_chars.specs.Chain.Chain.{done}
 use Rattle.yf_chars.specs.Class.{is_between, is_printable, is_break_char, is_nb_char, is_ns_char, is_white}
@@ -28,11 +29,11 @@ use Rattle.yf_emit.specs.Layouts.RowComments.{AreDecos, carried_texts, comments_
 use Rattle.yf_emit.specs.Layouts.Decorated.{Deco, first, after, inline_then, lines_then, end_then}
 use Rattle.yf_emit.specs.Layouts.FitDocuments.{DocumentMeant}
 use Rattle.yf_emit.specs.Layouts.ReadableTrees.{Fit}
-use Rattle.yf_forms.specs.NormalForms.Normal.{LayoutSetting, root_spot}
+use Rattle.yf_forms.specs.NormalForms.Normal.{LayoutSetting, root_margins}
 use Rattle.yf_print.specs.Layouts.Rows.{Row, begins_below, begun_at}
 use Rattle.yf_emit.proofs.Derived.LayoutSteps.{Step, a_comment, a_leaf, comment_steps, steps_in}
 use Rattle.yf_emit.proofs.Derived.ClearRows.{AreRowTexts, row_text, IsRowText, place_of_rest, rows_clear}
-use Rattle.yf_emit.proofs.Derived.DocumentsMade.{not_beside, root_stood}
+use Rattle.yf_emit.proofs.Derived.DocumentsMade.{root_stood}
 use Rattle.yf_emit.proofs.RowNodes.FoundNodes.{FoundNode, meant_of}
 use Rattle.yf_emit.proofs.RowNodes.FoundStreams.{AllFound, all_marked, bare_first, begun_placed, FoundBare, FoundDocuments, document_found}
 use Rattle.yf_emit.proofs.OutputLines.HeldLemmas.{BodiesHeld, EventsHeld}
@@ -149,7 +150,7 @@ bare_bodies : (t : List ℕ) (rs : List Row) (ds : List Deco) (r : List ℕ) (s 
 unfolding document_of
 bare_bodies t rs ds r s m a = a
 
-bare_found : {t : List ℕ} {c : LayoutSetting} {x : DocumentTree} {m : Meaning} {ps : List PlacedRow} (s : ℕ) → FoundNode t c (root_spot c.style) x.root m ps → FoundBare t c x (document_of s false [] m) (begun_placed s ps)
+bare_found : {t : List ℕ} {c : LayoutSetting} {x : DocumentTree} {m : Meaning} {ps : List PlacedRow} (s : ℕ) → FoundNode t c (root_margins c.style) x.root m ps → FoundBare t c x (document_of s false [] m) (begun_placed s ps)
 unfolding document_of
 bare_found {ps = ps} s a = record { node = a.node; alike = a.alike; events = a.events; inner = ps; are = refl; rows = a.rows }
 
@@ -160,20 +161,20 @@ pub record BareRow (rs : List Row) : Type 0 where
   pub are : rs ≡ row ∷ others
   pub column : row.column ≡ 0
 
-column_of : (c : LayoutSetting) (x : Node) (y : Row) (b : Bool) → begins_below x ≡ b → (begins_below x ≡ false → y.column ≡ (root_spot c.style).column) → (begins_below x ≡ true → y.column ≡ (root_spot c.style).entries) → y.column ≡ 0
+column_of : (c : LayoutSetting) (x : Node) (y : Row) (b : Bool) → begins_below x ≡ b → (begins_below x ≡ false → y.column ≡ (root_margins c.style).column) → (begins_below x ≡ true → y.column ≡ (root_margins c.style).entries) → y.column ≡ 0
 column_of c x y true e f g = g e
 column_of c x y false e f g = f e
 
 pub bare_row : (c : LayoutSetting) (x : DocumentTree) → is_some (standing x.root).span ≡ true → Fit c.style x.root → BareRow (root_rows c x)
-bare_row c x some fit = by (node_claim c (root_spot c.style) fit) where
-  by : {rs : List Row} → Claim c x.root (root_spot c.style) rs → BareRow rs
+bare_row c x some fit = by (node_claim c (root_margins c.style) fit) where
+  by : {rs : List Row} → Claim c x.root (root_margins c.style) rs → BareRow rs
   by (no_row m) = absurd (true≢false (sym some ∙ meant_none 0 (m.meant 0)))
   by (some_rows {r = y} {rs = ys} f g m) = record { row = y; others = ys; are = refl; column = column_of c x.root y (begins_below x.root) refl f g }
 
 pub bare_made : {t : List ℕ} (c : LayoutSetting) {d : Doc} (x : DocumentTree) (start : ℕ) (ds : List Deco) (r : List ℕ) (q : ℕ) → d.directives ≡ [] → is_some (standing x.root).span ≡ true → Fit c.style x.root → IsUtf8 t → AreDecos ds
     → LineStart t q → Calm (begun_at start (root_rows c x)) ds r → Rest t q (lines_then (begun_at start (root_rows c x)) ds r) → FirstMade t c true d x (begun_at start (root_rows c x)) ds q r
-bare_made {t} c {d} x start ds r q none some fit u a line k w = by (node_claim c (root_spot c.style) fit) (row_texts c (root_spot c.style) (root_deep c) fit) (rows_none c (root_spot c.style) x.root) k w where
-  by : {rs : List Row} → Claim c x.root (root_spot c.style) rs → AreRowTexts rs → NoStarts rs → Calm (begun_at start rs) ds r → Rest t q (lines_then (begun_at start rs) ds r) → FirstMade t c true d x (begun_at start rs) ds q r
+bare_made {t} c {d} x start ds r q none some fit u a line k w = by (node_claim c (root_margins c.style) fit) (row_texts c (root_margins c.style) (root_deep c) fit) (rows_none c (root_margins c.style) x.root) k w where
+  by : {rs : List Row} → Claim c x.root (root_margins c.style) rs → AreRowTexts rs → NoStarts rs → Calm (begun_at start rs) ds r → Rest t q (lines_then (begun_at start rs) ds r) → FirstMade t c true d x (begun_at start rs) ds q r
   by (no_row m) texts_are silent calm v = absurd (true≢false (sym some ∙ meant_none 0 (m.meant 0)))
   by (some_rows {r = y} {rs = ys} f g m) texts_are silent calm v =
       let column : y.column ≡ 0 = column_of c x.root y (begins_below x.root) refl f g in
@@ -181,7 +182,7 @@ bare_made {t} c {d} x start ds r q none some fit u a line k w = by (node_claim c
       let node = m.made (pos 0 -ℤ pos 1) BlockIn ds r (q + y.column) u (root_stood c x.root) a calm spaces.1 in
       let derived : Derives t node.height (BlockNode (pos 0 -ℤ pos 1) BlockIn) q node.place node.meaning =
       subst (λ z. Derives t node.height (BlockNode (pos 0 -ℤ pos 1) BlockIn) q node.place z) (after_nothing node.meaning)
-      (below_at 0 refl refl (λ e. omega arith) (λ e. g (not_beside (begins_below x.root) e)) (from_start line done) line spaces.0 node.at) in
+      (below_at 0 refl refl (λ e. omega arith) (λ e. g (not-false (begins_below x.root) e)) (from_start line done) line spaces.0 node.at) in
       let free = rows_clear {rs = y ∷ ys} ds r u texts_are a v in
       let clear : Clear t q node.place = subst (λ j. Clear t q j) (place_of_rest free.rest node.rest) free.clear in
       let same : q + y.column ≡ q = omega (arith, column) in

@@ -54,7 +54,7 @@ pub feed_follows : {r : List ℕ} → Follows is_after_text (10 ∷ r)
 unfolding is_after_text is_after_name
 feed_follows = byte_follows (omega arith) refl
 
-space_is_after : is_after_text 32 ≡ true
+pub space_is_after : is_after_text 32 ≡ true
 unfolding is_after_text is_after_name
 space_is_after = refl
 

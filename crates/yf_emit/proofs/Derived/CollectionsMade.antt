@@ -18,10 +18,10 @@ use Rattle.yf_grammar.specs.Productions.Meaning.{Meaning, meaning_after, collect
 use Rattle.yf_grammar.specs.Productions.TreesOfMeaning.{tall}
 use Rattle.yf_grammar.proofs.Documents.CommentOrder.{Ascend, end_ascends}
 use Rattle.yf_grammar.proofs.BlockOutcomes.NodesAfter.{properties_after}
-use Rattle.yf_grammar.proofs.NodesInText.MeantLemmas.{texts_after, texts_collection, texts_with_props}
+use Rattle.yf_grammar.proofs.NodesInText.MeantLemmas.{texts_after, texts_collection, texts_with_props, after_comments}
 use Rattle.yf_emit.specs.Layouts.RowComments.{AreDecos, carried_texts, Calm}
 use Rattle.yf_emit.specs.Layouts.Decorated.{Deco, first, after, end_then, lines_then, inline_then}
-use Rattle.yf_forms.specs.NormalForms.Normal.{LayoutSetting, Spot}
+use Rattle.yf_forms.specs.NormalForms.Normal.{LayoutSetting, Margins}
 use Rattle.yf_forms.specs.Nodes.OneLine.{spaced, anchor_text, tag_text, props_text}
 use Rattle.yf_print.specs.Layouts.Rows.{Row, before_node, plain_row, props_row, begins_below}
 use Rattle.yf_forms.specs.Nodes.Lines.{is_empty_text}
@@ -92,10 +92,6 @@ pub comments_with_props : (p : PropsValue) (o : Option ℕ) (i j : ℕ) (x : Mea
 unfolding with_props
 comments_with_props p o i j x = refl
 
-pub comments_after : (cs : List CommentValue) (x : Meaning) → (meaning_after cs x).comments ≡ cs ++ x.comments
-unfolding meaning_after
-comments_after cs x = refl
-
 row_before_rows : {t : List ℕ} {column : ℕ} {row : Row} {rs : List Row} {p : PlacedRow} {ps : List PlacedRow} {ds : List Deco} {i k j : ℕ} {own cs : List CommentValue} {r : List ℕ} → Begins column rs → AtRow row i p
     → EndsRow t row.body (first ds) p own k → Rest t k (lines_then rs (after ds) r) → RowsIn t rs ps (after ds) (k + column) cs j r → RowsIn t (row ∷ rs) (p ∷ ps) ds i (own ++ cs) j r
 row_before_rows {t} {ps = ps} {ds = ds} {k = k} {j = j} {cs = cs} {r = r} (begins {r = y} {rs = ys} e) at end w a =
@@ -103,11 +99,11 @@ row_before_rows {t} {ps = ps} {ds = ds} {k = k} {j = j} {cs = cs} {r = r} (begin
 
 -- A collection without properties.
 
-pub bare_claim : {s : LayoutSetting} {x : Node} {spot : Spot} {es : List Row} {sequence : Bool} {bound : ℕ} {Q : List ℕ → Meaning → List PlacedRow → Type 0} → begins_below x ≡ true → is_sequence x ≡ sequence → tall x ≡ suc bound
-    → ((t : List ℕ) (i j : ℕ) (m : Meaning) (ps : List PlacedRow) → Q t m ps → FoundNode t s spot x (collection sequence false i j m) ps) → EntriesMakes s sequence spot.entries bound Q es → Claim s x spot es
-bare_claim {s} {x} {spot} {es} {sequence} {bound} {Q} below kind high meant e = claim e.starts e where
-  made : {rs : List Row} → EntriesMakes s sequence spot.entries bound Q rs → {t : List ℕ} (n : ℤ) (c : Ctx) (ds : List Deco) (r : List ℕ) (q : ℕ) → IsUtf8 t → Stood s x n c spot → AreDecos ds
-      → Calm rs ds r → Rest t q (inline_then rs ds r) → NodeMade t s n c spot x rs ds q r
+pub bare_claim : {s : LayoutSetting} {x : Node} {margins : Margins} {es : List Row} {sequence : Bool} {bound : ℕ} {Q : List ℕ → Meaning → List PlacedRow → Type 0} → begins_below x ≡ true → is_sequence x ≡ sequence → tall x ≡ suc bound
+    → ((t : List ℕ) (i j : ℕ) (m : Meaning) (ps : List PlacedRow) → Q t m ps → FoundNode t s margins x (collection sequence false i j m) ps) → EntriesMakes s sequence margins.entries bound Q es → Claim s x margins es
+bare_claim {s} {x} {margins} {es} {sequence} {bound} {Q} below kind high meant e = claim e.starts e where
+  made : {rs : List Row} → EntriesMakes s sequence margins.entries bound Q rs → {t : List ℕ} (n : ℤ) (c : Ctx) (ds : List Deco) (r : List ℕ) (q : ℕ) → IsUtf8 t → Stood s x n c margins → AreDecos ds
+      → Calm rs ds r → Rest t q (inline_then rs ds r) → NodeMade t s n c margins x rs ds q r
   made {rs} e {t} n c ds r q u stood a k w =
       let one = e.made ds r q u a k w in
       let low : one.height ≤ bound = one.low in
@@ -115,7 +111,7 @@ bare_claim {s} {x} {spot} {es} {sequence} {bound} {Q} below kind high meant e = 
         height = suc one.height;
         place = one.place;
         meaning = collection sequence false q one.meaning.finish one.meaning;
-        at = entries_at (ap not below) refl refl (subst (λ b. least_column b n c ≤ℤ pos spot.entries) kind stood.least) one.derived;
+        at = entries_at (ap not below) refl refl (subst (λ b. least_column b n c ≤ℤ pos margins.entries) kind stood.least) one.derived;
         low = omega (arith, low, high);
         rest = one.rest;
         start = one.start;
@@ -124,22 +120,22 @@ bare_claim {s} {x} {spot} {es} {sequence} {bound} {Q} below kind high meant e = 
         placed = subst (λ z. RowsIn t rs one.found_rows ds q z one.place r) (sym (comments_collection sequence false q one.meaning.finish one.meaning)) one.placed;
         is = texts_collection sequence false q one.meaning.finish one.meaning ∙ one.is;
         laid = laid_collection sequence false q one.meaning.finish one.meaning one.laid;
-        set = set_collection sequence spot.entries q q one.meaning.finish one.meaning below one.set;
+        set = set_collection sequence margins.entries q q one.meaning.finish one.meaning below one.set;
         held = held_collection sequence false q one.meaning.finish one.meaning rs ds r one.held;
       }
 
-  claim : {rs : List Row} → Begins spot.entries rs → EntriesMakes s sequence spot.entries bound Q rs → Claim s x spot rs
+  claim : {rs : List Row} → Begins margins.entries rs → EntriesMakes s sequence margins.entries bound Q rs → Claim s x margins rs
   claim (begins f) e = some_rows (λ b. absurd (true≢false (sym below ∙ b))) (λ b. f) (record { made = made e })
 
 -- With properties on a line of their own.
 
-module _ {s : LayoutSetting} {x : Node} {spot : Spot} {es : List Row} {sequence : Bool} {bound : ℕ} {Q : List ℕ → Meaning → List PlacedRow → Type 0} {p : PropsValue} (props : IsProps p) (some : p ≢ no_props)
+module _ {s : LayoutSetting} {x : Node} {margins : Margins} {es : List Row} {sequence : Bool} {bound : ℕ} {Q : List ℕ → Meaning → List PlacedRow → Type 0} {p : PropsValue} (props : IsProps p) (some : p ≢ no_props)
     (below : begins_below x ≡ false) (kind : is_sequence x ≡ sequence) (high : tall x ≡ suc bound)
     (meant : (t : List ℕ) (o : Option ℕ) (f g i j : ℕ) (m : Meaning) (h : PlacedRow) (ps : List PlacedRow) → h.items ≡ [] → h.leaves ≡ [] → h.commented ≡ false → Q t m ps
-    → FoundNode t s spot x (with_props p o f g (collection sequence false i j m)) (h ∷ ps))
-    (e : EntriesMakes s sequence spot.entries bound Q es) where
-  propertied_made : {t : List ℕ} (row : Row) → row.text ≡ props_bytes p → row.body ≡ [] → row.items ≡ [] → row.leaves ≡ [] → is_some row.key_comment ≡ false → (n : ℤ) (c : Ctx) (ds : List Deco) (r : List ℕ) (q : ℕ) → IsUtf8 t → Stood s x n c spot
-      → AreDecos ds → Calm (row ∷ es) ds r → Rest t q (inline_then (row ∷ es) ds r) → NodeMade t s n c spot x (row ∷ es) ds q r
+    → FoundNode t s margins x (with_props p o f g (collection sequence false i j m)) (h ∷ ps))
+    (e : EntriesMakes s sequence margins.entries bound Q es) where
+  propertied_made : {t : List ℕ} (row : Row) → row.text ≡ props_bytes p → row.body ≡ [] → row.items ≡ [] → row.leaves ≡ [] → is_some row.key_comment ≡ false → (n : ℤ) (c : Ctx) (ds : List Deco) (r : List ℕ) (q : ℕ) → IsUtf8 t → Stood s x n c margins
+      → AreDecos ds → Calm (row ∷ es) ds r → Rest t q (inline_then (row ∷ es) ds r) → NodeMade t s n c margins x (row ∷ es) ds q r
   propertied_made {t} row text body no_items none key n c ds r q u stood a k w =
       let there : Rest t q (props_bytes p ++ end_then (first ds) [] (lines_then es (after ds) r)) =
       subst (λ l. Rest t q (props_bytes p ++ end_then (first ds) l (lines_then es (after ds) r))) body
@@ -147,30 +143,30 @@ module _ {s : LayoutSetting} {x : Node} {spot : Spot} {es : List Row} {sequence 
       let properties = props_back (n +ℤ pos 1) c (end_then (first ds) [] (lines_then es (after ds) r)) u props some (end_follows (first ds) [] (lines_then es (after ds) r)) (rest_is_at there) in
       let after_props = rest_text (props_bytes p) u (props_line_text props) there in
       let end = row_end (first ds) (lines_then es (after ds) r) u (first_deco a) after_props.rest in
-      let spaces = rest_spaces spot.entries end.place u (subst (λ v. Rest t end.place v) (lines_begin (after ds) r e.starts) end.rest) in
-      let one = e.made (after ds) r (end.place + spot.entries) u (after_decos a) k.1 spaces.1 in
+      let spaces = rest_spaces margins.entries end.place u (subst (λ v. Rest t end.place v) (lines_begin (after ds) r e.starts) end.rest) in
+      let one = e.made (after ds) r (end.place + margins.entries) u (after_decos a) k.1 spaces.1 in
       let low : one.height ≤ bound = one.low in
       let offset : Option ℕ = tag_offset_at q p.anchor p.tag in
       let g : ℕ = q + length (props_bytes p) in
-      let inner : Meaning = collection sequence false (end.place + spot.entries) one.meaning.finish one.meaning in
+      let inner : Meaning = collection sequence false (end.place + margins.entries) one.meaning.finish one.meaning in
       let width : length (props_bytes p) ≡ length row.text = ap length (sym text) in
       let h : PlacedRow = record { items = []; leaves = []; commented = false; column = row.column; from = q; upto = q + length row.text } in
-      let found : FoundNode t s spot x (with_props p offset q g inner) (h ∷ one.found_rows) =
-      meant t offset q g (end.place + spot.entries) one.meaning.finish one.meaning h one.found_rows refl refl refl one.meant in
-      let at = propertied_at {c = c} {p = p} stood.block properties end.end spaces.0 (subst (λ b. least_column b n c ≤ℤ pos spot.entries) kind stood.least) one.derived in
+      let found : FoundNode t s margins x (with_props p offset q g inner) (h ∷ one.found_rows) =
+      meant t offset q g (end.place + margins.entries) one.meaning.finish one.meaning h one.found_rows refl refl refl one.meant in
+      let at = propertied_at {c = c} {p = p} stood.block properties end.end spaces.0 (subst (λ b. least_column b n c ≤ℤ pos margins.entries) kind stood.least) one.derived in
       record {
         height = suc one.height;
         place = one.place;
         meaning = meaning_after end.comments (with_props p offset q g inner);
-        at = subst (λ f. NodeAt t n c spot.entries f (suc one.height) q one.place (meaning_after end.comments (with_props p offset q g inner))) (ap not (sym below)) at;
+        at = subst (λ f. NodeAt t n c margins.entries f (suc one.height) q one.place (meaning_after end.comments (with_props p offset q g inner))) (ap not (sym below)) at;
         low = omega (arith, low, high);
         rest = one.rest;
         start = one.start;
         found_rows = h ∷ one.found_rows;
         meant = found_after end.comments found;
         placed = subst (λ z. RowsIn t (row ∷ es) (h ∷ one.found_rows) ds q z one.place r)
-            (sym (comments_after end.comments (with_props p offset q g inner) ∙ ap (λ z. end.comments ++ z) (comments_with_props p offset q g inner
-            ∙ comments_collection sequence false (end.place + spot.entries) one.meaning.finish one.meaning)))
+            (sym (after_comments end.comments (with_props p offset q g inner) ∙ ap (λ z. end.comments ++ z) (comments_with_props p offset q g inner
+            ∙ comments_collection sequence false (end.place + margins.entries) one.meaning.finish one.meaning)))
             (row_before_rows e.starts (record {
               from = refl;
               order = omega arith;
@@ -187,23 +183,23 @@ module _ {s : LayoutSetting} {x : Node} {spot : Spot} {es : List Row} {sequence 
               tail = after_line body (subst (λ z. LineEnd t (q + z) end.place end.comments) width end.end) no_leaf_to;
             }) end.rest one.placed);
         is = texts_after end.comments (with_props p offset q g inner) ∙ (ap (λ z. z ++ texts (with_props p offset q g inner).comments) end.is
-            ∙ ap (λ z. carried_texts (first ds) ++ z) (texts_with_props p offset q g inner ∙ (texts_collection sequence false (end.place + spot.entries) one.meaning.finish one.meaning ∙ one.is)));
+            ∙ ap (λ z. carried_texts (first ds) ++ z) (texts_with_props p offset q g inner ∙ (texts_collection sequence false (end.place + margins.entries) one.meaning.finish one.meaning ∙ one.is)));
         laid = subst (λ z. MeaningLaid q one.place (meaning_after end.comments (with_props p offset q g inner)) (leaf_steps z ++ (comment_steps (carried_texts (first ds)) ++ steps_in es (after ds)))) (sym none)
             (laid_after (omega arith) (laid_next end.comments (with_props p offset q g inner) (end_ascends end.end) end.is (omega arith)
-            (laid_collection_with p offset q g sequence false (end.place + spot.entries) one.meaning.finish one.meaning one.laid)));
-        set = set_after end.comments (set_propertied sequence p offset q g spot.entries (end.place + spot.entries) (end.place + spot.entries) one.meaning.finish one.meaning (column_start u end.start spaces.0) one.set);
+            (laid_collection_with p offset q g sequence false (end.place + margins.entries) one.meaning.finish one.meaning one.laid)));
+        set = set_after end.comments (set_propertied sequence p offset q g margins.entries (end.place + margins.entries) (end.place + margins.entries) one.meaning.finish one.meaning (column_start u end.start spaces.0) one.set);
         held = held_next end.comments (with_props p offset q g inner) row es ds r body
             (row_ended (first ds) (lines_then es (after ds) r) u (properties_after u properties) (first_deco a) after_props.rest end.end)
-            (held_collection_with p offset q g sequence false (end.place + spot.entries) one.meaning.finish one.meaning es (after ds) r one.held);
+            (held_collection_with p offset q g sequence false (end.place + margins.entries) one.meaning.finish one.meaning es (after ds) r one.held);
       }
 
-  propertied_row : (w : List ℕ) → w ≡ props_bytes p → is_empty_text w ≡ false → Claim s x spot (props_row spot.column w ++ es)
+  propertied_row : (w : List ℕ) → w ≡ props_bytes p → is_empty_text w ≡ false → Claim s x margins (props_row margins.column w ++ es)
   propertied_row [] e f = absurd (true≢false f)
   propertied_row (b ∷ w) text f =
       some_rows (λ z. refl) (λ z. absurd (true≢false (sym z ∙ below))) (record {
         made = λ {t} n c ds r q u stood a k v.
-            propertied_made (record (plain_row spot.column (b ∷ w)) { ending = before_node }) text refl refl refl refl n c ds r q u stood a k v;
+            propertied_made (record (plain_row margins.column (b ∷ w)) { ending = before_node }) text refl refl refl refl n c ds r q u stood a k v;
       })
 
-  pub propertied_claim : Claim s x spot (props_row spot.column (props_text p) ++ es)
+  pub propertied_claim : Claim s x margins (props_row margins.column (props_text p) ++ es)
   propertied_claim = propertied_row (props_text p) (same_props props) (ap is_empty_text (same_props props) ∙ some_props props some)

@@ -1,9 +1,10 @@
 -- A document from its rows: its directives, its `---` and its node.
 use Rattle.std.proofs.Common.{◌≡◌, ℕ, ◌+◌, ◌<◌, ◌≤◌, pos, Bool, true, false, List, [], ◌∷◌, ◌++◌, length, map, slice_range, refl, sym, ap, ◌∙◌, subst, arith, append-nil, length-append}
-use Rattle.std.specs.Prelude.{is_some, ◌-ℤ◌, ◌≤ℤ◌, ◌&&◌, ◌==◌, not}
+use Rattle.std.specs.Prelude.{is_some, ◌-ℤ◌, ◌≤ℤ◌, ◌&&◌, ◌==◌}
 use Rattle.std.specs.Str.{IsUtf8}
 use Rattle.std.proofs.lemmas.Int.{ints}
 use Rattle.std.proofs.lemmas.List.{map-append}
+use Rattle.std.proofs.lemmas.Bool.{not-false}
 use Rattle.yf_chars.specs.declared.context.Ctx.TheVariants.{BlockIn}
 use Rattle.yf_chars.specs.Text.{code}
 use Rattle.yf_lines.specs.Basic.{is_three, LineStart, Clear}
@@ -21,22 +22,21 @@ use Rattle.yf_grammar.specs.Productions.Meaning.{Meaning, meaning_after, noting,
 use Rattle.yf_grammar.specs.Productions.TreesOfMeaning.{tall}
 use Rattle.yf_grammar.proofs.Ends.BlankRuns.{ContentBefore, after_byte}
 use Rattle.yf_grammar.proofs.Documents.CommentOrder.{Ascend, end_ascends}
-use Rattle.yf_grammar.proofs.NodesInText.MeantLemmas.{texts_after, texts_noting, texts_empty}
+use Rattle.yf_grammar.proofs.NodesInText.MeantLemmas.{texts_after, texts_noting, texts_empty, after_comments}
 use Rattle.yf_stream.specs.Stream.{ExplicitNode, DirectiveLines, Directives}
 use Rattle.yf_stream.specs.Stream.ExplicitNode.{marked_node, marked_nothing}
 use Rattle.yf_stream.specs.Stream.DirectiveLines.{last_directive, more_directives}
+use Rattle.yf_stream.proofs.Uniqueness.OneDirective.{ascii_ns}
 use Rattle.yf_emit.specs.Layouts.RowComments.{AreDecos, carried_texts, comments_in, Calm}
 use Rattle.yf_emit.specs.Layouts.Decorated.{Deco, first, after, trails_then, end_then, lines_then}
 use Rattle.yf_emit.specs.Layouts.FitDocuments.{is_apart, FitDirective, FitDirectives, fit_no_directives, fit_directive}
-use Rattle.yf_forms.specs.NormalForms.Normal.{LayoutSetting, root_spot}
+use Rattle.yf_forms.specs.NormalForms.Normal.{LayoutSetting, root_margins}
 use Rattle.yf_print.specs.Layouts.Rows.{Row, directive_row, joined_words, begins_below}
 use Rattle.yf_emit.proofs.Derived.LayoutSteps.{leaf_steps, comment_steps, steps_in}
 use Rattle.yf_emit.proofs.Derived.ClearRows.{AreRowTexts, rows_clear_after, place_of_rest}
 use Rattle.yf_emit.proofs.OutputLines.DirectiveEnds.{directive_seen}
 use Rattle.yf_emit.proofs.OutputLines.HeldLemmas.{EventsHeld, Held, bare_row, empty_silent, held_next, held_line, row_ended}
-use Rattle.yf_emit.proofs.OutputLines.SeenTexts.{ascii_ns}
 use Rattle.yf_emit.proofs.OutputLines.WellSet.{set_append}
-use Rattle.yf_emit.proofs.Derived.CollectionsMade.{comments_after}
 use Rattle.yf_emit.proofs.RowNodes.FoundNodes.{FoundNode, found_after, found_noting, found_nothing}
 use Rattle.yf_emit.proofs.Derived.LaidRows.{steps_append, laid_row}
 use Rattle.yf_emit.proofs.Derived.NodePlaces.{below_at}
@@ -65,7 +65,7 @@ pub record ExplicitMade (t : List ℕ) (s : LayoutSetting) (x : Node) (rs : List
   pub unleaved : head.leaves ≡ []
   pub from : head.from ≡ q
   pub inner : List PlacedRow
-  pub meant : FoundNode t s (root_spot s.style) x meaning inner
+  pub meant : FoundNode t s (root_margins s.style) x meaning inner
   pub placed : RowsIn t rs (head ∷ inner) ds q meaning.comments place r
   pub is : texts meaning.comments ≡ comments_in rs ds
   pub laid : MeaningLaid q place meaning (steps_in rs ds)
@@ -118,14 +118,10 @@ root_least : (sequence : Bool) → least_column sequence (pos 0 -ℤ pos 1) Bloc
 root_least true = omega (arith, ints)
 root_least false = omega (arith, ints)
 
-pub root_stood : (s : LayoutSetting) (x : Node) → Stood s x (pos 0 -ℤ pos 1) BlockIn (root_spot s.style)
+pub root_stood : (s : LayoutSetting) (x : Node) → Stood s x (pos 0 -ℤ pos 1) BlockIn (root_margins s.style)
 root_stood s x = record { block = refl; least = root_least (is_sequence x); lines = omega arith }
 
-pub not_beside : (b : Bool) → not b ≡ false → b ≡ true
-not_beside true e = refl
-not_beside false e = sym e
-
-pub explicit_made : {t : List ℕ} {s : LayoutSetting} {x : Node} {rs : List Row} (row : Row) (ds : List Deco) (r : List ℕ) (q : ℕ) → row.leaves ≡ [] → row.body ≡ [] → row.column ≡ 0 → length row.text ≡ 3 → is_some row.key_comment ≡ false → Claim s x (root_spot s.style) rs → AreRowTexts rs → IsUtf8 t → AreDecos ds → Calm rs (after ds) r
+pub explicit_made : {t : List ℕ} {s : LayoutSetting} {x : Node} {rs : List Row} (row : Row) (ds : List Deco) (r : List ℕ) (q : ℕ) → row.leaves ≡ [] → row.body ≡ [] → row.column ≡ 0 → length row.text ≡ 3 → is_some row.key_comment ≡ false → Claim s x (root_margins s.style) rs → AreRowTexts rs → IsUtf8 t → AreDecos ds → Calm rs (after ds) r
     → Rest t q (45 ∷ 45 ∷ 45 ∷ end_then (first ds) [] (lines_then rs (after ds) r)) → ExplicitMade t s x (row ∷ rs) ds q r
 explicit_made {t} {s} {x} row ds r q none bare column width key (no_row m) free u a k w =
     let mark = three_at 45 u (omega arith) (omega arith) w in
@@ -158,7 +154,7 @@ explicit_made {t} {s} {x} row ds r q none bare column width key (some_rows {r = 
     let spaces = rest_spaces y.column end.place u end.rest in
     let node = m.made (pos 0 -ℤ pos 1) BlockIn (after ds) r (end.place + y.column) u (root_stood s x) (after_decos a) k spaces.1 in
     let derived : Derives t node.height (BlockNode (pos 0 -ℤ pos 1) BlockIn) (q + 3) node.place (meaning_after end.comments node.meaning) =
-    below_at 0 refl refl (λ e. omega arith) (λ e. g (not_beside (begins_below x) e)) end.end end.start spaces.0 node.at in
+    below_at 0 refl refl (λ e. omega arith) (λ e. g (not-false (begins_below x) e)) end.end end.start spaces.0 node.at in
     let free = rows_clear_after (45 ∷ 45 ∷ 45 ∷ []) 3 ds r u dashes_line (omega arith) lines a w in
     let clear : Clear t (q + 3) node.place = subst (λ j. Clear t (q + 3) j) (place_of_rest free.rest node.rest) free.clear in
     record {
@@ -175,7 +171,7 @@ explicit_made {t} {s} {x} row ds r q none bare column width key (some_rows {r = 
       from = refl;
       inner = node.found_rows;
       meant = found_after end.comments node.meant;
-      placed = subst (λ v. RowsIn t (row ∷ y ∷ ys) (mark_row q ∷ node.found_rows) ds q v node.place r) (sym (comments_after end.comments node.meaning))
+      placed = subst (λ v. RowsIn t (row ∷ y ∷ ys) (mark_row q ∷ node.found_rows) ds q v node.place r) (sym (after_comments end.comments node.meaning))
           (row_before (mark_is_at q column width key) (record { ascend = end_ascends end.end; is = end.is; start = end.start; tail = after_line bare end.end no_leaf_to }) end.rest node.placed);
       is = texts_after end.comments node.meaning ∙ (ap (λ z. z ++ texts node.meaning.comments) end.is ∙ ap (λ z. carried_texts (first ds) ++ z) node.is);
       laid = subst (λ z. MeaningLaid q node.place (meaning_after end.comments node.meaning) (leaf_steps z ++ (comment_steps (carried_texts (first ds)) ++ steps_in (y ∷ ys) (after ds)))) (sym none)

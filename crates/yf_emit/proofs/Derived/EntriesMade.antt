@@ -17,7 +17,7 @@ use Rattle.yf_grammar.specs.Productions.TreesOfMeaning.{tall}
 use Rattle.yf_grammar.proofs.NodesInText.MeantLemmas.{texts_entering, texts_both}
 use Rattle.yf_emit.specs.Layouts.RowComments.{AreDecos, comments_in, Calm}
 use Rattle.yf_emit.specs.Layouts.Decorated.{Deco, past, lines_then, inline_then}
-use Rattle.yf_forms.specs.NormalForms.Normal.{LayoutSetting, Spot, inner_spot, is_implicit, key_spot}
+use Rattle.yf_forms.specs.NormalForms.Normal.{LayoutSetting, Margins, inner_margins, is_implicit, key_margins}
 use Rattle.yf_print.specs.Layouts.Rows.{Row, joined}
 use Rattle.yf_emit.proofs.Derived.LayoutSteps.{steps_in}
 use Rattle.yf_emit.proofs.Derived.DecoratedLemmas.{inline_append}
@@ -92,7 +92,7 @@ inline_more : {column : ℕ} {rs : List Row} (more : List Row) (ds : List Deco) 
     → inline_then (rs ++ more) ds r ≡ inline_then rs ds (lines_then more (past rs ds) r)
 inline_more more ds r (begins {r = x} {rs = xs} e) = inline_append x xs more ds r
 
-pub sign_begins : {s : LayoutSetting} {x : Node} {spot : Spot} {rs : List Row} (column sign : ℕ) (offsets items : List ℕ) (blank : Bool) (n : ℕ) → Claim s x spot rs
+pub sign_begins : {s : LayoutSetting} {x : Node} {margins : Margins} {rs : List Row} (column sign : ℕ) (offsets items : List ℕ) (blank : Bool) (n : ℕ) → Claim s x margins rs
     → Begins column (joined (sign_row column sign offsets items blank) n rs)
 sign_begins column sign offsets items blank n (no_row m) = begins refl
 sign_begins column sign offsets items blank n (some_rows f g m) = begins refl
@@ -178,10 +178,10 @@ no_ns t i e = ⊎_elim (λ (z : code t i ≡ 32). ap is_ns_char z ∙ space_no_n
 ends_white : (t : List ℕ) (i : ℕ) → (code t i ≡ 32) ⊎ (code t i ≡ 10) → is_white_or_end (code t i) ≡ true
 ends_white t i e = ⊎_elim (λ (z : code t i ≡ 32). ap is_white_or_end z ∙ space_ends) (λ (z : code t i ≡ 10). ap is_white_or_end z ∙ ends_at_lf) e
 
-pub item_makes : {s : LayoutSetting} {x : Node} {spot : Spot} {rs : List Row} (column : ℕ) (items : List ℕ) (blank : Bool) → 2 ≤ s.style.indent → spot ≡ inner_spot s.style column
-    → Stood s x (pos column) BlockIn spot → Claim s x spot rs
+pub item_makes : {s : LayoutSetting} {x : Node} {margins : Margins} {rs : List Row} (column : ℕ) (items : List ℕ) (blank : Bool) → 2 ≤ s.style.indent → margins ≡ inner_margins s.style column
+    → Stood s x (pos column) BlockIn margins → Claim s x margins rs
     → EntryMakes s true column (tall x) (λ t m ps. FoundItem t s column x m ps) (joined (sign_row column 45 items items blank) (s.style.indent - 1) rs)
-item_makes {s} {x} {spot} {rs} column items blank wide e stood k = record { starts = sign_begins column 45 items items blank (s.style.indent - 1) k; made = made } where
+item_makes {s} {x} {margins} {rs} column items blank wide e stood k = record { starts = sign_begins column 45 items items blank (s.style.indent - 1) k; made = made } where
   made : {t : List ℕ} (ds : List Deco) (r : List ℕ) (q : ℕ) → IsUtf8 t → AreDecos ds → Calm (joined (sign_row column 45 items items blank) (s.style.indent - 1) rs) ds r
       → Rest t q (inline_then (joined (sign_row column 45 items items blank) (s.style.indent - 1) rs) ds r)
       → EntryMade s true column (tall x) (λ t m ps. FoundItem t s column x m ps) t (joined (sign_row column 45 items items blank) (s.style.indent - 1) rs) ds q r
@@ -205,8 +205,8 @@ item_makes {s} {x} {spot} {rs} column items blank wide e stood k = record { star
       }
 
 -- A pair after its `?`, with the value after a `:` on a line of its own.
-pub explicit_makes : {s : LayoutSetting} {k v : Node} {at to : Spot} {rs ls : List Row} (column : ℕ) (items : List ℕ) (blank : Bool) (places : List ℕ) → is_implicit s.style column k ≡ false → 2 ≤ s.style.indent
-    → at ≡ key_spot s.style column k → to ≡ inner_spot s.style column → Stood s k (pos column) BlockOut at → Stood s v (pos column) BlockOut to → Claim s k at rs → Claim s v to ls
+pub explicit_makes : {s : LayoutSetting} {k v : Node} {at to : Margins} {rs ls : List Row} (column : ℕ) (items : List ℕ) (blank : Bool) (places : List ℕ) → is_implicit s.style column k ≡ false → 2 ≤ s.style.indent
+    → at ≡ key_margins s.style column k → to ≡ inner_margins s.style column → Stood s k (pos column) BlockOut at → Stood s v (pos column) BlockOut to → Claim s k at rs → Claim s v to ls
     → EntryMakes s false column (max (tall k) (tall v)) (λ t m ps. FoundPair t s column k v m ps)
     (joined (sign_row column 63 items items blank) (s.style.indent - 1) rs ++ joined (sign_row column 58 items places false) (s.style.indent - 1) ls)
 explicit_makes {s} {k} {v} {at} {to} {rs} {ls} column items blank places marked wide e f stood is_there a b = record {
@@ -216,7 +216,7 @@ explicit_makes {s} {k} {v} {at} {to} {rs} {ls} column items blank places marked 
   keys : List Row
   keys = joined (sign_row column 63 items items blank) (s.style.indent - 1) rs
 
-  after_question : (key_spot s.style column k).column ≡ column + s.style.indent
+  after_question : (key_margins s.style column k).column ≡ column + s.style.indent
   after_question = ap (λ z. if z then column else column + s.style.indent) marked
 
   values : List Row

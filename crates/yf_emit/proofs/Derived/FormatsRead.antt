@@ -31,7 +31,7 @@ use Rattle.yf_emit.specs.Layouts.FitDocuments.{FitDocuments, DocumentMeant, Docu
 use Rattle.yf_emit.specs.Format.{IsFormatting}
 use Rattle.yf_emit.specs.FormatLaws.{WellFormed, FormatsAreWellFormed}
 use Rattle.yf_emit.proofs.Derived.LayoutLaws.{StreamMade, printed_comments}
-use Rattle.yf_forms.specs.NormalForms.Normal.{LayoutSetting, Spot, fits, settled, settled_items, settled_pairs, styled, styled_items, styled_pairs, inner_spot, key_spot, value_spot, root_spot, normal_document, setting_of}
+use Rattle.yf_forms.specs.NormalForms.Normal.{LayoutSetting, Margins, fits, settled, settled_items, settled_pairs, styled, styled_items, styled_pairs, inner_margins, key_margins, value_margins, root_margins, normal_document, setting_of}
 use Rattle.yf_forms.specs.NormalForms.Restyled.{SameButStyles, none_left, one_more, restyled_event}
 use Rattle.yf_emit.proofs.Derived.LayoutSteps.{comment_steps, steps_of}
 use Rattle.yf_emit.proofs.Writable.CommentsFit.{reading_remarks}
@@ -91,31 +91,31 @@ either_tall x y true e f = e
 either_tall x y false e f = f
 
 mutual
-  settled_tall : (c : LayoutSetting) (spot : Spot) (x : Node) → tall (settled c spot x) ≡ tall x
-  settled_tall c spot (scalar at props style text lines) = refl
-  settled_tall c spot (alias at name) = refl
-  settled_tall c spot (sequence at flow props no_items) = refl
-  settled_tall c spot (sequence at flow props (item x xs)) =
-      either_tall (sequence at flow props (item x xs)) (sequence at false props (item (settled c (inner_spot c.style spot.entries) x) (settled_items c spot.entries xs)))
-      (flow && fits c.style spot.column (sequence at flow props (item x xs))) refl
-      (ap suc (two_tall (settled_tall c (inner_spot c.style spot.entries) x) (settled_items_tall c spot.entries xs)))
-  settled_tall c spot (mapping at flow props no_pairs) = refl
-  settled_tall c spot (mapping at flow props (pair k v ps)) =
+  settled_tall : (c : LayoutSetting) (margins : Margins) (x : Node) → tall (settled c margins x) ≡ tall x
+  settled_tall c margins (scalar at props style text lines) = refl
+  settled_tall c margins (alias at name) = refl
+  settled_tall c margins (sequence at flow props no_items) = refl
+  settled_tall c margins (sequence at flow props (item x xs)) =
+      either_tall (sequence at flow props (item x xs)) (sequence at false props (item (settled c (inner_margins c.style margins.entries) x) (settled_items c margins.entries xs)))
+      (flow && fits c.style margins.column (sequence at flow props (item x xs))) refl
+      (ap suc (two_tall (settled_tall c (inner_margins c.style margins.entries) x) (settled_items_tall c margins.entries xs)))
+  settled_tall c margins (mapping at flow props no_pairs) = refl
+  settled_tall c margins (mapping at flow props (pair k v ps)) =
       either_tall (mapping at flow props (pair k v ps))
-      (mapping at false props (pair (settled c (key_spot c.style spot.entries k) k) (settled c (value_spot c spot.entries k v) v) (settled_pairs c spot.entries ps)))
-      (flow && fits c.style spot.column (mapping at flow props (pair k v ps))) refl
-      (ap suc (two_tall (two_tall (settled_tall c (key_spot c.style spot.entries k) k) (settled_tall c (value_spot c spot.entries k v) v)) (settled_pairs_tall c spot.entries ps)))
+      (mapping at false props (pair (settled c (key_margins c.style margins.entries k) k) (settled c (value_margins c margins.entries k v) v) (settled_pairs c margins.entries ps)))
+      (flow && fits c.style margins.column (mapping at flow props (pair k v ps))) refl
+      (ap suc (two_tall (two_tall (settled_tall c (key_margins c.style margins.entries k) k) (settled_tall c (value_margins c margins.entries k v) v)) (settled_pairs_tall c margins.entries ps)))
 
   settled_items_tall : (c : LayoutSetting) (column : ℕ) (xs : Items) → tall_items (settled_items c column xs) ≡ tall_items xs
   settled_items_tall c column no_items = refl
-  settled_items_tall c column (item x xs) = two_tall (settled_tall c (inner_spot c.style column) x) (settled_items_tall c column xs)
+  settled_items_tall c column (item x xs) = two_tall (settled_tall c (inner_margins c.style column) x) (settled_items_tall c column xs)
 
   settled_pairs_tall : (c : LayoutSetting) (column : ℕ) (ps : Pairs) → tall_pairs (settled_pairs c column ps) ≡ tall_pairs ps
   settled_pairs_tall c column no_pairs = refl
-  settled_pairs_tall c column (pair k v ps) = two_tall (two_tall (settled_tall c (key_spot c.style column k) k) (settled_tall c (value_spot c column k v) v)) (settled_pairs_tall c column ps)
+  settled_pairs_tall c column (pair k v ps) = two_tall (two_tall (settled_tall c (key_margins c.style column k) k) (settled_tall c (value_margins c column k v) v)) (settled_pairs_tall c column ps)
 
 pub root_tall : (t : List ℕ) (c : LayoutSetting) (d : DocumentTree) → tall (normal_document t c d).root ≡ tall d.root
-root_tall t c d = settled_tall c (root_spot c.style) (styled t c d.root) ∙ styled_tall t c d.root
+root_tall t c d = settled_tall c (root_margins c.style) (styled t c d.root) ∙ styled_tall t c d.root
 
 -- Signs: neither do they change what the rules ask of an event.
 

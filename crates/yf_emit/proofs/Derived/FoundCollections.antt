@@ -7,7 +7,7 @@ use Rattle.yf_events.specs.Event.{sequence_starts, sequence_ends, mapping_starts
 use Rattle.yf_events.specs.Tree.{NodeOffsets, sequence, mapping, Items, Pairs, is_block_collection, placed, unplaced}
 use Rattle.yf_grammar.specs.Productions.Meaning.{Meaning, collection, from_to, plain_event, with_props}
 use Rattle.yf_grammar.specs.Productions.TreesOfMeaning.{Anywhere}
-use Rattle.yf_forms.specs.NormalForms.Normal.{LayoutSetting, Spot}
+use Rattle.yf_forms.specs.NormalForms.Normal.{LayoutSetting, Margins}
 use Rattle.yf_forms.specs.Nodes.OneLine.{props_text}
 use Rattle.yf_forms.specs.Nodes.Lines.{is_empty_text}
 use Rattle.yf_emit.proofs.SecondRun.AlikeLemmas.{same_block}
@@ -17,9 +17,9 @@ use Rattle.yf_emit.proofs.RowNodes.PlacedRows.{PlacedRow}
 abbrev spanned : ℕ → ℕ → Option ℕ → NodeOffsets
 spanned i j o = record { span = from_to i j; tag_offset = o; entry = None }
 
-module _ {t : List ℕ} {s : LayoutSetting} {spot : Spot} where
-  pub found_sequence : {at : NodeOffsets} {xs : Items} {meaning : Meaning} {ps : List PlacedRow} (i j : ℕ) → is_some at.span ≡ true → is_block_collection (sequence at false no_props xs) ≡ true → FoundItems t s spot.entries xs meaning ps
-      → FoundNode t s spot (sequence at false no_props xs) (collection true false i j meaning) ps
+module _ {t : List ℕ} {s : LayoutSetting} {margins : Margins} where
+  pub found_sequence : {at : NodeOffsets} {xs : Items} {meaning : Meaning} {ps : List PlacedRow} (i j : ℕ) → is_some at.span ≡ true → is_block_collection (sequence at false no_props xs) ≡ true → FoundItems t s margins.entries xs meaning ps
+      → FoundNode t s margins (sequence at false no_props xs) (collection true false i j meaning) ps
   unfolding collection plain_event from_to
   found_sequence {at = at} {xs = xs} i j e n a = record {
     node = sequence (spanned i j None) false no_props a.items;
@@ -29,8 +29,8 @@ module _ {t : List ℕ} {s : LayoutSetting} {spot : Spot} where
     rows = sequence_rows (sym (same_block {K = Anywhere} {x = sequence at false no_props xs} {y = sequence (spanned i j None) false no_props a.items} (alike_sequences e a.alike)) ∙ n) refl a.rows;
   }
 
-  pub found_mapping : {at : NodeOffsets} {xs : Pairs} {meaning : Meaning} {ps : List PlacedRow} (i j : ℕ) → is_some at.span ≡ true → is_block_collection (mapping at false no_props xs) ≡ true → FoundPairs t s spot.entries xs meaning ps
-      → FoundNode t s spot (mapping at false no_props xs) (collection false false i j meaning) ps
+  pub found_mapping : {at : NodeOffsets} {xs : Pairs} {meaning : Meaning} {ps : List PlacedRow} (i j : ℕ) → is_some at.span ≡ true → is_block_collection (mapping at false no_props xs) ≡ true → FoundPairs t s margins.entries xs meaning ps
+      → FoundNode t s margins (mapping at false no_props xs) (collection false false i j meaning) ps
   unfolding collection plain_event from_to
   found_mapping {at = at} {xs = xs} i j e n a = record {
     node = mapping (spanned i j None) false no_props a.pairs;
@@ -41,8 +41,8 @@ module _ {t : List ℕ} {s : LayoutSetting} {spot : Spot} where
   }
 
   pub found_sequence_with : {at : NodeOffsets} {xs : Items} {meaning : Meaning} {h : PlacedRow} {ps : List PlacedRow} (p : PropsValue) (o : Option ℕ) (f g i j : ℕ) → is_some at.span ≡ true
-      → is_block_collection (sequence at false p xs) ≡ true → is_empty_text (props_text p) ≡ false → h.items ≡ [] → h.leaves ≡ [] → h.commented ≡ false → FoundItems t s spot.entries xs meaning ps
-      → FoundNode t s spot (sequence at false p xs) (with_props p o f g (collection true false i j meaning)) (h ∷ ps)
+      → is_block_collection (sequence at false p xs) ≡ true → is_empty_text (props_text p) ≡ false → h.items ≡ [] → h.leaves ≡ [] → h.commented ≡ false → FoundItems t s margins.entries xs meaning ps
+      → FoundNode t s margins (sequence at false p xs) (with_props p o f g (collection true false i j meaning)) (h ∷ ps)
   unfolding collection plain_event from_to with_props
   found_sequence_with {at = at} {xs = xs} p o f g i j e b n k l c a = record {
     node = sequence (spanned f j o) false p a.items;
@@ -53,8 +53,8 @@ module _ {t : List ℕ} {s : LayoutSetting} {spot : Spot} where
   }
 
   pub found_mapping_with : {at : NodeOffsets} {xs : Pairs} {meaning : Meaning} {h : PlacedRow} {ps : List PlacedRow} (p : PropsValue) (o : Option ℕ) (f g i j : ℕ) → is_some at.span ≡ true
-      → is_block_collection (mapping at false p xs) ≡ true → is_empty_text (props_text p) ≡ false → h.items ≡ [] → h.leaves ≡ [] → h.commented ≡ false → FoundPairs t s spot.entries xs meaning ps
-      → FoundNode t s spot (mapping at false p xs) (with_props p o f g (collection false false i j meaning)) (h ∷ ps)
+      → is_block_collection (mapping at false p xs) ≡ true → is_empty_text (props_text p) ≡ false → h.items ≡ [] → h.leaves ≡ [] → h.commented ≡ false → FoundPairs t s margins.entries xs meaning ps
+      → FoundNode t s margins (mapping at false p xs) (with_props p o f g (collection false false i j meaning)) (h ∷ ps)
   unfolding collection plain_event from_to with_props
   found_mapping_with {at = at} {xs = xs} p o f g i j e b n k l c a = record {
     node = mapping (spanned f j o) false p a.pairs;

@@ -16,7 +16,7 @@ use Rattle.yf_grammar.proofs.WrittenTexts.LeafBack.{any_follow, space_follows}
 use Rattle.yf_grammar.proofs.WrittenTexts.PairsBack.{key_back, key_apart_back}
 use Rattle.yf_forms.specs.declared.style.Style.{Style}
 use Rattle.yf_emit.specs.Layouts.ReadableTrees.{LineNode, ColonFits, colon_at_once, colon_apart}
-use Rattle.yf_forms.specs.NormalForms.Normal.{LayoutSetting, Spot, key_comment, value_of_implicit}
+use Rattle.yf_forms.specs.NormalForms.Normal.{LayoutSetting, Margins, key_comment, value_of_implicit}
 use Rattle.yf_forms.specs.Nodes.OneLine.{width, written, colon_after}
 use Rattle.yf_emit.proofs.Columns.LinePlaces.{OnLine, on_more, on_same}
 use Rattle.yf_emit.proofs.Texts.LineUtf8.{space_chars, written_utf8}
@@ -66,7 +66,7 @@ over_key i key colon z u a b w e on =
     on_same (omega arith) (let l = length-append key colon in omega (arith, l, e)) second
 
 -- where its value begins
-pub value_right : (s : LayoutSetting) (spot : Spot) (column : ℕ) (k v : Node) (b : Bool) → spot ≡ value_of_implicit s column k v → b ≡ is_some (key_comment s.comments k v) → b ≡ false
-    → spot.column ≡ column + (width (written s.style k) + width (colon_after k)) + 1
-value_right s spot column k v b e flag f =
+pub value_right : (s : LayoutSetting) (margins : Margins) (column : ℕ) (k v : Node) (b : Bool) → margins ≡ value_of_implicit s column k v → b ≡ is_some (key_comment s.comments k v) → b ≡ false
+    → margins.column ≡ column + (width (written s.style k) + width (colon_after k)) + 1
+value_right s margins column k v b e flag f =
     ap (λ z. z.column) e ∙ (ap (λ z. if z then column + s.style.indent else column + width (written s.style k) + width (colon_after k) + 1) (sym flag ∙ f) ∙ omega arith)

@@ -17,23 +17,22 @@ use Rattle.yf_grammar.specs.Productions.TreesOfMeaning.{tall}
 use Rattle.yf_grammar.proofs.Ends.BlankRuns.{ContentBefore, after_byte}
 use Rattle.yf_grammar.proofs.BlockOutcomes.BlockFirst.{key_no_question}
 use Rattle.yf_grammar.proofs.Documents.CommentOrder.{end_ascends}
-use Rattle.yf_grammar.proofs.NodesInText.MeantLemmas.{texts_after, texts_noting, texts_entering, texts_both, texts_empty}
+use Rattle.yf_grammar.proofs.NodesInText.MeantLemmas.{texts_after, texts_noting, texts_entering, texts_both, texts_empty, after_comments}
 use Rattle.yf_grammar.proofs.NodesInText.NodePlaces.{NodeIsAt, is_at_nowhere, node_order, node_upto}
 use Rattle.yf_grammar.proofs.NodesInText.PlacesDerived.{places}
 use Rattle.yf_emit.specs.Layouts.RowComments.{AreDecos, carried_texts, comments_in, Calm}
 use Rattle.yf_emit.specs.Layouts.Decorated.{Deco, first, after, end_then, lines_then, inline_then}
 use Rattle.yf_emit.specs.Layouts.ReadableTrees.{KeyNode}
-use Rattle.yf_forms.specs.NormalForms.Normal.{LayoutSetting, Spot, is_implicit, key_comment, value_entries, value_of_implicit}
+use Rattle.yf_forms.specs.NormalForms.Normal.{LayoutSetting, Margins, is_implicit, key_comment, value_entries, value_of_implicit}
 use Rattle.yf_forms.specs.Nodes.OneLine.{width, written, colon_after}
 use Rattle.yf_print.specs.Layouts.Rows.{Row, Ending, anywhere, before_node, after_key, begins_below, joined, start_of}
 use Rattle.yf_events.specs.declared.event.Span.{Span}
 use Rattle.yf_emit.proofs.Derived.LayoutSteps.{Step, leaf_steps, comment_steps, steps_in}
-use Rattle.yf_emit.proofs.Derived.CollectionsMade.{comments_after}
 use Rattle.yf_emit.proofs.Derived.EntriesMade.{Begins, begins, EntryMade, EntryMakes, comments_both, comments_entering}
 use Rattle.yf_emit.proofs.Columns.FlowEvents.{empty_flow, flow_means}
 use Rattle.yf_emit.proofs.Columns.FlowHeads.{bracketed}
 use Rattle.yf_emit.proofs.RowNodes.FoundLines.{items_inside, leaves_inside, leaves_end, node_text, placed_node}
-use Rattle.yf_emit.proofs.RowNodes.FoundNodes.{FoundNode, FoundPair, HeadAt, head_at, KeyRows, key_commented, key_above, key_alone, key_joined, bare_node, bare_alike, bare_events, bare_escapes, bare_comments, found_after, found_noting, found_nothing, found_implicit, meant_of}
+use Rattle.yf_emit.proofs.RowNodes.FoundNodes.{FoundNode, FoundPair, HeadAt, head_at, KeyRows, key_commented, key_above, key_alone, key_joined, bare_node, bare_alike, bare_events, bare_escapes, found_after, found_noting, found_nothing, found_implicit, meant_of}
 use Rattle.yf_emit.proofs.OutputLines.HeldLemmas.{Held, empty_silent, entering_silent, held_after, held_next, held_joined, held_line, row_ended}
 use Rattle.yf_emit.proofs.Derived.KeyTexts.{colon_line, key_made, key_node, over_key, value_right}
 use Rattle.yf_emit.proofs.Derived.LaidRows.{leaves_apart, laid_row, laid_line}
@@ -42,11 +41,11 @@ use Rattle.yf_emit.proofs.Derived.NodePlaces.{beside_at, below_at}
 use Rattle.yf_emit.proofs.Derived.NodesMade.{Stood, Claim, no_row, some_rows, MeansNothing, noting_nothing}
 use Rattle.yf_emit.proofs.RowNodes.PlacedRows.{never_bare, Inside, none_inside, one_inside, inside_wider, PlacedRow, AtRow, LeavesTo, no_leaf_to, leaves_to_wider, after_line, RowsIn, last_row, row_before, joined_placed, rows_joined}
 use Rattle.yf_emit.proofs.Derived.RowEnds.{row_end, first_deco, after_decos}
-use Rattle.yf_emit.proofs.OutputLines.SeenTexts.{ascii_ns}
 use Rattle.yf_emit.proofs.Columns.SetMeant.{column_start, SetDone, set_done, done_after, done_empty, set_implicit}
 use Rattle.yf_emit.proofs.Columns.SetNodes.{ColumnAt}
 use Rattle.yf_emit.proofs.Derived.StepsInText.{starts_of, MeaningLaid, laid_after, laid_both, laid_next, laid_empty, laid_entering}
 use Rattle.yf_lines.proofs.VisibleLines.{visible_at}
+use Rattle.yf_stream.proofs.Uniqueness.OneDirective.{ascii_ns}
 
 -- the row of a key with its `:`, as it is before its value is known
 abbrev pub key_head : ℕ → List ℕ → List ℕ → List ℕ → List Span → Bool → Row
@@ -89,7 +88,7 @@ after_steps column text offsets items leaves blank None false [] ds = refl
 after_steps column text offsets items leaves blank None false (x ∷ xs) ds = leaves_apart leaves x.leaves (comment_steps (carried_texts (first ds)) ++ steps_in xs (after ds))
 
 -- the `:` at i and the value after it
-record ValueMade (t : List ℕ) (s : LayoutSetting) (spot : Spot) (column : ℕ) (v : Node) (rs : List Row) (ds : List Deco) (q : ℕ) (items : List ℕ) (leaves : List Span) (b below : Bool) (i : ℕ) (r : List ℕ) (steps : List Step) : Type 0 where
+record ValueMade (t : List ℕ) (s : LayoutSetting) (margins : Margins) (column : ℕ) (v : Node) (rs : List Row) (ds : List Deco) (q : ℕ) (items : List ℕ) (leaves : List Span) (b below : Bool) (i : ℕ) (r : List ℕ) (steps : List Step) : Type 0 where
   pub height : ℕ
   pub place : ℕ
   pub meaning : Meaning
@@ -98,11 +97,11 @@ record ValueMade (t : List ℕ) (s : LayoutSetting) (spot : Spot) (column : ℕ)
   pub rest : Rest t place r
   pub start : LineStart t place
   pub inner : List PlacedRow
-  pub meant : FoundNode t s spot v meaning inner
+  pub meant : FoundNode t s margins v meaning inner
   pub is : texts meaning.comments ≡ comments_in rs ds
   pub laid : MeaningLaid i place meaning steps
   pub held : Held t meaning rs ds r
-  pub set : SetDone t s.style spot.entries (column + s.style.indent) meaning.events
+  pub set : SetDone t s.style margins.entries (column + s.style.indent) meaning.events
   pub found_rows : List PlacedRow
   pub head : HeadAt column q (i + 1) found_rows
   pub keyed : KeyRows t items leaves b below inner found_rows
@@ -169,10 +168,10 @@ colon_seen : {t : List ℕ} (i : ℕ) → IsUtf8 t → code t i ≡ 58 → Conte
 colon_seen i u e = after_byte i u e (omega arith) (ascii_ns 58 (omega arith) (omega arith))
 
 -- no value
-value_missing : {t : List ℕ} {v : Node} {q a : ℕ} {items : List ℕ} {ls : List Span} {b below : Bool} (s : LayoutSetting) (spot : Spot) (column : ℕ) (row : Row) (ds : List Deco) (r : List ℕ) {i : ℕ} → row.body ≡ [] → Head column row q i a items ls b
+value_missing : {t : List ℕ} {v : Node} {q a : ℕ} {items : List ℕ} {ls : List Span} {b below : Bool} (s : LayoutSetting) (margins : Margins) (column : ℕ) (row : Row) (ds : List Deco) (r : List ℕ) {i : ℕ} → row.body ≡ [] → Head column row q i a items ls b
     → ((h : PlacedRow) → h.items ≡ a ∷ items → h.leaves ≡ ls → h.commented ≡ b → KeyRows t (a ∷ items) ls b below [] (h ∷ [])) → MeansNothing v → code t i ≡ 58 → IsUtf8 t → AreDecos ds
-    → Rest t (i + 1) (end_then (first ds) [] r) → ValueMade t s spot column v (row ∷ []) ds q (a ∷ items) ls b below i r (comment_steps (carried_texts (first ds)) ++ [])
-value_missing {t} {q = q} {a = h} {items = items} {ls = ls} {b = b} s spot column row ds r {i} bare head keyed m colon u a w =
+    → Rest t (i + 1) (end_then (first ds) [] r) → ValueMade t s margins column v (row ∷ []) ds q (a ∷ items) ls b below i r (comment_steps (carried_texts (first ds)) ++ [])
+value_missing {t} {q = q} {a = h} {items = items} {ls = ls} {b = b} s margins column row ds r {i} bare head keyed m colon u a w =
     let end = row_end (first ds) r u (first_deco a) w in
     record {
       height = 0;
@@ -196,13 +195,13 @@ value_missing {t} {q = q} {a = h} {items = items} {ls = ls} {b = b} s spot colum
     }
 
 -- a value on lines of its own
-value_below : {t : List ℕ} {s : LayoutSetting} {v : Node} {spot : Spot} {rs : List Row} {q a : ℕ} {items : List ℕ} {ls : List Span} {b below : Bool} (column : ℕ) (row : Row) (ds : List Deco) (r : List ℕ) {i : ℕ} → row.body ≡ [] → Head column row q i a items ls b
-    → ((ps : List PlacedRow) (h : PlacedRow) → h.items ≡ a ∷ items → h.leaves ≡ ls → h.commented ≡ b → KeyRows t (a ∷ items) ls b below ps (h ∷ ps)) → Claim s v spot rs
-    → (begins_below v ≡ false → column + 1 ≤ spot.column) → code t i ≡ 58 → IsUtf8 t → Stood s v (pos column) BlockOut spot → AreDecos ds → Calm rs (after ds) r
+value_below : {t : List ℕ} {s : LayoutSetting} {v : Node} {margins : Margins} {rs : List Row} {q a : ℕ} {items : List ℕ} {ls : List Span} {b below : Bool} (column : ℕ) (row : Row) (ds : List Deco) (r : List ℕ) {i : ℕ} → row.body ≡ [] → Head column row q i a items ls b
+    → ((ps : List PlacedRow) (h : PlacedRow) → h.items ≡ a ∷ items → h.leaves ≡ ls → h.commented ≡ b → KeyRows t (a ∷ items) ls b below ps (h ∷ ps)) → Claim s v margins rs
+    → (begins_below v ≡ false → column + 1 ≤ margins.column) → code t i ≡ 58 → IsUtf8 t → Stood s v (pos column) BlockOut margins → AreDecos ds → Calm rs (after ds) r
     → Rest t (i + 1) (end_then (first ds) [] (lines_then rs (after ds) r))
-    → ValueMade t s spot column v (row ∷ rs) ds q (a ∷ items) ls b below i r (comment_steps (carried_texts (first ds)) ++ steps_in rs (after ds))
-value_below {s = s} {spot = spot} column row ds r bare head keyed (no_row m) deep colon u stood a k w = value_missing s spot column row ds r bare head (λ h. keyed [] h) m colon u a w
-value_below {t} {s} {v} {spot} {q = q} {a = h} {items = items} {ls = ls} {b = b} column row ds r {i} bare head keyed (some_rows {r = y} {rs = ys} f g m) deep colon u stood a k w =
+    → ValueMade t s margins column v (row ∷ rs) ds q (a ∷ items) ls b below i r (comment_steps (carried_texts (first ds)) ++ steps_in rs (after ds))
+value_below {s = s} {margins = margins} column row ds r bare head keyed (no_row m) deep colon u stood a k w = value_missing s margins column row ds r bare head (λ h. keyed [] h) m colon u a w
+value_below {t} {s} {v} {margins} {q = q} {a = h} {items = items} {ls = ls} {b = b} column row ds r {i} bare head keyed (some_rows {r = y} {rs = ys} f g m) deep colon u stood a k w =
     let end = row_end (first ds) (lines_then (y ∷ ys) (after ds) r) u (first_deco a) w in
     let there = rest_spaces y.column end.place u end.rest in
     let node = m.made (pos column) BlockOut (after ds) r (end.place + y.column) u stood (after_decos a) k there.1 in
@@ -210,7 +209,7 @@ value_below {t} {s} {v} {spot} {q = q} {a = h} {items = items} {ls = ls} {b = b}
       height = node.height;
       place = node.place;
       meaning = meaning_after end.comments node.meaning;
-      derived = a_block_value colon (below_at (column + 1) refl refl (λ e. let h : y.column ≡ spot.column = f (turned e) in let d : column + 1 ≤ spot.column = deep (turned e) in omega (arith, h, d))
+      derived = a_block_value colon (below_at (column + 1) refl refl (λ e. let h : y.column ≡ margins.column = f (turned e) in let d : column + 1 ≤ margins.column = deep (turned e) in omega (arith, h, d))
           (λ e. g (turned_back e)) end.end end.start there.0 node.at);
       low = node.low;
       rest = node.rest;
@@ -220,7 +219,7 @@ value_below {t} {s} {v} {spot} {q = q} {a = h} {items = items} {ls = ls} {b = b}
       found_rows = head_row column q i h items ls b ∷ node.found_rows;
       head = head_at refl refl (omega arith);
       keyed = keyed node.found_rows (head_row column q i h items ls b) refl refl refl;
-      placed = subst (λ z. RowsIn t (row ∷ y ∷ ys) (head_row column q i h items ls b ∷ node.found_rows) ds q z node.place r) (sym (comments_after end.comments node.meaning))
+      placed = subst (λ z. RowsIn t (row ∷ y ∷ ys) (head_row column q i h items ls b ∷ node.found_rows) ds q z node.place r) (sym (after_comments end.comments node.meaning))
           (row_before (head_is_at head) (record { ascend = end_ascends end.end; is = end.is; start = end.start; tail = after_line bare end.end head.leaves_to }) end.rest node.placed);
       is = texts_after end.comments node.meaning ∙ (ap (λ z. z ++ texts node.meaning.comments) end.is ∙ ap (λ z. carried_texts (first ds) ++ z) node.is);
       laid = laid_after (omega arith) (laid_next end.comments node.meaning (end_ascends end.end) end.is (omega arith) node.laid);
@@ -253,19 +252,19 @@ head_of : {column q i a : ℕ} {text offsets items found : List ℕ} {leaves ls 
     → Head column (record (key_head column text offsets items leaves blank) { key_comment = o; ending = ending }) q i a found ls (is_some o)
 head_of o h = record { is_there = refl; width = h.width; items_stand = h.items_stand; leaves_stand = h.leaves_stand; leaves_to = h.leaves_to; commented = refl }
 
-value_made : {t : List ℕ} {s : LayoutSetting} {v : Node} {spot : Spot} {rs : List Row} {q a : ℕ} {found : List ℕ} {ls : List Span} (column : ℕ) (text offsets items : List ℕ) (leaves : List Span) (blank : Bool) (o : Option CommentValue) (below : Bool)
+value_made : {t : List ℕ} {s : LayoutSetting} {v : Node} {margins : Margins} {rs : List Row} {q a : ℕ} {found : List ℕ} {ls : List Span} (column : ℕ) (text offsets items : List ℕ) (leaves : List Span) (blank : Bool) (o : Option CommentValue) (below : Bool)
     (ds : List Deco) (r : List ℕ) (i wide : ℕ) → AnyHead column text items leaves blank q i a found ls → (OnLine t column q → OnLine t (column + wide) (i + 1))
-    → (is_some o ≡ false → spot.column ≡ column + wide + 1) → Claim s v spot rs → below ≡ begins_below v → (is_some o ≡ true → begins_below v ≡ false → column + 1 ≤ spot.column)
-    → code t i ≡ 58 → IsUtf8 t → Stood s v (pos column) BlockOut spot → AreDecos ds → Calm (after_key (key_head column text offsets items leaves blank) o below rs) ds r
+    → (is_some o ≡ false → margins.column ≡ column + wide + 1) → Claim s v margins rs → below ≡ begins_below v → (is_some o ≡ true → begins_below v ≡ false → column + 1 ≤ margins.column)
+    → code t i ≡ 58 → IsUtf8 t → Stood s v (pos column) BlockOut margins → AreDecos ds → Calm (after_key (key_head column text offsets items leaves blank) o below rs) ds r
     → Rest t (i + 1) (after_then o below rs ds r)
-    → ValueMade t s spot column v (after_key (key_head column text offsets items leaves blank) o below rs) ds q (a ∷ found) ls (is_some o) below i r (steps_after o below rs ds)
+    → ValueMade t s margins column v (after_key (key_head column text offsets items leaves blank) o below rs) ds q (a ∷ found) ls (is_some o) below i r (steps_after o below rs ds)
 value_made {q = q} {a = a} {found = found} {ls = ls} column text offsets items leaves blank (Some c) below ds r i wide head over right v e deep colon u stood k calm w =
     value_below column (record (key_head column text offsets items leaves blank) { key_comment = Some c; ending = before_node }) ds r refl (head_of (Some c) head) (λ ps h x y z. key_commented x y z) v (deep refl) colon u stood k calm.1 w
-value_made {v = v} {spot = spot} column text offsets items leaves blank None true ds r i wide head over right k e deep colon u stood a calm w =
+value_made {v = v} {margins = margins} column text offsets items leaves blank None true ds r i wide head over right k e deep colon u stood a calm w =
     value_below column (record (key_head column text offsets items leaves blank) { key_comment = None; ending = before_node }) ds r refl (head_of None head) (λ ps h x y z. key_above x y z) k (λ f. absurd (true≢false (e ∙ f))) colon u stood a calm.1 w
-value_made {s = s} {spot = spot} column text offsets items leaves blank None false ds r i wide head over right (no_row m) e deep colon u stood a calm w =
-    value_missing s spot column (key_head column text offsets items leaves blank) ds r refl (head_of {ending = anywhere} None head) (λ h x y z. key_alone x y z) m colon u a w
-value_made {t} {s} {v} {spot} {q = q} {a = h} {found = found} {ls = ls} column text offsets items leaves blank None false ds r i wide head over right (some_rows {r = y} {rs = ys} f g m) e deep colon u stood a calm w =
+value_made {s = s} {margins = margins} column text offsets items leaves blank None false ds r i wide head over right (no_row m) e deep colon u stood a calm w =
+    value_missing s margins column (key_head column text offsets items leaves blank) ds r refl (head_of {ending = anywhere} None head) (λ h x y z. key_alone x y z) m colon u a w
+value_made {t} {s} {v} {margins} {q = q} {a = h} {found = found} {ls = ls} column text offsets items leaves blank None false ds r i wide head over right (some_rows {r = y} {rs = ys} f g m) e deep colon u stood a calm w =
     let space = visible_at 32 u (omega arith) (omega arith) w in
     let node = m.made (pos column) BlockOut ds r (i + 1 + 1) u stood a calm space.1 in
     let is_there : y.column ≡ column + wide + 1 = f (sym e) ∙ right refl in
@@ -293,9 +292,9 @@ value_made {t} {s} {v} {spot} {q = q} {a = h} {found = found} {ls = ls} column t
 
 -- A pair with an implicit key.
 
-module _ {s : LayoutSetting} {k v : Node} {spot : Spot} {rs : List Row} (column : ℕ) (offsets items : List ℕ) (leaves : List Span) (blank : Bool) (o : Option CommentValue) (below : Bool)
-    (value : Claim s v spot rs) (same : below ≡ begins_below v) (deep : is_some o ≡ true → begins_below v ≡ false → column + 1 ≤ spot.column) (stood : Stood s v (pos column) BlockOut spot)
-    (is_spot : spot ≡ value_of_implicit s column k v) (implicit : is_implicit s.style column k ≡ true) (flag : is_some o ≡ is_some (key_comment s.comments k v)) where
+module _ {s : LayoutSetting} {k v : Node} {margins : Margins} {rs : List Row} (column : ℕ) (offsets items : List ℕ) (leaves : List Span) (blank : Bool) (o : Option CommentValue) (below : Bool)
+    (value : Claim s v margins rs) (same : below ≡ begins_below v) (deep : is_some o ≡ true → begins_below v ≡ false → column + 1 ≤ margins.column) (stood : Stood s v (pos column) BlockOut margins)
+    (are_margins : margins ≡ value_of_implicit s column k v) (implicit : is_implicit s.style column k ≡ true) (flag : is_some o ≡ is_some (key_comment s.comments k v)) where
   pub keyed_makes : KeyNode s.style k → length leaves ≡ length (leaves_of k) → length (chars (written s.style k)) ≤ 1023
       → EntryMakes s false column (max (tall k) (tall v)) (λ t m ps. FoundPair t s column k v m ps) (after_key (key_head column (written s.style k ++ colon_after k) offsets items leaves blank) o below rs)
   keyed_makes n count l = record { starts = after_begins column (written s.style k ++ colon_after k) offsets items leaves blank o below rs; made = made } where
@@ -316,8 +315,8 @@ module _ {s : LayoutSetting} {k v : Node} {spot : Spot} {rs : List Row} (column 
         let line = n.node.back.line in
         let derived = key_node s.style q (after_then o below rs ds r) (colon_after k) n.node n.colon u shaped in
         let one = value_made column (written s.style k ++ colon_after k) offsets items leaves blank o below ds r key.place (width (written s.style k) + width (colon_after k)) head
-        (λ b. over_key key.place (written s.style k) (colon_after k) (after_then o below rs ds r) u line (colon_line n.colon) shaped key.width b) (λ e. value_right s spot column k v (is_some o) is_spot flag e) value same deep key.colon u stood a calm key.rest in
-        let value_set : SetDone t s.style (value_entries s.style column v) (column + s.style.indent) one.meaning.events = subst (λ z. SetDone t s.style z (column + s.style.indent) one.meaning.events) (ap (λ z. z.entries) is_spot) one.set in
+        (λ b. over_key key.place (written s.style k) (colon_after k) (after_then o below rs ds r) u line (colon_line n.colon) shaped key.width b) (λ e. value_right s margins column k v (is_some o) are_margins flag e) value same deep key.colon u stood a calm key.rest in
+        let value_set : SetDone t s.style (value_entries s.style column v) (column + s.style.indent) one.meaning.events = subst (λ z. SetDone t s.style z (column + s.style.indent) one.meaning.events) (ap (λ z. z.entries) are_margins) one.set in
         let low : n.node.height ≤ tall k = n.node.low in
         let high : one.height ≤ tall v = one.low in
         record {
@@ -331,7 +330,7 @@ module _ {s : LayoutSetting} {k v : Node} {spot : Spot} {rs : List Row} (column 
           found_rows = one.found_rows;
           meant = found_implicit (n.node.mean q) q key.place found (is_some o) flag implicit alike at.events (n.node.meant q).escapes (node_upto at.is_there at.ends)
               (node_text s.style (colon_after k ++ after_then o below rs ds r) alike line shaped (λ f. bracketed found u derived at.events f)) one.head
-              (subst (λ z. FoundNode t s z v one.meaning one.inner) is_spot one.meant) (subst (λ z. KeyRows t (q ∷ items_in found) (leaves_of found) (is_some o) z one.inner one.found_rows) same one.keyed);
+              (subst (λ z. FoundNode t s z v one.meaning one.inner) are_margins one.meant) (subst (λ z. KeyRows t (q ∷ items_in found) (leaves_of found) (is_some o) z one.inner one.found_rows) same one.keyed);
           placed = subst (λ z. RowsIn t (after_key (key_head column (written s.style k ++ colon_after k) offsets items leaves blank) o below rs) one.found_rows ds q z one.place r)
               (sym (comments_both (entering q (Some key.place) (n.node.mean q)) one.meaning
               ∙ ap (λ z. z ++ one.meaning.comments) (comments_entering q (Some key.place) (n.node.mean q) ∙ n.node.silent q))) one.placed;
@@ -358,8 +357,8 @@ module _ {s : LayoutSetting} {k v : Node} {spot : Spot} {rs : List Row} (column 
         let wide : width (written s.style k) + width (colon_after k) ≡ 1 = ap (λ z. width z + width (colon_after k)) said ∙ (ap (λ z. width [] + width z) colon_is ∙ bare_width) in
         let head : AnyHead column (58 ∷ []) items leaves blank q q q [] [] = record { width = refl; items_stand = one_inside (omega arith) (omega arith) none_inside; leaves_stand = none_inside; leaves_to = no_leaf_to } in
         let one = value_made column (58 ∷ []) offsets items leaves blank o below ds r q (width (written s.style k) + width (colon_after k)) head
-        (λ b. on_same (omega (arith, wide)) refl (on_sign 58 (after_then o below rs ds r) u (omega arith) (omega arith) b here)) (λ e. value_right s spot column k v (is_some o) is_spot flag e) value same deep colon.0 u stood a calm colon.1 in
-        let value_set : SetDone t s.style (value_entries s.style column v) (column + s.style.indent) one.meaning.events = subst (λ z. SetDone t s.style z (column + s.style.indent) one.meaning.events) (ap (λ z. z.entries) is_spot) one.set in
+        (λ b. on_same (omega (arith, wide)) refl (on_sign 58 (after_then o below rs ds r) u (omega arith) (omega arith) b here)) (λ e. value_right s margins column k v (is_some o) are_margins flag e) value same deep colon.0 u stood a calm colon.1 in
+        let value_set : SetDone t s.style (value_entries s.style column v) (column + s.style.indent) one.meaning.events = subst (λ z. SetDone t s.style z (column + s.style.indent) one.meaning.events) (ap (λ z. z.entries) are_margins) one.set in
         let high : one.height ≤ tall v = one.low in
         record {
           height = one.height;
@@ -372,9 +371,9 @@ module _ {s : LayoutSetting} {k v : Node} {spot : Spot} {rs : List Row} (column 
           found_rows = one.found_rows;
           meant = found_implicit (empty_node q) q q bare_node (is_some o) flag implicit (bare_alike q (n.meant q)) (bare_events q) (bare_escapes q) (is_at_nowhere (omega arith) refl)
               (record { line = line_nothing; follows = 58 ∷ after_then o below rs ds r; there = here; flow = λ f. absurd (true≢false (sym f)) }) one.head
-              (subst (λ z. FoundNode t s z v one.meaning one.inner) is_spot one.meant) (subst (λ z. KeyRows t (q ∷ []) [] (is_some o) z one.inner one.found_rows) same one.keyed);
+              (subst (λ z. FoundNode t s z v one.meaning one.inner) are_margins one.meant) (subst (λ z. KeyRows t (q ∷ []) [] (is_some o) z one.inner one.found_rows) same one.keyed);
           placed = subst (λ z. RowsIn t (after_key (key_head column (58 ∷ []) offsets items leaves blank) o below rs) one.found_rows ds q z one.place r)
-              (sym (comments_both (entering q (Some q) (empty_node q)) one.meaning ∙ ap (λ z. z ++ one.meaning.comments) (comments_entering q (Some q) (empty_node q) ∙ bare_comments q))) one.placed;
+              (sym (comments_both (entering q (Some q) (empty_node q)) one.meaning ∙ ap (λ z. z ++ one.meaning.comments) (comments_entering q (Some q) (empty_node q) ∙ empty_silent q))) one.placed;
           is = texts_both (entering q (Some q) (empty_node q)) one.meaning
               ∙ (ap (λ z. z ++ texts one.meaning.comments) (texts_entering q (Some q) (empty_node q) ∙ texts_empty q) ∙ one.is);
           laid = subst (λ z. MeaningLaid q one.place (entering q (Some q) (empty_node q) ⊕ one.meaning) z)

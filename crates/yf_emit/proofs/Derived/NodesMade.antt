@@ -25,7 +25,7 @@ use Rattle.yf_grammar.proofs.NodesInText.PlacesDerived.{places}
 use Rattle.yf_emit.specs.Layouts.RowComments.{AreDecos, carried_texts, comments_in, Calm}
 use Rattle.yf_emit.specs.Layouts.Decorated.{Deco, first, after, trails_then, end_then, lines_then, inline_then}
 use Rattle.yf_emit.specs.Layouts.ReadableTrees.{LineNode, is_inline}
-use Rattle.yf_forms.specs.NormalForms.Normal.{LayoutSetting, Spot}
+use Rattle.yf_forms.specs.NormalForms.Normal.{LayoutSetting, Margins}
 use Rattle.yf_forms.specs.Nodes.OneLine.{written}
 use Rattle.yf_print.specs.Layouts.Rows.{Row, anywhere, joined, begins_below, start_of, is_dash}
 use Rattle.yf_emit.proofs.Derived.LayoutSteps.{steps_in}
@@ -39,68 +39,68 @@ use Rattle.yf_emit.proofs.Columns.LinePlaces.{OnLine, on_same, on_sign, on_space
 use Rattle.yf_emit.proofs.Derived.NodePlaces.{NodeAt, leaf_at, after_sign_at}
 use Rattle.yf_emit.proofs.RowNodes.PlacedRows.{never_bare, none_inside, one_inside, PlacedRow, no_leaf_to, after_line, RowsIn, last_row, row_before, joined_placed, rows_joined}
 use Rattle.yf_emit.proofs.Derived.RowEnds.{row_end, end_follows, first_deco}
-use Rattle.yf_emit.proofs.OutputLines.SeenTexts.{ascii_ns}
 use Rattle.yf_emit.proofs.Columns.SetMeant.{column_more, SetMeant, SetSigned, set_flow, set_noting, signed_of, signed_empty}
 use Rattle.yf_emit.proofs.Columns.SetNodes.{ColumnAt}
 use Rattle.yf_emit.proofs.Derived.StepsInText.{MeaningLaid, laid_after, laid_empty}
 use Rattle.yf_print.specs.Layouts.SourceColumns.{is_white_or_sign}
 use Rattle.yf_lines.proofs.VisibleLines.{visible_at}
+use Rattle.yf_stream.proofs.Uniqueness.OneDirective.{ascii_ns}
 
 -- where a node is in its block: in a block context, its entries at a column at which they may be, and the lines of a block scalar
 -- so many columns right of the indentation around it
-pub record Stood (s : LayoutSetting) (x : Node) (n : ℤ) (c : Ctx) (spot : Spot) : Type 0 where
+pub record Stood (s : LayoutSetting) (x : Node) (n : ℤ) (c : Ctx) (margins : Margins) : Type 0 where
   pub block : is_block c ≡ true
-  pub least : least_column (is_sequence x) n c ≤ℤ pos spot.entries
-  pub lines : spot.lines ≡ base n + s.style.indent
+  pub least : least_column (is_sequence x) n c ≤ℤ pos margins.entries
+  pub lines : margins.lines ≡ base n + s.style.indent
 
 -- the node whose first row's text is at q, up to the row that r begins with
-pub record NodeMade (t : List ℕ) (s : LayoutSetting) (n : ℤ) (c : Ctx) (spot : Spot) (x : Node) (rs : List Row) (ds : List Deco) (q : ℕ) (r : List ℕ) : Type 0 where
+pub record NodeMade (t : List ℕ) (s : LayoutSetting) (n : ℤ) (c : Ctx) (margins : Margins) (x : Node) (rs : List Row) (ds : List Deco) (q : ℕ) (r : List ℕ) : Type 0 where
   pub height : ℕ
   pub place : ℕ
   pub meaning : Meaning
-  pub at : NodeAt t n c spot.entries (not (begins_below x)) height q place meaning
+  pub at : NodeAt t n c margins.entries (not (begins_below x)) height q place meaning
   pub low : height ≤ tall x
   pub rest : Rest t place r
   pub start : LineStart t place
   pub found_rows : List PlacedRow
-  pub meant : FoundNode t s spot x meaning found_rows
+  pub meant : FoundNode t s margins x meaning found_rows
   pub is : texts meaning.comments ≡ comments_in rs ds
   pub laid : MeaningLaid q place meaning (steps_in rs ds)
   pub held : Held t meaning rs ds r
-  pub set : SetMeant t s.style spot.entries (base n + s.style.indent) (begins_below x) q meaning
+  pub set : SetMeant t s.style margins.entries (base n + s.style.indent) (begins_below x) q meaning
   pub placed : RowsIn t rs found_rows ds q meaning.comments place r
 
-pub record Makes (s : LayoutSetting) (x : Node) (spot : Spot) (rs : List Row) : Type 0 where
-  pub made : {t : List ℕ} (n : ℤ) (c : Ctx) (ds : List Deco) (r : List ℕ) (q : ℕ) → IsUtf8 t → Stood s x n c spot → AreDecos ds → Calm rs ds r
-      → Rest t q (inline_then rs ds r) → NodeMade t s n c spot x rs ds q r
+pub record Makes (s : LayoutSetting) (x : Node) (margins : Margins) (rs : List Row) : Type 0 where
+  pub made : {t : List ℕ} (n : ℤ) (c : Ctx) (ds : List Deco) (r : List ℕ) (q : ℕ) → IsUtf8 t → Stood s x n c margins → AreDecos ds → Calm rs ds r
+      → Rest t q (inline_then rs ds r) → NodeMade t s n c margins x rs ds q r
 
 -- what is shown of a node and its rows: it has none and means nothing, or they are derived as the node
 pub record MeansNothing (x : Node) : Type 0 where
   pub meant : (i : ℕ) → MeansTrees x (empty_node i)
 
-pub data Claim (s : LayoutSetting) (x : Node) (spot : Spot) : List Row → Type 0 where
-  no_row : MeansNothing x → Claim s x spot []
-  some_rows : {r : Row} {rs : List Row} → (begins_below x ≡ false → r.column ≡ spot.column) → (begins_below x ≡ true → r.column ≡ spot.entries)
-      → Makes s x spot (r ∷ rs) → Claim s x spot (r ∷ rs)
+pub data Claim (s : LayoutSetting) (x : Node) (margins : Margins) : List Row → Type 0 where
+  no_row : MeansNothing x → Claim s x margins []
+  some_rows : {r : Row} {rs : List Row} → (begins_below x ≡ false → r.column ≡ margins.column) → (begins_below x ≡ true → r.column ≡ margins.entries)
+      → Makes s x margins (r ∷ rs) → Claim s x margins (r ∷ rs)
 
 -- A leaf or a flow collection on one line.
 
-pub line_made : {t : List ℕ} {s : LayoutSetting} {x : Node} {r : Row} (spot : Spot) (n : ℤ) (c : Ctx) (ds : List Deco) (z : List ℕ) (q : ℕ) → begins_below x ≡ false
-    → is_inline x ≡ true → written s.style x ≢ [] → is_some r.key_comment ≡ false → r.text ≡ written s.style x → r.column ≡ spot.column → r.body ≡ [] → length r.leaves ≡ length (leaves x) → LineNode s.style FlowOut x → IsUtf8 t → Stood s x n c spot → AreDecos ds → Rest t q (inline_then (r ∷ []) ds z)
-    → NodeMade t s n c spot x (r ∷ []) ds q z
-line_made {t} {s} {x} {r} spot n c ds z q b inline some key text column body count node u stood a w =
+pub line_made : {t : List ℕ} {s : LayoutSetting} {x : Node} {r : Row} (margins : Margins) (n : ℤ) (c : Ctx) (ds : List Deco) (z : List ℕ) (q : ℕ) → begins_below x ≡ false
+    → is_inline x ≡ true → written s.style x ≢ [] → is_some r.key_comment ≡ false → r.text ≡ written s.style x → r.column ≡ margins.column → r.body ≡ [] → length r.leaves ≡ length (leaves x) → LineNode s.style FlowOut x → IsUtf8 t → Stood s x n c margins → AreDecos ds → Rest t q (inline_then (r ∷ []) ds z)
+    → NodeMade t s n c margins x (r ∷ []) ds q z
+line_made {t} {s} {x} {r} margins n c ds z q b inline some key text column body count node u stood a w =
     let there : Rest t q (written s.style x ++ end_then (first ds) [] z) =
     subst (λ l. Rest t q (written s.style x ++ end_then (first ds) l z)) body (subst (λ v. Rest t q (v ++ end_then (first ds) r.body z)) text w) in
     let derived = node.back.made (n +ℤ pos 1) q (end_then (first ds) [] z) u (any_follow node.colon (end_follows (first ds) [] z)) there in
     let after_text = rest_text (written s.style x) u node.back.line there in
     let end = row_end (first ds) z u (first_deco a) after_text.rest in
-    let at = leaf_at {c = c} spot.entries stood.block (flow_node derived) end.end in
-    let found = line_found {row = r} s spot ds (end_then (first ds) [] z) inline some text column body key node.back.line there (λ y e f. bracketed y u derived e f) (places u derived refl) (node.meant q) (node.silent q) end.end end.is end.start end.rest in
+    let at = leaf_at {c = c} margins.entries stood.block (flow_node derived) end.end in
+    let found = line_found {row = r} s margins ds (end_then (first ds) [] z) inline some text column body key node.back.line there (λ y e f. bracketed y u derived e f) (places u derived refl) (node.meant q) (node.silent q) end.end end.is end.start end.rest in
     record {
       height = node.height;
       place = end.place;
       meaning = noting (node.mean q) end.comments;
-      at = subst (λ f. NodeAt t n c spot.entries f node.height q end.place (noting (node.mean q) end.comments)) (ap not (sym b)) at;
+      at = subst (λ f. NodeAt t n c margins.entries f node.height q end.place (noting (node.mean q) end.comments)) (ap not (sym b)) at;
       low = node.low;
       rest = end.rest;
       start = end.start;
@@ -119,7 +119,7 @@ abbrev pub sign_row : ℕ → ℕ → List ℕ → List ℕ → Bool → Row
 sign_row column sign offsets items blank =
     record { column = column; text = sign ∷ []; starts = start_of column (is_dash (sign ∷ [])) offsets ∷ []; items = items; leaves = []; key_comment = None; blank_before = blank; begins = false; ending = anywhere; body = []; lines = 0 }
 
-pub record SignMade (t : List ℕ) (s : LayoutSetting) (a : ℕ) (c : Ctx) (sign : ℕ) (spot : Spot) (x : Node) (rs : List Row) (ds : List Deco) (q : ℕ) (r : List ℕ) : Type 0 where
+pub record SignMade (t : List ℕ) (s : LayoutSetting) (a : ℕ) (c : Ctx) (sign : ℕ) (margins : Margins) (x : Node) (rs : List Row) (ds : List Deco) (q : ℕ) (r : List ℕ) : Type 0 where
   pub height : ℕ
   pub place : ℕ
   pub meaning : Meaning
@@ -130,7 +130,7 @@ pub record SignMade (t : List ℕ) (s : LayoutSetting) (a : ℕ) (c : Ctx) (sign
   pub rest : Rest t place r
   pub start : LineStart t place
   pub inner : List PlacedRow
-  pub meant : FoundNode t s spot x meaning inner
+  pub meant : FoundNode t s margins x meaning inner
   pub is : texts meaning.comments ≡ comments_in rs ds
   pub laid : MeaningLaid q place meaning (steps_in rs ds)
   pub held : Held t meaning rs ds r
@@ -172,11 +172,11 @@ row_column : {k m : ℕ} (b : Bool) → (b ≡ false → k ≡ m) → (b ≡ tru
 row_column true f g = g refl
 row_column false f g = f refl
 
-pub sign_made : {t : List ℕ} {s : LayoutSetting} {x : Node} {spot : Spot} {rs : List Row} (a sign : ℕ) (offsets items : List ℕ) (blank : Bool) (c : Ctx) (ds : List Deco) (r : List ℕ) (q : ℕ)
-    → 33 ≤ sign → sign < 127 → is_white_or_sign sign ≡ true → 2 ≤ s.style.indent → Claim s x spot rs → spot.column ≡ a + s.style.indent → spot.entries ≡ a + s.style.indent → IsUtf8 t → Stood s x (pos a) c spot → AreDecos ds
+pub sign_made : {t : List ℕ} {s : LayoutSetting} {x : Node} {margins : Margins} {rs : List Row} (a sign : ℕ) (offsets items : List ℕ) (blank : Bool) (c : Ctx) (ds : List Deco) (r : List ℕ) (q : ℕ)
+    → 33 ≤ sign → sign < 127 → is_white_or_sign sign ≡ true → 2 ≤ s.style.indent → Claim s x margins rs → margins.column ≡ a + s.style.indent → margins.entries ≡ a + s.style.indent → IsUtf8 t → Stood s x (pos a) c margins → AreDecos ds
     → Calm (joined (sign_row a sign offsets items blank) (s.style.indent - 1) rs) ds r → Rest t q (inline_then (joined (sign_row a sign offsets items blank) (s.style.indent - 1) rs) ds r)
-    → SignMade t s a c sign spot x (joined (sign_row a sign offsets items blank) (s.style.indent - 1) rs) ds q r
-sign_made {t} {s} {x} {spot} a sign offsets items blank c ds r q low high class wide (no_row m) f e u stood k calm w =
+    → SignMade t s a c sign margins x (joined (sign_row a sign offsets items blank) (s.style.indent - 1) rs) ds q r
+sign_made {t} {s} {x} {margins} a sign offsets items blank c ds r q low high class wide (no_row m) f e u stood k calm w =
     let at = visible_at sign u (omega (arith, low)) high w in
     let end = row_end (first ds) r u (first_deco k) at.1 in
     let row : PlacedRow = record { items = q ∷ []; leaves = []; commented = false; column = a; from = q; upto = q + 1 } in
@@ -211,7 +211,7 @@ sign_made {t} {s} {x} {spot} a sign offsets items blank c ds r q low high class 
       held = held_line (empty_node (q + 1)) end.comments (sign_row a sign offsets items blank) ds r refl (empty_silent (q + 1))
           (row_ended (first ds) r u (after_byte q u at.0 (omega arith) (ascii_ns sign low high)) (first_deco k) at.1 end.end);
     }
-sign_made {t} {s} {x} {spot} a sign offsets items blank c ds r q low high class wide (some_rows {r = y} {rs = ys} f g m) h e u stood k calm w =
+sign_made {t} {s} {x} {margins} a sign offsets items blank c ds r q low high class wide (some_rows {r = y} {rs = ys} f g m) h e u stood k calm w =
     let n : ℕ = s.style.indent - 1 in
     let same : (replicate n 32 ++ y.text) ++ end_then (first ds) y.body (lines_then ys (after ds) r) ≡ replicate n 32 ++ inline_then (y ∷ ys) ds r =
     append_assoc (replicate n 32) y.text (end_then (first ds) y.body (lines_then ys (after ds) r)) in

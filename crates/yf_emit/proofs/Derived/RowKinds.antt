@@ -13,7 +13,7 @@ use Rattle.yf_emit.specs.Layouts.FitDocuments.{FitDirectives, fit_no_directives,
 use Rattle.yf_emit.specs.Layouts.ReadableTrees.{IsNoMarker}
 use Rattle.yf_emit.specs.Layouts.Layout.{Source, trailing, trailing_leaf, first_comment}
 use Rattle.yf_forms.specs.Nodes.Lines.{trimmed}
-use Rattle.yf_forms.specs.NormalForms.Normal.{LayoutSetting, root_spot}
+use Rattle.yf_forms.specs.NormalForms.Normal.{LayoutSetting, root_margins}
 use Rattle.yf_print.specs.Layouts.Rows.{Row, at_document_start, directive_row, end_rows, beginning_at, begun_at, start_row, all_rows, stream_rows}
 use Rattle.yf_emit.proofs.Derived.ClearRows.{AreBodyTexts, no_body_text, body_text, AreRowTexts, no_row_text, row_text, IsRowText, remark_unmarked, trails_bytes, trails_unmarked, unmarked_first, unmarked_indented, unmarked_nothing}
 use Rattle.yf_emit.proofs.OutputLines.LaidLines.{gap_lines, laid_lines, own_line, row_lines}
@@ -91,7 +91,7 @@ stream_kinds c b fit_no_documents = no_kind
 stream_kinds c b (fit_document {d = d} {x = x} f fit more) =
     let wide : 2 ≤ c.style.indent = c.style.indent_from in
     kinds_append (kinds_append (beginning_kinds d.start (kinds_append (end_kinds b d.directives) (kinds_append (directive_kinds f) (kind_more start_kind no_kind))))
-    (text_kinds (row_texts c (root_spot c.style) (omega (arith, wide)) fit))) (stream_kinds c false more)
+    (text_kinds (row_texts c (root_margins c.style) (omega (arith, wide)) fit))) (stream_kinds c false more)
 
 begun_kinds : {xs : List Row} (start : ℕ) → KindRows xs → KindRows (begun_at start xs)
 begun_kinds start no_kind = no_kind
@@ -104,7 +104,7 @@ all_kinds c false fit = stream_kinds c true fit
 all_kinds c true fit_no_documents = no_kind
 all_kinds c true (fit_document {d = d} {x = x} f fit more) =
     let wide : 2 ≤ c.style.indent = c.style.indent_from in
-    kinds_append (begun_kinds d.start (text_kinds (row_texts c (root_spot c.style) (omega (arith, wide)) fit))) (stream_kinds c false more)
+    kinds_append (begun_kinds d.start (text_kinds (row_texts c (root_margins c.style) (omega (arith, wide)) fit))) (stream_kinds c false more)
 
 -- Lines.
 

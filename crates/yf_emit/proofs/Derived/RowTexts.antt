@@ -6,7 +6,7 @@ use Rattle.yf_chars.specs.declared.context.Ctx.TheVariants.{BlockKey}
 use Rattle.yf_chars.specs.Text.{code}
 use Rattle.yf_chars.specs.Class.{is_white_or_end}
 use Rattle.yf_lines.specs.Basic.{is_marker, is_three}
-use Rattle.yf_lines.specs.LineText.{IsLineText, is_after_name, is_after_text}
+use Rattle.yf_lines.specs.LineText.{IsLineText, is_after_text}
 use Rattle.yf_lines.proofs.RestLemmas.{rest_is_at, rest_ascii, follows_not, line_nothing, line_append, line_ascii}
 use Rattle.yf_comments.specs.Comment.{CommentValue}
 use Rattle.yf_props.specs.Props.{PropsValue, TagValue, no_props}
@@ -18,10 +18,10 @@ use Rattle.yf_events.specs.Tree.{NodeOffsets, Node, scalar, Items, item, Pairs, 
 use Rattle.yf_forms.specs.declared.style.Style.{Style}
 use Rattle.yf_forms.specs.Nodes.BlockLines.{content_lines, final_feeds, header_text}
 use Rattle.yf_emit.specs.Layouts.ReadableTrees.{IsNoMarker, FitScalar, LineNode, ColonFits, colon_at_once, colon_apart, FitProps, no_fit_props, some_fit_props, Fit, fit_nothing, fit_line, fit_scalar, fit_sequence, fit_mapping, FitItems, fit_no_items, fit_item, FitPairs, fit_no_pairs, fit_pair}
-use Rattle.yf_forms.specs.NormalForms.Normal.{LayoutSetting, Spot, inner_spot, key_spot, value_of_implicit, value_spot, is_implicit, key_comment}
+use Rattle.yf_forms.specs.NormalForms.Normal.{LayoutSetting, Margins, inner_margins, key_margins, value_of_implicit, value_margins, is_implicit, key_comment}
 use Rattle.yf_forms.specs.Nodes.OneLine.{written, colon_after, props_text}
 use Rattle.yf_print.specs.Layouts.Rows.{Row, block_scalar, joined, one_line_row, props_row, after_sign, entry_row, colon_row, key_row, after_key, begins_below, explicit_pair, pair_rows, rows, rows_of_items, rows_of_pairs}
-use Rattle.yf_emit.proofs.Derived.ClearRows.{unmarked_first, unmarked_more, line_indented, IsRowText, no_body_text, AreRowTexts, no_row_text, row_text}
+use Rattle.yf_emit.proofs.Derived.ClearRows.{unmarked_first, unmarked_more, line_indented, IsRowText, no_body_text, AreRowTexts, no_row_text, row_text, space_is_after}
 use Rattle.yf_emit.proofs.Derived.CollectionsMade.{same_props}
 use Rattle.yf_emit.proofs.Derived.ScalarsMade.{header_line, header_unmarked, header_with, body_texts, scalar_rows_are}
 use Rattle.yf_emit.proofs.OutputLines.SeenTexts.{IsSeen, seen_ascii, seen_more, seen_back, props_seen}
@@ -49,10 +49,6 @@ dash_unmarked = record {
 
 ascii_line : (c : ℕ) → 32 ≤ c → c < 127 → IsLineText (c ∷ [])
 ascii_line c l h = line_ascii c (omega arith) (visible_nb c l h) line_nothing
-
-pub space_after_text : is_after_text 32 ≡ true
-unfolding is_after_text is_after_name
-space_after_text = refl
 
 colon_after_text : is_after_text 58 ≡ true
 unfolding is_after_text
@@ -92,7 +88,7 @@ joined_texts {head} n some h (row_text {x = x} a more) =
   where
     spaced_unmarked : (n : ℕ) → 0 < n → IsNoMarker (head.text ++ (replicate n 32 ++ x.text))
     spaced_unmarked zero some = absurd (omega arith)
-    spaced_unmarked (suc n) some = unmarked_more 32 (replicate n 32 ++ x.text) h.unmarked (omega arith) space_after_text
+    spaced_unmarked (suc n) some = unmarked_more 32 (replicate n 32 ++ x.text) h.unmarked (omega arith) space_is_after
 
 after_key_texts : {head : Row} {rs : List Row} (o : Option CommentValue) (below : Bool) → IsRowText head → AreRowTexts rs → AreRowTexts (after_key head o below rs)
 after_key_texts (Some c) below h a = row_text (record { text = h.text; unmarked = h.unmarked; seen = h.seen; body = h.body }) a
@@ -118,7 +114,7 @@ fit_props_texts column (some_fit_props {p = p} k n) =
 colon_text : (house : Style) {k : Node} (b : Bool) (w : List ℕ) → ColonFits b w → LineNode house BlockKey k → IsLineText (written house k ++ w) × IsNoMarker (written house k ++ w)
 colon_text house b w (colon_at_once e) node = (line_append node.back.line (ascii_line 58 (omega arith) (omega arith)), unmarked_more 58 [] node.unmarked (omega arith) colon_after_text)
 colon_text house b w colon_apart node =
-    (line_append node.back.line (line_ascii 32 (omega arith) (visible_nb 32 (omega arith) (omega arith)) (ascii_line 58 (omega arith) (omega arith))), unmarked_more 32 (58 ∷ []) node.unmarked (omega arith) space_after_text)
+    (line_append node.back.line (line_ascii 32 (omega arith) (visible_nb 32 (omega arith) (omega arith)) (ascii_line 58 (omega arith) (omega arith))), unmarked_more 32 (58 ∷ []) node.unmarked (omega arith) space_is_after)
 
 key_texts : (c : LayoutSetting) (column : ℕ) {k : Node} → is_implicit c.style column k ≡ true → Fit c.style k → IsRowText (key_row c.style column k)
 key_texts c column e (fit_nothing f) = record {
@@ -147,7 +143,7 @@ question_texts s column k a b =
 
 -- what holds of the rows of a node wherever it is
 pub record TextsEverywhere (c : LayoutSetting) (x : Node) : Type 0 where
-  pub texts : (spot : Spot) → 0 < spot.lines → AreRowTexts (rows c spot x)
+  pub texts : (margins : Margins) → 0 < margins.lines → AreRowTexts (rows c margins x)
 
 deep : (c : LayoutSetting) (column : ℕ) → 0 < column + c.style.indent
 deep c column = let wide : 2 ≤ c.style.indent = c.style.indent_from in omega (arith, wide)
@@ -160,50 +156,50 @@ header_seen Literal indent text = seen_ascii 124 _ (omega arith) (omega arith) (
 header_seen Folded indent text = seen_ascii 62 _ (omega arith) (omega arith) (λ e. omega arith)
 
 -- the row of a literal or folded scalar
-scalar_texts : (at : NodeOffsets) {p : PropsValue} {style : ScalarStyle} {text : List ℕ} {lines : List (List ℕ)} (s : Style) (spot : Spot) → 0 < spot.lines → FitProps p → FitScalar style text lines
-    → AreRowTexts (block_scalar s spot (scalar at p style text lines) p style text lines)
-scalar_texts at {style = style} {text = text} {lines = lines} s spot l no_fit_props f =
-    row_text (record { text = header_line style s.indent text s.indent_to; unmarked = header_unmarked style s.indent text; seen = header_seen style s.indent text; body = body_texts spot.lines (final_feeds text - 1) (content_lines style text lines) l f.texts }) no_row_text
-scalar_texts at {style = style} {text = text} {lines = lines} s spot l (some_fit_props {p = p} k n) f =
+scalar_texts : (at : NodeOffsets) {p : PropsValue} {style : ScalarStyle} {text : List ℕ} {lines : List (List ℕ)} (s : Style) (margins : Margins) → 0 < margins.lines → FitProps p → FitScalar style text lines
+    → AreRowTexts (block_scalar s margins (scalar at p style text lines) p style text lines)
+scalar_texts at {style = style} {text = text} {lines = lines} s margins l no_fit_props f =
+    row_text (record { text = header_line style s.indent text s.indent_to; unmarked = header_unmarked style s.indent text; seen = header_seen style s.indent text; body = body_texts margins.lines (final_feeds text - 1) (content_lines style text lines) l f.texts }) no_row_text
+scalar_texts at {style = style} {text = text} {lines = lines} s margins l (some_fit_props {p = p} k n) f =
     let is = header_with style s.indent text k n in
     row_text (record {
       text = subst (λ w. IsLineText w) (sym is) (line_append (props_line_text k) (line_ascii 32 (omega arith) (visible_nb 32 (omega arith) (omega arith)) (header_line style s.indent text s.indent_to)));
-      unmarked = subst (λ w. IsNoMarker w) (sym is) (unmarked_more 32 (header_text style s.indent text) (props_unmarked k n) (omega arith) space_after_text);
+      unmarked = subst (λ w. IsNoMarker w) (sym is) (unmarked_more 32 (header_text style s.indent text) (props_unmarked k n) (omega arith) space_is_after);
       seen = subst (λ w. IsSeen w) (sym is) (seen_more (32 ∷ header_text style s.indent text) (props_seen k n));
-      body = body_texts spot.lines (final_feeds text - 1) (content_lines style text lines) l f.texts;
+      body = body_texts margins.lines (final_feeds text - 1) (content_lines style text lines) l f.texts;
     }) no_row_text
 
 pair_texts : (c : LayoutSetting) (column : ℕ) {k v : Node} → Fit c.style k → TextsEverywhere c k → TextsEverywhere c v
-    → AreRowTexts (pair_rows c column k v (rows c (key_spot c.style column k) k) (rows c (value_spot c column k v) v))
+    → AreRowTexts (pair_rows c column k v (rows c (key_margins c.style column k) k) (rows c (value_margins c column k v) v))
 pair_texts c column {k} {v} fit f g = go (is_implicit c.style column k) refl where
   go : (b : Bool) → is_implicit c.style column k ≡ b → AreRowTexts (either_pair (is_implicit c.style column k) c column k v)
   go true e = subst (λ b. AreRowTexts (either_pair b c column k v)) (sym e)
       (after_key_texts (key_comment c.comments k v) (begins_below v) (key_texts c column e fit) (g.texts (value_of_implicit c column k v) (deep c column)))
-  go false e = subst (λ b. AreRowTexts (either_pair b c column k v)) (sym e) (question_texts c.style column k (f.texts (key_spot c.style column k) (deep c column)) (g.texts (inner_spot c.style column) (deep c column)))
+  go false e = subst (λ b. AreRowTexts (either_pair b c column k v)) (sym e) (question_texts c.style column k (f.texts (key_margins c.style column k) (deep c column)) (g.texts (inner_margins c.style column) (deep c column)))
 
-dash_texts : (c : LayoutSetting) (column : ℕ) {x : Node} → TextsEverywhere c x → AreRowTexts (after_sign c.style (entry_row column (45 ∷ []) x) (rows c (inner_spot c.style column) x))
+dash_texts : (c : LayoutSetting) (column : ℕ) {x : Node} → TextsEverywhere c x → AreRowTexts (after_sign c.style (entry_row column (45 ∷ []) x) (rows c (inner_margins c.style column) x))
 dash_texts c column {x} f =
     let wide : 2 ≤ c.style.indent = c.style.indent_from in
-    joined_texts (c.style.indent - 1) (omega (arith, wide)) (sign_text 45 column x (omega arith) (omega arith) dash_unmarked) (f.texts (inner_spot c.style column) (deep c column))
+    joined_texts (c.style.indent - 1) (omega (arith, wide)) (sign_text 45 column x (omega arith) (omega arith) dash_unmarked) (f.texts (inner_margins c.style column) (deep c column))
 
 -- Trees.
 
 module _ (c : LayoutSetting) where
   mutual
     texts_everywhere : {x : Node} → Fit c.style x → TextsEverywhere c x
-    texts_everywhere (fit_nothing e) = record { texts = λ spot l. no_row_text }
+    texts_everywhere (fit_nothing e) = record { texts = λ margins l. no_row_text }
     texts_everywhere {x} (fit_line inline some node key) = record {
-      texts = λ spot l.
-          subst (λ rs. AreRowTexts rs) (sym (inline_rows c spot x inline)) (one_line_texts spot.column x (written c.style x) node.back.line node.unmarked (seen_back refl node.back));
+      texts = λ margins l.
+          subst (λ rs. AreRowTexts rs) (sym (inline_rows c margins x inline)) (one_line_texts margins.column x (written c.style x) node.back.line node.unmarked (seen_back refl node.back));
     }
     texts_everywhere (fit_scalar {at = at} {p = p} {style = style} {text = text} {lines = lines} e props f) = record {
-      texts = λ spot l.
-          subst (λ rs. AreRowTexts rs) (sym (scalar_rows_are c spot at p text lines style f.block)) (scalar_texts at c.style spot l props f);
+      texts = λ margins l.
+          subst (λ rs. AreRowTexts rs) (sym (scalar_rows_are c margins at p text lines style f.block)) (scalar_texts at c.style margins l props f);
     }
-    texts_everywhere (fit_sequence e props f fs) = record { texts = λ spot l. append_texts (fit_props_texts spot.column props) (texts_of_items spot.entries (texts_everywhere f) fs) }
+    texts_everywhere (fit_sequence e props f fs) = record { texts = λ margins l. append_texts (fit_props_texts margins.column props) (texts_of_items margins.entries (texts_everywhere f) fs) }
     texts_everywhere (fit_mapping e props f g fs) = record {
-      texts = λ spot l.
-          append_texts (fit_props_texts spot.column props) (texts_of_pairs spot.entries f (texts_everywhere f) (texts_everywhere g) fs);
+      texts = λ margins l.
+          append_texts (fit_props_texts margins.column props) (texts_of_pairs margins.entries f (texts_everywhere f) (texts_everywhere g) fs);
     }
 
     texts_of_items : (column : ℕ) {x : Node} {xs : Items} → TextsEverywhere c x → FitItems c.style xs → AreRowTexts (rows_of_items c column (item x xs))
@@ -214,5 +210,5 @@ module _ (c : LayoutSetting) where
     texts_of_pairs column fit f g fit_no_pairs = append_texts (pair_texts c column fit f g) no_row_text
     texts_of_pairs column fit f g (fit_pair a b fs) = append_texts (pair_texts c column fit f g) (texts_of_pairs column a (texts_everywhere a) (texts_everywhere b) fs)
 
-pub row_texts : (c : LayoutSetting) (spot : Spot) {x : Node} → 0 < spot.lines → Fit c.style x → AreRowTexts (rows c spot x)
-row_texts c spot l f = (texts_everywhere c f).texts spot l
+pub row_texts : (c : LayoutSetting) (margins : Margins) {x : Node} → 0 < margins.lines → Fit c.style x → AreRowTexts (rows c margins x)
+row_texts c margins l f = (texts_everywhere c f).texts margins l

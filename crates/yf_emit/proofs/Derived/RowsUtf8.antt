@@ -11,7 +11,7 @@ use Rattle.yf_events.specs.Tree.{DocumentTree}
 use Rattle.yf_emit.specs.Layouts.RowComments.{IsDeco, AreDecos}
 use Rattle.yf_emit.specs.Layouts.Decorated.{GapLine, blank, remark, gap_then, Deco, first, after, trails_then, body_then, end_then, lines_then}
 use Rattle.yf_emit.specs.Layouts.FitDocuments.{FitDirectives, fit_no_directives, fit_directive, FitDocuments, fit_no_documents, fit_document}
-use Rattle.yf_forms.specs.NormalForms.Normal.{LayoutSetting, root_spot}
+use Rattle.yf_forms.specs.NormalForms.Normal.{LayoutSetting, root_margins}
 use Rattle.yf_print.specs.Layouts.Rows.{Row, directive_row, end_rows, beginning_at, begun_at, all_rows, stream_rows}
 use Rattle.yf_emit.proofs.Derived.ClearRows.{line_indented, remark_line, trails_bytes, trails_are, trails_line, AreBodyTexts, no_body_text, body_text, AreRowTexts, no_row_text, row_text}
 use Rattle.yf_emit.proofs.Texts.LineUtf8.{line_utf8, feed_utf8}
@@ -92,7 +92,7 @@ stream_lines c b fit_no_documents = no_rows
 stream_lines c b (fit_document {d = d} {x = x} f fit more) =
     let wide : 2 ≤ c.style.indent = c.style.indent_from in
     both_lines (both_lines (start_lines d.start (both_lines (end_lines b d.directives) (both_lines (directive_lines f) (row_more (three_line 45 (omega arith) (omega arith)) (three_seen 45 (omega arith) (omega arith)) no_line no_rows))))
-    (text_lines (row_texts c (root_spot c.style) (omega (arith, wide)) fit))) (stream_lines c false more)
+    (text_lines (row_texts c (root_margins c.style) (omega (arith, wide)) fit))) (stream_lines c false more)
 
 begun_lines : (start : ℕ) {rs : List Row} → RowLines rs → RowLines (begun_at start rs)
 begun_lines start no_rows = no_rows
@@ -103,7 +103,7 @@ all_lines c false fit = stream_lines c true fit
 all_lines c true fit_no_documents = no_rows
 all_lines c true (fit_document {d = d} {x = x} f fit more) =
     let wide : 2 ≤ c.style.indent = c.style.indent_from in
-    both_lines (begun_lines d.start (text_lines (row_texts c (root_spot c.style) (omega (arith, wide)) fit))) (stream_lines c false more)
+    both_lines (begun_lines d.start (text_lines (row_texts c (root_margins c.style) (omega (arith, wide)) fit))) (stream_lines c false more)
 
 -- so the layout of such documents is UTF-8
 pub layout_utf8 : (c : LayoutSetting) (bare : Bool) {ds : List Doc} {xs : List DocumentTree} (gap : List GapLine) (decos : List Deco) → FitDocuments c.style ds xs → AreGapLines gap → AreDecos decos

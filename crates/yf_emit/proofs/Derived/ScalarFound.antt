@@ -11,7 +11,7 @@ use Rattle.yf_grammar.proofs.WrittenTexts.ScalarPlaced.{scalar_event}
 use Rattle.yf_forms.specs.Nodes.BlockLines.{content_lines, final_feeds}
 use Rattle.yf_emit.specs.Nodes.BlockValues.{header_of}
 use Rattle.yf_emit.specs.Layouts.ReadableTrees.{FitScalar}
-use Rattle.yf_forms.specs.NormalForms.Normal.{LayoutSetting, Spot}
+use Rattle.yf_forms.specs.NormalForms.Normal.{LayoutSetting, Margins}
 use Rattle.yf_print.specs.Layouts.Rows.{Row}
 use Rattle.yf_emit.proofs.RowNodes.FoundNodes.{FoundNode, scalar_rows}
 use Rattle.yf_emit.proofs.RowNodes.PlacedRows.{never_bare, none_inside, one_inside, PlacedRow, AtRow}
@@ -22,11 +22,11 @@ abbrev pub leaf_row : ℕ → ℕ → ℕ → PlacedRow
 leaf_row column q finish = record { items = q ∷ []; leaves = record { start = q; end = finish } ∷ []; commented = false; column = column; from = q; upto = q }
 
 -- its event
-pub bare_found : {t : List ℕ} {at : NodeOffsets} {style : ScalarStyle} {text : List ℕ} {lines : List (List ℕ)} (s : LayoutSetting) (spot : Spot) (column indent i : ℕ) (m : Meaning) → is_some at.span ≡ true → FitScalar style text lines
+pub bare_found : {t : List ℕ} {at : NodeOffsets} {style : ScalarStyle} {text : List ℕ} {lines : List (List ℕ)} (s : LayoutSetting) (margins : Margins) (column indent i : ℕ) (m : Meaning) → is_some at.span ≡ true → FitScalar style text lines
     → m.events ≡ scalar_event (header_of style indent text) (content_lines style text lines) (final_feeds text - 1) i m.finish ∷ [] → m.escapes ≡ []
-    → FoundNode t s spot (scalar at no_props style text lines) m (leaf_row column i m.finish ∷ [])
+    → FoundNode t s margins (scalar at no_props style text lines) m (leaf_row column i m.finish ∷ [])
 unfolding from_to
-bare_found {style = style} {text = text} {lines = lines} s spot column indent i m e f events escapes = record {
+bare_found {style = style} {text = text} {lines = lines} s margins column indent i m e f events escapes = record {
   rows = scalar_rows f.block (one_inside (omega arith) (omega arith) none_inside) refl refl refl;
   node = scalar (record { span = from_to i m.finish; tag_offset = None; entry = None }) no_props style text lines;
   alike = alike_scalars e;
@@ -40,11 +40,11 @@ bare_found {style = style} {text = text} {lines = lines} s spot column indent i 
   escapes = escapes;
 }
 
-pub props_found : {t : List ℕ} {at : NodeOffsets} {style : ScalarStyle} {text : List ℕ} {lines : List (List ℕ)} (s : LayoutSetting) (spot : Spot) (column indent i q g : ℕ) (p : PropsValue) (o : Option ℕ) (m : Meaning) → is_some at.span ≡ true
+pub props_found : {t : List ℕ} {at : NodeOffsets} {style : ScalarStyle} {text : List ℕ} {lines : List (List ℕ)} (s : LayoutSetting) (margins : Margins) (column indent i q g : ℕ) (p : PropsValue) (o : Option ℕ) (m : Meaning) → is_some at.span ≡ true
     → FitScalar style text lines → m.events ≡ scalar_event (header_of style indent text) (content_lines style text lines) (final_feeds text - 1) i m.finish ∷ [] → m.escapes ≡ []
-    → FoundNode t s spot (scalar at p style text lines) (with_props p o q g m) (leaf_row column q m.finish ∷ [])
+    → FoundNode t s margins (scalar at p style text lines) (with_props p o q g m) (leaf_row column q m.finish ∷ [])
 unfolding from_to with_props
-props_found {style = style} {text = text} {lines = lines} s spot column indent i q g p o m e f events escapes = record {
+props_found {style = style} {text = text} {lines = lines} s margins column indent i q g p o m e f events escapes = record {
   rows = scalar_rows f.block (one_inside (omega arith) (omega arith) none_inside) refl refl refl;
   node = scalar (record { span = from_to q m.finish; tag_offset = o; entry = None }) p style text lines;
   alike = alike_scalars e;

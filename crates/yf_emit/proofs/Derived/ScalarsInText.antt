@@ -17,6 +17,7 @@ use Rattle.yf_events.specs.declared.event.ScalarStyle.TheVariants.{Plain, Single
 use Rattle.yf_grammar.specs.Productions.BlockScalar.{style_of}
 use Rattle.yf_grammar.specs.Productions.Meaning.{event_with, first_with, with_props, from_to}
 use Rattle.yf_grammar.proofs.NodesInText.NodePlaces.{content_alone}
+use Rattle.yf_stream.proofs.Uniqueness.OneDirective.{ascii_ns}
 use Rattle.yf_forms.specs.Nodes.BlockLines.{block_lines, content_lines, final_feeds, line_at}
 use Rattle.yf_emit.specs.Nodes.BlockValues.{is_folded, chomp_of, header_of}
 use Rattle.yf_emit.specs.Layouts.ReadableTrees.{FitScalar, is_block_style}
@@ -24,7 +25,6 @@ use Rattle.yf_forms.specs.Nodes.ContentStart.{content_start}
 use Rattle.yf_emit.proofs.Writable.ContentFound.{content_found, content_starts_are_found}
 use Rattle.yf_emit.proofs.OutputLines.HeldLemmas.{Holds, here, ScalarAt, ScalarHeld, SeenEnd}
 use Rattle.yf_emit.proofs.OutputLines.ScalarHeld.{HeaderPassed, ScalarReached, header_char, lines_forward}
-use Rattle.yf_emit.proofs.OutputLines.SeenTexts.{ascii_ns}
 use Rattle.yf_emit.proofs.OutputLines.WellSet.{AllSet}
 
 -- a scalar that is made, where its lines begin, and that its comments are well set

@@ -36,7 +36,7 @@ use Rattle.yf_emit.specs.Layouts.RowComments.{IsDeco, AreDecos, carried_texts, C
 use Rattle.yf_emit.specs.Layouts.Decorated.{GapLine, gap_then, Deco, first, trails_then, body_then, end_then, inline_then}
 use Rattle.yf_emit.specs.Layouts.ReadableTrees.{FitScalar, FitProps, no_fit_props, some_fit_props, is_block_style, IsNoMarker}
 use Rattle.yf_emit.specs.Layouts.Layout.{may_be_blank_after}
-use Rattle.yf_forms.specs.NormalForms.Normal.{LayoutSetting, Spot}
+use Rattle.yf_forms.specs.NormalForms.Normal.{LayoutSetting, Margins}
 use Rattle.yf_forms.specs.Nodes.OneLine.{spaced, props_text}
 use Rattle.yf_print.specs.Layouts.Rows.{begins_below, Row, Ending, block_scalar, tail_ending, rows}
 use Rattle.yf_forms.specs.Nodes.Lines.{is_empty_text}
@@ -234,36 +234,36 @@ scalar_steps : (row : Row) (ds : List Deco) → leaf_steps row.leaves ≡ a_leaf
 scalar_steps row ds e =
     ap (λ z. a_leaf ∷ z) (sym (append-nil (comment_steps (carried_texts (first ds))))) ∙ ap (λ z. z ++ (comment_steps (carried_texts (first ds)) ++ [])) (sym e)
 
-notes_of : {t : List ℕ} {n : ℤ} (s : LayoutSetting) (style : ScalarStyle) (text : List ℕ) (lines : List (List ℕ)) (spot : Spot) (ds : List Deco) (r : List ℕ) (q : ℕ) → IsUtf8 t → AreDecos ds
-    → (made : ScalarMade t n (header_of style s.style.indent text) (content_lines style text lines) (final_feeds text - 1) ((first ds).trails ++ remarks_of (first ds).gap) q r (body_then (block_lines style spot.lines text lines) (gap_then (first ds).gap r))
-    (end_then (first ds) (block_lines style spot.lines text lines) r))
-    → Rest t q (header_text style s.style.indent text ++ end_then (first ds) (block_lines style spot.lines text lines) r) → HeaderNotes t q made.reached.start made.reached.header.comments (first ds).trails
-notes_of s style text lines spot ds r q u a made w =
-    header_notes (header_text style s.style.indent text) (first ds) (block_lines style spot.lines text lines) r u (header_line style s.style.indent text s.style.indent_to) (header_signs style s.style.indent text s.style.indent_to)
+notes_of : {t : List ℕ} {n : ℤ} (s : LayoutSetting) (style : ScalarStyle) (text : List ℕ) (lines : List (List ℕ)) (margins : Margins) (ds : List Deco) (r : List ℕ) (q : ℕ) → IsUtf8 t → AreDecos ds
+    → (made : ScalarMade t n (header_of style s.style.indent text) (content_lines style text lines) (final_feeds text - 1) ((first ds).trails ++ remarks_of (first ds).gap) q r (body_then (block_lines style margins.lines text lines) (gap_then (first ds).gap r))
+    (end_then (first ds) (block_lines style margins.lines text lines) r))
+    → Rest t q (header_text style s.style.indent text ++ end_then (first ds) (block_lines style margins.lines text lines) r) → HeaderNotes t q made.reached.start made.reached.header.comments (first ds).trails
+notes_of s style text lines margins ds r q u a made w =
+    header_notes (header_text style s.style.indent text) (first ds) (block_lines style margins.lines text lines) r u (header_line style s.style.indent text s.style.indent_to) (header_signs style s.style.indent text s.style.indent_to)
     (some_bytes (header_text style s.style.indent text) (header_filled style s.style.indent text)) (first_deco a) w made.reached.head
 
-tail_of : {t : List ℕ} {n : ℤ} (s : LayoutSetting) {style : ScalarStyle} {text : List ℕ} {lines : List (List ℕ)} (f : FitScalar style text lines) (spot : Spot) (ds : List Deco) (r : List ℕ) (q : ℕ) → IsUtf8 t → 0 < spot.lines
-    → (made : ScalarMade t n (header_of style s.style.indent text) (content_lines style text lines) (final_feeds text - 1) ((first ds).trails ++ remarks_of (first ds).gap) q r (body_then (block_lines style spot.lines text lines) (gap_then (first ds).gap r))
-    (end_then (first ds) (block_lines style spot.lines text lines) r))
+tail_of : {t : List ℕ} {n : ℤ} (s : LayoutSetting) {style : ScalarStyle} {text : List ℕ} {lines : List (List ℕ)} (f : FitScalar style text lines) (margins : Margins) (ds : List Deco) (r : List ℕ) (q : ℕ) → IsUtf8 t → 0 < margins.lines
+    → (made : ScalarMade t n (header_of style s.style.indent text) (content_lines style text lines) (final_feeds text - 1) ((first ds).trails ++ remarks_of (first ds).gap) q r (body_then (block_lines style margins.lines text lines) (gap_then (first ds).gap r))
+    (end_then (first ds) (block_lines style margins.lines text lines) r))
     → HeaderNotes t q made.reached.start made.reached.header.comments (first ds).trails → ScalarTail t (first ds) q made.reached.node.meaning.finish made.reached.node.place made.reached.node.meaning.comments
-tail_of s {style} {text} {lines} f spot ds r q u deep made notes =
-    scalar_tail style text lines s.style.indent spot.lines (first ds) u (body_some spot.lines (final_feeds text - 1) (content_lines style text lines) f.last)
-    (body_texts spot.lines (final_feeds text - 1) (content_lines style text lines) deep f.texts) made.reached made.passed notes
+tail_of s {style} {text} {lines} f margins ds r q u deep made notes =
+    scalar_tail style text lines s.style.indent margins.lines (first ds) u (body_some margins.lines (final_feeds text - 1) (content_lines style text lines) f.last)
+    (body_texts margins.lines (final_feeds text - 1) (content_lines style text lines) deep f.texts) made.reached made.passed notes
 
 module _ {s : LayoutSetting} {at : NodeOffsets} {style : ScalarStyle} {text : List ℕ} {lines : List (List ℕ)} (placed_at : is_some at.span ≡ true) (f : FitScalar style text lines) where
-  bare_made : {t : List ℕ} (row : Row) (spot : Spot) (n : ℤ) (c : Ctx) (ds : List Deco) (r : List ℕ) (q : ℕ) → row.text ≡ header_text style s.style.indent text → row.body ≡ block_lines style spot.lines text lines
-      → row.lines ≡ spot.lines → leaf_steps row.leaves ≡ a_leaf ∷ [] → is_some row.key_comment ≡ false → IsUtf8 t → Stood s (scalar at no_props style text lines) n c spot → AreDecos ds → CalmBody (block_lines style spot.lines text lines) spot.lines (tail_ending (is_kept_tail (final_feeds text))) (first ds).gap r
-      → Rest t q (inline_then (row ∷ []) ds r) → NodeMade t s n c spot (scalar at no_props style text lines) (row ∷ []) ds q r
-  bare_made {t} row spot n c ds r q said body said_lines leaf key u stood a calm w =
-      let there : Rest t q (header_text style s.style.indent text ++ end_then (first ds) (block_lines style spot.lines text lines) r) =
+  bare_made : {t : List ℕ} (row : Row) (margins : Margins) (n : ℤ) (c : Ctx) (ds : List Deco) (r : List ℕ) (q : ℕ) → row.text ≡ header_text style s.style.indent text → row.body ≡ block_lines style margins.lines text lines
+      → row.lines ≡ margins.lines → leaf_steps row.leaves ≡ a_leaf ∷ [] → is_some row.key_comment ≡ false → IsUtf8 t → Stood s (scalar at no_props style text lines) n c margins → AreDecos ds → CalmBody (block_lines style margins.lines text lines) margins.lines (tail_ending (is_kept_tail (final_feeds text))) (first ds).gap r
+      → Rest t q (inline_then (row ∷ []) ds r) → NodeMade t s n c margins (scalar at no_props style text lines) (row ∷ []) ds q r
+  bare_made {t} row margins n c ds r q said body said_lines leaf key u stood a calm w =
+      let there : Rest t q (header_text style s.style.indent text ++ end_then (first ds) (block_lines style margins.lines text lines) r) =
       subst (λ z. Rest t q (header_text style s.style.indent text ++ end_then (first ds) z r)) body (subst (λ z. Rest t q (z ++ end_then (first ds) row.body r)) said w) in
-      let made = scalar_at s.style.indent n spot.lines (first ds) r q f s.style.indent_from s.style.indent_to stood.lines u (first_deco a) calm there in
+      let made = scalar_at s.style.indent n margins.lines (first ds) r q f s.style.indent_from s.style.indent_to stood.lines u (first_deco a) calm there in
       let node = made.reached.node in
       let text_end = rest_text (header_text style s.style.indent text) u (header_line style s.style.indent text s.style.indent_to) there in
-      let deep : 0 < spot.lines = above_zero n stood.lines in
-      let begun = end_start (first ds) r u (first_deco a) (body_texts spot.lines (final_feeds text - 1) (content_lines style text lines) deep f.texts) text_end.rest in
-      let notes = notes_of s style text lines spot ds r q u a made there in
-      let tail = tail_of s f spot ds r q u deep made notes in
+      let deep : 0 < margins.lines = above_zero n stood.lines in
+      let begun = end_start (first ds) r u (first_deco a) (body_texts margins.lines (final_feeds text - 1) (content_lines style text lines) deep f.texts) text_end.rest in
+      let notes = notes_of s style text lines margins ds r q u a made there in
+      let tail = tail_of s f margins ds r q u deep made notes in
       let later = tail.later in
       record {
         height = 0;
@@ -274,44 +274,44 @@ module _ {s : LayoutSetting} {at : NodeOffsets} {style : ScalarStyle} {text : Li
         rest = node.rest;
         start = subst (λ j. LineStart t j) (place_of_rest begun.rest node.rest) begun.start;
         found_rows = leaf_row row.column q node.meaning.finish ∷ [];
-        meant = bare_found s spot row.column s.style.indent q node.meaning placed_at f node.events node.escapes;
-        placed = last_row (leaf_is_at node.meaning.finish (λ z. body_some spot.lines (final_feeds text - 1) (content_lines style text lines) f.last (sym body ∙ z)) key)
+        meant = bare_found s margins row.column s.style.indent q node.meaning placed_at f node.events node.escapes;
+        placed = last_row (leaf_is_at node.meaning.finish (λ z. body_some margins.lines (final_feeds text - 1) (content_lines style text lines) f.last (sym body ∙ z)) key)
             (record {
               ascend = scalar_ascends node.derived;
               is = node.is;
               start = subst (λ j. LineStart t j) (place_of_rest begun.rest node.rest) begun.start;
-              tail = after_scalar tail.first (λ z. body_some spot.lines (final_feeds text - 1) (content_lines style text lines) f.last (sym body ∙ z)) tail.is tail.trail tail.from tail.line tail.order (omega (arith, later))
+              tail = after_scalar tail.first (λ z. body_some margins.lines (final_feeds text - 1) (content_lines style text lines) f.last (sym body ∙ z)) tail.is tail.trail tail.from tail.line tail.order (omega (arith, later))
                   (leaf_to later (omega arith) no_leaf_to) last_end tail.blank tail.broken tail.rest tail.ended tail.rows;
             }) node.rest;
         is = node.is ∙ sym (append-nil (carried_texts (first ds)));
         laid = subst (λ z. MeaningLaid q node.place node.meaning z) (scalar_steps row ds leaf) (laid_scalar q node.meaning.finish (omega arith) node.events (scalar_ascends node.derived) node.is);
-        set = let found = bare_found {t = t} {at = at} s spot row.column s.style.indent q node.meaning placed_at f node.events node.escapes in
-            subst (λ k. SetMeant t s.style spot.entries k (begins_below (scalar at no_props style text lines)) q node.meaning) stood.lines
-            (set_block (block_lines style spot.lines text lines) (gap_then (first ds).gap r) found.alike found.events f.block deep (bare_scalar s.style.indent spot.lines u f made));
-        held = held_scalar node.meaning row ds r spot.lines (block_lines style spot.lines text lines) body said_lines made.comments made.seen (bare_scalar s.style.indent spot.lines u f made);
+        set = let found = bare_found {t = t} {at = at} s margins row.column s.style.indent q node.meaning placed_at f node.events node.escapes in
+            subst (λ k. SetMeant t s.style margins.entries k (begins_below (scalar at no_props style text lines)) q node.meaning) stood.lines
+            (set_block (block_lines style margins.lines text lines) (gap_then (first ds).gap r) found.alike found.events f.block deep (bare_scalar s.style.indent margins.lines u f made));
+        held = held_scalar node.meaning row ds r margins.lines (block_lines style margins.lines text lines) body said_lines made.comments made.seen (bare_scalar s.style.indent margins.lines u f made);
       }
     where
       above_zero : (n : ℤ) {k : ℕ} → k ≡ base n + s.style.indent → 0 < k
       above_zero n e = let wide : 2 ≤ s.style.indent = s.style.indent_from in omega (arith, wide, e)
 
-  props_made : {t : List ℕ} {p : PropsValue} (row : Row) (spot : Spot) (n : ℤ) (c : Ctx) (ds : List Deco) (r : List ℕ) (q : ℕ) → IsProps p → p ≢ no_props → row.text ≡ props_bytes p ++ (32 ∷ header_text style s.style.indent text)
-      → row.body ≡ block_lines style spot.lines text lines → row.lines ≡ spot.lines → leaf_steps row.leaves ≡ a_leaf ∷ [] → is_some row.key_comment ≡ false → IsUtf8 t → Stood s (scalar at p style text lines) n c spot → AreDecos ds
-      → CalmBody (block_lines style spot.lines text lines) spot.lines (tail_ending (is_kept_tail (final_feeds text))) (first ds).gap r
-      → Rest t q (inline_then (row ∷ []) ds r) → NodeMade t s n c spot (scalar at p style text lines) (row ∷ []) ds q r
-  props_made {t} {p} row spot n c ds r q props some said body said_lines leaf key u stood a calm w =
-      let z : List ℕ = end_then (first ds) (block_lines style spot.lines text lines) r in
+  props_made : {t : List ℕ} {p : PropsValue} (row : Row) (margins : Margins) (n : ℤ) (c : Ctx) (ds : List Deco) (r : List ℕ) (q : ℕ) → IsProps p → p ≢ no_props → row.text ≡ props_bytes p ++ (32 ∷ header_text style s.style.indent text)
+      → row.body ≡ block_lines style margins.lines text lines → row.lines ≡ margins.lines → leaf_steps row.leaves ≡ a_leaf ∷ [] → is_some row.key_comment ≡ false → IsUtf8 t → Stood s (scalar at p style text lines) n c margins → AreDecos ds
+      → CalmBody (block_lines style margins.lines text lines) margins.lines (tail_ending (is_kept_tail (final_feeds text))) (first ds).gap r
+      → Rest t q (inline_then (row ∷ []) ds r) → NodeMade t s n c margins (scalar at p style text lines) (row ∷ []) ds q r
+  props_made {t} {p} row margins n c ds r q props some said body said_lines leaf key u stood a calm w =
+      let z : List ℕ = end_then (first ds) (block_lines style margins.lines text lines) r in
       let there : Rest t q (props_bytes p ++ (32 ∷ (header_text style s.style.indent text ++ z))) =
       subst (λ v. Rest t q v) (append_assoc (props_bytes p) (32 ∷ header_text style s.style.indent text) z)
       (subst (λ v. Rest t q ((props_bytes p ++ (32 ∷ header_text style s.style.indent text)) ++ end_then (first ds) v r)) body (subst (λ v. Rest t q (v ++ end_then (first ds) row.body r)) said w)) in
       let before = propertied (n +ℤ pos 1) c (header_text style s.style.indent text ++ z) u props some there in
       let i : ℕ = q + length (props_bytes p) + 1 in
-      let made = scalar_at s.style.indent n spot.lines (first ds) r i f s.style.indent_from s.style.indent_to stood.lines u (first_deco a) calm before.rest in
+      let made = scalar_at s.style.indent n margins.lines (first ds) r i f s.style.indent_from s.style.indent_to stood.lines u (first_deco a) calm before.rest in
       let node = made.reached.node in
       let text_end = rest_text (header_text style s.style.indent text) u (header_line style s.style.indent text s.style.indent_to) before.rest in
-      let deep : 0 < spot.lines = above_zero n stood.lines in
-      let begun = end_start (first ds) r u (first_deco a) (body_texts spot.lines (final_feeds text - 1) (content_lines style text lines) deep f.texts) text_end.rest in
-      let notes = notes_of s style text lines spot ds r i u a made before.rest in
-      let tail = tail_of s f spot ds r i u deep made notes in
+      let deep : 0 < margins.lines = above_zero n stood.lines in
+      let begun = end_start (first ds) r u (first_deco a) (body_texts margins.lines (final_feeds text - 1) (content_lines style text lines) deep f.texts) text_end.rest in
+      let notes = notes_of s style text lines margins ds r i u a made before.rest in
+      let tail = tail_of s f margins ds r i u deep made notes in
       let later = tail.later in
       let from = tail.from in
       let o : Option ℕ = tag_offset_at q p.anchor p.tag in
@@ -326,48 +326,48 @@ module _ {s : LayoutSetting} {at : NodeOffsets} {style : ScalarStyle} {text : Li
         rest = node.rest;
         start = subst (λ j. LineStart t j) (place_of_rest begun.rest node.rest) begun.start;
         found_rows = leaf_row row.column q node.meaning.finish ∷ [];
-        meant = props_found s spot row.column s.style.indent i q g p o node.meaning placed_at f node.events node.escapes;
+        meant = props_found s margins row.column s.style.indent i q g p o node.meaning placed_at f node.events node.escapes;
         placed = subst (λ v. RowsIn t (row ∷ []) (leaf_row row.column q node.meaning.finish ∷ []) ds q v node.place r) (sym (comments_with_props p o q g node.meaning))
-            (last_row (leaf_is_at node.meaning.finish (λ v. body_some spot.lines (final_feeds text - 1) (content_lines style text lines) f.last (sym body ∙ v)) key)
+            (last_row (leaf_is_at node.meaning.finish (λ v. body_some margins.lines (final_feeds text - 1) (content_lines style text lines) f.last (sym body ∙ v)) key)
             (record {
               ascend = ascend_after (omega arith) (scalar_ascends node.derived);
               is = node.is;
               start = subst (λ j. LineStart t j) (place_of_rest begun.rest node.rest) begun.start;
-              tail = after_scalar tail.first (λ v. body_some spot.lines (final_feeds text - 1) (content_lines style text lines) f.last (sym body ∙ v)) tail.is tail.trail (omega (arith, from)) tail.line tail.order (omega (arith, later))
+              tail = after_scalar tail.first (λ v. body_some margins.lines (final_feeds text - 1) (content_lines style text lines) f.last (sym body ∙ v)) tail.is tail.trail (omega (arith, from)) tail.line tail.order (omega (arith, later))
                   (leaf_to (omega (arith, later)) (omega arith) no_leaf_to) last_end tail.blank tail.broken tail.rest tail.ended tail.rows;
             }) node.rest);
         is = texts_with_props p o q g node.meaning ∙ (node.is ∙ sym (append-nil (carried_texts (first ds))));
         laid = subst (λ z. MeaningLaid q node.place (with_props p o q g node.meaning) z) (scalar_steps row ds leaf)
             (laid_scalar_with p o q g i node.meaning.finish node.meaning (omega arith) node.events (scalar_ascends node.derived) node.is);
-        set = let found = props_found {t = t} {at = at} s spot row.column s.style.indent i q g p o node.meaning placed_at f node.events node.escapes in
-            subst (λ k. SetMeant t s.style spot.entries k (begins_below (scalar at p style text lines)) q (with_props p o q g node.meaning)) stood.lines
-            (set_block (block_lines style spot.lines text lines) (gap_then (first ds).gap r) found.alike found.events f.block deep (props_scalar s.style.indent spot.lines u f made q g p o (n +ℤ pos 1) c before.properties before.separate));
-        held = held_scalar (with_props p o q g node.meaning) row ds r spot.lines (block_lines style spot.lines text lines) body said_lines (props_set t p o q g node.meaning made.comments) made.seen
-            (props_scalar s.style.indent spot.lines u f made q g p o (n +ℤ pos 1) c before.properties before.separate);
+        set = let found = props_found {t = t} {at = at} s margins row.column s.style.indent i q g p o node.meaning placed_at f node.events node.escapes in
+            subst (λ k. SetMeant t s.style margins.entries k (begins_below (scalar at p style text lines)) q (with_props p o q g node.meaning)) stood.lines
+            (set_block (block_lines style margins.lines text lines) (gap_then (first ds).gap r) found.alike found.events f.block deep (props_scalar s.style.indent margins.lines u f made q g p o (n +ℤ pos 1) c before.properties before.separate));
+        held = held_scalar (with_props p o q g node.meaning) row ds r margins.lines (block_lines style margins.lines text lines) body said_lines (props_set t p o q g node.meaning made.comments) made.seen
+            (props_scalar s.style.indent margins.lines u f made q g p o (n +ℤ pos 1) c before.properties before.separate);
       }
     where
       above_zero : (n : ℤ) {k : ℕ} → k ≡ base n + s.style.indent → 0 < k
       above_zero n e = let wide : 2 ≤ s.style.indent = s.style.indent_from in omega (arith, wide, e)
 
-  block_claim : {p : PropsValue} (spot : Spot) → FitProps p → Claim s (scalar at p style text lines) spot (block_scalar s.style spot (scalar at p style text lines) p style text lines)
-  block_claim spot no_fit_props =
-      some_rows (λ z. refl) (λ z. absurd (true≢false (sym z))) (record { made = λ {t} n c ds r q u stood a calm w. bare_made _ spot n c ds r q refl refl refl (one_leaf at.span placed_at) refl u stood a calm.0 w })
-  block_claim spot (some_fit_props {p = p} k n) =
+  block_claim : {p : PropsValue} (margins : Margins) → FitProps p → Claim s (scalar at p style text lines) margins (block_scalar s.style margins (scalar at p style text lines) p style text lines)
+  block_claim margins no_fit_props =
+      some_rows (λ z. refl) (λ z. absurd (true≢false (sym z))) (record { made = λ {t} n c ds r q u stood a calm w. bare_made _ margins n c ds r q refl refl refl (one_leaf at.span placed_at) refl u stood a calm.0 w })
+  block_claim margins (some_fit_props {p = p} k n) =
       some_rows (λ z. refl) (λ z. absurd (true≢false (sym z))) (record {
         made = λ {t} m c ds r q u stood a calm w.
-            props_made _ spot m c ds r q k n (header_with style s.style.indent text k n) refl refl (one_leaf at.span placed_at) refl u stood a calm.0 w;
+            props_made _ margins m c ds r q k n (header_with style s.style.indent text k n) refl refl (one_leaf at.span placed_at) refl u stood a calm.0 w;
       })
 
 -- its rows, by its style
-pub scalar_rows_are : (c : LayoutSetting) (spot : Spot) (at : NodeOffsets) (p : PropsValue) (text : List ℕ) (lines : List (List ℕ)) (style : ScalarStyle) → is_block_style style ≡ true
-    → rows c spot (scalar at p style text lines) ≡ block_scalar c.style spot (scalar at p style text lines) p style text lines
-scalar_rows_are c spot at p text lines Plain e = absurd (true≢false (sym e))
-scalar_rows_are c spot at p text lines Single e = absurd (true≢false (sym e))
-scalar_rows_are c spot at p text lines Double e = absurd (true≢false (sym e))
-scalar_rows_are c spot at p text lines Literal e = refl
-scalar_rows_are c spot at p text lines Folded e = refl
+pub scalar_rows_are : (c : LayoutSetting) (margins : Margins) (at : NodeOffsets) (p : PropsValue) (text : List ℕ) (lines : List (List ℕ)) (style : ScalarStyle) → is_block_style style ≡ true
+    → rows c margins (scalar at p style text lines) ≡ block_scalar c.style margins (scalar at p style text lines) p style text lines
+scalar_rows_are c margins at p text lines Plain e = absurd (true≢false (sym e))
+scalar_rows_are c margins at p text lines Single e = absurd (true≢false (sym e))
+scalar_rows_are c margins at p text lines Double e = absurd (true≢false (sym e))
+scalar_rows_are c margins at p text lines Literal e = refl
+scalar_rows_are c margins at p text lines Folded e = refl
 
-pub scalar_claim : (c : LayoutSetting) (spot : Spot) {at : NodeOffsets} {p : PropsValue} {style : ScalarStyle} {text : List ℕ} {lines : List (List ℕ)} → is_some at.span ≡ true → FitProps p → FitScalar style text lines
-    → Claim c (scalar at p style text lines) spot (rows c spot (scalar at p style text lines))
-scalar_claim c spot {at} {p} {style} {text} {lines} e k f =
-    subst (λ rs. Claim c (scalar at p style text lines) spot rs) (sym (scalar_rows_are c spot at p text lines style f.block)) (block_claim e f spot k)
+pub scalar_claim : (c : LayoutSetting) (margins : Margins) {at : NodeOffsets} {p : PropsValue} {style : ScalarStyle} {text : List ℕ} {lines : List (List ℕ)} → is_some at.span ≡ true → FitProps p → FitScalar style text lines
+    → Claim c (scalar at p style text lines) margins (rows c margins (scalar at p style text lines))
+scalar_claim c margins {at} {p} {style} {text} {lines} e k f =
+    subst (λ rs. Claim c (scalar at p style text lines) margins rs) (sym (scalar_rows_are c margins at p text lines style f.block)) (block_claim e f margins k)

@@ -14,6 +14,7 @@ use Rattle.yf_grammar.specs.Productions.Meaning.{Meaning, ◌⊕◌, meaning_aft
 use Rattle.yf_grammar.proofs.Documents.CommentOrder.{Ascend, no_more, one_more}
 use Rattle.yf_grammar.proofs.NodesInText.NodePlaces.{NodeIsAt, is_at_nowhere, scalar_is_at, alias_is_at, sequence_is_at, mapping_is_at, ItemsStand, no_items_stand, item_is_at, PairsStand, no_pairs_stand, pair_is_at, colon_order}
 use Rattle.yf_grammar.proofs.NodesInText.PlacedNodes.{NodeAt}
+use Rattle.yf_stream.proofs.LeafPass.LeafTrees.{node_goes_on}
 use Rattle.yf_emit.proofs.Derived.LayoutSteps.{Step, a_leaf, a_comment, leaf_steps, comment_steps}
 
 -- where leaves begin, and comments, in the order of steps
@@ -91,12 +92,6 @@ span_starts : (o : Option Span) → start_in true o ≡ starts_of (spans_of_leaf
 span_starts None = refl
 span_starts (Some s) = refl
 
-pub node_begun : (x : Node) (rest : List EventInText) → ends_next (flat x ++ rest) ≡ false
-node_begun (scalar_tree at props style text lines) rest = refl
-node_begun (alias_tree at name) rest = refl
-node_begun (sequence at flow props xs) rest = refl
-node_begun (mapping at flow props ps) rest = refl
-
 starts_join : (xs ys : List Span) (zs : List ℕ) → starts_of xs ++ (starts_of ys ++ zs) ≡ starts_of (xs ++ ys) ++ zs
 starts_join xs ys zs = sym (append_assoc (starts_of xs) (starts_of ys) zs) ∙ ap (λ w. w ++ zs) (sym (map-append (λ (s : Span). s.start) xs ys))
 
@@ -116,12 +111,12 @@ mutual
   node_starts (sequence at flow props (item x xs)) rest =
       let end : EventInText = unplaced sequence_ends in
       collected at.span (flat x ++ flat_items xs) end (starts_of (leaves x ++ leaves_of_items xs)) rest refl
-      (ap ends_next (append_assoc (flat x) (flat_items xs) (end ∷ rest)) ∙ node_begun x (flat_items xs ++ (end ∷ rest))) (items_starts (item x xs) (end ∷ rest))
+      (ap ends_next (append_assoc (flat x) (flat_items xs) (end ∷ rest)) ∙ node_goes_on x (flat_items xs ++ (end ∷ rest))) (items_starts (item x xs) (end ∷ rest))
   node_starts (mapping at flow props no_pairs) rest = ap (λ w. w ++ leaf_starts rest) (span_starts at.span)
   node_starts (mapping at flow props (pair k v ps)) rest =
       let end : EventInText = unplaced mapping_ends in
       collected at.span (flat k ++ (flat v ++ flat_pairs ps)) end (starts_of (leaves k ++ (leaves v ++ leaves_of_pairs ps))) rest refl
-      (ap ends_next (append_assoc (flat k) (flat v ++ flat_pairs ps) (end ∷ rest)) ∙ node_begun k ((flat v ++ flat_pairs ps) ++ (end ∷ rest))) (pairs_starts (pair k v ps) (end ∷ rest))
+      (ap ends_next (append_assoc (flat k) (flat v ++ flat_pairs ps) (end ∷ rest)) ∙ node_goes_on k ((flat v ++ flat_pairs ps) ++ (end ∷ rest))) (pairs_starts (pair k v ps) (end ∷ rest))
 
   items_starts : (xs : Items) (rest : List EventInText) → leaf_starts (flat_items xs ++ rest) ≡ starts_of (leaves_of_items xs) ++ leaf_starts rest
   items_starts no_items rest = refl
@@ -231,7 +226,7 @@ laid_empty k l = record { starts = []; begun = λ rest. refl; are = λ rest. ref
 pub laid_node : {t : List ℕ} {i j : ℕ} {m : Meaning} (a : NodeAt t i j m) → m.comments ≡ [] → MeaningLaid i j m (leaf_steps (leaves a.node))
 laid_node {i = i} {j = j} {m = m} a silent = record {
   starts = starts_of (leaves a.node);
-  begun = λ rest. ap (λ w. ends_next (w ++ rest)) a.events ∙ node_begun a.node rest;
+  begun = λ rest. ap (λ w. ends_next (w ++ rest)) a.events ∙ node_goes_on a.node rest;
   are = λ rest. ap (λ w. leaf_starts (w ++ rest)) a.events ∙ node_starts a.node rest;
   stand = subst (λ cs. Stand i (starts_of (leaves a.node)) cs (leaf_steps (leaves a.node)) j) (sym silent) (stand_upto (node_stand a.is_there) a.ends);
 }

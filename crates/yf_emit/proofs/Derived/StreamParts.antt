@@ -1,8 +1,7 @@
 -- Documents of a stream, with their leaves and comments in order.
-use Rattle.std.proofs.Common.{◌≡◌, ℕ, ◌≤◌, Bool, true, List, [], ◌∷◌, ◌++◌, length, map, drop, Option, refl, sym, ap, ◌∙◌, arith, append_assoc, length-drop, false}
+use Rattle.std.proofs.Common.{◌≡◌, ℕ, ◌≤◌, Bool, true, List, [], ◌∷◌, ◌++◌, map, Option, refl, sym, ap, ◌∙◌, append_assoc, false}
 use Rattle.yf_chars.specs.Chain.{Chain}
 use Rattle.yf_chars.specs.Chain.Chain.{done, step}
-use Rattle.yf_lines.proofs.RestLemmas.{Rest}
 use Rattle.yf_comments.specs.Comment.{CommentValue}
 use Rattle.yf_comments.specs.Comments.{CommentLine}
 use Rattle.yf_comments.proofs.GapLinesLemmas.{texts, texts_append}
@@ -92,11 +91,6 @@ unfolding with_document
 documents_laid d x y = record { starts = x.starts ++ y.starts; are = λ rest e. more_starts x.starts y.starts rest x.are (λ fs others z. y.are rest z) e; stand = stand_join x.stand y.stand }
 
 -- Where a stream ends, and what is before its documents.
-
-pub ended_at : {t : List ℕ} {q : ℕ} → Rest t q [] → q ≡ length t
-ended_at {t} {q} s =
-    let none : length (drop q t) ≡ 0 = ap length s.bytes in
-    omega (arith, none, length-drop q t, s.boundary.0)
 
 pub prefixes_of : {t : List ℕ} {i j : ℕ} {cs : List CommentValue} → Chain (CommentLine t) i j cs → Prefixes t i j cs
 prefixes_of done = done

@@ -10,6 +10,7 @@ use Rattle.yf_comments.specs.Comments.{CommentLine}
 use Rattle.yf_comments.specs.GapLines.{AreGapLines, remarks_of}
 use Rattle.yf_comments.proofs.GapLinesLemmas.{texts, texts_append, gap_at}
 use Rattle.yf_comments.proofs.LineEndLemmas.{lines_rows}
+use Rattle.yf_block_scalar.proofs.PlacedLemmas.{rest_end}
 use Rattle.yf_events.specs.declared.document.Doc.{Doc}
 use Rattle.yf_events.specs.Tree.{DocumentTree}
 use Rattle.yf_grammar.specs.Productions.TreesOfMeaning.{tall}
@@ -36,7 +37,7 @@ use Rattle.yf_emit.proofs.RowNodes.PlacedRows.{PlacedRow}
 use Rattle.yf_emit.proofs.Derived.RowEnds.{past_decos, comments_append, calm_append}
 use Rattle.yf_emit.proofs.Columns.SetStreams.{SetAll, none_set, documents_set}
 use Rattle.yf_emit.proofs.Derived.StepsInText.{Stand, nothing_is_at, stand_join, comments_stand, events_after}
-use Rattle.yf_emit.proofs.Derived.StreamParts.{ended_at, prefixes_of, texts_with_document, documents_with, texts_with_comments, same_documents, DocumentsLaid, no_documents_laid, laid_with_comments, documents_laid}
+use Rattle.yf_emit.proofs.Derived.StreamParts.{prefixes_of, texts_with_document, documents_with, texts_with_comments, same_documents, DocumentsLaid, no_documents_laid, laid_with_comments, documents_laid}
 use Rattle.yf_emit.proofs.OutputLines.WellSet.{lines_set, set_append}
 use Rattle.yf_emit.proofs.Derived.StreamsMade.{first_with, rest_made, root_rows}
 use Rattle.yf_emit.proofs.Derived.BareMade.{FirstMade, BareRow, bare_made, bare_row, marked_first}
@@ -99,7 +100,7 @@ stream_from {t} c {bare = bare} {d = d} {ds = ds} {x = x} {xs = xs} head gap dec
       are = comments_with_document (at.comments ++ one.comments) one.document last.documents ∙ append_assoc at.comments one.comments last.documents.comments;
       found_rows = one.found_rows ++ last.found_rows;
       found = all_found_with one.found_rows last.found_rows (at.comments ++ one.comments) last.documents (λ ms z. one.found z) last.found;
-      placed = stream_more starts one.placed (λ e. ended_at (subst (λ z. Rest t one.place (lines_then z (past head decos) [])) e one.rest)) last.placed;
+      placed = stream_more starts one.placed (λ e. rest_end (subst (λ z. Rest t one.place (lines_then z (past head decos) [])) e one.rest)) last.placed;
       begun = subst (λ z. Stand 0 (starts_in (with_document (at.comments ++ one.comments) one.document last.documents)) (with_document (at.comments ++ one.comments) one.document last.documents).comments z (length t))
           (append_assoc (comment_steps (remarks_of gap)) (steps_with documents_begin head decos) (steps_with documents_begin others (past head decos))
           ∙ ap (λ z. comment_steps (remarks_of gap) ++ z) (sym (with_append documents_begin head others decos)))
@@ -120,8 +121,8 @@ stream_made : {t : List ℕ} (c : LayoutSetting) (bare : Bool) {ds : List Doc} {
     → StreamLaid t c bare ds xs gap (all_rows c bare ds xs) decos
 stream_made {t} c false gap decos fit_no_documents fits u g a k w =
     let at = gap_at gap [] u g at_text w in
-    let rest : StreamRest t 0 at.place (only_comments []) = subst (λ p. StreamRest t 0 p (only_comments [])) (sym (ended_at at.rest)) stream_ended in
-    let end : at.place ≡ length t = ended_at at.rest in
+    let rest : StreamRest t 0 at.place (only_comments []) = subst (λ p. StreamRest t 0 p (only_comments [])) (sym (rest_end at.rest)) stream_ended in
+    let end : at.place ≡ length t = rest_end at.rest in
     record {
       made = record {
         height = 0;

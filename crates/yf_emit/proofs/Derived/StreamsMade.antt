@@ -6,6 +6,7 @@ use Rattle.yf_chars.specs.Chain.Chain.{done}
 use Rattle.yf_lines.proofs.RestLemmas.{Rest}
 use Rattle.yf_comments.specs.Comment.{CommentValue}
 use Rattle.yf_comments.proofs.GapLinesLemmas.{texts, texts_append}
+use Rattle.yf_block_scalar.proofs.PlacedLemmas.{rest_end}
 use Rattle.yf_events.specs.declared.directive.Directive.{Directive}
 use Rattle.yf_events.specs.declared.document.Doc.{Doc}
 use Rattle.yf_events.specs.Tree.{DocumentTree}
@@ -21,7 +22,7 @@ use Rattle.yf_emit.specs.Layouts.RowComments.{AreDecos, carried_texts, comments_
 use Rattle.yf_emit.specs.Layouts.Decorated.{Deco, first, after, past, end_then, lines_then}
 use Rattle.yf_emit.specs.Layouts.FitDocuments.{FitDirective, FitDirectives, fit_directive, FitDocuments, fit_no_documents, fit_document, DocumentMeant, DocumentsMeant, no_documents_meant, tall_documents}
 use Rattle.yf_emit.specs.Layouts.ReadableTrees.{Fit}
-use Rattle.yf_forms.specs.NormalForms.Normal.{LayoutSetting, root_spot}
+use Rattle.yf_forms.specs.NormalForms.Normal.{LayoutSetting, root_margins}
 use Rattle.yf_print.specs.Layouts.Rows.{Row, plain_row, directive_row, start_row, joined_words, rows, document_rows, stream_rows}
 use Rattle.yf_emit.proofs.Derived.LayoutSteps.{steps_in}
 use Rattle.yf_emit.proofs.Derived.DecoratedLemmas.{lines_append}
@@ -41,7 +42,7 @@ use Rattle.yf_emit.proofs.Columns.SetMeant.{SetDone}
 use Rattle.yf_emit.proofs.Columns.SetStreams.{SetAll, none_set, document_set, documents_set}
 use Rattle.yf_emit.proofs.Derived.StepsInText.{Stand, nothing_is_at, stand_after, stand_join, comments_stand, EventsLaid, events_after}
 use Rattle.yf_emit.proofs.Derived.TreesMade.{node_claim}
-use Rattle.yf_emit.proofs.Derived.StreamParts.{beside_tree, ended_at, head_rows, meant_document, texts_with_document, documents_with, laid_document, DocumentsLaid, no_documents_laid, documents_laid}
+use Rattle.yf_emit.proofs.Derived.StreamParts.{beside_tree, head_rows, meant_document, texts_with_document, documents_with, laid_document, DocumentsLaid, no_documents_laid, documents_laid}
 use Rattle.yf_emit.proofs.OutputLines.WellSet.{set_append}
 
 -- Rows of directives, and of the node after them.
@@ -65,14 +66,14 @@ pub record AnyMade (t : List ℕ) (s : LayoutSetting) (d : Doc) (x : DocumentTre
   pub set : SetDone t s.style 0 s.style.indent document.events
 
 abbrev pub root_rows : LayoutSetting → DocumentTree → List Row
-root_rows c x = rows c (root_spot c.style) x.root
+root_rows c x = rows c (root_margins c.style) x.root
 
 pub root_deep : (c : LayoutSetting) → 0 < c.style.indent
 root_deep c = let wide : 2 ≤ c.style.indent = c.style.indent_from in omega (arith, wide)
 
 explicit_at : {t : List ℕ} (c : LayoutSetting) (x : DocumentTree) (row : Row) (ds : List Deco) (r : List ℕ) (q : ℕ) → row.leaves ≡ [] → row.body ≡ [] → row.column ≡ 0 → length row.text ≡ 3 → is_some row.key_comment ≡ false → Fit c.style x.root → IsUtf8 t → AreDecos ds → Calm (root_rows c x) (after ds) r
     → Rest t q (45 ∷ 45 ∷ 45 ∷ end_then (first ds) [] (lines_then (root_rows c x) (after ds) r)) → ExplicitMade t c x.root (row ∷ root_rows c x) ds q r
-explicit_at c x row ds r q none bare column width key fit u a k w = explicit_made row ds r q none bare column width key (node_claim c (root_spot c.style) fit) (row_texts c (root_spot c.style) (root_deep c) fit) u a k w
+explicit_at c x row ds r q none bare column width key fit u a k w = explicit_made row ds r q none bare column width key (node_claim c (root_margins c.style) fit) (row_texts c (root_margins c.style) (root_deep c) fit) u a k w
 
 -- where the first row is given, of any items
 directed : {t : List ℕ} (c : LayoutSetting) {d : Doc} (x : DocumentTree) {e : Directive} {es : List Directive} (row : Row) (ds : List Deco) (r : List ℕ) (q : ℕ) → row.leaves ≡ [] → row.body ≡ [] → row.text ≡ 37 ∷ joined_words e.words → is_some row.key_comment ≡ false → documents_begin row ≡ [] → d.directives ≡ e ∷ es
@@ -106,7 +107,7 @@ directed {t} c {d} x {e} {es} row ds r q none bare said key plain same f fs fit 
       begun = document_begun one.place one.meaning.directives node.meaning
           (subst (λ z. Stand q (one.place ∷ []) (one.meaning.comments ++ node.meaning.comments) z node.place) (sym (with_append documents_begin (row ∷ map directive_row es) (start_row ∷ tree) ds))
           (stand_join (subst (λ z. Stand q [] one.meaning.comments z one.place) (sym (quiet_steps (no_start_on {row = row} plain (directives_none es)) ds)) (comments_stand (directives_ascend one.lines) one.is))
-          (explicit_begun start_row (past (map directive_row es) (after ds)) refl refl (rows_none c (root_spot c.style) x.root) node)));
+          (explicit_begun start_row (past (map directive_row es) (after ds)) refl refl (rows_none c (root_margins c.style) x.root) node)));
       set = document_set one.place one.meaning.directives node.meaning node.set;
       held = record {
         comments = set_append t one.meaning.comments node.meaning.comments (one.held node.meaning.events).comments node.held.comments;
@@ -134,7 +135,7 @@ first_with {t} c {d} x start [] ds r q same f fit u a k w =
       found_rows = node.head ∷ node.inner;
       found = found_document true q [] (node.head ∷ []) (mark_head node.unleaved node.from) node.meant refl;
       placed = node.placed;
-      begun = document_begun q [] node.meaning (explicit_begun (record start_row { items = start ∷ [] }) ds refl refl (rows_none c (root_spot c.style) x.root) node);
+      begun = document_begun q [] node.meaning (explicit_begun (record start_row { items = start ∷ [] }) ds refl refl (rows_none c (root_margins c.style) x.root) node);
       set = document_set q [] node.meaning node.set;
       held = record { comments = node.held.comments; bodies = held_events t node.meaning (record start_row { items = start ∷ [] } ∷ root_rows c x) ds r q [] node.held.bodies };
     }
@@ -185,7 +186,7 @@ step_with {t} c {d} x start [] ds r q same f fit u a k w =
       found_rows = node.head ∷ node.inner;
       found = found_document false q [] (node.head ∷ []) (mark_head node.unleaved node.from) node.meant refl;
       placed = node.placed;
-      begun = document_begun q [] node.meaning (explicit_begun (record start_row { items = start ∷ [] }) ds refl refl (rows_none c (root_spot c.style) x.root) node);
+      begun = document_begun q [] node.meaning (explicit_begun (record start_row { items = start ∷ [] }) ds refl refl (rows_none c (root_margins c.style) x.root) node);
       set = document_set q [] node.meaning node.set;
       held = record { comments = node.held.comments; bodies = held_events t node.meaning (record start_row { items = start ∷ [] } ∷ root_rows c x) ds r q [] node.held.bodies };
     }
@@ -259,15 +260,15 @@ pub rest_made : {t : List ℕ} (c : LayoutSetting) {ds : List Doc} {xs : List Do
 rest_made {t} c fit_no_documents decos q u a k w = record {
   height = 0;
   documents = only_comments [];
-  derived = subst (λ p. StreamRest t 0 p (only_comments [])) (sym (ended_at w)) stream_ended;
+  derived = subst (λ p. StreamRest t 0 p (only_comments [])) (sym (rest_end w)) stream_ended;
   low = omega arith;
   meant = no_documents_meant;
   is = refl;
-  laid = no_documents_laid (let end : q ≡ length t = ended_at w in omega (arith, end));
+  laid = no_documents_laid (let end : q ≡ length t = rest_end w in omega (arith, end));
   found_rows = [];
   found = no_documents_found;
   placed = no_stream;
-  begun = nothing_is_at (let end : q ≡ length t = ended_at w in omega (arith, end));
+  begun = nothing_is_at (let end : q ≡ length t = rest_end w in omega (arith, end));
   set = none_set;
   held = record { comments = tt; bodies = tt };
 }
@@ -292,7 +293,7 @@ rest_made {t} c (fit_document {d = d} {ds = ds} {x = x} {xs = xs} f fit more) de
       found_rows = one.found_rows ++ last.found_rows;
       found = found_with one.comments last.documents one.found last.found;
       placed = subst (λ z. StreamIn t (head ++ others) (one.found_rows ++ last.found_rows) decos q z) (sym (comments_with_document one.comments one.document last.documents))
-          (stream_more (document_begins false d.start d.directives (root_rows c x)) one.placed (λ e. ended_at (subst (λ z. Rest t one.place (lines_then z (past head decos) [])) e one.rest)) last.placed);
+          (stream_more (document_begins false d.start d.directives (root_rows c x)) one.placed (λ e. rest_end (subst (λ z. Rest t one.place (lines_then z (past head decos) [])) e one.rest)) last.placed);
       begun = subst (λ z. Stand q (starts_in (with_document one.comments one.document last.documents)) (with_document one.comments one.document last.documents).comments z (length t))
           (sym (with_append documents_begin head others decos)) (documents_begun one.comments one.document last.documents one.begun last.begun);
       set = documents_set one.comments one.document last.documents one.set last.set;

@@ -13,14 +13,14 @@ use Rattle.yf_emit.specs.Preservation.EmptyTexts.{IsEmptyAlike}
 use Rattle.yf_emit.specs.Format.{IsFormatting}
 use Rattle.yf_emit.specs.Layouts.Layout.{Line, Source, blank_line, bytes_after, comment_line, is_among, line_bytes, lines_of, lines_with_comments, own_line_comments, precedes_item, row_line, source_of}
 use Rattle.yf_forms.specs.Nodes.Lines.{ended}
-use Rattle.yf_forms.specs.NormalForms.Normal.{LayoutSetting, root_spot, setting_of}
+use Rattle.yf_forms.specs.NormalForms.Normal.{LayoutSetting, root_margins, setting_of}
 use Rattle.yf_print.specs.Layouts.Rows.{Ending, Row, at_text_start, beginning_at, directive_row, end_rows, rows, start_row, stream_rows, all_rows, begun_at}
-use Rattle.yf_emit.proofs.SameReading.StepComments.{firsts}
 use Rattle.yf_emit.proofs.Keeps.KeyDecides.{as_many_notes}
 use Rattle.yf_emit.proofs.Derived.BareFound.{rows_some}
 use Rattle.yf_print.specs.Layouts.BareStart.{is_bare}
 use Rattle.yf_emit.specs.Layouts.FitDocuments.{FitDocuments, fit_document, FitsBare, fits_bare, fit_no_documents}
 use Rattle.yf_emit.proofs.Derived.FormatsRead.{formats_bare, formats_fit}
+use Rattle.yf_emit.proofs.Trails.TrailOthers.{firsts}
 use Rattle.std.specs.Str.{IsUtf8}
 use Rattle.yf_print.specs.Layouts.KeptColumns.{Columns}
 
@@ -63,7 +63,7 @@ documents_none c [] trees l e = refl
 documents_none c (d ∷ ds) [] l e = absurd (omega (arith, l))
 documents_none c (d ∷ ds) (x ∷ xs) l e =
     absurd (begun_some d.start d.directives
-    (first_none (beginning_at d.start (end_rows true d.directives ++ (map directive_row d.directives ++ (start_row ∷ [])))) (rows c (root_spot c.style) x.root) (stream_rows c false ds xs) e))
+    (first_none (beginning_at d.start (end_rows true d.directives ++ (map directive_row d.directives ++ (start_row ∷ [])))) (rows c (root_margins c.style) x.root) (stream_rows c false ds xs) e))
 
 fit_count : (house : Style) {ds : List Doc} {xs : List DocumentTree} → FitDocuments house ds xs → length ds ≡ length xs
 fit_count house fit_no_documents = refl
@@ -73,7 +73,7 @@ all_none : (c : LayoutSetting) (bare : Bool) (ds : List Doc) (trees : List Docum
 all_none c false ds trees fit fits e = documents_none c ds trees (fit_count c.style fit) e
 all_none c true [] trees fit fits e = elim fits [ ]
 all_none c true (d ∷ ds) [] fit fits e = elim fit [ ]
-all_none c true (d ∷ ds) (x ∷ xs) (fit_document f fit more) (fits_bare none some) e = absurd (bare_none (rows c (root_spot c.style) x.root) e (rows_some c fit some)) where
+all_none c true (d ∷ ds) (x ∷ xs) (fit_document f fit more) (fits_bare none some) e = absurd (bare_none (rows c (root_margins c.style) x.root) e (rows_some c fit some)) where
   bare_none : (rs : List Row) → begun_at d.start rs ++ stream_rows c false ds xs ≡ [] → (rs ≡ [] → ⊥) → ⊥
   bare_none [] e n = n refl
   bare_none (r ∷ rs) e n = cc

@@ -16,9 +16,9 @@ use Rattle.yf_emit.specs.Layouts.RowShapes.{shape_of}
 use Rattle.yf_print.specs.Layouts.Rows.{Ending, Row, anywhere, at_text_start, all_rows}
 use Rattle.yf_emit.proofs.SecondRun.AlikeLemmas.{shapes}
 use Rattle.yf_emit.proofs.Keeps.CommentsStay.{rows_exact}
-use Rattle.yf_emit.proofs.SameReading.StepComments.{firsts}
 use Rattle.yf_emit.proofs.Derived.DecoratedLemmas.{layout_then}
 use Rattle.yf_emit.proofs.SecondRun.FixedRows.{same_lines, all_same_rows}
+use Rattle.yf_emit.proofs.Trails.TrailOthers.{firsts}
 use Rattle.yf_print.specs.Layouts.BareStart.{is_bare}
 use Rattle.yf_forms.specs.NormalForms.Normal.{setting_of}
 use Rattle.yf_print.specs.Layouts.KeptColumns.{Columns}

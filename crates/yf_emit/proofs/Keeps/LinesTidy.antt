@@ -14,6 +14,7 @@ use Rattle.yf_events.specs.Tree.{DocumentTree, flat_document}
 use Rattle.yf_events.specs.declared.document.Doc.{Doc}
 use Rattle.yf_events.specs.declared.lists.Lists.{Lists}
 use Rattle.yf_grammar.specs.Productions.TreesOfMeaning.{tall}
+use Rattle.yf_stream.proofs.Uniqueness.OneDirective.{ascii_ns}
 use Rattle.yf_forms.specs.declared.style.Style.{Style}
 use Rattle.yf_forms.specs.Nodes.BlockLines.{block_lines, header_text}
 use Rattle.yf_emit.specs.Layouts.RowComments.{AreDecos, AreTrails}
@@ -32,7 +33,8 @@ use Rattle.yf_emit.proofs.OutputLines.FormattedLines.{append_lines, formed, form
 use Rattle.yf_emit.proofs.OutputLines.HeldLemmas.{BodiesHeld}
 use Rattle.yf_emit.proofs.OutputLines.LaidLines.{LinesAre, LineIs, more_lines, gap_lines, own_line, row_lines}
 use Rattle.yf_emit.proofs.OutputLines.LinedRows.{SeenLine, after_tidy, first_tidy, joined_some, own_next, own_seen, seen_long, some_long}
-use Rattle.yf_emit.proofs.Keeps.RowColumns.{GapSteps, no_gap, blank_step, remark_step, DecoSteps, no_decos, more_decos, IsStep, StepBody, bare_body, step_body, Stepped, none_stepped, row_stepped, decos_stepped, gap_stepped, all_stepped}
+use Rattle.yf_emit.proofs.Keeps.RowColumns.{IsStep, StepBody, bare_body, step_body, Stepped, none_stepped, row_stepped, all_stepped}
+use Rattle.yf_emit.proofs.Keeps.GapColumns.{GapSteps, no_gap, blank_step, remark_step, DecoSteps, no_decos, more_decos, decos_stepped, gap_stepped}
 use Rattle.yf_emit.proofs.Derived.ClearRows.{trails_bytes}
 use Rattle.yf_emit.proofs.SameReading.EventsTold.{events_told, told_pieces, told_scalars}
 use Rattle.yf_emit.proofs.Tabs.RowTokens.{TokenRows, token_row, pieces_ended, pieces_in, laid_tokens, tabs_append, text_left, text_right}
@@ -40,7 +42,7 @@ use Rattle.yf_emit.proofs.Tabs.PiecesRead.{PiecesTabless}
 use Rattle.yf_emit.proofs.Tabs.StreamPieces.{reading_pieces}
 use Rattle.yf_emit.proofs.Tabs.DirectiveTabs.{words_tabless}
 use Rattle.yf_emit.proofs.Tabs.CommentTokens.{AllTokens, DecoTokens, GapTokens, TrailTokens, after_tokens, all_filter, decos_tokens, documents_tokens, first_tokens, gap_tokens, own_tokens, zip_tokens}
-use Rattle.yf_emit.proofs.Keeps.KeysTold.{keys_on, laid_keys}
+use Rattle.yf_emit.proofs.Keeps.KeysTold.{laid_keys}
 use Rattle.yf_emit.proofs.SameReading.SameComments.{formats_comments}
 use Rattle.yf_emit.proofs.Tabs.TokenTabs.{one_token}
 use Rattle.yf_emit.proofs.Keeps.ScalarsAmong.{scalars_ended}
@@ -48,7 +50,7 @@ use Rattle.yf_emit.proofs.SecondRun.FixedBlocks.{blocks_alike}
 use Rattle.yf_emit.proofs.SecondRun.FixedLawsHold.{found_reading}
 use Rattle.yf_emit.proofs.Derived.FormatsRead.{alike_tall}
 use Rattle.yf_emit.proofs.OutputLines.FormattedHeld.{reading_held}
-use Rattle.yf_emit.proofs.OutputLines.SeenTexts.{IsSeen, ascii_ns, seen_more}
+use Rattle.yf_emit.proofs.OutputLines.SeenTexts.{IsSeen, seen_more}
 use Rattle.yf_emit.proofs.Derived.RowEnds.{after_decos, first_deco}
 use Rattle.yf_emit.proofs.Derived.RowsUtf8.{AreLines, no_line, line_more, RowLines, no_rows, row_more}
 use Rattle.yf_emit.proofs.OutputLines.TidyTexts.{IsTidy, TidyDecos, TidyGap, decos_tidy, gap_tidy, last_append, tidy_line}
@@ -56,6 +58,7 @@ use Rattle.yf_print.specs.Layouts.BareStart.{is_bare}
 use Rattle.yf_emit.specs.Preservation.CommentsPlaced.{columns_in}
 use Rattle.yf_emit.proofs.OutputLines.ColumnsHold.{WalkFrom, every, no_blocks}
 use Rattle.yf_emit.proofs.SameReading.CommentsCut.{Each}
+use Rattle.yf_emit.proofs.Trails.KeyTrails.{keys_on}
 
 -- A comment on a line of its own, and rows.
 

@@ -10,11 +10,11 @@ use Rattle.yf_events.specs.declared.event.ScalarStyle.{ScalarStyle}
 use Rattle.yf_events.specs.declared.event.ScalarStyle.TheVariants.{Plain, Single, Double, Literal, Folded}
 use Rattle.yf_forms.specs.declared.style.Style.{Style}
 use Rattle.yf_emit.specs.Preservation.FoundTrees.{words_of}
-use Rattle.yf_forms.specs.NormalForms.Normal.{Spot, fits, inner_spot, is_implicit, key_spot, settled, settled_items, settled_pairs, value_spot}
+use Rattle.yf_forms.specs.NormalForms.Normal.{Margins, fits, inner_margins, is_implicit, key_margins, settled, settled_items, settled_pairs, value_margins}
 use Rattle.yf_forms.specs.Nodes.OneLine.{props_text, written}
 use Rattle.yf_emit.specs.Preservation.ReadingKey.{Each, none_each, one_each, Either, in_neither, in_both, PairedOffsets, SameSide, SameSpan, SameEntry, SameColons, colons_match, no_colon_counts, SameKeys, is_leaf_key, SameComment, NodesMatch, matched_scalars, matched_aliases, matched_empty_sequences, matched_empty_mappings, matched_sequences, matched_mappings, ItemsMatch, no_matched_items, matched_item, PairsMatch, no_matched_pairs, matched_pair}
 use Rattle.yf_print.specs.Layouts.Rows.{Row, begins_below, beginning_at, begun_at, after_key, blank_before_entry, colon_offset, colon_row, directive_row, end_rows, entry_row, explicit_pair, implicit_pair, joined, key_row, one_line, one_line_row, pair_rows, props_row, rows, rows_of_items, rows_of_pairs, start_row}
-use Rattle.yf_emit.proofs.SecondRun.AlikeLemmas.{same_below, same_fit, same_implicit, same_key_spot, same_value_spot, same_written, setting}
+use Rattle.yf_emit.proofs.SecondRun.AlikeLemmas.{same_below, same_fit, same_implicit, same_key_margins, same_value_margins, same_written, setting}
 use Rattle.yf_emit.proofs.Keeps.MatchedLemmas.{each_append, entry_each, entry_of, items_each, key_each, keys_agree, leaves_each, matched_alike}
 
 -- Settled nodes.
@@ -30,66 +30,66 @@ module _ {ps : PairedOffsets} {cs ds : List CommentValue} (s : Style) (same : Ea
   either_node true false e a b = absurd (true≢false e)
   either_node false true e a b = absurd (true≢false (sym e))
 
-  standing_settled : (bs : List CommentValue) (spot : Spot) (x : Node) → standing (settled (setting s bs) spot x) ≡ standing x
-  standing_settled bs spot (scalar at props style text lines) = refl
-  standing_settled bs spot (alias at name) = refl
-  standing_settled bs spot (sequence at flow props no_items) = refl
-  standing_settled bs spot (sequence at flow props (item x xs)) =
-      standing_either (flow && fits s spot.column (sequence at flow props (item x xs))) (sequence at flow props (item x xs))
-      (sequence at false props (item (settled (setting s bs) (inner_spot s spot.entries) x) (settled_items (setting s bs) spot.entries xs))) refl refl
-  standing_settled bs spot (mapping at flow props no_pairs) = refl
-  standing_settled bs spot (mapping at flow props (pair k v qs)) =
-      standing_either (flow && fits s spot.column (mapping at flow props (pair k v qs))) (mapping at flow props (pair k v qs))
-      (mapping at false props (pair (settled (setting s bs) (key_spot s spot.entries k) k) (settled (setting s bs) (value_spot (setting s bs) spot.entries k v) v) (settled_pairs (setting s bs) spot.entries qs))) refl refl
+  standing_settled : (bs : List CommentValue) (margins : Margins) (x : Node) → standing (settled (setting s bs) margins x) ≡ standing x
+  standing_settled bs margins (scalar at props style text lines) = refl
+  standing_settled bs margins (alias at name) = refl
+  standing_settled bs margins (sequence at flow props no_items) = refl
+  standing_settled bs margins (sequence at flow props (item x xs)) =
+      standing_either (flow && fits s margins.column (sequence at flow props (item x xs))) (sequence at flow props (item x xs))
+      (sequence at false props (item (settled (setting s bs) (inner_margins s margins.entries) x) (settled_items (setting s bs) margins.entries xs))) refl refl
+  standing_settled bs margins (mapping at flow props no_pairs) = refl
+  standing_settled bs margins (mapping at flow props (pair k v qs)) =
+      standing_either (flow && fits s margins.column (mapping at flow props (pair k v qs))) (mapping at flow props (pair k v qs))
+      (mapping at false props (pair (settled (setting s bs) (key_margins s margins.entries k) k) (settled (setting s bs) (value_margins (setting s bs) margins.entries k v) v) (settled_pairs (setting s bs) margins.entries qs))) refl refl
 
-  leaf_settled : (bs : List CommentValue) (spot : Spot) (k : Node) → is_leaf_key s k ≡ true → settled (setting s bs) spot k ≡ k
-  leaf_settled bs spot (scalar at props style text lines) e = refl
-  leaf_settled bs spot (alias at name) e = refl
-  leaf_settled bs spot (sequence at flow props no_items) e = refl
-  leaf_settled bs spot (sequence at flow props (item x xs)) e = absurd (true≢false (sym e))
-  leaf_settled bs spot (mapping at flow props no_pairs) e = refl
-  leaf_settled bs spot (mapping at flow props (pair k v qs)) e = absurd (true≢false (sym e))
+  leaf_settled : (bs : List CommentValue) (margins : Margins) (k : Node) → is_leaf_key s k ≡ true → settled (setting s bs) margins k ≡ k
+  leaf_settled bs margins (scalar at props style text lines) e = refl
+  leaf_settled bs margins (alias at name) e = refl
+  leaf_settled bs margins (sequence at flow props no_items) e = refl
+  leaf_settled bs margins (sequence at flow props (item x xs)) e = absurd (true≢false (sym e))
+  leaf_settled bs margins (mapping at flow props no_pairs) e = refl
+  leaf_settled bs margins (mapping at flow props (pair k v qs)) e = absurd (true≢false (sym e))
 
-  colons_kept : (spot other : Spot) (k l : Node) → SameColons ps s k l → SameColons ps s (settled (setting s cs) spot k) (settled (setting s ds) other l)
-  colons_kept spot other k l (colons_match e) =
+  colons_kept : (margins other : Margins) (k l : Node) → SameColons ps s k l → SameColons ps s (settled (setting s cs) margins k) (settled (setting s ds) other l)
+  colons_kept margins other k l (colons_match e) =
       colons_match
-      (subst (λ (z : NodeOffsets). Each (SameSide ps.comments) (colon_offset z.entry) (colon_offset (standing (settled (setting s ds) other l)).entry)) (sym (standing_settled cs spot k))
+      (subst (λ (z : NodeOffsets). Each (SameSide ps.comments) (colon_offset z.entry) (colon_offset (standing (settled (setting s ds) other l)).entry)) (sym (standing_settled cs margins k))
       (subst (λ (z : NodeOffsets). Each (SameSide ps.comments) (colon_offset (standing k).entry) (colon_offset z.entry)) (sym (standing_settled ds other l)) e))
-  colons_kept spot other k l (no_colon_counts e) = no_colon_counts (ap (is_leaf_key s) (leaf_settled cs spot k e) ∙ e)
+  colons_kept margins other k l (no_colon_counts e) = no_colon_counts (ap (is_leaf_key s) (leaf_settled cs margins k e) ∙ e)
 
-  keys_kept : (spot other : Spot) (k l : Node) → SameKeys ps s k l → SameKeys ps s (settled (setting s cs) spot k) (settled (setting s ds) other l)
-  keys_kept spot other k l i = record { begins = ap (λ (z : NodeOffsets). is_some z.entry) (standing_settled cs spot k) ∙ i.begins; colon = colons_kept spot other k l i.colon }
+  keys_kept : (margins other : Margins) (k l : Node) → SameKeys ps s k l → SameKeys ps s (settled (setting s cs) margins k) (settled (setting s ds) other l)
+  keys_kept margins other k l i = record { begins = ap (λ (z : NodeOffsets). is_some z.entry) (standing_settled cs margins k) ∙ i.begins; colon = colons_kept margins other k l i.colon }
 
   mutual
-    pub settled_matched : (spot : Spot) {x y : Node} → NodesMatch ps s x y → NodesMatch ps s (settled (setting s cs) spot x) (settled (setting s ds) spot y)
-    settled_matched spot (matched_scalars a e) = matched_scalars a e
-    settled_matched spot (matched_aliases a e) = matched_aliases a e
-    settled_matched spot (matched_empty_sequences a e) = matched_empty_sequences a e
-    settled_matched spot (matched_empty_mappings a e) = matched_empty_mappings a e
-    settled_matched spot (matched_sequences {at = at} {bt = bt} {flow = flow} {props = props} {x = x} {y = y} {xs = xs} {ys = ys} a e m more) =
-        either_node (flow && fits s spot.column (sequence at flow props (item x xs))) (flow && fits s spot.column (sequence bt flow props (item y ys)))
-        (ap (λ b. flow && b) (same_fit s spot.column (matched_alike (matched_sequences {at = at} {bt = bt} {flow = flow} {props = props} a e m more)))) (matched_sequences a e m more)
-        (matched_sequences a e (settled_matched (inner_spot s spot.entries) m) (items_settled spot.entries more))
-    settled_matched spot (matched_mappings {at = at} {bt = bt} {flow = flow} {props = props} {k = k} {v = v} {l = l} {w = w} {qs = qs} {rs = rs} a e i m n more) =
-        either_node (flow && fits s spot.column (mapping at flow props (pair k v qs))) (flow && fits s spot.column (mapping bt flow props (pair l w rs)))
-        (ap (λ b. flow && b) (same_fit s spot.column (matched_alike (matched_mappings {at = at} {bt = bt} {flow = flow} {props = props} a e i m n more)))) (matched_mappings a e i m n more)
-        (matched_mappings a e (keys_kept (key_spot s spot.entries k) (key_spot s spot.entries l) k l i)
-        (subst (λ z. NodesMatch ps s (settled (setting s cs) (key_spot s spot.entries k) k) (settled (setting s ds) z l)) (same_key_spot s spot.entries (matched_alike m)) (settled_matched (key_spot s spot.entries k) m))
-        (subst (λ z. NodesMatch ps s (settled (setting s cs) (value_spot (setting s cs) spot.entries k v) v) (settled (setting s ds) z w)) (same_value_spot s spot.entries (matched_alike m) (matched_alike n) (keys_agree s same i.begins m n))
-        (settled_matched (value_spot (setting s cs) spot.entries k v) n))
-        (pairs_settled spot.entries more))
+    pub settled_matched : (margins : Margins) {x y : Node} → NodesMatch ps s x y → NodesMatch ps s (settled (setting s cs) margins x) (settled (setting s ds) margins y)
+    settled_matched margins (matched_scalars a e) = matched_scalars a e
+    settled_matched margins (matched_aliases a e) = matched_aliases a e
+    settled_matched margins (matched_empty_sequences a e) = matched_empty_sequences a e
+    settled_matched margins (matched_empty_mappings a e) = matched_empty_mappings a e
+    settled_matched margins (matched_sequences {at = at} {bt = bt} {flow = flow} {props = props} {x = x} {y = y} {xs = xs} {ys = ys} a e m more) =
+        either_node (flow && fits s margins.column (sequence at flow props (item x xs))) (flow && fits s margins.column (sequence bt flow props (item y ys)))
+        (ap (λ b. flow && b) (same_fit s margins.column (matched_alike (matched_sequences {at = at} {bt = bt} {flow = flow} {props = props} a e m more)))) (matched_sequences a e m more)
+        (matched_sequences a e (settled_matched (inner_margins s margins.entries) m) (items_settled margins.entries more))
+    settled_matched margins (matched_mappings {at = at} {bt = bt} {flow = flow} {props = props} {k = k} {v = v} {l = l} {w = w} {qs = qs} {rs = rs} a e i m n more) =
+        either_node (flow && fits s margins.column (mapping at flow props (pair k v qs))) (flow && fits s margins.column (mapping bt flow props (pair l w rs)))
+        (ap (λ b. flow && b) (same_fit s margins.column (matched_alike (matched_mappings {at = at} {bt = bt} {flow = flow} {props = props} a e i m n more)))) (matched_mappings a e i m n more)
+        (matched_mappings a e (keys_kept (key_margins s margins.entries k) (key_margins s margins.entries l) k l i)
+        (subst (λ z. NodesMatch ps s (settled (setting s cs) (key_margins s margins.entries k) k) (settled (setting s ds) z l)) (same_key_margins s margins.entries (matched_alike m)) (settled_matched (key_margins s margins.entries k) m))
+        (subst (λ z. NodesMatch ps s (settled (setting s cs) (value_margins (setting s cs) margins.entries k v) v) (settled (setting s ds) z w)) (same_value_margins s margins.entries (matched_alike m) (matched_alike n) (keys_agree s same i.begins m n))
+        (settled_matched (value_margins (setting s cs) margins.entries k v) n))
+        (pairs_settled margins.entries more))
 
     items_settled : (column : ℕ) {xs ys : Items} → ItemsMatch ps s xs ys → ItemsMatch ps s (settled_items (setting s cs) column xs) (settled_items (setting s ds) column ys)
     items_settled column no_matched_items = no_matched_items
-    items_settled column (matched_item m more) = matched_item (settled_matched (inner_spot s column) m) (items_settled column more)
+    items_settled column (matched_item m more) = matched_item (settled_matched (inner_margins s column) m) (items_settled column more)
 
     pairs_settled : (column : ℕ) {qs rs : Pairs} → PairsMatch ps s qs rs → PairsMatch ps s (settled_pairs (setting s cs) column qs) (settled_pairs (setting s ds) column rs)
     pairs_settled column no_matched_pairs = no_matched_pairs
     pairs_settled column (matched_pair {k = k} {v = v} {l = l} {w = w} i m n more) =
-        matched_pair (keys_kept (key_spot s column k) (key_spot s column l) k l i)
-        (subst (λ z. NodesMatch ps s (settled (setting s cs) (key_spot s column k) k) (settled (setting s ds) z l)) (same_key_spot s column (matched_alike m)) (settled_matched (key_spot s column k) m))
-        (subst (λ z. NodesMatch ps s (settled (setting s cs) (value_spot (setting s cs) column k v) v) (settled (setting s ds) z w)) (same_value_spot s column (matched_alike m) (matched_alike n) (keys_agree s same i.begins m n))
-        (settled_matched (value_spot (setting s cs) column k v) n))
+        matched_pair (keys_kept (key_margins s column k) (key_margins s column l) k l i)
+        (subst (λ z. NodesMatch ps s (settled (setting s cs) (key_margins s column k) k) (settled (setting s ds) z l)) (same_key_margins s column (matched_alike m)) (settled_matched (key_margins s column k) m))
+        (subst (λ z. NodesMatch ps s (settled (setting s cs) (value_margins (setting s cs) column k v) v) (settled (setting s ds) z w)) (same_value_margins s column (matched_alike m) (matched_alike n) (keys_agree s same i.begins m n))
+        (settled_matched (value_margins (setting s cs) column k v) n))
         (pairs_settled column more)
 
 -- Rows.
@@ -113,8 +113,8 @@ module _ {ps : PairedOffsets} where
   line_match column x y [] a b = none_each
   line_match column x y (c ∷ w) a b = one_each (record { items = a; leaves = b; key = in_neither; blank = refl }) none_each
 
-  one_match : (house : Style) (spot : Spot) (x y : Node) → NodesMatch ps house x y → Each (RowMatch ps) (one_line house spot x) (one_line house spot y)
-  one_match house spot x y m = subst (λ w. Each (RowMatch ps) (one_line house spot x) (one_line_row spot.column y w)) (same_written house (matched_alike m)) (line_match spot.column x y (written house x) (items_each m) (leaves_each m))
+  one_match : (house : Style) (margins : Margins) (x y : Node) → NodesMatch ps house x y → Each (RowMatch ps) (one_line house margins x) (one_line house margins y)
+  one_match house margins x y m = subst (λ w. Each (RowMatch ps) (one_line house margins x) (one_line_row margins.column y w)) (same_written house (matched_alike m)) (line_match margins.column x y (written house x) (items_each m) (leaves_each m))
 
   bare_row : {x y : Row} → x.items ≡ [] → y.items ≡ [] → x.leaves ≡ [] → y.leaves ≡ [] → x.key_comment ≡ None → y.key_comment ≡ None → x.blank_before ≡ y.blank_before → RowMatch ps x y
   bare_row {x} {y} a b c d e f g = record {
@@ -143,14 +143,14 @@ module _ {ps : PairedOffsets} where
   after_match house column true false m in_neither e more = absurd (true≢false e)
   after_match house column false true m in_neither e more = absurd (true≢false (sym e))
 
-  block_match : {at bt : NodeOffsets} {props : PropsValue} {text : List ℕ} {lines : List (List ℕ)} (s : Style) (cs ds : List CommentValue) (spot : Spot) (style : ScalarStyle)
+  block_match : {at bt : NodeOffsets} {props : PropsValue} {text : List ℕ} {lines : List (List ℕ)} (s : Style) (cs ds : List CommentValue) (margins : Margins) (style : ScalarStyle)
       → NodesMatch ps s (scalar at props style text lines) (scalar bt props style text lines)
-      → Each (RowMatch ps) (rows (setting s cs) spot (scalar at props style text lines)) (rows (setting s ds) spot (scalar bt props style text lines))
-  block_match {at} {bt} {props} {text} {lines} s cs ds spot Plain m = one_match s spot (scalar at props Plain text lines) (scalar bt props Plain text lines) m
-  block_match {at} {bt} {props} {text} {lines} s cs ds spot Single m = one_match s spot (scalar at props Single text lines) (scalar bt props Single text lines) m
-  block_match {at} {bt} {props} {text} {lines} s cs ds spot Double m = one_match s spot (scalar at props Double text lines) (scalar bt props Double text lines) m
-  block_match s cs ds spot Literal m = one_each (record { items = items_each m; leaves = leaves_each m; key = in_neither; blank = refl }) none_each
-  block_match s cs ds spot Folded m = one_each (record { items = items_each m; leaves = leaves_each m; key = in_neither; blank = refl }) none_each
+      → Each (RowMatch ps) (rows (setting s cs) margins (scalar at props style text lines)) (rows (setting s ds) margins (scalar bt props style text lines))
+  block_match {at} {bt} {props} {text} {lines} s cs ds margins Plain m = one_match s margins (scalar at props Plain text lines) (scalar bt props Plain text lines) m
+  block_match {at} {bt} {props} {text} {lines} s cs ds margins Single m = one_match s margins (scalar at props Single text lines) (scalar bt props Single text lines) m
+  block_match {at} {bt} {props} {text} {lines} s cs ds margins Double m = one_match s margins (scalar at props Double text lines) (scalar bt props Double text lines) m
+  block_match s cs ds margins Literal m = one_each (record { items = items_each m; leaves = leaves_each m; key = in_neither; blank = refl }) none_each
+  block_match s cs ds margins Folded m = one_each (record { items = items_each m; leaves = leaves_each m; key = in_neither; blank = refl }) none_each
 
 module _ {ps : PairedOffsets} {cs ds : List CommentValue} (s : Style) (same : Each (SameComment ps) cs ds) where
   abbrev Match : List Row → List Row → Type 0
@@ -185,44 +185,44 @@ module _ {ps : PairedOffsets} {cs ds : List CommentValue} (s : Style) (same : Ea
     by false true f e = absurd (true≢false (sym e))
 
   mutual
-    pub rows_match : (spot : Spot) {x y : Node} → NodesMatch ps s x y → Match (rows (setting s cs) spot x) (rows (setting s ds) spot y)
-    rows_match spot (matched_scalars {at = at} {bt = bt} {props = props} {style = style} {text = text} {lines = lines} a e) =
-        block_match {at = at} {bt = bt} {props = props} {text = text} {lines = lines} s cs ds spot style (matched_scalars {at = at} {bt = bt} a e)
-    rows_match spot (matched_aliases {at = at} {bt = bt} {name = name} a e) = one_match s spot (alias at name) (alias bt name) (matched_aliases a e)
-    rows_match spot (matched_empty_sequences {at = at} {bt = bt} {flow = true} {props = props} a e) = one_match s spot (sequence at true props no_items) (sequence bt true props no_items) (matched_empty_sequences a e)
-    rows_match spot (matched_empty_sequences {flow = false} {props = props} a e) = props_match spot.column (props_text props) none_each
-    rows_match spot (matched_empty_mappings {at = at} {bt = bt} {flow = true} {props = props} a e) = one_match s spot (mapping at true props no_pairs) (mapping bt true props no_pairs) (matched_empty_mappings a e)
-    rows_match spot (matched_empty_mappings {flow = false} {props = props} a e) = props_match spot.column (props_text props) none_each
-    rows_match spot (matched_sequences {at = at} {bt = bt} {flow = true} {props = props} {x = x} {y = y} {xs = xs} {ys = ys} a e m more) =
-        one_match s spot (sequence at true props (item x xs)) (sequence bt true props (item y ys)) (matched_sequences a e m more)
-    rows_match spot (matched_sequences {flow = false} {props = props} {x = x} {y = y} a e m more) =
-        props_match spot.column (props_text props)
-        (each_append (joined_match (entry_row spot.entries (45 ∷ []) x) (entry_row spot.entries (45 ∷ []) y) (s.indent - 1) (entry_match spot.entries (45 ∷ []) m) (rows_match (inner_spot s spot.entries) m))
-        (items_match spot.entries more))
-    rows_match spot (matched_mappings {at = at} {bt = bt} {flow = true} {props = props} {k = k} {v = v} {l = l} {w = w} {qs = qs} {rs = rs} a e i m n more) =
-        one_match s spot (mapping at true props (pair k v qs)) (mapping bt true props (pair l w rs)) (matched_mappings a e i m n more)
-    rows_match spot (matched_mappings {flow = false} {props = props} {k = k} {v = v} {l = l} {w = w} a e i m n more) =
-        props_match spot.column (props_text props)
+    pub rows_match : (margins : Margins) {x y : Node} → NodesMatch ps s x y → Match (rows (setting s cs) margins x) (rows (setting s ds) margins y)
+    rows_match margins (matched_scalars {at = at} {bt = bt} {props = props} {style = style} {text = text} {lines = lines} a e) =
+        block_match {at = at} {bt = bt} {props = props} {text = text} {lines = lines} s cs ds margins style (matched_scalars {at = at} {bt = bt} a e)
+    rows_match margins (matched_aliases {at = at} {bt = bt} {name = name} a e) = one_match s margins (alias at name) (alias bt name) (matched_aliases a e)
+    rows_match margins (matched_empty_sequences {at = at} {bt = bt} {flow = true} {props = props} a e) = one_match s margins (sequence at true props no_items) (sequence bt true props no_items) (matched_empty_sequences a e)
+    rows_match margins (matched_empty_sequences {flow = false} {props = props} a e) = props_match margins.column (props_text props) none_each
+    rows_match margins (matched_empty_mappings {at = at} {bt = bt} {flow = true} {props = props} a e) = one_match s margins (mapping at true props no_pairs) (mapping bt true props no_pairs) (matched_empty_mappings a e)
+    rows_match margins (matched_empty_mappings {flow = false} {props = props} a e) = props_match margins.column (props_text props) none_each
+    rows_match margins (matched_sequences {at = at} {bt = bt} {flow = true} {props = props} {x = x} {y = y} {xs = xs} {ys = ys} a e m more) =
+        one_match s margins (sequence at true props (item x xs)) (sequence bt true props (item y ys)) (matched_sequences a e m more)
+    rows_match margins (matched_sequences {flow = false} {props = props} {x = x} {y = y} a e m more) =
+        props_match margins.column (props_text props)
+        (each_append (joined_match (entry_row margins.entries (45 ∷ []) x) (entry_row margins.entries (45 ∷ []) y) (s.indent - 1) (entry_match margins.entries (45 ∷ []) m) (rows_match (inner_margins s margins.entries) m))
+        (items_match margins.entries more))
+    rows_match margins (matched_mappings {at = at} {bt = bt} {flow = true} {props = props} {k = k} {v = v} {l = l} {w = w} {qs = qs} {rs = rs} a e i m n more) =
+        one_match s margins (mapping at true props (pair k v qs)) (mapping bt true props (pair l w rs)) (matched_mappings a e i m n more)
+    rows_match margins (matched_mappings {flow = false} {props = props} {k = k} {v = v} {l = l} {w = w} a e i m n more) =
+        props_match margins.column (props_text props)
         (each_append
-        (pair_match spot.entries i m n
-        (subst (λ z. Match (rows (setting s cs) (key_spot s spot.entries k) k) (rows (setting s ds) z l)) (same_key_spot s spot.entries (matched_alike m)) (rows_match (key_spot s spot.entries k) m))
-        (subst (λ z. Match (rows (setting s cs) (value_spot (setting s cs) spot.entries k v) v) (rows (setting s ds) z w)) (same_value_spot s spot.entries (matched_alike m) (matched_alike n) (keys_agree s same i.begins m n))
-        (rows_match (value_spot (setting s cs) spot.entries k v) n)))
-        (pairs_match spot.entries more))
+        (pair_match margins.entries i m n
+        (subst (λ z. Match (rows (setting s cs) (key_margins s margins.entries k) k) (rows (setting s ds) z l)) (same_key_margins s margins.entries (matched_alike m)) (rows_match (key_margins s margins.entries k) m))
+        (subst (λ z. Match (rows (setting s cs) (value_margins (setting s cs) margins.entries k v) v) (rows (setting s ds) z w)) (same_value_margins s margins.entries (matched_alike m) (matched_alike n) (keys_agree s same i.begins m n))
+        (rows_match (value_margins (setting s cs) margins.entries k v) n)))
+        (pairs_match margins.entries more))
 
     items_match : (column : ℕ) {xs ys : Items} → ItemsMatch ps s xs ys → Match (rows_of_items (setting s cs) column xs) (rows_of_items (setting s ds) column ys)
     items_match column no_matched_items = none_each
     items_match column (matched_item {x = x} {y = y} m more) =
-        each_append (joined_match (entry_row column (45 ∷ []) x) (entry_row column (45 ∷ []) y) (s.indent - 1) (entry_match column (45 ∷ []) m) (rows_match (inner_spot s column) m)) (items_match column more)
+        each_append (joined_match (entry_row column (45 ∷ []) x) (entry_row column (45 ∷ []) y) (s.indent - 1) (entry_match column (45 ∷ []) m) (rows_match (inner_margins s column) m)) (items_match column more)
 
     pairs_match : (column : ℕ) {qs rs : Pairs} → PairsMatch ps s qs rs → Match (rows_of_pairs (setting s cs) column qs) (rows_of_pairs (setting s ds) column rs)
     pairs_match column no_matched_pairs = none_each
     pairs_match column (matched_pair {k = k} {v = v} {l = l} {w = w} i m n more) =
         each_append
         (pair_match column i m n
-        (subst (λ z. Match (rows (setting s cs) (key_spot s column k) k) (rows (setting s ds) z l)) (same_key_spot s column (matched_alike m)) (rows_match (key_spot s column k) m))
-        (subst (λ z. Match (rows (setting s cs) (value_spot (setting s cs) column k v) v) (rows (setting s ds) z w)) (same_value_spot s column (matched_alike m) (matched_alike n) (keys_agree s same i.begins m n))
-        (rows_match (value_spot (setting s cs) column k v) n)))
+        (subst (λ z. Match (rows (setting s cs) (key_margins s column k) k) (rows (setting s ds) z l)) (same_key_margins s column (matched_alike m)) (rows_match (key_margins s column k) m))
+        (subst (λ z. Match (rows (setting s cs) (value_margins (setting s cs) column k v) v) (rows (setting s ds) z w)) (same_value_margins s column (matched_alike m) (matched_alike n) (keys_agree s same i.begins m n))
+        (rows_match (value_margins (setting s cs) column k v) n)))
         (pairs_match column more)
 
   -- Lines before a document's node.

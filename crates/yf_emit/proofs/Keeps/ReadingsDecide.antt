@@ -16,14 +16,14 @@ use Rattle.yf_emit.specs.Format.{IsFormatting}
 use Rattle.yf_emit.specs.Layouts.Layout.{Remark, Source, first_comment, is_among, is_before, next_leaf, trailing, trailing_leaf}
 use Rattle.yf_forms.specs.Nodes.Lines.{trimmed}
 use Rattle.yf_emit.specs.Preservation.LayoutKey.{SameDocuments, no_documents, same_document, SameEnds, no_ends, same_end, SameKey, SamePlace, no_place, same_place, SamePlaces, no_comments, same_comment, SameRows, no_more_rows, same_row}
-use Rattle.yf_forms.specs.NormalForms.Normal.{normal_document, root_spot, setting_of}
+use Rattle.yf_forms.specs.NormalForms.Normal.{normal_document, root_margins, setting_of}
 use Rattle.yf_emit.specs.Preservation.ReadingKey.{DependsOnReading, Each, none_each, one_each, Either, in_neither, in_both, PairedOffsets, SameSpan, SameComment, SameRemark, NodesMatch, matched_scalars, matched_aliases, matched_empty_sequences, matched_empty_mappings, matched_sequences, matched_mappings, ItemsMatch, no_matched_items, matched_item, PairsMatch, no_matched_pairs, matched_pair, DocumentsMatch, no_matched_documents, matched_document, SameReadings, SameColumn}
 use Rattle.yf_print.specs.Layouts.Rows.{Row, all_rows, stream_rows}
-use Rattle.yf_emit.proofs.SameReading.StepComments.{firsts}
 use Rattle.yf_emit.proofs.Keeps.KeyDecides.{as_many_notes, key_decides}
 use Rattle.yf_emit.proofs.SameReading.StepLeaves.{laid_trees}
 use Rattle.yf_emit.proofs.Keeps.MatchedLemmas.{any_each, both_lt, each_append, find_each, keys_agree, matched_alike}
 use Rattle.yf_emit.proofs.Keeps.MatchedRows.{RowMatch, bare_match, begun_match, directives_match, ends_match, rows_match, settled_matched, start_match}
+use Rattle.yf_emit.proofs.Trails.TrailOthers.{firsts}
 use Rattle.yf_print.specs.Layouts.KeptColumns.{Columns, column_among_rows, columns_if, columns_of, keeps_blocks}
 
 same_eq : (a m b n : ℕ) → nat_lt a m ≡ nat_lt b n → nat_lt m a ≡ nat_lt n b → (a == m) ≡ (b == n)
@@ -156,7 +156,7 @@ module _ {ps : PairedOffsets} (s : Style) (t v : List ℕ) (r q : Lists) (same :
   laid_documents : {ds es : List Doc} {xs ys : List DocumentTree} → DocumentsMatch ps s t r v q ds xs es ys
       → SameDocuments s r.comments q.comments ds (map (normal_document t (setting_of r s)) xs) es (map (normal_document v (setting_of q s)) ys)
   laid_documents no_matched_documents = no_documents
-  laid_documents (matched_document w b m more) = same_document w (blocks s same (settled_matched s same (root_spot s) m)) (laid_documents more)
+  laid_documents (matched_document w b m more) = same_document w (blocks s same (settled_matched s same (root_margins s) m)) (laid_documents more)
 
   laid_rows : {ds es : List Doc} {xs ys : List DocumentTree} (first : Bool) → DocumentsMatch ps s t r v q ds xs es ys
       → Each (RowMatch ps) (stream_rows (setting_of r s) first ds (map (normal_document t (setting_of r s)) xs)) (stream_rows (setting_of q s) first es (map (normal_document v (setting_of q s)) ys))
@@ -166,14 +166,14 @@ module _ {ps : PairedOffsets} (s : Style) (t v : List ℕ) (r q : Lists) (same :
       (each_append
       (begun_match s same b
       (each_append (ends_match s same first d.directives e.directives w) (each_append (directives_match s same d.directives e.directives w) (one_each (start_match s same) none_each))))
-      (rows_match s same (root_spot s) (settled_matched s same (root_spot s) m)))
+      (rows_match s same (root_margins s) (settled_matched s same (root_margins s) m)))
       (laid_rows false more)
 
   all_laid : {ds es : List Doc} {xs ys : List DocumentTree} (bare : Bool) → DocumentsMatch ps s t r v q ds xs es ys
       → Each (RowMatch ps) (all_rows (setting_of r s) bare ds (map (normal_document t (setting_of r s)) xs)) (all_rows (setting_of q s) bare es (map (normal_document v (setting_of q s)) ys))
   all_laid false a = laid_rows true a
   all_laid true no_matched_documents = none_each
-  all_laid true (matched_document w b m more) = each_append (bare_match s same b (rows_match s same (root_spot s) (settled_matched s same (root_spot s) m))) (laid_rows false more)
+  all_laid true (matched_document w b m more) = each_append (bare_match s same b (rows_match s same (root_margins s) (settled_matched s same (root_margins s) m))) (laid_rows false more)
 
 -- The law.
 

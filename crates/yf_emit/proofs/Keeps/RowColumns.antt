@@ -4,7 +4,6 @@ use Rattle.std.proofs.Common.{◌≡◌, ℕ, ◌+◌, ◌*◌, ◌≤◌, suc, 
 use Rattle.std.specs.Prelude.{◌&&◌, ◌-◌, if◌then◌else◌, not, is_some, max}
 use Rattle.std.proofs.Math.Nat.{add-mul, le-max_left, le-max_right}
 use Rattle.yf_comments.specs.Comment.{CommentValue}
-use Rattle.yf_comments.specs.GapLines.{GapLine, blank, remark}
 use Rattle.yf_events.specs.Event.{EventInText, document_ends, mapping_ends, sequence_ends}
 use Rattle.yf_events.specs.Tree.{DocumentTree, Node, scalar, alias, sequence, mapping, Items, no_items, item, Pairs, no_pairs, pair, flat, flat_items, flat_pairs, flat_document, is_sequence}
 use Rattle.yf_events.specs.declared.directive.Directive.{Directive}
@@ -13,23 +12,18 @@ use Rattle.yf_events.specs.declared.event.ScalarStyle.TheVariants.{Plain, Single
 use Rattle.yf_grammar.specs.Productions.TreesOfMeaning.{tall, tall_items, tall_pairs}
 use Rattle.yf_forms.specs.declared.style.Style.{Style}
 use Rattle.yf_forms.specs.Nodes.BlockLines.{block_lines, header_text}
-use Rattle.yf_emit.specs.Layouts.Decorated.{Deco, decos_of, gap_of}
 use Rattle.yf_emit.specs.Layouts.FitDocuments.{FitDocuments, fit_no_documents, fit_document, tall_documents}
 use Rattle.yf_emit.specs.Layouts.ReadableTrees.{Fit, FitItems, fit_item, FitPairs, fit_pair}
-use Rattle.yf_emit.specs.Layouts.Layout.{Source}
-use Rattle.yf_forms.specs.NormalForms.Normal.{LayoutSetting, Spot, inner_spot, is_implicit, key_comment, key_spot, root_spot, value_column, value_entries, value_of_implicit, value_spot}
+use Rattle.yf_forms.specs.NormalForms.Normal.{LayoutSetting, Margins, inner_margins, is_implicit, key_comment, key_margins, root_margins, value_column, value_entries, value_of_implicit, value_margins}
 use Rattle.yf_forms.specs.Nodes.OneLine.{colon_after, props_text, spaced, width, written}
-use Rattle.yf_print.specs.Layouts.Rows.{Ending, Row, begins_below, beginning_at, after_key, colon_row, directive_row, document_rows, end_rows, entry_row, explicit_pair, joined, key_row, one_line, one_line_row, pair_rows, props_row, rows, rows_of_items, rows_of_pairs, all_rows, bare_rows, begun_at, stream_rows, Start}
+use Rattle.yf_print.specs.Layouts.Rows.{Row, begins_below, beginning_at, after_key, colon_row, directive_row, document_rows, end_rows, entry_row, explicit_pair, joined, key_row, one_line, one_line_row, pair_rows, props_row, rows, rows_of_items, rows_of_pairs, all_rows, bare_rows, begun_at, stream_rows, Start}
 use Rattle.yf_forms.specs.Nodes.Lines.{is_empty_text}
 use Rattle.yf_emit.specs.Preservation.TidyLines.{BlockScalar, block_scalars}
 use Rattle.yf_emit.proofs.Columns.FlowEvents.{AllFlow}
 use Rattle.yf_emit.proofs.ReadAgain.NoteTrees.{inline_flow, items_fit, key_flow, pairs_fit}
 use Rattle.yf_emit.proofs.Keeps.ScalarsAmong.{flow_none, scalars_append, scalars_ended}
 use Rattle.yf_emit.proofs.Derived.TreesMade.{either_pair}
-use Rattle.yf_print.specs.Layouts.KeptColumns.{Columns}
-use Rattle.yf_emit.proofs.OutputLines.ColumnsHold.{AllBlocks, GapHolds, StartsHold, WalkFrom, after_blocks, blank_holds, blocks_map, gap_columns, left_walk, none_holds, remark_holds}
-use Rattle.yf_print.specs.declared.open_blocks.OpenBlock.{OpenBlock}
-use Rattle.yf_emit.proofs.SameReading.CommentsCut.{Each}
+use Rattle.yf_emit.proofs.OutputLines.ColumnsHold.{StartsHold}
 
 -- Columns.
 
@@ -173,27 +167,27 @@ module _ (c : LayoutSetting) (limit : ℕ) where
   -- wherever its entries are, n steps at most to the right
   record NodeStepped (n : ℕ) (x : Node) : Type 0 where
     room : suc n ≤ limit
-    rows_loose : (spot : Spot) → AtStep n spot.entries → AtStep (suc n) spot.lines → AreLoose (block_scalars (flat x)) (rows c spot x)
-    first : (spot : Spot) → AtStep limit spot.column → AtStep n spot.entries → BeginAtStep (rows c spot x)
-    below : (spot : Spot) → begins_below x ≡ true → AtStep n spot.entries → BeginAtStep (rows c spot x)
+    rows_loose : (margins : Margins) → AtStep n margins.entries → AtStep (suc n) margins.lines → AreLoose (block_scalars (flat x)) (rows c margins x)
+    first : (margins : Margins) → AtStep limit margins.column → AtStep n margins.entries → BeginAtStep (rows c margins x)
+    below : (margins : Margins) → begins_below x ≡ true → AtStep n margins.entries → BeginAtStep (rows c margins x)
 
-  node_whole : {n : ℕ} {x : Node} (spot : Spot) → NodeStepped n x → AtStep limit spot.column → AtStep n spot.entries → AtStep (suc n) spot.lines → AreStepped (block_scalars (flat x)) (rows c spot x)
-  node_whole spot a d e f = whole c.style.indent limit (a.rows_loose spot e f) (a.first spot d e)
+  node_whole : {n : ℕ} {x : Node} (margins : Margins) → NodeStepped n x → AtStep limit margins.column → AtStep n margins.entries → AtStep (suc n) margins.lines → AreStepped (block_scalars (flat x)) (rows c margins x)
+  node_whole margins a d e f = whole c.style.indent limit (a.rows_loose margins e f) (a.first margins d e)
 
   -- its lines are at the column of its entries
-  inner_loose : {n : ℕ} {x : Node} (spot : Spot) → NodeStepped n x → AtStep n spot.entries → spot.lines ≡ spot.entries → AreLoose (block_scalars (flat x)) (rows c spot x)
-  inner_loose {n} spot a d e = a.rows_loose spot d (subst (λ k. AtStep (suc n) k) (sym e) (wider (suc n) (omega arith) d))
+  inner_loose : {n : ℕ} {x : Node} (margins : Margins) → NodeStepped n x → AtStep n margins.entries → margins.lines ≡ margins.entries → AreLoose (block_scalars (flat x)) (rows c margins x)
+  inner_loose {n} margins a d e = a.rows_loose margins d (subst (λ k. AtStep (suc n) k) (sym e) (wider (suc n) (omega arith) d))
 
   -- entries at a column of n steps at most, with a sign
   explicit_stepped : {n : ℕ} {k v : Node} (column : ℕ) → NodeStepped (suc n) k → NodeStepped (suc n) v → AtStep n column
-      → AreStepped (block_scalars (flat k) ++ block_scalars (flat v)) (explicit_pair c.style column k (rows c (key_spot c.style column k) k) (rows c (inner_spot c.style column) v))
+      → AreStepped (block_scalars (flat k) ++ block_scalars (flat v)) (explicit_pair c.style column k (rows c (key_margins c.style column k) k) (rows c (inner_margins c.style column) v))
   explicit_stepped {n} {k} {v} column a b d =
       let room : suc (suc n) ≤ limit = a.room in
       let here : AtStep limit column = wider limit (omega (arith, room)) d in
       let start : AtStep limit column × AtStep limit (column + c.style.indent) = (here, wider limit (omega (arith, room)) (one_on d)) in
       stepped_append c.style.indent limit
-      (joined_stepped c.style.indent limit (entry_row column (63 ∷ []) k) (c.style.indent - 1) here (start, tt) refl (inner_loose (key_spot c.style column k) a (one_on d) refl))
-      (joined_stepped c.style.indent limit (colon_row column k) (c.style.indent - 1) here (start, tt) refl (inner_loose (inner_spot c.style column) b (one_on d) refl))
+      (joined_stepped c.style.indent limit (entry_row column (63 ∷ []) k) (c.style.indent - 1) here (start, tt) refl (inner_loose (key_margins c.style column k) a (one_on d) refl))
+      (joined_stepped c.style.indent limit (colon_row column k) (c.style.indent - 1) here (start, tt) refl (inner_loose (inner_margins c.style column) b (one_on d) refl))
 
   -- the value after an implicit key
   value_rows : {n : ℕ} (k : Node) {v : Node} (column : ℕ) → NodeStepped (suc n) v → AtStep n column → (o : Option CommentValue) → key_comment c.comments k v ≡ o → (below : Bool) → begins_below v ≡ below
@@ -225,19 +219,19 @@ module _ (c : LayoutSetting) (limit : ℕ) where
     by None e false f = joined_stepped c.style.indent limit (key_row c.style column k) 1 here (start, tt) refl inner
 
   pair_stepped : {n : ℕ} {k v : Node} (column : ℕ) → Fit c.style k → NodeStepped (suc n) k → NodeStepped (suc n) v → AtStep n column
-      → AreStepped (block_scalars (flat k) ++ block_scalars (flat v)) (pair_rows c column k v (rows c (key_spot c.style column k) k) (rows c (value_spot c column k v) v))
+      → AreStepped (block_scalars (flat k) ++ block_scalars (flat v)) (pair_rows c column k v (rows c (key_margins c.style column k) k) (rows c (value_margins c column k v) v))
   pair_stepped {k = k} {v = v} column fit a b d = by (is_implicit c.style column k) refl where
     by : (p : Bool) → is_implicit c.style column k ≡ p → AreStepped (block_scalars (flat k) ++ block_scalars (flat v)) (either_pair p c column k v)
     by true e = subst (λ z. AreStepped (z ++ block_scalars (flat v)) (either_pair true c column k v)) (sym (flow_none (flat k) (key_flow c column fit e))) (value_rows k column b d (key_comment c.comments k v) refl (begins_below v) refl)
     by false e = explicit_stepped column a b d
 
-  line_stepped : {n : ℕ} {x : Node} → suc n ≤ limit → AllFlow (flat x) → ((spot : Spot) → rows c spot x ≡ one_line c.style spot x) → (begins_below x ≡ true → ⊥) → NodeStepped n x
+  line_stepped : {n : ℕ} {x : Node} → suc n ≤ limit → AllFlow (flat x) → ((margins : Margins) → rows c margins x ≡ one_line c.style margins x) → (begins_below x ≡ true → ⊥) → NodeStepped n x
   line_stepped {x = x} l flow e n = record {
     room = l;
-    rows_loose = λ spot a b.
-        subst (λ z. AreLoose z (rows c spot x)) (sym (flow_none (flat x) flow)) (subst (λ z. AreLoose [] z) (sym (e spot)) (line_loose c.style.indent limit spot.column x (written c.style x)));
-    first = λ spot a b. subst (λ z. BeginAtStep z) (sym (e spot)) (line_first c.style.indent limit spot.column x (written c.style x) a);
-    below = λ spot f a. absurd (n f);
+    rows_loose = λ margins a b.
+        subst (λ z. AreLoose z (rows c margins x)) (sym (flow_none (flat x) flow)) (subst (λ z. AreLoose [] z) (sym (e margins)) (line_loose c.style.indent limit margins.column x (written c.style x)));
+    first = λ margins a b. subst (λ z. BeginAtStep z) (sym (e margins)) (line_first c.style.indent limit margins.column x (written c.style x) a);
+    below = λ margins f a. absurd (n f);
   }
 
   no_below : false ≡ true → ⊥
@@ -259,52 +253,52 @@ module _ (c : LayoutSetting) (limit : ℕ) where
 
   mutual
     node_stepped : (n : ℕ) (x : Node) → suc (n + tall x) ≤ limit → Fit c.style x → NodeStepped n x
-    node_stepped n (scalar at props Plain text lines) l fit = line_stepped (omega (arith, l)) (inline_flow c.style fit refl) (λ spot. refl) no_below
-    node_stepped n (scalar at props Single text lines) l fit = line_stepped (omega (arith, l)) (inline_flow c.style fit refl) (λ spot. refl) no_below
-    node_stepped n (scalar at props Double text lines) l fit = line_stepped (omega (arith, l)) (inline_flow c.style fit refl) (λ spot. refl) no_below
+    node_stepped n (scalar at props Plain text lines) l fit = line_stepped (omega (arith, l)) (inline_flow c.style fit refl) (λ margins. refl) no_below
+    node_stepped n (scalar at props Single text lines) l fit = line_stepped (omega (arith, l)) (inline_flow c.style fit refl) (λ margins. refl) no_below
+    node_stepped n (scalar at props Double text lines) l fit = line_stepped (omega (arith, l)) (inline_flow c.style fit refl) (λ margins. refl) no_below
     node_stepped n (scalar at props Literal text lines) l fit = record {
       room = omega (arith, l);
-      rows_loose = λ spot a b.
+      rows_loose = λ margins a b.
           one_loose tt (step_body {b = record { style = Literal; text = text; lines = lines }} (wider limit (omega (arith, l)) b) (header_spaced c.style.indent limit (props_text props) (record { style = Literal; text = text; lines = lines }))) none_stepped;
-      first = λ spot a b. one_first a;
-      below = λ spot f a. absurd (no_below f);
+      first = λ margins a b. one_first a;
+      below = λ margins f a. absurd (no_below f);
     }
     node_stepped n (scalar at props Folded text lines) l fit = record {
       room = omega (arith, l);
-      rows_loose = λ spot a b.
+      rows_loose = λ margins a b.
           one_loose tt (step_body {b = record { style = Folded; text = text; lines = lines }} (wider limit (omega (arith, l)) b) (header_spaced c.style.indent limit (props_text props) (record { style = Folded; text = text; lines = lines }))) none_stepped;
-      first = λ spot a b. one_first a;
-      below = λ spot f a. absurd (no_below f);
+      first = λ margins a b. one_first a;
+      below = λ margins f a. absurd (no_below f);
     }
-    node_stepped n (alias at name) l fit = line_stepped (omega (arith, l)) (inline_flow c.style fit refl) (λ spot. refl) no_below
-    node_stepped n (sequence at true props no_items) l fit = line_stepped (omega (arith, l)) (inline_flow c.style fit refl) (λ spot. refl) no_below
-    node_stepped n (sequence at true props (item x xs)) l fit = line_stepped (omega (arith, l)) (inline_flow c.style fit refl) (λ spot. refl) no_below
+    node_stepped n (alias at name) l fit = line_stepped (omega (arith, l)) (inline_flow c.style fit refl) (λ margins. refl) no_below
+    node_stepped n (sequence at true props no_items) l fit = line_stepped (omega (arith, l)) (inline_flow c.style fit refl) (λ margins. refl) no_below
+    node_stepped n (sequence at true props (item x xs)) l fit = line_stepped (omega (arith, l)) (inline_flow c.style fit refl) (λ margins. refl) no_below
     node_stepped n (sequence at false props xs) l fit =
         let less : suc (suc n + tall_items xs) ≤ limit = omega (arith, l) in
         let inside : FitItems c.style xs = items_fit c.style fit in
         record {
           room = omega (arith, l);
-          rows_loose = λ spot a b.
-              subst (λ z. AreLoose z (rows c spot (sequence at false props xs))) (sym (scalars_ended (flat_items xs) sequence_ends refl))
-              (props_loose c.style.indent limit spot.column (props_text props) (items_stepped n spot.entries xs a less inside));
-          first = λ spot a b. props_first c.style.indent limit spot.column (props_text props) a (first_of c.style.indent limit (items_stepped n spot.entries xs b less inside));
-          below = λ spot f a. unprefixed c.style.indent limit spot.column (props_text props) (below_bare xs f) (first_of c.style.indent limit (items_stepped n spot.entries xs a less inside));
+          rows_loose = λ margins a b.
+              subst (λ z. AreLoose z (rows c margins (sequence at false props xs))) (sym (scalars_ended (flat_items xs) sequence_ends refl))
+              (props_loose c.style.indent limit margins.column (props_text props) (items_stepped n margins.entries xs a less inside));
+          first = λ margins a b. props_first c.style.indent limit margins.column (props_text props) a (first_of c.style.indent limit (items_stepped n margins.entries xs b less inside));
+          below = λ margins f a. unprefixed c.style.indent limit margins.column (props_text props) (below_bare xs f) (first_of c.style.indent limit (items_stepped n margins.entries xs a less inside));
         } where
           below_bare : (xs : Items) → begins_below (sequence at false props xs) ≡ true → is_empty_text (props_text props) ≡ true
           below_bare no_items e = absurd (no_below e)
           below_bare (item x xs) e = e
-    node_stepped n (mapping at true props no_pairs) l fit = line_stepped (omega (arith, l)) (inline_flow c.style fit refl) (λ spot. refl) no_below
-    node_stepped n (mapping at true props (pair k v ps)) l fit = line_stepped (omega (arith, l)) (inline_flow c.style fit refl) (λ spot. refl) no_below
+    node_stepped n (mapping at true props no_pairs) l fit = line_stepped (omega (arith, l)) (inline_flow c.style fit refl) (λ margins. refl) no_below
+    node_stepped n (mapping at true props (pair k v ps)) l fit = line_stepped (omega (arith, l)) (inline_flow c.style fit refl) (λ margins. refl) no_below
     node_stepped n (mapping at false props ps) l fit =
         let less : suc (suc n + tall_pairs ps) ≤ limit = omega (arith, l) in
         let inside : FitPairs c.style ps = pairs_fit c.style fit in
         record {
           room = omega (arith, l);
-          rows_loose = λ spot a b.
-              subst (λ z. AreLoose z (rows c spot (mapping at false props ps))) (sym (scalars_ended (flat_pairs ps) mapping_ends refl))
-              (props_loose c.style.indent limit spot.column (props_text props) (pairs_stepped n spot.entries ps a less inside));
-          first = λ spot a b. props_first c.style.indent limit spot.column (props_text props) a (first_of c.style.indent limit (pairs_stepped n spot.entries ps b less inside));
-          below = λ spot f a. unprefixed c.style.indent limit spot.column (props_text props) (below_bare ps f) (first_of c.style.indent limit (pairs_stepped n spot.entries ps a less inside));
+          rows_loose = λ margins a b.
+              subst (λ z. AreLoose z (rows c margins (mapping at false props ps))) (sym (scalars_ended (flat_pairs ps) mapping_ends refl))
+              (props_loose c.style.indent limit margins.column (props_text props) (pairs_stepped n margins.entries ps a less inside));
+          first = λ margins a b. props_first c.style.indent limit margins.column (props_text props) a (first_of c.style.indent limit (pairs_stepped n margins.entries ps b less inside));
+          below = λ margins f a. unprefixed c.style.indent limit margins.column (props_text props) (below_bare ps f) (first_of c.style.indent limit (pairs_stepped n margins.entries ps a less inside));
         } where
           below_bare : (ps : Pairs) → begins_below (mapping at false props ps) ≡ true → is_empty_text (props_text props) ≡ true
           below_bare no_pairs e = absurd (no_below e)
@@ -317,7 +311,7 @@ module _ (c : LayoutSetting) (limit : ℕ) where
         two_scalars (flat x) (flat_items xs)
         (stepped_append c.style.indent limit
         (joined_stepped c.style.indent limit (entry_row column (45 ∷ []) x) (c.style.indent - 1) (wider limit (omega (arith, l)) a) ((wider limit (omega (arith, l)) a, wider limit (omega (arith, l)) (one_on a)), tt) refl
-        (inner_loose (inner_spot c.style column) (node_stepped (suc n) x less.0 f) (one_on a) refl))
+        (inner_loose (inner_margins c.style column) (node_stepped (suc n) x less.0 f) (one_on a) refl))
         (items_stepped n column xs a less.1 fs))
 
     pairs_stepped : (n column : ℕ) (ps : Pairs) → AtStep n column → suc (suc n + tall_pairs ps) ≤ limit → FitPairs c.style ps → AreStepped (block_scalars (flat_pairs ps)) (rows_of_pairs c column ps)
@@ -353,7 +347,7 @@ module _ (c : LayoutSetting) (limit : ℕ) where
       stepped_append c.style.indent limit
       (beginning_stepped d.start (stepped_append c.style.indent limit (ends_stepped b d.directives)
       (stepped_append c.style.indent limit (directives_stepped d.directives) (row_stepped no_step tt bare_body none_stepped))))
-      (node_whole (root_spot c.style) (node_stepped 0 x.root less.0 fit) no_step no_step one_step) in
+      (node_whole (root_margins c.style) (node_stepped 0 x.root less.0 fit) no_step no_step one_step) in
       two_scalars (flat_document x) (flat_map flat_document xs)
       (stepped_append c.style.indent limit (subst (λ z. AreStepped z (document_rows c b d x)) (sym (scalars_ended (flat x.root) (document_ends x.closed) refl)) here)
       (stream_stepped false (omega (arith, others)) fits))
@@ -369,44 +363,7 @@ module _ (c : LayoutSetting) (limit : ℕ) where
       let room : suc (0 + max (tall x.root) (tall_documents xs)) ≤ limit = omega (arith, l) in
       let less = two_less 0 (tall x.root) (tall_documents xs) room in
       let others : suc (0 + tall_documents xs) ≤ limit = less.1 in
-      let here : AreStepped (block_scalars (flat x.root)) (bare_rows c d x) = begun_stepped d.start (node_whole (root_spot c.style) (node_stepped 0 x.root less.0 fit) no_step no_step one_step) in
+      let here : AreStepped (block_scalars (flat x.root)) (bare_rows c d x) = begun_stepped d.start (node_whole (root_margins c.style) (node_stepped 0 x.root less.0 fit) no_step no_step one_step) in
       two_scalars (flat_document x) (flat_map flat_document xs)
       (stepped_append c.style.indent limit (subst (λ z. AreStepped z (bare_rows c d x)) (sym (scalars_ended (flat x.root) (document_ends x.closed) refl)) here)
       (stream_stepped false (omega (arith, others)) fits))
-
--- Comments between rows.
-
-module _ (indent limit : ℕ) where
-  pub data GapSteps : List GapLine → Type 0 where
-    no_gap : GapSteps []
-    blank_step : {gs : List GapLine} → GapSteps gs → GapSteps (blank ∷ gs)
-    remark_step : {column : ℕ} {text : List ℕ} {gs : List GapLine} → IsStep indent limit column → GapSteps gs → GapSteps (remark column text ∷ gs)
-
-  pub data DecoSteps : List Deco → Type 0 where
-    no_decos : DecoSteps []
-    more_decos : {d : Deco} {ds : List Deco} → GapSteps d.gap → DecoSteps ds → DecoSteps (d ∷ ds)
-
-  gap_steps : {gs : List GapLine} → GapHolds (IsStep indent limit) gs → GapSteps gs
-  gap_steps none_holds = no_gap
-  gap_steps (blank_holds h) = blank_step (gap_steps h)
-  gap_steps (remark_holds a h) = remark_step a (gap_steps h)
-
--- what is open is at such columns, and what is in it too
-abbrev pub BlockSteps : ℕ → ℕ → List OpenBlock → Type 0
-BlockSteps indent limit bs = AllBlocks (λ k. IsStep indent limit k × IsStep indent limit (k + indent)) bs
-
-module _ (limit : ℕ) (t : List ℕ) (s : Style) (g : Columns) where
-  first_column : {bs : List BlockScalar} {xs : List Row} (row : Row) (others : List Row) → xs ≡ row ∷ others → Stepped s.indent limit bs xs → IsStep s.indent limit row.column
-  first_column row others e none_stepped = absurd cc
-  first_column row others e (row_stepped {x = x} b h c more) = let same : x ≡ row = cc in subst (λ (z : Row). IsStep s.indent limit z.column) same b
-
-  pub gap_stepped : {bs : List BlockScalar} {os : List OpenBlock} {may : Bool} (before : Ending) {cs : List CommentValue} {xs : List Row} → Each (WalkFrom t s g os may xs) cs → BlockSteps s.indent limit os → Stepped s.indent limit bs xs
-      → GapSteps s.indent limit (gap_of g before cs xs)
-  gap_stepped before {xs = xs} w o a =
-      gap_steps s.indent limit (gap_columns (IsStep s.indent limit) t s before xs w no_step (λ row others e. first_column row others e a) (blocks_map (λ k p. p.0) o) (λ e. blocks_map (λ k p. p.1) o))
-
-  pub decos_stepped : {bs : List BlockScalar} {os : List OpenBlock} {may : Bool} (c : Source) {cs : List CommentValue} {xs : List Row} → Each (WalkFrom t s g os may xs) cs → BlockSteps s.indent limit os → Stepped s.indent limit bs xs
-      → DecoSteps s.indent limit (decos_of g c cs xs)
-  decos_stepped c w o none_stepped = no_decos
-  decos_stepped c w o (row_stepped {x = x} a h b more) =
-      more_decos (gap_stepped x.ending (left_walk w) (after_blocks t x h o) more) (decos_stepped c (left_walk w) (after_blocks t x h o) more)

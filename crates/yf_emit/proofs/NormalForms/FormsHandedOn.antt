@@ -20,7 +20,8 @@ use Rattle.yf_forms.specs.Passes.MeasurePass.{found, pass, setting}
 use Rattle.yf_forms.specs.NormalForms.Normal.{Normal, setting_of}
 use Rattle.yf_forms.specs.Passes.NormalEvents.{normal_from}
 use Rattle.yf_emit.specs.NormalForms.NormalForm.{NormalForm}
-use Rattle.yf_print.specs.Passes.PrintPass.{printed, work_of}
+use Rattle.yf_print.specs.Passes.PrintPass.{printed}
+use Rattle.yf_print.specs.Passes.PrintWork.{work_of}
 use Rattle.yf_forms.specs.NormalForms.Restyled.{IsRestyled}
 use Rattle.yf_forms.specs.NormalForms.Textual.{CommentsAscend, IsTextual}
 use Rattle.yf_print.specs.Passes.TrailPass.{all_found}

@@ -21,7 +21,7 @@ use Rattle.yf_stream.proofs.Offsets.ReadingTrees.{TreesStand, no_trees_stand, tr
 use Rattle.yf_forms.specs.declared.style.Style.{Style}
 use Rattle.yf_emit.proofs.OfTexts.KeyEntries.{keys_begin_in_documents}
 use Rattle.yf_forms.specs.NormalForms.Forms.{documents_are_placed}
-use Rattle.yf_forms.specs.NormalForms.Normal.{LayoutSetting, normal_document, root_spot, setting_of, styled}
+use Rattle.yf_forms.specs.NormalForms.Normal.{LayoutSetting, normal_document, root_margins, setting_of, styled}
 use Rattle.yf_emit.specs.NormalForms.NormalForm.{NormalForm}
 use Rattle.yf_emit.proofs.Trails.DocumentTrails.{leaves_of}
 use Rattle.yf_emit.proofs.Printer.DocumentsPrinted.{AreNormal, no_documents, one_more}
@@ -136,8 +136,8 @@ are_normal t c n [] h = no_documents
 are_normal t c n (d ∷ ds) h =
     let parts = and_parts (nests n (normal_document t c d).root) (documents_nest n (map (normal_document t c) ds)) h in
     one_more (record {
-      house = normal_house t c (root_spot c.style) d.root;
-      settled = settled_twice c (root_spot c.style) (root_spot c.style) (styled t c d.root) (record { entries = refl; column = λ e. refl });
+      house = normal_house t c (root_margins c.style) d.root;
+      settled = settled_twice c (root_margins c.style) (root_margins c.style) (styled t c d.root) (record { entries = refl; column = λ e. refl });
       nests = parts.0;
     }) (are_normal t c n ds parts.1)
 

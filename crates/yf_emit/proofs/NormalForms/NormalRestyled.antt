@@ -6,7 +6,7 @@ use Rattle.yf_events.specs.declared.lists.Lists.{Lists}
 use Rattle.yf_events.specs.Tree.{Node, scalar, alias, sequence, mapping, Items, no_items, item, Pairs, no_pairs, pair, DocumentTree, flat, flat_items, flat_pairs, flat_document, flat_stream}
 use Rattle.yf_forms.specs.declared.style.Style.{Style}
 use Rattle.yf_forms.specs.Nodes.OneLineFlows.{may_be_kept}
-use Rattle.yf_forms.specs.NormalForms.Normal.{LayoutSetting, Spot, Normal, fits, settled, settled_items, settled_pairs, styled, styled_items, styled_pairs, inner_spot, key_spot, value_spot, root_spot, normal_document, setting_of}
+use Rattle.yf_forms.specs.NormalForms.Normal.{LayoutSetting, Margins, Normal, fits, settled, settled_items, settled_pairs, styled, styled_items, styled_pairs, inner_margins, key_margins, value_margins, root_margins, normal_document, setting_of}
 use Rattle.yf_forms.specs.NormalForms.Restyled.{SameButStyles, none_left, one_more, IsRestyled}
 
 module _ {q : Style} where
@@ -38,40 +38,40 @@ either x y false a d = d
 
 -- and with the brackets that are kept
 mutual
-  settled_restyled : (t : List ℕ) (c : LayoutSetting) (spot : Spot) (x : Node) → SameButStyles c.style (flat x) (flat (settled c spot (styled t c x)))
-  settled_restyled t c spot (scalar at props style text lines) = one_more false none_left
-  settled_restyled t c spot (alias at name) = one_more false none_left
-  settled_restyled t c spot (sequence at flow props no_items) = one_more true (one_more false none_left)
-  settled_restyled t c spot (sequence at flow props (item x xs)) =
+  settled_restyled : (t : List ℕ) (c : LayoutSetting) (margins : Margins) (x : Node) → SameButStyles c.style (flat x) (flat (settled c margins (styled t c x)))
+  settled_restyled t c margins (scalar at props style text lines) = one_more false none_left
+  settled_restyled t c margins (alias at name) = one_more false none_left
+  settled_restyled t c margins (sequence at flow props no_items) = one_more true (one_more false none_left)
+  settled_restyled t c margins (sequence at flow props (item x xs)) =
       either (styled t c (sequence at flow props (item x xs)))
-      (sequence at false props (item (settled c (inner_spot c.style spot.entries) (styled t c x)) (settled_items c spot.entries (styled_items t c xs))))
-      (may_be_kept t c.comments (sequence at flow props (item x xs)) && fits c.style spot.column (styled t c (sequence at flow props (item x xs))))
+      (sequence at false props (item (settled c (inner_margins c.style margins.entries) (styled t c x)) (settled_items c margins.entries (styled_items t c xs))))
+      (may_be_kept t c.comments (sequence at flow props (item x xs)) && fits c.style margins.column (styled t c (sequence at flow props (item x xs))))
       (one_more (may_be_kept t c.comments (sequence at flow props (item x xs))) (restyled_append (restyled_append (styled_restyled t c x) (styled_items_restyled t c xs)) (one_more false none_left)))
-      (one_more false (restyled_append (restyled_append (settled_restyled t c (inner_spot c.style spot.entries) x) (settled_items_restyled t c spot.entries xs)) (one_more false none_left)))
-  settled_restyled t c spot (mapping at flow props no_pairs) = one_more true (one_more false none_left)
-  settled_restyled t c spot (mapping at flow props (pair k v ps)) =
+      (one_more false (restyled_append (restyled_append (settled_restyled t c (inner_margins c.style margins.entries) x) (settled_items_restyled t c margins.entries xs)) (one_more false none_left)))
+  settled_restyled t c margins (mapping at flow props no_pairs) = one_more true (one_more false none_left)
+  settled_restyled t c margins (mapping at flow props (pair k v ps)) =
       either (styled t c (mapping at flow props (pair k v ps)))
-      (mapping at false props (pair (settled c (key_spot c.style spot.entries (styled t c k)) (styled t c k))
-      (settled c (value_spot c spot.entries (styled t c k) (styled t c v)) (styled t c v)) (settled_pairs c spot.entries (styled_pairs t c ps))))
-      (may_be_kept t c.comments (mapping at flow props (pair k v ps)) && fits c.style spot.column (styled t c (mapping at flow props (pair k v ps))))
+      (mapping at false props (pair (settled c (key_margins c.style margins.entries (styled t c k)) (styled t c k))
+      (settled c (value_margins c margins.entries (styled t c k) (styled t c v)) (styled t c v)) (settled_pairs c margins.entries (styled_pairs t c ps))))
+      (may_be_kept t c.comments (mapping at flow props (pair k v ps)) && fits c.style margins.column (styled t c (mapping at flow props (pair k v ps))))
       (one_more (may_be_kept t c.comments (mapping at flow props (pair k v ps)))
       (restyled_append (restyled_append (styled_restyled t c k) (restyled_append (styled_restyled t c v) (styled_pairs_restyled t c ps))) (one_more false none_left)))
-      (one_more false (restyled_append (restyled_append (settled_restyled t c (key_spot c.style spot.entries (styled t c k)) k)
-      (restyled_append (settled_restyled t c (value_spot c spot.entries (styled t c k) (styled t c v)) v) (settled_pairs_restyled t c spot.entries ps))) (one_more false none_left)))
+      (one_more false (restyled_append (restyled_append (settled_restyled t c (key_margins c.style margins.entries (styled t c k)) k)
+      (restyled_append (settled_restyled t c (value_margins c margins.entries (styled t c k) (styled t c v)) v) (settled_pairs_restyled t c margins.entries ps))) (one_more false none_left)))
 
   settled_items_restyled : (t : List ℕ) (c : LayoutSetting) (column : ℕ) (xs : Items) → SameButStyles c.style (flat_items xs) (flat_items (settled_items c column (styled_items t c xs)))
   settled_items_restyled t c column no_items = none_left
-  settled_items_restyled t c column (item x xs) = restyled_append (settled_restyled t c (inner_spot c.style column) x) (settled_items_restyled t c column xs)
+  settled_items_restyled t c column (item x xs) = restyled_append (settled_restyled t c (inner_margins c.style column) x) (settled_items_restyled t c column xs)
 
   settled_pairs_restyled : (t : List ℕ) (c : LayoutSetting) (column : ℕ) (ps : Pairs) → SameButStyles c.style (flat_pairs ps) (flat_pairs (settled_pairs c column (styled_pairs t c ps)))
   settled_pairs_restyled t c column no_pairs = none_left
   settled_pairs_restyled t c column (pair k v ps) =
-      restyled_append (settled_restyled t c (key_spot c.style column (styled t c k)) k)
-      (restyled_append (settled_restyled t c (value_spot c column (styled t c k) (styled t c v)) v) (settled_pairs_restyled t c column ps))
+      restyled_append (settled_restyled t c (key_margins c.style column (styled t c k)) k)
+      (restyled_append (settled_restyled t c (value_margins c column (styled t c k) (styled t c v)) v) (settled_pairs_restyled t c column ps))
 
 -- of a document's root
 pub root_restyled : (t : List ℕ) (c : LayoutSetting) (d : DocumentTree) → SameButStyles c.style (flat d.root) (flat (normal_document t c d).root)
-root_restyled t c d = settled_restyled t c (root_spot c.style) d.root
+root_restyled t c d = settled_restyled t c (root_margins c.style) d.root
 
 documents_restyled : (t : List ℕ) (c : LayoutSetting) (ds : List DocumentTree)
     → SameButStyles c.style (flat_map flat_document ds) (flat_map flat_document (map (normal_document t c) ds))

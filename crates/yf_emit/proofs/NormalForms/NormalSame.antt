@@ -4,6 +4,7 @@ use Rattle.std.specs.Prelude.{is_some, if◌then◌else◌}
 use Rattle.std.specs.Str.{chars}
 use Rattle.yf_lines.specs.Steady.{is_steady}
 use Rattle.yf_lines.specs.declared.quotes.Quotes.{Quotes}
+use Rattle.yf_lines.proofs.CoreSteady.{nothing_steady}
 use Rattle.yf_props.specs.Props.{PropsValue}
 use Rattle.yf_quoted.specs.Written.{quotes_in}
 use Rattle.yf_events.specs.declared.event.ScalarStyle.{ScalarStyle}
@@ -12,9 +13,8 @@ use Rattle.yf_events.specs.Tree.{DocumentTree, Node, NodeOffsets, scalar, alias,
 use Rattle.yf_forms.specs.declared.style.Style.{Style}
 use Rattle.yf_emit.proofs.OfTexts.KeyEntries.{keys_begin, keys_begin_in_items, keys_begin_in_pairs}
 use Rattle.yf_forms.specs.NormalForms.Forms.{agree, is_empty_node, is_placed, items_are_placed, pairs_are_placed}
-use Rattle.yf_forms.specs.NormalForms.Normal.{LayoutSetting, Spot, fits, inner_spot, key_spot, normal_document, root_spot, settled, settled_items, settled_pairs, styled, styled_items, styled_pairs, value_spot}
+use Rattle.yf_forms.specs.NormalForms.Normal.{LayoutSetting, Margins, fits, inner_margins, key_margins, normal_document, root_margins, settled, settled_items, settled_pairs, styled, styled_items, styled_pairs, value_margins}
 use Rattle.yf_forms.specs.Nodes.ScalarStyles.{has_block_content, quoted_in, style_in, wanted}
-use Rattle.yf_forms.proofs.Decide.ValueLemmas.{nothing_steady}
 
 pub record SameNode (x y : Node) : Type 0 where
   pub placed : is_placed x ≡ is_placed y
@@ -74,26 +74,26 @@ either false h k = k
 -- Settled nodes.
 
 mutual
-  pub settled_same : (c : LayoutSetting) (spot : Spot) (x : Node) → SameNode (settled c spot x) x
-  settled_same c spot (scalar at props style text lines) = node_as_is (scalar at props style text lines)
-  settled_same c spot (alias at name) = node_as_is (alias at name)
-  settled_same c spot (sequence at flow props no_items) = node_as_is (sequence at flow props no_items)
-  settled_same c spot (sequence at flow props (item x xs)) =
-      either (flow && fits c.style spot.column (sequence at flow props (item x xs))) (node_as_is (sequence at flow props (item x xs)))
-      (same_sequence (items_same c spot.entries (item x xs)))
-  settled_same c spot (mapping at flow props no_pairs) = node_as_is (mapping at flow props no_pairs)
-  settled_same c spot (mapping at flow props (pair k v ps)) =
-      either (flow && fits c.style spot.column (mapping at flow props (pair k v ps))) (node_as_is (mapping at flow props (pair k v ps)))
-      (same_mapping (pairs_same c spot.entries (pair k v ps)))
+  pub settled_same : (c : LayoutSetting) (margins : Margins) (x : Node) → SameNode (settled c margins x) x
+  settled_same c margins (scalar at props style text lines) = node_as_is (scalar at props style text lines)
+  settled_same c margins (alias at name) = node_as_is (alias at name)
+  settled_same c margins (sequence at flow props no_items) = node_as_is (sequence at flow props no_items)
+  settled_same c margins (sequence at flow props (item x xs)) =
+      either (flow && fits c.style margins.column (sequence at flow props (item x xs))) (node_as_is (sequence at flow props (item x xs)))
+      (same_sequence (items_same c margins.entries (item x xs)))
+  settled_same c margins (mapping at flow props no_pairs) = node_as_is (mapping at flow props no_pairs)
+  settled_same c margins (mapping at flow props (pair k v ps)) =
+      either (flow && fits c.style margins.column (mapping at flow props (pair k v ps))) (node_as_is (mapping at flow props (pair k v ps)))
+      (same_mapping (pairs_same c margins.entries (pair k v ps)))
 
   items_same : (c : LayoutSetting) (column : ℕ) (xs : Items) → SameItems (settled_items c column xs) xs
   items_same c column no_items = record { placed = refl; begin = refl; leaves = refl }
-  items_same c column (item x xs) = same_item (settled_same c (inner_spot c.style column) x) (items_same c column xs)
+  items_same c column (item x xs) = same_item (settled_same c (inner_margins c.style column) x) (items_same c column xs)
 
   pairs_same : (c : LayoutSetting) (column : ℕ) (ps : Pairs) → SamePairs (settled_pairs c column ps) ps
   pairs_same c column no_pairs = record { placed = refl; begin = refl; leaves = refl }
   pairs_same c column (pair k v ps) =
-      same_pair (settled_same c (key_spot c.style column k) k) (settled_same c (value_spot c column k v) v) (pairs_same c column ps)
+      same_pair (settled_same c (key_margins c.style column k) k) (settled_same c (value_margins c column k v) v) (pairs_same c column ps)
 
 -- Nodes in the style of the house.
 
@@ -138,4 +138,4 @@ mutual
 -- Roots.
 
 pub root_same : (t : List ℕ) (c : LayoutSetting) (d : DocumentTree) → SameNode (normal_document t c d).root d.root
-root_same t c d = node_twice (settled_same c (root_spot c.style) (styled t c d.root)) (styled_same t c d.root)
+root_same t c d = node_twice (settled_same c (root_margins c.style) (styled t c d.root)) (styled_same t c d.root)

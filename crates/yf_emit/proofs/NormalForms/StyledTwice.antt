@@ -12,7 +12,7 @@ use Rattle.yf_events.specs.Tree.{Node, NodeOffsets, scalar, alias, sequence, map
 use Rattle.yf_forms.specs.declared.style.Style.{Style}
 use Rattle.yf_forms.specs.Nodes.OneLineFlows.{has_comment, items_may_be_kept, may_be_kept, pairs_may_be_kept, scalar_may_be_kept}
 use Rattle.yf_forms.specs.Passes.MeasurePass.{setting}
-use Rattle.yf_forms.specs.NormalForms.Normal.{LayoutSetting, Spot, fits, inner_spot, key_spot, settled, settled_items, settled_pairs, styled, styled_items, styled_pairs, value_spot}
+use Rattle.yf_forms.specs.NormalForms.Normal.{LayoutSetting, Margins, fits, inner_margins, key_margins, settled, settled_items, settled_pairs, styled, styled_items, styled_pairs, value_margins}
 use Rattle.yf_forms.specs.Nodes.ScalarStyles.{lines_in, style_in, wanted}
 use Rattle.yf_forms.proofs.Texts.OneLineRuns.{kept_items, kept_more_pairs, kept_pairs}
 use Rattle.yf_emit.proofs.Texts.WantedLemmas.{lines_stay, wanted_stays}
@@ -37,10 +37,10 @@ scalar_kept Double text q k = quoted_kept (quotes_in q.invisible (chars text) q.
 scalar_kept Literal text q k = absurd (true≢false (sym k))
 scalar_kept Folded text q k = absurd (true≢false (sym k))
 
-all_true : (a b c d : Bool) → a ≡ true → b ≡ false → c ≡ true → d ≡ true → (a && not b && c && d) ≡ true
+pub all_true : (a b c d : Bool) → a ≡ true → b ≡ false → c ≡ true → d ≡ true → (a && not b && c && d) ≡ true
 all_true a b c d e f g h = rw (e, f, g, h) refl
 
-all_five : (a b c d e : Bool) → a ≡ true → b ≡ false → c ≡ true → d ≡ true → e ≡ true → (a && not b && c && d && e) ≡ true
+pub all_five : (a b c d e : Bool) → a ≡ true → b ≡ false → c ≡ true → d ≡ true → e ≡ true → (a && not b && c && d && e) ≡ true
 all_five a b c d e h i j k l = rw (h, i, j, k, l) refl
 
 -- Where a node may be kept, it may be kept in the style of the house.
@@ -118,29 +118,29 @@ either c true false x y h k = k
 either c false f x y h k = k
 
 mutual
-  pub normal_house : (t : List ℕ) (c : LayoutSetting) (spot : Spot) (x : Node) → House c (settled c spot (styled t c x))
-  normal_house t c spot (scalar at props style text lines) = scalar_house t c at props style text lines
-  normal_house t c spot (alias at name) = refl
-  normal_house t c spot (sequence at flow props no_items) = refl
-  normal_house t c spot (sequence at flow props (item x xs)) =
+  pub normal_house : (t : List ℕ) (c : LayoutSetting) (margins : Margins) (x : Node) → House c (settled c margins (styled t c x))
+  normal_house t c margins (scalar at props style text lines) = scalar_house t c at props style text lines
+  normal_house t c margins (alias at name) = refl
+  normal_house t c margins (sequence at flow props no_items) = refl
+  normal_house t c margins (sequence at flow props (item x xs)) =
       let whole : Node = styled t c (sequence at flow props (item x xs)) in
-      either c (may_be_kept t c.comments (sequence at flow props (item x xs))) (fits c.style spot.column whole) whole _
+      either c (may_be_kept t c.comments (sequence at flow props (item x xs))) (fits c.style margins.column whole) whole _
       (λ k. kept_house t c (sequence at flow props (item x xs)) k)
-      (ap (λ w. sequence at false props w) (items_house t c spot.entries (item x xs)))
-  normal_house t c spot (mapping at flow props no_pairs) = refl
-  normal_house t c spot (mapping at flow props (pair k v ps)) =
+      (ap (λ w. sequence at false props w) (items_house t c margins.entries (item x xs)))
+  normal_house t c margins (mapping at flow props no_pairs) = refl
+  normal_house t c margins (mapping at flow props (pair k v ps)) =
       let whole : Node = styled t c (mapping at flow props (pair k v ps)) in
-      either c (may_be_kept t c.comments (mapping at flow props (pair k v ps))) (fits c.style spot.column whole) whole _
+      either c (may_be_kept t c.comments (mapping at flow props (pair k v ps))) (fits c.style margins.column whole) whole _
       (λ e. kept_house t c (mapping at flow props (pair k v ps)) e)
-      (ap (λ w. mapping at false props w) (pairs_house t c spot.entries (pair k v ps)))
+      (ap (λ w. mapping at false props w) (pairs_house t c margins.entries (pair k v ps)))
 
   pub items_house : (t : List ℕ) (c : LayoutSetting) (column : ℕ) (xs : Items)
       → styled_items [] (setting c.style []) (settled_items c column (styled_items t c xs)) ≡ settled_items c column (styled_items t c xs)
   items_house t c column no_items = refl
-  items_house t c column (item x xs) = rw (normal_house t c (inner_spot c.style column) x, items_house t c column xs) refl
+  items_house t c column (item x xs) = rw (normal_house t c (inner_margins c.style column) x, items_house t c column xs) refl
 
   pub pairs_house : (t : List ℕ) (c : LayoutSetting) (column : ℕ) (ps : Pairs)
       → styled_pairs [] (setting c.style []) (settled_pairs c column (styled_pairs t c ps)) ≡ settled_pairs c column (styled_pairs t c ps)
   pairs_house t c column no_pairs = refl
   pairs_house t c column (pair k v ps) =
-      rw (normal_house t c (key_spot c.style column (styled t c k)) k, normal_house t c (value_spot c column (styled t c k) (styled t c v)) v, pairs_house t c column ps) refl
+      rw (normal_house t c (key_margins c.style column (styled t c k)) k, normal_house t c (value_margins c column (styled t c k) (styled t c v)) v, pairs_house t c column ps) refl

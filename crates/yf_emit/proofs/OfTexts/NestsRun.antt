@@ -9,6 +9,7 @@ use Rattle.yf_events.specs.Tree.{Node, scalar, alias, sequence, mapping, Items, 
 use Rattle.yf_events.specs.declared.lists.Lists.{Lists}
 use Rattle.yf_events.specs.declared.nesting.NestingState.{NestingState}
 use Rattle.yf_events.proofs.Nests.{complete}
+use Rattle.yf_events.proofs.TreeLemmas.{regrouped}
 use Rattle.yf_emit.proofs.Printer.PrintNodes.{items_nest, nests, pairs_nest}
 
 -- the test passes from here on
@@ -38,9 +39,6 @@ open_runs : (room : ℕ) (top within : NestingState) (below : List NestingState)
 open_runs room top within below es rest nesting None q k h = absurd (true≢false (sym h))
 open_runs zero top within below es rest nesting (Some next) q k h = absurd (true≢false (sym h))
 open_runs (suc r) top within below es rest nesting (Some next) q k h = record { next = next; is = q; follows = k r next h }
-
-enclosed : (ys : List EventInText) (e : EventInText) (rest : List EventInText) → (ys ++ (e ∷ [])) ++ rest ≡ ys ++ (e ∷ rest)
-enclosed ys e rest = append_assoc ys (e ∷ []) rest
 
 moved : (room : ℕ) (top : NestingState) (below : List NestingState) (xs ys : List EventInText) → xs ≡ ys → Runs room top below xs → Runs room top below ys
 moved room top below xs ys e h = ap (λ w. run room top below (map (λ (e : EventInText). e.event) w)) (sym e) ∙ h
@@ -82,12 +80,12 @@ mutual
   node_runs room top below (sequence at flow props xs) rest h =
       same_nesting (sequence_nests room (sequence at flow props xs) xs refl (λ r. refl))
       (open_runs room top NestingState.Items below ((flat_items xs ++ (unplaced sequence_ends ∷ [])) ++ rest) rest (λ r. items_nest r xs) (after_node top) refl
-      (λ r next g. let b = items_run r (next ∷ below) xs (unplaced sequence_ends ∷ rest) (moved r NestingState.Items (next ∷ below) _ _ (enclosed (flat_items xs) (unplaced sequence_ends) rest) g) in
+      (λ r next g. let b = items_run r (next ∷ below) xs (unplaced sequence_ends ∷ rest) (moved r NestingState.Items (next ∷ below) _ _ (regrouped (flat_items xs) (unplaced sequence_ends) rest) g) in
       record { nested = b.nested; runs = end_of_items r next below rest b.runs }) h)
   node_runs room top below (mapping at flow props ps) rest h =
       same_nesting (mapping_nests room (mapping at flow props ps) ps refl (λ r. refl))
       (open_runs room top NestingState.Keys below ((flat_pairs ps ++ (unplaced mapping_ends ∷ [])) ++ rest) rest (λ r. pairs_nest r ps) (after_node top) refl
-      (λ r next g. let b = pairs_run r (next ∷ below) ps (unplaced mapping_ends ∷ rest) (moved r NestingState.Keys (next ∷ below) _ _ (enclosed (flat_pairs ps) (unplaced mapping_ends) rest) g) in
+      (λ r next g. let b = pairs_run r (next ∷ below) ps (unplaced mapping_ends ∷ rest) (moved r NestingState.Keys (next ∷ below) _ _ (regrouped (flat_pairs ps) (unplaced mapping_ends) rest) g) in
       record { nested = b.nested; runs = end_of_pairs r next below rest b.runs }) h)
 
   items_run : (room : ℕ) (below : List NestingState) (xs : Items) (rest : List EventInText) → Runs room NestingState.Items below (flat_items xs ++ rest) → After room NestingState.Items below rest (items_nest room xs)
@@ -127,7 +125,7 @@ documents_run room (d ∷ ds) rest h =
     let others : List EventInText = flat_map flat_document ds ++ rest in
     let end : EventInText = unplaced (document_ends d.closed) in
     let here = begins_document room d.marked ((flat d.root ++ (end ∷ [])) ++ others) (moved room NestingState.Documents [] _ _ (append_assoc (flat_document d) (flat_map flat_document ds) rest) h) in
-    let a = node_runs room NestingState.Root [] d.root (end ∷ others) (moved room NestingState.Root [] _ _ (enclosed (flat d.root) end others) here) in
+    let a = node_runs room NestingState.Root [] d.root (end ∷ others) (moved room NestingState.Root [] _ _ (regrouped (flat d.root) end others) here) in
     and_from (nests room d.root) (documents_nest room ds) a.follows.nested (documents_run room ds rest (ends_document room d.closed others (awaited refl a)))
 
 -- the trees of a reading nest so

@@ -17,7 +17,7 @@ use Rattle.yf_emit.specs.Layouts.Decorated.{GapLine, remark, Deco, blank_if, rem
 use Rattle.yf_emit.specs.Layouts.FitDocuments.{FitDocuments}
 use Rattle.yf_emit.specs.Layouts.Layout.{Source, precedes_item, may_be_blank_after, own_line_comments, source_of}
 use Rattle.yf_forms.specs.Nodes.Lines.{trimmed}
-use Rattle.yf_forms.specs.NormalForms.Normal.{LayoutSetting, Spot, inner_spot, key_spot, value_of_implicit, value_entries, value_spot, root_spot, is_implicit, key_comment, setting_of}
+use Rattle.yf_forms.specs.NormalForms.Normal.{LayoutSetting, Margins, inner_margins, key_margins, value_of_implicit, value_entries, value_margins, root_margins, is_implicit, key_comment, setting_of}
 use Rattle.yf_print.specs.Layouts.BareStart.{is_bare}
 use Rattle.yf_print.specs.Layouts.Rows.{Row, Ending, anywhere, one_line, one_line_row, props_row, joined, after_sign, after_key, begins_below, entry_row, colon_row, key_row, explicit_pair, pair_rows, rows, rows_of_items, rows_of_pairs, directive_row, end_rows, start_row, beginning_at, begun_at, all_rows, stream_rows}
 use Rattle.yf_forms.specs.Nodes.OneLine.{written, props_text}
@@ -25,7 +25,7 @@ use Rattle.yf_emit.proofs.Derived.RowsUtf8.{RowLines, no_rows, row_more, all_lin
 use Rattle.yf_emit.proofs.Derived.TreesMade.{either_pair}
 use Rattle.yf_print.specs.Layouts.KeptColumns.{Columns, columns_of, is_bodyless}
 use Rattle.yf_emit.proofs.OutputLines.ColumnsHold.{GapHolds, WalkFrom, blank_holds, every, gap_columns, left_walk, none_holds, remark_holds}
-use Rattle.yf_emit.proofs.OutputLines.ChainedRows.{layout_chain}
+use Rattle.yf_emit.proofs.OutputLines.ChainedDocuments.{layout_chain}
 use Rattle.yf_emit.proofs.OutputLines.OpenChains.{BodyRight, Chained, chain_row}
 use Rattle.yf_print.specs.declared.open_blocks.OpenBlock.{OpenBlock}
 use Rattle.yf_emit.proofs.SameReading.CommentsCut.{Each}
@@ -78,8 +78,8 @@ one_line_steps : {k : ℕ} (column : ℕ) (x : Node) (w : List ℕ) → Steps k 
 one_line_steps column x [] = no_steps
 one_line_steps column x (b ∷ w) = one_step tt no_steps
 
-line_steps : (house : Style) {k : ℕ} (spot : Spot) (x : Node) → Steps k (one_line house spot x)
-line_steps house spot x = one_line_steps spot.column x (written house x)
+line_steps : (house : Style) {k : ℕ} (margins : Margins) (x : Node) → Steps k (one_line house margins x)
+line_steps house margins x = one_line_steps margins.column x (written house x)
 
 props_steps : {k : ℕ} (column : ℕ) (w : List ℕ) {rs : List Row} → Steps k rs → Steps k (props_row column w ++ rs)
 props_steps column [] a = a
@@ -103,7 +103,7 @@ after_key_column k head None false rs = joined_column k head 1 rs
 
 -- what holds of the rows of a node, and of entries at a column, wherever they are
 record NodeSteps (c : LayoutSetting) (x : Node) : Type 0 where
-  steps : (spot : Spot) (k : ℕ) → k < spot.lines → k ≤ spot.entries → Steps k (rows c spot x)
+  steps : (margins : Margins) (k : ℕ) → k < margins.lines → k ≤ margins.entries → Steps k (rows c margins x)
 
 record EntriesSteps (column : ℕ) (rs : List Row) : Type 0 where
   steps : (k : ℕ) → k ≤ column → Steps k rs
@@ -120,8 +120,8 @@ entries_of {column} {xs} {ys} f g a = record {
 no_entries : (column : ℕ) → EntriesSteps column []
 no_entries column = record { steps = λ k l. no_steps; first = λ k l. l }
 
-inner_steps : {c : LayoutSetting} {x : Node} (column k : ℕ) → NodeSteps c x → k ≤ column → Steps k (rows c (inner_spot c.style column) x)
-inner_steps {c} column k f l = let wide : 2 ≤ c.style.indent = c.style.indent_from in f.steps (inner_spot c.style column) k (omega (arith, wide)) (omega arith)
+inner_steps : {c : LayoutSetting} {x : Node} (column k : ℕ) → NodeSteps c x → k ≤ column → Steps k (rows c (inner_margins c.style column) x)
+inner_steps {c} column k f l = let wide : 2 ≤ c.style.indent = c.style.indent_from in f.steps (inner_margins c.style column) k (omega (arith, wide)) (omega arith)
 
 entries_right : (s : Style) (column : ℕ) (v : Node) → column ≤ value_entries s column v
 entries_right s column v = go (is_sequence v && not s.seq_indent) where
@@ -136,8 +136,8 @@ implicit_steps {c} {x} column k key f l =
     f.steps (value_of_implicit c column key x) k (omega (arith, wide)) (omega (arith, right))
 
 -- a `?` with its key, and the `:` with its value
-question_steps : {c : LayoutSetting} {k : Node} (column n : ℕ) → NodeSteps c k → n ≤ column → Steps n (rows c (key_spot c.style column k) k)
-question_steps {c} {k} column n f l = let wide : 2 ≤ c.style.indent = c.style.indent_from in f.steps (key_spot c.style column k) n (omega (arith, wide)) (omega arith)
+question_steps : {c : LayoutSetting} {k : Node} (column n : ℕ) → NodeSteps c k → n ≤ column → Steps n (rows c (key_margins c.style column k) k)
+question_steps {c} {k} column n f l = let wide : 2 ≤ c.style.indent = c.style.indent_from in f.steps (key_margins c.style column k) n (omega (arith, wide)) (omega arith)
 
 signs_steps : {column n : ℕ} (s : Style) (head last : Row) {rs ls : List Row} → head.body ≡ [] → last.body ≡ [] → head.column ≡ column → last.column ≡ column → Steps column rs → Steps n ls
     → Steps n (after_sign s head rs ++ after_sign s last ls) × ((m : ℕ) → next_column m (after_sign s head rs ++ after_sign s last ls) ≡ column)
@@ -148,10 +148,10 @@ signs_steps {column} {n} s head last {rs} {ls} e f g h a b =
     )
 
 pair_steps : {c : LayoutSetting} {k v : Node} (column : ℕ) {ys : List Row} → NodeSteps c k → NodeSteps c v → EntriesSteps column ys
-    → EntriesSteps column (pair_rows c column k v (rows c (key_spot c.style column k) k) (rows c (value_spot c column k v) v) ++ ys)
+    → EntriesSteps column (pair_rows c column k v (rows c (key_margins c.style column k) k) (rows c (value_margins c column k v) v) ++ ys)
 pair_steps {c} {k} {v} column {ys} f g a = go (is_implicit c.style column k) where
-  signs : (m : ℕ) → m ≤ column → Steps m (explicit_pair c.style column k (rows c (key_spot c.style column k) k) (rows c (inner_spot c.style column) v))
-      × ((n : ℕ) → next_column n (explicit_pair c.style column k (rows c (key_spot c.style column k) k) (rows c (inner_spot c.style column) v)) ≡ column)
+  signs : (m : ℕ) → m ≤ column → Steps m (explicit_pair c.style column k (rows c (key_margins c.style column k) k) (rows c (inner_margins c.style column) v))
+      × ((n : ℕ) → next_column n (explicit_pair c.style column k (rows c (key_margins c.style column k) k) (rows c (inner_margins c.style column) v)) ≡ column)
   signs m l = signs_steps c.style (entry_row column (63 ∷ []) k) (colon_row column k) refl refl refl refl (question_steps column column f (omega arith)) (inner_steps column m g l)
 
   go : (b : Bool) → EntriesSteps column (either_pair b c column k v ++ ys)
@@ -162,22 +162,22 @@ pair_steps {c} {k} {v} column {ys} f g a = go (is_implicit c.style column k) whe
 
 mutual
   node_steps : (c : LayoutSetting) (x : Node) → NodeSteps c x
-  node_steps c (scalar at props Plain text lines) = record { steps = λ spot k l m. line_steps c.style spot (scalar at props Plain text lines) }
-  node_steps c (scalar at props Single text lines) = record { steps = λ spot k l m. line_steps c.style spot (scalar at props Single text lines) }
-  node_steps c (scalar at props Double text lines) = record { steps = λ spot k l m. line_steps c.style spot (scalar at props Double text lines) }
-  node_steps c (scalar at props Literal text lines) = record { steps = λ spot k l m. one_step (left_all (block_lines Literal spot.lines text lines) k spot.lines l) no_steps }
-  node_steps c (scalar at props Folded text lines) = record { steps = λ spot k l m. one_step (left_all (block_lines Folded spot.lines text lines) k spot.lines l) no_steps }
-  node_steps c (alias at name) = record { steps = λ spot k l m. line_steps c.style spot (alias at name) }
-  node_steps c (sequence at true props xs) = record { steps = λ spot k l m. line_steps c.style spot (sequence at true props xs) }
-  node_steps c (sequence at false props xs) = record { steps = λ spot k l m. props_steps spot.column (props_text props) ((items_steps c spot.entries xs).steps k m) }
-  node_steps c (mapping at true props ps) = record { steps = λ spot k l m. line_steps c.style spot (mapping at true props ps) }
-  node_steps c (mapping at false props ps) = record { steps = λ spot k l m. props_steps spot.column (props_text props) ((pairs_steps c spot.entries ps).steps k m) }
+  node_steps c (scalar at props Plain text lines) = record { steps = λ margins k l m. line_steps c.style margins (scalar at props Plain text lines) }
+  node_steps c (scalar at props Single text lines) = record { steps = λ margins k l m. line_steps c.style margins (scalar at props Single text lines) }
+  node_steps c (scalar at props Double text lines) = record { steps = λ margins k l m. line_steps c.style margins (scalar at props Double text lines) }
+  node_steps c (scalar at props Literal text lines) = record { steps = λ margins k l m. one_step (left_all (block_lines Literal margins.lines text lines) k margins.lines l) no_steps }
+  node_steps c (scalar at props Folded text lines) = record { steps = λ margins k l m. one_step (left_all (block_lines Folded margins.lines text lines) k margins.lines l) no_steps }
+  node_steps c (alias at name) = record { steps = λ margins k l m. line_steps c.style margins (alias at name) }
+  node_steps c (sequence at true props xs) = record { steps = λ margins k l m. line_steps c.style margins (sequence at true props xs) }
+  node_steps c (sequence at false props xs) = record { steps = λ margins k l m. props_steps margins.column (props_text props) ((items_steps c margins.entries xs).steps k m) }
+  node_steps c (mapping at true props ps) = record { steps = λ margins k l m. line_steps c.style margins (mapping at true props ps) }
+  node_steps c (mapping at false props ps) = record { steps = λ margins k l m. props_steps margins.column (props_text props) ((pairs_steps c margins.entries ps).steps k m) }
 
   items_steps : (c : LayoutSetting) (column : ℕ) (xs : Items) → EntriesSteps column (rows_of_items c column xs)
   items_steps c column no_items = no_entries column
-  items_steps c column (item x xs) = entries_of {column = column} {xs = after_sign c.style (entry_row column (45 ∷ []) x) (rows c (inner_spot c.style column) x)}
+  items_steps c column (item x xs) = entries_of {column = column} {xs = after_sign c.style (entry_row column (45 ∷ []) x) (rows c (inner_margins c.style column) x)}
       (λ k l. joined_steps (entry_row column (45 ∷ []) x) (c.style.indent - 1) refl (inner_steps column k (node_steps c x) l))
-      (λ k. joined_column k (entry_row column (45 ∷ []) x) (c.style.indent - 1) (rows c (inner_spot c.style column) x)) (items_steps c column xs)
+      (λ k. joined_column k (entry_row column (45 ∷ []) x) (c.style.indent - 1) (rows c (inner_margins c.style column) x)) (items_steps c column xs)
 
   pairs_steps : (c : LayoutSetting) (column : ℕ) (ps : Pairs) → EntriesSteps column (rows_of_pairs c column ps)
   pairs_steps c column no_pairs = no_entries column
@@ -209,8 +209,8 @@ stream_steps c is_first (d ∷ ds) (x ∷ xs) =
     let others = stream_steps c false ds xs in
     let wide : 2 ≤ c.style.indent = c.style.indent_from in
     let heads : List Row = beginning_at d.start (end_rows is_first d.directives ++ (map directive_row d.directives ++ (start_row ∷ []))) in
-    let root = (node_steps c x.root).steps (root_spot c.style) 0 (omega (arith, wide)) (omega arith) in
-    let tree : List Row = rows c (root_spot c.style) x.root in
+    let root = (node_steps c x.root).steps (root_margins c.style) 0 (omega (arith, wide)) (omega arith) in
+    let tree : List Row = rows c (root_margins c.style) x.root in
     let rest : List Row = stream_rows c false ds xs in
     let first : next_column 0 ((heads ++ tree) ++ rest) ≡ 0 =
     append_column 0 (heads ++ tree) rest ∙ (append_column (next_column 0 rest) heads tree ∙ head_column is_first d.start (next_column (next_column 0 rest) tree) d.directives) in
@@ -228,8 +228,8 @@ all_steps c true (d ∷ ds) [] = no_steps
 all_steps c true (d ∷ ds) (x ∷ xs) =
     let others = stream_steps c false ds xs in
     let wide : 2 ≤ c.style.indent = c.style.indent_from in
-    let root = (node_steps c x.root).steps (root_spot c.style) 0 (omega (arith, wide)) (omega arith) in
-    steps_append (subst (λ k. Steps k (begun_at d.start (rows c (root_spot c.style) x.root))) (sym others.1) (begun_steps d.start root)) others.0
+    let root = (node_steps c x.root).steps (root_margins c.style) 0 (omega (arith, wide)) (omega arith) in
+    steps_append (subst (λ k. Steps k (begun_at d.start (rows c (root_margins c.style) x.root))) (sym others.1) (begun_steps d.start root)) others.0
 
 -- What is after the lines of a block scalar.
 

@@ -1,31 +1,24 @@
--- Which collections are open along the rows of a layout: each is at the column of the one that holds it or one indentation further in, a row that begins
+-- Which collections are open along the rows of a node: each is at the column of the one that holds it or one indentation further in, a row that begins
 -- with an entry is at the column of its collection, and the lines of a block scalar are right of all that are open.
-use Rattle.std.proofs.Common.{◌≡◌, ℕ, ◌+◌, ◌-◌, ◌<◌, ◌≤◌, Bool, true, false, true≢false, not, List, [], ◌∷◌, ◌++◌, map, Option, Some, None, refl, sym, ap, ◌∙◌, subst, arith}
+use Rattle.std.proofs.Common.{◌≡◌, ℕ, ◌+◌, ◌-◌, ◌<◌, ◌≤◌, Bool, true, false, true≢false, not, List, [], ◌∷◌, ◌++◌, Option, Some, None, refl, sym, ap, ◌∙◌, subst, arith}
 use Rattle.std.specs.Prelude.{◌&&◌, ◌||◌, if◌then◌else◌}
 use Rattle.std.proofs.lemmas.Bool.{and_parts}
 use Rattle.yf_comments.specs.Comment.{CommentValue}
-use Rattle.yf_events.specs.declared.directive.Directive.{Directive}
-use Rattle.yf_events.specs.declared.document.Doc.{Doc}
 use Rattle.yf_events.specs.declared.event.ScalarStyle.TheVariants.{Plain, Single, Double, Literal, Folded}
 use Rattle.yf_events.specs.declared.event.Span.{Span}
-use Rattle.yf_events.specs.Tree.{Node, scalar, alias, sequence, mapping, Items, no_items, item, Pairs, no_pairs, pair, DocumentTree, is_block_collection, is_filled_flow, entry_start, is_sequence, is_text, leaves}
-use Rattle.yf_forms.specs.declared.style.Style.{Style}
-use Rattle.yf_print.specs.Layouts.BareStart.{is_bare}
+use Rattle.yf_events.specs.Tree.{Node, scalar, alias, sequence, mapping, Items, no_items, item, Pairs, no_pairs, pair, is_block_collection, is_filled_flow, entry_start, is_sequence, is_text, leaves}
 use Rattle.yf_print.specs.Layouts.CommentColumns.{open_after}
 use Rattle.yf_print.specs.declared.open_blocks.OpenBlock.{OpenBlock}
-use Rattle.yf_emit.specs.Layouts.Decorated.{rows_of}
-use Rattle.yf_emit.specs.Layouts.FitDocuments.{FitDocuments, fit_document, fit_no_documents}
 use Rattle.yf_print.specs.Layouts.KeptColumns.{after_row, after_starts, beginning, block_of, unless_document}
 use Rattle.yf_emit.specs.Layouts.ReadableTrees.{Fit, fit_nothing, fit_line, fit_scalar, fit_sequence, fit_mapping, FitItems, fit_no_items, fit_item, FitPairs, fit_no_pairs, fit_pair, is_inline}
-use Rattle.yf_print.specs.Layouts.Rows.{Row, after_key, all_rows, before_node, plain_row, begins_below, beginning_at, begun_at, colon_row, directive_row, end_rows, entry_row, joined, key_row, one_line, one_line_row, pair_rows, props_row, rows, rows_of_items, rows_of_pairs, start_of, start_row, stream_rows}
+use Rattle.yf_print.specs.Layouts.Rows.{Row, after_key, before_node, begins_below, colon_row, entry_row, joined, key_row, one_line, one_line_row, pair_rows, props_row, rows, rows_of_items, rows_of_pairs, start_of, start_row}
 use Rattle.yf_forms.specs.Nodes.Lines.{is_empty_text}
 use Rattle.yf_forms.specs.Nodes.OneLine.{props_text, written}
-use Rattle.yf_forms.specs.NormalForms.Normal.{LayoutSetting, Spot, first_between, inner_spot, is_implicit, key_comment, key_spot, key_start, root_spot, setting_of, value_entries, value_of_implicit, value_spot}
-use Rattle.yf_events.specs.declared.lists.Lists.{Lists}
+use Rattle.yf_forms.specs.NormalForms.Normal.{LayoutSetting, Margins, first_between, inner_margins, is_implicit, key_comment, key_margins, key_start, value_entries, value_of_implicit, value_margins}
 use Rattle.yf_emit.proofs.Derived.TreesMade.{either_pair, inline_rows}
 use Rattle.yf_emit.proofs.OutputLines.ColumnsHold.{AllBlocks, no_blocks}
 use Rattle.yf_emit.proofs.SecondRun.ColumnsAgain.{InSteps, no_step, NextIsAt, next_document, next_node}
-use Rattle.yf_emit.proofs.OutputLines.OpenChains.{Kept, Enters, Where, Opened, opening, kept_around, steps_below, BodyRight, body_right, no_body, Chained, Inline, Starting, chain_append, is_filled, inline_append, starting_append, alone, joined_filled, joined_starting, joined_inline, head_inline, line_inline, leaf_alone, line_alone, enters_none, enters_further, enters_same, at_first, at_later, chain_over, chain_row, inline_over, inline_row, none_starting, row_starting}
+use Rattle.yf_emit.proofs.OutputLines.OpenChains.{Kept, Enters, Where, Opened, opening, kept_around, steps_below, BodyRight, body_right, Chained, Inline, Starting, chain_append, is_filled, inline_append, starting_append, alone, joined_filled, joined_starting, joined_inline, head_inline, line_inline, leaf_alone, line_alone, enters_none, enters_further, enters_same, at_first, at_later, chain_over, chain_row, inline_over, inline_row, none_starting, row_starting}
 
 -- Nodes that are no block collections.
 
@@ -75,23 +68,23 @@ module _ (t : List ℕ) (c : LayoutSetting) where
     starting : Starting t w rs
 
   -- what is open after rows
-  record After (start : List OpenBlock) (rs : List Row) (Q : List OpenBlock → Type 0) : Type 0 where
-    now : List OpenBlock
-    rows : Chained t w start rs now
-    steps : InSteps w now
-    holds : Q now
+  pub record After (start : List OpenBlock) (rs : List Row) (Q : List OpenBlock → Type 0) : Type 0 where
+    pub now : List OpenBlock
+    pub rows : Chained t w start rs now
+    pub steps : InSteps w now
+    pub holds : Q now
 
   -- the entries of a block collection are within b
-  abbrev FitsIn : Spot → Node → OpenBlock → List OpenBlock → Type 0
-  FitsIn spot x b bs = is_block_collection x ≡ true → Enters w wide spot.entries (is_sequence x) (b ∷ bs)
+  abbrev FitsIn : Margins → Node → OpenBlock → List OpenBlock → Type 0
+  FitsIn margins x b bs = is_block_collection x ≡ true → Enters w wide margins.entries (is_sequence x) (b ∷ bs)
 
   record NodeRun (x : Node) : Type 0 where
-    run : (spot : Spot) (b : OpenBlock) (bs : List OpenBlock) → InSteps w (b ∷ bs) → b.printed < spot.lines → FitsIn spot x b bs → Run b bs (rows c spot x)
+    run : (margins : Margins) (b : OpenBlock) (bs : List OpenBlock) → InSteps w (b ∷ bs) → b.printed < margins.lines → FitsIn margins x b bs → Run b bs (rows c margins x)
     -- on lines of their own, after a key: a leaf, or entries
-    below : (spot : Spot) (b : OpenBlock) (bs : List OpenBlock) → InSteps w (b ∷ bs) → b.printed < spot.lines → FitsIn spot x b bs → (is_block_collection x ≡ false → leaves x ≡ [] → ⊥)
-        → (is_block_collection x ≡ true → begins_below x ≡ true) → After (b ∷ bs) (rows c spot x) (λ now. Kept b now (b ∷ bs))
+    below : (margins : Margins) (b : OpenBlock) (bs : List OpenBlock) → InSteps w (b ∷ bs) → b.printed < margins.lines → FitsIn margins x b bs → (is_block_collection x ≡ false → leaves x ≡ [] → ⊥)
+        → (is_block_collection x ≡ true → begins_below x ≡ true) → After (b ∷ bs) (rows c margins x) (λ now. Kept b now (b ∷ bs))
     -- at the beginning of a document
-    root : (spot : Spot) → spot.column ≡ 0 → After [] (rows c spot x) (λ now. Unit {0})
+    root : (margins : Margins) → margins.column ≡ 0 → After [] (rows c margins x) (λ now. Unit {0})
 
   root_row : {x : Row} → x.starts ≡ [] → x.column ≡ 0 → BodyRight x.body x.lines [] → Chained t w [] (x ∷ []) []
   root_row {x} e f r = go x.leaves refl where
@@ -117,40 +110,40 @@ module _ (t : List ℕ) (c : LayoutSetting) where
   root_line column x (b ∷ text) e = root_row refl e tt
 
   -- a node on one line
-  line_node : (x : Node) → ((spot : Spot) → rows c spot x ≡ one_line c.style spot x) → is_block_collection x ≡ false → NodeRun x
+  line_node : (x : Node) → ((margins : Margins) → rows c margins x ≡ one_line c.style margins x) → is_block_collection x ≡ false → NodeRun x
   line_node x e n = record {
-    run = λ spot b bs s l f. record { now = b ∷ bs; rows = subst (λ z. Inline t w (b ∷ bs) z (b ∷ bs)) (sym (e spot)) (line_inline t w spot.column x (written c.style x)); steps = s; kept = λ y o. refl };
-    below = λ spot b bs s l f m g.
-        record { now = b ∷ bs; rows = subst (λ z. Chained t w (b ∷ bs) z (b ∷ bs)) (sym (e spot)) (line_alone t w spot.column x (written c.style x) s (m n)); steps = s; holds = λ y o. refl };
-    root = λ spot z. record { now = []; rows = subst (λ r. Chained t w [] r []) (sym (e spot)) (root_line spot.column x (written c.style x) z); steps = no_step; holds = tt };
+    run = λ margins b bs s l f. record { now = b ∷ bs; rows = subst (λ z. Inline t w (b ∷ bs) z (b ∷ bs)) (sym (e margins)) (line_inline t w margins.column x (written c.style x)); steps = s; kept = λ y o. refl };
+    below = λ margins b bs s l f m g.
+        record { now = b ∷ bs; rows = subst (λ z. Chained t w (b ∷ bs) z (b ∷ bs)) (sym (e margins)) (line_alone t w margins.column x (written c.style x) s (m n)); steps = s; holds = λ y o. refl };
+    root = λ margins z. record { now = []; rows = subst (λ r. Chained t w [] r []) (sym (e margins)) (root_line margins.column x (written c.style x) z); steps = no_step; holds = tt };
   }
 
   -- a block scalar
-  module _ (x : Node) (row : Spot → Row) (rows_are : (spot : Spot) → rows c spot x ≡ row spot ∷ []) (bare : (spot : Spot) → (row spot).starts ≡ []) (leaf : (spot : Spot) → (row spot).leaves ≡ leaves x)
-      (lines : (spot : Spot) → (row spot).lines ≡ spot.lines) (column : (spot : Spot) → (row spot).column ≡ spot.column) (single : is_block_collection x ≡ false) where
-    body_here : (spot : Spot) {bs : List OpenBlock} → AllBlocks (λ k. k < spot.lines) bs → BodyRight (row spot).body (row spot).lines bs
-    body_here spot {bs} a = body_right (row spot).body (subst (λ z. AllBlocks (λ k. k < z) bs) (sym (lines spot)) a)
+  module _ (x : Node) (row : Margins → Row) (rows_are : (margins : Margins) → rows c margins x ≡ row margins ∷ []) (bare : (margins : Margins) → (row margins).starts ≡ []) (leaf : (margins : Margins) → (row margins).leaves ≡ leaves x)
+      (lines : (margins : Margins) → (row margins).lines ≡ margins.lines) (column : (margins : Margins) → (row margins).column ≡ margins.column) (single : is_block_collection x ≡ false) where
+    body_here : (margins : Margins) {bs : List OpenBlock} → AllBlocks (λ k. k < margins.lines) bs → BodyRight (row margins).body (row margins).lines bs
+    body_here margins {bs} a = body_right (row margins).body (subst (λ z. AllBlocks (λ k. k < z) bs) (sym (lines margins)) a)
 
-    scalar_inline : (spot : Spot) {bs : List OpenBlock} → AllBlocks (λ k. k < spot.lines) bs → Inline t w bs (rows c spot x) bs
-    scalar_inline spot {bs} a =
-        let same = sym (ap (λ z. after_starts t z bs) (bare spot)) in
-        subst (λ z. Inline t w bs z bs) (sym (rows_are spot)) (inline_row (subst (λ z. BodyRight (row spot).body (row spot).lines z) same (body_here spot a)) (subst (λ z. Chained t w z [] bs) same chain_over))
+    scalar_inline : (margins : Margins) {bs : List OpenBlock} → AllBlocks (λ k. k < margins.lines) bs → Inline t w bs (rows c margins x) bs
+    scalar_inline margins {bs} a =
+        let same = sym (ap (λ z. after_starts t z bs) (bare margins)) in
+        subst (λ z. Inline t w bs z bs) (sym (rows_are margins)) (inline_row (subst (λ z. BodyRight (row margins).body (row margins).lines z) same (body_here margins a)) (subst (λ z. Chained t w z [] bs) same chain_over))
 
     scalar_node : NodeRun x
     scalar_node = record {
-      run = λ spot b bs s l f. record { now = b ∷ bs; rows = scalar_inline spot (steps_below w wide s l); steps = s; kept = λ y o. refl };
-      below = λ spot b bs s l f m g.
+      run = λ margins b bs s l f. record { now = b ∷ bs; rows = scalar_inline margins (steps_below w wide s l); steps = s; kept = λ y o. refl };
+      below = λ margins b bs s l f m g.
           record {
             now = b ∷ bs;
-            rows = subst (λ z. Chained t w (b ∷ bs) z (b ∷ bs)) (sym (rows_are spot)) (leaf_alone t w s (bare spot) (λ e. m single (sym (leaf spot) ∙ e)) (body_here spot (steps_below w wide s l)));
+            rows = subst (λ z. Chained t w (b ∷ bs) z (b ∷ bs)) (sym (rows_are margins)) (leaf_alone t w s (bare margins) (λ e. m single (sym (leaf margins) ∙ e)) (body_here margins (steps_below w wide s l)));
             steps = s;
             holds = λ y o. refl;
           };
-      root = λ spot z. record { now = []; rows = subst (λ r. Chained t w [] r []) (sym (rows_are spot)) (root_row (bare spot) (column spot ∙ z) (body_here spot no_blocks)); steps = no_step; holds = tt };
+      root = λ margins z. record { now = []; rows = subst (λ r. Chained t w [] r []) (sym (rows_are margins)) (root_row (bare margins) (column margins ∙ z) (body_here margins no_blocks)); steps = no_step; holds = tt };
     }
 
   -- a block collection with these entries
-  module _ (x : Node) (p : List ℕ) (k : Bool) (entries : ℕ → List Row) (rows_are : (spot : Spot) → rows c spot x ≡ props_row spot.column p ++ entries spot.entries) (block : is_block_collection x ≡ true) (kind : is_sequence x ≡ k)
+  module _ (x : Node) (p : List ℕ) (k : Bool) (entries : ℕ → List Row) (rows_are : (margins : Margins) → rows c margins x ≡ props_row margins.column p ++ entries margins.entries) (block : is_block_collection x ≡ true) (kind : is_sequence x ≡ k)
       (empty : begins_below x ≡ true → p ≡ []) (each : (e : ℕ) (bs : List OpenBlock) → InSteps w bs → Enters w wide e k bs → EntriesRun e k bs bs (entries e)) where
     with_props : (q : List ℕ) (column e : ℕ) {bs now : List OpenBlock} → InSteps w bs → Starting t w (entries e) → Inline t w bs (entries e) now → Inline t w bs (props_row column q ++ entries e) now
     with_props [] column e s a r = r
@@ -166,27 +159,27 @@ module _ (t : List ℕ) (c : LayoutSetting) where
 
     collection_node : NodeRun x
     collection_node = record {
-      run = λ spot b bs s l f.
-          let enters : Enters w wide spot.entries k (b ∷ bs) = subst (λ z. Enters w wide spot.entries z (b ∷ bs)) kind (f block) in
-          let all = each spot.entries (b ∷ bs) s enters in
+      run = λ margins b bs s l f.
+          let enters : Enters w wide margins.entries k (b ∷ bs) = subst (λ z. Enters w wide margins.entries z (b ∷ bs)) kind (f block) in
+          let all = each margins.entries (b ∷ bs) s enters in
           record {
             now = all.now;
-            rows = subst (λ z. Inline t w (b ∷ bs) z all.now) (sym (rows_are spot)) (with_props p spot.column spot.entries s all.starting all.rows);
+            rows = subst (λ z. Inline t w (b ∷ bs) z all.now) (sym (rows_are margins)) (with_props p margins.column margins.entries s all.starting all.rows);
             steps = all.steps;
             kept = kept_around w wide enters all.there;
           };
-      below = λ spot b bs s l f m g.
-          let enters : Enters w wide spot.entries k (b ∷ bs) = subst (λ z. Enters w wide spot.entries z (b ∷ bs)) kind (f block) in
-          let all = each spot.entries (b ∷ bs) s enters in
+      below = λ margins b bs s l f m g.
+          let enters : Enters w wide margins.entries k (b ∷ bs) = subst (λ z. Enters w wide margins.entries z (b ∷ bs)) kind (f block) in
+          let all = each margins.entries (b ∷ bs) s enters in
           record {
             now = all.now;
-            rows = subst (λ z. Chained t w (b ∷ bs) z all.now) (sym (rows_are spot)) (no_props_alone p spot.column spot.entries (empty (g block)) s all.starting all.rows);
+            rows = subst (λ z. Chained t w (b ∷ bs) z all.now) (sym (rows_are margins)) (no_props_alone p margins.column margins.entries (empty (g block)) s all.starting all.rows);
             steps = all.steps;
             holds = kept_around w wide enters all.there;
           };
-      root = λ spot z.
-          let all = each spot.entries [] no_step enters_none in
-          record { now = all.now; rows = subst (λ r. Chained t w [] r all.now) (sym (rows_are spot)) (props_alone p spot.column spot.entries z all.starting all.rows); steps = all.steps; holds = tt };
+      root = λ margins z.
+          let all = each margins.entries [] no_step enters_none in
+          record { now = all.now; rows = subst (λ r. Chained t w [] r all.now) (sym (rows_are margins)) (props_alone p margins.column margins.entries z all.starting all.rows); steps = all.steps; holds = tt };
     }
 
   -- Entries.
@@ -224,14 +217,14 @@ module _ (t : List ℕ) (c : LayoutSetting) where
   implicit_run column k v {bs} {start} f s a =
       let head : Row = key_row c.style column k in
       let o = opening w wide (block_of t (start_of column false (entry_start k))) s a refl refl in
-      let spot : Spot = value_of_implicit c column k v in
+      let margins : Margins = value_of_implicit c column k v in
       let at : o.block.printed ≡ column = o.at in
-      let right : o.block.printed < spot.lines = let two : 0 < w = wide in omega (arith, at, two) in
-      let node = f.run spot o.block bs o.steps right (λ e. value_enters column v o.at o.kind) in
-      go o spot right (key_comment c.comments k v) refl (begins_below v) refl where
-        go : (o : Opened w wide column false bs (open_after (block_of t (start_of column false (entry_start k))) start)) (spot : Spot) → o.block.printed < (value_of_implicit c column k v).lines → (q : Option CommentValue) → key_comment c.comments k v ≡ q
+      let right : o.block.printed < margins.lines = let two : 0 < w = wide in omega (arith, at, two) in
+      let node = f.run margins o.block bs o.steps right (λ e. value_enters column v o.at o.kind) in
+      go o margins right (key_comment c.comments k v) refl (begins_below v) refl where
+        go : (o : Opened w wide column false bs (open_after (block_of t (start_of column false (entry_start k))) start)) (margins : Margins) → o.block.printed < (value_of_implicit c column k v).lines → (q : Option CommentValue) → key_comment c.comments k v ≡ q
             → (d : Bool) → begins_below v ≡ d → PairRun column bs start (after_key (key_row c.style column k) q d (rows c (value_of_implicit c column k v) v))
-        go o spot right (Some e) g d h =
+        go o margins right (Some e) g d h =
             let unblocked = λ (z : is_block_collection v ≡ true). true_of (sym (block_unkeyed c.comments k v z) ∙ g) in
             let node = f.below (value_of_implicit c column k v) o.block bs o.steps right (λ z. value_enters column v o.at o.kind) (λ z y. keyed_leaf c.comments k v e g y) unblocked in
             record {
@@ -248,7 +241,7 @@ module _ (t : List ℕ) (c : LayoutSetting) where
             } where
               true_of : {b : Bool} → None ≡ Some e → b ≡ true
               true_of z = absurd cc
-        go o spot right None g true h =
+        go o margins right None g true h =
             let blocked : is_block_collection v ≡ true = (and_parts (is_block_collection v) _ h).0 in
             let node = f.below (value_of_implicit c column k v) o.block bs o.steps right (λ z. value_enters column v o.at o.kind) (λ z y. absurd (true≢false (sym blocked ∙ z))) (λ z. h) in
             record {
@@ -263,7 +256,7 @@ module _ (t : List ℕ) (c : LayoutSetting) where
               starting = row_starting refl refl;
               filled = refl;
             }
-        go o spot right None g false h =
+        go o margins right None g false h =
             let node = f.run (value_of_implicit c column k v) o.block bs o.steps right (λ z. value_enters column v o.at o.kind) in
             record {
               block = o.block;
@@ -287,33 +280,33 @@ module _ (t : List ℕ) (c : LayoutSetting) where
       let two : 0 < w = wide in
       let o = opening w wide (block_of t (start_of column false (entry_start k))) s a refl refl in
       let at : o.block.printed ≡ column = o.at in
-      let key = f.run (key_spot c.style column k) o.block bs o.steps (omega (arith, at, two)) (λ e. inner_enters column (is_sequence k) o.at) in
+      let key = f.run (key_margins c.style column k) o.block bs o.steps (omega (arith, at, two)) (λ e. inner_enters column (is_sequence k) o.at) in
       let again = opening w wide (block_of t (start_of column false (entry_start k))) s (at_later o.at o.kind key.kept o.steps) refl refl in
       let there : again.block.printed ≡ column = again.at in
-      let value = g.run (inner_spot c.style column) again.block bs again.steps (omega (arith, there, two)) (λ e. inner_enters column (is_sequence v) again.at) in
-      let first : Inline t w start (joined (entry_row column (63 ∷ []) k) n (rows c (key_spot c.style column k) k)) key.now =
-      joined_inline t w (entry_row column (63 ∷ []) k) n (rows c (key_spot c.style column k) k) refl refl (subst (λ z. Inline t w z (rows c (key_spot c.style column k) k) key.now) (sym o.is) key.rows) in
-      let second : Inline t w key.now (joined (colon_row column k) n (rows c (inner_spot c.style column) v)) value.now =
-      joined_inline t w (colon_row column k) n (rows c (inner_spot c.style column) v) refl refl (subst (λ z. Inline t w z (rows c (inner_spot c.style column) v) value.now) (sym again.is) value.rows) in
+      let value = g.run (inner_margins c.style column) again.block bs again.steps (omega (arith, there, two)) (λ e. inner_enters column (is_sequence v) again.at) in
+      let first : Inline t w start (joined (entry_row column (63 ∷ []) k) n (rows c (key_margins c.style column k) k)) key.now =
+      joined_inline t w (entry_row column (63 ∷ []) k) n (rows c (key_margins c.style column k) k) refl refl (subst (λ z. Inline t w z (rows c (key_margins c.style column k) k) key.now) (sym o.is) key.rows) in
+      let second : Inline t w key.now (joined (colon_row column k) n (rows c (inner_margins c.style column) v)) value.now =
+      joined_inline t w (colon_row column k) n (rows c (inner_margins c.style column) v) refl refl (subst (λ z. Inline t w z (rows c (inner_margins c.style column) v) value.now) (sym again.is) value.rows) in
       record {
         block = again.block;
         at = again.at;
         kind = again.kind;
         around = again.steps;
         now = value.now;
-        rows = inline_append t w (joined_filled t w (entry_row column (63 ∷ []) k) n (rows c (key_spot c.style column k) k)) first
-            (alone t w key.steps (joined_starting t w (colon_row column k) n (rows c (inner_spot c.style column) v) refl refl) second);
+        rows = inline_append t w (joined_filled t w (entry_row column (63 ∷ []) k) n (rows c (key_margins c.style column k) k)) first
+            (alone t w key.steps (joined_starting t w (colon_row column k) n (rows c (inner_margins c.style column) v) refl refl) second);
         steps = value.steps;
         kept = value.kept;
-        starting = starting_append t w _ (joined_filled t w (entry_row column (63 ∷ []) k) n (rows c (key_spot c.style column k) k)) (joined_starting t w (entry_row column (63 ∷ []) k) n (rows c (key_spot c.style column k) k) refl refl);
-        filled = filled_more (joined (entry_row column (63 ∷ []) k) n (rows c (key_spot c.style column k) k)) (joined (colon_row column k) n (rows c (inner_spot c.style column) v)) (joined_filled t w (entry_row column (63 ∷ []) k) n (rows c (key_spot c.style column k) k));
+        starting = starting_append t w _ (joined_filled t w (entry_row column (63 ∷ []) k) n (rows c (key_margins c.style column k) k)) (joined_starting t w (entry_row column (63 ∷ []) k) n (rows c (key_margins c.style column k) k) refl refl);
+        filled = filled_more (joined (entry_row column (63 ∷ []) k) n (rows c (key_margins c.style column k) k)) (joined (colon_row column k) n (rows c (inner_margins c.style column) v)) (joined_filled t w (entry_row column (63 ∷ []) k) n (rows c (key_margins c.style column k) k));
       } where
         filled_more : (xs ys : List Row) → is_filled t w xs ≡ true → is_filled t w (xs ++ ys) ≡ true
         filled_more [] ys e = absurd (true≢false (sym e))
         filled_more (x ∷ xs) ys e = refl
 
   pair_run : (column : ℕ) (k v : Node) {bs start : List OpenBlock} → NodeRun k → NodeRun v → InSteps w bs → Where w wide column false bs start
-      → PairRun column bs start (pair_rows c column k v (rows c (key_spot c.style column k) k) (rows c (value_spot c column k v) v))
+      → PairRun column bs start (pair_rows c column k v (rows c (key_margins c.style column k) k) (rows c (value_margins c column k v) v))
   pair_run column k v {bs} {start} f g s a = go (is_implicit c.style column k) where
     go : (b : Bool) → PairRun column bs start (either_pair b c column k v)
     go true = implicit_run column k v g s a
@@ -321,30 +314,30 @@ module _ (t : List ℕ) (c : LayoutSetting) where
 
   mutual
     node_run : (x : Node) → Fit c.style x → NodeRun x
-    node_run (scalar at props style text lines) (fit_nothing e) = line_node (scalar at props style text lines) (λ spot. refl) refl
-    node_run x (fit_line e n l k) = line_node x (λ spot. inline_rows c spot x e) (inline_no_block x e)
+    node_run (scalar at props style text lines) (fit_nothing e) = line_node (scalar at props style text lines) (λ margins. refl) refl
+    node_run x (fit_line e n l k) = line_node x (λ margins. inline_rows c margins x e) (inline_no_block x e)
     node_run (scalar at p Plain text lines) (fit_scalar e f g) = absurd (true≢false (sym g.block))
     node_run (scalar at p Single text lines) (fit_scalar e f g) = absurd (true≢false (sym g.block))
     node_run (scalar at p Double text lines) (fit_scalar e f g) = absurd (true≢false (sym g.block))
     node_run (scalar at p Literal text lines) (fit_scalar e f g) =
-        scalar_node (scalar at p Literal text lines) (λ spot. first_row (rows c spot (scalar at p Literal text lines))) (λ spot. refl) (λ spot. refl) (λ spot. refl) (λ spot. refl) (λ spot. refl) refl
+        scalar_node (scalar at p Literal text lines) (λ margins. first_row (rows c margins (scalar at p Literal text lines))) (λ margins. refl) (λ margins. refl) (λ margins. refl) (λ margins. refl) (λ margins. refl) refl
     node_run (scalar at p Folded text lines) (fit_scalar e f g) =
-        scalar_node (scalar at p Folded text lines) (λ spot. first_row (rows c spot (scalar at p Folded text lines))) (λ spot. refl) (λ spot. refl) (λ spot. refl) (λ spot. refl) (λ spot. refl) refl
+        scalar_node (scalar at p Folded text lines) (λ margins. first_row (rows c margins (scalar at p Folded text lines))) (λ margins. refl) (λ margins. refl) (λ margins. refl) (λ margins. refl) (λ margins. refl) refl
     node_run (sequence at false p (item x xs)) (fit_sequence e f g more) =
-        collection_node (sequence at false p (item x xs)) (props_text p) true (λ e. rows_of_items c e (item x xs)) (λ spot. refl) refl refl (λ z. is_empty (props_text p) z) (λ e bs s enters. items_run e (item x xs) (fit_item g more) s s (at_first enters))
+        collection_node (sequence at false p (item x xs)) (props_text p) true (λ e. rows_of_items c e (item x xs)) (λ margins. refl) refl refl (λ z. is_empty (props_text p) z) (λ e bs s enters. items_run e (item x xs) (fit_item g more) s s (at_first enters))
     node_run (mapping at false p (pair k v ps)) (fit_mapping e f g h more) =
-        collection_node (mapping at false p (pair k v ps)) (props_text p) false (λ e. rows_of_pairs c e (pair k v ps)) (λ spot. refl) refl refl (λ z. is_empty (props_text p) z) (λ e bs s enters. pairs_run e (pair k v ps) (fit_pair g h more) s s (at_first enters))
+        collection_node (mapping at false p (pair k v ps)) (props_text p) false (λ e. rows_of_pairs c e (pair k v ps)) (λ margins. refl) refl refl (λ z. is_empty (props_text p) z) (λ e bs s enters. pairs_run e (pair k v ps) (fit_pair g h more) s s (at_first enters))
 
     items_run : (column : ℕ) (xs : Items) {bs start : List OpenBlock} → FitItems c.style xs → InSteps w bs → InSteps w start → Where w wide column true bs start → EntriesRun column true bs start (rows_of_items c column xs)
     items_run column no_items {start = start} fit_no_items s r a = record { now = start; rows = inline_over; steps = r; there = a; starting = none_starting }
     items_run column (item x xs) {bs} {start} (fit_item f more) s r a =
         let n : ℕ = c.style.indent - 1 in
         let two : 0 < w = wide in
-        let inner : List Row = rows c (inner_spot c.style column) x in
+        let inner : List Row = rows c (inner_margins c.style column) x in
         let head : Row = entry_row column (45 ∷ []) x in
         let o = opening w wide (block_of t (start_of column true (entry_start x))) s a refl refl in
         let at : o.block.printed ≡ column = o.at in
-        let node = (node_run x f).run (inner_spot c.style column) o.block bs o.steps (omega (arith, at, two)) (λ e. inner_enters column (is_sequence x) o.at) in
+        let node = (node_run x f).run (inner_margins c.style column) o.block bs o.steps (omega (arith, at, two)) (λ e. inner_enters column (is_sequence x) o.at) in
         let rest = items_run column xs more s node.steps (at_later o.at o.kind node.kept o.steps) in
         let mine : Inline t w start (joined head n inner) node.now = joined_inline t w head n inner refl refl (subst (λ z. Inline t w z inner node.now) (sym o.is) node.rows) in
         record {
@@ -368,51 +361,6 @@ module _ (t : List ℕ) (c : LayoutSetting) where
           starting = starting_append t w _ one.filled one.starting;
         }
 
-  -- Documents.
-
-  head_row : {bs : List OpenBlock} (x : Row) → InSteps w bs → x.starts ≡ [] → x.leaves ≡ [] → x.column ≡ 0 → x.body ≡ [] → Chained t w bs (x ∷ []) []
-  head_row {bs} x s e f g h =
-      let same : after_row t x bs ≡ [] = ap (λ z. after_starts t z (unless_document z x.leaves bs)) e ∙ ap (λ z. unless_document [] z bs) f in
-      chain_row s (subst (λ z. NextIsAt x.column (beginning t z x.leaves)) (sym e) (subst (λ z. NextIsAt x.column (beginning t [] z)) (sym f) (next_document g))) (no_body _ _ h) (subst (λ z. Chained t w z [] []) (sym same) chain_over)
-
-  directives_run : {bs : List OpenBlock} (dirs : List Directive) → InSteps w bs → Chained t w bs (map directive_row dirs ++ (start_row ∷ [])) []
-  directives_run [] s = head_row start_row s refl refl refl refl
-  directives_run (d ∷ ds) s = chain_append t w (head_row (directive_row d) s refl refl refl refl) (directives_run ds no_step)
-
-  heads_run : {bs : List OpenBlock} (is_first : Bool) (start : ℕ) (dirs : List Directive) → InSteps w bs → Chained t w bs (beginning_at start (end_rows is_first dirs ++ (map directive_row dirs ++ (start_row ∷ [])))) []
-  heads_run true start [] s = head_row (record start_row { items = start ∷ [] }) s refl refl refl refl
-  heads_run true start (d ∷ ds) s = chain_append t w (head_row (record (directive_row d) { items = start ∷ [] }) s refl refl refl refl) (directives_run ds no_step)
-  heads_run false start [] s = head_row (record start_row { items = start ∷ [] }) s refl refl refl refl
-  heads_run false start (d ∷ ds) s = chain_append t w (head_row (record (plain_row 0 (46 ∷ 46 ∷ 46 ∷ [])) { items = start ∷ [] }) s refl refl refl refl) (directives_run (d ∷ ds) no_step)
-
-  stream_run : (is_first : Bool) (ds : List Doc) (trees : List DocumentTree) {bs : List OpenBlock} → FitDocuments c.style ds trees → InSteps w bs → After bs (stream_rows c is_first ds trees) (λ now. Unit {0})
-  stream_run is_first [] [] {bs} fit_no_documents s = record { now = bs; rows = chain_over; steps = s; holds = tt }
-  stream_run is_first [] (x ∷ xs) f s = elim f [ ]
-  stream_run is_first (d ∷ ds) [] f s = elim f [ ]
-  stream_run is_first (d ∷ ds) (x ∷ xs) (fit_document f fit more) s =
-      let root = (node_run x.root fit).root (root_spot c.style) refl in
-      let rest = stream_run false ds xs more root.steps in
-      record { now = rest.now; rows = chain_append t w (chain_append t w (heads_run is_first d.start d.directives s) root.rows) rest.rows; steps = rest.steps; holds = tt }
-
-  begun_run : {bs now : List OpenBlock} (start : ℕ) {xs : List Row} → Chained t w bs xs now → Chained t w bs (begun_at start xs) now
-  begun_run start chain_over = chain_over
-  begun_run start (chain_row s n r a) = chain_row s n r a
-
-  all_run : (bare : Bool) (ds : List Doc) (trees : List DocumentTree) → FitDocuments c.style ds trees → After [] (all_rows c bare ds trees) (λ now. Unit {0})
-  all_run false ds trees f = stream_run true ds trees f no_step
-  all_run true [] [] f = record { now = []; rows = chain_over; steps = no_step; holds = tt }
-  all_run true [] (x ∷ xs) f = elim f [ ]
-  all_run true (d ∷ ds) [] f = elim f [ ]
-  all_run true (d ∷ ds) (x ∷ xs) (fit_document f fit more) =
-      let root = (node_run x.root fit).root (root_spot c.style) refl in
-      let rest = stream_run false ds xs more root.steps in
-      record { now = rest.now; rows = chain_append t w (begun_run d.start root.rows) rest.rows; steps = rest.steps; holds = tt }
-
--- of a layout: what is open after its last row
-pub record Chain (t : List ℕ) (s : Style) (rs : List Row) : Type 0 where
-  pub now : List OpenBlock
-  pub rows : Chained t s.indent [] rs now
-  pub steps : InSteps s.indent now
-
-pub layout_chain : (t : List ℕ) (m : Lists) (s : Style) (trees : List DocumentTree) → FitDocuments s m.documents trees → Chain t s (rows_of m s trees)
-layout_chain t m s trees fit = let all = all_run t (setting_of m s) (is_bare m s) m.documents trees fit in record { now = all.now; rows = all.rows; steps = all.steps }
+  -- at the beginning of a document
+  pub root_run : (x : Node) → Fit c.style x → (margins : Margins) → margins.column ≡ 0 → After [] (rows c margins x) (λ now. Unit {0})
+  root_run x f margins e = (node_run x f).root margins e

@@ -1,6 +1,8 @@
 -- What holds of the columns of comments that were laid out: of that of the next line, of the margin, and of those of the open collections.
 use Rattle.std.proofs.Common.{◌≡◌, ℕ, zero, suc, ◌+◌, Bool, true, false, true≢false, List, [], ◌∷◌, ◌++◌, Option, Some, None, refl, sym, ap, ◌∙◌, subst}
+use Rattle.std.proofs.lemmas.Option.{same_Some}
 use Rattle.std.specs.Prelude.{◌&&◌, filter, if◌then◌else◌, nat_lt, not}
+use Rattle.yf_chars.proofs.Tests.{none_some}
 use Rattle.yf_comments.specs.Comment.{CommentValue}
 use Rattle.yf_comments.specs.GapLines.{GapLine, blank, remark}
 use Rattle.yf_forms.specs.declared.style.Style.{Style}
@@ -90,22 +92,16 @@ pub blocks_map : {P Q : ℕ → Type 0} {bs : List OpenBlock} → ((k : ℕ) →
 blocks_map f no_blocks = no_blocks
 blocks_map f (one_block {b = b} p a) = one_block (f b.printed p) (blocks_map f a)
 
-pub some_is : {m n : ℕ} → Some m ≡ Some n → m ≡ n
-some_is {m} {n} e = ap (λ o. or_else o m) e
-
-pub none_is : {A : Type 0} {n : ℕ} → None ≡ Some n → A
-none_is e = absurd cc
-
 module _ (P : ℕ → Type 0) where
   at_holds : (k : ℕ) {bs : List OpenBlock} → AllBlocks P bs → (c : ℕ) → column_at k bs ≡ Some c → P c
-  at_holds k no_blocks c e = none_is e
+  at_holds k no_blocks c e = absurd (none_some e)
   at_holds k (one_block {b = b} {bs = bs} p a) c e = go (is_source k b.source) (at_holds k a c) e where
     go : (v : Bool) → (column_at k bs ≡ Some c → P c) → (if v then Some b.printed else column_at k bs) ≡ Some c → P c
-    go true rest f = subst P (some_is f) p
+    go true rest f = subst P (same_Some b.printed c f) p
     go false rest f = rest f
 
   left_holds : (indent : ℕ) (may : Bool) (k : ℕ) {bs : List OpenBlock} → AllBlocks P bs → (may ≡ true → AllBlocks (λ c. P (c + indent)) bs) → (c : ℕ) → column_left indent may k bs ≡ Some c → P c
-  left_holds indent may k no_blocks f c e = none_is e
+  left_holds indent may k no_blocks f c e = absurd (none_some e)
   left_holds indent may k (one_block {b = b} {bs = bs} p a) f c e = go b.source (left_holds indent may k a (λ m. tail (f m)) c) (left_holds indent false k a (λ m. absurd (true≢false (sym m))) c) e where
     tail : AllBlocks (λ c. P (c + indent)) (b ∷ bs) → AllBlocks (λ c. P (c + indent)) bs
     tail (one_block q more) = more
@@ -118,7 +114,7 @@ module _ (P : ℕ → Type 0) where
     further false q = p
 
     chosen : (v : Bool) → (column_left indent false k bs ≡ Some c → P c) → (if v then Some (further_in indent may b.printed) else column_left indent false k bs) ≡ Some c → P c
-    chosen true rest g = subst P (some_is g) (further may (λ m. head (f m)))
+    chosen true rest g = subst P (same_Some (further_in indent may b.printed) c g) (further may (λ m. head (f m)))
     chosen false rest g = rest g
 
     go : (o : Option ℕ) → (column_left indent may k bs ≡ Some c → P c) → (column_left indent false k bs ≡ Some c → P c)

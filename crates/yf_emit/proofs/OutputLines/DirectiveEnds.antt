@@ -15,19 +15,16 @@ use Rattle.yf_props.specs.Names.TagPrefix.{local_prefix, global_prefix}
 use Rattle.yf_props.proofs.SeparationEnds.{Solid}
 use Rattle.yf_props.proofs.SolidLemmas.{hex_solid, tag_solid, uri_solid}
 use Rattle.yf_grammar.proofs.Ends.BlankRuns.{ContentBefore, after_byte}
+use Rattle.yf_grammar.proofs.BlockOutcomes.NodesAfter.{solid_ns}
 use Rattle.yf_stream.specs.Stream.{Parameters, ReservedParameter}
 use Rattle.yf_stream.specs.Stream.Parameters.{version_parameter, tag_parameters, reserved_parameters}
 use Rattle.yf_stream.specs.Stream.ReservedParameter.{reserved_parameter}
 use Rattle.yf_emit.specs.Layouts.FitDocuments.{DirectiveAt}
-use Rattle.yf_emit.proofs.OutputLines.SeenTexts.{ascii_ns}
-use Rattle.yf_stream.proofs.Uniqueness.OneDirective.{digit_ns}
+use Rattle.yf_stream.proofs.Uniqueness.OneDirective.{digit_ns, ascii_ns}
 
 bounds : (c : ℕ) → is_digit c ≡ true → (48 ≤ c) × (c ≤ 57)
 unfolding is_digit is_between
 bounds c e = grind (arith, nat_tests)
-
-solid_ns : (c : ℕ) → Solid c → is_ns_char c ≡ true
-solid_ns c s = ascii_ns c s.low s.high
 
 module _ {t : List ℕ} (u : IsUtf8 t) where
   char_seen : (i : ℕ) → is_ns_char (code t i) ≡ true → ContentBefore t (next t i)

@@ -3,6 +3,7 @@ use Rattle.std.proofs.Common.{◌≡◌, ℕ, zero, suc, List, [], ◌∷◌, �
 use Rattle.std.specs.Prelude.{slice_get}
 use Rattle.std.specs.Str.{IsUtf8}
 use Rattle.std.proofs.lemmas.Option.{same_Some}
+use Rattle.yf_chars.proofs.Tests.{no_item}
 use Rattle.yf_comments.specs.Comment.{CommentValue}
 use Rattle.yf_events.specs.Event.{EventValue, EventInText, stream_ends}
 use Rattle.yf_events.specs.Tree.{unplaced}
@@ -26,11 +27,8 @@ noted_set : {t : List ℕ} {es : List EventInText} {xs ys : List CommentValue} �
 noted_set no_comment a = tt
 noted_set (one_comment n more) a = (a.0, noted_set more a.1)
 
-no_comment_there : (k : ℕ) (c : CommentValue) → slice_get [] k ≡ Some c → ⊥
-no_comment_there k c e = cc
-
 set_at : (t : List ℕ) (cs : List CommentValue) (k : ℕ) (c : CommentValue) → AllSet t cs → slice_get cs k ≡ Some c → WellSet t c.offset
-set_at t [] k c a e = absurd (no_comment_there k c e)
+set_at t [] k c a e = absurd (no_item k c e)
 set_at t (d ∷ cs) zero c a e = subst (λ (w : CommentValue). WellSet t w.offset) (same_Some _ _ e) a.0
 set_at t (d ∷ cs) (suc k) c a e = set_at t cs k c a.1 e
 

@@ -26,9 +26,9 @@ use Rattle.yf_emit.specs.Layouts.Decorated.{Deco, first, after, trails_then, bod
 use Rattle.yf_print.specs.Layouts.Rows.{Row}
 use Rattle.yf_emit.proofs.Derived.ClearRows.{trails_bytes, trails_are}
 use Rattle.yf_emit.proofs.Derived.RowsUtf8.{AreLines, no_line, line_more}
-use Rattle.yf_chars.proofs.Tests.{not_true}
+use Rattle.yf_chars.proofs.Tests.{not_true, no_item}
 use Rattle.yf_chars.proofs.CharFacts.{feed_no_nb, return_no_nb}
-use Rattle.yf_emit.proofs.Derived.StreamParts.{ended_at}
+use Rattle.yf_block_scalar.proofs.PlacedLemmas.{rest_end}
 
 -- The texts of the lines.
 
@@ -135,7 +135,7 @@ pub lines_are : {t : List ℕ} {xs : List (List ℕ)} (ls : List Line) {q : ℕ}
 lines_are [] u no_line f s = no_lines
 lines_are (l ∷ ls) u no_line f s =
     let o = f.1.order in let w = end_within f.1.ends in
-    absurd (let e = ended_at s in omega (arith, f.0, o, w.1, e))
+    absurd (let e = rest_end s in omega (arith, f.0, o, w.1, e))
 lines_are [] u (line_more {x = x} {xs = xs} a more) f s = absurd (let l = before_text_end x (body_then xs []) s in omega (arith, l, f))
 lines_are {t} (l ∷ ls) {q} u (line_more {x = x} {xs = xs} a more) f s =
     let here : Rest t l.start (x ++ (10 ∷ body_then xs [])) = subst (λ k. Rest t k (x ++ (10 ∷ body_then xs []))) (sym f.0) s in
@@ -169,10 +169,7 @@ pub record LineText (t : List ℕ) (xs : List (List ℕ)) (k : ℕ) (l : Line) :
   pub among : slice_get xs k ≡ Some text
   pub is : LineIs t l text
 
-pub nothing_there : (k : ℕ) (l : Line) → slice_get [] k ≡ Some l → ⊥
-nothing_there k l e = cc
-
 pub line_text : {t : List ℕ} {ls : List Line} {xs : List (List ℕ)} (k : ℕ) (l : Line) → LinesAre t ls xs → slice_get ls k ≡ Some l → LineText t xs k l
-line_text k l no_lines e = absurd (nothing_there k l e)
+line_text k l no_lines e = absurd (no_item k l e)
 line_text {t} zero l (more_lines {l = m} {x = x} {xs = xs} a f more) e = subst (λ w. LineText t (x ∷ xs) 0 w) (same_Some _ _ e) (record { text = x; among = refl; is = a })
 line_text (suc k) l (more_lines a f more) e = let r = line_text k l more e in record { text = r.text; among = r.among; is = r.is }

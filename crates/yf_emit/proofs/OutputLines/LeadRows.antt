@@ -18,7 +18,7 @@ use Rattle.yf_stream.proofs.Uniqueness.NoPercent.{no_percent_flow}
 use Rattle.yf_forms.specs.declared.style.Style.{Style}
 use Rattle.yf_emit.specs.Layouts.FitDocuments.{FitDocuments, fit_no_documents, fit_document}
 use Rattle.yf_emit.specs.Layouts.ReadableTrees.{Fit, fit_nothing, fit_line, fit_scalar, fit_sequence, fit_mapping, FitItems, fit_no_items, fit_item, FitPairs, fit_no_pairs, fit_pair}
-use Rattle.yf_forms.specs.NormalForms.Normal.{LayoutSetting, Spot, inner_spot, key_spot, value_spot, is_implicit, key_comment, root_spot}
+use Rattle.yf_forms.specs.NormalForms.Normal.{LayoutSetting, Margins, inner_margins, key_margins, value_margins, is_implicit, key_comment, root_margins}
 use Rattle.yf_forms.specs.Nodes.OneLine.{written, colon_after, props_text}
 use Rattle.yf_print.specs.Layouts.Rows.{Row, one_line_row, props_row, joined, after_sign, after_key, begins_below, entry_row, colon_row, key_row, pair_rows, rows, rows_of_items, rows_of_pairs, directive_row, end_rows, beginning_at, begun_at, all_rows, stream_rows}
 use Rattle.yf_emit.proofs.Texts.LineUtf8.{line_utf8}
@@ -94,39 +94,39 @@ key_lead c column {k} e (fit_mapping f p g h gs) = absurd (not_implicit c column
 -- Trees.
 
 record Leading (c : LayoutSetting) (x : Node) : Type 0 where
-  pub leads : (spot : Spot) → LeadRows (rows c spot x)
+  pub leads : (margins : Margins) → LeadRows (rows c margins x)
 
 sign_leads : (s : Style) (column sign : ℕ) (x : Node) {rs : List Row} → sign ≢ 37 → LeadRows rs → LeadRows (after_sign s (entry_row column (sign ∷ []) x) rs)
 sign_leads s column sign x n a = joined_leads (entry_row column (sign ∷ []) x) (s.indent - 1) (λ e. absurd cc) (signed n) a
 
-pair_leads : (c : LayoutSetting) (column : ℕ) {k v : Node} → Fit c.style k → Leading c k → Leading c v → LeadRows (pair_rows c column k v (rows c (key_spot c.style column k) k) (rows c (value_spot c column k v) v))
+pair_leads : (c : LayoutSetting) (column : ℕ) {k v : Node} → Fit c.style k → Leading c k → Leading c v → LeadRows (pair_rows c column k v (rows c (key_margins c.style column k) k) (rows c (value_margins c column k v) v))
 pair_leads c column {k} {v} fit f g = go (is_implicit c.style column k) refl where
   go : (b : Bool) → is_implicit c.style column k ≡ b → LeadRows (either_pair (is_implicit c.style column k) c column k v)
   go true e = let key = key_lead c column e fit in
       subst (λ b. LeadRows (either_pair b c column k v)) (sym e) (after_leads (key_row c.style column k) (key_comment c.comments k v) (begins_below v) key.1 (signed key.0) (g.leads _))
   go false e = subst (λ b. LeadRows (either_pair b c column k v)) (sym e)
-      (leads_append (sign_leads c.style column 63 k (λ z. omega (arith, z)) (f.leads (key_spot c.style column k)))
-      (joined_leads (colon_row column k) (c.style.indent - 1) (λ z. absurd cc) (unspaced refl) (g.leads (inner_spot c.style column))))
+      (leads_append (sign_leads c.style column 63 k (λ z. omega (arith, z)) (f.leads (key_margins c.style column k)))
+      (joined_leads (colon_row column k) (c.style.indent - 1) (λ z. absurd cc) (unspaced refl) (g.leads (inner_margins c.style column))))
 
-scalar_leads : (c : LayoutSetting) (spot : Spot) (at : NodeOffsets) (p : PropsValue) (style : ScalarStyle) (text : List ℕ) (lines : List (List ℕ)) → LeadRows (rows c spot (scalar at p style text lines))
-scalar_leads c spot at p Plain text lines = line_leads spot.column (scalar at p Plain text lines) (written c.style (scalar at p Plain text lines))
-scalar_leads c spot at p Single text lines = line_leads spot.column (scalar at p Single text lines) (written c.style (scalar at p Single text lines))
-scalar_leads c spot at p Double text lines = line_leads spot.column (scalar at p Double text lines) (written c.style (scalar at p Double text lines))
-scalar_leads c spot at p Literal text lines = lead_more (unspaced refl) no_lead
-scalar_leads c spot at p Folded text lines = lead_more (unspaced refl) no_lead
+scalar_leads : (c : LayoutSetting) (margins : Margins) (at : NodeOffsets) (p : PropsValue) (style : ScalarStyle) (text : List ℕ) (lines : List (List ℕ)) → LeadRows (rows c margins (scalar at p style text lines))
+scalar_leads c margins at p Plain text lines = line_leads margins.column (scalar at p Plain text lines) (written c.style (scalar at p Plain text lines))
+scalar_leads c margins at p Single text lines = line_leads margins.column (scalar at p Single text lines) (written c.style (scalar at p Single text lines))
+scalar_leads c margins at p Double text lines = line_leads margins.column (scalar at p Double text lines) (written c.style (scalar at p Double text lines))
+scalar_leads c margins at p Literal text lines = lead_more (unspaced refl) no_lead
+scalar_leads c margins at p Folded text lines = lead_more (unspaced refl) no_lead
 
 module _ (c : LayoutSetting) where
   mutual
     leading : {x : Node} → Fit c.style x → Leading c x
-    leading (fit_nothing {at = at} e) = record { leads = λ spot. no_lead }
-    leading {x} (fit_line inline some node key) = record { leads = λ spot. subst (λ rs. LeadRows rs) (sym (inline_rows c spot x inline)) (line_leads spot.column x (written c.style x)) }
-    leading (fit_scalar {at = at} {p = p} {style = style} {text = text} {lines = lines} e props f) = record { leads = λ spot. scalar_leads c spot at p style text lines }
-    leading (fit_sequence {p = p} e props f fs) = record { leads = λ spot. leads_append (props_leads spot.column (props_text p)) (items_lead spot.entries (leading f) fs) }
-    leading (fit_mapping {p = p} e props f g fs) = record { leads = λ spot. leads_append (props_leads spot.column (props_text p)) (pairs_lead spot.entries f (leading f) (leading g) fs) }
+    leading (fit_nothing {at = at} e) = record { leads = λ margins. no_lead }
+    leading {x} (fit_line inline some node key) = record { leads = λ margins. subst (λ rs. LeadRows rs) (sym (inline_rows c margins x inline)) (line_leads margins.column x (written c.style x)) }
+    leading (fit_scalar {at = at} {p = p} {style = style} {text = text} {lines = lines} e props f) = record { leads = λ margins. scalar_leads c margins at p style text lines }
+    leading (fit_sequence {p = p} e props f fs) = record { leads = λ margins. leads_append (props_leads margins.column (props_text p)) (items_lead margins.entries (leading f) fs) }
+    leading (fit_mapping {p = p} e props f g fs) = record { leads = λ margins. leads_append (props_leads margins.column (props_text p)) (pairs_lead margins.entries f (leading f) (leading g) fs) }
 
     items_lead : (column : ℕ) {x : Node} {xs : Items} → Leading c x → FitItems c.style xs → LeadRows (rows_of_items c column (item x xs))
-    items_lead column {x} f fit_no_items = leads_append (sign_leads c.style column 45 x (λ z. omega (arith, z)) (f.leads (inner_spot c.style column))) no_lead
-    items_lead column {x} f (fit_item g gs) = leads_append (sign_leads c.style column 45 x (λ z. omega (arith, z)) (f.leads (inner_spot c.style column))) (items_lead column (leading g) gs)
+    items_lead column {x} f fit_no_items = leads_append (sign_leads c.style column 45 x (λ z. omega (arith, z)) (f.leads (inner_margins c.style column))) no_lead
+    items_lead column {x} f (fit_item g gs) = leads_append (sign_leads c.style column 45 x (λ z. omega (arith, z)) (f.leads (inner_margins c.style column))) (items_lead column (leading g) gs)
 
     pairs_lead : (column : ℕ) {k v : Node} {ps : Pairs} → Fit c.style k → Leading c k → Leading c v → FitPairs c.style ps → LeadRows (rows_of_pairs c column (pair k v ps))
     pairs_lead column fit f g fit_no_pairs = leads_append (pair_leads c column fit f g) no_lead
@@ -154,7 +154,7 @@ pub stream_leads : (c : LayoutSetting) {ds : List Doc} {xs : List DocumentTree} 
 stream_leads c b fit_no_documents = no_lead
 stream_leads c b (fit_document {d = d} {x = x} f fit more) =
     leads_append (leads_append (beginning_leads d.start (leads_append (end_leads b d.directives) (leads_append (directive_leads d.directives) (lead_more (unspaced refl) no_lead))))
-    ((leading c fit).leads (root_spot c.style))) (stream_leads c false more)
+    ((leading c fit).leads (root_margins c.style))) (stream_leads c false more)
 
 begun_leads : (start : ℕ) {xs : List Row} → LeadRows xs → LeadRows (begun_at start xs)
 begun_leads start no_lead = no_lead
@@ -163,4 +163,4 @@ begun_leads start (lead_more a more) = lead_more (record { none = a.none }) more
 pub all_leads : (c : LayoutSetting) (bare : Bool) {ds : List Doc} {xs : List DocumentTree} → FitDocuments c.style ds xs → LeadRows (all_rows c bare ds xs)
 all_leads c false fit = stream_leads c true fit
 all_leads c true fit_no_documents = no_lead
-all_leads c true (fit_document {d = d} {x = x} f fit more) = leads_append (begun_leads d.start ((leading c fit).leads (root_spot c.style))) (stream_leads c false more)
+all_leads c true (fit_document {d = d} {x = x} f fit more) = leads_append (begun_leads d.start ((leading c fit).leads (root_margins c.style))) (stream_leads c false more)

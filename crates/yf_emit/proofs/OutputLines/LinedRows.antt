@@ -6,6 +6,7 @@ use Rattle.std.specs.Str.{IsUtf8}
 use Rattle.yf_chars.specs.Class.{is_white}
 use Rattle.yf_chars.specs.Text.{code, last_or}
 use Rattle.yf_chars.proofs.TextLemmas.{byte_from_code}
+use Rattle.yf_chars.proofs.Tests.{no_item}
 use Rattle.yf_lines.specs.Basic.{ForbiddenLine}
 use Rattle.yf_lines.specs.Rest.{Rest}
 use Rattle.yf_lines.specs.declared.line.Line.{Line}
@@ -30,9 +31,6 @@ use Rattle.yf_emit.proofs.Derived.RowsUtf8.{RowLines, no_rows, row_more}
 use Rattle.yf_emit.proofs.OutputLines.SeenTexts.{IsSeen}
 use Rattle.yf_emit.proofs.OutputLines.TidyTexts.{IsTidy, TidyDecos, none_tidy, more_tidy, TidyGap, TidyTrails, last_append, line_tidy}
 use Rattle.yf_emit.proofs.OutputLines.WellSet.{after_no_white}
-
-pub nothing_got : (i : ℕ) (y : List ℕ) → slice_get [] i ≡ Some y → ⊥
-nothing_got i y e = cc
 
 remark_some : {w v : List ℕ} → w ≡ 35 ∷ v → w ≡ [] → ⊥
 remark_some e f = cc
@@ -247,7 +245,7 @@ module _ {t : List ℕ} (u : IsUtf8 t) (es : List EventInText) (all : List Line)
   body_lined head x d r texts ms from are same held i y e = by x.body refl ms refl are held where
     by : (body : List (List ℕ)) → x.body ≡ body → (ls : List Line) → ms ≡ ls → LinesAre t ls (body ++ texts) → BodyHeld t es body x.lines (body_then x.body (gap_then d.gap r))
         → InScalar t es all (head + i) y
-    by [] f ls g a b = absurd (nothing_got i y (ap (λ w. slice_get w i) (sym f) ∙ e))
+    by [] f ls g a b = absurd (no_item i y (ap (λ w. slice_get w i) (sym f) ∙ e))
     by (z ∷ zs) f [] g a b = elim a [ ]
     by (z ∷ zs) f (m ∷ ls) g (more_lines one follows more) b =
         let rest : body_then ((z ∷ zs) ++ texts) [] ≡ body_then x.body (gap_then d.gap r) =

@@ -40,7 +40,7 @@ use Rattle.yf_block_scalar.specs.declared.header.Header.{Header}
 use Rattle.yf_block_scalar.specs.declared.header.Chomp.{Chomp}
 use Rattle.yf_block_scalar.specs.declared.header.Chomp.TheVariants.{Strip, Clip, Keep}
 use Rattle.yf_block_scalar.proofs.HeaderLemmas.{marks_inside, rest_stop, stop_digit, stop_sign}
-use Rattle.yf_block_scalar.proofs.LinesMade.{LinesTo, blanks_one, taken_all}
+use Rattle.yf_block_scalar.proofs.LinesMade.{blanks_one, taken_all}
 use Rattle.yf_block_scalar.proofs.PlacedScalar.{PlacedAt}
 use Rattle.yf_props.specs.Props.{no_props}
 use Rattle.yf_events.specs.Event.{EventInText, scalar_node}
@@ -51,27 +51,18 @@ use Rattle.yf_grammar.specs.Productions.BlockScalar.LinesBetween.{counted}
 use Rattle.yf_grammar.specs.Productions.Meaning.{Meaning, from_to}
 use Rattle.yf_grammar.proofs.Ends.BlankRuns.{ContentBefore, after_byte}
 use Rattle.yf_grammar.proofs.BlockOutcomes.BlockEnds.{LineOrEnd}
-use Rattle.yf_grammar.proofs.WrittenTexts.ScalarPlaced.{ScalarNode}
+use Rattle.yf_grammar.proofs.WrittenTexts.ScalarPlaced.{ScalarNode, reaching}
+use Rattle.yf_stream.proofs.Uniqueness.OneDirective.{ascii_ns}
 use Rattle.yf_emit.specs.Layouts.RowComments.{IsDeco}
 use Rattle.yf_emit.specs.Layouts.Decorated.{Deco, body_then, end_then, gap_then, trails_then}
 use Rattle.yf_emit.proofs.Derived.ClearRows.{place_of_rest, trails_are, trails_bytes, trails_line}
 use Rattle.yf_emit.proofs.Derived.RowEnds.{trails_at}
-use Rattle.yf_emit.proofs.OutputLines.SeenTexts.{ascii_ns}
 use Rattle.yf_emit.proofs.OutputLines.WellSet.{AllSet, set_append, end_at_line, own_set, rest_next}
 
 -- How far it reaches.
 
 abbrev event_of : ScalarStyle → List ℕ → List (List ℕ) → ℕ → ℕ → EventInText
 event_of style text lines i j = record { event = scalar_node no_props style text; span = from_to i j; tag_offset = None; entry = None; folded = lines }
-
-record Reaching (t : List ℕ) (c : Chomp) (lines tail i : ℕ) : Type 0 where
-  pub end : ℕ
-  pub between : LinesBetween t (reach c lines tail) i end
-
-reaching : {t : List ℕ} {lines tail i finish last : ℕ} (c : Chomp) → LinesTo t i finish lines → LinesTo t i last (lines + tail) → Reaching t c lines tail i
-reaching Strip a b = record { end = _; between = counted a.chain a.counts }
-reaching Clip a b = record { end = _; between = counted a.chain a.counts }
-reaching Keep a b = record { end = _; between = counted b.chain b.counts }
 
 -- a placed scalar as a node, and the lines from its header to its end
 pub record ScalarReached (t : List ℕ) (n : ℤ) (h : Header) (ls : List (List ℕ)) (count : ℕ) (notes : List (List ℕ)) (q : ℕ) (r : List ℕ) : Type 0 where

@@ -32,7 +32,7 @@ use Rattle.yf_block_scalar.specs.Body.Trail.{comments, no_comment}
 use Rattle.yf_block_scalar.specs.declared.header.Chomp.{Chomp}
 use Rattle.yf_block_scalar.specs.declared.header.Chomp.TheVariants.{Strip, Clip, Keep}
 use Rattle.yf_block_scalar.specs.declared.header.Header.{Header}
-use Rattle.yf_block_scalar.proofs.LinesMade.{LinesTo, blanks_one, taken_all, taken_lines, unbroken_nb}
+use Rattle.yf_block_scalar.proofs.LinesMade.{LinesTo, blanks_one, lines_none, taken_all, taken_lines, unbroken_nb}
 use Rattle.yf_events.specs.declared.event.ScalarStyle.{ScalarStyle}
 use Rattle.yf_grammar.specs.Productions.BlockScalar.{LinesBetween, reach}
 use Rattle.yf_grammar.specs.Productions.BlockScalar.LinesBetween.{counted}
@@ -157,13 +157,10 @@ taken_tail b Strip u a w m = from_end b (as_many_lines (as_lines m) (taken_lines
 taken_tail b Clip u a w m = from_end b (as_many_lines (as_lines m) (taken_lines u a)) (chain_append (bare_rows a.tail.lines) (trail_rows w))
 taken_tail b Keep u a w m = from_end b (as_many_lines (as_lines m) (taken_all u a)) (trail_rows w)
 
-nothing_to : {t : List ℕ} (i : ℕ) → LinesTo t i i 0
-nothing_to i = record { lines = []; chain = done; counts = refl }
-
 bare_tail : {t : List ℕ} {k start p place e : ℕ} {widths : List ℕ} {x : List CommentValue} (b : Bool) (c : Chomp) → Chain (EmptyLines t) start p widths → Trail t k p place x → LinesBetween t (reach c 0 (length widths)) start e
     → BodyTail t e place (first_noted b x)
-bare_tail {start = start} b Strip a w m = from_end b (as_many_lines (as_lines m) (nothing_to start)) (chain_append (bare_rows a) (trail_rows w))
-bare_tail {start = start} b Clip a w m = from_end b (as_many_lines (as_lines m) (nothing_to start)) (chain_append (bare_rows a) (trail_rows w))
+bare_tail {start = start} b Strip a w m = from_end b (as_many_lines (as_lines m) (lines_none start)) (chain_append (bare_rows a) (trail_rows w))
+bare_tail {start = start} b Clip a w m = from_end b (as_many_lines (as_lines m) (lines_none start)) (chain_append (bare_rows a) (trail_rows w))
 bare_tail {t} {start = start} {p = p} {widths = widths} b Keep a w m = from_end b (as_many_lines (as_lines m) (subst (λ k. LinesTo t start p k) (sym (zero-add (length widths))) (blanks_one a))) (trail_rows w)
 
 body_tail : {t : List ℕ} {n : ℤ} {h : Header} {start place e : ℕ} {v : BodyValue} → IsUtf8 t → Body t n h start place v → LinesBetween t (reach h.chomp (length v.lines) v.tail) start e → BodyTail t e place v.comments

@@ -1,11 +1,10 @@
 -- Texts that begin with a visible character other than #, as no comment and no blank line does.
 use Rattle.std.proofs.Common.{◌≡◌, ◌≢◌, ℕ, pos, ◌<◌, ◌≤◌, Bool, true, false, List, [], ◌∷◌, ◌++◌, encode_utf8, drop, refl, sym, ap, ◌∙◌, subst, arith, append_assoc, append-nil, Option, Some, None}
 use Rattle.std.proofs.lemmas.List.{take-append-drop}
-use Rattle.std.proofs.lemmas.Bool.Decides.{nat_tests}
 use Rattle.std.proofs.lemmas.Str.{encode_ascii}
 use Rattle.std.specs.Str.{IsUtf8}
 use Rattle.yf_chars.specs.declared.context.Ctx.{Ctx}
-use Rattle.yf_chars.specs.Class.{is_between, is_break_char, is_nb_char, is_ns_char, is_printable, is_white}
+use Rattle.yf_chars.specs.Class.{is_ns_char}
 use Rattle.yf_chars.specs.Text.{code, next}
 use Rattle.yf_chars.proofs.TextLemmas.{reads_real}
 use Rattle.yf_lines.specs.Basic.{is_block}
@@ -17,6 +16,7 @@ use Rattle.yf_props.specs.Written.{IsHandle, primary_form, secondary_form, named
 use Rattle.yf_grammar.specs.Productions.OneLineTexts.{Back}
 use Rattle.yf_grammar.specs.Productions.Meaning.{Meaning}
 use Rattle.yf_grammar.proofs.FlowReader.FlowStarts.{flow_starts}
+use Rattle.yf_stream.proofs.Uniqueness.OneDirective.{ascii_ns}
 use Rattle.yf_emit.proofs.Texts.LineUtf8.{line_utf8}
 
 pub record IsSeen (w : List ℕ) : Type 0 where
@@ -25,10 +25,6 @@ pub record IsSeen (w : List ℕ) : Type 0 where
   pub ns : is_ns_char char ≡ true
   pub no_hash : char ≢ 35
   pub is : w ≡ encode_utf8 char ++ follows
-
-pub ascii_ns : (c : ℕ) → 33 ≤ c → c < 127 → is_ns_char c ≡ true
-unfolding is_ns_char is_nb_char is_printable is_between is_break_char is_white
-ascii_ns c l h = grind (arith, nat_tests)
 
 pub seen_ascii : (c : ℕ) (w : List ℕ) → 33 ≤ c → c < 127 → c ≢ 35 → IsSeen (c ∷ w)
 seen_ascii c w l h n = record { char = c; follows = w; ns = ascii_ns c l h; no_hash = n; is = ap (λ z. z ++ w) (sym (encode_ascii c (omega arith))) }

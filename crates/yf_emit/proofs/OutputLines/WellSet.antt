@@ -1,9 +1,8 @@
 -- Comments that are well set: each is after white space at the start of a line, or two spaces after another character.
-use Rattle.std.proofs.Common.{◌≡◌, ℕ, ◌+◌, ◌-◌, ◌<◌, inl, inr, ⊎_elim, true, false, true≢false, List, [], ◌∷◌, ◌++◌, length, sym, ap, ◌∙◌, subst, arith}
+use Rattle.std.proofs.Common.{◌≡◌, ℕ, ◌+◌, ◌-◌, ◌<◌, inl, inr, ⊎_elim, false, true≢false, List, [], ◌∷◌, ◌++◌, length, sym, ap, ◌∙◌, subst, arith}
 use Rattle.std.specs.Str.{IsUtf8}
 use Rattle.yf_chars.specs.Chain.{Chain, Many}
 use Rattle.yf_chars.specs.Chain.Chain.{done, step}
-use Rattle.yf_chars.specs.Chain.One.{one}
 use Rattle.yf_chars.specs.Class.{is_white}
 use Rattle.yf_chars.specs.Text.{code, before}
 use Rattle.yf_chars.proofs.ChainLemmas.{many_unique}
@@ -29,6 +28,7 @@ use Rattle.yf_emit.specs.Layouts.RowComments.{AreTrails, IsDeco}
 use Rattle.yf_emit.specs.Layouts.Decorated.{Deco, trails_then, end_then, body_then, gap_then}
 use Rattle.yf_chars.proofs.Tests.{not_true}
 use Rattle.yf_chars.proofs.CharFacts.{feed_no_white, hash_no_white}
+use Rattle.yf_block_scalar.proofs.HeaderLemmas.{many_white}
 
 -- an offset at which a comment may begin
 pub data WellSet (t : List ℕ) (o : ℕ) : Type 0 where
@@ -82,10 +82,6 @@ module _ {t : List ℕ} where
 
 -- After a character that is no white.
 
-first_white : {t : List ℕ} {i j : ℕ} {x : List ℕ} → Many t is_white i j x → i < j → is_white (code t i) ≡ true
-first_white done l = absurd (omega (arith, l))
-first_white (step (one e) c) l = e
-
 pub after_no_white : {t : List ℕ} {q : ℕ} → IsUtf8 t → ContentBefore t q → is_white (code t (q - 1)) ≡ false
 after_no_white {t} {q} u b = not_true (is_white (code t (q - 1))) (λ e.
     let read = reads_white t (q - 1) u e in
@@ -102,7 +98,7 @@ trailing_set xs r u n s a w (whites p e) = tt
 trailing_set xs r u n s a w (comment (at_start l) c e) = absurd (s l)
 trailing_set {t} {q} [] r u n s a w (comment (by_whites m l) c e) =
     let feed : code t q ≡ 10 = (rest_ascii 10 u (omega arith) (λ z. absurd (omega arith)) w).0.char in
-    absurd (true≢false (sym (first_white m l) ∙ (ap is_white feed ∙ feed_no_white)))
+    absurd (true≢false (sym (many_white m l) ∙ (ap is_white feed ∙ feed_no_white)))
 trailing_set {t} {q} (x ∷ []) r u n s a w (comment {h = h} (by_whites m l) c e) =
     let spaces = rest_spaces 2 q u w in
     let hash : code t (q + 2) ≡ 35 = (rest_ascii 35 u (omega arith) (λ z. absurd (omega arith)) (subst (λ z. Rest t (q + 2) (z ++ (10 ∷ r))) a.is spaces.1)).0.char in

@@ -12,9 +12,10 @@ use Rattle.yf_emit.proofs.OfTexts.KeyEntries.{keys_begin, keys_begin_in_document
 use Rattle.yf_print.specs.Passes.Drafts.{Draft, finished, no_draft, past}
 use Rattle.yf_forms.specs.NormalForms.Forms.{Site, document_forms, documents_are_placed, forms, is_placed, no_form, site_at, stream_forms}
 use Rattle.yf_forms.specs.Passes.MeasurePass.{setting}
-use Rattle.yf_forms.specs.NormalForms.Normal.{LayoutSetting, root_spot, settled, styled}
+use Rattle.yf_forms.specs.NormalForms.Normal.{LayoutSetting, root_margins, settled, styled}
 use Rattle.yf_print.specs.Passes.PrintPass as Printing
-use Rattle.yf_print.specs.Passes.PrintPass.{PrintState, Work, document_begun, looked, marked, next_line, pass, printed, remarks_of, start, state, document_in}
+use Rattle.yf_print.specs.Passes.PrintPass.{PrintState, document_begun, looked, marked, next_line, pass, printed, start, state, document_in}
+use Rattle.yf_print.specs.Passes.PrintWork.{Work, remarks_of}
 use Rattle.yf_print.specs.Layouts.Rows.{Row, beginning_at, directive_row, document_rows, end_rows, rows, start_row, stream_rows, all_rows, bare_rows, begun_at}
 use Rattle.yf_forms.proofs.Decide.AmongLemmas.{Among, back, after_first, front}
 use Rattle.yf_forms.proofs.Decide.CountLemmas.{node_forms, two_counts}
@@ -35,7 +36,7 @@ use Rattle.yf_chars.proofs.Tests.{below}
 -- a document of a normal form, with so many open collections at most
 pub record IsNormal (c : LayoutSetting) (n : ℕ) (d : DocumentTree) : Type 0 where
   pub house : House c d.root
-  pub settled : settled c (root_spot c.style) d.root ≡ d.root
+  pub settled : settled c (root_margins c.style) d.root ≡ d.root
   pub nests : nests n d.root ≡ true
 
 pub data AreNormal (c : LayoutSetting) (n : ℕ) : List DocumentTree → Type 0 where
@@ -43,7 +44,7 @@ pub data AreNormal (c : LayoutSetting) (n : ℕ) : List DocumentTree → Type 0 
   one_more : {d : DocumentTree} {ds : List DocumentTree} → IsNormal c n d → AreNormal c n ds → AreNormal c n (d ∷ ds)
 
 abbrev root_site : Known → Site
-root_site k = site_at (root_spot k.work.style)
+root_site k = site_at (root_margins k.work.style)
 
 abbrev forms_in : Known → DocumentTree → List Form
 forms_in k d = document_forms [] (setting k.work.style []) (setting_in k) d
@@ -52,7 +53,7 @@ forms_in k d = document_forms [] (setting k.work.style []) (setting_in k) d
 abbrev pub RootsLaid : LayoutSetting → Bool → List DocumentTree → Type 0
 RootsLaid c false ds = Unit {0}
 RootsLaid c true [] = Unit {0}
-RootsLaid c true (d ∷ ds) = rows c (root_spot c.style) d.root ≡ [] → ⊥
+RootsLaid c true (d ∷ ds) = rows c (root_margins c.style) d.root ≡ [] → ⊥
 
 -- documents whose events are from an index on
 record DocumentsAt (k : Known) (i n : ℕ) (ds : List DocumentTree) : Type 0 where
@@ -117,7 +118,7 @@ root_at k i n d ds a =
       };
       forms = subst (λ x. Part k.work.forms (forms c (root_site k) x) (i + 1)) h.house part;
       settled = h.settled;
-      spotted = record { column = refl; lines = λ e. refl; no_key = λ e f. refl };
+      sited = record { column = refl; lines = λ e. refl; no_key = λ e f. refl };
       no_key = λ e. refl;
       nests = h.nests;
       room = let r = a.room in omega (arith, r);
@@ -146,11 +147,11 @@ record Added (k : Known) (i j : ℕ) (d : DocumentTree) (w : PrintState) (e : Dr
 
 root_added : (k : Known) (i n j p : ℕ) (t : DocumentTree) (ds : List DocumentTree) (d one : Draft) → DocumentsAt k i n (t ∷ ds) → p < i
     → looked k.work i (unplaced (document_starts t.marked)) (state d [] j p) ≡ state one [] (j + 1) p
-    → Added k i j t (state d [] j p) (fed (remarks_of k.work) k.trail (rows (setting_in k) (root_spot k.work.style) t.root) one)
+    → Added k i j t (state d [] j p) (fed (remarks_of k.work) k.trail (rows (setting_in k) (root_margins k.work.style) t.root) one)
 unfolding pass
 root_added k i n j p t ds d one a l begun =
     let end : EventInText = unplaced (document_ends t.closed) in
-    let mine : List Row = rows (setting_in k) (root_spot k.work.style) t.root in
+    let mine : List Row = rows (setting_in k) (root_margins k.work.style) t.root in
     let two : Draft = fed (remarks_of k.work) k.trail mine one in
     let reached = (node_reaches k (i + 1) (j + 1) n (root_site k) t.root [] one (root_at k i n t ds a)).goes p (omega (arith, l)) in
     let first = looked_at k.work i (unplaced (document_starts t.marked)) (flat t.root ++ (end ∷ [])) (state d [] j p) (state one [] (j + 1) p) l begun in
@@ -169,7 +170,7 @@ document_added : (k : Known) (i n j p : ℕ) (is_first : Bool) (x : Doc) (t : Do
     → Added k i j t (state d [] j p) (fed (remarks_of k.work) k.trail (document_rows (setting_in k) is_first x t) d)
 document_added k i n j p is_first x t ds d a l h f o =
     let begins : List Row = beginning_at x.start (end_rows is_first x.directives ++ (map directive_row x.directives ++ (start_row ∷ []))) in
-    let mine : List Row = rows (setting_in k) (root_spot k.work.style) t.root in
+    let mine : List Row = rows (setting_in k) (root_margins k.work.style) t.root in
     subst (λ e. Added k i j t (state d [] j p) e) (sym (fed_append (remarks_of k.work) k.trail begins mine d))
     (root_added k i n j p t ds d (fed (remarks_of k.work) k.trail begins d) a l (document_looked k i j p is_first x t.marked d h f o))
 
@@ -179,9 +180,9 @@ begun_fed g t from [] n = absurd (n refl)
 begun_fed g t from (r ∷ rs) n = refl
 
 bare_added : (k : Known) (i n p : ℕ) (x : Doc) (t : DocumentTree) (ds : List DocumentTree) → DocumentsAt k i n (t ∷ ds) → p < i → slice_get k.work.reading.documents 0 ≡ Some x → leaves_out k ≡ true
-    → (rows (setting_in k) (root_spot k.work.style) t.root ≡ [] → ⊥) → Added k i 0 t (state no_draft [] 0 p) (fed (remarks_of k.work) k.trail (bare_rows (setting_in k) x t) no_draft)
+    → (rows (setting_in k) (root_margins k.work.style) t.root ≡ [] → ⊥) → Added k i 0 t (state no_draft [] 0 p) (fed (remarks_of k.work) k.trail (bare_rows (setting_in k) x t) no_draft)
 bare_added k i n p x t ds a l h o some =
-    subst (λ e. Added k i 0 t (state no_draft [] 0 p) e) (begun_fed k.work k.trail x.start (rows (setting_in k) (root_spot k.work.style) t.root) some)
+    subst (λ e. Added k i 0 t (state no_draft [] 0 p) e) (begun_fed k.work k.trail x.start (rows (setting_in k) (root_margins k.work.style) t.root) some)
     (root_added k i n 0 p t ds no_draft (past k.work.reading.comments x.start no_draft) a l (bare_looked k i p x t.marked no_draft h o))
 
 -- a document, and those after it
@@ -218,7 +219,7 @@ documents_printed k i n j p is_first (x ∷ xs) (t ∷ ds) d a l m e f o =
 
 -- the first of them without its `---`
 bare_printed : (k : Known) (n : ℕ) (x : Doc) (xs : List Doc) (t : DocumentTree) (ds : List DocumentTree) → DocumentsAt k 1 n (t ∷ ds) → length xs ≡ length ds → k.work.reading.documents ≡ x ∷ xs → leaves_out k ≡ true
-    → (rows (setting_in k) (root_spot k.work.style) t.root ≡ [] → ⊥)
+    → (rows (setting_in k) (root_margins k.work.style) t.root ≡ [] → ⊥)
     → (pass k.work 1 (flat_map flat_document (t ∷ ds) ++ (unplaced stream_ends ∷ [])) (state no_draft [] 0 0)).draft
     ≡ fed (remarks_of k.work) k.trail (bare_rows (setting_in k) x t ++ stream_rows (setting_in k) false xs ds) no_draft
 bare_printed k n x xs t ds a m e o some =

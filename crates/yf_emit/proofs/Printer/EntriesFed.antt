@@ -9,7 +9,8 @@ use Rattle.yf_print.specs.Passes.Drafts.{Draft, LineMarks, start_marked, trailin
 use Rattle.yf_emit.specs.Layouts.Layout.{may_be_blank_after}
 use Rattle.yf_forms.specs.Nodes.Lines.{ended, is_empty_text}
 use Rattle.yf_forms.specs.Nodes.OneLine.{colon_after, props_text, written}
-use Rattle.yf_print.specs.Passes.PrintPass.{before_collection, collection_begun, entry_begun, has_props, is_after_sign, next_line, remarks_of}
+use Rattle.yf_print.specs.Passes.PrintPass.{before_collection, collection_begun, entry_begun, has_props, is_after_sign, next_line}
+use Rattle.yf_print.specs.Passes.PrintWork.{remarks_of}
 use Rattle.yf_print.specs.Layouts.Rows.{Row, Start, before_node, begins_below, after_key, blank_before_entry, entry_row, is_dash, joined, key_row, one_line_row, plain_row, props_row, start_of}
 use Rattle.yf_emit.proofs.Printer.ColumnsFed.{leaves_marked}
 use Rattle.yf_emit.proofs.Printer.FedLemmas.{all_past, fed, key_text, with_row}

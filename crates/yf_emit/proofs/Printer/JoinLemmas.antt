@@ -8,7 +8,8 @@ use Rattle.yf_events.specs.declared.event.Span.{Span}
 use Rattle.yf_print.specs.Passes.Drafts.{Draft, LineMarks, Remarks, leaf_marked, opened, past, start_marked, with_blank, with_start, with_text}
 use Rattle.yf_emit.specs.Layouts.Layout.{may_be_blank_after}
 use Rattle.yf_forms.specs.Nodes.Lines.{ended}
-use Rattle.yf_print.specs.Passes.PrintPass.{Work, entry_begun, remarks_of}
+use Rattle.yf_print.specs.Passes.PrintPass.{entry_begun}
+use Rattle.yf_print.specs.Passes.PrintWork.{Work, remarks_of}
 use Rattle.yf_print.specs.Layouts.Rows.{Row, Start, anywhere, blank_before_entry, entry_row, is_dash, joined, start_of}
 use Rattle.yf_emit.proofs.Printer.ColumnsFed.{leaves_marked, starts_marked}
 use Rattle.yf_emit.proofs.Printer.FedLemmas.{all_past, fed, key_text, with_row}

@@ -14,7 +14,8 @@ use Rattle.yf_forms.specs.NormalForms.Measures.{AreMeasures}
 use Rattle.yf_forms.specs.Passes.MeasurePass.{setting}
 use Rattle.yf_forms.specs.NormalForms.Normal.{setting_of}
 use Rattle.yf_emit.specs.NormalForms.NormalForm.{NormalForm}
-use Rattle.yf_print.specs.Passes.PrintPass.{printed, work_of}
+use Rattle.yf_print.specs.Passes.PrintPass.{printed}
+use Rattle.yf_print.specs.Passes.PrintWork.{work_of}
 use Rattle.yf_emit.specs.Passes.PrintedText.{IsPrinted, Printout}
 use Rattle.yf_forms.specs.NormalForms.Textual.{CommentsAscend}
 use Rattle.yf_print.specs.Passes.TrailPass.{TrailsSoFar, all_found}

@@ -13,7 +13,8 @@ use Rattle.yf_emit.specs.Layouts.Layout.{Source, layout, source_of}
 use Rattle.yf_forms.specs.Nodes.Lines.{after_two_spaces}
 use Rattle.yf_forms.specs.Passes.MeasurePass.{setting}
 use Rattle.yf_forms.specs.NormalForms.Normal.{setting_of}
-use Rattle.yf_print.specs.Passes.PrintPass.{printed, work_of}
+use Rattle.yf_print.specs.Passes.PrintPass.{printed}
+use Rattle.yf_print.specs.Passes.PrintWork.{work_of}
 use Rattle.yf_print.specs.Passes.TrailPass.{TrailsSoFar}
 use Rattle.yf_emit.specs.Layouts.TrailsOf.{LayoutTrails}
 use Rattle.yf_emit.proofs.Printer.DocumentsPrinted.{AreNormal, stream_printed, RootsLaid}

@@ -12,10 +12,11 @@ use Rattle.yf_forms.specs.Passes.DecidePass.{further}
 use Rattle.yf_print.specs.Passes.Drafts.{Draft, opened, with_blank, with_body, with_key_trail, with_text, without_blank}
 use Rattle.yf_emit.specs.Layouts.Layout.{may_be_blank_after}
 use Rattle.yf_forms.specs.Nodes.Lines.{ended, is_empty_text}
-use Rattle.yf_forms.specs.NormalForms.Normal.{Spot}
+use Rattle.yf_forms.specs.NormalForms.Normal.{Margins}
 use Rattle.yf_forms.specs.Nodes.OneLine.{colon_after, props_text, space_after, spaced, written}
 use Rattle.yf_print.specs.Passes.PrintPass as Printing
-use Rattle.yf_print.specs.Passes.PrintPass.{Work, before_text, blank_unless, is_leaf, leaf_noted_if, lines_column, remarks_of, with_block, with_node, with_props_before, with_scalar}
+use Rattle.yf_print.specs.Passes.PrintPass.{before_text, blank_unless, is_leaf, leaf_noted_if, lines_column, with_block, with_node, with_props_before, with_scalar}
+use Rattle.yf_print.specs.Passes.PrintWork.{Work, remarks_of}
 use Rattle.yf_print.specs.Layouts.Rows.{Row, one_line, one_line_row, plain_row, tail_ending}
 use Rattle.yf_forms.proofs.Decide.AmongLemmas.{Among, after_first}
 use Rattle.yf_emit.proofs.Printer.ColumnsFed.{leaves_marked}
@@ -34,7 +35,7 @@ put_value k None true rows d = fed (remarks_of k.work) k.trail rows (without_bla
 put_value k None false rows d = fed_after (remarks_of k.work) k.trail 1 rows d
 put_value k (Some c) below rows d = fed (remarks_of k.work) k.trail rows (without_blank (with_key_trail k.work.reading.comments (Some c) d))
 
--- the rows of a node at a spot: after a key which comment trails it, and whether the node begins below
+-- the rows of a node at a margins: after a key which comment trails it, and whether the node begins below
 abbrev pub put : Known → Option ℕ → Bool → Printer.Role → List Row → Draft → Draft
 put k key below Printer.Role.Root rows d = fed (remarks_of k.work) k.trail rows d
 put k key below (Printer.Role.After column) rows d = fed_after (remarks_of k.work) k.trail (k.work.style.indent - 1) rows d
@@ -108,59 +109,59 @@ filled_row column x [] e = absurd (true≢false e)
 filled_row column x (b ∷ w) e = refl
 
 -- a node on one line
-pub one_line_put : (k : Known) (f : Form) (sp : Printer.Role) (spot : Spot) (x : Node) (i last : ℕ) (e : EventInText) (d : Draft)
+pub one_line_put : (k : Known) (f : Form) (sp : Printer.Role) (margins : Margins) (x : Node) (i last : ℕ) (e : EventInText) (d : Draft)
     → ((d : Draft) → with_node k.work i last e sp d ≡ with_text (written k.work.style x) d) → ((d : Draft) → Printing.node_noted k.work i last e d ≡ met k (items_in x) (leaves x) d)
-    → is_empty_text (written k.work.style x) ≡ false → ColumnAt k.work.style.indent f.key_comment sp spot.column
-    → Printing.node_noted k.work i last e (with_node k.work i last e sp (before_text k.work f sp d)) ≡ put k f.key_comment false sp (one_line k.work.style spot x) d
-one_line_put k f sp spot x i last e d t n filled c =
-    let row : Row = record (plain_row spot.column (written k.work.style x)) { items = items_in x; leaves = leaves x } in
+    → is_empty_text (written k.work.style x) ≡ false → ColumnAt k.work.style.indent f.key_comment sp margins.column
+    → Printing.node_noted k.work i last e (with_node k.work i last e sp (before_text k.work f sp d)) ≡ put k f.key_comment false sp (one_line k.work.style margins x) d
+one_line_put k f sp margins x i last e d t n filled c =
+    let row : Row = record (plain_row margins.column (written k.work.style x)) { items = items_in x; leaves = leaves x } in
     ap (Printing.node_noted k.work i last e) (t (before_text k.work f sp d))
     ∙ (n (with_text (written k.work.style x) (before_text k.work f sp d))
-    ∙ (row_met k spot.column (written k.work.style x) (items_in x) (leaves x) (before_text k.work f sp d)
-    ∙ (row_put k f sp row d refl c ∙ ap (λ w. put k f.key_comment false sp w d) (sym (filled_row spot.column x (written k.work.style x) filled)))))
+    ∙ (row_met k margins.column (written k.work.style x) (items_in x) (leaves x) (before_text k.work f sp d)
+    ∙ (row_put k f sp row d refl c ∙ ap (λ w. put k f.key_comment false sp w d) (sym (filled_row margins.column x (written k.work.style x) filled)))))
 
 -- Block scalars.
 
-pub block_met : (k : Known) (spot : Spot) (x : Node) (props : PropsValue) (style : ScalarStyle) (text : List ℕ) (lines : List (List ℕ)) (sp : Printer.Role) (d : Draft)
-    → is_empty_text (header_text style k.work.style.indent text) ≡ false → lines_column k.work.style.indent sp ≡ spot.lines
+pub block_met : (k : Known) (margins : Margins) (x : Node) (props : PropsValue) (style : ScalarStyle) (text : List ℕ) (lines : List (List ℕ)) (sp : Printer.Role) (d : Draft)
+    → is_empty_text (header_text style k.work.style.indent text) ≡ false → lines_column k.work.style.indent sp ≡ margins.lines
     → met k (items_in x) (leaves x) (with_block k.work.style sp style text lines (with_props_before props d))
-    ≡ with_row (remarks_of k.work) k.trail (record (plain_row spot.column (spaced (props_text props) (header_text style k.work.style.indent text))) {
+    ≡ with_row (remarks_of k.work) k.trail (record (plain_row margins.column (spaced (props_text props) (header_text style k.work.style.indent text))) {
       items = items_in x;
       leaves = leaves x;
       ending = tail_ending (is_kept_tail (final_feeds text));
-      body = block_lines style spot.lines text lines;
-      lines = spot.lines;
+      body = block_lines style margins.lines text lines;
+      lines = margins.lines;
     }) d
-block_met k spot x props style text lines sp d h c =
+block_met k margins x props style text lines sp d h c =
     let header : List ℕ = header_text style k.work.style.indent text in
     let row : List ℕ = spaced (props_text props) header in
     let trails : List ℕ = d.trails ++ flat_map k.trail (leaves x) in
-    let body : List ℕ = flat_map ended (block_lines style spot.lines text lines) in
+    let body : List ℕ = flat_map ended (block_lines style margins.lines text lines) in
     let line : d.line ++ (row ++ []) ≡ (d.line ++ space_after (props_text props)) ++ header =
     ap (λ w. d.line ++ w) (append-nil row ∙ spaced_filled (props_text props) header h) ∙ sym (append_assoc d.line (space_after (props_text props)) header) in
     let kept : Bool = is_kept_tail (final_feeds text) in
     ap (λ n. met k (items_in x) (leaves x) (with_body (flat_map ended (block_lines style n text lines)) (blank_unless kept (with_text header (with_props_before props d))))) c
     ∙ (by kept
     ∙ sym (ap (λ w. all_past k.work.reading.comments (items_in x) (record d { line = w; trails = trails; body = d.body ++ body; may_follow = d.may_follow && may_be_blank_after (tail_ending kept); marks = leaves_marked (leaves x) d.marks })) line)) where
-      by : (b : Bool) → met k (items_in x) (leaves x) (with_body (flat_map ended (block_lines style spot.lines text lines)) (blank_unless b (with_text (header_text style k.work.style.indent text) (with_props_before props d))))
+      by : (b : Bool) → met k (items_in x) (leaves x) (with_body (flat_map ended (block_lines style margins.lines text lines)) (blank_unless b (with_text (header_text style k.work.style.indent text) (with_props_before props d))))
           ≡ all_past k.work.reading.comments (items_in x) (record d {
             line = (d.line ++ space_after (props_text props)) ++ header_text style k.work.style.indent text;
             trails = d.trails ++ flat_map k.trail (leaves x);
-            body = d.body ++ flat_map ended (block_lines style spot.lines text lines);
+            body = d.body ++ flat_map ended (block_lines style margins.lines text lines);
             may_follow = d.may_follow && may_be_blank_after (tail_ending b);
             marks = leaves_marked (leaves x) d.marks;
           })
       by true = ap (λ w. all_past k.work.reading.comments (items_in x) (record d {
         line = (d.line ++ space_after (props_text props)) ++ header_text style k.work.style.indent text;
         trails = d.trails ++ flat_map k.trail (leaves x);
-        body = d.body ++ flat_map ended (block_lines style spot.lines text lines);
+        body = d.body ++ flat_map ended (block_lines style margins.lines text lines);
         may_follow = w;
         marks = leaves_marked (leaves x) d.marks;
       })) (sym (and_false d.may_follow))
       by false = ap (λ w. all_past k.work.reading.comments (items_in x) (record d {
         line = (d.line ++ space_after (props_text props)) ++ header_text style k.work.style.indent text;
         trails = d.trails ++ flat_map k.trail (leaves x);
-        body = d.body ++ flat_map ended (block_lines style spot.lines text lines);
+        body = d.body ++ flat_map ended (block_lines style margins.lines text lines);
         may_follow = w;
         marks = leaves_marked (leaves x) d.marks;
       })) (sym (true_right d.may_follow))

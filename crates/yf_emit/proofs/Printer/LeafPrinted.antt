@@ -21,11 +21,12 @@ use Rattle.yf_forms.specs.Nodes.OneLineFlows.{may_be_kept, scalar_may_be_kept}
 use Rattle.yf_forms.specs.Nodes.SingleAnswers.{NodeAt}
 use Rattle.yf_forms.specs.NormalForms.Measures.{first_of, leaf_indices, leaf_indices_of_items, leaf_indices_of_pairs, measure_of}
 use Rattle.yf_forms.specs.Passes.MeasurePass.{setting}
-use Rattle.yf_forms.specs.NormalForms.Normal.{LayoutSetting, Spot, setting_of}
+use Rattle.yf_forms.specs.NormalForms.Normal.{LayoutSetting, Margins, setting_of}
 use Rattle.yf_forms.specs.Nodes.OneLine.{bare, colon_after, colon_after_props, props_text, scalar_text, space_after, spaced, written}
 use Rattle.yf_forms.specs.Passes.OneLinePass.{between, run}
 use Rattle.yf_print.specs.Passes.PrintPass as Printing
-use Rattle.yf_print.specs.Passes.PrintPass.{Work, before_text, colon_if, colon_text, leaf_noted_if, lines_column, remarks_of, text_if, with_node, with_props_before, with_scalar}
+use Rattle.yf_print.specs.Passes.PrintPass.{before_text, colon_if, colon_text, leaf_noted_if, lines_column, text_if, with_node, with_props_before, with_scalar}
+use Rattle.yf_print.specs.Passes.PrintWork.{Work, remarks_of}
 use Rattle.yf_print.specs.Layouts.Rows.{Row, block_scalar, one_line, one_line_row, plain_row, rows, tail_ending}
 use Rattle.yf_forms.specs.Nodes.Lines.{is_empty_text}
 use Rattle.yf_forms.proofs.Decide.AmongLemmas.{Among, after_first, front, node_at}
@@ -199,29 +200,29 @@ has_lines (scalar at props Folded text lines) = true
 has_lines x = false
 
 -- where it goes is where it is in the layout
-pub record Spotted (k : Known) (key : Option ℕ) (sp : Printer.Role) (spot : Spot) (x : Node) : Type 0 where
-  pub column : ColumnAt k.work.style.indent key sp spot.column
-  pub lines : has_lines x ≡ true → lines_column k.work.style.indent sp ≡ spot.lines
+pub record IsSited (k : Known) (key : Option ℕ) (sp : Printer.Role) (margins : Margins) (x : Node) : Type 0 where
+  pub column : ColumnAt k.work.style.indent key sp margins.column
+  pub lines : has_lines x ≡ true → lines_column k.work.style.indent sp ≡ margins.lines
   pub no_key : is_text x ≡ false → is_filled_flow x ≡ false → key ≡ None
 
 abbrev pub measure : Known → ℕ → Node → Measure
 measure k i x = measure_of [] (setting k.work.style []) i x
 
-abbrev Printed : Known → ℕ → Form → Printer.Role → Spot → Node → Draft → Type 0
-Printed k i f sp spot x d =
-    text_if (is_some (first_of (leaf_indices i x))) k.work i (measure k i x) f (head_of x) sp d ≡ put k f.key_comment false sp (rows (setting_in k) spot x) d
+abbrev Printed : Known → ℕ → Form → Printer.Role → Margins → Node → Draft → Type 0
+Printed k i f sp margins x d =
+    text_if (is_some (first_of (leaf_indices i x))) k.work i (measure k i x) f (head_of x) sp d ≡ put k f.key_comment false sp (rows (setting_in k) margins x) d
 
 last_of_node : (i : ℕ) (x : Node) → (i + length (flat x) - 1) + 1 ≡ i + length (flat x)
 last_of_node i x = let l = flat_filled x in omega (arith, l)
 
 -- a node with characters on one line
-one_line_printed : (k : Known) (i : ℕ) (f : Form) (sp : Printer.Role) (spot : Spot) (x : Node) (d : Draft) → Laid k i x → Spotted k f.key_comment sp spot x
+one_line_printed : (k : Known) (i : ℕ) (f : Form) (sp : Printer.Role) (margins : Margins) (x : Node) (d : Draft) → Laid k i x → IsSited k f.key_comment sp margins x
     → is_some (first_of (leaf_indices i x)) ≡ true → ((d : Draft) → with_node k.work i (measure k i x).last (head_of x) sp d ≡ with_text (written k.work.style x) d)
     → is_empty_text (written k.work.style x) ≡ false
-    → text_if (is_some (first_of (leaf_indices i x))) k.work i (measure k i x) f (head_of x) sp d ≡ put k f.key_comment false sp (one_line k.work.style spot x) d
-one_line_printed k i f sp spot x d l s e t w =
+    → text_if (is_some (first_of (leaf_indices i x))) k.work i (measure k i x) f (head_of x) sp d ≡ put k f.key_comment false sp (one_line k.work.style margins x) d
+one_line_printed k i f sp margins x d l s e t w =
     ap (λ b. text_if b k.work i (measure k i x) f (head_of x) sp d) e
-    ∙ one_line_put k f sp spot x i (measure k i x).last (head_of x) d t (λ d. node_within k i (measure k i x).last x d l.placed l.begins l.among (last_of_node i x)) w s.column
+    ∙ one_line_put k f sp margins x i (measure k i x).last (head_of x) d t (λ d. node_within k i (measure k i x).last x d l.placed l.begins l.among (last_of_node i x)) w s.column
 
 some_leaf : (i : ℕ) (b : Bool) → b ≡ true → is_some (first_of (if b then i ∷ [] else [])) ≡ true
 some_leaf i b e = ap (λ b. is_some (first_of (if b then i ∷ [] else []))) e
@@ -232,40 +233,40 @@ written_filled (b ∷ x) [] e = refl
 written_filled (b ∷ x) (c ∷ y) e = refl
 
 -- a scalar with a text
-scalar_printed : (k : Known) (i : ℕ) (f : Form) (sp : Printer.Role) (spot : Spot) (at : NodeOffsets) (props : PropsValue) (style : ScalarStyle) (text : List ℕ) (lines : List (List ℕ)) (d : Draft)
-    → Laid k i (scalar at props style text lines) → Spotted k f.key_comment sp spot (scalar at props style text lines) → is_empty_node props style text ≡ false
+scalar_printed : (k : Known) (i : ℕ) (f : Form) (sp : Printer.Role) (margins : Margins) (at : NodeOffsets) (props : PropsValue) (style : ScalarStyle) (text : List ℕ) (lines : List (List ℕ)) (d : Draft)
+    → Laid k i (scalar at props style text lines) → IsSited k f.key_comment sp margins (scalar at props style text lines) → is_empty_node props style text ≡ false
     → ((d : Draft) → with_scalar k.work.style sp props style text lines d ≡ with_text (scalar_text k.work.style style text) (with_props_before props d)) → is_empty_text (scalar_text k.work.style style text) ≡ false
     → text_if (is_some (first_of (leaf_indices i (scalar at props style text lines)))) k.work i (measure k i (scalar at props style text lines)) f (head_of (scalar at props style text lines)) sp d
-    ≡ put k f.key_comment false sp (one_line k.work.style spot (scalar at props style text lines)) d
-scalar_printed k i f sp spot at props style text lines d l s n t w =
-    one_line_printed k i f sp spot (scalar at props style text lines) d l s (some_leaf i (is_some at.span) (agreed _ _ l.placed ∙ ap not n))
+    ≡ put k f.key_comment false sp (one_line k.work.style margins (scalar at props style text lines)) d
+scalar_printed k i f sp margins at props style text lines d l s n t w =
+    one_line_printed k i f sp margins (scalar at props style text lines) d l s (some_leaf i (is_some at.span) (agreed _ _ l.placed ∙ ap not n))
     (λ d. t d ∙ scalar_added k i i sp at props style text lines d w) (written_filled (props_text props) (scalar_text k.work.style style text) w)
 
-block_printed : (k : Known) (i : ℕ) (f : Form) (sp : Printer.Role) (spot : Spot) (at : NodeOffsets) (props : PropsValue) (style : ScalarStyle) (text : List ℕ) (lines : List (List ℕ)) (d : Draft)
-    → Laid k i (scalar at props style text lines) → Spotted k f.key_comment sp spot (scalar at props style text lines) → is_empty_node props style text ≡ false → has_lines (scalar at props style text lines) ≡ true
+block_printed : (k : Known) (i : ℕ) (f : Form) (sp : Printer.Role) (margins : Margins) (at : NodeOffsets) (props : PropsValue) (style : ScalarStyle) (text : List ℕ) (lines : List (List ℕ)) (d : Draft)
+    → Laid k i (scalar at props style text lines) → IsSited k f.key_comment sp margins (scalar at props style text lines) → is_empty_node props style text ≡ false → has_lines (scalar at props style text lines) ≡ true
     → ((d : Draft) → with_scalar k.work.style sp props style text lines d ≡ Printing.with_block k.work.style sp style text lines (with_props_before props d))
     → is_empty_text (header_text style k.work.style.indent text) ≡ false
     → text_if (is_some (first_of (leaf_indices i (scalar at props style text lines)))) k.work i (measure k i (scalar at props style text lines)) f (head_of (scalar at props style text lines)) sp d
-    ≡ put k f.key_comment false sp (block_scalar k.work.style spot (scalar at props style text lines) props style text lines) d
-block_printed k i f sp spot at props style text lines d l s n b t w =
+    ≡ put k f.key_comment false sp (block_scalar k.work.style margins (scalar at props style text lines) props style text lines) d
+block_printed k i f sp margins at props style text lines d l s n b t w =
     let x : Node = scalar at props style text lines in
-    let row : Row = record (plain_row spot.column (spaced (props_text props) (header_text style k.work.style.indent text))) {
+    let row : Row = record (plain_row margins.column (spaced (props_text props) (header_text style k.work.style.indent text))) {
       items = items_in x;
       leaves = leaves x;
       ending = tail_ending (is_kept_tail (final_feeds text));
-      body = block_lines style spot.lines text lines;
-      lines = spot.lines;
+      body = block_lines style margins.lines text lines;
+      lines = margins.lines;
     } in
     let before : Draft = before_text k.work f sp d in
     ap (λ b. text_if b k.work i (measure k i x) f (head_of x) sp d) (some_leaf i (is_some at.span) (agreed _ _ l.placed ∙ ap not n))
     ∙ (ap (λ w. Printing.node_noted k.work i (measure k i x).last (head_of x) w) (t before)
     ∙ (node_within k i (measure k i x).last x _ l.placed l.begins l.among (last_of_node i x)
-    ∙ (block_met k spot x props style text lines sp before w (s.lines b) ∙ row_put k f sp row d refl s.column)))
+    ∙ (block_met k margins x props style text lines sp before w (s.lines b) ∙ row_put k f sp row d refl s.column)))
 
 -- an empty node, and a plain one that has properties alone
-plain_printed : (k : Known) (i : ℕ) (f : Form) (sp : Printer.Role) (spot : Spot) (at : NodeOffsets) (props : PropsValue) (lines : List (List ℕ)) (d : Draft)
-    → Laid k i (scalar at props Plain [] lines) → Spotted k f.key_comment sp spot (scalar at props Plain [] lines) → Printed k i f sp spot (scalar at props Plain [] lines) d
-plain_printed k i f sp spot at props lines d l s = by (props_text props) refl where
+plain_printed : (k : Known) (i : ℕ) (f : Form) (sp : Printer.Role) (margins : Margins) (at : NodeOffsets) (props : PropsValue) (lines : List (List ℕ)) (d : Draft)
+    → Laid k i (scalar at props Plain [] lines) → IsSited k f.key_comment sp margins (scalar at props Plain [] lines) → Printed k i f sp margins (scalar at props Plain [] lines) d
+plain_printed k i f sp margins at props lines d l s = by (props_text props) refl where
   x : Node
   x = scalar at props Plain [] lines
 
@@ -279,22 +280,22 @@ plain_printed k i f sp spot at props lines d l s = by (props_text props) refl wh
   nothing None (Printer.Role.Value column) e = refl
   nothing (Some j) (Printer.Role.Value column) e = absurd cc
 
-  by : (p : List ℕ) → props_text props ≡ p → Printed k i f sp spot (scalar at props Plain [] lines) d
+  by : (p : List ℕ) → props_text props ≡ p → Printed k i f sp margins (scalar at props Plain [] lines) d
   by [] e =
       let none : is_some at.span ≡ false = here ∙ ap (λ w. not (is_nothing w)) e in
       ap (λ b. text_if (is_some (first_of (if b then i ∷ [] else []))) k.work i (measure k i x) f (head_of x) sp d) none
-      ∙ sym (ap (λ w. put k f.key_comment false sp (one_line_row spot.column x (spaced w [])) d) e ∙ nothing f.key_comment sp (s.no_key none refl))
+      ∙ sym (ap (λ w. put k f.key_comment false sp (one_line_row margins.column x (spaced w [])) d) e ∙ nothing f.key_comment sp (s.no_key none refl))
   by (b ∷ p) e =
-      one_line_printed k i f sp spot x d l s (some_leaf i (is_some at.span) (here ∙ ap (λ w. not (is_nothing w)) e))
+      one_line_printed k i f sp margins x d l s (some_leaf i (is_some at.span) (here ∙ ap (λ w. not (is_nothing w)) e))
       (λ d. ap (λ w. with_text w d) (e ∙ sym (ap (λ w. spaced w []) e))) (ap (λ w. is_empty_text (spaced w [])) e)
 
 -- a flow collection
-flow_printed : (k : Known) (i : ℕ) (f : Form) (sp : Printer.Role) (spot : Spot) (x : Node) (d : Draft) → Laid k i x → Spotted k f.key_comment sp spot x
+flow_printed : (k : Known) (i : ℕ) (f : Form) (sp : Printer.Role) (margins : Margins) (x : Node) (d : Draft) → Laid k i x → IsSited k f.key_comment sp margins x
     → is_collection x ≡ true → may_be_kept [] [] x ≡ true → is_empty_text (bare k.work.style x) ≡ false
     → ((d : Draft) → with_node k.work i (measure k i x).last (head_of x) sp d ≡ Printing.with_kept k.work i (measure k i x).last (props_of x) d)
-    → text_if (is_some (first_of (leaf_indices i x))) k.work i (measure k i x) f (head_of x) sp d ≡ put k f.key_comment false sp (one_line k.work.style spot x) d
-flow_printed k i f sp spot x d l s c m e t =
-    one_line_printed k i f sp spot x d l s (kept_leaf k.work.style i x m l.placed)
+    → text_if (is_some (first_of (leaf_indices i x))) k.work i (measure k i x) f (head_of x) sp d ≡ put k f.key_comment false sp (one_line k.work.style margins x) d
+flow_printed k i f sp margins x d l s c m e t =
+    one_line_printed k i f sp margins x d l s (kept_leaf k.work.style i x m l.placed)
     (λ d. t d ∙ collection_added k i (measure k i x).last x d l.house c m e (node_at x l.among) (last_of_node i x)) (written_filled (props_text (props_of x)) (bare k.work.style x) e)
 
 pub header_filled : (style : ScalarStyle) (n : ℕ) (text : List ℕ) → is_empty_text (header_text style n text) ≡ false
@@ -304,32 +305,32 @@ header_filled Double n text = refl
 header_filled Literal n text = refl
 header_filled Folded n text = refl
 
-text_printed : (k : Known) (i : ℕ) (f : Form) (sp : Printer.Role) (spot : Spot) (x : Node) (d : Draft) → Laid k i x → Spotted k f.key_comment sp spot x
-    → is_block_collection x ≡ false → Printed k i f sp spot x d
-text_printed k i f sp spot (scalar at props Plain [] lines) d l s b = plain_printed k i f sp spot at props lines d l s
-text_printed k i f sp spot (scalar at props Plain (c ∷ text) lines) d l s b = scalar_printed k i f sp spot at props Plain (c ∷ text) lines d l s refl (λ d. refl) refl
-text_printed k i f sp spot (scalar at props Single text lines) d l s b = scalar_printed k i f sp spot at props Single text lines d l s refl (λ d. refl) refl
-text_printed k i f sp spot (scalar at props Double text lines) d l s b = scalar_printed k i f sp spot at props Double text lines d l s refl (λ d. refl) refl
-text_printed k i f sp spot (scalar at props Literal text lines) d l s b =
-    block_printed k i f sp spot at props Literal text lines d l s refl refl (λ d. refl) (header_filled Literal k.work.style.indent text)
-text_printed k i f sp spot (scalar at props Folded text lines) d l s b =
-    block_printed k i f sp spot at props Folded text lines d l s refl refl (λ d. refl) (header_filled Folded k.work.style.indent text)
-text_printed k i f sp spot (alias at name) d l s b = one_line_printed k i f sp spot (alias at name) d l s refl (λ d. refl) refl
-text_printed k i f sp spot (sequence at true props no_items) d l s b = flow_printed k i f sp spot (sequence at true props no_items) d l s refl refl refl (λ d. refl)
-text_printed k i f sp spot (sequence at true props (item x xs)) d l s b =
-    flow_printed k i f sp spot (sequence at true props (item x xs)) d l s refl (same_flag l.house) refl (λ d. refl)
-text_printed k i f sp spot (sequence at false props no_items) d l s b = absurd (true≢false (same_flag l.house))
-text_printed k i f sp spot (sequence at false props (item x xs)) d l s b = absurd (true≢false b)
-text_printed k i f sp spot (mapping at true props no_pairs) d l s b = flow_printed k i f sp spot (mapping at true props no_pairs) d l s refl refl refl (λ d. refl)
-text_printed k i f sp spot (mapping at true props (pair x y ps)) d l s b =
-    flow_printed k i f sp spot (mapping at true props (pair x y ps)) d l s refl (same_flag_of_map l.house) refl (λ d. refl)
-text_printed k i f sp spot (mapping at false props no_pairs) d l s b = absurd (true≢false (same_flag_of_map l.house))
-text_printed k i f sp spot (mapping at false props (pair x y ps)) d l s b = absurd (true≢false b)
+text_printed : (k : Known) (i : ℕ) (f : Form) (sp : Printer.Role) (margins : Margins) (x : Node) (d : Draft) → Laid k i x → IsSited k f.key_comment sp margins x
+    → is_block_collection x ≡ false → Printed k i f sp margins x d
+text_printed k i f sp margins (scalar at props Plain [] lines) d l s b = plain_printed k i f sp margins at props lines d l s
+text_printed k i f sp margins (scalar at props Plain (c ∷ text) lines) d l s b = scalar_printed k i f sp margins at props Plain (c ∷ text) lines d l s refl (λ d. refl) refl
+text_printed k i f sp margins (scalar at props Single text lines) d l s b = scalar_printed k i f sp margins at props Single text lines d l s refl (λ d. refl) refl
+text_printed k i f sp margins (scalar at props Double text lines) d l s b = scalar_printed k i f sp margins at props Double text lines d l s refl (λ d. refl) refl
+text_printed k i f sp margins (scalar at props Literal text lines) d l s b =
+    block_printed k i f sp margins at props Literal text lines d l s refl refl (λ d. refl) (header_filled Literal k.work.style.indent text)
+text_printed k i f sp margins (scalar at props Folded text lines) d l s b =
+    block_printed k i f sp margins at props Folded text lines d l s refl refl (λ d. refl) (header_filled Folded k.work.style.indent text)
+text_printed k i f sp margins (alias at name) d l s b = one_line_printed k i f sp margins (alias at name) d l s refl (λ d. refl) refl
+text_printed k i f sp margins (sequence at true props no_items) d l s b = flow_printed k i f sp margins (sequence at true props no_items) d l s refl refl refl (λ d. refl)
+text_printed k i f sp margins (sequence at true props (item x xs)) d l s b =
+    flow_printed k i f sp margins (sequence at true props (item x xs)) d l s refl (same_flag l.house) refl (λ d. refl)
+text_printed k i f sp margins (sequence at false props no_items) d l s b = absurd (true≢false (same_flag l.house))
+text_printed k i f sp margins (sequence at false props (item x xs)) d l s b = absurd (true≢false b)
+text_printed k i f sp margins (mapping at true props no_pairs) d l s b = flow_printed k i f sp margins (mapping at true props no_pairs) d l s refl refl refl (λ d. refl)
+text_printed k i f sp margins (mapping at true props (pair x y ps)) d l s b =
+    flow_printed k i f sp margins (mapping at true props (pair x y ps)) d l s refl (same_flag_of_map l.house) refl (λ d. refl)
+text_printed k i f sp margins (mapping at false props no_pairs) d l s b = absurd (true≢false (same_flag_of_map l.house))
+text_printed k i f sp margins (mapping at false props (pair x y ps)) d l s b = absurd (true≢false b)
 
 -- what is printed for a node that is no block collection
-pub leaf_printed : (k : Known) (i : ℕ) (f : Form) (sp : Printer.Role) (spot : Spot) (x : Node) (d : Draft) → Laid k i x → Spotted k f.key_comment sp spot x
+pub leaf_printed : (k : Known) (i : ℕ) (f : Form) (sp : Printer.Role) (margins : Margins) (x : Node) (d : Draft) → Laid k i x → IsSited k f.key_comment sp margins x
     → is_block_collection x ≡ false
-    → Printing.leaf k.work i (measure k i x) f (head_of x) sp d ≡ with_colon_of x sp (put k f.key_comment false sp (rows (setting_in k) spot x) d)
-leaf_printed k i f sp spot x d l s b =
+    → Printing.leaf k.work i (measure k i x) f (head_of x) sp d ≡ with_colon_of x sp (put k f.key_comment false sp (rows (setting_in k) margins x) d)
+leaf_printed k i f sp margins x d l s b =
     colon_part x i sp (text_if (is_some (first_of (leaf_indices i x))) k.work i (measure k i x) f (head_of x) sp d) l.placed
-    ∙ ap (with_colon_of x sp) (text_printed k i f sp spot x d l s b)
+    ∙ ap (with_colon_of x sp) (text_printed k i f sp margins x d l s b)

@@ -16,7 +16,8 @@ use Rattle.yf_forms.specs.Nodes.SingleAnswers.{NodeAt}
 use Rattle.yf_forms.specs.NormalForms.Measures.{AreMeasures, first_of, leaf_indices, measure_of, no_measure}
 use Rattle.yf_forms.specs.NormalForms.Normal.{LayoutSetting}
 use Rattle.yf_print.specs.Passes.PrintPass as Printing
-use Rattle.yf_print.specs.Passes.PrintPass.{PrintState, Work}
+use Rattle.yf_print.specs.Passes.PrintPass.{PrintState}
+use Rattle.yf_print.specs.Passes.PrintWork.{Work}
 
 -- what is asked of a measure
 abbrev pub asked : Measure → Measure
@@ -80,10 +81,10 @@ node_asks g i m f e mapping_ends sp w = leaf_at_asks g i m f e sp w
 
 event_asks : (g : Work) (i : ℕ) (m : Measure) (f : Form) (e : EventInText) (v : EventValue) (w : PrintState)
     → Printing.past_event g i m f e v w ≡ Printing.past_event g i (asked m) f e v w
-event_asks g i m f e (scalar_node props style text) w = node_asks g i m f e e.event (Printing.spot f w.levels) (Printing.signed g f e.entry w)
-event_asks g i m f e (alias_node name) w = node_asks g i m f e e.event (Printing.spot f w.levels) (Printing.signed g f e.entry w)
-event_asks g i m f e (sequence_starts flow props) w = node_asks g i m f e e.event (Printing.spot f w.levels) (Printing.signed g f e.entry w)
-event_asks g i m f e (mapping_starts flow props) w = node_asks g i m f e e.event (Printing.spot f w.levels) (Printing.signed g f e.entry w)
+event_asks g i m f e (scalar_node props style text) w = node_asks g i m f e e.event (Printing.role f w.levels) (Printing.signed g f e.entry w)
+event_asks g i m f e (alias_node name) w = node_asks g i m f e e.event (Printing.role f w.levels) (Printing.signed g f e.entry w)
+event_asks g i m f e (sequence_starts flow props) w = node_asks g i m f e e.event (Printing.role f w.levels) (Printing.signed g f e.entry w)
+event_asks g i m f e (mapping_starts flow props) w = node_asks g i m f e e.event (Printing.role f w.levels) (Printing.signed g f e.entry w)
 event_asks g i m f e sequence_ends w = refl
 event_asks g i m f e mapping_ends w = refl
 event_asks g i m f e (document_starts b) w = refl

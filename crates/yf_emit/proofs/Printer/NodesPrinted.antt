@@ -10,9 +10,10 @@ use Rattle.yf_print.specs.declared.printer.FrameState.TheVariants.{Item, Key}
 use Rattle.yf_print.specs.declared.printer.PrintFrame.{PrintFrame}
 use Rattle.yf_print.specs.Passes.Drafts.{Draft, trailing_if}
 use Rattle.yf_forms.specs.NormalForms.Forms.{Site, key_comment_index, key_site, site_at, value_site}
-use Rattle.yf_forms.specs.NormalForms.Normal.{LayoutSetting, inner_spot, is_implicit, key_comment, key_spot, settled, value_spot}
+use Rattle.yf_forms.specs.NormalForms.Normal.{LayoutSetting, inner_margins, is_implicit, key_comment, key_margins, settled, value_margins}
 use Rattle.yf_print.specs.Passes.PrintPass as Printing
-use Rattle.yf_print.specs.Passes.PrintPass.{awaited_after, remarks_of, state, value_awaited}
+use Rattle.yf_print.specs.Passes.PrintPass.{awaited_after, state, value_awaited}
+use Rattle.yf_print.specs.Passes.PrintWork.{remarks_of}
 use Rattle.yf_print.specs.Layouts.Rows.{Row, after_sign, colon_row, entry_row, explicit_pair, implicit_pair, key_row, pair_rows, rows, rows_of_items, rows_of_pairs}
 use Rattle.yf_emit.proofs.Printer.EntriesFed.{begun, begun_append, begun_none, filled, filled_append, filled_joined, filled_pair, joined_begun, sign_begun}
 use Rattle.yf_emit.proofs.Printer.JoinLemmas.{fed_after}
@@ -53,17 +54,17 @@ below_pairs (pair x y ps) = refl
 
 -- an item's sign and its rows
 item_draft : (k : Known) (column : ℕ) (inline : Bool) (x : Node) (others : List PrintFrame) (d : Draft)
-    → node_draft k (site_at (inner_spot k.work.style column)) x (level column Item inline ∷ others) d
-    ≡ begun k inline (after_sign k.work.style (entry_row column (codes "-") x) (rows (setting_in k) (inner_spot k.work.style column) x)) d
+    → node_draft k (site_at (inner_margins k.work.style column)) x (level column Item inline ∷ others) d
+    ≡ begun k inline (after_sign k.work.style (entry_row column (codes "-") x) (rows (setting_in k) (inner_margins k.work.style column) x)) d
 item_draft k column inline x others d =
     let n : ℕ = k.work.style.indent - 1 in
-    let xs : List Row = rows (setting_in k) (inner_spot k.work.style column) x in
+    let xs : List Row = rows (setting_in k) (inner_margins k.work.style column) x in
     ap (λ w. fed_after (remarks_of k.work) k.trail n xs w) (sign_begun k inline column (codes "-") x d)
     ∙ sym (joined_begun k inline (entry_row column (codes "-") x) n xs d (record { key = refl; body = refl; ending = refl }))
 
 -- a key and its value
-comment_of : (k : Known) (i n column : ℕ) (x y : Node) (b : Bool) → settled (setting_in k) (value_spot (setting_in k) column x y) y ≡ y → b ≡ true
-    → (if b then key_comment_index k.work.reading.comments x (settled (setting_in k) (value_spot (setting_in k) column x y) y) else None)
+comment_of : (k : Known) (i n column : ℕ) (x y : Node) (b : Bool) → settled (setting_in k) (value_margins (setting_in k) column x y) y ≡ y → b ≡ true
+    → (if b then key_comment_index k.work.reading.comments x (settled (setting_in k) (value_margins (setting_in k) column x y) y) else None)
     ≡ key_comment_index k.work.reading.comments x y
 comment_of k i n column x y true s e = ap (key_comment_index k.work.reading.comments x) s
 comment_of k i n column x y false s e = absurd (true≢false (sym e))
@@ -75,16 +76,16 @@ value_awaits f entry other false = refl
 pair_draft : (k : Known) (i n column : ℕ) (inline : Bool) (x y : Node) (ps : Pairs) (others : List PrintFrame) (d : Draft) → PairsAt k i n column (pair x y ps)
     → node_draft k (value_site (setting_in k) column x y) y (level column (value_awaited (is_implicit k.work.style column x) (standing x).entry) false ∷ others)
     (node_draft k (key_site k.work.style column x) x (level column Key inline ∷ others) d)
-    ≡ begun k inline (pair_rows (setting_in k) column x y (rows (setting_in k) (key_spot k.work.style column x) x) (rows (setting_in k) (value_spot (setting_in k) column x y) y)) d
+    ≡ begun k inline (pair_rows (setting_in k) column x y (rows (setting_in k) (key_margins k.work.style column x) x) (rows (setting_in k) (value_margins (setting_in k) column x y) y)) d
 pair_draft k i n column inline x y ps others d a =
     let b : Bool = is_implicit k.work.style column x in
     let site = value_site (setting_in k) column x y in
     let cs : List CommentValue = k.work.reading.comments in
     let key = key_at k i n column inline x y ps others a in
     let same : b ≡ true → site.key_comment ≡ key_comment_index cs x y = λ e. comment_of k i n column x y b (pair_parts a.settled).1.0 e in
-    pair_fed k inline b column (key_spot k.work.style column x).column x y (form k site y) (standing y).entry site.key_comment
-    (rows (setting_in k) (key_spot k.work.style column x) x) (rows (setting_in k) (value_spot (setting_in k) column x y) y) d
-    (λ e. key_rows (setting_in k) (key_spot k.work.style column x) column x key.laid.house e)
+    pair_fed k inline b column (key_margins k.work.style column x).column x y (form k site y) (standing y).entry site.key_comment
+    (rows (setting_in k) (key_margins k.work.style column x) x) (rows (setting_in k) (value_margins (setting_in k) column x y) y) d
+    (λ e. key_rows (setting_in k) (key_margins k.work.style column x) column x key.laid.house e)
     (λ e f. empty_key k.work.style column x key.laid.placed e f)
     (λ e. ap (trailing_if cs) (same e) ∙ comment_text cs x y)
     (λ e. ap is_some (same e) ∙ same_comment cs x y)
@@ -99,24 +100,24 @@ mutual
   node_reaches k i docs (suc n) site (sequence at false props (item x xs)) levels d a =
       let whole : Node = sequence at false props (item x xs) in
       let e : EventInText = placed at (sequence_starts false props) [] in
-      open_reaches k i docs (suc n) site whole levels Item e (unplaced sequence_ends) (flat_items (item x xs)) (rows_of_items (setting_in k) site.spot.entries (item x xs)) d a refl
-      (λ f p h. ap (λ b. Printing.collection_if b k.work i (measure k i whole) f e props Item (Printing.spot f levels) (Printing.signed k.work f at.entry (state d levels docs p))) h)
+      open_reaches k i docs (suc n) site whole levels Item e (unplaced sequence_ends) (flat_items (item x xs)) (rows_of_items (setting_in k) site.margins.entries (item x xs)) d a refl
+      (λ f p h. ap (λ b. Printing.collection_if b k.work i (measure k i whole) f e props Item (Printing.role f levels) (Printing.signed k.work f at.entry (state d levels docs p))) h)
       (is_own_leaf i whole a.laid.placed) (λ j p c top others. refl) refl refl refl
-      (filled_append (after_sign k.work.style (entry_row site.spot.entries (codes "-") x) (rows (setting_in k) (inner_spot k.work.style site.spot.entries) x))
-      (rows_of_items (setting_in k) site.spot.entries xs)
-      (filled_joined (entry_row site.spot.entries (codes "-") x) (k.work.style.indent - 1) (rows (setting_in k) (inner_spot k.work.style site.spot.entries) x))) refl
-      (λ inline c others. items_reach k (i + 1) docs n site.spot.entries inline (item x xs) others c (items_within k i n site at props x xs levels a))
+      (filled_append (after_sign k.work.style (entry_row site.margins.entries (codes "-") x) (rows (setting_in k) (inner_margins k.work.style site.margins.entries) x))
+      (rows_of_items (setting_in k) site.margins.entries xs)
+      (filled_joined (entry_row site.margins.entries (codes "-") x) (k.work.style.indent - 1) (rows (setting_in k) (inner_margins k.work.style site.margins.entries) x))) refl
+      (λ inline c others. items_reach k (i + 1) docs n site.margins.entries inline (item x xs) others c (items_within k i n site at props x xs levels a))
   node_reaches k i docs n site (mapping at flow props no_pairs) levels d a = whole_reaches k i docs n site (mapping at flow props no_pairs) levels d a refl
   node_reaches k i docs n site (mapping at true props (pair x y ps)) levels d a = whole_reaches k i docs n site (mapping at true props (pair x y ps)) levels d a refl
   node_reaches k i docs zero site (mapping at false props (pair x y ps)) levels d a = absurd (true≢false (sym a.nests))
   node_reaches k i docs (suc n) site (mapping at false props (pair x y ps)) levels d a =
       let whole : Node = mapping at false props (pair x y ps) in
       let e : EventInText = placed at (mapping_starts false props) [] in
-      let column : ℕ = site.spot.entries in
-      let xs : List Row = rows (setting_in k) (key_spot k.work.style column x) x in
-      let ys : List Row = rows (setting_in k) (value_spot (setting_in k) column x y) y in
+      let column : ℕ = site.margins.entries in
+      let xs : List Row = rows (setting_in k) (key_margins k.work.style column x) x in
+      let ys : List Row = rows (setting_in k) (value_margins (setting_in k) column x y) y in
       open_reaches k i docs (suc n) site whole levels Key e (unplaced mapping_ends) (flat_pairs (pair x y ps)) (rows_of_pairs (setting_in k) column (pair x y ps)) d a refl
-      (λ f p h. ap (λ b. Printing.collection_if b k.work i (measure k i whole) f e props Key (Printing.spot f levels) (Printing.signed k.work f at.entry (state d levels docs p))) h)
+      (λ f p h. ap (λ b. Printing.collection_if b k.work i (measure k i whole) f e props Key (Printing.role f levels) (Printing.signed k.work f at.entry (state d levels docs p))) h)
       (is_own_leaf i whole a.laid.placed) (λ j p c top others. refl) refl refl refl
       (filled_append (pair_rows (setting_in k) column x y xs ys) (rows_of_pairs (setting_in k) column ps) (pair_filled (setting_in k) column x y xs ys)) refl
       (λ inline c others. pairs_reach k (i + 1) docs n column inline (pair x y ps) others c (pairs_within k i n site at props x y ps levels a))
@@ -127,18 +128,18 @@ mutual
       reaches_same k.work i docs [] d d (begun k inline [] d) _ _ (sym (begun_none k inline d)) (reaches_none k.work i docs d (level column Item inline ∷ others))
   items_reach k i docs n column inline (item x xs) others d a =
       let c : LayoutSetting = setting_in k in
-      let mine : List Row = after_sign k.work.style (entry_row column (codes "-") x) (rows c (inner_spot k.work.style column) x) in
+      let mine : List Row = after_sign k.work.style (entry_row column (codes "-") x) (rows c (inner_margins k.work.style column) x) in
       let more : List Row = rows_of_items c column xs in
       let top : List PrintFrame = level column Item inline ∷ others in
       let mid : List PrintFrame = level column Item false ∷ others in
       let first : Reaches k.work i (flat x) docs d (begun k inline mine d) top mid =
       reaches_same k.work i docs (flat x) d _ (begun k inline mine d) top mid (item_draft k column inline x others d)
-      (node_reaches k i docs n (site_at (inner_spot k.work.style column)) x top d (item_at k i n column inline x xs others a)) in
+      (node_reaches k i docs n (site_at (inner_margins k.work.style column)) x top d (item_at k i n column inline x xs others a)) in
       let rest : Reaches k.work (i + length (flat x)) (flat_items xs) docs (begun k inline mine d) (begun k false more (begun k inline mine d)) mid mid =
       subst (λ b. Reaches k.work (i + length (flat x)) (flat_items xs) docs (begun k inline mine d) (begun k false more (begun k inline mine d)) mid (level column Item b ∷ others))
       (below_items xs) (items_reach k (i + length (flat x)) docs n column false xs others (begun k inline mine d) (items_after k i n column x xs a)) in
       reaches_same k.work i docs (flat x ++ flat_items xs) d (begun k false more (begun k inline mine d)) (begun k inline (mine ++ more) d) top mid
-      (sym (begun_append k inline mine more d (filled_joined (entry_row column (codes "-") x) (k.work.style.indent - 1) (rows c (inner_spot k.work.style column) x))))
+      (sym (begun_append k inline mine more d (filled_joined (entry_row column (codes "-") x) (k.work.style.indent - 1) (rows c (inner_margins k.work.style column) x))))
       (reaches_append k.work i docs (flat x) (flat_items xs) d (begun k inline mine d) (begun k false more (begun k inline mine d)) top mid mid first rest)
 
   pairs_reach : (k : Known) (i docs n column : ℕ) (inline : Bool) (ps : Pairs) (others : List PrintFrame) (d : Draft) → PairsAt k i n column ps
@@ -151,7 +152,7 @@ mutual
       let j : ℕ = i + length (flat x) in
       let at_key : Site = key_site k.work.style column x in
       let at_value : Site = value_site c column x y in
-      let mine : List Row = pair_rows c column x y (rows c (key_spot k.work.style column x) x) (rows c (value_spot c column x y) y) in
+      let mine : List Row = pair_rows c column x y (rows c (key_margins k.work.style column x) x) (rows c (value_margins c column x y) y) in
       let more : List Row = rows_of_pairs c column ps in
       let top : List PrintFrame = level column Key inline ∷ others in
       let mid : List PrintFrame = level column (value_awaited b (standing x).entry) false ∷ others in
@@ -168,6 +169,6 @@ mutual
       subst (λ w. Reaches k.work (j + length (flat y)) (flat_pairs ps) docs two all last (level column Key w ∷ others)) (below_pairs ps)
       (pairs_reach k (j + length (flat y)) docs n column false ps others two (pairs_after k i n column x y ps a)) in
       reaches_same k.work i docs (flat x ++ (flat y ++ flat_pairs ps)) d all (begun k inline (mine ++ more) d) top last
-      (sym (begun_append k inline mine more d (pair_filled c column x y (rows c (key_spot k.work.style column x) x) (rows c (value_spot c column x y) y))))
+      (sym (begun_append k inline mine more d (pair_filled c column x y (rows c (key_margins k.work.style column x) x) (rows c (value_margins c column x y) y))))
       (reaches_append k.work i docs (flat x) (flat y ++ flat_pairs ps) d one all top mid last key
       (reaches_append k.work j docs (flat y) (flat_pairs ps) one two all mid last last value rest))

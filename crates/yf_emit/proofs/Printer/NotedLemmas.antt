@@ -15,7 +15,8 @@ use Rattle.yf_print.specs.Passes.Drafts.{Draft, LineMarks, leaf_marked, trailing
 use Rattle.yf_forms.specs.NormalForms.Forms.{is_placed, items_are_placed, pairs_are_placed}
 use Rattle.yf_forms.specs.Nodes.SingleAnswers.{NodeAt}
 use Rattle.yf_forms.specs.NormalForms.Measures.{no_measure}
-use Rattle.yf_print.specs.Passes.PrintPass.{Work, entry_met, event_noted, events_noted, is_leaf, leaf_noted_if}
+use Rattle.yf_print.specs.Passes.PrintPass.{entry_met, event_noted, events_noted, is_leaf, leaf_noted_if}
+use Rattle.yf_print.specs.Passes.PrintWork.{Work}
 use Rattle.yf_forms.proofs.Decide.AmongLemmas.{Among, back, after_first, front, node_at}
 use Rattle.yf_emit.proofs.Printer.ColumnsFed.{leaves_marked}
 use Rattle.yf_emit.proofs.Printer.FedLemmas.{all_past}

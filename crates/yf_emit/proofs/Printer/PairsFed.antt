@@ -11,7 +11,8 @@ use Rattle.yf_forms.specs.NormalForms.Forms.{first_index, index_between, key_com
 use Rattle.yf_forms.specs.NormalForms.Normal as Normal
 use Rattle.yf_forms.specs.NormalForms.Normal.{LayoutSetting, first_between, key_comment}
 use Rattle.yf_forms.specs.Nodes.OneLine.{colon_after, written}
-use Rattle.yf_print.specs.Passes.PrintPass.{entry_begun, key_spot, question_if, remarks_of, sign_in, spot_in, value_awaited, with_colon}
+use Rattle.yf_print.specs.Passes.PrintPass.{entry_begun, key_role, question_if, sign_in, role_in, value_awaited, with_colon}
+use Rattle.yf_print.specs.Passes.PrintWork.{remarks_of}
 use Rattle.yf_print.specs.Layouts.Rows.{Row, begins_below, after_sign, colon_row, entry_row, explicit_pair, implicit_pair, key_row, one_line_row}
 use Rattle.yf_forms.specs.Nodes.Lines.{is_empty_text}
 use Rattle.yf_emit.proofs.Printer.EntriesFed.{begun, begun_append, filled_joined, joined_begun, key_begun, sign_begun, value_begun}
@@ -48,9 +49,9 @@ pub pair_fed : (k : Known) (inline b : Bool) (column place : ℕ) (x y : Node) (
     → (b ≡ true → xs ≡ one_line_row place x (written k.work.style x)) → (b ≡ true → is_empty_text (written k.work.style x) ≡ true → (items_in x ≡ []) × (leaves x ≡ []))
     → (b ≡ true → trailing_if k.work.reading.comments o ≡ key_text (key_comment k.work.reading.comments x y))
     → (b ≡ true → is_some o ≡ is_some (key_comment k.work.reading.comments x y))
-    → with_colon_of y (spot_in f column (value_awaited b (standing x).entry)) (put k o (begins_below y) (spot_in f column (value_awaited b (standing x).entry)) ys
+    → with_colon_of y (role_in f column (value_awaited b (standing x).entry)) (put k o (begins_below y) (role_in f column (value_awaited b (standing x).entry)) ys
     (sign_in k.work f entry false column (value_awaited b (standing x).entry)
-    (with_colon_of x (key_spot b column) (put k None (begins_below x) (key_spot b column) xs (question_if b (entry_begun k.work inline column false (standing x).entry d))))))
+    (with_colon_of x (key_role b column) (put k None (begins_below x) (key_role b column) xs (question_if b (entry_begun k.work inline column false (standing x).entry d))))))
     ≡ begun k inline (if b then implicit_pair (setting_in k) column x y ys else explicit_pair k.work.style column x xs ys) d
 pair_fed k inline true column place x y f entry o xs ys d r e t s =
     ap (λ w. put_value k o (begins_below y) ys (with_text (colon_after x) (fed_on (remarks_of k.work) k.trail w (entry_begun k.work inline column false (standing x).entry d)))) (r refl)

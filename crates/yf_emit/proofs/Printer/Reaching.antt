@@ -7,7 +7,8 @@ use Rattle.yf_forms.specs.declared.form.decide.Form.{Form}
 use Rattle.yf_print.specs.declared.printer.PrintFrame.{PrintFrame}
 use Rattle.yf_print.specs.Passes.Drafts.{Draft}
 use Rattle.yf_forms.specs.NormalForms.Forms.{no_form}
-use Rattle.yf_print.specs.Passes.PrintPass.{PrintState, Work, looked, pass, state}
+use Rattle.yf_print.specs.Passes.PrintPass.{PrintState, looked, pass, state}
+use Rattle.yf_print.specs.Passes.PrintWork.{Work}
 use Rattle.yf_emit.proofs.Printer.SkipLemmas.{pass_append, pass_skips}
 use Rattle.yf_chars.proofs.Tests.{below}
 

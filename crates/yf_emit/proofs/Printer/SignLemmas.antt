@@ -5,7 +5,8 @@ use Rattle.yf_events.specs.Tree.{Node, entry_start, standing, starts_of_entry}
 use Rattle.yf_events.specs.declared.event.Entry.{Entry}
 use Rattle.yf_events.specs.declared.event.Span.{Span}
 use Rattle.yf_print.specs.Passes.Drafts.{Draft, LineMarks, opened, start_marked, with_start, with_text}
-use Rattle.yf_print.specs.Passes.PrintPass.{Work, colon_past, next_line, remarks_of, with_colon}
+use Rattle.yf_print.specs.Passes.PrintPass.{colon_past, next_line, with_colon}
+use Rattle.yf_print.specs.Passes.PrintWork.{Work, remarks_of}
 use Rattle.yf_print.specs.Layouts.Rows.{Row, colon_offset, colon_row, plain_row, start_of}
 use Rattle.yf_emit.proofs.Printer.FedLemmas.{all_past, fed, with_row}
 use Rattle.yf_emit.proofs.Printer.JoinLemmas.{edited, head_is, past_edited}

@@ -9,7 +9,8 @@ use Rattle.yf_events.specs.declared.directive.Directive.{Directive}
 use Rattle.yf_events.specs.declared.document.Doc.{Doc}
 use Rattle.yf_events.specs.declared.event.Span.{Span}
 use Rattle.yf_print.specs.Passes.Drafts.{Draft, opened, past, with_text}
-use Rattle.yf_print.specs.Passes.PrintPass.{PrintState, Work, directive_lines, document_begun, looked, marked, next, next_line, pass, remarks_of}
+use Rattle.yf_print.specs.Passes.PrintPass.{PrintState, directive_lines, document_begun, looked, marked, next, next_line, pass}
+use Rattle.yf_print.specs.Passes.PrintWork.{Work, remarks_of}
 use Rattle.yf_print.specs.Layouts.Rows.{beginning_at, directive_row, end_rows, joined_words, start_row}
 use Rattle.yf_emit.proofs.Printer.FedLemmas.{all_past, fed, with_row}
 use Rattle.yf_emit.proofs.Printer.JoinLemmas.{edited, past_edited}

@@ -39,7 +39,7 @@ use Rattle.yf_emit.proofs.RowNodes.FoundStreams.{StreamIn, no_stream, stream_in}
 use Rattle.yf_emit.proofs.Derived.EntriesMade.{begins, lines_begin}
 use Rattle.yf_emit.proofs.ReadAgain.GapsAgain.{Blanks, gap_at_end, gap_with}
 use Rattle.yf_emit.proofs.ReadAgain.GapNotes.{HeadNote, bare_head, gap_noted}
-use Rattle.yf_emit.proofs.ReadAgain.GapsInText.{GapIsAt, gap_placed, since_later}
+use Rattle.yf_emit.proofs.ReadAgain.GapsInText.{GapIsAt, gap_placed}
 use Rattle.yf_emit.proofs.OutputLines.HeldLemmas.{BodiesHeld}
 use Rattle.yf_emit.proofs.ReadAgain.NoteTrees.{start_unlined}
 use Rattle.yf_emit.proofs.RowNodes.PlacedRows.{PlacedRow, RowsIn}
@@ -51,6 +51,7 @@ use Rattle.yf_print.specs.Layouts.KeptColumns.{Columns}
 use Rattle.yf_emit.specs.Preservation.CommentsPlaced.{columns_in}
 use Rattle.yf_emit.proofs.Columns.SourceColumns.{text_column}
 use Rattle.yf_chars.specs.Class.{is_white}
+use Rattle.yf_grammar.proofs.Ends.SinceWalk.{since_later}
 use Rattle.yf_emit.proofs.Derived.ClearRows.{place_of_rest as place_of}
 
 -- the gap before the first row

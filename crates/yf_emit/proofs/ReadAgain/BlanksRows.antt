@@ -14,6 +14,7 @@ use Rattle.yf_events.specs.Event.{EventInText}
 use Rattle.yf_events.specs.declared.event.Span.{Span}
 use Rattle.yf_grammar.proofs.Documents.CommentOrder.{ascend_order}
 use Rattle.yf_grammar.proofs.Ends.SinceKnown.{since_before}
+use Rattle.yf_grammar.proofs.Ends.SinceWalk.{since_later}
 use Rattle.yf_grammar.specs.Productions.ReadParts.{BlankSince, NotedSince}
 use Rattle.yf_stream.specs.ReadingOf.{NotedComments, floor_at, no_comment, one_comment}
 use Rattle.yf_stream.proofs.BlankNotes.FloorWalk.{end_later, end_taken}
@@ -27,7 +28,7 @@ use Rattle.yf_emit.proofs.ReadAgain.AllBlanks.{AllBlanks, last_blanks, row_blank
 use Rattle.yf_emit.proofs.ReadAgain.CarriedAgain.{Owns, last_owns, row_owns, all_of, standing_of}
 use Rattle.yf_emit.proofs.ReadAgain.GapsAgain.{Blanks, gap_at_end, gap_with}
 use Rattle.yf_emit.proofs.ReadAgain.GapNotes.{HeadNote, bare_head, NotedOver, none_over, one_over, gap_noted}
-use Rattle.yf_emit.proofs.ReadAgain.GapsInText.{GapIsAt, gap_over, blank_is_at, remark_is_at, gap_order, since_later}
+use Rattle.yf_emit.proofs.ReadAgain.GapsInText.{GapIsAt, gap_over, blank_is_at, remark_is_at, gap_order}
 use Rattle.yf_emit.proofs.OutputLines.HeldLemmas.{BodiesHeld}
 use Rattle.yf_emit.proofs.RowNodes.PlacedRows.{AtRow, EndsRow, LastEnd, last_end, later_end, OwnTail, after_line, after_scalar, PlacedRow, RowsIn, last_row, row_before}
 use Rattle.yf_emit.proofs.ReadAgain.RowGaps.{Renoted, as_they_are, first_so, RowGap, row_gap}

@@ -14,7 +14,7 @@ use Rattle.yf_emit.proofs.SameReading.CommentsCut.{In, in_first, in_rest, Each, 
 use Rattle.yf_emit.proofs.ReadAgain.GapsAgain.{Blanks, gap_with}
 use Rattle.yf_emit.proofs.RowNodes.PlacedRows.{PlacedRow}
 use Rattle.yf_emit.proofs.SameReading.PrintSteps.{trimmed_texts}
-use Rattle.yf_emit.proofs.ReadAgain.RowsAgain.{Apart, Carry, last_carries, row_carries, Merged, none_merged, one_trails, one_is_at, merged_stand}
+use Rattle.yf_emit.proofs.ReadAgain.RowsAgain.{Apart, Carry, last_carries, row_carries, Merged, none_merged, one_trails, one_is_at, merged_stand, each_back}
 use Rattle.yf_print.specs.Layouts.KeptColumns.{Columns, is_before_first}
 use Rattle.yf_chars.proofs.Tests.{below, not_below}
 use Rattle.yf_emit.proofs.OutputLines.ColumnsHold.{every}
@@ -75,10 +75,6 @@ upward_join l (upward_more m a) (each_more n u) b = upward_more m (upward_join (
 pub owns_upward : {ps : List PlacedRow} {ds : List Deco} {i j : ℕ} {owns : List (List CommentValue)} → Owns ps ds i owns j → Upward i (all_of owns)
 owns_upward (last_owns {i = i} {own = own} f l m up u is) = subst (λ z. Upward i z) (sym (append-nil own)) (upward_less l up)
 owns_upward (row_owns f l m up u is n more) = upward_less l (upward_join m up u (upward_less n (owns_upward more)))
-
-each_right : {P : CommentValue → Type 0} (xs : List CommentValue) {ys : List CommentValue} → Each P (xs ++ ys) → Each P ys
-each_right [] a = a
-each_right (x ∷ xs) (each_more e a) = each_right xs a
 
 pub standing_over : {h : ℕ} {ts hs cs : List CommentValue} → Merged ts hs cs → Over h cs → Over h hs
 standing_over none_merged a = each_none
@@ -174,7 +170,7 @@ carry_again {t = text} {g = g} {c = c} before u e (row_owns {p = p} {d = d} {ds 
     let s = own_split before own (all_of owns) (subst (λ z. Under z before) (sym f) u) (omega (arith, l, f)) (upward_join m up v rest) is e t in
     let down : Under low (before ++ own) = each_join (under_more (omega (arith, l, m, n)) u) (under_more n v) in
     let further : CarryAgain text g c (next ∷ rows) ds owns = carry_again (before ++ own) down (e ∙ sym (append_assoc before own (all_of owns))) more others in
-    let here : Under k (standing_of d own) = each_right (trailing c row) (subst (λ z. Under k z) s.is v) in
+    let here : Under k (standing_of d own) = each_back (trailing c row) (standing_of d own) (subst (λ z. Under k z) s.is v) in
     let bare : remarks_of d.gap ≡ [] → standing_of d own ≡ [] = λ z. none_is_at d.trails own (is ∙ (ap (λ y. d.trails ++ y) z ∙ append-nil d.trails)) in
     let apart : Apart next (standing_of d own) (all_standing ds owns) =
     next_apart (standing_of d own) (all_standing ds owns) x bare (omega (arith, n, from)) here (cut_over (before ++ own) (e ∙ sym (append_assoc before own (all_of owns))) further.merged (first_over more)) in

@@ -9,7 +9,7 @@ use Rattle.yf_events.specs.declared.document.Doc.{Doc}
 use Rattle.yf_forms.specs.declared.style.Style.{Style}
 use Rattle.yf_emit.specs.Layouts.Decorated.{Deco}
 use Rattle.yf_emit.specs.Preservation.FoundTrees.{FoundTrees, none_found, one_found, words_of}
-use Rattle.yf_forms.specs.NormalForms.Normal.{root_spot}
+use Rattle.yf_forms.specs.NormalForms.Normal.{root_margins}
 use Rattle.yf_print.specs.Layouts.Rows.{Row, beginning_at, directive_row, end_rows, rows, start_row, stream_rows, all_rows, begun_at}
 use Rattle.yf_emit.proofs.SecondRun.AlikeLemmas.{setting, shapes}
 use Rattle.yf_emit.proofs.RowNodes.BareNodes.{bare, bare_tree}
@@ -187,13 +187,13 @@ stream_ties {s = s} {ms = ms} {cs = cs} {is_first = is_first} (y ∷ ys) (one_ro
     let rest : map bare_tree zs ≡ map bare_tree ys = ap other_trees e in
     let hs : List Row = beginning_at f.start (end_rows is_first f.directives ++ (map directive_row f.directives ++ (start_row ∷ []))) in
     let fs : List Row = beginning_at d.start (end_rows is_first d.directives ++ (map directive_row d.directives ++ (start_row ∷ []))) in
-    let bs : List Row = rows (setting s ms) (root_spot s) x.root in
-    let gs : List Row = rows (setting s cs) (root_spot s) y.root in
+    let bs : List Row = rows (setting s ms) (root_margins s) x.root in
+    let gs : List Row = rows (setting s cs) (root_margins s) y.root in
     let ax : List Row = stream_rows (setting s ms) false ds xs in
     let fx : List Row = stream_rows (setting s cs) false es ys in
     ties_apart hs bs ax fs gs fx heads inner qs
     (head_ties is_first f.start d.start f.directives d.directives words h (left_apart hs bs ax fs gs fx heads inner qs left)
-    (λ further. node_ties bs gs inner (same_block_rows s (root_spot s) alike) (node_marks cs (root_spot s) refl alike (rows_renoted y.root root r)) further (λ last. stream_ties ys more rest others last)))
+    (λ further. node_ties bs gs inner (same_block_rows s (root_margins s) alike) (node_marks cs (root_margins s) refl alike (rows_renoted y.root root r)) further (λ last. stream_ties ys more rest others last)))
 
 -- where the first document is without a `---`
 
@@ -217,11 +217,11 @@ bare_ties [] (bare_root b r more) e found left = absurd cc
 bare_ties {s = s} {ms = ms} {cs = cs} (y ∷ ys) (bare_root {d = d} {z = z} {zs = zs} {inner = inner} {qs = qs} b r more) e (one_found {d = f} {x = x} words alike calm others) left =
     let root : bare z.root ≡ bare y.root = ap (first_root (bare_tree z)) e in
     let rest : map bare_tree zs ≡ map bare_tree ys = ap other_trees e in
-    let bs : List Row = rows (setting s ms) (root_spot s) x.root in
-    let gs : List Row = rows (setting s cs) (root_spot s) y.root in
+    let bs : List Row = rows (setting s ms) (root_margins s) x.root in
+    let gs : List Row = rows (setting s cs) (root_margins s) y.root in
     node_ties (begun_at f.start bs) (begun_at d.start gs) (begun_placed d.start inner)
-    (begun_shaped f.start bs ∙ (same_block_rows s (root_spot s) alike ∙ sym (begun_shaped d.start gs)))
-    (row_marks d.start gs ∙ (ap (begun_marks d.start) (node_marks cs (root_spot s) refl alike (rows_renoted y.root root r)) ∙ sym (found_marks d.start inner)))
+    (begun_shaped f.start bs ∙ (same_block_rows s (root_margins s) alike ∙ sym (begun_shaped d.start gs)))
+    (row_marks d.start gs ∙ (ap (begun_marks d.start) (node_marks cs (root_margins s) refl alike (rows_renoted y.root root r)) ∙ sym (found_marks d.start inner)))
     left (λ last. stream_ties ys more rest others last)
 
 pub all_ties : {u : List ℕ} {s : Style} {ms cs : List CommentValue} {b c : Bool} {j : ℕ} {ds es : List Doc} {xs zs : List DocumentTree} {ps : List PlacedRow} (ys : List DocumentTree) → c ≡ b → AllRoots u (setting s ms) b es xs zs ps

@@ -5,7 +5,7 @@ use Rattle.std.specs.Str.{IsUtf8}
 use Rattle.yf_chars.specs.Class.{is_white, is_break_char}
 use Rattle.yf_chars.specs.Text.{code, next}
 use Rattle.yf_chars.proofs.TextLemmas.{next_ascii}
-use Rattle.yf_lines.specs.Basic.{Break, Spaces}
+use Rattle.yf_lines.specs.Basic.{Spaces}
 use Rattle.yf_comments.specs.Comment.{CommentValue}
 use Rattle.yf_comments.specs.Comments.{Blank, is_gap}
 use Rattle.yf_comments.specs.GapLines.{GapLine, remark}
@@ -13,7 +13,8 @@ use Rattle.yf_comments.proofs.BlankLemmas.{gap_below, not_last, same_place}
 use Rattle.yf_grammar.specs.Productions.ReadParts.{BlankSince, NotedSince}
 use Rattle.yf_grammar.specs.Productions.ReadParts.BlankSince.{blank_line, past_gap}
 use Rattle.yf_grammar.specs.Productions.ReadParts.NotedSince.{noted, not_noted}
-use Rattle.yf_grammar.proofs.Ends.SinceKnown.{since_before}
+use Rattle.yf_grammar.proofs.Ends.SinceKnown.{since_before, SinceView, since_view}
+use Rattle.yf_grammar.proofs.Ends.SinceKnown.SinceView.{line_view, gap_view}
 use Rattle.yf_emit.specs.Layouts.Decorated.{blank_if}
 use Rattle.yf_emit.specs.Layouts.Layout.{may_be_blank_after}
 use Rattle.yf_forms.specs.Nodes.Lines.{trimmed}
@@ -64,21 +65,13 @@ since_past {t} {f} (suc k) i s d =
     let end : i + 1 + k ≡ i + suc k = omega arith in
     subst (λ z. BlankSince t f z) end (since_past k (i + 1) (spaces_tail s) one)
 
-data SinceView (t : List ℕ) (f j : ℕ) : Type 0 where
-  line_view : (i : ℕ) → Break t i j → SinceView t f j
-  gap_view : (i : ℕ) → BlankSince t f i → is_gap (code t i) ≡ true → next t i ≡ j → SinceView t f j
-
-since_view : {t : List ℕ} {f j : ℕ} → BlankSince t f j → SinceView t f j
-since_view (blank_line {i = i} l b k) = line_view i k
-since_view (past_gap {i = i} d e) = gap_view i d e refl
-
 one_back : {t : List ℕ} {f q : ℕ} → IsUtf8 t → code t q ≡ 32 → BlankSince t f (q + 1) → BlankSince t f q
 one_back {t} {f} {q} u e d = by (since_view d) where
   place : next t q ≡ q + 1
   place = next_ascii t q (omega (arith, e))
 
   by : SinceView t f (q + 1) → BlankSince t f q
-  by (line_view i k) = absurd (not_last t u q (omega (arith, e)) place (λ z. omega (arith, e, z)) (λ z. omega (arith, e, z)) k)
+  by (line_view i m b k) = absurd (not_last t u q (omega (arith, e)) place (λ z. omega (arith, e, z)) (λ z. omega (arith, e, z)) k)
   by (gap_view i c v w) = subst (λ z. BlankSince t f z) (same_place t i q u (gap_below (code t i) v) (omega (arith, e)) (w ∙ sym place)) c
 
 since_back : {t : List ℕ} {f : ℕ} (k i : ℕ) → IsUtf8 t → Spaces t i k → BlankSince t f (i + k) → BlankSince t f i

@@ -16,15 +16,16 @@ use Rattle.yf_lines.proofs.RestLemmas.{Rest, rest_break, rest_spaces, rest_text}
 use Rattle.yf_comments.specs.Comment.{CommentValue}
 use Rattle.yf_comments.specs.Comments.{Blank, BlankBefore, CommentLine, CommentText, is_gap}
 use Rattle.yf_comments.specs.Comments.Blank.{text_begins, break_ends, white_ends}
-use Rattle.yf_comments.specs.Comments.BlankBefore.{blank_line as line_before, past_gap as gap_before}
 use Rattle.yf_comments.specs.Comments.BreakOrEnd.{by_break}
 use Rattle.yf_comments.specs.Comments.CommentLine.{whites_line, comment_line}
 use Rattle.yf_comments.specs.Comments.CommentText.{comment_text}
 use Rattle.yf_comments.specs.GapLines.{GapLine, blank, remark, gap_then, AreGapLines, IsRemark, remarks_of}
 use Rattle.yf_comments.proofs.BlankLemmas.{past_break}
 use Rattle.yf_comments.proofs.GapLinesLemmas.{texts, remark_at, spaces_in_line}
+use Rattle.yf_comments.proofs.RowLemmas.{hash_white}
 use Rattle.yf_grammar.specs.Productions.ReadParts.{BlankSince}
 use Rattle.yf_grammar.specs.Productions.ReadParts.BlankSince.{blank_line, past_gap}
+use Rattle.yf_grammar.proofs.Ends.SinceKnown.{since_zero}
 use Rattle.yf_stream.proofs.BlankNotes.FloorLemmas.{since_over}
 use Rattle.yf_print.specs.Layouts.SourceColumns.{own_column}
 use Rattle.yf_emit.proofs.Columns.SourceColumns.{column_break}
@@ -44,14 +45,6 @@ gap_order (remark_is_at w s e f l b n a) = let m = gap_order a in omega (arith, 
 
 -- After a comment.
 
-since_zero : {t : List ℕ} {j : ℕ} → BlankBefore t j → BlankSince t 0 j
-since_zero (line_before b k) = blank_line (omega arith) b k
-since_zero (gap_before b e) = past_gap (since_zero b) e
-
-pub since_later : {t : List ℕ} {f j : ℕ} → BlankSince t f j → f < j
-since_later (blank_line l b k) = let m = break_forward k in omega (arith, l, m)
-since_later {t} (past_gap {i = i} d e) = let l = since_later d in let m = next_later t i in omega (arith, l, m)
-
 -- no line begins from a place on up to another
 none_since : {t : List ℕ} {p j : ℕ} → ((h : ℕ) → p < h → h ≤ j → LineStart t h → ⊥) → BlankSince t p j → ⊥
 none_since f (blank_line {j = j} l b k) = f j (let m = break_forward k in omega (arith, l, m)) (omega arith) (after_break k)
@@ -64,10 +57,6 @@ no_blank_from {t} {p} w f l (white_ends {i = i} b e) =
     let place : next t i ≡ i + 1 = next_ascii t i (white_below (code t i) e) in
     ⊎_elim (λ (same : p ≡ i). true≢false (sym e ∙ (ap (λ k. is_white (code t k)) (sym same) ∙ w)))
     (λ (n : p ≡ i → ⊥). no_blank_from w (λ h m k s. f h m (omega (arith, k, place)) s) (omega (arith, l, place, n)) b) (cases_eq p i)
-
-hash_white : (c : ℕ) → c ≡ 35 → is_white c ≡ false
-unfolding is_white
-hash_white c e = ap is_white e
 
 hash_solid : (c : ℕ) → c ≡ 35 → is_gap c ≡ false
 unfolding is_gap is_white is_break_char

@@ -8,7 +8,7 @@ use Rattle.yf_events.specs.declared.directive.Directive.{Directive}
 use Rattle.yf_events.specs.declared.document.Doc.{Doc}
 use Rattle.yf_emit.specs.Layouts.FitDocuments.{FitDocuments, fit_no_documents, fit_document}
 use Rattle.yf_emit.specs.Preservation.FoundTrees.{FoundTrees, none_found, one_found, words_of}
-use Rattle.yf_forms.specs.NormalForms.Normal.{LayoutSetting, root_spot}
+use Rattle.yf_forms.specs.NormalForms.Normal.{LayoutSetting, root_margins}
 use Rattle.yf_print.specs.Layouts.Rows.{Row, beginning_at, directive_row, document_rows, end_rows, rows, start_row, stream_rows, all_rows, bare_rows, begun_at}
 use Rattle.yf_emit.proofs.SecondRun.AlikeLemmas.{setting}
 use Rattle.yf_emit.proofs.RowNodes.BareNodes.{bare, bare_tree}
@@ -69,7 +69,7 @@ other_trees (w ∷ ws) = ws
 
 document_made : {t : List ℕ} {f : ℕ} {ps : List PlacedRow} {rest : List EventInText} (c : LayoutSetting) (is_first : Bool) (d b : Doc) (x y : DocumentTree) (cs : List CommentValue) (heads : List PlacedRow) → words_of d.directives ≡ words_of b.directives
     → HeadRows b.start (heads_before is_first b.directives) heads
-    → NotesMade t f ps (rows c (root_spot c.style) x.root) (rows (setting c.style cs) (root_spot c.style) y.root) (flat y.root) ((unplaced (document_ends y.closed) ∷ []) ++ rest)
+    → NotesMade t f ps (rows c (root_margins c.style) x.root) (rows (setting c.style cs) (root_margins c.style) y.root) (flat y.root) ((unplaced (document_ends y.closed) ∷ []) ++ rest)
     → NotesMade t f (heads ++ ps) (document_rows c is_first d x) (document_rows (setting c.style cs) is_first b y) (flat_document y) rest
 document_made {f = f} c is_first d b x y cs heads e h a = record {
   ends = a.ends;
@@ -90,7 +90,7 @@ documents_noted {t} {c} cs (y ∷ ys) {is_first} {f} (one_root {z = z} {zs = zs}
     let trees : map bare_tree zs ≡ map bare_tree ys = ap other_trees e in
     let last : List EventInText = unplaced (document_ends y.closed) ∷ [] in
     let here : AllNoted t f (flat_document y ++ (flat_map flat_document ys ++ rest)) = regrouped t f (flat_document y) (flat_map flat_document ys) rest n in
-    let inner = node_notes cs (root_spot c.style) (root_spot c.style) refl refl a (rows_renoted y.root root r) fit (last ++ (flat_map flat_document ys ++ rest))
+    let inner = node_notes cs (root_margins c.style) (root_margins c.style) refl refl a (rows_renoted y.root root r) fit (last ++ (flat_map flat_document ys ++ rest))
     (regrouped t f (flat y.root) last (flat_map flat_document ys ++ rest) here.1) in
     let one = document_made c is_first d b x y cs heads words h inner in
     both_made one (documents_noted cs ys others trees more fits rest one.notes)
@@ -102,7 +102,7 @@ begun_notes a b q (note_kept h e more) = note_kept h e more
 begun_notes a b q (note_moved h n l more) = note_moved h n l more
 
 bare_made : {t : List ℕ} {f : ℕ} {ps : List PlacedRow} {rest : List EventInText} (c : LayoutSetting) (d b : Doc) (x y : DocumentTree) (cs : List CommentValue)
-    → NotesMade t f ps (rows c (root_spot c.style) x.root) (rows (setting c.style cs) (root_spot c.style) y.root) (flat y.root) ((unplaced (document_ends y.closed) ∷ []) ++ rest)
+    → NotesMade t f ps (rows c (root_margins c.style) x.root) (rows (setting c.style cs) (root_margins c.style) y.root) (flat y.root) ((unplaced (document_ends y.closed) ∷ []) ++ rest)
     → NotesMade t f (begun_placed b.start ps) (bare_rows c d x) (bare_rows (setting c.style cs) b y) (flat_document y) rest
 bare_made c d b x y cs a = record {
   ends = a.ends;
@@ -121,7 +121,7 @@ all_noted_documents {t} {c} cs (y ∷ ys) {f = f} (bare_root {z = z} {zs = zs} a
     let trees : map bare_tree zs ≡ map bare_tree ys = ap other_trees e in
     let last : List EventInText = unplaced (document_ends y.closed) ∷ [] in
     let here : AllNoted t f (flat_document y ++ (flat_map flat_document ys ++ rest)) = regrouped t f (flat_document y) (flat_map flat_document ys) rest n in
-    let inner = node_notes cs (root_spot c.style) (root_spot c.style) refl refl a (rows_renoted y.root root r) fit (last ++ (flat_map flat_document ys ++ rest))
+    let inner = node_notes cs (root_margins c.style) (root_margins c.style) refl refl a (rows_renoted y.root root r) fit (last ++ (flat_map flat_document ys ++ rest))
     (regrouped t f (flat y.root) last (flat_map flat_document ys ++ rest) here.1) in
     let one = bare_made c d b x y cs inner in
     both_made one (documents_noted cs ys others trees more fits rest one.notes)

@@ -24,7 +24,7 @@ use Rattle.yf_forms.specs.declared.style.Style.{Style}
 use Rattle.yf_emit.specs.Preservation.AlikeBlocks.{AlikeBlocks, alike_lines, AlikeBlockItems, no_block_items, block_item, AlikeBlockPairs, no_block_pairs, block_pair}
 use Rattle.yf_forms.specs.Nodes.BlockLines.{content_lines, final_feeds}
 use Rattle.yf_emit.specs.Layouts.ReadableTrees.{Fit, fit_nothing, fit_line, fit_scalar, fit_sequence, fit_mapping, FitItems, fit_item, FitPairs, fit_pair, FitScalar, LineNode, is_block_style, is_inline}
-use Rattle.yf_forms.specs.NormalForms.Normal.{LayoutSetting, Spot, entry_or, inner_spot, is_implicit, key_comment, key_spot, value_entries, value_of_implicit}
+use Rattle.yf_forms.specs.NormalForms.Normal.{LayoutSetting, Margins, entry_or, inner_margins, is_implicit, key_comment, key_margins, value_entries, value_of_implicit}
 use Rattle.yf_forms.specs.Nodes.OneLine.{props_text, written}
 use Rattle.yf_emit.specs.Layouts.RowShapes.{KeysAgree}
 use Rattle.yf_print.specs.Layouts.Rows.{Row, begins_below, blank_before_entry, block_scalar, colon_row, entry_row, key_row, one_line_row, props_row, rows, rows_of_items, rows_of_pairs}
@@ -167,23 +167,23 @@ module _ {t : List ℕ} {f : ℕ} where
 
 -- Trees: x was laid out, and y is found.
 mutual
-  pub node_notes : {t : List ℕ} {c : LayoutSetting} {laid : Spot} {f : ℕ} {x y : Node} {ps : List PlacedRow} (cs : List CommentValue) (spot to : Spot) → spot.entries ≡ laid.entries → to.entries ≡ laid.entries → AlikeBlocks c.style c.comments cs x y → NodeRows t c laid x y ps → Fit c.style x
-      → (rest : List EventInText) → AllNoted t f (flat y ++ rest) → NotesMade t f ps (rows c spot x) (rows (setting c.style cs) to y) (flat y) rest
-  node_notes cs spot to e g (alike_lines (alike_scalars q) b) (no_rows h) fit rest n = record { ends = []; rows = no_row_notes; notes = n.1; at = λ o z. end_same o z }
-  node_notes {t} {c} {f = f} {x = x} cs spot to e g a (line_rows {y = y} {p = p} inline some h i k st l m o w) fit rest n =
+  pub node_notes : {t : List ℕ} {c : LayoutSetting} {laid : Margins} {f : ℕ} {x y : Node} {ps : List PlacedRow} (cs : List CommentValue) (margins to : Margins) → margins.entries ≡ laid.entries → to.entries ≡ laid.entries → AlikeBlocks c.style c.comments cs x y → NodeRows t c laid x y ps → Fit c.style x
+      → (rest : List EventInText) → AllNoted t f (flat y ++ rest) → NotesMade t f ps (rows c margins x) (rows (setting c.style cs) to y) (flat y) rest
+  node_notes cs margins to e g (alike_lines (alike_scalars q) b) (no_rows h) fit rest n = record { ends = []; rows = no_row_notes; notes = n.1; at = λ o z. end_same o z }
+  node_notes {t} {c} {f = f} {x = x} cs margins to e g a (line_rows {y = y} {p = p} inline some h i k st l m o w) fit rest n =
       let alike : Alike Anywhere x y = blocks_alike a in
       let within : is_inline x ≡ true = same_inline alike ∙ inline in
       let flow : AllFlow (flat y) = alike_flow alike (inline_flow c.style fit within) in
-      let base : RowNotes t f (p ∷ []) (one_line_row spot.column x (written c.style x)) (one_line_row to.column y (written c.style y)) [] =
-      line_notes spot.column to.column x y (written c.style x) (written c.style y) (λ z. some (sym (same_written c.style alike) ∙ z)) some in
+      let base : RowNotes t f (p ∷ []) (one_line_row margins.column x (written c.style x)) (one_line_row to.column y (written c.style y)) [] =
+      line_notes margins.column to.column x y (written c.style x) (written c.style y) (λ z. some (sym (same_written c.style alike) ∙ z)) some in
       record {
         ends = [];
-        rows = subst (λ z. RowNotes t f (p ∷ []) z (rows (setting c.style cs) to y) []) (sym (inline_rows c spot x within))
-            (subst (λ z. RowNotes t f (p ∷ []) (one_line_row spot.column x (written c.style x)) z []) (sym (inline_rows (setting c.style cs) to y inline)) base);
+        rows = subst (λ z. RowNotes t f (p ∷ []) z (rows (setting c.style cs) to y) []) (sym (inline_rows c margins x within))
+            (subst (λ z. RowNotes t f (p ∷ []) (one_line_row margins.column x (written c.style x)) z []) (sym (inline_rows (setting c.style cs) to y inline)) base);
         notes = flow_passed t f (flat y) rest flow n;
         at = λ o z. flow_at o z (flat y) flow;
       }
-  node_notes {t} {c} {f = f} cs spot to e g (alike_lines (alike_scalars {at = at} {bt = bt} {props = props} {style = style} {text = text} {lines = lines} q) b) (scalar_rows {p = p} block inside items leaves key) fit rest n =
+  node_notes {t} {c} {f = f} cs margins to e g (alike_lines (alike_scalars {at = at} {bt = bt} {props = props} {style = style} {text = text} {lines = lines} q) b) (scalar_rows {p = p} block inside items leaves key) fit rest n =
       let fits = scalar_fits c.style block fit in
       let s = span_of bt.span (sym q ∙ fits.0) in
       let x : Node = scalar at props style text lines in
@@ -192,49 +192,49 @@ mutual
       let moved : (z : ℕ) → floor_after_event z event (scalar_node props style text) ≡ s.0.end = λ z. block_moved z event props text style block ∙ ap (λ o. end_or z o) s.1 in
       let last : LastEnd p.leaves s.0.end = subst (λ z. LastEnd z s.0.end) (sym (leaves ∙ ap spans_of_leaf s.1)) last_end in
       let some = body_some to.lines (final_feeds text - 1) (content_lines style text lines) fits.1.last in
-      let base : RowNotes t f (p ∷ []) (block_scalar c.style spot x props style text lines) (block_scalar c.style to y props style text lines) (s.0.end ∷ []) = note_moved bare_head some last no_row_notes in
+      let base : RowNotes t f (p ∷ []) (block_scalar c.style margins x props style text lines) (block_scalar c.style to y props style text lines) (s.0.end ∷ []) = note_moved bare_head some last no_row_notes in
       record {
         ends = s.0.end ∷ [];
-        rows = subst (λ z. RowNotes t f (p ∷ []) z (rows (setting c.style cs) to y) (s.0.end ∷ [])) (sym (scalar_rows_are c spot at props text lines style block))
-            (subst (λ z. RowNotes t f (p ∷ []) (block_scalar c.style spot x props style text lines) z (s.0.end ∷ [])) (sym (scalar_rows_are (setting c.style cs) to bt props text lines style block)) base);
+        rows = subst (λ z. RowNotes t f (p ∷ []) z (rows (setting c.style cs) to y) (s.0.end ∷ [])) (sym (scalar_rows_are c margins at props text lines style block))
+            (subst (λ z. RowNotes t f (p ∷ []) (block_scalar c.style margins x props style text lines) z (s.0.end ∷ [])) (sym (scalar_rows_are (setting c.style cs) to bt props text lines style block)) base);
         notes = subst (λ z. AllNoted t z rest) (moved f) n.1;
         at = λ o z. ap (λ w. end_before o z w) (moved z);
       }
-  node_notes {t} {c} {f = f} cs spot to e g a (sequence_rows {at = at} {bt = bt} {props = props} {xs = xs} {ys = ys} {ps = ps} block none r) fit rest n =
+  node_notes {t} {c} {f = f} cs margins to e g a (sequence_rows {at = at} {bt = bt} {props = props} {xs = xs} {ys = ys} {ps = ps} block none r) fit rest n =
       let last : List EventInText = unplaced sequence_ends ∷ [] in
-      let inner = items_notes cs spot.entries to.entries e g (sequence_blocks a block) r (items_fit c.style fit) (last ++ rest) (regrouped t f (flat_items ys) last rest n.1) in
+      let inner = items_notes cs margins.entries to.entries e g (sequence_blocks a block) r (items_fit c.style fit) (last ++ rest) (regrouped t f (flat_items ys) last rest n.1) in
       record {
         ends = inner.ends;
-        rows = subst (λ z. RowNotes t f ps (z ++ rows_of_items c spot.entries xs) (rows (setting c.style cs) to (sequence bt false props ys)) inner.ends) (sym (no_props_marks spot.column (props_text props) none))
-            (subst (λ z. RowNotes t f ps (rows_of_items c spot.entries xs) (z ++ rows_of_items (setting c.style cs) to.entries ys) inner.ends) (sym (no_props_marks to.column (props_text props) none)) inner.rows);
+        rows = subst (λ z. RowNotes t f ps (z ++ rows_of_items c margins.entries xs) (rows (setting c.style cs) to (sequence bt false props ys)) inner.ends) (sym (no_props_marks margins.column (props_text props) none))
+            (subst (λ z. RowNotes t f ps (rows_of_items c margins.entries xs) (z ++ rows_of_items (setting c.style cs) to.entries ys) inner.ends) (sym (no_props_marks to.column (props_text props) none)) inner.rows);
         notes = inner.notes.1;
         at = λ o z. start_unlined (placed bt (sequence_starts false props) []) (unplaced sequence_ends) (λ v p. refl) (λ v p. refl) (flat_items ys) o z ∙ inner.at o z;
       }
-  node_notes {t} {c} {f = f} cs spot to e g a (sequence_after {at = at} {bt = bt} {props = props} {xs = xs} {ys = ys} {ps = ps} block some h i k r) fit rest n =
+  node_notes {t} {c} {f = f} cs margins to e g a (sequence_after {at = at} {bt = bt} {props = props} {xs = xs} {ys = ys} {ps = ps} block some h i k r) fit rest n =
       let last : List EventInText = unplaced sequence_ends ∷ [] in
-      let inner = items_notes cs spot.entries to.entries e g (sequence_blocks a block) r (items_fit c.style fit) (last ++ rest) (regrouped t f (flat_items ys) last rest n.1) in
+      let inner = items_notes cs margins.entries to.entries e g (sequence_blocks a block) r (items_fit c.style fit) (last ++ rest) (regrouped t f (flat_items ys) last rest n.1) in
       record {
         ends = inner.ends;
-        rows = notes_join (props_notes spot.column to.column (props_text props) some) inner.rows;
+        rows = notes_join (props_notes margins.column to.column (props_text props) some) inner.rows;
         notes = inner.notes.1;
         at = λ o z. start_unlined (placed bt (sequence_starts false props) []) (unplaced sequence_ends) (λ v p. refl) (λ v p. refl) (flat_items ys) o z ∙ inner.at o z;
       }
-  node_notes {t} {c} {f = f} cs spot to e g a (mapping_rows {at = at} {bt = bt} {props = props} {xs = xs} {ys = ys} {ps = ps} block none r) fit rest n =
+  node_notes {t} {c} {f = f} cs margins to e g a (mapping_rows {at = at} {bt = bt} {props = props} {xs = xs} {ys = ys} {ps = ps} block none r) fit rest n =
       let last : List EventInText = unplaced mapping_ends ∷ [] in
-      let inner = pairs_notes cs spot.entries to.entries e g (mapping_blocks a block) r (pairs_fit c.style fit) (last ++ rest) (regrouped t f (flat_pairs ys) last rest n.1) in
+      let inner = pairs_notes cs margins.entries to.entries e g (mapping_blocks a block) r (pairs_fit c.style fit) (last ++ rest) (regrouped t f (flat_pairs ys) last rest n.1) in
       record {
         ends = inner.ends;
-        rows = subst (λ z. RowNotes t f ps (z ++ rows_of_pairs c spot.entries xs) (rows (setting c.style cs) to (mapping bt false props ys)) inner.ends) (sym (no_props_marks spot.column (props_text props) none))
-            (subst (λ z. RowNotes t f ps (rows_of_pairs c spot.entries xs) (z ++ rows_of_pairs (setting c.style cs) to.entries ys) inner.ends) (sym (no_props_marks to.column (props_text props) none)) inner.rows);
+        rows = subst (λ z. RowNotes t f ps (z ++ rows_of_pairs c margins.entries xs) (rows (setting c.style cs) to (mapping bt false props ys)) inner.ends) (sym (no_props_marks margins.column (props_text props) none))
+            (subst (λ z. RowNotes t f ps (rows_of_pairs c margins.entries xs) (z ++ rows_of_pairs (setting c.style cs) to.entries ys) inner.ends) (sym (no_props_marks to.column (props_text props) none)) inner.rows);
         notes = inner.notes.1;
         at = λ o z. start_unlined (placed bt (mapping_starts false props) []) (unplaced mapping_ends) (λ v p. refl) (λ v p. refl) (flat_pairs ys) o z ∙ inner.at o z;
       }
-  node_notes {t} {c} {f = f} cs spot to e g a (mapping_after {at = at} {bt = bt} {props = props} {xs = xs} {ys = ys} {ps = ps} block some h i k r) fit rest n =
+  node_notes {t} {c} {f = f} cs margins to e g a (mapping_after {at = at} {bt = bt} {props = props} {xs = xs} {ys = ys} {ps = ps} block some h i k r) fit rest n =
       let last : List EventInText = unplaced mapping_ends ∷ [] in
-      let inner = pairs_notes cs spot.entries to.entries e g (mapping_blocks a block) r (pairs_fit c.style fit) (last ++ rest) (regrouped t f (flat_pairs ys) last rest n.1) in
+      let inner = pairs_notes cs margins.entries to.entries e g (mapping_blocks a block) r (pairs_fit c.style fit) (last ++ rest) (regrouped t f (flat_pairs ys) last rest n.1) in
       record {
         ends = inner.ends;
-        rows = notes_join (props_notes spot.column to.column (props_text props) some) inner.rows;
+        rows = notes_join (props_notes margins.column to.column (props_text props) some) inner.rows;
         notes = inner.notes.1;
         at = λ o z. start_unlined (placed bt (mapping_starts false props) []) (unplaced mapping_ends) (λ v p. refl) (λ v p. refl) (flat_pairs ys) o z ∙ inner.at o z;
       }
@@ -244,7 +244,7 @@ mutual
   items_notes cs column to e g no_block_items no_item_rows fit rest n = record { ends = []; rows = no_row_notes; notes = n; at = λ o z. refl }
   items_notes {t} {c} {f = f} cs column to e g (block_item a b) (item_rows {x = x} {y = y} {ys = ys} r s more) (fit_item fit fits) rest n =
       let here : AllNoted t f (flat y ++ (flat_items ys ++ rest)) = regrouped t f (flat y) (flat_items ys) rest n in
-      let one = node_notes cs (inner_spot c.style column) (inner_spot c.style to) (ap (λ z. z + c.style.indent) e) (ap (λ z. z + c.style.indent) g) a r fit (flat_items ys ++ rest) here in
+      let one = node_notes cs (inner_margins c.style column) (inner_margins c.style to) (ap (λ z. z + c.style.indent) e) (ap (λ z. z + c.style.indent) g) a r fit (flat_items ys ++ rest) here in
       let signed = sign_notes (entry_row column (codes "-") x) (entry_row to (codes "-") y) (c.style.indent - 1) s
       (λ q h. entry_head_of (standing y).entry (blank_before_entry (standing x).entry) (entry_noted t f y (flat_items ys ++ rest) here) h) refl one.rows in
       both_made (with_rows one signed) (items_notes cs column to e g b more fits rest one.notes)
@@ -255,10 +255,10 @@ mutual
   pair_notes {t} {c} {m} {f} {k} {v} {l} {w} cs column to e g a b agree (explicit_rows n r s d j) fit fits rest noted =
       let here : is_implicit c.style to l ≡ false = ap (λ z. is_implicit c.style z l) g ∙ n in
       let there : is_implicit c.style column k ≡ false = ap (λ z. is_implicit c.style z k) e ∙ (same_implicit c.style m (blocks_alike a) ∙ n) in
-      let key = node_notes cs (key_spot c.style column k) (key_spot c.style to l) (ap (λ z. z + c.style.indent) e) (ap (λ z. z + c.style.indent) g) a r fit (flat w ++ rest) noted in
+      let key = node_notes cs (key_margins c.style column k) (key_margins c.style to l) (ap (λ z. z + c.style.indent) e) (ap (λ z. z + c.style.indent) g) a r fit (flat w ++ rest) noted in
       let signed = sign_notes (entry_row column (codes "?") k) (entry_row to (codes "?") l) (c.style.indent - 1) s
       (λ q h. entry_head_of (standing l).entry (blank_before_entry (standing k).entry) (entry_noted t f l (flat w ++ rest) noted) h) refl key.rows in
-      let value = node_notes cs (inner_spot c.style column) (inner_spot c.style to) (ap (λ z. z + c.style.indent) e) (ap (λ z. z + c.style.indent) g) b d fits rest key.notes in
+      let value = node_notes cs (inner_margins c.style column) (inner_margins c.style to) (ap (λ z. z + c.style.indent) e) (ap (λ z. z + c.style.indent) g) b d fits rest key.notes in
       let follows = sign_notes (colon_row column k) (colon_row to l) (c.style.indent - 1) j (λ q h. bare_head) refl value.rows in
       by_pair c (setting c.style cs) column to k v l w false there here (both_made (with_rows key signed) (with_rows value follows))
   pair_notes {t} {c} {m} {f} {k} {v} {l} {w} {ps} cs column to e g a b agree (implicit_rows flag q n on d j) fit fits rest noted =

@@ -17,7 +17,7 @@ use Rattle.yf_emit.proofs.SameReading.CommentsCut.{each_none, each_more, Under, 
 use Rattle.yf_emit.proofs.RowNodes.PlacedRows.{PlacedRow, RowsIn, last_row, row_before}
 use Rattle.yf_emit.proofs.RowNodes.QuietPlaces.{ascend_under}
 use Rattle.yf_emit.proofs.Derived.RowEnds.{first_deco, after_decos}
-use Rattle.yf_emit.proofs.ReadAgain.RowSpots.{Spot, spot_noted, spot_of}
+use Rattle.yf_emit.proofs.ReadAgain.RowExtents.{RowExtent, extent_noted, extent_of}
 use Rattle.yf_emit.proofs.Derived.RowsUtf8.{RowLines, row_more}
 use Rattle.yf_print.specs.Layouts.KeptColumns.{Columns}
 use Rattle.yf_emit.proofs.SameReading.SourceOffsets.{noted_upward}
@@ -32,22 +32,22 @@ decos_beside g c comments [] = none_beside
 decos_beside g c comments (row ∷ rows) = one_beside (decos_beside g c (comments_left row comments) rows)
 
 -- where the comments after each row are
-pub data Spots (t : List ℕ) : List PlacedRow → List Deco → List (List CommentValue) → Type 0 where
-  last_spot : {p : PlacedRow} {d : Deco} {own : List CommentValue} {j : ℕ} → Spot t d p own j → Spots t (p ∷ []) (d ∷ []) (own ∷ [])
-  row_spot : {p o : PlacedRow} {ps : List PlacedRow} {d : Deco} {ds : List Deco} {own : List CommentValue} {owns : List (List CommentValue)} {k : ℕ} → Spot t d p own k → k ≤ o.from
-      → Spots t (o ∷ ps) ds owns → Spots t (p ∷ o ∷ ps) (d ∷ ds) (own ∷ owns)
+pub data RowExtents (t : List ℕ) : List PlacedRow → List Deco → List (List CommentValue) → Type 0 where
+  last_extent : {p : PlacedRow} {d : Deco} {own : List CommentValue} {j : ℕ} → RowExtent t d p own j → RowExtents t (p ∷ []) (d ∷ []) (own ∷ [])
+  row_extent : {p o : PlacedRow} {ps : List PlacedRow} {d : Deco} {ds : List Deco} {own : List CommentValue} {owns : List (List CommentValue)} {k : ℕ} → RowExtent t d p own k → k ≤ o.from
+      → RowExtents t (o ∷ ps) ds owns → RowExtents t (p ∷ o ∷ ps) (d ∷ ds) (own ∷ owns)
 
 pub record RowsOwn (t : List ℕ) (ps : List PlacedRow) (ds : List Deco) (i : ℕ) (cs : List CommentValue) (j : ℕ) : Type 0 where
   pub owns : List (List CommentValue)
   pub are : cs ≡ all_of owns
   pub each : Owns ps ds i owns j
-  pub spots : Spots t ps ds owns
+  pub extents : RowExtents t ps ds owns
 
 -- one more row
-spot_before : {t : List ℕ} {p : PlacedRow} {ps : List PlacedRow} {d : Deco} {ds : List Deco} {own : List CommentValue} {owns : List (List CommentValue)} {k l j : ℕ} → Spot t d p own k → k ≤ l → Owns ps ds l owns j → Spots t ps ds owns
-    → Spots t (p ∷ ps) (d ∷ ds) (own ∷ owns)
-spot_before a n (last_owns f l m up u is) more = row_spot a (omega (arith, n, f)) more
-spot_before a n (row_owns f l m up u is o others) more = row_spot a (omega (arith, n, f)) more
+extent_before : {t : List ℕ} {p : PlacedRow} {ps : List PlacedRow} {d : Deco} {ds : List Deco} {own : List CommentValue} {owns : List (List CommentValue)} {k l j : ℕ} → RowExtent t d p own k → k ≤ l → Owns ps ds l owns j → RowExtents t ps ds owns
+    → RowExtents t (p ∷ ps) (d ∷ ds) (own ∷ owns)
+extent_before a n (last_owns f l m up u is) more = row_extent a (omega (arith, n, f)) more
+extent_before a n (row_owns f l m up u is o others) more = row_extent a (omega (arith, n, f)) more
 
 pub rows_own : {t : List ℕ} {xs : List Row} {ps : List PlacedRow} {ds : List Deco} {i j : ℕ} {cs : List CommentValue} {r : List ℕ} → IsUtf8 t → Beside xs ds → RowLines xs → AreDecos ds → Rest t i (inline_then xs ds r)
     → RowsIn t xs ps ds i cs j r → RowsOwn t ps ds i cs j
@@ -57,7 +57,7 @@ rows_own u (one_beside {d = d} none_beside) (row_more text seen body more) fit w
       owns = own ∷ [];
       are = sym (append-nil own);
       each = last_owns at.from at.order (ascend_order e.ascend) (upward_of e.ascend) (ascend_under e.ascend) e.is;
-      spots = last_spot (spot_of u d r text seen (first_deco fit) at e w);
+      extents = last_extent (extent_of u d r text seen (first_deco fit) at e w);
     }
 rows_own u (one_beside {d = d} (one_beside {d = f} {ds = ds} b)) (row_more text seen body more) fit w (row_before {y = y} {xs = xs} {k = k} {own = own} {r = r} at e rest others) =
     let spaces = rest_spaces y.column k u rest in
@@ -66,7 +66,7 @@ rows_own u (one_beside {d = d} (one_beside {d = f} {ds = ds} b)) (row_more text 
       owns = own ∷ further.owns;
       are = ap (λ z. own ++ z) further.are;
       each = row_owns at.from at.order (ascend_order e.ascend) (upward_of e.ascend) (ascend_under e.ascend) e.is (omega arith) further.each;
-      spots = spot_before {k = k} (spot_of u d (lines_then (y ∷ xs) (f ∷ ds) r) text seen (first_deco fit) at e w) (omega arith) further.each further.spots;
+      extents = extent_before {k = k} (extent_of u d (lines_then (y ∷ xs) (f ∷ ds) r) text seen (first_deco fit) at e w) (omega arith) further.each further.extents;
     }
 
 -- with the notes on blank lines
@@ -97,28 +97,28 @@ pub record OwnsNoted (v : List ℕ) (ps : List PlacedRow) (ds : List Deco) (i j 
   pub owns : List (List CommentValue)
   pub are : noted ≡ all_of owns
   pub each : Owns ps ds i owns j
-  pub spots : Spots v ps ds owns
+  pub extents : RowExtents v ps ds owns
 
-pub owns_noted : {t v : List ℕ} {es : List EventInText} {ps : List PlacedRow} {ds : List Deco} {i j : ℕ} {owns : List (List CommentValue)} {noted : List CommentValue} → Owns ps ds i owns j → Spots v ps ds owns
+pub owns_noted : {t v : List ℕ} {es : List EventInText} {ps : List PlacedRow} {ds : List Deco} {i j : ℕ} {owns : List (List CommentValue)} {noted : List CommentValue} → Owns ps ds i owns j → RowExtents v ps ds owns
     → NotedComments t es (all_of owns) noted → OwnsNoted v ps ds i j noted
-owns_noted {t} {es = es} (last_owns {own = own} f l m up u is) (last_spot a) n =
+owns_noted {t} {es = es} (last_owns {own = own} f l m up u is) (last_extent a) n =
     let w = noted_parts own n in
     let none : w.two ≡ [] = nothing w.second in
     record {
       owns = w.one ∷ [];
       are = w.are ∙ ap (λ z. w.one ++ z) none;
       each = last_owns f l m (noted_upward up w.first) (noted_under u w.first) (noted_texts w.first ∙ is);
-      spots = last_spot (spot_noted a w.first);
+      extents = last_extent (extent_noted a w.first);
     } where
       nothing : {ys : List CommentValue} → NotedComments t es [] ys → ys ≡ []
       nothing no_comment = refl
-owns_noted (row_owns f l m up u is o more) (last_spot a) n = elim more [ ]
-owns_noted (row_owns {own = own} f l m up u is o more) (row_spot {k = k} a near spots) n =
+owns_noted (row_owns f l m up u is o more) (last_extent a) n = elim more [ ]
+owns_noted (row_owns {own = own} f l m up u is o more) (row_extent {k = k} a near extents) n =
     let w = noted_parts own n in
-    let rest = owns_noted more spots w.second in
+    let rest = owns_noted more extents w.second in
     record {
       owns = w.one ∷ rest.owns;
       are = w.are ∙ ap (λ z. w.one ++ z) rest.are;
       each = row_owns f l m (noted_upward up w.first) (noted_under u w.first) (noted_texts w.first ∙ is) o rest.each;
-      spots = row_spot {k = k} (spot_noted a w.first) near rest.spots;
+      extents = row_extent {k = k} (extent_noted a w.first) near rest.extents;
     }

@@ -1,13 +1,11 @@
 -- After each row of a text that was laid out, where the lines of the gap are that it carries, with the comments after the row.
-use Rattle.std.proofs.Common.{◌≡◌, ℕ, zero, suc, ◌+◌, ◌≤◌, Bool, true, false, true≢false, List, [], ◌∷◌, ◌++◌, drop, length, refl, sym, ap, ◌∙◌, subst, arith, length-append, length-drop, append-nil}
-use Rattle.std.specs.Prelude.{◌&&◌, ◌||◌, not, ◌==◌}
+use Rattle.std.proofs.Common.{◌≡◌, ℕ, zero, suc, ◌+◌, ◌≤◌, Bool, true, List, [], ◌∷◌, ◌++◌, drop, length, refl, sym, ap, ◌∙◌, subst, arith, length-append, length-drop, append-nil}
 use Rattle.std.proofs.Math.Seq.{drop-append_seam}
 use Rattle.std.proofs.lemmas.List.{length-map}
 use Rattle.std.specs.Str.{IsUtf8}
 use Rattle.yf_chars.specs.Chain.{Chain, Functional}
 use Rattle.yf_chars.specs.Chain.Chain.{done, step}
-use Rattle.yf_chars.specs.Class.{is_break_char, is_nb_char, is_ns_char, is_printable, is_white}
-use Rattle.yf_chars.specs.Signs.{BYTE_ORDER_MARK}
+use Rattle.yf_chars.specs.Class.{is_ns_char, is_white}
 use Rattle.yf_chars.specs.Text.{code}
 use Rattle.yf_chars.proofs.ChainLemmas.{chain_append, chain_forward, chain_meet, Meets, goes_on, falls_short}
 use Rattle.yf_lines.specs.Basic.LineStart.{after_break}
@@ -15,7 +13,7 @@ use Rattle.yf_lines.specs.Basic.SeparateInLine.{by_whites}
 use Rattle.yf_lines.specs.Rest.{Rest}
 use Rattle.yf_lines.proofs.RestLemmas.{rest_break, rest_spaces}
 use Rattle.yf_comments.specs.Comment.{CommentValue}
-use Rattle.yf_comments.specs.Comments.{Blank, BlankBefore, is_gap, LineRest, Row as CommentRow}
+use Rattle.yf_comments.specs.Comments.{Blank, BlankBefore, LineRest, Row as CommentRow}
 use Rattle.yf_comments.specs.Comments.Blank.{break_ends}
 use Rattle.yf_comments.specs.Comments.BreakOrEnd.{by_break}
 use Rattle.yf_comments.specs.Comments.LineEnd.{past_rest}
@@ -29,6 +27,7 @@ use Rattle.yf_block_scalar.specs.Body.{first_noted}
 use Rattle.yf_plain.proofs.PlainLemmas.{ns_below}
 use Rattle.yf_grammar.proofs.Ends.BlankRuns.{ContentBefore}
 use Rattle.yf_stream.proofs.Offsets.BrokenEnds.{Broken, at_break, at_text_end}
+use Rattle.yf_stream.proofs.BlankNotes.DerivedNotes.{ns_solid}
 use Rattle.yf_emit.specs.Layouts.RowComments.{AreTrails, IsDeco}
 use Rattle.yf_emit.specs.Layouts.Decorated.{Deco, end_then, trails_then}
 use Rattle.yf_print.specs.Layouts.Rows.{Row}
@@ -88,19 +87,6 @@ pub record TrailsEnd (t : List ℕ) (q : ℕ) (xs : List (List ℕ)) (r : List �
   pub none : BlankBefore t place → ⊥
   pub rest : Rest t place r
   pub is : texts notes ≡ xs
-
-ns_solid : (c : ℕ) → is_ns_char c ≡ true → is_gap c ≡ false
-unfolding is_ns_char is_nb_char is_gap
-ns_solid c e = solid (is_printable c) (is_white c) (is_break_char c) (c == BYTE_ORDER_MARK) e where
-  solid : (p w b m : Bool) → (p && (not b && not m)) && not w ≡ true → ((w || b) || m) ≡ false
-  solid p true b m e = absurd (parted (p && (not b && not m)) e) where
-    parted : (x : Bool) → x && false ≡ true → ⊥
-    parted true f = true≢false (sym f)
-    parted false f = true≢false (sym f)
-  solid true false true m e = absurd (true≢false (sym e))
-  solid true false false true e = absurd (true≢false (sym e))
-  solid true false false false e = refl
-  solid false false b m e = absurd (true≢false (sym e))
 
 pub trails_end : {t : List ℕ} (xs : List (List ℕ)) (r : List ℕ) {q : ℕ} → IsUtf8 t → AreTrails xs → ContentBefore t q → Rest t q (trails_then xs (10 ∷ r)) → TrailsEnd t q xs r
 trails_end {t} [] r {q} u a b s =

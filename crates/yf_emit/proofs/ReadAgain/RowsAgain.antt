@@ -74,7 +74,7 @@ each_front : {P : CommentValue → Type 0} (xs ys : List CommentValue) → Each 
 each_front [] ys a = each_none
 each_front (x ∷ xs) ys (each_more e a) = each_more e (each_front xs ys a)
 
-each_back : {P : CommentValue → Type 0} (xs ys : List CommentValue) → Each P (xs ++ ys) → Each P ys
+pub each_back : {P : CommentValue → Type 0} (xs ys : List CommentValue) → Each P (xs ++ ys) → Each P ys
 each_back [] ys a = a
 each_back (x ∷ xs) ys (each_more e a) = each_back xs ys a
 

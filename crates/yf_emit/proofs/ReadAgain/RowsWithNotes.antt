@@ -14,7 +14,7 @@ use Rattle.yf_grammar.proofs.WrittenTexts.KeptNodes.{SameEntry, no_entry, same_e
 use Rattle.yf_grammar.proofs.NodesInText.NodePlaces.{Begins, ColonIsAt, NodeIsAt, is_at_nowhere, scalar_is_at, alias_is_at, sequence_is_at, mapping_is_at, ItemsStand, no_items_stand, item_is_at, PairsStand, no_pairs_stand, pair_is_at}
 use Rattle.yf_forms.specs.declared.style.Style.{Style}
 use Rattle.yf_emit.specs.Layouts.ReadableTrees.{FitProps}
-use Rattle.yf_forms.specs.NormalForms.Normal.{LayoutSetting, Spot, entry_or}
+use Rattle.yf_forms.specs.NormalForms.Normal.{LayoutSetting, Margins, entry_or}
 use Rattle.yf_forms.specs.Nodes.OneLine.{written}
 use Rattle.yf_print.specs.Layouts.Rows.{begins_below, colon_offset}
 use Rattle.yf_emit.proofs.SecondRun.AlikeLemmas.{same_below, same_implicit, same_written}
@@ -238,7 +238,7 @@ mapping_block at bt props kept_no_pairs e = e
 mapping_block at bt props (kept_pair a b more) e = e
 
 mutual
-  pub rows_kept : {t : List ℕ} {c : LayoutSetting} {spot : Spot} {x y z : Node} {ps : List PlacedRow} → Kept y z → NodeRows t c spot x y ps → NodeRows t c spot x z ps
+  pub rows_kept : {t : List ℕ} {c : LayoutSetting} {margins : Margins} {x y z : Node} {ps : List PlacedRow} → Kept y z → NodeRows t c margins x y ps → NodeRows t c margins x z ps
   rows_kept (kept_scalar s) (no_rows e) = no_rows (sym s.span ∙ e)
   rows_kept {c = c} k (line_rows f n g h i st a b column text) =
       line_rows (sym (same_inline (kept_alike k)) ∙ f) (λ e. n (same_written c.style (kept_alike k) ∙ e)) (g ∙ items_same k) (h ∙ leaves_same k) i (node_stays k st) a b column (text_stays c.style k text)
@@ -266,5 +266,5 @@ mutual
   pairs_rows_kept kept_no_pairs no_pair_rows = no_pair_rows
   pairs_rows_kept (kept_pair a b more) (pair_rows r others) = pair_rows (pair_rows_kept a b r) (pairs_rows_kept more others)
 
-pub rows_renoted : {t : List ℕ} {c : LayoutSetting} {spot : Spot} {x z : Node} {ps : List PlacedRow} (y : Node) → bare z ≡ bare y → NodeRows t c spot x z ps → NodeRows t c spot x y ps
+pub rows_renoted : {t : List ℕ} {c : LayoutSetting} {margins : Margins} {x z : Node} {ps : List PlacedRow} (y : Node) → bare z ≡ bare y → NodeRows t c margins x z ps → NodeRows t c margins x y ps
 rows_renoted {z = z} y e r = rows_kept (node_kept z y e) r

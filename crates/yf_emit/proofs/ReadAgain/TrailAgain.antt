@@ -34,13 +34,13 @@ use Rattle.yf_emit.proofs.RowNodes.PlacedRows.{Inside, one_inside, PlacedRow, Le
 use Rattle.yf_emit.proofs.RowNodes.QuietPlaces.{Quiet as QuietRow}
 use Rattle.yf_emit.proofs.SameReading.RowFlow.{Sub, sub_take, sub_skip, Has, has_first, has_rest, Near, at_leaf, before_leaf, RowTrail, untrailed, trailed_after}
 use Rattle.yf_emit.proofs.Trails.RowLeaves.{leaves_on}
-use Rattle.yf_emit.proofs.ReadAgain.RowSpots.{InOrBeside, in_leaf, beside_leaf, ClearEnd, Spot}
+use Rattle.yf_emit.proofs.ReadAgain.RowExtents.{InOrBeside, in_leaf, beside_leaf, ClearEnd, RowExtent}
 use Rattle.yf_emit.proofs.Trails.RowTrails.{trail_of}
 use Rattle.yf_emit.proofs.SameReading.StartsBefore.{AllFrom, none_later, one_later}
 use Rattle.yf_emit.proofs.Derived.StepsInText.{starts_of}
 use Rattle.yf_emit.proofs.Trails.TrailChoice.{next_after, rising, start_of_first}
 use Rattle.yf_emit.proofs.SameReading.UprightRows.{EndsIn, ends_in_none, ends_in, ending_of, last_is}
-use Rattle.yf_chars.proofs.Tests.{below, not_below, is_less, none_some}
+use Rattle.yf_chars.proofs.Tests.{below, not_below, is_less, none_some, no_nil}
 use Rattle.yf_forms.proofs.Measure.OffsetLemmas.{or_true}
 
 -- A row as it is found, and what it carried where it was laid out.
@@ -103,12 +103,6 @@ pub sub_inside : {a i j : ℕ} {is : List ℕ} → Sub (a ∷ []) is → Inside 
 sub_inside (sub_take s) (one_inside l m b) = (l, m)
 sub_inside (sub_skip s) (one_inside l m b) = sub_inside s b
 
-no_texts : {x : List ℕ} {xs : List (List ℕ)} → x ∷ xs ≡ [] → ⊥
-no_texts e = absurd cc
-
-no_comments : {x : CommentValue} {xs : List CommentValue} → x ∷ xs ≡ [] → ⊥
-no_comments e = absurd cc
-
 module _ {t : List ℕ} (lines : List Line) (are_lines : AreLines t lines) (c : Source) (cs : List CommentValue) (remarks : c.remarks ≡ zip cs (leaf_lines lines c.leaves cs))
     (sign : (d : CommentValue) → In d cs → code t d.offset ≡ 35) (up : rising c.leaves ≡ true) (unsigned : Unsigned t (starts_of c.leaves)) where
   abbrev mark : CommentValue → Bool
@@ -130,7 +124,7 @@ module _ {t : List ℕ} (lines : List Line) (are_lines : AreLines t lines) (c : 
       ap (trailing_leaf c s) first ∙ (ap (λ b. if b && not (is_among c.key_comments o) then o ∷ [] else []) test ∙ ap (λ b. if true && not b then o ∷ [] else []) key) in
       let leaves : flat_map (trail_of c) row.leaves ≡ [] = right_nothing (option_to_list row.key_comment) (flat_map (trail_of c) row.leaves) none in
       let parts : flat_map (trail_of c) ls ++ (trail_of c s ++ []) ≡ [] = sym (flat_map-append (trail_of c) ls (s ∷ [])) ∙ (ap (flat_map (trail_of c)) (sym e) ∙ leaves) in
-      no_comments (ap (λ w. w ++ []) (sym here) ∙ right_nothing (flat_map (trail_of c) ls) (trail_of c s ++ []) parts) where
+      no_nil {A = CommentValue} (ap (λ w. w ++ []) (sym here) ∙ right_nothing (flat_map (trail_of c) ls) (trail_of c s ++ []) parts) where
         passes : CommentValue → Bool
         passes d = nat_lt s.start d.offset && is_before d.offset (start_of_first post)
 
@@ -159,7 +153,7 @@ module _ {t : List ℕ} (lines : List Line) (are_lines : AreLines t lines) (c : 
       let on : list_any (is_on_line s.end o.offset) lines ≡ true = line_holds are_lines refl from s.end o.offset (omega arith) l m within quiet in
       ap (λ b. nat_lt o.offset s.end || b) (ap (λ w. on_line_of lines w o.offset) last ∙ on) ∙ or_true (nat_lt o.offset s.end)
 
-  module _ {d : Deco} {p : PlacedRow} {own : List CommentValue} {place top : ℕ} (row : Row) (rows : List Row) (pre : List Span) (before rest : List CommentValue) (laid : LaidRow d row) (leaves : row.leaves ≡ p.leaves) (spot : Spot t d p own place)
+  module _ {d : Deco} {p : PlacedRow} {own : List CommentValue} {place top : ℕ} (row : Row) (rows : List Row) (pre : List Span) (before rest : List CommentValue) (laid : LaidRow d row) (leaves : row.leaves ≡ p.leaves) (extent : RowExtent t d p own place)
       (all : c.leaves ≡ pre ++ (row.leaves ++ leaves_on rows)) (later : AllFrom top (starts_of (leaves_on rows)))
       (keys : row.key_comment ≡ None → (o : CommentValue) → p.upto ≤ o.offset → o.offset < top → is_among c.key_comments o ≡ false)
       (are : cs ≡ before ++ (own ++ rest)) (early : Under p.from before) (over : Over p.upto own) (under : Under top own) (far : Over place rest) (is : texts own ≡ carried_texts d) where
@@ -175,10 +169,10 @@ module _ {t : List ℕ} (lines : List Line) (are_lines : AreLines t lines) (c : 
     seen : (x : List ℕ) → d.trails ≡ x ∷ [] → trailing c row ≡ [] → ⊥
     seen x e none = by_key row.key_comment refl where
       some : d.trails ≡ [] → ⊥
-      some z = no_texts (sym e ∙ z)
+      some z = no_nil {A = List ℕ} (sym e ∙ z)
 
       by_leaf : row.key_comment ≡ None → (ls : List Span) (s : Span) → row.leaves ≡ ls ++ (s ∷ []) → (os : List CommentValue) → own ≡ os → ⊥
-      by_leaf k ls s g [] f = no_texts (sym (ap texts (sym f) ∙ (is ∙ ap (λ z. z ++ remarks_of d.gap) e)))
+      by_leaf k ls s g [] f = no_nil {A = List ℕ} (sym (ap texts (sym f) ∙ (is ∙ ap (λ z. z ++ remarks_of d.gap) e)))
       by_leaf k ls s g (o ∷ os) f =
           let at : cs ≡ before ++ (o ∷ (os ++ rest)) = are ∙ ap (λ z. before ++ (z ++ rest)) f in
           let i : In o cs = subst (λ z. In o z) (sym at) (there before) in
@@ -186,12 +180,12 @@ module _ {t : List ℕ} (lines : List Line) (are_lines : AreLines t lines) (c : 
           let high : o.offset < top = head_at (subst (λ z. Under top z) f under) in
           let apart : c.leaves ≡ (pre ++ ls) ++ (s ∷ leaves_on rows) =
           all ∙ (ap (λ w. pre ++ (w ++ leaves_on rows)) g ∙ (ap (λ w. pre ++ w) (append_assoc ls (s ∷ []) (leaves_on rows)) ∙ sym (append_assoc pre ls (s ∷ leaves_on rows)))) in
-          let begins = last_begins ls s (subst (λ z. Inside p.from p.upto (starts_of z)) (sym leaves ∙ g) spot.starts) in
+          let begins = last_begins ls s (subst (λ z. Inside p.from p.upto (starts_of z)) (sym leaves ∙ g) extent.starts) in
           let other : s.start ≡ o.offset → ⊥ = λ z. unsigned_after (pre ++ ls) s (leaves_on rows) (subst (λ w. Unsigned t (starts_of w)) apart unsigned) (ap (code t) z ∙ sign o i) in
           let after : s.start < o.offset = ⊎_elim (λ (z : s.start < o.offset). z) (λ (z : o.offset ≤ s.start). let l = begins.1 in absurd (other (omega (arith, z, l, low)))) (cases_lt s.start o.offset) in
           let follows : AllFrom (o.offset + 1) (starts_of (leaves_on rows)) = starts_after (omega (arith, high)) later in
           trails_seen pre ls s (leaves_on rows) row before o (os ++ rest) g apart at (each_map (λ b j l. let m = begins.0 in omega (arith, l, m)) early) after follows
-          (tested pre ls s (leaves_on rows) p.from o apart i after follows (spot.trailed o os f some ls s (sym leaves ∙ g))) (keys k o low high) none where
+          (tested pre ls s (leaves_on rows) p.from o apart i after follows (extent.trailed o os f some ls s (sym leaves ∙ g))) (keys k o low high) none where
             there : (xs : List CommentValue) → In o (xs ++ (o ∷ (os ++ rest)))
             there [] = in_first
             there (x ∷ xs) = in_rest (there xs)
@@ -205,7 +199,7 @@ module _ {t : List ℕ} (lines : List Line) (are_lines : AreLines t lines) (c : 
 
       by_key : (o : Option CommentValue) → row.key_comment ≡ o → ⊥
       by_key None k = by_leaves k row.leaves refl (ending_of row.leaves)
-      by_key (Some v) k = no_comments (ap (λ z. option_to_list z ++ flat_map (trail_of c) row.leaves) (sym k) ∙ none)
+      by_key (Some v) k = no_nil {A = CommentValue} (ap (λ z. option_to_list z ++ flat_map (trail_of c) row.leaves) (sym k) ∙ none)
 
     pub row_trail_tied : Inside p.from p.upto row.items → QuietRow cs p → RowTrail c cs row rows → TrailTied c cs row p d
     row_trail_tied inside quiet (untrailed q) = go d.trails refl laid.fits where
@@ -228,7 +222,7 @@ module _ {t : List ℕ} (lines : List Line) (are_lines : AreLines t lines) (c : 
 
       go : (xs : List (List ℕ)) → d.trails ≡ xs → AreTrails xs → TrailTied c cs row p d
       go [] z b =
-          let w = spot.clear z in
+          let w = extent.clear z in
           absurd (trails_unseen row rows e w.edge (laid.keyless z) (subst (λ v. LeavesTo w.edge v) (sym leaves) w.reach) w.broken (edge_low w (subst (λ v. In e v) are i)) i near)
       go (x ∷ []) z b = first_trails e x q z (laid.stays x z) i high (λ v j m. no_less v j m (cases_lt v.offset e.offset)) where
         no_less : (v : CommentValue) → In v cs → p.upto ≤ v.offset → (v.offset < e.offset) ⊎ (e.offset ≤ v.offset) → e.offset ≤ v.offset

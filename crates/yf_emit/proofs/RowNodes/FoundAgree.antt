@@ -1,6 +1,6 @@
 -- Nodes that are found on quiet rows: no comment is within a flow collection, and a comment trails a key exactly where one trailed it.
-use Rattle.std.proofs.Common.{◌≡◌, ℕ, ◌+◌, ◌<◌, ◌≤◌, Bool, true, false, ◌&&◌, ◌||◌, List, [], ◌∷◌, Option, Some, None, refl, sym, ap, ◌∙◌, arith, ◌⊎◌, inl, inr, ⊎_elim, true≢false}
-use Rattle.std.specs.Prelude.{is_some, ◌==◌, nat_lt, nat_le, find, if◌then◌else◌}
+use Rattle.std.proofs.Common.{◌≡◌, ℕ, ◌<◌, ◌≤◌, Bool, true, false, ◌&&◌, ◌||◌, List, [], ◌∷◌, Option, Some, None, refl, sym, ap, ◌∙◌, arith, ◌⊎◌, inl, inr, ⊎_elim, true≢false}
+use Rattle.std.specs.Prelude.{is_some, nat_lt, nat_le, find, if◌then◌else◌}
 use Rattle.std.specs.List.{list_any}
 use Rattle.std.proofs.lemmas.Bool.Decides.{nat_tests}
 use Rattle.yf_comments.specs.Comment.{CommentValue}
@@ -10,9 +10,10 @@ use Rattle.yf_events.specs.Tree.{Node, scalar, alias, sequence, mapping, Items, 
 use Rattle.yf_grammar.specs.Productions.Meaning.{from_to}
 use Rattle.yf_grammar.proofs.NodesInText.NodePlaces.{NodeIsAt, is_at_nowhere, scalar_is_at, alias_is_at, sequence_is_at, mapping_is_at, ItemsStand, no_items_stand, item_is_at, PairsStand, no_pairs_stand, pair_is_at, node_order, items_order, pairs_order, colon_order}
 use Rattle.yf_forms.specs.declared.style.Style.{Style}
-use Rattle.yf_forms.specs.Nodes.ContentStart.{content_start, past_gap, past_second, property_len}
+use Rattle.yf_forms.specs.Nodes.ContentStart.{content_start}
 use Rattle.yf_forms.specs.Nodes.OneLineFlows.{has_comment, is_within}
-use Rattle.yf_forms.specs.NormalForms.Normal.{LayoutSetting, Spot, key_start, last_start}
+use Rattle.yf_forms.specs.NormalForms.Normal.{LayoutSetting, Margins, key_start, last_start}
+use Rattle.yf_forms.proofs.Texts.GapLemmas.{content_later}
 use Rattle.yf_emit.specs.Nodes.FlowsWithoutComments.{Undisturbed, undisturbed_scalar, undisturbed_alias, undisturbed_sequence, undisturbed_mapping, UndisturbedItems, undisturbed_end, undisturbed_item, UndisturbedPairs, undisturbed_last, undisturbed_pair}
 use Rattle.yf_emit.proofs.SameReading.CommentsCut.{In, in_first, in_rest, Each, each_none, each_more, each_map}
 use Rattle.yf_emit.proofs.RowNodes.FoundLines.{leaves_inside}
@@ -51,27 +52,6 @@ key_linked (key_alone e f g) (linked_row q a) = a
 key_linked (key_joined {h = h} {p = p} e f g l m o) (linked_row q a) = linked_row (λ z. trails_inner h p m (q (g ∙ z))) a
 
 -- Flow collections.
-
-past_gap_later : (t : List ℕ) (i end : ℕ) → i ≤ past_gap t i end
-unfolding past_gap
-past_gap_later t i end = omega arith
-
-second_later : (t : List ℕ) (i end : ℕ) (props : PropsValue) → i ≤ past_second t i end props
-unfolding past_second
-second_later t i end props = by (property_len t i props == 0) where
-  by : (b : Bool) → i ≤ (if b then i else past_gap t (i + property_len t i props) end)
-  by true = omega arith
-  by false = let l = past_gap_later t (i + property_len t i props) end in omega (arith, l)
-
-content_later : (t : List ℕ) (s : Span) (props : PropsValue) → s.start ≤ content_start t s props
-unfolding content_start
-content_later t s props = by (property_len t s.start props == 0) where
-  by : (b : Bool) → s.start ≤ (if b then s.start else past_second t (past_gap t (s.start + property_len t s.start props) s.end) s.end props)
-  by true = omega arith
-  by false =
-      let l = past_gap_later t (s.start + property_len t s.start props) s.end in
-      let m = second_later t (past_gap t (s.start + property_len t s.start props) s.end) s.end props in
-      omega (arith, l, m)
 
 -- between two places no comment is
 abbrev pub NoneIn : List CommentValue → ℕ → ℕ → Type 0
@@ -134,7 +114,7 @@ key_undisturbed : (house : Style) {t : List ℕ} {cs : List CommentValue} {m : �
 key_undisturbed house (key_on {h = h} st l m e c text w) (quiet_row q a) = is_at_undisturbed st (row_none h l (omega (arith, m)) q)
 
 mutual
-  pub rows_undisturbed : {t : List ℕ} {c : LayoutSetting} {cs : List CommentValue} {spot : Spot} {x y : Node} {ps : List PlacedRow} → NodeRows t c spot x y ps → AllQuiet cs ps → Undisturbed t cs y
+  pub rows_undisturbed : {t : List ℕ} {c : LayoutSetting} {cs : List CommentValue} {margins : Margins} {x y : Node} {ps : List PlacedRow} → NodeRows t c margins x y ps → AllQuiet cs ps → Undisturbed t cs y
   rows_undisturbed (no_rows e) a = undisturbed_scalar
   rows_undisturbed (line_rows {p = p} e n f g h st l m o w) (quiet_row q a) = is_at_undisturbed st (row_none p l m q)
   rows_undisturbed (scalar_rows e n f g h) a = undisturbed_scalar
@@ -206,7 +186,7 @@ no_value (mapping at flow props no_pairs) e f = true≢false (sym e)
 no_value (mapping at true props (pair k v ps)) e f = true≢false (sym e)
 no_value (mapping at false props (pair k v ps)) e f = true≢false (sym f)
 
-pub value_row : {t : List ℕ} {c : LayoutSetting} {spot : Spot} {v w : Node} {ps : List PlacedRow} → NodeRows t c spot v w ps → (is_text w || is_filled_flow w) ≡ true → OnRow w ps
+pub value_row : {t : List ℕ} {c : LayoutSetting} {margins : Margins} {v w : Node} {ps : List PlacedRow} → NodeRows t c margins v w ps → (is_text w || is_filled_flow w) ≡ true → OnRow w ps
 value_row (no_rows e) f = absurd (true≢false (sym f ∙ ap (λ o. is_some o || false) e))
 value_row (line_rows {p = p} e n f g h st l m o text) q = on_row (inside_wider l m (leaves_inside st))
 value_row (scalar_rows e n f g h) q = on_row n

@@ -12,7 +12,7 @@ use Rattle.yf_events.specs.Tree.{Node, NodeOffsets, scalar, alias, sequence, map
 use Rattle.yf_grammar.specs.Productions.TreesOfMeaning.{Anywhere}
 use Rattle.yf_forms.specs.declared.style.Style.{Style}
 use Rattle.yf_emit.specs.Preservation.AlikeBlocks.{AlikeBlocks, alike_lines, alike_block_sequences, alike_block_mappings, AlikeBlockItems, no_block_items, block_item, AlikeBlockPairs, no_block_pairs, block_pair}
-use Rattle.yf_forms.specs.NormalForms.Normal.{LayoutSetting, Spot, first_between, fits, inner_spot, is_implicit, key_comment, key_spot, key_start, settled, settled_items, settled_pairs, value_entries, value_of_implicit, value_spot}
+use Rattle.yf_forms.specs.NormalForms.Normal.{LayoutSetting, Margins, first_between, fits, inner_margins, is_implicit, key_comment, key_margins, key_start, settled, settled_items, settled_pairs, value_entries, value_of_implicit, value_margins}
 use Rattle.yf_forms.specs.Nodes.OneLine.{props_text, width, written}
 use Rattle.yf_print.specs.Layouts.Rows.{begins_below}
 use Rattle.yf_forms.specs.Nodes.Lines.{is_empty_text}
@@ -39,7 +39,7 @@ first_met : (p : PlacedRow) (cs : List CommentValue) (from : ℕ) (ls : List Spa
 first_met p cs from [] n a f = absurd (n refl)
 first_met p cs from (s ∷ ss) n (one_inside l m a) f = f s.start l
 
-commented_key : {t : List ℕ} {c : LayoutSetting} {cs : List CommentValue} {m : ℕ} {spot : Spot} {l v w : Node} {items : List ℕ} {ls : List Span} {below : Bool} {ps hs : List PlacedRow} → KeyOn c.style t m l hs → NodeRows t c spot v w ps
+commented_key : {t : List ℕ} {c : LayoutSetting} {cs : List CommentValue} {m : ℕ} {margins : Margins} {l v w : Node} {items : List ℕ} {ls : List Span} {below : Bool} {ps hs : List PlacedRow} → KeyOn c.style t m l hs → NodeRows t c margins v w ps
     → KeyRows t items ls true below ps hs → Linked cs hs → (is_text w || is_filled_flow w) ≡ true → leaves w ≢ [] → is_some (key_comment cs l w) ≡ true
 commented_key {c = c} {cs = cs} {l = l} {w = w} k r (key_commented {h = h} e f g) a q n = ap (λ b. is_some (if b then first_between cs (key_start l) (leaves w) else None)) q ∙ go (value_row r q) a where
   go : {ps : List PlacedRow} → OnRow w ps → Linked cs (h ∷ ps) → is_some (first_between cs (key_start l) (leaves w)) ≡ true
@@ -65,16 +65,16 @@ silent_rows house {cs = cs} {l = l} {w = w} q e (key_joined {h = h} {p = p} f g 
     let b = (key_between house k).0 in
     none_met p cs (key_start l) (leaves w) inside (λ to z. none_found (key_start l) to h.from h.upto b (omega (arith, same, z)) quiet)
 
-silent_key : {t : List ℕ} {c : LayoutSetting} {cs : List CommentValue} {m : ℕ} {spot : Spot} {l v w : Node} {items : List ℕ} {ls : List Span} {below : Bool} {ps hs : List PlacedRow} → begins_below w ≡ below → KeyOn c.style t m l hs
-    → NodeRows t c spot v w ps → KeyRows t items ls false below ps hs → AllQuiet cs hs → key_comment cs l w ≡ None
+silent_key : {t : List ℕ} {c : LayoutSetting} {cs : List CommentValue} {m : ℕ} {margins : Margins} {l v w : Node} {items : List ℕ} {ls : List Span} {below : Bool} {ps hs : List PlacedRow} → begins_below w ≡ below → KeyOn c.style t m l hs
+    → NodeRows t c margins v w ps → KeyRows t items ls false below ps hs → AllQuiet cs hs → key_comment cs l w ≡ None
 silent_key {c = c} {cs = cs} {l = l} {v = v} {w = w} e k r rows a = by (is_text w || is_filled_flow w) refl where
   by : (b : Bool) → (is_text w || is_filled_flow w) ≡ b → key_comment cs l w ≡ None
   by false q = ap (λ b. if b then first_between cs (key_start l) (leaves w) else None) q
   by true q = ap (λ b. if b then first_between cs (key_start l) (leaves w) else None) q ∙ silent_rows c.style q e rows k (value_row r q) a
 
 -- as the key was laid out
-key_agrees : {t : List ℕ} {c : LayoutSetting} {cs : List CommentValue} {m : ℕ} {spot : Spot} {l v w : Node} {items : List ℕ} {ls : List Span} {ps hs : List PlacedRow} (k : Node) (b : Bool) → b ≡ is_some (key_comment c.comments k v) → Alike Anywhere v w
-    → KeyOn c.style t m l hs → NodeRows t c spot v w ps → KeyRows t items ls b (begins_below w) ps hs → AllQuiet cs hs → Linked cs hs
+key_agrees : {t : List ℕ} {c : LayoutSetting} {cs : List CommentValue} {m : ℕ} {margins : Margins} {l v w : Node} {items : List ℕ} {ls : List Span} {ps hs : List PlacedRow} (k : Node) (b : Bool) → b ≡ is_some (key_comment c.comments k v) → Alike Anywhere v w
+    → KeyOn c.style t m l hs → NodeRows t c margins v w ps → KeyRows t items ls b (begins_below w) ps hs → AllQuiet cs hs → Linked cs hs
     → is_some (key_comment c.comments k v) ≡ is_some (key_comment cs l w)
 key_agrees {c = c} {v = v} {w = w} k true e a on r rows quiet linked =
     let value = some_value c.comments k v (sym e) in
@@ -120,7 +120,7 @@ marked_flow s m column flow wide X block same none e f h =
     let blocks : block ≡ X = ap (λ b. if b then X else block) (sym test) ∙ h in
     true≢false (sym w.0 ∙ (sym same ∙ (sym (ap flow_of blocks) ∙ none)))
 
-explicit_nowhere : (c : LayoutSetting) (m column : ℕ) (k : Node) → is_implicit c.style m k ≡ false → settled c (key_spot c.style m k) k ≡ k → is_implicit c.style column k ≡ true → ⊥
+explicit_nowhere : (c : LayoutSetting) (m column : ℕ) (k : Node) → is_implicit c.style m k ≡ false → settled c (key_margins c.style m k) k ≡ k → is_implicit c.style column k ≡ true → ⊥
 explicit_nowhere c m column (scalar at props Plain text lines) e h f = true≢false (sym f ∙ e)
 explicit_nowhere c m column (scalar at props Single text lines) e h f = true≢false (sym f ∙ e)
 explicit_nowhere c m column (scalar at props Double text lines) e h f = true≢false (sym f ∙ e)
@@ -138,13 +138,13 @@ explicit_nowhere c m column (mapping at flow props (pair k v ps)) e h f =
 
 -- Trees.
 
-items_settle : (c : LayoutSetting) (spot : Spot) (at : NodeOffsets) (props : PropsValue) (xs : Items) → settled c spot (sequence at false props xs) ≡ sequence at false props xs → settled_items c spot.entries xs ≡ xs
-items_settle c spot at props no_items h = refl
-items_settle c spot at props (item x xs) h = ap items_of h
+items_settle : (c : LayoutSetting) (margins : Margins) (at : NodeOffsets) (props : PropsValue) (xs : Items) → settled c margins (sequence at false props xs) ≡ sequence at false props xs → settled_items c margins.entries xs ≡ xs
+items_settle c margins at props no_items h = refl
+items_settle c margins at props (item x xs) h = ap items_of h
 
-pairs_settle : (c : LayoutSetting) (spot : Spot) (at : NodeOffsets) (props : PropsValue) (ps : Pairs) → settled c spot (mapping at false props ps) ≡ mapping at false props ps → settled_pairs c spot.entries ps ≡ ps
-pairs_settle c spot at props no_pairs h = refl
-pairs_settle c spot at props (pair k v ps) h = ap pairs_of h
+pairs_settle : (c : LayoutSetting) (margins : Margins) (at : NodeOffsets) (props : PropsValue) (ps : Pairs) → settled c margins (mapping at false props ps) ≡ mapping at false props ps → settled_pairs c margins.entries ps ≡ ps
+pairs_settle c margins at props no_pairs h = refl
+pairs_settle c margins at props (pair k v ps) h = ap pairs_of h
 
 sequence_parts : {at bt : NodeOffsets} {f g : Bool} {p r : PropsValue} {xs ys : Items} → Alike Anywhere (sequence at f p xs) (sequence bt g r ys) → (is_some at.span ≡ is_some bt.span) × AlikeItems Anywhere xs ys
 sequence_parts (alike_sequences e a) = (e, a)
@@ -153,41 +153,41 @@ mapping_parts : {at bt : NodeOffsets} {f g : Bool} {p r : PropsValue} {ps qs : P
 mapping_parts (alike_mappings e a) = (e, a)
 
 mutual
-  pub blocks_found : {t : List ℕ} {c : LayoutSetting} {cs : List CommentValue} {at : Spot} {x y : Node} {ps : List PlacedRow} (spot : Spot) → spot.entries ≡ at.entries → settled c spot x ≡ x → Alike Anywhere x y → NodeRows t c at x y ps
+  pub blocks_found : {t : List ℕ} {c : LayoutSetting} {cs : List CommentValue} {at : Margins} {x y : Node} {ps : List PlacedRow} (margins : Margins) → margins.entries ≡ at.entries → settled c margins x ≡ x → Alike Anywhere x y → NodeRows t c at x y ps
       → AllQuiet cs ps → Linked cs ps → AlikeBlocks c.style c.comments cs x y
-  blocks_found spot e h (alike_scalars a) (no_rows f) q l = alike_lines (alike_scalars a) refl
-  blocks_found spot e h a (line_rows {y = y} f n g i j st k o column text) q l = alike_lines a (same_block a ∙ inline_no_block y f)
-  blocks_found spot e h (alike_scalars a) (scalar_rows f n g i j) q l = alike_lines (alike_scalars a) refl
-  blocks_found {c = c} spot e h a (sequence_rows {at = at} {props = props} {xs = xs} f n r) q l =
-      let b = sequence_parts a in alike_block_sequences b.0 (items_blocks spot.entries e (items_settle c spot at props xs h) b.1 r q l)
-  blocks_found {c = c} spot e h a (sequence_after {at = at} {props = props} {xs = xs} f n g i j r) (quiet_row q qs) (linked_row l ls) =
-      let b = sequence_parts a in alike_block_sequences b.0 (items_blocks spot.entries e (items_settle c spot at props xs h) b.1 r qs ls)
-  blocks_found {c = c} spot e h a (mapping_rows {at = at} {props = props} {xs = xs} f n r) q l =
-      let b = mapping_parts a in alike_block_mappings b.0 (pairs_blocks spot.entries e (pairs_settle c spot at props xs h) b.1 r q l)
-  blocks_found {c = c} spot e h a (mapping_after {at = at} {props = props} {xs = xs} f n g i j r) (quiet_row q qs) (linked_row l ls) =
-      let b = mapping_parts a in alike_block_mappings b.0 (pairs_blocks spot.entries e (pairs_settle c spot at props xs h) b.1 r qs ls)
+  blocks_found margins e h (alike_scalars a) (no_rows f) q l = alike_lines (alike_scalars a) refl
+  blocks_found margins e h a (line_rows {y = y} f n g i j st k o column text) q l = alike_lines a (same_block a ∙ inline_no_block y f)
+  blocks_found margins e h (alike_scalars a) (scalar_rows f n g i j) q l = alike_lines (alike_scalars a) refl
+  blocks_found {c = c} margins e h a (sequence_rows {at = at} {props = props} {xs = xs} f n r) q l =
+      let b = sequence_parts a in alike_block_sequences b.0 (items_blocks margins.entries e (items_settle c margins at props xs h) b.1 r q l)
+  blocks_found {c = c} margins e h a (sequence_after {at = at} {props = props} {xs = xs} f n g i j r) (quiet_row q qs) (linked_row l ls) =
+      let b = sequence_parts a in alike_block_sequences b.0 (items_blocks margins.entries e (items_settle c margins at props xs h) b.1 r qs ls)
+  blocks_found {c = c} margins e h a (mapping_rows {at = at} {props = props} {xs = xs} f n r) q l =
+      let b = mapping_parts a in alike_block_mappings b.0 (pairs_blocks margins.entries e (pairs_settle c margins at props xs h) b.1 r q l)
+  blocks_found {c = c} margins e h a (mapping_after {at = at} {props = props} {xs = xs} f n g i j r) (quiet_row q qs) (linked_row l ls) =
+      let b = mapping_parts a in alike_block_mappings b.0 (pairs_blocks margins.entries e (pairs_settle c margins at props xs h) b.1 r qs ls)
 
   items_blocks : {t : List ℕ} {c : LayoutSetting} {cs : List CommentValue} {m : ℕ} {xs ys : Items} {ps : List PlacedRow} (column : ℕ) → column ≡ m → settled_items c column xs ≡ xs → AlikeItems Anywhere xs ys
       → ItemsRows t c m xs ys ps → AllQuiet cs ps → Linked cs ps → AlikeBlockItems c.style c.comments cs xs ys
   items_blocks column e h alike_nothing no_item_rows q l = no_block_items
   items_blocks {c = c} column e h (alike_item a b) (item_rows {x = x} {hs = hs} {qs = qs} r s more) q l =
-      block_item (blocks_found (inner_spot c.style column) (ap (λ z. z + c.style.indent) e) (ap (first_item x) h) a r (sign_quiet s (quiet_left hs qs q)) (sign_linked s (linked_left hs qs l)))
+      block_item (blocks_found (inner_margins c.style column) (ap (λ z. z + c.style.indent) e) (ap (first_item x) h) a r (sign_quiet s (quiet_left hs qs q)) (sign_linked s (linked_left hs qs l)))
       (items_blocks column e (ap more_items h) b more (quiet_right hs qs q) (linked_right hs qs l))
 
-  pair_blocks : {t : List ℕ} {c : LayoutSetting} {cs : List CommentValue} {m : ℕ} {k l v w : Node} {ms ns : Pairs} {ps : List PlacedRow} (column : ℕ) → column ≡ m → settled c (key_spot c.style column k) k ≡ k
-      → settled c (value_spot c column k v) v ≡ v → Alike Anywhere k l → Alike Anywhere v w → PairRows t c m k v l w ps → AllQuiet cs ps → Linked cs ps → AlikeBlockPairs c.style c.comments cs ms ns
+  pair_blocks : {t : List ℕ} {c : LayoutSetting} {cs : List CommentValue} {m : ℕ} {k l v w : Node} {ms ns : Pairs} {ps : List PlacedRow} (column : ℕ) → column ≡ m → settled c (key_margins c.style column k) k ≡ k
+      → settled c (value_margins c column k v) v ≡ v → Alike Anywhere k l → Alike Anywhere v w → PairRows t c m k v l w ps → AllQuiet cs ps → Linked cs ps → AlikeBlockPairs c.style c.comments cs ms ns
       → AlikeBlockPairs c.style c.comments cs (pair k v ms) (pair l w ns)
   pair_blocks {c = c} {m = m} {k = k} {v = v} column e h i a b (explicit_rows {hs = hs} {gs = gs} n r s d f) q l more =
       let here : is_implicit c.style column k ≡ false = ap (λ z. is_implicit c.style z k) e ∙ (same_implicit c.style m a ∙ n) in
-      let spot : (value_spot c column k v).entries ≡ column + c.style.indent = ap (λ z. (if z then value_of_implicit c column k v else inner_spot c.style column).entries) here in
-      block_pair (blocks_found (key_spot c.style column k) (ap (λ z. z + c.style.indent) e) h a r (sign_quiet s (quiet_left hs gs q)) (sign_linked s (linked_left hs gs l)))
-      (blocks_found (value_spot c column k v) (spot ∙ ap (λ z. z + c.style.indent) e) i b d (sign_quiet f (quiet_right hs gs q)) (sign_linked f (linked_right hs gs l)))
+      let margins : (value_margins c column k v).entries ≡ column + c.style.indent = ap (λ z. (if z then value_of_implicit c column k v else inner_margins c.style column).entries) here in
+      block_pair (blocks_found (key_margins c.style column k) (ap (λ z. z + c.style.indent) e) h a r (sign_quiet s (quiet_left hs gs q)) (sign_linked s (linked_left hs gs l)))
+      (blocks_found (value_margins c column k v) (margins ∙ ap (λ z. z + c.style.indent) e) i b d (sign_quiet f (quiet_right hs gs q)) (sign_linked f (linked_right hs gs l)))
       (record { comment = λ other z. absurd (explicit_nowhere c column other k here h z) }) more
   pair_blocks {c = c} {m = m} {k = k} {v = v} {w = w} column e h i a b (implicit_rows flag g n on d f) q l more =
       let here : is_implicit c.style column k ≡ true = ap (λ z. is_implicit c.style z k) e ∙ (same_implicit c.style m a ∙ n) in
-      let spot : (value_spot c column k v).entries ≡ value_entries c.style column v = ap (λ z. (if z then value_of_implicit c column k v else inner_spot c.style column).entries) here in
+      let margins : (value_margins c column k v).entries ≡ value_entries c.style column v = ap (λ z. (if z then value_of_implicit c column k v else inner_margins c.style column).entries) here in
       let entries : value_entries c.style column v ≡ value_entries c.style m v = ap (λ z. value_entries c.style z v) e in
-      block_pair (alike_lines a (implicit_line c.style column k here)) (blocks_found (value_spot c column k v) (spot ∙ entries) i b d (key_quiet f q) (key_linked f l))
+      block_pair (alike_lines a (implicit_line c.style column k here)) (blocks_found (value_margins c column k v) (margins ∙ entries) i b d (key_quiet f q) (key_linked f l))
       (record { comment = λ other z. key_agrees k flag g b on d f q l }) more
 
   pairs_blocks : {t : List ℕ} {c : LayoutSetting} {cs : List CommentValue} {m : ℕ} {xs ys : Pairs} {ps : List PlacedRow} (column : ℕ) → column ≡ m → settled_pairs c column xs ≡ xs → AlikePairs Anywhere xs ys

@@ -19,8 +19,9 @@ use Rattle.yf_grammar.specs.Productions.TreesOfMeaning.{Anywhere, MeansTrees}
 use Rattle.yf_grammar.proofs.Documents.CommentOrder.{Ascend, end_ascends}
 use Rattle.yf_grammar.proofs.NodesInText.NodePlaces.{NodeIsAt, is_at_nowhere, scalar_is_at, alias_is_at, sequence_is_at, mapping_is_at, ItemsStand, no_items_stand, item_is_at, PairsStand, no_pairs_stand, pair_is_at, node_order, items_order, pairs_order, node_upto, colon_order}
 use Rattle.yf_grammar.proofs.NodesInText.PlacedNodes.{NodeAt}
+use Rattle.yf_grammar.proofs.NodesInText.MeantLemmas.{noting_comments}
 use Rattle.yf_forms.specs.declared.style.Style.{Style}
-use Rattle.yf_forms.specs.NormalForms.Normal.{LayoutSetting, Spot}
+use Rattle.yf_forms.specs.NormalForms.Normal.{LayoutSetting, Margins}
 use Rattle.yf_emit.specs.Layouts.RowComments.{carried_texts}
 use Rattle.yf_emit.specs.Layouts.Decorated.{Deco, first}
 use Rattle.yf_emit.specs.Layouts.ReadableTrees.{is_inline}
@@ -162,13 +163,9 @@ same_inline (alike_mappings e a) = refl
 
 -- The node on its row.
 
-pub comments_noting : (x : Meaning) (cs : List CommentValue) → (noting x cs).comments ≡ x.comments ++ cs
-unfolding noting
-comments_noting x cs = refl
-
-pub record LineFound (t : List ℕ) (s : LayoutSetting) (spot : Spot) (x : Node) (meaning : Meaning) (row : Row) (ds : List Deco) (q place : ℕ) (z : List ℕ) : Type 0 where
+pub record LineFound (t : List ℕ) (s : LayoutSetting) (margins : Margins) (x : Node) (meaning : Meaning) (row : Row) (ds : List Deco) (q place : ℕ) (z : List ℕ) : Type 0 where
   pub found_rows : List PlacedRow
-  pub meant : FoundNode t s spot x meaning found_rows
+  pub meant : FoundNode t s margins x meaning found_rows
   pub placed : RowsIn t (row ∷ []) found_rows ds q meaning.comments place z
 
 -- the node that a production means is the one that is placed
@@ -189,17 +186,17 @@ node_text house {t} {x} {y} {q} follows alike line there flow =
       flow = λ f. subst (λ w. Bracketed t q (q + length w) y) said (flow f);
     }
 
-pub line_found : {t : List ℕ} {x : Node} {row : Row} {place q : ℕ} {cs : List CommentValue} {z : List ℕ} {mean : Meaning} (s : LayoutSetting) (spot : Spot) (ds : List Deco) (follows : List ℕ) → is_inline x ≡ true → written s.style x ≢ []
-    → row.text ≡ written s.style x → row.column ≡ spot.column → row.body ≡ [] → is_some row.key_comment ≡ false → IsLineText (written s.style x) → Rest t q (written s.style x ++ follows)
+pub line_found : {t : List ℕ} {x : Node} {row : Row} {place q : ℕ} {cs : List CommentValue} {z : List ℕ} {mean : Meaning} (s : LayoutSetting) (margins : Margins) (ds : List Deco) (follows : List ℕ) → is_inline x ≡ true → written s.style x ≢ []
+    → row.text ≡ written s.style x → row.column ≡ margins.column → row.body ≡ [] → is_some row.key_comment ≡ false → IsLineText (written s.style x) → Rest t q (written s.style x ++ follows)
     → ((y : Node) → mean.events ≡ flat y → is_bracketed y ≡ true → Bracketed t q (q + length (written s.style x)) y) → NodeAt t q (q + length (written s.style x)) mean → MeansTrees x mean → mean.comments ≡ []
-    → LineEnd t (q + length (written s.style x)) place cs → texts cs ≡ carried_texts (first ds) → LineStart t place → Rest t place z → LineFound t s spot x (noting mean cs) row ds q place z
-line_found {t} {x} {row} {place} {q} {cs} {z} {mean} s spot ds follows inline some text column body key line there flow a b silent up is start w =
+    → LineEnd t (q + length (written s.style x)) place cs → texts cs ≡ carried_texts (first ds) → LineStart t place → Rest t place z → LineFound t s margins x (noting mean cs) row ds q place z
+line_found {t} {x} {row} {place} {q} {cs} {z} {mean} s margins ds follows inline some text column body key line there flow a b silent up is start w =
     let alike : Alike Anywhere x a.node = placed_node a b in
     let is_there : NodeIsAt t q (q + length (written s.style x)) a.node = node_upto a.is_there a.ends in
     let width : length (written s.style x) ≡ length row.text = ap length (sym text) in
     let here : NodeIsAt t q (q + length row.text) a.node = subst (λ k. NodeIsAt t q (q + k) a.node) width is_there in
     let p : PlacedRow = record { items = items_in a.node; leaves = leaves a.node; commented = false; column = row.column; from = q; upto = q + length row.text } in
-    let same : (noting mean cs).comments ≡ cs = comments_noting mean cs ∙ ap (λ w. w ++ cs) silent in
+    let same : (noting mean cs).comments ≡ cs = noting_comments mean cs ∙ ap (λ w. w ++ cs) silent in
     record {
       found_rows = p ∷ [];
       meant = found_noting cs (record {

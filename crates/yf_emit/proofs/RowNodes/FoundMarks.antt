@@ -8,7 +8,7 @@ use Rattle.yf_events.specs.declared.event.Span.{Span}
 use Rattle.yf_events.specs.Tree.{Node, NodeOffsets, sequence, mapping, Items, Pairs, items_in, leaves, is_block_collection}
 use Rattle.yf_forms.specs.declared.style.Style.{Style}
 use Rattle.yf_emit.specs.Preservation.AlikeBlocks.{AlikeBlocks, alike_lines, alike_block_sequences, alike_block_mappings, AlikeBlockItems, no_block_items, block_item, AlikeBlockPairs, no_block_pairs, block_pair}
-use Rattle.yf_forms.specs.NormalForms.Normal.{LayoutSetting, Spot, inner_spot, is_implicit, key_comment, key_spot, value_entries, value_of_implicit, value_spot}
+use Rattle.yf_forms.specs.NormalForms.Normal.{LayoutSetting, Margins, inner_margins, is_implicit, key_comment, key_margins, value_entries, value_of_implicit, value_margins}
 use Rattle.yf_forms.specs.Nodes.OneLine.{props_text, written}
 use Rattle.yf_emit.specs.Layouts.RowShapes.{KeysAgree}
 use Rattle.yf_print.specs.Layouts.Rows.{Row, after_key, after_sign, colon_row, entry_row, explicit_pair, implicit_pair, joined, key_row, one_line_row, pair_rows as rows_of_pair, props_row, rows, rows_of_items, rows_of_pairs}
@@ -96,53 +96,53 @@ mapping_blocks (alike_lines a e) n = absurd (true≢false (sym n ∙ (sym (same_
 mapping_blocks (alike_block_mappings e a) n = a
 
 mutual
-  pub node_marks : {t : List ℕ} {c : LayoutSetting} {at : Spot} {x y : Node} {ps : List PlacedRow} (cs : List CommentValue) (spot : Spot) → spot.entries ≡ at.entries → AlikeBlocks c.style c.comments cs x y → NodeRows t c at x y ps
-      → marks (rows (setting c.style cs) spot y) ≡ placed_marks ps
-  node_marks cs spot e a (no_rows f) = refl
-  node_marks {c = c} cs spot e a (line_rows {y = y} {p = p} f n g h i st k l o w) =
-      ap marks (inline_rows (setting c.style cs) spot y f) ∙ line_marks spot.column y (written c.style y) p n g h
-  node_marks {c = c} cs spot e a (scalar_rows {at = at} {props = props} {style = style} {text = text} {lines = lines} f n g h i) =
-      ap marks (scalar_rows_are (setting c.style cs) spot at props text lines style f) ∙ both_marks [] (sym g) (sym h)
-  node_marks {c = c} cs spot e a (sequence_rows {props = props} {ys = ys} n f r) =
-      ap (λ z. marks (z ++ rows_of_items (setting c.style cs) spot.entries ys)) (no_props_marks spot.column (props_text props) f) ∙ items_marks cs spot.entries e (sequence_blocks a n) r
-  node_marks {c = c} cs spot e a (sequence_after {props = props} {ys = ys} {p = p} {ps = ps} n f g h i r) =
-      marks_join (props_row spot.column (props_text props)) (rows_of_items (setting c.style cs) spot.entries ys) (p ∷ []) ps (props_marks spot.column (props_text props) p f g h)
-      (items_marks cs spot.entries e (sequence_blocks a n) r)
-  node_marks {c = c} cs spot e a (mapping_rows {props = props} {ys = ys} n f r) =
-      ap (λ z. marks (z ++ rows_of_pairs (setting c.style cs) spot.entries ys)) (no_props_marks spot.column (props_text props) f) ∙ pairs_marks cs spot.entries e (mapping_blocks a n) r
-  node_marks {c = c} cs spot e a (mapping_after {props = props} {ys = ys} {p = p} {ps = ps} n f g h i r) =
-      marks_join (props_row spot.column (props_text props)) (rows_of_pairs (setting c.style cs) spot.entries ys) (p ∷ []) ps (props_marks spot.column (props_text props) p f g h)
-      (pairs_marks cs spot.entries e (mapping_blocks a n) r)
+  pub node_marks : {t : List ℕ} {c : LayoutSetting} {at : Margins} {x y : Node} {ps : List PlacedRow} (cs : List CommentValue) (margins : Margins) → margins.entries ≡ at.entries → AlikeBlocks c.style c.comments cs x y → NodeRows t c at x y ps
+      → marks (rows (setting c.style cs) margins y) ≡ placed_marks ps
+  node_marks cs margins e a (no_rows f) = refl
+  node_marks {c = c} cs margins e a (line_rows {y = y} {p = p} f n g h i st k l o w) =
+      ap marks (inline_rows (setting c.style cs) margins y f) ∙ line_marks margins.column y (written c.style y) p n g h
+  node_marks {c = c} cs margins e a (scalar_rows {at = at} {props = props} {style = style} {text = text} {lines = lines} f n g h i) =
+      ap marks (scalar_rows_are (setting c.style cs) margins at props text lines style f) ∙ both_marks [] (sym g) (sym h)
+  node_marks {c = c} cs margins e a (sequence_rows {props = props} {ys = ys} n f r) =
+      ap (λ z. marks (z ++ rows_of_items (setting c.style cs) margins.entries ys)) (no_props_marks margins.column (props_text props) f) ∙ items_marks cs margins.entries e (sequence_blocks a n) r
+  node_marks {c = c} cs margins e a (sequence_after {props = props} {ys = ys} {p = p} {ps = ps} n f g h i r) =
+      marks_join (props_row margins.column (props_text props)) (rows_of_items (setting c.style cs) margins.entries ys) (p ∷ []) ps (props_marks margins.column (props_text props) p f g h)
+      (items_marks cs margins.entries e (sequence_blocks a n) r)
+  node_marks {c = c} cs margins e a (mapping_rows {props = props} {ys = ys} n f r) =
+      ap (λ z. marks (z ++ rows_of_pairs (setting c.style cs) margins.entries ys)) (no_props_marks margins.column (props_text props) f) ∙ pairs_marks cs margins.entries e (mapping_blocks a n) r
+  node_marks {c = c} cs margins e a (mapping_after {props = props} {ys = ys} {p = p} {ps = ps} n f g h i r) =
+      marks_join (props_row margins.column (props_text props)) (rows_of_pairs (setting c.style cs) margins.entries ys) (p ∷ []) ps (props_marks margins.column (props_text props) p f g h)
+      (pairs_marks cs margins.entries e (mapping_blocks a n) r)
 
   items_marks : {t : List ℕ} {c : LayoutSetting} {m : ℕ} {xs ys : Items} {ps : List PlacedRow} (cs : List CommentValue) (column : ℕ) → column ≡ m → AlikeBlockItems c.style c.comments cs xs ys → ItemsRows t c m xs ys ps
       → marks (rows_of_items (setting c.style cs) column ys) ≡ placed_marks ps
   items_marks cs column e no_block_items no_item_rows = refl
   items_marks {c = c} cs column e (block_item a b) (item_rows {y = y} {ys = ys} {hs = hs} {qs = qs} r s more) =
-      marks_join (after_sign c.style (entry_row column (codes "-") y) (rows (setting c.style cs) (inner_spot c.style column) y)) (rows_of_items (setting c.style cs) column ys) hs qs
-      (sign_marks (entry_row column (codes "-") y) (c.style.indent - 1) _ refl refl s (node_marks cs (inner_spot c.style column) (ap (λ z. z + c.style.indent) e) a r))
+      marks_join (after_sign c.style (entry_row column (codes "-") y) (rows (setting c.style cs) (inner_margins c.style column) y)) (rows_of_items (setting c.style cs) column ys) hs qs
+      (sign_marks (entry_row column (codes "-") y) (c.style.indent - 1) _ refl refl s (node_marks cs (inner_margins c.style column) (ap (λ z. z + c.style.indent) e) a r))
       (items_marks cs column e b more)
 
   pair_marks : {t : List ℕ} {c : LayoutSetting} {m : ℕ} {k v l w : Node} {ps : List PlacedRow} (cs : List CommentValue) (column : ℕ) → column ≡ m → AlikeBlocks c.style c.comments cs k l
       → AlikeBlocks c.style c.comments cs v w → KeysAgree c.style c.comments cs k v l w → PairRows t c m k v l w ps
-      → marks (rows_of_pair (setting c.style cs) column l w (rows (setting c.style cs) (key_spot c.style column l) l) (rows (setting c.style cs) (value_spot (setting c.style cs) column l w) w)) ≡ placed_marks ps
+      → marks (rows_of_pair (setting c.style cs) column l w (rows (setting c.style cs) (key_margins c.style column l) l) (rows (setting c.style cs) (value_margins (setting c.style cs) column l w) w)) ≡ placed_marks ps
   pair_marks {c = c} {l = l} {w = w} cs column e a b g (explicit_rows {hs = hs} {gs = gs} n r s d f) =
       let here : is_implicit c.style column l ≡ false = ap (λ z. is_implicit c.style z l) e ∙ n in
-      let spot : (value_spot (setting c.style cs) column l w).entries ≡ column + c.style.indent =
-      ap (λ z. (if z then value_of_implicit (setting c.style cs) column l w else inner_spot c.style column).entries) here in
-      ap (λ z. marks (if z then implicit_pair (setting c.style cs) column l w (rows (setting c.style cs) (value_spot (setting c.style cs) column l w) w)
-      else explicit_pair c.style column l (rows (setting c.style cs) (key_spot c.style column l) l) (rows (setting c.style cs) (value_spot (setting c.style cs) column l w) w))) here
+      let margins : (value_margins (setting c.style cs) column l w).entries ≡ column + c.style.indent =
+      ap (λ z. (if z then value_of_implicit (setting c.style cs) column l w else inner_margins c.style column).entries) here in
+      ap (λ z. marks (if z then implicit_pair (setting c.style cs) column l w (rows (setting c.style cs) (value_margins (setting c.style cs) column l w) w)
+      else explicit_pair c.style column l (rows (setting c.style cs) (key_margins c.style column l) l) (rows (setting c.style cs) (value_margins (setting c.style cs) column l w) w))) here
       ∙ marks_join (after_sign c.style (entry_row column (codes "?") l) _) (after_sign c.style (colon_row column l) _) hs gs
-      (sign_marks (entry_row column (codes "?") l) (c.style.indent - 1) _ refl refl s (node_marks cs (key_spot c.style column l) (ap (λ z. z + c.style.indent) e) a r))
-      (sign_marks (colon_row column l) (c.style.indent - 1) _ refl refl f (node_marks cs (value_spot (setting c.style cs) column l w) (spot ∙ ap (λ z. z + c.style.indent) e) b d))
+      (sign_marks (entry_row column (codes "?") l) (c.style.indent - 1) _ refl refl s (node_marks cs (key_margins c.style column l) (ap (λ z. z + c.style.indent) e) a r))
+      (sign_marks (colon_row column l) (c.style.indent - 1) _ refl refl f (node_marks cs (value_margins (setting c.style cs) column l w) (margins ∙ ap (λ z. z + c.style.indent) e) b d))
   pair_marks {c = c} {m = m} {k = k} {l = l} {w = w} cs column e a b g (implicit_rows flag q n on d f) =
       let here : is_implicit c.style column l ≡ true = ap (λ z. is_implicit c.style z l) e ∙ n in
-      let spot : (value_spot (setting c.style cs) column l w).entries ≡ value_entries c.style column w =
-      ap (λ z. (if z then value_of_implicit (setting c.style cs) column l w else inner_spot c.style column).entries) here in
+      let margins : (value_margins (setting c.style cs) column l w).entries ≡ value_entries c.style column w =
+      ap (λ z. (if z then value_of_implicit (setting c.style cs) column l w else inner_margins c.style column).entries) here in
       let told : is_some (key_comment cs l w) ≡ flag = sym (g.comment column (same_implicit c.style column (blocks_alike a) ∙ here)) ∙ sym q in
-      ap (λ z. marks (if z then implicit_pair (setting c.style cs) column l w (rows (setting c.style cs) (value_spot (setting c.style cs) column l w) w)
-      else explicit_pair c.style column l (rows (setting c.style cs) (key_spot c.style column l) l) (rows (setting c.style cs) (value_spot (setting c.style cs) column l w) w))) here
+      ap (λ z. marks (if z then implicit_pair (setting c.style cs) column l w (rows (setting c.style cs) (value_margins (setting c.style cs) column l w) w)
+      else explicit_pair c.style column l (rows (setting c.style cs) (key_margins c.style column l) l) (rows (setting c.style cs) (value_margins (setting c.style cs) column l w) w))) here
       ∙ key_marks (key_row c.style column l) (key_comment cs l w) _ refl refl told f
-      (node_marks cs (value_spot (setting c.style cs) column l w) (spot ∙ (ap (λ z. value_entries c.style z w) e ∙ sym (same_value_entries c.style m (blocks_alike b)))) b d)
+      (node_marks cs (value_margins (setting c.style cs) column l w) (margins ∙ (ap (λ z. value_entries c.style z w) e ∙ sym (same_value_entries c.style m (blocks_alike b)))) b d)
 
   pairs_marks : {t : List ℕ} {c : LayoutSetting} {m : ℕ} {xs ys : Pairs} {ps : List PlacedRow} (cs : List CommentValue) (column : ℕ) → column ≡ m → AlikeBlockPairs c.style c.comments cs xs ys → PairsRows t c m xs ys ps
       → marks (rows_of_pairs (setting c.style cs) column ys) ≡ placed_marks ps

@@ -5,7 +5,7 @@ use Rattle.yf_lines.specs.LineText.{IsLineText}
 use Rattle.yf_lines.specs.Rest.{Rest}
 use Rattle.yf_comments.specs.Comment.{CommentValue}
 use Rattle.yf_props.specs.Props.{PropsValue, no_props}
-use Rattle.yf_events.specs.Alike.{Alike, alike_scalars, alike_aliases, alike_sequences, alike_mappings, AlikeItems, alike_nothing, alike_item, AlikePairs, alike_no_pairs, alike_pair}
+use Rattle.yf_events.specs.Alike.{Alike, AlikeItems, alike_nothing, alike_item, AlikePairs, alike_no_pairs, alike_pair}
 use Rattle.yf_events.specs.declared.event.Entry.{Entry}
 use Rattle.yf_events.specs.declared.event.ScalarStyle.{ScalarStyle}
 use Rattle.yf_events.specs.declared.event.ScalarStyle.TheVariants.{Plain, Single, Double, Literal, Folded}
@@ -13,12 +13,13 @@ use Rattle.yf_events.specs.declared.event.Span.{Span}
 use Rattle.yf_events.specs.Tree.{NodeOffsets, Node, scalar, alias, sequence, mapping, Items, no_items, item, Pairs, no_pairs, pair, flat, flat_items, flat_pairs, leaves, items_in, entry_start, starts_of_entry, standing, spans_of_leaf, is_block_collection}
 use Rattle.yf_grammar.specs.Productions.Meaning.{Meaning, ◌⊕◌, meaning_after, noting, plain_event, empty_node, first_entering, entering}
 use Rattle.yf_grammar.specs.Productions.TreesOfMeaning.{Anywhere, MeansTrees}
-use Rattle.yf_grammar.proofs.NodesInText.MeantLemmas.{entered, entered_events}
+use Rattle.yf_grammar.proofs.NodesInText.MeantLemmas.{entered, entered_alike, entered_events}
 use Rattle.yf_events.proofs.TreeLemmas.{node_unique}
 use Rattle.yf_grammar.proofs.NodesInText.NodePlaces.{NodeIsAt, is_at_nowhere, scalar_is_at, alias_is_at, sequence_is_at, mapping_is_at}
+use Rattle.yf_grammar.proofs.NodesInText.PlacedNodes.{entered_standing}
 use Rattle.yf_forms.specs.declared.style.Style.{Style}
 use Rattle.yf_emit.specs.Layouts.ReadableTrees.{is_block_style, is_inline}
-use Rattle.yf_forms.specs.NormalForms.Normal.{LayoutSetting, Spot, entry_or, inner_spot, is_implicit, key_comment, key_spot, value_of_implicit}
+use Rattle.yf_forms.specs.NormalForms.Normal.{LayoutSetting, Margins, entry_or, inner_margins, is_implicit, key_comment, key_margins, value_of_implicit}
 use Rattle.yf_forms.specs.Nodes.OneLine.{written, props_text}
 use Rattle.yf_print.specs.Layouts.Rows.{begins_below, colon_offset}
 use Rattle.yf_forms.specs.Nodes.Lines.{is_empty_text}
@@ -66,34 +67,34 @@ pub data KeyOn (house : Style) (t : List ℕ) (m : ℕ) (k : Node) : List Placed
 pub key_at : (house : Style) {t : List ℕ} {m : ℕ} {k : Node} {q e : ℕ} {hs : List PlacedRow} → NodeIsAt t q e k → entry_or 0 (standing k).entry ≡ q → NodeText house t q k → is_some (standing k).entry ≡ true → HeadAt m q (e + 1) hs → KeyOn house t m k hs
 key_at house {t} {k = k} n g w some (head_at c f l) = key_on n (omega (arith, f)) (omega (arith, l)) (g ∙ sym f) c (subst (λ i. NodeText house t i k) (sym f) w) some
 
--- The rows of a node that was laid out at a spot.
+-- The rows of a node that was laid out at a margins.
 mutual
-  pub data NodeRows (t : List ℕ) (s : LayoutSetting) : Spot → Node → Node → List PlacedRow → Type 0 where
-    no_rows : {spot : Spot} {x : Node} {at : NodeOffsets} {lines : List (List ℕ)} → at.span ≡ None → NodeRows t s spot x (scalar at no_props Plain [] lines) []
-    line_rows : {spot : Spot} {a b : ℕ} {x y : Node} {p : PlacedRow} → is_inline y ≡ true → written s.style y ≢ [] → p.items ≡ items_in y → p.leaves ≡ leaves y → p.commented ≡ false
-        → NodeIsAt t a b y → p.from ≤ a → b ≤ p.upto → p.column ≡ spot.column → NodeText s.style t p.from y → NodeRows t s spot x y (p ∷ [])
-    scalar_rows : {spot : Spot} {x : Node} {at : NodeOffsets} {props : PropsValue} {style : ScalarStyle} {text : List ℕ} {lines : List (List ℕ)} {p : PlacedRow} → is_block_style style ≡ true
-        → Inside p.from p.upto (map (λ s. s.start) (spans_of_leaf at.span)) → p.items ≡ map (λ s. s.start) (spans_of_leaf at.span) → p.leaves ≡ spans_of_leaf at.span → p.commented ≡ false → NodeRows t s spot x (scalar at props style text lines) (p ∷ [])
-    sequence_rows : {spot : Spot} {at bt : NodeOffsets} {props : PropsValue} {xs ys : Items} {ps : List PlacedRow} → is_block_collection (sequence bt false props ys) ≡ true → is_empty_text (props_text props) ≡ true → ItemsRows t s spot.entries xs ys ps
-        → NodeRows t s spot (sequence at false props xs) (sequence bt false props ys) ps
-    sequence_after : {spot : Spot} {at bt : NodeOffsets} {props : PropsValue} {xs ys : Items} {p : PlacedRow} {ps : List PlacedRow} → is_block_collection (sequence bt false props ys) ≡ true
+  pub data NodeRows (t : List ℕ) (s : LayoutSetting) : Margins → Node → Node → List PlacedRow → Type 0 where
+    no_rows : {margins : Margins} {x : Node} {at : NodeOffsets} {lines : List (List ℕ)} → at.span ≡ None → NodeRows t s margins x (scalar at no_props Plain [] lines) []
+    line_rows : {margins : Margins} {a b : ℕ} {x y : Node} {p : PlacedRow} → is_inline y ≡ true → written s.style y ≢ [] → p.items ≡ items_in y → p.leaves ≡ leaves y → p.commented ≡ false
+        → NodeIsAt t a b y → p.from ≤ a → b ≤ p.upto → p.column ≡ margins.column → NodeText s.style t p.from y → NodeRows t s margins x y (p ∷ [])
+    scalar_rows : {margins : Margins} {x : Node} {at : NodeOffsets} {props : PropsValue} {style : ScalarStyle} {text : List ℕ} {lines : List (List ℕ)} {p : PlacedRow} → is_block_style style ≡ true
+        → Inside p.from p.upto (map (λ s. s.start) (spans_of_leaf at.span)) → p.items ≡ map (λ s. s.start) (spans_of_leaf at.span) → p.leaves ≡ spans_of_leaf at.span → p.commented ≡ false → NodeRows t s margins x (scalar at props style text lines) (p ∷ [])
+    sequence_rows : {margins : Margins} {at bt : NodeOffsets} {props : PropsValue} {xs ys : Items} {ps : List PlacedRow} → is_block_collection (sequence bt false props ys) ≡ true → is_empty_text (props_text props) ≡ true → ItemsRows t s margins.entries xs ys ps
+        → NodeRows t s margins (sequence at false props xs) (sequence bt false props ys) ps
+    sequence_after : {margins : Margins} {at bt : NodeOffsets} {props : PropsValue} {xs ys : Items} {p : PlacedRow} {ps : List PlacedRow} → is_block_collection (sequence bt false props ys) ≡ true
         → is_empty_text (props_text props) ≡ false → p.items ≡ [] → p.leaves ≡ []
-        → p.commented ≡ false → ItemsRows t s spot.entries xs ys ps → NodeRows t s spot (sequence at false props xs) (sequence bt false props ys) (p ∷ ps)
-    mapping_rows : {spot : Spot} {at bt : NodeOffsets} {props : PropsValue} {xs ys : Pairs} {ps : List PlacedRow} → is_block_collection (mapping bt false props ys) ≡ true → is_empty_text (props_text props) ≡ true → PairsRows t s spot.entries xs ys ps
-        → NodeRows t s spot (mapping at false props xs) (mapping bt false props ys) ps
-    mapping_after : {spot : Spot} {at bt : NodeOffsets} {props : PropsValue} {xs ys : Pairs} {p : PlacedRow} {ps : List PlacedRow} → is_block_collection (mapping bt false props ys) ≡ true
+        → p.commented ≡ false → ItemsRows t s margins.entries xs ys ps → NodeRows t s margins (sequence at false props xs) (sequence bt false props ys) (p ∷ ps)
+    mapping_rows : {margins : Margins} {at bt : NodeOffsets} {props : PropsValue} {xs ys : Pairs} {ps : List PlacedRow} → is_block_collection (mapping bt false props ys) ≡ true → is_empty_text (props_text props) ≡ true → PairsRows t s margins.entries xs ys ps
+        → NodeRows t s margins (mapping at false props xs) (mapping bt false props ys) ps
+    mapping_after : {margins : Margins} {at bt : NodeOffsets} {props : PropsValue} {xs ys : Pairs} {p : PlacedRow} {ps : List PlacedRow} → is_block_collection (mapping bt false props ys) ≡ true
         → is_empty_text (props_text props) ≡ false → p.items ≡ [] → p.leaves ≡ []
-        → p.commented ≡ false → PairsRows t s spot.entries xs ys ps → NodeRows t s spot (mapping at false props xs) (mapping bt false props ys) (p ∷ ps)
+        → p.commented ≡ false → PairsRows t s margins.entries xs ys ps → NodeRows t s margins (mapping at false props xs) (mapping bt false props ys) (p ∷ ps)
 
   pub data ItemsRows (t : List ℕ) (s : LayoutSetting) : ℕ → Items → Items → List PlacedRow → Type 0 where
     no_item_rows : {m : ℕ} → ItemsRows t s m no_items no_items []
-    item_rows : {m : ℕ} {x y : Node} {xs ys : Items} {ps hs qs : List PlacedRow} → NodeRows t s (inner_spot s.style m) x y ps → SignRows t (entry_start y) ps hs → ItemsRows t s m xs ys qs
+    item_rows : {m : ℕ} {x y : Node} {xs ys : Items} {ps hs qs : List PlacedRow} → NodeRows t s (inner_margins s.style m) x y ps → SignRows t (entry_start y) ps hs → ItemsRows t s m xs ys qs
         → ItemsRows t s m (item x xs) (item y ys) (hs ++ qs)
 
   -- a key k with its value v that are found as l and w
   pub data PairRows (t : List ℕ) (s : LayoutSetting) : ℕ → Node → Node → Node → Node → List PlacedRow → Type 0 where
-    explicit_rows : {m : ℕ} {k v l w : Node} {ps hs qs gs : List PlacedRow} → is_implicit s.style m l ≡ false → NodeRows t s (key_spot s.style m k) k l ps → SignRows t (entry_start l) ps hs
-        → NodeRows t s (inner_spot s.style m) v w qs → SignRows t (colon_offset (standing l).entry) qs gs → PairRows t s m k v l w (hs ++ gs)
+    explicit_rows : {m : ℕ} {k v l w : Node} {ps hs qs gs : List PlacedRow} → is_implicit s.style m l ≡ false → NodeRows t s (key_margins s.style m k) k l ps → SignRows t (entry_start l) ps hs
+        → NodeRows t s (inner_margins s.style m) v w qs → SignRows t (colon_offset (standing l).entry) qs gs → PairRows t s m k v l w (hs ++ gs)
     implicit_rows : {m : ℕ} {k v l w : Node} {ps hs : List PlacedRow} (b : Bool) → b ≡ is_some (key_comment s.comments k v) → is_implicit s.style m l ≡ true → KeyOn s.style t m l hs
         → NodeRows t s (value_of_implicit s m k v) v w ps → KeyRows t (entry_start l ++ items_in l) (leaves l) b (begins_below w) ps hs → PairRows t s m k v l w hs
 
@@ -103,16 +104,16 @@ mutual
 
 -- What a production means: the node that is found, on these rows.
 
-pub record FoundNode (t : List ℕ) (s : LayoutSetting) (spot : Spot) (x : Node) (meaning : Meaning) (ps : List PlacedRow) : Type 0 where
+pub record FoundNode (t : List ℕ) (s : LayoutSetting) (margins : Margins) (x : Node) (meaning : Meaning) (ps : List PlacedRow) : Type 0 where
   pub node : Node
   pub alike : Alike Anywhere x node
   pub events : meaning.events ≡ flat node
   pub escapes : meaning.escapes ≡ []
-  pub rows : NodeRows t s spot x node ps
+  pub rows : NodeRows t s margins x node ps
 
 pub record FoundItem (t : List ℕ) (s : LayoutSetting) (m : ℕ) (x : Node) (meaning : Meaning) (hs : List PlacedRow) : Type 0 where
   pub inner : List PlacedRow
-  pub found : FoundNode t s (inner_spot s.style m) x meaning inner
+  pub found : FoundNode t s (inner_margins s.style m) x meaning inner
   pub sign : SignRows t (entry_start found.node) inner hs
 
 pub record FoundItems (t : List ℕ) (s : LayoutSetting) (m : ℕ) (xs : Items) (meaning : Meaning) (ps : List PlacedRow) : Type 0 where
@@ -138,7 +139,7 @@ pub record FoundPairs (t : List ℕ) (s : LayoutSetting) (m : ℕ) (xs : Pairs) 
   pub escapes : meaning.escapes ≡ []
   pub rows : PairsRows t s m xs pairs ps
 
-pub meant_of : {t : List ℕ} {s : LayoutSetting} {spot : Spot} {x : Node} {meaning : Meaning} {ps : List PlacedRow} → FoundNode t s spot x meaning ps → MeansTrees x meaning
+pub meant_of : {t : List ℕ} {s : LayoutSetting} {margins : Margins} {x : Node} {meaning : Meaning} {ps : List PlacedRow} → FoundNode t s margins x meaning ps → MeansTrees x meaning
 meant_of a = record { node = a.node; alike = a.alike; events = a.events; escapes = a.escapes }
 
 -- Entries.
@@ -184,18 +185,6 @@ is_at_entered e (alias_is_at q b m n s) = alias_is_at q b m n s
 is_at_entered e (sequence_is_at q b m n s) = sequence_is_at q b m n s
 is_at_entered e (mapping_is_at q b m n s) = mapping_is_at q b m n s
 
-pub alike_entered : {x y : Node} (e : Entry) → Alike Anywhere x y → Alike Anywhere x (entered e y)
-alike_entered e (alike_scalars a) = alike_scalars a
-alike_entered e (alike_aliases a) = alike_aliases a
-alike_entered e (alike_sequences a b) = alike_sequences a b
-alike_entered e (alike_mappings a b) = alike_mappings a b
-
-pub entry_entered : (e : Entry) (x : Node) → (standing (entered e x)).entry ≡ Some e
-entry_entered e (scalar at props style text lines) = refl
-entry_entered e (alias at name) = refl
-entry_entered e (sequence at flow props xs) = refl
-entry_entered e (mapping at flow props ps) = refl
-
 block_entered : (e : Entry) (y : Node) → is_block_collection y ≡ true → is_block_collection (entered e y) ≡ true
 block_entered e (scalar at props style text lines) f = f
 block_entered e (alias at name) f = f
@@ -214,7 +203,7 @@ text_entered house {t} {i} e y a =
       flow = λ f. subst (λ w. Bracketed t i (i + length w) (entered e y)) same (bracketed_entered e y (a.flow (sym (is_bracketed_entered e y) ∙ f)));
     }
 
-pub rows_entered : {t : List ℕ} {s : LayoutSetting} {spot : Spot} {x y : Node} {ps : List PlacedRow} (e : Entry) → NodeRows t s spot x y ps → NodeRows t s spot x (entered e y) ps
+pub rows_entered : {t : List ℕ} {s : LayoutSetting} {margins : Margins} {x y : Node} {ps : List PlacedRow} (e : Entry) → NodeRows t s margins x y ps → NodeRows t s margins x (entered e y) ps
 rows_entered e (no_rows q) = no_rows q
 rows_entered {s = s} e (line_rows {y = y} f n g h i st j k c w) =
     line_rows (inline_entered e y f) (λ z. n (sym (written_entered s.style e y) ∙ z)) (g ∙ sym (items_entered e y)) (h ∙ sym (leaves_entered e y)) i (is_at_entered e st) j k c (text_entered s.style e y w)
@@ -237,10 +226,6 @@ pub bare_escapes : (i : ℕ) → (empty_node i).escapes ≡ []
 unfolding empty_node
 bare_escapes i = refl
 
-pub bare_comments : (i : ℕ) → (empty_node i).comments ≡ []
-unfolding empty_node
-bare_comments i = refl
-
 pub bare_alike : {x : Node} (i : ℕ) → MeansTrees x (empty_node i) → Alike Anywhere x bare_node
 bare_alike {x} i a =
     let same : a.node ≡ bare_node = (node_unique a.node bare_node [] [] (append-nil (flat a.node) ∙ (sym a.events ∙ bare_events i))).0 in
@@ -249,23 +234,23 @@ bare_alike {x} i a =
 abbrev pub entry_at : ℕ → Option ℕ → Entry
 entry_at q colon = record { start = q; colon = colon; blank_before = false }
 
-module _ {t : List ℕ} {s : LayoutSetting} {spot : Spot} where
-  pub found_after : {x : Node} {meaning : Meaning} {ps : List PlacedRow} (cs : List CommentValue) → FoundNode t s spot x meaning ps → FoundNode t s spot x (meaning_after cs meaning) ps
+module _ {t : List ℕ} {s : LayoutSetting} {margins : Margins} where
+  pub found_after : {x : Node} {meaning : Meaning} {ps : List PlacedRow} (cs : List CommentValue) → FoundNode t s margins x meaning ps → FoundNode t s margins x (meaning_after cs meaning) ps
   unfolding meaning_after
   found_after cs a = record { node = a.node; alike = a.alike; events = a.events; escapes = a.escapes; rows = a.rows }
 
-  pub found_noting : {x : Node} {meaning : Meaning} {ps : List PlacedRow} (cs : List CommentValue) → FoundNode t s spot x meaning ps → FoundNode t s spot x (noting meaning cs) ps
+  pub found_noting : {x : Node} {meaning : Meaning} {ps : List PlacedRow} (cs : List CommentValue) → FoundNode t s margins x meaning ps → FoundNode t s margins x (noting meaning cs) ps
   unfolding noting
   found_noting cs a = record { node = a.node; alike = a.alike; events = a.events; escapes = a.escapes; rows = a.rows }
 
-  pub found_nothing : {x : Node} (i : ℕ) → MeansTrees x (empty_node i) → FoundNode t s spot x (empty_node i) []
+  pub found_nothing : {x : Node} (i : ℕ) → MeansTrees x (empty_node i) → FoundNode t s margins x (empty_node i) []
   found_nothing i a = record { node = bare_node; alike = bare_alike i a; events = bare_events i; escapes = bare_escapes i; rows = no_rows refl }
 
-  pub found_entering : {x : Node} {meaning : Meaning} {ps : List PlacedRow} (q : ℕ) (colon : Option ℕ) → FoundNode t s spot x meaning ps → FoundNode t s spot x (entering q colon meaning) ps
+  pub found_entering : {x : Node} {meaning : Meaning} {ps : List PlacedRow} (q : ℕ) (colon : Option ℕ) → FoundNode t s margins x meaning ps → FoundNode t s margins x (entering q colon meaning) ps
   unfolding entering
   found_entering q colon a = record {
     node = entered (entry_at q colon) a.node;
-    alike = alike_entered (entry_at q colon) a.alike;
+    alike = entered_alike (entry_at q colon) a.alike;
     events = ap (first_entering (entry_at q colon)) a.events ∙ entered_events (entry_at q colon) a.node;
     escapes = a.escapes;
     rows = rows_entered (entry_at q colon) a.rows;
@@ -273,18 +258,18 @@ module _ {t : List ℕ} {s : LayoutSetting} {spot : Spot} where
 
 module _ {t : List ℕ} {s : LayoutSetting} {m : ℕ} where
   -- an item after its sign, which is at q
-  pub found_item : {x : Node} {meaning : Meaning} {ps hs : List PlacedRow} (q : ℕ) → FoundNode t s (inner_spot s.style m) x meaning ps → SignRows t (q ∷ []) ps hs → FoundItem t s m x (entering q None meaning) hs
+  pub found_item : {x : Node} {meaning : Meaning} {ps hs : List PlacedRow} (q : ℕ) → FoundNode t s (inner_margins s.style m) x meaning ps → SignRows t (q ∷ []) ps hs → FoundItem t s m x (entering q None meaning) hs
   unfolding entering
   found_item {ps = ps} {hs = hs} q a b = record {
     inner = ps;
     found = record {
       node = entered (entry_at q None) a.node;
-      alike = alike_entered (entry_at q None) a.alike;
+      alike = entered_alike (entry_at q None) a.alike;
       events = ap (first_entering (entry_at q None)) a.events ∙ entered_events (entry_at q None) a.node;
       escapes = a.escapes;
       rows = rows_entered (entry_at q None) a.rows;
     };
-    sign = subst (λ o. SignRows t (starts_of_entry o) ps hs) (sym (entry_entered (entry_at q None) a.node)) b;
+    sign = subst (λ o. SignRows t (starts_of_entry o) ps hs) (sym (entered_standing (entry_at q None) a.node)) b;
   }
 
   pub found_last_item : {x : Node} {meaning : Meaning} {hs : List PlacedRow} → FoundItem t s m x meaning hs → FoundItems t s m (item x no_items) meaning (hs ++ [])
@@ -328,12 +313,12 @@ module _ {t : List ℕ} {s : LayoutSetting} {m : ℕ} where
   }
 
   -- a pair whose key is after a `?` at q, and its value after a `:` at colon
-  pub found_explicit : {k v : Node} {one two : Meaning} {ps hs qs gs : List PlacedRow} (q colon : ℕ) → is_implicit s.style m k ≡ false → FoundNode t s (key_spot s.style m k) k one ps → SignRows t (q ∷ []) ps hs
-      → FoundNode t s (inner_spot s.style m) v two qs → SignRows t (colon ∷ []) qs gs → FoundPair t s m k v (entering q (Some colon) one ⊕ two) (hs ++ gs)
+  pub found_explicit : {k v : Node} {one two : Meaning} {ps hs qs gs : List PlacedRow} (q colon : ℕ) → is_implicit s.style m k ≡ false → FoundNode t s (key_margins s.style m k) k one ps → SignRows t (q ∷ []) ps hs
+      → FoundNode t s (inner_margins s.style m) v two qs → SignRows t (colon ∷ []) qs gs → FoundPair t s m k v (entering q (Some colon) one ⊕ two) (hs ++ gs)
   unfolding entering ◌⊕◌
   found_explicit {k} {v} {one} {two} {ps} {hs} {qs} {gs} q colon e a f b g =
       let entry : Entry = entry_at q (Some colon) in
-      let alike : Alike Anywhere k (entered entry a.node) = alike_entered entry a.alike in
+      let alike : Alike Anywhere k (entered entry a.node) = entered_alike entry a.alike in
       record {
         key = entered entry a.node;
         value = b.node;
@@ -341,8 +326,8 @@ module _ {t : List ℕ} {s : LayoutSetting} {m : ℕ} where
         alike_value = b.alike;
         events = ap (λ z. z ++ two.events) (ap (first_entering entry) a.events ∙ entered_events entry a.node) ∙ ap (λ z. flat (entered entry a.node) ++ z) b.events;
         escapes = ap (λ z. z ++ two.escapes) a.escapes ∙ b.escapes;
-        rows = explicit_rows (sym (same_implicit s.style m alike) ∙ e) (rows_entered entry a.rows) (subst (λ o. SignRows t (starts_of_entry o) ps hs) (sym (entry_entered entry a.node)) f)
-            b.rows (subst (λ o. SignRows t (colon_offset o) qs gs) (sym (entry_entered entry a.node)) g);
+        rows = explicit_rows (sym (same_implicit s.style m alike) ∙ e) (rows_entered entry a.rows) (subst (λ o. SignRows t (starts_of_entry o) ps hs) (sym (entered_standing entry a.node)) f)
+            b.rows (subst (λ o. SignRows t (colon_offset o) qs gs) (sym (entered_standing entry a.node)) g);
       }
 
   -- an implicit key, which begins at q and whose `:` is at colon, and its value
@@ -352,9 +337,9 @@ module _ {t : List ℕ} {s : LayoutSetting} {m : ℕ} where
   unfolding entering ◌⊕◌
   found_implicit {k} {v} {two} {ps} {hs} one q colon key b flag e a events escapes st text head value rows =
       let entry : Entry = entry_at q (Some colon) in
-      let alike : Alike Anywhere k (entered entry key) = alike_entered entry a in
+      let alike : Alike Anywhere k (entered entry key) = entered_alike entry a in
       let items : q ∷ items_in key ≡ entry_start (entered entry key) ++ items_in (entered entry key) =
-      ap (λ z. q ∷ z) (sym (items_entered entry key)) ∙ ap (λ o. starts_of_entry o ++ items_in (entered entry key)) (sym (entry_entered entry key)) in
+      ap (λ z. q ∷ z) (sym (items_entered entry key)) ∙ ap (λ o. starts_of_entry o ++ items_in (entered entry key)) (sym (entered_standing entry key)) in
       let moved : KeyRows t (entry_start (entered entry key) ++ items_in (entered entry key)) (leaves (entered entry key)) b (begins_below value.node) ps hs =
       subst (λ z. KeyRows t z (leaves (entered entry key)) b (begins_below value.node) ps hs) items
       (subst (λ z. KeyRows t (q ∷ items_in key) z b (begins_below value.node) ps hs) (sym (leaves_entered entry key))
@@ -367,5 +352,5 @@ module _ {t : List ℕ} {s : LayoutSetting} {m : ℕ} where
         events = ap (λ z. z ++ two.events) (ap (first_entering entry) events ∙ entered_events entry key) ∙ ap (λ z. flat (entered entry key) ++ z) value.events;
         escapes = ap (λ z. z ++ two.escapes) escapes ∙ value.escapes;
         rows = implicit_rows b flag (sym (same_implicit s.style m alike) ∙ e)
-            (key_at s.style (is_at_entered entry st) (ap (λ o. entry_or 0 o) (entry_entered entry key)) (text_entered s.style entry key text) (ap (λ o. is_some o) (entry_entered entry key)) head) value.rows moved;
+            (key_at s.style (is_at_entered entry st) (ap (λ o. entry_or 0 o) (entered_standing entry key)) (text_entered s.style entry key text) (ap (λ o. is_some o) (entered_standing entry key)) head) value.rows moved;
       }

@@ -7,7 +7,7 @@ use Rattle.yf_events.specs.Tree.{Node, DocumentTree, flat}
 use Rattle.yf_grammar.specs.Productions.Meaning.{Meaning}
 use Rattle.yf_grammar.specs.Productions.TreesOfMeaning.{Anywhere}
 use Rattle.yf_stream.specs.Stream.{Document, document_of, Documents, with_document, with_comments, only_comments}
-use Rattle.yf_forms.specs.NormalForms.Normal.{LayoutSetting, root_spot}
+use Rattle.yf_forms.specs.NormalForms.Normal.{LayoutSetting, root_margins}
 use Rattle.yf_emit.specs.Layouts.Decorated.{Deco, past, lines_then}
 use Rattle.yf_print.specs.Layouts.Rows.{Row, directive_row, start_row, end_rows, beginning_at}
 use Rattle.yf_emit.proofs.Derived.EntriesMade.{Begins, begins, append_begins, rows_in_more}
@@ -24,7 +24,7 @@ pub record FoundDocument (t : List ℕ) (s : LayoutSetting) (is_first : Bool) (x
   pub head : HeadRows m.start (heads_before is_first m.directives) heads
   pub inner : List PlacedRow
   pub are : ps ≡ heads ++ inner
-  pub rows : NodeRows t s (root_spot s.style) x.root node inner
+  pub rows : NodeRows t s (root_margins s.style) x.root node inner
 
 pub data FoundDocuments (t : List ℕ) (s : LayoutSetting) : Bool → List DocumentTree → List Document → List PlacedRow → Type 0 where
   no_documents_found : {is_first : Bool} → FoundDocuments t s is_first [] [] []
@@ -42,7 +42,7 @@ pub record FoundBare (t : List ℕ) (s : LayoutSetting) (x : DocumentTree) (m : 
   pub events : m.events ≡ flat node
   pub inner : List PlacedRow
   pub are : ps ≡ begun_placed m.start inner
-  pub rows : NodeRows t s (root_spot s.style) x.root node inner
+  pub rows : NodeRows t s (root_margins s.style) x.root node inner
 
 -- all documents; the flag says whether the first one is without a `---`
 pub data AllFound (t : List ℕ) (s : LayoutSetting) : Bool → List DocumentTree → List Document → List PlacedRow → Type 0 where
@@ -51,7 +51,7 @@ pub data AllFound (t : List ℕ) (s : LayoutSetting) : Bool → List DocumentTre
       → AllFound t s true (x ∷ xs) (m ∷ ms) (ps ++ qs)
 
 pub found_document : {t : List ℕ} {s : LayoutSetting} {x : DocumentTree} {m : Meaning} {ps inner : List PlacedRow} (is_first : Bool) (i : ℕ) (dirs : List Directive) (heads : List PlacedRow) → HeadRows i (heads_before is_first dirs) heads
-    → FoundNode t s (root_spot s.style) x.root m inner → ps ≡ heads ++ inner → FoundDocument t s is_first x (document_of i true dirs m) ps
+    → FoundNode t s (root_margins s.style) x.root m inner → ps ≡ heads ++ inner → FoundDocument t s is_first x (document_of i true dirs m) ps
 unfolding document_of
 found_document {inner = inner} is_first i dirs heads h a e = record { node = a.node; alike = a.alike; events = a.events; heads = heads; head = h; inner = inner; are = e; rows = a.rows }
 

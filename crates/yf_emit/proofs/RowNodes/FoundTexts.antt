@@ -10,7 +10,7 @@ use Rattle.yf_stream.specs.ReadingOf.{DocumentEvents, no_document, one_document,
 use Rattle.yf_stream.specs.Stream.{Document}
 use Rattle.yf_emit.specs.Layouts.FitDocuments.{DocumentsMeant, no_documents_meant, document_meant}
 use Rattle.yf_emit.specs.Preservation.FoundTrees.{FoundTrees, none_found, one_found}
-use Rattle.yf_forms.specs.NormalForms.Normal.{LayoutSetting, normal_document, root_spot, settled, styled}
+use Rattle.yf_forms.specs.NormalForms.Normal.{LayoutSetting, normal_document, root_margins, settled, styled}
 use Rattle.yf_emit.proofs.RowNodes.BareNodes.{bare, bare_tree}
 use Rattle.yf_emit.proofs.RowNodes.BareTrees.{blocks_renoted, undisturbed_renoted}
 use Rattle.yf_emit.proofs.RowNodes.FoundAgree.{rows_undisturbed}
@@ -26,7 +26,7 @@ use Rattle.yf_emit.proofs.NormalForms.SettledTwice.{settled_twice}
 pub data FoundRoots (t : List ℕ) (c : LayoutSetting) : Bool → List Doc → List DocumentTree → List DocumentTree → List PlacedRow → Type 0 where
   no_roots : {is_first : Bool} → FoundRoots t c is_first [] [] [] []
   one_root : {is_first : Bool} {d : Doc} {ds : List Doc} {x z : DocumentTree} {xs zs : List DocumentTree} {inner qs : List PlacedRow} (heads : List PlacedRow) → HeadRows d.start (heads_before is_first d.directives) heads
-      → Alike Anywhere x.root z.root → NodeRows t c (root_spot c.style) x.root z.root inner → FoundRoots t c false ds xs zs qs → FoundRoots t c is_first (d ∷ ds) (x ∷ xs) (z ∷ zs) ((heads ++ inner) ++ qs)
+      → Alike Anywhere x.root z.root → NodeRows t c (root_margins c.style) x.root z.root inner → FoundRoots t c false ds xs zs qs → FoundRoots t c is_first (d ∷ ds) (x ∷ xs) (z ∷ zs) ((heads ++ inner) ++ qs)
 
 pub record RootsFound (t : List ℕ) (c : LayoutSetting) (is_first : Bool) (ds : List Doc) (xs : List DocumentTree) (es : List EventInText) (ps : List PlacedRow) (n : ℕ) : Type 0 where
   pub trees : List DocumentTree
@@ -53,7 +53,7 @@ roots_found {t = t} {c = c} {is_first = is_first} (document_found {x = x} {xs = 
 -- the same of all documents
 pub data AllRoots (t : List ℕ) (c : LayoutSetting) : Bool → List Doc → List DocumentTree → List DocumentTree → List PlacedRow → Type 0 where
   marked_roots : {ds : List Doc} {xs zs : List DocumentTree} {ps : List PlacedRow} → FoundRoots t c true ds xs zs ps → AllRoots t c false ds xs zs ps
-  bare_root : {d : Doc} {ds : List Doc} {x z : DocumentTree} {xs zs : List DocumentTree} {inner qs : List PlacedRow} → Alike Anywhere x.root z.root → NodeRows t c (root_spot c.style) x.root z.root inner → FoundRoots t c false ds xs zs qs
+  bare_root : {d : Doc} {ds : List Doc} {x z : DocumentTree} {xs zs : List DocumentTree} {inner qs : List PlacedRow} → Alike Anywhere x.root z.root → NodeRows t c (root_margins c.style) x.root z.root inner → FoundRoots t c false ds xs zs qs
       → AllRoots t c true (d ∷ ds) (x ∷ xs) (z ∷ zs) (begun_placed d.start inner ++ qs)
 
 pub record AllRead (t : List ℕ) (c : LayoutSetting) (bare : Bool) (ds : List Doc) (xs : List DocumentTree) (es : List EventInText) (ps : List PlacedRow) (n : ℕ) : Type 0 where
@@ -81,12 +81,12 @@ all_roots_found {t = t} {c = c} (bare_first {x = x} {xs = xs} {ms = ms} {qs = qs
 -- each root is settled
 pub data Settled (c : LayoutSetting) : List DocumentTree → Type 0 where
   none_settled : Settled c []
-  one_settled : {x : DocumentTree} {xs : List DocumentTree} → settled c (root_spot c.style) x.root ≡ x.root → Settled c xs → Settled c (x ∷ xs)
+  one_settled : {x : DocumentTree} {xs : List DocumentTree} → settled c (root_margins c.style) x.root ≡ x.root → Settled c xs → Settled c (x ∷ xs)
 
 pub normal_settled : (t : List ℕ) (c : LayoutSetting) (read : List DocumentTree) → Settled c (map (normal_document t c) read)
 normal_settled t c [] = none_settled
 normal_settled t c (z ∷ read) =
-    one_settled (settled_twice c (root_spot c.style) (root_spot c.style) (styled t c z.root) (record { entries = refl; column = λ q. refl })) (normal_settled t c read)
+    one_settled (settled_twice c (root_margins c.style) (root_margins c.style) (styled t c z.root) (record { entries = refl; column = λ q. refl })) (normal_settled t c read)
 
 abbrev first_root : DocumentTree → List DocumentTree → Node
 first_root other [] = other.root
@@ -106,7 +106,7 @@ trees_found {u} {c} {cs} (y ∷ ys) (document_meant a more) (one_root {z = z} {z
     let rest : map bare_tree zs ≡ map bare_tree ys = ap other_trees e in
     let quiet = quiet_right heads inner (quiet_left (heads ++ inner) qs q) in
     let linked = linked_right heads inner (linked_left (heads ++ inner) qs l) in
-    one_found (sym a.words) (blocks_renoted y.root root (blocks_found (root_spot c.style) refl h b r quiet linked)) (undisturbed_renoted y.root root (rows_undisturbed r quiet))
+    one_found (sym a.words) (blocks_renoted y.root root (blocks_found (root_margins c.style) refl h b r quiet linked)) (undisturbed_renoted y.root root (rows_undisturbed r quiet))
     (trees_found ys more others rest hs (quiet_right (heads ++ inner) qs q) (linked_right (heads ++ inner) qs l))
 
 pub begun_quiet : {cs : List CommentValue} {ps : List PlacedRow} (start : ℕ) → AllQuiet cs (begun_placed start ps) → AllQuiet cs ps
@@ -129,5 +129,5 @@ all_trees_found {u} {c} {cs = cs} (y ∷ ys) (document_meant a more) (bare_root 
     let rest : map bare_tree zs ≡ map bare_tree ys = ap other_trees e in
     let quiet = begun_quiet d.start (quiet_left (begun_placed d.start inner) qs q) in
     let linked = begun_linked d.start (linked_left (begun_placed d.start inner) qs l) in
-    one_found (sym a.words) (blocks_renoted y.root root (blocks_found (root_spot c.style) refl h b r quiet linked)) (undisturbed_renoted y.root root (rows_undisturbed r quiet))
+    one_found (sym a.words) (blocks_renoted y.root root (blocks_found (root_margins c.style) refl h b r quiet linked)) (undisturbed_renoted y.root root (rows_undisturbed r quiet))
     (trees_found ys more others rest hs (quiet_right (begun_placed d.start inner) qs q) (linked_right (begun_placed d.start inner) qs l))

@@ -28,7 +28,7 @@ use Rattle.yf_stream.proofs.Offsets.DirectiveOrder.{directives_order}
 use Rattle.yf_stream.proofs.Offsets.ReadingTrees.{TreesStand, no_trees_stand, tree_is_at}
 use Rattle.yf_emit.proofs.SameReading.RowSteps.{documents_begin}
 use Rattle.yf_emit.specs.Layouts.Layout.{Remark, Source, first_comment, is_before, next_leaf, trailing}
-use Rattle.yf_forms.specs.NormalForms.Normal.{LayoutSetting, normal_document, root_spot}
+use Rattle.yf_forms.specs.NormalForms.Normal.{LayoutSetting, normal_document, root_margins}
 use Rattle.yf_print.specs.Layouts.Rows.{Row, beginning_at, directive_row, end_rows, rows, start_row, stream_rows, all_rows, begun_at}
 use Rattle.yf_emit.proofs.SameReading.CommentsCut.{In, in_first, in_rest, Flowing, no_flow, a_flow, none_trails}
 use Rattle.yf_emit.proofs.SameReading.ItemsOrder.{items_on, rises_greatest}
@@ -233,30 +233,30 @@ module _ {t : List ℕ} (lines : List Line) (are_lines : AreLines t lines) (c : 
   stream_bare st is_first [] trees next more e = absurd cc
   stream_bare st is_first (d ∷ ds) [] next more e = absurd cc
   stream_bare st is_first (d ∷ ds) (x ∷ xs) next more e =
-      head_bare is_first d.start d.directives (rows st (root_spot st.style) x.root ++ stream_rows st false ds xs) next more
-      (sym (append_assoc (head_rows is_first d) (rows st (root_spot st.style) x.root) (stream_rows st false ds xs)) ∙ e)
+      head_bare is_first d.start d.directives (rows st (root_margins st.style) x.root ++ stream_rows st false ds xs) next more
+      (sym (append_assoc (head_rows is_first d) (rows st (root_margins st.style) x.root) (stream_rows st false ds xs)) ∙ e)
 
   pub stream_flow : IsUtf8 t → (st : LayoutSetting) → st.comments ≡ cs → {i : ℕ} {ds : List Doc} {trees : List DocumentTree} (is_first : Bool) {it : ℕ} → it ≤ i → TreesStand t i ds trees
       → Upright c cs it (stream_rows st is_first ds (map (normal_document t st) trees)) → Flowing documents_begin c cs it (stream_rows st is_first ds (map (normal_document t st) trees)) (map (λ d. d.start) ds)
   stream_flow u st same is_first l (no_trees_stand m) no_upright = no_flow
   stream_flow u st same is_first {it} l (tree_is_at {j = j} {d = d} {ds = ds} {tree = tree} {trees = trees} a b more z) up =
       let head : List Row = head_rows is_first d in
-      let root : List Row = rows st (root_spot st.style) (normal_document t st tree).root in
+      let root : List Row = rows st (root_margins st.style) (normal_document t st tree).root in
       let others : List Row = stream_rows st false ds (map (normal_document t st) trees) in
       let starts : List ℕ = map (λ (w : Doc). w.start) ds in
       let placed = (root_same t st tree).placed ∙ node_placed b in
-      let house = normal_house t st (root_spot st.style) tree.root in
+      let house = normal_house t st (root_margins st.style) tree.root in
       let signed : (x : CommentValue) → In x st.comments → code t x.offset ≡ 35 = λ x i. sign x (subst (λ w. In x w) same i) in
-      let node = node_flows st (node_sits u st signed (root_spot st.style) b) placed house in
-      let leaves_are : leaves_on root ≡ leaves tree.root = node_leaves st (root_spot st.style) (normal_document t st tree).root placed house ∙ (root_same t st tree).leaves in
+      let node = node_flows st (node_sits u st signed (root_margins st.style) b) placed house in
+      let leaves_are : leaves_on root ≡ leaves tree.root = node_leaves st (root_margins st.style) (normal_document t st tree).root placed house ∙ (root_same t st tree).leaves in
       let before = directives_order a in
       let within = node_order b in
       let from : AllFrom j starts = starts_from more in
       let grouped : (head ++ root) ++ others ≡ head ++ (root ++ others) = append_assoc head root others in
       subst (λ w. Flowing documents_begin c cs it w (d.start ∷ starts)) (sym grouped)
       (head_flow is_first d.start d.directives (free_at u cs sign z.start) (later_from within from) (root ++ others) (subst (λ w. Upright c cs it w) grouped up) (omega (arith, l, before))
-      (λ n m upright. root_flow j z.end from root others (stream_bare st false ds (map (normal_document t st) trees)) upright (rows_none st (root_spot st.style) (normal_document t st tree).root)
-      (omega (arith, m, within)) (node.rises (root_spot st.style)) (λ s h. steps_has (node_steps b) (subst (λ w. Has s w) leaves_are h))
+      (λ n m upright. root_flow j z.end from root others (stream_bare st false ds (map (normal_document t st) trees)) upright (rows_none st (root_margins st.style) (normal_document t st tree).root)
+      (omega (arith, m, within)) (node.rises (root_margins st.style)) (λ s h. steps_has (node_steps b) (subst (λ w. Has s w) leaves_are h))
       (λ k o rest. stream_flow u st same false o more rest)))
 
   -- Where the first document is without a `---`: it begins on the first row of its root, and no comment is between its beginning and the last item on that row.
@@ -286,17 +286,17 @@ module _ {t : List ℕ} (lines : List Line) (are_lines : AreLines t lines) (c : 
   all_flow u st same false l stand laid unled up = stream_flow u st same true l stand up
   all_flow u st same true l (no_trees_stand m) laid unled no_upright = no_flow
   all_flow u st same true {it} l (tree_is_at {j = j} {d = d} {ds = ds} {tree = tree} {trees = trees} a b more z) laid unled up =
-      let root : List Row = rows st (root_spot st.style) (normal_document t st tree).root in
+      let root : List Row = rows st (root_margins st.style) (normal_document t st tree).root in
       let others : List Row = stream_rows st false ds (map (normal_document t st) trees) in
       let placed = (root_same t st tree).placed ∙ node_placed b in
-      let house = normal_house t st (root_spot st.style) tree.root in
+      let house = normal_house t st (root_margins st.style) tree.root in
       let signed : (x : CommentValue) → In x st.comments → code t x.offset ≡ 35 = λ x i. sign x (subst (λ w. In x w) same i) in
-      let node = node_flows st (node_sits u st signed (root_spot st.style) b) placed house in
-      let leaves_are : leaves_on root ≡ leaves tree.root = node_leaves st (root_spot st.style) (normal_document t st tree).root placed house ∙ (root_same t st tree).leaves in
+      let node = node_flows st (node_sits u st signed (root_margins st.style) b) placed house in
+      let leaves_are : leaves_on root ≡ leaves tree.root = node_leaves st (root_margins st.style) (normal_document t st tree).root placed house ∙ (root_same t st tree).leaves in
       let before = directives_order a in
       let within = node_order b in
       let from : AllFrom j (map (λ (w : Doc). w.start) ds) = starts_from more in
-      begun_flow d.start j within (free_at u cs sign z.start) z.end from root others laid (stream_bare st false ds (map (normal_document t st) trees)) up (rows_none st (root_spot st.style) (normal_document t st tree).root) (omega (arith, l, before))
-      (node.rises (root_spot st.style)) (λ s h. steps_has (node_steps b) (subst (λ w. Has s w) leaves_are h))
+      begun_flow d.start j within (free_at u cs sign z.start) z.end from root others laid (stream_bare st false ds (map (normal_document t st) trees)) up (rows_none st (root_margins st.style) (normal_document t st tree).root) (omega (arith, l, before))
+      (node.rises (root_margins st.style)) (λ s h. steps_has (node_steps b) (subst (λ w. Has s w) leaves_are h))
       (λ e i m n f. unled refl e i (one_before d.start e.offset (map (λ (w : Doc). w.start) ds) m ∙ ap (λ k. 1 + k) (none_before (later_from (omega (arith, n)) from))) f)
       (λ n m upright. stream_flow u st same false m more upright)

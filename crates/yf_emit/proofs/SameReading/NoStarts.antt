@@ -11,7 +11,7 @@ use Rattle.yf_emit.proofs.SameReading.RowSteps.{begins_after, documents_begin, s
 use Rattle.yf_forms.specs.Nodes.BlockLines.{final_feeds, is_kept_tail}
 use Rattle.yf_emit.specs.Layouts.RowComments.{carried_texts, comments_in}
 use Rattle.yf_emit.specs.Layouts.Decorated.{Deco, after, first, past}
-use Rattle.yf_forms.specs.NormalForms.Normal.{LayoutSetting, Spot, inner_spot, is_implicit, key_comment, key_spot, value_spot}
+use Rattle.yf_forms.specs.NormalForms.Normal.{LayoutSetting, Margins, inner_margins, is_implicit, key_comment, key_margins, value_margins}
 use Rattle.yf_forms.specs.Nodes.OneLine.{props_text, written}
 use Rattle.yf_print.specs.Layouts.Rows.{Row, begins_below, after_key, colon_row, directive_row, entry_row, explicit_pair, implicit_pair, joined, key_row, one_line_row, pair_rows, props_row, rows, rows_of_items, rows_of_pairs, tail_ending, Ending}
 use Rattle.yf_emit.proofs.Derived.LayoutSteps.{Step, a_comment, comment_steps}
@@ -62,27 +62,27 @@ pair_none c column k v xs ys a b = by (is_implicit c.style column k) where
       starts_none (joined_none (entry_row column (codes "?") k) (c.style.indent - 1) xs refl a) (joined_none (colon_row column k) (c.style.indent - 1) ys refl b)
 
 mutual
-  pub rows_none : (c : LayoutSetting) (spot : Spot) (x : Node) → NoStarts (rows c spot x)
-  rows_none c spot (scalar at props Plain text lines) = line_none spot.column (scalar at props Plain text lines) (written c.style (scalar at props Plain text lines))
-  rows_none c spot (scalar at props Single text lines) = line_none spot.column (scalar at props Single text lines) (written c.style (scalar at props Single text lines))
-  rows_none c spot (scalar at props Double text lines) = line_none spot.column (scalar at props Double text lines) (written c.style (scalar at props Double text lines))
-  rows_none c spot (scalar at props Literal text lines) = no_start_on (tail_none (is_kept_tail (final_feeds text))) no_starts
-  rows_none c spot (scalar at props Folded text lines) = no_start_on (tail_none (is_kept_tail (final_feeds text))) no_starts
-  rows_none c spot (alias at name) = line_none spot.column (alias at name) (written c.style (alias at name))
-  rows_none c spot (sequence at true props items) = line_none spot.column (sequence at true props items) (written c.style (sequence at true props items))
-  rows_none c spot (sequence at false props items) = starts_none (props_none spot.column (props_text props)) (items_none c spot.entries items)
-  rows_none c spot (mapping at true props pairs) = line_none spot.column (mapping at true props pairs) (written c.style (mapping at true props pairs))
-  rows_none c spot (mapping at false props pairs) = starts_none (props_none spot.column (props_text props)) (pairs_none c spot.entries pairs)
+  pub rows_none : (c : LayoutSetting) (margins : Margins) (x : Node) → NoStarts (rows c margins x)
+  rows_none c margins (scalar at props Plain text lines) = line_none margins.column (scalar at props Plain text lines) (written c.style (scalar at props Plain text lines))
+  rows_none c margins (scalar at props Single text lines) = line_none margins.column (scalar at props Single text lines) (written c.style (scalar at props Single text lines))
+  rows_none c margins (scalar at props Double text lines) = line_none margins.column (scalar at props Double text lines) (written c.style (scalar at props Double text lines))
+  rows_none c margins (scalar at props Literal text lines) = no_start_on (tail_none (is_kept_tail (final_feeds text))) no_starts
+  rows_none c margins (scalar at props Folded text lines) = no_start_on (tail_none (is_kept_tail (final_feeds text))) no_starts
+  rows_none c margins (alias at name) = line_none margins.column (alias at name) (written c.style (alias at name))
+  rows_none c margins (sequence at true props items) = line_none margins.column (sequence at true props items) (written c.style (sequence at true props items))
+  rows_none c margins (sequence at false props items) = starts_none (props_none margins.column (props_text props)) (items_none c margins.entries items)
+  rows_none c margins (mapping at true props pairs) = line_none margins.column (mapping at true props pairs) (written c.style (mapping at true props pairs))
+  rows_none c margins (mapping at false props pairs) = starts_none (props_none margins.column (props_text props)) (pairs_none c margins.entries pairs)
 
   items_none : (c : LayoutSetting) (column : ℕ) (xs : Items) → NoStarts (rows_of_items c column xs)
   items_none c column no_items = no_starts
   items_none c column (item x xs) =
-      starts_none (joined_none (entry_row column (codes "-") x) (c.style.indent - 1) (rows c (inner_spot c.style column) x) refl (rows_none c (inner_spot c.style column) x)) (items_none c column xs)
+      starts_none (joined_none (entry_row column (codes "-") x) (c.style.indent - 1) (rows c (inner_margins c.style column) x) refl (rows_none c (inner_margins c.style column) x)) (items_none c column xs)
 
   pairs_none : (c : LayoutSetting) (column : ℕ) (ps : Pairs) → NoStarts (rows_of_pairs c column ps)
   pairs_none c column no_pairs = no_starts
   pairs_none c column (pair k v ps) =
-      starts_none (pair_none c column k v (rows c (key_spot c.style column k) k) (rows c (value_spot c column k v) v) (rows_none c (key_spot c.style column k) k) (rows_none c (value_spot c column k v) v)) (pairs_none c column ps)
+      starts_none (pair_none c column k v (rows c (key_margins c.style column k) k) (rows c (value_margins c column k v) v) (rows_none c (key_margins c.style column k) k) (rows_none c (value_margins c column k v) v)) (pairs_none c column ps)
 
 pub directives_none : (es : List Directive) → NoStarts (map directive_row es)
 directives_none [] = no_starts

@@ -9,7 +9,7 @@ use Rattle.yf_events.specs.declared.event.ScalarStyle.TheVariants.{Plain, Single
 use Rattle.yf_events.specs.declared.event.Span.{Span}
 use Rattle.yf_events.specs.Tree.{NodeOffsets, Node, scalar, alias, sequence, mapping, no_items, item, no_pairs, pair, items_in, leaves, props_of, spans_of_leaf, is_block_collection, is_filled_flow, is_text}
 use Rattle.yf_forms.specs.declared.style.Style.{Style}
-use Rattle.yf_forms.specs.NormalForms.Normal.{LayoutSetting, Spot, fits, is_one_line_key}
+use Rattle.yf_forms.specs.NormalForms.Normal.{LayoutSetting, Margins, fits, is_one_line_key}
 use Rattle.yf_forms.specs.Nodes.OneLine.{props_text, written}
 use Rattle.yf_print.specs.Layouts.Rows.{Row, begins_below, one_line_row, props_row, rows, rows_of_items, rows_of_pairs}
 use Rattle.yf_forms.specs.Nodes.Lines.{is_empty_text}
@@ -117,36 +117,36 @@ line_row_fits column x (b ∷ w) a = row_fits a (no_key refl) no_rows_fit
 
 -- what holds of the rows of a node wherever it is
 pub record NodeFlows (c : LayoutSetting) (i j : ℕ) (x : Node) : Type 0 where
-  pub rises : (spot : Spot) → Rises i (items_on (rows c spot x)) j
-  pub fits : (spot : Spot) → RowsFit c.comments (rows c spot x)
+  pub rises : (margins : Margins) → Rises i (items_on (rows c margins x)) j
+  pub fits : (margins : Margins) → RowsFit c.comments (rows c margins x)
 
 pub scalar_flows : (c : LayoutSetting) {i j : ℕ} (at : NodeOffsets) (props : PropsValue) (style : ScalarStyle) (text : List ℕ) (lines : List (List ℕ)) → OneLine c.comments i j (scalar at props style text lines)
     → NodeFlows c i j (scalar at props style text lines)
 scalar_flows c at props Plain text lines a = record {
-  rises = λ spot. line_row_rises spot.column (scalar at props Plain text lines) (written c.style (scalar at props Plain text lines)) a.rises;
-  fits = λ spot. line_row_fits spot.column (scalar at props Plain text lines) (written c.style (scalar at props Plain text lines)) a.fits;
+  rises = λ margins. line_row_rises margins.column (scalar at props Plain text lines) (written c.style (scalar at props Plain text lines)) a.rises;
+  fits = λ margins. line_row_fits margins.column (scalar at props Plain text lines) (written c.style (scalar at props Plain text lines)) a.fits;
 }
 scalar_flows c at props Single text lines a = record {
-  rises = λ spot. line_row_rises spot.column (scalar at props Single text lines) (written c.style (scalar at props Single text lines)) a.rises;
-  fits = λ spot. line_row_fits spot.column (scalar at props Single text lines) (written c.style (scalar at props Single text lines)) a.fits;
+  rises = λ margins. line_row_rises margins.column (scalar at props Single text lines) (written c.style (scalar at props Single text lines)) a.rises;
+  fits = λ margins. line_row_fits margins.column (scalar at props Single text lines) (written c.style (scalar at props Single text lines)) a.fits;
 }
 scalar_flows c at props Double text lines a = record {
-  rises = λ spot. line_row_rises spot.column (scalar at props Double text lines) (written c.style (scalar at props Double text lines)) a.rises;
-  fits = λ spot. line_row_fits spot.column (scalar at props Double text lines) (written c.style (scalar at props Double text lines)) a.fits;
+  rises = λ margins. line_row_rises margins.column (scalar at props Double text lines) (written c.style (scalar at props Double text lines)) a.rises;
+  fits = λ margins. line_row_fits margins.column (scalar at props Double text lines) (written c.style (scalar at props Double text lines)) a.fits;
 }
 scalar_flows c {i} {j} at props Literal text lines a = record {
-  rises = λ spot. subst (λ z. Rises i z j) (sym (append-nil (items_in (scalar at props Literal text lines)))) a.rises;
-  fits = λ spot. row_fits a.fits (no_key refl) no_rows_fit;
+  rises = λ margins. subst (λ z. Rises i z j) (sym (append-nil (items_in (scalar at props Literal text lines)))) a.rises;
+  fits = λ margins. row_fits a.fits (no_key refl) no_rows_fit;
 }
 scalar_flows c {i} {j} at props Folded text lines a = record {
-  rises = λ spot. subst (λ z. Rises i z j) (sym (append-nil (items_in (scalar at props Folded text lines)))) a.rises;
-  fits = λ spot. row_fits a.fits (no_key refl) no_rows_fit;
+  rises = λ margins. subst (λ z. Rises i z j) (sym (append-nil (items_in (scalar at props Folded text lines)))) a.rises;
+  fits = λ margins. row_fits a.fits (no_key refl) no_rows_fit;
 }
 
-pub line_flows : (c : LayoutSetting) {i j : ℕ} (x : Node) → ((spot : Spot) → rows c spot x ≡ one_line_row spot.column x (written c.style x)) → OneLine c.comments i j x → NodeFlows c i j x
+pub line_flows : (c : LayoutSetting) {i j : ℕ} (x : Node) → ((margins : Margins) → rows c margins x ≡ one_line_row margins.column x (written c.style x)) → OneLine c.comments i j x → NodeFlows c i j x
 line_flows c {i} {j} x e a = record {
-  rises = λ spot. subst (λ w. Rises i (items_on w) j) (sym (e spot)) (line_row_rises spot.column x (written c.style x) a.rises);
-  fits = λ spot. subst (λ w. RowsFit c.comments w) (sym (e spot)) (line_row_fits spot.column x (written c.style x) a.fits);
+  rises = λ margins. subst (λ w. Rises i (items_on w) j) (sym (e margins)) (line_row_rises margins.column x (written c.style x) a.rises);
+  fits = λ margins. subst (λ w. RowsFit c.comments w) (sym (e margins)) (line_row_fits margins.column x (written c.style x) a.fits);
 }
 
 pub props_rises : {i j : ℕ} (column : ℕ) (w : List ℕ) (xs : List Row) → Rises i (items_on xs) j → Rises i (items_on (props_row column w ++ xs)) j
@@ -181,21 +181,21 @@ props_first : (x : Node) (column : ℕ) (w : List ℕ) (xs : List Row) → is_te
 props_first x column [] xs f e = absurd (true≢false e)
 props_first x column (b ∷ w) xs f e = bare_first f refl refl refl
 
-pub first_of : (c : LayoutSetting) (spot : Spot) (x : Node) → House c x → begins_below x ≡ false → FirstOf x (rows c spot x)
-first_of c spot (scalar at props Plain text lines) h e = line_first (scalar at props Plain text lines) spot.column (written c.style (scalar at props Plain text lines)) at.span refl refl refl
-first_of c spot (scalar at props Single text lines) h e = line_first (scalar at props Single text lines) spot.column (written c.style (scalar at props Single text lines)) at.span refl refl refl
-first_of c spot (scalar at props Double text lines) h e = line_first (scalar at props Double text lines) spot.column (written c.style (scalar at props Double text lines)) at.span refl refl refl
-first_of c spot (scalar at props Literal text lines) h e = span_first (scalar at props Literal text lines) _ [] at.span refl refl refl refl refl refl
-first_of c spot (scalar at props Folded text lines) h e = span_first (scalar at props Folded text lines) _ [] at.span refl refl refl refl refl refl
-first_of c spot (alias at name) h e = line_first (alias at name) spot.column (written c.style (alias at name)) at.span refl refl refl
-first_of c spot (sequence at true props no_items) h e = line_first (sequence at true props no_items) spot.column (written c.style (sequence at true props no_items)) at.span refl refl refl
-first_of c spot (sequence at true props (item x xs)) h e = flow_first (sequence at true props (item x xs)) spot.column (written c.style (sequence at true props (item x xs))) refl
-first_of c spot (sequence at false props no_items) h e = absurd (true≢false (same_flag h))
-first_of c spot (sequence at false props (item x xs)) h e = props_first (sequence at false props (item x xs)) spot.column (props_text props) (rows_of_items c spot.entries (item x xs)) refl e
-first_of c spot (mapping at true props no_pairs) h e = line_first (mapping at true props no_pairs) spot.column (written c.style (mapping at true props no_pairs)) at.span refl refl refl
-first_of c spot (mapping at true props (pair k v ps)) h e = flow_first (mapping at true props (pair k v ps)) spot.column (written c.style (mapping at true props (pair k v ps))) refl
-first_of c spot (mapping at false props no_pairs) h e = absurd (true≢false (same_flag_of_map h))
-first_of c spot (mapping at false props (pair k v ps)) h e = props_first (mapping at false props (pair k v ps)) spot.column (props_text props) (rows_of_pairs c spot.entries (pair k v ps)) refl e
+pub first_of : (c : LayoutSetting) (margins : Margins) (x : Node) → House c x → begins_below x ≡ false → FirstOf x (rows c margins x)
+first_of c margins (scalar at props Plain text lines) h e = line_first (scalar at props Plain text lines) margins.column (written c.style (scalar at props Plain text lines)) at.span refl refl refl
+first_of c margins (scalar at props Single text lines) h e = line_first (scalar at props Single text lines) margins.column (written c.style (scalar at props Single text lines)) at.span refl refl refl
+first_of c margins (scalar at props Double text lines) h e = line_first (scalar at props Double text lines) margins.column (written c.style (scalar at props Double text lines)) at.span refl refl refl
+first_of c margins (scalar at props Literal text lines) h e = span_first (scalar at props Literal text lines) _ [] at.span refl refl refl refl refl refl
+first_of c margins (scalar at props Folded text lines) h e = span_first (scalar at props Folded text lines) _ [] at.span refl refl refl refl refl refl
+first_of c margins (alias at name) h e = line_first (alias at name) margins.column (written c.style (alias at name)) at.span refl refl refl
+first_of c margins (sequence at true props no_items) h e = line_first (sequence at true props no_items) margins.column (written c.style (sequence at true props no_items)) at.span refl refl refl
+first_of c margins (sequence at true props (item x xs)) h e = flow_first (sequence at true props (item x xs)) margins.column (written c.style (sequence at true props (item x xs))) refl
+first_of c margins (sequence at false props no_items) h e = absurd (true≢false (same_flag h))
+first_of c margins (sequence at false props (item x xs)) h e = props_first (sequence at false props (item x xs)) margins.column (props_text props) (rows_of_items c margins.entries (item x xs)) refl e
+first_of c margins (mapping at true props no_pairs) h e = line_first (mapping at true props no_pairs) margins.column (written c.style (mapping at true props no_pairs)) at.span refl refl refl
+first_of c margins (mapping at true props (pair k v ps)) h e = flow_first (mapping at true props (pair k v ps)) margins.column (written c.style (mapping at true props (pair k v ps))) refl
+first_of c margins (mapping at false props no_pairs) h e = absurd (true≢false (same_flag_of_map h))
+first_of c margins (mapping at false props (pair k v ps)) h e = props_first (mapping at false props (pair k v ps)) margins.column (props_text props) (rows_of_pairs c margins.entries (pair k v ps)) refl e
 
 pub whole_not_below : (x : Node) → is_text x || is_filled_flow x ≡ true → begins_below x ≡ false
 whole_not_below x e = ap (λ b. b && is_empty_text (props_text (props_of x))) (whole_line x e)

@@ -8,7 +8,7 @@ use Rattle.yf_events.specs.declared.event.Span.{Span}
 use Rattle.yf_events.specs.Tree.{Node, alias, sequence, mapping, Items, no_items, item, Pairs, no_pairs, pair, entry_start, items_in, leaves, standing, starts_of_entry, is_filled_flow, is_text}
 use Rattle.yf_forms.specs.NormalForms.Forms.{is_placed, items_are_placed, pairs_are_placed}
 use Rattle.yf_forms.specs.Passes.MeasurePass.{setting}
-use Rattle.yf_forms.specs.NormalForms.Normal.{LayoutSetting, Spot, entry_or, first_between, inner_spot, is_implicit, is_one_line_key, key_comment, key_spot, key_start, last_start, styled_items, styled_pairs, value_of_implicit, value_spot}
+use Rattle.yf_forms.specs.NormalForms.Normal.{LayoutSetting, Margins, entry_or, first_between, inner_margins, is_implicit, is_one_line_key, key_comment, key_margins, key_start, last_start, styled_items, styled_pairs, value_of_implicit, value_margins}
 use Rattle.yf_forms.specs.Nodes.OneLine.{props_text}
 use Rattle.yf_print.specs.Layouts.Rows.{Row, before_node, begins_below, after_key, after_sign, colon_offset, colon_row, entry_row, explicit_pair, joined, key_row, pair_rows, rows, rows_of_items, rows_of_pairs}
 use Rattle.yf_emit.proofs.Writable.StillLeaves.{between}
@@ -36,7 +36,7 @@ record PairSits (c : LayoutSetting) (i l m n : ℕ) (k v : Node) : Type 0 where
   colon : Rises l (colon_offset (standing k).entry) m
   value_sits : NodeSits c.comments m n v
   house : House c v
-  leaves_are : (spot : Spot) → leaves_on (rows c spot v) ≡ leaves v
+  leaves_are : (margins : Margins) → leaves_on (rows c margins v) ≡ leaves v
   value : NodeFlows c m n v
 
 module _ (c : LayoutSetting) (column : ℕ) {i l m n : ℕ} (k v : Node) (a : PairSits c i l m n k v) where
@@ -50,14 +50,14 @@ module _ (c : LayoutSetting) (column : ℕ) {i l m n : ℕ} (k v : Node) (a : Pa
   key_row_rises : OneLine c.comments a.entry.start l k → Rises i (entry_start k ++ items_in k) l
   key_row_rises line = rises_join key_rises line.rises
 
-  value_rises : (spot : Spot) → Rises l (items_on (rows c spot v)) n
-  value_rises spot = rises_after (rises_order a.colon) (a.value.rises spot)
+  value_rises : (margins : Margins) → Rises l (items_on (rows c margins v)) n
+  value_rises margins = rises_after (rises_order a.colon) (a.value.rises margins)
 
   -- where a comment trails the key
-  commented : (spot : Spot) (d : CommentValue) (b : Bool) → is_text v || is_filled_flow v ≡ b → (if b then first_between c.comments (key_start k) (leaves v) else None) ≡ Some d → OneLine c.comments a.entry.start l k
-      → RowsFit c.comments (record (key_row c.style column k) { key_comment = Some d; ending = before_node } ∷ rows c spot v)
-  commented spot d false h e line = absurd cc
-  commented spot d true h e line = go (rows c spot v) (a.leaves_are spot) (first_of c spot v a.house (whole_not_below v h)) (a.value.fits spot) where
+  commented : (margins : Margins) (d : CommentValue) (b : Bool) → is_text v || is_filled_flow v ≡ b → (if b then first_between c.comments (key_start k) (leaves v) else None) ≡ Some d → OneLine c.comments a.entry.start l k
+      → RowsFit c.comments (record (key_row c.style column k) { key_comment = Some d; ending = before_node } ∷ rows c margins v)
+  commented margins d false h e line = absurd cc
+  commented margins d true h e line = go (rows c margins v) (a.leaves_are margins) (first_of c margins v a.house (whole_not_below v h)) (a.value.fits margins) where
     s : Span
     s = ((one_line a.value_sits (whole_line v h)).whole h).0
 
@@ -89,13 +89,13 @@ module _ (c : LayoutSetting) (column : ℕ) {i l m n : ℕ} (k v : Node) (a : Pa
     go (x ∷ xs) f (whole_first p q r z) g = row_fits (key_fits line) (keyed (leaves k) refl xs x (r ∙ some)) g
 
   -- beside it
-  beside : (spot : Spot) → key_comment c.comments k v ≡ None → OneLine c.comments a.entry.start l k → (xs : List Row) → FirstOf v xs → Rises m (items_on xs) n → RowsFit c.comments xs → RowsFit c.comments (joined (key_row c.style column k) 1 xs)
-  beside spot e line [] f r g = row_fits (key_fits line) (no_key refl) no_rows_fit
-  beside spot e line (x ∷ xs) (bare_first b p q z) r (row_fits h y more) =
+  beside : (margins : Margins) → key_comment c.comments k v ≡ None → OneLine c.comments a.entry.start l k → (xs : List Row) → FirstOf v xs → Rises m (items_on xs) n → RowsFit c.comments xs → RowsFit c.comments (joined (key_row c.style column k) 1 xs)
+  beside margins e line [] f r g = row_fits (key_fits line) (no_key refl) no_rows_fit
+  beside margins e line (x ∷ xs) (bare_first b p q z) r (row_fits h y more) =
       let none : entry_start k ++ items_in k ++ x.items ≡ entry_start k ++ items_in k = ap (λ w. entry_start k ++ items_in k ++ w) p ∙ append-nil (entry_start k ++ items_in k) in
       let bare : leaves k ++ x.leaves ≡ leaves k = ap (λ w. leaves k ++ w) q ∙ append-nil (leaves k) in
       row_fits (subst (λ w. LineFits c.comments w (starts_of (leaves k ++ x.leaves))) (sym none) (as_leaves bare (key_fits line))) (no_key z) more
-  beside spot e line (x ∷ xs) (whole_first p q y z) r (row_fits h w more) =
+  beside margins e line (x ∷ xs) (whole_first p q y z) r (row_fits h w more) =
       let whole = (one_line a.value_sits (whole_line v p)).whole p in
       let s : Span = whole.0 in
       let ss : List Span = whole.1.0 in
@@ -108,42 +108,42 @@ module _ (c : LayoutSetting) (column : ℕ) {i l m n : ℕ} (k v : Node) (a : Pa
       row_fits (as_leaves (ap (λ ls. leaves k ++ ls) (y ∙ some)) (beside_fits (entry_or 0 (standing k).entry) s ss (leaves k) (key_fits line) value (key_row_rises line) (rises_after (rises_order a.colon) parts.one) line.free apart found))
       (no_key z) more
 
-  implicit_fit : (spot : Spot) → OneLine c.comments a.entry.start l k → (o : Option CommentValue) → key_comment c.comments k v ≡ o → (below : Bool) → begins_below v ≡ below
-      → RowsFit c.comments (after_key (key_row c.style column k) o below (rows c spot v))
-  implicit_fit spot line (Some d) e below f = commented spot d (is_text v || is_filled_flow v) refl e line
-  implicit_fit spot line None e true f = row_fits (key_fits line) (no_key refl) (a.value.fits spot)
-  implicit_fit spot line None e false f = beside spot e line (rows c spot v) (first_of c spot v a.house f) (a.value.rises spot) (a.value.fits spot)
+  implicit_fit : (margins : Margins) → OneLine c.comments a.entry.start l k → (o : Option CommentValue) → key_comment c.comments k v ≡ o → (below : Bool) → begins_below v ≡ below
+      → RowsFit c.comments (after_key (key_row c.style column k) o below (rows c margins v))
+  implicit_fit margins line (Some d) e below f = commented margins d (is_text v || is_filled_flow v) refl e line
+  implicit_fit margins line None e true f = row_fits (key_fits line) (no_key refl) (a.value.fits margins)
+  implicit_fit margins line None e false f = beside margins e line (rows c margins v) (first_of c margins v a.house f) (a.value.rises margins) (a.value.fits margins)
 
-  implicit_rises : (spot : Spot) → OneLine c.comments a.entry.start l k → (o : Option CommentValue) (below : Bool) → Rises i (items_on (after_key (key_row c.style column k) o below (rows c spot v))) n
-  implicit_rises spot line (Some d) below = rises_join (key_row_rises line) (value_rises spot)
-  implicit_rises spot line None true = rises_join (key_row_rises line) (value_rises spot)
-  implicit_rises spot line None false =
-      subst (λ z. Rises i z n) (sym (items_joined (key_row c.style column k) 1 (rows c spot v))) (rises_join (key_row_rises line) (value_rises spot))
+  implicit_rises : (margins : Margins) → OneLine c.comments a.entry.start l k → (o : Option CommentValue) (below : Bool) → Rises i (items_on (after_key (key_row c.style column k) o below (rows c margins v))) n
+  implicit_rises margins line (Some d) below = rises_join (key_row_rises line) (value_rises margins)
+  implicit_rises margins line None true = rises_join (key_row_rises line) (value_rises margins)
+  implicit_rises margins line None false =
+      subst (λ z. Rises i z n) (sym (items_joined (key_row c.style column k) 1 (rows c margins v))) (rises_join (key_row_rises line) (value_rises margins))
 
   -- with `?` and `:`
-  question : (key : NodeFlows c a.entry.start l k) → Rises i (items_on (after_sign c.style (entry_row column (codes "?") k) (rows c (key_spot c.style column k) k))) l
+  question : (key : NodeFlows c a.entry.start l k) → Rises i (items_on (after_sign c.style (entry_row column (codes "?") k) (rows c (key_margins c.style column k) k))) l
   question key =
-      subst (λ z. Rises i z l) (sym (items_joined (entry_row column (codes "?") k) (c.style.indent - 1) (rows c (key_spot c.style column k) k)))
-      (rises_join key_rises (key.rises (key_spot c.style column k)))
+      subst (λ z. Rises i z l) (sym (items_joined (entry_row column (codes "?") k) (c.style.indent - 1) (rows c (key_margins c.style column k) k)))
+      (rises_join key_rises (key.rises (key_margins c.style column k)))
 
-  answer : Rises l (items_on (after_sign c.style (colon_row column k) (rows c (inner_spot c.style column) v))) n
+  answer : Rises l (items_on (after_sign c.style (colon_row column k) (rows c (inner_margins c.style column) v))) n
   answer =
-      subst (λ z. Rises l z n) (sym (items_joined (colon_row column k) (c.style.indent - 1) (rows c (inner_spot c.style column) v)))
-      (rises_join a.colon (a.value.rises (inner_spot c.style column)))
+      subst (λ z. Rises l z n) (sym (items_joined (colon_row column k) (c.style.indent - 1) (rows c (inner_margins c.style column) v)))
+      (rises_join a.colon (a.value.rises (inner_margins c.style column)))
 
-  explicit_fit : (key : NodeFlows c a.entry.start l k) → RowsFit c.comments (explicit_pair c.style column k (rows c (key_spot c.style column k) k) (rows c (inner_spot c.style column) v))
+  explicit_fit : (key : NodeFlows c a.entry.start l k) → RowsFit c.comments (explicit_pair c.style column k (rows c (key_margins c.style column k) k) (rows c (inner_margins c.style column) v))
   explicit_fit key =
-      fit_append (sign_fits (entry_row column (codes "?") k) (c.style.indent - 1) (rows c (key_spot c.style column k) k) refl refl key_rises (key.rises (key_spot c.style column k)) (key.fits (key_spot c.style column k)))
-      (sign_fits (colon_row column k) (c.style.indent - 1) (rows c (inner_spot c.style column) v) refl refl a.colon (a.value.rises (inner_spot c.style column)) (a.value.fits (inner_spot c.style column)))
+      fit_append (sign_fits (entry_row column (codes "?") k) (c.style.indent - 1) (rows c (key_margins c.style column k) k) refl refl key_rises (key.rises (key_margins c.style column k)) (key.fits (key_margins c.style column k)))
+      (sign_fits (colon_row column k) (c.style.indent - 1) (rows c (inner_margins c.style column) v) refl refl a.colon (a.value.rises (inner_margins c.style column)) (a.value.fits (inner_margins c.style column)))
 
-  explicit_rises : (key : NodeFlows c a.entry.start l k) → Rises i (items_on (explicit_pair c.style column k (rows c (key_spot c.style column k) k) (rows c (inner_spot c.style column) v))) n
+  explicit_rises : (key : NodeFlows c a.entry.start l k) → Rises i (items_on (explicit_pair c.style column k (rows c (key_margins c.style column k) k) (rows c (inner_margins c.style column) v))) n
   explicit_rises key =
-      subst (λ z. Rises i z n) (sym (items_append (after_sign c.style (entry_row column (codes "?") k) (rows c (key_spot c.style column k) k)) (after_sign c.style (colon_row column k) (rows c (inner_spot c.style column) v))))
+      subst (λ z. Rises i z n) (sym (items_append (after_sign c.style (entry_row column (codes "?") k) (rows c (key_margins c.style column k) k)) (after_sign c.style (colon_row column k) (rows c (inner_margins c.style column) v))))
       (rises_join (question key) answer)
 
   pair_flow : (NodeSits c.comments a.entry.start l k) → NodeFlows c a.entry.start l k
-      → Rises i (items_on (pair_rows c column k v (rows c (key_spot c.style column k) k) (rows c (value_spot c column k v) v))) n
-      × RowsFit c.comments (pair_rows c column k v (rows c (key_spot c.style column k) k) (rows c (value_spot c column k v) v))
+      → Rises i (items_on (pair_rows c column k v (rows c (key_margins c.style column k) k) (rows c (value_margins c column k v) v))) n
+      × RowsFit c.comments (pair_rows c column k v (rows c (key_margins c.style column k) k) (rows c (value_margins c column k v) v))
   pair_flow sits key = go (is_implicit c.style column k) refl where
     go : (b : Bool) → is_implicit c.style column k ≡ b → Rises i (items_on (either_pair b c column k v)) n × RowsFit c.comments (either_pair b c column k v)
     go true e =
@@ -158,24 +158,24 @@ module _ (c : LayoutSetting) where
     pub node_flows : {i j : ℕ} {x : Node} → NodeSits c.comments i j x → is_placed x ≡ true → House c x → NodeFlows c i j x
     node_flows (nothing_sits {at = at} {props = props} {style = style} {text = text} {lines = lines} l e) p h = scalar_flows c at props style text lines (one_line (nothing_sits l e) refl)
     node_flows (scalar_sits {at = at} {props = props} {style = style} {text = text} {lines = lines} a) p h = scalar_flows c at props style text lines (one_line (scalar_sits a) refl)
-    node_flows (alias_sits {at = at} {name = name} a) p h = line_flows c (alias at name) (λ spot. refl) (one_line (alias_sits a) refl)
-    node_flows (empty_sequence_sits {at = at} {flow = true} {props = props} a) p h = line_flows c (sequence at true props no_items) (λ spot. refl) (one_line (empty_sequence_sits a) refl)
+    node_flows (alias_sits {at = at} {name = name} a) p h = line_flows c (alias at name) (λ margins. refl) (one_line (alias_sits a) refl)
+    node_flows (empty_sequence_sits {at = at} {flow = true} {props = props} a) p h = line_flows c (sequence at true props no_items) (λ margins. refl) (one_line (empty_sequence_sits a) refl)
     node_flows (empty_sequence_sits {at = at} {flow = false} {props = props} a) p h = absurd (true≢false (same_flag h))
-    node_flows (empty_mapping_sits {at = at} {flow = true} {props = props} a) p h = line_flows c (mapping at true props no_pairs) (λ spot. refl) (one_line (empty_mapping_sits a) refl)
+    node_flows (empty_mapping_sits {at = at} {flow = true} {props = props} a) p h = line_flows c (mapping at true props no_pairs) (λ margins. refl) (one_line (empty_mapping_sits a) refl)
     node_flows (empty_mapping_sits {at = at} {flow = false} {props = props} a) p h = absurd (true≢false (same_flag_of_map h))
-    node_flows (sequence_on_line {at = at} {props = props} {x = x} {xs = xs} l a m) p h = line_flows c (sequence at true props (item x xs)) (λ spot. refl) (one_line (sequence_on_line l a m) refl)
-    node_flows (mapping_on_line {at = at} {props = props} {x = x} {v = v} {ps = ps} l a m) p h = line_flows c (mapping at true props (pair x v ps)) (λ spot. refl) (one_line (mapping_on_line l a m) refl)
+    node_flows (sequence_on_line {at = at} {props = props} {x = x} {xs = xs} l a m) p h = line_flows c (sequence at true props (item x xs)) (λ margins. refl) (one_line (sequence_on_line l a m) refl)
+    node_flows (mapping_on_line {at = at} {props = props} {x = x} {v = v} {ps = ps} l a m) p h = line_flows c (mapping at true props (pair x v ps)) (λ margins. refl) (one_line (mapping_on_line l a m) refl)
     node_flows (sequence_in_block {props = props} {x = x} {xs = xs} l a m) p h =
         let f = items_flow a p (items_of h) in
         record {
-          rises = λ spot. props_rises spot.column (props_text props) (rows_of_items c spot.entries (item x xs)) (rises_after l (rises_upto (f spot.entries).0 m));
-          fits = λ spot. props_fit spot.column (props_text props) (rows_of_items c spot.entries (item x xs)) (f spot.entries).1;
+          rises = λ margins. props_rises margins.column (props_text props) (rows_of_items c margins.entries (item x xs)) (rises_after l (rises_upto (f margins.entries).0 m));
+          fits = λ margins. props_fit margins.column (props_text props) (rows_of_items c margins.entries (item x xs)) (f margins.entries).1;
         }
     node_flows (mapping_in_block {props = props} {x = x} {v = v} {ps = ps} l a m) p h =
         let f = pairs_flow a p (pairs_of h) in
         record {
-          rises = λ spot. props_rises spot.column (props_text props) (rows_of_pairs c spot.entries (pair x v ps)) (rises_after l (rises_upto (f spot.entries).0 m));
-          fits = λ spot. props_fit spot.column (props_text props) (rows_of_pairs c spot.entries (pair x v ps)) (f spot.entries).1;
+          rises = λ margins. props_rises margins.column (props_text props) (rows_of_pairs c margins.entries (pair x v ps)) (rises_after l (rises_upto (f margins.entries).0 m));
+          fits = λ margins. props_fit margins.column (props_text props) (rows_of_pairs c margins.entries (pair x v ps)) (f margins.entries).1;
         }
 
     items_flow : {i j : ℕ} {xs : Items} → ItemsSit c.comments i j xs → items_are_placed xs ≡ true → styled_items [] (setting c.style []) xs ≡ xs → (column : ℕ)
@@ -187,11 +187,11 @@ module _ (c : LayoutSetting) where
         let node = node_flows a hs.0 parts.0 in
         let rest = items_flow more hs.1 parts.1 column in
         let head : Row = entry_row column (codes "-") x in
-        let inner : List Row = rows c (inner_spot c.style column) x in
+        let inner : List Row = rows c (inner_margins c.style column) x in
         let first : Rises i (items_on (after_sign c.style head inner)) k =
-        subst (λ z. Rises i z k) (sym (items_joined head (c.style.indent - 1) inner)) (rises_join (entry_rises e q l) (node.rises (inner_spot c.style column))) in (
+        subst (λ z. Rises i z k) (sym (items_joined head (c.style.indent - 1) inner)) (rises_join (entry_rises e q l) (node.rises (inner_margins c.style column))) in (
           subst (λ z. Rises i z j) (sym (items_append (after_sign c.style head inner) (rows_of_items c column xs))) (rises_join first rest.0),
-          fit_append (sign_fits head (c.style.indent - 1) inner refl refl (entry_rises e q l) (node.rises (inner_spot c.style column)) (node.fits (inner_spot c.style column))) rest.1,
+          fit_append (sign_fits head (c.style.indent - 1) inner refl refl (entry_rises e q l) (node.rises (inner_margins c.style column)) (node.fits (inner_margins c.style column))) rest.1,
         )
 
     pairs_flow : {i j : ℕ} {ps : Pairs} → PairsSit c.comments i j ps → pairs_are_placed ps ≡ true → styled_pairs [] (setting c.style []) ps ≡ ps → (column : ℕ)
@@ -212,9 +212,9 @@ module _ (c : LayoutSetting) where
           colon = colon;
           value_sits = b;
           house = parts.1.0;
-          leaves_are = λ spot. node_leaves c spot v hy.0 parts.1.0;
+          leaves_are = λ margins. node_leaves c margins v hy.0 parts.1.0;
           value = value;
         } in
         let first = pair_flow c column k v both a key in
-        let mine : List Row = pair_rows c column k v (rows c (key_spot c.style column k) k) (rows c (value_spot c column k v) v) in
+        let mine : List Row = pair_rows c column k v (rows c (key_margins c.style column k) k) (rows c (value_margins c column k v) v) in
         (subst (λ z. Rises i z j) (sym (items_append mine (rows_of_pairs c column ps))) (rises_join first.0 rest.0), fit_append first.1 rest.1)

@@ -4,6 +4,7 @@ use Rattle.std.specs.Prelude.{nat_le, nat_lt, if◌then◌else◌}
 use Rattle.std.specs.List.{list_any}
 use Rattle.std.specs.Str.{IsUtf8}
 use Rattle.std.proofs.lemmas.Bool.Decides.{nat_tests}
+use Rattle.std.proofs.lemmas.Bool.{or_parts}
 use Rattle.yf_chars.specs.Text.{code}
 use Rattle.yf_comments.specs.Comment.{CommentValue}
 use Rattle.yf_props.specs.Props.{PropsValue}
@@ -16,7 +17,7 @@ use Rattle.yf_grammar.proofs.Ends.GapLemmas.{Visible}
 use Rattle.yf_grammar.proofs.NodesInText.NodePlaces.{Opens, NodeIsAt, is_at_nowhere, scalar_is_at, alias_is_at, sequence_is_at, mapping_is_at, ItemsStand, no_items_stand, item_is_at, PairsStand, no_pairs_stand, pair_is_at}
 use Rattle.yf_forms.specs.Nodes.ContentStart.{content_start}
 use Rattle.yf_forms.specs.Nodes.OneLineFlows.{has_comment, is_within, items_may_be_kept, may_be_kept, pairs_may_be_kept}
-use Rattle.yf_forms.specs.NormalForms.Normal.{LayoutSetting, Spot, fits, inner_spot, key_spot, settled, settled_items, settled_pairs, styled, styled_items, styled_pairs, value_spot}
+use Rattle.yf_forms.specs.NormalForms.Normal.{LayoutSetting, Margins, fits, inner_margins, key_margins, settled, settled_items, settled_pairs, styled, styled_items, styled_pairs, value_margins}
 use Rattle.yf_print.specs.Layouts.Rows.{colon_offset}
 use Rattle.yf_emit.proofs.SameReading.CommentsCut.{In, in_first, in_rest}
 use Rattle.yf_emit.proofs.Writable.ContentFound.{content_found}
@@ -26,7 +27,7 @@ use Rattle.yf_emit.proofs.OfTexts.MarksOrder.{Rises, colon_rises}
 use Rattle.yf_emit.proofs.NormalForms.NormalSame.{settled_same, styled_same}
 use Rattle.yf_emit.proofs.SameReading.RowFlow.{Sub}
 use Rattle.yf_emit.proofs.Derived.StepsInText.{starts_of}
-use Rattle.yf_emit.proofs.Trails.StillHolds.{first_two, first_of_three, neither}
+use Rattle.yf_emit.proofs.Trails.StillHolds.{first_two, first_of_three}
 
 -- no comment begins there
 abbrev pub Free : List CommentValue → ℕ → Type 0
@@ -116,8 +117,8 @@ not_there : (k b n : ℕ) → (nat_le k n && nat_lt n b) ≡ false → k ≤ n �
 not_there k b n e l = grind (arith, nat_tests)
 
 none_within : (d : CommentValue) {cs : List CommentValue} (k b : ℕ) → list_any (is_within k b) cs ≡ false → In d cs → k ≤ d.offset → b ≤ d.offset
-none_within d k b e (in_first {cs = cs}) = not_there k b d.offset (neither (is_within k b d) (list_any (is_within k b) cs) e).0
-none_within d k b e (in_rest {c = c} {cs = cs} i) = none_within d k b (neither (is_within k b c) (list_any (is_within k b) cs) e).1 i
+none_within d k b e (in_first {cs = cs}) = not_there k b d.offset (or_parts (is_within k b d) (list_any (is_within k b) cs) e).0
+none_within d k b e (in_rest {c = c} {cs = cs} i) = none_within d k b (or_parts (is_within k b c) (list_any (is_within k b) cs) e).1 i
 
 module _ {t : List ℕ} (u : IsUtf8 t) (cs : List CommentValue) (sign : (d : CommentValue) → In d cs → code t d.offset ≡ 35) where
   pub free_at : {o : ℕ} → code t o ≢ 35 → Free cs o
@@ -153,43 +154,43 @@ record OnLine (cs : List CommentValue) (i j : ℕ) (x : Node) : Type 0 where
   line : LineSits cs from to x
   high : to ≤ j
 
-sequence_sits : (c : LayoutSetting) (spot : Spot) (at : NodeOffsets) (k : Bool) (props : PropsValue) (x : Node) (xs : Items) {i n m j : ℕ}
-    → (k ≡ true → OnLine c.comments i j (sequence at true props (item x xs))) → i ≤ n → ItemsSit c.comments n m (settled_items c spot.entries (item x xs)) → m ≤ j
-    → NodeSits c.comments i j (settled c spot (sequence at k props (item x xs)))
-sequence_sits c spot at false props x xs f l g m = sequence_in_block l g m
-sequence_sits c spot at true props x xs {i} {n} {m} {j} f l g h = by (fits c.style spot.column (sequence at true props (item x xs))) where
+sequence_sits : (c : LayoutSetting) (margins : Margins) (at : NodeOffsets) (k : Bool) (props : PropsValue) (x : Node) (xs : Items) {i n m j : ℕ}
+    → (k ≡ true → OnLine c.comments i j (sequence at true props (item x xs))) → i ≤ n → ItemsSit c.comments n m (settled_items c margins.entries (item x xs)) → m ≤ j
+    → NodeSits c.comments i j (settled c margins (sequence at k props (item x xs)))
+sequence_sits c margins at false props x xs f l g m = sequence_in_block l g m
+sequence_sits c margins at true props x xs {i} {n} {m} {j} f l g h = by (fits c.style margins.column (sequence at true props (item x xs))) where
   by : (p : Bool) → NodeSits c.comments i j (if p then sequence at true props (item x xs)
-      else sequence at false props (item (settled c (inner_spot c.style spot.entries) x) (settled_items c spot.entries xs)))
+      else sequence at false props (item (settled c (inner_margins c.style margins.entries) x) (settled_items c margins.entries xs)))
   by true = let w = f refl in sequence_on_line w.low w.line w.high
   by false = sequence_in_block l g h
 
-mapping_sits : (c : LayoutSetting) (spot : Spot) (at : NodeOffsets) (q : Bool) (props : PropsValue) (k v : Node) (ps : Pairs) {i n m j : ℕ}
-    → (q ≡ true → OnLine c.comments i j (mapping at true props (pair k v ps))) → i ≤ n → PairsSit c.comments n m (settled_pairs c spot.entries (pair k v ps)) → m ≤ j
-    → NodeSits c.comments i j (settled c spot (mapping at q props (pair k v ps)))
-mapping_sits c spot at false props k v ps f l g m = mapping_in_block l g m
-mapping_sits c spot at true props k v ps {i} {n} {m} {j} f l g h = by (fits c.style spot.column (mapping at true props (pair k v ps))) where
+mapping_sits : (c : LayoutSetting) (margins : Margins) (at : NodeOffsets) (q : Bool) (props : PropsValue) (k v : Node) (ps : Pairs) {i n m j : ℕ}
+    → (q ≡ true → OnLine c.comments i j (mapping at true props (pair k v ps))) → i ≤ n → PairsSit c.comments n m (settled_pairs c margins.entries (pair k v ps)) → m ≤ j
+    → NodeSits c.comments i j (settled c margins (mapping at q props (pair k v ps)))
+mapping_sits c margins at false props k v ps f l g m = mapping_in_block l g m
+mapping_sits c margins at true props k v ps {i} {n} {m} {j} f l g h = by (fits c.style margins.column (mapping at true props (pair k v ps))) where
   by : (p : Bool) → NodeSits c.comments i j (if p then mapping at true props (pair k v ps)
-      else mapping at false props (pair (settled c (key_spot c.style spot.entries k) k) (settled c (value_spot c spot.entries k v) v) (settled_pairs c spot.entries ps)))
+      else mapping at false props (pair (settled c (key_margins c.style margins.entries k) k) (settled c (value_margins c margins.entries k v) v) (settled_pairs c margins.entries ps)))
   by true = let w = f refl in mapping_on_line w.low w.line w.high
   by false = mapping_in_block l g h
 
 -- Normal forms.
 
 module _ {t : List ℕ} (u : IsUtf8 t) (c : LayoutSetting) (sign : (d : CommentValue) → In d c.comments → code t d.offset ≡ 35) where
-  settled_standing : (spot : Spot) (x : Node) → standing (settled c spot (styled t c x)) ≡ standing x
-  settled_standing spot x = (settled_same c spot (styled t c x)).standing ∙ (styled_same t c x).standing
+  settled_standing : (margins : Margins) (x : Node) → standing (settled c margins (styled t c x)) ≡ standing x
+  settled_standing margins x = (settled_same c margins (styled t c x)).standing ∙ (styled_same t c x).standing
 
   mutual
-    pub node_sits : {i j : ℕ} {x : Node} (spot : Spot) → NodeIsAt t i j x → NodeSits c.comments i j (settled c spot (styled t c x))
-    node_sits spot (is_at_nowhere m e) = nothing_sits m e
-    node_sits spot (scalar_is_at e b l m w s) = scalar_sits (leaf_sits u c.comments sign _ _ e b.order (omega (arith, l, m)) b.visible)
-    node_sits spot (alias_is_at e b l m s) = alias_sits (leaf_sits u c.comments sign _ _ e b.order (omega (arith, l, m)) b.visible)
-    node_sits spot (sequence_is_at e b (no_items_stand l) m s) = empty_sequence_sits (leaf_sits u c.comments sign _ _ e b.order (let n = b.inner in omega (arith, l, m, n)) b.visible)
-    node_sits spot (sequence_is_at {at = at} {flow = flow} {props = props} e b (item_is_at {x = x} {xs = xs} f q l a r) m s) =
+    pub node_sits : {i j : ℕ} {x : Node} (margins : Margins) → NodeIsAt t i j x → NodeSits c.comments i j (settled c margins (styled t c x))
+    node_sits margins (is_at_nowhere m e) = nothing_sits m e
+    node_sits margins (scalar_is_at e b l m w s) = scalar_sits (leaf_sits u c.comments sign _ _ e b.order (omega (arith, l, m)) b.visible)
+    node_sits margins (alias_is_at e b l m s) = alias_sits (leaf_sits u c.comments sign _ _ e b.order (omega (arith, l, m)) b.visible)
+    node_sits margins (sequence_is_at e b (no_items_stand l) m s) = empty_sequence_sits (leaf_sits u c.comments sign _ _ e b.order (let n = b.inner in omega (arith, l, m, n)) b.visible)
+    node_sits margins (sequence_is_at {at = at} {flow = flow} {props = props} e b (item_is_at {x = x} {xs = xs} f q l a r) m s) =
         let whole : Node = sequence at flow props (item x xs) in
         let start = b.order in
         let inner = b.inner in
-        sequence_sits c spot at (may_be_kept t c.comments whole) props (styled t c x) (styled_items t c xs)
+        sequence_sits c margins at (may_be_kept t c.comments whole) props (styled t c x) (styled_items t c xs)
         (λ z.
         let parts = first_two flow (has_comment t c.comments at.span props) (may_be_kept t c.comments x) (items_may_be_kept t c.comments xs) z in
         record {
@@ -200,13 +201,13 @@ module _ {t : List ℕ} (u : IsUtf8 t) (c : LayoutSetting) (sign : (d : CommentV
               (items_unsigned (item_is_at f q l a r)) (kept_leaf c.comments (sequence_is_at e b (item_is_at f q l a r) m s) z) (styled_items_in t c whole) (styled_same t c whole).leaves;
           high = m;
         })
-        (omega (arith, start, inner)) (items_sit spot.entries (item_is_at f q l a r)) m
-    node_sits spot (mapping_is_at e b (no_pairs_stand l) m s) = empty_mapping_sits (leaf_sits u c.comments sign _ _ e b.order (let n = b.inner in omega (arith, l, m, n)) b.visible)
-    node_sits spot (mapping_is_at {at = at} {flow = flow} {props = props} e b (pair_is_at {k = k} {v = v} {ps = ps} f q l a d g r) m s) =
+        (omega (arith, start, inner)) (items_sit margins.entries (item_is_at f q l a r)) m
+    node_sits margins (mapping_is_at e b (no_pairs_stand l) m s) = empty_mapping_sits (leaf_sits u c.comments sign _ _ e b.order (let n = b.inner in omega (arith, l, m, n)) b.visible)
+    node_sits margins (mapping_is_at {at = at} {flow = flow} {props = props} e b (pair_is_at {k = k} {v = v} {ps = ps} f q l a d g r) m s) =
         let whole : Node = mapping at flow props (pair k v ps) in
         let start = b.order in
         let inner = b.inner in
-        mapping_sits c spot at (may_be_kept t c.comments whole) props (styled t c k) (styled t c v) (styled_pairs t c ps)
+        mapping_sits c margins at (may_be_kept t c.comments whole) props (styled t c k) (styled t c v) (styled_pairs t c ps)
         (λ z.
         let parts = first_of_three flow (has_comment t c.comments at.span props) (may_be_kept t c.comments k) (may_be_kept t c.comments v)
         (pairs_may_be_kept t c.comments ps) z in
@@ -218,17 +219,17 @@ module _ {t : List ℕ} (u : IsUtf8 t) (c : LayoutSetting) (sign : (d : CommentV
               (pairs_unsigned (pair_is_at f q l a d g r)) (kept_leaf c.comments (mapping_is_at e b (pair_is_at f q l a d g r) m s) z) (styled_items_in t c whole) (styled_same t c whole).leaves;
           high = m;
         })
-        (omega (arith, start, inner)) (pairs_sit spot.entries (pair_is_at f q l a d g r)) m
+        (omega (arith, start, inner)) (pairs_sit margins.entries (pair_is_at f q l a d g r)) m
 
     items_sit : {i j : ℕ} {xs : Items} (column : ℕ) → ItemsStand t i j xs → ItemsSit c.comments i j (settled_items c column (styled_items t c xs))
     items_sit column (no_items_stand l) = no_items_sit l
     items_sit column (item_is_at {x = x} e q l a r) =
-        item_sits e (ap (λ (w : NodeOffsets). w.entry) (settled_standing (inner_spot c.style column) x) ∙ q) l.order (node_sits (inner_spot c.style column) a) (items_sit column r)
+        item_sits e (ap (λ (w : NodeOffsets). w.entry) (settled_standing (inner_margins c.style column) x) ∙ q) l.order (node_sits (inner_margins c.style column) a) (items_sit column r)
 
     pairs_sit : {i j : ℕ} {ps : Pairs} (column : ℕ) → PairsStand t i j ps → PairsSit c.comments i j (settled_pairs c column (styled_pairs t c ps))
     pairs_sit column (no_pairs_stand l) = no_pairs_sit l
     pairs_sit column (pair_is_at {k = k} {v = v} e q l a d g r) =
-        let spot : Spot = key_spot c.style column (styled t c k) in
-        let key = ap (λ (w : NodeOffsets). w.entry) (settled_standing spot k) ∙ q.key in
-        pair_sits e key l.order (free_at u c.comments sign l.visible.no_hash) (node_sits spot a) (colon_rises e key d)
-        (node_sits (value_spot c column (styled t c k) (styled t c v)) g) (pairs_sit column r)
+        let margins : Margins = key_margins c.style column (styled t c k) in
+        let key = ap (λ (w : NodeOffsets). w.entry) (settled_standing margins k) ∙ q.key in
+        pair_sits e key l.order (free_at u c.comments sign l.visible.no_hash) (node_sits margins a) (colon_rises e key d)
+        (node_sits (value_margins c column (styled t c k) (styled t c v)) g) (pairs_sit column r)

@@ -20,13 +20,13 @@ use Rattle.yf_forms.specs.declared.style.Style.{Style}
 use Rattle.yf_emit.specs.Layouts.RowComments.{AreRemarks}
 use Rattle.yf_forms.specs.NormalForms.Forms.{documents_are_placed}
 use Rattle.yf_emit.specs.Layouts.Layout.{source_of}
-use Rattle.yf_forms.specs.NormalForms.Normal.{LayoutSetting, normal_document, root_spot, setting_of}
+use Rattle.yf_forms.specs.NormalForms.Normal.{LayoutSetting, normal_document, root_margins, setting_of}
 use Rattle.yf_print.specs.Layouts.Rows.{Row, beginning_at, directive_row, end_rows, rows, start_row, stream_rows, all_rows, begun_at}
 use Rattle.yf_emit.proofs.Derived.LayoutSteps.{steps_of, comments_of}
 use Rattle.yf_emit.proofs.SameReading.CommentsCut.{In, in_first, in_rest, Upward, upward_none, upward_more, upward_of}
 use Rattle.yf_emit.proofs.Writable.CommentsFit.{reading_remarks}
 use Rattle.yf_emit.proofs.SameReading.StepComments.{comments_told, stream_starts_are}
-use Rattle.yf_emit.proofs.Trails.DocumentTrails.{InHouse, leaves_of, all_leaves}
+use Rattle.yf_emit.proofs.Trails.DocumentTrails.{leaves_of, all_leaves}
 use Rattle.yf_emit.proofs.SameReading.FoundAgain.{Unsigned, no_start}
 use Rattle.yf_emit.proofs.SameReading.ItemsOrder.{items_on, items_append, node_unsigned, unsigned_at, unsigned_join}
 use Rattle.yf_emit.proofs.OfTexts.LeavesRise.{leaves_rise}
@@ -48,6 +48,7 @@ use Rattle.yf_emit.proofs.Derived.StepsInText.{starts_of}
 use Rattle.yf_emit.proofs.Trails.StillHolds.{trees_kept}
 use Rattle.yf_emit.proofs.NormalForms.StyledTwice.{normal_house}
 use Rattle.yf_emit.proofs.Trails.TrailChoice.{rising}
+use Rattle.yf_emit.proofs.Trails.FormatTrails.{kept_house}
 use Rattle.yf_emit.proofs.SameReading.UprightRows.{rows_upright}
 use Rattle.yf_print.specs.Layouts.BareStart.{is_bare}
 use Rattle.yf_print.specs.Layouts.KeptColumns.{Columns}
@@ -85,14 +86,14 @@ module _ {t : List ℕ} (u : IsUtf8 t) (c : LayoutSetting) (sign : (d : CommentV
   stream_flows is_first (no_trees_stand l) = (no_place l, no_rows_fit)
   stream_flows {i} is_first (tree_is_at {j = j} {d = d} {ds = ds} {tree = tree} {trees = trees} a b more z) =
       let head : List Row = head_rows is_first d in
-      let root : List Row = rows c (root_spot c.style) (normal_document t c tree).root in
+      let root : List Row = rows c (root_margins c.style) (normal_document t c tree).root in
       let others : List Row = stream_rows c false ds (map (normal_document t c) trees) in
-      let node = node_flows c (node_sits u c sign (root_spot c.style) b) ((root_same t c tree).placed ∙ node_placed b) (normal_house t c (root_spot c.style) tree.root) in
+      let node = node_flows c (node_sits u c sign (root_margins c.style) b) ((root_same t c tree).placed ∙ node_placed b) (normal_house t c (root_margins c.style) tree.root) in
       let rest = stream_flows false more in
       let first : Rises i (items_on (head ++ root)) j =
-      subst (λ z. Rises i z j) (sym (items_append head root ∙ ap (λ w. w ++ items_on root) (head_items is_first d.start d.directives))) (a_place (directives_order a) (node.rises (root_spot c.style))) in (
+      subst (λ z. Rises i z j) (sym (items_append head root ∙ ap (λ w. w ++ items_on root) (head_items is_first d.start d.directives))) (a_place (directives_order a) (node.rises (root_margins c.style))) in (
         subst (λ z. Rises i z (length t)) (sym (items_append (head ++ root) others)) (rises_join first rest.0),
-        fit_append (fit_append (head_fits c.comments is_first d.start d.directives) (node.fits (root_spot c.style))) rest.1,
+        fit_append (fit_append (head_fits c.comments is_first d.start d.directives) (node.fits (root_margins c.style))) rest.1,
       )
 
   begun_rises : {i start j : ℕ} (rs : List Row) → i ≤ start → Rises start (items_on rs) j → Rises i (items_on (begun_at start rs)) j
@@ -104,12 +105,12 @@ module _ {t : List ℕ} (u : IsUtf8 t) (c : LayoutSetting) (sign : (d : CommentV
   all_flows false stand = stream_flows true stand
   all_flows true (no_trees_stand l) = (no_place l, no_rows_fit)
   all_flows {i} true (tree_is_at {j = j} {d = d} {ds = ds} {tree = tree} {trees = trees} a b more z) =
-      let root : List Row = rows c (root_spot c.style) (normal_document t c tree).root in
+      let root : List Row = rows c (root_margins c.style) (normal_document t c tree).root in
       let others : List Row = stream_rows c false ds (map (normal_document t c) trees) in
-      let node = node_flows c (node_sits u c sign (root_spot c.style) b) ((root_same t c tree).placed ∙ node_placed b) (normal_house t c (root_spot c.style) tree.root) in
+      let node = node_flows c (node_sits u c sign (root_margins c.style) b) ((root_same t c tree).placed ∙ node_placed b) (normal_house t c (root_margins c.style) tree.root) in
       let rest = stream_flows false more in
-      let first : Rises i (items_on (begun_at d.start root)) j = begun_rises root (directives_order a) (node.rises (root_spot c.style)) in
-      (subst (λ z. Rises i z (length t)) (sym (items_append (begun_at d.start root) others)) (rises_join first rest.0), fit_append (begun_fits root (node.rises (root_spot c.style)) (node.fits (root_spot c.style))) rest.1)
+      let first : Rises i (items_on (begun_at d.start root)) j = begun_rises root (directives_order a) (node.rises (root_margins c.style)) in
+      (subst (λ z. Rises i z (length t)) (sym (items_append (begun_at d.start root) others)) (rises_join first rest.0), fit_append (begun_fits root (node.rises (root_margins c.style)) (node.fits (root_margins c.style))) rest.1)
 
 trees_unsigned : {t : List ℕ} {i : ℕ} {ds : List Doc} {trees : List DocumentTree} → TreesStand t i ds trees → Unsigned t (starts_of (leaves_of trees))
 trees_unsigned (no_trees_stand l) = no_start
@@ -125,10 +126,6 @@ noted_sign : (d : CommentValue) {t : List ℕ} {es : List EventInText} {xs ys : 
 noted_sign d (one_comment n b) i j (one_more l s a) in_first = s.sign
 noted_sign d (one_comment {c = c} n b) i j (one_more l s a) (in_rest k) = noted_sign d b (c.offset + 1) j a k
 noted_sign d no_comment i j a k = elim k [ ]
-
-kept_house : (c : LayoutSetting) (trees : List DocumentTree) → TreesKept c trees → InHouse c trees
-kept_house c [] a = tt
-kept_house c (d ∷ ds) a = (a.0.1.0, kept_house c ds a.1)
 
 -- The normal form of a reading, with the trees of the reading.
 abbrev pub normal_of : List ℕ → Style → Lists → List DocumentTree → Lists

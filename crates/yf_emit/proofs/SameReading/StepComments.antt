@@ -14,15 +14,11 @@ use Rattle.yf_print.specs.Layouts.Rows.{Row, at_text_start}
 use Rattle.yf_emit.proofs.Derived.LayoutSteps.{Step, comment_steps, steps_of, comments_of}
 use Rattle.yf_emit.proofs.SameReading.CommentsCut.{each_none, Upward, own_of, Flowing, flowing_over, cuts_made}
 use Rattle.yf_emit.proofs.Trails.DocumentTrails.{leaves_of}
+use Rattle.yf_emit.proofs.Trails.TrailOthers.{firsts}
 use Rattle.yf_emit.proofs.SameReading.PrintSteps.{steps_of_leaves, steps_printed, trimmed_by, printed_steps, cuts_told}
 use Rattle.yf_emit.proofs.SameReading.StartsBefore.{starts_before}
 use Rattle.yf_emit.proofs.Derived.StepsInText.{starts_of, starts_append, node_starts}
 use Rattle.yf_print.specs.Layouts.KeptColumns.{Columns}
-
-pub firsts : (cs : List CommentValue) (bs : List Bool) → length bs ≡ length cs → map (λ (r : Remark). r.0) (zip cs bs) ≡ cs
-firsts [] bs e = refl
-firsts (c ∷ cs) [] e = absurd (omega (arith, e))
-firsts (c ∷ cs) (b ∷ bs) e = ap (λ w. c ∷ w) (firsts cs bs (omega (arith, e)))
 
 without_zero : (ss : List ℕ) (cs : List CommentValue) → trimmed_by (λ o. 0 + starts_before ss o) cs ≡ trimmed_by (starts_before ss) cs
 without_zero ss [] = refl

@@ -10,12 +10,13 @@ use Rattle.yf_events.specs.declared.event.ScalarStyle.{ScalarStyle}
 use Rattle.yf_events.specs.declared.event.ScalarStyle.TheVariants.{Plain, Single, Double, Literal, Folded}
 use Rattle.yf_events.specs.declared.event.Span.{Span}
 use Rattle.yf_forms.specs.declared.style.Style.{Style}
-use Rattle.yf_forms.specs.NormalForms.Normal.{LayoutSetting, Spot, inner_spot, fits, is_one_line_key, is_implicit, key_comment, key_spot, value_spot, value_column, value_entries, value_of_implicit}
+use Rattle.yf_forms.specs.NormalForms.Normal.{LayoutSetting, Margins, inner_margins, fits, is_one_line_key, is_implicit, key_comment, key_margins, value_margins, value_column, value_entries, value_of_implicit}
 use Rattle.yf_forms.specs.Nodes.OneLine.{width, spaced, props_text, bare, more_items, more_pairs, written, colon_after}
 use Rattle.yf_emit.specs.Layouts.RowShapes.{RowShape, shape_of, joined_shapes, shapes_after_key, KeysAgree}
 use Rattle.yf_forms.specs.Nodes.BlockLines.{header_text, block_lines, final_feeds, is_kept_tail}
 use Rattle.yf_print.specs.Layouts.Rows.{Row, anywhere, tail_ending, block_scalar, joined, one_line_row, one_line, scalar_rows, entry_row, colon_row, key_row, after_sign, begins_below, after_key, explicit_pair, implicit_pair, pair_rows, Start}
 use Rattle.yf_forms.specs.Nodes.Lines.{is_empty_text}
+use Rattle.yf_forms.proofs.Decide.CountLemmas.{two_counts}
 
 -- Texts on one line.
 
@@ -149,41 +150,38 @@ one_leaf None (Some s) e = absurd cc
 one_leaf (Some s) None e = absurd cc
 one_leaf (Some s) (Some r) e = refl
 
-both_leaves : (a b c d : List Span) → length a ≡ length c → length b ≡ length d → length (a ++ b) ≡ length (c ++ d)
-both_leaves a b c d e f = length-append a b ∙ (ap (λ z. z + length b) e ∙ (ap (λ z. length c + z) f ∙ sym (length-append c d)))
-
 mutual
   pub same_leaves : {K : Node → Node → Node → Node → Type 0} {x y : Node} → Alike K x y → length (leaves x) ≡ length (leaves y)
   same_leaves (alike_scalars e) = one_leaf _ _ e
   same_leaves (alike_aliases e) = one_leaf _ _ e
   same_leaves (alike_sequences e alike_nothing) = one_leaf _ _ e
   same_leaves (alike_sequences e (alike_item {x = x} {y = y} {xs = xs} {ys = ys} a rest)) =
-      both_leaves (leaves x) (leaves_of_items xs) (leaves y) (leaves_of_items ys) (same_leaves a) (same_item_leaves rest)
+      two_counts (leaves x) (leaves_of_items xs) (leaves y) (leaves_of_items ys) (same_leaves a) (same_item_leaves rest)
   same_leaves (alike_mappings e alike_no_pairs) = one_leaf _ _ e
   same_leaves (alike_mappings e (alike_pair {k = k} {l = l} {v = v} {w = w} {ps = ps} {qs = qs} a b c rest)) =
-      both_leaves (leaves k) (leaves v ++ leaves_of_pairs ps) (leaves l) (leaves w ++ leaves_of_pairs qs) (same_leaves a)
-      (both_leaves (leaves v) (leaves_of_pairs ps) (leaves w) (leaves_of_pairs qs) (same_leaves b) (same_pair_leaves rest))
+      two_counts (leaves k) (leaves v ++ leaves_of_pairs ps) (leaves l) (leaves w ++ leaves_of_pairs qs) (same_leaves a)
+      (two_counts (leaves v) (leaves_of_pairs ps) (leaves w) (leaves_of_pairs qs) (same_leaves b) (same_pair_leaves rest))
 
   same_item_leaves : {K : Node → Node → Node → Node → Type 0} {xs ys : Items} → AlikeItems K xs ys
       → length (leaves_of_items xs) ≡ length (leaves_of_items ys)
   same_item_leaves alike_nothing = refl
   same_item_leaves (alike_item {x = x} {y = y} {xs = xs} {ys = ys} a rest) =
-      both_leaves (leaves x) (leaves_of_items xs) (leaves y) (leaves_of_items ys) (same_leaves a) (same_item_leaves rest)
+      two_counts (leaves x) (leaves_of_items xs) (leaves y) (leaves_of_items ys) (same_leaves a) (same_item_leaves rest)
 
   same_pair_leaves : {K : Node → Node → Node → Node → Type 0} {ps qs : Pairs} → AlikePairs K ps qs
       → length (leaves_of_pairs ps) ≡ length (leaves_of_pairs qs)
   same_pair_leaves alike_no_pairs = refl
   same_pair_leaves (alike_pair {k = k} {l = l} {v = v} {w = w} {ps = ps} {qs = qs} a b c rest) =
-      both_leaves (leaves k) (leaves v ++ leaves_of_pairs ps) (leaves l) (leaves w ++ leaves_of_pairs qs) (same_leaves a)
-      (both_leaves (leaves v) (leaves_of_pairs ps) (leaves w) (leaves_of_pairs qs) (same_leaves b) (same_pair_leaves rest))
+      two_counts (leaves k) (leaves v ++ leaves_of_pairs ps) (leaves l) (leaves w ++ leaves_of_pairs qs) (same_leaves a)
+      (two_counts (leaves v) (leaves_of_pairs ps) (leaves w) (leaves_of_pairs qs) (same_leaves b) (same_pair_leaves rest))
 
 -- Columns.
 
 abbrev pub setting : Style → List CommentValue → LayoutSetting
 setting s cs = record { style = s; comments = cs }
 
-pub same_key_spot : {K : Node → Node → Node → Node → Type 0} {k l : Node} (s : Style) (column : ℕ) → Alike K k l → key_spot s column k ≡ key_spot s column l
-same_key_spot s column a =
+pub same_key_margins : {K : Node → Node → Node → Node → Type 0} {k l : Node} (s : Style) (column : ℕ) → Alike K k l → key_margins s column k ≡ key_margins s column l
+same_key_margins s column a =
     ap (λ z. record { column = if z then column else column + s.indent; entries = column + s.indent; lines = column + s.indent }) (same_implicit s column a)
 
 same_value_column : {K : Node → Node → Node → Node → Type 0} {k l : Node} (cs ds : List CommentValue) (v w : Node) (s : Style) (column : ℕ) → Alike K k l
@@ -197,26 +195,26 @@ pub same_value_entries : {K : Node → Node → Node → Node → Type 0} {v w :
     → value_entries s column v ≡ value_entries s column w
 same_value_entries s column a = ap (λ z. if z && not s.seq_indent then column else column + s.indent) (same_sequence a)
 
-spot_of : ℕ → ℕ → ℕ → Spot
-spot_of column entries lines = record { column = column; entries = entries; lines = lines }
+margins_of : ℕ → ℕ → ℕ → Margins
+margins_of column entries lines = record { column = column; entries = entries; lines = lines }
 
-pub same_value_spot : {K : Node → Node → Node → Node → Type 0} {cs ds : List CommentValue} {k l v w : Node} (s : Style) (column : ℕ) → Alike K k l
-    → Alike K v w → KeysAgree s cs ds k v l w → value_spot (setting s cs) column k v ≡ value_spot (setting s ds) column l w
-unfolding spot_of
-same_value_spot {cs = cs} {ds = ds} {k = k} {l = l} {v = v} {w = w} s column a b g = by_form (is_implicit s column k) refl where
-  of_implicit : is_implicit s column k ≡ true → spot_of (value_column (setting s cs) column k v) (value_entries s column v) (column + s.indent)
-      ≡ spot_of (value_column (setting s ds) column l w) (value_entries s column w) (column + s.indent)
+pub same_value_margins : {K : Node → Node → Node → Node → Type 0} {cs ds : List CommentValue} {k l v w : Node} (s : Style) (column : ℕ) → Alike K k l
+    → Alike K v w → KeysAgree s cs ds k v l w → value_margins (setting s cs) column k v ≡ value_margins (setting s ds) column l w
+unfolding margins_of
+same_value_margins {cs = cs} {ds = ds} {k = k} {l = l} {v = v} {w = w} s column a b g = by_form (is_implicit s column k) refl where
+  of_implicit : is_implicit s column k ≡ true → margins_of (value_column (setting s cs) column k v) (value_entries s column v) (column + s.indent)
+      ≡ margins_of (value_column (setting s ds) column l w) (value_entries s column w) (column + s.indent)
   of_implicit e =
-      ap (λ z. spot_of z (value_entries s column v) (column + s.indent)) (same_value_column cs ds v w s column a (g.comment column e))
-      ∙ ap (λ z. spot_of (value_column (setting s ds) column l w) z (column + s.indent)) (same_value_entries s column b)
+      ap (λ z. margins_of z (value_entries s column v) (column + s.indent)) (same_value_column cs ds v w s column a (g.comment column e))
+      ∙ ap (λ z. margins_of (value_column (setting s ds) column l w) z (column + s.indent)) (same_value_entries s column b)
 
-  by_form : (form : Bool) → is_implicit s column k ≡ form → value_spot (setting s cs) column k v ≡ value_spot (setting s ds) column l w
+  by_form : (form : Bool) → is_implicit s column k ≡ form → value_margins (setting s cs) column k v ≡ value_margins (setting s ds) column l w
   by_form true e =
-      ap (λ z. if z then value_of_implicit (setting s cs) column k v else inner_spot s column) e
-      ∙ (of_implicit e ∙ sym (ap (λ z. if z then value_of_implicit (setting s ds) column l w else inner_spot s column) (sym (same_implicit s column a) ∙ e)))
+      ap (λ z. if z then value_of_implicit (setting s cs) column k v else inner_margins s column) e
+      ∙ (of_implicit e ∙ sym (ap (λ z. if z then value_of_implicit (setting s ds) column l w else inner_margins s column) (sym (same_implicit s column a) ∙ e)))
   by_form false e =
-      ap (λ z. if z then value_of_implicit (setting s cs) column k v else inner_spot s column) e
-      ∙ sym (ap (λ z. if z then value_of_implicit (setting s ds) column l w else inner_spot s column) (sym (same_implicit s column a) ∙ e))
+      ap (λ z. if z then value_of_implicit (setting s cs) column k v else inner_margins s column) e
+      ∙ sym (ap (λ z. if z then value_of_implicit (setting s ds) column l w else inner_margins s column) (sym (same_implicit s column a) ∙ e))
 
 -- Rows.
 
@@ -280,9 +278,9 @@ unfolding text_shape
 same_one_row column x y [] e = refl
 same_one_row column x y (b ∷ text) e = ap (λ z. text_shape [] column (b ∷ text) z ∷ []) e
 
-pub same_row : (house : Style) {K : Node → Node → Node → Node → Type 0} {x y : Node} (spot : Spot) → Alike K x y → shapes (one_line house spot x) ≡ shapes (one_line house spot y)
-same_row house {x = x} {y = y} spot a =
-    same_one_row spot.column x y (written house x) (same_leaves a) ∙ ap (λ z. shapes (one_line_row spot.column y z)) (same_written house a)
+pub same_row : (house : Style) {K : Node → Node → Node → Node → Type 0} {x y : Node} (margins : Margins) → Alike K x y → shapes (one_line house margins x) ≡ shapes (one_line house margins y)
+same_row house {x = x} {y = y} margins a =
+    same_one_row margins.column x y (written house x) (same_leaves a) ∙ ap (λ z. shapes (one_line_row margins.column y z)) (same_written house a)
 
 same_key_row : (house : Style) {K : Node → Node → Node → Node → Type 0} {k l : Node} (column : ℕ) → Alike K k l → shape_of (key_row house column k) ≡ shape_of (key_row house column l)
 unfolding text_shape
@@ -291,30 +289,30 @@ same_key_row house {k = k} {l = l} column a =
     ∙ (ap (λ z. text_shape ((column, false) ∷ []) column (written house l ++ z) (length (leaves k))) (same_colon a)
     ∙ ap (λ z. text_shape ((column, false) ∷ []) column (written house l ++ colon_after l) z) (same_leaves a))
 
-same_block_scalar : (s : Style) (spot : Spot) (x y : Node) (props : PropsValue) (style : ScalarStyle) (text : List ℕ) (lines : List (List ℕ))
-    → length (leaves x) ≡ length (leaves y) → shapes (block_scalar s spot x props style text lines) ≡ shapes (block_scalar s spot y props style text lines)
-same_block_scalar s spot x y props style text lines e =
+same_block_scalar : (s : Style) (margins : Margins) (x y : Node) (props : PropsValue) (style : ScalarStyle) (text : List ℕ) (lines : List (List ℕ))
+    → length (leaves x) ≡ length (leaves y) → shapes (block_scalar s margins x props style text lines) ≡ shapes (block_scalar s margins y props style text lines)
+same_block_scalar s margins x y props style text lines e =
     ap (λ z. record {
-      column = spot.column;
+      column = margins.column;
       text = spaced (props_text props) (header_text style s.indent text);
       starts = [];
       leaves = z;
       is_commented = false;
       ending = tail_ending (is_kept_tail (final_feeds text));
-      body = block_lines style spot.lines text lines;
-      lines = spot.lines;
+      body = block_lines style margins.lines text lines;
+      lines = margins.lines;
     } ∷ []) e
 
-pub same_scalar : {K : Node → Node → Node → Node → Type 0} {at bt : NodeOffsets} {props : PropsValue} {text : List ℕ} {lines : List (List ℕ)} (s : Style) (spot : Spot)
+pub same_scalar : {K : Node → Node → Node → Node → Type 0} {at bt : NodeOffsets} {props : PropsValue} {text : List ℕ} {lines : List (List ℕ)} (s : Style) (margins : Margins)
     (style : ScalarStyle) → Alike K (scalar at props style text lines) (scalar bt props style text lines)
-    → shapes (scalar_rows s spot (scalar at props style text lines) props style text lines) ≡ shapes (scalar_rows s spot (scalar bt props style text lines) props style text lines)
-same_scalar s spot Plain a = same_row s spot a
-same_scalar s spot Single a = same_row s spot a
-same_scalar s spot Double a = same_row s spot a
-same_scalar {at = at} {bt = bt} {props = props} {text = text} {lines = lines} s spot Literal a =
-    same_block_scalar s spot (scalar at props Literal text lines) (scalar bt props Literal text lines) props Literal text lines (same_leaves a)
-same_scalar {at = at} {bt = bt} {props = props} {text = text} {lines = lines} s spot Folded a =
-    same_block_scalar s spot (scalar at props Folded text lines) (scalar bt props Folded text lines) props Folded text lines (same_leaves a)
+    → shapes (scalar_rows s margins (scalar at props style text lines) props style text lines) ≡ shapes (scalar_rows s margins (scalar bt props style text lines) props style text lines)
+same_scalar s margins Plain a = same_row s margins a
+same_scalar s margins Single a = same_row s margins a
+same_scalar s margins Double a = same_row s margins a
+same_scalar {at = at} {bt = bt} {props = props} {text = text} {lines = lines} s margins Literal a =
+    same_block_scalar s margins (scalar at props Literal text lines) (scalar bt props Literal text lines) props Literal text lines (same_leaves a)
+same_scalar {at = at} {bt = bt} {props = props} {text = text} {lines = lines} s margins Folded a =
+    same_block_scalar s margins (scalar at props Folded text lines) (scalar bt props Folded text lines) props Folded text lines (same_leaves a)
 
 pub same_pair_rows : {K : Node → Node → Node → Node → Type 0} {cs ds : List CommentValue} {k l v w : Node} (s : Style) (column : ℕ) (kr lr vr wr : List Row)
     → Alike K k l → Alike K v w → KeysAgree s cs ds k v l w → shapes kr ≡ shapes lr → shapes vr ≡ shapes wr

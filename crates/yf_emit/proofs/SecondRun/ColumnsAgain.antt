@@ -1,12 +1,11 @@
 -- A comment that is printed at its column, among collections that are at theirs, has that column again.
 use Rattle.std.proofs.Common.{◌≡◌, ℕ, zero, suc, ◌+◌, ◌<◌, Bool, true, false, List, [], ◌∷◌, map, Option, Some, None, refl, sym, ap, ◌∙◌, subst, true≢false, arith}
 use Rattle.std.specs.Prelude.{◌==◌, ◌&&◌, not, nat_lt, if◌then◌else◌}
-use Rattle.std.proofs.lemmas.Bool.{and_parts}
-use Rattle.std.proofs.lemmas.Bool.Decides.{nat_tests}
+use Rattle.std.proofs.lemmas.Bool.{and_parts, eqb-true}
+use Rattle.std.proofs.lemmas.Option.{same_Some}
 use Rattle.yf_print.specs.Layouts.CommentColumns.{Beginning, begins_node, begins_document, begins_entry, is_ended_by, not_ended, goes_on, inward_from, is_source, or_else, column_at, at_margin, further_in, left_or, column_left, column_among, column_before_new, column_in, comment_column}
 use Rattle.yf_print.specs.declared.open_blocks.OpenBlock.{OpenBlock}
-use Rattle.yf_chars.proofs.Tests.{below}
-use Rattle.yf_emit.proofs.OutputLines.ColumnsHold.{some_is, none_is}
+use Rattle.yf_chars.proofs.Tests.{below, none_some}
 use Rattle.yf_forms.proofs.Decide.FlagLemmas.{same as equal_to}
 
 -- a collection as it is printed
@@ -39,27 +38,22 @@ pub data NextIsAt (next : ℕ) : Beginning → Type 0 where
   next_document : next ≡ 0 → NextIsAt next begins_document
   next_entry : {y : OpenBlock} → y.printed ≡ next → NextIsAt next (begins_entry y)
 
--- Tests of numbers.
-
-equal_from : (m n : ℕ) → (m == n) ≡ true → m ≡ n
-equal_from m n e = grind (arith, nat_tests)
-
 -- Where a column is found.
 
 -- what is found is a column of one of them
 found_in : (k : ℕ) (bs : List OpenBlock) {c : ℕ} → column_at k bs ≡ Some c → HasColumn c bs
-found_in k [] e = none_is e
+found_in k [] e = absurd (none_some e)
 found_in k (b ∷ bs) {c} e = go (is_source k b.source) (λ f. found_in k bs f) e where
   go : (p : Bool) → (column_at k bs ≡ Some c → HasColumn c bs) → (if p then Some b.printed else column_at k bs) ≡ Some c → HasColumn c (b ∷ bs)
-  go true rest f = column_here (some_is f)
+  go true rest f = column_here (same_Some b.printed c f)
   go false rest f = column_there (rest f)
 
 -- where they are at their columns it is the column that was looked for
 found_same : (k : ℕ) (bs : List OpenBlock) {c : ℕ} → column_at k (all_printed bs) ≡ Some c → c ≡ k
-found_same k [] e = none_is e
+found_same k [] e = absurd (none_some e)
 found_same k (b ∷ bs) {c} e = go (b.printed == k) refl (λ f. found_same k bs f) e where
   go : (p : Bool) → (b.printed == k) ≡ p → (column_at k (all_printed bs) ≡ Some c → c ≡ k) → (if p then Some b.printed else column_at k (all_printed bs)) ≡ Some c → c ≡ k
-  go true f rest g = sym (some_is g) ∙ equal_from b.printed k f
+  go true f rest g = sym (same_Some b.printed c g) ∙ eqb-true b.printed k f
   go false f rest g = rest g
 
 -- and each such column is found
@@ -67,7 +61,7 @@ found_printed : {c : ℕ} {bs : List OpenBlock} → HasColumn c bs → column_at
 found_printed {c} (column_here {b = b} {bs = bs} e) = ap (λ p. if p then Some b.printed else column_at c (all_printed bs)) (equal_to b.printed c e) ∙ ap Some e
 found_printed {c} (column_there {b = b} {bs = bs} h) = go (b.printed == c) refl (found_printed h) where
   go : (p : Bool) → (b.printed == c) ≡ p → column_at c (all_printed bs) ≡ Some c → (if p then Some b.printed else column_at c (all_printed bs)) ≡ Some c
-  go true f rest = ap Some (equal_from b.printed c f)
+  go true f rest = ap Some (eqb-true b.printed c f)
   go false f rest = rest
 
 -- what is left of a column is that of one of them, or one indentation right of the innermost
@@ -89,14 +83,14 @@ steps_after (same_step e s) = s
 steps_after (inner_step e s) = s
 
 left_found : (indent : ℕ) (may : Bool) (k : ℕ) (bs : List OpenBlock) {c : ℕ} → InSteps indent bs → column_left indent may k bs ≡ Some c → LeftFound indent c may bs
-left_found indent may k [] s e = none_is e
+left_found indent may k [] s e = absurd (none_some e)
 left_found indent may k (b ∷ bs) {c} s e = go b.source (λ f. left_found indent may k bs (steps_after s) f) (λ f. left_found indent false k bs (steps_after s) f) e where
   further : (m : Bool) → further_in indent m b.printed ≡ c → LeftFound indent c m (b ∷ bs)
   further true f = right_of_all f
   further false f = left_column (column_here f)
 
   chosen : (p : Bool) → (column_left indent false k bs ≡ Some c → LeftFound indent c false bs) → (if p then Some (further_in indent may b.printed) else column_left indent false k bs) ≡ Some c → LeftFound indent c may (b ∷ bs)
-  chosen true later f = further may (some_is f)
+  chosen true later f = further may (same_Some (further_in indent may b.printed) c f)
   chosen false later f = left_never (later f)
 
   go : (o : Option ℕ) → (column_left indent may k bs ≡ Some c → LeftFound indent c may bs) → (column_left indent false k bs ≡ Some c → LeftFound indent c false bs)
@@ -224,7 +218,7 @@ goes_on_printed y bs = ap (goes_on (as_printed y)) (printed_not_ended y bs) ∙ 
 column_of_same : (y : OpenBlock) (bs : List OpenBlock) → goes_on y bs ≡ true → HasColumn y.printed bs
 column_of_same y [] e = absurd (true≢false (sym e))
 column_of_same y (b ∷ bs) e =
-    column_here (sym (equal_from y.printed b.printed (and_parts (y.printed == b.printed) (not (b.is_sequence && not y.is_sequence) && not (y.is_sequence && not b.is_sequence)) e).0))
+    column_here (sym (eqb-true y.printed b.printed (and_parts (y.printed == b.printed) (not (b.is_sequence && not y.is_sequence) && not (y.is_sequence && not b.is_sequence)) e).0))
 
 column_left_over : (y : OpenBlock) (bs : List OpenBlock) {c : ℕ} → HasColumn c (not_ended y bs) → HasColumn c bs
 column_left_over y [] h = h
@@ -246,7 +240,7 @@ new_stays next k source all {y} {c} at e = go (is_source k source) e where
   at_next f = ap (λ p. if p then next else or_else (column_at c (all_printed all)) (at_margin c (all_printed all) next)) (equal_to y c (at ∙ f)) ∙ f
 
   elsewhere : (p : Bool) → (y == c) ≡ p → or_else (column_at c (all_printed all)) (at_margin c (all_printed all) next) ≡ c → (if p then next else or_else (column_at c (all_printed all)) (at_margin c (all_printed all) next)) ≡ c
-  elsewhere true f g = sym at ∙ equal_from y c f
+  elsewhere true f g = sym at ∙ eqb-true y c f
   elsewhere false f g = g
 
   margin : (h : ℕ) (bs : List OpenBlock) → all ≡ bs → at_margin h bs next ≡ c → column_before_new next c (Some y) (all_printed all) ≡ c

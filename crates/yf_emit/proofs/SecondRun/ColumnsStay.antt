@@ -16,7 +16,7 @@ use Rattle.yf_stream.specs.ReadingOf.{ReadingOf}
 use Rattle.yf_emit.specs.Format.{IsFormatting}
 use Rattle.yf_print.specs.Layouts.BareStart.{is_bare}
 use Rattle.yf_forms.specs.Nodes.OneLine.{props_text, written}
-use Rattle.yf_forms.specs.NormalForms.Normal.{LayoutSetting, Spot, inner_spot, is_implicit, key_comment, key_spot, root_spot, setting_of, value_entries, value_of_implicit, value_spot}
+use Rattle.yf_forms.specs.NormalForms.Normal.{LayoutSetting, Margins, inner_margins, is_implicit, key_comment, key_margins, root_margins, setting_of, value_entries, value_of_implicit, value_margins}
 use Rattle.yf_emit.specs.Preservation.CommentsPlaced.{columns_in}
 use Rattle.yf_emit.proofs.Columns.FormattedSet.{reading_set}
 use Rattle.yf_emit.proofs.Columns.SetMeant.{BlockAt}
@@ -34,7 +34,7 @@ use Rattle.yf_emit.specs.Layouts.Layout.{Source, own_line_comments, source_of}
 use Rattle.yf_emit.specs.Layouts.RowShapes.{RowShape, shape_of}
 use Rattle.yf_print.specs.Layouts.Rows.{Ending, Row, Start, after_key, all_rows, at_text_start, beginning_at, begins_below, begun_at, colon_row, directive_row, end_rows, entry_row, joined, key_row, one_line_row, pair_rows, props_row, rows, rows_of_items, rows_of_pairs, start_row, stream_rows}
 use Rattle.yf_print.specs.Layouts.SourceColumns.{own_column, source_column}
-use Rattle.yf_emit.proofs.OutputLines.ChainedRows.{layout_chain}
+use Rattle.yf_emit.proofs.OutputLines.ChainedDocuments.{layout_chain}
 use Rattle.yf_emit.proofs.OutputLines.OpenChains.{Chained, chain_over, chain_row}
 use Rattle.yf_emit.proofs.OutputLines.ColumnsHold.{GapHolds, WalkFrom, above_walk, every, gap_holds, left_walk, remarks_hold}
 use Rattle.yf_emit.proofs.ReadAgain.RowTies.{first_shape, other_shapes}
@@ -201,16 +201,16 @@ module _ (u : List ℕ) where
 
     -- wherever it is
     record NodeAt (x : Node) : Type 0 where
-      at : (spot : Spot) (l : ℕ) → Set spot.entries l x → AllAtColumns u (rows c spot x)
+      at : (margins : Margins) (l : ℕ) → Set margins.entries l x → AllAtColumns u (rows c margins x)
 
     pair_at : (column : ℕ) (k v : Node) → EntryOn u column k → NodeAt k → NodeAt v → Set (column + c.style.indent) (column + c.style.indent) k → Set (entries_after c.style column k v) (column + c.style.indent) v
-        → AllAtColumns u (pair_rows c column k v (rows c (key_spot c.style column k) k) (rows c (value_spot c column k v) v))
+        → AllAtColumns u (pair_rows c column k v (rows c (key_margins c.style column k) k) (rows c (value_margins c column k v) v))
     pair_at column k v o f g a b = go (is_implicit c.style column k) b where
       go : (p : Bool) → Set (if p then value_entries c.style column v else column + c.style.indent) (column + c.style.indent) v → AllAtColumns u (either_pair p c column k v)
       go true d = after_key_at (key_row c.style column k) (key_comment c.comments k v) (begins_below v) (entry_source o, tt) (g.at (value_of_implicit c column k v) (column + c.style.indent) d)
       go false d =
-          at_append (joined_at (entry_row column (63 ∷ []) k) (c.style.indent - 1) (entry_source o, tt) (f.at (key_spot c.style column k) (column + c.style.indent) a))
-          (joined_at (colon_row column k) (c.style.indent - 1) (entry_source o, tt) (g.at (inner_spot c.style column) (column + c.style.indent) d))
+          at_append (joined_at (entry_row column (63 ∷ []) k) (c.style.indent - 1) (entry_source o, tt) (f.at (key_margins c.style column k) (column + c.style.indent) a))
+          (joined_at (colon_row column k) (c.style.indent - 1) (entry_source o, tt) (g.at (inner_margins c.style column) (column + c.style.indent) d))
 
     items_of : {m l : ℕ} {at : NodeOffsets} {props : PropsValue} {xs : Items} → Set m l (sequence at false props xs) → SetItems u c.style (BlockAt u) m xs
     items_of (set_line b) = absurd (true≢false (sym b.0))
@@ -222,21 +222,21 @@ module _ (u : List ℕ) where
 
     mutual
       node_at : (x : Node) → NodeAt x
-      node_at (scalar at props Plain text lines) = record { at = λ spot l a. line_at spot.column (scalar at props Plain text lines) (written c.style (scalar at props Plain text lines)) }
-      node_at (scalar at props Single text lines) = record { at = λ spot l a. line_at spot.column (scalar at props Single text lines) (written c.style (scalar at props Single text lines)) }
-      node_at (scalar at props Double text lines) = record { at = λ spot l a. line_at spot.column (scalar at props Double text lines) (written c.style (scalar at props Double text lines)) }
-      node_at (scalar at props Literal text lines) = record { at = λ spot l a. row_at_columns tt none_at_columns }
-      node_at (scalar at props Folded text lines) = record { at = λ spot l a. row_at_columns tt none_at_columns }
-      node_at (alias at name) = record { at = λ spot l a. line_at spot.column (alias at name) (written c.style (alias at name)) }
-      node_at (sequence at true props xs) = record { at = λ spot l a. line_at spot.column (sequence at true props xs) (written c.style (sequence at true props xs)) }
-      node_at (sequence at false props xs) = record { at = λ spot l a. props_at spot.column (props_text props) (items_at spot.entries xs (items_of a)) }
-      node_at (mapping at true props ps) = record { at = λ spot l a. line_at spot.column (mapping at true props ps) (written c.style (mapping at true props ps)) }
-      node_at (mapping at false props ps) = record { at = λ spot l a. props_at spot.column (props_text props) (pairs_at spot.entries ps (pairs_of a)) }
+      node_at (scalar at props Plain text lines) = record { at = λ margins l a. line_at margins.column (scalar at props Plain text lines) (written c.style (scalar at props Plain text lines)) }
+      node_at (scalar at props Single text lines) = record { at = λ margins l a. line_at margins.column (scalar at props Single text lines) (written c.style (scalar at props Single text lines)) }
+      node_at (scalar at props Double text lines) = record { at = λ margins l a. line_at margins.column (scalar at props Double text lines) (written c.style (scalar at props Double text lines)) }
+      node_at (scalar at props Literal text lines) = record { at = λ margins l a. row_at_columns tt none_at_columns }
+      node_at (scalar at props Folded text lines) = record { at = λ margins l a. row_at_columns tt none_at_columns }
+      node_at (alias at name) = record { at = λ margins l a. line_at margins.column (alias at name) (written c.style (alias at name)) }
+      node_at (sequence at true props xs) = record { at = λ margins l a. line_at margins.column (sequence at true props xs) (written c.style (sequence at true props xs)) }
+      node_at (sequence at false props xs) = record { at = λ margins l a. props_at margins.column (props_text props) (items_at margins.entries xs (items_of a)) }
+      node_at (mapping at true props ps) = record { at = λ margins l a. line_at margins.column (mapping at true props ps) (written c.style (mapping at true props ps)) }
+      node_at (mapping at false props ps) = record { at = λ margins l a. props_at margins.column (props_text props) (pairs_at margins.entries ps (pairs_of a)) }
 
       items_at : (column : ℕ) (xs : Items) → SetItems u c.style (BlockAt u) column xs → AllAtColumns u (rows_of_items c column xs)
       items_at column no_items a = none_at_columns
       items_at column (item x xs) (set_item o a more) =
-          at_append (joined_at (entry_row column (45 ∷ []) x) (c.style.indent - 1) (entry_source o, tt) ((node_at x).at (inner_spot c.style column) (column + c.style.indent) a)) (items_at column xs more)
+          at_append (joined_at (entry_row column (45 ∷ []) x) (c.style.indent - 1) (entry_source o, tt) ((node_at x).at (inner_margins c.style column) (column + c.style.indent) a)) (items_at column xs more)
 
       pairs_at : (column : ℕ) (ps : Pairs) → SetPairs u c.style (BlockAt u) column ps → AllAtColumns u (rows_of_pairs c column ps)
       pairs_at column no_pairs a = none_at_columns
@@ -256,7 +256,7 @@ module _ (u : List ℕ) where
     stream_at is_first [] trees a = none_at_columns
     stream_at is_first (d ∷ ds) [] a = none_at_columns
     stream_at is_first (d ∷ ds) (x ∷ xs) (set_document a more) =
-        at_append (at_append (heads_at is_first d.start d.directives) ((node_at x.root).at (root_spot c.style) c.style.indent a)) (stream_at false ds xs more)
+        at_append (at_append (heads_at is_first d.start d.directives) ((node_at x.root).at (root_margins c.style) c.style.indent a)) (stream_at false ds xs more)
 
     begun_at_columns : (start : ℕ) {xs : List Row} → AllAtColumns u xs → AllAtColumns u (begun_at start xs)
     begun_at_columns start none_at_columns = none_at_columns
@@ -266,7 +266,7 @@ module _ (u : List ℕ) where
     all_at false ds trees a = stream_at true ds trees a
     all_at true [] trees a = none_at_columns
     all_at true (d ∷ ds) [] a = none_at_columns
-    all_at true (d ∷ ds) (x ∷ xs) (set_document a more) = at_append (begun_at_columns d.start ((node_at x.root).at (root_spot c.style) c.style.indent a)) (stream_at false ds xs more)
+    all_at true (d ∷ ds) (x ∷ xs) (set_document a more) = at_append (begun_at_columns d.start ((node_at x.root).at (root_margins c.style) c.style.indent a)) (stream_at false ds xs more)
 
 -- The law.
 

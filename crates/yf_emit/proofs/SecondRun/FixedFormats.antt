@@ -10,7 +10,7 @@ use Rattle.yf_emit.specs.Layouts.Decorated.{decorated, first_gap, gap_then, line
 use Rattle.yf_emit.specs.Format.{IsFormatting}
 use Rattle.yf_emit.specs.Layouts.Layout.{layout}
 use Rattle.yf_emit.specs.Preservation.FoundTrees.{FoundSame, FoundTrees, none_found, one_found}
-use Rattle.yf_forms.specs.NormalForms.Normal.{Normal, LayoutSetting, normal_document, root_spot, setting_of, settled, styled}
+use Rattle.yf_forms.specs.NormalForms.Normal.{Normal, LayoutSetting, normal_document, root_margins, setting_of, settled, styled}
 use Rattle.yf_emit.proofs.SecondRun.AlikeLemmas.{setting}
 use Rattle.yf_emit.proofs.Derived.DecoratedLemmas.{layout_then}
 use Rattle.yf_emit.proofs.SecondRun.FixedBlocks.{blocks_alike, settled_blocks}
@@ -36,12 +36,12 @@ documents_fixed {s} {cs} {es} {u} t (z ∷ read) e (one_found {x = x} {y = y} {x
     let d : LayoutSetting = setting s es in
     let here : x ≡ normal_document t c z = ap (head_or x) e in
     let rest : xs ≡ map (normal_document t c) read = ap rest_of e in
-    let house : House d x.root = ap (λ (w : DocumentTree). styled [] (setting s []) w.root) here ∙ (normal_house t c (root_spot s) z.root ∙ sym (ap (λ (w : DocumentTree). w.root) here)) in
-    let settles : settled c (root_spot s) x.root ≡ x.root =
-    ap (λ (w : DocumentTree). settled c (root_spot s) w.root) here ∙ (settled_twice c (root_spot s) (root_spot s) (styled t c z.root) (record { entries = refl; column = λ q. refl })
+    let house : House d x.root = ap (λ (w : DocumentTree). styled [] (setting s []) w.root) here ∙ (normal_house t c (root_margins s) z.root ∙ sym (ap (λ (w : DocumentTree). w.root) here)) in
+    let settles : settled c (root_margins s) x.root ≡ x.root =
+    ap (λ (w : DocumentTree). settled c (root_margins s) w.root) here ∙ (settled_twice c (root_margins s) (root_margins s) (styled t c z.root) (record { entries = refl; column = λ q. refl })
     ∙ sym (ap (λ (w : DocumentTree). w.root) here)) in
-    let root : settled d (root_spot s) (styled u d y.root) ≡ y.root =
-    ap (λ w. settled d (root_spot s) w) (styled_alike u d (blocks_alike a) house f) ∙ settled_blocks s (root_spot s) a settles in
+    let root : settled d (root_margins s) (styled u d y.root) ≡ y.root =
+    ap (λ w. settled d (root_margins s) w) (styled_alike u d (blocks_alike a) house f) ∙ settled_blocks s (root_margins s) a settles in
     ap (λ w. record y { root = w } ∷ map (normal_document u d) ys) root ∙ ap (λ w. y ∷ w) (documents_fixed t read rest more) where
       head_or : DocumentTree → List DocumentTree → DocumentTree
       head_or other [] = other

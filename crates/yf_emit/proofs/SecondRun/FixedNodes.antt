@@ -9,7 +9,7 @@ use Rattle.yf_forms.specs.Nodes.OneLineFlows.{has_comment, items_may_be_kept, ma
 use Rattle.yf_forms.specs.NormalForms.Normal.{LayoutSetting, styled, styled_items, styled_pairs}
 use Rattle.yf_emit.specs.Nodes.FlowsWithoutComments.{Undisturbed, undisturbed_sequence, undisturbed_mapping, UndisturbedItems, undisturbed_item, UndisturbedPairs, undisturbed_pair}
 use Rattle.yf_emit.proofs.SecondRun.AlikeLemmas.{setting}
-use Rattle.yf_emit.proofs.NormalForms.StyledTwice.{House}
+use Rattle.yf_emit.proofs.NormalForms.StyledTwice.{House, all_five, all_true}
 use Rattle.yf_lines.proofs.CoreSteady.{both_parts}
 
 -- Parts of nodes.
@@ -60,12 +60,6 @@ more_pairs (pair k v ps) = ps
 
 -- Tests.
 
-four : (a b c d : Bool) → a ≡ true → b ≡ false → c ≡ true → d ≡ true → (a && not b && c && d) ≡ true
-four a b c d e f g h = rw (e, f, g, h) refl
-
-five : (a b c d e : Bool) → a ≡ true → b ≡ false → c ≡ true → d ≡ true → e ≡ true → (a && not b && c && d && e) ≡ true
-five a b c d e f g h i j = rw (f, g, h, i, j) refl
-
 of_four : (a b c d : Bool) → (a && not b && c && d) ≡ true → (a ≡ true) × (c ≡ true) × (d ≡ true)
 of_four true false true true e = (refl, refl, refl)
 of_four true false true false e = absurd (true≢false (sym e))
@@ -97,11 +91,11 @@ mutual
   kept_alike u cs (alike_sequences e alike_nothing) k f = refl
   kept_alike u cs (alike_sequences {at = at} {flow = flow} {props = props} e (alike_item {x = x} {xs = xs} a more)) k (undisturbed_sequence n (undisturbed_item f fs)) =
       let parts = of_four flow (has_comment [] [] at.span props) (may_be_kept [] [] x) (items_may_be_kept [] [] xs) k in
-      four _ _ _ _ parts.0 (n parts.0) (kept_alike u cs a parts.1 f) (items_kept_alike u cs more parts.2 fs)
+      all_true _ _ _ _ parts.0 (n parts.0) (kept_alike u cs a parts.1 f) (items_kept_alike u cs more parts.2 fs)
   kept_alike u cs (alike_mappings e alike_no_pairs) k f = refl
   kept_alike u cs (alike_mappings {at = at} {flow = flow} {props = props} e (alike_pair {k = k} {v = v} {ps = ps} a b g more)) h (undisturbed_mapping n (undisturbed_pair f o fs)) =
       let parts = of_five flow (has_comment [] [] at.span props) (may_be_kept [] [] k) (may_be_kept [] [] v) (pairs_may_be_kept [] [] ps) h in
-      five _ _ _ _ _ parts.0 (n parts.0) (kept_alike u cs a parts.1 f) (kept_alike u cs b parts.2 o) (pairs_kept_alike u cs more parts.3 fs)
+      all_five _ _ _ _ _ parts.0 (n parts.0) (kept_alike u cs a parts.1 f) (kept_alike u cs b parts.2 o) (pairs_kept_alike u cs more parts.3 fs)
 
   items_kept_alike : {K : Node → Node → Node → Node → Type 0} {xs ys : Items} (u : List ℕ) (cs : List CommentValue) → AlikeItems K xs ys → items_may_be_kept [] [] xs ≡ true
       → UndisturbedItems u cs ys → items_may_be_kept u cs ys ≡ true

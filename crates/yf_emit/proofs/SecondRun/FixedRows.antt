@@ -9,7 +9,7 @@ use Rattle.yf_forms.specs.declared.style.Style.{Style}
 use Rattle.yf_emit.specs.Layouts.Decorated.{Deco, first, after, end_then, lines_then}
 use Rattle.yf_emit.specs.Preservation.FoundTrees.{FoundTrees, none_found, one_found, words_of}
 use Rattle.yf_emit.specs.Preservation.LayoutKey.{SameDocuments, no_documents, same_document}
-use Rattle.yf_forms.specs.NormalForms.Normal.{root_spot}
+use Rattle.yf_forms.specs.NormalForms.Normal.{root_margins}
 use Rattle.yf_emit.specs.Layouts.RowShapes.{RowShape, shape_of}
 use Rattle.yf_print.specs.Layouts.Rows.{Row, all_rows, bare_rows, beginning_at, begun_at, directive_row, document_rows, end_rows, joined_words, plain_row, rows, start_row, stream_rows}
 use Rattle.yf_emit.proofs.SecondRun.AlikeLemmas.{both_shapes, setting, shapes}
@@ -65,9 +65,9 @@ pub same_rows : {s : Style} {cs es : List CommentValue} {ds fs : List Doc} {xs y
 same_rows is_first no_documents = refl
 same_rows {s} {cs} {es} is_first (same_document {d = d} {e = e} {ds = ds} {fs = fs} {x = x} {y = y} {xs = xs} {ys = ys} w a more) =
     both_shapes (document_rows (setting s cs) is_first d x) (stream_rows (setting s cs) false ds xs) (document_rows (setting s es) is_first e y) (stream_rows (setting s es) false fs ys)
-    (both_shapes (beginning_at d.start (end_rows is_first d.directives ++ (map directive_row d.directives ++ (start_row ∷ [])))) (rows (setting s cs) (root_spot s) x.root)
-    (beginning_at e.start (end_rows is_first e.directives ++ (map directive_row e.directives ++ (start_row ∷ [])))) (rows (setting s es) (root_spot s) y.root)
-    (head_shaped is_first d.start e.start d.directives e.directives w) (same_block_rows s (root_spot s) a))
+    (both_shapes (beginning_at d.start (end_rows is_first d.directives ++ (map directive_row d.directives ++ (start_row ∷ [])))) (rows (setting s cs) (root_margins s) x.root)
+    (beginning_at e.start (end_rows is_first e.directives ++ (map directive_row e.directives ++ (start_row ∷ [])))) (rows (setting s es) (root_margins s) y.root)
+    (head_shaped is_first d.start e.start d.directives e.directives w) (same_block_rows s (root_margins s) a))
     (same_rows false more)
 
 pub begun_shaped : (start : ℕ) (xs : List Row) → shapes (begun_at start xs) ≡ shapes xs
@@ -80,7 +80,7 @@ all_same_rows false same = same_rows true same
 all_same_rows true no_documents = refl
 all_same_rows {s} {cs} {es} true (same_document {d = d} {e = e} {ds = ds} {fs = fs} {x = x} {y = y} {xs = xs} {ys = ys} w a more) =
     both_shapes (bare_rows (setting s cs) d x) (stream_rows (setting s cs) false ds xs) (bare_rows (setting s es) e y) (stream_rows (setting s es) false fs ys)
-    (begun_shaped d.start (rows (setting s cs) (root_spot s) x.root) ∙ (same_block_rows s (root_spot s) a ∙ sym (begun_shaped e.start (rows (setting s es) (root_spot s) y.root))))
+    (begun_shaped d.start (rows (setting s cs) (root_margins s) x.root) ∙ (same_block_rows s (root_margins s) a ∙ sym (begun_shaped e.start (rows (setting s es) (root_margins s) y.root))))
     (same_rows false more)
 
 found_same : {s : Style} {cs es : List CommentValue} {u : List ℕ} {ds fs : List Doc} {xs ys : List DocumentTree} → FoundTrees s cs u es ds xs fs ys → SameDocuments s cs es ds xs fs ys

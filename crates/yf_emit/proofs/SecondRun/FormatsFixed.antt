@@ -30,7 +30,6 @@ use Rattle.yf_emit.proofs.ReadAgain.BlanksAgain.{blanks_found}
 use Rattle.yf_emit.proofs.ReadAgain.AllBlanks.{BlanksFound}
 use Rattle.yf_emit.proofs.ReadAgain.CarriedAgain.{NextTied, Owns, Tied, all_of}
 use Rattle.yf_emit.proofs.SameReading.CommentsCut.{In, Under, Upward, each_none, upward_of}
-use Rattle.yf_emit.proofs.SameReading.StepComments.{firsts}
 use Rattle.yf_emit.proofs.ReadAgain.DocumentTies.{rows_barely, Left, some_left, all_ties}
 use Rattle.yf_emit.proofs.Derived.EntriesMade.{Begins, begins}
 use Rattle.yf_emit.proofs.SecondRun.FixedFormats.{found_fixed, roots_fixed}
@@ -41,18 +40,19 @@ use Rattle.yf_emit.proofs.OutputLines.FormattedLines.{formed}
 use Rattle.yf_emit.proofs.SameReading.FoundAgain.{Unsigned}
 use Rattle.yf_emit.proofs.RowNodes.FoundStreams.{StreamIn, no_stream, stream_in}
 use Rattle.yf_emit.proofs.ReadAgain.GapsAgain.{gap_at_end, gap_with}
-use Rattle.yf_emit.proofs.ReadAgain.OwnsAgain.{decos_beside, noted_parts, noted_texts, noted_under, owns_noted, rows_own, Spots}
+use Rattle.yf_emit.proofs.ReadAgain.OwnsAgain.{decos_beside, noted_parts, noted_texts, noted_under, owns_noted, rows_own, RowExtents}
 use Rattle.yf_emit.proofs.RowNodes.PlacedRows.{PlacedRow}
 use Rattle.yf_emit.proofs.RowNodes.QuietPlaces.{AllQuiet, ascend_under}
 use Rattle.yf_emit.proofs.ReadAgain.ReadingsAgain.{CarriedSame, alone_same, before_text, carried_same, remarks}
 use Rattle.yf_emit.proofs.SameReading.RowFlow.{Upright}
 use Rattle.yf_emit.proofs.Trails.RowLeaves.{leaves_on}
-use Rattle.yf_emit.proofs.ReadAgain.RowsTied.{spot_first, tied_rows}
+use Rattle.yf_emit.proofs.ReadAgain.RowsTied.{extent_first, tied_rows}
 use Rattle.yf_emit.proofs.Derived.RowsUtf8.{RowLines}
 use Rattle.yf_emit.proofs.ReadAgain.RowTies.{Ties, a_tie, LaidRows, bare_gap, first_shape, laid_rows, next_tied, none_precedes}
 use Rattle.yf_emit.proofs.SameReading.SourceOffsets.{source_is_at, normal_of, noted_upward}
 use Rattle.yf_emit.proofs.Derived.StepsInText.{starts_of}
 use Rattle.yf_emit.proofs.Trails.TrailChoice.{rising}
+use Rattle.yf_emit.proofs.Trails.TrailOthers.{firsts}
 use Rattle.yf_print.specs.Layouts.BareStart.{is_bare}
 use Rattle.yf_events.specs.Tree.{flat_stream}
 use Rattle.yf_print.specs.Layouts.KeptColumns.{Columns, columns_of}
@@ -92,10 +92,10 @@ rows_known u s q utf8 a fixed =
 first_again : {u : List ℕ} {s : Style} {q : Lists} (g f : Columns) (mc : Source) (own : List CommentValue) (x row : Row) (xs found : List Row) (p : PlacedRow) (ps : List PlacedRow) {line end : ℕ} {owns : List (List CommentValue)} (known : RowsKnown u q (row ∷ found)) (ones : List CommentValue) → ((d : CommentValue) → WalkFrom u s f [] true (row ∷ found) d)
     → AllStay u s [] true (row ∷ found) (gap_of g at_text_start own (x ∷ xs)) (decos_of g mc own (x ∷ xs))
     → shapes (x ∷ xs) ≡ shapes (row ∷ found) → AreDecos (decos_of g mc own (x ∷ xs)) → q.comments ≡ ones ++ all_of owns → Upward 0 ones → Under line ones → texts ones ≡ remarks_of (gap_of g at_text_start own (x ∷ xs))
-    → Ties q.comments (x ∷ xs) (row ∷ found) (p ∷ ps) → Owns (p ∷ ps) (decos_of g mc own (x ∷ xs)) line owns end → Spots u (p ∷ ps) (decos_of g mc own (x ∷ xs)) owns → AllQuiet q.comments (p ∷ ps)
+    → Ties q.comments (x ∷ xs) (row ∷ found) (p ∷ ps) → Owns (p ∷ ps) (decos_of g mc own (x ∷ xs)) line owns end → RowExtents u (p ∷ ps) (decos_of g mc own (x ∷ xs)) owns → AllQuiet q.comments (p ∷ ps)
     → BlanksFound u q.comments (gap_of g at_text_start own (x ∷ xs)) (decos_of g mc own (x ∷ xs)) (row ∷ found) (p ∷ ps) line end
     → CarriedSame u g f q (row ∷ found) (gap_of g at_text_start own (x ∷ xs)) (decos_of g mc own (x ∷ xs))
-first_again {u} {s} {q} g f mc own x row xs found p ps {line} {end} {owns} known ones walk stays same fit are up under told (a_tie tie ties) each spots quiet blanks =
+first_again {u} {s} {q} g f mc own x row xs found p ps {line} {end} {owns} known ones walk stays same fit are up under told (a_tie tie ties) each extents quiet blanks =
     let gap : List GapLine = gap_of g at_text_start own (x ∷ xs) in
     let here : List CommentValue = filter (precedes_item x) own in
     let c : Source = source_of q (row ∷ found) in
@@ -103,9 +103,9 @@ first_again {u} {s} {q} g f mc own x row xs found p ps {line} {end} {owns} known
     let laid : LaidRows g (x ∷ xs) (row ∷ found) (decos_of g mc own (x ∷ xs)) = laid_rows g mc own (x ∷ xs) (row ∷ found) same fit in
     let all : remarks q (row ∷ found) ≡ q.comments = firsts q.comments q.on_leaf_line known.count in
     let tied : Tied u g c q.comments (row ∷ found) (p ∷ ps) (decos_of g mc own (x ∷ xs)) owns =
-    tied_rows known.lines known.are_lines c q.comments (ap (zip q.comments) known.leaf_notes) known.sign known.rises known.unsigned [] [] ones (a_tie tie ties) laid each spots known.upright quiet
+    tied_rows known.lines known.are_lines c q.comments (ap (zip q.comments) known.leaf_notes) known.sign known.rises known.unsigned [] [] ones (a_tie tie ties) laid each extents known.upright quiet
     (blanks.after ones owns are told each) refl refl each_none under are in
-    let next : NextTied q.comments row p (before_text gap) = next_tied tie (spot_first spots) (λ z. bare_gap g at_text_start x.column here x.blank_before (none_precedes x own z)) in
+    let next : NextTied q.comments row p (before_text gap) = next_tied tie (extent_first extents) (λ z. bare_gap g at_text_start x.column here x.blank_before (none_precedes x own z)) in
     carried_same f q row found ones here x.blank_before walk stays (all ∙ are) up under told (ap (λ z. gap_with g at_text_start z here x.blank_before) (ap (λ (z : RowShape). z.column) one)) (blanks.first ones (all_of owns) are told)
     (subst (λ z. NextTied z row p (before_text gap)) are next) each (subst (λ z. Tied u g c z (row ∷ found) (p ∷ ps) (decos_of g mc own (x ∷ xs)) owns) are tied)
 
@@ -133,12 +133,12 @@ carried_again {u} {es = es} {q = q} g f mc own (x ∷ xs) (row ∷ found) {ps = 
     let start : Rest u line (inline_then (x ∷ xs) (decos_of g mc own (x ∷ xs)) []) = subst (λ k. Rest u k (inline_then (x ∷ xs) (decos_of g mc own (x ∷ xs)) [])) (omega (arith, column)) spaces.1 in
     let owned = rows_own utf8 (decos_beside g mc own (x ∷ xs)) lines fit start rows in
     let parts = noted_parts befores noted in
-    let owns = owns_noted owned.each owned.spots (subst (λ z. NotedComments u es z parts.two) owned.are parts.second) in
+    let owns = owns_noted owned.each owned.extents (subst (λ z. NotedComments u es z parts.two) owned.are parts.second) in
     let are : q.comments ≡ parts.one ++ all_of owns.owns = parts.are ∙ ap (λ z. parts.one ++ z) owns.are in
     let under : Under line parts.one = noted_under (ascend_under ascend) parts.first in
     let laid = laid_rows g mc own (x ∷ xs) (row ∷ found) same fit in
     first_again g f mc own x row xs found p ps known parts.one walk stays same fit are (noted_upward (upward_of ascend) parts.first) under (noted_texts parts.first ∙ told)
-    (ties (some_left parts.one (rows_barely rows) owns.each laid under are)) owns.each owns.spots quiet blanks where
+    (ties (some_left parts.one (rows_barely rows) owns.each laid under are)) owns.each owns.extents quiet blanks where
       begin_column : {rs : List Row} → Begins 0 (x ∷ rs) → x.column ≡ 0
       begin_column (begins f) = f
 

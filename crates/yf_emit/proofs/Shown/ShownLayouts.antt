@@ -1,10 +1,11 @@
 -- A small tree written out by hand, that meets what the law of layouts asks, and the text of which it speaks.
-use Rattle.std.proofs.Common.{◌≡◌, ℕ, List, [], ◌∷◌, None, codes, length, refl, ap, arith, false}
+use Rattle.std.proofs.Common.{◌≡◌, ℕ, List, [], ◌∷◌, None, codes, refl, false}
 use Rattle.std.specs.Str.{IsUtf8, chars, is_utf8}
 use Rattle.std.proofs.lemmas.Str.{IsUtf8-from_is_utf8}
 use lib.Utf8.{encode}
 use Rattle.yf_chars.specs.Class.{is_nb_char, is_printable, is_between, is_break_char}
 use Rattle.yf_chars.specs.Text.{begins, code}
+use Rattle.yf_chars.proofs.Tests.{no_nil}
 use Rattle.yf_comments.specs.GapLines.{IsRemark}
 use Rattle.yf_props.specs.Props.{no_props}
 use Rattle.yf_events.specs.declared.event.ScalarStyle.TheVariants.{Single}
@@ -29,16 +30,13 @@ small_tree = block_pairs (at 0 9 None) no_props ((
       scalar (at 5 6 (entry 5)) no_props Single (codes "x") [] ∷ nothing (entry 6) ∷ flow_items (at 7 9 (entry 7)) no_props (scalar (at 8 9 (entry 8)) no_props Single (codes "y") [] ∷ []) ∷ []),
 ) ∷ [])
 
-some_text : {b : ℕ} {w : List ℕ} → b ∷ w ≡ [] → ⊥
-some_text {b} {w} e = let long : length (b ∷ w) ≡ 0 = ap length e in omega arith
-
 small_fits : Fit house small_tree
 unfolding is_utf8 chars is_nb_char is_printable is_between is_break_char encode
 small_fits = fit_mapping refl no_fit_props
-    (fit_line refl (λ e. some_text e) (single_inline house refl refl (IsUtf8-from_is_utf8 (codes "a") refl) refl).node (single_inline house refl refl (IsUtf8-from_is_utf8 (codes "a") refl) refl))
+    (fit_line refl (λ e. no_nil {A = ℕ} e) (single_inline house refl refl (IsUtf8-from_is_utf8 (codes "a") refl) refl).node (single_inline house refl refl (IsUtf8-from_is_utf8 (codes "a") refl) refl))
     (fit_sequence refl no_fit_props
-    (fit_line refl (λ e. some_text e) (single_inline house refl refl (IsUtf8-from_is_utf8 (codes "x") refl) refl).node (single_inline house refl refl (IsUtf8-from_is_utf8 (codes "x") refl) refl))
-    (fit_item (fit_nothing refl) (fit_item (fit_line refl (λ e. some_text e)
+    (fit_line refl (λ e. no_nil {A = ℕ} e) (single_inline house refl refl (IsUtf8-from_is_utf8 (codes "x") refl) refl).node (single_inline house refl refl (IsUtf8-from_is_utf8 (codes "x") refl) refl))
+    (fit_item (fit_nothing refl) (fit_item (fit_line refl (λ e. no_nil {A = ℕ} e)
     (flow_inline house refl (flow_sequence refl no_fit_props (flow_leaf (single_inline house refl refl (IsUtf8-from_is_utf8 (codes "y") refl) refl)) flow_last_item)).node
     (flow_inline house refl (flow_sequence refl no_fit_props (flow_leaf (single_inline house refl refl (IsUtf8-from_is_utf8 (codes "y") refl) refl)) flow_last_item))) fit_no_items)))
     fit_no_pairs

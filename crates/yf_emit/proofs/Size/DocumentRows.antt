@@ -7,7 +7,7 @@ use Rattle.yf_events.specs.declared.document.Doc.{Doc}
 use Rattle.yf_grammar.specs.Productions.TreesOfMeaning.{tall}
 use Rattle.yf_forms.specs.declared.style.Style.{Style}
 use Rattle.yf_emit.specs.Layouts.FitDocuments.{tall_documents}
-use Rattle.yf_forms.specs.NormalForms.Normal.{LayoutSetting, root_spot}
+use Rattle.yf_forms.specs.NormalForms.Normal.{LayoutSetting, root_margins}
 use Rattle.yf_print.specs.Layouts.Rows.{Row, all_rows, bare_rows, beginning_at, begun_at, directive_row, document_rows, end_rows, joined_words, rows, start_row, stream_rows}
 use Rattle.yf_emit.proofs.Size.NodeCosts.{Costs}
 use Rattle.yf_emit.proofs.Size.RowBytes.{laid_size, node_laid, price, price_add, price_eight, price_more, size, size_append}
@@ -55,8 +55,8 @@ module _ (c : LayoutSetting) (w : ℕ) where
       let two = mul-le-mul_right c.style.indent (le-max_right a b) in
       (omega (arith, one, l), omega (arith, two, l))
 
-  root_size : {a : ℕ} (x : DocumentTree) → Costs c.style a x.root → tall x.root * c.style.indent + c.style.indent ≤ w → size (rows c (root_spot c.style) x.root) ≤ price w a
-  root_size x d l = laid_size c w (omega arith) (node_laid c w d (root_spot c.style) (omega (arith, l)) (omega (arith, l)))
+  root_size : {a : ℕ} (x : DocumentTree) → Costs c.style a x.root → tall x.root * c.style.indent + c.style.indent ≤ w → size (rows c (root_margins c.style) x.root) ≤ price w a
+  root_size x d l = laid_size c w (omega arith) (node_laid c w d (root_margins c.style) (omega (arith, l)) (omega (arith, l)))
 
   stream_size : (ds : List Doc) (b : Bool) {m : ℕ} {xs : List DocumentTree} → TreesCost c.style m xs → tall_documents xs * c.style.indent + c.style.indent ≤ w → size (stream_rows c b ds xs) ≤ price w (documents_weight ds + m)
   stream_size [] b d l = omega arith
@@ -77,7 +77,7 @@ module _ (c : LayoutSetting) (w : ℕ) where
         first,
         sum,
         beginning_size d.start lines,
-        size_append (beginning_at d.start lines) (rows c (root_spot c.style) x.root),
+        size_append (beginning_at d.start lines) (rows c (root_margins c.style) x.root),
         size_append (document_rows c b d x) (stream_rows c false ds xs),
         price_add w (suc (directives_weight d.directives)) (a + (documents_weight ds + m)),
         price_add w a (documents_weight ds + m),
@@ -92,4 +92,4 @@ module _ (c : LayoutSetting) (w : ℕ) where
       let root = root_size x e two.0 in
       let others = stream_size ds false more two.1 in
       let sum = price_more w {a = a + (documents_weight ds + m)} {b = documents_weight (d ∷ ds) + (a + m)} (omega arith) in
-      omega (arith, root, others, sum, begun_size d.start (rows c (root_spot c.style) x.root), size_append (bare_rows c d x) (stream_rows c false ds xs), price_add w a (documents_weight ds + m))
+      omega (arith, root, others, sum, begun_size d.start (rows c (root_margins c.style) x.root), size_append (bare_rows c d x) (stream_rows c false ds xs), price_add w a (documents_weight ds + m))

@@ -9,15 +9,16 @@ use Rattle.std.proofs.lemmas.List.{length-replicate}
 use Rattle.std.proofs.lemmas.Str.{encodes-chars, len_utf8_bounds, length-encode, scalars-chars}
 use Rattle.std.specs.Char.{len_utf8}
 use Rattle.std.specs.Str.{IsUtf8, chars}
-use lib.Utf8.{encode, encodes, scalar, scalars}
+use lib.Utf8.{encode, scalar, scalars}
 use Rattle.yf_chars.specs.Hidden.{is_spelled_out, spelled_out}
 use Rattle.yf_chars.specs.Escape.{by_number, is_by_four, is_by_two, short_name, spelled, spelled_long, two_digits}
 use Rattle.yf_chars.proofs.HiddenLemmas.{low_itself, spelled_alike, spelled_apart}
-use Rattle.yf_chars.proofs.SpelledLemmas.{scalar_below}
 use Rattle.yf_chars.proofs.EscapeLemmas.{few_spelled, four_spelled, letter_spelled, many_spelled, self_spelled, spelled_none, two_spelled}
+use Rattle.yf_chars.proofs.TextLemmas.{scalar_below}
 use Rattle.yf_lines.specs.Steady.{is_steady}
 use Rattle.yf_lines.specs.declared.invisible.Invisible.{Invisible}
 use Rattle.yf_lines.specs.declared.quotes.Quotes.{Quotes}
+use Rattle.yf_lines.proofs.CoreSteady.{nothing_steady}
 use Rattle.yf_block_scalar.specs.Content.{literal, literal_after}
 use Rattle.yf_quoted.specs.Written.{quotes_in, spelled_in, twice}
 use Rattle.yf_props.specs.Props.{PropsValue}
@@ -28,7 +29,6 @@ use Rattle.yf_emit.specs.Layouts.ReadableTrees.{is_block_style}
 use Rattle.yf_forms.specs.Nodes.BlockLines.{block_lines, chomping_sign, cut_at_feeds, digit_text, begins_with_space, final_feeds, header_text, into_first, is_feed, line_at, style_sign, without_final_feeds}
 use Rattle.yf_forms.specs.Nodes.OneLine.{anchor_text, props_text, scalar_text, spaced, tag_text}
 use Rattle.yf_forms.specs.Nodes.ScalarStyles.{has_block_content, lines_in, quoted_in, style_in, wanted}
-use Rattle.yf_forms.proofs.Decide.ValueLemmas.{nothing_steady}
 use Rattle.yf_emit.proofs.Size.TextBytes.{bytes_append, bytes_more}
 use Rattle.yf_emit.proofs.Size.Weights.{half_low, props_weight, text_weight}
 use Rattle.yf_forms.proofs.Texts.WidthLemmas.{letter_low}

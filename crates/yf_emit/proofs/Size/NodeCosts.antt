@@ -6,7 +6,7 @@ use Rattle.yf_events.specs.Tree.{NodeOffsets, Node, scalar, alias, sequence, map
 use Rattle.yf_events.specs.declared.event.ScalarStyle.{ScalarStyle}
 use Rattle.yf_events.specs.declared.event.ScalarStyle.TheVariants.{Plain, Single, Double, Literal, Folded}
 use Rattle.yf_forms.specs.declared.style.Style.{Style}
-use Rattle.yf_forms.specs.NormalForms.Normal.{LayoutSetting, Spot, fits, inner_spot, key_spot, settled, settled_items, settled_pairs, value_spot}
+use Rattle.yf_forms.specs.NormalForms.Normal.{LayoutSetting, Margins, fits, inner_margins, key_margins, settled, settled_items, settled_pairs, value_margins}
 use Rattle.yf_forms.specs.Nodes.OneLine.{bare, colon_after, colon_after_props, more_items, more_pairs, props_text, written}
 use Rattle.yf_emit.proofs.Size.LeafBytes.{LeafCost, Short, nothing_short, some_short, props_most, short_spaced}
 use Rattle.yf_emit.proofs.Size.Weights.{props_weight}
@@ -33,30 +33,30 @@ mutual
 -- Which collections are kept on one line doesn't count.
 
 mutual
-  pub settled_costs : {house : Style} {n : ℕ} {y : Node} (c : LayoutSetting) (spot : Spot) → Costs house n y → Costs house n (settled c spot y)
-  settled_costs c spot (scalar_costs a) = scalar_costs a
-  settled_costs c spot (alias_costs l) = alias_costs l
-  settled_costs c spot (no_items_cost l) = no_items_cost l
-  settled_costs {house} {n} c spot (items_cost {at = at} {flow = flow} {props = props} {x = x} {xs = xs} a l) =
-      by (flow && fits c.style spot.column (sequence at flow props (item x xs))) (items_cost a l) (items_cost (settled_items_cost c spot.entries a) l) where
+  pub settled_costs : {house : Style} {n : ℕ} {y : Node} (c : LayoutSetting) (margins : Margins) → Costs house n y → Costs house n (settled c margins y)
+  settled_costs c margins (scalar_costs a) = scalar_costs a
+  settled_costs c margins (alias_costs l) = alias_costs l
+  settled_costs c margins (no_items_cost l) = no_items_cost l
+  settled_costs {house} {n} c margins (items_cost {at = at} {flow = flow} {props = props} {x = x} {xs = xs} a l) =
+      by (flow && fits c.style margins.column (sequence at flow props (item x xs))) (items_cost a l) (items_cost (settled_items_cost c margins.entries a) l) where
         by : {y z : Node} (b : Bool) → Costs house n y → Costs house n z → Costs house n (if b then y else z)
         by true d e = d
         by false d e = e
-  settled_costs c spot (no_pairs_cost l) = no_pairs_cost l
-  settled_costs {house} {n} c spot (pairs_cost {at = at} {flow = flow} {props = props} {k = k} {v = v} {ps = ps} a l) =
-      by (flow && fits c.style spot.column (mapping at flow props (pair k v ps))) (pairs_cost a l) (pairs_cost (settled_pairs_cost c spot.entries a) l) where
+  settled_costs c margins (no_pairs_cost l) = no_pairs_cost l
+  settled_costs {house} {n} c margins (pairs_cost {at = at} {flow = flow} {props = props} {k = k} {v = v} {ps = ps} a l) =
+      by (flow && fits c.style margins.column (mapping at flow props (pair k v ps))) (pairs_cost a l) (pairs_cost (settled_pairs_cost c margins.entries a) l) where
         by : {y z : Node} (b : Bool) → Costs house n y → Costs house n z → Costs house n (if b then y else z)
         by true d e = d
         by false d e = e
 
   settled_items_cost : {house : Style} {n : ℕ} {xs : Items} (c : LayoutSetting) (column : ℕ) → ItemsCost house n xs → ItemsCost house n (settled_items c column xs)
   settled_items_cost c column no_more_items = no_more_items
-  settled_items_cost c column (more_items_cost a more) = more_items_cost (settled_costs c (inner_spot c.style column) a) (settled_items_cost c column more)
+  settled_items_cost c column (more_items_cost a more) = more_items_cost (settled_costs c (inner_margins c.style column) a) (settled_items_cost c column more)
 
   settled_pairs_cost : {house : Style} {n : ℕ} {ps : Pairs} (c : LayoutSetting) (column : ℕ) → PairsCost house n ps → PairsCost house n (settled_pairs c column ps)
   settled_pairs_cost c column no_more_pairs = no_more_pairs
   settled_pairs_cost c column (more_pairs_cost {k = k} {v = v} a b more) =
-      more_pairs_cost (settled_costs c (key_spot c.style column k) a) (settled_costs c (value_spot c column k v) b) (settled_pairs_cost c column more)
+      more_pairs_cost (settled_costs c (key_margins c.style column k) a) (settled_costs c (value_margins c column k v) b) (settled_pairs_cost c column more)
 
 -- On one line.
 

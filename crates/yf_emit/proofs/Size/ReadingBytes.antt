@@ -17,7 +17,7 @@ use Rattle.yf_stream.specs.Stream.{Document}
 use Rattle.yf_stream.proofs.Offsets.ReadingTrees.{TreesMeant, no_trees_meant, tree_meant, TreesStand, no_trees_stand, tree_is_at, reading_is_at}
 use Rattle.yf_stream.proofs.Uniqueness.StreamDocuments.{DocumentsDerived, no_documents_derived, document_derived}
 use Rattle.yf_emit.specs.Layouts.FitDocuments.{tall_documents}
-use Rattle.yf_forms.specs.NormalForms.Normal.{LayoutSetting, normal_document, root_spot, styled, styled_items, styled_pairs}
+use Rattle.yf_forms.specs.NormalForms.Normal.{LayoutSetting, normal_document, root_margins, styled, styled_items, styled_pairs}
 use Rattle.yf_emit.proofs.Derived.FormatsRead.{alike_tall}
 use Rattle.yf_emit.proofs.Size.DocumentRows.{TreesCost, no_tree_costs, one_tree_costs, documents_weight}
 use Rattle.yf_emit.proofs.Size.LeafBytes.{leaf_cost}
@@ -119,4 +119,4 @@ module _ (t : List ℕ) (c : LayoutSetting) where
       let read : ReadNode false tree.root = read_alike b (subst (λ w. ReadNode false w) same d.read) in
       let follows = documents_cost u more others in
       let first : tall tree.root ≤ h = (let low = d.low in let height = alike_tall b in let one = ap tall same in omega (arith, low, height, one, l)) in
-      record { costs = one_tree_costs (settled_costs c (root_spot c.style) (styled_costs read)) follows.costs; low = max-le first follows.low }
+      record { costs = one_tree_costs (settled_costs c (root_margins c.style) (styled_costs read)) follows.costs; low = max-le first follows.low }

@@ -9,7 +9,7 @@ use Rattle.yf_props.specs.Props.{PropsValue}
 use Rattle.yf_events.specs.Tree.{Node, scalar, sequence, mapping, Items, no_items, item, Pairs, no_pairs, pair, is_sequence}
 use Rattle.yf_events.specs.declared.event.ScalarStyle.TheVariants.{Plain, Single, Double, Literal, Folded}
 use Rattle.yf_grammar.specs.Productions.TreesOfMeaning.{tall, tall_items, tall_pairs}
-use Rattle.yf_forms.specs.NormalForms.Normal.{LayoutSetting, Spot, inner_spot, is_implicit, is_one_line_key, key_comment, key_spot, value_column, value_entries, value_of_implicit}
+use Rattle.yf_forms.specs.NormalForms.Normal.{LayoutSetting, Margins, inner_margins, is_implicit, is_one_line_key, key_comment, key_margins, value_column, value_entries, value_of_implicit}
 use Rattle.yf_forms.specs.Nodes.OneLine.{colon_after, props_text, spaced, width, written}
 use Rattle.yf_print.specs.Layouts.Rows.{Row, after_key, after_sign, begins_below, colon_row, entry_row, joined, key_row, one_line_row, props_row, rows, rows_of_items, rows_of_pairs}
 use Rattle.yf_forms.specs.Nodes.Lines.{is_empty_text}
@@ -69,23 +69,23 @@ joined_first head n (r ∷ rs) = first_at refl
 module _ (c : LayoutSetting) (w : ℕ) where
   -- the rows of the node y: none, where it is a key without `?` in any case; rows of which the first is where the node is, and may be anywhere; or rows of
   -- which the first is where its entries are
-  pub data Laid (n : ℕ) (spot : Spot) (y : Node) : List Row → Type 0 where
-    laid_nothing : ((column : ℕ) → is_implicit c.style column y ≡ true) → Laid n spot y []
-    laid_line : {r : Row} {rs : List Row} → begins_below y ≡ false → r.column ≡ spot.column → w + (rest_size r + size rs) ≤ price w n → Laid n spot y (r ∷ rs)
-    laid_below : {r : Row} {rs : List Row} → begins_below y ≡ true → r.column ≡ spot.entries → r.column + (rest_size r + size rs) ≤ price w n → Laid n spot y (r ∷ rs)
+  pub data Laid (n : ℕ) (margins : Margins) (y : Node) : List Row → Type 0 where
+    laid_nothing : ((column : ℕ) → is_implicit c.style column y ≡ true) → Laid n margins y []
+    laid_line : {r : Row} {rs : List Row} → begins_below y ≡ false → r.column ≡ margins.column → w + (rest_size r + size rs) ≤ price w n → Laid n margins y (r ∷ rs)
+    laid_below : {r : Row} {rs : List Row} → begins_below y ≡ true → r.column ≡ margins.entries → r.column + (rest_size r + size rs) ≤ price w n → Laid n margins y (r ∷ rs)
 
-  laid_first : {n : ℕ} {spot : Spot} {y : Node} {rs : List Row} → begins_below y ≡ true → FirstAt spot.entries rs → size rs ≤ price w n → Laid n spot y rs
+  laid_first : {n : ℕ} {margins : Margins} {y : Node} {rs : List Row} → begins_below y ≡ true → FirstAt margins.entries rs → size rs ≤ price w n → Laid n margins y rs
   laid_first e (first_at f) l = laid_below e f l
 
-  pub laid_size : {n : ℕ} {spot : Spot} {y : Node} {rs : List Row} → spot.column ≤ w → Laid n spot y rs → size rs ≤ price w n
+  pub laid_size : {n : ℕ} {margins : Margins} {y : Node} {rs : List Row} → margins.column ≤ w → Laid n margins y rs → size rs ≤ price w n
   laid_size l (laid_nothing e) = omega arith
   laid_size l (laid_line e f m) = omega (arith, l, f, m)
   laid_size l (laid_below e f m) = m
 
   -- After a sign with spaces up to the next column.
 
-  signed_some : {a : ℕ} {spot : Spot} {y : Node} {rs : List Row} (head : Row) → length head.text ≡ 1 → spot.column ≡ head.column + c.style.indent → spot.entries ≡ head.column + c.style.indent → spot.column ≤ w
-      → Laid a spot y rs → (head.column + 3 ≤ w + 3) → head.body ≡ [] → size (joined head (c.style.indent - 1) rs) ≤ price w a + (w + 3)
+  signed_some : {a : ℕ} {margins : Margins} {y : Node} {rs : List Row} (head : Row) → length head.text ≡ 1 → margins.column ≡ head.column + c.style.indent → margins.entries ≡ head.column + c.style.indent → margins.column ≤ w
+      → Laid a margins y rs → (head.column + 3 ≤ w + 3) → head.body ≡ [] → size (joined head (c.style.indent - 1) rs) ≤ price w a + (w + 3)
   signed_some head one at entries l (laid_nothing e) m b = let none = ap body_size b in omega (arith, one, m, none)
   signed_some head one at entries l (laid_line {r = r} e f m) k b =
       let two = c.style.indent_from in
@@ -95,8 +95,8 @@ module _ (c : LayoutSetting) (w : ℕ) where
       omega (arith, one, at, entries, l, f, m, two, length-append head.text (replicate (c.style.indent - 1) 32 ++ r.text), length-append (replicate (c.style.indent - 1) 32) r.text, length-replicate {A = ℕ} (c.style.indent - 1) 32)
 
   -- a key that has a `?` has rows
-  signed_key : {a : ℕ} {spot : Spot} {y : Node} {rs : List Row} (head : Row) (column : ℕ) → is_implicit c.style column y ≡ false → length head.text ≡ 1 → spot.column ≡ head.column + c.style.indent → spot.entries ≡ head.column + c.style.indent → spot.column ≤ w
-      → Laid a spot y rs → size (joined head (c.style.indent - 1) rs) ≤ price w a
+  signed_key : {a : ℕ} {margins : Margins} {y : Node} {rs : List Row} (head : Row) (column : ℕ) → is_implicit c.style column y ≡ false → length head.text ≡ 1 → margins.column ≡ head.column + c.style.indent → margins.entries ≡ head.column + c.style.indent → margins.column ≤ w
+      → Laid a margins y rs → size (joined head (c.style.indent - 1) rs) ≤ price w a
   signed_key head column asked one at entries l (laid_nothing e) = absurd (true≢false (sym (e column) ∙ asked))
   signed_key head column asked one at entries l (laid_line {r = r} e f m) =
       let two = c.style.indent_from in
@@ -132,9 +132,9 @@ module _ (c : LayoutSetting) (w : ℕ) where
 
   -- Nodes on one line.
 
-  line_laid : {n : ℕ} {y : Node} (spot : Spot) (x : List ℕ) → begins_below y ≡ false → (x ≡ [] → (column : ℕ) → is_implicit c.style column y ≡ true) → Short n x → Laid n spot y (one_line_row spot.column y x)
-  line_laid spot [] e f a = laid_nothing (f refl)
-  line_laid {n} spot (b ∷ x) e f (some_short one l) = laid_line e refl (let m = price_line w n one in omega (arith, l, m))
+  line_laid : {n : ℕ} {y : Node} (margins : Margins) (x : List ℕ) → begins_below y ≡ false → (x ≡ [] → (column : ℕ) → is_implicit c.style column y ≡ true) → Short n x → Laid n margins y (one_line_row margins.column y x)
+  line_laid margins [] e f a = laid_nothing (f refl)
+  line_laid {n} margins (b ∷ x) e f (some_short one l) = laid_line e refl (let m = price_line w n one in omega (arith, l, m))
 
   -- an empty text has a width within the limit of implicit keys
   narrow_key : (y : Node) → ((column : ℕ) → is_one_line_key c.style column y ≡ true) → written c.style y ≡ [] → (column : ℕ) → is_implicit c.style column y ≡ true
@@ -163,7 +163,7 @@ module _ (c : LayoutSetting) (w : ℕ) where
     by false = omega arith
 
   items_first : (column : ℕ) (x : Node) (xs : Items) → FirstAt column (rows_of_items c column (item x xs))
-  items_first column x xs = first_more (rows_of_items c column xs) (joined_first (entry_row column (45 ∷ []) x) (c.style.indent - 1) (rows c (inner_spot c.style column) x))
+  items_first column x xs = first_more (rows_of_items c column xs) (joined_first (entry_row column (45 ∷ []) x) (c.style.indent - 1) (rows c (inner_margins c.style column) x))
 
   after_first : (column : ℕ) (k : Node) (o : Option CommentValue) (below : Bool) (rs : List Row) → FirstAt column (after_key (key_row c.style column k) o below rs)
   after_first column k (Some comment) below rs = first_at refl
@@ -173,25 +173,25 @@ module _ (c : LayoutSetting) (w : ℕ) where
   pair_first : (column : ℕ) (k v : Node) (b : Bool) → FirstAt column (either_pair b c column k v)
   pair_first column k v true = after_first column k (key_comment c.comments k v) (begins_below v) (rows c (value_of_implicit c column k v) v)
   pair_first column k v false =
-      first_more (after_sign c.style (colon_row column k) (rows c (inner_spot c.style column) v)) (joined_first (entry_row column (63 ∷ []) k) (c.style.indent - 1) (rows c (key_spot c.style column k) k))
+      first_more (after_sign c.style (colon_row column k) (rows c (inner_margins c.style column) v)) (joined_first (entry_row column (63 ∷ []) k) (c.style.indent - 1) (rows c (key_margins c.style column k) k))
 
   pairs_first : (column : ℕ) (k v : Node) (ps : Pairs) → FirstAt column (rows_of_pairs c column (pair k v ps))
   pairs_first column k v ps = first_more (rows_of_pairs c column ps) (pair_first column k v (is_implicit c.style column k))
 
   -- a block collection with properties or without
-  collection_laid : {n : ℕ} {y : Node} {rs : List Row} (m : ℕ) (props : PropsValue) (spot : Spot) → begins_below y ≡ is_empty_text (props_text props) → FirstAt spot.entries rs → size rs ≤ price w m → props_weight props + m ≤ n
-      → Laid n spot y (props_row spot.column (props_text props) ++ rs)
-  collection_laid {n} {y} {rs} m props spot below first l k = by (props_text props) (props_most props) below where
+  collection_laid : {n : ℕ} {y : Node} {rs : List Row} (m : ℕ) (props : PropsValue) (margins : Margins) → begins_below y ≡ is_empty_text (props_text props) → FirstAt margins.entries rs → size rs ≤ price w m → props_weight props + m ≤ n
+      → Laid n margins y (props_row margins.column (props_text props) ++ rs)
+  collection_laid {n} {y} {rs} m props margins below first l k = by (props_text props) (props_most props) below where
     sum : price w (props_weight props) + price w m ≤ price w n
     sum = let a = price_more w k in let b = price_add w (props_weight props) m in omega (arith, a, b)
 
-    by : (p : List ℕ) → length p ≤ props_weight props + props_weight props → begins_below y ≡ is_empty_text p → Laid n spot y (props_row spot.column p ++ rs)
+    by : (p : List ℕ) → length p ≤ props_weight props + props_weight props → begins_below y ≡ is_empty_text p → Laid n margins y (props_row margins.column p ++ rs)
     by [] few e = laid_first e first (omega (arith, l, sum))
     by (b ∷ p) few e = laid_line e refl (let one = price_line w (props_weight props) (omega (arith, few)) in omega (arith, one, few, l, sum))
 
   pair_size : {a b : ℕ} {k v : Node} (column : ℕ) → column + c.style.indent ≤ w → Costs c.style a k → Costs c.style b v
-      → ((spot : Spot) → spot.entries ≤ column + c.style.indent → spot.lines ≤ column + c.style.indent → Laid a spot k (rows c spot k))
-      → ((spot : Spot) → spot.entries ≤ column + c.style.indent → spot.lines ≤ column + c.style.indent → Laid b spot v (rows c spot v))
+      → ((margins : Margins) → margins.entries ≤ column + c.style.indent → margins.lines ≤ column + c.style.indent → Laid a margins k (rows c margins k))
+      → ((margins : Margins) → margins.entries ≤ column + c.style.indent → margins.lines ≤ column + c.style.indent → Laid b margins v (rows c margins v))
       → (p : Bool) → is_implicit c.style column k ≡ p → size (either_pair p c column k v) ≤ price w (suc (a + b))
   pair_size {a} {b} {k} {v} column near d e key value true f =
       let one = key_size d in
@@ -199,45 +199,45 @@ module _ (c : LayoutSetting) (w : ℕ) where
       let sum : suc a + b ≡ suc (a + b) = omega arith in
       omega (arith, one, two, price_add w (suc a) b, ap (price w) sum)
   pair_size {a} {b} {k} {v} column near d e key value false f =
-      let at : (key_spot c.style column k).column ≡ column + c.style.indent = ap (λ z. if z then column else column + c.style.indent) f in
-      let one : size (after_sign c.style (entry_row column (63 ∷ []) k) (rows c (key_spot c.style column k) k)) ≤ price w a = signed_key (entry_row column (63 ∷ []) k) column f refl at refl (omega (arith, at, near)) (key (key_spot c.style column k) (omega arith) (omega arith)) in
-      let two : size (after_sign c.style (colon_row column k) (rows c (inner_spot c.style column) v)) ≤ price w b + (w + 3) = signed_some (colon_row column k) refl refl refl near (value (inner_spot c.style column) (omega arith) (omega arith)) (omega (arith, near)) refl in
-      omega (arith, one, two, price_next w (a + b), price_add w a b, size_append (after_sign c.style (entry_row column (63 ∷ []) k) (rows c (key_spot c.style column k) k)) (after_sign c.style (colon_row column k) (rows c (inner_spot c.style column) v)))
+      let at : (key_margins c.style column k).column ≡ column + c.style.indent = ap (λ z. if z then column else column + c.style.indent) f in
+      let one : size (after_sign c.style (entry_row column (63 ∷ []) k) (rows c (key_margins c.style column k) k)) ≤ price w a = signed_key (entry_row column (63 ∷ []) k) column f refl at refl (omega (arith, at, near)) (key (key_margins c.style column k) (omega arith) (omega arith)) in
+      let two : size (after_sign c.style (colon_row column k) (rows c (inner_margins c.style column) v)) ≤ price w b + (w + 3) = signed_some (colon_row column k) refl refl refl near (value (inner_margins c.style column) (omega arith) (omega arith)) (omega (arith, near)) refl in
+      omega (arith, one, two, price_next w (a + b), price_add w a b, size_append (after_sign c.style (entry_row column (63 ∷ []) k) (rows c (key_margins c.style column k) k)) (after_sign c.style (colon_row column k) (rows c (inner_margins c.style column) v)))
 
   mutual
-    pub node_laid : {n : ℕ} {y : Node} → Costs c.style n y → (spot : Spot) → spot.entries + tall y * c.style.indent ≤ w → spot.lines ≤ w → Laid n spot y (rows c spot y)
-    node_laid (scalar_costs {at = at} {props = props} {style = Plain} {text = text} {lines = lines} a) spot l m =
-        line_laid spot (written c.style (scalar at props Plain text lines)) refl (narrow_key (scalar at props Plain text lines) (λ column. refl)) a.short
-    node_laid (scalar_costs {at = at} {props = props} {style = Single} {text = text} {lines = lines} a) spot l m =
-        line_laid spot (written c.style (scalar at props Single text lines)) refl (narrow_key (scalar at props Single text lines) (λ column. refl)) a.short
-    node_laid (scalar_costs {at = at} {props = props} {style = Double} {text = text} {lines = lines} a) spot l m =
-        line_laid spot (written c.style (scalar at props Double text lines)) refl (narrow_key (scalar at props Double text lines) (λ column. refl)) a.short
-    node_laid {n} (scalar_costs {style = Literal} a) spot l m = laid_line refl refl (let b = a.block refl w spot.lines m in let e = price_is n in omega (arith, b, e))
-    node_laid {n} (scalar_costs {style = Folded} a) spot l m = laid_line refl refl (let b = a.block refl w spot.lines m in let e = price_is n in omega (arith, b, e))
-    node_laid (alias_costs {at = at} {name = name} k) spot l m = line_laid spot (42 ∷ name) refl (λ e. absurd cc) (written_short {house = c.style} (alias_costs {at = at} k))
-    node_laid (no_items_cost {at = at} {props = props} k) spot l m =
-        line_laid spot (written c.style (sequence at true props no_items)) refl (λ e. absurd (spaced_some (props_text props) 91 (93 ∷ []) e)) (written_short {house = c.style} (no_items_cost {at = at} {props = props} k))
-    node_laid (items_cost {at = at} {flow = true} {props = props} {x = x} {xs = xs} a k) spot l m =
-        line_laid spot (written c.style (sequence at true props (item x xs))) refl (λ e. absurd (spaced_some (props_text props) 91 _ e)) (written_short (items_cost {at = at} {flow = true} {props = props} a k))
-    node_laid (items_cost {flow = false} {props = props} {x = x} {xs = xs} a k) spot l m =
+    pub node_laid : {n : ℕ} {y : Node} → Costs c.style n y → (margins : Margins) → margins.entries + tall y * c.style.indent ≤ w → margins.lines ≤ w → Laid n margins y (rows c margins y)
+    node_laid (scalar_costs {at = at} {props = props} {style = Plain} {text = text} {lines = lines} a) margins l m =
+        line_laid margins (written c.style (scalar at props Plain text lines)) refl (narrow_key (scalar at props Plain text lines) (λ column. refl)) a.short
+    node_laid (scalar_costs {at = at} {props = props} {style = Single} {text = text} {lines = lines} a) margins l m =
+        line_laid margins (written c.style (scalar at props Single text lines)) refl (narrow_key (scalar at props Single text lines) (λ column. refl)) a.short
+    node_laid (scalar_costs {at = at} {props = props} {style = Double} {text = text} {lines = lines} a) margins l m =
+        line_laid margins (written c.style (scalar at props Double text lines)) refl (narrow_key (scalar at props Double text lines) (λ column. refl)) a.short
+    node_laid {n} (scalar_costs {style = Literal} a) margins l m = laid_line refl refl (let b = a.block refl w margins.lines m in let e = price_is n in omega (arith, b, e))
+    node_laid {n} (scalar_costs {style = Folded} a) margins l m = laid_line refl refl (let b = a.block refl w margins.lines m in let e = price_is n in omega (arith, b, e))
+    node_laid (alias_costs {at = at} {name = name} k) margins l m = line_laid margins (42 ∷ name) refl (λ e. absurd cc) (written_short {house = c.style} (alias_costs {at = at} k))
+    node_laid (no_items_cost {at = at} {props = props} k) margins l m =
+        line_laid margins (written c.style (sequence at true props no_items)) refl (λ e. absurd (spaced_some (props_text props) 91 (93 ∷ []) e)) (written_short {house = c.style} (no_items_cost {at = at} {props = props} k))
+    node_laid (items_cost {at = at} {flow = true} {props = props} {x = x} {xs = xs} a k) margins l m =
+        line_laid margins (written c.style (sequence at true props (item x xs))) refl (λ e. absurd (spaced_some (props_text props) 91 _ e)) (written_short (items_cost {at = at} {flow = true} {props = props} a k))
+    node_laid (items_cost {flow = false} {props = props} {x = x} {xs = xs} a k) margins l m =
         let height = suc-mul (tall_items (item x xs)) c.style.indent in
-        collection_laid _ props spot refl (items_first spot.entries x xs) (items_laid a spot.entries (omega (arith, l, height))) k
-    node_laid (no_pairs_cost {at = at} {props = props} k) spot l m =
-        line_laid spot (written c.style (mapping at true props no_pairs)) refl (λ e. absurd (spaced_some (props_text props) 123 (125 ∷ []) e)) (written_short {house = c.style} (no_pairs_cost {at = at} {props = props} k))
-    node_laid (pairs_cost {at = at} {flow = true} {props = props} {k = key} {v = v} {ps = ps} a k) spot l m =
-        line_laid spot (written c.style (mapping at true props (pair key v ps))) refl (λ e. absurd (spaced_some (props_text props) 123 _ e)) (written_short (pairs_cost {at = at} {flow = true} {props = props} a k))
-    node_laid (pairs_cost {at = at} {flow = false} {props = props} {k = key} {v = v} {ps = ps} a k) spot l m =
+        collection_laid _ props margins refl (items_first margins.entries x xs) (items_laid a margins.entries (omega (arith, l, height))) k
+    node_laid (no_pairs_cost {at = at} {props = props} k) margins l m =
+        line_laid margins (written c.style (mapping at true props no_pairs)) refl (λ e. absurd (spaced_some (props_text props) 123 (125 ∷ []) e)) (written_short {house = c.style} (no_pairs_cost {at = at} {props = props} k))
+    node_laid (pairs_cost {at = at} {flow = true} {props = props} {k = key} {v = v} {ps = ps} a k) margins l m =
+        line_laid margins (written c.style (mapping at true props (pair key v ps))) refl (λ e. absurd (spaced_some (props_text props) 123 _ e)) (written_short (pairs_cost {at = at} {flow = true} {props = props} a k))
+    node_laid (pairs_cost {at = at} {flow = false} {props = props} {k = key} {v = v} {ps = ps} a k) margins l m =
         let height = suc-mul (tall_pairs (pair key v ps)) c.style.indent in
-        collection_laid _ props spot refl (pairs_first spot.entries key v ps) (pairs_laid a spot.entries (omega (arith, l, height))) k
+        collection_laid _ props margins refl (pairs_first margins.entries key v ps) (pairs_laid a margins.entries (omega (arith, l, height))) k
 
     items_laid : {n : ℕ} {xs : Items} → ItemsCost c.style n xs → (column : ℕ) → (column + c.style.indent) + tall_items xs * c.style.indent ≤ w → size (rows_of_items c column xs) ≤ price w n
     items_laid no_more_items column l = omega arith
     items_laid (more_items_cost {a = a} {m = m} {x = x} {xs = xs} d more) column l =
         let lower = two_lower (column + c.style.indent) (tall x) (tall_items xs) l in
         let near : column + c.style.indent ≤ w = omega (arith, l) in
-        let one = signed_some (entry_row column (45 ∷ []) x) refl refl refl near (node_laid d (inner_spot c.style column) lower.0 near) (omega (arith, near)) refl in
+        let one = signed_some (entry_row column (45 ∷ []) x) refl refl refl near (node_laid d (inner_margins c.style column) lower.0 near) (omega (arith, near)) refl in
         let others = items_laid more column lower.1 in
-        omega (arith, one, others, size_append (after_sign c.style (entry_row column (45 ∷ []) x) (rows c (inner_spot c.style column) x)) (rows_of_items c column xs), price_add w (suc a) m, price_next w a)
+        omega (arith, one, others, size_append (after_sign c.style (entry_row column (45 ∷ []) x) (rows c (inner_margins c.style column) x)) (rows_of_items c column xs), price_add w (suc a) m, price_next w a)
 
     pairs_laid : {n : ℕ} {ps : Pairs} → PairsCost c.style n ps → (column : ℕ) → (column + c.style.indent) + tall_pairs ps * c.style.indent ≤ w → size (rows_of_pairs c column ps) ≤ price w n
     pairs_laid no_more_pairs column l = omega arith
@@ -246,6 +246,6 @@ module _ (c : LayoutSetting) (w : ℕ) where
         let both = two_lower (column + c.style.indent) (tall k) (tall v) lower.0 in
         let near : column + c.style.indent ≤ w = omega (arith, l) in
         let entries = entries_most column v in
-        let one = pair_size column near d e (λ spot f g. node_laid d spot (omega (arith, f, both.0)) (omega (arith, g, near))) (λ spot f g. node_laid e spot (omega (arith, f, both.1)) (omega (arith, g, near))) (is_implicit c.style column k) refl in
+        let one = pair_size column near d e (λ margins f g. node_laid d margins (omega (arith, f, both.0)) (omega (arith, g, near))) (λ margins f g. node_laid e margins (omega (arith, f, both.1)) (omega (arith, g, near))) (is_implicit c.style column k) refl in
         let others = pairs_laid more column lower.1 in
         omega (arith, one, others, size_append (either_pair (is_implicit c.style column k) c column k v) (rows_of_pairs c column ps), price_add w (suc (a + b)) m)

@@ -30,7 +30,8 @@ use Rattle.yf_emit.specs.Preservation.SizeKept.{SizeKept}
 use Rattle.yf_emit.specs.Preservation.TidyLines.{BlockScalar, block_scalars}
 use Rattle.yf_emit.proofs.Derived.DecoratedLemmas.{layout_then}
 use Rattle.yf_emit.proofs.Derived.LayoutSteps.{steps_in, steps_of}
-use Rattle.yf_emit.proofs.Keeps.RowColumns.{BlockSteps, IsStep, Stepped, no_step, none_stepped, row_stepped, all_stepped}
+use Rattle.yf_emit.proofs.Keeps.RowColumns.{IsStep, Stepped, no_step, none_stepped, row_stepped, all_stepped}
+use Rattle.yf_emit.proofs.Keeps.GapColumns.{BlockSteps}
 use Rattle.yf_emit.proofs.OutputLines.ColumnsHold.{above_holds, after_blocks, blocks_map, column_holds, if_holds, no_blocks}
 use Rattle.yf_emit.proofs.OutputLines.FormattedLines.{formed}
 use Rattle.yf_emit.proofs.Derived.FormatsRead.{root_tall}

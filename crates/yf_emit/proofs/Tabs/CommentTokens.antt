@@ -9,10 +9,10 @@ use Rattle.yf_events.specs.declared.event.Span.{Span}
 use Rattle.yf_emit.specs.Layouts.Decorated.{Deco, after, blank_if, comments_left, decos_of, ending_after, first, gap_of, remarks_after}
 use Rattle.yf_emit.specs.Preservation.KeyComments.{keyed_in, keyed_in_documents, keyed_in_items, keyed_in_pairs}
 use Rattle.yf_emit.specs.Layouts.Layout.{Remark, Source, first_comment, is_among, is_before, may_be_blank_after, next_leaf, precedes_item, trailing, trailing_leaf}
+use Rattle.yf_emit.proofs.Trails.KeyTrails.{keys_on}
 use Rattle.yf_forms.specs.Nodes.Lines.{trimmed}
-use Rattle.yf_forms.specs.NormalForms.Normal.{LayoutSetting, Spot, first_between, inner_spot, is_implicit, key_comment, key_spot, key_start, root_spot, value_spot}
+use Rattle.yf_forms.specs.NormalForms.Normal.{LayoutSetting, Margins, first_between, inner_margins, is_implicit, key_comment, key_margins, key_start, root_margins, value_margins}
 use Rattle.yf_print.specs.Layouts.Rows.{Ending, Row, anywhere}
-use Rattle.yf_emit.proofs.Keeps.KeysTold.{keys_on}
 use Rattle.yf_print.specs.Layouts.KeptColumns.{Columns}
 
 module _ (Token : List ℕ → Type 0) where
@@ -162,28 +162,28 @@ module _ (Token : List ℕ → Type 0) where
 
   module _ (c : LayoutSetting) (all : AllTokens c.comments) where
     mutual
-      keyed_tokens : (spot : Spot) (x : Node) → AllTokens (keyed_in c spot x)
-      keyed_tokens spot (scalar at props style text lines) = tt
-      keyed_tokens spot (alias at name) = tt
-      keyed_tokens spot (sequence at true props xs) = tt
-      keyed_tokens spot (sequence at false props xs) = keyed_items spot.entries xs
-      keyed_tokens spot (mapping at true props ps) = tt
-      keyed_tokens spot (mapping at false props ps) = keyed_pairs spot.entries ps
+      keyed_tokens : (margins : Margins) (x : Node) → AllTokens (keyed_in c margins x)
+      keyed_tokens margins (scalar at props style text lines) = tt
+      keyed_tokens margins (alias at name) = tt
+      keyed_tokens margins (sequence at true props xs) = tt
+      keyed_tokens margins (sequence at false props xs) = keyed_items margins.entries xs
+      keyed_tokens margins (mapping at true props ps) = tt
+      keyed_tokens margins (mapping at false props ps) = keyed_pairs margins.entries ps
 
       keyed_items : (column : ℕ) (xs : Items) → AllTokens (keyed_in_items c column xs)
       keyed_items column no_items = tt
-      keyed_items column (item x xs) = all_append (keyed_in c (inner_spot c.style column) x) (keyed_in_items c column xs) (keyed_tokens (inner_spot c.style column) x) (keyed_items column xs)
+      keyed_items column (item x xs) = all_append (keyed_in c (inner_margins c.style column) x) (keyed_in_items c column xs) (keyed_tokens (inner_margins c.style column) x) (keyed_items column xs)
 
       keyed_pairs : (column : ℕ) (ps : Pairs) → AllTokens (keyed_in_pairs c column ps)
       keyed_pairs column no_pairs = tt
       keyed_pairs column (pair k v ps) =
-          let key : List CommentValue = if is_implicit c.style column k then option_to_list (key_comment c.comments k v) else keyed_in c (key_spot c.style column k) k in
-          all_append (key ++ keyed_in c (value_spot c column k v) v) (keyed_in_pairs c column ps)
-          (all_append key (keyed_in c (value_spot c column k v) v)
-          (either_tokens (is_implicit c.style column k) (option_to_list (key_comment c.comments k v)) (keyed_in c (key_spot c.style column k) k) (key_tokens c.comments k v all) (keyed_tokens (key_spot c.style column k) k))
-          (keyed_tokens (value_spot c column k v) v))
+          let key : List CommentValue = if is_implicit c.style column k then option_to_list (key_comment c.comments k v) else keyed_in c (key_margins c.style column k) k in
+          all_append (key ++ keyed_in c (value_margins c column k v) v) (keyed_in_pairs c column ps)
+          (all_append key (keyed_in c (value_margins c column k v) v)
+          (either_tokens (is_implicit c.style column k) (option_to_list (key_comment c.comments k v)) (keyed_in c (key_margins c.style column k) k) (key_tokens c.comments k v all) (keyed_tokens (key_margins c.style column k) k))
+          (keyed_tokens (value_margins c column k v) v))
           (keyed_pairs column ps)
 
     pub documents_tokens : (trees : List DocumentTree) → AllTokens (keyed_in_documents c trees)
     documents_tokens [] = tt
-    documents_tokens (d ∷ ds) = all_append (keyed_in c (root_spot c.style) d.root) (keyed_in_documents c ds) (keyed_tokens (root_spot c.style) d.root) (documents_tokens ds)
+    documents_tokens (d ∷ ds) = all_append (keyed_in c (root_margins c.style) d.root) (keyed_in_documents c ds) (keyed_tokens (root_margins c.style) d.root) (documents_tokens ds)

@@ -12,7 +12,7 @@ use Rattle.yf_events.specs.declared.event.ScalarStyle.TheVariants.{Plain, Single
 use Rattle.yf_events.specs.Tree.{DocumentTree, NodeOffsets, Node, scalar, alias, sequence, mapping, Items, no_items, item, Pairs, no_pairs, pair, flat, flat_document, flat_items, flat_pairs, props_of, unplaced}
 use Rattle.yf_forms.specs.declared.style.Style.{Style}
 use Rattle.yf_forms.specs.Nodes.BlockLines.{begins_with_space, chomping_sign, final_feeds, header_text, style_sign}
-use Rattle.yf_forms.specs.NormalForms.Normal.{LayoutSetting, Spot, inner_spot, is_implicit, key_comment, key_spot, root_spot, value_spot}
+use Rattle.yf_forms.specs.NormalForms.Normal.{LayoutSetting, Margins, inner_margins, is_implicit, key_comment, key_margins, root_margins, value_margins}
 use Rattle.yf_forms.specs.Nodes.OneLine.{bare, colon_after, colon_after_props, more_items, more_pairs, props_text, scalar_text, spaced, written}
 use Rattle.yf_print.specs.Layouts.Rows.{Row, begins_below, beginning_at, after_key, colon_row, directive_row, end_rows, entry_row, explicit_pair, implicit_pair, joined, joined_words, key_row, one_line_row, pair_rows, props_row, rows, rows_of_items, rows_of_pairs, stream_rows, all_rows, begun_at}
 use Rattle.yf_emit.specs.Preservation.Tokens.{HasText, first_text, later_text, TabsWithin, at_end, no_tab, a_token}
@@ -210,26 +210,26 @@ module _ (Token : List ℕ → Type 0) where
         (joined_tokens (colon_row column k) (c.style.indent - 1) (sign 58 (omega arith) at_end) d)
 
   mutual
-    node_tokens : (c : LayoutSetting) (spot : Spot) (x : Node) → Holds c.style (flat x) → TokenRows (rows c spot x)
-    node_tokens c spot (scalar at props Plain text lines) h = line_tokens spot.column (scalar at props Plain text lines) (written c.style (scalar at props Plain text lines)) (written_tabs c.style (scalar at props Plain text lines) h)
-    node_tokens c spot (scalar at props Single text lines) h = line_tokens spot.column (scalar at props Single text lines) (written c.style (scalar at props Single text lines)) (written_tabs c.style (scalar at props Single text lines) h)
-    node_tokens c spot (scalar at props Double text lines) h = line_tokens spot.column (scalar at props Double text lines) (written c.style (scalar at props Double text lines)) (written_tabs c.style (scalar at props Double text lines) h)
-    node_tokens c spot (scalar at props Literal text lines) h =
+    node_tokens : (c : LayoutSetting) (margins : Margins) (x : Node) → Holds c.style (flat x) → TokenRows (rows c margins x)
+    node_tokens c margins (scalar at props Plain text lines) h = line_tokens margins.column (scalar at props Plain text lines) (written c.style (scalar at props Plain text lines)) (written_tabs c.style (scalar at props Plain text lines) h)
+    node_tokens c margins (scalar at props Single text lines) h = line_tokens margins.column (scalar at props Single text lines) (written c.style (scalar at props Single text lines)) (written_tabs c.style (scalar at props Single text lines) h)
+    node_tokens c margins (scalar at props Double text lines) h = line_tokens margins.column (scalar at props Double text lines) (written c.style (scalar at props Double text lines)) (written_tabs c.style (scalar at props Double text lines) h)
+    node_tokens c margins (scalar at props Literal text lines) h =
         token_row (spaced_tabs (props_text props) (header_text Literal c.style.indent text) (props_tabs c.style (scalar at props Literal text lines) h) (header_tabs Literal c.style.indent text)) no_token_rows
-    node_tokens c spot (scalar at props Folded text lines) h =
+    node_tokens c margins (scalar at props Folded text lines) h =
         token_row (spaced_tabs (props_text props) (header_text Folded c.style.indent text) (props_tabs c.style (scalar at props Folded text lines) h) (header_tabs Folded c.style.indent text)) no_token_rows
-    node_tokens c spot (alias at name) h = line_tokens spot.column (alias at name) (written c.style (alias at name)) (written_tabs c.style (alias at name) h)
-    node_tokens c spot (sequence at true props xs) h = line_tokens spot.column (sequence at true props xs) (written c.style (sequence at true props xs)) (written_tabs c.style (sequence at true props xs) h)
-    node_tokens c spot (sequence at false props xs) h =
-        props_tokens spot.column (props_text props) (props_tabs c.style (sequence at false props xs) h) (items_tokens c spot.entries xs (in_items c.style at false props xs h))
-    node_tokens c spot (mapping at true props ps) h = line_tokens spot.column (mapping at true props ps) (written c.style (mapping at true props ps)) (written_tabs c.style (mapping at true props ps) h)
-    node_tokens c spot (mapping at false props ps) h =
-        props_tokens spot.column (props_text props) (props_tabs c.style (mapping at false props ps) h) (pairs_tokens c spot.entries ps (in_pairs c.style at false props ps h))
+    node_tokens c margins (alias at name) h = line_tokens margins.column (alias at name) (written c.style (alias at name)) (written_tabs c.style (alias at name) h)
+    node_tokens c margins (sequence at true props xs) h = line_tokens margins.column (sequence at true props xs) (written c.style (sequence at true props xs)) (written_tabs c.style (sequence at true props xs) h)
+    node_tokens c margins (sequence at false props xs) h =
+        props_tokens margins.column (props_text props) (props_tabs c.style (sequence at false props xs) h) (items_tokens c margins.entries xs (in_items c.style at false props xs h))
+    node_tokens c margins (mapping at true props ps) h = line_tokens margins.column (mapping at true props ps) (written c.style (mapping at true props ps)) (written_tabs c.style (mapping at true props ps) h)
+    node_tokens c margins (mapping at false props ps) h =
+        props_tokens margins.column (props_text props) (props_tabs c.style (mapping at false props ps) h) (pairs_tokens c margins.entries ps (in_pairs c.style at false props ps h))
 
     items_tokens : (c : LayoutSetting) (column : ℕ) (xs : Items) → Holds c.style (flat_items xs) → TokenRows (rows_of_items c column xs)
     items_tokens c column no_items h = no_token_rows
     items_tokens c column (item x xs) h =
-        rows_join (joined_tokens (entry_row column (45 ∷ []) x) (c.style.indent - 1) (sign 45 (omega arith) at_end) (node_tokens c (inner_spot c.style column) x (left_holds c.style (flat x) (flat_items xs) h)))
+        rows_join (joined_tokens (entry_row column (45 ∷ []) x) (c.style.indent - 1) (sign 45 (omega arith) at_end) (node_tokens c (inner_margins c.style column) x (left_holds c.style (flat x) (flat_items xs) h)))
         (items_tokens c column xs (right_holds c.style (flat x) (flat_items xs) h))
 
     pairs_tokens : (c : LayoutSetting) (column : ℕ) (ps : Pairs) → Holds c.style (flat_pairs ps) → TokenRows (rows_of_pairs c column ps)
@@ -237,7 +237,7 @@ module _ (Token : List ℕ → Type 0) where
     pairs_tokens c column (pair k v ps) h =
         let key = left_holds c.style (flat k) (flat v ++ flat_pairs ps) h in
         let others = right_holds c.style (flat k) (flat v ++ flat_pairs ps) h in
-        rows_join (pair_tokens c column k v (written_tabs c.style k key) (node_tokens c (key_spot c.style column k) k key) (node_tokens c (value_spot c column k v) v (left_holds c.style (flat v) (flat_pairs ps) others)))
+        rows_join (pair_tokens c column k v (written_tabs c.style k key) (node_tokens c (key_margins c.style column k) k key) (node_tokens c (value_margins c column k v) v (left_holds c.style (flat v) (flat_pairs ps) others)))
         (pairs_tokens c column ps (right_holds c.style (flat v) (flat_pairs ps) others))
 
   -- Documents.
@@ -271,7 +271,7 @@ module _ (Token : List ℕ → Type 0) where
       (begun_tokens d.start
       (rows_join (end_tokens b d.directives)
       (rows_join (directive_tokens d.directives (λ w a. g w (text_left (words_in ds) a))) (token_row (sign 45 (omega arith) (sign 45 (omega arith) (sign 45 (omega arith) at_end))) no_token_rows))))
-      (node_tokens c (root_spot c.style) x.root (left_holds c.style (flat x.root) (unplaced (document_ends x.closed) ∷ []) (left_holds c.style (flat_document x) (flat_map flat_document xs) h))))
+      (node_tokens c (root_margins c.style) x.root (left_holds c.style (flat x.root) (unplaced (document_ends x.closed) ∷ []) (left_holds c.style (flat_document x) (flat_map flat_document xs) h))))
       (stream_tokens c false ds xs (λ w a. g w (text_right words a)) (right_holds c.style (flat_document x) (flat_map flat_document xs) h))
 
   -- a first document without `---`
@@ -286,5 +286,5 @@ module _ (Token : List ℕ → Type 0) where
   laid_tokens c true (d ∷ ds) (x ∷ xs) g h =
       let words : List (List ℕ) = flat_map (λ (e : Directive). e.words) d.directives in
       rows_join
-      (bare_tokens d.start (node_tokens c (root_spot c.style) x.root (left_holds c.style (flat x.root) (unplaced (document_ends x.closed) ∷ []) (left_holds c.style (flat_document x) (flat_map flat_document xs) h))))
+      (bare_tokens d.start (node_tokens c (root_margins c.style) x.root (left_holds c.style (flat x.root) (unplaced (document_ends x.closed) ∷ []) (left_holds c.style (flat_document x) (flat_map flat_document xs) h))))
       (stream_tokens c false ds xs (λ w a. g w (text_right words a)) (right_holds c.style (flat_document x) (flat_map flat_document xs) h))

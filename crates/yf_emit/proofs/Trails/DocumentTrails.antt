@@ -8,7 +8,7 @@ use Rattle.yf_events.specs.declared.event.Span.{Span}
 use Rattle.yf_forms.specs.declared.form.decide.Form.{Form}
 use Rattle.yf_forms.specs.NormalForms.Forms.{document_forms, documents_are_placed, forms, is_placed, no_form, site_at, stream_forms}
 use Rattle.yf_forms.specs.Passes.MeasurePass.{setting}
-use Rattle.yf_forms.specs.NormalForms.Normal.{LayoutSetting, root_spot, styled}
+use Rattle.yf_forms.specs.NormalForms.Normal.{LayoutSetting, root_margins, styled}
 use Rattle.yf_print.specs.Layouts.Rows.{Row, all_rows, bare_rows, beginning_at, begun_at, directive_row, document_rows, end_rows, rows, start_row, stream_rows}
 use Rattle.yf_emit.proofs.Printer.DocumentsPrinted.{AreNormal, IsNormal, normal_parts}
 use Rattle.yf_emit.proofs.Trails.KeyTrails.{given, given_append, given_enclosed, keys_append, keys_on, node_given}
@@ -69,15 +69,15 @@ stream_leaves c is_first (x ∷ xs) (t ∷ ds) e h a =
     let hs = and_parts (is_placed t.root) (documents_are_placed ds) h in
     on_append (document_rows c is_first x t) (stream_rows c false xs ds)
     ∙ (ap (λ w. w ++ leaves_on (stream_rows c false xs ds))
-    (on_append (begins is_first x) (rows c (root_spot c.style) t.root)
-    ∙ (ap (λ w. w ++ leaves_on (rows c (root_spot c.style) t.root)) (begins_blank is_first x).leaves ∙ node_leaves c (root_spot c.style) t.root hs.0 a.0))
+    (on_append (begins is_first x) (rows c (root_margins c.style) t.root)
+    ∙ (ap (λ w. w ++ leaves_on (rows c (root_margins c.style) t.root)) (begins_blank is_first x).leaves ∙ node_leaves c (root_margins c.style) t.root hs.0 a.0))
     ∙ ap (λ w. leaves t.root ++ w) (stream_leaves c false xs ds (omega (arith, e)) hs.1 a.1))
 
 begun_leaves : (start : ℕ) (xs : List Row) → leaves_on (begun_at start xs) ≡ leaves_on xs
 begun_leaves start [] = refl
 begun_leaves start (x ∷ xs) = refl
 
-begun_keys : (start : ℕ) (xs : List Row) → keys_on (begun_at start xs) ≡ keys_on xs
+pub begun_keys : (start : ℕ) (xs : List Row) → keys_on (begun_at start xs) ≡ keys_on xs
 begun_keys start [] = refl
 begun_keys start (x ∷ xs) = refl
 
@@ -91,20 +91,20 @@ all_leaves c true (x ∷ xs) (t ∷ ds) e h a =
     let hs = and_parts (is_placed t.root) (documents_are_placed ds) h in
     on_append (bare_rows c x t) (stream_rows c false xs ds)
     ∙ (ap (λ w. w ++ leaves_on (stream_rows c false xs ds))
-    (begun_leaves x.start (rows c (root_spot c.style) t.root) ∙ node_leaves c (root_spot c.style) t.root hs.0 a.0)
+    (begun_leaves x.start (rows c (root_margins c.style) t.root) ∙ node_leaves c (root_margins c.style) t.root hs.0 a.0)
     ∙ ap (λ w. leaves t.root ++ w) (stream_leaves c false xs ds (omega (arith, e)) hs.1 a.1))
 
 abbrev forms_in : LayoutSetting → DocumentTree → List Form
 forms_in c d = document_forms [] (setting c.style []) c d
 
-root_keys : (c : LayoutSetting) (n : ℕ) (t : DocumentTree) → IsNormal c n t → given c (forms_in c t) ≡ keys_on (rows c (root_spot c.style) t.root)
+root_keys : (c : LayoutSetting) (n : ℕ) (t : DocumentTree) → IsNormal c n t → given c (forms_in c t) ≡ keys_on (rows c (root_margins c.style) t.root)
 root_keys c n t a =
-    given_enclosed c no_form (forms c (site_at (root_spot c.style)) (styled [] (setting c.style []) t.root))
-    ∙ (ap (λ w. given c (forms c (site_at (root_spot c.style)) w)) a.house ∙ node_given c (site_at (root_spot c.style)) t.root a.house a.settled)
+    given_enclosed c no_form (forms c (site_at (root_margins c.style)) (styled [] (setting c.style []) t.root))
+    ∙ (ap (λ w. given c (forms c (site_at (root_margins c.style)) w)) a.house ∙ node_given c (site_at (root_margins c.style)) t.root a.house a.settled)
 
 document_keys : (c : LayoutSetting) (n : ℕ) (is_first : Bool) (x : Doc) (t : DocumentTree) → IsNormal c n t → given c (forms_in c t) ≡ keys_on (document_rows c is_first x t)
 document_keys c n is_first x t a =
-    let mine : List Row = rows c (root_spot c.style) t.root in
+    let mine : List Row = rows c (root_margins c.style) t.root in
     root_keys c n t a ∙ (ap (λ w. w ++ keys_on mine) (sym (begins_blank is_first x).keys) ∙ sym (keys_append (begins is_first x) mine))
 
 documents_keys : (c : LayoutSetting) (n : ℕ) (is_first : Bool) (xs : List Doc) (ds : List DocumentTree) → length xs ≡ length ds → AreNormal c n ds
@@ -128,7 +128,7 @@ bare_keys c n true (x ∷ xs) [] e a = absurd (omega (arith, e))
 bare_keys c n true (x ∷ xs) (t ∷ ds) e a =
     let parts = normal_parts a in
     given_append c (forms_in c t) (flat_map (forms_in c) ds)
-    ∙ (ap (λ w. w ++ given c (flat_map (forms_in c) ds)) (root_keys c n t parts.0 ∙ sym (begun_keys x.start (rows c (root_spot c.style) t.root)))
+    ∙ (ap (λ w. w ++ given c (flat_map (forms_in c) ds)) (root_keys c n t parts.0 ∙ sym (begun_keys x.start (rows c (root_margins c.style) t.root)))
     ∙ (ap (λ w. keys_on (bare_rows c x t) ++ w) (documents_keys c n false xs ds (omega (arith, e)) parts.1)
     ∙ sym (keys_append (bare_rows c x t) (stream_rows c false xs ds))))
 

@@ -1,5 +1,6 @@
 -- At most one comment trails each row of the layout of the normal form of a text's reading.
-use Rattle.std.proofs.Common.{◌≡◌, ℕ, suc, true, List, [], ◌∷◌, map, length, refl, sym, ap, ◌∙◌, subst}
+use Rattle.std.proofs.Common.{◌≡◌, ℕ, true, List, [], ◌∷◌, map, length, sym, ap, ◌∙◌, subst}
+use Rattle.std.proofs.lemmas.List.{length-map}
 use Rattle.yf_events.proofs.TreeLemmas.{trees_unique}
 use Rattle.yf_events.specs.Tree.{DocumentTree, TreesOf}
 use Rattle.yf_events.specs.declared.lists.Lists.{Lists}
@@ -32,17 +33,13 @@ pub record NormalTrees (t : List ℕ) {s : Style} {u : List ℕ} (f : IsFormatti
   pub documents : f.normal.documents ≡ f.reading.documents
   pub comments : f.normal.comments ≡ f.reading.comments
 
-count_map : {A B : Type 0} (g : A → B) (xs : List A) → length (map g xs) ≡ length xs
-count_map g [] = refl
-count_map g (x ∷ xs) = ap suc (count_map g xs)
-
 pub normal_trees : {t : List ℕ} {s : Style} {u : List ℕ} (f : IsFormatting t s u) → NormalTrees t f
 normal_trees {t} {s} f =
     let n = f.is_normal in
     let g : DocumentTree → DocumentTree = normal_document t (setting_of f.reading s) in
     let documents : f.normal.documents ≡ f.reading.documents = ap (λ (w : Lists). w.documents) n.is in
     let of_normal : TreesOf f.normal (map g n.trees) =
-    record { events = ap (λ (w : Lists). w.events) n.is; documents = ap length documents ∙ (n.of_reading.documents ∙ sym (count_map g n.trees)) } in
+    record { events = ap (λ (w : Lists). w.events) n.is; documents = ap length documents ∙ (n.of_reading.documents ∙ sym (length-map n.trees g)) } in
     record {
       trees = n.trees;
       of_reading = n.of_reading;
@@ -53,7 +50,7 @@ normal_trees {t} {s} f =
 
 -- What trails their rows.
 
-kept_house : (c : LayoutSetting) (trees : List DocumentTree) → TreesKept c trees → InHouse c trees
+pub kept_house : (c : LayoutSetting) (trees : List DocumentTree) → TreesKept c trees → InHouse c trees
 kept_house c [] a = tt
 kept_house c (d ∷ ds) a = (a.0.1.0, kept_house c ds a.1)
 

@@ -10,7 +10,7 @@ use Rattle.yf_forms.specs.declared.form.decide.Form.{Form}
 use Rattle.yf_forms.specs.NormalForms.Forms.{Site, first_index, form_of, forms, forms_of_items, forms_of_pairs, forms_within, index_between, is_kept_at, key_comment_index, key_site, no_form, site_at, value_comment, value_site}
 use Rattle.yf_forms.specs.Passes.MeasurePass.{setting}
 use Rattle.yf_forms.specs.NormalForms.Normal as Normal
-use Rattle.yf_forms.specs.NormalForms.Normal.{LayoutSetting, first_between, fits, inner_spot, is_implicit, key_comment, key_spot, settled, settled_items, settled_pairs, styled_items, styled_pairs, value_spot}
+use Rattle.yf_forms.specs.NormalForms.Normal.{LayoutSetting, first_between, fits, inner_margins, is_implicit, key_comment, key_margins, settled, settled_items, settled_pairs, styled_items, styled_pairs, value_margins}
 use Rattle.yf_forms.specs.Nodes.OneLine.{props_text, written}
 use Rattle.yf_print.specs.Layouts.Rows.{Row, begins_below, after_key, after_sign, colon_row, entry_row, explicit_pair, implicit_pair, joined, key_row, one_line_row, pair_rows, props_row, rows, rows_of_items, rows_of_pairs}
 use Rattle.yf_emit.proofs.Printer.LeafPrinted.{same_flag, same_flag_of_map}
@@ -85,7 +85,7 @@ given_one c f = at_append c.comments (option_to_list f.key_comment) [] ∙ appen
 given_kept : (c : LayoutSetting) (b : Bool) (n : ℕ) (gs : List Form) → b ≡ true → given c (forms_within b n gs) ≡ []
 given_kept c b n gs e = ap (λ w. given c (forms_within w n gs)) e ∙ ap (at_indices c.comments) (none_within n)
 
-keys_line : (column : ℕ) (x : Node) (w : List ℕ) → keys_on (one_line_row column x w) ≡ []
+pub keys_line : (column : ℕ) (x : Node) (w : List ℕ) → keys_on (one_line_row column x w) ≡ []
 keys_line column x [] = refl
 keys_line column x (b ∷ w) = refl
 
@@ -93,7 +93,7 @@ keys_props : (column : ℕ) (p : List ℕ) → keys_on (props_row column p) ≡ 
 keys_props column [] = refl
 keys_props column (b ∷ p) = refl
 
-keys_joined : (head : Row) (n : ℕ) (xs : List Row) → head.key_comment ≡ None → keys_on (joined head n xs) ≡ keys_on xs
+pub keys_joined : (head : Row) (n : ℕ) (xs : List Row) → head.key_comment ≡ None → keys_on (joined head n xs) ≡ keys_on xs
 keys_joined head n [] e = ap (λ o. option_to_list o ++ []) e
 keys_joined head n (x ∷ xs) e = refl
 
@@ -116,16 +116,16 @@ leaf_given : (c : LayoutSetting) (site : Site) (f : Form) (xs : List Row) → f.
 leaf_given c site f xs e g =
     given_one c f ∙ (ap (at_some c.comments) e ∙ (sym (append-nil (at_some c.comments site.key_comment)) ∙ ap (λ v. at_some c.comments site.key_comment ++ v) (sym g)))
 
-line_given : (c : LayoutSetting) (site : Site) (x : Node) → given c (form_of c.style site x ∷ []) ≡ at_some c.comments site.key_comment ++ keys_on (one_line_row site.spot.column x (written c.style x))
-line_given c site x = leaf_given c site (form_of c.style site x) (one_line_row site.spot.column x (written c.style x)) refl (keys_line site.spot.column x (written c.style x))
+line_given : (c : LayoutSetting) (site : Site) (x : Node) → given c (form_of c.style site x ∷ []) ≡ at_some c.comments site.key_comment ++ keys_on (one_line_row site.margins.column x (written c.style x))
+line_given c site x = leaf_given c site (form_of c.style site x) (one_line_row site.margins.column x (written c.style x)) refl (keys_line site.margins.column x (written c.style x))
 
 -- of a block collection
 block_given : (c : LayoutSetting) (site : Site) (f : Form) (p : List ℕ) (fs : List Form) (xs : List Row) → f.key_comment ≡ site.key_comment → given c fs ≡ keys_on xs
-    → given c (f ∷ (fs ++ (no_form ∷ []))) ≡ at_some c.comments site.key_comment ++ keys_on (props_row site.spot.column p ++ xs)
+    → given c (f ∷ (fs ++ (no_form ∷ []))) ≡ at_some c.comments site.key_comment ++ keys_on (props_row site.margins.column p ++ xs)
 block_given c site f p fs xs e g =
     given_enclosed c f fs ∙ (ap (λ o. at_some c.comments o ++ given c fs) e
     ∙ ap (λ v. at_some c.comments site.key_comment ++ v)
-    (g ∙ (sym (ap (λ w. w ++ keys_on xs) (keys_props site.spot.column p)) ∙ sym (keys_append (props_row site.spot.column p) xs))))
+    (g ∙ (sym (ap (λ w. w ++ keys_on xs) (keys_props site.margins.column p)) ∙ sym (keys_append (props_row site.margins.column p) xs))))
 
 -- of a key and its value, whose rows these are
 key_given : (c : LayoutSetting) (column : ℕ) (b : Bool) (k v w : Node) (xs ys : List Row) → w ≡ v → (b ≡ true → keys_on xs ≡ [])
@@ -144,44 +144,44 @@ key_given c column false k v w xs ys e h =
 three : (a b d x y : List CommentValue) → a ≡ x → b ≡ y → a ++ (b ++ d) ≡ (x ++ y) ++ d
 three a b d x y e f = ap (λ w. w ++ (b ++ d)) e ∙ (ap (λ w. x ++ (w ++ d)) f ∙ sym (append_assoc x y d))
 
-key_lines : (c : LayoutSetting) (column : ℕ) (k : Node) → House c k → is_implicit c.style column k ≡ true → keys_on (rows c (key_spot c.style column k) k) ≡ []
+key_lines : (c : LayoutSetting) (column : ℕ) (k : Node) → House c k → is_implicit c.style column k ≡ true → keys_on (rows c (key_margins c.style column k) k) ≡ []
 key_lines c column k h e =
-    ap keys_on (key_rows c (key_spot c.style column k) column k h e) ∙ keys_line (key_spot c.style column k).column k (written c.style k)
+    ap keys_on (key_rows c (key_margins c.style column k) column k h e) ∙ keys_line (key_margins c.style column k).column k (written c.style k)
 
 mutual
   -- the comments given to keys are those on its rows, after the one of its own site
-  pub node_given : (c : LayoutSetting) (site : Site) (x : Node) → House c x → settled c site.spot x ≡ x
-      → given c (forms c site x) ≡ at_some c.comments site.key_comment ++ keys_on (rows c site.spot x)
+  pub node_given : (c : LayoutSetting) (site : Site) (x : Node) → House c x → settled c site.margins x ≡ x
+      → given c (forms c site x) ≡ at_some c.comments site.key_comment ++ keys_on (rows c site.margins x)
   node_given c site (scalar at props Plain text lines) h s = line_given c site (scalar at props Plain text lines)
   node_given c site (scalar at props Single text lines) h s = line_given c site (scalar at props Single text lines)
   node_given c site (scalar at props Double text lines) h s = line_given c site (scalar at props Double text lines)
-  node_given c site (scalar at props Literal text lines) h s = leaf_given c site (form_of c.style site (scalar at props Literal text lines)) (rows c site.spot (scalar at props Literal text lines)) refl refl
-  node_given c site (scalar at props Folded text lines) h s = leaf_given c site (form_of c.style site (scalar at props Folded text lines)) (rows c site.spot (scalar at props Folded text lines)) refl refl
+  node_given c site (scalar at props Literal text lines) h s = leaf_given c site (form_of c.style site (scalar at props Literal text lines)) (rows c site.margins (scalar at props Literal text lines)) refl refl
+  node_given c site (scalar at props Folded text lines) h s = leaf_given c site (form_of c.style site (scalar at props Folded text lines)) (rows c site.margins (scalar at props Folded text lines)) refl refl
   node_given c site (alias at name) h s = line_given c site (alias at name)
   node_given c site (sequence at true props no_items) h s =
-      whole_given c site (form_of c.style site (sequence at true props no_items)) site.spot.column (sequence at true props no_items) (written c.style (sequence at true props no_items)) [] refl refl
+      whole_given c site (form_of c.style site (sequence at true props no_items)) site.margins.column (sequence at true props no_items) (written c.style (sequence at true props no_items)) [] refl refl
   node_given c site (sequence at false props no_items) h s = absurd (true≢false (same_flag h))
   node_given c site (sequence at true props (item x xs)) h s =
       let whole : Node = sequence at true props (item x xs) in
-      whole_given c site (form_of c.style site whole) site.spot.column whole (written c.style whole)
-      (forms_within (is_kept_at c.style site.spot whole) (length (flat_items (item x xs))) (forms_of_items c site.spot.entries (item x xs))) refl
-      (given_kept c (is_kept_at c.style site.spot whole) (length (flat_items (item x xs))) (forms_of_items c site.spot.entries (item x xs))
-      (kept_where (fits c.style site.spot.column whole) whole _ refl refl s))
+      whole_given c site (form_of c.style site whole) site.margins.column whole (written c.style whole)
+      (forms_within (is_kept_at c.style site.margins whole) (length (flat_items (item x xs))) (forms_of_items c site.margins.entries (item x xs))) refl
+      (given_kept c (is_kept_at c.style site.margins whole) (length (flat_items (item x xs))) (forms_of_items c site.margins.entries (item x xs))
+      (kept_where (fits c.style site.margins.column whole) whole _ refl refl s))
   node_given c site (sequence at false props (item x xs)) h s =
-      block_given c site (form_of c.style site (sequence at false props (item x xs))) (props_text props) (forms_of_items c site.spot.entries (item x xs)) (rows_of_items c site.spot.entries (item x xs)) refl
-      (items_given c site.spot.entries (item x xs) (items_of h) (items_of s))
+      block_given c site (form_of c.style site (sequence at false props (item x xs))) (props_text props) (forms_of_items c site.margins.entries (item x xs)) (rows_of_items c site.margins.entries (item x xs)) refl
+      (items_given c site.margins.entries (item x xs) (items_of h) (items_of s))
   node_given c site (mapping at true props no_pairs) h s =
-      whole_given c site (form_of c.style site (mapping at true props no_pairs)) site.spot.column (mapping at true props no_pairs) (written c.style (mapping at true props no_pairs)) [] refl refl
+      whole_given c site (form_of c.style site (mapping at true props no_pairs)) site.margins.column (mapping at true props no_pairs) (written c.style (mapping at true props no_pairs)) [] refl refl
   node_given c site (mapping at false props no_pairs) h s = absurd (true≢false (same_flag_of_map h))
   node_given c site (mapping at true props (pair k v ps)) h s =
       let whole : Node = mapping at true props (pair k v ps) in
-      whole_given c site (form_of c.style site whole) site.spot.column whole (written c.style whole)
-      (forms_within (is_kept_at c.style site.spot whole) (length (flat_pairs (pair k v ps))) (forms_of_pairs c site.spot.entries (pair k v ps))) refl
-      (given_kept c (is_kept_at c.style site.spot whole) (length (flat_pairs (pair k v ps))) (forms_of_pairs c site.spot.entries (pair k v ps))
-      (kept_where (fits c.style site.spot.column whole) whole _ refl refl s))
+      whole_given c site (form_of c.style site whole) site.margins.column whole (written c.style whole)
+      (forms_within (is_kept_at c.style site.margins whole) (length (flat_pairs (pair k v ps))) (forms_of_pairs c site.margins.entries (pair k v ps))) refl
+      (given_kept c (is_kept_at c.style site.margins whole) (length (flat_pairs (pair k v ps))) (forms_of_pairs c site.margins.entries (pair k v ps))
+      (kept_where (fits c.style site.margins.column whole) whole _ refl refl s))
   node_given c site (mapping at false props (pair k v ps)) h s =
-      block_given c site (form_of c.style site (mapping at false props (pair k v ps))) (props_text props) (forms_of_pairs c site.spot.entries (pair k v ps)) (rows_of_pairs c site.spot.entries (pair k v ps)) refl
-      (pairs_given c site.spot.entries (pair k v ps) (pairs_of h) (pairs_of s))
+      block_given c site (form_of c.style site (mapping at false props (pair k v ps))) (props_text props) (forms_of_pairs c site.margins.entries (pair k v ps)) (rows_of_pairs c site.margins.entries (pair k v ps)) refl
+      (pairs_given c site.margins.entries (pair k v ps) (pairs_of h) (pairs_of s))
 
   items_given : (c : LayoutSetting) (column : ℕ) (xs : Items) → styled_items [] (setting c.style []) xs ≡ xs → settled_items c column xs ≡ xs
       → given c (forms_of_items c column xs) ≡ keys_on (rows_of_items c column xs)
@@ -189,9 +189,9 @@ mutual
   items_given c column (item x xs) h s =
       let hs = item_parts h in
       let ss = item_parts s in
-      let mine : List Row = after_sign c.style (entry_row column (codes "-") x) (rows c (inner_spot c.style column) x) in
-      given_append c (forms c (site_at (inner_spot c.style column)) x) (forms_of_items c column xs)
-      ∙ (ap (λ w. w ++ given c (forms_of_items c column xs)) (node_given c (site_at (inner_spot c.style column)) x hs.0 ss.0 ∙ sym (keys_joined (entry_row column (codes "-") x) (c.style.indent - 1) (rows c (inner_spot c.style column) x) refl))
+      let mine : List Row = after_sign c.style (entry_row column (codes "-") x) (rows c (inner_margins c.style column) x) in
+      given_append c (forms c (site_at (inner_margins c.style column)) x) (forms_of_items c column xs)
+      ∙ (ap (λ w. w ++ given c (forms_of_items c column xs)) (node_given c (site_at (inner_margins c.style column)) x hs.0 ss.0 ∙ sym (keys_joined (entry_row column (codes "-") x) (c.style.indent - 1) (rows c (inner_margins c.style column) x) refl))
       ∙ (ap (λ w. keys_on mine ++ w) (items_given c column xs hs.1 ss.1)
       ∙ sym (keys_append mine (rows_of_items c column xs))))
 
@@ -201,8 +201,8 @@ mutual
   pairs_given c column (pair k v ps) h s =
       let hs = pair_parts h in
       let ss = pair_parts s in
-      let xs : List Row = rows c (key_spot c.style column k) k in
-      let ys : List Row = rows c (value_spot c column k v) v in
+      let xs : List Row = rows c (key_margins c.style column k) k in
+      let ys : List Row = rows c (value_margins c column k v) v in
       let key : List Form = forms c (key_site c.style column k) k in
       let value : List Form = forms c (value_site c column k v) v in
       let others : List Form = forms_of_pairs c column ps in
@@ -211,6 +211,6 @@ mutual
       ∙ (three (given c key) (given c value) (given c others) (keys_on xs) (at_some c.comments (value_comment c column k v) ++ keys_on ys)
       (node_given c (key_site c.style column k) k hs.0 ss.0) (node_given c (value_site c column k v) v hs.1.0 ss.1.0)
       ∙ (ap (λ w. w ++ given c others)
-      (key_given c column (is_implicit c.style column k) k v (settled c (value_spot c column k v) v) xs ys ss.1.0 (λ e. key_lines c column k hs.0 e))
+      (key_given c column (is_implicit c.style column k) k v (settled c (value_margins c column k v) v) xs ys ss.1.0 (λ e. key_lines c column k hs.0 e))
       ∙ (ap (λ w. keys_on (pair_rows c column k v xs ys) ++ w) (pairs_given c column ps hs.1.1 ss.1.1)
       ∙ sym (keys_append (pair_rows c column k v xs ys) (rows_of_pairs c column ps))))))

@@ -18,7 +18,7 @@ use Rattle.yf_forms.specs.NormalForms.Forms.{is_placed, items_are_placed, pairs_
 use Rattle.yf_emit.specs.Layouts.Layout.{source_of}
 use Rattle.yf_forms.specs.Nodes.Lines.{trimmed, is_empty_text}
 use Rattle.yf_forms.specs.Passes.MeasurePass.{setting}
-use Rattle.yf_forms.specs.NormalForms.Normal.{LayoutSetting, Spot, entry_or, first_between, inner_spot, is_implicit, is_one_line_key, key_comment, key_spot, key_start, last_start, styled_items, styled_pairs, value_of_implicit, value_spot, root_spot, setting_of}
+use Rattle.yf_forms.specs.NormalForms.Normal.{LayoutSetting, Margins, entry_or, first_between, inner_margins, is_implicit, is_one_line_key, key_comment, key_margins, key_start, last_start, styled_items, styled_pairs, value_of_implicit, value_margins, root_margins, setting_of}
 use Rattle.yf_forms.specs.Nodes.OneLine.{written, props_text}
 use Rattle.yf_print.specs.Layouts.BareStart.{is_bare}
 use Rattle.yf_print.specs.Layouts.Rows.{Row, begins_below, after_key, after_sign, colon_row, entry_row, implicit_pair, joined, key_row, one_line_row, pair_rows, props_row, rows, rows_of_items, rows_of_pairs, beginning_at, directive_row, document_rows, end_rows, start_row, begun_at, all_rows, stream_rows}
@@ -130,31 +130,31 @@ module _ (cs : List CommentValue) where
   no_props_below : (w : List ℕ) {xs : List Row} → (true && is_empty_text w) ≡ false → w ≡ [] → xs ≡ []
   no_props_below w e f = absurd (true≢false (sym (ap is_empty_text f) ∙ e))
 
-first_value : (c : LayoutSetting) (spot : Spot) (k v : Node) → key_comment c.comments k v ≡ None → begins_below v ≡ false → Still c.comments (leaves k) → KeptStill c.comments v
-    → FirstStill c.comments (leaves k) (rows c spot v)
-first_value c spot k (scalar at props Plain text lines) e f a h = one_first c.comments (leaves k) spot.column (scalar at props Plain text lines) (written c.style (scalar at props Plain text lines)) (leaf_first c.comments k at.span a e)
-first_value c spot k (scalar at props Single text lines) e f a h = one_first c.comments (leaves k) spot.column (scalar at props Single text lines) (written c.style (scalar at props Single text lines)) (leaf_first c.comments k at.span a e)
-first_value c spot k (scalar at props Double text lines) e f a h = one_first c.comments (leaves k) spot.column (scalar at props Double text lines) (written c.style (scalar at props Double text lines)) (leaf_first c.comments k at.span a e)
-first_value c spot k (scalar at props Literal text lines) e f a h = (refl, leaf_first c.comments k at.span a e)
-first_value c spot k (scalar at props Folded text lines) e f a h = (refl, leaf_first c.comments k at.span a e)
-first_value c spot k (alias at name) e f a h = one_first c.comments (leaves k) spot.column (alias at name) (written c.style (alias at name)) (leaf_first c.comments k at.span a e)
-first_value c spot k (sequence at true props no_items) e f a h = one_first c.comments (leaves k) spot.column (sequence at true props no_items) (written c.style (sequence at true props no_items)) (leaf_first c.comments k at.span a e)
-first_value c spot k (sequence at true props (item x xs)) e f a h =
-    one_first c.comments (leaves k) spot.column (sequence at true props (item x xs)) (written c.style (sequence at true props (item x xs))) (between_key c.comments (entry_or 0 (standing k).entry) (leaves k) (leaves (sequence at true props (item x xs))) a h e)
-first_value c spot k (sequence at false props no_items) e f a h = props_first c.comments (leaves k) spot.column (props_text props) [] (λ g. refl) a
-first_value c spot k (sequence at false props (item x xs)) e f a h = props_first c.comments (leaves k) spot.column (props_text props) (rows_of_items c spot.entries (item x xs)) (no_props_below c.comments (props_text props) f) a
-first_value c spot k (mapping at true props no_pairs) e f a h = one_first c.comments (leaves k) spot.column (mapping at true props no_pairs) (written c.style (mapping at true props no_pairs)) (leaf_first c.comments k at.span a e)
-first_value c spot k (mapping at true props (pair x y ps)) e f a h =
-    one_first c.comments (leaves k) spot.column (mapping at true props (pair x y ps)) (written c.style (mapping at true props (pair x y ps))) (between_key c.comments (entry_or 0 (standing k).entry) (leaves k) (leaves (mapping at true props (pair x y ps))) a h e)
-first_value c spot k (mapping at false props no_pairs) e f a h = props_first c.comments (leaves k) spot.column (props_text props) [] (λ g. refl) a
-first_value c spot k (mapping at false props (pair x y ps)) e f a h = props_first c.comments (leaves k) spot.column (props_text props) (rows_of_pairs c spot.entries (pair x y ps)) (no_props_below c.comments (props_text props) f) a
+first_value : (c : LayoutSetting) (margins : Margins) (k v : Node) → key_comment c.comments k v ≡ None → begins_below v ≡ false → Still c.comments (leaves k) → KeptStill c.comments v
+    → FirstStill c.comments (leaves k) (rows c margins v)
+first_value c margins k (scalar at props Plain text lines) e f a h = one_first c.comments (leaves k) margins.column (scalar at props Plain text lines) (written c.style (scalar at props Plain text lines)) (leaf_first c.comments k at.span a e)
+first_value c margins k (scalar at props Single text lines) e f a h = one_first c.comments (leaves k) margins.column (scalar at props Single text lines) (written c.style (scalar at props Single text lines)) (leaf_first c.comments k at.span a e)
+first_value c margins k (scalar at props Double text lines) e f a h = one_first c.comments (leaves k) margins.column (scalar at props Double text lines) (written c.style (scalar at props Double text lines)) (leaf_first c.comments k at.span a e)
+first_value c margins k (scalar at props Literal text lines) e f a h = (refl, leaf_first c.comments k at.span a e)
+first_value c margins k (scalar at props Folded text lines) e f a h = (refl, leaf_first c.comments k at.span a e)
+first_value c margins k (alias at name) e f a h = one_first c.comments (leaves k) margins.column (alias at name) (written c.style (alias at name)) (leaf_first c.comments k at.span a e)
+first_value c margins k (sequence at true props no_items) e f a h = one_first c.comments (leaves k) margins.column (sequence at true props no_items) (written c.style (sequence at true props no_items)) (leaf_first c.comments k at.span a e)
+first_value c margins k (sequence at true props (item x xs)) e f a h =
+    one_first c.comments (leaves k) margins.column (sequence at true props (item x xs)) (written c.style (sequence at true props (item x xs))) (between_key c.comments (entry_or 0 (standing k).entry) (leaves k) (leaves (sequence at true props (item x xs))) a h e)
+first_value c margins k (sequence at false props no_items) e f a h = props_first c.comments (leaves k) margins.column (props_text props) [] (λ g. refl) a
+first_value c margins k (sequence at false props (item x xs)) e f a h = props_first c.comments (leaves k) margins.column (props_text props) (rows_of_items c margins.entries (item x xs)) (no_props_below c.comments (props_text props) f) a
+first_value c margins k (mapping at true props no_pairs) e f a h = one_first c.comments (leaves k) margins.column (mapping at true props no_pairs) (written c.style (mapping at true props no_pairs)) (leaf_first c.comments k at.span a e)
+first_value c margins k (mapping at true props (pair x y ps)) e f a h =
+    one_first c.comments (leaves k) margins.column (mapping at true props (pair x y ps)) (written c.style (mapping at true props (pair x y ps))) (between_key c.comments (entry_or 0 (standing k).entry) (leaves k) (leaves (mapping at true props (pair x y ps))) a h e)
+first_value c margins k (mapping at false props no_pairs) e f a h = props_first c.comments (leaves k) margins.column (props_text props) [] (λ g. refl) a
+first_value c margins k (mapping at false props (pair x y ps)) e f a h = props_first c.comments (leaves k) margins.column (props_text props) (rows_of_pairs c margins.entries (pair x y ps)) (no_props_below c.comments (props_text props) f) a
 
 -- Trees.
 
 -- what holds of the rows of a node wherever it is
 record NodeTidy (c : LayoutSetting) (x : Node) : Type 0 where
-  tidy : (spot : Spot) (post : List Span) → TidyRows c.comments (rows c spot x) post
-  leaves_are : (spot : Spot) → leaves_on (rows c spot x) ≡ leaves x
+  tidy : (margins : Margins) (post : List Span) → TidyRows c.comments (rows c margins x) post
+  leaves_are : (margins : Margins) → leaves_on (rows c margins x) ≡ leaves x
   kept : KeptStill c.comments x
 
 implicit_tidy : (c : LayoutSetting) (column : ℕ) (k v : Node) (post : List Span) → AreRemarks c.comments → is_implicit c.style column k ≡ true → NodeTidy c k → NodeTidy c v
@@ -186,40 +186,40 @@ implicit_tidy c column k v post a i f g = go (key_comment c.comments k v) refl (
       beside_tidy c.comments post (key_row c.style column k) 1 value still refl (first_value c (value_of_implicit c column k v) k v e h still g.kept) (g.tidy (value_of_implicit c column k v) post)
 
 pair_tidy : (c : LayoutSetting) (column : ℕ) (k v : Node) (post : List Span) → AreRemarks c.comments → NodeTidy c k → NodeTidy c v
-    → TidyRows c.comments (pair_rows c column k v (rows c (key_spot c.style column k) k) (rows c (value_spot c column k v) v)) post
+    → TidyRows c.comments (pair_rows c column k v (rows c (key_margins c.style column k) k) (rows c (value_margins c column k v) v)) post
 pair_tidy c column k v post a f g = go (is_implicit c.style column k) refl where
   go : (b : Bool) → is_implicit c.style column k ≡ b → TidyRows c.comments (either_pair b c column k v) post
   go true e = implicit_tidy c column k v post a e f g
   go false e =
-      tidy_append c.comments post (after_sign c.style (entry_row column (codes "?") k) (rows c (key_spot c.style column k) k)) (after_sign c.style (colon_row column k) (rows c (inner_spot c.style column) v))
-      (sign_tidy c.comments (leaves_on (after_sign c.style (colon_row column k) (rows c (inner_spot c.style column) v)) ++ post) (entry_row column (codes "?") k) (c.style.indent - 1)
-      (rows c (key_spot c.style column k) k) refl refl (f.tidy (key_spot c.style column k) (leaves_on (after_sign c.style (colon_row column k) (rows c (inner_spot c.style column) v)) ++ post)))
-      (sign_tidy c.comments post (colon_row column k) (c.style.indent - 1) (rows c (inner_spot c.style column) v) refl refl (g.tidy (inner_spot c.style column) post))
+      tidy_append c.comments post (after_sign c.style (entry_row column (codes "?") k) (rows c (key_margins c.style column k) k)) (after_sign c.style (colon_row column k) (rows c (inner_margins c.style column) v))
+      (sign_tidy c.comments (leaves_on (after_sign c.style (colon_row column k) (rows c (inner_margins c.style column) v)) ++ post) (entry_row column (codes "?") k) (c.style.indent - 1)
+      (rows c (key_margins c.style column k) k) refl refl (f.tidy (key_margins c.style column k) (leaves_on (after_sign c.style (colon_row column k) (rows c (inner_margins c.style column) v)) ++ post)))
+      (sign_tidy c.comments post (colon_row column k) (c.style.indent - 1) (rows c (inner_margins c.style column) v) refl refl (g.tidy (inner_margins c.style column) post))
 
-made_tidy : (c : LayoutSetting) (x : Node) → is_placed x ≡ true → House c x → KeptStill c.comments x → ((spot : Spot) (post : List Span) → TidyRows c.comments (rows c spot x) post) → NodeTidy c x
-made_tidy c x p h k f = record { tidy = f; leaves_are = λ spot. node_leaves c spot x p h; kept = k }
+made_tidy : (c : LayoutSetting) (x : Node) → is_placed x ≡ true → House c x → KeptStill c.comments x → ((margins : Margins) (post : List Span) → TidyRows c.comments (rows c margins x) post) → NodeTidy c x
+made_tidy c x p h k f = record { tidy = f; leaves_are = λ margins. node_leaves c margins x p h; kept = k }
 
 mutual
   node_tidy : (c : LayoutSetting) (x : Node) → AreRemarks c.comments → is_placed x ≡ true → House c x → KeptStill c.comments x → NodeTidy c x
   node_tidy c (scalar at props Plain text lines) a p h k =
-      made_tidy c (scalar at props Plain text lines) p h k (λ spot post. one_line_tidy c.comments post spot.column (scalar at props Plain text lines) (written c.style (scalar at props Plain text lines)) (leaf_still c.comments at.span))
+      made_tidy c (scalar at props Plain text lines) p h k (λ margins post. one_line_tidy c.comments post margins.column (scalar at props Plain text lines) (written c.style (scalar at props Plain text lines)) (leaf_still c.comments at.span))
   node_tidy c (scalar at props Single text lines) a p h k =
-      made_tidy c (scalar at props Single text lines) p h k (λ spot post. one_line_tidy c.comments post spot.column (scalar at props Single text lines) (written c.style (scalar at props Single text lines)) (leaf_still c.comments at.span))
+      made_tidy c (scalar at props Single text lines) p h k (λ margins post. one_line_tidy c.comments post margins.column (scalar at props Single text lines) (written c.style (scalar at props Single text lines)) (leaf_still c.comments at.span))
   node_tidy c (scalar at props Double text lines) a p h k =
-      made_tidy c (scalar at props Double text lines) p h k (λ spot post. one_line_tidy c.comments post spot.column (scalar at props Double text lines) (written c.style (scalar at props Double text lines)) (leaf_still c.comments at.span))
-  node_tidy c (scalar at props Literal text lines) a p h k = made_tidy c (scalar at props Literal text lines) p h k (λ spot post. (keyless c.comments (leaf_still c.comments at.span) refl, tt))
-  node_tidy c (scalar at props Folded text lines) a p h k = made_tidy c (scalar at props Folded text lines) p h k (λ spot post. (keyless c.comments (leaf_still c.comments at.span) refl, tt))
-  node_tidy c (alias at name) a p h k = made_tidy c (alias at name) p h k (λ spot post. one_line_tidy c.comments post spot.column (alias at name) (written c.style (alias at name)) (leaf_still c.comments at.span))
-  node_tidy c (sequence at true props xs) a p h k = made_tidy c (sequence at true props xs) p h k (λ spot post. one_line_tidy c.comments post spot.column (sequence at true props xs) (written c.style (sequence at true props xs)) k)
+      made_tidy c (scalar at props Double text lines) p h k (λ margins post. one_line_tidy c.comments post margins.column (scalar at props Double text lines) (written c.style (scalar at props Double text lines)) (leaf_still c.comments at.span))
+  node_tidy c (scalar at props Literal text lines) a p h k = made_tidy c (scalar at props Literal text lines) p h k (λ margins post. (keyless c.comments (leaf_still c.comments at.span) refl, tt))
+  node_tidy c (scalar at props Folded text lines) a p h k = made_tidy c (scalar at props Folded text lines) p h k (λ margins post. (keyless c.comments (leaf_still c.comments at.span) refl, tt))
+  node_tidy c (alias at name) a p h k = made_tidy c (alias at name) p h k (λ margins post. one_line_tidy c.comments post margins.column (alias at name) (written c.style (alias at name)) (leaf_still c.comments at.span))
+  node_tidy c (sequence at true props xs) a p h k = made_tidy c (sequence at true props xs) p h k (λ margins post. one_line_tidy c.comments post margins.column (sequence at true props xs) (written c.style (sequence at true props xs)) k)
   node_tidy c (sequence at false props no_items) a p h k = absurd (true≢false (same_flag h))
   node_tidy c (sequence at false props (item x xs)) a p h k =
       let all = items_tidy c (item x xs) a p (items_of h) k in
-      made_tidy c (sequence at false props (item x xs)) p h k (λ spot post. props_tidy c.comments post spot.column (props_text props) (rows_of_items c spot.entries (item x xs)) (all spot.entries post))
-  node_tidy c (mapping at true props ps) a p h k = made_tidy c (mapping at true props ps) p h k (λ spot post. one_line_tidy c.comments post spot.column (mapping at true props ps) (written c.style (mapping at true props ps)) k)
+      made_tidy c (sequence at false props (item x xs)) p h k (λ margins post. props_tidy c.comments post margins.column (props_text props) (rows_of_items c margins.entries (item x xs)) (all margins.entries post))
+  node_tidy c (mapping at true props ps) a p h k = made_tidy c (mapping at true props ps) p h k (λ margins post. one_line_tidy c.comments post margins.column (mapping at true props ps) (written c.style (mapping at true props ps)) k)
   node_tidy c (mapping at false props no_pairs) a p h k = absurd (true≢false (same_flag_of_map h))
   node_tidy c (mapping at false props (pair x y ps)) a p h k =
       let all = pairs_tidy c (pair x y ps) a p (pairs_of h) k in
-      made_tidy c (mapping at false props (pair x y ps)) p h k (λ spot post. props_tidy c.comments post spot.column (props_text props) (rows_of_pairs c spot.entries (pair x y ps)) (all spot.entries post))
+      made_tidy c (mapping at false props (pair x y ps)) p h k (λ margins post. props_tidy c.comments post margins.column (props_text props) (rows_of_pairs c margins.entries (pair x y ps)) (all margins.entries post))
 
   items_tidy : (c : LayoutSetting) (xs : Items) → AreRemarks c.comments → items_are_placed xs ≡ true → styled_items [] (setting c.style []) xs ≡ xs → ItemsStill c.comments xs
       → (column : ℕ) (post : List Span) → TidyRows c.comments (rows_of_items c column xs) post
@@ -228,9 +228,9 @@ mutual
       let hs = and_parts (is_placed x) (items_are_placed xs) p in
       let parts = item_parts h in
       let first = node_tidy c x a hs.0 parts.0 k.0 in
-      tidy_append c.comments post (after_sign c.style (entry_row column (codes "-") x) (rows c (inner_spot c.style column) x)) (rows_of_items c column xs)
-      (sign_tidy c.comments (leaves_on (rows_of_items c column xs) ++ post) (entry_row column (codes "-") x) (c.style.indent - 1) (rows c (inner_spot c.style column) x) refl refl
-      (first.tidy (inner_spot c.style column) (leaves_on (rows_of_items c column xs) ++ post)))
+      tidy_append c.comments post (after_sign c.style (entry_row column (codes "-") x) (rows c (inner_margins c.style column) x)) (rows_of_items c column xs)
+      (sign_tidy c.comments (leaves_on (rows_of_items c column xs) ++ post) (entry_row column (codes "-") x) (c.style.indent - 1) (rows c (inner_margins c.style column) x) refl refl
+      (first.tidy (inner_margins c.style column) (leaves_on (rows_of_items c column xs) ++ post)))
       (items_tidy c xs a hs.1 parts.1 k.1 column post)
 
   pairs_tidy : (c : LayoutSetting) (ps : Pairs) → AreRemarks c.comments → pairs_are_placed ps ≡ true → styled_pairs [] (setting c.style []) ps ≡ ps → PairsStill c.comments ps
@@ -242,12 +242,12 @@ mutual
       let parts = pair_parts h in
       let key = node_tidy c x a hx.0 parts.0 k.0 in
       let value = node_tidy c y a hy.0 parts.1.0 k.1.0 in
-      tidy_append c.comments post (pair_rows c column x y (rows c (key_spot c.style column x) x) (rows c (value_spot c column x y) y)) (rows_of_pairs c column ps)
+      tidy_append c.comments post (pair_rows c column x y (rows c (key_margins c.style column x) x) (rows c (value_margins c column x y) y)) (rows_of_pairs c column ps)
       (pair_tidy c column x y (leaves_on (rows_of_pairs c column ps) ++ post) a key value) (pairs_tidy c ps a hy.1 parts.1.1 k.1.1 column post)
 
 -- of a node
-node_rows_tidy : (c : LayoutSetting) (spot : Spot) (x : Node) (post : List Span) → AreRemarks c.comments → is_placed x ≡ true → House c x → KeptStill c.comments x → TidyRows c.comments (rows c spot x) post
-node_rows_tidy c spot x post a p h k = (node_tidy c x a p h k).tidy spot post
+node_rows_tidy : (c : LayoutSetting) (margins : Margins) (x : Node) (post : List Span) → AreRemarks c.comments → is_placed x ≡ true → House c x → KeptStill c.comments x → TidyRows c.comments (rows c margins x) post
+node_rows_tidy c margins x post a p h k = (node_tidy c x a p h k).tidy margins post
 
 -- Documents.
 
@@ -273,12 +273,12 @@ pub stream_tidy : (c : LayoutSetting) (is_first : Bool) (ds : List Doc) (trees :
 stream_tidy c is_first [] trees post a k = tt
 stream_tidy c is_first (d ∷ ds) [] post a k = tt
 stream_tidy c is_first (d ∷ ds) (x ∷ xs) post a k =
-    let tree : List Row = rows c (root_spot c.style) x.root in
+    let tree : List Row = rows c (root_margins c.style) x.root in
     let rest : List Row = stream_rows c false ds xs in
     let heads : List Row = beginning_at d.start (end_rows is_first d.directives ++ (map directive_row d.directives ++ (start_row ∷ []))) in
     tidy_append c.comments post (document_rows c is_first d x) rest
     (tidy_append c.comments (leaves_on rest ++ post) heads tree (head_tidy c.comments is_first d.start (leaves_on tree ++ (leaves_on rest ++ post)) d.directives)
-    (node_rows_tidy c (root_spot c.style) x.root (leaves_on rest ++ post) a k.0.0 k.0.1.0 k.0.1.1))
+    (node_rows_tidy c (root_margins c.style) x.root (leaves_on rest ++ post) a k.0.0 k.0.1.0 k.0.1.1))
     (stream_tidy c false ds xs post a k.1)
 
 begun_tidy : (cs : List CommentValue) (start : ℕ) (xs : List Row) (post : List Span) → TidyRows cs xs post → TidyRows cs (begun_at start xs) post
@@ -291,10 +291,10 @@ all_tidy c false ds trees post a k = stream_tidy c true ds trees post a k
 all_tidy c true [] trees post a k = tt
 all_tidy c true (d ∷ ds) [] post a k = tt
 all_tidy c true (d ∷ ds) (x ∷ xs) post a k =
-    let tree : List Row = rows c (root_spot c.style) x.root in
+    let tree : List Row = rows c (root_margins c.style) x.root in
     let rest : List Row = stream_rows c false ds xs in
     tidy_append c.comments post (begun_at d.start tree) rest
-    (begun_tidy c.comments d.start tree (leaves_on rest ++ post) (node_rows_tidy c (root_spot c.style) x.root (leaves_on rest ++ post) a k.0.0 k.0.1.0 k.0.1.1))
+    (begun_tidy c.comments d.start tree (leaves_on rest ++ post) (node_rows_tidy c (root_margins c.style) x.root (leaves_on rest ++ post) a k.0.0 k.0.1.0 k.0.1.1))
     (stream_tidy c false ds xs post a k.1)
 
 -- so at most one comment trails a row of the layout, where the leaves begin one after the other

@@ -118,9 +118,6 @@ start_of_first (s ∷ ss) = Some s.start
 itself : (n : ℕ) → nat_lt n n ≡ false
 itself n = grind (arith, nat_tests)
 
-earlier : (n m : ℕ) → nat_lt n m ≡ true → nat_lt m n ≡ false
-earlier n m e = grind (arith, nat_tests)
-
 all_parts : (s : Span) (xs ys : List Span) → list_all (λ (r : Span). nat_lt s.start r.start) (xs ++ ys) ≡ true → list_all (λ (r : Span). nat_lt s.start r.start) ys ≡ true
 all_parts s [] ys e = e
 all_parts s (x ∷ xs) ys e = all_parts s xs ys (and_parts (nat_lt s.start x.start) (list_all (λ r. nat_lt s.start r.start) (xs ++ ys)) e).1
@@ -138,7 +135,7 @@ next_after [] s (y ∷ ys) r =
 next_after (x ∷ xs) s ys r =
     let parts = and_parts (list_all (λ z. nat_lt x.start z.start) (xs ++ (s ∷ ys))) (rising (xs ++ (s ∷ ys))) r in
     ap (λ b. option_map (λ (z : Span). z.start) (if b then Some x else find (λ (z : Span). nat_lt s.start z.start) (xs ++ (s ∷ ys))))
-    (earlier x.start s.start (head_later x.start s ys (all_parts x xs (s ∷ ys) parts.0)))
+    (not_after s.start x.start (head_later x.start s ys (all_parts x xs (s ∷ ys) parts.0)))
     ∙ next_after xs s ys parts.1
 
 pub next_later : (s : Span) (ys : List Span) → rising (s ∷ ys) ≡ true → Later s.start (start_of_first ys)

@@ -7,6 +7,7 @@ use Rattle.std.proofs.lemmas.Bool.Decides.{nat_tests}
 use Rattle.std.proofs.lemmas.Grind.{flat_map-append}
 use Rattle.yf_comments.specs.Comment.{CommentValue}
 use Rattle.yf_events.specs.declared.event.Span.{Span}
+use Rattle.yf_events.proofs.Advances.{not_zero}
 use Rattle.yf_emit.specs.Layouts.Layout.{Remark, Source, first_comment, is_among, own_line_comments, trailing, trailing_leaf}
 use Rattle.yf_print.specs.Layouts.Rows.{Row}
 use Rattle.yf_emit.proofs.Printer.FeedLemmas.{left}
@@ -44,7 +45,7 @@ among_rows c (row ∷ rows) d =
 
 -- What is left.
 
-firsts : (cs : List CommentValue) (bs : List Bool) → length bs ≡ length cs → map (λ (r : Remark). r.0) (zip cs bs) ≡ cs
+pub firsts : (cs : List CommentValue) (bs : List Bool) → length bs ≡ length cs → map (λ (r : Remark). r.0) (zip cs bs) ≡ cs
 firsts [] [] e = refl
 firsts [] (b ∷ bs) e = refl
 firsts (c ∷ cs) [] e = absurd (omega (arith, e))
@@ -87,9 +88,6 @@ differ n m e = grind (arith, nat_tests)
 zero_suc : (n : ℕ) → (0 == suc n) ≡ false
 zero_suc n = grind (arith, nat_tests)
 
-suc_zero : (n : ℕ) → (suc n == 0) ≡ false
-suc_zero n = grind (arith, nat_tests)
-
 suc_suc : (n m : ℕ) → (suc n == suc m) ≡ (n == m)
 suc_suc n m = grind (arith, nat_tests)
 
@@ -106,7 +104,7 @@ same_place (c ∷ cs) zero (suc k) a d s e f =
 same_place (c ∷ cs) (suc n) zero a d s e f =
     let other : d ≡ c = cc in
     ap (λ w. a.offset == w.offset) other
-    ∙ (differ_back c.offset a.offset (later_one c.offset cs n a (and_parts (list_all (λ d. nat_lt c.offset d.offset) cs) (strict cs) s).0 e) ∙ sym (suc_zero n))
+    ∙ (differ_back c.offset a.offset (later_one c.offset cs n a (and_parts (list_all (λ d. nat_lt c.offset d.offset) cs) (strict cs) s).0 e) ∙ sym (not_zero n))
 same_place (c ∷ cs) (suc n) (suc k) a d s e f =
     same_place cs n k a d (and_parts (list_all (λ d. nat_lt c.offset d.offset) cs) (strict cs) s).1 e f ∙ sym (suc_suc n k)
 
@@ -119,7 +117,7 @@ has k ns = list_any (λ n. n == k) ns
 within_get : (cs : List CommentValue) (n k : ℕ) (d : CommentValue) → slice_get cs n ≡ None → slice_get cs k ≡ Some d → (n == k) ≡ false
 within_get [] n k d e f = absurd cc
 within_get (c ∷ cs) zero k d e f = absurd cc
-within_get (c ∷ cs) (suc n) zero d e f = suc_zero n
+within_get (c ∷ cs) (suc n) zero d e f = not_zero n
 within_get (c ∷ cs) (suc n) (suc k) d e f = suc_suc n k ∙ within_get cs n k d e f
 
 pub among_indices : (cs : List CommentValue) (ns : List ℕ) (k : ℕ) (d : CommentValue) → strict cs ≡ true → slice_get cs k ≡ Some d → is_among (at_indices cs ns) d ≡ has k ns

@@ -1,10 +1,11 @@
 -- The marks that the pass over leaves ends with tell which comments trail in the layout.
-use Rattle.std.proofs.Common.{◌≡◌, ◌≢◌, ℕ, zero, suc, ◌<◌, Bool, true, false, ◌&&◌, List, [], ◌∷◌, ◌++◌, length, flat_map, get_or, set, Option, Some, None, refl, sym, ap, ◌∙◌, arith, append_assoc}
+use Rattle.std.proofs.Common.{◌≡◌, ◌≢◌, ℕ, ◌<◌, Bool, true, false, ◌&&◌, List, [], ◌∷◌, ◌++◌, length, flat_map, get_or, set, Option, Some, None, refl, sym, ap, ◌∙◌, arith, append_assoc}
 use Rattle.std.specs.Prelude.{◌||◌, ◌==◌, nat_lt, option_to_list, slice_get, zip, if◌then◌else◌}
 use Rattle.std.specs.List.{list_all}
 use Rattle.std.proofs.lemmas.Bool.{and_parts}
 use Rattle.std.proofs.lemmas.Bool.Decides.{nat_tests}
 use Rattle.std.proofs.lemmas.List.{get_or-set_other, get_or-set_same, length-set, map-append}
+use Rattle.std.proofs.lemmas.Option.{slice_get_within}
 use Rattle.yf_comments.specs.Comment.{CommentValue}
 use Rattle.yf_events.specs.declared.event.Span.{Span}
 use Rattle.yf_events.specs.declared.lists.Lists.{Lists}
@@ -104,11 +105,6 @@ all_chosen r c keys xs (l ∷ ls) m e lv a u n k =
     (all_chosen r c keys (xs ++ (l ∷ [])) ls m e (lv ∙ sym moved) a (ap rising moved ∙ u) parts.1 k)
     ∙ one_chosen r.comments (found_of r keys l ls) (founds r keys ls))
 
-pub some_within : (cs : List CommentValue) (k : ℕ) (d : CommentValue) → slice_get cs k ≡ Some d → k < length cs
-some_within [] k d e = absurd cc
-some_within (c ∷ cs) zero d e = omega arith
-some_within (c ∷ cs) (suc k) d e = let h = some_within cs k d e in omega (arith, h)
-
 -- So a comment is marked where it trails a row.
 pub marks_agree : (r : Lists) (c : Source) (rows : List Row) (ls : List Mark) (f : TrailsSoFar) → c.remarks ≡ zip r.comments r.on_leaf_line → length r.on_leaf_line ≡ length r.comments
     → c.leaves ≡ spans ls → c.leaves ≡ flat_map (λ row. row.leaves) rows → c.key_comments ≡ flat_map (λ row. option_to_list row.key_comment) rows
@@ -117,7 +113,7 @@ pub marks_agree : (r : Lists) (c : Source) (rows : List Row) (ls : List Mark) (f
     → (j : ℕ) (d : CommentValue) → slice_get r.comments j ≡ Some d → get_or (closed_all r ls f).trailing j false ≡ is_among (flat_map (trailing c) rows) d
 marks_agree r c rows ls f m e lv ll lk a s u n k g w j d q =
     let of_leaf : Span → List CommentValue = λ leaf. trailing_leaf c leaf (first_comment c leaf) in
-    let low = some_within r.comments j d q in
+    let low = slice_get_within r.comments j d q in
     marked_at r ls f f.trailing j u g (omega (arith, low, w))
     ∙ (ap (λ b. b || has j (founds r f.trailing ls)) (k.marked j d q)
     ∙ (ap (λ b. is_among c.key_comments d || b) (sym (among_indices r.comments (founds r f.trailing ls) j d s q))

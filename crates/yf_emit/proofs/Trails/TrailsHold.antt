@@ -3,6 +3,7 @@ use Rattle.std.proofs.Common.{◌≡◌, ℕ, ◌<◌, Bool, true, false, List, 
 use Rattle.std.specs.Prelude.{◌||◌, option_to_list, slice_get}
 use Rattle.std.proofs.lemmas.Bool.{and_parts}
 use Rattle.std.proofs.lemmas.List.{get_or-replicate, length-replicate, length-set}
+use Rattle.std.proofs.lemmas.Option.{slice_get_within}
 use Rattle.yf_comments.specs.Comment.{CommentValue}
 use Rattle.yf_events.specs.Tree.{DocumentTree, Node, TreesOf, is_text, standing}
 use Rattle.yf_events.specs.declared.event.Span.{Span}
@@ -29,7 +30,7 @@ use Rattle.yf_emit.proofs.Trails.TrailChoice.{none_at, rising}
 use Rattle.yf_emit.proofs.Trails.TrailLeaves.{KeyMarks, chosen_of}
 use Rattle.yf_emit.proofs.Trails.TrailOthers.{among_indices, at_indices, has, strict}
 use Rattle.yf_emit.proofs.Trails.TrailRuns.{AgreeFrom, closed_all, found_at, run_is, spans}
-use Rattle.yf_emit.proofs.Trails.TrailsAgree.{has_append, marked_one, marks_agree, none_at_starts, or_false, some_within}
+use Rattle.yf_emit.proofs.Trails.TrailsAgree.{has_append, marked_one, marks_agree, none_at_starts, or_false}
 use Rattle.yf_print.specs.Layouts.BareStart.{is_bare}
 use Rattle.yf_forms.proofs.Decide.FlagLemmas.{or_assoc}
 
@@ -71,7 +72,7 @@ key_marks : (m : Lists) (s : Style) (n : ℕ) (ds : List DocumentTree) (fs : Lis
     → KeyMarks (source_of m (rows_of m s ds)) m.comments (start m fs).found.trailing
 key_marks m s n ds fs p e = record {
   marked = λ k d q.
-      let low = some_within m.comments k d q in
+      let low = slice_get_within m.comments k d q in
       let long : length (replicate (length m.comments) false) ≡ length m.comments = length-replicate (length m.comments) false in
       keys_at fs (replicate (length m.comments) false) k (omega (arith, low, long))
       ∙ (ap (λ b. b || has k (indices_of fs)) (get_or-replicate (length m.comments) k false false low)

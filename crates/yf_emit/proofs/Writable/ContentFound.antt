@@ -24,6 +24,7 @@ use Rattle.yf_grammar.specs.FlowReader.Parser.{begins_content, begins_properties
 use Rattle.yf_grammar.proofs.Ends.GapLemmas.{Visible}
 use Rattle.yf_grammar.proofs.NodesInText.NodePlaces.{ContentFrom, content_alone, content_after}
 use Rattle.yf_grammar.proofs.NodesInText.PlacedLeaves.{content_visible, properties_visible}
+use Rattle.yf_grammar.proofs.FlowReader.Outcome.{anchor_code}
 use Rattle.yf_emit.proofs.Writable.ContentLaws.{ContentStartsAreFound}
 use Rattle.yf_forms.specs.Nodes.ContentStart.{anchor_len, content_start, past_gap, past_second, property_len, tag_len, written_len}
 use Rattle.yf_forms.proofs.Texts.GapLemmas.{gap_none, gap_over, past_gap_is}
@@ -81,9 +82,6 @@ anchor_written {t} props (ampersand_name {i = i} {j = j} e r) q l =
     let long = slice_long t (i + 1) j l in
     let last : i + (length (slice_range t (i + 1) j) + 1) ≡ j = omega (arith, some, long) in
     (ap (λ c. i + written_len c props) e ∙ (ap (λ o. i + anchor_len o) q ∙ last), omega (arith, some))
-
-anchor_sign : {t : List ℕ} {i j : ℕ} {name : List ℕ} → Anchor t i j name → code t i ≡ 38
-anchor_sign (ampersand_name e r) = e
 
 handle_sign : {t : List ℕ} {i h : ℕ} → Handle t i h → (code t i ≡ 33) × (i < h)
 handle_sign (primary_handle e) = (e, omega arith)
@@ -196,7 +194,7 @@ module _ {t : List ℕ} (u : IsUtf8 t) where
       let later = last.1 in
       let first = tag_written p.props x refl (omega (arith, within, d, m, later)) in
       after_first t a b h o p.props (property_is t a h p.props first (omega (arith, within, d, m, later))) first.1
-      (gap_to b r (sign_stops o 38 (anchor_sign y) signs_begin.0) (omega (arith, l, d, later)))
+      (gap_to b r (sign_stops o 38 (anchor_code y) signs_begin.0) (omega (arith, l, d, later)))
       ∙ after_second t o b g k p.props (property_is t o g p.props last (omega (arith, within, d))) last.1 (gap_to b s stops l)
   after_properties {a = a} {g = g} {k = k} {p = p} b (anchor_first {h = h} {k = o} x r y) s v e f l =
       let stops = visible_stops k u v in

@@ -1,7 +1,7 @@
 -- Directives that are read can be written, with one space between their words.
-use Rattle.std.proofs.Common.{◌≡◌, ◌≢◌, ℕ, ◌+◌, ◌<◌, ◌≤◌, Bool, true, false, List, [], ◌∷◌, ◌++◌, length, slice_range, codes, refl, sym, ap, ◌∙◌, subst, arith, ⊎_elim, ◌⊎◌, inl, inr, eqb, not, drop, append_assoc, append-nil, length-append, length-drop}
+use Rattle.std.proofs.Common.{◌≡◌, ◌≢◌, ℕ, ◌+◌, ◌<◌, ◌≤◌, Bool, true, false, List, [], ◌∷◌, ◌++◌, length, slice_range, codes, refl, sym, ap, ◌∙◌, subst, arith, ⊎_elim, ◌⊎◌, inl, inr, eqb, drop, append_assoc, append-nil, length-append, length-drop}
 use Rattle.std.proofs.lemmas.Str.{encode_ascii, encodes-append}
-use Rattle.std.proofs.lemmas.Bool.{and_parts, eqb-true, or_cases}
+use Rattle.std.proofs.lemmas.Bool.{eqb-true, or_cases}
 use Rattle.std.proofs.lemmas.Bool.Decides.{nat_tests}
 use Rattle.std.specs.Str.{IsUtf8}
 use lib.Utf8.{encode, encodes}
@@ -19,6 +19,7 @@ use Rattle.yf_lines.proofs.RestLemmas.{follows_code, line_append, line_ascii, li
 use Rattle.yf_lines.proofs.VisibleLines.{visible_line}
 use Rattle.yf_comments.proofs.SpaceLemmas.{space_in_line}
 use Rattle.yf_plain.proofs.PlainLemmas.{ns_below}
+use Rattle.yf_plain.proofs.PlainBack.{ns_nb}
 use Rattle.yf_props.specs.Names.{Run, TagPrefix}
 use Rattle.yf_props.specs.Names.SpelledChar.{as_itself, as_escape}
 use Rattle.yf_props.specs.Names.TagPrefix.{local_prefix, global_prefix}
@@ -160,10 +161,6 @@ joined_then : (n : List ℕ) (ws : List (List ℕ)) (r : List ℕ) → joined_wo
 joined_then n [] r = refl
 joined_then n (w ∷ ws) r = append_assoc n (32 ∷ joined_words (w ∷ ws)) r ∙ ap (λ z. n ++ (32 ∷ z)) (joined_then w ws r)
 
-nb_of_ns : (c : ℕ) → is_ns_char c ≡ true → is_nb_char c ≡ true
-unfolding is_ns_char
-nb_of_ns c e = (and_parts (is_nb_char c) (not (is_white c)) e).0
-
 pub all_nb : {p : ℕ → Bool} → ((c : ℕ) → p c ≡ true → is_nb_char c ≡ true) → (cs : List ℕ) → AllOf p cs → AllNb cs
 all_nb f [] a = tt
 all_nb f (c ∷ cs) a = (f c a.0, all_nb f cs a.1)
@@ -193,7 +190,7 @@ version_line a =
 
 parameters_line : {ws : List (List ℕ)} → AreParameters ws → IsLineText (words_then ws [])
 parameters_line no_parameters = line_nothing
-parameters_line (a_parameter a more) = apart_line (run_line nb_of_ns a.text) (parameters_line more)
+parameters_line (a_parameter a more) = apart_line (run_line ns_nb a.text) (parameters_line more)
 
 words_line : {name : List ℕ} {ws : List (List ℕ)} → AreWords name ws → IsLineText (words_then ws [])
 words_line (version_words e a) = apart_line (version_line a) line_nothing
@@ -342,7 +339,7 @@ directive_made : {name : List ℕ} {ws : List (List ℕ)} → RunText is_ns_char
 directive_made {name} {ws} a b = record { line = line; made = λ {t} q r u f s. at u f s } where
   line : IsLineText (joined_words (name ∷ ws))
   line =
-      subst (λ w. IsLineText w) (sym (joined_then name ws []) ∙ append-nil (joined_words (name ∷ ws))) (line_append (run_line nb_of_ns a) (words_line b))
+      subst (λ w. IsLineText w) (sym (joined_then name ws []) ∙ append-nil (joined_words (name ∷ ws))) (line_append (run_line ns_nb a) (words_line b))
 
   at : {t : List ℕ} {q : ℕ} {r : List ℕ} → IsUtf8 t → Follows is_apart r → Rest t q (37 ∷ (joined_words (name ∷ ws) ++ r))
       → DirectiveAt t q (q + length (37 ∷ joined_words (name ∷ ws))) (name ∷ ws)

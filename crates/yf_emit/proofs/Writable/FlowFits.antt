@@ -21,6 +21,7 @@ use Rattle.yf_emit.specs.Layouts.ReadableTrees.{FitProps, no_fit_props, some_fit
 use Rattle.yf_forms.specs.Nodes.OneLine.{spaced, props_text, written, bare, more_items, more_pairs, colon_after}
 use Rattle.yf_emit.proofs.Derived.ClearRows.{unmarked_first}
 use Rattle.yf_emit.proofs.Writable.LeafFits.{props_before, unmarked_with, no_comments_with, line_node}
+use Rattle.yf_emit.proofs.OutputLines.HeldLemmas.{entering_silent}
 use Rattle.yf_grammar.proofs.FlowReader.FlowStarts.{in_flow_not_block}
 
 -- Comments: there are none.
@@ -28,10 +29,6 @@ use Rattle.yf_grammar.proofs.FlowReader.FlowStarts.{in_flow_not_block}
 silent_both : (x y : Meaning) → x.comments ≡ [] → y.comments ≡ [] → (x ⊕ y).comments ≡ []
 unfolding ◌⊕◌
 silent_both x y e f = ap (λ z. z ++ y.comments) e ∙ f
-
-silent_entering : (i : ℕ) (o : Option ℕ) (x : Meaning) → x.comments ≡ [] → (entering i o x).comments ≡ []
-unfolding entering
-silent_entering i o x e = e
 
 silent_collection : (s f : Bool) (i j : ℕ) (x : Meaning) → x.comments ≡ [] → (collection s f i j x).comments ≡ []
 unfolding collection
@@ -60,7 +57,7 @@ one_item house {c} {x} n =
       back = last_back (item_back n.node.back);
       low = omega (arith, low);
       meant = λ q. last_item_meant (meant_entering q None (n.node.meant q));
-      silent = λ q. silent_entering q None (n.node.mean q) (n.node.silent q);
+      silent = λ q. entering_silent q None (n.node.mean q) (n.node.silent q);
     }
 
 another_item : (house : Style) {c : Ctx} {x y : Node} {ys : Items} → InlineNode house c x → ItemsNode house c y ys → ItemsNode house c x (item y ys)
@@ -75,7 +72,7 @@ another_item house {c} {x} {y} {ys} n o =
       back = more_back (item_back n.node.back) o.back;
       low = omega (arith, low, high);
       meant = λ q. more_items_meant (meant_entering q None (n.node.meant q)) (o.meant (q + length (written house x) + 2));
-      silent = λ q. silent_both (entering q None (n.node.mean q)) (o.mean (q + length (written house x) + 2)) (silent_entering q None (n.node.mean q) (n.node.silent q)) (o.silent (q + length (written house x) + 2));
+      silent = λ q. silent_both (entering q None (n.node.mean q)) (o.mean (q + length (written house x) + 2)) (entering_silent q None (n.node.mean q) (n.node.silent q)) (o.silent (q + length (written house x) + 2));
     }
 
 -- A pair: the key's meaning and the value's.
@@ -124,7 +121,7 @@ pair_node house {c} {k} {v} n o = go (colon_after k) refl n.colon where
       meant_value = o.node.meant (q + length (written house k) + 2);
     };
     silent = λ q. silent_both (entering q (Some (q + length (written house k))) (n.node.mean q)) (o.node.mean (q + length (written house k) + 2))
-        (silent_entering q (Some (q + length (written house k))) (n.node.mean q) (n.node.silent q)) (o.node.silent (q + length (written house k) + 2));
+        (entering_silent q (Some (q + length (written house k))) (n.node.mean q) (n.node.silent q)) (o.node.silent (q + length (written house k) + 2));
   }
   go w e colon_apart = record {
     text = written house k ++ (32 ∷ 58 ∷ 32 ∷ written house v);
@@ -141,7 +138,7 @@ pair_node house {c} {k} {v} n o = go (colon_after k) refl n.colon where
       meant_value = o.node.meant (q + length (written house k) + 1 + 2);
     };
     silent = λ q. silent_both (entering q (Some (q + length (written house k) + 1)) (n.node.mean q)) (o.node.mean (q + length (written house k) + 1 + 2))
-        (silent_entering q (Some (q + length (written house k) + 1)) (n.node.mean q) (n.node.silent q)) (o.node.silent (q + length (written house k) + 1 + 2));
+        (entering_silent q (Some (q + length (written house k) + 1)) (n.node.mean q) (n.node.silent q)) (o.node.silent (q + length (written house k) + 1 + 2));
   }
 
 record PairsNode (house : Style) (c : Ctx) (k v : Node) (ps : Pairs) : Type 0 where

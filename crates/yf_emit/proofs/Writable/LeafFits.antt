@@ -22,10 +22,11 @@ use Rattle.yf_forms.specs.declared.style.Style.{Style}
 use Rattle.yf_emit.specs.Layouts.ReadableTrees.{IsNoMarker, ColonFits, colon_at_once, colon_apart, InlineNode}
 use Rattle.yf_forms.specs.Nodes.OneLine.{spaced, props_text, written, colon_after, colon_after_props}
 use Rattle.yf_forms.specs.Nodes.Lines.{is_empty_text}
-use Rattle.yf_emit.proofs.Derived.ClearRows.{unmarked_first, unmarked_more}
+use Rattle.yf_emit.proofs.Derived.ClearRows.{space_is_after, unmarked_first, unmarked_more}
 use Rattle.yf_emit.proofs.Derived.CollectionsMade.{same_props, some_props}
-use Rattle.yf_emit.proofs.Derived.RowTexts.{props_unmarked, space_after_text}
+use Rattle.yf_emit.proofs.Derived.RowTexts.{props_unmarked}
 use Rattle.yf_emit.proofs.Derived.ScalarsMade.{spaced_some}
+use Rattle.yf_emit.proofs.OutputLines.HeldLemmas.{empty_silent}
 
 -- Texts.
 
@@ -40,7 +41,7 @@ props_alone {p} k = without (props_text p) ∙ same_props k where
   without (b ∷ w) = refl
 
 pub unmarked_with : {p : PropsValue} (w : List ℕ) → IsProps p → p ≢ no_props → IsNoMarker (props_bytes p ++ (32 ∷ w))
-unmarked_with w k n = unmarked_more 32 w (props_unmarked k n) (omega arith) space_after_text
+unmarked_with w k n = unmarked_more 32 w (props_unmarked k n) (omega arith) space_is_after
 
 -- Meanings.
 
@@ -82,10 +83,6 @@ no_comments_with p o f g m e = e
 no_alias_comments : (name : List ℕ) (i j : ℕ) → (alias_to name i j).comments ≡ []
 unfolding alias_to
 no_alias_comments name i j = refl
-
-no_empty_comments : (i : ℕ) → (empty_node i).comments ≡ []
-unfolding empty_node
-no_empty_comments i = refl
 
 -- Nodes.
 
@@ -131,7 +128,7 @@ alias_inline house {c} {at} {name} k e n =
 pub props_inline : (house : Style) {c : Ctx} {at : NodeOffsets} {p : PropsValue} → is_block c ≡ false → is_some at.span ≡ true → IsProps p → p ≢ no_props → InlineNode house c (scalar_tree at p Plain [] [])
 props_inline house {c} {at} {p} k e props some =
     line_node house (props_bytes p) (props_alone props) (props_node_back c k props some) (props_unmarked props some) (omega arith)
-    (λ q. props_alone_meant p _ q _ _ e) (λ q. no_comments_with p _ q _ _ (no_empty_comments _)) (apart (props_text p) (ap is_empty_text (same_props props) ∙ some_props props some)) where
+    (λ q. props_alone_meant p _ q _ _ e) (λ q. no_comments_with p _ q _ _ (empty_silent _)) (apart (props_text p) (ap is_empty_text (same_props props) ∙ some_props props some)) where
       apart : (w : List ℕ) → is_empty_text w ≡ false → ColonFits false (colon_after_props w)
       apart [] e = absurd (true≢false e)
       apart (b ∷ w) e = colon_apart

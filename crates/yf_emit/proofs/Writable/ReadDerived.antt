@@ -1,10 +1,9 @@
 -- Each node that is derived is a tree that is read: its plain scalars were ones in their contexts, and its literal and folded ones have
 -- the lines of their texts.
-use Rattle.std.proofs.Common.{◌≡◌, ℕ, ◌+◌, ℤ, Bool, true, false, true≢false, List, [], ◌++◌, Some, None, refl, sym, arith, encode_utf8_all}
+use Rattle.std.proofs.Common.{◌≡◌, ℕ, ◌+◌, ℤ, Bool, true, false, List, [], ◌++◌, Some, None, refl, arith, encode_utf8_all}
 use Rattle.std.specs.Prelude.{◌||◌}
 use Rattle.std.specs.Str.{IsUtf8}
 use Rattle.yf_chars.specs.declared.context.Ctx.{Ctx}
-use Rattle.yf_chars.specs.declared.context.Ctx.TheVariants.{BlockOut, BlockIn, FlowOut, FlowIn, BlockKey, FlowKey}
 use Rattle.yf_lines.specs.Basic.{is_block}
 use Rattle.yf_plain.specs.Kept.{is_inside}
 use Rattle.yf_plain.specs.Plain.{PlainText}
@@ -19,9 +18,10 @@ use Rattle.yf_events.specs.declared.event.ScalarStyle.TheVariants.{Plain, Single
 use Rattle.yf_events.specs.Tree.{scalar as scalar_tree, alias as alias_tree}
 use Rattle.yf_grammar.specs.Productions.BlockScalar.{BlockScalar, style_of, kept_lines}
 use Rattle.yf_grammar.specs.Productions.BlockScalar.BlockScalar.{block_scalar}
-use Rattle.yf_grammar.specs.Productions.Grammar.{Production, FlowNode, NodeOf, JsonContent, Entries, Entry, Pair, Explicit, Implicit, ValueOf, KeyOf, BlockNode, BlockEntries, BlockEntry, BlockIndented, BlockValue, Derives, in_flow}
+use Rattle.yf_grammar.specs.Productions.Grammar.{Production, FlowNode, NodeOf, JsonContent, Entries, Entry, Pair, Explicit, Implicit, ValueOf, KeyOf, BlockNode, BlockEntries, BlockEntry, BlockIndented, BlockValue, Derives}
 use Rattle.yf_grammar.specs.Productions.Grammar.Derives.{flow_node, an_alias, a_plain, a_plain_with, properties_alone, a_json, a_json_with, a_single, a_double, an_empty_collection, a_collection, last_entry, last_entry_with_comma, more_entries, a_node_entry, a_pair_entry, an_explicit_entry, an_implicit_entry, an_explicit_pair, a_keyed_pair, an_unkeyed_pair, explicit_with, explicit_without, key_alone, key_and_value, value_alone, empty_value, a_value, a_key, a_block_scalar, a_block_scalar_with, a_block_collection, a_block_collection_with, flow_in_block, a_last_entry, an_entry_before, a_dash_entry, an_explicit_entry_with, an_explicit_key_alone, a_keyed_entry, an_unkeyed_entry, a_block_value, an_empty_block_value, a_compact_collection, an_indented_node, nothing_indented}
 use Rattle.yf_grammar.specs.Productions.Meaning.{Meaning, scalar, alias_to, plain_event}
+use Rattle.yf_grammar.proofs.Ends.WiderLemmas.{inside_not_block, in_flow_inside}
 use Rattle.yf_emit.specs.Layouts.ReadableTrees.{FitScalar, no_fit_props}
 use Rattle.yf_emit.proofs.Writable.ReadTrees.{ReadText, read_scalar, read_alias}
 use Rattle.yf_forms.specs.Nodes.ScalarStyles.{has_block_content}
@@ -50,22 +50,6 @@ ReadClaim h (BlockIndented m c) x = NodeRead h false x
 ReadClaim h (BlockValue m) x = NodeRead h false x
 
 -- Contexts.
-
-inside_flow : (c : Ctx) → is_inside c ≡ true → is_block c ≡ false
-inside_flow BlockOut k = absurd (true≢false (sym k))
-inside_flow BlockIn k = absurd (true≢false (sym k))
-inside_flow FlowOut k = refl
-inside_flow FlowIn k = refl
-inside_flow BlockKey k = refl
-inside_flow FlowKey k = refl
-
-in_flow_inside : (c : Ctx) → is_block c ≡ false → is_inside (in_flow c) ≡ true
-in_flow_inside BlockOut k = absurd (true≢false k)
-in_flow_inside BlockIn k = absurd (true≢false k)
-in_flow_inside FlowOut k = refl
-in_flow_inside FlowIn k = refl
-in_flow_inside BlockKey k = refl
-in_flow_inside FlowKey k = refl
 
 -- Leaves.
 
@@ -119,7 +103,7 @@ module _ {t : List ℕ} (u : IsUtf8 t) where
   reads (last_entry {cs = cs} d o) = λ k b. last_of (entry_noting cs (reads d k b))
   reads (last_entry_with_comma {cs = cs} {ds = ds} d o e q) = λ k b. last_of (entry_noting (cs ++ ds) (reads d k b))
   reads (more_entries {cs = cs} {ds = ds} d o e q r) = λ k b. more_of (entry_noting (cs ++ ds) (reads d k b)) (reads r k b)
-  reads (a_node_entry {i = i} {c = c} d) = λ k b. an_item (node_entering i None (reads d (inside_flow c k) b (λ _. k)))
+  reads (a_node_entry {i = i} {c = c} d) = λ k b. an_item (node_entering i None (reads d (inside_not_block c k) b (λ _. k)))
   reads (a_pair_entry {i = i} {x = x} d) = λ k b. an_item (node_entering i None (collection_read true i x.finish (last_of (a_pair (reads d k (b || true))))))
   reads (an_explicit_entry {cs = cs} e s d) = λ k b. a_pair (pair_after cs (reads d k b))
   reads (an_implicit_entry d) = λ k b. a_pair (reads d k b)
@@ -128,12 +112,12 @@ module _ {t : List ℕ} (u : IsUtf8 t) where
   reads (an_unkeyed_pair {i = i} v) = λ k b. pair_of (node_entering i (Some i) (nothing_read b i)) (reads v k b) (omega arith)
   reads (explicit_with d) = λ k b. reads d k b
   reads (explicit_without {s = s} f) = λ k b. pair_of (node_entering s None (nothing_read b (s + 1))) (nothing_read b (s + 1)) (omega arith)
-  reads (key_alone {s = s} {c = c} {x = x} d) = λ k b. pair_of (node_entering s None (reads d (inside_flow c k) b (λ _. k))) (nothing_read b x.finish) (omega arith)
+  reads (key_alone {s = s} {c = c} {x = x} d) = λ k b. pair_of (node_entering s None (reads d (inside_not_block c k) b (λ _. k))) (nothing_read b x.finish) (omega arith)
   reads (key_and_value {s = s} {k = g} {c = c} {cs = cs} d o v) = λ k b.
-      pair_of (node_noting cs (node_entering s (Some g) (reads d (inside_flow c k) b (λ _. k)))) (reads v k b) (omega arith)
+      pair_of (node_noting cs (node_entering s (Some g) (reads d (inside_not_block c k) b (λ _. k)))) (reads v k b) (omega arith)
   reads (value_alone {s = s} {i = i} v) = λ k b. pair_of (node_entering s (Some i) (nothing_read b i)) (reads v k b) (omega arith)
   reads (empty_value {i = i} f e o) = λ k b. nothing_read b (i + 1)
-  reads (a_value {c = c} cs e o s d) = λ k b. node_next cs (reads d (inside_flow c k) b (λ _. k))
+  reads (a_value {c = c} cs e o s d) = λ k b. node_next cs (reads d (inside_not_block c k) b (λ _. k))
   reads (a_key d s o) = λ k b m. reads d k b m
   reads (a_block_scalar {cs = cs} b s d) = node_next cs (block_read d)
   reads (a_block_scalar_with {f = f} {g = g} {cs = cs} {ds = ds} {p = v} b s q r d) =

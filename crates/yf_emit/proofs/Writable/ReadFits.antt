@@ -9,6 +9,7 @@ use Rattle.yf_chars.specs.declared.context.Ctx.TheVariants.{FlowOut, BlockKey}
 use Rattle.yf_lines.specs.Basic.{is_block}
 use Rattle.yf_lines.specs.Steady.{is_steady}
 use Rattle.yf_lines.specs.declared.quotes.Quotes.{Quotes}
+use Rattle.yf_lines.proofs.CoreSteady.{nothing_steady}
 use Rattle.yf_plain.specs.Kept.{is_inside}
 use Rattle.yf_props.specs.Props.{PropsValue, no_props}
 use Rattle.yf_props.specs.Written.{IsProps}
@@ -21,7 +22,7 @@ use Rattle.yf_forms.specs.declared.style.Style.{Style}
 use Rattle.yf_emit.proofs.Writable.FitFlows.{FitFlow, flow_leaf, flow_no_items, flow_no_pairs, flow_sequence, flow_mapping, FitFlowItems, flow_last_item, flow_item, FitFlowPairs, flow_last_pair, flow_pair}
 use Rattle.yf_emit.specs.Layouts.ReadableTrees.{InlineNode, is_inline, FitProps, FitScalar, Fit, fit_nothing, fit_line, fit_scalar, fit_sequence, fit_mapping, FitItems, fit_no_items, fit_item, FitPairs, fit_no_pairs, fit_pair}
 use Rattle.yf_forms.specs.Nodes.OneLineFlows.{may_be_kept, items_may_be_kept, pairs_may_be_kept, scalar_may_be_kept, has_comment}
-use Rattle.yf_forms.specs.NormalForms.Normal.{LayoutSetting, Spot, styled, styled_items, styled_pairs, fits, settled, settled_items, settled_pairs, inner_spot, key_spot, value_spot}
+use Rattle.yf_forms.specs.NormalForms.Normal.{LayoutSetting, Margins, styled, styled_items, styled_pairs, fits, settled, settled_items, settled_pairs, inner_margins, key_margins, value_margins}
 use Rattle.yf_forms.specs.Nodes.OneLine.{spaced, props_text, written}
 use Rattle.yf_emit.proofs.Writable.ReadTrees.{ReadPlain, ReadText, ReadNode, read_nothing, read_props, read_scalar, read_alias, read_sequence, read_mapping, ReadItems, read_no_items, read_item, ReadPairs, read_no_pairs, read_pair}
 use Rattle.yf_forms.specs.Nodes.ScalarStyles.{has_block_content, lines_in, quoted_in, style_in, wanted}
@@ -31,7 +32,6 @@ use Rattle.yf_emit.proofs.Writable.FlowFits.{flow_inline}
 use Rattle.yf_emit.proofs.Writable.LeafFits.{alias_inline, props_inline}
 use Rattle.yf_emit.proofs.Writable.PlainFits.{plain_fits, plain_some}
 use Rattle.yf_emit.proofs.Writable.QuotedFits.{quoted_fits}
-use Rattle.yf_forms.proofs.Decide.ValueLemmas.{nothing_steady}
 
 -- Texts on one line that are not empty.
 
@@ -191,63 +191,63 @@ either : (house : Style) {x y : Node} (b : Bool) → Fit house x → Fit house y
 either house true f g = f
 either house false f g = g
 
-sequence_fit : (t : List ℕ) (s : LayoutSetting) (spot : Spot) {b : Bool} {at : NodeOffsets} {flow : Bool} {p : PropsValue} {x : Node} {xs : Items}
+sequence_fit : (t : List ℕ) (s : LayoutSetting) (margins : Margins) {b : Bool} {at : NodeOffsets} {flow : Bool} {p : PropsValue} {x : Node} {xs : Items}
     → ReadNode b (sequence at flow p (item x xs))
-    → Fit s.style (sequence at false p (item (settled s (inner_spot s.style spot.entries) (styled t s x)) (settled_items s spot.entries (styled_items t s xs))))
-    → Fit s.style (settled s spot (styled t s (sequence at flow p (item x xs))))
-sequence_fit t s spot {b} {at} {flow} {p} {x} {xs} r block = go (may_be_kept t s.comments (sequence at flow p (item x xs))) refl where
+    → Fit s.style (sequence at false p (item (settled s (inner_margins s.style margins.entries) (styled t s x)) (settled_items s margins.entries (styled_items t s xs))))
+    → Fit s.style (settled s margins (styled t s (sequence at flow p (item x xs))))
+sequence_fit t s margins {b} {at} {flow} {p} {x} {xs} r block = go (may_be_kept t s.comments (sequence at flow p (item x xs))) refl where
   in_brackets : Bool → Node
   in_brackets m = sequence at m p (item (styled t s x) (styled_items t s xs))
 
-  go : (m : Bool) → may_be_kept t s.comments (sequence at flow p (item x xs)) ≡ m → Fit s.style (settled s spot (sequence at m p (item (styled t s x) (styled_items t s xs))))
+  go : (m : Bool) → may_be_kept t s.comments (sequence at flow p (item x xs)) ≡ m → Fit s.style (settled s margins (sequence at m p (item (styled t s x) (styled_items t s xs))))
   go true m =
-      either s.style (fits s.style spot.column (in_brackets true))
+      either s.style (fits s.style margins.column (in_brackets true))
       (line_fit s.style refl (spaced_filled (props_text p) _ (filled 91 _)) (subst (λ g. FitFlow s.style FlowOut (in_brackets g)) m (kept t s refl (outside b) r m))
       (subst (λ g. FitFlow s.style BlockKey (in_brackets g)) m (kept t s refl (outside b) r m))) block
   go false m = block
 
-mapping_fit : (t : List ℕ) (s : LayoutSetting) (spot : Spot) {b : Bool} {at : NodeOffsets} {flow : Bool} {p : PropsValue} {k v : Node} {ps : Pairs}
+mapping_fit : (t : List ℕ) (s : LayoutSetting) (margins : Margins) {b : Bool} {at : NodeOffsets} {flow : Bool} {p : PropsValue} {k v : Node} {ps : Pairs}
     → ReadNode b (mapping at flow p (pair k v ps))
-    → Fit s.style (mapping at false p (pair (settled s (key_spot s.style spot.entries (styled t s k)) (styled t s k))
-    (settled s (value_spot s spot.entries (styled t s k) (styled t s v)) (styled t s v)) (settled_pairs s spot.entries (styled_pairs t s ps))))
-    → Fit s.style (settled s spot (styled t s (mapping at flow p (pair k v ps))))
-mapping_fit t s spot {b} {at} {flow} {p} {k} {v} {ps} r block = go (may_be_kept t s.comments (mapping at flow p (pair k v ps))) refl where
+    → Fit s.style (mapping at false p (pair (settled s (key_margins s.style margins.entries (styled t s k)) (styled t s k))
+    (settled s (value_margins s margins.entries (styled t s k) (styled t s v)) (styled t s v)) (settled_pairs s margins.entries (styled_pairs t s ps))))
+    → Fit s.style (settled s margins (styled t s (mapping at flow p (pair k v ps))))
+mapping_fit t s margins {b} {at} {flow} {p} {k} {v} {ps} r block = go (may_be_kept t s.comments (mapping at flow p (pair k v ps))) refl where
   in_brackets : Bool → Node
   in_brackets m = mapping at m p (pair (styled t s k) (styled t s v) (styled_pairs t s ps))
 
   go : (m : Bool) → may_be_kept t s.comments (mapping at flow p (pair k v ps)) ≡ m
-      → Fit s.style (settled s spot (mapping at m p (pair (styled t s k) (styled t s v) (styled_pairs t s ps))))
+      → Fit s.style (settled s margins (mapping at m p (pair (styled t s k) (styled t s v) (styled_pairs t s ps))))
   go true m =
-      either s.style (fits s.style spot.column (in_brackets true))
+      either s.style (fits s.style margins.column (in_brackets true))
       (line_fit s.style refl (spaced_filled (props_text p) _ (filled 123 _)) (subst (λ g. FitFlow s.style FlowOut (in_brackets g)) m (kept t s refl (outside b) r m))
       (subst (λ g. FitFlow s.style BlockKey (in_brackets g)) m (kept t s refl (outside b) r m))) block
   go false m = block
 
 mutual
-  pub read_fits : (t : List ℕ) (s : LayoutSetting) (spot : Spot) {b : Bool} {x : Node} → ReadNode b x → Fit s.style (settled s spot (styled t s x))
-  read_fits t s spot (read_nothing e) = empty_fit s.style (fit_nothing e)
-  read_fits t s spot (read_props e p n) =
+  pub read_fits : (t : List ℕ) (s : LayoutSetting) (margins : Margins) {b : Bool} {x : Node} → ReadNode b x → Fit s.style (settled s margins (styled t s x))
+  read_fits t s margins (read_nothing e) = empty_fit s.style (fit_nothing e)
+  read_fits t s margins (read_props e p n) =
       empty_fit s.style (fit_line refl (props_filled p n) (props_inline s.style refl e p n).node (props_inline s.style refl e p n))
-  read_fits t s spot {b} (read_scalar {style = style} {lines = lines} e f u r) = scalar_fit b lines s.style style e f u r
-  read_fits t s spot (read_alias {name = name} e n) = fit_line refl (filled 42 name) (alias_inline s.style refl e n).node (alias_inline s.style refl e n)
-  read_fits t s spot (read_sequence {p = p} e f read_no_items) =
+  read_fits t s margins {b} (read_scalar {style = style} {lines = lines} e f u r) = scalar_fit b lines s.style style e f u r
+  read_fits t s margins (read_alias {name = name} e n) = fit_line refl (filled 42 name) (alias_inline s.style refl e n).node (alias_inline s.style refl e n)
+  read_fits t s margins (read_sequence {p = p} e f read_no_items) =
       line_fit s.style refl (spaced_filled (props_text p) _ (filled 91 (93 ∷ []))) (flow_no_items e f) (flow_no_items e f)
-  read_fits t s spot (read_sequence e f (read_item a more)) =
-      sequence_fit t s spot (read_sequence e f (read_item a more))
-      (fit_sequence e f (read_fits t s (inner_spot s.style spot.entries) a) (items_fit t s spot.entries more))
-  read_fits t s spot (read_mapping {p = p} e f read_no_pairs) =
+  read_fits t s margins (read_sequence e f (read_item a more)) =
+      sequence_fit t s margins (read_sequence e f (read_item a more))
+      (fit_sequence e f (read_fits t s (inner_margins s.style margins.entries) a) (items_fit t s margins.entries more))
+  read_fits t s margins (read_mapping {p = p} e f read_no_pairs) =
       line_fit s.style refl (spaced_filled (props_text p) _ (filled 123 (125 ∷ []))) (flow_no_pairs e f) (flow_no_pairs e f)
-  read_fits t s spot (read_mapping e f (read_pair {k = k} {v = v} a d more)) =
-      mapping_fit t s spot (read_mapping e f (read_pair a d more))
-      (fit_mapping e f (read_fits t s (key_spot s.style spot.entries (styled t s k)) a)
-      (read_fits t s (value_spot s spot.entries (styled t s k) (styled t s v)) d) (pairs_fit t s spot.entries more))
+  read_fits t s margins (read_mapping e f (read_pair {k = k} {v = v} a d more)) =
+      mapping_fit t s margins (read_mapping e f (read_pair a d more))
+      (fit_mapping e f (read_fits t s (key_margins s.style margins.entries (styled t s k)) a)
+      (read_fits t s (value_margins s margins.entries (styled t s k) (styled t s v)) d) (pairs_fit t s margins.entries more))
 
   items_fit : (t : List ℕ) (s : LayoutSetting) (column : ℕ) {b : Bool} {xs : Items} → ReadItems b xs → FitItems s.style (settled_items s column (styled_items t s xs))
   items_fit t s column read_no_items = fit_no_items
-  items_fit t s column (read_item a more) = fit_item (read_fits t s (inner_spot s.style column) a) (items_fit t s column more)
+  items_fit t s column (read_item a more) = fit_item (read_fits t s (inner_margins s.style column) a) (items_fit t s column more)
 
   pairs_fit : (t : List ℕ) (s : LayoutSetting) (column : ℕ) {b : Bool} {ps : Pairs} → ReadPairs b ps → FitPairs s.style (settled_pairs s column (styled_pairs t s ps))
   pairs_fit t s column read_no_pairs = fit_no_pairs
   pairs_fit t s column (read_pair {k = k} {v = v} a d more) =
-      fit_pair (read_fits t s (key_spot s.style column (styled t s k)) a) (read_fits t s (value_spot s column (styled t s k) (styled t s v)) d)
+      fit_pair (read_fits t s (key_margins s.style column (styled t s k)) a) (read_fits t s (value_margins s column (styled t s k) (styled t s v)) d)
       (pairs_fit t s column more)

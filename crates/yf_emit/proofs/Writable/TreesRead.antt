@@ -17,7 +17,7 @@ use Rattle.yf_stream.specs.Stream.ExplicitNode.{marked_node, marked_nothing}
 use Rattle.yf_stream.proofs.Offsets.ReadingTrees.{TreesMeant, no_trees_meant, tree_meant, reading_is_at}
 use Rattle.yf_stream.proofs.Uniqueness.StreamDocuments.{DocumentsDerived, no_documents_derived, document_derived, stream_derived}
 use Rattle.yf_emit.specs.Layouts.FitDocuments.{FitDirectives, fit_no_directives, FitDocuments, fit_no_documents, fit_document, FitsBare, fits_marked, fits_bare}
-use Rattle.yf_forms.specs.NormalForms.Normal.{LayoutSetting, root_spot, normal_document}
+use Rattle.yf_forms.specs.NormalForms.Normal.{LayoutSetting, root_margins, normal_document}
 use Rattle.yf_emit.proofs.Writable.ReadTrees.{ReadNode, read_nothing, read_props, read_scalar, read_alias, read_sequence, read_mapping, ReadItems, read_no_items, read_item, ReadPairs, read_no_pairs, read_pair}
 use Rattle.yf_emit.proofs.Writable.DirectivesFit.{directives_fit}
 use Rattle.yf_emit.proofs.Writable.ReadDerived.{reads}
@@ -90,7 +90,7 @@ module _ {t : List ℕ} (u : IsUtf8 t) where
   documents_fit s c (document_derived a l more) (tree_meant {x = x} e b others) =
       let d = document_read a in
       let read : ReadNode false x = subst (λ w. ReadNode false w) (same_node d.events e) d.read in
-      fit_document d.directives (read_fits s c (root_spot c.style) (read_alike b read)) (documents_fit s c more others)
+      fit_document d.directives (read_fits s c (root_margins c.style) (read_alike b read)) (documents_fit s c more others)
 
   -- the first of them, where it has no `---`
   first_bare : {h : ℕ} {ds : List Document} {trees : List DocumentTree} (s : List ℕ) (c : LayoutSetting) (b : Bool) → (b ≡ true → first_unmarked ds ≡ true) → DocumentsDerived t h ds → TreesMeant ds trees

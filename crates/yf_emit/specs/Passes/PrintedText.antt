@@ -9,7 +9,8 @@ use Rattle.yf_emit.specs.Layouts.Layout.{IsLayout}
 use Rattle.yf_forms.specs.NormalForms.Measures.{AreMeasures}
 use Rattle.yf_forms.specs.Passes.MeasurePass.{setting}
 use Rattle.yf_emit.specs.NormalForms.NormalForm.{NormalForm}
-use Rattle.yf_print.specs.Passes.PrintPass.{printed, work_of}
+use Rattle.yf_print.specs.Passes.PrintPass.{printed}
+use Rattle.yf_print.specs.Passes.PrintWork.{work_of}
 use Rattle.yf_print.specs.Passes.TrailPass.{all_found}
 
 -- u is the text that is printed of the reading m, where t is the text that was read

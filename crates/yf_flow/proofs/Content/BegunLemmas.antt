@@ -6,6 +6,7 @@ use Rattle.std.specs.Str.{IsCharBoundary}
 use Rattle.yf_chars.specs.declared.context.Ctx.{Ctx}
 use Rattle.yf_chars.specs.Text.{code}
 use Rattle.yf_chars.specs.Chain.{Stuck, Chosen}
+use Rattle.yf_chars.specs.Boundary.{BoundaryFrom}
 use Rattle.yf_events.specs.Event.{EventValue, EventInText}
 use Rattle.yf_props.specs.Props.{props_value}
 use Rattle.yf_events.specs.declared.event.ScalarStyle.TheVariants.{Plain as PlainStyle, Single as SingleStyle, Double as DoubleStyle}
@@ -14,7 +15,7 @@ use Rattle.yf_plain.specs.Plain.{Plain}
 use Rattle.yf_quoted.specs.Quoted.{Piece, text_of, SingleQuoted, DoubleQuoted}
 use Rattle.yf_grammar.specs.Productions.Grammar.{bad_escapes}
 use Rattle.yf_grammar.specs.Productions.Meaning.{scalar, event_with, start_of}
-use Rattle.yf_grammar.specs.FlowReader.Parser.{found, plain_found, begins_content}
+use Rattle.yf_grammar.specs.FlowReader.Parser.{found, begins_content}
 use Rattle.yf_grammar.specs.FlowReader.Parser.Parses.{single_read, single_missed, double_read, double_missed}
 use Rattle.yf_lines.specs.Text.{text_bytes}
 use Rattle.yf_events.specs.declared.event.ScalarStyle.{ScalarStyle}
@@ -25,7 +26,7 @@ use Rattle.yf_flow.specs.declared.node.Begun.{Begun}
 use Rattle.yf_flow.specs.declared.node.Begun.TheVariants.{Leaf}
 use Rattle.yf_flow.specs.declared.node.Lead.{Lead}
 use Rattle.yf_flow.specs.NodeStarts.{ContentAt, content_there, plain_there, LeafAt, leaf_event, lead_event, is_sequence}
-use Rattle.yf_flow.specs.Machine.{BegunAt, BoundaryFrom}
+use Rattle.yf_flow.specs.Machine.{BegunAt}
 use Rattle.yf_flow.specs.NodeOffsets.{Begins, LeafPushed, is_quoted}
 use Rattle.yf_flow.proofs.Ends.Frames.{pushed_longer}
 use Rattle.yf_flow.proofs.Ends.MachineLemmas.{begun_from}
@@ -90,27 +91,27 @@ pub start_event : (lead : Lead) (kind : CollectionKind) (j : ℕ) (old new : Lis
 start_event lead kind j old new e event a b d = rw (sym d, sym b) a
 
 -- a scalar that was added as a node
-pub leaf_begins : {HasBegun : Part → Part → Begun → Type 0} {spot : FlowCursor} {lead : Lead} {style : ScalarStyle} {s : Scalar} {old mid new : Part} (b : Begun) → LeafPushed spot lead style s mid new b
-    → BoundaryFrom spot.scene.text.now (spot.at + 1) s.end → mid.events ≡ old.events → All (IsCharBoundary spot.scene.text.now) mid.escapes
-    → HasBegun old new (Leaf (record { end = s.end; json = is_quoted style; deepest = spot.depth })) → Begins HasBegun spot old new b
-leaf_begins {HasBegun} {spot} {lead} {style} {s} {old} {mid} {new} b p place e es h =
+pub leaf_begins : {HasBegun : Part → Part → Begun → Type 0} {cursor : FlowCursor} {lead : Lead} {style : ScalarStyle} {s : Scalar} {old mid new : Part} (b : Begun) → LeafPushed cursor lead style s mid new b
+    → BoundaryFrom cursor.scene.text.now (cursor.at + 1) s.end → mid.events ≡ old.events → All (IsCharBoundary cursor.scene.text.now) mid.escapes
+    → HasBegun old new (Leaf (record { end = s.end; json = is_quoted style; deepest = cursor.depth })) → Begins HasBegun cursor old new b
+leaf_begins {HasBegun} {cursor} {lead} {style} {s} {old} {mid} {new} b p place e es h =
     let l = pushed_longer mid.events new.events (leaf_event lead style (text_bytes s.text) s.end) p.events in
     let m : length old.events < length new.events = rw e at l in
-    subst (λ z. Begins HasBegun spot old new z) (sym p.leaf) (record {
+    subst (λ z. Begins HasBegun cursor old new z) (sym p.leaf) (record {
       exact = h;
       begun = (place, m);
       grows = omega (arith, m);
-      escapes = subst (λ xs. All (IsCharBoundary spot.scene.text.now) xs) (sym p.escapes) es;
+      escapes = subst (λ xs. All (IsCharBoundary cursor.scene.text.now) xs) (sym p.escapes) es;
     })
 
--- what has begun at a spot further on, after other comments
-pub begins_after : (HasBegun Other : Part → Part → Begun → Type 0) (spot : FlowCursor) (p : ℕ) (old mid new : Part) {E : Type 0} (r : Result Begun E) → IfOk r (Begins Other (record spot { at = p }) mid new)
-    → spot.at ≤ p → mid.events ≡ old.events → ((b : Begun) → Other mid new b → HasBegun old new b) → IfOk r (Begins HasBegun spot old new)
-begins_after HasBegun Other spot p old mid new r h l e f =
-    IfOk-weaker r (Begins Other (record spot { at = p }) mid new) (Begins HasBegun spot old new)
+-- what has begun at a cursor further on, after other comments
+pub begins_after : (HasBegun Other : Part → Part → Begun → Type 0) (cursor : FlowCursor) (p : ℕ) (old mid new : Part) {E : Type 0} (r : Result Begun E) → IfOk r (Begins Other (record cursor { at = p }) mid new)
+    → cursor.at ≤ p → mid.events ≡ old.events → ((b : Begun) → Other mid new b → HasBegun old new b) → IfOk r (Begins HasBegun cursor old new)
+begins_after HasBegun Other cursor p old mid new r h l e f =
+    IfOk-weaker r (Begins Other (record cursor { at = p }) mid new) (Begins HasBegun cursor old new)
     (λ b q. record {
       exact = f b q.exact;
-      begun = begun_from spot.scene.text.now (length old.events) (length new.events) b l (subst (λ es. BegunAt spot.scene.text.now p (length es) (length new.events) b) e q.begun);
+      begun = begun_from cursor.scene.text.now (length old.events) (length new.events) b l (subst (λ es. BegunAt cursor.scene.text.now p (length es) (length new.events) b) e q.begun);
       grows = subst (λ es. length es ≤ length new.events) e q.grows;
       escapes = q.escapes;
     }) h

@@ -3,18 +3,18 @@
 use Rattle.std.proofs.Common.{◌≡◌, ℕ, ◌+◌, ◌<◌, ◌≤◌, ℤ, Bool, true, false, List, [], ◌∷◌, ◌++◌, Option, Some, None, refl, sym, ◌∙◌, arith}
 use Rattle.yf_chars.specs.declared.context.Ctx.{Ctx}
 use Rattle.yf_lines.specs.Basic.{is_block}
-use Rattle.yf_comments.specs.Comment.{CommentValue}
 use Rattle.yf_props.specs.Props.{PropsValue}
 use Rattle.yf_props.proofs.SeparationEnds.{separate_forward}
+use Rattle.yf_plain.specs.Kept.{is_inside}
 use Rattle.yf_events.specs.Event.{EventInText}
 use Rattle.yf_events.specs.declared.event.Entry.{Entry}
 use Rattle.yf_grammar.specs.Productions.Meaning.{◌⊕◌, meaning_after, noting, scalar, alias_to, empty_node, plain_event, collection, with_props, first_with, entering, first_entering}
-use Rattle.yf_grammar.specs.FlowReader.Parser.{ParsedNode, Task, Parses, Gap, ColonAt, found, plain_found, propertied, lone_properties, bracketed, joined, paired, pair_entry, only}
+use Rattle.yf_grammar.specs.FlowReader.Parser.{ParsedNode, Task, Parses, ColonAt, found, plain_found, propertied, lone_properties, bracketed, joined, paired, pair_entry, only}
 use Rattle.yf_grammar.specs.FlowReader.Parser as Parser
 use Rattle.yf_grammar.proofs.FlowReader.FlowStarts.{flow_starts}
 use Rattle.yf_grammar.proofs.Ends.Forward.{whites_forward}
 use Rattle.yf_grammar.proofs.FlowReader.Sound.{sound, found_is_derived}
-use Rattle.yf_grammar.proofs.Ends.WiderLemmas.{is_inside, inside_not_block, in_flow_inside}
+use Rattle.yf_grammar.proofs.Ends.WiderLemmas.{inside_not_block, in_flow_inside}
 use Rattle.yf_chars.proofs.Tests.{none_some}
 use Rattle.yf_grammar.proofs.FlowReader.NodesAnswered.{gap_forward}
 use Rattle.yf_props.proofs.NameOrder.{properties_forward}

@@ -1,5 +1,5 @@
 -- What is found where a node is awaited, from what is found of its properties and its content.
-use Rattle.std.proofs.Common.{◌≡◌, ℕ, ◌+◌, ℤ, Bool, true, false, List, [], ◌∷◌, ◌++◌, length, Option, Some, None, refl, sym, ap, ◌∙◌, subst, arith, true≢false, append_assoc, append-nil, encode_utf8_all, ◌⊎◌, inl, inr, ⊎_elim, ◌==◌}
+use Rattle.std.proofs.Common.{◌≡◌, ℕ, ◌+◌, ℤ, Bool, true, false, List, [], ◌∷◌, ◌++◌, length, Option, Some, None, refl, sym, ap, ◌∙◌, subst, arith, true≢false, append-nil, encode_utf8_all, ◌⊎◌, inl, inr, ⊎_elim, ◌==◌}
 use Rattle.std.proofs.lemmas.Bool.{cases_Bool}
 use Rattle.std.proofs.lemmas.Bool.Decides.{nat_tests}
 use Rattle.yf_chars.specs.declared.context.Ctx.{Ctx}
@@ -22,7 +22,7 @@ use Rattle.yf_grammar.specs.FlowReader.Parser.Parses.{alias_read, alias_missed, 
 use Rattle.yf_grammar.specs.FlowReader.FlowContinuations.{Before, Bare, Propertied, NodeOver, bare_there, properties_there, over}
 use Rattle.yf_grammar.proofs.FlowStack.AwaitEntries.{read_as, found_is}
 use Rattle.yf_grammar.proofs.FlowReader.NodeExact.{lone_is}
-use Rattle.yf_grammar.proofs.FlowReader.PlainEnds.{plain_leaps, is_bar, first_no_bar, no_bar_plain}
+use Rattle.yf_grammar.proofs.FlowReader.PlainEnds.{plain_leaps, first_no_bar, no_bar_plain}
 use Rattle.yf_flow.specs.declared.frame.Frame.{Frame}
 use Rattle.yf_flow.specs.declared.frame.CollectionKind.{CollectionKind}
 use Rattle.yf_flow.specs.declared.frame.CollectionKind.TheVariants.{Sequence, Mapping, Pair}
@@ -267,7 +267,3 @@ module _ {t : List ℕ} {n : ℤ} {c : Ctx} {i g k : ℕ} {p : PropertiesValue} 
   with_begun depth limit old mid new q x y z (Opened f) o = begun_opened f (properties_there d s b) q x y z o
   with_begun depth limit old mid new q x y z Nothing r = no_content (properties_there d s b) (λ e. content_is b (r e))
   with_begun depth limit old mid new q x y z (TooDeep w) f = begun_full w (properties_there d s b) f.0 f.1
-
--- comments after comments
-pub appended : (a p cs b d : List CommentValue) → b ≡ a ++ p → d ≡ b ++ cs → d ≡ a ++ (p ++ cs)
-appended a p cs b d x y = y ∙ ap (λ w. w ++ cs) x ∙ append_assoc a p cs

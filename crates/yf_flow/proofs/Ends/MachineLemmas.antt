@@ -4,12 +4,13 @@ use Rattle.std.proofs.lemmas.List.Elements.{All-pop}
 use Rattle.std.proofs.lemmas.Result.{IfOk-weaker}
 use Rattle.std.specs.List.{All}
 use Rattle.std.specs.Str.{IsCharBoundary}
+use Rattle.yf_chars.specs.Boundary.{BoundaryFrom}
 use Rattle.yf_flow.specs.declared.frame.Frame.{Frame}
 use Rattle.yf_flow.specs.declared.frame.FlowReader.{FlowReader}
 use Rattle.yf_flow.specs.declared.frame.FlowContext.{FlowContext}
 use Rattle.yf_flow.specs.declared.frame.Step.{Step}
 use Rattle.yf_flow.specs.declared.frame.Step.TheVariants.{Node, Entry, Ended, Done, Failed, TooDeep}
-use Rattle.yf_flow.specs.Machine.{BoundaryFrom, EntryIsIn, EntryIsNext, StepReady, BegunAt, EndingAt}
+use Rattle.yf_flow.specs.Machine.{EntryIsIn, EntryIsNext, StepReady, BegunAt, EndingAt}
 use Rattle.yf_events.specs.declared.part.Part.{Part}
 use Rattle.yf_flow.specs.declared.nodes.Ending.{Ending}
 use Rattle.yf_flow.specs.declared.node.Begun.{Begun}

@@ -1,23 +1,17 @@
 -- Events with the notes of their entries filled in: what is done to both lists alike keeps them so.
 use Rattle.std.proofs.Common.{◌≡◌, ℕ, zero, suc, Bool, true, false, List, [], ◌∷◌, ◌++◌, length, ◌≤◌, take, drop, Some, MatchBool, refl, sym, ap, subst, arith, true≢false}
 use Rattle.yf_comments.specs.Comments.{BlankBefore}
-use Rattle.yf_comments.specs.Comments.BlankBefore.{blank_line as line_before, past_gap as gap_before}
 use Rattle.yf_events.specs.Event.{EventValue, EventInText, stream_starts, stream_ends, document_starts, document_ends, sequence_starts, sequence_ends, mapping_starts, mapping_ends, scalar_node, alias_node}
 use Rattle.yf_events.specs.Edit.{edited, ended, coloned, with_colon}
 use Rattle.yf_events.specs.declared.event.ScalarStyle.TheVariants.{Plain, Single, Double, Literal, Folded}
-use Rattle.yf_grammar.specs.Productions.ReadParts.{BlankSince, NotedSince, Noting, floor_after_event}
-use Rattle.yf_grammar.specs.Productions.ReadParts.BlankSince.{blank_line, past_gap}
+use Rattle.yf_grammar.specs.Productions.ReadParts.{NotedSince, Noting, floor_after_event}
 use Rattle.yf_grammar.specs.Productions.ReadParts.NotedSince.{noted, not_noted}
 use Rattle.yf_grammar.specs.Productions.ReadParts.Noting.{no_event, without_entry, with_entry}
-use Rattle.yf_grammar.proofs.Ends.SinceKnown.{since_before}
+use Rattle.yf_grammar.proofs.Ends.SinceKnown.{since_before, since_zero}
 use Rattle.yf_flow.specs.NodeStarts.{is_lined}
 use Rattle.yf_flow.specs.StackMeaning.{NoteOf, entryless, entry_noted, NoteFilled, NotesFilled, no_events, kept_before, event_before}
 
 -- where no block scalar is before, a blank line is met or not
-pub since_zero : {t : List ℕ} {j : ℕ} → BlankBefore t j → BlankSince t 0 j
-since_zero (line_before b k) = blank_line (omega arith) b k
-since_zero (gap_before b e) = past_gap (since_zero b) e
-
 pub note_of : {t : List ℕ} {i : ℕ} (b : Bool) → MatchBool b (BlankBefore t i) (BlankBefore t i → ⊥) → NotedSince t 0 i b
 note_of true b = noted (since_zero b)
 note_of false f = not_noted (λ s. f (since_before s))

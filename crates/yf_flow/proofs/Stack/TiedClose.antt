@@ -2,6 +2,7 @@
 use Rattle.std.proofs.Common.{◌≡◌, ℕ, suc, ◌+◌, ◌<◌, ℤ, Bool, true, false, List, [], ◌∷◌, ◌++◌, length, Some, None, refl, sym, ap, ◌∙◌, subst, arith, append_assoc, append-nil, reverse}
 use Rattle.std.proofs.lemmas.List.{reverse-append}
 use Rattle.yf_chars.specs.declared.context.Ctx.{Ctx}
+use Rattle.yf_chars.proofs.Tests.{no_cons}
 use Rattle.yf_comments.specs.Comment.{CommentValue}
 use Rattle.yf_events.specs.Event.{EventValue, EventInText}
 use Rattle.yf_events.specs.Edit.{edited, ended}
@@ -97,9 +98,6 @@ ended_written {t} {kept} {old} {new} w x begin j event p q a b c =
 
 pub cons_parts : {X : Type 0} {a b : X} {x y : List X} → a ∷ x ≡ b ∷ y → (a ≡ b) × (x ≡ y)
 cons_parts e = (cc, cc)
-
-pub no_cons : {X : Type 0} {b : X} {y : List X} → [] ≡ b ∷ y → ⊥
-no_cons e = cc
 
 pub start_of_node : {t : List ℕ} {n : ℤ} {d : Ctx} {p k : ℕ} {b : Before} → NodeOver t n d p k b → NodeStart b p k
 start_of_node (bare_there q) = refl

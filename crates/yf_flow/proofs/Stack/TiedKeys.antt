@@ -10,7 +10,7 @@ use Rattle.yf_grammar.specs.FlowReader.FlowContinuations.{ValueAwaited}
 use Rattle.yf_grammar.proofs.FlowStack.AwaitValues.{value_after_key}
 use Rattle.yf_flow.specs.declared.frame.Frame.{Frame}
 use Rattle.yf_flow.specs.declared.frame.Node.{Node}
-use Rattle.yf_flow.specs.declared.frame.Role.TheVariants.{Key, Value}
+use Rattle.yf_flow.specs.declared.frame.Role.TheVariants.{Key}
 use Rattle.yf_flow.specs.StepTerms.{FrameWithNode}
 use Rattle.yf_flow.specs.StackMeaning.{first_events, NotesFilled, PartSoFar, in_role, entry_from, written_in, Base, AtEnded, AtValue}
 use Rattle.yf_flow.proofs.Ends.NotedLemmas.{noted_coloned}
@@ -18,6 +18,7 @@ use Rattle.yf_flow.proofs.Stack.TiedEnds.{written_as}
 use Rattle.yf_flow.proofs.Stack.TiedClose.{entry_more}
 use Rattle.yf_flow.proofs.Stack.TiedNodes.{reaching_framed, key_read}
 use Rattle.yf_flow.proofs.Stack.TiedPairKeys.{colon_noted}
+use Rattle.yf_flow.proofs.Ends.EntryNotes.{key_value as key_no_value}
 
 pub key_coloned : {t : List ℕ} {kept : ℕ} {old new : Part} (w x : Meaning) (s v m : ℕ) (cs : List CommentValue) → PartSoFar t kept (w ⊕ entering s None x) old → m ≡ length w.events
     → new.events ≡ edited (coloned v) m old.events → new.comments ≡ old.comments ++ cs → new.escapes ≡ old.escapes → PartSoFar t kept (w ⊕ noting (entering s (Some v) x) cs) new
@@ -30,9 +31,6 @@ key_coloned {t} {kept} {old} {new} w x s v m cs p e a b c =
       comments = b ∙ ap (λ z. z ++ cs) p.comments ∙ append_assoc w.comments x.comments cs;
       escapes = c ∙ p.escapes;
     }
-
-key_no_value : Key ≡ Value → ⊥
-key_no_value e = cc
 
 pub key_value : {t : List ℕ} {n : ℤ} {d : Ctx} {base : Base} {frames : List Frame} {first o : Frame} {node : Node} {k : ℕ} {cs : List CommentValue} {old new : Part}
     → AtEnded t n d base frames first node old → first.role ≡ Key → FrameWithNode first node.deepest o → Gap t n d node.end k cs → ColonAt t node.json d k

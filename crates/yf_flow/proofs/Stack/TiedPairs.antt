@@ -2,6 +2,7 @@
 use Rattle.std.proofs.Common.{◌≡◌, ◌≢◌, ℕ, suc, max, ℤ, Bool, true, false, List, [], ◌∷◌, ◌++◌, length, None, refl, sym, ap, ◌∙◌, subst, arith, append_assoc, append-nil}
 use Rattle.yf_chars.specs.declared.context.Ctx.{Ctx}
 use Rattle.yf_chars.specs.Text.{code}
+use Rattle.yf_chars.proofs.Tests.{no_cons}
 use Rattle.yf_comments.specs.Comment.{CommentValue}
 use Rattle.yf_events.specs.Event.{EventInText, mapping_ends}
 use Rattle.yf_events.specs.Edit.{edited, ended}
@@ -18,7 +19,7 @@ use Rattle.yf_flow.specs.declared.frame.CollectionKind.TheVariants.{Pair}
 use Rattle.yf_flow.specs.NodeStarts.{entry_event}
 use Rattle.yf_flow.specs.StackMeaning.{first_events, PartSoFar, one, pair_event, entries_written, entry_written, kind_of, FramesOfEntry, of_collection, of_pair, Base, Below, AtEntryEnd, AtEntryDone}
 use Rattle.yf_flow.proofs.Stack.TiedEnds.{written_as, written_same}
-use Rattle.yf_flow.proofs.Stack.TiedClose.{ended_written, closed_same, ends_noted, cons_parts, no_cons}
+use Rattle.yf_flow.proofs.Stack.TiedClose.{ended_written, closed_same, ends_noted, cons_parts}
 
 pub kind_no_pair : (sequence : Bool) (kind : CollectionKind) → kind ≡ kind_of sequence → kind ≡ Pair → ⊥
 kind_no_pair true kind e q = cc

@@ -4,7 +4,7 @@ use Rattle.std.proofs.lemmas.List.{length-append, length-replicate}
 use Rattle.yf_events.specs.Event.{EventInText, sequence_starts, sequence_ends, mapping_starts, mapping_ends}
 use Rattle.yf_forms.specs.declared.form.decide.Form.{Form}
 use Rattle.yf_forms.specs.NormalForms.Forms.{Site, site_at, key_site, value_site, forms, forms_of_items, forms_of_pairs, forms_within, no_form, form_of, is_kept_at}
-use Rattle.yf_forms.specs.NormalForms.Normal.{LayoutSetting, styled, styled_items, styled_pairs, inner_spot}
+use Rattle.yf_forms.specs.NormalForms.Normal.{LayoutSetting, styled, styled_items, styled_pairs, inner_margins}
 use Rattle.yf_events.specs.Tree.{Node, scalar, alias, sequence, mapping, Items, no_items, item, Pairs, no_pairs, pair, flat, flat_items, flat_pairs, placed, unplaced}
 
 pub two_counts : {X Y : Type 0} (vs bs : List X) (xs ys : List Y) → length vs ≡ length xs → length bs ≡ length ys → length (vs ++ bs) ≡ length (xs ++ ys)
@@ -41,14 +41,14 @@ mutual
   forms_count c site (scalar at props style text lines) = refl
   forms_count c site (alias at name) = refl
   forms_count c site (sequence at flow props xs) =
-      enclosed_count (form_of c.style site (sequence at flow props xs)) _ (placed at (sequence_starts flow props) []) (unplaced sequence_ends) (flat_items xs) (within_count (is_kept_at c.style site.spot (sequence at flow props xs)) (length (flat_items xs)) _ (items_forms c site.spot.entries xs))
+      enclosed_count (form_of c.style site (sequence at flow props xs)) _ (placed at (sequence_starts flow props) []) (unplaced sequence_ends) (flat_items xs) (within_count (is_kept_at c.style site.margins (sequence at flow props xs)) (length (flat_items xs)) _ (items_forms c site.margins.entries xs))
   forms_count c site (mapping at flow props ps) =
-      enclosed_count (form_of c.style site (mapping at flow props ps)) _ (placed at (mapping_starts flow props) []) (unplaced mapping_ends) (flat_pairs ps) (within_count (is_kept_at c.style site.spot (mapping at flow props ps)) (length (flat_pairs ps)) _ (pairs_forms c site.spot.entries ps))
+      enclosed_count (form_of c.style site (mapping at flow props ps)) _ (placed at (mapping_starts flow props) []) (unplaced mapping_ends) (flat_pairs ps) (within_count (is_kept_at c.style site.margins (mapping at flow props ps)) (length (flat_pairs ps)) _ (pairs_forms c site.margins.entries ps))
 
   pub items_forms : (c : LayoutSetting) (column : ℕ) (xs : Items) → length (forms_of_items c column xs) ≡ length (flat_items xs)
   items_forms c column no_items = refl
   items_forms c column (item x xs) =
-      two_counts (forms c (site_at (inner_spot c.style column)) x) _ (flat x) _ (forms_count c (site_at (inner_spot c.style column)) x) (items_forms c column xs)
+      two_counts (forms c (site_at (inner_margins c.style column)) x) _ (flat x) _ (forms_count c (site_at (inner_margins c.style column)) x) (items_forms c column xs)
 
   pub pairs_forms : (c : LayoutSetting) (column : ℕ) (ps : Pairs) → length (forms_of_pairs c column ps) ≡ length (flat_pairs ps)
   pairs_forms c column no_pairs = refl

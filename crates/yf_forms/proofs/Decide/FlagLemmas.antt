@@ -3,6 +3,7 @@ use Rattle.std.proofs.Common.{◌≡◌, ℕ, zero, suc, ◌+◌, ◌<◌, Bool,
 use Rattle.std.specs.Prelude.{◌||◌, ◌==◌, replicate, if◌then◌else◌}
 use Rattle.std.proofs.lemmas.Bool.{and_parts, cases_Bool}
 use Rattle.std.proofs.lemmas.Bool.Decides.{nat_tests}
+use Rattle.std.proofs.Math.Bool.{or-false}
 use Rattle.yf_props.specs.Props.{PropsValue}
 use Rattle.yf_events.specs.Event.{document_ends}
 use Rattle.yf_events.specs.declared.lists.Lists.{Lists}
@@ -11,7 +12,7 @@ use Rattle.yf_forms.specs.declared.style.Style.{Style}
 use Rattle.yf_forms.specs.NormalForms.Forms.{Site, site_at, key_site, value_site, forms, forms_of_items, forms_of_pairs, forms_within, no_form, document_forms, stream_forms}
 use Rattle.yf_forms.specs.Nodes.ImplicitKeys.{begins_implicit}
 use Rattle.yf_forms.specs.Nodes.SingleAnswers.{keys, keys_of_items, keys_of_pairs, keys_of_documents, block_keys}
-use Rattle.yf_forms.specs.NormalForms.Normal.{LayoutSetting, Spot, root_spot, inner_spot, key_spot, value_spot, is_implicit, fits, settled, settled_items, settled_pairs, styled, normal_document, setting_of}
+use Rattle.yf_forms.specs.NormalForms.Normal.{LayoutSetting, Margins, root_margins, inner_margins, key_margins, value_margins, is_implicit, fits, settled, settled_items, settled_pairs, styled, normal_document, setting_of}
 use Rattle.yf_events.specs.Tree.{NodeOffsets, Node, scalar, alias, sequence, mapping, Items, no_items, item, Pairs, no_pairs, pair, DocumentTree, flat, flat_items, flat_pairs, flat_document, unplaced}
 use Rattle.yf_forms.proofs.Decide.CountLemmas.{two_counts, forms_count}
 use Rattle.yf_forms.proofs.Decide.SettledLemmas.{settled_count, settled_key, settled_value_entries, keys_by_entries}
@@ -28,10 +29,6 @@ any_at j i fs = begins_implicit (flags i fs) j
 pub or_assoc : (a b c : Bool) → ((a || b) || c) ≡ (a || (b || c))
 or_assoc true b c = refl
 or_assoc false b c = refl
-
-or_false : (a : Bool) → (a || false) ≡ a
-or_false true = refl
-or_false false = refl
 
 pub and_false : (a : Bool) → (a && false) ≡ false
 and_false true = refl
@@ -76,7 +73,7 @@ at_index i n [] = refl
 at_index i zero (f ∷ fs) =
     let e : i ≡ i + 0 = omega arith in
     ap (λ b. (b && f.is_implicit) || any_at (i + 0) (i + 1) fs) (same i (i + 0) e) ∙ ap (λ b. f.is_implicit || b) (none_after (i + 0) (i + 1) fs (omega arith))
-    ∙ or_false f.is_implicit
+    ∙ or-false f.is_implicit
 at_index i (suc n) (f ∷ fs) =
     let e : i + suc n ≡ i + 1 + n = omega arith in
     ap (λ b. (b && f.is_implicit) || any_at (i + suc n) (i + 1) fs) (other i n) ∙ ap (λ w. any_at w (i + 1) fs) e ∙ at_index (i + 1) n fs
@@ -95,35 +92,35 @@ open_flags : (j i n : ℕ) (b imp : Bool) (inner : List Form) (own : List (ℕ �
 open_flags j i n true imp inner own e o = absurd cc
 open_flags j i n false imp inner own e o =
     ap (λ w. ((i == j) && imp) || w) (any_join j (i + 1) inner (no_form ∷ []) ∙ ap (λ w. any_at j (i + 1) inner || w) (none_of j (i + 1 + length inner))
-    ∙ or_false (any_at j (i + 1) inner) ∙ o)
+    ∙ or-false (any_at j (i + 1) inner) ∙ o)
 
 -- the flow collection of this flag and form, kept or not: its keys
 
-keys_if : (c : LayoutSetting) (i : ℕ) (spot : Spot) (b : Bool) (x y : Node) → b ≡ true → keys c i spot (if b then x else y) ≡ keys c i spot x
-keys_if c i spot true x y e = refl
-keys_if c i spot false x y e = absurd cc
+keys_if : (c : LayoutSetting) (i : ℕ) (margins : Margins) (b : Bool) (x y : Node) → b ≡ true → keys c i margins (if b then x else y) ≡ keys c i margins x
+keys_if c i margins true x y e = refl
+keys_if c i margins false x y e = absurd cc
 
-keys_if_not : (c : LayoutSetting) (i : ℕ) (spot : Spot) (b : Bool) (x y : Node) → b ≡ false → keys c i spot (if b then x else y) ≡ keys c i spot y
-keys_if_not c i spot true x y e = absurd cc
-keys_if_not c i spot false x y e = refl
+keys_if_not : (c : LayoutSetting) (i : ℕ) (margins : Margins) (b : Bool) (x y : Node) → b ≡ false → keys c i margins (if b then x else y) ≡ keys c i margins y
+keys_if_not c i margins true x y e = absurd cc
+keys_if_not c i margins false x y e = refl
 
-no_keys_in_sequence : (c : LayoutSetting) (i : ℕ) (spot : Spot) (at : NodeOffsets) (flow : Bool) (props : PropsValue) (xs : Items) → flow ≡ true
-    → keys c i spot (sequence at flow props xs) ≡ []
-no_keys_in_sequence c i spot at true props xs e = refl
-no_keys_in_sequence c i spot at false props xs e = absurd cc
+no_keys_in_sequence : (c : LayoutSetting) (i : ℕ) (margins : Margins) (at : NodeOffsets) (flow : Bool) (props : PropsValue) (xs : Items) → flow ≡ true
+    → keys c i margins (sequence at flow props xs) ≡ []
+no_keys_in_sequence c i margins at true props xs e = refl
+no_keys_in_sequence c i margins at false props xs e = absurd cc
 
-no_keys_in_mapping : (c : LayoutSetting) (i : ℕ) (spot : Spot) (at : NodeOffsets) (flow : Bool) (props : PropsValue) (ps : Pairs) → flow ≡ true
-    → keys c i spot (mapping at flow props ps) ≡ []
-no_keys_in_mapping c i spot at true props ps e = refl
-no_keys_in_mapping c i spot at false props ps e = absurd cc
+no_keys_in_mapping : (c : LayoutSetting) (i : ℕ) (margins : Margins) (at : NodeOffsets) (flow : Bool) (props : PropsValue) (ps : Pairs) → flow ≡ true
+    → keys c i margins (mapping at flow props ps) ≡ []
+no_keys_in_mapping c i margins at true props ps e = refl
+no_keys_in_mapping c i margins at false props ps e = absurd cc
 
-no_keys_in_empty_sequence : (c : LayoutSetting) (i : ℕ) (spot : Spot) (at : NodeOffsets) (flow : Bool) (props : PropsValue) → keys c i spot (sequence at flow props no_items) ≡ []
-no_keys_in_empty_sequence c i spot at true props = refl
-no_keys_in_empty_sequence c i spot at false props = refl
+no_keys_in_empty_sequence : (c : LayoutSetting) (i : ℕ) (margins : Margins) (at : NodeOffsets) (flow : Bool) (props : PropsValue) → keys c i margins (sequence at flow props no_items) ≡ []
+no_keys_in_empty_sequence c i margins at true props = refl
+no_keys_in_empty_sequence c i margins at false props = refl
 
-no_keys_in_empty_mapping : (c : LayoutSetting) (i : ℕ) (spot : Spot) (at : NodeOffsets) (flow : Bool) (props : PropsValue) → keys c i spot (mapping at flow props no_pairs) ≡ []
-no_keys_in_empty_mapping c i spot at true props = refl
-no_keys_in_empty_mapping c i spot at false props = refl
+no_keys_in_empty_mapping : (c : LayoutSetting) (i : ℕ) (margins : Margins) (at : NodeOffsets) (flow : Bool) (props : PropsValue) → keys c i margins (mapping at flow props no_pairs) ≡ []
+no_keys_in_empty_mapping c i margins at true props = refl
+no_keys_in_empty_mapping c i margins at false props = refl
 
 leaf_flags : (i j : ℕ) (imp : Bool) (own : List (ℕ × Bool)) → own ≡ [] → (((i == j) && imp) || false) ≡ (((i == j) && imp) || begins_implicit own j)
 leaf_flags i j imp own e = ap (λ w. ((i == j) && imp) || begins_implicit w j) (sym e)
@@ -136,51 +133,51 @@ moved_keys i j f e = ap (λ n. begins_implicit (f (i + n)) j) e
 
 mutual
   pub node_flags : (c : LayoutSetting) (j i : ℕ) (site : Site) (x : Node)
-      → any_at j i (forms c site x) ≡ (((i == j) && site.is_implicit) || begins_implicit (keys c i site.spot (settled c site.spot x)) j)
+      → any_at j i (forms c site x) ≡ (((i == j) && site.is_implicit) || begins_implicit (keys c i site.margins (settled c site.margins x)) j)
   node_flags c j i site (scalar at props style text lines) = refl
   node_flags c j i site (alias at name) = refl
   node_flags c j i site (sequence at flow props no_items) =
-      ap (λ w. ((i == j) && site.is_implicit) || w) (none_of j (i + 1)) ∙ leaf_flags i j site.is_implicit _ (no_keys_in_empty_sequence c i site.spot at flow props)
+      ap (λ w. ((i == j) && site.is_implicit) || w) (none_of j (i + 1)) ∙ leaf_flags i j site.is_implicit _ (no_keys_in_empty_sequence c i site.margins at flow props)
   node_flags c j i site (sequence at flow props (item x xs)) =
       let v : Node = sequence at flow props (item x xs) in
-      let w : Node = sequence at false props (settled_items c site.spot.entries (item x xs)) in
-      let b : Bool = flow && fits c.style site.spot.column v in
+      let w : Node = sequence at false props (settled_items c site.margins.entries (item x xs)) in
+      let b : Bool = flow && fits c.style site.margins.column v in
       let n : ℕ = length (flat_items (item x xs)) in
-      let inner : List Form = forms_of_items c site.spot.entries (item x xs) in
-      let own : List (ℕ × Bool) = keys c i site.spot (settled c site.spot v) in
-      let items : any_at j (i + 1) inner ≡ begins_implicit (keys_of_items c (i + 1) site.spot.entries (settled_items c site.spot.entries (item x xs))) j =
-      items_flags c j (i + 1) site.spot.entries (item x xs) in
+      let inner : List Form = forms_of_items c site.margins.entries (item x xs) in
+      let own : List (ℕ × Bool) = keys c i site.margins (settled c site.margins v) in
+      let items : any_at j (i + 1) inner ≡ begins_implicit (keys_of_items c (i + 1) site.margins.entries (settled_items c site.margins.entries (item x xs))) j =
+      items_flags c j (i + 1) site.margins.entries (item x xs) in
       ⊎_elim (λ (e : b ≡ true). kept_flags j i n b site.is_implicit inner own e
-      (keys_if c i site.spot b v w e ∙ no_keys_in_sequence c i site.spot at flow props (item x xs) (and_parts flow (fits c.style site.spot.column v) e).0))
-      (λ (e : b ≡ false). open_flags j i n b site.is_implicit inner own e (items ∙ ap (λ w. begins_implicit w j) (sym (keys_if_not c i site.spot b v w e)))) (cases_Bool b)
+      (keys_if c i site.margins b v w e ∙ no_keys_in_sequence c i site.margins at flow props (item x xs) (and_parts flow (fits c.style site.margins.column v) e).0))
+      (λ (e : b ≡ false). open_flags j i n b site.is_implicit inner own e (items ∙ ap (λ w. begins_implicit w j) (sym (keys_if_not c i site.margins b v w e)))) (cases_Bool b)
   node_flags c j i site (mapping at flow props no_pairs) =
-      ap (λ w. ((i == j) && site.is_implicit) || w) (none_of j (i + 1)) ∙ leaf_flags i j site.is_implicit _ (no_keys_in_empty_mapping c i site.spot at flow props)
+      ap (λ w. ((i == j) && site.is_implicit) || w) (none_of j (i + 1)) ∙ leaf_flags i j site.is_implicit _ (no_keys_in_empty_mapping c i site.margins at flow props)
   node_flags c j i site (mapping at flow props (pair k x ps)) =
       let v : Node = mapping at flow props (pair k x ps) in
-      let w : Node = mapping at false props (settled_pairs c site.spot.entries (pair k x ps)) in
-      let b : Bool = flow && fits c.style site.spot.column v in
+      let w : Node = mapping at false props (settled_pairs c site.margins.entries (pair k x ps)) in
+      let b : Bool = flow && fits c.style site.margins.column v in
       let n : ℕ = length (flat_pairs (pair k x ps)) in
-      let inner : List Form = forms_of_pairs c site.spot.entries (pair k x ps) in
-      let own : List (ℕ × Bool) = keys c i site.spot (settled c site.spot v) in
-      let pairs : any_at j (i + 1) inner ≡ begins_implicit (keys_of_pairs c (i + 1) site.spot.entries (settled_pairs c site.spot.entries (pair k x ps))) j =
-      pairs_flags c j (i + 1) site.spot.entries (pair k x ps) in
+      let inner : List Form = forms_of_pairs c site.margins.entries (pair k x ps) in
+      let own : List (ℕ × Bool) = keys c i site.margins (settled c site.margins v) in
+      let pairs : any_at j (i + 1) inner ≡ begins_implicit (keys_of_pairs c (i + 1) site.margins.entries (settled_pairs c site.margins.entries (pair k x ps))) j =
+      pairs_flags c j (i + 1) site.margins.entries (pair k x ps) in
       ⊎_elim (λ (e : b ≡ true). kept_flags j i n b site.is_implicit inner own e
-      (keys_if c i site.spot b v w e ∙ no_keys_in_mapping c i site.spot at flow props (pair k x ps) (and_parts flow (fits c.style site.spot.column v) e).0))
-      (λ (e : b ≡ false). open_flags j i n b site.is_implicit inner own e (pairs ∙ ap (λ w. begins_implicit w j) (sym (keys_if_not c i site.spot b v w e)))) (cases_Bool b)
+      (keys_if c i site.margins b v w e ∙ no_keys_in_mapping c i site.margins at flow props (pair k x ps) (and_parts flow (fits c.style site.margins.column v) e).0))
+      (λ (e : b ≡ false). open_flags j i n b site.is_implicit inner own e (pairs ∙ ap (λ w. begins_implicit w j) (sym (keys_if_not c i site.margins b v w e)))) (cases_Bool b)
 
   items_flags : (c : LayoutSetting) (j i column : ℕ) (xs : Items)
       → any_at j i (forms_of_items c column xs) ≡ begins_implicit (keys_of_items c i column (settled_items c column xs)) j
   items_flags c j i column no_items = refl
   items_flags c j i column (item x xs) =
-      let site : Site = site_at (inner_spot c.style column) in
-      let y : Node = settled c (inner_spot c.style column) x in
+      let site : Site = site_at (inner_margins c.style column) in
+      let y : Node = settled c (inner_margins c.style column) x in
       let ys : Items = settled_items c column xs in
       let fs : List Form = forms c site x in
-      let long : length fs ≡ length (flat y) = forms_count c site x ∙ sym (settled_count c (inner_spot c.style column) x) in
+      let long : length fs ≡ length (flat y) = forms_count c site x ∙ sym (settled_count c (inner_margins c.style column) x) in
       any_join j i fs (forms_of_items c column xs)
-      ∙ same_parts (node_flags c j i site x ∙ ap (λ b. b || begins_implicit (keys c i (inner_spot c.style column) y) j) (and_false (i == j)))
+      ∙ same_parts (node_flags c j i site x ∙ ap (λ b. b || begins_implicit (keys c i (inner_margins c.style column) y) j) (and_false (i == j)))
       (items_flags c j (i + length fs) column xs ∙ moved_keys i j (λ n. keys_of_items c n column ys) long)
-      ∙ sym (joined (keys c i (inner_spot c.style column) y) (keys_of_items c (i + length (flat y)) column ys) j)
+      ∙ sym (joined (keys c i (inner_margins c.style column) y) (keys_of_items c (i + length (flat y)) column ys) j)
 
   pairs_flags : (c : LayoutSetting) (j i column : ℕ) (ps : Pairs)
       → any_at j i (forms_of_pairs c column ps) ≡ begins_implicit (keys_of_pairs c i column (settled_pairs c column ps)) j
@@ -188,25 +185,25 @@ mutual
   pairs_flags c j i column (pair k v ps) =
       let at_key : Site = key_site c.style column k in
       let at_value : Site = value_site c column k v in
-      let l : Node = settled c (key_spot c.style column k) k in
-      let w : Node = settled c (value_spot c column k v) v in
+      let l : Node = settled c (key_margins c.style column k) k in
+      let w : Node = settled c (value_margins c column k v) v in
       let qs : Pairs = settled_pairs c column ps in
       let fk : List Form = forms c at_key k in
       let fv : List Form = forms c at_value v in
       let gs : List Form = forms_of_pairs c column ps in
-      let nk : length fk ≡ length (flat l) = forms_count c at_key k ∙ sym (settled_count c (key_spot c.style column k) k) in
-      let nv : length fv ≡ length (flat w) = forms_count c at_value v ∙ sym (settled_count c (value_spot c column k v) v) in
-      let of_key : List (ℕ × Bool) = keys c i (key_spot c.style column l) l in
-      let of_value : List (ℕ × Bool) = keys c (i + length (flat l)) (value_spot c column l w) w in
+      let nk : length fk ≡ length (flat l) = forms_count c at_key k ∙ sym (settled_count c (key_margins c.style column k) k) in
+      let nv : length fv ≡ length (flat w) = forms_count c at_value v ∙ sym (settled_count c (value_margins c column k v) v) in
+      let of_key : List (ℕ × Bool) = keys c i (key_margins c.style column l) l in
+      let of_value : List (ℕ × Bool) = keys c (i + length (flat l)) (value_margins c column l w) w in
       let others : List (ℕ × Bool) = keys_of_pairs c (i + length (flat l) + length (flat w)) column qs in
       let a : any_at j i fk ≡ (((i == j) && is_implicit c.style column l) || begins_implicit of_key j) =
-      node_flags c j i at_key k ∙ ap (λ b. ((i == j) && b) || begins_implicit (keys c i (key_spot c.style column k) l) j) (sym (settled_key c column k))
-      ∙ ap (λ w. ((i == j) && is_implicit c.style column l) || begins_implicit w j) (keys_by_entries c i (key_spot c.style column k) (key_spot c.style column l) l refl) in
+      node_flags c j i at_key k ∙ ap (λ b. ((i == j) && b) || begins_implicit (keys c i (key_margins c.style column k) l) j) (sym (settled_key c column k))
+      ∙ ap (λ w. ((i == j) && is_implicit c.style column l) || begins_implicit w j) (keys_by_entries c i (key_margins c.style column k) (key_margins c.style column l) l refl) in
       let b : any_at j (i + length fk) fv ≡ begins_implicit of_value j =
       node_flags c j (i + length fk) at_value v
-      ∙ ap (λ b. b || begins_implicit (keys c (i + length fk) (value_spot c column k v) w) j) (and_false (i + length fk == j))
-      ∙ moved_keys i j (λ n. keys c n (value_spot c column k v) w) nk
-      ∙ ap (λ w. begins_implicit w j) (keys_by_entries c (i + length (flat l)) (value_spot c column k v) (value_spot c column l w) w (sym (settled_value_entries c column k v))) in
+      ∙ ap (λ b. b || begins_implicit (keys c (i + length fk) (value_margins c column k v) w) j) (and_false (i + length fk == j))
+      ∙ moved_keys i j (λ n. keys c n (value_margins c column k v) w) nk
+      ∙ ap (λ w. begins_implicit w j) (keys_by_entries c (i + length (flat l)) (value_margins c column k v) (value_margins c column l w) w (sym (settled_value_entries c column k v))) in
       let d : any_at j (i + length fk + length fv) gs ≡ begins_implicit others j =
       pairs_flags c j (i + length fk + length fv) column ps ∙ ap (λ n. begins_implicit (keys_of_pairs c (i + n + length fv) column qs) j) nk
       ∙ moved_keys (i + length (flat l)) j (λ n. keys_of_pairs c n column qs) nv in
@@ -220,20 +217,20 @@ mutual
 -- documents
 
 document_flags : (t : List ℕ) (c : LayoutSetting) (j i : ℕ) (d : DocumentTree)
-    → any_at j i (document_forms t c c d) ≡ begins_implicit (keys c (i + 1) (root_spot c.style) (normal_document t c d).root) j
+    → any_at j i (document_forms t c c d) ≡ begins_implicit (keys c (i + 1) (root_margins c.style) (normal_document t c d).root) j
 document_flags t c j i d =
-    let site : Site = site_at (root_spot c.style) in
+    let site : Site = site_at (root_margins c.style) in
     let fs : List Form = forms c site (styled t c d.root) in
-    let own : List (ℕ × Bool) = keys c (i + 1) (root_spot c.style) (settled c (root_spot c.style) (styled t c d.root)) in
+    let own : List (ℕ × Bool) = keys c (i + 1) (root_margins c.style) (settled c (root_margins c.style) (styled t c d.root)) in
     ap (λ w. w || any_at j (i + 1) (fs ++ (no_form ∷ []))) (and_false (i == j))
-    ∙ any_join j (i + 1) fs (no_form ∷ []) ∙ ap (λ w. any_at j (i + 1) fs || w) (none_of j (i + 1 + length fs)) ∙ or_false (any_at j (i + 1) fs)
+    ∙ any_join j (i + 1) fs (no_form ∷ []) ∙ ap (λ w. any_at j (i + 1) fs || w) (none_of j (i + 1 + length fs)) ∙ or-false (any_at j (i + 1) fs)
     ∙ node_flags c j (i + 1) site (styled t c d.root) ∙ ap (λ w. w || begins_implicit own j) (and_false (i + 1 == j))
 
 document_long : (t : List ℕ) (c : LayoutSetting) (d : DocumentTree) → length (document_forms t c c d) ≡ length (flat_document (normal_document t c d))
 document_long t c d =
-    let site : Site = site_at (root_spot c.style) in
-    let a = forms_count c site (styled t c d.root) ∙ sym (settled_count c (root_spot c.style) (styled t c d.root)) in
-    ap suc (two_counts (forms c site (styled t c d.root)) (no_form ∷ []) (flat (settled c (root_spot c.style) (styled t c d.root))) (unplaced (document_ends d.closed) ∷ []) a refl)
+    let site : Site = site_at (root_margins c.style) in
+    let a = forms_count c site (styled t c d.root) ∙ sym (settled_count c (root_margins c.style) (styled t c d.root)) in
+    ap suc (two_counts (forms c site (styled t c d.root)) (no_form ∷ []) (flat (settled c (root_margins c.style) (styled t c d.root))) (unplaced (document_ends d.closed) ∷ []) a refl)
 
 documents_flags : (t : List ℕ) (c : LayoutSetting) (j i : ℕ) (ds : List DocumentTree)
     → any_at j i (flat_map (document_forms t c c) ds) ≡ begins_implicit (keys_of_documents c i (map (normal_document t c) ds)) j
@@ -244,7 +241,7 @@ documents_flags t c j i (d ∷ ds) =
     any_join j i fs (flat_map (document_forms t c c) ds)
     ∙ same_parts (document_flags t c j i d)
     (documents_flags t c j (i + length fs) ds ∙ moved_keys i j (λ n. keys_of_documents c n (map (normal_document t c) ds)) (document_long t c d))
-    ∙ sym (joined (keys c (i + 1) (root_spot c.style) n.root) (keys_of_documents c (i + length (flat_document n)) (map (normal_document t c) ds)) j)
+    ∙ sym (joined (keys c (i + 1) (root_margins c.style) n.root) (keys_of_documents c (i + length (flat_document n)) (map (normal_document t c) ds)) j)
 
 -- the form at an index is of an implicit key exactly where the normal form has one there
 pub implicit_there : (t : List ℕ) (r : Lists) (s : Style) (ds : List DocumentTree) (i : ℕ)
@@ -255,5 +252,5 @@ implicit_there t r s ds i =
     let zero_is : 0 + i ≡ i = omega arith in
     sym (at_index 0 i (stream_forms t c c ds)) ∙ ap (λ n. any_at n 0 (stream_forms t c c ds)) zero_is
     ∙ ap (λ w. w || any_at i 1 (fs ++ (no_form ∷ []))) (and_false (0 == i))
-    ∙ any_join i 1 fs (no_form ∷ []) ∙ ap (λ w. any_at i 1 fs || w) (none_of i (1 + length fs)) ∙ or_false (any_at i 1 fs)
+    ∙ any_join i 1 fs (no_form ∷ []) ∙ ap (λ w. any_at i 1 fs || w) (none_of i (1 + length fs)) ∙ or-false (any_at i 1 fs)
     ∙ documents_flags t c i 1 ds

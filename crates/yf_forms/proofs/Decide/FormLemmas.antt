@@ -15,7 +15,7 @@ use Rattle.yf_forms.specs.Passes.DecidePass as Deciding
 use Rattle.yf_forms.specs.Passes.DecidePass.{DecideInput, given, DecideState, state, next, pass, past, node, after_node, is_leaf_at, is_whole, next_place, next_stack, key_of, may_be_implicit}
 use Rattle.yf_forms.specs.NormalForms.Forms.{Site, site_at, key_site, value_site, forms, forms_of_items, forms_of_pairs, no_form, form_of, forms_within, is_kept_at, is_placed, items_are_placed, pairs_are_placed}
 use Rattle.yf_forms.specs.NormalForms.Measures.{AreMeasures, measure_of, up_to_greatest, no_measure, leaf_indices, first_of}
-use Rattle.yf_forms.specs.NormalForms.Normal.{LayoutSetting, styled, styled_items, styled_pairs, inner_spot}
+use Rattle.yf_forms.specs.NormalForms.Normal.{LayoutSetting, styled, styled_items, styled_pairs, inner_margins}
 use Rattle.yf_events.specs.Tree.{NodeOffsets, Node, scalar, alias, sequence, mapping, Items, no_items, item, Pairs, no_pairs, pair, flat, flat_items, flat_pairs, placed, unplaced, is_text}
 use Rattle.yf_forms.proofs.Decide.AmongLemmas.{Among, node_at, front, back, after_first}
 use Rattle.yf_forms.proofs.Decide.LeafLemmas.{is_own_leaf}
@@ -89,7 +89,7 @@ past_node g (sequence at flow props items) i m list stack = refl
 past_node g (mapping at flow props pairs) i m list stack = refl
 
 abbrev level_at : Known → Site → Node → LayoutFrame
-level_at k site x = record { is_map = is_map x; column = up_to_greatest site.spot.entries; key = None }
+level_at k site x = record { is_map = is_map x; column = up_to_greatest site.margins.entries; key = None }
 
 -- at its site, where the stack after it is that one
 pub record AtSite (k : Known) (x : Node) (i : ℕ) (stack follows : List LayoutFrame) (site : Site) : Type 0 where
@@ -100,25 +100,25 @@ begun : (k : Known) (x : Node) (p : ℕ) (list : List Form) (stack follows : Lis
     → length list ≡ suc p → AtSite k x (suc p) stack follows site
     → next (given_of k) k.measures (event_of x) (state list stack p)
     ≡ after_node (suc p) (measure_of k.text (by_of k) (suc p) x) (is_map x) (level_at k site x) (list ++ form_of k.setting.style site (styled k.text (by_of k) x) ∷ []) follows
-    (is_whole (suc p) (measure_of k.text (by_of k) (suc p) x) (is_kept_at k.setting.style site.spot (styled k.text (by_of k) x)))
+    (is_whole (suc p) (measure_of k.text (by_of k) (suc p) x) (is_kept_at k.setting.style site.margins (styled k.text (by_of k) x)))
 begun k x p list stack follows site a l s =
     let g : DecideInput = given_of k in
     let m : Measure = measure_of k.text (by_of k) (suc p) x in
-    let kept = is_kept_there k.text (by_of k) site.spot (suc p) x in
+    let kept = is_kept_there k.text (by_of k) site.margins (suc p) x in
     looked_at g k.measures (event_of x) (suc p) list stack p (omega arith) l
     ∙ ap (λ w. past g (event_of x) (suc p) w list stack) (get_or_from_slice_get k.measures (suc p) m no_measure (k.measured.each (suc p) x (node_at x a)))
     ∙ past_node g x (suc p) m list stack
     ∙ ap (λ w. Deciding.node_at g (suc p) m (is_map x) w list (next_stack g (event_of x) (suc p) m stack)) s.place
     ∙ ap (λ w. Deciding.node_at g (suc p) m (is_map x) (place_of site) list w) s.stack_is
     ∙ ap (λ b. after_node (suc p) m (is_map x) (level_at k site x)
-    (list ++ record { is_kept = b; is_implicit = site.is_implicit; key_comment = site.key_comment; column = up_to_greatest site.spot.entries } ∷ []) follows (is_whole (suc p) m b)) kept
+    (list ++ record { is_kept = b; is_implicit = site.is_implicit; key_comment = site.key_comment; column = up_to_greatest site.margins.entries } ∷ []) follows (is_whole (suc p) m b)) kept
 
 -- the form of a node at its site
 abbrev form_there : Known → Site → Node → Form
 form_there k site x = form_of k.setting.style site (styled k.text (by_of k) x)
 
 abbrev is_kept_in : Known → Site → Node → Bool
-is_kept_in k site x = is_kept_at k.setting.style site.spot (styled k.text (by_of k) x)
+is_kept_in k site x = is_kept_at k.setting.style site.margins (styled k.text (by_of k) x)
 
 begun_whole : (k : Known) (x : Node) (p done : ℕ) (list : List Form) (stack follows : List LayoutFrame) (site : Site) → Among k.events (flat x) (suc p)
     → length list ≡ suc p → AtSite k x (suc p) stack follows site → is_whole (suc p) (measure_of k.text (by_of k) (suc p) x) (is_kept_in k site x) ≡ true
@@ -284,29 +284,29 @@ mutual
   node_passed k p list stack follows site (sequence at flow props (item x xs)) rest h a l s =
       let whole : Node = sequence at flow props (item x xs) in
       let ys : List EventInText = flat_items (item x xs) in
-      let inner : List Form = forms_of_items k.setting site.spot.entries (styled_items k.text (by_of k) (item x xs)) in
+      let inner : List Form = forms_of_items k.setting site.margins.entries (styled_items k.text (by_of k) (item x xs)) in
       let first : List Form = list ++ form_there k site whole ∷ [] in
       let one : length first ≡ suc (suc p) = let e = length-append list (form_there k site whole ∷ []) in omega (arith, e, l) in
       let next_to : suc p + 1 ≡ suc (suc p) = omega arith in
       let within = front ys (unplaced sequence_ends ∷ []) (after_first _ (ys ++ (unplaced sequence_ends ∷ [])) a) in
       collection_passed k whole ys _ (unplaced sequence_ends) (length (flat_items (styled_items k.text (by_of k) (item x xs)))) p list inner stack follows site rest
       (sequence_is k at flow props x xs h) (items_count k.text (by_of k) (item x xs))
-      (items_forms k.setting site.spot.entries (styled_items k.text (by_of k) (item x xs)) ∙ items_count k.text (by_of k) (item x xs)) a l s
-      (items_passed k (suc p) first follows site.spot.entries (item x xs) (unplaced sequence_ends ∷ rest) h (subst (λ i. Among k.events ys i) next_to within) one)
+      (items_forms k.setting site.margins.entries (styled_items k.text (by_of k) (item x xs)) ∙ items_count k.text (by_of k) (item x xs)) a l s
+      (items_passed k (suc p) first follows site.margins.entries (item x xs) (unplaced sequence_ends ∷ rest) h (subst (λ i. Among k.events ys i) next_to within) one)
   node_passed k p list stack follows site (mapping at flow props no_pairs) rest h a l s =
       empty_passed k (mapping at flow props no_pairs) _ _ p list stack follows site rest refl refl h h a l s
   node_passed k p list stack follows site (mapping at flow props (pair x y ps)) rest h a l s =
       let whole : Node = mapping at flow props (pair x y ps) in
       let ys : List EventInText = flat_pairs (pair x y ps) in
-      let inner : List Form = forms_of_pairs k.setting site.spot.entries (styled_pairs k.text (by_of k) (pair x y ps)) in
+      let inner : List Form = forms_of_pairs k.setting site.margins.entries (styled_pairs k.text (by_of k) (pair x y ps)) in
       let first : List Form = list ++ form_there k site whole ∷ [] in
       let one : length first ≡ suc (suc p) = let e = length-append list (form_there k site whole ∷ []) in omega (arith, e, l) in
       let next_to : suc p + 1 ≡ suc (suc p) = omega arith in
       let within = front ys (unplaced mapping_ends ∷ []) (after_first _ (ys ++ (unplaced mapping_ends ∷ [])) a) in
       collection_passed k whole ys _ (unplaced mapping_ends) (length (flat_pairs (styled_pairs k.text (by_of k) (pair x y ps)))) p list inner stack follows site rest
       (mapping_is k at flow props x y ps h) (pairs_count k.text (by_of k) (pair x y ps))
-      (pairs_forms k.setting site.spot.entries (styled_pairs k.text (by_of k) (pair x y ps)) ∙ pairs_count k.text (by_of k) (pair x y ps)) a l s
-      (pairs_passed k (suc p) first follows site.spot.entries (pair x y ps) (unplaced mapping_ends ∷ rest) h (subst (λ i. Among k.events ys i) next_to within) one)
+      (pairs_forms k.setting site.margins.entries (styled_pairs k.text (by_of k) (pair x y ps)) ∙ pairs_count k.text (by_of k) (pair x y ps)) a l s
+      (pairs_passed k (suc p) first follows site.margins.entries (pair x y ps) (unplaced mapping_ends ∷ rest) h (subst (λ i. Among k.events ys i) next_to within) one)
 
   items_passed : (k : Known) (p : ℕ) (list : List Form) (others : List LayoutFrame) (column : ℕ) (xs : Items) (rest : List EventInText)
       → items_are_placed xs ≡ true → Among k.events (flat_items xs) (suc p) → length list ≡ suc p
@@ -317,7 +317,7 @@ mutual
       ap (λ w. run k rest (state w (level false column None ∷ others) p)) (sym (append-nil list))
       ∙ ap (λ n. run k rest (state (list ++ []) (level false column None ∷ others) n)) done
   items_passed k p list others column (item x xs) rest h a l =
-      let site : Site = site_at (inner_spot k.setting.style column) in
+      let site : Site = site_at (inner_margins k.setting.style column) in
       let fs : List Form = forms k.setting site (styled k.text (by_of k) x) in
       let gs : List Form = forms_of_items k.setting column (styled_items k.text (by_of k) xs) in
       let stack : List LayoutFrame = level false column None ∷ others in

@@ -5,6 +5,7 @@ use Rattle.std.proofs.lemmas.Bool.Decides.{nat_tests}
 use Rattle.std.proofs.lemmas.List.{get_or-map, length-map}
 use Rattle.std.specs.List.Sorted.{IsPartitionPoint}
 use Rattle.std.specs.Prelude.{is_some}
+use Rattle.yf_chars.proofs.Tests.{is_less}
 use Rattle.yf_comments.specs.declared.comment.Comment.{Comment}
 use Rattle.yf_forms.specs.Passes.Halving.{Halves, none_left, after_middle, before_middle, HalvesBetween, found, not_found, middle}
 use Rattle.yf_forms.specs.Passes.Searches.{TellsHalving}
@@ -42,9 +43,6 @@ ends_at (suc width) os x low high r w l a b f g =
     (λ (n : high ≤ low). let e : low ≡ r = omega arith in subst (λ z. Halves os x low high z) e (none_left n))
     (cases_lt low high)
 
-pub smaller : (a b : ℕ) → nat_lt a b ≡ true → a < b
-smaller a b e = grind (arith, nat_tests)
-
 pub not_smaller : (a b : ℕ) → nat_lt a b ≡ false → b ≤ a
 not_smaller a b e = grind (arith, nat_tests)
 
@@ -55,7 +53,7 @@ ends_at_point [] x r l p = let e : 0 ≡ r = omega arith in subst (λ z. Halves 
 ends_at_point (d ∷ ds) x r l p =
     let e : length (map (λ (c : Comment). c.offset) (d ∷ ds)) ≡ length (d ∷ ds) = length-map (d ∷ ds) (λ (c : Comment). c.offset) in
     ends_at (length (d ∷ ds)) (map (λ (c : Comment). c.offset) (d ∷ ds)) x 0 (length (d ∷ ds)) r (omega arith) (omega arith) (omega arith) l
-    (λ k b. below k (omega arith) (smaller (get_or (d ∷ ds) k d).offset x (p.0 k d (omega arith) b)))
+    (λ k b. below k (omega arith) (is_less (get_or (d ∷ ds) k d).offset x (p.0 k d (omega arith) b)))
     (λ k a b. above k (omega arith) (not_smaller (get_or (d ∷ ds) k d).offset x (p.1 k d a (omega arith)))) where
       below : (k : ℕ) → k < length (d ∷ ds) → (get_or (d ∷ ds) k d).offset < x → slice_index (map (λ (c : Comment). c.offset) (d ∷ ds)) k < x
       below k l b = let e = offset_at (d ∷ ds) k d l in omega arith

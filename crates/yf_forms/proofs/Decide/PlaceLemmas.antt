@@ -14,7 +14,7 @@ use Rattle.yf_forms.specs.Passes.DecidePass.{DecideInput, given, further, has_ro
 use Rattle.yf_forms.specs.NormalForms.Forms.{Site, site_at, key_site, value_site, key_comment_index, index_between, is_placed}
 use Rattle.yf_forms.specs.NormalForms.Measures.{up_to_greatest, width_if, is_one_line, measure_of, leaf_indices, first_of}
 use Rattle.yf_forms.specs.NormalForms.Normal as Normal
-use Rattle.yf_forms.specs.NormalForms.Normal.{LayoutSetting, Spot, inner_spot, key_spot, value_spot, is_implicit, styled, fits, settled, key_comment}
+use Rattle.yf_forms.specs.NormalForms.Normal.{LayoutSetting, Margins, inner_margins, key_margins, value_margins, is_implicit, styled, fits, settled, key_comment}
 use Rattle.yf_forms.specs.Nodes.OneLine.{width, written, colon_after}
 use Rattle.yf_events.specs.Tree.{Node, scalar, alias, sequence, mapping, no_items, item, no_pairs, pair, flat, leaves, is_text, is_filled_flow}
 use Rattle.yf_forms.proofs.Decide.AmongLemmas.{Among}
@@ -25,8 +25,8 @@ use Rattle.yf_forms.proofs.Decide.ValueLemmas.{event_of, styled_text, styled_seq
 -- a site in numbers that are cut
 abbrev pub place_of : Site → LayoutContext
 place_of site = record {
-  column = up_to_greatest site.spot.column;
-  entries = up_to_greatest site.spot.entries;
+  column = up_to_greatest site.margins.column;
+  entries = up_to_greatest site.margins.entries;
   is_implicit = site.is_implicit;
   key_comment = site.key_comment;
 }
@@ -49,37 +49,37 @@ where_it_fits cs k v w false false j e n s = sym n
 where_it_fits cs k v w true false j e n s = absurd cc
 where_it_fits cs k v w false true j e n s = absurd cc
 
-pub settled_comment : (c : LayoutSetting) (k v : Node) (spot : Spot) (j : ℕ) → key_comment_index c.comments k v ≡ Some j
-    → comment_if (is_text v || has_room c.style (up_to_greatest spot.column) (width_if (is_one_line v) (written c.style v))) j
-    ≡ key_comment_index c.comments k (settled c spot v)
-settled_comment c k (scalar at props style text lines) spot j e = as_it_is c.comments k (scalar at props style text lines) _ j refl e
-settled_comment c k (alias at name) spot j e = as_it_is c.comments k (alias at name) _ j refl e
-settled_comment c k (sequence at flow props no_items) spot j e = as_it_is c.comments k (sequence at flow props no_items) _ j refl e
-settled_comment c k (sequence at true props (item x xs)) spot j e =
-    where_it_fits c.comments k (sequence at true props (item x xs)) _ _ (fits c.style spot.column (sequence at true props (item x xs))) j
-    (filled_room c.style spot.column (sequence at true props (item x xs)) refl) refl e
-settled_comment c k (sequence at false props (item x xs)) spot j e = absurd cc
-settled_comment c k (mapping at flow props no_pairs) spot j e = as_it_is c.comments k (mapping at flow props no_pairs) _ j refl e
-settled_comment c k (mapping at true props (pair x y ps)) spot j e =
-    where_it_fits c.comments k (mapping at true props (pair x y ps)) _ _ (fits c.style spot.column (mapping at true props (pair x y ps))) j
-    (filled_room c.style spot.column (mapping at true props (pair x y ps)) refl) refl e
-settled_comment c k (mapping at false props (pair x y ps)) spot j e = absurd cc
+pub settled_comment : (c : LayoutSetting) (k v : Node) (margins : Margins) (j : ℕ) → key_comment_index c.comments k v ≡ Some j
+    → comment_if (is_text v || has_room c.style (up_to_greatest margins.column) (width_if (is_one_line v) (written c.style v))) j
+    ≡ key_comment_index c.comments k (settled c margins v)
+settled_comment c k (scalar at props style text lines) margins j e = as_it_is c.comments k (scalar at props style text lines) _ j refl e
+settled_comment c k (alias at name) margins j e = as_it_is c.comments k (alias at name) _ j refl e
+settled_comment c k (sequence at flow props no_items) margins j e = as_it_is c.comments k (sequence at flow props no_items) _ j refl e
+settled_comment c k (sequence at true props (item x xs)) margins j e =
+    where_it_fits c.comments k (sequence at true props (item x xs)) _ _ (fits c.style margins.column (sequence at true props (item x xs))) j
+    (filled_room c.style margins.column (sequence at true props (item x xs)) refl) refl e
+settled_comment c k (sequence at false props (item x xs)) margins j e = absurd cc
+settled_comment c k (mapping at flow props no_pairs) margins j e = as_it_is c.comments k (mapping at flow props no_pairs) _ j refl e
+settled_comment c k (mapping at true props (pair x y ps)) margins j e =
+    where_it_fits c.comments k (mapping at true props (pair x y ps)) _ _ (fits c.style margins.column (mapping at true props (pair x y ps))) j
+    (filled_room c.style margins.column (mapping at true props (pair x y ps)) refl) refl e
+settled_comment c k (mapping at false props (pair x y ps)) margins j e = absurd cc
 
 none_where_it_fits : (cs : List CommentValue) (k v w : Node) (f : Bool) → key_comment_index cs k w ≡ None → key_comment_index cs k v ≡ None
     → None ≡ key_comment_index cs k (if f then v else w)
 none_where_it_fits cs k v w true n e = sym e
 none_where_it_fits cs k v w false n e = sym n
 
-pub settled_no_comment : (c : LayoutSetting) (k v : Node) (spot : Spot) → key_comment_index c.comments k v ≡ None
-    → None ≡ key_comment_index c.comments k (settled c spot v)
-settled_no_comment c k (scalar at props style text lines) spot e = sym e
-settled_no_comment c k (alias at name) spot e = sym e
-settled_no_comment c k (sequence at flow props no_items) spot e = sym e
-settled_no_comment c k (sequence at flow props (item x xs)) spot e =
-    none_where_it_fits c.comments k (sequence at flow props (item x xs)) _ (flow && fits c.style spot.column (sequence at flow props (item x xs))) refl e
-settled_no_comment c k (mapping at flow props no_pairs) spot e = sym e
-settled_no_comment c k (mapping at flow props (pair x y ps)) spot e =
-    none_where_it_fits c.comments k (mapping at flow props (pair x y ps)) _ (flow && fits c.style spot.column (mapping at flow props (pair x y ps))) refl e
+pub settled_no_comment : (c : LayoutSetting) (k v : Node) (margins : Margins) → key_comment_index c.comments k v ≡ None
+    → None ≡ key_comment_index c.comments k (settled c margins v)
+settled_no_comment c k (scalar at props style text lines) margins e = sym e
+settled_no_comment c k (alias at name) margins e = sym e
+settled_no_comment c k (sequence at flow props no_items) margins e = sym e
+settled_no_comment c k (sequence at flow props (item x xs)) margins e =
+    none_where_it_fits c.comments k (sequence at flow props (item x xs)) _ (flow && fits c.style margins.column (sequence at flow props (item x xs))) refl e
+settled_no_comment c k (mapping at flow props no_pairs) margins e = sym e
+settled_no_comment c k (mapping at flow props (pair x y ps)) margins e =
+    none_where_it_fits c.comments k (mapping at flow props (pair x y ps)) _ (flow && fits c.style margins.column (mapping at flow props (pair x y ps))) refl e
 
 -- the value of an implicit key
 
@@ -108,7 +108,7 @@ cut_sum a b c = omega arith
 
 abbrev implicit_site : LayoutSetting → ℕ → Node → Node → Site
 implicit_site c column k v = record {
-  spot = Normal.value_of_implicit c column k v;
+  margins = Normal.value_of_implicit c column k v;
   is_implicit = false;
   key_comment = key_comment_index c.comments k (settled c (Normal.value_of_implicit c column k v) v);
 }
@@ -188,9 +188,9 @@ key_waits c es t cs column k i h a = record {
 
 site_if : LayoutSetting → ℕ → Node → Node → Bool → Site
 site_if c column k v b = record {
-  spot = if b then Normal.value_of_implicit c column k v else inner_spot c.style column;
+  margins = if b then Normal.value_of_implicit c column k v else inner_margins c.style column;
   is_implicit = false;
-  key_comment = if b then key_comment_index c.comments k (settled c (if b then Normal.value_of_implicit c column k v else inner_spot c.style column) v) else None;
+  key_comment = if b then key_comment_index c.comments k (settled c (if b then Normal.value_of_implicit c column k v else inner_margins c.style column) v) else None;
 }
 
 pub value_there : (c : LayoutSetting) (es : List EventInText) (t : List ℕ) (cs : List CommentValue) (column : ℕ) (k v : Node) (i : ℕ) (key : PendingKey) → is_placed v ≡ true
@@ -208,5 +208,5 @@ value_there c es t cs column k v i key h a w =
       by true e = implicit_value c es t cs column k v i key h a (w.width e) w.start
       by false e = same_place (cut_twice column c.style.indent) (cut_twice column c.style.indent) refl refl
 
-pub item_there : (s : Style) (column : ℕ) → Deciding.place_at (further (up_to_greatest column) s.indent) ≡ place_of (site_at (inner_spot s column))
+pub item_there : (s : Style) (column : ℕ) → Deciding.place_at (further (up_to_greatest column) s.indent) ≡ place_of (site_at (inner_margins s column))
 item_there s column = same_place (cut_twice column s.indent) (cut_twice column s.indent) refl refl

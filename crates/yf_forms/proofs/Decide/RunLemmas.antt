@@ -1,7 +1,7 @@
 -- The pass over all events, one event at a time.
 use Rattle.std.proofs.Common.{◌≡◌, ℕ, zero, suc, ◌+◌, ◌<◌, ◌≤◌, Bool, true, false, List, [], ◌∷◌, ◌++◌, length, map, get_or, Some, None, sym, ap, ◌∙◌, arith}
 use Rattle.std.specs.Prelude.{drop, slice_get, nat_lt, if◌then◌else◌}
-use Rattle.std.proofs.lemmas.List.{length-append, drop_all}
+use Rattle.std.proofs.lemmas.List.{drop_all, length_push}
 use Rattle.yf_events.specs.Event.{EventValue, EventInText, stream_starts, stream_ends, document_starts, document_ends, sequence_starts, sequence_ends, mapping_starts, mapping_ends, scalar_node, alias_node}
 use Rattle.yf_forms.specs.declared.form.decide.Form.{Form}
 use Rattle.yf_forms.specs.declared.form.layout_context.LayoutFrame.{LayoutFrame}
@@ -27,13 +27,10 @@ passed_over g ms e list stack done l =
 
 -- one more form
 
-one_more : (list : List Form) (f : Form) → length (list ++ f ∷ []) ≡ length list + 1
-one_more list f = length-append list (f ∷ [])
-
 node_long : (i : ℕ) (m : Measure) (is_map : Bool) (level : LayoutFrame) (list : List Form) (f : Form) (stack : List LayoutFrame) (b : Bool)
     → length (after_node i m is_map level (list ++ f ∷ []) stack b).list ≡ length list + 1
-node_long i m is_map level list f stack true = one_more list f
-node_long i m is_map level list f stack false = one_more list f
+node_long i m is_map level list f stack true = length_push list f
+node_long i m is_map level list f stack false = length_push list f
 
 node_at_long : (g : DecideInput) (i : ℕ) (m : Measure) (is_map : Bool) (place : LayoutContext) (list : List Form) (stack : List LayoutFrame)
     → length (node_at g i m is_map place list stack).list ≡ length list + 1
@@ -49,19 +46,19 @@ past_long g (sequence_starts flow props) i m list stack =
     node_at_long g i m false (next_place g (sequence_starts flow props) i m stack) list (next_stack g (sequence_starts flow props) i m stack)
 past_long g (mapping_starts flow props) i m list stack =
     node_at_long g i m true (next_place g (mapping_starts flow props) i m stack) list (next_stack g (mapping_starts flow props) i m stack)
-past_long g sequence_ends i m list stack = one_more list no_form
-past_long g mapping_ends i m list stack = one_more list no_form
-past_long g stream_starts i m list stack = one_more list no_form
-past_long g stream_ends i m list stack = one_more list no_form
-past_long g (document_starts b) i m list stack = one_more list no_form
-past_long g (document_ends b) i m list stack = one_more list no_form
+past_long g sequence_ends i m list stack = length_push list no_form
+past_long g mapping_ends i m list stack = length_push list no_form
+past_long g stream_starts i m list stack = length_push list no_form
+past_long g stream_ends i m list stack = length_push list no_form
+past_long g (document_starts b) i m list stack = length_push list no_form
+past_long g (document_ends b) i m list stack = length_push list no_form
 
 next_long : (g : DecideInput) (ms : List Measure) (e : EventValue) (f : DecideState) → length (next g ms e f).list ≡ length f.list + 1
 next_long g ms e f = by (nat_lt f.done (length f.list)) where
   by : (b : Bool) → length (if b then past g e (length f.list) (get_or ms (length f.list) no_measure) f.list f.stack
       else state (f.list ++ no_form ∷ []) f.stack f.done).list ≡ length f.list + 1
   by true = past_long g e (length f.list) (get_or ms (length f.list) no_measure) f.list f.stack
-  by false = one_more f.list no_form
+  by false = length_push f.list no_form
 
 -- the loop over the events
 

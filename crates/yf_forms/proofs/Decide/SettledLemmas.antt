@@ -4,7 +4,7 @@ use Rattle.std.specs.Prelude.{nat_le, if◌then◌else◌}
 use Rattle.std.proofs.lemmas.Bool.{and_parts, cases_Bool}
 use Rattle.yf_forms.specs.declared.style.Style.{Style}
 use Rattle.yf_forms.specs.Nodes.SingleAnswers.{keys, keys_of_items, keys_of_pairs}
-use Rattle.yf_forms.specs.NormalForms.Normal.{LayoutSetting, Spot, inner_spot, key_spot, value_spot, value_of_implicit, value_entries, key_column, is_implicit, is_one_line_key, fits, settled, settled_items, settled_pairs}
+use Rattle.yf_forms.specs.NormalForms.Normal.{LayoutSetting, Margins, inner_margins, key_margins, value_margins, value_of_implicit, value_entries, key_column, is_implicit, is_one_line_key, fits, settled, settled_items, settled_pairs}
 use Rattle.yf_forms.specs.Nodes.OneLine.{width, written}
 use Rattle.yf_events.specs.Tree.{Node, scalar, alias, sequence, mapping, Items, no_items, item, Pairs, no_pairs, pair, flat, flat_items, flat_pairs, is_sequence}
 use Rattle.yf_forms.proofs.Decide.CountLemmas.{two_counts}
@@ -14,28 +14,28 @@ either true x y e = refl
 either false x y e = e
 
 mutual
-  pub settled_count : (c : LayoutSetting) (spot : Spot) (x : Node) → length (flat (settled c spot x)) ≡ length (flat x)
-  settled_count c spot (scalar at props style text lines) = refl
-  settled_count c spot (alias at name) = refl
-  settled_count c spot (sequence at flow props no_items) = refl
-  settled_count c spot (sequence at flow props (item x xs)) =
-      either (flow && fits c.style spot.column (sequence at flow props (item x xs))) _ _
-      (ap suc (two_counts (flat_items (settled_items c spot.entries (item x xs))) _ (flat_items (item x xs)) _ (settled_items_count c spot.entries (item x xs)) refl))
-  settled_count c spot (mapping at flow props no_pairs) = refl
-  settled_count c spot (mapping at flow props (pair k v ps)) =
-      either (flow && fits c.style spot.column (mapping at flow props (pair k v ps))) _ _
-      (ap suc (two_counts (flat_pairs (settled_pairs c spot.entries (pair k v ps))) _ (flat_pairs (pair k v ps)) _ (settled_pairs_count c spot.entries (pair k v ps)) refl))
+  pub settled_count : (c : LayoutSetting) (margins : Margins) (x : Node) → length (flat (settled c margins x)) ≡ length (flat x)
+  settled_count c margins (scalar at props style text lines) = refl
+  settled_count c margins (alias at name) = refl
+  settled_count c margins (sequence at flow props no_items) = refl
+  settled_count c margins (sequence at flow props (item x xs)) =
+      either (flow && fits c.style margins.column (sequence at flow props (item x xs))) _ _
+      (ap suc (two_counts (flat_items (settled_items c margins.entries (item x xs))) _ (flat_items (item x xs)) _ (settled_items_count c margins.entries (item x xs)) refl))
+  settled_count c margins (mapping at flow props no_pairs) = refl
+  settled_count c margins (mapping at flow props (pair k v ps)) =
+      either (flow && fits c.style margins.column (mapping at flow props (pair k v ps))) _ _
+      (ap suc (two_counts (flat_pairs (settled_pairs c margins.entries (pair k v ps))) _ (flat_pairs (pair k v ps)) _ (settled_pairs_count c margins.entries (pair k v ps)) refl))
 
   pub settled_items_count : (c : LayoutSetting) (column : ℕ) (xs : Items) → length (flat_items (settled_items c column xs)) ≡ length (flat_items xs)
   settled_items_count c column no_items = refl
   settled_items_count c column (item x xs) =
-      two_counts (flat (settled c (inner_spot c.style column) x)) _ (flat x) _ (settled_count c (inner_spot c.style column) x) (settled_items_count c column xs)
+      two_counts (flat (settled c (inner_margins c.style column) x)) _ (flat x) _ (settled_count c (inner_margins c.style column) x) (settled_items_count c column xs)
 
   pub settled_pairs_count : (c : LayoutSetting) (column : ℕ) (ps : Pairs) → length (flat_pairs (settled_pairs c column ps)) ≡ length (flat_pairs ps)
   settled_pairs_count c column no_pairs = refl
   settled_pairs_count c column (pair k v ps) =
-      two_counts (flat (settled c (key_spot c.style column k) k)) _ (flat k) _ (settled_count c (key_spot c.style column k) k)
-      (two_counts (flat (settled c (value_spot c column k v) v)) _ (flat v) _ (settled_count c (value_spot c column k v) v) (settled_pairs_count c column ps))
+      two_counts (flat (settled c (key_margins c.style column k) k)) _ (flat k) _ (settled_count c (key_margins c.style column k) k)
+      (two_counts (flat (settled c (value_margins c column k v) v)) _ (flat v) _ (settled_count c (value_margins c column k v) v) (settled_pairs_count c column ps))
 
 -- an implicit key fits where it is
 
@@ -58,7 +58,7 @@ twice : (a b : Bool) → (a && b) ≡ (a && (a && b))
 twice true b = refl
 twice false b = refl
 
-pub settled_key : (c : LayoutSetting) (column : ℕ) (k : Node) → is_implicit c.style column (settled c (key_spot c.style column k) k) ≡ is_implicit c.style column k
+pub settled_key : (c : LayoutSetting) (column : ℕ) (k : Node) → is_implicit c.style column (settled c (key_margins c.style column k) k) ≡ is_implicit c.style column k
 settled_key c column (scalar at props style text lines) = refl
 settled_key c column (alias at name) = refl
 settled_key c column (sequence at flow props no_items) = refl
@@ -72,46 +72,46 @@ settled_key c column (mapping at flow props (pair k v ps)) =
 
 -- entries
 
-settled_sequence : (c : LayoutSetting) (spot : Spot) (x : Node) → is_sequence (settled c spot x) ≡ is_sequence x
-settled_sequence c spot (scalar at props style text lines) = refl
-settled_sequence c spot (alias at name) = refl
-settled_sequence c spot (sequence at flow props no_items) = refl
-settled_sequence c spot (sequence at flow props (item x xs)) = by (flow && fits c.style spot.column (sequence at flow props (item x xs))) where
+settled_sequence : (c : LayoutSetting) (margins : Margins) (x : Node) → is_sequence (settled c margins x) ≡ is_sequence x
+settled_sequence c margins (scalar at props style text lines) = refl
+settled_sequence c margins (alias at name) = refl
+settled_sequence c margins (sequence at flow props no_items) = refl
+settled_sequence c margins (sequence at flow props (item x xs)) = by (flow && fits c.style margins.column (sequence at flow props (item x xs))) where
   by : (b : Bool) → is_sequence (if b then sequence at flow props (item x xs)
-      else sequence at false props (item (settled c (inner_spot c.style spot.entries) x) (settled_items c spot.entries xs))) ≡ true
+      else sequence at false props (item (settled c (inner_margins c.style margins.entries) x) (settled_items c margins.entries xs))) ≡ true
   by true = refl
   by false = refl
-settled_sequence c spot (mapping at flow props no_pairs) = refl
-settled_sequence c spot (mapping at flow props (pair k v ps)) = by (flow && fits c.style spot.column (mapping at flow props (pair k v ps))) where
+settled_sequence c margins (mapping at flow props no_pairs) = refl
+settled_sequence c margins (mapping at flow props (pair k v ps)) = by (flow && fits c.style margins.column (mapping at flow props (pair k v ps))) where
   by : (b : Bool) → is_sequence (if b then mapping at flow props (pair k v ps)
-      else mapping at false props (pair (settled c (key_spot c.style spot.entries k) k) (settled c (value_spot c spot.entries k v) v) (settled_pairs c spot.entries ps))) ≡ false
+      else mapping at false props (pair (settled c (key_margins c.style margins.entries k) k) (settled c (value_margins c margins.entries k v) v) (settled_pairs c margins.entries ps))) ≡ false
   by true = refl
   by false = refl
 
 pub same_entries : (c : LayoutSetting) (column : ℕ) (k v l w : Node) → is_implicit c.style column k ≡ is_implicit c.style column l → is_sequence v ≡ is_sequence w
-    → (value_spot c column k v).entries ≡ (value_spot c column l w).entries
+    → (value_margins c column k v).entries ≡ (value_margins c column l w).entries
 same_entries c column k v l w e f =
     by (is_implicit c.style column k) ∙ ap (λ b. if b then value_entries c.style column v else column + c.style.indent) e
     ∙ ap (λ b. if is_implicit c.style column l then (if b && not c.style.seq_indent then column else column + c.style.indent) else column + c.style.indent) f
     ∙ sym (by' (is_implicit c.style column l)) where
-      by : (b : Bool) → (if b then value_of_implicit c column k v else inner_spot c.style column).entries ≡ (if b then value_entries c.style column v else column + c.style.indent)
+      by : (b : Bool) → (if b then value_of_implicit c column k v else inner_margins c.style column).entries ≡ (if b then value_entries c.style column v else column + c.style.indent)
       by true = refl
       by false = refl
 
-      by' : (b : Bool) → (if b then value_of_implicit c column l w else inner_spot c.style column).entries ≡ (if b then value_entries c.style column w else column + c.style.indent)
+      by' : (b : Bool) → (if b then value_of_implicit c column l w else inner_margins c.style column).entries ≡ (if b then value_entries c.style column w else column + c.style.indent)
       by' true = refl
       by' false = refl
 
 pub settled_value_entries : (c : LayoutSetting) (column : ℕ) (k v : Node)
-    → (value_spot c column (settled c (key_spot c.style column k) k) (settled c (value_spot c column k v) v)).entries ≡ (value_spot c column k v).entries
+    → (value_margins c column (settled c (key_margins c.style column k) k) (settled c (value_margins c column k v) v)).entries ≡ (value_margins c column k v).entries
 settled_value_entries c column k v =
-    same_entries c column (settled c (key_spot c.style column k) k) (settled c (value_spot c column k v) v) k v (settled_key c column k) (settled_sequence c (value_spot c column k v) v)
+    same_entries c column (settled c (key_margins c.style column k) k) (settled c (value_margins c column k v) v) k v (settled_key c column k) (settled_sequence c (value_margins c column k v) v)
 
 -- the keys in a node depend on where its entries are alone
-pub keys_by_entries : (c : LayoutSetting) (i : ℕ) (spot other : Spot) (x : Node) → spot.entries ≡ other.entries → keys c i spot x ≡ keys c i other x
-keys_by_entries c i spot other (scalar at props style text lines) e = refl
-keys_by_entries c i spot other (alias at name) e = refl
-keys_by_entries c i spot other (sequence at true props xs) e = refl
-keys_by_entries c i spot other (sequence at false props xs) e = ap (λ n. keys_of_items c (i + 1) n xs) e
-keys_by_entries c i spot other (mapping at true props ps) e = refl
-keys_by_entries c i spot other (mapping at false props ps) e = ap (λ n. keys_of_pairs c (i + 1) n ps) e
+pub keys_by_entries : (c : LayoutSetting) (i : ℕ) (margins other : Margins) (x : Node) → margins.entries ≡ other.entries → keys c i margins x ≡ keys c i other x
+keys_by_entries c i margins other (scalar at props style text lines) e = refl
+keys_by_entries c i margins other (alias at name) e = refl
+keys_by_entries c i margins other (sequence at true props xs) e = refl
+keys_by_entries c i margins other (sequence at false props xs) e = ap (λ n. keys_of_items c (i + 1) n xs) e
+keys_by_entries c i margins other (mapping at true props ps) e = refl
+keys_by_entries c i margins other (mapping at false props ps) e = ap (λ n. keys_of_pairs c (i + 1) n ps) e

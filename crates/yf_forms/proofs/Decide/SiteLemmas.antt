@@ -9,7 +9,7 @@ use Rattle.yf_forms.specs.Passes.DecidePass.{further, has_room, may_be_implicit,
 use Rattle.yf_forms.specs.NormalForms.Forms.{is_kept_at}
 use Rattle.yf_forms.specs.Nodes.OneLineFlows.{may_be_kept}
 use Rattle.yf_forms.specs.NormalForms.Measures.{up_to_greatest, width_if, is_one_line, measure_of}
-use Rattle.yf_forms.specs.NormalForms.Normal.{LayoutSetting, Spot, styled, fits, is_implicit}
+use Rattle.yf_forms.specs.NormalForms.Normal.{LayoutSetting, Margins, styled, fits, is_implicit}
 use Rattle.yf_forms.specs.Nodes.OneLine.{width, written}
 use Rattle.yf_events.specs.Tree.{Node, scalar, alias, sequence, mapping, no_items, item, no_pairs, pair, is_filled_flow}
 
@@ -59,12 +59,12 @@ pub filled_room : (s : Style) (column : ℕ) (x : Node) → is_filled_flow x ≡
     → has_room s (up_to_greatest column) (width_if (is_one_line x) (written s x)) ≡ fits s column x
 filled_room s column x e = room_of s column x (filled_one_line x e)
 
-pub is_kept_there : (t : List ℕ) (m : LayoutSetting) (spot : Spot) (i : ℕ) (x : Node)
-    → is_kept m.style (up_to_greatest spot.column) (measure_of t m i x) ≡ is_kept_at m.style spot (styled t m x)
-is_kept_there t m spot i x = rw (can_be_kept t m x) (by (is_filled_flow (styled t m x)) refl) where
+pub is_kept_there : (t : List ℕ) (m : LayoutSetting) (margins : Margins) (i : ℕ) (x : Node)
+    → is_kept m.style (up_to_greatest margins.column) (measure_of t m i x) ≡ is_kept_at m.style margins (styled t m x)
+is_kept_there t m margins i x = rw (can_be_kept t m x) (by (is_filled_flow (styled t m x)) refl) where
   by : (b : Bool) → is_filled_flow (styled t m x) ≡ b
-      → (b && has_room m.style (up_to_greatest spot.column) (width_if (is_one_line (styled t m x)) (written m.style (styled t m x)))) ≡ (b && fits m.style spot.column (styled t m x))
-  by true e = filled_room m.style spot.column (styled t m x) e
+      → (b && has_room m.style (up_to_greatest margins.column) (width_if (is_one_line (styled t m x)) (written m.style (styled t m x)))) ≡ (b && fits m.style margins.column (styled t m x))
+  by true e = filled_room m.style margins.column (styled t m x) e
   by false e = refl
 
 -- an implicit key is found by its width

@@ -11,7 +11,7 @@ use Rattle.yf_forms.specs.declared.style.Style.{Style}
 use Rattle.yf_forms.specs.Passes.DecidePass.{given, DecideState, state, pass}
 use Rattle.yf_forms.specs.NormalForms.Forms.{Site, site_at, forms, no_form, document_forms, stream_forms, is_placed, documents_are_placed}
 use Rattle.yf_forms.specs.NormalForms.Measures.{AreMeasures}
-use Rattle.yf_forms.specs.NormalForms.Normal.{setting_of, root_spot, styled}
+use Rattle.yf_forms.specs.NormalForms.Normal.{setting_of, root_margins, styled}
 use Rattle.yf_events.specs.Tree.{DocumentTree, TreesOf, flat, flat_document, flat_stream, unplaced}
 use Rattle.yf_forms.proofs.Decide.AmongLemmas.{Among, front, back, after_first}
 use Rattle.yf_forms.proofs.Decide.CountLemmas.{node_forms}
@@ -19,7 +19,7 @@ use Rattle.yf_forms.proofs.Decide.FormLemmas.{by_of, Known, given_of, run, enclo
 use Rattle.yf_forms.proofs.Decide.RunLemmas.{looked_at, passed_over}
 
 root_site : Known → Site
-root_site k = site_at (root_spot k.setting.style)
+root_site k = site_at (root_margins k.setting.style)
 
 root_there : (k : Known) (d : DocumentTree) (i : ℕ) → AtSite k d.root i [] [] (root_site k)
 unfolding root_site

@@ -8,8 +8,7 @@ use Rattle.yf_events.specs.declared.event.Entry.{Entry}
 use Rattle.yf_events.specs.declared.event.ScalarStyle.{ScalarStyle}
 use Rattle.yf_events.specs.declared.event.ScalarStyle.TheVariants.{Plain, Single, Double, Literal, Folded}
 use Rattle.yf_events.specs.declared.event.Span.{Span}
-use Rattle.yf_lines.specs.Steady.{is_steady, has_line_feed, ends_with_colon, is_only, is_marker_of}
-use Rattle.yf_lines.specs.declared.quotes.Quotes.{Quotes}
+use Rattle.yf_lines.proofs.CoreSteady.{nothing_steady}
 use Rattle.yf_props.specs.Props.{PropsValue}
 use Rattle.yf_quoted.specs.Written.{quotes_in}
 use Rattle.yf_forms.specs.Passes.DecidePass as Deciding
@@ -18,14 +17,15 @@ use Rattle.yf_forms.specs.NormalForms.Forms.{index_between, key_comment_index, i
 use Rattle.yf_forms.specs.Nodes.OneLineFlows.{may_be_kept}
 use Rattle.yf_forms.specs.NormalForms.Measures.{measure_of, leaf_indices, first_of, last_of}
 use Rattle.yf_forms.specs.NormalForms.Normal as Normal
-use Rattle.yf_forms.specs.NormalForms.Normal.{LayoutSetting, Spot, styled, styled_items, styled_pairs, fits, settled, settled_items, settled_pairs, value_of_implicit, value_column, value_entries, key_comment, last_start, entry_or}
+use Rattle.yf_forms.specs.NormalForms.Normal.{LayoutSetting, Margins, styled, styled_items, styled_pairs, fits, settled, settled_items, settled_pairs, value_of_implicit, value_column, value_entries, key_comment, last_start, entry_or}
 use Rattle.yf_forms.specs.Nodes.OneLine.{width, colon_after, colon_after_props, props_text}
 use Rattle.yf_events.specs.Tree.{NodeOffsets, Node, scalar, alias, sequence, mapping, Items, no_items, item, Pairs, no_pairs, pair, flat, standing, leaves, leaves_of_items, leaves_of_pairs, is_text, is_filled_flow, is_sequence}
-use Rattle.yf_forms.specs.Nodes.ScalarStyles.{lines_in, wanted, quoted_in, style_in}
+use Rattle.yf_forms.specs.Nodes.ScalarStyles.{lines_in, wanted, quoted_in}
 use Rattle.yf_forms.proofs.Decide.AmongLemmas.{Among, first_at}
 use Rattle.yf_forms.proofs.Decide.IndexLemmas.{same_first}
 use Rattle.yf_forms.proofs.Decide.LeafLemmas.{node_starts, first_start, first_leaf, last_leaf, is_own_leaf}
 use Rattle.yf_forms.proofs.Decide.SiteLemmas.{can_be_kept}
+use Rattle.yf_forms.proofs.Texts.OneLineRuns.{quoted_colon}
 
 -- what of a node is the same in the style of the house
 
@@ -79,11 +79,6 @@ unfolding chars
 colon_of_props [] = refl
 colon_of_props (b ∷ p) = refl
 
-colon_in_quotes : (at : NodeOffsets) (props : PropsValue) (text : List ℕ) (lines : List (List ℕ)) (q : Quotes)
-    → colon_after (scalar at props (style_in q) text lines) ≡ codes ":"
-colon_in_quotes at props text lines Quotes.Single = refl
-colon_in_quotes at props text lines Quotes.Double = refl
-
 colon_after_text : (at : NodeOffsets) (props : PropsValue) (b : ℕ) (text : List ℕ) (lines : List (List ℕ)) (style : ScalarStyle)
     → colon_after (scalar at props style (b ∷ text) lines) ≡ codes ":"
 colon_after_text at props b text lines Plain = refl
@@ -98,10 +93,6 @@ agreed true false e = absurd cc
 agreed false true e = absurd cc
 agreed false false e = refl
 
-pub nothing_steady : is_steady [] ≡ true
-unfolding is_steady has_line_feed ends_with_colon is_only is_marker_of
-nothing_steady = refl
-
 one_colon : (text : List ℕ) → text ≡ codes ":" → 1 ≡ width text
 unfolding chars
 one_colon text e = sym (ap width e)
@@ -112,10 +103,10 @@ scalar_colon : (t : List ℕ) (m : LayoutSetting) (at : NodeOffsets) (props : Pr
 scalar_colon t m at props Plain [] lines h =
     ap (λ b. if b then 2 else 1) h ∙ colon_of_props (props_text props)
     ∙ ap (λ b. width (colon_after (scalar at props (if b then Plain else quoted_in [] m.style) [] lines))) (sym nothing_steady)
-scalar_colon t m at props Single [] lines h = one_colon _ (colon_in_quotes at props [] lines (quotes_in m.style.invisible (chars []) m.style.quotes))
-scalar_colon t m at props Double [] lines h = one_colon _ (colon_in_quotes at props [] lines (quotes_in m.style.invisible (chars []) m.style.quotes))
-scalar_colon t m at props Literal [] lines h = one_colon _ (colon_in_quotes at props [] lines (quotes_in m.style.invisible (chars []) m.style.quotes))
-scalar_colon t m at props Folded [] lines h = one_colon _ (colon_in_quotes at props [] lines (quotes_in m.style.invisible (chars []) m.style.quotes))
+scalar_colon t m at props Single [] lines h = one_colon _ (quoted_colon (quotes_in m.style.invisible (chars []) m.style.quotes) at props [] lines)
+scalar_colon t m at props Double [] lines h = one_colon _ (quoted_colon (quotes_in m.style.invisible (chars []) m.style.quotes) at props [] lines)
+scalar_colon t m at props Literal [] lines h = one_colon _ (quoted_colon (quotes_in m.style.invisible (chars []) m.style.quotes) at props [] lines)
+scalar_colon t m at props Folded [] lines h = one_colon _ (quoted_colon (quotes_in m.style.invisible (chars []) m.style.quotes) at props [] lines)
 scalar_colon t m at props Plain (b ∷ text) lines h = one_colon _ (colon_after_text at props b text lines (wanted Plain (b ∷ text) m.style))
 scalar_colon t m at props Single (b ∷ text) lines h = one_colon _ (colon_after_text at props b text lines (wanted Single (b ∷ text) m.style))
 scalar_colon t m at props Double (b ∷ text) lines h = one_colon _ (colon_after_text at props b text lines (wanted Double (b ∷ text) m.style))

@@ -1,5 +1,5 @@
 -- The innermost open collection, which is the last of the stack.
-use Rattle.std.proofs.Common.{◌≡◌, ℕ, ◌+◌, ◌-◌, ◌<◌, List, [], ◌∷◌, ◌++◌, length, set, get_or, reverse, refl, sym, ap, ◌∙◌, arith}
+use Rattle.std.proofs.Common.{◌≡◌, ℕ, ◌+◌, ◌-◌, ◌<◌, List, [], ◌∷◌, ◌++◌, length, set, get_or, reverse, sym, ap, ◌∙◌, arith}
 use Rattle.std.proofs.Math.Seq.{set-append_seam, get_or-append_seam}
 use Rattle.std.proofs.lemmas.List.{length-append, reverse-append}
 use Rattle.yf_events.specs.Event.{EventValue}
@@ -7,10 +7,7 @@ use Rattle.yf_forms.specs.declared.form.layout_context.LayoutFrame.{LayoutFrame}
 use Rattle.yf_forms.specs.declared.form.layout_context.LayoutContext.{LayoutContext}
 use Rattle.yf_forms.specs.declared.form.measure.Measure.{Measure}
 use Rattle.yf_forms.specs.Passes.DecidePass.{DecideInput, next_place, next_stack}
-
-last_one : {A : Type 0} (x : A) (xs : List A) → (zs : List A) × (y : A) × (x ∷ xs ≡ zs ++ (y ∷ []))
-last_one x [] = ([], x, refl)
-last_one x (z ∷ zs) = let s = last_one z zs in (x ∷ s.0, s.1, ap (λ w. x ∷ w) s.2)
+use Rattle.yf_forms.proofs.ListLemmas.{last_one}
 
 -- the others, and the stack with that level changed
 pub record Top {A : Type 0} (xs : List A) (n : ℕ) (o : A) : Type 0 where

@@ -3,6 +3,7 @@ use Rattle.std.proofs.Common.{◌≡◌, ◌≢◌, ℕ, zero, suc, ◌+◌, ◌
 use Rattle.std.specs.Prelude.{slice_get}
 use Rattle.std.proofs.lemmas.List.{length-append}
 use Rattle.std.proofs.lemmas.List.{length-set}
+use Rattle.std.proofs.lemmas.Option.{slice_get_within}
 use Rattle.yf_events.specs.Event.{EventValue, EventInText, stream_starts, stream_ends, document_starts, document_ends, sequence_starts, sequence_ends, mapping_starts, mapping_ends, scalar_node, alias_node}
 use Rattle.yf_events.specs.declared.event.Span.{Span}
 use Rattle.yf_forms.specs.declared.form.ended.Ended.{Ended}
@@ -16,6 +17,7 @@ use Rattle.yf_events.specs.Tree.{Node, scalar, alias, sequence, mapping, flat}
 use Rattle.yf_forms.proofs.Texts.TreeTexts.{texts_join}
 use Rattle.yf_forms.proofs.Measure.SumLemmas.{ended_of}
 use Rattle.yf_forms.proofs.Measure.PassLemmas.{measures_in, node_passed}
+use Rattle.yf_forms.proofs.ListLemmas.{at_append}
 
 -- all open collections began before an index; none began at an index
 
@@ -45,11 +47,6 @@ apart_from {i} (one_below {o} h b) = one_apart (λ e. omega (arith, h, e)) (apar
 
 -- lists
 
-at_append : (xs ys : List Measure) (i : ℕ) (m : Measure) → slice_get xs i ≡ Some m → slice_get (xs ++ ys) i ≡ Some m
-at_append [] ys i m e = absurd cc
-at_append (x ∷ xs) ys zero m e = e
-at_append (x ∷ xs) ys (suc i) m e = at_append xs ys i m e
-
 at_set : (xs : List Measure) (i j : ℕ) (m y : Measure) → j ≢ i → slice_get xs i ≡ Some m → slice_get (set xs j y) i ≡ Some m
 at_set [] i j m y n e = absurd cc
 at_set (x ∷ xs) zero zero m y n e = absurd (n refl)
@@ -63,11 +60,6 @@ at_seam xs ys i m e = ap (λ n. slice_get (xs ++ (m ∷ ys)) n) (sym e) ∙ here
   here [] = refl
   here (x ∷ xs) = here xs
 
-within_at : (xs : List Measure) (i : ℕ) (m : Measure) → slice_get xs i ≡ Some m → i < length xs
-within_at [] i m e = absurd cc
-within_at (x ∷ xs) zero m e = omega arith
-within_at (x ∷ xs) (suc i) m e = let h = within_at xs i m e in omega (arith, h)
-
 -- what an event does not change
 pub record Keeps (f g : MeasuredSoFar) : Type 0 where
   pub longer : length g.list ≡ length f.list + 1
@@ -76,7 +68,7 @@ pub record Keeps (f g : MeasuredSoFar) : Type 0 where
   pub apart : (i : ℕ) (m : Measure) → slice_get f.list i ≡ Some m → Apart i f.stack → Apart i g.stack
 
 apart_end : (xs : List Measure) (i : ℕ) (m : Measure) → slice_get xs i ≡ Some m → length xs ≢ i
-apart_end xs i m e q = let h = within_at xs i m e in omega (arith, h, q)
+apart_end xs i m e q = let h = slice_get_within xs i m e in omega (arith, h, q)
 
 keeps_node : (list : List Measure) (stack : List Open) (e : Ended) → Keeps (found list stack) (noted (length list) e (found (list ++ (no_measure ∷ [])) stack))
 keeps_node list stack e = record {

@@ -22,6 +22,7 @@ use Rattle.yf_forms.specs.Nodes.OneLine.{width, spaced}
 use Rattle.yf_forms.proofs.Measure.OffsetLemmas.{none_passes, one_passes}
 use Rattle.yf_forms.proofs.Texts.WidthLemmas.{cut_both, cut_first, width_join, width_head, width_nil, utf8_head, joined_spaced}
 use Rattle.yf_forms.proofs.Measure.MeasuredLemmas.{measured_all, pass_longer}
+use Rattle.yf_forms.proofs.ListLemmas.{last_one}
 
 -- widths
 
@@ -81,10 +82,6 @@ by_found p xs (Some k) l h = sym (one_passes p xs k l h.1)
 
 -- the innermost collection, which is the last of the stack
 
-last_open : (x : Open) (xs : List Open) → (zs : List Open) × (y : Open) × (x ∷ xs ≡ zs ++ (y ∷ []))
-last_open x [] = ([], x, refl)
-last_open x (z ∷ zs) = let s = last_open z zs in (x ∷ s.0, s.1, ap (λ w. x ∷ w) s.2)
-
 handed_last : (zs : List Open) (y w : Open) (e : Ended) → w ≡ with_node y e
     → reverse (set (zs ++ (y ∷ [])) (length zs) w) ≡ handed e (reverse (zs ++ (y ∷ [])))
 handed_last zs y w e q =
@@ -94,7 +91,7 @@ pub handed_set : (xs : List Open) (n : ℕ) (o w : Open) (e : Ended) → n ≡ l
     → reverse (set xs (n - 1) w) ≡ handed e (reverse xs)
 handed_set [] n o w e l p g q = absurd (omega arith)
 handed_set (x ∷ xs) n o w e l p g q =
-    let s = last_open x xs in
+    let s = last_one x xs in
     let long : length (x ∷ xs) ≡ length s.0 + 1 = ap length s.2 ∙ length-append s.0 (s.1 ∷ []) in
     let last : n - 1 ≡ length s.0 = omega (arith, l, long) in
     let same : o ≡ s.1 =

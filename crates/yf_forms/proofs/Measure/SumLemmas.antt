@@ -19,6 +19,7 @@ use Rattle.yf_events.specs.Tree.{NodeOffsets, Node, scalar, alias, sequence, map
 use Rattle.yf_forms.specs.Nodes.ScalarStyles.{lines_in, wanted, quoted_in, style_in}
 use Rattle.yf_forms.proofs.Texts.WidthLemmas.{cut_both, width_join, utf8_head}
 use Rattle.yf_forms.proofs.Texts.TreeTexts.{written_utf8, colon_utf8, texts_join, pair_texts}
+use Rattle.yf_forms.proofs.ListLemmas.{three_lists}
 
 -- a node as the collection around it sees it
 
@@ -288,9 +289,6 @@ four false b c d = refl
 
 in_a_row : (y w s v r : List ℕ) → (y ++ (44 ∷ 32 ∷ (w ++ (s ++ (32 ∷ v))))) ++ r ≡ y ++ (44 ∷ 32 ∷ (w ++ (s ++ (32 ∷ (v ++ r)))))
 in_a_row y w s v r = simp append_assoc
-
-three_lists : (a b c d : List ℕ) → ((a ++ b) ++ c) ++ d ≡ a ++ (b ++ (c ++ d))
-three_lists a b c d = append_assoc (a ++ b) c d ∙ append_assoc a b (c ++ d)
 
 pub pairs_in : (t : List ℕ) (c : LayoutSetting) (i start w : ℕ) (b : Bool) (y ls : List ℕ) (ps : Pairs) → IsUtf8 y → have_texts (flat_pairs ps) ≡ true
     → with_pairs t c i ps (filled start true w true b y ls)

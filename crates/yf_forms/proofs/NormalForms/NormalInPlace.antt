@@ -21,6 +21,7 @@ use Rattle.yf_forms.specs.Nodes.ScalarStyles.{lines_in, wanted, wanted_of_event}
 use Rattle.yf_forms.proofs.NormalForms.NormalLemmas.{pass_restyles}
 use Rattle.yf_forms.proofs.NormalForms.NormalSteps.{pass_step}
 use Rattle.yf_forms.proofs.NormalForms.RestyledLemmas.{restyled_whole}
+use Rattle.yf_forms.proofs.ListLemmas.{drop_here}
 
 lines_same : (style : ScalarStyle) (props : PropsValue) (text : List ℕ) (lines : List (List ℕ))
     → lines_if (is_folded (scalar_node props style text)) lines ≡ lines_in style lines
@@ -116,16 +117,11 @@ in_place q ms fs r before es same e =
       now,
     )
 
-cut_here : (es : List EventInText) (i : ℕ) (x : EventInText) → slice_get es i ≡ Some x → drop i es ≡ x ∷ drop (i + 1) es
-cut_here [] i x at = absurd (omega (arith, slice_get_within [] i x at))
-cut_here (y ∷ es) zero x at = ap (λ w. w ∷ es) (same_Some _ _ at)
-cut_here (y ∷ es) (suc i) x at = cut_here es i x at ∙ ap (λ n. x ∷ drop n es) (add-one i) ∙ ap (λ n. x ∷ drop n (y ∷ es)) (sym (add-one (suc i)))
-
 -- one more event of a copy
 pub copied_step : (es all done after : List EventInText) (i : ℕ) (x p : EventInText) → slice_get es i ≡ Some x → p ≡ x → after ≡ done ++ p ∷ []
     → done ++ drop i es ≡ all → after ++ drop (i + 1) es ≡ all
 copied_step es all done after i x p at same is before =
     ap (λ w. w ++ drop (i + 1) es) is
     ∙ append_assoc done (p ∷ []) (drop (i + 1) es)
-    ∙ ap (λ w. done ++ w) (ap (λ w. w ∷ drop (i + 1) es) same ∙ sym (cut_here es i x at))
+    ∙ ap (λ w. done ++ w) (ap (λ w. w ∷ drop (i + 1) es) same ∙ sym (drop_here es i x at))
     ∙ before

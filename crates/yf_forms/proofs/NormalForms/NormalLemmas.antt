@@ -3,7 +3,7 @@
 use Rattle.std.proofs.Common.{◌≡◌, ℕ, zero, suc, ◌+◌, ◌-◌, ◌<◌, ◌≤◌, Bool, true, false, not, ◌&&◌, ◌||◌, List, [], ◌∷◌, ◌++◌, length, map, replicate, get_or, Some, refl, sym, ap, ◌∙◌, subst, arith, append_assoc}
 use Rattle.std.specs.Prelude.{nat_lt, if◌then◌else◌, slice_get, drop}
 use Rattle.std.specs.List.{flat_map}
-use Rattle.std.proofs.lemmas.Bool.{and_parts}
+use Rattle.std.proofs.lemmas.Bool.{and_parts, or_left}
 use Rattle.std.proofs.lemmas.Bool.Decides.{nat_tests}
 use Rattle.std.proofs.lemmas.List.{append-nil, length-append, replicate-append-replicate}
 use Rattle.yf_comments.specs.Comment.{CommentValue}
@@ -17,7 +17,7 @@ use Rattle.yf_forms.specs.Passes.DecidePass.{is_leaf_at}
 use Rattle.yf_forms.specs.NormalForms.Forms.{Site, site_at, key_site, value_site, no_form, forms_within, forms, forms_of_items, forms_of_pairs, document_forms, stream_forms}
 use Rattle.yf_forms.specs.Nodes.OneLineFlows.{has_comment, may_be_kept, items_may_be_kept, pairs_may_be_kept}
 use Rattle.yf_forms.specs.NormalForms.Measures.{up_to_greatest, AreMeasures, measure_of, no_measure, first_of, leaf_indices}
-use Rattle.yf_forms.specs.NormalForms.Normal.{LayoutSetting, root_spot, inner_spot, fits, styled, styled_items, styled_pairs, settled, settled_items, settled_pairs, normal_document, setting_of, Normal}
+use Rattle.yf_forms.specs.NormalForms.Normal.{LayoutSetting, root_margins, inner_margins, fits, styled, styled_items, styled_pairs, settled, settled_items, settled_pairs, normal_document, setting_of, Normal}
 use Rattle.yf_forms.specs.Passes.NormalEvents.{kept_until, is_flow_at, normal_from}
 use Rattle.yf_forms.specs.NormalForms.Restyled.{restyled, SameButStyles, none_left, one_more}
 use Rattle.yf_events.specs.Tree.{NodeOffsets, Node, scalar, alias, sequence, mapping, Items, no_items, item, Pairs, no_pairs, pair, DocumentTree, placed, unplaced, flat, flat_items, flat_pairs, flat_document, flat_stream, TreesOf}
@@ -194,10 +194,6 @@ not_before : (b : Bool) (i u : ℕ) → b ≡ false → u ≤ i → (b || nat_lt
 not_before true i u e l = absurd cc
 not_before false i u e l = grind (arith, nat_tests)
 
-pub is_leaf : (b c : Bool) → b ≡ true → (b || c) ≡ true
-is_leaf true c e = refl
-is_leaf false c e = absurd cc
-
 longer : (xs : List EventInText) (e z : EventInText) → length (e ∷ (xs ++ (z ∷ []))) ≡ length xs + 2
 longer xs e z = let n : length (xs ++ (z ∷ [])) ≡ length xs + 1 = length-append xs (z ∷ []) in omega (arith, n)
 
@@ -207,7 +203,7 @@ empty_outside : {q : Style} {ms : List Measure} {i u : ℕ} (f : Form) (e z : Ev
 empty_outside {q} {ms} {i} {u} f e z k b l h = record {
   until = u;
   ended = omega (arith, l);
-  becomes = both (one u true f e (rw k refl) (is_leaf _ _ b)) (other no_form z z refl h);
+  becomes = both (one u true f e (rw k refl) (or_left _ _ b)) (other no_form z z refl h);
 }
 
 block_outside : {q : Style} {ms : List Measure} {i u : ℕ} {gs : List Form} {xs ys : List EventInText} (f : Form) (e z : EventInText) → f.is_kept ≡ false
@@ -248,7 +244,7 @@ same_length {q} {ms} {i} {u} {v} {gs} {xs} {ys} b =
 
 -- a collection with entries, whose forms say whether it is kept
 abbrev form : Bool → Site → Form
-form r site = record { is_kept = r; is_implicit = site.is_implicit; key_comment = site.key_comment; column = up_to_greatest site.spot.entries }
+form r site = record { is_kept = r; is_implicit = site.is_implicit; key_comment = site.key_comment; column = up_to_greatest site.margins.entries }
 
 filled_sequence : {q : Style} {ms : List Measure} {i u : ℕ} {gs : List Form} {xs : List EventInText} (site : Site) (at : NodeOffsets)
     (flow b : Bool) (props : PropsValue) (ys zs : Items) → is_leaf_at i (get_or ms i no_measure).first_leaf ≡ false
@@ -288,7 +284,7 @@ leaf_at m i x a = ap (λ w. is_leaf_at i w.first_leaf) (measure_at m i x a)
 mutual
   node_outside : (t : List ℕ) (c : LayoutSetting) {es : List EventInText} {ms : List Measure} → AreMeasures t c es ms → (i u : ℕ) → u ≤ i
       → (site : Site) (x : Node) → Among es (flat x) i
-      → Outside c.style ms i u (forms c site (styled t c x)) (flat x) (flat (settled c site.spot (styled t c x)))
+      → Outside c.style ms i u (forms c site (styled t c x)) (flat x) (flat (settled c site.margins (styled t c x)))
   node_outside t c m i u l site (scalar at props style text lines) a = other_outside _ _ _ refl (λ b. refl) l
   node_outside t c m i u l site (alias at name) a = other_outside _ _ _ refl (λ b. refl) l
   node_outside t c m i u l site (sequence at flow props no_items) a =
@@ -297,24 +293,24 @@ mutual
       let z = sequence at flow props (item x xs) in
       let ys = styled_items t c (item x xs) in
       let inside = front (flat_items (item x xs)) (unplaced sequence_ends ∷ []) (after_first (placed at (sequence_starts flow props) []) _ a) in
-      filled_sequence site at flow (may_be_kept t c.comments z) props ys (settled_items c site.spot.entries ys)
+      filled_sequence site at flow (may_be_kept t c.comments z) props ys (settled_items c site.margins.entries ys)
       (leaf_at m i z a ∙ not_first i _ (items_above i (i + 1) (item x xs) (omega arith)))
       (last_at m i z a (placed at (sequence_starts flow props) []) (unplaced sequence_ends) (flat_items (item x xs)) refl) l
-      (items_outside t c m (i + 1) u (omega (arith, l)) site.spot.entries (item x xs) inside)
+      (items_outside t c m (i + 1) u (omega (arith, l)) site.margins.entries (item x xs) inside)
       (λ h. items_within t c (i + 1) (i + 1 + length (flat_items (item x xs))) (item x xs) (items_kept t c.comments at flow props x xs h) (omega arith))
-      (fits c.style site.spot.column (styled t c z))
+      (fits c.style site.margins.column (styled t c z))
   node_outside t c m i u l site (mapping at flow props no_pairs) a =
       empty_outside _ _ _ refl (leaf_at m i (mapping at flow props no_pairs) a ∙ same i) l (λ b. refl)
   node_outside t c m i u l site (mapping at flow props (pair k v ps)) a =
       let z = mapping at flow props (pair k v ps) in
       let ys = styled_pairs t c (pair k v ps) in
       let inside = front (flat_pairs (pair k v ps)) (unplaced mapping_ends ∷ []) (after_first (placed at (mapping_starts flow props) []) _ a) in
-      filled_mapping site at flow (may_be_kept t c.comments z) props ys (settled_pairs c site.spot.entries ys)
+      filled_mapping site at flow (may_be_kept t c.comments z) props ys (settled_pairs c site.margins.entries ys)
       (leaf_at m i z a ∙ not_first i _ (pairs_above i (i + 1) (pair k v ps) (omega arith)))
       (last_at m i z a (placed at (mapping_starts flow props) []) (unplaced mapping_ends) (flat_pairs (pair k v ps)) refl) l
-      (pairs_outside t c m (i + 1) u (omega (arith, l)) site.spot.entries (pair k v ps) inside)
+      (pairs_outside t c m (i + 1) u (omega (arith, l)) site.margins.entries (pair k v ps) inside)
       (λ h. pairs_within t c (i + 1) (i + 1 + length (flat_pairs (pair k v ps))) (pair k v ps) (pairs_kept t c.comments at flow props k v ps h) (omega arith))
-      (fits c.style site.spot.column (styled t c z))
+      (fits c.style site.margins.column (styled t c z))
 
   items_outside : (t : List ℕ) (c : LayoutSetting) {es : List EventInText} {ms : List Measure} → AreMeasures t c es ms → (i u : ℕ) → u ≤ i
       → (column : ℕ) (xs : Items) → Among es (flat_items xs) i
@@ -322,7 +318,7 @@ mutual
       (flat_items (settled_items c column (styled_items t c xs)))
   items_outside t c m i u l column no_items a = nothing_outside l
   items_outside t c m i u l column (item x xs) a =
-      let o = node_outside t c m i u l (site_at (inner_spot c.style column)) x (front (flat x) (flat_items xs) a) in
+      let o = node_outside t c m i u l (site_at (inner_margins c.style column)) x (front (flat x) (flat_items xs) a) in
       both_outside o (items_outside t c m (i + length (flat x)) o.until o.ended column xs (back (flat x) (flat_items xs) a))
 
   pairs_outside : (t : List ℕ) (c : LayoutSetting) {es : List EventInText} {ms : List Measure} → AreMeasures t c es ms → (i u : ℕ) → u ≤ i
@@ -348,7 +344,7 @@ document_outside t c m i u l d a =
     let last = unplaced (document_ends d.closed) in
     let inside = front (flat d.root) (last ∷ []) (after_first first _ a) in
     let s = other_outside no_form first first refl (λ b. refl) l in
-    let o = node_outside t c m (i + 1) s.until s.ended (site_at (root_spot c.style)) d.root inside in
+    let o = node_outside t c m (i + 1) s.until s.ended (site_at (root_margins c.style)) d.root inside in
     both_outside s (both_outside o (other_outside no_form last last refl (λ b. refl) o.ended))
 
 documents_outside : (t : List ℕ) (c : LayoutSetting) {es : List EventInText} {ms : List Measure} → AreMeasures t c es ms → (i u : ℕ) → u ≤ i

@@ -1,5 +1,5 @@
 -- The pass that writes the events of the normal form, as a loop: one event after another.
-use Rattle.std.proofs.Common.{◌≡◌, ℕ, zero, suc, ◌+◌, Bool, List, [], ◌∷◌, ◌++◌, get_or, Some, refl, sym, ap, ◌∙◌, arith, append_assoc, add-one}
+use Rattle.std.proofs.Common.{◌≡◌, ℕ, ◌+◌, Bool, List, [], ◌∷◌, ◌++◌, get_or, Some, refl, sym, ap, ◌∙◌, arith, append_assoc}
 use Rattle.std.specs.Prelude.{slice_get, drop}
 use Rattle.std.proofs.lemmas.List.{drop-drop, get_or-drop}
 use Rattle.yf_events.specs.Event.{EventInText}
@@ -10,18 +10,14 @@ use Rattle.yf_forms.specs.NormalForms.Forms.{no_form}
 use Rattle.yf_forms.specs.NormalForms.Measures.{no_measure}
 use Rattle.yf_forms.specs.Passes.NormalEvents.{kept_until, is_flow_at, normal_from}
 use Rattle.yf_forms.specs.NormalForms.Restyled.{restyled}
-
-cut_at : (es : List EventInText) (i : ℕ) (e : EventInText) → slice_get es i ≡ Some e → drop i es ≡ e ∷ drop (suc i) es
-cut_at [] i e h = cc
-cut_at (x ∷ es) zero e h = ap (λ w. w ∷ es) (let same : x ≡ e = cc in same)
-cut_at (x ∷ es) (suc i) e h = cut_at es i e h
+use Rattle.yf_forms.proofs.ListLemmas.{drop_here}
 
 one_step : (q : Style) (ms : List Measure) (fs : List Form) (es : List EventInText) (i u : ℕ) (e : EventInText) → slice_get es i ≡ Some e
     → normal_from q ms i u (drop i fs) (drop i es)
     ≡ restyled q (is_flow_at i (kept_until u (get_or ms i no_measure) (get_or fs i no_form)) (get_or ms i no_measure)) e
     ∷ normal_from q ms (i + 1) (kept_until u (get_or ms i no_measure) (get_or fs i no_form)) (drop (i + 1) fs) (drop (i + 1) es)
 one_step q ms fs es i u e a =
-    ap (λ ys. normal_from q ms i u (drop i fs) ys) (cut_at es i e a ∙ ap (λ n. e ∷ drop n es) (sym (add-one i)))
+    ap (λ ys. normal_from q ms i u (drop i fs) ys) (drop_here es i e a)
     ∙ ap (λ g. by g (drop 1 (drop i fs))) same_form ∙ ap (λ gs. by (get_or fs i no_form) gs) (drop-drop 1 i fs) where
       by : Form → List Form → List EventInText
       by g gs = restyled q (is_flow_at i (kept_until u (get_or ms i no_measure) g) (get_or ms i no_measure)) e

@@ -2,8 +2,11 @@
 use Rattle.std.proofs.Common.{◌≡◌, ◌≢◌, ℕ, suc, ◌+◌, ◌<◌, ◌≤◌, Bool, true, false, List, [], ◌∷◌, length, take, drop, get_or, min, max, ⊎_elim, ap, ◌∙◌, sym, subst, refl, arith, add-one, drop-cons}
 use Rattle.std.proofs.lemmas.Bool.{ne_eqb, cases_lt}
 use Rattle.std.proofs.lemmas.List.{take_min, length-take, get_or-take, drop_all}
+use Rattle.std.specs.Prelude.{if◌then◌else◌, ◌==◌}
 use Rattle.yf_chars.specs.Class.{is_break_char, is_white}
-use Rattle.yf_forms.specs.Nodes.ContentStart.{gap_len, past_gap}
+use Rattle.yf_props.specs.Props.{PropsValue}
+use Rattle.yf_events.specs.declared.event.Span.{Span}
+use Rattle.yf_forms.specs.Nodes.ContentStart.{content_start, gap_len, past_gap, past_second, property_len}
 
 pub gap_feed : (k : Bool) (b : ℕ) (bs : List ℕ) → b ≡ 10 → gap_len k (b ∷ bs) ≡ suc (gap_len false bs)
 unfolding gap_len is_break_char is_white
@@ -92,3 +95,26 @@ gap_runs_out t bs n stop i at m k e s h b w inv x =
     let y : i ≤ stop = w l in
     past_gap_is bs at n m (omega (arith, z, inv', x, l, y, h)))
     (cases_lt stop at))
+
+-- The content of a node begins at its start or after it.
+
+past_gap_later : (t : List ℕ) (i end : ℕ) → i ≤ past_gap t i end
+unfolding past_gap
+past_gap_later t i end = omega arith
+
+second_later : (t : List ℕ) (i end : ℕ) (props : PropsValue) → i ≤ past_second t i end props
+unfolding past_second
+second_later t i end props = by (property_len t i props == 0) where
+  by : (b : Bool) → i ≤ (if b then i else past_gap t (i + property_len t i props) end)
+  by true = omega arith
+  by false = let l = past_gap_later t (i + property_len t i props) end in omega (arith, l)
+
+pub content_later : (t : List ℕ) (s : Span) (props : PropsValue) → s.start ≤ content_start t s props
+unfolding content_start
+content_later t s props = by (property_len t s.start props == 0) where
+  by : (b : Bool) → s.start ≤ (if b then s.start else past_second t (past_gap t (s.start + property_len t s.start props) s.end) s.end props)
+  by true = omega arith
+  by false =
+      let l = past_gap_later t (s.start + property_len t s.start props) s.end in
+      let m = second_later t (past_gap t (s.start + property_len t s.start props) s.end) s.end props in
+      omega (arith, l, m)

@@ -20,6 +20,7 @@ use Rattle.yf_forms.specs.Passes.OneLinePass.{separator, value_of, expected_afte
 use Rattle.yf_forms.specs.Nodes.Lines.{is_empty_text}
 use Rattle.yf_events.specs.Tree.{NodeOffsets, Node, scalar, alias, sequence, mapping, Items, no_items, item, Pairs, no_pairs, pair, is_collection, unplaced, flat, flat_items, flat_pairs, props_of}
 use Rattle.yf_forms.specs.Nodes.ScalarStyles.{lines_in, wanted, style_in}
+use Rattle.yf_forms.proofs.ListLemmas.{three_lists}
 
 -- A node in a kept collection has a text
 
@@ -41,7 +42,7 @@ scalar_filled Double text q k = quoted_text q (quotes_in q.invisible (chars text
 scalar_filled Literal text q k = absurd (true≢false (sym k))
 scalar_filled Folded text q k = absurd (true≢false (sym k))
 
-quoted_colon : (q : Quotes) (at : NodeOffsets) (props : PropsValue) (s : List ℕ) (lines : List (List ℕ))
+pub quoted_colon : (q : Quotes) (at : NodeOffsets) (props : PropsValue) (s : List ℕ) (lines : List (List ℕ))
     → colon_after (scalar at props (style_in q) s lines) ≡ codes ":"
 quoted_colon Quotes.Single at props s lines = refl
 quoted_colon Quotes.Double at props s lines = refl
@@ -131,9 +132,6 @@ bracket_group : (a b d r w y s : List ℕ) → w ≡ b ++ y → d ++ r ≡ y ++ 
 bracket_group a b d r w y s e h =
     append_assoc (a ++ b) d r ∙ (ap (λ z. (a ++ b) ++ z) h ∙ rw e (simp append_assoc))
 
-entries_group : (x y z r : List EventInText) → ((x ++ y) ++ z) ++ r ≡ x ++ (y ++ (z ++ r))
-entries_group x y z r = simp append_assoc
-
 pairs_group : (x v y z r : List EventInText) → ((x ++ (v ++ y)) ++ z) ++ r ≡ x ++ (v ++ (y ++ (z ++ r)))
 pairs_group x v y z r = simp append_assoc
 
@@ -157,7 +155,7 @@ items_inside : (t : List ℕ) (c : LayoutSetting) (at : NodeOffsets) (flow : Boo
     ≡ bare c.style (styled t c (sequence at flow props (item x xs))) ++ run c.style stack es
 unfolding run
 items_inside t c at flow props x xs r s stack es =
-    ap (λ w. codes "[" ++ run c.style (FirstItem ∷ stack) w) (entries_group (flat x) (flat_items xs) (unplaced sequence_ends ∷ []) es)
+    ap (λ w. codes "[" ++ run c.style (FirstItem ∷ stack) w) (three_lists (flat x) (flat_items xs) (unplaced sequence_ends ∷ []) es)
     ∙ ap (λ w. codes "[" ++ w) (r FirstItem stack (flat_items xs ++ (unplaced sequence_ends ∷ es)))
     ∙ ap (λ w. codes "[" ++ (written c.style (styled t c x) ++ w)) (s stack (unplaced sequence_ends ∷ es))
     ∙ items_close (codes "[") (written c.style (styled t c x)) (more_items c.style (styled_items t c xs)) (codes "]") (run c.style stack es)

@@ -10,9 +10,9 @@ use Rattle.std.proofs.lemmas.Str.{chars-append, chars-encodes, encodes-chars, sc
 use lib.Utf8.{scalar, scalars, encodes, low_scalar}
 use Rattle.yf_chars.specs.Hidden.{is_spelled_out, spelled_out}
 use Rattle.yf_chars.proofs.HiddenLemmas.{spelled_alike, spelled_apart}
-use Rattle.yf_chars.proofs.SpelledLemmas.{scalar_below}
 use Rattle.yf_chars.specs.Escape.{by_number, spelled, spelled_long, short_name, is_by_two, is_by_four, two_digits, upper_digit}
 use Rattle.yf_chars.proofs.EscapeLemmas.{few_digits, many_digits, upper_below, by_two_below, by_four_below, spelled_two, spelled_four, spelled_self, spelled_letter, spelled_none}
+use Rattle.yf_chars.proofs.TextLemmas.{scalar_below}
 use Rattle.yf_lines.specs.declared.invisible.Invisible.{Invisible}
 use Rattle.yf_lines.specs.declared.invisible.Invisible.TheVariants.{Plain, Escaped}
 use Rattle.yf_quoted.specs.Written.{twice, single_bytes, double_bytes_in, spelled_in}

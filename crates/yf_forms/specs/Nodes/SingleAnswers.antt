@@ -4,7 +4,7 @@ use Rattle.yf_events.specs.Event.{EventInText}
 use Rattle.yf_events.specs.declared.lists.Lists.{Lists}
 use Rattle.yf_forms.specs.declared.style.Style.{Style}
 use Rattle.yf_forms.specs.Nodes.OneLineFlows.{may_be_kept}
-use Rattle.yf_forms.specs.NormalForms.Normal.{LayoutSetting, Spot, root_spot, inner_spot, key_spot, value_spot, is_implicit, styled, normal_document, setting_of}
+use Rattle.yf_forms.specs.NormalForms.Normal.{LayoutSetting, Margins, root_margins, inner_margins, key_margins, value_margins, is_implicit, styled, normal_document, setting_of}
 use Rattle.yf_forms.specs.Nodes.OneLine.{bare}
 use Rattle.yf_events.specs.Tree.{Node, scalar, alias, sequence, mapping, Items, no_items, item, Pairs, no_pairs, pair, DocumentTree, flat, flat_document, is_collection, is_filled_flow}
 
@@ -29,28 +29,28 @@ pub record AddsKept (es : List EventInText) (s : Style) (first last : ℕ) (old 
 -- The keys of the block mappings of a normal form, in order, each as the index of the event that begins it, and whether it is
 -- implicit. The event at index i begins the node.
 abbrev mutual
-  pub keys : LayoutSetting → ℕ → Spot → Node → List (ℕ × Bool)
-  keys c i spot (scalar at props style text lines) = []
-  keys c i spot (alias at name) = []
-  keys c i spot (sequence at true props items) = []
-  keys c i spot (sequence at false props items) = keys_of_items c (i + 1) spot.entries items
-  keys c i spot (mapping at true props pairs) = []
-  keys c i spot (mapping at false props pairs) = keys_of_pairs c (i + 1) spot.entries pairs
+  pub keys : LayoutSetting → ℕ → Margins → Node → List (ℕ × Bool)
+  keys c i margins (scalar at props style text lines) = []
+  keys c i margins (alias at name) = []
+  keys c i margins (sequence at true props items) = []
+  keys c i margins (sequence at false props items) = keys_of_items c (i + 1) margins.entries items
+  keys c i margins (mapping at true props pairs) = []
+  keys c i margins (mapping at false props pairs) = keys_of_pairs c (i + 1) margins.entries pairs
 
   -- of entries at that column, from the event at index i on
   pub keys_of_items : LayoutSetting → ℕ → ℕ → Items → List (ℕ × Bool)
   keys_of_items c i column no_items = []
-  keys_of_items c i column (item x xs) = keys c i (inner_spot c.style column) x ++ keys_of_items c (i + length (flat x)) column xs
+  keys_of_items c i column (item x xs) = keys c i (inner_margins c.style column) x ++ keys_of_items c (i + length (flat x)) column xs
 
   pub keys_of_pairs : LayoutSetting → ℕ → ℕ → Pairs → List (ℕ × Bool)
   keys_of_pairs c i column no_pairs = []
   keys_of_pairs c i column (pair k v ps) =
-      (i, is_implicit c.style column k) ∷ (keys c i (key_spot c.style column k) k
-      ++ (keys c (i + length (flat k)) (value_spot c column k v) v ++ keys_of_pairs c (i + length (flat k) + length (flat v)) column ps))
+      (i, is_implicit c.style column k) ∷ (keys c i (key_margins c.style column k) k
+      ++ (keys c (i + length (flat k)) (value_margins c column k v) v ++ keys_of_pairs c (i + length (flat k) + length (flat v)) column ps))
 
 abbrev pub keys_of_documents : LayoutSetting → ℕ → List DocumentTree → List (ℕ × Bool)
 keys_of_documents c i [] = []
-keys_of_documents c i (d ∷ ds) = keys c (i + 1) (root_spot c.style) d.root ++ keys_of_documents c (i + length (flat_document d)) ds
+keys_of_documents c i (d ∷ ds) = keys c (i + 1) (root_margins c.style) d.root ++ keys_of_documents c (i + length (flat_document d)) ds
 
 -- of a reading of the text t, these are its trees
 abbrev pub block_keys : List ℕ → Lists → Style → List DocumentTree → List (ℕ × Bool)

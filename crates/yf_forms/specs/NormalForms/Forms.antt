@@ -12,7 +12,7 @@ use Rattle.yf_forms.specs.declared.form.decide.Form.{Form}
 use Rattle.yf_forms.specs.declared.form.measure.Measure.{Measure}
 use Rattle.yf_forms.specs.declared.style.Style.{Style}
 use Rattle.yf_forms.specs.NormalForms.Measures.{up_to_greatest, AreMeasures}
-use Rattle.yf_forms.specs.NormalForms.Normal.{LayoutSetting, Spot, root_spot, inner_spot, key_spot, value_spot, is_implicit, key_start, fits, settled, styled, setting_of}
+use Rattle.yf_forms.specs.NormalForms.Normal.{LayoutSetting, Margins, root_margins, inner_margins, key_margins, value_margins, is_implicit, key_start, fits, settled, styled, setting_of}
 use Rattle.yf_forms.specs.Nodes.OneLine.{props_text}
 use Rattle.yf_events.specs.Tree.{Node, scalar, alias, sequence, mapping, Items, no_items, item, Pairs, no_pairs, pair, DocumentTree, TreesOf, flat_items, flat_pairs, leaves, is_text, is_filled_flow}
 
@@ -35,26 +35,26 @@ key_comment_index cs k v = if is_text v || is_filled_flow v then index_between c
 
 -- where a node is, and what it is there
 pub record Site : Type 0 where
-  pub spot : Spot
+  pub margins : Margins
   -- whether it is an implicit key
   pub is_implicit : Bool
   -- the index of the comment that trails the implicit key before it
   pub key_comment : Option ℕ
 
-abbrev pub site_at : Spot → Site
-site_at spot = record { spot = spot; is_implicit = false; key_comment = None }
+abbrev pub site_at : Margins → Site
+site_at margins = record { margins = margins; is_implicit = false; key_comment = None }
 
 abbrev pub key_site : Style → ℕ → Node → Site
-key_site s column k = record { spot = key_spot s column k; is_implicit = is_implicit s column k; key_comment = None }
+key_site s column k = record { margins = key_margins s column k; is_implicit = is_implicit s column k; key_comment = None }
 
 -- a comment trails an implicit key where the value's form is settled so
 abbrev pub value_comment : LayoutSetting → ℕ → Node → Node → Option ℕ
 value_comment c column k v =
-    if is_implicit c.style column k then key_comment_index c.comments k (settled c (value_spot c column k v) v) else None
+    if is_implicit c.style column k then key_comment_index c.comments k (settled c (value_margins c column k v) v) else None
 
 abbrev pub value_site : LayoutSetting → ℕ → Node → Node → Site
 value_site c column k v =
-    record { spot = value_spot c column k v; is_implicit = false; key_comment = value_comment c column k v }
+    record { margins = value_margins c column k v; is_implicit = false; key_comment = value_comment c column k v }
 
 -- Forms.
 
@@ -62,16 +62,16 @@ value_site c column k v =
 abbrev pub no_form : Form
 no_form = record { is_kept = false; is_implicit = false; key_comment = None; column = 0 }
 
-abbrev pub is_kept_at : Style → Spot → Node → Bool
-is_kept_at s spot x = is_filled_flow x && fits s spot.column x
+abbrev pub is_kept_at : Style → Margins → Node → Bool
+is_kept_at s margins x = is_filled_flow x && fits s margins.column x
 
 -- of a node whose scalars have their styles, and whose flow collections with entries are those that may be kept
 abbrev pub form_of : Style → Site → Node → Form
 form_of s site x = record {
-  is_kept = is_kept_at s site.spot x;
+  is_kept = is_kept_at s site.margins x;
   is_implicit = site.is_implicit;
   key_comment = site.key_comment;
-  column = up_to_greatest site.spot.entries;
+  column = up_to_greatest site.margins.entries;
 }
 
 -- the forms of so many events within a collection, where it is kept on one line and where it is not
@@ -86,17 +86,17 @@ abbrev mutual
   forms c site (alias at name) = form_of c.style site (alias at name) ∷ []
   forms c site (sequence at flow props items) =
       form_of c.style site (sequence at flow props items)
-      ∷ (forms_within (is_kept_at c.style site.spot (sequence at flow props items)) (length (flat_items items))
-      (forms_of_items c site.spot.entries items) ++ (no_form ∷ []))
+      ∷ (forms_within (is_kept_at c.style site.margins (sequence at flow props items)) (length (flat_items items))
+      (forms_of_items c site.margins.entries items) ++ (no_form ∷ []))
   forms c site (mapping at flow props pairs) =
       form_of c.style site (mapping at flow props pairs)
-      ∷ (forms_within (is_kept_at c.style site.spot (mapping at flow props pairs)) (length (flat_pairs pairs))
-      (forms_of_pairs c site.spot.entries pairs) ++ (no_form ∷ []))
+      ∷ (forms_within (is_kept_at c.style site.margins (mapping at flow props pairs)) (length (flat_pairs pairs))
+      (forms_of_pairs c site.margins.entries pairs) ++ (no_form ∷ []))
 
   -- in a block collection whose entries are at that column
   pub forms_of_items : LayoutSetting → ℕ → Items → List Form
   forms_of_items c column no_items = []
-  forms_of_items c column (item x xs) = forms c (site_at (inner_spot c.style column)) x ++ forms_of_items c column xs
+  forms_of_items c column (item x xs) = forms c (site_at (inner_margins c.style column)) x ++ forms_of_items c column xs
 
   pub forms_of_pairs : LayoutSetting → ℕ → Pairs → List Form
   forms_of_pairs c column no_pairs = []
@@ -107,7 +107,7 @@ abbrev mutual
 -- reading was measured, and t is the text.
 
 abbrev pub document_forms : List ℕ → LayoutSetting → LayoutSetting → DocumentTree → List Form
-document_forms t m c d = no_form ∷ (forms c (site_at (root_spot c.style)) (styled t m d.root) ++ (no_form ∷ []))
+document_forms t m c d = no_form ∷ (forms c (site_at (root_margins c.style)) (styled t m d.root) ++ (no_form ∷ []))
 
 abbrev pub stream_forms : List ℕ → LayoutSetting → LayoutSetting → List DocumentTree → List Form
 stream_forms t m c ds = no_form ∷ (flat_map (document_forms t m c) ds ++ (no_form ∷ []))

@@ -43,17 +43,17 @@ abbrev mutual
 
 -- where a node is: the column at which it begins, its properties counted; where its entries are if it is a block
 -- collection; where its lines are if it is a block scalar
-pub record Spot : Type 0 where
+pub record Margins : Type 0 where
   pub column : ℕ
   pub entries : ℕ
   pub lines : ℕ
 
 -- a document's root; a node after a `-`, a `?` or the `:` of an explicit value, in an entry at that column
-abbrev pub root_spot : Style → Spot
-root_spot s = record { column = 0; entries = 0; lines = s.indent }
+abbrev pub root_margins : Style → Margins
+root_margins s = record { column = 0; entries = 0; lines = s.indent }
 
-abbrev pub inner_spot : Style → ℕ → Spot
-inner_spot s column = record { column = column + s.indent; entries = column + s.indent; lines = column + s.indent }
+abbrev pub inner_margins : Style → ℕ → Margins
+inner_margins s column = record { column = column + s.indent; entries = column + s.indent; lines = column + s.indent }
 
 -- written on one line from that column on, the node ends at the last column that a line may have, or before it
 abbrev pub fits : Style → ℕ → Node → Bool
@@ -107,7 +107,7 @@ value_column c column k v =
 abbrev pub value_entries : Style → ℕ → Node → ℕ
 value_entries s column v = if is_sequence v && not s.seq_indent then column else column + s.indent
 
-abbrev pub value_of_implicit : LayoutSetting → ℕ → Node → Node → Spot
+abbrev pub value_of_implicit : LayoutSetting → ℕ → Node → Node → Margins
 value_of_implicit c column k v = record {
   column = value_column c column k v;
   entries = value_entries c.style column v;
@@ -118,41 +118,41 @@ value_of_implicit c column k v = record {
 abbrev pub key_column : Style → ℕ → Node → ℕ
 key_column s column k = if is_implicit s column k then column else column + s.indent
 
-abbrev pub key_spot : Style → ℕ → Node → Spot
-key_spot s column k = record (inner_spot s column) { column = key_column s column k }
+abbrev pub key_margins : Style → ℕ → Node → Margins
+key_margins s column k = record (inner_margins s column) { column = key_column s column k }
 
-abbrev pub value_spot : LayoutSetting → ℕ → Node → Node → Spot
-value_spot c column k v = if is_implicit c.style column k then value_of_implicit c column k v else inner_spot c.style column
+abbrev pub value_margins : LayoutSetting → ℕ → Node → Node → Margins
+value_margins c column k v = if is_implicit c.style column k then value_of_implicit c column k v else inner_margins c.style column
 
 -- Which flow collections are kept: those that may be, and that end in time where they begin. Outer ones are decided before
 -- inner ones, and each other one becomes a block collection.
 abbrev mutual
-  pub settled : LayoutSetting → Spot → Node → Node
-  settled c spot (scalar at props style text lines) = scalar at props style text lines
-  settled c spot (alias at name) = alias at name
-  settled c spot (sequence at flow props no_items) = sequence at flow props no_items
-  settled c spot (sequence at flow props (item x xs)) =
-      if flow && fits c.style spot.column (sequence at flow props (item x xs)) then sequence at flow props (item x xs)
-      else sequence at false props (item (settled c (inner_spot c.style spot.entries) x) (settled_items c spot.entries xs))
-  settled c spot (mapping at flow props no_pairs) = mapping at flow props no_pairs
-  settled c spot (mapping at flow props (pair k v ps)) =
-      if flow && fits c.style spot.column (mapping at flow props (pair k v ps)) then mapping at flow props (pair k v ps)
-      else mapping at false props (pair (settled c (key_spot c.style spot.entries k) k) (settled c (value_spot c spot.entries k v) v)
-      (settled_pairs c spot.entries ps))
+  pub settled : LayoutSetting → Margins → Node → Node
+  settled c margins (scalar at props style text lines) = scalar at props style text lines
+  settled c margins (alias at name) = alias at name
+  settled c margins (sequence at flow props no_items) = sequence at flow props no_items
+  settled c margins (sequence at flow props (item x xs)) =
+      if flow && fits c.style margins.column (sequence at flow props (item x xs)) then sequence at flow props (item x xs)
+      else sequence at false props (item (settled c (inner_margins c.style margins.entries) x) (settled_items c margins.entries xs))
+  settled c margins (mapping at flow props no_pairs) = mapping at flow props no_pairs
+  settled c margins (mapping at flow props (pair k v ps)) =
+      if flow && fits c.style margins.column (mapping at flow props (pair k v ps)) then mapping at flow props (pair k v ps)
+      else mapping at false props (pair (settled c (key_margins c.style margins.entries k) k) (settled c (value_margins c margins.entries k v) v)
+      (settled_pairs c margins.entries ps))
 
   -- in a block collection whose entries are at that column
   pub settled_items : LayoutSetting → ℕ → Items → Items
   settled_items c column no_items = no_items
-  settled_items c column (item x xs) = item (settled c (inner_spot c.style column) x) (settled_items c column xs)
+  settled_items c column (item x xs) = item (settled c (inner_margins c.style column) x) (settled_items c column xs)
 
   pub settled_pairs : LayoutSetting → ℕ → Pairs → Pairs
   settled_pairs c column no_pairs = no_pairs
   settled_pairs c column (pair k v ps) =
-      pair (settled c (key_spot c.style column k) k) (settled c (value_spot c column k v) v) (settled_pairs c column ps)
+      pair (settled c (key_margins c.style column k) k) (settled c (value_margins c column k v) v) (settled_pairs c column ps)
 
 -- the normal form of a document's tree, where t is the text
 abbrev pub normal_document : List ℕ → LayoutSetting → DocumentTree → DocumentTree
-normal_document t c d = record d { root = settled c (root_spot c.style) (styled t c d.root) }
+normal_document t c d = record d { root = settled c (root_margins c.style) (styled t c d.root) }
 
 abbrev pub setting_of : Lists → Style → LayoutSetting
 setting_of r s = record { style = s; comments = r.comments }

@@ -1,6 +1,6 @@
 -- A block scalar in a block node is found as it is derived, and reached: it has one end and one meaning, and nothing else begins
 -- with its sign.
-use Rattle.std.proofs.Common.{◌≡◌, ◌≢◌, ℕ, ℤ, pos, ◌+ℤ◌, Bool, true, false, ◌||◌, ◌==◌, List, [], Option, None, refl, sym, ap, ◌∙◌, arith, true≢false, append-nil}
+use Rattle.std.proofs.Common.{◌≡◌, ◌≢◌, ℕ, ℤ, pos, ◌+ℤ◌, Bool, true, false, ◌||◌, ◌==◌, List, [], Option, None, refl, sym, ap, ◌∙◌, arith, true≢false}
 use Rattle.std.proofs.lemmas.Bool.Decides.{nat_tests}
 use Rattle.std.proofs.Math.Bool.{and-false}
 use Rattle.std.specs.Str.{IsUtf8}
@@ -8,6 +8,7 @@ use Rattle.yf_chars.specs.declared.context.Ctx.{Ctx}
 use Rattle.yf_chars.specs.Text.{code}
 use Rattle.yf_chars.specs.Class.{is_ns_char, is_nb_char, is_printable, is_between, is_break_char, is_white, is_indicator, is_flow_indicator}
 use Rattle.yf_chars.specs.Chain.{Chosen, Stuck}
+use Rattle.yf_chars.proofs.Tests.{none_some}
 use Rattle.yf_lines.specs.Basic.{is_block}
 use Rattle.yf_comments.specs.Comment.{CommentValue}
 use Rattle.yf_comments.specs.Comments.{Separate}
@@ -22,7 +23,7 @@ use Rattle.yf_grammar.specs.Productions.BlockScalar.BlockScalar.{block_scalar}
 use Rattle.yf_grammar.specs.Productions.Grammar.{NodeOf, Derives}
 use Rattle.yf_grammar.specs.Productions.Grammar.Derives.{an_alias, a_plain, a_plain_with, properties_alone, a_json, a_json_with}
 use Rattle.yf_grammar.proofs.FlowReader.FlowStarts.{flow_starts}
-use Rattle.yf_grammar.specs.Productions.Meaning.{Meaning, meaning_after, noting}
+use Rattle.yf_grammar.specs.Productions.Meaning.{Meaning, meaning_after}
 use Rattle.yf_grammar.specs.FlowReader.Parser.{ParsedNode, found, ANode, Parses, begins_alias, begins_properties, begins_content}
 use Rattle.yf_grammar.specs.FlowReader.Parser.Parses.{alias_read, alias_missed, plain_read, plain_missed, content_read, properties_missed, properties_content, properties_plain, properties_end, properties_before_broken, properties_before_other}
 use Rattle.yf_grammar.specs.BlockReader.BlockParser.{DashAt, Columns, Ahead, headed, MappingAt, by_question, by_colon, by_key, leaf_found, Inline, Leaf, Whole}
@@ -30,7 +31,7 @@ use Rattle.yf_grammar.specs.BlockReader.BlockParser.Whole.{sequence_read, sequen
 use Rattle.yf_grammar.specs.BlockReader.Halts.{NoColonAt, Halts}
 use Rattle.yf_grammar.specs.BlockReader.Halts.Halts.{halts_sequence, halts_sequence_too_deep, halts_mapping, halts_mapping_too_deep, halts_properties_below, halts_properties_leaf, halts_properties_missed, halts_properties_apart_below, halts_properties_apart, halts_leaf, halts_scalar, halts_scalar_before, halts_plain, halts_plain_missed, halts_content, halts_content_unended, halts_content_missed, halts_refused}
 use Rattle.yf_grammar.proofs.Ends.GapLemmas.{Visible}
-use Rattle.yf_grammar.proofs.Ends.NodeExits.{alias_begins, none_some}
+use Rattle.yf_grammar.proofs.Ends.NodeExits.{alias_begins}
 use Rattle.yf_grammar.proofs.FlowReader.PlainEnds.{plain_leaps}
 use Rattle.yf_grammar.proofs.FlowReader.PropertiesEnds.{properties_begin}
 use Rattle.yf_grammar.proofs.BlockOutcomes.OneScalars.{scalar_one}

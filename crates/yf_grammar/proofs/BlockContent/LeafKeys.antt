@@ -29,7 +29,7 @@ use Rattle.yf_grammar.proofs.FlowReader.CompleteSteps.{propertied_content}
 use Rattle.yf_grammar.proofs.FlowReader.FlowStarts.{flow_starts}
 use Rattle.yf_grammar.proofs.Ends.GapLemmas.{Visible, separate_is}
 use Rattle.yf_grammar.specs.Productions.Grammar.MaySeparate.{separated}
-use Rattle.yf_grammar.proofs.Ends.NodeExits.{some_found, none_found, none_some, node_alias, node_content, past_properties, PastProperties, past_to_content, past_to_plain, past_to_nothing, past_to_broken, past_to_other}
+use Rattle.yf_grammar.proofs.Ends.NodeExits.{some_found, node_alias, node_content, past_properties, PastProperties, past_to_content, past_to_plain, past_to_nothing, past_to_broken, past_to_other}
 use Rattle.yf_grammar.proofs.BlockOutcomes.NodesAfter.{node_next}
 use Rattle.yf_grammar.proofs.Ends.BlankRuns.{no_start_past}
 use Rattle.yf_grammar.proofs.BlockOutcomes.BlockSigns.{line_end_stop}

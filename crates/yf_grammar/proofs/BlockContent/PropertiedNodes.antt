@@ -24,7 +24,7 @@ use Rattle.yf_grammar.specs.FlowReader.Parser.{ParsedNode, Parses, ANode, begins
 use Rattle.yf_grammar.specs.BlockReader.BlockParser.{KeyBefore, Props, headed, past}
 use Rattle.yf_grammar.proofs.Ends.GapLemmas.{Visible, separate_is}
 use Rattle.yf_grammar.proofs.FlowReader.Longest.{Longest}
-use Rattle.yf_grammar.proofs.Ends.NodeExits.{some_found, none_some, past_properties, PastProperties, past_to_content, past_to_plain, past_to_nothing, past_to_broken, past_to_other}
+use Rattle.yf_grammar.proofs.Ends.NodeExits.{some_found, past_properties, PastProperties, past_to_content, past_to_plain, past_to_nothing, past_to_broken, past_to_other}
 use Rattle.yf_grammar.proofs.FlowReader.NodeExact.{lone_is}
 use Rattle.yf_grammar.proofs.BlockOutcomes.NodesAfter.{properties_after}
 use Rattle.yf_grammar.proofs.FlowReader.PlainEnds.{plain_leaps}
@@ -42,7 +42,7 @@ use Rattle.yf_grammar.proofs.BlockContent.InlineViews.{NotKey, NoSignAt, whole_r
 use Rattle.yf_grammar.proofs.BlockOutcomes.OutcomeMade.{found_moved, longest_moved, headed_unheld}
 use Rattle.yf_grammar.proofs.BlockContent.PropertiesLines.{held, in_lines}
 use Rattle.yf_grammar.proofs.BlockContent.PropertiesWalk.{held_with, begins_visible, to_line_end, to_leaf}
-use Rattle.yf_chars.proofs.Tests.{not_true}
+use Rattle.yf_chars.proofs.Tests.{not_true, none_some}
 use Rattle.yf_props.proofs.NameOrder.{properties_forward}
 
 -- comments before comments

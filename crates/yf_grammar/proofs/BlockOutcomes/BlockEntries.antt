@@ -2,6 +2,7 @@
 use Rattle.std.proofs.Common.{◌≡◌, ℕ, max, ◌+◌, ◌≤◌, ℤ, pos, Bool, true, false, List, Option, Some, None, sym, ap, ◌∙◌, subst, arith}
 use Rattle.std.specs.Str.{IsUtf8}
 use Rattle.yf_chars.specs.declared.context.Ctx.TheVariants.{BlockOut, BlockIn, FlowOut, BlockKey}
+use Rattle.yf_chars.proofs.Tests.{none_some}
 use Rattle.yf_lines.specs.Basic.{Clear}
 use Rattle.yf_grammar.specs.Productions.Grammar.{KeyOf, Derives}
 use Rattle.yf_grammar.specs.Productions.Meaning.{Meaning, ◌⊕◌, empty_node, entering}
@@ -11,7 +12,6 @@ use Rattle.yf_grammar.specs.BlockReader.BlockParser.Whole.{item_read, item_misse
 use Rattle.yf_grammar.specs.BlockReader.Halts.{NoColonAt, then_found, Halts}
 use Rattle.yf_grammar.specs.BlockReader.Halts.Halts.{halts_dash, halts_undashed, halts_question, halts_before_value, halts_value, halts_colon, halts_key, halts_no_key, halts_key_too_deep}
 use Rattle.yf_grammar.proofs.FlowReader.Longest.{Longest}
-use Rattle.yf_grammar.proofs.Ends.NodeExits.{none_some}
 use Rattle.yf_grammar.proofs.BlockOutcomes.BlockClaims.{IsFound, Exact, HaltsReach}
 use Rattle.yf_grammar.proofs.BlockOutcomes.BlockFirst.{KeyFound, key_is, key_one, key_no_question, key_no_colon_sign, key_no_line}
 use Rattle.yf_grammar.proofs.BlockOutcomes.BlockItems.{never_none}

@@ -5,6 +5,7 @@ use Rattle.yf_chars.specs.declared.context.Ctx.{Ctx}
 use Rattle.yf_chars.specs.declared.context.Ctx.TheVariants.{FlowOut}
 use Rattle.yf_chars.specs.Text.{code}
 use Rattle.yf_chars.specs.Chain.{Stuck, Chosen}
+use Rattle.yf_chars.proofs.Tests.{none_some}
 use Rattle.yf_comments.specs.Comment.{CommentValue}
 use Rattle.yf_comments.specs.Comments.{LineEnd}
 use Rattle.yf_events.specs.declared.event.ScalarStyle.TheVariants.{Plain as PlainStyle}
@@ -13,11 +14,11 @@ use Rattle.yf_grammar.specs.Productions.BlockScalar.{BlockScalar}
 use Rattle.yf_grammar.specs.Productions.Meaning.{Meaning, noting, scalar}
 use Rattle.yf_grammar.specs.FlowReader.Parser.{ParsedNode, Parses, ANode, begins_plain, plain_found}
 use Rattle.yf_grammar.specs.FlowReader.Parser.Parses.{alias_read, alias_missed, plain_read, plain_missed, content_read, properties_missed, properties_content, properties_plain, properties_end, properties_before_broken, properties_before_other}
-use Rattle.yf_grammar.specs.BlockReader.BlockParser.{Ahead, alone, outcome_after, NextEntry, NoEntry, BlockTask, Awaited, Below, Inline, Leaf, Items, Item, Whole, Indicator, MayLeaf, leaf_found, item_found, lone_key, lone_value, pair_found, collected}
+use Rattle.yf_grammar.specs.BlockReader.BlockParser.{Ahead, outcome_after, BlockTask, Below, Inline, Leaf, Item, Whole, MayLeaf, leaf_found, item_found, lone_key, lone_value, pair_found, collected}
 use Rattle.yf_grammar.specs.BlockReader.BlockParser as BlockParser
-use Rattle.yf_grammar.specs.BlockReader.Halts.{NoColonAt, one_open, Alone, alone_to, MayEnd, PlainPart, ScalarPart, NoneAfter, not_after, then_found, with_plain, Halts}
+use Rattle.yf_grammar.specs.BlockReader.Halts.{NoColonAt, one_open, alone_to, MayEnd, PlainPart, ScalarPart, not_after, then_found, Halts}
 use Rattle.yf_grammar.specs.BlockReader.Halts as Halting
-use Rattle.yf_grammar.proofs.Ends.NodeExits.{none_some, some_found, alias_begins, alias_no_plain, plain_no_content, plain_no_properties}
+use Rattle.yf_grammar.proofs.Ends.NodeExits.{some_found, alias_begins, alias_no_plain, plain_no_content, plain_no_properties}
 use Rattle.yf_grammar.proofs.FlowReader.PropertiesEnds.{properties_begin}
 use Rattle.yf_grammar.proofs.FlowReader.NodeExact.{plain_is}
 use Rattle.yf_grammar.proofs.BlockOutcomes.OutcomeEnds.{collected_end, leaf_end, leaf_is, with_plain_is, item_end, lone_key_end, lone_value_end, pair_end, items_end, alone_end, told_of}

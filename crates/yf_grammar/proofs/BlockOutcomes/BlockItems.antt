@@ -1,5 +1,6 @@
 -- The entries of a block collection: the last one, and one that others follow.
 use Rattle.std.proofs.Common.{◌≡◌, ℕ, max, ◌+◌, ◌<◌, ◌≤◌, Bool, false, ◌⊎◌, inl, inr, ⊎_elim, List, [], Option, Some, None, refl, sym, ap, ◌∙◌, subst, arith}
+use Rattle.yf_chars.proofs.Tests.{none_some}
 use Rattle.yf_grammar.specs.Productions.Meaning.{Meaning, ◌⊕◌}
 use Rattle.yf_grammar.specs.FlowReader.Parser.{ParsedNode, found}
 use Rattle.yf_grammar.specs.BlockReader.BlockParser.{LineText, NextEntry, next_item, next_pair, DeeperLine, Origin, Later, BlockTask, Items, Item, Whole, items_found}
@@ -7,7 +8,7 @@ use Rattle.yf_grammar.specs.BlockReader.BlockParser.Whole.{items_missed, items_l
 use Rattle.yf_grammar.specs.BlockReader.Halts.{NoColonAt, none_open, NoneAfter, not_after, Halts}
 use Rattle.yf_grammar.specs.BlockReader.Halts.Halts.{halts_item, halts_before_item, halts_items}
 use Rattle.yf_grammar.proofs.FlowReader.Longest.{Longest}
-use Rattle.yf_grammar.proofs.Ends.NodeExits.{some_found, none_found, none_some}
+use Rattle.yf_grammar.proofs.Ends.NodeExits.{some_found, none_found}
 use Rattle.yf_grammar.proofs.BlockOutcomes.BlockClaims.{FollowItems, IsFound, Exact, HaltsReach, line_unique}
 use Rattle.yf_grammar.proofs.BlockOutcomes.OutcomeEnds.{items_is}
 use Rattle.yf_grammar.proofs.BlockOutcomes.HaltsLater.{halts_later}

@@ -2,16 +2,16 @@
 -- that character.
 use Rattle.std.proofs.Common.{◌≡◌, ℕ, ◌+◌, ◌<◌, ◌≤◌, ℤ, true, false, List, Option, Some, refl, arith}
 use Rattle.yf_chars.specs.declared.context.Ctx.TheVariants.{FlowOut}
+use Rattle.yf_chars.proofs.Tests.{none_some}
 use Rattle.yf_grammar.specs.Productions.Meaning.{Meaning}
 use Rattle.yf_grammar.specs.FlowReader.Parser.{ParsedNode, Parses, ANode}
 use Rattle.yf_grammar.specs.BlockReader.BlockParser.{LineText, Ahead, KeyBefore, BlockTask, Awaited, Below, Inline, Leaf, Items, Item, Whole, item_found, lone_key, lone_value, pair_found, collected}
 use Rattle.yf_grammar.specs.BlockReader.BlockParser as BlockParser
-use Rattle.yf_grammar.specs.BlockReader.Halts.{Alone, PlainPart, plain_part, ScalarPart, MayEnd, Halts}
+use Rattle.yf_grammar.specs.BlockReader.Halts.{Alone, PlainPart, plain_part, Halts}
 use Rattle.yf_grammar.specs.BlockReader.Halts as Halting
 use Rattle.yf_grammar.proofs.FlowReader.Sound.{found_is_derived}
 use Rattle.yf_grammar.proofs.FlowReader.FlowStarts.{flow_starts}
 use Rattle.yf_grammar.proofs.FlowReader.PlainEnds.{plain_later}
-use Rattle.yf_grammar.proofs.Ends.NodeExits.{none_some}
 use Rattle.yf_grammar.proofs.BlockOutcomes.BlockStarts.{scalar_later}
 use Rattle.yf_grammar.proofs.BlockOutcomes.BlockClaims.{line_whites}
 use Rattle.yf_grammar.proofs.BlockOutcomes.BlockGaps.{whites_order, rows_order}

@@ -26,7 +26,7 @@ use Rattle.yf_grammar.proofs.Ends.BlankRuns.{ContentBefore, after_byte, no_start
 use Rattle.yf_grammar.proofs.FlowReader.PlainEnds.{plain_after}
 use Rattle.yf_grammar.proofs.FlowReader.KeyLines.{anchor_ns}
 
-solid_ns : (c : ℕ) → Solid c → is_ns_char c ≡ true
+pub solid_ns : (c : ℕ) → Solid c → is_ns_char c ≡ true
 unfolding is_ns_char is_nb_char is_printable is_between is_break_char is_white
 solid_ns c s = let l = s.low in let h = s.high in grind (arith, nat_tests)
 

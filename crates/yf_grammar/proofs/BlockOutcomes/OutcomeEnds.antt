@@ -1,11 +1,12 @@
 -- The outcomes of the reader of block nodes, part by part: where each ends, and how deep it is.
 use Rattle.std.proofs.Common.{◌≡◌, ℕ, suc, max, Bool, false, List, Option, Some, None, refl, sym, ap, ◌∙◌}
+use Rattle.yf_chars.proofs.Tests.{none_some}
 use Rattle.yf_comments.specs.Comment.{CommentValue}
 use Rattle.yf_grammar.specs.Productions.Meaning.{Meaning, ◌⊕◌, meaning_after, noting, empty_node, collection, entering}
 use Rattle.yf_grammar.specs.FlowReader.Parser.{ParsedNode, found}
 use Rattle.yf_grammar.specs.BlockReader.BlockParser.{Ahead, Nothing, Indicator, Props, headed, outcome_after, alone, collected, leaf_found, item_found, lone_key, lone_value, pair_found, items_found}
 use Rattle.yf_grammar.specs.BlockReader.Halts.{then_found, with_plain}
-use Rattle.yf_grammar.proofs.Ends.NodeExits.{some_found, none_some}
+use Rattle.yf_grammar.proofs.Ends.NodeExits.{some_found}
 
 pub found_end : {f : ParsedNode} (j h : ℕ) (b : Bool) (x : Meaning) → found j h b x ≡ Some f → f.end ≡ j
 found_end j h b x e = ap (λ g. g.end) (some_found j h b x (sym e))

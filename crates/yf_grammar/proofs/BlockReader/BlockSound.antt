@@ -3,6 +3,7 @@ use Rattle.std.proofs.Common.{◌≡◌, ℕ, ◌≤◌, ℤ, pos, ◌+ℤ◌, B
 use Rattle.yf_chars.specs.declared.context.Ctx.{Ctx}
 use Rattle.yf_chars.specs.declared.context.Ctx.TheVariants.{FlowOut}
 use Rattle.yf_chars.specs.Text.{code}
+use Rattle.yf_chars.proofs.Tests.{none_some}
 use Rattle.yf_lines.specs.Basic.{is_block}
 use Rattle.yf_comments.specs.Comment.{CommentValue}
 use Rattle.yf_comments.specs.Comments.{LineEnd, Separate}
@@ -13,7 +14,7 @@ use Rattle.yf_grammar.specs.Productions.Grammar.{NodeOf, BlockNode, BlockIndente
 use Rattle.yf_grammar.specs.Productions.Grammar.Derives.{flow_node, an_alias, a_plain, a_plain_with, properties_alone, a_json, a_json_with, a_block_scalar, a_block_scalar_with, flow_in_block}
 use Rattle.yf_grammar.specs.FlowReader.Parser.{ParsedNode, found, begins_properties, begins_alias}
 use Rattle.yf_grammar.specs.BlockReader.BlockParser.{Columns, PropertiesHeld, Ahead, Nothing, Indicator, Props, headed, outcome_after, alone, with_comments, Clash, Joins, first_held, more_held, MayLeaf}
-use Rattle.yf_grammar.proofs.Ends.NodeExits.{none_some, alias_begins}
+use Rattle.yf_grammar.proofs.Ends.NodeExits.{alias_begins}
 use Rattle.yf_grammar.proofs.FlowReader.ParserLemmas.{moved}
 use Rattle.yf_grammar.proofs.FlowReader.PropertiesEnds.{properties_begin}
 use Rattle.yf_grammar.proofs.BlockOutcomes.BlockClaims.{Unheld, nothing_ahead, indicator_ahead}

@@ -1,10 +1,11 @@
 -- What the reader of block nodes finds, whole or not, covers no forbidden line.
-use Rattle.std.proofs.Common.{◌≡◌, ◌≢◌, ℕ, suc, ◌+◌, ◌<◌, ◌≤◌, ℤ, Bool, true, false, List, [], Option, Some, None, refl, sym, ap, ◌∙◌, subst, arith, true≢false}
+use Rattle.std.proofs.Common.{◌≡◌, ◌≢◌, ℕ, suc, ◌+◌, ◌<◌, ◌≤◌, ℤ, Bool, true, false, List, [], Option, Some, refl, sym, ap, ◌∙◌, subst, arith, true≢false}
 use Rattle.std.proofs.lemmas.Bool.Decides.{nat_tests}
 use Rattle.std.specs.Str.{IsUtf8}
 use Rattle.yf_chars.specs.Text.{code}
 use Rattle.yf_chars.specs.Class.{is_between, is_ns_char}
 use Rattle.yf_chars.specs.Chain.{Chain, done, step}
+use Rattle.yf_chars.proofs.Tests.{none_some}
 use Rattle.yf_lines.specs.Basic.{Spaces, ForbiddenLine, Clear, is_marker}
 use Rattle.yf_lines.proofs.BasicLemmas.{clear_join, clear_nothing, three_first, three_second, no_marker}
 use Rattle.yf_lines.proofs.ClearLemmas.{not_forbidden, Quiet, quiet_nothing, quiet_join, clear_quiet, quiet_whites, clear_whites, clear_break}
@@ -12,7 +13,7 @@ use Rattle.yf_comments.specs.Comment.{CommentValue}
 use Rattle.yf_comments.proofs.SeparateLemmas.{spaces_whites}
 use Rattle.yf_block_scalar.specs.declared.header.Header.{Header}
 use Rattle.yf_block_scalar.specs.declared.header.Chomp.{Chomp}
-use Rattle.yf_block_scalar.specs.Header.{BlockHeader, HeaderValue, Style, Digit, Sign, Indicators}
+use Rattle.yf_block_scalar.specs.Header.{BlockHeader, HeaderValue, Digit, Sign, Indicators}
 use Rattle.yf_block_scalar.specs.Header.BlockHeader.{block_header}
 use Rattle.yf_block_scalar.specs.Header.Style.{literal_sign, folded_sign}
 use Rattle.yf_block_scalar.specs.Header.Digit.{digit}
@@ -25,14 +26,13 @@ use Rattle.yf_grammar.specs.Productions.BlockScalar.{BlockScalar}
 use Rattle.yf_grammar.specs.Productions.BlockScalar.BlockScalar.{block_scalar}
 use Rattle.yf_grammar.specs.Productions.Meaning.{Meaning}
 use Rattle.yf_grammar.specs.FlowReader.Parser.{ParsedNode}
-use Rattle.yf_grammar.specs.BlockReader.BlockParser.{DashAt, NextEntry, next_item, next_pair, Ahead, BlockTask, Awaited, Below, Inline, Leaf, Items, Item, Whole, collected, item_found, lone_key, lone_value, pair_found}
+use Rattle.yf_grammar.specs.BlockReader.BlockParser.{DashAt, BlockTask, Awaited, Below, Inline, Leaf, Items, Item, Whole}
 use Rattle.yf_grammar.specs.BlockReader.BlockParser as BlockParser
-use Rattle.yf_grammar.specs.BlockReader.Halts.{Alone, alone_to, alone_nowhere, PlainPart, plain_part, Halts}
+use Rattle.yf_grammar.specs.BlockReader.Halts.{Halts}
 use Rattle.yf_grammar.specs.BlockReader.Halts as Halting
-use Rattle.yf_grammar.proofs.FlowReader.ClearLemmas.{clear_sign, quiet_nb, quiet_byte, clear_rest, clear_comments, clear_properties, found_is_clear}
-use Rattle.yf_grammar.proofs.Ends.NodeExits.{none_some}
+use Rattle.yf_grammar.proofs.FlowReader.ClearLemmas.{quiet_nb, quiet_byte, clear_rest, clear_comments, clear_properties, found_is_clear, clear_mark}
 use Rattle.yf_grammar.proofs.BlockOutcomes.BlockClaims.{line_whites, dash_ns}
-use Rattle.yf_grammar.proofs.BlockOutcomes.OutcomeEnds.{collected_end, leaf_end, with_plain_end, item_end, lone_key_end, lone_value_end, pair_end, items_end, alone_end, told_of, then_of}
+use Rattle.yf_grammar.proofs.BlockOutcomes.OutcomeEnds.{collected_end, leaf_end, item_end, lone_key_end, lone_value_end, pair_end, items_end, alone_end, told_of}
 use Rattle.yf_grammar.proofs.BlockReader.WholeSound.{next_spaces}
 
 -- a block scalar
@@ -118,9 +118,6 @@ place (Item s m q i) = i
 pub clear_to : {t : List ℕ} {i : ℕ} (j k : ℕ) → j ≡ k → Clear t i k → Clear t i j
 clear_to {t} {i} j k e c = subst (λ w. Clear t i w) (sym e) c
 
-pub sign_clear : {t : List ℕ} {i c : ℕ} → code t i ≡ c → c ≢ 45 → c ≢ 46 → Clear t i (i + 1)
-sign_clear e a b = clear_sign (λ q. a (sym e ∙ q)) (λ q. b (sym e ∙ q))
-
 pub dash_clear : {t : List ℕ} {i : ℕ} → DashAt t i → Clear t i (i + 1)
 dash_clear {t} {i} d = record {
   none = λ h l m f. let same : i ≡ h = omega arith in true≢false (sym (subst (λ k. ForbiddenLine t k) (sym same) f).marker ∙ none);
@@ -170,17 +167,17 @@ module _ {t : List ℕ} (u : IsUtf8 t) where
   whole_clear (BlockParser.item_missed d r) e = absurd (none_some e)
   whole_clear (BlockParser.item_undashed d) e = absurd (none_some e)
   whole_clear (BlockParser.question_missed s r) e = absurd (none_some e)
-  whole_clear {f = v} (BlockParser.question_alone {i = i} {f = f} s r n) e = clear_to v.end f.end (lone_key_end i f e) (clear_join (sign_clear s.sign_is_at (λ q. omega arith) (λ q. omega arith)) (whole_clear r refl))
+  whole_clear {f = v} (BlockParser.question_alone {i = i} {f = f} s r n) e = clear_to v.end f.end (lone_key_end i f e) (clear_join (clear_mark s.sign_is_at (λ q. omega arith) (λ q. omega arith)) (whole_clear r refl))
   whole_clear {f = v} (BlockParser.question_and_value {m = m} {i = i} {f = f} {g = g} s r c z) e =
       clear_to v.end g.end (pair_end i (f.end + m) f g e)
-      (clear_join (sign_clear s.sign_is_at (λ q. omega arith) (λ q. omega arith)) (clear_join (whole_clear r refl) (clear_join (spaces_clear u c.indent)
-      (clear_join (sign_clear c.colon (λ q. omega arith) (λ q. omega arith)) (whole_clear z refl)))))
+      (clear_join (clear_mark s.sign_is_at (λ q. omega arith) (λ q. omega arith)) (clear_join (whole_clear r refl) (clear_join (spaces_clear u c.indent)
+      (clear_join (clear_mark c.colon (λ q. omega arith) (λ q. omega arith)) (whole_clear z refl)))))
   whole_clear (BlockParser.question_value_missed s r c v) e = absurd (none_some e)
-  whole_clear {f = v} (BlockParser.colon_read {i = i} {f = f} s r) e = clear_to v.end f.end (lone_value_end i f e) (clear_join (sign_clear s.sign_is_at (λ q. omega arith) (λ q. omega arith)) (whole_clear r refl))
+  whole_clear {f = v} (BlockParser.colon_read {i = i} {f = f} s r) e = clear_to v.end f.end (lone_value_end i f e) (clear_join (clear_mark s.sign_is_at (λ q. omega arith) (λ q. omega arith)) (whole_clear r refl))
   whole_clear (BlockParser.colon_missed s r) e = absurd (none_some e)
   whole_clear {f = v} (BlockParser.key_read {i = i} {k = k} {f = f} {g = g} a b p l d r) e =
       clear_to v.end g.end (pair_end i k f g e)
-      (clear_join (found_is_clear u p) (clear_join (clear_whites u d.run) (clear_join (sign_clear d.colon.sign_is_at (λ q. omega arith) (λ q. omega arith)) (whole_clear r refl))))
+      (clear_join (found_is_clear u p) (clear_join (clear_whites u d.run) (clear_join (clear_mark d.colon.sign_is_at (λ q. omega arith) (λ q. omega arith)) (whole_clear r refl))))
   whole_clear (BlockParser.key_value_missed a b p l d r) e = absurd (none_some e)
   whole_clear (BlockParser.no_key a b k) e = absurd (none_some e)
   whole_clear (BlockParser.key_too_deep a b p l d) e = absurd (none_some e)

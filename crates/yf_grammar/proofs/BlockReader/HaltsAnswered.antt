@@ -8,6 +8,7 @@ use Rattle.yf_chars.specs.Text.{code}
 use Rattle.yf_chars.specs.Class.{is_white}
 use Rattle.yf_chars.specs.Chain.{Stuck, Chosen}
 use Rattle.yf_chars.proofs.TextLemmas.{within_from_code}
+use Rattle.yf_chars.proofs.Tests.{none_some}
 use Rattle.yf_comments.proofs.RowLemmas.{row_functional}
 use Rattle.yf_comments.proofs.LineEndLemmas.{line_end_rows}
 use Rattle.yf_plain.proofs.PlainLemmas.{ns_below}
@@ -31,7 +32,6 @@ use Rattle.yf_grammar.proofs.BlockOutcomes.OneScalars.{scalar_one}
 use Rattle.yf_grammar.proofs.BlockContent.PlainCut.{LastLine, whole_plain, plain_without_last, plain_one_line, no_plain_part}
 use Rattle.yf_grammar.proofs.FlowReader.PropertiesEnds.{properties_begin}
 use Rattle.yf_grammar.proofs.FlowReader.Sound.{found_is_derived}
-use Rattle.yf_chars.proofs.SpelledLemmas.{never}
 use Rattle.yf_props.proofs.NameOrder.{properties_forward}
 
 -- an outcome of a task
@@ -145,7 +145,7 @@ module _ {t : List ℕ} (u : IsUtf8 t) (v : ℕ) (known : (e : ℕ) (ws : List �
       let x = d.dash in
       then (node_answered u e (n +ℤ pos 1) FlowOut p refl)
       (λ r. no_collection w (record {
-        no_dash = λ {m} y z. absurd (never (sym q ∙ y));
+        no_dash = λ {m} y z. absurd (none_some (sym q ∙ y));
         no_question = λ {m} y z. let h = z.sign_is_at in absurd (omega arith);
         no_colon = λ {m} y z. let h = z.sign_is_at in absurd (omega arith);
       }) (dash_no_key d r.read))
@@ -163,7 +163,7 @@ module _ {t : List ℕ} (u : IsUtf8 t) (v : ℕ) (known : (e : ℕ) (ws : List �
   column_answer : (e p : ℕ) (ws : List ℕ) (n : ℤ) (c : Ctx) (cols : Columns) (a : Ahead) (o : Option ℕ) → cols.mapping ≡ o → weight t (Inline n c cols a p) ≤ v → (DashAt t p → ⊥)
       → Irrefutable (Answer t e ws (Inline n c cols a p))
   column_answer e p ws n c cols a None q w d = no_collection w
-      (record { no_dash = λ {m} y z. d z; no_question = λ {m} y z. never (sym q ∙ y); no_colon = λ {m} y z. never (sym q ∙ y) })
+      (record { no_dash = λ {m} y z. d z; no_question = λ {m} y z. none_some (sym q ∙ y); no_colon = λ {m} y z. none_some (sym q ∙ y) })
       (no_column q)
   column_answer e p ws n c cols a (Some m) q w d = by_cases (SignAt t 63 p)
       (λ y. mapping_answer e m p ws n c cols a w d q (by_question y))

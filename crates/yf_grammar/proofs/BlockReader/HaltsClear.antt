@@ -1,20 +1,18 @@
 -- The last halt of the reader of block nodes covers no forbidden line.
-use Rattle.std.proofs.Common.{◌≡◌, ◌≢◌, ℕ, ◌+◌, ◌<◌, ◌≤◌, ℤ, true, false, List, [], Option, Some, None, refl, arith}
+use Rattle.std.proofs.Common.{◌≡◌, ◌≢◌, ℕ, ◌+◌, ◌<◌, ◌≤◌, ℤ, true, false, List, [], Option, Some, refl, arith}
 use Rattle.std.specs.Str.{IsUtf8}
-use Rattle.yf_chars.specs.Chain.{Chosen}
+use Rattle.yf_chars.proofs.Tests.{none_some}
 use Rattle.yf_lines.specs.Basic.{Clear}
 use Rattle.yf_lines.proofs.BasicLemmas.{clear_join}
 use Rattle.yf_lines.proofs.ClearLemmas.{clear_whites}
-use Rattle.yf_comments.specs.Comment.{CommentValue}
 use Rattle.yf_grammar.specs.Productions.Meaning.{Meaning}
 use Rattle.yf_grammar.specs.FlowReader.Parser.{ParsedNode}
 use Rattle.yf_grammar.specs.BlockReader.BlockParser.{Ahead, BlockTask, collected, item_found, lone_key, lone_value, pair_found}
 use Rattle.yf_grammar.specs.BlockReader.Halts.{Alone, alone_to, alone_nowhere, PlainPart, plain_part, Halts}
 use Rattle.yf_grammar.specs.BlockReader.Halts as Halting
-use Rattle.yf_grammar.proofs.FlowReader.ClearLemmas.{clear_comments, clear_properties, found_is_clear}
-use Rattle.yf_grammar.proofs.Ends.NodeExits.{none_some}
+use Rattle.yf_grammar.proofs.FlowReader.ClearLemmas.{clear_comments, clear_properties, found_is_clear, clear_mark}
 use Rattle.yf_grammar.proofs.BlockOutcomes.BlockClaims.{line_whites}
-use Rattle.yf_grammar.proofs.BlockReader.ClearBlocks.{place, clear_to, sign_clear, dash_clear, scalar_clear, spaces_clear, whole_clear}
+use Rattle.yf_grammar.proofs.BlockReader.ClearBlocks.{place, clear_to, dash_clear, scalar_clear, spaces_clear, whole_clear}
 use Rattle.yf_grammar.proofs.BlockOutcomes.OutcomeEnds.{collected_end, leaf_end, with_plain_end, item_end, lone_key_end, lone_value_end, pair_end, items_end, alone_end, told_of, then_of}
 use Rattle.yf_grammar.proofs.BlockReader.WholeSound.{next_spaces}
 
@@ -68,23 +66,23 @@ module _ {t : List ℕ} (u : IsUtf8 t) where
   halts_clear {f = v} (Halting.halts_question {i = i} {o = o} q r n s) e =
       let y = then_of (lone_key i) o e in
       let z = y.inner in
-      clear_to v.end z.end (lone_key_end i z y.made) (clear_join (sign_clear q.sign_is_at (λ q. omega arith) (λ q. omega arith)) (halts_clear s y.is))
+      clear_to v.end z.end (lone_key_end i z y.made) (clear_join (clear_mark q.sign_is_at (λ q. omega arith) (λ q. omega arith)) (halts_clear s y.is))
   halts_clear {f = v} (Halting.halts_before_value {i = i} {o = o} q r c n s) e =
       let y = then_of (lone_key i) o e in
       let z = y.inner in
-      clear_to v.end z.end (lone_key_end i z y.made) (clear_join (sign_clear q.sign_is_at (λ q. omega arith) (λ q. omega arith)) (halts_clear s y.is))
+      clear_to v.end z.end (lone_key_end i z y.made) (clear_join (clear_mark q.sign_is_at (λ q. omega arith) (λ q. omega arith)) (halts_clear s y.is))
   halts_clear {f = v} (Halting.halts_value {m = m} {i = i} {f = f} {g = g} s r c z) e =
       clear_to v.end g.end (pair_end i (f.end + m) f g e)
-      (clear_join (sign_clear s.sign_is_at (λ q. omega arith) (λ q. omega arith)) (clear_join (whole_clear u r refl) (clear_join (spaces_clear u c.indent)
-      (clear_join (sign_clear c.colon (λ q. omega arith) (λ q. omega arith)) (halts_clear z refl)))))
+      (clear_join (clear_mark s.sign_is_at (λ q. omega arith) (λ q. omega arith)) (clear_join (whole_clear u r refl) (clear_join (spaces_clear u c.indent)
+      (clear_join (clear_mark c.colon (λ q. omega arith) (λ q. omega arith)) (halts_clear z refl)))))
   halts_clear {f = v} (Halting.halts_colon {i = i} {o = o} q s) e =
       let y = then_of (lone_value i) o e in
       let z = y.inner in
-      clear_to v.end z.end (lone_value_end i z y.made) (clear_join (sign_clear q.sign_is_at (λ q. omega arith) (λ q. omega arith)) (halts_clear s y.is))
+      clear_to v.end z.end (lone_value_end i z y.made) (clear_join (clear_mark q.sign_is_at (λ q. omega arith) (λ q. omega arith)) (halts_clear s y.is))
   halts_clear {f = v} (Halting.halts_key {i = i} {k = k} {f = f} {o = o} a b p l d r) e =
       let y = then_of (pair_found i k f) o e in
       let z = y.inner in
       clear_to v.end z.end (pair_end i k f z y.made)
-      (clear_join (found_is_clear u p) (clear_join (clear_whites u d.run) (clear_join (sign_clear d.colon.sign_is_at (λ q. omega arith) (λ q. omega arith)) (halts_clear r y.is))))
+      (clear_join (found_is_clear u p) (clear_join (clear_whites u d.run) (clear_join (clear_mark d.colon.sign_is_at (λ q. omega arith) (λ q. omega arith)) (halts_clear r y.is))))
   halts_clear (Halting.halts_no_key a b k) e = absurd (none_some e)
   halts_clear (Halting.halts_key_too_deep a b p l d) e = absurd (none_some e)

@@ -3,6 +3,7 @@ use Rattle.std.proofs.Common.{◌≡◌, ℕ, max, ◌+◌, ◌≤◌, ℤ, pos,
 use Rattle.std.specs.Str.{IsUtf8}
 use Rattle.yf_chars.specs.declared.context.Ctx.{Ctx}
 use Rattle.yf_chars.specs.declared.context.Ctx.TheVariants.{BlockOut}
+use Rattle.yf_chars.proofs.Tests.{none_some}
 use Rattle.yf_lines.specs.Basic.{is_block}
 use Rattle.yf_lines.specs.Basic.SeparateInLine.{by_whites}
 use Rattle.yf_comments.specs.Comments.{LineEnd}
@@ -14,9 +15,8 @@ use Rattle.yf_grammar.specs.Productions.Grammar.{BlockEntry, ColonLine, Derives}
 use Rattle.yf_grammar.specs.Productions.Grammar.Derives.{a_plain, a_last_entry, an_entry_before, a_dash_entry, an_explicit_entry_with, an_explicit_key_alone, a_keyed_entry, an_unkeyed_entry}
 use Rattle.yf_grammar.specs.FlowReader.Parser.{ParsedNode}
 use Rattle.yf_grammar.specs.BlockReader.BlockParser.{SignAt, Ahead, Indicator, headed, MayLeaf, BlockTask, Awaited, collected, item_found, lone_key, lone_value, pair_found}
-use Rattle.yf_grammar.specs.BlockReader.Halts.{NoColonAt, none_open, one_open, Alone, alone_to, alone_nowhere, PlainPart, plain_part, with_plain, then_found, Halts}
+use Rattle.yf_grammar.specs.BlockReader.Halts.{NoColonAt, one_open, Alone, alone_to, alone_nowhere, PlainPart, plain_part, with_plain, then_found, Halts}
 use Rattle.yf_grammar.specs.BlockReader.Halts as Halting
-use Rattle.yf_grammar.proofs.Ends.NodeExits.{none_some}
 use Rattle.yf_grammar.proofs.FlowReader.ParserLemmas.{moved}
 use Rattle.yf_grammar.proofs.FlowReader.Sound.{found_is_derived}
 use Rattle.yf_grammar.proofs.BlockOutcomes.BlockClaims.{indicator_ahead}

@@ -1,6 +1,7 @@
 -- From what the reader of block nodes has taken back to what the grammar derives: separations, properties and collections.
 use Rattle.std.proofs.Common.{◌≡◌, ℕ, suc, ◌+◌, ◌<◌, ◌≤◌, ℤ, pos, ◌+ℤ◌, ◌≤ℤ◌, Bool, true, false, ⊎_elim, List, [], ◌++◌, Option, Some, None, length, refl, sym, ap, ◌∙◌, subst, arith, append-nil}
 use Rattle.std.proofs.lemmas.Int.{ints}
+use Rattle.std.proofs.lemmas.Option.{same_Some}
 use Rattle.yf_chars.specs.declared.context.Ctx.{Ctx}
 use Rattle.yf_chars.specs.declared.context.Ctx.TheVariants.{FlowKey}
 use Rattle.yf_chars.specs.Class.{is_white}
@@ -154,12 +155,9 @@ pub data InlineAhead (t : List ℕ) (b : Bool) (n : ℤ) (c : Ctx) (i h j : ℕ)
   is_at_as_node : Derives t h (BlockNode n c) i j (meaning_after cs y) → InlineAhead t b n c i h j cs y
   is_at_compact : {m : ℕ} → n ≡ pos m → b ≡ true → cs ≡ [] → Derives t h (BlockIndented m c) i j y → InlineAhead t b n c i h j cs y
 
-one_some : {a b : ℕ} → Some a ≡ Some b → a ≡ b
-one_some e = cc
-
 column_of_compact : {l k : ℕ} {s : Bool} → AtColumn (record { sequence = Some l; mapping = Some l }) k s → l ≡ k
-column_of_compact (sequence_column e) = one_some e
-column_of_compact (mapping_column e) = one_some e
+column_of_compact (sequence_column e) = same_Some _ _ e
+column_of_compact (mapping_column e) = same_Some _ _ e
 
 no_such_column : {k : ℕ} {s : Bool} → AtColumn (record { sequence = None; mapping = None }) k s → ⊥
 no_such_column (sequence_column e) = cc

@@ -17,7 +17,7 @@ use Rattle.yf_plain.proofs.PlainLemmas.{ns_below}
 use Rattle.yf_props.specs.Names.{Properties, PropertiesValue}
 use Rattle.yf_grammar.specs.Productions.Grammar.{ColonLine}
 use Rattle.yf_grammar.specs.FlowReader.Parser.{ParsedNode, Parses, ANode, begins_properties}
-use Rattle.yf_grammar.specs.BlockReader.BlockParser.{DashAt, SignAt, LineText, Columns, Compact, compact_columns, no_columns, ColumnIf, column_there, column_not, LineColumns, Begins, NoNode, PropertiesHeld, Ahead, Nothing, Indicator, Props, past, outcome_after, Joins, first_held, more_held, Clash, Apart, KeyBefore, NoKey, key_missed, key_unfit, NextEntry, NoEntry, DeeperLine, Origin, First, Later, key_limit, key_indent, BlockTask, Awaited, Below, Inline, Leaf, Items, Item, MappingAt, by_question, by_colon, by_key, NoSign, NoKeyAt, no_column, unfit_node, MayLeaf, Whole, node_unfit}
+use Rattle.yf_grammar.specs.BlockReader.BlockParser.{DashAt, SignAt, LineText, Columns, Compact, compact_columns, no_columns, ColumnIf, column_there, column_not, Begins, Ahead, Nothing, Indicator, Props, past, Joins, first_held, more_held, Clash, Apart, KeyBefore, key_missed, key_unfit, NextEntry, DeeperLine, Origin, First, Later, key_limit, key_indent, BlockTask, Awaited, Below, Inline, Leaf, Items, Item, MappingAt, by_question, by_colon, by_key, NoSign, NoKeyAt, no_column, unfit_node, MayLeaf, Whole, node_unfit}
 use Rattle.yf_grammar.specs.BlockReader.BlockParser as BlockParser
 use Rattle.yf_grammar.proofs.Ends.Irrefutable.{Irrefutable, sure, then, by_cases}
 use Rattle.yf_grammar.proofs.BlockReader.LeavesReached.{line_end_reached, whites_reached}
@@ -27,10 +27,9 @@ use Rattle.yf_grammar.proofs.BlockOutcomes.BlockGaps.{rows_order}
 use Rattle.yf_grammar.proofs.BlockOutcomes.BlockStarts.{node_no_dash}
 use Rattle.yf_grammar.proofs.FlowReader.FlowStarts.{flow_starts}
 use Rattle.yf_grammar.proofs.BlockOutcomes.HaltsLater.{line_order, key_order, node_later, whole_later}
-use Rattle.yf_grammar.proofs.Ends.NodeExits.{none_some}
 use Rattle.yf_grammar.proofs.FlowReader.PropertiesEnds.{properties_begin}
 use Rattle.yf_grammar.proofs.FlowReader.Sound.{found_is_derived}
-use Rattle.yf_chars.proofs.SpelledLemmas.{never}
+use Rattle.yf_chars.proofs.Tests.{none_some}
 use Rattle.yf_props.proofs.NameOrder.{properties_forward}
 
 -- an outcome of a task
@@ -202,7 +201,7 @@ module _ {t : List ℕ} (u : IsUtf8 t) (v : ℕ) (known : (e : ℕ) (task : Bloc
       let x = d.dash in
       then (node_answered u e (n +ℤ pos 1) FlowOut p refl)
       (λ r. no_collection w (record {
-        no_dash = λ {m} y z. absurd (never (sym q ∙ y));
+        no_dash = λ {m} y z. absurd (none_some (sym q ∙ y));
         no_question = λ {m} y z. let h = z.sign_is_at in absurd (omega arith);
         no_colon = λ {m} y z. let h = z.sign_is_at in absurd (omega arith);
       }) (dash_no_key d r.read))
@@ -220,7 +219,7 @@ module _ {t : List ℕ} (u : IsUtf8 t) (v : ℕ) (known : (e : ℕ) (task : Bloc
   column_answer : (e p : ℕ) (n : ℤ) (c : Ctx) (cols : Columns) (a : Ahead) (o : Option ℕ) → cols.mapping ≡ o → weight t (Inline n c cols a p) ≤ v → (DashAt t p → ⊥)
       → Irrefutable (Answer t e (Inline n c cols a p))
   column_answer e p n c cols a None q w d = no_collection w
-      (record { no_dash = λ {m} y z. d z; no_question = λ {m} y z. never (sym q ∙ y); no_colon = λ {m} y z. never (sym q ∙ y) })
+      (record { no_dash = λ {m} y z. d z; no_question = λ {m} y z. none_some (sym q ∙ y); no_colon = λ {m} y z. none_some (sym q ∙ y) })
       (no_column q)
   column_answer e p n c cols a (Some m) q w d = by_cases (SignAt t 63 p)
       (λ y. mapping_answer e m p n c cols a w d q (by_question y))

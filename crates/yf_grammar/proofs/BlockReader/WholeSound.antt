@@ -4,6 +4,7 @@ use Rattle.std.specs.Str.{IsUtf8}
 use Rattle.yf_chars.specs.declared.context.Ctx.{Ctx}
 use Rattle.yf_chars.specs.declared.context.Ctx.TheVariants.{BlockOut, FlowKey}
 use Rattle.yf_chars.specs.Text.{code}
+use Rattle.yf_chars.proofs.Tests.{none_some}
 use Rattle.yf_lines.specs.Basic.{is_block, Spaces}
 use Rattle.yf_lines.specs.Basic.SeparateInLine.{by_whites}
 use Rattle.yf_comments.specs.Comment.{CommentValue}
@@ -16,9 +17,8 @@ use Rattle.yf_grammar.specs.Productions.Meaning.{Meaning, ◌⊕◌, meaning_aft
 use Rattle.yf_grammar.specs.Productions.Grammar.{BlockIndented, BlockEntries, BlockEntry, BlockValue, Derives}
 use Rattle.yf_grammar.specs.Productions.Grammar.Derives.{a_last_entry, an_entry_before, a_dash_entry, an_explicit_entry_with, an_explicit_key_alone, a_keyed_entry, an_unkeyed_entry, a_block_value, an_empty_block_value, an_indented_node, nothing_indented}
 use Rattle.yf_grammar.specs.FlowReader.Parser.{ParsedNode}
-use Rattle.yf_grammar.specs.BlockReader.BlockParser.{Columns, PropertiesHeld, Ahead, Nothing, Indicator, Props, headed, past, outcome_after, with_comments, LineText, NextEntry, next_item, next_pair, NoSign, Joins, BlockTask, Awaited, Below, Inline, Leaf, Items, Item, Whole, collected}
+use Rattle.yf_grammar.specs.BlockReader.BlockParser.{Columns, PropertiesHeld, Ahead, Indicator, Props, headed, past, with_comments, LineText, NextEntry, next_item, next_pair, NoSign, Joins, BlockTask, Awaited, Below, Inline, Leaf, Items, Item, Whole, collected}
 use Rattle.yf_grammar.specs.BlockReader.BlockParser as BlockParser
-use Rattle.yf_grammar.proofs.Ends.NodeExits.{none_some}
 use Rattle.yf_grammar.proofs.FlowReader.ParserLemmas.{moved, after_nothing}
 use Rattle.yf_grammar.proofs.FlowReader.Sound.{found_is_derived}
 use Rattle.yf_grammar.proofs.Ends.WiderLemmas.{key_properties}

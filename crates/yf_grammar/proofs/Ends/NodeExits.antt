@@ -62,9 +62,6 @@ pub none_found : (j h : ℕ) (b : Bool) (x : Meaning) → None ≡ found j h b x
 unfolding found
 none_found j h b x e = cc
 
-pub none_some : {f : ParsedNode} → None ≡ Some f → ⊥
-none_some e = cc
-
 module _ {t : List ℕ} where
   -- an alias
   pub node_alias : {e : ℕ} {n : ℤ} {c : Ctx} {i : ℕ} {o : Option ParsedNode} {j : ℕ} {x : List ℕ} → Alias t i j x → Parses t e (ANode n c i) o → o ≡ found j 0 false (alias_to x i j)

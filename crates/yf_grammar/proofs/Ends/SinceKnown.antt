@@ -15,13 +15,18 @@ use Rattle.yf_grammar.specs.Productions.ReadParts.{BlankSince, NotedSince}
 use Rattle.yf_grammar.specs.Productions.ReadParts.BlankSince.{blank_line, past_gap}
 use Rattle.yf_grammar.specs.Productions.ReadParts.NotedSince.{noted, not_noted}
 
-data SinceView (t : List ℕ) (floor j : ℕ) : Type 0 where
+pub data SinceView (t : List ℕ) (floor j : ℕ) : Type 0 where
   line_view : (i : ℕ) → floor ≤ i → Blank t i → Break t i j → SinceView t floor j
   gap_view : (i : ℕ) → BlankSince t floor i → is_gap (code t i) ≡ true → next t i ≡ j → SinceView t floor j
 
-since_view : {t : List ℕ} {floor j : ℕ} → BlankSince t floor j → SinceView t floor j
+pub since_view : {t : List ℕ} {floor j : ℕ} → BlankSince t floor j → SinceView t floor j
 since_view (blank_line {i = i} l b k) = line_view i l b k
 since_view (past_gap {i = i} b e) = gap_view i b e refl
+
+-- since the start of a text
+pub since_zero : {t : List ℕ} {j : ℕ} → BlankBefore t j → BlankSince t 0 j
+since_zero (line_before b k) = blank_line (omega arith) b k
+since_zero (gap_before b e) = past_gap (since_zero b) e
 
 pub since_known : (t : List ℕ) (floor n j : ℕ) → IsUtf8 t → j ≤ n → BlankSince t floor j ⊎ (BlankSince t floor j → ⊥)
 since_known t floor zero j u l = inr (λ d. nowhere (since_view d)) where

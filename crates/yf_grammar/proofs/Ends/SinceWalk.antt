@@ -31,7 +31,7 @@ pub record WalkedSince (t : List ℕ) (floor i j : ℕ) (blank : Bool) : Type 0 
   pub order : j ≤ i
   pub outside : Outside t j
 
-since_later : {t : List ℕ} {floor j : ℕ} → BlankSince t floor j → floor < j
+pub since_later : {t : List ℕ} {floor j : ℕ} → BlankSince t floor j → floor < j
 since_later (blank_line l b k) = let f = break_forward k in omega arith
 since_later {t} (past_gap {i = i} b e) = let f = since_later b in let n = next_later t i in omega arith
 

@@ -18,6 +18,7 @@ use Rattle.yf_plain.specs.Plain.{is_plain_first, is_plain_char, PlainItem, Plain
 use Rattle.yf_plain.specs.Plain.PlainItem.{set_off}
 use Rattle.yf_plain.specs.Plain.PlainLine.{one_line}
 use Rattle.yf_plain.specs.Plain.PlainText.{as_key, as_lines}
+use Rattle.yf_plain.specs.Kept.{is_inside}
 use Rattle.yf_props.specs.Names.{Properties, PropertiesValue}
 use Rattle.yf_props.specs.Names.Properties.{by_tag, by_anchor, tag_first, anchor_first}
 use Rattle.yf_quoted.specs.Quoted.{SingleQuoted, DoubleQuoted, Piece}
@@ -25,15 +26,6 @@ use Rattle.yf_grammar.specs.Productions.Grammar.{MaySeparate, MaySeparateInLine,
 use Rattle.yf_grammar.specs.Productions.Grammar.MaySeparate.{unseparated, separated}
 use Rattle.yf_grammar.specs.Productions.Grammar.MaySeparateInLine.{unseparated_in_line, separated_in_line}
 use Rattle.yf_grammar.proofs.FlowReader.QuotedEnds.{single_widened, double_widened}
-
--- the contexts inside of a flow collection
-abbrev pub is_inside : Ctx → Bool
-is_inside BlockOut = false
-is_inside BlockIn = false
-is_inside FlowOut = false
-is_inside FlowIn = true
-is_inside BlockKey = false
-is_inside FlowKey = true
 
 -- what is derived at the first indentation and context is derived at the second: that of a key inside of a flow collection in
 -- each context there, and that of a key of a block mapping in a flow node outside of brackets

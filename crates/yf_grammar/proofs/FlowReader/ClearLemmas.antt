@@ -1,11 +1,10 @@
 -- What the recursive reader finds covers no forbidden line.
 use Rattle.std.proofs.Common.{◌≡◌, ◌≢◌, ℕ, zero, suc, ◌+◌, ◌-◌, ◌<◌, ◌≤◌, ℤ, Bool, true, false, List, Option, Some, None, refl, sym, ap, ◌∙◌, subst, arith, not, add-zero}
 use Rattle.std.proofs.lemmas.Bool.{true≢false, and_parts}
-use Rattle.std.proofs.lemmas.Bool.Decides.{nat_tests}
 use Rattle.std.specs.Str.{IsUtf8}
 use Rattle.yf_chars.specs.declared.context.Ctx.{Ctx}
-use Rattle.yf_chars.specs.Text.{code, no_char}
-use Rattle.yf_chars.specs.Class.{is_nb_char, is_ns_char, is_anchor_char, is_flow_indicator, is_printable, is_between, is_break_char}
+use Rattle.yf_chars.specs.Text.{code}
+use Rattle.yf_chars.specs.Class.{is_nb_char, is_ns_char, is_anchor_char, is_flow_indicator}
 use Rattle.yf_chars.specs.Chain.{Chain, Many, done, step, one}
 use Rattle.yf_chars.proofs.TextLemmas.{reads_real, reads_byte}
 use Rattle.yf_lines.specs.Basic.{ForbiddenLine, Clear, SeparateInLine, by_whites, at_start}
@@ -21,7 +20,7 @@ use Rattle.yf_props.specs.Names.{AnchorChar, Alias, asterisk_name, Anchor, amper
 use Rattle.yf_props.proofs.TagLemmas.{tag_mark, tag_later}
 use Rattle.yf_props.proofs.SolidLemmas.{AllSolid, tag_all_solid}
 use Rattle.yf_grammar.specs.Productions.Grammar.{opening, closing}
-use Rattle.yf_grammar.specs.FlowReader.Parser.{ParsedNode, Task, Parses, Gap, ColonAt, found, plain_found, propertied, lone_properties, bracketed, joined, paired, pair_entry}
+use Rattle.yf_grammar.specs.FlowReader.Parser.{ParsedNode, Task, Parses, Gap, found, plain_found, propertied, lone_properties, bracketed, joined, paired, pair_entry}
 use Rattle.yf_grammar.specs.FlowReader.Parser as Parser
 use Rattle.yf_chars.proofs.CharFacts.{return_no_nb, feed_no_nb, mark_no_nb}
 use Rattle.yf_chars.proofs.CharBounds.{nb_below}
@@ -32,7 +31,7 @@ clear_sign {t} {i} a b = record {
   none = λ h l m f. let same : i ≡ h = omega arith in not_forbidden t i a b (subst (λ k. ForbiddenLine t k) (sym same) f);
 }
 
-clear_mark : {t : List ℕ} {i c : ℕ} → code t i ≡ c → c ≢ 45 → c ≢ 46 → Clear t i (i + 1)
+pub clear_mark : {t : List ℕ} {i c : ℕ} → code t i ≡ c → c ≢ 45 → c ≢ 46 → Clear t i (i + 1)
 clear_mark e a b = clear_sign (λ q. a (sym e ∙ q)) (λ q. b (sym e ∙ q))
 
 nb_is_not : (c d : ℕ) → is_nb_char c ≡ true → is_nb_char d ≡ false → c ≢ d

@@ -4,9 +4,11 @@ use Rattle.std.specs.Str.{IsUtf8}
 use Rattle.yf_chars.specs.declared.context.Ctx.{Ctx}
 use Rattle.yf_chars.specs.declared.context.Ctx.TheVariants.{FlowKey}
 use Rattle.yf_chars.specs.Text.{code}
+use Rattle.yf_chars.proofs.Tests.{none_some}
 use Rattle.yf_lines.specs.Basic.{is_block, is_key}
 use Rattle.yf_lines.proofs.BasicLemmas.{clear_front, clear_back}
 use Rattle.yf_props.proofs.SeparationEnds.{separate_forward}
+use Rattle.yf_plain.specs.Kept.{is_inside}
 use Rattle.yf_grammar.specs.Productions.Meaning.{Meaning, ◌⊕◌, entering, empty_node, collection}
 use Rattle.yf_grammar.specs.Productions.Grammar.{Production, Derives, in_flow}
 use Rattle.yf_grammar.specs.Productions.Grammar.Derives.{flow_node, an_alias, a_plain, a_plain_with, properties_alone, a_json, a_json_with, a_single, a_double, an_empty_collection, a_collection, last_entry, last_entry_with_comma, more_entries, a_node_entry, a_pair_entry, an_explicit_entry, an_implicit_entry, an_explicit_pair, a_keyed_pair, an_unkeyed_pair, explicit_with, explicit_without, key_alone, key_and_value, value_alone, empty_value, a_value, a_key, a_block_scalar, a_block_scalar_with, a_block_collection, a_block_collection_with, flow_in_block, a_last_entry, an_entry_before, a_dash_entry, an_explicit_entry_with, an_explicit_key_alone, a_keyed_entry, an_unkeyed_entry, a_block_value, an_empty_block_value, a_compact_collection, an_indented_node, nothing_indented}
@@ -14,8 +16,8 @@ use Rattle.yf_grammar.specs.FlowReader.Parser.{ParsedNode, found, ColonAt}
 use Rattle.yf_grammar.proofs.FlowReader.FlowStarts.{flow_starts, in_flow_not_block, may_forward, value_forward}
 use Rattle.yf_grammar.proofs.FlowReader.KeyLines.{key_line}
 use Rattle.yf_grammar.proofs.FlowReader.ParserLemmas.{empty_collection}
-use Rattle.yf_grammar.proofs.Ends.WiderLemmas.{is_inside, inside_not_block, in_flow_inside, Wider, from_key, wider_in, wider_safe, wider_colon, wider_separate, wider_may, wider_properties, wider_plain, wider_single, wider_double, wider_value}
-use Rattle.yf_grammar.proofs.Ends.NodeExits.{node_alias, node_content, none_some}
+use Rattle.yf_grammar.proofs.Ends.WiderLemmas.{inside_not_block, in_flow_inside, Wider, from_key, wider_in, wider_safe, wider_colon, wider_separate, wider_may, wider_properties, wider_plain, wider_single, wider_double, wider_value}
+use Rattle.yf_grammar.proofs.Ends.NodeExits.{node_alias, node_content}
 use Rattle.yf_grammar.proofs.FlowReader.NodeExact.{ending_followed, end_no_colon, stop_visible, plain_exact, plain_with_exact, alone_exact}
 use Rattle.yf_grammar.proofs.FlowReader.ContentExact.{EntriesFound, reaches, single_exact, double_exact, collection_exact, no_entries}
 use Rattle.yf_grammar.proofs.FlowReader.EntriesExact.{last_exact, more_exact}

@@ -10,12 +10,13 @@ use Rattle.yf_lines.specs.Basic.{is_block, Clear}
 use Rattle.yf_lines.proofs.BasicLemmas.{clear_front}
 use Rattle.yf_comments.specs.Comment.{CommentValue}
 use Rattle.yf_comments.specs.Comments.{Separate}
+use Rattle.yf_plain.specs.Kept.{is_inside}
 use Rattle.yf_grammar.specs.Productions.Meaning.{Meaning, ◌⊕◌, meaning_after, noting, entering, empty_node, collection}
 use Rattle.yf_grammar.specs.Productions.Grammar.{Production, FlowNode, NodeOf, JsonContent, Entries, Entry, Pair, Explicit, Implicit, ValueOf, KeyOf, BlockNode, BlockEntries, BlockEntry, BlockIndented, BlockValue, MaySeparate, MaySeparateInLine, characters_between, KEY_LIMIT, closing}
 use Rattle.yf_grammar.specs.FlowReader.Parser.{ParsedNode, found, Task, ANode, AContent, TheEntries, AnEntry, AnExplicit, AnImplicit, AValue, ColonAt, OnOneLine, Parses}
 use Rattle.yf_grammar.proofs.Ends.GapLemmas.{Visible}
 use Rattle.yf_grammar.proofs.FlowReader.FlowStarts.{is_end, NodeStarts, may_line_forward}
-use Rattle.yf_grammar.proofs.Ends.WiderLemmas.{is_inside, Wider, may_line_separate}
+use Rattle.yf_grammar.proofs.Ends.WiderLemmas.{Wider, may_line_separate}
 use Rattle.yf_grammar.proofs.FlowReader.NodeExact.{Followed, Ending}
 use Rattle.yf_grammar.proofs.FlowReader.ContentExact.{Reaches, EntriesFound, EntryFound}
 use Rattle.yf_grammar.proofs.FlowReader.EntryExact.{exact_entry, mapping_explicit_exact, pair_explicit_exact, keyed_pair, keyed_pair_exact}

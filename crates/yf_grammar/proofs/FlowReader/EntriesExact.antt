@@ -3,6 +3,7 @@ use Rattle.std.proofs.Common.{◌≡◌, ℕ, ℤ, max, ◌+◌, Bool, true, fal
 use Rattle.std.proofs.lemmas.Option.{same_Some}
 use Rattle.yf_chars.specs.declared.context.Ctx.{Ctx}
 use Rattle.yf_chars.specs.Text.{code}
+use Rattle.yf_chars.proofs.Tests.{none_some}
 use Rattle.yf_comments.specs.Comment.{CommentValue}
 use Rattle.yf_grammar.specs.Productions.Meaning.{Meaning, ◌⊕◌, noting}
 use Rattle.yf_grammar.specs.Productions.Grammar.{MaySeparate, closing}
@@ -10,7 +11,6 @@ use Rattle.yf_grammar.specs.FlowReader.Parser.{ParsedNode, found, TheEntries, An
 use Rattle.yf_grammar.specs.FlowReader.Parser.Parses.{entries_end, entry_missed, entry_last, entry_then, entry_then_missed, entry_unclosed}
 use Rattle.yf_grammar.proofs.Ends.GapLemmas.{Visible, gap_is}
 use Rattle.yf_grammar.proofs.FlowReader.ContentExact.{EntriesFound, EntryFound}
-use Rattle.yf_grammar.proofs.Ends.NodeExits.{none_some}
 
 closing_not : (s : Bool) → closing s ≡ 44 → ⊥
 closing_not true e = omega arith

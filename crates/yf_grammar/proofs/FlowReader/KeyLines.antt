@@ -1,13 +1,12 @@
 -- What is in a key is on one line.
 use Rattle.std.proofs.Common.{◌≡◌, ◌≢◌, ℕ, ℤ, ◌+◌, ◌-◌, ◌<◌, ◌≤◌, Bool, true, false, ⊎_elim, List, None, refl, sym, ap, ◌∙◌, subst, arith, true≢false, not}
 use Rattle.std.proofs.lemmas.Bool.{cases_eq, cases_lt, and_parts}
-use Rattle.std.proofs.lemmas.Bool.Decides.{nat_tests}
 use Rattle.std.specs.Str.{IsUtf8}
 use Rattle.std.specs.Char.{digit_value}
 use Rattle.yf_chars.specs.declared.context.Ctx.{Ctx}
 use Rattle.yf_chars.specs.declared.context.Ctx.TheVariants.{BlockOut, BlockIn, FlowOut, FlowIn, BlockKey, FlowKey}
 use Rattle.yf_chars.specs.Text.{code, next, no_char}
-use Rattle.yf_chars.specs.Class.{is_break_char, is_ns_char, is_white, is_nb_json, is_between, is_anchor_char, is_flow_indicator}
+use Rattle.yf_chars.specs.Class.{is_break_char, is_ns_char, is_white, is_nb_json, is_anchor_char, is_flow_indicator}
 use Rattle.yf_chars.specs.Chain.{Chain, Many}
 use Rattle.yf_chars.specs.Chain.Chain.{done, step}
 use Rattle.yf_chars.specs.Chain.One.{one}
@@ -16,9 +15,10 @@ use Rattle.yf_chars.specs.Escape.Escape.{by_letter, by_two, by_four, by_half, by
 use Rattle.yf_chars.proofs.BreakChars.{no_break}
 use Rattle.yf_chars.proofs.TextLemmas.{reads_real}
 use Rattle.yf_chars.proofs.EscapeLemmas.{no_name}
-use Rattle.yf_lines.specs.Basic.{is_key, is_flow, SeparateInLine}
+use Rattle.yf_lines.specs.Basic.{is_key, SeparateInLine}
 use Rattle.yf_lines.proofs.ClearLemmas.{code_inside}
 use Rattle.yf_lines.proofs.BasicLemmas.{white_cases}
+use Rattle.yf_lines.proofs.ContextFacts.{key_not_flow}
 use Rattle.yf_comments.specs.Comment.{CommentValue}
 use Rattle.yf_comments.specs.Comments.{Separate}
 use Rattle.yf_comments.specs.Comments.Separate.{in_key, in_node}
@@ -47,7 +47,6 @@ use Rattle.yf_grammar.specs.Productions.Grammar.Derives.{flow_node, an_alias, a_
 use Rattle.yf_grammar.specs.FlowReader.Parser.{OnOneLine}
 use Rattle.yf_chars.proofs.CharFacts.{feed_no_ns}
 use Rattle.yf_chars.proofs.CharBounds.{json_below}
-use Rattle.yf_plain.proofs.LineLemmas.{key_not_flow}
 
 ns_line : (c : ℕ) → is_ns_char c ≡ true → is_break_char c ≡ false
 ns_line c e = no_break c (λ q. true≢false (sym e ∙ ap is_ns_char q ∙ feed_no_ns)) (λ q. true≢false (sym e ∙ ap is_ns_char q ∙ ns_cr))

@@ -5,6 +5,7 @@ use Rattle.std.specs.Str.{IsUtf8}
 use Rattle.yf_chars.specs.declared.context.Ctx.{Ctx}
 use Rattle.yf_chars.specs.Text.{code}
 use Rattle.yf_chars.specs.Chain.{Stuck, Chosen}
+use Rattle.yf_chars.proofs.Tests.{none_some}
 use Rattle.yf_lines.specs.Basic.{is_block, Clear}
 use Rattle.yf_lines.proofs.BasicLemmas.{clear_back}
 use Rattle.yf_comments.specs.Comment.{CommentValue}
@@ -25,7 +26,7 @@ use Rattle.yf_grammar.proofs.FlowReader.PlainEnds.{plain_leaps, plain_later, is_
 use Rattle.yf_grammar.proofs.FlowReader.PropertiesEnds.{properties_before}
 use Rattle.yf_grammar.proofs.FlowReader.FlowStarts.{flow_starts, bar_no_hash}
 use Rattle.yf_grammar.proofs.Ends.WiderLemmas.{same_context}
-use Rattle.yf_grammar.proofs.Ends.NodeExits.{node_alias, node_plain, node_content, node_properties, past_properties, PastProperties, past_to_content, past_to_plain, past_to_nothing, past_to_broken, past_to_other, none_found, none_some}
+use Rattle.yf_grammar.proofs.Ends.NodeExits.{node_alias, node_plain, node_content, node_properties, past_properties, PastProperties, past_to_content, past_to_plain, past_to_nothing, past_to_broken, past_to_other, none_found}
 use Rattle.yf_grammar.proofs.FlowReader.NodeExact.{lone_is, plain_is}
 use Rattle.yf_grammar.proofs.FlowReader.ContentExact.{Reaches, reaches, passes}
 use Rattle.yf_grammar.proofs.FlowReader.CompleteSteps.{propertied_content, some_has}

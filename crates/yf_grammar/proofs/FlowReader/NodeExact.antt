@@ -14,6 +14,7 @@ use Rattle.yf_comments.specs.Comment.{CommentValue}
 use Rattle.yf_comments.specs.Comments.{Separate}
 use Rattle.yf_events.specs.declared.event.ScalarStyle.TheVariants.{Plain as PlainStyle}
 use Rattle.yf_plain.specs.Plain.{is_plain_first, is_plain_char, PlainText, Plain}
+use Rattle.yf_plain.specs.Kept.{is_inside}
 use Rattle.yf_plain.proofs.PlainLemmas.{plain_colon, plain_other, first_is_ns}
 use Rattle.yf_props.specs.Names.{Properties, PropertiesValue}
 use Rattle.yf_grammar.specs.Productions.Meaning.{meaning_after, scalar, empty_node, with_props}
@@ -24,7 +25,6 @@ use Rattle.yf_grammar.proofs.Ends.GapLemmas.{Visible, separate_is, separate_stil
 use Rattle.yf_grammar.proofs.FlowReader.PlainEnds.{plain_leaps, plain_ends, first_no_bar, no_bar_plain, no_bar_content, no_bar_properties, first_colon, is_bar}
 use Rattle.yf_grammar.proofs.FlowReader.PropertiesEnds.{properties_before, properties_alone_before, is_stop, stop_ns, stop_not_hash}
 use Rattle.yf_grammar.proofs.FlowReader.FlowStarts.{is_end, bar_no_hash}
-use Rattle.yf_grammar.proofs.Ends.WiderLemmas.{is_inside}
 use Rattle.yf_grammar.proofs.Ends.NodeExits.{node_plain, past_properties, PastProperties, past_to_content, past_to_plain, past_to_nothing, past_to_broken, past_to_other}
 
 -- after a place is what ends an entry, or the `:` after a key of that kind

@@ -14,6 +14,7 @@ use Rattle.yf_comments.specs.Comment.{CommentValue}
 use Rattle.yf_comments.specs.Comments.{Separate}
 use Rattle.yf_props.specs.Names.{Properties, PropertiesValue}
 use Rattle.yf_props.proofs.SeparationEnds.{separate_forward}
+use Rattle.yf_plain.specs.Kept.{is_inside}
 use Rattle.yf_grammar.specs.Productions.Grammar.{in_flow, opening, closing}
 use Rattle.yf_grammar.specs.FlowReader.Parser.{ParsedNode, Task, Parses, Gap, ColonAt, PairKey, ANode, AContent, TheEntries, AnEntry, AnExplicit, AnImplicit, AValue, begins_alias, begins_properties, begins_content, begins_plain}
 use Rattle.yf_grammar.specs.FlowReader.Parser as Parser
@@ -24,7 +25,6 @@ use Rattle.yf_grammar.proofs.FlowReader.FlowStarts.{flow_starts}
 use Rattle.yf_grammar.proofs.Ends.Forward.{whites_forward}
 use Rattle.yf_grammar.proofs.Ends.NodeExits.{none_found}
 use Rattle.yf_grammar.proofs.FlowReader.Sound.{sound, found_is_derived}
-use Rattle.yf_grammar.proofs.Ends.WiderLemmas.{is_inside}
 use Rattle.yf_props.proofs.NameOrder.{properties_forward}
 
 -- an outcome of a task

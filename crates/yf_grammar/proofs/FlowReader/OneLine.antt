@@ -8,7 +8,7 @@ use Rattle.yf_chars.specs.Class.{is_white, is_break_char, is_nb_char}
 use Rattle.yf_chars.specs.Chain.{Chain, Many, done, step, one}
 use Rattle.yf_chars.proofs.ChainLemmas.{chain_append, chain_forward, chain_one, one_functional}
 use Rattle.yf_chars.proofs.TextLemmas.{next_later}
-use Rattle.yf_lines.specs.Basic.{Break, LineStart, SeparateInLine, by_whites, at_start, FlowPrefix, FoldedBreak, FlowFolded, is_flow, is_key}
+use Rattle.yf_lines.specs.Basic.{Break, LineStart, SeparateInLine, by_whites, at_start, FlowPrefix, FoldedBreak, FlowFolded}
 use Rattle.yf_lines.specs.Basic as Basic
 use Rattle.yf_lines.proofs.BasicLemmas.{break_forward}
 use Rattle.yf_lines.proofs.FoldLemmas.{empty_functional}
@@ -20,23 +20,24 @@ use Rattle.yf_comments.proofs.RowLemmas.{break_or_end_forward}
 use Rattle.yf_comments.proofs.SeparateLemmas.{prefix_whites}
 use Rattle.yf_plain.specs.Plain.{PlainItem, PlainLine, PlainNext, PlainText, is_plain_char, is_plain_first, next_line}
 use Rattle.yf_plain.specs.Plain as Plain
+use Rattle.yf_plain.specs.Kept.{is_inside}
 use Rattle.yf_plain.proofs.PlainLemmas.{line_forward}
 use Rattle.yf_props.specs.Names.{Properties, by_tag, by_anchor, tag_first, anchor_first, PropertiesValue}
 use Rattle.yf_props.proofs.TagLemmas.{tag_later}
 use Rattle.yf_props.proofs.SeparationEnds.{separate_forward}
-use Rattle.yf_quoted.specs.Quoted.{Item, Rest, Inside, QuotedScalar, SingleQuoted, DoubleQuoted, DoubleBreak, Piece, goods, as_they_are, folded_break, escaped_break}
+use Rattle.yf_quoted.specs.Quoted.{Item, Rest, Inside, QuotedScalar, SingleQuoted, DoubleQuoted, DoubleBreak, Piece, folded_break, escaped_break}
 use Rattle.yf_quoted.specs.Quoted as Quotes
 use Rattle.yf_quoted.proofs.BodyLemmas.{Means}
 use Rattle.yf_quoted.proofs.SingleLemmas.{single_means}
 use Rattle.yf_quoted.proofs.DoubleLemmas.{double_means}
-use Rattle.yf_grammar.specs.Productions.Grammar.{Production, MaySeparate, ValueSeparate, MayBeColon, Derives, in_flow}
+use Rattle.yf_grammar.specs.Productions.Grammar.{Production, MaySeparate, ValueSeparate, MayBeColon, Derives}
 use Rattle.yf_grammar.specs.Productions.Grammar as Grammar
 use Rattle.yf_grammar.specs.Productions.Meaning.{Meaning}
 use Rattle.yf_grammar.specs.FlowReader.Parser.{OnOneLine}
 use Rattle.yf_grammar.proofs.FlowReader.FlowStarts.{flow_starts, in_flow_not_block, may_forward, value_forward}
 use Rattle.yf_grammar.proofs.Ends.Forward.{whites_forward, Onward, quoted_items_order, quoted_rest_order, single_onward, double_onward, fold_onward, double_break_onward, in_line_forward}
 use Rattle.yf_grammar.proofs.FlowReader.PlainEnds.{plain_later}
-use Rattle.yf_grammar.proofs.Ends.WiderLemmas.{is_inside, inside_not_block, in_flow_inside, safe_same}
+use Rattle.yf_grammar.proofs.Ends.WiderLemmas.{inside_not_block, in_flow_inside, safe_same}
 use Rattle.yf_props.proofs.NameOrder.{anchor_forward, properties_forward}
 use Rattle.yf_plain.proofs.PlainOrder.{items_forward, nexts_forward}
 

@@ -4,15 +4,16 @@ use Rattle.yf_chars.specs.declared.context.Ctx.{Ctx}
 use Rattle.yf_chars.specs.Text.{code}
 use Rattle.yf_lines.specs.Basic.{is_block}
 use Rattle.yf_comments.specs.Comment.{CommentValue}
+use Rattle.yf_plain.specs.Kept.{is_inside}
 use Rattle.yf_grammar.specs.Productions.Grammar.{Production, Derives, in_flow, opening, closing}
 use Rattle.yf_grammar.specs.Productions.Grammar as Grammar
 use Rattle.yf_grammar.specs.Productions.Meaning.{Meaning, ◌⊕◌, meaning_after, noting, collection}
-use Rattle.yf_grammar.specs.FlowReader.Parser.{ParsedNode, Task, Parses, Gap, ColonAt, PairKey, found, plain_found, propertied, lone_properties, bracketed, joined, paired, pair_entry, only}
+use Rattle.yf_grammar.specs.FlowReader.Parser.{ParsedNode, Task, Parses, Gap, ColonAt, found, plain_found, propertied, lone_properties, bracketed, joined, paired, pair_entry, only}
 use Rattle.yf_grammar.specs.FlowReader.Parser as Parser
 use Rattle.yf_grammar.proofs.Ends.Forward.{whites_forward}
 use Rattle.yf_grammar.proofs.FlowReader.OneLine.{node_of_key}
 use Rattle.yf_grammar.proofs.FlowReader.ParserLemmas.{moved, gap_separate, value_separate, whites_in_line, key_on_line, Same, same_refl, same_after, same_before_nothing, same_collection, empty_collection, after_nothing}
-use Rattle.yf_grammar.proofs.Ends.WiderLemmas.{is_inside, inside_not_block, in_flow_inside}
+use Rattle.yf_grammar.proofs.Ends.WiderLemmas.{inside_not_block, in_flow_inside}
 
 -- the production derives the part that was found, within the limit
 pub record Made (t : List ℕ) (e : ℕ) (p : Production) (i : ℕ) (f : ParsedNode) : Type 0 where

@@ -8,11 +8,11 @@ use Rattle.yf_lines.proofs.BasicLemmas.{clear_back}
 use Rattle.yf_comments.specs.Comment.{CommentValue}
 use Rattle.yf_props.proofs.SeparationEnds.{separate_forward}
 use Rattle.yf_props.specs.Names.{PropertiesValue}
+use Rattle.yf_plain.specs.Kept.{is_inside}
 use Rattle.yf_grammar.specs.Productions.Meaning.{Meaning, alias_to}
 use Rattle.yf_grammar.specs.Productions.Grammar.{NodeOf, Derives}
 use Rattle.yf_grammar.specs.Productions.Grammar.Derives.{an_alias, a_plain, a_plain_with, properties_alone}
 use Rattle.yf_grammar.specs.FlowReader.Parser.{ParsedNode, found, ANode, Parses, propertied, lone_properties, plain_found}
-use Rattle.yf_grammar.proofs.Ends.WiderLemmas.{is_inside}
 use Rattle.yf_grammar.proofs.Ends.NodeExits.{node_alias, node_plain, node_properties, PastProperties, past_to_content, past_to_plain, past_to_nothing, past_to_broken, past_to_other}
 use Rattle.yf_grammar.proofs.FlowReader.PlainEnds.{plain_leaps, first_no_bar, no_bar_plain}
 use Rattle.yf_grammar.proofs.FlowReader.NodeExact.{Followed, plain_exact, plain_with_exact, alone_exact}

@@ -6,14 +6,12 @@ use Rattle.std.specs.Str.{IsUtf8}
 use Rattle.yf_chars.specs.declared.context.Ctx.{Ctx}
 use Rattle.yf_chars.specs.declared.context.Ctx.TheVariants.{BlockOut, BlockIn, FlowOut, FlowIn, BlockKey, FlowKey}
 use Rattle.yf_chars.specs.Text.{code}
-use Rattle.yf_chars.specs.Class.{is_ns_char, is_nb_char, is_printable, is_between, is_break_char, is_white}
+use Rattle.yf_chars.specs.Class.{is_ns_char}
 use Rattle.yf_lines.specs.Basic.{is_key, SeparateInLine}
 use Rattle.yf_comments.specs.Comment.{CommentValue}
 use Rattle.yf_comments.specs.Comments.{Separate, in_key, in_node}
 use Rattle.yf_comments.specs.Comments.SeparateLines.{in_line}
-use Rattle.yf_grammar.specs.Productions.Grammar.{in_flow, closing, MaySeparate, MaySeparateInLine}
-use Rattle.yf_grammar.specs.Productions.Grammar.MaySeparateInLine.{unseparated_in_line, separated_in_line}
-use Rattle.yf_grammar.specs.Productions.Grammar.MaySeparate.{unseparated, separated}
+use Rattle.yf_grammar.specs.Productions.Grammar.{in_flow, closing}
 use Rattle.yf_props.specs.Names.{PropertiesValue}
 use Rattle.yf_grammar.specs.Productions.Meaning.{Meaning, meaning_after, with_props, empty_node}
 use Rattle.yf_grammar.specs.FlowReader.Parser.{begins_plain, begins_alias, begins_properties}
@@ -30,6 +28,7 @@ use Rattle.yf_grammar.proofs.FlowReader.PlainEnds.{plain_leaps}
 use Rattle.yf_grammar.proofs.FlowReader.FlowStarts.{is_end}
 use Rattle.yf_props.proofs.SeparationEnds.{separate_forward}
 use Rattle.yf_grammar.proofs.Ends.Ways.{gap_one}
+use Rattle.yf_grammar.proofs.Ends.WiderLemmas.{may_line_separate}
 use Rattle.yf_chars.proofs.CharFacts.{colon_ns}
 
 -- separation is the same within a collection
@@ -100,16 +99,12 @@ in_line_separate : {t : List ℕ} {n : ℤ} (d : Ctx) {i j : ℕ} → SeparateIn
 in_line_separate d s true e = in_key e s
 in_line_separate d s false e = in_node e (in_line s)
 
-in_line_may : {t : List ℕ} {n : ℤ} {d : Ctx} {i j : ℕ} → MaySeparateInLine t i j → MaySeparate t n d i j []
-in_line_may unseparated_in_line = unseparated
-in_line_may {d = d} (separated_in_line s) = separated (in_line_separate d s (is_key d) refl)
-
 -- no key ends where content begins after it
 no_key_before_content : {t : List ℕ} {n : ℤ} {d : Ctx} {s k : ℕ} {cs : List CommentValue} {f : ParsedNode} → Gap t n d f.end k cs → begins_content (code t k) ≡ true
     → (m : ℕ) → PairKey t d s f m → ⊥
 no_key_before_content {t} {n} {d} {k = k} {f = f} g b m q =
     let v : Visible t m = record { ns = ap is_ns_char q.colon.colon ∙ colon_ns; no_hash = λ z. absurd (omega (arith, q.colon)) } in
-    let e = gap_is v (in_line_may (whites_in_line q.run)) g in
+    let e = gap_is v (may_line_separate _ _ (whites_in_line q.run)) g in
     let z : code t k ≡ 58 = ap (code t) e.0 ∙ q.colon.colon in
     (content_not_ended (code t k) b).1 z
 

@@ -4,15 +4,23 @@ use Rattle.std.specs.Prelude.{is_some}
 use Rattle.yf_comments.specs.Comment.{CommentValue}
 use Rattle.yf_comments.proofs.GapLinesLemmas.{texts, texts_append}
 use Rattle.yf_props.specs.Props.{PropsValue, no_props}
-use Rattle.yf_events.specs.Alike.{Alike, alike_scalars, alike_aliases, alike_sequences, alike_mappings, AlikeItems, alike_nothing, alike_item, AlikePairs, alike_no_pairs, alike_pair}
+use Rattle.yf_events.specs.Alike.{Alike, alike_scalars, alike_aliases, alike_sequences, alike_mappings, alike_nothing, alike_item, alike_no_pairs, alike_pair}
 use Rattle.yf_events.specs.Event.{sequence_starts, sequence_ends, mapping_starts, mapping_ends}
 use Rattle.yf_events.specs.declared.event.Entry.{Entry}
 use Rattle.yf_events.specs.declared.event.ScalarStyle.TheVariants.{Plain}
-use Rattle.yf_events.specs.Tree.{NodeOffsets, Node, scalar as scalar_tree, alias as alias_tree, sequence, mapping, Items, no_items, item, Pairs, no_pairs, pair, placed, unplaced, flat, flat_items, flat_pairs}
+use Rattle.yf_events.specs.Tree.{NodeOffsets, Node, scalar as scalar_tree, alias as alias_tree, sequence, mapping, Items, no_items, item, Pairs, no_pairs, pair, placed, unplaced, flat}
 use Rattle.yf_grammar.specs.Productions.Meaning.{Meaning, ◌⊕◌, meaning_after, noting, plain_event, from_to, empty_node, collection, with_props, first_entering, entering}
 use Rattle.yf_grammar.specs.Productions.TreesOfMeaning.{Anywhere, MeansTrees, ItemsMeant, PairsMeant}
 
 -- Comments.
+
+pub after_comments : (cs : List CommentValue) (x : Meaning) → (meaning_after cs x).comments ≡ cs ++ x.comments
+unfolding meaning_after
+after_comments cs x = refl
+
+pub noting_comments : (x : Meaning) (cs : List CommentValue) → (noting x cs).comments ≡ x.comments ++ cs
+unfolding noting
+noting_comments x cs = refl
 
 pub texts_both : (x y : Meaning) → texts (x ⊕ y).comments ≡ texts x.comments ++ texts y.comments
 unfolding ◌⊕◌
@@ -65,7 +73,7 @@ entered_events e (alias_tree at name) = refl
 entered_events e (sequence at flow props xs) = refl
 entered_events e (mapping at flow props ps) = refl
 
-entered_alike : {x y : Node} (e : Entry) → Alike Anywhere x y → Alike Anywhere x (entered e y)
+pub entered_alike : {x y : Node} (e : Entry) → Alike Anywhere x y → Alike Anywhere x (entered e y)
 entered_alike e (alike_scalars a) = alike_scalars a
 entered_alike e (alike_aliases a) = alike_aliases a
 entered_alike e (alike_sequences a b) = alike_sequences a b

@@ -1,6 +1,7 @@
 -- Notes on blank lines leave the nodes of a tree where they are, and as they are.
 use Rattle.std.proofs.Common.{◌≡◌, ℕ, Bool, List, [], ◌∷◌, ◌++◌, Option, Some, None, refl, sym, ap, ◌∙◌, subst, append_assoc}
 use Rattle.std.specs.Prelude.{is_some}
+use Rattle.yf_chars.proofs.Tests.{same_value}
 use Rattle.yf_events.specs.Alike.{Alike, alike_scalars, alike_aliases, alike_sequences, alike_mappings, AlikeItems, alike_nothing, alike_item, AlikePairs, alike_no_pairs, alike_pair}
 use Rattle.yf_events.specs.Event.{EventInText, sequence_starts, sequence_ends, mapping_starts, mapping_ends}
 use Rattle.yf_events.specs.declared.event.Entry.{Entry}
@@ -64,9 +65,6 @@ record NotedPairs (t : List ℕ) (i j : ℕ) (ps : Pairs) (rest ys : List EventI
   is : ys ≡ flat_pairs pairs ++ more
   noting : Noting t floor rest more
 
-same_entry : (e f : Entry) (o : Option Entry) → o ≡ Some e → o ≡ Some f → e ≡ f
-same_entry e f o p q = cc
-
 noted_same : (b : Bool) (e f : Entry) → e ≡ f → Some (record e { blank_before = b }) ≡ Some (record f { blank_before = b })
 noted_same b e f q = λ i. Some (record { start = (q i).start; colon = (q i).colon; blank_before = b })
 
@@ -85,7 +83,7 @@ module _ {t : List ℕ} where
   noted_first {e = e} (with_entry {b = b} entry q s n) = record {
     at = record { span = e.span; tag_offset = e.tag_offset; entry = Some (record entry { blank_before = b }) };
     span = refl;
-    entry = λ f p. record { blank = b; is = noted_same b entry f (same_entry entry f e.entry q p) };
+    entry = λ f p. record { blank = b; is = noted_same b entry f (same_value q p) };
     no_entry = λ p. absurd cc;
     more = _;
     floor = _;

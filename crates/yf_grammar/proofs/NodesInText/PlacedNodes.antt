@@ -66,7 +66,7 @@ pub data EntriesAt (t : List ℕ) : Bool → ℕ → ℕ → Meaning → Type 0 
   some_items : {i j : ℕ} {x : Meaning} → ItemsAt t i j x → EntriesAt t true i j x
   some_pairs : {i j : ℕ} {x : Meaning} → PairsAt t i j x → EntriesAt t false i j x
 
-entered_standing : (e : Entry) (x : Node) → (standing (entered e x)).entry ≡ Some e
+pub entered_standing : (e : Entry) (x : Node) → (standing (entered e x)).entry ≡ Some e
 entered_standing e (scalar_tree at props style text lines) = refl
 entered_standing e (alias_tree at name) = refl
 entered_standing e (sequence at flow props xs) = refl

@@ -1,10 +1,11 @@
 -- What a production derives in a text, it derives with the same meaning in each prefix that ends with a break.
-use Rattle.std.proofs.Common.{◌≡◌, ℕ, ◌+◌, ◌<◌, ◌≤◌, ℤ, ⊎_elim, Bool, true, false, List, length, refl, sym, ap, ◌∙◌, arith}
+use Rattle.std.proofs.Common.{◌≡◌, ℕ, ◌+◌, ◌<◌, ◌≤◌, ℤ, ⊎_elim, Bool, true, false, List, length, sym, ap, ◌∙◌, arith}
 use Rattle.std.proofs.lemmas.Bool.{cases_lt}
 use Rattle.std.specs.Str.{chars}
 use Rattle.yf_chars.specs.Text.{code, no_char}
-use Rattle.yf_chars.specs.Class.{is_between, is_break_char, is_nb_char, is_ns_char, is_plain_safe, is_printable, is_white, is_white_or_end}
+use Rattle.yf_chars.specs.Class.{is_break_char, is_ns_char, is_plain_safe, is_white_or_end}
 use Rattle.yf_chars.specs.declared.context.Ctx.{Ctx}
+use Rattle.yf_chars.specs.ClassEnds.{no_ns_char}
 use Rattle.yf_chars.proofs.TextLemmas.{code-past}
 use Rattle.yf_lines.specs.Lines.{OneLine, one_line, LineEnd as TextLineEnd, at_break, at_end}
 use Rattle.yf_lines.specs.declared.line.Line.{Line}
@@ -30,7 +31,6 @@ use Rattle.yf_grammar.proofs.Prefixes.PrefixNames.{alias_in_prefix, properties_i
 use Rattle.yf_grammar.proofs.Prefixes.PrefixPlain.{plain_there}
 use Rattle.yf_grammar.proofs.Prefixes.PrefixQuoted.{single_in_prefix, double_in_prefix}
 use Rattle.yf_grammar.proofs.Prefixes.PrefixBodies.{spaces_inside, header_in_prefix, body_in_prefix}
-use Rattle.yf_chars.proofs.CharFacts.{end_no_ns}
 
 pub derived_order : {t : List ℕ} {h i j : ℕ} {p : Production} {x : Meaning} → Derives t h p i j x → i ≤ j
 derived_order d = ascend_order (derived_ascends d)
@@ -200,7 +200,7 @@ module _ {t s : List ℕ} {k : ℕ} (f : PrefixText t s k) where
       an_entry_before (derives_in_prefix d (omega arith)) (spaces_there f.alike q (omega arith)) (derives_in_prefix e l)
   derives_in_prefix (a_dash_entry {i = i} e n d) l =
       let h = derived_order d in
-      a_dash_entry (char_there f.alike i (omega arith) e) (class_in_prefix is_ns_char (i + 1) end_no_ns n) (derives_in_prefix d l)
+      a_dash_entry (char_there f.alike i (omega arith) e) (class_in_prefix is_ns_char (i + 1) no_ns_char n) (derives_in_prefix d l)
   derives_in_prefix (an_explicit_entry_with {i = i} e w d c g) l =
       let h = derived_order d in let o = derived_order g in
       an_explicit_entry_with (char_there f.alike i (omega arith) e) (ends_in_prefix (i + 1) w) (derives_in_prefix d (omega arith)) (line_in_prefix c (omega arith)) (derives_in_prefix g l)

@@ -1,6 +1,7 @@
 -- Notes on blank lines before entries are the same in a text and in its prefix, for entries that begin in it; and the entries of what
 -- is derived begin before its end.
 use Rattle.std.proofs.Common.{◌≡◌, ℕ, ◌+◌, ◌<◌, ◌≤◌, ℤ, Bool, true, false, List, [], ◌∷◌, ◌++◌, Option, Some, None, refl, sym, subst, arith}
+use Rattle.std.proofs.lemmas.Option.{same_Some}
 use Rattle.yf_chars.proofs.TextLemmas.{next_later}
 use Rattle.yf_lines.proofs.BasicLemmas.{break_forward}
 use Rattle.yf_comments.proofs.LineOrder.{line_end_forward}
@@ -30,9 +31,6 @@ pub data Begun (k : ℕ) : List EventInText → Type 0 where
 pub record Starts (k : ℕ) (x : Meaning) : Type 0 where
   pub begun : Begun k x.events
 
-entry_is : (e f : Entry) → Some e ≡ Some f → e ≡ f
-entry_is e f q = cc
-
 module _ {k : ℕ} where
   begun_join : {x y : List EventInText} → Begun k x → Begun k y → Begun k (x ++ y)
   begun_join none_begun b = b
@@ -48,7 +46,7 @@ module _ {k : ℕ} where
   unfolding entering
   entering_begun {i} colon {x} l b = record { begun = go b.begun } where
     start : (f : Entry) → Some (record { start = i; colon = colon; blank_before = false }) ≡ Some f → f.start ≤ k
-    start f q = subst (λ z. z.start ≤ k) (entry_is (record { start = i; colon = colon; blank_before = false }) f q) l
+    start f q = subst (λ z. z.start ≤ k) (same_Some (record { start = i; colon = colon; blank_before = false }) f q) l
 
     go : {es : List EventInText} → Begun k es → Begun k (first_entering (record { start = i; colon = colon; blank_before = false }) es)
     go none_begun = none_begun

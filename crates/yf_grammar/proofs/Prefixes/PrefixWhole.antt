@@ -3,6 +3,7 @@
 use Rattle.std.proofs.Common.{◌≡◌, ℕ, ◌≤◌, ℤ, true, false, List, [], length, take, Option, Some, None, sym, ap, ◌∙◌, subst, arith}
 use Rattle.std.proofs.lemmas.List.{take_all, length-take-le}
 use Rattle.std.proofs.lemmas.Str as S
+use Rattle.std.proofs.lemmas.Option.{same_Some}
 use Rattle.std.specs.Str.{IsCharBoundary, IsUtf8}
 use Rattle.yf_chars.specs.declared.context.Ctx.{Ctx}
 use Rattle.yf_chars.specs.Chain.{Chosen}
@@ -28,9 +29,6 @@ use Rattle.yf_grammar.proofs.Prefixes.PrefixEnds.{Closed, at_break, at_text, der
 use Rattle.yf_grammar.proofs.Prefixes.PrefixNodes.{derives_in_prefix}
 use Rattle.yf_grammar.proofs.Prefixes.PrefixNotes.{Begun, derived_begun, noting_there}
 use Rattle.yf_chars.proofs.Tests.{none_some}
-
-pub some_is : {A : Type 0} (x y : A) → Some x ≡ Some y → x ≡ y
-some_is x y e = cc
 
 closed_boundary : {t : List ℕ} {k : ℕ} → IsUtf8 t → Closed t k → IsCharBoundary t k
 closed_boundary u (at_break b) = break_boundary u b
@@ -132,7 +130,7 @@ module _ {t : List ℕ} (u : IsUtf8 t) {e i : ℕ} {n : ℤ} {c : Ctx} {f : Pars
   unfolding found
   prefix_reads {g} {part} w p =
       let again : ParsedNode = record { end = f.end; height = f.height; json = false; meaning = f.meaning } in
-      let same : g ≡ again = some_is g again (prefix_is_whole w) in
+      let same : g ≡ again = same_Some g again (prefix_is_whole w) in
       subst (λ z. Chosen (BlockNodePart t e n c i) z.end part) (sym same) (prefix_is_chosen (subst (λ z. Fills (take f.end t) z.meaning part) same p))
 
   pub prefix_reads_some : Whole (take f.end t) e (Awaited false n c Nothing i) None → ⊥

@@ -39,11 +39,11 @@ abbrev event_of : ScalarStyle → List ℕ → List (List ℕ) → ℕ → ℕ �
 event_of style text lines i j = record { event = scalar_node no_props style text; span = from_to i j; tag_offset = None; entry = None; folded = lines }
 
 -- how far it reaches, by its sign
-record Reaching (t : List ℕ) (c : Chomp) (lines tail i : ℕ) : Type 0 where
+pub record Reaching (t : List ℕ) (c : Chomp) (lines tail i : ℕ) : Type 0 where
   pub end : ℕ
   pub between : LinesBetween t (reach c lines tail) i end
 
-reaching : {t : List ℕ} {lines tail i finish last : ℕ} (c : Chomp) → LinesTo t i finish lines → LinesTo t i last (lines + tail) → Reaching t c lines tail i
+pub reaching : {t : List ℕ} {lines tail i finish last : ℕ} (c : Chomp) → LinesTo t i finish lines → LinesTo t i last (lines + tail) → Reaching t c lines tail i
 reaching Strip a b = record { end = _; between = counted a.chain a.counts }
 reaching Clip a b = record { end = _; between = counted a.chain a.counts }
 reaching Keep a b = record { end = _; between = counted b.chain b.counts }

@@ -7,6 +7,8 @@ use Rattle.std.proofs.lemmas.Bool.Decides.{nat_tests}
 use Rattle.std.proofs.lemmas.List.{get_or-drop, get_or-take, length-drop, length-take-le, reverse-append, take-append-drop, take_more}
 use Rattle.std.proofs.lemmas.List.Elements.{All-filter, All-head, All-tail, filter-append}
 use Rattle.std.proofs.lemmas.List.Sorted.{All-permutation, IsNonDecreasingBy-push, IsNonDecreasingBy-short, IsPermutation-reverse}
+use Rattle.yf_chars.proofs.Tests.{below, is_less, not_below}
+use Rattle.yf_forms.proofs.Decide.HalvingEnds.{not_smaller}
 use Rattle.yf_print.specs.Layouts.CommentColumns.{OpenBlock, is_ended_by, is_same_block}
 use Rattle.yf_print.specs.Passes.HeldBlocks.{RanksFall, rank}
 
@@ -30,29 +32,17 @@ ended_by_rank y b = go y.is_sequence b.is_sequence where
   go false true = mapping_below y.printed b.printed
   go false false = alike_below y.printed b.printed 0
 
-below_from : (m n : ℕ) → nat_lt m n ≡ true → m < n
-below_from m n e = grind (arith, nat_tests)
-
-not_below_from : (m n : ℕ) → nat_lt m n ≡ false → n ≤ m
-not_below_from m n e = grind (arith, nat_tests)
-
-below_to : (m n : ℕ) → m < n → nat_lt m n ≡ true
-below_to m n l = grind (arith, nat_tests)
-
-not_below_to : (m n : ℕ) → n ≤ m → nat_lt m n ≡ false
-not_below_to m n l = grind (arith, nat_tests)
-
 pub ends_above : (y b : OpenBlock) → is_ended_by y b ≡ true → rank y < rank b
-ends_above y b e = below_from (rank y) (rank b) (sym (ended_by_rank y b) ∙ e)
+ends_above y b e = is_less (rank y) (rank b) (sym (ended_by_rank y b) ∙ e)
 
 pub leaves_below : (y b : OpenBlock) → is_ended_by y b ≡ false → rank b ≤ rank y
-leaves_below y b e = not_below_from (rank y) (rank b) (sym (ended_by_rank y b) ∙ e)
+leaves_below y b e = not_smaller (rank y) (rank b) (sym (ended_by_rank y b) ∙ e)
 
 pub ended_above : (y b : OpenBlock) → rank y < rank b → is_ended_by y b ≡ true
-ended_above y b l = ended_by_rank y b ∙ below_to (rank y) (rank b) l
+ended_above y b l = ended_by_rank y b ∙ below (rank y) (rank b) l
 
 pub left_below : (y b : OpenBlock) → rank b ≤ rank y → is_ended_by y b ≡ false
-left_below y b l = ended_by_rank y b ∙ not_below_to (rank y) (rank b) l
+left_below y b l = ended_by_rank y b ∙ not_below (rank y) (rank b) l
 
 equal_at : (m n k : ℕ) → ((m == n) && true) ≡ true → m + m + k ≡ n + n + k
 equal_at m n k e = grind (arith, nat_tests)

@@ -5,7 +5,8 @@ use Rattle.std.proofs.lemmas.Bool.Decides.{nat_tests}
 use Rattle.std.proofs.lemmas.List.{drop_all, drop_more}
 use Rattle.yf_events.specs.Event.{EventInText}
 use Rattle.yf_print.specs.Passes.Drafts.{Draft}
-use Rattle.yf_print.specs.Passes.PrintPass.{Work, PrintState, event_noted, events_noted, more_words, next, pass, space_text, words_from}
+use Rattle.yf_print.specs.Passes.PrintPass.{PrintState, event_noted, events_noted, more_words, next, pass, space_text, words_from}
+use Rattle.yf_print.specs.Passes.PrintWork.{Work}
 
 -- words
 

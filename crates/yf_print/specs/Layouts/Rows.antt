@@ -11,7 +11,7 @@ use Rattle.yf_events.specs.declared.event.ScalarStyle.{ScalarStyle}
 use Rattle.yf_events.specs.declared.event.Span.{Span}
 use Rattle.yf_forms.specs.declared.style.Style.{Style}
 use Rattle.yf_forms.specs.Nodes.BlockLines.{header_text, block_lines, final_feeds, is_kept_tail}
-use Rattle.yf_forms.specs.NormalForms.Normal.{LayoutSetting, Spot, root_spot, inner_spot, key_spot, value_spot, is_implicit, key_comment}
+use Rattle.yf_forms.specs.NormalForms.Normal.{LayoutSetting, Margins, root_margins, inner_margins, key_margins, value_margins, is_implicit, key_comment}
 use Rattle.yf_forms.specs.Nodes.OneLine.{spaced, props_text, written, colon_after}
 use Rattle.yf_events.specs.Tree.{Node, scalar, alias, sequence, mapping, Items, no_items, item, Pairs, no_pairs, pair, DocumentTree, standing, props_of, leaves, items_in, entry_start, is_block_collection}
 use Rattle.yf_forms.specs.Nodes.Lines.{is_empty_text}
@@ -85,27 +85,27 @@ abbrev pub one_line_row : ℕ → Node → List ℕ → List Row
 one_line_row column x [] = []
 one_line_row column x (b ∷ text) = record (plain_row column (b ∷ text)) { items = items_in x; leaves = leaves x } ∷ []
 
-abbrev pub one_line : Style → Spot → Node → List Row
-one_line s spot x = one_line_row spot.column x (written s x)
+abbrev pub one_line : Style → Margins → Node → List Row
+one_line s margins x = one_line_row margins.column x (written s x)
 
 -- a block scalar: its properties and its header, and its lines
 abbrev pub tail_ending : Bool → Ending
 tail_ending true = at_kept_tail
 tail_ending false = anywhere
 
-abbrev pub block_scalar : Style → Spot → Node → PropsValue → ScalarStyle → List ℕ → List (List ℕ) → List Row
-block_scalar s spot x props style text lines = record (plain_row spot.column (spaced (props_text props) (header_text style s.indent text))) {
+abbrev pub block_scalar : Style → Margins → Node → PropsValue → ScalarStyle → List ℕ → List (List ℕ) → List Row
+block_scalar s margins x props style text lines = record (plain_row margins.column (spaced (props_text props) (header_text style s.indent text))) {
   items = items_in x;
   leaves = leaves x;
   ending = tail_ending (is_kept_tail (final_feeds text));
-  body = block_lines style spot.lines text lines;
-  lines = spot.lines;
+  body = block_lines style margins.lines text lines;
+  lines = margins.lines;
 } ∷ []
 
-abbrev pub scalar_rows : Style → Spot → Node → PropsValue → ScalarStyle → List ℕ → List (List ℕ) → List Row
-scalar_rows s spot x props Literal text lines = block_scalar s spot x props Literal text lines
-scalar_rows s spot x props Folded text lines = block_scalar s spot x props Folded text lines
-scalar_rows s spot x props style text lines = one_line s spot x
+abbrev pub scalar_rows : Style → Margins → Node → PropsValue → ScalarStyle → List ℕ → List (List ℕ) → List Row
+scalar_rows s margins x props Literal text lines = block_scalar s margins x props Literal text lines
+scalar_rows s margins x props Folded text lines = block_scalar s margins x props Folded text lines
+scalar_rows s margins x props style text lines = one_line s margins x
 
 -- the properties of a block collection are before its first entry's line
 abbrev pub props_row : ℕ → List ℕ → List Row
@@ -175,24 +175,24 @@ pair_rows c column k v key_rows value_rows =
 
 -- the lines of a node
 abbrev mutual
-  pub rows : LayoutSetting → Spot → Node → List Row
-  rows c spot (scalar at props style text lines) = scalar_rows c.style spot (scalar at props style text lines) props style text lines
-  rows c spot (alias at name) = one_line c.style spot (alias at name)
-  rows c spot (sequence at true props items) = one_line c.style spot (sequence at true props items)
-  rows c spot (sequence at false props items) = props_row spot.column (props_text props) ++ rows_of_items c spot.entries items
-  rows c spot (mapping at true props pairs) = one_line c.style spot (mapping at true props pairs)
-  rows c spot (mapping at false props pairs) = props_row spot.column (props_text props) ++ rows_of_pairs c spot.entries pairs
+  pub rows : LayoutSetting → Margins → Node → List Row
+  rows c margins (scalar at props style text lines) = scalar_rows c.style margins (scalar at props style text lines) props style text lines
+  rows c margins (alias at name) = one_line c.style margins (alias at name)
+  rows c margins (sequence at true props items) = one_line c.style margins (sequence at true props items)
+  rows c margins (sequence at false props items) = props_row margins.column (props_text props) ++ rows_of_items c margins.entries items
+  rows c margins (mapping at true props pairs) = one_line c.style margins (mapping at true props pairs)
+  rows c margins (mapping at false props pairs) = props_row margins.column (props_text props) ++ rows_of_pairs c margins.entries pairs
 
   -- of entries at that column
   pub rows_of_items : LayoutSetting → ℕ → Items → List Row
   rows_of_items c column no_items = []
   rows_of_items c column (item x xs) =
-      after_sign c.style (entry_row column (codes "-") x) (rows c (inner_spot c.style column) x) ++ rows_of_items c column xs
+      after_sign c.style (entry_row column (codes "-") x) (rows c (inner_margins c.style column) x) ++ rows_of_items c column xs
 
   pub rows_of_pairs : LayoutSetting → ℕ → Pairs → List Row
   rows_of_pairs c column no_pairs = []
   rows_of_pairs c column (pair k v ps) =
-      pair_rows c column k v (rows c (key_spot c.style column k) k) (rows c (value_spot c column k v) v) ++ rows_of_pairs c column ps
+      pair_rows c column k v (rows c (key_margins c.style column k) k) (rows c (value_margins c column k v) v) ++ rows_of_pairs c column ps
 
 -- Documents.
 
@@ -222,7 +222,7 @@ beginning_at start (r ∷ rs) = record r { items = start ∷ r.items } ∷ rs
 abbrev pub document_rows : LayoutSetting → Bool → Doc → DocumentTree → List Row
 document_rows c is_first d tree =
     beginning_at d.start (end_rows is_first d.directives ++ (map directive_row d.directives ++ (start_row ∷ [])))
-    ++ rows c (root_spot c.style) tree.root
+    ++ rows c (root_margins c.style) tree.root
 
 abbrev pub stream_rows : LayoutSetting → Bool → List Doc → List DocumentTree → List Row
 stream_rows c is_first [] trees = []
@@ -235,7 +235,7 @@ begun_at start [] = []
 begun_at start (r ∷ rs) = record r { items = start ∷ r.items; begins = true } ∷ rs
 
 abbrev pub bare_rows : LayoutSetting → Doc → DocumentTree → List Row
-bare_rows c d tree = begun_at d.start (rows c (root_spot c.style) tree.root)
+bare_rows c d tree = begun_at d.start (rows c (root_margins c.style) tree.root)
 
 -- all lines; the flag says whether the `---` of the first document is left out
 abbrev pub all_rows : LayoutSetting → Bool → List Doc → List DocumentTree → List Row

@@ -6,7 +6,7 @@ use Rattle.yf_forms.specs.declared.form.measure.Measure.{Measure}
 use Rattle.yf_print.specs.declared.printer.PrintContext.{PrintContext}
 use Rattle.yf_forms.specs.NormalForms.Forms.{no_form}
 use Rattle.yf_forms.specs.NormalForms.Measures.{no_measure}
-use Rattle.yf_print.specs.Passes.PrintPass.{Work, work}
+use Rattle.yf_print.specs.Passes.PrintWork.{Work, work}
 
 abbrev pub work_on : PrintContext → Work
 work_on page = work page.text.now page.reading.now page.plan.now

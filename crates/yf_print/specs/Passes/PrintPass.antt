@@ -8,55 +8,25 @@ use Rattle.yf_events.specs.declared.event.Entry.{Entry}
 use Rattle.yf_events.specs.declared.event.ScalarStyle.{ScalarStyle}
 use Rattle.yf_events.specs.declared.event.ScalarStyle.TheVariants.{Plain, Single, Double, Literal, Folded}
 use Rattle.yf_events.specs.declared.event.Span.{Span}
-use Rattle.yf_events.specs.declared.lists.Lists.{Lists}
 use Rattle.yf_events.specs.Tree.{starts_of_entry}
 use Rattle.yf_forms.specs.declared.form.decide.Form.{Form}
 use Rattle.yf_forms.specs.declared.form.measure.Measure.{Measure}
 use Rattle.yf_print.specs.declared.printer.FrameState.{FrameState}
 use Rattle.yf_print.specs.declared.printer.FrameState.TheVariants.{Item, Key, Value, ExplicitValue}
 use Rattle.yf_print.specs.declared.printer.PrintFrame.{PrintFrame}
-use Rattle.yf_print.specs.declared.printer.Plan.{Plan}
 use Rattle.yf_print.specs.declared.printer.Role.{Role}
 use Rattle.yf_forms.specs.declared.style.Style.{Style}
 use Rattle.yf_print.specs.Layouts.BareSearch.{is_found_bare}
 use Rattle.yf_forms.specs.Nodes.BlockLines.{block_lines, final_feeds, header_text, is_kept_tail}
 use Rattle.yf_forms.specs.Passes.DecidePass.{further, has_space, is_leaf_at}
-use Rattle.yf_print.specs.Passes.Drafts.{Draft, Remarks, no_draft, opened, past, remarks, with_blank, with_body, with_key_trail, with_text, with_trail, without_blank, finished, with_start}
+use Rattle.yf_print.specs.Passes.Drafts.{Draft, no_draft, opened, past, with_blank, with_body, with_key_trail, with_text, with_trail, without_blank, finished, with_start}
+use Rattle.yf_print.specs.Passes.PrintWork.{Work, remarks_of}
 use Rattle.yf_forms.specs.NormalForms.Forms.{no_form}
 use Rattle.yf_forms.specs.Nodes.Lines.{ended, is_empty_text}
 use Rattle.yf_forms.specs.NormalForms.Measures.{no_measure}
 use Rattle.yf_forms.specs.Nodes.OneLine.{props_text, scalar_text, space_after}
 use Rattle.yf_forms.specs.Passes.OneLinePass as OneLineRun
 use Rattle.yf_print.specs.Layouts.Rows.{joined_words, start_of}
-use Rattle.yf_print.specs.Passes.TrailPass.{TrailsSoFar, found}
-
--- what the pass looks at: the text that was read, the reading, and what was found of it before
-pub record Work : Type 0 where
-  pub text : List ℕ
-  pub reading : Lists
-  pub style : Style
-  pub measures : List Measure
-  pub forms : List Form
-  -- the comments that trail the leaves that the events begin, as indices, and which comments trail
-  pub trails : List (Option ℕ)
-  pub trailing : List Bool
-
-abbrev pub work_of : List ℕ → Lists → Style → List Measure → List Form → TrailsSoFar → Work
-work_of text reading style measures forms trails = record {
-  text = text;
-  reading = reading;
-  style = style;
-  measures = measures;
-  forms = forms;
-  trails = trails.of_leaf;
-  trailing = trails.trailing;
-}
-
-abbrev pub work : List ℕ → Lists → Plan → Work
-work text reading plan = work_of text reading plan.style plan.measures plan.forms (found plan.trails)
-
-abbrev pub remarks_of : Work → Remarks
-remarks_of g = remarks g.text g.style g.reading.comments g.trailing
 
 abbrev pub next_line : Work → ℕ → Draft → Draft
 next_line g column d = opened (remarks_of g) column d
@@ -120,20 +90,20 @@ blank_unless true d = without_blank d
 blank_unless false d = d
 
 abbrev pub with_block : Style → Role → ScalarStyle → List ℕ → List (List ℕ) → Draft → Draft
-with_block s spot style text lines d =
-    with_body (flat_map ended (block_lines style (lines_column s.indent spot) text lines))
+with_block s role style text lines d =
+    with_body (flat_map ended (block_lines style (lines_column s.indent role) text lines))
     (blank_unless (is_kept_tail (final_feeds text)) (with_text (header_text style s.indent text) d))
 
 abbrev pub with_props_before : PropsValue → Draft → Draft
 with_props_before props d = with_text (space_after (props_text props)) d
 
 abbrev pub with_scalar : Style → Role → PropsValue → ScalarStyle → List ℕ → List (List ℕ) → Draft → Draft
-with_scalar s spot props Plain [] lines d = with_text (props_text props) d
-with_scalar s spot props Plain (b ∷ text) lines d = with_text (scalar_text s Plain (b ∷ text)) (with_props_before props d)
-with_scalar s spot props Single text lines d = with_text (scalar_text s Single text) (with_props_before props d)
-with_scalar s spot props Double text lines d = with_text (scalar_text s Double text) (with_props_before props d)
-with_scalar s spot props Literal text lines d = with_block s spot Literal text lines (with_props_before props d)
-with_scalar s spot props Folded text lines d = with_block s spot Folded text lines (with_props_before props d)
+with_scalar s role props Plain [] lines d = with_text (props_text props) d
+with_scalar s role props Plain (b ∷ text) lines d = with_text (scalar_text s Plain (b ∷ text)) (with_props_before props d)
+with_scalar s role props Single text lines d = with_text (scalar_text s Single text) (with_props_before props d)
+with_scalar s role props Double text lines d = with_text (scalar_text s Double text) (with_props_before props d)
+with_scalar s role props Literal text lines d = with_block s role Literal text lines (with_props_before props d)
+with_scalar s role props Folded text lines d = with_block s role Folded text lines (with_props_before props d)
 
 -- a flow collection whose events are from the one index to the other
 abbrev pub with_kept : Work → ℕ → ℕ → PropsValue → Draft → Draft
@@ -141,19 +111,19 @@ with_kept g i last props d =
     with_text (OneLineRun.run g.style [] (OneLineRun.between i last g.reading.events)) (with_props_before props d)
 
 abbrev pub with_node_event : Work → ℕ → ℕ → EventValue → List (List ℕ) → Role → Draft → Draft
-with_node_event g i last (scalar_node props style text) lines spot d = with_scalar g.style spot props style text lines d
-with_node_event g i last (alias_node name) lines spot d = with_text (42 ∷ name) d
-with_node_event g i last (sequence_starts flow props) lines spot d = with_kept g i last props d
-with_node_event g i last (mapping_starts flow props) lines spot d = with_kept g i last props d
-with_node_event g i last stream_starts lines spot d = d
-with_node_event g i last stream_ends lines spot d = d
-with_node_event g i last (document_starts b) lines spot d = d
-with_node_event g i last (document_ends b) lines spot d = d
-with_node_event g i last sequence_ends lines spot d = d
-with_node_event g i last mapping_ends lines spot d = d
+with_node_event g i last (scalar_node props style text) lines role d = with_scalar g.style role props style text lines d
+with_node_event g i last (alias_node name) lines role d = with_text (42 ∷ name) d
+with_node_event g i last (sequence_starts flow props) lines role d = with_kept g i last props d
+with_node_event g i last (mapping_starts flow props) lines role d = with_kept g i last props d
+with_node_event g i last stream_starts lines role d = d
+with_node_event g i last stream_ends lines role d = d
+with_node_event g i last (document_starts b) lines role d = d
+with_node_event g i last (document_ends b) lines role d = d
+with_node_event g i last sequence_ends lines role d = d
+with_node_event g i last mapping_ends lines role d = d
 
 abbrev pub with_node : Work → ℕ → ℕ → EventInText → Role → Draft → Draft
-with_node g i last e spot d = with_node_event g i last e.event e.folded spot d
+with_node g i last e role d = with_node_event g i last e.event e.folded role d
 
 -- what is within a node on one line: its leaves and their comments, and its entries
 
@@ -185,8 +155,8 @@ node_noted g i last e d =
     events_noted g last (i + 1) (drop (i + 1) g.reading.events) (leaf_noted_if (is_leaf g i) g i e.span d)
 
 abbrev pub text_if : Bool → Work → ℕ → Measure → Form → EventInText → Role → Draft → Draft
-text_if true g i m f e spot d = node_noted g i m.last e (with_node g i m.last e spot (before_text g f spot d))
-text_if false g i m f e spot d = d
+text_if true g i m f e role d = node_noted g i m.last e (with_node g i m.last e role (before_text g f role d))
+text_if false g i m f e role d = d
 
 abbrev pub colon_text : Bool → List ℕ
 colon_text true = codes " :"
@@ -200,8 +170,8 @@ colon_if (Role.Value column) space d = d
 
 -- a leaf, an empty node or a flow collection on one line, and the `:` after a key
 abbrev pub leaf : Work → ℕ → Measure → Form → EventInText → Role → Draft → Draft
-leaf g i m f e spot d =
-    colon_if spot (has_space e.event (is_leaf_at i m.first_leaf)) (text_if (is_some m.first_leaf) g i m f e spot d)
+leaf g i m f e role d =
+    colon_if role (has_space e.event (is_leaf_at i m.first_leaf)) (text_if (is_some m.first_leaf) g i m f e role d)
 
 -- Block collections.
 
@@ -223,7 +193,7 @@ abbrev pub has_props : PropsValue → Bool
 has_props props = not (is_empty_text (props_text props))
 
 abbrev pub collection_begun : Work → PropsValue → Role → Draft → Draft
-collection_begun g props spot d = with_text (props_text props) (before_collection g (has_props props) spot d)
+collection_begun g props role d = with_text (props_text props) (before_collection g (has_props props) role d)
 
 abbrev pub is_after_sign : Role → Bool
 is_after_sign Role.Root = false
@@ -232,7 +202,7 @@ is_after_sign Role.Key = false
 is_after_sign (Role.Value column) = false
 
 abbrev pub level_of : Form → Bool → FrameState → Role → PrintFrame
-level_of f props first spot = record { column = f.column; awaited = first; is_inline = not props && is_after_sign spot }
+level_of f props first role = record { column = f.column; awaited = first; is_inline = not props && is_after_sign role }
 
 -- Entries.
 
@@ -262,19 +232,19 @@ colon_of (Some entry) = entry.colon
 
 -- Where the next node goes, what is awaited after it, and what is before it.
 
-abbrev pub key_spot : Bool → ℕ → Role
-key_spot true column = Role.Key
-key_spot false column = Role.After column
+abbrev pub key_role : Bool → ℕ → Role
+key_role true column = Role.Key
+key_role false column = Role.After column
 
-abbrev pub spot_in : Form → ℕ → FrameState → Role
-spot_in f column Item = Role.After column
-spot_in f column Key = key_spot f.is_implicit column
-spot_in f column Value = Role.Value column
-spot_in f column (ExplicitValue key) = Role.After column
+abbrev pub role_in : Form → ℕ → FrameState → Role
+role_in f column Item = Role.After column
+role_in f column Key = key_role f.is_implicit column
+role_in f column Value = Role.Value column
+role_in f column (ExplicitValue key) = Role.After column
 
-abbrev pub spot : Form → List PrintFrame → Role
-spot f [] = Role.Root
-spot f (level ∷ levels) = spot_in f level.column level.awaited
+abbrev pub role : Form → List PrintFrame → Role
+role f [] = Role.Root
+role f (level ∷ levels) = role_in f level.column level.awaited
 
 abbrev pub value_awaited : Bool → Option Entry → FrameState
 value_awaited true entry = Value
@@ -325,9 +295,9 @@ state d levels documents done = record { draft = d; levels = levels; documents =
 
 -- a collection whose entries are on lines of their own is begun
 abbrev pub collection_at : Work → ℕ → Form → PropsValue → FrameState → Role → PrintState → PrintState
-collection_at g i f props first spot w = record w {
-  draft = collection_begun g props spot w.draft;
-  levels = level_of f (has_props props) first spot ∷ w.levels;
+collection_at g i f props first role w = record w {
+  draft = collection_begun g props role w.draft;
+  levels = level_of f (has_props props) first role ∷ w.levels;
   done = i;
 }
 
@@ -335,23 +305,23 @@ abbrev pub is_whole : ℕ → Measure → Form → Bool
 is_whole i m f = if f.is_kept then true else is_leaf_at i m.first_leaf
 
 abbrev pub leaf_at : Work → ℕ → Measure → Form → EventInText → Role → PrintState → PrintState
-leaf_at g i m f e spot w = record w { draft = leaf g i m f e spot w.draft; done = m.last }
+leaf_at g i m f e role w = record w { draft = leaf g i m f e role w.draft; done = m.last }
 
 abbrev pub collection_if : Bool → Work → ℕ → Measure → Form → EventInText → PropsValue → FrameState → Role → PrintState → PrintState
-collection_if true g i m f e props first spot w = leaf_at g i m f e spot w
-collection_if false g i m f e props first spot w = collection_at g i f props first spot w
+collection_if true g i m f e props first role w = leaf_at g i m f e role w
+collection_if false g i m f e props first role w = collection_at g i f props first role w
 
 abbrev pub node_in : Work → ℕ → Measure → Form → EventInText → EventValue → Role → PrintState → PrintState
-node_in g i m f e (sequence_starts flow props) spot w = collection_if (is_whole i m f) g i m f e props Item spot w
-node_in g i m f e (mapping_starts flow props) spot w = collection_if (is_whole i m f) g i m f e props Key spot w
-node_in g i m f e _ spot w = leaf_at g i m f e spot w
+node_in g i m f e (sequence_starts flow props) role w = collection_if (is_whole i m f) g i m f e props Item role w
+node_in g i m f e (mapping_starts flow props) role w = collection_if (is_whole i m f) g i m f e props Key role w
+node_in g i m f e _ role w = leaf_at g i m f e role w
 
 -- what is before a node is printed
 abbrev pub signed : Work → Form → Option Entry → PrintState → PrintState
 signed g f entry w = record w { draft = sign g f entry w.levels w.draft; levels = frames_after f entry w.levels }
 
 abbrev pub node : Work → ℕ → Measure → Form → EventInText → PrintState → PrintState
-node g i m f e w = node_in g i m f e e.event (spot f w.levels) (signed g f e.entry w)
+node g i m f e w = node_in g i m f e e.event (role f w.levels) (signed g f e.entry w)
 
 -- a document without its `---` begins on the line of its root
 abbrev pub document_in : Bool → Work → ℕ → Doc → Draft → Draft

@@ -1,17 +1,10 @@
 -- Laws of the first line whose break begins with a carriage return.
-use Rattle.std.proofs.Common.{◌≡◌, ℕ, ◌+◌, ◌<◌, true, false, List, [], ◌∷◌, length, drop, get_or, ap, ◌∙◌, sym, subst, add-one, Some, eqb, if◌then◌else◌}
+use Rattle.std.proofs.Common.{◌≡◌, ℕ, ◌+◌, true, false, List, [], ◌∷◌, drop, ap, ◌∙◌, Some, eqb, if◌then◌else◌}
 use Rattle.std.specs.Prelude.{slice_get}
-use Rattle.std.proofs.Math.Seq.{drop-cons}
-use Rattle.std.proofs.lemmas.Option.{slice_get_within, get_or_from_slice_get}
 use Rattle.yf_chars.specs.Text.{code}
 use Rattle.yf_lines.specs.declared.line.Line.{Line}
+use Rattle.yf_forms.proofs.ListLemmas.{drop_here}
 use Rattle.yf_rule_sets.specs.Sets.{first_return}
-
--- the line of that index is the first of those from it on
-pub drop_here : (ls : List Line) (i : ℕ) (l : Line) → slice_get ls i ≡ Some l → drop i ls ≡ l ∷ drop (i + 1) ls
-drop_here ls i l e =
-    let lt : i < length ls = slice_get_within ls i l e in
-    subst (λ k. drop i ls ≡ get_or ls i l ∷ drop k ls) (sym (add-one i)) (drop-cons ls i l lt) ∙ ap (λ m. m ∷ drop (i + 1) ls) (get_or_from_slice_get ls i l l e)
 
 pub return_later : (t : List ℕ) (ls : List Line) (i : ℕ) (l : Line) → slice_get ls i ≡ Some l → eqb (code t l.end) 13 ≡ false
     → first_return t (drop i ls) ≡ first_return t (drop (i + 1) ls)

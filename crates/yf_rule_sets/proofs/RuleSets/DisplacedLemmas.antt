@@ -1,10 +1,9 @@
 -- Laws of flow collections that are written otherwise than the house style writes them.
-use Rattle.std.proofs.Common.{◌≡◌, ◌≢◌, ℕ, suc, ◌+◌, ◌-◌, ◌<◌, ◌≤◌, Bool, true, false, List, [], ◌∷◌, ◌++◌, Option, Some, None, length, drop, take, min, refl, sym, ap, subst, ◌∙◌, ⊎_elim, arith, true≢false}
+use Rattle.std.proofs.Common.{◌≡◌, ◌≢◌, ℕ, ◌+◌, ◌-◌, ◌<◌, ◌≤◌, Bool, true, false, List, [], ◌∷◌, ◌++◌, Option, Some, None, length, drop, take, min, refl, sym, ap, subst, ◌∙◌, ⊎_elim, arith, true≢false}
 use Rattle.std.specs.Str.{IsCharBoundary, IsUtf8}
 use Rattle.std.specs.Prelude.{◌==◌, MatchBool, if◌then◌else◌, slice_get, slice_range}
 use Rattle.std.proofs.lemmas.Bool.{cases_Bool, cases_lt}
 use Rattle.std.proofs.lemmas.List.{length-append, length-drop, length-map, take_all}
-use Rattle.std.proofs.lemmas.Bool.Decides.{nat_tests}
 use Rattle.std.proofs.lemmas.Option.{same_Some, slice_get_within}
 use Rattle.yf_forms.specs.Nodes.SingleAnswers.{NodeAt, kept_text_of}
 use Rattle.yf_forms.specs.NormalForms.Normal.{LayoutSetting, setting_of}
@@ -16,6 +15,7 @@ use Rattle.yf_events.specs.Reading.{events_of, spans_of}
 use Rattle.yf_events.specs.Tree.{Node, scalar, alias, sequence, mapping, no_items, item, no_pairs, pair, DocumentTree, TreesOf, flat, flat_items, flat_pairs, is_filled_flow, props_of, standing, unplaced}
 use Rattle.yf_events.specs.declared.event.Span.{Span}
 use Rattle.yf_events.specs.declared.lists.Lists.{Lists}
+use Rattle.yf_events.proofs.Advances.{not_zero}
 use Rattle.yf_lines.specs.Lines.{PlaceOf, Table}
 use Rattle.yf_lines.specs.declared.place.Position.{Position}
 use Rattle.yf_rule_sets.specs.RuleSets.Exact.{Sole}
@@ -24,7 +24,7 @@ use Rattle.yf_rule_sets.specs.Passes.OuterFlow.{FlowsDone, IsOutsideFlow, bracke
 use Rattle.yf_rule_sets.proofs.Texts.ColumnLemmas.{column_one}
 use Rattle.yf_rule_sets.proofs.Texts.FlowLemmas.{event_there, flow_begun, is_inside, item_at, span_there}
 use Rattle.yf_rule_sets.proofs.Texts.NodeLemmas.{none_first, same_node}
-use Rattle.yf_chars.proofs.Tests.{none_some, some_none}
+use Rattle.yf_chars.proofs.Tests.{none_some, some_none, no_cons}
 use Rattle.yf_forms.proofs.Texts.OneLineRuns.{flat_filled as node_size}
 
 -- how many events a flow collection has
@@ -81,12 +81,6 @@ slice_cut t a b e m = ⊎_elim
 slice_past : (t : List ℕ) (a b : ℕ) → min b (length t) < a → slice_range t a b ≡ []
 slice_past t a b l = sym (slice_cut t a b (min b (length t)) refl) ∙ ap (λ n. take n (drop a t)) (let q : min b (length t) - a ≡ 0 = omega (arith, l) in q)
 
-nil_cons : {x : ℕ} {xs : List ℕ} → [] ≡ x ∷ xs → ⊥
-nil_cons e = cc
-
-none_length : (n : ℕ) → (suc n == 0) ≡ false
-none_length n = grind (arith, nat_tests)
-
 pub no_text : (t bytes other : List ℕ) (a b e : ℕ) (is_empty : Bool) → bytes ≡ t → e ≡ min b (length bytes) → e < a → is_empty ≡ (length other == 0)
     → MatchBool is_empty (slice_range t a b ≡ other) (slice_range t a b ≢ other)
 no_text t bytes other a b e is_empty p m l q = by other is_empty q where
@@ -96,8 +90,8 @@ no_text t bytes other a b e is_empty p m l q = by other is_empty q where
   by : (other : List ℕ) (is_empty : Bool) → is_empty ≡ (length other == 0) → MatchBool is_empty (slice_range t a b ≡ other) (slice_range t a b ≢ other)
   by [] true q = nothing
   by [] false q = absurd (true≢false (sym q))
-  by (o ∷ os) true q = absurd (true≢false (q ∙ none_length (length os)))
-  by (o ∷ os) false q = λ h. nil_cons (sym nothing ∙ h)
+  by (o ∷ os) true q = absurd (true≢false (q ∙ not_zero (length os)))
+  by (o ∷ os) false q = λ h. no_cons {A = ℕ} (sym nothing ∙ h)
 
 module _ (t bytes other others : List ℕ) (a b e : ℕ) (p : bytes ≡ t) (q : others ≡ other) (m : e ≡ min b (length bytes)) where
   cut : take (e - a) (drop a bytes) ≡ slice_range t a b

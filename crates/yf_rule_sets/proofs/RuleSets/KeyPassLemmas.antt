@@ -4,6 +4,7 @@ use Rattle.std.specs.Prelude.{slice_get, option_map, ◌&&◌, Option}
 use Rattle.std.proofs.lemmas.List.{append-nil, drop_all, length-take-le, reverse-append, take-append-drop}
 use Rattle.std.proofs.lemmas.Option.{slice_get_cases, slice_get_within, slice_get-map, get_or_from_slice_get}
 use Rattle.std.proofs.Math.Seq.{drop-cons, set-append_seam}
+use Rattle.yf_chars.proofs.Tests.{same_head, no_cons, same_tail}
 use Rattle.yf_events.specs.Event.{EventInText}
 use Rattle.yf_events.specs.Reading.{events_of}
 use Rattle.yf_events.specs.Tree.{DocumentTree, TreesOf}
@@ -26,24 +27,15 @@ record First (ks : List ScalarKey) (a : KeyedCollection) (more : List KeyedColle
   collection : IsLast outer ks a l
   collections : AreCollections outer more ls
 
-head_same : {a b : KeyedCollection} {xs ys : List KeyedCollection} → a ∷ xs ≡ b ∷ ys → a ≡ b
-head_same e = cc
-
-tail_same : {a b : KeyedCollection} {xs ys : List KeyedCollection} → a ∷ xs ≡ b ∷ ys → xs ≡ ys
-tail_same e = cc
-
-nil_cons : {b : KeyedCollection} {ys : List KeyedCollection} → [] ≡ b ∷ ys → ⊥
-nil_cons e = cc
-
 first_collection : {ks : List ScalarKey} {xs : List KeyedCollection} {st : List OpenCollection} (a : KeyedCollection) (more : List KeyedCollection) → xs ≡ a ∷ more → AreCollections ks xs st → First ks a more st
-first_collection a more e no_collections = absurd (nil_cons e)
+first_collection a more e no_collections = absurd (no_cons e)
 first_collection {ks} a more e (one_collection {outer = outer} {l = l} {ls = ls} p q) = record {
   l = l;
   ls = ls;
   outer = outer;
   is = refl;
-  collection = subst (λ x. IsLast outer ks x l) (head_same e) p;
-  collections = subst (λ xs. AreCollections outer xs ls) (tail_same e) q;
+  collection = subst (λ x. IsLast outer ks x l) (same_head e) p;
+  collections = subst (λ xs. AreCollections outer xs ls) (same_tail e) q;
 }
 
 reverse_push : (xs : List KeyedCollection) (x : KeyedCollection) → reverse (xs ++ x ∷ []) ≡ x ∷ reverse xs

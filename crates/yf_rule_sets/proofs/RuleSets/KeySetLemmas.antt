@@ -12,6 +12,7 @@ use Rattle.std.proofs.lemmas.Map.Lookups.{CmpEqualImpliesEq, exact_bytes, exact_
 use Rattle.std.proofs.lemmas.Map.Views.{tells_apart}
 use Rattle.std.proofs.lemmas.List.Elements.{Contains-append_cases, Contains-append_left, Contains-append_right, Contains-push_cases}
 use Rattle.std.proofs.lemmas.Option.{same_Some}
+use Rattle.yf_chars.proofs.Tests.{none_some}
 use Rattle.yf_events.specs.Tree.{Node, scalar, alias, sequence, mapping, Items, no_items, item, Pairs, no_pairs, pair, DocumentTree, flat, flat_document}
 use Rattle.yf_events.specs.declared.lists.Lists.{Lists}
 use Rattle.yf_rule_sets.specs.RuleSets.Exact.{Exactly}
@@ -51,12 +52,6 @@ key_at tags k = key_of tags k.0 k.1
 
 -- what a key tells of its node
 
-no_value : {w : KeyValue} → None ≡ Some w → ⊥
-no_value e = cc
-
-no_text : {a : List ℕ} → None ≡ Some a → ⊥
-no_text e = cc
-
 not_less : Less ≡ Equal → ⊥
 not_less e = cc
 
@@ -65,15 +60,15 @@ not_greater e = cc
 
 text_of : (x : Node) (tags : List (Option (List ℕ))) (i : ℕ) (w : KeyValue) → key_of tags i x ≡ Some w → scalar_text x ≡ Some w.0
 text_of (scalar at props style text lines) tags i w e = ap (λ v. Some v.0) (same_Some _ _ e)
-text_of (alias at name) tags i w e = absurd (no_value e)
-text_of (sequence at flow props items) tags i w e = absurd (no_value e)
-text_of (mapping at flow props pairs) tags i w e = absurd (no_value e)
+text_of (alias at name) tags i w e = absurd (none_some e)
+text_of (sequence at flow props items) tags i w e = absurd (none_some e)
+text_of (mapping at flow props pairs) tags i w e = absurd (none_some e)
 
 tag_of : (x : Node) (tags : List (Option (List ℕ))) (i : ℕ) (w : KeyValue) → key_of tags i x ≡ Some w → slice_get tags i ≡ w.1
 tag_of (scalar at props style text lines) tags i w e = ap (λ v. v.1) (same_Some _ _ e)
-tag_of (alias at name) tags i w e = absurd (no_value e)
-tag_of (sequence at flow props items) tags i w e = absurd (no_value e)
-tag_of (mapping at flow props pairs) tags i w e = absurd (no_value e)
+tag_of (alias at name) tags i w e = absurd (none_some e)
+tag_of (sequence at flow props items) tags i w e = absurd (none_some e)
+tag_of (mapping at flow props pairs) tags i w e = absurd (none_some e)
 
 -- values that compare as equal are equal
 exact_option : {K : Type 0} (R : K → K → Ordering) → CmpEqualImpliesEq R → CmpEqualImpliesEq (option_cmp R)
@@ -336,9 +331,9 @@ twice_in tags i (mapping at flow props pairs) k v l m w c d lt q p = twice_found
 
 key_from_text : (tags : List (Option (List ℕ))) (i : ℕ) (x : Node) (text : List ℕ) → scalar_text x ≡ Some text → key_of tags i x ≡ Some (text, slice_get tags i)
 key_from_text tags i (scalar at props style y lines) text e = ap (λ z. Some (z, slice_get tags i)) (same_Some _ _ e)
-key_from_text tags i (alias at name) text e = absurd (no_text e)
-key_from_text tags i (sequence at flow props items) text e = absurd (no_text e)
-key_from_text tags i (mapping at flow props pairs) text e = absurd (no_text e)
+key_from_text tags i (alias at name) text e = absurd (none_some e)
+key_from_text tags i (sequence at flow props items) text e = absurd (none_some e)
+key_from_text tags i (mapping at flow props pairs) text e = absurd (none_some e)
 
 repeated_found : (r : Lists) (trees : List DocumentTree) (n o : ℕ) → RepeatedKey r trees n o → Contains (found_in_documents r.resolved 1 trees) o
 repeated_found r trees n o (repeats {x} {k} {v} {l} {w} {text} s c d lt e q p t) =

@@ -1,8 +1,8 @@
 -- Laws of keys that are written with a `?` and wanted without.
-use Rattle.std.proofs.Common.{◌≡◌, ℕ, ◌<◌, ◌≤◌, ◌⊎◌, Bool, true, false, ◌&&◌, List, [], ◌∷◌, Option, Some, None, length, get_or, refl, sym, ap, subst, ◌∙◌, inl, inr, ⊎_elim, arith, true≢false}
+use Rattle.std.proofs.Common.{◌≡◌, ℕ, ◌<◌, ◌≤◌, Bool, true, false, ◌&&◌, List, [], ◌∷◌, Option, Some, None, length, get_or, sym, ap, subst, ◌∙◌, ⊎_elim, arith, true≢false}
 use Rattle.std.specs.List.{Contains}
-use Rattle.std.specs.Prelude.{◌||◌, ◌==◌, slice_get}
-use Rattle.std.proofs.lemmas.Bool.{and_parts, cases_lt}
+use Rattle.std.specs.Prelude.{◌==◌, slice_get}
+use Rattle.std.proofs.lemmas.Bool.{and_parts, cases_lt, eqb-true, or_cases, or_left, or_right}
 use Rattle.std.proofs.lemmas.Bool.Decides.{nat_tests}
 use Rattle.std.proofs.lemmas.List.{length-map}
 use Rattle.std.proofs.lemmas.Option.{same_Some, slice_get_within}
@@ -26,20 +26,8 @@ use Rattle.yf_rule_sets.specs.RuleSets.QuestionMarks.{HasQuestionMark, IsMarked,
 use Rattle.yf_rule_sets.proofs.Texts.FlowLemmas.{is_inside, is_outside}
 use Rattle.yf_rule_sets.proofs.RuleSets.KeySetLemmas.{head_or_later, is_head, is_later}
 use Rattle.yf_chars.proofs.Tests.{some_none}
-use Rattle.yf_forms.proofs.NormalForms.NormalLemmas.{is_leaf}
 
 -- a list of keys, and the test whether one begins at an index
-
-or_other : (a b : Bool) → b ≡ true → (a || b) ≡ true
-or_other true b e = refl
-or_other false b e = e
-
-or_cases : (a b : Bool) → (a || b) ≡ true → (a ≡ true) ⊎ (b ≡ true)
-or_cases true b e = inl refl
-or_cases false b e = inr e
-
-same_number : (j i : ℕ) → (j == i) ≡ true → j ≡ i
-same_number j i e = grind (arith, nat_tests)
 
 its_number : (i : ℕ) → ((i == i) && true) ≡ true
 its_number i = grind (arith, nat_tests)
@@ -49,15 +37,15 @@ listed [] i e = absurd (true≢false (sym e))
 listed ((j, b) ∷ ks) i e = ⊎_elim
     (λ (h : ((j == i) && b) ≡ true).
     let p = and_parts (j == i) b h in
-    subst (λ w. Contains ((j, b) ∷ ks) (w, true)) (same_number j i p.0) (subst (λ w. Contains ((j, b) ∷ ks) (j, w)) p.1 (is_head (j, b) ks)))
+    subst (λ w. Contains ((j, b) ∷ ks) (w, true)) (eqb-true j i p.0) (subst (λ w. Contains ((j, b) ∷ ks) (j, w)) p.1 (is_head (j, b) ks)))
     (λ (h : begins_implicit ks i ≡ true). is_later (j, b) ks (i, true) (listed ks i h))
     (or_cases ((j == i) && b) (begins_implicit ks i) e)
 
 tested : (ks : List (ℕ × Bool)) (i : ℕ) → Contains ks (i, true) → begins_implicit ks i ≡ true
 tested [] i c = absurd (omega (arith, c.1))
 tested (k ∷ ks) i c = ⊎_elim
-    (λ (e : k ≡ (i, true)). is_leaf ((k.0 == i) && k.1) (begins_implicit ks i) (ap (λ w. (w.0 == i) && w.1) e ∙ its_number i))
-    (λ (h : Contains ks (i, true)). or_other ((k.0 == i) && k.1) (begins_implicit ks i) (tested ks i h))
+    (λ (e : k ≡ (i, true)). or_left ((k.0 == i) && k.1) (begins_implicit ks i) (ap (λ w. (w.0 == i) && w.1) e ∙ its_number i))
+    (λ (h : Contains ks (i, true)). or_right ((k.0 == i) && k.1) (begins_implicit ks i) (tested ks i h))
     (head_or_later k ks (i, true) c)
 
 -- the event 0 begins no key

@@ -5,15 +5,13 @@ use Rattle.std.proofs.lemmas.List.{drop_at, length-append, length-take-le, take-
 use Rattle.std.proofs.lemmas.Option.{slice_get_within, get_or_from_slice_get}
 use Rattle.std.proofs.Math.Seq.{drop-append-add, drop-cons}
 use Rattle.std.specs.Prelude.{slice_get}
+use Rattle.yf_chars.proofs.Tests.{same_head}
 use Rattle.yf_events.specs.Event.{EventInText, stream_starts, stream_ends, document_starts, document_ends, sequence_ends, mapping_ends}
 use Rattle.yf_events.specs.WellPlaced.{begins_node}
 use Rattle.yf_events.specs.Tree.{Node, scalar, alias, sequence, mapping, Items, no_items, item, Pairs, no_pairs, pair, DocumentTree, TreesOf, unplaced, flat, flat_items, flat_pairs, flat_document, flat_stream}
 use Rattle.yf_events.specs.declared.lists.Lists.{Lists}
 use Rattle.yf_events.proofs.TreeLemmas.{node_unique}
 use Rattle.yf_forms.specs.Nodes.SingleAnswers.{NodeAt}
-
-head_same : {a b : EventInText} {xs ys : List EventInText} → a ∷ xs ≡ b ∷ ys → a ≡ b
-head_same e = cc
 
 -- What is at an index: a node that ends within the first n events, or an event that begins none.
 pub data IsAt (es : List EventInText) (i n : ℕ) : Type 0 where
@@ -98,10 +96,10 @@ stream_is_at ds i l =
 -- what is first of a node
 
 pub first_begins : (x : Node) (after more : List EventInText) (e : EventInText) → flat x ++ after ≡ e ∷ more → begins_node e.event ≡ true
-first_begins (scalar at props style text lines) after more e q = ap (λ d. begins_node d.event) (sym (head_same q))
-first_begins (alias at name) after more e q = ap (λ d. begins_node d.event) (sym (head_same q))
-first_begins (sequence at flow props items) after more e q = ap (λ d. begins_node d.event) (sym (head_same q))
-first_begins (mapping at flow props pairs) after more e q = ap (λ d. begins_node d.event) (sym (head_same q))
+first_begins (scalar at props style text lines) after more e q = ap (λ d. begins_node d.event) (sym (same_head {A = EventInText} q))
+first_begins (alias at name) after more e q = ap (λ d. begins_node d.event) (sym (same_head {A = EventInText} q))
+first_begins (sequence at flow props items) after more e q = ap (λ d. begins_node d.event) (sym (same_head {A = EventInText} q))
+first_begins (mapping at flow props pairs) after more e q = ap (λ d. begins_node d.event) (sym (same_head {A = EventInText} q))
 
 -- Nodes at indices.
 
@@ -146,7 +144,7 @@ begins_at r ds i e t g b = by (subst (λ es. IsAt es i (length r.events)) (sym t
         index = length-take-le i r.events (let w = slice_get_within r.events i e g in omega (arith, w));
       },
     )
-    by (no_node f more d w) = absurd (true≢false (sym b ∙ ap (λ z. begins_node z.event) (head_same (sym cut ∙ d)) ∙ w))
+    by (no_node f more d w) = absurd (true≢false (sym b ∙ ap (λ z. begins_node z.event) (same_head {A = EventInText} (sym cut ∙ d)) ∙ w))
 
 -- none begins at the index 0
 pub none_first : (r : Lists) (ds : List DocumentTree) (x : Node) → TreesOf r ds → NodeAt r.events 0 x → ⊥

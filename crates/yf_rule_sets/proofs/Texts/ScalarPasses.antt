@@ -1,9 +1,9 @@
 -- Laws of scalars that are passed by, for their style or since they are on one line.
-use Rattle.std.proofs.Common.{◌≡◌, ℕ, ◌+◌, ◌<◌, ◌≤◌, true, false, Bool, List, Option, Some, None, length, sym, ap, ◌∙◌, ⊎_elim, arith, true≢false}
-use Rattle.std.specs.Prelude.{slice_get, ◌==◌, if◌then◌else◌}
+use Rattle.std.proofs.Common.{◌≡◌, ℕ, ◌<◌, ◌≤◌, true, false, List, Option, Some, None, length, sym, ap, ◌∙◌, ⊎_elim, arith, true≢false}
+use Rattle.std.specs.Prelude.{slice_get}
 use Rattle.std.proofs.lemmas.Bool.{cases_lt}
 use Rattle.std.proofs.lemmas.Option.{slice_get_within, same_Some}
-use Rattle.yf_forms.specs.Nodes.ContentStart.{content_start, past_gap, past_second, property_len}
+use Rattle.yf_forms.proofs.Texts.GapLemmas.{content_later}
 use Rattle.yf_events.specs.Event.{scalar_node}
 use Rattle.yf_events.specs.Reading.{events_of}
 use Rattle.yf_events.specs.declared.event.ScalarStyle.{ScalarStyle}
@@ -50,28 +50,6 @@ pub block_wanted : {src : Table} {r : Lists} {i : ℕ} {answer : Option ScalarLi
     → (ContentLine src r k i → InSome src.lines (wanted_range Content answer) k) × (InSome src.lines (wanted_range Content answer) k → ContentLine src r k i)
 block_wanted (other_style f) k = (λ h. no_content_line f h, λ p. absurd p)
 block_wanted {src} {r} {i} {answer} (same_lines h) k = wanted_told Content src r i answer h k
-
--- the content of a node begins at its start or after it
-gap_later : (t : List ℕ) (i end : ℕ) → i ≤ past_gap t i end
-unfolding past_gap
-gap_later t i end = omega arith
-
-second_later : (t : List ℕ) (i end : ℕ) (props : PropsValue) → i ≤ past_second t i end props
-unfolding past_second
-second_later t i end props = by (property_len t i props == 0) where
-  by : (b : Bool) → i ≤ (if b then i else past_gap t (i + property_len t i props) end)
-  by true = omega arith
-  by false = let l = gap_later t (i + property_len t i props) end in omega (arith, l)
-
-content_later : (t : List ℕ) (s : Span) (props : PropsValue) → s.start ≤ content_start t s props
-unfolding content_start
-content_later t s props = by (property_len t s.start props == 0) where
-  by : (b : Bool) → s.start ≤ (if b then s.start else past_second t (past_gap t (s.start + property_len t s.start props) s.end) s.end props)
-  by true = omega arith
-  by false =
-      let l = gap_later t (s.start + property_len t s.start props) s.end in
-      let m = second_later t (past_gap t (s.start + property_len t s.start props) s.end) s.end props in
-      omega (arith, l, m)
 
 -- scalars that end before the next line begins
 pub no_lines_after : (ls : List Line) (n line end : ℕ) → n ≡ length ls → n ≤ line → (m : ℕ) (l : Line) → slice_get ls m ≡ Some l → line ≤ m → end ≤ l.start

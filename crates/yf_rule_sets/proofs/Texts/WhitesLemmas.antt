@@ -10,6 +10,7 @@ use Rattle.yf_chars.specs.Chain.One.{one}
 use Rattle.yf_chars.specs.Class.{is_white}
 use Rattle.yf_chars.specs.Text.{code, next, CharAt}
 use Rattle.yf_chars.proofs.TextLemmas.{next_ascii, code-past}
+use Rattle.yf_chars.proofs.ChainLemmas.{chain_forward, one_functional}
 use Rattle.yf_comments.specs.Comment.{CommentValue, comment_value}
 use Rattle.yf_comments.specs.declared.comment.Comment.{Comment}
 use Rattle.yf_events.specs.declared.lists.Lists.{Lists}
@@ -35,14 +36,10 @@ no_later t start end i j a b w l =
     (λ (e : is_white (code t (j - 1)) ≡ false). true≢false (sym (white_within (j - 1) a.run (omega (arith, l)) (omega (arith, l, w))) ∙ e))
     b.first
 
-whites_order : {t : List ℕ} {i j : ℕ} {x : List ℕ} → Many t is_white i j x → i ≤ j
-whites_order done = omega arith
-whites_order {t} {i} (step (one e) c) = let m : next t i ≡ i + 1 = next_ascii t i (white_below (code t i) e) in let n = whites_order c in omega (arith, m, n)
-
 pub whites_unique : (t : List ℕ) (start end i j : ℕ) → WhitesEnd t start end i → WhitesEnd t start end j → i ≡ j
 whites_unique t start end i j a b =
-    ⊎_elim (λ (l : i < j). absurd (no_later t start end i j a b (whites_order b.run) l))
-    (λ (l : j ≤ i). ⊎_elim (λ (m : j < i). absurd (no_later t start end j i b a (whites_order a.run) m)) (λ (m : i ≤ j). omega (arith, l, m)) (cases_lt j i))
+    ⊎_elim (λ (l : i < j). absurd (no_later t start end i j a b (chain_forward (one_functional t is_white) b.run) l))
+    (λ (l : j ≤ i). ⊎_elim (λ (m : j < i). absurd (no_later t start end j i b a (chain_forward (one_functional t is_white) a.run) m)) (λ (m : i ≤ j). omega (arith, l, m)) (cases_lt j i))
     (cases_lt i j)
 
 -- one white more before those found so far

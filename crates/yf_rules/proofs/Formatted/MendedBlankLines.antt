@@ -1,10 +1,11 @@
 -- In what formatting gives, blank lines are between rows alone, where each is right.
-use Rattle.std.proofs.Common.{◌≡◌, ◌≢◌, ℕ, zero, suc, ◌+◌, ◌-◌, ◌<◌, true, false, true≢false, List, [], map, Some, sym, ap, ◌∙◌, subst, arith}
+use Rattle.std.proofs.Common.{◌≡◌, ◌≢◌, ℕ, zero, suc, ◌+◌, ◌-◌, ◌<◌, true, false, true≢false, List, map, Some, sym, ap, ◌∙◌, subst, arith}
 use Rattle.std.specs.Prelude.{slice_get}
 use Rattle.std.specs.Str.{IsUtf8}
 use Rattle.std.proofs.lemmas.Option.{same_Some, slice_get_within}
 use Rattle.yf_chars.specs.Class.{is_white}
 use Rattle.yf_chars.specs.Text.{code}
+use Rattle.yf_chars.proofs.Tests.{no_item}
 use Rattle.yf_lines.specs.Basic.{ForbiddenLine, LineStart, is_marker}
 use Rattle.yf_lines.specs.Lines.{IsForbiddenLine, Table}
 use Rattle.yf_lines.specs.declared.line.Line.{Line}
@@ -65,19 +66,13 @@ forbidden_there {src} w k l e f =
 
 -- Directives.
 
-no_directive : (j : ℕ) (d : Directive) → slice_get [] j ≡ Some d → ⊥
-no_directive j d e = cc
-
 directive_at : {t : List ℕ} {ds : List Directive} (j : ℕ) (d : Directive) → DirectivesStand t ds → slice_get ds j ≡ Some d → LineStart t d.offset × (code t d.offset ≡ 37)
-directive_at j d no_directives e = absurd (no_directive j d e)
+directive_at j d no_directives e = absurd (no_item j d e)
 directive_at {t} zero d (directive_is_at l c more) e = subst (λ (w : Directive). LineStart t w.offset × (code t w.offset ≡ 37)) (same_Some _ _ e) (l, c)
 directive_at (suc j) d (directive_is_at l c more) e = directive_at j d more e
 
-no_document : (k : ℕ) (d : Doc) → slice_get [] k ≡ Some d → ⊥
-no_document k d e = cc
-
 document_at : {t : List ℕ} {ds : List Document} (k : ℕ) (d : Doc) → AllDirected t ds → slice_get (map doc_of ds) k ≡ Some d → DirectivesStand t d.directives
-document_at k d none_directed e = absurd (no_document k d e)
+document_at k d none_directed e = absurd (no_item k d e)
 document_at {t} zero d (one_directed a more) e = subst (λ (w : Doc). DirectivesStand t w.directives) (same_Some _ _ e) a
 document_at (suc k) d (one_directed a more) e = document_at k d more e
 

@@ -8,9 +8,10 @@ use Rattle.yf_chars.specs.Class.{is_white}
 use Rattle.yf_chars.specs.Text.{code}
 use Rattle.yf_chars.proofs.TextLemmas.{byte_from_code}
 use Rattle.yf_lines.specs.Basic.{Spaces}
-use Rattle.yf_lines.specs.Lines.{IsLine, SpacesFrom}
+use Rattle.yf_lines.specs.Lines.{IsLine}
 use Rattle.yf_lines.specs.declared.line.Line.{Line}
 use Rattle.yf_lines.proofs.RestLemmas.{Rest, rest_ascii, rest_spaces}
+use Rattle.yf_lines.proofs.LineLemmas.{same_indent}
 use Rattle.yf_block_scalar.specs.Content.{content_of, ending, feeds, folded, folded_after, literal, literal_after}
 use Rattle.yf_block_scalar.specs.Written.{EndsWithContent}
 use Rattle.yf_block_scalar.specs.declared.header.Chomp.{Chomp}
@@ -18,6 +19,7 @@ use Rattle.yf_block_scalar.specs.declared.header.Chomp.TheVariants.{Strip, Clip,
 use Rattle.yf_block_scalar.specs.declared.header.Header.{Header}
 use Rattle.yf_events.specs.declared.event.ScalarStyle.{ScalarStyle}
 use Rattle.yf_forms.specs.Nodes.BlockLines.{block_lines, content_lines, final_feeds, line_at, tail_lines}
+use Rattle.yf_forms.proofs.ListLemmas.{at_append}
 use Rattle.yf_emit.specs.Nodes.BlockValues.{header_of}
 use Rattle.yf_emit.specs.Layouts.ReadableTrees.{FitScalar}
 use Rattle.yf_emit.proofs.OutputLines.LaidLines.{LineIs, LinesAre, no_lines, more_lines, line_char, nb_no}
@@ -211,11 +213,6 @@ line_long column (l ∷ ls) (suc i) x e n = line_long column ls i x e n
 
 -- Indentation of a line.
 
-indent_same : {t : List ℕ} {i k m : ℕ} → SpacesFrom t i k → SpacesFrom t i m → k ≡ m
-indent_same {k = k} {m = m} a b =
-    ⊎_elim (λ (l : k < m). absurd (a.stops (b.spaces.each k l)))
-    (λ (l : m ≤ k). ⊎_elim (λ (q : k ≡ m). q) (λ (q : k ≢ m). absurd (b.stops (a.spaces.each m (omega (arith, l, q))))) (cases_eq k m)) (cases_lt k m)
-
 spaces_join : {t : List ℕ} {q a b : ℕ} → Spaces t q a → Spaces t (q + a) b → Spaces t q (a + b)
 spaces_join {t} {q} {a} {b} x y = record {
   each = λ m l. ⊎_elim (λ (f : m < a). x.each m f)
@@ -243,14 +240,9 @@ line_indent {t} {l} column z u made a =
     let one = rest_spaces column l.start u (subst (λ w. Rest t l.start w) shaped a.there) in
     let two = rest_spaces k (l.start + column) u one.1 in
     let place : l.start + column + k ≡ l.start + (column + k) = omega arith in
-    indent_same made.indented (record { spaces = spaces_join one.0 two.0; stops = subst (λ i. code t i ≢ 32) place (not_space a.follows u s.none two.1) })
+    same_indent made.indented (record { spaces = spaces_join one.0 two.0; stops = subst (λ i. code t i ≢ 32) place (not_space a.follows u s.none two.1) })
 
 -- Scalars.
-
-got_left : (xs ys : List (List ℕ)) (i : ℕ) (x : List ℕ) → slice_get xs i ≡ Some x → slice_get (xs ++ ys) i ≡ Some x
-got_left [] ys i x e = absurd cc
-got_left (y ∷ xs) ys zero x e = e
-got_left (y ∷ xs) ys (suc i) x e = got_left xs ys i x e
 
 pub record LineThere (t : List ℕ) (ls : List Line) (i : ℕ) (x : List ℕ) : Type 0 where
   pub line : Line
@@ -328,4 +320,4 @@ pub first_content : {t : List ℕ} {ls : List Line} {style : ScalarStyle} {text 
     → ((i : ℕ) (l : Line) → slice_get ls i ≡ Some l → IsLine t l) → FitScalar style text lines → LinesAre t ls (block_lines style column text lines ++ texts)
     → FirstContent t ls text column (block_lines style column text lines)
 first_content {style = style} {text = text} {lines = lines} texts column u made f are =
-    first_content_of column u made f (λ i x g. line_there i x are (got_left (block_lines style column text lines) texts i x g))
+    first_content_of column u made f (λ i x g. line_there i x are (at_append (block_lines style column text lines) texts i x g))

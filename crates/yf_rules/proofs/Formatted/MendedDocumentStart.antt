@@ -8,6 +8,7 @@ use Rattle.yf_chars.specs.Chain.{Many}
 use Rattle.yf_chars.specs.Class.{is_break_char}
 use Rattle.yf_chars.specs.Text.{code}
 use Rattle.yf_chars.proofs.TextLemmas.{within_from_code}
+use Rattle.yf_chars.proofs.Tests.{no_item}
 use Rattle.yf_lines.specs.Basic.{ForbiddenLine}
 use Rattle.yf_lines.specs.Lines.{Table, is_mark}
 use Rattle.yf_lines.specs.declared.line.Line.{Line}
@@ -46,7 +47,6 @@ use Rattle.yf_rules.proofs.Formatted.MendedLines.{exactly_none, no_mark_there}
 use Rattle.std.proofs.lemmas.Bool.{and_parts}
 use Rattle.std.proofs.lemmas.Option.{same_Some}
 use Rattle.yf_print.specs.Layouts.BareStart.{begins_bare, has_lead, is_bare, keeps_starts}
-use Rattle.yf_emit.proofs.OutputLines.LinedRows.{nothing_got}
 
 -- The events of documents tell their markers alone.
 
@@ -89,12 +89,9 @@ reading_marks {src} {r} {s} w =
     let all : values (q.derived_events ++ (unplaced stream_ends ∷ [])) ≡ values q.derived_events ++ (stream_ends ∷ []) = values_append q.derived_events (unplaced stream_ends ∷ []) in
     sym (ap markers_in (noting_values q.noted)) ∙ (ap markers_in all ∙ (documents_marks (stream_ends ∷ []) (formats_meant w.utf8 w.formats q) q.events ∙ append-nil (marks q.derived.documents)))
 
-no_flag : (k : ℕ) (b : Bool) → slice_get [] k ≡ Some b → ⊥
-no_flag k b e = cc
-
 -- only a first document that may be bare is without a `---`
 marked_alone : {bare : Bool} {ms : List Doc} {trees : List _} {es : List Document} (k : ℕ) → DocumentsMeant bare ms trees es → slice_get (marks es) k ≡ Some false → (k ≡ 0) × (bare ≡ true)
-marked_alone k no_documents_meant e = absurd (no_flag k false e)
+marked_alone k no_documents_meant e = absurd (no_item k false e)
 marked_alone zero (document_meant {bare = bare} a more) e = (refl, turned bare (sym a.marked ∙ same_Some _ _ e)) where
   turned : (b : Bool) → not b ≡ false → b ≡ true
   turned true f = refl
@@ -104,7 +101,7 @@ marked_alone (suc k) (document_meant a more) e = absurd (true≢false (sym (mark
 -- Where documents begin.
 
 kind_at : {xs : List (List ℕ)} (k : ℕ) (x : List ℕ) → LineKinds xs → slice_get xs k ≡ Some x → LineKind x
-kind_at k x no_line e = absurd (nothing_got k x e)
+kind_at k x no_line e = absurd (no_item k x e)
 kind_at zero x (line_more a more) e = subst (λ w. LineKind w) (same_Some _ _ e) a
 kind_at (suc k) x (line_more a more) e = kind_at k x more e
 
@@ -139,11 +136,8 @@ begins_alone {src} w i f e =
     subst (λ k. IsAlone t k) same
     (alone_there a.utf8 line.is (kind_at at.index line.text (formed_kinds w a) line.among) (subst (λ k. ForbiddenLine t k) (sym same) f) (ap (code t) same ∙ e))
 
-no_document_there : (k : ℕ) (d : Doc) → slice_get [] k ≡ Some d → ⊥
-no_document_there k d e = cc
-
 pub start_at : {t : List ℕ} {ds : List Document} (k : ℕ) (d : Doc) → MarkersStand t ds → slice_get (map doc_of ds) k ≡ Some d → slice_get (marks ds) k ≡ Some true → ForbiddenLine t d.start × (code t d.start ≡ 45)
-start_at k d no_markers e g = absurd (no_document_there k d e)
+start_at k d no_markers e g = absurd (no_item k d e)
 start_at {t} zero d (marker_is_at f more) e g = subst (λ (w : Doc). ForbiddenLine t w.start × (code t w.start ≡ 45)) (same_Some _ _ e) (f (same_Some _ _ g))
 start_at (suc k) d (marker_is_at f more) e g = start_at k d more e g
 

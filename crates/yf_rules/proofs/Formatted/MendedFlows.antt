@@ -8,7 +8,7 @@ use Rattle.yf_events.specs.declared.lists.Lists.{Lists}
 use Rattle.yf_props.specs.Props.{PropsValue}
 use Rattle.yf_forms.specs.Nodes.OneLineFlows.{may_be_kept}
 use Rattle.yf_forms.specs.Nodes.SingleAnswers.{NodeAt}
-use Rattle.yf_forms.specs.NormalForms.Normal.{LayoutSetting, Spot, fits, inner_spot, key_spot, normal_document, root_spot, settled, settled_items, settled_pairs, styled, styled_items, styled_pairs, value_spot}
+use Rattle.yf_forms.specs.NormalForms.Normal.{LayoutSetting, Margins, fits, inner_margins, key_margins, normal_document, root_margins, settled, settled_items, settled_pairs, styled, styled_items, styled_pairs, value_margins}
 use Rattle.yf_forms.proofs.Decide.AmongLemmas.{Among, back, after_first, first_at, front, node_at}
 use Rattle.yf_emit.proofs.NormalForms.SettledTwice.{settled_twice}
 use Rattle.yf_rule_sets.specs.Passes.OuterFlow.{IsOutsideFlow, is_flow, starts_flow}
@@ -71,50 +71,50 @@ module _ {es : List EventInText} {i : ℕ} {x : Node} (there : NodeAt es i x) (f
 -- A flow collection among the nodes.
 
 module _ (t : List ℕ) (c : LayoutSetting) where
-  fine_node : {spot : Spot} (other : Spot) (z : Node) → WrittenNode t c spot z → settled c spot z ≡ z → settled c other (styled t c z) ≡ z → is_flow z ≡ true → Fine t c z
-  fine_node {spot} other (sequence at true props no_items) (sequence_on_line w) e f g =
-      record { column = spot.column; written = w; may = λ q. absurd (true≢false (sym q)); same = λ q. absurd (true≢false (sym q)); fit = λ q. absurd (true≢false (sym q)) }
-  fine_node {spot} other (sequence at true props (item x xs)) (sequence_on_line w) e f g =
+  fine_node : {margins : Margins} (other : Margins) (z : Node) → WrittenNode t c margins z → settled c margins z ≡ z → settled c other (styled t c z) ≡ z → is_flow z ≡ true → Fine t c z
+  fine_node {margins} other (sequence at true props no_items) (sequence_on_line w) e f g =
+      record { column = margins.column; written = w; may = λ q. absurd (true≢false (sym q)); same = λ q. absurd (true≢false (sym q)); fit = λ q. absurd (true≢false (sym q)) }
+  fine_node {margins} other (sequence at true props (item x xs)) (sequence_on_line w) e f g =
       let z : Node = sequence at true props (item x xs) in
-      let fit = chosen z (sequence at false props (settled_items c spot.entries (item x xs))) z (fits c.style spot.column z) refl refl e in
+      let fit = chosen z (sequence at false props (settled_items c margins.entries (item x xs))) z (fits c.style margins.column z) refl refl e in
       let kept = chosen (styled t c z) (sequence at false props (settled_items c other.entries (styled_items t c (item x xs)))) z
       (may_be_kept t c.comments z && fits c.style other.column (styled t c z)) refl refl f in
-      record { column = spot.column; written = w; may = λ q. (and_parts (may_be_kept t c.comments z) (fits c.style other.column (styled t c z)) kept.0).0; same = λ q. kept.1; fit = λ q. fit.0 }
-  fine_node {spot} other (mapping at true props no_pairs) (mapping_on_line w) e f g =
-      record { column = spot.column; written = w; may = λ q. absurd (true≢false (sym q)); same = λ q. absurd (true≢false (sym q)); fit = λ q. absurd (true≢false (sym q)) }
-  fine_node {spot} other (mapping at true props (pair k v ps)) (mapping_on_line w) e f g =
+      record { column = margins.column; written = w; may = λ q. (and_parts (may_be_kept t c.comments z) (fits c.style other.column (styled t c z)) kept.0).0; same = λ q. kept.1; fit = λ q. fit.0 }
+  fine_node {margins} other (mapping at true props no_pairs) (mapping_on_line w) e f g =
+      record { column = margins.column; written = w; may = λ q. absurd (true≢false (sym q)); same = λ q. absurd (true≢false (sym q)); fit = λ q. absurd (true≢false (sym q)) }
+  fine_node {margins} other (mapping at true props (pair k v ps)) (mapping_on_line w) e f g =
       let z : Node = mapping at true props (pair k v ps) in
-      let fit = chosen z (mapping at false props (settled_pairs c spot.entries (pair k v ps))) z (fits c.style spot.column z) refl refl e in
+      let fit = chosen z (mapping at false props (settled_pairs c margins.entries (pair k v ps))) z (fits c.style margins.column z) refl refl e in
       let kept = chosen (styled t c z) (mapping at false props (settled_pairs c other.entries (styled_pairs t c (pair k v ps)))) z
       (may_be_kept t c.comments z && fits c.style other.column (styled t c z)) refl refl f in
-      record { column = spot.column; written = w; may = λ q. (and_parts (may_be_kept t c.comments z) (fits c.style other.column (styled t c z)) kept.0).0; same = λ q. kept.1; fit = λ q. fit.0 }
+      record { column = margins.column; written = w; may = λ q. (and_parts (may_be_kept t c.comments z) (fits c.style other.column (styled t c z)) kept.0).0; same = λ q. kept.1; fit = λ q. fit.0 }
   fine_node other (scalar at props style text lines) w e f g = absurd (true≢false (sym g))
   fine_node other (alias at name) w e f g = absurd (true≢false (sym g))
   fine_node other (sequence at false props xs) w e f g = absurd (true≢false (sym g))
   fine_node other (mapping at false props ps) w e f g = absurd (true≢false (sym g))
 
   -- the entries of a block collection are settled, and styled, as themselves
-  items_settled : (at : NodeOffsets) (props : PropsValue) (spot : Spot) (xs : Items) → settled c spot (sequence at false props xs) ≡ sequence at false props xs → settled_items c spot.entries xs ≡ xs
-  items_settled at props spot no_items e = refl
-  items_settled at props spot (item x xs) e = same_items e
+  items_settled : (at : NodeOffsets) (props : PropsValue) (margins : Margins) (xs : Items) → settled c margins (sequence at false props xs) ≡ sequence at false props xs → settled_items c margins.entries xs ≡ xs
+  items_settled at props margins no_items e = refl
+  items_settled at props margins (item x xs) e = same_items e
 
-  items_styled : (at : NodeOffsets) (props : PropsValue) (spot : Spot) (xs : Items) → settled c spot (styled t c (sequence at false props xs)) ≡ sequence at false props xs
-      → settled_items c spot.entries (styled_items t c xs) ≡ xs
-  items_styled at props spot no_items e = refl
-  items_styled at props spot (item x xs) e = same_items e
+  items_styled : (at : NodeOffsets) (props : PropsValue) (margins : Margins) (xs : Items) → settled c margins (styled t c (sequence at false props xs)) ≡ sequence at false props xs
+      → settled_items c margins.entries (styled_items t c xs) ≡ xs
+  items_styled at props margins no_items e = refl
+  items_styled at props margins (item x xs) e = same_items e
 
-  pairs_settled : (at : NodeOffsets) (props : PropsValue) (spot : Spot) (ps : Pairs) → settled c spot (mapping at false props ps) ≡ mapping at false props ps → settled_pairs c spot.entries ps ≡ ps
-  pairs_settled at props spot no_pairs e = refl
-  pairs_settled at props spot (pair k v ps) e = same_pairs e
+  pairs_settled : (at : NodeOffsets) (props : PropsValue) (margins : Margins) (ps : Pairs) → settled c margins (mapping at false props ps) ≡ mapping at false props ps → settled_pairs c margins.entries ps ≡ ps
+  pairs_settled at props margins no_pairs e = refl
+  pairs_settled at props margins (pair k v ps) e = same_pairs e
 
-  pairs_styled : (at : NodeOffsets) (props : PropsValue) (spot : Spot) (ps : Pairs) → settled c spot (styled t c (mapping at false props ps)) ≡ mapping at false props ps
-      → settled_pairs c spot.entries (styled_pairs t c ps) ≡ ps
-  pairs_styled at props spot no_pairs e = refl
-  pairs_styled at props spot (pair k v ps) e = same_pairs e
+  pairs_styled : (at : NodeOffsets) (props : PropsValue) (margins : Margins) (ps : Pairs) → settled c margins (styled t c (mapping at false props ps)) ≡ mapping at false props ps
+      → settled_pairs c margins.entries (styled_pairs t c ps) ≡ ps
+  pairs_styled at props margins no_pairs e = refl
+  pairs_styled at props margins (pair k v ps) e = same_pairs e
 
   module _ {es : List EventInText} {i : ℕ} {x : Node} (there : NodeAt es i x) (flow : is_flow x ≡ true) (outer : IsOutsideFlow es i) where
     -- a flow collection that holds the event is the one that it begins
-    on_line : (k : ℕ) (z : Node) {spot : Spot} (other : Spot) → WrittenNode t c spot z → settled c spot z ≡ z → settled c other (styled t c z) ≡ z → is_flow z ≡ true → Among es (flat z) k
+    on_line : (k : ℕ) (z : Node) {margins : Margins} (other : Margins) → WrittenNode t c margins z → settled c margins z ≡ z → settled c other (styled t c z) ≡ z → is_flow z ≡ true → Among es (flat z) k
         → k ≤ i → i < k + length (flat z) → Fine t c x
     on_line k z other w e f g a l m =
         let n : NodeAt es k z = node_at z a in
@@ -122,21 +122,21 @@ module _ (t : List ℕ) (c : LayoutSetting) where
         (λ (h : i ≤ k). let q : k ≡ i = omega (arith, h, l) in subst (λ y. Fine t c y) (same_node (subst (λ b. NodeAt es b z) q n) there) (fine_node other z w e f g)) (cases_lt k i)
 
     mutual
-      in_node : (k : ℕ) (z : Node) (spot other : Spot) → WrittenNode t c spot z → settled c spot z ≡ z → settled c other (styled t c z) ≡ z → Among es (flat z) k → k ≤ i
+      in_node : (k : ℕ) (z : Node) (margins other : Margins) → WrittenNode t c margins z → settled c margins z ≡ z → settled c other (styled t c z) ≡ z → Among es (flat z) k → k ≤ i
           → i < k + length (flat z) → Fine t c x
-      in_node k (scalar at props style text lines) spot other w e f a l m = absurd (not_begun there flow _ [] refl a (omega (arith, l, m)))
-      in_node k (alias at name) spot other w e f a l m = absurd (not_begun there flow _ [] refl a (omega (arith, l, m)))
-      in_node k (sequence at true props xs) spot other w e f a l m = on_line k (sequence at true props xs) other w e f refl a l m
-      in_node k (mapping at true props ps) spot other w e f a l m = on_line k (mapping at true props ps) other w e f refl a l m
-      in_node k (sequence at false props xs) spot other (written_sequence w) e f a l m =
+      in_node k (scalar at props style text lines) margins other w e f a l m = absurd (not_begun there flow _ [] refl a (omega (arith, l, m)))
+      in_node k (alias at name) margins other w e f a l m = absurd (not_begun there flow _ [] refl a (omega (arith, l, m)))
+      in_node k (sequence at true props xs) margins other w e f a l m = on_line k (sequence at true props xs) other w e f refl a l m
+      in_node k (mapping at true props ps) margins other w e f a l m = on_line k (mapping at true props ps) other w e f refl a l m
+      in_node k (sequence at false props xs) margins other (written_sequence w) e f a l m =
           let end : EventInText = unplaced sequence_ends in
           let b = framed there flow _ end (flat_items xs) refl refl a l m in
-          in_items (k + 1) spot.entries other.entries xs w (items_settled at props spot xs e) (items_styled at props other xs f)
+          in_items (k + 1) margins.entries other.entries xs w (items_settled at props margins xs e) (items_styled at props other xs f)
           (front (flat_items xs) (end ∷ []) (after_first _ (flat_items xs ++ (end ∷ [])) a)) b.0 b.1
-      in_node k (mapping at false props ps) spot other (written_mapping w) e f a l m =
+      in_node k (mapping at false props ps) margins other (written_mapping w) e f a l m =
           let end : EventInText = unplaced mapping_ends in
           let b = framed there flow _ end (flat_pairs ps) refl refl a l m in
-          in_pairs (k + 1) spot.entries other.entries ps w (pairs_settled at props spot ps e) (pairs_styled at props other ps f)
+          in_pairs (k + 1) margins.entries other.entries ps w (pairs_settled at props margins ps e) (pairs_styled at props other ps f)
           (front (flat_pairs ps) (end ∷ []) (after_first _ (flat_pairs ps ++ (end ∷ [])) a)) b.0 b.1
 
       in_items : (k m n : ℕ) (xs : Items) → WrittenItems t c m xs → settled_items c m xs ≡ xs → settled_items c n (styled_items t c xs) ≡ xs → Among es (flat_items xs) k → k ≤ i
@@ -145,7 +145,7 @@ module _ (t : List ℕ) (c : LayoutSetting) where
       in_items k m n (item z zs) (written_item w ws) e f a l q =
           let both : length (flat z ++ flat_items zs) ≡ length (flat z) + length (flat_items zs) = length-append (flat z) (flat_items zs) in
           ⊎_elim
-          (λ (h : i < k + length (flat z)). in_node k z (inner_spot c.style m) (inner_spot c.style n) w (first_item e) (first_item f) (front (flat z) (flat_items zs) a) l h)
+          (λ (h : i < k + length (flat z)). in_node k z (inner_margins c.style m) (inner_margins c.style n) w (first_item e) (first_item f) (front (flat z) (flat_items zs) a) l h)
           (λ (h : k + length (flat z) ≤ i). in_items (k + length (flat z)) m n zs ws (more_items e) (more_items f) (back (flat z) (flat_items zs) a) h (omega (arith, q, both)))
           (cases_lt i (k + length (flat z)))
 
@@ -159,16 +159,16 @@ module _ (t : List ℕ) (c : LayoutSetting) where
           let b = back (flat y) rest a in
           let j : ℕ = k + length (flat y) in
           ⊎_elim
-          (λ (h : i < j). in_node k y (key_spot c.style m y) (key_spot c.style n (styled t c y)) w (first_key e) (first_key f) (front (flat y) rest a) l h)
+          (λ (h : i < j). in_node k y (key_margins c.style m y) (key_margins c.style n (styled t c y)) w (first_key e) (first_key f) (front (flat y) rest a) l h)
           (λ (h : j ≤ i). ⊎_elim
-          (λ (g : i < j + length (flat z)). in_node j z (value_spot c m y z) (value_spot c n (styled t c y) (styled t c z)) v (first_value e) (first_value f) (front (flat z) (flat_pairs ps) b) h g)
+          (λ (g : i < j + length (flat z)). in_node j z (value_margins c m y z) (value_margins c n (styled t c y) (styled t c z)) v (first_value e) (first_value f) (front (flat z) (flat_pairs ps) b) h g)
           (λ (g : j + length (flat z) ≤ i). in_pairs (j + length (flat z)) m n ps ws (more_pairs e) (more_pairs f) (back (flat z) (flat_pairs ps) b) g (omega (arith, q, one, two)))
           (cases_lt i (j + length (flat z))))
           (cases_lt i j)
 
     -- documents
 
-    first_root : {d : DocumentTree} {ds : List DocumentTree} → map (normal_document t c) (d ∷ ds) ≡ d ∷ ds → settled c (root_spot c.style) (styled t c d.root) ≡ d.root
+    first_root : {d : DocumentTree} {ds : List DocumentTree} → map (normal_document t c) (d ∷ ds) ≡ d ∷ ds → settled c (root_margins c.style) (styled t c d.root) ≡ d.root
     first_root {d} {ds} e = ap (root_or d) e where
       root_or : DocumentTree → List DocumentTree → Node
       root_or other [] = other.root
@@ -177,14 +177,14 @@ module _ (t : List ℕ) (c : LayoutSetting) where
     more_documents : {d : DocumentTree} {ds : List DocumentTree} → map (normal_document t c) (d ∷ ds) ≡ d ∷ ds → map (normal_document t c) ds ≡ ds
     more_documents e = cc
 
-    in_document : (k : ℕ) (d : DocumentTree) → WrittenNode t c (root_spot c.style) d.root → settled c (root_spot c.style) (styled t c d.root) ≡ d.root → Among es (flat_document d) k → k ≤ i
+    in_document : (k : ℕ) (d : DocumentTree) → WrittenNode t c (root_margins c.style) d.root → settled c (root_margins c.style) (styled t c d.root) ≡ d.root → Among es (flat_document d) k → k ≤ i
         → i < k + length (flat_document d) → Fine t c x
     in_document k d w e a l m =
         let end : EventInText = unplaced (document_ends d.closed) in
         let b = framed there flow (unplaced (document_starts d.marked)) end (flat d.root) refl refl a l m in
-        let spot : Spot = root_spot c.style in
-        let stays : settled c spot d.root ≡ d.root = ap (λ y. settled c spot y) (sym e) ∙ (settled_twice c spot spot (styled t c d.root) (record { entries = refl; column = λ q. refl }) ∙ e) in
-        in_node (k + 1) d.root spot spot w stays e (front (flat d.root) (end ∷ []) (after_first _ (flat d.root ++ (end ∷ [])) a)) b.0 b.1
+        let margins : Margins = root_margins c.style in
+        let stays : settled c margins d.root ≡ d.root = ap (λ y. settled c margins y) (sym e) ∙ (settled_twice c margins margins (styled t c d.root) (record { entries = refl; column = λ q. refl }) ∙ e) in
+        in_node (k + 1) d.root margins margins w stays e (front (flat d.root) (end ∷ []) (after_first _ (flat d.root ++ (end ∷ [])) a)) b.0 b.1
 
     in_documents : (k : ℕ) (ds : List DocumentTree) → WrittenDocuments t c ds → map (normal_document t c) ds ≡ ds → Among es (flat_map flat_document ds) k → k ≤ i
         → i < k + length (flat_map flat_document ds) → Fine t c x

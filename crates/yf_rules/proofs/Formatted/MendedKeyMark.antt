@@ -15,7 +15,7 @@ use Rattle.yf_events.specs.declared.event.Entry.{Entry}
 use Rattle.yf_events.proofs.TreeLemmas.{trees_unique}
 use Rattle.yf_events.specs.declared.lists.Lists.{Lists}
 use Rattle.yf_forms.specs.Nodes.SingleAnswers.{NodeAt, keys, keys_of_documents, keys_of_items, keys_of_pairs}
-use Rattle.yf_forms.specs.NormalForms.Normal.{Normal, LayoutSetting, Spot, inner_spot, is_implicit, key_spot, normal_document, root_spot, setting_of, value_of_implicit, value_spot}
+use Rattle.yf_forms.specs.NormalForms.Normal.{Normal, LayoutSetting, Margins, inner_margins, is_implicit, key_margins, normal_document, root_margins, setting_of, value_of_implicit, value_margins}
 use Rattle.yf_forms.specs.declared.style.Style.{Style}
 use Rattle.yf_emit.proofs.SecondRun.FixedLawsHold.{formats_normal}
 use Rattle.yf_emit.proofs.OutputLines.FormattedLines.{formed}
@@ -54,9 +54,9 @@ entry_at r {i} {x} a =
 
 -- Keys.
 
-spot_entries : (b : Bool) (p q : Spot) → (if b then p else q).entries ≡ (if b then p.entries else q.entries)
-spot_entries true p q = refl
-spot_entries false p q = refl
+margin_entries : (b : Bool) (p q : Margins) → (if b then p else q).entries ≡ (if b then p.entries else q.entries)
+margin_entries true p q = refl
+margin_entries false p q = refl
 
 module _ (t : List ℕ) (c : LayoutSetting) (trees : List DocumentTree) (Content : ℕ → Node → Type 0) where
   -- a key that is written without `?`
@@ -66,21 +66,21 @@ module _ (t : List ℕ) (c : LayoutSetting) (trees : List DocumentTree) (Content
     pub index : node.0 ≡ j
     pub free : Unquestioned t node.1
 
-  line_free : (i : ℕ) (spot : Spot) (x : Node) (j : ℕ) → Blockless x → Contains (keys c i spot x) (j, true) → FreeKey j
-  line_free i spot (scalar at props style text lines) j b q = absurd (nothing_in (j, true) q)
-  line_free i spot (alias at name) j b q = absurd (nothing_in (j, true) q)
-  line_free i spot (sequence at true props xs) j b q = absurd (nothing_in (j, true) q)
-  line_free i spot (sequence at false props xs) j b q = absurd (true≢false (sym b.0))
-  line_free i spot (mapping at true props ps) j b q = absurd (nothing_in (j, true) q)
-  line_free i spot (mapping at false props ps) j b q = absurd (true≢false (sym b.0))
+  line_free : (i : ℕ) (margins : Margins) (x : Node) (j : ℕ) → Blockless x → Contains (keys c i margins x) (j, true) → FreeKey j
+  line_free i margins (scalar at props style text lines) j b q = absurd (nothing_in (j, true) q)
+  line_free i margins (alias at name) j b q = absurd (nothing_in (j, true) q)
+  line_free i margins (sequence at true props xs) j b q = absurd (nothing_in (j, true) q)
+  line_free i margins (sequence at false props xs) j b q = absurd (true≢false (sym b.0))
+  line_free i margins (mapping at true props ps) j b q = absurd (nothing_in (j, true) q)
+  line_free i margins (mapping at false props ps) j b q = absurd (true≢false (sym b.0))
 
   mutual
-    node_free : {m l : ℕ} (i : ℕ) (spot : Spot) (x : Node) (j : ℕ) → SetNode t c.style Content m l x → m ≡ spot.entries → IsNodeOf trees (i, x) → Contains (keys c i spot x) (j, true) → FreeKey j
-    node_free i spot x j (set_line b) e a q = line_free i spot x j b q
-    node_free i spot x j (set_scalar f d) e a q = absurd (nothing_in (j, true) q)
-    node_free i spot x j (set_sequence {x = y} {xs = xs} o w) e a q = items_free (i + 1) spot.entries (item y xs) j w e (λ z g. is_inner a (as_item g)) q
-    node_free i spot x j (set_mapping {k = k} {v = v} {ps = ps} o w) e a q =
-        pairs_free (i + 1) spot.entries (pair k v ps) j w e (λ y z g. is_inner a (as_key g)) (λ y z g. is_inner a (as_value g)) q
+    node_free : {m l : ℕ} (i : ℕ) (margins : Margins) (x : Node) (j : ℕ) → SetNode t c.style Content m l x → m ≡ margins.entries → IsNodeOf trees (i, x) → Contains (keys c i margins x) (j, true) → FreeKey j
+    node_free i margins x j (set_line b) e a q = line_free i margins x j b q
+    node_free i margins x j (set_scalar f d) e a q = absurd (nothing_in (j, true) q)
+    node_free i margins x j (set_sequence {x = y} {xs = xs} o w) e a q = items_free (i + 1) margins.entries (item y xs) j w e (λ z g. is_inner a (as_item g)) q
+    node_free i margins x j (set_mapping {k = k} {v = v} {ps = ps} o w) e a q =
+        pairs_free (i + 1) margins.entries (pair k v ps) j w e (λ y z g. is_inner a (as_key g)) (λ y z g. is_inner a (as_value g)) q
 
     items_free : {m : ℕ} (i column : ℕ) (xs : Items) (j : ℕ) → SetItems t c.style Content m xs → m ≡ column → ((y : NumberedNode) → Contains (items_from i xs) y → IsNodeOf trees y)
         → Contains (keys_of_items c i column xs) (j, true) → FreeKey j
@@ -88,9 +88,9 @@ module _ (t : List ℕ) (c : LayoutSetting) (trees : List DocumentTree) (Content
     items_free i column (item x xs) j (set_item o a more) e f q =
         let n = i + length (flat x) in
         ⊎_elim
-        (λ (h : Contains (keys c i (inner_spot c.style column) x) (j, true)). node_free i (inner_spot c.style column) x j a (ap (λ k. k + c.style.indent) e) (f (i, x) (is_head (i, x) (items_from n xs))) h)
+        (λ (h : Contains (keys c i (inner_margins c.style column) x) (j, true)). node_free i (inner_margins c.style column) x j a (ap (λ k. k + c.style.indent) e) (f (i, x) (is_head (i, x) (items_from n xs))) h)
         (λ (h : Contains (keys_of_items c n column xs) (j, true)). items_free n column xs j more e (λ y g. f y (is_later (i, x) (items_from n xs) y g)) h)
-        (Contains-append_cases (keys c i (inner_spot c.style column) x) (keys_of_items c n column xs) (j, true) q)
+        (Contains-append_cases (keys c i (inner_margins c.style column) x) (keys_of_items c n column xs) (j, true) q)
 
     pairs_free : {m : ℕ} (i column : ℕ) (ps : Pairs) (j : ℕ) → SetPairs t c.style Content m ps → m ≡ column → ((k v : NumberedNode) → Contains (pairs_from i ps) (k, v) → IsNodeOf trees k)
         → ((k v : NumberedNode) → Contains (pairs_from i ps) (k, v) → IsNodeOf trees v) → Contains (keys_of_pairs c i column ps) (j, true) → FreeKey j
@@ -98,12 +98,12 @@ module _ (t : List ℕ) (c : LayoutSetting) (trees : List DocumentTree) (Content
     pairs_free {m} i column (pair k v ps) j (set_pair o free other a b more) e f g q =
         let n = i + length (flat k) in
         let o = n + length (flat v) in
-        let K = keys c i (key_spot c.style column k) k in
-        let V = keys c n (value_spot c column k v) v in
+        let K = keys c i (key_margins c.style column k) k in
+        let V = keys c n (value_margins c column k v) v in
         let Z = keys_of_pairs c o column ps in
         let first = is_head ((i, k), (n, v)) (pairs_from o ps) in
-        let spot : entries_after c.style m k v ≡ (value_spot c column k v).entries =
-        ap (λ z. entries_after c.style z k v) e ∙ sym (spot_entries (is_implicit c.style column k) (value_of_implicit c column k v) (inner_spot c.style column)) in
+        let margins : entries_after c.style m k v ≡ (value_margins c column k v).entries =
+        ap (λ z. entries_after c.style z k v) e ∙ sym (margin_entries (is_implicit c.style column k) (value_of_implicit c column k v) (inner_margins c.style column)) in
         ⊎_elim
         (λ (h : ◌≡◌ {A = ℕ × Bool} (i, is_implicit c.style column k) (j, true)). record {
           node = (i, k);
@@ -112,9 +112,9 @@ module _ (t : List ℕ) (c : LayoutSetting) (trees : List DocumentTree) (Content
           free = free (ap (λ z. is_implicit c.style z k) e ∙ ap (λ (p : ℕ × Bool). p.1) h);
         })
         (λ (h : Contains (K ++ (V ++ Z)) (j, true)). ⊎_elim
-        (λ (w : Contains K (j, true)). node_free i (key_spot c.style column k) k j a (ap (λ z. z + c.style.indent) e) (f (i, k) (n, v) first) w)
+        (λ (w : Contains K (j, true)). node_free i (key_margins c.style column k) k j a (ap (λ z. z + c.style.indent) e) (f (i, k) (n, v) first) w)
         (λ (w : Contains (V ++ Z) (j, true)). ⊎_elim
-        (λ (y : Contains V (j, true)). node_free n (value_spot c column k v) v j b spot (g (i, k) (n, v) first) y)
+        (λ (y : Contains V (j, true)). node_free n (value_margins c column k v) v j b margins (g (i, k) (n, v) first) y)
         (λ (y : Contains Z (j, true)). pairs_free o column ps j more e (λ p r z. f p r (is_later ((i, k), (n, v)) (pairs_from o ps) (p, r) z)) (λ p r z. g p r (is_later ((i, k), (n, v)) (pairs_from o ps) (p, r) z)) y)
         (Contains-append_cases V Z (j, true) w))
         (Contains-append_cases K (V ++ Z) (j, true) h))
@@ -126,9 +126,9 @@ module _ (t : List ℕ) (c : LayoutSetting) (trees : List DocumentTree) (Content
   documents_free i (d ∷ ds) j (set_document a more) f q =
       let n = i + length (flat_document d) in
       ⊎_elim
-      (λ (h : Contains (keys c (i + 1) (root_spot c.style) d.root) (j, true)). node_free (i + 1) (root_spot c.style) d.root j a refl (f (i + 1, d.root) (is_head (i + 1, d.root) (roots_from n ds))) h)
+      (λ (h : Contains (keys c (i + 1) (root_margins c.style) d.root) (j, true)). node_free (i + 1) (root_margins c.style) d.root j a refl (f (i + 1, d.root) (is_head (i + 1, d.root) (roots_from n ds))) h)
       (λ (h : Contains (keys_of_documents c n ds) (j, true)). documents_free n ds j more (λ y g. f y (is_later (i + 1, d.root) (roots_from n ds) y g)) h)
-      (Contains-append_cases (keys c (i + 1) (root_spot c.style) d.root) (keys_of_documents c n ds) (j, true) q)
+      (Contains-append_cases (keys c (i + 1) (root_margins c.style) d.root) (keys_of_documents c n ds) (j, true) q)
 
 -- a mark of such a key
 not_marked_there : {t : List ℕ} {r : Lists} {i o : ℕ} (x : Node) → NodeAt r.events i x → Unquestioned t x → IsMarked t r i o → ⊥

@@ -1,11 +1,11 @@
 -- In what formatting gives, line breaks are line feeds, the last line ends with one, and no byte order mark is.
-use Rattle.std.proofs.Common.{◌≡◌, ℕ, ◌<◌, ◌≤◌, ◌⊎◌, inl, inr, ⊎_elim, false, List, [], ◌∷◌, length, refl, sym, ap, ◌∙◌, subst, arith}
+use Rattle.std.proofs.Common.{◌≡◌, ℕ, ◌<◌, ◌≤◌, ◌⊎◌, inl, inr, ⊎_elim, List, [], ◌∷◌, length, refl, sym, ap, ◌∙◌, subst, arith}
 use Rattle.std.specs.Prelude.{◌==◌, if◌then◌else◌}
 use Rattle.std.specs.Str.{IsUtf8}
 use Rattle.std.proofs.lemmas.Bool.{cases_lt}
-use Rattle.yf_chars.specs.Class.{is_break_char, is_nb_char, is_printable, is_between}
 use Rattle.yf_chars.specs.Text.{code}
 use Rattle.yf_chars.proofs.TextLemmas.{within_from_code}
+use Rattle.yf_chars.proofs.CharFacts.{mark_no_nb}
 use Rattle.yf_lines.specs.Basic.{Break}
 use Rattle.yf_lines.specs.declared.line.Line.{Line}
 use Rattle.yf_lines.specs.Lines.{Table}
@@ -65,16 +65,12 @@ final_break_mended fixable src r s w offsets e = let a = lines_of_formatted w in
 
 -- Byte order marks.
 
-no_nb_mark : is_nb_char 0xFEFF ≡ false
-unfolding is_nb_char is_printable is_between is_break_char
-no_nb_mark = refl
-
 pub no_mark_there : {src : Table} {r : Lists} {s : Style} → IsFormatted src r s → (k : ℕ) → code src.text k ≡ 0xFEFF → ⊥
 no_mark_there {src} w k e =
     let a = lines_of_formatted w in
     let at = line_of src.text src.lines k w.lines (within_from_code src.text k (omega (arith, e))) in
     let line = line_text at.index at.line a.are at.is in
-    ⊎_elim (λ (l : k < at.line.end). nb_no 0xFEFF (code src.text k) (omega arith) no_nb_mark (line_char a.utf8 line.is k at.from l) e)
+    ⊎_elim (λ (l : k < at.line.end). nb_no 0xFEFF (code src.text k) (omega arith) mark_no_nb (line_char a.utf8 line.is k at.from l) e)
     (λ (l : at.line.end ≤ k).
     let last : k ≡ at.line.end = let n = line.is.next in let b = at.before in omega (arith, l, n, b) in
     let feed : code src.text k ≡ 10 = ap (code src.text) last ∙ line_feed a.utf8 line.is in

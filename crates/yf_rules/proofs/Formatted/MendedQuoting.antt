@@ -2,6 +2,7 @@
 use Rattle.std.proofs.Common.{◌≡◌, ℕ, zero, suc, Bool, List, [], ◌∷◌, Some, sym, subst}
 use Rattle.std.specs.Prelude.{slice_get}
 use Rattle.std.proofs.lemmas.Option.{same_Some}
+use Rattle.yf_chars.proofs.Tests.{no_item}
 use Rattle.yf_events.specs.Event.{EventValue, EventInText, stream_starts, stream_ends, document_starts, document_ends, sequence_starts, sequence_ends, mapping_starts, mapping_ends, scalar_node, alias_node}
 use Rattle.yf_events.specs.declared.lists.Lists.{Lists}
 use Rattle.yf_stream.proofs.Existence.BreachLemmas.{values}
@@ -64,11 +65,8 @@ with_marker q (mapping_starts g props) a = tt
 with_marker q mapping_ends a = tt
 with_marker q (alias_node name) a = tt
 
-no_event : (i : ℕ) (v : EventValue) → slice_get [] i ≡ Some v → ⊥
-no_event i v e = cc
-
 styled_at : (q : Style) (vs : List EventValue) (i : ℕ) (v : EventValue) → AreStyled q (unmarked vs) → slice_get vs i ≡ Some v → IsStyled q v
-styled_at q [] i v a e = absurd (no_event i v e)
+styled_at q [] i v a e = absurd (no_item i v e)
 styled_at q (w ∷ vs) zero v a e = subst (λ z. IsStyled q z) (same_Some _ _ e) (with_marker q w a.0)
 styled_at q (w ∷ vs) (suc i) v a e = styled_at q vs i v a.1 e
 

@@ -7,6 +7,7 @@ use Rattle.std.proofs.lemmas.Option.{same_Some, slice_get_within}
 use Rattle.yf_chars.specs.Chain.{Chain}
 use Rattle.yf_chars.specs.Chain.Chain.{done, step}
 use Rattle.yf_chars.proofs.ChainLemmas.{chain_forward}
+use Rattle.yf_chars.proofs.Tests.{same_head, no_item}
 use Rattle.yf_lines.specs.declared.line.Line.{Line}
 use Rattle.yf_lines.specs.Lines.{AreLines, LinesBegunAt, OneLine, Table}
 use Rattle.yf_lines.specs.Lines.OneLine.{one_line}
@@ -21,7 +22,6 @@ use Rattle.yf_emit.proofs.OutputLines.LineSorts.{InScalar, got_drop, no_line as 
 use Rattle.yf_rule_sets.specs.RuleSets.BlankLines.{ScalarLine}
 use Rattle.yf_rule_sets.specs.RuleSets.BlankLines.ScalarLine.{of_scalar}
 use Rattle.yf_rule_sets.specs.RuleSets.Scalars.{IsScalar}
-use Rattle.yf_emit.proofs.OutputLines.LaidLines.{nothing_there}
 
 -- The event.
 
@@ -36,21 +36,18 @@ event_at (there h) = let r = event_at h in record { index = suc r.index; event_i
 
 -- The lines from its first one on.
 
-first_of : {m l : Line} {ms ls : List Line} → m ∷ ms ≡ l ∷ ls → (m ≡ l) × (ms ≡ ls)
-first_of e = (cc, cc)
-
 pub follow_drop : (t : List ℕ) (h i j : ℕ) (all : List Line) (m : Line) (ms : List Line) → Follow t i j all → drop h all ≡ m ∷ ms → Follow t m.start j (m ∷ ms)
 follow_drop t zero i j [] m ms f e = absurd cc
 follow_drop t zero i j (l ∷ all) m ms f e =
-    let same = first_of e in
-    subst (λ (w : List Line). Follow t m.start j w) e (ap (λ (w : Line). w.start) same.0, f.1, f.2)
+    let same : l ≡ m = same_head e in
+    subst (λ (w : List Line). Follow t m.start j w) e (ap (λ (w : Line). w.start) same, f.1, f.2)
 follow_drop t (suc h) i j [] m ms f e = absurd (no_drop (suc h) m ms e)
 follow_drop t (suc h) i j (l ∷ all) m ms f e = follow_drop t h l.next j all m ms f.2 e
 
 -- a line among the first ones of a chain begins before the chain ends
 chain_past : {t : List ℕ} {p e : ℕ} {cs : List Line} (j : ℕ) (ms : List Line) (n : ℕ) (l : Line) → Chain (OneLine t) p e cs → Follow t p j ms → n < length cs → slice_get ms n ≡ Some l → l.start < e
 chain_past j ms n l done f m g = absurd (omega (arith, m))
-chain_past j [] n l (step s c) f m g = absurd (nothing_there n l g)
+chain_past j [] n l (step s c) f m g = absurd (no_item n l g)
 chain_past {t} j (a ∷ ms) zero l (step (one_line {l = b} made) c) f m g =
     let same : a ≡ b = same_line t a b f.1 made f.0 in
     let far = chain_forward (line_functional t) c in

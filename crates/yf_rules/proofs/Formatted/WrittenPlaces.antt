@@ -1,9 +1,9 @@
 -- The last character of a flow collection that is as it is written has the last column of its width.
-use Rattle.std.proofs.Common.{◌≡◌, ◌≢◌, ℕ, ◌+◌, ◌-◌, ◌<◌, ◌≤◌, ⊎_elim, Bool, true, false, true≢false, List, [], ◌∷◌, ◌++◌, length, length-append, Some, refl, sym, ap, ◌∙◌, subst, arith}
+use Rattle.std.proofs.Common.{◌≡◌, ◌≢◌, ℕ, ◌+◌, ◌-◌, ◌<◌, ◌≤◌, ⊎_elim, Bool, true, true≢false, List, [], ◌∷◌, ◌++◌, length, length-append, Some, refl, sym, ap, ◌∙◌, subst, arith}
 use Rattle.std.specs.Prelude.{slice_get}
 use Rattle.std.specs.Str.{IsUtf8}
 use Rattle.std.proofs.lemmas.Bool.{cases_lt}
-use Rattle.yf_chars.specs.Class.{is_nb_char, is_printable, is_between, is_break_char}
+use Rattle.yf_chars.specs.Class.{is_nb_char}
 use Rattle.yf_chars.specs.Text.{code, next, no_char}
 use Rattle.yf_chars.specs.Chain.{Many}
 use Rattle.yf_chars.specs.Chain.Chain.{done, step}
@@ -25,6 +25,8 @@ use Rattle.yf_rules.proofs.Formatted.MendedColumns.{ascii_next, chars_past}
 use Rattle.yf_emit.proofs.Columns.WrittenNodes.{WrittenAt}
 use Rattle.yf_chars.proofs.Tests.{below}
 use Rattle.yf_chars.proofs.CharBounds.{nb_below}
+use Rattle.yf_chars.proofs.CharFacts.{mark_no_nb}
+use Rattle.yf_standard.proofs.Texts.{some_first}
 use Rattle.yf_rule_sets.proofs.RuleSets.DocumentLemmas.{char_boundary}
 
 -- Runs of characters.
@@ -35,15 +37,6 @@ same_run done done e = refl
 same_run {t} {q = q} {i = i} done (step (one n) c) e = let far = chain_forward (one_functional t q) c in let order = next_later t i in absurd (omega (arith, far, order, e))
 same_run {t} {p = p} {i = i} (step (one n) c) done e = let far = chain_forward (one_functional t p) c in let order = next_later t i in absurd (omega (arith, far, order, e))
 same_run (step (one n) c) (step (one o) d) e = let more = same_run c d e in omega (arith, more)
-
--- the first of some
-first_passes : {t : List ℕ} {p : ℕ → Bool} {i j : ℕ} {x : List ℕ} → Many t p i j x → i < j → p (code t i) ≡ true
-first_passes done l = absurd (omega (arith, l))
-first_passes (step (one n) c) l = n
-
-no_nb_mark : is_nb_char 0xFEFF ≡ false
-unfolding is_nb_char is_printable is_between is_break_char
-no_nb_mark = refl
 
 module _ {t : List ℕ} (u : IsUtf8 t) {house : Style} {m : ℕ} {x : Node} (a : WrittenAt house t m x) where
   abbrev last : ℕ
@@ -58,10 +51,10 @@ module _ {t : List ℕ} (u : IsUtf8 t) {house : Style} {m : ℕ} {x : Node} (a :
     less_one l = omega (arith, l)
 
   nb : is_nb_char (code t from) ≡ true
-  nb = first_passes a.on.run a.some
+  nb = some_first a.on.run a.some
 
   no_mark : code t from ≢ 0xFEFF
-  no_mark e = true≢false (sym nb ∙ (ap is_nb_char e ∙ no_nb_mark))
+  no_mark e = true≢false (sym nb ∙ (ap is_nb_char e ∙ mark_no_nb))
 
   -- its last character is one byte
   last_step : next t last ≡ a.span.end

@@ -9,8 +9,7 @@ use Rattle.yf_chars.specs.Class.{is_nb_char, is_white}
 use Rattle.yf_chars.specs.Text.{code, no_char}
 use Rattle.yf_lines.specs.Basic.{FlowPrefix}
 use Rattle.yf_comments.specs.Comment.{CommentValue}
-use Rattle.yf_comments.specs.Comments.{is_gap, BlankBefore, HasBlankNote, CommentText, LineRest, LineEnd, Row, Separate}
-use Rattle.yf_comments.specs.Comments.BlankBefore.{blank_line as line_before, past_gap as gap_before}
+use Rattle.yf_comments.specs.Comments.{is_gap, HasBlankNote, CommentText, LineRest, LineEnd, Row, Separate}
 use Rattle.yf_comments.specs.Comments.HasBlankNote.{noted as noted_before, not_noted as not_noted_before}
 use Rattle.yf_comments.specs.Comments.CommentText.{comment_text}
 use Rattle.yf_comments.specs.Comments.LineRest.{nothing, whites, comment}
@@ -21,13 +20,11 @@ use Rattle.yf_comments.proofs.LineEndLemmas.{line_end_rows}
 use Rattle.yf_comments.proofs.SeparateLemmas.{prefix_whites}
 use Rattle.yf_grammar.specs.Productions.Grammar.{MaySeparate, ValueSeparate}
 use Rattle.yf_grammar.specs.Productions.Grammar.MaySeparate.{unseparated, separated}
-use Rattle.yf_grammar.specs.Productions.ReadParts.{BlankSince, NotedSince}
-use Rattle.yf_grammar.specs.Productions.ReadParts.BlankSince.{blank_line, past_gap}
+use Rattle.yf_grammar.specs.Productions.ReadParts.{NotedSince}
 use Rattle.yf_grammar.specs.Productions.ReadParts.NotedSince.{noted, not_noted}
 use Rattle.yf_grammar.proofs.Ends.Forward.{in_line_forward}
-use Rattle.yf_grammar.proofs.Ends.SinceKnown.{since_before}
+use Rattle.yf_grammar.proofs.Ends.SinceKnown.{since_before, since_zero}
 use Rattle.yf_stream.proofs.BlankNotes.FloorLemmas.{note_over}
-use Rattle.yf_flow.proofs.Ends.NotedLemmas.{since_zero}
 
 -- a fact of each element
 pub data Each {X : Type 0} (P : X → Type 0) : List X → Type 0 where

@@ -147,18 +147,18 @@ module _ {t : List ℕ} where
       let g = directives_order (directives_stand b) in
       each_join (told_wider (omega arith) g (directives_told a)) (told_wider f (omega arith) (directives_told b))
 
-module _ {t : List ℕ} (u : IsUtf8 t) {spot : StreamCursor} {x : Documents} {a : Parts} (r : CommentsRead t spot x a) where
-  top : floor_of 0 a.part.events ≤ spot.at
+module _ {t : List ℕ} (u : IsUtf8 t) {cursor : StreamCursor} {x : Documents} {a : Parts} (r : CommentsRead t cursor x a) where
+  top : floor_of 0 a.part.events ≤ cursor.at
   top = floor_top 0 (omega arith) r.comments.floors
 
-  pub comments_go_on : {b : Parts} {after : StreamCursor} {y : Documents} → StepTo t spot x a b after y → CommentsRead t after y b
+  pub comments_go_on : {b : Parts} {after : StreamCursor} {y : Documents} → StepTo t cursor x a b after y → CommentsRead t after y b
   unfolding followed
   comments_go_on {b} {after} (dots_to s f e) =
-      let c = closed true (not spot.may_be_bare) a in
-      let same = closed_floor true (not spot.may_be_bare) a in
-      let g : Guard t (floor_of 0 c.part.events) (spot.at + 3) = guarded spot.at (omega arith) (ap is_gap e ∙ signs_solid.1) (omega (arith, same, top)) (omega arith) in
+      let c = closed true (not cursor.may_be_bare) a in
+      let same = closed_floor true (not cursor.may_be_bare) a in
+      let g : Guard t (floor_of 0 c.part.events) (cursor.at + 3) = guarded cursor.at (omega arith) (ap is_gap e ∙ signs_solid.1) (omega (arith, same, top)) (omega arith) in
       let forward = line_end_forward s.line.derived in
-      let n = noted_told u (omega arith) forward g (noted_closed true (not spot.may_be_bare) a r.comments) (line_told s.line.derived) in
+      let n = noted_told u (omega arith) forward g (noted_closed true (not cursor.may_be_bare) a r.comments) (line_told s.line.derived) in
       let events : b.part.events ≡ c.part.events = ap (λ z. z.part.events) s.parts in
       let comments : b.part.comments ≡ c.part.comments ++ s.comments = ap (λ z. z.part.comments) s.parts in
       let after_it = guard_later forward g in
@@ -170,11 +170,11 @@ module _ {t : List ℕ} (u : IsUtf8 t) {spot : StreamCursor} {x : Documents} {a 
         bare = λ q. subst (λ z. Guard t (floor_of 0 z) after.at) (sym events) after_it;
       }
   comments_go_on (dashes_to {y = y} f e d) =
-      let c = closed false (not spot.may_be_bare) a in
-      let o = opened spot.at true [] c in
-      let same = opened_floor spot.at true [] c ∙ closed_floor false (not spot.may_be_bare) a in
-      let g : Guard t (floor_of 0 o.part.events) (spot.at + 3) = guarded spot.at (omega arith) (ap is_gap e ∙ signs_solid.0) (omega (arith, same, top)) (omega arith) in
-      document_noted u x.comments _ (noted_silent (noted_closed false (not spot.may_be_bare) a r.comments) (silent_start true)) (omega arith) g refl (node_noted u d)
+      let c = closed false (not cursor.may_be_bare) a in
+      let o = opened cursor.at true [] c in
+      let same = opened_floor cursor.at true [] c ∙ closed_floor false (not cursor.may_be_bare) a in
+      let g : Guard t (floor_of 0 o.part.events) (cursor.at + 3) = guarded cursor.at (omega arith) (ap is_gap e ∙ signs_solid.0) (omega (arith, same, top)) (omega arith) in
+      document_noted u x.comments _ (noted_silent (noted_closed false (not cursor.may_be_bare) a r.comments) (silent_start true)) (omega arith) g refl (node_noted u d)
   comments_go_on (directives_to {p = p} {ds = ds} {cs = cs} {y = y} q h d f e done) =
       let lines = lines_read d.upto.longest h d.last in
       let order = directives_order (directives_stand lines) in
@@ -186,19 +186,19 @@ module _ {t : List ℕ} (u : IsUtf8 t) {spot : StreamCursor} {x : Documents} {a 
       (subst (λ z. CommentsNotedTo t p (a.part.events ++ unplaced (document_starts true) ∷ []) (x.comments ++ d.upto.comments) z) (sym d.upto.list) m)
       (omega arith) g (sym (append_assoc x.comments d.upto.comments y.comments)) (node_noted u done)
   comments_go_on (bare_to {start = start} {y = y} q c d) =
-      let g = subst (λ z. Guard t z spot.at) (sym (opened_floor start false [] a)) (r.bare q) in
+      let g = subst (λ z. Guard t z cursor.at) (sym (opened_floor start false [] a)) (r.bare q) in
       document_noted u x.comments _ (noted_silent r.comments (silent_start false)) (omega arith) g refl (node_noted u d)
 
--- what has been read up to a spot, and the parts of it
-pub record ReadSoFar (t : List ℕ) (spot : StreamCursor) (p : Parts) : Type 0 where
+-- what has been read up to a cursor, and the parts of it
+pub record ReadSoFar (t : List ℕ) (cursor : StreamCursor) (p : Parts) : Type 0 where
   pub documents : Documents
-  pub read : ReadUpto t spot.may_be_bare spot.at documents
-  pub parts : EventsRead t spot documents p
-  pub comments : CommentsRead t spot documents p
+  pub read : ReadUpto t cursor.may_be_bare cursor.at documents
+  pub parts : EventsRead t cursor documents p
+  pub comments : CommentsRead t cursor documents p
 
-begins_empty : {t : List ℕ} {b : Parts} (spot : StreamCursor) → spot.floor ≡ 0 → b.part.events ≡ unplaced stream_starts ∷ [] → b.part.comments ≡ [] → CommentsRead t spot (only_comments []) b
-begins_empty {t} {b} spot k e f = record {
-  comments = subst (λ z. CommentsNotedTo t spot.at z [] b.part.comments) (sym e) (subst (λ z. CommentsNotedTo t spot.at (unplaced stream_starts ∷ []) [] z) (sym f)
+begins_empty : {t : List ℕ} {b : Parts} (cursor : StreamCursor) → cursor.floor ≡ 0 → b.part.events ≡ unplaced stream_starts ∷ [] → b.part.comments ≡ [] → CommentsRead t cursor (only_comments []) b
+begins_empty {t} {b} cursor k e f = record {
+  comments = subst (λ z. CommentsNotedTo t cursor.at z [] b.part.comments) (sym e) (subst (λ z. CommentsNotedTo t cursor.at (unplaced stream_starts ∷ []) [] z) (sym f)
       (record { noted = no_comment; within = no_element; floors = one_element (floor_kept (λ f p. refl)) no_element }));
   since = past_floor k (no_floor (ap (λ z. floor_of 0 z) e));
   blank = λ l. blank_start k;
@@ -206,21 +206,21 @@ begins_empty {t} {b} spot k e f = record {
 }
 
 -- before anything has been read, but the start of the stream
-pub comments_begin : {t : List ℕ} {a b : Parts} (spot : StreamCursor) → spot.floor ≡ 0 → a ≡ no_parts → b ≡ with_event a stream_starts → CommentsRead t spot (only_comments []) b
-comments_begin spot k e f =
-    let all = f ∙ ap (λ z. with_event z stream_starts) e in begins_empty spot k (ap (λ z. z.part.events) all) (ap (λ z. z.part.comments) all)
+pub comments_begin : {t : List ℕ} {a b : Parts} (cursor : StreamCursor) → cursor.floor ≡ 0 → a ≡ no_parts → b ≡ with_event a stream_starts → CommentsRead t cursor (only_comments []) b
+comments_begin cursor k e f =
+    let all = f ∙ ap (λ z. with_event z stream_starts) e in begins_empty cursor k (ap (λ z. z.part.events) all) (ap (λ z. z.part.comments) all)
 
 -- at the end of the text
-comments_end : {t : List ℕ} {spot : StreamCursor} {x : Documents} {a b c : Parts} → CommentsRead t spot x a → b ≡ closed false (not spot.may_be_bare) a → c ≡ with_event b stream_ends
+comments_end : {t : List ℕ} {cursor : StreamCursor} {x : Documents} {a b c : Parts} → CommentsRead t cursor x a → b ≡ closed false (not cursor.may_be_bare) a → c ≡ with_event b stream_ends
     → NotedComments t c.part.events x.comments c.part.comments
-comments_end {t} {spot} {x} {a} {b} {c} r e f =
+comments_end {t} {cursor} {x} {a} {b} {c} r e f =
     let all = f ∙ ap (λ z. with_event z stream_ends) e in
-    let n = noted_silent (noted_closed false (not spot.may_be_bare) a r.comments) (one_element (record { kept = λ f p. refl }) no_element) in
+    let n = noted_silent (noted_closed false (not cursor.may_be_bare) a r.comments) (one_element (record { kept = λ f p. refl }) no_element) in
     subst (λ z. NotedComments t z.part.events x.comments z.part.comments) (sym all) n.noted
 
 -- all parts of a stream
-pub stream_written : {t : List ℕ} {spot : StreamCursor} {x : Documents} {a b c : Parts} → spot.at ≡ length t → code t spot.at ≢ 0xFEFF → Stuck (Row t spot.at) → EventsRead t spot x a
-    → CommentsRead t spot x a → b ≡ closed false (not spot.may_be_bare) a → c ≡ with_event b stream_ends → PartsOf t x c
+pub stream_written : {t : List ℕ} {cursor : StreamCursor} {x : Documents} {a b c : Parts} → cursor.at ≡ length t → code t cursor.at ≢ 0xFEFF → Stuck (Row t cursor.at) → EventsRead t cursor x a
+    → CommentsRead t cursor x a → b ≡ closed false (not cursor.may_be_bare) a → c ≡ with_event b stream_ends → PartsOf t x c
 stream_written k m n r s e f =
     let w = events_end k m n r e f in
     record { derived = w.derived; written = w.written; events = w.events; comments = comments_end s e f; documents = w.documents; escapes = w.escapes }

@@ -140,11 +140,11 @@ pub data Since (t : List ℕ) (s f at : ℕ) : Type 0 where
   same_floor : s ≡ f → Since t s f at
   past_floor : s ≡ 0 → Guard t f at → Since t s f at
 
-pub record CommentsRead (t : List ℕ) (spot : StreamCursor) (x : Documents) (p : Parts) : Type 0 where
-  pub comments : CommentsNotedTo t spot.at p.part.events x.comments p.part.comments
-  pub since : Since t spot.floor (floor_of 0 p.part.events) spot.at
-  pub blank : spot.floor < length t → Blank t spot.floor
-  pub bare : spot.may_be_bare ≡ true → Guard t (floor_of 0 p.part.events) spot.at
+pub record CommentsRead (t : List ℕ) (cursor : StreamCursor) (x : Documents) (p : Parts) : Type 0 where
+  pub comments : CommentsNotedTo t cursor.at p.part.events x.comments p.part.comments
+  pub since : Since t cursor.floor (floor_of 0 p.part.events) cursor.at
+  pub blank : cursor.floor < length t → Blank t cursor.floor
+  pub bare : cursor.may_be_bare ≡ true → Guard t (floor_of 0 p.part.events) cursor.at
 
 module _ {t : List ℕ} where
   since_later : {s f k j : ℕ} → k ≤ j → Since t s f k → Since t s f j
@@ -159,13 +159,13 @@ module _ {t : List ℕ} where
   since_there u (past_floor e g) bl o b l q n = since_guarded u g l (subst (λ z. NotedSince t z o b) e (note_here bl o b q n))
 
   -- comment lines and byte order marks after what has been read
-  pub comments_past_prefix : {spot s : StreamCursor} {x : Documents} {a b : Parts} → IsUtf8 t → s ≡ record spot { at = s.at }
-      → (r : PrefixRead t spot.floor spot.at s.at a.part.comments b.part.comments) → b.part.events ≡ a.part.events → CommentsRead t spot x a
+  pub comments_past_prefix : {cursor s : StreamCursor} {x : Documents} {a b : Parts} → IsUtf8 t → s ≡ record cursor { at = s.at }
+      → (r : PrefixRead t cursor.floor cursor.at s.at a.part.comments b.part.comments) → b.part.events ≡ a.part.events → CommentsRead t cursor x a
       → CommentsRead t s (followed x (only_comments r.upto.comments)) b
   unfolding followed
-  comments_past_prefix {spot} {s} {x} {a} {b} u e r same n =
-      let floor : s.floor ≡ spot.floor = ap (λ z. z.floor) e in
-      let bare : s.may_be_bare ≡ spot.may_be_bare = ap (λ z. z.may_be_bare) e in
+  comments_past_prefix {cursor} {s} {x} {a} {b} u e r same n =
+      let floor : s.floor ≡ cursor.floor = ap (λ z. z.floor) e in
+      let bare : s.may_be_bare ≡ cursor.may_be_bare = ap (λ z. z.may_be_bare) e in
       let forward = chain_forward prefix_functional r.upto.rows in
       let kept = r.upto.kept in
       let rows = rows_within r.upto.rows in
@@ -174,7 +174,7 @@ module _ {t : List ℕ} where
         comments = subst (λ z. CommentsNotedTo t s.at z (x.comments ++ r.upto.comments) b.part.comments) (sym same)
             (subst (λ z. CommentsNotedTo t s.at a.part.events (x.comments ++ r.upto.comments) z) (sym kept.list) (noted_more forward n.comments rows notes));
         since = subst (λ z. Since t z (floor_of 0 b.part.events) s.at) (sym floor)
-            (subst (λ z. Since t spot.floor (floor_of 0 z) s.at) (sym same) (since_later forward n.since));
+            (subst (λ z. Since t cursor.floor (floor_of 0 z) s.at) (sym same) (since_later forward n.since));
         blank = subst (λ z. z < length t → Blank t z) (sym floor) n.blank;
         bare = λ q. subst (λ z. Guard t (floor_of 0 z) s.at) (sym same) (guard_later forward (n.bare (sym bare ∙ q)));
       }

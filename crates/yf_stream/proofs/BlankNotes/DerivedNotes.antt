@@ -59,7 +59,7 @@ ns_parts true w false true e = absurd (true≢false (sym e))
 ns_parts true true false false e = absurd (true≢false (sym e))
 ns_parts true false false false e = refl
 
-ns_solid : (c : ℕ) → is_ns_char c ≡ true → is_gap c ≡ false
+pub ns_solid : (c : ℕ) → is_ns_char c ≡ true → is_gap c ≡ false
 unfolding is_ns_char is_nb_char is_gap
 ns_solid c e = ns_parts (is_printable c) (is_white c) (is_break_char c) (c == BYTE_ORDER_MARK) e
 

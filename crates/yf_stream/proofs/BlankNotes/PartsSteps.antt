@@ -35,7 +35,7 @@ use Rattle.yf_stream.proofs.BlankNotes.NotingLemmas.{EntriesAfter, floor_join, f
 use Rattle.yf_stream.proofs.BlankNotes.PartsUpto.{ClosedParts, EventsRead, EventsUpto, EventsWritten, all_closed, last_open, mark_there, no_mark_there, no_more, parts_closed}
 use Rattle.yf_stream.proofs.Reader.PrefixLemmas.{rows_prefix}
 use Rattle.yf_stream.proofs.Reader.StreamUpto.{followed, one_document}
-use Rattle.yf_block_scalar.proofs.BodyLemmas.{end_code}
+use Rattle.yf_comments.proofs.RowLemmas.{end_code}
 
 -- the parts of the text that events have end at a place or before it
 abbrev pub SpanWithin : ℕ → Option Span → Type 0
@@ -208,11 +208,11 @@ written_of : {t : List ℕ} {o : Bool} {k : ℕ} {ds : List Document} {es : List
 written_of e (all_closed w) = w
 written_of e (last_open d w l c) = absurd (true≢false e)
 
-module _ {t : List ℕ} (u : IsUtf8 t) {spot : StreamCursor} {x : Documents} {a : Parts} (r : EventsRead t spot x a) where
-  with_other_comments : (cs : List CommentValue) → not spot.may_be_bare ≡ false → ClosedParts t spot.at x.documents (with_comments_read cs a)
+module _ {t : List ℕ} (u : IsUtf8 t) {cursor : StreamCursor} {x : Documents} {a : Parts} (r : EventsRead t cursor x a) where
+  with_other_comments : (cs : List CommentValue) → not cursor.may_be_bare ≡ false → ClosedParts t cursor.at x.documents (with_comments_read cs a)
   with_other_comments cs e = record { derived = r.derived; written = written_of e r.so_far; noted = r.noted; floor = r.floor; documents = r.documents; escapes = r.escapes }
 
-  pub events_go_on : {b : Parts} {after : StreamCursor} {y : Documents} → code t spot.at ≢ 0xFEFF → Stuck (Row t spot.at) → StepTo t spot x a b after y → EventsRead t after y b
+  pub events_go_on : {b : Parts} {after : StreamCursor} {y : Documents} → code t cursor.at ≢ 0xFEFF → Stuck (Row t cursor.at) → StepTo t cursor x a b after y → EventsRead t after y b
   events_go_on {b} {after} m n (dots_to s f e) =
       let c = parts_closed true (λ j cs l q. mark_there f e l q) r in
       let forward = line_end_forward s.line.derived in
@@ -223,13 +223,13 @@ module _ {t : List ℕ} (u : IsUtf8 t) {spot : StreamCursor} {x : Documents} {a 
             (subst (λ z. EventsUpto t z after.at x.documents c.derived) (sym (ap not s.bare)) (all_closed c.written));
         noted = subst (λ z. Noting t 0 (unplaced stream_starts ∷ c.derived) z) (sym (ap (λ z. z.part.events) s.parts)) c.noted;
         floor = omega (arith, c.floor);
-        bare = λ q. record { no_document = ap not s.bare; guard = guarded spot.at (omega arith) (ap is_gap e ∙ signs_solid.1) c.floor (omega arith) };
+        bare = λ q. record { no_document = ap not s.bare; guard = guarded cursor.at (omega arith) (ap is_gap e ∙ signs_solid.1) c.floor (omega arith) };
         documents = ap (λ z. z.documents) s.parts ∙ c.documents ∙ ap (map doc_of) (sym same);
         escapes = ap (λ z. z.part.escapes) s.parts ∙ c.escapes ∙ ap (flat_map (λ (d : Document). d.escapes)) (sym same);
       }
   events_go_on m n (dashes_to {y = y} f e d) =
       let c = parts_closed false (λ j cs l q. no_mark_there m n (λ g h. absurd (omega arith)) q) r in
-      let g : Guard t (floor_of 0 c.derived) (spot.at + 1) = guarded spot.at (omega arith) (ap is_gap e ∙ signs_solid.0) c.floor (omega arith) in
+      let g : Guard t (floor_of 0 c.derived) (cursor.at + 1) = guarded cursor.at (omega arith) (ap is_gap e ∙ signs_solid.0) c.floor (omega arith) in
       document_more u x y.comments c g (omega arith) (omega arith) (node_parts u d)
   events_go_on m n (directives_to {p = p} {cs = cs} {y = y} q h d f e done) =
       let c = with_other_comments cs (r.bare q).no_document in
@@ -238,7 +238,7 @@ module _ {t : List ℕ} (u : IsUtf8 t) {spot : StreamCursor} {x : Documents} {a 
       document_more u x (d.upto.comments ++ y.comments) c g (omega arith) (omega arith) (node_parts u done)
   events_go_on m n (bare_to {y = y} q c d) =
       let s = r.bare q in
-      let parts : ClosedParts t spot.at x.documents a = record {
+      let parts : ClosedParts t cursor.at x.documents a = record {
         derived = r.derived;
         written = written_of s.no_document r.so_far;
         noted = r.noted;
@@ -249,13 +249,13 @@ module _ {t : List ℕ} (u : IsUtf8 t) {spot : StreamCursor} {x : Documents} {a 
       document_more u x y.comments parts s.guard (omega arith) (omega arith) (node_parts u d)
 
 -- before anything has been read, but the start of the stream
-pub events_begin : {t : List ℕ} {a b : Parts} (spot : StreamCursor) → spot.at ≡ 0 → not spot.may_be_bare ≡ false → a ≡ no_parts → b ≡ with_event a stream_starts
-    → EventsRead t spot (only_comments []) b
-events_begin {t} spot k o e f =
+pub events_begin : {t : List ℕ} {a b : Parts} (cursor : StreamCursor) → cursor.at ≡ 0 → not cursor.may_be_bare ≡ false → a ≡ no_parts → b ≡ with_event a stream_starts
+    → EventsRead t cursor (only_comments []) b
+events_begin {t} cursor k o e f =
     let all = f ∙ ap (λ z. with_event z stream_starts) e in
     record {
       derived = [];
-      so_far = subst (λ z. EventsUpto t z spot.at [] []) (sym o) (all_closed nothing_written);
+      so_far = subst (λ z. EventsUpto t z cursor.at [] []) (sym o) (all_closed nothing_written);
       noted = subst (λ z. Noting t 0 (unplaced stream_starts ∷ []) z) (sym (ap (λ z. z.part.events) all)) (without_entry refl none_noted);
       floor = omega arith;
       bare = λ q. record { no_document = o; guard = no_floor refl };
@@ -264,10 +264,10 @@ events_begin {t} spot k o e f =
     }
 
 -- at the end of the text
-pub events_end : {t : List ℕ} {spot : StreamCursor} {x : Documents} {a b c : Parts} → spot.at ≡ length t → code t spot.at ≢ 0xFEFF → Stuck (Row t spot.at) → EventsRead t spot x a
-    → b ≡ closed false (not spot.may_be_bare) a → c ≡ with_event b stream_ends → EventsWritten t x c
-events_end {t} {spot} {x} {a} {b} {c} k m n r e f =
-    let none = end_code t spot.at k in
+pub events_end : {t : List ℕ} {cursor : StreamCursor} {x : Documents} {a b c : Parts} → cursor.at ≡ length t → code t cursor.at ≢ 0xFEFF → Stuck (Row t cursor.at) → EventsRead t cursor x a
+    → b ≡ closed false (not cursor.may_be_bare) a → c ≡ with_event b stream_ends → EventsWritten t x c
+events_end {t} {cursor} {x} {a} {b} {c} k m n r e f =
+    let none = end_code t k in
     let p = parts_closed false (λ j cs l q. no_mark_there m n (λ g h. absurd (omega arith)) q) r in
     let all = f ∙ ap (λ z. with_event z stream_ends) e in
     record {

@@ -31,16 +31,16 @@ pub data EventsUpto (t : List ℕ) : Bool → ℕ → List Document → List Eve
       → Chain (PrefixRow t) j k more → EventsUpto t true k (ds ++ d ∷ []) (x ++ (unplaced (document_starts d.marked) ∷ d.events))
 
 -- where a document may begin without `---`
-pub record BareSpot (t : List ℕ) (spot : StreamCursor) (f : ℕ) : Type 0 where
-  pub no_document : not spot.may_be_bare ≡ false
-  pub guard : Guard t f spot.at
+pub record BareCursor (t : List ℕ) (cursor : StreamCursor) (f : ℕ) : Type 0 where
+  pub no_document : not cursor.may_be_bare ≡ false
+  pub guard : Guard t f cursor.at
 
-pub record EventsRead (t : List ℕ) (spot : StreamCursor) (x : Documents) (p : Parts) : Type 0 where
+pub record EventsRead (t : List ℕ) (cursor : StreamCursor) (x : Documents) (p : Parts) : Type 0 where
   pub derived : List EventInText
-  pub so_far : EventsUpto t (not spot.may_be_bare) spot.at x.documents derived
+  pub so_far : EventsUpto t (not cursor.may_be_bare) cursor.at x.documents derived
   pub noted : Noting t 0 (unplaced stream_starts ∷ derived) p.part.events
-  pub floor : floor_of 0 derived ≤ spot.at
-  pub bare : spot.may_be_bare ≡ true → BareSpot t spot (floor_of 0 derived)
+  pub floor : floor_of 0 derived ≤ cursor.at
+  pub bare : cursor.may_be_bare ≡ true → BareCursor t cursor (floor_of 0 derived)
   pub documents : p.documents ≡ map doc_of x.documents
   pub escapes : p.part.escapes ≡ flat_map (λ (d : Document). d.escapes) x.documents
 
@@ -85,12 +85,12 @@ module _ {t : List ℕ} where
       n (subst (λ z. ForbiddenLine t z) same f) (ap (code t) (sym same) ∙ e))
 
   -- the end of the document that is open
-  pub parts_closed : {spot : StreamCursor} {x : Documents} {p : Parts} (b : Bool)
-      → ((j : ℕ) (cs : List CommentValue) → LineOrEnd t j → Chain (PrefixRow t) j spot.at cs → EndIsMarked t j b) → EventsRead t spot x p
-      → ClosedParts t spot.at x.documents (closed b (not spot.may_be_bare) p)
-  parts_closed {spot} {x} {p} b ends r = go (not spot.may_be_bare) x.documents r.derived r.so_far r.noted r.floor r.documents r.escapes where
-    go : (o : Bool) (ds : List Document) (es : List EventInText) → EventsUpto t o spot.at ds es → Noting t 0 (unplaced stream_starts ∷ es) p.part.events → floor_of 0 es ≤ spot.at
-        → p.documents ≡ map doc_of ds → p.part.escapes ≡ flat_map (λ (d : Document). d.escapes) ds → ClosedParts t spot.at ds (closed b o p)
+  pub parts_closed : {cursor : StreamCursor} {x : Documents} {p : Parts} (b : Bool)
+      → ((j : ℕ) (cs : List CommentValue) → LineOrEnd t j → Chain (PrefixRow t) j cursor.at cs → EndIsMarked t j b) → EventsRead t cursor x p
+      → ClosedParts t cursor.at x.documents (closed b (not cursor.may_be_bare) p)
+  parts_closed {cursor} {x} {p} b ends r = go (not cursor.may_be_bare) x.documents r.derived r.so_far r.noted r.floor r.documents r.escapes where
+    go : (o : Bool) (ds : List Document) (es : List EventInText) → EventsUpto t o cursor.at ds es → Noting t 0 (unplaced stream_starts ∷ es) p.part.events → floor_of 0 es ≤ cursor.at
+        → p.documents ≡ map doc_of ds → p.part.escapes ≡ flat_map (λ (d : Document). d.escapes) ds → ClosedParts t cursor.at ds (closed b o p)
     go false ds es (all_closed w) n f d e = record { derived = es; written = w; noted = n; floor = f; documents = d; escapes = e }
     go true ds es (last_open {j = j} d {x = y} {more = more} w l c) n f docs e =
         let s = unplaced (document_starts d.marked) in
@@ -100,14 +100,14 @@ module _ {t : List ℕ} where
           derived = es ++ (last ∷ []);
           written = all;
           noted = noting_join n (without_entry refl none_noted);
-          floor = subst (λ z. z ≤ spot.at) (sym (floor_join 0 es (last ∷ []))) f;
+          floor = subst (λ z. z ≤ cursor.at) (sym (floor_join 0 es (last ∷ []))) f;
           documents = docs;
           escapes = e;
         }
 
 -- comment lines and byte order marks after what has been read
-same_flag : (spot s : StreamCursor) → s ≡ record spot { at = s.at } → (not s.may_be_bare ≡ not spot.may_be_bare) × (s.may_be_bare ≡ spot.may_be_bare)
-same_flag spot s e = (ap (λ z. not z.may_be_bare) e, ap (λ z. z.may_be_bare) e)
+same_flag : (cursor s : StreamCursor) → s ≡ record cursor { at = s.at } → (not s.may_be_bare ≡ not cursor.may_be_bare) × (s.may_be_bare ≡ cursor.may_be_bare)
+same_flag cursor s e = (ap (λ z. not z.may_be_bare) e, ap (λ z. z.may_be_bare) e)
 
 pub no_more : (x : Documents) (cs : List CommentValue) → (followed x (only_comments cs)).documents ≡ x.documents
 unfolding followed
@@ -118,11 +118,11 @@ module _ {t : List ℕ} where
   rows_after (all_closed w) c = all_closed w
   rows_after (last_open x w l d) c = last_open x w l (chain_append d c)
 
-  pub events_past_prefix : {spot s : StreamCursor} {x : Documents} {a b : Parts} {c d : List CommentValue} → s ≡ record spot { at = s.at } → (r : PrefixRead t spot.floor spot.at s.at c d)
-      → b.part.events ≡ a.part.events → b.documents ≡ a.documents → b.part.escapes ≡ a.part.escapes → EventsRead t spot x a
+  pub events_past_prefix : {cursor s : StreamCursor} {x : Documents} {a b : Parts} {c d : List CommentValue} → s ≡ record cursor { at = s.at } → (r : PrefixRead t cursor.floor cursor.at s.at c d)
+      → b.part.events ≡ a.part.events → b.documents ≡ a.documents → b.part.escapes ≡ a.part.escapes → EventsRead t cursor x a
       → EventsRead t s (followed x (only_comments r.upto.comments)) b
-  events_past_prefix {spot} {s} {x} {a} {b} e r same docs escapes p =
-      let flags = same_flag spot s e in
+  events_past_prefix {cursor} {s} {x} {a} {b} e r same docs escapes p =
+      let flags = same_flag cursor s e in
       let forward = chain_forward prefix_functional r.upto.rows in
       let none = no_more x r.upto.comments in
       record {

@@ -1,5 +1,6 @@
 -- Whether nodes and directives break a rule depends on what they are, and not on where they are.
 use Rattle.std.proofs.Common.{◌≡◌, ℕ, suc, Bool, true, false, List, [], ◌∷◌, ◌++◌, length, map, Option, Some, None, refl, sym, ap, ◌∙◌, subst, arith, is_some, ◌||◌, not}
+use Rattle.yf_chars.proofs.Tests.{same_head, same_tail}
 use Rattle.yf_props.specs.Handles.{Declaration, is_declared}
 use Rattle.yf_props.specs.Props.{PropsValue}
 use Rattle.yf_events.specs.Alike.{Alike, alike_scalars, alike_aliases, alike_sequences, alike_mappings, AlikeItems, alike_nothing, alike_item, AlikePairs, alike_no_pairs, alike_pair}
@@ -30,12 +31,6 @@ abbrev pub words : List Directive → List (List (List ℕ))
 words ds = map (λ (d : Directive). d.words) ds
 
 -- Lists.
-
-same_head : {A : Type 0} {a b : A} {x y : List A} → a ∷ x ≡ b ∷ y → a ≡ b
-same_head e = cc
-
-same_tail : {A : Type 0} {a b : A} {x y : List A} → a ∷ x ≡ b ∷ y → x ≡ y
-same_tail e = cc
 
 pub some_none : {A B : Type 0} {a : A} {x : List A} → a ∷ x ≡ [] → B
 some_none {a = a} {x = x} e = let long : suc (length x) ≡ 0 = ap length e in absurd (omega arith)

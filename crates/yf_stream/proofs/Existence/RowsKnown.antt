@@ -29,7 +29,7 @@ use Rattle.yf_stream.specs.Stream.EndIsMarked.{marked_end, unmarked_end}
 use Rattle.yf_stream.proofs.Uniqueness.OneDirective.{dot_still}
 use Rattle.yf_stream.proofs.Reader.PrefixLemmas.{prefix_functional, prefixes_rows, row_next, rows_parts, still}
 use Rattle.yf_chars.proofs.CharFacts.{end_no_white}
-use Rattle.yf_block_scalar.proofs.BodyLemmas.{end_code}
+use Rattle.yf_comments.proofs.RowLemmas.{end_code}
 
 -- the characters of a class from a place on
 record RunFrom (t : List ℕ) (p : ℕ → Bool) (i : ℕ) : Type 0 where
@@ -119,7 +119,7 @@ module _ {t : List ℕ} (u : IsUtf8 t) where
   start_within (after_mark {i = i} s e) = (reads_real t i u (omega arith)).within
 
   none_at_end : {i j : ℕ} {x : List CommentValue} → i ≡ length t → PrefixRow t i j x → ⊥
-  none_at_end {i} e (mark_row m) = let c = end_code t i e in absurd (omega arith)
+  none_at_end {i} e (mark_row m) = let c = end_code t e in absurd (omega arith)
   none_at_end e (line_row r) = rest_at_end r.rest e r.later
 
   nothing_here : {i : ℕ} → i ≡ length t → PrefixesFrom t i
@@ -163,7 +163,7 @@ module _ {t : List ℕ} (u : IsUtf8 t) where
   end_known i s = go (prefixes_from i s) where
     with_marker : (p : PrefixesFrom t i) → code t p.end ≡ 46 → is_marker t p.end ≡ true → (b : Bool) × EndIsMarked t i b
     with_marker p e m =
-        let starts : LineStart t p.end = ⊎_elim (λ (b : LineStart t p.end). b) (λ (q : p.end ≡ length t). let c = end_code t p.end q in absurd (omega arith)) p.starts in
+        let starts : LineStart t p.end = ⊎_elim (λ (b : LineStart t p.end). b) (λ (q : p.end ≡ length t). let c = end_code t q in absurd (omega arith)) p.starts in
         (true, marked_end (rows_parts s p.rows) (record { start = starts; marker = m }) e)
 
     go : PrefixesFrom t i → (b : Bool) × EndIsMarked t i b

@@ -18,7 +18,7 @@ no_span : (o : Option Span) → span_in false o ≡ []
 no_span None = refl
 no_span (Some s) = refl
 
-node_goes_on : (x : Node) (rest : List EventInText) → ends_next (flat x ++ rest) ≡ false
+pub node_goes_on : (x : Node) (rest : List EventInText) → ends_next (flat x ++ rest) ≡ false
 node_goes_on (scalar at props style text lines) rest = refl
 node_goes_on (alias at name) rest = refl
 node_goes_on (sequence at flow props items) rest = refl

@@ -46,22 +46,22 @@ record NotedTrees (t : List ℕ) (i : ℕ) (ds : List Document) (rest ys : List 
 
 -- how the events of documents are joined
 
-parted : (s e : EventInText) (root x rest : List EventInText) → (s ∷ (root ++ (e ∷ x))) ++ rest ≡ s ∷ (root ++ (e ∷ (x ++ rest)))
+pub parted : (s e : EventInText) (root x rest : List EventInText) → (s ∷ (root ++ (e ∷ x))) ++ rest ≡ s ∷ (root ++ (e ∷ (x ++ rest)))
 parted s e root x rest = ap (λ z. s ∷ z) (append_assoc root (e ∷ x) rest)
 
 document_joined : (s e : EventInText) (root x rest : List EventInText) → ((s ∷ (root ++ (e ∷ []))) ++ x) ++ rest ≡ s ∷ (root ++ (e ∷ (x ++ rest)))
 document_joined s e root x rest = ap (λ z. s ∷ z) (append_assoc (root ++ (e ∷ [])) x rest ∙ append_assoc root (e ∷ []) (x ++ rest))
 
-joined : (ys more more2 more3 more4 root x : List EventInText) (s e : EventInText) → ys ≡ s ∷ more → more ≡ root ++ more2 → more2 ≡ e ∷ more3
+pub joined : (ys more more2 more3 more4 root x : List EventInText) (s e : EventInText) → ys ≡ s ∷ more → more ≡ root ++ more2 → more2 ≡ e ∷ more3
     → more3 ≡ x ++ more4 → ys ≡ ((s ∷ (root ++ (e ∷ []))) ++ x) ++ more4
 joined ys more more2 more3 more4 root x s e p q f g =
     let whole : ys ≡ s ∷ (root ++ (e ∷ (x ++ more4))) = cc in whole ∙ sym (document_joined s e root x more4)
 
-enclosed : (ys more more2 more3 x : List EventInText) (s e : EventInText) → ys ≡ s ∷ more → more ≡ x ++ more2 → more2 ≡ e ∷ more3 → more3 ≡ []
+pub enclosed : (ys more more2 more3 x : List EventInText) (s e : EventInText) → ys ≡ s ∷ more → more ≡ x ++ more2 → more2 ≡ e ∷ more3 → more3 ≡ []
     → ys ≡ s ∷ (x ++ (e ∷ []))
 enclosed ys more more2 more3 x s e p q f g = cc
 
-nothing_noted : {t : List ℕ} {floor : ℕ} {ys : List EventInText} → Noting t floor [] ys → ys ≡ []
+pub nothing_noted : {t : List ℕ} {floor : ℕ} {ys : List EventInText} → Noting t floor [] ys → ys ≡ []
 nothing_noted no_event = refl
 
 module _ {t : List ℕ} where

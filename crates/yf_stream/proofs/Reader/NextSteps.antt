@@ -38,21 +38,21 @@ pub data NodeDone (t : List ℕ) (at : ℕ) (a b : Parts) (after : StreamCursor)
   nothing_done : (n : NothingEnds t at a b after) → NodeDone t at a b after (noting (empty_node at) n.ends.comments)
 
 -- one step: what has been read before it, the parts before it and after it, and what has been read then
-pub data StepTo (t : List ℕ) (spot : StreamCursor) (x : Documents) (a b : Parts) (after : StreamCursor) : Documents → Type 0 where
-  dots_to : (s : SuffixEnds t spot a b after) → ForbiddenLine t spot.at → code t spot.at ≡ 46 → StepTo t spot x a b after (followed x (only_comments s.comments))
-  dashes_to : {y : Meaning} → ForbiddenLine t spot.at → code t spot.at ≡ 45 → NodeDone t (spot.at + 3) (opened spot.at true [] (closed false (not spot.may_be_bare) a)) b after y
-      → StepTo t spot x a b after (followed x (one_document y.comments (document_of spot.at true [] y)))
-  directives_to : {p : ℕ} {ds : List Directive} {cs : List CommentValue} {y : Meaning} → spot.may_be_bare ≡ true → code t spot.at ≡ 37
-      → (r : DirectivesRead t spot.at p ds a.part.comments cs) → ForbiddenLine t p → code t p ≡ 45 → NodeDone t (p + 3) (opened p true ds (with_comments_read cs a)) b after y
-      → StepTo t spot x a b after (followed x (one_document (r.upto.comments ++ y.comments) (document_of p true ds y)))
-  bare_to : {start : ℕ} {y : Meaning} → spot.may_be_bare ≡ true → ContentAt t spot.at start → NodeDone t spot.at (opened start false [] a) b after y
-      → StepTo t spot x a b after (followed x (one_document y.comments (document_of start false [] y)))
+pub data StepTo (t : List ℕ) (cursor : StreamCursor) (x : Documents) (a b : Parts) (after : StreamCursor) : Documents → Type 0 where
+  dots_to : (s : SuffixEnds t cursor a b after) → ForbiddenLine t cursor.at → code t cursor.at ≡ 46 → StepTo t cursor x a b after (followed x (only_comments s.comments))
+  dashes_to : {y : Meaning} → ForbiddenLine t cursor.at → code t cursor.at ≡ 45 → NodeDone t (cursor.at + 3) (opened cursor.at true [] (closed false (not cursor.may_be_bare) a)) b after y
+      → StepTo t cursor x a b after (followed x (one_document y.comments (document_of cursor.at true [] y)))
+  directives_to : {p : ℕ} {ds : List Directive} {cs : List CommentValue} {y : Meaning} → cursor.may_be_bare ≡ true → code t cursor.at ≡ 37
+      → (r : DirectivesRead t cursor.at p ds a.part.comments cs) → ForbiddenLine t p → code t p ≡ 45 → NodeDone t (p + 3) (opened p true ds (with_comments_read cs a)) b after y
+      → StepTo t cursor x a b after (followed x (one_document (r.upto.comments ++ y.comments) (document_of p true ds y)))
+  bare_to : {start : ℕ} {y : Meaning} → cursor.may_be_bare ≡ true → ContentAt t cursor.at start → NodeDone t cursor.at (opened start false [] a) b after y
+      → StepTo t cursor x a b after (followed x (one_document y.comments (document_of start false [] y)))
 
 -- what has been read goes on
-pub record GoesOn (t : List ℕ) (spot : StreamCursor) (x : Documents) (a b : Parts) (after : StreamCursor) : Type 0 where
+pub record GoesOn (t : List ℕ) (cursor : StreamCursor) (x : Documents) (a b : Parts) (after : StreamCursor) : Type 0 where
   pub documents : Documents
   pub read : ReadUpto t after.may_be_bare after.at documents
-  pub step : StepTo t spot x a b after documents
+  pub step : StepTo t cursor x a b after documents
 
 module _ {t : List ℕ} where
   -- directives that were read are derived
@@ -120,18 +120,18 @@ module _ {t : List ℕ} (u : IsUtf8 t) where
   marked_too_deep (too_deep_read s n o) m = (no_marked_document u n s m, o)
 
   -- what is known of the place of the next document
-  module _ {f i : ℕ} (spot : StreamCursor) {c d : List CommentValue} (pre : PrefixRead t f i spot.at c d) (some : spot.at ≢ length t) {x : Documents} (r : ReadUpto t spot.may_be_bare spot.at x) where
-    begin_bare : spot.may_be_bare ≡ true → ReadUpto t true spot.at x
-    begin_bare e = subst (λ b. ReadUpto t b spot.at x) e r
+  module _ {f i : ℕ} (cursor : StreamCursor) {c d : List CommentValue} (pre : PrefixRead t f i cursor.at c d) (some : cursor.at ≢ length t) {x : Documents} (r : ReadUpto t cursor.may_be_bare cursor.at x) where
+    begin_bare : cursor.may_be_bare ≡ true → ReadUpto t true cursor.at x
+    begin_bare e = subst (λ b. ReadUpto t b cursor.at x) e r
 
-    suffix_on : {a b : Parts} {after : StreamCursor} → ForbiddenLine t spot.at → code t spot.at ≡ 46 → SuffixEnds t spot a b after → GoesOn t spot x a b after
+    suffix_on : {a b : Parts} {after : StreamCursor} → ForbiddenLine t cursor.at → code t cursor.at ≡ 46 → SuffixEnds t cursor a b after → GoesOn t cursor x a b after
     suffix_on {after = after} f e s = record {
       documents = followed x (only_comments s.comments);
       read = as_flag after s.bare (past_dots u pre.no_row f e s.line.derived r);
       step = dots_to s f e;
     }
 
-    bare_on : {a b : Parts} {after : StreamCursor} → (ForbiddenLine t spot.at → ⊥) → spot.may_be_bare ≡ true → code t spot.at ≢ 37 → BareRead t spot.at a b (Go after) → GoesOn t spot x a b after
+    bare_on : {a b : Parts} {after : StreamCursor} → (ForbiddenLine t cursor.at → ⊥) → cursor.may_be_bare ≡ true → code t cursor.at ≢ 37 → BareRead t cursor.at a b (Go after) → GoesOn t cursor x a b after
     bare_on {after = after} f q e (bare_read {start = start} m w n) =
         let y = n.chosen in
         let c = bare_start (line_at r.starts some) pre.no_row m w y.derived.derived in
@@ -142,12 +142,12 @@ module _ {t : List ℕ} (u : IsUtf8 t) where
           step = bare_to q c (node_done n);
         }
 
-    pub reading_goes_on : {a b : Parts} {after : StreamCursor} → NextRead t spot a b (Go after) → GoesOn t spot x a b after
+    pub reading_goes_on : {a b : Parts} {after : StreamCursor} → NextRead t cursor a b (Go after) → GoesOn t cursor x a b after
     reading_goes_on (at_dots f e s) = suffix_on f e s
     reading_goes_on {after = after} (at_dashes f e m) =
         let y = marked_document f e m (marked_at_dash pre.no_row f e r.through) in
         record {
-          documents = followed x (one_document y.meaning.comments (document_of spot.at true [] y.meaning));
+          documents = followed x (one_document y.meaning.comments (document_of cursor.at true [] y.meaning));
           read = as_flag after y.bare (past_marked_document u y.within y.node y.through r);
           step = dashes_to f e y.is_done;
         }
@@ -160,16 +160,16 @@ module _ {t : List ℕ} (u : IsUtf8 t) where
         }
     reading_goes_on (without_dashes f q e m) = bare_on f q e m
 
-    no_bare_there : {place : ℕ} {a b : Parts} → (ForbiddenLine t spot.at → ⊥) → code t spot.at ≢ 37 → BareRead t spot.at a b (Syntax place) → NoStream t
+    no_bare_there : {place : ℕ} {a b : Parts} → (ForbiddenLine t cursor.at → ⊥) → code t cursor.at ≢ 37 → BareRead t cursor.at a b (Syntax place) → NoStream t
     no_bare_there f e (no_bare_read n) = no_bare_document u pre.no_row some pre.no_mark f e n r.through
 
-    bare_too_deep : {place : ℕ} {a b : Parts} → (ForbiddenLine t spot.at → ⊥) → code t spot.at ≢ 37 → BareRead t spot.at a b (TooDeep place) → NoStream t × (DEPTH < openers t)
+    bare_too_deep : {place : ℕ} {a b : Parts} → (ForbiddenLine t cursor.at → ⊥) → code t cursor.at ≢ 37 → BareRead t cursor.at a b (TooDeep place) → NoStream t × (DEPTH < openers t)
     bare_too_deep f e (too_deep_bare n o) = (no_bare_document u pre.no_row some pre.no_mark f e n r.through, o)
 
-    through_as : {b : Bool} → spot.may_be_bare ≡ b → PathsThrough t b spot.at
-    through_as e = subst (λ b. PathsThrough t b spot.at) e r.through
+    through_as : {b : Bool} → cursor.may_be_bare ≡ b → PathsThrough t b cursor.at
+    through_as e = subst (λ b. PathsThrough t b cursor.at) e r.through
 
-    pub no_stream_read : {place : ℕ} {a b : Parts} → NextRead t spot a b (Syntax place) → NoStream t
+    pub no_stream_read : {place : ℕ} {a b : Parts} → NextRead t cursor a b (Syntax place) → NoStream t
     no_stream_read (at_dots f e s) = no_line_after_dots pre.no_row f e s r.through
     no_stream_read (at_dashes f e m) = no_marked m (marked_at_dash pre.no_row f e r.through)
     no_stream_read (not_bare f q) = no_second_bare pre some f (through_as q)
@@ -178,16 +178,16 @@ module _ {t : List ℕ} (u : IsUtf8 t) where
     no_stream_read (no_directive e d) = no_directives_there u e d r.through
     no_stream_read (without_dashes f q e m) = no_bare_there f e m
 
-    pub too_deep_there : {place : ℕ} {a b : Parts} → NextRead t spot a b (TooDeep place) → NoStream t × (DEPTH < openers t)
+    pub too_deep_there : {place : ℕ} {a b : Parts} → NextRead t cursor a b (TooDeep place) → NoStream t × (DEPTH < openers t)
     too_deep_there (at_dots f e s) = absurd s
     too_deep_there (at_dashes f e m) = marked_too_deep m (marked_at_dash pre.no_row f e r.through)
     too_deep_there (after_directives q e d f g m) = marked_too_deep m (marked_after_directives u e d r.through)
     too_deep_there (without_dashes f q e m) = bare_too_deep f e m
 
--- the same from a spot before comment lines and byte order marks on
-pub spot_on : {t : List ℕ} {c d : List CommentValue} {x : Documents} (spot s : StreamCursor) → IsUtf8 t → s ≡ record spot { at = s.at } → (r : PrefixRead t spot.floor spot.at s.at c d)
-    → ReadUpto t spot.may_be_bare spot.at x → ReadUpto t s.may_be_bare s.at (followed x (only_comments r.upto.comments))
-spot_on {t} {x = x} spot s u e r g =
+-- the same from a cursor before comment lines and byte order marks on
+pub cursor_on : {t : List ℕ} {c d : List CommentValue} {x : Documents} (cursor s : StreamCursor) → IsUtf8 t → s ≡ record cursor { at = s.at } → (r : PrefixRead t cursor.floor cursor.at s.at c d)
+    → ReadUpto t cursor.may_be_bare cursor.at x → ReadUpto t s.may_be_bare s.at (followed x (only_comments r.upto.comments))
+cursor_on {t} {x = x} cursor s u e r g =
     subst (λ b. ReadUpto t b s.at (followed x (only_comments r.upto.comments))) (sym (ap (λ z. z.may_be_bare) e)) (past_prefix u r g)
 
 pub next_of : (t : List ℕ) (s : StreamCursor) (a b : Parts) {r : Result StreamStep AllocError} {o p : StreamStep} → IfOk r (λ next. NextRead t s a b next) → r ≡ Ok o → o ≡ p → NextRead t s a b p

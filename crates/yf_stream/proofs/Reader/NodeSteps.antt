@@ -30,7 +30,7 @@ use Rattle.yf_stream.proofs.Uniqueness.OneStream.{lines_end}
 use Rattle.yf_stream.proofs.Reader.PathLemmas.{path_at_dash}
 use Rattle.yf_stream.proofs.Reader.PathsThrough.{PathsThrough, past_rows, settled_here}
 use Rattle.yf_stream.proofs.Uniqueness.StreamPath.{ExplicitTo, NodeTo, Path, Settled, node_to, nothing_to, path_bare, path_directives, path_ends, path_explicit, path_mark, path_suffix, settled_more}
-use Rattle.yf_block_scalar.proofs.BodyLemmas.{end_code}
+use Rattle.yf_comments.proofs.RowLemmas.{end_code}
 
 -- a document from its `---` on, and a path after it
 pub record MarkedAt (t : List ℕ) (p : ℕ) : Type 0 where
@@ -104,7 +104,7 @@ module _ {t : List ℕ} where
   }
 
   at_percent : {b : Bool} {h k : ℕ} {x : Documents} → code t k ≡ 37 → Path t b h k x → DirectivesStep t h k
-  at_percent {k = k} c (path_ends q) = let n = end_code t k q in absurd (omega arith)
+  at_percent {k = k} c (path_ends q) = let n = end_code t q in absurd (omega arith)
   at_percent c (path_mark m s p) = absurd (omega arith)
   at_percent c (path_suffix g d s p ln) = absurd (omega arith)
   at_percent c (path_explicit q d y p) = absurd (omega arith)
@@ -161,7 +161,7 @@ module _ {t : List ℕ} where
   pub no_line_after_dots : {b : Bool} {k : ℕ} → Stuck (Row t k) → ForbiddenLine t k → code t k ≡ 46 → Stuck (LineEnd t (k + 3)) → PathsThrough t b k → NoStream t
   no_line_after_dots {k = k} s f e n p h x d l = go (settled_here s (p.path h x d l)).path where
     go : {b : Bool} {g : ℕ} {y : Documents} → Path t b g k y → ⊥
-    go (path_ends q) = let c = end_code t k q in absurd (omega arith)
+    go (path_ends q) = let c = end_code t q in absurd (omega arith)
     go (path_mark m r q) = absurd (omega arith)
     go (path_suffix {j = j} {cs = cs} g c r q ln) = n.none j cs ln
     go (path_explicit g c y q) = absurd (omega arith)

@@ -13,7 +13,7 @@ use Rattle.yf_stream.specs.Stream.{ContentAt, Documents, document_of, only_comme
 use Rattle.yf_stream.specs.Stream.ContentAt.{content_at}
 use Rattle.yf_stream.proofs.Uniqueness.OneStream.{mark_facts, no_content}
 use Rattle.yf_stream.proofs.Uniqueness.StreamPath.{ExplicitTo, Path, Settled, path_bare, path_directives, path_ends, path_explicit, path_mark, path_suffix}
-use Rattle.yf_block_scalar.proofs.BodyLemmas.{end_code}
+use Rattle.yf_comments.proofs.RowLemmas.{end_code}
 
 -- the document that begins with a `---` there, and the path after it
 pub record ExplicitStep (t : List ℕ) (h k : ℕ) (x : Documents) : Type 0 where
@@ -48,16 +48,16 @@ pub record MarkStep (t : List ℕ) (b : Bool) (h k : ℕ) (x : Documents) : Type
 module _ {t : List ℕ} where
   content_not_at_end : {k p : ℕ} → k ≡ length t → ContentAt t k p → ⊥
   content_not_at_end e (content_at (by_whites done l) n h) = absurd (omega arith)
-  content_not_at_end {k} e (content_at (by_whites (step (one w) c) l) n h) = let b = white_below (code t k) w in let g = end_code t k e in absurd (omega arith)
-  content_not_at_end {k} e (content_at (at_start s) n h) = let b = ns_below (code t k) n in let g = end_code t k e in absurd (omega arith)
+  content_not_at_end {k} e (content_at (by_whites (step (one w) c) l) n h) = let b = white_below (code t k) w in let g = end_code t e in absurd (omega arith)
+  content_not_at_end {k} e (content_at (at_start s) n h) = let b = ns_below (code t k) n in let g = end_code t e in absurd (omega arith)
 
   -- at the end of the text a path ends, and nothing is left on it
   pub path_at_end : {b : Bool} {h k : ℕ} {x : Documents} → k ≡ length t → Path t b h k x → (h ≡ 0) × (x ≡ only_comments [])
   path_at_end e (path_ends q) = (refl, refl)
-  path_at_end {k = k} e (path_mark m s p) = let n = end_code t k e in absurd (omega arith)
-  path_at_end {k = k} e (path_suffix f c s p ln) = let n = end_code t k e in absurd (omega arith)
-  path_at_end {k = k} e (path_explicit f c y p) = let n = end_code t k e in absurd (omega arith)
-  path_at_end {k = k} e (path_directives b c d y p m) = let n = end_code t k e in absurd (omega arith)
+  path_at_end {k = k} e (path_mark m s p) = let n = end_code t e in absurd (omega arith)
+  path_at_end {k = k} e (path_suffix f c s p ln) = let n = end_code t e in absurd (omega arith)
+  path_at_end {k = k} e (path_explicit f c y p) = let n = end_code t e in absurd (omega arith)
+  path_at_end {k = k} e (path_directives b c d y p m) = let n = end_code t e in absurd (omega arith)
   path_at_end e (path_bare b f c a n p) = absurd (content_not_at_end e a)
 
   -- before a further document without `---`, where the one before has no `...`, there is no path
@@ -71,7 +71,7 @@ module _ {t : List ℕ} where
 
   -- at a `---` a path goes on with its document, at a `...` after its lines
   pub path_at_dash : {b : Bool} {h k : ℕ} {x : Documents} → ForbiddenLine t k → code t k ≡ 45 → Path t b h k x → ExplicitStep t h k x
-  path_at_dash {k = k} f c (path_ends q) = let n = end_code t k q in absurd (omega arith)
+  path_at_dash {k = k} f c (path_ends q) = let n = end_code t q in absurd (omega arith)
   path_at_dash f c (path_mark m s p) = absurd (omega arith)
   path_at_dash f c (path_suffix g d s p ln) = absurd (omega arith)
   path_at_dash f c (path_explicit {h = h} {g = g} {l = l} {x = x} {rest = rest} q d y p) = record {
@@ -89,7 +89,7 @@ module _ {t : List ℕ} where
   path_at_dash f c (path_bare b g d a y p) = absurd (g f)
 
   pub path_at_dots : {b : Bool} {h k : ℕ} {x : Documents} → ForbiddenLine t k → code t k ≡ 46 → Path t b h k x → SuffixStep t h k x
-  path_at_dots {k = k} f c (path_ends q) = let n = end_code t k q in absurd (omega arith)
+  path_at_dots {k = k} f c (path_ends q) = let n = end_code t q in absurd (omega arith)
   path_at_dots f c (path_mark m s p) = absurd (omega arith)
   path_at_dots f c (path_suffix {l = l} {es = es} {x = x} g d s p ln) = record { end = l; comments = es; rest = x; settled = s; path = p; is = refl }
   path_at_dots f c (path_explicit q d y p) = absurd (omega arith)
@@ -98,7 +98,7 @@ module _ {t : List ℕ} where
 
   -- at a byte order mark it goes on after it
   pub path_at_mark : {b : Bool} {h k : ℕ} {x : Documents} → code t k ≡ 0xFEFF → Path t b h k x → MarkStep t b h k x
-  path_at_mark {k = k} c (path_ends q) = let n = end_code t k q in absurd (omega arith)
+  path_at_mark {k = k} c (path_ends q) = let n = end_code t q in absurd (omega arith)
   path_at_mark c (path_mark {l = l} {es = es} {x = x} m s p) = record { end = l; comments = es; rest = x; settled = s; path = p; is = refl }
   path_at_mark c (path_suffix g d s p ln) = absurd (omega arith)
   path_at_mark c (path_explicit q d y p) = absurd (omega arith)

@@ -20,7 +20,7 @@ use Rattle.yf_stream.specs.Stream.{PrefixPart, Prefixes}
 use Rattle.yf_stream.specs.Stream.PrefixPart.{order_mark, prefix_comment}
 use Rattle.yf_stream.proofs.ReaderLaws.{PrefixesAreRead}
 use Rattle.yf_stream.proofs.Uniqueness.StreamPath.{mark_still}
-use Rattle.yf_block_scalar.proofs.BodyLemmas.{end_code}
+use Rattle.yf_comments.proofs.RowLemmas.{end_code}
 
 -- comments that are kept
 renoted_more : {t : List ℕ} {f : ℕ} {cs ns : List CommentValue} (c : CommentValue) (b : Bool) → FloorNote t f c.offset b → SameButNotes t f cs ns
@@ -153,7 +153,7 @@ module _ {t : List ℕ} where
       l
     where
       no_row_there : {j : ℕ} {cs : List CommentValue} → i ≡ length t → PrefixRow t i j cs → ⊥
-      no_row_there e (mark_row m) = let n = end_code t i e in absurd (omega arith)
+      no_row_there e (mark_row m) = let n = end_code t e in absurd (omega arith)
       no_row_there e (line_row q) = rest_at_end q.rest e q.later
 
   pub still : {j : ℕ} → code t j ≢ 0xFEFF → Stuck (Row t j) → Stuck (PrefixRow t j)

@@ -9,6 +9,7 @@ use Rattle.std.specs.Cmp.Lexicographic.{slice_cmp}
 use Rattle.std.specs.Map.{lookup}
 use Rattle.std.specs.Ordering.{nat_cmp}
 use Rattle.std.specs.Str.{bytes_eq}
+use Rattle.yf_chars.proofs.Tests.{none_there}
 use Rattle.yf_props.specs.Handles.{Declaration, TagText, declaration, declared_prefix, default_prefix, is_declared, or_else, prefix_of, UnknownHandleOf, no_prefix, non_specific_text, shorthand_text, verbatim_text}
 use Rattle.yf_props.specs.Props.{TagValue, name_value, tag_value}
 use Rattle.yf_props.specs.declared.props.Tag.{Tag}
@@ -60,12 +61,8 @@ declares_by_order a b k v f = record {
       ∙ ap (λ z. cond (bytes_eq k.now h) (Some v.now) z) (sym (declared_by_order a h));
 }
 
-none_found : (q : Option (List ℕ)) → is_some q ≡ false → q ≡ None
-none_found None e = refl
-none_found (Some x) e = absurd (true≢false e)
-
 pub not_declared : (ds : List Declaration) (h : List ℕ) → is_declared ds h ≡ false → declared_prefix ds h ≡ None
-not_declared ds h e = none_found (declared_prefix ds h) e
+not_declared ds h e = none_there (declared_prefix ds h) e
 
 -- one more at the end of a list
 last_found : (ds : List Declaration) (k v h : List ℕ) → declared_prefix (ds ++ (k, v) ∷ []) h ≡ or_else (declared_prefix ds h) (cond (bytes_eq h k) (Some v) None)

@@ -37,7 +37,7 @@ if_else : {A : Type 0} (x : A) {y z : A} (b : Bool) → y ≡ z → (if b then x
 if_else x true e = refl
 if_else x false e = e
 
-joined : {A : Type 0} {a b c d : List A} → a ≡ b → c ≡ d → a ++ c ≡ b ++ d
+pub joined : {A : Type 0} {a b c d : List A} → a ≡ b → c ≡ d → a ++ c ≡ b ++ d
 joined {a = a} {d = d} e f = ap (λ z. a ++ z) f ∙ ap (λ z. z ++ d) e
 
 pub pass_names : {a b : List (List ℕ)} (docs : List Doc) (ds : List Declaration) (es : List EventInText) → SameNames a b → pass_breaches docs ds a es ≡ pass_breaches docs ds b es

@@ -30,6 +30,7 @@ use Rattle.yf_events.specs.declared.directive.Directive.{Directive}
 use Rattle.yf_grammar.proofs.Ends.BlankRuns.{ContentBefore, after_byte, no_start_past}
 use Rattle.yf_grammar.proofs.FlowReader.FlowStarts.{no_end_there}
 use Rattle.yf_grammar.proofs.Ends.GapLemmas.{Visible, visible_solid}
+use Rattle.yf_grammar.proofs.BlockOutcomes.NodesAfter.{solid_ns}
 use Rattle.yf_stream.specs.DirectiveReaders.{IsDirective}
 use Rattle.yf_stream.specs.Stream.{DirectiveLines, Directives, Parameters, ReservedParameter}
 use Rattle.yf_stream.specs.Stream.DirectiveLines.{last_directive, more_directives}
@@ -37,19 +38,16 @@ use Rattle.yf_stream.specs.Stream.Parameters.{version_parameter, tag_parameters,
 use Rattle.yf_stream.specs.Stream.ReservedParameter.{reserved_parameter}
 use Rattle.yf_chars.proofs.CharFacts.{exclamation_no_word, exclamation_no_tag}
 
-solid_ns : (c : ℕ) → 33 ≤ c → c < 127 → is_ns_char c ≡ true
+pub ascii_ns : (c : ℕ) → 33 ≤ c → c < 127 → is_ns_char c ≡ true
 unfolding is_ns_char is_nb_char is_printable is_between is_break_char is_white
-solid_ns c l h = grind (arith, nat_tests)
-
-ns_of : {c : ℕ} → Solid c → is_ns_char c ≡ true
-ns_of {c} s = solid_ns c s.low s.high
+ascii_ns c l h = grind (arith, nat_tests)
 
 digit_bounds : (c : ℕ) → is_digit c ≡ true → (48 ≤ c) × (c < 58)
 unfolding is_digit is_between
 digit_bounds c e = (grind (arith, nat_tests), grind (arith, nat_tests))
 
 pub digit_ns : (c : ℕ) → is_digit c ≡ true → is_ns_char c ≡ true
-digit_ns c e = let b = digit_bounds c e in solid_ns c (omega (arith, b.0)) (omega (arith, b.1))
+digit_ns c e = let b = digit_bounds c e in ascii_ns c (omega (arith, b.0)) (omega (arith, b.1))
 
 pub yaml_no_tag : codes "YAML" ≡ codes "TAG" → ⊥
 yaml_no_tag e = let f = ap length e in absurd (omega arith)
@@ -72,19 +70,19 @@ module _ {t : List ℕ} (u : IsUtf8 t) where
   run_after f (step (one {i = i} e) c) l = many_after f c (after_next i (f (code t i) e))
 
   pub spelled_after : {p : ℕ → Bool} {i j : ℕ} {x : List ℕ} → ((c : ℕ) → p c ≡ true → Solid c) → SpelledChar t p i j x → ContentBefore t j
-  spelled_after f (as_itself {i = i} e) = after_next i (ns_of (f (code t i) e))
+  spelled_after f (as_itself {i = i} e) = after_next i (solid_ns _ (f (code t i) e))
   spelled_after f (as_escape {i = i} a b d) =
       let s = hex_solid (code t (i + 2)) d in
       let e : i + 2 + 1 ≡ i + 3 = omega arith in
-      subst (λ w. ContentBefore t w) e (after_byte (i + 2) u refl (omega (arith, s.high)) (ns_of s))
+      subst (λ w. ContentBefore t w) e (after_byte (i + 2) u refl (omega (arith, s.high)) (solid_ns _ s))
 
   pub chain_after : {p : ℕ → Bool} {i j : ℕ} {x : List ℕ} → ((c : ℕ) → p c ≡ true → Solid c) → Chain (SpelledChar t p) i j x → ContentBefore t i → ContentBefore t j
   chain_after f done b = b
   chain_after f (step s c) b = chain_after f c (spelled_after f s)
 
   pub spelled_ns : {p : ℕ → Bool} {i j : ℕ} {x : List ℕ} → ((c : ℕ) → p c ≡ true → Solid c) → SpelledChar t p i j x → is_ns_char (code t i) ≡ true
-  spelled_ns f (as_itself {i = i} e) = ns_of (f (code t i) e)
-  spelled_ns f (as_escape {i = i} a b d) = solid_ns (code t i) (omega arith) (omega arith)
+  spelled_ns f (as_itself {i = i} e) = solid_ns _ (f (code t i) e)
+  spelled_ns f (as_escape {i = i} a b d) = ascii_ns (code t i) (omega arith) (omega arith)
 
   -- white space up to a character that is none ends at one place
   pub in_line_one : {i j k : ℕ} → SeparateInLine t i j → is_white (code t j) ≡ false → SeparateInLine t i k → is_white (code t k) ≡ false → j ≡ k
@@ -94,22 +92,22 @@ module _ {t : List ℕ} (u : IsUtf8 t) where
   no_ns_white i e = ns_not_white (code t i) e
 
   pub byte_no_white : (i : ℕ) {b : ℕ} → code t i ≡ b → 33 ≤ b → b < 127 → is_white (code t i) ≡ false
-  byte_no_white i e l h = no_ns_white i (solid_ns (code t i) (omega arith) (omega arith))
+  byte_no_white i e l h = no_ns_white i (ascii_ns (code t i) (omega arith) (omega arith))
 
   -- after a !, and after a character of a tag
   pub mark_after : (i : ℕ) → code t i ≡ 33 → ContentBefore t (i + 1)
-  mark_after i e = after_byte i u e (omega arith) (solid_ns 33 (omega arith) (omega arith))
+  mark_after i e = after_byte i u e (omega arith) (ascii_ns 33 (omega arith) (omega arith))
 
   pub tag_after : {i j : ℕ} {x : List ℕ} → TagChar t i j x → ContentBefore t j
   tag_after s = spelled_after tag_solid s
 
   -- a handle before white space
   pub handle_after : {i h : ℕ} → Handle t i h → ContentBefore t h
-  handle_after (primary_handle {i = i} a) = after_byte i u a (omega arith) (solid_ns 33 (omega arith) (omega arith))
+  handle_after (primary_handle {i = i} a) = after_byte i u a (omega arith) (ascii_ns 33 (omega arith) (omega arith))
   handle_after (secondary_handle {i = i} a b) =
       let e : i + 1 + 1 ≡ i + 2 = omega arith in
-      subst (λ w. ContentBefore t w) e (after_byte (i + 1) u b (omega arith) (solid_ns 33 (omega arith) (omega arith)))
-  handle_after (named_handle {j = j} a r b) = after_byte j u b (omega arith) (solid_ns 33 (omega arith) (omega arith))
+      subst (λ w. ContentBefore t w) e (after_byte (i + 1) u b (omega arith) (ascii_ns 33 (omega arith) (omega arith)))
+  handle_after (named_handle {j = j} a r b) = after_byte j u b (omega arith) (ascii_ns 33 (omega arith) (omega arith))
 
   pub white_after : {h p : ℕ} → ContentBefore t h → SeparateInLine t h p → is_white (code t h) ≡ true
   white_after b (by_whites m l) = run_first m l
@@ -119,7 +117,7 @@ module _ {t : List ℕ} (u : IsUtf8 t) where
   not_both i e f = true≢false (sym e ∙ f)
 
   pub word_white : {i j : ℕ} → Run (One t is_word_char) i j → is_white (code t i) ≡ false
-  word_white {i} r = no_ns_white i (ns_of (word_solid (code t i) (run_first r.chain r.some)))
+  word_white {i} r = no_ns_white i (solid_ns _ (word_solid (code t i) (run_first r.chain r.some)))
 
   pub word_mark : {i j : ℕ} → Run (One t is_word_char) i j → code t i ≡ 33 → ⊥
   word_mark {i} r e = true≢false (sym (run_first r.chain r.some) ∙ ap is_word_char e ∙ exclamation_no_word)
@@ -147,14 +145,14 @@ module _ {t : List ℕ} (u : IsUtf8 t) where
     go (falls_short z r q) = sym (stays (chain_after uri_solid e h) r f)
 
   pub prefix_ns : {i j : ℕ} {x : List ℕ} → TagPrefix t i j x → is_ns_char (code t i) ≡ true
-  prefix_ns (local_prefix {i = i} e c) = solid_ns (code t i) (omega arith) (omega arith)
+  prefix_ns (local_prefix {i = i} e c) = ascii_ns (code t i) (omega arith) (omega arith)
   prefix_ns (global_prefix s c) = spelled_ns tag_solid s
 
   pub no_tag_at_mark : {i j : ℕ} {x : List ℕ} → code t i ≡ 33 → TagChar t i j x → ⊥
   no_tag_at_mark {i} {j} {x} e s = (spelled_stuck t is_tag_char percent_tag i (ap is_tag_char e ∙ exclamation_no_tag) (λ q. absurd (omega arith))).none j x s
 
   prefix_one : {i j k m n : ℕ} {x y : List ℕ} {a b : List CommentValue} → TagPrefix t i j x → LineEnd t j m a → TagPrefix t i k y → LineEnd t k n b → j ≡ k
-  prefix_one (local_prefix {i = i} e c) d (local_prefix g h) f = uris_one (after_byte i u e (omega arith) (solid_ns 33 (omega arith) (omega arith))) c d h f
+  prefix_one (local_prefix {i = i} e c) d (local_prefix g h) f = uris_one (after_byte i u e (omega arith) (ascii_ns 33 (omega arith) (omega arith))) c d h f
   prefix_one (local_prefix e c) d (global_prefix s h) f = absurd (no_tag_at_mark e s)
   prefix_one (global_prefix s c) d (local_prefix e h) f = absurd (no_tag_at_mark e s)
   prefix_one (global_prefix {j = j} {c = v} s c) d (global_prefix {k = k} {j = l} {x = y} r h) f =
@@ -266,7 +264,7 @@ module _ {t : List ℕ} where
   visible_still {k} v = let s = visible_solid v in row_stuck (stuck_at_solid (done {i = k}) s.not_white s.no_comment s.no_end)
 
   byte_still : {k b : ℕ} → code t k ≡ b → 33 ≤ b → b < 127 → b ≢ 35 → Stuck (Row t k)
-  byte_still {k} e l h n = visible_still (record { ns = solid_ns (code t k) (omega arith) (omega arith); no_hash = λ q. n (sym e ∙ q) })
+  byte_still {k} e l h n = visible_still (record { ns = ascii_ns (code t k) (omega arith) (omega arith); no_hash = λ q. n (sym e ∙ q) })
 
   pub percent_still : {k : ℕ} → code t k ≡ 37 → Stuck (Row t k)
   percent_still e = byte_still e (omega arith) (omega arith) (λ q. absurd (omega arith))

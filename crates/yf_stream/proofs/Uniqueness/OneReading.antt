@@ -1,5 +1,6 @@
 -- A text has at most one reading: what `ReadingOf` adds to the one derivation of a text is determined by it.
 use Rattle.std.proofs.Common.{◌≡◌, ℕ, Bool, List, [], ◌∷◌, ◌++◌, map, flat_map, length, Option, Some, None, ◌⊎◌, ⊎_elim, refl, sym, ap, ◌∙◌, subst}
+use Rattle.std.proofs.lemmas.Option.{same_Some}
 use Rattle.yf_chars.specs.Text.{code}
 use Rattle.yf_chars.specs.Chain.{Chain}
 use Rattle.yf_chars.specs.Chain.Chain.{done, step}
@@ -32,7 +33,6 @@ use Rattle.yf_stream.specs.Stream.PrefixPart.{order_mark, prefix_comment}
 use Rattle.yf_stream.proofs.Uniqueness.OneDirective.{dot_still}
 use Rattle.yf_stream.proofs.Uniqueness.StreamPath.{mark_still}
 use Rattle.yf_chars.proofs.Tests.{none_some}
-use Rattle.yf_grammar.proofs.Prefixes.PrefixWhole.{some_is}
 
 -- resolved tags
 suffix_one : {s x y : List ℕ} → SuffixText s x → SuffixText s y → x ≡ y
@@ -48,7 +48,7 @@ the_value d (Some x) = x
 tag_text_one : {ds : List Declaration} {tag : TagValue} {x y : List ℕ} → TagText ds tag x → TagText ds tag y → x ≡ y
 tag_text_one verbatim_text verbatim_text = refl
 tag_text_one (shorthand_text {prefix = p} {x = x} e a) (shorthand_text {prefix = q} {x = y} f b) =
-    let same = some_is p q (sym e ∙ f) in
+    let same = same_Some p q (sym e ∙ f) in
     ap (λ w. w ++ x) same ∙ ap (λ w. q ++ w) (suffix_one a b)
 tag_text_one non_specific_text non_specific_text = refl
 
@@ -58,7 +58,7 @@ tags_one (untagged e r) (untagged f s) = ap (λ w. None ∷ w) (tags_one r s)
 tags_one (untagged e r) (tagged f a s) = absurd (none_some (sym e ∙ f))
 tags_one (tagged e a r) (untagged f s) = absurd (none_some (sym f ∙ e))
 tags_one {ds} (tagged {tags = tags} {tag = v} {text = text} e a r) (tagged {tag = w} {text = other} f b s) =
-    let same = some_is w v (sym f ∙ e) in
+    let same = same_Some w v (sym f ∙ e) in
     ap (λ z. Some z ∷ tags) (tag_text_one a (subst (λ z. TagText ds z other) same b)) ∙ ap (λ z. Some other ∷ z) (tags_one r s)
 
 record Later (t : List ℕ) (k q : ℕ) : Type 0 where

@@ -29,7 +29,7 @@ use Rattle.yf_stream.specs.Stream.ContentAt.{content_at}
 use Rattle.yf_stream.proofs.Uniqueness.OneDirective.{directives_one}
 use Rattle.yf_stream.proofs.Uniqueness.Stable.{stable_nat, stable_meaning}
 use Rattle.yf_stream.proofs.Uniqueness.StreamPath.{Settled, NodeTo, ExplicitTo, node_to, nothing_to, Path, path_ends, path_mark, path_suffix, path_explicit, path_directives, path_bare, settled_one, stream_from}
-use Rattle.yf_block_scalar.proofs.BodyLemmas.{end_code}
+use Rattle.yf_comments.proofs.RowLemmas.{end_code}
 use Rattle.yf_grammar.proofs.BlockReader.BlockSound.{alone_nothing}
 use Rattle.yf_grammar.proofs.WrittenTexts.LeafBack.{noting_nothing}
 
@@ -186,28 +186,28 @@ module _ {t : List ℕ} (u : IsUtf8 t) {e : ℕ} where
       ap (λ z. with_document x.comments (document_of z false [] x) rest) a
       ∙ ap (λ z. with_document z.comments (document_of l false [] z) rest) b.meaning
       ∙ ap (with_document y.comments (document_of l false [] y)) (path_one p (subst (λ z. Path t false j z other) (sym b.ends) q) (omega arith) (omega arith))
-  path_one {k = k} (path_ends f) (path_mark g s1 p1) v w = let c = end_code t k f in absurd (omega arith)
-  path_one {k = k} (path_ends f) (path_suffix m1 g s1 p1 ln) v w = let c = end_code t k f in absurd (omega arith)
-  path_one {k = k} (path_ends f) (path_explicit m1 g n1 p1) v w = let c = end_code t k f in absurd (omega arith)
-  path_one {k = k} (path_ends f) (path_directives z1 g d1 n1 p1 m0) v w = let c = end_code t k f in absurd (omega arith)
-  path_one {k = k} (path_mark f s p) (path_ends g) v w = let c = end_code t k g in absurd (omega arith)
+  path_one {k = k} (path_ends f) (path_mark g s1 p1) v w = let c = end_code t f in absurd (omega arith)
+  path_one {k = k} (path_ends f) (path_suffix m1 g s1 p1 ln) v w = let c = end_code t f in absurd (omega arith)
+  path_one {k = k} (path_ends f) (path_explicit m1 g n1 p1) v w = let c = end_code t f in absurd (omega arith)
+  path_one {k = k} (path_ends f) (path_directives z1 g d1 n1 p1 m0) v w = let c = end_code t f in absurd (omega arith)
+  path_one {k = k} (path_mark f s p) (path_ends g) v w = let c = end_code t g in absurd (omega arith)
   path_one {k = k} (path_mark f s p) (path_suffix m1 g s1 p1 ln) v w = absurd (omega arith)
   path_one {k = k} (path_mark f s p) (path_explicit m1 g n1 p1) v w = absurd (omega arith)
   path_one {k = k} (path_mark f s p) (path_directives z1 g d1 n1 p1 m0) v w = absurd (omega arith)
-  path_one {k = k} (path_suffix m f s p ln) (path_ends g) v w = let c = end_code t k g in absurd (omega arith)
+  path_one {k = k} (path_suffix m f s p ln) (path_ends g) v w = let c = end_code t g in absurd (omega arith)
   path_one {k = k} (path_suffix m f s p ln) (path_mark g s1 p1) v w = absurd (omega arith)
   path_one {k = k} (path_suffix m f s p ln) (path_explicit m1 g n1 p1) v w = absurd (omega arith)
   path_one {k = k} (path_suffix m f s p ln) (path_directives z1 g d1 n1 p1 m0) v w = absurd (omega arith)
-  path_one {k = k} (path_explicit m f n p) (path_ends g) v w = let c = end_code t k g in absurd (omega arith)
+  path_one {k = k} (path_explicit m f n p) (path_ends g) v w = let c = end_code t g in absurd (omega arith)
   path_one {k = k} (path_explicit m f n p) (path_mark g s1 p1) v w = absurd (omega arith)
   path_one {k = k} (path_explicit m f n p) (path_suffix m1 g s1 p1 ln) v w = absurd (omega arith)
   path_one {k = k} (path_explicit m f n p) (path_directives z1 g d1 n1 p1 m0) v w = absurd (omega arith)
-  path_one {k = k} (path_directives z f d n p m0) (path_ends g) v w = let c = end_code t k g in absurd (omega arith)
+  path_one {k = k} (path_directives z f d n p m0) (path_ends g) v w = let c = end_code t g in absurd (omega arith)
   path_one {k = k} (path_directives z f d n p m0) (path_mark g s1 p1) v w = absurd (omega arith)
   path_one {k = k} (path_directives z f d n p m0) (path_suffix m1 g s1 p1 ln) v w = absurd (omega arith)
   path_one {k = k} (path_directives z f d n p m0) (path_explicit m1 g n1 p1) v w = absurd (omega arith)
-  path_one {k = k} (path_ends f) (path_bare z2 m2 c2 d2 n2 p2) v w = absurd (no_content no_char (end_code t k f) end_facts.0 end_facts.1 d2)
-  path_one {k = k} (path_bare z2 m2 c2 d2 n2 p2) (path_ends f) v w = absurd (no_content no_char (end_code t k f) end_facts.0 end_facts.1 d2)
+  path_one {k = k} (path_ends f) (path_bare z2 m2 c2 d2 n2 p2) v w = absurd (no_content no_char (end_code t f) end_facts.0 end_facts.1 d2)
+  path_one {k = k} (path_bare z2 m2 c2 d2 n2 p2) (path_ends f) v w = absurd (no_content no_char (end_code t f) end_facts.0 end_facts.1 d2)
   path_one {k = k} (path_mark f s p) (path_bare z2 m2 c2 d2 n2 p2) v w = absurd (no_content 0xFEFF f mark_facts.0 mark_facts.1 d2)
   path_one {k = k} (path_bare z2 m2 c2 d2 n2 p2) (path_mark f s p) v w = absurd (no_content 0xFEFF f mark_facts.0 mark_facts.1 d2)
   path_one {k = k} (path_suffix m f s p ln) (path_bare z2 m2 c2 d2 n2 p2) v w = absurd (m2 m)

@@ -1,6 +1,7 @@
 -- What cannot be refuted holds, where it says that two numbers are one, two lists, two events, two meanings.
 use Rattle.std.proofs.Common.{◌≡◌, ℕ, suc, zero, Bool, true, false, List, [], ◌∷◌, Option, Some, None, refl, sym, ap, ◌∙◌, ⊎_elim}
 use Rattle.std.proofs.lemmas.Bool.{cases_eq}
+use Rattle.yf_chars.proofs.Tests.{no_cons}
 use Rattle.yf_comments.specs.Comment.{CommentValue}
 use Rattle.yf_props.specs.Props.{PropsValue, TagValue, no_props}
 use Rattle.yf_props.specs.Props.TagValue.{IsVerbatim, IsShort, IsNonSpecific}
@@ -11,7 +12,6 @@ use Rattle.yf_events.specs.declared.event.ScalarStyle.TheVariants.{Plain, Single
 use Rattle.yf_events.specs.declared.event.Span.{Span}
 use Rattle.yf_grammar.specs.Productions.Meaning.{Meaning}
 use Rattle.yf_grammar.proofs.Ends.Irrefutable.{Irrefutable}
-use Rattle.yf_flow.proofs.Stack.TiedClose.{no_cons}
 
 pub record Stable (A : Type 0) : Type 0 where
   pub same : (x y : A) → Irrefutable (x ≡ y) → x ≡ y

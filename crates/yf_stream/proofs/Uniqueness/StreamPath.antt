@@ -10,7 +10,6 @@ use Rattle.yf_chars.specs.Chain.{Chain, Many, Stuck}
 use Rattle.yf_chars.specs.Chain.One.{one}
 use Rattle.yf_chars.specs.Chain.Chain.{done, step}
 use Rattle.yf_chars.proofs.ChainLemmas.{chain_append, chain_one, stuck_unique}
-use Rattle.yf_chars.proofs.TextLemmas.{code-past}
 use Rattle.yf_lines.specs.Basic.{ForbiddenLine, LineStart, SeparateInLine, is_three}
 use Rattle.yf_lines.specs.Basic.LineStart.{at_text, after_mark}
 use Rattle.yf_lines.specs.Basic.SeparateInLine.{by_whites, at_start}
@@ -43,10 +42,10 @@ use Rattle.yf_stream.specs.Stream.StreamRest.{past_explicit, past_prefix, past_s
 use Rattle.yf_stream.specs.Stream.Suffixes.{last_suffix, more_suffixes}
 use Rattle.yf_stream.proofs.Uniqueness.NoPercent.{no_percent_node}
 use Rattle.yf_stream.proofs.Uniqueness.OneDirective.{DirectivesTo, lines_begin, lines_to, percent_still, dash_still, dot_still}
-use Rattle.yf_block.proofs.LineSteps.LeafEnds.{noting_comments}
-use Rattle.yf_block_scalar.proofs.BodyLemmas.{end_code}
+use Rattle.yf_comments.proofs.RowLemmas.{end_code}
 use Rattle.yf_chars.proofs.CharFacts.{mark_no_white}
 use Rattle.yf_grammar.proofs.FlowReader.CompleteSteps.{noting_twice}
+use Rattle.yf_grammar.proofs.NodesInText.MeantLemmas.{noting_comments}
 use Rattle.yf_lines.proofs.MarkLemmas.{three_code}
 
 -- comment lines, as many as there are
@@ -133,7 +132,7 @@ module _ {t : List ℕ} where
 
   mark_no_end : {k j : ℕ} → code t k ≡ 0xFEFF → BreakOrEnd t k j → ⊥
   mark_no_end {k} e (by_break b) = ⊎_elim (λ (f : code t k ≡ 13). absurd (omega arith)) (λ (f : code t k ≡ 10). absurd (omega arith)) (break_char b)
-  mark_no_end {k = k} e (by_end f) = let g = end_code t k f in absurd (omega arith)
+  mark_no_end {k = k} e (by_end f) = let g = end_code t f in absurd (omega arith)
 
   pub mark_still : {k : ℕ} → code t k ≡ 0xFEFF → Stuck (Row t k)
   mark_still {k} e = row_stuck (stuck_at_solid (done {i = k}) (ap is_white e ∙ mark_no_white) (λ q. absurd (omega arith)) (record { none = λ j f. mark_no_end e f }))
@@ -142,7 +141,7 @@ module _ {t : List ℕ} where
   content_still (content_at s n h) = let v = visible_solid (record { ns = n; no_hash = h }) in row_stuck (stuck_at_solid (separate_whites s).1 v.not_white v.no_comment v.no_end)
 
   line_of : {k : ℕ} → LineOrEnd t k → code t k < no_char → LineStart t k
-  line_of {k} l n = ⊎_elim (λ (s : LineStart t k). s) (λ (e : k ≡ length t). let f = end_code t k e in absurd (omega arith)) l
+  line_of {k} l n = ⊎_elim (λ (s : LineStart t k). s) (λ (e : k ≡ length t). let f = end_code t e in absurd (omega arith)) l
 
   line_end_white : {q j : ℕ} {x : List CommentValue} → (LineStart t q → ⊥) → LineEnd t q j x → is_white_or_end (code t q) ≡ true
   line_end_white n (past_rest r c) = rest_stop n r

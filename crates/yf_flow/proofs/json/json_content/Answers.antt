@@ -6,7 +6,7 @@ use Rattle.yf_flow.proofs.json.json_content.Goals as goal
 pub returns-in-Some : goal.returns-in-Some
 returns-in-Some c =
     let d = c.in_ok-text.ensures in
-    let fits : SFits w32 c.args.spot.now.scene.indentation = search rules in
+    let fits : SFits w32 c.args.cursor.now.scene.indentation = search rules in
     let r = rw (to_z-of_z fits, c.in-Some.is) at d.reads in
     let o = rw c.in-Some.is at d.order in
     IfOk-weaker _ _ _
@@ -15,7 +15,7 @@ returns-in-Some c =
     (single_leaf _ r.0 c.if-is_char_at.ensures.cases.char r.1 r.2 p.events p.comments p.escapes)) c.push_leaf.ensures
 
 pub returns-in-None : goal.returns-in-None
-returns-in-None c = let fits : SFits w32 c.args.spot.now.scene.indentation = search rules in record {
+returns-in-None c = let fits : SFits w32 c.args.cursor.now.scene.indentation = search rules in record {
   exact = single_none c.if-is_char_at.ensures.cases.char (rw (to_z-of_z fits, c.in-None.is) at c.in_ok-text.ensures.reads);
   begun = tt;
   grows = omega arith;

@@ -3,9 +3,9 @@ use Rattle.yf_flow.proofs.Content.BegunLemmas.{start_event}
 use Rattle.yf_flow.proofs.Ends.Frames.{pushed_longer}
 use Rattle.yf_flow.proofs.json.open.Goals as goal
 
-pub returns-then-spot : goal.returns-then-spot
-returns-then-spot c = record {
-  exact = (refl, record { kind = c.args.kind; bracket = c.requires.bracket; full = omega (arith, c.if-spot.true) });
+pub returns-then-cursor : goal.returns-then-cursor
+returns-then-cursor c = record {
+  exact = (refl, record { kind = c.args.kind; bracket = c.requires.bracket; full = omega (arith, c.if-cursor.true) });
   begun = c.requires.awaited.boundary;
   grows = omega arith;
   escapes = c.requires.awaited.escapes;
@@ -21,7 +21,7 @@ returns c =
         event = c.len-event.ensures;
         deep = refl;
         deepest = refl;
-        room = omega (arith, c.if-spot.false);
+        room = omega (arith, c.if-cursor.false);
         added = record {
           events = start_event c.args.lead.now c.args.kind _ _ _ _ _ c.in_ok-push.ensures c.placed.ensures c.collection_start-start.ensures;
           comments = sym (append-nil _);

@@ -20,10 +20,10 @@ returns-in-Some c =
 
 pub returns-in-None-2 : goal.returns-in-None-2
 returns-in-None-2 c =
-    let spot = c.args.spot in
+    let cursor = c.args.cursor in
     let old = c.args.part.now in
-    begins_after _ _ spot spot.at old old _ c.begin_content.result c.begin_content.ensures (omega arith) refl
-    (bare_begun spot.depth spot.scene.limit c.args.entry old _ _ c.bare.ensures c.in-None.ensures.reads (rw c.in-None-2.is at c.in_ok-properties.ensures.reads))
+    begins_after _ _ cursor cursor.at old old _ c.begin_content.result c.begin_content.ensures (omega arith) refl
+    (bare_begun cursor.depth cursor.scene.limit c.args.entry old _ _ c.bare.ensures c.in-None.ensures.reads (rw c.in-None-2.is at c.in_ok-properties.ensures.reads))
 
 pub propertied_node-requires-clause-properties : goal.propertied_node-requires-clause-properties
 propertied_node-requires-clause-properties c = record { place = rw c.in-Some-2.is at c.in_ok-properties.ensures.place; chosen = rw c.in-Some-2.is at c.in_ok-properties.ensures.reads }

@@ -6,7 +6,7 @@ pub returns-in-Opened-clause-ends : goal.returns-in-Opened-clause-ends
 returns-in-Opened-clause-ends c = λ base q. let p = rw c.in-Opened.is at q in rw c.in-Opened.is (c.read_entries.ensures.tied base p.0 p.1)
 
 pub returns-in-Opened-clause-counted : goal.returns-in-Opened-clause-counted
-returns-in-Opened-clause-counted c = λ u total b. c.read_entries.ensures.counted total (record { utf8 = u; innermost = rw c.in-Opened.is at b; others = All-nil (DepthCounted c.args.spot.scene.text.now total c.in-Opened.frame.entry) })
+returns-in-Opened-clause-counted c = λ u total b. c.read_entries.ensures.counted total (record { utf8 = u; innermost = rw c.in-Opened.is at b; others = All-nil (DepthCounted c.args.cursor.scene.text.now total c.in-Opened.frame.entry) })
 
 pub returns-in-Leaf-clause-counted : goal.returns-in-Leaf-clause-counted
 returns-in-Leaf-clause-counted c = λ u total b. rw c.in-Leaf.is at b

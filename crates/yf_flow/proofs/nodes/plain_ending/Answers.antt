@@ -3,10 +3,10 @@ use Rattle.yf_flow.specs.NodeStarts.{plain_missing}
 use Rattle.yf_flow.proofs.Content.BegunLemmas.{plain_leaf}
 use Rattle.yf_flow.proofs.nodes.plain_ending.Goals as goal
 
-pub returns-in_ok-push_scalar_with-in-Some : goal.returns-in_ok-push_scalar_with-in-Some
-returns-in_ok-push_scalar_with-in-Some c =
+pub returns-in_ok-push_scalar-in-Some : goal.returns-in_ok-push_scalar-in-Some
+returns-in_ok-push_scalar-in-Some c =
     let r = rw c.in-Some.is at c.in_ok-text.ensures.reads in
-    let p = c.in_ok-push_scalar_with-in-Some.ensures in
+    let p = c.in_ok-push_scalar-in-Some.ensures in
     record {
       exact = plain_leaf _ r.0 c.requires.other r.1 r.2 p.pushed p.comments p.escapes;
       begun = (rw c.in-Some.is at c.in_ok-text.ensures.place, omega (arith, p.found));

@@ -1,7 +1,8 @@
 use Rattle.std.proofs.Common.{◌≡◌, sym, ◌∙◌, pos, ◌<ℤ◌}
 use Rattle.std.proofs.Common.{to_z-of_z}
 use Rattle.yf_lines.proofs.ClearLemmas.{spelled_slice}
-use Rattle.yf_plain.proofs.LineLemmas.{no_plain, key_chosen, front_spelled, not_others, one_line_chosen, no_next_negative}
+use Rattle.yf_lines.proofs.ContextFacts.{not_others}
+use Rattle.yf_plain.proofs.LineLemmas.{no_plain, key_chosen, front_spelled, one_line_chosen, no_next_negative}
 use Rattle.yf_plain.proofs.PlainOrder.{plain_forward}
 use Rattle.yf_plain.proofs.plain.read_plain_in.Goals as goal
 

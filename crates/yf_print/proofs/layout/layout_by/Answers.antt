@@ -1,6 +1,7 @@
 use Rattle.std.proofs.Common.{◌∙◌, ap}
 use Rattle.std.proofs.lemmas.Result.{IfOk-weaker}
-use Rattle.yf_print.specs.Passes.PrintPass.{printed, work_of}
+use Rattle.yf_print.specs.Passes.PrintPass.{printed}
+use Rattle.yf_print.specs.Passes.PrintWork.{work_of}
 use Rattle.yf_print.proofs.layout.layout_by.Goals as goal
 
 pub returns-clause-printed : goal.returns-clause-printed

@@ -3,7 +3,8 @@ use Rattle.std.specs.Prelude.{IfOk}
 use Rattle.std.specs.String.{string_bytes}
 use Rattle.yf_print.specs.Passes.Drafts.{finished}
 use Rattle.yf_print.specs.Passes.PrinterState.{state_of}
-use Rattle.yf_print.specs.Passes.PrintPass.{PrintState, remarks_of}
+use Rattle.yf_print.specs.Passes.PrintPass.{PrintState}
+use Rattle.yf_print.specs.Passes.PrintWork.{remarks_of}
 use Rattle.yf_print.specs.Passes.Pages.{no_event, placed_at, work_on}
 use Rattle.yf_print.proofs.Pass.LookLemmas.{is_there}
 use Rattle.yf_print.proofs.Pass.PrintLemmas.{passed_on, passed_end}

@@ -1,6 +1,6 @@
 use Rattle.std.proofs.Common.{◌≡◌, sym, pos, ◌<ℤ◌, to_z-of_z}
+use Rattle.yf_lines.proofs.ContextFacts.{not_others}
 use Rattle.yf_quoted.specs.Body.WidthOf.{of_key, of_lines, of_negative}
-use Rattle.yf_quoted.proofs.ScalarLemmas.{not_others}
 use Rattle.yf_quoted.proofs.gap.lines_width.Goals as goal
 
 pub returns-then-is_key : goal.returns-then-is_key

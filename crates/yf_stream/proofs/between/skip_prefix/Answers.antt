@@ -33,7 +33,7 @@ returns-then-end-at c =
     let line = rw c.in-Some.is at c.in_ok-comments.ensures.reads in
     record {
       reads = prefix_settled c.lines.invariant.read c.if-is_mark_at.ensures line c.in_ok-keep_comments-in-Some.ensures.kept c.if-end-at.true;
-      spot = refl;
+      cursor = refl;
       place = c.lines.invariant.place;
       events = c.in_ok-keep_comments-in-Some.ensures.events ∙ c.lines.invariant.events;
       escapes = c.in_ok-keep_comments-in-Some.ensures.escapes ∙ c.lines.invariant.escapes;
@@ -57,7 +57,7 @@ returns-in-None c =
     let line = rw c.in-None.is at c.in_ok-comments.ensures.reads in
     record {
       reads = record { upto = c.lines.invariant.read; no_mark = c.if-is_mark_at.ensures; no_row = no_row line };
-      spot = refl;
+      cursor = refl;
       place = c.lines.invariant.place;
       events = c.lines.invariant.events;
       escapes = c.lines.invariant.escapes;

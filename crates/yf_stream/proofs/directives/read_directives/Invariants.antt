@@ -1,6 +1,6 @@
 use Rattle.std.proofs.Common.{◌-◌, length}
+use Rattle.yf_chars.specs.Boundary.{BoundaryFrom}
 use Rattle.yf_stream.specs.DirectiveReaders.{DirectivesUpto}
-use Rattle.yf_stream.specs.ReaderSteps.{BoundaryFrom}
 use Rattle.yf_stream.proofs.directives.read_directives.Given as goal
 
 abbrev pub invariant-directives : goal.invariant-directives

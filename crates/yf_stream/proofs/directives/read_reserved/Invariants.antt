@@ -1,8 +1,8 @@
 use Rattle.std.proofs.Common.{◌≡◌, ◌++◌, ℕ, List, ◌-◌, length}
 use Rattle.yf_chars.specs.Chain.{Chain}
+use Rattle.yf_chars.specs.Boundary.{BoundaryFrom}
 use Rattle.yf_lines.specs.Basic.{LineStart}
 use Rattle.yf_stream.specs.Stream.{ReservedParameter}
-use Rattle.yf_stream.specs.ReaderSteps.{BoundaryFrom}
 use Rattle.yf_stream.proofs.directives.read_reserved.Given as goal
 
 abbrev pub invariant-words : goal.invariant-words

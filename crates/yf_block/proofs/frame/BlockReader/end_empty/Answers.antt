@@ -20,7 +20,7 @@ pub returns-in_ok-push_scalar-in-Some : goal.returns-in_ok-push_scalar-in-Some
 returns-in_ok-push_scalar-in-Some c = record {
   tied = λ d root before j r e.
       let p = c.in_ok-push_scalar-in-Some.ensures in
-      held_resumes e c.in-Some.is refl (p.pushed ∙ ap (λ (z : Lead). c.args.self.now.part.events ++ leaf_event z Plain [] c.in-Some.properties.end ∷ []) c.lead.ensures) p.comments p.escapes;
+      held_resumes e c.in-Some.is refl (p.pushed ∙ ap (λ (z : Lead). c.args.self.now.part.events ++ leaf_event z Plain [] c.in-Some.properties.end ∷ []) c.lead-lead.ensures) p.comments p.escapes;
   stepped = resume_moved (record { floor = c.requires.progress.floor; from = c.requires.progress.from; halt = c.requires.progress.halt }) (All-same (IsCharBoundary c.args.scope.text.now) _ _ c.in_ok-push_scalar-in-Some.ensures.escapes c.requires.escapes) (omega arith) (record { boundary = c.requires.boundary; order = omega arith });
   counted = λ u total q. q;
 }

@@ -4,8 +4,9 @@ use Rattle.std.proofs.lemmas.Bool.Decides.{nat_tests}
 use Rattle.std.proofs.lemmas.List.{get_or_default}
 use Rattle.std.specs.List.{AllWithin}
 use Rattle.std.specs.List.Sorted.{IsNonDecreasingBy}
+use Rattle.yf_chars.proofs.Tests.{is_less}
 use Rattle.yf_comments.specs.declared.comment.Comment.{Comment}
-use Rattle.yf_forms.proofs.Decide.HalvingEnds.{halved_after_all, halved_found, halved_past, not_smaller, smaller}
+use Rattle.yf_forms.proofs.Decide.HalvingEnds.{halved_after_all, halved_found, halved_past, not_smaller}
 use Rattle.yf_forms.proofs.form.comments_before.first_near.Goals as goal
 
 is_outside : (from to offset : ℕ) → nat_lt offset from ≡ true → (nat_le from offset && nat_lt offset to) ≡ false
@@ -18,7 +19,7 @@ none_within : (xs : List Comment) (k from to : ℕ) (e : Comment) → IsNonDecre
     → AllWithin (λ c. nat_lt c.offset from ≡ true) xs 0 k → (j : ℕ) (d : Comment) → j < length xs
     → (nat_le from (get_or xs j d).offset && nat_lt (get_or xs j d).offset to) ≡ false
 none_within xs k from to e s within l before j d b =
-    ⊎_elim (λ (f : nat_lt j k ≡ true). is_outside from to (get_or xs j d).offset (before j d (omega arith) (smaller j k f)))
+    ⊎_elim (λ (f : nat_lt j k ≡ true). is_outside from to (get_or xs j d).offset (before j d (omega arith) (is_less j k f)))
     (λ (f : nat_lt j k ≡ false).
     let rising : (get_or xs k d).offset ≤ (get_or xs j d).offset = s k j d (not_smaller j k f) b in
     let same : (get_or xs k d).offset ≡ (get_or xs k e).offset = ap (λ (c : Comment). c.offset) (get_or_default xs k d e within) in

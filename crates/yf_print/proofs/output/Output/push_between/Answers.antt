@@ -2,7 +2,7 @@ use Rattle.std.proofs.Common.{arith, map}
 use Rattle.yf_comments.specs.Comment.{comment_value}
 use Rattle.yf_print.specs.Passes.Drafts.{draft, line_column}
 use Rattle.yf_print.specs.Passes.Pages.{work_on}
-use Rattle.yf_print.specs.Passes.PrintPass.{remarks_of}
+use Rattle.yf_print.specs.Passes.PrintWork.{remarks_of}
 use Rattle.yf_print.proofs.Pass.DraftLemmas.{column_stays, own_on, own_end}
 use Rattle.yf_print.proofs.output.Output.push_between.Goals as goal
 

@@ -2,7 +2,7 @@ use Rattle.std.proofs.Common.{◌≡◌, map}
 use Rattle.yf_comments.specs.Comment.{CommentValue, comment_value}
 use Rattle.yf_print.specs.Passes.Drafts.{between, draft, line_column, own_lines}
 use Rattle.yf_print.specs.Passes.Pages.{work_on}
-use Rattle.yf_print.specs.Passes.PrintPass.{remarks_of}
+use Rattle.yf_print.specs.Passes.PrintWork.{remarks_of}
 use Rattle.yf_print.proofs.output.Output.push_between.Given as goal
 
 abbrev pub invariant-loop-k : goal.invariant-loop-k

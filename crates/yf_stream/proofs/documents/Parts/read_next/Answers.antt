@@ -16,7 +16,7 @@ returns-in-Some-DocumentEnd-clause-parts c = c.read_suffix.ensures.parts
 
 pub returns-in-Some-DocumentEnd-clause-reads : goal.returns-in-Some-DocumentEnd-clause-reads
 returns-in-Some-DocumentEnd-clause-reads c = λ l.
-    let m = subst (λ z. IsMarker c.args.source.text.now c.args.spot.at (Some z)) c.in-Some-DocumentEnd.field-0-is (subst (IsMarker c.args.source.text.now c.args.spot.at) c.in-Some-DocumentEnd.is c.marker_at.ensures.marker) in
+    let m = subst (λ z. IsMarker c.args.source.text.now c.args.cursor.at (Some z)) c.in-Some-DocumentEnd.field-0-is (subst (IsMarker c.args.source.text.now c.args.cursor.at) c.in-Some-DocumentEnd.is c.marker_at.ensures.marker) in
     IfOk-weaker _ _ _ (λ next s. at_dots m.0 m.1 s) c.read_suffix.ensures.reads
 
 pub returns-in-Some-DocumentStart-clause-next : goal.returns-in-Some-DocumentStart-clause-next
@@ -27,18 +27,18 @@ returns-in-Some-DocumentStart-clause-parts c = c.explicit_document.ensures.parts
 
 pub returns-in-Some-DocumentStart-clause-reads : goal.returns-in-Some-DocumentStart-clause-reads
 returns-in-Some-DocumentStart-clause-reads c = λ l.
-    let m = subst (λ z. IsMarker c.args.source.text.now c.args.spot.at (Some z)) c.in-Some-DocumentStart.field-0-is (subst (IsMarker c.args.source.text.now c.args.spot.at) c.in-Some-DocumentStart.is c.marker_at.ensures.marker) in
+    let m = subst (λ z. IsMarker c.args.source.text.now c.args.cursor.at (Some z)) c.in-Some-DocumentStart.field-0-is (subst (IsMarker c.args.source.text.now c.args.cursor.at) c.in-Some-DocumentStart.is c.marker_at.ensures.marker) in
     let t = c.args.source.text.now in
-    let i = c.args.spot.at in
+    let i = c.args.cursor.at in
     let b = c.explicit_document.new.self in
     IfOk-weaker _ _ _
-    (λ next r. at_dashes m.0 m.1 (subst (λ z. MarkedRead t i z (closed false (not c.args.spot.may_be_bare) c.args.self.now) b next) c.new.ensures (subst (λ z. MarkedRead t i c.new.result z b next) c.in_ok-close-in-Some-DocumentStart.ensures.parts r)))
+    (λ next r. at_dashes m.0 m.1 (subst (λ z. MarkedRead t i z (closed false (not c.args.cursor.may_be_bare) c.args.self.now) b next) c.new.ensures (subst (λ z. MarkedRead t i c.new.result z b next) c.in_ok-close-in-Some-DocumentStart.ensures.parts r)))
     (c.explicit_document.ensures.reads l)
 
-pub returns-then-not-spot-clause-reads : goal.returns-then-not-spot-clause-reads
-returns-then-not-spot-clause-reads c = λ l.
-    let m = subst (IsMarker c.args.source.text.now c.args.spot.at) c.in-None.is c.marker_at.ensures.marker in
-    not_bare m (turned_false c.args.spot.may_be_bare c.if-not-spot.true)
+pub returns-then-not-cursor-clause-reads : goal.returns-then-not-cursor-clause-reads
+returns-then-not-cursor-clause-reads c = λ l.
+    let m = subst (IsMarker c.args.source.text.now c.args.cursor.at) c.in-None.is c.marker_at.ensures.marker in
+    not_bare m (turned_false c.args.cursor.may_be_bare c.if-not-cursor.true)
 
 pub root_node-requires-clause-parts : goal.root_node-requires-clause-parts
 root_node-requires-clause-parts c =
@@ -56,8 +56,8 @@ returns-clause-parts c = c.root_node.ensures.parts
 
 pub returns-clause-reads : goal.returns-clause-reads
 returns-clause-reads c = λ l.
-    let m = subst (IsMarker c.args.source.text.now c.args.spot.at) c.in-None.is c.marker_at.ensures.marker in
-    let bare = turned_true c.args.spot.may_be_bare c.if-not-spot.false in
+    let m = subst (IsMarker c.args.source.text.now c.args.cursor.at) c.in-None.is c.marker_at.ensures.marker in
+    let bare = turned_true c.args.cursor.may_be_bare c.if-not-cursor.false in
     let added = c.in_ok-open.ensures.parts ∙ ap (λ z. opened c.skip_whites-start.result false z c.args.self.now) c.new-2.ensures in
     IfOk-weaker _ _ _
     (λ next r. without_dashes m bare c.if-is_char_at.ensures.cases (bare_of c.args.source.text.now c.skip_whites-start.ensures.whites.1 c.skip_whites-start.ensures.all added r))

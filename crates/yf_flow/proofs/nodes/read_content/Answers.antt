@@ -3,7 +3,7 @@ use Rattle.std.proofs.lemmas.Result.{IfOk-weaker}
 use Rattle.yf_flow.proofs.Content.ContentEnds.{content_counted, content_ends, for_each_base}
 use Rattle.yf_flow.specs.LeafEnds.{begun_of}
 use Rattle.yf_flow.proofs.Content.EndsAlone.{alone_counted, alone_ends}
-use Rattle.yf_flow.proofs.nodes.read_content_with.Goals as goal
+use Rattle.yf_flow.proofs.nodes.read_content.Goals as goal
 
 pub returns-then-content_begins-clause-answers : goal.returns-then-content_begins-clause-answers
 returns-then-content_begins-clause-answers c = λ u b room r.

@@ -7,10 +7,10 @@ use Rattle.yf_print.specs.declared.printer.PrintFrame.{PrintFrame}
 use Rattle.yf_print.specs.Passes.PrintPass.{awaited_after, frames_after}
 use Rattle.yf_forms.proofs.Measure.LevelLemmas.{top}
 
-pub spotted_on_top : {R E : Type 0} (r : Result R E) (f : Form) (entry : Option Entry) (xs : List PrintFrame) (n : ℕ) (o w : PrintFrame)
+pub awaited_on_top : {R E : Type 0} (r : Result R E) (f : Form) (entry : Option Entry) (xs : List PrintFrame) (n : ℕ) (o w : PrintFrame)
     → n ≡ length xs → 0 < n → o ≡ get_or xs (n - 1) o
     → OnOk r (w ≡ record { column = o.column; awaited = awaited_after f entry o.awaited; is_inline = false })
     → OnOk r (reverse (set xs (n - 1) w) ≡ frames_after f entry (reverse xs))
-spotted_on_top (Ok x) f entry xs n o w l q b h =
+awaited_on_top (Ok x) f entry xs n o w l q b h =
     let t = top xs n o l q b in t.changed w ∙ ap (λ v. v ∷ t.others) h ∙ ap (frames_after f entry) (sym t.is)
-spotted_on_top (Err x) f entry xs n o w l q b h = tt
+awaited_on_top (Err x) f entry xs n o w l q b h = tt

@@ -1,6 +1,6 @@
 use Rattle.std.proofs.Common.{◌-◌, ◌≤◌}
 use Rattle.std.specs.Str.{IsCharBoundary}
-use Rattle.yf_explain.proofs.spot.column_offset.Given as goal
+use Rattle.yf_explain.proofs.position.column_offset.Given as goal
 
 abbrev pub invariant-loop-at : goal.invariant-loop-at
 invariant-loop-at l = record { from : l.span.from ≤ l.at; to : l.at ≤ l.span.to; boundary : IsCharBoundary l.text l.at }

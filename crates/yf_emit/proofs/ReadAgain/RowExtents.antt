@@ -54,7 +54,7 @@ pub record ClearEnd (t : List ℕ) (p : PlacedRow) (own : List CommentValue) (pl
   pub over : Over edge own
   pub later : (e : ℕ) → code t e ≡ 35 → place ≤ e → edge ≤ e
 
-pub record Spot (t : List ℕ) (d : Deco) (p : PlacedRow) (own : List CommentValue) (place : ℕ) : Type 0 where
+pub record RowExtent (t : List ℕ) (d : Deco) (p : PlacedRow) (own : List CommentValue) (place : ℕ) : Type 0 where
   pub items : Inside p.from p.upto p.items
   pub starts : Inside p.from p.upto (starts_of p.leaves)
   pub clear : d.trails ≡ [] → ClearEnd t p own place
@@ -145,8 +145,8 @@ module _ {t : List ℕ} (u : IsUtf8 t) {x : Row} {p : PlacedRow} {i : ℕ} {own 
   starts_at : Inside p.from p.upto (starts_of p.leaves)
   starts_at = subst (λ z. Inside z p.upto (starts_of p.leaves)) (sym at.from) at.leaves
 
-  line_spot : x.body ≡ [] → LineEnd t p.upto place own → LeavesTo p.upto p.leaves → Spot t d p own place
-  line_spot none end leaves = record { items = items_at; starts = starts_at; clear = clear_end; trailed = λ o os f some ls s g. trailed_by o os f some ls s g d.trails refl fit.trails } where
+  line_extent : x.body ≡ [] → LineEnd t p.upto place own → LeavesTo p.upto p.leaves → RowExtent t d p own place
+  line_extent none end leaves = record { items = items_at; starts = starts_at; clear = clear_end; trailed = λ o os f some ls s g. trailed_by o os f some ls s g d.trails refl fit.trails } where
     z : List ℕ
     z = gap_then d.gap r
 
@@ -198,9 +198,9 @@ module _ {t : List ℕ} (u : IsUtf8 t) {x : Row} {p : PlacedRow} {i : ℕ} {own 
   noted_over b [] a = each_none
   noted_over {k} b (c ∷ cs) (one_more l s a) = each_more l (upward_over k (omega (arith, l)) (upward_of a))
 
-  scalar_spot : {near far : List CommentValue} {h start end : ℕ} (b : Bool) → own ≡ near ++ first_noted b far → texts near ≡ d.trails → LineRest t h start near → start ≤ end → LeavesTo end p.leaves → LastEnd p.leaves end
-      → Broken t end → Ascend t end far place → Spot t d p own place
-  scalar_spot {near} {far} {h} {start} {end} b are is rest order leaves last broken a = record {
+  scalar_extent : {near far : List CommentValue} {h start end : ℕ} (b : Bool) → own ≡ near ++ first_noted b far → texts near ≡ d.trails → LineRest t h start near → start ≤ end → LeavesTo end p.leaves → LastEnd p.leaves end
+      → Broken t end → Ascend t end far place → RowExtent t d p own place
+  scalar_extent {near} {far} {h} {start} {end} b are is rest order leaves last broken a = record {
     items = items_at;
     starts = starts_at;
     clear = λ f. record {
@@ -223,11 +223,11 @@ module _ {t : List ℕ} (u : IsUtf8 t) {x : Row} {p : PlacedRow} {i : ℕ} {own 
     near_first rest [] a n f = absurd (n refl)
     near_first {o = o} rest (c ∷ cs) (each_more l a) n f = let same : c.offset ≡ o.offset = ap offset_or f in omega (arith, l, same)
 
-  pub spot_of : Spot t d p own place
-  spot_of = go e.tail where
-    go : OwnTail t x.body d p own place → Spot t d p own place
-    go (after_line none end leaves) = line_spot none end leaves
-    go (after_scalar b some are is m rest n w leaves last blank broken from to rows) = scalar_spot b are is rest n leaves last broken (rows_ascend rows)
+  pub extent_of : RowExtent t d p own place
+  extent_of = go e.tail where
+    go : OwnTail t x.body d p own place → RowExtent t d p own place
+    go (after_line none end leaves) = line_extent none end leaves
+    go (after_scalar b some are is m rest n w leaves last blank broken from to rows) = scalar_extent b are is rest n leaves last broken (rows_ascend rows)
 
 -- Notes on blank lines leave them where they are.
 
@@ -240,8 +240,8 @@ noted_beside : {t v : List ℕ} {es : List EventInText} {from : ℕ} {s : Span} 
 noted_beside o os f no_comment e = absurd cc
 noted_beside {v = v} {from = from} {s = s} o os f (one_comment {c = c} {cs = cs} n a) e = subst (λ z. InOrBeside v from s z) (ap offset_or e) (f c cs refl)
 
-pub spot_noted : {t v : List ℕ} {es : List EventInText} {d : Deco} {p : PlacedRow} {own noted : List CommentValue} {place : ℕ} → Spot v d p own place → NotedComments t es own noted → Spot v d p noted place
-spot_noted a n = record {
+pub extent_noted : {t v : List ℕ} {es : List EventInText} {d : Deco} {p : PlacedRow} {own noted : List CommentValue} {place : ℕ} → RowExtent v d p own place → NotedComments t es own noted → RowExtent v d p noted place
+extent_noted a n = record {
   items = a.items;
   starts = a.starts;
   clear = λ f. let c = a.clear f in record { edge = c.edge; broken = c.broken; reach = c.reach; over = noted_edge c.over n; later = c.later };

@@ -1,0 +1,8 @@
+-- Boundaries: byte offsets between characters, and at both ends of a text.
+use Rattle.std.specs.Prelude.{ℕ, ◌≤◌, List}
+use Rattle.std.specs.Str.{IsCharBoundary}
+
+-- a boundary at an offset or after it
+pub record BoundaryFrom (t : List ℕ) (at p : ℕ) : Type 0 where
+  pub boundary : IsCharBoundary t p
+  pub order : at ≤ p
