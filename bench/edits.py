@@ -30,8 +30,9 @@ Made by `bench/edits.py` from the edits and from `promises.txt`; `bench/edits.py
 
 An edit's name is the function and what is wrong with it. One edit answers for each promise, or for a family whose clauses have one
 shape. A function that another one's exact clause rests on needs none of its own: a wrong answer of it is refused there. Where a row says
-`as ..`, such an edit was refused by the same clause when it was tried by hand; `none: ..` names what holds a promise without an edit. How
-to write one, and what it costs: [COST](COST.md#edits).
+`as ..`, such an edit was refused by the same clause when it was tried by hand; `as .. of` another crate: by a clause of its own crate, on
+which the clause that this edit breaks rests; `none: ..` names what holds a promise without an edit. How to write one, and what it costs:
+[COST](COST.md#edits).
 """
 
 

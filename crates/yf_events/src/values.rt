@@ -1,3 +1,3 @@
-//! Lists of values, which are those of the readers.
+//! Lists of values: those of yf_lines.
 
 pub use yf_lines::values::Values;

@@ -255,7 +255,7 @@ fn is_quoted(style: ScalarStyle) -> bool
     }
 }
 
-/// Adds a scalar that ends at an offset, as a node of which that is known before its content.
+/// Adds a scalar that ends at an offset; the lead is what is known of the node before its content.
 #[inline(always)]
 pub fn push_scalar<'a>(
     alloc: Global,

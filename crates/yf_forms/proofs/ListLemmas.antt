@@ -1,9 +1,7 @@
--- Lists: facts that this crate and those above it use, each once.
+-- Lists: facts that this crate and those above it use.
 use Rattle.std.proofs.Common.{◌≡◌, ℕ, zero, suc, ◌+◌, List, [], ◌∷◌, ◌++◌, drop, Some, refl, sym, ap, ◌∙◌, add-one, append_assoc, arith}
 use Rattle.std.specs.Prelude.{slice_get}
 use Rattle.std.proofs.lemmas.Option.{same_Some, slice_get_within}
-
--- no list is empty and has an element
 
 -- the first element, the others, and the last one
 

@@ -7,7 +7,7 @@ use Rattle.yf_forms.specs.Nodes.OneLine.{width, written}
 use Rattle.yf_events.specs.Tree.{Node, scalar, alias, sequence, mapping, Items, no_items, item, Pairs, no_pairs, pair, is_filled_flow}
 use Rattle.yf_forms.proofs.Decide.SettledLemmas.{settled_key, settled_value_entries}
 
--- the two margins are alike for a node
+-- both margins are alike for a node
 pub record SameMargins (x : Node) (one other : Margins) : Type 0 where
   pub entries : one.entries ≡ other.entries
   pub column : is_filled_flow x ≡ true → one.column ≡ other.column

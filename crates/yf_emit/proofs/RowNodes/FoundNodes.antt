@@ -67,7 +67,7 @@ pub data KeyOn (house : Style) (t : List ℕ) (m : ℕ) (k : Node) : List Placed
 pub key_at : (house : Style) {t : List ℕ} {m : ℕ} {k : Node} {q e : ℕ} {hs : List PlacedRow} → NodeIsAt t q e k → entry_or 0 (standing k).entry ≡ q → NodeText house t q k → is_some (standing k).entry ≡ true → HeadAt m q (e + 1) hs → KeyOn house t m k hs
 key_at house {t} {k = k} n g w some (head_at c f l) = key_on n (omega (arith, f)) (omega (arith, l)) (g ∙ sym f) c (subst (λ i. NodeText house t i k) (sym f) w) some
 
--- The rows of a node that was laid out at a margins.
+-- The rows of a node that was laid out with these margins.
 mutual
   pub data NodeRows (t : List ℕ) (s : LayoutSetting) : Margins → Node → Node → List PlacedRow → Type 0 where
     no_rows : {margins : Margins} {x : Node} {at : NodeOffsets} {lines : List (List ℕ)} → at.span ≡ None → NodeRows t s margins x (scalar at no_props Plain [] lines) []

@@ -78,8 +78,6 @@ documents_told t u s q utf8 f a =
     ∙ (ap (λ (m : Lists). comments_of 0 (document_steps (columns_of t s (rows_of f.normal s f.writes.trees)) m (rows_of m s trees))) f.is_normal.is
     ∙ documents_of_source (columns_of t s (rows_of f.normal s f.writes.trees)) t s f.reading f.is_normal.trees utf8 f.reads f.is_normal.of_reading))
 
--- Texts without the white space that ends them.
-
 -- Both tellings together.
 
 both_told : (d n e m : ℕ → ℕ) (qs rs : List CommentValue) → told_by d qs ≡ trimmed_by e rs → told_by n qs ≡ trimmed_by m rs

@@ -49,8 +49,6 @@ ReadClaim h (BlockEntry s m) x = EntryRead h false s x
 ReadClaim h (BlockIndented m c) x = NodeRead h false x
 ReadClaim h (BlockValue m) x = NodeRead h false x
 
--- Contexts.
-
 -- Leaves.
 
 scalar_read : {b : Bool} (style : ScalarStyle) (text bad : List ℕ) (i j : ℕ) → IsUtf8 text → ReadText b style text [] → NodeRead 0 b (scalar style text bad i j)

@@ -6,7 +6,7 @@ use Rattle.yf_comments.specs.Comment.{CommentValue}
 use Rattle.yf_events.specs.Tree.{DocumentTree, Node, scalar, alias, sequence, mapping, Items, no_items, item, Pairs, no_pairs, pair}
 use Rattle.yf_forms.specs.NormalForms.Normal.{LayoutSetting, Margins, inner_margins, is_implicit, key_comment, key_margins, root_margins, value_margins}
 
--- in a node at that margins; an implicit key has no entries of its own
+-- in a node with those margins; an implicit key has no entries of its own
 abbrev mutual
   pub keyed_in : LayoutSetting → Margins → Node → List CommentValue
   keyed_in c margins (scalar at props style text lines) = []

@@ -38,5 +38,3 @@ pub column_there : (t : List ℕ) (o line column less : ℕ) → PlaceOf t o lin
 column_there t o line column less p e =
     let n = place_from_one p in
     record { line = line; place = subst (λ c. PlaceOf t o line c) (let q : column ≡ less + 1 = omega (arith, n, e) in q) p }
-
--- columns of a list of offsets
