@@ -19,7 +19,7 @@ use yf_rules::with_rules::{WithRules, with_all_rules};
 use yf_stream::stream::read_stream;
 
 /// The check of a text with its reading, in the house style.
-#[derive(Drop)]
+#[derive(Clone, Copy)]
 struct Checking<'a, 't> {
     alloc: Global,
     src: &'a Src<'t>,
@@ -87,41 +87,71 @@ impl Work {
     }
 
     fn take_events(&mut self, alloc: Global, text: &str) -> Result<(), Fault> {
-        let reading = read_stream(alloc, text)?;
+        match read_stream(alloc, text) {
+            Ok(reading) => self.add_events(alloc, &reading),
+            Err(fault) => Err(fault),
+        }
+    }
+
+    fn add_events(&mut self, alloc: Global, reading: &Reading) -> Result<(), Fault> {
         let mut writer = Watched::new(mem::replace(&mut self.output, Vec::new(alloc)));
-        write_events(&reading, &mut writer)?;
-        let mut output = writer.into_inner();
-        self.digest.add_bytes(output.as_slice());
-        output.clear();
-        self.output = output;
-        Ok(())
+        let written = write_events(reading, &mut writer);
+        self.output = writer.into_inner();
+        if written.is_ok() {
+            self.digest.add_bytes(self.output.as_slice());
+        }
+        self.output.clear();
+        written
     }
 
     fn take_findings(&mut self, alloc: Global, text: &str) -> Result<(), Fault> {
-        let Ok(src) = Src::new(alloc, text) else {
-            return Err(Fault::Memory);
-        };
-        let reading = read_stream(alloc, text)?;
-        let mut checking = Checking {
-            alloc,
-            src: &src,
-            reading: &reading,
-        };
-        let Ok(found) = with_all_rules(alloc, &mut checking) else {
-            return Err(Fault::Memory);
-        };
-        let findings = found?;
-        for finding in findings.as_slice() {
+        match findings_in(alloc, text) {
+            Ok(findings) => {
+                self.add_findings(findings.as_slice());
+                Ok(())
+            }
+            Err(fault) => Err(fault),
+        }
+    }
+
+    fn add_findings(&mut self, findings: &[Finding]) {
+        for finding in findings {
             self.digest.add_number(finding.place.line as u64);
             self.digest.add_number(finding.place.column as u64);
             self.digest.add_number(finding.number as u64);
         }
-        Ok(())
     }
 
     fn take_formatted(&mut self, alloc: Global, text: &str) -> Result<(), Fault> {
-        let formatted = format(alloc, text, &Style::house())?;
-        self.digest.add_bytes(formatted.as_str().as_bytes());
-        Ok(())
+        match format(alloc, text, &Style::house()) {
+            Ok(formatted) => {
+                self.digest.add_bytes(formatted.as_str().as_bytes());
+                Ok(())
+            }
+            Err(fault) => Err(fault),
+        }
+    }
+}
+
+/// What the rules find in a text, in the house style.
+fn findings_in(alloc: Global, text: &str) -> Result<Vec<Finding>, Fault> {
+    match Src::new(alloc, text) {
+        Ok(src) => match read_stream(alloc, text) {
+            Ok(reading) => findings_of(alloc, &src, &reading),
+            Err(fault) => Err(fault),
+        },
+        Err(_) => Err(Fault::Memory),
+    }
+}
+
+fn findings_of(alloc: Global, src: &Src, reading: &Reading) -> Result<Vec<Finding>, Fault> {
+    let mut checking = Checking {
+        alloc,
+        src,
+        reading,
+    };
+    match with_all_rules(alloc, &mut checking) {
+        Ok(found) => found,
+        Err(_) => Err(Fault::Memory),
     }
 }

@@ -1,7 +1,7 @@
 //! The header of a block scalar (YAML 1.2.2, section 8.1.1).
 
 /// What becomes of the line breaks after the last content line (section 8.1.1.2, the chomping indicator).
-#[derive(Clone, Copy, PartialEq, Eq)]
+#[derive(Clone, Copy)]
 pub enum Chomp {
     /// `-`: none of them is content.
     Strip,
@@ -12,7 +12,7 @@ pub enum Chomp {
 }
 
 /// The header of a block scalar (c-b-block-header, production 162).
-#[derive(Clone, Copy, PartialEq, Eq)]
+#[derive(Clone, Copy)]
 pub struct Header {
     /// `>`, else `|`.
     pub folded: bool,

@@ -2,7 +2,7 @@
 
 /// In which context a production is read: outside or inside of a block sequence, outside or inside of a flow
 /// collection, or as an implicit key of a block or of a flow mapping.
-#[derive(Clone, Copy, Debug, PartialEq, Eq)]
+#[derive(Clone, Copy)]
 pub enum Ctx {
     BlockOut,
     BlockIn,

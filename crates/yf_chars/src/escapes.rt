@@ -14,7 +14,7 @@ use crate::text::{is_char_at, peek};
 /// An escape that is in a text: the number that it writes, and the byte offset after it.
 ///
 /// The number need not be a character: half of a pair and numbers above U+10FFFF are given as they are.
-#[derive(Clone, Copy, PartialEq, Eq)]
+#[derive(Clone, Copy)]
 pub struct Escape {
     pub value: u32,
     pub end: usize,

@@ -5,7 +5,7 @@ ghost use Rattle.std.specs.Str.{IsUtf8, IsValidUpTo};
 use bstr::ByteSlice;
 
 /// Bytes that are not UTF-8.
-#[derive(Clone, Copy, Debug, PartialEq, Eq)]
+#[derive(Clone, Copy)]
 pub struct BadByte {
     /// Where the longest front that is UTF-8 ends, in bytes from 0.
     pub offset: usize,

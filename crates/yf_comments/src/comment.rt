@@ -1,7 +1,7 @@
 //! One comment of a text.
 
 /// A comment (c-nb-comment-text, production 75): its text from the `#` on, without the line break after it.
-#[derive(Clone, Copy, Debug)]
+#[derive(Clone, Copy)]
 pub struct Comment<'a> {
     pub text: &'a str,
     /// The byte offset of the `#`.

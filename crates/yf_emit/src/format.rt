@@ -2,7 +2,7 @@
 ghost use Rattle.std.specs.Prelude.{◌≤◌, length, IfErr, IfOk};
 ghost use Rattle.std.specs.Str.{IsUtf8};
 ghost use Rattle.std.specs.String.{string_bytes};
-ghost use Rattle.yf_emit.specs.FormatPromises.{FormatKept};
+ghost use Rattle.yf_laws.specs.FormatPromises.{FormatKept};
 ghost use Rattle.yf_stream.specs.ReadingOf.{ReadingOf};
 ghost use Rattle.yf_stream.specs.StreamReader.{StreamFault};
 ghost use Rattle.yf_stream.specs.declared.stream.TheConstants.{LONGEST};
@@ -13,6 +13,7 @@ use yf_forms::form::decide::decide;
 use yf_forms::form::measure::measure_text;
 use yf_forms::normal::normalized;
 use yf_forms::style::Style;
+use yf_laws::passes::formattings_are_kept;
 use yf_lines::fault::Fault;
 use yf_print::layout::layout_by;
 use yf_stream::stream::read_stream;
@@ -29,6 +30,7 @@ fn formatted(
         → IfOk result (λ formatted. FormatKept text.now style.now (string_bytes formatted)) }
     ensures within { IfOk result (λ formatted. length (string_bytes formatted) ≤ LONGEST) }
 {
+    formattings_are_kept();
     let measures = measure_text(alloc, text, &reading, style)?;
     let forms = decide(alloc, &measures, &reading, style)?;
     let normal = normalized(alloc, reading, &measures, &forms, style)?;

@@ -17,6 +17,7 @@ use yf_forms::form::decide::decide;
 use yf_forms::form::measure::measure_text;
 use yf_forms::normal::normalized;
 use yf_forms::style::Style;
+use yf_laws::passes::normal_forms_are_made;
 use yf_lines::fault::Fault;
 use yf_lines::source_text::Src;
 
@@ -32,6 +33,7 @@ fn normal_copy<'a>(
     ensures content { IfOk result (λ normal. content_of normal ≡ content_of reading.entry) }
     ensures nested { IfOk result (λ normal. IsStream DEPTH (events_of normal)) }
 {
+    normal_forms_are_made();
     let measures = measure_text(alloc, text, &reading, style)?;
     let forms = decide(alloc, &measures, &reading, style)?;
     let normal = normalized(alloc, reading, &measures, &forms, style)?;

@@ -1,6 +1,6 @@
 //! Printing a normal reading.
 ghost use Rattle.std.specs.Prelude.{IfErr, OnOk};
-ghost use Rattle.yf_emit.specs.Passes.WriterAfterPrint.{RefusedPrint, WroteMade};
+ghost use Rattle.yf_laws.specs.Passes.WriterAfterPrint.{RefusedPrint, WroteMade};
 
 pub mod layout;
 pub mod trails;

@@ -5,7 +5,7 @@ use yf_lines::text::Text;
 use yf_props::props::Props;
 
 /// How a scalar is written (YAML 1.2.2, sections 7.3 and 8.1).
-#[derive(Clone, Copy, Debug, PartialEq, Eq)]
+#[derive(Clone, Copy, PartialEq, Eq)]
 pub enum ScalarStyle {
     Plain,
     Single,
@@ -78,14 +78,14 @@ pub enum NewEvent<'a> {
 }
 
 /// The part of the text from one byte offset to another.
-#[derive(Clone, Copy, Debug, PartialEq, Eq)]
+#[derive(Clone, Copy)]
 pub struct Span {
     pub start: usize,
     pub end: usize,
 }
 
 /// An entry of a collection.
-#[derive(Clone, Copy, PartialEq, Eq)]
+#[derive(Clone, Copy)]
 pub struct Entry {
     /// The byte offset of its `-` or `?`, else of its item or key, else of the `:` of an empty key.
     pub start: usize,

@@ -10,7 +10,7 @@ use std::alloc::Global;
 pub struct Failed;
 
 /// Why a file is not read.
-#[derive(Clone, Copy, Drop, PartialEq, Eq)]
+#[derive(Clone, Copy, Drop)]
 pub enum ReadError {
     /// The call failed, or there is no regular file at the name.
     Failed,

@@ -8,7 +8,7 @@ ghost use Rattle.yf_files.specs.Tree.{folder_of};
 use crate::file_system::{Failed, FileSystem};
 
 /// What is left after a file was not given another text, or not for sure.
-#[derive(Clone, Copy, Drop, PartialEq, Eq)]
+#[derive(Clone, Copy, Drop)]
 pub enum ReplaceError {
     /// The file is as it was, and nothing of ours is left.
     Untouched,

@@ -14,7 +14,7 @@ use crate::basic::{line_break, skip_spaces, skip_whites};
 /// A folded line break: the number of empty lines in it, and the byte offset of what is after it.
 ///
 /// It means a space where no empty line is in it, else a line feed for each of them.
-#[derive(Clone, Copy, PartialEq, Eq)]
+#[derive(Clone, Copy)]
 pub struct Fold {
     pub feeds: usize,
     pub end: usize,

@@ -4,7 +4,7 @@
 /// and with how many spaces it begins.
 ///
 /// A line that ends with the text and not with a break has `next` equal to `end`.
-#[derive(Clone, Copy, Debug, PartialEq, Eq)]
+#[derive(Clone, Copy)]
 pub struct Line {
     pub start: usize,
     pub end: usize,

@@ -1,7 +1,7 @@
 //! The two kinds of quotes.
 
 /// The quotes of a quoted scalar (YAML 1.2.2, section 7.3).
-#[derive(Clone, Copy, Debug, PartialEq, Eq)]
+#[derive(Clone, Copy)]
 pub enum Quotes {
     /// `'`, in which no character is escaped.
     Single,

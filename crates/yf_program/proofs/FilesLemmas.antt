@@ -3,10 +3,11 @@ use Rattle.std.proofs.Common.{◌≡◌, ◌≤◌, ℕ, List, length, refl, sub
 use Rattle.std.proofs.lemmas.Result.{IfErr-weaker, IfOk-weaker}
 use Rattle.std.specs.Prelude.{Result, Some, IfErr, IfOk}
 use Rattle.std.specs.Str.{IsUtf8}
-use Rattle.yf_emit.specs.FormatPromises.{FormatKept}
+use Rattle.yf_laws.specs.FormatPromises.{FormatKept}
 use Rattle.yf_forms.specs.declared.style.Style.{Style}
 use Rattle.yf_lines.specs.declared.fault.Fault.{Fault}
 use Rattle.yf_lines.specs.declared.fault.Fault.TheVariants.{NotUtf8, Syntax, TooDeep, UnknownHandle, UnknownAlias, RepeatedDirective, BadVersion, EscapeValue, Memory, ReadFailed, WriteFailed, Config}
+use Rattle.yf_laws.specs.Formattings.{FormattingsHold}
 use Rattle.yf_rules.proofs.HeadlineHolds.{rendered_holds}
 use Rattle.yf_rules.specs.Headline.{Headline}
 use Rattle.yf_rules.specs.declared.run.TheConstants.{INPUT_LIMIT}
@@ -33,8 +34,8 @@ module _ (text t : List ℕ) (same : text ≡ t) (u : IsUtf8 t) {B : Type 0} (gi
   pub refuses_bytes : IfErr given (StreamFault text) → IfErr given (RefusesBytes t)
   refuses_bytes w = IfErr-weaker given (StreamFault text) (RefusesBytes t) (λ f v. refuses t u f (subst (λ (x : List ℕ). StreamFault x f) same v)) w
 
-  pub formats_bytes : (s : Style) (bytes : B → List ℕ) → length t ≤ INPUT_LIMIT → IfOk given (λ f. FormatKept text s (bytes f))
+  pub formats_bytes : FormattingsHold → (s : Style) (bytes : B → List ℕ) → length t ≤ INPUT_LIMIT → IfOk given (λ f. FormatKept text s (bytes f))
       → IfOk given (λ f. length (bytes f) ≤ LONGEST) → IfOk given (λ f. Headline t s (bytes f))
-  formats_bytes s bytes within kept fits =
+  formats_bytes laws s bytes within kept fits =
       IfOk-weaker given _ (λ f. Headline t s (bytes f)) (λ f r. subst (λ (x : List ℕ). Headline x s (bytes f)) r.gave r.headline)
-      (rendered_holds s (Some t) t refl within u bytes given (subst (λ (x : List ℕ). IfOk given (λ f. FormatKept x s (bytes f))) same kept) fits)
+      (rendered_holds laws s (Some t) t refl within u bytes given (subst (λ (x : List ℕ). IfOk given (λ f. FormatKept x s (bytes f))) same kept) fits)

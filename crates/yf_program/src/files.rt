@@ -13,6 +13,7 @@ use yf_chars::utf8::{BadByte, check_utf8};
 use yf_emit::format::format;
 use yf_files::{FileSystem, Formatter, MemoryFiles, ReplaceError, RewriteError};
 use yf_forms::style::Style;
+use yf_laws::every_text::formattings_hold;
 use yf_lines::fault::Fault;
 use yf_lines::output::write_text;
 use yf_lines::watched::Sink;
@@ -110,6 +111,7 @@ impl Formatter for InStyle<'_> {
         if bytes.len() > INPUT_LIMIT {
             return Err(Fault::Memory);
         }
+        formattings_hold();
         format(alloc, text, self.style)
     }
 }

@@ -2,4 +2,6 @@
 pub mod CheckLemmas
 pub mod FoundLemmas
 pub mod FindingLemmas
+-- in what formatting gives, rules find none of what the house style fixes
+pub mod MendedFindings
 pub mod AllRulesLemmas

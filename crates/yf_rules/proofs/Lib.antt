@@ -1,11 +1,8 @@
 -- The lemmas, a folder for each theorem or for what several rest on.
 -- what holds of every text and its formatting (`Headline`)
 pub mod HeadlineHolds
-pub mod RulesMended
 -- `check`: what rules find, as findings at positions
 pub mod Findings
--- in what formatting gives nothing is at fault that the house style fixes (`FormatsAreMended`)
-pub mod Formatted
 -- what the runs read and write: `run_fmt`, `run_fmt_check`, `run_fmt_diff`
 pub mod Runs
 -- the definitions by small readings

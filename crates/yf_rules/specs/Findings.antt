@@ -6,7 +6,7 @@ use Rattle.yf_events.specs.declared.lists.Lists.{Lists}
 use Rattle.yf_events.specs.declared.reading.TheConstants.{DEPTH}
 use Rattle.yf_events.specs.Nested.{IsStream}
 use Rattle.yf_events.specs.Reading.{events_of}
-use Rattle.yf_emit.specs.Format.{IsFormatting}
+use Rattle.yf_laws.specs.Format.{IsFormatting}
 use Rattle.yf_forms.specs.declared.style.Style.{Style}
 use Rattle.yf_rules.specs.NothingToFix.{NoneFixable}
 use Rattle.yf_rules.specs.declared.finding.Finding.{Finding}

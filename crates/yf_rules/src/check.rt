@@ -4,7 +4,8 @@ ghost use Rattle.std.specs.List.Sorted.{IsSortedByKey};
 ghost use Rattle.std.specs.Ordering.{is_lt};
 ghost use Rattle.yf_rules.specs.Asked.{asked};
 ghost use Rattle.yf_rules.specs.Check.{CheckAnswer, RuleFindings, SortedFrom, finding_at, key_cmp, sort_key};
-ghost use Rattle.yf_rules.specs.NothingToFix.{IsFormatted, NoneFixable};
+ghost use Rattle.yf_laws.specs.Mended.{IsFormatted};
+ghost use Rattle.yf_rules.specs.NothingToFix.{NoneFixable};
 ghost use Rattle.yf_rule_sets.specs.RuleSets.Places.{FoundAt};
 
 use crate::asked::is_among;

@@ -13,6 +13,7 @@ use yf_chars::text::peek;
 use yf_chars::utf8::{BadByte, check_utf8};
 use yf_emit::format::format;
 use yf_forms::style::Style;
+use yf_laws::every_text::formattings_hold;
 use yf_lines::fault::Fault;
 use yf_lines::output::write_texts;
 use yf_lines::place::Position;
@@ -72,6 +73,7 @@ fn read_difference<R: Source>(
         Ok(text) => text,
         Err(BadByte { offset }) => return Err(Fault::NotUtf8 { offset }),
     };
+    formattings_hold();
     difference_in(alloc, text, style)
 }
 

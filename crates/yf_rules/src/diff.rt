@@ -12,6 +12,7 @@ use yf_chars::utf8::{BadByte, check_utf8};
 use yf_diff::diff::push_diff;
 use yf_emit::format::format;
 use yf_forms::style::Style;
+use yf_laws::every_text::formattings_hold;
 use yf_lines::fault::Fault;
 use yf_lines::output::write_text;
 use yf_lines::watched::{Sink, Source};
@@ -68,6 +69,7 @@ fn read_diff<R: Source>(
         Ok(text) => text,
         Err(BadByte { offset }) => return Err(Fault::NotUtf8 { offset }),
     };
+    formattings_hold();
     diff_in(alloc, name, text, style)
 }
 

@@ -1,11 +1,13 @@
 //! What holds of every text, for every style.
 ghost use Rattle.yf_rules.specs.AllRules.{AllAreAsked, RulesAreListed};
-ghost use Rattle.yf_rules.specs.Headline.{RefusedTextsHaveNoReading, StandardTextsAreFormatted};
+ghost use Rattle.yf_laws.specs.Formattings.{RefusedTextsHaveNoReading, StandardTextsAreFormatted};
 ghost use Rattle.yf_rules.specs.CheckAfterFormat.{FormattedTextsAreClean};
 ghost use Rattle.yf_standard.specs.Acceptance.{FaultsTellOfTheStandard, StandardStreamsMeanOne, StandardTextsAreRead};
 ghost use Rattle.yf_standard.specs.Laws.{ReadTextsAreStandard};
 ghost use Rattle.yf_stream.specs.HasReading.{WellFormedTextsHaveReadings};
 ghost use Rattle.yf_stream.specs.Laws.{ReadTextsHaveNoFault, ReadingsAreOne};
+
+use yf_laws::every_text::{rules_are_mended, texts_are_read_and_formatted};
 
 /// The laws of reading and of formatting, of every text and every style. It does nothing: its contract is what it is for.
 ///
@@ -28,4 +30,7 @@ pub fn headline()
     ensures clean { FormattedTextsAreClean }
     ensures listed { RulesAreListed }
     ensures asked { AllAreAsked }
-{}
+{
+    texts_are_read_and_formatted();
+    rules_are_mended();
+}

@@ -48,8 +48,8 @@ impl About {
 pub trait Rule: Drop {
     ghost use Rattle.std.specs.Prelude.{[]};
     ghost use Rattle.yf_rule_sets.specs.Definition.{RuleDefinition};
-    ghost use Rattle.yf_rules.specs.NothingToFix.{IsFormatted};
     ghost use Rattle.yf_rule_sets.specs.RuleSets.Places.{Ascending, FoundAt};
+    ghost use Rattle.yf_laws.specs.Mended.{IsFormatted};
 
     ghost definition: { Self → RuleDefinition };
 

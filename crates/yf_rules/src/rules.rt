@@ -2,6 +2,7 @@
 ghost use Rattle.yf_rule_sets.specs.RuleOf.{definition_of};
 
 use crate::rule::{About, FoundOffsets, Global, Reading, Rule, Src, Style};
+use yf_laws::every_text::rules_are_mended;
 pub use yf_rule_sets::rules::StyleRule;
 use yf_rule_sets::rules::offsets_by;
 
@@ -28,6 +29,7 @@ impl Rule for StyleRule {
     }
 
     fn offsets(&self, alloc: Global, src: &Src, reading: &Reading, style: &Style) -> FoundOffsets {
+        rules_are_mended();
         offsets_by(*self, alloc, src, reading, style)
     }
 }

@@ -20,6 +20,7 @@ use yf_chars::utf8::{BadByte, check_utf8};
 use yf_emit::format::format;
 use yf_events::notation::write_events;
 use yf_forms::style::Style;
+use yf_laws::every_text::formattings_hold;
 use yf_lines::fault::Fault;
 use yf_lines::output::{write_text, write_texts};
 use yf_lines::source_text::Src;
@@ -202,5 +203,6 @@ pub fn read_formatted<R: Source>(
         Ok(text) => text,
         Err(BadByte { offset }) => return Err(Fault::NotUtf8 { offset }),
     };
+    formattings_hold();
     format(alloc, text, style)
 }

@@ -30,7 +30,6 @@ use Rattle.yf_grammar.specs.Productions.Grammar.Production.{BlockNode, BlockInde
 use Rattle.yf_standard.proofs.Blocks.{ColumnFrom, EntryAt, EntriesAt, Question, Colon}
 use Rattle.yf_standard.proofs.Flows.{SomeNode, ContentOf}
 use Rattle.yf_standard.proofs.Basics.{SomeOf, Trimmed}
-use Rattle.std.specs.Prelude.{⊤}
 use Rattle.yf_chars.specs.Class.{is_ns_char}
 use Rattle.yf_chars.specs.Escape.{NoLow}
 use Rattle.yf_lines.specs.Basic.{ForbiddenLine}

@@ -1,6 +1,6 @@
 -- What holds between two steps of the reader of streams: the places that it keeps lie between characters, and less of
 -- the text is left at each step.
-use Rattle.std.specs.Prelude.{ℕ, ◌≤◌, List}
+use Rattle.std.specs.Prelude.{ℕ, List}
 use Rattle.std.specs.Str.{IsCharBoundary}
 use Rattle.yf_chars.specs.Boundary.{BoundaryFrom}
 use Rattle.yf_stream.specs.declared.documents.StreamStep.{StreamStep}

@@ -6,7 +6,7 @@ ghost use Rattle.yf_stream.specs.TagPass.{FirstOfBoth};
 ghost use Rattle.yf_stream.specs.WellFormed.{IsEarlierBreach, breach_if, escape_breaches, rank};
 
 /// What does not hold.
-#[derive(Clone, Copy, PartialEq, Eq)]
+#[derive(Clone, Copy)]
 pub(crate) enum BreachKind {
     UnknownHandle,
     UnknownAlias,

@@ -109,8 +109,11 @@ static SET: [Row; 10] = [
 fn sets(alloc: Global, row: &Row) -> bool {
     match &style_from_toml(alloc, row.0) {
         Ok(style) => {
-            (row.1, row.2, row.3, row.4)
-                == (style.indent, style.max_line, style.quotes, style.seq_indent)
+            (row.1, row.2, row.4) == (style.indent, style.max_line, style.seq_indent)
+                && matches!(
+                    (row.3, style.quotes),
+                    (Quotes::Single, Quotes::Single) | (Quotes::Double, Quotes::Double)
+                )
                 && row.5 == matches!(style.document_start, DocumentStart::Keep)
                 && row.6 == matches!(style.comments, CommentColumns::Block)
                 && row.7 == matches!(style.invisible, Invisible::Escaped)

@@ -1,5 +1,5 @@
 -- The recursive reader has one outcome: each task goes one way, which the text and the limit decide.
-use Rattle.std.proofs.Common.{◌≡◌, ◌≢◌, ℕ, suc, ◌+◌, ◌<◌, ◌≤◌, ℤ, Bool, true, false, ◌==◌, ◌||◌, not, List, [], ◌++◌, Option, refl, sym, ap, ◌∙◌, ⊎_elim, arith}
+use Rattle.std.proofs.Common.{◌≡◌, ◌≢◌, ℕ, suc, ◌+◌, ℤ, Bool, true, false, ◌==◌, ◌||◌, not, List, Option, refl, sym, ap, ◌∙◌, ⊎_elim, arith}
 use Rattle.std.proofs.lemmas.Bool.{true≢false, cases_eq}
 use Rattle.std.proofs.lemmas.Bool.Decides.{nat_tests}
 use Rattle.yf_chars.specs.declared.context.Ctx.{Ctx}
@@ -12,7 +12,6 @@ use Rattle.yf_plain.specs.Plain.{Plain}
 use Rattle.yf_props.specs.Names.{Alias, Anchor, ampersand_name, Properties, PropertiesValue}
 use Rattle.yf_quoted.specs.Quoted.{SingleQuoted, DoubleQuoted}
 use Rattle.yf_grammar.specs.Productions.Grammar.{in_flow, opening, closing}
-use Rattle.yf_grammar.specs.Productions.Meaning.{◌⊕◌}
 use Rattle.yf_grammar.specs.FlowReader.Parser.{ParsedNode, Task, Parses, PairKey, plain_found, begins_alias, begins_properties, begins_content, begins_plain}
 use Rattle.yf_grammar.specs.FlowReader.Parser as Parser
 use Rattle.yf_grammar.proofs.Ends.Ways.{Agree, one_way, other_way, taken, not_taken, past, finds, finds_none, below, at_zero, there, nowhere, flagged, is_agree, never_agree, fork_agree, takes_agree, past_agree, finds_agree, limited_agree, somewhere_agree, flagged_agree}

@@ -1,5 +1,5 @@
 -- The way that each task of the recursive reader of flow nodes goes, over the outcomes of the tasks that it calls for.
-use Rattle.std.proofs.Common.{◌≡◌, ◌≢◌, ℕ, suc, max, ◌+◌, ◌<◌, ◌≤◌, ℤ, Bool, true, false, ◌==◌, ◌||◌, List, [], ◌++◌, Option, Some, None, ◌∙◌, arith, encode_utf8_all}
+use Rattle.std.proofs.Common.{◌≡◌, ◌≢◌, ℕ, max, ◌+◌, ◌<◌, ◌≤◌, ℤ, Bool, true, false, ◌==◌, ◌||◌, List, [], ◌++◌, Option, Some, None, encode_utf8_all}
 use Rattle.yf_chars.specs.declared.context.Ctx.{Ctx}
 use Rattle.yf_chars.specs.Text.{code}
 use Rattle.yf_comments.specs.Comments.{Separate}

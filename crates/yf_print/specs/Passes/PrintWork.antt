@@ -3,8 +3,8 @@ use Rattle.std.specs.Prelude.{ℕ, Bool, List, Option}
 use Rattle.yf_events.specs.declared.lists.Lists.{Lists}
 use Rattle.yf_forms.specs.declared.form.decide.Form.{Form}
 use Rattle.yf_forms.specs.declared.form.measure.Measure.{Measure}
-use Rattle.yf_print.specs.declared.printer.Plan.{Plan}
 use Rattle.yf_forms.specs.declared.style.Style.{Style}
+use Rattle.yf_print.specs.declared.printer.Plan.{Plan}
 use Rattle.yf_print.specs.Passes.Drafts.{Remarks, remarks}
 use Rattle.yf_print.specs.Passes.TrailPass.{TrailsSoFar, found}
 

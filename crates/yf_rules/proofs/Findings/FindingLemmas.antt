@@ -9,11 +9,12 @@ use Rattle.yf_events.specs.declared.reading.TheConstants.{DEPTH}
 use Rattle.yf_events.specs.Nested.{IsStream}
 use Rattle.yf_events.specs.Reading.{events_of}
 use Rattle.yf_lines.proofs.OutputLemmas.{Progress}
-use Rattle.yf_emit.specs.Format.{IsFormatting}
+use Rattle.yf_laws.specs.Format.{IsFormatting}
 use Rattle.yf_forms.specs.declared.style.Style.{Style}
 use Rattle.yf_rules.specs.declared.finding.Finding.{Finding}
 use Rattle.yf_rules.specs.declared.run.TheConstants.{INPUT_LIMIT}
-use Rattle.yf_rules.specs.NothingToFix.{IsFormatted, NoneFixable}
+use Rattle.yf_laws.specs.Mended.{IsFormatted}
+use Rattle.yf_rules.specs.NothingToFix.{NoneFixable}
 use Rattle.yf_rules.specs.Runs.Run.{CheckResult, Gave, finding_line, findings_text, has_any}
 use Rattle.yf_stream.specs.ReadingOf.{ReadingOf}
 use Rattle.yf_stream.specs.StreamReader.{TheReading}

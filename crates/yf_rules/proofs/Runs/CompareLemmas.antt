@@ -10,13 +10,14 @@ use Rattle.yf_chars.specs.Text.{code, no_char}
 use Rattle.yf_chars.proofs.TextLemmas.{code_at_boundary}
 use Rattle.yf_lines.specs.Output.{Wrote}
 use Rattle.yf_lines.specs.declared.place.Position.{Position}
-use Rattle.yf_emit.specs.Format.{IsFormatting}
-use Rattle.yf_emit.specs.FormatPromises.{FormatKept}
+use Rattle.yf_laws.specs.Format.{IsFormatting}
+use Rattle.yf_laws.specs.FormatPromises.{FormatKept}
 use Rattle.yf_forms.specs.declared.style.Style.{Style}
+use Rattle.yf_laws.specs.Formattings.{FormattingsHold}
+use Rattle.yf_laws.specs.Mended.{IsMended}
 use Rattle.yf_rules.specs.declared.run.TheConstants.{INPUT_LIMIT}
 use Rattle.yf_rules.specs.Runs.Compare.{CompareRun, DifferAt, Difference, DifferenceIn, DiffersFirst, IsClean, SameUpTo}
 use Rattle.yf_rules.specs.Runs.Compare.DiffersFirst.{differs_first}
-use Rattle.yf_rules.specs.Headline.{IsMended}
 use Rattle.yf_rules.specs.Runs.Run.{Gave, FormattingGiven}
 use Rattle.yf_rules.proofs.HeadlineHolds.{headline_holds}
 
@@ -61,10 +62,10 @@ mended_where t u style None same m = subst (λ v. IsMended v style) (sym same) m
 mended_where t u style (Some place) differs m = tt
 
 -- what is found of a text that was read
-pub difference_holds : {E : Type 0} (style : Style) (known : Option (List ℕ)) (t : List ℕ) → Gave known t → length t ≤ INPUT_LIMIT → IsUtf8 t
+pub difference_holds : FormattingsHold → {E : Type 0} (style : Style) (known : Option (List ℕ)) (t : List ℕ) → Gave known t → length t ≤ INPUT_LIMIT → IsUtf8 t
     → (given : Result (Option Position) E) → IfOk given (DifferenceIn t style) → IfOk given (Difference style known)
-difference_holds style known t gave within utf8 (Ok place) d =
-    let headline = headline_holds within utf8 d.kept d.within in
+difference_holds laws style known t gave within utf8 (Ok place) d =
+    let headline = headline_holds laws within utf8 d.kept d.within in
     record {
       formatted = d.formatted;
       rendered = record { text = t; gave = gave; headline = headline };
@@ -72,7 +73,7 @@ difference_holds style known t gave within utf8 (Ok place) d =
       exact = exactly d.kept place d.first;
       mended = mended_where t d.formatted style place d.first headline.mended;
     }
-difference_holds style known t gave within utf8 (Err e) d = tt
+difference_holds laws style known t gave within utf8 (Err e) d = tt
 
 -- what formatting gives has nothing that the house style fixes
 pub own_is_clean : {style : Style} {known : Option (List ℕ)} {formatted : List ℕ} (rendered : FormattingGiven style known formatted) → rendered.text ≡ formatted

@@ -8,11 +8,11 @@ use Rattle.yf_lines.specs.FaultPlaces.{IsPlaceOf}
 use Rattle.yf_lines.specs.Output.{Wrote, Broke}
 use Rattle.yf_lines.specs.declared.fault.Fault.{Fault}
 use Rattle.yf_lines.specs.declared.place.Position.{Position}
-use Rattle.yf_emit.specs.Format.{IsFormatting}
-use Rattle.yf_emit.specs.FormatPromises.{FormatKept}
+use Rattle.yf_laws.specs.Format.{IsFormatting}
+use Rattle.yf_laws.specs.FormatPromises.{FormatKept}
 use Rattle.yf_forms.specs.declared.style.Style.{Style}
 use Rattle.yf_stream.specs.declared.stream.TheConstants.{LONGEST}
-use Rattle.yf_rules.specs.Headline.{IsMended}
+use Rattle.yf_laws.specs.Mended.{IsMended}
 use Rattle.yf_rules.specs.Runs.Run.{RefusedRun, FormattingGiven}
 
 -- the texts are the same before the offset, at which no character of either is cut

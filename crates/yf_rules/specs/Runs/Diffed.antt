@@ -3,11 +3,11 @@ use Rattle.std.specs.Prelude.{◌≡◌, ◌≢◌, ◌≤◌, ℕ, List, [], le
 use Rattle.yf_diff.specs.Diff.{AddsDiff}
 use Rattle.yf_lines.specs.Output.{Wrote, Broke}
 use Rattle.yf_lines.specs.declared.fault.Fault.{Fault}
-use Rattle.yf_emit.specs.Format.{IsFormatting}
-use Rattle.yf_emit.specs.FormatPromises.{FormatKept}
+use Rattle.yf_laws.specs.Format.{IsFormatting}
+use Rattle.yf_laws.specs.FormatPromises.{FormatKept}
 use Rattle.yf_forms.specs.declared.style.Style.{Style}
 use Rattle.yf_stream.specs.declared.stream.TheConstants.{LONGEST}
-use Rattle.yf_rules.specs.Headline.{IsMended}
+use Rattle.yf_laws.specs.Mended.{IsMended}
 use Rattle.yf_rules.specs.Runs.Run.{RefusedRun, FormattingGiven}
 
 -- that is the diff of a text and its formatting, both under the name; it is empty where they are the same, and only there

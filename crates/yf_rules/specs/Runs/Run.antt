@@ -12,7 +12,7 @@ use Rattle.yf_events.specs.Nested.{IsStream}
 use Rattle.yf_events.specs.Notation.{notation_of}
 use Rattle.yf_events.specs.Reading.{events_of}
 use Rattle.yf_forms.specs.declared.style.Style.{Style}
-use Rattle.yf_emit.specs.Format.{IsFormatting}
+use Rattle.yf_laws.specs.Format.{IsFormatting}
 use Rattle.yf_rules.specs.declared.finding.Finding.{Finding}
 use Rattle.yf_stream.specs.Refusal.{IsStreamFault}
 use Rattle.yf_stream.specs.StreamReader.{StreamFault, TheReading}

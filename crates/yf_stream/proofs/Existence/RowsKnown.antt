@@ -21,7 +21,7 @@ use Rattle.yf_comments.specs.Comments.CommentText.{comment_text}
 use Rattle.yf_comments.specs.Comments.LineRest.{comment, whites}
 use Rattle.yf_comments.proofs.LineEndLemmas.{row_stuck}
 use Rattle.yf_comments.proofs.NoteKnown.{note_known}
-use Rattle.yf_comments.proofs.RowLemmas.{none_nb, rest_at_end, rest_moves, separate_from, stuck_after_comment, stuck_after_whites}
+use Rattle.yf_comments.proofs.RowLemmas.{end_code, none_nb, rest_at_end, rest_moves, separate_from, stuck_after_comment, stuck_after_whites}
 use Rattle.yf_grammar.proofs.BlockOutcomes.BlockEnds.{LineOrEnd}
 use Rattle.yf_stream.specs.DocumentReaders.{PrefixRow, line_row, mark_row}
 use Rattle.yf_stream.specs.Stream.{EndIsMarked, Prefixes}
@@ -29,7 +29,6 @@ use Rattle.yf_stream.specs.Stream.EndIsMarked.{marked_end, unmarked_end}
 use Rattle.yf_stream.proofs.Uniqueness.OneDirective.{dot_still}
 use Rattle.yf_stream.proofs.Reader.PrefixLemmas.{prefix_functional, prefixes_rows, row_next, rows_parts, still}
 use Rattle.yf_chars.proofs.CharFacts.{end_no_white}
-use Rattle.yf_comments.proofs.RowLemmas.{end_code}
 
 -- the characters of a class from a place on
 record RunFrom (t : List ℕ) (p : ℕ → Bool) (i : ℕ) : Type 0 where

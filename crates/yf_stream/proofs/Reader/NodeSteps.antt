@@ -11,7 +11,7 @@ use Rattle.yf_lines.specs.Basic.{ForbiddenLine}
 use Rattle.yf_comments.specs.Comment.{CommentValue}
 use Rattle.yf_comments.specs.Comments.{LineEnd, Row}
 use Rattle.yf_comments.proofs.LineEndLemmas.{line_end_rows, rows_line_end}
-use Rattle.yf_comments.proofs.RowLemmas.{row_functional}
+use Rattle.yf_comments.proofs.RowLemmas.{end_code, row_functional}
 use Rattle.yf_events.specs.declared.directive.Directive.{Directive}
 use Rattle.yf_events.specs.declared.part.Part.{Part}
 use Rattle.yf_events.specs.declared.reading.TheConstants.{DEPTH}
@@ -30,7 +30,6 @@ use Rattle.yf_stream.proofs.Uniqueness.OneStream.{lines_end}
 use Rattle.yf_stream.proofs.Reader.PathLemmas.{path_at_dash}
 use Rattle.yf_stream.proofs.Reader.PathsThrough.{PathsThrough, past_rows, settled_here}
 use Rattle.yf_stream.proofs.Uniqueness.StreamPath.{ExplicitTo, NodeTo, Path, Settled, node_to, nothing_to, path_bare, path_directives, path_ends, path_explicit, path_mark, path_suffix, settled_more}
-use Rattle.yf_comments.proofs.RowLemmas.{end_code}
 
 -- a document from its `---` on, and a path after it
 pub record MarkedAt (t : List ℕ) (p : ℕ) : Type 0 where

@@ -13,14 +13,13 @@ use Rattle.yf_comments.specs.Comment.{CommentValue, comment_value}
 use Rattle.yf_comments.specs.declared.comment.Comment.{Comment}
 use Rattle.yf_comments.specs.Comments.{LineEnd, Row}
 use Rattle.yf_comments.proofs.LineEndLemmas.{line_end_rows, lines_rows, rest_line, rest_next, rows_line_end}
-use Rattle.yf_comments.proofs.RowLemmas.{rest_at_end, row_functional}
+use Rattle.yf_comments.proofs.RowLemmas.{end_code, rest_at_end, row_functional}
 use Rattle.yf_grammar.proofs.BlockOutcomes.BlockEnds.{LineOrEnd}
 use Rattle.yf_stream.specs.DocumentReaders.{FloorNote, CommentsAdded, PrefixRead, PrefixRow, PrefixUpto, SameButNotes, mark_row, line_row, none_renoted, one_renoted}
 use Rattle.yf_stream.specs.Stream.{PrefixPart, Prefixes}
 use Rattle.yf_stream.specs.Stream.PrefixPart.{order_mark, prefix_comment}
 use Rattle.yf_stream.proofs.ReaderLaws.{PrefixesAreRead}
 use Rattle.yf_stream.proofs.Uniqueness.StreamPath.{mark_still}
-use Rattle.yf_comments.proofs.RowLemmas.{end_code}
 
 -- comments that are kept
 renoted_more : {t : List ℕ} {f : ℕ} {cs ns : List CommentValue} (c : CommentValue) (b : Bool) → FloorNote t f c.offset b → SameButNotes t f cs ns

@@ -11,7 +11,7 @@ use Rattle.yf_chars.specs.Chain.Chain.{done}
 use Rattle.yf_chars.proofs.ChainLemmas.{chain_append, many_unique, stuck_unique}
 use Rattle.yf_comments.specs.Comment.{CommentValue}
 use Rattle.yf_comments.specs.Comments.{LineEnd, Row}
-use Rattle.yf_comments.proofs.RowLemmas.{row_functional, separate_whites}
+use Rattle.yf_comments.proofs.RowLemmas.{end_code, row_functional, separate_whites}
 use Rattle.yf_comments.proofs.LineEndLemmas.{line_end_rows}
 use Rattle.yf_plain.proofs.PlainLemmas.{ns_not_white}
 use Rattle.yf_grammar.specs.Productions.Meaning.{Meaning, empty_node, noting}
@@ -29,7 +29,6 @@ use Rattle.yf_stream.specs.Stream.ContentAt.{content_at}
 use Rattle.yf_stream.proofs.Uniqueness.OneDirective.{directives_one}
 use Rattle.yf_stream.proofs.Uniqueness.Stable.{stable_nat, stable_meaning}
 use Rattle.yf_stream.proofs.Uniqueness.StreamPath.{Settled, NodeTo, ExplicitTo, node_to, nothing_to, Path, path_ends, path_mark, path_suffix, path_explicit, path_directives, path_bare, settled_one, stream_from}
-use Rattle.yf_comments.proofs.RowLemmas.{end_code}
 use Rattle.yf_grammar.proofs.BlockReader.BlockSound.{alone_nothing}
 use Rattle.yf_grammar.proofs.WrittenTexts.LeafBack.{noting_nothing}
 

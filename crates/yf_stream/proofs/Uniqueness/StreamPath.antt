@@ -20,7 +20,7 @@ use Rattle.yf_comments.specs.Comments.BreakOrEnd.{by_break, by_end}
 use Rattle.yf_comments.specs.Comments.LineEnd.{past_rest, from_start}
 use Rattle.yf_comments.specs.Comments.Separate.{in_key, in_node}
 use Rattle.yf_comments.specs.Comments.SeparateLines.{in_line, over_lines}
-use Rattle.yf_comments.proofs.RowLemmas.{row_functional, separate_whites, stuck_at_solid}
+use Rattle.yf_comments.proofs.RowLemmas.{end_code, row_functional, separate_whites, stuck_at_solid}
 use Rattle.yf_comments.proofs.LineEndLemmas.{line_end_rows, lines_rows, row_stuck, row_stuck_end}
 use Rattle.yf_block_scalar.proofs.HeaderLemmas.{rest_stop}
 use Rattle.yf_events.specs.declared.directive.Directive.{Directive}
@@ -42,7 +42,6 @@ use Rattle.yf_stream.specs.Stream.StreamRest.{past_explicit, past_prefix, past_s
 use Rattle.yf_stream.specs.Stream.Suffixes.{last_suffix, more_suffixes}
 use Rattle.yf_stream.proofs.Uniqueness.NoPercent.{no_percent_node}
 use Rattle.yf_stream.proofs.Uniqueness.OneDirective.{DirectivesTo, lines_begin, lines_to, percent_still, dash_still, dot_still}
-use Rattle.yf_comments.proofs.RowLemmas.{end_code}
 use Rattle.yf_chars.proofs.CharFacts.{mark_no_white}
 use Rattle.yf_grammar.proofs.FlowReader.CompleteSteps.{noting_twice}
 use Rattle.yf_grammar.proofs.NodesInText.MeantLemmas.{noting_comments}

@@ -2,8 +2,8 @@ use Rattle.std.proofs.Common.{◌∷◌, ◌/◌, ◌%◌, sym, ◌∙◌, arith
 use Rattle.std.specs.String.{string_bytes}
 use Rattle.yf_chars.specs.Escape.{two_digits}
 use Rattle.yf_chars.proofs.EscapeLemmas.{glue, by_two_below, by_four_below, two_spelled, four_spelled, self_spelled}
-use Rattle.yf_chars.proofs.escapes.put_long.Goals as goal
 use Rattle.yf_chars.proofs.Tests.{glue_more}
+use Rattle.yf_chars.proofs.escapes.put_long.Goals as goal
 
 pub put_digits-requires-clause-small : goal.put_digits-requires-clause-small
 put_digits-requires-clause-small c = by_two_below c.args.c (sym c.is_by_two.ensures ∙ c.if-is_by_two.true)

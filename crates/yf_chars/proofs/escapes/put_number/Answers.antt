@@ -2,8 +2,8 @@ use Rattle.std.proofs.Common.{◌∷◌, ◌++◌, ◌/◌, ◌%◌, ◌∙◌, 
 use Rattle.std.specs.String.{string_bytes}
 use Rattle.yf_chars.specs.Escape.{two_digits}
 use Rattle.yf_chars.proofs.EscapeLemmas.{glue, few_spelled, many_spelled}
-use Rattle.yf_chars.proofs.escapes.put_number.Goals as goal
 use Rattle.yf_chars.proofs.Tests.{glue_more}
+use Rattle.yf_chars.proofs.escapes.put_number.Goals as goal
 
 pub returns-then-code-lt65536 : goal.returns-then-code-lt65536
 returns-then-code-lt65536 c =

@@ -1,5 +1,5 @@
 use Rattle.std.proofs.Common.{◌∙◌}
-use Rattle.yf_emit.proofs.Printer.WritingLemmas.{all_written, part_written}
+use Rattle.yf_laws.proofs.Printer.WritingLemmas.{all_written, part_written}
 use Rattle.yf_emit.proofs.print.print.Goals as goal
 
 pub returns-in-Ok-clause-printed : goal.returns-in-Ok-clause-printed

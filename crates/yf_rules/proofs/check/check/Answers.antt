@@ -1,6 +1,6 @@
 use Rattle.std.proofs.Common.{arith}
 use Rattle.yf_rules.proofs.Findings.CheckLemmas.{none_checked, more_checked, more_left_out, all_checked}
-use Rattle.yf_rules.proofs.Formatted.MendedFindings.{both_silent, none_silent, sorted_silent}
+use Rattle.yf_rules.proofs.Findings.MendedFindings.{both_silent, none_silent, sorted_silent}
 use Rattle.yf_rules.proofs.check.check.Goals as goal
 
 pub loop-rule-init : goal.loop-rule-init

@@ -1,7 +1,8 @@
 use Rattle.std.proofs.Common.{take}
 use Rattle.yf_rules.specs.Asked.{asked}
 use Rattle.yf_rules.specs.Check.{InOrder, RuleFindings}
-use Rattle.yf_rules.specs.NothingToFix.{IsFormatted, NoneFixable}
+use Rattle.yf_laws.specs.Mended.{IsFormatted}
+use Rattle.yf_rules.specs.NothingToFix.{NoneFixable}
 use Rattle.yf_rules.proofs.check.check.Given as goal
 
 abbrev pub invariant-loop-rule : goal.invariant-loop-rule

@@ -1,7 +1,7 @@
 use Rattle.std.proofs.Common.{◌≡◌, map, subst}
 use Rattle.yf_rules.specs.Check.{finding_at}
 use Rattle.yf_rules.specs.Check.FindingsOf.{at_places}
-use Rattle.yf_rules.proofs.Formatted.MendedFindings.{rule_silent}
+use Rattle.yf_rules.proofs.Findings.MendedFindings.{rule_silent}
 use Rattle.yf_rules.proofs.check.findings_of.Goals as goal
 
 pub returns-in-Ok-clause-findings : goal.returns-in-Ok-clause-findings

@@ -14,7 +14,7 @@ returns-clause-difference g c =
     let within_bytes : length c.in_ok-bytes.bytes.items ≤ INPUT_LIMIT = search rules in
     let within = subst (λ (t : List ℕ). length t ≤ INPUT_LIMIT) (sym same) within_bytes in
     let utf8 = subst (λ (t : List ℕ). IsUtf8 t) (sym c.in-Ok.ensures.1) c.in-Ok.ensures.0 in
-    difference_holds c.args.style.now (g.R.Read.remaining c.args.reader.now) c.in-Ok.text.now gave within utf8 c.difference_in.result c.difference_in.ensures.difference
+    difference_holds c.formattings_hold.ensures c.args.style.now (g.R.Read.remaining c.args.reader.now) c.in-Ok.text.now gave within utf8 c.difference_in.result c.difference_in.ensures.difference
 
 pub returns-clause-refusals : goal.returns-clause-refusals
 returns-clause-refusals g c =

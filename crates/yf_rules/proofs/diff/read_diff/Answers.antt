@@ -14,7 +14,7 @@ returns-clause-diff g c =
     let within_bytes : length c.in_ok-bytes.bytes.items ≤ INPUT_LIMIT = search rules in
     let within = subst (λ (t : List ℕ). length t ≤ INPUT_LIMIT) (sym same) within_bytes in
     let utf8 = subst (λ (t : List ℕ). IsUtf8 t) (sym c.in-Ok.ensures.1) c.in-Ok.ensures.0 in
-    diff_holds c.args.style.now c.args.name.now (g.R.Read.remaining c.args.reader.now) c.in-Ok.text.now gave within utf8 (λ d. d.items) c.diff_in.result c.diff_in.ensures.diff
+    diff_holds c.formattings_hold.ensures c.args.style.now c.args.name.now (g.R.Read.remaining c.args.reader.now) c.in-Ok.text.now gave within utf8 (λ d. d.items) c.diff_in.result c.diff_in.ensures.diff
 
 pub returns-clause-refusals : goal.returns-clause-refusals
 returns-clause-refusals g c =

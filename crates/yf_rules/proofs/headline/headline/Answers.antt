@@ -1,24 +1,20 @@
 use Rattle.std.proofs.Common.{refl}
-use Rattle.yf_stream.proofs.HasReading.{well_formed_texts_have_readings}
-use Rattle.yf_stream.proofs.LawsHold.{read_texts_have_no_fault, readings_are_one}
-use Rattle.yf_standard.proofs.AcceptanceHolds.{faults_tell_of_the_standard, standard_streams_mean_one, standard_texts_are_read}
-use Rattle.yf_standard.proofs.LawsHold.{read_texts_are_standard}
 use Rattle.yf_rules.proofs.Findings.AllRulesLemmas.{rules_are_listed}
-use Rattle.yf_rules.proofs.HeadlineHolds.{formatted_texts_are_clean, refused_texts_have_no_reading, standard_texts_are_formatted}
+use Rattle.yf_rules.proofs.HeadlineHolds.{formatted_texts_are_clean}
 use Rattle.yf_rules.proofs.headline.headline.Goals as goal
 
 pub returns : goal.returns
 returns c = record {
-  standard = standard_texts_are_read;
-  meant = standard_streams_mean_one;
-  letter = read_texts_are_standard;
-  told = faults_tell_of_the_standard;
-  derived = well_formed_texts_have_readings;
-  one = readings_are_one;
-  accepted = read_texts_have_no_fault;
-  refused = refused_texts_have_no_reading;
-  formatted = standard_texts_are_formatted;
-  clean = formatted_texts_are_clean;
+  standard = c.texts_are_read_and_formatted.ensures.standard;
+  meant = c.texts_are_read_and_formatted.ensures.meant;
+  letter = c.texts_are_read_and_formatted.ensures.letter;
+  told = c.texts_are_read_and_formatted.ensures.told;
+  derived = c.texts_are_read_and_formatted.ensures.derived;
+  one = c.texts_are_read_and_formatted.ensures.one;
+  accepted = c.texts_are_read_and_formatted.ensures.accepted;
+  refused = c.texts_are_read_and_formatted.ensures.refused;
+  formatted = c.texts_are_read_and_formatted.ensures.formatted;
+  clean = formatted_texts_are_clean c.rules_are_mended.ensures;
   listed = rules_are_listed;
   asked = refl;
 }

@@ -15,7 +15,7 @@ returns-clause-formatted g c =
     let within_bytes : length c.in_ok-bytes.bytes.items ≤ INPUT_LIMIT = search rules in
     let within = subst (λ (t : List ℕ). length t ≤ INPUT_LIMIT) (sym same) within_bytes in
     let utf8 = subst (λ (t : List ℕ). IsUtf8 t) (sym c.in-Ok.ensures.1) c.in-Ok.ensures.0 in
-    rendered_holds c.args.style.now (g.R.Read.remaining c.args.reader.now) c.in-Ok.text.now gave within utf8 string_bytes c.format.result c.format.ensures.keeps c.format.ensures.within
+    rendered_holds c.formattings_hold.ensures c.args.style.now (g.R.Read.remaining c.args.reader.now) c.in-Ok.text.now gave within utf8 string_bytes c.format.result c.format.ensures.keeps c.format.ensures.within
 
 pub returns-clause-refusals : goal.returns-clause-refusals
 returns-clause-refusals g c =

@@ -11,7 +11,7 @@ returns-then-bytes-gt-INPUT_LIMIT-clause-refuses c = (c.in-Ok.ensures.0, tt, for
 pub returns-clause-formats : goal.returns-clause-formats
 returns-clause-formats c =
     let within : length c.args.bytes.now ≤ INPUT_LIMIT = search rules in
-    formats_bytes c.in-Ok.text.now c.args.bytes.now c.in-Ok.ensures.1 c.in-Ok.ensures.0 c.format.result c.args.self.now.style.now string_bytes within
+    formats_bytes c.in-Ok.text.now c.args.bytes.now c.in-Ok.ensures.1 c.in-Ok.ensures.0 c.format.result c.formattings_hold.ensures c.args.self.now.style.now string_bytes within
     c.format.ensures.keeps c.format.ensures.within
 
 pub returns-clause-refuses : goal.returns-clause-refuses

@@ -1,5 +1,5 @@
 use Rattle.yf_rules.proofs.Findings.FoundLemmas.{all_found}
-use Rattle.yf_rules.proofs.Formatted.MendedFindings.{none_found}
+use Rattle.yf_rules.proofs.Findings.MendedFindings.{none_found}
 use Rattle.yf_rules.proofs.rule.Rule.find.Goals as goal
 
 pub returns-in-Ok-clause-found : goal.returns-in-Ok-clause-found

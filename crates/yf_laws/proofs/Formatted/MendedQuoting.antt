@@ -1,0 +1,80 @@
+-- In what formatting gives, each scalar has the style of the house.
+use Rattle.std.proofs.Common.{◌≡◌, ℕ, zero, suc, Bool, List, [], ◌∷◌, Some, sym, subst}
+use Rattle.std.specs.Prelude.{slice_get}
+use Rattle.std.proofs.lemmas.Option.{same_Some}
+use Rattle.yf_chars.proofs.Tests.{no_item}
+use Rattle.yf_events.specs.Event.{EventValue, EventInText, stream_starts, stream_ends, document_starts, document_ends, sequence_starts, sequence_ends, mapping_starts, mapping_ends, scalar_node, alias_node}
+use Rattle.yf_events.specs.declared.lists.Lists.{Lists}
+use Rattle.yf_stream.proofs.Existence.BreachLemmas.{values}
+use Rattle.yf_forms.specs.NormalForms.Restyled.{SameButStyles, none_left, one_more, restyled_event}
+use Rattle.yf_forms.specs.Nodes.ScalarStyles.{wanted}
+use Rattle.yf_forms.specs.declared.style.Style.{Style}
+use Rattle.yf_laws.proofs.NormalForms.NormalRestyled.{normal_restyled}
+use Rattle.yf_laws.proofs.SameReading.SameContent.{bare, formats_values, unmarked, unmarked_value}
+use Rattle.yf_laws.proofs.Texts.WantedLemmas.{wanted_stays}
+use Rattle.yf_laws.specs.Mended.{FormatsAreMended}
+use Rattle.yf_rule_sets.specs.Rules.{quoting}
+use Rattle.yf_rule_sets.specs.RuleSets.Styles.{QuotingFault}
+use Rattle.yf_rule_sets.specs.RuleSets.Styles.QuotingFault.{other_style}
+use Rattle.yf_laws.proofs.Formatted.MendedLines.{exactly_none}
+
+-- a scalar in the style of the house, or no scalar
+abbrev IsStyled : Style → EventValue → Type 0
+IsStyled q (scalar_node props style text) = wanted style text q ≡ style
+IsStyled q stream_starts = Unit {0}
+IsStyled q stream_ends = Unit {0}
+IsStyled q (document_starts marked) = Unit {0}
+IsStyled q (document_ends marked) = Unit {0}
+IsStyled q (sequence_starts flow props) = Unit {0}
+IsStyled q sequence_ends = Unit {0}
+IsStyled q (mapping_starts flow props) = Unit {0}
+IsStyled q mapping_ends = Unit {0}
+IsStyled q (alias_node name) = Unit {0}
+
+abbrev AreStyled : Style → List EventValue → Type 0
+AreStyled q [] = Unit {0}
+AreStyled q (v ∷ vs) = IsStyled q v × AreStyled q vs
+
+-- what is restyled is so, also without its markers
+restyled_styled : (q : Style) (flow : Bool) (v : EventValue) → IsStyled q (unmarked_value (restyled_event q flow v))
+restyled_styled q flow (scalar_node props style text) = wanted_stays style text q
+restyled_styled q flow stream_starts = tt
+restyled_styled q flow stream_ends = tt
+restyled_styled q flow (document_starts marked) = tt
+restyled_styled q flow (document_ends marked) = tt
+restyled_styled q flow (sequence_starts g props) = tt
+restyled_styled q flow sequence_ends = tt
+restyled_styled q flow (mapping_starts g props) = tt
+restyled_styled q flow mapping_ends = tt
+restyled_styled q flow (alias_node name) = tt
+
+all_styled : {q : Style} {es fs : List EventInText} → SameButStyles q es fs → AreStyled q (bare fs)
+all_styled none_left = tt
+all_styled {q} (one_more {e = e} flow a) = (restyled_styled q flow e.event, all_styled a)
+
+-- so is each event that differs by its marker
+with_marker : (q : Style) (v : EventValue) → IsStyled q (unmarked_value v) → IsStyled q v
+with_marker q (scalar_node props style text) a = a
+with_marker q stream_starts a = tt
+with_marker q stream_ends a = tt
+with_marker q (document_starts marked) a = tt
+with_marker q (document_ends marked) a = tt
+with_marker q (sequence_starts g props) a = tt
+with_marker q sequence_ends a = tt
+with_marker q (mapping_starts g props) a = tt
+with_marker q mapping_ends a = tt
+with_marker q (alias_node name) a = tt
+
+styled_at : (q : Style) (vs : List EventValue) (i : ℕ) (v : EventValue) → AreStyled q (unmarked vs) → slice_get vs i ≡ Some v → IsStyled q v
+styled_at q [] i v a e = absurd (no_item i v e)
+styled_at q (w ∷ vs) zero v a e = subst (λ z. IsStyled q z) (same_Some _ _ e) (with_marker q w a.0)
+styled_at q (w ∷ vs) (suc i) v a e = styled_at q vs i v a.1 e
+
+none_misquoted : {src_text : List ℕ} {r : Lists} {s : Style} {i x : ℕ} → AreStyled s (bare r.events) → QuotingFault src_text r s i x → ⊥
+none_misquoted {r = r} {s = s} {i = i} a (other_style {props = props} {style = style} {text = text} w n) = n (styled_at s (values r.events) i (scalar_node props style text) a w.event)
+
+pub quoting_mended : FormatsAreMended quoting
+quoting_mended fixable src r s w offsets e =
+    let styled : AreStyled s (bare w.formats.normal.events) = all_styled (normal_restyled w.formats.is_normal).events in
+    let there : AreStyled s (bare r.events) = subst (λ vs. AreStyled s vs) (sym (formats_values w.utf8 w.formats w.reads)) styled in
+    exactly_none offsets (λ i x m. none_misquoted {s = s} there m) e

@@ -1,0 +1,57 @@
+-- The laws of what formatting gives, each with the plain sentence that it says. `proofs/SameReading/FormatLawsHold.antt`, `proofs/Trails/FormatTrails.antt`,
+-- `proofs/Derived/FormatsRead.antt`, `proofs/SameReading/SameContent.antt` and `proofs/SameReading/SameComments.antt` prove them.
+use Rattle.std.specs.Prelude.{◌≡◌, ℕ, List}
+use Rattle.std.specs.Str.{IsUtf8}
+use Rattle.yf_events.specs.declared.lists.Lists.{Lists}
+use Rattle.yf_stream.specs.ReadingOf.{ReadingOf}
+use Rattle.yf_stream.specs.Stream.{Documents}
+use Rattle.yf_stream.specs.WellFormed.{ReadsWithoutBreach}
+use Rattle.yf_forms.specs.declared.style.Style.{Style}
+use Rattle.yf_print.specs.Layouts.BareStart.{is_bare}
+use Rattle.yf_laws.specs.Layouts.RowComments.{TrailsFit}
+use Rattle.yf_laws.specs.Layouts.Decorated.{rows_of}
+use Rattle.yf_laws.specs.Layouts.FitDocuments.{DocumentsMeant}
+use Rattle.yf_laws.specs.Format.{IsFormatting}
+use Rattle.yf_laws.specs.Laws.{HasSameComments, HasSameContent, IsAccepted}
+use Rattle.yf_laws.specs.Layouts.Layout.{source_of}
+
+-- Formatting a text that has a reading gives a text.
+abbrev pub FormatsExist : Type 0
+FormatsExist = (t : List ℕ) (s : Style) (r : Lists) → ReadingOf t r → (u : List ℕ) × IsFormatting t s u
+
+-- It gives one alone.
+abbrev pub FormatsAreOne : Type 0
+FormatsAreOne = (t u v : List ℕ) (s : Style) → IsFormatting t s u → IsFormatting t s v → u ≡ v
+
+-- one comment at most trails each row of the layout
+abbrev pub TrailsFitIn : {t : List ℕ} {s : Style} {u : List ℕ} → IsFormatting t s u → Type 0
+TrailsFitIn {s = s} f = TrailsFit (source_of f.normal (rows_of f.normal s f.writes.trees)) (rows_of f.normal s f.writes.trees)
+
+-- One comment at most trails each row of what formatting gives.
+abbrev pub FormatsTrailOnce : Type 0
+FormatsTrailOnce = (t u : List ℕ) (s : Style) → IsUtf8 t → (f : IsFormatting t s u) → TrailsFitIn f
+
+-- u is a text that means one thing within the limit of open collections and breaks no rule of streams, and its documents mean the trees of the
+-- normal form, with their directives; each begins with a `---`, but for a first one that is bare.
+pub record WellFormed {t : List ℕ} {s : Style} {u : List ℕ} (f : IsFormatting t s u) : Type 0 where
+  pub utf8 : IsUtf8 u
+  pub documents : Documents
+  pub reads : ReadsWithoutBreach u documents
+  pub meant : DocumentsMeant (is_bare f.normal s) f.normal.documents f.writes.trees documents.documents
+
+-- What formatting gives is a well-formed stream.
+abbrev pub FormatsAreWellFormed : Type 0
+FormatsAreWellFormed = (t u : List ℕ) (s : Style) → IsUtf8 t → (f : IsFormatting t s u) → WellFormed f
+
+-- It is accepted: it has a reading.
+abbrev pub FormatsAreAccepted : Type 0
+FormatsAreAccepted = (t u : List ℕ) (s : Style) → IsUtf8 t → IsFormatting t s u → IsAccepted u
+
+-- And it has the same content.
+abbrev pub FormatsKeepContent : Type 0
+FormatsKeepContent = (t u : List ℕ) (s : Style) → IsUtf8 t → IsFormatting t s u → HasSameContent t u
+
+-- And it has the same comments at the same places: as many, in order, each with the same text but for the white space that ended it, after the same
+-- number of documents and of leaves.
+abbrev pub FormatsKeepComments : Type 0
+FormatsKeepComments = (t u : List ℕ) (s : Style) → IsUtf8 t → IsFormatting t s u → HasSameComments t u

@@ -1,0 +1,14 @@
+-- How long a formatted text may be.
+use Rattle.std.specs.Prelude.{ℕ, suc, ◌+◌, ◌*◌, ◌≤◌, List, length}
+use Rattle.yf_events.specs.declared.lists.Lists.{Lists}
+use Rattle.yf_events.specs.declared.reading.TheConstants.{DEPTH}
+use Rattle.yf_stream.specs.ReadingOf.{ReadingOf}
+use Rattle.yf_forms.specs.declared.style.Style.{Style}
+use Rattle.yf_laws.specs.Layouts.FitDocuments.{tall_documents}
+
+-- each byte of t, and one more, stands for the greatest column that a line of u may begin at, and eight bytes
+pub record SizeKept (t : List ℕ) (s : Style) (u : List ℕ) : Type 0 where
+  -- by the most collections that are open at once in t
+  pub by_depth : (r : Lists) (a : ReadingOf t r) → length u ≤ suc (length t) * (s.indent * suc (tall_documents a.trees) + 8)
+  -- of any text, since no more are open than the limit
+  pub at_most : length u ≤ suc (length t) * (s.indent * suc DEPTH + 8)
