@@ -4,7 +4,7 @@
 Usage: bench/edits.py            writes the page
        bench/edits.py --check    fails where the page isn't as the edits are
 
-An edit, crates/NAME/must-fail/*.edit, has one line `# promise: TEXT`; edits with one text share a row. What no edit shows stands in
+An edit, crates/NAME/must-fail/*.edit, has one line `# promise: TEXT`; edits with one text share a row. What no edit shows is in
 docs/proving/promises.txt, a line `NAME, tab, TEXT, tab, what holds it` for each promise. The last is `-` where there is nothing to
 hold, or begins with `as ` where an edit of the crate answers for it, by the same clause, or one `of` another crate, by a clause that holds it. With or without --check it fails where
 

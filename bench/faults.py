@@ -101,7 +101,7 @@ def names_like_stages(room, clone, recipes):
 
 
 def hook_by_relative_path(room, clone, recipes):
-    """The recipe, in which the clone is named from where it stands; and in a linked worktree."""
+    """The recipe, in which the clone is named from where it is; and in a linked worktree."""
     hooked(room, clone, recipes['git'].replace(clone, os.path.relpath(clone, room)))
     write(room + '/a b.yaml', BAD + 'b: 1 # c\n')
     sh(['git', 'worktree', 'add', '-q', room + '/linked'], room)

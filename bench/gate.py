@@ -1,12 +1,12 @@
 #!/usr/bin/env python3
 """Times whole commands of the kit: what `rt ci`, or one part of it, costs in processor seconds and by the clock.
 
-Usage: bench/gate.py [--in FOLDER] [COMMAND..]
+Usage: bench/gate.py [--in FOLDER] [--lanes N] [--log FILE] [COMMAND..]
 
 It clones the last commit into FOLDER (default: one that it removes again; one that is there is taken as it is) and runs there
 one COMMAND after another, each as `rt` has it and nothing else:
 
-    ci                the merge gate (the default)
+    ci                the merge gate, from nothing (the default)
     ci:NAME           the gate of one crate, with a kit whose `rt ci` takes a name
     must-fail:NAME    the must-fail edits of one crate
     verdict:NAME      the proofs of one crate and those below it, and of its tests, from nothing
@@ -14,7 +14,8 @@ one COMMAND after another, each as `rt` has it and nothing else:
     test:NAME         the proof and run of its tests, likewise
 
 For each it prints the processor seconds (user and system, of the command and all that it started and waited for), the seconds
-by the clock, the command and its last line. It ends with status 1 where a command did.
+by the clock, the command and its last line. It ends with status 1 where a command did. FILE gets all that is printed, each line
+after the seconds by the clock at which it came. With N lanes `rt ci` does so many things at a time, each with one job.
 """
 import argparse
 import os
@@ -33,7 +34,7 @@ def words_of(command):
     """The words of a command, and the folder below the top in which it is run."""
     verb, _, name = command.partition(":")
     if verb in AT_THE_TOP and (name or verb == "ci"):
-        return ["rt", verb, *([name] if name else [])], "."
+        return ["rt", verb, name or "--anew"], "."
     if verb in IN_A_CRATE and name:
         return ["rt", verb], os.path.join("crates", name)
     sys.exit(f"{command}: no such command\n\n{__doc__}")
@@ -44,27 +45,32 @@ def processor_seconds():
     return used.ru_utime + used.ru_stime
 
 
-def timed(words, folder):
+def timed(words, folder, environment, log):
     """Processor seconds, seconds by the clock, the status and the last line of a command."""
-    spent, begun = processor_seconds(), time.monotonic()
-    done = subprocess.run(words, cwd=folder, stdout=subprocess.PIPE, stderr=subprocess.STDOUT, text=True)
-    lines = done.stdout.strip().splitlines() or [""]
-    return processor_seconds() - spent, time.monotonic() - begun, done.returncode, lines[-1]
+    spent, begun, last = processor_seconds(), time.monotonic(), ""
+    with subprocess.Popen(words, cwd=folder, env=environment, stdout=subprocess.PIPE, stderr=subprocess.STDOUT, text=True) as command:
+        for line in command.stdout:
+            last = line.strip() or last
+            log.write(f"{time.monotonic() - begun:8.1f} {line}")
+    return processor_seconds() - spent, time.monotonic() - begun, command.returncode, last
 
 
 def main():
     asked = argparse.ArgumentParser(usage=__doc__)
     asked.add_argument("--in", dest="folder")
+    asked.add_argument("--lanes", type=int)
+    asked.add_argument("--log", default=os.devnull)
     asked.add_argument("commands", nargs="*")
     given = asked.parse_args()
     commands = [words_of(command) for command in given.commands or ["ci"]]
+    environment = {**os.environ, **({"RT_JOBS": str(given.lanes)} if given.lanes else {})}
     failed = False
-    with tempfile.TemporaryDirectory(prefix="gate-") as room:
+    with tempfile.TemporaryDirectory(prefix="gate-") as room, open(given.log, "w", buffering=1, encoding="utf-8") as log:
         folder = os.path.abspath(given.folder or os.path.join(room, "clone"))
         if not os.path.isdir(folder):
             subprocess.run(["git", "clone", "-q", TOP, folder], check=True)
         for words, below in commands:
-            spent, passed, status, last = timed(words, os.path.join(folder, below))
+            spent, passed, status, last = timed(words, os.path.join(folder, below), environment, log)
             failed = failed or status != 0
             where = "" if below == "." else f" in {below}"
             print(f"{spent:8.0f} {passed:8.0f}  {' '.join(words)}{where}: {last}", flush=True)

@@ -4,7 +4,7 @@
 Usage: bench/hostile.py [--program PROGRAM] [--list] [NAME..]
 
 PROGRAM is the one that ./yamlfmt builds unless another is named; build it first. With NAMEs, only those shapes. Run by hand,
-not part of rt ci; what is known of the shapes stands in docs/HOSTILE.md. Each shape is a text of a size; each of the three
+not part of rt ci; what is known of the shapes is in docs/HOSTILE.md. Each shape is a text of a size; each of the three
 verbs, and `fmt` with `comments = "block"`, is timed (in processor seconds) at a size, at twice and at four times that. It is a
 fault where the time grows more than 2.5-fold twice in a row, where more bytes of memory are taken a byte of input than LIMIT says (and, of shapes that `fmt` writes much
 longer, WRITTEN), where a run takes more than two minutes, or where it ends with a signal or with another status than 0, 1 and 2.

@@ -1,5 +1,5 @@
 #!/usr/bin/env python3
-"""Tries each recipe of docs/RECIPES.md as it stands there, each in a scratch folder, where its tool is installed; then what
+"""Tries each recipe of docs/RECIPES.md as it is written there, each in a scratch folder, where its tool is installed; then what
 went wrong with the hooks once (bench/faults.py); and the examples of README.md and docs/STYLE.md; and whether `--version` tells
 the newest version of CHANGELOG.md, and the logic of README.md, of docs/PROVED.md and of `rt version`; and whether `patch`, given what
 `fmt --diff` prints of a hundred texts, makes their formatting of them. Says `tried`, `FAILED`, `no TOOL`

@@ -41,7 +41,7 @@ class Clone:
 
 
 def step(text, words):
-    """What stands after the words on their line."""
+    """What comes after the words on their line."""
     return re.search(r'%s(.*)' % words, text)[1]
 
 

@@ -4,7 +4,7 @@
 Usage: dist/pages.py PROGRAM FOLDER
 
 Writes yamlfmt.1, yamlfmt.bash, _yamlfmt (for zsh) and yamlfmt.fish into FOLDER. All commands, options and arguments in them are read
-off the program's own help; a line of help that is not understood ends the script. What else the man page says stands in
+off the program's own help; a line of help that is not understood ends the script. What else the man page says is in
 dist/yamlfmt.1.in, and its date is that of SOURCE_DATE_EPOCH.
 """
 import dataclasses

@@ -15,7 +15,7 @@ pub mod ContentLemmas
 -- `write_block`: what is written is read again
 pub mod WrittenLemmas
 pub mod DerivedLemmas
--- a scalar among other lines (the laws of layouts of yf_emit)
+-- a scalar among other lines (the laws of layouts of yf_laws)
 pub mod LinesMade
 pub mod PlacedLemmas
 pub mod PlacedScalar

@@ -12,7 +12,7 @@ mod SolidLemmas
 pub mod BlankLemmas
 mod VisibleLemmas
 pub mod NoteKnown
--- what is written is read again (the laws of layouts of yf_emit)
+-- what is written is read again (the laws of layouts of yf_laws)
 pub mod SpaceLemmas
 pub mod GapLinesLemmas
 -- the definitions by small texts

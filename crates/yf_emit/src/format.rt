@@ -5,7 +5,7 @@ ghost use Rattle.std.specs.String.{string_bytes};
 ghost use Rattle.yf_laws.specs.FormatPromises.{FormatKept};
 ghost use Rattle.yf_stream.specs.ReadingOf.{ReadingOf};
 ghost use Rattle.yf_stream.specs.StreamReader.{StreamFault};
-ghost use Rattle.yf_stream.specs.declared.stream.TheConstants.{LONGEST};
+ghost use Rattle.yf_events.specs.declared.reading.TheConstants.{LONGEST};
 
 use std::alloc::{AllocError, Global};
 use yf_events::reading::Reading;

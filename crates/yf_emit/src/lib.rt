@@ -1,4 +1,4 @@
-//! The house style: formatting a text, and what is proved of it.
+//! The house style: formatting a text. What is proved of formatted texts is in yf_laws.
 #![tactic(auto)]
 
 pub mod format;

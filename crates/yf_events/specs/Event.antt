@@ -1,7 +1,7 @@
 -- What an event is to a contract: its names and texts are lists of bytes, wherever in memory they lie.
 use Rattle.std.specs.Prelude.{ℕ, zero, suc, Bool, List, [], ◌∷◌, Option, Some, map}
 use Rattle.yf_lines.specs.Text.{text_bytes}
-use Rattle.yf_props.specs.Props.{PropsValue, props_value}
+use Rattle.yf_props.specs.Props.{PropsValue, no_props, props_value}
 use Rattle.yf_events.specs.declared.event.Entry.{Entry}
 use Rattle.yf_events.specs.declared.event.Event.{Event}
 use Rattle.yf_events.specs.declared.event.Event.TheVariants.{StreamStart, StreamEnd, DocStart, DocEnd, SeqStart, SeqEnd, MapStart, MapEnd, Scalar, Alias}
@@ -25,6 +25,13 @@ pub data EventValue : Type 0 where
   mapping_ends : EventValue
   scalar_node : PropsValue → ScalarStyle → List ℕ → EventValue
   alias_node : List ℕ → EventValue
+
+-- the properties of a node
+abbrev pub props_of : EventValue → PropsValue
+props_of (scalar_node props style text) = props
+props_of (sequence_starts flow props) = props
+props_of (mapping_starts flow props) = props
+props_of _ = no_props
 
 abbrev pub event_value : Event → EventValue
 event_value StreamStart = stream_starts

@@ -15,6 +15,9 @@ use yf_props::resolved::ResolvedTag;
 /// How many collections may be open at once. A single pair of a flow sequence counts as a mapping.
 pub const DEPTH: usize = 1024;
 
+/// The most bytes that a text may have of which a reading is made: 1 GiB. A reading keeps offsets in 32 bits, and no column is larger.
+pub const LONGEST: usize = 1 << 30;
+
 /// What a stream of YAML says: its events, comments and documents, each with its place. The events are well nested,
 /// and at most `DEPTH` collections are open at once. In a contract it is the lists that it was made of.
 #[derive(Drop)]

@@ -22,7 +22,7 @@ pub mod Documents
 pub mod NodesInText
 -- a node of a text is one of the prefix that ends with it, and is read there again (`read_block_node` of yf_block)
 pub mod Prefixes
--- what is written is read again (the laws of layouts of yf_emit)
+-- what is written is read again (the laws of layouts of yf_laws)
 pub mod WrittenTexts
 -- the definitions by small texts
 pub mod Shown

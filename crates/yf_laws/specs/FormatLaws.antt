@@ -7,7 +7,7 @@ use Rattle.yf_stream.specs.ReadingOf.{ReadingOf}
 use Rattle.yf_stream.specs.Stream.{Documents}
 use Rattle.yf_stream.specs.WellFormed.{ReadsWithoutBreach}
 use Rattle.yf_forms.specs.declared.style.Style.{Style}
-use Rattle.yf_print.specs.Layouts.BareStart.{is_bare}
+use Rattle.yf_forms.specs.NormalForms.BareStart.{is_bare}
 use Rattle.yf_laws.specs.Layouts.RowComments.{TrailsFit}
 use Rattle.yf_laws.specs.Layouts.Decorated.{rows_of}
 use Rattle.yf_laws.specs.Layouts.FitDocuments.{DocumentsMeant}

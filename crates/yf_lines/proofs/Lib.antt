@@ -16,7 +16,7 @@ pub mod MarkLemmas
 pub mod PlaceLemmas
 -- `write_text` and `write_texts`
 pub mod OutputLemmas
--- what is written is read again (the laws of layouts of yf_emit)
+-- what is written is read again (the laws of layouts of yf_laws)
 pub mod RestLemmas
 pub mod CoreSteady
 pub mod VisibleLines

@@ -5,7 +5,7 @@ pub mod PlainLemmas
 pub mod OrdinaryLemmas
 pub mod LineLemmas
 pub mod PlainOrder
--- what stays plain is read again (the laws of layouts of yf_emit)
+-- what stays plain is read again (the laws of layouts of yf_laws)
 pub mod KeptLemmas
 pub mod PlainBack
 -- the definitions by small texts

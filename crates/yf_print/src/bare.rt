@@ -1,7 +1,7 @@
 //! Whether the `---` of the first document is left out.
 ghost use Rattle.std.specs.Prelude.{◌≡◌};
 ghost use Rattle.yf_print.specs.Layouts.BareSearch as BareSearch;
-ghost use Rattle.yf_print.specs.Layouts.BareStart as BareStart;
+ghost use Rattle.yf_forms.specs.NormalForms.BareStart as BareStart;
 
 use yf_events::event::Event;
 use yf_events::reading::Reading;

@@ -1,14 +1,13 @@
 //! The layout of a normal reading: one pass over its events. Columns count from 0 here.
 ghost use Rattle.std.specs.Prelude.{◌<◌, ◌≡◌, ◌≤◌, length, OnOk, IfOk};
 ghost use Rattle.std.specs.String.{string_bytes};
-ghost use Rattle.yf_stream.specs.WellFormed.{props_of};
-ghost use Rattle.yf_events.specs.Event.{event_value};
+ghost use Rattle.yf_events.specs.Event.{event_value, props_of};
 ghost use Rattle.yf_print.specs.Passes.PrintPass as Printing;
 ghost use Rattle.yf_print.specs.Passes.Pages.{form_at, measure_at, placed_at, work_on};
 ghost use Rattle.yf_print.specs.Passes.PrintWork.{work_of};
 ghost use Rattle.yf_print.specs.Passes.PrinterState.{state_of};
 ghost use Rattle.yf_print.specs.Passes.TrailPass.{all_found};
-ghost use Rattle.yf_stream.specs.declared.stream.TheConstants.{LONGEST};
+ghost use Rattle.yf_events.specs.declared.reading.TheConstants.{LONGEST};
 
 use crate::leaves::push_leaf;
 use crate::looks::event_at;

@@ -1,12 +1,12 @@
 //! Printing the nodes whose text goes to a line: scalars, aliases, and flow collections that are kept or empty. Columns
 //! count from 0 here.
 ghost use Rattle.std.specs.Prelude.{◌<◌, ◌≡◌, ◌+◌, drop, length, map, slice_get, OnOk, IfOk, Some};
-ghost use Rattle.yf_stream.specs.WellFormed.{props_of};
 ghost use Rattle.yf_forms.specs.Passes.DecidePass as Deciding;
 ghost use Rattle.yf_print.specs.Passes.Drafts.{draft, with_text};
 ghost use Rattle.yf_print.specs.Passes.Pages.{form_at, measure_at, placed_at, work_on};
 ghost use Rattle.yf_print.specs.Passes.PrintPass as Printing;
 ghost use Rattle.yf_print.specs.Passes.PrintPass.{colon_text, event_noted, events_noted, leaf_noted_if, lines_column, node_noted, with_kept, with_node_event};
+ghost use Rattle.yf_events.specs.Event.{props_of};
 
 use crate::looks::{entry_at, event_at, folded_at, push_props_at, push_props_before_at, span_at};
 use crate::output::Output;

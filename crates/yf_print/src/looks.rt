@@ -1,8 +1,7 @@
 //! What a printer looks at of the event at an index: each part alone, so that no more of the event is put together than is printed.
 ghost use Rattle.std.specs.Prelude.{◌<◌, ◌≡◌, ◌++◌, length, map, not, OnOk};
 ghost use Rattle.std.specs.String.{string_bytes};
-ghost use Rattle.yf_events.specs.Event.{event_value};
-ghost use Rattle.yf_stream.specs.WellFormed.{props_of};
+ghost use Rattle.yf_events.specs.Event.{event_value, props_of};
 ghost use Rattle.yf_forms.specs.Nodes.OneLine.{props_text, space_after};
 ghost use Rattle.yf_print.specs.Passes.Pages.{placed_at};
 ghost use Rattle.yf_forms.specs.Nodes.Lines.{is_empty_text};

@@ -10,7 +10,7 @@ ghost use Rattle.yf_print.specs.Layouts.KeptColumns.{keeps_blocks};
 ghost use Rattle.yf_print.specs.Layouts.Rows.{start_of};
 ghost use Rattle.yf_print.specs.Passes.Pages.{work_on};
 ghost use Rattle.yf_print.specs.Passes.PrintWork.{remarks_of};
-ghost use Rattle.yf_stream.specs.declared.stream.TheConstants.{LONGEST};
+ghost use Rattle.yf_events.specs.declared.reading.TheConstants.{LONGEST};
 
 use crate::comment_texts::{push_after_space_if, push_comment};
 use crate::open_blocks::{OpenBlock, OpenBlocks};

@@ -2,12 +2,12 @@
 //! collections. Columns count from 0 here.
 ghost use Rattle.std.specs.Prelude.{◌<◌, ◌≡◌, ◌++◌, ◌∷◌, ◌==◌, false, length, map, not, reverse, slice_get, OnOk, IfOk};
 ghost use Rattle.std.specs.String.{string_bytes};
-ghost use Rattle.yf_stream.specs.WellFormed.{props_of};
 ghost use Rattle.yf_print.specs.Passes.Drafts.{draft};
 ghost use Rattle.yf_print.specs.Passes.PrintPass as Printing;
 ghost use Rattle.yf_print.specs.Passes.Pages.{form_at, placed_at, work_on};
 ghost use Rattle.yf_print.specs.Passes.PrintPass.{level_of, frames_after, marked, sign, space_text};
 ghost use Rattle.yf_print.specs.Layouts.Rows.{joined_words};
+ghost use Rattle.yf_events.specs.Event.{props_of};
 
 use crate::bare::is_bare;
 use crate::looks::{entry_at, has_props_at, push_props_if};

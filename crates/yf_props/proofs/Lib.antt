@@ -13,7 +13,7 @@ pub mod SeparationEnds
 -- `Handles`: `declare` and `resolve`; the order of resolved tags
 pub mod HandleLemmas
 pub mod OrderLemmas
--- what is written is read again (the laws of layouts of yf_emit)
+-- what is written is read again (the laws of layouts of yf_laws)
 pub mod NamesMade
 pub mod NamesBack
 pub mod PropsBack

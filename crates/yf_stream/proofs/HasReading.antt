@@ -10,7 +10,7 @@ use Rattle.yf_props.specs.Handles.SuffixText.{as_decoded, as_written}
 use Rattle.yf_props.specs.Handles.TagText.{non_specific_text, shorthand_text, verbatim_text}
 use Rattle.yf_props.specs.Props.{TagValue}
 use Rattle.yf_props.specs.Props.TagValue.{IsVerbatim, IsShort, IsNonSpecific}
-use Rattle.yf_events.specs.Event.{EventInText, stream_ends, stream_starts}
+use Rattle.yf_events.specs.Event.{EventInText, stream_ends, stream_starts, props_of}
 use Rattle.yf_events.specs.Tree.{leaves, unplaced}
 use Rattle.yf_events.specs.declared.event.Entry.{Entry}
 use Rattle.yf_events.specs.declared.lists.Lists.{Lists}
@@ -24,7 +24,7 @@ use Rattle.yf_stream.specs.ReadingOf.{DocumentEvents, no_document, one_document,
 use Rattle.yf_stream.specs.Stream.{AnyDocument, Document, ExplicitNode, document_of}
 use Rattle.yf_stream.specs.Stream.AnyDocument.{bare_document, directive_document, explicit_document}
 use Rattle.yf_stream.specs.Stream.ExplicitNode.{marked_node, marked_nothing}
-use Rattle.yf_stream.specs.WellFormed.{alias_breaches, alias_of, breach_if, breaches, declarations, directive_breaches, document_breaches, event_breaches, is_unknown, offset_or, props_of, start_or, with_name}
+use Rattle.yf_stream.specs.WellFormed.{alias_breaches, alias_of, breach_if, breaches, declarations, directive_breaches, document_breaches, event_breaches, is_unknown, offset_or, start_or, with_name}
 use Rattle.yf_stream.specs.declared.breaches.BreachKind.TheVariants.{UnknownHandle}
 use Rattle.yf_stream.proofs.Existence.BreachLemmas.{both_empty, some_none}
 use Rattle.yf_stream.proofs.Existence.LinesExist.{lines_exist}

@@ -8,13 +8,13 @@ use Rattle.yf_comments.specs.Comment.{CommentValue}
 use Rattle.yf_comments.specs.Comments.{LineEnd}
 use Rattle.yf_props.specs.Handles.{Declaration, TagText}
 use Rattle.yf_props.specs.Props.{TagValue}
-use Rattle.yf_events.specs.Event.{EventInText, stream_starts, stream_ends, document_starts, document_ends}
+use Rattle.yf_events.specs.Event.{EventInText, stream_starts, stream_ends, document_starts, document_ends, props_of}
 use Rattle.yf_events.specs.declared.document.Doc.{Doc}
 use Rattle.yf_events.specs.declared.event.Span.{Span}
 use Rattle.yf_events.specs.declared.lists.Lists.{Lists}
 use Rattle.yf_grammar.specs.Productions.ReadParts.{NotedSince, Noting, floor_after_event}
 use Rattle.yf_stream.specs.Stream.{Document, Documents, EndIsMarked}
-use Rattle.yf_stream.specs.WellFormed.{ReadsWithoutBreach, declarations, props_of}
+use Rattle.yf_stream.specs.WellFormed.{ReadsWithoutBreach, declarations}
 use Rattle.yf_events.specs.Tree.{DocumentTree, TreesOf, leaves, unplaced}
 
 -- the resolved tag of the node that each event begins, with these declarations

@@ -5,8 +5,8 @@ use Rattle.yf_props.specs.Handles.{Declaration, TagText, declared_prefix}
 use Rattle.yf_props.specs.Props.{TagValue, no_props}
 use Rattle.yf_events.specs.declared.directive.Directive.{Directive}
 use Rattle.yf_events.specs.declared.document.Doc.{Doc}
-use Rattle.yf_events.specs.Event.{EventValue, EventInText, document_starts}
-use Rattle.yf_stream.specs.WellFormed.{IsFirst, alias_breaches, alias_of, breach_if, declarations, directive_breaches, escape_breaches, has_name, is_unknown, offset_or, props_of, start_or, with_name}
+use Rattle.yf_events.specs.Event.{EventValue, EventInText, document_starts, props_of}
+use Rattle.yf_stream.specs.WellFormed.{IsFirst, alias_breaches, alias_of, breach_if, declarations, directive_breaches, escape_breaches, has_name, is_unknown, offset_or, start_or, with_name}
 use Rattle.yf_stream.specs.declared.breaches.Breach.{Breach}
 use Rattle.yf_stream.specs.declared.breaches.BreachKind.TheVariants.{UnknownHandle}
 

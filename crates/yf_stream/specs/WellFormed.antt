@@ -3,11 +3,11 @@ use Rattle.std.specs.Prelude.{◌≡◌, ◌<◌, ◌≤◌, ℕ, Bool, true, fa
 use Rattle.std.specs.List.{All, Contains}
 use Rattle.std.specs.Str.{bytes_eq}
 use Rattle.yf_props.specs.Handles.{Declaration, is_declared, prefix_of}
-use Rattle.yf_props.specs.Props.{PropsValue, TagValue, no_props}
+use Rattle.yf_props.specs.Props.{TagValue}
 use Rattle.yf_props.specs.Props.TagValue.{IsShort}
 use Rattle.yf_events.specs.declared.directive.Directive.{Directive}
 use Rattle.yf_events.specs.declared.event.Span.{Span}
-use Rattle.yf_events.specs.Event.{EventValue, EventInText, scalar_node, sequence_starts, mapping_starts, alias_node}
+use Rattle.yf_events.specs.Event.{EventValue, EventInText, alias_node, props_of}
 use Rattle.yf_events.specs.declared.reading.TheConstants.{DEPTH}
 use Rattle.yf_stream.specs.Stream.{Document, Documents, Stream}
 use Rattle.yf_stream.specs.declared.breaches.Breach.{Breach}
@@ -64,13 +64,7 @@ abbrev pub declarations : List Declaration → List Directive → List Declarati
 declarations ds [] = ds
 declarations ds (d ∷ rest) = declarations (with_declaration ds (declaration_of d.words)) rest
 
--- the properties of a node, and the name of an alias
-abbrev pub props_of : EventValue → PropsValue
-props_of (scalar_node props style text) = props
-props_of (sequence_starts flow props) = props
-props_of (mapping_starts flow props) = props
-props_of _ = no_props
-
+-- the name of an alias
 abbrev pub alias_of : EventValue → Option (List ℕ)
 alias_of (alias_node name) = Some name
 alias_of _ = None

@@ -1,11 +1,11 @@
 //! The resolved tags of a stream (YAML 1.2.2, section 6.9.1), and the first breach in it.
 ghost use Rattle.std.specs.Prelude.{◌≡◌, ◌≤◌, ◌<◌, [], ◌∷◌, ◌++◌, false, drop, length, IfOk};
 ghost use Rattle.yf_props.specs.Props.{name_value, optional_tag_value};
-ghost use Rattle.yf_events.specs.Event.{event_value};
+ghost use Rattle.yf_events.specs.Event.{event_value, props_of};
 ghost use Rattle.yf_stream.specs.TagPass.{AllPassed, EventAt, FirstOf, FirstOfBoth, PassTags, EventPassed, TagsResolved, SameDeclarations, SameNames, StartsDocument, TagAdded, TagOf, directives_of, stream_breaches};
 ghost use Rattle.yf_stream.specs.BareRun.{BarePassed};
 ghost use Rattle.yf_stream.specs.TagPass as TagPass;
-ghost use Rattle.yf_stream.specs.WellFormed.{alias_breaches, alias_of, breach_if, declarations, directive_breaches, is_unknown, offset_or, props_of, start_or, with_name};
+ghost use Rattle.yf_stream.specs.WellFormed.{alias_breaches, alias_of, breach_if, declarations, directive_breaches, is_unknown, offset_or, start_or, with_name};
 
 use crate::anchors::Anchors;
 use crate::breaches::{Breach, BreachKind, keep_escapes, keep_if};

@@ -22,6 +22,7 @@ use yf_diagnose::diagnose;
 use yf_events::event::NewEvent;
 use yf_events::lists::Lists;
 use yf_events::part::Part;
+pub use yf_events::reading::LONGEST;
 use yf_events::reading::{DEPTH, Reading};
 use yf_events::tags::Tags;
 use yf_events::values::Values;
@@ -44,9 +45,6 @@ struct Draft<'a> {
     resolved: Resolved<'a>,
     on_leaf_line: Values<bool>,
 }
-
-/// The most bytes that a text may have of which a reading is made: 1 GiB. A reading keeps offsets in 32 bits, and no column is larger.
-pub const LONGEST: usize = 1 << 30;
 
 /// Reads a whole stream (l-yaml-stream, production 211): its documents with their events, comments and places.
 ///

@@ -2,7 +2,7 @@
 ghost use Rattle.std.specs.Prelude.{◌≤◌, length, IfOk};
 ghost use Rattle.std.specs.String.{string_bytes};
 ghost use Rattle.yf_laws.specs.Passes.PrintedText.{IsPrinted};
-ghost use Rattle.yf_stream.specs.declared.stream.TheConstants.{LONGEST};
+ghost use Rattle.yf_events.specs.declared.reading.TheConstants.{LONGEST};
 
 use std::alloc::{AllocError, Global};
 use yf_events::reading::Reading;

@@ -1,9 +1,9 @@
 //! The most bytes that are printed.
 ghost use Rattle.std.specs.Prelude.{◌≤◌, OnOk};
-ghost use Rattle.yf_stream.specs.declared.stream.TheConstants.{LONGEST};
+ghost use Rattle.yf_events.specs.declared.reading.TheConstants.{LONGEST};
 
 use std::alloc::AllocError;
-use yf_stream::stream::LONGEST;
+use yf_events::reading::LONGEST;
 
 /// Refuses a text of so many bytes, where they are more than `LONGEST`, as a growth of memory is refused.
 #[inline(always)]

@@ -17,7 +17,7 @@ use Rattle.yf_stream.proofs.Offsets.DirectiveOrder.{directives_order}
 use Rattle.yf_stream.proofs.Offsets.ReadingTrees.{TreesStand, no_trees_stand, tree_is_at}
 use Rattle.yf_forms.specs.declared.style.Style.{Style}
 use Rattle.yf_print.specs.Layouts.BareSearch.{is_found_bare, is_leading, is_led_from}
-use Rattle.yf_print.specs.Layouts.BareStart.{begins_bare, has_lead, is_bare, keeps_starts, leads}
+use Rattle.yf_forms.specs.NormalForms.BareStart.{begins_bare, has_lead, is_bare, keeps_starts, leads}
 use Rattle.yf_forms.specs.Passes.Searches.{count_to}
 use Rattle.yf_laws.specs.Layouts.FitDocuments.{FitDocuments, fit_document, FitsBare, fits_bare, fit_no_documents}
 use Rattle.yf_laws.specs.Layouts.ReadableTrees.{Fit}

@@ -10,7 +10,7 @@ use Rattle.yf_stream.specs.Stream.{Document}
 use Rattle.yf_stream.proofs.Existence.BreachLemmas.{values}
 use Rattle.yf_stream.proofs.TagPass.SameTags.{noting_values}
 use Rattle.yf_forms.specs.declared.style.Style.{Style}
-use Rattle.yf_print.specs.Layouts.BareStart.{begins_bare, has_lead, is_bare, is_unmarked, keeps_starts}
+use Rattle.yf_forms.specs.NormalForms.BareStart.{begins_bare, has_lead, is_bare, is_unmarked, keeps_starts}
 use Rattle.yf_forms.specs.NormalForms.Normal.{Normal, normal_document, setting_of}
 use Rattle.yf_laws.proofs.Writable.TreesRead.{first_unmarked}
 

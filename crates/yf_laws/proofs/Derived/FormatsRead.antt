@@ -47,7 +47,7 @@ use Rattle.yf_laws.proofs.RowNodes.PlacedRows.{PlacedRow}
 use Rattle.yf_laws.proofs.Derived.StreamParts.{DocumentsLaid}
 use Rattle.yf_laws.proofs.Derived.StreamsLaid.{StreamLaid}
 use Rattle.yf_laws.proofs.Writable.TreesRead.{document_read, reading_fits, same_node, reading_bare}
-use Rattle.yf_print.specs.Layouts.BareStart.{is_bare}
+use Rattle.yf_forms.specs.NormalForms.BareStart.{is_bare}
 use Rattle.yf_laws.proofs.Derived.BareReadings.{bare_begins, normal_begins, reading_begins}
 use Rattle.yf_print.specs.Layouts.KeptColumns.{columns_of}
 

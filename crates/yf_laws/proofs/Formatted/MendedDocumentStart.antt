@@ -46,7 +46,7 @@ use Rattle.yf_rule_sets.specs.RuleSets.Whites.{IsAlone}
 use Rattle.yf_laws.proofs.Formatted.MendedLines.{exactly_none, no_mark_there}
 use Rattle.std.proofs.lemmas.Bool.{and_parts}
 use Rattle.std.proofs.lemmas.Option.{same_Some}
-use Rattle.yf_print.specs.Layouts.BareStart.{begins_bare, has_lead, is_bare, keeps_starts}
+use Rattle.yf_forms.specs.NormalForms.BareStart.{begins_bare, has_lead, is_bare, keeps_starts}
 
 -- The events of documents tell their markers alone.
 

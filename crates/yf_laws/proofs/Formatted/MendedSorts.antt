@@ -21,7 +21,7 @@ use Rattle.yf_laws.proofs.OutputLines.TidyTexts.{decos_tidy, gap_tidy}
 use Rattle.yf_laws.specs.Mended.{IsFormatted}
 use Rattle.yf_laws.proofs.Derived.RowKinds.{all_kinds}
 use Rattle.yf_laws.proofs.OutputLines.LeadRows.{all_leads}
-use Rattle.yf_print.specs.Layouts.BareStart.{is_bare}
+use Rattle.yf_forms.specs.NormalForms.BareStart.{is_bare}
 use Rattle.yf_laws.specs.Preservation.CommentsPlaced.{columns_in}
 
 formed_sorts : {src : Table} {r : Lists} {s : Style} (w : IsFormatted src r s) → Lined (λ n l x. Sort src.text r.events src.lines n l x) 0 src.lines (formed_lines w.formats)

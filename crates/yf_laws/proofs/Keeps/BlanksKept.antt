@@ -24,7 +24,7 @@ use Rattle.yf_laws.proofs.ReadAgain.GapsAgain.{Blanks, first_remark, gap_at_end,
 use Rattle.yf_laws.proofs.NormalForms.NormalRestyled.{normal_restyled}
 use Rattle.yf_laws.proofs.ReadAgain.ReadingsAgain.{OwnCarried, alone_carried, rows_carried}
 use Rattle.yf_laws.proofs.ReadAgain.RowsAgain.{Apart, Carry, last_carries, row_carries, kept_first, kept_others}
-use Rattle.yf_print.specs.Layouts.BareStart.{is_bare}
+use Rattle.yf_forms.specs.NormalForms.BareStart.{is_bare}
 use Rattle.yf_print.specs.Layouts.KeptColumns.{Columns, columns_of}
 use Rattle.yf_laws.specs.Preservation.CommentsPlaced.{columns_in}
 

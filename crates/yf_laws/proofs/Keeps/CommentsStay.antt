@@ -11,7 +11,7 @@ use Rattle.yf_events.specs.Tree.{DocumentTree}
 use Rattle.yf_events.specs.declared.event.Span.{Span}
 use Rattle.yf_events.specs.declared.lists.Lists.{Lists}
 use Rattle.yf_forms.specs.declared.style.Style.{Style}
-use Rattle.yf_print.specs.Layouts.BareStart.{is_bare}
+use Rattle.yf_forms.specs.NormalForms.BareStart.{is_bare}
 use Rattle.yf_laws.specs.Preservation.CommentsPlaced.{CommentsPlaced, at_leaf, ends_line, rows_in, source_in}
 use Rattle.yf_laws.specs.Layouts.Decorated.{rows_of}
 use Rattle.yf_laws.specs.Format.{IsFormatting}

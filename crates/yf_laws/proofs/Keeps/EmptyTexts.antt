@@ -17,7 +17,7 @@ use Rattle.yf_forms.specs.NormalForms.Normal.{LayoutSetting, root_margins, setti
 use Rattle.yf_print.specs.Layouts.Rows.{Ending, Row, at_text_start, beginning_at, directive_row, end_rows, rows, start_row, stream_rows, all_rows, begun_at}
 use Rattle.yf_laws.proofs.Keeps.KeyDecides.{as_many_notes}
 use Rattle.yf_laws.proofs.Derived.BareFound.{rows_some}
-use Rattle.yf_print.specs.Layouts.BareStart.{is_bare}
+use Rattle.yf_forms.specs.NormalForms.BareStart.{is_bare}
 use Rattle.yf_laws.specs.Layouts.FitDocuments.{FitDocuments, fit_document, FitsBare, fits_bare, fit_no_documents}
 use Rattle.yf_laws.proofs.Derived.FormatsRead.{formats_bare, formats_fit}
 use Rattle.yf_laws.proofs.Trails.TrailOthers.{firsts}

@@ -19,7 +19,7 @@ use Rattle.yf_laws.proofs.Keeps.CommentsStay.{rows_exact}
 use Rattle.yf_laws.proofs.Derived.DecoratedLemmas.{layout_then}
 use Rattle.yf_laws.proofs.SecondRun.FixedRows.{same_lines, all_same_rows}
 use Rattle.yf_laws.proofs.Trails.TrailOthers.{firsts}
-use Rattle.yf_print.specs.Layouts.BareStart.{is_bare}
+use Rattle.yf_forms.specs.NormalForms.BareStart.{is_bare}
 use Rattle.yf_forms.specs.NormalForms.Normal.{setting_of}
 use Rattle.yf_print.specs.Layouts.KeptColumns.{Columns}
 

@@ -54,7 +54,7 @@ use Rattle.yf_laws.proofs.OutputLines.SeenTexts.{IsSeen, seen_more}
 use Rattle.yf_laws.proofs.Derived.RowEnds.{after_decos, first_deco}
 use Rattle.yf_laws.proofs.Derived.RowsUtf8.{AreLines, no_line, line_more, RowLines, no_rows, row_more}
 use Rattle.yf_laws.proofs.OutputLines.TidyTexts.{IsTidy, TidyDecos, TidyGap, decos_tidy, gap_tidy, last_append, tidy_line}
-use Rattle.yf_print.specs.Layouts.BareStart.{is_bare}
+use Rattle.yf_forms.specs.NormalForms.BareStart.{is_bare}
 use Rattle.yf_laws.specs.Preservation.CommentsPlaced.{columns_in}
 use Rattle.yf_laws.proofs.OutputLines.ColumnsHold.{WalkFrom, every, no_blocks}
 use Rattle.yf_laws.proofs.SameReading.CommentsCut.{Each}

@@ -18,7 +18,7 @@ use Rattle.yf_laws.specs.Layouts.FitDocuments.{FitDocuments}
 use Rattle.yf_laws.specs.Layouts.Layout.{Source, precedes_item, may_be_blank_after, own_line_comments, source_of}
 use Rattle.yf_forms.specs.Nodes.Lines.{trimmed}
 use Rattle.yf_forms.specs.NormalForms.Normal.{LayoutSetting, Margins, inner_margins, key_margins, value_of_implicit, value_entries, value_margins, root_margins, is_implicit, key_comment, setting_of}
-use Rattle.yf_print.specs.Layouts.BareStart.{is_bare}
+use Rattle.yf_forms.specs.NormalForms.BareStart.{is_bare}
 use Rattle.yf_print.specs.Layouts.Rows.{Row, Ending, anywhere, one_line, one_line_row, props_row, joined, after_sign, after_key, begins_below, entry_row, colon_row, key_row, explicit_pair, pair_rows, rows, rows_of_items, rows_of_pairs, directive_row, end_rows, start_row, beginning_at, begun_at, all_rows, stream_rows}
 use Rattle.yf_forms.specs.Nodes.OneLine.{written, props_text}
 use Rattle.yf_laws.proofs.Derived.RowsUtf8.{RowLines, no_rows, row_more, all_lines}

@@ -23,7 +23,7 @@ use Rattle.yf_laws.proofs.OutputLines.LaidLines.{gap_lines, row_lines, laid_line
 use Rattle.yf_laws.proofs.Derived.RowEnds.{first_deco, after_decos}
 use Rattle.yf_laws.proofs.Derived.RowsUtf8.{AreLines, no_line, line_more, RowLines, no_rows, row_more, all_lines}
 use Rattle.yf_lines.proofs.RestLemmas.{line_nothing, line_append}
-use Rattle.yf_print.specs.Layouts.BareStart.{is_bare}
+use Rattle.yf_forms.specs.NormalForms.BareStart.{is_bare}
 use Rattle.yf_laws.specs.Preservation.CommentsPlaced.{columns_in}
 
 -- Each line is a text within a line.

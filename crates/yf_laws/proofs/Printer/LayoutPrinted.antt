@@ -25,7 +25,7 @@ use Rattle.yf_laws.proofs.Printer.MeasureFacts.{MeasuresTell}
 use Rattle.yf_laws.proofs.Trails.TrailLeaves.{text_of}
 use Rattle.yf_laws.proofs.Trails.TrailOthers.{others_left}
 use Rattle.yf_print.specs.Layouts.BareSearch.{is_found_bare}
-use Rattle.yf_print.specs.Layouts.BareStart.{is_bare}
+use Rattle.yf_forms.specs.NormalForms.BareStart.{is_bare}
 use Rattle.yf_laws.specs.Layouts.FitDocuments.{FitsBare}
 use Rattle.yf_print.specs.Passes.Drafts.{finished, no_draft, remarks}
 use Rattle.yf_print.specs.Layouts.Rows.{all_rows}

@@ -46,7 +46,7 @@ use Rattle.yf_laws.proofs.RowNodes.PlacedRows.{PlacedRow, RowsIn}
 use Rattle.yf_laws.proofs.ReadAgain.RowGaps.{one_chain}
 use Rattle.yf_laws.proofs.ReadAgain.RowNotes.{AllNoted, RowNotes, no_row_notes, note_kept, note_moved, all_noted, pick}
 use Rattle.yf_laws.proofs.ReadAgain.NoteStreams.{all_noted_documents}
-use Rattle.yf_print.specs.Layouts.BareStart.{is_bare}
+use Rattle.yf_forms.specs.NormalForms.BareStart.{is_bare}
 use Rattle.yf_print.specs.Layouts.KeptColumns.{Columns}
 use Rattle.yf_laws.specs.Preservation.CommentsPlaced.{columns_in}
 use Rattle.yf_laws.proofs.Columns.SourceColumns.{text_column}

@@ -11,7 +11,7 @@ use Rattle.yf_events.specs.declared.lists.Lists.{Lists}
 use Rattle.yf_stream.specs.ReadingOf.{ReadingOf}
 use Rattle.yf_stream.specs.Stream.{Document}
 use Rattle.yf_forms.specs.declared.style.Style.{Style}
-use Rattle.yf_print.specs.Layouts.BareStart.{begins_bare, has_lead, is_bare, keeps_starts, leads}
+use Rattle.yf_forms.specs.NormalForms.BareStart.{begins_bare, has_lead, is_bare, keeps_starts, leads}
 use Rattle.yf_laws.specs.Layouts.FitDocuments.{DocumentsMeant, no_documents_meant, document_meant, FitsBare}
 use Rattle.yf_laws.specs.Format.{IsFormatting}
 use Rattle.yf_forms.specs.Nodes.Lines.{trimmed}

@@ -31,7 +31,7 @@ use Rattle.yf_laws.proofs.Trails.RowLeaves.{leaves_on}
 use Rattle.yf_laws.proofs.SameReading.SourceOffsets.{normal_of, normal_rows, source_is_at}
 use Rattle.yf_laws.proofs.SameReading.StartsBefore.{starts_before, AllFrom, none_before}
 use Rattle.yf_laws.proofs.SameReading.DocumentsFlow.{all_flow}
-use Rattle.yf_print.specs.Layouts.BareStart.{is_bare}
+use Rattle.yf_forms.specs.NormalForms.BareStart.{is_bare}
 use Rattle.yf_laws.proofs.Writable.TreesRead.{reading_bare, reading_fits}
 use Rattle.yf_laws.proofs.Derived.BareReadings.{reading_begins, normal_begins, bare_begins, bare_unled}
 use Rattle.yf_laws.proofs.Derived.BareFound.{laid_by, lead_there, none_leads}

@@ -19,7 +19,7 @@ use Rattle.yf_laws.specs.FormatLaws.{FormatsKeepContent}
 use Rattle.yf_laws.proofs.Derived.FormatsRead.{formats_well, same_in_documents}
 use Rattle.yf_laws.proofs.NormalForms.NormalRestyled.{normal_restyled}
 use Rattle.yf_forms.proofs.NormalForms.RestyledLemmas.{same_content}
-use Rattle.yf_print.specs.Layouts.BareStart.{is_bare}
+use Rattle.yf_forms.specs.NormalForms.BareStart.{is_bare}
 
 -- Markers say nothing.
 

@@ -50,7 +50,7 @@ use Rattle.yf_laws.proofs.NormalForms.StyledTwice.{normal_house}
 use Rattle.yf_laws.proofs.Trails.TrailChoice.{rising}
 use Rattle.yf_laws.proofs.Trails.FormatTrails.{kept_house}
 use Rattle.yf_laws.proofs.SameReading.UprightRows.{rows_upright}
-use Rattle.yf_print.specs.Layouts.BareStart.{is_bare}
+use Rattle.yf_forms.specs.NormalForms.BareStart.{is_bare}
 use Rattle.yf_print.specs.Layouts.KeptColumns.{Columns}
 
 -- The rows that begin a document.

@@ -14,7 +14,7 @@ use Rattle.yf_events.specs.declared.lists.Lists.{Lists}
 use Rattle.yf_events.proofs.TreeLemmas.{trees_unique}
 use Rattle.yf_stream.specs.ReadingOf.{ReadingOf}
 use Rattle.yf_laws.specs.Format.{IsFormatting}
-use Rattle.yf_print.specs.Layouts.BareStart.{is_bare}
+use Rattle.yf_forms.specs.NormalForms.BareStart.{is_bare}
 use Rattle.yf_forms.specs.Nodes.OneLine.{props_text, written}
 use Rattle.yf_forms.specs.NormalForms.Normal.{LayoutSetting, Margins, inner_margins, is_implicit, key_comment, key_margins, root_margins, setting_of, value_entries, value_of_implicit, value_margins}
 use Rattle.yf_laws.specs.Preservation.CommentsPlaced.{columns_in}

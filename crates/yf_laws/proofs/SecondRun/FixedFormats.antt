@@ -19,7 +19,7 @@ use Rattle.yf_laws.proofs.SecondRun.FixedRows.{found_rows, same_lines}
 use Rattle.yf_laws.proofs.Trails.FormatTrails.{normal_trees}
 use Rattle.yf_laws.proofs.NormalForms.SettledTwice.{settled_twice}
 use Rattle.yf_laws.proofs.NormalForms.StyledTwice.{House, normal_house}
-use Rattle.yf_print.specs.Layouts.BareStart.{is_bare}
+use Rattle.yf_forms.specs.NormalForms.BareStart.{is_bare}
 use Rattle.yf_print.specs.Layouts.KeptColumns.{Columns, columns_of}
 use Rattle.yf_laws.specs.Preservation.CommentsPlaced.{columns_in}
 

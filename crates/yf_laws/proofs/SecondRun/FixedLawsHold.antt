@@ -27,7 +27,7 @@ use Rattle.yf_laws.proofs.RowNodes.FoundStreams.{StreamIn, no_stream, stream_in,
 use Rattle.yf_laws.proofs.RowNodes.FoundTexts.{Settled, normal_settled, AllRoots, all_roots_found, all_trees_found}
 use Rattle.yf_laws.proofs.RowNodes.PlacedRows.{PlacedRow}
 use Rattle.yf_laws.proofs.RowNodes.QuietPlaces.{AllQuiet, quiet_none, ascend_under, Carries, decos_carry, Linked, linked_none, quiet_offsets, linked_offsets, rows_linked, rows_quiet}
-use Rattle.yf_print.specs.Layouts.BareStart.{is_bare}
+use Rattle.yf_forms.specs.NormalForms.BareStart.{is_bare}
 use Rattle.yf_laws.proofs.SameReading.BareAgain.{same_bare}
 
 -- Streams.

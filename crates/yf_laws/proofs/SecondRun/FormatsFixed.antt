@@ -53,7 +53,7 @@ use Rattle.yf_laws.proofs.SameReading.SourceOffsets.{source_is_at, normal_of, no
 use Rattle.yf_laws.proofs.Derived.StepsInText.{starts_of}
 use Rattle.yf_laws.proofs.Trails.TrailChoice.{rising}
 use Rattle.yf_laws.proofs.Trails.TrailOthers.{firsts}
-use Rattle.yf_print.specs.Layouts.BareStart.{is_bare}
+use Rattle.yf_forms.specs.NormalForms.BareStart.{is_bare}
 use Rattle.yf_events.specs.Tree.{flat_stream}
 use Rattle.yf_print.specs.Layouts.KeptColumns.{Columns, columns_of}
 use Rattle.yf_laws.specs.Preservation.CommentsPlaced.{columns_in}

@@ -15,7 +15,7 @@ use Rattle.yf_stream.proofs.Offsets.ReadingTrees.{reading_is_at}
 use Rattle.yf_stream.proofs.Uniqueness.StreamDocuments.{stream_derived}
 use Rattle.yf_forms.specs.declared.style.Style.{Style}
 use Rattle.yf_laws.specs.Format.{IsFormatting}
-use Rattle.yf_print.specs.Layouts.BareStart.{is_bare}
+use Rattle.yf_forms.specs.NormalForms.BareStart.{is_bare}
 use Rattle.yf_laws.specs.Layouts.Decorated.{first_gap, lines_then, row_decos, rows_of}
 use Rattle.yf_print.specs.Layouts.CommentColumns.{begins_document}
 use Rattle.yf_print.specs.declared.open_blocks.OpenBlock.{OpenBlock}

@@ -6,7 +6,7 @@ use Rattle.yf_events.specs.Tree.{DocumentTree, TreesOf}
 use Rattle.yf_events.specs.declared.lists.Lists.{Lists}
 use Rattle.yf_stream.proofs.Offsets.ReadingTrees.{TreesStand, reading_is_at}
 use Rattle.yf_forms.specs.declared.style.Style.{Style}
-use Rattle.yf_print.specs.Layouts.BareStart.{is_bare}
+use Rattle.yf_forms.specs.NormalForms.BareStart.{is_bare}
 use Rattle.yf_laws.specs.Layouts.RowComments.{AreRemarks, TrailsFit}
 use Rattle.yf_laws.specs.Layouts.Decorated.{rows_of}
 use Rattle.yf_laws.specs.Format.{IsFormatting}

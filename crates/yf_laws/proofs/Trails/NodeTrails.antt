@@ -20,7 +20,7 @@ use Rattle.yf_forms.specs.Nodes.Lines.{trimmed, is_empty_text}
 use Rattle.yf_forms.specs.Passes.MeasurePass.{setting}
 use Rattle.yf_forms.specs.NormalForms.Normal.{LayoutSetting, Margins, entry_or, first_between, inner_margins, is_implicit, is_one_line_key, key_comment, key_margins, key_start, last_start, styled_items, styled_pairs, value_of_implicit, value_margins, root_margins, setting_of}
 use Rattle.yf_forms.specs.Nodes.OneLine.{written, props_text}
-use Rattle.yf_print.specs.Layouts.BareStart.{is_bare}
+use Rattle.yf_forms.specs.NormalForms.BareStart.{is_bare}
 use Rattle.yf_print.specs.Layouts.Rows.{Row, begins_below, after_key, after_sign, colon_row, entry_row, implicit_pair, joined, key_row, one_line_row, pair_rows, props_row, rows, rows_of_items, rows_of_pairs, beginning_at, directive_row, document_rows, end_rows, start_row, begun_at, all_rows, stream_rows}
 use Rattle.yf_laws.proofs.Writable.StillLeaves.{Still, nothing_still, one_still, more_still, between, KeptStill, ItemsStill, PairsStill}
 use Rattle.yf_laws.proofs.Printer.LeafPrinted.{same_flag, same_flag_of_map}

@@ -31,7 +31,7 @@ use Rattle.yf_laws.proofs.Trails.TrailLeaves.{KeyMarks, chosen_of}
 use Rattle.yf_laws.proofs.Trails.TrailOthers.{among_indices, at_indices, has, strict}
 use Rattle.yf_laws.proofs.Trails.TrailRuns.{AgreeFrom, closed_all, found_at, run_is, spans}
 use Rattle.yf_laws.proofs.Trails.TrailsAgree.{has_append, marked_one, marks_agree, none_at_starts, or_false}
-use Rattle.yf_print.specs.Layouts.BareStart.{is_bare}
+use Rattle.yf_forms.specs.NormalForms.BareStart.{is_bare}
 use Rattle.yf_forms.proofs.Decide.FlagLemmas.{or_assoc}
 
 -- a stream of normal forms, with so many open collections at most, whose places are in order

@@ -6,7 +6,7 @@ pub use Rattle.yf_comments.specs.GapLines.{GapLine, blank, remark, gap_then}
 use Rattle.yf_events.specs.Tree.{DocumentTree}
 use Rattle.yf_events.specs.declared.lists.Lists.{Lists}
 use Rattle.yf_forms.specs.declared.style.Style.{Style}
-use Rattle.yf_print.specs.Layouts.BareStart.{is_bare}
+use Rattle.yf_forms.specs.NormalForms.BareStart.{is_bare}
 use Rattle.yf_laws.specs.Layouts.Layout.{Columns, Source, may_be_blank_after, own_line_comments, precedes_item, source_of, trailing}
 use Rattle.yf_forms.specs.Nodes.Lines.{trimmed}
 use Rattle.yf_forms.specs.NormalForms.Normal.{setting_of}

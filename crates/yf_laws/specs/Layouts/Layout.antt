@@ -5,7 +5,7 @@ use Rattle.yf_comments.specs.Comment.{CommentValue}
 use Rattle.yf_events.specs.declared.event.Span.{Span}
 use Rattle.yf_events.specs.declared.lists.Lists.{Lists}
 use Rattle.yf_forms.specs.declared.style.Style.{Style}
-use Rattle.yf_print.specs.Layouts.BareStart.{is_bare}
+use Rattle.yf_forms.specs.NormalForms.BareStart.{is_bare}
 pub use Rattle.yf_print.specs.Layouts.KeptColumns.{Columns, columns_of, next_columns, precedes_item}
 use Rattle.yf_forms.specs.NormalForms.Normal.{setting_of}
 use Rattle.yf_print.specs.Layouts.Rows.{Row, Ending, at_text_start, at_document_start, at_kept_tail, before_node, anywhere, all_rows}

@@ -8,7 +8,7 @@ use Rattle.yf_events.specs.declared.document.Doc.{Doc}
 use Rattle.yf_events.specs.declared.lists.Lists.{Lists}
 use Rattle.yf_forms.specs.declared.style.Style.{Style}
 use Rattle.yf_laws.specs.Preservation.AlikeBlocks.{AlikeBlocks}
-use Rattle.yf_print.specs.Layouts.BareStart.{is_bare}
+use Rattle.yf_forms.specs.NormalForms.BareStart.{is_bare}
 use Rattle.yf_laws.specs.Layouts.Decorated.{first_gap, row_decos, rows_of}
 use Rattle.yf_print.specs.Layouts.KeptColumns.{columns_of}
 use Rattle.yf_laws.specs.Nodes.FlowsWithoutComments.{Undisturbed}

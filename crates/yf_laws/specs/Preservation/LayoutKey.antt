@@ -5,7 +5,7 @@ use Rattle.yf_events.specs.Tree.{DocumentTree}
 use Rattle.yf_events.specs.declared.document.Doc.{Doc}
 use Rattle.yf_forms.specs.declared.style.Style.{Style}
 use Rattle.yf_laws.specs.Preservation.AlikeBlocks.{AlikeBlocks}
-use Rattle.yf_print.specs.Layouts.BareStart.{is_bare}
+use Rattle.yf_forms.specs.NormalForms.BareStart.{is_bare}
 use Rattle.yf_laws.specs.Preservation.CommentsPlaced.{columns_in, ends_line, rows_in, source_in}
 use Rattle.yf_laws.specs.Format.{IsFormatting}
 use Rattle.yf_laws.specs.Preservation.FoundTrees.{words_of}

@@ -4,7 +4,7 @@ use Rattle.yf_events.specs.Reading.{place_at}
 use Rattle.yf_events.specs.declared.document.Doc.{Doc}
 use Rattle.yf_events.specs.declared.lists.Lists.{Lists}
 use Rattle.yf_forms.specs.declared.style.Style.{Style}
-use Rattle.yf_print.specs.Layouts.BareStart.{begins_bare, keeps_starts}
+use Rattle.yf_forms.specs.NormalForms.BareStart.{begins_bare, keeps_starts}
 use Rattle.yf_forms.specs.Passes.Searches.{count_to}
 
 -- after one document, and no leaf

@@ -4,7 +4,7 @@ use Rattle.yf_events.specs.Event.{EventValue, document_starts}
 use Rattle.yf_events.specs.Reading.{events_of}
 use Rattle.yf_events.specs.declared.document.Doc.{Doc}
 use Rattle.yf_events.specs.declared.lists.Lists.{Lists}
-use Rattle.yf_print.specs.Layouts.BareStart.{keeps_starts}
+use Rattle.yf_forms.specs.NormalForms.BareStart.{keeps_starts}
 use Rattle.yf_forms.specs.declared.style.Style.{Style}
 use Rattle.yf_rule_sets.specs.RuleSets.Whites.{IsAlone}
 

@@ -11,7 +11,7 @@ use Rattle.yf_lines.specs.declared.place.Position.{Position}
 use Rattle.yf_laws.specs.Format.{IsFormatting}
 use Rattle.yf_laws.specs.FormatPromises.{FormatKept}
 use Rattle.yf_forms.specs.declared.style.Style.{Style}
-use Rattle.yf_stream.specs.declared.stream.TheConstants.{LONGEST}
+use Rattle.yf_events.specs.declared.reading.TheConstants.{LONGEST}
 use Rattle.yf_laws.specs.Mended.{IsMended}
 use Rattle.yf_rules.specs.Runs.Run.{RefusedRun, FormattingGiven}
 

@@ -4,12 +4,12 @@ use Rattle.yf_chars.proofs.Tests.{same_head, same_tail}
 use Rattle.yf_props.specs.Handles.{Declaration, is_declared}
 use Rattle.yf_props.specs.Props.{PropsValue}
 use Rattle.yf_events.specs.Alike.{Alike, alike_scalars, alike_aliases, alike_sequences, alike_mappings, AlikeItems, alike_nothing, alike_item, AlikePairs, alike_no_pairs, alike_pair}
-use Rattle.yf_events.specs.Event.{EventValue, EventInText, sequence_starts, sequence_ends, mapping_starts, mapping_ends}
+use Rattle.yf_events.specs.Event.{EventValue, EventInText, sequence_starts, sequence_ends, mapping_starts, mapping_ends, props_of}
 use Rattle.yf_events.specs.Tree.{Node, Items, Pairs, unplaced, flat, flat_items, flat_pairs}
 use Rattle.yf_events.specs.declared.directive.Directive.{Directive}
 use Rattle.yf_stream.specs.ReadingOf.{EventTags, no_event, untagged, tagged}
 use Rattle.yf_stream.specs.Stream.{Document}
-use Rattle.yf_stream.specs.WellFormed.{alias_breaches, alias_of, breach_if, breaches, declaration_breaches, declaration_of, declarations, directive_breaches, document_breaches, escape_breaches, event_breaches, has_name, is_unknown, is_version_one, offset_or, props_of, start_or, version_breaches, version_of, with_declaration, with_name}
+use Rattle.yf_stream.specs.WellFormed.{alias_breaches, alias_of, breach_if, breaches, declaration_breaches, declaration_of, declarations, directive_breaches, document_breaches, escape_breaches, event_breaches, has_name, is_unknown, is_version_one, offset_or, start_or, version_breaches, version_of, with_declaration, with_name}
 use Rattle.yf_stream.specs.declared.breaches.BreachKind.{BreachKind}
 use Rattle.yf_stream.specs.declared.breaches.BreachKind.TheVariants.{UnknownHandle, UnknownAlias, RepeatedDirective, BadVersion}
 

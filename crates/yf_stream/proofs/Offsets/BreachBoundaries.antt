@@ -10,7 +10,7 @@ use Rattle.yf_chars.proofs.TextLemmas.{boundary_from_begins}
 use Rattle.yf_comments.specs.Comment.{CommentValue}
 use Rattle.yf_plain.proofs.PlainLemmas.{ns_below}
 use Rattle.yf_props.specs.Handles.{Declaration, is_declared}
-use Rattle.yf_events.specs.Event.{EventInText}
+use Rattle.yf_events.specs.Event.{EventInText, props_of}
 use Rattle.yf_events.specs.Tree.{Items, Node, Pairs, flat, flat_items, flat_pairs}
 use Rattle.yf_events.specs.declared.directive.Directive.{Directive}
 use Rattle.yf_events.specs.declared.document.Doc.{Doc}
@@ -22,7 +22,7 @@ use Rattle.yf_stream.specs.RefusalPlaces.{DirectivesAt, DocumentsAt}
 use Rattle.yf_stream.specs.Stream.{AnyDocument, Document, Documents, ExplicitNode, document_of}
 use Rattle.yf_stream.specs.Stream.AnyDocument.{bare_document, directive_document, explicit_document}
 use Rattle.yf_stream.specs.Stream.ExplicitNode.{marked_node, marked_nothing}
-use Rattle.yf_stream.specs.WellFormed.{IsFirst, Shapes, alias_breaches, alias_of, breach_if, breaches, declaration_breaches, declaration_of, declarations, directive_breaches, document_breaches, escape_breaches, event_breaches, has_name, is_unknown, is_version_one, offset_or, props_of, start_or, version_breaches, version_of, with_declaration, with_name}
+use Rattle.yf_stream.specs.WellFormed.{IsFirst, Shapes, alias_breaches, alias_of, breach_if, breaches, declaration_breaches, declaration_of, declarations, directive_breaches, document_breaches, escape_breaches, event_breaches, has_name, is_unknown, is_version_one, offset_or, start_or, version_breaches, version_of, with_declaration, with_name}
 use Rattle.yf_stream.specs.WrittenParts.{PartsOf}
 use Rattle.yf_stream.specs.declared.breaches.Breach.{Breach}
 use Rattle.yf_stream.specs.declared.breaches.BreachKind.{BreachKind}

@@ -4,14 +4,14 @@ use Rattle.std.proofs.lemmas.List.Elements.{All-contains, Contains-append_cases,
 use Rattle.std.specs.List.{Contains}
 use Rattle.yf_props.specs.Handles.{Declaration}
 use Rattle.yf_props.specs.Props.{TagValue}
-use Rattle.yf_events.specs.Event.{EventInText, document_ends, document_starts, stream_ends, stream_starts}
+use Rattle.yf_events.specs.Event.{EventInText, document_ends, document_starts, stream_ends, stream_starts, props_of}
 use Rattle.yf_events.specs.Tree.{Items, Node, Pairs, alias, flat, flat_items, flat_pairs, item, mapping, no_items, no_pairs, pair, scalar, sequence, unplaced}
 use Rattle.yf_events.specs.declared.document.Doc.{Doc}
 use Rattle.yf_grammar.specs.Productions.ReadParts.{Noting, no_event as none_noted, with_entry, without_entry}
 use Rattle.yf_stream.specs.ReadingOf.{DocumentEvents, EventTags, doc_of, no_document, no_event, one_document, tagged, untagged}
 use Rattle.yf_stream.specs.Stream.{Document}
 use Rattle.yf_stream.specs.TagPass.{FirstOf, PassTags, TagOf, document_begins, event_follows, later_documents, next_directives, no_event_left, own_breaches, pass_breaches, starts_document, stream_breaches}
-use Rattle.yf_stream.specs.WellFormed.{IsEarlierBreach, alias_breaches, alias_of, breach_if, breaches, declarations, directive_breaches, escape_breaches, event_breaches, is_unknown, offset_or, props_of, start_or, with_name}
+use Rattle.yf_stream.specs.WellFormed.{IsEarlierBreach, alias_breaches, alias_of, breach_if, breaches, declarations, directive_breaches, escape_breaches, event_breaches, is_unknown, offset_or, start_or, with_name}
 use Rattle.yf_stream.specs.WrittenParts.{DocumentsWritten, document_written, nothing_written}
 use Rattle.yf_stream.specs.declared.breaches.Breach.{Breach}
 use Rattle.yf_stream.specs.declared.breaches.BreachKind.TheVariants.{UnknownHandle}

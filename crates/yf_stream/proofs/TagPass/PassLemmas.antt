@@ -7,12 +7,12 @@ use Rattle.std.specs.Str.{bytes_eq}
 use Rattle.yf_props.specs.Handles.{Declaration, TagText, default_prefix, declared_prefix, is_declared, or_else, prefix_of, shorthand_text, verbatim_text, non_specific_text}
 use Rattle.yf_props.specs.Props.{TagValue}
 use Rattle.yf_props.specs.Props.TagValue.{IsVerbatim, IsShort, IsNonSpecific}
-use Rattle.yf_events.specs.Event.{EventInText, stream_starts}
+use Rattle.yf_events.specs.Event.{EventInText, stream_starts, props_of}
 use Rattle.yf_events.specs.Tree.{unplaced}
 use Rattle.yf_events.specs.declared.directive.Directive.{Directive}
 use Rattle.yf_events.specs.declared.document.Doc.{Doc}
 use Rattle.yf_stream.specs.TagPass.{AllPassed, FirstOf, FirstOfBoth, PassTags, EventPassed, TagsResolved, SameDeclarations, SameNames, StartsDocument, TagOf, document_begins, event_follows, later_documents, next_directives, no_event_left, own_breaches, pass_breaches, starts_document, stream_breaches}
-use Rattle.yf_stream.specs.WellFormed.{alias_breaches, alias_of, breach_if, declaration_breaches, declaration_of, declarations, directive_breaches, escape_breaches, is_unknown, offset_or, props_of, start_or, version_breaches, version_of, with_declaration, with_name}
+use Rattle.yf_stream.specs.WellFormed.{alias_breaches, alias_of, breach_if, declaration_breaches, declaration_of, declarations, directive_breaches, escape_breaches, is_unknown, offset_or, start_or, version_breaches, version_of, with_declaration, with_name}
 use Rattle.yf_stream.specs.declared.breaches.Breach.{Breach}
 use Rattle.yf_stream.specs.declared.breaches.BreachKind.TheVariants.{RepeatedDirective, UnknownAlias, UnknownHandle}
 use Rattle.yf_stream.proofs.Existence.BreachLemmas.{both_empty, some_none}

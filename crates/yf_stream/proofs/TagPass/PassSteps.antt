@@ -7,14 +7,14 @@ use Rattle.std.specs.Result.{IfOk}
 use Rattle.std.specs.Slice.{IsItemAt}
 use Rattle.yf_props.specs.Handles.{Declaration}
 use Rattle.yf_props.specs.Props.{PropsValue, TagValue}
-use Rattle.yf_events.specs.Event.{EventValue, EventInText, alias_node, document_ends, document_starts, mapping_ends, mapping_starts, scalar_node, sequence_ends, sequence_starts, stream_ends, stream_starts}
+use Rattle.yf_events.specs.Event.{EventValue, EventInText, alias_node, document_ends, document_starts, mapping_ends, mapping_starts, scalar_node, sequence_ends, sequence_starts, stream_ends, stream_starts, props_of}
 use Rattle.yf_events.specs.Tags.{written_tag}
 use Rattle.yf_events.specs.Tree.{unplaced}
 use Rattle.yf_events.specs.declared.event.Span.{Span}
 use Rattle.yf_events.specs.declared.directive.Directive.{Directive}
 use Rattle.yf_events.specs.declared.document.Doc.{Doc}
 use Rattle.yf_stream.specs.TagPass.{AllPassed, IsNameless, EventAt, FirstOfBoth, EventPassed, SameDeclarations, SameNames, StartsDocument, TagAdded, TagOf, directives_of, next_directives, starts_document}
-use Rattle.yf_stream.specs.WellFormed.{alias_breaches, alias_of, breach_if, declarations, directive_breaches, is_unknown, offset_or, props_of, start_or, with_name}
+use Rattle.yf_stream.specs.WellFormed.{alias_breaches, alias_of, breach_if, declarations, directive_breaches, is_unknown, offset_or, start_or, with_name}
 use Rattle.yf_stream.specs.declared.breaches.Breach.{Breach}
 use Rattle.yf_stream.specs.declared.breaches.BreachKind.TheVariants.{UnknownHandle}
 use Rattle.yf_stream.proofs.TagPass.DeclaredLemmas.{same_itself}
