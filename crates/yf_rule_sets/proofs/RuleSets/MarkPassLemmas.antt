@@ -1,15 +1,17 @@
 -- Laws of a pass over byte order marks and the parts of the text that scalars have.
-use Rattle.std.proofs.Common.{◌≡◌, ◌≢◌, ℕ, ◌+◌, ◌<◌, ◌≤◌, Bool, true, false, List, [], Option, Some, None, length, max, refl, sym, subst, ap, ◌∙◌, inl, inr, ⊎_elim, arith, eqb, MatchBool}
+use Rattle.std.proofs.Common.{◌≡◌, ◌≢◌, ℕ, ◌+◌, ◌<◌, ◌≤◌, Bool, true, false, List, [], ◌∷◌, ◌++◌, drop, take, Option, Some, None, length, max, refl, sym, subst, ap, ◌∙◌, inl, inr, ⊎_elim, arith, eqb, MatchBool}
 use Rattle.std.specs.Borrow.{Bor}
 use Rattle.std.specs.Prelude.{slice_get}
 use Rattle.std.specs.List.Sorted.{IsNonDecreasingBy, IsPermutation}
 use Rattle.std.proofs.lemmas.Bool.{cases_lt, false≢true}
-use Rattle.std.proofs.lemmas.List.{length-map}
+use Rattle.std.proofs.Math.Logic.{◌↔◌}
+use Rattle.std.proofs.lemmas.List.{drop_more, length-map, take-append-drop}
 use Rattle.std.proofs.lemmas.List.Sorted.{Contains-permutation, IsPermutation-sym}
 use Rattle.std.proofs.lemmas.Option.{slice_get_within, slice_get-get_or, get_or_from_slice_get, same_Some}
 use Rattle.yf_chars.specs.Text.{code}
 use Rattle.std.specs.List.{list_any}
 use Rattle.std.specs.Str.{IsUtf8}
+use Rattle.std.specs.Str.Iter.{HasSubslice}
 use Rattle.std.proofs.lemmas.List.Folds.{list_any_at}
 use Rattle.yf_chars.proofs.TextLemmas.{bytes_from_mark, within_from_code}
 use Rattle.yf_events.specs.Event.{event_value, scalar_node}
@@ -162,6 +164,24 @@ no_mark t true u e = tt
 no_mark t false u e = λ k h.
     let marked = bytes_from_mark t k u h in
     false≢true (e ∙ list_any_at (λ y. eqb y 239) t k 0 (omega (arith, marked.0)) (ap (λ y. eqb y 239) marked.1))
+
+-- a mark is found by its bytes
+mark_within : (t : List ℕ) (k : ℕ) → IsUtf8 t → code t k ≡ 0xFEFF → HasSubslice t (239 ∷ 187 ∷ 191 ∷ [])
+mark_within t k u h =
+    let m = bytes_from_mark t k u h in
+    let two : k + 1 + 1 ≡ k + 2 = omega arith in
+    let three : k + 2 + 1 ≡ k + 3 = omega arith in
+    let first : drop k t ≡ 239 ∷ drop (k + 1) t = drop_more t k 0 (omega (arith, m.0)) ∙ ap (λ y. y ∷ drop (k + 1) t) m.1 in
+    let second : drop (k + 1) t ≡ 187 ∷ drop (k + 2) t =
+    drop_more t (k + 1) 0 (omega (arith, m.0)) ∙ ap (λ y. y ∷ drop (k + 1 + 1) t) m.2 ∙ ap (λ v. 187 ∷ drop v t) two in
+    let third : drop (k + 2) t ≡ 191 ∷ drop (k + 3) t =
+    drop_more t (k + 2) 0 m.0 ∙ ap (λ y. y ∷ drop (k + 2 + 1) t) m.3 ∙ ap (λ v. 191 ∷ drop v t) three in
+    (take k t, drop (k + 3) t, sym (take-append-drop k t) ∙ ap (λ w. take k t ++ w) (first ∙ ap (λ w. 239 ∷ w) (second ∙ ap (λ w. 187 ∷ w) third)))
+
+-- a text without these bytes has no mark
+pub no_mark_found : (t : List ℕ) (b : Bool) → IsUtf8 t → (b ≡ true) ↔ HasSubslice t (239 ∷ 187 ∷ 191 ∷ []) → MatchBool b (Unit {0}) ((k : ℕ) → code t k ≢ 0xFEFF)
+no_mark_found t true u e = tt
+no_mark_found t false u e = λ k h. false≢true (e.1 (mark_within t k u h))
 
 -- and so no mark outside of scalars
 pub no_loose_mark : (t : List ℕ) (r : Lists) (xs : List ℕ) → xs ≡ [] → ((k : ℕ) → code t k ≢ 0xFEFF) → Exactly (LooseMark t r) xs

@@ -18,7 +18,7 @@ pub fn offsets(alloc: Global, src: &Src, reading: &Reading) -> FoundOffsets
 {
     let text = src.text();
     let mut offsets = Vec::new(alloc);
-    if !has_first_byte(text) {
+    if !has_mark(text) {
         return Ok(offsets);
     }
     let spans = sorted_spans(alloc, reading)?;
@@ -62,7 +62,17 @@ fn loose_mark(text: &str, reach: usize, offset: usize) -> Option<usize>
     None
 }
 
-// Whether the text has a byte with which a mark begins; few texts have one.
+// Whether the text has a mark; few texts have one, or a byte with which one begins.
+fn has_mark(text: &str) -> bool
+    ensures { MatchBool result (Unit {0}) ((k : ℕ) → code text.now k ≢ 0xFEFF) }
+{
+    if !has_first_byte(text) {
+        return false;
+    }
+    text.contains("\u{FEFF}")
+}
+
+// Whether the text has a byte with which a mark begins.
 fn has_first_byte(text: &str) -> bool
     ensures { MatchBool result (Unit {0}) ((k : ℕ) → code text.now k ≢ 0xFEFF) }
 {

@@ -40,6 +40,6 @@ returns c =
     all_found_upto _ _ c.loop-i.i c.loop-i.offsets.items c.loop-i.invariant.marks (λ k x l p. p)
     (λ k x p. (let h = mark_text p in omega (arith, h, ap length c.text-text.ensures, c.loop-i-test.false), p))
 
-pub returns-then-not-has_first_byte : goal.returns-then-not-has_first_byte
-returns-then-not-has_first_byte c =
-    no_loose_mark _ _ _ c.new-offsets.ensures.items (subst (λ v. (k : ℕ) → code v k ≢ 0xFEFF) c.text-text.ensures (rw c.if-not-has_first_byte.true at c.has_first_byte.ensures))
+pub returns-then-not-has_mark : goal.returns-then-not-has_mark
+returns-then-not-has_mark c =
+    no_loose_mark _ _ _ c.new-offsets.ensures.items (subst (λ v. (k : ℕ) → code v k ≢ 0xFEFF) c.text-text.ensures (rw c.if-not-has_mark.true at c.has_mark.ensures))
