@@ -15,7 +15,8 @@ one COMMAND after another, each as `rt` has it and nothing else:
 
 For each it prints the processor seconds (user and system, of the command and all that it started and waited for), the seconds
 by the clock, the command and its last line. It ends with status 1 where a command did. FILE gets all that is printed, each line
-after the seconds by the clock at which it came. With N lanes `rt ci` does so many things at a time, each with one job.
+after the seconds by the clock at which it came. With N lanes `rt ci` does so many things at a time, each with one job
+(by RT_JOBS, which `rt help` doesn't name).
 """
 import argparse
 import os
