@@ -12,6 +12,7 @@ pub mod FormLemmas
 pub mod StreamLemmas
 pub mod SettledLemmas
 pub mod FlagLemmas
+pub mod AtomKeys
 pub mod HalvingLemmas
 pub mod HalvingEnds
 pub mod SearchLemmas

@@ -13,3 +13,5 @@ pub mod KeySetLemmas
 pub mod KeyPassLemmas
 pub mod KeyListLemmas
 pub mod NeedlessLemmas
+pub mod BlockKeyLemmas
+pub mod AtomLemmas

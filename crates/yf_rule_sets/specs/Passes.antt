@@ -14,3 +14,4 @@ pub mod Entries
 pub mod ContextPass
 pub mod IndentFaults
 pub mod MarkedKeys
+pub mod BlockKeys

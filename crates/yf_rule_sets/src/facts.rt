@@ -1,5 +1,6 @@
 //! What is known of a text and its reading, for several rules.
 
+pub mod block_keys;
 pub mod cursor;
 pub mod flagged_lines;
 pub mod found;

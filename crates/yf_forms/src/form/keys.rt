@@ -2,8 +2,10 @@
 //! here.
 ghost use Rattle.std.specs.Prelude.{◌<◌, ◌≡◌, length};
 ghost use Rattle.yf_events.specs.Event.{event_value};
+ghost use Rattle.yf_forms.specs.Nodes.ImplicitKeys as Keys;
 ghost use Rattle.yf_forms.specs.Passes.DecidePass as Deciding;
 
+use crate::form::ended::{alias, scalar};
 use crate::form::layout_context::{EventFacts, fits};
 use crate::form::measure::Measure;
 use crate::style::Style;
@@ -39,6 +41,25 @@ pub(crate) fn is_implicit_key(measure: &Measure, column: usize, style: &Style) -
             true
         }
         None => false,
+    }
+}
+
+/// Whether the house style writes a scalar or an alias without `?` where it is a key of a block mapping: nothing around it counts. Of other
+/// events it is false.
+pub fn is_implicit_atom(event: &Event, style: &Style) -> bool
+    ensures { result ≡ Keys.is_implicit_atom style.now (event_value event.now) }
+{
+    match event {
+        Event::Scalar {
+            props,
+            style: written,
+            text,
+        } => {
+            let node = scalar(0, None, props, *written, text, style);
+            is_implicit_key(&node.measure, 0, style)
+        }
+        Event::Alias { name } => is_implicit_key(&alias(0, name).measure, 0, style),
+        _ => false,
     }
 }
 

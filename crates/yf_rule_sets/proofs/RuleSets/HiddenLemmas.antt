@@ -20,8 +20,8 @@ use Rattle.yf_rule_sets.specs.RuleSets.HiddenCharacters.HiddenCharacter.{in_no_q
 use Rattle.yf_rule_sets.specs.RuleSets.HiddenCharacters.QuotedPart.{of_quoted}
 use Rattle.yf_rule_sets.specs.RuleSets.Scalars.{IsScalar}
 use Rattle.yf_rule_sets.specs.RuleSets.Scalars.ScalarSpan.{of_scalar}
-use Rattle.yf_rule_sets.proofs.RuleSets.MarkPassLemmas.{in_cover, kind_answered, out_of_cover, sole_kind, span_event, span_sole}
-use Rattle.yf_rule_sets.proofs.Texts.ExactLemmas.{none_yet}
+use Rattle.yf_rule_sets.proofs.RuleSets.MarkPassLemmas.{in_cover, out_of_cover, sole_kind, span_event, span_sole}
+use Rattle.yf_rule_sets.proofs.Texts.ExactLemmas.{none_yet, same_answer}
 
 -- the part of a quoted scalar is one
 pub part_event : {t : List ℕ} {r : Lists} {i : ℕ} {s : Span} → QuotedPart t r i s → i < length r.events
@@ -73,7 +73,7 @@ module _ (t : List ℕ) (r : Lists) (house : Style) (escaped : house.invisible �
   beyond_all _ (in_no_quotes w a h m f) = is_beyond (record { is_char = a; hidden = h; no_mark = m }) (out_of_cover s c b n f)
 
   pub hidden_answered : (answer : Option ℕ) → IsTheOne (IsBeyond IsHiddenSign t reach k) answer → IsTheOne (HiddenCharacter t r house k) answer
-  hidden_answered answer a = kind_answered hidden beyond_all answer a
+  hidden_answered answer a = same_answer hidden beyond_all answer a
 
 -- at each offset at fault a character begins
 pub hidden_within : {t : List ℕ} {r : Lists} {house : Style} {k o : ℕ} → HiddenCharacter t r house k o → k < length t

@@ -26,7 +26,7 @@ use Rattle.yf_events.specs.declared.lists.Lists.{Lists}
 use Rattle.yf_rule_sets.specs.Passes.FarthestEnds.{Covers, AllBegin, NoneBegins, IsBeyond, IsMark}
 use Rattle.yf_rule_sets.specs.Passes.FarthestEnds.IsBeyond.{is_beyond}
 use Rattle.yf_rule_sets.specs.RuleSets.Exact.{Exactly, Sole, IsTheOne}
-use Rattle.yf_rule_sets.proofs.Texts.ExactLemmas.{none_yet}
+use Rattle.yf_rule_sets.proofs.Texts.ExactLemmas.{none_yet, same_answer}
 use Rattle.yf_rule_sets.specs.RuleSets.Scalars.{ScalarSpan, IsWithin, LooseMark}
 use Rattle.yf_rule_sets.specs.RuleSets.Scalars.ScalarSpan.{of_scalar}
 use Rattle.yf_rule_sets.specs.RuleSets.Scalars.LooseMark.{in_no_scalar}
@@ -122,12 +122,6 @@ module _ {Part : ℕ → Span → Type 0} {spans : List Span} {count reach k : �
       (λ (l : reach ≤ k). l) (cases_lt k reach))
       c.reached
 
--- what is at fault exactly where a character of a kind is that nothing reaches
-pub kind_answered : {Kind : ℕ → Type 0} {t : List ℕ} {reach k : ℕ} {Fault : ℕ → Type 0} → ((o : ℕ) → IsBeyond Kind t reach k o → Fault o)
-    → ((o : ℕ) → Fault o → IsBeyond Kind t reach k o) → (answer : Option ℕ) → IsTheOne (IsBeyond Kind t reach k) answer → IsTheOne Fault answer
-kind_answered to back None f = λ o h. f o (back o h)
-kind_answered to back (Some o) a = record { holds = to o a.holds; only = λ x h. a.only x (back x h) }
-
 pub sole_kind : {Kind : ℕ → Type 0} (t : List ℕ) (reach k : ℕ) → Kind (code t k) → reach ≤ k → Sole (IsBeyond Kind t reach k) k
 sole_kind {Kind} t reach k e l = record { holds = is_beyond e l; only = λ o h. there h } where
   there : {o : ℕ} → IsBeyond Kind t reach k o → o ≡ k
@@ -143,7 +137,7 @@ module _ (t : List ℕ) (r : Lists) (spans : List Span) (count reach k : ℕ) (s
   beyond_all _ (in_no_scalar e f) = is_beyond e (out_of_cover s c b n f)
 
   pub mark_answered : (answer : Option ℕ) → IsTheOne (IsBeyond IsMark t reach k) answer → IsTheOne (LooseMark t r k) answer
-  mark_answered answer a = kind_answered loose beyond_all answer a
+  mark_answered answer a = same_answer loose beyond_all answer a
 
 pub mark_text : {t : List ℕ} {r : Lists} {k o : ℕ} → LooseMark t r k o → k < length t
 mark_text {t} {k = k} (in_no_scalar e f) = within_from_code t k (omega (arith, e))

@@ -1,18 +1,21 @@
 -- Laws of keys that are written with a `?` and wanted without.
-use Rattle.std.proofs.Common.{◌≡◌, ℕ, ◌<◌, ◌≤◌, Bool, true, false, ◌&&◌, List, [], ◌∷◌, Option, Some, None, length, get_or, sym, ap, subst, ◌∙◌, ⊎_elim, arith, true≢false}
+use Rattle.std.proofs.Common.{◌≡◌, ℕ, ◌<◌, ◌≤◌, Bool, true, false, ◌&&◌, List, [], ◌∷◌, Option, Some, None, length, get_or, refl, sym, ap, subst, ◌∙◌, ⊎_elim, arith, true≢false}
 use Rattle.std.specs.List.{Contains}
-use Rattle.std.specs.Prelude.{◌==◌, slice_get}
-use Rattle.std.proofs.lemmas.Bool.{and_parts, cases_lt, eqb-true, or_cases, or_left, or_right}
+use Rattle.std.specs.Prelude.{◌==◌, if◌then◌else◌, slice_get}
+use Rattle.std.proofs.lemmas.Bool.{and_parts, cases_Bool, cases_lt, eqb-true, or_cases, or_left, or_right}
 use Rattle.std.proofs.lemmas.Bool.Decides.{nat_tests}
 use Rattle.std.proofs.lemmas.List.{length-map}
 use Rattle.std.proofs.lemmas.Option.{same_Some, slice_get_within}
 use Rattle.yf_forms.specs.NormalForms.Forms.{no_form, stream_forms}
-use Rattle.yf_forms.specs.Nodes.ImplicitKeys.{begins_implicit}
+use Rattle.yf_forms.specs.Nodes.ImplicitKeys.{begins_implicit, is_atom, is_implicit_atom}
 use Rattle.yf_forms.specs.Nodes.SingleAnswers.{block_keys}
 use Rattle.yf_forms.specs.NormalForms.Normal.{setting_of}
+use Rattle.yf_forms.specs.NormalForms.Textual.{IsTextual}
 use Rattle.yf_forms.specs.declared.form.decide.Form.{Form}
 use Rattle.yf_forms.specs.declared.style.Style.{Style}
 use Rattle.yf_forms.proofs.Decide.FlagLemmas.{implicit_there}
+use Rattle.yf_events.specs.Event.{EventInText, EventValue}
+use Rattle.yf_events.specs.WellPlaced.{begins_node}
 use Rattle.yf_events.specs.Reading.{entries_of}
 use Rattle.yf_events.specs.Tree.{DocumentTree}
 use Rattle.yf_events.specs.declared.event.Entry.{Entry}
@@ -20,10 +23,16 @@ use Rattle.yf_events.specs.declared.lists.Lists.{Lists}
 use Rattle.yf_lines.specs.Lines.{Table}
 use Rattle.yf_rule_sets.specs.RuleSets.Exact.{IsTheOne, Sole}
 use Rattle.yf_rule_sets.specs.RuleSets.Layouts.{NeedlessMark}
+use Rattle.yf_rule_sets.specs.Passes.BlockKeys.{AnswersAtom, MarkedAtom, in_flow, is_key, next_role, role_at, roles}
 use Rattle.yf_rule_sets.specs.Passes.MarkedKeys.{TellsKeys}
 use Rattle.yf_rule_sets.specs.Passes.OuterFlow.{FlowsDone}
 use Rattle.yf_rule_sets.specs.RuleSets.QuestionMarks.{HasQuestionMark, IsMarked, marked}
+use Rattle.yf_rule_sets.specs.declared.facts.block_keys.Role.{Role}
+use Rattle.yf_rule_sets.specs.declared.facts.block_keys.Role.TheVariants.{InFlow, Item, Key, Value}
 use Rattle.yf_rule_sets.proofs.Texts.FlowLemmas.{is_inside, is_outside}
+use Rattle.yf_rule_sets.proofs.RuleSets.AtomLemmas.{Tells, not_enclosed, role_tells}
+use Rattle.yf_rule_sets.proofs.RuleSets.BlockKeyLemmas.{key_outside}
+use Rattle.yf_rule_sets.proofs.Texts.ExactLemmas.{same_answer}
 use Rattle.yf_rule_sets.proofs.RuleSets.KeySetLemmas.{head_or_later, is_head, is_later}
 use Rattle.yf_chars.proofs.Tests.{some_none}
 
@@ -94,3 +103,49 @@ module _ (src : Table) (r : Lists) (house : Style) (trees : List DocumentTree) (
       holds = record { key = listed (block_keys src.text r house trees) i (sym (k.tells i) ∙ f); outside = is_outside d l; marked = a.holds };
       only = λ p n. a.only p n.marked;
     }
+
+-- keys that are atoms
+
+key_in_block : (n : Role) → is_key n ≡ true → in_flow n ≡ false
+key_in_block InFlow e = absurd cc
+key_in_block Item e = refl
+key_in_block Key e = refl
+key_in_block Value e = refl
+
+module _ (src : Table) (r : Lists) (house : Style) (w : IsTextual r) (i : ℕ) (e : EventInText) (g : slice_get r.events i ≡ Some e) (st : List Role) (role : Role)
+    (q : slice_get (roles [] r.events) i ≡ Some (next_role st)) (f : role ≡ role_at e.event st) where
+  abbrev n : Role
+  n = next_role st
+
+  here : in_flow n ≡ false → Tells house (begins_implicit (block_keys src.text r house w.trees) i) n e.event
+  here z = subst (λ b. Tells house b n e.event) (implicit_there src.text r house w.trees i) ((role_tells src.text r house w.trees i n e w.of_reading q g).1 z)
+
+  node_role : begins_node e.event ≡ true → role ≡ n
+  node_role b = f ∙ ap (λ b. if b then next_role st else Item) b
+
+  begins : is_key role ≡ true → begins_node e.event ≡ true
+  begins k = ⊎_elim (λ (b : begins_node e.event ≡ true). b)
+      (λ (b : begins_node e.event ≡ false). absurd (true≢false (sym k ∙ ap is_key (f ∙ ap (λ b. if b then next_role st else Item) b))))
+      (cases_Bool (begins_node e.event))
+
+  outside : (o : ℕ) → NeedlessMark src r house w.trees i o → in_flow n ≡ false
+  outside o p = ⊎_elim (λ (h : in_flow n ≡ true). absurd (not_enclosed p.outside ((role_tells src.text r house w.trees i n e w.of_reading q g).0 h)))
+      (λ (h : in_flow n ≡ false). h) (cases_Bool (in_flow n))
+
+  module _ (answer : Option ℕ) (a : AnswersAtom src.text r house i role e.event answer) where
+    to_atom : (o : ℕ) → NeedlessMark src r house w.trees i o → MarkedAtom src.text r house i role e.event o
+    to_atom o p =
+        let t = here (outside o p) in
+        let b : begins_implicit (block_keys src.text r house w.trees) i ≡ true = tested (block_keys src.text r house w.trees) i p.key in
+        let k : is_key role ≡ true = ap is_key (node_role (t.node b)) ∙ t.key b in
+        record { key = k; implicit = (and_parts (is_key n) (is_implicit_atom house e.event) (sym (t.atom (a.atom k o p.marked)) ∙ b)).1; marked = p.marked }
+
+    of_atom : (o : ℕ) → MarkedAtom src.text r house i role e.event o → NeedlessMark src r house w.trees i o
+    of_atom o p =
+        let k : is_key n ≡ true = ap is_key (sym (node_role (begins p.key))) ∙ p.key in
+        let b : begins_implicit (block_keys src.text r house w.trees) i ≡ true =
+        (here (key_in_block n k)).atom (a.atom p.key o p.marked) ∙ ap (λ b. b && is_implicit_atom house e.event) k ∙ p.implicit in
+        record { key = listed (block_keys src.text r house w.trees) i b; outside = key_outside r.events i n q k; marked = p.marked }
+
+    pub atom_answer : IsTheOne (NeedlessMark src r house w.trees i) answer
+    atom_answer = same_answer of_atom to_atom answer a.exact

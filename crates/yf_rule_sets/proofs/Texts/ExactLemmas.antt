@@ -41,6 +41,11 @@ pub answer_found : {A : Type 0} (P : ℕ → A → Type 0) (n : ℕ) (xs ys : Li
 answer_found P n xs ys None u s e = none_found P n xs ys u s (e ∙ append-nil xs)
 answer_found P n xs ys (Some x) u s e = one_found P n xs ys x u s e
 
+-- the one answer where the same is meant in other words
+pub same_answer : {A : Type 0} {P Q : A → Type 0} → ((x : A) → P x → Q x) → ((x : A) → Q x → P x) → (answer : Option A) → IsTheOne P answer → IsTheOne Q answer
+same_answer to back None f = λ x q. f x (back x q)
+same_answer to back (Some x) a = record { holds = to x a.holds; only = λ y q. a.only y (back y q) }
+
 -- a pass over all indices at which something can be meant
 pub all_found_upto : {A : Type 0} (P Q : ℕ → A → Type 0) (n : ℕ) (xs : List A) → UpTo P n xs → ((k : ℕ) (x : A) → k < n → P k x → Q k x)
     → ((k : ℕ) (x : A) → Q k x → (k < n) × P k x) → Exactly Q xs

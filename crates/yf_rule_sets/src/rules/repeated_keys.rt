@@ -126,21 +126,26 @@ fn is_key_next(collection: &KeyedCollection) -> bool
     collection.is_map && !collection.at_value
 }
 
-/// Goes past a scalar in the innermost collection: whether it is a key that the collection has already.
+/// Goes past a scalar in the innermost collection: whether it is a key that the collection has already. Where it is no key, its tag isn't
+/// looked up.
 #[inline(always)]
 fn turn_scalar<'r>(
     collection: &mut KeyedCollection<'r>,
     keys: &mut Vec<ScalarKey<'r>>,
-    scalar: ScalarKey<'r>,
+    text: &'r str,
+    reading: &'r Reading<'r>,
+    i: usize,
 ) -> Result<bool, AllocError>
+    requires { i < length reading.now.events }
     ensures { IfOk result (λ hit. (outer : List ScalarKey) (l : OpenCollection) → IsLast outer keys.old.items collection.old l
-        → IsLast outer keys.new.items collection.new (past_key (Some (key_value scalar.entry)) l)
-        × (hit ≡ (takes_key l && has_key (key_value scalar.entry) l.keys))) }
+        → IsLast outer keys.new.items collection.new (past_key (Some (text.now, slice_get reading.now.resolved i)) l)
+        × (hit ≡ (takes_key l && has_key (text.now, slice_get reading.now.resolved i) l.keys))) }
 {
     let takes_key = is_key_next(&*collection);
     turn(collection);
     if takes_key {
-        return add_key(collection, keys, scalar);
+        let tag = reading.resolved(i);
+        return add_key(collection, keys, ScalarKey { text, tag });
     }
     Ok(false)
 }
@@ -161,13 +166,17 @@ fn pass_node(stack: &mut Vec<KeyedCollection>)
 fn pass_scalar<'r>(
     stack: &mut Vec<KeyedCollection<'r>>,
     keys: &mut Vec<ScalarKey<'r>>,
-    scalar: ScalarKey<'r>,
+    text: &'r str,
+    reading: &'r Reading<'r>,
+    i: usize,
 ) -> Result<bool, AllocError>
+    requires { i < length reading.now.events }
     ensures { IfOk result (λ hit. (st : List OpenCollection) → AreCollections keys.old.items (reverse stack.old.items) st
-        → AreCollections keys.new.items (reverse stack.new.items) (after (Some (key_value scalar.entry)) st) × (hit ≡ repeats_in (key_value scalar.entry) st)) }
+        → AreCollections keys.new.items (reverse stack.new.items) (after (Some (text.now, slice_get reading.now.resolved i)) st)
+        × (hit ≡ repeats_in (text.now, slice_get reading.now.resolved i) st)) }
 {
     match stack.last_mut() {
-        Some(collection) => turn_scalar(collection, keys, scalar),
+        Some(collection) => turn_scalar(collection, keys, text, reading, i),
         None => Ok(false),
     }
 }
@@ -223,10 +232,7 @@ fn pass<'r>(
         (next e (slice_get reading.now.resolved i) st) × (hit ≡ is_repeat e (slice_get reading.now.resolved i) st)) }
 {
     match reading.event(i) {
-        Event::Scalar { text, .. } => {
-            let tag = reading.resolved(i);
-            pass_scalar(stack, keys, ScalarKey { text, tag })
-        }
+        Event::Scalar { text, .. } => pass_scalar(stack, keys, text, reading, i),
         Event::Alias { .. } => {
             pass_node(stack);
             Ok(false)

@@ -1,6 +1,6 @@
 use Rattle.std.proofs.Common.{◌≡◌, ◌<◌, length, refl, arith}
+use Rattle.std.specs.Prelude.{slice_get}
 use Rattle.std.proofs.lemmas.Result.{IfOk-weaker}
-use Rattle.yf_rule_sets.specs.Passes.KeyPass.{key_value}
 use Rattle.yf_rule_sets.proofs.RuleSets.KeyPassLemmas.{last_is, last_set, scalar_passed}
 use Rattle.yf_rule_sets.proofs.rules.repeated_keys.pass_scalar.Goals as goal
 
@@ -13,5 +13,5 @@ returns-in-Some c =
     let v = c.in-Some.ensures.value in
     IfOk-weaker c.turn_scalar.result _ _
     (λ hit g. scalar_passed xs _ _ c.in-Some.collection.now c.turn_scalar.new.collection (last_is xs n c.in-Some.collection.now e h v)
-    (last_set xs n c.in-Some.collection.now e h v c.turn_scalar.new.collection) _ _ (key_value c.args.scalar) hit g)
+    (last_set xs n c.in-Some.collection.now e h v c.turn_scalar.new.collection) _ _ (c.args.text.now, slice_get c.args.reading.now.resolved c.args.i) hit g)
     c.turn_scalar.ensures
