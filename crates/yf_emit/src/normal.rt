@@ -63,12 +63,8 @@ pub fn normal<'a>(
         Ok(lists) => lists,
         Err(AllocError) => return Err(Fault::Memory),
     };
-    match Reading::build(alloc, lists) {
-        Ok(Some(copy)) => match normal_copy(alloc, src.text(), copy, style) {
-            Ok(normal) => Ok(normal),
-            Err(AllocError) => Err(Fault::Memory),
-        },
-        Ok(None) => unreachable!(),
-        Err(_) => Err(Fault::Memory),
+    match normal_copy(alloc, src.text(), Reading::of_stream(lists), style) {
+        Ok(normal) => Ok(normal),
+        Err(AllocError) => Err(Fault::Memory),
     }
 }

@@ -1,5 +1,5 @@
 -- Tags that are kept for the events that have one, and the list that has for each event its tag or none.
-use Rattle.std.proofs.Common.{ℕ, zero, suc, ◌+◌, ◌<◌, ◌≤◌, ◌≡◌, ◌≢◌, ◌==◌, List, [], ◌∷◌, ◌++◌, length, get_or, Option, Some, None, Result, Ok, Err, if◌then◌else◌, inl, inr, refl, sym, ap, ◌∙◌, subst, arith, append-nil, append_assoc, replicate}
+use Rattle.std.proofs.Common.{ℕ, zero, suc, ◌+◌, ◌-◌, ◌<◌, ◌≤◌, ◌≡◌, ◌≢◌, ◌==◌, List, [], ◌∷◌, ◌++◌, length, get_or, Option, Some, None, Result, Ok, Err, if◌then◌else◌, inl, inr, refl, sym, ap, ◌∙◌, subst, arith, append-nil, append_assoc, replicate}
 use Rattle.std.specs.Prelude.{slice_get, MatchResult}
 use Rattle.std.specs.List.Sorted.{IsSearchInRange, IsBinarySearchResult, IsNonDecreasingBy}
 use Rattle.std.specs.Ordering.{nat_cmp, ordering_index}
@@ -106,6 +106,30 @@ searched ts i (Err k) rise within parted = absent ts i (λ j l same. elim (cases
   | inl less ↦ let below : event_at ts j < i = ranked _ i _ (sym ((parted (comparisons_rise ts i rise)).0 j no_tag (omega (arith, within)) less)) in omega (arith, below, same)
   | inr least ↦ let above : i < event_at ts j = ranked _ i _ (sym ((parted (comparisons_rise ts i rise)).1 j no_tag least l)) in omega (arith, above, same)
 ])
+
+-- between two tags, the first of which is at the place before
+module _ (ts : List TaggedEvent) (i place : ℕ) (rise : RisesIn ts) (within : place ≤ length ts) (below : 0 < place → event_at ts (place - 1) < i) where
+  before_place : (j : ℕ) → j < place → event_at ts j < i
+  before_place j l = elim (cases_lt j (place - 1)) [
+    | inl earlier ↦ let a : event_at ts j < event_at ts (place - 1) = rise j (place - 1) earlier (omega (arith, l, within)) in let b = below (omega (arith, l)) in omega (arith, a, b)
+    | inr last ↦ let e : j ≡ place - 1 = omega (arith, l, last) in subst (λ w. event_at ts w < i) (sym e) (below (omega (arith, l)))
+  ]
+
+  from_place : (i < event_at ts place) → (j : ℕ) → place ≤ j → j < length ts → i < event_at ts j
+  from_place above j m l = elim (cases_lt place j) [
+    | inl later ↦ let a : event_at ts place < event_at ts j = rise place j later l in omega (arith, a, above)
+    | inr first ↦ let e : place ≡ j = omega (arith, m, first) in subst (λ w. i < event_at ts w) e above
+  ]
+
+  pub between : (place < length ts → i < event_at ts place) → tag_at ts i ≡ None
+  between above = absent ts i (λ j l same. elim (cases_lt j place) [
+    | inl less ↦ let a = before_place j less in omega (arith, a, same)
+    | inr least ↦ let a = from_place (above (omega (arith, least, l))) j least l in omega (arith, a, same)
+  ])
+
+-- an element that was read
+pub read_event : (ts : List TaggedEvent) (k : ℕ) (t : TaggedEvent) → k < length ts → (get_or ts k t).event ≡ event_at ts k
+read_event ts k t l = ap (λ w. w.event) (sym (get_or_default ts k no_tag t l))
 
 -- the tag of an event, found at a place
 

@@ -139,8 +139,10 @@ fn nodes<'r>(alloc: Global, reading: &'r Reading<'r>) -> Result<Vec<ContentItem<
     ensures { IfOk result (λ items. map item_value items.items ≡ nodes_of reading.now) }
 {
     let mut items = Vec::new(alloc);
+    let mut cursor = 0;
     for i in 0..reading.len() {
-        add_item(&mut items, item(reading.event(i), reading.resolved(i)))?;
+        let tag = reading.resolved_at_cursor(i, &mut cursor);
+        add_item(&mut items, item(reading.event(i), tag))?;
     }
     Ok(items)
 }

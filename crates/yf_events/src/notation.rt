@@ -301,8 +301,14 @@ pub fn write_events<W: Sink>(reading: &Reading, writer: &mut W) -> Result<(), Fa
         (Notation.notation_of reading.now) result }
 {
     let events = &reading.lists().events;
+    let mut cursor = 0;
     for i in 0..reading.len() {
-        if !put_at(writer, events, i, reading.resolved(i)) {
+        if !put_at(
+            writer,
+            events,
+            i,
+            reading.resolved_at_cursor(i, &mut cursor),
+        ) {
             return Err(Fault::WriteFailed);
         }
     }

@@ -65,6 +65,16 @@ impl<'a> Reading<'a> {
         }
     }
 
+    /// The reading that the lists make whose events are known to be a well nested stream with at most `DEPTH` collections open at once, so
+    /// that they aren't tested (conditions). Each event has its resolved tag or none, and each comment its note, as in `build`.
+    pub fn of_stream(lists: Lists<'a>) -> Reading<'a>
+        requires fits { ListsFit lists }
+        requires nested { IsStream DEPTH (events_of lists) }
+        ensures { result ≡ lists.entry }
+    {
+        Reading { lists }
+    }
+
     /// The lists that the reading was made of.
     #[inline(always)]
     pub fn lists(&self) -> &Lists<'a>
@@ -145,6 +155,16 @@ impl<'a> Reading<'a> {
         ensures { slice_get self.now.resolved i ≡ Some (name_value result) }
     {
         self.lists.resolved.at(i)
+    }
+
+    /// The same in a pass over the events: `cursor` is as the call for an event before it left it, at first 0. It only makes the search
+    /// short.
+    #[inline(always)]
+    pub fn resolved_at_cursor(&self, i: usize, cursor: &mut usize) -> Option<&ResolvedTag<'a>>
+        requires { i < length self.now.events }
+        ensures { slice_get self.now.resolved i ≡ Some (name_value result) }
+    {
+        self.lists.resolved.at_cursor(i, cursor)
     }
 
     /// The comments, in order of the text.

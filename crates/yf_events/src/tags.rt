@@ -1,5 +1,5 @@
 //! The resolved tags of events.
-ghost use Rattle.std.specs.Prelude.{◌≡◌, ◌<◌, ℕ, [], ◌∷◌, ◌++◌, length, slice_get, Some, None, IfOk, MatchResult, if◌then◌else◌, is_ok, replicate};
+ghost use Rattle.std.specs.Prelude.{◌≡◌, ◌<◌, ℕ, [], ◌∷◌, ◌++◌, length, slice_get, true, Some, None, IfOk, MatchResult, if◌then◌else◌, is_ok, replicate};
 ghost use Rattle.yf_events.specs.Tags.{event_at, tag_at};
 ghost use Rattle.yf_props.specs.Props.{name_value};
 
@@ -77,28 +77,45 @@ impl<'a> Tags<'a> {
         Ok(())
     }
 
-    /// The resolved tag of the event at an index. In most texts no tag is written.
+    /// The resolved tag of the event at an index.
+    #[inline(always)]
+    pub fn at(&self, i: usize) -> Option<&ResolvedTag<'a>>
+        requires { i < length self.now }
+        ensures { slice_get self.now i ≡ Some (name_value result) }
+    {
+        let mut cursor = 0;
+        self.at_cursor(i, &mut cursor)
+    }
+
+    /// The same in a pass over the events: `cursor` is as the call for an event before it left it, at first 0. It only makes the search
+    /// short. In most texts no tag is written.
     #[inline(always)]
     #[tactic(auto, using(crate::proofs::TagLists::none_kept))]
-    pub fn at(&self, i: usize) -> Option<&ResolvedTag<'a>>
+    pub fn at_cursor(&self, i: usize, cursor: &mut usize) -> Option<&ResolvedTag<'a>>
         requires { i < length self.now }
         ensures { slice_get self.now i ≡ Some (name_value result) }
     {
         if self.tagged.is_empty() {
             return None;
         }
-        self.found(i)
+        self.found(i, cursor)
     }
 
     // The same, looked for among those that are kept.
     #[inline(never)]
-    fn found(&self, i: usize) -> Option<&ResolvedTag<'a>>
+    fn found(&self, i: usize, cursor: &mut usize) -> Option<&ResolvedTag<'a>>
         requires { i < length self.now }
         ensures { slice_get self.now i ≡ Some (name_value result) }
     {
-        match place_of(self.tagged.as_slice(), i) {
-            Ok(place) => Some(&self.tagged[place].tag),
-            Err(_) => None,
+        match tag_from(self.tagged.as_slice(), i, *cursor) {
+            Ok(place) => {
+                *cursor = place.saturating_add(1);
+                Some(&self.tagged[place].tag)
+            }
+            Err(place) => {
+                *cursor = place;
+                None
+            }
         }
     }
 
@@ -113,7 +130,56 @@ impl<'a> Tags<'a> {
     }
 }
 
-// Where the tag of an event is, or that it has none.
+// Whether the tags before a place are of events before this one, and those from the place on of later ones.
+#[inline(always)]
+fn has_none_around(tagged: &[TaggedEvent], place: usize, event: usize) -> bool
+    requires { (j k : ℕ) → j < k → k < length tagged.now → event_at tagged.now j < event_at tagged.now k }
+    ensures { result ≡ true → tag_at tagged.now event ≡ None }
+{
+    if place > tagged.len() {
+        return false;
+    }
+    if place > 0 {
+        if tagged[place - 1].event >= event {
+            return false;
+        }
+    }
+    if place < tagged.len() {
+        return event < tagged[place].event;
+    }
+    true
+}
+
+// The place after that one where the tag there is of an event before this one, which wasn't asked for.
+#[inline(always)]
+fn past_earlier(tagged: &[TaggedEvent], place: usize, event: usize) -> usize {
+    if place < tagged.len() {
+        if tagged[place].event < event {
+            return place.saturating_add(1);
+        }
+    }
+    place
+}
+
+// Where the tag of an event is, or that it has none: known at once where it is at the cursor or the place after it, or would be there.
+#[inline(always)]
+fn tag_from(tagged: &[TaggedEvent], event: usize, cursor: usize) -> Result<usize, usize>
+    requires { (j k : ℕ) → j < k → k < length tagged.now → event_at tagged.now j < event_at tagged.now k }
+    ensures { MatchResult result (λ k. (k < length tagged.now) × (event_at tagged.now k ≡ event)) (λ _. tag_at tagged.now event ≡ None) }
+{
+    let place = past_earlier(tagged, cursor, event);
+    if place < tagged.len() {
+        if tagged[place].event == event {
+            return Ok(place);
+        }
+    }
+    if has_none_around(tagged, place, event) {
+        return Err(place);
+    }
+    place_of(tagged, event)
+}
+
+// The same by halving.
 fn place_of(tagged: &[TaggedEvent], event: usize) -> Result<usize, usize>
     requires { (j k : ℕ) → j < k → k < length tagged.now → event_at tagged.now j < event_at tagged.now k }
     ensures { MatchResult result (λ k. (k < length tagged.now) × (event_at tagged.now k ≡ event)) (λ _. tag_at tagged.now event ≡ None) }

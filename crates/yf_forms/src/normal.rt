@@ -84,9 +84,5 @@ pub fn normalized<'a>(
 {
     let mut lists = reading.into_lists();
     normalize(alloc, &mut lists.events, measures, forms, style)?;
-    match Reading::build(alloc, lists) {
-        Ok(Some(normal)) => Ok(normal),
-        Ok(None) => unreachable!(),
-        Err(_) => Err(AllocError),
-    }
+    Ok(Reading::of_stream(lists))
 }

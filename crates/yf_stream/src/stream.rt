@@ -1,8 +1,7 @@
 //! The reader of whole streams.
-ghost use Rattle.std.specs.Prelude.{◌≡◌, ◌+◌, ◌-◌, ◌<◌, ◌≤◌, ◌^◌, [], length, Err, IfErr, IfOk, IfSome, MatchOption, MatchResult};
+ghost use Rattle.std.specs.Prelude.{◌≡◌, ◌+◌, ◌-◌, ◌<◌, ◌≤◌, ◌^◌, [], length, Err, IfOk, IfSome, MatchOption};
 ghost use Rattle.std.specs.Str.{IsCharBoundary};
-ghost use Rattle.yf_events.specs.Nested.{IsStream};
-ghost use Rattle.yf_events.specs.Reading.{ListsFit, events_of};
+ghost use Rattle.yf_events.specs.Reading.{ListsFit};
 ghost use Rattle.yf_stream.specs.DerivedParts.{no_parts};
 ghost use Rattle.yf_stream.specs.DerivedStreams.{ListsDerived, ShapeOr};
 ghost use Rattle.yf_stream.specs.MadeReadings.{MadeOr, NoBreach};
@@ -23,7 +22,7 @@ use yf_events::event::NewEvent;
 use yf_events::lists::Lists;
 use yf_events::part::Part;
 pub use yf_events::reading::LONGEST;
-use yf_events::reading::{DEPTH, Reading};
+use yf_events::reading::Reading;
 use yf_events::tags::Tags;
 use yf_events::values::Values;
 use yf_lines::fault::Fault;
@@ -75,7 +74,7 @@ pub fn read_stream<'a>(alloc: Global, text: &'a str) -> Result<Reading<'a>, Faul
         on_leaf_line: Values::new(alloc),
     };
     match fill(alloc, text, &mut draft) {
-        Ok(None) => built(alloc, into_lists(draft)),
+        Ok(None) => Ok(Reading::of_stream(into_lists(draft))),
         Ok(Some(refusal)) => {
             drop(draft);
             Err(fault_at(alloc, text, refusal))
@@ -84,19 +83,6 @@ pub fn read_stream<'a>(alloc: Global, text: &'a str) -> Result<Reading<'a>, Faul
             drop(draft);
             Err(Fault::Memory)
         }
-    }
-}
-
-// The reading of these lists. The events of a stream are well nested, within the limit: so there is one.
-fn built<'a>(alloc: Global, lists: Lists<'a>) -> Result<Reading<'a>, Fault>
-    requires fits { ListsFit lists }
-    requires nested { IsStream DEPTH (events_of lists) }
-    ensures { MatchResult result (λ reading. reading ≡ lists.entry) (λ fault. fault ≡ Fault.Memory) }
-{
-    match Reading::build(alloc, lists) {
-        Ok(Some(reading)) => Ok(reading),
-        Ok(None) => unreachable!(),
-        Err(_) => Err(Fault::Memory),
     }
 }
 

@@ -8,7 +8,7 @@ use yf_rules::with_rules::{WithRules, with_all_rules};
 /// Settings, a text that is checked, the status, and what is found or why the text is refused.
 type Row = (&'static str, &'static str, u8, &'static str);
 
-static ROWS: [Row; 50] = [
+static ROWS: [Row; 52] = [
     ("", "- a\n- b\n", 1, "1:1 document-start (fixable)\n"),
     (
         "",
@@ -47,6 +47,18 @@ static ROWS: [Row; 50] = [
         "1:1 document-start (fixable)\n1:1 key-mark (fixable)\n",
     ),
     ("", "---\n?\n: v\n", 1, "2:1 key-mark (fixable)\n"),
+    (
+        "",
+        "---\n? k\n: [{? l : 1}]\na:\n  - ? &x z\n    : ? \"o\"\n      : |\n        ? p\n",
+        1,
+        "2:1 key-mark (fixable)\n3:3 flow-layout (fixable)\n5:5 key-mark (fixable)\n6:7 key-mark (fixable)\n",
+    ),
+    (
+        "",
+        "---\n? k\n: 1\n? [a]\n: 2\n? - b\n: 3\n? &x c\n: 4\n? *x\n: 5\n",
+        1,
+        "2:1 key-mark (fixable)\n4:1 key-mark (fixable)\n8:1 key-mark (fixable)\n10:1 key-mark (fixable)\n",
+    ),
     (
         "",
         "# c\n\n\n# d",

@@ -25,7 +25,7 @@ is_atom (scalar_node props style text) = true
 is_atom (alias_node name) = true
 is_atom _ = false
 
--- where a node is of which it isn't said
+-- no place in a text
 abbrev pub nowhere : NodeOffsets
 nowhere = record { span = None; tag_offset = None; entry = None }
 

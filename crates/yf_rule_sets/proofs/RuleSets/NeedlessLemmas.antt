@@ -7,14 +7,14 @@ use Rattle.std.proofs.lemmas.Bool.Decides.{nat_tests}
 use Rattle.std.proofs.lemmas.List.{length-map}
 use Rattle.std.proofs.lemmas.Option.{same_Some, slice_get_within}
 use Rattle.yf_forms.specs.NormalForms.Forms.{no_form, stream_forms}
-use Rattle.yf_forms.specs.Nodes.ImplicitKeys.{begins_implicit, is_atom, is_implicit_atom}
+use Rattle.yf_forms.specs.Nodes.ImplicitKeys.{begins_implicit, is_implicit_atom}
 use Rattle.yf_forms.specs.Nodes.SingleAnswers.{block_keys}
 use Rattle.yf_forms.specs.NormalForms.Normal.{setting_of}
 use Rattle.yf_forms.specs.NormalForms.Textual.{IsTextual}
 use Rattle.yf_forms.specs.declared.form.decide.Form.{Form}
 use Rattle.yf_forms.specs.declared.style.Style.{Style}
 use Rattle.yf_forms.proofs.Decide.FlagLemmas.{implicit_there}
-use Rattle.yf_events.specs.Event.{EventInText, EventValue}
+use Rattle.yf_events.specs.Event.{EventInText}
 use Rattle.yf_events.specs.WellPlaced.{begins_node}
 use Rattle.yf_events.specs.Reading.{entries_of}
 use Rattle.yf_events.specs.Tree.{DocumentTree}

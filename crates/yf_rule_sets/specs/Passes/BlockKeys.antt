@@ -66,13 +66,14 @@ roles st (e ∷ es) = next_role st ∷ roles (next e.event st) es
 abbrev pub role_at : EventValue → List Role → Role
 role_at v st = if begins_node v then next_role st else Item
 
--- the event v of the index i begins a node of that role: a key after the `?` at the offset, and an atom that is written without as such
+-- the event v of the index i begins a node of that role, which is a key after the `?` at the offset; it is an atom, and the house style
+-- writes it without `?` as a key
 pub record MarkedAtom (t : List ℕ) (r : Lists) (house : Style) (i : ℕ) (role : Role) (v : EventValue) (offset : ℕ) : Type 0 where
   pub key : is_key role ≡ true
   pub implicit : is_implicit_atom house v ≡ true
   pub marked : IsMarked t r i offset
 
--- the `?` before such an atom is the answer, and a key after a `?` is no collection
+-- the `?` before such an atom is the answer, and where v is a key after a `?`, it is an atom
 pub record AnswersAtom (t : List ℕ) (r : Lists) (house : Style) (i : ℕ) (role : Role) (v : EventValue) (answer : Option ℕ) : Type 0 where
   pub exact : IsTheOne (MarkedAtom t r house i role v) answer
   pub atom : is_key role ≡ true → (offset : ℕ) → IsMarked t r i offset → is_atom v ≡ true

@@ -31,14 +31,14 @@ pub fn offsets(alloc: Global, src: &Src, reading: &Reading, style: &Style) -> Fo
     if !has_marks(src, reading) {
         return Ok(Vec::new(alloc));
     }
-    match without_layout(alloc, src, reading, style)? {
+    match without_forms(alloc, src, reading, style)? {
         Some(offsets) => Ok(offsets),
-        None => by_layout(alloc, src, reading, style),
+        None => by_forms(alloc, src, reading, style),
     }
 }
 
 /// The same from the forms of all nodes: whether a collection is written without `?` may depend on the column of its entry.
-fn by_layout(alloc: Global, src: &Src, reading: &Reading, style: &Style) -> FoundOffsets
+fn by_forms(alloc: Global, src: &Src, reading: &Reading, style: &Style) -> FoundOffsets
     ensures { IfOk result (λ offsets. key_mark_at src.now reading.now style.now offsets.items) }
 {
     let measures = measure_all(alloc, src, reading, style)?;
@@ -54,7 +54,7 @@ fn by_layout(alloc: Global, src: &Src, reading: &Reading, style: &Style) -> Foun
 
 /// The same where no key after a `?` is a collection, else `None`: whether a scalar or an alias is written without `?` depends on nothing
 /// around it.
-fn without_layout(
+fn without_forms(
     alloc: Global,
     src: &Src,
     reading: &Reading,
@@ -74,8 +74,8 @@ fn without_layout(
     Ok(Some(offsets))
 }
 
-/// The `?` before a scalar or an alias that is a key and is to be written without, if the event is such; `None` where a collection is the
-/// key after a `?`.
+/// The `?` before the event where that is a scalar or an alias, a key, and to be written without; `Some(None)` where there is none. `None`
+/// where a collection is the key after a `?`, of which nothing is told.
 fn needless_atom(
     src: &Src,
     reading: &Reading,

@@ -20,8 +20,9 @@ pub fn offsets(alloc: Global, reading: &Reading) -> FoundOffsets
     let mut stack = Vec::new(alloc);
     let mut keys = Vec::new(alloc);
     let mut offsets = Vec::new(alloc);
+    let mut cursor = 0;
     for i in 0..reading.len() {
-        if pass(alloc, &mut stack, &mut keys, &*reading, i)? {
+        if pass(alloc, &mut stack, &mut keys, &mut cursor, &*reading, i)? {
             offsets.push(key_offset(reading, i))?;
         }
     }
@@ -132,6 +133,7 @@ fn is_key_next(collection: &KeyedCollection) -> bool
 fn turn_scalar<'r>(
     collection: &mut KeyedCollection<'r>,
     keys: &mut Vec<ScalarKey<'r>>,
+    cursor: &mut usize,
     text: &'r str,
     reading: &'r Reading<'r>,
     i: usize,
@@ -144,7 +146,7 @@ fn turn_scalar<'r>(
     let takes_key = is_key_next(&*collection);
     turn(collection);
     if takes_key {
-        let tag = reading.resolved(i);
+        let tag = reading.resolved_at_cursor(i, cursor);
         return add_key(collection, keys, ScalarKey { text, tag });
     }
     Ok(false)
@@ -166,6 +168,7 @@ fn pass_node(stack: &mut Vec<KeyedCollection>)
 fn pass_scalar<'r>(
     stack: &mut Vec<KeyedCollection<'r>>,
     keys: &mut Vec<ScalarKey<'r>>,
+    cursor: &mut usize,
     text: &'r str,
     reading: &'r Reading<'r>,
     i: usize,
@@ -176,7 +179,7 @@ fn pass_scalar<'r>(
         × (hit ≡ repeats_in (text.now, slice_get reading.now.resolved i) st)) }
 {
     match stack.last_mut() {
-        Some(collection) => turn_scalar(collection, keys, text, reading, i),
+        Some(collection) => turn_scalar(collection, keys, cursor, text, reading, i),
         None => Ok(false),
     }
 }
@@ -223,6 +226,7 @@ fn pass<'r>(
     alloc: Global,
     stack: &mut Vec<KeyedCollection<'r>>,
     keys: &mut Vec<ScalarKey<'r>>,
+    cursor: &mut usize,
     reading: &'r Reading<'r>,
     i: usize,
 ) -> Result<bool, AllocError>
@@ -232,7 +236,7 @@ fn pass<'r>(
         (next e (slice_get reading.now.resolved i) st) × (hit ≡ is_repeat e (slice_get reading.now.resolved i) st)) }
 {
     match reading.event(i) {
-        Event::Scalar { text, .. } => pass_scalar(stack, keys, text, reading, i),
+        Event::Scalar { text, .. } => pass_scalar(stack, keys, cursor, text, reading, i),
         Event::Alias { .. } => {
             pass_node(stack);
             Ok(false)

@@ -8,7 +8,7 @@ loop-i-init c = rw c.new-items.ensures.items (nodes_at_start c.args.reading.now)
 
 pub loop-i-preserved : goal.loop-i-preserved
 loop-i-preserved c =
-    event_added c.args.reading.now c.loop-i.i _ _ _ (map item_value c.loop-i.items.items) _ _ c.event.ensures c.resolved.ensures c.item.ensures c.in_ok-add_item.ensures c.loop-i.invariant
+    event_added c.args.reading.now c.loop-i.i _ _ _ (map item_value c.loop-i.items.items) _ _ c.event.ensures c.resolved_at_cursor-tag.ensures c.item.ensures c.in_ok-add_item.ensures c.loop-i.invariant
 
 pub returns : goal.returns
 returns c =

@@ -11,19 +11,19 @@ use Rattle.yf_stream.proofs.Offsets.DraftedReadings.{read_built}
 use Rattle.yf_stream.proofs.Offsets.NestedStreams.{reading_nests}
 use Rattle.yf_stream.proofs.stream.read_stream.Goals as goal
 
-pub built-requires-clause-fits : goal.built-requires-clause-fits
-built-requires-clause-fits c =
+pub of_stream-requires-clause-fits : goal.of_stream-requires-clause-fits
+of_stream-requires-clause-fits c =
     subst ListsFit (sym c.into_lists.ensures)
     (subst (λ o. MatchOption o (ListsFit (lists_of c.fill.new.draft)) (λ refusal. RefusalAt c.args.text.now refusal)) c.in-Ok-None.field-0-is c.in-Ok-None.ensures.refusal)
 
-pub built-requires-clause-nested : goal.built-requires-clause-nested
-built-requires-clause-nested c =
+pub of_stream-requires-clause-nested : goal.of_stream-requires-clause-nested
+of_stream-requires-clause-nested c =
     let read = subst (λ z. ListsDerived c.args.text.now (drafted c.fill.new.draft z)) c.in-Ok-None.field-0-is (c.in-Ok-None.ensures.reads (omega arith)) in
     subst (λ z. IsStream DEPTH (events_of z)) (sym c.into_lists.ensures) (reading_nests read.reads)
 
 pub returns-in-Ok-None-clause-reads : goal.returns-in-Ok-None-clause-reads
 returns-in-Ok-None-clause-reads c =
-    read_built c.args.text.now c.built.result c.built.ensures c.into_lists.ensures (subst (λ z. ListsDerived c.args.text.now (drafted c.fill.new.draft z)) c.in-Ok-None.field-0-is (c.in-Ok-None.ensures.reads (omega arith)))
+    read_built c.args.text.now c.of_stream.result c.of_stream.ensures c.into_lists.ensures (subst (λ z. ListsDerived c.args.text.now (drafted c.fill.new.draft z)) c.in-Ok-None.field-0-is (c.in-Ok-None.ensures.reads (omega arith)))
 
 pub fault_at-requires : goal.fault_at-requires
 fault_at-requires c =

@@ -10,10 +10,10 @@ pub returns-then-takes_key : goal.returns-then-takes_key
 returns-then-takes_key c =
     let text = c.args.text.now in
     let w : KeyValue = (text, slice_get c.args.reading.now.resolved c.args.i) in
-    let e : (text, Some (name_value c.resolved-tag.result)) ≡ w = ap (λ (o : Option (Option (List ℕ))). (text, o)) (sym c.resolved-tag.ensures) in
+    let e : (text, Some (name_value c.resolved_at_cursor-tag.result)) ≡ w = ap (λ (o : Option (Option (List ℕ))). (text, o)) (sym c.resolved_at_cursor-tag.ensures) in
     IfOk-weaker c.add_key.result _ _
     (λ hit g outer l i. subst (λ (w : KeyValue). IsLast outer c.add_key.new.keys.items c.add_key.new.collection (past_key (Some w) l) × (hit ≡ (takes_key l && has_key w l.keys))) e
-    (key_passed outer c.add_key.new.keys.items c.add_key.new.collection (text, Some (name_value c.resolved-tag.result)) l hit
+    (key_passed outer c.add_key.new.keys.items c.add_key.new.collection (text, Some (name_value c.resolved_at_cursor-tag.result)) l hit
     (sym (c.is_key_next-takes_key.ensures i.own l i.collection_is) ∙ c.if-takes_key.true) (g outer (past_key None l) (turned i c.turn.new.collection c.turn.ensures.first c.turn.ensures.turned))))
     c.add_key.ensures
 

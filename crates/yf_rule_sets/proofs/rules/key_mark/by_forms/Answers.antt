@@ -3,7 +3,7 @@ use Rattle.yf_rule_sets.specs.RuleSets.Layouts.{NeedlessMark}
 use Rattle.yf_rule_sets.specs.Passes.MarkedKeys.{TellsKeys}
 use Rattle.yf_rule_sets.proofs.Texts.ExactLemmas.{all_found_upto, answer_found}
 use Rattle.yf_rule_sets.proofs.RuleSets.NeedlessLemmas.{marked_within, tells_keys}
-use Rattle.yf_rule_sets.proofs.rules.key_mark.by_layout.Goals as goal
+use Rattle.yf_rule_sets.proofs.rules.key_mark.by_forms.Goals as goal
 
 pub loop-i-preserved : goal.loop-i-preserved
 loop-i-preserved c = λ w.

@@ -4,7 +4,7 @@ use Rattle.yf_rule_sets.specs.RuleSets.Exact.{UpTo}
 use Rattle.yf_rule_sets.specs.RuleSets.Layouts.{NeedlessMark}
 use Rattle.yf_rule_sets.specs.Passes.BlockKeys.{roles}
 use Rattle.yf_rule_sets.specs.declared.facts.block_keys.Role.{Role}
-use Rattle.yf_rule_sets.proofs.rules.key_mark.without_layout.Given as goal
+use Rattle.yf_rule_sets.proofs.rules.key_mark.without_forms.Given as goal
 
 abbrev pub invariant-loop-i : goal.invariant-loop-i
 invariant-loop-i l = (before : List Role) × (length before ≡ l.i)

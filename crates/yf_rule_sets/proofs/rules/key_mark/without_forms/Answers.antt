@@ -6,7 +6,7 @@ use Rattle.yf_rule_sets.proofs.RuleSets.BlockKeyLemmas.{event_passed}
 use Rattle.yf_rule_sets.proofs.RuleSets.KeyPassLemmas.{event_at}
 use Rattle.yf_rule_sets.proofs.RuleSets.NeedlessLemmas.{atom_answer, marked_within}
 use Rattle.yf_rule_sets.proofs.Texts.ExactLemmas.{all_found_upto, answer_found, none_yet}
-use Rattle.yf_rule_sets.proofs.rules.key_mark.without_layout.Goals as goal
+use Rattle.yf_rule_sets.proofs.rules.key_mark.without_forms.Goals as goal
 
 pub loop-i-init : goal.loop-i-init
 loop-i-init c =
