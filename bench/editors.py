@@ -5,11 +5,14 @@ import re
 import shlex
 
 import lines
+from left import INVENTORY, VAULT
 from scratch import BAD, GOOD, read, recipes, repository, sh, write
 
 SINGLE = GOOD.replace('"', "'")
-TEXTS = {'a b.yaml': BAD, 'deep/a.yaml': BAD, 'bad.yaml': 'a: b: c\n', 'template.yaml': 'a: {{ x }}\n'}
+TEXTS = {'a b.yaml': BAD, 'deep/a.yaml': BAD, 'bad.yaml': 'a: b: c\n', 'template.yaml': 'a: {{ x }}\n', 'vault.yaml': VAULT, 'inventory.yaml': INVENTORY}
 WANTED = dict(TEXTS, **{'a b.yaml': SINGLE, 'deep/a.yaml': SINGLE})
+SAID = {'bad.yaml': '1:5 refused: syntax', 'template.yaml': 'looks like a template', 'vault.yaml': 'encrypted by Ansible Vault',
+        'inventory.yaml': 'plain text over several lines'}
 FOUND = ('a b.yaml', '2', '8', 'comment-space (fixable)')
 
 
@@ -22,11 +25,10 @@ def fresh(room):
 
 
 def edited(room, edit):
-    """Whether each file, when it was edited so, holds the formatted text alone; or its own, where there is none, and that is said."""
+    """Whether each file, when it was edited so, holds only the formatted text; or its own, if there is none, and that is said."""
     fresh(room)
     said = {name: edit(name) for name in TEXTS}
-    return ({name: read(room + '/' + name) for name in TEXTS} == WANTED and 'looks like a template' in said['template.yaml']
-            and '1:5 refused: syntax' in said['bad.yaml'])
+    return {name: read(room + '/' + name) for name in TEXTS} == WANTED and all(words in said[name] for name, words in SAID.items())
 
 
 def vim_alike(room, words):

@@ -7,29 +7,7 @@ import signal
 import subprocess
 import time
 
-from scratch import BAD, GOOD, TOP, environment, read, repository, script, sh, write
-
-LEFT = 'left alone: looks like a template'
-TEMPLATES = {
-    'value.yaml': 'name: {{ x }}\n',
-    'key.yaml': '{{ x }}: 1\n',
-    'item.yaml': '- [{{ x }}]\n',
-    'inside.yaml': 'name: app-{{ .Release.Name }}\n',
-    'helm.yaml': '{{- if .Values.a }}\na: "{{ b }}"\n{{- end }}\n',
-    'jinja.yaml': '{% for x in y %}\n- a\n{% endfor %}\n',
-    'apostrophe.yaml': "a: don't {{ x }} and won't\n",
-    'block.yaml': 'config: |\n  name: {{ x | nindent 4 }}\n',
-    'after.yaml': 'a: "{{ x }}" # {{ y }}\nb: {{ z }}\n',
-    'two.yaml': 'run: ${{ github.ref }}\nb: x {{ z }}\n',
-}
-NO_TEMPLATES = {
-    'workflow.yaml': 'on: push # c\nrun: ${{ github.ref }}\ntest: |\n  echo ${{ matrix.a }}\n',
-    'quotes.yaml': 'a: "{{ x }}" # c\nb: \'{% x %}\'\nc: "two\n  {{ lines }}"\n',
-    'comment.yaml': 'a: 1 # {{ x }}\n# {% y %}\n',
-    'docker.yaml': "run: |  # c\n  docker ps --format '{{.Names}}' -f \"{{.Id}}\"\nx: 1 # c\n",
-    'spaced.yaml': 'a: {b: {c: d}} # c\n',
-}
-
+from scratch import BAD, GOOD, TOP, VERBS, environment, read, repository, script, sh, with_hooks, write
 
 def each_file(clone, room, *words, **more):
     return sh([clone + '/hooks/each_file', *words], room, **more)
@@ -58,37 +36,6 @@ def links_stay(room, clone, recipes):
     staged = each_file(clone, room, 'check', '--staged', 'a.yaml')
     stay = staged.returncode == 0 and os.path.islink(room + '/a.yaml') and os.path.islink(room + '/c.yaml') and read(room + '/b.yaml') == GOOD
     return stay and done.returncode == 0 and done.stdout.count('symbolic links are left alone: a.yaml and 1 more') == 1
-
-
-def templates_stay(room, clone, recipes):
-    for name, text in {**TEMPLATES, **NO_TEMPLATES}.items():
-        write(room + '/' + name, text)
-    names = [*TEMPLATES, *NO_TEMPLATES]
-    checked = each_file(clone, room, 'check', '--', *names)
-    shown = each_file(clone, room, 'fmt', '--diff', '--', *names)
-    written = each_file(clone, room, 'fmt', '--write', '--', *names)
-    good = all((name + ': ' + LEFT in done.stdout) == (name in TEMPLATES) for name in names for done in (checked, shown, written))
-    good = good and all(read(room + '/' + name) == text for name, text in TEMPLATES.items())
-    good = good and all(read(room + '/' + name) != text for name, text in NO_TEMPLATES.items())
-    anyway = each_file(clone, room, 'fmt', '--write', '--templates', 'inside.yaml')
-    return good and written.returncode == 0 and anyway.returncode == 0 and read(room + '/inside.yaml') == '---\n' + TEMPLATES['inside.yaml']
-
-
-def templates_are_not_committed_changed(room, clone, recipes):
-    """The Git hook lets them pass, and says so."""
-    hooked(room, clone, recipes['git'])
-    write(room + '/value.yaml', TEMPLATES['value.yaml'])
-    done = commit(room, 'value.yaml')
-    return done.returncode == 0 and 'value.yaml: ' + LEFT in done.stdout
-
-
-def templates_by_pathspec(room, clone, recipes):
-    repository(room)
-    write(room + '/charts/one/templates/a.yaml', BAD)
-    write(room + '/charts/one/values.yaml', BAD)
-    sh(['git', 'add', '.'], room)
-    sh(['sh', '-c', recipes.get('folder-templates', 'true')], room)
-    return read(room + '/charts/one/templates/a.yaml') == BAD and read(room + '/charts/one/values.yaml') == GOOD
 
 
 def names_like_stages(room, clone, recipes):
@@ -196,24 +143,65 @@ def help_is_there(room, clone, recipes):
     return done.returncode == 0 and all(word in done.stdout for word in ('--config', '--staged', '--stdin', '--templates', 'Status'))
 
 
+def findings_come_once(room, clone, recipes):
+    """On standard output; and why a text is refused comes after its line, on standard error."""
+    write(room + '/a.yaml', 'a: "x" # c\n')
+    write(room + '/b.yaml', 'a: b: c\n')
+    apart = each_file(clone, room, 'check', 'a.yaml', 'b.yaml', stderr=subprocess.PIPE)
+    lines = ['a.yaml:1:1 document-start (fixable)', 'a.yaml:1:8 comment-space (fixable)', 'b.yaml:1:5 refused: syntax']
+    more = [line for line in apart.stderr.splitlines() if line.startswith(('a.yaml', 'b.yaml'))]
+    good = apart.stdout.splitlines() == lines and more and all(line.startswith('b.yaml:  ') for line in more)
+    for words in VERBS:
+        together = each_file(clone, room, *words, 'b.yaml').stdout.splitlines()
+        at = together.index(lines[2])
+        good = good and together[at + 1].startswith('b.yaml:  ') and together.count(lines[2]) == 1
+    return good
+
+
+def findings_are_explained_on_a_terminal(room, clone, recipes):
+    """Each after its own line."""
+    write(room + '/a.yaml', 'a: "x" # c\n')
+    shown = sh(['script', '-qec', "'%s/hooks/each_file' check a.yaml" % clone, '/dev/null'], room).stdout
+    lines = [line for line in shown.splitlines() if line.startswith('a.yaml')]
+    return (lines[::2] == ['a.yaml:1:1 document-start (fixable)', 'a.yaml:1:8 comment-space (fixable)'] and len(lines) == 4
+            and all(line.startswith('a.yaml:   fmt writes ') for line in lines[1::2]))
+
+
+def calls_are_few(room, clone, recipes):
+    """One call of the program for a file with keys, two for one with braces or text."""
+    program = sh([clone + '/hooks/program'], room, stderr=subprocess.DEVNULL).stdout.strip()
+    script(room + '/counted', "echo call >> '%s/count'\nexec '%s' \"$@\"\n" % (room, program))
+    with_hooks(room + '/own', room + '/counted')
+    names = ['%d.yaml' % at for at in range(20)]
+    for name in names:
+        write(room + '/' + name, '# c\n---\nkey: |\n  text\nother:\n  - 1\n')
+    write(room + '/text.yaml', 'a\n')
+    write(room + '/braces.yaml', 'a: "{{ x }}"\n')
+    counts = []
+    for words in VERBS:
+        write(room + '/count', '')
+        each_file(room + '/own', room, *words, 'text.yaml', 'braces.yaml', *names)
+        counts.append(read(room + '/count').count('call'))
+    return counts == [24] * 4
+
+
 def one_buffer(room, clone, recipes):
     """Standard input in the place of a file."""
     repository(room)
     write(room + '/.yamlfmt.toml', 'quotes = "single"\n')
     said = [each_file(clone, room, 'fmt', '--stdin', 'new/x.yaml', input=text, stderr=subprocess.PIPE) for text in (BAD, 'a: b: c\n', 'a: {{ x }}\n')]
     return ([done.returncode for done in said] == [0, 2, 3] and [done.stdout for done in said] == [GOOD.replace('"', "'"), '', '']
-            and 'new/x.yaml:1:5 refused: syntax' in said[1].stderr and LEFT in said[2].stderr)
+            and 'new/x.yaml:1:5 refused: syntax' in said[1].stderr and 'left alone: looks like a template' in said[2].stderr)
 
 
 LOGIC = '0123456789abcdef'
 SAYS_LOGIC = '[ "$1" != version ] || { echo "kit-1 logic ${LOGIC-%s}"; exit; }\n' % LOGIC
-RT = SAYS_LOGIC + r"""echo run >> "$COUNT"
+RT = SAYS_LOGIC + r"""[ "$1" != run ] || echo run >> "$COUNT"
+echo 'so far: 1 of 2 functions checked'
 sleep 1
 [ -z "${FAILS-}" ] || { echo 'error: not proved'; exit 1; }
-echo 'rt: chose --jobs 4 for yf_one'
-echo 'so far: 1 of 2 functions checked'
-echo 'crate yf_one: modules loaded=1 checked=2'
 echo 'logic=proved functions=2 sum=0'
+[ "$1" = run ] || exit 0
 mkdir -p out
 printf '#!/bin/sh\necho built "$@"\n' > out/yamlfmt
 chmod +x out/yamlfmt
@@ -225,7 +213,7 @@ class Builder:
 
     def __init__(self, room):
         self.room, self.top, self.count = room, room + '/clone', room + '/count'
-        for name in ('hooks/program', 'yamlfmt'):
+        for name in ('hooks/program', 'hooks/build', 'yamlfmt'):
             write(self.top + '/' + name, read(TOP + '/' + name))
             os.chmod(self.top + '/' + name, 0o755)
         write(self.top + '/crates.txt', 'yf_one: std\nyf_two: yf_one\nyamlfmt: yf_one clap\n')
@@ -270,11 +258,11 @@ def build_restored_from_elsewhere(room, clone, recipes):
     builder = Builder(room)
     builder.run()
     write(builder.top + '/crates/yf_one/src/lib.rt', 'changed')
-    sh(['cp', '-r', 'crates/yamlfmt/out', room + '/kept'], builder.top)
-    sh(['rm', '-rf', 'crates/yamlfmt/out'], builder.top)
-    sh(['cp', '-r', room + '/kept', 'crates/yamlfmt/out'], builder.top)
+    sh(['cp', '-r', '.build', room + '/kept'], builder.top)
+    sh(['rm', '-rf', '.build'], builder.top)
+    sh(['cp', '-r', room + '/kept', '.build'], builder.top)
     builder.run()
-    stamps = [builder.run('hooks/program', '--stamp').stdout, read(builder.top + '/crates/yamlfmt/out/yamlfmt.stamp').split('\n')[0] + '\n']
+    stamps = [builder.run('hooks/program', '--stamp').stdout, read(builder.top + '/.build/yamlfmt.stamp').split('\n')[0] + '\n']
     return builder.builds() == 2 and stamps[0] == stamps[1]
 
 
@@ -305,7 +293,8 @@ def failed_build(room, clone, recipes):
     builder = Builder(room)
     done = builder.run(env={'FAILS': '1'}, start_new_session=True)
     again = builder.run()
-    return done.returncode == 3 and 'error: not proved' in done.stdout and again.returncode == 0 and builder.builds() == 2
+    says = 'error: not proved' in done.stdout and 'yf_one could not be proved' in done.stdout
+    return done.returncode == 3 and says and again.returncode == 0 and builder.builds() == 1
 
 
 def another_logic(room, clone, recipes):
@@ -320,9 +309,9 @@ def build_is_told(room, clone, recipes):
     builder = Builder(room)
     line = "COUNT='%s' '%s/yamlfmt' > said 2> held" % (builder.count, builder.top)
     shown = sh(['script', '-qec', "bash -c \"%s\"" % line, '/dev/null'], room).stdout
-    sh(['rm', '-rf', 'crates/yamlfmt/out'], builder.top)
+    sh(['rm', '-rf', '.build', 'crates/yamlfmt/out'], builder.top)
     piped = builder.run(start_new_session=True, stdout=subprocess.DEVNULL, stderr=subprocess.PIPE).stderr
-    lines = ('building the program', 'yf_one: 1 of 2 functions checked', 'yf_one is proved, 1 of at most 2')
+    lines = ('building the program', '1 of 2 crates are proved; now yamlfmt', 'the program is built')
     return read(room + '/said') == 'built\n' and all(line in shown and line in piped for line in lines)
 
 
@@ -331,7 +320,7 @@ def build_is_told_under_pre_commit(room, clone, recipes):
     if not shutil.which('pre-commit'):
         return True
     builder = Builder(room)
-    for path in ('hooks/each_file', '.pre-commit-hooks.yaml'):
+    for path in ('hooks/each_file', 'hooks/templates.awk', '.pre-commit-hooks.yaml'):
         shutil.copy(TOP + '/' + path, builder.top + '/' + path)
     for line in ('git init -q .', 'git config user.email a@example.com', 'git config user.name a', 'git add -f .', 'git commit -qm tool'):
         sh(line.split(), builder.top)
@@ -339,7 +328,7 @@ def build_is_told_under_pre_commit(room, clone, recipes):
     rev = sh(['git', 'rev-parse', 'HEAD'], builder.top).stdout.strip()
     write(room + '/.pre-commit-config.yaml', 'repos:\n  - repo: %s\n    rev: %s\n    hooks:\n      - id: yamlfmt\n' % (builder.top, rev))
     shown = sh(['script', '-qec', "COUNT='%s' pre-commit run --files 'a b.yaml'" % builder.count, '/dev/null'], room)
-    return shown.returncode == 0 and 'yf_one is proved' in shown.stdout
+    return shown.returncode == 0 and '1 of 2 crates are proved' in shown.stdout
 
 
 def program_elsewhere(room, clone, recipes):
@@ -360,8 +349,8 @@ def buffer_builds_nothing(room, clone, recipes):
     return done.returncode == 3 and 'the program is not built' in done.stdout and builder.builds() == 0
 
 
-EACH = [links_stay, templates_stay, templates_are_not_committed_changed, templates_by_pathspec, names_like_stages, hook_by_relative_path,
-        hook_in_worktree, hook_without_git, settings_of_another_owner, settings_by_pipe, settings_from_elsewhere, settings_not_found_out,
-        full_folder, names_of_bytes, help_is_there, one_buffer, build_by_content, build_restored_from_elsewhere, build_made_by_hand,
-        four_first_calls, failed_build, another_logic, build_is_told, build_is_told_under_pre_commit,
+EACH = [links_stay, names_like_stages, hook_by_relative_path, hook_in_worktree, hook_without_git, settings_of_another_owner,
+        settings_by_pipe, settings_from_elsewhere, settings_not_found_out, full_folder, names_of_bytes, help_is_there, findings_come_once,
+        findings_are_explained_on_a_terminal, calls_are_few, one_buffer, build_by_content, build_restored_from_elsewhere,
+        build_made_by_hand, four_first_calls, failed_build, another_logic, build_is_told, build_is_told_under_pre_commit,
         program_elsewhere, buffer_builds_nothing]

@@ -1,18 +1,21 @@
 #!/usr/bin/env python3
-"""Tries each recipe of docs/RECIPES.md as it is written there, each in a scratch folder, where its tool is installed; then what
-went wrong with the hooks once (bench/faults.py); and the examples of README.md and docs/STYLE.md; and whether `--version` tells
-the newest version of CHANGELOG.md, and the logic of README.md, of docs/PROVED.md and of `rt version`; and whether `patch`, given what
-`fmt --diff` prints of a hundred texts, makes their formatting of them. Says `tried`, `FAILED`, `no TOOL`
-or `not tried` of each, and ends with 1 where one failed.
+"""Tries each recipe of docs/RECIPES.md as it is written there, in a scratch folder, if its tool is installed. Then it tries:
 
-Of VS Code, JetBrains, GitHub and GitLab the commands and patterns are tried (the matchers by bench/lines.py, the workflows by
-bench/workflows.py, the other editors by bench/editors.py), but not these programs themselves: not how they read their settings, nor
-GitHub's own actions and cache. Of the Dockerfile nothing is.
+- what went wrong with the hooks once (bench/faults.py), what they leave alone (bench/left.py), and how they build (bench/builds.py);
+- the examples of README.md and docs/STYLE.md;
+- whether `--version` prints the newest version of CHANGELOG.md, and the logic of README.md, docs/PROVED.md and `rt version`;
+- whether `patch` makes of a hundred texts their formatting, by what `fmt --diff` prints.
+
+It prints `tried`, `FAILED`, `no TOOL` or `not tried` for each, and ends with 1 if one failed.
+
+Only the commands and patterns for VS Code, JetBrains, GitHub and GitLab are tried (the matchers by bench/lines.py, the workflows by
+bench/workflows.py, the editors by bench/editors.py), and not these programs: not how they read their settings, nor GitHub's actions
+and cache. The Dockerfile is not tried.
 
 Usage: bench/recipes.py [PROGRAM]     (default: the program that ./yamlfmt builds; build it first)
 
-The hooks are copies of those here that run PROGRAM, so that nothing is built. As in a first call that builds, they say something
-on standard error.
+The hooks are copies of those here that run PROGRAM, so that nothing is built. They print something on standard error, as a first
+call does that builds.
 
 Not part of rt ci.
 """
@@ -24,8 +27,10 @@ import subprocess
 import sys
 import tempfile
 
+import builds
 import editors
 import faults
+import left
 import lines
 import workflows
 from scratch import BAD, GOOD, NOISE, TOP, read, recipes, repository, script, sh, with_hooks, write
@@ -68,6 +73,31 @@ def pre_commit(room, text, clone):
     done = sh(['pre-commit', 'run', '--files', 'a b.yaml', 'c.txt', 'template.yaml', 'link.yaml'], room)
     stays = read(room + '/template.yaml') == 'a: {{ x }}\n' and os.path.islink(room + '/link.yaml')
     return stays and done.returncode == 1 and read(room + '/a b.yaml') == GOOD.replace('"', "'")
+
+
+def git_templates(room, text, clone):
+    """Lets templates pass, and nothing else; also if a repository has no folder for hooks."""
+    repository(room)
+    sh(['rm', '-rf', '.git/hooks'], room)
+    sh(['sh', '-c', text], room)
+    refused = sh(['git', 'commit', '-qm', 'bad'], room)
+    write(room + '/a b.yaml', GOOD)
+    write(room + '/template.yaml', 'a: {{ x }}\n')
+    sh(['git', 'add', 'a b.yaml', 'template.yaml'], room)
+    return refused.returncode and 'a b.yaml' in refused.stdout and not sh(['git', 'commit', '-qm', 'good'], room).returncode
+
+
+def pre_commit_skip(room, text, clone):
+    """A template passes with the option, and fails the hook without it; an encrypted file passes, and plain text fails."""
+    with_tool(room, text, clone)
+    texts = {'template.yaml': 'a: {{ x }}\n', 'vault.yaml': left.VAULT, 'inventory.yaml': left.INVENTORY}
+    for name, said in texts.items():
+        write(room + '/' + name, said)
+    done = [sh(['pre-commit', 'run', '--files', name], room) for name in texts]
+    write(room + '/.pre-commit-config.yaml', read(room + '/.pre-commit-config.yaml').replace('[--templates=skip]', '[]'))
+    done.append(sh(['pre-commit', 'run', '--files', 'template.yaml'], room))
+    stays = all(read(room + '/' + name) == said for name, said in texts.items())
+    return stays and [one.returncode for one in done] == [0, 0, 1, 1] and 'looks like a template' in done[3].stdout
 
 
 def pre_commit_templates(room, text, clone):
@@ -136,6 +166,7 @@ def make(room, text, clone):
 
 
 TOOLS = {'folder': ('git', folder), 'changed': ('git', changed), 'make': ('make', make), 'git': ('git', git),
+         'git-templates': ('git', git_templates), 'pre-commit-skip': ('pre-commit', pre_commit_skip),
          'pre-commit': ('pre-commit', pre_commit), 'pre-commit-package': ('pre-commit', pre_commit_package),
          'pre-commit-templates': ('pre-commit', pre_commit_templates), 'long-lines': ('git', long_lines),
          'pre-commit-long-lines': ('pre-commit', pre_commit_long_lines), 'vim': ('vim', editors.vim), 'neovim': ('nvim', editors.neovim),
@@ -195,7 +226,7 @@ def logics():
 
 def version(program):
     newest = re.search(r'^## (\S+)', read(TOP + '/CHANGELOG.md'), re.M)[1]
-    wanted = [re.compile(r'yamlfmt %s\n(built from a checkout|commit [0-9a-f]{40,})\nlogic %s\n' % (re.escape(newest), logic)) for logic in logics()]
+    wanted = [re.compile(r'yamlfmt %s\n(built from a checkout|commit [0-9a-f]{40,})\nlogic %s\nplatform x86_64-linux-gnu, glibc [0-9.]+ or newer\n' % (re.escape(newest), logic)) for logic in logics()]
     return all(line.fullmatch(sh([program, word], TOP).stdout) for line in wanted for word in ('--version', '-V'))
 
 
@@ -273,14 +304,14 @@ def is_gone(tried, clone):
 
 
 def main():
-    program = os.path.abspath(sys.argv[1]) if len(sys.argv) > 1 else TOP + '/crates/yamlfmt/out/yamlfmt'
+    program = os.path.abspath(sys.argv[1]) if len(sys.argv) > 1 else TOP + '/.build/yamlfmt'
     if not os.access(program, os.X_OK):
         sys.exit('%s is not there: ./yamlfmt --help builds it' % program)
     failed = 0
     with tempfile.TemporaryDirectory() as clone:
         with_hooks(clone, program)
         failed += sum(not is_good(name, text, clone, program) for name, text in recipes(clone).items())
-        failed += sum(not is_gone(tried, clone) for tried in faults.EACH)
+        failed += sum(not is_gone(tried, clone) for tried in [*faults.EACH, *left.EACH, *builds.EACH])
     good = all([*style_rows(program)])
     print('docs/STYLE.md: %s' % ('tried' if good else 'FAILED'))
     failed += not good

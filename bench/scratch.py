@@ -8,6 +8,7 @@ TOP = os.path.dirname(os.path.dirname(os.path.abspath(__file__)))
 BAD = '---\na: "x" # c\n'
 GOOD = '---\na: "x"  # c\n'
 NOISE = 'yamlfmt: building the program'
+VERBS = (['check'], ['fmt', '--check'], ['fmt', '--diff'], ['fmt', '--write'])
 
 
 def recipes(clone):

@@ -53,7 +53,7 @@ def block(text, words):
 
 def built(room, text, clone):
     """Runs the workflow that builds, twice, and packs what is to be kept. Gives the key, and whether that went well and built once."""
-    made = Clone(room + '/made', SAYS_LOGIC + "echo run >> '%s/count'\nmkdir -p out\ncp \"$('%s/hooks/program' 2> /dev/null)\" out/yamlfmt\n" % (room, clone))
+    made = Clone(room + '/made', SAYS_LOGIC + "[ \"$1\" = run ] || exit 0\necho run >> '%s/count'\nmkdir -p out\ncp \"$('%s/hooks/program' 2> /dev/null)\" out/yamlfmt\n" % (room, clone))
     key = made.key(text)
     done = made.run(RUN, step(text, '- run: '))
     made.run(RUN, step(text, '- run: '))
