@@ -223,7 +223,7 @@ def arguments():
     parser = argparse.ArgumentParser(description=__doc__.split('\n\n')[0])
     parser.add_argument('--dense', action='store_true')
     parser.add_argument('--real', nargs='+', metavar='FOLDER')
-    parser.add_argument('--program', default=os.path.join(TOP, 'crates/yamlfmt/out/yamlfmt'))
+    parser.add_argument('--program', default=os.path.join(TOP, '.build/yamlfmt'))
     return parser.parse_args()
 
 
