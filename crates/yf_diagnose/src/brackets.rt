@@ -8,6 +8,7 @@ use crate::diagnosis::{Mistake, refused};
 use crate::gap::gap_end;
 use crate::leaves::{Held, held_content, is_colon_at, is_quote_at, leaf_end};
 use crate::lines::{Margin, breaks_between, is_long, sign_why};
+use crate::property::is_alias_before;
 use crate::why::Why;
 use yf_chars::text::is_char_at;
 use yf_lines::basic::{is_white_or_end_at, skip_whites};
@@ -23,6 +24,8 @@ enum Awaits {
     Key,
     Value,
     Comma,
+    // A comma, or the `:` of the key before it.
+    Colon,
 }
 
 // Brackets that are open.
@@ -116,6 +119,7 @@ impl Levels {
         }
         match top.awaits {
             Awaits::Comma => refused(at, comma_why(text, at)),
+            Awaits::Colon => refused(at, colon_why(text, at)),
             Awaits::Value => self.entry(text, at, margin),
             Awaits::Key => self.key(text, at, margin),
             Awaits::Entry => {
@@ -268,7 +272,7 @@ impl Levels {
                 if is_colon_at(text, next, json) {
                     return self.colon(text, start, next, json);
                 }
-                self.awaits(Awaits::Comma);
+                self.awaits(Awaits::Colon);
                 Ok(next)
             }
         }
@@ -329,11 +333,34 @@ fn comma_why(text: &str, at: usize) -> Why
     if is_char_at(text, at, b':') {
         return Why::SecondColon;
     }
-    sign_why(text, at, Why::CommaExpected)
+    separator_why(text, at, Why::CommaExpected)
 }
 
-// Whether an opening bracket is there.
-fn is_bracket_at(text: &str, at: usize) -> bool {
+// Why neither a comma nor the `:` of a key is there.
+fn colon_why(text: &str, at: usize) -> Why
+    requires { IsCharBoundary text.now at }
+{
+    if is_char_at(text, at, b':') {
+        return Why::ColonUnspaced;
+    }
+    separator_why(text, at, Why::ColonExpected)
+}
+
+// The same of a sign that is no `:`.
+fn separator_why(text: &str, at: usize, why: Why) -> Why
+    requires { IsCharBoundary text.now at }
+{
+    if is_char_at(text, at, b'#') {
+        return Why::CommentUnspaced;
+    }
+    if is_alias_before(text, at) {
+        return Why::TextAsAlias;
+    }
+    sign_why(text, at, why)
+}
+
+/// Whether an opening bracket is there.
+pub(crate) fn is_bracket_at(text: &str, at: usize) -> bool {
     if is_char_at(text, at, b'[') {
         return true;
     }

@@ -28,7 +28,7 @@ pub(crate) fn gap_end(text: &str, at: usize, margin: Margin) -> Result<usize, Mi
         None => Ok(sign),
         Some(next) => {
             if margin.key {
-                return refused(sign, Why::KeyWithoutColon);
+                return refused(sign, Why::KeyOverLines);
             }
             lines_passed(text, at, next, margin.least)
         }
@@ -46,7 +46,7 @@ fn comment_passed(text: &str, last: usize, at: usize, margin: Margin) -> Result<
         Err(told) => Err(told),
         Ok(end) => {
             if margin.key {
-                return refused(at, Why::KeyWithoutColon);
+                return refused(at, Why::KeyOverLines);
             }
             match line_break(text, end) {
                 None => refused(last, Why::BracketsOpen),

@@ -4,10 +4,11 @@ ghost use Rattle.yf_diagnose.specs.SecondReadings.{IsDiagnosed, IsReadFrom};
 
 use crate::brackets::brackets_end;
 use crate::diagnosis::{Diagnosis, Mistake, after, here, refused};
+use crate::joined::{is_below_header, joined_why};
 use crate::leaves::is_second;
 use crate::lines::{Margin, line_ends};
-use crate::look::{is_indicator_at, line_start, whites_before};
-use crate::plain::plain_end;
+use crate::look::{has_unspaced_colon, is_indicator_at, line_start, whites_before};
+use crate::plain::{plain_begun, plain_end};
 use crate::property::{is_property_at, name_end, property_end};
 use crate::quoted::quoted_end;
 use crate::standing::key_line;
@@ -42,17 +43,17 @@ pub(crate) fn joined(text: &str, at: usize) -> Diagnosis
 {
     let start = line_start(text, at);
     match key_line(text, start) {
-        None => here(at, Why::LineJoined),
+        None => here(at, joined_why(text, start)),
         Some(line) => {
             if line == start {
-                return here(at, Why::LineJoined);
+                return here(at, joined_why(text, start));
             }
             let first = skip_whites(text, skip_marks(text, line));
             if is_indicator_at(text, first) {
-                return here(at, Why::LineJoined);
+                return here(at, joined_why(text, start));
             }
             if first > at {
-                return here(at, Why::LineJoined);
+                return here(at, joined_why(text, start));
             }
             key_diagnosis(text, first)
         }
@@ -69,9 +70,24 @@ pub(crate) fn key_diagnosis(text: &str, at: usize) -> Diagnosis
         Ok(end) => Diagnosis {
             from: at,
             at: skip_whites(text, end),
-            why: Why::KeyWithoutColon,
+            why: colon_why(text, at, end),
         },
     }
+}
+
+// Why no `:` follows a key that is between two places.
+fn colon_why(text: &str, from: usize, to: usize) -> Why
+    requires { IsCharBoundary text.now from }
+{
+    if is_below_header(text, line_start(text, from)) {
+        return Why::LeftOfScalar;
+    }
+    if plain_begun(text, from, Ctx::FlowOut).is_some() {
+        if has_unspaced_colon(text, from, to) {
+            return Why::KeyUnspaced;
+        }
+    }
+    Why::KeyWithoutColon
 }
 
 // The end of a key on its line.

@@ -5,6 +5,7 @@ mod brackets;
 mod diagnosis;
 mod gap;
 mod guess;
+mod joined;
 mod keys;
 mod leaves;
 mod lines;

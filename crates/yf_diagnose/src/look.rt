@@ -126,6 +126,33 @@ pub(crate) fn has_colon(text: &str, from: usize, to: usize) -> bool {
     false
 }
 
+/// Whether the first `:` between two places looks like a key's that lacks its space: neither white space nor the end of
+/// the line follows it, and no `/` or `:`, as in an address.
+pub(crate) fn has_unspaced_colon(text: &str, from: usize, to: usize) -> bool {
+    let mut at = from;
+    'bytes: while at < to {
+        if line_ends(text, at) {
+            return false;
+        }
+        if is_char_at(text, at, b':') {
+            return is_key_colon(text, from, at);
+        }
+        at += 1;
+    }
+    false
+}
+
+// Whether a `:` looks like that of a key that begins at another place.
+fn is_key_colon(text: &str, from: usize, at: usize) -> bool {
+    if at == from {
+        return false;
+    }
+    match text.as_bytes().get(at.saturating_add(1)) {
+        Some(byte) => !matches!(byte, b'/' | b':' | b' ' | b'\t' | b'\n' | b'\r'),
+        None => false,
+    }
+}
+
 /// The end of the text on the line from a place on, before white space and a comment.
 pub(crate) fn text_end(text: &str, from: usize) -> usize {
     let mut end = from;

@@ -43,6 +43,60 @@ pub(crate) fn name_end(text: &str, at: usize) -> Result<usize, Mistake>
     Ok(end)
 }
 
+/// Whether the name of an alias ends at a place.
+pub(crate) fn is_alias_before(text: &str, at: usize) -> bool {
+    let mut start = at;
+    'bytes: while start > 0 {
+        if !is_name_byte(text, start - 1) {
+            return is_name_of_alias(text, start, at);
+        }
+        start -= 1;
+    }
+    is_name_of_alias(text, 0, at)
+}
+
+// Whether a `*` and more signs are between two places.
+fn is_name_of_alias(text: &str, from: usize, to: usize) -> bool {
+    if is_char_at(text, from, b'*') {
+        return to > from.saturating_add(1);
+    }
+    false
+}
+
+// Whether a byte of a character that a name may hold is there.
+fn is_name_byte(text: &str, at: usize) -> bool {
+    match text.as_bytes().get(at) {
+        Some(byte) => !matches!(
+            byte,
+            b' ' | b'\t' | b'\n' | b'\r' | b',' | b'[' | b']' | b'{' | b'}'
+        ),
+        None => false,
+    }
+}
+
+/// Whether the name of an alias, between two places, looks like a text: whether it holds another sign than letters,
+/// digits, `-` and `_`.
+pub(crate) fn is_text_like(text: &str, from: usize, to: usize) -> bool {
+    let mut at = from;
+    'bytes: while at < to {
+        match text.as_bytes().get(at) {
+            Some(byte) => {
+                if !is_letter_like(*byte) {
+                    return true;
+                }
+            }
+            None => return false,
+        }
+        at += 1;
+    }
+    false
+}
+
+// Whether it is a letter, a digit, `-` or `_`, or a byte of a character that is no ASCII.
+fn is_letter_like(byte: u8) -> bool {
+    matches!(byte, b'a'..=b'z' | b'A'..=b'Z' | b'0'..=b'9' | b'-' | b'_' | 128..=255)
+}
+
 // The end of the tag whose `!` is there.
 fn tag_end(text: &str, at: usize) -> Result<usize, Mistake>
     requires { IsCharBoundary text.now (at + 1) }

@@ -5,10 +5,14 @@ ghost use Rattle.yf_diagnose.specs.SecondReadings.{IsDiagnosis, IsDiagnosed, IsR
 
 use crate::diagnosis::{Diagnosis, Mistake, after, here, told};
 use crate::guess::guessed;
+use crate::joined::item_why;
 use crate::keys::{content_end, is_comment_at, joined, key_diagnosis, without_colon};
 use crate::leaves::is_quote_at;
 use crate::lines::{Margin, comment_end, line_ends, sign_why};
-use crate::look::{begun_line, first_tab, is_indicator_at, line_start, whites_before, word_before};
+use crate::look::{
+    begun_line, first_tab, is_indicator_at, is_passed, line_before, line_start, whites_before,
+    word_before,
+};
 use crate::plain::{plain_begun, plain_end};
 use crate::property::{is_property_at, name_end, property_end};
 use crate::quoted::quoted_end;
@@ -99,12 +103,32 @@ fn at_first(text: &str, start: usize, at: usize) -> Diagnosis
     if is_char_at(text, at, b'#') {
         return told(text, at, comment_end(text, at), Why::LeftInScalar);
     }
+    if is_mark_inside(text, start) {
+        return here(start, Why::Mark);
+    }
     if is_char_at(text, at, b'%') {
         if at == skip_marks(text, start) {
             return at_percent(text, at);
         }
     }
     at_sign(text, start, at)
+}
+
+// Whether the line begins with a byte order mark, and a line above it belongs to the same document.
+fn is_mark_inside(text: &str, start: usize) -> bool
+    requires { IsCharBoundary text.now start }
+{
+    if skip_marks(text, start) == start {
+        return false;
+    }
+    let mut line = start;
+    'lines: while line > 0 {
+        line = line_before(text, line);
+        if !is_passed(text, line) {
+            return !is_char_at(text, skip_marks(text, line), b'.');
+        }
+    }
+    false
 }
 
 // A `%` at the start of a line.
@@ -205,6 +229,7 @@ fn standing_diagnosis(text: &str, at: usize, standing: Standing) -> Diagnosis
 {
     match standing {
         Standing::Beyond(Why::LineJoined) => joined(text, at),
+        Standing::Beyond(Why::ItemBelowText) => here(at, item_why(text, line_start(text, at))),
         Standing::Beyond(why) => here(at, beyond_why(text, at, why)),
         Standing::Node(least) => told(
             text,
@@ -296,11 +321,13 @@ fn node_why(text: &str, at: usize, key: bool) -> Why
     if is_property_at(text, at) {
         return Why::PropertyTwice;
     }
-    if is_char_at(text, at, b'|') {
-        return Why::KeyWithoutColon;
-    }
-    if is_char_at(text, at, b'>') {
-        return Why::KeyWithoutColon;
+    if key {
+        if is_char_at(text, at, b'|') {
+            return Why::ScalarAsKey;
+        }
+        if is_char_at(text, at, b'>') {
+            return Why::ScalarAsKey;
+        }
     }
     if begins_leaf(text, at) {
         return Why::NodeEnded;

@@ -4,13 +4,13 @@ ghost use Rattle.std.specs.Str.{IsCharBoundary};
 
 use crate::lines::is_long;
 use crate::look::{
-    Beginning, Entry, begun_line, entry_in, has_colon, is_passed, line_before, line_start,
-    text_end, whites_before, word_before,
+    Beginning, Entry, begun_line, entry_in, has_colon, is_indicator_at, is_passed, line_before,
+    line_start, text_end, whites_before, word_before,
 };
-use crate::property::is_property_at;
+use crate::property::{is_alias_before, is_property_at, is_text_like};
 use crate::why::Why;
 use yf_chars::text::is_char_at;
-use yf_lines::basic::{is_marker_at, skip_spaces};
+use yf_lines::basic::{is_marker_at, skip_spaces, skip_whites};
 use yf_lines::table::skip_marks;
 
 /// How something is.
@@ -57,7 +57,7 @@ fn after_word(text: &str, line: Beginning, word: usize, end: usize, at: usize) -
     }
     if is_char_at(text, end - 1, b':') {
         if is_named(text, word, end) {
-            return Standing::Beyond(Why::ColonOfAlias);
+            return Standing::Beyond(alias_why(text, word, end - 1));
         }
         return Standing::Node(line.column.saturating_add(1));
     }
@@ -68,6 +68,14 @@ fn after_word(text: &str, line: Beginning, word: usize, end: usize, at: usize) -
         return Standing::Beyond(Why::AfterBrackets);
     }
     Standing::Beyond(Why::AfterNode)
+}
+
+// Why a `:` at the end of an alias is no key's. The alias is between two places.
+fn alias_why(text: &str, from: usize, to: usize) -> Why {
+    if is_text_like(text, from.saturating_add(1), to) {
+        return Why::TextAsAlias;
+    }
+    Why::ColonOfAlias
 }
 
 // Whether an alias's name begins at a place and ends at another.
@@ -103,6 +111,9 @@ fn unspaced_why(text: &str, line: Beginning, at: usize) -> Why {
     if closes(text, at - 1) {
         return Why::AfterBrackets;
     }
+    if is_alias_before(text, at) {
+        return Why::TextAsAlias;
+    }
     Why::AfterNode
 }
 
@@ -120,13 +131,20 @@ fn colon_why(text: &str, line: Beginning, at: usize) -> Why {
             return Why::ColonOfAlias;
         }
     }
-    if !line.first {
-        return Why::MappingInLine;
-    }
     if has_colon(text, line.at, at) {
         return Why::MappingInLine;
     }
-    Why::LineJoined
+    if !is_indicator_at(text, at) {
+        return Why::ColonUnspaced;
+    }
+    if line.first {
+        return Why::LineJoined;
+    }
+    let first = skip_whites(text, skip_marks(text, line_start(text, at)));
+    if is_char_at(text, first, b'-') {
+        return Why::ItemBelowText;
+    }
+    Why::MappingInLine
 }
 
 // What is known of the lines between a line and the one that was looked at last.
@@ -191,13 +209,14 @@ fn below_line(text: &str, line: usize, column: usize, above: Above) -> Step
     match entry_in(text, line, column) {
         Entry::Key => return Step::Found(Standing::Key(column.saturating_add(1))),
         Entry::Item => {
-            if indent == column {
-                return Step::Above(Above {
-                    adjacent: false,
-                    dashed: true,
-                    left: false,
-                });
+            if indent < column {
+                return Step::Found(Standing::Beyond(Why::KeyInSequence));
             }
+            return Step::Above(Above {
+                adjacent: false,
+                dashed: true,
+                left: false,
+            });
         }
         Entry::Nothing => {}
     }
@@ -258,8 +277,8 @@ fn at_top(above: Above) -> Standing {
     Standing::Beyond(Why::NodeEnded)
 }
 
-// Whether a line ends with an indicator or a property, so that a node may follow below.
-fn awaits(text: &str, line: Beginning) -> bool {
+/// Whether a line ends with an indicator or a property, so that a node may follow below.
+pub(crate) fn awaits(text: &str, line: Beginning) -> bool {
     let end = text_end(text, line.base);
     if line.at >= end {
         return true;
@@ -295,12 +314,25 @@ fn right_why(text: &str, line: Beginning, column: usize, above: Above) -> Why {
     if is_char_at(text, word, b'>') {
         return Why::LeftInScalar;
     }
+    if !above.left {
+        if awaits(text, line) {
+            return column_why(above);
+        }
+    }
     if above.adjacent {
         if line.column <= column {
             return Why::RightOfEntries;
         }
     }
     Why::NoSuchColumn
+}
+
+// Why nothing may be in the column of a node that a line above awaits: the node is a list, or it has ended.
+fn column_why(above: Above) -> Why {
+    if above.dashed {
+        return Why::KeyInSequence;
+    }
+    Why::NodeEnded
 }
 
 /// The start of the line on which the key begins that goes on over all lines to the one that starts there.

@@ -1,11 +1,12 @@
 //! What is told of a fault of bytes that were read.
 ghost use Rattle.std.specs.Prelude.{IfOk, []};
 ghost use Rattle.std.specs.Str.{IsCharBoundary};
-ghost use Rattle.yf_explain.specs.Explained.{AddsWords, Explains, Extends, Tells, TellsByte, TellsOffset};
+ghost use Rattle.yf_explain.specs.Explained.{AddsWords, Explains, Extends, Tells, TellsAt, TellsByte, TellsOffset};
 
+use crate::look::is_text_like;
 use crate::opened::opened_before;
 use crate::page::Page;
-use crate::position::{line_span, push_place, push_words};
+use crate::position::{line_span, place_offset, push_place, push_words};
 use crate::source::push_source;
 use itoa::Buffer;
 use std::alloc::{AllocError, Global};
@@ -46,12 +47,7 @@ pub fn explain(alloc: Global, bytes: &[u8], fault: &Fault) -> Result<Page, Alloc
             *place,
             "no %TAG directive of this document declares the tag's handle",
         ),
-        Fault::UnknownAlias { place } => explain_place(
-            alloc,
-            bytes,
-            *place,
-            "no anchor of this name stands before it in this document",
-        ),
+        Fault::UnknownAlias { place } => explain_alias(alloc, bytes, *place),
         Fault::RepeatedDirective { place } => explain_place(
             alloc,
             bytes,
@@ -62,13 +58,13 @@ pub fn explain(alloc: Global, bytes: &[u8], fault: &Fault) -> Result<Page, Alloc
             alloc,
             bytes,
             *place,
-            "the version is none of YAML 1: write 1.2",
+            "unsupported YAML version: write 1.2",
         ),
         Fault::EscapeValue { place } => explain_place(
             alloc,
             bytes,
             *place,
-            "the number of this escape is that of no character",
+            "escape is not a Unicode character",
         ),
         Fault::Memory | Fault::ReadFailed | Fault::WriteFailed | Fault::Config { .. } => {
             Ok(Page::new(alloc))
@@ -146,10 +142,43 @@ fn explain_place(
         Err(_) => return Err(AllocError),
     };
     let src = Src::new(alloc, text)?;
+    explain_source(alloc, &src, place, words)
+}
+
+// What is told of an alias without an anchor.
+fn explain_alias(alloc: Global, bytes: &[u8], place: Position) -> Result<Page, AllocError>
+    ensures { IfOk result (λ page. TellsAt bytes.now place page) }
+{
+    let text = match check_utf8(bytes) {
+        Ok(text) => text,
+        Err(_) => return Err(AllocError),
+    };
+    let src = Src::new(alloc, text)?;
+    let words = alias_words(text, place_offset(&src, place));
+    explain_source(alloc, &src, place, words)
+}
+
+// Why an alias is refused. Its name may look like a text.
+fn alias_words(text: &str, at: usize) -> &'static str {
+    if is_text_like(text, at) {
+        return "no anchor has this name: quote a text that begins with `*`";
+    }
+    "no anchor with this name comes before it in this document"
+}
+
+// What is told of a place of a text whose lines are known.
+fn explain_source(
+    alloc: Global,
+    src: &Src,
+    place: Position,
+    words: &str,
+) -> Result<Page, AllocError>
+    ensures { IfOk result (λ page. Tells src.now.text place words.now page) }
+{
     let mut page = Page::new(alloc);
     push_words(&mut page, words, WORDS)?;
-    let at = push_place(&mut page, &src, place)?;
-    push_opened(alloc, &mut page, &src, at, place)?;
+    let at = push_place(&mut page, src, place)?;
+    push_opened(alloc, &mut page, src, at, place)?;
     Ok(page)
 }
 

@@ -11,4 +11,3 @@ mod source;
 
 pub use explained::{explain, page_at, page_of_words, push_line};
 pub use page::Page;
-pub use position::place_offset;

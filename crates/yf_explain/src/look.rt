@@ -11,6 +11,21 @@ pub(crate) fn is_blank(text: &str, at: usize) -> bool {
     }
 }
 
+/// Whether the alias at an offset looks like a text: whether its name holds another sign than letters, digits, `-` and `_`.
+pub(crate) fn is_text_like(text: &str, alias: usize) -> bool {
+    let bytes = text.as_bytes();
+    let mut at = alias.saturating_add(1);
+    while at < bytes.len() {
+        match bytes[at] {
+            b'a'..=b'z' | b'A'..=b'Z' | b'0'..=b'9' | b'-' | b'_' | 128..=255 => {}
+            b' ' | b'\t' | b'\n' | b'\r' | b',' | b'[' | b']' | b'{' | b'}' => return false,
+            _ => return true,
+        }
+        at += 1;
+    }
+    false
+}
+
 /// Where the line ends on which an offset is.
 pub(crate) fn line_end(text: &str, from: usize) -> usize
     ensures { from ≤ result }

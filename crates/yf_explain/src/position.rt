@@ -46,8 +46,9 @@ pub(crate) fn push_place(page: &mut Page, src: &Src, place: Position) -> Result<
     Ok(at)
 }
 
-/// The offset of a place of a text. Where the text has no such place, it is that of another one on the line, or the end of the text.
-pub fn place_offset(src: &Src, place: Position) -> usize
+/// Returns the offset of a place in a text. If the text has no such place, it is the offset of another place on the line, or the end
+/// of the text.
+pub(crate) fn place_offset(src: &Src, place: Position) -> usize
     ensures { IsCharBoundary src.now.text result }
 {
     column_offset(src.text(), line_span(src, place.line), place.column)

@@ -1,0 +1,7 @@
+use Rattle.yf_diagnose.proofs.reading.is_mark_inside.Given as goal
+
+abbrev pub invariant-lines : goal.invariant-lines
+invariant-lines l = Unit {0}
+
+abbrev pub decreases-lines : goal.decreases-lines
+decreases-lines l = l.line
