@@ -40,3 +40,5 @@ pub mod FormattingsAre
 pub mod RulesMended
 -- in what formatting gives nothing is at fault that the house style fixes (`FormatsAreMended`)
 pub mod Formatted
+-- what a setting promises (`StartsAreKept`)
+pub mod Settings

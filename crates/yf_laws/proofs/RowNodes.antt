@@ -11,3 +11,4 @@ pub mod BareNodes
 pub mod BareTrees
 pub mod FoundTexts
 pub mod FoundMarks
+pub mod QuotesKept

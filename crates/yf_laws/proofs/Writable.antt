@@ -18,3 +18,4 @@ pub mod ReadTrees
 pub mod FitFlows
 pub mod ContentLaws
 pub mod StillLeaves
+pub mod WrittenQuotes

@@ -6,3 +6,4 @@ pub mod RowShapes
 pub mod TrailsOf
 pub mod ReadableTrees
 pub mod FitDocuments
+pub mod WrittenQuotes

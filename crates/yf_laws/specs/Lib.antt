@@ -21,3 +21,5 @@ pub mod Preservation
 -- in what formatting gives nothing is at fault that the house style fixes; what is proved of every text
 pub mod Mended
 pub mod Formattings
+-- what a setting promises
+pub mod Settings

@@ -20,6 +20,7 @@ use Rattle.yf_grammar.proofs.Documents.CommentOrder.{end_ascends}
 use Rattle.yf_grammar.proofs.NodesInText.MeantLemmas.{texts_after, texts_noting, texts_entering, texts_both, texts_empty, after_comments}
 use Rattle.yf_grammar.proofs.NodesInText.NodePlaces.{NodeIsAt, is_at_nowhere, node_order, node_upto}
 use Rattle.yf_grammar.proofs.NodesInText.PlacesDerived.{places}
+use Rattle.yf_laws.specs.Layouts.WrittenQuotes.{QuotesWritten, no_quotes, one_quote}
 use Rattle.yf_laws.specs.Layouts.RowComments.{AreDecos, carried_texts, comments_in, Calm}
 use Rattle.yf_laws.specs.Layouts.Decorated.{Deco, first, after, end_then, lines_then, inline_then}
 use Rattle.yf_laws.specs.Layouts.ReadableTrees.{KeyNode}
@@ -329,7 +330,8 @@ module _ {s : LayoutSetting} {k v : Node} {margins : Margins} {rs : List Row} (c
           start = one.start;
           found_rows = one.found_rows;
           meant = found_implicit (n.node.mean q) q key.place found (is_some o) flag implicit alike at.events (n.node.meant q).escapes (node_upto at.is_there at.ends)
-              (node_text s.style (colon_after k ++ after_then o below rs ds r) alike line shaped (λ f. bracketed found u derived at.events f)) one.head
+              (node_text s.style (colon_after k ++ after_then o below rs ds r) alike line shaped (λ f. bracketed found u derived at.events f)
+              (subst (λ es. QuotesWritten s.style t es) at.events (n.node.quoted t q (colon_after k ++ after_then o below rs ds r) u shaped))) one.head
               (subst (λ z. FoundNode t s z v one.meaning one.inner) are_margins one.meant) (subst (λ z. KeyRows t (q ∷ items_in found) (leaves_of found) (is_some o) z one.inner one.found_rows) same one.keyed);
           placed = subst (λ z. RowsIn t (after_key (key_head column (written s.style k ++ colon_after k) offsets items leaves blank) o below rs) one.found_rows ds q z one.place r)
               (sym (comments_both (entering q (Some key.place) (n.node.mean q)) one.meaning
@@ -370,7 +372,7 @@ module _ {s : LayoutSetting} {k v : Node} {margins : Margins} {rs : List Row} (c
           start = one.start;
           found_rows = one.found_rows;
           meant = found_implicit (empty_node q) q q bare_node (is_some o) flag implicit (bare_alike q (n.meant q)) (bare_events q) (bare_escapes q) (is_at_nowhere (omega arith) refl)
-              (record { line = line_nothing; follows = 58 ∷ after_then o below rs ds r; there = here; flow = λ f. absurd (true≢false (sym f)) }) one.head
+              (record { line = line_nothing; follows = 58 ∷ after_then o below rs ds r; there = here; flow = λ f. absurd (true≢false (sym f)); quoted = one_quote _ tt no_quotes }) one.head
               (subst (λ z. FoundNode t s z v one.meaning one.inner) are_margins one.meant) (subst (λ z. KeyRows t (q ∷ []) [] (is_some o) z one.inner one.found_rows) same one.keyed);
           placed = subst (λ z. RowsIn t (after_key (key_head column (58 ∷ []) offsets items leaves blank) o below rs) one.found_rows ds q z one.place r)
               (sym (comments_both (entering q (Some q) (empty_node q)) one.meaning ∙ ap (λ z. z ++ one.meaning.comments) (comments_entering q (Some q) (empty_node q) ∙ empty_silent q))) one.placed;

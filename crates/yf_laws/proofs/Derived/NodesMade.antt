@@ -95,7 +95,7 @@ line_made {t} {s} {x} {r} margins n c ds z q b inline some key text column body 
     let after_text = rest_text (written s.style x) u node.back.line there in
     let end = row_end (first ds) z u (first_deco a) after_text.rest in
     let at = leaf_at {c = c} margins.entries stood.block (flow_node derived) end.end in
-    let found = line_found {row = r} s margins ds (end_then (first ds) [] z) inline some text column body key node.back.line there (λ y e f. bracketed y u derived e f) (places u derived refl) (node.meant q) (node.silent q) end.end end.is end.start end.rest in
+    let found = line_found {row = r} s margins ds (end_then (first ds) [] z) inline some text column body key node.back.line there (λ y e f. bracketed y u derived e f) (node.quoted t q (end_then (first ds) [] z) u there) (places u derived refl) (node.meant q) (node.silent q) end.end end.is end.start end.rest in
     record {
       height = node.height;
       place = end.place;

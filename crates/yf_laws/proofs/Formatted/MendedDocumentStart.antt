@@ -50,11 +50,11 @@ use Rattle.yf_forms.specs.NormalForms.BareStart.{begins_bare, has_lead, is_bare,
 
 -- The events of documents tell their markers alone.
 
-events_joined : (xs ys : List EventInText) (rest : List EventValue) → values (xs ++ ys) ++ rest ≡ values xs ++ (values ys ++ rest)
+pub events_joined : (xs ys : List EventInText) (rest : List EventValue) → values (xs ++ ys) ++ rest ≡ values xs ++ (values ys ++ rest)
 events_joined xs ys rest = ap (λ w. w ++ rest) (values_append xs ys) ∙ append_assoc (values xs) (values ys) rest
 
 mutual
-  node_unmarked : (x : Node) (rest : List EventValue) → markers_in (values (flat x) ++ rest) ≡ markers_in rest
+  pub node_unmarked : (x : Node) (rest : List EventValue) → markers_in (values (flat x) ++ rest) ≡ markers_in rest
   node_unmarked (scalar at props style text lines) rest = refl
   node_unmarked (alias at name) rest = refl
   node_unmarked (sequence at flow props xs) rest = ap markers_in (events_joined (flat_items xs) (unplaced sequence_ends ∷ []) rest) ∙ items_unmarked xs (sequence_ends ∷ rest)
@@ -70,7 +70,7 @@ mutual
       ap markers_in (events_joined (flat k) (flat v ++ flat_pairs ps) rest) ∙ (node_unmarked k (values (flat v ++ flat_pairs ps) ++ rest)
       ∙ (ap markers_in (events_joined (flat v) (flat_pairs ps) rest) ∙ (node_unmarked v (values (flat_pairs ps) ++ rest) ∙ pairs_unmarked ps rest)))
 
-abbrev marks : List Document → List Bool
+abbrev pub marks : List Document → List Bool
 marks ds = map (λ (d : Document). d.marked) ds
 
 documents_marks : {bare : Bool} {u : List ℕ} {ms : List Doc} {trees : List _} {es : List Document} {y : List EventInText} {tags : List _} (rest : List EventValue) → DocumentsMeant bare ms trees es

@@ -1,10 +1,16 @@
 -- In what formatting gives, each scalar has the style of the house.
 use Rattle.std.proofs.Common.{◌≡◌, ℕ, zero, suc, Bool, List, [], ◌∷◌, Some, sym, subst}
 use Rattle.std.specs.Prelude.{slice_get}
+use Rattle.std.specs.Str.{IsUtf8}
 use Rattle.std.proofs.lemmas.Option.{same_Some}
 use Rattle.yf_chars.proofs.Tests.{no_item}
 use Rattle.yf_events.specs.Event.{EventValue, EventInText, stream_starts, stream_ends, document_starts, document_ends, sequence_starts, sequence_ends, mapping_starts, mapping_ends, scalar_node, alias_node}
+use Rattle.yf_events.specs.Reading.{events_of}
+use Rattle.yf_events.specs.declared.event.ScalarStyle.{ScalarStyle}
 use Rattle.yf_events.specs.declared.lists.Lists.{Lists}
+use Rattle.yf_lines.specs.Lines.{Table}
+use Rattle.yf_props.specs.Props.{PropsValue}
+use Rattle.yf_stream.specs.ReadingOf.{ReadingOf}
 use Rattle.yf_stream.proofs.Existence.BreachLemmas.{values}
 use Rattle.yf_forms.specs.NormalForms.Restyled.{SameButStyles, none_left, one_more, restyled_event}
 use Rattle.yf_forms.specs.Nodes.ScalarStyles.{wanted}
@@ -12,7 +18,8 @@ use Rattle.yf_forms.specs.declared.style.Style.{Style}
 use Rattle.yf_laws.proofs.NormalForms.NormalRestyled.{normal_restyled}
 use Rattle.yf_laws.proofs.SameReading.SameContent.{bare, formats_values, unmarked, unmarked_value}
 use Rattle.yf_laws.proofs.Texts.WantedLemmas.{wanted_stays}
-use Rattle.yf_laws.specs.Mended.{FormatsAreMended}
+use Rattle.yf_laws.specs.Format.{IsFormatting}
+use Rattle.yf_laws.specs.Mended.{FormatsAreMended, IsFormatted}
 use Rattle.yf_rule_sets.specs.Rules.{quoting}
 use Rattle.yf_rule_sets.specs.RuleSets.Styles.{QuotingFault}
 use Rattle.yf_rule_sets.specs.RuleSets.Styles.QuotingFault.{other_style}
@@ -70,11 +77,16 @@ styled_at q [] i v a e = absurd (no_item i v e)
 styled_at q (w ∷ vs) zero v a e = subst (λ z. IsStyled q z) (same_Some _ _ e) (with_marker q w a.0)
 styled_at q (w ∷ vs) (suc i) v a e = styled_at q vs i v a.1 e
 
-none_misquoted : {src_text : List ℕ} {r : Lists} {s : Style} {i x : ℕ} → AreStyled s (bare r.events) → QuotingFault src_text r s i x → ⊥
-none_misquoted {r = r} {s = s} {i = i} a (other_style {props = props} {style = style} {text = text} w n) = n (styled_at s (values r.events) i (scalar_node props style text) a w.event)
+-- each scalar of what formatting gives has the style of the house
+pub styled_scalar : {t u : List ℕ} {s : Style} {r : Lists} → IsUtf8 t → IsFormatting t s u → ReadingOf u r → (i : ℕ) (props : PropsValue) (style : ScalarStyle) (text : List ℕ)
+    → slice_get (events_of r) i ≡ Some (scalar_node props style text) → wanted style text s ≡ style
+styled_scalar {s = s} {r = r} utf8 f a i props style text e =
+    let styled : AreStyled s (bare f.normal.events) = all_styled (normal_restyled f.is_normal).events in
+    let there : AreStyled s (bare r.events) = subst (λ vs. AreStyled s vs) (sym (formats_values utf8 f a)) styled in
+    styled_at s (values r.events) i (scalar_node props style text) there e
+
+none_misquoted : {src : Table} {r : Lists} {s : Style} {i x : ℕ} → IsFormatted src r s → QuotingFault src.text r s i x → ⊥
+none_misquoted {i = i} w (other_style {props = props} {style = style} {text = text} e n) = n (styled_scalar w.utf8 w.formats w.reads i props style text e.event)
 
 pub quoting_mended : FormatsAreMended quoting
-quoting_mended fixable src r s w offsets e =
-    let styled : AreStyled s (bare w.formats.normal.events) = all_styled (normal_restyled w.formats.is_normal).events in
-    let there : AreStyled s (bare r.events) = subst (λ vs. AreStyled s vs) (sym (formats_values w.utf8 w.formats w.reads)) styled in
-    exactly_none offsets (λ i x m. none_misquoted {s = s} there m) e
+quoting_mended fixable src r s w offsets e = exactly_none offsets (λ i x m. none_misquoted {s = s} w m) e

@@ -23,6 +23,7 @@ use Rattle.yf_laws.proofs.Columns.FlowHeads.{Bracketed, is_bracketed}
 use Rattle.yf_laws.proofs.RowNodes.FoundLines.{same_inline}
 use Rattle.yf_laws.proofs.RowNodes.FoundNodes.{SignRows, KeyRows, KeyOn, key_on, NodeText, NodeRows, no_rows, line_rows, scalar_rows, sequence_rows, sequence_after, mapping_rows, mapping_after, ItemsRows, no_item_rows, item_rows, PairRows, explicit_rows, implicit_rows, PairsRows, no_pair_rows, pair_rows}
 use Rattle.yf_laws.proofs.RowNodes.PlacedRows.{Inside, PlacedRow}
+use Rattle.yf_laws.proofs.RowNodes.QuotesKept.{quotes_stay}
 
 -- Nodes that are the same without their notes are kept.
 
@@ -221,6 +222,7 @@ text_stays house {t} {i} {y} {z} k a =
       follows = a.follows;
       there = subst (λ w. Rest t i (w ++ a.follows)) said a.there;
       flow = λ f. subst (λ w. Bracketed t i (i + length w) z) said (bracketed_stays k (a.flow (sym (bracketed_same k) ∙ f)));
+      quoted = quotes_stay k a.quoted;
     }
 
 -- Rows.

@@ -23,6 +23,7 @@ use Rattle.yf_grammar.proofs.NodesInText.MeantLemmas.{noting_comments}
 use Rattle.yf_forms.specs.declared.style.Style.{Style}
 use Rattle.yf_forms.specs.NormalForms.Normal.{LayoutSetting, Margins}
 use Rattle.yf_laws.specs.Layouts.RowComments.{carried_texts}
+use Rattle.yf_laws.specs.Layouts.WrittenQuotes.{QuotesWritten}
 use Rattle.yf_laws.specs.Layouts.Decorated.{Deco, first}
 use Rattle.yf_laws.specs.Layouts.ReadableTrees.{is_inline}
 use Rattle.yf_forms.specs.Nodes.OneLine.{written}
@@ -176,21 +177,22 @@ placed_node {x = x} a b =
 
 -- it is there as it was written
 pub node_text : (house : Style) {t : List ℕ} {x y : Node} {q : ℕ} (follows : List ℕ) → Alike Anywhere x y → IsLineText (written house x) → Rest t q (written house x ++ follows)
-    → (is_bracketed y ≡ true → Bracketed t q (q + length (written house x)) y) → NodeText house t q y
-node_text house {t} {x} {y} {q} follows alike line there flow =
+    → (is_bracketed y ≡ true → Bracketed t q (q + length (written house x)) y) → QuotesWritten house t (flat y) → NodeText house t q y
+node_text house {t} {x} {y} {q} follows alike line there flow quoted =
     let said : written house x ≡ written house y = same_written house alike in
     record {
       line = subst (λ w. IsLineText w) said line;
       follows = follows;
       there = subst (λ w. Rest t q (w ++ follows)) said there;
       flow = λ f. subst (λ w. Bracketed t q (q + length w) y) said (flow f);
+      quoted = quoted;
     }
 
 pub line_found : {t : List ℕ} {x : Node} {row : Row} {place q : ℕ} {cs : List CommentValue} {z : List ℕ} {mean : Meaning} (s : LayoutSetting) (margins : Margins) (ds : List Deco) (follows : List ℕ) → is_inline x ≡ true → written s.style x ≢ []
     → row.text ≡ written s.style x → row.column ≡ margins.column → row.body ≡ [] → is_some row.key_comment ≡ false → IsLineText (written s.style x) → Rest t q (written s.style x ++ follows)
-    → ((y : Node) → mean.events ≡ flat y → is_bracketed y ≡ true → Bracketed t q (q + length (written s.style x)) y) → NodeAt t q (q + length (written s.style x)) mean → MeansTrees x mean → mean.comments ≡ []
+    → ((y : Node) → mean.events ≡ flat y → is_bracketed y ≡ true → Bracketed t q (q + length (written s.style x)) y) → QuotesWritten s.style t mean.events → NodeAt t q (q + length (written s.style x)) mean → MeansTrees x mean → mean.comments ≡ []
     → LineEnd t (q + length (written s.style x)) place cs → texts cs ≡ carried_texts (first ds) → LineStart t place → Rest t place z → LineFound t s margins x (noting mean cs) row ds q place z
-line_found {t} {x} {row} {place} {q} {cs} {z} {mean} s margins ds follows inline some text column body key line there flow a b silent up is start w =
+line_found {t} {x} {row} {place} {q} {cs} {z} {mean} s margins ds follows inline some text column body key line there flow quoted a b silent up is start w =
     let alike : Alike Anywhere x a.node = placed_node a b in
     let is_there : NodeIsAt t q (q + length (written s.style x)) a.node = node_upto a.is_there a.ends in
     let width : length (written s.style x) ≡ length row.text = ap length (sym text) in
@@ -204,7 +206,7 @@ line_found {t} {x} {row} {place} {q} {cs} {z} {mean} s margins ds follows inline
         alike = alike;
         events = a.events;
         escapes = b.escapes;
-        rows = line_rows (sym (same_inline alike) ∙ inline) (λ e. some (same_written s.style alike ∙ e)) refl refl refl here (omega arith) (omega arith) column (node_text s.style follows alike line there (λ f. flow a.node a.events f));
+        rows = line_rows (sym (same_inline alike) ∙ inline) (λ e. some (same_written s.style alike ∙ e)) refl refl refl here (omega arith) (omega arith) column (node_text s.style follows alike line there (λ f. flow a.node a.events f) (subst (λ es. QuotesWritten s.style t es) a.events quoted));
       });
       placed = subst (λ v. RowsIn t (row ∷ []) (p ∷ []) ds q v place z) (sym same) (last_row (record {
         from = refl;

@@ -19,6 +19,7 @@ use Rattle.yf_grammar.proofs.NodesInText.NodePlaces.{NodeIsAt, is_at_nowhere, sc
 use Rattle.yf_grammar.proofs.NodesInText.PlacedNodes.{entered_standing}
 use Rattle.yf_forms.specs.declared.style.Style.{Style}
 use Rattle.yf_laws.specs.Layouts.ReadableTrees.{is_block_style, is_inline}
+use Rattle.yf_laws.specs.Layouts.WrittenQuotes.{QuotesWritten}
 use Rattle.yf_forms.specs.NormalForms.Normal.{LayoutSetting, Margins, entry_or, inner_margins, is_implicit, key_comment, key_margins, value_of_implicit}
 use Rattle.yf_forms.specs.Nodes.OneLine.{written, props_text}
 use Rattle.yf_print.specs.Layouts.Rows.{begins_below, colon_offset}
@@ -27,6 +28,7 @@ use Rattle.yf_laws.proofs.SecondRun.AlikeLemmas.{same_below, same_implicit}
 use Rattle.yf_laws.proofs.Columns.FlowHeads.{Bracketed, bracketed_entered, is_bracketed, is_bracketed_entered}
 use Rattle.yf_laws.proofs.Columns.LinePlaces.{OnLine}
 use Rattle.yf_laws.proofs.RowNodes.PlacedRows.{Inside, PlacedRow}
+use Rattle.yf_laws.proofs.Writable.WrittenQuotes.{first_quotes}
 
 -- the first of some items begins at q
 abbrev pub IsHead : List ℕ → ℕ → Type 0
@@ -52,12 +54,13 @@ pub data KeyRows (t : List ℕ) (items : List ℕ) (leaves : List Span) : Bool �
 pub data HeadAt (m q e : ℕ) : List PlacedRow → Type 0 where
   head_at : {h : PlacedRow} {hs : List PlacedRow} → h.column ≡ m → h.from ≡ q → e ≤ h.upto → HeadAt m q e (h ∷ hs)
 
--- a node on one line is as it is written from i on; a flow collection has this part of the text
+-- a node on one line is as it is written from i on; a flow collection has this part of the text, and each quoted scalar is as it is written
 pub record NodeText (house : Style) (t : List ℕ) (i : ℕ) (y : Node) : Type 0 where
   pub line : IsLineText (written house y)
   pub follows : List ℕ
   pub there : Rest t i (written house y ++ follows)
   pub flow : is_bracketed y ≡ true → Bracketed t i (i + length (written house y)) y
+  pub quoted : QuotesWritten house t (flat y)
 
 -- the key is on the first of these rows, which is at the column m
 pub data KeyOn (house : Style) (t : List ℕ) (m : ℕ) (k : Node) : List PlacedRow → Type 0 where
@@ -201,6 +204,7 @@ text_entered house {t} {i} e y a =
       follows = a.follows;
       there = subst (λ w. Rest t i (w ++ a.follows)) same a.there;
       flow = λ f. subst (λ w. Bracketed t i (i + length w) (entered e y)) same (bracketed_entered e y (a.flow (sym (is_bracketed_entered e y) ∙ f)));
+      quoted = subst (λ es. QuotesWritten house t es) (entered_events e y) (first_quotes e a.quoted);
     }
 
 pub rows_entered : {t : List ℕ} {s : LayoutSetting} {margins : Margins} {x y : Node} {ps : List PlacedRow} (e : Entry) → NodeRows t s margins x y ps → NodeRows t s margins x (entered e y) ps

@@ -40,7 +40,7 @@ has_kept r = by r.comments where
 abbrev lead_by : List Doc → List ℕ → List CommentValue → Bool
 lead_by ds ss cs = list_any (λ (c : CommentValue). (count_by (λ (d : Doc). nat_lt d.start c.offset) ds == 1) && (count_by (λ s. nat_lt s c.offset) ss == 0)) cs
 
-normal_lead : {t : List ℕ} {r m : Lists} {s : Style} → Normal t r s m → has_lead m ≡ has_lead r
+pub normal_lead : {t : List ℕ} {r m : Lists} {s : Style} → Normal t r s m → has_lead m ≡ has_lead r
 normal_lead {t} {r} {m} {s} n =
     let trees : List DocumentTree = map (normal_document t (setting_of r s)) n.trees in
     let starts : leaf_starts (flat_stream trees) ≡ leaf_starts r.events =

@@ -53,7 +53,7 @@ pub data AllAtColumns (u : List ℕ) : List Row → Type 0 where
   none_at_columns : AllAtColumns u []
   row_at_columns : {x : Row} {xs : List Row} → AtColumns u x.starts → AllAtColumns u xs → AllAtColumns u (x ∷ xs)
 
-abbrev kinds : List Start → List (ℕ × Bool)
+abbrev pub kinds : List Start → List (ℕ × Bool)
 kinds ss = map (λ (s : Start). (s.column, s.is_item)) ss
 
 block_found : (t u : List ℕ) (s r : Start) → source_column u r.offsets ≡ Some r.column → s.column ≡ r.column → s.is_item ≡ r.is_item → block_of u r ≡ as_printed (block_of t s)
@@ -102,7 +102,7 @@ unless_found [] (r ∷ rs) ls ms bs e f = absurd cc
 unless_found (s ∷ ss) [] ls ms bs e f = absurd cc
 unless_found (s ∷ ss) (r ∷ rs) ls ms bs e f = refl
 
-after_found : (t u : List ℕ) (x y : Row) (bs : List OpenBlock) → AtColumns u y.starts → kinds x.starts ≡ kinds y.starts → length x.leaves ≡ length y.leaves → after_row u y (all_printed bs) ≡ all_printed (after_row t x bs)
+pub after_found : (t u : List ℕ) (x y : Row) (bs : List OpenBlock) → AtColumns u y.starts → kinds x.starts ≡ kinds y.starts → length x.leaves ≡ length y.leaves → after_row u y (all_printed bs) ≡ all_printed (after_row t x bs)
 after_found t u x y bs a e f =
     ap (λ z. after_starts u y.starts z) (unless_found x.starts y.starts x.leaves y.leaves bs e f) ∙ starts_found t u x.starts y.starts (unless_document x.starts x.leaves bs) a e
 
@@ -262,7 +262,7 @@ module _ (u : List ℕ) where
     begun_at_columns start none_at_columns = none_at_columns
     begun_at_columns start (row_at_columns a more) = row_at_columns a more
 
-    all_at : (bare : Bool) (ds : List Doc) (trees : List DocumentTree) → SetDocuments u c.style (BlockAt u) trees → AllAtColumns u (all_rows c bare ds trees)
+    pub all_at : (bare : Bool) (ds : List Doc) (trees : List DocumentTree) → SetDocuments u c.style (BlockAt u) trees → AllAtColumns u (all_rows c bare ds trees)
     all_at false ds trees a = stream_at true ds trees a
     all_at true [] trees a = none_at_columns
     all_at true (d ∷ ds) [] a = none_at_columns

@@ -1,7 +1,9 @@
 -- Trees whose rows are read again: each node that is written on one line is, wherever it is.
-use Rattle.std.specs.Prelude.{◌≡◌, ◌≢◌, ℕ, ◌≤◌, Bool, true, false, is_some, List, [], ◌∷◌, ◌-◌}
+use Rattle.std.specs.Prelude.{◌≡◌, ◌≢◌, ℕ, ◌≤◌, Bool, true, false, is_some, List, [], ◌∷◌, ◌++◌, ◌-◌}
+use Rattle.std.specs.Str.{IsUtf8}
 use Rattle.yf_chars.specs.declared.context.Ctx.{Ctx}
 use Rattle.yf_chars.specs.declared.context.Ctx.TheVariants.{FlowOut, BlockKey}
+use Rattle.yf_lines.specs.Rest.{Rest}
 use Rattle.yf_props.specs.Props.{PropsValue, no_props}
 use Rattle.yf_props.specs.Written.{IsProps}
 use Rattle.yf_block_scalar.specs.Content.{content_of}
@@ -15,6 +17,7 @@ use Rattle.yf_grammar.specs.Productions.Meaning.{Meaning}
 use Rattle.yf_grammar.specs.Productions.TreesOfMeaning.{MeansTrees, tall}
 pub use Rattle.yf_grammar.specs.Productions.Unmarked.{IsNoMarker}
 use Rattle.yf_forms.specs.Nodes.BlockLines.{begins_with_space, content_lines, final_feeds}
+use Rattle.yf_laws.specs.Layouts.WrittenQuotes.{QuotesWritten}
 use Rattle.yf_laws.specs.Nodes.BlockValues.{is_folded, header_of}
 use Rattle.yf_forms.specs.declared.style.Style.{Style}
 use Rattle.yf_forms.specs.Nodes.OneLine.{written, colon_after}
@@ -30,6 +33,8 @@ pub record LineNode (s : Style) (c : Ctx) (x : Node) : Type 0 where
   pub low : height ≤ tall x
   pub meant : (q : ℕ) → MeansTrees x (mean q)
   pub silent : (q : ℕ) → (mean q).comments ≡ []
+  -- and its quoted scalars are there as they are written
+  pub quoted : (t : List ℕ) (q : ℕ) (r : List ℕ) → IsUtf8 t → Rest t q (written s x ++ r) → QuotesWritten s t (mean q).events
 
 -- the `:` after a key: at once, where it may be there, or after a space
 pub data ColonFits (at_once : Bool) : List ℕ → Type 0 where

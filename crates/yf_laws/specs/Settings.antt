@@ -1,0 +1,4 @@
+-- what a setting promises of the readings of a text and of its formatting
+pub mod DocumentStarts
+pub mod HiddenCharacters
+pub mod CommentBlocks
