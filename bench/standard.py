@@ -25,6 +25,7 @@ RULES = {
     "no-line": "longest scalars",
     "no-trail": "longest scalars",
     "no-comment-line": "longest scalars",
+    "no-folded-line": "longest folded lines",
     "auto-detect": "detected indentation",
     "is-sum": "indicated indentation",
     "no-value": "explicit values",
@@ -83,8 +84,8 @@ proved to be (`proofs/Standing.antt`, `Closed.antt`): a relation of the crates b
 **What is proved** (`standard_laws` of `yf_standard`, `specs/Laws.antt`): a text that is UTF-8 has a height of at most `DEPTH` and a meaning
 with which `Stream` derives it exactly where production 211, with the reading rules and with at most `DEPTH` collections open at
 once, derives all of it. What is derived with the rules, the standard's text alone derives too (`letter` of `specs/Rules.antt`), but for
-two readings that both share: N2, and the sum n + m for n = -1. Meanings, and what must hold besides (handles, aliases,
-versions, escapes), are no matter of productions. A text is accepted exactly where 211 so derives it and its one meaning breaches nothing
+two readings that both share: N2, and the sum n + m for n = -1. What must hold besides (handles, aliases,
+versions, escapes) is no matter of productions. A text is accepted exactly if 211 so derives it and its one meaning breaches nothing
 of that (`IsStandardText` of `specs/Acceptance.antt`; `headline` of `yf_rules`).
 
 ## Notation
@@ -110,6 +111,7 @@ Each is a condition, in bold in the table below; with `letter` each asks nothing
 | reserved names (N3) | `reserved-name` | a reserved directive's name is neither `YAML` nor `TAG` | `%YAML 1.2 x` |
 | words of directives | `no-comment` | no parameter begins with `#` | `%F #` with the parameter `#` |
 | longest scalars | `no-line`, `no-trail`, `no-comment-line` | a block scalar takes each line that it can, and so do the comment lines after it | one that stops before such a line |
+| longest folded lines | `no-folded-line` | a group of folded lines is as long as it can be: no further folded line follows it | the same texts with another meaning: `>`, ` a` and ` b` on three lines as `a`, a line feed and `b` |
 | indicated indentation | `is-sum` | k is max(n, 0) + m | nothing: both share it (the standard's sum at the root is m - 1) |
 | detected indentation (N9) | `auto-detect` | k is that of the first line with another character than space; where none has content, all lines of spaces alone are empty ones | any k of n + 1 or more |
 | explicit values | `no-value` | the value of a `?` entry is empty only where no `:` of it follows | `? k` and `: v` as two entries |
@@ -128,6 +130,31 @@ Each is a condition, in bold in the table below; with `letter` each asks nothing
 | N7 | 154, 155 | the 1,024 characters are code points, and the white space after the key counts |
 | N8 | 137, 140, 150, 183, 186, 187, 195 | at most `DEPTH` of these are open at once, a limit of this project (`COLLECTION` of `specs/Literal.antt`) |
 | N9 | 170, 174 | the detection of 8.1.1.1, which the standard gives in prose |
+
+## Meanings
+
+The standard says in prose what its productions mean, by their names. Here a meaning is a function of a derivation: `content`
+(`specs/Contents.antt`) is what it adds to a scalar, and `tokens` (`specs/Tokens.antt`) are its comments and names.
+
+| | Production | Meaning | Section |
+|---|---|---|---|
+| content | 29, 30, 72: breaks | a line feed, nothing, a space | 5.4, 6.5 |
+| | 63 to 66: indentation and separation | nothing | 6.1, 6.2 |
+| | 62: an escape | the number that it writes; two halves of a pair, one directly after the other, are one character (N4) | 5.7 |
+| | 109, 120: quoted scalars | what is between the quotes | 7.3 |
+| | 112: an escaped break | its white space and its empty lines, without the backslash | 7.3.1 |
+| | 117: two single quotes | one quote | 7.3.2 |
+| | 162, 169: a header, comments after a block scalar | nothing | 8.1.1 |
+| | 170, 174: block scalars | what follows the sign and the header | 8.1.2, 8.1.3 |
+| tokens | 28, 63, 66: breaks, indentation, separation | nothing | 5.4, 6.1, 6.2 |
+| | 75: a comment | its place and its text | 6.6 |
+| | 89, 98 to 100: handles and tags | what the tag names, and its place | 6.8.2, 6.9.1 |
+| | 101, 104: anchors and aliases | the name, and the alias's place | 6.9.2, 7.1 |
+| both | all others | what their parts mean | |
+
+`meaning_laws` of `yf_standard` proves that each derivation, with the reading rules, of these productions means what is read: plain,
+single-quoted and double-quoted scalars (131, 120, 109), the content of literal scalars (173), comments (79), separation (80), aliases
+(104) and node properties (96). What `content` says of folded scalars (174) is not proved yet.
 
 ## The productions
 """

@@ -1,5 +1,5 @@
 #!/usr/bin/env python3
-"""Changes productions of crates/yf_standard by a letter, one at a time, and looks whether the law is refused then.
+"""Changes productions of crates/yf_standard, and what they mean, by a letter, one at a time, and looks whether a law is refused then.
 
 Usage: bench/standard_edits.py [WORD]     (WORD: only the edits whose number or text has it)
 
@@ -32,6 +32,12 @@ EDITS = [
     (194, "Productions", "‹ c-mapping-value › ∙ (s-l+block-node n BlockOut", "‹ c-mapping-value › ∙ (s-l+block-node n BlockIn"),
     (201, "Productions", "l+block-sequence (n -ℤ pos 1)", "l+block-sequence n"),
     (211, "Productions", "⁇ ∣ ‹ c-byte-order-mark › ∣ l-comment", "⁇ ∣ l-comment"),
+    (62, "Contents", "(g == k) && (j == k + 6)", "j == k + 6"),
+    (72, "Contents", "b-as-space i j x = char 32", "b-as-space i j x = char 10"),
+    (112, "Contents", "(s-double-escaped n) i j x = no_backslash x", "(s-double-escaped n) i j x = x"),
+    (169, "Contents", "(l-trail-comments n) i j x = []", "(l-trail-comments n) i j x = x"),
+    (75, "Tokens", "c-nb-comment-text i j x = a_comment i", "c-nb-comment-text i j x = a_comment j"),
+    (99, "Tokens", "(slice_range t (i + length h) j)", "(slice_range t i j)"),
 ]
 
 

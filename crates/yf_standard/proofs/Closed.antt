@@ -44,7 +44,7 @@ use Rattle.yf_standard.proofs.StreamsRead.{SomeRoot, directives_read}
 use Rattle.yf_standard.proofs.Standing.{StandsFor}
 use Rattle.yf_standard.proofs.Zones.{Zone, clear_within, literal_scalar, folded_scalar, explicit_document_read, stream_of}
 
-is_collection : Kind → Bool
+unfoldable pub is_collection : Kind → Bool
 is_collection OPERATOR = false
 is_collection PRODUCTION = false
 is_collection COLLECTION = true
@@ -53,7 +53,7 @@ no_opening : {A : Type 0} → COLLECTION ≡ PRODUCTION → A
 unfolding is_collection
 no_opening e = absurd (true≢false (ap is_collection e))
 
-not_opening : {A : Type 0} {k : Kind} → is_collection k ≡ false → k ≡ COLLECTION → A
+pub not_opening : {A : Type 0} {k : Kind} → is_collection k ≡ false → k ≡ COLLECTION → A
 unfolding is_collection
 not_opening e q = absurd (true≢false (sym (ap is_collection q) ∙ e))
 

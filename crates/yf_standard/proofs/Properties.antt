@@ -108,7 +108,7 @@ spelled_order : {t : List ℕ} {p : ℕ → Bool} {i j : ℕ} {w : List ℕ} →
 spelled_order done = omega arith
 spelled_order (step s c) = let a = spelled_later s in let b = spelled_order c in omega arith
 
-spelled_run : (t : List ℕ) (p : ℕ → Bool) (i k j : ℕ) → SomeOf (SpelledChar t p) i k → Star (SomeOf (SpelledChar t p)) k j → Stuck (SpelledChar t p j) → Run (SpelledChar t p) i j
+pub spelled_run : (t : List ℕ) (p : ℕ → Bool) (i k j : ℕ) → SomeOf (SpelledChar t p) i k → Star (SomeOf (SpelledChar t p)) k j → Stuck (SpelledChar t p j) → Run (SpelledChar t p) i j
 spelled_run t p i k j s r n =
     let c = star_chain {S = SpelledChar t p} (λ i j s. s) r in
     let a = spelled_later s.1 in

@@ -47,7 +47,7 @@ module _ {A : Type 0} (t : List ℕ) (put : List ℕ → List A) (C B : ℕ → 
   whites_or (inr w) = let m = chars_many {t = t} {s = s-white} {p = is_white} white_is w in (put m.0, blank m.1)
 
 -- [118]
-nb_json_but : (q c : ℕ) → (nb-json ∖ x q) c ≡ true → (is_nb_json c ≡ true) × (c ≢ q)
+pub nb_json_but : (q c : ℕ) → (nb-json ∖ x q) c ≡ true → (is_nb_json c ≡ true) × (c ≢ q)
 unfolding ◌∖◌ x
 nb_json_but q c e = let p = and_parts (nb-json c) (not (c == q)) e in (sym (nb_json_is c) ∙ p.0, λ z. true≢false (sym p.1 ∙ ap (λ w. not (w == q)) z ∙ same q)) where
   same : (q : ℕ) → not (q == q) ≡ false
@@ -59,7 +59,7 @@ single_char_read t i j (inl d) =
     subst (λ z. SomeOf (SingleChar t) i z) e (_, doubled d.1.0.0 (ap (code t) d.1.0.1 ∙ d.1.1.0))
 single_char_read t i j (inr d) = let p = nb_json_but 39 (code t i) d.0 in subst (λ z. SomeOf (SingleChar t) i z) d.1 (_, unquoted p.0 p.1)
 
-no_white : (c : ℕ) → s-white c ≡ false → is_white c ≡ false
+pub no_white : (c : ℕ) → s-white c ≡ false → is_white c ≡ false
 no_white c e = sym (white_is c) ∙ e
 
 -- [123] to [125]

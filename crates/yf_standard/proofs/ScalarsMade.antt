@@ -1,10 +1,10 @@
 -- Block scalars (8.1), from the relations of `Header` and `Body` to the standard's productions.
 use Rattle.std.proofs.Common.{◌≡◌, ◌≢◌, ℕ, zero, suc, ◌+◌, ◌-◌, ◌<◌, ◌≤◌, ℤ, pos, max, Bool, true, false, true≢false, ◌<ℤ◌, List, [], ◌∷◌, ◌++◌, length, Option, Some, None, leb, refl, sym, ap, ◌∙◌, subst, ◌⊎◌, inl, inr, ⊎_elim, arith}
-use Rattle.std.proofs.lemmas.Bool.{cases_lt, cases_Bool, and_parts, eq-eqb, leb-true}
+use Rattle.std.proofs.lemmas.Bool.{cases_lt, and_parts, eq-eqb, leb-true}
 use Rattle.std.proofs.lemmas.Int.{ints}
 use Rattle.yf_chars.specs.declared.context.Ctx.TheVariants.{BlockIn}
 use Rattle.yf_chars.specs.Text.{code, next, no_char}
-use Rattle.yf_chars.specs.Class.{is_nb_char, is_ns_char, is_white, is_between}
+use Rattle.yf_chars.specs.Class.{is_nb_char, is_white, is_between}
 use Rattle.yf_chars.specs.Chain.{Chain, Many, Stuck, Chosen}
 use Rattle.yf_chars.specs.Chain.Chain.{done, step}
 use Rattle.yf_chars.specs.Chain.One.{one}
@@ -46,15 +46,15 @@ use Rattle.yf_standard.specs.Notation.{Form, Chomping, Indicator}
 use Rattle.yf_standard.specs.Notation.Chomping.{STRIP, CLIP, KEEP}
 use Rattle.yf_standard.specs.Notation.Indicator.{GIVEN, DETECTED}
 use Rattle.yf_standard.specs.Notation.Condition.{no-trail, auto-detect, is-sum}
-use Rattle.yf_standard.specs.Notation.Form.{‹◌›, ◌∣◌, ◌⋆, ⟨◌⟩, some-m, some-k, ◌∙◌ as ◌then◌, s-indent-less-or-equal, b-as-line-feed, b-non-content, l-empty, l-comment, c-b-block-header, c-indentation-indicator, c-chomping-indicator, b-chomped-last, l-chomped-empty, l-trail-comments, c-l+literal, l-nb-literal-text, b-nb-literal-next, l-literal-content, c-l+folded, l-nb-folded-lines, l-nb-spaced-lines, l-nb-same-lines, l-folded-content}
+use Rattle.yf_standard.specs.Notation.Form.{‹◌›, ◌∣◌, ◌⋆, ⟨◌⟩, some-m, some-k, ◌∙◌ as ◌then◌, s-indent-less-or-equal, b-as-line-feed, b-non-content, l-empty, l-comment, c-b-block-header, c-indentation-indicator, c-chomping-indicator, b-chomped-last, l-chomped-empty, l-trail-comments, c-l+literal, l-nb-literal-text, b-nb-literal-next, l-literal-content, c-l+folded, l-folded-content}
 use Rattle.yf_standard.specs.Productions.{rule, digit-of, some-t}
 use Rattle.yf_standard.specs.Rules.{read, NoLine, NoCommentLine}
 use Rattle.yf_standard.specs.Rules.AutoDetect.{by_first_line, without_content}
 use Rattle.yf_standard.specs.Literal.{kind}
 use Rattle.yf_standard.specs.Literal.Derived.{by_rule, nothing, one_of, one_then, in_left, in_right, absent, present, no_more, one_more, where_holds, for_some_m, for_some_k}
-use Rattle.yf_standard.proofs.BasicsMade.{Read, one_char, many_made, chars_made, some_chars_made, feed_made, non_content_made, empty_made, indent_made, comment_made, b_comment_made, l_comment_made, rest_made, fewer_made}
-use Rattle.yf_standard.proofs.Basics.{many_forward}
-use Rattle.yf_standard.proofs.Sets.{nb_char_is, ns_char_is, white_is}
+use Rattle.yf_standard.proofs.BasicsMade.{Read, one_char, many_made, some_chars_made, feed_made, non_content_made, empty_made, indent_made, comment_made, b_comment_made, l_comment_made, rest_made, fewer_made}
+use Rattle.yf_standard.proofs.Sets.{nb_char_is}
+use Rattle.yf_standard.proofs.FoldedMade.{grouped, lead_made, after_lines}
 use Rattle.yf_standard.proofs.Texts.{Empties, Texts, lines_texts, bare_empties}
 use Rattle.yf_standard.proofs.Texts.Texts.{last_text, more_texts}
 use Rattle.yf_chars.proofs.TextLemmas.{next_ascii, code-past, within_from_code}
@@ -110,7 +110,7 @@ header_made (sign_alone s) r = by_rule refl (one_then (in_left (one_then (by_rul
 header_made (digit_sign d s) r = by_rule refl (one_then (in_left (one_then (digit_made d) (sign_made s))) (rest_made r))
 header_made (sign_digit s d) r = by_rule refl (one_then (in_right (one_then (sign_made s) (digit_made d))) (rest_made r))
 
--- [171] to [173], and [180] and [181] with a group for each line
+-- [171] to [173]
 empties_made : {room : ℕ} {t : List ℕ} {k i j : ℕ} → Empties t k i j → Read t room (l-empty (pos k) BlockIn ⋆) i j
 empties_made e = many_made empty_made e.1
 
@@ -133,24 +133,6 @@ unfolding rule kind
 literal_form t room k = record {
   text = λ {i} {a} e s m l. by_rule refl (one_then (empties_made e) (one_then (indent_made t a k s) (some_chars_made nb_char_is m l)));
   next = λ d. by_rule refl d;
-}
-
--- [175] and [177]
-line_text : {room : ℕ} (t : List ℕ) (k a j : ℕ) {w : List ℕ} → Spaces t a k → Many t is_nb_char (a + k) j w → a + k < j → Read t room (l-nb-folded-lines (pos k) ∣ l-nb-spaced-lines (pos k)) a j
-unfolding rule kind is_ns_char
-line_text t k a j s done l = absurd (omega arith)
-line_text t k a j s (step (one e) r) l =
-    ⊎_elim (λ (w : is_white (code t (a + k)) ≡ true). in_right (by_rule refl (one_then (by_rule refl (one_then (indent_made t a k s) (one_then (one_of (white_is (code t (a + k)) ∙ w)) (chars_made nb_char_is r)))) no_more)))
-    (λ (n : is_white (code t (a + k)) ≡ false).
-    let q : is_ns_char (code t (a + k)) ≡ true = rw (e, n) refl in
-    in_left (by_rule refl (one_then (by_rule refl (one_then (indent_made t a k s) (one_then (one_of (ns_char_is (code t (a + k)) ∙ q)) (chars_made nb_char_is r)))) no_more)))
-    (cases_Bool (is_white (code t (a + k))))
-
-folded_form : (t : List ℕ) (room k : ℕ) → LineForm t room k (l-nb-same-lines (pos k)) (b-as-line-feed then l-nb-same-lines (pos k))
-unfolding rule kind
-folded_form t room k = record {
-  text = λ {i} {a} {j} e s m l. by_rule refl (one_then (empties_made e) (line_text t k a j s m l));
-  next = λ d. d;
 }
 
 -- [165]
@@ -208,13 +190,14 @@ literal_content {room = room} {t = t} {k = k} {i = i} {p = p} {j = j} c a d = go
 folded_content : {room : ℕ} {t : List ℕ} {k i p j count : ℕ} {ls : List (List ℕ)} {o : Bool} (c : Chomp) → LinesTaken t k i ls o count p
     → Read t room (l-trail-comments (pos k) ∣ ⟨ no-trail (pos k) ⟩) p j → Read t room (l-folded-content (pos k) (chomping c)) i j
 unfolding rule kind
-folded_content {room = room} {t = t} {k = k} {i = i} {p = p} {j = j} c a d = go a.lines (ending_made c a.tail.lines a.tail.within a.most d) where
-  go : {e : ℕ} {ls : List (List ℕ)} {o : Bool} → Lines t k i e ls o → Read t room (l-chomped-empty (pos k) (chomping c)) e j → Read t room (l-folded-content (pos k) (chomping c)) i j
-  go no_content r = by_rule refl (one_then absent r)
-  go (up_to b q) r =
+folded_content {room = room} {t = t} {k = k} {i = i} {p = p} {j = j} c a d = go a.lines a.tail.lines (ending_made c a.tail.lines a.tail.within a.most d) where
+  go : {e : ℕ} {ls : List (List ℕ)} {o : Bool} → Lines t k i e ls o → Chain (EmptyLines t) e p a.tail.widths → Read t room (l-chomped-empty (pos k) (chomping c)) e j
+      → Read t room (l-folded-content (pos k) (chomping c)) i j
+  go no_content w r = by_rule refl (one_then absent r)
+  go (up_to b q) w r =
       let z = lines_texts b q in
-      let m = texts_made (folded_form t room k) z.1.0 in
-      by_rule refl (one_then (present (one_then (by_rule refl (one_then m.first m.rest)) (last_made c z.1.1))) r)
+      let g = grouped {room = room} z.1.0 (after_lines z.1.1 w a.tail.within a.most) in
+      by_rule refl (one_then (present (one_then (by_rule refl (one_then (lead_made g.empties g.lead) g.rest)) (last_made c z.1.1))) r)
 
 -- the spaces before a comment, as any separation before it goes
 pub white_all : {t : List ℕ} {i j : ℕ} {w : List ℕ} (h : ℕ) → Many t is_white i j w → i ≤ h → h < j → is_white (code t h) ≡ true

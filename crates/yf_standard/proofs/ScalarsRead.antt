@@ -14,7 +14,6 @@ use Rattle.yf_lines.specs.Basic.Indent.{exactly}
 use Rattle.yf_lines.specs.Basic.IndentLess.{fewer}
 use Rattle.yf_lines.specs.Basic.FoldedBreak.{trimmed, as_space}
 use Rattle.yf_comments.specs.Comments.{CommentText, BreakOrEnd, LineRest, CommentLine}
-use Rattle.yf_block_scalar.specs.declared.header.Chomp.{Chomp}
 use Rattle.yf_block_scalar.specs.declared.header.Chomp.TheVariants.{Strip, Clip, Keep}
 use Rattle.yf_block_scalar.specs.Header.{Digit, Sign, Indicators}
 use Rattle.yf_block_scalar.specs.Header.Digit.{digit}
@@ -28,7 +27,8 @@ use Rattle.yf_standard.specs.Notation.{Chomping, Indicator}
 use Rattle.yf_standard.specs.Notation.Chomping.{STRIP, CLIP, KEEP}
 use Rattle.yf_standard.specs.Notation.Indicator.{GIVEN, DETECTED}
 use Rattle.yf_standard.specs.Productions.{digit-of}
-use Rattle.yf_standard.specs.Rules.{NoLine, NoTrail, NoCommentLine}
+pub use Rattle.yf_standard.specs.ContentLaws.{chomp_of}
+use Rattle.yf_standard.specs.Rules.{NoLine, NoTrail, NoCommentLine, NoFoldedLine}
 use Rattle.yf_standard.proofs.Reading.{Star}
 use Rattle.yf_standard.proofs.Reading.Star.{none, more}
 use Rattle.yf_standard.proofs.Basics.{SomeOf, CharOf, char_is, star_chain, chars_many, chars_some, many_forward}
@@ -59,11 +59,6 @@ up_to_more t n i k j c d =
     (suc d.0, (spaces_more a.0 (subst (λ z. Spaces t z d.0) (sym a.1) d.1.0), (l, omega (arith, a.1, d.1.1.1))))
 
 -- [162] to [164]
-abbrev pub chomp_of : Chomping → Chomp
-chomp_of STRIP = Strip
-chomp_of CLIP = Clip
-chomp_of KEEP = Keep
-
 abbrev pub digit_of : Indicator → Option ℕ
 digit_of (GIVEN m) = Some m
 digit_of DETECTED = None
@@ -204,7 +199,7 @@ keep_empty_read t n i j d = λ k e. ending_of t n k i d.0 j e (bares_empty t n k
 empties_of : (t : List ℕ) (n : ℤ) (k i j : ℕ) → n ≡ pos k → Star (SomeOf (Empty t n BlockIn)) i j → Empties t k i j
 empties_of t n k i j e s = subst (λ z. SomeOf (Chain (Empty t z BlockIn)) i j) e (star_chain {S = Empty t n BlockIn} (λ i j s. s) s)
 
-spaces_of : {t : List ℕ} {n : ℤ} {a b : ℕ} (k : ℕ) → n ≡ pos k → Indent t n a b → Spaces t a k × (a + k ≡ b)
+pub spaces_of : {t : List ℕ} {n : ℤ} {a b : ℕ} (k : ℕ) → n ≡ pos k → Indent t n a b → Spaces t a k × (a + k ≡ b)
 spaces_of {t} {n} {a} k e (exactly m q s) = let z : m ≡ k = indent_width (sym q ∙ e) in (subst (λ z. Spaces t a z) z s, ap (λ z. a + z) (sym z))
 
 text_of : (t : List ℕ) (k i a b j : ℕ) (w : List ℕ) → Empties t k i a → Spaces t a k × (a + k ≡ b) → Many t is_nb_char b j w → b < j → Texts t k i j
@@ -268,8 +263,8 @@ joined : {t : List ℕ} {k i c g j : ℕ} → Texts t k i c → BreakEmpties t k
 joined x b y = texts_join x b.1.0 (empties_before b.1.1 y)
 
 pub folded_lines_read : (t : List ℕ) (n : ℤ) (i j : ℕ)
-    → (c : ℕ) × (AtWidth (Texts t) n i c × Star (λ i j. (g : ℕ) × (SomeOf (FoldedBreak t n BlockIn) i g × AtWidth (Texts t) n g j)) c j) → AtWidth (Texts t) n i j
-folded_lines_read t n i j d = λ k e. go k e (d.1.0 k e) d.1.1 where
+    → (c : ℕ) × (AtWidth (Texts t) n i c × ((z : ℕ) × (Star (λ i j. (g : ℕ) × (SomeOf (FoldedBreak t n BlockIn) i g × AtWidth (Texts t) n g j)) c z × (NoFoldedLine t n z × (z ≡ j))))) → AtWidth (Texts t) n i j
+folded_lines_read t n i j d = λ k e. subst (λ z. Texts t k i z) d.1.1.1.1.1 (go k e (d.1.0 k e) d.1.1.1.0) where
   go : {c z : ℕ} (k : ℕ) → n ≡ pos k → Texts t k i c → Star (λ i j. (g : ℕ) × (SomeOf (FoldedBreak t n BlockIn) i g × AtWidth (Texts t) n g j)) c z → Texts t k i z
   go k e x none = x
   go {c} k e x (more f r) = go k e (joined x (fold_of (subst (λ z. FoldedBreak t z BlockIn c f.0 f.1.0.0) e f.1.0.1)) (f.1.1 k e)) r

@@ -74,16 +74,16 @@ empty_lines : {t : List ℕ} {k i j : ℕ} {w : List ℕ} → Chain (Empty t (po
 empty_lines done = ([], done)
 empty_lines {t} {k} (step {i = i} {h = h} {x = w} e r) = let a = empty_line_read t k i h w e in let b = empty_lines r in (_, step (empty_line a.1.0 a.1.1) b.1)
 
-empties_forward : {t : List ℕ} {k i j : ℕ} {w : List ℕ} → Chain (Empty t (pos k) BlockIn) i j w → i ≤ j
+pub empties_forward : {t : List ℕ} {k i j : ℕ} {w : List ℕ} → Chain (Empty t (pos k) BlockIn) i j w → i ≤ j
 empties_forward done = omega arith
 empties_forward {t} {k} (step {i = i} {h = h} {x = w} e r) =
     let a = empty_line_read t k i h w e in let b = break_forward a.1.0.ends in let c = empties_forward r in omega (arith, b, c)
 
-empties_start : {t : List ℕ} {k i j : ℕ} {w : List ℕ} → (i < length t → LineStart t i) → Chain (Empty t (pos k) BlockIn) i j w → j < length t → LineStart t j
+pub empties_start : {t : List ℕ} {k i j : ℕ} {w : List ℕ} → (i < length t → LineStart t i) → Chain (Empty t (pos k) BlockIn) i j w → j < length t → LineStart t j
 empties_start s done l = s l
 empties_start {t} {k} s (step {i = i} {h = h} {x = w} e r) l = let a = empty_line_read t k i h w e in empties_start (λ z. after_break a.1.0.ends) r l
 
-text_within : {t : List ℕ} {i j : ℕ} {w : List ℕ} → Many t is_nb_char i j w → i < j → i < length t
+pub text_within : {t : List ℕ} {i j : ℕ} {w : List ℕ} → Many t is_nb_char i j w → i < j → i < length t
 text_within {t} {i} m l =
     ⊎_elim (λ (b : i < length t). b) (λ (b : length t ≤ i). absurd (true≢false (sym (some_first m l) ∙ ap is_nb_char (code-past t i b) ∙ no_nb_char))) (cases_lt i (length t))
 
@@ -100,7 +100,7 @@ pub record LinesRead (t : List ℕ) (k i j : ℕ) (o : Bool) : Type 0 where
   pub last : LineContent t k at j text o
 
 module _ {t : List ℕ} {low high : ℕ} (clear : Clear t low high) where
-  no_marker_at : (a : ℕ) → low ≤ a → a < high → LineStart t a → is_marker t a ≡ false
+  pub no_marker_at : (a : ℕ) → low ≤ a → a < high → LineStart t a → is_marker t a ≡ false
   no_marker_at a l h s = ⊎_elim (λ (e : is_marker t a ≡ true). absurd (clear.none a l h (record { start = s; marker = e }))) (λ (e : is_marker t a ≡ false). e) (cases_Bool (is_marker t a))
 
   lines_read : {k i z j : ℕ} {o : Bool} → (i < length t → LineStart t i) → low ≤ i → Texts t k i z → z ≤ high → Ends t z j o → LinesRead t k i j o

@@ -3,5 +3,9 @@ pub mod Notation
 pub mod Productions
 pub mod Literal
 pub mod Rules
+pub mod Contents
+pub mod ContentLaws
+pub mod Tokens
+pub mod TokenLaws
 pub mod Laws
 pub mod Acceptance

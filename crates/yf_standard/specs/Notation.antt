@@ -35,6 +35,8 @@ pub data Condition : Type 0 where
   no-line : ℤ → Condition
   no-trail : ℤ → Condition
   no-comment-line : Condition
+  -- longest folded lines: no further folded line of a scalar at n can be taken
+  no-folded-line : ℤ → Condition
   -- detected indentation (8.1.1.1): the lines from here on, in a collection at n, are indented by k
   auto-detect : ℤ → ℤ → Condition
   -- indicated indentation: k is n + m, where n counts as 0 if it is -1

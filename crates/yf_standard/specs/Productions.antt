@@ -6,7 +6,7 @@ use Rattle.yf_standard.specs.Characters.{x, ◌∪◌, ◌∖◌, c-sequence-ent
 use Rattle.yf_standard.specs.Notation.{Form}
 use Rattle.yf_standard.specs.Notation.Chomping.{STRIP, CLIP, KEEP}
 use Rattle.yf_standard.specs.Notation.Indicator.{GIVEN, DETECTED}
-use Rattle.yf_standard.specs.Notation.Condition.{start-of-line, end-of-input, lookahead=, lookahead≠, lookbehind=, not-before-line-feed, not-after-carriage-return, name-ends, tag-ends, reserved-name, no-line, no-comment-line, no-trail, auto-detect, is-sum, no-value, sign-ends, no-comment}
+use Rattle.yf_standard.specs.Notation.Condition.{start-of-line, end-of-input, lookahead=, lookahead≠, lookbehind=, not-before-line-feed, not-after-carriage-return, name-ends, tag-ends, reserved-name, no-line, no-comment-line, no-trail, no-folded-line, auto-detect, is-sum, no-value, sign-ends, no-comment}
 use Rattle.yf_standard.specs.Notation.Form.{ε, never, ‹◌›, ◌∙◌, ◌∣◌, ◌⁇, ◌⋆, ◌⁺, ◌less◌, ⟨◌⟩, some-m, some-k, at-most, excluding-c-forbidden}
 use Rattle.yf_standard.specs.Notation.Form.{b-break, b-as-line-feed, b-non-content, ns-uri-char, ns-tag-char, ns-esc-8-bit, ns-esc-16-bit, ns-esc-32-bit, c-ns-esc-char}
 use Rattle.yf_standard.specs.Notation.Form.{s-indent, s-indent-less-than, s-indent-less-or-equal, s-separate-in-line, s-line-prefix, s-block-line-prefix, s-flow-line-prefix, l-empty, b-l-trimmed, b-as-space, b-l-folded, s-flow-folded, c-nb-comment-text, b-comment, s-b-comment, l-comment, s-l-comments, s-separate, s-separate-lines, l-directive, ns-reserved-directive, ns-directive-name, ns-directive-parameter, ns-yaml-directive, ns-yaml-version, ns-tag-directive, c-tag-handle, c-primary-tag-handle, c-secondary-tag-handle, c-named-tag-handle, ns-tag-prefix, c-ns-local-tag-prefix, ns-global-tag-prefix, c-ns-properties, c-ns-tag-property, c-verbatim-tag, c-ns-shorthand-tag, c-non-specific-tag, c-ns-anchor-property, ns-anchor-name}
@@ -316,7 +316,7 @@ rule (c-l+folded n) = some-t λ t. some-k λ k. ‹ c-folded ›
 -- [175]
 rule (s-nb-folded-text n) = s-indent n ∙ ‹ ns-char › ∙ ‹ nb-char › ⋆
 -- [176]
-rule (l-nb-folded-lines n) = s-nb-folded-text n ∙ (b-l-folded n BlockIn ∙ s-nb-folded-text n) ⋆
+rule (l-nb-folded-lines n) = s-nb-folded-text n ∙ (b-l-folded n BlockIn ∙ s-nb-folded-text n) ⋆ ∙ ⟨ no-folded-line n ⟩
 -- [177]
 rule (s-nb-spaced-text n) = s-indent n ∙ ‹ s-white › ∙ ‹ nb-char › ⋆
 -- [178]

@@ -2,15 +2,16 @@
 -- `read` with the reading rules (docs/STANDARD.md).
 use Rattle.std.specs.Prelude.{◌≡◌, ◌≢◌, ℕ, ◌+◌, ◌-◌, ℤ, pos, ◌≤ℤ◌, ◌<◌, ◌≤◌, ⊤, Bool, true, false, ◌==◌, ◌&&◌, List, length}
 use Rattle.yf_chars.specs.Text.{code, before}
-use Rattle.yf_chars.specs.Class.{is_anchor_char, is_white_or_end}
+use Rattle.yf_chars.specs.declared.context.Ctx.TheVariants.{BlockIn}
+use Rattle.yf_chars.specs.Class.{is_anchor_char, is_ns_char, is_white_or_end}
 use Rattle.yf_chars.specs.Chain.{Chain, Stuck}
-use Rattle.yf_lines.specs.Basic.{LineStart, Spaces}
+use Rattle.yf_lines.specs.Basic.{LineStart, Spaces, FoldedBreak}
 use Rattle.yf_comments.specs.Comments.{CommentText, BreakOrEnd, CommentLine}
 use Rattle.yf_comments.specs.Comment.{CommentValue}
 use Rattle.yf_props.specs.Names.{TagChar}
-use Rattle.yf_block_scalar.specs.Body.{base, least, largest, Line, DetectedIndent, EmptyLines, Shallow}
+use Rattle.yf_block_scalar.specs.Body.{base, least, largest, Line, LineContent, DetectedIndent, EmptyLines, Shallow}
 use Rattle.yf_standard.specs.Notation.{Condition}
-use Rattle.yf_standard.specs.Notation.Condition.{start-of-line, end-of-input, lookahead=, lookahead≠, lookbehind=, not-before-line-feed, not-after-carriage-return, name-ends, tag-ends, reserved-name, no-line, no-comment-line, no-trail, auto-detect, is-sum, no-value, sign-ends, no-comment}
+use Rattle.yf_standard.specs.Notation.Condition.{start-of-line, end-of-input, lookahead=, lookahead≠, lookbehind=, not-before-line-feed, not-after-carriage-return, name-ends, tag-ends, reserved-name, no-line, no-comment-line, no-trail, no-folded-line, auto-detect, is-sum, no-value, sign-ends, no-comment}
 
 -- a `:` of an explicit entry at n is on the line that begins at the place
 pub record ValueLine (t : List ℕ) (n : ℤ) (i : ℕ) : Type 0 where
@@ -31,6 +32,10 @@ pub record NoCommentLine (t : List ℕ) (i : ℕ) : Type 0 where
 -- no comment line with fewer spaces
 pub record NoTrail (t : List ℕ) (n : ℤ) (i : ℕ) : Type 0 where
   pub none : (k m h j : ℕ) (x : List CommentValue) → n ≡ pos k → m < k → Spaces t i m → CommentText t (i + m) h x → BreakOrEnd t h j → ⊥
+
+-- no further line with that indentation that begins with no white space, after a break and empty lines; a document marker begins none
+pub record NoFoldedLine (t : List ℕ) (n : ℤ) (i : ℕ) : Type 0 where
+  pub none : (k h j : ℕ) (x y : List ℕ) (o : Bool) → n ≡ pos k → FoldedBreak t n BlockIn i h x → LineContent t k h j y o → is_ns_char (code t (h + k)) ≡ true → ⊥
 
 -- 8.1.1.1: the lines from the place on are indented by k; where none has content, all lines of spaces alone are empty ones
 pub data AutoDetect (t : List ℕ) (n : ℤ) (i : ℕ) : ℤ → Type 0 where
@@ -60,6 +65,7 @@ read t reserved-name i = (is_name_yaml t i ≡ false) × (is_name_tag t i ≡ fa
 read t (no-line n) i = NoLine t n i
 read t no-comment-line i = NoCommentLine t i
 read t (no-trail n) i = NoTrail t n i
+read t (no-folded-line n) i = NoFoldedLine t n i
 read t (auto-detect n k) i = AutoDetect t n i k
 read t (is-sum n m k) i = k ≡ pos (base n + m)
 read t (no-value n) i = ValueLine t n i → ⊥

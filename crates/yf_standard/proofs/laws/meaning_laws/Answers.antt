@@ -1,0 +1,27 @@
+use Rattle.yf_standard.proofs.ContentLawsHold.{plain_contents, single_contents, double_contents, literal_contents}
+use Rattle.yf_standard.proofs.TokenLawsHold.{comment_tokens, separate_tokens, alias_tokens, property_tokens}
+use Rattle.yf_standard.proofs.laws.meaning_laws.Goals as goal
+
+pub returns-clause-plain : goal.returns-clause-plain
+returns-clause-plain c = plain_contents
+
+pub returns-clause-single : goal.returns-clause-single
+returns-clause-single c = single_contents
+
+pub returns-clause-double : goal.returns-clause-double
+returns-clause-double c = double_contents
+
+pub returns-clause-literal : goal.returns-clause-literal
+returns-clause-literal c = literal_contents
+
+pub returns-clause-comments : goal.returns-clause-comments
+returns-clause-comments c = comment_tokens
+
+pub returns-clause-separation : goal.returns-clause-separation
+returns-clause-separation c = separate_tokens
+
+pub returns-clause-aliases : goal.returns-clause-aliases
+returns-clause-aliases c = alias_tokens
+
+pub returns-clause-properties : goal.returns-clause-properties
+returns-clause-properties c = property_tokens

@@ -1,0 +1,38 @@
+-- What the standard's productions mean: the laws that tie the comments and names of a derivation (`Tokens`) to the relations by which they are
+-- read, each with the plain sentence that it says. `proofs/TokenLawsHold.antt` proves them.
+use Rattle.std.specs.Prelude.{◌≡◌, ℕ, ℤ, List, [], ◌∷◌}
+use Rattle.std.specs.Str.{IsUtf8}
+use Rattle.yf_chars.specs.declared.context.Ctx.{Ctx}
+use Rattle.yf_comments.specs.Comment.{CommentValue}
+use Rattle.yf_comments.specs.Comments.{LineEnd, Separate}
+use Rattle.yf_props.specs.Names.{Alias, Properties, PropertiesValue}
+use Rattle.yf_standard.specs.Notation.Form.{s-l-comments, s-separate, c-ns-alias-node, c-ns-properties}
+use Rattle.yf_standard.specs.Literal.{Derived}
+use Rattle.yf_standard.specs.Rules.{read}
+use Rattle.yf_standard.specs.Tokens.{Token, tokens, notes, comments_among, anchor_among, tag_among, tag_place_among}
+use Rattle.yf_standard.specs.Tokens.Token.{an_alias}
+
+-- properties with these tokens: the same anchor, tag, place of the tag, and comments
+pub record PropertiesMean (t : List ℕ) (n : ℤ) (c : Ctx) (i j : ℕ) (y : List Token) : Type 0 where
+  pub value : PropertiesValue
+  pub derived : Properties t n c i j value
+  pub anchor : anchor_among y ≡ value.props.anchor
+  pub tag : tag_among y ≡ value.props.tag
+  pub place : tag_place_among y ≡ value.tag_offset
+  pub comments : comments_among y ≡ notes value.comments
+
+-- Each derivation of comments (79) has the comments with which they are read, each at its offset.
+abbrev pub CommentTokens : Type 0
+CommentTokens = (t : List ℕ) (e i j : ℕ) → IsUtf8 t → (d : Derived (read t) t e s-l-comments i j) → (x : List CommentValue) × (LineEnd t i j x × (tokens d ≡ notes x))
+
+-- So has each derivation of separation (80).
+abbrev pub SeparateTokens : Type 0
+SeparateTokens = (t : List ℕ) (e i j : ℕ) (n : ℤ) (c : Ctx) → IsUtf8 t → (d : Derived (read t) t e (s-separate n c) i j) → (x : List CommentValue) × (Separate t n c i j x × (tokens d ≡ notes x))
+
+-- Each derivation of an alias (104) names what it is read as.
+abbrev pub AliasTokens : Type 0
+AliasTokens = (t : List ℕ) (e i j : ℕ) → IsUtf8 t → (d : Derived (read t) t e c-ns-alias-node i j) → (x : List ℕ) × (Alias t i j x × (tokens d ≡ an_alias i x ∷ []))
+
+-- Each derivation of node properties (96) has the anchor, the tag, its place and the comments with which they are read.
+abbrev pub PropertyTokens : Type 0
+PropertyTokens = (t : List ℕ) (e i j : ℕ) (n : ℤ) (c : Ctx) → IsUtf8 t → (d : Derived (read t) t e (c-ns-properties n c) i j) → PropertiesMean t n c i j (tokens d)

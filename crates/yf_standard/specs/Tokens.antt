@@ -1,0 +1,76 @@
+-- The comments and the names in what the standard's productions derive (6.6, 6.8.2, 6.9 and 7.1), in order of the text: a function of the
+-- derivation, by the name of each production and by what its parts mean.
+use Rattle.std.specs.Prelude.{ℕ, ◌+◌, ◌-◌, List, [], ◌∷◌, Option, Some, None, length, slice_range}
+use Rattle.yf_comments.specs.Comment.{CommentValue}
+use Rattle.yf_props.specs.Props.{TagValue}
+use Rattle.yf_props.specs.Props.TagValue.{IsVerbatim, IsShort, IsNonSpecific}
+use Rattle.yf_standard.specs.Notation.{Form, Condition}
+use Rattle.yf_standard.specs.Notation.Form.{b-break, s-indent, s-separate-in-line, c-nb-comment-text, c-tag-handle, c-verbatim-tag, c-ns-shorthand-tag, c-non-specific-tag, c-ns-anchor-property, c-ns-alias-node}
+use Rattle.yf_standard.specs.Literal.{Derived}
+use Rattle.yf_standard.specs.Contents.{Making, meant}
+
+-- a comment, where it begins and its text; an anchor's name; an alias and a tag, where each begins and what it names; a tag's handle
+pub data Token : Type 0 where
+  a_comment : ℕ → List ℕ → Token
+  an_anchor : List ℕ → Token
+  an_alias : ℕ → List ℕ → Token
+  a_tag : ℕ → TagValue → Token
+  a_handle : List ℕ → Token
+
+-- 6.9.1: a handle and the characters after it
+unfoldable pub shorthand : List ℕ → ℕ → ℕ → List Token → TagValue
+shorthand t i j (a_handle h ∷ x) = IsShort h (slice_range t (i + length h) j)
+shorthand t i j x = IsNonSpecific
+
+unfoldable pub tokens_made : List ℕ → Form → ℕ → ℕ → List Token → List Token
+-- 5.4, 6.1 and 6.2: breaks and white space are none
+tokens_made t b-break i j x = []
+tokens_made t (s-indent n) i j x = []
+tokens_made t s-separate-in-line i j x = []
+-- 6.6
+tokens_made t c-nb-comment-text i j x = a_comment i (slice_range t i j) ∷ []
+-- 6.8.2 and 6.9.1
+tokens_made t c-tag-handle i j x = a_handle (slice_range t i j) ∷ []
+tokens_made t c-verbatim-tag i j x = a_tag i (IsVerbatim (slice_range t (i + 2) (j - 1))) ∷ []
+tokens_made t c-ns-shorthand-tag i j x = a_tag i (shorthand t i j x) ∷ []
+tokens_made t c-non-specific-tag i j x = a_tag i IsNonSpecific ∷ []
+-- 6.9.2 and 7.1
+tokens_made t c-ns-anchor-property i j x = an_anchor (slice_range t (i + 1) j) ∷ []
+tokens_made t c-ns-alias-node i j x = an_alias i (slice_range t (i + 1) j) ∷ []
+-- all others have what their parts have
+tokens_made t f i j x = x
+
+abbrev pub no_tokens : ℕ → List Token
+no_tokens c = []
+
+abbrev pub making_tokens : (L : Condition → ℕ → Type 0) (t : List ℕ) → Making L t Token
+making_tokens L t e f i j d x = tokens_made t f i j x
+
+abbrev pub tokens : {L : Condition → ℕ → Type 0} {t : List ℕ} {e : ℕ} {f : Form} {i j : ℕ} → Derived L t e f i j → List Token
+tokens {L} {t} d = meant no_tokens (making_tokens L t) d
+
+-- the tokens of comments
+abbrev pub notes : List CommentValue → List Token
+notes [] = []
+notes (c ∷ cs) = a_comment c.offset c.text ∷ notes cs
+
+-- the comments among tokens; the first anchor, and the first tag with its place
+abbrev pub comments_among : List Token → List Token
+comments_among [] = []
+comments_among (a_comment i text ∷ x) = a_comment i text ∷ comments_among x
+comments_among (c ∷ x) = comments_among x
+
+abbrev pub anchor_among : List Token → Option (List ℕ)
+anchor_among [] = None
+anchor_among (an_anchor name ∷ x) = Some name
+anchor_among (c ∷ x) = anchor_among x
+
+abbrev pub tag_among : List Token → Option TagValue
+tag_among [] = None
+tag_among (a_tag i tag ∷ x) = Some tag
+tag_among (c ∷ x) = tag_among x
+
+abbrev pub tag_place_among : List Token → Option ℕ
+tag_place_among [] = None
+tag_place_among (a_tag i tag ∷ x) = Some i
+tag_place_among (c ∷ x) = tag_place_among x
