@@ -5,7 +5,7 @@ Usage: bench/hostile.py [--program PROGRAM] [--list] [NAME..]
 
 PROGRAM is the one that ./yamlfmt builds unless another is named; build it first. With NAMEs, only those shapes. Run by hand,
 not part of rt ci; what is known of the shapes is in docs/HOSTILE.md. Each shape is a text of a size; each of the three
-verbs, and `fmt` with `comments = "block"`, is timed (in processor seconds) at a size, at twice and at four times that. It is a
+verbs, `check --explain`, and `fmt` with `comments = "block"`, is timed (in processor seconds) at a size, at twice and at four times that. It is a
 fault where the time grows more than 2.5-fold twice in a row, where more bytes of memory are taken a byte of input than LIMIT says (and, of shapes that `fmt` writes much
 longer, WRITTEN), where a run takes more than two minutes, or where it ends with a signal or with another status than 0, 1 and 2.
 """
@@ -17,11 +17,11 @@ import time
 
 TOP = os.path.dirname(os.path.dirname(os.path.abspath(__file__)))
 
-# The last is `fmt` where comments keep their blocks.
-VERBS = ('events', 'check', 'fmt', 'block')
+# `explain` is `check --explain`: all explanations of refusals, and of findings. The last is `fmt` where comments keep their blocks.
+VERBS = ('events', 'check', 'explain', 'fmt', 'block')
 
 # Bytes of memory a byte of input.
-LIMIT = {'events': 150, 'check': 250, 'fmt': 1000, 'block': 1000}
+LIMIT = {'events': 150, 'check': 250, 'explain': 1000, 'fmt': 1000, 'block': 1000}
 
 # The shapes of which `fmt` writes much more than it reads, with the bytes that it writes a byte of input. It holds all of them before it
 # writes the first, and twice as many where their room grows: so much memory it may take beside LIMIT.
@@ -176,6 +176,7 @@ repeated('markers-in-scalars', ' ---\n', 'a\n')
 numbered('keys', 'k%d: v\n')
 repeated('keys-repeated', 'k: v\n')
 numbered('keys-flow', 'k%d: v, ', '{', '}')
+shape('keys-flow-repeated-late', lambda n: '{x: "' + 'a' * (n // 2) + '", ' + 'k: v, ' * (n // 12) + '}')
 numbered('keys-explicit', '? k%d\n: v\n')
 numbered('keys-explicit-then-flow', '? k%d\n: v\n', '', '? [a]\n: v\n')
 numbered('keys-explicit-tagged', '? !t k%d\n: !u v\n')
@@ -311,6 +312,8 @@ repeated('refused-after-literal', ' a\n', '|\n', 'b: c: d\n@')
 
 def command(program, verb, path):
     """The words of a command; the settings of the last verb are in a file beside the text."""
+    if verb == 'explain':
+        return [program, 'check', '--explain']
     if verb != 'block':
         return [program, verb]
     config = path + '.toml'
@@ -399,7 +402,7 @@ def report(rows):
 
 def main():
     words = sys.argv[1:]
-    program = os.path.join(TOP, 'crates/yamlfmt/out/yamlfmt')
+    program = os.path.join(TOP, '.build/yamlfmt')
     if words[:1] == ['--program']:
         program, words = os.path.abspath(words[1]), words[2:]
     if words == ['--list']:

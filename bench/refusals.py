@@ -4,7 +4,8 @@
 Usage: bench/refusals.py [PROGRAM]     (default: the program that ./yamlfmt builds; build it first)
 
 Run by hand; not part of rt ci. It needs a C compiler (cc) and Linux's LD_PRELOAD. Each run must answer as with ample
-memory, or by status 3, the line `no memory` and nothing on standard output. Besides: an input that never ends, an output
+memory, or by status 3, the line `no memory` and nothing on standard output. Of several files the one for which memory was
+refused has that line, and nothing else; what is printed for the others stays. Besides: an input that never ends, an output
 that takes nothing, and `fmt --write`, which must leave the old text or the new one and no other file.
 """
 import os
@@ -112,6 +113,58 @@ class Runs:
         print('%-44s %5d allocations, %5d answered by memory' % (' '.join(words), refuse - 1, memory))
 
 
+    def several(self, words, files):
+        """Refuses each allocation of a run over several files, which are set up before each."""
+        names = list(files)
+        words = words + names
+
+        def restore():
+            for name, data in files.items():
+                write(os.path.join(self.folder, name), data)
+
+        def texts():
+            return {name: read(os.path.join(self.folder, name)) for name in names}
+
+        restore()
+        full, _ = self.run(words, b'')
+        new = texts()
+        refuse, memory = 0, 0
+        while True:
+            refuse += 1
+            restore()
+            answer, refused = self.run(words, b'', refuse)
+            lost = [name for name in names if refused and is_without(name.encode(), names, full, answer)]
+            # a file that is rewritten may lack the memory to say so
+            left = [dict(new, **{name: old}) for name in lost for old in (files[name], new[name])]
+            if answer == (3, b'', b'no memory\n') and refused:
+                left.append(files)
+            if answer == full or (refused and unexplained(answer) == unexplained(full)):
+                left.append(new)
+            memory += answer != full
+            if texts() not in left or set(os.listdir(self.folder)) & {name + '.yamlfmt-new' for name in names}:
+                self.fault(words, 'allocation %d' % refuse, answer)
+            if not refused:
+                break
+        print('%-44s %5d allocations, %5d answered by memory' % (' '.join(words), refuse - 1, memory))
+
+
+def lines_of(name, text):
+    """The lines of a file among several."""
+    return [line for line in text.splitlines(True) if line.startswith(name + b':')]
+
+
+def is_without(name, names, full, answer):
+    """Whether an answer is the full one, but only `no memory` is said of a file."""
+    output = b''.join(line for line in full[1].splitlines(True) if not line.startswith(name + b':'))
+    for told in (name + b': no memory\n', b'no memory\n'):
+        said = b''
+        for other in names:
+            said += told if other.encode() == name else b''.join(lines_of(other.encode(), full[2]))
+        if answer == (3, output, said):
+            return True
+    return False
+
+
 def unexplained(answer):
     """An answer without the lines of `--explain`, which a refusal may take away."""
     status, output, said = answer
@@ -153,7 +206,7 @@ def devices(runs):
 
 
 def main():
-    program = os.path.abspath(sys.argv[1]) if len(sys.argv) > 1 else os.path.join(TOP, 'crates/yamlfmt/out/yamlfmt')
+    program = os.path.abspath(sys.argv[1]) if len(sys.argv) > 1 else os.path.join(TOP, '.build/yamlfmt')
     if not os.access(program, os.X_OK):
         sys.exit('there is no program %s: run ./yamlfmt once, which builds it' % program)
     with tempfile.TemporaryDirectory() as folder:
@@ -174,6 +227,10 @@ def main():
         write(os.path.join(folder, 'a.yaml'), b'- a\n')
         for words in (['check', 'a.yaml'], ['check', '--without', 'quoting,document-start', 'a.yaml']):
             runs.in_turn(words, b'')
+        several = {'a.yaml': b'- a # c\n- b # c\n', 'bad.yaml': b'a: b: c\n', 'b.yaml': b"- 'a'\n"}
+        for words in (['check'], ['fmt', '--check'], ['fmt', '--write'], ['check', '--explain'], ['fmt', '--write', '--explain']):
+            runs.several(words, several)
+        runs.several(['check'], {'a.yaml': b'a:   1\n', 'b.yaml': b'a:   1\n'})
         for words in (['events', 'a', 'b'], ['check', '--without', 'quotes'], ['fmt', '--write'], ['--help'], ['fmt', '--help']):
             runs.in_turn(words, b'')
         rewrites(runs)

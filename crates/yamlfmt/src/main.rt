@@ -20,18 +20,23 @@ use yf_program::inputs::{Again, Inputs};
 use yf_program::left::{LEFT, Noting, Silenced};
 use yf_program::replacing::SystemFiles;
 use yf_program::report::report;
+use yf_program::reserved::reserve;
 use yf_rules::input::read_all;
 use yf_rules::rule::Rule;
 use yf_rules::run::INPUT_LIMIT;
 use yf_rules::with_rules::{WithRules, with_all_rules};
 
-/// The status for a command line that cannot be read.
+/// The status if the command line cannot be read, or a closed standard stream cannot be replaced.
 const UNREADABLE: u8 = 3;
 
 /// How many bytes of output are held back before they are written.
 const HELD_BACK: usize = 65_536;
 
 fn main(rt: HostRuntime) -> ExitCode {
+    let Ok(_reserved) = reserve(&rt, &rt.stdin(), &rt.stdout(), &rt.stderr()) else {
+        let _ = eprintln!(rt; "error: /dev/null cannot be opened");
+        return ExitCode::from(UNREADABLE);
+    };
     let has_left = Cell::new(false);
     let mut error_stream = Watched::new(Silenced {
         inner: rt.stderr(),

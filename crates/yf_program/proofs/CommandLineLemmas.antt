@@ -4,7 +4,7 @@ use Rattle.std.proofs.Math.ListN.{get_or-map}
 use Rattle.std.proofs.lemmas.List.{append_assoc, drop_all, length-map}
 use Rattle.std.specs.Borrow.{Bor}
 use Rattle.std.specs.List.{flat_map, list_any}
-use Rattle.clap.specs.Words.{Text, fault_of, is_simple, is_simple_and_free, subcommand_of, IsAmong}
+use Rattle.clap.specs.Words.{Row, Text, fault_of, is_simple, is_simple_and_free, matches_of, subcommand_of, IsAmong}
 use Rattle.clap.specs.declared.error.kind.ErrorKind.{ErrorKind}
 use Rattle.clap.specs.declared.error.kind.ErrorKind.TheVariants.{DisplayVersion, OutOfMemory}
 use Rattle.clap.proofs.OnLiterals.{clap_on_literals}
@@ -32,12 +32,12 @@ unfolding clap_on_literals yamlfmt
 version_asked_shortly = refl
 
 -- words that are taken
-pub taken : (met : Met) (words : List Text) (r : Result Cmd Usage) → met ≡ subcommand_of yamlfmt words → fault_of yamlfmt words ≡ []
-    → MatchResult r (Asks met) (Lacks met) → MatchResult r (AsksFor words) (RefusesWords words)
-taken met words (Ok cmd) e f h = (f, subst (λ (m : Met). Asks m cmd) e h)
-taken met words (Err (Help text)) e f h = absurd h
-taken met words (Err (Wrong text)) e f h = inr (f, subst (λ (m : Met). IsNoCommand m) e h)
-taken met words (Err Memory) e f h = tt
+pub taken : (before : List Row) (met : Met) (words : List Text) (r : Result Cmd Usage) → before ≡ matches_of yamlfmt words → met ≡ subcommand_of yamlfmt words
+    → fault_of yamlfmt words ≡ [] → MatchResult r (Asks before met) (Lacks met) → MatchResult r (AsksFor words) (RefusesWords words)
+taken before met words (Ok cmd) b e f h = (f, subst (λ (rows : List Row). Asks rows (subcommand_of yamlfmt words) cmd) b (subst (λ (m : Met). Asks before m cmd) e h))
+taken before met words (Err (Help text)) b e f h = absurd h
+taken before met words (Err (Wrong text)) b e f h = inr (f, subst (λ (m : Met). IsNoCommand m) e h)
+taken before met words (Err Memory) b e f h = tt
 
 -- words that are refused
 pub refused : (kind : ErrorKind) (words : List Text) (usage : Usage) → (kind ≡ OutOfMemory) ⊎ IsAmong kind (fault_of yamlfmt words)

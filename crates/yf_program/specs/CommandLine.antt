@@ -3,7 +3,7 @@
 use Rattle.std.specs.Prelude.{◌≡◌, ◌≢◌, ◌⊎◌, ⊤, Bool, true, false, not, ◌&&◌, ◌||◌, List, [], drop, unwrap_or, Option, Some, None, IsSome, codes, MatchOption, IsSomeAnd}
 use Rattle.std.specs.Str.{bytes_eq}
 use Rattle.std.specs.List.{list_any}
-use Rattle.clap.specs.Words.{app_of, rule_of, App, Row, Rule, Shape, Text, all_of, first_of, new_app, new_rule, subcommand_of, with_rule, with_subcommand, IsAmong, fault_of}
+use Rattle.clap.specs.Words.{app_of, rule_of, App, Row, Rule, Shape, Text, all_of, first_of, matches_of, new_app, new_rule, subcommand_of, with_rule, with_subcommand, IsAmong, fault_of}
 use Rattle.clap.specs.Simple.{on_top}
 use Rattle.clap.specs.declared.builder.arg.Arg.{Arg}
 use Rattle.clap.specs.declared.builder.command.Command.{Command}
@@ -71,11 +71,11 @@ writing_command = with_rule (with_rule (with_rule (with_rule (configured (codes 
 abbrev pub wants_command : Shape → Shape
 wants_command s = record s { has_version = true; no_binary_name = true; subcommand_required = true; arg_required_else_help = true }
 
--- `yamlfmt`, before its commands
+-- `yamlfmt [--explain]`, before its commands
 abbrev pub bare_command : App
-bare_command = on_top wants_command (new_app (codes "yamlfmt"))
+bare_command = with_rule (on_top wants_command (new_app (codes "yamlfmt"))) explain_flag
 
--- `yamlfmt COMMAND`
+-- `yamlfmt [--explain] COMMAND`
 unfoldable pub yamlfmt : App
 yamlfmt =
     with_subcommand (with_subcommand (with_subcommand bare_command
@@ -127,15 +127,16 @@ prints Fmt write check diff = not write && (diff || not check)
 prints Events write check diff = false
 prints Check write check diff = false
 
--- the command line has this command, with these files and these flags, and `--write` only where there is a file, none is `-`, and neither
+-- the command line has this command, with these files and these flags, of which `--explain` may come before the command; and `--write` only where there is a file, none is `-`, and neither
 -- `--check` nor `--diff` is given; what prints what it formats, or how that differs, has one file at most; and a rule has each name that is
 -- left out
-pub record Asks (met : Met) (cmd : Cmd) : Type 0 where
+-- (before: what the words before the command give for the options there)
+pub record Asks (before : List Row) (met : Met) (cmd : Cmd) : Type 0 where
   pub given : List Row
   pub command : met ≡ Some (verb_word cmd.verb, given)
   pub config : cmd.config ≡ first_of (codes "config") given
   pub file : cmd.file ≡ first_of (codes "file") given
-  pub explain : cmd.explain ≡ is_flag (codes "explain") given
+  pub explain : cmd.explain ≡ (is_flag (codes "explain") before || is_flag (codes "explain") given)
   pub write : cmd.write ≡ is_flag (codes "write") given
   pub check : cmd.check ≡ is_flag (codes "check") given
   pub diff : cmd.diff ≡ is_flag (codes "diff") given
@@ -201,7 +202,7 @@ UsageAnswer kind Memory = ⊤
 
 -- the words are taken, and ask for the command
 abbrev pub AsksFor : List Text → Cmd → Type 0
-AsksFor words cmd = (fault_of yamlfmt words ≡ []) × Asks (subcommand_of yamlfmt words) cmd
+AsksFor words cmd = (fault_of yamlfmt words ≡ []) × Asks (matches_of yamlfmt words) (subcommand_of yamlfmt words) cmd
 
 -- help or the version is answered where it is asked for; the words are wrong where they are not taken and ask for neither,
 -- or are taken, and are no command

@@ -1,5 +1,5 @@
 -- The line that is printed for a fault, and the status with which the program then ends.
-use Rattle.std.specs.Prelude.{ℕ, List, [], ◌∷◌, codes, decimal}
+use Rattle.std.specs.Prelude.{ℕ, Bool, true, false, List, [], ◌∷◌, codes, decimal}
 use Rattle.std.specs.List.{concat}
 use Rattle.yf_program.specs.Shown.{shown}
 use Rattle.yf_lines.specs.declared.place.Position.{Position}
@@ -32,3 +32,13 @@ fault_status ReadFailed = 3
 fault_status WriteFailed = 3
 fault_status (Config key) = 3
 fault_status _ = 2
+
+-- The status of a check.
+abbrev pub check_status : Bool → ℕ
+check_status true = 1
+check_status false = 0
+
+-- The status of a run that compares a text with its formatting.
+abbrev pub format_status : Bool → ℕ
+format_status true = 0
+format_status false = 1

@@ -102,6 +102,16 @@ pub record StyleOfTable (table : Members) (style : Style) : Type 0 where
   pub comments : style.comments ≡ setting comments_of (codes "comments") Next table
   pub invisible : style.invisible ≡ setting invisible_of (codes "invisible") Plain table
 
+-- These are the settings without a settings file.
+pub record IsHouse (style : Style) : Type 0 where
+  pub indent : style.indent ≡ 2
+  pub max_line : style.max_line ≡ 100
+  pub quotes : style.quotes ≡ Double
+  pub seq_indent : style.seq_indent ≡ true
+  pub document_start : style.document_start ≡ Always
+  pub comments : style.comments ≡ Next
+  pub invisible : style.invisible ≡ Plain
+
 -- the text is TOML, and its table sets the style
 abbrev pub SetsStyle : List ℕ → Style → Type 0
 SetsStyle text style = IsSomeAnd (parse_document text) (λ table. StyleOfTable table style)

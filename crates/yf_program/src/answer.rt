@@ -1,9 +1,9 @@
 //! The whole program, over whatever it reads and writes: from the words of the command line to the status.
 ghost use Rattle.std.specs.Prelude.{◌≡◌, ℕ, List, Option, map, string_bytes, MatchResult};
 ghost use Rattle.yf_rules.specs.AllRules.{Are, all_rules};
-ghost use Rattle.yf_program.specs.Answer.{ProgramRuns, CommandDone, DoesIn, Follows, InputsOpened, StyleOfFile, Unset, settings_of};
-ghost use Rattle.yf_program.specs.Files.{FileRewritten};
-ghost use Rattle.yf_program.specs.Program.{AnyLines, EndsTold};
+ghost use Rattle.yf_rules.specs.Runs.ByteStream.{stream_of};
+ghost use Rattle.yf_program.specs.Answer.{AnyLines, CommandDone, DoesIn, EndsTold, Follows, InputsOpened, ProgramRuns, StyleOfFile, Unset, host_of, settings_of};
+ghost use Rattle.yf_program.specs.World.{claim_of, streams_of, task_of, world_of};
 
 use crate::command_line::{Cmd, parse_line};
 use crate::each::{do_each, do_file, do_standard};
@@ -32,11 +32,14 @@ pub fn answer<I: Inputs, S: Links, W: Sink, E: Sink>(
     error_stream: &mut E,
 ) -> u8
     requires all { Are (λ rule. definition rule) rules.now all_rules }
-    ensures { ProgramRuns I.tells (I.holds inputs.old) (I.opened inputs.old) (I.opened inputs.new)
-        files.old files.new (λ first last name style. FileRewritten S.tells (S.state first) (S.state last) (S.leads first name) style)
+    ensures { ProgramRuns (host_of I.tells (I.holds inputs.old) S.tells S.state S.leads)
         (map string_bytes words.now) result
-        (W.contents writer.old) (W.contents writer.new) (W.has_failed writer.old) (W.has_failed writer.new)
-        (E.contents error_stream.old) (E.contents error_stream.new) (E.has_failed error_stream.old) (E.has_failed error_stream.new) }
+        (world_of (I.opened inputs.old) files.old
+        (streams_of (stream_of W.contents W.has_failed writer.old)
+        (stream_of E.contents E.has_failed error_stream.old)))
+        (world_of (I.opened inputs.new) files.new
+        (streams_of (stream_of W.contents W.has_failed writer.new)
+        (stream_of E.contents E.has_failed error_stream.new))) }
 {
     let status = follow(alloc, words, rules, inputs, files, writer, error_stream);
     written_out(status, writer, error_stream)
@@ -53,11 +56,13 @@ fn follow<I: Inputs, S: Links, W: Sink, E: Sink>(
     error_stream: &mut E,
 ) -> u8
     requires all { Are (λ rule. definition rule) rules.now all_rules }
-    ensures { Follows I.tells (I.holds inputs.old) (I.opened inputs.old) (I.opened inputs.new)
-        files.old files.new (λ first last name style. FileRewritten S.tells (S.state first) (S.state last) (S.leads first name) style)
-        (map string_bytes words.now) result
-        (W.contents writer.old) (W.contents writer.new) (W.has_failed writer.old) (W.has_failed writer.new)
-        (E.contents error_stream.old) (E.contents error_stream.new) (E.has_failed error_stream.old) (E.has_failed error_stream.new) }
+    ensures { Follows (host_of I.tells (I.holds inputs.old) S.tells S.state S.leads) (map string_bytes words.now) result
+        (world_of (I.opened inputs.old) files.old
+        (streams_of (stream_of W.contents W.has_failed writer.old)
+        (stream_of E.contents E.has_failed error_stream.old)))
+        (world_of (I.opened inputs.new) files.new
+        (streams_of (stream_of W.contents W.has_failed writer.new)
+        (stream_of E.contents E.has_failed error_stream.new))) }
 {
     match parse_line(alloc, words) {
         Ok(command) => do_command(alloc, &command, rules, inputs, files, writer, error_stream),
@@ -76,11 +81,13 @@ fn do_command<I: Inputs, S: Links, W: Sink, E: Sink>(
     error_stream: &mut E,
 ) -> u8
     requires all { Are (λ rule. definition rule) rules.now all_rules }
-    ensures { CommandDone I.tells (I.holds inputs.old) (I.opened inputs.old) (I.opened inputs.new)
-        files.old files.new (λ first last name style. FileRewritten S.tells (S.state first) (S.state last) (S.leads first name) style)
-        command.now result
-        (W.contents writer.old) (W.contents writer.new) (W.has_failed writer.old) (W.has_failed writer.new)
-        (E.contents error_stream.old) (E.contents error_stream.new) (E.has_failed error_stream.old) (E.has_failed error_stream.new) }
+    ensures { CommandDone (host_of I.tells (I.holds inputs.old) S.tells S.state S.leads) command.now result
+        (world_of (I.opened inputs.old) files.old
+        (streams_of (stream_of W.contents W.has_failed writer.old)
+        (stream_of E.contents E.has_failed error_stream.old)))
+        (world_of (I.opened inputs.new) files.new
+        (streams_of (stream_of W.contents W.has_failed writer.new)
+        (stream_of E.contents E.has_failed error_stream.new))) }
 {
     let mut bytes = Vec::new(alloc);
     match style_set(alloc, &command.config, inputs, &mut bytes) {
@@ -114,8 +121,8 @@ fn report_unset<I: Inputs, E: Sink>(
     fault: &Fault,
     error_stream: &mut E,
 ) -> u8
-    ensures { EndsTold command.now.explain AnyLines fault.now result (E.contents error_stream.old) (E.contents error_stream.new)
-        (E.has_failed error_stream.old) (E.has_failed error_stream.new) }
+    ensures { EndsTold command.now.explain AnyLines fault.now result
+        (stream_of E.contents E.has_failed error_stream.old) (stream_of E.contents E.has_failed error_stream.new) }
 {
     let name = match &command.config {
         Some(name) => name.as_str(),
@@ -139,9 +146,10 @@ fn style_set<I: Inputs>(
     inputs: &mut I,
     kept: &mut Vec<u8>,
 ) -> Result<Style, Fault>
-    ensures opened { InputsOpened I.tells (I.opened inputs.old) (I.opened inputs.new) (settings_of config.now) }
+    ensures opened { InputsOpened (claim_of I.tells (I.holds inputs.old)) (I.opened inputs.old) (I.opened inputs.new)
+        (settings_of config.now) }
     ensures same { I.tells → (input : Option (List ℕ)) → I.holds inputs.new input ≡ I.holds inputs.old input }
-    ensures set { MatchResult result (StyleOfFile I.tells (I.holds inputs.old) config.now) (Unset I.tells (I.holds inputs.old) config.now) }
+    ensures set { MatchResult result (StyleOfFile (claim_of I.tells (I.holds inputs.old)) config.now) (Unset (claim_of I.tells (I.holds inputs.old)) config.now) }
 {
     let mut file = match config {
         Some(name) => match inputs.open_file(name.as_str()) {
@@ -165,11 +173,14 @@ fn do_in_style<I: Inputs, S: Links, W: Sink, E: Sink>(
     error_stream: &mut E,
 ) -> u8
     requires all { Are (λ rule. definition rule) rules.now all_rules }
-    ensures { DoesIn I.tells (I.holds inputs.old) (I.opened inputs.old) (I.opened inputs.new)
-        files.old files.new (λ first last name style. FileRewritten S.tells (S.state first) (S.state last) (S.leads first name) style)
-        command.now style.now result
-        (W.contents writer.old) (W.contents writer.new) (W.has_failed writer.old) (W.has_failed writer.new)
-        (E.contents error_stream.old) (E.contents error_stream.new) (E.has_failed error_stream.old) (E.has_failed error_stream.new) }
+    ensures { DoesIn (host_of I.tells (I.holds inputs.old) S.tells S.state S.leads)
+        (task_of command.now style.now) result
+        (world_of (I.opened inputs.old) files.old
+        (streams_of (stream_of W.contents W.has_failed writer.old)
+        (stream_of E.contents E.has_failed error_stream.old)))
+        (world_of (I.opened inputs.new) files.new
+        (streams_of (stream_of W.contents W.has_failed writer.new)
+        (stream_of E.contents E.has_failed error_stream.new))) }
 {
     let Some(name) = &command.file else {
         return do_standard(alloc, command, rules, style, inputs, writer, error_stream);

@@ -1,4 +1,4 @@
-//! What the program was built from: the version, the commit, and the logic that its proofs were checked in.
+//! What `--version` prints: the version, the commit, the logic that the proofs were checked in, and the platform.
 
 use std::alloc::{AllocError, Global};
 
@@ -11,11 +11,14 @@ pub const COMMIT: &str = "$Format:%H$";
 /// The hash of the logic, as `rt version` prints it.
 pub const LOGIC: &str = "dac8208d650f15bf";
 
-/// The lines of `--version` after the first: the commit, and the hash of the logic.
+/// The platform on which the program runs, and the oldest C library that it runs with. `dist/build` compares it with the program.
+pub const PLATFORM: &str = "x86_64-linux-gnu, glibc 2.34 or newer";
+
+/// Returns the lines of `--version` after the first: the commit, the hash of the logic, and the platform.
 pub fn build_lines(alloc: Global) -> Result<String, AllocError> {
     if COMMIT.starts_with('$') {
-        format!(in alloc; "built from a checkout\nlogic {LOGIC}\n")
+        format!(in alloc; "built from a checkout\nlogic {LOGIC}\nplatform {PLATFORM}\n")
     } else {
-        format!(in alloc; "commit {COMMIT}\nlogic {LOGIC}\n")
+        format!(in alloc; "commit {COMMIT}\nlogic {LOGIC}\nplatform {PLATFORM}\n")
     }
 }

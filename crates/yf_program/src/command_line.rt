@@ -1,5 +1,5 @@
 //! The command line: which command the words ask for.
-ghost use Rattle.std.specs.Prelude.{◌≡◌, ◌≢◌, drop, map, IfOk, MatchOption, MatchResult, string_bytes};
+ghost use Rattle.std.specs.Prelude.{◌≡◌, ◌≢◌, ◌||◌, drop, map, IfOk, MatchOption, MatchResult, string_bytes};
 ghost use Rattle.std.specs.List.{list_any};
 ghost use Rattle.clap.specs.Words.{first_of, found_of, kind_of, rows_of, subcommand_rows_of};
 ghost use Rattle.yf_program.specs.CommandLine.{UsageAnswer, Asks, AsksFor, IsRefusal, Lacks, RefusesWords, all_given, is_set, is_standard_input, names_given, prints, verb_word};
@@ -73,7 +73,8 @@ impl From<AllocError> for Usage {
     }
 }
 
-/// The command that the words after the program's name ask for:
+/// Returns the command that the words after the program's name ask for. `--explain` may come before the command too. The commands
+/// are:
 ///
 /// - `events [--config FILE] [--explain] [FILE]`
 /// - `check [--config FILE] [--explain] [--without RULES] [FILE..]`, where RULES are names of rules with commas between, and may be given
@@ -158,7 +159,7 @@ fn shown_words(alloc: Global, words: &[String]) -> Result<Vec<String>, AllocErro
 
 // The command that was met, with what was given for it.
 fn command_met(alloc: Global, matches: &ArgMatches<'_>) -> Result<Cmd, Usage>
-    ensures { MatchResult result (Asks (subcommand_rows_of matches.now)) (Lacks (subcommand_rows_of matches.now)) }
+    ensures { MatchResult result (Asks (rows_of (found_of matches.now)) (subcommand_rows_of matches.now)) (Lacks (subcommand_rows_of matches.now)) }
 {
     let (name, given) = match matches.subcommand() {
         Some(met) => met,
@@ -170,7 +171,7 @@ fn command_met(alloc: Global, matches: &ArgMatches<'_>) -> Result<Cmd, Usage>
     };
     let config = text_given(alloc, given, CONFIG)?;
     let file = text_given(alloc, given, FILE)?;
-    let explain = is_given(given, EXPLAIN);
+    let explain = is_given_to_either(matches, given, EXPLAIN);
     let write = is_given(given, WRITE);
     let check = is_given(given, CHECK);
     let diff = is_given(given, DIFF);
@@ -328,6 +329,16 @@ fn is_given(given: &ArgMatches<'_>, id: &str) -> bool
         Some(value) => value == "true",
         None => false,
     }
+}
+
+// Whether a flag is set before the command, or after it.
+fn is_given_to_either(first: &ArgMatches<'_>, second: &ArgMatches<'_>, id: &str) -> bool
+    ensures { result ≡ (is_set (first_of id.now (rows_of (found_of first.now))) || is_set (first_of id.now (rows_of (found_of second.now)))) }
+{
+    if is_given(first, id) {
+        return true;
+    }
+    is_given(second, id)
 }
 
 // The refusal of several files where one is printed.

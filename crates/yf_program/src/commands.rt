@@ -36,19 +36,22 @@ pub fn yamlfmt_command<'a>(alloc: Global) -> Result<Command<'a>, AllocError>
     with_part(with_check, fmt_command(alloc))
 }
 
-// The program's command before its subcommands.
+// The program's command before its subcommands. `--explain` may come before them, and after them.
 fn bare_command<'a>(alloc: Global) -> Result<Command<'a>, AllocError>
     ensures { IfOk result (λ c. app_of c ≡ bare_command) }
 {
-    Command::new(alloc, "yamlfmt")
+    let command = Command::new(alloc, "yamlfmt")
         .version(VERSION)
         .about(
             "Prints the events of a YAML stream, checks its style and rewrites it in one house style",
         )
         .no_binary_name(true)
         .subcommand_required(true)
-        .arg_required_else_help(true)
-        .bin_name("yamlfmt")
+        .arg_required_else_help(true);
+    match command.arg(explain_flag(alloc)) {
+        Ok(command) => command.bin_name("yamlfmt"),
+        Err(error) => Err(error),
+    }
 }
 
 // The command with one more subcommand, where both were made.

@@ -1,10 +1,10 @@
 //! A command over its files: one by itself, and several, each as if it were alone.
-ghost use Rattle.std.specs.Prelude.{◌≡◌, ◌∷◌, [], ℕ, Bool, List, Option};
+ghost use Rattle.std.specs.Prelude.{◌≡◌, ◌∷◌, [], ℕ, true, List, Option};
 ghost use Rattle.yf_rules.specs.AllRules.{Are, FoundWithout, all_rules};
-ghost use Rattle.yf_program.specs.Answer.{DoesEach, DoesFile, DoesNamed, DoesOpened, DoesOver, InputsOpened, ToldNamed};
-ghost use Rattle.yf_program.specs.Files.{FileRewritten};
+ghost use Rattle.yf_rules.specs.Runs.ByteStream.{stream_of};
+ghost use Rattle.yf_program.specs.Answer.{AnyLines, DoesEach, DoesFile, DoesNamed, DoesOpened, DoesOver, EndsRewriting, FileRewrite, InputsOpened, IsLine, IsWhole, AreTold, Ran, TellsMore, ToldNamed, host_of};
 ghost use Rattle.yf_program.specs.Named.{named_lines};
-ghost use Rattle.yf_program.specs.Program.{AnyLines, Ran, TellsMore};
+ghost use Rattle.yf_program.specs.World.{claim_of, streams_of, task_of, world_of};
 
 use crate::command_line::{Cmd, is_standard_input};
 use crate::files::{Links, report_rewrite, rewrite};
@@ -35,11 +35,14 @@ pub fn do_each<I: Inputs, S: Links, W: Sink, E: Sink>(
     error_stream: &mut E,
 ) -> u8
     requires all { Are (λ rule. definition rule) rules.now all_rules }
-    ensures { DoesEach I.tells (I.holds inputs.old) (λ first last name style. FileRewritten S.tells (S.state first) (S.state last) (S.leads first name) style)
-        command.now style.now (I.opened inputs.old) files.old (W.contents writer.old) (W.has_failed writer.old)
-        (E.contents error_stream.old) (E.has_failed error_stream.old) (first.now ∷ command.now.more.items) result
-        (I.opened inputs.new) files.new (W.contents writer.new) (W.has_failed writer.new)
-        (E.contents error_stream.new) (E.has_failed error_stream.new) }
+    ensures { DoesEach (host_of I.tells (I.holds inputs.old) S.tells S.state S.leads) (task_of command.now style.now)
+        (world_of (I.opened inputs.old) files.old
+        (streams_of (stream_of W.contents W.has_failed writer.old)
+        (stream_of E.contents E.has_failed error_stream.old)))
+        (first.now ∷ command.now.more.items) result
+        (world_of (I.opened inputs.new) files.new
+        (streams_of (stream_of W.contents W.has_failed writer.new)
+        (stream_of E.contents E.has_failed error_stream.new))) }
 {
     let mut greatest = do_named(
         alloc,
@@ -82,11 +85,14 @@ fn do_named<I: Inputs, S: Links, W: Sink, E: Sink>(
     error_stream: &mut E,
 ) -> u8
     requires all { Are (λ rule. definition rule) rules.now all_rules }
-    ensures does { DoesNamed I.tells (I.holds inputs.old) (I.opened inputs.old) (I.opened inputs.new)
-        (files.new ≡ files.old) (λ name style. FileRewritten S.tells (S.state files.old) (S.state files.new) (S.leads files.old name) style)
-        command.now name.now style.now result
-        (W.contents writer.old) (W.contents writer.new) (W.has_failed writer.old) (W.has_failed writer.new)
-        (E.contents error_stream.old) (E.contents error_stream.new) (E.has_failed error_stream.old) (E.has_failed error_stream.new) }
+    ensures does { DoesNamed (host_of I.tells (I.holds inputs.old) S.tells S.state S.leads)
+        (task_of command.now style.now) name.now result
+        (world_of (I.opened inputs.old) files.old
+        (streams_of (stream_of W.contents W.has_failed writer.old)
+        (stream_of E.contents E.has_failed error_stream.old)))
+        (world_of (I.opened inputs.new) files.new
+        (streams_of (stream_of W.contents W.has_failed writer.new)
+        (stream_of E.contents E.has_failed error_stream.new))) }
     ensures same { I.tells → (input : Option (List ℕ)) → I.holds inputs.new input ≡ I.holds inputs.old input }
 {
     let mut output = Watched::new(Vec::new(alloc));
@@ -102,35 +108,65 @@ fn do_named<I: Inputs, S: Links, W: Sink, E: Sink>(
         &mut output,
         &mut faults,
     );
+    let output_text = output.get_ref().as_slice();
+    let faults_text = faults.get_ref().as_slice();
+    let is_broken = output.failed();
+    let is_deaf = faults.failed();
     tell_named(
         alloc,
         name,
         status,
-        output.get_ref().as_slice(),
-        faults.get_ref().as_slice(),
-        faults.failed(),
+        output_text,
+        faults_text,
+        is_whole(is_broken, is_deaf, faults_text),
         writer,
         error_stream,
     )
 }
 
-// Tells what a command gave for one file among several, and answers its status; or that this can't be told, as where the line for
-// the stream of faults was lost for want of memory. Where only what explains it was lost, the line is told.
+// Returns whether memory holds everything that a command writes for one file: all of its output, and its line for the stream of
+// faults. An explanation after that line may be missing.
+fn is_whole(is_broken: bool, is_deaf: bool, faults: &[u8]) -> bool
+    ensures { result ≡ true → IsWhole is_broken is_deaf faults.now }
+{
+    if is_broken {
+        return false;
+    }
+    if is_deaf {
+        return ends_line(faults);
+    }
+    true
+}
+
+// Returns whether a text ends a line. A command writes the line of a fault first, and only then explains it; each text is written
+// whole or not at all.
+fn ends_line(text: &[u8]) -> bool
+    ensures { result ≡ true → IsLine text.now }
+{
+    match text.last() {
+        Some(byte) => *byte == b'\n',
+        None => false,
+    }
+}
+
+// Writes what a command gave for one file among several, and returns its status. If some of it is lost, or memory for its names is
+// refused, only `no memory` is written.
 fn tell_named<W: Sink, E: Sink>(
     alloc: Global,
     name: &str,
     status: u8,
     output: &[u8],
     faults: &[u8],
-    is_lost: bool,
+    is_whole: bool,
     writer: &mut W,
     error_stream: &mut E,
 ) -> u8
-    ensures { ToldNamed status result (named_lines name.now output.now) (named_lines name.now faults.now)
-        (W.contents writer.old) (W.contents writer.new) (W.has_failed writer.old) (W.has_failed writer.new)
-        (E.contents error_stream.old) (E.contents error_stream.new) (E.has_failed error_stream.old) (E.has_failed error_stream.new) }
+    ensures { ToldNamed (is_whole ≡ true) status result (named_lines name.now output.now) (named_lines name.now faults.now)
+        (streams_of (stream_of W.contents W.has_failed writer.old) (stream_of E.contents E.has_failed error_stream.old))
+        (streams_of (stream_of W.contents W.has_failed writer.new)
+        (stream_of E.contents E.has_failed error_stream.new)) }
 {
-    if is_lost && !ends_line(faults) {
+    if !is_whole {
         return report(&Fault::Memory, error_stream);
     }
     match named_lines(alloc, name, output) {
@@ -148,12 +184,6 @@ fn tell_named<W: Sink, E: Sink>(
     }
 }
 
-// Whether a text ends a line. Of what is told of a file the first line is written whole before there is more, and each text is written
-// whole or not at all.
-fn ends_line(text: &[u8]) -> bool {
-    matches!(text.last(), Some(b'\n'))
-}
-
 // Writes two texts to the two streams, and answers the status, or that of a write that fails.
 fn tell<W: Sink, E: Sink>(
     status: u8,
@@ -162,9 +192,10 @@ fn tell<W: Sink, E: Sink>(
     writer: &mut W,
     error_stream: &mut E,
 ) -> u8
-    ensures { ToldNamed status result output.now faults.now
-        (W.contents writer.old) (W.contents writer.new) (W.has_failed writer.old) (W.has_failed writer.new)
-        (E.contents error_stream.old) (E.contents error_stream.new) (E.has_failed error_stream.old) (E.has_failed error_stream.new) }
+    ensures { AreTold status result output.now faults.now
+        (streams_of (stream_of W.contents W.has_failed writer.old) (stream_of E.contents E.has_failed error_stream.old))
+        (streams_of (stream_of W.contents W.has_failed writer.new)
+        (stream_of E.contents E.has_failed error_stream.new)) }
 {
     match write_text(writer, output) {
         Ok(()) => {
@@ -188,11 +219,14 @@ pub fn do_file<I: Inputs, S: Links, W: Sink, E: Sink>(
     error_stream: &mut E,
 ) -> u8
     requires all { Are (λ rule. definition rule) rules.now all_rules }
-    ensures does { DoesFile I.tells (I.holds inputs.old) (I.opened inputs.old) (I.opened inputs.new)
-        (files.new ≡ files.old) (λ name style. FileRewritten S.tells (S.state files.old) (S.state files.new) (S.leads files.old name) style)
-        command.now name.now style.now result
-        (W.contents writer.old) (W.contents writer.new) (W.has_failed writer.old) (W.has_failed writer.new)
-        (E.contents error_stream.old) (E.contents error_stream.new) (E.has_failed error_stream.old) (E.has_failed error_stream.new) }
+    ensures does { DoesFile (host_of I.tells (I.holds inputs.old) S.tells S.state S.leads)
+        (task_of command.now style.now) name.now result
+        (world_of (I.opened inputs.old) files.old
+        (streams_of (stream_of W.contents W.has_failed writer.old)
+        (stream_of E.contents E.has_failed error_stream.old)))
+        (world_of (I.opened inputs.new) files.new
+        (streams_of (stream_of W.contents W.has_failed writer.new)
+        (stream_of E.contents E.has_failed error_stream.new))) }
     ensures same { I.tells → (input : Option (List ℕ)) → I.holds inputs.new input ≡ I.holds inputs.old input }
 {
     if command.write {
@@ -232,11 +266,13 @@ pub fn do_standard<I: Inputs, W: Sink, E: Sink>(
     error_stream: &mut E,
 ) -> u8
     requires all { Are (λ rule. definition rule) rules.now all_rules }
-    ensures opened { InputsOpened I.tells (I.opened inputs.old) (I.opened inputs.new) (None ∷ []) }
+    ensures opened { InputsOpened (claim_of I.tells (I.holds inputs.old)) (I.opened inputs.old) (I.opened inputs.new)
+        (None ∷ []) }
     ensures same { I.tells → (input : Option (List ℕ)) → I.holds inputs.new input ≡ I.holds inputs.old input }
-    ensures over { DoesOver I.tells (I.holds inputs.old) None command.now style.now result
-        (W.contents writer.old) (W.contents writer.new) (W.has_failed writer.old) (W.has_failed writer.new)
-        (E.contents error_stream.old) (E.contents error_stream.new) (E.has_failed error_stream.old) (E.has_failed error_stream.new) }
+    ensures over { DoesOver (claim_of I.tells (I.holds inputs.old)) None (task_of command.now style.now) result
+        (streams_of (stream_of W.contents W.has_failed writer.old) (stream_of E.contents E.has_failed error_stream.old))
+        (streams_of (stream_of W.contents W.has_failed writer.new)
+        (stream_of E.contents E.has_failed error_stream.new)) }
 {
     let mut reader = inputs.open_standard();
     do_over(
@@ -262,11 +298,13 @@ fn do_opened<I: Inputs, W: Sink, E: Sink>(
     error_stream: &mut E,
 ) -> u8
     requires all { Are (λ rule. definition rule) rules.now all_rules }
-    ensures opened { InputsOpened I.tells (I.opened inputs.old) (I.opened inputs.new) (Some name.now ∷ []) }
+    ensures opened { InputsOpened (claim_of I.tells (I.holds inputs.old)) (I.opened inputs.old) (I.opened inputs.new)
+        (Some name.now ∷ []) }
     ensures same { I.tells → (input : Option (List ℕ)) → I.holds inputs.new input ≡ I.holds inputs.old input }
-    ensures over { DoesOpened I.tells (I.holds inputs.old) command.now name.now style.now result
-        (W.contents writer.old) (W.contents writer.new) (W.has_failed writer.old) (W.has_failed writer.new)
-        (E.contents error_stream.old) (E.contents error_stream.new) (E.has_failed error_stream.old) (E.has_failed error_stream.new) }
+    ensures over { DoesOpened (claim_of I.tells (I.holds inputs.old)) (task_of command.now style.now) name.now result
+        (streams_of (stream_of W.contents W.has_failed writer.old) (stream_of E.contents E.has_failed error_stream.old))
+        (streams_of (stream_of W.contents W.has_failed writer.new)
+        (stream_of E.contents E.has_failed error_stream.new)) }
 {
     match inputs.open_file(name) {
         Ok(mut file) => do_over(
@@ -292,9 +330,9 @@ fn rewrite_named<I: Inputs, S: Links, E: Sink>(
     style: &Style,
     error_stream: &mut E,
 ) -> u8
-    ensures { (told : Option (List ℕ)) × (deaf : Bool) × FileRewritten S.tells (S.state files.old) (S.state files.new) (S.leads files.old name.now) style.now result
-        (E.contents error_stream.old) told (E.has_failed error_stream.old) deaf
-        × TellsMore explained AnyLines told (E.contents error_stream.new) deaf (E.has_failed error_stream.new) }
+    ensures { EndsRewriting explained (FileRewrite S.tells (S.state files.old) (S.state files.new)
+        (S.leads files.old name.now) style.now) result
+        (stream_of E.contents E.has_failed error_stream.old) (stream_of E.contents E.has_failed error_stream.new) }
 {
     match rewrite(alloc, files, name, style) {
         Ok(()) => GOOD,
@@ -315,8 +353,8 @@ fn tell_rewrite<I: Inputs, E: Sink>(
     why: &RewriteError<Fault>,
     error_stream: &mut E,
 )
-    ensures { TellsMore explained AnyLines (E.contents error_stream.old) (E.contents error_stream.new)
-        (E.has_failed error_stream.old) (E.has_failed error_stream.new) }
+    ensures { TellsMore explained AnyLines (stream_of E.contents E.has_failed error_stream.old)
+        (stream_of E.contents E.has_failed error_stream.new) }
 {
     match why {
         RewriteError::Unreadable => tell_file(
@@ -345,10 +383,11 @@ pub fn do_over<R: Source, W: Sink, E: Sink>(
     error_stream: &mut E,
 ) -> u8
     requires all { Are (λ rule. definition rule) rules.now all_rules }
-    ensures { Ran (FoundWithout command.now.without.items style.now) style.now command.now result
-        (R.remaining reader.old) (R.has_failed reader.old) (R.has_failed reader.new)
-        (W.contents writer.old) (W.contents writer.new) (W.has_failed writer.old) (W.has_failed writer.new)
-        (E.contents error_stream.old) (E.contents error_stream.new) (E.has_failed error_stream.old) (E.has_failed error_stream.new) }
+    ensures { Ran (FoundWithout command.now.without.items style.now) (task_of command.now style.now) result
+        (stream_of R.remaining R.has_failed reader.old) (stream_of R.remaining R.has_failed reader.new)
+        (streams_of (stream_of W.contents W.has_failed writer.old) (stream_of E.contents E.has_failed error_stream.old))
+        (streams_of (stream_of W.contents W.has_failed writer.new)
+        (stream_of E.contents E.has_failed error_stream.new)) }
 {
     run(alloc, command, rules, style, reader, writer, error_stream)
 }

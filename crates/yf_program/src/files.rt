@@ -1,8 +1,8 @@
 //! The files of the program: what is read from them, and the one that is rewritten.
 ghost use Rattle.std.specs.Prelude.{◌≡◌, ℕ, List, string_bytes, IfErr, IfOk, MatchOption};
 ghost use Rattle.yf_lines.specs.declared.fault.Fault.TheVariants.{ReadFailed};
-ghost use Rattle.yf_program.specs.Files.{FormatsBytes, IsUnread, RefusesBytes, FileRewrite, RewritesFile, fault_of, rewrite_line, unwritten_line};
-ghost use Rattle.yf_program.specs.Program.{WrittenOrFailed};
+ghost use Rattle.yf_rules.specs.Runs.ByteStream.{WrittenOrFailed, stream_of};
+ghost use Rattle.yf_program.specs.Answer.{FormatsBytes, IsUnread, RefusesBytes, FileRewrite, RewritesFile, fault_of, rewrite_line, unwritten_line};
 ghost use Rattle.yf_program.specs.Report.{fault_status};
 
 use crate::report::report;
@@ -69,7 +69,8 @@ pub fn rewrite<S: Links>(
     name: &str,
     style: &Style,
 ) -> Result<(), RewriteError<Fault>>
-    ensures { FileRewrite S.tells (S.state files.old) (S.state files.new) (S.leads files.old name.now) style.now result }
+    ensures { FileRewrite S.tells (S.state files.old) (S.state files.new)
+        (S.leads files.old name.now) style.now result }
 {
     match files.followed(alloc, name) {
         Ok(None) => rewrite_in(alloc, files, name, style),
@@ -120,8 +121,8 @@ impl Formatter for InStyle<'_> {
 /// is left, or the new text may not survive a crash, the line says so.
 pub fn report_rewrite<E: Sink>(error: &RewriteError<Fault>, error_stream: &mut E) -> u8
     ensures status { result ≡ fault_status (fault_of error.now) }
-    ensures line { WrittenOrFailed (E.contents error_stream.old) (E.contents error_stream.new)
-        (E.has_failed error_stream.old) (E.has_failed error_stream.new) (rewrite_line error.now) }
+    ensures line { WrittenOrFailed (stream_of E.contents E.has_failed error_stream.old)
+        (stream_of E.contents E.has_failed error_stream.new) (rewrite_line error.now) }
 {
     match error {
         RewriteError::Memory => report(&Fault::Memory, error_stream),
@@ -134,8 +135,8 @@ pub fn report_rewrite<E: Sink>(error: &RewriteError<Fault>, error_stream: &mut E
 // The same of a file whose new text is not put in its place, or not for sure.
 fn report_unwritten<E: Sink>(left: ReplaceError, error_stream: &mut E) -> u8
     ensures status { result ≡ 3 }
-    ensures line { WrittenOrFailed (E.contents error_stream.old) (E.contents error_stream.new)
-        (E.has_failed error_stream.old) (E.has_failed error_stream.new) (unwritten_line left) }
+    ensures line { WrittenOrFailed (stream_of E.contents E.has_failed error_stream.old)
+        (stream_of E.contents E.has_failed error_stream.new) (unwritten_line left) }
 {
     match left {
         ReplaceError::Untouched => report(&Fault::WriteFailed, error_stream),
@@ -156,8 +157,8 @@ const UNWRITTEN: u8 = 3;
 // Writes a line, and answers the status of a write that fails.
 fn tell<E: Sink>(line: &[u8], error_stream: &mut E) -> u8
     ensures status { result ≡ 3 }
-    ensures line { WrittenOrFailed (E.contents error_stream.old) (E.contents error_stream.new)
-        (E.has_failed error_stream.old) (E.has_failed error_stream.new) line.now }
+    ensures line { WrittenOrFailed (stream_of E.contents E.has_failed error_stream.old)
+        (stream_of E.contents E.has_failed error_stream.new) line.now }
 {
     let _ = write_text(error_stream, line);
     UNWRITTEN

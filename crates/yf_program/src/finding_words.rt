@@ -1,27 +1,33 @@
-//! What is told of findings beside their lines: what `fmt` does about each, and where the first of repeated keys is.
+//! What `--explain` prints about findings: what `fmt` does about each, where the first of repeated keys is, and which column is expected.
 ghost use Rattle.std.specs.Prelude.{◌<◌, length, IfSome};
 
+use crate::expected_columns::{Expected, expected_columns, expected_places};
 use std::alloc::{AllocError, Global};
 use yf_chars::utf8::check_utf8;
 use yf_events::event::Event;
 use yf_events::reading::Reading;
-use yf_explain::{Page, place_offset, push_line};
+use yf_explain::{Page, push_line};
+use yf_forms::style::Style;
 use yf_lines::place::Position;
 use yf_lines::source_text::Src;
+use yf_rule_sets::facts::places::known_positions;
 use yf_rules::finding::Finding;
 use yf_stream::stream::read_stream;
 
 /// The rule whose findings have a first key elsewhere.
 const REPEATED: &str = "repeated-keys";
 
+/// The rule whose findings have a column that is expected.
+const INDENTATION: &str = "indentation";
+
 /// The rules, and what `fmt` does about a finding of each.
 static WORDS: [(&str, &str); 14] = [
     ("trailing-blanks", "fmt leaves this white space out"),
-    ("indentation", "fmt indents it as the house style has it"),
     (
-        "quoting",
-        "fmt writes the quotes of the house style, or none",
+        "indentation",
+        "fmt indents it as the settings `indent` and `seq_indent` say",
     ),
+    ("quoting", "fmt writes it in the quotes of the house style"),
     (
         "document-start",
         "fmt writes `---` on a line of its own before it",
@@ -37,83 +43,150 @@ static WORDS: [(&str, &str); 14] = [
     ("comment-space", "fmt writes two spaces before this comment"),
     (
         "line-length",
-        "fmt leaves it as it is: it breaks lines at brackets alone",
+        "fmt leaves it as it is: it breaks lines only at brackets",
     ),
     ("repeated-keys", "fmt leaves it as it is"),
     ("key-mark", "fmt writes this key without `?`"),
-    ("hidden-character", "fmt escapes it in quoted scalars alone"),
+    ("hidden-character", "fmt escapes it only in quoted scalars"),
 ];
 
 /// How many events are looked at for the first ones of all repeated keys of a text.
 const STEPS: usize = 10_000_000;
 
-/// What is told of the findings of a text, a line for each.
+/// What is known about a finding from the reading of its text.
+#[derive(Clone, Copy)]
+enum Detail {
+    /// Nothing.
+    None,
+    /// Where the first one of repeated keys is.
+    First(Position),
+    /// Which column is expected.
+    Column(Expected),
+}
+
+/// Returns a line for each finding of a text.
 ///
 /// # Errors
 ///
-/// `AllocError` where a growth of memory was refused.
+/// `AllocError` if memory is refused.
 pub fn findings_page(
     alloc: Global,
     bytes: &[u8],
     findings: &[Finding],
+    style: &Style,
 ) -> Result<Page, AllocError> {
     let mut page = Page::new(alloc);
     let text = match check_utf8(bytes) {
         Ok(text) => text,
         Err(_) => return Err(AllocError),
     };
-    if has_repeated(findings) {
-        push_with_keys(alloc, &mut page, text, findings)?;
+    if need_reading(findings) {
+        push_read(alloc, &mut page, text, findings, style)?;
         return Ok(page);
     }
     for finding in findings {
-        push_finding(alloc, &mut page, finding, None)?;
+        push_finding(alloc, &mut page, finding, Detail::None)?;
     }
     Ok(page)
 }
 
-// Whether a key is repeated.
-fn has_repeated(findings: &[Finding]) -> bool {
+// Whether the reading of the text has details about one of the findings.
+fn need_reading(findings: &[Finding]) -> bool {
     for finding in findings {
-        if finding.id == REPEATED {
+        if finding.id == REPEATED || finding.id == INDENTATION {
             return true;
         }
     }
     false
 }
 
-// Adds the lines of findings among which keys are repeated.
-fn push_with_keys(
+// Adds the lines of findings, with details from the reading of their text.
+fn push_read(
     alloc: Global,
     page: &mut Page,
     text: &str,
     findings: &[Finding],
+    style: &Style,
 ) -> Result<(), AllocError> {
     let src = Src::new(alloc, text)?;
     match read_stream(alloc, text) {
-        Ok(reading) => push_with_reading(alloc, page, &src, &reading, findings),
+        Ok(reading) => {
+            let expected = expected_columns(alloc, &src, &reading, style)?;
+            let columns = expected_places(alloc, &src, expected.as_slice())?;
+            push_with_reading(
+                alloc,
+                page,
+                &src,
+                &reading,
+                findings,
+                expected.as_slice(),
+                columns.as_slice(),
+            )
+        }
         Err(_) => Err(AllocError),
     }
 }
 
-// The same, by the reading of their text.
+// The same, by the columns that are expected in the text, and the positions at which they are.
 fn push_with_reading(
     alloc: Global,
     page: &mut Page,
     src: &Src,
     reading: &Reading,
     findings: &[Finding],
+    expected: &[Expected],
+    columns: &[Position],
 ) -> Result<(), AllocError> {
+    let places = event_places(alloc, src, reading)?;
     let mut steps = STEPS;
+    let mut from = 0;
+    let mut next = 0;
     for finding in findings {
-        let first = if finding.id == REPEATED {
-            first_place(src, reading, finding.place, &mut steps)
-        } else {
-            None
-        };
-        push_finding(alloc, page, finding, first)?;
+        let mut detail = Detail::None;
+        if finding.id == REPEATED {
+            from = first_at(places.as_slice(), finding.place, from);
+            detail = detail_of_first(first_place(
+                reading,
+                places.as_slice(),
+                finding.place,
+                from,
+                &mut steps,
+            ));
+        }
+        if finding.id == INDENTATION {
+            next = first_at(columns, finding.place, next);
+            detail = detail_of_column(expected, columns, finding.place, next);
+        }
+        push_finding(alloc, page, finding, detail)?;
     }
     Ok(())
+}
+
+// What is known about a repeated key.
+fn detail_of_first(first: Option<Position>) -> Detail {
+    match first {
+        Some(first) => Detail::First(first),
+        None => Detail::None,
+    }
+}
+
+// The column that is expected at a place, if that with the index is at the place.
+fn detail_of_column(
+    expected: &[Expected],
+    columns: &[Position],
+    place: Position,
+    index: usize,
+) -> Detail {
+    if index >= columns.len() {
+        return Detail::None;
+    }
+    if columns[index] != place {
+        return Detail::None;
+    }
+    match expected.get(index) {
+        Some(expected) => Detail::Column(*expected),
+        None => Detail::None,
+    }
 }
 
 // Adds the line of a finding.
@@ -121,16 +194,29 @@ fn push_finding(
     alloc: Global,
     page: &mut Page,
     finding: &Finding,
-    first: Option<Position>,
+    detail: Detail,
 ) -> Result<(), AllocError> {
     let place = finding.place;
     let words = words_on(finding.id);
-    let line = match first {
-        Some(first) => format!(in alloc;
+    let line = match detail {
+        Detail::First(first) => format!(in alloc;
             "{}:{} {}: {words}; the first one is at {}:{}",
             place.line, place.column, finding.id, first.line, first.column
         )?,
-        None => format!(in alloc; "{}:{} {}: {words}", place.line, place.column, finding.id)?,
+        Detail::Column(expected) => {
+            let what = if expected.is_scalar {
+                "expected its lines at"
+            } else {
+                "expected at"
+            };
+            format!(in alloc;
+                "{}:{} {}: {what} column {}; {words}",
+                place.line, place.column, finding.id, expected.column
+            )?
+        }
+        Detail::None => {
+            format!(in alloc; "{}:{} {}: {words}", place.line, place.column, finding.id)?
+        }
     };
     push_line(page, line.as_str())
 }
@@ -145,59 +231,95 @@ fn words_on(id: &str) -> &'static str {
     "fmt does nothing about it"
 }
 
-// Where the first key is that is the same as the one at a place, if the steps that are left find it.
+// The place of each event of a reading, found in one pass over the text. An event without a part of the text has the place of the
+// event before it.
+fn event_places(alloc: Global, src: &Src, reading: &Reading) -> Result<Vec<Position>, AllocError> {
+    let mut starts = Vec::new(alloc);
+    let mut start = 0;
+    for index in 0..reading.len() {
+        if let Some(span) = reading.span(index) {
+            start = span.start;
+        }
+        starts.push(start)?;
+    }
+    known_positions(alloc, src, starts.as_slice())
+}
+
+// The index of the first of some ascending places, from an index on, that is not before a place.
+fn first_at(places: &[Position], place: Position, from: usize) -> usize {
+    for index in from..places.len() {
+        if !is_before(places[index], place) {
+            return index;
+        }
+    }
+    places.len()
+}
+
+fn is_before(place: Position, other: Position) -> bool {
+    place.line < other.line || (place.line == other.line && place.column < other.column)
+}
+
+// Where the first key is that is the same as the one at a place, if the steps that are left find it. The events at the place are
+// from an index on. A step is an event that is looked at, and there is one for each event up to the key.
 fn first_place(
-    src: &Src,
     reading: &Reading,
+    places: &[Position],
     place: Position,
+    from: usize,
     steps: &mut usize,
 ) -> Option<Position> {
-    let Some(index) = key_at(reading, place_offset(src, place), steps) else {
+    let Some(index) = scalar_at(reading, places, place, from) else {
+        let _ = take_steps(steps, reading.len());
         return None;
     };
+    if !take_steps(steps, index.saturating_add(1)) {
+        return None;
+    }
     let Some(first) = first_key(reading, index, steps) else {
         return None;
     };
-    match reading.span(first) {
-        Some(span) => {
-            if src.text().is_char_boundary(span.start) {
-                return Some(src.place(span.start));
-            }
-            None
-        }
-        None => None,
+    if reading.span(first).is_none() {
+        return None;
     }
+    places.get(first).copied()
 }
 
-// The index of the scalar that begins at an offset.
-fn key_at(reading: &Reading, offset: usize, steps: &mut usize) -> Option<usize>
+// Takes steps from those that are left, and returns whether there are enough.
+fn take_steps(steps: &mut usize, count: usize) -> bool {
+    if *steps < count {
+        *steps = 0;
+        return false;
+    }
+    *steps -= count;
+    true
+}
+
+// The index of the scalar that begins at a place, among the events at it from an index on.
+fn scalar_at(reading: &Reading, places: &[Position], place: Position, from: usize) -> Option<usize>
     ensures { IfSome result (λ index. index < length reading.now.events) }
 {
-    for index in 0..reading.len() {
-        if *steps == 0 {
+    for index in from..places.len() {
+        if places[index] != place {
             return None;
         }
-        *steps -= 1;
-        if begins_scalar(reading, index, offset) {
+        if index >= reading.len() {
+            return None;
+        }
+        if is_scalar(reading, index) {
             return Some(index);
         }
     }
     None
 }
 
-// Whether an event is a scalar that begins at an offset.
-fn begins_scalar(reading: &Reading, index: usize, offset: usize) -> bool
+// Whether an event is a scalar that is a part of the text.
+fn is_scalar(reading: &Reading, index: usize) -> bool
     requires { index < length reading.now.events }
 {
-    match reading.span(index) {
-        Some(span) => {
-            if span.start != offset {
-                return false;
-            }
-            matches!(reading.event(index), Event::Scalar { .. })
-        }
-        None => false,
+    if reading.span(index).is_none() {
+        return false;
     }
+    matches!(reading.event(index), Event::Scalar { .. })
 }
 
 // The index of the first key of a mapping that is the same as the key at an index.

@@ -1,7 +1,8 @@
 //! What is told after the line of a fault, where that is asked for.
 ghost use Rattle.std.specs.Prelude.{◌≡◌, true, IsOkAnd};
 ghost use Rattle.yf_explain.specs.Explained.{Explains};
-ghost use Rattle.yf_program.specs.Program.{AnyLines, EndsTold, TellsMore};
+ghost use Rattle.yf_rules.specs.Runs.ByteStream.{stream_of};
+ghost use Rattle.yf_program.specs.Answer.{AnyLines, EndsTold, TellsMore};
 
 use crate::finding_words::findings_page;
 use crate::inputs::{Again, Inputs};
@@ -9,6 +10,7 @@ use crate::report::report;
 use crate::settings_words::explain_settings;
 use std::alloc::{AllocError, Global};
 use yf_explain::{Page, explain, page_of_words};
+use yf_forms::style::Style;
 use yf_lines::fault::Fault;
 use yf_lines::output::write_text;
 use yf_lines::watched::Sink;
@@ -22,8 +24,8 @@ pub fn report_input<E: Sink>(
     fault: &Fault,
     error_stream: &mut E,
 ) -> u8
-    ensures { EndsTold explained (Explains bytes.now fault.now) fault.now result (E.contents error_stream.old) (E.contents error_stream.new)
-        (E.has_failed error_stream.old) (E.has_failed error_stream.new) }
+    ensures { EndsTold explained (Explains bytes.now fault.now) fault.now result
+        (stream_of E.contents E.has_failed error_stream.old) (stream_of E.contents E.has_failed error_stream.new) }
 {
     let status = report(fault, error_stream);
     tell_input(alloc, explained, bytes, fault, error_stream);
@@ -38,8 +40,8 @@ fn tell_input<E: Sink>(
     fault: &Fault,
     error_stream: &mut E,
 )
-    ensures { TellsMore explained (Explains bytes.now fault.now) (E.contents error_stream.old) (E.contents error_stream.new)
-        (E.has_failed error_stream.old) (E.has_failed error_stream.new) }
+    ensures { TellsMore explained (Explains bytes.now fault.now)
+        (stream_of E.contents E.has_failed error_stream.old) (stream_of E.contents E.has_failed error_stream.new) }
 {
     if explained {
         tell_page(&explain(alloc, bytes, fault), error_stream);
@@ -57,8 +59,8 @@ pub fn report_file<I: Inputs, E: Sink>(
     fault: &Fault,
     error_stream: &mut E,
 ) -> u8
-    ensures { EndsTold explained AnyLines fault.now result (E.contents error_stream.old) (E.contents error_stream.new)
-        (E.has_failed error_stream.old) (E.has_failed error_stream.new) }
+    ensures { EndsTold explained AnyLines fault.now result
+        (stream_of E.contents E.has_failed error_stream.old) (stream_of E.contents E.has_failed error_stream.new) }
 {
     let status = report(fault, error_stream);
     tell_file(alloc, explained, inputs, name, fault, error_stream);
@@ -74,8 +76,8 @@ pub fn tell_file<I: Inputs, E: Sink>(
     fault: &Fault,
     error_stream: &mut E,
 )
-    ensures { TellsMore explained AnyLines (E.contents error_stream.old) (E.contents error_stream.new)
-        (E.has_failed error_stream.old) (E.has_failed error_stream.new) }
+    ensures { TellsMore explained AnyLines (stream_of E.contents E.has_failed error_stream.old)
+        (stream_of E.contents E.has_failed error_stream.new) }
 {
     if explained {
         tell_page(&file_page(alloc, inputs, name, fault), error_stream);
@@ -110,8 +112,8 @@ pub fn report_settings<I: Inputs, E: Sink>(
     fault: &Fault,
     error_stream: &mut E,
 ) -> u8
-    ensures { EndsTold explained AnyLines fault.now result (E.contents error_stream.old) (E.contents error_stream.new)
-        (E.has_failed error_stream.old) (E.has_failed error_stream.new) }
+    ensures { EndsTold explained AnyLines fault.now result
+        (stream_of E.contents E.has_failed error_stream.old) (stream_of E.contents E.has_failed error_stream.new) }
 {
     let Fault::Config { key } = fault else {
         return report_file(alloc, explained, inputs, name, fault, error_stream);
@@ -129,8 +131,8 @@ fn tell_settings<E: Sink>(
     key: &str,
     error_stream: &mut E,
 )
-    ensures { TellsMore explained AnyLines (E.contents error_stream.old) (E.contents error_stream.new)
-        (E.has_failed error_stream.old) (E.has_failed error_stream.new) }
+    ensures { TellsMore explained AnyLines (stream_of E.contents E.has_failed error_stream.old)
+        (stream_of E.contents E.has_failed error_stream.new) }
 {
     if explained {
         tell_page(&explain_settings(alloc, bytes, key), error_stream);
@@ -138,27 +140,28 @@ fn tell_settings<E: Sink>(
     }
 }
 
-/// Tells what `fmt` does about the findings of a text, where that is asked for.
+/// Explains the findings of a text that was checked with this style, if that is asked for.
 pub fn tell_findings<E: Sink>(
     alloc: Global,
     explained: bool,
     bytes: &[u8],
     findings: &[Finding],
+    style: &Style,
     error_stream: &mut E,
 )
-    ensures { TellsMore explained AnyLines (E.contents error_stream.old) (E.contents error_stream.new)
-        (E.has_failed error_stream.old) (E.has_failed error_stream.new) }
+    ensures { TellsMore explained AnyLines (stream_of E.contents E.has_failed error_stream.old)
+        (stream_of E.contents E.has_failed error_stream.new) }
 {
     if explained {
-        tell_page(&findings_page(alloc, bytes, findings), error_stream);
+        tell_page(&findings_page(alloc, bytes, findings, style), error_stream);
         return;
     }
 }
 
 // Tells what is on a page, unless the stream has failed, or there is none.
 fn tell_page<E: Sink>(page: &Result<Page, AllocError>, error_stream: &mut E)
-    ensures { TellsMore true (λ lines. IsOkAnd page.now (λ told. told ≡ lines)) (E.contents error_stream.old) (E.contents error_stream.new)
-        (E.has_failed error_stream.old) (E.has_failed error_stream.new) }
+    ensures { TellsMore true (λ lines. IsOkAnd page.now (λ told. told ≡ lines))
+        (stream_of E.contents E.has_failed error_stream.old) (stream_of E.contents E.has_failed error_stream.new) }
 {
     let Ok(page) = page else {
         return;

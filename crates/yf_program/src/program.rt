@@ -1,21 +1,25 @@
 //! What the program does for a command line, over any reader, any writer and any stream for its faults.
-ghost use Rattle.std.specs.Prelude.{◌≡◌, false, true, MatchResult};
-ghost use Rattle.yf_lines.specs.Output.{TextWritten};
+ghost use Rattle.std.specs.Prelude.{◌≡◌, true, IfErr, IfOk, IfSome, MatchResult, OnOk};
 ghost use Rattle.yf_rules.specs.Asked.{asked};
 ghost use Rattle.yf_rules.specs.Check.{CheckAnswer, RuleFindings};
-ghost use Rattle.yf_program.specs.Program.{UsageWritten, FileRefused, FileSets, Ran, RanChecker, RanFormatter, RanReader, WrittenOut, diff_name};
-ghost use Rattle.std.specs.Io.KnownBytes.{Keeps};
+ghost use Rattle.yf_rules.specs.Runs.ByteStream.{stream_of};
+ghost use Rattle.yf_rules.specs.Runs.Compare.{IsClean};
+ghost use Rattle.yf_rules.specs.Runs.Diffed.{DiffRun, RefusedDiff};
+ghost use Rattle.yf_rules.specs.Runs.Run.{Gave, Keeps};
+ghost use Rattle.yf_program.specs.Answer.{FileRefused, FileSets, Ran, RanCheck, RanEvents, RanFmt, RanFmtCheck, RanFmtDiff, RanFormatter, UsageWritten, WrittenOut};
+ghost use Rattle.yf_program.specs.Quoted.{diff_name};
+ghost use Rattle.yf_program.specs.World.{streams_of, task_of};
 
 use crate::command_line::{Cmd, Usage, Verb};
 use crate::further::{report_input, tell_findings};
+use crate::quoted::quoted;
 use crate::report::report;
 use crate::settings::{no_key, style_from_toml};
-use std::alloc::Global;
+use std::alloc::{AllocError, Global};
 use yf_chars::utf8::check_utf8;
 use yf_forms::style::Style;
 use yf_lines::fault::Fault;
 use yf_lines::output::write_text;
-use yf_lines::text::OwnedText;
 use yf_lines::watched::{Sink, Source};
 use yf_rules::compare::run_fmt_check;
 use yf_rules::diff::run_fmt_diff;
@@ -47,22 +51,15 @@ pub fn run<R: Source, W: Sink, E: Sink>(
     ensures { Ran (λ src reading findings. CheckAnswer
         (λ rule found. RuleFindings (definition rule) src reading style.now found)
         (asked (λ rule. definition rule) command.now.without.items rules.now) findings)
-        style.now command.now result (R.remaining reader.old) (R.has_failed reader.old) (R.has_failed reader.new)
-        (W.contents writer.old) (W.contents writer.new) (W.has_failed writer.old) (W.has_failed writer.new)
-        (E.contents error_stream.old) (E.contents error_stream.new) (E.has_failed error_stream.old) (E.has_failed error_stream.new) }
+        (task_of command.now style.now) result (stream_of R.remaining R.has_failed reader.old)
+        (stream_of R.remaining R.has_failed reader.new)
+        (streams_of (stream_of W.contents W.has_failed writer.old) (stream_of E.contents E.has_failed error_stream.old))
+        (streams_of (stream_of W.contents W.has_failed writer.new)
+        (stream_of E.contents E.has_failed error_stream.new)) }
 {
     match command.verb {
         Verb::Events => run_reader(alloc, command.explain, reader, writer, error_stream),
-        Verb::Check => run_checker(
-            alloc,
-            command.explain,
-            rules,
-            command.without.as_slice(),
-            style,
-            reader,
-            writer,
-            error_stream,
-        ),
+        Verb::Check => run_checker(alloc, command, rules, style, reader, writer, error_stream),
         Verb::Fmt => run_formatter(alloc, command, style, reader, writer, error_stream),
     }
 }
@@ -75,9 +72,11 @@ fn run_reader<R: Source, W: Sink, E: Sink>(
     writer: &mut W,
     error_stream: &mut E,
 ) -> u8
-    ensures { RanReader explained result (R.remaining reader.old) (R.has_failed reader.old) (R.has_failed reader.new)
-        (W.contents writer.old) (W.contents writer.new) (W.has_failed writer.old) (W.has_failed writer.new)
-        (E.contents error_stream.old) (E.contents error_stream.new) (E.has_failed error_stream.old) (E.has_failed error_stream.new) }
+    ensures { RanEvents explained result (stream_of R.remaining R.has_failed reader.old)
+        (stream_of R.remaining R.has_failed reader.new)
+        (streams_of (stream_of W.contents W.has_failed writer.old) (stream_of E.contents E.has_failed error_stream.old))
+        (streams_of (stream_of W.contents W.has_failed writer.new)
+        (stream_of E.contents E.has_failed error_stream.new)) }
 {
     let mut bytes = Vec::new(alloc);
     match run_events(alloc, reader, &mut bytes, writer) {
@@ -89,23 +88,25 @@ fn run_reader<R: Source, W: Sink, E: Sink>(
 // Prints what the rules find, and answers the status.
 fn run_checker<R: Source, W: Sink, E: Sink>(
     alloc: Global,
-    explained: bool,
+    command: &Cmd,
     rules: &[Box<dyn Rule>],
-    without: &[OwnedText],
     style: &Style,
     reader: &mut R,
     writer: &mut W,
     error_stream: &mut E,
 ) -> u8
-    ensures { RanChecker (λ src reading findings. CheckAnswer
+    ensures { RanCheck (λ src reading findings. CheckAnswer
         (λ rule found. RuleFindings (definition rule) src reading style.now found)
-        (asked (λ rule. definition rule) without.now rules.now) findings)
-        style.now explained result (R.remaining reader.old) (R.has_failed reader.old) (R.has_failed reader.new)
-        (W.contents writer.old) (W.contents writer.new) (W.has_failed writer.old) (W.has_failed writer.new)
-        (E.contents error_stream.old) (E.contents error_stream.new) (E.has_failed error_stream.old) (E.has_failed error_stream.new) }
+        (asked (λ rule. definition rule) command.now.without.items rules.now) findings)
+        (task_of command.now style.now) result (stream_of R.remaining R.has_failed reader.old)
+        (stream_of R.remaining R.has_failed reader.new)
+        (streams_of (stream_of W.contents W.has_failed writer.old) (stream_of E.contents E.has_failed error_stream.old))
+        (streams_of (stream_of W.contents W.has_failed writer.new)
+        (stream_of E.contents E.has_failed error_stream.new)) }
 {
     let mut bytes = Vec::new(alloc);
     let mut found = Vec::new(alloc);
+    let without = command.without.as_slice();
     match run_check(
         alloc, rules, without, reader, &mut bytes, &mut found, writer, style,
     ) {
@@ -113,14 +114,21 @@ fn run_checker<R: Source, W: Sink, E: Sink>(
         Ok(true) => {
             tell_findings(
                 alloc,
-                explained,
+                command.explain,
                 bytes.as_slice(),
                 found.as_slice(),
+                style,
                 error_stream,
             );
             FINDINGS
         }
-        Err(fault) => report_input(alloc, explained, bytes.as_slice(), &fault, error_stream),
+        Err(fault) => report_input(
+            alloc,
+            command.explain,
+            bytes.as_slice(),
+            &fault,
+            error_stream,
+        ),
     }
 }
 
@@ -133,9 +141,11 @@ fn run_formatter<R: Source, W: Sink, E: Sink>(
     writer: &mut W,
     error_stream: &mut E,
 ) -> u8
-    ensures { RanFormatter command.now.explain command.now.diff command.now.check command.now.file style.now result (R.remaining reader.old) (R.has_failed reader.old) (R.has_failed reader.new)
-        (W.contents writer.old) (W.contents writer.new) (W.has_failed writer.old) (W.has_failed writer.new)
-        (E.contents error_stream.old) (E.contents error_stream.new) (E.has_failed error_stream.old) (E.has_failed error_stream.new) }
+    ensures { RanFormatter (task_of command.now style.now) result
+        (stream_of R.remaining R.has_failed reader.old) (stream_of R.remaining R.has_failed reader.new)
+        (streams_of (stream_of W.contents W.has_failed writer.old) (stream_of E.contents E.has_failed error_stream.old))
+        (streams_of (stream_of W.contents W.has_failed writer.new)
+        (stream_of E.contents E.has_failed error_stream.new)) }
 {
     if command.diff {
         return run_differ(alloc, command, style, reader, writer, error_stream);
@@ -155,13 +165,14 @@ fn run_differ<R: Source, W: Sink, E: Sink>(
     writer: &mut W,
     error_stream: &mut E,
 ) -> u8
-    ensures { RanFormatter command.now.explain true command.now.check command.now.file style.now result (R.remaining reader.old) (R.has_failed reader.old) (R.has_failed reader.new)
-        (W.contents writer.old) (W.contents writer.new) (W.has_failed writer.old) (W.has_failed writer.new)
-        (E.contents error_stream.old) (E.contents error_stream.new) (E.has_failed error_stream.old) (E.has_failed error_stream.new) }
+    ensures { RanFmtDiff (task_of command.now style.now) result
+        (stream_of R.remaining R.has_failed reader.old) (stream_of R.remaining R.has_failed reader.new)
+        (streams_of (stream_of W.contents W.has_failed writer.old) (stream_of E.contents E.has_failed error_stream.old))
+        (streams_of (stream_of W.contents W.has_failed writer.new)
+        (stream_of E.contents E.has_failed error_stream.new)) }
 {
     let mut bytes = Vec::new(alloc);
-    let name = diff_name(command);
-    match run_fmt_diff(alloc, name, reader, &mut bytes, writer, style) {
+    match print_diff(alloc, command, reader, &mut bytes, writer, style) {
         Ok(true) => GOOD,
         Ok(false) => FINDINGS,
         Err(fault) => report_input(
@@ -174,6 +185,35 @@ fn run_differ<R: Source, W: Sink, E: Sink>(
     }
 }
 
+// Prints what formatting changes, with the name of the input in its heads, and returns whether that is nothing.
+fn print_diff<R: Source, W: Sink>(
+    alloc: Global,
+    command: &Cmd,
+    reader: &mut R,
+    kept: &mut Vec<u8>,
+    writer: &mut W,
+    style: &Style,
+) -> Result<bool, Fault>
+    ensures diffed { IfOk result (λ same. DiffRun style.now (diff_name command.now.file)
+        (stream_of R.remaining R.has_failed reader.old)
+        (stream_of W.contents W.has_failed writer.old) (stream_of W.contents W.has_failed writer.new) same) }
+    ensures clean { IfOk result (λ same. same ≡ true → IfSome (R.remaining reader.old) (IsClean style.now)) }
+    ensures reader { OnOk result (R.has_failed reader.new ≡ R.has_failed reader.old) }
+    ensures bytes { MatchResult result (λ _. Gave (R.remaining reader.old) kept.new.items) (Keeps (R.remaining reader.old) kept.new.items) }
+    ensures refusals { IfErr result (λ fault. RefusedDiff style.now (diff_name command.now.file)
+        (stream_of R.remaining R.has_failed reader.old) (stream_of R.remaining R.has_failed reader.new)
+        (stream_of W.contents W.has_failed writer.old) (stream_of W.contents W.has_failed writer.new) fault) }
+{
+    let quoted = match diff_name(alloc, command) {
+        Ok(quoted) => quoted,
+        Err(_) => return Err(Fault::Memory),
+    };
+    match check_utf8(quoted.as_slice()) {
+        Ok(name) => run_fmt_diff(alloc, name, reader, kept, writer, style),
+        Err(_) => Err(Fault::Memory),
+    }
+}
+
 // Tells whether formatting is needed, and answers the status.
 fn run_comparer<R: Source, W: Sink, E: Sink>(
     alloc: Global,
@@ -183,9 +223,11 @@ fn run_comparer<R: Source, W: Sink, E: Sink>(
     writer: &mut W,
     error_stream: &mut E,
 ) -> u8
-    ensures { RanFormatter command.now.explain false true command.now.file style.now result (R.remaining reader.old) (R.has_failed reader.old) (R.has_failed reader.new)
-        (W.contents writer.old) (W.contents writer.new) (W.has_failed writer.old) (W.has_failed writer.new)
-        (E.contents error_stream.old) (E.contents error_stream.new) (E.has_failed error_stream.old) (E.has_failed error_stream.new) }
+    ensures { RanFmtCheck (task_of command.now style.now) result
+        (stream_of R.remaining R.has_failed reader.old) (stream_of R.remaining R.has_failed reader.new)
+        (streams_of (stream_of W.contents W.has_failed writer.old) (stream_of E.contents E.has_failed error_stream.old))
+        (streams_of (stream_of W.contents W.has_failed writer.new)
+        (stream_of E.contents E.has_failed error_stream.new)) }
 {
     let mut bytes = Vec::new(alloc);
     match run_fmt_check(alloc, reader, &mut bytes, writer, style) {
@@ -210,9 +252,11 @@ fn run_writer<R: Source, W: Sink, E: Sink>(
     writer: &mut W,
     error_stream: &mut E,
 ) -> u8
-    ensures { RanFormatter command.now.explain false false command.now.file style.now result (R.remaining reader.old) (R.has_failed reader.old) (R.has_failed reader.new)
-        (W.contents writer.old) (W.contents writer.new) (W.has_failed writer.old) (W.has_failed writer.new)
-        (E.contents error_stream.old) (E.contents error_stream.new) (E.has_failed error_stream.old) (E.has_failed error_stream.new) }
+    ensures { RanFmt (task_of command.now style.now) result (stream_of R.remaining R.has_failed reader.old)
+        (stream_of R.remaining R.has_failed reader.new)
+        (streams_of (stream_of W.contents W.has_failed writer.old) (stream_of E.contents E.has_failed error_stream.old))
+        (streams_of (stream_of W.contents W.has_failed writer.new)
+        (stream_of E.contents E.has_failed error_stream.new)) }
 {
     let mut bytes = Vec::new(alloc);
     match run_fmt(alloc, reader, &mut bytes, writer, style) {
@@ -228,21 +272,22 @@ fn run_writer<R: Source, W: Sink, E: Sink>(
 }
 
 // The name of a command's input in the heads of its diff.
-fn diff_name(command: &Cmd) -> &str
-    ensures { result.now ≡ diff_name command.now.file }
+fn diff_name(alloc: Global, command: &Cmd) -> Result<Vec<u8>, AllocError>
+    ensures { IfOk result (λ name. name.items ≡ diff_name command.now.file) }
 {
     match &command.file {
-        Some(name) => name.as_str(),
-        None => "-",
+        Some(name) => quoted(alloc, name.as_str()),
+        None => quoted(alloc, "-"),
     }
 }
 
 /// Writes out what the writer holds back, unless it has failed, which was told, and answers the status: that of the run, or of a
 /// write that fails, whose line was written to the stream of faults.
 pub fn written_out<W: Sink, E: Sink>(status: u8, writer: &mut W, error_stream: &mut E) -> u8
-    ensures kept { Keeps (W.contents writer.old) (W.contents writer.new) }
-    ensures told { WrittenOut status result (W.has_failed writer.old) (W.has_failed writer.new)
-        (E.contents error_stream.old) (E.contents error_stream.new) (E.has_failed error_stream.old) (E.has_failed error_stream.new) }
+    ensures { WrittenOut status result (streams_of (stream_of W.contents W.has_failed writer.old)
+        (stream_of E.contents E.has_failed error_stream.old))
+        (streams_of (stream_of W.contents W.has_failed writer.new)
+        (stream_of E.contents E.has_failed error_stream.new)) }
 {
     if writer.failed() {
         return status;
@@ -260,7 +305,8 @@ pub fn read_style<R: Source>(
     kept: &mut Vec<u8>,
 ) -> Result<Style, Fault>
     ensures { MatchResult result (λ style. FileSets (R.remaining reader.old) style)
-        (λ fault. FileRefused (R.remaining reader.old) (R.has_failed reader.old) (R.has_failed reader.new) fault) }
+        (λ fault. FileRefused (stream_of R.remaining R.has_failed reader.old)
+        (stream_of R.remaining R.has_failed reader.new) fault) }
 {
     let bytes = read_all(alloc, reader, INPUT_LIMIT)?;
     *kept = bytes;
@@ -276,8 +322,10 @@ pub fn read_style<R: Source>(
 
 /// Writes help to the writer, and why words are refused to the stream of faults, and answers the status.
 pub fn answer_usage<W: Sink, E: Sink>(usage: &Usage, writer: &mut W, error_stream: &mut E) -> u8
-    ensures { UsageWritten usage.now result (W.contents writer.old) (W.contents writer.new) (W.has_failed writer.old) (W.has_failed writer.new)
-        (E.contents error_stream.old) (E.contents error_stream.new) (E.has_failed error_stream.old) (E.has_failed error_stream.new) }
+    ensures { UsageWritten usage.now result
+        (streams_of (stream_of W.contents W.has_failed writer.old) (stream_of E.contents E.has_failed error_stream.old))
+        (streams_of (stream_of W.contents W.has_failed writer.new)
+        (stream_of E.contents E.has_failed error_stream.new)) }
 {
     match usage {
         Usage::Help(text) => match write_text(writer, text.as_str().as_bytes()) {

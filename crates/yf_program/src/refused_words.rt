@@ -3,7 +3,7 @@
 /// The refusal of words that name no command.
 pub const NO_COMMAND: &str = "error: a command is missing
 
-Usage: yamlfmt <COMMAND>
+Usage: yamlfmt [OPTIONS] <COMMAND>
 
 For more information, try '--help'.
 ";

@@ -1,6 +1,6 @@
 //! What the program prints for a fault, and the status with which it then ends.
-ghost use Rattle.std.specs.Prelude.{◌≡◌, ◌⊎◌};
-ghost use Rattle.yf_lines.specs.Output.{TextWritten, Wrote, Broke};
+ghost use Rattle.std.specs.Prelude.{◌≡◌};
+ghost use Rattle.yf_rules.specs.Runs.ByteStream.{WriteEnds, WrittenOrFailed, stream_of};
 ghost use Rattle.yf_program.specs.Report.{fault_line, fault_status, refusal_line};
 
 use crate::shown::write_shown;
@@ -17,10 +17,8 @@ use yf_lines::watched::Sink;
 /// taken.
 pub fn report<E: Sink>(fault: &Fault, error_stream: &mut E) -> u8
     ensures status { result ≡ fault_status fault.now }
-    ensures line { Wrote (E.contents error_stream.old) (E.contents error_stream.new)
-        (E.has_failed error_stream.old) (E.has_failed error_stream.new) (fault_line fault.now)
-        ⊎ Broke (E.contents error_stream.old) (E.contents error_stream.new)
-        (E.has_failed error_stream.new) (fault_line fault.now) }
+    ensures line { WrittenOrFailed (stream_of E.contents E.has_failed error_stream.old)
+        (stream_of E.contents E.has_failed error_stream.new) (fault_line fault.now) }
 {
     let _ = write_line(fault, error_stream);
     status_of(fault)
@@ -43,8 +41,8 @@ fn status_of(fault: &Fault) -> u8
 }
 
 fn write_line<E: Sink>(fault: &Fault, stream: &mut E) -> Result<(), Fault>
-    ensures { TextWritten (E.contents stream.old) (E.contents stream.new)
-        (E.has_failed stream.old) (E.has_failed stream.new) (fault_line fault.now) result }
+    ensures { WriteEnds (stream_of E.contents E.has_failed stream.old) (stream_of E.contents E.has_failed stream.new)
+        (fault_line fault.now) result }
 {
     match fault {
         Fault::NotUtf8 { offset } => write_bad_byte(*offset, stream),
@@ -64,8 +62,8 @@ fn write_line<E: Sink>(fault: &Fault, stream: &mut E) -> Result<(), Fault>
 
 // Writes the line of a wrong key of the settings.
 fn write_config<E: Sink>(key: &str, stream: &mut E) -> Result<(), Fault>
-    ensures { TextWritten (E.contents stream.old) (E.contents stream.new)
-        (E.has_failed stream.old) (E.has_failed stream.new) (fault_line (Fault.Config key.now)) result }
+    ensures { WriteEnds (stream_of E.contents E.has_failed stream.old) (stream_of E.contents E.has_failed stream.new)
+        (fault_line (Fault.Config key.now)) result }
 {
     write_text(stream, b"config: ")?;
     write_shown(stream, key)?;
@@ -73,8 +71,8 @@ fn write_config<E: Sink>(key: &str, stream: &mut E) -> Result<(), Fault>
 }
 
 fn write_refusal<E: Sink>(place: &Position, reason: &str, stream: &mut E) -> Result<(), Fault>
-    ensures { TextWritten (E.contents stream.old) (E.contents stream.new)
-        (E.has_failed stream.old) (E.has_failed stream.new) (refusal_line place.now reason.now) result }
+    ensures { WriteEnds (stream_of E.contents E.has_failed stream.old) (stream_of E.contents E.has_failed stream.new)
+        (refusal_line place.now reason.now) result }
 {
     let mut line_buffer = Buffer::new();
     let mut column_buffer = Buffer::new();
@@ -84,8 +82,8 @@ fn write_refusal<E: Sink>(place: &Position, reason: &str, stream: &mut E) -> Res
 }
 
 fn write_bad_byte<E: Sink>(offset: usize, stream: &mut E) -> Result<(), Fault>
-    ensures { TextWritten (E.contents stream.old) (E.contents stream.new)
-        (E.has_failed stream.old) (E.has_failed stream.new) (fault_line (Fault.NotUtf8 offset)) result }
+    ensures { WriteEnds (stream_of E.contents E.has_failed stream.old) (stream_of E.contents E.has_failed stream.new)
+        (fault_line (Fault.NotUtf8 offset)) result }
 {
     let mut buffer = Buffer::new();
     let digits = buffer.format(offset);

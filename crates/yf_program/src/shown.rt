@@ -1,6 +1,6 @@
 //! A text from elsewhere within a message: control characters in it are shown by their numbers, so that none reaches a terminal.
 ghost use Rattle.std.specs.Prelude.{◌≡◌, ◌<◌};
-ghost use Rattle.yf_lines.specs.Output.{TextWritten};
+ghost use Rattle.yf_rules.specs.Runs.ByteStream.{WriteEnds, stream_of};
 ghost use Rattle.yf_program.specs.Shown.{shown, shown_byte, shown_digit, shown_number};
 
 use std::alloc::{AllocError, Global};
@@ -13,8 +13,8 @@ const LEAD: u8 = 0xC2;
 
 /// Writes a text with each control character as `\x` and two hexadecimal digits. No memory is taken.
 pub fn write_shown<W: Sink>(writer: &mut W, text: &str) -> Result<(), Fault>
-    ensures { TextWritten (W.contents writer.old) (W.contents writer.new)
-        (W.has_failed writer.old) (W.has_failed writer.new) (shown text.now) result }
+    ensures { WriteEnds (stream_of W.contents W.has_failed writer.old) (stream_of W.contents W.has_failed writer.new)
+        (shown text.now) result }
 {
     let mut before = 0;
     for byte in text.as_bytes() {
@@ -39,8 +39,8 @@ pub fn shown_text(alloc: Global, text: &str) -> Result<String, AllocError> {
 
 // Writes what is shown for a byte after another one.
 fn write_byte<W: Sink>(writer: &mut W, before: u8, byte: u8) -> Result<(), Fault>
-    ensures { TextWritten (W.contents writer.old) (W.contents writer.new)
-        (W.has_failed writer.old) (W.has_failed writer.new) (shown_byte before byte) result }
+    ensures { WriteEnds (stream_of W.contents W.has_failed writer.old) (stream_of W.contents W.has_failed writer.new)
+        (shown_byte before byte) result }
 {
     if byte < 32 {
         return write_number(writer, byte);
@@ -62,8 +62,8 @@ fn write_byte<W: Sink>(writer: &mut W, before: u8, byte: u8) -> Result<(), Fault
 
 // Writes a character by its number.
 fn write_number<W: Sink>(writer: &mut W, number: u8) -> Result<(), Fault>
-    ensures { TextWritten (W.contents writer.old) (W.contents writer.new)
-        (W.has_failed writer.old) (W.has_failed writer.new) (shown_number number) result }
+    ensures { WriteEnds (stream_of W.contents W.has_failed writer.old) (stream_of W.contents W.has_failed writer.new)
+        (shown_number number) result }
 {
     write_text(
         writer,

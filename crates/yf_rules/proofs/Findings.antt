@@ -5,3 +5,7 @@ pub mod FindingLemmas
 -- in what formatting gives, rules find none of what the house style fixes
 pub mod MendedFindings
 pub mod AllRulesLemmas
+-- in the reading of a text each set is exact, and the findings are one list
+pub mod TextSets
+pub mod SortedLists
+pub mod UniqueFindings

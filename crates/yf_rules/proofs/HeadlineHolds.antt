@@ -50,7 +50,7 @@ rendered_holds laws s known t gave within utf8 bytes (Err e) kept fits = tt
 -- What rules find in what formatting gives.
 
 one_rule : RulesAreMended → {src : Table} {reading : Lists} {style : Style} {findings : List Finding} (rule : StyleRule) → IsFormatted src reading style → RuleFindings (definition_of rule) src reading style findings → NoneFixable findings
-one_rule mended {src} {reading} {style} {findings} rule w (at_places {places = places} number id fixable n i f (found_at {os = os} at are) lines) =
+one_rule mended {src} {reading} {style} {findings} rule w (at_places {places = places} number id fixable n i f (found_at {os = os} at are) ascend lines) =
     rule_silent number id fixable (definition_of rule).fixable places places findings f refl
     (λ fixed v. places_none src.text places (subst (λ z. PlacesOf src.text z places) (mended rule fixed src reading style v os at) are)) lines w
 

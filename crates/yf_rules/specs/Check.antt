@@ -10,16 +10,17 @@ use Rattle.yf_events.specs.declared.lists.Lists.{Lists}
 use Rattle.yf_forms.specs.declared.style.Style.{Style}
 use Rattle.yf_rules.specs.declared.finding.Finding.{Finding}
 use Rattle.yf_rule_sets.specs.Definition.{RuleDefinition}
-use Rattle.yf_rule_sets.specs.RuleSets.Places.{FoundAt}
+use Rattle.yf_rule_sets.specs.RuleSets.Places.{Ascending, FoundAt}
 
 -- the finding at a place
 abbrev pub finding_at : ℕ → Bor (List ℕ) → Bool → Position → Finding
 finding_at number id fixable place = record { place = place; number = number; id = id; fixable = fixable }
 
--- the findings of a rule with this number and name: those at the places that it finds, in the same order
+-- the findings of a rule with this number and name: one at each position that it finds, in the order of the text. The
+-- positions ascend strictly, so none comes twice
 pub data FindingsOf (rule_number : ℕ) (rule_id : List ℕ) (is_fixable : Bool) (Finds : List Position → Type 0) (findings : List Finding) : Type 0 where
   at_places : {places : List Position} (number : ℕ) (id : Bor (List ℕ)) (fixable : Bool) → number ≡ rule_number → id.now ≡ rule_id
-      → fixable ≡ is_fixable → Finds places → findings ≡ map (finding_at number id fixable) places
+      → fixable ≡ is_fixable → Finds places → Ascending places → findings ≡ map (finding_at number id fixable) places
       → FindingsOf rule_number rule_id is_fixable Finds findings
 
 -- the same of a rule with this definition, in a text with this reading under this style

@@ -4,6 +4,8 @@ pub mod Check
 pub mod Findings
 pub mod Headline
 pub mod NothingToFix
+pub mod TreeSets
+pub mod UniqueFindings
 pub mod CheckAfterFormat
 -- what the runs are given, and what they give
 pub mod Runs

@@ -6,7 +6,7 @@ ghost use Rattle.yf_rules.specs.Asked.{asked};
 ghost use Rattle.yf_rules.specs.Check.{CheckAnswer, RuleFindings, SortedFrom, finding_at, key_cmp, sort_key};
 ghost use Rattle.yf_laws.specs.Mended.{IsFormatted};
 ghost use Rattle.yf_rules.specs.NothingToFix.{NoneFixable};
-ghost use Rattle.yf_rule_sets.specs.RuleSets.Places.{FoundAt};
+ghost use Rattle.yf_rule_sets.specs.RuleSets.Places.{Ascending, FoundAt};
 
 use crate::asked::is_among;
 use crate::finding::Finding;
@@ -24,7 +24,7 @@ fn about_of(rule: &Box<dyn Rule>) -> About
     rule.about()
 }
 
-/// The places that a rule finds.
+/// Returns the positions that a rule finds, in the order of the text, each once.
 fn positions_by(
     alloc: Global,
     rule: &Box<dyn Rule>,
@@ -33,6 +33,7 @@ fn positions_by(
     style: &Style,
 ) -> Result<Vec<Position>, Fault>
     ensures refused { IfErr result (λ fault. fault ≡ Fault.Memory) }
+    ensures ascending { IfOk result (λ places. Ascending places.items) }
     ensures found { IfOk result (λ places. FoundAt src.now.text
         ((definition rule.now).faults src.now reading.now style.now) places.items) }
     ensures mends { IfOk result (λ places. (definition rule.now).fixable ≡ true
@@ -56,7 +57,7 @@ fn findings_at(alloc: Global, about: About, places: &[Position]) -> Result<Vec<F
         .collect(alloc)
 }
 
-/// The findings of one rule.
+/// Returns the findings of one rule: one at each position that it finds, in the order of the text.
 fn findings_of(
     alloc: Global,
     rule: &Box<dyn Rule>,
@@ -124,9 +125,9 @@ fn add(all: &mut Vec<Finding>, mut findings: Vec<Finding>) -> Result<(), Fault>
     }
 }
 
-/// All findings of the rules but those whose names are among the ones that are left out, once for each box, in a text with this
-/// reading, sorted by line, column and number. Findings that are alike in all three keep the order of the boxes. A name that no
-/// rule has leaves none out.
+/// Returns the findings of the rules in a text with this reading, without those of the rules whose names are in
+/// `without`. Each box reports a position once. The findings are sorted by line, column and number; those that are
+/// equal in all three keep the order of the boxes. A name that no rule has leaves none out.
 ///
 /// # Errors
 ///

@@ -1,7 +1,7 @@
 //! Whether a text is its own formatting, and where it differs from that first. The contracts are told in `Compare` of the specs.
 ghost use Rattle.std.specs.Prelude.{◌≡◌, ◌≢◌, ◌<◌, true, IfErr, IfOk, IfSome, OnOk, MatchOption, MatchResult};
-ghost use Rattle.yf_lines.specs.Output.{TextWritten};
 ghost use Rattle.yf_stream.specs.StreamReader.{StreamFault};
+ghost use Rattle.yf_rules.specs.Runs.ByteStream.{WriteEnds, stream_of};
 ghost use Rattle.yf_rules.specs.Runs.Compare.{CompareRun, Difference, DifferenceIn, DifferAt, DiffersFirst, IsClean, RefusedCompare, SameUpTo, difference_line};
 ghost use Rattle.yf_rules.specs.Runs.Run.{Gave, Keeps, RefusedText};
 
@@ -34,14 +34,13 @@ pub fn run_fmt_check<R: Source, W: Sink>(
     writer: &mut W,
     style: &Style,
 ) -> Result<bool, Fault>
-    ensures compared { IfOk result (λ same. CompareRun style.now (R.remaining reader.old) (W.contents writer.old) (W.contents writer.new)
-        (W.has_failed writer.old) (W.has_failed writer.new) same) }
+    ensures compared { IfOk result (λ same. CompareRun style.now (stream_of R.remaining R.has_failed reader.old)
+        (stream_of W.contents W.has_failed writer.old) (stream_of W.contents W.has_failed writer.new) same) }
     ensures clean { IfOk result (λ same. same ≡ true → IfSome (R.remaining reader.old) (IsClean style.now)) }
     ensures reader { OnOk result (R.has_failed reader.new ≡ R.has_failed reader.old) }
     ensures bytes { MatchResult result (λ _. Gave (R.remaining reader.old) kept.new.items) (Keeps (R.remaining reader.old) kept.new.items) }
-    ensures refusals { IfErr result (λ fault. RefusedCompare style.now (R.remaining reader.old) (R.has_failed reader.old)
-        (R.has_failed reader.new)
-        (W.contents writer.old) (W.contents writer.new) (W.has_failed writer.old) (W.has_failed writer.new) fault) }
+    ensures refusals { IfErr result (λ fault. RefusedCompare style.now (stream_of R.remaining R.has_failed reader.old) (stream_of R.remaining R.has_failed reader.new)
+        (stream_of W.contents W.has_failed writer.old) (stream_of W.contents W.has_failed writer.new) fault) }
 {
     match read_difference(alloc, reader, kept, style)? {
         None => Ok(true),
@@ -64,8 +63,7 @@ fn read_difference<R: Source>(
     ensures difference { IfOk result (Difference style.now (R.remaining reader.old)) }
     ensures reader { OnOk result (R.has_failed reader.new ≡ R.has_failed reader.old) }
     ensures bytes { MatchResult result (λ _. Gave (R.remaining reader.old) kept.new.items) (Keeps (R.remaining reader.old) kept.new.items) }
-    ensures refusals { IfErr result (λ fault. RefusedText (R.remaining reader.old) (R.has_failed reader.old)
-        (R.has_failed reader.new) fault) }
+    ensures refusals { IfErr result (λ fault. RefusedText (stream_of R.remaining R.has_failed reader.old) (stream_of R.remaining R.has_failed reader.new) fault) }
 {
     let bytes = read_all(alloc, reader, INPUT_LIMIT)?;
     *kept = bytes;
@@ -136,8 +134,8 @@ fn after_same(text: &str, other: &str, at: usize) -> Option<usize>
 
 // Writes the line of a text that is not its own formatting.
 fn write_difference<W: Sink>(place: Position, writer: &mut W) -> Result<(), Fault>
-    ensures { TextWritten (W.contents writer.old) (W.contents writer.new)
-        (W.has_failed writer.old) (W.has_failed writer.new) (difference_line place) result }
+    ensures { WriteEnds (stream_of W.contents W.has_failed writer.old) (stream_of W.contents W.has_failed writer.new)
+        (difference_line place) result }
 {
     let mut line_buffer = Buffer::new();
     let mut column_buffer = Buffer::new();

@@ -1,6 +1,7 @@
 //! How a text differs from its formatting, as a unified diff. The contracts are told in `specs/Runs/Diffed`.
 ghost use Rattle.std.specs.Prelude.{◌≡◌, true, IfErr, IfOk, IfSome, MatchResult, OnOk};
 ghost use Rattle.yf_stream.specs.StreamReader.{StreamFault};
+ghost use Rattle.yf_rules.specs.Runs.ByteStream.{stream_of};
 ghost use Rattle.yf_rules.specs.Runs.Compare.{IsClean};
 ghost use Rattle.yf_rules.specs.Runs.Diffed.{DiffIn, DiffOf, DiffRun, RefusedDiff};
 ghost use Rattle.yf_rules.specs.Runs.Run.{Gave, Keeps, RefusedText};
@@ -30,14 +31,13 @@ pub fn run_fmt_diff<R: Source, W: Sink>(
     writer: &mut W,
     style: &Style,
 ) -> Result<bool, Fault>
-    ensures diffed { IfOk result (λ same. DiffRun style.now name.now (R.remaining reader.old) (W.contents writer.old) (W.contents writer.new)
-        (W.has_failed writer.old) (W.has_failed writer.new) same) }
+    ensures diffed { IfOk result (λ same. DiffRun style.now name.now (stream_of R.remaining R.has_failed reader.old)
+        (stream_of W.contents W.has_failed writer.old) (stream_of W.contents W.has_failed writer.new) same) }
     ensures clean { IfOk result (λ same. same ≡ true → IfSome (R.remaining reader.old) (IsClean style.now)) }
     ensures reader { OnOk result (R.has_failed reader.new ≡ R.has_failed reader.old) }
     ensures bytes { MatchResult result (λ _. Gave (R.remaining reader.old) kept.new.items) (Keeps (R.remaining reader.old) kept.new.items) }
-    ensures refusals { IfErr result (λ fault. RefusedDiff style.now name.now (R.remaining reader.old) (R.has_failed reader.old)
-        (R.has_failed reader.new)
-        (W.contents writer.old) (W.contents writer.new) (W.has_failed writer.old) (W.has_failed writer.new) fault) }
+    ensures refusals { IfErr result (λ fault. RefusedDiff style.now name.now (stream_of R.remaining R.has_failed reader.old) (stream_of R.remaining R.has_failed reader.new)
+        (stream_of W.contents W.has_failed writer.old) (stream_of W.contents W.has_failed writer.new) fault) }
 {
     let diff = read_diff(alloc, name, reader, kept, style)?;
     if diff.is_empty() {
@@ -60,8 +60,7 @@ fn read_diff<R: Source>(
     ensures diff { IfOk result (λ diff. DiffOf style.now name.now (R.remaining reader.old) diff.items) }
     ensures reader { OnOk result (R.has_failed reader.new ≡ R.has_failed reader.old) }
     ensures bytes { MatchResult result (λ _. Gave (R.remaining reader.old) kept.new.items) (Keeps (R.remaining reader.old) kept.new.items) }
-    ensures refusals { IfErr result (λ fault. RefusedText (R.remaining reader.old) (R.has_failed reader.old)
-        (R.has_failed reader.new) fault) }
+    ensures refusals { IfErr result (λ fault. RefusedText (stream_of R.remaining R.has_failed reader.old) (stream_of R.remaining R.has_failed reader.new) fault) }
 {
     let bytes = read_all(alloc, reader, INPUT_LIMIT)?;
     *kept = bytes;

@@ -1,13 +1,19 @@
 //! What holds of every text, for every style.
 ghost use Rattle.yf_rules.specs.AllRules.{AllAreAsked, RulesAreListed};
 ghost use Rattle.yf_laws.specs.Formattings.{RefusedTextsHaveNoReading, StandardTextsAreFormatted};
+ghost use Rattle.yf_laws.specs.Laws.{ReadingsAreOfTexts};
+ghost use Rattle.yf_laws.specs.Settings.CommentBlocks.{CommentsStayInBlocks};
+ghost use Rattle.yf_laws.specs.Settings.DocumentStarts.{StartsAreKept};
+ghost use Rattle.yf_laws.specs.Settings.HiddenCharacters.{HiddenAreEscaped, HiddenAreFound, QuotesAreSpelled};
 ghost use Rattle.yf_rules.specs.CheckAfterFormat.{FormattedTextsAreClean};
+ghost use Rattle.yf_rules.specs.TreeSets.{SetsOfTextsAreExact};
+ghost use Rattle.yf_rules.specs.UniqueFindings.{FindingsAreOne};
 ghost use Rattle.yf_standard.specs.Acceptance.{FaultsTellOfTheStandard, StandardStreamsMeanOne, StandardTextsAreRead};
 ghost use Rattle.yf_standard.specs.Laws.{ReadTextsAreStandard};
 ghost use Rattle.yf_stream.specs.HasReading.{WellFormedTextsHaveReadings};
 ghost use Rattle.yf_stream.specs.Laws.{ReadTextsHaveNoFault, ReadingsAreOne};
 
-use yf_laws::every_text::{rules_are_mended, texts_are_read_and_formatted};
+use yf_laws::every_text::{rules_are_mended, settings_are_kept, texts_are_read_and_formatted};
 
 /// The laws of reading and of formatting, of every text and every style. It does nothing: its contract is what it is for.
 ///
@@ -16,7 +22,11 @@ use yf_laws::every_text::{rules_are_mended, texts_are_read_and_formatted};
 /// that must hold besides (sections 5.7, 6.8, 6.9 and 7.1). Without the reading rules they derive it too. A refusal tells which
 /// of the two is wanting. A text has one reading alone. Where it has one, `read_stream` refuses it for want of memory alone; where
 /// that refuses it for another cause, it has none. Each such text has a formatting in each style, which is such a text too, keeps
-/// content and comments, is its own formatting, and has nothing at fault that the house style fixes.
+/// content and comments, is its own formatting, and has nothing at fault that the house style fixes. It begins its documents as
+/// `document_start` says, spells quoted scalars as `invisible` says, and keeps comments in their blocks if `comments` says so.
+///
+/// Each reading of a text has trees, its comments and its offsets are in the order of the text, and its scalars can be
+/// spelled in their styles. In such a reading each rule finds exactly its set, and a check has only one list of findings.
 pub fn headline()
     ensures standard { StandardTextsAreRead }
     ensures meant { StandardStreamsMeanOne }
@@ -24,13 +34,22 @@ pub fn headline()
     ensures told { FaultsTellOfTheStandard }
     ensures derived { WellFormedTextsHaveReadings }
     ensures one { ReadingsAreOne }
+    ensures textual { ReadingsAreOfTexts }
     ensures accepted { ReadTextsHaveNoFault }
     ensures refused { RefusedTextsHaveNoReading }
     ensures formatted { StandardTextsAreFormatted }
+    ensures starts { StartsAreKept }
+    ensures spelled { QuotesAreSpelled }
+    ensures escaped { HiddenAreEscaped }
+    ensures found { HiddenAreFound }
+    ensures blocks { CommentsStayInBlocks }
     ensures clean { FormattedTextsAreClean }
+    ensures exact { SetsOfTextsAreExact }
+    ensures unique { FindingsAreOne }
     ensures listed { RulesAreListed }
     ensures asked { AllAreAsked }
 {
     texts_are_read_and_formatted();
     rules_are_mended();
+    settings_are_kept();
 }

@@ -1,6 +1,7 @@
 //! Reading a whole input.
 ghost use Rattle.std.specs.Prelude.{◌≡◌, ◌≤◌, vec_len, IfSome, IfOk, IfErr, OnOk};
 ghost use Rattle.std.specs.Io.KnownBytes.{IsAtEnd};
+ghost use Rattle.yf_rules.specs.Runs.ByteStream.{stream_of};
 ghost use Rattle.yf_rules.specs.Runs.Input.{ReadRefusal};
 
 use std::alloc::Global;
@@ -17,7 +18,7 @@ pub fn read_all<R: Source>(alloc: Global, reader: &mut R, limit: usize) -> Resul
     ensures within { IfOk result (λ bytes. vec_len bytes ≤ limit) }
     ensures works { OnOk result (R.has_failed reader.new ≡ R.has_failed reader.old) }
     ensures refused { IfErr result (λ fault.
-        ReadRefusal (R.remaining reader.old) limit (R.has_failed reader.old) (R.has_failed reader.new) fault) }
+        ReadRefusal limit (stream_of R.remaining R.has_failed reader.old) (stream_of R.remaining R.has_failed reader.new) fault) }
 {
     let mut bytes = Vec::new(alloc);
     let mut buffer = [0u8; 8192];

@@ -1,13 +1,13 @@
 //! The runs of the program, over any reader and any writer. Their contracts are told in `Run` of the specs. Each keeps the bytes that
 //! it has read for its caller, who may tell more of a fault with them.
 ghost use Rattle.std.specs.Prelude.{◌≡◌, string_bytes, IfErr, IfOk, MatchResult, OnOk};
-ghost use Rattle.yf_lines.specs.Output.{TextWritten};
 ghost use Rattle.yf_rules.specs.Asked.{asked};
 ghost use Rattle.yf_rules.specs.Check.{CheckAnswer, RuleFindings};
 ghost use Rattle.yf_stream.specs.Refusal.{IsStreamFault};
 ghost use Rattle.yf_stream.specs.StreamReader.{StreamFault};
 ghost use Rattle.yf_rules.specs.Findings.{FoundIn};
-ghost use Rattle.yf_rules.specs.Runs.Run.{Gave, Keeps, NotationWritten, PrefixWritten, RefusedCheck, RefusedFmt, RefusedText, FormattingGiven, FormattingWritten, FindingsWritten};
+ghost use Rattle.yf_rules.specs.Runs.ByteStream.{WriteEnds, stream_of};
+ghost use Rattle.yf_rules.specs.Runs.Run.{Gave, Keeps, NotationWritten, RefusedEvents, RefusedCheck, RefusedFmt, RefusedText, FormattingGiven, FormattingWritten, FindingsWritten};
 ghost use Rattle.yf_rules.specs.Runs.Run.{finding_line, findings_text, has_any};
 
 use crate::check::check;
@@ -44,12 +44,12 @@ pub fn run_events<R: Source, W: Sink>(
     kept: &mut Vec<u8>,
     writer: &mut W,
 ) -> Result<(), Fault>
-    ensures events { OnOk result (NotationWritten (R.remaining reader.old) (W.contents writer.old) (W.contents writer.new)
-        (W.has_failed writer.old) (W.has_failed writer.new)) }
+    ensures events { OnOk result (NotationWritten (stream_of R.remaining R.has_failed reader.old)
+        (stream_of W.contents W.has_failed writer.old) (stream_of W.contents W.has_failed writer.new)) }
     ensures reader { OnOk result (R.has_failed reader.new ≡ R.has_failed reader.old) }
     ensures bytes { MatchResult result (λ _. Gave (R.remaining reader.old) kept.new.items) (Keeps (R.remaining reader.old) kept.new.items) }
-    ensures refusals { IfErr result (λ fault. PrefixWritten (R.remaining reader.old) (R.has_failed reader.old) (R.has_failed reader.new)
-        (W.contents writer.old) (W.contents writer.new) (W.has_failed writer.old) (W.has_failed writer.new) fault) }
+    ensures refusals { IfErr result (λ fault. RefusedEvents (stream_of R.remaining R.has_failed reader.old) (stream_of R.remaining R.has_failed reader.new)
+        (stream_of W.contents W.has_failed writer.old) (stream_of W.contents W.has_failed writer.new) fault) }
 {
     let bytes = read_all(alloc, reader, INPUT_LIMIT)?;
     *kept = bytes;
@@ -81,14 +81,15 @@ pub fn run_check<R: Source, W: Sink>(
     ensures findings { IfOk result (λ any. FindingsWritten (λ src reading findings. CheckAnswer
         (λ rule found. RuleFindings (definition rule) src reading style.now found)
         (asked (λ rule. definition rule) without.now rules.now) findings)
-        style.now (R.remaining reader.old) (W.contents writer.old) (W.contents writer.new) (W.has_failed writer.old) (W.has_failed writer.new) any) }
+        style.now (stream_of R.remaining R.has_failed reader.old)
+        (stream_of W.contents W.has_failed writer.old) (stream_of W.contents W.has_failed writer.new) any) }
     ensures reader { OnOk result (R.has_failed reader.new ≡ R.has_failed reader.old) }
     ensures bytes { MatchResult result (λ _. Gave (R.remaining reader.old) kept.new.items) (Keeps (R.remaining reader.old) kept.new.items) }
     ensures refusals { IfErr result (λ fault. RefusedCheck
         (λ src reading findings. CheckAnswer (λ rule found. RuleFindings (definition rule) src reading style.now found)
         (asked (λ rule. definition rule) without.now rules.now) findings)
-        style.now (R.remaining reader.old) (R.has_failed reader.old) (R.has_failed reader.new)
-        (W.contents writer.old) (W.contents writer.new) (W.has_failed writer.old) (W.has_failed writer.new) fault) }
+        style.now (stream_of R.remaining R.has_failed reader.old) (stream_of R.remaining R.has_failed reader.new)
+        (stream_of W.contents W.has_failed writer.old) (stream_of W.contents W.has_failed writer.new) fault) }
 {
     let bytes = read_all(alloc, reader, INPUT_LIMIT)?;
     *kept = bytes;
@@ -138,8 +139,8 @@ fn has_any(findings: &[Finding]) -> bool
 
 // Writes a line for each finding.
 fn write_findings<W: Sink>(findings: &[Finding], writer: &mut W) -> Result<(), Fault>
-    ensures { TextWritten (W.contents writer.old) (W.contents writer.new)
-        (W.has_failed writer.old) (W.has_failed writer.new) (findings_text findings.now) result }
+    ensures { WriteEnds (stream_of W.contents W.has_failed writer.old) (stream_of W.contents W.has_failed writer.new)
+        (findings_text findings.now) result }
 {
     for finding in findings {
         write_finding(finding, writer)?;
@@ -148,8 +149,8 @@ fn write_findings<W: Sink>(findings: &[Finding], writer: &mut W) -> Result<(), F
 }
 
 fn write_finding<W: Sink>(finding: &Finding, writer: &mut W) -> Result<(), Fault>
-    ensures { TextWritten (W.contents writer.old) (W.contents writer.new)
-        (W.has_failed writer.old) (W.has_failed writer.new) (finding_line finding.now) result }
+    ensures { WriteEnds (stream_of W.contents W.has_failed writer.old) (stream_of W.contents W.has_failed writer.new)
+        (finding_line finding.now) result }
 {
     let mut line_buffer = Buffer::new();
     let mut column_buffer = Buffer::new();
@@ -170,13 +171,12 @@ pub fn run_fmt<R: Source, W: Sink>(
     writer: &mut W,
     style: &Style,
 ) -> Result<(), Fault>
-    ensures formatted { OnOk result (FormattingWritten style.now (R.remaining reader.old) (W.contents writer.old) (W.contents writer.new)
-        (W.has_failed writer.old) (W.has_failed writer.new)) }
+    ensures formatted { OnOk result (FormattingWritten style.now (stream_of R.remaining R.has_failed reader.old)
+        (stream_of W.contents W.has_failed writer.old) (stream_of W.contents W.has_failed writer.new)) }
     ensures reader { OnOk result (R.has_failed reader.new ≡ R.has_failed reader.old) }
     ensures bytes { MatchResult result (λ _. Gave (R.remaining reader.old) kept.new.items) (Keeps (R.remaining reader.old) kept.new.items) }
-    ensures refusals { IfErr result (λ fault. RefusedFmt style.now (R.remaining reader.old) (R.has_failed reader.old)
-        (R.has_failed reader.new)
-        (W.contents writer.old) (W.contents writer.new) (W.has_failed writer.old) (W.has_failed writer.new) fault) }
+    ensures refusals { IfErr result (λ fault. RefusedFmt style.now (stream_of R.remaining R.has_failed reader.old) (stream_of R.remaining R.has_failed reader.new)
+        (stream_of W.contents W.has_failed writer.old) (stream_of W.contents W.has_failed writer.new) fault) }
 {
     let formatted = read_formatted(alloc, reader, kept, style)?;
     write_text(writer, formatted.as_str().as_bytes())
@@ -194,8 +194,7 @@ pub fn read_formatted<R: Source>(
     ensures formatted { IfOk result (λ formatted. FormattingGiven style.now (R.remaining reader.old) (string_bytes formatted)) }
     ensures reader { OnOk result (R.has_failed reader.new ≡ R.has_failed reader.old) }
     ensures bytes { MatchResult result (λ _. Gave (R.remaining reader.old) kept.new.items) (Keeps (R.remaining reader.old) kept.new.items) }
-    ensures refusals { IfErr result (λ fault. RefusedText (R.remaining reader.old) (R.has_failed reader.old)
-        (R.has_failed reader.new) fault) }
+    ensures refusals { IfErr result (λ fault. RefusedText (stream_of R.remaining R.has_failed reader.old) (stream_of R.remaining R.has_failed reader.new) fault) }
 {
     let bytes = read_all(alloc, reader, INPUT_LIMIT)?;
     *kept = bytes;

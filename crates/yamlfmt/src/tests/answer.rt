@@ -14,12 +14,14 @@ use yf_rules::rule::Rule;
 use yf_rules::with_rules::{WithRules, with_all_rules};
 
 /// The files, and what they hold.
-static FILES: [(&str, &[u8]); 11] = [
+static FILES: [(&str, &[u8]); 13] = [
     ("good.toml", b"quotes = \"single\"\n"),
     ("bad.toml", b"indent = 9\na = 1\n"),
     ("no.toml", b"\xFF"),
     ("a.yaml", b"---\na: \"x\" # c\n"),
     ("refused.yaml", b"- a\n- b: *x\n"),
+    ("deep.yaml", b"---\na:\n    b: 1\n    c: |\n       x\n"),
+    ("é\t\"\u{9B}.yaml", b"a\n"),
     ("e.yaml", b"a\xC3\xA9\n"),
     ("at0", b"\xF0\x9F\x98"),
     ("at1", b"a\xFF"),

@@ -15,7 +15,7 @@ pub type Row = (
     &'static str,
 );
 
-pub static ROWS: [Row; 44] = [
+pub static ROWS: [Row; 47] = [
     ("fmt", 0, "---\n- \"a\"\n", "", "- ", BEFORE),
     (
         "fmt --config good.toml",
@@ -134,6 +134,15 @@ pub static ROWS: [Row; 44] = [
     ),
     ("--help", 0, OVERVIEW, "", "", BEFORE),
     // bytes that are a text, and bytes that are none
+    // heads of diffs quote names as Git does
+    (
+        "fmt --diff é\t\"\u{9B}.yaml",
+        1,
+        "--- \"\\303\\251\\t\\\"\\302\\233.yaml\"\n+++ \"\\303\\251\\t\\\"\\302\\233.yaml\"\n@@ -1 +1,2 @@\n+---\n a\n",
+        "",
+        "é\t\"\u{9B}.yaml ",
+        BEFORE,
+    ),
     (
         "events e.yaml",
         0,
@@ -230,8 +239,16 @@ pub static ROWS: [Row; 44] = [
         "events --explain refused.yaml",
         2,
         "",
-        "2:6 refused: unknown-alias\n  no anchor of this name stands before it in this document\n  | - b: *x\n  |      ^\n",
+        "2:6 refused: unknown-alias\n  no anchor with this name comes before it in this document\n  | - b: *x\n  |      ^\n",
         "refused.yaml ",
+        BEFORE,
+    ),
+    (
+        "--explain events none.yaml",
+        3,
+        "",
+        "read failed\n  none.yaml: no such file\n",
+        "none.yaml ",
         BEFORE,
     ),
     (
@@ -267,10 +284,18 @@ pub static ROWS: [Row; 44] = [
         BEFORE,
     ),
     (
+        "check --explain deep.yaml",
+        1,
+        "3:5 indentation (fixable)\n4:8 indentation (fixable)\n",
+        "  3:5 indentation: expected at column 3; fmt indents it as the settings `indent` and `seq_indent` say\n  4:8 indentation: expected its lines at column 7; fmt indents it as the settings `indent` and `seq_indent` say\n",
+        "deep.yaml ",
+        BEFORE,
+    ),
+    (
         "check --explain - refused.yaml",
         2,
         "-:1:1 document-start (fixable)\n-:1:3 quoting (fixable)\n",
-        "-:   1:1 document-start: fmt writes `---` on a line of its own before it\n-:   1:3 quoting: fmt writes the quotes of the house style, or none\nrefused.yaml:2:6 refused: unknown-alias\nrefused.yaml:   no anchor of this name stands before it in this document\nrefused.yaml:   | - b: *x\nrefused.yaml:   |      ^\n",
+        "-:   1:1 document-start: fmt writes `---` on a line of its own before it\n-:   1:3 quoting: fmt writes it in the quotes of the house style\nrefused.yaml:2:6 refused: unknown-alias\nrefused.yaml:   no anchor with this name comes before it in this document\nrefused.yaml:   | - b: *x\nrefused.yaml:   |      ^\n",
         "- refused.yaml ",
         BEFORE,
     ),

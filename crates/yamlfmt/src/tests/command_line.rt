@@ -24,7 +24,7 @@ enum Wanted {
 pub const OVERVIEW: &str =
     "Prints the events of a YAML stream, checks its style and rewrites it in one house style
 
-Usage: yamlfmt <COMMAND>
+Usage: yamlfmt [OPTIONS] <COMMAND>
 
 Commands:
   events  Print the events of a YAML stream
@@ -33,11 +33,12 @@ Commands:
   help    Print this message or the help of the given subcommand(s)
 
 Options:
+      --explain  Tell more of a fault on standard error, and of a finding
   -h, --help     Print help
   -V, --version  Print version
 ";
 
-static LINES: [(&str, Wanted); 54] = [
+static LINES: [(&str, Wanted); 60] = [
     (
         "events",
         Wanted::Command(Verb::Events, "", "", false, false, false, 0),
@@ -98,7 +99,19 @@ static LINES: [(&str, Wanted); 54] = [
         "check --explain - a",
         Wanted::Command(Verb::Check, "", "-", false, false, false, 1),
     ),
+    (
+        "--explain check a",
+        Wanted::Command(Verb::Check, "", "a", false, false, false, 0),
+    ),
+    (
+        "--explain fmt --explain --write a",
+        Wanted::Command(Verb::Fmt, "", "a", true, false, false, 0),
+    ),
     ("", Wanted::Wrong),
+    ("--explain", Wanted::Wrong),
+    ("--explain --explain check a", Wanted::Wrong),
+    ("check --explain --explain a", Wanted::Wrong),
+    ("--explain a.yaml", Wanted::Wrong),
     ("a.yaml", Wanted::Wrong),
     ("print", Wanted::Wrong),
     ("--config s.toml events", Wanted::Wrong),
@@ -222,7 +235,7 @@ For more information, try '--help'.
 
   tip: a similar subcommand exists: 'events'
 
-Usage: yamlfmt <COMMAND>
+Usage: yamlfmt [OPTIONS] <COMMAND>
 
 For more information, try '--help'.
 ",
@@ -244,7 +257,7 @@ For more information, try '--help'.
         Wanted::Refused(
             "error: unrecognized subcommand 'x\\x9By'
 
-Usage: yamlfmt <COMMAND>
+Usage: yamlfmt [OPTIONS] <COMMAND>
 
 For more information, try '--help'.
 ",
@@ -262,9 +275,12 @@ fn is_text(found: &Option<OwnedText>, text: &str) -> bool {
     }
 }
 
-/// Whether a text is the name and the version, the commit or that there was none, and the logic, each on a line.
+/// Whether a text is the name and the version, the commit or that there was none, the logic, and the platform, each on a line.
 fn is_version(text: &str) -> bool {
     let Some(built) = text.strip_prefix("yamlfmt 0.2.0\n") else {
+        return false;
+    };
+    let Some(built) = built.strip_suffix("platform x86_64-linux-gnu, glibc 2.34 or newer\n") else {
         return false;
     };
     let Some(line) = built.strip_suffix("\nlogic dac8208d650f15bf\n") else {

@@ -19,6 +19,7 @@ use Rattle.yf_rule_sets.specs.Definition.{RuleDefinition}
 use Rattle.yf_rule_sets.specs.RuleSets.Places.{FoundAt}
 use Rattle.yf_rule_sets.specs.RuleSets.Places.FoundAt.{found_at}
 use Rattle.yf_rule_sets.specs.RuleOf.{definition_of}
+use Rattle.yf_rules.specs.Runs.ByteStream.{ByteStream}
 use Rattle.yf_rules.specs.Runs.Run.{CheckResult, RefusedCheck, FindingsWritten}
 
 -- each rule is listed, at its number less one
@@ -56,8 +57,8 @@ module _ (src : Table) (reading : Lists) (style : Style) where
   -- what is found by a definition, its rule finds
   rule_finds : {d : RuleDefinition} {rule : StyleRule} {found : List Finding} → IsDefinition d rule → RuleFindings d src reading style found
       → RuleFindings (definition_of rule) src reading style found
-  rule_finds is (at_places number id fixable n i f places are) =
-      at_places number id fixable (n ∙ is.number) (i ∙ is.id) (f ∙ is.fixable) (places_same is places) are
+  rule_finds is (at_places number id fixable n i f places ascend are) =
+      at_places number id fixable (n ∙ is.number) (i ∙ is.id) (f ∙ is.fixable) (places_same is places) ascend are
 
 -- the last of the values is the last of the rules
 record Last {B : Type 0} (definition : B → RuleDefinition) (bs : List B) (b : B) (rules : List StyleRule) : Type 0 where
@@ -130,23 +131,22 @@ module _ {B : Type 0} (definition : B → RuleDefinition) (bs : List B) (are : A
     mends = f.mends;
   }
 
-  pub told_by_all : {known old new : Option (List ℕ)} {before after any : Bool} → FindingsWritten ByValues style known old new before after any
-      → FindingsWritten (FoundWithout without style) style known old new before after any
+  pub told_by_all : {input before after : ByteStream} {any : Bool} → FindingsWritten ByValues style input before after any
+      → FindingsWritten (FoundWithout without style) style input before after any
   told_by_all t = record { findings = t.findings; found = found_by_all t.found; wrote = t.wrote; answer = t.answer }
 
-  pub refused_by_all : (known : Option (List ℕ)) (read_before read_after : Bool) (old new : Option (List ℕ)) (before after : Bool) (fault : Fault)
-      → RefusedCheck ByValues style known read_before read_after old new before after fault
-      → RefusedCheck (FoundWithout without style) style known read_before read_after old new before after fault
-  refused_by_all known read_before read_after old new before after WriteFailed r =
+  pub refused_by_all : (input left before after : ByteStream) (fault : Fault) → RefusedCheck ByValues style input left before after fault
+      → RefusedCheck (FoundWithout without style) style input left before after fault
+  refused_by_all input left before after WriteFailed r =
       (record { findings = r.0.findings; found = found_by_all r.0.found; broke = r.0.broke }, r.1)
-  refused_by_all known read_before read_after old new before after (NotUtf8 offset) r = r
-  refused_by_all known read_before read_after old new before after (Syntax place what) r = r
-  refused_by_all known read_before read_after old new before after (TooDeep place) r = r
-  refused_by_all known read_before read_after old new before after (UnknownHandle place) r = r
-  refused_by_all known read_before read_after old new before after (UnknownAlias place) r = r
-  refused_by_all known read_before read_after old new before after (RepeatedDirective place) r = r
-  refused_by_all known read_before read_after old new before after (BadVersion place) r = r
-  refused_by_all known read_before read_after old new before after (EscapeValue place) r = r
-  refused_by_all known read_before read_after old new before after Memory r = r
-  refused_by_all known read_before read_after old new before after ReadFailed r = r
-  refused_by_all known read_before read_after old new before after (Config key) r = r
+  refused_by_all input left before after (NotUtf8 offset) r = r
+  refused_by_all input left before after (Syntax place what) r = r
+  refused_by_all input left before after (TooDeep place) r = r
+  refused_by_all input left before after (UnknownHandle place) r = r
+  refused_by_all input left before after (UnknownAlias place) r = r
+  refused_by_all input left before after (RepeatedDirective place) r = r
+  refused_by_all input left before after (BadVersion place) r = r
+  refused_by_all input left before after (EscapeValue place) r = r
+  refused_by_all input left before after Memory r = r
+  refused_by_all input left before after ReadFailed r = r
+  refused_by_all input left before after (Config key) r = r

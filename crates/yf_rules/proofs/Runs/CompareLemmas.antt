@@ -1,5 +1,5 @@
 -- How far two texts are the same, and what the run that compares a text with its formatting has read and written.
-use Rattle.std.proofs.Common.{◌≡◌, ◌≢◌, ◌∙◌, ℕ, Bool, [], true, ◌<◌, ◌≤◌, List, length, take, refl, ap, sym, subst, ⊎_elim, arith}
+use Rattle.std.proofs.Common.{◌≡◌, ◌≢◌, ◌∙◌, ℕ, [], true, ◌<◌, ◌≤◌, List, length, take, refl, ap, sym, subst, ⊎_elim, arith}
 use Rattle.std.specs.Prelude.{Option, Some, None, Result, Ok, Err, IfOk, IfSome, MatchOption}
 use Rattle.std.proofs.Math.Seq.{take-length}
 use Rattle.std.specs.Str.{IsUtf8}
@@ -8,7 +8,6 @@ use Rattle.std.proofs.lemmas.Bool.{cases_lt}
 use Rattle.std.proofs.KnownBytes.{Appends-nil}
 use Rattle.yf_chars.specs.Text.{code, no_char}
 use Rattle.yf_chars.proofs.TextLemmas.{code_at_boundary}
-use Rattle.yf_lines.specs.Output.{Wrote}
 use Rattle.yf_lines.specs.declared.place.Position.{Position}
 use Rattle.yf_laws.specs.Format.{IsFormatting}
 use Rattle.yf_laws.specs.FormatPromises.{FormatKept}
@@ -16,6 +15,7 @@ use Rattle.yf_forms.specs.declared.style.Style.{Style}
 use Rattle.yf_laws.specs.Formattings.{FormattingsHold}
 use Rattle.yf_laws.specs.Mended.{IsMended}
 use Rattle.yf_rules.specs.declared.run.TheConstants.{INPUT_LIMIT}
+use Rattle.yf_rules.specs.Runs.ByteStream.{ByteStream, Writes}
 use Rattle.yf_rules.specs.Runs.Compare.{CompareRun, DifferAt, Difference, DifferenceIn, DiffersFirst, IsClean, SameUpTo}
 use Rattle.yf_rules.specs.Runs.Compare.DiffersFirst.{differs_first}
 use Rattle.yf_rules.specs.Runs.Run.{Gave, FormattingGiven}
@@ -85,8 +85,8 @@ pub same_is_clean : {style : Style} {known : Option (List ℕ)} → Difference s
 same_is_clean d = own_is_clean d.rendered d.first
 
 -- nothing was written
-pub wrote_nothing : (old : Option (List ℕ)) (failed : Bool) → Wrote old old failed failed []
-wrote_nothing old failed = record { appended = Appends-nil old; same = refl }
+pub wrote_nothing : (stream : ByteStream) → Writes stream stream []
+wrote_nothing stream = record { appended = Appends-nil stream.contents; same = refl }
 
-pub same_told : {style : Style} {known : Option (List ℕ)} (old : Option (List ℕ)) (failed : Bool) → Difference style known None → CompareRun style known old old failed failed true
-same_told old failed d = record { place = None; difference = d; wrote = wrote_nothing old failed; answer = refl }
+pub same_told : {style : Style} (input stream : ByteStream) → Difference style input.contents None → CompareRun style input stream stream true
+same_told input stream d = record { place = None; difference = d; wrote = wrote_nothing stream; answer = refl }

@@ -1,12 +1,12 @@
 -- What the run that tells the diff of a text and its formatting has read and written.
-use Rattle.std.proofs.Common.{◌≡◌, ℕ, ◌≤◌, Bool, true, List, [], ap, length, sym, subst}
+use Rattle.std.proofs.Common.{◌≡◌, ℕ, ◌≤◌, true, List, [], ap, length, sym, subst}
 use Rattle.std.specs.Prelude.{Option, Result, Ok, Err, IfOk, IfSome}
 use Rattle.std.specs.Str.{IsUtf8}
 use Rattle.yf_forms.specs.declared.style.Style.{Style}
-use Rattle.yf_lines.specs.Output.{Wrote}
 use Rattle.yf_laws.specs.Formattings.{FormattingsHold}
 use Rattle.yf_laws.specs.Mended.{IsMended}
 use Rattle.yf_rules.specs.declared.run.TheConstants.{INPUT_LIMIT}
+use Rattle.yf_rules.specs.Runs.ByteStream.{ByteStream, Writes}
 use Rattle.yf_rules.specs.Runs.Compare.{IsClean}
 use Rattle.yf_rules.specs.Runs.Diffed.{DiffIn, DiffOf, DiffRun, is_same}
 use Rattle.yf_rules.specs.Runs.Run.{Gave}
@@ -34,11 +34,11 @@ pub nothing_is_clean : {style : Style} {name : List ℕ} {known : Option (List �
 nothing_is_clean d none = own_is_clean d.rendered (d.told none)
 
 -- and nothing is written
-pub nothing_told : {style : Style} {name : List ℕ} {known : Option (List ℕ)} {diff : List ℕ} (old : Option (List ℕ)) (failed : Bool) → DiffOf style name known diff → diff ≡ []
-    → DiffRun style name known old old failed failed true
-nothing_told {diff = diff} old failed d none = record {
+pub nothing_told : {style : Style} {name diff : List ℕ} (input stream : ByteStream) → DiffOf style name input.contents diff → diff ≡ []
+    → DiffRun style name input stream stream true
+nothing_told {diff = diff} input stream d none = record {
   diff = diff;
   of_text = d;
-  wrote = subst (λ (text : List ℕ). Wrote old old failed failed text) (sym none) (wrote_nothing old failed);
+  wrote = subst (λ (text : List ℕ). Writes stream stream text) (sym none) (wrote_nothing stream);
   answer = sym (ap (λ (text : List ℕ). is_same text) none);
 }

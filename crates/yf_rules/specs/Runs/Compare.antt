@@ -5,7 +5,6 @@ use Rattle.std.specs.Option.{is_none}
 use Rattle.std.specs.Str.{IsCharBoundary}
 use Rattle.yf_chars.specs.Text.{code}
 use Rattle.yf_lines.specs.FaultPlaces.{IsPlaceOf}
-use Rattle.yf_lines.specs.Output.{Wrote, Broke}
 use Rattle.yf_lines.specs.declared.fault.Fault.{Fault}
 use Rattle.yf_lines.specs.declared.place.Position.{Position}
 use Rattle.yf_laws.specs.Format.{IsFormatting}
@@ -13,6 +12,7 @@ use Rattle.yf_laws.specs.FormatPromises.{FormatKept}
 use Rattle.yf_forms.specs.declared.style.Style.{Style}
 use Rattle.yf_events.specs.declared.reading.TheConstants.{LONGEST}
 use Rattle.yf_laws.specs.Mended.{IsMended}
+use Rattle.yf_rules.specs.Runs.ByteStream.{ByteStream, Writes, BreaksOff}
 use Rattle.yf_rules.specs.Runs.Run.{RefusedRun, FormattingGiven}
 
 -- the texts are the same before the offset, at which no character of either is cut
@@ -54,24 +54,23 @@ abbrev pub difference_text : Option Position → List ℕ
 difference_text None = []
 difference_text (Some place) = difference_line place
 
--- a text was read, it was answered whether it is its own formatting, and where it is not, the line with the place was written, and nothing else
-pub record CompareRun (style : Style) (known old new : Option (List ℕ)) (before after : Bool) (same : Bool) : Type 0 where
+-- A text was read, and the result is whether it is its own formatting. If it isn't, the line with the position was written, and nothing else.
+pub record CompareRun (style : Style) (input before after : ByteStream) (same : Bool) : Type 0 where
   pub place : Option Position
-  pub difference : Difference style known place
-  pub wrote : Wrote old new before after (difference_text place)
+  pub difference : Difference style input.contents place
+  pub wrote : Writes before after (difference_text place)
   pub answer : same ≡ is_none place
 
--- nothing in the text is at fault that the house style fixes
+-- Nothing in the text is at fault that the house style fixes.
 abbrev pub IsClean : Style → List ℕ → Type 0
 IsClean style text = IsMended text style
 
--- a text was read that is not its own formatting, but the writer failed, and a prefix of the line was written
-pub record BrokeOffDifference (style : Style) (known old new : Option (List ℕ)) (after : Bool) : Type 0 where
+-- A text was read that is not its own formatting, but the writer failed, and a prefix of the line was written.
+pub record BrokeOffDifference (style : Style) (input before after : ByteStream) : Type 0 where
   pub place : Position
-  pub difference : Difference style known (Some place)
-  pub broke : Broke old new after (difference_line place)
+  pub difference : Difference style input.contents (Some place)
+  pub broke : BreaksOff before after (difference_line place)
 
 -- why the run that compares is refused
-abbrev pub RefusedCompare : Style → Option (List ℕ) → Bool → Bool → Option (List ℕ) → Option (List ℕ) → Bool → Bool → Fault → Type 0
-RefusedCompare style known read_before read_after old new before after fault =
-    RefusedRun (BrokeOffDifference style known old new after) known read_before read_after old new before after fault
+abbrev pub RefusedCompare : Style → ByteStream → ByteStream → ByteStream → ByteStream → Fault → Type 0
+RefusedCompare style input left before after fault = RefusedRun (BrokeOffDifference style input before after) input left before after fault

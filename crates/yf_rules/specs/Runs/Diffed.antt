@@ -1,13 +1,13 @@
 -- How a text differs from its formatting, as a unified diff.
 use Rattle.std.specs.Prelude.{◌≡◌, ◌≢◌, ◌≤◌, ℕ, List, [], length, Bool, true, false, Option}
 use Rattle.yf_diff.specs.Diff.{AddsDiff}
-use Rattle.yf_lines.specs.Output.{Wrote, Broke}
 use Rattle.yf_lines.specs.declared.fault.Fault.{Fault}
 use Rattle.yf_laws.specs.Format.{IsFormatting}
 use Rattle.yf_laws.specs.FormatPromises.{FormatKept}
 use Rattle.yf_forms.specs.declared.style.Style.{Style}
 use Rattle.yf_events.specs.declared.reading.TheConstants.{LONGEST}
 use Rattle.yf_laws.specs.Mended.{IsMended}
+use Rattle.yf_rules.specs.Runs.ByteStream.{ByteStream, Writes, BreaksOff}
 use Rattle.yf_rules.specs.Runs.Run.{RefusedRun, FormattingGiven}
 
 -- that is the diff of a text and its formatting, both under the name; it is empty where they are the same, and only there
@@ -35,21 +35,20 @@ abbrev pub is_same : List ℕ → Bool
 is_same [] = true
 is_same _ = false
 
--- a text was read, the diff of it and its formatting was written, and nothing else, and it was answered whether it is its own formatting
-pub record DiffRun (style : Style) (name : List ℕ) (known old new : Option (List ℕ)) (before after : Bool) (same : Bool) : Type 0 where
+-- A text was read, the diff of it and its formatting was written, and nothing else, and the result is whether the text is its own formatting.
+pub record DiffRun (style : Style) (name : List ℕ) (input before after : ByteStream) (same : Bool) : Type 0 where
   pub diff : List ℕ
-  pub of_text : DiffOf style name known diff
-  pub wrote : Wrote old new before after diff
+  pub of_text : DiffOf style name input.contents diff
+  pub wrote : Writes before after diff
   pub answer : same ≡ is_same diff
 
--- a text was read that is not its own formatting, but the writer failed, and a prefix of the diff was written
-pub record BrokeOffDiff (style : Style) (name : List ℕ) (known old new : Option (List ℕ)) (after : Bool) : Type 0 where
+-- A text was read that is not its own formatting, but the writer failed, and a prefix of the diff was written.
+pub record BrokeOffDiff (style : Style) (name : List ℕ) (input before after : ByteStream) : Type 0 where
   pub diff : List ℕ
-  pub of_text : DiffOf style name known diff
+  pub of_text : DiffOf style name input.contents diff
   pub differs : diff ≢ []
-  pub broke : Broke old new after diff
+  pub broke : BreaksOff before after diff
 
--- why the run that tells the diff is refused
-abbrev pub RefusedDiff : Style → List ℕ → Option (List ℕ) → Bool → Bool → Option (List ℕ) → Option (List ℕ) → Bool → Bool → Fault → Type 0
-RefusedDiff style name known read_before read_after old new before after fault =
-    RefusedRun (BrokeOffDiff style name known old new after) known read_before read_after old new before after fault
+-- why the run that prints the diff is refused
+abbrev pub RefusedDiff : Style → List ℕ → ByteStream → ByteStream → ByteStream → ByteStream → Fault → Type 0
+RefusedDiff style name input left before after fault = RefusedRun (BrokeOffDiff style name input before after) input left before after fault

@@ -1,15 +1,16 @@
--- What reading a whole input may answer.
-use Rattle.std.specs.Prelude.{◌≡◌, ℕ, ◌<◌, ◌⊎◌, List, length, Bool, true, Option, IfSome}
+-- What reading a whole input may return.
+use Rattle.std.specs.Prelude.{◌≡◌, ℕ, ◌<◌, ◌⊎◌, length, true, IfSome}
 use Rattle.yf_lines.specs.declared.fault.Fault.{Fault}
 use Rattle.yf_lines.specs.declared.fault.Fault.TheVariants.{Memory, ReadFailed}
+use Rattle.yf_rules.specs.Runs.ByteStream.{ByteStream, NoFailure}
 
--- the bytes are more than the limit, where they are known
-abbrev pub Exceeds : Option (List ℕ) → ℕ → Type 0
-Exceeds known limit = IfSome known (λ bytes. limit < length bytes)
+-- The reader has more bytes than the limit, if its bytes are known.
+abbrev pub Exceeds : ByteStream → ℕ → Type 0
+Exceeds input limit = IfSome input.contents (λ bytes. limit < length bytes)
 
--- why an input is refused: a growth was refused; or the reader has failed, or more than the limit came
--- (before, after: the note that the reader has failed)
-abbrev pub ReadRefusal : Option (List ℕ) → ℕ → Bool → Bool → Fault → Type 0
-ReadRefusal known limit before after Memory = after ≡ before
-ReadRefusal known limit before after ReadFailed = (after ≡ true) ⊎ (Exceeds known limit × (after ≡ before))
-ReadRefusal known limit before after _ = ⊥
+-- Why an input is refused: no memory was left; or the reader has failed, or has more bytes than the limit.
+-- (input, left: the reader before and after)
+abbrev pub ReadRefusal : ℕ → ByteStream → ByteStream → Fault → Type 0
+ReadRefusal limit input left Memory = NoFailure input left
+ReadRefusal limit input left ReadFailed = (left.failed ≡ true) ⊎ (Exceeds input limit × NoFailure input left)
+ReadRefusal limit input left _ = ⊥

@@ -152,3 +152,41 @@ fn tells_bytes(rt: HostRuntime) {
     );
     assert!(rt; !tells_byte(rt.alloc(), b"a", 1, ""));
 }
+
+/// The words on an alias whose name may be one, and on one that is more likely a text.
+const NO_ANCHOR: &str = "  no anchor with this name comes before it in this document\n";
+
+const NO_ALIAS: &str = "  no anchor has this name: quote a text that begins with `*`\n";
+
+/// A text, the place of an alias in it, and the first line that is told.
+type AliasRow = (&'static str, usize, usize, &'static str);
+
+static ALIASES: [AliasRow; 6] = [
+    ("a: *x\n", 1, 4, NO_ANCHOR),
+    ("[*a-1_\u{E9}, b.c]\n", 1, 2, NO_ANCHOR),
+    ("[main, *.x]\n", 1, 8, NO_ALIAS),
+    ("- *.yml\n", 1, 3, NO_ALIAS),
+    ("a: b\nc: **/*.py # d\n", 2, 4, NO_ALIAS),
+    ("- *_test.go", 1, 3, NO_ALIAS),
+];
+
+/// Whether the first line that is told of an alias is that of the row.
+fn tells_alias(alloc: Global, row: &AliasRow) -> bool {
+    let fault = Fault::UnknownAlias {
+        place: Position {
+            line: row.1,
+            column: row.2,
+        },
+    };
+    match &explain(alloc, row.0.as_bytes(), &fault) {
+        Ok(page) => page.as_str().strip_prefix(row.3).is_some(),
+        Err(_) => false,
+    }
+}
+
+#[test]
+fn tells_aliases(rt: HostRuntime) {
+    for row in &ALIASES {
+        assert!(rt; tells_alias(rt.alloc(), row), "{}", row.0);
+    }
+}

@@ -1,14 +1,22 @@
-use Rattle.std.proofs.Common.{rules}
+use Rattle.std.proofs.Common.{refl}
+use Rattle.yf_rules.specs.Runs.ByteStream.{stream_of}
 use Rattle.yf_program.proofs.FurtherLemmas.{told_nothing}
 use Rattle.yf_program.proofs.each.rewrite_named.Goals as goal
 
 pub returns-in-Ok : goal.returns-in-Ok
-returns-in-Ok g c = (g.E.Write.contents c.args.error_stream.now, g.E.Sink.has_failed c.args.error_stream.now, search rules, told_nothing c.args.explained _ _ _)
+returns-in-Ok g c = (
+  c.rewrite.result,
+  (stream_of g.E.Write.contents g.E.Sink.has_failed c.args.error_stream.now),
+  c.rewrite.ensures,
+  rw c.in-Ok.is (refl, record { contents = refl; same = refl }),
+  told_nothing c.args.explained _ _,
+)
 
 pub returns-in-Err : goal.returns-in-Err
 returns-in-Err g c = (
-  g.E.Write.contents c.report_rewrite-status.new.error_stream,
-  g.E.Sink.has_failed c.report_rewrite-status.new.error_stream,
-  search rules,
+  c.rewrite.result,
+  (stream_of g.E.Write.contents g.E.Sink.has_failed c.report_rewrite-status.new.error_stream),
+  c.rewrite.ensures,
+  rw c.in-Err.is (c.report_rewrite-status.ensures.status, c.report_rewrite-status.ensures.line),
   c.tell_rewrite.ensures,
 )

@@ -6,4 +6,4 @@ pub returns-then-explained : goal.returns-then-explained
 returns-then-explained g c = told_further (Explains c.args.bytes.now c.args.fault.now) c.args.explained _ c.if-explained.true c.explain.ensures c.tell_page.ensures
 
 pub returns : goal.returns
-returns g c = told_nothing c.args.explained _ _ _
+returns g c = told_nothing c.args.explained _ _

@@ -2,6 +2,7 @@ use Rattle.std.proofs.Common.{◌≡◌, ◌≤◌, ◌∙◌, List, ℕ, inl, l
 use Rattle.std.specs.Str.{IsUtf8}
 use Rattle.yf_program.proofs.ProgramLemmas.{text_refused}
 use Rattle.yf_rules.specs.declared.run.TheConstants.{INPUT_LIMIT}
+use Rattle.yf_rules.specs.Runs.ByteStream.{stream_of}
 use Rattle.yf_rules.specs.Runs.Run.{Gave}
 use Rattle.yf_program.proofs.program.read_style.Goals as goal
 
@@ -18,4 +19,4 @@ returns-in-Err-style_from_toml g c =
     let within_bytes : length c.in_ok-bytes.bytes.items ≤ INPUT_LIMIT = search rules in
     let within = subst (λ (t : List ℕ). length t ≤ INPUT_LIMIT) (sym same) within_bytes in
     let utf8 = subst (λ (t : List ℕ). IsUtf8 t) (sym c.in-Ok.ensures.1) c.in-Ok.ensures.0 in
-    text_refused _ _ _ c.in-Ok.text.now _ c.in_ok-bytes.ensures.works gave within utf8 c.in-Err-style_from_toml.ensures
+    text_refused (stream_of g.R.Read.remaining g.R.Source.has_failed c.args.reader.now) c.in-Ok.text.now _ c.in_ok-bytes.ensures.works gave within utf8 c.in-Err-style_from_toml.ensures

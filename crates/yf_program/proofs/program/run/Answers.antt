@@ -1,7 +1,11 @@
-use Rattle.yf_program.proofs.ProgramLemmas.{checker_ran}
+use Rattle.std.proofs.Common.{inl, inr}
 use Rattle.yf_program.proofs.program.run.Goals as goal
 
+pub returns-in-Events : goal.returns-in-Events
+returns-in-Events g c = inl (c.in-Events.is, c.run_reader.ensures)
+
 pub returns-in-Check : goal.returns-in-Check
-returns-in-Check g c =
-    checker_ran c.args.rules.now (λ b. (goal.Rule-dyn g (b.vtable, b.value)).definition b.value) c.args.command.now.explain c.args.command.now.diff c.args.command.now.check c.args.command.now.file
-    (g.E.Write.contents c.run_checker.new.error_stream) (g.E.Sink.has_failed c.run_checker.new.error_stream) c.as_slice.ensures.value c.in-Check.is c.run_checker.ensures
+returns-in-Check g c = inr (inl (c.in-Check.is, c.run_checker.ensures))
+
+pub returns-in-Fmt : goal.returns-in-Fmt
+returns-in-Fmt g c = inr (inr (c.in-Fmt.is, c.run_formatter.ensures))

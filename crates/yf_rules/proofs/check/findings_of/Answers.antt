@@ -7,7 +7,7 @@ use Rattle.yf_rules.proofs.check.findings_of.Goals as goal
 pub returns-in-Ok-clause-findings : goal.returns-in-Ok-clause-findings
 returns-in-Ok-clause-findings g c =
     let a = c.about_of-about in
-    at_places a.result.number a.result.id a.result.fixable a.ensures.number a.ensures.id a.ensures.fixable c.in_ok-places.ensures.found
+    at_places a.result.number a.result.id a.result.fixable a.ensures.number a.ensures.id a.ensures.fixable c.in_ok-places.ensures.found c.in_ok-places.ensures.ascending
     (subst (λ ps. c.in-Ok.findings.items ≡ map (finding_at a.result.number a.result.id a.result.fixable) ps) c.as_slice.ensures.value c.in-Ok.ensures)
 
 pub returns-in-Ok-clause-mends : goal.returns-in-Ok-clause-mends

@@ -5,7 +5,7 @@ use Rattle.yf_rules.proofs.compare.run_fmt_check.Goals as goal
 
 pub returns-in-None-clause-compared : goal.returns-in-None-clause-compared
 returns-in-None-clause-compared g c =
-    same_told (g.W.Write.contents c.args.writer.now) (g.W.Sink.has_failed c.args.writer.now)
+    same_told _ _
     (subst (λ place. Difference c.args.style.now (g.R.Read.remaining c.args.reader.now) place) c.in-None.is c.in_ok-read_difference.ensures.difference)
 
 pub returns-in-None-clause-clean : goal.returns-in-None-clause-clean

@@ -1,6 +1,7 @@
 use Rattle.std.proofs.Common.{◌≡◌, ◌≤◌, ◌∙◌, List, ℕ, length, rules, subst, sym}
 use Rattle.std.proofs.lemmas.Result.{IfErr-weaker}
 use Rattle.std.specs.Str.{IsUtf8}
+use Rattle.yf_rules.specs.Runs.ByteStream.{stream_of}
 use Rattle.yf_rules.specs.Runs.Run.{Gave}
 use Rattle.yf_rules.specs.declared.run.TheConstants.{INPUT_LIMIT}
 use Rattle.yf_rules.proofs.Runs.DiffLemmas.{diff_holds}
@@ -23,4 +24,4 @@ returns-clause-refusals g c =
     let within_bytes : length c.in_ok-bytes.bytes.items ≤ INPUT_LIMIT = search rules in
     let within = subst (λ (t : List ℕ). length t ≤ INPUT_LIMIT) (sym same) within_bytes in
     let utf8 = subst (λ (t : List ℕ). IsUtf8 t) (sym c.in-Ok.ensures.1) c.in-Ok.ensures.0 in
-    IfErr-weaker c.diff_in.result _ _ (refused_text (g.R.Read.remaining c.args.reader.now) gave within utf8 c.in_ok-bytes.ensures.works) c.diff_in.ensures.refuses
+    IfErr-weaker c.diff_in.result _ _ (refused_text (stream_of g.R.Read.remaining g.R.Source.has_failed c.args.reader.now) gave within utf8 c.in_ok-bytes.ensures.works) c.diff_in.ensures.refuses

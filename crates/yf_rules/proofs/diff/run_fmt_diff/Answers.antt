@@ -10,7 +10,7 @@ returns-then-is_empty-clause-diffed g c =
     let count : vec_len c.in_ok-diff.diff ≡ 0 = eqb-true (vec_len c.in_ok-diff.diff) 0 (sym c.is_empty.ensures ∙ c.if-is_empty.true) in
     let same : vec_len c.in_ok-diff.diff ≡ length c.in_ok-diff.diff.items = search rules in
     let none : c.in_ok-diff.diff.items ≡ [] = nil_from_length c.in_ok-diff.diff.items (sym same ∙ count) in
-    nothing_told (g.W.Write.contents c.args.writer.now) (g.W.Sink.has_failed c.args.writer.now) c.in_ok-diff.ensures.diff none
+    nothing_told _ _ c.in_ok-diff.ensures.diff none
 
 pub returns-then-is_empty-clause-clean : goal.returns-then-is_empty-clause-clean
 returns-then-is_empty-clause-clean g c = λ same.

@@ -2,6 +2,7 @@ use Rattle.std.proofs.Common.{◌≡◌, ◌≤◌, ◌∙◌, IfErr, List, ℕ,
 use Rattle.std.proofs.lemmas.Result.{IfErr-weaker}
 use Rattle.std.specs.Str.{IsUtf8}
 use Rattle.yf_stream.specs.StreamReader.{StreamFault}
+use Rattle.yf_rules.specs.Runs.ByteStream.{stream_of}
 use Rattle.yf_rules.specs.Runs.Run.{Gave}
 use Rattle.yf_rules.specs.declared.run.TheConstants.{INPUT_LIMIT}
 use Rattle.yf_rules.proofs.Runs.FormattedLemmas.{run_refused}
@@ -15,4 +16,4 @@ returns-in_err-reading-clause-refusals g c =
     let within = subst (λ (t : List ℕ). length t ≤ INPUT_LIMIT) (sym same) within_bytes in
     let utf8 = subst (λ (t : List ℕ). IsUtf8 t) (sym c.in-Ok.ensures.1) c.in-Ok.ensures.0 in
     let told : IfErr c.from_residual-in_err-reading.result (StreamFault c.in-Ok.text.now) = search rules in
-    IfErr-weaker c.from_residual-in_err-reading.result _ _ (λ fault w. run_refused _ gave within utf8 c.in_ok-bytes.ensures.works _ _ _ _ _ fault w (record { contents = refl; same = refl })) told
+    IfErr-weaker c.from_residual-in_err-reading.result _ _ (λ fault w. run_refused (stream_of g.R.Read.remaining g.R.Source.has_failed c.args.reader.now) gave within utf8 c.in_ok-bytes.ensures.works _ _ _ fault w (record { contents = refl; same = refl })) told

@@ -1,0 +1,104 @@
+//! The numbers of the three standard streams, which no other file may take.
+
+use std::fs::{File, OpenOptions};
+use std::io;
+use std::os::fd::{AsFd, AsRawFd};
+use std::rt::Files;
+
+/// A file that keeps nothing, and the folder that is opened if there is no such file.
+const NULL: &str = "/dev/null";
+
+const ROOT: &str = "/";
+
+/// The numbers of standard input, standard output and standard error.
+const INPUT: i32 = 0;
+
+const OUTPUT: i32 = 1;
+
+const ERROR: i32 = 2;
+
+/// The system's error for a number that no open file has (`EBADF`).
+const NO_FILE: i32 = 9;
+
+/// The files that have the numbers of the standard streams that were closed when the program started.
+#[derive(Drop)]
+pub struct Reserved<F> {
+    input: Option<F>,
+    output: Option<F>,
+    error: Option<F>,
+}
+
+/// Opens a file in place of each standard stream that is closed. If all three are open, no file is opened.
+///
+/// The system gives a file that is opened the lowest number that is free. If standard error is closed, the first file that the
+/// program opens takes its number, and messages are written into that file. So this comes before any other file is opened, and
+/// the result lives as long as the program runs.
+///
+/// The file in place of standard input cannot be read, and the others cannot be written to: such a stream still fails like one
+/// that is closed.
+///
+/// # Errors
+///
+/// Returns the system's error if a stream is closed and no file can be opened.
+pub fn reserve<R: Files, I: AsFd, O: AsFd, E: AsFd>(
+    rt: &R,
+    input: &I,
+    output: &O,
+    error: &E,
+) -> io::Result<Reserved<R::File>>
+where
+    R::File: AsRawFd,
+{
+    if is_open(input) && is_open(output) && is_open(error) {
+        return Ok(Reserved {
+            input: None,
+            output: None,
+            error: None,
+        });
+    }
+    fill(rt)
+}
+
+// Returns whether a stream is open. Only an open file can be given another number.
+fn is_open<S: AsFd>(stream: &S) -> bool {
+    match stream.as_fd().try_clone_to_owned() {
+        Ok(_) => true,
+        Err(error) => error.raw_os_error() != Some(NO_FILE),
+    }
+}
+
+// Opens a file for each number of a standard stream that is free.
+fn fill<R: Files>(rt: &R) -> io::Result<Reserved<R::File>>
+where
+    R::File: AsRawFd,
+{
+    let mut to_write = OpenOptions::new();
+    to_write.write(true);
+    let mut to_read = OpenOptions::new();
+    to_read.read(true);
+    let input = if_among(open_null(rt, &to_write)?, INPUT, INPUT);
+    let output = if_among(open_null(rt, &to_read)?, OUTPUT, ERROR);
+    let error = if_among(open_null(rt, &to_read)?, OUTPUT, ERROR);
+    Ok(Reserved {
+        input,
+        output,
+        error,
+    })
+}
+
+// Opens a file from which nothing is read, and to which nothing is written.
+fn open_null<R: Files>(rt: &R, options: &OpenOptions) -> io::Result<R::File> {
+    match options.open(rt, NULL) {
+        Ok(file) => Ok(file),
+        Err(_) => File::open(rt, ROOT),
+    }
+}
+
+// Returns the file if its number is in the range. Any other is closed.
+fn if_among<F: AsRawFd + Drop>(file: F, least: i32, greatest: i32) -> Option<F> {
+    let number = file.as_raw_fd();
+    if least <= number && number <= greatest {
+        return Some(file);
+    }
+    None
+}
