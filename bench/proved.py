@@ -1,0 +1,127 @@
+#!/usr/bin/env python3
+"""Writes docs/PROVED_TABLES.md: per crate, the clauses of the functions that bench/proved.txt lists.
+
+Usage: bench/proved.py [--check | --write]
+
+Each row has a function, the names of its `ensures` clauses, and the first words of its doc comment. The page also
+counts, per crate, the functions, those with a contract, and the must-fail edits. With --check it fails if the page is
+not as the sources are; with --write it writes the page; else it prints the page.
+
+A name in bench/proved.txt that two crates have is written CRATE::NAME. A name that no crate has ends the script.
+"""
+import glob
+import os
+import re
+import sys
+
+TOP = os.path.dirname(os.path.dirname(os.path.abspath(__file__)))
+PAGE = 'docs/PROVED_TABLES.md'
+HEAD = '''# Proved, crate by crate
+
+Made by `bench/proved.py` from the sources; `bench/proved.py --check` fails if this page differs. [PROVED](PROVED.md)
+explains what is proved of the whole program, and [EDITS](proving/EDITS.md) lists the must-fail edits.
+
+Every function is proved safe and terminating. *Contracts* counts the functions that also have an `ensures`.
+'''
+COUNTS = '''
+| Crate | Functions | Contracts | Edits |
+|---|---|---|---|
+'''
+ROWS = '''
+The calls that users of the crates begin with, with their clauses and the first words of their documentation:
+
+| Function | Clauses | Documentation |
+|---|---|---|
+'''
+HEADER = re.compile(r'^ *(pub(?:\([^)]*\))? )?(?:const )?fn (\w+)')
+
+
+def read(path):
+    with open(os.path.join(TOP, path), encoding='utf-8') as file:
+        return file.read()
+
+
+def crates():
+    """The names of the crates, in the order of crates.txt."""
+    lines = (line.partition('#')[0] for line in read('crates.txt').splitlines())
+    return [line.partition(':')[0].split()[0] for line in lines if line.strip()]
+
+
+def sources(crate):
+    """The source files of a crate without its tests."""
+    paths = sorted(glob.glob('%s/crates/%s/src/**/*.rt' % (TOP, crate), recursive=True))
+    return [path for path in paths if not re.search(r'/tests?(/|\.rt)|_tests\.rt', path)]
+
+
+def functions(crate):
+    """Each function of a crate: its name, whether it is public and free, its doc comment, and its clauses."""
+    for path in sources(crate):
+        lines = read(path).split('\n')
+        for at, line in enumerate(lines):
+            head = HEADER.match(line)
+            if not head:
+                continue
+            start = at
+            while start and re.match(r' *(///|#\[)', lines[start - 1]):
+                start -= 1
+            doc = [re.sub(r'^ */// ?', '', one) for one in lines[start:at] if '///' in one]
+            end = at
+            while end + 1 < len(lines) and not re.match(r'\s*\{\}?$|(\s*\)|.*\bfn ).*\{\}?$|.*;$', lines[end]):
+                end += 1
+            clauses = []
+            for one in lines[at:end + 1]:
+                clauses += [name or '' for name in re.findall(r'^ +ensures (?:(\w+) )?\{', one)]
+            yield head[2], bool(head[1]) and not line.startswith(' '), doc, clauses
+
+
+def sentence(doc):
+    """The first words of a doc comment, up to the first colon or full stop, without what is in parentheses."""
+    words = re.sub(r' \((?:[^()]|\([^()]*\))*\)', '', ' '.join(' '.join(doc).split()))
+    first, *more = re.split(r'[.:;](?= |$)', words)
+    shown = more[0].strip() if first == 'Does nothing' else first
+    return (shown[:1].upper() + shown[1:]).replace('|', '\\|')
+
+
+def listed():
+    """The names of bench/proved.txt."""
+    return [word for line in read('bench/proved.txt').splitlines() for word in line.partition('#')[0].split()]
+
+
+def page():
+    """The whole page."""
+    names, found, counts, rows = listed(), {}, [], []
+    for crate in crates():
+        count, held = 0, 0
+        for name, free, doc, clauses in functions(crate):
+            count += 1
+            held += bool(clauses)
+            for asked in (name, '%s::%s' % (crate, name)):
+                if free and clauses and asked in names:
+                    found.setdefault(asked, []).append(crate)
+                    shown = ', '.join('`%s`' % one for one in clauses if one) or 'one'
+                    rows.append('| `%s::%s` | %s | %s |' % (crate, name, shown, sentence(doc)))
+        edits = len(glob.glob('%s/crates/%s/must-fail/*.edit' % (TOP, crate)))
+        counts.append('| %s | %d | %d | %d |' % (crate, count, held, edits))
+    wrong = [name for name in names if len(found.get(name, [])) != 1]
+    if wrong:
+        sys.exit('not in exactly one crate: ' + ', '.join('%s %s' % (name, found.get(name, '')) for name in wrong))
+    return HEAD + COUNTS + '\n'.join(counts) + '\n' + ROWS + '\n'.join(rows) + '\n'
+
+
+def main():
+    task = sys.argv[1] if len(sys.argv) > 1 else ''
+    if len(sys.argv) > 2 or task not in ('', '--check', '--write'):
+        sys.exit(__doc__)
+    text = page()
+    if task == '--write':
+        with open(os.path.join(TOP, PAGE), 'w', encoding='utf-8') as file:
+            file.write(text)
+    elif task == '--check':
+        if not os.path.exists(os.path.join(TOP, PAGE)) or read(PAGE) != text:
+            sys.exit('%s is not as the sources are: run bench/proved.py --write' % PAGE)
+    else:
+        print(text, end='')
+
+
+if __name__ == '__main__':
+    main()
