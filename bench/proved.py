@@ -7,7 +7,7 @@ Each row has a function, the names of its `ensures` clauses, and the first words
 counts, per crate, the functions, those with a contract, and the must-fail edits. With --check it fails if the page is
 not as the sources are; with --write it writes the page; else it prints the page.
 
-A name in bench/proved.txt that two crates have is written CRATE::NAME. A name that no crate has ends the script.
+A name in bench/proved.txt that two crates have is written CRATE::NAME. --check also fails at a name that no crate has.
 """
 import glob
 import os
@@ -88,7 +88,7 @@ def listed():
 
 
 def page():
-    """The whole page."""
+    """The names of bench/proved.txt that are not in exactly one crate, and the whole page."""
     names, found, counts, rows = listed(), {}, [], []
     for crate in crates():
         count, held = 0, 0
@@ -102,22 +102,22 @@ def page():
                     rows.append('| `%s::%s` | %s | %s |' % (crate, name, shown, sentence(doc)))
         edits = len(glob.glob('%s/crates/%s/must-fail/*.edit' % (TOP, crate)))
         counts.append('| %s | %d | %d | %d |' % (crate, count, held, edits))
-    wrong = [name for name in names if len(found.get(name, [])) != 1]
-    if wrong:
-        sys.exit('not in exactly one crate: ' + ', '.join('%s %s' % (name, found.get(name, '')) for name in wrong))
-    return HEAD + COUNTS + '\n'.join(counts) + '\n' + ROWS + '\n'.join(rows) + '\n'
+    wrong = ['%s %s' % (name, found.get(name, '')) for name in names if len(found.get(name, [])) != 1]
+    return wrong, HEAD + COUNTS + '\n'.join(counts) + '\n' + ROWS + '\n'.join(rows) + '\n'
 
 
 def main():
     task = sys.argv[1] if len(sys.argv) > 1 else ''
     if len(sys.argv) > 2 or task not in ('', '--check', '--write'):
         sys.exit(__doc__)
-    text = page()
+    wrong, text = page()
+    if wrong:
+        print('bench/proved.txt: not in exactly one crate: ' + ', '.join(wrong), file=sys.stderr)
     if task == '--write':
         with open(os.path.join(TOP, PAGE), 'w', encoding='utf-8') as file:
             file.write(text)
     elif task == '--check':
-        if not os.path.exists(os.path.join(TOP, PAGE)) or read(PAGE) != text:
+        if wrong or not os.path.exists(os.path.join(TOP, PAGE)) or read(PAGE) != text:
             sys.exit('%s is not as the sources are: run bench/proved.py --write' % PAGE)
     else:
         print(text, end='')
