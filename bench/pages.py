@@ -1,0 +1,208 @@
+#!/usr/bin/env python3
+"""Checks the pages against the repository, and counts words.
+
+Usage: bench/pages.py [--check]
+
+It finds, in all pages but those that a script makes:
+- links to files or headings that don't exist;
+- names in backticks that look like a file or an item of the code, and don't occur in the repository;
+- numbers of rules, fixable rules and crates, and sums of productions, that differ from the code;
+- settings and options that a page lists and the program doesn't have, or the other way round.
+
+It prints a line for each, then the number of words, and how often the pages use some words, per 10,000 words, beside
+what Debian's Rust crates have (a guide, not a rule). With --check it fails if it has found something.
+"""
+import glob
+import os
+import re
+import sys
+
+TOP = os.path.dirname(os.path.dirname(os.path.abspath(__file__)))
+MADE = ('docs/STANDARD.md', 'docs/PROVED_TABLES.md', 'docs/proving/EDITS.md')
+FILE = re.compile(r'[\w.*{}-]+(/[\w.*{},-]+)+/?|[\w*-]+\.(rt|antt|py|md|txt|edit)')
+ITEM = re.compile(r'[A-Za-z]\w*(::\w+)*')
+# Names of examples, of other programs and of the standard library.
+FOREIGN = set('''my_rule my_rule_at my_setting_of my_setting_at MyRule AllocError String Vec Option BTreeSet Ok Some None
+    from_residual Default_Ignorable_Code_Point RT_JOBS O_CREAT O_EXCL PIP_FIND_LINKS GLIBC_TUNABLES same_Some or_parts
+    or_cases yf_name'''.split())
+UNITS = ('zero one two three four five six seven eight nine ten eleven twelve thirteen fourteen fifteen sixteen seventeen '
+         'eighteen nineteen').split()
+TENS = '_ _ twenty thirty forty fifty sixty seventy eighty ninety'.split()
+# A word or phrase, and how often Debian's Rust crates use it, per 10,000 words.
+RATES = (('tell|tells|told', 0.2), ('alone', 0.1), ('what is|what are', 0.2), ('whose', 0.5),
+         ('of which|by which|in which', 1.4), ('where', 10), ('when|if', 25), ('returns?', 57), ('for example', 7.6),
+         ('should', 14))
+
+
+def read(path):
+    with open(os.path.join(TOP, path), encoding='utf-8') as file:
+        return file.read()
+
+
+def pages():
+    """All pages, from the top."""
+    found = [*glob.glob(TOP + '/*.md'), *glob.glob(TOP + '/docs/**/*.md', recursive=True)]
+    found += [*glob.glob(TOP + '/.github/*.md'), *glob.glob(TOP + '/.gitlab/**/*.md', recursive=True)]
+    return sorted(os.path.relpath(path, TOP) for path in found)
+
+
+def prose(text):
+    """A page without its blocks of code, with empty lines in their place."""
+    text = re.sub(r'^```.*?^```', lambda block: '\n' * block[0].count('\n'), text, flags=re.M | re.S)
+    return re.sub(r'^( {4,})(?![-*\d]).*', '', text, flags=re.M)
+
+
+def slugs(text):
+    """The anchors of a page's headings, as GitHub and GitLab make them."""
+    found = set()
+    for heading in re.findall(r'^#+ (.*)', re.sub(r'^```.*?^```', '', text, flags=re.M | re.S), re.M):
+        words = re.sub(r'\[([^]]*)\]\([^)]*\)', r'\1', heading).replace('`', '').lower()
+        found.add(re.sub(r'[^\w -]', '', words).replace(' ', '-'))
+    return found
+
+
+def links(page, text):
+    """The links of a page that lead nowhere."""
+    for target in re.findall(r'\]\(([^)\s]+)\)', prose(text)):
+        if re.match(r'\w+:', target):
+            continue
+        path, _, anchor = target.partition('#')
+        goal = os.path.normpath(os.path.join(os.path.dirname(page), path)) if path else page
+        if not os.path.exists(os.path.join(TOP, goal)):
+            yield 'no file for the link %s' % target
+        elif anchor and anchor not in slugs(read(goal)):
+            yield 'no heading for the link %s' % target
+
+
+def words_of_code():
+    """All words of the code, the definitions, the proofs and the scripts."""
+    kinds = ('crates/**/*.rt', 'crates/**/*.antt', 'crates/**/*.edit', 'bench/*', 'dist/*', 'hooks/*', 'crates.txt',
+             'docs/proving/*.txt')
+    found = set()
+    for kind in kinds:
+        for path in glob.glob('%s/%s' % (TOP, kind), recursive=True):
+            if os.path.isfile(path) and '/out/' not in path and not path.endswith('/pages.py'):
+                found.update(re.findall(r'[A-Za-z_]\w*', read(path)))
+    return found
+
+
+def is_there(name):
+    """Whether a file or folder is somewhere in the repository: from the top, in a crate, or at the end of a path."""
+    places = (name, 'crates/*/' + name, 'crates/**/' + name, 'docs/**/' + name, 'bench/' + name)
+    return any(glob.glob('%s/%s' % (TOP, place), recursive=True) for place in places)
+
+
+def names(text, words):
+    """The names in backticks that are nowhere in the repository."""
+    for name in dict.fromkeys(re.findall(r'(?<!`)`([^`\n]+)`(?!`)', prose(text))):
+        if FILE.fullmatch(name) and not re.search(r'\b[A-Z]{1,6}\b(?!\.md)|^\d|^/|^\.\.?/', name):
+            known = re.match(r'(crates|docs|bench|dist|hooks|specs|proofs|src|must-fail|\w+\.(rt|antt|py))\b', name)
+            if known and not name.rstrip('/').endswith('/out') and not is_there(name.rstrip('/')) and name.split('/')[-1].split('.')[0] not in FOREIGN:
+                yield 'no file `%s`' % name
+        elif ITEM.fullmatch(name) and re.search(r'_|[a-z][A-Z]|::', name) and not re.search(r'\b[A-Z]+_|_[A-Z]+\b|_$|vV', name):
+            lost = [part for part in name.split('::') if part not in words and part not in FOREIGN]
+            if lost:
+                yield 'no item `%s`' % name
+
+
+def in_words(number):
+    """A number in words, below a hundred."""
+    if number < 20:
+        return UNITS[number]
+    return TENS[number // 10] + ('-' + UNITS[number % 10] if number % 10 else '') if number < 100 else str(number)
+
+
+def rules(kind):
+    """How many rules there are of a kind: `fixable`, or any."""
+    tables = [read(path) for path in glob.glob(TOP + '/crates/*/src/rules.rt')]
+    return max(len(re.findall(r'=> About::%s\(' % kind, table)) for table in tables)
+
+
+def built():
+    """How many crates the program is made of."""
+    below = {}
+    for line in read('crates.txt').splitlines():
+        head, _, uses = line.partition('#')[0].partition(':')
+        if head.strip():
+            below[head.split()[0]] = uses.split()
+    found = ['yamlfmt']
+    for name in found:
+        found += [one for one in below[name] if one in below and one not in found]
+    return len(found)
+
+
+def numbers(text):
+    """The numbers that differ from the code."""
+    every, fixable, crates = rules(r'(?:un)?fixable'), rules('fixable'), built()
+    pairs = ((r'(?:definitions of the|all) (\w+) rules\b', every), (r'[Tt]he (\w+) (?:style )?rules\b', every),
+             (r'the (\w+) fixable rules', fixable), (r'proves ([\w-]+) crates', crates), (r'\b(\d+) productions', 211))
+    flat = re.sub(r'\s+', ' ', prose(text))
+    for pattern, number in pairs:
+        for said in re.findall(pattern, flat):
+            is_number = said.isdigit() or said in UNITS or said.split('-')[0] in TENS[2:]
+            if is_number and said not in (in_words(number), str(number)):
+                yield 'the number %s, for %s' % (said, in_words(number))
+
+
+def settings():
+    """The keys of the settings, from the constants of the file that reads them."""
+    for path in glob.glob(TOP + '/crates/*/src/settings.rt'):
+        found = re.findall(r'const [A-Z_]+: &str = "(\w+)";', read(path))
+        if 'indent' in found:
+            return sorted(found)
+    return []
+
+
+def options():
+    """The options of the command line, from the constants of the file that declares them."""
+    for path in glob.glob(TOP + '/crates/*/src/commands.rt'):
+        found = re.findall(r'const ([A-Z_]+): &str = "([a-z-]+)";', read(path))
+        names = [word for _, word in found if word not in ('events', 'check', 'fmt', 'yamlfmt', 'file')]
+        if 'write' in names:
+            return sorted({'--' + word for word in names} | {'--check'})
+    return []
+
+
+def lists():
+    """Where a page's list of settings or options is not the program's."""
+    keys = settings()
+    places = (('README.md', r'^    (\w+) = '), ('docs/STYLE.md', r'^\| `(\w+)` \| .* \| .* \| .* \|$'),
+              ('dist/yamlfmt.1.in', r'^(\w+) = '))
+    for page, pattern in places:
+        if sorted(re.findall(pattern, read(page), re.M)) != keys:
+            yield page, 'its settings are not %s' % ' '.join(keys)
+    own = set(options())
+    for option in own:
+        if option not in read('README.md'):
+            yield 'README.md', 'no word of %s' % option
+
+
+def main():
+    task = sys.argv[1] if len(sys.argv) > 1 else ''
+    if len(sys.argv) > 2 or task not in ('', '--check'):
+        sys.exit(__doc__)
+    words, bad, total, everything = words_of_code(), 0, 0, ''
+    faults = [*lists()]
+    for page in pages():
+        text = read(page)
+        total += len(text.split())
+        if page in MADE:
+            continue
+        everything += prose(text) + '\n'
+        found = [*links(page, text), *numbers(text)]
+        # What has changed has names that are gone.
+        found += [] if page == 'CHANGELOG.md' else [*names(text, words)]
+        faults += [(page, fault) for fault in found]
+    for page, fault in faults:
+        print('%s: %s' % (page, fault))
+        bad += 1
+    count = len(re.findall(r'\w+', everything))
+    print('%d words in all pages' % total)
+    print('per 10,000 words (beside Debian\'s Rust crates):')
+    for pattern, usual in RATES:
+        print('  %s %.1f (%s)' % (pattern, len(re.findall(r'\b(?:%s)\b' % pattern, everything, re.I)) * 10000 / count, usual))
+    return 1 if bad and task == '--check' else 0
+
+
+if __name__ == '__main__':
+    sys.exit(main())
