@@ -28,10 +28,8 @@ COUNTS = '''
 |---|---|---|---|
 '''
 ROWS = '''
-The calls that users of the crates begin with, with their clauses and the first words of their documentation:
+The calls that users of the crates begin with: the clauses that have names, and the first words of the documentation.
 
-| Function | Clauses | Documentation |
-|---|---|---|
 '''
 HEADER = re.compile(r'^ *(pub(?:\([^)]*\))? )?(?:const )?fn (\w+)')
 
@@ -79,7 +77,7 @@ def sentence(doc):
     words = re.sub(r' \((?:[^()]|\([^()]*\))*\)', '', ' '.join(' '.join(doc).split()))
     first, *more = re.split(r'[.:;](?= |$)', words)
     shown = more[0].strip() if first == 'Does nothing' else first
-    return (shown[:1].upper() + shown[1:]).replace('|', '\\|')
+    return shown[:1].lower() + shown[1:]
 
 
 def listed():
@@ -98,8 +96,8 @@ def page():
             for asked in (name, '%s::%s' % (crate, name)):
                 if free and clauses and asked in names:
                     found.setdefault(asked, []).append(crate)
-                    shown = ', '.join('`%s`' % one for one in clauses if one) or 'one'
-                    rows.append('| `%s::%s` | %s | %s |' % (crate, name, shown, sentence(doc)))
+                    shown = ' (%s)' % ', '.join('`%s`' % one for one in clauses if one) if any(clauses) else ''
+                    rows.append('- `%s::%s`%s: %s' % (crate, name, shown, sentence(doc)))
         edits = len(glob.glob('%s/crates/%s/must-fail/*.edit' % (TOP, crate)))
         counts.append('| %s | %d | %d | %d |' % (crate, count, held, edits))
     wrong = ['%s %s' % (name, found.get(name, '')) for name in names if len(found.get(name, [])) != 1]
