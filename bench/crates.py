@@ -3,11 +3,11 @@
 
 Usage: bench/crates.py [--check | --write]
 
-The diagram has a line for each level: a crate is one level above the highest crate that it uses. The column "Uses" names
-the crates of this repository that a crate uses, without those that come with another one of them, and then the
-libraries of the kit. The column "What it is for" stays as the page has it. For a new crate it gets the first sentence of
-the crate's root file. With --check it fails if the page is not so, and with --write it writes the page; else it prints
-both.
+The diagram has a line for each level: a crate is one level above the highest crate that it uses. The column "Uses"
+names the crates of this repository that a crate uses, without those that come with another one of them, and then the
+libraries of the kit. The column "What it is for" stays as the page has it. For a new crate it gets the first sentence
+of the crate's root file. With --check it fails if the page is not so, and with --write it writes the page; else it
+prints both.
 """
 import os
 import re
@@ -85,8 +85,9 @@ def table(uses, page):
     """The rows of the crates, the highest first."""
     kept = dict(re.findall(r'^\| `(\w+)` \| (.*?) \|', page, re.M))
     level = levels(uses)
-    rows = sorted(uses, key=lambda name: -level[name])
-    return '\n'.join('| `%s` | %s | %s |' % (name, kept.get(name) or sentence(name), used(uses, name)) for name in rows) + '\n'
+    names = sorted(uses, key=lambda name: -level[name])
+    rows = ['| `%s` | %s | %s |' % (name, kept.get(name) or sentence(name), used(uses, name)) for name in names]
+    return '\n'.join(rows) + '\n'
 
 
 def put(page, mark, text):

@@ -21,12 +21,14 @@ TOP = os.path.dirname(os.path.dirname(os.path.abspath(__file__)))
 MADE = ('docs/STANDARD.md', 'docs/PROVED_TABLES.md', 'docs/proving/EDITS.md')
 FILE = re.compile(r'[\w.*{}-]+(/[\w.*{},-]+)+/?|[\w*-]+\.(rt|antt|py|md|txt|edit)')
 ITEM = re.compile(r'[A-Za-z]\w*(::\w+)*')
+# A part of a name in capitals stands for any: ID_mended, vVERSION.
+EXAMPLE = re.compile(r'\b[A-Z]+_|_[A-Z]+\b|_$|vV')
 # Names of examples, of other programs and of the standard library.
-FOREIGN = set('''my_rule my_rule_at my_setting_of my_setting_at MyRule AllocError String Vec Option BTreeSet Ok Some None
-    from_residual Default_Ignorable_Code_Point RT_JOBS O_CREAT O_EXCL PIP_FIND_LINKS GLIBC_TUNABLES same_Some or_parts
+FOREIGN = set('''my_rule my_rule_at my_setting_of my_setting_at MyRule AllocError from_residual
+    Default_Ignorable_Code_Point RT_JOBS O_CREAT O_EXCL PIP_FIND_LINKS GLIBC_TUNABLES same_Some or_parts
     or_cases yf_name'''.split())
-UNITS = ('zero one two three four five six seven eight nine ten eleven twelve thirteen fourteen fifteen sixteen seventeen '
-         'eighteen nineteen').split()
+UNITS = ('zero one two three four five six seven eight nine ten eleven twelve thirteen fourteen fifteen sixteen '
+         'seventeen eighteen nineteen').split()
 TENS = '_ _ twenty thirty forty fifty sixty seventy eighty ninety'.split()
 # A word or phrase, and how often Debian's Rust crates use it, per 10,000 words.
 RATES = (('tell|tells|told', 0.2), ('alone', 0.1), ('what is|what are', 0.2), ('whose', 0.5),
@@ -97,9 +99,10 @@ def names(text, words):
     for name in dict.fromkeys(re.findall(r'(?<!`)`([^`\n]+)`(?!`)', prose(text))):
         if FILE.fullmatch(name) and not re.search(r'\b[A-Z]{1,6}\b(?!\.md)|^\d|^/|^\.\.?/', name):
             known = re.match(r'(crates|docs|bench|dist|hooks|specs|proofs|src|must-fail|\w+\.(rt|antt|py))\b', name)
-            if known and not name.rstrip('/').endswith('/out') and not is_there(name.rstrip('/')) and name.split('/')[-1].split('.')[0] not in FOREIGN:
+            is_example = name.rstrip('/').endswith('/out') or name.split('/')[-1].split('.')[0] in FOREIGN
+            if known and not is_example and not is_there(name.rstrip('/')):
                 yield 'no file `%s`' % name
-        elif ITEM.fullmatch(name) and re.search(r'_|[a-z][A-Z]|::', name) and not re.search(r'\b[A-Z]+_|_[A-Z]+\b|_$|vV', name):
+        elif ITEM.fullmatch(name) and re.search(r'_|[a-z][A-Z]|::', name) and not EXAMPLE.search(name):
             lost = [part for part in name.split('::') if part not in words and part not in FOREIGN]
             if lost:
                 yield 'no item `%s`' % name
@@ -200,7 +203,8 @@ def main():
     print('%d words in all pages' % total)
     print('per 10,000 words (beside Debian\'s Rust crates):')
     for pattern, usual in RATES:
-        print('  %s %.1f (%s)' % (pattern, len(re.findall(r'\b(?:%s)\b' % pattern, everything, re.I)) * 10000 / count, usual))
+        uses = len(re.findall(r'\b(?:%s)\b' % pattern, everything, re.I))
+        print('  %s %.1f (%s)' % (pattern, uses * 10000 / count, usual))
     return 1 if bad and task == '--check' else 0
 
 
