@@ -21,14 +21,9 @@ HEAD = '''# Proved, crate by crate
 Made by `bench/proved.py` from the sources; `bench/proved.py --check` fails if this page differs. [PROVED](PROVED.md)
 explains what is proved of the whole program, and [EDITS](proving/EDITS.md) lists the must-fail edits.
 
-Every function is proved safe and terminating. *Contracts* counts the functions that also have an `ensures`.
-'''
-COUNTS = '''
-| Crate | Functions | Contracts | Edits |
-|---|---|---|---|
-'''
-ROWS = '''
-The calls that users of the crates begin with: the clauses that have names, and the first words of the documentation.
+After a crate's name are the numbers of its functions, of those with a contract, and of its must-fail edits. Every
+function is proved safe and terminating. Below are the calls that users of the crates begin with: the clauses that have
+names, and the first words of the documentation.
 
 '''
 HEADER = re.compile(r'^ *(pub(?:\([^)]*\))? )?(?:const )?fn (\w+)')
@@ -87,9 +82,9 @@ def listed():
 
 def page():
     """The names of bench/proved.txt that are not in exactly one crate, and the whole page."""
-    names, found, counts, rows = listed(), {}, [], []
+    names, found, parts = listed(), {}, []
     for crate in crates():
-        count, held = 0, 0
+        count, held, rows = 0, 0, []
         for name, free, doc, clauses in functions(crate):
             count += 1
             held += bool(clauses)
@@ -97,11 +92,11 @@ def page():
                 if free and clauses and asked in names:
                     found.setdefault(asked, []).append(crate)
                     shown = ' (%s)' % ', '.join('`%s`' % one for one in clauses if one) if any(clauses) else ''
-                    rows.append('- `%s::%s`%s: %s' % (crate, name, shown, sentence(doc)))
+                    rows.append('  - `%s`%s: %s' % (name, shown, sentence(doc)))
         edits = len(glob.glob('%s/crates/%s/must-fail/*.edit' % (TOP, crate)))
-        counts.append('| %s | %d | %d | %d |' % (crate, count, held, edits))
+        parts += ['- **%s** (%d, %d, %d)' % (crate, count, held, edits), *rows]
     wrong = ['%s %s' % (name, found.get(name, '')) for name in names if len(found.get(name, [])) != 1]
-    return wrong, HEAD + COUNTS + '\n'.join(counts) + '\n' + ROWS + '\n'.join(rows) + '\n'
+    return wrong, HEAD + '\n'.join(parts) + '\n'
 
 
 def main():
