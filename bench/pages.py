@@ -184,11 +184,12 @@ def main():
     task = sys.argv[1] if len(sys.argv) > 1 else ''
     if len(sys.argv) > 2 or task not in ('', '--check'):
         sys.exit(__doc__)
-    words, bad, total, everything = words_of_code(), 0, 0, ''
+    words, bad, total, letters, everything = words_of_code(), 0, 0, 0, ''
     faults = [*lists()]
     for page in pages():
         text = read(page)
-        total += len(text.split())
+        total += 0 if page.startswith('.') else len(text.split())
+        letters += 0 if page.startswith('.') else sum(bool(re.search(r'\w', word)) for word in text.split())
         if page in MADE:
             continue
         everything += prose(text) + '\n'
@@ -200,7 +201,7 @@ def main():
         print('%s: %s' % (page, fault))
         bad += 1
     count = len(re.findall(r'\w+', everything))
-    print('%d words in all pages' % total)
+    print('%d words in all pages, %d of them with a letter or a digit' % (total, letters))
     print('per 10,000 words (beside Debian\'s Rust crates):')
     for pattern, usual in RATES:
         uses = len(re.findall(r'\b(?:%s)\b' % pattern, everything, re.I))
