@@ -13,6 +13,7 @@ import glob
 import os
 import re
 import sys
+import textwrap
 
 TOP = os.path.dirname(os.path.dirname(os.path.abspath(__file__)))
 PAGE = 'docs/PROVED_TABLES.md'
@@ -75,6 +76,11 @@ def sentence(doc):
     return shown[:1].lower() + shown[1:]
 
 
+def wrapped(row):
+    """An item of a list on lines of at most 120 characters."""
+    return textwrap.wrap(row, 120, subsequent_indent='    ', break_long_words=False, break_on_hyphens=False)
+
+
 def listed():
     """The names of bench/proved.txt."""
     return [word for line in read('bench/proved.txt').splitlines() for word in line.partition('#')[0].split()]
@@ -92,7 +98,7 @@ def page():
                 if free and clauses and asked in names:
                     found.setdefault(asked, []).append(crate)
                     shown = ' (%s)' % ', '.join('`%s`' % one for one in clauses if one) if any(clauses) else ''
-                    rows.append('  - `%s`%s: %s' % (name, shown, sentence(doc)))
+                    rows += wrapped('  - `%s`%s: %s' % (name, shown, sentence(doc)))
         edits = len(glob.glob('%s/crates/%s/must-fail/*.edit' % (TOP, crate)))
         parts += ['- **%s** (%d, %d, %d)' % (crate, count, held, edits), *rows]
     wrong = ['%s %s' % (name, found.get(name, '')) for name in names if len(found.get(name, [])) != 1]
