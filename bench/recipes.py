@@ -178,23 +178,28 @@ UNTRIED = ('dockerfile', 'dockerfile-copy')
 TRIED_BY_FAULTS = ('folder-templates',)
 
 
-def cell(text):
-    """The lines that a cell of a table stands for."""
-    parts = re.findall(r'`` (.*?) ``|`(.*?)`|\(empty\)', text)
-    return ''.join((a or b).replace('\\|', '|') + '\n' for a, b in parts)
+def style_examples():
+    """The rows of docs/STYLE.md that contain only texts, or texts and "as it is".
 
-
-def style_rows(program):
-    """The rows `Read | Written` of docs/STYLE.md that say no more than text, each under the setting that the head of its table names."""
+    Each is a text, its formatting, and the setting that the head of the table names. In a cell, `⏎` is a line break.
+    """
     setting = ''
     for line in read(TOP + '/docs/STYLE.md').splitlines():
         head = re.match(r'\| Read \| Written(?: under `([^`]*)`)? \|', line)
         if head:
             setting = head.group(1) or ''
-        row = re.match(r'\| (`.*?) \| (`.*?) \|', line)
-        if not row or re.sub(r'`[^`]*`|\(empty\)|[ /]', '', row.group(1) + row.group(2)):
+        row = re.match(r'\| (`.*?) \| (`.*?|as it is) \|', line)
+        if not row or re.sub(r'`[^`]*`|; ', '', row[1]) or not re.fullmatch(r'`[^`]*`|as it is', row[2]):
             continue
-        text, wanted = cell(row.group(1)), cell(row.group(2))
+        cells = [re.findall(r'`` (.*?) ``|`(.*?)`', part) for part in (row[1], row[2])]
+        texts, wanted = [[(a or b).replace('\\|', '|').replace('⏎', '\n') + '\n' for a, b in found] for found in cells]
+        for text in texts:
+            yield text, wanted[0] if wanted else text, setting
+
+
+def style_rows(program):
+    """Whether the program formats each example as docs/STYLE.md says."""
+    for text, wanted, setting in style_examples():
         with tempfile.NamedTemporaryFile('w', suffix='.toml') as config:
             config.write(setting + '\n')
             config.flush()
