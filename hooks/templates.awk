@@ -3,16 +3,16 @@
 #   LC_ALL=C awk -v reading=heads [-v format=1] -f templates.awk PATH..
 #       prints the path of each file that is surely none of these (with format=1 templates do not count)
 #   yamlfmt events < FILE 2>&1 | LC_ALL=C awk -f templates.awk reading=events - reading=text FILE
-#       prints `text`, `template` or `fine`; or `fault` and a line of the program that is no refusal
+#       prints `text`, `template` or `fine`; or, for an error that is no refusal, `fault` and the program's line
 #
-# A text that is YAML is a *template* if a flow mapping in it begins with a flow mapping: `{{ x }}` reads as that. A text
-# that is refused is one if the place of the refusal is in a tag `{{ .. }}`, `{% .. %}` or `{# .. #}`, or directly after one.
-# `${{` begins no tag: GitHub and Azure read their files as YAML first.
+# A text that is YAML is a *template* if a flow mapping in it begins with a flow mapping, as `{{ x }}` does. A text that
+# is refused is one if the position of the refusal is in a *tag* (`{{ .. }}`, `{% .. %}` or `{# .. #}`) or directly
+# after one. `${{` begins no tag: GitHub and Azure read their files as YAML first.
 #
-# A document is *text* if its root is a plain scalar over several lines. The text of such a scalar is longer than the last
-# line with content.
+# A document is *text* if its root is a plain scalar over several lines. The text of such a scalar is longer than the
+# last line with content.
 
-# Whether the line begins with white space alone, or with nothing, before a comment or its end.
+# Whether the line has only white space before a comment or its end.
 function is_blank(line) {
     return line ~ /^[ \t]*(#.*)?$/
 }
@@ -43,8 +43,8 @@ function may_quote_after(before) {
     return index(" \t=([{,:;|&<>!$`", before) > 0
 }
 
-# Whether the column is in a tag, or after one with only white space or a comment between. In quotes and comments no tag
-# begins.
+# Whether the column is in a tag, or after one with only white space or a comment between. No tag begins in quotes or
+# comments.
 function is_at_tag(line, column,    i, mark, before, closer, end) {
     for (i = 1; i < length(line); i++) {
         mark = substr(line, i, 1)
@@ -108,7 +108,7 @@ function take_line(line) {
     }
 }
 
-# Whether the last line with content before the refused place ends with a tag.
+# Whether the last line with content before the refused position ends with a tag.
 function is_after_tag() {
     return is_at_tag(before_it, length(before_it) + 1)
 }
@@ -156,7 +156,7 @@ reading == "heads" {
     next
 }
 
-# (What a wrapper of the program prints before does not count.)
+# (Lines that a wrapper of the program prints before do not count.)
 reading == "events" && $0 == "+STR" {
     has_begun = 1
     fault = ""
@@ -175,7 +175,7 @@ reading == "events" && has_begun {
     has_pair = has_pair || (begun && $0 == "+MAP {}")
     begun = index($0, "+MAP {}") == 1
     is_whole = $0 == "-STR"
-    # (A tag may hold any character. If it holds a space or `>`, some of it is taken for text, which is then longer.)
+    # (If a YAML tag contains a space or `>`, part of it counts as text, which is then longer.)
     if (is_root && sub(/^=VAL( &[^ ]+)?( <[^ >]*>)? /, "") && !index("'\"|>", substr($0, 1, 1))) {
         gsub(/\\\\/, "/")
         gsub(/\\t/, " ")
