@@ -1,12 +1,12 @@
 #!/usr/bin/env python3
-"""Runs two programs on the same random texts, and fails where they answer differently.
+"""Runs two programs on the same random texts, and fails if their results differ.
 
 Usage: bench/alike.py OLD NEW [--seed SEED] [--texts COUNT] [--jobs JOBS]
 
-OLD and NEW are two built programs, as crates/yamlfmt/out/yamlfmt of two checkouts. Each text goes through `events`, `check` and
-`fmt`; what is compared is the status, what is printed, and what is told on standard error. A third of the texts are rows of short
-tokens, a third pieces of the workloads' streams with a few characters changed, a third several of these joined as documents.
-The last line tells how many texts were tried, how many of them were accepted, and how many answers differed.
+OLD and NEW are two built programs, for example crates/yamlfmt/out/yamlfmt of two checkouts. Each text goes through
+`events`, `check` and `fmt`. The script compares the status, standard output and standard error. A third of the texts
+are rows of short tokens, a third are pieces of the workloads' streams with a few characters changed, and a third are
+several of these joined as documents. The last line has the number of texts, of accepted texts and of differences.
 """
 import argparse
 import multiprocessing

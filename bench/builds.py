@@ -1,10 +1,11 @@
-"""How hooks/build and hooks/program build, each tried as bench/recipes.py runs, with a small rt in the place of the real one: which
-crates are at work side by side, what a failure and an interrupt end, and what a call does while rt ci is at work, and after it was
-interrupted.
+"""How hooks/build and hooks/program build, with a small script as `rt`. bench/recipes.py runs this.
 
-Not tried, as it takes the real rt: a call during a real rt ci. To try it, build the program, start `rt ci`, and call `./yamlfmt --version`
-while it runs and after an interrupt by Ctrl-C: each call has to print the version at once. In a second clone without a program
-`./yamlfmt --version` has to refuse in one line while `rt ci` runs.
+It tests which crates are at work at the same time, what ends after a failure and an interrupt, and what a call does
+while `rt ci` is at work and after `rt ci` was interrupted.
+
+A call during a real `rt ci` is not tested. To try it, build the program, start `rt ci`, and call `./yamlfmt --version`
+while it runs and after Ctrl-C: each call must print the version at once. In a second clone without a program,
+`./yamlfmt --version` must fail with one line while `rt ci` runs.
 """
 import os
 import shutil

@@ -4,10 +4,9 @@
 Usage: bench/crates.py [--check | --write]
 
 The diagram has a line for each level: a crate is one level above the highest crate that it uses. The column "Uses"
-names the crates of this repository that a crate uses, without those that come with another one of them, and then the
-libraries of the kit. The column "What it is for" stays as the page has it. For a new crate it gets the first sentence
-of the crate's root file. With --check it fails if the page is not so, and with --write it writes the page; else it
-prints both.
+names the crates of this repository that a crate uses directly, and then the libraries of the kit. The script keeps the
+column "What it is for"; a new crate gets the first sentence of its root file. With --check it fails if the page
+differs, with --write it writes the page, and otherwise it prints both.
 """
 import os
 import re

@@ -3,11 +3,11 @@
 
 Usage: bench/descriptors.py [PROGRAM]     (default: the program that ./yamlfmt builds; build it first)
 
-Run by hand; not part of rt ci. A daemon or a cron job may start a program with standard input, standard output or standard
-error closed. The system gives a file that is opened the lowest free number, so a FILE could become standard error. Each run
-is done with each of the 8 combinations of the three closed. The files must be those of the run with all three open, or, if
-that run fails, as they were. A read from a closed standard input is `read failed`, a write to a closed standard output is
-`write failed`, and every other answer is as with all three open.
+Run it by hand; it is not part of rt ci. A daemon or a cron job may start a program with closed standard streams. The
+system gives an opened file the lowest free number, so a FILE could become standard error. Each run is repeated with
+each of the 8 combinations of closed streams. The files must be as after the run with all streams open, or as before if
+the run fails. A read from a closed standard input is `read failed`, a write to a closed standard output is `write
+failed`, and every other result is as with all streams open.
 """
 import itertools
 import os

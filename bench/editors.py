@@ -1,4 +1,4 @@
-"""The recipes for editors: tried in the editor where bench/recipes.py finds it, else by the commands and patterns that it is given."""
+"""The recipes for editors: run in the editor if it is installed, or else by their commands and patterns."""
 import json
 import os
 import re

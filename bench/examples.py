@@ -1,11 +1,11 @@
 #!/usr/bin/env python3
-"""Tries the examples of docs/TROUBLESHOOTING.md and of the rules in docs/STYLE.md on a program.
+"""Runs a program on the examples of docs/TROUBLESHOOTING.md and of the rules in docs/STYLE.md.
 
 Usage: bench/examples.py [PROGRAM]     (default: the program that ./yamlfmt builds; build it first)
 
-A row of TROUBLESHOOTING has texts in backticks and then, in parentheses, the position at which each is refused, or one
-for all of them. A row of the rules has texts, each with the position at which the rule finds something. It prints a
-line for each example that is not so, and ends with 1 if there is one. bench/recipes.py tries the other examples.
+A row of TROUBLESHOOTING has texts in backticks and then, in parentheses, the positions at which they are refused, or
+one position for all. A row of the rules has texts, each with the position of a finding. The script prints a line for
+each wrong example, and returns 1 if there is one. bench/recipes.py tests the other examples.
 """
 import html
 import os

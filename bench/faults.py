@@ -1,4 +1,4 @@
-"""What went wrong with the hooks once, each tried as bench/recipes.py runs: files that were destroyed, passed by, or built anew."""
+"""Old faults of the hooks: files that were destroyed or skipped, and needless builds. bench/recipes.py runs this."""
 import os
 import re
 import resource

@@ -1,22 +1,22 @@
 #!/usr/bin/env python3
-"""Times whole commands of the kit: what `rt ci`, or one part of it, costs in processor seconds and by the clock.
+"""Times whole commands of the kit: `rt ci` or a part of it, in processor seconds and by the clock.
 
 Usage: bench/gate.py [--in FOLDER] [--lanes N] [--log FILE] [COMMAND..]
 
-It clones the last commit into FOLDER (default: one that it removes again; one that is there is taken as it is) and runs there
-one COMMAND after another, each as `rt` has it and nothing else:
+It clones the last commit into FOLDER (default: a temporary folder; an existing one is used as it is) and runs one
+COMMAND after another there, each exactly as `rt` defines it:
 
     ci                the merge gate, from nothing (the default)
-    ci:NAME           the gate of one crate, with a kit whose `rt ci` takes a name
+    ci:NAME           the gate of one crate, with a kit that accepts a name after `rt ci`
     must-fail:NAME    the must-fail edits of one crate
-    verdict:NAME      the proofs of one crate and those below it, and of its tests, from nothing
-    check:NAME        the proof of one crate, over what earlier commands kept
-    test:NAME         the proof and run of its tests, likewise
+    verdict:NAME      the proofs of one crate, those below it, and its tests, from nothing
+    check:NAME        the proof of one crate, after earlier commands
+    test:NAME         the proof and run of its tests, after earlier commands
 
-For each it prints the processor seconds (user and system, of the command and all that it started and waited for), the seconds
-by the clock, the command and its last line. It ends with status 1 where a command did. FILE gets all that is printed, each line
-after the seconds by the clock at which it came. With N lanes `rt ci` does so many things at a time, each with one job
-(by RT_JOBS, which `rt help` doesn't name).
+For each it prints the processor seconds (user and system, of the command and of all processes that it started and
+waited for), the seconds by the clock, the command and its last line. It returns 1 if a command fails. FILE gets the
+output, each line after the seconds by the clock at which it came. With --lanes `rt ci` does N things at a time, each
+with one job (by RT_JOBS, which `rt help` doesn't mention).
 """
 import argparse
 import os

@@ -1,13 +1,17 @@
 #!/usr/bin/env python3
-"""Runs yamlfmt on texts that are made to be slow or to take memory, and fails where one does.
+"""Runs yamlfmt on texts that are made to be slow or to need memory, and fails if one does.
 
 Usage: bench/hostile.py [--program PROGRAM] [--list] [NAME..]
 
-PROGRAM is the one that ./yamlfmt builds unless another is named; build it first. With NAMEs, only those shapes. Run by hand,
-not part of rt ci; what is known of the shapes is in docs/HOSTILE.md. Each shape is a text of a size; each of the three
-verbs, `check --explain`, and `fmt` with `comments = "block"`, is timed (in processor seconds) at a size, at twice and at four times that. It is a
-fault where the time grows more than 2.5-fold twice in a row, where more bytes of memory are taken a byte of input than LIMIT says (and, of shapes that `fmt` writes much
-longer, WRITTEN), where a run takes more than two minutes, or where it ends with a signal or with another status than 0, 1 and 2.
+PROGRAM is by default the one that ./yamlfmt builds; build it first. With NAMEs, only those shapes. Run it by hand; it
+is not part of rt ci. docs/HOSTILE.md has the results. Each shape makes texts of any size. The script times each
+command, `check --explain`, and `fmt` with `comments = "block"` (in processor seconds) at one size, twice and four times
+that size. It is a fault if
+
+- the time grows more than 2.5-fold twice in a row;
+- a run needs more bytes of memory per input byte than LIMIT allows (more for shapes that `fmt` makes much longer);
+- a run takes more than two minutes;
+- a run ends with a signal, or with another status than 0, 1 and 2.
 """
 import os
 import subprocess

@@ -1,11 +1,11 @@
 #!/usr/bin/env python3
-"""Kills `yamlfmt fmt --write` at random moments, and looks at what is left.
+"""Kills `yamlfmt fmt --write` at random moments, and looks at the files.
 
 Usage: bench/kills.py [PROGRAM [RUNS]]     (default: the program that ./yamlfmt builds; build it first; 200 runs)
 
-Run by hand; not part of rt ci. Each time FILE must hold its old text or the new one, whole. Half of the kills come at any
-moment of a run, the others soon after the new file is there. The last run is not killed, and must end well over what the
-others have left.
+Run it by hand; it is not part of rt ci. Each time FILE must have its old text or the new one, whole. Half of the kills
+are at any moment of a run, the others soon after the new file appears. The last run is not killed, and must succeed
+despite the files that the others left.
 """
 import os
 import random

@@ -1,4 +1,4 @@
-"""What the hooks leave alone: templates, encrypted files and plain text. Each is tried as bench/recipes.py runs."""
+"""What the hooks leave alone: templates, encrypted files and plain text. bench/recipes.py runs this."""
 import shutil
 import subprocess
 

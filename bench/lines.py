@@ -1,7 +1,7 @@
-"""The lines that hooks/each_file prints, of every kind, each tried with the matchers of docs/RECIPES.md as bench/recipes.py runs.
+"""Matches each kind of line of hooks/each_file with the matchers of docs/RECIPES.md. bench/recipes.py runs this.
 
-The kinds are read where they are made: refusals in docs/GRAMMAR.md, rules in docs/STYLE.md, what the hooks say in their own texts. So a
-new kind is tried, too.
+It reads the kinds from their sources: refusals from docs/GRAMMAR.md, rules from docs/STYLE.md, and messages from the
+hooks. So it also tests each new kind.
 """
 import json
 import os

@@ -1,17 +1,20 @@
 #!/usr/bin/env python3
-"""Measures yamlfmt on text of 1 and 16 MB: processor seconds (user and system), their ratio, the peak of memory, and, where
-valgrind is installed, the instructions a byte on 300 KB, by phase. Of three runs the one with the least seconds counts. Real files differ,
-so with --real the 16 MB are measured beside the sixteen parts that they consist of too: their seconds over the mean of those.
+"""Measures yamlfmt on texts of 1 and 16 MB: processor seconds (user and system), their ratio, and the peak of memory.
 
-Usage: bench/measure.py [--dense | --real FOLDER..] [--program PROGRAM]     (default: the program that ./yamlfmt builds; build it first)
+Usage: bench/measure.py [--dense | --real FOLDER..] [--program PROGRAM]
+       (default: the program that ./yamlfmt builds; build it first)
 
-The text is ordinary configuration that is made here; with --dense the line `- a: 1` again and again; with --real the files below the
-folders whose names end in .yaml or .yml, in an order that a fixed seed gives, joined by `---`. Of those are left out: copies, files
-that begin with a directive or a byte order mark, and what this program or fy-tool refuses.
+If valgrind is installed, it also prints the instructions per byte on 300 KB, by phase. The fastest of three runs
+counts. Real files differ, so --real also measures the sixteen parts of the 16 MB, and compares their mean with the
+whole.
 
-Peers are measured on the same files where they are installed: fy-tool's `--testsuite` output beside `events`, yamllint beside
-`check`, and beside `fmt` fy-tool's `--dump`, another yamlfmt, prettier and ruamel.yaml; a run is ended after LIMIT seconds, and all
-but fy-tool are left out with --dense. Not part of rt ci.
+The text is ordinary configuration, which the script makes. With --dense it is the line `- a: 1` again and again. With
+--real it is the .yaml and .yml files below the folders, in an order from a fixed seed, joined by `---`, without copies,
+files that begin with a directive or a byte order mark, and files that this program or fy-tool refuses.
+
+Installed peers are measured on the same files: for `events` the `--testsuite` output of fy-tool, for `check` yamllint,
+and for `fmt` the `--dump` output of fy-tool, another yamlfmt, prettier and ruamel.yaml. A run ends after LIMIT seconds.
+With --dense, fy-tool is the only peer. Not part of rt ci.
 """
 import argparse
 import importlib.util

@@ -3,14 +3,14 @@
 
 Usage: bench/pages.py [--check]
 
-It finds, in all pages but those that a script makes:
+It finds, in all pages except those that a script makes:
 - links to files or headings that don't exist;
 - names in backticks that look like a file or an item of the code, and don't occur in the repository;
 - numbers of rules, fixable rules and crates, and sums of productions, that differ from the code;
-- settings and options that a page lists and the program doesn't have, or the other way round.
+- settings and options of a page that the program doesn't have, or the other way round.
 
 It prints a line for each, then the number of words, and how often the pages use some words, per 10,000 words, beside
-what Debian's Rust crates have (a guide, not a rule). With --check it fails if it has found something.
+the figures for Debian's Rust crates (a guide, not a rule). With --check it fails if it has found something.
 """
 import glob
 import os

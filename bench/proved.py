@@ -3,11 +3,12 @@
 
 Usage: bench/proved.py [--check | --write]
 
-Each row has a function, the names of its `ensures` clauses, and the first words of its doc comment. The page also
-counts, per crate, the functions, those with a contract, and the must-fail edits. With --check it fails if the page is
-not as the sources are; with --write it writes the page; else it prints the page.
+Each row has a function, the names of its `ensures` clauses, and the first words of its doc comment. The page also has,
+per crate, the numbers of functions, of functions with a contract, and of must-fail edits. With --check it fails if the
+page differs from the sources, with --write it writes the page, and otherwise it prints the page.
 
-A name in bench/proved.txt that two crates have is written CRATE::NAME. --check also fails at a name that no crate has.
+If two crates have a function of one name, bench/proved.txt has CRATE::NAME. --check also fails at a name that no crate
+has.
 """
 import glob
 import os

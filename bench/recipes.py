@@ -1,21 +1,22 @@
 #!/usr/bin/env python3
-"""Tries each recipe of docs/RECIPES.md as it is written there, in a scratch folder, if its tool is installed. Then it tries:
+"""Runs each recipe of docs/RECIPES.md as it is written, in a scratch folder, if its tool is installed. Then it tests:
 
-- what went wrong with the hooks once (bench/faults.py), what they leave alone (bench/left.py), and how they build (bench/builds.py);
+- old faults of the hooks (bench/faults.py), what they leave alone (bench/left.py), how they build (bench/builds.py);
 - the examples of README.md and docs/STYLE.md;
-- whether `--version` prints the newest version of CHANGELOG.md, and the logic of README.md, docs/PROVED.md and `rt version`;
-- whether `patch` makes of a hundred texts their formatting, by what `fmt --diff` prints.
+- whether `--version` prints the newest version of CHANGELOG.md, and the logic of README.md, docs/PROVED.md and
+  `rt version`;
+- whether `patch` turns a hundred texts into their formatting by the output of `fmt --diff`.
 
-It prints `tried`, `FAILED`, `no TOOL` or `not tried` for each, and ends with 1 if one failed.
+It prints `tried`, `FAILED`, `no TOOL` or `not tried` for each, and returns 1 if one failed.
 
-Only the commands and patterns for VS Code, JetBrains, GitHub and GitLab are tried (the matchers by bench/lines.py, the workflows by
-bench/workflows.py, the editors by bench/editors.py), and not these programs: not how they read their settings, nor GitHub's actions
-and cache. The Dockerfile is not tried.
+For VS Code, JetBrains, GitHub and GitLab it runs only the commands and patterns (the matchers by bench/lines.py, the
+workflows by bench/workflows.py, the editors by bench/editors.py): not the programs themselves, how they read their
+settings, nor GitHub's actions and cache. It does not test the Dockerfile.
 
 Usage: bench/recipes.py [PROGRAM]     (default: the program that ./yamlfmt builds; build it first)
 
-The hooks are copies of those here that run PROGRAM, so that nothing is built. They print something on standard error, as a first
-call does that builds.
+It uses copies of the hooks that run PROGRAM, so nothing is built. They print a line on standard error, as a call that
+builds does.
 
 Not part of rt ci.
 """

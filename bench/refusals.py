@@ -1,12 +1,13 @@
 #!/usr/bin/env python3
-"""Refuses each allocation of yamlfmt in turn, and looks at what it answers.
+"""Refuses each allocation of yamlfmt in turn, and looks at the result.
 
 Usage: bench/refusals.py [PROGRAM]     (default: the program that ./yamlfmt builds; build it first)
 
-Run by hand; not part of rt ci. It needs a C compiler (cc) and Linux's LD_PRELOAD. Each run must answer as with ample
-memory, or by status 3, the line `no memory` and nothing on standard output. Of several files the one for which memory was
-refused has that line, and nothing else; what is printed for the others stays. Besides: an input that never ends, an output
-that takes nothing, and `fmt --write`, which must leave the old text or the new one and no other file.
+Run it by hand; it is not part of rt ci. It needs a C compiler (cc) and Linux's LD_PRELOAD. Each run must have the
+result that it has with ample memory, or status 3, the line `no memory` and nothing on standard output. With several
+files, the one for which memory was refused has only that line, and the lines of the others stay. It also tests an input
+that never ends, an output that accepts nothing, and `fmt --write`, which must leave the old text or the new one and no
+other file.
 """
 import os
 import subprocess

@@ -1,4 +1,4 @@
-"""Scratch folders for bench/recipes.py and what it tries: hooks that build nothing, repositories to try them in, and the recipes."""
+"""Scratch folders for bench/recipes.py: hooks that build nothing, repositories, and the recipes."""
 import os
 import re
 import shutil

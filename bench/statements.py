@@ -1,17 +1,17 @@
 #!/usr/bin/env python3
-"""Lists what definitions and proofs state twice, and names that are imported wrongly; it needs no check.
+"""Lists repeated statements of definitions and proofs, or wrong imports of names, without any check of proofs.
 
 Usage: bench/statements.py [again|names]
 
-    again    lemmas that are stated more than once, up to the names of their variables and whether these are written or found
-             (the default). Types of variables are not compared, so two of a group may be different: look before one goes.
-             The lowest crate's is the one to keep, where the others can reach it. Lemmas within modules and `where`, answers,
-             invariants and examples (`*Shown*.antt`) are passed by
-    names    names that a file imports twice, or imports and defines; and those that it imports from a file of the repository that
-             has no such name; a file that isn't there is left to the check. After names were moved this tells in seconds
-             what a check tells one crate at a time
+    again    lemmas that are stated more than once (the default), whatever the names of their variables, and whether
+             these are explicit. It ignores the types of variables, so two lemmas of a group may differ: look before you
+             remove one. Keep the one in the lowest crate if the others can reach it. It skips lemmas within modules and
+             `where`, answers, invariants and examples (`*Shown*.antt`)
+    names    names that a file imports twice, or imports and defines; and names that a file imports from a file of the
+             repository without such a name. A missing file is left to the check. After names were moved, this shows in
+             seconds the errors that a check shows one crate at a time
 
-Neither is part of rt ci.
+Not part of rt ci.
 """
 import collections
 import functools

@@ -1,5 +1,7 @@
-"""The recipes for GitHub and GitLab: the commands of each step, run one after another as their runners run them, with the cache of the
-GitHub recipe played by tar and a small rt in the place of the real one. GitHub and GitLab themselves are not tried.
+"""The recipes for GitHub and GitLab: runs the commands of each step as the runners do. bench/recipes.py runs this.
+
+`tar` stands in for the cache of the GitHub recipe, and a small script for `rt`. GitHub and GitLab themselves are not
+tested.
 """
 import json
 import os

@@ -1,11 +1,11 @@
 #!/usr/bin/env python3
-"""Makes the man page and the shell completions of yamlfmt from what the program prints for --help.
+"""Makes the man page and the shell completions of yamlfmt from the output of --help.
 
 Usage: dist/pages.py PROGRAM FOLDER
 
-Writes yamlfmt.1, yamlfmt.bash, _yamlfmt (for zsh) and yamlfmt.fish into FOLDER. All commands, options and arguments in them are read
-off the program's own help; a line of help that is not understood ends the script. What else the man page says is in
-dist/yamlfmt.1.in, and its date is that of SOURCE_DATE_EPOCH.
+It writes yamlfmt.1, yamlfmt.bash, _yamlfmt (for zsh) and yamlfmt.fish into FOLDER. All commands, options and arguments
+in them come from the program's help; the script fails at a line of help that it can't read. The other text of the man
+page is in dist/yamlfmt.1.in, and its date is SOURCE_DATE_EPOCH.
 """
 import dataclasses
 import os

@@ -1,11 +1,11 @@
 #!/usr/bin/env python3
-"""Makes a Python wheel of yamlfmt, and prints its name. The wheel holds the program as it is, and no Python code.
+"""Makes a Python wheel of yamlfmt, and prints its name. The wheel contains the program as it is, and no Python code.
 
 Usage: dist/wheel.py PROGRAM VERSION PLATFORM SOURCE FOLDER
 
-PLATFORM is the end of the wheel's tag, for example manylinux_2_34_x86_64. SOURCE is a folder with README.md and LICENSE of this
-repository, and the wheel goes into FOLDER. All dates in it are SOURCE_DATE_EPOCH, and nothing is compressed, since compressors differ: the
-same program gives the same bytes.
+PLATFORM is the end of the wheel's tag, for example manylinux_2_34_x86_64. SOURCE is a folder with README.md and LICENSE
+of this repository. The wheel goes into FOLDER. All dates in it are SOURCE_DATE_EPOCH, and nothing is compressed, since
+compressors differ. So one program gives one wheel, byte for byte.
 """
 import base64
 import hashlib
