@@ -28,7 +28,7 @@ STREAMS = ("config.txt", "data.txt", "awkward.txt")
 
 
 def pieces():
-    """The streams that the workloads are made of, each as its lines."""
+    """The streams of the workloads, each as its lines."""
     folder = pathlib.Path(__file__).parent
     for name in STREAMS:
         for piece in (folder / name).read_text().split("%%\n"):
@@ -40,7 +40,7 @@ def tokens(rng):
 
 
 def changed(rng, streams):
-    """Some lines of a stream, in which up to three characters are dropped, put in or exchanged."""
+    """Some lines of a stream, with up to three characters removed, inserted or replaced."""
     lines = rng.choice(streams).splitlines(keepends=True)
     begin = rng.randrange(len(lines) or 1)
     text = list("".join(lines[begin:begin + rng.randint(1, 12)]))
@@ -71,7 +71,7 @@ def answer(program, verb, given):
 
 
 def compared(work):
-    """The verbs by which the programs differ, and whether the text was accepted."""
+    """The commands with different results, and whether the text was accepted."""
     old, new, seed, streams = work
     given = text_of(seed, streams).encode("utf-8", "surrogatepass")
     differ, accepted = [], False

@@ -52,12 +52,12 @@ class Wide(Builder):
         script(room + '/bin/rt', RT)
 
     def steps(self):
-        """What rt has noted: begin or end, the crate, the copy of the sources, the process, and the words."""
+        """The records of rt: begin or end, the crate, the copy of the sources, the process, and the arguments."""
         lines = [line.split(' ', 4) for line in read(self.count).splitlines()]
         return [(what, crate, top, int(pid), ''.join(words)) for what, crate, top, pid, *words in lines]
 
     def begin(self, *words, **more):
-        """Starts a command in a session of its own, and waits until two crates have begun."""
+        """Starts a command in its own session, and waits until two crates have begun."""
         env = dict(environment(self.room), COUNT=self.count, **more)
         call = subprocess.Popen(['bash', self.top + '/' + words[0], *words[1:]], env=env, cwd=self.room, text=True, start_new_session=True,
                                 stdout=subprocess.PIPE, stderr=subprocess.STDOUT)
@@ -68,12 +68,12 @@ class Wide(Builder):
         return call
 
     def is_over(self):
-        """Whether nothing is left of any rt, nor of what it has started."""
+        """Whether no rt is left, and no process that it started."""
         return not any(is_group(step[3]) for step in self.steps())
 
 
 def is_group(number):
-    """Whether the group of processes has one that is alive."""
+    """Whether the process group has a living process."""
     try:
         os.killpg(number, 0)
     except ProcessLookupError:
@@ -82,7 +82,9 @@ def is_group(number):
 
 
 def crates_side_by_side(room, clone, recipes):
-    """Each crate after those below it, in no copy two at once, the longest chain first, and no more than is asked for."""
+    """Each crate comes after those below it, and the longest chain first; no copy has two at once, and at most three
+    crates are at work.
+    """
     builder = Wide(room)
     done = builder.run('hooks/build', '--crates', '3', start_new_session=True)
     at_work, ended, most, good = {}, set(), 0, done.returncode == 0
@@ -102,7 +104,7 @@ def crates_side_by_side(room, clone, recipes):
 
 
 def crates_one_by_one(room, clone, recipes):
-    """All in the clone, and rt chooses how many processes work."""
+    """All are in the clone, and rt chooses the number of processes."""
     builder = Wide(room)
     done = builder.run('hooks/build', '--crates', '1', start_new_session=True)
     words = [step[4] for step in builder.steps() if step[0] == 'begin']
@@ -120,7 +122,7 @@ def failed_crate_stops_the_rest(room, clone, recipes):
 
 
 def interrupts_end_the_build(room, clone, recipes):
-    """Ctrl-C at a terminal, which all get; and kill, which only one gets: nothing is left, and the next call builds."""
+    """After Ctrl-C, which reaches all processes, or kill of one, no process is left, and the next call builds."""
     builder = Wide(room)
     for send, number, wanted in ((os.killpg, signal.SIGINT, (130, -2)), (os.kill, signal.SIGTERM, (143,)), (os.kill, signal.SIGHUP, (129,))):
         call = builder.begin('hooks/program', HANGS='low left right alone')
@@ -146,7 +148,7 @@ def another_rt_works_in_the_clone(room, clone, recipes):
 
 
 def gate_takes_no_program_away(room, clone, recipes):
-    """While rt ci has set the folders out aside, after an interrupt that left them there, and without them, a call starts at once."""
+    """A call starts at once while rt ci has moved the folders out aside, after its interrupt, or without them."""
     builder = Builder(room)
     builder.run()
     said = []
@@ -164,7 +166,7 @@ def gate_takes_no_program_away(room, clone, recipes):
 
 
 def gate_leaves_a_program(room, clone, recipes):
-    """What rt has left is taken into .build, so that the next gate takes no program away."""
+    """The program that rt left is copied into .build, so that the next rt ci removes no program."""
     builder = Builder(room)
     script(builder.top + '/crates/yamlfmt/out/yamlfmt', 'echo left\n')
     said = [builder.run('yamlfmt').stdout]

@@ -22,7 +22,7 @@ def read(path):
 
 
 def crates():
-    """What each crate uses, in the order of crates.txt."""
+    """The crates that each crate uses, in the order of crates.txt."""
     found = {}
     for line in read('crates.txt').splitlines():
         head, _, names = line.partition('#')[0].partition(':')

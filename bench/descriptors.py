@@ -43,7 +43,7 @@ RUNS = [
 
 
 def run(program, folder, words, closed):
-    """Status, standard output and standard error (empty if closed), and what the files of the folder are then."""
+    """Status, standard output and standard error (empty if closed), and the files of the folder after the run."""
     for name in os.listdir(folder):
         os.remove(os.path.join(folder, name))
     for name, data in FILES.items():
@@ -63,7 +63,7 @@ def run(program, folder, words, closed):
 
 
 def reads_input(words):
-    """Whether the words name no FILE, so that standard input is read."""
+    """Whether the arguments name no FILE, so that standard input is read."""
     verbs = [word for word in words if not word.startswith('-')]
     return words != [] and words[0] in ('events', 'check', 'fmt') and (len(verbs) == 1 or '-' in words) and not {'--write', '--help'} & set(words)
 

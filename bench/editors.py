@@ -17,7 +17,7 @@ FOUND = ('a b.yaml', '2', '8', 'comment-space (fixable)')
 
 
 def fresh(room):
-    """The files to format, with settings of theirs."""
+    """The files to format, with their settings."""
     os.makedirs(room + '/.git', exist_ok=True)
     write(room + '/.yamlfmt.toml', 'quotes = "single"\n')
     for name, text in TEXTS.items():
@@ -25,14 +25,14 @@ def fresh(room):
 
 
 def edited(room, edit):
-    """Whether each file, when it was edited so, holds only the formatted text; or its own, if there is none, and that is said."""
+    """Whether each edited file has only the formatted text; or, if there is none, its own text after a message."""
     fresh(room)
     said = {name: edit(name) for name in TEXTS}
     return {name: read(room + '/' + name) for name in TEXTS} == WANTED and all(words in said[name] for name, words in SAID.items())
 
 
 def vim_alike(room, words):
-    """Tries :YamlFormat and :make of the editor that the words start."""
+    """Tries :YamlFormat and :make of the editor that the command starts."""
     fresh(room)
     sh(words + ['-c', 'set ft=yaml | silent make % | call writefile([string(getqflist())], "found")', '-c', 'q', 'deep/a.yaml'], room, timeout=60)
     found = read(room + '/found')
@@ -76,7 +76,7 @@ NARROWED = '(progn (goto-char (point-max)) (forward-line -1) (narrow-to-region (
 
 
 def emacs(room, text, clone):
-    """Formats whole buffers, also one of which only a part is shown, and visits the first finding of a file."""
+    """Formats whole buffers, also if only a part is visible, and visits the first finding of a file."""
     def edit(name, by='(progn (yamlfmt-buffer) (save-buffer))'):
         return sh(emacs_words(room, text, name) + [by], room, timeout=60).stdout
 
@@ -94,7 +94,7 @@ def emacs_save(room, text, clone):
 
 
 def vscode(room, text, clone):
-    """The task's command, and its patterns, which are those of the matcher for GitHub."""
+    """The task's command, and its patterns, which must equal those of the matcher for GitHub."""
     repository(room)
     task = json.loads(text)['tasks'][0]
     patterns = lines.patterns_of(task['problemMatcher'])
@@ -105,7 +105,7 @@ def vscode(room, text, clone):
 
 
 def jetbrains(room, text, clone):
-    """The program with the arguments, and the output filter, macros filled in."""
+    """The program with the arguments, and the output filter, with the values of macros."""
     fields = dict(line.split(': ', 1) for line in text.splitlines())
     fresh(room)
 

@@ -23,19 +23,19 @@ def read(path):
 
 
 def said(program, words, text):
-    """What the program prints on both streams for a text."""
+    """The output of the program for a text, on both streams."""
     done = subprocess.run([program, *words], input=text, stdout=subprocess.PIPE, stderr=subprocess.STDOUT, text=True)
     return done.stdout.splitlines()
 
 
 def spans(cell):
-    """The texts of a cell, with line breaks and tabs in the place of their signs."""
+    """The texts of a cell, with their signs for line breaks and tabs replaced."""
     for found in re.findall(r'`` (.*?) ``|`(.*?)`|<code>(.*?)</code>', cell):
         yield html.unescape(''.join(found)).replace('\\|', '|').replace('⏎', '\n').replace('→', '\t')
 
 
 def refusals():
-    """Each text of TROUBLESHOOTING, and where it is refused."""
+    """Each text of TROUBLESHOOTING, and the position of its refusal."""
     for line in read('docs/TROUBLESHOOTING.md').splitlines():
         row = re.match(r'\| (.*?) \((\d+:\d+(?:, \d+:\d+)*)\) \|', line)
         if row:
@@ -47,7 +47,7 @@ def refusals():
 
 
 def findings():
-    """Each example of a rule: the rule, the text, the settings, and where it finds something."""
+    """Each example of a rule: the rule, the text, the settings, and the position of the finding."""
     for row in re.findall(r'^\| \d+ \| ([a-z-]+) \| .* \| (.*) \| (?:yes|no) \|$', read('docs/STYLE.md'), re.M):
         for text, setting, place in re.findall(r'`([^`]*)`(?: under `([^`]*)`)?: `(\d+:\d+)`', row[1]):
             yield row[0], text.encode().decode('unicode_escape'), setting, place

@@ -14,13 +14,13 @@ def each_file(clone, room, *words, **more):
 
 
 def commit(room, *names, env=None):
-    """Stages the files, or what is named by options, and commits."""
+    """Stages the files, or those that options name, and commits."""
     sh(['git', 'add', *names], room)
     return sh(['git', 'commit', '-qm', 'message'], room, env=env)
 
 
 def hooked(room, clone, recipe):
-    """A repository with the Git hook, whose first commit is made."""
+    """A repository with the Git hook and one commit."""
     repository(room)
     commit(room)
     return sh(['sh', '-c', recipe], room)
@@ -39,7 +39,7 @@ def links_stay(room, clone, recipes):
 
 
 def names_like_stages(room, clone, recipes):
-    """`:0:x.yaml` names what is staged of x.yaml."""
+    """`:0:x.yaml` names the staged version of x.yaml."""
     hooked(room, clone, recipes['git'])
     write(room + '/x.yaml', GOOD)
     write(room + '/0:x.yaml', BAD)
@@ -48,7 +48,7 @@ def names_like_stages(room, clone, recipes):
 
 
 def hook_by_relative_path(room, clone, recipes):
-    """The recipe, in which the clone is named from where it is; and in a linked worktree."""
+    """The recipe with a relative path of the clone, also in a linked worktree."""
     hooked(room, clone, recipes['git'].replace(clone, os.path.relpath(clone, room)))
     write(room + '/a b.yaml', BAD + 'b: 1 # c\n')
     sh(['git', 'worktree', 'add', '-q', room + '/linked'], room)
@@ -68,7 +68,7 @@ def hook_in_worktree(room, clone, recipes):
 
 
 def hook_without_git(room, clone, recipes):
-    """Where Git does not say what is staged, nothing passes."""
+    """If Git does not list what is staged, nothing passes."""
     repository(room)
     done = sh([clone + '/hooks/pre-commit'], room, env={'GIT_TEST_ASSUME_DIFFERENT_OWNER': '1'})
     literal = sh([clone + '/hooks/pre-commit'], room, env={'GIT_LITERAL_PATHSPECS': '1'})
@@ -90,7 +90,7 @@ def settings_by_pipe(room, clone, recipes):
 
 
 def settings_from_elsewhere(room, clone, recipes):
-    """They are those of the work tree of each file, or of the folder where there is no work tree."""
+    """They are those of each file's work tree, or of its folder if it has no work tree."""
     for name in ('one', 'two'):
         write(room + '/%s/deep/a.yaml' % name, BAD)
     repository(room + '/one')
@@ -113,7 +113,7 @@ def settings_not_found_out(room, clone, recipes):
 
 
 def without_room():
-    """Lets no file grow, as on a full disk."""
+    """No file can grow, as on a full disk."""
     signal.signal(signal.SIGXFSZ, signal.SIG_IGN)
     resource.setrlimit(resource.RLIMIT_FSIZE, (0, 0))
 
@@ -127,7 +127,7 @@ def full_folder(room, clone, recipes):
 
 
 def names_of_bytes(room, clone, recipes):
-    """Names that are no UTF-8."""
+    """Names that are not UTF-8."""
     bad, good = b'\xe9.yaml', b'\xe8.yaml'
     for name, text in ((bad, BAD), (good, GOOD)):
         with open(os.fsencode(room) + b'/' + name, 'w', encoding='utf-8') as file:
@@ -144,7 +144,7 @@ def help_is_there(room, clone, recipes):
 
 
 def findings_come_once(room, clone, recipes):
-    """On standard output; and why a text is refused comes after its line, on standard error."""
+    """On standard output; the reason of a refusal follows its line, on standard error."""
     write(room + '/a.yaml', 'a: "x" # c\n')
     write(room + '/b.yaml', 'a: b: c\n')
     apart = each_file(clone, room, 'check', 'a.yaml', 'b.yaml', stderr=subprocess.PIPE)
@@ -159,7 +159,7 @@ def findings_come_once(room, clone, recipes):
 
 
 def findings_are_explained_on_a_terminal(room, clone, recipes):
-    """Each after its own line."""
+    """Each explanation follows the line of its finding."""
     write(room + '/a.yaml', 'a: "x" # c\n')
     shown = sh(['script', '-qec', "'%s/hooks/each_file' check a.yaml" % clone, '/dev/null'], room).stdout
     lines = [line for line in shown.splitlines() if line.startswith('a.yaml')]
@@ -186,7 +186,7 @@ def calls_are_few(room, clone, recipes):
 
 
 def one_buffer(room, clone, recipes):
-    """Standard input in the place of a file."""
+    """Standard input instead of a file."""
     repository(room)
     write(room + '/.yamlfmt.toml', 'quotes = "single"\n')
     said = [each_file(clone, room, 'fmt', '--stdin', 'new/x.yaml', input=text, stderr=subprocess.PIPE) for text in (BAD, 'a: b: c\n', 'a: {{ x }}\n')]
@@ -234,7 +234,7 @@ class Builder:
 
 
 def build_by_content(room, clone, recipes):
-    """Times alone build nothing; a text that the program is built from does, and no test and no proof."""
+    """A new text of a source builds the program again; a new time, test or proof builds nothing."""
     builder = Builder(room)
     source = builder.top + '/crates/yf_one/src/lib.rt'
     told = [builder.run().returncode, builder.builds()]
@@ -254,7 +254,7 @@ def build_by_content(room, clone, recipes):
 
 
 def build_restored_from_elsewhere(room, clone, recipes):
-    """What was built from other sources is not taken, be it as new as it may."""
+    """A program of other sources is not used, even if it is newer."""
     builder = Builder(room)
     builder.run()
     write(builder.top + '/crates/yf_one/src/lib.rt', 'changed')
@@ -267,7 +267,7 @@ def build_restored_from_elsewhere(room, clone, recipes):
 
 
 def build_made_by_hand(room, clone, recipes):
-    """A program that rt has built without the hooks is taken where it is newer than the sources, the first and any other."""
+    """A program that rt built without the hooks is used if it is newer than the sources, first or later."""
     builder = Builder(room)
     said = []
     for text in ('first', 'second'):
@@ -298,14 +298,14 @@ def failed_build(room, clone, recipes):
 
 
 def another_logic(room, clone, recipes):
-    """A kit of another logic, and one that tells none, build nothing."""
+    """With a kit that has another logic, or prints none, nothing is built."""
     builder = Builder(room)
     said = [builder.run(env={'LOGIC': logic}, start_new_session=True) for logic in ('fedcba9876543210', LOGIC + '0', '')]
     return all(done.returncode == 3 and 'the logic ' + LOGIC in done.stdout for done in said) and builder.builds() == 0
 
 
 def build_is_told(room, clone, recipes):
-    """On the terminal, though standard error is held back, as pre-commit does; and where there is none, on standard error."""
+    """On the terminal, although standard error is held back, as by pre-commit; without a terminal, on standard error."""
     builder = Builder(room)
     line = "COUNT='%s' '%s/yamlfmt' > said 2> held" % (builder.count, builder.top)
     shown = sh(['script', '-qec', "bash -c \"%s\"" % line, '/dev/null'], room).stdout
@@ -316,7 +316,7 @@ def build_is_told(room, clone, recipes):
 
 
 def build_is_told_under_pre_commit(room, clone, recipes):
-    """On the terminal, though the hook passes, of which pre-commit shows nothing."""
+    """On the terminal, although pre-commit shows nothing of a hook that passes."""
     if not shutil.which('pre-commit'):
         return True
     builder = Builder(room)
@@ -332,7 +332,7 @@ def build_is_told_under_pre_commit(room, clone, recipes):
 
 
 def program_elsewhere(room, clone, recipes):
-    """YAMLFMT_PROGRAM, by a path, by a name of the path, and where it is no program or the script that asks for it."""
+    """YAMLFMT_PROGRAM is a path, a name in PATH, no program, or the script that calls hooks/program."""
     builder = Builder(room)
     script(room + '/there', 'echo there\n')
     script(room + '/bin/there', 'echo there\n')

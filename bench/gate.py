@@ -32,7 +32,7 @@ IN_A_CRATE = ("verdict", "check", "test")
 
 
 def words_of(command):
-    """The words of a command, and the folder below the top in which it is run."""
+    """The arguments of a command, and its folder below the top."""
     verb, _, name = command.partition(":")
     if verb in AT_THE_TOP and (name or verb == "ci"):
         return ["rt", verb, name or "--anew"], "."

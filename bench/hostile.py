@@ -45,17 +45,17 @@ def shape(name, make, written=0):
 
 
 def limit(name, verb):
-    """Bytes of memory a byte of input."""
+    """Bytes of memory per byte of input."""
     return LIMIT[verb] + (2 * WRITTEN.get(name, 0) if verb in ('fmt', 'block') else 0)
 
 
 def repeated(name, part, front='', end=''):
-    """The part over and over."""
+    """Repetitions of the part."""
     shape(name, lambda n: front + part * (max(1, n // len(part.encode()))) + end)
 
 
 def numbered(name, part, front='', end=''):
-    """A part with a number in it, which counts up."""
+    """Repetitions of a part that contains an increasing number."""
     width = len(part % 1000000)
 
     def make(n):
@@ -65,7 +65,7 @@ def numbered(name, part, front='', end=''):
 
 
 def documents(name, body):
-    """A document over and over."""
+    """Repetitions of a document."""
     repeated(name, body + '\n---\n')
 
 
@@ -315,7 +315,7 @@ repeated('refused-after-literal', ' a\n', '|\n', 'b: c: d\n@')
 
 
 def command(program, verb, path):
-    """The words of a command; the settings of the last verb are in a file beside the text."""
+    """The arguments of a command; the settings of the last one are in a file beside the text."""
     if verb == 'explain':
         return [program, 'check', '--explain']
     if verb != 'block':
@@ -328,7 +328,7 @@ def command(program, verb, path):
 
 
 def run(program, verb, path):
-    """Processor seconds, peak of resident memory in bytes, and the status (None where it took too long)."""
+    """Processor seconds, peak of resident memory in bytes, and the status (None if the run took too long)."""
     with open(path, 'rb') as source:
         child = subprocess.Popen(command(program, verb, path), stdin=source, stdout=subprocess.DEVNULL, stderr=subprocess.DEVNULL)
         deadline = time.monotonic() + 120
@@ -351,7 +351,7 @@ class Measure:
         self.base = self.at(lambda n: '', 'events', 0)[1]
 
     def at(self, make, verb, size, times=1):
-        """Seconds (the least of so many runs), bytes above those of an empty input, the status, and the size of the text."""
+        """Least seconds of the runs, bytes above those of an empty input, the status, and the size of the text."""
         path = os.path.join(self.folder, 'hostile.yaml')
         with open(path, 'wb') as out:
             out.write(make(size).encode())
@@ -360,7 +360,7 @@ class Measure:
         return seconds, memory - self.base, status, size
 
     def start(self, make, verb):
-        """A size at which a run takes a time that can be measured."""
+        """A size at which a run takes a measurable time."""
         size = 1 << 16
         while size < 1 << 20 and self.at(make, verb, size)[0] < 0.02:
             size *= 2
@@ -395,7 +395,7 @@ class Measure:
 
 
 def report(rows):
-    """The shapes that take most for each verb."""
+    """The shapes that take most for each command."""
     for verb in VERBS:
         mine = [row for row in rows if row[1] == verb]
         slow = max(mine, key=lambda row: row[3] / row[2])

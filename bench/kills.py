@@ -34,7 +34,7 @@ def start(program, path):
 
 
 def killed(program, path, whole, soon):
-    """Kills a run: at any moment of its time, or soon after its new file is there."""
+    """Kills a run: at any moment, or soon after its new file appears."""
     run = start(program, path)
     if soon:
         while not os.path.exists(path + '.yamlfmt-new') and run.poll() is None:

@@ -67,7 +67,7 @@ NO_TEXTS = {
 
 
 def templates_stay(room, clone, recipes):
-    """They are left alone with status 1, other files are done."""
+    """They are left alone with status 1, and other files are processed."""
     for name, text in {**TEMPLATES, **NO_TEMPLATES}.items():
         write(room + '/' + name, text)
     names = [*TEMPLATES, *NO_TEMPLATES]
@@ -78,7 +78,7 @@ def templates_stay(room, clone, recipes):
 
 
 def templates_count(room, clone, recipes):
-    """Status 1 without an option, 0 if they are skipped; and they are done if that is asked for."""
+    """Status 1 without an option, and 0 with `skip`; with `format` they are processed."""
     write(room + '/value.yaml', TEMPLATES['value.yaml'])
 
     def said(words, *options):
@@ -92,7 +92,7 @@ def templates_count(room, clone, recipes):
 
 
 def refusals_are_no_templates(room, clone, recipes):
-    """A text that is refused elsewhere than at a tag is refused, also if templates are skipped."""
+    """A text with a refusal that is not at a tag is refused, also if templates are skipped."""
     for name, (text, _) in REFUSED.items():
         write(room + '/' + name, text)
     done = [each_file(clone, room, *words, '--templates=skip', '--', *REFUSED) for words in VERBS]
@@ -101,7 +101,7 @@ def refusals_are_no_templates(room, clone, recipes):
 
 
 def vaults_stay(room, clone, recipes):
-    """With status 0, since there is nothing to check; with standard input nothing is printed."""
+    """With status 0, since there is nothing to check; with --stdin nothing is printed on standard output."""
     hooked(room, clone, recipes['git'])
     write(room + '/vault.yaml', VAULT)
     options = ([], ['--templates'], ['--templates=skip'])
@@ -114,7 +114,7 @@ def vaults_stay(room, clone, recipes):
 
 
 def texts_stay(room, clone, recipes):
-    """With status 1 in every mode, and other documents are done."""
+    """With status 1 in every mode; other documents are processed."""
     for name, text in {**TEXTS, **NO_TEXTS}.items():
         write(room + '/' + name, text)
     names = [*TEXTS, *NO_TEXTS]
@@ -135,7 +135,7 @@ def texts_are_not_committed(room, clone, recipes):
 
 
 def each_awk(room, clone, recipes):
-    """The same files are left alone, whichever awk is there."""
+    """Each awk leaves the same files alone."""
     texts = {**{'a' + name: text for name, text in TEMPLATES.items()}, **{'b' + name: text for name, text in NO_TEMPLATES.items()},
              **{'c' + name: text for name, text in TEXTS.items()}, **{'d' + name: text for name, text in NO_TEXTS.items()},
              **{'e' + name: text for name, (text, _) in REFUSED.items()}}
@@ -154,7 +154,7 @@ def each_awk(room, clone, recipes):
 
 
 def templates_are_not_committed(room, clone, recipes):
-    """The Git hook refuses them, and says so; the recipe with --templates=skip lets them pass."""
+    """The Git hook refuses them with a message; the recipe with --templates=skip ignores them."""
     hooked(room, clone, recipes['git'])
     write(room + '/value.yaml', TEMPLATES['value.yaml'])
     refused = commit(room, 'value.yaml')

@@ -31,26 +31,26 @@ def findings():
 
 
 def said(word, *names):
-    """The texts that the hooks say by that word, with something in the place of what the shell puts in."""
+    """The messages after that word in the hooks, with the variables of the shell replaced."""
     for name in names:
         for text in re.findall(r'(?<![\w-])%s"([^"]*)"' % word, read(TOP + name)):
             yield re.sub(r'\$\{?\w+\}?(%%[^}]*\})?', 'a word', text)
 
 
 def of_a_file():
-    """What each_file says of a file by itself."""
+    """The messages of each_file itself about a file."""
     own = [*said(r'say "\$name" ', '/hooks/each_file'), *said('message=', '/hooks/each_file')]
     return [text for text in own if text not in ('a word', '') and not text.startswith('$(')]
 
 
 def left_alone():
-    """What each_file says of a file that it leaves alone: what counts as status 1, and what passes."""
+    """The messages of each_file about files that it leaves alone: with status 1, and with status 0."""
     vault, text, template, more = re.findall(r"words_of\+?='(.*?)'", read(TOP + '/hooks/each_file'))
     return ['left alone: ' + words for words in (text, template + more)], ['left alone: ' + words for words in (vault, template)]
 
 
 def explanations():
-    """What `--explain` tells after a line, which is no fault of its own."""
+    """Lines that `--explain` adds, which are no errors themselves."""
     return ('  expected a `,` or the closing bracket', '  | a:1:2 b', '  | x: read failed', '  | x: left alone: y', '  |     ^', '  opened at 2:4',
             '  3:4: the byte xE9 is no UTF-8 here', '  2:8 comment-space: fmt writes two spaces before it', '  a.yaml: No such file or directory (os error 2)')
 
@@ -68,14 +68,14 @@ def of_hooks():
 
 
 def progress():
-    """What is told of a build, which is no fault."""
+    """Messages about a build, which are no errors."""
     for text in said('tell ', '/hooks/program', '/hooks/build'):
         yield 'yamlfmt: ' + text
     yield 'yamlfmt: 3 of 25 crates are proved; now yf_one (100 of 200 functions), yf_two'
 
 
 def matches(patterns, line):
-    """Which of the patterns take the line, and what they find in it."""
+    """The patterns that match the line, and the parts that they find in it."""
     for owner, pattern in patterns.items():
         hit = re.search(pattern['regexp'], line)
         if hit:
@@ -83,7 +83,7 @@ def matches(patterns, line):
 
 
 def rows():
-    """Each line, and what is to be found in it by which matcher alone."""
+    """Each line, the only matcher for it, and the parts that the matcher must find."""
     counted, passed = left_alone()
     for file in FILES:
         for text in [*refusals(), *findings(), *of_a_file(), *counted]:
@@ -113,7 +113,7 @@ def patterns_of(matchers):
 
 
 def matcher(room, text, clone):
-    """Each line is taken by the one matcher that is meant, and read right; what is no fault is taken by none."""
+    """Exactly one matcher matches each line, and finds its parts; no matcher matches a line that is no error."""
     patterns = patterns_of(json.loads(text)['problemMatcher'])
     good = len(patterns) == 4
     kinds = [[*refusals()], [*findings()], of_a_file(), [*of_hooks()], [*progress()]]

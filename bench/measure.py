@@ -63,13 +63,13 @@ def dense_text(size):
 
 
 def parts_of(text):
-    """The sixteen parts of a text of many documents, each cut before a document."""
+    """The sixteen parts of a text with many documents, each cut before a document."""
     cuts = [0] + [text.rfind(b'\n---\n', 0, len(text) * k // 16) + 1 for k in range(1, 16)] + [len(text)]
     return [text[start:end] for start, end in zip(cuts, cuts[1:])]
 
 
 def is_accepted(program, text):
-    """Whether this program and fy-tool accept the text, and it can stand after another one."""
+    """Whether this program and fy-tool accept the text, and it can follow another one."""
     readers = [[program, 'events']] + [words for words in [words_of('fy-tool', '--testsuite', '-')] if words]
     quiet = {'stdout': subprocess.DEVNULL, 'stderr': subprocess.DEVNULL}
     return text[:1] not in (b'%', b'\xef', b'\xfe', b'\xff') and all(
@@ -91,7 +91,7 @@ def real_files(program, folders):
 
 
 def real_text(program, folders):
-    """As a function of the size: files below the folders, until the size is reached."""
+    """A function from a size to a text: files below the folders, until the size is reached."""
     parts, length = [], 0
     for text in real_files(program, folders):
         parts.append(text + b'---\n')
@@ -104,7 +104,7 @@ def real_text(program, folders):
 
 
 def run(words, path, good):
-    """Processor seconds, and the peak of resident memory in bytes; the seconds are None where there were too many."""
+    """Processor seconds (None if too many), and the peak of resident memory in bytes."""
     with open(path, 'rb') as source:
         child = subprocess.Popen(words, stdin=source, stdout=subprocess.DEVNULL)
         resource.prlimit(child.pid, resource.RLIMIT_CPU, (LIMIT, LIMIT))
@@ -127,7 +127,7 @@ PHASES = {
 
 
 def instructions(verb, program, path):
-    """Prints the instructions a byte of a command and of its phases, as valgrind counts them."""
+    """Prints the instructions per byte of a command and of its phases, by valgrind."""
     counter, teller = shutil.which('valgrind'), shutil.which('callgrind_annotate')
     if counter is None or teller is None:
         return
@@ -152,7 +152,7 @@ def instructions(verb, program, path):
 
 
 def least(words, path, good):
-    """The run with the least seconds: of three, but of one where that takes ten seconds or more."""
+    """The fastest of three runs, or the first run if it takes ten seconds or more."""
     best = run(words, path, good)
     if best[0] is None or best[0] >= 10:
         return best
@@ -178,7 +178,7 @@ ROUND_TRIP = 'import sys; from ruamel.yaml import YAML; y = YAML(); y.dump(y.loa
 
 
 def words_of(name, *words):
-    """The command with its words, where it is installed and is not this program."""
+    """The command with its arguments, if it is installed and is not this program."""
     path = shutil.which(name)
     if path is None or os.path.realpath(path).startswith(TOP + os.sep):
         return None
@@ -211,7 +211,10 @@ def write_texts(given, folder):
 
 
 def written(given, folder):
-    """The paths of the texts, and of the parts. They are made in a process of its own: the memory of this one counts for each that it starts."""
+    """The paths of the texts and of the parts.
+
+    A process of its own makes them, since the memory of this one counts for each process that it starts.
+    """
     child = os.fork()
     if child == 0:
         write_texts(given, folder)

@@ -49,7 +49,7 @@ def pages():
 
 
 def prose(text):
-    """A page without its blocks of code, with empty lines in their place."""
+    """A page with empty lines instead of its blocks of code."""
     text = re.sub(r'^```.*?^```', lambda block: '\n' * block[0].count('\n'), text, flags=re.M | re.S)
     return re.sub(r'^( {4,})(?![-*\d]).*', '', text, flags=re.M)
 
@@ -89,13 +89,13 @@ def words_of_code():
 
 
 def is_there(name):
-    """Whether a file or folder is somewhere in the repository: from the top, in a crate, or at the end of a path."""
+    """Whether the repository has the file or folder: from the top, in a crate, or at the end of a path."""
     places = (name, 'crates/*/' + name, 'crates/**/' + name, 'docs/**/' + name, 'bench/' + name)
     return any(glob.glob('%s/%s' % (TOP, place), recursive=True) for place in places)
 
 
 def names(text, words):
-    """The names in backticks that are nowhere in the repository."""
+    """The names in backticks that do not occur in the repository."""
     for name in dict.fromkeys(re.findall(r'(?<!`)`([^`\n]+)`(?!`)', prose(text))):
         if FILE.fullmatch(name) and not re.search(r'\b[A-Z]{1,6}\b(?!\.md)|^\d|^/|^\.\.?/', name):
             known = re.match(r'(crates|docs|bench|dist|hooks|specs|proofs|src|must-fail|\w+\.(rt|antt|py))\b', name)
@@ -116,13 +116,13 @@ def in_words(number):
 
 
 def rules(kind):
-    """How many rules there are of a kind: `fixable`, or any."""
+    """The number of rules, or of `fixable` ones."""
     tables = [read(path) for path in glob.glob(TOP + '/crates/*/src/rules.rt')]
     return max(len(re.findall(r'=> About::%s\(' % kind, table)) for table in tables)
 
 
 def built():
-    """How many crates the program is made of."""
+    """The number of crates of the program."""
     below = {}
     for line in read('crates.txt').splitlines():
         head, _, uses = line.partition('#')[0].partition(':')
@@ -167,7 +167,7 @@ def options():
 
 
 def lists():
-    """Where a page's list of settings or options is not the program's."""
+    """The differences of a page's list of settings or options from the program's."""
     keys = settings()
     places = (('README.md', r'^    (\w+) = '), ('docs/STYLE.md', r'^\| `(\w+)` \| .* \| .* \| .* \|$'),
               ('dist/yamlfmt.1.in', r'^(\w+) = '))

@@ -55,7 +55,7 @@ def git(room, text, clone):
 
 
 def with_tool(room, text, clone):
-    """A repository with the configuration, for which pre-commit clones this one: here one of the hooks alone."""
+    """A repository with the configuration, and a repository with only the hooks, which pre-commit clones."""
     tool = room + '/tool'
     shutil.copytree(clone, tool)
     shutil.copy(TOP + '/.pre-commit-hooks.yaml', tool)
@@ -77,7 +77,7 @@ def pre_commit(room, text, clone):
 
 
 def git_templates(room, text, clone):
-    """Lets templates pass, and nothing else; also if a repository has no folder for hooks."""
+    """Ignores templates, and nothing else; also if a repository has no folder for hooks."""
     repository(room)
     sh(['rm', '-rf', '.git/hooks'], room)
     sh(['sh', '-c', text], room)
@@ -89,7 +89,7 @@ def git_templates(room, text, clone):
 
 
 def pre_commit_skip(room, text, clone):
-    """A template passes with the option, and fails the hook without it; an encrypted file passes, and plain text fails."""
+    """A template passes with the option, and fails the hook without it. An encrypted file passes; plain text fails."""
     with_tool(room, text, clone)
     texts = {'template.yaml': 'a: {{ x }}\n', 'vault.yaml': left.VAULT, 'inventory.yaml': left.INVENTORY}
     for name, said in texts.items():
@@ -121,7 +121,7 @@ LONG = '---\nurl: https://example.com/%s\n' % ('a' * 100)
 
 
 def long_lines(room, text, clone):
-    """Tells of all rules but one, whatever the file; and all of them without the option."""
+    """Reports all rules except one, and all rules without the option."""
     repository(room)
     write(room + '/long.yaml', LONG)
     sh(['git', 'add', '.'], room)
@@ -137,7 +137,7 @@ def pre_commit_long_lines(room, text, clone):
 
 
 def changed(room, text, clone):
-    """Names what the branch changed, from the top and from a folder; and fails where that can't be found out."""
+    """Names the files that the branch changed, from the top and from a folder; fails if that can't be found out."""
     repository(room)
     for name, before in (('old.yaml', BAD), ('gone.yaml', 'other: text\n'), ('deep/old.yaml', BAD)):
         write(room + '/' + name, before)
@@ -156,7 +156,7 @@ def changed(room, text, clone):
 
 
 def make(room, text, clone):
-    """Tells, formats, and has nothing more to tell; and fails where Git does."""
+    """Reports, formats, and then reports nothing; fails if Git fails."""
     repository(room)
     write(room + '/Makefile', text)
     before, done, after = (sh(['make', goal], room) for goal in ('yaml-check', 'yaml', 'yaml-check'))
@@ -223,7 +223,7 @@ def readme(program):
 
 
 def logics():
-    """The hash of the logic wherever it is told beside the program: two documents, and the kit where there is one."""
+    """The hash of the logic in two documents, and in the kit if there is one."""
     for page in ('README.md', 'docs/PROVED.md'):
         yield re.search('hash `([0-9a-f]+)`', read(TOP + '/' + page))[1]
     if shutil.which('rt'):
@@ -240,7 +240,7 @@ LINES = ('k%d:  v', 'k%d: v', "k%d: 'v'", 'k%d: v  # %d', 'k%d: [1,2]', 'k%d: "v
 
 
 def texts():
-    """A hundred texts with line breaks of each kind and none at the end, some of them in the house style."""
+    """A hundred texts with line breaks of each kind or none at the end, some of them in the house style."""
     for seed in range(100):
         dice = random.Random(seed)
         few = dice.sample(LINES, dice.randint(1, len(LINES)))
@@ -250,7 +250,7 @@ def texts():
 
 
 def patched(program):
-    """Whether `patch` makes of each text its formatting, by what `fmt --diff` prints, and nothing is printed where they are the same."""
+    """Whether `patch` formats each text by the output of `fmt --diff`, which is empty if nothing changes."""
     if not shutil.which('patch'):
         print('no patch')
         return True
@@ -276,7 +276,7 @@ def is_in_style(text, program):
 
 
 def is_good(name, text, clone, program):
-    """Tries a recipe, where its tool is there, and tells."""
+    """Tests a recipe if its tool is installed, and prints the result."""
     if name in TRIED_BY_FAULTS:
         return True
     if name in UNTRIED:
@@ -298,7 +298,7 @@ def is_good(name, text, clone, program):
 
 
 def is_gone(tried, clone):
-    """Tries what went wrong once, and tells."""
+    """Tests an old fault, and prints the result."""
     with tempfile.TemporaryDirectory() as room:
         os.makedirs(room + '/bin')
         try:

@@ -92,7 +92,7 @@ class Runs:
         print('FAULT %s: %s: %r' % (' '.join(words), what, answer))
 
     def in_turn(self, words, data, restore=None, look=None):
-        """Refuses each allocation of a run; `restore` sets the files up before each, `look` judges them after it."""
+        """Refuses each allocation of a run. `restore` sets the files up before each, and `look` judges them after."""
         restore = restore or (lambda: None)
         restore()
         full, _ = self.run(words, data)
@@ -115,7 +115,7 @@ class Runs:
 
 
     def several(self, words, files):
-        """Refuses each allocation of a run over several files, which are set up before each."""
+        """Refuses each allocation of a run over several files, which are set up before each run."""
         names = list(files)
         words = words + names
 
@@ -155,7 +155,7 @@ def lines_of(name, text):
 
 
 def is_without(name, names, full, answer):
-    """Whether an answer is the full one, but only `no memory` is said of a file."""
+    """Whether a result is the full one, except that one file has only `no memory`."""
     output = b''.join(line for line in full[1].splitlines(True) if not line.startswith(name + b':'))
     for told in (name + b': no memory\n', b'no memory\n'):
         said = b''
@@ -167,7 +167,7 @@ def is_without(name, names, full, answer):
 
 
 def unexplained(answer):
-    """An answer without the lines of `--explain`, which a refusal may take away."""
+    """A result without the lines of `--explain`, which a refusal may remove."""
     status, output, said = answer
     return status, output, b''.join(line for line in said.splitlines(True) if not line.startswith(b'  ') and b':   ' not in line)
 

@@ -18,7 +18,7 @@ def recipes(clone):
 
 
 def with_hooks(clone, program):
-    """Puts the hooks into the folder, with a hooks/program that says something and names the program."""
+    """Puts the hooks into the folder, with a hooks/program that prints a message and the path of the program."""
     os.makedirs(clone + '/hooks')
     for name in os.listdir(TOP + '/hooks'):
         shutil.copy(TOP + '/hooks/' + name, clone + '/hooks/' + name)
@@ -26,19 +26,19 @@ def with_hooks(clone, program):
 
 
 def environment(room):
-    """The environment of a command: the tools of the scratch folder first, and no settings of the user's."""
+    """The environment of a command: the tools of the scratch folder first, and no settings of the user."""
     kept = {name: value for name, value in os.environ.items() if not name.startswith(('GIT_', 'YAMLFMT_'))}
     return dict(kept, PATH=room + '/bin:' + os.environ['PATH'], HOME=room, GIT_CONFIG_NOSYSTEM='1')
 
 
 def sh(words, room, env=None, **more):
-    """Runs a command in the scratch folder, its standard error with its output where nothing else is said."""
+    """Runs a command in the scratch folder; standard error joins standard output by default."""
     more = dict({'cwd': room, 'stdout': subprocess.PIPE, 'stderr': subprocess.STDOUT, 'text': True}, **more)
     return subprocess.run(words, env=dict(environment(room), **(env or {})), **more)
 
 
 def repository(room):
-    """A repository with a file that is not in the house style, committed, and one more that is no YAML file."""
+    """A repository with two staged files: one that is not in the house style, and one that is not YAML."""
     for line in ('git init -q .', 'git config user.email a@example.com', 'git config user.name a'):
         sh(line.split(), room)
     write(room + '/a b.yaml', BAD)

@@ -31,7 +31,7 @@ VALUES = re.compile(r"^(List|Option|ℕ|Bool|Result)\b")
 
 
 def files():
-    """The files of definitions and of proofs, a crate after those below it."""
+    """The files of definitions and of proofs; each crate comes after those below it."""
     lines = (TOP / "crates.txt").read_text(encoding="utf-8").splitlines()
     for crate in [line.split(":")[0].split()[0] for line in lines if line.strip() and not line.startswith("#")]:
         for part in ("specs", "proofs"):
@@ -57,7 +57,7 @@ def says_a_fact(statement):
 
 
 def with_numbers(words, names):
-    """The words, with a number for each variable in the order in which they come."""
+    """The words, with variables numbered in the order of their first occurrence."""
     numbers = {}
     return [numbers.setdefault(word, f"v{len(numbers)}") if word in names else word for word in words]
 
@@ -91,7 +91,7 @@ def again():
 
 @functools.cache
 def names_in(path):
-    """The names that a file has: of definitions, lemmas, constructors and fields."""
+    """The names that a file defines: of definitions, lemmas, constructors and fields."""
     names = set()
     for line in path.read_text(encoding="utf-8").split("\n"):
         passed_on = re.match(r"^\s*(?:unfoldable )?pub use [^{]*\{(.*)\}", line)

@@ -19,7 +19,7 @@ RUN_BASH = ['bash', '--noprofile', '--norc', '-eo', 'pipefail', '-c']
 
 
 class Clone:
-    """A repository, and below it the clone of this one that a workflow makes, in which nothing is built."""
+    """A repository, and below it the clone of this one that a workflow makes, without a program."""
 
     def __init__(self, room, rt):
         self.room = room
@@ -35,7 +35,7 @@ class Clone:
         return sh([*words, text], self.room, env={'GITHUB_OUTPUT': self.room + '/output'}, start_new_session=True)
 
     def key(self, text):
-        """The key of the cache, for which the step with the stamp is run."""
+        """The key of the cache, by the step with the stamp."""
         write(self.room + '/output', '')
         self.run(RUN, step(text, 'id: program\n +run: '))
         stamp = re.fullmatch('stamp=([0-9a-f]{64})\n', read(self.room + '/output'))
@@ -43,7 +43,7 @@ class Clone:
 
 
 def step(text, words):
-    """What comes after the words on their line."""
+    """The text after the words on their line."""
     return re.search(r'%s(.*)' % words, text)[1]
 
 
@@ -54,7 +54,9 @@ def block(text, words):
 
 
 def built(room, text, clone):
-    """Runs the workflow that builds, twice, and packs what is to be kept. Gives the key, and whether that went well and built once."""
+    """Runs the workflow that builds, twice, and packs the cache. Returns the key, and whether all succeeded and one
+    build happened.
+    """
     made = Clone(room + '/made', SAYS_LOGIC + "[ \"$1\" = run ] || exit 0\necho run >> '%s/count'\nmkdir -p out\ncp \"$('%s/hooks/program' 2> /dev/null)\" out/yamlfmt\n" % (room, clone))
     key = made.key(text)
     done = made.run(RUN, step(text, '- run: '))
@@ -64,7 +66,7 @@ def built(room, text, clone):
 
 
 def is_safe(text):
-    """Whether it may read the repository and no more, and runs on no machine of ours where anybody's pull request starts it."""
+    """Whether it may only read the repository, and no pull request starts it on a self-hosted machine."""
     return '\npermissions:\n  contents: read\n' in text and not ('pull_request' in text and 'self-hosted' in text)
 
 
@@ -73,7 +75,7 @@ def build(room, text, clone):
 
 
 def check(room, text, clone):
-    """The program is taken from the cache under the same key, and its findings are marked; without the cache, that is marked."""
+    """The program comes from the cache by its key, and its findings are marked; so is the error without the cache."""
     maker = recipes(clone)['workflow-build']
     key, good = built(room, maker, clone)
     patterns = lines.patterns_of(json.loads(recipes(clone)['matcher'])['problemMatcher'])
@@ -98,7 +100,7 @@ def script_lines(text):
 
 
 def gitlab(room, text, clone):
-    """Shows what is not formatted, and fails; passes where all is; and fails where Git does."""
+    """Shows changes and fails; passes if all files are formatted; fails if Git fails."""
     repository(room)
     before = sh([*RUN_BASH, script_lines(text)], room)
     write(room + '/a b.yaml', GOOD)

@@ -70,7 +70,7 @@ def options(lines):
 
 
 def values(program, name, option):
-    """The names that an option takes which takes no file: a value that is none of them is refused with all of them."""
+    """The possible values of an option that takes no file: the refusal of a wrong value lists them."""
     if option.value in ('', 'FILE'):
         return []
     refusal = subprocess.run([program, name, option.long + '='], stderr=subprocess.PIPE, text=True, stdin=subprocess.DEVNULL).stderr
@@ -92,7 +92,7 @@ def command(program, name, about):
 
 
 def whole(program):
-    """What the program is for, its options and its commands."""
+    """The purpose of the program, its options and its commands."""
     about, found = parts(said(program, '--help'))
     named = [(row[1], row[2]) for row in rows(r' +(\w+)  +(.+)', found['Commands'])]
     return about, options(found['Options']), [command(program, name, text) for name, text in named]
