@@ -101,7 +101,7 @@ def main():
                 count += 1
                 if count <= 20:
                     print(f"{verb} {text!r}\n  old {one!r}\n  new {other!r}")
-    print(f"{given.texts} texts, {accepted} accepted, {count} answers differ")
+    print(f"{given.texts} texts, {accepted} accepted, {count} results differ")
     sys.exit(1 if count else 0)
 
 

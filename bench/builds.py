@@ -16,7 +16,7 @@ import time
 from faults import LOGIC, SAYS_LOGIC, Builder
 from scratch import environment, read, script, sh, write
 
-# It notes when it begins and ends, in which folder, with which words; a crate that FAILS names fails, and one that HANGS names never ends.
+# It records its beginning and end, its folder and its arguments. A crate in FAILS fails, and a crate in HANGS never ends.
 RT = SAYS_LOGIC + r"""crate=${PWD##*/}
 top=${PWD%/crates/*}
 echo "begin $crate $top $$ $*" >> "$COUNT"

@@ -109,7 +109,7 @@ def main():
             file.write(new)
     elif task == '--check':
         if new != page:
-            sys.exit('%s is not as crates.txt is: run bench/crates.py --write' % PAGE)
+            sys.exit('%s differs from crates.txt: run bench/crates.py --write' % PAGE)
     else:
         print(diagram(uses) + rows, end='')
 

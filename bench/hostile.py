@@ -21,14 +21,14 @@ import time
 
 TOP = os.path.dirname(os.path.dirname(os.path.abspath(__file__)))
 
-# `explain` is `check --explain`: all explanations of refusals, and of findings. The last is `fmt` where comments keep their blocks.
+# `explain` is `check --explain`: all explanations of refusals and findings. `block` is `fmt` with `comments = "block"`.
 VERBS = ('events', 'check', 'explain', 'fmt', 'block')
 
-# Bytes of memory a byte of input.
+# Bytes of memory per byte of input.
 LIMIT = {'events': 150, 'check': 250, 'explain': 1000, 'fmt': 1000, 'block': 1000}
 
-# The shapes of which `fmt` writes much more than it reads, with the bytes that it writes a byte of input. It holds all of them before it
-# writes the first, and twice as many where their room grows: so much memory it may take beside LIMIT.
+# The shapes for which `fmt` writes much more than it reads, with the bytes that it writes per byte of input. It holds all
+# of them before it writes the first, and twice as many while their buffer grows. It may use that memory beside LIMIT.
 WRITTEN = {}
 
 RATIO = 2.5
@@ -121,12 +121,12 @@ repeated('flow-never-closed', '[a, ')
 repeated('flow-mapping-never-closed', '{a: b, ')
 repeated('flow-lines-never-closed', '- [a\n')
 
-# Short lines that are laid out at the column of the deepest entry.
+# Short lines that `fmt` indents to the column of the deepest entry.
 shape('deep-comments', lambda n: '- ' * 1000 + 'a\n' + '#\n' * max(1, n // 2 - 2000) + ' ' * 1998 + '- b\n', 1000)
-# comments at 1,000 columns, falling and rising, each of a block of its own
+# comments at 1,000 columns, falling and rising, each in its own block
 shape('deep-comments-in-blocks', lambda n: '- ' * 1000 + 'a\n' + ''.join(' ' * (2 * abs(999 - k % 1998)) + '#\n'
                                                                                 for k in range(max(1, n // 1000 - 4))), 1000)
-# each comment is looked for among all that is open, where comments keep their blocks
+# with `comments = "block"`, each comment is compared with all open collections
 shape('deep-comments-at-margin', lambda n: '- ' * 1000 + 'a\n' + '#\n' * max(1, n // 2 - 1000) + '- b\n')
 shape('deep-wide-flow-comment', lambda n: '[' * 1000 + 'a,' * max(1, n // 2 - 1000) + ' #\n' + ']' * 1000 + '\n', 1001)
 
@@ -208,7 +208,7 @@ repeated('key-then-blanks', '\n', 'k:', '  v\n')
 numbered('anchors', '- &a%d x\n')
 repeated('anchors-alike', '- &a x\n')
 repeated('aliases', '- *a\n', '- &a x\n')
-# Names whose hashes are all 0: the bytes 16 to 23 are the hasher's state after the first 16, by which it is multiplied.
+# Names with the hash 0: bytes 16 to 23 are the hasher's state after the first 16 bytes, by which it multiplies.
 numbered('anchors-colliding', '- &q1I6QTW0fzGxZTUhx7og5Gtv0%d x\n')
 numbered('aliases-colliding', '- &q1I6QTW0fzGxZTUhx7og5Gtv0%d x\n- *q1I6QTW0fzGxZTUhx7og5Gtv01000000\n')
 numbered('handles-colliding', '%%TAG !tnGvUoGllC2pb8vswSWGlOO%d! tag:a\n', '', '---\na\n')
@@ -296,7 +296,7 @@ repeated('items-empty', '-\n')
 repeated('items-long', '- ' + 'a' * 2000 + '\n')
 repeated('items-in-keys', 'k:\n- a\n')
 repeated('mixed-refused-late', '- a\n', '', 'b: c: d\n')
-# What is refused is read a second time, and what is before it is looked at again.
+# After a refusal the text is read a second time, and the part before the refusal is looked at again.
 repeated('refused-open-quote', 'a\n ', '"')
 repeated('refused-open-brackets', 'a,\n ', '[')
 repeated('refused-open-brackets-deep', 'a, ', '[' * 1000)
@@ -389,9 +389,9 @@ class Measure:
         if min(one, two) > RATIO and (name, verb) not in QUADRATIC:
             wrong.append('ratios %.1f, %.1f' % (one, two))
         if a_byte > limit(name, verb):
-            wrong.append('%.0f bytes a byte' % a_byte)
+            wrong.append('%.0f bytes per byte' % a_byte)
         self.rows.append((name, verb, length, seconds, two, a_byte))
-        print('%-30s %-6s %9d bytes %7.2f s %5.1f %5.1f %7.1f bytes a byte  %s'
+        print('%-30s %-6s %9d bytes %7.2f s %5.1f %5.1f %7.1f bytes per byte  %s'
               % (name, verb, length, seconds, one, two, a_byte, 'FAULT ' + ', '.join(wrong) if wrong else ''), flush=True)
         if wrong:
             self.faults.append('%s %s: %s' % (verb, name, ', '.join(wrong)))
@@ -403,7 +403,7 @@ def report(rows):
         mine = [row for row in rows if row[1] == verb]
         slow = max(mine, key=lambda row: row[3] / row[2])
         wide = sorted(mine, key=lambda row: -row[5])[:5]
-        print('%s: slowest %s with %.2f s a MB; most memory %s' % (verb, slow[0], slow[3] / slow[2] * (1 << 20),
+        print('%s: slowest %s with %.2f s per MB; most memory %s' % (verb, slow[0], slow[3] / slow[2] * (1 << 20),
               ', '.join('%s %.0f' % (row[0], row[5]) for row in wide)))
 
 

@@ -66,7 +66,7 @@ def main():
             counts['new file left'] += os.path.exists(path + '.yamlfmt-new')
         write(path, OLD)
         ends = start(program, path).wait() == 0 and read(path) == new and os.listdir(folder) == ['a.yaml']
-    print(', '.join('%s: %d' % pair for pair in counts.items()) + ', the last run: ' + ('well' if ends else 'fails'))
+    print(', '.join('%s: %d' % pair for pair in counts.items()) + ', the last run: ' + ('succeeds' if ends else 'fails'))
     return 1 if counts['neither'] or not ends else 0
 
 

@@ -42,7 +42,7 @@ REFUSED = {
     'remark.yaml': ('# {{ x }}\na: b: c # {{ y }}\n', '2:5'),
 }
 
-# A document of each is plain text over several lines.
+# Each has a document that is plain text over several lines.
 TEXTS = {
     'inventory.yaml': INVENTORY,
     'marked.yaml': '--- a\n  b\n',

@@ -116,7 +116,8 @@ def run(words, path, good):
     return usage.ru_utime + usage.ru_stime, usage.ru_maxrss * 1024
 
 
-# Of each command the functions that are its phases, by the name that the program has for them; what is inlined elsewhere is part of the rest.
+# The functions that are the phases of each command, by their names in the program. Functions that are inlined elsewhere
+# are part of the rest.
 PHASES = {
     'events': (('reading the stream', 'yf_stream::stream::read_stream'), ('writing the lines', 'yf_events::notation::write_events')),
     'check': (('the table of lines', 'yf_lines::table::LineTable::build'), ('reading the stream', 'yf_stream::stream::read_stream'),
@@ -141,7 +142,7 @@ def instructions(verb, program, path):
     if total is None:
         return
     left = int(total[1].replace(',', ''))
-    print('%-24s %9d bytes  %.0f instructions a byte' % ('yamlfmt ' + verb, size, left / size))
+    print('%-24s %9d bytes  %.0f instructions per byte' % ('yamlfmt ' + verb, size, left / size))
     for phase, function in PHASES[verb]:
         found = re.search(r'^ *([\d,]+) .*:%s(::<\S*)? \[' % re.escape(function), said, re.M)
         if found:
@@ -167,7 +168,7 @@ def measure(name, words, files, good=(0,), parts=()):
             print('%-24s %9d bytes  more than %d s' % (name, size, LIMIT))
             return
         seconds.append(best[0])
-        print('%-24s %9d bytes  %7.2f s  %6.1f bytes of memory a byte of input' % (name, size, best[0], best[1] / size))
+        print('%-24s %9d bytes  %7.2f s  %6.1f bytes of memory per byte of input' % (name, size, best[0], best[1] / size))
     print('%-24s ratio of the times %.1f' % (name, seconds[1] / seconds[0]))
     if parts:
         mean = sum(least(words, path, good)[0] for path in parts) / len(parts)

@@ -21,7 +21,7 @@ TOP = os.path.dirname(os.path.dirname(os.path.abspath(__file__)))
 MADE = ('docs/STANDARD.md', 'docs/PROVED_TABLES.md', 'docs/proving/EDITS.md')
 FILE = re.compile(r'[\w.*{}-]+(/[\w.*{},-]+)+/?|[\w*-]+\.(rt|antt|py|md|txt|edit)')
 ITEM = re.compile(r'[A-Za-z]\w*(::\w+)*')
-# A part of a name in capitals stands for any: ID_mended, vVERSION.
+# In names, a part in capitals means any word: ID_mended, vVERSION.
 EXAMPLE = re.compile(r'\b[A-Z]+_|_[A-Z]+\b|_$|vV')
 # Names of examples, of other programs and of the standard library.
 FOREIGN = set('''my_rule my_rule_at my_setting_of my_setting_at MyRule AllocError from_residual
@@ -194,7 +194,7 @@ def main():
             continue
         everything += prose(text) + '\n'
         found = [*links(page, text), *numbers(text)]
-        # What has changed has names that are gone.
+        # CHANGELOG has old names.
         found += [] if page == 'CHANGELOG.md' else [*names(text, words)]
         faults += [(page, fault) for fault in found]
     for page, fault in faults:

@@ -118,7 +118,7 @@ def main():
             file.write(text)
     elif task == '--check':
         if wrong or not os.path.exists(os.path.join(TOP, PAGE)) or read(PAGE) != text:
-            sys.exit('%s is not as the sources are: run bench/proved.py --write' % PAGE)
+            sys.exit('%s differs from the sources: run bench/proved.py --write' % PAGE)
     else:
         print(text, end='')
 

@@ -16,7 +16,7 @@ import tempfile
 
 TOP = os.path.dirname(os.path.dirname(os.path.abspath(__file__)))
 
-# Answers the REFUSE-th call for memory with none, and then makes the file REFUSED.
+# Refuses the REFUSE-th call for memory, and then makes the file REFUSED.
 SHIM = r'''
 #define _GNU_SOURCE
 #include <dlfcn.h>
@@ -111,7 +111,7 @@ class Runs:
                 break
         if refuse == 1:
             self.fault(words, 'no allocation was met', full)
-        print('%-44s %5d allocations, %5d answered by memory' % (' '.join(words), refuse - 1, memory))
+        print('%-44s %5d allocations, %5d with `no memory`' % (' '.join(words), refuse - 1, memory))
 
 
     def several(self, words, files):
@@ -135,7 +135,7 @@ class Runs:
             restore()
             answer, refused = self.run(words, b'', refuse)
             lost = [name for name in names if refused and is_without(name.encode(), names, full, answer)]
-            # a file that is rewritten may lack the memory to say so
+            # a file with only `no memory` may have its old text or its new one
             left = [dict(new, **{name: old}) for name in lost for old in (files[name], new[name])]
             if answer == (3, b'', b'no memory\n') and refused:
                 left.append(files)
@@ -146,7 +146,7 @@ class Runs:
                 self.fault(words, 'allocation %d' % refuse, answer)
             if not refused:
                 break
-        print('%-44s %5d allocations, %5d answered by memory' % (' '.join(words), refuse - 1, memory))
+        print('%-44s %5d allocations, %5d with `no memory`' % (' '.join(words), refuse - 1, memory))
 
 
 def lines_of(name, text):
@@ -203,7 +203,7 @@ def devices(runs):
             ran = subprocess.run([runs.program, verb], stdin=endless, capture_output=True)
         if (ran.returncode, ran.stdout, ran.stderr) != (3, b'', b'read failed\n'):
             runs.fault([verb, '<', '/dev/zero'], 'answer', ran)
-    print('an output that takes nothing, an input that never ends')
+    print('an output that accepts nothing, an input that never ends')
 
 
 def main():

@@ -86,7 +86,7 @@ def again():
         if len(places) > 1:
             surplus += len(places) - 1
             print(statement[:160], *places, sep="\n    ")
-    print(f"{surplus} statements are made again")
+    print(f"{surplus} repeated statements")
 
 
 @functools.cache

@@ -51,7 +51,7 @@ def parts(text):
             found[heading] = []
         elif line and not line.startswith('Usage: '):
             if heading is None:
-                sys.exit('a line of help below no heading: %r' % line)
+                sys.exit('a line of help without a heading: %r' % line)
             found[heading].append(line)
     return about, found
 
@@ -60,7 +60,7 @@ def rows(pattern, lines):
     for line in lines:
         row = re.fullmatch(pattern, line)
         if not row:
-            sys.exit('a line of help that is not understood: %r' % line)
+            sys.exit('an unknown kind of line of help: %r' % line)
         yield row
 
 
@@ -178,7 +178,7 @@ _yamlfmt() {
     case $verb in
 %s
     esac
-    # After an option with a value is a file, or names with commas between; `--config=` comes in three words.
+    # An option with a value needs a file, or names with commas between; `--config=` arrives as three words.
     [[ $word != = ]] || word=''
     [[ $previous != = ]] || previous=${COMP_WORDS[COMP_CWORD - 2]}
     case $previous in
