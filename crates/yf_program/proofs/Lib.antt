@@ -3,10 +3,6 @@
 -- `style_from_toml` and `read_style`
 pub mod SettingsLemmas
 pub mod ProgramLemmas
--- `parse_line`
-pub mod CommandLineLemmas
--- `report`
-pub mod ShownLemmas
 -- `answer`
 pub mod AnswerLemmas
 -- `rewrite`

@@ -2,7 +2,7 @@
 ghost use Rattle.std.specs.Prelude.{◌≡◌, ℕ, List, string_bytes, IfErr, IfOk, MatchOption};
 ghost use Rattle.yf_lines.specs.declared.fault.Fault.TheVariants.{ReadFailed};
 ghost use Rattle.yf_rules.specs.Runs.ByteStream.{WrittenOrFailed, stream_of};
-ghost use Rattle.yf_program.specs.Answer.{FormatsBytes, IsUnread, RefusesBytes, FileRewrite, RewritesFile, fault_of, rewrite_line, unwritten_line};
+ghost use Rattle.yf_program.specs.Answer.{FileRewrite, FormatsBytes, IsUnfound, LeadsNowhere, RefusesBytes, RewritesFile, fault_of, rewrite_line, unwritten_line};
 ghost use Rattle.yf_program.specs.Report.{fault_status};
 
 use crate::report::report;
@@ -34,11 +34,13 @@ pub trait Links: FileSystem {
     /// The second name is that of the file at the first one, or of the file to which a link there leads.
     ghost leads: { Self → List ℕ → List ℕ → Type 0 };
 
-    /// The name of the file to which a link at the name leads; nothing where no link is there. A link that leads nowhere, and
-    /// a name at which nothing is, are `RewriteError::Unreadable`.
+    /// Returns the name of the file to which a link at the name leads, or `None` if no link is there. Fails with
+    /// `RewriteError::Unreadable` if the name leads to no regular file.
     fn followed(&self, alloc: Global, name: &str) -> Result<Option<String>, RewriteError<Fault>>
-        ensures leads { IfOk result (λ found. MatchOption found (leads self.now name.now name.now) (λ file. leads self.now name.now (string_bytes file))) }
-        ensures error { IfErr result IsUnread };
+        ensures leads { IfOk result (λ found. MatchOption found (leads self.now name.now name.now)
+            (λ file. leads self.now name.now (string_bytes file))) }
+        ensures error { IfErr result
+            (IsUnfound (Self.tells → LeadsNowhere (Self.state self.now) (leads self.now name.now))) };
 }
 
 /// Files in memory: there are no links among them.

@@ -172,7 +172,7 @@ fn sets_what_is_named_or_names_the_least_wrong_key(rt: HostRuntime) {
     }
     for (settings, line) in &REFUSED {
         assert!(rt;
-            is_run(rt.alloc(), &[], &(Asked::Events, settings, "", 3, line)),
+            is_run(rt.alloc(), &(Asked::Events, settings, "", 3, line)),
             "{settings}"
         );
     }
