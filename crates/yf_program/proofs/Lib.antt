@@ -1,7 +1,6 @@
 -- The lemmas, each group under the function or the theorem that it serves.
 
--- `style_from_toml` and `read_style`
-pub mod SettingsLemmas
+-- `read_style`, `run`
 pub mod ProgramLemmas
 -- `answer`
 pub mod AnswerLemmas

@@ -15,7 +15,7 @@ use Rattle.yf_rules.specs.Runs.Compare.{IsClean}
 use Rattle.yf_rules.specs.Runs.Diffed.{DiffRun}
 use Rattle.yf_rules.specs.Runs.ByteStream.{ByteStream, NoFailure}
 use Rattle.yf_rules.specs.Runs.Run.{Gave}
-use Rattle.yf_program.specs.Settings.{RefusesSettings}
+use Rattle.yf_settings.specs.Settings.{RefusesSettings}
 
 pub text_refused : (input : ByteStream) {failed : Bool} (text : List ℕ) (f : Fault) → failed ≡ input.failed → Gave input.contents text
     → length text ≤ INPUT_LIMIT → IsUtf8 text → RefusesSettings text f → FileRefused input (record { contents = input.contents; failed = failed }) f

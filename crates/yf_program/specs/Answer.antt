@@ -42,7 +42,7 @@ use Rattle.yf_stream.specs.StreamReader.{StreamFault}
 use Rattle.yf_program.specs.Named.{named_lines}
 use Rattle.yf_program.specs.Quoted.{quoted}
 use Rattle.yf_program.specs.Report.{check_status, fault_line, fault_status, format_status}
-use Rattle.yf_program.specs.Settings.{IsHouse, SetsStyle, RefusesSettings}
+use Rattle.yf_settings.specs.Settings.{IsHouse, SetsStyle, RefusesSettings}
 use Rattle.yf_program.specs.World.{Host, InputClaim, LinkClaim, OutputStreams, WorkClaim, World}
 use Rattle.yf_program.specs.declared.sources.Sources.{Sources}
 use Rattle.yf_program.specs.declared.task.Task.{Task}

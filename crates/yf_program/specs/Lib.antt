@@ -1,8 +1,6 @@
 -- what the program does, from the words to the status, and what it works on
 pub mod World
 pub mod Answer
--- the settings of a file
-pub mod Settings
 -- the lines that are written
 pub mod Report
 pub mod Named

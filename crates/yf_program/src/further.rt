@@ -7,7 +7,6 @@ ghost use Rattle.yf_program.specs.Answer.{AnyLines, EndsTold, TellsMore};
 use crate::finding_words::findings_page;
 use crate::inputs::{Again, Inputs};
 use crate::report::report;
-use crate::settings_words::explain_settings;
 use std::alloc::{AllocError, Global};
 use yf_explain::{Page, explain, page_of_words};
 use yf_forms::style::Style;
@@ -15,6 +14,7 @@ use yf_lines::fault::Fault;
 use yf_lines::output::write_text;
 use yf_lines::watched::Sink;
 use yf_rules::finding::Finding;
+use yf_settings::settings_words::explain_settings;
 
 /// Reports a fault of an input, and explains it by the bytes that were read, if that is asked for. Returns the status of
 /// the fault.

@@ -17,8 +17,6 @@ pub mod replacing;
 pub mod report;
 pub mod reserved;
 pub mod rewrites;
-pub mod settings;
-pub mod settings_words;
 pub mod sources;
 pub mod streams;
 pub mod task;

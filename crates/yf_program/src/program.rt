@@ -11,7 +11,6 @@ use crate::each::name_of;
 use crate::further::{report_input, tell_findings};
 use crate::quoted::quoted;
 use crate::report::report;
-use crate::settings::{no_key, style_from_toml};
 use crate::streams::Streams;
 use crate::task::{Task, Work};
 use std::alloc::Global;
@@ -27,6 +26,7 @@ use yf_rules::compare::run_fmt_check;
 use yf_rules::diff::run_fmt_diff;
 use yf_rules::input::read_all;
 use yf_rules::run::{INPUT_LIMIT, run_check_all, run_events, run_fmt};
+use yf_settings::settings::{no_key, style_from_toml};
 
 /// The status of a run that ended well.
 pub const GOOD: u8 = 0;

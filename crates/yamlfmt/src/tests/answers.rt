@@ -10,7 +10,7 @@ use yf_lines::fault::Fault;
 use yf_lines::watched::{Sink, Source, Watched};
 use yf_program::program::run;
 use yf_program::report::report;
-use yf_program::settings::style_from_toml;
+use yf_settings::settings::style_from_toml;
 use yf_program::streams::{Streams, in_memory};
 use yf_program::task::{Task, Work};
 use yf_stream::stream::read_stream;
