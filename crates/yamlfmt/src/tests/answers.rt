@@ -10,9 +10,9 @@ use yf_lines::fault::Fault;
 use yf_lines::watched::{Sink, Source, Watched};
 use yf_program::program::run;
 use yf_program::report::report;
-use yf_settings::settings::style_from_toml;
 use yf_program::streams::{Streams, in_memory};
 use yf_program::task::{Task, Work};
+use yf_settings::settings::style_from_toml;
 use yf_stream::stream::read_stream;
 
 /// A command over standard input.

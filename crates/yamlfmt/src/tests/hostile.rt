@@ -66,11 +66,7 @@ fn holds_on(alloc: Global, failing: Failing, input: &[u8]) -> bool {
         let good = match failing {
             Failing::Reads | Failing::Writes => {
                 let style = Style::house();
-                is_refused_by_each(
-                    trial,
-                    failing,
-                    &answer_to(alloc, *asked, &style, input),
-                )
+                is_refused_by_each(trial, failing, &answer_to(alloc, *asked, &style, input))
             }
             Failing::Memory => is_refused_by_memory_alone(trial),
         };
