@@ -38,10 +38,14 @@ pub mod QuotesMeant
 pub mod BlockLines
 pub mod LiteralMeant
 pub mod ScalarContents
-pub mod LiteralWhole
+pub mod FoldedMeant
+pub mod BlockWhole
+pub mod FoldedLines
 pub mod ContentAdded
 pub mod ContentLawsHold
 pub mod CommentsMeant
 pub mod NamesMeant
+pub mod BlockNoted
 pub mod TokensAdded
 pub mod TokenLawsHold
+pub mod ScalarsMean

@@ -5,7 +5,7 @@ use Rattle.yf_comments.specs.Comment.{CommentValue}
 use Rattle.yf_props.specs.Props.{TagValue}
 use Rattle.yf_props.specs.Props.TagValue.{IsVerbatim, IsShort, IsNonSpecific}
 use Rattle.yf_standard.specs.Notation.{Form, Condition}
-use Rattle.yf_standard.specs.Notation.Form.{b-break, s-indent, s-separate-in-line, c-nb-comment-text, c-tag-handle, c-verbatim-tag, c-ns-shorthand-tag, c-non-specific-tag, c-ns-anchor-property, c-ns-alias-node}
+use Rattle.yf_standard.specs.Notation.Form.{b-break, s-indent, s-indent-less-than, s-indent-less-or-equal, s-separate-in-line, l-empty, c-nb-comment-text, c-tag-handle, c-verbatim-tag, c-ns-shorthand-tag, c-non-specific-tag, c-ns-anchor-property, c-ns-alias-node, b-chomped-last, l-nb-literal-text, b-nb-literal-next, l-nb-diff-lines}
 use Rattle.yf_standard.specs.Literal.{Derived}
 use Rattle.yf_standard.specs.Contents.{Making, meant}
 
@@ -23,10 +23,13 @@ shorthand t i j (a_handle h ∷ x) = IsShort h (slice_range t (i + length h) j)
 shorthand t i j x = IsNonSpecific
 
 unfoldable pub tokens_made : List ℕ → Form → ℕ → ℕ → List Token → List Token
--- 5.4, 6.1 and 6.2: breaks and white space are none
+-- 5.4, 6.1, 6.2 and 6.4: breaks and white space are none
 tokens_made t b-break i j x = []
 tokens_made t (s-indent n) i j x = []
+tokens_made t (s-indent-less-than n) i j x = []
+tokens_made t (s-indent-less-or-equal n) i j x = []
 tokens_made t s-separate-in-line i j x = []
+tokens_made t (l-empty n c) i j x = []
 -- 6.6
 tokens_made t c-nb-comment-text i j x = a_comment i (slice_range t i j) ∷ []
 -- 6.8.2 and 6.9.1
@@ -37,6 +40,11 @@ tokens_made t c-non-specific-tag i j x = a_tag i IsNonSpecific ∷ []
 -- 6.9.2 and 7.1
 tokens_made t c-ns-anchor-property i j x = an_anchor (slice_range t (i + 1) j) ∷ []
 tokens_made t c-ns-alias-node i j x = an_alias i (slice_range t (i + 1) j) ∷ []
+-- 8.1: lines of block scalars and their end are content alone
+tokens_made t (b-chomped-last k) i j x = []
+tokens_made t (l-nb-literal-text n) i j x = []
+tokens_made t (b-nb-literal-next n) i j x = []
+tokens_made t (l-nb-diff-lines n) i j x = []
 -- all others have what their parts have
 tokens_made t f i j x = x
 
