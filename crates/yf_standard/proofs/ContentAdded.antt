@@ -224,6 +224,6 @@ module _ (t : List ℕ) (z : Zone t false) where
 
   pub contents : Meanings t (read t) z.low z.high one_char (making_content (read t) t) (Adds t)
   contents = record {
-    by = λ e f i j x q l h d m. adds_by e f i j x q l h d m;
+    by = λ e f i j x q l h d s m. adds_by e f i j x q l h d m;
     by_open = λ r e f i j x q s l h d m. adds_open r e f i j x q;
   }

@@ -28,7 +28,7 @@ use Rattle.yf_standard.proofs.BlockLines.{TextLines, blank_lines, lines_order, m
 use Rattle.yf_standard.proofs.BlockLines.TextLines.{last_line, more_lines}
 use Rattle.yf_standard.proofs.LiteralMeant.{feed_bytes}
 use Rattle.yf_standard.proofs.FoldedMade.{fold_made}
-use Rattle.yf_standard.proofs.FoldedMeant.{Gap, Rows, Group, Groups}
+use Rattle.yf_standard.proofs.FoldedMeant.{Gap, Rows, Groups}
 use Rattle.yf_standard.proofs.FoldedMeant.RowAt.{row_at}
 use Rattle.yf_standard.proofs.FoldedMeant.Gap.{fold_gap, feed_gap}
 use Rattle.yf_standard.proofs.FoldedMeant.Rows.{one_row, more_rows}

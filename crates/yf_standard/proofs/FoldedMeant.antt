@@ -1,8 +1,8 @@
 -- What folded scalars (8.1.3) add to content: rows, each a line with content, and what is between two of them.
-use Rattle.std.proofs.Common.{◌≡◌, ℕ, ◌+◌, ◌<◌, ◌≤◌, ℤ, pos, Bool, true, false, true≢false, not, List, [], ◌∷◌, ◌++◌, refl, sym, ap, ◌∙◌, subst, append_assoc, arith}
+use Rattle.std.proofs.Common.{◌≡◌, ℕ, ◌+◌, ◌<◌, ◌≤◌, ℤ, pos, Bool, true, false, true≢false, not, List, [], ◌∷◌, ◌++◌, sym, ap, ◌∙◌, subst, append_assoc, arith}
 use Rattle.std.proofs.lemmas.Bool.{and_parts, not-true}
 use Rattle.yf_chars.specs.declared.context.Ctx.TheVariants.{BlockIn}
-use Rattle.yf_chars.specs.Text.{code, next}
+use Rattle.yf_chars.specs.Text.{code}
 use Rattle.yf_chars.specs.Class.{is_nb_char, is_ns_char, is_white}
 use Rattle.yf_chars.specs.Chain.{Chain, Many}
 use Rattle.yf_chars.specs.Chain.Chain.{done, step}

@@ -49,3 +49,8 @@ pub mod BlockNoted
 pub mod TokensAdded
 pub mod TokenLawsHold
 pub mod ScalarsMean
+pub mod SaidParts
+pub mod FlowSaid
+pub mod BlockSaid
+pub mod NodesSaid
+pub mod NodeLawsHold

@@ -14,14 +14,15 @@ use Rattle.yf_block_scalar.specs.Body.{base, first_noted, is_gap_tail, LinesTake
 use Rattle.yf_block_scalar.specs.Body.Lines.{no_content}
 use Rattle.yf_block_scalar.specs.Body.Body.{indicated, detected, without_content as body_without_content}
 use Rattle.yf_block_scalar.specs.Content.{content_of}
-use Rattle.yf_grammar.specs.Productions.BlockScalar.{style_of}
+use Rattle.yf_grammar.specs.Productions.BlockScalar.{BlockScalar, style_of}
+use Rattle.yf_grammar.specs.Productions.Meaning.{Meaning}
 use Rattle.yf_grammar.specs.Productions.BlockScalar.BlockScalar.{block_scalar}
 use Rattle.yf_standard.specs.Characters.{Set, c-literal, c-folded}
 use Rattle.yf_standard.specs.Notation.{Form, Chomping}
 use Rattle.yf_standard.specs.Notation.Chomping.{STRIP, CLIP, KEEP}
 use Rattle.yf_standard.specs.Notation.Indicator.{GIVEN, DETECTED}
 use Rattle.yf_standard.specs.Notation.Condition.{auto-detect, is-sum}
-use Rattle.yf_standard.specs.Notation.Form.{‹◌›, ◌∣◌, ⟨◌⟩, some-m, some-k, c-b-block-header, c-l+literal, c-l+folded, l-literal-content, l-folded-content, ◌∙◌ as ◌then◌}
+use Rattle.yf_standard.specs.Notation.Form.{‹◌›, ◌∣◌, ⟨◌⟩, some-m, some-k, c-b-block-header, l-literal-content, l-folded-content, ◌∙◌ as ◌then◌}
 use Rattle.yf_standard.specs.Productions.{rule}
 use Rattle.yf_standard.specs.Rules.{read, AutoDetect}
 use Rattle.yf_standard.specs.Rules.AutoDetect.{by_first_line, without_content}
@@ -30,6 +31,7 @@ use Rattle.yf_standard.specs.Literal.Derived.{by_rule, by_collection, one_of, on
 use Rattle.yf_standard.specs.Contents.{Mark, marks, meant, content, content_made, but_first}
 use Rattle.yf_standard.specs.ContentLaws.{chomp_of, BlockContent}
 use Rattle.yf_standard.specs.Tokens.{Token, tokens, tokens_made, notes}
+use Rattle.yf_standard.specs.Tokens.Token.{a_scalar}
 use Rattle.yf_standard.specs.TokenLaws.{BlockScalarMeans, LiteralScalars, FoldedScalars}
 use Rattle.yf_standard.proofs.Meant.{means}
 use Rattle.yf_standard.proofs.Monotone.{forward}
@@ -105,10 +107,22 @@ module _ {t : List ℕ} {low high : ℕ} (clear : Clear t low high) where
       ∙ ap (λ v. content_of (record { folded = f; digit = None; chomp = chomp_of c }) [] v a.left_open) u.3)
       r.tokens
 
+-- a block scalar, and the comments after its header and its lines
+record ScalarIs (t : List ℕ) (n : ℤ) (f : Bool) (i j : ℕ) (y : List Mark) (z : List Token) : Type 0 where
+  pub value : Meaning
+  pub derived : BlockScalar t n i j value
+  pub text : List ℕ
+  pub added : y ≡ marks text
+  pub event : map (λ e. e.event) value.events ≡ scalar_node no_props (style_of f) (encode_utf8_all text) ∷ []
+  pub comments : z ≡ notes value.comments
+
+whole_scalar : {t : List ℕ} {n : ℤ} {f : Bool} {i j : ℕ} {y : List Mark} {z : List Token} → ScalarIs t n f i j y z → BlockScalarMeans t n f i j y (a_scalar (style_of f) y ∷ z)
+whole_scalar {f = f} {y = y} b = record { value = b.value; derived = b.derived; text = b.text; added = b.added; event = b.event; tokens = ap (λ v. a_scalar (style_of f) y ∷ v) b.comments }
+
 -- with its header
 scalar_of : {t : List ℕ} {n : ℤ} {f : Bool} {d : Option ℕ} {c : Chomping} {i a g h j : ℕ} {w : List CommentValue} {x : List ℕ} {z : List Token} → IsUtf8 t
     → Style t i a f → Indicators t a g d (chomp_of c) → LineRest t g h w → ScalarBody t n f d c h j x z → {y : List Mark} {v : List Token} → y ≡ marks x → v ≡ notes w ++ z
-    → BlockScalarMeans t n f i j y v
+    → ScalarIs t n f i j y v
 scalar_of {f = f} {w = w} {x = x} u s m r b p q = record {
   value = _;
   derived = block_scalar (block_header s m r) b.body (body_between u b.body (rest_within r)).between;
@@ -134,7 +148,7 @@ NotesAre t k b j z = (h : ℕ) → k ≡ pos h → ContentNoted t h b j z
 
 module _ {t : List ℕ} {i j : ℕ} (u : IsUtf8 t) (clear : Clear t i j) {n : ℤ} {f : Bool} where
   with_header : {e a b : ℕ} {c : Chomping} {k : ℤ} {y : List Mark} {z : List Token} → Style t i a f → i ≤ b → b ≤ j → (d : Derived (read t) t e (HeaderForm n c k) a b) → ContentIs t f c k b y → NotesAre t k b j z
-      → BlockScalarMeans t n f i j (content d ++ y) (tokens d ++ z)
+      → ScalarIs t n f i j (content d ++ y) (tokens d ++ z)
   unfolding meant read kind Adds Has
   with_header {b = b} {c = c} {y = y} {z = z} s l h (in_left (for_some_m m (one_then d (where_holds q)))) g v =
       let e : content d ≡ [] = means (contents t (zone t u j)) (omega arith) h d in
@@ -168,7 +182,7 @@ module _ {t : List ℕ} {i j : ℕ} (u : IsUtf8 t) (clear : Clear t i j) {n : �
   scalar_by : {e : ℕ} {c : Chomping} (p : Set) (body : ℤ → Chomping → Form) → ((i : ℕ) → p (code t i) ≡ true → Style t i (next t i) f)
       → ((k : ℤ) (b : ℕ) → i ≤ b → (d : Derived (read t) t e (body k c) b j) → ContentIs t f c k b (content d))
       → ((k : ℤ) (b : ℕ) → (d : Derived (read t) t e (body k c) b j) → NotesAre t k b j (tokens d))
-      → (d : Derived (read t) t e (some-k (λ k. (‹ p ›) then (HeaderForm n c k then body k c))) i j) → BlockScalarMeans t n f i j (but_first (content d)) (tokens d)
+      → (d : Derived (read t) t e (some-k (λ k. (‹ p ›) then (HeaderForm n c k then body k c))) i j) → ScalarIs t n f i j (but_first (content d)) (tokens d)
   unfolding meant kind but_first
   scalar_by p body sign g v (for_some_k k (one_then (one_of s) (one_then {k = b} d r))) =
       let a = next_later t i in
@@ -186,7 +200,7 @@ module _ {t : List ℕ} {i j : ℕ} (u : IsUtf8 t) (clear : Clear t i j) {n : �
 
 -- [170]
 literal_by : (t : List ℕ) (e i j : ℕ) (n : ℤ) (c : Chomping) → IsUtf8 t → Clear t i j
-    → (d : Derived (read t) t e (some-k (λ k. (‹ c-literal ›) then (HeaderForm n c k then l-literal-content k c))) i j) → BlockScalarMeans t n false i j (but_first (content d)) (tokens d)
+    → (d : Derived (read t) t e (some-k (λ k. (‹ c-literal ›) then (HeaderForm n c k then l-literal-content k c))) i j) → ScalarIs t n false i j (but_first (content d)) (tokens d)
 unfolding Adds Has c-literal
 literal_by t e i j n c u w d = scalar_by u w c-literal l-literal-content sign lines comments d where
   sign : (i : ℕ) → c-literal (code t i) ≡ true → Style t i (next t i) false
@@ -202,9 +216,9 @@ literal_by t e i j n c u w d = scalar_by u w c-literal l-literal-content sign li
 
 pub literal_scalars : LiteralScalars
 unfolding rule kind meant content_made tokens_made is_collection
-literal_scalars t e i j n u w (by_rule q (in_left d)) = literal_by t e i j n STRIP u w d
-literal_scalars t e i j n u w (by_rule q (in_right (in_left d))) = literal_by t e i j n CLIP u w d
-literal_scalars t e i j n u w (by_rule q (in_right (in_right d))) = literal_by t e i j n KEEP u w d
+literal_scalars t e i j n u w (by_rule q (in_left d)) = whole_scalar (literal_by t e i j n STRIP u w d)
+literal_scalars t e i j n u w (by_rule q (in_right (in_left d))) = whole_scalar (literal_by t e i j n CLIP u w d)
+literal_scalars t e i j n u w (by_rule q (in_right (in_right d))) = whole_scalar (literal_by t e i j n KEEP u w d)
 literal_scalars t e i j n u w (by_rule q (by_rule o d)) = no_operator o
 literal_scalars t e i j n u w (by_rule q (by_collection o l d)) = no_operator_opens o
 literal_scalars t e i j n u w (by_rule q (in_right (by_rule o d))) = no_operator o
@@ -213,7 +227,7 @@ literal_scalars t e i j n u w (by_collection q l d) = not_opening refl q
 
 -- [174]
 folded_by : (t : List ℕ) (e i j : ℕ) (n : ℤ) (c : Chomping) → IsUtf8 t → Clear t i j
-    → (d : Derived (read t) t e (some-k (λ k. (‹ c-folded ›) then (HeaderForm n c k then l-folded-content k c))) i j) → BlockScalarMeans t n true i j (but_first (content d)) (tokens d)
+    → (d : Derived (read t) t e (some-k (λ k. (‹ c-folded ›) then (HeaderForm n c k then l-folded-content k c))) i j) → ScalarIs t n true i j (but_first (content d)) (tokens d)
 unfolding Adds Has c-folded
 folded_by t e i j n c u w d = scalar_by u w c-folded l-folded-content sign lines comments d where
   sign : (i : ℕ) → c-folded (code t i) ≡ true → Style t i (next t i) true
@@ -230,9 +244,9 @@ folded_by t e i j n c u w d = scalar_by u w c-folded l-folded-content sign lines
 
 pub folded_scalars : FoldedScalars
 unfolding rule kind meant content_made tokens_made is_collection
-folded_scalars t e i j n u w (by_rule q (in_left d)) = folded_by t e i j n STRIP u w d
-folded_scalars t e i j n u w (by_rule q (in_right (in_left d))) = folded_by t e i j n CLIP u w d
-folded_scalars t e i j n u w (by_rule q (in_right (in_right d))) = folded_by t e i j n KEEP u w d
+folded_scalars t e i j n u w (by_rule q (in_left d)) = whole_scalar (folded_by t e i j n STRIP u w d)
+folded_scalars t e i j n u w (by_rule q (in_right (in_left d))) = whole_scalar (folded_by t e i j n CLIP u w d)
+folded_scalars t e i j n u w (by_rule q (in_right (in_right d))) = whole_scalar (folded_by t e i j n KEEP u w d)
 folded_scalars t e i j n u w (by_rule q (by_rule o d)) = no_operator o
 folded_scalars t e i j n u w (by_rule q (by_collection o l d)) = no_operator_opens o
 folded_scalars t e i j n u w (by_rule q (in_right (by_rule o d))) = no_operator o

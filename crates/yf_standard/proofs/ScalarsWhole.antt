@@ -8,21 +8,20 @@ use Rattle.yf_chars.specs.Class.{is_nb_char}
 use Rattle.yf_chars.specs.Chain.{Chain, Many, Stuck}
 use Rattle.yf_chars.specs.Chain.Chain.{done, step}
 use Rattle.yf_chars.specs.ClassEnds.{no_nb_char}
-use Rattle.yf_lines.specs.Basic.{LineStart, Spaces, Empty, Clear, SeparateInLine, is_marker}
+use Rattle.yf_lines.specs.Basic.{LineStart, Spaces, Empty, Clear, is_marker}
 use Rattle.yf_lines.specs.Basic.LineStart.{after_break}
-use Rattle.yf_lines.specs.Basic.SeparateInLine.{by_whites, at_start}
 use Rattle.yf_comments.specs.Comment.{CommentValue}
 use Rattle.yf_comments.specs.Comments.{CommentText, BreakOrEnd, LineRest, CommentLine, LineEnd, Row}
 use Rattle.yf_comments.specs.Comments.CommentText.{comment_text}
 use Rattle.yf_comments.specs.Comments.BreakOrEnd.{by_break, by_end}
-use Rattle.yf_comments.specs.Comments.LineRest.{nothing as empty_rest, whites, comment}
+use Rattle.yf_comments.specs.Comments.LineRest.{comment}
 use Rattle.yf_comments.specs.Comments.CommentLine.{whites_line, comment_line}
 use Rattle.yf_comments.specs.Comments.LineEnd.{past_rest, from_start}
 use Rattle.yf_block_scalar.specs.Header.{Style, Indicators}
 use Rattle.yf_block_scalar.specs.Header.BlockHeader.{block_header}
 use Rattle.yf_block_scalar.specs.Body.{base, least, EmptyLines, Ends, LineContent, Line, Tail, LinesTaken, Shallow, Trail, Body, BodyValue}
 use Rattle.yf_block_scalar.specs.Body.EmptyLines.{bare}
-use Rattle.yf_block_scalar.specs.Body.Ends.{by_break as ends_by_break, by_text}
+use Rattle.yf_block_scalar.specs.Body.Ends.{by_break as ends_by_break}
 use Rattle.yf_block_scalar.specs.Body.LineContent.{content}
 use Rattle.yf_block_scalar.specs.Body.Line.{empty_line, content_line}
 use Rattle.yf_block_scalar.specs.Body.Lines.{no_content, up_to}
@@ -42,13 +41,11 @@ use Rattle.yf_standard.proofs.ScalarsRead.{AtWidth, chomp_of, HeaderRead, SomeEn
 use Rattle.yf_chars.proofs.TextLemmas.{code-past, within_from_code}
 use Rattle.yf_chars.proofs.ChainLemmas.{chain_append}
 use Rattle.yf_lines.proofs.BasicLemmas.{break_forward}
-use Rattle.yf_lines.proofs.LineLemmas.{break_within}
 use Rattle.yf_comments.proofs.LineEndLemmas.{rest_line, next_starts, line_end_chosen, row_stuck_end}
 use Rattle.yf_block_scalar.proofs.BodyLemmas.{taken_starts}
 use Rattle.yf_block_scalar.proofs.UniqueLemmas.{taken_unique, ends_forward}
 use Rattle.yf_block.proofs.LineSteps.ScalarLines.{body_between}
-use Rattle.yf_grammar.proofs.Ends.Forward.{in_line_forward}
-use Rattle.yf_grammar.proofs.FlowReader.OneLine.{comment_line_order, comment_lines_order}
+use Rattle.yf_grammar.proofs.FlowReader.OneLine.{comment_lines_order}
 use Rattle.yf_grammar.proofs.Prefixes.PrefixComments.{rest_within}
 
 -- how far parts go

@@ -80,8 +80,8 @@ module _ (t : List ℕ) (z : Zone t false) where
   old : {e : ℕ} (f : Form) {i j : ℕ} → z.low ≤ i → j ≤ z.high → kind f ≡ PRODUCTION → Derived (read t) t e (rule f) i j → FormRead t (read t) (StandsFor t z.low false) e f i j
   old f l h q d = known (closed t false z) l h (by_rule q d)
 
-  has_by : (e : ℕ) (f : Form) (i j : ℕ) (x : List Token) → kind f ≡ PRODUCTION → z.low ≤ i → j ≤ z.high → Derived (read t) t e (rule f) i j
-      → FormMeans t (read t) no_tokens (Has t) e (rule f) i j x → Has t e f i j (tokens_made t f i j x)
+  has_by : (e : ℕ) (f : Form) (i j : ℕ) (x : List Token) → kind f ≡ PRODUCTION → z.low ≤ i → j ≤ z.high → (d : Derived (read t) t e (rule f) i j)
+      → FormMeans t (read t) no_tokens (Has t) e (rule f) i j x → Has t e f i j (making_tokens (read t) t e f i j d x)
   unfolding Has StandsFor rule kind read tokens_made
   has_by e b-break i j x q l h d m = puts (old b-break l h q d)
   has_by e b-non-content i j x q l h d m = m
@@ -135,8 +135,8 @@ module _ (t : List ℕ) (z : Zone t false) where
   has_by e f i j x q l h d m = tt
 
   -- of collections nothing is asked
-  has_open : (e : ℕ) (f : Form) (i j : ℕ) (x : List Token) → kind f ≡ COLLECTION → Has t e f i j (tokens_made t f i j x)
-  unfolding Has kind tokens_made is_collection
+  has_open : (e : ℕ) (f : Form) (i j : ℕ) (x : List Token) → kind f ≡ COLLECTION → Has t e f i j x
+  unfolding Has kind is_collection
   has_open e (c-flow-sequence n c) i j x q = tt
   has_open e (c-flow-mapping n c) i j x q = tt
   has_open e (ns-flow-pair n c) i j x q = tt
@@ -148,6 +148,6 @@ module _ (t : List ℕ) (z : Zone t false) where
 
   pub names : Meanings t (read t) z.low z.high no_tokens (making_tokens (read t) t) (Has t)
   names = record {
-    by = λ e f i j x q l h d m. has_by e f i j x q l h d m;
-    by_open = λ r e f i j x q s l h d m. has_open e f i j x q;
+    by = λ e f i j x q l h d s m. has_by e f i j x q l h d m;
+    by_open = λ r e f i j x q s l h d m. has_open e f i j (making_tokens (read t) t r f i j d x) q;
   }

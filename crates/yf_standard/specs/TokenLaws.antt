@@ -16,7 +16,7 @@ use Rattle.yf_standard.specs.Literal.{Derived}
 use Rattle.yf_standard.specs.Rules.{read}
 use Rattle.yf_standard.specs.Contents.{Mark, content, marks}
 use Rattle.yf_standard.specs.Tokens.{Token, tokens, notes, comments_among, anchor_among, tag_among, tag_place_among}
-use Rattle.yf_standard.specs.Tokens.Token.{an_alias}
+use Rattle.yf_standard.specs.Tokens.Token.{an_alias, a_scalar}
 
 -- properties with these tokens: the same anchor, tag, place of the tag, and comments
 pub record PropertiesMean (t : List ℕ) (n : ℤ) (c : Ctx) (i j : ℕ) (y : List Token) : Type 0 where
@@ -34,7 +34,7 @@ pub record BlockScalarMeans (t : List ℕ) (n : ℤ) (f : Bool) (i j : ℕ) (y :
   pub text : List ℕ
   pub added : y ≡ marks text
   pub event : map (λ e. e.event) value.events ≡ scalar_node no_props (style_of f) (encode_utf8_all text) ∷ []
-  pub comments : z ≡ notes value.comments
+  pub tokens : z ≡ a_scalar (style_of f) y ∷ notes value.comments
 
 -- Each derivation of comments (79) has the comments with which they are read, each at its offset.
 abbrev pub CommentTokens : Type 0
