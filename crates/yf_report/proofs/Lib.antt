@@ -1,0 +1,6 @@
+pub mod CheckstyleLemmas
+pub mod CommandLemmas
+pub mod FreeLemmas
+pub mod JsonLemmas
+pub mod JunitLemmas
+pub mod XmlLemmas

@@ -1,0 +1,9 @@
+pub mod Checkstyle
+pub mod CommandText
+pub mod Commands
+pub mod Junit
+pub mod Members
+pub mod Problems
+pub mod ProblemsJson
+pub mod Xml
+pub mod XmlText
