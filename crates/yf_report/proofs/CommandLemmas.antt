@@ -1,7 +1,7 @@
 -- What is written as workflow commands is read as these commands.
-use Rattle.std.proofs.Common.{◌≡◌, ℕ, ◌+◌, ◌<◌, ◌≤◌, List, [], ◌∷◌, ◌++◌}
-use Rattle.std.proofs.Common.{length, map, drop, Bool, true, false, ◌||◌, ◌&&◌, ◌==◌, not}
-use Rattle.std.proofs.Common.{Option, None, Some, option_map, option_and_then, flat_map, codes, decimal, refl}
+use Rattle.std.proofs.Common.{◌≡◌, ℕ, ◌<◌, List, [], ◌∷◌, ◌++◌}
+use Rattle.std.proofs.Common.{length, map, Bool, true, false, ◌||◌, ◌==◌}
+use Rattle.std.proofs.Common.{Option, None, Some, option_map, option_and_then, flat_map, codes, refl}
 use Rattle.std.proofs.Common.{sym, ap, ◌∙◌, subst, inl, inr, arith, append_assoc, append-nil, if◌then◌else◌}
 use Rattle.std.specs.Prelude.{filter, All, ⊤}
 use Rattle.std.specs.List.{slice_split}
@@ -15,16 +15,15 @@ use Rattle.yf_report.proofs.FreeLemmas.{free-flat_map, free_weaker, free_by_test
 use Rattle.yf_report.specs.declared.problem.Range.{Range}
 use Rattle.yf_report.specs.declared.problem.Severity.{Severity}
 use Rattle.yf_report.specs.declared.problem.Severity.TheVariants.{Error, Warning}
-use Rattle.yf_report.specs.declared.problem.Problem.{Problem}
-use Rattle.yf_report.specs.Problems.{Finding, finding_of, severity_name}
+use Rattle.yf_report.specs.Problems.{Finding, severity_name}
 use Rattle.yf_report.specs.Commands.{Property, Command, all_some, message_escape}
 use Rattle.yf_report.specs.Commands.{value_escape, unescape, split_once, split_colons}
-use Rattle.yf_report.specs.Commands.{property_in, properties_in, headed, body_in}
+use Rattle.yf_report.specs.Commands.{property_in, properties_in, headed}
 use Rattle.yf_report.specs.Commands.{command_in, is_line_end, commands_of_lines, commands_in}
 use Rattle.yf_report.specs.CommandText.{property, file_properties, column_properties, range_properties, command_of}
 use Rattle.yf_report.specs.CommandText.{is_among, errors_first, message_byte, value_byte}
 use Rattle.yf_report.specs.CommandText.{message_text, value_text, property_text, more_text}
-use Rattle.yf_report.specs.CommandText.{properties_text, command_text, line_text, line_if, lines_text}
+use Rattle.yf_report.specs.CommandText.{properties_text, command_text, line_text, lines_text}
 
 -- ---- escapes
 

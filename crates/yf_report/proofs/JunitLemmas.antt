@@ -1,5 +1,5 @@
 -- The tags of a JUnit document are plain and nested.
-use Rattle.std.proofs.Common.{◌≡◌, ℕ, ◌+◌, ◌≤◌, List, [], ◌∷◌, ◌++◌, length, map, Bool, true}
+use Rattle.std.proofs.Common.{◌≡◌, ℕ, ◌+◌, ◌≤◌, List, [], ◌∷◌, ◌++◌, length, map, true}
 use Rattle.std.proofs.Common.{false, Some, flat_map, codes, decimal, refl}
 use Rattle.std.proofs.Common.{sym, ap, ◌∙◌, append_assoc, append-nil, arith, if◌then◌else◌}
 use Rattle.std.proofs.Common.{drop, ◌-◌}
@@ -13,7 +13,7 @@ use Rattle.yf_report.specs.Xml.{Tag, open_tag, close_tag, empty_tag, declaration
 use Rattle.yf_report.specs.XmlText.{allowed, tag_text, document_text}
 use Rattle.yf_report.specs.Checkstyle.{attribute, name_or_stdin}
 use Rattle.yf_report.specs.Junit.{is_error, errors, outcome_name, outcome_tag, case_tags, suite_attributes, junit_tags}
-use Rattle.yf_report.proofs.XmlLemmas.{IsPlain, AllPlain, PlainName, SomePlain}
+use Rattle.yf_report.proofs.XmlLemmas.{AllPlain, PlainName, SomePlain}
 use Rattle.yf_report.proofs.XmlLemmas.{plain-append, attribute_by_test, plain_by_test, document_back, severity_allowed}
 
 outcome_plain : (s : Severity) → PlainName (outcome_name s)

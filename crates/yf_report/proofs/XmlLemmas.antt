@@ -1,17 +1,17 @@
 -- The tags that are written are read as these tags.
-use Rattle.std.proofs.Common.{◌≡◌, ℕ, ◌+◌, ◌<◌, List, [], ◌∷◌, ◌++◌}
-use Rattle.std.proofs.Common.{length, map, drop, Bool, true, false, ◌||◌, ◌&&◌, ◌==◌}
-use Rattle.std.proofs.Common.{Option, None, Some, option_map, option_and_then, flat_map, codes, refl, sym}
+use Rattle.std.proofs.Common.{◌≡◌, ℕ, ◌<◌, List, [], ◌∷◌, ◌++◌}
+use Rattle.std.proofs.Common.{length, Bool, true, false, ◌||◌, ◌==◌}
+use Rattle.std.proofs.Common.{None, Some, option_map, option_and_then, flat_map, refl, sym}
 use Rattle.std.proofs.Common.{ap, ◌∙◌, subst, inl, inr, arith, append_assoc, append-nil, if◌then◌else◌}
 use Rattle.std.specs.Prelude.{⊤, bytes_eq}
-use Rattle.std.specs.List.{slice_split, list_any, list_all}
+use Rattle.std.specs.List.{slice_split, list_any}
 use Rattle.std.proofs.lemmas.Bool.{or_from, or_parts}
 use Rattle.std.proofs.lemmas.Bool.Decides.{eqb_tells}
 use Rattle.std.proofs.lemmas.List.Splits.{slice_split_at, slice_split_none, length-slice_split}
 use Rattle.yf_report.specs.Xml.{Attribute, Tag, open_tag, close_tag}
 use Rattle.yf_report.specs.Xml.{empty_tag, value_in, name_in, attribute_in, attributes_in}
-use Rattle.yf_report.specs.Xml.{tag_with, tag_from, tag_in, is_space}
-use Rattle.yf_report.specs.Xml.{if_space, tags_of_parts, tags_after, tags_in, declaration}
+use Rattle.yf_report.specs.Xml.{tag_with, tag_from, tag_in}
+use Rattle.yf_report.specs.Xml.{tags_of_parts, tags_after, tags_in}
 use Rattle.yf_report.specs.Commands.{split_once}
 use Rattle.yf_report.specs.declared.problem.Severity.{Severity}
 use Rattle.yf_report.specs.declared.problem.Severity.TheVariants.{Error, Warning}

@@ -1,6 +1,6 @@
 -- The workflow command of each problem, and its text.
 use Rattle.std.specs.Prelude.{ℕ, ◌==◌, List, [], ◌∷◌, ◌++◌, codes, decimal, flat_map}
-use Rattle.std.specs.Prelude.{map, filter, Bool, true, false, not, Option, None, Some, if◌then◌else◌}
+use Rattle.std.specs.Prelude.{filter, Bool, true, false, not, Option, None, Some, if◌then◌else◌}
 use Rattle.yf_report.specs.declared.problem.Range.{Range}
 use Rattle.yf_report.specs.declared.problem.Severity.{Severity}
 use Rattle.yf_report.specs.declared.problem.Severity.TheVariants.{Error, Warning}

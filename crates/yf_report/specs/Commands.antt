@@ -1,7 +1,7 @@
 -- Workflow commands, as a runner of GitHub Actions reads them: `::name key=value,key=value::message` on a line.
 -- A message has `%25`, `%0D` and `%0A` in it for `%`, CR and LF, and a value has `%3A` and `%2C` for `:` and `,` too.
-use Rattle.std.specs.Prelude.{ℕ, ◌==◌, ◌&&◌, ◌||◌, List, [], ◌∷◌, Bool, true}
-use Rattle.std.specs.Prelude.{false, nat_lt, length, Option, None}
+use Rattle.std.specs.Prelude.{ℕ, ◌==◌, ◌&&◌, ◌||◌, List, [], ◌∷◌, Bool}
+use Rattle.std.specs.Prelude.{Option, None}
 use Rattle.std.specs.Prelude.{Some, option_map, option_and_then, if◌then◌else◌, map}
 use Rattle.std.specs.List.{slice_split}
 

@@ -1,6 +1,6 @@
 -- The text of the tags of a report.
 use Rattle.std.specs.Prelude.{ℕ, ◌==◌, ◌&&◌, ◌||◌, List, [], ◌∷◌, ◌++◌, codes}
-use Rattle.std.specs.Prelude.{decimal, flat_map, map, nat_lt, not, Bool, true, false, if◌then◌else◌}
+use Rattle.std.specs.Prelude.{decimal, flat_map, nat_lt, not, Bool, if◌then◌else◌}
 use Rattle.yf_report.specs.Xml.{Attribute, Tag, open_tag, close_tag, empty_tag, declaration}
 use Rattle.yf_report.specs.declared.xml.Value.{Value}
 use Rattle.yf_report.specs.declared.xml.Value.TheVariants.{Text, Number}

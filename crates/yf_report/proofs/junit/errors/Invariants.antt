@@ -1,5 +1,5 @@
 -- The count, with the errors that are still to be counted, is that of all errors.
-use Rattle.std.proofs.Common.{◌≡◌, ◌+◌, ◌≤◌, drop, map, length}
+use Rattle.std.proofs.Common.{◌≡◌, ◌+◌, ◌≤◌, drop, map}
 use Rattle.yf_report.specs.Problems.{finding_of}
 use Rattle.yf_report.specs.Junit.{errors}
 use Rattle.yf_report.proofs.junit.errors.Given as goal

@@ -1,6 +1,5 @@
 use Rattle.std.proofs.Common.{map, ◌∙◌, arith}
 use Rattle.yf_report.specs.Problems.{finding_of}
-use Rattle.yf_report.specs.ProblemsJson.{report_json}
 use Rattle.yf_report.proofs.JsonLemmas.{written_more, all_tokens, text_is, read_is, reads_back}
 use Rattle.yf_report.proofs.problems_json.json_report.Goals as goal
 

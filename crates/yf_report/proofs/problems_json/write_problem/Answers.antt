@@ -1,5 +1,5 @@
 use Rattle.yf_report.specs.Problems.{finding_of}
-use Rattle.std.proofs.Common.{ap, subst}
+use Rattle.std.proofs.Common.{subst}
 use Rattle.json.specs.Json.{string}
 use Rattle.yf_report.specs.Members.{Adds, member_tokens}
 use Rattle.std.proofs.Common.{codes}
