@@ -10,7 +10,7 @@ use Rattle.std.specs.Prelude.{Ok}
 use Rattle.std.proofs.lemmas.List.{drop_all, drop_more}
 use Rattle.json.specs.Lex.{tokens}
 use Rattle.json.specs.Print.{print}
-use Rattle.json.specs.Json.{string, boolean, document, if_last, value, max_depth}
+use Rattle.json.specs.Json.{Json, string, boolean, document, if_last, value, max_depth}
 use Rattle.json.specs.Tree.{json_tokens, items_tokens, members_tokens, depth, items_depth, members_depth}
 use Rattle.json.specs.Written.{Written, Writes}
 use Rattle.json.proofs.Printed.Trees.{value-json_tokens}
@@ -92,12 +92,8 @@ items_depth-finding_items : (fs : List Finding) → items_depth (finding_items f
 items_depth-finding_items [] = omega arith
 items_depth-finding_items (f ∷ fs) = omega (arith, finding_depth f, items_depth-finding_items fs)
 
-pub reads_as : (fs : List Finding) (text : List ℕ) (ts : List Token) → tokens text ≡ ts →
-    ts ≡ json_tokens (report_json fs) → document text ≡ Some (report_json fs)
-reads_as fs text ts same all =
-    ap (option_and_then (λ p. if_last p.0 p.1))
-    (ap (value max_depth) (same ∙ all ∙ sym (append-nil (json_tokens (report_json fs))))
-    ∙ value-json_tokens (report_json fs) max_depth [] (omega (arith, items_depth-finding_items fs)))
+pub report_depth : (fs : List Finding) → depth (report_json fs) ≤ max_depth
+report_depth fs = omega (arith, items_depth-finding_items fs)
 
 -- all tokens, once no problem is left and the bracket is closed
 pub all_tokens : (ps : List Problem) (i : ℕ) (w v : Written) → length ps ≤ i →
@@ -111,11 +107,12 @@ pub text_is : (ts : List Token) (v : Written) (text : List ℕ) → v.tokens ≡
     text ≡ v.before ++ print v.tokens → text ≡ print ts
 text_is ts v text all before same = same ∙ ap (λ b. b ++ print v.tokens) before ∙ ap print all
 
-pub read_is : (fs : List Finding) (v : Written) (text : List ℕ) → v.tokens ≡ json_tokens (report_json fs) →
-    v.before ≡ [] → text ≡ v.before ++ print v.tokens → tokens (print v.tokens) ≡ v.tokens →
-    document text ≡ Some (report_json fs)
-read_is fs v text all before same read =
-    reads_as fs text v.tokens (ap tokens (same ∙ ap (λ b. b ++ print v.tokens) before) ∙ read) all
+-- the grammar reads the tokens of a value as the value
+pub read_is : (j : Json) (v : Written) (text : List ℕ) → depth j ≤ max_depth → v.tokens ≡ json_tokens j →
+    v.before ≡ [] → text ≡ v.before ++ print v.tokens → tokens (print v.tokens) ≡ v.tokens → document text ≡ Some j
+read_is j v text shallow all before same read =
+    let ts = ap tokens (same ∙ ap (λ b. b ++ print v.tokens) before) ∙ read ∙ all ∙ sym (append-nil (json_tokens j)) in
+    ap (option_and_then (λ p. if_last p.0 p.1)) (ap (value max_depth) ts ∙ value-json_tokens j max_depth [] shallow)
 
 -- ---- the value gives the problems back
 

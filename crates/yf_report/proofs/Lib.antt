@@ -3,4 +3,5 @@ pub mod CommandLemmas
 pub mod FreeLemmas
 pub mod JsonLemmas
 pub mod JunitLemmas
+pub mod SarifLemmas
 pub mod XmlLemmas

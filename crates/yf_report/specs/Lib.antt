@@ -5,5 +5,6 @@ pub mod Junit
 pub mod Members
 pub mod Problems
 pub mod ProblemsJson
+pub mod Sarif
 pub mod Xml
 pub mod XmlText

@@ -9,5 +9,6 @@ pub mod junit;
 mod members;
 pub mod problem;
 pub mod problems_json;
+pub mod sarif;
 pub mod workflow_commands;
 mod xml;

@@ -1,6 +1,7 @@
 use Rattle.std.proofs.Common.{map, ◌∙◌, arith}
 use Rattle.yf_report.specs.Problems.{finding_of}
-use Rattle.yf_report.proofs.JsonLemmas.{written_more, all_tokens, text_is, read_is, reads_back}
+use Rattle.yf_report.specs.ProblemsJson.{report_json}
+use Rattle.yf_report.proofs.JsonLemmas.{written_more, all_tokens, text_is, read_is, reads_back, report_depth}
 use Rattle.yf_report.proofs.problems_json.json_report.Goals as goal
 
 pub loop-problem-preserved : goal.loop-problem-preserved
@@ -26,7 +27,8 @@ returns-clause-value c =
     let v = c.end_array.new.self in
     let all = all_tokens c.args.problems.now l.problem-index l.out v
     (omega arith) l.invariant.tokens c.in_ok-end_array.ensures.ok in
-    read_is (map finding_of c.args.problems.now) v _ all
+    read_is (report_json (map finding_of c.args.problems.now)) v _
+    (report_depth (map finding_of c.args.problems.now)) all
     (c.in_ok-end_array.ensures.room.0 ∙ l.invariant.before) c.into_inner.ensures.items c.into_inner.ensures.reads_back
 
 pub returns-clause-reads_back : goal.returns-clause-reads_back
