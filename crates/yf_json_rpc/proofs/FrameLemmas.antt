@@ -1,15 +1,14 @@
 -- The message that bytes begin with: it is found, it is the only one, and errors say that no message can be there.
-use Rattle.std.proofs.Common.{◌≡◌, ℕ, ◌+◌, ◌-◌, ◌<◌, ◌≤◌, List, [], ◌∷◌, ◌++◌, length, take, drop, flat_map, map, min, slice_range, IfErr, IfOk, IfSome, Option, None, Some, Result, Ok, Err, refl, sym, ap, ◌∙◌, subst, arith, length-append, length-take, length-drop, take-append-drop, drop-drop, take_at, drop_at}
-use Rattle.std.proofs.lemmas.List.{append_cancel_left, append_assoc, length-map}
+use Rattle.std.proofs.Common.{◌≡◌, ℕ, ◌+◌, ◌-◌, ◌<◌, ◌≤◌, List, [], ◌∷◌, ◌++◌, length, take, drop, flat_map, map, slice_range, IfErr, IfOk, IfSome, Option, None, Some, Result, Ok, Err, refl, sym, ap, ◌∙◌, subst, arith, length-append, length-take, length-drop, take-append-drop, drop-drop, take_at, drop_at}
+use Rattle.std.proofs.lemmas.List.{length-map}
 use Rattle.httparse.specs.Grammar.{Field, LineEnd, ReadsSection, crlf, lf, print_end, print_field, print_section}
 use Rattle.httparse.specs.Spans.{FindsSection, IsSectionAt, IsSectionOf, SectionOverflows, header_bytes, name_and_value}
 use Rattle.httparse.specs.declared.Status.TheVariants.{Complete}
 use Rattle.httparse.specs.declared.spans.HeaderSpan.{HeaderSpan}
 use Rattle.httparse.proofs.GrammarLemmas.{section_unique, ReadsSection-append}
-use Rattle.http1.specs.Fields.{Header, known_fields, content_length, values_named}
+use Rattle.http1.specs.Fields.{Header, known_fields}
 use Rattle.http1.specs.declared.fields.ContentLength.{ContentLength}
 use Rattle.http1.specs.declared.fields.ContentLength.TheVariants as Length
-use Rattle.http1.specs.declared.fields.KnownFields.{KnownFields}
 use Rattle.yf_json_rpc.specs.declared.frame.Content.{Content}
 use Rattle.yf_json_rpc.specs.declared.frame.FrameError.{FrameError}
 use Rattle.yf_json_rpc.specs.Frames.{ContentAt, GivesFrame, IsFrame, IsFrameAt, length_field}

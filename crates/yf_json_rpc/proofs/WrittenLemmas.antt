@@ -1,21 +1,19 @@
 -- What is written reads back.
-use Rattle.std.proofs.Common.{◌≡◌, ℕ, ◌+◌, ◌^◌, ◌<◌, ◌≤◌, Bool, true, not, ◌&&◌, List, [], ◌∷◌, ◌++◌, length, map, reverse, codes, decimal, All, flat_map, refl, sym, ap, ◌∙◌, subst, arith}
+use Rattle.std.proofs.Common.{◌≡◌, ℕ, ◌+◌, ◌^◌, ◌<◌, ◌≤◌, true, not, List, [], ◌∷◌, ◌++◌, length, map, reverse, codes, decimal, All, flat_map, refl, ap, ◌∙◌, subst, arith}
 use Rattle.std.specs.Char.{digit_value, is_ascii_digit}
 use Rattle.std.specs.List.{list_all}
-use Rattle.std.specs.Str.Parse.{AllDigits, digits_value}
-use Rattle.std.proofs.lemmas.List.{append_assoc, append-nil}
+use Rattle.std.specs.Str.Parse.{AllDigits}
+use Rattle.std.proofs.lemmas.List.{append_assoc}
 use Rattle.std.proofs.lemmas.List.Elements.{All-head, All-tail, All-weaker}
 use Rattle.std.proofs.lemmas.List.Sums.{AllPass-from_list_all, list_all-from_AllPass}
 use Rattle.std.proofs.lemmas.Bool.{and_from, lt-ltb}
 use Rattle.std.proofs.lemmas.Bool.Decides.{nat_tests}
 use Rattle.std.proofs.lemmas.Fmt.{decimal_is_IsNumeral}
 use Rattle.httparse.specs.Grammar.{AllPass, ReadsSection, crlf, is_ows, is_token, is_token_byte, is_value_byte}
-use Rattle.httparse.specs.Spans.{name_and_value}
 use Rattle.httparse.proofs.TrimLemmas.{AllPass-reverse}
-use Rattle.http1.specs.Fields.{Header, content_length, is_number, values_named}
-use Rattle.http1.specs.Head.{are_headers, field_of, is_header, is_trimmed_value, section_text, starts_visible}
+use Rattle.http1.specs.Fields.{Header, is_number}
+use Rattle.http1.specs.Head.{are_headers, field_of, is_trimmed_value, section_text, starts_visible}
 use Rattle.http1.specs.Text.{eq_ignore_case}
-use Rattle.http1.specs.declared.fields.ContentLength.{ContentLength}
 use Rattle.http1.specs.declared.fields.ContentLength.TheVariants as Length
 use Rattle.http1.proofs.HeadRoundTrip.{fields_read_back, section_reads_back}
 use Rattle.yf_json_rpc.specs.Frames.{IsFrame, frame, length_field}

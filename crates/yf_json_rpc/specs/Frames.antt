@@ -1,5 +1,5 @@
 -- A message: the lines of its header fields, an empty line, and as many bytes of content as `Content-Length` says.
-use Rattle.std.specs.Prelude.{◌≡◌, ℕ, ◌+◌, ◌<◌, ◌≤◌, ◌⊎◌, List, [], ◌∷◌, ◌++◌, length, take, drop, map, slice_range, codes, decimal, Option, None, Some, Result, Ok, Err}
+use Rattle.std.specs.Prelude.{◌≡◌, ℕ, ◌+◌, ◌<◌, ◌≤◌, List, ◌++◌, length, drop, map, slice_range, codes, decimal, Option, None, Some, Result, Ok, Err}
 use Rattle.httparse.specs.Grammar.{Field, LineEnd, ReadsSection}
 use Rattle.httparse.specs.Spans.{name_and_value}
 use Rattle.http1.specs.Fields.{Header, content_length, values_named}

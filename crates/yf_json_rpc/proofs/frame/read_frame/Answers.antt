@@ -1,5 +1,5 @@
 use Rattle.std.proofs.Common.{refl}
-use Rattle.yf_json_rpc.proofs.FrameLemmas.{complete_from, found_from, refused_from, refused_long, never_section}
+use Rattle.yf_json_rpc.proofs.FrameLemmas.{complete_from, found_from, refused_from, refused_long}
 use Rattle.yf_json_rpc.proofs.frame.read_frame.Goals as goal
 
 pub returns-in-Value-clause-complete : goal.returns-in-Value-clause-complete
