@@ -1,11 +1,11 @@
 -- The walk along an edit script: what is known between two of its steps.
-use Rattle.std.proofs.Common.{◌≡◌, ℕ, ◌+◌, ◌<◌, ◌≤◌, true, false, List, [], ◌∷◌, ◌++◌, length, take, drop, get_or, refl, sym, ap, ◌∙◌, subst, arith}
+use Rattle.std.proofs.Common.{◌≡◌, ℕ, ◌+◌, ◌<◌, ◌≤◌, true, false, List, [], ◌∷◌, length, drop, get_or, refl, sym, ap, ◌∙◌, subst, arith}
 use Rattle.std.proofs.lemmas.List.{drop_all, drop_more}
-use Rattle.yf_diff.specs.Script.{Edit, kept, dropped, added, olds, news, old_part, new_part, is_change}
+use Rattle.yf_diff.specs.Script.{Edit, kept, dropped, added, olds, news, old_part, is_change}
 use Rattle.yf_diff.specs.Texts.{lines_of}
 use Rattle.yf_diff.specs.Unified.{line_of}
 use Rattle.yf_positions.specs.declared.encoding.Encoding.{Encoding}
-use Rattle.yf_positions.specs.Edits.{RangeEdit, AfterFeed, EditsReach, edited, in_order}
+use Rattle.yf_positions.specs.Edits.{RangeEdit, AfterFeed, EditsReach, edited}
 use Rattle.yf_positions.proofs.EditLemmas.{reach_none, reach_kept, reach_end}
 use Rattle.yf_positions.proofs.LineParts.{Passed, passed_line, none_left, feed_none}
 

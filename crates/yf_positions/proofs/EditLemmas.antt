@@ -1,5 +1,5 @@
 -- What edits make of a text, one more edit or line at a time.
-use Rattle.std.proofs.Common.{◌≡◌, ℕ, zero, suc, ◌+◌, ◌-◌, ◌<◌, ◌≤◌, true, false, ◌&&◌, List, [], ◌∷◌, ◌++◌, length, take, drop, get_or, slice_range, refl, sym, ap, ◌∙◌, subst, arith, leb, append_assoc, append-nil, take-add, drop-drop, take_all}
+use Rattle.std.proofs.Common.{◌≡◌, ℕ, ◌+◌, ◌-◌, ◌<◌, ◌≤◌, true, false, ◌&&◌, List, [], ◌∷◌, ◌++◌, length, take, drop, get_or, slice_range, refl, sym, ap, ◌∙◌, subst, arith, leb, append_assoc, append-nil, take-add, drop-drop, take_all}
 use Rattle.std.proofs.lemmas.Bool.{and_parts, and_from, le-leb, lt-leb}
 use Rattle.std.proofs.lemmas.List.{drop_more, take_rest}
 use Rattle.yf_positions.specs.declared.encoding.Encoding.{Encoding}
@@ -45,7 +45,7 @@ order_push e t at (y ∷ rest) x o a b =
     (order_push e t (edit_end e t y) rest x inner.1 a b))
 
 -- a stretch made longer
-slice_more : (t : List ℕ) (a b c : ℕ) → a ≤ b → b ≤ c → slice_range t a c ≡ slice_range t a b ++ slice_range t b c
+pub slice_more : (t : List ℕ) (a b c : ℕ) → a ≤ b → b ≤ c → slice_range t a c ≡ slice_range t a b ++ slice_range t b c
 slice_more t a b c h i =
     let size : c - a ≡ (b - a) + (c - b) = omega arith in
     let place : a + (b - a) ≡ b = omega arith in
@@ -58,7 +58,7 @@ front_more t b c h =
     let size : c ≡ b + (c - b) = omega arith in
     ap (λ n. take n t) size ∙ take-add b (c - b) t
 
-slice_none : (t : List ℕ) (i : ℕ) → slice_range t i i ≡ []
+pub slice_none : (t : List ℕ) (i : ℕ) → slice_range t i i ≡ []
 slice_none t i = let none : i - i ≡ 0 = omega arith in ap (λ n. take n (drop i t)) none
 
 -- no edit, and one more

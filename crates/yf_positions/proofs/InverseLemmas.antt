@@ -1,6 +1,6 @@
 -- The offset of the position of an offset is that offset.
 use Rattle.std.proofs.Common.{◌≡◌, ℕ, zero, suc, ◌+◌, ◌-◌, ◌<◌, ◌≤◌, ◌==◌, Bool, true, false, not, ◌||◌, ◌&&◌, ⊎_elim, List, [], ◌∷◌, length, drop, get_or, refl, sym, ap, ◌∙◌, subst, arith, ltb, leb, min}
-use Rattle.std.proofs.lemmas.Bool.{both_ways, cases_Bool, cases_lt, and_left, and_right, and_cases, or_parts, or_cases, eq-eqb, eqb-true, ne_eqb, lt-ltb, le-ltb, lt-leb, leb-true, ltb-true, ltb-false, leb-false, and_parts}
+use Rattle.std.proofs.lemmas.Bool.{both_ways, cases_Bool, cases_lt, and_left, and_right, and_cases, or_parts, or_cases, eqb-true, ne_eqb, lt-ltb, le-ltb, lt-leb, leb-true, ltb-true, ltb-false, leb-false, and_parts}
 use Rattle.std.proofs.lemmas.List.{get_or-drop, get_or_past, length-drop}
 use Rattle.std.specs.Str.{IsCharBoundary}
 use Rattle.yf_positions.specs.declared.encoding.Encoding.{Encoding}

@@ -10,9 +10,8 @@ pub mod CountLemmas
 -- positions and offsets, one after the other
 pub mod InverseLemmas
 pub mod ExactLemmas
--- changes
-pub mod ChangeLemmas
 -- edits of lines
 pub mod LineParts
 pub mod EditLemmas
 pub mod BetweenLemmas
+pub mod FollowLemmas

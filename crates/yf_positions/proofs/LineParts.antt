@@ -1,5 +1,5 @@
 -- The lines of a text by their line feeds, one after the other.
-use Rattle.std.proofs.Common.{◌≡◌, ℕ, zero, suc, ◌+◌, ◌-◌, ◌<◌, ◌≤◌, ◌==◌, true, false, ⊎_elim, List, [], ◌∷◌, ◌++◌, length, take, drop, get_or, refl, sym, ap, ◌∙◌, subst, arith, drop-drop, get_or-drop, length-drop, add-one}
+use Rattle.std.proofs.Common.{◌≡◌, ℕ, zero, suc, ◌+◌, ◌-◌, ◌<◌, ◌≤◌, ◌==◌, true, false, ⊎_elim, List, [], ◌∷◌, length, take, drop, get_or, refl, sym, ap, ◌∙◌, subst, arith, drop-drop, get_or-drop, length-drop, add-one}
 use Rattle.std.proofs.lemmas.Bool.{cases_Bool, cases_lt, eqb-true, ne_eqb, and_left, and_right}
 use Rattle.std.proofs.lemmas.List.{get_or_past}
 use Rattle.std.proofs.lemmas.Str.{IsCharBoundary-start, IsCharBoundary-end, IsCharBoundary-after_ascii}
@@ -101,6 +101,7 @@ first_line (c ∷ t) line rest e =
 
 -- the line at an offset is passed
 pub record Passed (t : List ℕ) (i : ℕ) (line : List ℕ) (rest : List (List ℕ)) : Type 0 where
+  pub some : 0 < length line
   pub front : take (length line) (drop i t) ≡ line
   pub later : lines_of (drop (i + length line) t) ≡ rest
   pub feed : AfterFeed t (i + length line)
@@ -113,6 +114,7 @@ passed_line t i line rest l e =
     let size : length (drop i t) ≡ length t - i = length-drop i t in
     let bound : length line ≤ length (drop i t) = first.bound in
     record {
+      some = some;
       front = first.front;
       later = ap lines_of (sym (drop-drop (length line) i t)) ∙ first.later;
       feed = record {

@@ -1,7 +1,7 @@
 //! Edits of a document: how they are made, and the edits that lead to another text.
-ghost use Rattle.std.specs.Prelude.{◌≡◌, ◌≤◌, false, true, IfOk, IsErrOf, OnOk, string_bytes};
+ghost use Rattle.std.specs.Prelude.{◌≡◌, ◌≤◌, false, true, IfOk, IsErrOf, OnOk, slice_range, string_bytes};
 ghost use Rattle.std.specs.Str.{IsUtf8};
-ghost use Rattle.yf_positions.specs.Edits.{AfterFeed, EditsReach, edited, in_order};
+ghost use Rattle.yf_positions.specs.Edits.{AddsEdit, AfterFeed, EditsOfScript, EditsReach, edited, in_order};
 
 use crate::document::Document;
 use crate::encoding::Encoding;
@@ -85,9 +85,9 @@ pub fn after_edits(
 
 /// An offset in the old text, and one in the new text.
 #[derive(Clone, Copy)]
-struct Offsets {
-    old: usize,
-    new: usize,
+pub struct Offsets {
+    pub old: usize,
+    pub new: usize,
 }
 
 /// Adds the edit of the lines between two offsets, if there are any.
@@ -107,7 +107,9 @@ fn push_edit<'a>(
     requires new_from { AfterFeed new.now from.new }
     requires new_to { AfterFeed new.now to.new }
     requires reach { EditsReach encoding document.now new.now edits.old.items from.old from.new }
-    ensures { IfOk result (λ _. EditsReach encoding document.now new.now edits.new.items to.old to.new) }
+    ensures reach { IfOk result (λ _. EditsReach encoding document.now new.now edits.new.items to.old to.new) }
+    ensures added { IfOk result (λ _. AddsEdit encoding document.now (slice_range new.now from.new to.new) from to
+        edits.old.items edits.new.items) }
 {
     if from.old == to.old {
         if from.new == to.new {
@@ -123,7 +125,8 @@ fn push_edit<'a>(
     Ok(())
 }
 
-/// Returns edits of whole lines that lead from a document to a new text. They are in order and do not overlap.
+/// Returns edits of whole lines that lead from a document to a new text. They are in order and do not overlap, and no
+/// edit covers a line that the edit script keeps.
 ///
 /// # Errors
 ///
@@ -136,6 +139,7 @@ pub fn edits_between<'a>(
 ) -> Result<Vec<TextEdit<'a>>, AllocError>
     ensures order { IfOk result (λ edits. in_order encoding document.now 0 edits.items ≡ true) }
     ensures text { IfOk result (λ edits. edited encoding document.now 0 edits.items ≡ new.now) }
+    ensures script { IfOk result (λ edits. EditsOfScript encoding document.now new.now edits.items) }
 {
     let old_lines = hashed_lines(alloc, document.text().as_bytes())?;
     let new_lines = hashed_lines(alloc, new.as_bytes())?;

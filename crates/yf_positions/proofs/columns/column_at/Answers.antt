@@ -1,4 +1,4 @@
-use Rattle.std.proofs.Common.{◌≡◌, ◌≤◌, ◌+◌, ◌-◌, ◌<◌, false, length, drop, get_or, sym, ◌∙◌, arith}
+use Rattle.std.proofs.Common.{◌≡◌, ◌≤◌, ◌+◌, ◌-◌, false, length, drop, get_or, sym, ◌∙◌, arith}
 use Rattle.yf_positions.specs.Units.{byte_units, is_break}
 use Rattle.yf_positions.specs.Offsets.{units_before}
 use Rattle.yf_positions.proofs.ColumnLemmas.{units_more, units_column}

@@ -1,5 +1,5 @@
 -- The units so far and those of the rest.
-use Rattle.std.proofs.Common.{◌≡◌, ◌+◌, ◌-◌, ◌≤◌, length, drop}
+use Rattle.std.proofs.Common.{◌≡◌, ◌+◌, ◌-◌, ◌≤◌, drop}
 use Rattle.yf_positions.specs.Offsets.{units_before}
 use Rattle.yf_positions.proofs.columns.column_at.Given as goal
 

@@ -1,4 +1,4 @@
-use Rattle.std.proofs.Common.{◌≡◌, ◌≢◌, ◌+◌, get_or, arith}
+use Rattle.std.proofs.Common.{◌≡◌, ◌+◌, get_or, arith}
 use Rattle.std.proofs.lemmas.List.{get_or_past}
 use Rattle.yf_positions.proofs.LineLemmas.{after_feed, after_return, after_both, break_is}
 use Rattle.yf_positions.proofs.line_starts.after_break.Goals as goal

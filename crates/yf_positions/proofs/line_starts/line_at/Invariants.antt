@@ -1,5 +1,5 @@
 -- The line is from `low` on and before `high`.
-use Rattle.std.proofs.Common.{◌≡◌, ◌<◌, ◌≤◌, ◌-◌, length}
+use Rattle.std.proofs.Common.{◌<◌, ◌≤◌, ◌-◌, length}
 use Rattle.yf_positions.specs.Lines.{line_start}
 use Rattle.yf_positions.proofs.line_starts.line_at.Given as goal
 

@@ -1,5 +1,5 @@
-use Rattle.std.proofs.Common.{◌≡◌, ◌<◌, ◌≤◌, suc, length, sym, subst, arith}
-use Rattle.yf_positions.specs.Lines.{lines_before, line_start}
+use Rattle.std.proofs.Common.{◌≡◌, ◌≤◌, suc, length, sym, subst, arith}
+use Rattle.yf_positions.specs.Lines.{lines_before}
 use Rattle.yf_positions.proofs.LineLemmas.{start_past, start_within}
 use Rattle.yf_positions.proofs.line_starts.line_start.Goals as goal
 

@@ -8,5 +8,6 @@ abbrev pub invariant-loop-edit : goal.invariant-loop-edit
 invariant-loop-edit l = record {
   boundary : IsCharBoundary l.document l.at;
   order : in_order l.encoding l.document 0 l.edits ≡ in_order l.encoding l.document l.at (drop l.edit-index l.edits);
-  made : string_bytes l.text ++ edited l.encoding l.document l.at (drop l.edit-index l.edits) ≡ edited l.encoding l.document 0 l.edits;
+  made : string_bytes l.text ++ edited l.encoding l.document l.at (drop l.edit-index l.edits)
+      ≡ edited l.encoding l.document 0 l.edits;
 }
