@@ -10,13 +10,13 @@ use std::alloc::Global;
 use std::fs::File;
 use std::rt::Files;
 use yf_chars::utf8::{BadByte, check_utf8};
-use yf_emit::format::format;
 use yf_files::{FileSystem, Formatter, MemoryFiles, ReplaceError, RewriteError};
 use yf_forms::style::Style;
 use yf_laws::every_text::formattings_hold;
 use yf_lines::fault::Fault;
 use yf_lines::output::write_text;
 use yf_lines::watched::Sink;
+use yf_rules::format::format;
 use yf_rules::run::INPUT_LIMIT;
 
 /// Opens a file for reading. One that cannot be opened is one that cannot be read (`Fault::ReadFailed`).

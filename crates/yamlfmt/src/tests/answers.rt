@@ -2,7 +2,6 @@
 
 use std::alloc::{AllocError, Global};
 use std::io;
-use yf_emit::format::format;
 use yf_events::reading::Reading;
 use yf_forms::style::Style;
 use yf_lines::fault::Fault;
@@ -11,6 +10,7 @@ use yf_program::command_line::{Cmd, Verb};
 use yf_program::program::run;
 use yf_program::report::report;
 use yf_program::settings::style_from_toml;
+use yf_rules::format::format;
 use yf_rules::rule::Rule;
 use yf_stream::stream::read_stream;
 
