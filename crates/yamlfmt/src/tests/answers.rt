@@ -3,7 +3,6 @@
 use std::alloc::{AllocError, Global};
 use std::io;
 use yf_command_line::command::Input;
-use yf_emit::format::format;
 use yf_events::reading::Reading;
 use yf_forms::style::Style;
 use yf_lines::fault::Fault;
@@ -12,6 +11,7 @@ use yf_program::program::run;
 use yf_program::report::report;
 use yf_program::streams::{Streams, in_memory};
 use yf_program::task::{Task, Work};
+use yf_rules::format::format;
 use yf_settings::settings::style_from_toml;
 use yf_stream::stream::read_stream;
 
