@@ -14,7 +14,7 @@ use Rattle.yf_rules.specs.declared.run.TheConstants.{INPUT_LIMIT}
 use Rattle.yf_stream.proofs.Offsets.FaultsPlaced.{faults_are_placed}
 use Rattle.yf_stream.specs.StreamReader.{StreamFault}
 use Rattle.yf_events.specs.declared.reading.TheConstants.{LONGEST}
-use Rattle.yf_program.specs.Answer.{RefusesBytes}
+use Rattle.yf_program.specs.Rewriting.{RefusesBytes}
 
 refuses : (t : List ℕ) → IsUtf8 t → (f : Fault) → StreamFault t f → RefusesBytes t f
 refuses t u (NotUtf8 offset) w = absurd (faults_are_placed t (NotUtf8 offset) w)

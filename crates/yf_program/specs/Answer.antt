@@ -2,8 +2,8 @@
 -- Its last definition, `ProgramRuns`, is the whole. Each one above it says what one step does.
 -- (before, after: the world, the streams or one stream before and after a step;
 -- reader, left: a reader before and after it was read)
-use Rattle.std.specs.Prelude.{◌≡◌, ◌≢◌, ◌≤◌, ◌⊎◌, ◌++◌, ◌∷◌, ◌-◌, ℕ, max, slice_get, List, [], length, map, Bool, true, false, Option, Some, None, IfSome, Result, Ok, Err, MatchResult, codes}
-use Rattle.std.specs.Str.{IsUtf8, IsValidUpTo, chars}
+use Rattle.std.specs.Prelude.{◌≡◌, ◌≢◌, ◌≤◌, ◌⊎◌, ◌++◌, ◌∷◌, ◌-◌, ℕ, max, slice_get, List, [], length, map, Bool, true, false, Option, Some, None, IfSome, Result, Ok, Err, codes}
+use Rattle.std.specs.Str.{IsUtf8, chars}
 use Rattle.std.specs.Io.KnownBytes.{Keeps}
 use Rattle.yf_command_line.specs.Requests.{AsksFor, RefusesWords, all_files, all_inputs}
 use Rattle.yf_command_line.specs.declared.command.Command.{Command}
@@ -18,9 +18,7 @@ use Rattle.yf_command_line.specs.declared.usage.Usage.{Usage}
 use Rattle.yf_command_line.specs.declared.usage.Usage.TheVariants as usage
 use Rattle.yf_explain.specs.Explained.{Explains}
 use Rattle.yf_explain.specs.Shown.{AreWritten}
-use Rattle.yf_files.specs.Replaced.{AtAnyMoment}
-use Rattle.yf_files.specs.Rewritten.{IsFormatting, IsUntouched, LeavesRefused, Rewrote, WhyRefused, new_name_of}
-use Rattle.yf_files.specs.Tree.{FilesState, at, regular}
+use Rattle.yf_files.specs.Tree.{FilesState}
 use Rattle.yf_files.specs.declared.replacing.ReplaceError.{ReplaceError}
 use Rattle.yf_files.specs.declared.replacing.ReplaceError.TheVariants.{Untouched, Left, Unsure}
 use Rattle.yf_files.specs.declared.rewriting.RewriteError.{RewriteError}
@@ -29,7 +27,6 @@ use Rattle.yf_forms.specs.declared.style.Style.{Style}
 use Rattle.yf_lines.specs.declared.fault.Fault.{Fault}
 use Rattle.yf_lines.specs.declared.fault.Fault.TheVariants as fault
 use Rattle.yf_rules.specs.AllRules.{FoundWithout, rule_names}
-use Rattle.yf_rules.specs.Headline.{Headline}
 use Rattle.yf_rules.specs.declared.run.TheConstants.{INPUT_LIMIT}
 use Rattle.yf_rules.specs.Runs.ByteStream.{ByteStream, NoFailure, NothingWritten, Writes, BreaksOff, WrittenOrFailed}
 use Rattle.yf_rules.specs.Runs.Compare.{CompareRun, IsClean, RefusedCompare}
@@ -37,10 +34,9 @@ use Rattle.yf_rules.specs.Runs.Diffed.{DiffRun, RefusedDiff}
 use Rattle.yf_rules.specs.Runs.Input.{ReadRefusal}
 use Rattle.yf_rules.specs.Runs.Run as Runs
 use Rattle.yf_rules.specs.Runs.Run.{Gave, NotationWritten, RefusedEvents, RefusedCheck, RefusedFmt, FormattingWritten, FindingsWritten}
-use Rattle.yf_stream.specs.Refusal.{IsStreamFault}
-use Rattle.yf_stream.specs.StreamReader.{StreamFault}
 use Rattle.yf_program.specs.Named.{named_lines}
 use Rattle.yf_program.specs.Quoted.{quoted}
+use Rattle.yf_program.specs.Rewriting.{FileRewrite}
 use Rattle.yf_program.specs.Report.{check_status, fault_line, fault_status, format_status}
 use Rattle.yf_settings.specs.Settings.{IsHouse, SetsStyle, RefusesSettings}
 use Rattle.yf_program.specs.World.{Host, InputClaim, LinkClaim, OutputStreams, WorkClaim, World}
@@ -229,46 +225,6 @@ DoesInput host task input status before after =
     × DoesOpened host.inputs input task status before.streams after.streams
 
 -- ---- A file is rewritten
-
--- The text is the formatting of the bytes, and all holds of the two that `Headline` says.
-abbrev pub FormatsBytes : Style → List ℕ → List ℕ → Type 0
-FormatsBytes style bytes text = Headline bytes style text
-
--- The bytes have no formatting: they are no text, or the text is no stream, or breaches the rule that the fault names.
-abbrev pub RefusesBytes : List ℕ → Fault → Type 0
-RefusesBytes bytes (fault.NotUtf8 offset) = (¬ IsUtf8 bytes) × IsValidUpTo bytes offset
-RefusesBytes bytes why = IsUtf8 bytes × IsStreamFault bytes why × StreamFault bytes why
-
--- At any moment, also if the run or the machine stops, the file holds what it held or exactly the formatting of its
--- text, whole, and no other name than the new one ever has anything else. If all is well it has its formatting, whatever
--- may be found after a crash; or it had it before, nothing was touched, and it still has it. Else it is as it was, or
--- the error says what is left. A formatter that refused has refused some bytes, also if nothing is known of the files.
--- (tells: whether the file system says what is in it; old, new: its states)
-abbrev pub RewritesFile : Type 0 → FilesState → FilesState → List ℕ → Style → Result Unit (RewriteError Fault) → Type 0
-RewritesFile tells old new file style result =
-    (tells → AtAnyMoment old new (new_name_of file) (IsFormatting (FormatsBytes style) old file))
-    × MatchResult result (λ _. tells → Rewrote (FormatsBytes style) old new file)
-    (λ why. WhyRefused RefusesBytes why × (tells → LeavesRefused (FormatsBytes style) RefusesBytes old new file why))
-
--- The name leads to no regular file. (Leads: the names of the files to which it leads)
-abbrev pub LeadsNowhere : FilesState → (List ℕ → Type 0) → Type 0
-LeadsNowhere files Leads = (file bytes : List ℕ) → Leads file → at files file ≢ Some (regular bytes)
-
--- No file is found to rewrite: there is no memory, or the name leads to none.
-abbrev pub IsUnfound : Type 0 → RewriteError Fault → Type 0
-IsUnfound Nowhere error.Memory = Unit {0}
-IsUnfound Nowhere error.Unreadable = Nowhere
-IsUnfound Nowhere (error.Refused why) = ⊥
-IsUnfound Nowhere (error.Unwritten how) = ⊥
-
--- The file of a name is rewritten, or the one to which a link there leads; or none is found, and nothing is touched.
--- (Leads: the names of the files to which the name leads)
-abbrev pub FileRewrite : Type 0 → FilesState → FilesState → (List ℕ → Type 0) → Style → Result Unit (RewriteError Fault)
-    → Type 0
-FileRewrite tells old new Leads style result =
-    ((file : List ℕ) × Leads file × RewritesFile tells old new file style result)
-    ⊎ ((why : RewriteError Fault) × (result ≡ Err why) × IsUnfound (tells → LeadsNowhere old Leads) why
-    × (tells → IsUntouched old new))
 
 -- What is known of the system, by the ghost members of what reads the inputs and of the files.
 -- (claim: of the inputs; tells, state, leads: of the files)

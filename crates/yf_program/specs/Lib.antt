@@ -1,5 +1,6 @@
 -- what the program does, from the words to the status, and what it works on
 pub mod World
+pub mod Rewriting
 pub mod Answer
 -- the lines that are written
 pub mod Report

@@ -2,7 +2,8 @@
 ghost use Rattle.std.specs.Prelude.{◌≡◌, ℕ, List, string_bytes, IfErr, IfOk, MatchOption};
 ghost use Rattle.yf_lines.specs.declared.fault.Fault.TheVariants.{ReadFailed};
 ghost use Rattle.yf_rules.specs.Runs.ByteStream.{WrittenOrFailed, stream_of};
-ghost use Rattle.yf_program.specs.Answer.{FileRewrite, FormatsBytes, IsUnfound, LeadsNowhere, RefusesBytes, RewritesFile, fault_of, rewrite_line, unwritten_line};
+ghost use Rattle.yf_program.specs.Answer.{fault_of, rewrite_line, unwritten_line};
+ghost use Rattle.yf_program.specs.Rewriting.{FileRewrite, FormatsBytes, IsUnfound, LeadsNowhere, RefusesBytes, RewritesFile};
 ghost use Rattle.yf_program.specs.Report.{fault_status};
 
 use crate::report::report;

@@ -3,7 +3,8 @@ ghost use Rattle.std.specs.Prelude.{◌≡◌, map};
 ghost use Rattle.yf_command_line.specs.Requests.{all_files};
 ghost use Rattle.yf_command_line.specs.declared.command.Input.TheVariants.{File};
 ghost use Rattle.yf_rules.specs.Runs.ByteStream.{stream_of};
-ghost use Rattle.yf_program.specs.Answer.{AnyLines, DoesAll, DoesEach, DoesNamed, DoesRewrite, EndsRewriting, FileRewrite, RewritesInput, TellsMore, host_in};
+ghost use Rattle.yf_program.specs.Answer.{AnyLines, DoesAll, DoesEach, DoesNamed, DoesRewrite, EndsRewriting, RewritesInput, TellsMore, host_in};
+ghost use Rattle.yf_program.specs.Rewriting.{FileRewrite};
 ghost use Rattle.yf_program.specs.World.{world_in};
 
 use crate::files::{Links, report_rewrite, rewrite};
