@@ -48,7 +48,7 @@ class Wide(Builder):
             write('%s/crates/%s/src/lib.rt' % (self.top, name), name)
             write('%s/crates/%s/must-fail/a.edit' % (self.top, name), name)
         write(self.top + '/crates/yamlfmt/stdin', 'a\n')
-        write(self.top + '/crates/yf_program/src/build.rt', 'pub const LOGIC: &str = "%s";\n' % LOGIC)
+        write(self.top + '/crates/yf_command_line/src/build.rt', 'pub const LOGIC: &str = "%s";\n' % LOGIC)
         script(room + '/bin/rt', RT)
 
     def steps(self):

@@ -132,10 +132,10 @@ def others(wrong):
 
 
 def unknown(crate, promise, text):
-    """The functions that a promise names and the crate doesn't have."""
-    for word in re.findall(r'`([A-Za-z_][A-Za-z0-9_:]+)`', promise):
-        if not re.search(rf'\b{word.split("::")[-1]}\b', text):
-            yield f'{crate} has no `{word}`: {promise}'
+    """The functions that a promise names and the crate, or the crate that it names after `of`, doesn't have."""
+    for word, other in re.findall(r'`([A-Za-z_][A-Za-z0-9_:]+)`(?: of (yf_\w+))?', promise):
+        if not re.search(rf'\b{word.split("::")[-1]}\b', sources(f'crates/{other}/src') if other else text):
+            yield f'{other or crate} has no `{word}`: {promise}'
 
 
 def item(text, indent=''):

@@ -220,7 +220,7 @@ class Builder:
         for crate in ('yf_one', 'yf_two', 'yamlfmt'):
             for name in ('src/lib.rt', 'src/lib_tests.rt', 'specs/Lib.antt', 'proofs/Lib.antt'):
                 write(self.top + '/crates/%s/%s' % (crate, name), crate + name)
-        write(self.top + '/crates/yf_program/src/build.rt', 'pub const LOGIC: &str = "%s";\n' % LOGIC)
+        write(self.top + '/crates/yf_command_line/src/build.rt', 'pub const LOGIC: &str = "%s";\n' % LOGIC)
         write(self.top + '/crates/yamlfmt/stdin', 'a\n')
         script(room + '/bin/rt', RT)
         write(self.count, '')

@@ -134,7 +134,8 @@ Each is a condition, in bold in the table below; with `letter` each asks nothing
 ## Meanings
 
 The standard says in prose what its productions mean, by their names. Here a meaning is a function of a derivation: `content`
-(`specs/Contents.antt`) is what it adds to a scalar, and `tokens` (`specs/Tokens.antt`) are its comments and names.
+(`specs/Contents.antt`) is what it adds to a scalar, and `tokens` (`specs/Tokens.antt`) are its comments, names, scalars and
+collections. `said` (`specs/Readings.antt`) reads tokens: the events, in which a node has the properties before it.
 
 | | Production | Meaning | Section |
 |---|---|---|---|
@@ -150,11 +151,19 @@ The standard says in prose what its productions mean, by their names. Here a mea
 | | 75: a comment | its place and its text | 6.6 |
 | | 89, 98 to 100: handles and tags | what the tag names, and its place | 6.8.2, 6.9.1 |
 | | 101, 104: anchors and aliases | the name, and the alias's place | 6.9.2, 7.1 |
+| | 64, 65, 70: fewer spaces, empty lines | nothing | 6.1, 6.4 |
+| | 105, 109, 120, 131: scalars in flow style | a scalar in that style, with what it adds to content | 7.2, 7.3 |
+| | 137, 140, 150: flow collections, a single pair | where a sequence or a mapping starts and ends | 7.4 |
+| | 165, 171, 172, 181: lines of block scalars and their end | nothing | 8.1 |
+| | 170, 174: block scalars | a scalar in that style with its content, then its comments | 8.1 |
+| | 183, 186, 187, 195: block collections | where a sequence or a mapping starts and ends | 8.2 |
 | both | all others | what their parts mean | |
 
 `meaning_laws` of `yf_standard` proves that each derivation, with the reading rules, of these productions means what is read: plain,
-single-quoted and double-quoted scalars (131, 120, 109), the content of literal scalars (173), comments (79), separation (80), aliases
-(104) and node properties (96). What `content` says of folded scalars (174) is not proved yet.
+single-quoted and double-quoted scalars (131, 120, 109), the content of literal and of folded scalars (173, 182), whole block scalars
+(170, 174), comments (79), separation (80), aliases (104), node properties (96), flow nodes (161) and block nodes (196). What is read of a
+node is its events, its comments, and the places of its tags and of its escapes that write no character. Quoted scalars, block scalars and
+nodes are those that cover no forbidden line. Directives, documents and the stream (82, 202 to 211) have no tokens of their own yet.
 
 ## The productions
 """

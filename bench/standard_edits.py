@@ -36,7 +36,7 @@ EDITS = [
     (72, "Contents", "b-as-space i j x = char 32", "b-as-space i j x = char 10"),
     (112, "Contents", "(s-double-escaped n) i j x = no_backslash x", "(s-double-escaped n) i j x = x"),
     (169, "Contents", "(l-trail-comments n) i j x = []", "(l-trail-comments n) i j x = x"),
-    (75, "Tokens", "c-nb-comment-text i j x = a_comment i", "c-nb-comment-text i j x = a_comment j"),
+    (75, "Tokens", "c-nb-comment-text i j y x = a_comment i", "c-nb-comment-text i j y x = a_comment j"),
     (99, "Tokens", "(slice_range t (i + length h) j)", "(slice_range t i j)"),
 ]
 

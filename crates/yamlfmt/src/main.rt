@@ -1,7 +1,8 @@
 //! yamlfmt: prints the events of a YAML stream, checks its style and rewrites it in one house style.
 #![tactic(auto)]
 
-ghost use Rattle.std.specs.Prelude.{[], None};
+ghost use Rattle.std.specs.Prelude.{[]};
+ghost use Rattle.yf_program.specs.World.{nothing_known};
 
 #[cfg(test)]
 mod tests;
@@ -13,7 +14,7 @@ use std::io::{BufWriter, Input};
 use std::process::ExitCode;
 use std::{env, fs, io};
 use yf_lines::fault::Fault;
-use yf_lines::watched::{Sink, Watched};
+use yf_lines::watched::Watched;
 use yf_program::answer::answer;
 use yf_program::files::open;
 use yf_program::inputs::{Again, Inputs};
@@ -21,10 +22,10 @@ use yf_program::left::{LEFT, Noting, Silenced};
 use yf_program::replacing::SystemFiles;
 use yf_program::report::report;
 use yf_program::reserved::reserve;
+use yf_program::sources::Sources;
+use yf_program::streams::Streams;
 use yf_rules::input::read_all;
-use yf_rules::rule::Rule;
 use yf_rules::run::INPUT_LIMIT;
-use yf_rules::with_rules::{WithRules, with_all_rules};
 
 /// The status if the command line cannot be read, or a closed standard stream cannot be replaced.
 const UNREADABLE: u8 = 3;
@@ -38,14 +39,10 @@ fn main(rt: HostRuntime) -> ExitCode {
         return ExitCode::from(UNREADABLE);
     };
     let has_left = Cell::new(false);
-    let mut error_stream = Watched::new(Silenced {
-        inner: rt.stderr(),
-        has_left: &has_left,
-    });
     let status = match words_given(&rt) {
-        Ok(words) => answer_words(&rt, words.as_slice(), &has_left, &mut error_stream),
+        Ok(words) => answer_words(&rt, words.as_slice(), &has_left),
         Err(error) if error.kind() == io::ErrorKind::OutOfMemory => {
-            report(&Fault::Memory, &mut error_stream)
+            report(&Fault::Memory, &mut Watched::new(rt.stderr()))
         }
         Err(_) => {
             let _ = eprintln!(rt; "error: the command line cannot be read");
@@ -65,57 +62,28 @@ fn words_given(rt: &HostRuntime) -> io::Result<Vec<String>> {
     Ok(words.collect(rt.alloc())?)
 }
 
-/// Does what the words ask for, over the system's files and streams, and answers the status.
-fn answer_words<E: Sink>(
-    rt: &HostRuntime,
-    words: &[String],
-    has_left: &Cell<bool>,
-    error_stream: &mut E,
-) -> u8 {
-    let mut given = Words {
-        rt,
-        words,
+/// Does what the words ask for, over the system's files and streams, and returns the status.
+fn answer_words(rt: &HostRuntime, words: &[String], has_left: &Cell<bool>) -> u8 {
+    let mut errors = Watched::new(Silenced {
+        inner: rt.stderr(),
         has_left,
-        error_stream,
+    });
+    let output = Noting {
+        inner: rt.stdout(),
+        has_left,
     };
-    match with_all_rules(rt.alloc(), &mut given) {
-        Ok(status) => status,
-        Err(AllocError) => report(&Fault::Memory, &mut Watched::new(rt.stderr())),
-    }
-}
-
-/// The words of the command line, the note that the reader of standard output has left, and the stream for faults.
-#[derive(Drop)]
-struct Words<'a, E: Sink> {
-    rt: &'a HostRuntime,
-    words: &'a [String],
-    has_left: &'a Cell<bool>,
-    error_stream: &'a mut E,
-}
-
-impl<E: Sink> WithRules for Words<'_, E> {
-    type Value = u8;
-
-    /// Answers the words, and gives the status.
-    fn with_rules(&mut self, rules: &[Box<dyn Rule>]) -> u8 {
-        let alloc = self.rt.alloc();
-        let output = Noting {
-            inner: self.rt.stdout(),
-            has_left: self.has_left,
-        };
-        match BufWriter::with_capacity(alloc, HELD_BACK, output) {
-            Ok(output) => answer(
-                alloc,
-                self.words,
-                rules,
-                &mut System { rt: self.rt },
-                &mut SystemFiles::new(self.rt),
-                &mut Watched::new(output),
-                self.error_stream,
-            ),
-            Err(_) => report(&Fault::Memory, self.error_stream),
-        }
-    }
+    let Ok(output) = BufWriter::with_capacity(rt.alloc(), HELD_BACK, output) else {
+        return report(&Fault::Memory, &mut errors);
+    };
+    let mut sources = Sources {
+        inputs: System { rt },
+        files: SystemFiles::new(rt),
+    };
+    let mut streams = Streams {
+        output: Watched::new(output),
+        errors,
+    };
+    answer(rt.alloc(), words, &mut sources, &mut streams)
 }
 
 /// What is said of a file that can be opened, and not read, or not all of it.
@@ -144,11 +112,9 @@ impl Inputs for System<'_> {
 
     type Standard = Watched<<HostRuntime as Input>::Reader>;
 
-    ghost tells = { ⊥ };
+    ghost claim = { λ _. nothing_known };
 
     ghost opened = { λ _. [] };
-
-    ghost holds = { λ _ _. None };
 
     fn open_file(&mut self, name: &str) -> Result<Watched<File>, Fault> {
         match open(self.rt, name) {

@@ -5,42 +5,16 @@ use crate::digest::Digest;
 use std::alloc::{AllocError, Global};
 use std::mem;
 use yf_chars::utf8::check_utf8;
-use yf_emit::format::format;
 use yf_events::notation::write_events;
 use yf_events::reading::Reading;
 use yf_forms::style::Style;
 use yf_lines::fault::Fault;
 use yf_lines::source_text::Src;
 use yf_lines::watched::Watched;
-use yf_rules::check::check;
+use yf_rules::check_all::check_all;
 use yf_rules::finding::Finding;
-use yf_rules::rule::Rule;
-use yf_rules::with_rules::{WithRules, with_all_rules};
+use yf_rules::format::format;
 use yf_stream::stream::read_stream;
-
-/// The check of a text with its reading, in the house style.
-#[derive(Clone, Copy)]
-struct Checking<'a, 't> {
-    alloc: Global,
-    src: &'a Src<'t>,
-    reading: &'a Reading<'t>,
-}
-
-impl WithRules for Checking<'_, '_> {
-    type Value = Result<Vec<Finding>, Fault>;
-
-    /// What the rules find.
-    fn with_rules(&mut self, rules: &[Box<dyn Rule>]) -> Result<Vec<Finding>, Fault> {
-        check(
-            self.alloc,
-            rules,
-            &[],
-            self.src,
-            self.reading,
-            &Style::house(),
-        )
-    }
-}
 
 /// What was done so far.
 #[derive(Drop)]
@@ -133,25 +107,13 @@ impl Work {
     }
 }
 
-/// What the rules find in a text, in the house style.
+/// Returns what all rules find in a text, in the house style.
 fn findings_in(alloc: Global, text: &str) -> Result<Vec<Finding>, Fault> {
-    match Src::new(alloc, text) {
-        Ok(src) => match read_stream(alloc, text) {
-            Ok(reading) => findings_of(alloc, &src, &reading),
-            Err(fault) => Err(fault),
-        },
-        Err(_) => Err(Fault::Memory),
-    }
-}
-
-fn findings_of(alloc: Global, src: &Src, reading: &Reading) -> Result<Vec<Finding>, Fault> {
-    let mut checking = Checking {
-        alloc,
-        src,
-        reading,
+    let Ok(src) = Src::new(alloc, text) else {
+        return Err(Fault::Memory);
     };
-    match with_all_rules(alloc, &mut checking) {
-        Ok(found) => found,
-        Err(_) => Err(Fault::Memory),
+    match read_stream(alloc, text) {
+        Ok(reading) => check_all(alloc, &[], &src, &reading, &Style::house()),
+        Err(fault) => Err(fault),
     }
 }

@@ -1,5 +1,5 @@
 -- The two logs of a file system in memory: their fronts, and what may be found at the moments before.
-use Rattle.std.proofs.Common.{◌≡◌, ◌≢◌, ◌⊎◌, inl, inr, ⊎_elim, ℕ, zero, suc, ◌≤◌, ◌==◌, true, false, List, [], ◌∷◌, ◌++◌, length, take, Option, Some, None, refl, sym, ◌∙◌, ap, subst, arith, length-append}
+use Rattle.std.proofs.Common.{◌≡◌, ◌≢◌, ◌⊎◌, inl, inr, ⊎_elim, ℕ, zero, suc, ◌+◌, ◌≤◌, ◌==◌, true, false, List, [], ◌∷◌, ◌++◌, length, take, Option, Some, None, refl, sym, ◌∙◌, ap, subst, arith, length-append}
 use Rattle.std.specs.Prelude.{if◌then◌else◌, string_bytes, slice_get}
 use Rattle.std.specs.Str.{bytes_eq}
 use Rattle.std.proofs.lemmas.Bool.{cond-true, cond-false}
@@ -86,11 +86,12 @@ pub record Grown (old new : Logs) : Type 0 where
   pub changes : (k : ℕ) → k ≤ length old.changes.items → take k new.changes.items ≡ take k old.changes.items
   pub contents : (k : ℕ) → k ≤ length old.contents.items → take k new.contents.items ≡ take k old.contents.items
 
-pub time_by : (old new : Logs) → IsWell old → Grown old new → new.moments.items ≡ old.moments.items ++ now_of old ∷ [] → old.next ≤ new.next → (old.failed ≡ true → new.failed ≡ true)
-    → TimePasses (state_of old) (state_of new)
-time_by old new well grown moments next failed = record {
+pub time_by : (old new : Logs) → IsWell old → Grown old new → new.moments.items ≡ old.moments.items ++ now_of old ∷ [] → old.next ≤ new.next → old.failures ≤ new.failures
+    → old.failures + old.uncounted ≤ new.failures + new.uncounted → TimePasses (state_of old) (state_of new)
+time_by old new well grown moments next failures uncounted = record {
   later = omega (arith, ap length moments, length-append old.moments.items (now_of old ∷ []));
-  failed = failed;
+  failures = failures;
+  uncounted = uncounted;
   used = λ i used. omega (arith, used, next);
   nothing_else = λ t q x le since. ⊎_elim (λ now. inr now) (λ before. inl (past t q x before)) since;
   keeps = λ t q x le since. ⊎_elim (λ now. inr (this t q x le now)) (λ before. inr (other t q x before)) since;

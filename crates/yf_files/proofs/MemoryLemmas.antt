@@ -38,13 +38,14 @@ stays_failing old mid new p f = stays_by old new (f.changes ∙ p.changes) (f.co
     (omega (arith, p.stored_contents, f.stored_contents)) (f.made ∙ p.made)
 
 pub time_passes : (old new : Logs) → IsWell old → MomentPasses old new → TimePasses (state_of old) (state_of new)
-time_passes old new well p = time_by old new well (grown_same old new p.changes p.contents) p.moments (omega (arith, p.next)) (λ failed. p.failed ∙ failed)
+time_passes old new well p = time_by old new well (grown_same old new p.changes p.contents) p.moments (omega (arith, p.next)) (omega (arith, p.failures)) (omega (arith, p.failures, p.uncounted))
 
 -- a call fails in the moment in which it began
 pub time_fails : (old new : Logs) → CallFails old new → TimePasses (state_of old) (state_of new)
 time_fails old new f = record {
   later = omega (arith, ap length f.moments);
-  failed = λ _. f.failed;
+  failures = f.failures;
+  uncounted = f.uncounted;
   used = λ i used. omega (arith, used, f.next);
   nothing_else = λ t q x le since. ⊎_elim (λ now. inr now) (λ h. inl (inr (h.0, h.1, h.2, ap (λ l. slice_get l h.0) (sym f.moments) ∙ h.3, back h.1 q x h.4))) since;
   keeps = λ t q x le since. ⊎_elim (λ now. inl (now_still q x now)) (λ h. inr (h.0, h.1, h.2, ap (λ l. slice_get l h.0) f.moments ∙ h.3, on h.1 q x h.4)) since;
@@ -67,7 +68,7 @@ time_fails old new f = record {
 
 pub time_failing : (old mid new : Logs) → IsWell old → MomentPasses old mid → CallFails mid new → TimePasses (state_of old) (state_of new)
 time_failing old mid new well p f = time_by old new well (grown_same old new (f.changes ∙ p.changes) (f.contents ∙ p.contents)) (f.moments ∙ p.moments)
-    (omega (arith, p.next, f.next)) (λ _. f.failed)
+    (omega (arith, p.next, f.next)) (omega (arith, p.failures, f.failures)) (omega (arith, p.failures, p.uncounted, f.uncounted))
 
 -- ---- the logs stay well
 
@@ -158,11 +159,11 @@ entry_used l q i well is = well.used (length l.changes.items) q i (ap (λ c. ent
 
 pub time_changes : (old mid new : Logs) (n f : Name) (o : Option ℕ) → IsWell old → MomentPasses old mid → LogChanged mid new n f o → TimePasses (state_of old) (state_of new)
 time_changes old mid new n f o well p c = time_by old new well (grown_change old new c.change (c.changes ∙ ap (λ l. l ++ c.change ∷ []) p.changes) (c.contents ∙ p.contents))
-    (c.moments ∙ p.moments) (omega (arith, p.next, c.next)) (λ failed. c.failed ∙ p.failed ∙ failed)
+    (c.moments ∙ p.moments) (omega (arith, p.next, c.next)) (omega (arith, p.failures, c.failures)) (omega (arith, p.failures, p.uncounted, c.failures, c.uncounted))
 
 pub time_makes : (old mid new : Logs) (n : Name) → IsWell old → MomentPasses old mid → InodeMade mid new n → TimePasses (state_of old) (state_of new)
 time_makes old mid new n well p c = time_by old new well (grown_change old new c.change (c.changes ∙ ap (λ l. l ++ c.change ∷ []) p.changes) (c.contents ∙ p.contents))
-    (c.moments ∙ p.moments) (omega (arith, p.next, c.next)) (λ failed. c.failed ∙ p.failed ∙ failed)
+    (c.moments ∙ p.moments) (omega (arith, p.next, c.next)) (omega (arith, p.failures, c.failures)) (omega (arith, p.failures, p.uncounted, c.failures, c.uncounted))
 
 -- what a change leaves at each name
 entry_after : (old new : Logs) (c : Change) → new.changes.items ≡ old.changes.items ++ c ∷ [] → (q : Name) → entry_of new.changes.items q ≡ changed c q (entry_of old.changes.items q)
@@ -286,7 +287,7 @@ module _ (old mid half : Logs) (i : ℕ) (text : List ℕ) (well : IsWell old) (
   pub time_half : (new : Logs) → CallFails half new → TimePasses (state_of old) (state_of new)
   time_half new f = time_by old new well
       (grown_content old new g.content (f.changes ∙ g.changes ∙ p.changes) (f.contents ∙ more))
-      (f.moments ∙ g.moments ∙ p.moments) (omega (arith, p.next, g.next, f.next)) (λ _. f.failed)
+      (f.moments ∙ g.moments ∙ p.moments) (omega (arith, p.next, g.next, f.next)) (omega (arith, p.failures, g.failures, f.failures)) (omega (arith, p.failures, p.uncounted, g.failures, g.uncounted, f.uncounted))
 
   pub written_half : (new : Logs) → i ≡ mid.made → CallFails half new → WriteChanges (state_of old) (state_of new)
   written_half new is f = written_stays (half_written is) (stays_fails half new f)
@@ -306,7 +307,7 @@ module _ (old mid half : Logs) (i : ℕ) (text : List ℕ) (well : IsWell old) (
     time_written = time_by old new well
         (grown_trans old half new half_grown (grown_content half new w.content w.changes w.contents) (omega (arith, ap length g.changes, ap length p.changes))
         (omega (arith, ap length more, length-append old.contents.items (g.content ∷ []))))
-        (w.moments ∙ g.moments ∙ p.moments) (omega (arith, p.next, g.next, w.next)) (λ failed. w.failed ∙ g.failed ∙ p.failed ∙ failed)
+        (w.moments ∙ g.moments ∙ p.moments) (omega (arith, p.next, g.next, w.next)) (omega (arith, p.failures, g.failures, w.failures)) (omega (arith, p.failures, p.uncounted, g.failures, g.uncounted, w.failures, w.uncounted))
 
     pub well_written : IsWell new
     well_written = well_gives half new i whole well_half w
@@ -320,9 +321,9 @@ module _ (old mid half : Logs) (i : ℕ) (text : List ℕ) (well : IsWell old) (
 
 -- what was stored is all that may be found
 pub time_stores : (old mid new : Logs) → IsWell old → MomentPasses old mid → new.changes.items ≡ mid.changes.items → new.contents.items ≡ mid.contents.items → new.moments.items ≡ mid.moments.items
-    → new.next ≡ mid.next → new.failed ≡ mid.failed → TimePasses (state_of old) (state_of new)
-time_stores old mid new well p a b moments next failed = time_by old new well (grown_same old new (a ∙ p.changes) (b ∙ p.contents)) (moments ∙ p.moments) (omega (arith, next, p.next))
-    (λ f. failed ∙ p.failed ∙ f)
+    → new.next ≡ mid.next → new.failures ≡ mid.failures → new.uncounted ≡ mid.uncounted → TimePasses (state_of old) (state_of new)
+time_stores old mid new well p a b moments next failures uncounted = time_by old new well (grown_same old new (a ∙ p.changes) (b ∙ p.contents)) (moments ∙ p.moments) (omega (arith, next, p.next))
+    (omega (arith, p.failures, failures)) (omega (arith, p.failures, p.uncounted, failures, uncounted))
 
 -- one of two facts holds, by what a call answered
 pub either : {T E : Type 0} {W P Q : Type 0} (r : Result T E) → OnOk r P → OnErr r Q → (P → W) → (Q → W) → W

@@ -5,7 +5,7 @@ use Rattle.std.specs.Str.{bytes_eq}
 use Rattle.std.proofs.lemmas.Slice.Eq.{bytes_eq-Decides}
 use Rattle.yf_files.specs.Calls.{Stays}
 use Rattle.yf_files.specs.Replaced.{AtAnyMoment, IsText, FileReplaced}
-use Rattle.yf_files.specs.Rewritten.{IsFormatting, IsUntouched, Rewrote, new_name_of}
+use Rattle.yf_files.specs.Rewritten.{HeldAlready, IsFormatting, IsUntouched, Rewrote, new_name_of}
 use Rattle.yf_files.specs.Tree.{TimePasses, MayBeFound, IsAt, IsSound, Name, Node, FilesState, at, folder_of, has_slash, regular}
 use Rattle.yf_files.proofs.LogLemmas.{carried}
 
@@ -28,6 +28,15 @@ untouched old new sound c time = record {
   since = λ t q x le h. ⊎_elim (λ before. before)
       (λ now. sound.counts_now t q x le (now.0, c.is_there q now.0 now.1, carried new.holds old.holds now.0 x c.holds now.2))
       (time.nothing_else t q x le h);
+}
+
+-- a file that was only read holds what it held
+pub held_already : (old new : FilesState) (file : Name) (text : List ℕ) → IsSound old → Stays old new → TimePasses old new → at old file ≡ Some (regular text)
+    → HeldAlready old new file text
+held_already old new file text sound c time is = record {
+  untouched = untouched old new sound c time;
+  holds = at_stays old new c file ∙ is;
+  after_crash = λ x found. (found.0, c.is_there file found.0 found.1, carried new.holds old.holds found.0 x c.holds found.2);
 }
 
 -- The file was read, and its text is replaced by the formatting of what was read.

@@ -1,5 +1,5 @@
 -- What a run has changed as long as it works on its new file alone.
-use Rattle.std.specs.Prelude.{◌≡◌, ◌≢◌, ◌⊎◌, ℕ, ◌≤◌, true, List, Option, Some, None}
+use Rattle.std.specs.Prelude.{◌≡◌, ◌≢◌, ◌⊎◌, ℕ, ◌≤◌, ◌+◌, List, Option, Some, None}
 use Rattle.yf_files.specs.Tree.{Name, Node, regular, FilesState}
 use Rattle.yf_files.specs.declared.replacing.ReplaceError.{ReplaceError}
 use Rattle.yf_files.specs.declared.replacing.ReplaceError.TheVariants.{Untouched, Left, Unsure}
@@ -7,7 +7,8 @@ use Rattle.yf_files.specs.declared.replacing.ReplaceError.TheVariants.{Untouched
 -- Nothing has changed since old but what is at the name and the files that were made since, and nothing else was ever to be found.
 pub record Aside (old new : FilesState) (name : Name) : Type 0 where
   pub later : old.moment ≤ new.moment
-  pub failed : old.failed ≡ true → new.failed ≡ true
+  pub failures : old.failures ≤ new.failures
+  pub uncounted : old.failures + old.uncounted ≤ new.failures + new.uncounted
   pub used : (i : ℕ) → old.used i → new.used i
   pub entry : (q : Name) → q ≢ name → new.entry q ≡ old.entry q
   pub node : (i : ℕ) → old.used i → new.node i ≡ old.node i

@@ -1,10 +1,10 @@
 -- What the calls of a file system do, each a relation of the states before and after it.
-use Rattle.std.specs.Prelude.{◌≡◌, ◌≢◌, ◌⊎◌, ℕ, true, Option, Some, None}
+use Rattle.std.specs.Prelude.{◌≡◌, ◌≢◌, ◌⊎◌, ℕ, ◌+◌, ◌<◌, Option, Some, None}
 use Rattle.yf_files.specs.Tree.{Name, Node, FilesState, folder_of}
 
--- a call has failed
-abbrev pub HasFailed : FilesState → Type 0
-HasFailed s = s.failed ≡ true
+-- a call has failed between two states
+abbrev pub HasFailed : FilesState → FilesState → Type 0
+HasFailed old new = old.failures < new.failures + new.uncounted
 
 -- nothing changes, and nothing else may be found
 pub record Stays (old new : FilesState) : Type 0 where

@@ -1,6 +1,6 @@
 -- The state of a file system in memory: a log of the names that were given and taken away, and a log of what files were given to hold. At a stop
 -- some front of each log is found, no shorter than what was stored of it.
-use Rattle.std.specs.Prelude.{◌≡◌, ◌⊎◌, ℕ, ◌+◌, ◌<◌, ◌≤◌, ◌==◌, true, if◌then◌else◌, List, [], ◌∷◌, ◌++◌, length, take, Option, Some, None, string_bytes, slice_get}
+use Rattle.std.specs.Prelude.{◌≡◌, ◌⊎◌, ℕ, ◌+◌, ◌<◌, ◌≤◌, ◌==◌, if◌then◌else◌, List, [], ◌∷◌, ◌++◌, length, take, Option, Some, None, string_bytes, slice_get}
 use Rattle.std.specs.Str.{bytes_eq}
 use Rattle.yf_files.specs.Tree.{Name, Node, regular, FilesState, IsAt}
 use Rattle.yf_files.specs.declared.logs.Change.{Change}
@@ -61,7 +61,8 @@ state_of l = record {
   is_there = IsFileAt l.changes.items (now_of l);
   holds = HoldsContent l.contents.items (now_of l);
   used = λ i. i < l.next;
-  failed = l.failed;
+  failures = l.failures;
+  uncounted = l.uncounted;
   made = l.made;
   moment = length l.moments.items;
   since = FoundSince l.changes.items l.contents.items l.moments.items (now_of l);
@@ -84,7 +85,8 @@ pub record MomentPasses (old new : Logs) : Type 0 where
   pub stored_contents : new.stored_contents ≡ old.stored_contents
   pub next : new.next ≡ old.next
   pub made : new.made ≡ old.made
-  pub failed : new.failed ≡ old.failed
+  pub failures : new.failures ≡ old.failures
+  pub uncounted : new.uncounted ≡ old.uncounted
 
 -- nothing has happened, but that a call failed
 pub record CallFails (old new : Logs) : Type 0 where
@@ -95,7 +97,9 @@ pub record CallFails (old new : Logs) : Type 0 where
   pub stored_contents : new.stored_contents ≡ old.stored_contents
   pub next : new.next ≡ old.next
   pub made : new.made ≡ old.made
-  pub failed : new.failed ≡ true
+  pub failures : old.failures ≤ new.failures
+  pub uncounted : old.failures + old.uncounted ≤ new.failures + new.uncounted
+  pub one_more : old.failures < new.failures + new.uncounted
 
 -- one change more
 pub record LogChanged (old new : Logs) (name freed : Name) (inode : Option ℕ) : Type 0 where
@@ -110,7 +114,8 @@ pub record LogChanged (old new : Logs) (name freed : Name) (inode : Option ℕ) 
   pub stored_contents : new.stored_contents ≡ old.stored_contents
   pub next : new.next ≡ old.next
   pub made : new.made ≡ old.made
-  pub failed : new.failed ≡ old.failed
+  pub failures : new.failures ≡ old.failures
+  pub uncounted : new.uncounted ≡ old.uncounted
 
 -- a name at which nothing was is given to an inode that was not used
 pub record InodeMade (old new : Logs) (name : Name) : Type 0 where
@@ -126,7 +131,8 @@ pub record InodeMade (old new : Logs) (name : Name) : Type 0 where
   pub stored_contents : new.stored_contents ≡ old.stored_contents
   pub next : new.next ≡ old.next + 1
   pub made : new.made ≡ old.next
-  pub failed : new.failed ≡ old.failed
+  pub failures : new.failures ≡ old.failures
+  pub uncounted : new.uncounted ≡ old.uncounted
 
 -- one content more
 pub record ContentAdded (old new : Logs) (i : ℕ) (text : List ℕ) : Type 0 where
@@ -140,4 +146,5 @@ pub record ContentAdded (old new : Logs) (i : ℕ) (text : List ℕ) : Type 0 wh
   pub stored_contents : new.stored_contents ≡ old.stored_contents
   pub next : new.next ≡ old.next
   pub made : new.made ≡ old.made
-  pub failed : new.failed ≡ old.failed
+  pub failures : new.failures ≡ old.failures
+  pub uncounted : new.uncounted ≡ old.uncounted

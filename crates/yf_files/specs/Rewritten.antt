@@ -1,6 +1,6 @@
 -- What a file holds that is rewritten by a formatter, at any moment.
 use Rattle.std.specs.Prelude.{◌≡◌, ◌≢◌, ◌⊎◌, ℕ, ◌≤◌, List, ◌++◌, Option, Some, codes}
-use Rattle.yf_files.specs.Tree.{Name, Node, regular, FilesState, at}
+use Rattle.yf_files.specs.Tree.{Name, Node, regular, FilesState, MayBeFound, at}
 use Rattle.yf_files.specs.Calls.{Stays, HasFailed}
 use Rattle.yf_files.specs.Replaced.{ErrorLeaves, FileReplaced}
 use Rattle.yf_files.specs.declared.rewriting.RewriteError.{RewriteError}
@@ -20,17 +20,26 @@ pub record IsUntouched (old new : FilesState) : Type 0 where
   pub stays : Stays old new
   pub since : (t : ℕ) (q : Name) (x : Option Node) → t ≤ old.moment → new.since t q x → old.since t q x
 
--- The text that the file held is its own formatting, and nothing was touched; or the file has its formatting, which is another text.
+-- The file held the text already, and nothing was touched. The file still holds it. What may be found of the file after a
+-- crash is what might have been found before: only the text, if it was stored.
+pub record HeldAlready (old new : FilesState) (file : Name) (text : List ℕ) : Type 0 where
+  pub untouched : IsUntouched old new
+  pub holds : at new file ≡ Some (regular text)
+  pub after_crash : (x : Option Node) → MayBeFound new file x → MayBeFound old file x
+
+-- The text that the file held is its own formatting, and the file still holds it; or the file has its formatting, which is
+-- another text.
 abbrev pub Rewrote : (List ℕ → List ℕ → Type 0) → FilesState → FilesState → Name → Type 0
 Rewrote Formats old new file = (t : List ℕ) × (at old file ≡ Some (regular t))
-    × ((Formats t t × IsUntouched old new) ⊎ ((u : List ℕ) × Formats t u × (t ≢ u) × FileReplaced old new file (new_name_of file) u))
+    × ((Formats t t × HeldAlready old new file t)
+    ⊎ ((u : List ℕ) × Formats t u × (t ≢ u) × FileReplaced old new file (new_name_of file) u))
 
 -- what a refusal leaves, and why it came
 abbrev pub LeavesRefused : {E : Type 0} → (List ℕ → List ℕ → Type 0) → (List ℕ → E → Type 0) → FilesState → FilesState → Name → RewriteError E → Type 0
 LeavesRefused Formats Refuses old new file Memory = IsUntouched old new
-LeavesRefused Formats Refuses old new file Unreadable = IsUntouched old new × HasFailed new
+LeavesRefused Formats Refuses old new file Unreadable = IsUntouched old new × HasFailed old new
 LeavesRefused Formats Refuses old new file (Refused e) = IsUntouched old new × ((t : List ℕ) × (at old file ≡ Some (regular t)) × Refuses t e)
-LeavesRefused Formats Refuses old new file (Unwritten e) = HasFailed new
+LeavesRefused Formats Refuses old new file (Unwritten e) = HasFailed old new
     × ((t u : List ℕ) × (at old file ≡ Some (regular t)) × Formats t u × ErrorLeaves old new file (new_name_of file) u e)
 
 -- why a formatter refuses, whatever the file system tells

@@ -1,5 +1,5 @@
 -- A file system as one run sees it: what is at each name, what each file holds, and what may be found after the run or the machine stops.
-use Rattle.std.specs.Prelude.{◌≡◌, ◌⊎◌, ℕ, ◌≤◌, ◌==◌, Bool, true, false, if◌then◌else◌, List, [], ◌∷◌, Option, Some, None, option_map}
+use Rattle.std.specs.Prelude.{◌≡◌, ◌⊎◌, ℕ, ◌≤◌, ◌+◌, ◌==◌, Bool, true, false, if◌then◌else◌, List, [], ◌∷◌, Option, Some, None, option_map}
 
 -- the bytes of a name: an entry of a folder, whatever way a path spells it
 abbrev pub Name : Type 0
@@ -20,8 +20,9 @@ pub record FilesState : Type 1 where
   pub holds : ℕ → Node → Type 0
   -- the inodes that have was somewhere so far: no number is used twice
   pub used : ℕ → Type 0
-  -- whether a call has failed so far
-  pub failed : Bool
+  -- how many calls are counted that have failed so far, and how many more may have: none, as long as all are counted
+  pub failures : ℕ
+  pub uncounted : ℕ
   -- the inode of the file that was made last
   pub made : ℕ
   -- a number that does not fall, and what may have been found at a name if everything stopped at some moment from that one on
@@ -53,7 +54,8 @@ MayBeFound s name x = (o : Option ℕ) × s.is_there name o × IsAt s.holds o x
 -- time goes on: what may have been found since a moment might have been found before, or may be found now
 pub record TimePasses (old new : FilesState) : Type 0 where
   pub later : old.moment ≤ new.moment
-  pub failed : old.failed ≡ true → new.failed ≡ true
+  pub failures : old.failures ≤ new.failures
+  pub uncounted : old.failures + old.uncounted ≤ new.failures + new.uncounted
   pub used : (i : ℕ) → old.used i → new.used i
   pub nothing_else : (t : ℕ) (name : Name) (x : Option Node) → t ≤ old.moment → new.since t name x → old.since t name x ⊎ MayBeFound new name x
   pub keeps : (t : ℕ) (name : Name) (x : Option Node) → t ≤ old.moment → old.since t name x → new.since t name x
@@ -75,7 +77,8 @@ unknown = record {
   is_there = λ _ _. ⊥;
   holds = λ _ _. ⊥;
   used = λ _. ⊥;
-  failed = false;
+  failures = 0;
+  uncounted = 0;
   made = 0;
   moment = 0;
   since = λ _ _ _. ⊥;

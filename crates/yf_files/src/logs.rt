@@ -57,8 +57,10 @@ pub struct Logs {
     pub next: usize,
     /// The inode of the file that was made last.
     pub made: usize,
-    /// Whether a call has failed.
-    pub failed: bool,
+    /// How many calls are counted that have failed.
+    pub failures: usize,
+    /// At least 1 if more calls have failed than `failures` can count, else 0.
+    pub uncounted: usize,
 }
 
 impl Logs {
@@ -74,7 +76,8 @@ impl Logs {
             stored_contents: 0,
             next: 0,
             made: 0,
-            failed: false,
+            failures: 0,
+            uncounted: 0,
         }
     }
 
@@ -109,7 +112,11 @@ impl Logs {
     pub fn fail(&mut self) -> Failed
         ensures { CallFails self.old self.new }
     {
-        self.failed = true;
+        if self.failures < usize::MAX {
+            self.failures += 1;
+        } else {
+            self.uncounted = self.uncounted.max(1);
+        }
         Failed
     }
 

@@ -74,7 +74,7 @@ impl MemoryFiles {
     // A call that changes nothing.
     fn pass(&mut self) -> Result<(), Failed>
         ensures stays { Stays (state_of self.old.logs) (state_of self.new.logs) }
-        ensures cause { OnErr result (HasFailed (state_of self.new.logs)) }
+        ensures cause { OnErr result (HasFailed (state_of self.old.logs) (state_of self.new.logs)) }
         ensures time { TimePasses (state_of self.old.logs) (state_of self.new.logs) }
     {
         match self.begin() {

@@ -34,7 +34,7 @@ pub fn replace<S: FileSystem>(
     ensures any_moment { S.tells → AtAnyMoment (S.state files.old) (S.state files.new) new_name.now (IsText file.now text.now) }
     ensures replaced { S.tells → OnOk result (FileReplaced (S.state files.old) (S.state files.new) file.now new_name.now text.now) }
     ensures leaves { S.tells → IfErr result (ErrorLeaves (S.state files.old) (S.state files.new) file.now new_name.now text.now) }
-    ensures cause { S.tells → OnErr result (HasFailed (S.state files.new)) }
+    ensures cause { S.tells → OnErr result (HasFailed (S.state files.old) (S.state files.new)) }
 {
     match prepare(files, file, new_name, text) {
         Ok(()) => {}
@@ -60,7 +60,7 @@ fn prepare<S: FileSystem>(
     ensures aside { S.tells → Aside (S.state files.old) (S.state files.new) new_name.now }
     ensures ready { S.tells → OnOk result (IsReady (S.state files.old) (S.state files.new) new_name.now text.now) }
     ensures back { S.tells → IfErr result (Withdraws (S.state files.old) (S.state files.new) new_name.now) }
-    ensures cause { S.tells → OnErr result (HasFailed (S.state files.new)) }
+    ensures cause { S.tells → OnErr result (HasFailed (S.state files.old) (S.state files.new)) }
 {
     match claim(files, file, new_name) {
         Ok(()) => {}
@@ -81,7 +81,7 @@ fn make_new<S: FileSystem>(files: &mut S, new_name: &str, text: &[u8]) -> Result
     ensures aside { S.tells → Aside (S.state files.old) (S.state files.new) new_name.now }
     ensures ready { S.tells → OnOk result (IsReady (S.state files.old) (S.state files.new) new_name.now text.now) }
     ensures back { S.tells → IfErr result (Withdraws (S.state files.old) (S.state files.new) new_name.now) }
-    ensures cause { S.tells → OnErr result (HasFailed (S.state files.new)) }
+    ensures cause { S.tells → OnErr result (HasFailed (S.state files.old) (S.state files.new)) }
 {
     match files.make(new_name) {
         Ok(()) => {}
@@ -106,7 +106,7 @@ fn claim<S: FileSystem>(files: &mut S, file: &str, new_name: &str) -> Result<(),
     ensures aside { S.tells → Aside (S.state files.old) (S.state files.new) new_name.now }
     ensures free { S.tells → OnOk result ((S.state files.new).entry new_name.now ≡ None) }
     ensures back { S.tells → OnErr result ((S.state files.new).entry new_name.now ≡ (S.state files.old).entry new_name.now) }
-    ensures cause { S.tells → OnErr result (HasFailed (S.state files.new)) }
+    ensures cause { S.tells → OnErr result (HasFailed (S.state files.old) (S.state files.new)) }
 {
     match files.lock() {
         Ok(()) => {}

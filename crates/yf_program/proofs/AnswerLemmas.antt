@@ -1,96 +1,154 @@
--- What a command does by the boxes of all rules, it does by the rules; and by what the inputs held before its settings were opened.
-use Rattle.std.proofs.Common.{◌≡◌, ◌⊎◌, ◌∙◌, ◌∷◌, ◌++◌, ◌+◌, ◌<◌, ◌≤◌, [], ℕ, List, Bool, false, Option, Some, None, inl, inr, add-one, ap, sym, subst, take, get_or, length}
-use Rattle.std.specs.Prelude.{max}
+-- What is done is done with the inputs as they were before; and what is done with one of several.
+use Rattle.std.proofs.Common.{◌≡◌, ◌≢◌, ◌⊎◌, ◌∙◌, ◌∷◌, ◌++◌, ◌+◌, ◌<◌, ◌≤◌, [], ℕ, List, Bool, false, inl, inr, add-one, ap, sym, subst, take, get_or, length, refl}
+use Rattle.std.specs.Prelude.{max, map, Result}
+use Rattle.std.proofs.Math.ListN.{get_or-map}
 use Rattle.std.proofs.Math.Seq.{take-suc}
 use Rattle.std.proofs.lemmas.List.{take_all}
-use Rattle.yf_rules.specs.AllRules.{Are, FoundWithout, all_rules}
+use Rattle.yf_command_line.specs.Requests.{all_files, all_inputs}
+use Rattle.yf_command_line.specs.declared.command.Command.{Command}
+use Rattle.yf_command_line.specs.declared.command.Command.TheVariants as command
+use Rattle.yf_command_line.specs.declared.command.Fmt.TheVariants as fmt
+use Rattle.yf_command_line.specs.declared.command.Input.{Input}
+use Rattle.yf_command_line.specs.declared.command.Input.TheVariants.{Standard, File}
+use Rattle.yf_files.specs.Tree.{FilesState}
+use Rattle.yf_files.specs.declared.rewriting.RewriteError.{RewriteError}
+use Rattle.yf_forms.specs.declared.style.Style.{Style}
+use Rattle.yf_lines.specs.declared.fault.Fault.{Fault}
 use Rattle.yf_rules.specs.Runs.ByteStream.{ByteStream}
-use Rattle.yf_rule_sets.specs.Definition.{RuleDefinition}
-use Rattle.yf_rules.proofs.Findings.AllRulesLemmas.{ByValues, refused_by_all, told_by_all}
-use Rattle.yf_program.specs.Answer.{DoesEach, DoesFile, DoesIn, DoesNamed, DoesOver, IsWhole, Ran, ToldNamed, with_memory}
+use Rattle.yf_program.specs.Answer.{DoesAll, DoesEach, DoesIn, DoesInput, DoesNamed, DoesOpened, DoesRewrite, EndsRewriting, RewritesInput, ToldMemory, empty_memory, host_in, name_of, task_of}
 use Rattle.yf_program.specs.Answer.DoesEach.{one_done, one_more}
-use Rattle.yf_program.specs.Named.{named_lines}
-use Rattle.yf_program.specs.World.{Host, Input, InputClaim, OutputStreams, Task, World, claim_of}
+use Rattle.yf_program.specs.World.{Host, InputClaim, LinkClaim, OutputStreams, StillKnown, WorkClaim, World}
+use Rattle.yf_program.specs.declared.sources.Sources.{Sources}
+use Rattle.yf_program.specs.declared.task.Task.{Task}
+use Rattle.yf_program.specs.declared.task.Work.TheVariants as work
 
-pub ran_by_all : {B : Type 0} (definition : B → RuleDefinition) (bs : List B) (are : Are definition bs all_rules) (task : Task) (status : ℕ) (input left : ByteStream)
-    (before after : OutputStreams) → Ran (ByValues definition bs are task.style task.command.without.items) task status input left before after
-    → Ran (FoundWithout task.command.without.items task.style) task status input left before after
-ran_by_all definition bs are task status input left before after (inl r) = inl r
-ran_by_all definition bs are task status input left before after (inr (inl (is, inl r))) =
-    inr (inl (is, inl (r.0, told_by_all definition bs are task.style task.command.without.items r.1, r.2, r.3, r.4)))
-ran_by_all definition bs are task status input left before after (inr (inl (is, inr r))) =
-    inr (inl (is, inr (r.0, refused_by_all definition bs are task.style task.command.without.items input left before.output after.output r.0 r.1, r.2)))
-ran_by_all definition bs are task status input left before after (inr (inr r)) = inr (inr r)
+-- what was known stays known over two steps
+pub known_on : {a b c : InputClaim} → StillKnown a b → StillKnown b c → StillKnown a c
+known_on ab bc = record {
+  tells = λ t. bc.tells (ab.tells t);
+  notes = λ n. bc.notes (ab.notes n);
+  holds = λ input. bc.holds input ∙ ab.holds input;
+  fails = λ input f. ab.fails input (bc.fails input f);
+}
 
-module _ (claim : InputClaim) (holds : Input → Option (List ℕ)) (same : claim.tells → (input : Input) → claim.holds input ≡ holds input) where
-  over_before : (input : Input) (task : Task) (status : ℕ) (before after : OutputStreams)
-      → DoesOver claim input task status before after → DoesOver (claim_of claim.tells holds) input task status before after
-  over_before input task status before after d = (d.0, d.1, (λ told. d.2.0 told ∙ same told input, d.2.1), d.3)
+-- what was done with the inputs as they are, was done with them as they were
+module _ (before after : InputClaim) (known : StillKnown before after) (input : Input) (task : Task) where
+  opened_before : (status : ℕ) (old new : OutputStreams) → DoesOpened after input task status old new → DoesOpened before input task status old new
+  opened_before status old new (inl refused) = inl (λ told. known.fails input (refused.0 (known.tells told)), refused.1, refused.2)
+  opened_before status old new (inr d) =
+      inr (d.0, d.1, (λ told. d.2.0 (known.tells told) ∙ known.holds input, d.2.1, λ told failed. known.fails input (d.2.2 (known.tells told) failed)), d.3)
 
-module _ {F : Type 0} (host : Host F) (holds : Input → Option (List ℕ)) (same : host.inputs.tells → (input : Input) → host.inputs.holds input ≡ holds input) (task : Task) where
-  -- the same host, with what its inputs held before
-  abbrev earlier : Host F
-  earlier = record host { inputs = claim_of host.inputs.tells holds }
+module _ {F : Type 0} (earlier later : Host F) (known : StillKnown earlier.inputs later.inputs) (task : Task) where
+  pub input_before : (input : Input) (status : ℕ) (before after : World F) → DoesInput later task input status before after → DoesInput earlier task input status before after
+  input_before input status before after d =
+      (d.0, (λ noted. d.1 (known.notes noted)), opened_before earlier.inputs later.inputs known input task status before.streams after.streams d.2)
 
-  file_before : (name : List ℕ) (status : ℕ) (before after : World F) → DoesFile host task name status before after → DoesFile earlier task name status before after
-  file_before name status before after (inl written) = inl written
-  file_before name status before after (inr (w, s, inl (i, o, d))) = inr (w, s, inl (i, o, over_before host.inputs holds same None task status before.streams after.streams d))
-  file_before name status before after (inr (w, s, inr (i, o, inl refused))) = inr (w, s, inr (i, o, inl refused))
-  file_before name status before after (inr (w, s, inr (i, o, inr d))) = inr (w, s, inr (i, o, inr (over_before host.inputs holds same (Some name) task status before.streams after.streams d)))
+-- what is done with one of several, and with all, where one way of doing it follows from another one
+module _ {F : Type 0} (P Q : Input → WorkClaim F) (follows : (input : Input) (status : ℕ) (before after : World F) → P input status before after → Q input status before after) where
+  pub named_by : (name : List ℕ) (input : Input) (status : ℕ) (before after : World F) → DoesNamed name (P input) status before after → DoesNamed name (Q input) status before after
+  named_by name input status before after d =
+      (d.0, d.1, follows input d.0 (record before { streams = empty_memory }) (record after { streams = d.1 }) d.2, d.3)
 
-  pub named_before : (name : List ℕ) (status : ℕ) (before after : World F) → DoesNamed host task name status before after → DoesNamed earlier task name status before after
-  named_before name status before after d =
-      (d.0, d.1, d.2, d.3, d.4, file_before name d.0 (with_memory before [] false [] false) (with_memory after d.1 d.3 d.2 d.4) d.5, d.6)
+  each_by : {before after : World F} {inputs : List Input} {status : ℕ} → DoesEach P before inputs status after → DoesEach Q before inputs status after
+  each_by {before = before} (one_done {input = input} {status = status} {after = after} d) = one_done (named_by (name_of input) input status before after d)
+  each_by (one_more {between = between} input one {after = after} done d) = one_more input one (each_by done) (named_by (name_of input) input one between after d)
 
-  each_before : {before after : World F} {names : List (List ℕ)} {status : ℕ} → DoesEach host task before names status after → DoesEach earlier task before names status after
-  each_before {before = before} (one_done {name = name} {status = status} {after = after} d) = one_done (named_before name status before after d)
-  each_before (one_more {between = between} name one {after = after} done d) = one_more name one (each_before done) (named_before name one between after d)
+  pub all_by : (inputs : List Input) (status : ℕ) (before after : World F) → DoesAll P inputs status before after → DoesAll Q inputs status before after
+  all_by [] status before after d = absurd d
+  all_by (input ∷ []) status before after d = follows input status before after d
+  all_by (input ∷ next ∷ inputs) status before after d = each_by d
 
-  pub does_in_before : (status : ℕ) (before after : World F) → DoesIn host task status before after → DoesIn earlier task status before after
-  does_in_before status before after (inl (f, s, o, d)) = inl (f, s, o, over_before host.inputs holds same None task status before.streams after.streams d)
-  does_in_before status before after (inr (name, f, inl (none, d))) = inr (name, f, inl (none, file_before name status before after d))
-  does_in_before status before after (inr (name, f, inr (some, d))) = inr (name, f, inr (some, each_before d))
+module _ {F : Type 0} (earlier later : Host F) (known : StillKnown earlier.inputs later.inputs)
+    (rewrites : (first last : F) (name : List ℕ) (style : Style) (result : Result Unit (RewriteError Fault)) → later.Rewrites first last name style result → earlier.Rewrites first last name style result) where
+  rewrite_before : (explain : Bool) (style : Style) (input : Input) (status : ℕ) (before after : World F) → RewritesInput later explain style input status before after
+      → RewritesInput earlier explain style input status before after
+  rewrite_before explain style Standard status before after d = absurd d
+  rewrite_before explain style (File name) status before after d =
+      ((λ noted. d.0 (known.notes noted)), d.1, (d.2.0, d.2.1, rewrites before.files after.files name style d.2.0 d.2.2, d.2.3, d.2.4))
 
--- what is told if one holds, is told if another one holds that follows
-told_whole : {A B C D : Type 0} → (A → B) → (A × C) ⊎ D → (B × C) ⊎ D
-told_whole follows (inl (a, told)) = inl (follows a, told)
-told_whole follows (inr none) = inr none
+  pub does_in_before : (what : Command) (explain : Bool) (style : Style) (status : ℕ) (before after : World F) → DoesIn later what explain style status before after
+      → DoesIn earlier what explain style status before after
+  does_in_before (command.Events input) explain style status before after d = input_before earlier later known (task_of work.Events explain style) input status before after d
+  does_in_before (command.Check inputs without) explain style status before after d =
+      let task = task_of (work.Check without) explain style in
+      all_by (DoesInput later task) (DoesInput earlier task) (input_before earlier later known task) (all_inputs inputs) status before after d
+  does_in_before (command.Fmt (fmt.Print input)) explain style status before after d = input_before earlier later known (task_of work.Print explain style) input status before after d
+  does_in_before (command.Fmt (fmt.Check inputs)) explain style status before after d =
+      let task = task_of work.Compare explain style in
+      all_by (DoesInput later task) (DoesInput earlier task) (input_before earlier later known task) (all_inputs inputs) status before after d
+  does_in_before (command.Fmt (fmt.Diff input)) explain style status before after d = input_before earlier later known (task_of work.Diff explain style) input status before after d
+  does_in_before (command.Fmt (fmt.Write files)) explain style status before after d =
+      all_by (RewritesInput later explain style) (RewritesInput earlier explain style) (rewrite_before explain style) (map (λ name. File name) (all_files files)) status before after d
 
--- what is whole by what two calls answered, is whole by the notes
-pub whole_by_notes : {is_broken is_deaf broken deaf : Bool} (faults : List ℕ) → is_broken ≡ broken → is_deaf ≡ deaf → IsWhole is_broken is_deaf faults → IsWhole broken deaf faults
-whole_by_notes {is_deaf = is_deaf} {broken = broken} faults b d whole =
-    subst (λ (x : Bool). IsWhole broken x faults) d (subst (λ (x : Bool). IsWhole x is_deaf faults) b whole)
+-- it was done as if for the only file, and what is in memory was written
+module _ {F : Type 0} (Does : WorkClaim F) (before after : World F) where
+  pub named_done : (name said : List ℕ) (run status : ℕ) (start memory : OutputStreams) → start ≡ empty_memory → said ≡ name
+      → Does run (record before { streams = start }) (record after { streams = memory }) → ToldMemory said run status memory before.streams after.streams
+      → DoesNamed name Does status before after
+  named_done name said run status start memory none same does told = (
+    run,
+    memory,
+    subst (λ (s : OutputStreams). Does run (record before { streams = s }) (record after { streams = memory })) none does,
+    subst (λ (n : List ℕ). ToldMemory n run status memory before.streams after.streams) same told,
+  )
 
--- what was done over one file as if it were alone, and told
-module _ {F : Type 0} (host : Host F) (task : Task) (name : List ℕ) (before after : World F) where
-  pub named_told : {run status : ℕ} {output faults : List ℕ} {Whole : Type 0} (written heard said answered : List ℕ) (failed deafened broken deaf : Bool)
-      → written ≡ [] → heard ≡ [] → failed ≡ false → deafened ≡ false → said ≡ output → answered ≡ faults
-      → DoesFile host task name run (with_memory before written failed heard deafened) (with_memory after output broken faults deaf)
-      → (Whole → IsWhole broken deaf answered)
-      → ToldNamed Whole run status (named_lines name said) (named_lines name answered) before.streams after.streams → DoesNamed host task name status before after
-  named_told {run} {status} {output} {faults} {Whole} written heard said answered failed deafened broken deaf w h f d s a does whole told =
-      let end = with_memory after output broken faults deaf in
-      let with_output = subst (λ (t : List ℕ). DoesFile host task name run (with_memory before t failed heard deafened) end) w does in
-      let with_faults = subst (λ (t : List ℕ). DoesFile host task name run (with_memory before [] failed t deafened) end) h with_output in
-      let working = subst (λ (b : Bool). DoesFile host task name run (with_memory before [] b [] deafened) end) f with_faults in
-      let alone = subst (λ (b : Bool). DoesFile host task name run (with_memory before [] false [] b) end) d working in
-      let all : ToldNamed (IsWhole broken deaf answered) run status (named_lines name said) (named_lines name answered) before.streams after.streams = told_whole whole told in
-      let told_output = subst (λ (t : List ℕ). ToldNamed (IsWhole broken deaf answered) run status (named_lines name t) (named_lines name answered) before.streams after.streams) s all in
-      let told_faults = subst (λ (t : List ℕ). ToldNamed (IsWhole broken deaf t) run status (named_lines name output) (named_lines name t) before.streams after.streams) a told_output in
-      (run, output, faults, broken, deaf, alone, told_faults)
+-- it was done with the only input, or with each of several
+module _ {F : Type 0} (Does : Input → WorkClaim F) (before after : World F) (status : ℕ) (first : Input) where
+  pub one_of : (rest : List Input) → rest ≡ [] → Does first status before after → DoesAll Does (first ∷ rest) status before after
+  one_of rest none d = subst (λ (r : List Input). DoesAll Does (first ∷ r) status before after) (sym none) d
+
+  pub each_of : (rest : List Input) → rest ≢ [] → DoesEach Does before (first ∷ rest) status after → DoesAll Does (first ∷ rest) status before after
+  each_of [] some d = absurd (some refl)
+  each_of (next ∷ rest) some d = d
+
+-- no file is left of none, and some are of some
+pub no_files : (names : List (List ℕ)) → names ≡ [] → map (λ (name : List ℕ). File name) names ≡ []
+no_files names none = ap (map (λ (name : List ℕ). File name)) none
+
+pub some_files : (names : List (List ℕ)) → names ≢ [] → map (λ (name : List ℕ). File name) names ≢ []
+some_files [] some same = some refl
+some_files (name ∷ names) some same = cc
+
+-- one more input of those after the first
+module _ {F : Type 0} (Does : Input → WorkClaim F) (before : World F) where
+  pub next_done : (between after : World F) (first one : Input) (more : List Input) (k : ℕ) (d : Input) (greatest status result : ℕ)
+      → k < length more → one ≡ get_or more k d → result ≡ max greatest status
+      → DoesEach Does before (first ∷ take k more) greatest between → DoesNamed (name_of one) (Does one) status between after
+      → DoesEach Does before (first ∷ take (k + 1) more) result after
+  next_done between after first one more k d greatest status result within same greater done does =
+      let longer : take (k + 1) more ≡ take k more ++ get_or more k d ∷ [] = rw add-one (take-suc more k d within) in
+      let inputs : (first ∷ take k more) ++ one ∷ [] ≡ first ∷ take (k + 1) more = ap (λ x. first ∷ (take k more ++ x ∷ [])) same ∙ ap (λ x. first ∷ x) (sym longer) in
+      let more_done = subst (λ n. DoesEach Does before n (max greatest status) after) inputs (one_more one status done does) in
+      subst (λ n. DoesEach Does before (first ∷ take (k + 1) more) n after) (sym greater) more_done
+
+  pub all_done : (after : World F) (first : Input) (more : List Input) (k status : ℕ) → length more ≤ k
+      → DoesEach Does before (first ∷ take k more) status after → DoesEach Does before (first ∷ more) status after
+  all_done after first more k status all done = subst (λ n. DoesEach Does before (first ∷ n) status after) (take_all k more all) done
 
 -- one more file of those after the first
-module _ {F : Type 0} {host : Host F} {task : Task} {before : World F} where
-  pub next_done : {between after : World F} (name one : List ℕ) (more : List (List ℕ)) (k : ℕ) (d : List ℕ) (greatest status result : ℕ)
-      → k < length more → one ≡ get_or more k d → result ≡ max greatest status
-      → DoesEach host task before (name ∷ take k more) greatest between → DoesNamed host task one status between after
-      → DoesEach host task before (name ∷ take (k + 1) more) result after
-  next_done {after = after} name one more k d greatest status result within same greater done does =
-      let longer : take (k + 1) more ≡ take k more ++ get_or more k d ∷ [] = rw add-one (take-suc more k d within) in
-      let names : (name ∷ take k more) ++ one ∷ [] ≡ name ∷ take (k + 1) more = ap (λ x. name ∷ (take k more ++ x ∷ [])) same ∙ ap (λ x. name ∷ x) (sym longer) in
-      let more_done = subst (λ n. DoesEach host task before n (max greatest status) after) names (one_more one status done does) in
-      subst (λ n. DoesEach host task before (name ∷ take (k + 1) more) n after) (sym greater) more_done
+pub next_file : (names : List (List ℕ)) (k : ℕ) (d name : List ℕ) → name ≡ get_or names k d
+    → File name ≡ get_or (map (λ (n : List ℕ). File n) names) k (File d)
+next_file names k d name same = ap (λ n. File n) same ∙ sym (get_or-map (λ (n : List ℕ). File n) names k d)
 
-  pub all_done : {after : World F} (name : List ℕ) (more : List (List ℕ)) (k status : ℕ) → length more ≤ k
-      → DoesEach host task before (name ∷ take k more) status after → DoesEach host task before (name ∷ more) status after
-  all_done {after} name more k status all done = subst (λ n. DoesEach host task before n status after) (ap (λ x. name ∷ x) (take_all k more all)) done
+-- a file was rewritten by the name that was read of it
+module _ {F : Type 0} (host : Host F) (explain : Bool) (style : Style) (status : ℕ) (before after : World F) where
+  pub rewritten_by : (said name : List ℕ) → said ≡ name → DoesRewrite host explain style said status before after
+      → RewritesInput host explain style (File name) status before after
+  rewritten_by said name same d = subst (λ (n : List ℕ). DoesRewrite host explain style n status before after) same d
+
+  pub named_by_name : (said name : List ℕ) → said ≡ name → DoesNamed said (DoesRewrite host explain style said) status before after
+      → DoesNamed name (RewritesInput host explain style (File name)) status before after
+  named_by_name said name same d = subst (λ (n : List ℕ). DoesNamed n (DoesRewrite host explain style n) status before after) same d
+
+-- what was done with the inputs as they are, was done with them as they were
+module _ {I F : Type 0} (claim : I → InputClaim) (tells : Type 0) (state : F → FilesState) (leads : LinkClaim F) (now then : Sources I F) (same : now.inputs ≡ then.inputs) where
+  pub named_before : (explain : Bool) (style : Style) (name : List ℕ) (status : ℕ) (before after : World F)
+      → DoesNamed name (DoesRewrite (host_in claim tells state leads now) explain style name) status before after
+      → DoesNamed name (DoesRewrite (host_in claim tells state leads then) explain style name) status before after
+  named_before explain style name status before after d =
+      subst (λ (i : I). DoesNamed name (DoesRewrite (host_in claim tells state leads (record { inputs = i; files = then.files })) explain style name) status before after) same d
+
+-- a rewriting that had this result
+pub ends_by : (explain : Bool) (P : Result Unit (RewriteError Fault) → Type 0) (result : Result Unit (RewriteError Fault)) (status : ℕ) (before after : ByteStream) → P result
+    → EndsRewriting explain (λ outcome. outcome ≡ result) status before after → EndsRewriting explain P status before after
+ends_by explain P result status before after p d = (d.0, d.1, subst P (sym d.2) p, d.3, d.4)

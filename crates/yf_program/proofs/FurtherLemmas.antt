@@ -16,8 +16,8 @@ module _ (P : List ℕ → Type 0) {before after : ByteStream} where
   told_page : {E : Type 0} (page : Result (List ℕ) E) → IfOk page P → TellsMore true (λ lines. IsOkAnd page (λ told. told ≡ lines)) before after
       → TellsMore true P before after
   told_page page p (inl nothing) = inl nothing
-  told_page (Ok lines) p (inr (more, written, same, reached)) = inr (more, written, subst P same p, reached)
-  told_page (Err e) p (inr (more, written, same, reached)) = absurd same
+  told_page (Ok lines) p (inr (more, works, written, same, reached)) = inr (more, works, written, subst P same p, reached)
+  told_page (Err e) p (inr (more, works, written, same, reached)) = absurd same
 
   pub told_further : {E : Type 0} (explained : Bool) (page : Result (List ℕ) E) → explained ≡ true → IfOk page P
       → TellsMore true (λ lines. IsOkAnd page (λ told. told ≡ lines)) before after → TellsMore explained P before after
@@ -26,9 +26,9 @@ module _ (P : List ℕ → Type 0) {before after : ByteStream} where
 
 -- the text of a page is written
 pub page_written : {E : Type 0} {before after : ByteStream} (page : Result (List ℕ) E) (lines text : List ℕ) → page ≡ Ok lines → chars text ≡ lines → AreWritten lines
-    → WrittenOrFailed before after text → TellsMore true (λ told. IsOkAnd page (λ all. all ≡ told)) before after
-page_written page lines text e same written reached =
-    inr (text, subst (λ (x : List ℕ). AreWritten x) (sym same) written, rw e (sym same), reached)
+    → before.failed ≡ false → WrittenOrFailed before after text → TellsMore true (λ told. IsOkAnd page (λ all. all ≡ told)) before after
+page_written page lines text e same written works reached =
+    inr (text, works, subst (λ (x : List ℕ). AreWritten x) (sym same) written, rw e (sym same), reached)
 
 -- the same, where no more is said of the lines
 any_page : {E : Type 0} (page : Result (List ℕ) E) → IfOk page AnyLines

@@ -1,12 +1,7 @@
 -- The lemmas, each group under the function or the theorem that it serves.
 
--- `style_from_toml` and `read_style`
-pub mod SettingsLemmas
+-- `read_style`, `run`
 pub mod ProgramLemmas
--- `parse_line`
-pub mod CommandLineLemmas
--- `report`
-pub mod ShownLemmas
 -- `answer`
 pub mod AnswerLemmas
 -- `rewrite`

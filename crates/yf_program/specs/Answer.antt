@@ -1,16 +1,26 @@
 -- What the program does, from the words of its command line to its status, in the order in which it works.
--- Its last definition, `ProgramRuns`, is the whole; each one above it says what one step does.
+-- Its last definition, `ProgramRuns`, is the whole. Each one above it says what one step does.
 -- (before, after: the world, the streams or one stream before and after a step;
--- input, left: a reader before and after it was read)
-use Rattle.std.specs.Prelude.{◌≡◌, ◌≢◌, ◌≤◌, ◌⊎◌, ◌++◌, ◌∷◌, ◌-◌, ℕ, max, slice_get, List, [], length, Bool, true, false, Option, Some, None, IfSome, Result, Ok, Err, MatchResult, codes}
+-- reader, left: a reader before and after it was read)
+use Rattle.std.specs.Prelude.{◌≡◌, ◌≢◌, ◌≤◌, ◌⊎◌, ◌++◌, ◌∷◌, ◌-◌, ℕ, max, slice_get, List, [], length, map, Bool, true, false, Option, Some, None, IfSome, Result, Ok, Err, MatchResult, codes}
 use Rattle.std.specs.Str.{IsUtf8, IsValidUpTo, chars}
 use Rattle.std.specs.Io.KnownBytes.{Keeps}
-use Rattle.clap.specs.Words.{Text}
+use Rattle.yf_command_line.specs.Requests.{AsksFor, RefusesWords, all_files, all_inputs}
+use Rattle.yf_command_line.specs.declared.command.Command.{Command}
+use Rattle.yf_command_line.specs.declared.command.Command.TheVariants as command
+use Rattle.yf_command_line.specs.declared.command.FileList.{FileList}
+use Rattle.yf_command_line.specs.declared.command.Fmt.TheVariants as fmt
+use Rattle.yf_command_line.specs.declared.command.Input.{Input}
+use Rattle.yf_command_line.specs.declared.command.Input.TheVariants.{Standard, File}
+use Rattle.yf_command_line.specs.declared.command.InputList.{InputList}
+use Rattle.yf_command_line.specs.declared.command.Request.{Request}
+use Rattle.yf_command_line.specs.declared.usage.Usage.{Usage}
+use Rattle.yf_command_line.specs.declared.usage.Usage.TheVariants as usage
 use Rattle.yf_explain.specs.Explained.{Explains}
 use Rattle.yf_explain.specs.Shown.{AreWritten}
 use Rattle.yf_files.specs.Replaced.{AtAnyMoment}
 use Rattle.yf_files.specs.Rewritten.{IsFormatting, IsUntouched, LeavesRefused, Rewrote, WhyRefused, new_name_of}
-use Rattle.yf_files.specs.Tree.{FilesState}
+use Rattle.yf_files.specs.Tree.{FilesState, at, regular}
 use Rattle.yf_files.specs.declared.replacing.ReplaceError.{ReplaceError}
 use Rattle.yf_files.specs.declared.replacing.ReplaceError.TheVariants.{Untouched, Left, Unsure}
 use Rattle.yf_files.specs.declared.rewriting.RewriteError.{RewriteError}
@@ -18,7 +28,7 @@ use Rattle.yf_files.specs.declared.rewriting.RewriteError.TheVariants as error
 use Rattle.yf_forms.specs.declared.style.Style.{Style}
 use Rattle.yf_lines.specs.declared.fault.Fault.{Fault}
 use Rattle.yf_lines.specs.declared.fault.Fault.TheVariants as fault
-use Rattle.yf_rules.specs.AllRules.{FoundWithout}
+use Rattle.yf_rules.specs.AllRules.{FoundWithout, rule_names}
 use Rattle.yf_rules.specs.Headline.{Headline}
 use Rattle.yf_rules.specs.declared.run.TheConstants.{INPUT_LIMIT}
 use Rattle.yf_rules.specs.Runs.ByteStream.{ByteStream, NoFailure, NothingWritten, Writes, BreaksOff, WrittenOrFailed}
@@ -26,19 +36,18 @@ use Rattle.yf_rules.specs.Runs.Compare.{CompareRun, IsClean, RefusedCompare}
 use Rattle.yf_rules.specs.Runs.Diffed.{DiffRun, RefusedDiff}
 use Rattle.yf_rules.specs.Runs.Input.{ReadRefusal}
 use Rattle.yf_rules.specs.Runs.Run as Runs
-use Rattle.yf_rules.specs.Runs.Run.{CheckClaim, Gave, NotationWritten, RefusedEvents, RefusedCheck, RefusedFmt, FormattingWritten, FindingsWritten}
+use Rattle.yf_rules.specs.Runs.Run.{Gave, NotationWritten, RefusedEvents, RefusedCheck, RefusedFmt, FormattingWritten, FindingsWritten}
 use Rattle.yf_stream.specs.Refusal.{IsStreamFault}
 use Rattle.yf_stream.specs.StreamReader.{StreamFault}
-use Rattle.yf_program.specs.declared.command_line.Cmd.{Cmd}
-use Rattle.yf_program.specs.declared.command_line.Usage.{Usage}
-use Rattle.yf_program.specs.declared.command_line.Usage.TheVariants as usage
-use Rattle.yf_program.specs.declared.command_line.Verb.TheVariants.{Events, Check, Fmt}
-use Rattle.yf_program.specs.CommandLine.{AsksFor, RefusesWords, is_standard_input}
 use Rattle.yf_program.specs.Named.{named_lines}
-use Rattle.yf_program.specs.Quoted.{diff_name}
+use Rattle.yf_program.specs.Quoted.{quoted}
 use Rattle.yf_program.specs.Report.{check_status, fault_line, fault_status, format_status}
-use Rattle.yf_program.specs.Settings.{IsHouse, SetsStyle, RefusesSettings}
-use Rattle.yf_program.specs.World.{Holdings, Host, Input, InputClaim, LinkClaim, OutputStreams, Task, World, claim_of, task_of}
+use Rattle.yf_settings.specs.Settings.{IsHouse, SetsStyle, RefusesSettings}
+use Rattle.yf_program.specs.World.{Host, InputClaim, LinkClaim, OutputStreams, WorkClaim, World}
+use Rattle.yf_program.specs.declared.sources.Sources.{Sources}
+use Rattle.yf_program.specs.declared.task.Task.{Task}
+use Rattle.yf_program.specs.declared.task.Work.{Work}
+use Rattle.yf_program.specs.declared.task.Work.TheVariants as work
 
 -- ---- How a run ends
 
@@ -50,13 +59,14 @@ EndsWell status before after = (status ≡ 0) × NothingWritten before after
 abbrev pub EndsBy : Fault → ℕ → ByteStream → ByteStream → Type 0
 EndsBy f status before after = (status ≡ fault_status f) × WrittenOrFailed before after (fault_line f)
 
--- With `--explain` more lines were written, of characters that are shown as they are, and P holds of them; or none, for
--- example without memory.
+-- With `--explain` more lines were written, to a stream that had not failed, of characters that are shown as they are,
+-- and P holds of them; or none, for example without memory.
 abbrev pub TellsMore : Bool → (List ℕ → Type 0) → ByteStream → ByteStream → Type 0
 TellsMore false P before after = NothingWritten before after
 TellsMore true P before after =
     NothingWritten before after
-    ⊎ ((more : List ℕ) × AreWritten (chars more) × P (chars more) × WrittenOrFailed before after more)
+    ⊎ ((more : List ℕ) × (before.failed ≡ false) × AreWritten (chars more) × P (chars more)
+    × WrittenOrFailed before after more)
 
 -- No more is said of these lines.
 abbrev pub AnyLines : List ℕ → Type 0
@@ -72,7 +82,7 @@ abbrev pub EndsOver : Bool → Option (List ℕ) → Fault → ℕ → ByteStrea
 EndsOver explain known f status before after =
     (bytes : List ℕ) × Runs.Keeps known bytes f × EndsTold explain (Explains bytes f) f status before after
 
--- ---- The words are no command
+-- ---- The words ask for nothing
 
 -- Help was written to the output, or could not be; or why the words are refused was written to the stream of faults.
 abbrev pub UsageWritten : Usage → ℕ → OutputStreams → OutputStreams → Type 0
@@ -88,17 +98,20 @@ UsageWritten usage.Memory status before after =
 
 -- These inputs were opened, in this order, and no other.
 abbrev pub InputsOpened : InputClaim → List Input → List Input → List Input → Type 0
-InputsOpened claim before after inputs = claim.tells → after ≡ before ++ inputs
+InputsOpened claim before after inputs = claim.notes → after ≡ before ++ inputs
 
--- The reader is one of the input: it has the input's bytes, and no call of it has failed.
-abbrev pub Opens : InputClaim → Input → ByteStream → Type 0
-Opens claim input reader = (claim.tells → reader.contents ≡ claim.holds input) × (reader.failed ≡ false)
+-- The reader is one of the input: it has the input's bytes, and no call of it has failed. One fails later only if the
+-- input does.
+abbrev pub Opens : InputClaim → Input → ByteStream → ByteStream → Type 0
+Opens claim input reader left =
+    (claim.tells → reader.contents ≡ claim.holds input) × (reader.failed ≡ false)
+    × (claim.tells → left.failed ≡ true → claim.fails input)
 
 -- ---- The settings are read
 
--- The inputs that a command opens for its settings.
+-- The inputs that are opened for the settings.
 abbrev pub settings_of : Option (List ℕ) → List Input
-settings_of (Some name) = Some name ∷ []
+settings_of (Some name) = File name ∷ []
 settings_of None = []
 
 -- The bytes that were read set the style.
@@ -108,105 +121,112 @@ FileSets known style =
 
 -- A settings file is refused: it could not be read; it is no text, and the key is empty; or its text is refused.
 abbrev pub FileRefused : ByteStream → ByteStream → Fault → Type 0
-FileRefused input left fault.Memory = NoFailure input left
-FileRefused input left (fault.Config key) = NoFailure input left
-    × ((text : List ℕ) × Gave input.contents text × (length text ≤ INPUT_LIMIT)
+FileRefused reader left fault.Memory = NoFailure reader left
+FileRefused reader left (fault.Config key) = NoFailure reader left
+    × ((text : List ℕ) × Gave reader.contents text × (length text ≤ INPUT_LIMIT)
     × (((¬ IsUtf8 text) × (key ≡ [])) ⊎ (IsUtf8 text × RefusesSettings text (fault.Config key))))
-FileRefused input left fault.ReadFailed = ReadRefusal INPUT_LIMIT input left fault.ReadFailed
-FileRefused input left _ = ⊥
+FileRefused reader left fault.ReadFailed = ReadRefusal INPUT_LIMIT reader left fault.ReadFailed
+FileRefused reader left _ = ⊥
 
 -- The style is the one that the settings file sets, or the house style.
 abbrev pub StyleOfFile : InputClaim → Option (List ℕ) → Style → Type 0
 StyleOfFile claim (Some name) style =
-    (input : ByteStream) × Opens claim (Some name) input × FileSets input.contents style
+    (reader : ByteStream) × (left : ByteStream) × Opens claim (File name) reader left × FileSets reader.contents style
 StyleOfFile claim None style = IsHouse style
 
 -- The settings file can't be opened, or is refused.
 abbrev pub Unset : InputClaim → Option (List ℕ) → Fault → Type 0
 Unset claim (Some name) f =
-    (f ≡ fault.ReadFailed)
-    ⊎ ((input : ByteStream) × (left : ByteStream) × Opens claim (Some name) input × FileRefused input left f)
+    ((f ≡ fault.ReadFailed) × (claim.tells → claim.fails (File name)))
+    ⊎ ((reader : ByteStream) × (left : ByteStream) × Opens claim (File name) reader left × FileRefused reader left f)
 Unset claim None f = ⊥
 
--- ---- A command runs over an input
+-- ---- A work is done with the text of an input
+
+-- What is done with a reader for a task: by the status, the reader before and after, and the streams before and after.
+abbrev pub RunClaim : Type 1
+RunClaim = Task → ℕ → ByteStream → ByteStream → OutputStreams → OutputStreams → Type 0
+
+abbrev pub task_of : Work → Bool → Style → Task
+task_of what explain style = record { work = what; style = style; explain = explain }
 
 -- `events` wrote the events, or was refused.
-abbrev pub RanEvents : Bool → ℕ → ByteStream → ByteStream → OutputStreams → OutputStreams → Type 0
-RanEvents explain status input left before after =
-    (NotationWritten input before.output after.output × NoFailure input left
+abbrev pub RanEvents : RunClaim
+RanEvents task status reader left before after =
+    (NotationWritten reader before.output after.output × NoFailure reader left
     × EndsWell status before.errors after.errors)
-    ⊎ ((f : Fault) × RefusedEvents input left before.output after.output f
-    × EndsOver explain input.contents f status before.errors after.errors)
+    ⊎ ((f : Fault) × RefusedEvents reader left before.output after.output f
+    × EndsOver task.explain reader.contents f status before.errors after.errors)
 
--- `check` wrote the findings, or was refused; C says what the rules find.
-abbrev pub RanCheck : CheckClaim → Task → ℕ → ByteStream → ByteStream → OutputStreams → OutputStreams → Type 0
-RanCheck C task status input left before after =
-    ((any : Bool) × FindingsWritten C task.style input before.output after.output any × NoFailure input left
-    × (status ≡ check_status any) × TellsMore task.command.explain AnyLines before.errors after.errors)
-    ⊎ ((f : Fault) × RefusedCheck C task.style input left before.output after.output f
-    × EndsOver task.command.explain input.contents f status before.errors after.errors)
+-- `check` wrote what all rules but those of these names find, or was refused.
+abbrev pub RanCheck : List (List ℕ) → RunClaim
+RanCheck without task status reader left before after =
+    ((any : Bool)
+    × FindingsWritten (FoundWithout without task.style) task.style reader before.output after.output any
+    × NoFailure reader left × (status ≡ check_status any) × TellsMore task.explain AnyLines before.errors after.errors)
+    ⊎ ((f : Fault) × RefusedCheck (FoundWithout without task.style) task.style reader left before.output after.output f
+    × EndsOver task.explain reader.contents f status before.errors after.errors)
 
 -- `fmt` wrote the formatting, or was refused.
-abbrev pub RanFmt : Task → ℕ → ByteStream → ByteStream → OutputStreams → OutputStreams → Type 0
-RanFmt task status input left before after =
-    (FormattingWritten task.style input before.output after.output × NoFailure input left
+abbrev pub RanFmt : RunClaim
+RanFmt task status reader left before after =
+    (FormattingWritten task.style reader before.output after.output × NoFailure reader left
     × EndsWell status before.errors after.errors)
-    ⊎ ((f : Fault) × RefusedFmt task.style input left before.output after.output f
-    × EndsOver task.command.explain input.contents f status before.errors after.errors)
+    ⊎ ((f : Fault) × RefusedFmt task.style reader left before.output after.output f
+    × EndsOver task.explain reader.contents f status before.errors after.errors)
 
 -- `fmt --check` wrote where the text differs from its formatting, if it does, or was refused.
-abbrev pub RanFmtCheck : Task → ℕ → ByteStream → ByteStream → OutputStreams → OutputStreams → Type 0
-RanFmtCheck task status input left before after =
-    ((same : Bool) × CompareRun task.style input before.output after.output same
-    × (same ≡ true → IfSome input.contents (IsClean task.style)) × NoFailure input left × (status ≡ format_status same)
-    × NothingWritten before.errors after.errors)
-    ⊎ ((f : Fault) × RefusedCompare task.style input left before.output after.output f
-    × EndsOver task.command.explain input.contents f status before.errors after.errors)
+abbrev pub RanFmtCheck : RunClaim
+RanFmtCheck task status reader left before after =
+    ((same : Bool) × CompareRun task.style reader before.output after.output same
+    × (same ≡ true → IfSome reader.contents (IsClean task.style)) × NoFailure reader left
+    × (status ≡ format_status same) × NothingWritten before.errors after.errors)
+    ⊎ ((f : Fault) × RefusedCompare task.style reader left before.output after.output f
+    × EndsOver task.explain reader.contents f status before.errors after.errors)
 
--- `fmt --diff` wrote the diff of the text and its formatting, or was refused.
-abbrev pub RanFmtDiff : Task → ℕ → ByteStream → ByteStream → OutputStreams → OutputStreams → Type 0
-RanFmtDiff task status input left before after =
-    ((same : Bool) × DiffRun task.style (diff_name task.command.file) input before.output after.output same
-    × (same ≡ true → IfSome input.contents (IsClean task.style)) × NoFailure input left × (status ≡ format_status same)
-    × NothingWritten before.errors after.errors)
-    ⊎ ((f : Fault) × RefusedDiff task.style (diff_name task.command.file) input left before.output after.output f
-    × EndsOver task.command.explain input.contents f status before.errors after.errors)
+-- The name by which an input is reported.
+abbrev pub name_of : Input → List ℕ
+name_of Standard = codes "-"
+name_of (File name) = name
 
--- `fmt` ran, by its flags.
-abbrev pub RanFormatter : Task → ℕ → ByteStream → ByteStream → OutputStreams → OutputStreams → Type 0
-RanFormatter task status input left before after =
-    ((task.command.diff ≡ true) × RanFmtDiff task status input left before after)
-    ⊎ (((task.command.diff ≡ false) × (task.command.check ≡ true) × RanFmtCheck task status input left before after)
-    ⊎ ((task.command.diff ≡ false) × (task.command.check ≡ false) × RanFmt task status input left before after))
+-- `fmt --diff` wrote the diff of the text and its formatting, with the name of the input, or was refused.
+abbrev pub RanFmtDiff : List ℕ → RunClaim
+RanFmtDiff name task status reader left before after =
+    ((same : Bool) × DiffRun task.style (quoted name) reader before.output after.output same
+    × (same ≡ true → IfSome reader.contents (IsClean task.style)) × NoFailure reader left
+    × (status ≡ format_status same) × NothingWritten before.errors after.errors)
+    ⊎ ((f : Fault) × RefusedDiff task.style (quoted name) reader left before.output after.output f
+    × EndsOver task.explain reader.contents f status before.errors after.errors)
 
--- The command ran over a reader.
-abbrev pub Ran : CheckClaim → Task → ℕ → ByteStream → ByteStream → OutputStreams → OutputStreams → Type 0
-Ran C task status input left before after =
-    ((task.command.verb ≡ Events) × RanEvents task.command.explain status input left before after)
-    ⊎ (((task.command.verb ≡ Check) × RanCheck C task status input left before after)
-    ⊎ ((task.command.verb ≡ Fmt) × RanFormatter task status input left before after))
+-- The work was done with a reader of the input.
+abbrev pub RanWork : Work → Input → RunClaim
+RanWork work.Events input = RanEvents
+RanWork (work.Check without) input = RanCheck without.items
+RanWork work.Print input = RanFmt
+RanWork work.Compare input = RanFmtCheck
+RanWork work.Diff input = RanFmtDiff (name_of input)
 
--- The command ran over an input that was opened, with all rules that it doesn't leave out.
+abbrev pub Ran : Input → RunClaim
+Ran input task = RanWork task.work input task
+
+-- A reader of the input was opened, and the work was done with it.
 abbrev pub DoesOver : InputClaim → Input → Task → ℕ → OutputStreams → OutputStreams → Type 0
-DoesOver claim name task status before after =
-    (input : ByteStream) × (left : ByteStream) × Opens claim name input
-    × Ran (FoundWithout task.command.without.items task.style) task status input left before after
+DoesOver claim input task status before after =
+    (reader : ByteStream) × (left : ByteStream) × Opens claim input reader left
+    × Ran input task status reader left before after
 
--- A file can't be opened, and so can't be read; or the command ran over it.
-abbrev pub DoesOpened : InputClaim → Task → List ℕ → ℕ → OutputStreams → OutputStreams → Type 0
-DoesOpened claim task name status before after =
-    (NothingWritten before.output after.output
-    × EndsTold task.command.explain AnyLines fault.ReadFailed status before.errors after.errors)
-    ⊎ DoesOver claim (Some name) task status before after
+-- The input could not be opened, since it fails; or the work was done with a reader of it.
+abbrev pub DoesOpened : InputClaim → Input → Task → ℕ → OutputStreams → OutputStreams → Type 0
+DoesOpened claim input task status before after =
+    ((claim.tells → claim.fails input) × NothingWritten before.output after.output
+    × EndsTold task.explain AnyLines fault.ReadFailed status before.errors after.errors)
+    ⊎ DoesOver claim input task status before after
 
--- The word for a file is the one for standard input, and the command ran over that; or it names a file, which was
--- opened.
-abbrev pub DoesInput : {F : Type 0} → InputClaim → Task → List ℕ → ℕ → World F → World F → Type 0
-DoesInput claim task name status before after =
-    ((is_standard_input name ≡ true) × InputsOpened claim before.opened after.opened (None ∷ [])
-    × DoesOver claim None task status before.streams after.streams)
-    ⊎ ((is_standard_input name ≡ false) × InputsOpened claim before.opened after.opened (Some name ∷ [])
-    × DoesOpened claim task name status before.streams after.streams)
+-- The input was opened, and no other, and the work was done with it.
+abbrev pub DoesInput : {F : Type 0} → Host F → Task → Input → WorkClaim F
+DoesInput host task input status before after =
+    (after.files ≡ before.files) × InputsOpened host.inputs before.opened after.opened (input ∷ [])
+    × DoesOpened host.inputs input task status before.streams after.streams
 
 -- ---- A file is rewritten
 
@@ -230,12 +250,16 @@ RewritesFile tells old new file style result =
     × MatchResult result (λ _. tells → Rewrote (FormatsBytes style) old new file)
     (λ why. WhyRefused RefusesBytes why × (tells → LeavesRefused (FormatsBytes style) RefusesBytes old new file why))
 
--- A file that is not found is not rewritten for one of these reasons.
-abbrev pub IsUnread : RewriteError Fault → Type 0
-IsUnread error.Memory = Unit {0}
-IsUnread error.Unreadable = Unit {0}
-IsUnread (error.Refused why) = ⊥
-IsUnread (error.Unwritten how) = ⊥
+-- The name leads to no regular file. (Leads: the names of the files to which it leads)
+abbrev pub LeadsNowhere : FilesState → (List ℕ → Type 0) → Type 0
+LeadsNowhere files Leads = (file bytes : List ℕ) → Leads file → at files file ≢ Some (regular bytes)
+
+-- No file is found to rewrite: there is no memory, or the name leads to none.
+abbrev pub IsUnfound : Type 0 → RewriteError Fault → Type 0
+IsUnfound Nowhere error.Memory = Unit {0}
+IsUnfound Nowhere error.Unreadable = Nowhere
+IsUnfound Nowhere (error.Refused why) = ⊥
+IsUnfound Nowhere (error.Unwritten how) = ⊥
 
 -- The file of a name is rewritten, or the one to which a link there leads; or none is found, and nothing is touched.
 -- (Leads: the names of the files to which the name leads)
@@ -243,14 +267,15 @@ abbrev pub FileRewrite : Type 0 → FilesState → FilesState → (List ℕ → 
     → Type 0
 FileRewrite tells old new Leads style result =
     ((file : List ℕ) × Leads file × RewritesFile tells old new file style result)
-    ⊎ ((why : RewriteError Fault) × (result ≡ Err why) × IsUnread why × (tells → IsUntouched old new))
+    ⊎ ((why : RewriteError Fault) × (result ≡ Err why) × IsUnfound (tells → LeadsNowhere old Leads) why
+    × (tells → IsUntouched old new))
 
 -- What is known of the system, by the ghost members of what reads the inputs and of the files.
--- (tells, holds: of the inputs; files_tell, state, leads: of the files)
-abbrev pub host_of : {F : Type 0} → Type 0 → Holdings → Type 0 → (F → FilesState) → LinkClaim F → Host F
-host_of tells holds files_tell state leads = record {
-  inputs = claim_of tells holds;
-  Rewrites = λ first last name style. FileRewrite files_tell (state first) (state last) (leads first name) style;
+-- (claim: of the inputs; tells, state, leads: of the files)
+abbrev pub host_in : {I F : Type 0} → (I → InputClaim) → Type 0 → (F → FilesState) → LinkClaim F → Sources I F → Host F
+host_in claim tells state leads sources = record {
+  inputs = claim sources.inputs;
+  Rewrites = λ first last name style. FileRewrite tells (state first) (state last) (leads first name) style;
 }
 
 -- The fault of a file that is not rewritten.
@@ -284,30 +309,22 @@ EndsRewriting explain Rewrites status before after =
     × TellsRewriting result status before told × TellsMore explain AnyLines told after
 
 -- A file was rewritten: no input was opened, and nothing was written to the output.
-abbrev pub DoesRewrite : {F : Type 0} → Host F → Task → List ℕ → ℕ → World F → World F → Type 0
-DoesRewrite host task name status before after =
-    (host.inputs.tells → after.opened ≡ before.opened) × NothingWritten before.streams.output after.streams.output
-    × EndsRewriting task.command.explain (host.Rewrites before.files after.files name task.style) status
+abbrev pub DoesRewrite : {F : Type 0} → Host F → Bool → Style → List ℕ → WorkClaim F
+DoesRewrite host explain style name status before after =
+    (host.inputs.notes → after.opened ≡ before.opened) × NothingWritten before.streams.output after.streams.output
+    × EndsRewriting explain (host.Rewrites before.files after.files name style) status
     before.streams.errors after.streams.errors
 
--- ---- A command is done over a file, and over several
-
--- With `--write` the file was rewritten; else the file, or standard input, was opened and read.
-abbrev pub DoesFile : {F : Type 0} → Host F → Task → List ℕ → ℕ → World F → World F → Type 0
-DoesFile host task name status before after =
-    ((task.command.write ≡ true) × DoesRewrite host task name status before after)
-    ⊎ ((task.command.write ≡ false) × (after.files ≡ before.files)
-    × DoesInput host.inputs task name status before after)
+-- ---- The same is done with several files
 
 -- The text ends with a line feed.
 abbrev pub IsLine : List ℕ → Type 0
 IsLine text = slice_get text (length text - 1) ≡ Some 10
 
--- Memory held all that the command wrote for a file: its output, and its line for the stream of faults. Lines that explain
--- that line may be missing.
--- (broken, deaf: whether the writers in memory failed; faults: what is in the second one)
-abbrev pub IsWhole : Bool → Bool → List ℕ → Type 0
-IsWhole broken deaf faults = (broken ≡ false) × ((deaf ≡ false) ⊎ IsLine faults)
+-- Memory held all that was written for a file: its output, and its line for the stream of faults. Lines that explain
+-- that line may be missing. (memory: the two streams in memory; faults: what is in the second one)
+abbrev pub IsWhole : OutputStreams → List ℕ → Type 0
+IsWhole memory faults = (memory.output.failed ≡ false) × ((memory.errors.failed ≡ false) ⊎ IsLine faults)
 
 -- Both texts were written to the two streams, and the status is that of the run; or the writer failed.
 -- (run: the status of what was done; output, faults: the two texts)
@@ -322,62 +339,81 @@ ToldNamed Whole run status output faults before after =
     (Whole × AreTold run status output faults before after)
     ⊎ (NothingWritten before.output after.output × EndsBy fault.Memory status before.errors after.errors)
 
--- The world with two streams in memory, which were given these bytes.
-abbrev pub with_memory : {F : Type 0} → World F → List ℕ → Bool → List ℕ → Bool → World F
-with_memory world output broken faults deaf =
-    record world {
-      streams = record {
-        output = record { contents = Some output; failed = broken };
-        errors = record { contents = Some faults; failed = deaf };
-      };
-    }
+-- What is in memory was written so, with a name before each line.
+abbrev pub ToldMemory : List ℕ → ℕ → ℕ → OutputStreams → OutputStreams → OutputStreams → Type 0
+ToldMemory name run status memory before after =
+    (output : List ℕ) × (faults : List ℕ) × (memory.output.contents ≡ Some output)
+    × (memory.errors.contents ≡ Some faults)
+    × ToldNamed (IsWhole memory faults) run status (named_lines name output) (named_lines name faults) before after
 
--- The command was done over one file among several, as if it were the only one and wrote to memory. If memory held all
--- of it, that was written, with the file's name before each line.
-abbrev pub DoesNamed : {F : Type 0} → Host F → Task → List ℕ → ℕ → World F → World F → Type 0
-DoesNamed host task name status before after =
-    (run : ℕ) × (output : List ℕ) × (faults : List ℕ) × (broken : Bool) × (deaf : Bool)
-    × DoesFile host task name run (with_memory before [] false [] false) (with_memory after output broken faults deaf)
-    × ToldNamed (IsWhole broken deaf faults) run status (named_lines name output) (named_lines name faults) before.streams after.streams
+-- Two streams in memory to which nothing was written.
+abbrev pub empty_memory : OutputStreams
+empty_memory = record {
+  output = record { contents = Some []; failed = false };
+  errors = record { contents = Some []; failed = false };
+}
 
--- The command was done over each of some files, in order, and the status is the greatest of theirs.
-pub data DoesEach {F : Type 0} (host : Host F) (task : Task) (before : World F)
-    : List (List ℕ) → ℕ → World F → Type 0 where
-  one_done : {name : List ℕ} {status : ℕ} {after : World F}
-      → DoesNamed host task name status before after → DoesEach host task before (name ∷ []) status after
-  one_more : {names : List (List ℕ)} {status : ℕ} {between : World F} (name : List ℕ) (one : ℕ) {after : World F}
-      → DoesEach host task before names status between → DoesNamed host task name one between after
-      → DoesEach host task before (names ++ name ∷ []) (max status one) after
+-- It was done as if for the only file, and written to memory. What is in memory was written with the file's name before
+-- each line.
+abbrev pub DoesNamed : {F : Type 0} → List ℕ → WorkClaim F → WorkClaim F
+DoesNamed name Does status before after =
+    (run : ℕ) × (memory : OutputStreams)
+    × Does run (record before { streams = empty_memory }) (record after { streams = memory })
+    × ToldMemory name run status memory before.streams after.streams
 
--- The command was done in a style: over standard input, over its file, or over each of its files.
-abbrev pub DoesIn : {F : Type 0} → Host F → Task → ℕ → World F → World F → Type 0
-DoesIn host task status before after =
-    ((task.command.file ≡ None) × (after.files ≡ before.files)
-    × InputsOpened host.inputs before.opened after.opened (None ∷ [])
-    × DoesOver host.inputs None task status before.streams after.streams)
-    ⊎ ((name : List ℕ) × (task.command.file ≡ Some name)
-    × (((task.command.more.items ≡ []) × DoesFile host task name status before after)
-    ⊎ ((task.command.more.items ≢ []) × DoesEach host task before (name ∷ task.command.more.items) status after)))
+-- It was done with each of some files, in order, and the status is the greatest of theirs.
+pub data DoesEach {F : Type 0} (Does : Input → WorkClaim F) (before : World F)
+    : List Input → ℕ → World F → Type 0 where
+  one_done : {input : Input} {status : ℕ} {after : World F}
+      → DoesNamed (name_of input) (Does input) status before after → DoesEach Does before (input ∷ []) status after
+  one_more : {inputs : List Input} {status : ℕ} {between : World F} (input : Input) (one : ℕ) {after : World F}
+      → DoesEach Does before inputs status between → DoesNamed (name_of input) (Does input) one between after
+      → DoesEach Does before (inputs ++ input ∷ []) (max status one) after
+
+-- It was done with the only input, or with each of several.
+abbrev pub DoesAll : {F : Type 0} → (Input → WorkClaim F) → List Input → WorkClaim F
+DoesAll Does [] status before after = ⊥
+DoesAll Does (input ∷ []) status before after = Does input status before after
+DoesAll Does (input ∷ next ∷ inputs) status before after =
+    DoesEach Does before (input ∷ next ∷ inputs) status after
 
 -- ---- The whole program
 
--- The settings are refused, and no other input was opened; or the command was done in the style that they set.
-abbrev pub CommandDone : {F : Type 0} → Host F → Cmd → ℕ → World F → World F → Type 0
-CommandDone host cmd status before after =
-    ((f : Fault) × Unset host.inputs cmd.config f × (after.files ≡ before.files)
-    × InputsOpened host.inputs before.opened after.opened (settings_of cmd.config)
-    × NothingWritten before.streams.output after.streams.output
-    × EndsTold cmd.explain AnyLines f status before.streams.errors after.streams.errors)
-    ⊎ ((style : Style) × (opened : List Input) × StyleOfFile host.inputs cmd.config style
-    × InputsOpened host.inputs before.opened opened (settings_of cmd.config)
-    × DoesIn host (task_of cmd style) status (record before { opened = opened }) after)
+-- A file is rewritten by its name.
+abbrev pub RewritesInput : {F : Type 0} → Host F → Bool → Style → Input → WorkClaim F
+RewritesInput host explain style Standard status before after = ⊥
+RewritesInput host explain style (File name) status before after =
+    DoesRewrite host explain style name status before after
 
--- The words ask for a command, which was done; or they ask for help or are wrong, and nothing was opened.
-abbrev pub Follows : {F : Type 0} → Host F → List Text → ℕ → World F → World F → Type 0
+-- The command was done in a style.
+abbrev pub DoesIn : {F : Type 0} → Host F → Command → Bool → Style → WorkClaim F
+DoesIn host (command.Events input) explain style = DoesInput host (task_of work.Events explain style) input
+DoesIn host (command.Check inputs without) explain style =
+    DoesAll (DoesInput host (task_of (work.Check without) explain style)) (all_inputs inputs)
+DoesIn host (command.Fmt (fmt.Print input)) explain style = DoesInput host (task_of work.Print explain style) input
+DoesIn host (command.Fmt (fmt.Check inputs)) explain style =
+    DoesAll (DoesInput host (task_of work.Compare explain style)) (all_inputs inputs)
+DoesIn host (command.Fmt (fmt.Diff input)) explain style = DoesInput host (task_of work.Diff explain style) input
+DoesIn host (command.Fmt (fmt.Write files)) explain style =
+    DoesAll (RewritesInput host explain style) (map (λ name. File name) (all_files files))
+
+-- The settings are refused, and no other input was opened; or the command was done in the style that they set.
+abbrev pub RequestDone : {F : Type 0} → Host F → Request → WorkClaim F
+RequestDone host request status before after =
+    ((f : Fault) × Unset host.inputs request.config f × (after.files ≡ before.files)
+    × InputsOpened host.inputs before.opened after.opened (settings_of request.config)
+    × NothingWritten before.streams.output after.streams.output
+    × EndsTold request.explain AnyLines f status before.streams.errors after.streams.errors)
+    ⊎ ((style : Style) × (opened : List Input) × StyleOfFile host.inputs request.config style
+    × InputsOpened host.inputs before.opened opened (settings_of request.config)
+    × DoesIn host request.command request.explain style status (record before { opened = opened }) after)
+
+-- What the words ask for was done; or they ask for help or are wrong, and nothing was opened.
+abbrev pub Follows : {F : Type 0} → Host F → List (List ℕ) → WorkClaim F
 Follows host words status before after =
-    ((cmd : Cmd) × AsksFor words cmd × CommandDone host cmd status before after)
-    ⊎ ((usage : Usage) × RefusesWords words usage × (after.files ≡ before.files)
-    × (host.inputs.tells → after.opened ≡ before.opened) × UsageWritten usage status before.streams after.streams)
+    ((request : Request) × AsksFor rule_names words request × RequestDone host request status before after)
+    ⊎ ((usage : Usage) × RefusesWords rule_names words usage × (after.files ≡ before.files)
+    × (host.inputs.notes → after.opened ≡ before.opened) × UsageWritten usage status before.streams after.streams)
 
 -- All that the writer held back was written out, and the status stays; or the writer failed.
 abbrev pub WrittenOut : ℕ → ℕ → OutputStreams → OutputStreams → Type 0
@@ -386,8 +422,9 @@ WrittenOut run status before after =
     × (((status ≡ run) × NoFailure before.output after.output × NothingWritten before.errors after.errors)
     ⊎ ((after.output.failed ≡ true) × EndsBy fault.WriteFailed status before.errors after.errors))
 
--- The program did what the words ask for, and then wrote out what the writer held back.
-pub record ProgramRuns {F : Type 0} (host : Host F) (words : List Text) (status : ℕ) (before after : World F)
+-- The program did what the words ask for, and then wrote out what the writer held back. The status is the one that
+-- `main` ends with, unless the reader of standard output has left: then `main` ends with 141 instead.
+pub record ProgramRuns {F : Type 0} (host : Host F) (words : List (List ℕ)) (status : ℕ) (before after : World F)
     : Type 0 where
   pub run : ℕ
   pub streams : OutputStreams

@@ -1,13 +1,7 @@
 -- what the program does, from the words to the status, and what it works on
 pub mod World
 pub mod Answer
--- the words of a command line
-pub mod CommandLine
-pub mod Without
--- the settings of a file
-pub mod Settings
 -- the lines that are written
 pub mod Report
-pub mod Shown
 pub mod Named
 pub mod Quoted

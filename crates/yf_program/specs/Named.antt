@@ -1,6 +1,6 @@
 -- What is told of one file among several: its lines, each with the file's name and a colon before it, and a space where no place follows.
 use Rattle.std.specs.Prelude.{ℕ, nat_eq, nat_lt, List, [], ◌∷◌, ◌++◌, if◌then◌else◌}
-use Rattle.yf_program.specs.Shown.{shown}
+use Rattle.yf_command_line.specs.Shown.{shown}
 
 -- the first byte of a line: a place begins with a digit, and before anything else a space is
 abbrev pub first_byte : ℕ → List ℕ

@@ -1,5 +1,5 @@
 -- The name of a file as Git writes it in a diff: one with a control character, a quote or a backslash is in double quotes, with escapes.
-use Rattle.std.specs.Prelude.{ℕ, ◌+◌, ◌/◌, ◌%◌, nat_eq, nat_lt, Bool, true, false, List, [], ◌∷◌, ◌++◌, Option, Some, None, codes, if◌then◌else◌}
+use Rattle.std.specs.Prelude.{ℕ, ◌+◌, ◌/◌, ◌%◌, nat_eq, nat_lt, Bool, true, false, List, [], ◌∷◌, ◌++◌, if◌then◌else◌}
 
 -- a byte after another one is a control character, a quote or a backslash; 194 comes before the control characters of two bytes
 abbrev pub is_special : ℕ → ℕ → Bool
@@ -53,8 +53,3 @@ all_escaped (b ∷ rest) = escaped b ++ all_escaped rest
 -- the name
 abbrev pub quoted : List ℕ → List ℕ
 quoted name = if has_special 0 name then 34 ∷ all_escaped name ++ 34 ∷ [] else name
-
--- The name of an input in the heads of its diff.
-abbrev pub diff_name : Option (List ℕ) → List ℕ
-diff_name (Some name) = quoted name
-diff_name None = codes "-"

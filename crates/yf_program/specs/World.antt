@@ -1,14 +1,11 @@
 -- What the program works on: what changes while it works, and what is known and stays.
-use Rattle.std.specs.Prelude.{ℕ, List, Option, Result}
+use Rattle.std.specs.Prelude.{◌≡◌, ℕ, List, Option, None, Result}
+use Rattle.yf_command_line.specs.declared.command.Input.{Input}
 use Rattle.yf_files.specs.declared.rewriting.RewriteError.{RewriteError}
 use Rattle.yf_forms.specs.declared.style.Style.{Style}
 use Rattle.yf_lines.specs.declared.fault.Fault.{Fault}
+use Rattle.yf_program.specs.declared.sources.Sources.{Sources}
 use Rattle.yf_rules.specs.Runs.ByteStream.{ByteStream}
-use Rattle.yf_program.specs.declared.command_line.Cmd.{Cmd}
-
--- An input: a file by its name, or standard input.
-abbrev pub Input : Type 0
-Input = Option (List ℕ)
 
 -- The two streams that the program writes to.
 pub record OutputStreams : Type 0 where
@@ -27,9 +24,24 @@ Holdings = Input → Option (List ℕ)
 
 -- What is known of the inputs.
 pub record InputClaim : Type 1 where
-  -- whether it is known what they hold, and which of them were opened
+  -- whether it is known what they hold, and which of them fail
   pub tells : Type 0
+  -- whether it is known which of them were opened
+  pub notes : Type 0
   pub holds : Holdings
+  -- opening the input, or reading it, may fail
+  pub fails : Input → Type 0
+
+-- Nothing is known of the inputs.
+abbrev pub nothing_known : InputClaim
+nothing_known = record { tells = ⊥; notes = ⊥; holds = λ _. None; fails = λ _. ⊥ }
+
+-- What was known of the inputs is still known: they hold what they held, and no more of them fail.
+pub record StillKnown (before after : InputClaim) : Type 0 where
+  pub tells : before.tells → after.tells
+  pub notes : before.notes → after.notes
+  pub holds : (input : Input) → after.holds input ≡ before.holds input
+  pub fails : (input : Input) → after.fails input → before.fails input
 
 -- What rewriting the file of a name in a style does between two states of the files, by its result.
 abbrev pub RewriteClaim : Type 0 → Type 1
@@ -44,21 +56,15 @@ pub record Host (F : Type 0) : Type 1 where
   pub inputs : InputClaim
   pub Rewrites : RewriteClaim F
 
--- What is done to an input: a command, in a style.
-pub record Task : Type 0 where
-  pub command : Cmd
-  pub style : Style
+-- What is done with one of several inputs, by the status: the world before and after.
+abbrev pub WorkClaim : Type 0 → Type 1
+WorkClaim F = ℕ → World F → World F → Type 0
 
 -- ---- The same, as contracts write them
 
 abbrev pub streams_of : ByteStream → ByteStream → OutputStreams
 streams_of output errors = record { output = output; errors = errors }
 
-abbrev pub world_of : {F : Type 0} → List Input → F → OutputStreams → World F
-world_of opened files streams = record { opened = opened; files = files; streams = streams }
-
-abbrev pub claim_of : Type 0 → Holdings → InputClaim
-claim_of tells holds = record { tells = tells; holds = holds }
-
-abbrev pub task_of : Cmd → Style → Task
-task_of command style = record { command = command; style = style }
+-- The world of these sources and streams. (opened: the inputs that were opened)
+abbrev pub world_in : {I F : Type 0} → (I → List Input) → Sources I F → OutputStreams → World F
+world_in opened sources streams = record { opened = opened sources.inputs; files = sources.files; streams = streams }

@@ -1,155 +1,114 @@
 //! The whole program, over whatever it reads and writes: from the words of the command line to the status.
-ghost use Rattle.std.specs.Prelude.{◌≡◌, ℕ, List, Option, map, string_bytes, MatchResult};
-ghost use Rattle.yf_rules.specs.AllRules.{Are, all_rules};
+ghost use Rattle.std.specs.Prelude.{◌≡◌, map, string_bytes, MatchResult};
 ghost use Rattle.yf_rules.specs.Runs.ByteStream.{stream_of};
-ghost use Rattle.yf_program.specs.Answer.{AnyLines, CommandDone, DoesIn, EndsTold, Follows, InputsOpened, ProgramRuns, StyleOfFile, Unset, host_of, settings_of};
-ghost use Rattle.yf_program.specs.World.{claim_of, streams_of, task_of, world_of};
+ghost use Rattle.yf_program.specs.Answer.{AnyLines, DoesIn, EndsTold, InputsOpened, ProgramRuns, RequestDone, StyleOfFile, Unset, host_in, settings_of};
+ghost use Rattle.yf_program.specs.World.{StillKnown, world_in};
 
-use crate::command_line::{Cmd, parse_line};
-use crate::each::{do_each, do_file, do_standard};
+use crate::each::{do_input, do_inputs};
 use crate::files::Links;
 use crate::further::report_settings;
 use crate::inputs::Inputs;
 use crate::program::{answer_usage, read_style, written_out};
+use crate::rewrites::rewrite_files;
+use crate::sources::Sources;
+use crate::streams::Streams;
+use crate::task::{Task, Work};
 use std::alloc::Global;
+use yf_command_line::command::{Command, Fmt, Request};
+use yf_command_line::command_line::parse_line;
 use yf_forms::style::Style;
 use yf_lines::fault::Fault;
 use yf_lines::text::OwnedText;
 use yf_lines::watched::Sink;
-use yf_rules::rule::Rule;
+use yf_rules::asked::RULE_NAMES;
 
-/// Does what the words after the program's name ask for, with all rules of style, and answers the status.
+/// Does what the words after the program's name ask for, and returns the exit status.
 ///
-/// The settings are read first, and the input is opened only where they are taken. Nothing is held back in the writer at the
-/// end.
+/// The settings are read first, and an input is opened only if they are accepted. At the end the writer holds nothing
+/// back. `main` ends with this status, unless the reader of standard output has left: then it ends with 141.
 pub fn answer<I: Inputs, S: Links, W: Sink, E: Sink>(
     alloc: Global,
     words: &[String],
-    rules: &[Box<dyn Rule>],
-    inputs: &mut I,
-    files: &mut S,
-    writer: &mut W,
-    error_stream: &mut E,
+    sources: &mut Sources<I, S>,
+    streams: &mut Streams<W, E>,
 ) -> u8
-    requires all { Are (λ rule. definition rule) rules.now all_rules }
-    ensures { ProgramRuns (host_of I.tells (I.holds inputs.old) S.tells S.state S.leads)
-        (map string_bytes words.now) result
-        (world_of (I.opened inputs.old) files.old
-        (streams_of (stream_of W.contents W.has_failed writer.old)
-        (stream_of E.contents E.has_failed error_stream.old)))
-        (world_of (I.opened inputs.new) files.new
-        (streams_of (stream_of W.contents W.has_failed writer.new)
-        (stream_of E.contents E.has_failed error_stream.new))) }
+    ensures { ProgramRuns (host_in I.claim S.tells S.state S.leads sources.old) (map string_bytes words.now) result
+        (world_in I.opened sources.old streams.old) (world_in I.opened sources.new streams.new) }
 {
-    let status = follow(alloc, words, rules, inputs, files, writer, error_stream);
-    written_out(status, writer, error_stream)
-}
-
-// Does what the words ask for, and answers the status.
-fn follow<I: Inputs, S: Links, W: Sink, E: Sink>(
-    alloc: Global,
-    words: &[String],
-    rules: &[Box<dyn Rule>],
-    inputs: &mut I,
-    files: &mut S,
-    writer: &mut W,
-    error_stream: &mut E,
-) -> u8
-    requires all { Are (λ rule. definition rule) rules.now all_rules }
-    ensures { Follows (host_of I.tells (I.holds inputs.old) S.tells S.state S.leads) (map string_bytes words.now) result
-        (world_of (I.opened inputs.old) files.old
-        (streams_of (stream_of W.contents W.has_failed writer.old)
-        (stream_of E.contents E.has_failed error_stream.old)))
-        (world_of (I.opened inputs.new) files.new
-        (streams_of (stream_of W.contents W.has_failed writer.new)
-        (stream_of E.contents E.has_failed error_stream.new))) }
-{
-    match parse_line(alloc, words) {
-        Ok(command) => do_command(alloc, &command, rules, inputs, files, writer, error_stream),
-        Err(usage) => answer_usage(&usage, writer, error_stream),
+    match parse_line(alloc, words, &RULE_NAMES) {
+        Ok(request) => {
+            let status = do_request(alloc, request, sources, streams);
+            written_out(status, streams)
+        }
+        Err(usage) => {
+            let status = answer_usage(&usage, streams);
+            written_out(status, streams)
+        }
     }
 }
 
-// Does a command, in the style that its settings set.
-fn do_command<I: Inputs, S: Links, W: Sink, E: Sink>(
+// Does what was asked for, in the style that the settings set.
+fn do_request<I: Inputs, S: Links, W: Sink, E: Sink>(
     alloc: Global,
-    command: &Cmd,
-    rules: &[Box<dyn Rule>],
-    inputs: &mut I,
-    files: &mut S,
-    writer: &mut W,
-    error_stream: &mut E,
+    request: Request,
+    sources: &mut Sources<I, S>,
+    streams: &mut Streams<W, E>,
 ) -> u8
-    requires all { Are (λ rule. definition rule) rules.now all_rules }
-    ensures { CommandDone (host_of I.tells (I.holds inputs.old) S.tells S.state S.leads) command.now result
-        (world_of (I.opened inputs.old) files.old
-        (streams_of (stream_of W.contents W.has_failed writer.old)
-        (stream_of E.contents E.has_failed error_stream.old)))
-        (world_of (I.opened inputs.new) files.new
-        (streams_of (stream_of W.contents W.has_failed writer.new)
-        (stream_of E.contents E.has_failed error_stream.new))) }
+    ensures { RequestDone (host_in I.claim S.tells S.state S.leads sources.old) request result
+        (world_in I.opened sources.old streams.old) (world_in I.opened sources.new streams.new) }
 {
+    let Request {
+        config,
+        explain,
+        command,
+    } = request;
     let mut bytes = Vec::new(alloc);
-    match style_set(alloc, &command.config, inputs, &mut bytes) {
-        Ok(style) => do_in_style(
-            alloc,
-            command,
-            rules,
-            &style,
-            inputs,
-            files,
-            writer,
-            error_stream,
-        ),
+    match style_set(alloc, &config, &mut sources.inputs, &mut bytes) {
+        Ok(style) => do_command(alloc, command, explain, style, sources, streams),
         Err(fault) => report_unset(
             alloc,
-            command,
-            inputs,
+            explain,
+            &config,
+            &sources.inputs,
             bytes.as_slice(),
-            &fault,
-            error_stream,
+            fault,
+            &mut streams.errors,
         ),
     }
 }
 
-// Reports a fault of the settings, and answers its status.
+// Reports a fault of the settings, and returns its status.
 fn report_unset<I: Inputs, E: Sink>(
     alloc: Global,
-    command: &Cmd,
+    explain: bool,
+    config: &Option<OwnedText>,
     inputs: &I,
     bytes: &[u8],
-    fault: &Fault,
+    fault: Fault,
     error_stream: &mut E,
 ) -> u8
-    ensures { EndsTold command.now.explain AnyLines fault.now result
-        (stream_of E.contents E.has_failed error_stream.old) (stream_of E.contents E.has_failed error_stream.new) }
+    ensures { EndsTold explain AnyLines fault result (stream_of E.contents E.has_failed error_stream.old)
+        (stream_of E.contents E.has_failed error_stream.new) }
 {
-    let name = match &command.config {
+    let name = match config {
         Some(name) => name.as_str(),
         None => "",
     };
-    report_settings(
-        alloc,
-        command.explain,
-        inputs,
-        name,
-        bytes,
-        fault,
-        error_stream,
-    )
+    report_settings(alloc, explain, inputs, name, bytes, &fault, error_stream)
 }
 
-// The style that the settings file sets, or the house style. The bytes of the file are kept.
+// Returns the style that the settings file sets, or the house style. Keeps the bytes of the file.
 fn style_set<I: Inputs>(
     alloc: Global,
     config: &Option<OwnedText>,
     inputs: &mut I,
     kept: &mut Vec<u8>,
 ) -> Result<Style, Fault>
-    ensures opened { InputsOpened (claim_of I.tells (I.holds inputs.old)) (I.opened inputs.old) (I.opened inputs.new)
+    ensures opened { InputsOpened (I.claim inputs.old) (I.opened inputs.old) (I.opened inputs.new)
         (settings_of config.now) }
-    ensures same { I.tells → (input : Option (List ℕ)) → I.holds inputs.new input ≡ I.holds inputs.old input }
-    ensures set { MatchResult result (StyleOfFile (claim_of I.tells (I.holds inputs.old)) config.now) (Unset (claim_of I.tells (I.holds inputs.old)) config.now) }
+    ensures same { StillKnown (I.claim inputs.old) (I.claim inputs.new) }
+    ensures set { MatchResult result (StyleOfFile (I.claim inputs.old) config.now)
+        (Unset (I.claim inputs.old) config.now) }
 {
     let mut file = match config {
         Some(name) => match inputs.open_file(name.as_str()) {
@@ -161,52 +120,76 @@ fn style_set<I: Inputs>(
     read_style(alloc, &mut file, kept)
 }
 
-// Does a command in a style: over standard input, over its file, or over each of its files.
-fn do_in_style<I: Inputs, S: Links, W: Sink, E: Sink>(
+// Does a command in a style.
+fn do_command<I: Inputs, S: Links, W: Sink, E: Sink>(
     alloc: Global,
-    command: &Cmd,
-    rules: &[Box<dyn Rule>],
-    style: &Style,
-    inputs: &mut I,
-    files: &mut S,
-    writer: &mut W,
-    error_stream: &mut E,
+    command: Command,
+    explain: bool,
+    style: Style,
+    sources: &mut Sources<I, S>,
+    streams: &mut Streams<W, E>,
 ) -> u8
-    requires all { Are (λ rule. definition rule) rules.now all_rules }
-    ensures { DoesIn (host_of I.tells (I.holds inputs.old) S.tells S.state S.leads)
-        (task_of command.now style.now) result
-        (world_of (I.opened inputs.old) files.old
-        (streams_of (stream_of W.contents W.has_failed writer.old)
-        (stream_of E.contents E.has_failed error_stream.old)))
-        (world_of (I.opened inputs.new) files.new
-        (streams_of (stream_of W.contents W.has_failed writer.new)
-        (stream_of E.contents E.has_failed error_stream.new))) }
+    ensures { DoesIn (host_in I.claim S.tells S.state S.leads sources.old) command explain style result
+        (world_in I.opened sources.old streams.old) (world_in I.opened sources.new streams.new) }
 {
-    let Some(name) = &command.file else {
-        return do_standard(alloc, command, rules, style, inputs, writer, error_stream);
-    };
-    if command.more.is_empty() {
-        return do_file(
-            alloc,
-            command,
-            rules,
-            style,
-            name.as_str(),
-            inputs,
-            files,
-            writer,
-            error_stream,
-        );
+    match command {
+        Command::Events(input) => {
+            let task = Task {
+                work: Work::Events,
+                style,
+                explain,
+            };
+            do_input(alloc, &task, &input, sources, streams)
+        }
+        Command::Check { inputs, without } => {
+            let task = Task {
+                work: Work::Check(without),
+                style,
+                explain,
+            };
+            do_inputs(alloc, &task, &inputs, sources, streams)
+        }
+        Command::Fmt(fmt) => do_fmt(alloc, fmt, explain, style, sources, streams),
     }
-    do_each(
-        alloc,
-        command,
-        rules,
-        style,
-        name.as_str(),
-        inputs,
-        files,
-        writer,
-        error_stream,
-    )
+}
+
+// Formats in a style.
+fn do_fmt<I: Inputs, S: Links, W: Sink, E: Sink>(
+    alloc: Global,
+    fmt: Fmt,
+    explain: bool,
+    style: Style,
+    sources: &mut Sources<I, S>,
+    streams: &mut Streams<W, E>,
+) -> u8
+    ensures { DoesIn (host_in I.claim S.tells S.state S.leads sources.old) (Command.Fmt fmt) explain style result
+        (world_in I.opened sources.old streams.old) (world_in I.opened sources.new streams.new) }
+{
+    match fmt {
+        Fmt::Print(input) => {
+            let task = Task {
+                work: Work::Print,
+                style,
+                explain,
+            };
+            do_input(alloc, &task, &input, sources, streams)
+        }
+        Fmt::Check(inputs) => {
+            let task = Task {
+                work: Work::Compare,
+                style,
+                explain,
+            };
+            do_inputs(alloc, &task, &inputs, sources, streams)
+        }
+        Fmt::Diff(input) => {
+            let task = Task {
+                work: Work::Diff,
+                style,
+                explain,
+            };
+            do_input(alloc, &task, &input, sources, streams)
+        }
+        Fmt::Write(files) => rewrite_files(alloc, explain, &style, &files, sources, streams),
+    }
 }

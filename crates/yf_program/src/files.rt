@@ -2,7 +2,7 @@
 ghost use Rattle.std.specs.Prelude.{◌≡◌, ℕ, List, string_bytes, IfErr, IfOk, MatchOption};
 ghost use Rattle.yf_lines.specs.declared.fault.Fault.TheVariants.{ReadFailed};
 ghost use Rattle.yf_rules.specs.Runs.ByteStream.{WrittenOrFailed, stream_of};
-ghost use Rattle.yf_program.specs.Answer.{FormatsBytes, IsUnread, RefusesBytes, FileRewrite, RewritesFile, fault_of, rewrite_line, unwritten_line};
+ghost use Rattle.yf_program.specs.Answer.{FileRewrite, FormatsBytes, IsUnfound, LeadsNowhere, RefusesBytes, RewritesFile, fault_of, rewrite_line, unwritten_line};
 ghost use Rattle.yf_program.specs.Report.{fault_status};
 
 use crate::report::report;
@@ -10,13 +10,13 @@ use std::alloc::Global;
 use std::fs::File;
 use std::rt::Files;
 use yf_chars::utf8::{BadByte, check_utf8};
-use yf_emit::format::format;
 use yf_files::{FileSystem, Formatter, MemoryFiles, ReplaceError, RewriteError};
 use yf_forms::style::Style;
 use yf_laws::every_text::formattings_hold;
 use yf_lines::fault::Fault;
 use yf_lines::output::write_text;
 use yf_lines::watched::Sink;
+use yf_rules::format::format;
 use yf_rules::run::INPUT_LIMIT;
 
 /// Opens a file for reading. One that cannot be opened is one that cannot be read (`Fault::ReadFailed`).
@@ -34,11 +34,13 @@ pub trait Links: FileSystem {
     /// The second name is that of the file at the first one, or of the file to which a link there leads.
     ghost leads: { Self → List ℕ → List ℕ → Type 0 };
 
-    /// The name of the file to which a link at the name leads; nothing where no link is there. A link that leads nowhere, and
-    /// a name at which nothing is, are `RewriteError::Unreadable`.
+    /// Returns the name of the file to which a link at the name leads, or `None` if no link is there. Fails with
+    /// `RewriteError::Unreadable` if the name leads to no regular file.
     fn followed(&self, alloc: Global, name: &str) -> Result<Option<String>, RewriteError<Fault>>
-        ensures leads { IfOk result (λ found. MatchOption found (leads self.now name.now name.now) (λ file. leads self.now name.now (string_bytes file))) }
-        ensures error { IfErr result IsUnread };
+        ensures leads { IfOk result (λ found. MatchOption found (leads self.now name.now name.now)
+            (λ file. leads self.now name.now (string_bytes file))) }
+        ensures error { IfErr result
+            (IsUnfound (Self.tells → LeadsNowhere (Self.state self.now) (leads self.now name.now))) };
 }
 
 /// Files in memory: there are no links among them.

@@ -7,7 +7,6 @@ ghost use Rattle.yf_program.specs.Answer.{AnyLines, EndsTold, TellsMore};
 use crate::finding_words::findings_page;
 use crate::inputs::{Again, Inputs};
 use crate::report::report;
-use crate::settings_words::explain_settings;
 use std::alloc::{AllocError, Global};
 use yf_explain::{Page, explain, page_of_words};
 use yf_forms::style::Style;
@@ -15,20 +14,22 @@ use yf_lines::fault::Fault;
 use yf_lines::output::write_text;
 use yf_lines::watched::Sink;
 use yf_rules::finding::Finding;
+use yf_settings::settings_words::explain_settings;
 
-/// Reports a fault of an input, and tells more of it by the bytes that were read, where that is asked for. Answers the status of the fault.
+/// Reports a fault of an input, and explains it by the bytes that were read, if that is asked for. Returns the status of
+/// the fault.
 pub fn report_input<E: Sink>(
     alloc: Global,
     explained: bool,
     bytes: &[u8],
-    fault: &Fault,
+    fault: Fault,
     error_stream: &mut E,
 ) -> u8
-    ensures { EndsTold explained (Explains bytes.now fault.now) fault.now result
+    ensures { EndsTold explained (Explains bytes.now fault) fault result
         (stream_of E.contents E.has_failed error_stream.old) (stream_of E.contents E.has_failed error_stream.new) }
 {
-    let status = report(fault, error_stream);
-    tell_input(alloc, explained, bytes, fault, error_stream);
+    let status = report(&fault, error_stream);
+    tell_input(alloc, explained, bytes, &fault, error_stream);
     status
 }
 

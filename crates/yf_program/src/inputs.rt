@@ -1,6 +1,9 @@
 //! What a command reads.
-ghost use Rattle.std.specs.Prelude.{◌≡◌, ◌∷◌, ◌++◌, [], ℕ, List, Option, Some, None, false, IfOk, IfErr};
+ghost use Rattle.std.specs.Prelude.{◌≡◌, ◌∷◌, ◌++◌, [], true, false, List, IfOk, IfErr, OnErr, OnOk};
+ghost use Rattle.yf_command_line.specs.declared.command.Input.{Input};
+ghost use Rattle.yf_command_line.specs.declared.command.Input.TheVariants.{File as NamedFile, Standard as StandardInput};
 ghost use Rattle.yf_lines.specs.declared.fault.Fault.TheVariants.{ReadFailed};
+ghost use Rattle.yf_program.specs.World.{InputClaim, StillKnown};
 
 use std::alloc::{AllocError, Global};
 use yf_lines::fault::Fault;
@@ -23,32 +26,34 @@ pub trait Inputs {
     /// Standard input.
     type Standard: Source + Drop;
 
-    /// Whether the type tells what it holds and what was opened. Where it doesn't, as at the system's own files, nothing is
-    /// claimed of these.
-    ghost tells: { Type 0 };
+    /// What is known of the inputs. Nothing is known of the system's own files.
+    ghost claim: { Self → InputClaim };
 
-    /// What was opened so far, in order: a file by its name, standard input as none.
-    ghost opened: { Self → List (Option (List ℕ)) };
+    /// The inputs that were opened so far, in order.
+    ghost opened: { Self → List Input };
 
-    /// The bytes that reading a file of that name gives, or standard input, where no name is given.
-    ghost holds: { Self → Option (List ℕ) → Option (List ℕ) };
-
-    /// Opens a file for reading. One that cannot be opened is one that cannot be read (`Fault::ReadFailed`).
+    /// Opens a file for reading. Fails with `Fault::ReadFailed` if the file can't be opened.
     fn open_file(&mut self, name: &str) -> Result<Self::File, Fault>
-        ensures opened { tells → opened self.new ≡ opened self.old ++ Some name.now ∷ [] }
-        ensures same { tells → (input : Option (List ℕ)) → holds self.new input ≡ holds self.old input }
-        ensures bytes { tells → IfOk result (λ file. Self.File.remaining file ≡ holds self.old (Some name.now)) }
+        ensures opened { (claim self.old).notes → opened self.new ≡ opened self.old ++ NamedFile name.now ∷ [] }
+        ensures same { StillKnown (claim self.old) (claim self.new) }
+        ensures bytes { (claim self.old).tells
+            → IfOk result (λ file. Self.File.remaining file ≡ (claim self.old).holds (NamedFile name.now)) }
         ensures works { IfOk result (λ file. Self.File.has_failed file ≡ false) }
-        ensures fault { IfErr result (λ fault. fault ≡ ReadFailed) };
+        ensures reads { (claim self.old).tells → OnOk result
+            ((file : Self.File) → Self.File.has_failed file ≡ true → (claim self.old).fails (NamedFile name.now)) }
+        ensures fault { IfErr result (λ fault. fault ≡ ReadFailed) }
+        ensures fails { (claim self.old).tells → OnErr result ((claim self.old).fails (NamedFile name.now)) };
 
-    /// Looks at a file once more, to tell more of a fault of it. It counts for none that was opened.
+    /// Reads a file once more, to explain a fault of it. The file doesn't count as opened.
     fn read_again(&self, alloc: Global, name: &str) -> Result<Again, AllocError>;
 
-    /// Gives standard input. Where the type tells what it holds, that is the same each time; at the system's own, which is read once, nothing
-    /// is claimed of it.
+    /// Opens standard input. If it is known what standard input holds, each call gives all of it.
     fn open_standard(&mut self) -> Self::Standard
-        ensures opened { tells → opened self.new ≡ opened self.old ++ None ∷ [] }
-        ensures same { tells → (input : Option (List ℕ)) → holds self.new input ≡ holds self.old input }
-        ensures bytes { tells → Self.Standard.remaining result ≡ holds self.old None }
-        ensures works { Self.Standard.has_failed result ≡ false };
+        ensures opened { (claim self.old).notes → opened self.new ≡ opened self.old ++ StandardInput ∷ [] }
+        ensures same { StillKnown (claim self.old) (claim self.new) }
+        ensures bytes { (claim self.old).tells
+            → Self.Standard.remaining result ≡ (claim self.old).holds StandardInput }
+        ensures works { Self.Standard.has_failed result ≡ false }
+        ensures reads { (claim self.old).tells → (reader : Self.Standard) → Self.Standard.has_failed reader ≡ true
+            → (claim self.old).fails StandardInput };
 }

@@ -1,10 +1,10 @@
-//! What is told of one file among several: its lines, each with the file's name before it.
+//! What is written for one file among several: its lines, each with the file's name before it.
 ghost use Rattle.std.specs.Prelude.{◌≡◌, ◌++◌, ◌∷◌, [], IfOk};
+ghost use Rattle.yf_command_line.specs.Shown.{shown};
 ghost use Rattle.yf_program.specs.Named.{first_byte, named_lines, prefixed, prefixed_byte};
-ghost use Rattle.yf_program.specs.Shown.{shown};
 
-use crate::shown::write_shown;
 use std::alloc::{AllocError, Global};
+use yf_command_line::shown::write_shown;
 use yf_lines::watched::Watched;
 
 /// A text with the name of a file and a colon before each of its lines, and a space after that where a line begins with no

@@ -1,31 +1,32 @@
-//! What the program does for a command line, over any reader, any writer and any stream for its faults.
+//! What is done with a reader of an input, over any reader and any two streams; and the beginning and the end of a run.
 ghost use Rattle.std.specs.Prelude.{◌≡◌, true, IfErr, IfOk, IfSome, MatchResult, OnOk};
-ghost use Rattle.yf_rules.specs.Asked.{asked};
-ghost use Rattle.yf_rules.specs.Check.{CheckAnswer, RuleFindings};
 ghost use Rattle.yf_rules.specs.Runs.ByteStream.{stream_of};
 ghost use Rattle.yf_rules.specs.Runs.Compare.{IsClean};
 ghost use Rattle.yf_rules.specs.Runs.Diffed.{DiffRun, RefusedDiff};
 ghost use Rattle.yf_rules.specs.Runs.Run.{Gave, Keeps};
-ghost use Rattle.yf_program.specs.Answer.{FileRefused, FileSets, Ran, RanCheck, RanEvents, RanFmt, RanFmtCheck, RanFmtDiff, RanFormatter, UsageWritten, WrittenOut};
-ghost use Rattle.yf_program.specs.Quoted.{diff_name};
-ghost use Rattle.yf_program.specs.World.{streams_of, task_of};
+ghost use Rattle.yf_program.specs.Answer.{FileRefused, FileSets, Ran, RanCheck, RanEvents, RanFmt, RanFmtCheck, RanFmtDiff, UsageWritten, WrittenOut, name_of};
+ghost use Rattle.yf_program.specs.Quoted.{quoted};
 
-use crate::command_line::{Cmd, Usage, Verb};
+use crate::each::name_of;
 use crate::further::{report_input, tell_findings};
 use crate::quoted::quoted;
 use crate::report::report;
-use crate::settings::{no_key, style_from_toml};
-use std::alloc::{AllocError, Global};
+use crate::streams::Streams;
+use crate::task::{Task, Work};
+use std::alloc::Global;
 use yf_chars::utf8::check_utf8;
+use yf_command_line::command::Input;
+use yf_command_line::usage::Usage;
 use yf_forms::style::Style;
 use yf_lines::fault::Fault;
 use yf_lines::output::write_text;
+use yf_lines::text::OwnedText;
 use yf_lines::watched::{Sink, Source};
 use yf_rules::compare::run_fmt_check;
 use yf_rules::diff::run_fmt_diff;
 use yf_rules::input::read_all;
-use yf_rules::rule::Rule;
-use yf_rules::run::{INPUT_LIMIT, run_check, run_events, run_fmt};
+use yf_rules::run::{INPUT_LIMIT, run_check_all, run_events, run_fmt};
+use yf_settings::settings::{no_key, style_from_toml};
 
 /// The status of a run that ended well.
 pub const GOOD: u8 = 0;
@@ -33,154 +34,125 @@ pub const GOOD: u8 = 0;
 /// The status of a check that found something, and of a text that is not in the house style.
 const FINDINGS: u8 = 1;
 
-/// The status for words on the command line that are refused.
+/// The status if the words on the command line are refused.
 const USAGE: u8 = 3;
 
-/// Does the command, and answers the status: that of the run, or of the fault whose line was written to the stream of
-/// faults. Of the command only its verb and its flags count, with the rules that it leaves out, and for a diff its file's name: reader
-/// and writer are those of its files, and what is to be written over its file is not done here.
+/// Does a task with a reader of an input, and returns the status: that of the run, or that of the fault whose line was
+/// written to the stream of faults.
 pub fn run<R: Source, W: Sink, E: Sink>(
     alloc: Global,
-    command: &Cmd,
-    rules: &[Box<dyn Rule>],
-    style: &Style,
+    task: &Task,
+    input: &Input,
     reader: &mut R,
-    writer: &mut W,
-    error_stream: &mut E,
+    streams: &mut Streams<W, E>,
 ) -> u8
-    ensures { Ran (λ src reading findings. CheckAnswer
-        (λ rule found. RuleFindings (definition rule) src reading style.now found)
-        (asked (λ rule. definition rule) command.now.without.items rules.now) findings)
-        (task_of command.now style.now) result (stream_of R.remaining R.has_failed reader.old)
-        (stream_of R.remaining R.has_failed reader.new)
-        (streams_of (stream_of W.contents W.has_failed writer.old) (stream_of E.contents E.has_failed error_stream.old))
-        (streams_of (stream_of W.contents W.has_failed writer.new)
-        (stream_of E.contents E.has_failed error_stream.new)) }
+    ensures { Ran input.now task.now result (stream_of R.remaining R.has_failed reader.old)
+        (stream_of R.remaining R.has_failed reader.new) streams.old streams.new }
 {
-    match command.verb {
-        Verb::Events => run_reader(alloc, command.explain, reader, writer, error_stream),
-        Verb::Check => run_checker(alloc, command, rules, style, reader, writer, error_stream),
-        Verb::Fmt => run_formatter(alloc, command, style, reader, writer, error_stream),
+    match &task.work {
+        Work::Events => run_reader(alloc, task, reader, streams),
+        Work::Check(without) => run_checker(alloc, task, without, reader, streams),
+        Work::Print => run_writer(alloc, task, reader, streams),
+        Work::Compare => run_comparer(alloc, task, reader, streams),
+        Work::Diff => run_differ(alloc, task, name_of(input), reader, streams),
     }
 }
 
-// Prints the events, and answers the status.
+// Prints the events, and returns the status.
 fn run_reader<R: Source, W: Sink, E: Sink>(
     alloc: Global,
-    explained: bool,
+    task: &Task,
     reader: &mut R,
-    writer: &mut W,
-    error_stream: &mut E,
+    streams: &mut Streams<W, E>,
 ) -> u8
-    ensures { RanEvents explained result (stream_of R.remaining R.has_failed reader.old)
-        (stream_of R.remaining R.has_failed reader.new)
-        (streams_of (stream_of W.contents W.has_failed writer.old) (stream_of E.contents E.has_failed error_stream.old))
-        (streams_of (stream_of W.contents W.has_failed writer.new)
-        (stream_of E.contents E.has_failed error_stream.new)) }
+    ensures { RanEvents task.now result (stream_of R.remaining R.has_failed reader.old)
+        (stream_of R.remaining R.has_failed reader.new) streams.old streams.new }
 {
     let mut bytes = Vec::new(alloc);
-    match run_events(alloc, reader, &mut bytes, writer) {
+    match run_events(alloc, reader, &mut bytes, &mut streams.output) {
         Ok(()) => GOOD,
-        Err(fault) => report_input(alloc, explained, bytes.as_slice(), &fault, error_stream),
+        Err(fault) => report_input(
+            alloc,
+            task.explain,
+            bytes.as_slice(),
+            fault,
+            &mut streams.errors,
+        ),
     }
 }
 
-// Prints what the rules find, and answers the status.
+// Prints what the rules find but those of these names, and returns the status.
 fn run_checker<R: Source, W: Sink, E: Sink>(
     alloc: Global,
-    command: &Cmd,
-    rules: &[Box<dyn Rule>],
-    style: &Style,
+    task: &Task,
+    without: &Vec<OwnedText>,
     reader: &mut R,
-    writer: &mut W,
-    error_stream: &mut E,
+    streams: &mut Streams<W, E>,
 ) -> u8
-    ensures { RanCheck (λ src reading findings. CheckAnswer
-        (λ rule found. RuleFindings (definition rule) src reading style.now found)
-        (asked (λ rule. definition rule) command.now.without.items rules.now) findings)
-        (task_of command.now style.now) result (stream_of R.remaining R.has_failed reader.old)
-        (stream_of R.remaining R.has_failed reader.new)
-        (streams_of (stream_of W.contents W.has_failed writer.old) (stream_of E.contents E.has_failed error_stream.old))
-        (streams_of (stream_of W.contents W.has_failed writer.new)
-        (stream_of E.contents E.has_failed error_stream.new)) }
+    ensures { RanCheck without.now.items task.now result (stream_of R.remaining R.has_failed reader.old)
+        (stream_of R.remaining R.has_failed reader.new) streams.old streams.new }
 {
     let mut bytes = Vec::new(alloc);
     let mut found = Vec::new(alloc);
-    let without = command.without.as_slice();
-    match run_check(
-        alloc, rules, without, reader, &mut bytes, &mut found, writer, style,
+    match run_check_all(
+        alloc,
+        without.as_slice(),
+        reader,
+        &mut bytes,
+        &mut found,
+        &mut streams.output,
+        &task.style,
     ) {
         Ok(false) => GOOD,
         Ok(true) => {
             tell_findings(
                 alloc,
-                command.explain,
+                task.explain,
                 bytes.as_slice(),
                 found.as_slice(),
-                style,
-                error_stream,
+                &task.style,
+                &mut streams.errors,
             );
             FINDINGS
         }
         Err(fault) => report_input(
             alloc,
-            command.explain,
+            task.explain,
             bytes.as_slice(),
-            &fault,
-            error_stream,
+            fault,
+            &mut streams.errors,
         ),
     }
 }
 
-// Formats, or tells whether that is needed or what it changes, and answers the status.
-fn run_formatter<R: Source, W: Sink, E: Sink>(
-    alloc: Global,
-    command: &Cmd,
-    style: &Style,
-    reader: &mut R,
-    writer: &mut W,
-    error_stream: &mut E,
-) -> u8
-    ensures { RanFormatter (task_of command.now style.now) result
-        (stream_of R.remaining R.has_failed reader.old) (stream_of R.remaining R.has_failed reader.new)
-        (streams_of (stream_of W.contents W.has_failed writer.old) (stream_of E.contents E.has_failed error_stream.old))
-        (streams_of (stream_of W.contents W.has_failed writer.new)
-        (stream_of E.contents E.has_failed error_stream.new)) }
-{
-    if command.diff {
-        return run_differ(alloc, command, style, reader, writer, error_stream);
-    }
-    if command.check {
-        return run_comparer(alloc, command, style, reader, writer, error_stream);
-    }
-    run_writer(alloc, command, style, reader, writer, error_stream)
-}
-
-// Prints what formatting changes, and answers the status.
+// Prints what formatting changes, with the name of the input, and returns the status.
 fn run_differ<R: Source, W: Sink, E: Sink>(
     alloc: Global,
-    command: &Cmd,
-    style: &Style,
+    task: &Task,
+    name: &str,
     reader: &mut R,
-    writer: &mut W,
-    error_stream: &mut E,
+    streams: &mut Streams<W, E>,
 ) -> u8
-    ensures { RanFmtDiff (task_of command.now style.now) result
-        (stream_of R.remaining R.has_failed reader.old) (stream_of R.remaining R.has_failed reader.new)
-        (streams_of (stream_of W.contents W.has_failed writer.old) (stream_of E.contents E.has_failed error_stream.old))
-        (streams_of (stream_of W.contents W.has_failed writer.new)
-        (stream_of E.contents E.has_failed error_stream.new)) }
+    ensures { RanFmtDiff name.now task.now result (stream_of R.remaining R.has_failed reader.old)
+        (stream_of R.remaining R.has_failed reader.new) streams.old streams.new }
 {
     let mut bytes = Vec::new(alloc);
-    match print_diff(alloc, command, reader, &mut bytes, writer, style) {
+    match print_diff(
+        alloc,
+        name,
+        reader,
+        &mut bytes,
+        &mut streams.output,
+        &task.style,
+    ) {
         Ok(true) => GOOD,
         Ok(false) => FINDINGS,
         Err(fault) => report_input(
             alloc,
-            command.explain,
+            task.explain,
             bytes.as_slice(),
-            &fault,
-            error_stream,
+            fault,
+            &mut streams.errors,
         ),
     }
 }
@@ -188,23 +160,24 @@ fn run_differ<R: Source, W: Sink, E: Sink>(
 // Prints what formatting changes, with the name of the input in its heads, and returns whether that is nothing.
 fn print_diff<R: Source, W: Sink>(
     alloc: Global,
-    command: &Cmd,
+    name: &str,
     reader: &mut R,
     kept: &mut Vec<u8>,
     writer: &mut W,
     style: &Style,
 ) -> Result<bool, Fault>
-    ensures diffed { IfOk result (λ same. DiffRun style.now (diff_name command.now.file)
+    ensures diffed { IfOk result (λ same. DiffRun style.now (quoted name.now)
         (stream_of R.remaining R.has_failed reader.old)
         (stream_of W.contents W.has_failed writer.old) (stream_of W.contents W.has_failed writer.new) same) }
     ensures clean { IfOk result (λ same. same ≡ true → IfSome (R.remaining reader.old) (IsClean style.now)) }
     ensures reader { OnOk result (R.has_failed reader.new ≡ R.has_failed reader.old) }
-    ensures bytes { MatchResult result (λ _. Gave (R.remaining reader.old) kept.new.items) (Keeps (R.remaining reader.old) kept.new.items) }
-    ensures refusals { IfErr result (λ fault. RefusedDiff style.now (diff_name command.now.file)
+    ensures bytes { MatchResult result (λ _. Gave (R.remaining reader.old) kept.new.items)
+        (Keeps (R.remaining reader.old) kept.new.items) }
+    ensures refusals { IfErr result (λ fault. RefusedDiff style.now (quoted name.now)
         (stream_of R.remaining R.has_failed reader.old) (stream_of R.remaining R.has_failed reader.new)
         (stream_of W.contents W.has_failed writer.old) (stream_of W.contents W.has_failed writer.new) fault) }
 {
-    let quoted = match diff_name(alloc, command) {
+    let quoted = match quoted(alloc, name) {
         Ok(quoted) => quoted,
         Err(_) => return Err(Fault::Memory),
     };
@@ -214,91 +187,69 @@ fn print_diff<R: Source, W: Sink>(
     }
 }
 
-// Tells whether formatting is needed, and answers the status.
+// Prints whether formatting is needed, and returns the status.
 fn run_comparer<R: Source, W: Sink, E: Sink>(
     alloc: Global,
-    command: &Cmd,
-    style: &Style,
+    task: &Task,
     reader: &mut R,
-    writer: &mut W,
-    error_stream: &mut E,
+    streams: &mut Streams<W, E>,
 ) -> u8
-    ensures { RanFmtCheck (task_of command.now style.now) result
-        (stream_of R.remaining R.has_failed reader.old) (stream_of R.remaining R.has_failed reader.new)
-        (streams_of (stream_of W.contents W.has_failed writer.old) (stream_of E.contents E.has_failed error_stream.old))
-        (streams_of (stream_of W.contents W.has_failed writer.new)
-        (stream_of E.contents E.has_failed error_stream.new)) }
+    ensures { RanFmtCheck task.now result (stream_of R.remaining R.has_failed reader.old)
+        (stream_of R.remaining R.has_failed reader.new) streams.old streams.new }
 {
     let mut bytes = Vec::new(alloc);
-    match run_fmt_check(alloc, reader, &mut bytes, writer, style) {
+    match run_fmt_check(alloc, reader, &mut bytes, &mut streams.output, &task.style) {
         Ok(true) => GOOD,
         Ok(false) => FINDINGS,
         Err(fault) => report_input(
             alloc,
-            command.explain,
+            task.explain,
             bytes.as_slice(),
-            &fault,
-            error_stream,
+            fault,
+            &mut streams.errors,
         ),
     }
 }
 
-// Formats, and answers the status.
+// Formats, and returns the status.
 fn run_writer<R: Source, W: Sink, E: Sink>(
     alloc: Global,
-    command: &Cmd,
-    style: &Style,
+    task: &Task,
     reader: &mut R,
-    writer: &mut W,
-    error_stream: &mut E,
+    streams: &mut Streams<W, E>,
 ) -> u8
-    ensures { RanFmt (task_of command.now style.now) result (stream_of R.remaining R.has_failed reader.old)
-        (stream_of R.remaining R.has_failed reader.new)
-        (streams_of (stream_of W.contents W.has_failed writer.old) (stream_of E.contents E.has_failed error_stream.old))
-        (streams_of (stream_of W.contents W.has_failed writer.new)
-        (stream_of E.contents E.has_failed error_stream.new)) }
+    ensures { RanFmt task.now result (stream_of R.remaining R.has_failed reader.old)
+        (stream_of R.remaining R.has_failed reader.new) streams.old streams.new }
 {
     let mut bytes = Vec::new(alloc);
-    match run_fmt(alloc, reader, &mut bytes, writer, style) {
+    match run_fmt(alloc, reader, &mut bytes, &mut streams.output, &task.style) {
         Ok(()) => GOOD,
         Err(fault) => report_input(
             alloc,
-            command.explain,
+            task.explain,
             bytes.as_slice(),
-            &fault,
-            error_stream,
+            fault,
+            &mut streams.errors,
         ),
     }
 }
 
-// The name of a command's input in the heads of its diff.
-fn diff_name(alloc: Global, command: &Cmd) -> Result<Vec<u8>, AllocError>
-    ensures { IfOk result (λ name. name.items ≡ diff_name command.now.file) }
+/// Writes out what the writer holds back, unless it has failed, which was reported. Returns the status: that of the run,
+/// or that of a write that fails, whose line was written to the stream of faults.
+pub fn written_out<W: Sink, E: Sink>(status: u8, streams: &mut Streams<W, E>) -> u8
+    ensures { WrittenOut status result streams.old streams.new }
 {
-    match &command.file {
-        Some(name) => quoted(alloc, name.as_str()),
-        None => quoted(alloc, "-"),
-    }
-}
-
-/// Writes out what the writer holds back, unless it has failed, which was told, and answers the status: that of the run, or of a
-/// write that fails, whose line was written to the stream of faults.
-pub fn written_out<W: Sink, E: Sink>(status: u8, writer: &mut W, error_stream: &mut E) -> u8
-    ensures { WrittenOut status result (streams_of (stream_of W.contents W.has_failed writer.old)
-        (stream_of E.contents E.has_failed error_stream.old))
-        (streams_of (stream_of W.contents W.has_failed writer.new)
-        (stream_of E.contents E.has_failed error_stream.new)) }
-{
-    if writer.failed() {
+    if streams.output.failed() {
         return status;
     }
-    match writer.flush_watched() {
+    match streams.output.flush_watched() {
         Ok(()) => status,
-        Err(_) => report(&Fault::WriteFailed, error_stream),
+        Err(_) => report(&Fault::WriteFailed, &mut streams.errors),
     }
 }
 
-/// The style that a settings file sets, whose bytes are kept. Bytes that are no text are `Fault::Config` with the empty key.
+/// Returns the style that a settings file sets, and keeps the bytes of the file. Bytes that are no text are
+/// `Fault::Config` with the empty key.
 pub fn read_style<R: Source>(
     alloc: Global,
     reader: &mut R,
@@ -320,22 +271,19 @@ pub fn read_style<R: Source>(
     }
 }
 
-/// Writes help to the writer, and why words are refused to the stream of faults, and answers the status.
-pub fn answer_usage<W: Sink, E: Sink>(usage: &Usage, writer: &mut W, error_stream: &mut E) -> u8
-    ensures { UsageWritten usage.now result
-        (streams_of (stream_of W.contents W.has_failed writer.old) (stream_of E.contents E.has_failed error_stream.old))
-        (streams_of (stream_of W.contents W.has_failed writer.new)
-        (stream_of E.contents E.has_failed error_stream.new)) }
+/// Writes help to the writer, or why words are refused to the stream of faults, and returns the status.
+pub fn answer_usage<W: Sink, E: Sink>(usage: &Usage, streams: &mut Streams<W, E>) -> u8
+    ensures { UsageWritten usage.now result streams.old streams.new }
 {
     match usage {
-        Usage::Help(text) => match write_text(writer, text.as_str().as_bytes()) {
+        Usage::Help(text) => match write_text(&mut streams.output, text.as_str().as_bytes()) {
             Ok(()) => GOOD,
-            Err(fault) => report(&fault, error_stream),
+            Err(fault) => report(&fault, &mut streams.errors),
         },
         Usage::Wrong(text) => {
-            let _ = write_text(error_stream, text.as_str().as_bytes());
+            let _ = write_text(&mut streams.errors, text.as_str().as_bytes());
             USAGE
         }
-        Usage::Memory => report(&Fault::Memory, error_stream),
+        Usage::Memory => report(&Fault::Memory, &mut streams.errors),
     }
 }

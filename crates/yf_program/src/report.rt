@@ -3,8 +3,8 @@ ghost use Rattle.std.specs.Prelude.{◌≡◌};
 ghost use Rattle.yf_rules.specs.Runs.ByteStream.{WriteEnds, WrittenOrFailed, stream_of};
 ghost use Rattle.yf_program.specs.Report.{fault_line, fault_status, refusal_line};
 
-use crate::shown::write_shown;
 use itoa::Buffer;
+use yf_command_line::shown::write_shown;
 use yf_lines::fault::Fault;
 use yf_lines::output::{write_text, write_texts};
 use yf_lines::place::Position;

@@ -1,6 +1,9 @@
 -- What is proved of a text and its formatting holds, by the laws that are given.
-use Rattle.std.proofs.Common.{◌≤◌, ℕ, List, [], ◌++◌, length, refl, subst}
+use Rattle.std.proofs.Common.{◌≡◌, ◌^◌, ◌<◌, ◌≤◌, ℕ, List, [], ◌++◌, length, refl, subst, ⊎_elim}
 use Rattle.std.specs.Prelude.{Option, Result, Ok, Err, IfOk}
+use Rattle.std.proofs.lemmas.Bool.{cases_lt}
+use Rattle.yf_lines.specs.declared.fault.Fault.{Fault}
+use Rattle.yf_lines.specs.declared.fault.Fault.TheVariants.{Memory}
 use Rattle.std.specs.Str.{IsUtf8}
 use Rattle.yf_lines.specs.Lines.{Table}
 use Rattle.yf_events.specs.declared.lists.Lists.{Lists}
@@ -40,6 +43,11 @@ headline_holds laws {t} {u} {s} within utf8 kept fits =
       mended = holds.mended;
       fits = fits;
     }
+
+-- a text that the reader of streams accepts is not too long
+pub within_limit : {A : Type 0} (t : List ℕ) (r : Result A Fault) → (2 ^ 30 < length t → r ≡ Err Memory) → IfOk r (λ _. length t ≤ INPUT_LIMIT)
+within_limit t (Ok a) long = ⊎_elim (λ (h : 2 ^ 30 < length t). let e = long h in absurd cc) (λ (h : length t ≤ 2 ^ 30). h) (cases_lt (2 ^ 30) (length t))
+within_limit t (Err fault) long = tt
 
 -- what is given of a text that was read, where it is a formatting of it that is not too long
 pub rendered_holds : FormattingsHold → {B E : Type 0} (s : Style) (known : Option (List ℕ)) (t : List ℕ) → Gave known t → length t ≤ INPUT_LIMIT → IsUtf8 t → (bytes : B → List ℕ)

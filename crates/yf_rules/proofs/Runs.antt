@@ -1,4 +1,6 @@
--- what the runs read and write: `run_fmt`, `run_fmt_check`, `run_fmt_diff`
+-- what the runs read and write
+pub mod GivenTexts
+pub mod NotationLemmas
 pub mod FormattedLemmas
 pub mod CompareLemmas
 pub mod DiffLemmas

@@ -4,3 +4,4 @@ pub mod Input
 pub mod Run
 pub mod Compare
 pub mod Diffed
+pub mod Action

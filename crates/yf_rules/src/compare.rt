@@ -1,32 +1,31 @@
-//! Whether a text is its own formatting, and where it differs from that first. The contracts are told in `Compare` of the specs.
+//! Whether a text is its own formatting, and where it first differs from it. `specs/Runs/Compare` has the definitions.
 ghost use Rattle.std.specs.Prelude.{◌≡◌, ◌≢◌, ◌<◌, true, IfErr, IfOk, IfSome, OnOk, MatchOption, MatchResult};
-ghost use Rattle.yf_stream.specs.StreamReader.{StreamFault};
 ghost use Rattle.yf_rules.specs.Runs.ByteStream.{WriteEnds, stream_of};
-ghost use Rattle.yf_rules.specs.Runs.Compare.{CompareRun, Difference, DifferenceIn, DifferAt, DiffersFirst, IsClean, RefusedCompare, SameUpTo, difference_line};
+ghost use Rattle.yf_rules.specs.Runs.Compare.{CompareRun, Difference, DifferAt, DiffersFirst, IsClean};
+ghost use Rattle.yf_rules.specs.Runs.Compare.{RefusedCompare, SameUpTo, difference_line};
 ghost use Rattle.yf_rules.specs.Runs.Run.{Gave, Keeps, RefusedText};
 
-use crate::input::read_all;
+use crate::format::format;
+use crate::input::{read_all, text_of};
 use crate::run::INPUT_LIMIT;
 use itoa::Buffer;
 use std::alloc::{AllocError, Global};
 use yf_chars::text::peek;
-use yf_chars::utf8::{BadByte, check_utf8};
-use yf_emit::format::format;
 use yf_forms::style::Style;
-use yf_laws::every_text::formattings_hold;
 use yf_lines::fault::Fault;
 use yf_lines::output::write_texts;
 use yf_lines::place::Position;
 use yf_lines::source_text::Src;
 use yf_lines::watched::{Sink, Source};
 
-/// Reads all there is, and answers whether it is its own formatting: whether `format` gives that text of it. Nothing is written
-/// then, and a check with the same settings finds nothing that the house style fixes. Else one line is written, `L:C not
-/// formatted`: the place of the first character in which the text and its formatting differ, or of the text's end, where it is a
-/// front of its formatting.
+/// Reads all bytes, and returns whether the text is its own formatting. If it is, nothing is written, and a check with
+/// the same settings finds nothing that the house style fixes. If it isn't, one line is written, `L:C not formatted`:
+/// the position of the first character in which the text and its formatting differ, or of the end of the text if that
+/// is a prefix of its formatting.
 ///
-/// Refused is what `run_events` refuses, and nothing has then been written but, after `Fault::WriteFailed`, a prefix of the
-/// line.
+/// # Errors
+///
+/// Fails like `run_events`, and writes nothing, except a prefix of the line after `Fault::WriteFailed`.
 pub fn run_fmt_check<R: Source, W: Sink>(
     alloc: Global,
     reader: &mut R,
@@ -38,8 +37,10 @@ pub fn run_fmt_check<R: Source, W: Sink>(
         (stream_of W.contents W.has_failed writer.old) (stream_of W.contents W.has_failed writer.new) same) }
     ensures clean { IfOk result (λ same. same ≡ true → IfSome (R.remaining reader.old) (IsClean style.now)) }
     ensures reader { OnOk result (R.has_failed reader.new ≡ R.has_failed reader.old) }
-    ensures bytes { MatchResult result (λ _. Gave (R.remaining reader.old) kept.new.items) (Keeps (R.remaining reader.old) kept.new.items) }
-    ensures refusals { IfErr result (λ fault. RefusedCompare style.now (stream_of R.remaining R.has_failed reader.old) (stream_of R.remaining R.has_failed reader.new)
+    ensures bytes { MatchResult result (λ _. Gave (R.remaining reader.old) kept.new.items)
+        (Keeps (R.remaining reader.old) kept.new.items) }
+    ensures refusals { IfErr result (λ fault. RefusedCompare style.now
+        (stream_of R.remaining R.has_failed reader.old) (stream_of R.remaining R.has_failed reader.new)
         (stream_of W.contents W.has_failed writer.old) (stream_of W.contents W.has_failed writer.new) fault) }
 {
     match read_difference(alloc, reader, kept, style)? {
@@ -51,9 +52,9 @@ pub fn run_fmt_check<R: Source, W: Sink>(
     }
 }
 
-// Reads all there is, and gives the place where it first differs from its formatting; nothing where it is that.
+// Reads all bytes, and returns the position where the text first differs from its formatting, or nothing if it doesn't.
 //
-// Refused is what `run_events` refuses, but for the faults of a writer.
+// Fails like `run_events`, except with the faults of a writer.
 fn read_difference<R: Source>(
     alloc: Global,
     reader: &mut R,
@@ -62,24 +63,13 @@ fn read_difference<R: Source>(
 ) -> Result<Option<Position>, Fault>
     ensures difference { IfOk result (Difference style.now (R.remaining reader.old)) }
     ensures reader { OnOk result (R.has_failed reader.new ≡ R.has_failed reader.old) }
-    ensures bytes { MatchResult result (λ _. Gave (R.remaining reader.old) kept.new.items) (Keeps (R.remaining reader.old) kept.new.items) }
-    ensures refusals { IfErr result (λ fault. RefusedText (stream_of R.remaining R.has_failed reader.old) (stream_of R.remaining R.has_failed reader.new) fault) }
+    ensures bytes { MatchResult result (λ _. Gave (R.remaining reader.old) kept.new.items)
+        (Keeps (R.remaining reader.old) kept.new.items) }
+    ensures refusals { IfErr result (λ fault. RefusedText (stream_of R.remaining R.has_failed reader.old)
+        (stream_of R.remaining R.has_failed reader.new) fault) }
 {
-    let bytes = read_all(alloc, reader, INPUT_LIMIT)?;
-    *kept = bytes;
-    let text = match check_utf8(kept.as_slice()) {
-        Ok(text) => text,
-        Err(BadByte { offset }) => return Err(Fault::NotUtf8 { offset }),
-    };
-    formattings_hold();
-    difference_in(alloc, text, style)
-}
-
-// The place where a text first differs from its formatting; nothing where it is that.
-fn difference_in(alloc: Global, text: &str, style: &Style) -> Result<Option<Position>, Fault>
-    ensures difference { IfOk result (DifferenceIn text.now style.now) }
-    ensures refuses { IfErr result (StreamFault text.now) }
-{
+    *kept = read_all(alloc, reader, INPUT_LIMIT)?;
+    let text = text_of(kept.as_slice())?;
     let formatted = format(alloc, text, style)?;
     match difference(alloc, text, formatted.as_str()) {
         Ok(place) => Ok(place),
@@ -87,8 +77,8 @@ fn difference_in(alloc: Global, text: &str, style: &Style) -> Result<Option<Posi
     }
 }
 
-// The place of the first character in which a text differs from another one, or of its end, where it is a front of that; nothing
-// where they are the same. A table of lines is made only where they differ.
+// Returns the position of the first character in which a text differs from another one, or of its end if it is a prefix
+// of that; nothing if they are the same. A table of lines is made only if they differ.
 fn difference(alloc: Global, text: &str, other: &str) -> Result<Option<Position>, AllocError>
     ensures { IfOk result (λ place. MatchOption place (text.now ≡ other.now) (DiffersFirst text.now other.now)) }
 {
@@ -100,7 +90,7 @@ fn difference(alloc: Global, text: &str, other: &str) -> Result<Option<Position>
     Ok(Some(src.place(at)))
 }
 
-// The offset of the first character in which two texts differ.
+// Returns the offset of the first character in which two texts differ.
 fn first_difference(text: &str, other: &str) -> usize
     requires { text.now ≢ other.now }
     ensures { DifferAt text.now other.now result }
@@ -112,7 +102,7 @@ fn first_difference(text: &str, other: &str) -> usize
     at
 }
 
-// The offset after the character that begins at the offset in two texts, where it is the same one.
+// Returns the offset after the character that begins at an offset in two texts, if both have the same one there.
 fn after_same(text: &str, other: &str, at: usize) -> Option<usize>
     requires { SameUpTo text.now other.now at }
     ensures { MatchOption result (text.now ≢ other.now → DifferAt text.now other.now at)
@@ -132,7 +122,7 @@ fn after_same(text: &str, other: &str, at: usize) -> Option<usize>
     }
 }
 
-// Writes the line of a text that is not its own formatting.
+// Writes the line for a text that is not its own formatting.
 fn write_difference<W: Sink>(place: Position, writer: &mut W) -> Result<(), Fault>
     ensures { WriteEnds (stream_of W.contents W.has_failed writer.old) (stream_of W.contents W.has_failed writer.new)
         (difference_line place) result }

@@ -1,28 +1,27 @@
-//! How a text differs from its formatting, as a unified diff. The contracts are told in `specs/Runs/Diffed`.
+//! How a text differs from its formatting, as a unified diff. `specs/Runs/Diffed` has the definitions.
 ghost use Rattle.std.specs.Prelude.{◌≡◌, true, IfErr, IfOk, IfSome, MatchResult, OnOk};
-ghost use Rattle.yf_stream.specs.StreamReader.{StreamFault};
 ghost use Rattle.yf_rules.specs.Runs.ByteStream.{stream_of};
 ghost use Rattle.yf_rules.specs.Runs.Compare.{IsClean};
-ghost use Rattle.yf_rules.specs.Runs.Diffed.{DiffIn, DiffOf, DiffRun, RefusedDiff};
+ghost use Rattle.yf_rules.specs.Runs.Diffed.{DiffOf, DiffRun, RefusedDiff};
 ghost use Rattle.yf_rules.specs.Runs.Run.{Gave, Keeps, RefusedText};
 
-use crate::input::read_all;
+use crate::format::format;
+use crate::input::{read_all, text_of};
 use crate::run::INPUT_LIMIT;
 use std::alloc::{AllocError, Global};
-use yf_chars::utf8::{BadByte, check_utf8};
 use yf_diff::diff::push_diff;
-use yf_emit::format::format;
 use yf_forms::style::Style;
-use yf_laws::every_text::formattings_hold;
 use yf_lines::fault::Fault;
 use yf_lines::output::write_text;
 use yf_lines::watched::{Sink, Source};
 
-/// Reads all there is, and answers whether it is its own formatting, as `run_fmt_check` does. Nothing is written then. Else the
-/// unified diff of the text and its formatting is written, with three lines of context and both under the name.
+/// Reads all bytes, and returns whether the text is its own formatting, like `run_fmt_check`. If it is, nothing is
+/// written. If it isn't, the unified diff of the text and its formatting is written, with three lines of context and
+/// both under the name.
 ///
-/// Refused is what `run_events` refuses, and nothing has then been written but, after `Fault::WriteFailed`, a prefix of the
-/// diff.
+/// # Errors
+///
+/// Fails like `run_events`, and writes nothing, except a prefix of the diff after `Fault::WriteFailed`.
 pub fn run_fmt_diff<R: Source, W: Sink>(
     alloc: Global,
     name: &str,
@@ -35,8 +34,10 @@ pub fn run_fmt_diff<R: Source, W: Sink>(
         (stream_of W.contents W.has_failed writer.old) (stream_of W.contents W.has_failed writer.new) same) }
     ensures clean { IfOk result (λ same. same ≡ true → IfSome (R.remaining reader.old) (IsClean style.now)) }
     ensures reader { OnOk result (R.has_failed reader.new ≡ R.has_failed reader.old) }
-    ensures bytes { MatchResult result (λ _. Gave (R.remaining reader.old) kept.new.items) (Keeps (R.remaining reader.old) kept.new.items) }
-    ensures refusals { IfErr result (λ fault. RefusedDiff style.now name.now (stream_of R.remaining R.has_failed reader.old) (stream_of R.remaining R.has_failed reader.new)
+    ensures bytes { MatchResult result (λ _. Gave (R.remaining reader.old) kept.new.items)
+        (Keeps (R.remaining reader.old) kept.new.items) }
+    ensures refusals { IfErr result (λ fault. RefusedDiff style.now name.now
+        (stream_of R.remaining R.has_failed reader.old) (stream_of R.remaining R.has_failed reader.new)
         (stream_of W.contents W.has_failed writer.old) (stream_of W.contents W.has_failed writer.new) fault) }
 {
     let diff = read_diff(alloc, name, reader, kept, style)?;
@@ -47,9 +48,9 @@ pub fn run_fmt_diff<R: Source, W: Sink>(
     Ok(false)
 }
 
-// Reads all there is, and gives the diff of it and its formatting.
+// Reads all bytes, and returns the diff of the text and its formatting.
 //
-// Refused is what `run_events` refuses, but for the faults of a writer.
+// Fails like `run_events`, except with the faults of a writer.
 fn read_diff<R: Source>(
     alloc: Global,
     name: &str,
@@ -59,24 +60,13 @@ fn read_diff<R: Source>(
 ) -> Result<Vec<u8>, Fault>
     ensures diff { IfOk result (λ diff. DiffOf style.now name.now (R.remaining reader.old) diff.items) }
     ensures reader { OnOk result (R.has_failed reader.new ≡ R.has_failed reader.old) }
-    ensures bytes { MatchResult result (λ _. Gave (R.remaining reader.old) kept.new.items) (Keeps (R.remaining reader.old) kept.new.items) }
-    ensures refusals { IfErr result (λ fault. RefusedText (stream_of R.remaining R.has_failed reader.old) (stream_of R.remaining R.has_failed reader.new) fault) }
+    ensures bytes { MatchResult result (λ _. Gave (R.remaining reader.old) kept.new.items)
+        (Keeps (R.remaining reader.old) kept.new.items) }
+    ensures refusals { IfErr result (λ fault. RefusedText (stream_of R.remaining R.has_failed reader.old)
+        (stream_of R.remaining R.has_failed reader.new) fault) }
 {
-    let bytes = read_all(alloc, reader, INPUT_LIMIT)?;
-    *kept = bytes;
-    let text = match check_utf8(kept.as_slice()) {
-        Ok(text) => text,
-        Err(BadByte { offset }) => return Err(Fault::NotUtf8 { offset }),
-    };
-    formattings_hold();
-    diff_in(alloc, name, text, style)
-}
-
-// The diff of a text and its formatting.
-fn diff_in(alloc: Global, name: &str, text: &str, style: &Style) -> Result<Vec<u8>, Fault>
-    ensures diff { IfOk result (λ diff. DiffIn text.now style.now name.now diff.items) }
-    ensures refuses { IfErr result (StreamFault text.now) }
-{
+    *kept = read_all(alloc, reader, INPUT_LIMIT)?;
+    let text = text_of(kept.as_slice())?;
     let formatted = format(alloc, text, style)?;
     let new_text = formatted.as_str().as_bytes();
     let mut diff = Vec::new(alloc);

@@ -1,26 +1,26 @@
-//! The runs of the program, over any reader and any writer. Their contracts are told in `Run` of the specs. Each keeps the bytes that
-//! it has read for its caller, who may tell more of a fault with them.
+//! The runs over any reader and any writer. `specs/Runs/Run` has the definitions. Each run keeps the bytes that it has
+//! read for its caller, who may explain a fault with them.
 ghost use Rattle.std.specs.Prelude.{◌≡◌, string_bytes, IfErr, IfOk, MatchResult, OnOk};
+ghost use Rattle.yf_rules.specs.AllRules.{FoundWithout};
 ghost use Rattle.yf_rules.specs.Asked.{asked};
 ghost use Rattle.yf_rules.specs.Check.{CheckAnswer, RuleFindings};
-ghost use Rattle.yf_stream.specs.Refusal.{IsStreamFault};
-ghost use Rattle.yf_stream.specs.StreamReader.{StreamFault};
 ghost use Rattle.yf_rules.specs.Findings.{FoundIn};
-ghost use Rattle.yf_rules.specs.Runs.ByteStream.{WriteEnds, stream_of};
-ghost use Rattle.yf_rules.specs.Runs.Run.{Gave, Keeps, NotationWritten, RefusedEvents, RefusedCheck, RefusedFmt, RefusedText, FormattingGiven, FormattingWritten, FindingsWritten};
+ghost use Rattle.yf_rules.specs.Runs.ByteStream.{BreaksOff, WriteEnds, Writes, stream_of};
+ghost use Rattle.yf_rules.specs.Runs.Run.{Gave, Keeps, NotationWritten, RefusedEvents, RefusedCheck, RefusedFmt};
+ghost use Rattle.yf_rules.specs.Runs.Run.{RefusedText, FormattingGiven, FormattingWritten, FindingsWritten};
 ghost use Rattle.yf_rules.specs.Runs.Run.{finding_line, findings_text, has_any};
+ghost use Rattle.yf_stream.specs.StreamReader.{StreamFault};
 
 use crate::check::check;
+use crate::check_all::check_all;
 use crate::finding::Finding;
-use crate::input::read_all;
+use crate::format::format;
+use crate::input::{read_all, text_of};
 use crate::rule::Rule;
 use itoa::Buffer;
 use std::alloc::{AllocError, Global};
-use yf_chars::utf8::{BadByte, check_utf8};
-use yf_emit::format::format;
 use yf_events::notation::write_events;
 use yf_forms::style::Style;
-use yf_laws::every_text::formattings_hold;
 use yf_lines::fault::Fault;
 use yf_lines::output::{write_text, write_texts};
 use yf_lines::source_text::Src;
@@ -28,16 +28,20 @@ use yf_lines::text::OwnedText;
 use yf_lines::watched::{Sink, Source};
 use yf_stream::stream::read_stream;
 
-/// More bytes than these are not read.
+/// How many bytes a run reads at most: 1 GiB.
 pub const INPUT_LIMIT: usize = 1_073_741_824;
 
-/// Reads all there is, and writes the events of the stream to the writer, one line for each.
+/// Reads all bytes, and writes the events of the stream, one line for each. Nothing is written before the whole stream
+/// is accepted.
 ///
-/// Nothing is written before the whole stream is known to be accepted. After `Fault::WriteFailed` a prefix of the lines
-/// has been written, after any other fault nothing. Refused are: more than `INPUT_LIMIT` bytes or a read that fails
-/// (`ReadFailed`), bytes that are no text (`NotUtf8`), a text that `read_stream` refuses, and a write that fails or takes
-/// nothing (`WriteFailed`). `Memory` may come in the place of each answer but `ReadFailed`, where a growth of memory was
-/// refused.
+/// # Errors
+///
+/// - `ReadFailed` if a read fails, or if there are more than `INPUT_LIMIT` bytes.
+/// - `NotUtf8` if the bytes are no text.
+/// - Those of `read_stream` if the text is refused.
+/// - `WriteFailed` if a write fails or takes nothing. A prefix of the lines has then been written; after any other
+///   fault, nothing.
+/// - `Memory` if a growth of memory is refused.
 pub fn run_events<R: Source, W: Sink>(
     alloc: Global,
     reader: &mut R,
@@ -47,27 +51,26 @@ pub fn run_events<R: Source, W: Sink>(
     ensures events { OnOk result (NotationWritten (stream_of R.remaining R.has_failed reader.old)
         (stream_of W.contents W.has_failed writer.old) (stream_of W.contents W.has_failed writer.new)) }
     ensures reader { OnOk result (R.has_failed reader.new ≡ R.has_failed reader.old) }
-    ensures bytes { MatchResult result (λ _. Gave (R.remaining reader.old) kept.new.items) (Keeps (R.remaining reader.old) kept.new.items) }
-    ensures refusals { IfErr result (λ fault. RefusedEvents (stream_of R.remaining R.has_failed reader.old) (stream_of R.remaining R.has_failed reader.new)
+    ensures bytes { MatchResult result (λ _. Gave (R.remaining reader.old) kept.new.items)
+        (Keeps (R.remaining reader.old) kept.new.items) }
+    ensures refusals { IfErr result (λ fault. RefusedEvents
+        (stream_of R.remaining R.has_failed reader.old) (stream_of R.remaining R.has_failed reader.new)
         (stream_of W.contents W.has_failed writer.old) (stream_of W.contents W.has_failed writer.new) fault) }
 {
-    let bytes = read_all(alloc, reader, INPUT_LIMIT)?;
-    *kept = bytes;
-    let text = match check_utf8(kept.as_slice()) {
-        Ok(text) => text,
-        Err(bad) => return Err(Fault::NotUtf8 { offset: bad.offset }),
-    };
+    *kept = read_all(alloc, reader, INPUT_LIMIT)?;
+    let text = text_of(kept.as_slice())?;
     let reading = read_stream(alloc, text)?;
     write_events(&reading, writer)
 }
 
-/// Reads all there is, and writes a line for each finding of the rules but those that are left out by name, in the order of their
-/// places: line and column, the rule's name, and ` (fixable)` where the house style fixes it. The answer is whether there is a
-/// finding; the findings are kept, too. In a text that formatting gives with the same settings, none of them is one that the house
-/// style fixes.
+/// Reads all bytes, and writes a line for each finding of the rules, except those whose names are in `without`, sorted
+/// by position: line and column, the rule's name, and ` (fixable)` if the house style fixes it. Returns whether there
+/// is a finding, and keeps the findings. In a text that formatting gives with the same settings, none of them is one
+/// that the house style fixes.
 ///
-/// Refused is what `run_events` refuses, and nothing has then been written but, after `Fault::WriteFailed`, a prefix of the
-/// lines.
+/// # Errors
+///
+/// Fails like `run_events`, and writes nothing, except a prefix of the lines after `WriteFailed`.
 pub fn run_check<R: Source, W: Sink>(
     alloc: Global,
     rules: &[Box<dyn Rule>],
@@ -84,31 +87,52 @@ pub fn run_check<R: Source, W: Sink>(
         style.now (stream_of R.remaining R.has_failed reader.old)
         (stream_of W.contents W.has_failed writer.old) (stream_of W.contents W.has_failed writer.new) any) }
     ensures reader { OnOk result (R.has_failed reader.new ≡ R.has_failed reader.old) }
-    ensures bytes { MatchResult result (λ _. Gave (R.remaining reader.old) kept.new.items) (Keeps (R.remaining reader.old) kept.new.items) }
+    ensures bytes { MatchResult result (λ _. Gave (R.remaining reader.old) kept.new.items)
+        (Keeps (R.remaining reader.old) kept.new.items) }
     ensures refusals { IfErr result (λ fault. RefusedCheck
         (λ src reading findings. CheckAnswer (λ rule found. RuleFindings (definition rule) src reading style.now found)
         (asked (λ rule. definition rule) without.now rules.now) findings)
         style.now (stream_of R.remaining R.has_failed reader.old) (stream_of R.remaining R.has_failed reader.new)
         (stream_of W.contents W.has_failed writer.old) (stream_of W.contents W.has_failed writer.new) fault) }
 {
-    let bytes = read_all(alloc, reader, INPUT_LIMIT)?;
-    *kept = bytes;
-    let text = match check_utf8(kept.as_slice()) {
-        Ok(text) => text,
-        Err(BadByte { offset }) => return Err(Fault::NotUtf8 { offset }),
-    };
+    *kept = read_all(alloc, reader, INPUT_LIMIT)?;
+    let text = text_of(kept.as_slice())?;
     let findings = findings_in(alloc, rules, without, text, style)?;
-    match write_findings(findings.as_slice(), writer) {
-        Ok(()) => {
-            let any = has_any(findings.as_slice());
-            *found = findings;
-            Ok(any)
-        }
-        Err(_) => Err(Fault::WriteFailed),
-    }
+    print_findings(findings, found, writer)
 }
 
-// What the rules find in a text, but those that are left out by name.
+/// Reads all bytes, and writes a line for each finding of all rules of style, like `run_check`. Memory for the rules is
+/// taken only after a text was read.
+///
+/// # Errors
+///
+/// Fails like `run_check`.
+pub fn run_check_all<R: Source, W: Sink>(
+    alloc: Global,
+    without: &[OwnedText],
+    reader: &mut R,
+    kept: &mut Vec<u8>,
+    found: &mut Vec<Finding>,
+    writer: &mut W,
+    style: &Style,
+) -> Result<bool, Fault>
+    ensures findings { IfOk result (λ any. FindingsWritten (FoundWithout without.now style.now)
+        style.now (stream_of R.remaining R.has_failed reader.old)
+        (stream_of W.contents W.has_failed writer.old) (stream_of W.contents W.has_failed writer.new) any) }
+    ensures reader { OnOk result (R.has_failed reader.new ≡ R.has_failed reader.old) }
+    ensures bytes { MatchResult result (λ _. Gave (R.remaining reader.old) kept.new.items)
+        (Keeps (R.remaining reader.old) kept.new.items) }
+    ensures refusals { IfErr result (λ fault. RefusedCheck (FoundWithout without.now style.now)
+        style.now (stream_of R.remaining R.has_failed reader.old) (stream_of R.remaining R.has_failed reader.new)
+        (stream_of W.contents W.has_failed writer.old) (stream_of W.contents W.has_failed writer.new) fault) }
+{
+    *kept = read_all(alloc, reader, INPUT_LIMIT)?;
+    let text = text_of(kept.as_slice())?;
+    let findings = all_findings_in(alloc, without, text, style)?;
+    print_findings(findings, found, writer)
+}
+
+// Returns what the rules find in a text, except those whose names are in `without`.
 fn findings_in(
     alloc: Global,
     rules: &[Box<dyn Rule>],
@@ -120,7 +144,6 @@ fn findings_in(
         (λ rule found. RuleFindings (definition rule) src reading style.now found)
         (asked (λ rule. definition rule) without.now rules.now) findings)
         style.now text.now findings.items) }
-    ensures refused { IfErr result (λ fault. IsStreamFault text.now fault) }
     ensures refuses { IfErr result (StreamFault text.now) }
 {
     let src = match Src::new(alloc, text) {
@@ -131,10 +154,48 @@ fn findings_in(
     check(alloc, rules, without, &src, &stream, style)
 }
 
+// Returns what all rules of style find in a text, except those whose names are in `without`.
+fn all_findings_in(
+    alloc: Global,
+    without: &[OwnedText],
+    text: &str,
+    style: &Style,
+) -> Result<Vec<Finding>, Fault>
+    ensures found { IfOk result (λ findings. FoundIn (FoundWithout without.now style.now)
+        style.now text.now findings.items) }
+    ensures refuses { IfErr result (StreamFault text.now) }
+{
+    let src = match Src::new(alloc, text) {
+        Ok(src) => src,
+        Err(AllocError) => return Err(Fault::Memory),
+    };
+    let stream = read_stream(alloc, text)?;
+    check_all(alloc, without, &src, &stream, style)
+}
+
 fn has_any(findings: &[Finding]) -> bool
     ensures { result ≡ has_any findings.now }
 {
     !findings.is_empty()
+}
+
+// Writes a line for each finding, keeps the findings, and returns whether there is one.
+fn print_findings<W: Sink>(
+    findings: Vec<Finding>,
+    found: &mut Vec<Finding>,
+    writer: &mut W,
+) -> Result<bool, Fault>
+    ensures written { IfOk result (λ any. Writes (stream_of W.contents W.has_failed writer.old)
+        (stream_of W.contents W.has_failed writer.new) (findings_text findings.items)) }
+    ensures any { IfOk result (λ any. any ≡ has_any findings.items) }
+    ensures refused { IfErr result (λ fault. (fault ≡ Fault.WriteFailed)
+        × BreaksOff (stream_of W.contents W.has_failed writer.old) (stream_of W.contents W.has_failed writer.new)
+        (findings_text findings.items)) }
+{
+    write_findings(findings.as_slice(), writer)?;
+    let any = has_any(findings.as_slice());
+    *found = findings;
+    Ok(any)
 }
 
 // Writes a line for each finding.
@@ -160,10 +221,11 @@ fn write_finding<W: Sink>(finding: &Finding, writer: &mut W) -> Result<(), Fault
     write_texts(writer, &[line, ":", column, " ", finding.id, fixable, "\n"])
 }
 
-/// Reads all there is, and writes it in the house style: what `format` gives of the text, once and nothing else.
+/// Reads all bytes, and writes the text in the house style: exactly what `format` returns for it.
 ///
-/// Refused is what `run_events` refuses, and nothing has then been written but, after `Fault::WriteFailed`, a prefix of the
-/// text.
+/// # Errors
+///
+/// Fails like `run_events`, and writes nothing, except a prefix of the formatting after `WriteFailed`.
 pub fn run_fmt<R: Source, W: Sink>(
     alloc: Global,
     reader: &mut R,
@@ -174,34 +236,36 @@ pub fn run_fmt<R: Source, W: Sink>(
     ensures formatted { OnOk result (FormattingWritten style.now (stream_of R.remaining R.has_failed reader.old)
         (stream_of W.contents W.has_failed writer.old) (stream_of W.contents W.has_failed writer.new)) }
     ensures reader { OnOk result (R.has_failed reader.new ≡ R.has_failed reader.old) }
-    ensures bytes { MatchResult result (λ _. Gave (R.remaining reader.old) kept.new.items) (Keeps (R.remaining reader.old) kept.new.items) }
-    ensures refusals { IfErr result (λ fault. RefusedFmt style.now (stream_of R.remaining R.has_failed reader.old) (stream_of R.remaining R.has_failed reader.new)
+    ensures bytes { MatchResult result (λ _. Gave (R.remaining reader.old) kept.new.items)
+        (Keeps (R.remaining reader.old) kept.new.items) }
+    ensures refusals { IfErr result (λ fault. RefusedFmt style.now
+        (stream_of R.remaining R.has_failed reader.old) (stream_of R.remaining R.has_failed reader.new)
         (stream_of W.contents W.has_failed writer.old) (stream_of W.contents W.has_failed writer.new) fault) }
 {
     let formatted = read_formatted(alloc, reader, kept, style)?;
     write_text(writer, formatted.as_str().as_bytes())
 }
 
-/// Reads all there is, and gives it in the house style.
+/// Reads all bytes, and returns the text in the house style.
 ///
-/// Refused is what `run_events` refuses, but for the faults of a writer.
+/// # Errors
+///
+/// Fails like `run_events`, except with the faults of a writer.
 pub fn read_formatted<R: Source>(
     alloc: Global,
     reader: &mut R,
     kept: &mut Vec<u8>,
     style: &Style,
 ) -> Result<String, Fault>
-    ensures formatted { IfOk result (λ formatted. FormattingGiven style.now (R.remaining reader.old) (string_bytes formatted)) }
+    ensures formatted { IfOk result (λ formatted. FormattingGiven style.now (R.remaining reader.old)
+        (string_bytes formatted)) }
     ensures reader { OnOk result (R.has_failed reader.new ≡ R.has_failed reader.old) }
-    ensures bytes { MatchResult result (λ _. Gave (R.remaining reader.old) kept.new.items) (Keeps (R.remaining reader.old) kept.new.items) }
-    ensures refusals { IfErr result (λ fault. RefusedText (stream_of R.remaining R.has_failed reader.old) (stream_of R.remaining R.has_failed reader.new) fault) }
+    ensures bytes { MatchResult result (λ _. Gave (R.remaining reader.old) kept.new.items)
+        (Keeps (R.remaining reader.old) kept.new.items) }
+    ensures refusals { IfErr result (λ fault. RefusedText (stream_of R.remaining R.has_failed reader.old)
+        (stream_of R.remaining R.has_failed reader.new) fault) }
 {
-    let bytes = read_all(alloc, reader, INPUT_LIMIT)?;
-    *kept = bytes;
-    let text = match check_utf8(kept.as_slice()) {
-        Ok(text) => text,
-        Err(BadByte { offset }) => return Err(Fault::NotUtf8 { offset }),
-    };
-    formattings_hold();
+    *kept = read_all(alloc, reader, INPUT_LIMIT)?;
+    let text = text_of(kept.as_slice())?;
     format(alloc, text, style)
 }

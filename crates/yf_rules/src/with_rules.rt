@@ -1,4 +1,4 @@
-//! Work with all rules of style.
+//! Work with all rules of style, which are boxed for it.
 ghost use Rattle.std.specs.Prelude.{◌≡◌, IfOk, OnErr};
 ghost use Rattle.yf_rules.specs.AllRules.{Are, all_rules};
 
@@ -6,12 +6,12 @@ use crate::rule::Rule;
 use crate::rules::StyleRule;
 use std::alloc::{AllocError, Global};
 
-/// Work that takes all rules of style.
+/// Work that needs all rules of style.
 pub trait WithRules {
-    /// What the work gives.
+    /// What the work returns.
     type Value: Drop;
 
-    /// What is true of what it gives: of itself before and after, and the value.
+    /// What holds of the work before, the work after, and the returned value.
     ghost Gives: { Self → Self → Self.Value → Type 0 } = { λ _ _ _. Unit {0} };
 
     /// Does the work with these rules, which are all of them, in the order of their numbers.
@@ -20,8 +20,12 @@ pub trait WithRules {
         ensures { Gives self.old self.new result };
 }
 
-/// Does work with all rules of style, unless memory for them was refused: then none of it is done. A new rule is a new line
-/// of this list, and of `all_rules` in the specs.
+/// Boxes all rules of style, and does the work with them. A new rule is a new line of this list, and of `all_rules` in
+/// the specs.
+///
+/// # Errors
+///
+/// `AllocError` if memory for the rules is refused. Nothing of the work is then done.
 pub fn with_all_rules<W: WithRules>(alloc: Global, work: &mut W) -> Result<W::Value, AllocError>
     ensures given { IfOk result (λ answer. W.Gives work.old work.new answer) }
     ensures kept { OnErr result (work.new ≡ work.old) }

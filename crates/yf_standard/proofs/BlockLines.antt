@@ -16,14 +16,13 @@ use Rattle.yf_chars.specs.Chain.Chain.{done, step}
 use Rattle.yf_chars.specs.Chain.One.{one}
 use Rattle.yf_lines.specs.Basic.{Break, LineStart, Spaces, Empty, Clear}
 use Rattle.yf_lines.specs.Basic.LineStart.{after_break}
-use Rattle.yf_lines.specs.Basic.Empty.{prefixed, shorter}
 use Rattle.yf_block_scalar.specs.Body.{SpaceLine, EmptyLines, largest, Ends, LineContent, Line, LinesTaken}
 use Rattle.yf_block_scalar.specs.Body.Ends.{by_break}
 use Rattle.yf_block_scalar.specs.Body.LineContent.{content}
 use Rattle.yf_block_scalar.specs.Body.Line.{empty_line, content_line}
 use Rattle.yf_block_scalar.specs.Body.Lines.{up_to}
 use Rattle.yf_standard.proofs.Basics.{many_forward}
-use Rattle.yf_standard.proofs.Texts.{empty_line_read}
+use Rattle.yf_standard.proofs.Texts.{empty_line_read, one_feed}
 use Rattle.yf_standard.proofs.ScalarsWhole.{empties_forward, empties_start, text_within, no_marker_at}
 use Rattle.yf_chars.proofs.TextLemmas.{drop_there, code-nowhere}
 use Rattle.yf_chars.proofs.ChainLemmas.{chain_append}
@@ -64,10 +63,6 @@ lines_some {t} {k} (more_lines {a = a} {h = h} {w = w} {ls = ls} e s m l b r) = 
 blank_chain : {t : List ℕ} {k i j : ℕ} {w : List ℕ} → Chain (Empty t (pos k) BlockIn) i j w → Chain (Line t k) i j (blank_lines w)
 blank_chain done = done
 blank_chain {t} {k} (step {i = i} {h = h} {x = x} {y = y} e r) = add y (empty_line_read t k i h x e) (one_feed e) (blank_chain r) where
-  one_feed : {i h : ℕ} {x : List ℕ} → Empty t (pos k) BlockIn i h x → x ≡ 10 ∷ []
-  one_feed (prefixed p b) = refl
-  one_feed (shorter p b) = refl
-
   add : {i h j : ℕ} {x : List ℕ} (y : List ℕ) → ((m : ℕ) × (SpaceLine t i m h × (m ≤ k))) → x ≡ 10 ∷ [] → Chain (Line t k) h j (blank_lines y) → Chain (Line t k) i j (blank_lines (x ++ y))
   add {i} {h} {j} y m e r = subst (λ z. Chain (Line t k) i j (blank_lines (z ++ y))) (sym e) (step (empty_line m.1.0 m.1.1) r)
 

@@ -37,12 +37,13 @@ use Rattle.yf_standard.proofs.DoublesMeant.{Marked, escape_marked, double_char_m
 use Rattle.yf_standard.proofs.DoubleLinesMeant.{MarkedItems, NsMarked, GoodBreak, NextMeans, DoubleBetween, items_marked, escaped_spells, break_spells, double_next_means, double_multi_means, double_key_means}
 use Rattle.yf_standard.specs.Notation.{Chomping}
 use Rattle.yf_standard.specs.Notation.Chomping.{STRIP, CLIP, KEEP}
-use Rattle.yf_standard.specs.Notation.Form.{s-indent-less-or-equal, b-chomped-last, l-trail-comments, l-strip-empty, l-keep-empty, l-chomped-empty, l-nb-literal-text, b-nb-literal-next, l-literal-content}
+use Rattle.yf_standard.specs.Notation.Form.{s-indent-less-or-equal, c-b-block-header, b-chomped-last, l-trail-comments, l-strip-empty, l-keep-empty, l-chomped-empty, l-nb-literal-text, b-nb-literal-next, l-literal-content, s-nb-folded-text, l-nb-folded-lines, s-nb-spaced-text, b-l-spaced, l-nb-spaced-lines, l-nb-same-lines, l-nb-diff-lines, l-folded-content}
 use Rattle.yf_standard.proofs.Monotone.{forward}
 use Rattle.yf_standard.proofs.ScalarsRead.{UpTo}
 use Rattle.yf_standard.proofs.LiteralMeant.{LiteralText, NextLiteral, literal_text_means, next_literal_means}
 use Rattle.yf_standard.proofs.ScalarContents.{LastMeans, TailMeans, Silent, tail_marks, strip_last, clip_last, keep_last, strip_tail, keep_tail}
-use Rattle.yf_standard.proofs.LiteralWhole.{LiteralRead, literal_content_means}
+use Rattle.yf_standard.proofs.FoldedMeant.{RowAt, Group, SpacedBreak, Groups, folded_row, spaced_row, folded_means, spaced_break_means, spaced_means, same_means, diff_means}
+use Rattle.yf_standard.proofs.BlockWhole.{BlockRead, literal_content_means, folded_content_means}
 use Rattle.yf_standard.proofs.QuotesMeant.{single_quoted_spells, double_quoted_pieces}
 
 -- what the productions add
@@ -89,6 +90,7 @@ Adds t e (nb-double-multi-line n) i j x = DoubleBetween t n i j x
 Adds t e (nb-double-text n c) i j x = NoLow t j → DoubleInside t n c i j (pieces x)
 Adds t e (c-double-quoted n c) i j x = Clear t i j → DoubleQuoted t n c i j (pieces x)
 Adds t e (s-indent-less-or-equal n) i j x = Quiet (UpTo t n) i j x
+Adds t e (c-b-block-header n c) i j x = x ≡ []
 Adds t e (b-chomped-last c) i j x = LastMeans t c i j x
 Adds t e (l-trail-comments n) i j x = Silent i j x
 Adds t e (l-strip-empty n) i j x = (c : Chomping) → ((m : ℕ) → [] ≡ tail_marks c m) → (k : ℕ) → n ≡ pos k → TailMeans t c k i j x
@@ -96,7 +98,15 @@ Adds t e (l-keep-empty n) i j x = (k : ℕ) → n ≡ pos k → TailMeans t KEEP
 Adds t e (l-chomped-empty n c) i j x = (k : ℕ) → n ≡ pos k → TailMeans t c k i j x
 Adds t e (l-nb-literal-text n) i j x = (k : ℕ) → n ≡ pos k → LiteralText t k i j x
 Adds t e (b-nb-literal-next n) i j x = (k : ℕ) → n ≡ pos k → NextLiteral t k i j x
-Adds t e (l-literal-content n c) i j x = (k : ℕ) → n ≡ pos k → LiteralRead t c k i j x
+Adds t e (l-literal-content n c) i j x = (k : ℕ) → n ≡ pos k → BlockRead t (LiteralText t k) c k i j x
+Adds t e (s-nb-folded-text n) i j x = (k : ℕ) → n ≡ pos k → RowAt t k false i j x
+Adds t e (s-nb-spaced-text n) i j x = (k : ℕ) → n ≡ pos k → RowAt t k true i j x
+Adds t e (l-nb-folded-lines n) i j x = (k : ℕ) → n ≡ pos k → Group t k i j x
+Adds t e (b-l-spaced n) i j x = (k : ℕ) → n ≡ pos k → SpacedBreak t k i j x
+Adds t e (l-nb-spaced-lines n) i j x = (k : ℕ) → n ≡ pos k → Group t k i j x
+Adds t e (l-nb-same-lines n) i j x = (k : ℕ) → n ≡ pos k → Groups t k i j x
+Adds t e (l-nb-diff-lines n) i j x = (k : ℕ) → n ≡ pos k → Groups t k i j x
+Adds t e (l-folded-content n c) i j x = (k : ℕ) → n ≡ pos k → BlockRead t (Groups t k) c k i j x
 Adds t e f i j x = Unit {0}
 
 prefix_of_block : {t : List ℕ} {n : ℤ} {c : Ctx} {i j : ℕ} {x : List Mark} → (Indent t n i j → LinePrefix t n c i j) → Quiet (Indent t n) i j x → Quiet (LinePrefix t n c) i j x
@@ -177,6 +187,7 @@ module _ (t : List ℕ) (z : Zone t false) where
   adds_by e (nb-double-text n BlockIn) i j x q l h d m = absurd m
   adds_by e (c-double-quoted n c) i j x q l h d m = λ w. double_quoted_pieces w m
   adds_by e (s-indent-less-or-equal n) i j x q l h d m = puts (old (s-indent-less-or-equal n) l h q d)
+  adds_by e (c-b-block-header n c) i j x q l h d m = refl
   adds_by e (b-chomped-last STRIP) i j x q l h d m = strip_last m
   adds_by e (b-chomped-last CLIP) i j x q l h d m = clip_last m
   adds_by e (b-chomped-last KEEP) i j x q l h d m = keep_last m
@@ -189,6 +200,14 @@ module _ (t : List ℕ) (z : Zone t false) where
   adds_by e (l-nb-literal-text n) i j x q l h d m = λ k s. literal_text_means z.utf m k s
   adds_by e (b-nb-literal-next n) i j x q l h d m = λ k s. next_literal_means m k s
   adds_by e (l-literal-content n c) i j x q l h d m = λ k s. literal_content_means m k s
+  adds_by e (s-nb-folded-text n) i j x q l h d m = λ k s. folded_row m k s
+  adds_by e (s-nb-spaced-text n) i j x q l h d m = λ k s. spaced_row m k s
+  adds_by e (l-nb-folded-lines n) i j x q l h d m = λ k s. folded_means m k s
+  adds_by e (b-l-spaced n) i j x q l h d m = λ k s. spaced_break_means m k s
+  adds_by e (l-nb-spaced-lines n) i j x q l h d m = λ k s. spaced_means m k s
+  adds_by e (l-nb-same-lines n) i j x q l h d m = λ k s. same_means m k s
+  adds_by e (l-nb-diff-lines n) i j x q l h d m = λ k s. diff_means m k s
+  adds_by e (l-folded-content n c) i j x q l h d m = λ k s. folded_content_means m k s
   adds_by e f i j x q l h d m = tt
 
   -- no collection adds what is asked of
@@ -205,6 +224,6 @@ module _ (t : List ℕ) (z : Zone t false) where
 
   pub contents : Meanings t (read t) z.low z.high one_char (making_content (read t) t) (Adds t)
   contents = record {
-    by = λ e f i j x q l h d m. adds_by e f i j x q l h d m;
+    by = λ e f i j x q l h d s m. adds_by e f i j x q l h d m;
     by_open = λ r e f i j x q s l h d m. adds_open r e f i j x q;
   }

@@ -1,16 +1,19 @@
--- The laws of `ContentLaws`: what scalars in flow style mean.
+-- The laws of `ContentLaws`: what scalars mean.
 use Rattle.std.proofs.Common.{◌≡◌, ℕ, pos, false, true≢false, List, refl, sym, arith}
 use Rattle.std.specs.Str.{IsUtf8}
 use Rattle.yf_lines.specs.Basic.{Clear}
 use Rattle.yf_plain.specs.Plain.{PlainText}
 use Rattle.yf_quoted.specs.Quoted.{SingleQuoted, DoubleQuoted}
 use Rattle.yf_standard.specs.Contents.{Mark, marks, content, pieces}
-use Rattle.yf_standard.specs.ContentLaws.{PlainContents, SingleContents, DoubleContents, LiteralContents}
+use Rattle.yf_standard.specs.ContentLaws.{PlainContents, SingleContents, DoubleContents, LiteralContents, FoldedContents}
 use Rattle.yf_standard.proofs.Meant.{means}
 use Rattle.yf_standard.proofs.BasicsMeant.{Spells}
 use Rattle.yf_standard.proofs.BasicsMeant.Spells.{spelled}
 use Rattle.yf_standard.proofs.ContentAdded.{Adds, contents}
-use Rattle.yf_standard.proofs.LiteralWhole.{LiteralRead, literal_whole}
+use Rattle.yf_standard.proofs.LiteralMeant.{LiteralText}
+use Rattle.yf_standard.proofs.FoldedMeant.{Groups}
+use Rattle.yf_standard.proofs.FoldedLines.{groups_mean}
+use Rattle.yf_standard.proofs.BlockWhole.{BlockRead, literal_mean, block_whole}
 use Rattle.yf_standard.proofs.Zones.{Zone}
 use Rattle.yf_standard.proofs.Closed.{root_known}
 
@@ -39,4 +42,11 @@ double_contents t e i j n c u w d =
 pub literal_contents : LiteralContents
 unfolding Adds
 literal_contents t e i j k c u w s d =
-    let m : (h : ℕ) → pos k ≡ pos h → LiteralRead t c h i j (content d) = means (contents t (zone t u j)) (omega arith) (omega arith) d in literal_whole w s (m k refl)
+    let m : (h : ℕ) → pos k ≡ pos h → BlockRead t (LiteralText t h) c h i j (content d) = means (contents t (zone t u j)) (omega arith) (omega arith) d in
+    block_whole (λ z h o u a l e. literal_mean a) w s (m k refl)
+
+pub folded_contents : FoldedContents
+unfolding Adds
+folded_contents t e i j k c u w s d =
+    let m : (h : ℕ) → pos k ≡ pos h → BlockRead t (Groups t h) c h i j (content d) = means (contents t (zone t u j)) (omega arith) (omega arith) d in
+    block_whole (λ z h o y a l e. groups_mean u w s (omega arith) a l e) w s (m k refl)

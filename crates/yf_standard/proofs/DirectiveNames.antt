@@ -1,11 +1,10 @@
 -- The names YAML and TAG of directives (6.8), as bytes and as characters.
-use Rattle.std.proofs.Common.{◌≡◌, ℕ, min, ◌+◌, ◌-◌, ◌<◌, ◌≤◌, Bool, true, true≢false, List, [], ◌∷◌, length, take, drop, get_or, codes, slice_range, refl, sym, ap, ◌∙◌, subst, ◌⊎◌, inl, inr, ⊎_elim, arith}
+use Rattle.std.proofs.Common.{◌≡◌, ℕ, min, ◌+◌, ◌-◌, ◌<◌, ◌≤◌, Bool, true≢false, List, [], ◌∷◌, length, take, drop, get_or, codes, slice_range, refl, sym, ap, ◌∙◌, subst, ◌⊎◌, inl, inr, ⊎_elim, arith}
 use Rattle.std.proofs.lemmas.Bool.{cases_lt}
 use Rattle.std.proofs.lemmas.List.{get_or-take, get_or-drop, length-take, length-drop, drop_more}
-use Rattle.std.proofs.lemmas.Bool.Decides.{nat_tests}
 use Rattle.std.specs.Str.{IsUtf8}
 use Rattle.yf_chars.specs.Text.{code}
-use Rattle.yf_chars.specs.Class.{is_ns_char, is_nb_char, is_white, is_break_char, is_white_or_end, is_printable, is_between}
+use Rattle.yf_chars.specs.Class.{is_ns_char}
 use Rattle.yf_chars.specs.Chain.{One, Many}
 use Rattle.yf_chars.specs.Chain.Chain.{done, step}
 use Rattle.yf_chars.specs.Chain.One.{one}
@@ -13,7 +12,6 @@ use Rattle.yf_chars.specs.ClassEnds.{no_ns_char}
 use Rattle.yf_props.specs.Names.{Run}
 use Rattle.yf_standard.proofs.Texts.{some_first}
 use Rattle.yf_chars.proofs.TextLemmas.{next_ascii, code-past, code_from_byte, byte_from_code}
-use Rattle.yf_grammar.proofs.BlockOutcomes.BlockKeys.{end_not_ns}
 
 yaml_codes : codes "YAML" ≡ 89 ∷ 65 ∷ 77 ∷ 76 ∷ []
 yaml_codes = refl

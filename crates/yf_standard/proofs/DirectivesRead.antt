@@ -2,7 +2,6 @@
 -- goes on with white space or ends, so each is as long as it can be.
 use Rattle.std.proofs.Common.{◌≡◌, ◌≢◌, ℕ, ◌+◌, ◌<◌, Bool, true, false, true≢false, List, [], ◌∷◌, codes, slice_range, refl, sym, ap, ◌∙◌, subst, ◌⊎◌, inl, inr, ⊎_elim, arith}
 use Rattle.std.proofs.lemmas.Bool.{cases_Bool, eq-eqb}
-use Rattle.std.proofs.Math.Bool.{and-false}
 use Rattle.std.specs.Str.{IsUtf8}
 use Rattle.yf_chars.specs.Text.{code, next}
 use Rattle.yf_chars.specs.Class.{is_ns_char, is_nb_char, is_printable, is_between, is_break_char, is_white, is_digit, is_white_or_end}
@@ -32,7 +31,6 @@ use Rattle.yf_block_scalar.proofs.HeaderLemmas.{rest_stop}
 use Rattle.yf_grammar.proofs.Ends.BlankRuns.{ContentBefore, after_byte, no_start_past}
 use Rattle.yf_stream.proofs.Uniqueness.OneDirective.{run_after, digit_ns}
 use Rattle.yf_grammar.proofs.BlockOutcomes.BlockKeys.{end_not_ns}
-use Rattle.yf_plain.proofs.PlainLemmas.{white_not_ns}
 
 -- one character or more of a class
 abbrev pub SomeChars : List ℕ → (ℕ → Bool) → ℕ → ℕ → Type 0

@@ -63,7 +63,7 @@ module _ {t : List ℕ} {k : ℕ} where
   fold_parts {g = g} (trimmed {x = x} {y = y} c e r) b = (x ++ y, subst (λ z. Chain (Empty t (pos k) BlockIn) z g (x ++ y)) (break_unique c b) (step e r))
   fold_parts {b = b} (as_space c) d = ([], subst (λ z. Chain (Empty t (pos k) BlockIn) b z []) (break_unique d c) done)
 
-  fold_made : {h b g : ℕ} {x : List ℕ} → Break t h b → Chain (Empty t (pos k) BlockIn) b g x → SomeOf (FoldedBreak t (pos k) BlockIn) h g
+  pub fold_made : {h b g : ℕ} {x : List ℕ} → Break t h b → Chain (Empty t (pos k) BlockIn) b g x → SomeOf (FoldedBreak t (pos k) BlockIn) h g
   fold_made b done = (_, as_space b)
   fold_made b (step e r) = (_, trimmed b e r)
 

@@ -8,7 +8,6 @@ use Rattle.yf_chars.specs.Class.{is_nb_char}
 use Rattle.yf_chars.specs.Chain.{Chain, Many}
 use Rattle.yf_chars.specs.Chain.Chain.{done, step}
 use Rattle.yf_lines.specs.Basic.{Break, Spaces, Indent, Empty}
-use Rattle.yf_lines.specs.Basic.Empty.{prefixed, shorter}
 use Rattle.yf_block_scalar.specs.Content.{literal, literal_after}
 use Rattle.yf_standard.specs.Characters.{nb-char}
 use Rattle.yf_standard.specs.Contents.{Mark, marks, one_char}
@@ -25,6 +24,7 @@ use Rattle.yf_standard.proofs.BlockLines.TextLines.{last_line}
 use Rattle.yf_standard.proofs.BlockLines.Some.{some}
 use Rattle.yf_standard.proofs.Sets.{nb_char_is}
 use Rattle.yf_standard.proofs.ScalarsRead.{spaces_of}
+use Rattle.yf_standard.proofs.Texts.{one_feed}
 use Rattle.yf_chars.proofs.TextLemmas.{next_later}
 
 -- lines with what they add
@@ -45,10 +45,6 @@ literal_first (some x xs) = refl
 blank_literal : {t : List ℕ} {k i j : ℕ} {w : List ℕ} (x : List ℕ) → Chain (Empty t (pos k) BlockIn) i j w → literal (blank_lines w ++ x ∷ []) ≡ encodes w ++ x
 blank_literal x done = append-nil x
 blank_literal {t} {k} x (step {x = c} {y = w} e r) = more c w (one_feed e) (blank_literal x r) where
-  one_feed : {i h : ℕ} {x : List ℕ} → Empty t (pos k) BlockIn i h x → x ≡ 10 ∷ []
-  one_feed (prefixed p b) = refl
-  one_feed (shorter p b) = refl
-
   first : (w : List ℕ) → literal_after (blank_lines w ++ x ∷ []) ≡ 10 ∷ literal (blank_lines w ++ x ∷ [])
   first [] = refl
   first (c ∷ w) = refl
@@ -57,7 +53,7 @@ blank_literal {t} {k} x (step {x = c} {y = w} e r) = more c w (one_feed e) (blan
   more c w q d = subst (λ z. literal (blank_lines (z ++ w) ++ x ∷ []) ≡ encodes (z ++ w) ++ x) (sym q)
       (first w ∙ ap (λ z. 10 ∷ z) d ∙ sym (ap (λ z. z ++ x) (feed_bytes w)))
 
-chars_forward : {t : List ℕ} {g j : ℕ} {v : List Mark} → Chain (Character t one_char nb-char) g j v → g ≤ j
+pub chars_forward : {t : List ℕ} {g j : ℕ} {v : List Mark} → Chain (Character t one_char nb-char) g j v → g ≤ j
 chars_forward done = omega arith
 chars_forward {t} (step (character {i = h} w) r) = let f = next_later t h in let m = chars_forward r in omega (arith, f, m)
 

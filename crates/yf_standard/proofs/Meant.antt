@@ -1,6 +1,6 @@
 -- What a form means, as a relation between offsets and a list, where K says what each production means; and that what is derived means
 -- that, wherever K is closed under the productions.
-use Rattle.std.proofs.Common.{◌≡◌, ℕ, ℤ, ◌≤◌, ◌<◌, ◌-◌, true, false, List, [], ◌++◌, length, take, drop, arith}
+use Rattle.std.proofs.Common.{◌≡◌, ℕ, ℤ, ◌≤◌, ◌<◌, ◌-◌, true, false, List, [], ◌++◌, length, take, drop, refl, arith}
 use Rattle.std.specs.Str.{chars}
 use Rattle.yf_chars.specs.Text.{code, next}
 use Rattle.yf_chars.specs.Chain.{Chain}
@@ -62,7 +62,7 @@ FormMeans t L w K e f i j x = K e f i j x
 pub record Meanings {A : Type 0} (t : List ℕ) (L : Condition → ℕ → Type 0) (low high : ℕ) (single : ℕ → List A) (made : Making L t A)
     (K : ℕ → Form → ℕ → ℕ → List A → Type 0) : Type 0 where
   pub by : (e : ℕ) (f : Form) (i j : ℕ) (x : List A) → kind f ≡ PRODUCTION → low ≤ i → j ≤ high → (d : Derived L t e (rule f) i j)
-      → FormMeans t L single K e (rule f) i j x → K e f i j (made e f i j d x)
+      → x ≡ meant single made d → FormMeans t L single K e (rule f) i j x → K e f i j (made e f i j d x)
   pub by_open : (r e : ℕ) (f : Form) (i j : ℕ) (x : List A) → kind f ≡ COLLECTION → r < e → low ≤ i → j ≤ high → (d : Derived L t r (rule f) i j)
       → FormMeans t L single K r (rule f) i j x → K e f i j (made r f i j d x)
 
@@ -110,7 +110,7 @@ pub means : {A : Type 0} {t : List ℕ} {L : Condition → ℕ → Type 0} {low 
     → Meanings t L low high w made K → low ≤ i → j ≤ high → (d : Derived L t e f i j) → FormMeans t L w K e f i j (meant w made d)
 unfolding meant
 means {t = t} {L = L} {w = w} {made = made} {K = K} {e = e} {f = f} {i = i} {j = j} c l h (by_rule q d) =
-    as_meant t L w K e f i j (made e f i j d (meant w made d)) q (c.by e f i j (meant w made d) q l h d (means c l h d))
+    as_meant t L w K e f i j (made e f i j d (meant w made d)) q (c.by e f i j (meant w made d) q l h d refl (means c l h d))
 means {t = t} {L = L} {w = w} {made = made} {K = K} {e = e} {f = f} {i = i} {j = j} c l h (by_collection {d = r} q room d) =
     as_opened t L w K e f i j (made r f i j d (meant w made d)) q (c.by_open r e f i j (meant w made d) q room l h d (means c l h d))
 means c l h nothing = empty

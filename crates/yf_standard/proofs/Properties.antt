@@ -1,9 +1,8 @@
 -- Aliases, anchors, tags and properties (5.6, 6.8.2, 6.9, 7.1), from the standard's productions to the relations of `Names`.
 use Rattle.std.proofs.Common.{◌≡◌, ◌≢◌, ℕ, ◌+◌, ◌<◌, ◌≤◌, ℤ, Bool, true, false, true≢false, ◌||◌, ◌==◌, List, ◌++◌, refl, sym, ap, ◌∙◌, subst, ◌⊎◌, inl, inr, arith, slice_range}
-use Rattle.std.proofs.lemmas.Bool.Decides.{nat_tests}
 use Rattle.yf_chars.specs.declared.context.Ctx.{Ctx}
 use Rattle.yf_chars.specs.Text.{code}
-use Rattle.yf_chars.specs.Class.{is_anchor_char, is_word_char, is_uri_char, is_tag_char, is_hex_digit, is_flow_indicator, is_digit, is_between}
+use Rattle.yf_chars.specs.Class.{is_anchor_char, is_word_char, is_uri_char, is_tag_char, is_hex_digit, is_flow_indicator}
 use Rattle.yf_chars.specs.Chain.{Chain, Stuck, One, Many}
 use Rattle.yf_chars.specs.Chain.One.{one}
 use Rattle.yf_chars.specs.Chain.Chain.{done, step}

@@ -5,7 +5,6 @@ use Rattle.yf_chars.specs.declared.context.Ctx.TheVariants.{BlockIn}
 use Rattle.yf_chars.specs.Chain.{Chain, Stuck}
 use Rattle.yf_chars.specs.Chain.Chain.{done, step}
 use Rattle.yf_lines.specs.Basic.{Break, Empty}
-use Rattle.yf_lines.specs.Basic.Empty.{prefixed, shorter}
 use Rattle.yf_block_scalar.specs.Body.{SpaceLine, EmptyLines, largest, Ends, Line}
 use Rattle.yf_block_scalar.specs.Body.EmptyLines.{bare}
 use Rattle.yf_block_scalar.specs.Body.Ends.{by_break, by_text}
@@ -22,7 +21,7 @@ use Rattle.yf_standard.proofs.Meant.Here.{here}
 use Rattle.yf_standard.proofs.BasicsMeant.{Puts, Quiet, Spells, same_spells}
 use Rattle.yf_standard.proofs.BasicsMeant.Puts.{puts}
 use Rattle.yf_standard.proofs.BasicsMeant.Spells.{spelled}
-use Rattle.yf_standard.proofs.Texts.{empty_line_read}
+use Rattle.yf_standard.proofs.Texts.{empty_line_read, one_feed}
 use Rattle.yf_standard.proofs.ScalarsRead.{UpTo}
 
 -- [165]
@@ -86,10 +85,6 @@ strip_bares {t} {n} k e (step {h = h} (both (puts u) (puts b)) r) =
 keep_bares : {t : List ℕ} (k : ℕ) {i j : ℕ} {w : List ℕ} → Chain (Empty t (pos k) BlockIn) i j w → Bares t k i j (marks w) (λ w. marks (feeds (length w)))
 keep_bares k done = record { widths = []; bares = done; within = omega arith; added = refl }
 keep_bares {t} k (step {i = i} {h = h} {x = x} {y = w} e r) = add w (empty_line_read t k i h x e) (one_feed e) (keep_bares k r) where
-  one_feed : {i h : ℕ} {x : List ℕ} → Empty t (pos k) BlockIn i h x → x ≡ 10 ∷ []
-  one_feed (prefixed p b) = refl
-  one_feed (shorter p b) = refl
-
   add : {i h j : ℕ} {x : List ℕ} (w : List ℕ) → ((m : ℕ) × (SpaceLine t i m h × (m ≤ k))) → x ≡ 10 ∷ [] → Bares t k h j (marks w) (λ w. marks (feeds (length w))) → Bares t k i j (marks (x ++ w)) (λ w. marks (feeds (length w)))
   add w m e s = let a = s.within in let l = m.1.1 in record {
     widths = m.0 ∷ s.widths;

@@ -1,5 +1,5 @@
 -- Block scalars (8.1), from what the standard's productions are read as to the relations of `Header` and `Body`.
-use Rattle.std.proofs.Common.{◌≡◌, ℕ, suc, ◌+◌, ◌-◌, ◌<◌, ◌≤◌, ℤ, pos, ◌≤ℤ◌, Bool, true, false, leb, ◌||◌, ◌==◌, not, List, [], ◌∷◌, length, Option, Some, None, sym, ap, ◌∙◌, subst, ◌⊎◌, inl, inr, arith}
+use Rattle.std.proofs.Common.{◌≡◌, ℕ, suc, ◌+◌, ◌-◌, ◌<◌, ◌≤◌, ℤ, pos, ◌≤ℤ◌, Bool, true, false, leb, ◌||◌, ◌==◌, not, List, [], ◌∷◌, ◌++◌, length, Option, Some, None, sym, ap, ◌∙◌, subst, ◌⊎◌, inl, inr, arith}
 use Rattle.std.proofs.lemmas.Bool.{and_parts, eqb-true, leb-true}
 use Rattle.std.proofs.lemmas.Int.{ints}
 use Rattle.std.proofs.lemmas.Bool.Decides.{nat_tests}
@@ -13,6 +13,7 @@ use Rattle.yf_lines.specs.Basic.{Break, Spaces, Indent, IndentLess, Empty, Folde
 use Rattle.yf_lines.specs.Basic.Indent.{exactly}
 use Rattle.yf_lines.specs.Basic.IndentLess.{fewer}
 use Rattle.yf_lines.specs.Basic.FoldedBreak.{trimmed, as_space}
+use Rattle.yf_comments.specs.Comment.{CommentValue}
 use Rattle.yf_comments.specs.Comments.{CommentText, BreakOrEnd, LineRest, CommentLine}
 use Rattle.yf_block_scalar.specs.declared.header.Chomp.TheVariants.{Strip, Clip, Keep}
 use Rattle.yf_block_scalar.specs.Header.{Digit, Sign, Indicators}
@@ -93,7 +94,7 @@ keep_read t i j d = let a = char_is t i j 43 (omega arith) d in subst (λ z. Sig
 abbrev pub HeaderRead : List ℕ → Indicator → Chomping → ℕ → ℕ → Type 0
 HeaderRead t m c i j = (k : ℕ) × (Indicators t i k (digit_of m) (chomp_of c) × SomeOf (LineRest t) k j)
 
-indicators_read : (t : List ℕ) (m : Indicator) (c : Chomping) (i j : ℕ)
+pub indicators_read : (t : List ℕ) (m : Indicator) (c : Chomping) (i j : ℕ)
     → ((k : ℕ) × (IndicatorRead t m i k × ChompingRead t c k j)) ⊎ ((k : ℕ) × (ChompingRead t c i k × IndicatorRead t m k j)) → Indicators t i j (digit_of m) (chomp_of c)
 indicators_read t (GIVEN m) STRIP i j (inl d) = digit_sign d.1.0 d.1.1
 indicators_read t (GIVEN m) STRIP i j (inr d) = sign_digit d.1.0 d.1.1
@@ -154,6 +155,11 @@ pub record Ending (t : List ℕ) (k i j : ℕ) : Type 0 where
   pub most : Stuck (Line t k at)
   pub trail : TrailComments t k at j ⊎ (NoTrail t (pos k) at × (at ≡ j))
 
+-- the comments of a trail
+abbrev pub trail_values : {t : List ℕ} {k i j : ℕ} → TrailComments t k i j ⊎ (NoTrail t (pos k) i × (i ≡ j)) → List CommentValue
+trail_values (inl c) = c.hash.text ++ c.further.0
+trail_values (inr n) = []
+
 pub record Bares (t : List ℕ) (k i j : ℕ) : Type 0 where
   pub widths : List ℕ
   pub bares : Chain (EmptyLines t) i j widths
@@ -165,14 +171,14 @@ no_bares t k i = record { widths = []; bares = done; within = omega arith }
 more_bares : {t : List ℕ} {k i h j m : ℕ} → SpaceLine t i m h → m ≤ k → Bares t k h j → Bares t k i j
 more_bares {m = m} s l r = let w = r.within in record { widths = m ∷ r.widths; bares = step (bare m s) r.bares; within = omega (arith, l, w) }
 
-bares_up_to : (t : List ℕ) (n : ℤ) (k i j : ℕ) → n ≡ pos k → Star (λ i j. (h : ℕ) × (UpTo t n i h × Break t h j)) i j → Bares t k i j
+pub bares_up_to : (t : List ℕ) (n : ℤ) (k i j : ℕ) → n ≡ pos k → Star (λ i j. (h : ℕ) × (UpTo t n i h × Break t h j)) i j → Bares t k i j
 bares_up_to t n k i j e none = no_bares t k i
 bares_up_to t n k i j e (more {k = g} d r) =
     let m : ℕ = d.1.0.0 in
     let l : d.1.0.0 ≤ k = omega (arith, ints, e, d.1.0.1.1.0) in
     more_bares (record { spaces = d.1.0.1.0; ends = subst (λ z. Break t z g) (sym d.1.0.1.1.1) d.1.1 }) l (bares_up_to t n k g j e r)
 
-bares_empty : (t : List ℕ) (n : ℤ) (k i j : ℕ) → n ≡ pos k → Star (SomeOf (Empty t n BlockIn)) i j → Bares t k i j
+pub bares_empty : (t : List ℕ) (n : ℤ) (k i j : ℕ) → n ≡ pos k → Star (SomeOf (Empty t n BlockIn)) i j → Bares t k i j
 bares_empty t n k i j e none = no_bares t k i
 bares_empty t n k i j e (more {k = g} d r) =
     let a = empty_line_read t k i g d.0 (subst (λ z. Empty t z BlockIn i g d.0) e d.1) in more_bares a.1.0 a.1.1 (bares_empty t n k g j e r)
@@ -222,11 +228,11 @@ texts_more e x none = x
 texts_more {k = k} e x (more d r) = let y = d k e in texts_more e (texts_join x y.1.0 y.1.1) r
 
 -- [175] and [177]
-ns_is_nb : (c : ℕ) → ns-char c ≡ true → is_nb_char c ≡ true
+pub ns_is_nb : (c : ℕ) → ns-char c ≡ true → is_nb_char c ≡ true
 unfolding is_ns_char
 ns_is_nb c e = (and_parts (is_nb_char c) (not (is_white c)) (sym (ns_char_is c) ∙ e)).0
 
-white_is_nb : (c : ℕ) → s-white c ≡ true → is_nb_char c ≡ true
+pub white_is_nb : (c : ℕ) → s-white c ≡ true → is_nb_char c ≡ true
 unfolding is_nb_char is_printable is_between is_break_char is_white
 white_is_nb c e = let w = sym (white_is c) ∙ e in white c w where
   white : (c : ℕ) → ((c == 32) || (c == 9)) ≡ true → is_nb_char c ≡ true

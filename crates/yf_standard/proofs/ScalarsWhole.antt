@@ -8,21 +8,20 @@ use Rattle.yf_chars.specs.Class.{is_nb_char}
 use Rattle.yf_chars.specs.Chain.{Chain, Many, Stuck}
 use Rattle.yf_chars.specs.Chain.Chain.{done, step}
 use Rattle.yf_chars.specs.ClassEnds.{no_nb_char}
-use Rattle.yf_lines.specs.Basic.{LineStart, Spaces, Empty, Clear, SeparateInLine, is_marker}
+use Rattle.yf_lines.specs.Basic.{LineStart, Spaces, Empty, Clear, is_marker}
 use Rattle.yf_lines.specs.Basic.LineStart.{after_break}
-use Rattle.yf_lines.specs.Basic.SeparateInLine.{by_whites, at_start}
 use Rattle.yf_comments.specs.Comment.{CommentValue}
 use Rattle.yf_comments.specs.Comments.{CommentText, BreakOrEnd, LineRest, CommentLine, LineEnd, Row}
 use Rattle.yf_comments.specs.Comments.CommentText.{comment_text}
 use Rattle.yf_comments.specs.Comments.BreakOrEnd.{by_break, by_end}
-use Rattle.yf_comments.specs.Comments.LineRest.{nothing as empty_rest, whites, comment}
+use Rattle.yf_comments.specs.Comments.LineRest.{comment}
 use Rattle.yf_comments.specs.Comments.CommentLine.{whites_line, comment_line}
 use Rattle.yf_comments.specs.Comments.LineEnd.{past_rest, from_start}
 use Rattle.yf_block_scalar.specs.Header.{Style, Indicators}
 use Rattle.yf_block_scalar.specs.Header.BlockHeader.{block_header}
 use Rattle.yf_block_scalar.specs.Body.{base, least, EmptyLines, Ends, LineContent, Line, Tail, LinesTaken, Shallow, Trail, Body, BodyValue}
 use Rattle.yf_block_scalar.specs.Body.EmptyLines.{bare}
-use Rattle.yf_block_scalar.specs.Body.Ends.{by_break as ends_by_break, by_text}
+use Rattle.yf_block_scalar.specs.Body.Ends.{by_break as ends_by_break}
 use Rattle.yf_block_scalar.specs.Body.LineContent.{content}
 use Rattle.yf_block_scalar.specs.Body.Line.{empty_line, content_line}
 use Rattle.yf_block_scalar.specs.Body.Lines.{no_content, up_to}
@@ -38,17 +37,15 @@ use Rattle.yf_standard.proofs.Basics.{SomeOf, many_forward}
 use Rattle.yf_standard.proofs.Texts.{Texts, empty_line_read, some_first}
 use Rattle.yf_standard.proofs.Texts.Texts.{last_text, more_texts}
 use Rattle.yf_standard.proofs.ScalarsMade.{hash_rest, spaces_separated, hash_shallow, end_later}
-use Rattle.yf_standard.proofs.ScalarsRead.{AtWidth, chomp_of, HeaderRead, SomeEnd, TrailComments, Ending, ContentRead}
+use Rattle.yf_standard.proofs.ScalarsRead.{AtWidth, chomp_of, HeaderRead, SomeEnd, TrailComments, Ending, trail_values, ContentRead}
 use Rattle.yf_chars.proofs.TextLemmas.{code-past, within_from_code}
 use Rattle.yf_chars.proofs.ChainLemmas.{chain_append}
 use Rattle.yf_lines.proofs.BasicLemmas.{break_forward}
-use Rattle.yf_lines.proofs.LineLemmas.{break_within}
 use Rattle.yf_comments.proofs.LineEndLemmas.{rest_line, next_starts, line_end_chosen, row_stuck_end}
 use Rattle.yf_block_scalar.proofs.BodyLemmas.{taken_starts}
 use Rattle.yf_block_scalar.proofs.UniqueLemmas.{taken_unique, ends_forward}
 use Rattle.yf_block.proofs.LineSteps.ScalarLines.{body_between}
-use Rattle.yf_grammar.proofs.Ends.Forward.{in_line_forward}
-use Rattle.yf_grammar.proofs.FlowReader.OneLine.{comment_line_order, comment_lines_order}
+use Rattle.yf_grammar.proofs.FlowReader.OneLine.{comment_lines_order}
 use Rattle.yf_grammar.proofs.Prefixes.PrefixComments.{rest_within}
 
 -- how far parts go
@@ -121,25 +118,21 @@ module _ {t : List ℕ} {low high : ℕ} (clear : Clear t low high) where
       let line : LineContent t k a q (slice_range t (a + k) g) false = content p m f (ends_by_break br) (no_marker_at a (omega (arith, l, c)) (omega (arith, f, h, v, x)) start) in
       record { at = rest.at; before = b.0 ++ slice_range t (a + k) g ∷ rest.before; text = rest.text; lines = chain_append b.1 (step (content_line line) rest.lines); last = rest.last }
 
--- those taken, with their trail
+-- those taken, up to a place
 pub record TakenRead (t : List ℕ) (k i j : ℕ) : Type 0 where
   pub lines : List (List ℕ)
   pub left_open : Bool
   pub count : ℕ
-  pub at : ℕ
-  pub taken : LinesTaken t k i lines left_open count at
-  pub trail : TrailComments t k at j ⊎ (NoTrail t (pos k) at × (at ≡ j))
+  pub taken : LinesTaken t k i lines left_open count j
 
-taken_read : {t : List ℕ} {low high k i j : ℕ} → Clear t low high → (i < length t → LineStart t i) → low ≤ i → j ≤ high → ContentRead t k i j → TakenRead t k i j
+pub taken_read : {t : List ℕ} {low high k i j : ℕ} → Clear t low high → (i < length t → LineStart t i) → low ≤ i → j ≤ high → (c : ContentRead t k i j) → TakenRead t k i c.ending.at
 taken_read {t} {low} {high} {k} {i} {j} w s l h c = go c.lines where
-  go : (i ≡ c.at) ⊎ ((z : ℕ) × (Texts t k i z × SomeEnd t z c.at)) → TakenRead t k i j
+  go : (i ≡ c.at) ⊎ ((z : ℕ) × (Texts t k i z × SomeEnd t z c.at)) → TakenRead t k i c.ending.at
   go (inl q) = record {
     lines = [];
     left_open = false;
     count = length c.ending.widths;
-    at = c.ending.at;
     taken = record { end = i; lines = no_content; tail = subst (λ z. Tail t k z c.ending.at (length c.ending.widths)) (sym q) (record { widths = c.ending.widths; lines = c.ending.bares; within = c.ending.within; counts = refl }); most = c.ending.most };
-    trail = c.ending.trail;
   }
   go (inr x) =
       let f = ending_forward c.ending in
@@ -149,9 +142,7 @@ taken_read {t} {low} {high} {k} {i} {j} w s l h c = go c.lines where
         lines = y.before ++ y.text ∷ [];
         left_open = x.1.1.0;
         count = length c.ending.widths;
-        at = c.ending.at;
         taken = record { end = c.at; lines = up_to y.lines y.last; tail = record { widths = c.ending.widths; lines = c.ending.bares; within = c.ending.within; counts = refl }; most = c.ending.most };
-        trail = c.ending.trail;
       }
 
 -- whether a comment with fewer than k spaces is on the line is known
@@ -196,23 +187,23 @@ lines_begin s done = s
 lines_begin s (step l r) = lines_begin (line_begins l) r
 
 -- what is read of a trail is one
-trail_of : {t : List ℕ} {k i j : ℕ} → (i < length t → LineStart t i) → TrailComments t k i j ⊎ (NoTrail t (pos k) i × (i ≡ j)) → SomeOf (Trail t k) i j
+pub trail_of : {t : List ℕ} {k i j : ℕ} → (i < length t → LineStart t i) → (c : TrailComments t k i j ⊎ (NoTrail t (pos k) i × (i ≡ j))) → Trail t k i j (trail_values c)
 trail_of {t} {k} {i} {j} s (inl c) =
     let hash : code t (i + c.spaces) ≡ 35 = hash_in c.hash.comment in
     let d : LineEnd t i j (c.hash.text ++ c.further.0) = past_rest (comment (spaces_separated s c.before hash) c.hash.comment c.hash.ends) c.further.1 in
-    (_, comments c.spaces c.few c.before hash (line_end_chosen d (no_row (lines_begin (end_begins c.hash.ends) c.further.1) c.all)))
+    comments c.spaces c.few c.before hash (line_end_chosen d (no_row (lines_begin (end_begins c.hash.ends) c.further.1) c.all))
   where
     hash_in : {q h : ℕ} {w : List CommentValue} → CommentText t q h w → code t q ≡ 35
     hash_in (comment_text e m n) = e
-trail_of {t} {k} {i} {j} s (inr n) = subst (λ z. SomeOf (Trail t k) i z) n.1 (⊎_elim there (λ f. ([], no_comment f)) (hash_known t k i)) where
-  there : HashAt t k i → SomeOf (Trail t k) i i
+trail_of {t} {k} {i} {j} s (inr n) = subst (λ z. Trail t k i z []) n.1 (⊎_elim there (λ f. no_comment f) (hash_known t k i)) where
+  there : HashAt t k i → Trail t k i i []
   there h =
       let l : i + h.spaces < length t = within_from_code t (i + h.spaces) (let q = h.hash in omega (arith, q)) in
       let none : Stuck (Row t i) = record { none = λ j w r. let a = hash_rest h.before h.hash r.rest in n.0.none k h.spaces a.end j a.text refl h.few h.before a.comment a.ends } in
-      ([], comments h.spaces h.few h.before h.hash (line_end_chosen (from_start (s (omega (arith, l))) done) none))
+      comments h.spaces h.few h.before h.hash (line_end_chosen (from_start (s (omega (arith, l))) done) none)
 
 -- with fewer spaces, where no indentation is to be detected
-shallower : {t : List ℕ} {n : ℤ} {k i j : ℕ} {w : List CommentValue} → Shallow t n i → least n ≤ k → Trail t k i j w → Trail t (least n) i j w
+pub shallower : {t : List ℕ} {n : ℤ} {k i j : ℕ} {w : List CommentValue} → Shallow t n i → least n ≤ k → Trail t k i j w → Trail t (least n) i j w
 shallower h l (comments m b s e c) = comments m (hash_shallow h s e) s e c
 shallower h l (no_comment f) = no_comment (λ m b s e. f m (omega (arith, l, b)) s e)
 
@@ -230,20 +221,20 @@ module _ (t : List ℕ) (u : IsUtf8 t) {low high : ℕ} (clear : Clear t low hig
   digit_body : (n : ℤ) (f : Bool) (c : Chomping) (m b j : ℕ) → (b < length t → LineStart t b) → low ≤ b → j ≤ high → ContentRead t (base n + m) b j → BodyRead t n f (Some m) c b j
   digit_body n f c m b j s l h r =
       let y = taken_read clear s l h r in
-      let w = trail_of (taken_starts s y.taken) y.trail in
-      record { value = _; body = indicated refl y.taken w.1 }
+      record { value = _; body = indicated refl y.taken (trail_of (taken_starts s y.taken) r.ending.trail) }
 
   plain_body : (n : ℤ) (f : Bool) (c : Chomping) (b j : ℕ) {k : ℤ} → (b < length t → LineStart t b) → low ≤ b → j ≤ high → AutoDetect t n b k → AtWidth (ContentRead t) k b j → BodyRead t n f None c b j
   plain_body n f c b j s l h (by_first_line {k = k} d) r =
-      let y = taken_read clear s l h (r k refl) in
-      let w = trail_of (taken_starts s y.taken) y.trail in
-      record { value = _; body = detected refl d y.taken w.1 }
+      let c = r k refl in
+      let y = taken_read clear s l h c in
+      record { value = _; body = detected refl d y.taken (trail_of (taken_starts s y.taken) c.ending.trail) }
   plain_body n f c b j s l h (without_content {k = k} {p = p} {widths = ws} g x o v none) r =
-      let y = taken_read clear s l h (r k refl) in
+      let c = r k refl in
+      let y = taken_read clear s l h c in
       let mine : LinesTaken t k b [] false (length ws) p = record { end = b; lines = no_content; tail = record { widths = ws; lines = g; within = o; counts = refl }; most = none.none k refl } in
       let q = (taken_unique y.taken mine).0 in
-      let w = trail_of (taken_starts s y.taken) y.trail in
-      let z : Trail t k p j w.0 = subst (λ z. Trail t k z j w.0) q w.1 in
+      let w = trail_values c.ending.trail in
+      let z : Trail t k p j w = subst (λ z. Trail t k z j w) q (trail_of (taken_starts s y.taken) c.ending.trail) in
       record { value = _; body = body_without_content refl g x (shallower x v z) }
 
   whole : (n : ℤ) (f : Bool) (d : Option ℕ) (c : Chomping) (i a h j : ℕ) → Style t i a f → (g : ℕ) × (Indicators t a g d (chomp_of c) × SomeOf (LineRest t) g h) → BodyRead t n f d c h j

@@ -3,7 +3,7 @@ use Rattle.std.proofs.Common.{◌≡◌, ◌≢◌, ℕ, ◌+◌, ◌<◌, ◌�
 use Rattle.std.proofs.lemmas.Bool.{cases_lt, cases_Bool, and_parts, eqb-true, eq-eqb, or_cases}
 use Rattle.std.specs.Str.{IsUtf8}
 use Rattle.yf_chars.specs.Text.{code, next}
-use Rattle.yf_chars.specs.Class.{is_ns_char, is_nb_char, is_printable, is_between, is_break_char, is_white, is_digit, is_white_or_end}
+use Rattle.yf_chars.specs.Class.{is_ns_char, is_break_char, is_white, is_digit, is_white_or_end}
 use Rattle.yf_chars.specs.Chain.{One}
 use Rattle.yf_chars.specs.Chain.One.{one}
 use Rattle.yf_lines.specs.Basic.{SeparateInLine, is_three}

@@ -31,6 +31,10 @@ empty_line_read t k i j x (prefixed (in_block e (exactly m q s)) b) = let p = in
 empty_line_read t k i j x (prefixed (in_flow e p) b) = absurd (true≢false (sym e))
 empty_line_read t k i j x (shorter (fewer m l s) b) = (m, (record { spaces = s; ends = b }, omega (arith, ints)))
 
+pub one_feed : {t : List ℕ} {k i j : ℕ} {x : List ℕ} → Empty t (pos k) BlockIn i j x → x ≡ 10 ∷ []
+one_feed (prefixed p b) = refl
+one_feed (shorter p b) = refl
+
 -- l-empty(k,block-in), any number of times
 abbrev pub Empties : List ℕ → ℕ → ℕ → ℕ → Type 0
 Empties t k = SomeOf (Chain (Empty t (pos k) BlockIn))

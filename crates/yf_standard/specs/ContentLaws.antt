@@ -1,6 +1,6 @@
 -- What the standard's productions mean: the laws that tie what a derivation adds to the content of a scalar (`Contents`) to the relations by
 -- which scalars are read, each with the plain sentence that it says. `proofs/ContentLawsHold.antt` proves them.
-use Rattle.std.specs.Prelude.{◌≡◌, ℕ, ◌<◌, ℤ, pos, Bool, false, List, length, None, encode_utf8_all}
+use Rattle.std.specs.Prelude.{◌≡◌, ℕ, ◌<◌, ℤ, pos, Bool, true, false, List, length, None, encode_utf8_all}
 use Rattle.std.specs.Str.{IsUtf8}
 use Rattle.yf_chars.specs.declared.context.Ctx.{Ctx}
 use Rattle.yf_lines.specs.Basic.{Clear, LineStart}
@@ -12,7 +12,7 @@ use Rattle.yf_plain.specs.Plain.{PlainText}
 use Rattle.yf_quoted.specs.Quoted.{SingleQuoted, DoubleQuoted}
 use Rattle.yf_standard.specs.Notation.{Chomping}
 use Rattle.yf_standard.specs.Notation.Chomping.{STRIP, CLIP, KEEP}
-use Rattle.yf_standard.specs.Notation.Form.{ns-plain, c-single-quoted, c-double-quoted, l-literal-content}
+use Rattle.yf_standard.specs.Notation.Form.{ns-plain, c-single-quoted, c-double-quoted, l-literal-content, l-folded-content}
 use Rattle.yf_standard.specs.Literal.{Derived}
 use Rattle.yf_standard.specs.Rules.{read}
 use Rattle.yf_standard.specs.Contents.{Mark, marks, content, pieces}
@@ -54,3 +54,8 @@ DoubleContents = (t : List ℕ) (e i j : ℕ) (n : ℤ) (c : Ctx) → IsUtf8 t �
 abbrev pub LiteralContents : Type 0
 LiteralContents = (t : List ℕ) (e i j k : ℕ) (c : Chomping) → IsUtf8 t → Clear t i j → (i < length t → LineStart t i) → (d : Derived (read t) t e (l-literal-content (pos k) c) i j)
     → BlockContent t false c k i (content d)
+
+-- So does each derivation of the content of a folded scalar (182).
+abbrev pub FoldedContents : Type 0
+FoldedContents = (t : List ℕ) (e i j k : ℕ) (c : Chomping) → IsUtf8 t → Clear t i j → (i < length t → LineStart t i) → (d : Derived (read t) t e (l-folded-content (pos k) c) i j)
+    → BlockContent t true c k i (content d)

@@ -6,6 +6,8 @@ pub mod Rules
 pub mod Contents
 pub mod ContentLaws
 pub mod Tokens
+pub mod Readings
 pub mod TokenLaws
+pub mod NodeLaws
 pub mod Laws
 pub mod Acceptance

@@ -1,16 +1,22 @@
 -- What the standard's productions mean: the laws that tie the comments and names of a derivation (`Tokens`) to the relations by which they are
 -- read, each with the plain sentence that it says. `proofs/TokenLawsHold.antt` proves them.
-use Rattle.std.specs.Prelude.{◌≡◌, ℕ, ℤ, List, [], ◌∷◌}
+use Rattle.std.specs.Prelude.{◌≡◌, ℕ, ℤ, Bool, true, false, List, [], ◌∷◌, map, encode_utf8_all}
 use Rattle.std.specs.Str.{IsUtf8}
 use Rattle.yf_chars.specs.declared.context.Ctx.{Ctx}
+use Rattle.yf_lines.specs.Basic.{Clear}
 use Rattle.yf_comments.specs.Comment.{CommentValue}
 use Rattle.yf_comments.specs.Comments.{LineEnd, Separate}
+use Rattle.yf_props.specs.Props.{no_props}
 use Rattle.yf_props.specs.Names.{Alias, Properties, PropertiesValue}
-use Rattle.yf_standard.specs.Notation.Form.{s-l-comments, s-separate, c-ns-alias-node, c-ns-properties}
+use Rattle.yf_events.specs.Event.{scalar_node}
+use Rattle.yf_grammar.specs.Productions.BlockScalar.{BlockScalar, style_of}
+use Rattle.yf_grammar.specs.Productions.Meaning.{Meaning}
+use Rattle.yf_standard.specs.Notation.Form.{s-l-comments, s-separate, c-ns-alias-node, c-ns-properties, c-l+literal, c-l+folded}
 use Rattle.yf_standard.specs.Literal.{Derived}
 use Rattle.yf_standard.specs.Rules.{read}
+use Rattle.yf_standard.specs.Contents.{Mark, content, marks}
 use Rattle.yf_standard.specs.Tokens.{Token, tokens, notes, comments_among, anchor_among, tag_among, tag_place_among}
-use Rattle.yf_standard.specs.Tokens.Token.{an_alias}
+use Rattle.yf_standard.specs.Tokens.Token.{an_alias, a_scalar}
 
 -- properties with these tokens: the same anchor, tag, place of the tag, and comments
 pub record PropertiesMean (t : List ℕ) (n : ℤ) (c : Ctx) (i j : ℕ) (y : List Token) : Type 0 where
@@ -20,6 +26,15 @@ pub record PropertiesMean (t : List ℕ) (n : ℤ) (c : Ctx) (i j : ℕ) (y : Li
   pub tag : tag_among y ≡ value.props.tag
   pub place : tag_place_among y ≡ value.tag_offset
   pub comments : comments_among y ≡ notes value.comments
+
+-- a block scalar with that style, content and tokens: it is read as one scalar with that style and text, and with these comments
+pub record BlockScalarMeans (t : List ℕ) (n : ℤ) (f : Bool) (i j : ℕ) (y : List Mark) (z : List Token) : Type 0 where
+  pub value : Meaning
+  pub derived : BlockScalar t n i j value
+  pub text : List ℕ
+  pub added : y ≡ marks text
+  pub event : map (λ e. e.event) value.events ≡ scalar_node no_props (style_of f) (encode_utf8_all text) ∷ []
+  pub tokens : z ≡ a_scalar (style_of f) y ∷ notes value.comments
 
 -- Each derivation of comments (79) has the comments with which they are read, each at its offset.
 abbrev pub CommentTokens : Type 0
@@ -36,3 +51,11 @@ AliasTokens = (t : List ℕ) (e i j : ℕ) → IsUtf8 t → (d : Derived (read t
 -- Each derivation of node properties (96) has the anchor, the tag, its place and the comments with which they are read.
 abbrev pub PropertyTokens : Type 0
 PropertyTokens = (t : List ℕ) (e i j : ℕ) (n : ℤ) (c : Ctx) → IsUtf8 t → (d : Derived (read t) t e (c-ns-properties n c) i j) → PropertiesMean t n c i j (tokens d)
+
+-- Each derivation of a literal scalar (170) that covers no forbidden line is read as a scalar with its content and its comments.
+abbrev pub LiteralScalars : Type 0
+LiteralScalars = (t : List ℕ) (e i j : ℕ) (n : ℤ) → IsUtf8 t → Clear t i j → (d : Derived (read t) t e (c-l+literal n) i j) → BlockScalarMeans t n false i j (content d) (tokens d)
+
+-- So is each derivation of a folded scalar (174).
+abbrev pub FoldedScalars : Type 0
+FoldedScalars = (t : List ℕ) (e i j : ℕ) (n : ℤ) → IsUtf8 t → Clear t i j → (d : Derived (read t) t e (c-l+folded n) i j) → BlockScalarMeans t n true i j (content d) (tokens d)

@@ -1,8 +1,9 @@
 //! The laws that tie what is read here to the standard's productions.
 ghost use Rattle.yf_standard.specs.Acceptance.{FaultsTellOfTheStandard, StandardStreamsMeanOne, StandardTextsAreRead};
-ghost use Rattle.yf_standard.specs.ContentLaws.{DoubleContents, LiteralContents, PlainContents, SingleContents};
+ghost use Rattle.yf_standard.specs.ContentLaws.{DoubleContents, FoldedContents, LiteralContents, PlainContents, SingleContents};
 ghost use Rattle.yf_standard.specs.Laws.{ForbiddenLinesAreStandard, ReadTextsAreStandard, RefusedStreamsAreNone, RulesOnlyRestrict, StandardStreamsAreDerived, StreamsAreStandard};
-ghost use Rattle.yf_standard.specs.TokenLaws.{AliasTokens, CommentTokens, PropertyTokens, SeparateTokens};
+ghost use Rattle.yf_standard.specs.NodeLaws.{BlockNodes, FlowNodes};
+ghost use Rattle.yf_standard.specs.TokenLaws.{AliasTokens, CommentTokens, FoldedScalars, LiteralScalars, PropertyTokens, SeparateTokens};
 
 /// Does nothing: its contract is what holds of every text. What is derived here as a stream, within the limit of
 /// open collections, is by the reading rules a stream of the standard (`l-yaml-stream`, production 211), and what is
@@ -25,16 +26,23 @@ pub fn standard_laws()
 
 /// Does nothing: its contract is what some of the standard's productions mean. The meaning is a function of the
 /// derivation, by the names of the productions (`specs/Contents.antt` and `specs/Tokens.antt`). Each derivation of a
-/// plain, a single-quoted or a double-quoted scalar, and of the content of a literal scalar, means the text with which
-/// it is read, with its bad escapes (sections 5.7, 6.5, 7.3, 8.1.1.2 and 8.1.2). Each derivation of comments, of
-/// separation, of an alias and of node properties has the comments and names with which it is read (6.6 to 6.9, 7.1).
+/// plain, a single-quoted or a double-quoted scalar, and of the content of a literal or a folded scalar, means the text
+/// with which it is read, with its bad escapes (sections 5.7, 6.5, 7.3, 8.1.1.2, 8.1.2 and 8.1.3). Each derivation of
+/// comments, of separation, of an alias and of node properties has the comments and names with which it is read (6.6 to
+/// 6.9, 7.1). Each derivation of a node that covers no forbidden line has the events, the comments, and the places of
+/// tags and of bad escapes with which it is read: that is what its tokens say (`specs/Readings.antt`; chapters 7 and 8).
 pub fn meaning_laws()
     ensures plain { PlainContents }
     ensures single { SingleContents }
     ensures double { DoubleContents }
     ensures literal { LiteralContents }
+    ensures folded { FoldedContents }
     ensures comments { CommentTokens }
     ensures separation { SeparateTokens }
     ensures aliases { AliasTokens }
     ensures properties { PropertyTokens }
+    ensures literals { LiteralScalars }
+    ensures foldeds { FoldedScalars }
+    ensures flow_nodes { FlowNodes }
+    ensures block_nodes { BlockNodes }
 {}

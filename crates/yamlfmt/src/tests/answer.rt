@@ -1,6 +1,6 @@
 //! The whole program over inputs in memory: its status, what it writes, and what it opens, in order.
-ghost use Rattle.std.specs.Prelude.{[], None};
-ghost use Rattle.yf_rules.specs.AllRules.{Are, all_rules};
+ghost use Rattle.std.specs.Prelude.{[]};
+ghost use Rattle.yf_program.specs.World.{nothing_known};
 
 use crate::tests::answer_rows::{BEFORE, ROWS, Row};
 use crate::tests::answers::words_of;
@@ -10,8 +10,8 @@ use yf_lines::fault::Fault;
 use yf_lines::watched::Watched;
 use yf_program::answer::answer;
 use yf_program::inputs::{Again, Inputs};
-use yf_rules::rule::Rule;
-use yf_rules::with_rules::{WithRules, with_all_rules};
+use yf_program::sources::Sources;
+use yf_program::streams::in_memory;
 
 /// The files, and what they hold.
 static FILES: [(&str, &[u8]); 13] = [
@@ -52,11 +52,9 @@ impl Inputs for Shelf {
 
     type Standard = Watched<&'static [u8]>;
 
-    ghost tells = { ⊥ };
+    ghost claim = { λ _. nothing_known };
 
     ghost opened = { λ _. [] };
-
-    ghost holds = { λ _ _. None };
 
     fn open_file(&mut self, name: &str) -> Result<Watched<&'static [u8]>, Fault> {
         self.note(name);
@@ -102,60 +100,34 @@ fn ends_with(files: &MemoryFiles, text: &str) -> bool {
 }
 
 /// Whether the words are answered as the row says.
-fn is_answered(alloc: Global, words: &[String], rules: &[Box<dyn Rule>], row: &Row) -> bool
-    requires { Are (λ rule. definition rule) rules.now all_rules }
-{
-    let mut shelf = Shelf {
+fn is_answered(alloc: Global, words: &[String], row: &Row) -> bool {
+    let inputs = Shelf {
         opened: Vec::new(alloc),
     };
-    let Some(mut files) = one_file(alloc) else {
+    let Some(files) = one_file(alloc) else {
         return false;
     };
-    let mut writer = Watched::new(Vec::new(alloc));
-    let mut error_stream = Watched::new(Vec::new(alloc));
-    let status = answer(
-        alloc,
-        words,
-        rules,
-        &mut shelf,
-        &mut files,
-        &mut writer,
-        &mut error_stream,
-    );
+    let mut sources = Sources { inputs, files };
+    let mut streams = in_memory(alloc);
+    let status = answer(alloc, words, &mut sources, &mut streams);
     status == row.1
-        && writer.get_ref().as_slice() == row.2.as_bytes()
-        && error_stream.get_ref().as_slice() == row.3.as_bytes()
-        && shelf.opened.as_slice() == row.4.as_bytes()
-        && ends_with(&files, row.5)
+        && streams.output.get_ref().as_slice() == row.2.as_bytes()
+        && streams.errors.get_ref().as_slice() == row.3.as_bytes()
+        && sources.inputs.opened.as_slice() == row.4.as_bytes()
+        && ends_with(&sources.files, row.5)
 }
 
-/// Answers the command line of a row.
-#[derive(Drop)]
-struct Answers {
-    alloc: Global,
-    row: &'static Row,
-}
-
-impl WithRules for Answers {
-    type Value = bool;
-
-    /// Whether the command line of the row is answered as the row says.
-    fn with_rules(&mut self, rules: &[Box<dyn Rule>]) -> bool {
-        match &words_of(self.alloc, self.row.0) {
-            Ok(words) => is_answered(self.alloc, words.as_slice(), rules, self.row),
-            Err(AllocError) => false,
-        }
+/// Whether the command line of a row is answered as the row says.
+fn answers_line(alloc: Global, row: &Row) -> bool {
+    match &words_of(alloc, row.0) {
+        Ok(words) => is_answered(alloc, words.as_slice(), row),
+        Err(AllocError) => false,
     }
 }
 
 #[test]
 fn answers_command_lines(rt: HostRuntime) {
     for row in &ROWS {
-        let alloc = rt.alloc();
-        assert!(rt;
-            matches!(with_all_rules(alloc, &mut Answers { alloc, row }), Ok(true)),
-            "{}",
-            row.0
-        );
+        assert!(rt; answers_line(rt.alloc(), row), "{}", row.0);
     }
 }

@@ -2,16 +2,17 @@
 
 use std::alloc::{AllocError, Global};
 use std::io;
-use yf_emit::format::format;
+use yf_command_line::command::Input;
 use yf_events::reading::Reading;
 use yf_forms::style::Style;
 use yf_lines::fault::Fault;
 use yf_lines::watched::{Sink, Source, Watched};
-use yf_program::command_line::{Cmd, Verb};
 use yf_program::program::run;
 use yf_program::report::report;
-use yf_program::settings::style_from_toml;
-use yf_rules::rule::Rule;
+use yf_program::streams::{Streams, in_memory};
+use yf_program::task::{Task, Work};
+use yf_rules::format::format;
+use yf_settings::settings::style_from_toml;
 use yf_stream::stream::read_stream;
 
 /// A command over standard input.
@@ -47,49 +48,37 @@ impl Answer {
     }
 }
 
-/// The command as it is parsed.
-pub fn command(alloc: Global, asked: Asked) -> Cmd {
-    let verb = match asked {
-        Asked::Events => Verb::Events,
-        Asked::Check => Verb::Check,
-        Asked::Fmt | Asked::FmtCheck | Asked::FmtDiff => Verb::Fmt,
+/// The task of a command in a style.
+pub fn task(alloc: Global, asked: Asked, style: &Style) -> Task {
+    let work = match asked {
+        Asked::Events => Work::Events,
+        Asked::Check => Work::Check(Vec::new(alloc)),
+        Asked::Fmt => Work::Print,
+        Asked::FmtCheck => Work::Compare,
+        Asked::FmtDiff => Work::Diff,
     };
-    Cmd {
-        verb,
-        config: None,
+    Task {
+        work,
+        style: *style,
         explain: false,
-        file: None,
-        write: false,
-        check: matches!(asked, Asked::FmtCheck),
-        diff: matches!(asked, Asked::FmtDiff),
-        more: Vec::new(alloc),
-        without: Vec::new(alloc),
     }
 }
 
 /// What a command answers for an input.
-pub fn answer_to(
-    alloc: Global,
-    asked: Asked,
-    rules: &[Box<dyn Rule>],
-    style: &Style,
-    input: &[u8],
-) -> Answer {
-    let mut writer = Watched::new(Vec::new(alloc));
-    let mut error_stream = Watched::new(Vec::new(alloc));
+pub fn answer_to(alloc: Global, asked: Asked, style: &Style, input: &[u8]) -> Answer {
+    let mut streams = in_memory(alloc);
     let status = run(
         alloc,
-        &command(alloc, asked),
-        rules,
-        style,
+        &task(alloc, asked, style),
+        &Input::Standard,
         &mut Watched::new(input),
-        &mut writer,
-        &mut error_stream,
+        &mut streams,
     );
+    let Streams { output, errors } = streams;
     Answer {
         status,
-        output: writer.into_inner(),
-        line: error_stream.into_inner(),
+        output: output.into_inner(),
+        line: errors.into_inner(),
     }
 }
 
@@ -98,33 +87,35 @@ pub fn answer_to(
 pub type Run<'a> = (Asked, &'a str, &'a str, u8, &'a str);
 
 /// Whether a run is answered so.
-pub fn is_run(alloc: Global, rules: &[Box<dyn Rule>], row: &Run) -> bool {
+pub fn is_run(alloc: Global, row: &Run) -> bool {
     let (asked, settings, input, status, text) = *row;
     match &style_from_toml(alloc, settings) {
-        Ok(style) => answer_to(alloc, asked, rules, style, input.as_bytes()).is(status, text),
+        Ok(style) => answer_to(alloc, asked, style, input.as_bytes()).is(status, text),
         Err(fault) => status == 3 && reports(alloc, fault, 3, text),
     }
 }
 
-/// The status of a command in the house style over a reader and a writer, and what it writes to the stream of faults.
+/// The status of a command in the house style over a reader and a writer, the writer, and what the command writes to the
+/// stream of faults.
 pub fn answer_over<R: Source, W: Sink>(
     alloc: Global,
     asked: Asked,
-    rules: &[Box<dyn Rule>],
     reader: &mut R,
-    writer: &mut W,
-) -> (u8, Vec<u8>) {
-    let mut error_stream = Watched::new(Vec::new(alloc));
+    writer: W,
+) -> (u8, W, Vec<u8>) {
+    let mut streams = Streams {
+        output: writer,
+        errors: Watched::new(Vec::new(alloc)),
+    };
     let status = run(
         alloc,
-        &command(alloc, asked),
-        rules,
-        &Style::house(),
+        &task(alloc, asked, &Style::house()),
+        &Input::Standard,
         reader,
-        writer,
-        &mut error_stream,
+        &mut streams,
     );
-    (status, error_stream.into_inner())
+    let Streams { output, errors } = streams;
+    (status, output, errors.into_inner())
 }
 
 /// Whether a fault is answered with that status and that line.

@@ -2,8 +2,6 @@
 
 use crate::tests::answers::{Asked, is_run};
 use std::alloc::Global;
-use yf_rules::rule::Rule;
-use yf_rules::with_rules::{WithRules, with_all_rules};
 
 /// Settings, a text that is checked, the status, and what is found or why the text is refused.
 type Row = (&'static str, &'static str, u8, &'static str);
@@ -185,35 +183,13 @@ static ROWS: [Row; 52] = [
     ("", "---\n\u{E4}:  b\n", 0, ""),
 ];
 
-/// Checks a text with all rules.
-#[derive(Drop)]
-struct Check {
-    alloc: Global,
-    row: &'static Row,
-}
-
-impl WithRules for Check {
-    type Value = bool;
-
-    /// Whether the checker answers as the row says.
-    fn with_rules(&mut self, rules: &[Box<dyn Rule>]) -> bool {
-        let (settings, input, status, text) = *self.row;
-        is_run(
-            self.alloc,
-            rules,
-            &(Asked::Check, settings, input, status, text),
-        )
-    }
-}
-
 #[test]
 fn finds_faults_of_style(rt: HostRuntime) {
     for row in &ROWS {
-        let alloc = rt.alloc();
+        let (settings, input, status, text) = *row;
         assert!(rt;
-            matches!(with_all_rules(alloc, &mut Check { alloc, row }), Ok(true)),
-            "{}",
-            row.1
+            is_run(rt.alloc(), &(Asked::Check, settings, input, status, text)),
+            "{input}"
         );
     }
 }

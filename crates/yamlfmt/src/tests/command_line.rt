@@ -2,8 +2,19 @@
 
 use crate::tests::answers::words_of;
 use std::alloc::Global;
+use yf_command_line::command::{Command, FileList, Fmt, Input, InputList, Request};
+use yf_command_line::command_line::parse_line;
+use yf_command_line::usage::Usage;
 use yf_lines::text::OwnedText;
-use yf_program::command_line::{Cmd, Usage, Verb, parse_line};
+use yf_rules::asked::RULE_NAMES;
+
+/// The name of a command.
+#[derive(Clone, Copy, PartialEq, Eq)]
+enum Verb {
+    Events,
+    Check,
+    Fmt,
+}
 
 /// What is found in a command line.
 #[derive(Clone, Copy)]
@@ -69,7 +80,7 @@ static LINES: [(&str, Wanted); 60] = [
     ),
     (
         "fmt a --check --diff",
-        Wanted::Command(Verb::Fmt, "", "a", false, true, true, 0),
+        Wanted::Command(Verb::Fmt, "", "a", false, false, true, 0),
     ),
     (
         "check a b",
@@ -97,7 +108,7 @@ static LINES: [(&str, Wanted); 60] = [
     ),
     (
         "check --explain - a",
-        Wanted::Command(Verb::Check, "", "-", false, false, false, 1),
+        Wanted::Command(Verb::Check, "", "", false, false, false, 1),
     ),
     (
         "--explain check a",
@@ -294,17 +305,51 @@ fn is_version(text: &str) -> bool {
     }
 }
 
+/// What is asked for: the command, the first input, whether it is rewritten, whether it is only told of, whether by a
+/// diff, and how many more inputs there are.
+type Shape<'a> = (Verb, &'a str, bool, bool, bool, usize);
+
+/// The name of an input.
+fn name_of(input: &Input) -> &str {
+    match input {
+        Input::Standard => "",
+        Input::File(name) => name.as_str(),
+    }
+}
+
+/// The same of a command.
+fn shape(command: &Command) -> Shape<'_> {
+    match command {
+        Command::Events(input) => (Verb::Events, name_of(input), false, false, false, 0),
+        Command::Check { inputs, .. } => {
+            let InputList { first, rest } = inputs;
+            (Verb::Check, name_of(first), false, false, false, rest.len())
+        }
+        Command::Fmt(Fmt::Print(input)) => (Verb::Fmt, name_of(input), false, false, false, 0),
+        Command::Fmt(Fmt::Check(inputs)) => {
+            let InputList { first, rest } = inputs;
+            (Verb::Fmt, name_of(first), false, true, false, rest.len())
+        }
+        Command::Fmt(Fmt::Diff(input)) => (Verb::Fmt, name_of(input), false, false, true, 0),
+        Command::Fmt(Fmt::Write(files)) => {
+            let FileList { first, rest } = files;
+            (Verb::Fmt, first.as_str(), true, false, false, rest.len())
+        }
+    }
+}
+
 /// Whether that is found.
-fn is_found(parsed: &Result<Cmd, Usage>, wanted: Wanted) -> bool {
+fn is_found(parsed: &Result<Request, Usage>, wanted: Wanted) -> bool {
     match (parsed, wanted) {
-        (Ok(command), Wanted::Command(verb, config, file, write, check, diff, more)) => {
-            command.verb == verb
-                && command.write == write
-                && command.check == check
-                && command.diff == diff
-                && command.more.len() == more
-                && is_text(&command.config, config)
-                && is_text(&command.file, file)
+        (Ok(request), Wanted::Command(verb, config, file, write, check, diff, more)) => {
+            let (is_verb, name, writes, checks, diffs, others) = shape(&request.command);
+            is_verb == verb
+                && name == file
+                && writes == write
+                && checks == check
+                && diffs == diff
+                && others == more
+                && is_text(&request.config, config)
         }
         (Err(Usage::Wrong(_)), Wanted::Wrong) => true,
         (Err(Usage::Wrong(text)), Wanted::Refused(wanted)) => text.as_str() == wanted,
@@ -317,7 +362,7 @@ fn is_found(parsed: &Result<Cmd, Usage>, wanted: Wanted) -> bool {
 /// Whether that is found in a line.
 fn asks(alloc: Global, line: &str, wanted: Wanted) -> bool {
     match &words_of(alloc, line) {
-        Ok(words) => is_found(&parse_line(alloc, words.as_slice()), wanted),
+        Ok(words) => is_found(&parse_line(alloc, words.as_slice(), &RULE_NAMES), wanted),
         Err(_) => false,
     }
 }

@@ -341,13 +341,13 @@ pub static MANIFESTS: [(&str, &str, &str); 6] = [
 fn comments_keep_their_blocks(rt: HostRuntime) {
     for (settings, input, text) in &IN_BLOCKS {
         assert!(rt;
-            is_run(rt.alloc(), &[], &(Asked::Fmt, settings, input, 0, text)),
+            is_run(rt.alloc(), &(Asked::Fmt, settings, input, 0, text)),
             "{input}"
         );
     }
     for (settings, input, text) in &MANIFESTS {
         assert!(rt;
-            is_run(rt.alloc(), &[], &(Asked::Fmt, settings, input, 0, text)),
+            is_run(rt.alloc(), &(Asked::Fmt, settings, input, 0, text)),
             "{input}"
         );
     }

@@ -234,13 +234,13 @@ pub static REFUSED: [(&str, &str); 28] = [
 fn prints_events_or_refuses(rt: HostRuntime) {
     for (input, events) in &ACCEPTED {
         assert!(rt;
-            is_run(rt.alloc(), &[], &(Asked::Events, "", input, 0, events)),
+            is_run(rt.alloc(), &(Asked::Events, "", input, 0, events)),
             "{input}"
         );
     }
     for (input, line) in &REFUSED {
         assert!(rt;
-            is_run(rt.alloc(), &[], &(Asked::Events, "", input, 2, line)),
+            is_run(rt.alloc(), &(Asked::Events, "", input, 2, line)),
             "{input}"
         );
     }

@@ -360,13 +360,13 @@ static REFUSED: [(&str, &str); 5] = [
 fn formats_or_refuses(rt: HostRuntime) {
     for (settings, input, text) in &FORMATTED {
         assert!(rt;
-            is_run(rt.alloc(), &[], &(Asked::Fmt, settings, input, 0, text)),
+            is_run(rt.alloc(), &(Asked::Fmt, settings, input, 0, text)),
             "{input}"
         );
     }
     for (input, line) in &REFUSED {
         assert!(rt;
-            is_run(rt.alloc(), &[], &(Asked::Fmt, "", input, 2, line)),
+            is_run(rt.alloc(), &(Asked::Fmt, "", input, 2, line)),
             "{input}"
         );
     }

@@ -156,9 +156,9 @@ static ROWS: [Row; 21] = [
 /// Whether the text has this formatting, and that is told of it and nothing of its formatting.
 fn is_told(alloc: Global, row: &Row) -> bool {
     let (asked, text, formatted, told) = *row;
-    is_run(alloc, &[], &(Asked::Fmt, "", text, 0, formatted))
-        && is_run(alloc, &[], &(asked, "", text, 1, told))
-        && is_run(alloc, &[], &(asked, "", formatted, 0, ""))
+    is_run(alloc, &(Asked::Fmt, "", text, 0, formatted))
+        && is_run(alloc, &(asked, "", text, 1, told))
+        && is_run(alloc, &(asked, "", formatted, 0, ""))
 }
 
 /// Settings, a text in which a character is hidden that they escape, and what is told of it.
@@ -179,11 +179,10 @@ fn tells_what_fmt_changes(rt: HostRuntime) {
     assert!(rt;
         is_run(
             rt.alloc(),
-            &[],
             &(Asked::FmtCheck, HIDDEN.0, HIDDEN.1, 1, HIDDEN.2)
         )
     );
     for asked in [Asked::FmtCheck, Asked::FmtDiff] {
-        assert!(rt; is_run(rt.alloc(), &[], &(asked, "", REFUSED.0, 2, REFUSED.1)));
+        assert!(rt; is_run(rt.alloc(), &(asked, "", REFUSED.0, 2, REFUSED.1)));
     }
 }

@@ -1,14 +1,14 @@
 //! Readers, writers and memory that fail, and streams that are cut: each run answers in full, or says why it can't.
 
-use crate::tests::answers::{Answer, Asked, answer_over, answer_to, command};
+use crate::tests::answers::{Answer, Asked, answer_over, answer_to, task};
 use crate::tests::events::{ACCEPTED, REFUSED};
 use crate::tests::faulty::{FaultyReader, FaultyWriter};
-use std::alloc::{AllocError, Global};
+use std::alloc::Global;
+use yf_command_line::command::Input;
 use yf_forms::style::Style;
 use yf_lines::watched::{Sink, Source, Watched};
 use yf_program::program::run;
-use yf_rules::rule::Rule;
-use yf_rules::with_rules::{WithRules, with_all_rules};
+use yf_program::streams::Streams;
 
 static COMMANDS: [Asked; 3] = [Asked::Events, Asked::Check, Asked::Fmt];
 
@@ -39,51 +39,34 @@ enum Failing {
     Memory,
 }
 
-/// What fails while commands run.
-#[derive(Drop)]
-struct Failures {
-    alloc: Global,
-    failing: Failing,
-}
-
-impl WithRules for Failures {
-    type Value = bool;
-
-    /// Whether each command answers as it should on each input, with these rules.
-    fn with_rules(&mut self, rules: &[Box<dyn Rule>]) -> bool {
-        let Failures { alloc, failing } = *self;
-        for input in &INPUTS {
-            if !holds_on(alloc, rules, failing, input.as_bytes()) {
-                return false;
-            }
+/// Whether each command answers as it should on each input where that fails.
+fn holds(alloc: Global, failing: Failing) -> bool {
+    for input in &INPUTS {
+        if !holds_on(alloc, failing, input.as_bytes()) {
+            return false;
         }
-        let dashes = nested_dashes();
-        // The deepest one has thousands of writes, so there only a part of it.
-        let deep = match failing {
-            Failing::Reads | Failing::Memory => &dashes[..],
-            Failing::Writes => &dashes[1984..],
-        };
-        holds_on(alloc, rules, failing, deep)
     }
+    let dashes = nested_dashes();
+    // The deepest one has thousands of writes, so there only a part of it.
+    let deep = match failing {
+        Failing::Reads | Failing::Memory => &dashes[..],
+        Failing::Writes => &dashes[1984..],
+    };
+    holds_on(alloc, failing, deep)
 }
 
 /// Whether each command answers as it should on an input where that fails.
-fn holds_on(alloc: Global, rules: &[Box<dyn Rule>], failing: Failing, input: &[u8]) -> bool {
+fn holds_on(alloc: Global, failing: Failing, input: &[u8]) -> bool {
     for asked in &COMMANDS {
         let trial = Trial {
             alloc,
             asked: *asked,
-            rules,
             input,
         };
         let good = match failing {
             Failing::Reads | Failing::Writes => {
                 let style = Style::house();
-                is_refused_by_each(
-                    trial,
-                    failing,
-                    &answer_to(alloc, *asked, rules, &style, input),
-                )
+                is_refused_by_each(trial, failing, &answer_to(alloc, *asked, &style, input))
             }
             Failing::Memory => is_refused_by_memory_alone(trial),
         };
@@ -94,12 +77,11 @@ fn holds_on(alloc: Global, rules: &[Box<dyn Rule>], failing: Failing, input: &[u
     true
 }
 
-/// A command with its rules, and an input.
+/// A command and an input.
 #[derive(Clone, Copy)]
 struct Trial<'a> {
     alloc: Global,
     asked: Asked,
-    rules: &'a [Box<dyn Rule>],
     input: &'a [u8],
 }
 
@@ -129,14 +111,8 @@ fn ended_after_reads(trial: Trial, reads: usize, full: &Answer) -> Ended {
         rest: trial.input,
         reads_left: reads,
     });
-    let mut writer = Watched::new(Vec::new(trial.alloc));
-    let (status, line) = answer_over(
-        trial.alloc,
-        trial.asked,
-        trial.rules,
-        &mut reader,
-        &mut writer,
-    );
+    let writer = Watched::new(Vec::new(trial.alloc));
+    let (status, writer, line) = answer_over(trial.alloc, trial.asked, &mut reader, writer);
     let output = writer.get_ref().as_slice();
     let holds = if reader.failed() {
         status == 3 && line.as_slice() == b"read failed\n".as_slice() && output.is_empty()
@@ -148,17 +124,12 @@ fn ended_after_reads(trial: Trial, reads: usize, full: &Answer) -> Ended {
 
 /// How the command ends where so many writes succeed.
 fn ended_after_writes(trial: Trial, writes: usize, full: &Answer) -> Ended {
-    let mut writer = Watched::new(FaultyWriter {
+    let writer = Watched::new(FaultyWriter {
         taken: Vec::new(trial.alloc),
         writes_left: writes,
     });
-    let (status, line) = answer_over(
-        trial.alloc,
-        trial.asked,
-        trial.rules,
-        &mut Watched::new(trial.input),
-        &mut writer,
-    );
+    let mut reader = Watched::new(trial.input);
+    let (status, writer, line) = answer_over(trial.alloc, trial.asked, &mut reader, writer);
     let taken = writer.get_ref().taken.as_slice();
     let wanted = full.output.as_slice();
     let holds = if writer.failed() {
@@ -201,14 +172,16 @@ struct Held {
 fn held_answer(trial: Trial) -> Held {
     let mut output = [0; ROOM];
     let mut line = [0; 32];
+    let mut streams = Streams {
+        output: Watched::new(output.as_mut_slice()),
+        errors: Watched::new(line.as_mut_slice()),
+    };
     let status = run(
         trial.alloc,
-        &command(trial.alloc, trial.asked),
-        trial.rules,
-        &Style::house(),
+        &task(trial.alloc, trial.asked, &Style::house()),
+        &Input::Standard,
         &mut Watched::new(trial.input),
-        &mut Watched::new(output.as_mut_slice()),
-        &mut Watched::new(line.as_mut_slice()),
+        &mut streams,
     );
     Held {
         status,
@@ -239,15 +212,6 @@ fn is_refused_by_memory_alone(trial: Trial) -> bool {
     first.status < 2 && first.status == second.status && first.output == second.output
 }
 
-/// Whether each command answers as it should on each input where that fails.
-fn holds(alloc: Global, failing: Failing) -> bool {
-    match with_all_rules(alloc, &mut Failures { alloc, failing }) {
-        Ok(good) => good,
-        // there may be no memory for the rules where it is refused
-        Err(AllocError) => matches!(failing, Failing::Memory),
-    }
-}
-
 #[test]
 fn answers_where_reads_and_writes_fail(rt: HostRuntime) {
     assert!(rt; holds(rt.alloc(), Failing::Reads));
@@ -263,8 +227,8 @@ fn answers_where_memory_is_refused(rt: HostRuntime) {
 fn writes_a_front(alloc: Global, asked: Asked, front: &[u8]) -> bool {
     let mut room = [0; 3];
     let mut reader = Watched::new(b"- a\n- b\n".as_slice());
-    let mut writer = Watched::new(room.as_mut_slice());
-    let (status, line) = answer_over(alloc, asked, &[], &mut reader, &mut writer);
+    let writer = Watched::new(room.as_mut_slice());
+    let (status, _, line) = answer_over(alloc, asked, &mut reader, writer);
     status == 3 && line.as_slice() == b"write failed\n".as_slice() && room.as_slice() == front
 }
 
@@ -286,7 +250,7 @@ static STREAMS: [(&str, &str); 5] = [
 /// Whether a stream was accepted, or refused with nothing written.
 fn is_good(answer: &Answer) -> bool {
     match answer.status {
-        0 => answer.line.is_empty(),
+        0 | 1 => answer.line.is_empty(),
         2 => answer.output.is_empty(),
         _ => false,
     }
@@ -296,7 +260,7 @@ fn is_good(answer: &Answer) -> bool {
 fn answers_each_front(alloc: Global, stream: &[u8]) -> bool {
     for end in 0..=stream.len() {
         for asked in &COMMANDS {
-            if !is_good(&answer_to(alloc, *asked, &[], &Style::house(), &stream[..end])) {
+            if !is_good(&answer_to(alloc, *asked, &Style::house(), &stream[..end])) {
                 return false;
             }
         }

@@ -130,9 +130,9 @@ fn is_answered(alloc: Global, text: &Result<String, AllocError>, line: &str) -> 
     match text {
         Ok(text) if line.is_empty() => {
             let input = text.as_str().as_bytes();
-            answer_to(alloc, Asked::Events, &[], &Style::house(), input).status == 0
+            answer_to(alloc, Asked::Events, &Style::house(), input).status == 0
         }
-        Ok(text) => is_run(alloc, &[], &(Asked::Events, "", text.as_str(), 2, line)),
+        Ok(text) => is_run(alloc, &(Asked::Events, "", text.as_str(), 2, line)),
         Err(AllocError) => false,
     }
 }
@@ -174,7 +174,6 @@ fn keeps_blocks(alloc: Global, count: usize) -> bool {
     match &nested_comments(alloc, count) {
         Ok(text) => is_run(
             alloc,
-            &[],
             &(
                 Asked::Fmt,
                 "comments = \"block\"\ndocument_start = \"keep\"",
@@ -193,11 +192,9 @@ fn formats(alloc: Global, settings: &str, input: &Repeated, text: &Repeated) -> 
         (Ok(input), Ok(text)) => {
             is_run(
                 alloc,
-                &[],
                 &(Asked::Fmt, settings, input.as_str(), 0, text.as_str()),
             ) && is_run(
                 alloc,
-                &[],
                 &(Asked::Fmt, settings, text.as_str(), 0, text.as_str()),
             )
         }

@@ -3,26 +3,28 @@
 use crate::tests::faulty::FaultyWriter;
 use std::alloc::Global;
 use std::io::BufWriter;
+use yf_command_line::usage::Usage;
 use yf_lines::watched::{Sink, Watched};
-use yf_program::command_line::Usage;
 use yf_program::program::{answer_usage, written_out};
+use yf_program::streams::{Streams, in_memory};
 
 /// Whether a usage is answered with that status, and these texts on the two streams.
 fn answers(alloc: Global, usage: &Usage, status: u8, output: &str, line: &str) -> bool {
-    let mut writer = Watched::new(Vec::new(alloc));
-    let mut error_stream = Watched::new(Vec::new(alloc));
-    answer_usage(usage, &mut writer, &mut error_stream) == status
-        && writer.get_ref().as_slice() == output.as_bytes()
-        && error_stream.get_ref().as_slice() == line.as_bytes()
+    let mut streams = in_memory(alloc);
+    answer_usage(usage, &mut streams) == status
+        && streams.output.get_ref().as_slice() == output.as_bytes()
+        && streams.errors.get_ref().as_slice() == line.as_bytes()
 }
 
 /// Whether a run that has ended well with one byte held back, before such a writer, has that status and that line of faults.
 fn ends_before(alloc: Global, held_back: BufWriter<FaultyWriter>, status: u8, line: &str) -> bool {
-    let mut writer = Watched::new(held_back);
-    let mut error_stream = Watched::new(Vec::new(alloc));
-    let _ = writer.write_watched(b"a");
-    let answer = written_out(0, &mut writer, &mut error_stream);
-    answer == status && error_stream.get_ref().as_slice() == line.as_bytes()
+    let mut streams = Streams {
+        output: Watched::new(held_back),
+        errors: Watched::new(Vec::new(alloc)),
+    };
+    let _ = streams.output.write_watched(b"a");
+    let answer = written_out(0, &mut streams);
+    answer == status && streams.errors.get_ref().as_slice() == line.as_bytes()
 }
 
 /// The same before a writer that takes so many writes.

@@ -5,7 +5,7 @@ use std::alloc::Global;
 use yf_forms::style::{CommentColumns, DocumentStart};
 use yf_lines::invisible::Invisible;
 use yf_lines::quotes::Quotes;
-use yf_program::settings::style_from_toml;
+use yf_settings::settings::style_from_toml;
 
 /// A settings file, and what it sets: `indent`, `max_line`, `quotes`, `seq_indent`, whether a first document without a `---` stays so,
 /// whether comments keep their blocks, and whether hidden characters are escaped.
@@ -172,7 +172,7 @@ fn sets_what_is_named_or_names_the_least_wrong_key(rt: HostRuntime) {
     }
     for (settings, line) in &REFUSED {
         assert!(rt;
-            is_run(rt.alloc(), &[], &(Asked::Events, settings, "", 3, line)),
+            is_run(rt.alloc(), &(Asked::Events, settings, "", 3, line)),
             "{settings}"
         );
     }

@@ -1,9 +1,10 @@
 -- The lines of the findings that are left are those of the next one and of the ones after it.
-use Rattle.std.proofs.Common.{◌≡◌, ℕ, ◌+◌, ◌<◌, ◌≤◌, List, ◌∷◌, ◌++◌, Bool, Option, Result, Ok, Err, length, drop, get_or, ap, sym, ◌∙◌, subst, add-one, drop-cons}
-use Rattle.std.specs.Prelude.{IfOk}
+use Rattle.std.proofs.Common.{◌≡◌, ℕ, ◌+◌, ◌<◌, ◌≤◌, List, ◌∷◌, ◌++◌, Bool, Option, Result, Ok, Err, length, drop, get_or, ap, sym, subst, add-one, drop-cons}
+use Rattle.std.specs.Prelude.{IfErr, IfOk}
 use Rattle.std.specs.Str.{IsUtf8}
 use Rattle.yf_lines.specs.Lines.{AreLines, Table}
-use Rattle.yf_lines.specs.Output.{Wrote, Broke}
+use Rattle.yf_lines.specs.declared.fault.Fault.{Fault}
+use Rattle.yf_lines.specs.declared.fault.Fault.TheVariants.{WriteFailed}
 use Rattle.yf_events.specs.declared.lists.Lists.{Lists}
 use Rattle.yf_events.specs.declared.reading.TheConstants.{DEPTH}
 use Rattle.yf_events.specs.Nested.{IsStream}
@@ -15,7 +16,9 @@ use Rattle.yf_rules.specs.declared.finding.Finding.{Finding}
 use Rattle.yf_rules.specs.declared.run.TheConstants.{INPUT_LIMIT}
 use Rattle.yf_laws.specs.Mended.{IsFormatted}
 use Rattle.yf_rules.specs.NothingToFix.{NoneFixable}
-use Rattle.yf_rules.specs.Runs.Run.{CheckResult, Gave, finding_line, findings_text, has_any}
+use Rattle.yf_rules.specs.Runs.ByteStream.{ByteStream, BreaksOff, Writes}
+use Rattle.yf_rules.specs.Runs.Run.{CheckClaim, CheckResult, FindingsWritten, Gave, RefusedCheck, finding_line, findings_text, has_any}
+use Rattle.yf_rules.proofs.Runs.GivenTexts.{GivenText, left_of}
 use Rattle.yf_stream.specs.ReadingOf.{ReadingOf}
 use Rattle.yf_stream.specs.StreamReader.{TheReading}
 use Rattle.yf_rules.specs.Findings.{FoundIn}
@@ -52,14 +55,14 @@ found_text C style src reading items (Ok v) same lines nested reads checked mend
 found_text C style src reading items (Err e) same lines nested reads checked mended = tt
 
 -- what the rules find in the text that was read
-pub found_in : {C : Table → Lists → List Finding → Type 0} {style : Style} {known : Option (List ℕ)} {text bytes : List ℕ} {findings : List Finding}
-    → FoundIn C style text findings → text ≡ bytes → Gave known bytes → length bytes ≤ INPUT_LIMIT → IsUtf8 text → CheckResult C style known findings
-found_in {style = style} {known = known} {text = text} found same gave within utf8 = record {
+pub found_in : {C : CheckClaim} {style : Style} {known : Option (List ℕ)} {text : List ℕ} {findings : List Finding}
+    → FoundIn C style text findings → GivenText known text → CheckResult C style known findings
+found_in {style = style} {known = known} found given = record {
   src = found.src;
   reading = found.reading;
-  gave = subst (λ t. Gave known t) (sym (found.of_text ∙ same)) gave;
-  within = subst (λ t. length t ≤ INPUT_LIMIT) (sym (found.of_text ∙ same)) within;
-  utf8 = subst (λ t. IsUtf8 t) (sym found.of_text) utf8;
+  gave = subst (λ t. Gave known t) (sym found.of_text) given.gave;
+  within = subst (λ t. length t ≤ INPUT_LIMIT) (sym found.of_text) given.within;
+  utf8 = subst (λ t. IsUtf8 t) (sym found.of_text) given.utf8;
   lines = found.lines;
   nested = found.nested;
   reads = subst (λ t. TheReading t found.reading) (sym found.of_text) found.reads;
@@ -67,14 +70,32 @@ found_in {style = style} {known = known} {text = text} found same gave within ut
   mends = λ source u formats. found.mends source u (subst (λ t. IsFormatting source style t) found.of_text formats);
 }
 
--- the same findings have the same lines
-pub wrote_same : {old new : Option (List ℕ)} {before after : Bool} {x y : List Finding} → x ≡ y
-    → Wrote old new before after (findings_text x) → Wrote old new before after (findings_text y)
-wrote_same {old} {new} {before} {after} e w = subst (λ z. Wrote old new before after (findings_text z)) e w
+-- the lines of what was found were written, or the writer failed
+pub lines_written : {C : CheckClaim} {style : Style} (input before after : ByteStream) {findings : List Finding}
+    (outcome : Result Bool Fault) → CheckResult C style input.contents findings
+    → IfOk outcome (λ any. Writes before after (findings_text findings)) → IfOk outcome (λ any. any ≡ has_any findings)
+    → IfOk outcome (λ any. FindingsWritten C style input before after any)
+lines_written input before after {findings} (Ok any) found wrote answer =
+    record { findings = findings; found = found; wrote = wrote; answer = answer }
+lines_written input before after (Err fault) found wrote answer = tt
 
-pub broke_same : {old new : Option (List ℕ)} {after : Bool} {x y : List Finding} → x ≡ y
-    → Broke old new after (findings_text x) → Broke old new after (findings_text y)
-broke_same {old} {new} {after} e w = subst (λ z. Broke old new after (findings_text z)) e w
+pub lines_broke : (C : CheckClaim) (style : Style) (input before after : ByteStream) {failed : Bool}
+    {findings : List Finding} (outcome : Result Bool Fault) → CheckResult C style input.contents findings → failed ≡ input.failed
+    → IfErr outcome (λ fault. (fault ≡ WriteFailed) × BreaksOff before after (findings_text findings))
+    → IfErr outcome (RefusedCheck C style input (left_of input failed) before after)
+lines_broke C style input before after (Ok any) found works broke = tt
+lines_broke C style input before after {failed} {findings} (Err fault) found works broke =
+    subst (RefusedCheck C style input (left_of input failed) before after) (sym broke.0)
+    (record { findings = findings; found = found; broke = broke.1 }, works)
+
+-- the same findings have the same lines
+pub wrote_same : (before after : ByteStream) {x y : List Finding} → x ≡ y → Writes before after (findings_text x)
+    → Writes before after (findings_text y)
+wrote_same before after same wrote = subst (λ z. Writes before after (findings_text z)) same wrote
+
+pub broke_same : (before after : ByteStream) {x y : List Finding} → x ≡ y
+    → BreaksOff before after (findings_text x) → BreaksOff before after (findings_text y)
+broke_same before after same broke = subst (λ z. BreaksOff before after (findings_text z)) same broke
 
 pub any_same : {x y : List Finding} → x ≡ y → has_any x ≡ has_any y
 any_same e = ap has_any e

@@ -17,7 +17,7 @@ use Rattle.yf_forms.specs.declared.style.Style.{Style}
 use Rattle.yf_laws.specs.Laws.{ReadingsAreOfTexts}
 use Rattle.yf_rule_sets.specs.RuleOf.{definition_of}
 use Rattle.yf_rule_sets.specs.RuleSets.Exact.{Exactly}
-use Rattle.yf_rule_sets.specs.RuleSets.Places.{IsPlaceIn, PlacesOf}
+use Rattle.yf_rule_sets.specs.RuleSets.Places.{PlacesOf}
 use Rattle.yf_rule_sets.specs.RuleSets.Places.FoundAt.{found_at}
 use Rattle.yf_rule_sets.specs.Sets.{WithoutFinalBreak}
 use Rattle.yf_rule_sets.specs.Sets.WithoutFinalBreak.{has_break, no_break, of_empty_text}
@@ -29,7 +29,6 @@ use Rattle.yf_rules.specs.Check.{InOrder, RuleFindings, SortedFrom, finding_at, 
 use Rattle.yf_rules.specs.Check.CheckAnswer.{checked}
 use Rattle.yf_rules.specs.Check.FindingsOf.{at_places}
 use Rattle.yf_rules.specs.Check.InOrder.{no_rules, one_more}
-use Rattle.yf_rules.specs.Findings.{FoundIn}
 use Rattle.yf_rules.specs.UniqueFindings.{FindingsAreOne, finding_values}
 use Rattle.yf_rules.specs.declared.finding.Finding.{Finding}
 use Rattle.yf_rules.proofs.Findings.SortedLists.{filter_values, stable_sort_one, strictly_sorted_one}

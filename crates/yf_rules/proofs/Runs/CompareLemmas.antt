@@ -1,6 +1,6 @@
 -- How far two texts are the same, and what the run that compares a text with its formatting has read and written.
 use Rattle.std.proofs.Common.{◌≡◌, ◌≢◌, ◌∙◌, ℕ, [], true, ◌<◌, ◌≤◌, List, length, take, refl, ap, sym, subst, ⊎_elim, arith}
-use Rattle.std.specs.Prelude.{Option, Some, None, Result, Ok, Err, IfOk, IfSome, MatchOption}
+use Rattle.std.specs.Prelude.{Option, Some, None, IfSome, MatchOption}
 use Rattle.std.proofs.Math.Seq.{take-length}
 use Rattle.std.specs.Str.{IsUtf8}
 use Rattle.std.proofs.lemmas.Str.{IsCharBoundary-start}
@@ -12,14 +12,13 @@ use Rattle.yf_lines.specs.declared.place.Position.{Position}
 use Rattle.yf_laws.specs.Format.{IsFormatting}
 use Rattle.yf_laws.specs.FormatPromises.{FormatKept}
 use Rattle.yf_forms.specs.declared.style.Style.{Style}
-use Rattle.yf_laws.specs.Formattings.{FormattingsHold}
 use Rattle.yf_laws.specs.Mended.{IsMended}
-use Rattle.yf_rules.specs.declared.run.TheConstants.{INPUT_LIMIT}
+use Rattle.yf_rules.specs.Headline.{Headline}
 use Rattle.yf_rules.specs.Runs.ByteStream.{ByteStream, Writes}
-use Rattle.yf_rules.specs.Runs.Compare.{CompareRun, DifferAt, Difference, DifferenceIn, DiffersFirst, IsClean, SameUpTo}
+use Rattle.yf_rules.specs.Runs.Compare.{CompareRun, DifferAt, Difference, DiffersFirst, IsClean, SameUpTo}
 use Rattle.yf_rules.specs.Runs.Compare.DiffersFirst.{differs_first}
-use Rattle.yf_rules.specs.Runs.Run.{Gave, FormattingGiven}
-use Rattle.yf_rules.proofs.HeadlineHolds.{headline_holds}
+use Rattle.yf_rules.specs.Runs.Run.{FormattingGiven}
+use Rattle.yf_rules.proofs.Runs.GivenTexts.{GivenText}
 
 -- texts that both end where they are the same so far are the same
 both_end : (t u : List ℕ) (at : ℕ) → SameUpTo t u at → at ≡ length t → at ≡ length u → t ≡ u
@@ -43,7 +42,8 @@ at_start t u utf8 other = record { boundary = IsCharBoundary-start t utf8; other
 are_apart : {t u : List ℕ} {place : Position} → DiffersFirst t u place → t ≢ u
 are_apart (differs_first {at = offset} d p) same = d.differ (ap (λ v. code v offset) same)
 
--- a text that is its formatting is one that formatting gives of it, with all that is said of that; and one that is not is not
+-- a text that is its formatting is one that formatting gives of it, with all that is said of that; and one that is not
+-- is not
 module _ {t u : List ℕ} {style : Style} (kept : FormatKept t style u) where
   pub own_formatting : t ≡ u → FormatKept t style t
   own_formatting same = subst (λ v. FormatKept t style v) (sym same) kept
@@ -62,18 +62,15 @@ mended_where t u style None same m = subst (λ v. IsMended v style) (sym same) m
 mended_where t u style (Some place) differs m = tt
 
 -- what is found of a text that was read
-pub difference_holds : FormattingsHold → {E : Type 0} (style : Style) (known : Option (List ℕ)) (t : List ℕ) → Gave known t → length t ≤ INPUT_LIMIT → IsUtf8 t
-    → (given : Result (Option Position) E) → IfOk given (DifferenceIn t style) → IfOk given (Difference style known)
-difference_holds laws style known t gave within utf8 (Ok place) d =
-    let headline = headline_holds laws within utf8 d.kept d.within in
-    record {
-      formatted = d.formatted;
-      rendered = record { text = t; gave = gave; headline = headline };
-      first = d.first;
-      exact = exactly d.kept place d.first;
-      mended = mended_where t d.formatted style place d.first headline.mended;
-    }
-difference_holds laws style known t gave within utf8 (Err e) d = tt
+pub difference_of : {style : Style} {known : Option (List ℕ)} {t u : List ℕ} → GivenText known t → Headline t style u → (place : Option Position)
+    → MatchOption place (t ≡ u) (DiffersFirst t u) → Difference style known place
+difference_of {style} {t = t} {u = u} given headline place first = record {
+  formatted = u;
+  rendered = record { text = t; gave = given.gave; headline = headline };
+  first = first;
+  exact = exactly headline.kept place first;
+  mended = mended_where t u style place first headline.mended;
+}
 
 -- what formatting gives has nothing that the house style fixes
 pub own_is_clean : {style : Style} {known : Option (List ℕ)} {formatted : List ℕ} (rendered : FormattingGiven style known formatted) → rendered.text ≡ formatted

@@ -1,16 +1,16 @@
--- What the run that formats has written, told by what was formatted and how its writing ended, and why nothing could be formatted.
-use Rattle.std.proofs.Common.{◌≡◌, ◌≤◌, ℕ, List, Bool, length, subst, sym}
+-- What the run that formats has written, told by what was formatted and how its writing ended, and why nothing could be
+-- formatted.
+use Rattle.std.proofs.Common.{◌≡◌, ℕ, List, Bool, subst, sym}
 use Rattle.std.specs.Prelude.{Result, Ok, Err, IfErr, OnOk}
-use Rattle.std.specs.Str.{IsUtf8}
 use Rattle.yf_forms.specs.declared.style.Style.{Style}
 use Rattle.yf_lines.specs.declared.fault.Fault.{Fault}
 use Rattle.yf_lines.specs.declared.fault.Fault.TheVariants.{Syntax, TooDeep, UnknownHandle, UnknownAlias, RepeatedDirective, BadVersion, EscapeValue, Memory}
 use Rattle.yf_stream.specs.Refusal.{IsStreamFault}
 use Rattle.yf_stream.specs.StreamReader.{StreamFault}
 use Rattle.yf_stream.proofs.Offsets.FaultsPlaced.{faults_are_placed}
-use Rattle.yf_rules.specs.declared.run.TheConstants.{INPUT_LIMIT}
 use Rattle.yf_rules.specs.Runs.ByteStream.{ByteStream, NothingWritten, Writes, BreaksOff, WriteEnds}
-use Rattle.yf_rules.specs.Runs.Run.{Gave, GaveNoStream, RefusedFmt, RefusedRun, RefusedText, FormattingGiven, FormattingWritten}
+use Rattle.yf_rules.proofs.Runs.GivenTexts.{GivenText, left_of}
+use Rattle.yf_rules.specs.Runs.Run.{GaveNoStream, RefusedFmt, RefusedRun, RefusedText, FormattingGiven, FormattingWritten}
 
 pub wrote_formatted : (style : Style) (input before after : ByteStream) (formatted text : List ℕ) (outcome : Result Unit Fault)
     → FormattingGiven style input.contents formatted → text ≡ formatted → WriteEnds before after text outcome → OnOk outcome (FormattingWritten style input before after)
@@ -20,10 +20,6 @@ wrote_formatted style input before after formatted text (Ok done) r e w = record
   wrote = subst (Writes before after) e w;
 }
 wrote_formatted style input before after formatted text (Err fault) r e w = tt
-
--- a reader after it was read; what it has left is of no account
-abbrev left_of : ByteStream → Bool → ByteStream
-left_of input failed = record { contents = input.contents; failed = failed }
 
 pub broke_formatted : (style : Style) (input : ByteStream) (failed : Bool) (before after : ByteStream) (formatted text : List ℕ) (outcome : Result Unit Fault)
     → FormattingGiven style input.contents formatted → text ≡ formatted → failed ≡ input.failed → WriteEnds before after text outcome
@@ -40,9 +36,9 @@ broke_formatted style input failed before after formatted text (Err fault) r e s
     )
 
 -- a text that the reader of streams refuses
-module _ (input : ByteStream) {failed : Bool} {t : List ℕ} (g : Gave input.contents t) (within : length t ≤ INPUT_LIMIT) (u : IsUtf8 t) (s : failed ≡ input.failed) where
+module _ (input : ByteStream) {failed : Bool} {t : List ℕ} (given : GivenText input.contents t) (s : failed ≡ input.failed) where
   no_stream_in : (fault : Fault) → StreamFault t fault → IsStreamFault t fault → GaveNoStream input.contents fault
-  no_stream_in fault w i = record { text = t; gave = g; within = within; utf8 = u; is = i; why = w }
+  no_stream_in fault w i = record { text = t; gave = given.gave; within = given.within; utf8 = given.utf8; is = i; why = w }
 
   refused_for : (fault : Fault) → StreamFault t fault → IsStreamFault t fault → RefusedText input (left_of input failed) fault
   refused_for (Syntax place what) w i = (no_stream_in (Syntax place what) w i, s)

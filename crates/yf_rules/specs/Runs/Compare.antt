@@ -1,5 +1,5 @@
 -- Whether a text is its own formatting, and where it differs from that first.
-use Rattle.std.specs.Prelude.{◌≡◌, ◌≢◌, ◌≤◌, ℕ, List, [], ◌∷◌, length, take, Bool, Option, Some, None, MatchOption, codes, decimal}
+use Rattle.std.specs.Prelude.{◌≡◌, ◌≢◌, ℕ, List, [], ◌∷◌, take, Bool, Option, Some, None, MatchOption, codes, decimal}
 use Rattle.std.specs.List.{concat}
 use Rattle.std.specs.Option.{is_none}
 use Rattle.std.specs.Str.{IsCharBoundary}
@@ -10,7 +10,6 @@ use Rattle.yf_lines.specs.declared.place.Position.{Position}
 use Rattle.yf_laws.specs.Format.{IsFormatting}
 use Rattle.yf_laws.specs.FormatPromises.{FormatKept}
 use Rattle.yf_forms.specs.declared.style.Style.{Style}
-use Rattle.yf_events.specs.declared.reading.TheConstants.{LONGEST}
 use Rattle.yf_laws.specs.Mended.{IsMended}
 use Rattle.yf_rules.specs.Runs.ByteStream.{ByteStream, Writes, BreaksOff}
 use Rattle.yf_rules.specs.Runs.Run.{RefusedRun, FormattingGiven}
@@ -30,21 +29,15 @@ pub record DifferAt (t u : List ℕ) (at : ℕ) : Type 0 where
 pub data DiffersFirst (t u : List ℕ) (place : Position) : Type 0 where
   differs_first : {at : ℕ} → DifferAt t u at → IsPlaceOf t at place → DiffersFirst t u place
 
--- a text was read, and the place is where it first differs from its formatting; there is none where it is its own formatting, and only there.
--- Then nothing in it is at fault that the house style fixes
+-- a text was read, and the place is where it first differs from its formatting; there is none where it is its own
+-- formatting, and only there. Then nothing in it is at fault that the house style fixes
 pub record Difference (style : Style) (known : Option (List ℕ)) (place : Option Position) : Type 0 where
   pub formatted : List ℕ
   pub rendered : FormattingGiven style known formatted
   pub first : MatchOption place (rendered.text ≡ formatted) (DiffersFirst rendered.text formatted)
-  pub exact : MatchOption place (FormatKept rendered.text style rendered.text) (λ _. IsFormatting rendered.text style rendered.text → ⊥)
+  pub exact : MatchOption place (FormatKept rendered.text style rendered.text)
+      (λ _. IsFormatting rendered.text style rendered.text → ⊥)
   pub mended : MatchOption place (IsMended rendered.text style) (λ _. Unit {0})
-
--- the same of a text, before it is known where it comes from
-pub record DifferenceIn (t : List ℕ) (style : Style) (place : Option Position) : Type 0 where
-  pub formatted : List ℕ
-  pub kept : FormatKept t style formatted
-  pub within : length formatted ≤ LONGEST
-  pub first : MatchOption place (t ≡ formatted) (DiffersFirst t formatted)
 
 -- the line of a text that is not its own formatting
 abbrev pub difference_line : Position → List ℕ
@@ -54,7 +47,8 @@ abbrev pub difference_text : Option Position → List ℕ
 difference_text None = []
 difference_text (Some place) = difference_line place
 
--- A text was read, and the result is whether it is its own formatting. If it isn't, the line with the position was written, and nothing else.
+-- A text was read, and the result is whether it is its own formatting. If it isn't, the line with the position was
+-- written, and nothing else.
 pub record CompareRun (style : Style) (input before after : ByteStream) (same : Bool) : Type 0 where
   pub place : Option Position
   pub difference : Difference style input.contents place
@@ -73,4 +67,5 @@ pub record BrokeOffDifference (style : Style) (input before after : ByteStream) 
 
 -- why the run that compares is refused
 abbrev pub RefusedCompare : Style → ByteStream → ByteStream → ByteStream → ByteStream → Fault → Type 0
-RefusedCompare style input left before after fault = RefusedRun (BrokeOffDifference style input before after) input left before after fault
+RefusedCompare style input left before after fault =
+    RefusedRun (BrokeOffDifference style input before after) input left before after fault

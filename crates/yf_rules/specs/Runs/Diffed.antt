@@ -1,26 +1,16 @@
 -- How a text differs from its formatting, as a unified diff.
-use Rattle.std.specs.Prelude.{◌≡◌, ◌≢◌, ◌≤◌, ℕ, List, [], length, Bool, true, false, Option}
+use Rattle.std.specs.Prelude.{◌≡◌, ◌≢◌, ℕ, List, [], Bool, true, false, Option}
 use Rattle.yf_diff.specs.Diff.{AddsDiff}
 use Rattle.yf_lines.specs.declared.fault.Fault.{Fault}
 use Rattle.yf_laws.specs.Format.{IsFormatting}
 use Rattle.yf_laws.specs.FormatPromises.{FormatKept}
 use Rattle.yf_forms.specs.declared.style.Style.{Style}
-use Rattle.yf_events.specs.declared.reading.TheConstants.{LONGEST}
 use Rattle.yf_laws.specs.Mended.{IsMended}
 use Rattle.yf_rules.specs.Runs.ByteStream.{ByteStream, Writes, BreaksOff}
 use Rattle.yf_rules.specs.Runs.Run.{RefusedRun, FormattingGiven}
 
--- that is the diff of a text and its formatting, both under the name; it is empty where they are the same, and only there
-pub record DiffIn (t : List ℕ) (style : Style) (name diff : List ℕ) : Type 0 where
-  pub formatted : List ℕ
-  pub kept : FormatKept t style formatted
-  pub within : length formatted ≤ LONGEST
-  pub written : AddsDiff name name t formatted [] diff
-  pub told : diff ≡ [] → t ≡ formatted
-  pub same : t ≡ formatted → diff ≡ []
-
--- The same of a text that was read. The diff is empty where the text is its own formatting, and only there; then nothing in it is at fault that the
--- house style fixes.
+-- A text was read, and this is the diff of it and its formatting, both under the name. The diff is empty exactly if the
+-- text is its own formatting; then nothing in it is at fault that the house style fixes.
 pub record DiffOf (style : Style) (name : List ℕ) (known : Option (List ℕ)) (diff : List ℕ) : Type 0 where
   pub formatted : List ℕ
   pub rendered : FormattingGiven style known formatted
@@ -35,7 +25,8 @@ abbrev pub is_same : List ℕ → Bool
 is_same [] = true
 is_same _ = false
 
--- A text was read, the diff of it and its formatting was written, and nothing else, and the result is whether the text is its own formatting.
+-- A text was read, the diff of it and its formatting was written, and nothing else, and the result is whether the text
+-- is its own formatting.
 pub record DiffRun (style : Style) (name : List ℕ) (input before after : ByteStream) (same : Bool) : Type 0 where
   pub diff : List ℕ
   pub of_text : DiffOf style name input.contents diff
@@ -51,4 +42,5 @@ pub record BrokeOffDiff (style : Style) (name : List ℕ) (input before after : 
 
 -- why the run that prints the diff is refused
 abbrev pub RefusedDiff : Style → List ℕ → ByteStream → ByteStream → ByteStream → ByteStream → Fault → Type 0
-RefusedDiff style name input left before after fault = RefusedRun (BrokeOffDiff style name input before after) input left before after fault
+RefusedDiff style name input left before after fault =
+    RefusedRun (BrokeOffDiff style name input before after) input left before after fault

@@ -1,7 +1,8 @@
 -- What reading a whole input may return.
-use Rattle.std.specs.Prelude.{◌≡◌, ℕ, ◌<◌, ◌⊎◌, length, true, IfSome}
+use Rattle.std.specs.Prelude.{◌≡◌, ℕ, ◌<◌, ◌⊎◌, List, length, true, IfSome}
+use Rattle.std.specs.Str.{IsUtf8, IsValidUpTo}
 use Rattle.yf_lines.specs.declared.fault.Fault.{Fault}
-use Rattle.yf_lines.specs.declared.fault.Fault.TheVariants.{Memory, ReadFailed}
+use Rattle.yf_lines.specs.declared.fault.Fault.TheVariants.{Memory, NotUtf8, ReadFailed}
 use Rattle.yf_rules.specs.Runs.ByteStream.{ByteStream, NoFailure}
 
 -- The reader has more bytes than the limit, if its bytes are known.
@@ -14,3 +15,8 @@ abbrev pub ReadRefusal : ℕ → ByteStream → ByteStream → Fault → Type 0
 ReadRefusal limit input left Memory = NoFailure input left
 ReadRefusal limit input left ReadFailed = (left.failed ≡ true) ⊎ (Exceeds input limit × NoFailure input left)
 ReadRefusal limit input left _ = ⊥
+
+-- The bytes are no text, and the fault says where their longest prefix that is one ends.
+abbrev pub IsNoText : List ℕ → Fault → Type 0
+IsNoText bytes (NotUtf8 offset) = (¬ IsUtf8 bytes) × IsValidUpTo bytes offset
+IsNoText bytes _ = ⊥

@@ -1,10 +1,13 @@
 -- What the runs do, by what their reader gave: of the text that was read they use its reading, and there is no other.
--- (known: what the reader had to give, if that is known; input, left: the reader before and after the run; before, after: the writer)
+-- (known: what the reader had to give, if that is known; input, left: the reader before and after the run; before,
+-- after: the writer)
 use Rattle.std.specs.Prelude.{◌≡◌, ◌≤◌, ℕ, List, [], ◌∷◌, length, Bool, true, false, Option, IfSome, codes, decimal}
 use Rattle.std.specs.List.{concat, flat_map}
 use Rattle.std.specs.Str.{IsUtf8, IsValidUpTo}
 use Rattle.yf_lines.specs.declared.fault.Fault.{Fault}
-use Rattle.yf_lines.specs.declared.fault.Fault.TheVariants.{NotUtf8, Syntax, TooDeep, UnknownHandle, UnknownAlias, RepeatedDirective, BadVersion, EscapeValue, Memory, ReadFailed, WriteFailed}
+use Rattle.yf_lines.specs.declared.fault.Fault.TheVariants.{NotUtf8, Syntax, TooDeep, UnknownHandle, UnknownAlias}
+use Rattle.yf_lines.specs.declared.fault.Fault.TheVariants.{RepeatedDirective, BadVersion, EscapeValue}
+use Rattle.yf_lines.specs.declared.fault.Fault.TheVariants.{Memory, ReadFailed, WriteFailed}
 use Rattle.yf_lines.specs.Lines.{AreLines, Table}
 use Rattle.yf_events.specs.declared.lists.Lists.{Lists}
 use Rattle.yf_events.specs.declared.reading.TheConstants.{DEPTH}
@@ -66,8 +69,8 @@ pub record GaveNoText (known : Option (List ℕ)) (offset : ℕ) : Type 0 where
   pub none : ¬ IsUtf8 bytes
   pub front : IsValidUpTo bytes offset
 
--- A text was read, and the fault is one of the reader of streams, with a position in the text: the text is no stream, or breaches the rule that the
--- fault names.
+-- A text was read, and the fault is one of the reader of streams, with a position in the text: the text is no stream,
+-- or breaches the rule that the fault names.
 pub record GaveNoStream (known : Option (List ℕ)) (fault : Fault) : Type 0 where
   pub text : List ℕ
   pub gave : Gave known text
@@ -82,7 +85,9 @@ fixable_word true = codes " (fixable)"
 fixable_word false = []
 
 abbrev pub finding_line : Finding → List ℕ
-finding_line f = concat (decimal f.place.line ∷ codes ":" ∷ decimal f.place.column ∷ codes " " ∷ f.id.now ∷ fixable_word f.fixable ∷ codes "\n" ∷ [])
+finding_line f =
+    concat (decimal f.place.line ∷ codes ":" ∷ decimal f.place.column ∷ codes " " ∷ f.id.now ∷ fixable_word f.fixable
+    ∷ codes "\n" ∷ [])
 
 abbrev pub findings_text : List Finding → List ℕ
 findings_text findings = flat_map finding_line findings
@@ -91,9 +96,11 @@ abbrev pub has_any : List Finding → Bool
 has_any [] = false
 has_any (f ∷ rest) = true
 
--- A text was read, its lines are these, and in its reading, whose events are a well nested stream, the rules find this; C says what the
--- rules find. If the text is the formatting of some text in the style, the house style fixes none of it.
-pub record CheckResult (C : CheckClaim) (style : Style) (known : Option (List ℕ)) (findings : List Finding) : Type 0 where
+-- A text was read, its lines are these, and in its reading, whose events are a well nested stream, the rules find this;
+-- C says what the rules find. If the text is the formatting of some text in the style, the house style fixes none of
+-- it.
+pub record CheckResult (C : CheckClaim) (style : Style) (known : Option (List ℕ)) (findings : List Finding)
+    : Type 0 where
   pub src : Table
   pub reading : Lists
   pub gave : Gave known src.text
@@ -106,7 +113,8 @@ pub record CheckResult (C : CheckClaim) (style : Style) (known : Option (List �
   pub mends : (source : List ℕ) → IsUtf8 source → IsFormatting source style src.text → NoneFixable findings
 
 -- A line was written for each finding, and the result is whether there is one.
-pub record FindingsWritten (C : CheckClaim) (style : Style) (input before after : ByteStream) (any : Bool) : Type 0 where
+pub record FindingsWritten (C : CheckClaim) (style : Style) (input before after : ByteStream) (any : Bool)
+    : Type 0 where
   pub findings : List Finding
   pub found : CheckResult C style input.contents findings
   pub wrote : Writes before after (findings_text findings)
@@ -143,7 +151,8 @@ RefusedText input left (Syntax place what) = GaveNoStream input.contents (Syntax
 RefusedText input left (TooDeep place) = GaveNoStream input.contents (TooDeep place) × NoFailure input left
 RefusedText input left (UnknownHandle place) = GaveNoStream input.contents (UnknownHandle place) × NoFailure input left
 RefusedText input left (UnknownAlias place) = GaveNoStream input.contents (UnknownAlias place) × NoFailure input left
-RefusedText input left (RepeatedDirective place) = GaveNoStream input.contents (RepeatedDirective place) × NoFailure input left
+RefusedText input left (RepeatedDirective place) =
+    GaveNoStream input.contents (RepeatedDirective place) × NoFailure input left
 RefusedText input left (BadVersion place) = GaveNoStream input.contents (BadVersion place) × NoFailure input left
 RefusedText input left (EscapeValue place) = GaveNoStream input.contents (EscapeValue place) × NoFailure input left
 RefusedText input left Memory = NoFailure input left
@@ -161,8 +170,10 @@ RefusedEvents input left before after fault = RefusedRun (BrokeOff input before 
 
 -- of the run that checks
 abbrev pub RefusedCheck : CheckClaim → Style → ByteStream → ByteStream → ByteStream → ByteStream → Fault → Type 0
-RefusedCheck C style input left before after fault = RefusedRun (BrokeOffLines C style input before after) input left before after fault
+RefusedCheck C style input left before after fault =
+    RefusedRun (BrokeOffLines C style input before after) input left before after fault
 
 -- of the run that formats
 abbrev pub RefusedFmt : Style → ByteStream → ByteStream → ByteStream → ByteStream → Fault → Type 0
-RefusedFmt style input left before after fault = RefusedRun (BrokeOffText style input before after) input left before after fault
+RefusedFmt style input left before after fault =
+    RefusedRun (BrokeOffText style input before after) input left before after fault

@@ -5,8 +5,6 @@ ghost use Rattle.yf_events.specs.Reading.{ListsFit};
 use crate::tests::answers::reading_of;
 use crate::tests::laws::has_same_content;
 use std::alloc::{AllocError, Global};
-use yf_emit::normal::normal;
-use yf_emit::print::print;
 use yf_events::event::{NewEvent, PlacedEvent, ScalarStyle};
 use yf_events::lists::Lists;
 use yf_events::reading::Reading;
@@ -17,8 +15,8 @@ use yf_forms::style::Style;
 use yf_forms::text::wanted::wanted_style;
 use yf_lines::fault::Fault;
 use yf_lines::source_text::Src;
-use yf_lines::watched::Watched;
 use yf_props::props::Props;
+use yf_rules::format::format;
 
 /// What is asked of a reading.
 #[derive(Clone, Copy)]
@@ -37,8 +35,8 @@ enum Asked {
     Kept(usize, &'static str),
     /// Whether the key that an event begins is written without `?`.
     Implicit(usize, bool),
-    /// How its normal form is printed.
-    Printed(&'static str),
+    /// How its text is formatted.
+    Formatted(&'static str),
 }
 
 /// The mark and returns of a text are dropped, and its style is mended.
@@ -103,14 +101,14 @@ static ROWS: [(&str, Asked); 20] = [
     ("[ # c\n]\n", Asked::Kept(2, "")),
     ("? [a]\n: v\n", Asked::Implicit(3, true)),
     ("---\n? |\n  x\n: y\n", Asked::Implicit(3, false)),
-    ("- a\n- b\n", Asked::Printed("---\n- a\n- b\n")),
+    ("- a\n- b\n", Asked::Formatted("---\n- a\n- b\n")),
     (
         MARKED,
-        Asked::Printed("---\na: \"x\"  # c\nb: |\n  y \na: 1\n"),
+        Asked::Formatted("---\na: \"x\"  # c\nb: |\n  y \na: 1\n"),
     ),
     (
         "a: ['x', # c\n y]\n",
-        Asked::Printed("---\na:\n  - \"x\"  # c\n  - y\n"),
+        Asked::Formatted("---\na:\n  - \"x\"  # c\n  - y\n"),
     ),
 ];
 
@@ -179,14 +177,10 @@ fn is_kept(kept: &Result<Option<String>, Fault>, wanted: &str) -> bool {
     }
 }
 
-/// Whether there is a normal form, and it is printed so.
-fn is_printed(alloc: Global, src: &Src, normal: &Read, wanted: &str) -> bool {
-    let mut writer = Watched::new(Vec::new(alloc));
-    match normal {
-        Ok(normal) => {
-            print(alloc, src.text(), normal, &Style::house(), &mut writer).is_ok()
-                && writer.get_ref().as_slice() == wanted.as_bytes()
-        }
+/// Whether that is the formatting of a text.
+fn is_formatting(formatted: &Result<String, Fault>, wanted: &str) -> bool {
+    match formatted {
+        Ok(text) => text.as_str() == wanted,
         Err(_) => false,
     }
 }
@@ -203,12 +197,7 @@ fn is_told_of(alloc: Global, src: &Src, reading: &Reading, asked: Asked) -> bool
         Asked::Implicit(i, wanted) => {
             matches!(implicit_key(alloc, src, reading, i, &style), Ok(told) if told == wanted)
         }
-        Asked::Printed(wanted) => is_printed(
-            alloc,
-            src,
-            &normal(alloc, src, reading, &style),
-            wanted,
-        ),
+        Asked::Formatted(wanted) => is_formatting(&format(alloc, src.text(), &style), wanted),
     }
 }
 

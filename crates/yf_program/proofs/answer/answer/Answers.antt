@@ -1,12 +1,12 @@
-use Rattle.yf_rules.specs.Runs.ByteStream.{stream_of}
-use Rattle.yf_program.specs.World.{streams_of}
+use Rattle.std.proofs.Common.{List, ℕ, inl, inr, refl, subst}
+use Rattle.yf_command_line.specs.Requests.{AsksFor, RefusesWords}
+use Rattle.yf_rules.specs.AllRules.{rule_names}
 use Rattle.yf_program.proofs.answer.answer.Goals as goal
 
-pub returns : goal.returns
-returns g c = record {
-  run = c.follow-status.result;
-  streams = streams_of (stream_of g.W.Write.contents g.W.Sink.has_failed c.follow-status.new.writer)
-      (stream_of g.E.Write.contents g.E.Sink.has_failed c.follow-status.new.error_stream);
-  follows = c.follow-status.ensures;
+pub returns-in-Ok : goal.returns-in-Ok
+returns-in-Ok g c = record {
+  run = c.do_request-status.result;
+  streams = c.do_request-status.new.streams;
+  follows = inl (c.in-Ok.request, c.in-Ok.ensures, c.do_request-status.ensures);
   out = c.written_out.ensures;
 }

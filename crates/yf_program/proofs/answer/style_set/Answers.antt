@@ -1,12 +1,11 @@
 use Rattle.std.proofs.Common.{◌∙◌, Some, ap, sym}
 use Rattle.yf_rules.specs.Runs.ByteStream.{stream_of}
-use Rattle.yf_program.specs.World.{claim_of}
 use Rattle.yf_program.proofs.ProgramLemmas.{style_or_unset}
 use Rattle.yf_program.proofs.answer.style_set.Goals as goal
 
 pub returns-clause-set : goal.returns-clause-set
 returns-clause-set g c =
-    style_or_unset (claim_of g.I.Inputs.tells (g.I.Inputs.holds c.args.inputs.now)) c.args.config.now c.as_str.result.now
+    style_or_unset (g.I.Inputs.claim c.args.inputs.now) c.args.config.now c.as_str.result.now (c.in-Some.is ∙ ap (λ n. Some n) (sym c.as_str.ensures))
     (stream_of g.I.File.Read.remaining g.I.File.Source.has_failed c.in-Ok.file)
     (stream_of g.I.File.Read.remaining g.I.File.Source.has_failed c.read_style.new.reader) c.read_style.result
-    (c.in-Some.is ∙ ap (λ n. Some n) (sym c.as_str.ensures)) (c.in-Ok.ensures.bytes, c.in-Ok.ensures.works) c.read_style.ensures
+    (c.in-Ok.ensures.bytes, c.in-Ok.ensures.works, λ told. c.in-Ok.ensures.reads told c.read_style.new.reader) c.read_style.ensures

@@ -1,11 +1,16 @@
-use Rattle.std.proofs.Common.{inl, inr}
 use Rattle.yf_program.proofs.program.run.Goals as goal
 
 pub returns-in-Events : goal.returns-in-Events
-returns-in-Events g c = inl (c.in-Events.is, c.run_reader.ensures)
+returns-in-Events g c = rw c.in-Events.is c.run_reader.ensures
 
 pub returns-in-Check : goal.returns-in-Check
-returns-in-Check g c = inr (inl (c.in-Check.is, c.run_checker.ensures))
+returns-in-Check g c = rw c.in-Check.is c.run_checker.ensures
 
-pub returns-in-Fmt : goal.returns-in-Fmt
-returns-in-Fmt g c = inr (inr (c.in-Fmt.is, c.run_formatter.ensures))
+pub returns-in-Print : goal.returns-in-Print
+returns-in-Print g c = rw c.in-Print.is c.run_writer.ensures
+
+pub returns-in-Compare : goal.returns-in-Compare
+returns-in-Compare g c = rw c.in-Compare.is c.run_comparer.ensures
+
+pub returns-in-Diff : goal.returns-in-Diff
+returns-in-Diff g c = rw (c.in-Diff.is, ← c.name_of.ensures) c.run_differ.ensures

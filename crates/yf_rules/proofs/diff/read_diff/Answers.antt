@@ -1,27 +1,39 @@
-use Rattle.std.proofs.Common.{◌≡◌, ◌≤◌, ◌∙◌, List, ℕ, length, rules, subst, sym}
+use Rattle.std.proofs.Common.{◌≤◌, ◌∙◌, IfErr, length, rules}
 use Rattle.std.proofs.lemmas.Result.{IfErr-weaker}
-use Rattle.std.specs.Str.{IsUtf8}
 use Rattle.yf_rules.specs.Runs.ByteStream.{stream_of}
-use Rattle.yf_rules.specs.Runs.Run.{Gave}
+use Rattle.yf_rules.specs.Runs.Input.{IsNoText}
 use Rattle.yf_rules.specs.declared.run.TheConstants.{INPUT_LIMIT}
-use Rattle.yf_rules.proofs.Runs.DiffLemmas.{diff_holds}
+use Rattle.yf_stream.specs.StreamReader.{StreamFault}
+use Rattle.yf_rules.proofs.Runs.DiffLemmas.{diff_of}
 use Rattle.yf_rules.proofs.Runs.FormattedLemmas.{refused_text}
+use Rattle.yf_rules.proofs.Runs.GivenTexts.{given_text, no_text}
 use Rattle.yf_rules.proofs.diff.read_diff.Goals as goal
 
-pub returns-clause-diff : goal.returns-clause-diff
-returns-clause-diff g c =
-    let same : c.in-Ok.text.now ≡ c.in_ok-bytes.bytes.items = c.in-Ok.ensures.1 ∙ c.as_slice.ensures.value in
-    let gave = subst (λ (t : List ℕ). Gave (g.R.Read.remaining c.args.reader.now) t) (sym same) c.in_ok-bytes.ensures.whole in
-    let within_bytes : length c.in_ok-bytes.bytes.items ≤ INPUT_LIMIT = search rules in
-    let within = subst (λ (t : List ℕ). length t ≤ INPUT_LIMIT) (sym same) within_bytes in
-    let utf8 = subst (λ (t : List ℕ). IsUtf8 t) (sym c.in-Ok.ensures.1) c.in-Ok.ensures.0 in
-    diff_holds c.formattings_hold.ensures c.args.style.now c.args.name.now (g.R.Read.remaining c.args.reader.now) c.in-Ok.text.now gave within utf8 (λ d. d.items) c.diff_in.result c.diff_in.ensures.diff
+pub returns-in_err-text-clause-refusals : goal.returns-in_err-text-clause-refusals
+returns-in_err-text-clause-refusals g c =
+    let input = stream_of g.R.Read.remaining g.R.Source.has_failed c.args.reader.now in
+    let read = c.in_ok-kept in
+    let within : length read.field-0.items ≤ INPUT_LIMIT = search rules in
+    let refused : IfErr c.from_residual-in_err-text.result (IsNoText c.as_slice.result.now) = search rules in
+    IfErr-weaker c.from_residual-in_err-text.result _ _
+    (no_text input read.ensures.whole within c.as_slice.ensures.value read.ensures.works) refused
 
-pub returns-clause-refusals : goal.returns-clause-refusals
-returns-clause-refusals g c =
-    let same : c.in-Ok.text.now ≡ c.in_ok-bytes.bytes.items = c.in-Ok.ensures.1 ∙ c.as_slice.ensures.value in
-    let gave = subst (λ (t : List ℕ). Gave (g.R.Read.remaining c.args.reader.now) t) (sym same) c.in_ok-bytes.ensures.whole in
-    let within_bytes : length c.in_ok-bytes.bytes.items ≤ INPUT_LIMIT = search rules in
-    let within = subst (λ (t : List ℕ). length t ≤ INPUT_LIMIT) (sym same) within_bytes in
-    let utf8 = subst (λ (t : List ℕ). IsUtf8 t) (sym c.in-Ok.ensures.1) c.in-Ok.ensures.0 in
-    IfErr-weaker c.diff_in.result _ _ (refused_text (stream_of g.R.Read.remaining g.R.Source.has_failed c.args.reader.now) gave within utf8 c.in_ok-bytes.ensures.works) c.diff_in.ensures.refuses
+pub returns-in_err-formatted-clause-refusals : goal.returns-in_err-formatted-clause-refusals
+returns-in_err-formatted-clause-refusals g c =
+    let input = stream_of g.R.Read.remaining g.R.Source.has_failed c.args.reader.now in
+    let read = c.in_ok-kept in
+    let within : length read.field-0.items ≤ INPUT_LIMIT = search rules in
+    let text = c.in_ok-text.ensures in
+    let given = given_text read.ensures.whole within c.as_slice.ensures.value text.utf8 text.same in
+    let refused : IfErr c.from_residual-in_err-formatted.result (StreamFault c.in_ok-text.text.now) = search rules in
+    IfErr-weaker c.from_residual-in_err-formatted.result _ _ (refused_text input given read.ensures.works) refused
+
+pub returns-in-Ok-clause-diff : goal.returns-in-Ok-clause-diff
+returns-in-Ok-clause-diff g c =
+    let read = c.in_ok-kept in
+    let within : length read.field-0.items ≤ INPUT_LIMIT = search rules in
+    let text = c.in_ok-text.ensures in
+    let given = given_text read.ensures.whole within c.as_slice.ensures.value text.utf8 text.same in
+    diff_of given c.in_ok-formatted.ensures.headline c.as_bytes.ensures.value
+    (c.as_bytes-new_text.ensures.value ∙ c.as_str.ensures.value) c.new-diff.ensures.items c.in-Ok.ensures.written
+    c.in-Ok.ensures.told c.in-Ok.ensures.same

@@ -1,7 +1,6 @@
-use Rattle.std.proofs.Common.{IfErr, rules, sym, subst}
+use Rattle.std.proofs.Common.{sym, subst}
 use Rattle.std.proofs.lemmas.Result.{IfErr-weaker}
 use Rattle.yf_stream.specs.StreamReader.{StreamFault, for_memory}
-use Rattle.yf_stream.proofs.Offsets.FaultsPlaced.{faults_are_placed}
 use Rattle.yf_rules.proofs.Findings.FindingLemmas.{found_text, nested_same}
 use Rattle.yf_rules.proofs.run.findings_in.Goals as goal
 
@@ -15,8 +14,3 @@ returns-in-Err-clause-refuses g c = for_memory
 
 pub returns-clause-refuses : goal.returns-clause-refuses
 returns-clause-refuses g c = IfErr-weaker c.check.result _ _ (λ fault same. subst (StreamFault c.args.text.now) (sym same) for_memory) c.check.ensures.refused
-
-pub returns-in_err-stream-clause-refused : goal.returns-in_err-stream-clause-refused
-returns-in_err-stream-clause-refused g c =
-    let told : IfErr c.from_residual.result (StreamFault c.args.text.now) = search rules in
-    IfErr-weaker c.from_residual.result _ _ (faults_are_placed c.args.text.now) told

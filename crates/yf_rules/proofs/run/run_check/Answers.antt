@@ -1,30 +1,53 @@
-use Rattle.std.proofs.Common.{◌≡◌, ◌≤◌, ◌∙◌, List, ℕ, length, rules, subst, sym}
-use Rattle.std.specs.Str.{IsUtf8}
+use Rattle.std.proofs.Common.{◌≤◌, IfErr, length, refl, rules}
+use Rattle.std.proofs.lemmas.Result.{IfErr-weaker}
+use Rattle.yf_rules.specs.Runs.ByteStream.{stream_of}
+use Rattle.yf_rules.specs.Runs.Input.{IsNoText}
 use Rattle.yf_rules.specs.declared.run.TheConstants.{INPUT_LIMIT}
-use Rattle.yf_rules.proofs.Findings.FindingLemmas.{found_in, wrote_same, broke_same, any_same}
+use Rattle.yf_stream.specs.StreamReader.{StreamFault}
+use Rattle.yf_rules.proofs.Findings.FindingLemmas.{found_in, lines_broke, lines_written}
+use Rattle.yf_rules.proofs.Runs.FormattedLemmas.{run_refused}
+use Rattle.yf_rules.proofs.Runs.GivenTexts.{given_text, run_no_text}
 use Rattle.yf_rules.proofs.run.run_check.Goals as goal
 
-pub returns-in-Ok-write_findings-clause-findings : goal.returns-in-Ok-write_findings-clause-findings
-returns-in-Ok-write_findings-clause-findings g c =
-    let same : c.in-Ok.text.now ≡ c.in_ok-bytes.bytes.items = c.in-Ok.ensures.1 ∙ c.as_slice.ensures.value in
-    let within : length c.in_ok-bytes.bytes.items ≤ INPUT_LIMIT = search rules in
-    let utf8 = subst (λ (t : List ℕ). IsUtf8 t) (sym c.in-Ok.ensures.1) c.in-Ok.ensures.0 in
-    record {
-      findings = c.in_ok-findings.findings.items;
-      found = found_in c.in_ok-findings.ensures.found same c.in_ok-bytes.ensures.whole within utf8;
-      wrote = wrote_same c.as_slice-2.ensures.value c.in-Ok-write_findings.ensures;
-      answer = c.has_any-any.ensures ∙ any_same c.as_slice-in-Ok-write_findings.ensures.value;
-    }
+pub returns-in_err-text-clause-refusals : goal.returns-in_err-text-clause-refusals
+returns-in_err-text-clause-refusals g c =
+    let input = stream_of g.R.Read.remaining g.R.Source.has_failed c.args.reader.now in
+    let read = c.in_ok-kept in
+    let within : length read.field-0.items ≤ INPUT_LIMIT = search rules in
+    let refused : IfErr c.from_residual-in_err-text.result (IsNoText c.as_slice.result.now) = search rules in
+    IfErr-weaker c.from_residual-in_err-text.result _ _
+    (λ fault w. run_no_text input read.ensures.whole within c.as_slice.ensures.value read.ensures.works _ _ _ fault
+    w (record { contents = refl; same = refl }))
+    refused
 
-pub returns-in-Err-write_findings-clause-refusals : goal.returns-in-Err-write_findings-clause-refusals
-returns-in-Err-write_findings-clause-refusals g c =
-    let same : c.in-Ok.text.now ≡ c.in_ok-bytes.bytes.items = c.in-Ok.ensures.1 ∙ c.as_slice.ensures.value in
-    let within : length c.in_ok-bytes.bytes.items ≤ INPUT_LIMIT = search rules in
-    let utf8 = subst (λ (t : List ℕ). IsUtf8 t) (sym c.in-Ok.ensures.1) c.in-Ok.ensures.0 in (
-      record {
-        findings = c.in_ok-findings.findings.items;
-        found = found_in c.in_ok-findings.ensures.found same c.in_ok-bytes.ensures.whole within utf8;
-        broke = broke_same c.as_slice-2.ensures.value c.in-Err-write_findings.ensures.1;
-      },
-      c.in_ok-bytes.ensures.works,
-    )
+pub returns-in_err-findings-clause-refusals : goal.returns-in_err-findings-clause-refusals
+returns-in_err-findings-clause-refusals g c =
+    let input = stream_of g.R.Read.remaining g.R.Source.has_failed c.args.reader.now in
+    let read = c.in_ok-kept in
+    let within : length read.field-0.items ≤ INPUT_LIMIT = search rules in
+    let text = c.in_ok-text.ensures in
+    let given = given_text read.ensures.whole within c.as_slice.ensures.value text.utf8 text.same in
+    let refused : IfErr c.from_residual-in_err-findings.result (StreamFault c.in_ok-text.text.now) = search rules in
+    IfErr-weaker c.from_residual-in_err-findings.result _ _
+    (λ fault w. run_refused input given read.ensures.works _ _ _ fault w (record { contents = refl; same = refl }))
+    refused
+
+pub returns-clause-findings : goal.returns-clause-findings
+returns-clause-findings g c =
+    let input = stream_of g.R.Read.remaining g.R.Source.has_failed c.args.reader.now in
+    let read = c.in_ok-kept in
+    let within : length read.field-0.items ≤ INPUT_LIMIT = search rules in
+    let text = c.in_ok-text.ensures in
+    let given = given_text read.ensures.whole within c.as_slice.ensures.value text.utf8 text.same in
+    lines_written input _ _ c.print_findings.result (found_in c.in_ok-findings.ensures.found given)
+    c.print_findings.ensures.written c.print_findings.ensures.any
+
+pub returns-clause-refusals : goal.returns-clause-refusals
+returns-clause-refusals g c =
+    let input = stream_of g.R.Read.remaining g.R.Source.has_failed c.args.reader.now in
+    let read = c.in_ok-kept in
+    let within : length read.field-0.items ≤ INPUT_LIMIT = search rules in
+    let text = c.in_ok-text.ensures in
+    let given = given_text read.ensures.whole within c.as_slice.ensures.value text.utf8 text.same in
+    lines_broke _ c.args.style.now input _ _ c.print_findings.result (found_in c.in_ok-findings.ensures.found given)
+    read.ensures.works c.print_findings.ensures.refused

@@ -1,19 +1,55 @@
-use Rattle.std.proofs.Common.{◌≡◌, ◌≤◌, ◌∙◌, IfErr, List, ℕ, length, refl, rules, subst, sym}
+use Rattle.std.proofs.Common.{◌≤◌, IfErr, length, refl, rules}
 use Rattle.std.proofs.lemmas.Result.{IfErr-weaker}
-use Rattle.std.specs.Str.{IsUtf8}
-use Rattle.yf_stream.specs.StreamReader.{StreamFault}
 use Rattle.yf_rules.specs.Runs.ByteStream.{stream_of}
-use Rattle.yf_rules.specs.Runs.Run.{Gave}
+use Rattle.yf_rules.specs.Runs.Input.{IsNoText}
 use Rattle.yf_rules.specs.declared.run.TheConstants.{INPUT_LIMIT}
+use Rattle.yf_stream.specs.StreamReader.{StreamFault}
 use Rattle.yf_rules.proofs.Runs.FormattedLemmas.{run_refused}
+use Rattle.yf_rules.proofs.Findings.FindingLemmas.{nested_same}
+use Rattle.yf_rules.proofs.Runs.GivenTexts.{given_text, run_no_text}
+use Rattle.yf_rules.proofs.Runs.NotationLemmas.{notation_broke, notation_written}
 use Rattle.yf_rules.proofs.run.run_events.Goals as goal
+
+pub returns-in_err-text-clause-refusals : goal.returns-in_err-text-clause-refusals
+returns-in_err-text-clause-refusals g c =
+    let input = stream_of g.R.Read.remaining g.R.Source.has_failed c.args.reader.now in
+    let read = c.in_ok-kept in
+    let within : length read.field-0.items ≤ INPUT_LIMIT = search rules in
+    let refused : IfErr c.from_residual-in_err-text.result (IsNoText c.as_slice.result.now) = search rules in
+    IfErr-weaker c.from_residual-in_err-text.result _ _
+    (λ fault w. run_no_text input read.ensures.whole within c.as_slice.ensures.value read.ensures.works _ _ _ fault
+    w (record { contents = refl; same = refl }))
+    refused
 
 pub returns-in_err-reading-clause-refusals : goal.returns-in_err-reading-clause-refusals
 returns-in_err-reading-clause-refusals g c =
-    let same : c.in-Ok.text.now ≡ c.in_ok-bytes.bytes.items = c.in-Ok.ensures.1 ∙ c.as_slice.ensures.value in
-    let gave = subst (λ (t : List ℕ). Gave (g.R.Read.remaining c.args.reader.now) t) (sym same) c.in_ok-bytes.ensures.whole in
-    let within_bytes : length c.in_ok-bytes.bytes.items ≤ INPUT_LIMIT = search rules in
-    let within = subst (λ (t : List ℕ). length t ≤ INPUT_LIMIT) (sym same) within_bytes in
-    let utf8 = subst (λ (t : List ℕ). IsUtf8 t) (sym c.in-Ok.ensures.1) c.in-Ok.ensures.0 in
-    let told : IfErr c.from_residual-in_err-reading.result (StreamFault c.in-Ok.text.now) = search rules in
-    IfErr-weaker c.from_residual-in_err-reading.result _ _ (λ fault w. run_refused (stream_of g.R.Read.remaining g.R.Source.has_failed c.args.reader.now) gave within utf8 c.in_ok-bytes.ensures.works _ _ _ fault w (record { contents = refl; same = refl })) told
+    let input = stream_of g.R.Read.remaining g.R.Source.has_failed c.args.reader.now in
+    let read = c.in_ok-kept in
+    let within : length read.field-0.items ≤ INPUT_LIMIT = search rules in
+    let text = c.in_ok-text.ensures in
+    let given = given_text read.ensures.whole within c.as_slice.ensures.value text.utf8 text.same in
+    let refused : IfErr c.from_residual-in_err-reading.result (StreamFault c.in_ok-text.text.now) = search rules in
+    IfErr-weaker c.from_residual-in_err-reading.result _ _
+    (λ fault w. run_refused input given read.ensures.works _ _ _ fault w (record { contents = refl; same = refl }))
+    refused
+
+pub returns-clause-events : goal.returns-clause-events
+returns-clause-events g c =
+    let input = stream_of g.R.Read.remaining g.R.Source.has_failed c.args.reader.now in
+    let read = c.in_ok-kept in
+    let within : length read.field-0.items ≤ INPUT_LIMIT = search rules in
+    let text = c.in_ok-text.ensures in
+    let given = given_text read.ensures.whole within c.as_slice.ensures.value text.utf8 text.same in
+    let nested = nested_same c.reading.view_is c.reading.invariant.stream in
+    notation_written input _ _ c.write_events.result given nested c.in_ok-reading.ensures.reads c.write_events.ensures
+
+pub returns-clause-refusals : goal.returns-clause-refusals
+returns-clause-refusals g c =
+    let input = stream_of g.R.Read.remaining g.R.Source.has_failed c.args.reader.now in
+    let read = c.in_ok-kept in
+    let within : length read.field-0.items ≤ INPUT_LIMIT = search rules in
+    let text = c.in_ok-text.ensures in
+    let given = given_text read.ensures.whole within c.as_slice.ensures.value text.utf8 text.same in
+    let nested = nested_same c.reading.view_is c.reading.invariant.stream in
+    notation_broke input _ _ c.write_events.result given nested c.in_ok-reading.ensures.reads read.ensures.works
+    c.write_events.ensures

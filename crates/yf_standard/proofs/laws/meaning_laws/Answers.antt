@@ -1,5 +1,7 @@
-use Rattle.yf_standard.proofs.ContentLawsHold.{plain_contents, single_contents, double_contents, literal_contents}
+use Rattle.yf_standard.proofs.ContentLawsHold.{plain_contents, single_contents, double_contents, literal_contents, folded_contents}
 use Rattle.yf_standard.proofs.TokenLawsHold.{comment_tokens, separate_tokens, alias_tokens, property_tokens}
+use Rattle.yf_standard.proofs.ScalarsMean.{literal_scalars, folded_scalars}
+use Rattle.yf_standard.proofs.NodeLawsHold.{flow_nodes, block_nodes}
 use Rattle.yf_standard.proofs.laws.meaning_laws.Goals as goal
 
 pub returns-clause-plain : goal.returns-clause-plain
@@ -14,6 +16,9 @@ returns-clause-double c = double_contents
 pub returns-clause-literal : goal.returns-clause-literal
 returns-clause-literal c = literal_contents
 
+pub returns-clause-folded : goal.returns-clause-folded
+returns-clause-folded c = folded_contents
+
 pub returns-clause-comments : goal.returns-clause-comments
 returns-clause-comments c = comment_tokens
 
@@ -25,3 +30,15 @@ returns-clause-aliases c = alias_tokens
 
 pub returns-clause-properties : goal.returns-clause-properties
 returns-clause-properties c = property_tokens
+
+pub returns-clause-literals : goal.returns-clause-literals
+returns-clause-literals c = literal_scalars
+
+pub returns-clause-foldeds : goal.returns-clause-foldeds
+returns-clause-foldeds c = folded_scalars
+
+pub returns-clause-flow_nodes : goal.returns-clause-flow_nodes
+returns-clause-flow_nodes c = flow_nodes
+
+pub returns-clause-block_nodes : goal.returns-clause-block_nodes
+returns-clause-block_nodes c = block_nodes

@@ -13,5 +13,6 @@ returns-clause-ok c = record {
   stored_contents = refl;
   next = refl;
   made = refl;
-  failed = refl;
+  failures = refl;
+  uncounted = refl;
 }

@@ -16,5 +16,6 @@ returns-clause-ok c = let h = c.in-Ok.ensures.ok in record {
   stored_contents = h.stored_contents;
   next = refl;
   made = refl;
-  failed = h.failed;
+  failures = h.failures;
+  uncounted = h.uncounted;
 }

@@ -1,0 +1,11 @@
+-- What is shown for the bytes that are left is what is still to be written.
+use Rattle.std.proofs.Common.{drop}
+use Rattle.yf_lines.proofs.OutputLemmas.{Progress}
+use Rattle.yf_command_line.specs.Shown.{shown, shown_after}
+use Rattle.yf_command_line.proofs.shown.write_shown.Given as goal
+
+abbrev pub invariant-loop-byte : goal.invariant-loop-byte
+invariant-loop-byte g l =
+    Progress (g.W.Write.contents l.initial.writer) (g.W.Write.contents l.writer)
+    (g.W.Sink.has_failed l.initial.writer) (g.W.Sink.has_failed l.writer) (shown l.text)
+    (shown_after l.before (drop l.byte-index l.byte-items))

@@ -1,0 +1,89 @@
+-- The commands and their options, as the library for command lines takes them. How words are read as a command with
+-- options is that library's definition of a parse.
+use Rattle.std.specs.Prelude.{◌≡◌, true, false, Some, codes}
+use Rattle.clap.specs.Words.{app_of, rule_of, App, Rule, Shape, Text, new_app, new_rule, with_rule, with_subcommand}
+use Rattle.clap.specs.Simple.{on_top}
+use Rattle.clap.specs.declared.builder.arg.Arg.{Arg}
+use Rattle.clap.specs.declared.builder.command.Command.{Command}
+use Rattle.clap.specs.declared.builder.command.Command.TheViews.{out-Command}
+use Rattle.clap.specs.declared.builder.action.ArgAction.TheVariants.{Append, SetTrue}
+
+-- `--config FILE`
+abbrev pub config_option : Rule
+config_option = record (new_rule (codes "config")) { long = Some (codes "config"); value_names = 1 }
+
+-- `--explain`
+abbrev pub explain_flag : Rule
+explain_flag = record (new_rule (codes "explain")) { long = Some (codes "explain"); action = Some SetTrue }
+
+-- `--write`
+abbrev pub write_flag : Rule
+write_flag = record (new_rule (codes "write")) { long = Some (codes "write"); action = Some SetTrue }
+
+-- `--check`
+abbrev pub check_flag : Rule
+check_flag = record (new_rule (codes "check")) { long = Some (codes "check"); action = Some SetTrue }
+
+-- `--diff`
+abbrev pub diff_flag : Rule
+diff_flag = record (new_rule (codes "diff")) { long = Some (codes "diff"); action = Some SetTrue }
+
+-- `--without RULES`
+abbrev pub without_option : Rule
+without_option =
+    record (new_rule (codes "without")) { long = Some (codes "without"); value_names = 1; action = Some Append }
+
+-- `FILE`
+abbrev pub file_word : Rule
+file_word = record (new_rule (codes "file")) { value_names = 1 }
+
+-- `FILE..`
+abbrev pub file_words : Rule
+file_words = record (new_rule (codes "file")) { value_names = 1; action = Some Append }
+
+-- What every command takes: `NAME [--config FILE] [--explain]`
+abbrev pub configured : Text → App
+configured name = with_rule (with_rule (new_app name) config_option) explain_flag
+
+-- `NAME [--config FILE] [--explain] [FILE]`
+abbrev pub reading_command : Text → App
+reading_command name = with_rule (configured name) file_word
+
+-- `check [--config FILE] [--explain] [--without RULES] [FILE..]`
+abbrev pub checking_command : App
+checking_command = with_rule (with_rule (configured (codes "check")) without_option) file_words
+
+-- `fmt [--config FILE] [--explain] [--write] [--check] [--diff] [FILE..]`
+abbrev pub writing_command : App
+writing_command =
+    with_rule (with_rule (with_rule (with_rule (configured (codes "fmt")) write_flag) check_flag) diff_flag) file_words
+
+-- A command is required, and without any word the help is the refusal. The program's name is not among the words.
+-- There is a version.
+abbrev pub wants_command : Shape → Shape
+wants_command s = record s {
+  has_version = true;
+  no_binary_name = true;
+  subcommand_required = true;
+  arg_required_else_help = true;
+}
+
+-- `yamlfmt [--explain]`, before its commands
+abbrev pub bare_command : App
+bare_command = with_rule (on_top wants_command (new_app (codes "yamlfmt"))) explain_flag
+
+-- `yamlfmt [--explain] COMMAND`
+unfoldable pub yamlfmt : App
+yamlfmt =
+    with_subcommand (with_subcommand (with_subcommand bare_command
+    (reading_command (codes "events")).top)
+    checking_command.top)
+    writing_command.top
+
+-- An option of one command, which no other command takes over.
+abbrev pub IsOption : Arg → Rule → Type 0
+IsOption arg rule = (rule_of arg ≡ rule) × (arg.global ≡ false)
+
+-- A command within another one, which takes over none of its options.
+abbrev pub IsPart : Command → App → Type 0
+IsPart command app = (app_of command ≡ app) × ((out-Command command).has_globals ≡ false)

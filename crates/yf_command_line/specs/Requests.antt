@@ -1,0 +1,192 @@
+-- What the words of a command line ask for, and when they are refused.
+use Rattle.std.specs.Prelude.{◌≡◌, ◌≢◌, ◌⊎◌, ◌<◌, ⊤, Bool, true, false, ◌||◌, List, [], ◌∷◌, map, length, codes}
+use Rattle.std.specs.Prelude.{Option, Some, None, unwrap_or, if◌then◌else◌, MatchOption}
+use Rattle.std.specs.Str.{bytes_eq}
+use Rattle.std.specs.List.{list_any}
+use Rattle.clap.specs.Words.{Row, Text, all_of, fault_of, first_of, matches_of, subcommand_of, IsAmong}
+use Rattle.clap.specs.declared.error.kind.ErrorKind.{ErrorKind}
+use Rattle.clap.specs.declared.error.kind.ErrorKind.TheVariants.{DisplayHelp, DisplayVersion, OutOfMemory}
+use Rattle.yf_command_line.specs.Options.{yamlfmt}
+use Rattle.yf_command_line.specs.Without.{are_rules, names_in}
+use Rattle.yf_command_line.specs.declared.command.Command.{Command}
+use Rattle.yf_command_line.specs.declared.command.Command.TheVariants as command
+use Rattle.yf_command_line.specs.declared.command.FileList.{FileList}
+use Rattle.yf_command_line.specs.declared.command.Fmt.{Fmt}
+use Rattle.yf_command_line.specs.declared.command.Fmt.TheVariants as fmt
+use Rattle.yf_command_line.specs.declared.command.Input.{Input}
+use Rattle.yf_command_line.specs.declared.command.Input.TheVariants.{Standard, File}
+use Rattle.yf_command_line.specs.declared.command.InputList.{InputList}
+use Rattle.yf_command_line.specs.declared.command.Request.{Request}
+use Rattle.yf_command_line.specs.declared.usage.Usage.{Usage}
+use Rattle.yf_command_line.specs.declared.usage.Usage.TheVariants.{Help, Wrong, Memory}
+
+-- ---- what a command is given: a row for each option that is used, and one for its FILEs
+
+-- Whether a flag's value says that it is given.
+abbrev pub is_set : Option Text → Bool
+is_set (Some value) = bytes_eq value (codes "true")
+is_set None = false
+
+-- Whether a flag is given.
+abbrev pub is_flag : Text → List Row → Bool
+is_flag id given = is_set (first_of id given)
+
+-- Whether `--write` is given.
+abbrev pub writes : List Row → Bool
+writes given = is_flag (codes "write") given
+
+-- Whether `--check` is given.
+abbrev pub checks : List Row → Bool
+checks given = is_flag (codes "check") given
+
+-- Whether `--diff` is given.
+abbrev pub diffs : List Row → Bool
+diffs given = is_flag (codes "diff") given
+
+-- All values of an option, in order.
+abbrev pub all_given : Text → List Row → List Text
+all_given id given = unwrap_or (all_of id given) []
+
+-- The FILEs, in order.
+abbrev pub files_given : List Row → List Text
+files_given given = all_given (codes "file") given
+
+-- The names of the rules to leave out, in order.
+abbrev pub names_given : List Row → List Text
+names_given given = names_in (all_given (codes "without") given)
+
+-- ---- the inputs that FILEs name
+
+-- Whether a FILE is `-`, the word for standard input.
+abbrev pub is_standard_input : Text → Bool
+is_standard_input file = bytes_eq file (codes "-")
+
+-- The input that a FILE names.
+abbrev pub input_of : Text → Input
+input_of file = if is_standard_input file then Standard else File file
+
+-- The first input. Without a FILE it is standard input.
+abbrev pub first_input : List Text → Input
+first_input [] = Standard
+first_input (file ∷ files) = input_of file
+
+-- The inputs, in the order of the FILEs. Without a FILE, standard input is the only one.
+abbrev pub inputs_of : List Text → List Input
+inputs_of [] = Standard ∷ []
+inputs_of (file ∷ files) = map input_of (file ∷ files)
+
+-- All inputs of a list, in order.
+abbrev pub all_inputs : InputList → List Input
+all_inputs inputs = inputs.first ∷ inputs.rest.items
+
+-- All names of a list, in order.
+abbrev pub all_files : FileList → List Text
+all_files files = files.first ∷ files.rest.items
+
+-- ---- which words give which command
+
+-- What `fmt` is to do.
+abbrev pub IsFmt : List Row → Fmt → Type 0
+-- `fmt [FILE]`
+IsFmt given (fmt.Print input) =
+    (writes given ≡ false) × (checks given ≡ false) × (diffs given ≡ false)
+    × (inputs_of (files_given given) ≡ input ∷ [])
+-- `fmt --check [FILE..]`
+IsFmt given (fmt.Check inputs) =
+    (writes given ≡ false) × (checks given ≡ true) × (diffs given ≡ false)
+    × (inputs_of (files_given given) ≡ all_inputs inputs)
+-- `fmt --diff [--check] [FILE]`
+IsFmt given (fmt.Diff input) =
+    (writes given ≡ false) × (diffs given ≡ true) × (inputs_of (files_given given) ≡ input ∷ [])
+-- `fmt --write FILE..`, and no FILE is `-`
+IsFmt given (fmt.Write files) =
+    (writes given ≡ true) × (checks given ≡ false) × (diffs given ≡ false)
+    × (files_given given ≡ all_files files) × (list_any is_standard_input (files_given given) ≡ false)
+
+-- What the command of this name is to do with what it is given. (rules: the names of all rules)
+abbrev pub IsCommand : List Text → Text → List Row → Command → Type 0
+-- `events [FILE]`: no words with a second FILE are accepted
+IsCommand rules name given (command.Events input) =
+    (name ≡ codes "events") × (input ≡ first_input (files_given given))
+-- `check [--without RULES] [FILE..]`, and each name in RULES is the name of a rule
+IsCommand rules name given (command.Check inputs without) =
+    (name ≡ codes "check") × (inputs_of (files_given given) ≡ all_inputs inputs)
+    × (without.items ≡ names_given given) × (are_rules rules (names_given given) ≡ true)
+-- `fmt`, with its flags and FILEs
+IsCommand rules name given (command.Fmt what) = (name ≡ codes "fmt") × IsFmt given what
+
+-- The command that the words name, with what it is given; none if they name none.
+abbrev pub Met : Type 0
+Met = Option (Text × List Row)
+
+-- What the words ask for. (before: what they give before the command)
+pub record IsRequest (rules : List Text) (before : List Row) (met : Met) (request : Request) : Type 0 where
+  pub name : Text
+  pub given : List Row
+  -- this command is named, and this is what it is given
+  pub named : met ≡ Some (name, given)
+  pub command : IsCommand rules name given request.command
+  -- `--config FILE`
+  pub config : request.config ≡ first_of (codes "config") given
+  -- `--explain`, before the command or after it
+  pub explain : request.explain ≡ (is_flag (codes "explain") before || is_flag (codes "explain") given)
+
+-- The words are accepted, and ask for this.
+abbrev pub AsksFor : List Text → List Text → Request → Type 0
+AsksFor rules words request =
+    (fault_of yamlfmt words ≡ []) × IsRequest rules (matches_of yamlfmt words) (subcommand_of yamlfmt words) request
+
+-- ---- which words are refused
+
+-- Why `fmt` refuses what it is given.
+pub data IsNoFmt (given : List Row) : Type 0 where
+  -- `--write` without a FILE
+  no_file : writes given ≡ true → files_given given ≡ [] → IsNoFmt given
+  -- `--write` with `-` for a FILE
+  standard_input : writes given ≡ true → list_any is_standard_input (files_given given) ≡ true → IsNoFmt given
+  -- `--write` with `--check`
+  written_and_checked : writes given ≡ true → checks given ≡ true → IsNoFmt given
+  -- `--write` with `--diff`
+  written_and_compared : writes given ≡ true → diffs given ≡ true → IsNoFmt given
+  -- several FILEs with `--diff`
+  several_compared : diffs given ≡ true → 1 < length (files_given given) → IsNoFmt given
+  -- several FILEs without a flag
+  several_printed : writes given ≡ false → checks given ≡ false → 1 < length (files_given given) → IsNoFmt given
+
+-- Why a name, and what is given after it, are no command.
+pub data IsNoCommand (rules : List Text) (name : Text) (given : List Row) : Type 0 where
+  -- no command has the name
+  other_name : name ≢ codes "events" → name ≢ codes "check" → name ≢ codes "fmt" → IsNoCommand rules name given
+  -- `--without` with a name that no rule has
+  no_rule : name ≡ codes "check" → are_rules rules (names_given given) ≡ false → IsNoCommand rules name given
+  -- `fmt` refuses what it is given
+  no_fmt : name ≡ codes "fmt" → IsNoFmt given → IsNoCommand rules name given
+
+-- The words name no command, or one that is refused.
+abbrev pub IsNoRequest : List Text → Met → Type 0
+IsNoRequest rules met = MatchOption met ⊤ (λ m. IsNoCommand rules m.0 m.1)
+
+-- The words are wrong because of this, or there is no memory to say why.
+abbrev pub RefusedBy : Type 0 → Usage → Type 0
+RefusedBy cause (Help text) = ⊥
+RefusedBy cause (Wrong text) = cause
+RefusedBy cause Memory = ⊤
+
+-- Help or the version is asked for.
+abbrev pub AsksText : ErrorKind → Type 0
+AsksText kind = (kind ≡ DisplayHelp) ⊎ (kind ≡ DisplayVersion)
+
+-- What becomes of a refusal of each kind.
+abbrev pub IsUsageOf : ErrorKind → Usage → Type 0
+IsUsageOf kind (Help text) = AsksText kind
+IsUsageOf kind (Wrong text) = (¬ AsksText kind) × (kind ≢ OutOfMemory)
+IsUsageOf kind Memory = ⊤
+
+-- Help or the version is returned only if it is asked for. The words are wrong only if they are not accepted and ask
+-- for neither, or if they are accepted and ask for nothing. Memory may be refused at any words.
+abbrev pub RefusesWords : List Text → List Text → Usage → Type 0
+RefusesWords rules words (Help text) = (kind : ErrorKind) × AsksText kind × IsAmong kind (fault_of yamlfmt words)
+RefusesWords rules words (Wrong text) =
+    ((kind : ErrorKind) × (¬ AsksText kind) × IsAmong kind (fault_of yamlfmt words))
+    ⊎ ((fault_of yamlfmt words ≡ []) × IsNoRequest rules (subcommand_of yamlfmt words))
+RefusesWords rules words Memory = ⊤

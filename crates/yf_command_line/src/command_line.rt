@@ -1,0 +1,161 @@
+//! From the words of a command line to the request.
+ghost use Rattle.std.specs.Prelude.{◌≡◌, codes, map, MatchResult, string_bytes, true, false};
+ghost use Rattle.clap.specs.Words.{found_of, rows_of, subcommand_rows_of};
+ghost use Rattle.yf_command_line.specs.Requests.{AsksFor, IsCommand, IsFmt, IsNoCommand, IsNoFmt, IsNoRequest};
+ghost use Rattle.yf_command_line.specs.Requests.{IsRequest, RefusedBy, RefusesWords, writes};
+
+use crate::command::{Command, Fmt, Request};
+use crate::inputs::{files_of, first_input, has_standard_input, inputs_of};
+use crate::options::{
+    CHECK, CONFIG, DIFF, EVENTS, EXPLAIN, FILE, FMT, WITHOUT, WRITE, yamlfmt_command,
+};
+use crate::refused_words::{
+    NO_COMMAND, NO_FILE, NO_STANDARD_INPUT, NOT_SHOWN, NOTHING_WRITTEN, SEVERAL_DIFFS,
+    SEVERAL_FILES,
+};
+use crate::usage::{Usage, refusal, usage_of};
+use crate::without::{names_in, refusal_of_name, unknown_name};
+use crate::words::{is_given, text_given, words_given};
+use clap::ArgMatches;
+use std::alloc::Global;
+
+/// Returns what the words after the program's name ask for. `rules` are the names of all rules. `--explain` may come
+/// before the command too. The commands are:
+///
+/// - `events [--config FILE] [--explain] [FILE]`
+/// - `check [--config FILE] [--explain] [--without RULES] [FILE..]`. RULES are names of rules with commas between. The
+///   option may be given more than once.
+/// - `fmt [--config FILE] [--explain] [--write] [--check] [--diff] [FILE..]`. With `--write` there must be a FILE, and
+///   no FILE may be `-`. It goes with neither `--check` nor `--diff`. Several FILEs need `--write`, or `--check`
+///   without `--diff`.
+///
+/// A FILE `-` is standard input. Without a FILE a command reads standard input.
+///
+/// # Errors
+///
+/// - `Usage::Help` for `--help`, `help` and `--version`.
+/// - `Usage::Wrong` for all other words, with a text that says why.
+/// - `Usage::Memory` if memory is refused, whatever the words are.
+pub fn parse_line(alloc: Global, words: &[String], rules: &[&str]) -> Result<Request, Usage>
+    ensures { MatchResult result
+        (AsksFor (map (λ r. r.now) rules.now) (map string_bytes words.now))
+        (RefusesWords (map (λ r. r.now) rules.now) (map string_bytes words.now)) }
+{
+    let command = yamlfmt_command(alloc)?;
+    match command.try_get_matches_from(words) {
+        Ok(matches) => request_met(alloc, &matches, rules),
+        Err(error) => Err(usage_of(alloc, words, &error)),
+    }
+}
+
+// What the words ask for that the library accepted.
+fn request_met(alloc: Global, matches: &ArgMatches<'_>, rules: &[&str]) -> Result<Request, Usage>
+    ensures { MatchResult result
+        (IsRequest (map (λ r. r.now) rules.now) (rows_of (found_of matches.now))
+        (subcommand_rows_of matches.now))
+        (RefusedBy (IsNoRequest (map (λ r. r.now) rules.now) (subcommand_rows_of matches.now))) }
+{
+    let (name, given) = match matches.subcommand() {
+        Some(met) => met,
+        None => return Err(refusal(alloc, NO_COMMAND)),
+    };
+    let command = match command_met(alloc, name, given, rules) {
+        Ok(command) => command,
+        Err(usage) => return Err(usage),
+    };
+    let config = text_given(alloc, given, CONFIG)?;
+    let explain = is_given(matches, EXPLAIN) || is_given(given, EXPLAIN);
+    Ok(Request {
+        config,
+        explain,
+        command,
+    })
+}
+
+// The command of this name, with what it is given.
+fn command_met(
+    alloc: Global,
+    name: &str,
+    given: &ArgMatches<'_>,
+    rules: &[&str],
+) -> Result<Command, Usage>
+    ensures { MatchResult result
+        (IsCommand (map (λ r. r.now) rules.now) name.now (rows_of (found_of given.now)))
+        (RefusedBy (IsNoCommand (map (λ r. r.now) rules.now) name.now (rows_of (found_of given.now)))) }
+{
+    if name == EVENTS {
+        return Ok(Command::Events(first_input(alloc, words_given(given, FILE))?));
+    }
+    if name == CHECK {
+        return check_met(alloc, given, rules);
+    }
+    if name == FMT {
+        return match fmt_met(alloc, given) {
+            Ok(fmt) => Ok(Command::Fmt(fmt)),
+            Err(usage) => Err(usage),
+        };
+    }
+    Err(refusal(alloc, NO_COMMAND))
+}
+
+// `check`, with what it is given.
+fn check_met(alloc: Global, given: &ArgMatches<'_>, rules: &[&str]) -> Result<Command, Usage>
+    ensures { MatchResult result
+        (IsCommand (map (λ r. r.now) rules.now) (codes "check") (rows_of (found_of given.now)))
+        (RefusedBy (IsNoCommand (map (λ r. r.now) rules.now) (codes "check") (rows_of (found_of given.now)))) }
+{
+    let without = names_in(alloc, words_given(given, WITHOUT))?;
+    if let Some(name) = unknown_name(without.as_slice(), rules) {
+        return Err(refusal_of_name(alloc, name, rules));
+    }
+    let inputs = inputs_of(alloc, words_given(given, FILE))?;
+    Ok(Command::Check { inputs, without })
+}
+
+// `fmt`, with what it is given.
+fn fmt_met(alloc: Global, given: &ArgMatches<'_>) -> Result<Fmt, Usage>
+    ensures { MatchResult result (IsFmt (rows_of (found_of given.now)))
+        (RefusedBy (IsNoFmt (rows_of (found_of given.now)))) }
+{
+    if is_given(given, WRITE) {
+        return write_met(alloc, given);
+    }
+    let files = words_given(given, FILE);
+    if is_given(given, DIFF) {
+        if files.len() > 1 {
+            return Err(refusal(alloc, SEVERAL_DIFFS));
+        }
+        return Ok(Fmt::Diff(first_input(alloc, files)?));
+    }
+    if is_given(given, CHECK) {
+        return Ok(Fmt::Check(inputs_of(alloc, files)?));
+    }
+    if files.len() > 1 {
+        return Err(refusal(alloc, SEVERAL_FILES));
+    }
+    Ok(Fmt::Print(first_input(alloc, files)?))
+}
+
+// `fmt --write`, with what it is given.
+fn write_met(alloc: Global, given: &ArgMatches<'_>) -> Result<Fmt, Usage>
+    requires { writes (rows_of (found_of given.now)) ≡ true }
+    ensures { MatchResult result (IsFmt (rows_of (found_of given.now)))
+        (RefusedBy (IsNoFmt (rows_of (found_of given.now)))) }
+{
+    let files = words_given(given, FILE);
+    match files {
+        [] => Err(refusal(alloc, NO_FILE)),
+        [first, rest @ ..] => {
+            if has_standard_input(files) {
+                return Err(refusal(alloc, NO_STANDARD_INPUT));
+            }
+            if is_given(given, CHECK) {
+                return Err(refusal(alloc, NOTHING_WRITTEN));
+            }
+            if is_given(given, DIFF) {
+                return Err(refusal(alloc, NOT_SHOWN));
+            }
+            Ok(Fmt::Write(files_of(alloc, first, rest)?))
+        }
+    }
+}

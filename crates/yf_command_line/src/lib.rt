@@ -1,0 +1,14 @@
+//! The command line: what its words ask for, or why they are refused. It reads no file and knows no rule: the caller
+//! passes the names of the rules.
+#![tactic(auto)]
+
+pub mod build;
+pub mod command;
+pub mod command_line;
+pub(crate) mod inputs;
+pub(crate) mod options;
+pub(crate) mod refused_words;
+pub mod shown;
+pub mod usage;
+pub(crate) mod without;
+pub(crate) mod words;

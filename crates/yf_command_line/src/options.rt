@@ -1,0 +1,211 @@
+//! The commands of the program and their options, as the library for command lines takes them.
+ghost use Rattle.std.specs.Prelude.{◌≡◌, IfOk};
+ghost use Rattle.clap.specs.Words.{App, Rule, app_of, new_app, with_rule, with_subcommand};
+ghost use Rattle.yf_command_line.specs.Options.{bare_command, check_flag, checking_command, config_option, configured};
+ghost use Rattle.yf_command_line.specs.Options.{diff_flag, explain_flag, file_word, file_words, write_flag};
+ghost use Rattle.yf_command_line.specs.Options.{reading_command, without_option, writing_command, yamlfmt};
+ghost use Rattle.yf_command_line.specs.Options.{IsOption, IsPart};
+
+use crate::build::VERSION;
+use clap::{Arg, ArgAction, Command};
+use std::alloc::{AllocError, Global};
+
+pub(crate) const EVENTS: &str = "events";
+
+pub(crate) const CHECK: &str = "check";
+
+pub(crate) const FMT: &str = "fmt";
+
+pub(crate) const CONFIG: &str = "config";
+
+pub(crate) const EXPLAIN: &str = "explain";
+
+pub(crate) const WITHOUT: &str = "without";
+
+pub(crate) const WRITE: &str = "write";
+
+pub(crate) const DIFF: &str = "diff";
+
+pub(crate) const FILE: &str = "file";
+
+// The command of the program, with its subcommands.
+pub(crate) fn yamlfmt_command<'a>(alloc: Global) -> Result<Command<'a>, AllocError>
+    ensures { IfOk result (λ c. app_of c ≡ yamlfmt) }
+{
+    let events = reading_command(alloc, EVENTS, "Print the events of a YAML stream");
+    let with_events = with_part(bare_command(alloc), events);
+    let with_check = with_part(with_events, check_command(alloc));
+    with_part(with_check, fmt_command(alloc))
+}
+
+// The program's command before its subcommands. `--explain` may come before a subcommand too.
+fn bare_command<'a>(alloc: Global) -> Result<Command<'a>, AllocError>
+    ensures { IfOk result (λ c. app_of c ≡ bare_command) }
+{
+    let command = Command::new(alloc, "yamlfmt")
+        .version(VERSION)
+        .about(
+            "Prints the events of a YAML stream, checks its style and rewrites it in one house style",
+        )
+        .no_binary_name(true)
+        .subcommand_required(true)
+        .arg_required_else_help(true);
+    match command.arg(explain_flag(alloc)) {
+        Ok(command) => command.bin_name("yamlfmt"),
+        Err(error) => Err(error),
+    }
+}
+
+// The command with one more subcommand, if both were made.
+fn with_part<'a>(
+    command: Result<Command<'a>, AllocError>,
+    part: Result<Command<'a>, AllocError>,
+) -> Result<Command<'a>, AllocError>
+    ensures { (a p : App) → IfOk command.entry (λ c. app_of c ≡ a) → IfOk part.entry (λ c. IsPart c p)
+        → IfOk result (λ c. app_of c ≡ with_subcommand a p.top) }
+{
+    match part {
+        Ok(part) => match command {
+            Ok(command) => command.subcommand(part),
+            Err(error) => Err(error),
+        },
+        Err(error) => Err(error),
+    }
+}
+
+fn reading_command<'a>(
+    alloc: Global,
+    name: &'a str,
+    about: &'a str,
+) -> Result<Command<'a>, AllocError>
+    ensures { IfOk result (λ c. IsPart c (reading_command name.entry.now)) }
+{
+    with_arg(configured(alloc, name, about), file_word(alloc))
+}
+
+fn check_command<'a>(alloc: Global) -> Result<Command<'a>, AllocError>
+    ensures { IfOk result (λ c. IsPart c checking_command) }
+{
+    let command = configured(
+        alloc,
+        CHECK,
+        "Print where a YAML stream departs from the house style",
+    );
+    let leaving_out = with_arg(command, without_option(alloc));
+    with_arg(leaving_out, file_words(alloc))
+}
+
+fn fmt_command<'a>(alloc: Global) -> Result<Command<'a>, AllocError>
+    ensures { IfOk result (λ c. IsPart c writing_command) }
+{
+    let command = configured(alloc, FMT, "Print a YAML stream in the house style");
+    let writing = with_arg(command, write_flag(alloc));
+    let checking = with_arg(writing, check_flag(alloc));
+    let telling = with_arg(checking, diff_flag(alloc));
+    with_arg(telling, file_words(alloc))
+}
+
+// A command with `--config` and `--explain`.
+fn configured<'a>(alloc: Global, name: &'a str, about: &'a str) -> Result<Command<'a>, AllocError>
+    ensures { IfOk result (λ c. IsPart c (configured name.entry.now)) }
+{
+    with_arg(with_settings(alloc, name, about), explain_flag(alloc))
+}
+
+// A command with `--config`.
+fn with_settings<'a>(
+    alloc: Global,
+    name: &'a str,
+    about: &'a str,
+) -> Result<Command<'a>, AllocError>
+    ensures { IfOk result (λ c. IsPart c (with_rule (new_app name.entry.now) config_option)) }
+{
+    let command = Command::new(alloc, name).about(about);
+    command.arg(config_option(alloc))
+}
+
+// The command with one more option, if it was made.
+fn with_arg<'a>(
+    command: Result<Command<'a>, AllocError>,
+    arg: Arg<'a>,
+) -> Result<Command<'a>, AllocError>
+    ensures { (a : App) (r : Rule) → IfOk command.entry (λ c. IsPart c a) → IsOption arg.entry r
+        → IfOk result (λ c. IsPart c (with_rule a r)) }
+{
+    match command {
+        Ok(command) => command.arg(arg),
+        Err(error) => Err(error),
+    }
+}
+
+fn config_option<'a>(alloc: Global) -> Arg<'a>
+    ensures { IsOption result config_option }
+{
+    Arg::new(alloc, CONFIG)
+        .long(CONFIG)
+        .value_name("FILE")
+        .help("Read the settings of the house style from this TOML file")
+}
+
+fn explain_flag<'a>(alloc: Global) -> Arg<'a>
+    ensures { IsOption result explain_flag }
+{
+    Arg::new(alloc, EXPLAIN)
+        .long(EXPLAIN)
+        .action(ArgAction::SetTrue)
+        .help("Tell more of a fault on standard error, and of a finding")
+}
+
+fn without_option<'a>(alloc: Global) -> Arg<'a>
+    ensures { IsOption result without_option }
+{
+    Arg::new(alloc, WITHOUT)
+        .long(WITHOUT)
+        .value_name("RULES")
+        .action(ArgAction::Append)
+        .help("Leave out what these rules find, by their names with commas between")
+}
+
+fn write_flag<'a>(alloc: Global) -> Arg<'a>
+    ensures { IsOption result write_flag }
+{
+    Arg::new(alloc, WRITE)
+        .long(WRITE)
+        .action(ArgAction::SetTrue)
+        .help("Rewrite FILE in place of printing")
+}
+
+fn check_flag<'a>(alloc: Global) -> Arg<'a>
+    ensures { IsOption result check_flag }
+{
+    Arg::new(alloc, CHECK)
+        .long(CHECK)
+        .action(ArgAction::SetTrue)
+        .help("Print only where the stream is not in the house style first")
+}
+
+fn diff_flag<'a>(alloc: Global) -> Arg<'a>
+    ensures { IsOption result diff_flag }
+{
+    Arg::new(alloc, DIFF)
+        .long(DIFF)
+        .action(ArgAction::SetTrue)
+        .help("Print a unified diff of the stream and its formatting")
+}
+
+fn file_word<'a>(alloc: Global) -> Arg<'a>
+    ensures { IsOption result file_word }
+{
+    Arg::new(alloc, FILE).value_name("FILE").help(
+        "The stream to read, in place of standard input, which '-' is too",
+    )
+}
+
+fn file_words<'a>(alloc: Global) -> Arg<'a>
+    ensures { IsOption result file_words }
+{
+    Arg::new(alloc, FILE)
+        .value_name("FILE")
+        .action(ArgAction::Append)
+        .help("The streams to read, in place of standard input, which '-' is too")
+}

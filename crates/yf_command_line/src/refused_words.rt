@@ -1,0 +1,59 @@
+//! The texts that refuse command lines which the library accepts.
+
+/// The refusal of words that name no command.
+pub(crate) const NO_COMMAND: &str = "error: a command is missing
+
+Usage: yamlfmt [OPTIONS] <COMMAND>
+
+For more information, try '--help'.
+";
+
+/// The refusal of `--write` without a file.
+pub(crate) const NO_FILE: &str = "error: the argument '--write' needs a FILE
+
+Usage: yamlfmt fmt [OPTIONS] [FILE]...
+
+For more information, try '--help'.
+";
+
+/// The refusal of `--write` with `-` for a file.
+pub(crate) const NO_STANDARD_INPUT: &str =
+    "error: the argument '--write' cannot be used with '-', which is standard input
+
+Usage: yamlfmt fmt [OPTIONS] [FILE]...
+
+For more information, try '--help'.
+";
+
+/// The refusal of `--write` with `--check`.
+pub(crate) const NOTHING_WRITTEN: &str =
+    "error: the argument '--write' cannot be used with '--check'
+
+Usage: yamlfmt fmt [OPTIONS] [FILE]...
+
+For more information, try '--help'.
+";
+
+/// The refusal of `--write` with `--diff`.
+pub(crate) const NOT_SHOWN: &str = "error: the argument '--write' cannot be used with '--diff'
+
+Usage: yamlfmt fmt [OPTIONS] [FILE]...
+
+For more information, try '--help'.
+";
+
+/// The refusal of several files without `--write` and without `--check`.
+pub(crate) const SEVERAL_FILES: &str = "error: several FILEs need '--write' or '--check'
+
+Usage: yamlfmt fmt [OPTIONS] [FILE]...
+
+For more information, try '--help'.
+";
+
+/// The refusal of several files with `--diff`.
+pub(crate) const SEVERAL_DIFFS: &str = "error: the argument '--diff' takes one FILE
+
+Usage: yamlfmt fmt [OPTIONS] [FILE]...
+
+For more information, try '--help'.
+";

@@ -1,0 +1,106 @@
+//! Why the words of a command line ask for nothing, and the text that says so.
+ghost use Rattle.std.specs.Prelude.{◌≡◌, ⊤};
+ghost use Rattle.clap.specs.Words.{kind_of};
+ghost use Rattle.yf_command_line.specs.Requests.{IsUsageOf, RefusedBy};
+
+use crate::build::build_lines;
+use crate::options::yamlfmt_command;
+use crate::shown::shown_text;
+use clap::Error;
+use clap::error::ErrorKind;
+use std::alloc::{AllocError, Global};
+use yf_lines::text::OwnedText;
+
+/// Why the words of a command line ask for nothing.
+#[derive(Drop)]
+pub enum Usage {
+    /// Help or the version is asked for. This is its text, for standard output.
+    Help(OwnedText),
+    /// The program does not take the words. The text says why, for standard error.
+    Wrong(OwnedText),
+    /// Memory was refused.
+    Memory,
+}
+
+impl From<AllocError> for Usage {
+    ghost use Rattle.yf_command_line.specs.declared.usage.Usage.TheVariants.{Memory};
+
+    ghost from_gives = { λ _ usage. usage ≡ Memory };
+
+    fn from(_error: AllocError) -> Usage {
+        Usage::Memory
+    }
+}
+
+// What becomes of the library's refusal of the words.
+pub(crate) fn usage_of(alloc: Global, words: &[String], error: &Error) -> Usage
+    ensures { IsUsageOf (kind_of error.now) result }
+{
+    match error.kind() {
+        ErrorKind::OutOfMemory => Usage::Memory,
+        ErrorKind::DisplayHelp => match text_of(alloc, error) {
+            Ok(text) => Usage::Help(text),
+            Err(_) => Usage::Memory,
+        },
+        ErrorKind::DisplayVersion => match version_text(alloc, error) {
+            Ok(text) => Usage::Help(text),
+            Err(_) => Usage::Memory,
+        },
+        _ => match refusal_text(alloc, words, error) {
+            Ok(text) => Usage::Wrong(text),
+            Err(_) => Usage::Memory,
+        },
+    }
+}
+
+// The refusal with this text.
+pub(crate) fn refusal(alloc: Global, text: &str) -> Usage
+    ensures { RefusedBy ⊤ result }
+{
+    match String::from_str(alloc, text) {
+        Ok(text) => Usage::Wrong(OwnedText::new(text)),
+        Err(_) => Usage::Memory,
+    }
+}
+
+fn text_of(alloc: Global, error: &Error) -> Result<OwnedText, AllocError> {
+    Ok(OwnedText::new(format!(in alloc; "{error}")?))
+}
+
+// The name and the version, and on lines of their own what the program was built from.
+fn version_text(alloc: Global, error: &Error) -> Result<OwnedText, AllocError> {
+    let lines = build_lines(alloc)?;
+    Ok(OwnedText::new(format!(in alloc; "{error}{lines}")?))
+}
+
+// Why the words are refused. The library leaves their control characters out of its text. So this is its refusal of the
+// words that show these characters by their numbers, which it refuses as well.
+fn refusal_text(alloc: Global, words: &[String], error: &Error) -> Result<OwnedText, AllocError> {
+    let shown = shown_words(alloc, words)?;
+    match yamlfmt_command(alloc)?.try_get_matches_from(shown.as_slice()) {
+        Ok(_) => shown_text_of(alloc, error),
+        Err(again) => text_of_refusal(alloc, &again),
+    }
+}
+
+// The text of an error, which shows the control characters in it.
+fn shown_text_of(alloc: Global, error: &Error) -> Result<OwnedText, AllocError> {
+    let text = text_of(alloc, error)?;
+    Ok(OwnedText::new(shown_text(alloc, text.as_str())?))
+}
+
+// The text of an error, unless the error is that memory was refused.
+fn text_of_refusal(alloc: Global, error: &Error) -> Result<OwnedText, AllocError> {
+    match error.kind() {
+        ErrorKind::OutOfMemory => Err(AllocError),
+        _ => text_of(alloc, error),
+    }
+}
+
+fn shown_words(alloc: Global, words: &[String]) -> Result<Vec<String>, AllocError> {
+    let mut shown = Vec::new(alloc);
+    for word in words {
+        shown.push(shown_text(alloc, word.as_str())?)?;
+    }
+    Ok(shown)
+}

@@ -1,0 +1,39 @@
+//! What the library for command lines found for an option or a FILE.
+ghost use Rattle.std.specs.Prelude.{◌≡◌, map, IfOk};
+ghost use Rattle.clap.specs.Words.{first_of, found_of, rows_of};
+ghost use Rattle.yf_command_line.specs.Requests.{all_given, is_flag};
+
+use clap::ArgMatches;
+use std::alloc::{AllocError, Global};
+use yf_lines::text::OwnedText;
+
+// Whether a flag is given.
+pub(crate) fn is_given(given: &ArgMatches<'_>, id: &str) -> bool
+    ensures { result ≡ is_flag id.now (rows_of (found_of given.now)) }
+{
+    match given.get_str(id) {
+        Some(value) => value == "true",
+        None => false,
+    }
+}
+
+// The value of an option, as a text of its own.
+pub(crate) fn text_given(
+    alloc: Global,
+    given: &ArgMatches<'_>,
+    id: &str,
+) -> Result<Option<OwnedText>, AllocError>
+    ensures { IfOk result (λ text. text ≡ first_of id.now (rows_of (found_of given.now))) }
+{
+    match given.get_str(id) {
+        Some(text) => Ok(Some(OwnedText::new(String::from_str(alloc, text)?))),
+        None => Ok(None),
+    }
+}
+
+// All values of an option or of FILE, in order.
+pub(crate) fn words_given<'m, 'a>(given: &'m ArgMatches<'a>, id: &str) -> &'m [&'a str]
+    ensures { map (λ w. w.now) result.now ≡ all_given id.now (rows_of (found_of given.now)) }
+{
+    given.get_strs(id).unwrap_or_default()
+}

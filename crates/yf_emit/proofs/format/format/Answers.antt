@@ -1,5 +1,0 @@
-use Rattle.yf_stream.specs.StreamReader.{for_memory}
-use Rattle.yf_emit.proofs.format.format.Goals as goal
-
-pub returns-in-Err-clause-refuses : goal.returns-in-Err-clause-refuses
-returns-in-Err-clause-refuses c = for_memory

@@ -1,0 +1,6 @@
+pub mod SpansLemmas
+pub mod ExcludedLemmas
+pub mod ClassLemmas
+pub mod SegmentLemmas
+pub mod PatternLemmas
+pub mod PathLemmas

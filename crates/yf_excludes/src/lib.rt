@@ -1,0 +1,12 @@
+//! Which files a list of patterns excludes, by the rules of gitignore(5): patterns, their meaning, and paths.
+#![tactic(auto)]
+
+pub mod atom;
+pub mod excluded;
+mod parts;
+pub mod path;
+pub mod pattern;
+pub mod read_class;
+pub mod read_pattern;
+pub mod read_segment;
+pub mod spans;

@@ -1,0 +1,4 @@
+-- what `read_frame` finds
+pub mod FrameLemmas
+-- what `push_frame` writes
+pub mod WrittenLemmas

@@ -1,0 +1,4 @@
+pub mod Frames
+pub mod Streams
+pub mod ErrorCodes
+pub mod Messages

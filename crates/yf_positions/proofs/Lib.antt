@@ -1,0 +1,17 @@
+-- The lemmas, each group under what it serves.
+
+-- the lines of a text
+pub mod LineLemmas
+pub mod StartLemmas
+-- the units and bytes of a line
+pub mod ColumnLemmas
+-- the units of characters
+pub mod CountLemmas
+-- positions and offsets, one after the other
+pub mod InverseLemmas
+pub mod ExactLemmas
+-- edits of lines
+pub mod LineParts
+pub mod EditLemmas
+pub mod BetweenLemmas
+pub mod FollowLemmas

@@ -1,6 +1,0 @@
-use Rattle.yf_program.proofs.commands.check_command.Goals as goal
-
-pub returns : goal.returns
-returns c =
-    let leaving_out = c.with_arg-leaving_out.ensures _ _ c.configured-command.ensures c.without_option.ensures in
-    c.with_arg.ensures _ _ leaving_out c.file_words.ensures

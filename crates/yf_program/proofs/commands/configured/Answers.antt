@@ -1,4 +1,0 @@
-use Rattle.yf_program.proofs.commands.configured.Goals as goal
-
-pub returns : goal.returns
-returns c = c.with_arg.ensures _ _ c.with_settings.ensures c.explain_flag.ensures

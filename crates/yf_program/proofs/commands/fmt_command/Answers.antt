@@ -1,7 +1,0 @@
-use Rattle.yf_program.proofs.commands.fmt_command.Goals as goal
-
-pub returns : goal.returns
-returns c =
-    let writing = c.with_arg-writing.ensures _ _ c.configured-command.ensures c.write_flag.ensures in
-    let checking = c.with_arg-checking.ensures _ _ writing c.check_flag.ensures in
-    c.with_arg.ensures _ _ (c.with_arg-telling.ensures _ _ checking c.diff_flag.ensures) c.file_words.ensures

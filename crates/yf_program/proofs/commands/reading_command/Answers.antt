@@ -1,4 +1,0 @@
-use Rattle.yf_program.proofs.commands.reading_command.Goals as goal
-
-pub returns : goal.returns
-returns c = c.with_arg.ensures _ _ c.configured.ensures c.file_word.ensures

@@ -1,9 +1,0 @@
--- What is shown for the bytes that are left is what is still to be written.
-use Rattle.std.proofs.Common.{drop}
-use Rattle.yf_lines.proofs.OutputLemmas.{Progress}
-use Rattle.yf_program.specs.Shown.{shown, shown_after}
-use Rattle.yf_program.proofs.shown.write_shown.Given as goal
-
-abbrev pub invariant-loop-byte : goal.invariant-loop-byte
-invariant-loop-byte g l = Progress (g.W.Write.contents l.initial.writer) (g.W.Write.contents l.writer)
-    (g.W.Sink.has_failed l.initial.writer) (g.W.Sink.has_failed l.writer) (shown l.text) (shown_after l.before (drop l.byte-index l.byte-items))

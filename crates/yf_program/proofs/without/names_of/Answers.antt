@@ -1,7 +1,0 @@
-use Rattle.std.proofs.Common.{refl}
-use Rattle.yf_program.proofs.CommandLineLemmas.{one_more_word}
-use Rattle.yf_program.proofs.without.names_of.Goals as goal
-
-pub loop-word-preserved : goal.loop-word-preserved
-loop-word-preserved c =
-    one_more_word c.args.words.now c.loop-word.word-index _ _ _ _ _ c.loop-word-test.true c.in_ok-add_names.ensures refl c.loop-word.invariant

@@ -1,0 +1,99 @@
+//! What was written to memory for one file among several, and is written out with its name.
+ghost use Rattle.std.specs.Prelude.{◌≡◌, ◌⊎◌, true, false};
+ghost use Rattle.yf_program.specs.Answer.{AreTold, IsLine, ToldMemory, ToldNamed};
+ghost use Rattle.yf_program.specs.Named.{named_lines};
+
+use crate::named::named_lines;
+use crate::report::report;
+use crate::streams::Streams;
+use std::alloc::Global;
+use yf_lines::fault::Fault;
+use yf_lines::output::write_text;
+use yf_lines::watched::{Sink, Watched};
+
+/// Writes what is in memory with a name before each line, and returns the status. If some of it is missing, or memory is
+/// refused, writes only `no memory`.
+pub fn tell_memory<W: Sink, E: Sink>(
+    alloc: Global,
+    name: &str,
+    status: u8,
+    memory: &Streams<Watched<Vec<u8>>, Watched<Vec<u8>>>,
+    streams: &mut Streams<W, E>,
+) -> u8
+    ensures { ToldMemory name.now status result memory.now streams.old streams.new }
+{
+    let output = memory.output.get_ref().as_slice();
+    let faults = memory.errors.get_ref().as_slice();
+    let is_whole = is_whole(memory.output.failed(), memory.errors.failed(), faults);
+    tell_named(alloc, name, status, output, faults, is_whole, streams)
+}
+
+// Returns whether memory holds everything that was written for one file: all of its output, and its line for the stream
+// of faults. Lines that explain that line may be missing.
+fn is_whole(is_broken: bool, is_deaf: bool, faults: &[u8]) -> bool
+    ensures broken { result ≡ true → is_broken ≡ false }
+    ensures deaf { result ≡ true → (is_deaf ≡ false) ⊎ IsLine faults.now }
+{
+    if is_broken {
+        return false;
+    }
+    if is_deaf {
+        return ends_line(faults);
+    }
+    true
+}
+
+// Returns whether a text ends a line. A command writes the line of a fault first, and only then explains it; each text is written
+// whole or not at all.
+fn ends_line(text: &[u8]) -> bool
+    ensures { result ≡ true → IsLine text.now }
+{
+    match text.last() {
+        Some(byte) => *byte == b'\n',
+        None => false,
+    }
+}
+
+// Writes what was written for one file among several, and returns its status. If some of it is missing, or memory for
+// the names is refused, writes only `no memory`.
+fn tell_named<W: Sink, E: Sink>(
+    alloc: Global,
+    name: &str,
+    status: u8,
+    output: &[u8],
+    faults: &[u8],
+    is_whole: bool,
+    streams: &mut Streams<W, E>,
+) -> u8
+    ensures { ToldNamed (is_whole ≡ true) status result (named_lines name.now output.now)
+        (named_lines name.now faults.now) streams.old streams.new }
+{
+    if !is_whole {
+        return report(&Fault::Memory, &mut streams.errors);
+    }
+    match named_lines(alloc, name, output) {
+        Ok(output) => match named_lines(alloc, name, faults) {
+            Ok(faults) => tell(status, output.as_slice(), faults.as_slice(), streams),
+            Err(_) => report(&Fault::Memory, &mut streams.errors),
+        },
+        Err(_) => report(&Fault::Memory, &mut streams.errors),
+    }
+}
+
+// Writes two texts to the two streams, and returns the status, or that of a write that fails.
+fn tell<W: Sink, E: Sink>(
+    status: u8,
+    output: &[u8],
+    faults: &[u8],
+    streams: &mut Streams<W, E>,
+) -> u8
+    ensures { AreTold status result output.now faults.now streams.old streams.new }
+{
+    match write_text(&mut streams.output, output) {
+        Ok(()) => {
+            let _ = write_text(&mut streams.errors, faults);
+            status
+        }
+        Err(fault) => report(&fault, &mut streams.errors),
+    }
+}

@@ -1,0 +1,157 @@
+//! `fmt --write`: a file that is rewritten by itself, and several, each as if it were the only one.
+ghost use Rattle.std.specs.Prelude.{◌≡◌, map};
+ghost use Rattle.yf_command_line.specs.Requests.{all_files};
+ghost use Rattle.yf_command_line.specs.declared.command.Input.TheVariants.{File};
+ghost use Rattle.yf_rules.specs.Runs.ByteStream.{stream_of};
+ghost use Rattle.yf_program.specs.Answer.{AnyLines, DoesAll, DoesEach, DoesNamed, DoesRewrite, EndsRewriting, FileRewrite, RewritesInput, TellsMore, host_in};
+ghost use Rattle.yf_program.specs.World.{world_in};
+
+use crate::files::{Links, report_rewrite, rewrite};
+use crate::further::tell_file;
+use crate::inputs::Inputs;
+use crate::memory::tell_memory;
+use crate::program::GOOD;
+use crate::sources::Sources;
+use crate::streams::{Streams, in_memory};
+use std::alloc::Global;
+use yf_command_line::command::FileList;
+use yf_files::RewriteError;
+use yf_forms::style::Style;
+use yf_lines::fault::Fault;
+use yf_lines::watched::Sink;
+
+/// Rewrites the only file, or each of several.
+pub fn rewrite_files<I: Inputs, S: Links, W: Sink, E: Sink>(
+    alloc: Global,
+    explain: bool,
+    style: &Style,
+    files: &FileList,
+    sources: &mut Sources<I, S>,
+    streams: &mut Streams<W, E>,
+) -> u8
+    ensures { DoesAll (RewritesInput (host_in I.claim S.tells S.state S.leads sources.old) explain style.now)
+        (map (λ name. File name) (all_files files.now)) result (world_in I.opened sources.old streams.old)
+        (world_in I.opened sources.new streams.new) }
+{
+    if files.rest.is_empty() {
+        let name = files.first.as_str();
+        return rewrite_file(alloc, explain, style, name, sources, streams);
+    }
+    rewrite_each(alloc, explain, style, files, sources, streams)
+}
+
+// Rewrites each of some files, in order, and returns the greatest status. What is written for a file has its name before
+// each line.
+fn rewrite_each<I: Inputs, S: Links, W: Sink, E: Sink>(
+    alloc: Global,
+    explain: bool,
+    style: &Style,
+    files: &FileList,
+    sources: &mut Sources<I, S>,
+    streams: &mut Streams<W, E>,
+) -> u8
+    ensures { DoesEach (RewritesInput (host_in I.claim S.tells S.state S.leads sources.old) explain style.now)
+        (world_in I.opened sources.old streams.old) (map (λ name. File name) (all_files files.now)) result
+        (world_in I.opened sources.new streams.new) }
+{
+    let first = files.first.as_str();
+    let mut greatest = rewrite_named(alloc, explain, style, first, sources, streams);
+    for name in files.rest.as_slice() {
+        let status = rewrite_named(alloc, explain, style, name.as_str(), sources, streams);
+        greatest = greatest.max(status);
+    }
+    greatest
+}
+
+// Rewrites a file as if it were the only one, and writes what that gave with its name before each line.
+fn rewrite_named<I: Inputs, S: Links, W: Sink, E: Sink>(
+    alloc: Global,
+    explain: bool,
+    style: &Style,
+    name: &str,
+    sources: &mut Sources<I, S>,
+    streams: &mut Streams<W, E>,
+) -> u8
+    ensures does { DoesNamed name.now (DoesRewrite (host_in I.claim S.tells S.state S.leads sources.old) explain
+        style.now name.now) result (world_in I.opened sources.old streams.old)
+        (world_in I.opened sources.new streams.new) }
+    ensures inputs { sources.new.inputs ≡ sources.old.inputs }
+{
+    let mut memory = in_memory(alloc);
+    let status = rewrite_file(alloc, explain, style, name, sources, &mut memory);
+    tell_memory(alloc, name, status, &memory, streams)
+}
+
+// Rewrites a file, reports why if it is not rewritten, and returns the status.
+fn rewrite_file<I: Inputs, S: Links, W: Sink, E: Sink>(
+    alloc: Global,
+    explain: bool,
+    style: &Style,
+    name: &str,
+    sources: &mut Sources<I, S>,
+    streams: &mut Streams<W, E>,
+) -> u8
+    ensures does { DoesRewrite (host_in I.claim S.tells S.state S.leads sources.old) explain style.now name.now result
+        (world_in I.opened sources.old streams.old) (world_in I.opened sources.new streams.new) }
+    ensures inputs { sources.new.inputs ≡ sources.old.inputs }
+{
+    let rewritten = rewrite(alloc, &mut sources.files, name, style);
+    report_rewriting(
+        alloc,
+        explain,
+        &sources.inputs,
+        name,
+        &rewritten,
+        &mut streams.errors,
+    )
+}
+
+// Reports why a file is not rewritten, if it isn't, and returns the status.
+fn report_rewriting<I: Inputs, E: Sink>(
+    alloc: Global,
+    explain: bool,
+    inputs: &I,
+    name: &str,
+    rewritten: &Result<(), RewriteError<Fault>>,
+    error_stream: &mut E,
+) -> u8
+    ensures { EndsRewriting explain (λ outcome. outcome ≡ rewritten.now) result
+        (stream_of E.contents E.has_failed error_stream.old) (stream_of E.contents E.has_failed error_stream.new) }
+{
+    match rewritten {
+        Ok(()) => GOOD,
+        Err(why) => {
+            let status = report_rewrite(why, error_stream);
+            tell_rewrite(alloc, explain, inputs, name, why, error_stream);
+            status
+        }
+    }
+}
+
+// Explains why a file is not rewritten, if that is asked for.
+fn tell_rewrite<I: Inputs, E: Sink>(
+    alloc: Global,
+    explain: bool,
+    inputs: &I,
+    name: &str,
+    why: &RewriteError<Fault>,
+    error_stream: &mut E,
+)
+    ensures { TellsMore explain AnyLines (stream_of E.contents E.has_failed error_stream.old)
+        (stream_of E.contents E.has_failed error_stream.new) }
+{
+    match why {
+        RewriteError::Unreadable => tell_file(
+            alloc,
+            explain,
+            inputs,
+            name,
+            &Fault::ReadFailed,
+            error_stream,
+        ),
+        RewriteError::Refused(fault) => {
+            tell_file(alloc, explain, inputs, name, fault, error_stream)
+        }
+        RewriteError::Memory | RewriteError::Unwritten(_) => {}
+    }
+}

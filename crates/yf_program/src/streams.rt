@@ -1,0 +1,36 @@
+//! The two streams that the program writes to.
+ghost use Rattle.std.specs.Prelude.{◌≡◌};
+ghost use Rattle.yf_program.specs.Answer.{empty_memory};
+
+use std::alloc::Global;
+use std::marker::Model;
+use yf_lines::watched::{Sink, Watched};
+
+/// The two streams that the program writes to. A contract sees what each was given, and whether a call of it has failed.
+#[derive(Drop)]
+pub struct Streams<W: Sink, E: Sink> {
+    /// Standard output.
+    pub output: W,
+    /// The stream of faults, which is standard error.
+    pub errors: E,
+}
+
+impl<W: Sink, E: Sink> Model for Streams<W, E> {
+    ghost use Rattle.yf_program.specs.World.{OutputStreams, streams_of};
+    ghost use Rattle.yf_rules.specs.Runs.ByteStream.{stream_of};
+
+    ghost Value = { OutputStreams };
+
+    ghost view = { λ s. streams_of (stream_of W.contents W.has_failed s.output)
+        (stream_of E.contents E.has_failed s.errors) };
+}
+
+/// Two streams in memory to which nothing was written.
+pub fn in_memory(alloc: Global) -> Streams<Watched<Vec<u8>>, Watched<Vec<u8>>>
+    ensures { result ≡ empty_memory }
+{
+    Streams {
+        output: Watched::new(Vec::new(alloc)),
+        errors: Watched::new(Vec::new(alloc)),
+    }
+}

@@ -1,0 +1,10 @@
+pub mod Checkstyle
+pub mod CommandText
+pub mod Commands
+pub mod Junit
+pub mod Members
+pub mod Problems
+pub mod ProblemsJson
+pub mod Sarif
+pub mod Xml
+pub mod XmlText

@@ -1,0 +1,2 @@
+-- `style_from_toml`
+pub mod SettingsLemmas

@@ -1,0 +1,7 @@
+use Rattle.std.proofs.Common.{◌≡◌}
+use Rattle.toml.specs.View.{members_view, table_view}
+use Rattle.yf_settings.proofs.SettingsLemmas.{first_wrong}
+use Rattle.yf_settings.proofs.settings.least_wrong_key.Given as goal
+
+abbrev pub invariant-loop-key : goal.invariant-loop-key
+invariant-loop-key l = first_wrong (members_view l.key-iterator) ≡ first_wrong (table_view l.table)

@@ -1,0 +1,128 @@
+-- The settings that a TOML table holds: the value of each key, which keys are wrong, and the least wrong key.
+use Rattle.std.specs.Prelude.{◌≡◌, ℕ, pos, Bool, true, false, ◌&&◌, nat_le, List, [], Option, Some, None}
+use Rattle.std.specs.Prelude.{is_some, unwrap_or, option_and_then, if◌then◌else◌, codes, MatchOption, IsSomeAnd}
+use Rattle.std.specs.Str.{bytes_eq}
+use Rattle.std.specs.Ordering.{nat_cmp, is_le}
+use Rattle.std.specs.Cmp.Lexicographic.{slice_cmp}
+use Rattle.toml.specs.Data.{Data, string, integer, as_bool, Members, get_member}
+use Rattle.toml.specs.Parse.{parse_document}
+use Rattle.toml.specs.Errors.{IsBlank}
+use Rattle.yf_forms.specs.declared.style.CommentColumns.{CommentColumns}
+use Rattle.yf_forms.specs.declared.style.CommentColumns.TheVariants.{Block, Next}
+use Rattle.yf_forms.specs.declared.style.DocumentStart.{DocumentStart}
+use Rattle.yf_forms.specs.declared.style.DocumentStart.TheVariants.{Always, Keep}
+use Rattle.yf_forms.specs.declared.style.Style.{Style}
+use Rattle.yf_lines.specs.declared.invisible.Invisible.{Invisible}
+use Rattle.yf_lines.specs.declared.invisible.Invisible.TheVariants.{Plain, Escaped}
+use Rattle.yf_lines.specs.declared.quotes.Quotes.{Quotes}
+use Rattle.yf_lines.specs.declared.quotes.Quotes.TheVariants.{Single, Double}
+use Rattle.yf_lines.specs.declared.fault.Fault.{Fault}
+use Rattle.yf_lines.specs.declared.fault.Fault.TheVariants.{Config, Memory}
+
+-- An integer from `least` to `most`.
+abbrev pub number_between : ℕ → ℕ → Data → Option ℕ
+number_between least most (integer (pos n)) = if nat_le least n && nat_le n most then Some n else None
+number_between least most _ = None
+
+abbrev pub indent_of : Data → Option ℕ
+indent_of = number_between 2 8
+
+abbrev pub max_line_of : Data → Option ℕ
+max_line_of = number_between 40 1000
+
+-- The word `double` or the word `single`.
+abbrev pub quotes_of : Data → Option Quotes
+quotes_of (string word) =
+    if bytes_eq word (codes "double") then Some Double
+    else if bytes_eq word (codes "single") then Some Single
+    else None
+quotes_of _ = None
+
+abbrev pub seq_indent_of : Data → Option Bool
+seq_indent_of = as_bool
+
+-- The word `always` or the word `keep`.
+abbrev pub document_start_of : Data → Option DocumentStart
+document_start_of (string word) =
+    if bytes_eq word (codes "always") then Some Always
+    else if bytes_eq word (codes "keep") then Some Keep
+    else None
+document_start_of _ = None
+
+-- The word `next` or the word `block`.
+abbrev pub comments_of : Data → Option CommentColumns
+comments_of (string word) =
+    if bytes_eq word (codes "next") then Some Next
+    else if bytes_eq word (codes "block") then Some Block
+    else None
+comments_of _ = None
+
+-- The word `plain` or the word `escaped`.
+abbrev pub invisible_of : Data → Option Invisible
+invisible_of (string word) =
+    if bytes_eq word (codes "plain") then Some Plain
+    else if bytes_eq word (codes "escaped") then Some Escaped
+    else None
+invisible_of _ = None
+
+-- Whether the key is one of the settings, and the value is one that the setting can have.
+abbrev pub is_right : List ℕ → Data → Bool
+is_right key value =
+    if bytes_eq key (codes "indent") then is_some (indent_of value)
+    else if bytes_eq key (codes "max_line") then is_some (max_line_of value)
+    else if bytes_eq key (codes "quotes") then is_some (quotes_of value)
+    else if bytes_eq key (codes "seq_indent") then is_some (seq_indent_of value)
+    else if bytes_eq key (codes "document_start") then is_some (document_start_of value)
+    else if bytes_eq key (codes "comments") then is_some (comments_of value)
+    else if bytes_eq key (codes "invisible") then is_some (invisible_of value)
+    else false
+
+-- A key that the table does not have, or whose value is right.
+abbrev pub IsRight : Members → List ℕ → Type 0
+IsRight table key = (value : Data) → get_member key table ≡ Some value → is_right key value ≡ true
+
+-- A key of the table that is no setting, or whose value the setting cannot have.
+abbrev pub IsWrong : Members → List ℕ → Type 0
+IsWrong table key = (value : Data) × (get_member key table ≡ Some value) × (is_right key value ≡ false)
+
+-- The least wrong key, by its bytes.
+pub record IsLeastWrong (table : Members) (key : List ℕ) : Type 0 where
+  pub wrong : IsWrong table key
+  pub least : (other : List ℕ) → IsWrong table other → is_le (slice_cmp nat_cmp key other) ≡ true
+
+-- The value at a key. If the table has none, it is the value of the house style.
+abbrev pub setting : {X : Type 0} → (Data → Option X) → List ℕ → X → Members → X
+setting read key house table = unwrap_or (option_and_then read (get_member key table)) house
+
+-- All keys of the table are right, and it sets this style.
+pub record StyleOfTable (table : Members) (style : Style) : Type 0 where
+  pub right : (key : List ℕ) → IsRight table key
+  pub indent : style.indent ≡ setting indent_of (codes "indent") 2 table
+  pub max_line : style.max_line ≡ setting max_line_of (codes "max_line") 100 table
+  pub quotes : style.quotes ≡ setting quotes_of (codes "quotes") Double table
+  pub seq_indent : style.seq_indent ≡ setting seq_indent_of (codes "seq_indent") true table
+  pub document_start : style.document_start ≡ setting document_start_of (codes "document_start") Always table
+  pub comments : style.comments ≡ setting comments_of (codes "comments") Next table
+  pub invisible : style.invisible ≡ setting invisible_of (codes "invisible") Plain table
+
+-- The style without a settings file.
+pub record IsHouse (style : Style) : Type 0 where
+  pub indent : style.indent ≡ 2
+  pub max_line : style.max_line ≡ 100
+  pub quotes : style.quotes ≡ Double
+  pub seq_indent : style.seq_indent ≡ true
+  pub document_start : style.document_start ≡ Always
+  pub comments : style.comments ≡ Next
+  pub invisible : style.invisible ≡ Plain
+
+-- The text is TOML, and its table sets the style.
+abbrev pub SetsStyle : List ℕ → Style → Type 0
+SetsStyle text style = IsSomeAnd (parse_document text) (λ table. StyleOfTable table style)
+
+-- The key is empty if the text is no TOML, and the least wrong key if it is. Memory is refused only if the text has a
+-- key.
+abbrev pub RefusesSettings : List ℕ → Fault → Type 0
+RefusesSettings text (Config key) =
+    MatchOption (parse_document text) (key ≡ []) (λ table. IsLeastWrong table key)
+RefusesSettings text Memory = IsBlank text → ⊥
+RefusesSettings text _ = ⊥
