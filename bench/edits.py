@@ -32,9 +32,10 @@ HEAD = '''# Which edit shows which promise
 
 Made by `bench/edits.py` from the edits and from `promises.txt`; `bench/edits.py --check` fails if this page differs.
 
-Each item is a promise, and after it the edits that break it. An edit's name is the function and what is wrong with it.
-One edit stands for a family of promises whose clauses have one form. A function needs no edit if the exact clause of
-another one rests on it: a wrong result of it is refused there. If a promise has no edit, the item says why:
+Each item is a promise, and after it the edits that break it. An edit's name is the function and what is wrong with it;
+the promise is that function's, if it names no other. One edit stands for a family of promises whose clauses have one
+form. A function needs no edit if the exact clause of another one rests on it: a wrong result of it is refused there. If
+a promise has no edit, the item says why:
 
 - *as* an edit: a similar edit was tried by hand, and the same clause refused it. If the edit is *of* another crate, a
   clause of this crate refused it, and the clause that the named edit breaks rests on that one.
@@ -144,9 +145,15 @@ def item(text, indent=''):
                          break_long_words=False, break_on_hyphens=False)
 
 
+def shortened(promise, names):
+    """A promise without the function before it, if the name of an edit begins with that function."""
+    head = re.match(r'`(?:\w+::)*(\w+)`: ', promise)
+    return promise[head.end():] if head and any(name.startswith(f'`{head[1]}-') for name in names) else promise
+
+
 def items(found, without):
     """The items of a crate: its promises with edits, and those without, by what holds them."""
-    shown = [item(f'{promise}: {", ".join(names)}') for promise, names in found.items()]
+    shown = [item(f'{shortened(promise, names)}: {", ".join(names)}') for promise, names in found.items()]
     for held, promises in without.items():
         if len(promises) > 1 and held:
             shown += [item(held + ':'), *(item(promise, '  ') for promise in promises)]

@@ -15,6 +15,7 @@ the figures for Debian's Rust crates (a guide, not a rule). With --check it fail
 import glob
 import os
 import re
+import signal
 import sys
 
 TOP = os.path.dirname(os.path.dirname(os.path.abspath(__file__)))
@@ -184,6 +185,8 @@ def main():
     task = sys.argv[1] if len(sys.argv) > 1 else ''
     if len(sys.argv) > 2 or task not in ('', '--check'):
         sys.exit(__doc__)
+    # If the reader of the output leaves, end without a traceback.
+    signal.signal(signal.SIGPIPE, signal.SIG_DFL)
     words, bad, total, letters, everything = words_of_code(), 0, 0, 0, ''
     faults = [*lists()]
     for page in pages():
