@@ -6,3 +6,5 @@ pub mod RequestLemmas
 pub mod WordLemmas
 -- `write_shown`
 pub mod ShownLemmas
+-- `AsksFor` and `RefusesWords`: each line of words asks for one request or is refused
+pub mod Exactness

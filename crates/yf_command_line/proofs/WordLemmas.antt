@@ -28,7 +28,8 @@ pub some_word : (test : List ℕ → Bool) (words : List (Bor (List ℕ))) (k : 
 some_word test words k d within passed =
     let inside : k < length (texts words) =
     subst (λ n. k < n) (sym (length-map words (λ (w : Bor (List ℕ)). w.now))) within in
-    let at : get_or (texts words) k d.now ≡ (get_or words k d).now = get_or-map (λ (w : Bor (List ℕ)). w.now) words k d in
+    let at : get_or (texts words) k d.now ≡ (get_or words k d).now =
+    get_or-map (λ (w : Bor (List ℕ)). w.now) words k d in
     sym (list_any_at test (texts words) k d.now inside (ap test at ∙ passed))
 
 -- One more of the words is copied.

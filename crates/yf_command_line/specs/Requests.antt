@@ -1,4 +1,5 @@
--- What the words of a command line ask for, and when they are refused.
+-- What the words of a command line ask for, and when they are refused. `proofs/Exactness.antt` proves that each line of
+-- words asks for one request or is refused, and never both.
 use Rattle.std.specs.Prelude.{◌≡◌, ◌≢◌, ◌⊎◌, ◌<◌, ⊤, Bool, true, false, ◌||◌, List, [], ◌∷◌, map, length, codes}
 use Rattle.std.specs.Prelude.{Option, Some, None, unwrap_or, if◌then◌else◌, MatchOption}
 use Rattle.std.specs.Str.{bytes_eq}

@@ -5,3 +5,5 @@ pub mod Answer
 pub mod Report
 pub mod Named
 pub mod Quoted
+-- inputs in memory
+pub mod MemoryInputs

@@ -10,6 +10,7 @@ pub mod further;
 pub mod inputs;
 pub mod left;
 pub mod memory;
+pub mod memory_inputs;
 pub mod named;
 pub mod program;
 pub mod quoted;

@@ -1,0 +1,280 @@
+-- Each line of words asks for one request or is refused, and never both: `AsksFor` and `RefusesWords` are exact. Only
+-- the refusal of memory is possible at any words.
+use Rattle.std.proofs.Common.{◌≡◌, ◌≢◌, ◌⊎◌, ◌<◌, ◌||◌, ℕ, Bool, true, false, List, [], ◌∷◌, map, length, codes}
+use Rattle.std.proofs.Common.{Vec, Some, None, refl, sym, ap, subst, ◌∙◌, inl, inr, arith}
+use Rattle.std.proofs.lemmas.Bool.{false≢true}
+use Rattle.std.proofs.lemmas.Option.{same_Some}
+use Rattle.std.proofs.lemmas.Slice.Eq.{bytes_eq-Decides}
+use Rattle.std.specs.List.{list_any}
+use Rattle.std.specs.Str.{bytes_eq}
+use Rattle.std.specs.declared.alloc.Global.{Global}
+use Rattle.clap.specs.Words.{IsAmong, Row, Text, fault_of, first_of, matches_of, subcommand_of}
+use Rattle.clap.specs.declared.error.kind.ErrorKind.{ErrorKind}
+use Rattle.clap.specs.declared.error.kind.ErrorKind.TheVariants.{DisplayHelp, DisplayVersion}
+use Rattle.yf_command_line.specs.Options.{yamlfmt}
+use Rattle.yf_command_line.specs.Requests.{AsksFor, AsksText, IsCommand, IsFmt, IsNoCommand, IsNoFmt, IsNoRequest}
+use Rattle.yf_command_line.specs.Requests.{IsRequest, Met, RefusesWords, all_files, all_inputs, checks, diffs}
+use Rattle.yf_command_line.specs.Requests.{files_given, first_input, input_of, inputs_of, is_flag, is_standard_input}
+use Rattle.yf_command_line.specs.Requests.{names_given, writes}
+use Rattle.yf_command_line.specs.Requests.IsNoFmt.{no_file, standard_input, written_and_checked}
+use Rattle.yf_command_line.specs.Requests.IsNoFmt.{written_and_compared, several_compared, several_printed}
+use Rattle.yf_command_line.specs.Requests.IsNoCommand.{other_name, no_rule, no_fmt}
+use Rattle.yf_command_line.specs.Without.{are_rules}
+use Rattle.yf_command_line.specs.declared.command.Command.{Command}
+use Rattle.yf_command_line.specs.declared.command.Command.TheVariants as command
+use Rattle.yf_command_line.specs.declared.command.Fmt.{Fmt}
+use Rattle.yf_command_line.specs.declared.command.Fmt.TheVariants as fmt
+use Rattle.yf_command_line.specs.declared.command.Input.{Input}
+use Rattle.yf_command_line.specs.declared.command.Input.TheVariants.{Standard}
+use Rattle.yf_command_line.specs.declared.command.InputList.{InputList}
+use Rattle.yf_command_line.specs.declared.command.Request.{Request}
+use Rattle.yf_command_line.specs.declared.usage.Usage.TheVariants.{Help, Wrong}
+
+-- ---- one request
+
+-- The two are equal, up to the room of their vectors.
+abbrev pub SameFmt : Fmt → Fmt → Type 0
+SameFmt (fmt.Print a) (fmt.Print b) = a ≡ b
+SameFmt (fmt.Check a) (fmt.Check b) = all_inputs a ≡ all_inputs b
+SameFmt (fmt.Diff a) (fmt.Diff b) = a ≡ b
+SameFmt (fmt.Write a) (fmt.Write b) = all_files a ≡ all_files b
+SameFmt _ _ = ⊥
+
+-- The two are equal, up to the room of their vectors.
+abbrev pub SameCommand : Command → Command → Type 0
+SameCommand (command.Events a) (command.Events b) = a ≡ b
+SameCommand (command.Check a v) (command.Check b w) = (all_inputs a ≡ all_inputs b) × (v.items ≡ w.items)
+SameCommand (command.Fmt a) (command.Fmt b) = SameFmt a b
+SameCommand _ _ = ⊥
+
+fmt_once : (given : List Row) (a b : Fmt) → IsFmt given a → IsFmt given b → SameFmt a b
+fmt_once given (fmt.Print a) (fmt.Print b) p q = cc
+fmt_once given (fmt.Check a) (fmt.Check b) p q = cc
+fmt_once given (fmt.Diff a) (fmt.Diff b) p q = cc
+fmt_once given (fmt.Write a) (fmt.Write b) p q = cc
+fmt_once given (fmt.Print a) (fmt.Check b) p q = cc
+fmt_once given (fmt.Print a) (fmt.Diff b) p q = cc
+fmt_once given (fmt.Print a) (fmt.Write b) p q = cc
+fmt_once given (fmt.Check a) (fmt.Print b) p q = cc
+fmt_once given (fmt.Check a) (fmt.Diff b) p q = cc
+fmt_once given (fmt.Check a) (fmt.Write b) p q = cc
+fmt_once given (fmt.Diff a) (fmt.Print b) p q = cc
+fmt_once given (fmt.Diff a) (fmt.Check b) p q = cc
+fmt_once given (fmt.Diff a) (fmt.Write b) p q = cc
+fmt_once given (fmt.Write a) (fmt.Print b) p q = cc
+fmt_once given (fmt.Write a) (fmt.Check b) p q = cc
+fmt_once given (fmt.Write a) (fmt.Diff b) p q = cc
+
+-- The names of two commands differ.
+other_names : (codes "events" ≢ codes "check") × (codes "events" ≢ codes "fmt") × (codes "check" ≢ codes "fmt")
+other_names = (λ e. cc, λ e. cc, λ e. cc)
+
+command_once : (rules : List Text) (name : Text) (given : List Row) (a b : Command)
+    → IsCommand rules name given a → IsCommand rules name given b → SameCommand a b
+command_once rules name given (command.Events a) (command.Events b) p q = cc
+command_once rules name given (command.Check a v) (command.Check b w) p q = (cc, cc)
+command_once rules name given (command.Fmt a) (command.Fmt b) p q = fmt_once given a b p.1 q.1
+command_once rules name given (command.Events a) (command.Check b w) p q = absurd (other_names.0 (sym p.0 ∙ q.0))
+command_once rules name given (command.Events a) (command.Fmt b) p q = absurd (other_names.1 (sym p.0 ∙ q.0))
+command_once rules name given (command.Check a v) (command.Events b) p q = absurd (other_names.0 (sym q.0 ∙ p.0))
+command_once rules name given (command.Check a v) (command.Fmt b) p q = absurd (other_names.2 (sym p.0 ∙ q.0))
+command_once rules name given (command.Fmt a) (command.Events b) p q = absurd (other_names.1 (sym q.0 ∙ p.0))
+command_once rules name given (command.Fmt a) (command.Check b w) p q = absurd (other_names.2 (sym q.0 ∙ p.0))
+
+-- ---- not both
+
+-- Several FILEs name no single input.
+several : (files : List Text) (input : Input) → inputs_of files ≡ input ∷ [] → 1 < length files → ⊥
+several [] input one more = omega arith
+several (file ∷ []) input one more = omega arith
+several (file ∷ next ∷ rest) input one more = cc
+
+fmt_not_both : (given : List Row) (a : Fmt) → IsFmt given a → IsNoFmt given → ⊥
+fmt_not_both given (fmt.Print a) p (no_file w e) = cc
+fmt_not_both given (fmt.Print a) p (standard_input w e) = cc
+fmt_not_both given (fmt.Print a) p (written_and_checked w e) = cc
+fmt_not_both given (fmt.Print a) p (written_and_compared w e) = cc
+fmt_not_both given (fmt.Print a) p (several_compared d m) = cc
+fmt_not_both given (fmt.Print a) p (several_printed w c m) = several (files_given given) a p.3 m
+fmt_not_both given (fmt.Check a) p (no_file w e) = cc
+fmt_not_both given (fmt.Check a) p (standard_input w e) = cc
+fmt_not_both given (fmt.Check a) p (written_and_checked w e) = cc
+fmt_not_both given (fmt.Check a) p (written_and_compared w e) = cc
+fmt_not_both given (fmt.Check a) p (several_compared d m) = cc
+fmt_not_both given (fmt.Check a) p (several_printed w c m) = cc
+fmt_not_both given (fmt.Diff a) p (no_file w e) = cc
+fmt_not_both given (fmt.Diff a) p (standard_input w e) = cc
+fmt_not_both given (fmt.Diff a) p (written_and_checked w e) = cc
+fmt_not_both given (fmt.Diff a) p (written_and_compared w e) = cc
+fmt_not_both given (fmt.Diff a) p (several_compared d m) = several (files_given given) a p.2 m
+fmt_not_both given (fmt.Diff a) p (several_printed w c m) = several (files_given given) a p.2 m
+fmt_not_both given (fmt.Write a) p (no_file w e) = cc
+fmt_not_both given (fmt.Write a) p (standard_input w e) = cc
+fmt_not_both given (fmt.Write a) p (written_and_checked w e) = cc
+fmt_not_both given (fmt.Write a) p (written_and_compared w e) = cc
+fmt_not_both given (fmt.Write a) p (several_compared d m) = cc
+fmt_not_both given (fmt.Write a) p (several_printed w c m) = cc
+
+command_not_both : (rules : List Text) (name : Text) (given : List Row) (a : Command)
+    → IsCommand rules name given a → IsNoCommand rules name given → ⊥
+command_not_both rules name given (command.Events a) p (other_name e c f) = e p.0
+command_not_both rules name given (command.Events a) p (no_rule n r) = other_names.0 (sym p.0 ∙ n)
+command_not_both rules name given (command.Events a) p (no_fmt n r) = other_names.1 (sym p.0 ∙ n)
+command_not_both rules name given (command.Check a v) p (other_name e c f) = c p.0
+command_not_both rules name given (command.Check a v) p (no_rule n r) = cc
+command_not_both rules name given (command.Check a v) p (no_fmt n r) = other_names.2 (sym p.0 ∙ n)
+command_not_both rules name given (command.Fmt a) p (other_name e c f) = f p.0
+command_not_both rules name given (command.Fmt a) p (no_rule n r) = other_names.2 (sym n ∙ p.0)
+command_not_both rules name given (command.Fmt a) p (no_fmt n r) = fmt_not_both given a p.1 r
+
+-- The two are equal, up to the room of their vectors.
+pub record SameRequest (a b : Request) : Type 0 where
+  pub config : a.config ≡ b.config
+  pub explain : a.explain ≡ b.explain
+  pub command : SameCommand a.command b.command
+
+met_once : (rules : List Text) (before : List Row) (met : Met) (a b : Request) → IsRequest rules before met a
+    → IsRequest rules before met b → SameRequest a b
+met_once rules before met a b p q =
+    let same : (p.name, p.given) ≡ (q.name, q.given) = same_Some _ _ (sym p.named ∙ q.named) in
+    let given : p.given ≡ q.given = ap (λ m. m.1) same in
+    let explained : List Row → Bool = λ rows. is_flag (codes "explain") before || is_flag (codes "explain") rows in
+    record {
+      config = p.config ∙ (ap (first_of (codes "config")) given ∙ sym q.config);
+      explain = p.explain ∙ (ap explained given ∙ sym q.explain);
+      command = command_once rules q.name q.given a.command b.command
+          (subst (λ (m : Text × List Row). IsCommand rules m.0 m.1 a.command) same p.command) q.command;
+    }
+
+-- A line of words asks for one request.
+pub asks_once : (rules words : List Text) (a b : Request) → AsksFor rules words a → AsksFor rules words b
+    → SameRequest a b
+asks_once rules words a b p q = met_once rules _ _ a b p.1 q.1
+
+met_not_both : (rules : List Text) (before : List Row) (met : Met) (a : Request) → IsRequest rules before met a
+    → IsNoRequest rules met → ⊥
+met_not_both rules before met a p refusal =
+    command_not_both rules p.name p.given a.command p.command (subst (λ (m : Met). IsNoRequest rules m) p.named refusal)
+
+none_among : (kind : ErrorKind) (kinds : List ErrorKind) → kinds ≡ [] → IsAmong kind kinds → ⊥
+none_among kind [] none among = among
+none_among kind (k ∷ ks) none among = cc
+
+-- No line of words both asks for a request and is refused, but for want of memory.
+pub not_refused : (rules words : List Text) (a : Request) (text : List ℕ) → AsksFor rules words a
+    → RefusesWords rules words (Wrong text) ⊎ RefusesWords rules words (Help text) → ⊥
+not_refused rules words a text p (inl (inl w)) = none_among w.0 _ p.0 w.2
+not_refused rules words a text p (inl (inr w)) = met_not_both rules _ _ a p.1 w.1
+not_refused rules words a text p (inr w) = none_among w.0 _ p.0 w.2
+
+-- ---- one of the two. This takes no more than a vector with given items.
+
+module _ (inputs : List Input → Vec Input Global) (inputs_are : (l : List Input) → (inputs l).items ≡ l)
+    (texts : List Text → Vec Text Global) (texts_are : (l : List Text) → (texts l).items ≡ l) where
+  fmt_by : (given : List Row) (w c d s : Bool) (files : List Text) → writes given ≡ w → checks given ≡ c
+      → diffs given ≡ d → list_any is_standard_input (files_given given) ≡ s → files_given given ≡ files
+      → ((a : Fmt) × IsFmt given a) ⊎ IsNoFmt given
+  fmt_by given true c d s [] ew ec ed es ef = inr (no_file ew ef)
+  fmt_by given true c d true (f ∷ fs) ew ec ed es ef = inr (standard_input ew es)
+  fmt_by given true true d false (f ∷ fs) ew ec ed es ef = inr (written_and_checked ew ec)
+  fmt_by given true false true false (f ∷ fs) ew ec ed es ef = inr (written_and_compared ew ed)
+  fmt_by given true false false false (f ∷ fs) ew ec ed es ef =
+      inl (
+        fmt.Write (record { first = f; rest = texts fs }),
+        (ew, ec, ed, ef ∙ ap (λ l. f ∷ l) (sym (texts_are fs)), es),
+      )
+  fmt_by given false c true s [] ew ec ed es ef = inl (fmt.Diff Standard, (ew, ed, ap inputs_of ef))
+  fmt_by given false c true s (f ∷ []) ew ec ed es ef = inl (fmt.Diff (input_of f), (ew, ed, ap inputs_of ef))
+  fmt_by given false c true s (f ∷ g ∷ fs) ew ec ed es ef =
+      inr (several_compared ed (subst (λ (l : List Text). 1 < length l) (sym ef) (omega arith)))
+  fmt_by given false true false s [] ew ec ed es ef =
+      inl (
+        fmt.Check (record { first = Standard; rest = inputs [] }),
+        (ew, ec, ed, ap inputs_of ef ∙ ap (λ l. Standard ∷ l) (sym (inputs_are []))),
+      )
+  fmt_by given false true false s (f ∷ fs) ew ec ed es ef =
+      inl (
+        fmt.Check (record { first = input_of f; rest = inputs (map input_of fs) }),
+        (ew, ec, ed, ap inputs_of ef ∙ ap (λ l. input_of f ∷ l) (sym (inputs_are (map input_of fs)))),
+      )
+  fmt_by given false false false s [] ew ec ed es ef = inl (fmt.Print Standard, (ew, ec, ed, ap inputs_of ef))
+  fmt_by given false false false s (f ∷ []) ew ec ed es ef =
+      inl (fmt.Print (input_of f), (ew, ec, ed, ap inputs_of ef))
+  fmt_by given false false false s (f ∷ g ∷ fs) ew ec ed es ef =
+      inr (several_printed ew ec (subst (λ (l : List Text). 1 < length l) (sym ef) (omega arith)))
+
+  fmt_or_not : (given : List Row) → ((a : Fmt) × IsFmt given a) ⊎ IsNoFmt given
+  fmt_or_not given = fmt_by given _ _ _ _ _ refl refl refl refl refl
+
+  check_inputs : (files : List Text) → (list : InputList) × (inputs_of files ≡ all_inputs list)
+  check_inputs [] = (record { first = Standard; rest = inputs [] }, ap (λ l. Standard ∷ l) (sym (inputs_are [])))
+  check_inputs (f ∷ fs) = (
+    record { first = input_of f; rest = inputs (map input_of fs) },
+    ap (λ l. input_of f ∷ l) (sym (inputs_are (map input_of fs))),
+  )
+
+  command_by : (rules : List Text) (name : Text) (given : List Row) (e c f r : Bool)
+      → bytes_eq name (codes "events") ≡ e → bytes_eq name (codes "check") ≡ c → bytes_eq name (codes "fmt") ≡ f
+      → are_rules rules (names_given given) ≡ r
+      → ((a : Command) × IsCommand rules name given a) ⊎ IsNoCommand rules name given
+  command_by rules name given true c f r pe pc pf pr =
+      inl (command.Events (first_input (files_given given)), ((bytes_eq-Decides name (codes "events")).0 pe, refl))
+  command_by rules name given false true f true pe pc pf pr =
+      let list = check_inputs (files_given given) in
+      inl (
+        command.Check list.0 (texts (names_given given)),
+        ((bytes_eq-Decides name (codes "check")).0 pc, list.1, texts_are (names_given given), pr),
+      )
+  command_by rules name given false true f false pe pc pf pr =
+      inr (no_rule ((bytes_eq-Decides name (codes "check")).0 pc) pr)
+  command_by rules name given false false true r pe pc pf pr =
+      let named : name ≡ codes "fmt" = (bytes_eq-Decides name (codes "fmt")).0 pf in
+      elim (fmt_or_not given) [ inl a ↦ inl (command.Fmt a.0, (named, a.1)) | inr no_way ↦ inr (no_fmt named no_way) ]
+  command_by rules name given false false false r pe pc pf pr =
+      inr (other_name
+      (λ e. absurd (false≢true (sym pe ∙ (bytes_eq-Decides name (codes "events")).1 e)))
+      (λ e. absurd (false≢true (sym pc ∙ (bytes_eq-Decides name (codes "check")).1 e)))
+      (λ e. absurd (false≢true (sym pf ∙ (bytes_eq-Decides name (codes "fmt")).1 e))))
+
+  met_or_not : (rules : List Text) (before : List Row) (met : Met)
+      → ((a : Request) × IsRequest rules before met a) ⊎ IsNoRequest rules met
+  met_or_not rules before None = inr tt
+  met_or_not rules before (Some m) =
+      elim (command_by rules m.0 m.1 _ _ _ _ refl refl refl refl) [
+        | inl a ↦ inl (
+          record {
+            config = first_of (codes "config") m.1;
+            explain = is_flag (codes "explain") before || is_flag (codes "explain") m.1;
+            command = a.0;
+          },
+          record { name = m.0; given = m.1; named = refl; command = a.1; config = refl; explain = refl },
+        )
+        | inr no_way ↦ inr no_way
+      ]
+
+  asks_text : (kind : ErrorKind) → AsksText kind ⊎ (¬ AsksText kind)
+  asks_text DisplayHelp = inl (inl refl)
+  asks_text DisplayVersion = inl (inr refl)
+  asks_text _ = inr (λ a. elim a [ inl e ↦ cc | inr e ↦ cc ])
+
+  kinds_by : (rules words : List Text) (text : List ℕ) (kinds : List ErrorKind) → fault_of yamlfmt words ≡ kinds
+      → ((a : Request) × AsksFor rules words a)
+      ⊎ (RefusesWords rules words (Wrong text) ⊎ RefusesWords rules words (Help text))
+  kinds_by rules words text [] e =
+      elim (met_or_not rules (matches_of yamlfmt words) (subcommand_of yamlfmt words)) [
+        | inl a ↦ inl (a.0, (e, a.1))
+        | inr no_way ↦ inr (inl (inr (e, no_way)))
+      ]
+  kinds_by rules words text (kind ∷ kinds) e =
+      let among : IsAmong kind (fault_of yamlfmt words) =
+      subst (λ (l : List ErrorKind). IsAmong kind l) (sym e) (inl refl) in
+      elim (asks_text kind) [
+        | inl a ↦ inr (inr (kind, a, among))
+        | inr n ↦ inr (inl (inl (kind, n, among)))
+      ]
+
+  -- A line of words asks for a request or is refused.
+  pub asks_or_is_refused : (rules words : List Text) (text : List ℕ)
+      → ((a : Request) × AsksFor rules words a)
+      ⊎ (RefusesWords rules words (Wrong text) ⊎ RefusesWords rules words (Help text))
+  asks_or_is_refused rules words text = kinds_by rules words text _ refl

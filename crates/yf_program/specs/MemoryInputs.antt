@@ -1,0 +1,25 @@
+-- What is known of inputs in memory.
+use Rattle.std.specs.Prelude.{◌≡◌, ⊤, ℕ, List, [], ◌∷◌, Option, Some, None, if◌then◌else◌}
+use Rattle.std.specs.Str.{bytes_eq}
+use Rattle.yf_command_line.specs.declared.command.Input.{Input}
+use Rattle.yf_command_line.specs.declared.command.Input.TheVariants.{Standard, File}
+use Rattle.yf_program.specs.declared.memory_inputs.Stored.{Stored}
+use Rattle.yf_program.specs.World.{Holdings, InputClaim}
+
+-- What the file of a name holds, if one of the files has the name.
+abbrev pub held : List Stored → List ℕ → Option (List ℕ)
+held [] name = None
+held (file ∷ files) name = if bytes_eq file.name.now name then Some file.bytes.now else held files name
+
+abbrev pub holdings : List Stored → List ℕ → Holdings
+holdings files standard Standard = Some standard
+holdings files standard (File name) = held files name
+
+-- It is known what each input holds. A file that is not there fails, and no other.
+abbrev pub memory_claim : List Stored → List ℕ → InputClaim
+memory_claim files standard = record {
+  tells = ⊤;
+  notes = ⊥;
+  holds = holdings files standard;
+  fails = λ input. holdings files standard input ≡ None;
+}
