@@ -134,8 +134,9 @@ Each is a condition, in bold in the table below; with `letter` each asks nothing
 ## Meanings
 
 The standard says in prose what its productions mean, by their names. Here a meaning is a function of a derivation: `content`
-(`specs/Contents.antt`) is what it adds to a scalar, and `tokens` (`specs/Tokens.antt`) are its comments, names, scalars and
-collections. `said` (`specs/Readings.antt`) reads tokens: the events, in which a node has the properties before it.
+(`specs/Contents.antt`) is what it adds to a scalar, and `tokens` (`specs/Tokens.antt`) are its comments, names, scalars,
+collections, directives and documents. `said` and `stream_said` (`specs/Readings.antt`) read tokens: the events, in which a node has the
+properties before it, and the documents, of which each has the directives before it.
 
 | | Production | Meaning | Section |
 |---|---|---|---|
@@ -149,6 +150,7 @@ collections. `said` (`specs/Readings.antt`) reads tokens: the events, in which a
 | | 170, 174: block scalars | what follows the sign and the header | 8.1.2, 8.1.3 |
 | tokens | 28, 63, 66: breaks, indentation, separation | nothing | 5.4, 6.1, 6.2 |
 | | 75: a comment | its place and its text | 6.6 |
+| | 82 to 88, 93: directives | where each begins and its words, then its comments | 6.8 |
 | | 89, 98 to 100: handles and tags | what the tag names, and its place | 6.8.2, 6.9.1 |
 | | 101, 104: anchors and aliases | the name, and the alias's place | 6.9.2, 7.1 |
 | | 64, 65, 70: fewer spaces, empty lines | nothing | 6.1, 6.4 |
@@ -157,13 +159,16 @@ collections. `said` (`specs/Readings.antt`) reads tokens: the events, in which a
 | | 165, 171, 172, 181: lines of block scalars and their end | nothing | 8.1 |
 | | 170, 174: block scalars | a scalar in that style with its content, then its comments | 8.1 |
 | | 183, 186, 187, 195: block collections | where a sequence or a mapping starts and ends | 8.2 |
+| | 207, 208: documents | a document, whether `---` is written, with its node's tokens | 9.1 |
 | both | all others | what their parts mean | |
 
 `meaning_laws` of `yf_standard` proves that each derivation, with the reading rules, of these productions means what is read: plain,
 single-quoted and double-quoted scalars (131, 120, 109), the content of literal and of folded scalars (173, 182), whole block scalars
-(170, 174), comments (79), separation (80), aliases (104), node properties (96), flow nodes (161) and block nodes (196). What is read of a
-node is its events, its comments, and the places of its tags and of its escapes that write no character. Quoted scalars, block scalars and
-nodes are those that cover no forbidden line. Directives, documents and the stream (82, 202 to 211) have no tokens of their own yet.
+(170, 174), comments (79), separation (80), aliases (104), node properties (96), flow nodes (161), block nodes (196) and streams (211). What
+is read of a node is its events, its comments, and the places of its tags and of its escapes that write no character. Quoted scalars, block
+scalars and nodes are those that cover no forbidden line. What is read of a stream is its documents, each with its directives, and all
+comments. So all derivations of a text that has a reading say one thing, the reading's documents, directives, comments and bad escapes.
+No tokens say where nodes and entries are, where a document begins, nor whether `...` ends it.
 
 ## The productions
 """

@@ -66,6 +66,10 @@ pub record TagRead (t : List ℕ) (i j : ℕ) : Type 0 where
 abbrev pub Word : List ℕ → ℕ → ℕ → Type 0
 Word t i j = (k : ℕ) × (SeparateInLine t i k × ((code t k ≢ 35) × SomeChars t is_ns_char k j))
 
+abbrev pub words_of : {t : List ℕ} {i k : ℕ} → Star (Word t) i k → List (List ℕ)
+words_of none = []
+words_of {t} (more {k = h} d r) = slice_range t d.0 h ∷ words_of r
+
 -- [83]
 pub record ReservedRead (t : List ℕ) (i j : ℕ) : Type 0 where
   pub no_yaml : is_name_yaml t i ≡ false
@@ -202,3 +206,30 @@ module _ {t : List ℕ} (u : IsUtf8 t) where
     go (inl y) = lined d.1.0.0 d.1.0.1 (yaml_read y d.1.1.1.1.1) d.1.1.1.1.1
     go (inr (inl y)) = lined d.1.0.0 d.1.0.1 (tag_read y) d.1.1.1.1.1
     go (inr (inr y)) = lined d.1.0.0 d.1.0.1 (reserved_read y d.1.1.1.1.1) d.1.1.1.1.1
+
+  -- [82], with the words of each kind
+  pub yaml_line : {i l j : ℕ} {w : List CommentValue} → code t i ≡ 37 → (d : YamlRead t (i + 1) l) → LineEnd t l j w
+      → DirectiveLines t i j (record { directives = record { offset = i; words = codes "YAML" ∷ slice_range t d.at l ∷ [] } ∷ []; comments = w })
+  unfolding yaml_read
+  yaml_line {i} {l} {j} {w} e d r =
+      subst (λ z. DirectiveLines t i j (record { directives = record { offset = i; words = z ∷ slice_range t d.at l ∷ [] } ∷ []; comments = w })) (yaml_slice t (i + 1) u d.y d.a d.m d.l)
+      (last_directive e (yaml_read d r).name (yaml_read d r).words.1 r)
+
+  pub tag_line : {i l j : ℕ} {w : List CommentValue} → code t i ≡ 37 → (d : TagRead t (i + 1) l) → LineEnd t l j w
+      → DirectiveLines t i j (record { directives = record { offset = i; words = codes "TAG" ∷ slice_range t d.at d.ends ∷ slice_range t d.from l ∷ [] } ∷ []; comments = w })
+  unfolding tag_read
+  tag_line {i} {l} {j} {w} e d r =
+      subst (λ z. DirectiveLines t i j (record { directives = record { offset = i; words = z ∷ slice_range t d.at d.ends ∷ slice_range t d.from l ∷ [] } ∷ []; comments = w })) (tag_slice t (i + 1) u d.t1 d.a d.g)
+      (last_directive e (tag_read d).name (tag_read d).words.1 r)
+
+  words_are : {i k j : ℕ} {w : List CommentValue} (s : Star (Word t) i k) (l : LineEnd t k j w) → (words_read s l).0 ≡ words_of s
+  unfolding words_read
+  words_are none l = refl
+  words_are (more {k = h} d r) l = ap (λ z. slice_range t d.0 h ∷ z) (words_are r l)
+
+  pub reserved_line : {i l j : ℕ} {w : List CommentValue} → code t i ≡ 37 → (d : ReservedRead t (i + 1) l) → LineEnd t l j w
+      → DirectiveLines t i j (record { directives = record { offset = i; words = slice_range t (i + 1) d.at ∷ words_of d.words } ∷ []; comments = w })
+  unfolding reserved_read
+  reserved_line {i} {l} {j} {w} e d r =
+      subst (λ z. DirectiveLines t i j (record { directives = record { offset = i; words = slice_range t (i + 1) d.at ∷ z } ∷ []; comments = w })) (words_are d.words r)
+      (last_directive e (reserved_read d r).name (reserved_read d r).words.1 r)

@@ -45,8 +45,8 @@ ns_no_white : (c : ℕ) → ns-char c ≡ true → is_white c ≡ false
 unfolding is_ns_char
 ns_no_white c e = not-true (is_white c) ((and_parts (is_nb_char c) (not (is_white c)) (sym (ns_char_is c) ∙ e)).1)
 
--- what is between two rows: a fold between two that begin with no white space, or a break with empty lines, where no such row can follow one of
--- that kind
+-- what is between two rows: a fold between two that begin with no white space, or a break with empty lines, where no
+-- such row can follow one of that kind
 pub data Gap (t : List ℕ) (k : ℕ) : Bool → ℕ → ℕ → List Mark → Type 0 where
   fold_gap : {h g : ℕ} {x : List ℕ} → FoldedBreak t (pos k) BlockIn h g x → is_white (code t (g + k)) ≡ false → Gap t k false h g (marks x)
   feed_gap : {s : Bool} {h b g : ℕ} {w : List ℕ} → Break t h b → Chain (Empty t (pos k) BlockIn) b g w → (s ≡ false → NoFoldedLine t (pos k) h) → Gap t k s h g (marks (10 ∷ w))

@@ -54,3 +54,7 @@ pub mod FlowSaid
 pub mod BlockSaid
 pub mod NodesSaid
 pub mod NodeLawsHold
+pub mod DirectivesSaid
+pub mod StreamParts
+pub mod StreamsSaid
+pub mod StreamLawsHold

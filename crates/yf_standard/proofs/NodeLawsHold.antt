@@ -12,7 +12,7 @@ use Rattle.yf_standard.proofs.SaidParts.{says_whole}
 use Rattle.yf_standard.proofs.FlowSaid.{SomeSaid}
 use Rattle.yf_standard.proofs.NodesSaid.{Tells, nodes}
 
-abbrev node_zone : (t : List ℕ) → IsUtf8 t → (i j : ℕ) → Clear t i j → Zone t true
+abbrev pub node_zone : (t : List ℕ) → IsUtf8 t → (i j : ℕ) → Clear t i j → Zone t true
 node_zone t u i j w = record { utf = u; low = i; high = j; clear = λ q. w; root = λ q. absurd (true≢false q) }
 
 node_means : {t : List ℕ} {e : ℕ} {p : Production} {i j : ℕ} {y : List Token} → SomeSaid t e p i j y → NodeMeans t e p i j y

@@ -11,7 +11,7 @@ use Rattle.yf_events.specs.declared.event.ScalarStyle.{ScalarStyle}
 use Rattle.yf_events.specs.declared.event.ScalarStyle.TheVariants.{Plain}
 use Rattle.yf_grammar.specs.Productions.Meaning.{Meaning, ◌⊕◌, meaning_after, noting, plain_event, from_to, scalar, alias_to, empty_node, start_of, end_of, collection, event_with, first_with, with_props, first_entering, entering}
 use Rattle.yf_standard.specs.Contents.{Mark, marks, pieces}
-use Rattle.yf_standard.specs.Tokens.{Token, notes}
+use Rattle.yf_standard.specs.Tokens.{Token, Note, note_of, notes, notes_of}
 use Rattle.yf_standard.specs.Tokens.Token.{a_comment, an_alias, a_scalar, starts, ends}
 use Rattle.yf_standard.specs.Readings.{Said, said, place_of, tag_places, said_of}
 use Rattle.yf_standard.proofs.CommentsMeant.{notes_append}
@@ -20,7 +20,7 @@ use Rattle.yf_standard.proofs.CommentsMeant.{notes_append}
 abbrev pub joined_said : Meaning → Said → Said
 joined_said x s = record {
   events = map (λ e. e.event) x.events ++ s.events;
-  comments = notes x.comments ++ s.comments;
+  comments = notes_of x.comments ++ s.comments;
   tags = tag_places x.events ++ s.tags;
   escapes = x.escapes ++ s.escapes;
 }
@@ -36,22 +36,26 @@ abbrev with_first : EventValue → Said → Said
 with_first e s = record s { events = e ∷ s.events }
 
 abbrev pub with_comments : List CommentValue → Said → Said
-with_comments cs s = record s { comments = notes cs ++ s.comments }
+with_comments cs s = record s { comments = notes_of cs ++ s.comments }
 
-abbrev with_comment : Token → Said → Said
-with_comment c s = record s { comments = c ∷ s.comments }
+abbrev with_comment : CommentValue → Said → Said
+with_comment c s = record s { comments = note_of c ∷ s.comments }
 
 pub notes_said : (p : PropsValue) (cs : List CommentValue) (z : List Token) → said p (notes cs ++ z) ≡ with_comments cs (said p z)
 unfolding said
 notes_said p [] z = refl
-notes_said p (c ∷ cs) z = ap (λ (s : Said). with_comment (a_comment c.offset c.text) s) (notes_said p cs z)
+notes_said p (c ∷ cs) z = ap (λ (s : Said). with_comment c s) (notes_said p cs z)
 
 places_append : (x y : List EventInText) → tag_places (x ++ y) ≡ tag_places x ++ tag_places y
 places_append [] y = refl
 places_append (e ∷ x) y = ap (λ z. place_of e.tag_offset ++ z) (places_append x y) ∙ sym (append_assoc (place_of e.tag_offset) (tag_places x) (tag_places y))
 
-comments_joined : (cs ds : List CommentValue) (z : List Token) → notes cs ++ (notes ds ++ z) ≡ notes (cs ++ ds) ++ z
-comments_joined cs ds z = sym (append_assoc (notes cs) (notes ds) z) ∙ ap (λ v. v ++ z) (sym (notes_append cs ds))
+pub notes_of_append : (x y : List CommentValue) → notes_of (x ++ y) ≡ notes_of x ++ notes_of y
+notes_of_append [] y = refl
+notes_of_append (c ∷ x) y = ap (λ (z : List Note). note_of c ∷ z) (notes_of_append x y)
+
+pub comments_joined : (cs ds : List CommentValue) (z : List Note) → notes_of cs ++ (notes_of ds ++ z) ≡ notes_of (cs ++ ds) ++ z
+comments_joined cs ds z = sym (append_assoc (notes_of cs) (notes_of ds) z) ∙ ap (λ v. v ++ z) (sym (notes_of_append cs ds))
 
 pub said_after : (cs : List CommentValue) {y : List Token} {x : Meaning} → Says y x → Says (notes cs ++ y) (meaning_after cs x)
 unfolding meaning_after
@@ -111,7 +115,7 @@ pub says_whole : {y : List Token} {x : Meaning} → Says y x → said no_props y
 unfolding said
 says_whole {y} {x} f =
     ap (λ v. said no_props v) (sym (append-nil y)) ∙ f.all []
-    ∙ same_said (append-nil (map value x.events)) (append-nil (notes x.comments)) (append-nil (tag_places x.events)) (append-nil x.escapes)
+    ∙ same_said (append-nil (map value x.events)) (append-nil (notes_of x.comments)) (append-nil (tag_places x.events)) (append-nil x.escapes)
 
 -- a node without properties of its own: the properties before it are its
 pub record SaysNode (y : List Token) (x : Meaning) : Type 0 where
@@ -122,7 +126,7 @@ pub record SaysNode (y : List Token) (x : Meaning) : Type 0 where
   pub bare : event_with no_props first.event ≡ first.event
   pub says : (p : PropsValue) (z : List Token) → said p (y ++ z) ≡ (let s : Said = said no_props z in record {
     events = event_with p first.event ∷ (map (λ e. e.event) others ++ s.events);
-    comments = notes x.comments ++ s.comments;
+    comments = notes_of x.comments ++ s.comments;
     tags = tag_places others ++ s.tags;
     escapes = x.escapes ++ s.escapes;
   })
@@ -191,7 +195,7 @@ says_text style x i j =
 
 -- properties, and the node after them
 abbrev pub with_values : PropertiesValue → Said → Said
-with_values v s = record s { comments = notes v.comments ++ s.comments; tags = place_of v.tag_offset ++ s.tags }
+with_values v s = record s { comments = notes_of v.comments ++ s.comments; tags = place_of v.tag_offset ++ s.tags }
 
 pub record SaysProps (y : List Token) (v : PropertiesValue) : Type 0 where
   pub all : (z : List Token) → said no_props (y ++ z) ≡ with_values v (said v.props z)
@@ -206,7 +210,7 @@ says_with {y} {w} {x} v cs i j f n = record {
       ∙ ap (λ u. with_values v (said v.props u)) (append_assoc (notes cs) w z)
       ∙ ap (λ s. with_values v s) (notes_said v.props cs (w ++ z) ∙ ap (λ s. with_comments cs s) (n.says v.props z))
       ∙ same_said (ap (λ es. map value (first_with v.props v.tag_offset i j es) ++ s.events) (sym n.are))
-      (comments_joined v.comments cs (notes x.comments ++ s.comments) ∙ comments_joined (v.comments ++ cs) x.comments s.comments)
+      (comments_joined v.comments cs (notes_of x.comments ++ s.comments) ∙ comments_joined (v.comments ++ cs) x.comments s.comments)
       (sym (append_assoc (place_of v.tag_offset) (tag_places n.others) s.tags) ∙ ap (λ es. tag_places (first_with v.props v.tag_offset i j es) ++ s.tags) (sym n.are))
       refl;
 }

@@ -12,7 +12,7 @@ use Rattle.yf_lines.specs.Basic.LineStart.{at_text, after_break, after_mark}
 use Rattle.yf_comments.specs.Comment.{CommentValue}
 use Rattle.yf_comments.specs.Comments.{CommentLine, LineEnd, Row}
 use Rattle.yf_comments.specs.Comments.LineEnd.{past_rest, from_start}
-use Rattle.yf_grammar.specs.Productions.Meaning.{Meaning}
+use Rattle.yf_grammar.specs.Productions.Meaning.{Meaning, meaning_after}
 use Rattle.yf_stream.specs.Stream.{Directives, DirectiveLines, Document, Documents, RootNode, ContentAt, ExplicitNode, AnyDocument, PrefixPart, Prefixes, Suffixes, StreamRest, Stream}
 use Rattle.yf_stream.specs.Stream.DirectiveLines.{more_directives}
 use Rattle.yf_stream.specs.Stream.ExplicitNode.{marked_node, marked_nothing}
@@ -66,16 +66,16 @@ abbrev pub Round : List ℕ → ℕ → ℕ → ℕ → Type 0
 Round t e i j = ((k : ℕ) × (((h : ℕ) × (Suffix t i h × Star (Suffix t) h k)) × ((m : ℕ) × (Star (SomeOf (Prefixes t)) k m × ((m ≡ j) ⊎ Any t e m j)))))
     ⊎ (((code t i ≡ 0xFEFF) × (next t i ≡ j)) ⊎ (SomeOf (CommentLine t) i j ⊎ SomeExplicit t e i j))
 
-line_end_begins : {t : List ℕ} {i j : ℕ} {w : List CommentValue} → LineEnd t i j w → Begins t j
+pub line_end_begins : {t : List ℕ} {i j : ℕ} {w : List CommentValue} → LineEnd t i j w → Begins t j
 line_end_begins (past_rest r c) = lines_begin (rest_next r) c
 line_end_begins (from_start s c) = lines_begin (inl s) c
 
-part_begins : {t : List ℕ} {i j : ℕ} {w : List CommentValue} → Begins t i → PrefixPart t i j w → Begins t j
+pub part_begins : {t : List ℕ} {i j : ℕ} {w : List CommentValue} → Begins t i → PrefixPart t i j w → Begins t j
 part_begins (inl s) (order_mark e) = inl (after_mark s e)
 part_begins {t} {i} (inr q) (order_mark e) = let z : code t i ≡ no_char = code-past t i (omega (arith, q)) in absurd (omega (arith, z, e))
 part_begins b (prefix_comment c) = line_begins c
 
-parts_begin : {t : List ℕ} {i j : ℕ} {w : List CommentValue} → Begins t i → Prefixes t i j w → Begins t j
+pub parts_begin : {t : List ℕ} {i j : ℕ} {w : List CommentValue} → Begins t i → Prefixes t i j w → Begins t j
 parts_begin b done = b
 parts_begin b (step p r) = parts_begin (part_begins b p) r
 
@@ -84,7 +84,7 @@ start_within u at_text = omega arith
 start_within u (after_break b) = break_within b
 start_within {t} u (after_mark {i = i} s e) = (reads_real t i u (omega (arith, e))).within
 
-begins_within : {t : List ℕ} {i : ℕ} → IsUtf8 t → Begins t i → i ≤ length t
+pub begins_within : {t : List ℕ} {i : ℕ} → IsUtf8 t → Begins t i → i ≤ length t
 begins_within u (inl s) = start_within u s
 begins_within u (inr e) = omega (arith, e)
 
@@ -119,28 +119,50 @@ rows_of {i = i} done n = record { end = i; comments = []; rows = done; last = no
 rows_of {i = i} (step (mark_row e) r) n = record { end = i; comments = []; rows = done; last = mark_still e }
 rows_of (step (line_row a) r) n = let b = rows_of r n in record { end = b.end; comments = _; rows = step a b.rows; last = b.last }
 
-rows_prefixes : {t : List ℕ} {i j : ℕ} {w : List CommentValue} → Chain (CommentLine t) i j w → SomeOf (Prefixes t) i j
-rows_prefixes done = ([], done)
-rows_prefixes (step l r) = let b = rows_prefixes r in (_, step (prefix_comment l) b.1)
+pub rows_prefixes : {t : List ℕ} {i j : ℕ} {w : List CommentValue} → Chain (CommentLine t) i j w → Prefixes t i j w
+rows_prefixes done = done
+rows_prefixes (step l r) = step (prefix_comment l) (rows_prefixes r)
 
 rows_forward : {t : List ℕ} {i j : ℕ} {w : List CommentValue} → Chain (Row t) i j w → i ≤ j
 rows_forward done = omega arith
 rows_forward (step a r) = let l = a.later in let b = rows_forward r in omega (arith, l, b)
 
 -- N5: comment lines that a bare document begins with are before it
-pub bare_read : (t : List ℕ) (e i j : ℕ) → IsUtf8 t → Begins t i → j ≤ length t → SomeRoot t e i j → (k : ℕ) × (SomeOf (Prefixes t) i k × ((p : ℕ) × (ContentAt t k p × SomeRoot t e k j)))
-bare_read t e i j u (inr q) l r = let s = block_starts r.1.1.0.derived in absurd (omega (arith, q, l, s))
-bare_read t e i j u (inl s) l r =
+pub record BareRead (t : List ℕ) (h i j : ℕ) (x : Meaning) : Type 0 where
+  pub at : ℕ
+  pub comments : List CommentValue
+  pub before : Prefixes t i at comments
+  pub content : ℕ
+  pub starts : ContentAt t at content
+  pub meaning : Meaning
+  pub root : RootNode t h at j meaning
+  pub is : x ≡ meaning_after comments meaning
+
+pub bare_known : {t : List ℕ} {h i j : ℕ} {x : Meaning} → IsUtf8 t → Begins t i → j ≤ length t → RootNode t h i j x → BareRead t h i j x
+bare_known u (inr q) l r = let s = block_starts r.derived in absurd (omega (arith, q, l, s))
+bare_known {t} {i = i} {j = j} u (inl s) l r =
     let p = prefixes_from u i (inl s) in
     let w = rows_of p.rows p.last in
     let lines = rows_lines s w.rows in
-    let d = shed refl (record { start = s; rows = w.rows }) w.last r.1.1.0.derived in
+    let d = shed refl (record { start = s; rows = w.rows }) w.last r.derived in
     let f = block_starts d.derived in
     let g = rows_forward w.rows in
     let start : LineStart t w.end = ⊎_elim (λ (b : LineStart t w.end). b) (λ (z : w.end ≡ length t). absurd (omega (arith, z, f, l))) (lines_begin (inl s) lines) in
     let v = whites_from t (length t) w.end (omega arith) in
-    let x : RootNode t r.0 w.end j d.meaning = record { derived = d.derived; clear = clear_back g r.1.1.0.clear } in
-    (w.end, (rows_prefixes lines, (v.end, (bare_start start w.last v.whites v.stops d.derived, (r.0, (d.meaning, (x, r.1.1.1)))))))
+    record {
+      at = w.end;
+      comments = w.comments;
+      before = rows_prefixes lines;
+      content = v.end;
+      starts = bare_start start w.last v.whites v.stops d.derived;
+      meaning = d.meaning;
+      root = record { derived = d.derived; clear = clear_back g r.clear };
+      is = d.is;
+    }
+
+pub bare_read : (t : List ℕ) (e i j : ℕ) → IsUtf8 t → Begins t i → j ≤ length t → SomeRoot t e i j → (k : ℕ) × (SomeOf (Prefixes t) i k × ((p : ℕ) × (ContentAt t k p × SomeRoot t e k j)))
+bare_read t e i j u s l r =
+    let b = bare_known u s l r.1.1.0 in (b.at, ((b.comments, b.before), (b.content, (b.starts, (r.0, (b.meaning, (b.root, r.1.1.1)))))))
 
 -- [209]: directives, once or more
 pub directives_read : (t : List ℕ) (i k j : ℕ) → SomeDirectives t i k → Star (SomeDirectives t) k j → SomeDirectives t i j

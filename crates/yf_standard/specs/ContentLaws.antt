@@ -1,5 +1,6 @@
--- What the standard's productions mean: the laws that tie what a derivation adds to the content of a scalar (`Contents`) to the relations by
--- which scalars are read, each with the plain sentence that it says. `proofs/ContentLawsHold.antt` proves them.
+-- What the standard's productions mean: the laws that tie what a derivation adds to the content of a scalar
+-- (`Contents`) to the relations by which scalars are read, each with the plain sentence that it says.
+-- `proofs/ContentLawsHold.antt` proves them.
 use Rattle.std.specs.Prelude.{◌≡◌, ℕ, ◌<◌, ℤ, pos, Bool, true, false, List, length, None, encode_utf8_all}
 use Rattle.std.specs.Str.{IsUtf8}
 use Rattle.yf_chars.specs.declared.context.Ctx.{Ctx}
@@ -23,7 +24,8 @@ chomp_of STRIP = Strip
 chomp_of CLIP = Clip
 chomp_of KEEP = Keep
 
--- the lines from a place on that a block scalar with k spaces takes, and what these lines mean, with that style and chomping
+-- the lines from a place on that a block scalar with k spaces takes, and what these lines mean, with that style and
+-- chomping
 pub record BlockContent (t : List ℕ) (folded : Bool) (c : Chomping) (k i : ℕ) (y : List Mark) : Type 0 where
   pub lines : List (List ℕ)
   pub left_open : Bool
@@ -44,8 +46,8 @@ abbrev pub SingleContents : Type 0
 SingleContents = (t : List ℕ) (e i j : ℕ) (n : ℤ) (c : Ctx) → IsUtf8 t → Clear t i j → (d : Derived (read t) t e (c-single-quoted n c) i j)
     → (x : List ℕ) × (SingleQuoted t n c i j x × (content d ≡ marks x))
 
--- Each derivation of a double-quoted scalar (109) that covers no forbidden line means what it is read as: the characters, and the escapes
--- that write none, with their places.
+-- Each derivation of a double-quoted scalar (109) that covers no forbidden line means what it is read as: the
+-- characters, and the escapes that write none, with their places.
 abbrev pub DoubleContents : Type 0
 DoubleContents = (t : List ℕ) (e i j : ℕ) (n : ℤ) (c : Ctx) → IsUtf8 t → Clear t i j → (d : Derived (read t) t e (c-double-quoted n c) i j)
     → DoubleQuoted t n c i j (pieces (content d))
@@ -57,5 +59,5 @@ LiteralContents = (t : List ℕ) (e i j k : ℕ) (c : Chomping) → IsUtf8 t →
 
 -- So does each derivation of the content of a folded scalar (182).
 abbrev pub FoldedContents : Type 0
-FoldedContents = (t : List ℕ) (e i j k : ℕ) (c : Chomping) → IsUtf8 t → Clear t i j → (i < length t → LineStart t i) → (d : Derived (read t) t e (l-folded-content (pos k) c) i j)
-    → BlockContent t true c k i (content d)
+FoldedContents = (t : List ℕ) (e i j k : ℕ) (c : Chomping) → IsUtf8 t → Clear t i j → (i < length t → LineStart t i)
+    → (d : Derived (read t) t e (l-folded-content (pos k) c) i j) → BlockContent t true c k i (content d)

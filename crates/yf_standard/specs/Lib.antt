@@ -10,4 +10,5 @@ pub mod Readings
 pub mod TokenLaws
 pub mod NodeLaws
 pub mod Laws
+pub mod StreamLaws
 pub mod Acceptance

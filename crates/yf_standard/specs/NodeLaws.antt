@@ -1,5 +1,6 @@
--- What the standard's productions mean: the laws that tie the tokens of nodes (`Tokens`), as they are read (`Readings`), to the merged grammar by
--- which nodes are read, each with the plain sentence that it says. `proofs/NodeLawsHold.antt` proves them.
+-- What the standard's productions mean: the laws that tie the tokens of nodes (`Tokens`), as they are read
+-- (`Readings`), to the merged grammar by which nodes are read, each with the plain sentence that it says.
+-- `proofs/NodeLawsHold.antt` proves them.
 use Rattle.std.specs.Prelude.{◌≡◌, ℕ, ◌≤◌, ℤ, true, false, List}
 use Rattle.std.specs.Str.{IsUtf8}
 use Rattle.yf_chars.specs.declared.context.Ctx.{Ctx}
@@ -22,13 +23,13 @@ pub record NodeMeans (t : List ℕ) (e : ℕ) (p : Production) (i j : ℕ) (y : 
   pub within : height ≤ e
   pub says : said no_props y ≡ said_of value
 
--- Each derivation of a flow node (161) that covers no forbidden line is read with the events, the comments, and the places of tags and of bad
--- escapes that its tokens say.
+-- Each derivation of a flow node (161) that covers no forbidden line is read with the events, the comments, and the
+-- places of tags and of bad escapes that its tokens say.
 abbrev pub FlowNodes : Type 0
-FlowNodes = (t : List ℕ) (e i j : ℕ) (n : ℤ) (c : Ctx) → IsUtf8 t → Clear t i j → is_block c ≡ false → (d : Derived (read t) t e (ns-flow-node n c) i j)
-    → NodeMeans t e (FlowNode n c) i j (tokens d)
+FlowNodes = (t : List ℕ) (e i j : ℕ) (n : ℤ) (c : Ctx) → IsUtf8 t → Clear t i j → is_block c ≡ false
+    → (d : Derived (read t) t e (ns-flow-node n c) i j) → NodeMeans t e (FlowNode n c) i j (tokens d)
 
 -- So is each derivation of a block node (196), a document's node among them.
 abbrev pub BlockNodes : Type 0
-BlockNodes = (t : List ℕ) (e i j : ℕ) (n : ℤ) (c : Ctx) → IsUtf8 t → Clear t i j → is_block c ≡ true → (d : Derived (read t) t e (s-l+block-node n c) i j)
-    → NodeMeans t e (BlockNode n c) i j (tokens d)
+BlockNodes = (t : List ℕ) (e i j : ℕ) (n : ℤ) (c : Ctx) → IsUtf8 t → Clear t i j → is_block c ≡ true
+    → (d : Derived (read t) t e (s-l+block-node n c) i j) → NodeMeans t e (BlockNode n c) i j (tokens d)

@@ -1,5 +1,6 @@
--- What the standard's productions mean: the laws that tie the comments and names of a derivation (`Tokens`) to the relations by which they are
--- read, each with the plain sentence that it says. `proofs/TokenLawsHold.antt` proves them.
+-- What the standard's productions mean: the laws that tie the comments and names of a derivation (`Tokens`) to the
+-- relations by which they are read, each with the plain sentence that it says. `proofs/TokenLawsHold.antt` proves
+-- them.
 use Rattle.std.specs.Prelude.{◌≡◌, ℕ, ℤ, Bool, true, false, List, [], ◌∷◌, map, encode_utf8_all}
 use Rattle.std.specs.Str.{IsUtf8}
 use Rattle.yf_chars.specs.declared.context.Ctx.{Ctx}
@@ -27,7 +28,8 @@ pub record PropertiesMean (t : List ℕ) (n : ℤ) (c : Ctx) (i j : ℕ) (y : Li
   pub place : tag_place_among y ≡ value.tag_offset
   pub comments : comments_among y ≡ notes value.comments
 
--- a block scalar with that style, content and tokens: it is read as one scalar with that style and text, and with these comments
+-- a block scalar with that style, content and tokens: it is read as one scalar with that style and text, and with
+-- these comments
 pub record BlockScalarMeans (t : List ℕ) (n : ℤ) (f : Bool) (i j : ℕ) (y : List Mark) (z : List Token) : Type 0 where
   pub value : Meaning
   pub derived : BlockScalar t n i j value
@@ -52,10 +54,13 @@ AliasTokens = (t : List ℕ) (e i j : ℕ) → IsUtf8 t → (d : Derived (read t
 abbrev pub PropertyTokens : Type 0
 PropertyTokens = (t : List ℕ) (e i j : ℕ) (n : ℤ) (c : Ctx) → IsUtf8 t → (d : Derived (read t) t e (c-ns-properties n c) i j) → PropertiesMean t n c i j (tokens d)
 
--- Each derivation of a literal scalar (170) that covers no forbidden line is read as a scalar with its content and its comments.
+-- Each derivation of a literal scalar (170) that covers no forbidden line is read as a scalar with its content and
+-- its comments.
 abbrev pub LiteralScalars : Type 0
-LiteralScalars = (t : List ℕ) (e i j : ℕ) (n : ℤ) → IsUtf8 t → Clear t i j → (d : Derived (read t) t e (c-l+literal n) i j) → BlockScalarMeans t n false i j (content d) (tokens d)
+LiteralScalars = (t : List ℕ) (e i j : ℕ) (n : ℤ) → IsUtf8 t → Clear t i j
+    → (d : Derived (read t) t e (c-l+literal n) i j) → BlockScalarMeans t n false i j (content d) (tokens d)
 
 -- So is each derivation of a folded scalar (174).
 abbrev pub FoldedScalars : Type 0
-FoldedScalars = (t : List ℕ) (e i j : ℕ) (n : ℤ) → IsUtf8 t → Clear t i j → (d : Derived (read t) t e (c-l+folded n) i j) → BlockScalarMeans t n true i j (content d) (tokens d)
+FoldedScalars = (t : List ℕ) (e i j : ℕ) (n : ℤ) → IsUtf8 t → Clear t i j
+    → (d : Derived (read t) t e (c-l+folded n) i j) → BlockScalarMeans t n true i j (content d) (tokens d)

@@ -1,19 +1,41 @@
--- The comments, names, scalars and collections in what the standard's productions derive (6.6, 6.8.2, 6.9, 7 and 8), in order of the text: a
--- function of the derivation, by the name of each production and by what its parts mean.
-use Rattle.std.specs.Prelude.{ℕ, ◌+◌, ◌-◌, Bool, true, false, List, [], ◌∷◌, ◌++◌, Option, Some, None, length, slice_range}
+-- The comments, names, scalars and collections in what the standard's productions derive (6.6, 6.8.2, 6.9, 7 and 8),
+-- in order of the text: a function of the derivation, by the name of each production and by what its parts mean.
+use Rattle.std.specs.Prelude.{ℕ, ◌+◌, ◌-◌, Bool, true, false, List, [], ◌∷◌, ◌++◌, Option, Some, None, codes, encode_utf8_all, length, slice_range}
 use Rattle.yf_comments.specs.Comment.{CommentValue}
 use Rattle.yf_props.specs.Props.{TagValue}
+use Rattle.yf_props.specs.Props.{PropsValue, no_props}
+use Rattle.yf_quoted.specs.Quoted.{text_of, bad_escapes}
+use Rattle.yf_events.specs.Event.{EventValue, scalar_node, alias_node}
+use Rattle.yf_grammar.specs.Productions.Meaning.{event_with, start_of, end_of}
 use Rattle.yf_props.specs.Props.TagValue.{IsVerbatim, IsShort, IsNonSpecific}
 use Rattle.yf_events.specs.declared.event.ScalarStyle.{ScalarStyle}
 use Rattle.yf_events.specs.declared.event.ScalarStyle.TheVariants.{Plain, Single, Double, Literal, Folded}
 use Rattle.yf_standard.specs.Notation.{Form, Condition}
 use Rattle.yf_standard.specs.Notation.Form.{b-break, s-indent, s-indent-less-than, s-indent-less-or-equal, s-separate-in-line, l-empty, c-nb-comment-text, c-tag-handle, c-verbatim-tag, c-ns-shorthand-tag, c-non-specific-tag, c-ns-anchor-property, c-ns-alias-node, b-chomped-last, l-nb-literal-text, b-nb-literal-next, l-nb-diff-lines}
-use Rattle.yf_standard.specs.Notation.Form.{e-scalar, c-double-quoted, c-single-quoted, ns-plain, c-flow-sequence, c-flow-mapping, ns-flow-pair, c-l+literal, c-l+folded, l+block-sequence, ns-l-compact-sequence, l+block-mapping, ns-l-compact-mapping}
+use Rattle.yf_standard.specs.Notation.Form.{l-directive, ns-yaml-directive, ns-tag-directive, ns-directive-name, ns-directive-parameter, ns-yaml-version, ns-tag-prefix, l-bare-document, l-explicit-document, e-scalar, c-double-quoted, c-single-quoted, ns-plain, c-flow-sequence, c-flow-mapping, ns-flow-pair, c-l+literal, c-l+folded, l+block-sequence, ns-l-compact-sequence, l+block-mapping, ns-l-compact-mapping}
 use Rattle.yf_standard.specs.Literal.{Derived}
-use Rattle.yf_standard.specs.Contents.{Mark, Making, meant, content, content_made}
+use Rattle.yf_standard.specs.Contents.{Mark, Making, meant, content, content_made, pieces}
 
--- a comment, where it begins and its text; an anchor's name; an alias and a tag, where each begins and what it names; a tag's handle; a scalar with
--- its content; where a sequence (true) or a mapping starts, in flow style (true) or not, and where it ends
+-- a comment: where it begins, and its text
+pub record Note : Type 0 where
+  pub offset : ℕ
+  pub text : List ℕ
+
+-- what the tokens of a node say: its events, comments, the places of its tags, and of its escapes that write no character
+pub record Said : Type 0 where
+  pub events : List EventValue
+  -- each with where it begins
+  pub comments : List Note
+  pub tags : List ℕ
+  pub escapes : List ℕ
+
+abbrev pub with_event : EventValue → Said → Said
+with_event e s = record s { events = e ∷ s.events }
+
+-- a comment, where it begins and its text; an anchor's name; an alias and a tag, where each begins and what it names;
+-- a tag's handle; a scalar with its content; where a sequence (true) or a mapping starts, in flow style (true) or
+-- not, and where it ends; a word of a directive; a directive, where it begins and its words; a document, whether
+-- `---` is written, and its node's tokens
 pub data Token : Type 0 where
   a_comment : ℕ → List ℕ → Token
   an_anchor : List ℕ → Token
@@ -23,11 +45,52 @@ pub data Token : Type 0 where
   a_scalar : ScalarStyle → List Mark → Token
   starts : Bool → Bool → Token
   ends : Bool → Token
+  a_word : List ℕ → Token
+  a_directive : ℕ → List (List ℕ) → Token
+  a_document : Bool → Said → Token
 
 -- 6.9.1: a handle and the characters after it
 unfoldable pub shorthand : List ℕ → ℕ → ℕ → List Token → TagValue
 shorthand t i j (a_handle h ∷ x) = IsShort h (slice_range t (i + length h) j)
 shorthand t i j x = IsNonSpecific
+
+-- what tokens say after these properties
+unfoldable pub said : PropsValue → List Token → Said
+said p [] = record { events = []; comments = []; tags = []; escapes = [] }
+said p (a_comment i text ∷ x) = let s = said p x in record s { comments = record { offset = i; text = text } ∷ s.comments }
+-- 6.9: properties are those of the next node
+said p (an_anchor name ∷ x) = said (record p { anchor = Some name }) x
+said p (a_tag i tag ∷ x) = let s = said (record p { tag = Some tag }) x in record s { tags = i ∷ s.tags }
+-- 7.1
+said p (an_alias i name ∷ x) = with_event (alias_node name) (said no_props x)
+-- 5.7: an escape that writes no character is U+FFFD
+said p (a_scalar style y ∷ x) =
+    let s = said no_props x in
+    record s {
+      events = scalar_node p style (encode_utf8_all (text_of (pieces y))) ∷ s.events;
+      escapes = bad_escapes (pieces y) ++ s.escapes;
+    }
+said p (starts sequence flow ∷ x) = with_event (event_with p (start_of sequence flow)) (said no_props x)
+said p (ends sequence ∷ x) = with_event (end_of sequence) (said no_props x)
+said p (c ∷ x) = said p x
+
+-- the comments among tokens
+abbrev pub comments_among : List Token → List Token
+comments_among [] = []
+comments_among (a_comment i text ∷ x) = a_comment i text ∷ comments_among x
+comments_among (c ∷ x) = comments_among x
+
+-- the words among tokens: a handle is one
+abbrev pub words_among : List Token → List (List ℕ)
+words_among [] = []
+words_among (a_word word ∷ x) = word ∷ words_among x
+words_among (a_handle word ∷ x) = word ∷ words_among x
+words_among (c ∷ x) = words_among x
+
+-- 9.1.4: a document's node, or none, after `---`
+unfoldable pub marked_document : List Token → List Token
+marked_document (a_document marked s ∷ z) = a_document true s ∷ z
+marked_document x = a_document true (said no_props x) ∷ []
 
 -- y is what the derivation adds to content, x what its parts have
 unfoldable pub tokens_made : List ℕ → Form → ℕ → ℕ → List Mark → List Token → List Token
@@ -40,6 +103,14 @@ tokens_made t s-separate-in-line i j y x = []
 tokens_made t (l-empty n c) i j y x = []
 -- 6.6
 tokens_made t c-nb-comment-text i j y x = a_comment i (slice_range t i j) ∷ []
+-- 6.8
+tokens_made t l-directive i j y x = a_directive i (words_among x) ∷ comments_among x
+tokens_made t ns-yaml-directive i j y x = a_word (codes "YAML") ∷ x
+tokens_made t ns-tag-directive i j y x = a_word (codes "TAG") ∷ x
+tokens_made t ns-directive-name i j y x = a_word (slice_range t i j) ∷ []
+tokens_made t ns-directive-parameter i j y x = a_word (slice_range t i j) ∷ []
+tokens_made t ns-yaml-version i j y x = a_word (slice_range t i j) ∷ []
+tokens_made t ns-tag-prefix i j y x = a_word (slice_range t i j) ∷ []
 -- 6.8.2 and 6.9.1
 tokens_made t c-tag-handle i j y x = a_handle (slice_range t i j) ∷ []
 tokens_made t c-verbatim-tag i j y x = a_tag i (IsVerbatim (slice_range t (i + 2) (j - 1))) ∷ []
@@ -69,6 +140,9 @@ tokens_made t (l+block-sequence n) i j y x = starts true false ∷ (x ++ ends tr
 tokens_made t (ns-l-compact-sequence n) i j y x = starts true false ∷ (x ++ ends true ∷ [])
 tokens_made t (l+block-mapping n) i j y x = starts false false ∷ (x ++ ends false ∷ [])
 tokens_made t (ns-l-compact-mapping n) i j y x = starts false false ∷ (x ++ ends false ∷ [])
+-- 9.1
+tokens_made t l-bare-document i j y x = a_document false (said no_props x) ∷ []
+tokens_made t l-explicit-document i j y x = marked_document x
 -- all others have what their parts have
 tokens_made t f i j y x = x
 
@@ -86,12 +160,7 @@ abbrev pub notes : List CommentValue → List Token
 notes [] = []
 notes (c ∷ cs) = a_comment c.offset c.text ∷ notes cs
 
--- the comments among tokens; the first anchor, and the first tag with its place
-abbrev pub comments_among : List Token → List Token
-comments_among [] = []
-comments_among (a_comment i text ∷ x) = a_comment i text ∷ comments_among x
-comments_among (c ∷ x) = comments_among x
-
+-- the first anchor among tokens, and the first tag with its place
 abbrev pub anchor_among : List Token → Option (List ℕ)
 anchor_among [] = None
 anchor_among (an_anchor name ∷ x) = Some name
@@ -106,3 +175,11 @@ abbrev pub tag_place_among : List Token → Option ℕ
 tag_place_among [] = None
 tag_place_among (a_tag i tag ∷ x) = Some i
 tag_place_among (c ∷ x) = tag_place_among x
+
+abbrev pub note_of : CommentValue → Note
+note_of c = record { offset = c.offset; text = c.text }
+
+-- the comments, each with where it begins
+abbrev pub notes_of : List CommentValue → List Note
+notes_of [] = []
+notes_of (c ∷ cs) = note_of c ∷ notes_of cs

@@ -3,6 +3,7 @@ ghost use Rattle.yf_standard.specs.Acceptance.{FaultsTellOfTheStandard, Standard
 ghost use Rattle.yf_standard.specs.ContentLaws.{DoubleContents, FoldedContents, LiteralContents, PlainContents, SingleContents};
 ghost use Rattle.yf_standard.specs.Laws.{ForbiddenLinesAreStandard, ReadTextsAreStandard, RefusedStreamsAreNone, RulesOnlyRestrict, StandardStreamsAreDerived, StreamsAreStandard};
 ghost use Rattle.yf_standard.specs.NodeLaws.{BlockNodes, FlowNodes};
+ghost use Rattle.yf_standard.specs.StreamLaws.{ReadingsAreSaid, StreamTokens};
 ghost use Rattle.yf_standard.specs.TokenLaws.{AliasTokens, CommentTokens, FoldedScalars, LiteralScalars, PropertyTokens, SeparateTokens};
 
 /// Does nothing: its contract is what holds of every text. What is derived here as a stream, within the limit of
@@ -31,6 +32,8 @@ pub fn standard_laws()
 /// comments, of separation, of an alias and of node properties has the comments and names with which it is read (6.6 to
 /// 6.9, 7.1). Each derivation of a node that covers no forbidden line has the events, the comments, and the places of
 /// tags and of bad escapes with which it is read: that is what its tokens say (`specs/Readings.antt`; chapters 7 and 8).
+/// Each derivation of all of a text as a stream is read as the documents that its tokens say, with their directives and
+/// with all comments (6.8 and chapter 9). So all derivations of a text that has a reading say that reading.
 pub fn meaning_laws()
     ensures plain { PlainContents }
     ensures single { SingleContents }
@@ -45,4 +48,6 @@ pub fn meaning_laws()
     ensures foldeds { FoldedScalars }
     ensures flow_nodes { FlowNodes }
     ensures block_nodes { BlockNodes }
+    ensures streams { StreamTokens }
+    ensures readings { ReadingsAreSaid }
 {}

@@ -2,6 +2,7 @@ use Rattle.yf_standard.proofs.ContentLawsHold.{plain_contents, single_contents, 
 use Rattle.yf_standard.proofs.TokenLawsHold.{comment_tokens, separate_tokens, alias_tokens, property_tokens}
 use Rattle.yf_standard.proofs.ScalarsMean.{literal_scalars, folded_scalars}
 use Rattle.yf_standard.proofs.NodeLawsHold.{flow_nodes, block_nodes}
+use Rattle.yf_standard.proofs.StreamLawsHold.{stream_tokens, readings_are_said}
 use Rattle.yf_standard.proofs.laws.meaning_laws.Goals as goal
 
 pub returns-clause-plain : goal.returns-clause-plain
@@ -42,3 +43,9 @@ returns-clause-flow_nodes c = flow_nodes
 
 pub returns-clause-block_nodes : goal.returns-clause-block_nodes
 returns-clause-block_nodes c = block_nodes
+
+pub returns-clause-streams : goal.returns-clause-streams
+returns-clause-streams c = stream_tokens
+
+pub returns-clause-readings : goal.returns-clause-readings
+returns-clause-readings c = readings_are_said

@@ -1,0 +1,2 @@
+-- the laws of the life cycle
+pub mod LifecycleLemmas

@@ -1,0 +1,3 @@
+pub mod Lifecycle
+pub mod Answers
+pub mod Laws

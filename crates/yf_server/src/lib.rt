@@ -1,0 +1,6 @@
+//! The part of an editor server that needs no YAML: the life cycle of the Language Server Protocol 3.17.
+#![tactic(auto)]
+
+pub mod answer;
+pub mod laws;
+pub mod lifecycle;

@@ -1,0 +1,135 @@
+//! What a server does with each message, by how far it is.
+ghost use Rattle.std.specs.Prelude.{◌≡◌};
+ghost use Rattle.yf_json_rpc.specs.Messages.{kind_read};
+ghost use Rattle.yf_server.specs.Lifecycle.{notification_step, request_step, step_of};
+
+use yf_json_rpc::error_code::ErrorCode;
+use yf_json_rpc::message::Message;
+
+/// How far a server is.
+#[derive(Clone, Copy)]
+pub enum Phase {
+    /// No request `initialize` has come.
+    Fresh,
+    /// `initialize` has come, and `shutdown` has not.
+    Running,
+    /// `shutdown` has come.
+    ShutDown,
+}
+
+/// What a server does with a message.
+#[derive(Clone, Copy)]
+pub enum Task {
+    /// It answers `initialize` with its capabilities.
+    Initialize,
+    /// It answers `shutdown` with null.
+    Shutdown,
+    /// It answers a request that is not of the life cycle.
+    Request,
+    /// It answers with an error.
+    Fail(ErrorCode),
+    /// It acts on a notification that is not of the life cycle, and answers nothing.
+    Notification,
+    /// It does nothing.
+    Ignore,
+    /// It ends, after `shutdown` with success.
+    Exit { is_success: bool },
+}
+
+/// How far a server is after a message, and what it does with it.
+#[derive(Clone, Copy)]
+pub struct Step {
+    pub phase: Phase,
+    pub task: Task,
+}
+
+/// Returns what a server does with a request.
+fn request_step(phase: Phase, method: &str) -> Step
+    ensures { result ≡ request_step phase method.now }
+{
+    match phase {
+        Phase::Fresh => {
+            if method == "initialize" {
+                return Step {
+                    phase: Phase::Running,
+                    task: Task::Initialize,
+                };
+            }
+            Step {
+                phase,
+                task: Task::Fail(ErrorCode::ServerNotInitialized),
+            }
+        }
+        Phase::Running => {
+            if method == "initialize" {
+                return Step {
+                    phase,
+                    task: Task::Fail(ErrorCode::InvalidRequest),
+                };
+            }
+            if method == "shutdown" {
+                return Step {
+                    phase: Phase::ShutDown,
+                    task: Task::Shutdown,
+                };
+            }
+            Step {
+                phase,
+                task: Task::Request,
+            }
+        }
+        Phase::ShutDown => Step {
+            phase,
+            task: Task::Fail(ErrorCode::InvalidRequest),
+        },
+    }
+}
+
+/// Returns what a server does with a notification.
+fn notification_step(phase: Phase, method: &str) -> Step
+    ensures { result ≡ notification_step phase method.now }
+{
+    if method == "exit" {
+        let is_success = match phase {
+            Phase::Fresh => false,
+            Phase::Running => false,
+            Phase::ShutDown => true,
+        };
+        return Step {
+            phase,
+            task: Task::Exit { is_success },
+        };
+    }
+    match phase {
+        Phase::Fresh => Step {
+            phase,
+            task: Task::Ignore,
+        },
+        Phase::Running => Step {
+            phase,
+            task: Task::Notification,
+        },
+        Phase::ShutDown => Step {
+            phase,
+            task: Task::Ignore,
+        },
+    }
+}
+
+/// Returns what a server does with a message, and how far it is then.
+pub fn next_step(phase: Phase, message: Message<'_>) -> Step
+    ensures { result ≡ step_of phase (kind_read message.entry) }
+{
+    match message {
+        Message::Request { id: _, method } => request_step(phase, method),
+        Message::Notification { method } => notification_step(phase, method),
+        Message::Response { id: _ } => Step {
+            phase,
+            task: Task::Ignore,
+        },
+        Message::Invalid => Step {
+            phase,
+            task: Task::Fail(ErrorCode::InvalidRequest),
+        },
+    }
+}
