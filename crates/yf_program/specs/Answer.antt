@@ -241,8 +241,8 @@ RefusesBytes bytes why = IsUtf8 bytes × IsStreamFault bytes why × StreamFault 
 
 -- At any moment, also if the run or the machine stops, the file holds what it held or exactly the formatting of its
 -- text, whole, and no other name than the new one ever has anything else. If all is well it has its formatting, whatever
--- may be found after a crash, or it had it before and nothing was touched; else it is as it was, or the error says what
--- is left. A formatter that refused has refused some bytes, also if nothing is known of the files.
+-- may be found after a crash; or it had it before, nothing was touched, and it still has it. Else it is as it was, or
+-- the error says what is left. A formatter that refused has refused some bytes, also if nothing is known of the files.
 -- (tells: whether the file system says what is in it; old, new: its states)
 abbrev pub RewritesFile : Type 0 → FilesState → FilesState → List ℕ → Style → Result Unit (RewriteError Fault) → Type 0
 RewritesFile tells old new file style result =

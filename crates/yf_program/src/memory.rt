@@ -43,8 +43,8 @@ fn is_whole(is_broken: bool, is_deaf: bool, faults: &[u8]) -> bool
     true
 }
 
-// Returns whether a text ends a line. A command writes the line of a fault first, and only then explains it; each text is written
-// whole or not at all.
+// Returns whether a text ends a line. The line of a fault is written first, and only then lines that explain it. Each
+// text is written whole or not at all.
 fn ends_line(text: &[u8]) -> bool
     ensures { result ≡ true → IsLine text.now }
 {

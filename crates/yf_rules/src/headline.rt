@@ -10,23 +10,32 @@ ghost use Rattle.yf_rules.specs.TreeSets.{SetsOfTextsAreExact};
 ghost use Rattle.yf_rules.specs.UniqueFindings.{FindingsAreOne};
 ghost use Rattle.yf_standard.specs.Acceptance.{FaultsTellOfTheStandard, StandardStreamsMeanOne, StandardTextsAreRead};
 ghost use Rattle.yf_standard.specs.Laws.{ReadTextsAreStandard};
+ghost use Rattle.yf_standard.specs.StreamLaws.{ReadingsAreSaid, StreamTokens};
 ghost use Rattle.yf_stream.specs.HasReading.{WellFormedTextsHaveReadings};
 ghost use Rattle.yf_stream.specs.Laws.{ReadTextsHaveNoFault, ReadingsAreOne};
 
 use yf_laws::every_text::{rules_are_mended, settings_are_kept, texts_are_read_and_formatted};
+use yf_standard::laws::meaning_laws;
 
-/// The laws of reading and of formatting, of every text and every style. It does nothing: its contract is what it is for.
+/// The laws of reading and formatting, for every text and every style. The function does nothing; its contract is what
+/// it is for.
 ///
-/// A text has a reading exactly where the standard's productions (YAML 1.2.2, chapters 5 to 9), with the reading rules, derive
-/// all of it as `l-yaml-stream` with at most `DEPTH` collections open at once, and what it means, which is one thing, breaches nothing
-/// that must hold besides (sections 5.7, 6.8, 6.9 and 7.1). Without the reading rules they derive it too. A refusal tells which
-/// of the two is wanting. A text has one reading alone. Where it has one, `read_stream` refuses it for want of memory alone; where
-/// that refuses it for another cause, it has none. Each such text has a formatting in each style, which is such a text too, keeps
-/// content and comments, is its own formatting, and has nothing at fault that the house style fixes. It begins its documents as
-/// `document_start` says, spells quoted scalars as `invisible` says, and keeps comments in their blocks if `comments` says so.
+/// A text has a reading exactly if the standard's productions (YAML 1.2.2, chapters 5 to 9), with the reading rules,
+/// derive all of it as `l-yaml-stream` with at most `DEPTH` collections open at once, and its meaning, which is unique,
+/// breaks none of the further rules (sections 5.7, 6.8, 6.9 and 7.1). Without the reading rules they derive it too. A
+/// refusal says which of the two is missing. A text has only one reading. If it has one, `read_stream` refuses it only
+/// for lack of memory; if `read_stream` refuses it for another reason, it has none.
+///
+/// The tokens of each derivation of a text say its documents, and so the reading: directives, events with their anchors
+/// and tags, and comments (`streams`, `readings`). So all derivations say one reading.
+///
+/// Each such text has a formatting in each style, which is such a text too, keeps content and comments, is its own
+/// formatting, and has no fault that `fmt` fixes. It begins its documents as `document_start` says, spells quoted
+/// scalars as `invisible` says, and keeps comments in their blocks if `comments` says so.
 ///
 /// Each reading of a text has trees, its comments and its offsets are in the order of the text, and its scalars can be
-/// spelled in their styles. In such a reading each rule finds exactly its set, and a check has only one list of findings.
+/// spelled in their styles. In such a reading each rule finds exactly its set, and a check has only one list of
+/// findings.
 pub fn headline()
     ensures standard { StandardTextsAreRead }
     ensures meant { StandardStreamsMeanOne }
@@ -37,6 +46,8 @@ pub fn headline()
     ensures textual { ReadingsAreOfTexts }
     ensures accepted { ReadTextsHaveNoFault }
     ensures refused { RefusedTextsHaveNoReading }
+    ensures streams { StreamTokens }
+    ensures readings { ReadingsAreSaid }
     ensures formatted { StandardTextsAreFormatted }
     ensures starts { StartsAreKept }
     ensures spelled { QuotesAreSpelled }
@@ -52,4 +63,5 @@ pub fn headline()
     texts_are_read_and_formatted();
     rules_are_mended();
     settings_are_kept();
+    meaning_laws();
 }

@@ -2,8 +2,6 @@
 //! read for its caller, who may explain a fault with them.
 ghost use Rattle.std.specs.Prelude.{◌≡◌, string_bytes, IfErr, IfOk, MatchResult, OnOk};
 ghost use Rattle.yf_rules.specs.AllRules.{FoundWithout};
-ghost use Rattle.yf_rules.specs.Asked.{asked};
-ghost use Rattle.yf_rules.specs.Check.{CheckAnswer, RuleFindings};
 ghost use Rattle.yf_rules.specs.Findings.{FoundIn};
 ghost use Rattle.yf_rules.specs.Runs.ByteStream.{BreaksOff, WriteEnds, Writes, stream_of};
 ghost use Rattle.yf_rules.specs.Runs.Run.{Gave, Keeps, NotationWritten, RefusedEvents, RefusedCheck, RefusedFmt};
@@ -11,12 +9,10 @@ ghost use Rattle.yf_rules.specs.Runs.Run.{RefusedText, FormattingGiven, Formatti
 ghost use Rattle.yf_rules.specs.Runs.Run.{finding_line, findings_text, has_any};
 ghost use Rattle.yf_stream.specs.StreamReader.{StreamFault};
 
-use crate::check::check;
 use crate::check_all::check_all;
 use crate::finding::Finding;
 use crate::format::format;
 use crate::input::{read_all, text_of};
-use crate::rule::Rule;
 use itoa::Buffer;
 use std::alloc::{AllocError, Global};
 use yf_events::notation::write_events;
@@ -63,50 +59,14 @@ pub fn run_events<R: Source, W: Sink>(
     write_events(&reading, writer)
 }
 
-/// Reads all bytes, and writes a line for each finding of the rules, except those whose names are in `without`, sorted
-/// by position: line and column, the rule's name, and ` (fixable)` if the house style fixes it. Returns whether there
-/// is a finding, and keeps the findings. In a text that formatting gives with the same settings, none of them is one
-/// that the house style fixes.
+/// Reads all bytes, and writes a line for each finding of all rules of style, except those whose names are in
+/// `without`, sorted by position: line and column, the rule's name, and ` (fixable)` if the house style fixes it.
+/// Returns whether there is a finding, and keeps the findings. In a text that formatting gives with the same settings,
+/// none of them is one that the house style fixes. Memory for the rules is taken only after a text was read.
 ///
 /// # Errors
 ///
 /// Fails like `run_events`, and writes nothing, except a prefix of the lines after `WriteFailed`.
-pub fn run_check<R: Source, W: Sink>(
-    alloc: Global,
-    rules: &[Box<dyn Rule>],
-    without: &[OwnedText],
-    reader: &mut R,
-    kept: &mut Vec<u8>,
-    found: &mut Vec<Finding>,
-    writer: &mut W,
-    style: &Style,
-) -> Result<bool, Fault>
-    ensures findings { IfOk result (λ any. FindingsWritten (λ src reading findings. CheckAnswer
-        (λ rule found. RuleFindings (definition rule) src reading style.now found)
-        (asked (λ rule. definition rule) without.now rules.now) findings)
-        style.now (stream_of R.remaining R.has_failed reader.old)
-        (stream_of W.contents W.has_failed writer.old) (stream_of W.contents W.has_failed writer.new) any) }
-    ensures reader { OnOk result (R.has_failed reader.new ≡ R.has_failed reader.old) }
-    ensures bytes { MatchResult result (λ _. Gave (R.remaining reader.old) kept.new.items)
-        (Keeps (R.remaining reader.old) kept.new.items) }
-    ensures refusals { IfErr result (λ fault. RefusedCheck
-        (λ src reading findings. CheckAnswer (λ rule found. RuleFindings (definition rule) src reading style.now found)
-        (asked (λ rule. definition rule) without.now rules.now) findings)
-        style.now (stream_of R.remaining R.has_failed reader.old) (stream_of R.remaining R.has_failed reader.new)
-        (stream_of W.contents W.has_failed writer.old) (stream_of W.contents W.has_failed writer.new) fault) }
-{
-    *kept = read_all(alloc, reader, INPUT_LIMIT)?;
-    let text = text_of(kept.as_slice())?;
-    let findings = findings_in(alloc, rules, without, text, style)?;
-    print_findings(findings, found, writer)
-}
-
-/// Reads all bytes, and writes a line for each finding of all rules of style, like `run_check`. Memory for the rules is
-/// taken only after a text was read.
-///
-/// # Errors
-///
-/// Fails like `run_check`.
 pub fn run_check_all<R: Source, W: Sink>(
     alloc: Global,
     without: &[OwnedText],
@@ -130,28 +90,6 @@ pub fn run_check_all<R: Source, W: Sink>(
     let text = text_of(kept.as_slice())?;
     let findings = all_findings_in(alloc, without, text, style)?;
     print_findings(findings, found, writer)
-}
-
-// Returns what the rules find in a text, except those whose names are in `without`.
-fn findings_in(
-    alloc: Global,
-    rules: &[Box<dyn Rule>],
-    without: &[OwnedText],
-    text: &str,
-    style: &Style,
-) -> Result<Vec<Finding>, Fault>
-    ensures found { IfOk result (λ findings. FoundIn (λ src reading findings. CheckAnswer
-        (λ rule found. RuleFindings (definition rule) src reading style.now found)
-        (asked (λ rule. definition rule) without.now rules.now) findings)
-        style.now text.now findings.items) }
-    ensures refuses { IfErr result (StreamFault text.now) }
-{
-    let src = match Src::new(alloc, text) {
-        Ok(src) => src,
-        Err(AllocError) => return Err(Fault::Memory),
-    };
-    let stream = read_stream(alloc, text)?;
-    check(alloc, rules, without, &src, &stream, style)
 }
 
 // Returns what all rules of style find in a text, except those whose names are in `without`.

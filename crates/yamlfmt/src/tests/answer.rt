@@ -1,85 +1,72 @@
 //! The whole program over inputs in memory: its status, what it writes, and what it opens, in order.
-ghost use Rattle.std.specs.Prelude.{[]};
-ghost use Rattle.yf_program.specs.World.{nothing_known};
 
 use crate::tests::answer_rows::{BEFORE, ROWS, Row};
 use crate::tests::answers::words_of;
 use std::alloc::{AllocError, Global};
 use yf_files::{FileSystem, MemoryFiles};
-use yf_lines::fault::Fault;
-use yf_lines::watched::Watched;
 use yf_program::answer::answer;
-use yf_program::inputs::{Again, Inputs};
+use yf_program::memory_inputs::{MemoryInputs, Stored};
 use yf_program::sources::Sources;
 use yf_program::streams::in_memory;
 
 /// The files, and what they hold.
-static FILES: [(&str, &[u8]); 13] = [
-    ("good.toml", b"quotes = \"single\"\n"),
-    ("bad.toml", b"indent = 9\na = 1\n"),
-    ("no.toml", b"\xFF"),
-    ("a.yaml", b"---\na: \"x\" # c\n"),
-    ("refused.yaml", b"- a\n- b: *x\n"),
-    ("deep.yaml", b"---\na:\n    b: 1\n    c: |\n       x\n"),
-    ("é\t\"\u{9B}.yaml", b"a\n"),
-    ("e.yaml", b"a\xC3\xA9\n"),
-    ("at0", b"\xF0\x9F\x98"),
-    ("at1", b"a\xFF"),
-    ("at2", b"a\n\xFF"),
-    ("ab2", b"ab\xED\xA0\x80c"),
-    ("at4", b"- a\n\xFF"),
+static FILES: [Stored; 13] = [
+    Stored {
+        name: "good.toml",
+        bytes: b"quotes = \"single\"\n",
+    },
+    Stored {
+        name: "bad.toml",
+        bytes: b"indent = 9\na = 1\n",
+    },
+    Stored {
+        name: "no.toml",
+        bytes: b"\xFF",
+    },
+    Stored {
+        name: "a.yaml",
+        bytes: b"---\na: \"x\" # c\n",
+    },
+    Stored {
+        name: "refused.yaml",
+        bytes: b"- a\n- b: *x\n",
+    },
+    Stored {
+        name: "deep.yaml",
+        bytes: b"---\na:\n    b: 1\n    c: |\n       x\n",
+    },
+    Stored {
+        name: "é\t\"\u{9B}.yaml",
+        bytes: b"a\n",
+    },
+    Stored {
+        name: "e.yaml",
+        bytes: b"a\xC3\xA9\n",
+    },
+    Stored {
+        name: "at0",
+        bytes: b"\xF0\x9F\x98",
+    },
+    Stored {
+        name: "at1",
+        bytes: b"a\xFF",
+    },
+    Stored {
+        name: "at2",
+        bytes: b"a\n\xFF",
+    },
+    Stored {
+        name: "ab2",
+        bytes: b"ab\xED\xA0\x80c",
+    },
+    Stored {
+        name: "at4",
+        bytes: b"- a\n\xFF",
+    },
 ];
 
 /// Standard input.
-static STANDARD: &[u8] = b"- 'a'\n";
-
-/// Inputs in memory, and the names of those that were opened, a space after each.
-#[derive(Drop)]
-struct Shelf {
-    opened: Vec<u8>,
-}
-
-impl Shelf {
-    /// Notes a name. Memory that is refused for it ends in a name that is missing, which a test tells.
-    fn note(&mut self, name: &str) {
-        let _ = self.opened.extend_from_slice(name.as_bytes());
-        let _ = self.opened.push(b' ');
-    }
-}
-
-impl Inputs for Shelf {
-    type File = Watched<&'static [u8]>;
-
-    type Standard = Watched<&'static [u8]>;
-
-    ghost claim = { λ _. nothing_known };
-
-    ghost opened = { λ _. [] };
-
-    fn open_file(&mut self, name: &str) -> Result<Watched<&'static [u8]>, Fault> {
-        self.note(name);
-        for (known, bytes) in &FILES {
-            if *known == name {
-                return Ok(Watched::new(*bytes));
-            }
-        }
-        Err(Fault::ReadFailed)
-    }
-
-    fn read_again(&self, alloc: Global, name: &str) -> Result<Again, AllocError> {
-        for (known, bytes) in &FILES {
-            if *known == name {
-                return Ok(Again::Bytes(Vec::from_slice(alloc, bytes)?));
-            }
-        }
-        Ok(Again::Words(String::from_str(alloc, "no such file")?))
-    }
-
-    fn open_standard(&mut self) -> Watched<&'static [u8]> {
-        self.note("-");
-        Watched::new(STANDARD)
-    }
-}
+const STANDARD: &[u8] = b"- 'a'\n";
 
 /// The file that may be rewritten.
 const FILE: &str = "b.yaml";
@@ -101,7 +88,9 @@ fn ends_with(files: &MemoryFiles, text: &str) -> bool {
 
 /// Whether the words are answered as the row says.
 fn is_answered(alloc: Global, words: &[String], row: &Row) -> bool {
-    let inputs = Shelf {
+    let inputs = MemoryInputs {
+        files: &FILES,
+        standard: STANDARD,
         opened: Vec::new(alloc),
     };
     let Some(files) = one_file(alloc) else {

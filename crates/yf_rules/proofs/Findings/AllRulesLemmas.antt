@@ -4,8 +4,6 @@ use Rattle.std.specs.Prelude.{cond, not}
 use Rattle.yf_forms.specs.declared.style.Style.{Style}
 use Rattle.yf_events.specs.declared.lists.Lists.{Lists}
 use Rattle.yf_lines.specs.Lines.{Table}
-use Rattle.yf_lines.specs.declared.fault.Fault.{Fault}
-use Rattle.yf_lines.specs.declared.fault.Fault.TheVariants.{NotUtf8, Syntax, TooDeep, UnknownHandle, UnknownAlias, RepeatedDirective, BadVersion, EscapeValue, Memory, ReadFailed, WriteFailed, Config}
 use Rattle.yf_rules.specs.declared.finding.Finding.{Finding}
 use Rattle.yf_rule_sets.specs.declared.rules.StyleRule.{StyleRule}
 use Rattle.yf_rule_sets.specs.declared.rules.StyleRule.TheVariants.{TrailingBlanks, Indentation, Quoting, DocumentStart, FinalBreak, LineBreaks, ByteOrderMark, BlankLines, FlowLayout, CommentSpace, LineLength, RepeatedKeys, KeyMark, HiddenCharacter}
@@ -19,8 +17,6 @@ use Rattle.yf_rule_sets.specs.Definition.{RuleDefinition}
 use Rattle.yf_rule_sets.specs.RuleSets.Places.{FoundAt}
 use Rattle.yf_rule_sets.specs.RuleSets.Places.FoundAt.{found_at}
 use Rattle.yf_rule_sets.specs.RuleOf.{definition_of}
-use Rattle.yf_rules.specs.Runs.ByteStream.{ByteStream}
-use Rattle.yf_rules.specs.Runs.Run.{CheckResult, RefusedCheck, FindingsWritten}
 
 -- each rule is listed, at its number less one
 pub rules_are_listed : RulesAreListed
@@ -110,43 +106,3 @@ module _ {B : Type 0} (definition : B → RuleDefinition) (src : Table) (reading
   pub all_find : (without : List (List ℕ)) (bs : List B) (findings : List Finding) → Are definition bs all_rules
       → CheckAnswer (λ b x. RuleFindings (definition b) src reading style x) (asked definition without bs) findings → FoundWithout without style src reading findings
   all_find without bs findings are (checked order sorted) = checked (in_order (rules_without without) (asked_are definition without bs all_rules are) order) sorted
-
--- The run that checks, by values that are all rules: it is told by the rules themselves.
-module _ {B : Type 0} (definition : B → RuleDefinition) (bs : List B) (are : Are definition bs all_rules) (style : Style) (without : List (List ℕ)) where
-  -- what values find, but those that are left out
-  abbrev pub ByValues : Table → Lists → List Finding → Type 0
-  ByValues src reading findings = CheckAnswer (λ b x. RuleFindings (definition b) src reading style x) (asked definition without bs) findings
-
-  found_by_all : {known : Option (List ℕ)} {findings : List Finding} → CheckResult ByValues style known findings → CheckResult (FoundWithout without style) style known findings
-  found_by_all {findings = findings} f = record {
-    src = f.src;
-    reading = f.reading;
-    gave = f.gave;
-    within = f.within;
-    utf8 = f.utf8;
-    lines = f.lines;
-    nested = f.nested;
-    reads = f.reads;
-    checked = all_find definition f.src f.reading style without bs findings are f.checked;
-    mends = f.mends;
-  }
-
-  pub told_by_all : {input before after : ByteStream} {any : Bool} → FindingsWritten ByValues style input before after any
-      → FindingsWritten (FoundWithout without style) style input before after any
-  told_by_all t = record { findings = t.findings; found = found_by_all t.found; wrote = t.wrote; answer = t.answer }
-
-  pub refused_by_all : (input left before after : ByteStream) (fault : Fault) → RefusedCheck ByValues style input left before after fault
-      → RefusedCheck (FoundWithout without style) style input left before after fault
-  refused_by_all input left before after WriteFailed r =
-      (record { findings = r.0.findings; found = found_by_all r.0.found; broke = r.0.broke }, r.1)
-  refused_by_all input left before after (NotUtf8 offset) r = r
-  refused_by_all input left before after (Syntax place what) r = r
-  refused_by_all input left before after (TooDeep place) r = r
-  refused_by_all input left before after (UnknownHandle place) r = r
-  refused_by_all input left before after (UnknownAlias place) r = r
-  refused_by_all input left before after (RepeatedDirective place) r = r
-  refused_by_all input left before after (BadVersion place) r = r
-  refused_by_all input left before after (EscapeValue place) r = r
-  refused_by_all input left before after Memory r = r
-  refused_by_all input left before after ReadFailed r = r
-  refused_by_all input left before after (Config key) r = r

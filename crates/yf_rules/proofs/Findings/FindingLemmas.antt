@@ -80,7 +80,8 @@ lines_written input before after {findings} (Ok any) found wrote answer =
 lines_written input before after (Err fault) found wrote answer = tt
 
 pub lines_broke : (C : CheckClaim) (style : Style) (input before after : ByteStream) {failed : Bool}
-    {findings : List Finding} (outcome : Result Bool Fault) → CheckResult C style input.contents findings → failed ≡ input.failed
+    {findings : List Finding} (outcome : Result Bool Fault) → CheckResult C style input.contents findings
+    → failed ≡ input.failed
     → IfErr outcome (λ fault. (fault ≡ WriteFailed) × BreaksOff before after (findings_text findings))
     → IfErr outcome (RefusedCheck C style input (left_of input failed) before after)
 lines_broke C style input before after (Ok any) found works broke = tt
@@ -92,10 +93,6 @@ lines_broke C style input before after {failed} {findings} (Err fault) found wor
 pub wrote_same : (before after : ByteStream) {x y : List Finding} → x ≡ y → Writes before after (findings_text x)
     → Writes before after (findings_text y)
 wrote_same before after same wrote = subst (λ z. Writes before after (findings_text z)) same wrote
-
-pub broke_same : (before after : ByteStream) {x y : List Finding} → x ≡ y
-    → BreaksOff before after (findings_text x) → BreaksOff before after (findings_text y)
-broke_same before after same broke = subst (λ z. BreaksOff before after (findings_text z)) same broke
 
 pub any_same : {x y : List Finding} → x ≡ y → has_any x ≡ has_any y
 any_same e = ap has_any e
