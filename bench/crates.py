@@ -1,16 +1,17 @@
 #!/usr/bin/env python3
-"""Makes the diagram and the table of crates in docs/ARCHITECTURE.md from crates.txt.
+"""Makes the diagram and the list of crates in docs/ARCHITECTURE.md from crates.txt.
 
 Usage: bench/crates.py [--check | --write]
 
-The diagram has a line for each level: a crate is one level above the highest crate that it uses. The column "Uses"
-names the crates of this repository that a crate uses directly, and then the libraries of the kit. The script keeps the
-column "What it is for"; a new crate gets the first sentence of its root file. With --check it fails if the page
-differs, with --write it writes the page, and otherwise it prints both.
+The diagram has a line for each level: a crate is one level above the highest crate that it uses. In the list, a crate
+is followed, in parentheses, by the crates that it uses, without those below another one of these, and by the libraries
+of the kit; and then by its description. The script keeps descriptions; a new crate gets the first sentence of its root
+file. With --check it fails if the page differs, with --write it writes the page, and otherwise it prints both.
 """
 import os
 import re
 import sys
+import textwrap
 
 TOP = os.path.dirname(os.path.dirname(os.path.abspath(__file__)))
 PAGE = 'docs/ARCHITECTURE.md'
@@ -80,12 +81,19 @@ def sentence(name):
     return ''
 
 
-def table(uses, page):
-    """The rows of the crates, the highest first."""
-    kept = dict(re.findall(r'^\| `(\w+)` \| (.*?) \|', page, re.M))
-    level = levels(uses)
-    names = sorted(uses, key=lambda name: -level[name])
-    rows = ['| `%s` | %s | %s |' % (name, kept.get(name) or sentence(name), used(uses, name)) for name in names]
+def described(page):
+    """The description of each crate in the page."""
+    items = re.findall(r'^- \*\*(\w+)\*\*(?: \([^)]*\))?: (.*(?:\n  .*)*)', page, re.M)
+    return {name: ' '.join(text.split()) for name, text in items}
+
+
+def items(uses, page):
+    """The list of the crates, the highest first."""
+    kept, level, rows = described(page), levels(uses), []
+    for name in sorted(uses, key=lambda name: -level[name]):
+        below = used(uses, name)
+        row = '- **%s**%s: %s' % (name, ' (%s)' % below if below else '', kept.get(name) or sentence(name))
+        rows += textwrap.wrap(row, 120, subsequent_indent='  ', break_long_words=False, break_on_hyphens=False)
     return '\n'.join(rows) + '\n'
 
 
@@ -102,7 +110,7 @@ def main():
     if len(sys.argv) > 2 or task not in ('', '--check', '--write'):
         sys.exit(__doc__)
     uses, page = crates(), read(PAGE)
-    rows = '\n| Crate | What it is for | Uses |\n|---|---|---|\n' + table(uses, page) + '\n'
+    rows = '\n' + items(uses, page) + '\n'
     new = put(put(page, 'levels', '\n' + diagram(uses) + '\n'), 'crates', rows)
     if task == '--write':
         with open(os.path.join(TOP, PAGE), 'w', encoding='utf-8') as file:

@@ -1,39 +1,48 @@
 #!/usr/bin/env python3
-"""Writes docs/proving/EDITS.md: which promise each must-fail edit shows, and what tests alone hold.
+"""Writes docs/proving/EDITS.md: which promise each must-fail edit shows, and what holds the promises without an edit.
 
-Usage: bench/edits.py            writes the page
-       bench/edits.py --check    fails where the page isn't as the edits are
+Usage: bench/edits.py [--check]
 
-An edit, crates/NAME/must-fail/*.edit, has one line `# promise: TEXT`; edits with one text share a row. What no edit shows is in
-docs/proving/promises.txt, a line `NAME, tab, TEXT, tab, what holds it` for each promise. The last is `-` where there is nothing to
-hold, or begins with `as ` where an edit of the crate answers for it, by the same clause, or one `of` another crate, by a clause that holds it. With or without --check it fails where
+An edit, crates/NAME/must-fail/*.edit, has one line `# promise: TEXT`. Edits with one text share an item of the page.
+The promises without an edit are in docs/proving/promises.txt, a line each: crate, promise and what holds it, with tabs
+between. What holds it names files or tests of yamlfmt in backticks; or it is `-` if there is nothing to hold; or it is
+as `EDIT`, for an edit of the crate that breaks the same clause; or as `EDIT` of CRATE, for an edit of another crate
+that breaks a clause which rests on this one.
 
-- an edit has no promise, or two; or its `old:` text isn't in its file exactly once;
-- a function in backticks isn't in the sources of the crate that promises it;
-- what should hold a promise isn't there: an edit of the crate, a test of yamlfmt, a file of them, or a file of the repository;
-- a crate has no row.
+With --check it writes nothing, and fails if the page differs. With or without, it fails if
 
-It proves nothing: that each edit is refused is for `rt must-fail`. Not part of rt ci.
+- an edit has no promise or two, or its `old:` text is not in its file exactly once;
+- a promise names a function in backticks that its crate doesn't have;
+- what should hold a promise doesn't exist;
+- a crate has no promise.
+
+It proves nothing: `rt must-fail` tries the edits. It is not part of rt ci.
 """
 import glob
 import os
 import re
 import sys
+import textwrap
 
 TOP = os.path.dirname(os.path.dirname(os.path.abspath(__file__)))
 PAGE = 'docs/proving/EDITS.md'
 PROMISES = 'docs/proving/promises.txt'
 PROMISE = '# promise: '
-HEAD = """# Which edit shows which promise
+HEAD = '''# Which edit shows which promise
 
-Made by `bench/edits.py` from the edits and from `promises.txt`; `bench/edits.py --check` fails where this page isn't as they are.
+Made by `bench/edits.py` from the edits and from `promises.txt`; `bench/edits.py --check` fails if this page differs.
 
-An edit's name is the function and what is wrong with it. One edit answers for each promise, or for a family whose clauses have one
-shape. A function that another one's exact clause rests on needs none of its own: a wrong answer of it is refused there. Where a row says
-`as ..`, such an edit was refused by the same clause when it was tried by hand; `as .. of` another crate: by a clause of its own crate, on
-which the clause that this edit breaks rests; `none: ..` names what holds a promise without an edit. How to write one, and what it costs:
-[COST](COST.md#edits).
-"""
+Each item is a promise, and after it the edits that break it. An edit's name is the function and what is wrong with it;
+the promise is that function's, if it names no other. One edit stands for a family of promises whose clauses have one
+form. A function needs no edit if the exact clause of another one rests on it: a wrong result of it is refused there. If
+a promise has no edit, the item says why:
+
+- *as* an edit: a similar edit was tried by hand, and the same clause refused it. If the edit is *of* another crate, a
+  clause of this crate refused it, and the clause that the named edit breaks rests on that one.
+- *by* tests or files: they hold the promise.
+
+[COST](COST.md#edits) says how to write an edit, and what it costs.
+'''
 
 
 def read(path):
@@ -42,19 +51,19 @@ def read(path):
 
 
 def sources(folder):
-    """The texts of all files of a folder and those below it, as one."""
+    """The texts of all files in a folder and below, as one."""
     files = sorted(glob.glob(os.path.join(TOP, folder, '**', '*.rt'), recursive=True))
     return '\n'.join(read(file) for file in files)
 
 
 def crates():
-    """The crates in the order of crates.txt, in which each comes after those below it."""
+    """The crates, in the order of crates.txt."""
     lines = read('crates.txt').splitlines()
     return [line.split(':')[0].split()[0] for line in lines if line.strip() and not line.startswith('#')]
 
 
 def applied(crate, lines):
-    """What is wrong with the texts of an edit, or nothing. Each pair applies to what the ones before it made."""
+    """What is wrong with the texts of an edit, or None. Each pair applies to what the pairs before it made."""
     name = next((line[6:].strip() for line in lines if line.startswith('file: ')), None)
     path = os.path.join('crates', crate, name or '')
     if not name or not os.path.isfile(os.path.join(TOP, path)):
@@ -79,7 +88,7 @@ def edits(crate, wrong):
         lines = read(path).splitlines()
         promises = [line[len(PROMISE):].strip() for line in lines if line.startswith(PROMISE)]
         if len(promises) != 1 or not promises[0]:
-            wrong.append(f'{crate}, {name}: {len(promises)} lines "{PROMISE}.." in place of one')
+            wrong.append(f'{crate}, {name}: {len(promises)} lines "{PROMISE}..", but one is needed')
             continue
         fault = applied(crate, lines)
         if fault:
@@ -88,8 +97,8 @@ def edits(crate, wrong):
     return rows
 
 
-def is_there(holder, tests, edit_of):
-    """Whether an edit of the crate (if one is asked for), a file of the repository, a file of tests or a test has the name."""
+def exists(holder, tests, edit_of):
+    """Whether the edit of a crate, if one is given, or else the file or test of that name exists."""
     if edit_of:
         return os.path.exists(os.path.join(TOP, 'crates', edit_of, 'must-fail', holder + '.edit'))
     if '/' in holder:
@@ -99,7 +108,7 @@ def is_there(holder, tests, edit_of):
 
 
 def others(wrong):
-    """The promises that no edit shows: for each crate a list of promises with what holds them."""
+    """The promises without an edit: for each crate, what holds some of them, and these."""
     rows = {}
     tests = sources('crates/yamlfmt/src')
     for number, line in enumerate(read(PROMISES).splitlines(), 1):
@@ -112,40 +121,63 @@ def others(wrong):
         crate, promise, held = fields
         holders = re.findall('`([^`]+)`', held)
         if held != '-' and not holders:
-            wrong.append(f'{PROMISES}:{number}: what holds it is named in backticks')
+            wrong.append(f'{PROMISES}:{number}: what holds it has no name in backticks')
         other = re.search(r'` of (\w+)$', held)
         edit_of = None if not held.startswith('as ') else other[1] if other else crate
-        wrong.extend(f'{PROMISES}:{number}: there is no {holder}' for holder in holders if not is_there(holder, tests, edit_of))
-        shown = 'nothing to hold' if held == '-' else held if edit_of else 'none: ' + held
-        rows.setdefault(crate, []).append((promise, shown))
+        for holder in holders:
+            if not exists(holder, tests, edit_of):
+                wrong.append(f'{PROMISES}:{number}: {holder} does not exist')
+        shown = '' if held == '-' else held if edit_of else 'by ' + held
+        rows.setdefault(crate, {}).setdefault(shown, []).append(promise)
     return rows
 
 
 def unknown(crate, promise, text):
-    """The functions that a promise names and the crate doesn't have."""
-    for word in re.findall(r'`([A-Za-z_][A-Za-z0-9_:]+)`', promise):
-        if not re.search(rf'\b{word.split("::")[-1]}\b', text):
-            yield f'{crate}: there is no `{word}`: {promise}'
+    """The functions that a promise names and the crate, or the crate that it names after `of`, doesn't have."""
+    for word, other in re.findall(r'`([A-Za-z_][A-Za-z0-9_:]+)`(?: of (yf_\w+))?', promise):
+        if not re.search(rf'\b{word.split("::")[-1]}\b', sources(f'crates/{other}/src') if other else text):
+            yield f'{other or crate} has no `{word}`: {promise}'
+
+
+def item(text, indent=''):
+    """An item of a list, on lines of at most 120 characters."""
+    return textwrap.fill(text, 120, initial_indent=indent + '- ', subsequent_indent=indent + '  ',
+                         break_long_words=False, break_on_hyphens=False)
+
+
+def shortened(promise, names):
+    """A promise without the function before it, if the name of an edit begins with that function."""
+    head = re.match(r'`(?:\w+::)*(\w+)`: ', promise)
+    return promise[head.end():] if head and any(name.startswith(f'`{head[1]}-') for name in names) else promise
+
+
+def items(found, without):
+    """The items of a crate: its promises with edits, and those without, by what holds them."""
+    shown = [item(f'{shortened(promise, names)}: {", ".join(names)}') for promise, names in found.items()]
+    for held, promises in without.items():
+        if len(promises) > 1 and held:
+            shown += [item(held + ':'), *(item(promise, '  ') for promise in promises)]
+        else:
+            shown += [item(f'{promise}: {held}' if held else promise) for promise in promises]
+    return shown
 
 
 def page(wrong):
+    """The page. What is wrong is added to the list."""
     lines = [HEAD]
     without = others(wrong)
     names = crates()
-    wrong.extend(f'{PROMISES}: {crate} is no crate' for crate in without if crate not in names)
+    wrong.extend(f'{PROMISES}: no crate {crate}' for crate in without if crate not in names)
     for crate in names:
-        rows = list(edits(crate, wrong).items())
-        rows += [(promise, [held]) for promise, held in without.get(crate, [])]
-        if not rows:
-            wrong.append(f'{crate} has neither an edit nor a line in {PROMISES}')
+        found, rest = edits(crate, wrong), without.get(crate, {})
         text = sources(f'crates/{crate}/src')
-        lines += [f'## {crate}', '', '| Promise | Edits |', '|---|---|']
-        for promise, shown in rows:
+        promises = [*found, *(promise for some in rest.values() for promise in some)]
+        if not promises:
+            wrong.append(f'{crate} has neither an edit nor a line in {PROMISES}')
+        for promise in promises:
             wrong.extend(unknown(crate, promise, text))
-            lines.append(f'| {promise} | {shown[0]} |')
-            lines.extend(f'| | {name} |' for name in shown[1:])
-        lines.append('')
-    return '\n'.join(lines)
+        lines += [f'## {crate}', '', *items(found, rest), '']
+    return '\n'.join(lines[:-1]) + '\n'
 
 
 def main():
@@ -158,7 +190,7 @@ def main():
         with open(where, 'w', encoding='utf-8') as file:
             file.write(made)
     elif not os.path.exists(where) or read(PAGE) != made:
-        wrong.append(f"{PAGE} isn't as the edits are: run bench/edits.py")
+        wrong.append(f'{PAGE} differs from the edits: run bench/edits.py')
     for line in wrong:
         print(f'edits.py: {line}', file=sys.stderr)
     sys.exit(bool(wrong))

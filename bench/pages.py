@@ -7,7 +7,7 @@ It finds, in all pages except those that a script makes:
 - links to files or headings that don't exist;
 - names in backticks that look like a file or an item of the code, and don't occur in the repository;
 - numbers of rules, fixable rules and crates, and sums of productions, that differ from the code;
-- settings and options of a page that the program doesn't have, or the other way round.
+- lists of settings that differ from the program's, and options of the program that README.md doesn't name.
 
 It prints a line for each, then the number of words, and how often the pages use some words, per 10,000 words, beside
 the figures for Debian's Rust crates (a guide, not a rule). With --check it fails if it has found something.
@@ -15,6 +15,7 @@ the figures for Debian's Rust crates (a guide, not a rule). With --check it fail
 import glob
 import os
 import re
+import signal
 import sys
 
 TOP = os.path.dirname(os.path.dirname(os.path.abspath(__file__)))
@@ -26,7 +27,7 @@ EXAMPLE = re.compile(r'\b[A-Z]+_|_[A-Z]+\b|_$|vV')
 # Names of examples, of other programs and of the standard library.
 FOREIGN = set('''my_rule my_rule_at my_setting_of my_setting_at MyRule AllocError from_residual
     Default_Ignorable_Code_Point RT_JOBS O_CREAT O_EXCL PIP_FIND_LINKS GLIBC_TUNABLES same_Some or_parts
-    or_cases yf_name'''.split())
+    or_cases yf_name didChange'''.split())
 UNITS = ('zero one two three four five six seven eight nine ten eleven twelve thirteen fourteen fifteen sixteen '
          'seventeen eighteen nineteen').split()
 TENS = '_ _ twenty thirty forty fifty sixty seventy eighty ninety'.split()
@@ -158,7 +159,7 @@ def settings():
 
 def options():
     """The options of the command line, from the constants of the file that declares them."""
-    for path in glob.glob(TOP + '/crates/*/src/commands.rt'):
+    for path in glob.glob(TOP + '/crates/*/src/options.rt'):
         found = re.findall(r'const ([A-Z_]+): &str = "([a-z-]+)";', read(path))
         names = [word for _, word in found if word not in ('events', 'check', 'fmt', 'yamlfmt', 'file')]
         if 'write' in names:
@@ -174,7 +175,9 @@ def lists():
     for page, pattern in places:
         if sorted(re.findall(pattern, read(page), re.M)) != keys:
             yield page, 'its settings are not %s' % ' '.join(keys)
-    own = set(options())
+    own = options()
+    if not keys or not own:
+        yield 'bench/pages.py', 'finds no settings or options in the code'
     for option in own:
         if option not in read('README.md'):
             yield 'README.md', 'no word of %s' % option
@@ -184,6 +187,8 @@ def main():
     task = sys.argv[1] if len(sys.argv) > 1 else ''
     if len(sys.argv) > 2 or task not in ('', '--check'):
         sys.exit(__doc__)
+    # If the reader of the output leaves, end without a traceback.
+    signal.signal(signal.SIGPIPE, signal.SIG_DFL)
     words, bad, total, letters, everything = words_of_code(), 0, 0, 0, ''
     faults = [*lists()]
     for page in pages():
