@@ -120,7 +120,7 @@ digits_back : (n : ℕ) → n < 2 ^ 64 → digits_value 10 (decimal n) ≡ n
 digits_back n small = (decimal_is_IsNumeral n small).1
 
 -- the range, with each number read from its digits
-abbrev read_range : Range → Range
+abbrev pub read_range : Range → Range
 read_range r = record {
   line = digits_value 10 (decimal r.line);
   column = digits_value 10 (decimal r.column);
@@ -129,7 +129,7 @@ read_range r = record {
   end_column = digits_value 10 (decimal r.end_column);
 }
 
-range_back : (r : Range) → Fits r → read_range r ≡ r
+pub range_back : (r : Range) → Fits r → read_range r ≡ r
 range_back r fits = rw (
   digits_back r.line fits.line,
   digits_back r.column fits.column,
@@ -142,7 +142,7 @@ file_back : (file : Option (List ℕ)) → string_or_null_in (text_or_null file)
 file_back None = refl
 file_back (Some s) = refl
 
-severity_back : (s : Severity) → severity_in (string (severity_name s)) ≡ Some s
+pub severity_back : (s : Severity) → severity_in (string (severity_name s)) ≡ Some s
 severity_back Error = refl
 severity_back Warning = refl
 

@@ -3,5 +3,7 @@ pub mod CommandLemmas
 pub mod FreeLemmas
 pub mod JsonLemmas
 pub mod JunitLemmas
+pub mod QualityLemmas
+pub mod SarifBack
 pub mod SarifLemmas
 pub mod XmlLemmas

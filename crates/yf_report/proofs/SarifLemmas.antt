@@ -3,7 +3,7 @@ use Rattle.std.proofs.Common.{◌≡◌, ℕ, ◌+◌, ◌<◌, ◌≤◌, List,
 use Rattle.std.proofs.Common.{None, Some, codes, refl, sym, ap, ◌∙◌, subst, arith, append_assoc}
 use Rattle.std.proofs.lemmas.List.{drop_all, drop_more}
 use Rattle.json.specs.Token.{Token}
-use Rattle.json.specs.Json.{Json, array, member, no_members, boolean, object, string, item, no_items, max_depth}
+use Rattle.json.specs.Json.{array, member, no_members, object, string, item, no_items, max_depth}
 use Rattle.json.specs.Tree.{json_tokens, items_tokens, members_tokens, depth, items_depth, members_depth}
 use Rattle.json.specs.Written.{Written}
 use Rattle.yf_report.specs.declared.problem.Problem.{Problem}
@@ -12,7 +12,7 @@ use Rattle.yf_report.specs.Members.{Adds, member_tokens}
 use Rattle.yf_report.specs.Problems.{Note, Finding, finding_of, severity_name}
 use Rattle.yf_report.specs.Sarif.{Described, described, uri_of, text_json, location_json, properties_json}
 use Rattle.yf_report.specs.Sarif.{related_members, related_tokens, result_json, result_items}
-use Rattle.yf_report.specs.Sarif.{rule_json, rule_items, run_json, log_json, head_tokens, tool_json}
+use Rattle.yf_report.specs.Sarif.{rule_json, rule_items, log_json, head_tokens, tool_json}
 use Rattle.yf_report.proofs.JsonLemmas.{adds_more}
 
 -- ---- a list of values, one after another

@@ -1,10 +1,13 @@
 pub mod Checkstyle
+pub mod CodeQuality
 pub mod CommandText
 pub mod Commands
 pub mod Junit
 pub mod Members
 pub mod Problems
 pub mod ProblemsJson
+pub mod Reports
 pub mod Sarif
+pub mod SarifRead
 pub mod Xml
 pub mod XmlText

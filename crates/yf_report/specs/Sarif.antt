@@ -1,5 +1,5 @@
 -- The SARIF 2.1.0 log of a list of problems.
-use Rattle.std.specs.Prelude.{ℕ, List, [], ◌∷◌, ◌++◌, codes, decimal, Bool, Option, None, Some}
+use Rattle.std.specs.Prelude.{ℕ, List, [], ◌∷◌, codes, decimal, Bool, Option, None, Some}
 use Rattle.percent_encoding.specs.Percent.{percent_encode}
 use Rattle.json.specs.Token.{Token}
 use Rattle.json.specs.Json.{Json, boolean, number, string, array, object}

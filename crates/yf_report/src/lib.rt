@@ -5,10 +5,12 @@
 #![tactic(auto)]
 
 pub mod checkstyle;
+pub mod code_quality;
 pub mod junit;
 mod members;
 pub mod problem;
 pub mod problems_json;
+pub mod reports;
 pub mod sarif;
 pub mod workflow_commands;
 mod xml;

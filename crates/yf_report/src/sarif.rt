@@ -1,11 +1,12 @@
 //! A report as a SARIF 2.1.0 log (OASIS), which code scanning and editors read.
-ghost use Rattle.std.specs.Prelude.{◌≡◌, ◌∷◌, ◌++◌, [], Some, codes, map, string_bytes, IfOk, OnOk, option_map};
+ghost use Rattle.std.specs.Prelude.{◌≡◌, Some, codes, map, string_bytes, IfOk, OnOk};
+ghost use Rattle.std.specs.Prelude.{option_and_then, option_map};
 ghost use Rattle.json.specs.Json.{document, item, array, no_items};
-ghost use Rattle.json.specs.Token as token;
 ghost use Rattle.json.specs.Tree.{json_tokens};
 ghost use Rattle.yf_report.specs.Members.{Adds, member_tokens};
-ghost use Rattle.yf_report.specs.Problems.{finding_of, note_of};
+ghost use Rattle.yf_report.specs.Problems.{AllFit, finding_of, note_of};
 ghost use Rattle.yf_report.specs.Sarif as spec;
+ghost use Rattle.yf_report.specs.SarifRead.{logged, results_in};
 
 use crate::members::{write_flag, write_number, write_text};
 use crate::problem::{Problem, Range, Related};
@@ -46,8 +47,10 @@ pub fn sarif_report(
     rules: &[Rule<'_>],
     problems: &[Problem<'_>],
 ) -> Result<Vec<u8>, AllocError>
-    ensures { IfOk result (λ b. document b.items
+    ensures value { IfOk result (λ b. document b.items
         ≡ Some (spec.log_json (map spec.described rules.now) (map finding_of problems.now))) }
+    ensures reads_back { IfOk result (λ b. AllFit (map finding_of problems.now)
+        → option_and_then results_in (document b.items) ≡ Some (map logged (map finding_of problems.now))) }
 {
     let mut out = Writer::new(Vec::new(alloc));
     write_head(&mut out)?;

@@ -4,10 +4,11 @@ use Rattle.yf_report.specs.Sarif.{described, log_json}
 use Rattle.json.specs.Tree.{json_tokens}
 use Rattle.yf_report.proofs.JsonLemmas.{added, read_is}
 use Rattle.yf_report.proofs.SarifLemmas.{log_depth, log_written}
+use Rattle.yf_report.proofs.SarifBack.{results_back}
 use Rattle.yf_report.proofs.sarif.sarif_report.Goals as goal
 
-pub returns : goal.returns
-returns c =
+pub returns-clause-value : goal.returns-clause-value
+returns-clause-value c =
     let rs = map described c.args.rules.now in
     let fs = map finding_of c.args.problems.now in
     let all = log_written rs fs c.in_ok-write_head.ensures c.in_ok-write_tool.ensures c.in_ok-write_text.ensures
@@ -17,3 +18,8 @@ returns c =
     (all.tokens ∙ ap (λ l. l ++ json_tokens (log_json rs fs)) c.new-out.ensures.tokens)
     (all.before ∙ c.new-out.ensures.before ∙ c.new.ensures.items)
     c.into_inner.ensures.items c.into_inner.ensures.reads_back
+
+pub returns-clause-reads_back : goal.returns-clause-reads_back
+returns-clause-reads_back c =
+    results_back (map described c.args.rules.now) (map finding_of c.args.problems.now) c.into_inner.result.items
+    (returns-clause-value c)

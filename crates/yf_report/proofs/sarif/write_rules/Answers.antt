@@ -1,4 +1,4 @@
-use Rattle.std.proofs.Common.{◌++◌, ◌∷◌, [], map, drop, ap, ◌∙◌, append_assoc, arith}
+use Rattle.std.proofs.Common.{◌++◌, ◌∷◌, [], ap, ◌∙◌, append_assoc, arith}
 use Rattle.json.specs.Token.{begin_array}
 use Rattle.yf_report.proofs.JsonLemmas.{added}
 use Rattle.yf_report.proofs.SarifLemmas.{left_rules, rules_more, rules_end}

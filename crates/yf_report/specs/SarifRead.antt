@@ -1,0 +1,104 @@
+-- The problems that a SARIF log holds.
+use Rattle.std.specs.Prelude.{ℕ, List, [], ◌∷◌, codes, Bool, Option, None, Some, option_map, option_and_then}
+use Rattle.json.specs.Json.{Json, null, boolean, number, string, array, object, Items, no_items, item, Members}
+use Rattle.yf_report.specs.declared.problem.Range.{Range}
+use Rattle.yf_report.specs.Problems.{Note, Finding}
+use Rattle.yf_report.specs.ProblemsJson.{member_named, in_member, string_in, number_in, boolean_in, severity_in}
+use Rattle.yf_report.specs.Sarif.{uri_of}
+
+-- a problem as a log has it: its file is a URI
+abbrev pub logged : Finding → Finding
+logged f = record f { file = Some (uri_of f.file) }
+
+abbrev pub members_in : Json → Option Members
+members_in null = None
+members_in (boolean b) = None
+members_in (number s) = None
+members_in (string s) = None
+members_in (array js) = None
+members_in (object ms) = Some ms
+
+abbrev pub items_in : Json → Option Items
+items_in null = None
+items_in (boolean b) = None
+items_in (number s) = None
+items_in (string s) = None
+items_in (array js) = Some js
+items_in (object ms) = None
+
+abbrev pub first_in : Items → Option Json
+first_in no_items = None
+first_in (item j js) = Some j
+
+-- what f reads from the members of the object that has a name
+abbrev pub in_object : {A : Type 0} → (Members → Option A) → List ℕ → Members → Option A
+in_object f k ms = option_and_then f (in_member members_in k ms)
+
+-- what f reads from the members of the first object of the list that has a name
+abbrev pub in_first : {A : Type 0} → (Members → Option A) → Json → Option A
+in_first f j = option_and_then f (option_and_then members_in (option_and_then first_in (items_in j)))
+
+abbrev pub text_in : Members → Option (List ℕ)
+text_in ms = in_member string_in (codes "text") ms
+
+abbrev pub region_in : Members → Option Range
+region_in ms =
+    option_and_then (λ line. option_and_then (λ column. option_and_then (λ end_line. option_map (λ end_column.
+    record { line = line; column = column; end_line = end_line; end_column = end_column })
+    (in_member number_in (codes "endColumn") ms))
+    (in_member number_in (codes "endLine") ms))
+    (in_member number_in (codes "startColumn") ms))
+    (in_member number_in (codes "startLine") ms)
+
+-- the URI and the region
+abbrev pub physical_in : Members → Option (List ℕ × Range)
+physical_in ms =
+    option_and_then (λ uri. option_map (λ range. (uri, range)) (in_object region_in (codes "region") ms))
+    (in_object (in_member string_in (codes "uri")) (codes "artifactLocation") ms)
+
+abbrev pub place_in : Members → Option (List ℕ × Range)
+place_in ms = in_object physical_in (codes "physicalLocation") ms
+
+abbrev pub note_in : Members → Option Note
+note_in ms =
+    option_and_then (λ place. option_map (λ message. record { range = place.1; message = message })
+    (in_object text_in (codes "message") ms)) (place_in ms)
+
+-- None only if the member is there and holds no place
+abbrev pub notes_in : Option Json → Option (Option Note)
+notes_in None = Some None
+notes_in (Some j) = option_map (λ n. Some n) (in_first note_in j)
+
+abbrev pub fixable_in : Members → Option Bool
+fixable_in ms = in_member boolean_in (codes "fixable") ms
+
+abbrev pub result_from : Members → Option Finding
+result_from ms =
+    option_and_then (λ rule. option_and_then (λ severity. option_and_then (λ message. option_and_then (λ place.
+    option_and_then (λ related. option_map (λ fixable.
+    record {
+      file = Some place.0;
+      range = place.1;
+      rule = rule;
+      severity = severity;
+      message = message;
+      fixable = fixable;
+      related = related;
+    })
+    (in_object fixable_in (codes "properties") ms))
+    (notes_in (member_named (codes "relatedLocations") ms)))
+    (in_member (in_first place_in) (codes "locations") ms))
+    (in_object text_in (codes "message") ms))
+    (in_member severity_in (codes "level") ms))
+    (in_member string_in (codes "ruleId") ms)
+
+abbrev pub results_from : Items → Option (List Finding)
+results_from no_items = Some []
+results_from (item j js) =
+    option_and_then (λ f. option_map (λ fs. f ∷ fs) (results_from js)) (option_and_then result_from (members_in j))
+
+-- the problems of the first run of a log, in its order
+unfoldable pub results_in : Json → Option (List Finding)
+results_in j =
+    option_and_then (λ log. option_and_then (in_first (λ run. option_and_then results_from
+    (in_member items_in (codes "results") run))) (member_named (codes "runs") log)) (members_in j)
