@@ -25,12 +25,14 @@ record Alike {A B : Type 0} (is_run : A → Bool) (Takes : A → B → Type 0) (
 
 data EachAlike {A B : Type 0} (is_run : A → Bool) (Takes : A → B → Type 0) : List A → List A → Type 0 where
   all_alike : EachAlike is_run Takes [] []
-  alike_too : {a b : A} {ps qs : List A} → Alike is_run Takes a b → EachAlike is_run Takes ps qs → EachAlike is_run Takes (a ∷ ps) (b ∷ qs)
+  alike_too : {a b : A} {ps qs : List A} → Alike is_run Takes a b → EachAlike is_run Takes ps qs
+      → EachAlike is_run Takes (a ∷ ps) (b ∷ qs)
 
 spans_alike : {A B : Type 0} {is_run : A → Bool} {Takes : A → B → Type 0} {ps qs : List A} {xs : List B}
     → EachAlike is_run Takes ps qs → Spans is_run Takes ps xs → Spans is_run Takes qs xs
 spans_alike all_alike s = s
-spans_alike (alike_too e rest) (piece_takes_item {b = x} f takes s) = piece_takes_item (sym e.runs ∙ f) (e.takes x takes) (spans_alike rest s)
+spans_alike (alike_too e rest) (piece_takes_item {b = x} f takes s) = piece_takes_item (sym e.runs ∙ f)
+    (e.takes x takes) (spans_alike rest s)
 spans_alike (alike_too e rest) (run_ends t s) = run_ends (sym e.runs ∙ t) (spans_alike rest s)
 spans_alike (alike_too e rest) (run_takes_item t s) = run_takes_item (sym e.runs ∙ t) (spans_alike (alike_too e rest) s)
 
@@ -48,17 +50,22 @@ range_same r s e f =
     ap one e ∙ ap other f
 
 member_same : {t : List ℕ} {i j k : ℕ} {r s : ByteRange} → MemberAt t i r j → MemberAt t i s k → r ≡ s
-member_same {r = r} {s = s} (one_byte a _ e) (one_byte b _ f) = range_same r s (byte_same a b) (e ∙ byte_same a b ∙ sym f)
-member_same {t} (one_byte a never _) (byte_range b does _) = absurd (never (subst (λ z. IsRangeSign t z) (sym (byte_end a b)) does))
-member_same {t} (byte_range b does _) (one_byte a never _) = absurd (never (subst (λ z. IsRangeSign t z) (byte_end b a) does))
+member_same {r = r} {s = s} (one_byte a _ e) (one_byte b _ f) = range_same r s (byte_same a b)
+    (e ∙ byte_same a b ∙ sym f)
+member_same {t} (one_byte a never _) (byte_range b does _) = absurd
+    (never (subst (λ z. IsRangeSign t z) (sym (byte_end a b)) does))
+member_same {t} (byte_range b does _) (one_byte a never _) = absurd
+    (never (subst (λ z. IsRangeSign t z) (byte_end b a) does))
 member_same {t} {k = k} {r = r} {s = s} (byte_range {h} a _ c) (byte_range {h = g} b _ d) =
     range_same r s (byte_same a b) (byte_same c (subst (λ z. ClassByte t (z + 1) s.last k) (sym (byte_end a b)) d))
 
-members_same : {t : List ℕ} {start i j k : ℕ} {rs ss : List ByteRange} → MembersAt t start i rs j → MembersAt t start i ss k → rs ≡ ss
+members_same : {t : List ℕ} {start i j k : ℕ} {rs ss : List ByteRange} → MembersAt t start i rs j
+    → MembersAt t start i ss k → rs ≡ ss
 members_same (class_ends _ _) (class_ends _ _) = refl
 members_same (class_ends does _) (class_goes_on never _ _) = absurd (never does)
 members_same (class_goes_on never _ _) (class_ends does _) = absurd (never does)
-members_same {t} {start} {k = k} (class_goes_on {r = r} {rs = rs} _ a rest) (class_goes_on {r = s} {rs = ss} _ b other) =
+members_same {t} {start} {k = k} (class_goes_on {r = r} {rs = rs} _ a rest)
+    (class_goes_on {r = s} {rs = ss} _ b other) =
     let tails : rs ≡ ss = members_same rest (subst (λ z. MembersAt t start z ss k) (sym (member_end a b)) other) in
     ap (λ z. z ∷ rs) (member_same a b) ∙ ap (λ z. s ∷ z) tails
 
@@ -69,7 +76,8 @@ class_like m n rs ss c e f takes =
     let Listed : List ByteRange → Type 0 = λ z. Any (λ r. (r.first ≤ c) × (c ≤ r.last)) z in
     subst (λ z. MatchBool z (¬ (Listed ss)) (Listed ss)) e (subst (λ z. MatchBool m (¬ (Listed z)) (Listed z)) f takes)
 
-class_takes : {t : List ℕ} {i j h : ℕ} {k l : Class} → ClassAt t i k j → ClassAt t i l h → (c : ℕ) → ClassTakes k c → ClassTakes l c
+class_takes : {t : List ℕ} {i j h : ℕ} {k l : Class} → ClassAt t i k j → ClassAt t i l h → (c : ℕ) → ClassTakes k c
+    → ClassTakes l c
 class_takes {k = k} {l = l} a b c takes =
     let ranges : k.ranges.items ≡ l.ranges.items = members_same a.members b.members in
     let negated : k.negated ≡ l.negated = a.negated ∙ sym b.negated in
@@ -102,7 +110,8 @@ no_atom_after over (simple_atom below _ _ _ _) = omega arith
 no_atom_after over (escaped_atom below _ _ _) = omega arith
 no_atom_after over (class_atom below _ _ _) = omega arith
 
-atoms_same : {t : List ℕ} {i : ℕ} {xs ys : List Atom} → AtomsFrom t i xs → AtomsFrom t i ys → EachAlike atom_is_run AtomTakes xs ys
+atoms_same : {t : List ℕ} {i : ℕ} {xs ys : List Atom} → AtomsFrom t i xs → AtomsFrom t i ys
+    → EachAlike atom_is_run AtomTakes xs ys
 atoms_same (atoms_end _) (atoms_end _) = all_alike
 atoms_same (atoms_end over) (atoms_go_on a _) = absurd (no_atom_after over a)
 atoms_same (atoms_go_on a _) (atoms_end over) = absurd (no_atom_after over a)
@@ -111,18 +120,21 @@ atoms_same {t} (atoms_go_on a more) (atoms_go_on {rest = ys} b other) =
 
 -- segments
 segment_same : {t : List ℕ} {s u : Segment} → SegmentOf t s → SegmentOf t u → Alike segment_is_run SegmentTakes s u
-segment_same (any_depth _ e) (any_depth _ f) = record { runs = ap segment_is_run (e ∙ sym f); takes = λ x. subst (λ z. SegmentTakes z x) (e ∙ sym f) }
+segment_same (any_depth _ e) (any_depth _ f) = record
+    { runs = ap segment_is_run (e ∙ sym f); takes = λ x. subst (λ z. SegmentTakes z x) (e ∙ sym f) }
 segment_same (any_depth deep _) (one_name never _ _) = absurd (never deep)
 segment_same (one_name never _ _) (any_depth deep _) = absurd (never deep)
 segment_same (one_name {v} _ a e) (one_name {v = w} _ b f) = record {
   runs = ap segment_is_run e ∙ sym (ap segment_is_run f);
-  takes = λ x takes. subst (λ z. SegmentTakes z x) (sym f) (spans_alike (atoms_same a b) (subst (λ z. SegmentTakes z x) e takes));
+  takes = λ x takes. subst (λ z. SegmentTakes z x) (sym f)
+      (spans_alike (atoms_same a b) (subst (λ z. SegmentTakes z x) e takes));
 }
 
 itself : (s : Segment) → Alike segment_is_run SegmentTakes s s
 itself s = record { runs = refl; takes = λ x takes. takes }
 
-segments_same : {t : List ℕ} {ss us : List Segment} → SegmentsOf t ss → SegmentsOf t us → EachAlike segment_is_run SegmentTakes ss us
+segments_same : {t : List ℕ} {ss us : List Segment} → SegmentsOf t ss → SegmentsOf t us
+    → EachAlike segment_is_run SegmentTakes ss us
 segments_same (last_segment _ _ a) (last_segment _ _ b) = alike_too (segment_same a b) all_alike
 segments_same (last_segment _ never _) (everything_inside _ deep _) = absurd (never deep)
 segments_same (everything_inside _ deep _) (last_segment _ never _) = absurd (never deep)
@@ -141,7 +153,8 @@ segments_same {t} (more_segments at a more) (more_segments {s = u} {ss = us} is 
     (segments_same more (subst (λ z. SegmentsOf (drop (z + 1) t) us) same other))
 
 placed_alike : (anchored : Bool) {ss us : List Segment} → EachAlike segment_is_run SegmentTakes ss us
-    → EachAlike segment_is_run SegmentTakes (if anchored then ss else AnyDepth ∷ ss) (if anchored then us else AnyDepth ∷ us)
+    → EachAlike segment_is_run SegmentTakes (if anchored then ss else AnyDepth ∷ ss)
+    (if anchored then us else AnyDepth ∷ us)
 placed_alike true e = e
 placed_alike false e = alike_too (itself AnyDepth) e
 
@@ -150,7 +163,8 @@ one_meaning t p q a b =
     let anchored : Bool = is_some (position is_slash (without_last SLASH (without_first EXCLAMATION t))) in
     let alike : EachAlike segment_is_run SegmentTakes p.segments.items q.segments.items =
     subst (λ z. EachAlike segment_is_run SegmentTakes z q.segments.items) (sym a.segments)
-    (subst (λ z. EachAlike segment_is_run SegmentTakes (if anchored then a.own else AnyDepth ∷ a.own) z) (sym b.segments)
+    (subst (λ z. EachAlike segment_is_run SegmentTakes (if anchored then a.own else AnyDepth ∷ a.own) z)
+    (sym b.segments)
     (placed_alike anchored (segments_same a.read b.read))) in
     let folders : p.folders_only ≡ q.folders_only = a.folders_only ∙ sym b.folders_only in
     record {
