@@ -4,3 +4,4 @@ pub mod ClassLemmas
 pub mod SegmentLemmas
 pub mod PatternLemmas
 pub mod PathLemmas
+pub mod OneMeaningLemmas

@@ -9,3 +9,4 @@ pub mod Classes
 pub mod Segments
 pub mod Patterns
 pub mod Names
+pub mod OneMeaning

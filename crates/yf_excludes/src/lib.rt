@@ -3,6 +3,7 @@
 
 pub mod atom;
 pub mod excluded;
+pub mod laws;
 mod parts;
 pub mod path;
 pub mod pattern;
