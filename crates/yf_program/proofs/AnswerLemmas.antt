@@ -34,7 +34,8 @@ known_on ab bc = record {
 -- what was done with the inputs as they are, was done with them as they were
 module _ (before after : InputClaim) (known : StillKnown before after) (input : Input) (task : Task) where
   opened_before : (status : ℕ) (old new : OutputStreams) → DoesOpened after input task status old new → DoesOpened before input task status old new
-  opened_before status old new (inl refused) = inl (λ told. known.fails input (refused.0 (known.tells told)), refused.1, refused.2)
+  opened_before status old new (inl refused) =
+      inl (refused.0, (λ told. known.fails input (refused.1 (known.tells told))), refused.2, refused.3)
   opened_before status old new (inr d) =
       inr (d.0, d.1, (λ told. d.2.0 (known.tells told) ∙ known.holds input, d.2.1, λ told failed. known.fails input (d.2.2 (known.tells told) failed)), d.3)
 

@@ -211,10 +211,15 @@ DoesOver claim input task status before after =
     (reader : ByteStream) × (left : ByteStream) × Opens claim input reader left
     × Ran input task status reader left before after
 
--- The input could not be opened, since it fails; or the work was done with a reader of it.
+-- The input is a file.
+abbrev pub IsFile : Input → Type 0
+IsFile Standard = ⊥
+IsFile (File name) = Unit {0}
+
+-- The input is a file that could not be opened, since it fails; or the work was done with a reader of the input.
 abbrev pub DoesOpened : InputClaim → Input → Task → ℕ → OutputStreams → OutputStreams → Type 0
 DoesOpened claim input task status before after =
-    ((claim.tells → claim.fails input) × NothingWritten before.output after.output
+    (IsFile input × (claim.tells → claim.fails input) × NothingWritten before.output after.output
     × EndsTold task.explain AnyLines fault.ReadFailed status before.errors after.errors)
     ⊎ DoesOver claim input task status before after
 
@@ -371,12 +376,14 @@ Follows host words status before after =
     ⊎ ((usage : Usage) × RefusesWords rule_names words usage × (after.files ≡ before.files)
     × (host.inputs.notes → after.opened ≡ before.opened) × UsageWritten usage status before.streams after.streams)
 
--- All that the writer held back was written out, and the status stays; or the writer failed.
+-- The writer writes out what it holds back. If it fails only then, that is reported; otherwise the status stays.
+-- (What a writer holds back is no part of its `ByteStream`, so nothing says that it holds nothing back afterwards.)
 abbrev pub WrittenOut : ℕ → ℕ → OutputStreams → OutputStreams → Type 0
 WrittenOut run status before after =
     Keeps before.output.contents after.output.contents
     × (((status ≡ run) × NoFailure before.output after.output × NothingWritten before.errors after.errors)
-    ⊎ ((after.output.failed ≡ true) × EndsBy fault.WriteFailed status before.errors after.errors))
+    ⊎ ((before.output.failed ≡ false) × (after.output.failed ≡ true)
+    × EndsBy fault.WriteFailed status before.errors after.errors))
 
 -- The program did what the words ask for, and then wrote out what the writer held back. The status is the one that
 -- `main` ends with, unless the reader of standard output has left: then `main` ends with 141 instead.

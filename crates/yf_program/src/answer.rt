@@ -24,8 +24,8 @@ use yf_rules::asked::RULE_NAMES;
 
 /// Does what the words after the program's name ask for, and returns the exit status.
 ///
-/// The settings are read first, and an input is opened only if they are accepted. At the end the writer holds nothing
-/// back. `main` ends with this status, unless the reader of standard output has left: then it ends with 141.
+/// The settings are read first, and an input is opened only if they are accepted. At the end the writer writes out what
+/// it holds back. `main` ends with this status, unless the reader of standard output has left: then it ends with 141.
 pub fn answer<I: Inputs, S: Links, W: Sink, E: Sink>(
     alloc: Global,
     words: &[String],
