@@ -135,7 +135,7 @@ Each is a condition, in bold in the table below; with `letter` each asks nothing
 
 The standard says in prose what its productions mean, by their names. Here a meaning is a function of a derivation: `content`
 (`specs/Contents.antt`) is what it adds to a scalar, and `tokens` (`specs/Tokens.antt`) are its comments, names, scalars,
-collections, directives and documents. `said` and `stream_said` (`specs/Readings.antt`) read tokens: the events, in which a node has the
+collections, directives and documents. `said` and `stream_said` (`specs/Tokens.antt`, `specs/Readings.antt`) read tokens: the events, in which a node has the
 properties before it, and the documents, of which each has the directives before it.
 
 | | Production | Meaning | Section |
