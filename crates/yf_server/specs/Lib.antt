@@ -1,3 +1,4 @@
 pub mod Lifecycle
 pub mod Answers
 pub mod Laws
+pub mod Documents

@@ -2,5 +2,6 @@
 #![tactic(auto)]
 
 pub mod answer;
+pub mod documents;
 pub mod laws;
 pub mod lifecycle;
