@@ -2,3 +2,5 @@
 pub mod LifecycleLemmas
 -- the documents of a list by their URIs
 pub mod DocumentLemmas
+-- the changes of an array
+pub mod ParameterLemmas

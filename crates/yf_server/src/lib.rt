@@ -3,5 +3,7 @@
 
 pub mod answer;
 pub mod documents;
+pub mod handshake;
 pub mod laws;
 pub mod lifecycle;
+pub mod parameters;
