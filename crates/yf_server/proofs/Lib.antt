@@ -4,3 +4,5 @@ pub mod LifecycleLemmas
 pub mod DocumentLemmas
 -- the changes of an array
 pub mod ParameterLemmas
+-- a step of a server, and a run of steps
+pub mod StepLemmas

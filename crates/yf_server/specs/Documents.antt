@@ -1,5 +1,5 @@
 -- The open documents of a server, by their URIs, and what a client does with them.
-use Rattle.std.specs.Prelude.{◌≡◌, ℕ, ℤ, ◌+◌, ◌<◌, List, [], ◌∷◌, length, take, drop, true, bytes_eq, int_lt, string_bytes, Option, None, Some, if◌then◌else◌}
+use Rattle.std.specs.Prelude.{◌≡◌, ℕ, ℤ, ◌+◌, ◌<◌, List, [], ◌∷◌, length, take, drop, true, ⊤, bytes_eq, int_lt, string_bytes, Option, None, Some, if◌then◌else◌}
 use Rattle.yf_positions.specs.declared.encoding.Encoding.{Encoding}
 use Rattle.yf_positions.specs.Changes.{TextChange, all_changed}
 use Rattle.yf_server.specs.declared.documents.DocumentAct.{DocumentAct}
@@ -96,3 +96,10 @@ abbrev pub outcome_of : Encoding → Option OpenText → Act → Outcome
 outcome_of e was (open_text version text) = Done
 outcome_of e was (change version changes) = change_outcome e was version changes
 outcome_of e was close = close_outcome was
+
+-- only what was done changes documents
+abbrev pub StaysAt : Outcome → List OpenDocument → List OpenDocument → Type 0
+StaysAt Done before after = ⊤
+StaysAt NotOpen before after = after ≡ before
+StaysAt OldVersion before after = after ≡ before
+StaysAt ReversedRange before after = after ≡ before

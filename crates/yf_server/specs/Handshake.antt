@@ -1,6 +1,6 @@
 -- What client and server agree on at `initialize`.
-use Rattle.std.specs.Prelude.{ℕ, List, codes, bytes_eq, Bool, true, Option, None, Some, option_and_then, if◌then◌else◌}
-use Rattle.serde_json.specs.Data.{Data, boolean, number, string, object, no_members, member, Items, no_items, item, unsigned}
+use Rattle.std.specs.Prelude.{ℕ, List, codes, bytes_eq, Option, None, Some, option_and_then, if◌then◌else◌}
+use Rattle.serde_json.specs.Data.{Data, Items, no_items, item}
 use Rattle.serde_json.specs.Find.{as_array, as_str, get}
 use Rattle.yf_positions.specs.declared.encoding.Encoding.{Encoding}
 use Rattle.yf_positions.specs.declared.encoding.Encoding.TheVariants.{Utf8, Utf16, Utf32}

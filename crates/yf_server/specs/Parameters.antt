@@ -1,5 +1,5 @@
 -- The parameters of notifications on documents, as the Language Server Protocol 3.17 defines them, in JSON.
-use Rattle.std.specs.Prelude.{ℕ, ℤ, List, [], ◌∷◌, Bool, codes, bytes_eq, Option, None, Some, option_map, option_and_then, if◌then◌else◌}
+use Rattle.std.specs.Prelude.{ℕ, ℤ, List, [], ◌∷◌, codes, Option, None, Some, option_map, option_and_then}
 use Rattle.serde_json.specs.Data.{Data, Items, no_items, item}
 use Rattle.serde_json.specs.Find.{as_array, as_i64, as_number, as_str, as_u64, get}
 use Rattle.yf_positions.specs.declared.position.LspPosition.{LspPosition}

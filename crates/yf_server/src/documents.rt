@@ -1,6 +1,6 @@
 //! The open documents of a server.
 ghost use Rattle.std.specs.Prelude.{◌≡◌, None, Some, IfOk, MatchOption, OnErr, OnOk, int_lt, string_bytes};
-ghost use Rattle.yf_server.specs.Documents.{IsFirst, FollowsEvent, Updates, act_read, change_outcome, changed_by, close_outcome, event_read, find, outcome_of, text_of};
+ghost use Rattle.yf_server.specs.Documents.{IsFirst, FollowsEvent, StaysAt, Updates, act_read, change_outcome, changed_by, close_outcome, event_read, find, outcome_of, text_of};
 
 use std::alloc::{AllocError, Global};
 use yf_positions::change::{ChangeError, ContentChange};
@@ -121,6 +121,7 @@ fn change(
         (changed_by encoding (find uri.now documents.old.items) version changes.now)) }
     ensures outcome { IfOk result (λ outcome. outcome ≡
         change_outcome encoding (find uri.now documents.old.items) version changes.now) }
+    ensures same { IfOk result (λ outcome. StaysAt outcome documents.old.items documents.new.items) }
     ensures kept { OnErr result (documents.new.items ≡ documents.old.items) }
 {
     let at = match place_of(documents.as_slice(), uri) {
@@ -149,12 +150,14 @@ fn change(
 fn close(documents: &mut Vec<OpenDocument>, uri: &str) -> Outcome
     ensures done { Updates documents.old.items documents.new.items uri.now None }
     ensures outcome { result ≡ close_outcome (find uri.now documents.old.items) }
+    ensures same { StaysAt result documents.old.items documents.new.items }
 {
-    let place = place_of(documents.as_slice(), uri);
-    withdraw(documents, uri);
-    match place {
+    match place_of(documents.as_slice(), uri) {
         None => Outcome::NotOpen,
-        Some(_) => Outcome::Done,
+        Some(_) => {
+            withdraw(documents, uri);
+            Outcome::Done
+        }
     }
 }
 
@@ -200,6 +203,7 @@ pub fn act(
     ensures done { OnOk result (FollowsEvent encoding documents.old.items documents.new.items (event_read event.now)) }
     ensures outcome { IfOk result (λ outcome. outcome ≡
         outcome_of encoding (find event.now.uri.now documents.old.items) (act_read event.now.act)) }
+    ensures same { IfOk result (λ outcome. StaysAt outcome documents.old.items documents.new.items) }
     ensures kept { OnErr result (documents.new.items ≡ documents.old.items) }
 {
     match &event.act {

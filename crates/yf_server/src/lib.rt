@@ -1,9 +1,9 @@
 //! The part of an editor server that needs no YAML: the life cycle of the Language Server Protocol 3.17.
 #![tactic(auto)]
 
-pub mod answer;
 pub mod documents;
 pub mod handshake;
 pub mod laws;
 pub mod lifecycle;
 pub mod parameters;
+pub mod step;

@@ -1,5 +1,5 @@
 //! The parameters of notifications on documents.
-ghost use Rattle.std.specs.Prelude.{◌≡◌, Some, IfOk, map, option_map};
+ghost use Rattle.std.specs.Prelude.{◌≡◌, ◌∷◌, ◌++◌, [], Some, IfOk, OnOk, map, option_map};
 ghost use Rattle.serde_json.specs.View.{items_of, view};
 ghost use Rattle.yf_server.specs.Documents.{event_read};
 ghost use Rattle.yf_server.specs.Parameters.{change_of, changed, changed_document, changes_of, closed, content_changes, integer_in, opened, position_in, range_of, size_in, string_in};
@@ -91,6 +91,17 @@ fn change_of(value: &Value) -> Option<ContentChange<'_>>
     }
 }
 
+/// Adds a change after the others.
+fn push_change<'v>(
+    changes: &mut Vec<ContentChange<'v>>,
+    change: ContentChange<'v>,
+) -> Result<(), AllocError>
+    ensures { OnOk result (changes.new.items ≡ changes.old.items ++ change.entry ∷ []) }
+{
+    changes.push(change)?;
+    Ok(())
+}
+
 /// Returns the changes that values are, in order; `None` if one of them is no change.
 fn changes_of<'v>(
     alloc: Global,
@@ -103,7 +114,7 @@ fn changes_of<'v>(
     for value in values {
         match change_of(value) {
             None => return Ok(None),
-            Some(change) => changes.push(change)?,
+            Some(change) => push_change(&mut changes, change)?,
         }
     }
     Ok(Some(changes))

@@ -7,8 +7,8 @@ loop-value-init c = changes_begin c.args.values.now c.new-changes.result.items c
 
 pub loop-value-preserved : goal.loop-value-preserved
 loop-value-preserved c = changes_more c.args.values.now c.loop-value.value-index c.value-item.result c.in-Some.change
-    c.loop-value.changes.items c.push.new.self.items _ c.loop-value-test.true c.value-item.is
-    (sym c.in-Some.is ∙ c.change_of.ensures) c.in_ok-push-in-Some.ensures.items c.loop-value.invariant
+    c.loop-value.changes.items c.push_change.new.changes.items _ c.loop-value-test.true c.value-item.is
+    (sym c.in-Some.is ∙ c.change_of.ensures) c.in_ok-push_change-in-Some.ensures c.loop-value.invariant
 
 pub returns-in-None : goal.returns-in-None
 returns-in-None c = changes_none c.args.values.now c.loop-value.value-index c.value-item.result
