@@ -4,3 +4,4 @@ pub mod Documents
 pub mod Parameters
 pub mod Handshake
 pub mod Steps
+pub mod Edits

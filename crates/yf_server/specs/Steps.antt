@@ -16,6 +16,7 @@ use Rattle.yf_server.specs.declared.lifecycle.Task.TheVariants.{Initialize, Shut
 use Rattle.yf_server.specs.declared.step.Reaction.{Reaction}
 use Rattle.yf_server.specs.declared.step.Server.{Server}
 use Rattle.yf_server.specs.Documents.{Event, OpenText, after_event, find, outcome_of}
+use Rattle.yf_server.specs.Edits.{FailsWith}
 use Rattle.yf_server.specs.Handshake.{name_of, negotiated}
 use Rattle.yf_server.specs.Lifecycle.{step_of}
 use Rattle.yf_server.specs.Parameters.{changed, closed, opened}
@@ -109,11 +110,6 @@ initialize_result e = object (member (codes "capabilities") (object
     (member (codes "textDocumentSync") (object
     (member (codes "change") (number (unsigned 2)) (member (codes "openClose") (boolean true) no_members)))
     no_members))) no_members)
-
--- one message says why another one failed
-pub record FailsWith (id : Data) (code : ErrorCode) (sent : Option Data) : Type 0 where
-  pub text : List ℕ
-  pub is : sent ≡ Some (failure id code text)
 
 -- what is sent for a task, if anything
 abbrev pub IsAnswer : Data → Encoding → Task → Option Data → Type 0

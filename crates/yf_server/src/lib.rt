@@ -2,6 +2,7 @@
 #![tactic(auto)]
 
 pub mod documents;
+pub mod edits;
 pub mod handshake;
 pub mod laws;
 pub mod lifecycle;

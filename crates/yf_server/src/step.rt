@@ -3,7 +3,8 @@ ghost use Rattle.std.specs.Prelude.{◌≡◌, ◌≢◌, ℕ, List, Some, IfOk,
 ghost use Rattle.serde_json.specs.View.{view};
 ghost use Rattle.yf_json_rpc.specs.Messages.{kind_read, reply};
 ghost use Rattle.yf_server.specs.Documents.{FollowsEvent, act_read, event_read, find, outcome_of};
-ghost use Rattle.yf_server.specs.Steps.{FailsWith, IsAnswer, IsNote, IsNoteOf, RunsTo, StepsTo, IsLogged, after_any, encoding_after, event_named, event_of, id_of, initialize_result, is_notification, log_message, method_of, warning_params, IsSame};
+ghost use Rattle.yf_server.specs.Edits.{FailsWith};
+ghost use Rattle.yf_server.specs.Steps.{IsAnswer, IsNote, IsNoteOf, RunsTo, StepsTo, IsLogged, after_any, encoding_after, event_named, event_of, id_of, initialize_result, is_notification, log_message, method_of, warning_params, IsSame};
 
 use crate::documents::{DocumentEvent, OpenDocument, Outcome, act};
 use crate::handshake::{name_of, negotiated};
