@@ -6,3 +6,5 @@ pub mod DocumentLemmas
 pub mod ParameterLemmas
 -- a step of a server, and a run of steps
 pub mod StepLemmas
+-- answers to requests
+pub mod RespondLemmas

@@ -7,6 +7,7 @@ use Rattle.serde_json.specs.View.{view}
 use Rattle.yf_json_rpc.specs.Messages.{Kind, request, notification, response, invalid, kind_of}
 use Rattle.yf_positions.specs.declared.encoding.Encoding.{Encoding}
 use Rattle.yf_server.proofs.LifecycleLemmas.{each_is_answered}
+use Rattle.yf_server.proofs.RespondLemmas.{request_once}
 use Rattle.yf_server.specs.declared.documents.OpenDocument.{OpenDocument}
 use Rattle.yf_server.specs.declared.documents.Outcome.{Outcome}
 use Rattle.yf_server.specs.declared.lifecycle.Phase.{Phase}
@@ -15,9 +16,10 @@ use Rattle.yf_server.specs.declared.lifecycle.Task.TheVariants.{Initialize, Shut
 use Rattle.yf_server.specs.declared.step.Reaction.{Reaction}
 use Rattle.yf_server.specs.declared.step.Server.{Server}
 use Rattle.yf_server.specs.Documents.{Event, OpenText, find, outcome_of}
+use Rattle.yf_server.specs.Edits.{AnswersRequest}
 use Rattle.yf_server.specs.Laws.{is_answer, wants_answer}
 use Rattle.yf_server.specs.Lifecycle.{step_of}
-use Rattle.yf_server.specs.Steps.{IsAnswer, IsNote, IsNoteOf, Knows, StepsTo, after_any, after_message, after_messages, encoding_after, event_of, id_of, is_notification, knows, method_of, response_id, response_ids, wanted_id, wanted_ids}
+use Rattle.yf_server.specs.Steps.{IsAnswer, IsNote, IsNoteOf, Knows, StepsTo, after_any, after_message, after_messages, encoding_after, event_of, id_of, is_notification, is_request, knows, method_of, response_id, response_ids, wanted_id, wanted_ids}
 
 sent_ids : (task : Task) (id : Data) (e : Encoding) (sent : Option Data) → IsAnswer id e task sent
     → response_ids (option_to_list sent) ≡ (if is_answer task then id ∷ [] else [])
@@ -75,7 +77,7 @@ knows_is : (uri : List ℕ) (before after : Server) (d : Data) (document : Optio
     → knows uri after ≡ after_message uri (knows uri before) d
 knows_is uri before after d document p e f g = rw (p, e, f, g) refl
 
-pub steps_notified : (before after : Server) (d : Data) (reaction : Reaction)
+pub steps_notified : (format : List ℕ → Option (List ℕ)) (before after : Server) (d : Data) (reaction : Reaction)
     → reaction.task ≡ (step_of before.phase (kind_of d)).task
     → after.phase ≡ (step_of before.phase (kind_of d)).phase
     → after.encoding ≡ encoding_after before.encoding (step_of before.phase (kind_of d)).task d
@@ -83,8 +85,8 @@ pub steps_notified : (before after : Server) (d : Data) (reaction : Reaction)
     → ((uri : List ℕ) → find uri after.documents.items ≡ after_any before.encoding uri
     (find uri before.documents.items) (event_of (method_of (kind_of d)) d))
     → IsNoteOf before.encoding before.documents.items (event_of (method_of (kind_of d)) d)
-    (option_map view reaction.message) → StepsTo before after d reaction
-steps_notified before after d reaction t p e is docs note =
+    (option_map view reaction.message) → StepsTo format before after d reaction
+steps_notified format before after d reaction t p e is docs note =
     record {
       task = t;
       knows = λ uri. knows_is uri before after d _ p e (docs uri) (rw is refl);
@@ -93,22 +95,66 @@ steps_notified before after d reaction t p e is docs note =
           (option_map view reaction.message) note ∙ sym (none_wanted before.phase (kind_of d) is);
     }
 
-pub steps_answered : (before after : Server) (d : Data) (reaction : Reaction)
+pub steps_answered : (format : List ℕ → Option (List ℕ)) (before after : Server) (d : Data) (reaction : Reaction)
     → reaction.task ≡ (step_of before.phase (kind_of d)).task
     → after.phase ≡ (step_of before.phase (kind_of d)).phase
     → after.encoding ≡ encoding_after before.encoding (step_of before.phase (kind_of d)).task d
     → is_notification (step_of before.phase (kind_of d)).task ≡ false
+    → is_request (step_of before.phase (kind_of d)).task ≡ false
     → after.documents.items ≡ before.documents.items
     → IsAnswer (id_of (kind_of d)) (encoding_after before.encoding (step_of before.phase (kind_of d)).task d)
-    (step_of before.phase (kind_of d)).task (option_map view reaction.message) → StepsTo before after d reaction
-steps_answered before after d reaction t p e is docs answer =
+    (step_of before.phase (kind_of d)).task (option_map view reaction.message) → StepsTo format before after d reaction
+steps_answered format before after d reaction t p e is own docs answer =
     record {
       task = t;
       knows = λ uri. knows_is uri before after d _ p e (ap (find uri) docs) (rw is refl);
-      sends = rw is answer;
+      sends = rw (is, own) answer;
       answers = answer_once before.phase (kind_of d)
           (encoding_after before.encoding (step_of before.phase (kind_of d)).task d)
           (option_map view reaction.message) answer;
+    }
+
+is_answered : (task : Task) → is_request task ≡ true → is_answer task ≡ true
+is_answered Initialize h = refl
+is_answered Shutdown h = refl
+is_answered Request h = refl
+is_answered (Fail code) h = refl
+is_answered Notification h = h
+is_answered Ignore h = h
+is_answered (Exit is_success) h = h
+
+not_notification : (task : Task) → is_request task ≡ true → is_notification task ≡ false
+not_notification Initialize h = refl
+not_notification Shutdown h = refl
+not_notification Request h = refl
+not_notification (Fail code) h = refl
+not_notification Notification h = sym h
+not_notification Ignore h = refl
+not_notification (Exit is_success) h = refl
+
+id_wanted : (phase : Phase) (kind : Kind) → is_request (step_of phase kind).task ≡ true
+    → wanted_id kind ≡ id_of kind ∷ []
+id_wanted phase kind h =
+    wanted_is kind
+    ∙ ap (λ b. if b then id_of kind ∷ [] else [])
+    (sym (each_is_answered phase kind) ∙ is_answered (step_of phase kind).task h)
+
+pub steps_requested : (format : List ℕ → Option (List ℕ)) (before after : Server) (d : Data) (reaction : Reaction)
+    → reaction.task ≡ (step_of before.phase (kind_of d)).task
+    → after.phase ≡ (step_of before.phase (kind_of d)).phase
+    → after.encoding ≡ encoding_after before.encoding (step_of before.phase (kind_of d)).task d
+    → is_request (step_of before.phase (kind_of d)).task ≡ true
+    → after.documents.items ≡ before.documents.items
+    → AnswersRequest format before.encoding before.documents.items (id_of (kind_of d)) (method_of (kind_of d)) d
+    (option_map view reaction.message) → StepsTo format before after d reaction
+steps_requested format before after d reaction t p e is docs answer =
+    let other = not_notification (step_of before.phase (kind_of d)).task is in
+    record {
+      task = t;
+      knows = λ uri. knows_is uri before after d _ p e (ap (find uri) docs) (rw other refl);
+      sends = rw (other, is) answer;
+      answers = request_once format before.encoding before.documents.items (id_of (kind_of d)) (method_of (kind_of d)) d
+          (option_map view reaction.message) answer ∙ sym (id_wanted before.phase (kind_of d) is);
     }
 
 -- one more message

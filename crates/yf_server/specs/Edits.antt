@@ -1,5 +1,5 @@
 -- Text edits as JSON (`TextEdit` of the Language Server Protocol 3.17), and the answers that carry them.
-use Rattle.std.specs.Prelude.{◌≡◌, ℕ, List, map, codes, bytes_eq, Bool, true, MatchBool, Option, None, Some, option_and_then}
+use Rattle.std.specs.Prelude.{◌≡◌, ℕ, List, map, codes, bytes_eq, true, MatchBool, Option, None, Some, option_and_then}
 use Rattle.serde_json.specs.Data.{Data, null, number, string, array, object, no_members, member, unsigned}
 use Rattle.serde_json.specs.Find.{get}
 use Rattle.serde_json.specs.View.{items_of}

@@ -3,9 +3,8 @@ use Rattle.std.specs.Prelude.{◌≡◌, ℕ, List, [], ◌∷◌, ◌++◌, cod
 use Rattle.serde_json.specs.Data.{Data, null, boolean, number, string, object, no_members, member, unsigned}
 use Rattle.serde_json.specs.Find.{get}
 use Rattle.serde_json.specs.View.{view}
-use Rattle.yf_json_rpc.specs.declared.error_code.ErrorCode.{ErrorCode}
 use Rattle.yf_json_rpc.specs.declared.error_code.ErrorCode.TheVariants.{MethodNotFound}
-use Rattle.yf_json_rpc.specs.Messages.{Kind, request, notification, response, invalid, call, failure, kind_of, reply}
+use Rattle.yf_json_rpc.specs.Messages.{Kind, request, notification, response, invalid, call, kind_of, reply}
 use Rattle.yf_positions.specs.declared.encoding.Encoding.{Encoding}
 use Rattle.yf_positions.specs.declared.encoding.Encoding.TheVariants.{Utf16}
 use Rattle.yf_server.specs.declared.documents.OpenDocument.{OpenDocument}
@@ -16,7 +15,7 @@ use Rattle.yf_server.specs.declared.lifecycle.Task.TheVariants.{Initialize, Shut
 use Rattle.yf_server.specs.declared.step.Reaction.{Reaction}
 use Rattle.yf_server.specs.declared.step.Server.{Server}
 use Rattle.yf_server.specs.Documents.{Event, OpenText, after_event, find, outcome_of}
-use Rattle.yf_server.specs.Edits.{FailsWith}
+use Rattle.yf_server.specs.Edits.{AnswersRequest, FailsWith}
 use Rattle.yf_server.specs.Handshake.{name_of, negotiated}
 use Rattle.yf_server.specs.Lifecycle.{step_of}
 use Rattle.yf_server.specs.Parameters.{changed, closed, opened}
@@ -61,6 +60,15 @@ is_notification (Fail code) = false
 is_notification Notification = true
 is_notification Ignore = false
 is_notification (Exit is_success) = false
+
+abbrev pub is_request : Task → Bool
+is_request Initialize = false
+is_request Shutdown = false
+is_request Request = true
+is_request (Fail code) = false
+is_request Notification = false
+is_request Ignore = false
+is_request (Exit is_success) = false
 
 -- the encoding that the parameters of `initialize` lead to
 abbrev pub chosen : Option Data → Encoding
@@ -144,12 +152,14 @@ abbrev pub IsNoteOf : Encoding → List OpenDocument → Option Event → Option
 IsNoteOf e documents None sent = sent ≡ None
 IsNoteOf e documents (Some event) sent = IsNote (outcome_of e (find event.uri documents) event.act) sent
 
--- what is sent
-abbrev pub Sends : Server → Data → Option Data → Type 0
-Sends server d sent = MatchBool (is_notification (step_of server.phase (kind_of d)).task)
+-- what is sent, by what the formatting of a text gives
+abbrev pub Sends : (List ℕ → Option (List ℕ)) → Server → Data → Option Data → Type 0
+Sends format server d sent = MatchBool (is_notification (step_of server.phase (kind_of d)).task)
     (IsNoteOf server.encoding server.documents.items (event_of (method_of (kind_of d)) d) sent)
+    (MatchBool (is_request (step_of server.phase (kind_of d)).task)
+    (AnswersRequest format server.encoding server.documents.items (id_of (kind_of d)) (method_of (kind_of d)) d sent)
     (IsAnswer (id_of (kind_of d)) (encoding_after server.encoding (step_of server.phase (kind_of d)).task d)
-    (step_of server.phase (kind_of d)).task sent)
+    (step_of server.phase (kind_of d)).task sent))
 
 -- the ids of the responses among messages
 abbrev pub response_id : Kind → List Data
@@ -175,10 +185,10 @@ wanted_ids (d ∷ rest) = wanted_id (kind_of d) ++ wanted_ids rest
 
 -- what a server does with one message: what it knows of each document is what the message makes of it, one answer is
 -- sent to a request and none to a notification, and no answer has another id
-pub record StepsTo (before after : Server) (d : Data) (reaction : Reaction) : Type 0 where
+pub record StepsTo (format : List ℕ → Option (List ℕ)) (before after : Server) (d : Data) (reaction : Reaction) : Type 0 where
   pub task : reaction.task ≡ (step_of before.phase (kind_of d)).task
   pub knows : (uri : List ℕ) → knows uri after ≡ after_message uri (knows uri before) d
-  pub sends : Sends before d (option_map view reaction.message)
+  pub sends : Sends format before d (option_map view reaction.message)
   pub answers : response_ids (option_to_list (option_map view reaction.message)) ≡ wanted_id (kind_of d)
 
 -- nothing has changed

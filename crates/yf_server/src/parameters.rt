@@ -11,7 +11,7 @@ use yf_positions::change::ContentChange;
 use yf_positions::position::{LspPosition, LspRange};
 
 /// Returns the text of a member.
-fn string_in<'v>(value: &'v Value, key: &str) -> Option<&'v str>
+pub fn string_in<'v>(value: &'v Value, key: &str) -> Option<&'v str>
     ensures { option_map (λ s. s.now) result ≡ string_in key.now (view value.now) }
 {
     match value.get(key) {

@@ -5,7 +5,7 @@ use Rattle.yf_server.specs.Steps.{after_messages, knows, response_ids, wanted_id
 use Rattle.yf_server.proofs.step.run.Given as goal
 
 abbrev pub invariant-loop-value : goal.invariant-loop-value
-invariant-loop-value l = record {
+invariant-loop-value g l = record {
   known : (uri : List ℕ) → after_messages uri (knows uri l.server) (map view (drop l.value-index l.received))
       ≡ after_messages uri (knows uri l.fn.server) (map view l.received);
   answered : response_ids (map view l.sent.items) ++ wanted_ids (map view (drop l.value-index l.received))
