@@ -111,13 +111,14 @@ abbrev pub after_messages : List ℕ → Knows → List Data → Knows
 after_messages uri k [] = k
 after_messages uri k (d ∷ rest) = after_messages uri (after_message uri k d) rest
 
--- `InitializeResult`: the server follows documents by changes of ranges
+-- `InitializeResult`: the server follows documents by changes of ranges, and formats them
 abbrev pub initialize_result : Encoding → Data
 initialize_result e = object (member (codes "capabilities") (object
+    (member (codes "documentFormattingProvider") (boolean true)
     (member (codes "positionEncoding") (string (name_of e))
     (member (codes "textDocumentSync") (object
     (member (codes "change") (number (unsigned 2)) (member (codes "openClose") (boolean true) no_members)))
-    no_members))) no_members)
+    no_members)))) no_members)
 
 -- what is sent for a task, if anything
 abbrev pub IsAnswer : Data → Encoding → Task → Option Data → Type 0
