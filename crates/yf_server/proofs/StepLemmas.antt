@@ -1,6 +1,6 @@
 -- A step of a server, and a run of steps.
-use Rattle.std.proofs.Common.{◌≡◌, ℕ, ◌+◌, ◌<◌, ◌≤◌, List, [], ◌∷◌, ◌++◌, length, drop, get_or, map, true, false, Option, None, Some, option_map, option_to_list, refl, sym, ap, ◌∙◌, append_assoc, append-nil, if◌then◌else◌}
-use Rattle.std.proofs.lemmas.List.{drop_all, drop_more}
+use Rattle.std.proofs.Common.{◌≡◌, ℕ, ◌+◌, ◌<◌, ◌≤◌, List, [], ◌∷◌, ◌++◌, length, drop, take, take_all, get_or, map, true, false, Option, None, Some, option_map, option_to_list, refl, sym, ap, subst, ◌∙◌, append_assoc, append-nil, if◌then◌else◌}
+use Rattle.std.proofs.lemmas.List.{drop_all, drop_more, map-append, take_more}
 use Rattle.serde_json.specs.Data.{Data}
 use Rattle.serde_json.specs.declared.value.Value.{Value}
 use Rattle.serde_json.specs.View.{view}
@@ -19,7 +19,7 @@ use Rattle.yf_server.specs.Documents.{Event, OpenText, find, outcome_of}
 use Rattle.yf_server.specs.Edits.{AnswersRequest}
 use Rattle.yf_server.specs.Laws.{is_answer, wants_answer}
 use Rattle.yf_server.specs.Lifecycle.{step_of}
-use Rattle.yf_server.specs.Steps.{IsAnswer, IsNote, IsNoteOf, Knows, StepsTo, after_any, after_message, after_messages, encoding_after, event_of, id_of, is_notification, is_request, knows, method_of, response_id, response_ids, wanted_id, wanted_ids}
+use Rattle.yf_server.specs.Steps.{IsAnswer, IsNote, IsNoteOf, Knows, Steps, StepsTo, no_step, one_step, after_any, after_message, after_messages, encoding_after, event_of, id_of, is_notification, is_request, knows, method_of, response_id, response_ids, wanted_id, wanted_ids}
 
 sent_ids : (task : Task) (id : Data) (e : Encoding) (sent : Option Data) → IsAnswer id e task sent
     → response_ids (option_to_list sent) ≡ (if is_answer task then id ∷ [] else [])
@@ -208,3 +208,42 @@ pub all_answered : (sent : List Value) (all : List Data) (vs : List Value) (i : 
 all_answered sent all vs i l h =
     sym (append-nil (response_ids (map view sent)))
     ∙ sym (ap (λ z. response_ids (map view sent) ++ wanted_ids (map view z)) (drop_all i vs l)) ∙ h
+
+-- one more step, and one more message
+steps_push : {format : List ℕ → Option (List ℕ)} {before middle : Server} {xs sent : List Data} (after : Server)
+    (d : Data) (reaction : Reaction) → Steps format before xs sent middle → StepsTo format middle after d reaction
+    → Steps format before (xs ++ d ∷ []) (sent ++ option_to_list (option_map view reaction.message)) after
+steps_push {format} after d reaction (no_step {server}) step =
+    subst (λ z. Steps format server (d ∷ []) z after) (append-nil (option_to_list (option_map view reaction.message)))
+    (one_step reaction step no_step)
+steps_push {format} after d reaction (one_step {before} {d = first} {rest} {sent} own own_step later) step =
+    subst (λ z. Steps format before (first ∷ rest ++ d ∷ []) z after)
+    (sym (append_assoc (option_to_list (option_map view own.message)) sent
+    (option_to_list (option_map view reaction.message))))
+    (one_step own own_step (steps_push after d reaction later step))
+
+pub steps_none : (format : List ℕ → Option (List ℕ)) (server : Server) (sent : List Value) → sent ≡ []
+    → Steps format server [] (map view sent) server
+steps_none format server sent none = subst (λ z. Steps format server [] (map view z) server) (sym none) no_step
+
+pub steps_more : (format : List ℕ → Option (List ℕ)) (before middle after : Server) (vs sent now : List Value) (i : ℕ)
+    (x : Value) (reaction : Reaction) → i < length vs → x ≡ get_or vs i x
+    → Steps format before (map view (take i vs)) (map view sent) middle
+    → StepsTo format middle after (view x) reaction → now ≡ sent ++ option_to_list reaction.message
+    → Steps format before (map view (take (i + 1) vs)) (map view now) after
+steps_more format before middle after vs sent now i x reaction l is steps step made =
+    let front : map view (take i vs) ++ view x ∷ [] ≡ map view (take (i + 1) vs) =
+    sym (map-append view (take i vs) (x ∷ []))
+    ∙ ap (λ z. map view (take i vs ++ z ∷ [])) is ∙ ap (map view) (sym (take_more vs i x l)) in
+    let all : map view sent ++ option_to_list (option_map view reaction.message) ≡ map view now =
+    ap (λ z. map view sent ++ z) (sym (as_list reaction.message))
+    ∙ sym (map-append view sent (option_to_list reaction.message)) ∙ ap (map view) (sym made) in
+    subst (λ z. Steps format before (map view (take (i + 1) vs)) z after) all
+    (subst (λ z. Steps format before z (map view sent ++ option_to_list (option_map view reaction.message)) after) front
+    (steps_push after (view x) reaction steps step))
+
+pub steps_all : (format : List ℕ → Option (List ℕ)) (before after : Server) (vs : List Value) (sent : List Data) (i : ℕ)
+    → length vs ≤ i → Steps format before (map view (take i vs)) sent after
+    → Steps format before (map view vs) sent after
+steps_all format before after vs sent i l h =
+    subst (λ z. Steps format before (map view z) sent after) (take_all i vs l) h

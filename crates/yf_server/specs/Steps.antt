@@ -198,7 +198,16 @@ pub record IsSame (before after : Server) : Type 0 where
   pub encoding : after.encoding ≡ before.encoding
   pub documents : after.documents.items ≡ before.documents.items
 
+-- what a server sends for messages, and what it is then: one step for each message, in order
+pub data Steps (format : List ℕ → Option (List ℕ)) : Server → List Data → List Data → Server → Type 0 where
+  no_step : {server : Server} → Steps format server [] [] server
+  one_step : {before middle after : Server} {d : Data} {rest sent : List Data} (reaction : Reaction)
+      → StepsTo format before middle d reaction → Steps format middle rest sent after
+      → Steps format before (d ∷ rest) (option_to_list (option_map view reaction.message) ++ sent) after
+
 -- what a server does with messages
-pub record RunsTo (before after : Server) (received sent : List Data) : Type 0 where
+pub record RunsTo (format : List ℕ → Option (List ℕ)) (before after : Server) (received sent : List Data)
+    : Type 0 where
+  pub steps : Steps format before received sent after
   pub knows : (uri : List ℕ) → knows uri after ≡ after_messages uri (knows uri before) received
   pub answers : response_ids sent ≡ wanted_ids received

@@ -1,5 +1,5 @@
 //! What a server does with each message.
-ghost use Rattle.std.specs.Prelude.{◌≡◌, ◌++◌, Some, IfOk, OnErr, OnOk, map, option_map, option_to_list};
+ghost use Rattle.std.specs.Prelude.{◌≡◌, [], ◌++◌, Some, IfOk, OnErr, OnOk, map, option_map, option_to_list};
 ghost use Rattle.serde_json.specs.View.{view};
 ghost use Rattle.yf_json_rpc.specs.Messages.{kind_read, reply};
 ghost use Rattle.yf_server.specs.Edits.{AnswersRequest, FailsWith};
@@ -195,7 +195,11 @@ fn respond_to<A: Analysis>(
 
 impl Server {
     /// A server that no message has reached.
-    pub fn new(alloc: Global) -> Server {
+    pub fn new(alloc: Global) -> Server
+        ensures phase { result.phase ≡ Phase.Fresh }
+        ensures encoding { result.encoding ≡ Encoding.Utf16 }
+        ensures documents { result.documents.items ≡ [] }
+    {
         Server {
             phase: Phase::Fresh,
             encoding: Encoding::Utf16,
@@ -280,7 +284,7 @@ pub fn run<A: Analysis>(
     server: &mut Server,
     received: &[Value],
 ) -> Result<Vec<Value>, AllocError>
-    ensures { IfOk result (λ sent. RunsTo server.old server.new (map view received.now) (map view sent.items)) }
+    ensures { IfOk result (λ sent. RunsTo (A.formatting analysis.now) server.old server.new (map view received.now) (map view sent.items)) }
 {
     let mut sent = Vec::new(alloc);
     for value in received {
