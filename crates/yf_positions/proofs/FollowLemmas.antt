@@ -145,7 +145,8 @@ after_run e old new edits after i j k l all rest (one_edit x apart start stop te
     let later : EditsFollow e old (i + length (text_of (olds f.run))) rest more =
     subst (λ z. EditsFollow e old z rest more) f.gone h in
     let run : EditsFollow e old i (f.run ++ rest) (x ∷ more) =
-    follow_edit f.run x (λ empty. apart (f.some_old empty) (f.some_new empty)) f.changes start end (text ∙ f.come) later in
+    follow_edit f.run x (λ empty. apart (f.some_old empty) (f.some_new empty))
+    f.changes start end (text ∙ f.come) later in
     subst (λ z. EditsFollow e old 0 all z) (sym (ap (λ z. z ++ more) is ∙ append_assoc edits (x ∷ []) more))
     (f.follow (x ∷ more) run)
 

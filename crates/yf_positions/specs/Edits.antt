@@ -67,7 +67,8 @@ pub data EditsFollow (e : Encoding) (old : List ℕ) : ℕ → List Edit → Lis
   follow_kept : {at : ℕ} {line : List ℕ} {rest : List Edit} {edits : List RangeEdit}
       → EditsFollow e old (at + length line) rest edits → EditsFollow e old at (kept line ∷ rest) edits
   follow_edit : {at : ℕ} (run : List Edit) {rest : List Edit} (x : RangeEdit) {edits : List RangeEdit}
-      → (run ≡ [] → ⊥) → all_changes run ≡ true → edit_start e old x ≡ at → edit_end e old x ≡ at + length (text_of (olds run))
+      → (run ≡ [] → ⊥) → all_changes run ≡ true → edit_start e old x ≡ at
+      → edit_end e old x ≡ at + length (text_of (olds run))
       → x.text ≡ text_of (news run) → EditsFollow e old (at + length (text_of (olds run))) rest edits
       → EditsFollow e old at (run ++ rest) (x ∷ edits)
 
@@ -85,5 +86,6 @@ is_empty from to = from.old == to.old && from.new == to.new
 -- the edit of a range with this text is added; none if nothing goes or comes
 pub data AddsEdit (e : Encoding) (t text : List ℕ) (from to : Offsets) (before after : List RangeEdit) : Type 0 where
   no_edit : from.old ≡ to.old → from.new ≡ to.new → after ≡ before → AddsEdit e t text from to before after
-  one_edit : (x : RangeEdit) → (from.old ≡ to.old → from.new ≡ to.new → ⊥) → edit_start e t x ≡ from.old → edit_end e t x ≡ to.old → x.text ≡ text
+  one_edit : (x : RangeEdit) → (from.old ≡ to.old → from.new ≡ to.new → ⊥) → edit_start e t x ≡ from.old
+      → edit_end e t x ≡ to.old → x.text ≡ text
       → after ≡ before ++ x ∷ [] → AddsEdit e t text from to before after

@@ -186,7 +186,8 @@ wanted_ids (d ∷ rest) = wanted_id (kind_of d) ++ wanted_ids rest
 
 -- what a server does with one message: what it knows of each document is what the message makes of it, one answer is
 -- sent to a request and none to a notification, and no answer has another id
-pub record StepsTo (format : List ℕ → Option (List ℕ)) (before after : Server) (d : Data) (reaction : Reaction) : Type 0 where
+pub record StepsTo (format : List ℕ → Option (List ℕ)) (before after : Server) (d : Data) (reaction : Reaction)
+    : Type 0 where
   pub task : reaction.task ≡ (step_of before.phase (kind_of d)).task
   pub knows : (uri : List ℕ) → knows uri after ≡ after_message uri (knows uri before) d
   pub sends : Sends format before d (option_map view reaction.message)

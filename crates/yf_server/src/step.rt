@@ -137,7 +137,8 @@ fn answer_to(
     task: Task,
     encoding: Encoding,
 ) -> Result<Option<Value>, AllocError>
-    ensures { IfOk result (λ answer. IsAnswer (id_of (kind_read message.entry)) encoding task (option_map view answer)) }
+    ensures { IfOk result (λ answer.
+        IsAnswer (id_of (kind_read message.entry)) encoding task (option_map view answer)) }
 {
     match task {
         Task::Initialize => {
@@ -219,7 +220,8 @@ pub fn step<A: Analysis>(
     server: &mut Server,
     value: &Value,
 ) -> Result<Reaction, AllocError>
-    ensures done { IfOk result (λ reaction. StepsTo (A.formatting analysis.now) server.old server.new (view value.now) reaction) }
+    ensures done { IfOk result (λ reaction.
+        StepsTo (A.formatting analysis.now) server.old server.new (view value.now) reaction) }
     ensures kept { OnErr result (IsSame server.old server.new) }
 {
     let message = message_of(value);
@@ -284,7 +286,8 @@ pub fn run<A: Analysis>(
     server: &mut Server,
     received: &[Value],
 ) -> Result<Vec<Value>, AllocError>
-    ensures { IfOk result (λ sent. RunsTo (A.formatting analysis.now) server.old server.new (map view received.now) (map view sent.items)) }
+    ensures { IfOk result (λ sent. RunsTo (A.formatting analysis.now) server.old server.new
+        (map view received.now) (map view sent.items)) }
 {
     let mut sent = Vec::new(alloc);
     for value in received {
