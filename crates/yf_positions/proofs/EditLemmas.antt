@@ -1,9 +1,10 @@
 -- What edits make of a text, one more edit or line at a time.
-use Rattle.std.proofs.Common.{◌≡◌, ℕ, ◌+◌, ◌-◌, ◌<◌, ◌≤◌, true, false, ◌&&◌, List, [], ◌∷◌, ◌++◌, length, take, drop, get_or, slice_range, refl, sym, ap, ◌∙◌, subst, arith, leb, append_assoc, append-nil, take-add, drop-drop, take_all}
-use Rattle.std.proofs.lemmas.Bool.{and_parts, and_from, le-leb, lt-leb}
+use Rattle.std.proofs.Common.{◌≡◌, ℕ, ◌+◌, ◌-◌, ◌<◌, ◌≤◌, true, false, ◌&&◌, List, [], ◌∷◌, ◌++◌, length, take, drop, get_or, slice_range, refl, sym, ap, ◌∙◌, subst, arith, eqb, leb, append_assoc, append-nil, take-add, drop-drop, take_all}
+use Rattle.std.proofs.lemmas.Bool.{and_parts, and_from, eq-eqb, le-leb, lt-leb}
 use Rattle.std.proofs.lemmas.List.{drop_more, take_rest}
 use Rattle.yf_positions.specs.declared.encoding.Encoding.{Encoding}
-use Rattle.yf_positions.specs.Edits.{RangeEdit, edit_start, edit_end, in_order, edited, edited_front, last_end, EditsReach}
+use Rattle.yf_positions.specs.declared.text_edit.Offsets.{Offsets}
+use Rattle.yf_positions.specs.Edits.{RangeEdit, edit_start, edit_end, in_order, is_empty, edited, edited_front, last_end, EditsReach}
 
 front_whole : (e : Encoding) (t : List ℕ) (at : ℕ) (edits : List RangeEdit)
     → edited e t at edits ≡ edited_front e t at edits ++ drop (last_end e t at edits) t
@@ -163,5 +164,13 @@ made_more e t at end i edits x was one two part text all l is stop p q a b h =
     ∙ append_assoc was part (text ++ later)
     ∙ ap (λ z. was ++ z) (sym next)
     ∙ h
+
+-- two offsets between which something goes or comes
+pub apart : (from to : Offsets) → is_empty from to ≡ false → from.old ≡ to.old → from.new ≡ to.new → ⊥
+apart from to h p q =
+    let both : is_empty from to ≡ true =
+    and_from (eqb from.old to.old) (eqb from.new to.new) (eq-eqb from.old to.old p) (eq-eqb from.new to.new q) in
+    let clash : true ≡ false = sym both ∙ h in
+    absurd (cc)
 
 pub ruleset edit_steps = (order_before, order_reversed)

@@ -7,7 +7,7 @@ use Rattle.yf_diff.specs.Texts.{lines_of}
 use Rattle.yf_diff.specs.Unified.{line_of}
 use Rattle.yf_positions.specs.declared.encoding.Encoding.{Encoding}
 use Rattle.yf_positions.specs.declared.text_edit.Offsets.{Offsets}
-use Rattle.yf_positions.specs.Edits.{AfterFeed, EditsReach, RangeEdit, EditsFollow, follow_end, follow_kept, follow_edit, AddsEdit, no_edit, one_edit, edit_end, all_changes, text_of}
+use Rattle.yf_positions.specs.Edits.{AfterFeed, EditsReach, RangeEdit, EditsFollow, follow_end, follow_kept, follow_edit, AddsEdit, no_edit, one_edit, edit_end, all_changes, text_of, EditsOfScript}
 use Rattle.yf_positions.proofs.EditLemmas.{slice_more, slice_none}
 use Rattle.yf_positions.proofs.LineParts.{Passed, passed_line}
 use Rattle.yf_positions.proofs.BetweenLemmas.{Between}
@@ -36,12 +36,19 @@ changes_push (y ∷ run) x h c =
     let parts = and_parts (is_change y) (all_changes run) h in
     and_from (is_change y) (all_changes (run ++ x ∷ [])) parts.0 (changes_push run x parts.1 c)
 
+-- a run with a step is not empty
+never_empty : (run : List Edit) (x : Edit) → run ++ x ∷ [] ≡ [] → ⊥
+never_empty [] x h = absurd (cc)
+never_empty (y ∷ run) x h = absurd (cc)
+
 -- since the last line that stays: the steps so far, and what follows if the edits that are left follow the script
 pub record Follows (e : Encoding) (old new : List ℕ) (edits : List RangeEdit) (from to : Offsets)
     (all steps : List Edit) : Type 0 where
   pub run : List Edit
   pub changes : all_changes run ≡ true
   pub none : from.old ≡ to.old → from.new ≡ to.new → run ≡ []
+  pub some_old : run ≡ [] → from.old ≡ to.old
+  pub some_new : run ≡ [] → from.new ≡ to.new
   pub gone : to.old ≡ from.old + length (text_of (olds run))
   pub come : slice_range new from.new to.new ≡ text_of (news run)
   pub follow : (more : List RangeEdit) → EditsFollow e old from.old (run ++ steps) more
@@ -56,6 +63,8 @@ follows_none e old new edits steps none = record {
   run = [];
   changes = refl;
   none = λ a b. refl;
+  some_old = λ _. refl;
+  some_new = λ _. refl;
   gone = refl;
   come = slice_none new 0;
   follow = λ more h. subst (λ z. EditsFollow e old 0 steps (z ++ more)) (sym none) h;
@@ -84,6 +93,8 @@ follows_dropped e old new edits i j k l n count all (dropped line) rest is c one
       run = f.run ++ dropped line ∷ [];
       changes = changes_push f.run (dropped line) f.changes refl;
       none = λ same _. absurd (omega arith);
+      some_old = λ empty. absurd (never_empty f.run (dropped line) empty);
+      some_new = λ empty. absurd (never_empty f.run (dropped line) empty);
       gone = omega arith;
       come = f.come ∙ ap text_of (sym (append-nil (news f.run)) ∙ sym (news_push f.run (dropped line)));
       follow = λ more h. f.follow more (regroup e old i f.run rest (dropped line) more h);
@@ -106,6 +117,8 @@ follows_added e old new edits i j k l n count all (added line) rest is c one siz
       run = f.run ++ added line ∷ [];
       changes = changes_push f.run (added line) f.changes refl;
       none = λ _ same. absurd (omega arith);
+      some_old = λ empty. absurd (never_empty f.run (added line) empty);
+      some_new = λ empty. absurd (never_empty f.run (added line) empty);
       gone = f.gone ∙ ap (λ z. i + length (text_of z)) (sym (append-nil (olds f.run))
           ∙ sym (olds_push f.run (added line)));
       come = slice_more new j l (l + n) b.new_order (omega arith)
@@ -127,12 +140,13 @@ after_run e old new edits after i j k l all rest (no_edit p q is) f more h =
     let run : EditsFollow e old i (f.run ++ rest) more =
     subst (λ z. EditsFollow e old i (z ++ rest) more) (sym none) here in
     subst (λ z. EditsFollow e old 0 all (z ++ more)) (sym is) (f.follow more run)
-after_run e old new edits after i j k l all rest (one_edit x start stop text is) f more h =
+after_run e old new edits after i j k l all rest (one_edit x apart start stop text is) f more h =
     let end : edit_end e old x ≡ i + length (text_of (olds f.run)) = stop ∙ f.gone in
     let later : EditsFollow e old (i + length (text_of (olds f.run))) rest more =
     subst (λ z. EditsFollow e old z rest more) f.gone h in
     let run : EditsFollow e old i (f.run ++ rest) (x ∷ more) =
-    follow_edit f.run x f.changes start end (text ∙ f.come) later in
+    follow_edit f.run x (λ empty. apart (f.some_old empty) (f.some_new empty))
+    f.changes start end (text ∙ f.come) later in
     subst (λ z. EditsFollow e old 0 all z) (sym (ap (λ z. z ++ more) is ∙ append_assoc edits (x ∷ []) more))
     (f.follow (x ∷ more) run)
 
@@ -147,6 +161,8 @@ follows_kept e old new edits after i j k l n all (kept line) rest is size adds f
   run = [];
   changes = refl;
   none = λ a b. refl;
+  some_old = λ _. refl;
+  some_new = λ _. refl;
   gone = omega arith;
   come = slice_none new (l + n);
   follow = λ more h. after_run e old new edits after i j k l all (kept line ∷ rest) adds f more
@@ -213,3 +229,30 @@ walk_of e old new edits i j k l all steps b f = record {
   news = b.news;
   follows = f;
 }
+
+-- a script that keeps all lines needs no edit
+abbrev all_kept : List (List ℕ) → List Edit
+all_kept [] = []
+all_kept (line ∷ rest) = kept line ∷ all_kept rest
+
+olds_kept : (lines : List (List ℕ)) → olds (all_kept lines) ≡ lines
+olds_kept [] = refl
+olds_kept (line ∷ rest) = ap (λ z. line ∷ z) (olds_kept rest)
+
+news_kept : (lines : List (List ℕ)) → news (all_kept lines) ≡ lines
+news_kept [] = refl
+news_kept (line ∷ rest) = ap (λ z. line ∷ z) (news_kept rest)
+
+kept_follows : (e : Encoding) (old : List ℕ) (at : ℕ) (lines : List (List ℕ))
+    → EditsFollow e old at (all_kept lines) []
+kept_follows e old at [] = follow_end
+kept_follows e old at (line ∷ rest) = follow_kept (kept_follows e old (at + length line) rest)
+
+pub same_script : (e : Encoding) (old new : List ℕ) (edits : List RangeEdit) → old ≡ new → edits ≡ []
+    → EditsOfScript e old new edits
+same_script e old new edits same none = subst (EditsOfScript e old new) (sym none) (record {
+  script = all_kept (lines_of old);
+  olds = olds_kept (lines_of old);
+  news = news_kept (lines_of old) ∙ ap lines_of same;
+  follow = kept_follows e old 0 (lines_of old);
+})

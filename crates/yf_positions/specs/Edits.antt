@@ -1,5 +1,5 @@
 -- Edits of a document, all of which speak of the text before any of them is made.
-use Rattle.std.specs.Prelude.{◌≡◌, ℕ, suc, ◌+◌, ◌<◌, ◌≤◌, Bool, true, ◌&&◌, nat_le, List, [], ◌∷◌, ◌++◌, length, take, drop, slice_index, slice_range}
+use Rattle.std.specs.Prelude.{◌≡◌, ℕ, suc, ◌+◌, ◌<◌, ◌≤◌, Bool, true, ◌&&◌, ◌==◌, nat_le, List, [], ◌∷◌, ◌++◌, length, take, drop, slice_index, slice_range}
 use Rattle.yf_diff.specs.Script.{Edit, kept, olds, news, is_change}
 use Rattle.yf_diff.specs.Texts.{lines_of}
 use Rattle.yf_positions.specs.declared.encoding.Encoding.{Encoding}
@@ -61,14 +61,14 @@ all_changes [] = true
 all_changes (x ∷ rest) = is_change x && all_changes rest
 
 -- The edits are those of a script from an offset on: each puts the lines that come in the place of lines that go, and
--- no
--- edit covers a line that stays.
+-- has at least one such line. No edit covers a line that stays.
 pub data EditsFollow (e : Encoding) (old : List ℕ) : ℕ → List Edit → List RangeEdit → Type 0 where
   follow_end : {at : ℕ} → EditsFollow e old at [] []
   follow_kept : {at : ℕ} {line : List ℕ} {rest : List Edit} {edits : List RangeEdit}
       → EditsFollow e old (at + length line) rest edits → EditsFollow e old at (kept line ∷ rest) edits
   follow_edit : {at : ℕ} (run : List Edit) {rest : List Edit} (x : RangeEdit) {edits : List RangeEdit}
-      → all_changes run ≡ true → edit_start e old x ≡ at → edit_end e old x ≡ at + length (text_of (olds run))
+      → (run ≡ [] → ⊥) → all_changes run ≡ true → edit_start e old x ≡ at
+      → edit_end e old x ≡ at + length (text_of (olds run))
       → x.text ≡ text_of (news run) → EditsFollow e old (at + length (text_of (olds run))) rest edits
       → EditsFollow e old at (run ++ rest) (x ∷ edits)
 
@@ -79,8 +79,13 @@ pub record EditsOfScript (e : Encoding) (old new : List ℕ) (edits : List Range
   pub news : news script ≡ lines_of new
   pub follow : EditsFollow e old 0 script edits
 
+-- nothing goes and nothing comes between two offsets
+abbrev pub is_empty : Offsets → Offsets → Bool
+is_empty from to = from.old == to.old && from.new == to.new
+
 -- the edit of a range with this text is added; none if nothing goes or comes
 pub data AddsEdit (e : Encoding) (t text : List ℕ) (from to : Offsets) (before after : List RangeEdit) : Type 0 where
   no_edit : from.old ≡ to.old → from.new ≡ to.new → after ≡ before → AddsEdit e t text from to before after
-  one_edit : (x : RangeEdit) → edit_start e t x ≡ from.old → edit_end e t x ≡ to.old → x.text ≡ text
+  one_edit : (x : RangeEdit) → (from.old ≡ to.old → from.new ≡ to.new → ⊥) → edit_start e t x ≡ from.old
+      → edit_end e t x ≡ to.old → x.text ≡ text
       → after ≡ before ++ x ∷ [] → AddsEdit e t text from to before after

@@ -1,7 +1,7 @@
 //! Edits of a document: how they are made, and the edits that lead to another text.
-ghost use Rattle.std.specs.Prelude.{◌≡◌, ◌≤◌, false, true, IfOk, IsErrOf, OnOk, slice_range, string_bytes};
+ghost use Rattle.std.specs.Prelude.{◌≡◌, ◌≤◌, [], false, true, IfOk, IsErrOf, OnOk, slice_range, string_bytes};
 ghost use Rattle.std.specs.Str.{IsUtf8};
-ghost use Rattle.yf_positions.specs.Edits.{AddsEdit, AfterFeed, EditsOfScript, EditsReach, edited, in_order};
+ghost use Rattle.yf_positions.specs.Edits.{AddsEdit, AfterFeed, EditsOfScript, EditsReach, edited, in_order, is_empty};
 
 use crate::document::Document;
 use crate::encoding::Encoding;
@@ -90,6 +90,13 @@ pub struct Offsets {
     pub new: usize,
 }
 
+/// Returns whether nothing goes and nothing comes between two offsets.
+fn is_empty(from: Offsets, to: Offsets) -> bool
+    ensures { result ≡ is_empty from to }
+{
+    from.old == to.old && from.new == to.new
+}
+
 /// Adds the edit of the lines between two offsets, if there are any.
 fn push_edit<'a>(
     document: &Document,
@@ -111,10 +118,8 @@ fn push_edit<'a>(
     ensures added { IfOk result (λ _. AddsEdit encoding document.now (slice_range new.now from.new to.new) from to
         edits.old.items edits.new.items) }
 {
-    if from.old == to.old {
-        if from.new == to.new {
-            return Ok(());
-        }
+    if is_empty(from, to) {
+        return Ok(());
     }
     let range = LspRange {
         start: document.position_of(from.old, encoding),
@@ -126,7 +131,7 @@ fn push_edit<'a>(
 }
 
 /// Returns edits of whole lines that lead from a document to a new text. They are in order and do not overlap, and no
-/// edit covers a line that the edit script keeps.
+/// edit covers a line that the edit script keeps. If the text is that of the document, there are no edits.
 ///
 /// # Errors
 ///
@@ -140,8 +145,13 @@ pub fn edits_between<'a>(
     ensures order { IfOk result (λ edits. in_order encoding document.now 0 edits.items ≡ true) }
     ensures text { IfOk result (λ edits. edited encoding document.now 0 edits.items ≡ new.now) }
     ensures script { IfOk result (λ edits. EditsOfScript encoding document.now new.now edits.items) }
+    ensures same { IfOk result (λ edits. document.now ≡ new.now → edits.items ≡ []) }
 {
-    let old_lines = hashed_lines(alloc, document.text().as_bytes())?;
+    let old = document.text();
+    if old == new {
+        return Ok(Vec::new(alloc));
+    }
+    let old_lines = hashed_lines(alloc, old.as_bytes())?;
     let new_lines = hashed_lines(alloc, new.as_bytes())?;
     let steps = script(alloc, &old_lines, &new_lines)?;
     let mut edits = Vec::new(alloc);

@@ -1,2 +1,10 @@
 -- the laws of the life cycle
 pub mod LifecycleLemmas
+-- the documents of a list by their URIs
+pub mod DocumentLemmas
+-- the changes of an array
+pub mod ParameterLemmas
+-- a step of a server, and a run of steps
+pub mod StepLemmas
+-- answers to requests
+pub mod RespondLemmas

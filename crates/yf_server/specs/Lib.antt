@@ -1,3 +1,7 @@
 pub mod Lifecycle
-pub mod Answers
 pub mod Laws
+pub mod Documents
+pub mod Parameters
+pub mod Handshake
+pub mod Steps
+pub mod Edits

@@ -1,6 +1,13 @@
 //! The part of an editor server that needs no YAML: the life cycle of the Language Server Protocol 3.17.
 #![tactic(auto)]
 
-pub mod answer;
+pub mod analysis;
+pub mod documents;
+pub mod edits;
+pub mod handshake;
 pub mod laws;
 pub mod lifecycle;
+pub mod notify;
+pub mod parameters;
+pub mod respond;
+pub mod step;

@@ -1,15 +1,16 @@
 -- The first step of the script, one more, and its end.
 use Rattle.std.proofs.Common.{length, sym, ap, ◌∙◌}
+use Rattle.std.proofs.lemmas.Slice.Eq.{bytes_eq-Decides}
 use Rattle.yf_diff.specs.Script.{olds, news}
 use Rattle.yf_diff.specs.Texts.{lines_of}
 use Rattle.yf_positions.proofs.BetweenLemmas.{between_none, between_at, between_kept, between_dropped, between_added, between_end}
-use Rattle.yf_positions.proofs.FollowLemmas.{both, between_of, walk_of, follows_none, follows_at, follows_kept, follows_dropped, follows_added, follows_end}
+use Rattle.yf_positions.proofs.FollowLemmas.{both, between_of, walk_of, follows_none, follows_at, follows_kept, follows_dropped, follows_added, follows_end, same_script}
 use Rattle.yf_positions.proofs.text_edit.edits_between.Goals as goal
 
 pub loop-step-init : goal.loop-step-init
 loop-step-init c =
     let gone = ap olds c.deref-step-items.ensures.value ∙ c.in_ok-steps.ensures.olds ∙ c.deref.ensures.value
-    ∙ c.in_ok-old_lines.ensures ∙ ap lines_of (c.as_bytes.ensures.value ∙ c.text.ensures) in
+    ∙ c.in_ok-old_lines.ensures ∙ ap lines_of (c.as_bytes.ensures.value ∙ c.text-old.ensures) in
     let come = ap news c.deref-step-items.ensures.value ∙ c.in_ok-steps.ensures.news ∙ c.deref-2.ensures.value
     ∙ c.in_ok-new_lines.ensures ∙ ap lines_of c.as_bytes-2.ensures.value in
     walk_of c.args.encoding c.args.document.now c.args.new.now c.new-edits.result.items 0 0 0 0
@@ -112,7 +113,7 @@ returns-clause-text c =
 pub returns-clause-script : goal.returns-clause-script
 returns-clause-script c =
     let gone = ap olds c.deref-step-items.ensures.value ∙ c.in_ok-steps.ensures.olds ∙ c.deref.ensures.value
-    ∙ c.in_ok-old_lines.ensures ∙ ap lines_of (c.as_bytes.ensures.value ∙ c.text.ensures) in
+    ∙ c.in_ok-old_lines.ensures ∙ ap lines_of (c.as_bytes.ensures.value ∙ c.text-old.ensures) in
     let come = ap news c.deref-step-items.ensures.value ∙ c.in_ok-steps.ensures.news ∙ c.deref-2.ensures.value
     ∙ c.in_ok-new_lines.ensures ∙ ap lines_of c.as_bytes-2.ensures.value in
     record {
@@ -124,3 +125,8 @@ returns-clause-script c =
           c.loop-step.step-index c.deref-step-items.result.now c.loop-step-test.false c.in_ok-push_edit-2.ensures.added
           c.loop-step.invariant.follows;
     }
+
+pub returns-then-eq-clause-script : goal.returns-then-eq-clause-script
+returns-then-eq-clause-script c =
+    let same = (bytes_eq-Decides c.text-old.result.now c.args.new.now).0 (sym c.eq.ensures ∙ c.if-eq.true) in
+    same_script c.args.encoding c.args.document.now c.args.new.now _ (sym c.text-old.ensures ∙ same) c.new.ensures.items

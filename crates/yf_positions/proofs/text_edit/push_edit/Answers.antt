@@ -1,7 +1,7 @@
-use Rattle.std.proofs.Common.{ap, ◌∙◌}
+use Rattle.std.proofs.Common.{ap, sym, ◌∙◌}
 use Rattle.yf_positions.specs.Edits.{one_edit}
 use Rattle.yf_positions.specs.Offsets.{offset_of}
-use Rattle.yf_positions.proofs.EditLemmas.{reach_push}
+use Rattle.yf_positions.proofs.EditLemmas.{apart, reach_push}
 use Rattle.yf_positions.proofs.LineParts.{feed_boundary, feed_position}
 use Rattle.yf_positions.proofs.text_edit.push_edit.Goals as goal
 
@@ -36,4 +36,5 @@ returns-clause-added c =
     let end =
     ap (offset_of e old) c.position_of-2.ensures
     ∙ feed_position e old c.args.to.old c.requires.utf8 c.requires.old_to in
-    one_edit _ start end c.range-text.ensures.value c.in_ok-push.ensures.items
+    one_edit _ (apart c.args.from c.args.to (sym c.is_empty.ensures ∙ c.if-is_empty.false))
+    start end c.range-text.ensures.value c.in_ok-push.ensures.items

@@ -1,0 +1,62 @@
+use Rattle.std.proofs.Common.{Some, option_map, sym, ap, refl, subst, ◌∙◌}
+use Rattle.serde_json.specs.View.{view}
+use Rattle.yf_json_rpc.specs.Messages.{kind_of, kind_read}
+use Rattle.yf_server.proofs.StepLemmas.{steps_answered, steps_notified, steps_requested}
+use Rattle.yf_server.specs.Documents.{find}
+use Rattle.yf_server.specs.Edits.{AnswersRequest}
+use Rattle.yf_server.specs.Lifecycle.{step_of}
+use Rattle.yf_server.specs.Steps.{IsAnswer, IsNoteOf, after_any, encoding_after, event_of, id_of, is_notification, is_request, method_of}
+use Rattle.yf_server.proofs.step.step.Goals as goal
+
+pub returns-then-is_notification-clause-done : goal.returns-then-is_notification-clause-done
+returns-then-is_notification-clause-done g c =
+    let server = c.args.server.now in
+    let d = view c.args.value.now in
+    let kind = c.message_of-message.ensures in
+    let next = c.next_step-next.ensures ∙ ap (step_of server.phase) kind in
+    let task = ap (λ s. s.task) next in
+    let method = c.method_of-method.ensures ∙ ap method_of kind in
+    steps_notified (g.A.Analysis.formatting c.args.analysis.now) server _ d _ task (ap (λ s. s.phase) next)
+    (c.encoding_after-encoding.ensures ∙ ap (λ t. encoding_after server.encoding t d) task)
+    (ap is_notification (sym task) ∙ sym c.is_notification.ensures ∙ c.if-is_notification.true)
+    (λ uri. c.in_ok-note.ensures.done uri
+    ∙ ap (λ m. after_any server.encoding uri (find uri server.documents.items) (event_of m d)) method)
+    (subst (λ m. IsNoteOf server.encoding server.documents.items (event_of m d) (option_map view c.in_ok-note.note))
+    method c.in_ok-note.ensures.note)
+
+pub returns-clause-done : goal.returns-clause-done
+returns-clause-done g c =
+    let server = c.args.server.now in
+    let d = view c.args.value.now in
+    let kind = c.message_of-message.ensures in
+    let next = c.next_step-next.ensures ∙ ap (step_of server.phase) kind in
+    let task = ap (λ s. s.task) next in
+    let encoding = c.encoding_after-encoding.ensures ∙ ap (λ t. encoding_after server.encoding t d) task in
+    let sent = option_map view c.in_ok-answer.answer in
+    steps_answered (g.A.Analysis.formatting c.args.analysis.now) server _ d _ task (ap (λ s. s.phase) next) encoding
+    (ap is_notification (sym task) ∙ sym c.is_notification.ensures ∙ c.if-is_notification.false)
+    (ap is_request (sym task) ∙ sym c.is_request.ensures ∙ c.if-is_request.false)
+    refl
+    (subst (λ t. IsAnswer (id_of (kind_of d)) (encoding_after server.encoding (step_of server.phase (kind_of d)).task d)
+    t sent) task
+    (subst (λ e. IsAnswer (id_of (kind_of d)) e c.next_step-next.result.task sent) encoding
+    (subst (λ k. IsAnswer (id_of k) c.encoding_after-encoding.result c.next_step-next.result.task sent) kind
+    c.in_ok-answer.ensures)))
+
+pub returns-then-is_request-clause-done : goal.returns-then-is_request-clause-done
+returns-then-is_request-clause-done g c =
+    let server = c.args.server.now in
+    let d = view c.args.value.now in
+    let format = g.A.Analysis.formatting c.args.analysis.now in
+    let kind = c.message_of-message.ensures in
+    let next = c.next_step-next.ensures ∙ ap (step_of server.phase) kind in
+    let task = ap (λ s. s.task) next in
+    steps_requested format server _ d _ task (ap (λ s. s.phase) next)
+    (c.encoding_after-encoding.ensures ∙ ap (λ t. encoding_after server.encoding t d) task)
+    (ap is_request (sym task) ∙ sym c.is_request.ensures ∙ c.if-is_request.true)
+    refl
+    (subst (λ k. AnswersRequest format server.encoding server.documents.items (id_of k) (method_of k) d
+    (Some (view c.in_ok-response.response))) kind
+    (subst (λ xs. AnswersRequest format server.encoding xs (id_of (kind_read c.message_of-message.result))
+    (method_of (kind_read c.message_of-message.result)) d (Some (view c.in_ok-response.response)))
+    c.as_slice.ensures.value c.in_ok-response.ensures))

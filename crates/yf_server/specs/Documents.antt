@@ -1,0 +1,105 @@
+-- The open documents of a server, by their URIs, and what a client does with them.
+use Rattle.std.specs.Prelude.{◌≡◌, ℕ, ℤ, ◌+◌, ◌<◌, List, [], ◌∷◌, length, take, drop, true, ⊤, bytes_eq, int_lt, string_bytes, Option, None, Some, if◌then◌else◌}
+use Rattle.yf_positions.specs.declared.encoding.Encoding.{Encoding}
+use Rattle.yf_positions.specs.Changes.{TextChange, all_changed}
+use Rattle.yf_server.specs.declared.documents.DocumentAct.{DocumentAct}
+use Rattle.yf_server.specs.declared.documents.DocumentAct.TheVariants as Read
+use Rattle.yf_server.specs.declared.documents.DocumentEvent.{DocumentEvent}
+use Rattle.yf_server.specs.declared.documents.OpenDocument.{OpenDocument}
+use Rattle.yf_server.specs.declared.documents.Outcome.{Outcome}
+use Rattle.yf_server.specs.declared.documents.Outcome.TheVariants.{Done, NotOpen, OldVersion, ReversedRange}
+
+-- the version and the text of a document
+pub record OpenText : Type 0 where
+  pub version : ℤ
+  pub text : List ℕ
+
+abbrev pub text_of : OpenDocument → OpenText
+text_of x = record { version = x.version; text = x.document }
+
+-- the document with a URI, if it is open
+abbrev pub find : List ℕ → List OpenDocument → Option OpenText
+find uri [] = None
+find uri (x ∷ rest) = if bytes_eq uri (string_bytes x.uri) then Some (text_of x) else find uri rest
+
+-- the document at i has the URI, and none before it has
+pub record IsFirst (documents : List OpenDocument) (uri : List ℕ) (i : ℕ) : Type 0 where
+  pub within : i < length documents
+  pub document : OpenDocument
+  pub rest : drop i documents ≡ document ∷ drop (i + 1) documents
+  pub named : bytes_eq uri (string_bytes document.uri) ≡ true
+  pub before : find uri (take i documents) ≡ None
+
+-- the document with this URI is another one now, and each other document stays
+abbrev pub Updates : List OpenDocument → List OpenDocument → List ℕ → Option OpenText → Type 0
+Updates before after uri now = (other : List ℕ)
+    → find other after ≡ (if bytes_eq other uri then now else find other before)
+
+-- what a client does with a document: it opens it with a version and a text, changes it, or closes it
+pub data Act : Type 0 where
+  open_text : ℤ → List ℕ → Act
+  change : ℤ → List TextChange → Act
+  close : Act
+
+pub record Event : Type 0 where
+  pub uri : List ℕ
+  pub act : Act
+
+abbrev pub act_read : DocumentAct → Act
+act_read (Read.Open version text) = open_text version text.now
+act_read (Read.Change version changes) = change version changes.items
+act_read Read.Close = close
+
+abbrev pub event_read : DocumentEvent → Event
+event_read event = record { uri = event.uri.now; act = act_read event.act }
+
+-- a document with the text that changes left; as it was if a range was reversed
+abbrev pub with_text : OpenText → ℤ → Option (List ℕ) → OpenText
+with_text was version None = was
+with_text was version (Some text) = record { version = version; text = text }
+
+-- a document is changed only by a version that is higher than its own
+abbrev pub changed_by : Encoding → Option OpenText → ℤ → List TextChange → Option OpenText
+changed_by e None version changes = None
+changed_by e (Some was) version changes =
+    if int_lt was.version version then Some (with_text was version (all_changed e was.text changes)) else Some was
+
+-- a document after what the client does with it
+abbrev pub acted : Encoding → Option OpenText → Act → Option OpenText
+acted e was (open_text version text) = Some (record { version = version; text = text })
+acted e was (change version changes) = changed_by e was version changes
+acted e was close = None
+
+-- the document with a URI after an event, which may be of another document
+abbrev pub after_event : Encoding → List ℕ → Option OpenText → Event → Option OpenText
+after_event e uri was event = if bytes_eq uri event.uri then acted e was event.act else was
+
+-- each document is what the event makes of it
+abbrev pub FollowsEvent : Encoding → List OpenDocument → List OpenDocument → Event → Type 0
+FollowsEvent e before after event = (uri : List ℕ) → find uri after ≡ after_event e uri (find uri before) event
+
+abbrev pub range_outcome : Option (List ℕ) → Outcome
+range_outcome None = ReversedRange
+range_outcome (Some text) = Done
+
+abbrev pub change_outcome : Encoding → Option OpenText → ℤ → List TextChange → Outcome
+change_outcome e None version changes = NotOpen
+change_outcome e (Some was) version changes =
+    if int_lt was.version version then range_outcome (all_changed e was.text changes) else OldVersion
+
+abbrev pub close_outcome : Option OpenText → Outcome
+close_outcome None = NotOpen
+close_outcome (Some was) = Done
+
+-- what becomes of an act
+abbrev pub outcome_of : Encoding → Option OpenText → Act → Outcome
+outcome_of e was (open_text version text) = Done
+outcome_of e was (change version changes) = change_outcome e was version changes
+outcome_of e was close = close_outcome was
+
+-- only what was done changes documents
+abbrev pub StaysAt : Outcome → List OpenDocument → List OpenDocument → Type 0
+StaysAt Done before after = ⊤
+StaysAt NotOpen before after = after ≡ before
+StaysAt OldVersion before after = after ≡ before
+StaysAt ReversedRange before after = after ≡ before

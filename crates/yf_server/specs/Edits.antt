@@ -1,0 +1,81 @@
+-- Text edits as JSON (`TextEdit` of the Language Server Protocol 3.17), and the answers that carry them.
+use Rattle.std.specs.Prelude.{◌≡◌, ℕ, List, map, codes, bytes_eq, true, MatchBool, Option, None, Some, option_and_then}
+use Rattle.serde_json.specs.Data.{Data, null, number, string, array, object, no_members, member, unsigned}
+use Rattle.serde_json.specs.Find.{get}
+use Rattle.serde_json.specs.View.{items_of}
+use Rattle.yf_json_rpc.specs.declared.error_code.ErrorCode.{ErrorCode}
+use Rattle.yf_json_rpc.specs.declared.error_code.ErrorCode.TheVariants.{InvalidParams, MethodNotFound}
+use Rattle.yf_json_rpc.specs.Messages.{failure, reply}
+use Rattle.yf_positions.specs.declared.encoding.Encoding.{Encoding}
+use Rattle.yf_positions.specs.declared.position.LspPosition.{LspPosition}
+use Rattle.yf_positions.specs.declared.position.LspRange.{LspRange}
+use Rattle.yf_positions.specs.Edits.{EditsOfScript, RangeEdit, edited, in_order}
+use Rattle.yf_server.specs.declared.documents.OpenDocument.{OpenDocument}
+use Rattle.yf_server.specs.Documents.{OpenText, find}
+use Rattle.yf_server.specs.Parameters.{string_in}
+
+abbrev pub position_data : LspPosition → Data
+position_data p = object (member (codes "character") (number (unsigned p.character))
+    (member (codes "line") (number (unsigned p.line)) no_members))
+
+abbrev pub range_between : Data → Data → Data
+range_between start end = object (member (codes "end") end (member (codes "start") start no_members))
+
+abbrev pub range_data : LspRange → Data
+range_data r = range_between (position_data r.start) (position_data r.end)
+
+abbrev pub edit_of : Data → List ℕ → Data
+edit_of range text = object (member (codes "newText") (string text) (member (codes "range") range no_members))
+
+abbrev pub edit_data : RangeEdit → Data
+edit_data x = edit_of (range_data x.range) x.text
+
+abbrev pub edits_data : List RangeEdit → Data
+edits_data edits = array (items_of (map edit_data edits))
+
+-- one message says why another one failed
+pub record FailsWith (id : Data) (code : ErrorCode) (sent : Option Data) : Type 0 where
+  pub text : List ℕ
+  pub is : sent ≡ Some (failure id code text)
+
+-- the edits that a client gets: made by the protocol's definition, they turn the old text into the new one; they are in
+-- order and do not overlap, and they cover no line that the edit script keeps
+pub record AreEditsTo (e : Encoding) (old new : List ℕ) (value : Data) : Type 0 where
+  pub edits : List RangeEdit
+  pub is : value ≡ edits_data edits
+  pub order : in_order e old 0 edits ≡ true
+  pub text : edited e old 0 edits ≡ new
+  pub script : EditsOfScript e old new edits
+
+-- the result of `textDocument/formatting` for an old text and what the formatting of it gives, if anything
+abbrev pub IsFormatting : Encoding → List ℕ → Option (List ℕ) → Data → Type 0
+IsFormatting e old None value = value ≡ null
+IsFormatting e old (Some new) value = AreEditsTo e old new value
+
+-- one message is the response with this result
+pub record Replies (P : Data → Type 0) (id : Data) (sent : Option Data) : Type 0 where
+  pub value : Data
+  pub is : sent ≡ Some (reply id value)
+  pub holds : P value
+
+-- the answer for a document: that of its formatting, or an error if it is not open
+abbrev pub AnswersFor : (List ℕ → Option (List ℕ)) → Encoding → Data → Option OpenText → Option Data → Type 0
+AnswersFor format e id None sent = FailsWith id InvalidParams sent
+AnswersFor format e id (Some was) sent = Replies (IsFormatting e was.text (format was.text)) id sent
+
+-- the answer for the document of a URI, or an error if the parameters have none
+abbrev pub AnswersUri : (List ℕ → Option (List ℕ)) → Encoding → List OpenDocument → Data → Option (List ℕ)
+    → Option Data → Type 0
+AnswersUri format e documents id None sent = FailsWith id InvalidParams sent
+AnswersUri format e documents id (Some uri) sent = AnswersFor format e id (find uri documents) sent
+
+-- the URI that parameters name
+abbrev pub named_uri : Data → Option (List ℕ)
+named_uri d = option_and_then (string_in (codes "uri"))
+    (option_and_then (get (codes "textDocument")) (get (codes "params") d))
+
+-- the answer to a request that is not of the life cycle
+abbrev pub AnswersRequest : (List ℕ → Option (List ℕ)) → Encoding → List OpenDocument → Data → List ℕ → Data
+    → Option Data → Type 0
+AnswersRequest format e documents id method d sent = MatchBool (bytes_eq method (codes "textDocument/formatting"))
+    (AnswersUri format e documents id (named_uri d) sent) (FailsWith id MethodNotFound sent)

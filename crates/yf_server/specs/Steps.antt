@@ -1,0 +1,214 @@
+-- What a server does with a message: what it knows then, and what it sends.
+use Rattle.std.specs.Prelude.{◌≡◌, ℕ, List, [], ◌∷◌, ◌++◌, codes, bytes_eq, Bool, true, false, MatchBool, Option, None, Some, option_and_then, option_map, option_to_list, if◌then◌else◌}
+use Rattle.serde_json.specs.Data.{Data, null, boolean, number, string, object, no_members, member, unsigned}
+use Rattle.serde_json.specs.Find.{get}
+use Rattle.serde_json.specs.View.{view}
+use Rattle.yf_json_rpc.specs.declared.error_code.ErrorCode.TheVariants.{MethodNotFound}
+use Rattle.yf_json_rpc.specs.Messages.{Kind, request, notification, response, invalid, call, kind_of, reply}
+use Rattle.yf_positions.specs.declared.encoding.Encoding.{Encoding}
+use Rattle.yf_positions.specs.declared.encoding.Encoding.TheVariants.{Utf16}
+use Rattle.yf_server.specs.declared.documents.OpenDocument.{OpenDocument}
+use Rattle.yf_server.specs.declared.documents.Outcome.{Outcome}
+use Rattle.yf_server.specs.declared.lifecycle.Phase.{Phase}
+use Rattle.yf_server.specs.declared.lifecycle.Task.{Task}
+use Rattle.yf_server.specs.declared.lifecycle.Task.TheVariants.{Initialize, Shutdown, Request, Fail, Notification, Ignore, Exit}
+use Rattle.yf_server.specs.declared.step.Reaction.{Reaction}
+use Rattle.yf_server.specs.declared.step.Server.{Server}
+use Rattle.yf_server.specs.Documents.{Event, OpenText, after_event, find, outcome_of}
+use Rattle.yf_server.specs.Edits.{AnswersRequest, FailsWith}
+use Rattle.yf_server.specs.Handshake.{name_of, negotiated}
+use Rattle.yf_server.specs.Lifecycle.{step_of}
+use Rattle.yf_server.specs.Parameters.{changed, closed, opened}
+
+-- the id of an answer: that of the request, and null for a message that is none
+abbrev pub id_of : Kind → Data
+id_of (request id method) = id
+id_of (notification method) = null
+id_of (response id) = null
+id_of invalid = null
+
+abbrev pub method_of : Kind → List ℕ
+method_of (request id method) = method
+method_of (notification method) = method
+method_of (response id) = []
+method_of invalid = []
+
+-- the event of a notification on a document
+abbrev pub event_named : List ℕ → Data → Option Event
+event_named method params =
+    if bytes_eq method (codes "textDocument/didOpen") then opened params
+    else (if bytes_eq method (codes "textDocument/didChange") then changed params
+    else (if bytes_eq method (codes "textDocument/didClose") then closed params else None))
+
+abbrev pub event_of : List ℕ → Data → Option Event
+event_of method d = option_and_then (event_named method) (get (codes "params") d)
+
+abbrev pub is_initialize : Task → Bool
+is_initialize Initialize = true
+is_initialize Shutdown = false
+is_initialize Request = false
+is_initialize (Fail code) = false
+is_initialize Notification = false
+is_initialize Ignore = false
+is_initialize (Exit is_success) = false
+
+abbrev pub is_notification : Task → Bool
+is_notification Initialize = false
+is_notification Shutdown = false
+is_notification Request = false
+is_notification (Fail code) = false
+is_notification Notification = true
+is_notification Ignore = false
+is_notification (Exit is_success) = false
+
+abbrev pub is_request : Task → Bool
+is_request Initialize = false
+is_request Shutdown = false
+is_request Request = true
+is_request (Fail code) = false
+is_request Notification = false
+is_request Ignore = false
+is_request (Exit is_success) = false
+
+-- the encoding that the parameters of `initialize` lead to
+abbrev pub chosen : Option Data → Encoding
+chosen None = Utf16
+chosen (Some params) = negotiated params
+
+abbrev pub encoding_after : Encoding → Task → Data → Encoding
+encoding_after e task d = if is_initialize task then chosen (get (codes "params") d) else e
+
+-- a document after an event, if there is one
+abbrev pub after_any : Encoding → List ℕ → Option OpenText → Option Event → Option OpenText
+after_any e uri was None = was
+after_any e uri was (Some event) = after_event e uri was event
+
+-- what a server knows that matters for the document with one URI
+pub record Knows : Type 0 where
+  pub phase : Phase
+  pub encoding : Encoding
+  pub document : Option OpenText
+
+abbrev pub knows : List ℕ → Server → Knows
+knows uri server = record {
+  phase = server.phase;
+  encoding = server.encoding;
+  document = find uri server.documents.items;
+}
+
+-- that after a message
+abbrev pub after_message : List ℕ → Knows → Data → Knows
+after_message uri k d = record {
+  phase = (step_of k.phase (kind_of d)).phase;
+  encoding = encoding_after k.encoding (step_of k.phase (kind_of d)).task d;
+  document =
+      if is_notification (step_of k.phase (kind_of d)).task
+      then after_any k.encoding uri k.document (event_of (method_of (kind_of d)) d) else k.document;
+}
+
+-- that after messages, one after the other
+abbrev pub after_messages : List ℕ → Knows → List Data → Knows
+after_messages uri k [] = k
+after_messages uri k (d ∷ rest) = after_messages uri (after_message uri k d) rest
+
+-- `InitializeResult`: the server follows documents by changes of ranges, and formats them
+abbrev pub initialize_result : Encoding → Data
+initialize_result e = object (member (codes "capabilities") (object
+    (member (codes "documentFormattingProvider") (boolean true)
+    (member (codes "positionEncoding") (string (name_of e))
+    (member (codes "textDocumentSync") (object
+    (member (codes "change") (number (unsigned 2)) (member (codes "openClose") (boolean true) no_members)))
+    no_members)))) no_members)
+
+-- what is sent for a task, if anything
+abbrev pub IsAnswer : Data → Encoding → Task → Option Data → Type 0
+IsAnswer id e Initialize sent = sent ≡ Some (reply id (initialize_result e))
+IsAnswer id e Shutdown sent = sent ≡ Some (reply id null)
+IsAnswer id e Request sent = FailsWith id MethodNotFound sent
+IsAnswer id e (Fail code) sent = FailsWith id code sent
+IsAnswer id e Notification sent = sent ≡ None
+IsAnswer id e Ignore sent = sent ≡ None
+IsAnswer id e (Exit is_success) sent = sent ≡ None
+
+-- a warning for the log of the client (`window/logMessage`)
+abbrev pub warning_params : List ℕ → Data
+warning_params text =
+    object (member (codes "message") (string text) (member (codes "type") (number (unsigned 2)) no_members))
+
+abbrev pub log_message : List ℕ → Data
+log_message text = call (codes "window/logMessage") (warning_params text)
+
+pub record IsLogged (sent : Option Data) : Type 0 where
+  pub text : List ℕ
+  pub is : sent ≡ Some (log_message text)
+
+-- a client hears of what could not be done
+abbrev pub IsNote : Outcome → Option Data → Type 0
+IsNote Outcome.Done sent = sent ≡ None
+IsNote Outcome.NotOpen sent = IsLogged sent
+IsNote Outcome.OldVersion sent = IsLogged sent
+IsNote Outcome.ReversedRange sent = IsLogged sent
+
+abbrev pub IsNoteOf : Encoding → List OpenDocument → Option Event → Option Data → Type 0
+IsNoteOf e documents None sent = sent ≡ None
+IsNoteOf e documents (Some event) sent = IsNote (outcome_of e (find event.uri documents) event.act) sent
+
+-- what is sent, by what the formatting of a text gives
+abbrev pub Sends : (List ℕ → Option (List ℕ)) → Server → Data → Option Data → Type 0
+Sends format server d sent = MatchBool (is_notification (step_of server.phase (kind_of d)).task)
+    (IsNoteOf server.encoding server.documents.items (event_of (method_of (kind_of d)) d) sent)
+    (MatchBool (is_request (step_of server.phase (kind_of d)).task)
+    (AnswersRequest format server.encoding server.documents.items (id_of (kind_of d)) (method_of (kind_of d)) d sent)
+    (IsAnswer (id_of (kind_of d)) (encoding_after server.encoding (step_of server.phase (kind_of d)).task d)
+    (step_of server.phase (kind_of d)).task sent))
+
+-- the ids of the responses among messages
+abbrev pub response_id : Kind → List Data
+response_id (request id method) = []
+response_id (notification method) = []
+response_id (response id) = id ∷ []
+response_id invalid = []
+
+abbrev pub response_ids : List Data → List Data
+response_ids [] = []
+response_ids (d ∷ rest) = response_id (kind_of d) ++ response_ids rest
+
+-- the ids of the answers that messages want
+abbrev pub wanted_id : Kind → List Data
+wanted_id (request id method) = id ∷ []
+wanted_id (notification method) = []
+wanted_id (response id) = []
+wanted_id invalid = null ∷ []
+
+abbrev pub wanted_ids : List Data → List Data
+wanted_ids [] = []
+wanted_ids (d ∷ rest) = wanted_id (kind_of d) ++ wanted_ids rest
+
+-- what a server does with one message: what it knows of each document is what the message makes of it, one answer is
+-- sent to a request and none to a notification, and no answer has another id
+pub record StepsTo (format : List ℕ → Option (List ℕ)) (before after : Server) (d : Data) (reaction : Reaction)
+    : Type 0 where
+  pub task : reaction.task ≡ (step_of before.phase (kind_of d)).task
+  pub knows : (uri : List ℕ) → knows uri after ≡ after_message uri (knows uri before) d
+  pub sends : Sends format before d (option_map view reaction.message)
+  pub answers : response_ids (option_to_list (option_map view reaction.message)) ≡ wanted_id (kind_of d)
+
+-- nothing has changed
+pub record IsSame (before after : Server) : Type 0 where
+  pub phase : after.phase ≡ before.phase
+  pub encoding : after.encoding ≡ before.encoding
+  pub documents : after.documents.items ≡ before.documents.items
+
+-- what a server sends for messages, and what it is then: one step for each message, in order
+pub data Steps (format : List ℕ → Option (List ℕ)) : Server → List Data → List Data → Server → Type 0 where
+  no_step : {server : Server} → Steps format server [] [] server
+  one_step : {before middle after : Server} {d : Data} {rest sent : List Data} (reaction : Reaction)
+      → StepsTo format before middle d reaction → Steps format middle rest sent after
+      → Steps format before (d ∷ rest) (option_to_list (option_map view reaction.message) ++ sent) after
+
+-- what a server does with messages
+pub record RunsTo (format : List ℕ → Option (List ℕ)) (before after : Server) (received sent : List Data)
+    : Type 0 where
+  pub steps : Steps format before received sent after
+  pub knows : (uri : List ℕ) → knows uri after ≡ after_messages uri (knows uri before) received
+  pub answers : response_ids sent ≡ wanted_ids received

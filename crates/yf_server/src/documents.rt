@@ -1,0 +1,226 @@
+//! The open documents of a server.
+ghost use Rattle.std.specs.Prelude.{◌≡◌, None, Some, IfOk, MatchOption, OnErr, OnOk, int_lt, string_bytes};
+ghost use Rattle.yf_server.specs.Documents.{IsFirst, FollowsEvent, StaysAt, Updates, act_read, change_outcome, changed_by, close_outcome, event_read, find, outcome_of, text_of};
+
+use std::alloc::{AllocError, Global};
+use yf_positions::change::{ChangeError, ContentChange};
+use yf_positions::document::Document;
+use yf_positions::encoding::Encoding;
+
+/// A document that a client has open.
+#[derive(Drop)]
+pub struct OpenDocument {
+    /// The name of the document, which the client gives.
+    pub uri: String,
+    /// The version, which the client makes higher with each change.
+    pub version: i64,
+    pub document: Document,
+}
+
+/// What a client does with a document.
+#[derive(Drop)]
+pub enum DocumentAct<'v> {
+    /// It opens the document (`textDocument/didOpen`).
+    Open {
+        version: i64,
+        text: &'v str,
+    },
+    /// It changes the document (`textDocument/didChange`).
+    Change {
+        version: i64,
+        changes: Vec<ContentChange<'v>>,
+    },
+    /// It closes the document (`textDocument/didClose`).
+    Close,
+}
+
+/// What a client does with the document of a URI.
+#[derive(Drop)]
+pub struct DocumentEvent<'v> {
+    pub uri: &'v str,
+    pub act: DocumentAct<'v>,
+}
+
+/// What became of an event.
+#[derive(Clone, Copy)]
+pub enum Outcome {
+    /// The document was opened, changed or closed.
+    Done,
+    /// No document with this URI is open.
+    NotOpen,
+    /// The version is not higher than the one before.
+    OldVersion,
+    /// The range of a change ends before it starts.
+    ReversedRange,
+}
+
+/// Returns the index of the first document with a URI.
+pub fn place_of(documents: &[OpenDocument], uri: &str) -> Option<usize>
+    ensures { MatchOption result (find uri.now documents.now ≡ None) (IsFirst documents.now uri.now) }
+{
+    let mut at = 0;
+    while at < documents.len() {
+        let document = &documents[at];
+        if uri == document.uri.as_str() {
+            return Some(at);
+        }
+        at += 1;
+    }
+    None
+}
+
+/// Adds a document, or puts it in the place of the document with its URI.
+fn put(documents: &mut Vec<OpenDocument>, document: OpenDocument) -> Result<(), AllocError>
+    ensures done { OnOk result (Updates documents.old.items documents.new.items (string_bytes document.uri)
+        (Some (text_of document))) }
+    ensures kept { OnErr result (documents.new.items ≡ documents.old.items) }
+{
+    match place_of(documents.as_slice(), document.uri.as_str()) {
+        None => {
+            documents.push(document)?;
+            Ok(())
+        }
+        Some(at) => {
+            documents[at] = document;
+            Ok(())
+        }
+    }
+}
+
+/// Removes the documents with a URI.
+fn withdraw(documents: &mut Vec<OpenDocument>, uri: &str)
+    ensures { Updates documents.old.items documents.new.items uri.now None }
+{
+    'places: loop {
+        match place_of(documents.as_slice(), uri) {
+            None => return,
+            Some(at) => {
+                documents.remove(at);
+            }
+        }
+    }
+}
+
+/// Returns whether a version is higher than that of a document.
+fn is_newer(was: &OpenDocument, version: i64) -> bool
+    ensures { result ≡ int_lt was.now.version version }
+{
+    was.version < version
+}
+
+/// Changes a document, if it is open and the version is higher than the one before.
+fn change(
+    alloc: Global,
+    documents: &mut Vec<OpenDocument>,
+    uri: &str,
+    version: i64,
+    changes: &[ContentChange<'_>],
+    encoding: Encoding,
+) -> Result<Outcome, AllocError>
+    ensures done { OnOk result (Updates documents.old.items documents.new.items uri.now
+        (changed_by encoding (find uri.now documents.old.items) version changes.now)) }
+    ensures outcome { IfOk result (λ outcome. outcome ≡
+        change_outcome encoding (find uri.now documents.old.items) version changes.now) }
+    ensures same { IfOk result (λ outcome. StaysAt outcome documents.old.items documents.new.items) }
+    ensures kept { OnErr result (documents.new.items ≡ documents.old.items) }
+{
+    let at = match place_of(documents.as_slice(), uri) {
+        None => return Ok(Outcome::NotOpen),
+        Some(at) => at,
+    };
+    let was = &documents[at];
+    if !is_newer(was, version) {
+        return Ok(Outcome::OldVersion);
+    }
+    let document = match was.document.after_changes(alloc, changes, encoding) {
+        Ok(document) => document,
+        Err(ChangeError::ReversedRange) => return Ok(Outcome::ReversedRange),
+        Err(ChangeError::Memory) => return Err(AllocError),
+    };
+    let uri = String::from_str(alloc, uri)?;
+    documents[at] = OpenDocument {
+        uri,
+        version,
+        document,
+    };
+    Ok(Outcome::Done)
+}
+
+/// Closes a document.
+fn close(documents: &mut Vec<OpenDocument>, uri: &str) -> Outcome
+    ensures done { Updates documents.old.items documents.new.items uri.now None }
+    ensures outcome { result ≡ close_outcome (find uri.now documents.old.items) }
+    ensures same { StaysAt result documents.old.items documents.new.items }
+{
+    match place_of(documents.as_slice(), uri) {
+        None => Outcome::NotOpen,
+        Some(_) => {
+            withdraw(documents, uri);
+            Outcome::Done
+        }
+    }
+}
+
+/// Opens a document, also if it is open.
+fn open(
+    alloc: Global,
+    documents: &mut Vec<OpenDocument>,
+    uri: &str,
+    version: i64,
+    text: &str,
+) -> Result<(), AllocError>
+    ensures done { OnOk result (Updates documents.old.items documents.new.items uri.now
+        (Some (record { version = version; text = text.now }))) }
+    ensures kept { OnErr result (documents.new.items ≡ documents.old.items) }
+{
+    let text = String::from_str(alloc, text)?;
+    let document = Document::new(alloc, text)?;
+    let uri = String::from_str(alloc, uri)?;
+    put(
+        documents,
+        OpenDocument {
+            uri,
+            version,
+            document,
+        },
+    )
+}
+
+/// Does what a client asks for with a document, and returns what became of it.
+///
+/// A document that is opened while it is open gets the new version and text. A document that cannot be changed stays as
+/// it was.
+///
+/// # Errors
+///
+/// `AllocError` if memory was refused; every document is as it was before then.
+pub fn act(
+    alloc: Global,
+    documents: &mut Vec<OpenDocument>,
+    event: &DocumentEvent<'_>,
+    encoding: Encoding,
+) -> Result<Outcome, AllocError>
+    ensures done { OnOk result (FollowsEvent encoding documents.old.items documents.new.items (event_read event.now)) }
+    ensures outcome { IfOk result (λ outcome. outcome ≡
+        outcome_of encoding (find event.now.uri.now documents.old.items) (act_read event.now.act)) }
+    ensures same { IfOk result (λ outcome. StaysAt outcome documents.old.items documents.new.items) }
+    ensures kept { OnErr result (documents.new.items ≡ documents.old.items) }
+{
+    match &event.act {
+        DocumentAct::Open { version, text } => {
+            open(alloc, documents, event.uri, *version, text)?;
+            Ok(Outcome::Done)
+        }
+        DocumentAct::Change { version, changes } => {
+            change(
+                alloc,
+                documents,
+                event.uri,
+                *version,
+                changes.as_slice(),
+                encoding,
+            )
+        }
+        DocumentAct::Close => Ok(close(documents, event.uri)),
+    }
+}

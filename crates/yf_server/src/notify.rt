@@ -1,0 +1,133 @@
+//! What a server does with notifications on documents.
+ghost use Rattle.std.specs.Prelude.{◌≡◌, ◌≢◌, ℕ, List, IfOk, OnErr, OnOk, option_map};
+ghost use Rattle.serde_json.specs.View.{view};
+ghost use Rattle.yf_server.specs.Documents.{FollowsEvent, act_read, event_read, find, outcome_of};
+ghost use Rattle.yf_server.specs.Steps.{IsNote, IsNoteOf, after_any, event_named, event_of, log_message, warning_params};
+
+use crate::documents::{DocumentEvent, OpenDocument, Outcome, act};
+use crate::parameters::{changed, closed, opened};
+use serde_json::{Value, json};
+use std::alloc::{AllocError, Global};
+use yf_json_rpc::message::notification;
+use yf_positions::encoding::Encoding;
+
+/// Returns the event of a notification on a document with these parameters.
+fn event_named<'v>(
+    alloc: Global,
+    method: &str,
+    params: &'v Value,
+) -> Result<Option<DocumentEvent<'v>>, AllocError>
+    ensures { IfOk result (λ event. option_map event_read event ≡ event_named method.now (view params.now)) }
+{
+    if method == "textDocument/didOpen" {
+        return Ok(opened(params));
+    }
+    if method == "textDocument/didChange" {
+        return changed(alloc, params);
+    }
+    if method == "textDocument/didClose" {
+        return Ok(closed(params));
+    }
+    Ok(None)
+}
+
+/// Returns the event of a notification on a document.
+fn event_of<'v>(
+    alloc: Global,
+    method: &str,
+    value: &'v Value,
+) -> Result<Option<DocumentEvent<'v>>, AllocError>
+    ensures { IfOk result (λ event. option_map event_read event ≡ event_of method.now (view value.now)) }
+{
+    match value.get("params") {
+        None => Ok(None),
+        Some(params) => event_named(alloc, method, params),
+    }
+}
+
+/// Returns what the client's log shows of an outcome.
+fn warning(outcome: Outcome) -> &'static str {
+    match outcome {
+        Outcome::Done => "the document was changed",
+        Outcome::NotOpen => "the document is not open, so nothing was changed",
+        Outcome::OldVersion =>
+            "the version is not higher than the one before, so the document was not changed",
+        Outcome::ReversedRange =>
+            "the end of a range is before its start, so the document was not changed",
+    }
+}
+
+/// Returns the parameters of a warning (`LogMessageParams`).
+fn warning_params(alloc: Global, text: &str) -> Result<Value, AllocError>
+    ensures { IfOk result (λ value. view value ≡ warning_params text.now) }
+{
+    json!(in alloc; {"type": 2, "message": text})
+}
+
+/// Returns a warning for the log of the client (`window/logMessage`).
+fn log_message(alloc: Global, text: &str) -> Result<Value, AllocError>
+    ensures { IfOk result (λ value. view value ≡ log_message text.now) }
+{
+    let params = warning_params(alloc, text)?;
+    notification(alloc, "window/logMessage", &params)
+}
+
+/// Returns the warning for an outcome; `None` if all was done.
+fn note_of(alloc: Global, outcome: Outcome) -> Result<Option<Value>, AllocError>
+    ensures note { IfOk result (λ note. IsNote outcome (option_map view note)) }
+    ensures refused { OnErr result (outcome ≢ Outcome.Done) }
+{
+    let text = warning(outcome);
+    match outcome {
+        Outcome::Done => Ok(None),
+        Outcome::NotOpen => {
+            let note = log_message(alloc, text)?;
+            Ok(Some(note))
+        }
+        Outcome::OldVersion => {
+            let note = log_message(alloc, text)?;
+            Ok(Some(note))
+        }
+        Outcome::ReversedRange => {
+            let note = log_message(alloc, text)?;
+            Ok(Some(note))
+        }
+    }
+}
+
+/// Does what an event asks for, and returns the warning if it could not be done.
+fn act_on(
+    alloc: Global,
+    documents: &mut Vec<OpenDocument>,
+    event: &DocumentEvent<'_>,
+    encoding: Encoding,
+) -> Result<Option<Value>, AllocError>
+    ensures done { OnOk result (FollowsEvent encoding documents.old.items documents.new.items (event_read event.now)) }
+    ensures note { IfOk result (λ note. IsNote
+        (outcome_of encoding (find event.now.uri.now documents.old.items) (act_read event.now.act))
+        (option_map view note)) }
+    ensures kept { OnErr result (documents.new.items ≡ documents.old.items) }
+{
+    let outcome = act(alloc, documents, event, encoding)?;
+    note_of(alloc, outcome)
+}
+
+/// Acts on a notification.
+pub fn notify(
+    alloc: Global,
+    documents: &mut Vec<OpenDocument>,
+    method: &str,
+    value: &Value,
+    encoding: Encoding,
+) -> Result<Option<Value>, AllocError>
+    ensures done { OnOk result ((uri : List ℕ) → find uri documents.new.items ≡
+        after_any encoding uri (find uri documents.old.items) (event_of method.now (view value.now))) }
+    ensures note { IfOk result (λ note. IsNoteOf encoding documents.old.items (event_of method.now (view value.now))
+        (option_map view note)) }
+    ensures kept { OnErr result (documents.new.items ≡ documents.old.items) }
+{
+    match event_of(alloc, method, value)? {
+        None => Ok(None),
+        Some(event) => act_on(alloc, documents, &event, encoding),
+    }
+}

@@ -1,0 +1,298 @@
+//! What a server does with each message.
+ghost use Rattle.std.specs.Prelude.{◌≡◌, [], ◌++◌, Some, IfOk, OnErr, OnOk, map, option_map, option_to_list};
+ghost use Rattle.serde_json.specs.View.{view};
+ghost use Rattle.yf_json_rpc.specs.Messages.{kind_read, reply};
+ghost use Rattle.yf_server.specs.Edits.{AnswersRequest, FailsWith};
+ghost use Rattle.yf_server.specs.Steps.{IsAnswer, IsSame, RunsTo, StepsTo, encoding_after, id_of, initialize_result, is_notification, is_request, method_of};
+
+use crate::analysis::Analysis;
+use crate::documents::OpenDocument;
+use crate::handshake::{name_of, negotiated};
+use crate::lifecycle::{Phase, Task, next_step};
+use crate::notify::notify;
+use crate::respond::{failure_of, respond};
+use serde_json::{Value, json};
+use std::alloc::{AllocError, Global};
+use yf_json_rpc::error_code::ErrorCode;
+use yf_json_rpc::message::{Message, message_of, reply};
+use yf_positions::encoding::Encoding;
+
+/// A server: how far it is, the encoding of positions, and the open documents.
+#[derive(Drop)]
+pub struct Server {
+    pub phase: Phase,
+    pub encoding: Encoding,
+    pub documents: Vec<OpenDocument>,
+}
+
+/// What a server does with a message: its task, and the message that it sends, if it sends one.
+#[derive(Drop)]
+pub struct Reaction {
+    pub task: Task,
+    pub message: Option<Value>,
+}
+
+/// Returns the method of a message, which is empty if it has none.
+fn method_of<'v>(message: Message<'v>) -> &'v str
+    ensures { result.now ≡ method_of (kind_read message.entry) }
+{
+    match message {
+        Message::Request { id: _, method } => method,
+        Message::Notification { method } => method,
+        Message::Response { id: _ } => "",
+        Message::Invalid => "",
+    }
+}
+
+/// Returns whether a task is to act on a notification.
+fn is_notification(task: Task) -> bool
+    ensures { result ≡ is_notification task }
+{
+    match task {
+        Task::Notification => true,
+        Task::Initialize => false,
+        Task::Shutdown => false,
+        Task::Request => false,
+        Task::Fail(_) => false,
+        Task::Ignore => false,
+        Task::Exit { is_success: _ } => false,
+    }
+}
+
+/// Returns whether a task is to answer a request that is not of the life cycle.
+fn is_request(task: Task) -> bool
+    ensures { result ≡ is_request task }
+{
+    match task {
+        Task::Request => true,
+        Task::Initialize => false,
+        Task::Shutdown => false,
+        Task::Notification => false,
+        Task::Fail(_) => false,
+        Task::Ignore => false,
+        Task::Exit { is_success: _ } => false,
+    }
+}
+
+/// Returns the encoding of positions after a message.
+fn encoding_after(encoding: Encoding, task: Task, value: &Value) -> Encoding
+    ensures { result ≡ encoding_after encoding task (view value.now) }
+{
+    match task {
+        Task::Initialize => match value.get("params") {
+            None => Encoding::Utf16,
+            Some(params) => negotiated(params),
+        },
+        Task::Shutdown => encoding,
+        Task::Request => encoding,
+        Task::Fail(_) => encoding,
+        Task::Notification => encoding,
+        Task::Ignore => encoding,
+        Task::Exit { is_success: _ } => encoding,
+    }
+}
+
+/// Returns the result of `initialize`.
+fn initialize_result(alloc: Global, encoding: Encoding) -> Result<Value, AllocError>
+    ensures { IfOk result (λ value. view value ≡ initialize_result encoding) }
+{
+    let name = name_of(encoding);
+    json!(in alloc; {"capabilities": {
+        "positionEncoding": name,
+        "textDocumentSync": {"openClose": true, "change": 2},
+        "documentFormattingProvider": true
+    }})
+}
+
+/// Returns the response to a message, with the id of the message.
+fn reply_to(alloc: Global, message: Message<'_>, value: &Value) -> Result<Value, AllocError>
+    ensures { IfOk result (λ answer. view answer ≡ reply (id_of (kind_read message.entry)) (view value.now)) }
+{
+    let null = Value::Null;
+    match message {
+        Message::Request { id, method: _ } => reply(alloc, id, value),
+        Message::Notification { method: _ } => reply(alloc, &null, value),
+        Message::Response { id: _ } => reply(alloc, &null, value),
+        Message::Invalid => reply(alloc, &null, value),
+    }
+}
+
+/// Returns the response that a message failed, with the id of the message.
+fn failure_to(alloc: Global, message: Message<'_>, code: ErrorCode) -> Result<Value, AllocError>
+    ensures { IfOk result (λ answer. FailsWith (id_of (kind_read message.entry)) code (Some (view answer))) }
+{
+    let null = Value::Null;
+    match message {
+        Message::Request { id, method: _ } => failure_of(alloc, id, code),
+        Message::Notification { method: _ } => failure_of(alloc, &null, code),
+        Message::Response { id: _ } => failure_of(alloc, &null, code),
+        Message::Invalid => failure_of(alloc, &null, code),
+    }
+}
+
+/// Returns the answer to a message, if it gets one.
+fn answer_to(
+    alloc: Global,
+    message: Message<'_>,
+    task: Task,
+    encoding: Encoding,
+) -> Result<Option<Value>, AllocError>
+    ensures { IfOk result (λ answer.
+        IsAnswer (id_of (kind_read message.entry)) encoding task (option_map view answer)) }
+{
+    match task {
+        Task::Initialize => {
+            let capabilities = initialize_result(alloc, encoding)?;
+            let answer = reply_to(alloc, message, &capabilities)?;
+            Ok(Some(answer))
+        }
+        Task::Shutdown => {
+            let null = Value::Null;
+            let answer = reply_to(alloc, message, &null)?;
+            Ok(Some(answer))
+        }
+        Task::Request => {
+            let answer = failure_to(alloc, message, ErrorCode::MethodNotFound)?;
+            Ok(Some(answer))
+        }
+        Task::Fail(code) => {
+            let answer = failure_to(alloc, message, code)?;
+            Ok(Some(answer))
+        }
+        Task::Notification => Ok(None),
+        Task::Ignore => Ok(None),
+        Task::Exit { is_success: _ } => Ok(None),
+    }
+}
+
+/// Returns the answer to a request that is not of the life cycle.
+fn respond_to<A: Analysis>(
+    alloc: Global,
+    analysis: &A,
+    documents: &[OpenDocument],
+    message: Message<'_>,
+    value: &Value,
+    encoding: Encoding,
+) -> Result<Value, AllocError>
+    ensures { IfOk result (λ answer. AnswersRequest (A.formatting analysis.now) encoding documents.now
+        (id_of (kind_read message.entry)) (method_of (kind_read message.entry)) (view value.now)
+        (Some (view answer))) }
+{
+    let null = Value::Null;
+    let method = method_of(message);
+    match message {
+        Message::Request { id, method: _ } => respond(
+            alloc, analysis, documents, id, method, value, encoding,
+        ),
+        Message::Notification { method: _ } => respond(
+            alloc, analysis, documents, &null, method, value, encoding,
+        ),
+        Message::Response { id: _ } => respond(
+            alloc, analysis, documents, &null, method, value, encoding,
+        ),
+        Message::Invalid => respond(alloc, analysis, documents, &null, method, value, encoding),
+    }
+}
+
+impl Server {
+    /// A server that no message has reached.
+    pub fn new(alloc: Global) -> Server
+        ensures phase { result.phase ≡ Phase.Fresh }
+        ensures encoding { result.encoding ≡ Encoding.Utf16 }
+        ensures documents { result.documents.items ≡ [] }
+    {
+        Server {
+            phase: Phase::Fresh,
+            encoding: Encoding::Utf16,
+            documents: Vec::new(alloc),
+        }
+    }
+}
+
+/// Does what a message asks for, and returns the task and the message that the server sends.
+///
+/// # Errors
+///
+/// `AllocError` if memory was refused; the server is as it was before then.
+pub fn step<A: Analysis>(
+    alloc: Global,
+    analysis: &A,
+    server: &mut Server,
+    value: &Value,
+) -> Result<Reaction, AllocError>
+    ensures done { IfOk result (λ reaction.
+        StepsTo (A.formatting analysis.now) server.old server.new (view value.now) reaction) }
+    ensures kept { OnErr result (IsSame server.old server.new) }
+{
+    let message = message_of(value);
+    let next = next_step(server.phase, message);
+    let encoding = encoding_after(server.encoding, next.task, value);
+    if is_notification(next.task) {
+        let method = method_of(message);
+        let note = notify(alloc, &mut server.documents, method, value, server.encoding)?;
+        server.phase = next.phase;
+        server.encoding = encoding;
+        return Ok(Reaction {
+            task: next.task,
+            message: note,
+        });
+    }
+    if is_request(next.task) {
+        let response = respond_to(
+            alloc,
+            analysis,
+            server.documents.as_slice(),
+            message,
+            value,
+            server.encoding,
+        )?;
+        server.phase = next.phase;
+        server.encoding = encoding;
+        return Ok(Reaction {
+            task: next.task,
+            message: Some(response),
+        });
+    }
+    let answer = answer_to(alloc, message, next.task, encoding)?;
+    server.phase = next.phase;
+    server.encoding = encoding;
+    Ok(Reaction {
+        task: next.task,
+        message: answer,
+    })
+}
+
+/// Adds a message, if there is one.
+fn push_any(sent: &mut Vec<Value>, message: Option<Value>) -> Result<(), AllocError>
+    ensures { OnOk result (sent.new.items ≡ sent.old.items ++ option_to_list message) }
+{
+    match message {
+        None => Ok(()),
+        Some(message) => {
+            sent.push(message)?;
+            Ok(())
+        }
+    }
+}
+
+/// Does what messages ask for, in order, and returns the messages that the server sends.
+///
+/// # Errors
+///
+/// `AllocError` if memory was refused.
+pub fn run<A: Analysis>(
+    alloc: Global,
+    analysis: &A,
+    server: &mut Server,
+    received: &[Value],
+) -> Result<Vec<Value>, AllocError>
+    ensures { IfOk result (λ sent. RunsTo (A.formatting analysis.now) server.old server.new
+        (map view received.now) (map view sent.items)) }
+{
+    let mut sent = Vec::new(alloc);
+    for value in received {
+        let reaction = step(alloc, analysis, server, value)?;
+        push_any(&mut sent, reaction.message)?;
+    }
+    Ok(sent)
+}
