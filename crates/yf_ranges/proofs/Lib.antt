@@ -1,1 +1,3 @@
 pub mod SpanLemmas
+pub mod FilledLemmas
+pub mod GatherLemmas

@@ -1,5 +1,5 @@
 -- The details of a finding, by its rule: at which offset the fault ends, and what the message says. The fault begins at the finding's offset.
-use Rattle.std.specs.Prelude.{◌≡◌, ℕ, ◌+◌, ◌-◌, ◌<◌, ◌≤◌, ◌==◌, Bool, false, List, length, MatchBool}
+use Rattle.std.specs.Prelude.{◌≡◌, ℕ, ◌+◌, ◌-◌, ◌<◌, ◌≤◌, ◌==◌, Bool, false, List, Option, length, MatchBool, MatchOption}
 use Rattle.std.specs.List.{Contains}
 use Rattle.std.specs.Str.{IsCharBoundary}
 use Rattle.yf_chars.specs.Signs.{LINE_FEED, TAB}
@@ -92,3 +92,26 @@ abbrev pub is_missing : Message → Bool
 is_missing Says.NoMarker = Bool.true
 is_missing Says.NoFinalBreak = Bool.true
 is_missing _ = false
+
+-- the span lies in the text. If it is empty, the text ends there, or something is missing there
+pub record IsInside (t : List ℕ) (d : Detail) : Type 0 where
+  pub order : d.span.start ≤ d.span.end
+  pub within : d.span.end ≤ length t
+  pub filled : d.span.start < length t → is_missing d.message ≡ false → d.span.start < d.span.end
+
+-- the details of the offsets that are found: each detail is at one of them, and each of them at which a character begins or the text
+-- ends has one. An offset within a character has no position, and no detail
+pub record DetailsOf (Finds : List ℕ → Type 0) (Exact : Detail → Type 0) (t : List ℕ) (ds : List Detail) : Type 0 where
+  pub offsets : List ℕ
+  pub found : Finds offsets
+  pub only : (d : Detail) → Contains ds d → Contains offsets d.span.start × Exact d × IsInside t d
+  pub all : (o : ℕ) → Contains offsets o → IsCharBoundary t o → (d : Detail) × Contains ds d × (d.span.start ≡ o)
+
+-- the details of a rule
+abbrev pub RuleDetails : StyleRule → Table → Lists → Style → List Detail → Type 0
+RuleDetails rule src r style ds = DetailsOf ((definition_of rule).faults src r style) (DetailOf rule src.text style) src.text ds
+
+-- the detail of one offset, if a character begins there or the text ends there
+abbrev pub IsDetailOf : StyleRule → List ℕ → Style → ℕ → Option Detail → Type 0
+IsDetailOf rule t style offset result =
+    MatchOption result (IsCharBoundary t offset → ⊥) (λ d. IsCharBoundary t offset × DetailAt (DetailOf rule t style) t offset d)

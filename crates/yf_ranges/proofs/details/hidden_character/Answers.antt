@@ -1,4 +1,4 @@
-use Rattle.std.proofs.Common.{◌≡◌, refl, arith}
+use Rattle.std.proofs.Common.{refl, arith}
 use Rattle.yf_chars.specs.Text.{CharAt}
 use Rattle.yf_ranges.specs.Details.HiddenDetail.{one}
 use Rattle.yf_ranges.proofs.details.hidden_character.Goals as goal
