@@ -1,4 +1,5 @@
--- The details of a finding, by its rule: at which offset the fault ends, and what the message says. The fault begins at the finding's offset.
+-- The details of a finding, by its rule: at which offset the fault ends, and what the message says. The fault begins
+-- at the finding's offset.
 use Rattle.std.specs.Prelude.{◌≡◌, ℕ, ◌+◌, ◌-◌, ◌<◌, ◌≤◌, ◌==◌, Bool, false, List, Option, length, MatchBool, MatchOption}
 use Rattle.std.specs.List.{Contains}
 use Rattle.std.specs.Str.{IsCharBoundary}
@@ -99,8 +100,8 @@ pub record IsInside (t : List ℕ) (d : Detail) : Type 0 where
   pub within : d.span.end ≤ length t
   pub filled : d.span.start < length t → is_missing d.message ≡ false → d.span.start < d.span.end
 
--- the details of the offsets that are found: each detail is at one of them, and each of them at which a character begins or the text
--- ends has one. An offset within a character has no position, and no detail
+-- the details of the offsets that are found: each detail is at one of them, and each of them at which a character
+-- begins or the text ends has one. An offset within a character has no position, and no detail
 pub record DetailsOf (Finds : List ℕ → Type 0) (Exact : Detail → Type 0) (t : List ℕ) (ds : List Detail) : Type 0 where
   pub offsets : List ℕ
   pub found : Finds offsets

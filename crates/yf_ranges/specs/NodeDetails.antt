@@ -16,7 +16,8 @@ use Rattle.yf_ranges.specs.declared.detail.Message.{Message}
 use Rattle.yf_ranges.specs.declared.detail.Message.TheVariants as Says
 use Rattle.yf_rule_sets.specs.RuleSets.Scalars.{IsScalar}
 
--- where a part of the text ends: at its end, or with the text if the text doesn't hold the part. A reading's parts are held by its text
+-- where a part of the text ends: at its end, or with the text if the text doesn't hold the part. A reading's parts
+-- are held by its text
 pub data PartEnd (t : List ℕ) (start end : ℕ) : ℕ → Type 0 where
   held : start < end → end ≤ length t → PartEnd t start end end
   not_held : (start < end → end ≤ length t → ⊥) → PartEnd t start end (length t)
@@ -41,8 +42,8 @@ IsDetailAt P Exact t result =
     MatchOption result ((o : ℕ) → P o → IsCharBoundary t o → ⊥)
     (λ d. P d.span.start × ((o : ℕ) → P o → o ≡ d.span.start) × Exact d × IsInside t d)
 
--- the details of all events: one for each offset at fault that has a position, and no other; P i says which offset is at fault by the
--- event of the index i
+-- the details of all events: one for each offset at fault that has a position, and no other; P i says which offset is
+-- at fault by the event of the index i
 pub record NodeDetails (P : ℕ → ℕ → Type 0) (Exact : ℕ → Detail → Type 0) (t : List ℕ) (ds : List Detail) : Type 0 where
   pub only : (d : Detail) → Contains ds d → (i : ℕ) × P i d.span.start × Exact i d × IsInside t d
   pub all : (i o : ℕ) → P i o → IsCharBoundary t o → (d : Detail) × Contains ds d × (d.span.start ≡ o) × Exact i d

@@ -5,8 +5,8 @@ ghost use Rattle.yf_ranges.specs.NodeDetails.{NodeDetail};
 
 use crate::detail::{Detail, Message, Span};
 
-/// Returns the detail of the part of a text from one offset to another, if a character begins at the first offset or the
-/// text ends there.
+/// Returns the detail of the part of a text from one offset to another, if a character begins at the first offset or
+/// the text ends there.
 pub(crate) fn node_detail(text: &str, start: usize, end: usize, message: Message) -> Option<Detail>
     ensures { MatchOption result (IsCharBoundary text.now start → ⊥) (λ d. NodeDetail text.now start end message d) }
 {

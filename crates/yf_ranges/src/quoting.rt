@@ -1,5 +1,5 @@
-//! The details of the findings of the rule quoting: the scalar from its first character of content to its end, its style, and the
-//! style that the house style gives it.
+//! The details of the findings of the rule quoting: the scalar from its first character of content to its end, its
+//! style, and the style that the house style gives it.
 ghost use Rattle.std.specs.Prelude.{◌<◌, length, IfOk};
 ghost use Rattle.yf_ranges.specs.NodeDetails.{IsDetailAt, NodeDetails, QuotingDetail};
 ghost use Rattle.yf_rule_sets.specs.RuleSets.Styles.{QuotingFault};
