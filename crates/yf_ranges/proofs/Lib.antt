@@ -1,0 +1,4 @@
+pub mod SpanLemmas
+pub mod FilledLemmas
+pub mod GatherLemmas
+pub mod NodeLemmas

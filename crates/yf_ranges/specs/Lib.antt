@@ -1,0 +1,4 @@
+pub mod Spans
+pub mod Details
+pub mod NodeDetails
+pub mod Words

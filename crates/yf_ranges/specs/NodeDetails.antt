@@ -1,0 +1,49 @@
+-- The details of findings at nodes, by the event that begins the node. An index counts events from 0.
+use Rattle.std.specs.Prelude.{◌≡◌, ◌≢◌, ℕ, ◌<◌, ◌≤◌, List, Option, length, MatchOption}
+use Rattle.std.specs.List.{Contains}
+use Rattle.std.specs.Str.{IsCharBoundary}
+use Rattle.yf_events.specs.Event.{scalar_node}
+use Rattle.yf_events.specs.declared.event.ScalarStyle.{ScalarStyle}
+use Rattle.yf_events.specs.declared.event.Span.{Span}
+use Rattle.yf_events.specs.declared.lists.Lists.{Lists}
+use Rattle.yf_forms.specs.Nodes.ContentStart.{content_start}
+use Rattle.yf_forms.specs.Nodes.ScalarStyles.{wanted_of_event}
+use Rattle.yf_forms.specs.declared.style.Style.{Style}
+use Rattle.yf_props.specs.Props.{PropsValue}
+use Rattle.yf_ranges.specs.Details.{IsInside}
+use Rattle.yf_ranges.specs.declared.detail.Detail.{Detail}
+use Rattle.yf_ranges.specs.declared.detail.Message.{Message}
+use Rattle.yf_ranges.specs.declared.detail.Message.TheVariants as Says
+use Rattle.yf_rule_sets.specs.RuleSets.Scalars.{IsScalar}
+
+-- where a part of the text ends: at its end, or with the text if the text doesn't hold the part. A reading's parts
+-- are held by its text
+pub data PartEnd (t : List ℕ) (start end : ℕ) : ℕ → Type 0 where
+  held : start < end → end ≤ length t → PartEnd t start end end
+  not_held : (start < end → end ≤ length t → ⊥) → PartEnd t start end (length t)
+
+-- the detail of a part of the text, with a message
+pub record NodeDetail (t : List ℕ) (start end : ℕ) (message : Message) (d : Detail) : Type 0 where
+  pub boundary : IsCharBoundary t start
+  pub begin : d.span.start ≡ start
+  pub part : PartEnd t start end d.span.end
+  pub says : d.message ≡ message
+  pub inside : IsInside t d
+
+-- quoting: the scalar, from its content on, with its style and the one wanted
+pub data QuotingDetail (t : List ℕ) (r : Lists) (house : Style) (i : ℕ) (d : Detail) : Type 0 where
+  other_style : {props : PropsValue} {style : ScalarStyle} {text : List ℕ} {s : Span} → IsScalar r i props style text s
+      → NodeDetail t (content_start t s props) s.end (Says.Quotes style (wanted_of_event (scalar_node props style text) house)) d
+      → QuotingDetail t r house i d
+
+-- the detail of one event: that of the offset at fault, if one is and has a position; P says which offset is at fault
+abbrev pub IsDetailAt : (ℕ → Type 0) → (Detail → Type 0) → List ℕ → Option Detail → Type 0
+IsDetailAt P Exact t result =
+    MatchOption result ((o : ℕ) → P o → IsCharBoundary t o → ⊥)
+    (λ d. P d.span.start × ((o : ℕ) → P o → o ≡ d.span.start) × Exact d × IsInside t d)
+
+-- the details of all events: one for each offset at fault that has a position, and no other; P i says which offset is
+-- at fault by the event of the index i
+pub record NodeDetails (P : ℕ → ℕ → Type 0) (Exact : ℕ → Detail → Type 0) (t : List ℕ) (ds : List Detail) : Type 0 where
+  pub only : (d : Detail) → Contains ds d → (i : ℕ) × P i d.span.start × Exact i d × IsInside t d
+  pub all : (i o : ℕ) → P i o → IsCharBoundary t o → (d : Detail) × Contains ds d × (d.span.start ≡ o) × Exact i d

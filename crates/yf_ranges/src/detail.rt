@@ -1,0 +1,61 @@
+//! What a report says of a finding besides its rule and its position.
+
+pub use yf_events::event::{ScalarStyle, Span};
+
+/// What the message of a finding says, with its values.
+#[derive(Clone, Copy)]
+pub enum Message {
+    /// White space ends the line.
+    TrailingBlanks,
+    /// The entries, or the lines of a block scalar, are at another column than the house style's.
+    Indentation,
+    /// The scalar has another style than the house style's.
+    Quoting,
+    /// The scalar has that style, and the house style gives it the other one.
+    Quotes {
+        found: ScalarStyle,
+        expected: ScalarStyle,
+    },
+    /// No `---` begins the document.
+    NoMarker,
+    /// Text is after the `---` on its line.
+    TextAfterMarker,
+    /// The text doesn't end with a line break.
+    NoFinalBreak,
+    /// The line ends with a carriage return, or with one and a line feed.
+    CarriageReturn {
+        has_feed: bool,
+    },
+    /// A byte order mark is outside of scalars.
+    ByteOrderMark,
+    /// A blank line is in a wrong place.
+    BlankLine,
+    /// The flow collection is not laid out as the house style lays it out.
+    FlowLayout,
+    /// Before the comment are that many spaces and tabs, and whether a tab is among them.
+    CommentSpace {
+        found: usize,
+        has_tab: bool,
+    },
+    /// The line is longer than the limit, by that many characters.
+    LineLength {
+        limit: usize,
+        over: usize,
+    },
+    /// The mapping has the key already.
+    RepeatedKey,
+    /// The key is written after a `?` that it doesn't need.
+    KeyMark,
+    /// The character is hidden.
+    HiddenCharacter {
+        character: char,
+    },
+}
+
+/// The details of a finding.
+#[derive(Clone, Copy)]
+pub struct Detail {
+    /// The byte offsets at which the fault begins and ends. It begins at the finding's position.
+    pub span: Span,
+    pub message: Message,
+}
