@@ -2,6 +2,8 @@
 
 -- `hunks_between`
 pub mod DifferLemmas
+-- `touched`
+pub mod TouchedLemmas
 -- `is_near` and `part_of`
 pub mod TryLemmas
 -- `part_of`

@@ -40,6 +40,16 @@ abbrev pub touched_by : List LineRange → Hunk → Bool
 touched_by [] h = false
 touched_by (r ∷ asked) h = meets r h || touched_by asked h
 
+-- each range ends before the line
+abbrev pub all_before : List LineRange → ℕ → Bool
+all_before [] line = true
+all_before (r ∷ asked) line = nat_lt r.last line && all_before asked line
+
+-- no range begins before the line, nor before the range before it
+abbrev pub ascend_after : ℕ → List LineRange → Bool
+ascend_after first [] = true
+ascend_after first (r ∷ asked) = nat_le first r.first && ascend_after r.first asked
+
 abbrev pub has_true : List Bool → Bool
 has_true [] = false
 has_true (flag ∷ flags) = flag || has_true flags

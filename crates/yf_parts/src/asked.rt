@@ -13,7 +13,7 @@ pub struct LineRange {
 }
 
 /// Returns whether a hunk touches a line of a range.
-fn meets(range: LineRange, hunk: Hunk) -> bool
+pub fn meets(range: LineRange, hunk: Hunk) -> bool
     ensures { result ≡ meets range hunk }
 {
     if range.last < range.first {
@@ -39,8 +39,12 @@ fn is_touched(hunk: Hunk, asked: &[LineRange]) -> bool
     false
 }
 
-/// Returns for each hunk whether it touches a line of one of the ranges.
-pub fn touched(alloc: Global, hunks: &[Hunk], asked: &[LineRange]) -> Result<Vec<bool>, AllocError>
+/// Returns for each hunk whether it touches a line of one of the ranges, in a pass over the ranges for each.
+pub fn touched_by_each(
+    alloc: Global,
+    hunks: &[Hunk],
+    asked: &[LineRange],
+) -> Result<Vec<bool>, AllocError>
     ensures { IfOk result (λ flags. flags.items ≡ map (touched_by asked.now) hunks.now) }
 {
     let mut flags = Vec::new(alloc);

@@ -7,10 +7,11 @@ ghost use Rattle.yf_parts.specs.Tries.{IsOther, Tried, TryFails, near_all};
 ghost use Rattle.yf_rules.specs.Headline.{Headline};
 ghost use Rattle.yf_stream.specs.StreamReader.{StreamFault};
 
-use crate::asked::{LineRange, has_true, touched};
+use crate::asked::{LineRange, has_true};
 use crate::candidates::{chosen, counts};
 use crate::hunks::{Hunk, hunks_between};
 use crate::splice::spliced;
+use crate::touched::touched;
 use std::alloc::{AllocError, Global};
 use yf_forms::style::Style;
 use yf_laws::every_text::{formattings_hold, texts_are_read_and_formatted};
@@ -19,7 +20,7 @@ use yf_rules::format::format;
 
 /// A text with some hunks of its formatting applied.
 #[derive(Drop)]
-pub struct Part {
+pub struct FormattedPart {
     /// The text.
     pub text: String,
     /// All hunks by which the text and its formatting differ, in order.
@@ -120,7 +121,7 @@ fn part_of(
     formatted: String,
     style: &Style,
     lines: &[LineRange],
-) -> Result<Part, AllocError>
+) -> Result<FormattedPart, AllocError>
     requires { Headline text.now style.now (string_bytes formatted) }
     ensures { IfOk result (λ part. PartKept text.now style.now lines.now part.hunks.items part.applied.items
         (string_bytes part.text)) }
@@ -133,7 +134,7 @@ fn part_of(
         let counts = counts(alloc, &flags)?;
         let applied = chosen(alloc, &flags, &counts, 0)?;
         let text = String::from_str(alloc, text)?;
-        return Ok(Part {
+        return Ok(FormattedPart {
             text,
             hunks,
             applied,
@@ -142,13 +143,13 @@ fn part_of(
     let attempt = attempted(alloc, text, formatted.as_str(), &hunks, &flags, style)?;
     let Attempt { text, applied, .. } = attempt;
     if let Some(text) = text {
-        return Ok(Part {
+        return Ok(FormattedPart {
             text,
             hunks,
             applied,
         });
     }
-    Ok(Part {
+    Ok(FormattedPart {
         text: formatted,
         hunks,
         applied,
@@ -161,8 +162,8 @@ fn part_of(
 /// touches a line that is asked for; and if no hunk touches one, it is the text.
 ///
 /// With each hunk that touches a line that is asked for its neighbours are applied, 0, 1, 3, 7 and so on to both sides,
-/// until the formatting of the result is that of the text. That fewer hunks would not do is not proved. For k hunks the
-/// text is formatted at most log2(k) + 2 times.
+/// until the formatting of the result is that of the text. Each smaller number of neighbours fails. It is not proved that
+/// no other choice of fewer hunks would do. For k hunks the text is formatted at most log2(k) + 2 times.
 ///
 /// # Errors
 ///
@@ -172,7 +173,7 @@ pub fn format_lines(
     text: &str,
     style: &Style,
     lines: &[LineRange],
-) -> Result<Part, Fault>
+) -> Result<FormattedPart, Fault>
     ensures kept { IfOk result (λ part. PartKept text.now style.now lines.now part.hunks.items part.applied.items
         (string_bytes part.text)) }
     ensures refuses { IfErr result (StreamFault text.now) }
