@@ -53,7 +53,8 @@ ascend_from (r ∷ asked) first e =
     rw (here, parts.1) refl
 
 -- what is left of ranges in order is in order
-pub ascend_dropped : (asked : List LineRange) (k : ℕ) → ascend_after 0 asked ≡ true → ascend_after 0 (drop k asked) ≡ true
+pub ascend_dropped : (asked : List LineRange) (k : ℕ) → ascend_after 0 asked ≡ true
+    → ascend_after 0 (drop k asked) ≡ true
 ascend_dropped asked zero e = e
 ascend_dropped [] (suc k) e = refl
 ascend_dropped (r ∷ asked) (suc k) e = ascend_dropped asked k
@@ -61,7 +62,8 @@ ascend_dropped (r ∷ asked) (suc k) e = ascend_dropped asked k
 
 -- One more range.
 
-dropped_at : {A : Type 0} (xs : List A) (at : ℕ) (d : A) → at < length xs → drop at xs ≡ get_or xs at d ∷ drop (at + 1) xs
+dropped_at : {A : Type 0} (xs : List A) (at : ℕ) (d : A) → at < length xs
+    → drop at xs ≡ get_or xs at d ∷ drop (at + 1) xs
 dropped_at xs at d l =
     let next : suc at ≡ at + 1 = omega arith in
     drop-cons xs at d l ∙ ap (λ k. get_or xs at d ∷ drop k xs) next
@@ -96,10 +98,12 @@ module _ (asked : List LineRange) (at : ℕ) (h : Hunk) (d : LineRange) (inside 
       let order = sym (ap (ascend_after 0) (dropped_at asked at d inside)) ∙ e in
       ascend_from rest x.first (and_both (nat_le 0 x.first) (ascend_after x.first rest) order).1
 
-  pub touched_later : meets (get_or asked at d) h ≡ false → touched_by (drop (at + 1) asked) h ≡ touched_by (drop at asked) h
+  pub touched_later : meets (get_or asked at d) h ≡ false
+      → touched_by (drop (at + 1) asked) h ≡ touched_by (drop at asked) h
   touched_later e = rw (dropped_at asked at d inside, e) refl
 
-pub map_next : {A : Type 0} (f : A → Bool) (xs : List A) (i : ℕ) (d : A) (done after : List Bool) (b : Bool) → i < length xs
+pub map_next : {A : Type 0} (f : A → Bool) (xs : List A) (i : ℕ) (d : A) (done after : List Bool) (b : Bool)
+    → i < length xs
     → after ≡ done ++ b ∷ [] → b ≡ f (get_or xs i d) → after ++ map f (drop (i + 1) xs) ≡ done ++ map f (drop i xs)
 map_next f xs i d done after b l e is = rw (e, dropped_at xs i d l, is)
     (append_assoc done (f (get_or xs i d) ∷ []) (map f (drop (i + 1) xs)))

@@ -7,9 +7,9 @@
 //! # Which lines a hunk touches
 //!
 //! Lines end after a line feed, as in Git, and their numbers begin at 1. A hunk touches the lines of the text that it
-//! replaces or removes. A hunk that only adds lines touches the line before it and the line after it: the hunk that adds
-//! `---` at the start of a text touches line 1. So if no hunk touches a line, the line is as in the formatting, and no
-//! line is missing directly before or after it.
+//! replaces or removes. A hunk that only adds lines touches the line before it and the line after it. For example, the
+//! hunk that adds `---` at the start of a text touches line 1. So if no hunk touches a line, the line is as in the
+//! formatting, and no line is missing directly before or after it.
 //!
 //! - A range whose last line is less than its first one asks for nothing. Lines after the end of the text ask for
 //!   nothing, except that the first of them is the line after a hunk that adds lines at the end.

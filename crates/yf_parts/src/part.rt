@@ -162,8 +162,8 @@ fn part_of(
 /// touches a line that is asked for; and if no hunk touches one, it is the text.
 ///
 /// With each hunk that touches a line that is asked for its neighbours are applied, 0, 1, 3, 7 and so on to both sides,
-/// until the formatting of the result is that of the text. Each smaller number of neighbours fails. It is not proved that
-/// no other choice of fewer hunks would do. For k hunks the text is formatted at most log2(k) + 2 times.
+/// until the formatting of the result is that of the text. Each smaller number of neighbours fails. It is not proved
+/// that no other choice of fewer hunks would do. For k hunks the text is formatted at most log2(k) + 2 times.
 ///
 /// # Errors
 ///

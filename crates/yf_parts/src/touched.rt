@@ -56,8 +56,8 @@ fn is_touched_from(asked: &[LineRange], from: usize, hunk: Hunk) -> bool
     false
 }
 
-/// Returns the index after those ranges from an index on that end before the line `next`, if the ranges before the index
-/// end before `line`. If `next` is before `line`, the search begins at the first range.
+/// Returns the index after those ranges from an index on that end before the line `next`, if the ranges before the
+/// index end before `line`. If `next` is before `line`, the search begins at the first range.
 fn passed_to(asked: &[LineRange], from: usize, line: usize, next: usize) -> usize
     requires within { from ≤ length asked.now }
     requires before { all_before (take from asked.now) line ≡ true }
@@ -70,8 +70,8 @@ fn passed_to(asked: &[LineRange], from: usize, line: usize, next: usize) -> usiz
     passed(asked, from, next)
 }
 
-/// Returns for each hunk whether it touches a line of one of the ranges, which are in order. For hunks in order it takes
-/// one pass over both.
+/// Returns for each hunk whether it touches a line of one of the ranges, which are in order. For hunks in order it
+/// takes one pass over both.
 fn touched_in_order(
     alloc: Global,
     hunks: &[Hunk],
