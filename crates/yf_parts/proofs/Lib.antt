@@ -1,0 +1,15 @@
+-- The lemmas, each group under the function that it serves.
+
+-- `hunks_between`
+pub mod DifferLemmas
+-- `touched`
+pub mod TouchedLemmas
+-- `is_near` and `part_of`
+pub mod TryLemmas
+-- `part_of`
+pub mod SpliceLemmas
+pub mod AskedLemmas
+-- `verified`
+pub mod VerifiedLemmas
+-- `part_of`
+pub mod PartLemmas

@@ -1,0 +1,62 @@
+-- The lines that are asked for, and the hunks that touch them.
+use Rattle.std.specs.Prelude.{◌≡◌, ℕ, ◌+◌, ◌-◌, ◌==◌, Bool, true, false, ◌&&◌, ◌||◌, nat_le, nat_lt, List, [], ◌∷◌}
+use Rattle.std.specs.Prelude.{if◌then◌else◌}
+use Rattle.yf_parts.specs.declared.asked.LineRange.{LineRange}
+use Rattle.yf_parts.specs.declared.hunks.Hunk.{Hunk}
+
+-- A hunk touches the lines of the text in it. If it has none, it touches the line before it and the line after it.
+-- Numbers of lines begin at 1.
+abbrev pub touches : Hunk → ℕ → Bool
+touches h n = if h.start.lines == h.end.lines then nat_le h.start.lines n && nat_le n (h.start.lines + 1)
+    else nat_lt h.start.lines n && nat_le n h.end.lines
+
+-- a line is in one of the ranges
+abbrev pub is_asked : List LineRange → ℕ → Bool
+is_asked [] n = false
+is_asked (r ∷ asked) n = (nat_le r.first n && nat_le n r.last) || is_asked asked n
+
+-- the hunk touches no line of the ranges
+abbrev pub IsUntouched : List LineRange → Hunk → Type 0
+IsUntouched asked h = (n : ℕ) → is_asked asked n ≡ true → touches h n ≡ false
+
+abbrev pub AllUntouched : List LineRange → List Hunk → Type 0
+AllUntouched asked [] = Unit {0}
+AllUntouched asked (h ∷ hunks) = IsUntouched asked h × AllUntouched asked hunks
+
+-- Each hunk has a flag, and those whose flags are not set touch no line of the ranges.
+abbrev pub Settled : List LineRange → List Hunk → List Bool → Type 0
+Settled asked [] [] = Unit {0}
+Settled asked (h ∷ hunks) (flag ∷ flags) = (flag ≡ false → IsUntouched asked h) × Settled asked hunks flags
+Settled asked [] (flag ∷ flags) = ⊥
+Settled asked (h ∷ hunks) [] = ⊥
+
+-- How a hunk is tested against a range.
+abbrev pub meets : LineRange → Hunk → Bool
+meets r h = if nat_lt r.last r.first then false
+    else if h.start.lines == h.end.lines then nat_le (r.first - 1) h.start.lines && nat_le h.start.lines r.last
+    else (nat_lt h.start.lines h.end.lines && nat_le r.first h.end.lines) && nat_lt h.start.lines r.last
+
+abbrev pub touched_by : List LineRange → Hunk → Bool
+touched_by [] h = false
+touched_by (r ∷ asked) h = meets r h || touched_by asked h
+
+-- each range ends before the line
+abbrev pub all_before : List LineRange → ℕ → Bool
+all_before [] line = true
+all_before (r ∷ asked) line = nat_lt r.last line && all_before asked line
+
+-- no range begins before the line, nor before the range before it
+abbrev pub ascend_after : ℕ → List LineRange → Bool
+ascend_after first [] = true
+ascend_after first (r ∷ asked) = nat_le first r.first && ascend_after r.first asked
+
+abbrev pub has_true : List Bool → Bool
+has_true [] = false
+has_true (flag ∷ flags) = flag || has_true flags
+
+-- as many flags, and those that were set are set
+abbrev pub Covers : List Bool → List Bool → Type 0
+Covers [] [] = Unit {0}
+Covers (a ∷ before) (b ∷ after) = (a ≡ true → b ≡ true) × Covers before after
+Covers [] (b ∷ after) = ⊥
+Covers (a ∷ before) [] = ⊥
