@@ -160,7 +160,7 @@ none_among : (kind : ErrorKind) (kinds : List ErrorKind) → kinds ≡ [] → Is
 none_among kind [] none among = among
 none_among kind (k ∷ ks) none among = cc
 
--- No line of words both asks for a request and is refused, but for want of memory.
+-- No line of words both asks for a request and is refused, unless memory runs out.
 pub not_refused : (rules words : List Text) (a : Request) (text : List ℕ) → AsksFor rules words a
     → RefusesWords rules words (Wrong text) ⊎ RefusesWords rules words (Help text) → ⊥
 not_refused rules words a text p (inl (inl w)) = none_among w.0 _ p.0 w.2

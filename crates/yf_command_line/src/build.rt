@@ -5,7 +5,7 @@ use std::alloc::{AllocError, Global};
 /// The version, which the newest part of CHANGELOG.md has too.
 pub const VERSION: &str = "0.2.0";
 
-/// The commit. `git archive` writes its hash in place of these words (.gitattributes); in a checkout they stay.
+/// The commit. `git archive` replaces these words with its hash (.gitattributes). In a checkout they stay.
 pub const COMMIT: &str = "$Format:%H$";
 
 /// The hash of the logic, as `rt version` prints it.

@@ -19,7 +19,7 @@ member_end {t} (byte_range b closing _) (one_byte a never _) = absurd
 member_end {t} {k = k} {s = s} (byte_range {h} a _ c) (byte_range {h = g} b _ d) =
     byte_end c (subst (λ z. ClassByte t (z + 1) s.last k) (sym (byte_end a b)) d)
 
--- no member is there: no byte, or the sign of a range with no byte after it
+-- No member begins here: either there is no byte, or the sign of a range has no byte after it.
 pub no_first : {t : List ℕ} {i j : ℕ} {r : ByteRange} → ((b k : ℕ) → ClassByte t i b k → ⊥) → MemberAt t i r j → ⊥
 no_first {j = j} {r = r} never (one_byte a _ _) = never r.first j a
 no_first {r = r} never (byte_range {h} a _ _) = never r.first h a

@@ -305,8 +305,8 @@ fn is_version(text: &str) -> bool {
     }
 }
 
-/// What is asked for: the command, the first input, whether it is rewritten, whether it is only told of, whether by a
-/// diff, and how many more inputs there are.
+/// A request: the command, the first input, whether the input is rewritten, whether it is only checked, whether a diff
+/// is printed, and the number of further inputs.
 type Shape<'a> = (Verb, &'a str, bool, bool, bool, usize);
 
 /// The name of an input.

@@ -39,7 +39,7 @@ enum Failing {
     Memory,
 }
 
-/// Whether each command answers as it should on each input where that fails.
+/// Returns whether each command reports the right fault for each input that fails.
 fn holds(alloc: Global, failing: Failing) -> bool {
     for input in &INPUTS {
         if !holds_on(alloc, failing, input.as_bytes()) {
@@ -55,7 +55,7 @@ fn holds(alloc: Global, failing: Failing) -> bool {
     holds_on(alloc, failing, deep)
 }
 
-/// Whether each command answers as it should on an input where that fails.
+/// Returns whether each command reports the right fault for an input that fails.
 fn holds_on(alloc: Global, failing: Failing, input: &[u8]) -> bool {
     for asked in &COMMANDS {
         let trial = Trial {
