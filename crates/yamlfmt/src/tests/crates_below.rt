@@ -5,6 +5,7 @@ mod comments;
 mod explained;
 mod guards;
 mod lines;
+mod lints;
 mod mistakes;
 mod nodes;
 mod props;
