@@ -3,7 +3,9 @@
 mod block_scalars;
 mod comments;
 mod explained;
+mod guards;
 mod lines;
+mod lints;
 mod mistakes;
 mod nodes;
 mod props;
