@@ -35,12 +35,12 @@ module _ {X : Type 0} (p : X → Bool) (xs : List X) (i : ℕ) (d : X) (old : Li
 
   pub filter_takes : (new : List X) (x : X) → p (get_or xs i d) ≡ true → x ≡ get_or xs i d → new ≡ old ++ x ∷ [] →
       new ++ filter p (drop (i + 1) xs) ≡ filter p xs
-  filter_takes new x yes same push =
+  filter_takes new x holds same push =
       pushed old new (filter p (drop (i + 1) xs)) (filter p xs) x push
-      (ap (λ y. old ++ (y ∷ filter p (drop (i + 1) xs))) same ∙ rw yes at here)
+      (ap (λ y. old ++ (y ∷ filter p (drop (i + 1) xs))) same ∙ rw holds at here)
 
   pub filter_leaves : p (get_or xs i d) ≡ false → old ++ filter p (drop (i + 1) xs) ≡ filter p xs
-  filter_leaves no = rw no at here
+  filter_leaves fails = rw fails at here
 
 pub filter_all : {X : Type 0} (p : X → Bool) (xs : List X) (i : ℕ) (old : List X) → length xs ≤ i →
     old ++ filter p (drop i xs) ≡ filter p xs → old ≡ filter p xs
@@ -55,13 +55,13 @@ module _ {X : Type 0} (xs : List X) (flags : List Bool) (k : ℕ) (d : X) (c : B
 
   pub chosen_takes : (new : List X) (x : X) → get_or flags k c ≡ true → x ≡ get_or xs k d → new ≡ old ++ x ∷ [] →
       new ++ chosen (drop (k + 1) xs) (drop (k + 1) flags) ≡ chosen xs flags
-  chosen_takes new x yes same push =
+  chosen_takes new x holds same push =
       pushed old new (chosen (drop (k + 1) xs) (drop (k + 1) flags)) (chosen xs flags) x push
-      (ap (λ y. old ++ (y ∷ chosen (drop (k + 1) xs) (drop (k + 1) flags))) same ∙ rw yes at first)
+      (ap (λ y. old ++ (y ∷ chosen (drop (k + 1) xs) (drop (k + 1) flags))) same ∙ rw holds at first)
 
   pub chosen_leaves : get_or flags k c ≡ false →
       old ++ chosen (drop (k + 1) xs) (drop (k + 1) flags) ≡ chosen xs flags
-  chosen_leaves no = rw no at first
+  chosen_leaves fails = rw fails at first
 
 pub chosen_all : {X : Type 0} (xs : List X) (flags : List Bool) (k : ℕ) (old : List X) → length xs ≤ k →
     old ++ chosen (drop k xs) (drop k flags) ≡ chosen xs flags → old ≡ chosen xs flags

@@ -93,7 +93,7 @@ module _ {Y : Type 0} where
 
   -- ---- what the sets say
 
-  pub unlisted_is : {F : Type 0} (set : BTreeSet (String Y)) (flags : List Bool) (es : List Entry)
+  pub unlisted_is : (set : BTreeSet (String Y)) (flags : List Bool) (es : List Entry)
       (lines : List (List ℕ)) → flags ≡ map (λ e. not (contains_text set (entry_line e))) es → Holds set lines →
       flags ≡ map (λ e. is_new lines e) es
   unlisted_is set flags es lines is h =

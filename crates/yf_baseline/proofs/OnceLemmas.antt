@@ -57,7 +57,7 @@ below_push seen (x ∷ es) e h here = (h.0, below_push seen es e h.1 here)
 seen_once_more : (text : List ℕ) (seen : List (List ℕ)) → occurrences text seen < occurrences text (seen ++ text ∷ [])
 seen_once_more text seen =
     let more : occurrences text (seen ++ text ∷ []) ≡ occurrences text seen + 1 =
-    rw nat_list_eq_equiv.refl text at (occurrences-push text text seen) in
+    rw (nat_list_eq_equiv.refl text) at (occurrences-push text text seen) in
     omega arith
 
 few : (text : List ℕ) (seen : List (List ℕ)) → occurrences text seen ≤ length seen
@@ -72,14 +72,14 @@ absent seen (x ∷ earlier) e small h here =
     (absent seen earlier e small h.1 here)
   where
     cases : (b : Bool) → bytes_eq (entry_line e) (entry_line x) ≡ b → bytes_eq (entry_line e) (entry_line x) ≡ false
-    cases true yes =
+    cases true holds =
         let same : e ≡ x = same_entry e x (omega (arith, here, few (mark_in e) seen))
-        (omega (arith, h.0, few (mark_in x) seen)) ((bytes_eq-Decides (entry_line e) (entry_line x)).0 yes) in
+        (omega (arith, h.0, few (mark_in x) seen)) ((bytes_eq-Decides (entry_line e) (entry_line x)).0 holds) in
         let equal : e.ordinal ≡ x.ordinal = ap (λ y. y.ordinal) same in
         let marks : occurrences (mark_in e) seen ≡ occurrences (mark_in x) seen =
         ap (λ y. occurrences (mark_in y) seen) same in
         absurd (omega (arith, h.0, here, equal, marks))
-    cases false no = no
+    cases false fails = fails
 
 once : (file : List ℕ) (seen : List (List ℕ)) (earlier : List Entry) (ks : List Kept) → Below seen earlier →
     length seen + length ks < 2 ^ 64 →

@@ -1,7 +1,8 @@
 -- The order of the entries of a baseline: by file, rule, hash and ordinal.
 use Rattle.std.specs.Prelude.{Bool}
 use Rattle.std.specs.Cmp.Lexicographic.{slice_cmp}
-use Rattle.std.specs.Ordering.{Ordering, is_lt, nat_cmp, ordering_then}
+use Rattle.std.specs.Ordering.{is_lt, nat_cmp, ordering_then}
+use Rattle.std.specs.declared.cmp.Ordering.{Ordering}
 use Rattle.yf_baseline.specs.declared.entry.Entry.{Entry}
 
 abbrev pub order : Entry → Entry → Ordering

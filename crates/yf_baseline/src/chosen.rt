@@ -9,14 +9,19 @@ use std::alloc::{AllocError, Global};
 /// # Errors
 ///
 /// `AllocError` if memory runs out.
-pub fn chosen<F: Copy + Drop>(alloc: Global, items: &[F], flags: &[bool]) -> Result<Vec<F>, AllocError>
+pub fn chosen<F: Copy + Drop>(
+    alloc: Global,
+    items: &[F],
+    flags: &[bool],
+) -> Result<Vec<F>, AllocError>
     requires { length items.now ≤ length flags.now }
     ensures { IfOk result (λ found. found.items ≡ chosen items.now flags.now) }
 {
     let mut found = Vec::new(alloc);
     for k in 0..items.len() {
+        let item = items[k];
         if flags[k] {
-            found.push(items[k])?;
+            found.push(item)?;
         }
     }
     Ok(found)

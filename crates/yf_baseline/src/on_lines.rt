@@ -31,7 +31,10 @@ pub fn findings_on_lines<F: Copy + Drop>(
 fn flags_on(alloc: Global, ranges: &[Range], asked: &[LineRange]) -> Result<Vec<bool>, AllocError>
     ensures { IfOk result (λ flags. flags.items ≡ map (λ r. is_on asked.now r) ranges.now) }
 {
-    ranges.iter().map(|range| is_on(range, asked)).collect(alloc)
+    ranges
+        .iter()
+        .map(|range| is_on(range, asked))
+        .collect(alloc)
 }
 
 /// Returns whether a range has an asked line.
@@ -39,7 +42,9 @@ pub fn is_on(range: &Range, asked: &[LineRange]) -> bool
     ensures { result ≡ is_on asked.now range.now }
 {
     let last = last_line(range);
-    asked.iter().any(|lines| has_common(lines, range.line, last))
+    asked
+        .iter()
+        .any(|lines| has_common(lines, range.line, last))
 }
 
 // Whether one of these lines is at least `first` and at most `last`.

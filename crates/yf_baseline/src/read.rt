@@ -100,17 +100,21 @@ fn entries_from(alloc: Global, items: &[Value<'_>]) -> Result<Option<Vec<Entry>>
 fn entry_in(alloc: Global, value: &Value<'_>) -> Result<Option<Entry>, AllocError>
     ensures { IfOk result (λ found. found ≡ entry_in (value_view value.now)) }
 {
-    let Some(file) = text_in(value, "file") else {
-        return Ok(None);
+    let file = match text_in(value, "file") {
+        Some(file) => file,
+        None => return Ok(None),
     };
-    let Some(hash) = text_in(value, "hash") else {
-        return Ok(None);
+    let hash = match text_in(value, "hash") {
+        Some(hash) => hash,
+        None => return Ok(None),
     };
-    let Some(ordinal) = number_in(value, "ordinal") else {
-        return Ok(None);
+    let ordinal = match number_in(value, "ordinal") {
+        Some(ordinal) => ordinal,
+        None => return Ok(None),
     };
-    let Some(rule) = text_in(value, "rule") else {
-        return Ok(None);
+    let rule = match text_in(value, "rule") {
+        Some(rule) => rule,
+        None => return Ok(None),
     };
     Ok(Some(Entry {
         file: owned(alloc, file)?,

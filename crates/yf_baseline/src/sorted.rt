@@ -17,7 +17,10 @@ pub fn sort_entries(entries: &mut Vec<Entry>) -> Result<(), AllocError>
     ensures sorted { OnOk result (IsSortedBy comes_before entries.new.items) }
     ensures kept { OnErr result (entries.new.items ≡ entries.old.items) }
 {
-    entries.sort_by(|a, b| order(a, b))
+    match entries.sort_by(|a, b| order(a, b)) {
+        Ok(()) => Ok(()),
+        Err(AllocError) => Err(AllocError),
+    }
 }
 
 // Compares two entries by file, rule, hash and ordinal.
