@@ -1,11 +1,12 @@
 -- The marks that were seen are counted.
 use Rattle.std.proofs.Common.{◌≡◌, ℕ, ◌+◌, Bool, true, false, List, [], ◌∷◌, ◌++◌, Some, String}
-use Rattle.std.proofs.Common.{fold, refl, ap, ◌∙◌, arith, if◌then◌else◌}
+use Rattle.std.proofs.Common.{refl, ap, ◌∙◌, arith, if◌then◌else◌}
 use Rattle.std.specs.Prelude.{bytes_eq}
 use Rattle.std.specs.Option.{unwrap_or}
 use Rattle.std.specs.Map.{update}
 use Rattle.std.specs.BTreeMap.{BTreeMap, get_by_text}
 use Rattle.std.proofs.lemmas.Cmp.{nat_list_eq_equiv}
+use Rattle.std.proofs.lemmas.List.Sums.{sum_by_push}
 use Rattle.std.proofs.lemmas.Slice.Eq.{bytes_eq-Decides}
 use Rattle.yf_baseline.specs.SeenTexts.{IsCounted, CountsOneMore, count_of, occurrences}
 
@@ -26,13 +27,9 @@ counts_one_more old new text next e sets other =
         (omega (arith, e, ap (λ d. count_of old d) equal))
     cases false differs = rw (nat_list_eq_equiv.symm other text, differs) (omega arith)
 
-fold_push : {A X : Type 0} (g : A → X → A) (z : A) (xs : List X) (y : X) → fold g z (xs ++ y ∷ []) ≡ g (fold g z xs) y
-fold_push g z [] y = refl
-fold_push g z (x ∷ xs) y = fold_push g (g z x) xs y
-
 pub occurrences-push : (text other : List ℕ) (seen : List (List ℕ)) →
     occurrences text (seen ++ other ∷ []) ≡ occurrences text seen + (if bytes_eq text other then 1 else 0)
-occurrences-push text other seen = fold_push (λ n x. n + (if bytes_eq text x then 1 else 0)) 0 seen other
+occurrences-push text other seen = sum_by_push (λ x. if bytes_eq text x then 1 else 0) seen other
 
 pub counts_more : {Y : Type 0} (old new : BTreeMap (String Y) ℕ) (text : List ℕ) (seen : List (List ℕ)) →
     IsCounted old seen → CountsOneMore old new text → IsCounted new (seen ++ text ∷ [])

@@ -22,3 +22,5 @@ pub mod LineLemmas
 pub mod LawLemmas
 -- `entries_come_once`
 pub mod OnceLemmas
+-- `entries_ignore_order`
+pub mod OrderLemmas

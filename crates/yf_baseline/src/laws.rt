@@ -1,5 +1,5 @@
 //! What follows from the definitions.
-ghost use Rattle.yf_baseline.specs.Laws.{EntriesComeOnce, EntriesGoByTexts};
+ghost use Rattle.yf_baseline.specs.Laws.{EntriesComeOnce, EntriesGoByTexts, EntriesIgnoreOrder};
 ghost use Rattle.yf_baseline.specs.OnLines.{IsOnTells};
 
 /// Entries go by the texts of lines, and not by their numbers.
@@ -10,6 +10,11 @@ pub fn entries_go_by_texts()
 /// The entries of the findings of a file come once each.
 pub fn entries_come_once()
     ensures { EntriesComeOnce }
+{}
+
+/// The order of the findings doesn't matter to which entries they have.
+pub fn entries_ignore_order()
+    ensures { EntriesIgnoreOrder }
 {}
 
 /// A range is on asked lines if one of its lines is asked, and only then.
