@@ -1,5 +1,6 @@
 //! Calls of the crates below that no run of the program tells of: that each is answered, at texts that hold more than what it reads.
 
+mod baselines;
 mod block_scalars;
 mod comments;
 mod explained;
