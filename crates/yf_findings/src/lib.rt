@@ -1,0 +1,11 @@
+//! The problems of a text that a report lists: one for each finding of a check, with the range that is at fault and a
+//! message, or one for the refusal of the text.
+#![tactic(auto)]
+
+mod columns;
+mod ends;
+pub mod listing;
+mod located;
+pub mod owned;
+pub mod refusals;
+mod starts;
