@@ -1,2 +1,4 @@
-pub mod ListLemmas
 pub mod StartLemmas
+pub mod ListLemmas
+pub mod FoundPlaces
+pub mod TextLemmas

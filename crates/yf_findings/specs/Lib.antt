@@ -1,3 +1,5 @@
-pub mod Problems
 pub mod Ranges
+pub mod Reading
 pub mod Refusals
+pub mod Problems
+pub mod Texts

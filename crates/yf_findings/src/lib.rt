@@ -7,5 +7,7 @@ mod ends;
 pub mod listing;
 mod located;
 pub mod owned;
+pub mod reading;
 pub mod refusals;
 mod starts;
+pub mod texts;
