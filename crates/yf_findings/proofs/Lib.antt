@@ -2,3 +2,4 @@ pub mod StartLemmas
 pub mod ListLemmas
 pub mod FoundPlaces
 pub mod TextLemmas
+pub mod FileLemmas

@@ -1,3 +1,4 @@
+pub mod Files
 pub mod Ranges
 pub mod Reading
 pub mod Refusals

@@ -4,10 +4,12 @@
 
 mod columns;
 mod ends;
+pub mod files;
 pub mod listing;
 mod located;
 pub mod owned;
 pub mod reading;
 pub mod refusals;
+pub mod rule_words;
 mod starts;
 pub mod texts;
