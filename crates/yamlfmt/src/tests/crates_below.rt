@@ -2,6 +2,7 @@
 
 mod block_scalars;
 mod comments;
+mod discovery;
 mod explained;
 mod lines;
 mod mistakes;
