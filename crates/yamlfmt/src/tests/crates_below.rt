@@ -3,6 +3,7 @@
 mod block_scalars;
 mod comments;
 mod discovery;
+mod excluded;
 mod explained;
 mod lines;
 mod mistakes;
