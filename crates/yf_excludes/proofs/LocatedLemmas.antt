@@ -147,9 +147,9 @@ module _ (patterns : List Pattern) (current settings file : List ℕ) where
       excluded = excluded.0 yes;
     },
     λ e.
-    let same : folder ≡ e.folder = folder_one (from_root current settings) folder e.folder there e.settings_in in
-    let both : names ≡ e.folder ++ texts e.path = same_Some _ _ (leads_one leads e.file_below) in
-    let alike : texts path ≡ texts e.path =
-    append_cancel_left folder (texts path) (texts e.path) (sym is ∙ both ∙ ap (λ x. x ++ texts e.path) (sym same)) in
-    excluded.1 (excluded_alike patterns e.path path (sym alike) e.excluded),
+        let same : folder ≡ e.folder = folder_one (from_root current settings) folder e.folder there e.settings_in in
+        let both : names ≡ e.folder ++ texts e.path = same_Some _ _ (leads_one leads e.file_below) in
+        let alike : texts path ≡ texts e.path =
+        append_cancel_left folder (texts path) (texts e.path) (sym is ∙ both ∙ ap (λ x. x ++ texts e.path) (sym same)) in
+        excluded.1 (excluded_alike patterns e.path path (sym alike) e.excluded),
   )

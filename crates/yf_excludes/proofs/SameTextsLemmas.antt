@@ -70,5 +70,5 @@ excluded_alike patterns path other same e =
       above = e.above;
       within = subst (λ n. e.above < n) count e.within;
       excluded = subst (λ n. Excludes (take (e.above + 1) other) (nat_lt (e.above + 1) n) patterns) count
-      (excludes_same (same_front (e.above + 1) s) e.excluded);
+          (excludes_same (same_front (e.above + 1) s) e.excluded);
     }
