@@ -17,7 +17,8 @@ shown_at Shows said own name t is same shown = subst (λ n. Shows n t) (is ∙ s
 pub folder_more : (k : ℕ) (at more : List ℕ) → at ≡ folder k → more ≡ at ++ codes "../" → more ≡ folder (k + 1)
 folder_more k at more here is =
     let next : folder (suc k) ≡ folder (k + 1) = subst (λ n. folder n ≡ folder (k + 1)) (add-one k) refl in
-    let same : at ++ codes "../" ≡ folder k ++ codes "../" = subst (λ x. at ++ codes "../" ≡ x ++ codes "../") here refl in
+    let same : at ++ codes "../" ≡ folder k ++ codes "../" = subst (λ x. at ++ codes "../"
+    ≡ x ++ codes "../") here refl in
     is ∙ same ∙ next
 
 -- no folder is before the first one

@@ -29,8 +29,8 @@ pub enum Discovery {
 /// Finds the nearest settings file at or above the current folder. `above` is the number of folders above the current
 /// one.
 ///
-/// A folder with `.git`, which may be a folder or a file, is the last one that is searched. The result is a fault if the
-/// nearest settings file is a folder, or if a name that decides can't be looked at.
+/// A folder with `.git`, which may be a folder or a file, is the last one that is searched. The result is a fault if
+/// the nearest settings file is a folder, or if a name that decides can't be looked at.
 ///
 /// # Errors
 ///

@@ -87,7 +87,8 @@ module _ (folder file : List Lent) where
   all_names k most least same =
       let whole : k ≡ length folder = omega (arith, most, least) in
       let count : length (texts folder) ≡ length folder = length-map folder (λ n. n.now) in
-      let front : texts folder ≡ take k (texts file) = sym (take_all k (texts folder) (omega (arith, count, most))) ∙ same in
+      let front : texts folder
+      ≡ take k (texts file) = sym (take_all k (texts folder) (omega (arith, count, most))) ∙ same in
       let parts : take k (texts file) ++ drop k (texts file) ≡ texts file = take-append-drop k (texts file) in
       let rest : drop k (texts file) ≡ texts (drop k file) = drop-map (λ n. n.now) k file in
       let at_k : texts file ≡ texts folder ++ texts (drop k file) =
@@ -96,7 +97,8 @@ module _ (folder file : List Lent) where
 
   pub too_few : length file < length folder → (path : List (List ℕ)) → ¬ (texts file ≡ texts folder ++ path)
   too_few less path same =
-      let sum : length (texts folder ++ path) ≡ length (texts folder) + length path = length-append (texts folder) path in
+      let sum : length (texts folder ++ path)
+      ≡ length (texts folder) + length path = length-append (texts folder) path in
       let count : length (texts folder) ≡ length folder = length-map folder (λ n. n.now) in
       let count' : length (texts file) ≡ length file = length-map file (λ n. n.now) in
       let none : ⊥ = omega (arith, less, ap (λ x. length x) same, sum, count, count') in none
@@ -150,6 +152,7 @@ module _ (patterns : List Pattern) (current settings file : List ℕ) where
         let same : folder ≡ e.folder = folder_one (from_root current settings) folder e.folder there e.settings_in in
         let both : names ≡ e.folder ++ texts e.path = same_Some _ _ (leads_one leads e.file_below) in
         let alike : texts path ≡ texts e.path =
-        append_cancel_left folder (texts path) (texts e.path) (sym is ∙ both ∙ ap (λ x. x ++ texts e.path) (sym same)) in
+        append_cancel_left folder (texts path) (texts e.path) (sym is ∙ both ∙ ap (λ x. x ++ texts e.path) (sym
+        same)) in
         excluded.1 (excluded_alike patterns e.path path (sym alike) e.excluded),
   )

@@ -11,9 +11,9 @@ use crate::pattern::Pattern;
 use crate::read_pattern::begins_with;
 use std::alloc::{AllocError, Global};
 
-/// Returns whether the patterns of a settings file exclude a file. The names of both are relative to the current folder,
-/// or begin with a slash. `current` is the path of the current folder, from the root on. A file that isn't below the
-/// folder of the settings file is not excluded.
+/// Returns whether the patterns of a settings file exclude a file. The names of both are relative to the current
+/// folder, or begin with a slash. `current` is the path of the current folder, from the root on. A file that isn't
+/// below the folder of the settings file is not excluded.
 ///
 /// No file system is read: a name before `..` that is a symbolic link is taken for a folder.
 ///
