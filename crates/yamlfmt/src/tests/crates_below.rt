@@ -3,6 +3,8 @@
 mod baselines;
 mod block_scalars;
 mod comments;
+mod discovery;
+mod excluded;
 mod explained;
 mod guards;
 mod lines;

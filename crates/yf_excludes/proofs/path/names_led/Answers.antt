@@ -1,29 +1,24 @@
-use Rattle.std.proofs.Common.{sym, ◌∙◌}
-use Rattle.yf_excludes.specs.Names.{relative}
 use Rattle.yf_excludes.proofs.PathLemmas.{taken_on, taken_out, last_in, last_out}
-use Rattle.yf_excludes.proofs.path.normalised.Goals as goal
+use Rattle.yf_excludes.proofs.path.names_led.Goals as goal
 
 pub returns-then-branch : goal.returns-then-branch
 returns-then-branch c =
-    relative (sym c.begins_with.ensures.value ∙ c.if-begins_with.false)
-    (last_in c.parts.names.items c.take_part.new.names.items c.parts.rest.now c.args.path.now
+    last_in c.parts.names.items c.take_part.new.names.items c.parts.rest.now c.args.path.now
     c.in_ok-take_part-in-None.field-0
-    c.parts.invariant c.in-None.ensures.value c.if-branch.true c.in_ok-take_part-in-None.ensures)
+    c.parts.invariant c.in-None.ensures.value c.if-branch.true c.in_ok-take_part-in-None.ensures
 
 pub returns-in-None : goal.returns-in-None
 returns-in-None c =
-    relative (sym c.begins_with.ensures.value ∙ c.if-begins_with.false)
-    (last_out c.parts.names.items c.take_part.new.names.items c.parts.rest.now c.args.path.now
+    last_out c.parts.names.items c.take_part.new.names.items c.parts.rest.now c.args.path.now
     c.in_ok-take_part-in-None.field-0
-    c.parts.invariant c.in-None.ensures.value c.if-branch.false c.in_ok-take_part-in-None.ensures)
+    c.parts.invariant c.in-None.ensures.value c.if-branch.false c.in_ok-take_part-in-None.ensures
 
 pub returns-then-not-branch : goal.returns-then-not-branch
 returns-then-not-branch c =
-    relative (sym c.begins_with.ensures.value ∙ c.if-begins_with.false)
-    (taken_out c.parts.names.items c.take_part-in-Some.new.names.items c.parts.rest.now c.up_to.result.now
+    taken_out c.parts.names.items c.take_part-in-Some.new.names.items c.parts.rest.now c.up_to.result.now
     c.args.path.now c.in-Some.slash
     c.in_ok-take_part-in-Some.field-0 c.parts.invariant c.in-Some.ensures.value c.up_to.ensures c.if-not-branch.true
-    c.in_ok-take_part-in-Some.ensures)
+    c.in_ok-take_part-in-Some.ensures
 
 pub parts-preserved : goal.parts-preserved
 parts-preserved c =
