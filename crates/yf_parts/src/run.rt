@@ -5,11 +5,11 @@ ghost use Rattle.yf_rules.specs.Runs.ByteStream.{stream_of};
 ghost use Rattle.yf_rules.specs.Runs.Run.{Gave, Keeps, RefusedRun};
 ghost use Rattle.yf_stream.specs.StreamReader.{StreamFault};
 
-use yf_line_ranges::range::LineRange;
 use crate::part::format_lines;
 use crate::show::{Show, show_part};
 use std::alloc::Global;
 use yf_forms::style::Style;
+use yf_line_ranges::range::LineRange;
 use yf_lines::fault::Fault;
 use yf_lines::watched::{Sink, Source};
 use yf_rules::input::{read_all, text_of};
