@@ -5,6 +5,5 @@ pub mod Answer
 -- the lines that are written
 pub mod Report
 pub mod Named
-pub mod Quoted
 -- inputs in memory
 pub mod MemoryInputs

@@ -13,7 +13,6 @@ pub mod memory;
 pub mod memory_inputs;
 pub mod named;
 pub mod program;
-pub mod quoted;
 pub mod replacing;
 pub mod report;
 pub mod reserved;

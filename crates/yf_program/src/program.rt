@@ -5,11 +5,11 @@ ghost use Rattle.yf_rules.specs.Runs.Compare.{IsClean};
 ghost use Rattle.yf_rules.specs.Runs.Diffed.{DiffRun, RefusedDiff};
 ghost use Rattle.yf_rules.specs.Runs.Run.{Gave, Keeps};
 ghost use Rattle.yf_program.specs.Answer.{FileRefused, FileSets, Ran, RanCheck, RanEvents, RanFmt, RanFmtCheck, RanFmtDiff, UsageWritten, WrittenOut, name_of};
-ghost use Rattle.yf_program.specs.Quoted.{quoted};
+ghost use Rattle.yf_rules.specs.Quoted.{quoted};
 
 use crate::each::name_of;
 use crate::further::{report_input, tell_findings};
-use crate::quoted::quoted;
+use yf_rules::quoted::quoted;
 use crate::report::report;
 use crate::streams::Streams;
 use crate::task::{Task, Work};

@@ -1,6 +1,6 @@
 //! The name of a file as Git writes it in the head of a diff.
 ghost use Rattle.std.specs.Prelude.{◌≡◌, ◌++◌, [], IfOk};
-ghost use Rattle.yf_program.specs.Quoted.{all_escaped, by_number, escaped, has_special, is_special, letter, octal, quoted};
+ghost use Rattle.yf_rules.specs.Quoted.{all_escaped, by_number, escaped, has_special, is_special, letter, octal, quoted};
 
 use std::alloc::{AllocError, Global};
 
