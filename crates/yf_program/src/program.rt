@@ -9,7 +9,6 @@ ghost use Rattle.yf_rules.specs.Quoted.{quoted};
 
 use crate::each::name_of;
 use crate::further::{report_input, tell_findings};
-use yf_rules::quoted::quoted;
 use crate::report::report;
 use crate::streams::Streams;
 use crate::task::{Task, Work};
@@ -25,6 +24,7 @@ use yf_lines::watched::{Sink, Source};
 use yf_rules::compare::run_fmt_check;
 use yf_rules::diff::run_fmt_diff;
 use yf_rules::input::read_all;
+use yf_rules::quoted::quoted;
 use yf_rules::run::{INPUT_LIMIT, run_check_all, run_events, run_fmt};
 use yf_settings::settings::{no_key, style_from_toml};
 
