@@ -1,4 +1,4 @@
-//! yamlfmt: prints the events of a YAML stream, checks its style and rewrites it in one house style.
+//! yamlfmt: formats YAML in one house style, checks its style and prints its events.
 #![tactic(auto)]
 
 ghost use Rattle.std.specs.Prelude.{[]};

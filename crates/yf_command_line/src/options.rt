@@ -44,9 +44,7 @@ fn bare_command<'a>(alloc: Global) -> Result<Command<'a>, AllocError>
 {
     let command = Command::new(alloc, "yamlfmt")
         .version(VERSION)
-        .about(
-            "Prints the events of a YAML stream, checks its style and rewrites it in one house style",
-        )
+        .about("Formats YAML in one house style, checks its style and prints its events")
         .no_binary_name(true)
         .subcommand_required(true)
         .arg_required_else_help(true);
@@ -86,11 +84,7 @@ fn reading_command<'a>(
 fn check_command<'a>(alloc: Global) -> Result<Command<'a>, AllocError>
     ensures { IfOk result (λ c. IsPart c checking_command) }
 {
-    let command = configured(
-        alloc,
-        CHECK,
-        "Print where a YAML stream departs from the house style",
-    );
+    let command = configured(alloc, CHECK, "Report what is not in the house style");
     let leaving_out = with_arg(command, without_option(alloc));
     with_arg(leaving_out, file_words(alloc))
 }
@@ -98,7 +92,7 @@ fn check_command<'a>(alloc: Global) -> Result<Command<'a>, AllocError>
 fn fmt_command<'a>(alloc: Global) -> Result<Command<'a>, AllocError>
     ensures { IfOk result (λ c. IsPart c writing_command) }
 {
-    let command = configured(alloc, FMT, "Print a YAML stream in the house style");
+    let command = configured(alloc, FMT, "Format YAML in the house style");
     let writing = with_arg(command, write_flag(alloc));
     let checking = with_arg(writing, check_flag(alloc));
     let telling = with_arg(checking, diff_flag(alloc));
@@ -144,7 +138,7 @@ fn config_option<'a>(alloc: Global) -> Arg<'a>
     Arg::new(alloc, CONFIG)
         .long(CONFIG)
         .value_name("FILE")
-        .help("Read the settings of the house style from this TOML file")
+        .help("Read the settings from this TOML file")
 }
 
 fn explain_flag<'a>(alloc: Global) -> Arg<'a>
@@ -153,7 +147,7 @@ fn explain_flag<'a>(alloc: Global) -> Arg<'a>
     Arg::new(alloc, EXPLAIN)
         .long(EXPLAIN)
         .action(ArgAction::SetTrue)
-        .help("Tell more of a fault on standard error, and of a finding")
+        .help("Explain errors and findings on standard error")
 }
 
 fn without_option<'a>(alloc: Global) -> Arg<'a>
@@ -163,7 +157,7 @@ fn without_option<'a>(alloc: Global) -> Arg<'a>
         .long(WITHOUT)
         .value_name("RULES")
         .action(ArgAction::Append)
-        .help("Leave out what these rules find, by their names with commas between")
+        .help("Skip these rules (comma-separated)")
 }
 
 fn write_flag<'a>(alloc: Global) -> Arg<'a>
@@ -172,7 +166,7 @@ fn write_flag<'a>(alloc: Global) -> Arg<'a>
     Arg::new(alloc, WRITE)
         .long(WRITE)
         .action(ArgAction::SetTrue)
-        .help("Rewrite FILE in place of printing")
+        .help("Write the result back to FILE")
 }
 
 fn check_flag<'a>(alloc: Global) -> Arg<'a>
@@ -181,7 +175,7 @@ fn check_flag<'a>(alloc: Global) -> Arg<'a>
     Arg::new(alloc, CHECK)
         .long(CHECK)
         .action(ArgAction::SetTrue)
-        .help("Print only where the stream is not in the house style first")
+        .help("Print the first position that would change, and exit with 1 if there is one")
 }
 
 fn diff_flag<'a>(alloc: Global) -> Arg<'a>
@@ -190,15 +184,15 @@ fn diff_flag<'a>(alloc: Global) -> Arg<'a>
     Arg::new(alloc, DIFF)
         .long(DIFF)
         .action(ArgAction::SetTrue)
-        .help("Print a unified diff of the stream and its formatting")
+        .help("Print what would change as a unified diff")
 }
 
 fn file_word<'a>(alloc: Global) -> Arg<'a>
     ensures { IsOption result file_word }
 {
-    Arg::new(alloc, FILE).value_name("FILE").help(
-        "The stream to read, in place of standard input, which '-' is too",
-    )
+    Arg::new(alloc, FILE)
+        .value_name("FILE")
+        .help("The file to read; standard input if it is missing or '-'")
 }
 
 fn file_words<'a>(alloc: Global) -> Arg<'a>
@@ -207,5 +201,5 @@ fn file_words<'a>(alloc: Global) -> Arg<'a>
     Arg::new(alloc, FILE)
         .value_name("FILE")
         .action(ArgAction::Append)
-        .help("The streams to read, in place of standard input, which '-' is too")
+        .help("The files to read; standard input if there is none, or for '-'")
 }

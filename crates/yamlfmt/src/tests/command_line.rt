@@ -33,18 +33,18 @@ enum Wanted {
 }
 
 pub const OVERVIEW: &str =
-    "Prints the events of a YAML stream, checks its style and rewrites it in one house style
+    "Formats YAML in one house style, checks its style and prints its events
 
 Usage: yamlfmt [OPTIONS] <COMMAND>
 
 Commands:
   events  Print the events of a YAML stream
-  check   Print where a YAML stream departs from the house style
-  fmt     Print a YAML stream in the house style
+  check   Report what is not in the house style
+  fmt     Format YAML in the house style
   help    Print this message or the help of the given subcommand(s)
 
 Options:
-      --explain  Tell more of a fault on standard error, and of a finding
+      --explain  Explain errors and findings on standard error
   -h, --help     Print help
   -V, --version  Print version
 ";
@@ -157,11 +157,11 @@ static LINES: [(&str, Wanted); 60] = [
 Usage: yamlfmt events [OPTIONS] [FILE]
 
 Arguments:
-  [FILE]  The stream to read, in place of standard input, which '-' is too
+  [FILE]  The file to read; standard input if it is missing or '-'
 
 Options:
-      --config <FILE>  Read the settings of the house style from this TOML file
-      --explain        Tell more of a fault on standard error, and of a finding
+      --config <FILE>  Read the settings from this TOML file
+      --explain        Explain errors and findings on standard error
   -h, --help           Print help
 ",
         ),
@@ -169,17 +169,17 @@ Options:
     (
         "check --help",
         Wanted::Help(
-            "Print where a YAML stream departs from the house style
+            "Report what is not in the house style
 
 Usage: yamlfmt check [OPTIONS] [FILE]...
 
 Arguments:
-  [FILE]...  The streams to read, in place of standard input, which '-' is too
+  [FILE]...  The files to read; standard input if there is none, or for '-'
 
 Options:
-      --config <FILE>    Read the settings of the house style from this TOML file
-      --explain          Tell more of a fault on standard error, and of a finding
-      --without <RULES>  Leave out what these rules find, by their names with commas between
+      --config <FILE>    Read the settings from this TOML file
+      --explain          Explain errors and findings on standard error
+      --without <RULES>  Skip these rules (comma-separated)
   -h, --help             Print help
 ",
         ),
