@@ -1,6 +1,6 @@
 //! Texts that are no data. The offsets were counted by hand; which texts are templates was compared with PyYAML's events.
 
-use crate::tests::answers::reading_of;
+use crate::tests::reading_of;
 use std::alloc::{AllocError, Global};
 use yf_guard::guarded::{Guarded, guard};
 

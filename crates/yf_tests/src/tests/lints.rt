@@ -1,6 +1,6 @@
 //! Problems of data: unused and repeated anchors, keys and items without a value. The offsets were counted by hand.
 
-use crate::tests::answers::reading_of;
+use crate::tests::reading_of;
 use std::alloc::{AllocError, Global};
 use yf_events::reading::Reading;
 use yf_lint::anchors::{repeated_anchors, unused_anchors};
