@@ -27,10 +27,10 @@ use yf_program::streams::Streams;
 use yf_rules::input::read_all;
 use yf_rules::run::INPUT_LIMIT;
 
-/// The status if the command line cannot be read, or a closed standard stream cannot be replaced.
+/// The exit status if the command line can't be read, or if no file can be opened for a closed standard stream.
 const UNREADABLE: u8 = 3;
 
-/// How many bytes of output are held back before they are written.
+/// The size of the output buffer, in bytes.
 const HELD_BACK: usize = 65_536;
 
 fn main(rt: HostRuntime) -> ExitCode {
@@ -55,14 +55,14 @@ fn main(rt: HostRuntime) -> ExitCode {
     ExitCode::from(status)
 }
 
-/// The words after the program's name.
+/// Returns the words after the program's name.
 fn words_given(rt: &HostRuntime) -> io::Result<Vec<String>> {
     let mut words = env::args(rt)?;
     let _program = words.next();
     Ok(words.collect(rt.alloc())?)
 }
 
-/// Does what the words ask for, over the system's files and streams, and returns the status.
+/// Does the task of the words with the system's files and streams, and returns the exit status.
 fn answer_words(rt: &HostRuntime, words: &[String], has_left: &Cell<bool>) -> u8 {
     let mut errors = Watched::new(Silenced {
         inner: rt.stderr(),
@@ -86,10 +86,10 @@ fn answer_words(rt: &HostRuntime, words: &[String], has_left: &Cell<bool>) -> u8
     answer(rt.alloc(), words, &mut sources, &mut streams)
 }
 
-/// What is said of a file that can be opened, and not read, or not all of it.
+/// The explanation of a file that can be opened, but not read or not read completely.
 const UNREAD: &str = "a read of it failed, or it has more than 1 GiB";
 
-/// Opens a file for a second look, if it is a regular one: no other can be read twice.
+/// Opens a file for a second look. Fails unless it is a regular file, since no other file can be read twice.
 fn looked_at(rt: &HostRuntime, name: &str) -> io::Result<File> {
     let metadata = fs::metadata(rt, name)?;
     if metadata.is_dir() {

@@ -1,5 +1,5 @@
-//! What no clause says: rows over the program, and over the crates below it. All tests are in this crate, since a crate with tests is
-//! proved twice.
+//! Tests of properties that no clause states: rows for the program and for the crates below it. All tests are in this
+//! crate, since a crate with tests is proved twice.
 
 mod answer;
 mod answer_rows;

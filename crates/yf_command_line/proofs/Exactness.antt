@@ -1,5 +1,5 @@
--- Each line of words asks for one request or is refused, and never both: `AsksFor` and `RefusesWords` are exact. Only
--- the refusal of memory is possible at any words.
+-- Each line of words either asks for one request or is refused, and never both: `AsksFor` and `RefusesWords` are exact.
+-- The only refusal that is possible for any words is that of memory.
 use Rattle.std.proofs.Common.{◌≡◌, ◌≢◌, ◌⊎◌, ◌<◌, ◌||◌, ℕ, Bool, true, false, List, [], ◌∷◌, map, length, codes}
 use Rattle.std.proofs.Common.{Vec, Some, None, refl, sym, ap, subst, ◌∙◌, inl, inr, arith}
 use Rattle.std.proofs.lemmas.Bool.{false≢true}
@@ -30,9 +30,9 @@ use Rattle.yf_command_line.specs.declared.command.InputList.{InputList}
 use Rattle.yf_command_line.specs.declared.command.Request.{Request}
 use Rattle.yf_command_line.specs.declared.usage.Usage.TheVariants.{Help, Wrong}
 
--- ---- one request
+-- ---- at most one request
 
--- The two are equal, up to the room of their vectors.
+-- The two are equal, except for the capacity of their vectors.
 abbrev pub SameFmt : Fmt → Fmt → Type 0
 SameFmt (fmt.Print a) (fmt.Print b) = a ≡ b
 SameFmt (fmt.Check a) (fmt.Check b) = all_inputs a ≡ all_inputs b
@@ -40,7 +40,7 @@ SameFmt (fmt.Diff a) (fmt.Diff b) = a ≡ b
 SameFmt (fmt.Write a) (fmt.Write b) = all_files a ≡ all_files b
 SameFmt _ _ = ⊥
 
--- The two are equal, up to the room of their vectors.
+-- The two are equal, except for the capacity of their vectors.
 abbrev pub SameCommand : Command → Command → Type 0
 SameCommand (command.Events a) (command.Events b) = a ≡ b
 SameCommand (command.Check a v) (command.Check b w) = (all_inputs a ≡ all_inputs b) × (v.items ≡ w.items)
@@ -83,7 +83,7 @@ command_once rules name given (command.Fmt a) (command.Check b w) p q = absurd (
 
 -- ---- not both
 
--- Several FILEs name no single input.
+-- With several FILEs there is more than one input.
 several : (files : List Text) (input : Input) → inputs_of files ≡ input ∷ [] → 1 < length files → ⊥
 several [] input one more = omega arith
 several (file ∷ []) input one more = omega arith
@@ -127,7 +127,7 @@ command_not_both rules name given (command.Fmt a) p (other_name e c f) = f p.0
 command_not_both rules name given (command.Fmt a) p (no_rule n r) = other_names.2 (sym n ∙ p.0)
 command_not_both rules name given (command.Fmt a) p (no_fmt n r) = fmt_not_both given a p.1 r
 
--- The two are equal, up to the room of their vectors.
+-- The two are equal, except for the capacity of their vectors.
 pub record SameRequest (a b : Request) : Type 0 where
   pub config : a.config ≡ b.config
   pub explain : a.explain ≡ b.explain
@@ -146,7 +146,7 @@ met_once rules before met a b p q =
           (subst (λ (m : Text × List Row). IsCommand rules m.0 m.1 a.command) same p.command) q.command;
     }
 
--- A line of words asks for one request.
+-- A line of words asks for at most one request.
 pub asks_once : (rules words : List Text) (a b : Request) → AsksFor rules words a → AsksFor rules words b
     → SameRequest a b
 asks_once rules words a b p q = met_once rules _ _ a b p.1 q.1
@@ -167,7 +167,7 @@ not_refused rules words a text p (inl (inl w)) = none_among w.0 _ p.0 w.2
 not_refused rules words a text p (inl (inr w)) = met_not_both rules _ _ a p.1 w.1
 not_refused rules words a text p (inr w) = none_among w.0 _ p.0 w.2
 
--- ---- one of the two. This takes no more than a vector with given items.
+-- ---- at least one of the two. The proof assumes only that a vector with given items exists.
 
 module _ (inputs : List Input → Vec Input Global) (inputs_are : (l : List Input) → (inputs l).items ≡ l)
     (texts : List Text → Vec Text Global) (texts_are : (l : List Text) → (texts l).items ≡ l) where

@@ -1,4 +1,4 @@
--- The program's command is one of those whose matches the library gives exactly.
+-- The program's command is one for which the library gives the matches exactly.
 use Rattle.std.proofs.Common.{◌≡◌, ◌⊎◌, true, List, [], Result, Ok, Err, MatchResult, refl, subst, inl, inr}
 use Rattle.clap.specs.Words.{Row, Text, fault_of, is_simple, is_simple_and_free, matches_of, subcommand_of, IsAmong}
 use Rattle.clap.specs.declared.error.kind.ErrorKind.{ErrorKind}

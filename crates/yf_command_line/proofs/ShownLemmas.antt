@@ -1,4 +1,4 @@
--- What is left of a text that is shown is its next byte and the bytes after it.
+-- The rest of a text that is shown consists of its next byte and the bytes after it.
 use Rattle.std.proofs.Common.{◌≡◌, ℕ, ◌+◌, ◌<◌, List, ◌∷◌, ◌++◌, Bool, Option}
 use Rattle.std.proofs.Common.{length, drop, get_or, ap, subst, add-one, drop-cons}
 use Rattle.yf_lines.proofs.OutputLemmas.{Progress}

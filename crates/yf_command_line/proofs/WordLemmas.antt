@@ -1,4 +1,4 @@
--- What is left of some words is the next one and the words after it.
+-- The rest of some words consists of the next one and the words after it.
 use Rattle.std.proofs.Common.{◌≡◌, ◌∙◌, ◌++◌, ◌+◌, ◌<◌, ℕ, Bool, true, List, [], ◌∷◌, sym, subst, ap}
 use Rattle.std.proofs.Common.{length, drop, get_or, map, add-one, drop-cons}
 use Rattle.std.proofs.Math.ListN.{get_or-map}

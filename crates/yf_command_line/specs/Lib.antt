@@ -1,6 +1,6 @@
 -- the commands and their options
 pub mod Options
--- what the words ask for, and when they are refused
+-- the request that the words ask for, and when they are refused
 pub mod Requests
 pub mod Without
 -- how a word is shown in a message

@@ -1,5 +1,5 @@
--- The commands and their options, as the library for command lines takes them. How words are read as a command with
--- options is that library's definition of a parse.
+-- The commands and their options, in the form that the library for command lines expects. The library defines how words
+-- are parsed as a command with options.
 use Rattle.std.specs.Prelude.{◌≡◌, true, false, Some, codes}
 use Rattle.clap.specs.Words.{app_of, rule_of, App, Rule, Shape, Text, new_app, new_rule, with_rule, with_subcommand}
 use Rattle.clap.specs.Simple.{on_top}
@@ -41,7 +41,7 @@ file_word = record (new_rule (codes "file")) { value_names = 1 }
 abbrev pub file_words : Rule
 file_words = record (new_rule (codes "file")) { value_names = 1; action = Some Append }
 
--- What every command takes: `NAME [--config FILE] [--explain]`
+-- The words that every command takes: `NAME [--config FILE] [--explain]`
 abbrev pub configured : Text → App
 configured name = with_rule (with_rule (new_app name) config_option) explain_flag
 
@@ -58,7 +58,7 @@ abbrev pub writing_command : App
 writing_command =
     with_rule (with_rule (with_rule (with_rule (configured (codes "fmt")) write_flag) check_flag) diff_flag) file_words
 
--- A command is required, and without any word the help is the refusal. The program's name is not among the words.
+-- A command is required. Without any words, the refusal is the help text. The program's name is not among the words.
 -- There is a version.
 abbrev pub wants_command : Shape → Shape
 wants_command s = record s {
@@ -80,10 +80,10 @@ yamlfmt =
     checking_command.top)
     writing_command.top
 
--- An option of one command, which no other command takes over.
+-- An option of one command, which no other command inherits.
 abbrev pub IsOption : Arg → Rule → Type 0
 IsOption arg rule = (rule_of arg ≡ rule) × (arg.global ≡ false)
 
--- A command within another one, which takes over none of its options.
+-- A command within another one. It inherits none of the other's options.
 abbrev pub IsPart : Command → App → Type 0
 IsPart command app = (app_of command ≡ app) × ((out-Command command).has_globals ≡ false)

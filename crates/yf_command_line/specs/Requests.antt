@@ -1,5 +1,5 @@
--- What the words of a command line ask for, and when they are refused. `proofs/Exactness.antt` proves that each line of
--- words asks for one request or is refused, and never both.
+-- The request that the words of a command line ask for, and when the words are refused. `proofs/Exactness.antt` proves
+-- that each line of words either asks for one request or is refused, and never both.
 use Rattle.std.specs.Prelude.{◌≡◌, ◌≢◌, ◌⊎◌, ◌<◌, ⊤, Bool, true, false, ◌||◌, List, [], ◌∷◌, map, length, codes}
 use Rattle.std.specs.Prelude.{Option, Some, None, unwrap_or, if◌then◌else◌, MatchOption}
 use Rattle.std.specs.Str.{bytes_eq}
@@ -21,9 +21,9 @@ use Rattle.yf_command_line.specs.declared.command.Request.{Request}
 use Rattle.yf_command_line.specs.declared.usage.Usage.{Usage}
 use Rattle.yf_command_line.specs.declared.usage.Usage.TheVariants.{Help, Wrong, Memory}
 
--- ---- what a command is given: a row for each option that is used, and one for its FILEs
+-- ---- the rows of a command: one for each option that is used, and one for its FILEs
 
--- Whether a flag's value says that it is given.
+-- Whether the value of a flag says that the flag is given.
 abbrev pub is_set : Option Text → Bool
 is_set (Some value) = bytes_eq value (codes "true")
 is_set None = false
@@ -84,9 +84,9 @@ all_inputs inputs = inputs.first ∷ inputs.rest.items
 abbrev pub all_files : FileList → List Text
 all_files files = files.first ∷ files.rest.items
 
--- ---- which words give which command
+-- ---- the words of each command
 
--- What `fmt` is to do.
+-- The task of `fmt` with these rows.
 abbrev pub IsFmt : List Row → Fmt → Type 0
 -- `fmt [FILE]`
 IsFmt given (fmt.Print input) =
@@ -104,7 +104,7 @@ IsFmt given (fmt.Write files) =
     (writes given ≡ true) × (checks given ≡ false) × (diffs given ≡ false)
     × (files_given given ≡ all_files files) × (list_any is_standard_input (files_given given) ≡ false)
 
--- What the command of this name is to do with what it is given. (rules: the names of all rules)
+-- The command with this name and these rows. (rules: the names of all rules)
 abbrev pub IsCommand : List Text → Text → List Row → Command → Type 0
 -- `events [FILE]`: no words with a second FILE are accepted
 IsCommand rules name given (command.Events input) =
@@ -116,15 +116,15 @@ IsCommand rules name given (command.Check inputs without) =
 -- `fmt`, with its flags and FILEs
 IsCommand rules name given (command.Fmt what) = (name ≡ codes "fmt") × IsFmt given what
 
--- The command that the words name, with what it is given; none if they name none.
+-- The command that the words name, with its rows, or none if they name no command.
 abbrev pub Met : Type 0
 Met = Option (Text × List Row)
 
--- What the words ask for. (before: what they give before the command)
+-- The request that the words make. (before: the rows before the command)
 pub record IsRequest (rules : List Text) (before : List Row) (met : Met) (request : Request) : Type 0 where
   pub name : Text
   pub given : List Row
-  -- this command is named, and this is what it is given
+  -- the words name this command, with these rows
   pub named : met ≡ Some (name, given)
   pub command : IsCommand rules name given request.command
   -- `--config FILE`
@@ -132,14 +132,14 @@ pub record IsRequest (rules : List Text) (before : List Row) (met : Met) (reques
   -- `--explain`, before the command or after it
   pub explain : request.explain ≡ (is_flag (codes "explain") before || is_flag (codes "explain") given)
 
--- The words are accepted, and ask for this.
+-- The words are accepted, and ask for this request.
 abbrev pub AsksFor : List Text → List Text → Request → Type 0
 AsksFor rules words request =
     (fault_of yamlfmt words ≡ []) × IsRequest rules (matches_of yamlfmt words) (subcommand_of yamlfmt words) request
 
--- ---- which words are refused
+-- ---- the words that are refused
 
--- Why `fmt` refuses what it is given.
+-- Why `fmt` refuses its rows.
 pub data IsNoFmt (given : List Row) : Type 0 where
   -- `--write` without a FILE
   no_file : writes given ≡ true → files_given given ≡ [] → IsNoFmt given
@@ -154,37 +154,37 @@ pub data IsNoFmt (given : List Row) : Type 0 where
   -- several FILEs without a flag
   several_printed : writes given ≡ false → checks given ≡ false → 1 < length (files_given given) → IsNoFmt given
 
--- Why a name, and what is given after it, are no command.
+-- Why a name and the rows after it are not a command.
 pub data IsNoCommand (rules : List Text) (name : Text) (given : List Row) : Type 0 where
   -- no command has the name
   other_name : name ≢ codes "events" → name ≢ codes "check" → name ≢ codes "fmt" → IsNoCommand rules name given
   -- `--without` with a name that no rule has
   no_rule : name ≡ codes "check" → are_rules rules (names_given given) ≡ false → IsNoCommand rules name given
-  -- `fmt` refuses what it is given
+  -- `fmt` refuses its rows
   no_fmt : name ≡ codes "fmt" → IsNoFmt given → IsNoCommand rules name given
 
--- The words name no command, or one that is refused.
+-- The words name no command, or a command that is refused.
 abbrev pub IsNoRequest : List Text → Met → Type 0
 IsNoRequest rules met = MatchOption met ⊤ (λ m. IsNoCommand rules m.0 m.1)
 
--- The words are wrong because of this, or there is no memory to say why.
+-- The words are wrong for this reason, or memory for the message was refused.
 abbrev pub RefusedBy : Type 0 → Usage → Type 0
 RefusedBy cause (Help text) = ⊥
 RefusedBy cause (Wrong text) = cause
 RefusedBy cause Memory = ⊤
 
--- Help or the version is asked for.
+-- The words ask for help or for the version.
 abbrev pub AsksText : ErrorKind → Type 0
 AsksText kind = (kind ≡ DisplayHelp) ⊎ (kind ≡ DisplayVersion)
 
--- What becomes of a refusal of each kind.
+-- The result of a refusal of each kind.
 abbrev pub IsUsageOf : ErrorKind → Usage → Type 0
 IsUsageOf kind (Help text) = AsksText kind
 IsUsageOf kind (Wrong text) = (¬ AsksText kind) × (kind ≢ OutOfMemory)
 IsUsageOf kind Memory = ⊤
 
--- Help or the version is returned only if it is asked for. The words are wrong only if they are not accepted and ask
--- for neither, or if they are accepted and ask for nothing. Memory may be refused at any words.
+-- Help or the version is returned only if the words ask for it. The words are wrong only if they are not accepted and
+-- don't ask for help or the version, or if they are accepted and ask for nothing. Memory may be refused for any words.
 abbrev pub RefusesWords : List Text → List Text → Usage → Type 0
 RefusesWords rules words (Help text) = (kind : ErrorKind) × AsksText kind × IsAmong kind (fault_of yamlfmt words)
 RefusesWords rules words (Wrong text) =

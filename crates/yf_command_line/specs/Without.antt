@@ -3,7 +3,7 @@ use Rattle.std.specs.Prelude.{ℕ, Bool, List, ◌==◌}
 use Rattle.std.specs.List.{flat_map, list_all, list_any, slice_split}
 use Rattle.std.specs.Str.{bytes_eq}
 
--- The texts between the commas of a text: one more than it has commas.
+-- The texts between the commas of a text. There is one more text than there are commas.
 abbrev pub between_commas : List ℕ → List (List ℕ)
 between_commas word = slice_split (λ b. b == 44) word
 

@@ -2,7 +2,7 @@
 
 use std::alloc::{AllocError, Global};
 
-/// The version, which the newest part of CHANGELOG.md has too.
+/// The version. The newest heading of CHANGELOG.md has it too.
 pub const VERSION: &str = "0.2.0";
 
 /// The commit. `git archive` replaces these words with its hash (.gitattributes). In a checkout they stay.

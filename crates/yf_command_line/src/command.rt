@@ -1,8 +1,8 @@
-//! What a command line asks for. A combination that the command line refuses has no value here.
+//! The request of a command line. A combination that the command line refuses has no value here.
 
 use yf_lines::text::OwnedText;
 
-/// Where a text comes from.
+/// The source of a text.
 #[derive(Drop)]
 pub enum Input {
     /// Standard input.
@@ -11,7 +11,7 @@ pub enum Input {
     File(OwnedText),
 }
 
-/// One input or more, in order.
+/// At least one input, in order.
 #[derive(Drop)]
 pub struct InputList {
     /// The first input.
@@ -20,7 +20,7 @@ pub struct InputList {
     pub rest: Vec<Input>,
 }
 
-/// The names of one file or more, in order.
+/// The names of at least one file, in order.
 #[derive(Drop)]
 pub struct FileList {
     /// The name of the first file.
@@ -29,36 +29,36 @@ pub struct FileList {
     pub rest: Vec<OwnedText>,
 }
 
-/// How `fmt` gives its result.
+/// The task of `fmt`.
 #[derive(Drop)]
 pub enum Fmt {
-    /// It prints the formatted text.
+    /// Prints the formatted text.
     Print(Input),
-    /// It reports which inputs are not in the house style (`--check`).
+    /// Reports the inputs that are not in the house style (`--check`).
     Check(InputList),
-    /// It prints how the formatted text differs from the input (`--diff`).
+    /// Prints how the formatted text differs from the input (`--diff`).
     Diff(Input),
-    /// It writes the formatted text to the file that it read (`--write`).
+    /// Writes the formatted text to the file that was read (`--write`).
     Write(FileList),
 }
 
 /// A command with its inputs.
 #[derive(Drop)]
 pub enum Command {
-    /// Print the events of a stream.
+    /// Prints the events of a stream.
     Events(Input),
-    /// Print the findings of each input.
+    /// Prints the findings of each input.
     Check {
         /// The inputs to check.
         inputs: InputList,
         /// The names of the rules to leave out, in the order of the command line. Each is the name of a rule.
         without: Vec<OwnedText>,
     },
-    /// Format.
+    /// Formats.
     Fmt(Fmt),
 }
 
-/// What the words of a command line ask for.
+/// The request that the words of a command line make.
 #[derive(Drop)]
 pub struct Request {
     /// The name of the settings file.

@@ -1,4 +1,4 @@
-//! From the words of a command line to the request.
+//! Parses the words of a command line into a request.
 ghost use Rattle.std.specs.Prelude.{◌≡◌, codes, map, MatchResult, string_bytes, true, false};
 ghost use Rattle.clap.specs.Words.{found_of, rows_of, subcommand_rows_of};
 ghost use Rattle.yf_command_line.specs.Requests.{AsksFor, IsCommand, IsFmt, IsNoCommand, IsNoFmt, IsNoRequest};
@@ -19,15 +19,14 @@ use crate::words::{is_given, text_given, words_given};
 use clap::ArgMatches;
 use std::alloc::Global;
 
-/// Returns what the words after the program's name ask for. `rules` are the names of all rules. `--explain` may come
-/// before the command too. The commands are:
+/// Parses the words after the program's name into a request. `rules` are the names of all rules. `--explain` may also
+/// come before the command. The commands are:
 ///
 /// - `events [--config FILE] [--explain] [FILE]`
-/// - `check [--config FILE] [--explain] [--without RULES] [FILE..]`. RULES are names of rules with commas between. The
+/// - `check [--config FILE] [--explain] [--without RULES] [FILE..]`. RULES are names of rules, separated by commas. The
 ///   option may be given more than once.
-/// - `fmt [--config FILE] [--explain] [--write] [--check] [--diff] [FILE..]`. With `--write` there must be a FILE, and
-///   no FILE may be `-`. It goes with neither `--check` nor `--diff`. Several FILEs need `--write`, or `--check`
-///   without `--diff`.
+/// - `fmt [--config FILE] [--explain] [--write] [--check] [--diff] [FILE..]`. `--write` needs a FILE, and no FILE may
+///   be `-`. It excludes `--check` and `--diff`. Several FILEs need `--write`, or `--check` without `--diff`.
 ///
 /// A FILE `-` is standard input. Without a FILE a command reads standard input.
 ///
@@ -35,7 +34,7 @@ use std::alloc::Global;
 ///
 /// - `Usage::Help` for `--help`, `help` and `--version`.
 /// - `Usage::Wrong` for all other words, with a text that says why.
-/// - `Usage::Memory` if memory is refused, whatever the words are.
+/// - `Usage::Memory` if memory is refused, for any words.
 pub fn parse_line(alloc: Global, words: &[String], rules: &[&str]) -> Result<Request, Usage>
     ensures { MatchResult result
         (AsksFor (map (λ r. r.now) rules.now) (map string_bytes words.now))
@@ -48,7 +47,7 @@ pub fn parse_line(alloc: Global, words: &[String], rules: &[&str]) -> Result<Req
     }
 }
 
-// What the words ask for that the library accepted.
+// Returns the request that the accepted words make.
 fn request_met(alloc: Global, matches: &ArgMatches<'_>, rules: &[&str]) -> Result<Request, Usage>
     ensures { MatchResult result
         (IsRequest (map (λ r. r.now) rules.now) (rows_of (found_of matches.now))
@@ -72,7 +71,7 @@ fn request_met(alloc: Global, matches: &ArgMatches<'_>, rules: &[&str]) -> Resul
     })
 }
 
-// The command of this name, with what it is given.
+// Returns the command with this name and these matches.
 fn command_met(
     alloc: Global,
     name: &str,
@@ -98,7 +97,7 @@ fn command_met(
     Err(refusal(alloc, NO_COMMAND))
 }
 
-// `check`, with what it is given.
+// Returns `check` with these matches.
 fn check_met(alloc: Global, given: &ArgMatches<'_>, rules: &[&str]) -> Result<Command, Usage>
     ensures { MatchResult result
         (IsCommand (map (λ r. r.now) rules.now) (codes "check") (rows_of (found_of given.now)))
@@ -112,7 +111,7 @@ fn check_met(alloc: Global, given: &ArgMatches<'_>, rules: &[&str]) -> Result<Co
     Ok(Command::Check { inputs, without })
 }
 
-// `fmt`, with what it is given.
+// Returns `fmt` with these matches.
 fn fmt_met(alloc: Global, given: &ArgMatches<'_>) -> Result<Fmt, Usage>
     ensures { MatchResult result (IsFmt (rows_of (found_of given.now)))
         (RefusedBy (IsNoFmt (rows_of (found_of given.now)))) }
@@ -136,7 +135,7 @@ fn fmt_met(alloc: Global, given: &ArgMatches<'_>) -> Result<Fmt, Usage>
     Ok(Fmt::Print(first_input(alloc, files)?))
 }
 
-// `fmt --write`, with what it is given.
+// Returns `fmt --write` with these matches.
 fn write_met(alloc: Global, given: &ArgMatches<'_>) -> Result<Fmt, Usage>
     requires { writes (rows_of (found_of given.now)) ≡ true }
     ensures { MatchResult result (IsFmt (rows_of (found_of given.now)))

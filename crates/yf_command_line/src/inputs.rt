@@ -8,7 +8,7 @@ use crate::command::{FileList, Input, InputList};
 use std::alloc::{AllocError, Global};
 use yf_lines::text::OwnedText;
 
-// The first input. Without a FILE it is standard input.
+// Returns the first input. Without a FILE it is standard input.
 pub(crate) fn first_input(alloc: Global, files: &[&str]) -> Result<Input, AllocError>
     ensures { IfOk result (λ input. input ≡ first_input (map (λ f. f.now) files.now)) }
 {
@@ -18,7 +18,7 @@ pub(crate) fn first_input(alloc: Global, files: &[&str]) -> Result<Input, AllocE
     }
 }
 
-// The inputs, in the order of the FILEs. Without a FILE, standard input is the only one.
+// Returns the inputs, in the order of the FILEs. Without a FILE, standard input is the only one.
 pub(crate) fn inputs_of(alloc: Global, files: &[&str]) -> Result<InputList, AllocError>
     ensures { IfOk result (λ inputs. all_inputs inputs ≡ inputs_of (map (λ f. f.now) files.now)) }
 {
@@ -35,7 +35,7 @@ pub(crate) fn inputs_of(alloc: Global, files: &[&str]) -> Result<InputList, Allo
     }
 }
 
-// The input that each FILE names, in order.
+// Returns the inputs that the FILEs name, in order.
 fn further_inputs(alloc: Global, files: &[&str]) -> Result<Vec<Input>, AllocError>
     ensures { IfOk result (λ inputs. inputs.items ≡ map input_of (map (λ f. f.now) files.now)) }
 {
@@ -46,7 +46,7 @@ fn further_inputs(alloc: Global, files: &[&str]) -> Result<Vec<Input>, AllocErro
     Ok(inputs)
 }
 
-// The input that a FILE names.
+// Returns the input that a FILE names.
 fn input_of(alloc: Global, file: &str) -> Result<Input, AllocError>
     ensures { IfOk result (λ input. input ≡ input_of file.now) }
 {
@@ -56,7 +56,7 @@ fn input_of(alloc: Global, file: &str) -> Result<Input, AllocError>
     Ok(Input::File(text_of(alloc, file)?))
 }
 
-// The names of the files, in order; nothing without a FILE.
+// Returns the names of the files, as owned texts, in order.
 pub(crate) fn files_of(alloc: Global, first: &str, rest: &[&str]) -> Result<FileList, AllocError>
     ensures { IfOk result (λ list. all_files list ≡ first.now ∷ map (λ f. f.now) rest.now) }
 {
@@ -65,7 +65,7 @@ pub(crate) fn files_of(alloc: Global, first: &str, rest: &[&str]) -> Result<File
     Ok(FileList { first, rest })
 }
 
-// The names, as texts of their own, in order.
+// Returns the names as owned texts, in order.
 fn further_files(alloc: Global, files: &[&str]) -> Result<Vec<OwnedText>, AllocError>
     ensures { IfOk result (λ texts. texts.items ≡ map (λ f. f.now) files.now) }
 {
@@ -82,7 +82,7 @@ fn text_of(alloc: Global, word: &str) -> Result<OwnedText, AllocError>
     Ok(OwnedText::new(String::from_str(alloc, word)?))
 }
 
-// Whether one of the FILEs is standard input.
+// Returns whether one of the FILEs is standard input.
 pub(crate) fn has_standard_input(files: &[&str]) -> bool
     ensures { result ≡ list_any is_standard_input (map (λ f. f.now) files.now) }
 {
@@ -94,7 +94,7 @@ pub(crate) fn has_standard_input(files: &[&str]) -> bool
     false
 }
 
-// Whether a FILE is standard input.
+// Returns whether a FILE is standard input.
 fn is_standard_input(file: &str) -> bool
     ensures { result ≡ is_standard_input file.now }
 {

@@ -1,5 +1,5 @@
-//! The command line: what its words ask for, or why they are refused. It reads no file and knows no rule: the caller
-//! passes the names of the rules.
+//! The command line: the request that its words make, or why they are refused. The crate reads no file and knows no
+//! rule: the caller passes the names of the rules.
 #![tactic(auto)]
 
 pub mod build;

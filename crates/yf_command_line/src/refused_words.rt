@@ -1,6 +1,6 @@
-//! The texts that refuse command lines which the library accepts.
+//! The messages for command lines that the library accepts and this crate refuses.
 
-/// The refusal of words that name no command.
+/// The message for words that name no command.
 pub(crate) const NO_COMMAND: &str = "error: a command is missing
 
 Usage: yamlfmt [OPTIONS] <COMMAND>
@@ -8,7 +8,7 @@ Usage: yamlfmt [OPTIONS] <COMMAND>
 For more information, try '--help'.
 ";
 
-/// The refusal of `--write` without a file.
+/// The message for `--write` without a file.
 pub(crate) const NO_FILE: &str = "error: the argument '--write' needs a FILE
 
 Usage: yamlfmt fmt [OPTIONS] [FILE]...
@@ -16,7 +16,7 @@ Usage: yamlfmt fmt [OPTIONS] [FILE]...
 For more information, try '--help'.
 ";
 
-/// The refusal of `--write` with `-` for a file.
+/// The message for `--write` with `-` as a file.
 pub(crate) const NO_STANDARD_INPUT: &str =
     "error: the argument '--write' cannot be used with '-', which is standard input
 
@@ -25,7 +25,7 @@ Usage: yamlfmt fmt [OPTIONS] [FILE]...
 For more information, try '--help'.
 ";
 
-/// The refusal of `--write` with `--check`.
+/// The message for `--write` with `--check`.
 pub(crate) const NOTHING_WRITTEN: &str =
     "error: the argument '--write' cannot be used with '--check'
 
@@ -34,7 +34,7 @@ Usage: yamlfmt fmt [OPTIONS] [FILE]...
 For more information, try '--help'.
 ";
 
-/// The refusal of `--write` with `--diff`.
+/// The message for `--write` with `--diff`.
 pub(crate) const NOT_SHOWN: &str = "error: the argument '--write' cannot be used with '--diff'
 
 Usage: yamlfmt fmt [OPTIONS] [FILE]...
@@ -42,7 +42,7 @@ Usage: yamlfmt fmt [OPTIONS] [FILE]...
 For more information, try '--help'.
 ";
 
-/// The refusal of several files without `--write` and without `--check`.
+/// The message for several files without `--write` and without `--check`.
 pub(crate) const SEVERAL_FILES: &str = "error: several FILEs need '--write' or '--check'
 
 Usage: yamlfmt fmt [OPTIONS] [FILE]...
@@ -50,7 +50,7 @@ Usage: yamlfmt fmt [OPTIONS] [FILE]...
 For more information, try '--help'.
 ";
 
-/// The refusal of several files with `--diff`.
+/// The message for several files with `--diff`.
 pub(crate) const SEVERAL_DIFFS: &str = "error: the argument '--diff' takes one FILE
 
 Usage: yamlfmt fmt [OPTIONS] [FILE]...

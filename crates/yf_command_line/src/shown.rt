@@ -1,4 +1,5 @@
-//! How a message shows a text from elsewhere: each control character by its number, so that none reaches a terminal.
+//! How a message shows a text from elsewhere: each control character by its number, so that no control character
+//! reaches a terminal.
 ghost use Rattle.std.specs.Prelude.{◌≡◌, ◌<◌};
 ghost use Rattle.yf_lines.specs.Output.{TextWritten};
 ghost use Rattle.yf_command_line.specs.Shown.{shown, shown_byte, shown_digit, shown_number};
@@ -45,7 +46,7 @@ pub fn shown_text(alloc: Global, text: &str) -> Result<String, AllocError> {
     Ok(shown)
 }
 
-// Writes what is shown for a byte, given the byte before it.
+// Writes the bytes that show a byte, given the byte before it.
 fn write_byte<W: Sink>(writer: &mut W, before: u8, byte: u8) -> Result<(), Fault>
     ensures { TextWritten (W.contents writer.old) (W.contents writer.new)
         (W.has_failed writer.old) (W.has_failed writer.new) (shown_byte before byte) result }
@@ -84,7 +85,7 @@ fn write_number<W: Sink>(writer: &mut W, number: u8) -> Result<(), Fault>
     )
 }
 
-// A hexadecimal digit in upper case.
+// Returns a hexadecimal digit in upper case.
 fn shown_digit(digit: u8) -> u8
     requires { digit < 16 }
     ensures { result ≡ shown_digit digit }

@@ -1,4 +1,4 @@
-//! Why the words of a command line ask for nothing, and the text that says so.
+//! Why the words of a command line make no request, and the text that says so.
 ghost use Rattle.std.specs.Prelude.{◌≡◌, ⊤};
 ghost use Rattle.clap.specs.Words.{kind_of};
 ghost use Rattle.yf_command_line.specs.Requests.{IsUsageOf, RefusedBy};
@@ -11,12 +11,12 @@ use clap::error::ErrorKind;
 use std::alloc::{AllocError, Global};
 use yf_lines::text::OwnedText;
 
-/// Why the words of a command line ask for nothing.
+/// Why the words of a command line make no request.
 #[derive(Drop)]
 pub enum Usage {
-    /// Help or the version is asked for. This is its text, for standard output.
+    /// The words ask for help or for the version. This is the text, for standard output.
     Help(OwnedText),
-    /// The program does not take the words. The text says why, for standard error.
+    /// The program does not accept the words. The text says why, for standard error.
     Wrong(OwnedText),
     /// Memory was refused.
     Memory,
@@ -32,7 +32,7 @@ impl From<AllocError> for Usage {
     }
 }
 
-// What becomes of the library's refusal of the words.
+// Returns the result for a refusal by the library.
 pub(crate) fn usage_of(alloc: Global, words: &[String], error: &Error) -> Usage
     ensures { IsUsageOf (kind_of error.now) result }
 {
@@ -53,7 +53,7 @@ pub(crate) fn usage_of(alloc: Global, words: &[String], error: &Error) -> Usage
     }
 }
 
-// The refusal with this text.
+// Returns the refusal with this text.
 pub(crate) fn refusal(alloc: Global, text: &str) -> Usage
     ensures { RefusedBy ⊤ result }
 {
@@ -67,14 +67,15 @@ fn text_of(alloc: Global, error: &Error) -> Result<OwnedText, AllocError> {
     Ok(OwnedText::new(format!(in alloc; "{error}")?))
 }
 
-// The name and the version, and on lines of their own what the program was built from.
+// Returns the name and the version, and after them lines about the build.
 fn version_text(alloc: Global, error: &Error) -> Result<OwnedText, AllocError> {
     let lines = build_lines(alloc)?;
     Ok(OwnedText::new(format!(in alloc; "{error}{lines}")?))
 }
 
-// Why the words are refused. The library leaves their control characters out of its text. So this is its refusal of the
-// words that show these characters by their numbers, which it refuses as well.
+// Returns why the words are refused. The library leaves control characters of the words out of its text. So this
+// function replaces the control characters in the words by their numbers, and returns the library's refusal of these
+// words, which it refuses as well.
 fn refusal_text(alloc: Global, words: &[String], error: &Error) -> Result<OwnedText, AllocError> {
     let shown = shown_words(alloc, words)?;
     match yamlfmt_command(alloc)?.try_get_matches_from(shown.as_slice()) {
@@ -83,13 +84,13 @@ fn refusal_text(alloc: Global, words: &[String], error: &Error) -> Result<OwnedT
     }
 }
 
-// The text of an error, which shows the control characters in it.
+// Returns the text of an error, with control characters shown by their numbers.
 fn shown_text_of(alloc: Global, error: &Error) -> Result<OwnedText, AllocError> {
     let text = text_of(alloc, error)?;
     Ok(OwnedText::new(shown_text(alloc, text.as_str())?))
 }
 
-// The text of an error, unless the error is that memory was refused.
+// Returns the text of an error, or fails if the error is that memory was refused.
 fn text_of_refusal(alloc: Global, error: &Error) -> Result<OwnedText, AllocError> {
     match error.kind() {
         ErrorKind::OutOfMemory => Err(AllocError),

@@ -1,4 +1,4 @@
-//! The rules to leave out of a check: the names that the words of a command line give, with commas between.
+//! The rules to leave out of a check: the names that the words of a command line give, separated by commas.
 ghost use Rattle.std.specs.Prelude.{◌≡◌, ◌++◌, ⊤, true, false, map, IfOk, MatchOption};
 ghost use Rattle.yf_command_line.specs.Requests.{RefusedBy};
 ghost use Rattle.yf_command_line.specs.Without.{are_rules, between_commas, is_rule, names_in};
@@ -8,7 +8,7 @@ use crate::usage::Usage;
 use std::alloc::{AllocError, Global};
 use yf_lines::text::OwnedText;
 
-// The names in some words, word by word.
+// Returns the names in some words, word by word.
 pub(crate) fn names_in(alloc: Global, words: &[&str]) -> Result<Vec<OwnedText>, AllocError>
     ensures { IfOk result (λ names. names.items ≡ names_in (map (λ w. w.now) words.now)) }
 {
@@ -30,14 +30,14 @@ fn add_names(alloc: Global, names: &mut Vec<OwnedText>, word: &str) -> Result<()
     Ok(())
 }
 
-// The texts between the commas of a word.
+// Returns the texts between the commas of a word.
 fn between_commas<'a>(alloc: Global, word: &'a str) -> Result<Vec<&'a str>, AllocError>
     ensures { IfOk result (λ parts. map (λ part. part.now) parts.items ≡ between_commas word.now) }
 {
     word.split(',').collect(alloc)
 }
 
-// The first of the names that no rule has.
+// Returns the first of the names that no rule has.
 pub(crate) fn unknown_name<'n>(names: &'n [OwnedText], rules: &[&str]) -> Option<&'n str>
     ensures { MatchOption result (are_rules (map (λ r. r.now) rules.now) names.now ≡ true)
         (λ _. are_rules (map (λ r. r.now) rules.now) names.now ≡ false) }
@@ -50,7 +50,7 @@ pub(crate) fn unknown_name<'n>(names: &'n [OwnedText], rules: &[&str]) -> Option
     None
 }
 
-// Whether a rule has this name.
+// Returns whether a rule has this name.
 fn is_rule(rules: &[&str], name: &str) -> bool
     ensures { result ≡ is_rule (map (λ r. r.now) rules.now) name.now }
 {
@@ -62,7 +62,7 @@ fn is_rule(rules: &[&str], name: &str) -> bool
     false
 }
 
-// The refusal of a name that no rule has.
+// Returns the refusal of a name that no rule has.
 pub(crate) fn refusal_of_name(alloc: Global, name: &str, rules: &[&str]) -> Usage
     ensures { RefusedBy ⊤ result }
 {
@@ -72,7 +72,7 @@ pub(crate) fn refusal_of_name(alloc: Global, name: &str, rules: &[&str]) -> Usag
     }
 }
 
-// Why a name is refused that no rule has, with the names of all rules.
+// Returns the message about a name that no rule has. It lists the names of all rules.
 fn unknown_text(alloc: Global, name: &str, rules: &[&str]) -> Result<OwnedText, AllocError> {
     let name = shown_text(alloc, name)?;
     let rules = rules.join(alloc, ", ")?;

@@ -1,4 +1,4 @@
-//! What the library for command lines found for an option or a FILE.
+//! The values that the library for command lines found for an option or a FILE.
 ghost use Rattle.std.specs.Prelude.{◌≡◌, map, IfOk};
 ghost use Rattle.clap.specs.Words.{first_of, found_of, rows_of};
 ghost use Rattle.yf_command_line.specs.Requests.{all_given, is_flag};
@@ -7,7 +7,7 @@ use clap::ArgMatches;
 use std::alloc::{AllocError, Global};
 use yf_lines::text::OwnedText;
 
-// Whether a flag is given.
+// Returns whether a flag is given.
 pub(crate) fn is_given(given: &ArgMatches<'_>, id: &str) -> bool
     ensures { result ≡ is_flag id.now (rows_of (found_of given.now)) }
 {
@@ -17,7 +17,7 @@ pub(crate) fn is_given(given: &ArgMatches<'_>, id: &str) -> bool
     }
 }
 
-// The value of an option, as a text of its own.
+// Returns the value of an option as an owned text.
 pub(crate) fn text_given(
     alloc: Global,
     given: &ArgMatches<'_>,
@@ -31,7 +31,7 @@ pub(crate) fn text_given(
     }
 }
 
-// All values of an option or of FILE, in order.
+// Returns all values of an option or of FILE, in order.
 pub(crate) fn words_given<'m, 'a>(given: &'m ArgMatches<'a>, id: &str) -> &'m [&'a str]
     ensures { map (λ w. w.now) result.now ≡ all_given id.now (rows_of (found_of given.now)) }
 {

@@ -1,5 +1,5 @@
--- `rewrite`: what was read before, and the names of the two files
+-- `rewrite`: the bytes that were read, and the names of the two files
 pub mod RewriteLemmas
--- `MemoryFiles`: its logs, and each of its calls
+-- `MemoryFiles`: its logs and its calls
 pub mod LogLemmas
 pub mod MemoryLemmas

@@ -1,4 +1,4 @@
--- The two logs of a file system in memory: their fronts, and what may be found at the moments before.
+-- The two logs of a file system in memory: their prefixes, and what may be found at earlier moments.
 use Rattle.std.proofs.Common.{◌≡◌, ◌≢◌, ◌⊎◌, inl, inr, ⊎_elim, ℕ, zero, suc, ◌+◌, ◌≤◌, ◌==◌, true, false, List, [], ◌∷◌, ◌++◌, length, take, Option, Some, None, refl, sym, ◌∙◌, ap, subst, arith, length-append}
 use Rattle.std.specs.Prelude.{if◌then◌else◌, string_bytes, slice_get}
 use Rattle.std.specs.Str.{bytes_eq}
@@ -16,7 +16,7 @@ use Rattle.yf_files.specs.declared.logs.FileContent.{FileContent}
 use Rattle.yf_files.specs.declared.logs.Logs.{Logs}
 use Rattle.yf_files.specs.declared.logs.Moment.{Moment}
 
--- ---- logs and their fronts
+-- ---- logs and their prefixes
 
 pub entry_from-push : (before : Option ℕ) (q : Name) (xs : List Change) (c : Change) → entry_from before q (xs ++ c ∷ []) ≡ changed c q (entry_from before q xs)
 entry_from-push before q [] c = refl
@@ -27,7 +27,7 @@ text_from-push : (before : List ℕ) (i : ℕ) (xs : List FileContent) (c : File
 text_from-push before i [] c = refl
 text_from-push before i (x ∷ xs) c = text_from-push (if x.inode == i then x.bytes.items else before) i xs c
 
--- a front of a log with one thing more is a front of the log, or all of it
+-- a prefix of a log with one more item is a prefix of the log, or the whole new log
 fronts : {A : Type 0} (xs : List A) (x : A) (k : ℕ) → k ≤ length (xs ++ x ∷ []) → (k ≤ length xs) ⊎ (k ≡ length (xs ++ x ∷ []))
 fronts xs x k le = ⊎_elim (λ all. inr all) (λ less. inl (omega (arith, less, length-append xs (x ∷ [])))) (eq-or-lt_of_le le)
 
@@ -37,7 +37,7 @@ is_same q = grind (arith, bytes_eq-Decides q q)
 is_other : (q n : Name) → n ≢ q → bytes_eq n q ≡ false
 is_other q n other = grind (arith, bytes_eq-Decides n q)
 
--- what a change does to a name
+-- the inode that a change leaves at a name
 pub changed_name : (c : Change) (q : Name) (o : Option ℕ) → string_bytes c.name ≡ q → changed c q o ≡ c.inode
 changed_name c q o is = cond-true (bytes_eq (string_bytes c.name) q) _ _ (subst (λ (n : Name). bytes_eq n q ≡ true) (sym is) (is_same q))
 
@@ -49,7 +49,7 @@ pub changed_other : (c : Change) (q : Name) (o : Option ℕ) → string_bytes c.
 changed_other c q o a b = cond-false (bytes_eq (string_bytes c.name) q) _ _ (is_other q (string_bytes c.name) a)
     ∙ cond-false (bytes_eq (string_bytes c.freed) q) _ _ (is_other q (string_bytes c.freed) b)
 
--- ---- the moments before
+-- ---- earlier moments
 
 pub slice_get-push : {A : Type 0} (xs : List A) (y : A) (j : ℕ) (m : A) → slice_get (xs ++ y ∷ []) j ≡ Some m → (slice_get xs j ≡ Some m) ⊎ ((j ≡ length xs) × (m ≡ y))
 slice_get-push [] y zero m is = inr (refl, sym (same_Some y m is))
@@ -66,13 +66,13 @@ slice_get-last : {A : Type 0} (xs : List A) (y : A) → slice_get (xs ++ y ∷ [
 slice_get-last [] y = refl
 slice_get-last (x ∷ xs) y = slice_get-last xs y
 
--- what is found by one relation is found by another
+-- if the first relation implies the second one, a node found by the first is found by the second
 pub carried : (a b : ℕ → Node → Type 0) (o : Option ℕ) (x : Option Node) → ((i : ℕ) (n : Node) → a i n → b i n) → IsAt a o x → IsAt b o x
 carried a b None x each is = is
 carried a b (Some i) None each is = absurd is
 carried a b (Some i) (Some n) each is = each i n is
 
--- what may be found at a moment is told by fronts that are no longer than the logs were then
+-- what may be found at a moment depends only on prefixes that are no longer than the logs were at that moment
 pub found : (ch dh : List Change) (co eo : List FileContent) (m : Moment) → ((k : ℕ) → k ≤ m.changes → take k ch ≡ take k dh) → ((k : ℕ) → k ≤ m.contents → take k co ≡ take k eo)
     → (q : Name) (x : Option Node) → FoundAt ch co m q x → FoundAt dh eo m q x
 found ch dh co eo m a b q x (o, stood, has) =
@@ -131,7 +131,7 @@ time_by old new well grown moments next failures uncounted = record {
         at_last : (n : Moment) → n ≡ now_of old → (p : Name) (y : Option Node) → FoundAt new.changes.items new.contents.items n p y → FoundAt old.changes.items old.contents.items (now_of old) p y
         at_last n last p y h = back (now_of old) (omega arith) (omega arith) p y (subst (λ (v : Moment). FoundAt new.changes.items new.contents.items v p y) last h)
 
--- ---- what has grown
+-- ---- logs that have grown
 
 pub grown_same : (old new : Logs) → new.changes.items ≡ old.changes.items → new.contents.items ≡ old.contents.items → Grown old new
 grown_same old new a b = record { changes = λ k le. ap (take k) a; contents = λ k le. ap (take k) b }
@@ -142,7 +142,7 @@ grown_change old new c a b = record { changes = λ k le. ap (take k) a ∙ take-
 pub grown_content : (old new : Logs) (c : FileContent) → new.changes.items ≡ old.changes.items → new.contents.items ≡ old.contents.items ++ c ∷ [] → Grown old new
 grown_content old new c a b = record { changes = λ k le. ap (take k) a; contents = λ k le. ap (take k) b ∙ take-append-le k old.contents.items (c ∷ []) le }
 
--- ---- what is and what files hold after one thing more
+-- ---- names and contents after one more item
 
 differs : (i j : ℕ) → i ≢ j → (j == i) ≡ false
 differs i j other = grind (arith, nat_tests)

@@ -1,4 +1,4 @@
--- Each call of a file system in memory does what its relation says.
+-- Each call of a file system in memory does what its relation states.
 use Rattle.std.proofs.Common.{◌≡◌, ◌≢◌, ◌⊎◌, inl, inr, ⊎_elim, ℕ, ◌+◌, ◌<◌, ◌≤◌, Bool, true, false, List, [], ◌∷◌, ◌++◌, length, take, Option, Some, None, refl, sym, ◌∙◌, ap, subst, arith, length-append}
 use Rattle.std.specs.Prelude.{if◌then◌else◌, string_bytes, slice_get, is_some, Result, Ok, Err, OnOk, OnErr}
 use Rattle.std.specs.Str.{bytes_eq}
@@ -40,7 +40,7 @@ stays_failing old mid new p f = stays_by old new (f.changes ∙ p.changes) (f.co
 pub time_passes : (old new : Logs) → IsWell old → MomentPasses old new → TimePasses (state_of old) (state_of new)
 time_passes old new well p = time_by old new well (grown_same old new p.changes p.contents) p.moments (omega (arith, p.next)) (omega (arith, p.failures)) (omega (arith, p.failures, p.uncounted))
 
--- a call fails in the moment in which it began
+-- a call fails at the moment at which it began
 pub time_fails : (old new : Logs) → CallFails old new → TimePasses (state_of old) (state_of new)
 time_fails old new f = record {
   later = omega (arith, ap length f.moments);
@@ -70,7 +70,7 @@ pub time_failing : (old mid new : Logs) → IsWell old → MomentPasses old mid 
 time_failing old mid new well p f = time_by old new well (grown_same old new (f.changes ∙ p.changes) (f.contents ∙ p.contents)) (f.moments ∙ p.moments)
     (omega (arith, p.next, f.next)) (omega (arith, p.failures, f.failures)) (omega (arith, p.failures, p.uncounted, f.uncounted))
 
--- ---- the logs stay well
+-- ---- the logs stay consistent
 
 well_by : (old new : Logs) → IsWell old → Grown old new → length old.changes.items ≤ length new.changes.items → length old.contents.items ≤ length new.contents.items
     → new.stored_changes ≤ length new.changes.items → new.stored_contents ≤ length new.contents.items
@@ -109,7 +109,7 @@ well_gives old new i text well p =
     (omega (arith, ap length p.changes, p.stored_changes, well.changes)) (omega (arith, more, p.stored_contents, well.contents))
     (same_moments old new p.moments) (same_used old new well p.changes (omega (arith, p.next)))
 
--- ---- a name is given or taken away
+-- ---- a name is assigned or removed
 
 pushed_length : (old new : Logs) (c : Change) → new.changes.items ≡ old.changes.items ++ c ∷ [] → length new.changes.items ≡ length old.changes.items + 1
 pushed_length old new c more = ap length more ∙ length-append old.changes.items (c ∷ [])
@@ -153,7 +153,7 @@ well_makes old new n well p =
     (same_moments old new p.moments)
     (used_pushed old new p.change well p.changes (omega (arith, p.next)) (λ i is. omega (arith, p.next, same_Some old.next i (sym p.inode_is ∙ is))))
 
--- what was at a name has an inode that was used
+-- the inode at a name is a used inode
 pub entry_used : (l : Logs) (q : Name) (i : ℕ) → IsWell l → entry_of l.changes.items q ≡ Some i → i < l.next
 entry_used l q i well is = well.used (length l.changes.items) q i (ap (λ c. entry_of c q) (take-length l.changes.items) ∙ is)
 
@@ -165,11 +165,11 @@ pub time_makes : (old mid new : Logs) (n : Name) → IsWell old → MomentPasses
 time_makes old mid new n well p c = time_by old new well (grown_change old new c.change (c.changes ∙ ap (λ l. l ++ c.change ∷ []) p.changes) (c.contents ∙ p.contents))
     (c.moments ∙ p.moments) (omega (arith, p.next, c.next)) (omega (arith, p.failures, c.failures)) (omega (arith, p.failures, p.uncounted, c.failures, c.uncounted))
 
--- what a change leaves at each name
+-- the inode at each name after a change
 entry_after : (old new : Logs) (c : Change) → new.changes.items ≡ old.changes.items ++ c ∷ [] → (q : Name) → entry_of new.changes.items q ≡ changed c q (entry_of old.changes.items q)
 entry_after old new c more q = ap (λ l. entry_of l q) more ∙ entry_from-push None q old.changes.items c
 
--- where a change leaves a name as it is, nothing else may be there
+-- if a change leaves a name as it is, nothing else may be found there
 is_at_other : (old new : Logs) (c : Change) → IsWell old → new.changes.items ≡ old.changes.items ++ c ∷ [] → new.stored_changes ≡ old.stored_changes → (q : Name) (o : Option ℕ)
     → changed c q (entry_of old.changes.items q) ≡ entry_of old.changes.items q → (state_of new).is_there q o → (state_of old).is_there q o
 is_at_other old new c well more stored q o same h = ⊎_elim (λ before. before)
@@ -301,7 +301,7 @@ module _ (old mid half : Logs) (i : ℕ) (text : List ℕ) (well : IsWell old) (
         made = s.made ∙ w.made;
       }
 
-  -- and succeeds
+  -- the second step succeeds
   module _ (new : Logs) (whole : List ℕ) (w : ContentAdded half new i whole) where
     pub time_written : TimePasses (state_of old) (state_of new)
     time_written = time_by old new well
@@ -319,13 +319,13 @@ module _ (old mid half : Logs) (i : ℕ) (text : List ℕ) (well : IsWell old) (
     holds_whole is = ap (λ j. regular (text_of new.contents.items j)) (sym is ∙ sym w.inode_is)
         ∙ ap (λ l. regular (text_of l w.content.inode)) w.contents ∙ ap regular (text_given half w.content ∙ w.has)
 
--- what was stored is all that may be found
+-- after a store, only what was stored may be found
 pub time_stores : (old mid new : Logs) → IsWell old → MomentPasses old mid → new.changes.items ≡ mid.changes.items → new.contents.items ≡ mid.contents.items → new.moments.items ≡ mid.moments.items
     → new.next ≡ mid.next → new.failures ≡ mid.failures → new.uncounted ≡ mid.uncounted → TimePasses (state_of old) (state_of new)
 time_stores old mid new well p a b moments next failures uncounted = time_by old new well (grown_same old new (a ∙ p.changes) (b ∙ p.contents)) (moments ∙ p.moments) (omega (arith, next, p.next))
     (omega (arith, p.failures, failures)) (omega (arith, p.failures, p.uncounted, failures, uncounted))
 
--- one of two facts holds, by what a call answered
+-- one of two facts holds, depending on the result of a call
 pub either : {T E : Type 0} {W P Q : Type 0} (r : Result T E) → OnOk r P → OnErr r Q → (P → W) → (Q → W) → W
 either (Ok x) p q a b = a p
 either (Err x) p q a b = b q

@@ -1,4 +1,4 @@
--- What was read before a file is replaced, and the names of the two files.
+-- The bytes that were read before a file is replaced, and the names of the two files.
 use Rattle.std.proofs.Common.{◌≡◌, ◌≢◌, ◌⊎◌, inl, inr, ⊎_elim, ℕ, ◌≤◌, ◌==◌, Bool, true, false, List, [], ◌∷◌, ◌++◌, Option, Some, None, refl, sym, ◌∙◌, ap, subst, arith}
 use Rattle.std.specs.Prelude.{if◌then◌else◌, codes, option_map}
 use Rattle.std.specs.Str.{bytes_eq}
@@ -9,7 +9,7 @@ use Rattle.yf_files.specs.Rewritten.{HeldAlready, IsFormatting, IsUntouched, Rew
 use Rattle.yf_files.specs.Tree.{TimePasses, MayBeFound, IsAt, IsSound, Name, Node, FilesState, at, folder_of, has_slash, regular}
 use Rattle.yf_files.proofs.LogLemmas.{carried}
 
--- what stays is at its names
+-- if the file system stays as it was, each name has the node that it had
 at_stays : (s t : FilesState) → Stays s t → (q : Name) → at t q ≡ at s q
 at_stays s t c q = ap (option_map t.node) (c.entry q) ∙ each (s.entry q)
   where
@@ -17,11 +17,11 @@ at_stays s t c q = ap (option_map t.node) (c.entry q) ∙ each (s.entry q)
     each None = refl
     each (Some i) = ap Some (c.node i)
 
--- two texts of which a test says that they are not equal
+-- two texts that a test found unequal
 pub differs : (a b : List ℕ) (r : Bool) → r ≡ false → r ≡ bytes_eq a b → a ≢ b
 differs a b r fails test same = grind (arith, bytes_eq-Decides a b)
 
--- what was only read is untouched
+-- files that were only read are untouched
 pub untouched : (old new : FilesState) → IsSound old → Stays old new → TimePasses old new → IsUntouched old new
 untouched old new sound c time = record {
   stays = c;
@@ -40,7 +40,8 @@ held_already old new file text sound c time is = record {
 }
 
 -- The file was read, and its text is replaced by the formatting of what was read.
--- (b, t: what was formatted and what was read; u, w: what was put in its place and what the formatter gave; n: the new name)
+-- (b: the bytes that were formatted; t: the bytes that were read; u: the new text of the file; w: the formatter's
+-- result; n: the new name)
 module _ (Formats : List ℕ → List ℕ → Type 0) (old s new : FilesState) (file n : Name) (t b u w : List ℕ) (sound : IsSound old) (stays : Stays old s)
     (time : TimePasses old s) (is : at old file ≡ Some (regular t)) (same : b ≡ t) (formats : Formats b w) (put : u ≡ w) (name : n ≡ new_name_of file) where
   formats_read : Formats t u
@@ -77,7 +78,7 @@ module _ (Formats : List ℕ → List ℕ → Type 0) (old s new : FilesState) (
     ),
   )
 
--- an end without a slash changes no folder
+-- a suffix without a slash changes no folder
 has_slash_more : (xs suffix : Name) → has_slash suffix ≡ false → has_slash (xs ++ suffix) ≡ has_slash xs
 has_slash_more [] suffix none = none
 has_slash_more (x ∷ xs) suffix none = ap (λ b. if x == 47 then true else b) (has_slash_more xs suffix none)
@@ -91,6 +92,6 @@ folder_of_more [] suffix none = folder_of_end suffix none
 folder_of_more (x ∷ xs) suffix none = ap (λ b. if b then x ∷ folder_of (xs ++ suffix) else []) (has_slash_more (x ∷ xs) suffix none)
     ∙ ap (λ r. if has_slash (x ∷ xs) then x ∷ r else []) (folder_of_more xs suffix none)
 
--- the new file is beside the file
+-- the new file is in the file's folder
 pub beside : (file : Name) → folder_of (new_name_of file) ≡ folder_of file
 beside file = folder_of_more file (codes ".yamlfmt-new") refl

@@ -1,5 +1,6 @@
--- The state of a file system in memory: a log of the names that were given and taken away, and a log of what files were given to hold. At a stop
--- some front of each log is found, no shorter than what was stored of it.
+-- The state of a file system in memory. It is a log of the names that were assigned and removed, and a log of the
+-- contents that files were given. After a stop, a prefix of each log is found, at least as long as the stored part of
+-- the log.
 use Rattle.std.specs.Prelude.{◌≡◌, ◌⊎◌, ℕ, ◌+◌, ◌<◌, ◌≤◌, ◌==◌, if◌then◌else◌, List, [], ◌∷◌, ◌++◌, length, take, Option, Some, None, string_bytes, slice_get}
 use Rattle.std.specs.Str.{bytes_eq}
 use Rattle.yf_files.specs.Tree.{Name, Node, regular, FilesState, IsAt}
@@ -8,7 +9,7 @@ use Rattle.yf_files.specs.declared.logs.FileContent.{FileContent}
 use Rattle.yf_files.specs.declared.logs.Logs.{Logs}
 use Rattle.yf_files.specs.declared.logs.Moment.{Moment}
 
--- the inode at a name after a change, where that one was there before it
+-- the inode at a name after a change, given the inode that was there before
 abbrev pub changed : Change → Name → Option ℕ → Option ℕ
 changed c q before = if bytes_eq (string_bytes c.name) q then c.inode else (if bytes_eq (string_bytes c.freed) q then None else before)
 
@@ -24,11 +25,11 @@ abbrev pub text_from : List ℕ → ℕ → List FileContent → List ℕ
 text_from before i [] = before
 text_from before i (c ∷ contents) = text_from (if c.inode == i then c.bytes.items else before) i contents
 
--- what an inode holds after all that files were given to hold; at first nothing
+-- the bytes of an inode after all contents that files were given; an inode is empty at first
 abbrev pub text_of : List FileContent → ℕ → List ℕ
 text_of contents i = text_from [] i contents
 
--- a front of a log, no shorter than what was stored of it
+-- a prefix of a log, at least as long as the stored part
 abbrev pub IsFront : ℕ → ℕ → ℕ → Type 0
 IsFront stored all k = (stored ≤ k) × (k ≤ all)
 
@@ -41,7 +42,7 @@ HoldsContent contents m i n = (k : ℕ) × IsFront m.stored_contents m.contents 
 abbrev pub FoundAt : List Change → List FileContent → Moment → Name → Option Node → Type 0
 FoundAt changes contents m q x = (o : Option ℕ) × IsFileAt changes m q o × IsAt (HoldsContent contents m) o x
 
--- now, or at one of the moments before
+-- now, or at an earlier moment
 abbrev pub FoundSince : List Change → List FileContent → List Moment → Moment → ℕ → Name → Option Node → Type 0
 FoundSince changes contents moments now t q x = FoundAt changes contents now q x
     ⊎ ((j : ℕ) × (m : Moment) × (t ≤ j) × (slice_get moments j ≡ Some m) × FoundAt changes contents m q x)
@@ -68,7 +69,8 @@ state_of l = record {
   since = FoundSince l.changes.items l.contents.items l.moments.items (now_of l);
 }
 
--- no more is stored than there is, no moment had more than there is now, and an inode that ever was somewhere is not used again
+-- No log is shorter than its stored part or than it was at an earlier moment. An inode that was ever at a name is not
+-- used again.
 pub record IsWell (l : Logs) : Type 0 where
   pub changes : l.stored_changes ≤ length l.changes.items
   pub contents : l.stored_contents ≤ length l.contents.items
@@ -76,7 +78,7 @@ pub record IsWell (l : Logs) : Type 0 where
   pub past_contents : (j : ℕ) (m : Moment) → slice_get l.moments.items j ≡ Some m → m.contents ≤ length l.contents.items
   pub used : (k : ℕ) (q : Name) (i : ℕ) → entry_of (take k l.changes.items) q ≡ Some i → i < l.next
 
--- a moment has passed, in which nothing happened
+-- a moment has passed, and nothing happened in it
 pub record MomentPasses (old new : Logs) : Type 0 where
   pub changes : new.changes.items ≡ old.changes.items
   pub contents : new.contents.items ≡ old.contents.items
@@ -88,7 +90,7 @@ pub record MomentPasses (old new : Logs) : Type 0 where
   pub failures : new.failures ≡ old.failures
   pub uncounted : new.uncounted ≡ old.uncounted
 
--- nothing has happened, but that a call failed
+-- nothing has happened, except that a call failed
 pub record CallFails (old new : Logs) : Type 0 where
   pub changes : new.changes.items ≡ old.changes.items
   pub contents : new.contents.items ≡ old.contents.items
@@ -101,7 +103,7 @@ pub record CallFails (old new : Logs) : Type 0 where
   pub uncounted : old.failures + old.uncounted ≤ new.failures + new.uncounted
   pub one_more : old.failures < new.failures + new.uncounted
 
--- one change more
+-- one more change
 pub record LogChanged (old new : Logs) (name freed : Name) (inode : Option ℕ) : Type 0 where
   pub change : Change
   pub named : string_bytes change.name ≡ name
@@ -117,7 +119,7 @@ pub record LogChanged (old new : Logs) (name freed : Name) (inode : Option ℕ) 
   pub failures : new.failures ≡ old.failures
   pub uncounted : new.uncounted ≡ old.uncounted
 
--- a name at which nothing was is given to an inode that was not used
+-- a free name gets an unused inode
 pub record InodeMade (old new : Logs) (name : Name) : Type 0 where
   pub was : entry_of old.changes.items name ≡ None
   pub change : Change
@@ -134,7 +136,7 @@ pub record InodeMade (old new : Logs) (name : Name) : Type 0 where
   pub failures : new.failures ≡ old.failures
   pub uncounted : new.uncounted ≡ old.uncounted
 
--- one content more
+-- one more content
 pub record ContentAdded (old new : Logs) (i : ℕ) (text : List ℕ) : Type 0 where
   pub content : FileContent
   pub inode_is : content.inode ≡ i

@@ -1,4 +1,4 @@
--- What is seen in memory may be found at a stop, and nothing else since this moment.
+-- The current state of memory may be found at a stop, and nothing else may be found since this moment.
 use Rattle.std.proofs.Common.{inl, ⊎_elim, ℕ, ◌<◌, ◌≤◌, length, sym, ap, arith}
 use Rattle.std.proofs.lemmas.Option.{slice_get_within}
 use Rattle.std.proofs.Math.Seq.{take-length}

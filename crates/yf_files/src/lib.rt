@@ -1,4 +1,4 @@
-//! Files that are rewritten by a formatter: each holds its old text or its formatting, whole, at any moment.
+//! Files that a formatter rewrites. At any moment each holds its old text or its formatting, whole.
 #![tactic(auto)]
 
 mod file_system;

@@ -1,4 +1,4 @@
-//! What a file system in memory keeps: all that happened to its names and files, in order.
+//! The state of a file system in memory: everything that happened to its names and files, in order.
 ghost use Rattle.std.specs.Prelude.{◌≡◌, ◌≤◌, length, take, IfSome, OnOk, OnErr, Some};
 ghost use Rattle.yf_files.specs.Memory.{LogChanged, CallFails, ContentAdded, IsWell, InodeMade, MomentPasses, changed, entry_of, now_of, state_of, text_of};
 ghost use Rattle.yf_files.specs.Tree.{at, regular};
@@ -6,7 +6,7 @@ ghost use Rattle.yf_files.specs.Tree.{at, regular};
 use crate::file_system::Failed;
 use std::alloc::Global;
 
-/// A name that was given to a file or taken away, and another one that was taken away with it.
+/// A name that was assigned to an inode or removed, and another name that was removed with it.
 #[derive(Drop)]
 pub struct Change {
     pub name: String,
@@ -15,7 +15,7 @@ pub struct Change {
 }
 
 impl Change {
-    /// The inode at a name after the change, where that one was there before.
+    /// Returns the inode at a name after the change, given the inode that was there before.
     fn inode_after(&self, name: &str, before: Option<usize>) -> Option<usize>
         ensures { result ≡ changed self.now name.now before }
     {
@@ -29,14 +29,14 @@ impl Change {
     }
 }
 
-/// What a file was given to hold.
+/// The bytes that a file was given.
 #[derive(Drop)]
 pub struct FileContent {
     pub inode: usize,
     pub bytes: Vec<u8>,
 }
 
-/// How much there was of the two logs at a moment, and how much of it was stored.
+/// The lengths of the two logs at a moment, and of their stored parts.
 #[derive(Clone, Copy, Drop)]
 pub struct Moment {
     pub changes: usize,
@@ -45,7 +45,7 @@ pub struct Moment {
     pub stored_contents: usize,
 }
 
-/// The two logs, the moments before this one, and what is told of now.
+/// The two logs, the earlier moments, and the current state.
 #[derive(Drop)]
 pub struct Logs {
     pub changes: Vec<Change>,
@@ -53,18 +53,18 @@ pub struct Logs {
     pub moments: Vec<Moment>,
     pub stored_changes: usize,
     pub stored_contents: usize,
-    /// The next inode: those below it have was somewhere.
+    /// The next inode. Only those below it were ever at a name.
     pub next: usize,
     /// The inode of the file that was made last.
     pub made: usize,
-    /// How many calls are counted that have failed.
+    /// The number of failed calls that are counted.
     pub failures: usize,
-    /// At least 1 if more calls have failed than `failures` can count, else 0.
+    /// At least 1 if more calls have failed than `failures` can count, otherwise 0.
     pub uncounted: usize,
 }
 
 impl Logs {
-    /// Nothing has happened.
+    /// Returns a state in which nothing has happened.
     pub fn new(alloc: Global) -> Logs
         ensures { IsWell result }
     {
@@ -81,7 +81,7 @@ impl Logs {
         }
     }
 
-    /// How much there is now.
+    /// Returns the current lengths of the logs and of their stored parts.
     pub fn now(&self) -> Moment
         ensures { result ≡ now_of self.now }
     {
@@ -93,7 +93,7 @@ impl Logs {
         }
     }
 
-    /// Lets a moment pass. Where memory is refused, or the number of the moment is that of the call that is to fail, it fails.
+    /// Lets a moment pass. Fails if memory is refused, or if `fails_at` is the number of the moment.
     pub fn pass(&mut self, fails_at: usize) -> Result<(), Failed>
         ensures ok { OnOk result (MomentPasses self.old self.new) }
         ensures err { OnErr result (CallFails self.old self.new) }
@@ -108,7 +108,7 @@ impl Logs {
         }
     }
 
-    /// Notes that a call has failed.
+    /// Counts a failed call.
     pub fn fail(&mut self) -> Failed
         ensures { CallFails self.old self.new }
     {
@@ -120,7 +120,7 @@ impl Logs {
         Failed
     }
 
-    /// The inode that is at a name.
+    /// Returns the inode at a name after the first `front` changes.
     pub fn inode_at(&self, name: &str, front: usize) -> Option<usize>
         requires { front ≤ length self.now.changes.items }
         ensures { result ≡ entry_of (take front self.now.changes.items) name.now }
@@ -133,14 +133,14 @@ impl Logs {
         inode
     }
 
-    /// The inode that is at a name now.
+    /// Returns the inode that is at a name now.
     pub fn inode_now(&self, name: &str) -> Option<usize>
         ensures { result ≡ entry_of self.now.changes.items name.now }
     {
         self.inode_at(name, self.changes.len())
     }
 
-    /// What the file at a name holds now.
+    /// Returns the bytes that the file at a name holds now.
     pub fn text_at(&self, name: &str) -> Option<&[u8]>
         ensures { IfSome result (λ text. at (state_of self.now) name.now ≡ Some (regular text.now)) }
     {
@@ -150,7 +150,7 @@ impl Logs {
         }
     }
 
-    /// What a file holds.
+    /// Returns the bytes of a file after the first `front` contents.
     pub fn text_of(&self, inode: usize, front: usize) -> &[u8]
         requires { front ≤ length self.now.contents.items }
         ensures { result.now ≡ text_of (take front self.now.contents.items) inode }
@@ -165,7 +165,7 @@ impl Logs {
         text
     }
 
-    /// Gives a name to an inode or takes it away, and takes the other name away.
+    /// Assigns a name to an inode or removes it, and removes the other name.
     pub fn change(
         &mut self,
         alloc: Global,
@@ -189,7 +189,7 @@ impl Logs {
         Ok(())
     }
 
-    /// Gives a name at which nothing is to an inode that was never used.
+    /// Assigns a free name to an unused inode.
     pub fn make(&mut self, alloc: Global, name: &str) -> Result<(), Failed>
         ensures ok { OnOk result (InodeMade self.old self.new name.now) }
         ensures err { OnErr result (CallFails self.old self.new) }
@@ -207,7 +207,7 @@ impl Logs {
         Ok(())
     }
 
-    /// Gives a file a text to hold.
+    /// Gives a file its bytes.
     pub fn give(&mut self, alloc: Global, inode: usize, text: &[u8]) -> Result<(), Failed>
         ensures ok { OnOk result (ContentAdded self.old self.new inode text.now) }
         ensures err { OnErr result (CallFails self.old self.new) }

@@ -8,10 +8,10 @@ use crate::file_system::{Failed, FileSystem, ReadError};
 use crate::logs::{Logs, Moment};
 use std::alloc::Global;
 
-/// Files in memory, and all that happened to them.
+/// Files in memory, and everything that happened to them.
 ///
-/// It loses at a stop what a real one may lose: what was not stored of names and of what files hold, each from some step on. A
-/// file is written in two steps.
+/// At a stop it loses what a real file system may lose: the changes of names and of contents that were not stored, each
+/// from some step on. A write takes two steps.
 #[derive(Drop)]
 pub struct MemoryFiles {
     alloc: Global,
@@ -21,7 +21,7 @@ pub struct MemoryFiles {
 }
 
 impl MemoryFiles {
-    /// No files. The call of that number, from 0 on, fails, and no other.
+    /// Returns a file system without files. The call with the number `fails_at`, from 0, fails. No other call does.
     pub fn new(alloc: Global, fails_at: usize) -> MemoryFiles {
         MemoryFiles {
             alloc,
@@ -30,12 +30,12 @@ impl MemoryFiles {
         }
     }
 
-    /// The number of this moment.
+    /// Returns the number of this moment.
     pub fn moment(&self) -> usize {
         self.logs.moments.len()
     }
 
-    /// How much there was of the logs at a moment, and how much of it was stored.
+    /// Returns the lengths of the logs at a moment, and of their stored parts.
     pub fn at_moment(&self, moment: usize) -> Moment {
         match self.logs.moments.get(moment) {
             Some(past) => *past,
@@ -43,7 +43,7 @@ impl MemoryFiles {
         }
     }
 
-    /// What the file at a name holds after a stop at which these fronts of the logs are found.
+    /// Returns the bytes of the file at a name after a stop that leaves these prefixes of the logs.
     pub fn found(&self, name: &str, changes: usize, contents: usize) -> Option<&[u8]>
         ensures { IfSome result (λ text. (i : ℕ) × (entry_of (take changes self.now.logs.changes.items) name.now ≡ Some i)
             × (text.now ≡ text_of (take contents self.now.logs.contents.items) i)) }
@@ -57,7 +57,7 @@ impl MemoryFiles {
         }
     }
 
-    // A call begins: a moment passes, or the call fails.
+    // Begins a call: a moment passes, or the call fails.
     fn begin(&mut self) -> Result<(), Failed>
         ensures ok { OnOk result (MomentPasses self.old.logs self.new.logs) }
         ensures err { OnErr result (CallFails self.old.logs self.new.logs) }
@@ -71,7 +71,7 @@ impl MemoryFiles {
         }
     }
 
-    // A call that changes nothing.
+    // Makes a call that changes nothing.
     fn pass(&mut self) -> Result<(), Failed>
         ensures stays { Stays (state_of self.old.logs) (state_of self.new.logs) }
         ensures cause { OnErr result (HasFailed (state_of self.old.logs) (state_of self.new.logs)) }
@@ -188,7 +188,7 @@ impl FileSystem for MemoryFiles {
     }
 }
 
-// A copy of a text.
+// Returns a copy of a text.
 fn copied(alloc: Global, text: &[u8]) -> Result<Vec<u8>, ReadError>
     ensures ok { IfOk result (λ bytes. bytes.items ≡ text.now) }
     ensures err { IsErrOf result ReadError.Failed → ⊥ }

@@ -1,4 +1,4 @@
-//! A file that gets another text, by way of a new file beside it that is renamed to it.
+//! Gives a file another text: a new file in the same folder gets the text, and is renamed to the file.
 ghost use Rattle.std.specs.Prelude.{◌≡◌, ◌≢◌, OnOk, OnErr, IfErr, None};
 ghost use Rattle.yf_files.specs.Aside.{Aside, IsBack, IsReady, NewFileWithdrawn, Withdraws};
 ghost use Rattle.yf_files.specs.Calls.{HasFailed};
@@ -7,7 +7,7 @@ ghost use Rattle.yf_files.specs.Tree.{folder_of};
 
 use crate::file_system::{Failed, FileSystem};
 
-/// What is left after a file was not given another text, or not for sure.
+/// What is left after a file did not get another text, or may lose it in a crash.
 #[derive(Clone, Copy, Drop)]
 pub enum ReplaceError {
     /// The file is as it was, and nothing of ours is left.
@@ -18,11 +18,13 @@ pub enum ReplaceError {
     Unsure,
 }
 
-/// Gives the file that was read last another text, by way of a new file at the other name, in the same folder.
+/// Gives the file that was read last another text. The text goes into a new file at the other name, in the same folder,
+/// which is then renamed to the file.
 ///
-/// The file is locked first. Whatever then is at the new name is removed, and the new file is made only where nothing
-/// is. It gets the text, and the owner, the group and the permissions of the old one; it is stored, renamed to the file,
-/// and the folder is stored. After a failure before the renaming it is removed.
+/// The function locks the file first. It then removes the entry at the new name, if there is one, and makes the new
+/// file, which fails if the name is taken again. The new file gets the text, and the owner, the group and the
+/// permissions of the old file. It is stored and renamed to the file, and then the folder is stored. After a failure
+/// before the renaming, the new file is removed.
 pub fn replace<S: FileSystem>(
     files: &mut S,
     file: &str,
@@ -50,7 +52,7 @@ pub fn replace<S: FileSystem>(
     }
 }
 
-// Makes the new file ready to be renamed to the file, and makes sure that this is as it was read.
+// Makes the new file ready for renaming, and checks that the old file is as it was read.
 fn prepare<S: FileSystem>(
     files: &mut S,
     file: &str,
@@ -76,7 +78,7 @@ fn prepare<S: FileSystem>(
     }
 }
 
-// Makes the new file with the text, and has it stored.
+// Makes the new file with the text, and stores it.
 fn make_new<S: FileSystem>(files: &mut S, new_name: &str, text: &[u8]) -> Result<(), ReplaceError>
     ensures aside { S.tells → Aside (S.state files.old) (S.state files.new) new_name.now }
     ensures ready { S.tells → OnOk result (IsReady (S.state files.old) (S.state files.new) new_name.now text.now) }
@@ -101,7 +103,7 @@ fn make_new<S: FileSystem>(files: &mut S, new_name: &str, text: &[u8]) -> Result
     }
 }
 
-// Locks the file that was read, and clears the new name.
+// Locks the file that was read, and removes the entry at the new name.
 fn claim<S: FileSystem>(files: &mut S, file: &str, new_name: &str) -> Result<(), Failed>
     ensures aside { S.tells → Aside (S.state files.old) (S.state files.new) new_name.now }
     ensures free { S.tells → OnOk result ((S.state files.new).entry new_name.now ≡ None) }
@@ -119,7 +121,7 @@ fn claim<S: FileSystem>(files: &mut S, file: &str, new_name: &str) -> Result<(),
     files.remove(new_name)
 }
 
-// Removes the new file after a failure.
+// Removes the new file after a failure, and returns the error: `Left` if the file can't be removed.
 fn withdrawn<S: FileSystem>(files: &mut S, new_name: &str) -> ReplaceError
     ensures aside { S.tells → Aside (S.state files.old) (S.state files.new) new_name.now }
     ensures how { S.tells → NewFileWithdrawn (S.state files.new) new_name.now result }

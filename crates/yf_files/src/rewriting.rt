@@ -1,4 +1,4 @@
-//! A file that is rewritten by a formatter.
+//! The rewriting of a file by a formatter.
 ghost use Rattle.std.specs.Prelude.{◌≡◌, ℕ, List, IfOk, IfErr, OnOk, string_bytes};
 ghost use Rattle.yf_files.specs.Replaced.{AtAnyMoment};
 ghost use Rattle.yf_files.specs.Rewritten.{IsFormatting, LeavesRefused, Rewrote, WhyRefused, new_name_of};
@@ -7,18 +7,18 @@ use crate::file_system::{FileSystem, ReadError};
 use crate::replacing::{ReplaceError, replace};
 use std::alloc::{AllocError, Global};
 
-/// What gives a text in the house style.
+/// A formatter, which returns the formatting of a text.
 pub trait Formatter {
-    /// Why it gives none.
+    /// Why a text has no formatting.
     type Error: Drop;
 
     /// The second text is a formatting of the first.
     ghost Formats: { Self → List ℕ → List ℕ → Type 0 };
 
-    /// That is why the text has no formatting.
+    /// The text has no formatting, and the error is the reason.
     ghost Refuses: { Self → List ℕ → Self.Error → Type 0 };
 
-    /// The formatting of the text that the bytes are.
+    /// Returns the formatting of the text with these bytes.
     fn format(&self, alloc: Global, bytes: &[u8]) -> Result<String, Self::Error>
         ensures formats { IfOk result (λ formatted. Formats self.now bytes.now (string_bytes formatted)) }
         ensures refuses { IfErr result (Refuses self.now bytes.now) };
@@ -33,20 +33,25 @@ pub enum RewriteError<E: Drop> {
     Unreadable,
     /// Its text has no formatting. Nothing was touched.
     Refused(E),
-    /// The new text can't be put in its place.
+    /// The new text can't be put into the file.
     Unwritten(ReplaceError),
 }
 
-/// Rewrites the file of that name by the formatter, by way of a new file with `.yamlfmt-new` after its name.
+/// Rewrites the file at this name by the formatter. The text goes into a new file, whose name is the file's name with
+/// `.yamlfmt-new` after it, which is then renamed to the file.
 ///
-/// At any moment, also where the run or the machine stops, the file holds what it held or its formatting, whole. Where its text
-/// is its own formatting, nothing is touched.
+/// At any moment, even if the run or the machine stops, the file holds its old text or its formatting, whole. If the
+/// text is its own formatting, nothing is touched.
 ///
 /// # Errors
 ///
-/// Those of reading; that of the formatter, where the text has no formatting; and `Unwritten`, which tells what is left, where
-/// another run rewrites the file, where it has changed since it was read, where nobody may write to it or its owner would
-/// change, or where a call failed. After each of them but `Unwritten(Unsure)` the file is as it was.
+/// - `Memory` if memory is refused.
+/// - `Unreadable` if the file can't be read, or is not a regular file.
+/// - `Refused` with the formatter's error if the text has no formatting.
+/// - `Unwritten` if another run rewrites the file, if the file has changed since it was read, if nobody may write to
+///   it, if its owner would change, or if a call failed. Its value says what remains.
+///
+/// After an error the file is as it was, except after `Unwritten(Unsure)`.
 pub fn rewrite<S: FileSystem, F: Formatter>(
     alloc: Global,
     files: &mut S,
@@ -87,7 +92,7 @@ pub fn rewrite<S: FileSystem, F: Formatter>(
     }
 }
 
-// The name of the new file beside a file.
+// Returns the name of the new file, which is in the file's folder.
 fn new_name_of(alloc: Global, file: &str) -> Result<String, AllocError>
     ensures { IfOk result (λ name. string_bytes name ≡ new_name_of file.now) }
 {

@@ -1,4 +1,5 @@
--- What is done is done with the inputs as they were before; and what is done with one of several.
+-- A run over the inputs as they are now is also a run over the inputs as they were before. Also the runs over one of
+-- several inputs, and over all of them.
 use Rattle.std.proofs.Common.{◌≡◌, ◌≢◌, ◌⊎◌, ◌∙◌, ◌∷◌, ◌++◌, ◌+◌, ◌<◌, ◌≤◌, [], ℕ, List, Bool, false, inl, inr, add-one, ap, sym, subst, take, get_or, length, refl}
 use Rattle.std.specs.Prelude.{max, map, Result}
 use Rattle.std.proofs.Math.ListN.{get_or-map}
@@ -22,7 +23,7 @@ use Rattle.yf_program.specs.declared.sources.Sources.{Sources}
 use Rattle.yf_program.specs.declared.task.Task.{Task}
 use Rattle.yf_program.specs.declared.task.Work.TheVariants as work
 
--- what was known stays known over two steps
+-- what was known is still known after two steps
 pub known_on : {a b c : InputClaim} → StillKnown a b → StillKnown b c → StillKnown a c
 known_on ab bc = record {
   tells = λ t. bc.tells (ab.tells t);
@@ -31,7 +32,7 @@ known_on ab bc = record {
   fails = λ input f. ab.fails input (bc.fails input f);
 }
 
--- what was done with the inputs as they are, was done with them as they were
+-- what was done with the inputs as they are now was done with the inputs as they were
 module _ (before after : InputClaim) (known : StillKnown before after) (input : Input) (task : Task) where
   opened_before : (status : ℕ) (old new : OutputStreams) → DoesOpened after input task status old new → DoesOpened before input task status old new
   opened_before status old new (inl refused) =
@@ -44,7 +45,7 @@ module _ {F : Type 0} (earlier later : Host F) (known : StillKnown earlier.input
   input_before input status before after d =
       (d.0, (λ noted. d.1 (known.notes noted)), opened_before earlier.inputs later.inputs known input task status before.streams after.streams d.2)
 
--- what is done with one of several, and with all, where one way of doing it follows from another one
+-- If Q follows from P, then Q follows for one of several inputs, and for all of them.
 module _ {F : Type 0} (P Q : Input → WorkClaim F) (follows : (input : Input) (status : ℕ) (before after : World F) → P input status before after → Q input status before after) where
   pub named_by : (name : List ℕ) (input : Input) (status : ℕ) (before after : World F) → DoesNamed name (P input) status before after → DoesNamed name (Q input) status before after
   named_by name input status before after d =
@@ -81,7 +82,7 @@ module _ {F : Type 0} (earlier later : Host F) (known : StillKnown earlier.input
   does_in_before (command.Fmt (fmt.Write files)) explain style status before after d =
       all_by (RewritesInput later explain style) (RewritesInput earlier explain style) (rewrite_before explain style) (map (λ name. File name) (all_files files)) status before after d
 
--- it was done as if for the only file, and what is in memory was written
+-- the work was done as if for the only file, and then the contents of memory were written
 module _ {F : Type 0} (Does : WorkClaim F) (before after : World F) where
   pub named_done : (name said : List ℕ) (run status : ℕ) (start memory : OutputStreams) → start ≡ empty_memory → said ≡ name
       → Does run (record before { streams = start }) (record after { streams = memory }) → ToldMemory said run status memory before.streams after.streams
@@ -93,7 +94,7 @@ module _ {F : Type 0} (Does : WorkClaim F) (before after : World F) where
     subst (λ (n : List ℕ). ToldMemory n run status memory before.streams after.streams) same told,
   )
 
--- it was done with the only input, or with each of several
+-- the work was done with the only input, or with each of several
 module _ {F : Type 0} (Does : Input → WorkClaim F) (before after : World F) (status : ℕ) (first : Input) where
   pub one_of : (rest : List Input) → rest ≡ [] → Does first status before after → DoesAll Does (first ∷ rest) status before after
   one_of rest none d = subst (λ (r : List Input). DoesAll Does (first ∷ r) status before after) (sym none) d
@@ -102,7 +103,7 @@ module _ {F : Type 0} (Does : Input → WorkClaim F) (before after : World F) (s
   each_of [] some d = absurd (some refl)
   each_of (next ∷ rest) some d = d
 
--- no file is left of none, and some are of some
+-- no names give no files, and some names give some files
 pub no_files : (names : List (List ℕ)) → names ≡ [] → map (λ (name : List ℕ). File name) names ≡ []
 no_files names none = ap (map (λ (name : List ℕ). File name)) none
 
@@ -110,7 +111,7 @@ pub some_files : (names : List (List ℕ)) → names ≢ [] → map (λ (name : 
 some_files [] some same = some refl
 some_files (name ∷ names) some same = cc
 
--- one more input of those after the first
+-- one more of the inputs after the first
 module _ {F : Type 0} (Does : Input → WorkClaim F) (before : World F) where
   pub next_done : (between after : World F) (first one : Input) (more : List Input) (k : ℕ) (d : Input) (greatest status result : ℕ)
       → k < length more → one ≡ get_or more k d → result ≡ max greatest status
@@ -126,12 +127,12 @@ module _ {F : Type 0} (Does : Input → WorkClaim F) (before : World F) where
       → DoesEach Does before (first ∷ take k more) status after → DoesEach Does before (first ∷ more) status after
   all_done after first more k status all done = subst (λ n. DoesEach Does before (first ∷ n) status after) (take_all k more all) done
 
--- one more file of those after the first
+-- one more of the files after the first
 pub next_file : (names : List (List ℕ)) (k : ℕ) (d name : List ℕ) → name ≡ get_or names k d
     → File name ≡ get_or (map (λ (n : List ℕ). File n) names) k (File d)
 next_file names k d name same = ap (λ n. File n) same ∙ sym (get_or-map (λ (n : List ℕ). File n) names k d)
 
--- a file was rewritten by the name that was read of it
+-- a file was rewritten by the name that was read from it
 module _ {F : Type 0} (host : Host F) (explain : Bool) (style : Style) (status : ℕ) (before after : World F) where
   pub rewritten_by : (said name : List ℕ) → said ≡ name → DoesRewrite host explain style said status before after
       → RewritesInput host explain style (File name) status before after
@@ -141,7 +142,7 @@ module _ {F : Type 0} (host : Host F) (explain : Bool) (style : Style) (status :
       → DoesNamed name (RewritesInput host explain style (File name)) status before after
   named_by_name said name same d = subst (λ (n : List ℕ). DoesNamed n (DoesRewrite host explain style n) status before after) same d
 
--- what was done with the inputs as they are, was done with them as they were
+-- what was done with the inputs as they are now was done with the inputs as they were
 module _ {I F : Type 0} (claim : I → InputClaim) (tells : Type 0) (state : F → FilesState) (leads : LinkClaim F) (now then : Sources I F) (same : now.inputs ≡ then.inputs) where
   pub named_before : (explain : Bool) (style : Style) (name : List ℕ) (status : ℕ) (before after : World F)
       → DoesNamed name (DoesRewrite (host_in claim tells state leads now) explain style name) status before after
@@ -149,7 +150,7 @@ module _ {I F : Type 0} (claim : I → InputClaim) (tells : Type 0) (state : F �
   named_before explain style name status before after d =
       subst (λ (i : I). DoesNamed name (DoesRewrite (host_in claim tells state leads (record { inputs = i; files = then.files })) explain style name) status before after) same d
 
--- a rewriting that had this result
+-- a rewriting with this result
 pub ends_by : (explain : Bool) (P : Result Unit (RewriteError Fault) → Type 0) (result : Result Unit (RewriteError Fault)) (status : ℕ) (before after : ByteStream) → P result
     → EndsRewriting explain (λ outcome. outcome ≡ result) status before after → EndsRewriting explain P status before after
 ends_by explain P result status before after p d = (d.0, d.1, subst P (sym d.2) p, d.3, d.4)

@@ -1,4 +1,5 @@
--- What the formatter of `rewrite` gives of bytes, and why it refuses them, by what `format` says of the text that they are.
+-- The bytes that the formatter of `rewrite` returns, and why it refuses bytes. Both follow from the contract of
+-- `format` for the text of the bytes.
 use Rattle.std.proofs.Common.{◌≡◌, ◌≤◌, ℕ, List, length, refl, subst}
 use Rattle.std.proofs.lemmas.Result.{IfErr-weaker, IfOk-weaker}
 use Rattle.std.specs.Prelude.{Result, Some, IfErr, IfOk}

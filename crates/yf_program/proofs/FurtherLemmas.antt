@@ -1,4 +1,4 @@
--- What more is told of a fault.
+-- The lines that explain a fault.
 use Rattle.std.proofs.Common.{◌≡◌, ℕ, List, Bool, true, false, inl, inr, refl, subst, sym}
 use Rattle.std.specs.Prelude.{Result, Ok, Err, IfOk, IsOkAnd, chars}
 use Rattle.yf_explain.specs.Shown.{AreWritten}
@@ -6,12 +6,12 @@ use Rattle.yf_lines.specs.declared.fault.Fault.{Fault}
 use Rattle.yf_rules.specs.Runs.ByteStream.{ByteStream, WriteEnds, WrittenOrFailed}
 use Rattle.yf_program.specs.Answer.{AnyLines, TellsMore}
 
--- nothing more is told
+-- nothing more is written
 pub told_nothing : (explained : Bool) (P : List ℕ → Type 0) (stream : ByteStream) → TellsMore explained P stream stream
 told_nothing true P stream = inl (record { contents = refl; same = refl })
 told_nothing false P stream = record { contents = refl; same = refl }
 
--- what is on a page is told, where there is one
+-- the lines of a page are written if there is a page
 module _ (P : List ℕ → Type 0) {before after : ByteStream} where
   told_page : {E : Type 0} (page : Result (List ℕ) E) → IfOk page P → TellsMore true (λ lines. IsOkAnd page (λ told. told ≡ lines)) before after
       → TellsMore true P before after
@@ -30,7 +30,7 @@ pub page_written : {E : Type 0} {before after : ByteStream} (page : Result (List
 page_written page lines text e same written works reached =
     inr (text, works, subst (λ (x : List ℕ). AreWritten x) (sym same) written, rw e (sym same), reached)
 
--- the same, where no more is said of the lines
+-- the explanation may have any lines
 any_page : {E : Type 0} (page : Result (List ℕ) E) → IfOk page AnyLines
 any_page (Ok lines) = tt
 any_page (Err e) = tt

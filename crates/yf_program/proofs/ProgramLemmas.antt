@@ -1,4 +1,4 @@
--- The refusals of a settings text are those of its file; and what a run says that finds nothing to report.
+-- The refusals of a settings text are the refusals of its file. The output of a run that finds nothing to report.
 use Rattle.std.proofs.Common.{◌≡◌, ◌≤◌, ℕ, List, length, Bool, true, Option, inl, inr, refl, subst, sym}
 use Rattle.std.specs.Prelude.{Some, Result, Ok, Err, IfSome, MatchResult}
 use Rattle.std.specs.Str.{IsUtf8}
@@ -32,7 +32,7 @@ text_refused input text (EscapeValue place) same gave within utf8 refuses = absu
 text_refused input text ReadFailed same gave within utf8 refuses = absurd refuses
 text_refused input text WriteFailed same gave within utf8 refuses = absurd refuses
 
--- the style that a settings file sets which was opened, or why there is none
+-- the style of a settings file that was opened, or why it sets none
 module _ (claim : InputClaim) (config : Option (List ℕ)) (name : List ℕ) (is : config ≡ Some name) where
   pub style_or_unset : (reader left : ByteStream) (outcome : Result Style Fault)
       → Opens claim (File name) reader left → MatchResult outcome (λ style. FileSets reader.contents style) (λ fault. FileRefused reader left fault)

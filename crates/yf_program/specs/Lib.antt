@@ -1,8 +1,8 @@
--- what the program does, from the words to the status, and what it works on
+-- what the program does, from its arguments to its exit status, and the state that it changes
 pub mod World
 pub mod Rewriting
 pub mod Answer
--- the lines that are written
+-- the lines that the program prints
 pub mod Report
 pub mod Named
 -- inputs in memory

@@ -6,7 +6,7 @@ use Rattle.yf_command_line.specs.declared.command.Input.TheVariants.{Standard, F
 use Rattle.yf_program.specs.declared.memory_inputs.Stored.{Stored}
 use Rattle.yf_program.specs.World.{Holdings, InputClaim}
 
--- What the file of a name holds, if one of the files has the name.
+-- The contents of the file with this name, or none if no file has the name.
 abbrev pub held : List Stored → List ℕ → Option (List ℕ)
 held [] name = None
 held (file ∷ files) name = if bytes_eq file.name.now name then Some file.bytes.now else held files name
@@ -15,7 +15,7 @@ abbrev pub holdings : List Stored → List ℕ → Holdings
 holdings files standard Standard = Some standard
 holdings files standard (File name) = held files name
 
--- It is known what each input holds. A file that is not there fails, and no other.
+-- The contents of each input are known. An input fails if and only if no file has its name.
 abbrev pub memory_claim : List Stored → List ℕ → InputClaim
 memory_claim files standard = record {
   tells = ⊤;

@@ -1,12 +1,13 @@
--- What is told of one file among several: its lines, each with the file's name and a colon before it, and a space where no place follows.
+-- The output for one file among several. Each line begins with the file's name and a colon. A space follows if the line
+-- doesn't begin with a position.
 use Rattle.std.specs.Prelude.{ℕ, nat_eq, nat_lt, List, [], ◌∷◌, ◌++◌, if◌then◌else◌}
 use Rattle.yf_command_line.specs.Shown.{shown}
 
--- the first byte of a line: a place begins with a digit, and before anything else a space is
+-- the first byte of a line: a position begins with a digit, and any other byte gets a space before it
 abbrev pub first_byte : ℕ → List ℕ
 first_byte b = if nat_lt b 48 then 32 ∷ b ∷ [] else if nat_lt 57 b then 32 ∷ b ∷ [] else b ∷ []
 
--- a byte after another one: where a line begins, the prefix is before it
+-- a byte after another byte: at the start of a line the prefix comes before it
 abbrev pub prefixed_byte : List ℕ → ℕ → ℕ → List ℕ
 prefixed_byte prefix before b = if nat_eq before 10 then prefix ++ first_byte b else b ∷ []
 
@@ -15,6 +16,6 @@ abbrev pub prefixed : List ℕ → ℕ → List ℕ → List ℕ
 prefixed prefix before [] = []
 prefixed prefix before (b ∷ rest) = prefixed_byte prefix before b ++ prefixed prefix b rest
 
--- a whole text, which begins a line
+-- a whole text, which starts at the beginning of a line
 abbrev pub named_lines : List ℕ → List ℕ → List ℕ
 named_lines name text = prefixed (shown name ++ 58 ∷ []) 10 text

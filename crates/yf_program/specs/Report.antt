@@ -1,4 +1,4 @@
--- The line that is printed for a fault, and the status with which the program then ends.
+-- The line that is printed for a fault, and the exit status for the fault.
 use Rattle.std.specs.Prelude.{ℕ, Bool, true, false, List, [], ◌∷◌, codes, decimal}
 use Rattle.std.specs.List.{concat}
 use Rattle.yf_command_line.specs.Shown.{shown}
@@ -6,7 +6,7 @@ use Rattle.yf_lines.specs.declared.place.Position.{Position}
 use Rattle.yf_lines.specs.declared.fault.Fault.{Fault}
 use Rattle.yf_lines.specs.declared.fault.Fault.TheVariants.{NotUtf8, Syntax, TooDeep, UnknownHandle, UnknownAlias, RepeatedDirective, BadVersion, EscapeValue, Memory, ReadFailed, WriteFailed, Config}
 
--- line and column, and why the stream is refused there
+-- the line and the column, and why the stream is refused there
 abbrev pub refusal_line : Position → List ℕ → List ℕ
 refusal_line place reason = concat (decimal place.line ∷ codes ":" ∷ decimal place.column ∷ codes " refused: " ∷ reason ∷ codes "\n" ∷ [])
 
@@ -25,7 +25,7 @@ fault_line ReadFailed = codes "read failed\n"
 fault_line WriteFailed = codes "write failed\n"
 fault_line (Config key) = concat (codes "config: " ∷ shown key ∷ codes "\n" ∷ [])
 
--- 2 where the stream is refused, 3 for memory, files and settings
+-- 2 if the stream is refused, and 3 for memory, files and settings
 abbrev pub fault_status : Fault → ℕ
 fault_status Memory = 3
 fault_status ReadFailed = 3
@@ -33,12 +33,12 @@ fault_status WriteFailed = 3
 fault_status (Config key) = 3
 fault_status _ = 2
 
--- The status of a check.
+-- The exit status of a check.
 abbrev pub check_status : Bool → ℕ
 check_status true = 1
 check_status false = 0
 
--- The status of a run that compares a text with its formatting.
+-- The exit status of a run that compares a text with its formatting.
 abbrev pub format_status : Bool → ℕ
 format_status true = 0
 format_status false = 1

@@ -1,4 +1,4 @@
--- What `fmt --write` does to the file of one name, between two states of the file system.
+-- What `fmt --write` does to the file at one name: a relation of two states of the file system.
 use Rattle.std.specs.Prelude.{◌≡◌, ◌≢◌, ◌⊎◌, ℕ, List, Some, Result, Err, MatchResult}
 use Rattle.std.specs.Str.{IsUtf8, IsValidUpTo}
 use Rattle.yf_files.specs.Replaced.{AtAnyMoment}
@@ -13,20 +13,22 @@ use Rattle.yf_rules.specs.Headline.{Headline}
 use Rattle.yf_stream.specs.Refusal.{IsStreamFault}
 use Rattle.yf_stream.specs.StreamReader.{StreamFault}
 
--- The text is the formatting of the bytes, and all holds of the two that `Headline` says.
+-- The text is the formatting of the bytes, and the two have all properties in `Headline`.
 abbrev pub FormatsBytes : Style → List ℕ → List ℕ → Type 0
 FormatsBytes style bytes text = Headline bytes style text
 
--- The bytes have no formatting: they are no text, or the text is no stream, or breaches the rule that the fault names.
+-- The bytes have no formatting: they are not UTF-8, or the text is not a stream, or it breaks the rule that the fault
+-- names.
 abbrev pub RefusesBytes : List ℕ → Fault → Type 0
 RefusesBytes bytes (fault.NotUtf8 offset) = (¬ IsUtf8 bytes) × IsValidUpTo bytes offset
 RefusesBytes bytes why = IsUtf8 bytes × IsStreamFault bytes why × StreamFault bytes why
 
--- At any moment, also if the run or the machine stops, the file holds what it held or exactly the formatting of its
--- text, whole, and no other name than the new one ever has anything else. If all is well it has its formatting, whatever
--- may be found after a crash; or it had it before, nothing was touched, and it still has it. Else it is as it was, or
--- the error says what is left. A formatter that refused has refused some bytes, also if nothing is known of the files.
--- (tells: whether the file system says what is in it; old, new: its states)
+-- At any moment, even if the run or the machine stops, the file holds its old text or exactly the formatting of that
+-- text, never a part of it. No name except the new one ever has anything else. If the result is `Ok`, then either the
+-- file has its formatting, even after a crash, or it had the formatting before, and nothing was touched. If the result
+-- is an error, the file is as it was, or the error says what remains. If the formatter refuses, then it refused some
+-- bytes, even if nothing is known of the files.
+-- (tells: the file system makes its contents known; old, new: its states)
 abbrev pub RewritesFile : Type 0 → FilesState → FilesState → List ℕ → Style → Result Unit (RewriteError Fault) → Type 0
 RewritesFile tells old new file style result =
     (tells → AtAnyMoment old new (new_name_of file) (IsFormatting (FormatsBytes style) old file))
@@ -37,15 +39,15 @@ RewritesFile tells old new file style result =
 abbrev pub LeadsNowhere : FilesState → (List ℕ → Type 0) → Type 0
 LeadsNowhere files Leads = (file bytes : List ℕ) → Leads file → at files file ≢ Some (regular bytes)
 
--- No file is found to rewrite: there is no memory, or the name leads to none.
+-- No file to rewrite was found: memory was refused, or the name leads to no file.
 abbrev pub IsUnfound : Type 0 → RewriteError Fault → Type 0
 IsUnfound Nowhere error.Memory = Unit {0}
 IsUnfound Nowhere error.Unreadable = Nowhere
 IsUnfound Nowhere (error.Refused why) = ⊥
 IsUnfound Nowhere (error.Unwritten how) = ⊥
 
--- The file of a name is rewritten, or the one to which a link there leads; or none is found, and nothing is touched.
--- (Leads: the names of the files to which the name leads)
+-- The file at the name is rewritten, or the file to which a link at the name leads. Or no file is found, and nothing is
+-- touched. (Leads: the names of the files to which the name leads)
 abbrev pub FileRewrite : Type 0 → FilesState → FilesState → (List ℕ → Type 0) → Style → Result Unit (RewriteError Fault)
     → Type 0
 FileRewrite tells old new Leads style result =

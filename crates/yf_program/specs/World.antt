@@ -1,4 +1,4 @@
--- What the program works on: what changes while it works, and what is known and stays.
+-- The state that the program works on: the part that changes, and the facts that are known and stay.
 use Rattle.std.specs.Prelude.{◌≡◌, ℕ, List, Option, None, Result}
 use Rattle.yf_command_line.specs.declared.command.Input.{Input}
 use Rattle.yf_files.specs.declared.rewriting.RewriteError.{RewriteError}
@@ -24,43 +24,43 @@ Holdings = Input → Option (List ℕ)
 
 -- What is known of the inputs.
 pub record InputClaim : Type 1 where
-  -- whether it is known what they hold, and which of them fail
+  -- holds if the contents of the inputs are known, and which of them fail
   pub tells : Type 0
-  -- whether it is known which of them were opened
+  -- holds if it is known which of them were opened
   pub notes : Type 0
   pub holds : Holdings
-  -- opening the input, or reading it, may fail
+  -- opening or reading the input may fail
   pub fails : Input → Type 0
 
 -- Nothing is known of the inputs.
 abbrev pub nothing_known : InputClaim
 nothing_known = record { tells = ⊥; notes = ⊥; holds = λ _. None; fails = λ _. ⊥ }
 
--- What was known of the inputs is still known: they hold what they held, and no more of them fail.
+-- What was known of the inputs is still known. They hold what they held, and no more of them fail.
 pub record StillKnown (before after : InputClaim) : Type 0 where
   pub tells : before.tells → after.tells
   pub notes : before.notes → after.notes
   pub holds : (input : Input) → after.holds input ≡ before.holds input
   pub fails : (input : Input) → after.fails input → before.fails input
 
--- What rewriting the file of a name in a style does between two states of the files, by its result.
+-- What rewriting the file at a name in a style does: a relation of two states of the files and the result.
 abbrev pub RewriteClaim : Type 0 → Type 1
 RewriteClaim F = F → F → List ℕ → Style → Result Unit (RewriteError Fault) → Type 0
 
--- The second name is that of the file to which the first one leads.
+-- The second name is the name of the file to which the first one leads.
 abbrev pub LinkClaim : Type 0 → Type 1
 LinkClaim F = F → List ℕ → List ℕ → Type 0
 
--- What is known of the system: of its inputs, and of files that are rewritten.
+-- What is known of the system: of its inputs, and of the files that are rewritten.
 pub record Host (F : Type 0) : Type 1 where
   pub inputs : InputClaim
   pub Rewrites : RewriteClaim F
 
--- What is done with one of several inputs, by the status: the world before and after.
+-- What is done with one of several inputs: a relation of the exit status and the worlds before and after.
 abbrev pub WorkClaim : Type 0 → Type 1
 WorkClaim F = ℕ → World F → World F → Type 0
 
--- ---- The same, as contracts write them
+-- ---- The world, as contracts write it
 
 abbrev pub streams_of : ByteStream → ByteStream → OutputStreams
 streams_of output errors = record { output = output; errors = errors }

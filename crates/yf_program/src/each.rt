@@ -1,4 +1,4 @@
-//! A task with its inputs: one by itself, and several, each as if it were the only one.
+//! A task with its inputs. If there are several, the task is done with each as if it were the only one.
 ghost use Rattle.std.specs.Prelude.{◌≡◌};
 ghost use Rattle.yf_command_line.specs.Requests.{all_inputs};
 ghost use Rattle.yf_program.specs.Answer.{DoesAll, DoesEach, DoesInput, DoesNamed, host_in, name_of};
@@ -16,7 +16,7 @@ use std::alloc::Global;
 use yf_command_line::command::{Input, InputList};
 use yf_lines::watched::Sink;
 
-/// Does a task with its only input, or with each of several.
+/// Does a task with its only input, or with each of several. Returns the status.
 pub fn do_inputs<I: Inputs, S: Links, W: Sink, E: Sink>(
     alloc: Global,
     task: &Task,
@@ -34,8 +34,8 @@ pub fn do_inputs<I: Inputs, S: Links, W: Sink, E: Sink>(
     do_each(alloc, task, inputs, sources, streams)
 }
 
-// Does a task with each of some inputs, in order, and returns the greatest status. What is written for an input has its
-// name before each line.
+// Does a task with each input, in order, and returns the greatest status. Each line of the output begins with the name
+// of its input.
 fn do_each<I: Inputs, S: Links, W: Sink, E: Sink>(
     alloc: Global,
     task: &Task,
@@ -55,7 +55,8 @@ fn do_each<I: Inputs, S: Links, W: Sink, E: Sink>(
     greatest
 }
 
-// Does a task with an input as if it were the only one, and writes what that gave with its name before each line.
+// Does a task with an input as if it were the only one, and writes the output with the input's name before each line.
+// Returns the status.
 fn do_named<I: Inputs, S: Links, W: Sink, E: Sink>(
     alloc: Global,
     task: &Task,
@@ -73,7 +74,7 @@ fn do_named<I: Inputs, S: Links, W: Sink, E: Sink>(
     tell_memory(alloc, name_of(input), status, &memory, streams)
 }
 
-/// Returns the name by which an input is reported.
+/// Returns the name of an input in messages.
 pub fn name_of(input: &Input) -> &str
     ensures { result.now ≡ name_of input.now }
 {
@@ -83,7 +84,7 @@ pub fn name_of(input: &Input) -> &str
     }
 }
 
-/// Does a task with an input.
+/// Does a task with an input, and returns the status.
 pub fn do_input<I: Inputs, S: Links, W: Sink, E: Sink>(
     alloc: Global,
     task: &Task,

@@ -11,19 +11,19 @@ use yf_rule_sets::facts::node_context::{Around, NodeContext, Pass};
 use yf_rule_sets::facts::places::known_positions;
 use yf_rule_sets::facts::scalars::{ScalarLines, block_lines_at};
 
-/// A column that is expected.
+/// An expected column.
 #[derive(Clone, Copy)]
 pub struct Expected {
     /// The byte offset of the first entry of a collection, or of the header of a block scalar.
     pub offset: usize,
-    /// The column, from 1, of these entries, or of the lines of the scalar.
+    /// The expected column of the entries or of the lines, from 1.
     pub column: usize,
-    /// Whether it is a block scalar.
+    /// Whether the node is a block scalar.
     pub is_scalar: bool,
 }
 
-/// Returns the columns that are expected in a text, in the order of its nodes. The column depends on that of the entries around the
-/// node, as they are in the text.
+/// Returns the expected columns of a text, in the order of its nodes. The column of a node depends on the column of the
+/// entries around it, as they are in the text.
 ///
 /// # Errors
 ///
@@ -50,7 +50,7 @@ pub fn expected_columns(
     Ok(all)
 }
 
-/// Returns the positions of what is expected at these columns, one for each; or none, if one of them has no position.
+/// Returns the position of each expected column. The list is empty if one of them has no position.
 ///
 /// # Errors
 ///
@@ -71,7 +71,7 @@ pub fn expected_places(
     Ok(Vec::new(alloc))
 }
 
-// The column that is expected of the node that an event begins.
+// Returns the expected column of the node that begins with this event.
 fn expected_at(
     reading: &Reading,
     i: usize,
@@ -92,7 +92,7 @@ fn expected_at(
     }
 }
 
-// The column that is expected of the entries of a block collection.
+// Returns the expected column of the entries of a block collection.
 fn of_entries(context: NodeContext, is_sequence: bool, style: &Style) -> Option<Expected> {
     if context.column.is_none() {
         return None;
@@ -110,7 +110,7 @@ fn of_entries(context: NodeContext, is_sequence: bool, style: &Style) -> Option<
     }
 }
 
-// The entries of a collection are expected at a column, from 0.
+// Returns the expectation that the entries of a collection are at this column, from 0.
 fn entries_at(context: NodeContext, column: usize) -> Expected {
     Expected {
         offset: context.first,
@@ -119,7 +119,7 @@ fn entries_at(context: NodeContext, column: usize) -> Expected {
     }
 }
 
-// The column that is expected of the lines of a block scalar.
+// Returns the expected column of the lines of a block scalar.
 fn of_lines(context: NodeContext, lines: ScalarLines, style: &Style) -> Option<Expected> {
     match context.outer {
         Around::Nothing => Some(lines_at(lines, style.indent)),
@@ -128,7 +128,7 @@ fn of_lines(context: NodeContext, lines: ScalarLines, style: &Style) -> Option<E
     }
 }
 
-// The lines of a block scalar are expected at a column, from 0.
+// Returns the expectation that the lines of a block scalar are at this column, from 0.
 fn lines_at(lines: ScalarLines, column: usize) -> Expected {
     Expected {
         offset: lines.start,

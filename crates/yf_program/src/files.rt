@@ -1,4 +1,4 @@
-//! The files of the program: what is read from them, and the one that is rewritten.
+//! The files that the program reads, and the file that it rewrites.
 ghost use Rattle.std.specs.Prelude.{◌≡◌, ℕ, List, string_bytes, IfErr, IfOk, MatchOption};
 ghost use Rattle.yf_lines.specs.declared.fault.Fault.TheVariants.{ReadFailed};
 ghost use Rattle.yf_rules.specs.Runs.ByteStream.{WrittenOrFailed, stream_of};
@@ -20,7 +20,7 @@ use yf_lines::watched::Sink;
 use yf_rules::format::format;
 use yf_rules::run::INPUT_LIMIT;
 
-/// Opens a file for reading. One that cannot be opened is one that cannot be read (`Fault::ReadFailed`).
+/// Opens a file for reading. Fails with `Fault::ReadFailed` if the file can't be opened.
 pub fn open<R: Files>(rt: &R, path: &str) -> Result<R::File, Fault>
     ensures { IfErr result (λ fault. fault ≡ ReadFailed) }
 {
@@ -30,9 +30,9 @@ pub fn open<R: Files>(rt: &R, path: &str) -> Result<R::File, Fault>
     }
 }
 
-/// Files that are rewritten, and links to them.
+/// Files that the program rewrites, and links to them.
 pub trait Links: FileSystem {
-    /// The second name is that of the file at the first one, or of the file to which a link there leads.
+    /// The second name is the name of the file at the first name, or of the file to which a link there leads.
     ghost leads: { Self → List ℕ → List ℕ → Type 0 };
 
     /// Returns the name of the file to which a link at the name leads, or `None` if no link is there. Fails with
@@ -44,7 +44,7 @@ pub trait Links: FileSystem {
             (IsUnfound (Self.tells → LeadsNowhere (Self.state self.now) (leads self.now name.now))) };
 }
 
-/// Files in memory: there are no links among them.
+/// Files in memory. None of them is a link.
 impl Links for MemoryFiles {
     ghost leads = { λ _ name file. file ≡ name };
 
@@ -53,19 +53,22 @@ impl Links for MemoryFiles {
     }
 }
 
-/// Rewrites the file of that name in the house style; of a link, the file that it leads to.
+/// Rewrites the file at this name in the house style. If the name is a link, the file to which it leads is rewritten.
 ///
-/// The whole text is read and formatted first. Where it is in the house style already, that is all. Else it is written to a
-/// new file, of the file's name with `.yamlfmt-new` after it, which is renamed to the file. So at any moment, also where the
-/// run or the machine stops, the file holds its old text or exactly the formatting of it, whole, and each name but the new one
-/// has what it had.
+/// The function first reads and formats the whole text. If the text is in the house style already, nothing else
+/// happens. Otherwise it writes a new file, whose name is the file's name with `.yamlfmt-new` after it, and renames it
+/// to the file. So at any moment, even if the run or the machine stops, the file holds its old text or exactly the
+/// formatting of that text. Every name except the new one has what it had.
 ///
 /// # Errors
 ///
-/// `Unreadable` where there is no regular file of that name, nor a link to one, that can be read; `Refused` with the faults of
-/// `format`, and `Fault::NotUtf8`; `Memory`; and `Unwritten` where another run rewrites the file, where it has changed since it
-/// was read, where nobody may write to it or its owner would change, or where the new file can't be made, written or renamed.
-/// After each of them but `Unwritten(Unsure)` the file is as it was.
+/// - `Unreadable` if the name is neither a regular file nor a link to one, or the file can't be read.
+/// - `Refused` with the faults of `format`, and with `Fault::NotUtf8`.
+/// - `Memory` if memory is refused.
+/// - `Unwritten` if another run rewrites the file, if the file has changed since it was read, if nobody may write to
+///   it, if its owner would change, or if the new file can't be made, written or renamed.
+///
+/// After an error the file is as it was, except after `Unwritten(Unsure)`.
 pub fn rewrite<S: Links>(
     alloc: Global,
     files: &mut S,
@@ -94,7 +97,7 @@ pub fn rewrite_in<S: FileSystem>(
     yf_files::rewrite(alloc, files, &InStyle { style }, file)
 }
 
-// What gives the bytes of a text in a style.
+// The formatter that returns the formatting of a text in a style, as bytes.
 #[derive(Clone, Copy)]
 struct InStyle<'a> {
     style: &'a Style,
@@ -120,8 +123,8 @@ impl Formatter for InStyle<'_> {
     }
 }
 
-/// Writes the line of a file that is not rewritten to the error stream, and answers the status of its fault. Where the new file
-/// is left, or the new text may not survive a crash, the line says so.
+/// Writes the line of a file that is not rewritten to the error stream, and returns the status of its fault. The line
+/// says so if the new file is left, or if the new text may not survive a crash.
 pub fn report_rewrite<E: Sink>(error: &RewriteError<Fault>, error_stream: &mut E) -> u8
     ensures status { result ≡ fault_status (fault_of error.now) }
     ensures line { WrittenOrFailed (stream_of E.contents E.has_failed error_stream.old)
@@ -135,7 +138,7 @@ pub fn report_rewrite<E: Sink>(error: &RewriteError<Fault>, error_stream: &mut E
     }
 }
 
-// The same of a file whose new text is not put in its place, or not for sure.
+// Writes the line of a file whose new text is not in place, or may not survive a crash. Returns the status.
 fn report_unwritten<E: Sink>(left: ReplaceError, error_stream: &mut E) -> u8
     ensures status { result ≡ 3 }
     ensures line { WrittenOrFailed (stream_of E.contents E.has_failed error_stream.old)
@@ -154,10 +157,10 @@ fn report_unwritten<E: Sink>(left: ReplaceError, error_stream: &mut E) -> u8
     }
 }
 
-/// The status of a write that fails.
+/// The exit status of a failed write.
 const UNWRITTEN: u8 = 3;
 
-// Writes a line, and answers the status of a write that fails.
+// Writes a line, and returns the exit status of a failed write.
 fn tell<E: Sink>(line: &[u8], error_stream: &mut E) -> u8
     ensures status { result ≡ 3 }
     ensures line { WrittenOrFailed (stream_of E.contents E.has_failed error_stream.old)

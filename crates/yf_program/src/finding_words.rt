@@ -1,4 +1,5 @@
-//! What `--explain` prints about findings: what `fmt` does about each, where the first of repeated keys is, and which column is expected.
+//! What `--explain` prints about findings: what `fmt` does about each, the position of the first of repeated keys, and
+//! the expected column.
 ghost use Rattle.std.specs.Prelude.{◌<◌, length, IfSome};
 
 use crate::expected_columns::{Expected, expected_columns, expected_places};
@@ -14,13 +15,13 @@ use yf_rule_sets::facts::places::known_positions;
 use yf_rules::finding::Finding;
 use yf_stream::stream::read_stream;
 
-/// The rule whose findings have a first key elsewhere.
+/// The rule whose findings have an earlier key elsewhere.
 const REPEATED: &str = "repeated-keys";
 
-/// The rule whose findings have a column that is expected.
+/// The rule whose findings have an expected column.
 const INDENTATION: &str = "indentation";
 
-/// The rules, and what `fmt` does about a finding of each.
+/// The rules, and what `fmt` does about a finding of each rule.
 static WORDS: [(&str, &str); 14] = [
     ("trailing-blanks", "fmt leaves this white space out"),
     (
@@ -50,21 +51,21 @@ static WORDS: [(&str, &str); 14] = [
     ("hidden-character", "fmt escapes it only in quoted scalars"),
 ];
 
-/// How many events are looked at for the first ones of all repeated keys of a text.
+/// The greatest number of events that the search for the first of repeated keys passes in one text.
 const STEPS: usize = 10_000_000;
 
-/// What is known about a finding from the reading of its text.
+/// Details of a finding, from the reading of its text.
 #[derive(Clone, Copy)]
 enum Detail {
-    /// Nothing.
+    /// No details.
     None,
-    /// Where the first one of repeated keys is.
+    /// The position of the first of the repeated keys.
     First(Position),
-    /// Which column is expected.
+    /// The expected column.
     Column(Expected),
 }
 
-/// Returns a line for each finding of a text.
+/// Returns a page with a line for each finding of a text.
 ///
 /// # Errors
 ///
@@ -90,7 +91,7 @@ pub fn findings_page(
     Ok(page)
 }
 
-// Whether the reading of the text has details about one of the findings.
+// Returns whether the reading of the text has details about one of the findings.
 fn need_reading(findings: &[Finding]) -> bool {
     for finding in findings {
         if finding.id == REPEATED || finding.id == INDENTATION {
@@ -127,7 +128,7 @@ fn push_read(
     }
 }
 
-// The same, by the columns that are expected in the text, and the positions at which they are.
+// Adds the lines of findings, given the expected columns of the text and their positions.
 fn push_with_reading(
     alloc: Global,
     page: &mut Page,
@@ -162,7 +163,7 @@ fn push_with_reading(
     Ok(())
 }
 
-// What is known about a repeated key.
+// Returns the details of a repeated key.
 fn detail_of_first(first: Option<Position>) -> Detail {
     match first {
         Some(first) => Detail::First(first),
@@ -170,7 +171,7 @@ fn detail_of_first(first: Option<Position>) -> Detail {
     }
 }
 
-// The column that is expected at a place, if that with the index is at the place.
+// Returns the expected column with this index, if it belongs to this position.
 fn detail_of_column(
     expected: &[Expected],
     columns: &[Position],
@@ -221,7 +222,7 @@ fn push_finding(
     push_line(page, line.as_str())
 }
 
-// What `fmt` does about a finding of a rule.
+// Returns what `fmt` does about a finding of a rule.
 fn words_on(id: &str) -> &'static str {
     for (name, words) in &WORDS {
         if *name == id {
@@ -231,8 +232,8 @@ fn words_on(id: &str) -> &'static str {
     "fmt does nothing about it"
 }
 
-// The place of each event of a reading, found in one pass over the text. An event without a part of the text has the place of the
-// event before it.
+// Returns the position of each event of a reading. It passes over the text once. An event that is no part of the text
+// has the position of the event before it.
 fn event_places(alloc: Global, src: &Src, reading: &Reading) -> Result<Vec<Position>, AllocError> {
     let mut starts = Vec::new(alloc);
     let mut start = 0;
@@ -245,7 +246,7 @@ fn event_places(alloc: Global, src: &Src, reading: &Reading) -> Result<Vec<Posit
     known_positions(alloc, src, starts.as_slice())
 }
 
-// The index of the first of some ascending places, from an index on, that is not before a place.
+// Returns the index of the first position from `from` on that is not before `place`. The positions ascend.
 fn first_at(places: &[Position], place: Position, from: usize) -> usize {
     for index in from..places.len() {
         if !is_before(places[index], place) {
@@ -259,8 +260,9 @@ fn is_before(place: Position, other: Position) -> bool {
     place.line < other.line || (place.line == other.line && place.column < other.column)
 }
 
-// Where the first key is that is the same as the one at a place, if the steps that are left find it. The events at the place are
-// from an index on. A step is an event that is looked at, and there is one for each event up to the key.
+// Returns the position of the first key that equals the key at a position, if the remaining steps suffice to find it.
+// The events at the position begin at an index. A step is one event, and the search takes a step for each event up to
+// the key.
 fn first_place(
     reading: &Reading,
     places: &[Position],
@@ -284,7 +286,7 @@ fn first_place(
     places.get(first).copied()
 }
 
-// Takes steps from those that are left, and returns whether there are enough.
+// Takes steps from the remaining ones, and returns whether there were enough.
 fn take_steps(steps: &mut usize, count: usize) -> bool {
     if *steps < count {
         *steps = 0;
@@ -294,7 +296,7 @@ fn take_steps(steps: &mut usize, count: usize) -> bool {
     true
 }
 
-// The index of the scalar that begins at a place, among the events at it from an index on.
+// Returns the index of the scalar that begins at a position. The events at the position begin at an index.
 fn scalar_at(reading: &Reading, places: &[Position], place: Position, from: usize) -> Option<usize>
     ensures { IfSome result (λ index. index < length reading.now.events) }
 {
@@ -312,7 +314,7 @@ fn scalar_at(reading: &Reading, places: &[Position], place: Position, from: usiz
     None
 }
 
-// Whether an event is a scalar that is a part of the text.
+// Returns whether an event is a scalar that is a part of the text.
 fn is_scalar(reading: &Reading, index: usize) -> bool
     requires { index < length reading.now.events }
 {
@@ -322,7 +324,7 @@ fn is_scalar(reading: &Reading, index: usize) -> bool
     matches!(reading.event(index), Event::Scalar { .. })
 }
 
-// The index of the first key of a mapping that is the same as the key at an index.
+// Returns the index of the first key of a mapping that equals the key at an index.
 fn first_key(reading: &Reading, index: usize, steps: &mut usize) -> Option<usize>
     requires { index < length reading.now.events }
     ensures { IfSome result (λ first. first < length reading.now.events) }
@@ -354,16 +356,16 @@ fn first_key(reading: &Reading, index: usize, steps: &mut usize) -> Option<usize
     first
 }
 
-// What is known when an event is passed backwards.
+// The state of the backward search at an event.
 #[derive(Clone, Copy)]
 struct Step {
-    // How many collections are open that end after it.
+    // The number of open collections that end after the event.
     depth: usize,
-    // Whether the collection begins with it that was open at first.
+    // Whether the event begins the collection that was open at the start.
     ends: bool,
 }
 
-// Passes an event backwards.
+// Passes an event backwards, and returns the new state.
 fn step_back(reading: &Reading, at: usize, depth: usize) -> Step
     requires { at < length reading.now.events }
 {
@@ -381,7 +383,7 @@ fn step_back(reading: &Reading, at: usize, depth: usize) -> Step
     }
 }
 
-// Whether two events are scalars of one text and one tag.
+// Returns whether two events are scalars with equal text and equal tags.
 fn are_same(reading: &Reading, one: usize, other: usize) -> bool
     requires first { one < length reading.now.events }
     requires second { other < length reading.now.events }

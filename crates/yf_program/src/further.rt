@@ -1,4 +1,4 @@
-//! What is told after the line of a fault, where that is asked for.
+//! The explanations that follow the line of a fault if the user asks for them (`--explain`).
 ghost use Rattle.std.specs.Prelude.{◌≡◌, true, IsOkAnd};
 ghost use Rattle.yf_explain.specs.Explained.{Explains};
 ghost use Rattle.yf_rules.specs.Runs.ByteStream.{stream_of};
@@ -16,7 +16,7 @@ use yf_lines::watched::Sink;
 use yf_rules::finding::Finding;
 use yf_settings::settings_words::explain_settings;
 
-/// Reports a fault of an input, and explains it by the bytes that were read, if that is asked for. Returns the status of
+/// Reports a fault of an input. If asked, it also explains the fault by the bytes that were read. Returns the status of
 /// the fault.
 pub fn report_input<E: Sink>(
     alloc: Global,
@@ -33,7 +33,7 @@ pub fn report_input<E: Sink>(
     status
 }
 
-// Tells more of a fault of an input, where that is asked for.
+// Explains a fault of an input if asked.
 fn tell_input<E: Sink>(
     alloc: Global,
     explained: bool,
@@ -50,8 +50,8 @@ fn tell_input<E: Sink>(
     }
 }
 
-/// Reports a fault of a file that can't be read, and tells its name and what the system says of it, where that is asked for. Answers the
-/// status of the fault.
+/// Reports a fault of a file that can't be read. If asked, it also prints the file's name and the system's error.
+/// Returns the status of the fault.
 pub fn report_file<I: Inputs, E: Sink>(
     alloc: Global,
     explained: bool,
@@ -68,7 +68,7 @@ pub fn report_file<I: Inputs, E: Sink>(
     status
 }
 
-/// Tells more of a fault of a file, which is read again for that, where that is asked for.
+/// Explains a fault of a file if asked. It reads the file again to do so.
 pub fn tell_file<I: Inputs, E: Sink>(
     alloc: Global,
     explained: bool,
@@ -86,7 +86,7 @@ pub fn tell_file<I: Inputs, E: Sink>(
     }
 }
 
-// What is told of a fault of a file.
+// Returns the explanation of a fault of a file.
 fn file_page<I: Inputs>(
     alloc: Global,
     inputs: &I,
@@ -102,8 +102,8 @@ fn file_page<I: Inputs>(
     }
 }
 
-/// Reports a fault of the settings, and tells more of it by the bytes that were read, where that is asked for. Answers the status of the
-/// fault.
+/// Reports a fault of the settings. If asked, it also explains the fault by the bytes that were read. Returns the
+/// status of the fault.
 pub fn report_settings<I: Inputs, E: Sink>(
     alloc: Global,
     explained: bool,
@@ -124,7 +124,7 @@ pub fn report_settings<I: Inputs, E: Sink>(
     status
 }
 
-// Tells more of a wrong key of the settings, where that is asked for.
+// Explains a wrong key of the settings if asked.
 fn tell_settings<E: Sink>(
     alloc: Global,
     explained: bool,
@@ -141,7 +141,7 @@ fn tell_settings<E: Sink>(
     }
 }
 
-/// Explains the findings of a text that was checked with this style, if that is asked for.
+/// Explains the findings of a text that was checked with this style, if asked.
 pub fn tell_findings<E: Sink>(
     alloc: Global,
     explained: bool,
@@ -159,7 +159,7 @@ pub fn tell_findings<E: Sink>(
     }
 }
 
-// Tells what is on a page, unless the stream has failed, or there is none.
+// Writes the text of a page, unless the stream has failed or there is no page.
 fn tell_page<E: Sink>(page: &Result<Page, AllocError>, error_stream: &mut E)
     ensures { TellsMore true (λ lines. IsOkAnd page.now (λ told. told ≡ lines))
         (stream_of E.contents E.has_failed error_stream.old) (stream_of E.contents E.has_failed error_stream.new) }

@@ -1,4 +1,4 @@
-//! What a command reads.
+//! The inputs of a command.
 ghost use Rattle.std.specs.Prelude.{◌≡◌, ◌∷◌, ◌++◌, [], true, false, List, IfOk, IfErr, OnErr, OnOk};
 ghost use Rattle.yf_command_line.specs.declared.command.Input.{Input};
 ghost use Rattle.yf_command_line.specs.declared.command.Input.TheVariants.{File as NamedFile, Standard as StandardInput};
@@ -9,16 +9,16 @@ use std::alloc::{AllocError, Global};
 use yf_lines::fault::Fault;
 use yf_lines::watched::Source;
 
-/// What a second look at a file gives.
+/// The result of a second look at a file.
 #[derive(Drop)]
 pub enum Again {
-    /// What it holds.
+    /// The contents of the file.
     Bytes(Vec<u8>),
-    /// Why it can't be read, in words.
+    /// Why the file can't be read, in words.
     Words(String),
 }
 
-/// What a command reads: files by their names, and standard input.
+/// The inputs of a command: files by their names, and standard input.
 pub trait Inputs {
     /// A file that is open for reading.
     type File: Source + Drop;
@@ -44,10 +44,10 @@ pub trait Inputs {
         ensures fault { IfErr result (λ fault. fault ≡ ReadFailed) }
         ensures fails { (claim self.old).tells → OnErr result ((claim self.old).fails (NamedFile name.now)) };
 
-    /// Reads a file once more, to explain a fault of it. The file doesn't count as opened.
+    /// Reads a file again, to explain a fault of it. The file doesn't count as opened.
     fn read_again(&self, alloc: Global, name: &str) -> Result<Again, AllocError>;
 
-    /// Opens standard input. If it is known what standard input holds, each call gives all of it.
+    /// Opens standard input. If its contents are known, each call gives all of them.
     fn open_standard(&mut self) -> Self::Standard
         ensures opened { (claim self.old).notes → opened self.new ≡ opened self.old ++ StandardInput ∷ [] }
         ensures same { StillKnown (claim self.old) (claim self.new) }

@@ -1,14 +1,14 @@
-//! Standard output whose reader may leave before it has read all, as `head` does.
+//! Standard output whose reader may leave before the end of the output, as `head` does.
 ghost use Rattle.std.specs.Prelude.{None};
 
 use std::cell::Cell;
 use std::io;
 use std::io::{ErrorKind, Write};
 
-/// The status with which a shell knows a program whose reader has left.
+/// The exit status that a shell reports for a program whose reader has left.
 pub const LEFT: u8 = 141;
 
-/// A writer that notes where its reader has left.
+/// A writer that notes when its reader has left.
 #[derive(Drop)]
 pub struct Noting<'a, W> {
     pub inner: W,
@@ -35,7 +35,7 @@ impl<W: Write> Write for Noting<'_, W> {
     }
 }
 
-/// A writer that says nothing more where the reader of another one has left.
+/// A writer that drops all bytes once the reader of another writer has left.
 #[derive(Drop)]
 pub struct Silenced<'a, W> {
     pub inner: W,

@@ -1,4 +1,4 @@
-//! The program, as a library: from the words of a command line to the status, over whatever it reads and writes.
+//! The program as a library, from the words of a command line to the exit status. It works over any inputs and outputs.
 #![tactic(auto)]
 
 pub mod answer;

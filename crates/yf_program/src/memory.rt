@@ -1,4 +1,4 @@
-//! What was written to memory for one file among several, and is written out with its name.
+//! The output for one file among several. It is collected in memory and then written with the file's name.
 ghost use Rattle.std.specs.Prelude.{◌≡◌, ◌⊎◌, true, false};
 ghost use Rattle.yf_program.specs.Answer.{AreTold, IsLine, ToldMemory, ToldNamed};
 ghost use Rattle.yf_program.specs.Named.{named_lines};
@@ -11,8 +11,8 @@ use yf_lines::fault::Fault;
 use yf_lines::output::write_text;
 use yf_lines::watched::{Sink, Watched};
 
-/// Writes what is in memory with a name before each line, and returns the status. If some of it is missing, or memory is
-/// refused, writes only `no memory`.
+/// Writes the contents of memory with a name before each line, and returns the status. If a part of them is missing, or
+/// memory is refused, it writes only `no memory`.
 pub fn tell_memory<W: Sink, E: Sink>(
     alloc: Global,
     name: &str,
@@ -28,8 +28,8 @@ pub fn tell_memory<W: Sink, E: Sink>(
     tell_named(alloc, name, status, output, faults, is_whole, streams)
 }
 
-// Returns whether memory holds everything that was written for one file: all of its output, and its line for the stream
-// of faults. Lines that explain that line may be missing.
+// Returns whether memory holds everything that was written for one file: its whole output, and its line for the error
+// stream. Lines that explain that line may be missing.
 fn is_whole(is_broken: bool, is_deaf: bool, faults: &[u8]) -> bool
     ensures broken { result ≡ true → is_broken ≡ false }
     ensures deaf { result ≡ true → (is_deaf ≡ false) ⊎ IsLine faults.now }
@@ -43,8 +43,8 @@ fn is_whole(is_broken: bool, is_deaf: bool, faults: &[u8]) -> bool
     true
 }
 
-// Returns whether a text ends a line. The line of a fault is written first, and only then lines that explain it. Each
-// text is written whole or not at all.
+// Returns whether a text ends with a complete line. The line of a fault is written first, and the lines that explain it
+// follow. Each text is written whole or not at all.
 fn ends_line(text: &[u8]) -> bool
     ensures { result ≡ true → IsLine text.now }
 {
@@ -54,8 +54,8 @@ fn ends_line(text: &[u8]) -> bool
     }
 }
 
-// Writes what was written for one file among several, and returns its status. If some of it is missing, or memory for
-// the names is refused, writes only `no memory`.
+// Writes the output for one file among several, and returns its status. If a part of the output is missing, or memory
+// for the names is refused, it writes only `no memory`.
 fn tell_named<W: Sink, E: Sink>(
     alloc: Global,
     name: &str,
@@ -80,7 +80,7 @@ fn tell_named<W: Sink, E: Sink>(
     }
 }
 
-// Writes two texts to the two streams, and returns the status, or that of a write that fails.
+// Writes two texts to the two streams. Returns the status, or the status of a failed write.
 fn tell<W: Sink, E: Sink>(
     status: u8,
     output: &[u8],

@@ -1,4 +1,4 @@
-//! Inputs in memory, of which it is known what they hold.
+//! Inputs in memory, whose contents are known.
 ghost use Rattle.std.specs.Prelude.{◌≡◌, option_map};
 ghost use Rattle.yf_program.specs.MemoryInputs.{held};
 
@@ -12,9 +12,9 @@ use yf_lines::watched::Source;
 /// A file in memory.
 #[derive(Clone, Copy)]
 pub struct Stored {
-    /// Its name.
+    /// The name of the file.
     pub name: &'static str,
-    /// What it holds.
+    /// The contents of the file.
     pub bytes: &'static [u8],
 }
 
@@ -56,7 +56,7 @@ impl Source for MemoryReader {
     }
 }
 
-// Returns what the file of a name holds.
+// Returns the contents of the file with this name.
 fn found(files: &'static [Stored], name: &str) -> Option<&'static [u8]>
     ensures { option_map (λ bytes. bytes.now) result ≡ held files.now name.now }
 {
@@ -68,19 +68,19 @@ fn found(files: &'static [Stored], name: &str) -> Option<&'static [u8]>
     None
 }
 
-/// Inputs in memory. They tell what they hold: a file that is not among `files` can't be opened, and no read fails.
+/// Inputs in memory, whose contents are known. A file that is not among `files` can't be opened, and no read fails.
 #[derive(Drop)]
 pub struct MemoryInputs {
     /// The files.
     pub files: &'static [Stored],
-    /// What standard input holds.
+    /// The contents of standard input.
     pub standard: &'static [u8],
     /// The names of the inputs that were opened, each with a space after it. A name is missing if memory was refused.
     pub opened: Vec<u8>,
 }
 
 impl MemoryInputs {
-    // Notes that an input of this name is opened.
+    // Notes that the input with this name is opened.
     fn note(&mut self, name: &str)
         ensures files { self.new.files ≡ self.old.files }
         ensures standard { self.new.standard ≡ self.old.standard }

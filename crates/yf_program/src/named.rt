@@ -1,4 +1,4 @@
-//! What is written for one file among several: its lines, each with the file's name before it.
+//! The output for one file among several: its lines, each with the file's name before it.
 ghost use Rattle.std.specs.Prelude.{◌≡◌, ◌++◌, ◌∷◌, [], IfOk};
 ghost use Rattle.yf_command_line.specs.Shown.{shown};
 ghost use Rattle.yf_program.specs.Named.{first_byte, named_lines, prefixed, prefixed_byte};
@@ -7,8 +7,8 @@ use std::alloc::{AllocError, Global};
 use yf_command_line::shown::write_shown;
 use yf_lines::watched::Watched;
 
-/// A text with the name of a file and a colon before each of its lines, and a space after that where a line begins with no
-/// place. In the name control characters are shown by their numbers, as in all messages.
+/// Returns a text with the name of a file and a colon before each of its lines. A space follows the colon if the line
+/// doesn't begin with a position. Control characters in the name are shown by their numbers, as in all messages.
 pub fn named_lines(alloc: Global, name: &str, text: &[u8]) -> Result<Vec<u8>, AllocError>
     ensures { IfOk result (λ named. named.items ≡ named_lines name.now text.now) }
 {
@@ -17,7 +17,7 @@ pub fn named_lines(alloc: Global, name: &str, text: &[u8]) -> Result<Vec<u8>, Al
     prefixed(alloc, prefix.as_slice(), text)
 }
 
-// A name with its control characters shown.
+// Returns a name with its control characters shown by their numbers.
 fn shown_name(alloc: Global, name: &str) -> Result<Vec<u8>, AllocError>
     ensures { IfOk result (λ bytes. bytes.items ≡ shown name.now) }
 {
@@ -28,7 +28,7 @@ fn shown_name(alloc: Global, name: &str) -> Result<Vec<u8>, AllocError>
     }
 }
 
-// A text with bytes before each of its lines.
+// Returns a text with a prefix before each of its lines.
 fn prefixed(alloc: Global, prefix: &[u8], text: &[u8]) -> Result<Vec<u8>, AllocError>
     ensures { IfOk result (λ all. all.items ≡ prefixed prefix.now 10 text.now) }
 {
@@ -41,7 +41,7 @@ fn prefixed(alloc: Global, prefix: &[u8], text: &[u8]) -> Result<Vec<u8>, AllocE
     Ok(all)
 }
 
-// Adds a byte after another one, with the bytes before it where a line begins.
+// Adds a byte. If the byte before it ends a line, the prefix comes first.
 fn push_prefixed(all: &mut Vec<u8>, prefix: &[u8], before: u8, byte: u8) -> Result<(), AllocError>
     ensures { IfOk result (λ _. all.new.items ≡ all.old.items ++ prefixed_byte prefix.now before byte) }
 {
@@ -53,7 +53,7 @@ fn push_prefixed(all: &mut Vec<u8>, prefix: &[u8], before: u8, byte: u8) -> Resu
     Ok(())
 }
 
-// Adds the first byte of a line, after a space where it is no digit.
+// Adds the first byte of a line. If it is not a digit, a space comes first.
 fn push_first(all: &mut Vec<u8>, byte: u8) -> Result<(), AllocError>
     ensures { IfOk result (λ _. all.new.items ≡ all.old.items ++ first_byte byte) }
 {

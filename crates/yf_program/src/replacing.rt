@@ -1,4 +1,4 @@
-//! The files of the system, by the calls with which a file is rewritten.
+//! The files of the system, and the calls that rewrite a file.
 ghost use Rattle.yf_files.specs.Tree.{unknown};
 
 use crate::files::Links;
@@ -14,16 +14,16 @@ use yf_lines::watched::Watched;
 use yf_rules::input::read_all;
 use yf_rules::run::INPUT_LIMIT;
 
-/// The permissions of a file that its owner alone may read.
+/// The permissions of a file that only its owner may read.
 const PRIVATE: u32 = 0o600;
 
-/// What is asked of an open file besides reading and writing it.
+/// Calls on an open file, besides reading and writing.
 pub trait Held: OpenFile {
-    /// Locks the file until it is closed, and fails where another run holds it. The answer is whether its file system has
-    /// locks.
+    /// Locks the file until it is closed. Returns whether the file system has locks. Fails if another run holds the
+    /// file.
     fn hold(&self) -> io::Result<bool>;
 
-    /// Gives the file to an owner and a group, each where it is there.
+    /// Gives the file to an owner and to a group, each only if it is given.
     fn give_to(&self, owner: Option<u32>, group: Option<u32>) -> io::Result<()>;
 }
 
@@ -41,20 +41,21 @@ impl Held for File {
     }
 }
 
-/// A regular file that is open for reading, and what the system told of it then.
+/// A regular file that is open for reading, with its metadata at that time.
 #[derive(Drop)]
 pub struct Opened<F> {
     pub file: F,
     pub metadata: Metadata,
 }
 
-/// Opens a regular file, or a link to one. Anything else fails, and is not opened: a FIFO would wait for its other end.
+/// Opens a regular file, or a link to one. Fails for anything else without opening it, since opening a FIFO would wait
+/// for its other end.
 pub fn open_regular<R: Files>(rt: &R, path: &str) -> io::Result<Opened<R::File>> {
     require(fs::metadata(rt, path)?.is_file())?;
     regular(File::open(rt, path)?)
 }
 
-// What the system tells of an open file, if that is a regular one.
+// Returns the open file with its metadata if it is a regular file.
 fn regular<F: OpenFile + Drop>(file: F) -> io::Result<Opened<F>> {
     match file.metadata() {
         Ok(metadata) if metadata.is_file() => Ok(Opened { file, metadata }),
@@ -70,7 +71,7 @@ fn require(condition: bool) -> io::Result<()> {
     Err(io::Error::from(ErrorKind::InvalidInput))
 }
 
-// What a call of the system answered, without its error.
+// Returns the result of a system call without its error.
 fn answer(outcome: io::Result<()>) -> Result<(), Failed> {
     match outcome {
         Ok(()) => Ok(()),
@@ -78,16 +79,16 @@ fn answer(outcome: io::Result<()>) -> Result<(), Failed> {
     }
 }
 
-/// The files of the system, the one of them that was read last, and the one that was made last.
+/// The files of the system: the file that was read last, and the file that was made last.
 ///
-/// Each method makes the calls of the system that it is named for. What the system holds is not told, so nothing is claimed of
-/// it: that its calls do what `FileSystem` says is trusted.
+/// Each method makes the system calls that its name says. Nothing is known of what the system holds, so the contracts
+/// say nothing about it. It is trusted that the calls do what `FileSystem` says.
 #[derive(Drop)]
 pub struct SystemFiles<R: Files + Drop> {
     rt: R,
     opened: Option<Opened<R::File>>,
     made: Option<R::File>,
-    /// Whether no other run is at work on the file, or what is at the new name is ours.
+    /// Whether no other run works on the file, or the entry at the new name is ours.
     is_alone: bool,
 }
 
@@ -213,7 +214,7 @@ where
     }
 }
 
-// The path of what a link leads to; nothing where the path is none of a link.
+// Returns the path of the file to which a link leads, or `None` if the path is not a link.
 fn resolved<R: Files>(rt: &R, alloc: Global, path: &str) -> io::Result<Option<String>> {
     if !fs::symlink_metadata(rt, path)?.is_symlink() {
         return Ok(None);
@@ -222,7 +223,7 @@ fn resolved<R: Files>(rt: &R, alloc: Global, path: &str) -> io::Result<Option<St
     Ok(Some(String::from_str(alloc, file.as_str())?))
 }
 
-// The path of the folder in which a file is.
+// Returns the path of a file's folder.
 fn folder_of(path: &str) -> &str {
     match path.rsplit_once('/') {
         Some(("", _)) => "/",
@@ -231,7 +232,7 @@ fn folder_of(path: &str) -> &str {
     }
 }
 
-// Fails where another file is at the path, or a link, or this one was written since.
+// Fails if another file or a link is at the path, or if the file was written since it was read.
 fn require_unchanged<R: Files>(rt: &R, path: &str, metadata: &Metadata) -> io::Result<()> {
     let now = fs::symlink_metadata(rt, path)?;
     require(is_same_file(&now, metadata))?;
@@ -248,7 +249,8 @@ fn is_same_text(left: &Metadata, right: &Metadata) -> bool {
         && left.mtime_nsec() == right.mtime_nsec()
 }
 
-// Removes what is at the path of the new file. Without a lock a regular file may be that of another run, and stays.
+// Removes the entry at the path of the new file, if there is one. Without a lock, a regular file may belong to another
+// run, and so the call fails.
 fn clear<R: Files>(rt: &R, new_path: &str, is_alone: bool) -> io::Result<()> {
     match fs::symlink_metadata(rt, new_path) {
         Ok(metadata) => {
@@ -260,7 +262,7 @@ fn clear<R: Files>(rt: &R, new_path: &str, is_alone: bool) -> io::Result<()> {
     }
 }
 
-// Makes the new file, where nothing is at its path.
+// Makes the new file. Fails if something is at its path.
 fn make<R: Files>(rt: &R, new_path: &str) -> io::Result<R::File> {
     OpenOptions::new()
         .write(true)
@@ -276,7 +278,8 @@ fn give<F: Held>(new_file: &F, old: &Metadata) -> io::Result<()> {
     new_file.set_permissions(Permissions::from_mode(mode))
 }
 
-// Gives the new file the owner of the old one, and its group where the system allows, and answers whether it has that group.
+// Gives the new file the owner of the old one, and its group if the system allows that. Returns whether it has that
+// group.
 fn keep_owner<F: Held>(new_file: &F, old: &Metadata) -> io::Result<bool> {
     let new = new_file.metadata()?;
     if new.uid() == old.uid() && new.gid() == old.gid() {
@@ -291,8 +294,8 @@ fn keep_owner<F: Held>(new_file: &F, old: &Metadata) -> io::Result<bool> {
     Ok(new.gid() == old.gid() || new_file.give_to(None, Some(old.gid())).is_ok())
 }
 
-/// The permissions of the new file: those of the old one without its set-user, set-group and sticky bits. Where its group is
-/// another one, that may do no more than everyone may.
+/// Returns the permissions of the new file: those of the old one without its set-user, set-group and sticky bits. If
+/// the new file has another group, that group may do no more than everyone may.
 pub fn mode_of(mode: u32, has_group: bool) -> u32 {
     if has_group {
         return mode & 0o777;

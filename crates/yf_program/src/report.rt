@@ -1,4 +1,4 @@
-//! What the program prints for a fault, and the status with which it then ends.
+//! The line that the program prints for a fault, and the exit status for the fault.
 ghost use Rattle.std.specs.Prelude.{◌≡◌};
 ghost use Rattle.yf_rules.specs.Runs.ByteStream.{WriteEnds, WrittenOrFailed, stream_of};
 ghost use Rattle.yf_program.specs.Report.{fault_line, fault_status, refusal_line};
@@ -10,11 +10,11 @@ use yf_lines::output::{write_text, write_texts};
 use yf_lines::place::Position;
 use yf_lines::watched::Sink;
 
-/// Writes the fault's line to the error stream and answers the fault's status: 2 where the stream is refused, 3 for
+/// Writes the fault's line to the error stream, and returns the fault's status: 2 if the stream is refused, and 3 for
 /// memory, files and settings.
 ///
-/// A failure of the error stream leaves the status as it is; a prefix of the line has then been written. No memory is
-/// taken.
+/// If the error stream fails, the status is the same, and only a prefix of the line has been written. The function
+/// takes no memory.
 pub fn report<E: Sink>(fault: &Fault, error_stream: &mut E) -> u8
     ensures status { result ≡ fault_status fault.now }
     ensures line { WrittenOrFailed (stream_of E.contents E.has_failed error_stream.old)

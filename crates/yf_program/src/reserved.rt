@@ -28,14 +28,14 @@ pub struct Reserved<F> {
     error: Option<F>,
 }
 
-/// Opens a file in place of each standard stream that is closed. If all three are open, no file is opened.
+/// Opens a file for each standard stream that is closed. If all three are open, no file is opened.
 ///
-/// The system gives a file that is opened the lowest number that is free. If standard error is closed, the first file that the
-/// program opens takes its number, and messages are written into that file. So this comes before any other file is opened, and
-/// the result lives as long as the program runs.
+/// The system gives each file that is opened the lowest free number. So if standard error is closed, the first file
+/// that the program opens takes its number, and messages are written into that file. To prevent this, call this
+/// function before any other file is opened, and keep the result as long as the program runs.
 ///
-/// The file in place of standard input cannot be read, and the others cannot be written to: such a stream still fails like one
-/// that is closed.
+/// The file for standard input can't be read, and the other files can't be written to. So such a stream still fails
+/// like a closed stream.
 ///
 /// # Errors
 ///
@@ -59,7 +59,7 @@ where
     fill(rt)
 }
 
-// Returns whether a stream is open. Only an open file can be given another number.
+// Returns whether a stream is open. Duplicating a closed stream fails with `NO_FILE`.
 fn is_open<S: AsFd>(stream: &S) -> bool {
     match stream.as_fd().try_clone_to_owned() {
         Ok(_) => true,
@@ -67,7 +67,7 @@ fn is_open<S: AsFd>(stream: &S) -> bool {
     }
 }
 
-// Opens a file for each number of a standard stream that is free.
+// Opens a file for each free number of a standard stream.
 fn fill<R: Files>(rt: &R) -> io::Result<Reserved<R::File>>
 where
     R::File: AsRawFd,
@@ -86,7 +86,7 @@ where
     })
 }
 
-// Opens a file from which nothing is read, and to which nothing is written.
+// Opens a file that is neither read nor written.
 fn open_null<R: Files>(rt: &R, options: &OpenOptions) -> io::Result<R::File> {
     match options.open(rt, NULL) {
         Ok(file) => Ok(file),
@@ -94,7 +94,7 @@ fn open_null<R: Files>(rt: &R, options: &OpenOptions) -> io::Result<R::File> {
     }
 }
 
-// Returns the file if its number is in the range. Any other is closed.
+// Returns the file if its number is in the range, and closes it otherwise.
 fn if_among<F: AsRawFd + Drop>(file: F, least: i32, greatest: i32) -> Option<F> {
     let number = file.as_raw_fd();
     if least <= number && number <= greatest {

@@ -1,4 +1,4 @@
-//! `fmt --write`: a file that is rewritten by itself, and several, each as if it were the only one.
+//! `fmt --write`. If there are several files, each is rewritten as if it were the only one.
 ghost use Rattle.std.specs.Prelude.{◌≡◌, map};
 ghost use Rattle.yf_command_line.specs.Requests.{all_files};
 ghost use Rattle.yf_command_line.specs.declared.command.Input.TheVariants.{File};
@@ -21,7 +21,7 @@ use yf_forms::style::Style;
 use yf_lines::fault::Fault;
 use yf_lines::watched::Sink;
 
-/// Rewrites the only file, or each of several.
+/// Rewrites the only file, or each of several. Returns the status.
 pub fn rewrite_files<I: Inputs, S: Links, W: Sink, E: Sink>(
     alloc: Global,
     explain: bool,
@@ -41,8 +41,8 @@ pub fn rewrite_files<I: Inputs, S: Links, W: Sink, E: Sink>(
     rewrite_each(alloc, explain, style, files, sources, streams)
 }
 
-// Rewrites each of some files, in order, and returns the greatest status. What is written for a file has its name before
-// each line.
+// Rewrites each file, in order, and returns the greatest status. Each line of the output begins with the name of its
+// file.
 fn rewrite_each<I: Inputs, S: Links, W: Sink, E: Sink>(
     alloc: Global,
     explain: bool,
@@ -64,7 +64,8 @@ fn rewrite_each<I: Inputs, S: Links, W: Sink, E: Sink>(
     greatest
 }
 
-// Rewrites a file as if it were the only one, and writes what that gave with its name before each line.
+// Rewrites a file as if it were the only one, and writes the output with the file's name before each line. Returns the
+// status.
 fn rewrite_named<I: Inputs, S: Links, W: Sink, E: Sink>(
     alloc: Global,
     explain: bool,
@@ -83,7 +84,7 @@ fn rewrite_named<I: Inputs, S: Links, W: Sink, E: Sink>(
     tell_memory(alloc, name, status, &memory, streams)
 }
 
-// Rewrites a file, reports why if it is not rewritten, and returns the status.
+// Rewrites a file and returns the status. Reports the reason if the file is not rewritten.
 fn rewrite_file<I: Inputs, S: Links, W: Sink, E: Sink>(
     alloc: Global,
     explain: bool,
@@ -107,7 +108,7 @@ fn rewrite_file<I: Inputs, S: Links, W: Sink, E: Sink>(
     )
 }
 
-// Reports why a file is not rewritten, if it isn't, and returns the status.
+// Reports the reason if a file is not rewritten, and returns the status.
 fn report_rewriting<I: Inputs, E: Sink>(
     alloc: Global,
     explain: bool,
@@ -129,7 +130,7 @@ fn report_rewriting<I: Inputs, E: Sink>(
     }
 }
 
-// Explains why a file is not rewritten, if that is asked for.
+// Explains why a file is not rewritten, if asked.
 fn tell_rewrite<I: Inputs, E: Sink>(
     alloc: Global,
     explain: bool,

@@ -1,6 +1,6 @@
-//! What the program reads.
+//! The files and the inputs of the program.
 
-/// What the program reads and rewrites.
+/// The inputs that the program reads, and the files that it rewrites.
 #[derive(Drop)]
 pub struct Sources<I, S> {
     /// The inputs: files by their names, and standard input.

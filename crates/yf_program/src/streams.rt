@@ -6,12 +6,13 @@ use std::alloc::Global;
 use std::marker::Model;
 use yf_lines::watched::{Sink, Watched};
 
-/// The two streams that the program writes to. A contract sees what each was given, and whether a call of it has failed.
+/// The two streams that the program writes to. Contracts refer to the bytes that each was given, and to whether a call
+/// of it failed.
 #[derive(Drop)]
 pub struct Streams<W: Sink, E: Sink> {
     /// Standard output.
     pub output: W,
-    /// The stream of faults, which is standard error.
+    /// Standard error, the stream for faults.
     pub errors: E,
 }
 
@@ -25,7 +26,7 @@ impl<W: Sink, E: Sink> Model for Streams<W, E> {
         (stream_of E.contents E.has_failed s.errors) };
 }
 
-/// Two streams in memory to which nothing was written.
+/// Returns two empty streams in memory.
 pub fn in_memory(alloc: Global) -> Streams<Watched<Vec<u8>>, Watched<Vec<u8>>>
     ensures { result ≡ empty_memory }
 {

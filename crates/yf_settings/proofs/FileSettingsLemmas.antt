@@ -1,4 +1,4 @@
--- What a table sets, and why it is refused.
+-- The settings that a table has, and why a table is refused.
 use Rattle.std.proofs.Common.{◌≡◌, ◌≢◌, ◌⊎◌, ℕ, Bool, true, false, List, [], Option, Some, None, inl, inr, refl, sym, subst, ap, ◌∙◌}
 use Rattle.std.specs.Prelude.{codes, IsSomeAnd, MatchOption, MatchResult, Result, Ok, Err}
 use Rattle.std.proofs.lemmas.Option.{same_Some}
@@ -42,7 +42,7 @@ refuses_key version patterns table key fault texts least (inl e) = subst (λ f. 
 refuses_key version patterns table key fault texts least (inr e) =
     subst (λ f. RefusesTable table f) (sym e) (least_is_there version patterns table key least)
 
--- A text is refused as its table is.
+-- A text is refused for the same fault as its table.
 pub refuses_text : (text : List ℕ) (table : Members) (fault : Fault) → parse_document text ≡ Some table
     → RefusesTable table fault → RefusesFile text fault
 refuses_text text table (Config key) read refused =
@@ -91,7 +91,7 @@ pub none_wrong : (version patterns : Bool) (table : Members) → ((key : List �
 none_wrong version patterns table w right =
     let both : true ≡ false = sym (right w.0 w.1.0 w.1.1) ∙ w.1.2 in cc
 
--- A text has the settings of its table, or is refused as the table is.
+-- A text has the settings of its table, or is refused for the table's fault.
 pub text_settings : (text : List ℕ) (table : Members) (r : Result FileSettings Fault)
     → parse_document text ≡ Some table → MatchResult r (SettingsOfTable table) (RefusesTable table)
     → MatchResult r (HasSettings text) (RefusesFile text)
@@ -99,7 +99,7 @@ text_settings text table (Ok settings) read has =
     subst (λ o. IsSomeAnd o (λ t. SettingsOfTable t settings)) (sym read) has
 text_settings text table (Err fault) read refused = refuses_text text table fault read refused
 
--- The values of both keys, by what was read of them.
+-- The values of both keys, given what was read from them.
 pub right_and_wrong : (table : Members) (r : Required) → Requires (get_member (codes "required_version") table) r
     → IsNoList (get_member (codes "exclude") table) → TextsAreRight table true false
 right_and_wrong table r required bad = record { required = (r, required); exclude = bad }

@@ -20,7 +20,7 @@ use Rattle.yf_settings.specs.declared.texts.Required.{Required}
 use Rattle.yf_settings.specs.declared.texts.Required.TheVariants.{Any, Versions}
 use Rattle.yf_settings.specs.declared.texts.Requirement.{Requirement}
 
--- these texts before others
+-- These texts, followed by others.
 abbrev pub after : List (List ℕ) → Option (List (List ℕ)) → Option (List (List ℕ))
 after front None = None
 after front (Some rest) = Some (front ++ rest)
@@ -30,7 +30,7 @@ after_text : (front : List (List ℕ)) (text : List ℕ) (rest : Option (List (L
 after_text front text None = refl
 after_text front text (Some rest) = ap (λ x. Some x) (sym (append_assoc front (text ∷ []) rest))
 
--- one value more, which is a text
+-- One more value, which is a text.
 pub text_more : (values : List Value) (k : ℕ) (value : Value) (front : List Lent) (text : Lent)
     (all : Option (List (List ℕ))) → k < length values → value ≡ get_or values k value
     → as_str (view value) ≡ Some text.now
@@ -46,7 +46,7 @@ text_more values k value front text all within at is so_far =
     ∙ after_text (texts front) text.now rest
     ∙ ap (λ x. after x rest) (sym (map_push (λ n. n.now) front text))
 
--- one value more, which is no text
+-- One more value, which is not a text.
 pub no_text : (values : List Value) (k : ℕ) (value : Value) (front : List Lent)
     (all : Option (List (List ℕ))) → k < length values → value ≡ get_or values k value → as_str (view value) ≡ None
     → all ≡ after (texts front) (strings_of (items_view (drop k values))) → all ≡ None
@@ -58,7 +58,7 @@ no_text values k value front all within at is so_far =
     so_far ∙ ap (λ o. after (texts front) o)
     (here ∙ ap (λ o. with_text o (strings_of (items_view (drop (k + 1) values)))) same)
 
--- all values are texts
+-- All values are texts.
 pub all_texts : (values : List Value) (k : ℕ) (front : List Lent) (all : Option (List (List ℕ)))
     → length values ≤ k → all ≡ after (texts front) (strings_of (items_view (drop k values)))
     → all ≡ Some (texts front)
@@ -70,7 +70,7 @@ pub before_any : (o : Option (List (List ℕ))) → o ≡ after [] o
 before_any None = refl
 before_any (Some x) = refl
 
--- which versions are allowed
+-- The versions that a requirement allows.
 pub allows_by : (required : Required) (r : Requirement) (version : List ℕ) (v : Version) (b : Bool)
     → required ≡ Versions r → version_parts version ≡ Ok (parts_of v) → b ≡ matches_all r.versions.comparators.items v
     → b ≡ allows required version
@@ -79,7 +79,7 @@ allows_by required r version v b is read e =
     (subst (λ p. b ≡ meets r.versions.comparators.items p) (sym read)
     (e ∙ matches_all-views r.versions.comparators.items v))
 
--- what is read of an array is read of the value
+-- The patterns of an array are the patterns of the value.
 list_option : {B : Type 0} (ps : B → List Pattern) (value : Data) (items : Items) → as_array value ≡ Some items
     → (o : Option B) → MatchOption o (NoPatternsIn items) (λ v. PatternsIn items (ps v))
     → MatchOption o (IsNoList (Some value)) (λ v. Excludes (Some value) (ps v))

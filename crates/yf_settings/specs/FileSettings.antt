@@ -1,4 +1,4 @@
--- What the text of a settings file sets, and when it is refused.
+-- The settings in the text of a settings file, and when the text is refused.
 use Rattle.std.specs.Prelude.{◌≡◌, ◌≢◌, ℕ, Bool, true, List, [], codes, MatchBool, MatchOption, IsSomeAnd}
 use Rattle.toml.specs.Data.{Members, no_members, get_member}
 use Rattle.toml.specs.Parse.{parse_document}
@@ -47,12 +47,12 @@ pub record AreDefaults (settings : FileSettings) : Type 0 where
   pub required : settings.required ≡ Any
   pub exclude : settings.exclude.items ≡ []
 
--- The text is TOML, and its table has the settings.
+-- The text is TOML, and its table has these settings.
 abbrev pub HasSettings : List ℕ → FileSettings → Type 0
 HasSettings text settings = IsSomeAnd (parse_document text) (λ table. SettingsOfTable table settings)
 
--- The key is empty if the text is no TOML, and the least wrong key if it is. Memory is refused only if the text has a
--- key.
+-- The key is empty if the text is not TOML. Otherwise it is the least wrong key. Memory is refused only if the text has
+-- a key.
 abbrev pub RefusesFile : List ℕ → Fault → Type 0
 RefusesFile text (Config key) = MatchOption (parse_document text) (key ≡ []) (λ table. RefusesKey table key)
 RefusesFile text Memory = IsBlank text → ⊥

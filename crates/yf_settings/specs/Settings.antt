@@ -1,4 +1,4 @@
--- The settings that a TOML table holds: the value of each key, which keys are wrong, and the least wrong key.
+-- The settings in a TOML table: the value of each key, which keys are wrong, and the least wrong key.
 use Rattle.std.specs.Prelude.{◌≡◌, ℕ, pos, Bool, true, false, ◌&&◌, nat_le, List, [], Option, Some, None}
 use Rattle.std.specs.Prelude.{is_some, unwrap_or, option_and_then, if◌then◌else◌, codes, MatchOption, IsSomeAnd}
 use Rattle.std.specs.Str.{bytes_eq}
@@ -30,7 +30,7 @@ indent_of = number_between 2 8
 abbrev pub max_line_of : Data → Option ℕ
 max_line_of = number_between 40 1000
 
--- The word `double` or the word `single`.
+-- The word `double` or `single`.
 abbrev pub quotes_of : Data → Option Quotes
 quotes_of (string word) =
     if bytes_eq word (codes "double") then Some Double
@@ -41,7 +41,7 @@ quotes_of _ = None
 abbrev pub seq_indent_of : Data → Option Bool
 seq_indent_of = as_bool
 
--- The word `always` or the word `keep`.
+-- The word `always` or `keep`.
 abbrev pub document_start_of : Data → Option DocumentStart
 document_start_of (string word) =
     if bytes_eq word (codes "always") then Some Always
@@ -49,7 +49,7 @@ document_start_of (string word) =
     else None
 document_start_of _ = None
 
--- The word `next` or the word `block`.
+-- The word `next` or `block`.
 abbrev pub comments_of : Data → Option CommentColumns
 comments_of (string word) =
     if bytes_eq word (codes "next") then Some Next
@@ -57,7 +57,7 @@ comments_of (string word) =
     else None
 comments_of _ = None
 
--- The word `plain` or the word `escaped`.
+-- The word `plain` or `escaped`.
 abbrev pub invisible_of : Data → Option Invisible
 invisible_of (string word) =
     if bytes_eq word (codes "plain") then Some Plain
@@ -65,7 +65,7 @@ invisible_of (string word) =
     else None
 invisible_of _ = None
 
--- Whether the key is one of the settings, and the value is one that the setting can have.
+-- Whether the key is a setting, and the value is one that the setting can have.
 -- (version, patterns: whether the values of `required_version` and `exclude` are right)
 abbrev pub is_right : Bool → Bool → List ℕ → Data → Bool
 is_right version patterns key value =
@@ -80,12 +80,12 @@ is_right version patterns key value =
     else if bytes_eq key (codes "exclude") then patterns
     else false
 
--- A key that the table does not have, or whose value is right.
+-- A key that the table doesn't have, or whose value is right.
 abbrev pub IsRight : Bool → Bool → Members → List ℕ → Type 0
 IsRight version patterns table key =
     (value : Data) → get_member key table ≡ Some value → is_right version patterns key value ≡ true
 
--- A key of the table that is no setting, or whose value the setting cannot have.
+-- A key of the table that is not a setting, or whose value the setting can't have.
 abbrev pub IsWrong : Bool → Bool → Members → List ℕ → Type 0
 IsWrong version patterns table key =
     (value : Data) × (get_member key table ≡ Some value) × (is_right version patterns key value ≡ false)
@@ -95,7 +95,7 @@ pub record IsLeastWrong (version patterns : Bool) (table : Members) (key : List 
   pub wrong : IsWrong version patterns table key
   pub least : (other : List ℕ) → IsWrong version patterns table other → is_le (slice_cmp nat_cmp key other) ≡ true
 
--- The value at a key. If the table has none, it is the value of the house style.
+-- The value at a key. If the table doesn't have the key, the value of the house style.
 abbrev pub setting : {X : Type 0} → (Data → Option X) → List ℕ → X → Members → X
 setting read key house table = unwrap_or (option_and_then read (get_member key table)) house
 
@@ -119,14 +119,14 @@ pub record IsHouse (style : Style) : Type 0 where
   pub comments : style.comments ≡ Next
   pub invisible : style.invisible ≡ Plain
 
--- The text is TOML, all keys of its table are right, and it sets the style. `required_version` and `exclude` are no
--- keys.
+-- The text is TOML, all keys of its table are right, and it sets the style. `required_version` and `exclude` are not
+-- keys here.
 abbrev pub SetsStyle : List ℕ → Style → Type 0
 SetsStyle text style = IsSomeAnd (parse_document text)
     (λ table. ((key : List ℕ) → IsRight false false table key) × StyleOfTable table style)
 
--- The key is empty if the text is no TOML, and the least wrong key if it is. Memory is refused only if the text has a
--- key.
+-- The key is empty if the text is not TOML. Otherwise it is the least wrong key. Memory is refused only if the text has
+-- a key.
 abbrev pub RefusesSettings : List ℕ → Fault → Type 0
 RefusesSettings text (Config key) =
     MatchOption (parse_document text) (key ≡ []) (λ table. IsLeastWrong false false table key)

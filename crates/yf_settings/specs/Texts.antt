@@ -1,4 +1,4 @@
--- The settings whose values are texts with a grammar of their own: `required_version` and `exclude`.
+-- The settings whose values are texts with their own grammar: `required_version` and `exclude`.
 -- (d: the value of the key, if the table has it)
 use Rattle.std.specs.Prelude.{◌≡◌, ◌⊎◌, ℕ, Bool, true, false, List, [], ◌∷◌, Option, Some, None, Result, Ok, Err, map}
 use Rattle.semver.specs.EvalViews.{matches_views}
@@ -16,17 +16,17 @@ use Rattle.yf_settings.specs.declared.texts.Required.TheVariants.{Any, Versions}
 
 -- ---- `required_version`
 
--- The text is no requirement.
+-- The text is not a requirement.
 abbrev pub IsNoVersions : List ℕ → Type 0
 IsNoVersions text = (e : Error) × (req_of text ≡ Err e)
 
--- The value is no text, or the text is no requirement.
+-- The value is not a text, or the text is not a requirement.
 pub data IsNoRequirement (d : Option Data) : Type 0 where
   no_string : {value : Data} → d ≡ Some value → as_str value ≡ None → IsNoRequirement d
   no_versions : {value : Data} {text : List ℕ} → d ≡ Some value → as_str value ≡ Some text → IsNoVersions text
       → IsNoRequirement d
 
--- Any version will do if there is no key. Otherwise the text of the value is this requirement.
+-- Without the key, any version will do. Otherwise the text of the value is this requirement.
 abbrev pub Requires : Option Data → Required → Type 0
 Requires d Any = d ≡ None
 Requires d (Versions r) =
@@ -37,7 +37,7 @@ abbrev pub meets : List Comparator → Result Parts Error → Bool
 meets comparators (Ok parts) = matches_views (map comparator_view comparators) parts
 meets comparators (Err e) = false
 
--- Whether a version, given by its text, is one of those that are required.
+-- Whether a version, given by its text, meets the requirement.
 abbrev pub allows : Required → List ℕ → Bool
 allows Any version = true
 allows (Versions r) version = meets r.versions.comparators.items (version_parts version)
@@ -61,17 +61,17 @@ AreTexts items ts = strings_of items ≡ Some (texts ts)
 abbrev pub PatternsIn : Items → List Pattern → Type 0
 PatternsIn items ps = (ts : List Lent) × AreTexts items ts × ArePatterns ts ps
 
--- One of the values is no text, or a text that is no pattern.
+-- One of the values is not a text, or is a text that is not a pattern.
 abbrev pub NoPatternsIn : Items → Type 0
 NoPatternsIn items = (strings_of items ≡ None) ⊎ ((ts : List Lent) × (n : ℕ) × AreTexts items ts × FirstBad ts n)
 
--- The value is these patterns. Without the key there are none.
+-- The value is a list of these patterns. Without the key there are none.
 pub data Excludes (d : Option Data) (ps : List Pattern) : Type 0 where
   no_key : d ≡ None → ps ≡ [] → Excludes d ps
   pattern_list : {value : Data} {items : Items} → d ≡ Some value → as_array value ≡ Some items → PatternsIn items ps
       → Excludes d ps
 
--- The value is no array, or something in it is no pattern.
+-- The value is not an array, or one of its items is not a pattern.
 pub data IsNoList (d : Option Data) : Type 0 where
   no_array : {value : Data} → d ≡ Some value → as_array value ≡ None → IsNoList d
   no_pattern : {value : Data} {items : Items} → d ≡ Some value → as_array value ≡ Some items → NoPatternsIn items

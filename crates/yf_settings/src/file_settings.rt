@@ -1,4 +1,4 @@
-//! What the TOML text of a settings file sets.
+//! The settings in the TOML text of a settings file.
 ghost use Rattle.std.specs.Prelude.{List, ℕ, MatchResult, codes};
 ghost use Rattle.toml.specs.Data.{get_member};
 ghost use Rattle.toml.specs.View.{table_view};
@@ -14,19 +14,19 @@ use yf_excludes::pattern::Pattern;
 use yf_forms::style::Style;
 use yf_lines::fault::Fault;
 
-/// What a settings file sets.
+/// The settings of a settings file.
 #[derive(Drop)]
 pub struct FileSettings {
     /// The style.
     pub style: Style,
-    /// The patterns of the files that are left out.
+    /// The patterns of the files to leave out.
     pub exclude: Vec<Pattern>,
-    /// The versions of the program for which the file is written.
+    /// The versions of the program that the file requires.
     pub required: Required,
 }
 
 impl FileSettings {
-    /// Returns the settings without a settings file.
+    /// Returns the settings that hold without a settings file.
     pub fn defaults(alloc: Global) -> FileSettings
         ensures { AreDefaults result }
     {
@@ -38,17 +38,17 @@ impl FileSettings {
     }
 }
 
-/// Returns the settings that a text has. The text is a TOML document with the keys `indent` (an integer from 2 to 8),
+/// Returns the settings of a text. The text is a TOML document with the keys `indent` (an integer from 2 to 8),
 /// `max_line` (an integer from 40 to 1000), `quotes` (`"double"` or `"single"`), `seq_indent` (a boolean),
 /// `document_start` (`"always"` or `"keep"`), `comments` (`"next"` or `"block"`), `invisible` (`"plain"` or
-/// `"escaped"`), `required_version` (a requirement for a version, as `">=0.3, <0.4"`) and `exclude` (an array of
-/// patterns). Without a key, its setting is as without a settings file.
+/// `"escaped"`), `required_version` (a requirement for a version, for example `">=0.3, <0.4"`) and `exclude` (an array
+/// of patterns). A setting without a key has the value that it has without a settings file.
 ///
 /// # Errors
 ///
-/// - `Fault::Config` with the least key, by its bytes, that is none of these or has another value. The key is empty if
-///   the text is no TOML.
-/// - `Fault::Memory` if memory is refused. A text without a key takes none.
+/// - `Fault::Config` with the least key, by its bytes, that is not one of these or has another value. The key is empty
+///   if the text is not TOML.
+/// - `Fault::Memory` if memory is refused. A text without a key takes no memory.
 pub fn settings_from_toml(alloc: Global, text: &str) -> Result<FileSettings, Fault>
     ensures { MatchResult result (HasSettings text.now) (RefusesFile text.now) }
 {
@@ -63,7 +63,7 @@ pub fn settings_from_toml(alloc: Global, text: &str) -> Result<FileSettings, Fau
     }
 }
 
-// Returns the settings that a table has.
+// Returns the settings of a table.
 fn settings_of(alloc: Global, table: &Table) -> Result<FileSettings, Fault>
     ensures { MatchResult result (SettingsOfTable (table_view table.now)) (RefusesTable (table_view table.now)) }
 {
@@ -87,7 +87,7 @@ fn settings_of(alloc: Global, table: &Table) -> Result<FileSettings, Fault>
     }
 }
 
-// Returns the settings that a table has whose values of `required_version` and `exclude` are right.
+// Returns the settings of a table whose values of `required_version` and `exclude` are right.
 fn settings_with(
     alloc: Global,
     table: &Table,

@@ -1,4 +1,4 @@
-//! The settings file: what its text sets, and the explanation of a text that is refused.
+//! The settings file: the settings in its text, and the explanation of a text that is refused.
 #![tactic(auto)]
 
 pub mod file_settings;

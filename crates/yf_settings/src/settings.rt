@@ -1,4 +1,4 @@
-//! Which style the TOML text of a settings file sets, and which of its keys are wrong.
+//! The style that the TOML text of a settings file sets, and the wrong keys of the text.
 ghost use Rattle.std.specs.Prelude.{◌≡◌, ◌⊎◌, ℕ, ◌≤◌, [], Some, codes, true, MatchOption, MatchResult};
 ghost use Rattle.std.specs.Prelude.{List, option_map};
 ghost use Rattle.toml.specs.Data.{get_member};
@@ -37,14 +37,14 @@ const INVISIBLE: &str = "invisible";
 /// Returns the style that a settings text sets. The text is a TOML document with the keys `indent` (an integer from 2
 /// to 8), `max_line` (an integer from 40 to 1000), `quotes` (`"double"` or `"single"`), `seq_indent` (a boolean),
 /// `document_start` (`"always"` or `"keep"`), `comments` (`"next"` or `"block"`) and `invisible` (`"plain"` or
-/// `"escaped"`). A key that the text does not set has the value of the house style. `required_version` and `exclude`
-/// are no keys here (`settings_from_toml`).
+/// `"escaped"`). A key that the text doesn't set has the value of the house style. `required_version` and `exclude` are
+/// not keys here (see `settings_from_toml`).
 ///
 /// # Errors
 ///
-/// - `Fault::Config` with the least key, by its bytes, that is none of these or has another value. The key is empty if
-///   the text is no TOML.
-/// - `Fault::Memory` if memory is refused. A text without a key takes none.
+/// - `Fault::Config` with the least key, by its bytes, that is not one of these or has another value. The key is empty
+///   if the text is not TOML.
+/// - `Fault::Memory` if memory is refused. A text without a key takes no memory.
 pub fn style_from_toml(alloc: Global, text: &str) -> Result<Style, Fault>
     ensures { MatchResult result (λ style. SetsStyle text.now style) (λ fault. RefusesSettings text.now fault) }
 {
@@ -62,7 +62,7 @@ pub fn style_from_toml(alloc: Global, text: &str) -> Result<Style, Fault>
     }
 }
 
-/// Returns the fault of a text that is no TOML.
+/// Returns the fault of a text that is not TOML.
 pub fn no_key(alloc: Global) -> Fault
     ensures { result ≡ Fault.Config [] }
 {
@@ -71,7 +71,7 @@ pub fn no_key(alloc: Global) -> Fault
     }
 }
 
-// The fault of a key.
+// Returns the fault of a wrong key.
 pub(crate) fn wrong_key(alloc: Global, key: &str) -> Fault
     ensures { (result ≡ Fault.Config key.now) ⊎ (result ≡ Fault.Memory) }
 {
@@ -83,8 +83,8 @@ pub(crate) fn wrong_key(alloc: Global, key: &str) -> Fault
     }
 }
 
-// The least key of the table that is no setting, or whose value the setting cannot have. (version, patterns: whether
-// the values of `required_version` and `exclude` are right)
+// Returns the least key of the table that is not a setting, or whose value the setting can't have. (version, patterns:
+// whether the values of `required_version` and `exclude` are right)
 pub(crate) fn least_wrong_key<'t>(
     table: &'t Table,
     version: bool,
@@ -101,7 +101,7 @@ pub(crate) fn least_wrong_key<'t>(
     None
 }
 
-// Whether the key is a setting, and the value is one that the setting can have.
+// Returns whether the key is a setting, and the value is one that the setting can have.
 fn is_right(version: bool, patterns: bool, key: &str, value: &Value) -> bool
     ensures { result ≡ is_right version patterns key.now (view value.now) }
 {
@@ -223,7 +223,7 @@ fn invisible_of(value: &Value) -> Option<Invisible>
     }
 }
 
-// The style that the table sets, if its keys are right.
+// Returns the style that the table sets, if its keys are right.
 pub(crate) fn style_of(table: &Table) -> Style
     ensures { StyleOfTable (table_view table.now) result }
 {
@@ -300,7 +300,7 @@ fn invisible_at(table: &Table, house: Invisible) -> Invisible
     }
 }
 
-// The value at a key of the table.
+// Returns the value at a key of the table.
 pub(crate) fn value_at<'t>(table: &'t Table, key: &str) -> Option<&'t Value>
     ensures { option_map (λ v. view v.now) result ≡ get_member key.now (table_view table.now) }
 {

@@ -1,11 +1,11 @@
-//! The explanation of settings that are refused: the position, what the key can be set to, and the line.
+//! The explanation of settings that are refused: the position, the allowed values of the key, and the line.
 
 use std::alloc::{AllocError, Global};
 use yf_chars::utf8::{BadByte, check_utf8};
 use yf_explain::{Page, explain, page_at};
 use yf_lines::fault::Fault;
 
-/// The keys, and what each can be set to.
+/// The keys, and the allowed values of each.
 const ALLOWED: [(&str, &str); 7] = [
     ("comments", "`comments` is \"next\" or \"block\""),
     (
@@ -22,8 +22,8 @@ const ALLOWED: [(&str, &str); 7] = [
 /// The explanation of any other key.
 const NO_KEY: &str = "keys: comments document_start indent invisible max_line quotes seq_indent";
 
-/// Returns the explanation of the bytes of a settings file whose `key` is refused. An empty key stands for the whole
-/// text, which is no TOML then.
+/// Returns the explanation of the bytes of a settings file whose `key` is refused. An empty key means that the text is
+/// not TOML.
 ///
 /// # Errors
 ///
@@ -48,7 +48,7 @@ pub fn explain_settings(alloc: Global, bytes: &[u8], key: &str) -> Result<Page, 
     }
 }
 
-// What a key can be set to.
+// Returns the allowed values of a key, or the names of all keys if there is no such key.
 fn allowed(key: &str) -> &'static str {
     for (name, words) in &ALLOWED {
         if *name == key {
@@ -58,7 +58,7 @@ fn allowed(key: &str) -> &'static str {
     NO_KEY
 }
 
-// The offset of the line of the text that sets a key; 0 if no line does.
+// Returns the byte offset of the line that sets a key, or 0 if no line does.
 fn key_offset(text: &str, key: &str) -> usize {
     let mut start = 0;
     for line in text.split('\n') {
@@ -70,7 +70,7 @@ fn key_offset(text: &str, key: &str) -> usize {
     0
 }
 
-// Whether a line sets a key, or begins its table.
+// Returns whether a line sets a key, or begins its table.
 fn sets(line: &str, key: &str) -> bool {
     let name = line.trim_start_matches([' ', '\t', '[', '"', '\'']);
     match name.strip_prefix(key) {

@@ -1,4 +1,4 @@
-//! The settings whose values are texts with a grammar of their own: `required_version` and `exclude`.
+//! The settings whose values are texts with their own grammar: `required_version` and `exclude`.
 ghost use Rattle.std.specs.Prelude.{◌≡◌, ◌≢◌, IfOk, MatchOption, None, Ok, OnErr, Some, codes, map};
 ghost use Rattle.semver.specs.Identifiers.{comparator_view};
 ghost use Rattle.semver.specs.Parse.{req_of};
@@ -19,7 +19,7 @@ pub(crate) const REQUIRED_VERSION: &str = "required_version";
 
 pub(crate) const EXCLUDE: &str = "exclude";
 
-/// Which versions of the program the settings are written for.
+/// The versions of the program that the settings require.
 #[derive(Drop)]
 pub enum Required {
     /// Any version.
@@ -31,13 +31,13 @@ pub enum Required {
 /// A requirement for the version of the program.
 #[derive(Drop)]
 pub struct Requirement {
-    /// Its text.
+    /// The text of the requirement.
     pub text: OwnedText,
-    /// What it says.
+    /// The versions that it allows.
     pub versions: VersionReq,
 }
 
-// Returns the versions that a table requires, or `None` if the value of the key is no requirement.
+// Returns the versions that a table requires, or `None` if the value of the key is not a requirement.
 pub(crate) fn required_at(alloc: Global, table: &Table) -> Result<Option<Required>, AllocError>
     ensures read { IfOk result (λ o. MatchOption o
         (IsNoRequirement (get_member (codes "required_version") (table_view table.now)))
@@ -67,7 +67,7 @@ fn required_of(alloc: Global, value: &Value) -> Result<Option<Required>, AllocEr
     }
 }
 
-// Returns the requirement that a text is.
+// Returns the requirement with this text, or `None` if the text is not a requirement.
 fn versions_of(alloc: Global, text: &str) -> Result<Option<VersionReq>, AllocError>
     ensures { IfOk result (λ o. MatchOption o (IsNoVersions text.now)
         (λ r. req_of text.now ≡ Ok (map comparator_view r.comparators.items))) }
@@ -83,7 +83,7 @@ fn versions_of(alloc: Global, text: &str) -> Result<Option<VersionReq>, AllocErr
     }
 }
 
-/// Returns whether a version of the program, given by its text, is one of those that are required.
+/// Returns whether a version of the program, given by its text, meets the requirement.
 ///
 /// # Errors
 ///
@@ -105,7 +105,7 @@ pub fn allows(alloc: Global, required: &Required, version: &str) -> Result<bool,
     }
 }
 
-// Returns the patterns that a table excludes, or `None` if the value of the key is no list of patterns.
+// Returns the patterns that a table excludes, or `None` if the value of the key is not a list of patterns.
 pub(crate) fn patterns_at(alloc: Global, table: &Table) -> Result<Option<Vec<Pattern>>, AllocError>
     ensures read { IfOk result (λ o. MatchOption o
         (IsNoList (get_member (codes "exclude") (table_view table.now)))
@@ -118,7 +118,7 @@ pub(crate) fn patterns_at(alloc: Global, table: &Table) -> Result<Option<Vec<Pat
     }
 }
 
-// Returns the patterns that a value is.
+// Returns the patterns of a value, or `None` if the value is not a list of patterns.
 fn patterns_of(alloc: Global, value: &Value) -> Result<Option<Vec<Pattern>>, AllocError>
     ensures { IfOk result (λ o. MatchOption o (IsNoList (Some (view value.now)))
         (λ v. Excludes (Some (view value.now)) v.items)) }
@@ -129,7 +129,7 @@ fn patterns_of(alloc: Global, value: &Value) -> Result<Option<Vec<Pattern>>, All
     }
 }
 
-// Returns the patterns that some values are.
+// Returns the patterns of some values, or `None` if one of them is not a pattern.
 fn patterns_in(alloc: Global, values: &[Value]) -> Result<Option<Vec<Pattern>>, AllocError>
     ensures { IfOk result (λ o. MatchOption o (NoPatternsIn (items_view values.now))
         (λ v. PatternsIn (items_view values.now) v.items)) }
@@ -143,7 +143,7 @@ fn patterns_in(alloc: Global, values: &[Value]) -> Result<Option<Vec<Pattern>>, 
     }
 }
 
-// Returns the texts that some values are.
+// Returns the texts of some values, or `None` if one of them is not a text.
 fn texts_in<'v>(alloc: Global, values: &'v [Value]) -> Result<Option<Vec<&'v [u8]>>, AllocError>
     ensures { IfOk result (λ o. MatchOption o (strings_of (items_view values.now) ≡ None)
         (λ v. AreTexts (items_view values.now) v.items)) }

@@ -1,4 +1,4 @@
-//! The whole program over inputs in memory: its status, what it writes, and what it opens, in order.
+//! The whole program over inputs in memory: its exit status, what it writes, and the inputs that it opens, in order.
 
 use crate::tests::answer_rows::{BEFORE, ROWS, Row};
 use crate::tests::answers::words_of;
@@ -9,7 +9,7 @@ use yf_program::memory_inputs::{MemoryInputs, Stored};
 use yf_program::sources::Sources;
 use yf_program::streams::in_memory;
 
-/// The files, and what they hold.
+/// The files and their contents.
 static FILES: [Stored; 13] = [
     Stored {
         name: "good.toml",
@@ -68,10 +68,10 @@ static FILES: [Stored; 13] = [
 /// Standard input.
 const STANDARD: &[u8] = b"- 'a'\n";
 
-/// The file that may be rewritten.
+/// The file that the program may rewrite.
 const FILE: &str = "b.yaml";
 
-/// A file system in memory with that file, or nothing where memory was refused.
+/// Returns a file system in memory with that file, or `None` if memory is refused.
 fn one_file(alloc: Global) -> Option<MemoryFiles> {
     let mut files = MemoryFiles::new(alloc, usize::MAX);
     if files.make(FILE).is_ok() && files.write(BEFORE.as_bytes()).is_ok() {
@@ -80,13 +80,13 @@ fn one_file(alloc: Global) -> Option<MemoryFiles> {
     None
 }
 
-/// Whether the file holds that text in the end.
+/// Returns whether the file holds this text at the end.
 fn ends_with(files: &MemoryFiles, text: &str) -> bool {
     let now = files.at_moment(files.moment());
     files.found(FILE, now.changes, now.contents) == Some(text.as_bytes())
 }
 
-/// Whether the words are answered as the row says.
+/// Returns whether a run with these words has the results of the row.
 fn is_answered(alloc: Global, words: &[String], row: &Row) -> bool {
     let inputs = MemoryInputs {
         files: &FILES,
@@ -106,7 +106,7 @@ fn is_answered(alloc: Global, words: &[String], row: &Row) -> bool {
         && ends_with(&sources.files, row.5)
 }
 
-/// Whether the command line of a row is answered as the row says.
+/// Returns whether the command line of a row has the results of the row.
 fn answers_line(alloc: Global, row: &Row) -> bool {
     match &words_of(alloc, row.0) {
         Ok(words) => is_answered(alloc, words.as_slice(), row),

@@ -1,11 +1,12 @@
-//! Command lines, and how the whole program answers them.
+//! Command lines, and the results of the whole program.
 
 use crate::tests::command_line::OVERVIEW;
 
-/// What the file holds before.
+/// The contents of the file before the run.
 pub const BEFORE: &str = "- 'a'\n";
 
-/// A command line, the status, the two streams' texts, what was opened, and what the file holds then.
+/// A command line, the exit status, the texts of the two streams, the inputs that were opened, and the contents of the
+/// file after the run.
 pub type Row = (
     &'static str,
     u8,
@@ -133,8 +134,8 @@ pub static ROWS: [Row; 47] = [
         BEFORE,
     ),
     ("--help", 0, OVERVIEW, "", "", BEFORE),
-    // bytes that are a text, and bytes that are none
-    // heads of diffs quote names as Git does
+    // bytes that are UTF-8, and bytes that are not
+    // the heads of diffs quote names as Git does
     (
         "fmt --diff é\t\"\u{9B}.yaml",
         1,
@@ -191,7 +192,7 @@ pub static ROWS: [Row; 47] = [
         "at4 ",
         BEFORE,
     ),
-    // each of several files is told of by its name, whatever becomes of the others
+    // several files: each is reported by its name, even if another one fails
     (
         "check a.yaml refused.yaml none.yaml a.yaml",
         3,
@@ -234,7 +235,7 @@ pub static ROWS: [Row; 47] = [
         "",
         BEFORE,
     ),
-    // more is told of faults and findings, on the stream of faults
+    // with `--explain`, faults and findings are explained on standard error
     (
         "events --explain refused.yaml",
         2,
@@ -307,7 +308,7 @@ pub static ROWS: [Row; 47] = [
         "",
         BEFORE,
     ),
-    // rules are left out by name, whatever else is asked, and a name that no rule has before anything is opened
+    // rules are left out by name, with any other options; a name that no rule has is refused before a file is opened
     (
         "check a.yaml --without comment-space",
         0,

@@ -1,4 +1,4 @@
-//! What commands answer, for the tests.
+//! Runs of commands, for the tests.
 
 use std::alloc::{AllocError, Global};
 use std::io;
@@ -27,7 +27,7 @@ pub enum Asked {
     FmtDiff,
 }
 
-/// The status of a command, and what it writes to the two streams.
+/// The exit status of a command, and the bytes that it writes to the two streams.
 #[derive(Drop)]
 pub struct Answer {
     pub status: u8,
@@ -36,8 +36,8 @@ pub struct Answer {
 }
 
 impl Answer {
-    /// Whether the status is that, and the text is all that is written: to standard output, and of a status above 1 to the
-    /// stream of faults.
+    /// Returns whether the status is this one and the command wrote only this text. If the status is above 1, the text
+    /// is on standard error, otherwise on standard output.
     fn is(&self, status: u8, text: &str) -> bool {
         let (written, other) = if status < 2 {
             (&self.output, &self.line)
@@ -48,7 +48,7 @@ impl Answer {
     }
 }
 
-/// The task of a command in a style.
+/// Returns the task of a command in a style.
 pub fn task(alloc: Global, asked: Asked, style: &Style) -> Task {
     let work = match asked {
         Asked::Events => Work::Events,
@@ -64,7 +64,7 @@ pub fn task(alloc: Global, asked: Asked, style: &Style) -> Task {
     }
 }
 
-/// What a command answers for an input.
+/// Runs a command on an input and returns the results.
 pub fn answer_to(alloc: Global, asked: Asked, style: &Style, input: &[u8]) -> Answer {
     let mut streams = in_memory(alloc);
     let status = run(
@@ -82,11 +82,11 @@ pub fn answer_to(alloc: Global, asked: Asked, style: &Style, input: &[u8]) -> An
     }
 }
 
-/// What is asked, the settings, the input, the status, and the text that is written: to standard output, and of a status above 1
-/// to the stream of faults.
+/// A command, the settings, the input, the exit status, and the text that the command writes. If the status is above 1,
+/// the text is on standard error, otherwise on standard output.
 pub type Run<'a> = (Asked, &'a str, &'a str, u8, &'a str);
 
-/// Whether a run is answered so.
+/// Returns whether a run has the results of the row.
 pub fn is_run(alloc: Global, row: &Run) -> bool {
     let (asked, settings, input, status, text) = *row;
     match &style_from_toml(alloc, settings) {
@@ -95,8 +95,8 @@ pub fn is_run(alloc: Global, row: &Run) -> bool {
     }
 }
 
-/// The status of a command in the house style over a reader and a writer, the writer, and what the command writes to the
-/// stream of faults.
+/// Runs a command in the house style with a reader and a writer. Returns the exit status, the writer, and the text on
+/// standard error.
 pub fn answer_over<R: Source, W: Sink>(
     alloc: Global,
     asked: Asked,
@@ -118,26 +118,26 @@ pub fn answer_over<R: Source, W: Sink>(
     (status, output, errors.into_inner())
 }
 
-/// Whether a fault is answered with that status and that line.
+/// Returns whether a fault is reported with this status and this line.
 pub fn reports(alloc: Global, fault: &Fault, status: u8, line: &str) -> bool {
     let mut stream = Watched::new(Vec::new(alloc));
     report(fault, &mut stream) == status && stream.get_ref().as_slice() == line.as_bytes()
 }
 
-/// The reading of a text, without what its contract says of it.
+/// Returns the reading of a text, without the properties that the contract states.
 pub fn reading_of(alloc: Global, text: &str) -> Result<Reading<'_>, Fault> {
     read_stream(alloc, text)
 }
 
-/// A text in a style, without what its contract says of it.
+/// Returns the formatting of a text in a style, without the properties that the contract states.
 pub fn formatted(alloc: Global, text: &str, style: &Style) -> Result<String, Fault> {
     format(alloc, text, style)
 }
 
-/// A text, a part so many times, and another part so many times.
+/// A text, then a part and how often it is repeated, then another part and how often it is repeated.
 pub type Repeated = (&'static str, &'static str, usize, &'static str, usize);
 
-/// These in one text.
+/// Returns these parts as one text.
 pub fn repeated(alloc: Global, parts: &Repeated) -> Result<String, AllocError> {
     let mut text = String::from_str(alloc, parts.0)?;
     for _ in 0..parts.2 {
@@ -149,7 +149,7 @@ pub fn repeated(alloc: Global, parts: &Repeated) -> Result<String, AllocError> {
     Ok(text)
 }
 
-/// The words of a command line, which spaces part.
+/// Returns the words of a command line, which are separated by spaces.
 pub fn words_of(alloc: Global, line: &str) -> Result<Vec<String>, AllocError> {
     let mut words = Vec::new(alloc);
     for word in line.split(' ') {
@@ -160,7 +160,7 @@ pub fn words_of(alloc: Global, line: &str) -> Result<Vec<String>, AllocError> {
     Ok(words)
 }
 
-/// Whether work on files was done, and what was asked of it holds.
+/// Returns whether work on files succeeded with the result `true`.
 pub fn is_true(answer: &io::Result<bool>) -> bool {
     matches!(answer, Ok(true))
 }

@@ -1,9 +1,9 @@
-//! What the checker finds.
+//! The findings of the checker.
 
 use crate::tests::answers::{Asked, is_run};
 use std::alloc::Global;
 
-/// Settings, a text that is checked, the status, and what is found or why the text is refused.
+/// Settings, a text to check, the exit status, and the findings or the reason for the refusal.
 type Row = (&'static str, &'static str, u8, &'static str);
 
 static ROWS: [Row; 52] = [
@@ -101,7 +101,7 @@ static ROWS: [Row; 52] = [
     ("", "---\n? |\n  x\n: y\n", 0, ""),
     ("", "---\na:\n  - x\n", 0, ""),
     ("", "- *a \n", 2, "1:3 refused: unknown-alias\n"),
-    // sequences are at their keys
+    // sequences are at the column of their keys
     (
         "seq_indent = false\n",
         "---\na:\n  - x\n",
@@ -109,7 +109,7 @@ static ROWS: [Row; 52] = [
         "3:3 indentation (fixable)\n",
     ),
     ("seq_indent = false\n", "---\na:\n- x\n", 0, ""),
-    // a first document without `---` stays so
+    // a first document without `---` stays as it is
     ("document_start = \"keep\"\n", "# c\na: 1\n", 0, ""),
     ("document_start = \"keep\"\n", "---\na: 1\n", 0, ""),
     ("document_start = \"keep\"\n", "-\n# c\n  b\n", 0, ""),
@@ -125,7 +125,7 @@ static ROWS: [Row; 52] = [
         1,
         "1:1 document-start (fixable)\n",
     ),
-    // hidden characters: none is told of, unless they are to be escaped
+    // hidden characters: none is reported, unless the settings escape them
     ("", "---\na: x\u{200B}y  # \u{202E}\n", 0, ""),
     (
         "invisible = \"escaped\"\n",
@@ -139,14 +139,15 @@ static ROWS: [Row; 52] = [
         1,
         "2:4 quoting (fixable)\n",
     ),
-    // in names, block scalars and directives, but in no quoted scalar, and no byte order mark
+    // hidden characters in names, block scalars and directives are reported, but not in quoted scalars; a byte order
+    // mark is not one of them
     (
         "invisible = \"escaped\"\n",
         "\u{FEFF}%A \u{A0}\n---\n- &\u{E000}a \"\u{200B}\"\n- *\u{E000}a\n- |\n  \u{3164}\n",
         1,
         "1:1 byte-order-mark (fixable)\n1:4 hidden-character\n3:4 hidden-character\n4:4 hidden-character\n6:3 hidden-character\n",
     ),
-    // a collection that is too wide by the escapes of what is hidden
+    // a collection that is too wide because of the escapes of hidden characters
     (
         "invisible = \"escaped\"\nmax_line = 40\n",
         "---\n\"\u{200B}\u{200B}\u{200B}\": [\"\u{200B}\", abcdefg]\n",
@@ -154,7 +155,7 @@ static ROWS: [Row; 52] = [
         "2:8 flow-layout (fixable)\n",
     ),
     ("invisible = \"plain\"\n", "---\na: \u{AD}\n", 0, ""),
-    // where a comment is has nothing to do with the rules
+    // the column of a comment doesn't matter to the rules
     (
         "comments = \"block\"\n",
         "---\na:\n  b: 1\n  # c\nd: 2\n",
@@ -167,7 +168,7 @@ static ROWS: [Row; 52] = [
         0,
         "",
     ),
-    // what `fmt` changes beyond the rules
+    // changes of `fmt` that no rule reports
     ("", "---\na:  b\n", 0, ""),
     ("", "---\na : b\n", 0, ""),
     ("", "---\n-\n  - x\n", 0, ""),

@@ -1,4 +1,4 @@
-//! Command lines: what they ask for, and the texts of help and of refusals.
+//! Command lines: their requests, and the texts of help and of refusals.
 
 use crate::tests::answers::words_of;
 use std::alloc::Global;
@@ -16,19 +16,19 @@ enum Verb {
     Fmt,
 }
 
-/// What is found in a command line.
+/// The expected result of a command line.
 #[derive(Clone, Copy)]
 enum Wanted {
-    /// A command: the settings file, the file, whether it is rewritten, whether it is only told of, whether by a diff, and how many
-    /// more files there are.
+    /// A command: the settings file, the file, whether the file is rewritten, whether it is only checked, whether a
+    /// diff is printed, and the number of further files.
     Command(Verb, &'static str, &'static str, bool, bool, bool, usize),
     /// Wrong words.
     Wrong,
-    /// Wrong words, and why.
+    /// Wrong words, and the reason.
     Refused(&'static str),
-    /// Help with that text.
+    /// Help with this text.
     Help(&'static str),
-    /// What the program was built of.
+    /// The version and the lines about the build.
     Version,
 }
 
@@ -278,7 +278,7 @@ For more information, try '--help'.
     ("-V", Wanted::Version),
 ];
 
-/// Whether there is that text, or none where it is empty.
+/// Returns whether the text is this one. An empty text means that there is none.
 fn is_text(found: &Option<OwnedText>, text: &str) -> bool {
     match found {
         Some(found) => found.as_str() == text,
@@ -286,7 +286,8 @@ fn is_text(found: &Option<OwnedText>, text: &str) -> bool {
     }
 }
 
-/// Whether a text is the name and the version, the commit or that there was none, the logic, and the platform, each on a line.
+/// Returns whether a text has these lines: the name and the version, the commit or that there is none, the logic, and
+/// the platform.
 fn is_version(text: &str) -> bool {
     let Some(built) = text.strip_prefix("yamlfmt 0.2.0\n") else {
         return false;
@@ -309,7 +310,7 @@ fn is_version(text: &str) -> bool {
 /// is printed, and the number of further inputs.
 type Shape<'a> = (Verb, &'a str, bool, bool, bool, usize);
 
-/// The name of an input.
+/// Returns the name of an input.
 fn name_of(input: &Input) -> &str {
     match input {
         Input::Standard => "",
@@ -317,7 +318,7 @@ fn name_of(input: &Input) -> &str {
     }
 }
 
-/// The same of a command.
+/// Returns the request of a command as such a tuple.
 fn shape(command: &Command) -> Shape<'_> {
     match command {
         Command::Events(input) => (Verb::Events, name_of(input), false, false, false, 0),
@@ -338,7 +339,7 @@ fn shape(command: &Command) -> Shape<'_> {
     }
 }
 
-/// Whether that is found.
+/// Returns whether the result is as expected.
 fn is_found(parsed: &Result<Request, Usage>, wanted: Wanted) -> bool {
     match (parsed, wanted) {
         (Ok(request), Wanted::Command(verb, config, file, write, check, diff, more)) => {
@@ -359,7 +360,7 @@ fn is_found(parsed: &Result<Request, Usage>, wanted: Wanted) -> bool {
     }
 }
 
-/// Whether that is found in a line.
+/// Returns whether the result for a command line is as expected.
 fn asks(alloc: Global, line: &str, wanted: Wanted) -> bool {
     match &words_of(alloc, line) {
         Ok(words) => is_found(&parse_line(alloc, words.as_slice(), &RULE_NAMES), wanted),

@@ -1,8 +1,8 @@
-//! What formatting gives where comments keep the blocks in which they were written.
+//! Formatting with the setting that keeps comments in the blocks in which they were written.
 
 use crate::tests::answers::{Asked, is_run};
 
-/// Settings, a text, and what is written of it. That a second run changes nothing is in `laws`.
+/// Settings, a text, and its formatting. `laws` tests that a second run changes nothing.
 pub static IN_BLOCKS: [(&str, &str, &str); 56] = [
     (
         "comments = \"block\"",
@@ -14,13 +14,13 @@ pub static IN_BLOCKS: [(&str, &str, &str); 56] = [
         "a:\n    b: 1\n    # c\nd: 2\n",
         "---\na:\n  b: 1\n  # c\nd: 2\n",
     ),
-    // one between two blocks goes to the outer one
+    // a comment between two blocks belongs to the outer one
     (
         "comments = \"block\"",
         "a:\n    b: 1\n  # c\nd: 2\n",
         "---\na:\n  b: 1\n# c\nd: 2\n",
     ),
-    // falling and rising ones
+    // several comments, each left of the one before, or right of it
     (
         "comments = \"block\"",
         "a:\n  b:\n    c: 1\n    # 1\n  # 2\n# 3\ne: 1\n",
@@ -31,7 +31,7 @@ pub static IN_BLOCKS: [(&str, &str, &str); 56] = [
         "a:\n  b: 1\n# 1\n  # 2\ne: 1\n",
         "---\na:\n  b: 1\n# 1\n  # 2\ne: 1\n",
     ),
-    // right of everything: where a child would be
+    // a comment right of everything: at the column of a child
     (
         "comments = \"block\"",
         "a:\n  # x: 1\nb: 2\n",
@@ -47,7 +47,7 @@ pub static IN_BLOCKS: [(&str, &str, &str); 56] = [
         "a: 1\n         # 2\nb: 2\n",
         "---\na: 1\n  # 2\nb: 2\n",
     ),
-    // before a block that begins there
+    // before the first entry of a block
     (
         "comments = \"block\"",
         "a:\n# c\n  b: 1\n",
@@ -79,7 +79,7 @@ pub static IN_BLOCKS: [(&str, &str, &str); 56] = [
         "a:\n- b\n# - c\nd: 1\n",
         "---\na:\n- b\n# - c\nd: 1\n",
     ),
-    // after a block scalar never further in
+    // after a block scalar a comment never moves further right
     (
         "comments = \"block\"",
         "a: |+\n  b\n\n# c\n    # d\ne: 1\n",
@@ -113,7 +113,7 @@ pub static IN_BLOCKS: [(&str, &str, &str); 56] = [
         "a:\n  b: 1\n  # c\n    # d\ne: 1\n",
         "---\na:\n    b: 1\n    # c\n        # d\ne: 1\n",
     ),
-    // a comment that is not alone on its line is at the next one
+    // a comment after other text on its line moves to the next line
     (
         "comments = \"block\"",
         "- # a\n  b: 1\n  # c\n- d\n",
@@ -124,7 +124,7 @@ pub static IN_BLOCKS: [(&str, &str, &str); 56] = [
         "a:\n  b: 1\n  # c\nd: 2\n",
         "---\na:\n  b: 1\n# c\nd: 2\n",
     ),
-    // aligned with a block that begins on the next line, and beside its items
+    // at the column of a block that begins on the next line, and beside the items of a block
     (
         "comments = \"block\"",
         "a:\n# - b\n- c\n",
@@ -135,7 +135,7 @@ pub static IN_BLOCKS: [(&str, &str, &str); 56] = [
         "a:\n  - b\n # c\n  - d\n",
         "---\na:\n  - b\n  # c\n  - d\n",
     ),
-    // after brackets that become a block, and after a key that is over
+    // after brackets that become a block, and after a key that has ended
     (
         "comments = \"block\"",
         "a: [b, c: ]\n  # d\ne: 1\n",
@@ -146,7 +146,7 @@ pub static IN_BLOCKS: [(&str, &str, &str); 56] = [
         "? - a\n  # b\nc: 1\n",
         "---\n? - a\n:\n  # b\nc: 1\n",
     ),
-    // after properties and a key's comment, before an entry that has begun, and where the root is indented
+    // after properties and a key's comment, before an entry that has begun, and with an indented root
     (
         "comments = \"block\"",
         "a: &x\n  # b\n  c: 1\n  # d\n",
@@ -163,7 +163,7 @@ pub static IN_BLOCKS: [(&str, &str, &str); 56] = [
         "  a:\n    b: 1\n# c\n  e: 1\n",
         "---\na:\n  b: 1\n# c\ne: 1\n",
     ),
-    // breaks of other kinds, a byte order mark, a tab before a comment
+    // other kinds of line breaks, a byte order mark, a tab before a comment
     (
         "comments = \"block\"",
         "a:\r\n  b: 1\r\n  # c\r\nd: 2\r\n",
@@ -199,7 +199,7 @@ pub static IN_BLOCKS: [(&str, &str, &str); 56] = [
         "a:\n  b: 1\n \t# c\nd: 2\n",
         "---\na:\n  b: 1\n  # c\nd: 2\n",
     ),
-    // steps of eight, and sequences at their keys
+    // steps of eight, and sequences at the column of their keys
     (
         "comments = \"block\"\nindent = 8",
         "a:\n  - b: 1\n    # c\n  # d\ne:\n  f:\n    # g: 1\nh: 1\n",
@@ -215,7 +215,7 @@ pub static IN_BLOCKS: [(&str, &str, &str); 56] = [
         "a:\n- b: 1\n  # c\n# d\n  # e\nf: 1\n",
         "---\na:\n    -   b: 1\n        # c\n    # d\n        # e\nf: 1\n",
     ),
-    // after each kind of block scalar, and an empty one
+    // after each kind of block scalar, and after an empty one
     (
         "comments = \"block\"",
         "a:\n  - |\n    b\n  # c\n      # d\ne: 1\n",
@@ -246,7 +246,7 @@ pub static IN_BLOCKS: [(&str, &str, &str); 56] = [
         "a:\n  b: |\n# c\nd: 1\n",
         "---\na:\n  b: \"\"\n# c\nd: 1\n",
     ),
-    // at the end of the text without a break, before `---`, before `...`
+    // at the end of a text without a final line break, before `---`, before `...`
     (
         "comments = \"block\"",
         "a:\n  b:\n    c: 1\n    # 1\n  # 2\n# 3",
@@ -267,7 +267,7 @@ pub static IN_BLOCKS: [(&str, &str, &str); 56] = [
         "a:\n  b: 1\n  # c\n...\n%YAML 1.2\n---\nd\n",
         "---\na:\n  b: 1\n  # c\n...\n%YAML 1.2\n---\nd\n",
     ),
-    // blank lines are as they are
+    // blank lines stay
     (
         "comments = \"block\"",
         "a:\n  b: 1\n\n\n  # c\n\nd: 1\n",
@@ -279,7 +279,7 @@ pub static IN_BLOCKS: [(&str, &str, &str); 56] = [
         "a:\n  b: \"x\\u202ey\"\n  # c\nd: 'e'\n",
         "a:\n  b: \"x\\u202Ey\"\n  # c\nd: 'e'\n",
     ),
-    // brackets over several lines: aligned with their first entry a comment stays so
+    // brackets over several lines: a comment at the column of their first entry stays there
     (
         "comments = \"block\"",
         "a: [\n    b,\n    # c\n    d\n  ]\ne: 1\n",
@@ -290,7 +290,7 @@ pub static IN_BLOCKS: [(&str, &str, &str); 56] = [
         "a: [\n    b,\n  # c\n    d\n  ]\ne: 1\n",
         "---\na:\n  - b\n  # c\n  - d\ne: 1\n",
     ),
-    // after the end of a document what it had open still is
+    // after the end of a document, the comment still belongs to the blocks that were open
     (
         "comments = \"block\"",
         "a:\n  b: 1\n...\n  # c\n---\nd\n",
@@ -303,7 +303,7 @@ pub static IN_BLOCKS: [(&str, &str, &str); 56] = [
     ),
 ];
 
-/// The same of longer texts, which are not cut in `laws`: a chart, a deployment and a workflow.
+/// Longer texts with their formattings, which `laws` doesn't cut: a chart, a deployment and a workflow.
 pub static MANIFESTS: [(&str, &str, &str); 6] = [
     (
         "comments = \"block\"\ndocument_start = \"keep\"",

@@ -1,4 +1,4 @@
-//! Calls of the crates below that no run of the program tells of: that each is answered, at texts that hold more than what it reads.
+//! Calls of the crates below that no run of the program tests. The texts hold more than the part that is read.
 
 mod block_scalars;
 mod comments;

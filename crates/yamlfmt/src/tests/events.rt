@@ -192,7 +192,7 @@ pub static ACCEPTED: [(&str, &str); 51] = [
 
 /// Texts that are refused, and the line of the fault.
 pub static REFUSED: [(&str, &str); 28] = [
-    // no stream: the first sign with which no stream begins
+    // texts that are not streams: the first character with which no stream begins
     ("a: b: c\n", "1:5 refused: syntax\n"),
     ("a\nb: c\n", "2:2 refused: syntax\n"),
     ("key: [\n  1\n]\n", "3:1 refused: syntax\n"),
@@ -208,7 +208,7 @@ pub static REFUSED: [(&str, &str); 28] = [
     ("a\u{FEFF}b", "1:2 refused: syntax\n"),
     ("&a x\n...\n- *a: b\n", "3:7 refused: syntax\n"),
     ("? k\n:- a\n", "2:5 refused: syntax\n"),
-    // not well-formed: the first breach
+    // texts that are not well-formed: the first violation
     ("\"\\ud83d\"", "1:2 refused: escape-value\n"),
     ("- \"\\ud83d\"\n", "1:4 refused: escape-value\n"),
     ("- \"\\ude00\\ud83d\"", "1:4 refused: escape-value\n"),

@@ -1,4 +1,4 @@
-//! Files of the system of which one step fails, for the tests.
+//! The files of the system, except that one step fails. For the tests.
 
 use std::alloc::Allocator;
 use std::fs::{File, Files, Metadata, OpenFile, OpenOptions, Permissions};
@@ -8,15 +8,15 @@ use std::os::unix::fs::MetadataExt;
 use std::path::PathBuf;
 use yf_program::replacing::Held;
 
-/// What fails: of all files, or of a new one alone.
+/// The step that fails. Some steps fail for all files, others only for a new file.
 #[derive(Clone, Copy, PartialEq, Eq)]
 pub enum Step {
     Nothing,
     /// Another run holds the file.
     Hold,
-    /// The file system has no locks, which is no failure.
+    /// The file system has no locks. This is not a failure.
     Locks,
-    /// To tell what is at the path of the new file.
+    /// Looking at the path of the new file.
     Look,
     Remove,
     Make,
@@ -27,7 +27,7 @@ pub enum Step {
     Rename,
     /// The new file is neither renamed nor removed.
     RenameAndRemove,
-    /// To have the folder stored.
+    /// Storing the folder.
     StoreFolder,
 }
 
@@ -42,7 +42,7 @@ fn fail_at(fails: Step, step: Step) -> io::Result<()> {
     Ok(())
 }
 
-/// The files of the system, but one step fails.
+/// The files of the system, except that one step fails.
 #[derive(Drop)]
 pub struct FailingFiles<'a> {
     pub host: &'a HostRuntime,
@@ -112,8 +112,8 @@ impl Files for FailingFiles<'_> {
     }
 }
 
-/// A file of the system of which one step may fail, a write after the first bytes. A new one is written only while none but
-/// its owner may read it.
+/// A file of the system for which one step may fail. A write fails after the first bytes. A new file is written only
+/// while nobody except its owner may read it.
 #[derive(Drop)]
 pub struct FailingFile {
     file: File,

@@ -3,14 +3,14 @@
 use std::io;
 use std::io::{Read, Write};
 
-/// How many bytes a faulty reader or writer moves at most in one call.
+/// The greatest number of bytes that a faulty reader or writer moves in one call.
 const STEP: usize = 7;
 
 fn failure() -> io::Error {
     io::Error::from(io::ErrorKind::Other)
 }
 
-/// Gives its bytes a few at a time, and fails once, after so many reads.
+/// A reader that gives its bytes a few at a time. After `reads_left` reads, one read fails.
 #[derive(Drop)]
 pub struct FaultyReader<'a> {
     pub rest: &'a [u8],
@@ -32,7 +32,7 @@ impl Read for FaultyReader<'_> {
     }
 }
 
-/// Takes a few bytes at a time, and fails once, after so many writes.
+/// A writer that takes a few bytes at a time. After `writes_left` writes, one write fails.
 #[derive(Drop)]
 pub struct FaultyWriter {
     pub taken: Vec<u8>,

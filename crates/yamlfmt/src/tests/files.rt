@@ -1,4 +1,4 @@
-//! Files that are rewritten, in a folder of their own.
+//! Files that are rewritten, in a folder made for the test.
 
 use crate::tests::answers::is_true;
 use crate::tests::failing_files::{FailingFiles, Step};
@@ -18,7 +18,7 @@ fn make_folder(rt: &HostRuntime, folder: &str) -> io::Result<()> {
     fs::create_dir(rt, folder)
 }
 
-/// What is answered for a file.
+/// The result for a file.
 #[derive(Clone, Copy)]
 enum Answer {
     Rewritten,
@@ -31,7 +31,7 @@ enum Answer {
     Unsure,
 }
 
-/// Whether that is the answer.
+/// Returns whether this is the result.
 fn is_answer(answer: &Result<(), RewriteError<Fault>>, wanted: Answer) -> bool {
     match (answer, wanted) {
         (Ok(()), Answer::Rewritten) => true,
@@ -47,7 +47,7 @@ fn is_answer(answer: &Result<(), RewriteError<Fault>>, wanted: Answer) -> bool {
     }
 }
 
-/// Whether that is the answer for the file at the path in the house style.
+/// Returns whether rewriting the file at the path in the house style has this result.
 fn answers<R: Files + Drop>(rt: &HostRuntime, files: R, path: &str, wanted: Answer) -> bool
 where
     R::File: Held,
@@ -63,7 +63,7 @@ const PATH: &str = "yamlfmt_rewrites/a.yaml";
 
 const NEW_PATH: &str = "yamlfmt_rewrites/a.yaml.yamlfmt-new";
 
-/// Whether the file has that text.
+/// Returns whether the file has this text.
 fn has_text(rt: &HostRuntime, text: &str) -> bool {
     match &fs::read_to_string(rt, PATH) {
         Ok(held) => held.as_str() == text,
@@ -71,12 +71,12 @@ fn has_text(rt: &HostRuntime, text: &str) -> bool {
     }
 }
 
-/// The text of a file, its permissions, whether another run has left a new file, the step that fails, the answer, and the text of
-/// the file after it.
+/// The text of a file, its permissions, whether another run has left a new file, the step that fails, the result, and
+/// the text of the file afterwards.
 type Row = (&'static str, u32, bool, Step, Answer, &'static str);
 
-/// Whether that is the answer for a file, and what is then at both paths. The file keeps its permissions; one whose text stays
-/// is the same file.
+/// Returns whether rewriting a file has this result, and both paths then have the right contents. The file keeps its
+/// permissions. A file whose text stays is still the same inode.
 fn ends_with(rt: &HostRuntime, row: &Row) -> io::Result<bool> {
     let (old, mode, is_left, fails, wanted, new) = *row;
     make_folder(rt, "yamlfmt_rewrites")?;
@@ -150,7 +150,7 @@ static ROWS: [Row; 12] = [
         Answer::Unsure,
         "---\n- a\n- b\n",
     ),
-    // once and twice
+    // one run, and two runs
     (
         "- a\n- b\n",
         0o644,
@@ -185,7 +185,7 @@ static ROWS: [Row; 12] = [
         Answer::Rewritten,
         "---\n- a\n- b\n",
     ),
-    // nobody may write to it; one in the house style needs no writing
+    // nobody may write to the file; a file in the house style needs no writing
     (
         "- a\n",
         0o444,
@@ -204,7 +204,7 @@ static ROWS: [Row; 12] = [
     ),
 ];
 
-/// Whether a link stays, and the file that it leads to is rewritten in its own folder.
+/// Returns whether a link stays, and the file to which it leads is rewritten in its own folder.
 fn follows_links(rt: &HostRuntime) -> io::Result<bool> {
     make_folder(rt, "yamlfmt_rewrites")?;
     fs::create_dir(rt, "yamlfmt_rewrites/links")?;
@@ -219,7 +219,7 @@ fn follows_links(rt: &HostRuntime) -> io::Result<bool> {
     Ok(is_rewritten && is_link && is_alone && has_text(rt, "---\n- a\n- b\n"))
 }
 
-/// Whether a link that leads nowhere is refused.
+/// Returns whether a link that leads nowhere is refused.
 fn refuses_a_broken_link(rt: &HostRuntime) -> io::Result<bool> {
     make_folder(rt, "yamlfmt_rewrites")?;
     symlink(rt, "missing", PATH)?;
@@ -236,14 +236,14 @@ fn rewrites_files_or_leaves_them(rt: HostRuntime) {
     assert!(rt; fs::remove_dir_all(&rt, "yamlfmt_rewrites").is_ok());
 }
 
-/// Paths at which no regular file is, and one at which then nothing may be.
+/// Paths that are not regular files, and paths at which nothing may be afterwards.
 static NO_FILES: [(&str, &str); 3] = [
     ("yamlfmt_kinds", "yamlfmt_kinds.yamlfmt-new"),
     ("/dev/null", "yamlfmt_kinds.yamlfmt-new"),
     ("yamlfmt_kinds/b.yaml", "yamlfmt_kinds/b.yaml"),
 ];
 
-/// Whether a path is no regular file, and nothing is at the other one then.
+/// Returns whether a path is not a regular file, and nothing is at the other path afterwards.
 fn is_no_file(rt: &HostRuntime, path: &str, missing: &str) -> bool {
     answers(rt, rt, path, Answer::ReadFailed) && matches!(fs::exists(rt, missing), Ok(false))
 }

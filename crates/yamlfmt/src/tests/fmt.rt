@@ -1,8 +1,8 @@
-//! What the formatter writes.
+//! The output of the formatter.
 
 use crate::tests::answers::{Asked, is_run};
 
-/// Settings, a text, and what is written of it. That a second run changes nothing is in `laws`.
+/// Settings, a text, and its formatting. `laws` tests that a second run changes nothing.
 pub static FORMATTED: [(&str, &str, &str); 76] = [
     // sequences, documents, directives and markers:
     // a sequence
@@ -19,7 +19,7 @@ pub static FORMATTED: [(&str, &str, &str); 76] = [
         "%TAG !e! tag:e.com,2000:\n---\n!e!t%21 v\n",
         "%TAG !e! tag:e.com,2000:\n---\n!e!t%21 v\n",
     ),
-    // a mark and returns
+    // a byte order mark and carriage returns
     (
         "",
         "\u{FEFF}a: 'x'  # c \r\nb: |\r\n  y \r\na: 1\r\n",
@@ -48,7 +48,7 @@ pub static FORMATTED: [(&str, &str, &str); 76] = [
         "foo: &a x\nbar: {*a : y, &b: z}\n",
         "---\nfoo: &a x\nbar:\n  *a : y\n  &b: z:\n",
     ),
-    // a flow collection over lines
+    // a flow collection over several lines
     ("", "key: [\n  1\n ]\n", "---\nkey: [1]\n"),
     // a kept tail
     ("", "--- |+\n a\n\n", "---\n|+\n  a\n\n"),
@@ -62,7 +62,7 @@ pub static FORMATTED: [(&str, &str, &str); 76] = [
     ),
     // escapes
     ("", "\"\\ud83d\\ude00 \\x41\"\n", "---\n\"\u{1F600} A\"\n"),
-    // keys written with ?
+    // keys written with `?`
     (
         "",
         "? [a, {b: }]\n: - c\n  - d\n? |\n  x\n: y\n",
@@ -78,9 +78,9 @@ pub static FORMATTED: [(&str, &str, &str); 76] = [
     ),
     // a single pair
     ("", "[a: b, c]\n", "---\n[{a: b}, c]\n"),
-    // a mark in quotes
+    // a byte order mark in quotes
     ("", "\"a\\uFEFFb\"\n", "---\n\"a\\uFEFFb\"\n"),
-    // a mark itself in quotes
+    // a byte order mark itself in quotes
     ("", "\"a\u{FEFF}b\"\n", "---\n\"a\\uFEFFb\"\n"),
     // a flow collection as an explicit key
     ("", "? [a]\n: v\n", "---\n[a]: v\n"),
@@ -93,7 +93,7 @@ pub static FORMATTED: [(&str, &str, &str); 76] = [
         "---\n\"\\0\\t\\r\\x07\\xA0\\u2028\\uFEFF\\\"\\\\\u{E9}\"\n",
     ),
     // comments and blank lines:
-    // comments alone
+    // only comments
     ("", "# c\n\n\n# d", "# c\n\n# d\n"),
     // a comment between brackets
     (
@@ -133,7 +133,7 @@ pub static FORMATTED: [(&str, &str, &str); 76] = [
     ("", "[ # c\n]\n", "---\n[]  # c\n"),
     // a comment after an empty key
     ("", "{a: x, : # c\n v}\n", "---\na: x\n:  # c\n  v\n"),
-    // a collection that is broken for its comment
+    // a collection that is broken because of its comment
     (
         "",
         "a: ['x', # c\n y]\n",
@@ -144,7 +144,7 @@ pub static FORMATTED: [(&str, &str, &str); 76] = [
     // a comment after the tail of a scalar
     ("", "- |-\n x\n\n# c\n- y\n", "---\n- |-\n  x\n\n# c\n- y\n"),
     // other settings:
-    // the same in single quotes
+    // a root that looks like a marker, in single quotes
     ("quotes = \"single\"", " ...\n", "---\n'...'\n"),
     // steps of four
     (
@@ -170,7 +170,7 @@ pub static FORMATTED: [(&str, &str, &str); 76] = [
         "k: [aaaaaaaaaaaaaaaaaaaaaaaaaaaaaaaaaaaa]\n",
         "---\nk:\n  - aaaaaaaaaaaaaaaaaaaaaaaaaaaaaaaaaaaa\n",
     ),
-    // the same below its key
+    // brackets below their key
     (
         "max_line = 40",
         "k:\n [aaaaaaaaaaaaaaaaaaaaaaaaaaaaaaaaaaaa]\n",
@@ -216,21 +216,21 @@ pub static FORMATTED: [(&str, &str, &str); 76] = [
         "# c\n\n\na: 1\n",
         "# c\n\na: 1\n",
     ),
-    // without a marker, a byte order mark and white space before it
+    // a byte order mark and white space before a document without a marker
     (
         "document_start = \"keep\"",
         "...\n\u{FEFF} ...\n",
         "\"...\"\n",
     ),
-    // a block scalar alone, whose tail is kept, and a second document
+    // only a block scalar, whose tail is kept, and a second document
     (
         "document_start = \"keep\"",
         "|+\n  a\n\n...\n# c\nb\n",
         "|+\n  a\n\n# c\n---\nb\n",
     ),
-    // one with `---` keeps it
+    // a document with `---` keeps it
     ("document_start = \"keep\"", "# c\n--- a\n", "# c\n---\na\n"),
-    // and one with directives
+    // a document with directives keeps it
     (
         "document_start = \"keep\"",
         "%YAML 1.2\n---\na\n...\nb\n",
@@ -242,7 +242,7 @@ pub static FORMATTED: [(&str, &str, &str); 76] = [
         "- # c\n  b\n",
         "---\n# c\n- b\n",
     ),
-    // the same after properties, in brackets, and with no leaf
+    // a comment that would leave the document, after properties, in brackets, and with no leaf
     (
         "document_start = \"keep\"",
         "&x\n# c\na: 1\n",
@@ -295,13 +295,13 @@ pub static FORMATTED: [(&str, &str, &str); 76] = [
         "a: \"x\u{202E}y\"\nb: \"z\"\nc: '\u{AD}'\n",
         "---\na: \"x\\u202Ey\"\nb: 'z'\nc: \"\\u00AD\"\n",
     ),
-    // which are hidden, and how each is written
+    // the hidden characters, and how each is written
     (
         "invisible = \"escaped\"",
         "a: \"\u{AD}\u{2003}\u{E000}\u{E0041}\u{A0}\u{85}\u{2028}\u{2007}\u{FEFF}\u{FE0F}\u{FFFE}\"\n",
         "---\na: \"\\u00AD\u{2003}\\uE000\\U000E0041\\xA0\\x85\\u2028\\u2007\\uFEFF\\uFE0F\\uFFFE\"\n",
     ),
-    // the ends of the set, and what is beside them
+    // the ends of the set, and the characters next to it
     (
         "invisible = \"escaped\"",
         "\"\u{84}\u{85}\u{86}\u{9F}\u{A0}\u{A1}\u{AC}\u{AD}\u{AE}\u{34E}\u{34F}\u{350}\u{61B}\u{61C}\u{61D}\u{115E}\u{115F}\u{1160}\u{1161}\u{17B3}\u{17B4}\u{17B5}\u{17B6}\u{180A}\u{180B}\u{180F}\u{1810}\u{2006}\u{2007}\u{2008}\u{200A}\u{200B}\u{200F}\u{2010}\u{2027}\u{2028}\u{2029}\u{202A}\u{202E}\u{202F}\u{2030}\u{205F}\u{2060}\u{206F}\u{2070}\u{3163}\u{3164}\u{3165}\u{E000}\u{F8FF}\u{F900}\u{FDFF}\u{FE00}\u{FE0F}\u{FE10}\u{FEFE}\u{FEFF}\u{FF00}\u{FF9F}\u{FFA0}\u{FFA1}\u{FFEF}\u{FFF0}\u{FFF8}\u{FFF9}\"\n",
@@ -336,7 +336,7 @@ pub static FORMATTED: [(&str, &str, &str); 76] = [
         "\"\u{200B}\":\n  - '\u{2060}'\n",
         "\"\\u200B\":\n- \"\\u2060\"\n",
     ),
-    // and as they are, where that is not set
+    // they stay if the setting is not given
     (
         "invisible = \"plain\"",
         "a: \"\\u200B\\U000E0041\\u00AD\"\nb: '\u{202E}'\n",
@@ -344,7 +344,7 @@ pub static FORMATTED: [(&str, &str, &str); 76] = [
     ),
 ];
 
-/// Texts that are refused, and what is said of them.
+/// Texts that are refused, and the message.
 static REFUSED: [(&str, &str); 5] = [
     ("a: b: c\n", "1:5 refused: syntax\n"),
     (

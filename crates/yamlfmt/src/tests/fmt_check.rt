@@ -1,13 +1,13 @@
-//! What `fmt --check` and `fmt --diff` tell.
+//! The output of `fmt --check` and `fmt --diff`.
 
 use crate::tests::answers::{Asked, is_run};
 use std::alloc::Global;
 
-/// What is asked, a text, its formatting, and what is told of the text.
+/// A command, a text, its formatting, and the output for the text.
 type Row = (Asked, &'static str, &'static str, &'static str);
 
 static ROWS: [Row; 21] = [
-    // texts in which `check` finds nothing (so the table in `check`), and which `fmt` changes
+    // texts in which `check` finds nothing (see the table in `check`) and which `fmt` changes
     (
         Asked::FmtCheck,
         "---\na:  b\n",
@@ -26,7 +26,7 @@ static ROWS: [Row; 21] = [
         "---\n- - x\n",
         "2:2 not formatted\n",
     ),
-    // a comment line indented otherwise
+    // a comment line with another indentation
     (
         Asked::FmtCheck,
         "---\na:\n    # c\n  b: 1\n",
@@ -40,7 +40,7 @@ static ROWS: [Row; 21] = [
         "---\na:\n  b: 1\n",
         "3:1 not formatted\n",
     ),
-    // the formatting is a front of the text
+    // the formatting is a prefix of the text
     (
         Asked::FmtCheck,
         "---\na\n...\n",
@@ -91,11 +91,11 @@ static ROWS: [Row; 21] = [
         "---\n\u{E4}: b\n",
         "2:4 not formatted\n",
     ),
-    // texts in which `check` finds something as well
-    // the text is a front of its formatting
+    // texts in which `check` also finds something
+    // the text is a prefix of its formatting
     (Asked::FmtCheck, "---\na", "---\na\n", "2:2 not formatted\n"),
     (Asked::FmtCheck, "a\n", "---\na\n", "1:1 not formatted\n"),
-    // a byte order mark has the column of what follows it
+    // a byte order mark has the column of the character after it
     (
         Asked::FmtCheck,
         "\u{FEFF}---\na\n",
@@ -153,7 +153,7 @@ static ROWS: [Row; 21] = [
     ),
 ];
 
-/// Whether the text has this formatting, and that is told of it and nothing of its formatting.
+/// Returns whether the text has this formatting and this output, and the formatting itself has no output.
 fn is_told(alloc: Global, row: &Row) -> bool {
     let (asked, text, formatted, told) = *row;
     is_run(alloc, &(Asked::Fmt, "", text, 0, formatted))
@@ -161,14 +161,14 @@ fn is_told(alloc: Global, row: &Row) -> bool {
         && is_run(alloc, &(asked, "", formatted, 0, ""))
 }
 
-/// Settings, a text in which a character is hidden that they escape, and what is told of it.
+/// Settings, a text with a hidden character that these settings escape, and the output for the text.
 const HIDDEN: (&str, &str, &str) = (
     "invisible = \"escaped\"",
     "---\na: \"\u{200B}\"\n",
     "2:5 not formatted\n",
 );
 
-/// A text that is refused, and what is said of it.
+/// A text that is refused, and the message.
 const REFUSED: (&str, &str) = ("---\n- a\n- b: *x\n", "3:6 refused: unknown-alias\n");
 
 #[test]

@@ -1,4 +1,5 @@
-//! Readers, writers and memory that fail, and streams that are cut: each run answers in full, or says why it can't.
+//! Readers, writers and memory that fail, and streams that are cut. Each run gives its whole result, or says why it
+//! can't.
 
 use crate::tests::answers::{Answer, Asked, answer_over, answer_to, task};
 use crate::tests::events::{ACCEPTED, REFUSED};
@@ -21,7 +22,7 @@ static INPUTS: [&str; 5] = [
     "- |2\n    x\n\n- >\n a\n b\n\n   c\n- |\n\n",
 ];
 
-/// A sequence in a sequence, as deep as it may be: `- ` so many times, and `a`.
+/// Returns the deepest sequence in a sequence: 1,024 times `- `, and `a`.
 fn nested_dashes() -> [u8; 2049] {
     let mut bytes = [b' '; 2049];
     for i in 0..1024 {
@@ -31,7 +32,7 @@ fn nested_dashes() -> [u8; 2049] {
     bytes
 }
 
-/// What fails.
+/// The operation that fails.
 #[derive(Clone, Copy)]
 enum Failing {
     Reads,
@@ -47,7 +48,7 @@ fn holds(alloc: Global, failing: Failing) -> bool {
         }
     }
     let dashes = nested_dashes();
-    // The deepest one has thousands of writes, so there only a part of it.
+    // The deepest text takes thousands of writes. So only a part of it is tested there.
     let deep = match failing {
         Failing::Reads | Failing::Memory => &dashes[..],
         Failing::Writes => &dashes[1984..],
@@ -85,18 +86,18 @@ struct Trial<'a> {
     input: &'a [u8],
 }
 
-/// How a command ends where a read or a write may fail.
+/// How a command ends if a read or a write may fail.
 #[derive(Clone, Copy)]
 enum Ended {
-    /// It has failed, and says so.
+    /// It failed, and reported that.
     Refused,
-    /// It has not, and answers in full.
+    /// It did not fail, and gave its whole result.
     Whole,
-    /// It answers something else.
+    /// It gave another result.
     Wrong,
 }
 
-/// How a command ended: it failed or not, and answered as it should or not.
+/// Returns how a command ended, given whether it failed and whether its result is right.
 fn ending(has_failed: bool, holds: bool) -> Ended {
     match (has_failed, holds) {
         (true, true) => Ended::Refused,
@@ -105,7 +106,7 @@ fn ending(has_failed: bool, holds: bool) -> Ended {
     }
 }
 
-/// How the command ends where so many reads succeed.
+/// Returns how the command ends if the read after the first `reads` ones fails.
 fn ended_after_reads(trial: Trial, reads: usize, full: &Answer) -> Ended {
     let mut reader = Watched::new(FaultyReader {
         rest: trial.input,
@@ -122,7 +123,7 @@ fn ended_after_reads(trial: Trial, reads: usize, full: &Answer) -> Ended {
     ending(reader.failed(), holds)
 }
 
-/// How the command ends where so many writes succeed.
+/// Returns how the command ends if the write after the first `writes` ones fails.
 fn ended_after_writes(trial: Trial, writes: usize, full: &Answer) -> Ended {
     let writer = Watched::new(FaultyWriter {
         taken: Vec::new(trial.alloc),
@@ -140,9 +141,10 @@ fn ended_after_writes(trial: Trial, writes: usize, full: &Answer) -> Ended {
     ending(writer.failed(), holds)
 }
 
-/// Whether the command is refused by each call that fails, up to the first run in which none does.
+/// Returns whether the command ends with the right fault for each call that fails, up to the first run in which no call
+/// fails.
 fn is_refused_by_each(trial: Trial, failing: Failing, full: &Answer) -> bool {
-    // more than there are
+    // more than the number of calls
     let most = full.output.len().max(trial.input.len() + 1);
     for count in 0..=most {
         let outcome = match failing {
@@ -158,10 +160,10 @@ fn is_refused_by_each(trial: Trial, failing: Failing, full: &Answer) -> bool {
     false
 }
 
-/// The bytes that a command may write here.
+/// The greatest number of bytes that a command may write here.
 const ROOM: usize = 16_384;
 
-/// What a run answers and writes, held without memory of its own. After what is written are zeros.
+/// The results of a run. They are held without memory of their own, and zeros follow the bytes that were written.
 #[derive(Drop)]
 struct Held {
     status: u8,
@@ -190,16 +192,17 @@ fn held_answer(trial: Trial) -> Held {
     }
 }
 
-/// Whether memory was refused, and nothing was written.
+/// Returns whether memory was refused, and nothing was written.
 fn is_without_memory(held: &Held) -> bool {
     held.status == 3
         && held.line.starts_with(b"no memory\n")
         && held.output.iter().all(|byte| *byte == 0)
 }
 
-/// Whether two runs, of whose allocations one at most is refused, answer alike, or one of them for want of memory.
+/// Returns whether two runs have equal results if at most one allocation of both is refused. A run may also end because
+/// of that refusal.
 ///
-/// Here no allocation is refused; `bench/refusals.py` refuses each in turn.
+/// No allocation is refused here. `bench/refusals.py` refuses each of them in turn.
 fn is_refused_by_memory_alone(trial: Trial) -> bool {
     let first = held_answer(trial);
     let second = held_answer(trial);
@@ -223,7 +226,7 @@ fn answers_where_memory_is_refused(rt: HostRuntime) {
     assert!(rt; holds(rt.alloc(), Failing::Memory));
 }
 
-/// Whether a command writes that front to a writer that has room for three bytes.
+/// Returns whether a command writes this prefix to a writer that has room for three bytes.
 fn writes_a_front(alloc: Global, asked: Asked, front: &[u8]) -> bool {
     let mut room = [0; 3];
     let mut reader = Watched::new(b"- a\n- b\n".as_slice());
@@ -247,7 +250,7 @@ static STREAMS: [(&str, &str); 5] = [
     ("\u{FEFF}a: 'x'  # c \r\nb: |\r\n  y \r\na: 1\r\n", ""),
 ];
 
-/// Whether a stream was accepted, or refused with nothing written.
+/// Returns whether a stream was accepted, or was refused and nothing was written.
 fn is_good(answer: &Answer) -> bool {
     match answer.status {
         0 | 1 => answer.line.is_empty(),
@@ -256,7 +259,7 @@ fn is_good(answer: &Answer) -> bool {
     }
 }
 
-/// Whether each command accepts each front of a stream, or refuses it with nothing written.
+/// Returns whether each command accepts each prefix of a stream, or refuses it and writes nothing.
 fn answers_each_front(alloc: Global, stream: &[u8]) -> bool {
     for end in 0..=stream.len() {
         for asked in &COMMANDS {

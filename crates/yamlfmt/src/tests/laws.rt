@@ -1,5 +1,5 @@
-//! What holds of every formatted stream: it says the same with the same comments at the same places, nothing is found in it
-//! that can be fixed, and formatting it again changes nothing.
+//! Properties of every formatted stream: its content is unchanged, with the same comments at the same places, it has no
+//! finding that can be fixed, and formatting it again changes nothing.
 ghost use Rattle.std.specs.Prelude.{◌≤◌};
 
 use crate::tests::answers::{formatted, reading_of};
@@ -18,7 +18,7 @@ use yf_rules::finding::Finding;
 use yf_rules::rule::Rule;
 use yf_rules::with_rules::{WithRules, with_all_rules};
 
-/// Whether two readings have the same comments, but for white space at their ends, at the same places.
+/// Returns whether two readings have equal comments at equal places. White space at the ends of comments doesn't count.
 fn has_same_comments(one: &Reading, other: &Reading) -> bool {
     let count = one.comments().len();
     if other.comments().len() != count {
@@ -34,7 +34,7 @@ fn has_same_comments(one: &Reading, other: &Reading) -> bool {
     true
 }
 
-/// Whether two contents are the same; None where one is refused.
+/// Returns whether two contents are equal, or `None` if one of them is refused.
 fn are_same(one: &Result<Content, Fault>, other: &Result<Content, Fault>) -> Option<bool> {
     match (one, other) {
         (Ok(content), Ok(other_content)) => Some(content == other_content),
@@ -42,12 +42,12 @@ fn are_same(one: &Result<Content, Fault>, other: &Result<Content, Fault>) -> Opt
     }
 }
 
-/// Whether two readings say the same; None where the content of one is refused.
+/// Returns whether two readings have equal contents, or `None` if the content of one is refused.
 pub fn has_same_content(alloc: Global, one: &Reading, other: &Reading) -> Option<bool> {
     are_same(&one.content(alloc), &other.content(alloc))
 }
 
-/// What all texts are tried with.
+/// The rules and the style with which a text is tested.
 #[derive(Clone, Copy)]
 struct Trial<'a> {
     alloc: Global,
@@ -55,7 +55,7 @@ struct Trial<'a> {
     style: &'a Style,
 }
 
-/// Whether nothing is found that can be fixed.
+/// Returns whether no finding can be fixed.
 fn are_none_fixable(found: &Result<Vec<Finding>, Fault>) -> bool {
     match found {
         Ok(findings) => !findings.iter().any(|finding| finding.fixable),
@@ -63,7 +63,7 @@ fn are_none_fixable(found: &Result<Vec<Finding>, Fault>) -> bool {
     }
 }
 
-/// Whether formatting a text again changes nothing.
+/// Returns whether formatting a text again changes nothing.
 fn is_fixed(again: &Result<String, Fault>, text: &str) -> bool {
     match again {
         Ok(again) => again.as_str() == text,
@@ -71,10 +71,11 @@ fn is_fixed(again: &Result<String, Fault>, text: &str) -> bool {
     }
 }
 
-/// What was read.
+/// The result of reading a text.
 type Read<'a> = Result<Reading<'a>, Fault>;
 
-/// Whether all that is asked of a formatted stream holds of this source: the house style of a reading, and what is read of it.
+/// Returns whether a formatted stream has all properties. `reading` is the reading before formatting, and `read` is the
+/// result of reading the formatted source.
 fn is_in_order(trial: Trial, reading: &Reading, src: &Src, read: &Read) -> bool {
     let Trial {
         alloc,
@@ -92,7 +93,7 @@ fn is_in_order(trial: Trial, reading: &Reading, src: &Src, read: &Read) -> bool 
     }
 }
 
-/// The same of a text.
+/// Returns whether a formatted text has all properties.
 fn is_text_in_order(trial: Trial, reading: &Reading, text: &str) -> bool {
     match &Src::new(trial.alloc, text) {
         Ok(src) => is_in_order(trial, reading, src, &reading_of(trial.alloc, src.text())),
@@ -100,7 +101,8 @@ fn is_text_in_order(trial: Trial, reading: &Reading, text: &str) -> bool {
     }
 }
 
-/// Whether the laws hold of what is read of a text, and of its formatting: both are refused, or what is formatted is in order.
+/// Returns whether the laws hold for the reading of a text and for its formatting: both fail, or the formatting has all
+/// properties.
 fn hold_of(trial: Trial, read: &Read, formatted: &Result<String, Fault>) -> bool {
     match (read, formatted) {
         (Ok(reading), Ok(text)) => is_text_in_order(trial, reading, text.as_str()),
@@ -108,7 +110,7 @@ fn hold_of(trial: Trial, read: &Read, formatted: &Result<String, Fault>) -> bool
     }
 }
 
-/// The same of a text.
+/// Returns whether the laws hold for a text.
 fn hold_for(trial: Trial, text: &str) -> bool {
     let Trial { alloc, style, .. } = trial;
     hold_of(
@@ -118,10 +120,12 @@ fn hold_for(trial: Trial, text: &str) -> bool {
     )
 }
 
-/// Quotes, places of sequences, beginnings of documents, columns of comments, and ways to hold hidden characters.
+/// Values of five settings: quotes, columns of sequences, starts of documents, columns of comments, and hidden
+/// characters.
 type Choice = (Quotes, bool, DocumentStart, CommentColumns, Invisible);
 
-/// What is tried with narrow lines, and what with wide ones: so that any two values of two settings are together in one of these.
+/// The settings for narrow lines and those for wide lines. Any two values of two settings occur together in one of
+/// these rows.
 static NARROW: [Choice; 3] = [
     (
         Quotes::Single,
@@ -170,7 +174,7 @@ static WIDE: [Choice; 3] = [
     ),
 ];
 
-/// Whether the laws hold of a text in lines of that width, under these choices.
+/// Returns whether the laws hold for a text in lines of this width, with these settings.
 fn hold_under(
     alloc: Global,
     rules: &[Box<dyn Rule>],
@@ -207,7 +211,7 @@ fn hold_under(
     true
 }
 
-/// Whether the laws hold of a text with each value of each setting but the indentation.
+/// Returns whether the laws hold for a text with each value of each setting except the indentation.
 fn hold_at(alloc: Global, rules: &[Box<dyn Rule>], indent: usize, text: &str) -> bool
     requires from { 2 ≤ indent }
     requires to { indent ≤ 8 }
@@ -216,7 +220,7 @@ fn hold_at(alloc: Global, rules: &[Box<dyn Rule>], indent: usize, text: &str) ->
         && hold_under(alloc, rules, indent, 100, &WIDE, text)
 }
 
-/// Whether the laws hold of a text under all indentations.
+/// Returns whether the laws hold for a text with all indentations.
 fn hold_in(alloc: Global, rules: &[Box<dyn Rule>], text: &str) -> bool {
     for indent in 2..=8 {
         if !hold_at(alloc, rules, indent, text) {
@@ -226,7 +230,7 @@ fn hold_in(alloc: Global, rules: &[Box<dyn Rule>], text: &str) -> bool {
     true
 }
 
-/// Whether the laws hold of a text that is cut at each character.
+/// Returns whether the laws hold for a text that is cut at each character.
 fn hold_in_cuts(alloc: Global, rules: &[Box<dyn Rule>], text: &str) -> bool {
     for at in 0..text.len() {
         if text.is_char_boundary(at) && !hold_at(alloc, rules, 2, &text[..at]) {
@@ -236,7 +240,7 @@ fn hold_in_cuts(alloc: Global, rules: &[Box<dyn Rule>], text: &str) -> bool {
     true
 }
 
-/// Tries the laws of a text, whole or cut.
+/// Tests the laws for a text, whole or cut.
 #[derive(Drop)]
 struct Laws {
     alloc: Global,
@@ -247,7 +251,7 @@ struct Laws {
 impl WithRules for Laws {
     type Value = bool;
 
-    /// Whether the laws hold of the text, with these rules.
+    /// Returns whether the laws hold for the text, with these rules.
     fn with_rules(&mut self, rules: &[Box<dyn Rule>]) -> bool {
         if self.is_cut {
             hold_in_cuts(self.alloc, rules, self.text)
@@ -257,7 +261,7 @@ impl WithRules for Laws {
     }
 }
 
-/// Whether the laws hold of a text, with all rules.
+/// Returns whether the laws hold for a text, with all rules.
 fn laws_hold(alloc: Global, text: &'static str, is_cut: bool) -> bool {
     let mut laws = Laws {
         alloc,

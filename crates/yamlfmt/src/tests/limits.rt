@@ -1,11 +1,11 @@
-//! How long a key may be, and how many collections may be open at once.
+//! The length of keys, and the number of open collections.
 
 use crate::tests::answers::{Asked, Repeated, answer_to, is_run, repeated};
 use std::alloc::{AllocError, Global};
 use yf_forms::style::Style;
 
-/// Streams that hold a long key or many open collections, and the line of the fault, where there is one. Reading ends at the
-/// opener of the one that is too many; what is wrong before it is told in its place.
+/// Streams with a long key or many open collections, and the line of the fault, or an empty line. Reading ends at the
+/// start of the first collection that is too many. A mistake before it is reported instead.
 static LIMITS: [(Repeated, &str); 38] = [
     (("", "k", 1024, ": v", 1), ""),
     (("", "k", 1025, ": v", 1), "1:1026 refused: syntax\n"),
@@ -53,7 +53,7 @@ static LIMITS: [(Repeated, &str); 38] = [
         ("a\n...\nb:\n", "- ", 1024, "c", 1),
         "4:2047 refused: too-deep\n",
     ),
-    // wrong before
+    // a mistake before
     (("a: b: ", "[", 1025, "", 0), "1:5 refused: syntax\n"),
     (("- a\nb: ", "[", 1025, "", 0), "2:1 refused: syntax\n"),
     (("&a &b ", "[", 1025, "", 0), "1:4 refused: syntax\n"),
@@ -67,7 +67,8 @@ static LIMITS: [(Repeated, &str); 38] = [
     (("- a\n   ", "? ", 1025, "b", 1), ""),
 ];
 
-/// Lines that each open a collection in that of the line before, how many there are, and the line of the fault, where there is one.
+/// Lines that each open a collection in the collection of the line before, the number of these lines, and the line of
+/// the fault, or an empty line.
 static NESTED_LINES: [(&str, usize, &str); 8] = [
     ("k:", 1024, ""),
     ("k:", 1025, "1025:1025 refused: too-deep\n"),
@@ -79,7 +80,7 @@ static NESTED_LINES: [(&str, usize, &str); 8] = [
     ("k: v", 1030, "2:3 refused: syntax\n"),
 ];
 
-/// Settings, streams with long keys and deep sequences, and what is written of them.
+/// Settings, streams with long keys and deep sequences, and their formattings.
 static LONG: [(&str, Repeated, Repeated); 8] = [
     (
         "",
@@ -106,7 +107,7 @@ static LONG: [(&str, Repeated, Repeated); 8] = [
         ("", "[", 1024, "]", 1024),
         ("---\n", "- ", 1023, "[]\n", 1),
     ),
-    // a key that is too long by its escapes, which are six characters each
+    // a key that is too long because of its escapes, which are six characters each
     (
         "invisible = \"escaped\"",
         ("\"", "\u{200B}", 170, "\": v\n", 1),
@@ -125,7 +126,7 @@ static LONG: [(&str, Repeated, Repeated); 8] = [
     ),
 ];
 
-/// Whether a text is refused with that line, or accepted where there is none.
+/// Returns whether a text is refused with this line, or accepted if the line is empty.
 fn is_answered(alloc: Global, text: &Result<String, AllocError>, line: &str) -> bool {
     match text {
         Ok(text) if line.is_empty() => {
@@ -137,7 +138,7 @@ fn is_answered(alloc: Global, text: &Result<String, AllocError>, line: &str) -> 
     }
 }
 
-/// A text of so many lines, each indented by one space more than the line before.
+/// Returns a text of `count` lines. Each is indented by one space more than the line before.
 fn nested_lines(alloc: Global, line: &str, count: usize) -> Result<String, AllocError> {
     let mut text = String::new(alloc);
     for indent in 0..count {
@@ -150,8 +151,8 @@ fn nested_lines(alloc: Global, line: &str, count: usize) -> Result<String, Alloc
     Ok(text)
 }
 
-/// A text of so many lines, each indented by two spaces more than the line before, and a comment in the block of each, and in that of the last
-/// key's value, the innermost first.
+/// Returns a text of `count` keys on lines of their own, and a comment in the block of each key and in the last key's
+/// value. Each key is indented by two spaces more than the key before. The innermost comment comes first.
 fn nested_comments(alloc: Global, count: usize) -> Result<String, AllocError> {
     let mut text = String::new(alloc);
     for level in 0..count {
@@ -169,7 +170,7 @@ fn nested_comments(alloc: Global, count: usize) -> Result<String, AllocError> {
     Ok(text)
 }
 
-/// Whether comments in so many blocks stay where they are.
+/// Returns whether comments in `count` blocks stay at their columns.
 fn keeps_blocks(alloc: Global, count: usize) -> bool {
     match &nested_comments(alloc, count) {
         Ok(text) => is_run(
@@ -186,7 +187,7 @@ fn keeps_blocks(alloc: Global, count: usize) -> bool {
     }
 }
 
-/// Whether the formatter writes the second text of the first one, and of itself.
+/// Returns whether the second text is the formatting of the first one, and of itself.
 fn formats(alloc: Global, settings: &str, input: &Repeated, text: &Repeated) -> bool {
     match (&repeated(alloc, input), &repeated(alloc, text)) {
         (Ok(input), Ok(text)) => {

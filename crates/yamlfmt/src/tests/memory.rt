@@ -1,4 +1,4 @@
-//! A file in memory that is rewritten, where a call fails, and where the run or the machine stops at each moment.
+//! A file in memory that is rewritten. Each call fails once, and the run or the machine stops at each moment.
 
 use std::alloc::Global;
 use yf_files::{FileSystem, MemoryFiles, ReplaceError, RewriteError};
@@ -16,7 +16,7 @@ const NEW: &str = "---\n- a\n- b\n";
 
 const OTHER: &str = "what another run has left";
 
-/// Which texts a file may be found to hold.
+/// The texts that a file may hold after a stop.
 #[derive(Clone, Copy)]
 struct Allowed {
     old: bool,
@@ -24,7 +24,7 @@ struct Allowed {
 }
 
 impl Allowed {
-    /// Whether that is one of them.
+    /// Returns whether the text is one of them.
     fn has(self, text: Option<&[u8]>) -> bool {
         match text {
             Some(text) => {
@@ -35,8 +35,8 @@ impl Allowed {
     }
 }
 
-/// Whether a stop at which that front of the names is found leaves only what is allowed, whatever front of the contents is
-/// found.
+/// Returns whether a stop that leaves this prefix of the names, and any prefix of the contents, leaves only an allowed
+/// text.
 fn leaves_by(files: &MemoryFiles, moment: usize, changes: usize, allowed: Allowed) -> bool {
     let there = files.at_moment(moment);
     for contents in there.stored_contents..=there.contents {
@@ -47,7 +47,7 @@ fn leaves_by(files: &MemoryFiles, moment: usize, changes: usize, allowed: Allowe
     true
 }
 
-/// Whether a stop at a moment leaves only what is allowed.
+/// Returns whether a stop at a moment leaves only an allowed text.
 fn leaves(files: &MemoryFiles, moment: usize, allowed: Allowed) -> bool {
     let there = files.at_moment(moment);
     for changes in there.stored_changes..=there.changes {
@@ -58,7 +58,7 @@ fn leaves(files: &MemoryFiles, moment: usize, allowed: Allowed) -> bool {
     true
 }
 
-/// Whether a stop at any moment from that one on leaves the old text or the new one, whole.
+/// Returns whether a stop at any moment from `first` on leaves the old text or the new one, whole.
 fn leaves_either(files: &MemoryFiles, first: usize) -> bool {
     for moment in first..=files.moment() {
         if !leaves(
@@ -83,7 +83,7 @@ fn put(files: &mut MemoryFiles, name: &str, text: &str) -> bool {
         && files.store_folder(name).is_ok()
 }
 
-/// Whether nothing is left of a new file, or the answer tells it.
+/// Returns whether nothing is left of a new file, or the result reports it.
 fn is_told(files: &MemoryFiles, answer: &Result<(), RewriteError<Fault>>) -> bool {
     let now = files.at_moment(files.moment());
     match files.found(NEW_NAME, now.changes, now.contents) {
@@ -93,7 +93,7 @@ fn is_told(files: &MemoryFiles, answer: &Result<(), RewriteError<Fault>>) -> boo
     }
 }
 
-/// What may be found at the end after an answer.
+/// Returns the texts that may be found at the end after this result.
 fn allowed_after(answer: &Result<(), RewriteError<Fault>>) -> Allowed {
     match answer {
         Ok(()) => Allowed {
@@ -111,10 +111,11 @@ fn allowed_after(answer: &Result<(), RewriteError<Fault>>) -> Allowed {
     }
 }
 
-/// How many calls a run makes where none fails.
+/// The number of calls of a run in which no call fails.
 const CALLS: usize = 11;
 
-/// Whether a file is rewritten as is promised where the call of that number fails, over what another run may have left.
+/// Returns whether a file is rewritten as promised if the call with this number fails. `is_left` says whether another
+/// run has left a new file.
 fn is_rewritten(alloc: Global, call: usize, is_left: bool) -> bool {
     let made = if is_left { 8 } else { 4 };
     let mut files = MemoryFiles::new(alloc, call.wrapping_add(made));

@@ -1,4 +1,4 @@
-//! Files that get another text, in a folder of their own: whose they are then, and what may be done with them.
+//! The owner and the permissions of files that get another text, in a folder made for the test.
 
 use crate::tests::failing_files::{FailingFiles, Step};
 use crate::tests::replacing::{
@@ -9,7 +9,7 @@ use std::os::unix::fs::{MetadataExt, PermissionsExt, chown};
 use std::{fs, io};
 use yf_program::replacing::mode_of;
 
-/// The permissions after it was rewritten of a file that had those.
+/// Returns the permissions of a file after it was rewritten, given those before.
 fn mode_in(rt: &HostRuntime, folder: &Folder, mode: u32) -> io::Result<u32> {
     let path = folder.path;
     fs::set_permissions(rt, path, Permissions::from_mode(mode))?;
@@ -26,7 +26,7 @@ static BITS: Folder = Folder {
     other: "replacing_bits/other",
 };
 
-/// Whether a file that had those permissions has these after it was rewritten.
+/// Returns whether a file that had the permissions `mode` has the permissions `wanted` after it was rewritten.
 fn has_mode_after(rt: &HostRuntime, mode: u32, wanted: u32) -> bool {
     make_folder(rt, &BITS).is_ok()
         && matches!(mode_in(rt, &BITS, mode), Ok(after) if after == wanted)
@@ -48,7 +48,7 @@ fn set_user_bits_go(rt: HostRuntime) {
     }
 }
 
-/// Gives the file to another user, and answers whether the new text is put where a step fails.
+/// Gives the file to another user, and returns whether the new text is put into it although a step fails.
 fn put_in_place_of_another(rt: &HostRuntime, folder: &Folder, fails: Step) -> io::Result<bool> {
     fs::set_permissions(rt, folder.path, Permissions::from_mode(0o640))?;
     chown(rt, folder.path, Some(1234), Some(2345))?;
@@ -56,7 +56,7 @@ fn put_in_place_of_another(rt: &HostRuntime, folder: &Folder, fails: Step) -> io
     Ok(is_put(rt, &files, folder, Meanwhile::Nothing))
 }
 
-/// Whether the file is that user's, with its permissions.
+/// Returns whether the file is that user's, with its permissions.
 fn is_of_another(rt: &HostRuntime, path: &str) -> bool {
     match &fs::metadata(rt, path) {
         Ok(metadata) => {
@@ -73,7 +73,7 @@ static OWNER: Folder = Folder {
     other: "replacing_owner/other",
 };
 
-/// Whether owner, group and permissions stay; where the new file can't be given away, the old one stays.
+/// Returns whether owner, group and permissions stay. If the new file can't be given away, the old one stays.
 fn keeps_owner(rt: &HostRuntime, fails: Step, puts: bool) -> bool {
     make_folder(rt, &OWNER).is_ok()
         && matches!(put_in_place_of_another(rt, &OWNER, fails), Ok(is_put) if is_put == puts)
@@ -89,7 +89,7 @@ static OWN: Folder = Folder {
     other: "replacing_own/other",
 };
 
-/// Whether a file may be given away: only root may.
+/// Returns whether a file may be given away. Only root may do that.
 fn may_give(rt: &HostRuntime) -> bool {
     chown(rt, OWN.path, Some(1234), Some(2345)).is_ok()
 }

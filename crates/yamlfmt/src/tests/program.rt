@@ -1,4 +1,4 @@
-//! What is answered for a usage, and where a writer fails at the end.
+//! The results of a usage, and of a writer that fails at the end.
 
 use crate::tests::faulty::FaultyWriter;
 use std::alloc::Global;
@@ -8,7 +8,7 @@ use yf_lines::watched::{Sink, Watched};
 use yf_program::program::{answer_usage, written_out};
 use yf_program::streams::{Streams, in_memory};
 
-/// Whether a usage is answered with that status, and these texts on the two streams.
+/// Returns whether a usage has this status and these texts on the two streams.
 fn answers(alloc: Global, usage: &Usage, status: u8, output: &str, line: &str) -> bool {
     let mut streams = in_memory(alloc);
     answer_usage(usage, &mut streams) == status
@@ -16,7 +16,7 @@ fn answers(alloc: Global, usage: &Usage, status: u8, output: &str, line: &str) -
         && streams.errors.get_ref().as_slice() == line.as_bytes()
 }
 
-/// Whether a run that has ended well with one byte held back, before such a writer, has that status and that line of faults.
+/// Returns whether a successful run with one byte in its buffer ends with this status and this line on standard error.
 fn ends_before(alloc: Global, held_back: BufWriter<FaultyWriter>, status: u8, line: &str) -> bool {
     let mut streams = Streams {
         output: Watched::new(held_back),
@@ -27,7 +27,7 @@ fn ends_before(alloc: Global, held_back: BufWriter<FaultyWriter>, status: u8, li
     answer == status && streams.errors.get_ref().as_slice() == line.as_bytes()
 }
 
-/// The same before a writer that takes so many writes.
+/// Returns whether such a run ends with this status and this line if the writer fails after `writes_left` writes.
 fn ends(alloc: Global, writes_left: usize, status: u8, line: &str) -> bool {
     let taken = Vec::new(alloc);
     match BufWriter::with_capacity(alloc, 8, FaultyWriter { taken, writes_left }) {
@@ -38,9 +38,9 @@ fn ends(alloc: Global, writes_left: usize, status: u8, line: &str) -> bool {
 
 #[test]
 fn tells_what_fails_at_the_ends(rt: HostRuntime) {
-    // memory for the command line; other usages are in `answer`
+    // memory for the command line; `answer` tests other usages
     assert!(rt; answers(rt.alloc(), &Usage::Memory, 3, "", "no memory\n"));
-    // a flush that fails is a write that fails
+    // a flush that fails is reported as a write that fails
     assert!(rt; ends(rt.alloc(), 0, 3, "write failed\n"));
     assert!(rt; ends(rt.alloc(), 1, 0, ""));
 }

@@ -1,4 +1,5 @@
-//! Files that get another text, in a folder of their own: what is at the path of the new file, and each step that fails.
+//! Files that get another text, in a folder made for the test: the entry at the path of the new file, and each step
+//! that fails.
 
 ghost use Rattle.std.specs.Prelude.{⊤};
 
@@ -26,7 +27,7 @@ pub struct Folder {
     pub other: &'static str,
 }
 
-/// Makes the folder, with the old text in the file, and another one in the file beside it.
+/// Makes the folder, with the old text in the file, and another text in the file beside it.
 pub fn make_folder(rt: &HostRuntime, folder: &Folder) -> io::Result<()> {
     let _ = fs::remove_dir_all(rt, folder.name);
     fs::create_dir(rt, folder.name)?;
@@ -34,17 +35,17 @@ pub fn make_folder(rt: &HostRuntime, folder: &Folder) -> io::Result<()> {
     fs::write(rt, folder.other, OTHER)
 }
 
-/// What another process does to the file once it is read.
+/// The action of another process after the file was read.
 #[derive(Clone, Copy)]
 pub enum Meanwhile {
     Nothing,
     /// It writes another text over the file.
     Writes,
-    /// It puts a new file in its place.
+    /// It replaces the file with a new file.
     Renames,
 }
 
-/// Gives the new text for any, while another process is at work.
+/// A formatter that returns the new text for any text, while another process acts on the file.
 #[derive(Clone, Copy)]
 struct Gives<'a> {
     rt: &'a HostRuntime,
@@ -70,7 +71,7 @@ impl Formatter for Gives<'_> {
     }
 }
 
-/// Whether the new text is put in the place of the old one, while another process is at work.
+/// Returns whether the new text replaces the old one, while another process acts on the file.
 pub fn is_put<R: Files>(rt: &HostRuntime, files: &R, folder: &Folder, meanwhile: Meanwhile) -> bool
 where
     R::File: Held,
@@ -84,7 +85,7 @@ where
     rewrite(rt.alloc(), &mut SystemFiles::new(files), &formatter, path).is_ok()
 }
 
-/// Whether a file holds that text.
+/// Returns whether a file holds this text.
 fn holds(rt: &HostRuntime, path: &str, text: &str) -> bool {
     match &fs::read_to_string(rt, path) {
         Ok(held) => held.as_str() == text,
@@ -92,7 +93,7 @@ fn holds(rt: &HostRuntime, path: &str, text: &str) -> bool {
     }
 }
 
-/// Whether a path is that of a regular file, and not of a link.
+/// Returns whether the path is a regular file and not a link.
 fn is_regular(rt: &HostRuntime, path: &str) -> bool {
     match &fs::symlink_metadata(rt, path) {
         Ok(metadata) => metadata.is_file(),
@@ -100,8 +101,8 @@ fn is_regular(rt: &HostRuntime, path: &str) -> bool {
     }
 }
 
-/// Whether the file is a regular one that holds the text, something is at the path of the new file, and the file beside
-/// it is as it was.
+/// Returns whether the file is a regular one that holds the text, and the file beside it is as it was. `has_new` says
+/// whether something must be at the path of the new file.
 pub fn is_there(rt: &HostRuntime, folder: &Folder, text: &str, has_new: bool) -> bool {
     let path = folder.path;
     holds(rt, path, text)
@@ -110,24 +111,24 @@ pub fn is_there(rt: &HostRuntime, folder: &Folder, text: &str, has_new: bool) ->
         && fs::symlink_metadata(rt, folder.new_path).is_ok() == has_new
 }
 
-/// Whether the folder is removed.
+/// Removes the folder, and returns whether that succeeded.
 pub fn is_removed(rt: &HostRuntime, folder: &Folder) -> bool {
     fs::remove_dir_all(rt, folder.name).is_ok()
 }
 
-/// What is at the path of the new file.
+/// The entry at the path of the new file before the run.
 #[derive(Clone, Copy)]
 enum Left {
     Nothing,
     File,
-    /// A link to that.
+    /// A link to this path.
     Link(&'static str),
     Folder,
     /// A second name of the file beside it.
     SecondName,
 }
 
-/// Puts it there.
+/// Makes the entry.
 fn leave(rt: &HostRuntime, folder: &Folder, left: Left) -> io::Result<()> {
     let path = folder.new_path;
     match left {
@@ -139,8 +140,8 @@ fn leave(rt: &HostRuntime, folder: &Folder, left: Left) -> io::Result<()> {
     }
 }
 
-/// A name, what is at the path of the new file, the step that fails, whether the new text is put, and whether something
-/// stays at the path of the new file.
+/// A name, the entry at the path of the new file, the step that fails, whether the new text is put into the file, and
+/// whether something stays at the path of the new file.
 type Row = (&'static str, Left, Step, bool, bool);
 
 static ROWS_FOLDER: Folder = Folder {
@@ -150,8 +151,8 @@ static ROWS_FOLDER: Folder = Folder {
     other: "replacing_rows/other",
 };
 
-/// Whether the new text is put where that is and that step fails, or not; and whether all is then as it should be: what
-/// is at the path of the new file is gone, but for some of what was there where nothing was put.
+/// Returns whether the row holds for that entry and that step: the new text is put into the file or not, and something
+/// stays at the path of the new file or not.
 fn puts(rt: &HostRuntime, row: &Row) -> bool {
     let (_, left, fails, puts, stays) = *row;
     let folder = &ROWS_FOLDER;
@@ -164,7 +165,7 @@ fn puts(rt: &HostRuntime, row: &Row) -> bool {
         && is_removed(rt, folder)
 }
 
-/// What is put, and what is left.
+/// The rows: each entry and each step.
 static ROWS: [Row; 18] = [
     // each step fails
     ("hold", Left::Nothing, Step::Hold, false, false),
@@ -177,12 +178,12 @@ static ROWS: [Row; 18] = [
     // no step fails, or the file system has no locks
     ("nothing", Left::Nothing, Step::Nothing, true, false),
     ("locks", Left::Nothing, Step::Locks, true, false),
-    // a file that was left by another run
+    // a file that another run has left
     ("file", Left::File, Step::Nothing, true, false),
     ("file, remove", Left::File, Step::Remove, false, true),
     ("file, hold", Left::File, Step::Hold, false, true),
     ("file, locks", Left::File, Step::Locks, false, true),
-    // a link is removed, and not its target
+    // the link is removed, and not its target
     ("link", Left::Link("other"), Step::Nothing, true, false),
     (
         "link to the file",
@@ -209,7 +210,7 @@ fn puts_the_new_text_or_leaves_the_old(rt: HostRuntime) {
     }
 }
 
-/// Whether the file that another run holds is left.
+/// Returns whether a file stays as it is while another run holds it.
 fn leaves_a_held_file(rt: &HostRuntime, folder: &Folder) -> bool {
     match &File::open(rt, folder.path) {
         Ok(first) => {
@@ -228,7 +229,7 @@ static SECOND: Folder = Folder {
     other: "replacing_second/other",
 };
 
-/// Whether a run leaves a file that another one holds, and rewrites it later.
+/// Returns whether a run leaves a file that another one holds, and rewrites it later.
 fn waits_for_another_run(rt: &HostRuntime) -> bool {
     make_folder(rt, &SECOND).is_ok()
         && leaves_a_held_file(rt, &SECOND)
@@ -236,7 +237,7 @@ fn waits_for_another_run(rt: &HostRuntime) -> bool {
         && is_removed(rt, &SECOND)
 }
 
-/// Does that to the file at the path.
+/// Does this action to the file at the path.
 fn change(rt: &HostRuntime, path: &str, meanwhile: Meanwhile) -> io::Result<()> {
     match meanwhile {
         Meanwhile::Nothing => Ok(()),
@@ -255,7 +256,7 @@ static CHANGED: Folder = Folder {
     other: "replacing_changed/other",
 };
 
-/// Whether a file is left that was written, or made anew, since it was read.
+/// Returns whether a run doesn't touch a file that was written or replaced after it was read.
 fn leaves_a_changed_file(rt: &HostRuntime, meanwhile: Meanwhile) -> bool {
     make_folder(rt, &CHANGED).is_ok()
         && !is_put(rt, rt, &CHANGED, meanwhile)
@@ -270,7 +271,7 @@ fn leaves_what_others_hold_or_change(rt: HostRuntime) {
     assert!(rt; leaves_a_changed_file(&rt, Meanwhile::Renames));
 }
 
-/// Paths, and whether what is there is opened.
+/// Paths, and whether the file at the path is opened.
 static OPENED: [(&str, bool); 5] = [
     ("replacing_kinds/a.yaml", true),
     ("replacing_kinds/link", true),

@@ -1,4 +1,4 @@
-//! Settings files, by their text, and the lines that are printed for those that are refused.
+//! Settings files, by their texts, and the lines that are printed for those that are refused.
 
 use crate::tests::answers::{Asked, is_run};
 use std::alloc::Global;
@@ -10,8 +10,8 @@ use yf_settings::file_settings::settings_from_toml;
 use yf_settings::settings::style_from_toml;
 use yf_settings::texts::allows;
 
-/// A settings file, and what it sets: `indent`, `max_line`, `quotes`, `seq_indent`, whether a first document without a `---` stays so,
-/// whether comments keep their blocks, and whether hidden characters are escaped.
+/// A settings file and its settings: `indent`, `max_line`, `quotes`, `seq_indent`, whether a first document without a
+/// `---` stays as it is, whether comments keep their blocks, and whether hidden characters are escaped.
 type Row = (&'static str, usize, usize, Quotes, bool, bool, bool, bool);
 
 static SET: [Row; 10] = [
@@ -108,7 +108,7 @@ static SET: [Row; 10] = [
     ),
 ];
 
-/// Whether a settings file sets these.
+/// Returns whether a settings file has these settings.
 fn sets(alloc: Global, row: &Row) -> bool {
     match &style_from_toml(alloc, row.0) {
         Ok(style) => {
@@ -125,7 +125,7 @@ fn sets(alloc: Global, row: &Row) -> bool {
     }
 }
 
-/// Settings files that are refused, and the line that is printed: the least wrong key.
+/// Settings files that are refused, and the line that is printed, with the least wrong key.
 static REFUSED: [(&str, &str); 29] = [
     ("comments = \"Block\"", "config: comments\n"),
     ("comments = true\nindent = 9", "config: comments\n"),
@@ -168,7 +168,7 @@ static REFUSED: [(&str, &str); 29] = [
     ),
 ];
 
-/// Settings files, a version, whether the file is for that version, and the number of its patterns.
+/// Settings files, a version, whether the file allows that version, and the number of its patterns.
 static FURTHER: [(&str, &str, bool, usize); 8] = [
     ("", "0.2.0", true, 0),
     ("exclude = []", "0.2.0", true, 0),
@@ -180,7 +180,7 @@ static FURTHER: [(&str, &str, bool, usize); 8] = [
     ("required_version = \"=0.2.0\"", "0.2.0", true, 0),
 ];
 
-/// Whether a settings file is for a version and has that many patterns.
+/// Returns whether a settings file allows a version as expected, and has this number of patterns.
 fn is_for(alloc: Global, row: &(&str, &str, bool, usize)) -> bool {
     match settings_from_toml(alloc, row.0) {
         Ok(settings) => {
@@ -190,7 +190,7 @@ fn is_for(alloc: Global, row: &(&str, &str, bool, usize)) -> bool {
     }
 }
 
-/// Settings files whose exclude or required_version is wrong, and the least wrong key.
+/// Settings files whose `exclude` or `required_version` is wrong, and the least wrong key.
 static WRONG: [(&str, &str); 11] = [
     ("exclude = \"a\"", "exclude"),
     ("exclude = [\"a\", 1]", "exclude"),
@@ -205,7 +205,7 @@ static WRONG: [(&str, &str); 11] = [
     ("a = 1\nexclude = 1", "a"),
 ];
 
-/// Whether the fault names this key.
+/// Returns whether the fault names this key.
 fn is_wrong(alloc: Global, text: &str, key: &str) -> bool {
     match settings_from_toml(alloc, text) {
         Err(Fault::Config { key: found }) => found.as_str() == key,

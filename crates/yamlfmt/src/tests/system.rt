@@ -1,4 +1,5 @@
-//! What the contracts leave to the system: that reading and writing succeed, and what a failing reader or writer gives.
+//! Properties of the system that no contract states: that reading and writing succeed, and the results if a reader or a
+//! writer fails.
 
 use crate::tests::answers::reports;
 use crate::tests::faulty::FaultyReader;
@@ -12,7 +13,7 @@ use yf_lines::watched::{Sink, Source, Watched};
 use yf_program::report::report;
 use yf_rules::input::read_all;
 
-/// Gives the same byte for ever.
+/// A reader that gives the same byte for ever.
 #[derive(Drop)]
 struct EndlessReader;
 
@@ -23,7 +24,8 @@ impl Read for EndlessReader {
     }
 }
 
-/// Whether so many bytes at most are read whole of a reader; or whether reading is refused, as wanted, and the reader has failed or not.
+/// Returns whether a reader's bytes are read whole, up to a limit, or reading is refused, as wanted. `fails` says
+/// whether the reader must have failed.
 fn reads<R: Source + Drop>(
     alloc: Global,
     mut reader: R,
@@ -52,7 +54,8 @@ fn reads_up_to_the_limit(rt: HostRuntime) {
     assert!(rt; reads(rt.alloc(), Watched::new(broken), 10, None, true));
 }
 
-/// Whether a writer that takes so many bytes, 8 at most, takes the front of a text, and has failed where it is not whole.
+/// Returns whether a writer with room for at most 8 bytes takes a prefix of a text, and fails if that is not the whole
+/// text.
 fn writes(bytes: &[u8], room: usize) -> bool {
     let room = room.min(8);
     let mut taken = [0; 8];
@@ -79,7 +82,7 @@ const PLACE: Position = Position {
     column: 7,
 };
 
-/// Faults, their status and their line. That of a key of the settings is in `settings`.
+/// Faults, their statuses and their lines. `settings` tests the fault of a wrong key.
 const FAULTS: [(Fault, u8, &str); 11] = [
     (
         Fault::NotUtf8 { offset: 2 },
@@ -129,7 +132,7 @@ const FAULTS: [(Fault, u8, &str); 11] = [
     (Fault::WriteFailed, 3, "write failed\n"),
 ];
 
-/// Whether the status is kept where the report fails, and the stream is told to have failed.
+/// Returns whether the status is kept if the report fails, and the stream then reports a failure.
 fn keeps_the_status() -> bool {
     let mut room = [0; 3];
     let mut stream = Watched::new(room.as_mut_slice());

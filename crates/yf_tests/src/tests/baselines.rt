@@ -1,4 +1,4 @@
-//! Baselines, and findings on asked lines. The hashes are those of coreutils' `sha256sum`.
+//! Baselines, and findings on selected lines. The hashes are those of coreutils' `sha256sum`.
 
 use std::alloc::{AllocError, Global};
 use yf_baseline::baseline::write_baseline;
@@ -17,10 +17,10 @@ const fn found(rule: &'static str, line: usize) -> Found<'static> {
     Found { rule, line }
 }
 
-/// The text when the baseline is written. Two lines are equal, and have findings of one rule.
+/// The text for which the baseline is written. Two lines are equal, and have findings of one rule.
 const OLD: &str = "a:  1\nb: 2 \nb: 2 \n";
 
-/// The baseline of four findings in it: quoting on lines 1 and 2, and trailing-blanks on lines 2 and 3.
+/// The baseline of its four findings: quoting on lines 1 and 2, and trailing-blanks on lines 2 and 3.
 const WRITTEN: &str = "{\"findings\":[
 {\"file\":\"x.yaml\",\"hash\":\"0fdf0436cc3b333a2fc447db579b05ae8544951b6fa4c5e6eaf024b730bb1377\",\"ordinal\":0,\"rule\":\"quoting\"},
 {\"file\":\"x.yaml\",\"hash\":\"97346d204f75cd71c06a1b97f328bc9094ebd46f59929d13484d48c540f0638e\",\"ordinal\":0,\"rule\":\"quoting\"},
@@ -29,7 +29,7 @@ const WRITTEN: &str = "{\"findings\":[
 ],\"version\":1}
 ";
 
-/// Whether the baseline of the old findings is written so.
+/// Returns whether the baseline of the old findings is this text.
 fn writes(alloc: Global) -> Result<bool, AllocError> {
     let findings = [
         found("quoting", 1),
@@ -49,10 +49,10 @@ fn writes_a_baseline(rt: HostRuntime) {
     assert!(rt; writes(rt.alloc()) == Ok(true));
 }
 
-/// The text after a line was added, two lines have changed places and one of the equal lines is gone.
+/// The text after three changes: a line was added, two lines have changed places, and one of the equal lines is gone.
 const NEW: &str = "#new\nb: 2 \na:  1\n";
 
-/// Whether only the finding on the added line is new, and two entries no longer occur.
+/// Returns whether only the finding on the added line is new, and two entries no longer occur.
 fn compares(alloc: Global, baseline: &[Entry]) -> Result<bool, AllocError> {
     let findings = [
         found("comment-space", 1),
@@ -79,7 +79,7 @@ fn compares(alloc: Global, baseline: &[Entry]) -> Result<bool, AllocError> {
     )
 }
 
-/// Whether the baseline is read, and compared with the new text.
+/// Returns whether the baseline is read, and compared with the new text.
 fn reads(alloc: Global) -> bool {
     match &read_baseline(alloc, WRITTEN) {
         Ok(baseline) => compares(alloc, baseline.as_slice()) == Ok(true),
@@ -92,7 +92,7 @@ fn reads_a_baseline(rt: HostRuntime) {
     assert!(rt; reads(rt.alloc()));
 }
 
-/// Texts that are no baselines, and why.
+/// Texts that are not baselines, and the reason.
 static REFUSED: [(&str, Refusal); 14] = [
     ("", Refusal::NotJson),
     ("{\"version\":1,\"findings\":[],}", Refusal::NotJson),
@@ -125,7 +125,7 @@ static REFUSED: [(&str, Refusal); 14] = [
     ),
 ];
 
-/// Whether a text is refused for this reason.
+/// Returns whether a text is refused for this reason.
 fn refuses(alloc: Global, text: &str, why: Refusal) -> bool {
     match &read_baseline(alloc, text) {
         Ok(_) => false,
@@ -140,7 +140,7 @@ fn refuses_what_is_no_baseline(rt: HostRuntime) {
     }
 }
 
-/// The line and column of a start and of an end, the asked lines, and whether the range has one of them.
+/// The line and column of a start and of an end, the selected lines, and whether the range has one of them.
 type OnLinesRow = ([usize; 4], &'static [LineRange], bool);
 
 static ON_LINES: [OnLinesRow; 7] = [
@@ -160,7 +160,7 @@ static ON_LINES: [OnLinesRow; 7] = [
     ),
 ];
 
-/// Whether a range is on asked lines as the row says.
+/// Returns whether a range is on selected lines as the row says.
 fn is_asked(row: &OnLinesRow) -> bool {
     let ([line, column, end_line, end_column], asked, on) = *row;
     let range = Range {

@@ -1,10 +1,10 @@
-//! The nearest settings file, in folders that are given by rows.
+//! The nearest settings file, in folders that the rows describe.
 
 use std::alloc::{AllocError, Global};
 use yf_discovery::folders::{Folders, There};
 use yf_discovery::nearest::{Discovery, nearest_settings};
 
-/// What is at some names. Nothing is at any other name.
+/// The entries at some names. Nothing is at any other name.
 #[derive(Clone, Copy, Drop)]
 struct Tree {
     names: &'static [(&'static str, There)],
@@ -29,7 +29,7 @@ impl Folders for Tree {
     }
 }
 
-/// What is at some names, the number of folders above the current one, and what is found: 's' with the name of the
+/// The entries at some names, the number of folders above the current one, and the result: 's' with the name of the
 /// settings file, 'f' with the name that decides and can't be read, or '-' without a name.
 type Row = (&'static [(&'static str, There)], usize, char, &'static str);
 
@@ -54,7 +54,7 @@ static ROWS: [Row; 16] = [
         "../../.yamlfmt.toml",
     ),
     (&[("../../.yamlfmt.toml", There::File)], 1, '-', ""),
-    // a settings file beside .git, and above it
+    // a settings file beside .git, and one above it
     (
         &[(".git", There::Folder), (".yamlfmt.toml", There::File)],
         2,
@@ -125,7 +125,7 @@ static ROWS: [Row; 16] = [
     ),
 ];
 
-/// Whether that is found.
+/// Returns whether the result is as expected.
 fn is_found(alloc: Global, row: &Row) -> bool {
     match nearest_settings(alloc, &Tree { names: row.0 }, row.1) {
         Ok(Discovery::Settings(name)) => row.2 == 's' && name.as_str() == row.3,

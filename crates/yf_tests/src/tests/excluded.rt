@@ -1,5 +1,5 @@
-//! Which files a settings file excludes, by the names of both. The expected values are what `git check-ignore` says of a
-//! .gitignore file in the folder of the settings file.
+//! The files that a settings file excludes, by the names of both. The expected values are the results of `git
+//! check-ignore` for a .gitignore file in the folder of the settings file.
 
 use std::alloc::{AllocError, Global};
 use yf_excludes::located::excludes_file;
@@ -32,7 +32,7 @@ static ROWS: [Row; 17] = [
     ("/a.yaml", "/r", "conf/one.toml", "conf/a.yaml", true),
 ];
 
-/// Whether the row's pattern excludes the row's file.
+/// Returns whether the row's pattern excludes the row's file.
 fn is_out(alloc: Global, row: &Row) -> Result<bool, AllocError> {
     match read_pattern(alloc, row.0.as_bytes())? {
         Some(pattern) => excludes_file(

@@ -1,15 +1,15 @@
-//! Texts that are no data. The offsets were counted by hand; which texts are templates was compared with PyYAML's events.
+//! Texts that are not data. The offsets were counted by hand. PyYAML's events show which texts are templates.
 
 use crate::tests::reading_of;
 use std::alloc::{AllocError, Global};
 use yf_guard::guarded::{Guarded, guard};
 
-/// Why a text is no data, as a letter and an offset: `v` for a vault, `n` for no data, `t` for a template, and `-` for
-/// data.
+/// Why a text is not data, as a letter and a byte offset: `v` for a vault, `n` for no data, `t` for a template, and `-`
+/// for data.
 type Row = (&'static str, char, usize);
 
 static ROWS: [Row; 41] = [
-    // vaults: only at the first byte, whatever follows
+    // vaults: only at the first byte, with any bytes after it
     ("$ANSIBLE_VAULT;1.1;AES256\n3334\n3435\n", 'v', 0),
     ("$ANSIBLE_VAULT;", 'v', 0),
     ("\u{FEFF}$ANSIBLE_VAULT;1.1;AES256\n3334\n", 'n', 3),
@@ -42,12 +42,12 @@ static ROWS: [Row; 41] = [
     ("a: 1\n---\nb: {{ x }}\n", 't', 12),
     ("one\ntwo\n---\nb: {{ x }}\n", 'n', 0),
     ("b: {{ x }}\n---\none\ntwo\n", 't', 3),
-    // what is left of them in block style
+    // templates after the text was written in block style
     ("vlan:\n  ? site_vlan:\n  :\n", 't', 8),
     ("? a:\n  b:\n:\n", 't', 0),
     ("? a: b\n:\n", '-', 0),
     ("? a:\n: b\n", '-', 0),
-    // templates in scalars, and mappings that are none
+    // templates in scalars, and mappings that are not templates
     ("name: build {{version}}\n", '-', 0),
     ("pattern={{version}}\n", '-', 0),
     ("a: \"{{ x }}\"\n", '-', 0),
@@ -57,7 +57,7 @@ static ROWS: [Row; 41] = [
     ("{{a}: !!null }\n", '-', 0),
 ];
 
-/// Returns whether that is why the text is no data.
+/// Returns whether the guard's result has this letter and this offset.
 fn is_as_wanted(found: &Result<Option<Guarded>, AllocError>, kind: char, offset: usize) -> bool {
     match found {
         Ok(Some(Guarded::Vault)) => kind == 'v',
@@ -68,7 +68,7 @@ fn is_as_wanted(found: &Result<Option<Guarded>, AllocError>, kind: char, offset:
     }
 }
 
-/// Returns whether the text has a reading, and the guard returns that.
+/// Returns whether the text has a reading, and the guard returns this result.
 fn is_guarded(alloc: Global, text: &str, kind: char, offset: usize) -> bool {
     match &reading_of(alloc, text) {
         Ok(reading) => is_as_wanted(&guard(alloc, text, reading), kind, offset),

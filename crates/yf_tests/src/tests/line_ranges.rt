@@ -4,7 +4,7 @@ use std::alloc::Global;
 use yf_line_ranges::range::LineRange;
 use yf_line_ranges::read::add_ranges;
 
-/// A text, and the first and the last line of each range that it writes. A text that writes no ranges has none here.
+/// A text, and the first and the last line of each of its ranges. A text that is not a list of ranges has none.
 type Row = (&'static str, &'static [[usize; 2]]);
 
 static ROWS: [Row; 30] = [
@@ -43,7 +43,7 @@ static ROWS: [Row; 30] = [
     ("3\u{2013}7", &[]),
 ];
 
-/// Whether a list has these ranges after the range 9-9.
+/// Returns whether a list has these ranges after the range 9-9.
 fn has_ranges(found: &[LineRange], wanted: &[[usize; 2]]) -> bool {
     let [nine, ranges @ ..] = found else {
         return false;
@@ -57,7 +57,7 @@ fn has_ranges(found: &[LineRange], wanted: &[[usize; 2]]) -> bool {
             .all(|(range, ends)| range.first == ends[0] && range.last == ends[1])
 }
 
-/// Whether a text adds just its ranges to a list, or writes none.
+/// Returns whether a text adds exactly its ranges to a list, or is refused if it has none.
 fn adds(alloc: Global, row: &Row) -> bool {
     let (text, wanted) = *row;
     let mut ranges = Vec::new(alloc);

@@ -6,10 +6,10 @@ use yf_events::reading::Reading;
 use yf_lint::anchors::{repeated_anchors, unused_anchors};
 use yf_lint::empty_values::empty_values;
 
-/// Which offsets are asked for.
+/// The kind of offsets, and the expected offsets.
 #[derive(Clone, Copy)]
 enum Asked {
-    /// Anchors that no alias uses, the last first.
+    /// Anchors that no alias uses, the last one first.
     Unused(&'static [usize]),
     /// Anchors that are defined again.
     Repeated(&'static [usize]),
@@ -54,7 +54,7 @@ static ROWS: [(&str, Asked); 28] = [
     ("---\n---\na:\n", Asked::Empty(&[8])),
 ];
 
-/// Returns whether these are the offsets.
+/// Returns whether these are the expected offsets.
 fn are_as_wanted(found: &Result<Vec<usize>, AllocError>, wanted: &[usize]) -> bool {
     match found {
         Ok(offsets) => offsets.as_slice() == wanted,
@@ -70,7 +70,7 @@ fn is_told_of(alloc: Global, reading: &Reading, asked: Asked) -> bool {
     }
 }
 
-/// Returns whether the text has a reading, of which that holds.
+/// Returns whether the text has a reading with the expected offsets.
 fn is_told(alloc: Global, text: &str, asked: Asked) -> bool {
     match &reading_of(alloc, text) {
         Ok(reading) => is_told_of(alloc, reading, asked),

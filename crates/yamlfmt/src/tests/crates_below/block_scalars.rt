@@ -1,4 +1,4 @@
-//! Block scalars whose lines and content were worked out from the productions.
+//! Block scalars. Their lines and contents were worked out from the productions.
 
 use std::alloc::{AllocError, Global};
 use yf_block_scalar::body::BlockText;
@@ -9,24 +9,24 @@ use yf_lines::fault::Fault;
 use yf_lines::source_text::Src;
 use yf_lines::text::ReadResult;
 
-/// What is wanted of a text.
+/// The expected result for a text.
 #[derive(Clone, Copy)]
 enum Wanted {
-    /// No header begins it.
+    /// No header begins the text.
     NoHeader,
-    /// A header ends there that has the comment `# c`.
+    /// A header with the comment `# c` ends at this offset.
     Header(usize),
-    /// A header begins it, and no scalar.
+    /// A header begins the text, but no scalar.
     Nothing,
     /// The content of the scalar.
     Content(&'static str),
-    /// The content, and the scalar as it is written at column 2.
+    /// The content, and the text of the scalar when it is written at column 2.
     Both(&'static str, &'static str),
-    /// The line after a scalar of one line, a tail of one line and the comment `# c` after a blank line.
+    /// The line after a scalar of one line, a tail of one line, a blank line and the comment `# c`.
     Tail(usize),
 }
 
-/// A text, the indentation, and what is wanted.
+/// A text, the indentation, and the expected result.
 type Row = (&'static str, i32, Wanted);
 
 static SCALARS: [Row; 20] = [
@@ -67,7 +67,7 @@ static SCALARS: [Row; 20] = [
     ("|  # c\n a\n", 0, Wanted::Header(7)),
 ];
 
-/// Whether a scalar has that content.
+/// Returns whether a scalar has this content.
 fn has_content(alloc: Global, block: &BlockText, wanted: &str) -> bool {
     match &content(alloc, block) {
         Ok(text) => text.as_str() == wanted,
@@ -75,13 +75,13 @@ fn has_content(alloc: Global, block: &BlockText, wanted: &str) -> bool {
     }
 }
 
-/// Whether a scalar is written so.
+/// Returns whether a scalar is written as this text.
 fn writes(alloc: Global, block: &BlockText, wanted: &str) -> bool {
     let mut out = String::new(alloc);
     write_block(alloc, &mut out, block, 2, 0).is_ok() && out.as_str() == wanted
 }
 
-/// Whether a scalar has one line, and after its tail the comment `# c` alone, with a blank line before it.
+/// Returns whether a scalar has one line, and after its tail only the comment `# c`, with a blank line before it.
 fn has_tail(block: &BlockText, next: usize) -> bool {
     match block.comments.as_slice() {
         [comment] => {
@@ -96,7 +96,7 @@ fn has_tail(block: &BlockText, next: usize) -> bool {
     }
 }
 
-/// Whether what is found after a header is what is wanted.
+/// Returns whether the result after a header is as expected.
 fn is_wanted(alloc: Global, found: &ReadResult<BlockText>, wanted: Wanted) -> bool {
     match (found, wanted) {
         (Ok(Some(block)), Wanted::Content(text)) => has_content(alloc, block, text),
@@ -109,7 +109,7 @@ fn is_wanted(alloc: Global, found: &ReadResult<BlockText>, wanted: Wanted) -> bo
     }
 }
 
-/// Whether the header and the scalar that begin a source are what is wanted.
+/// Returns whether the header and the scalar at the start of a source are as expected.
 fn is_read(alloc: Global, src: &Src, n: i32, wanted: Wanted) -> bool {
     match (&read_header(src, 0), wanted) {
         (Some(head), Wanted::Header(end)) => match &head.comment {
@@ -131,7 +131,7 @@ fn is_read(alloc: Global, src: &Src, n: i32, wanted: Wanted) -> bool {
     }
 }
 
-/// The same of the row's text.
+/// Returns whether the row's text is read as expected.
 fn reads(alloc: Global, row: &Row) -> bool {
     match &Src::new(alloc, row.0) {
         Ok(src) => is_read(alloc, src, row.1, row.2),

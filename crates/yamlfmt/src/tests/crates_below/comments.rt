@@ -1,4 +1,4 @@
-//! Separation and ends of lines, at texts whose ends and comments were worked out by hand from the productions.
+//! Separation and ends of lines. The ends and comments were worked out by hand from the productions.
 
 use std::alloc::{AllocError, Global};
 use yf_chars::context::Ctx;
@@ -7,23 +7,24 @@ use yf_comments::read::{read_line_end, read_separation};
 use yf_lines::fault::Fault;
 use yf_lines::source_text::Src;
 
-/// What is wanted of a reader.
+/// The expected result of a reader.
 #[derive(Clone, Copy)]
 enum Wanted {
-    /// It finds nothing.
+    /// The reader finds nothing.
     Nothing,
-    /// It ends there, and has read no comment.
+    /// The reader ends at this offset, and has read no comment.
     End(usize),
-    /// It ends there, and has read one comment, `# c`, at that place and with that note of a blank line.
+    /// The reader ends at this offset. It has read one comment, `# c`, at this offset and with this note of a blank
+    /// line.
     Comment(usize, usize, bool),
 }
 
-/// A text, a place, the indentation and the context of the separation that begins there, or none for the end of a line, and what is
-/// wanted.
+/// A text, an offset, and the expected result. The separation that begins at the offset has an indentation and a
+/// context; without them the end of a line is read.
 type Row = (&'static str, usize, Option<(i32, Ctx)>, Wanted);
 
 static ROWS: [Row; 14] = [
-    // over a comment
+    // past a comment
     (
         "x # c\n  y",
         1,
@@ -37,7 +38,7 @@ static ROWS: [Row; 14] = [
     (" # c\ny", 0, Some((2, Ctx::FlowIn)), Wanted::End(1)),
     // over blank lines
     ("x\n\n  y", 1, Some((2, Ctx::FlowOut)), Wanted::End(5)),
-    // no line in keys
+    // no line break in keys
     ("x \n y", 1, Some((0, Ctx::FlowKey)), Wanted::End(2)),
     ("a \tb", 1, Some((0, Ctx::FlowKey)), Wanted::End(3)),
     ("ab", 1, Some((0, Ctx::FlowKey)), Wanted::Nothing),
@@ -47,13 +48,13 @@ static ROWS: [Row; 14] = [
     // after a mark
     ("\u{FEFF}# c\n", 3, None, Wanted::Comment(7, 3, false)),
     ("a\n \t\n# c", 1, None, Wanted::Comment(8, 5, true)),
-    // inside a break
+    // in the middle of a line break
     ("a\r\nb", 2, None, Wanted::Nothing),
     // before a comment that a mark ends
     ("a # c\u{FEFF}", 1, None, Wanted::Nothing),
 ];
 
-/// Whether what is wanted was found.
+/// Returns whether the result is as expected.
 fn is_wanted(found: &Result<Option<Separation>, Fault>, wanted: Wanted) -> bool {
     match (found, wanted) {
         (Ok(Some(found)), Wanted::End(end)) => found.end == end && found.comments.len() == 0,
@@ -74,7 +75,7 @@ fn is_wanted(found: &Result<Option<Separation>, Fault>, wanted: Wanted) -> bool 
     }
 }
 
-/// Whether that is found at the place of a source.
+/// Returns whether the result at the offset of a source is as expected.
 fn is_found(alloc: Global, src: &Src, row: &Row) -> bool {
     let (_, at, separation, wanted) = *row;
     if !src.text().is_char_boundary(at) {
@@ -86,7 +87,7 @@ fn is_found(alloc: Global, src: &Src, row: &Row) -> bool {
     }
 }
 
-/// The same of a text.
+/// Returns whether the result for the row's text is as expected.
 fn reads(alloc: Global, row: &Row) -> bool {
     match &Src::new(alloc, row.0) {
         Ok(src) => is_found(alloc, src, row),

@@ -1,22 +1,22 @@
-//! What is told of a fault beside its line. The lines were worked out by hand: their columns by counting, the numbers of characters from the
-//! Unicode standard.
+//! The explanation after the line of a fault. The lines were worked out by hand. Their columns were counted, and the
+//! numbers of characters are those of the Unicode standard.
 
 use std::alloc::{AllocError, Global};
 use yf_explain::{Page, explain};
 use yf_lines::fault::Fault;
 use yf_lines::place::Position;
 
-/// The first line that is told in each row.
+/// The first line of the explanation in each row.
 const WORDS: &str = "  more than 1,024 collections would be open here\n";
 
-/// A text, a place in it, and what is told of it after the words.
+/// A text, a line and a column in it, and the explanation after the first line.
 type Row = (&'static str, usize, usize, &'static str);
 
 static ROWS: [Row; 11] = [
     ("a: b\n", 1, 4, "  | a: b\n  |    ^\n"),
-    // at the end of a text, after its last break
+    // at the end of a text, after its last line break
     ("a\n", 2, 1, "  | \n  | ^\n"),
-    // characters of two columns, and those that are shown by their numbers, in 4, 6 and 10
+    // characters of two columns, and characters that are shown by their numbers, in 4, 6 and 10 columns
     (
         "\u{5024}: \u{202E}x",
         1,
@@ -42,7 +42,8 @@ static ROWS: [Row; 11] = [
         61,
         "  | ...ccccddddddddddeeeeeeeeeeffffffffffgggggggggghhhhhhhhhhiiiiiiiiiijjjj...\n  |                                      ^\n",
     ),
-    // what is open there, and is told where it was opened: a bracket on another line, on the same one, a quote
+    // the explanation names the position at which something was opened: a bracket on another line or on this line, a
+    // quote
     (
         "x: 1\na: [1, {b: 2}\nb: c\n",
         3,
@@ -56,7 +57,7 @@ static ROWS: [Row; 11] = [
         1,
         "  | z\n  | ^\n  opened at 1:4\n  | a: \"x\n  |    ^\n",
     ),
-    // no bracket begins in a block scalar, in a comment, nor in text without quotes
+    // no bracket begins in a block scalar, in a comment, or in text without quotes
     (
         "a: |\n  [x\nb: [1\n",
         3,
@@ -66,7 +67,7 @@ static ROWS: [Row; 11] = [
     ("# [\na: b [\nc: d\n", 3, 4, "  | c: d\n  |    ^\n"),
 ];
 
-/// What is told of a place of a text.
+/// Returns the explanation of a fault at a position of a text.
 fn told(alloc: Global, text: &str, line: usize, column: usize) -> Result<Page, AllocError> {
     let fault = Fault::TooDeep {
         place: Position { line, column },
@@ -74,7 +75,7 @@ fn told(alloc: Global, text: &str, line: usize, column: usize) -> Result<Page, A
     explain(alloc, text.as_bytes(), &fault)
 }
 
-/// Whether that is told after the words.
+/// Returns whether the explanation after the first line is this text.
 fn is_told(told: &Result<Page, AllocError>, wanted: &str) -> bool {
     match told {
         Ok(page) => page.as_str().strip_prefix(WORDS) == Some(wanted),
@@ -82,7 +83,7 @@ fn is_told(told: &Result<Page, AllocError>, wanted: &str) -> bool {
     }
 }
 
-/// Whether a row holds.
+/// Returns whether a row holds.
 fn holds(alloc: Global, row: &Row) -> bool {
     is_told(&told(alloc, row.0, row.1, row.2), row.3)
 }
@@ -94,7 +95,8 @@ fn shows_places(rt: HostRuntime) {
     }
 }
 
-/// Control characters, from the first to the last of each run; those that turn the direction of a line, join, or are not seen.
+/// Control characters, and characters that turn the direction of a line, join characters, or are invisible. Each pair
+/// is the first and the last character of a range.
 static HIDDEN: [(char, char); 9] = [
     ('\u{0}', '\u{9}'),
     ('\u{B}', '\u{C}'),
@@ -107,7 +109,7 @@ static HIDDEN: [(char, char); 9] = [
     ('\u{2060}', '\u{206F}'),
 ];
 
-/// Whether a page is there, and does not hold a character.
+/// Returns whether there is a page without this character.
 fn is_without(told: &Result<Page, AllocError>, c: char) -> bool {
     match told {
         Ok(page) => !page.as_str().contains(c),
@@ -115,7 +117,7 @@ fn is_without(told: &Result<Page, AllocError>, c: char) -> bool {
     }
 }
 
-/// Whether a character of the text at a place is not told as it is.
+/// Returns whether a page shows a character of the text in another form.
 fn hides(alloc: Global, c: char) -> bool {
     match format!(in alloc; "a{c}b") {
         Ok(text) => is_without(&told(alloc, text.as_str(), 1, 1), c),
@@ -132,7 +134,7 @@ fn hides_what_moves_or_turns(rt: HostRuntime) {
     }
 }
 
-/// Whether bytes that are no text are told of so.
+/// Returns whether the explanation of bytes that are not UTF-8 is this text.
 fn tells_byte(alloc: Global, bytes: &[u8], offset: usize, wanted: &str) -> bool {
     match &explain(alloc, bytes, &Fault::NotUtf8 { offset }) {
         Ok(page) => page.as_str() == wanted,
@@ -153,12 +155,12 @@ fn tells_bytes(rt: HostRuntime) {
     assert!(rt; !tells_byte(rt.alloc(), b"a", 1, ""));
 }
 
-/// The words on an alias whose name may be one, and on one that is more likely a text.
+/// The explanations of an alias whose name may be an anchor's name, and of one that is more likely a text.
 const NO_ANCHOR: &str = "  no anchor with this name comes before it in this document\n";
 
 const NO_ALIAS: &str = "  no anchor has this name: quote a text that begins with `*`\n";
 
-/// A text, the place of an alias in it, and the first line that is told.
+/// A text, the line and the column of an alias in it, and the first line of the explanation.
 type AliasRow = (&'static str, usize, usize, &'static str);
 
 static ALIASES: [AliasRow; 6] = [
@@ -170,7 +172,7 @@ static ALIASES: [AliasRow; 6] = [
     ("- *_test.go", 1, 3, NO_ALIAS),
 ];
 
-/// Whether the first line that is told of an alias is that of the row.
+/// Returns whether the first line of an alias's explanation is that of the row.
 fn tells_alias(alloc: Global, row: &AliasRow) -> bool {
     let fault = Fault::UnknownAlias {
         place: Position {

@@ -1,10 +1,11 @@
-//! Lines and places of texts, worked out by hand.
+//! Lines and positions of texts, worked out by hand.
 
 use std::alloc::{AllocError, Global};
 use yf_lines::source_text::Src;
 use yf_lines::table::LineTable;
 
-/// A line: where it starts and ends, where the next line starts, how many spaces it begins with, and whether it is forbidden in scalars.
+/// A line: its start and end, the start of the next line, the number of spaces at its start, and whether it is
+/// forbidden in scalars.
 type Line = (usize, usize, usize, usize, bool);
 
 /// A text, its lines, and byte offsets in it with their lines and columns.
@@ -70,7 +71,7 @@ static ROWS: [Row; 12] = [
     ),
 ];
 
-/// Whether a table has these lines.
+/// Returns whether a table has these lines.
 fn has_lines(table: &LineTable, lines: &[Line]) -> bool {
     if table.len() != lines.len() {
         return false;
@@ -91,7 +92,7 @@ fn has_lines(table: &LineTable, lines: &[Line]) -> bool {
     true
 }
 
-/// Whether a table has these places.
+/// Returns whether a table has these positions.
 fn has_places(table: &LineTable, places: &[[usize; 3]]) -> bool {
     for [offset, line, column] in places {
         if !table.text().is_char_boundary(*offset) {
@@ -105,13 +106,13 @@ fn has_places(table: &LineTable, places: &[[usize; 3]]) -> bool {
     true
 }
 
-/// Whether a table is that of the row's text.
+/// Returns whether the table is the one of the row's text.
 fn is_table(table: &LineTable, row: &Row) -> bool {
     let (text, lines, places) = *row;
     table.text() == text && has_lines(table, lines) && has_places(table, places)
 }
 
-/// Whether a source has the row's text and its table.
+/// Returns whether a source has the row's text and its table.
 fn holds(alloc: Global, row: &Row) -> bool {
     match (&Src::new(alloc, row.0), &LineTable::build(alloc, row.0)) {
         (Ok(src), Ok(table)) => is_table(src.lines(), row) && is_table(table, row),

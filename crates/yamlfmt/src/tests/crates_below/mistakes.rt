@@ -1,5 +1,6 @@
-//! Mistakes that people make, and where and why each is told. The places were worked out by hand: the first sign with which no stream begins, but of an open
-//! quote the quote, of open brackets the end of the last sign in them, and of a tab among the indentation the tab.
+//! Common mistakes, and the position and the reason that are reported for each. The positions were worked out by hand.
+//! The position is the first character with which no stream begins, with three exceptions: an open quote is reported at
+//! the quote, open brackets at the end of the last character in them, and a tab in the indentation at the tab.
 
 use crate::tests::answers::repeated;
 use std::alloc::Global;
@@ -8,7 +9,7 @@ use yf_lines::fault::Fault;
 use yf_lines::place::Position;
 use yf_stream::stream::read_stream;
 
-/// Texts that are no streams, the line and column that is told, and why.
+/// Texts that are not streams, the line and the column of the fault, and the reason.
 static MISTAKES: [(&str, (usize, usize), Why); 201] = [
     (
         "{\"name\": \"x\",\n \"deps\": [\"a\" \"b\"],\n \"v\": 1}\n",
@@ -225,7 +226,7 @@ static MISTAKES: [(&str, (usize, usize), Why); 201] = [
     ("[main, *]\n", (1, 9), Why::NoName),
     ("a: *.{js,ts}\n", (1, 6), Why::TextAsAlias),
     ("[a, *.{js,ts}]\n", (1, 7), Why::TextAsAlias),
-    // a template in quotes, in a comment or after a `$` is no reason
+    // a template in quotes, in a comment or after a `$` is not the reason
     ("a: \"{{ x }}\" y\n", (1, 14), Why::AfterNode),
     ("a: '{{ x }}'y\n", (1, 13), Why::AfterSingle),
     ("a: x {{ y }} : z\n", (1, 14), Why::MappingInLine),
@@ -242,11 +243,11 @@ static MISTAKES: [(&str, (usize, usize), Why); 201] = [
     ),
     ("{\"a\": \"{{ x }}\" \"b\"}\n", (1, 17), Why::CommaExpected),
     ("a: {{ x[\"y\"] }}\n", (1, 8), Why::Template),
-    // a line that looks like a marker of a conflict, with and without its beginning
+    // a line that looks like a conflict marker, with and without its beginning
     ("title\n=======\na: 1\n", (3, 2), Why::LineJoined),
     ("a: 1\n<<<<<<<< x\n", (2, 11), Why::KeyWithoutColon),
     ("<<<<<<< HEAD\nx\n=======\nb: 1\n", (4, 2), Why::Conflict),
-    // lists in the column of a line
+    // lists at the column of a line
     ("k:\n  - a\n  b: 1\n", (3, 3), Why::KeyInSequence),
     ("k: !!seq\n  - a\n  b\n", (3, 3), Why::KeyInSequence),
     ("- - a\n  b: 1\n", (2, 3), Why::KeyInSequence),
@@ -261,7 +262,7 @@ static MISTAKES: [(&str, (usize, usize), Why); 201] = [
     ("a:\n  k\n    - b: y\n", (3, 8), Why::KeyWithoutColonAbove),
     ("[a\n ]: 1\n", (2, 3), Why::KeyOverLines),
     ("a: 1\n{b\n}: 2\n", (2, 3), Why::KeyOverLines),
-    // signs that are missing in brackets
+    // characters that are missing in brackets
     ("{\"a\" \"b\"}\n", (1, 6), Why::ColonExpected),
     ("['a'# c\n]\n", (1, 5), Why::CommentUnspaced),
     // a byte order mark at the start of a line, in a document and before one
@@ -277,7 +278,7 @@ fn tells_mistakes(rt: HostRuntime) {
     assert!(rt; tells_a_long_key(rt.alloc()));
 }
 
-// Whether a key of more than 1,024 characters is told at its `:`.
+// Returns whether a key of more than 1,024 characters is reported at its `:`.
 fn tells_a_long_key(alloc: Global) -> bool {
     match &repeated(alloc, &("", "k", 1030, ": v", 1)) {
         Ok(text) => is_told(alloc, text.as_str(), (1, 1031), Why::LongKey),
@@ -285,7 +286,7 @@ fn tells_a_long_key(alloc: Global) -> bool {
     }
 }
 
-// Whether the text is refused there for that.
+// Returns whether the text is refused at this line and column for this reason.
 fn is_told(alloc: Global, text: &str, place: (usize, usize), why: Why) -> bool {
     match &read_stream(alloc, text) {
         Err(Fault::Syntax { place: told, what }) => {

@@ -1,5 +1,5 @@
-//! Flow nodes, implicit keys and block nodes that begin a text, read and scanned: which part of the text they are. The events were
-//! worked out from the productions; those of whole streams are in `events`.
+//! Flow nodes, implicit keys and block nodes at the start of a text, read and scanned. The rows say which part of the
+//! text they take. The events were worked out from the productions. `events` has the events of whole streams.
 
 use crate::tests::answers::{Repeated, repeated};
 use std::alloc::{AllocError, Global};
@@ -14,10 +14,10 @@ use yf_lines::fault::Fault;
 use yf_lines::source_text::Src;
 use yf_lines::text::ReadResult;
 
-/// What is read.
+/// The kind of node to read.
 #[derive(Clone, Copy)]
 enum Reader {
-    /// A flow node at that indentation, in flow-out.
+    /// A flow node at this indentation, in flow-out.
     Flow(i32),
     /// An implicit key, in block-key.
     Key,
@@ -25,20 +25,21 @@ enum Reader {
     Block,
 }
 
-/// Events by their signs in the notation, without properties, and their texts.
+/// Events, each by its sign in the notation, without properties, and its text.
 type Events = &'static [(&'static str, &'static str)];
 
-/// What is found.
+/// The expected result.
 #[derive(Clone, Copy)]
 enum Wanted {
-    /// A node with these events that ends there.
+    /// A node with these events that ends at this offset.
     Node(Events, usize),
-    /// One that ends there.
+    /// A node that ends at this offset.
     End(usize),
     Nothing,
-    /// It is nested too deep.
+    /// The node is nested too deeply.
     TooDeep,
-    /// The reader refuses the node for the escape in that column of the first line; the scan tells it with the node.
+    /// The reader refuses the node because of the escape in this column of the first line. The scan returns the escape
+    /// with the node.
     Escape(Events, usize, usize),
 }
 
@@ -92,7 +93,7 @@ static NODES: [(&str, Reader, Wanted); 37] = [
     ("[?]", Reader::Flow(0), Wanted::Nothing),
     ("---", Reader::Flow(0), Wanted::Nothing),
     ("[a,\n--- b]", Reader::Flow(0), Wanted::Nothing),
-    // the first escape that is no character
+    // the first escape that is not a character
     (
         "\"\\ud83dA\"",
         Reader::Flow(0),
@@ -123,7 +124,7 @@ static NODES: [(&str, Reader, Wanted); 37] = [
             8,
         ),
     ),
-    // the longest part, where another document begins, or the text goes wrong later
+    // the longest part, if another document begins after it or the text is wrong further on
     (
         "a:\n\n  b: 1\n\n\n  # c\n\n  d: 2\n\n---\n\ne\n",
         Reader::Block,
@@ -209,7 +210,8 @@ static NODES: [(&str, Reader, Wanted); 37] = [
     ("- a: b: c", Reader::Block, Wanted::Nothing),
 ];
 
-/// Texts with many brackets, dashes or characters in a key. What is good before a collection that is one too many is a node.
+/// Texts with many brackets, dashes or characters in a key. If one collection is too many, the correct part before it
+/// is a node.
 static LIMITS: [(Repeated, Reader, Wanted); 12] = [
     (
         ("", "[", 1024, "]", 1024),
@@ -263,7 +265,7 @@ fn style_sign(style: ScalarStyle) -> &'static str {
     }
 }
 
-/// The sign and the text of an event.
+/// Returns the sign and the text of an event.
 fn shown<'e>(event: &Event<'e>) -> (&'static str, &'e str) {
     match event {
         Event::SeqStart { flow, .. } => (if *flow { "+SEQ []" } else { "+SEQ" }, ""),
@@ -276,7 +278,7 @@ fn shown<'e>(event: &Event<'e>) -> (&'static str, &'e str) {
     }
 }
 
-/// Whether a part has these events.
+/// Returns whether a part has these events.
 fn has_events(part: &Part, wanted: Events) -> bool {
     if part.events.len() != wanted.len() {
         return false;
@@ -289,7 +291,7 @@ fn has_events(part: &Part, wanted: Events) -> bool {
     true
 }
 
-/// Whether a node is one that is wanted.
+/// Returns whether a node is as expected.
 fn is_node(part: &Part, end: usize, escape: usize, wanted: Wanted) -> bool {
     match wanted {
         Wanted::Node(events, at) => end == at && escape == 0 && has_events(part, events),
@@ -301,7 +303,7 @@ fn is_node(part: &Part, end: usize, escape: usize, wanted: Wanted) -> bool {
     }
 }
 
-/// Whether what is read is what is wanted.
+/// Returns whether the result of the reader is as expected.
 fn is_read(found: &ReadResult<NodePart>, wanted: Wanted) -> bool {
     match found {
         Ok(Some(node)) => is_node(&node.part, node.end, 0, wanted),
@@ -315,7 +317,7 @@ fn is_read(found: &ReadResult<NodePart>, wanted: Wanted) -> bool {
     }
 }
 
-/// Whether what is scanned is what is wanted.
+/// Returns whether the result of the scan is as expected.
 fn is_scanned(found: &ScanResult, wanted: Wanted) -> bool {
     match found {
         Ok(Some(node)) => {
@@ -331,7 +333,7 @@ fn is_scanned(found: &ScanResult, wanted: Wanted) -> bool {
     }
 }
 
-/// Whether what begins a source is read and scanned so.
+/// Returns whether the start of a source is read and scanned as expected.
 fn reads(alloc: Global, src: &Src, reader: Reader, wanted: Wanted) -> bool {
     if !src.text().is_char_boundary(0) {
         return false;
@@ -352,7 +354,7 @@ fn reads(alloc: Global, src: &Src, reader: Reader, wanted: Wanted) -> bool {
     }
 }
 
-/// The same of a text.
+/// Returns whether the start of a text is read and scanned as expected.
 fn begins(alloc: Global, text: &str, reader: Reader, wanted: Wanted) -> bool {
     match &Src::new(alloc, text) {
         Ok(src) => reads(alloc, src, reader, wanted),
@@ -360,7 +362,7 @@ fn begins(alloc: Global, text: &str, reader: Reader, wanted: Wanted) -> bool {
     }
 }
 
-/// The same of a text that is repeated.
+/// Returns whether a text of repeated parts is read and scanned as expected.
 fn is_limit(alloc: Global, row: &(Repeated, Reader, Wanted)) -> bool {
     match &repeated(alloc, &row.0) {
         Ok(text) => begins(alloc, text.as_str(), row.1, row.2),

@@ -1,4 +1,4 @@
-//! Properties and tag handles, at texts whose names and ends were worked out by hand from the productions.
+//! Properties and tag handles. The names and ends were worked out by hand from the productions.
 
 use std::alloc::{AllocError, Global};
 use yf_chars::context::Ctx;
@@ -12,8 +12,9 @@ use yf_props::props::Tag;
 use yf_props::read::read_props;
 use yf_props::resolved::ResolvedTag;
 
-/// A text, a place at which properties begin, the indentation, where the properties end, their anchor, where their tag
-/// begins, the tag's handle and suffix (of a verbatim tag `<>` and its text), and how many comments there are.
+/// A text, the offset at which properties begin, the indentation, the offset at which the properties end, their anchor,
+/// the offset at which their tag begins, the tag's handle and suffix (for a verbatim tag `<>` and its text), and the
+/// number of comments.
 type Row = (
     &'static str,
     usize,
@@ -41,13 +42,13 @@ static PROPERTIES: [Row; 7] = [
     // a suffix is not empty
     ("!! x", 0, 0, 1, None, Some(0), ("!", ""), 0),
     ("!e! x", 0, 0, 2, None, Some(0), ("!", "e"), 0),
-    // names go as far as their characters
+    // names extend as far as their characters
     ("&a: !-!b,", 0, 0, 8, Some("a:"), Some(4), ("!-!", "b"), 0),
     // before a comment
     ("- &a x # c\n- *a\n", 2, 0, 4, Some("a"), None, ("", ""), 0),
 ];
 
-/// Whether these are the properties of the row.
+/// Returns whether these are the properties of the row.
 fn are_wanted(found: &Result<Option<Properties>, Fault>, row: &Row) -> bool {
     match found {
         Ok(Some(found)) => {
@@ -67,7 +68,7 @@ fn are_wanted(found: &Result<Option<Properties>, Fault>, row: &Row) -> bool {
     }
 }
 
-/// Whether the properties of the row are read.
+/// Returns whether the properties of the row are read.
 fn reads(alloc: Global, row: &Row) -> bool {
     match &Src::new(alloc, row.0) {
         Ok(src) => are_wanted(&read_props(alloc, src, row.1, row.2, Ctx::FlowIn), row),
@@ -75,7 +76,7 @@ fn reads(alloc: Global, row: &Row) -> bool {
     }
 }
 
-/// Handles and prefixes as they are declared one after another, and whether the handle was free. A default is no
+/// Handles and prefixes in the order of their declarations, and whether the handle was free. A default is not a
 /// declaration, and a declared prefix is kept.
 static DECLARED: [(&str, &str, bool); 3] = [
     ("!e!", "tag:e.com,2000:", true),
@@ -83,7 +84,7 @@ static DECLARED: [(&str, &str, bool); 3] = [
     ("!!", "tag:f.com,2000:", true),
 ];
 
-/// Tags, and what they stand for after these declarations; nothing where the handle is unknown.
+/// Tags, and the texts that they stand for after these declarations. The text is empty if the handle is unknown.
 static TAGS: [(Tag, &str); 6] = [
     (
         Tag::Short {
@@ -119,7 +120,7 @@ static TAGS: [(Tag, &str); 6] = [
 
 const PLACE: Position = Position { line: 1, column: 3 };
 
-/// Whether a tag stands for that text, or its handle is unknown.
+/// Returns whether a tag stands for this text, or its handle is unknown.
 fn is_resolved(resolved: &Result<ResolvedTag, Fault>, wanted: &str) -> bool {
     match resolved {
         Ok(resolved) => *resolved == ResolvedTag::new(wanted, Text::Part("")),
@@ -128,7 +129,7 @@ fn is_resolved(resolved: &Result<ResolvedTag, Fault>, wanted: &str) -> bool {
     }
 }
 
-/// Whether handles are declared as `DECLARED` says.
+/// Returns whether handles are declared as `DECLARED` says.
 fn are_declared(handles: &mut Handles<'static>) -> bool {
     for (handle, prefix, free) in &DECLARED {
         if !matches!(handles.declare(handle, prefix), Ok(was_free) if was_free == *free) {
@@ -138,12 +139,12 @@ fn are_declared(handles: &mut Handles<'static>) -> bool {
     true
 }
 
-/// Whether the tag stands for that text with these handles.
+/// Returns whether the tag stands for this text with these handles.
 fn resolves(alloc: Global, handles: &Handles, tag: &Tag, wanted: &str) -> bool {
     is_resolved(&handles.resolve(alloc, tag, PLACE), wanted)
 }
 
-/// The same after these declarations.
+/// Returns whether the tag stands for this text after these declarations.
 fn is_at_for(alloc: Global, tag: &Tag, wanted: &str) -> bool {
     let mut handles = Handles::new(alloc);
     are_declared(&mut handles) && resolves(alloc, &handles, tag, wanted)

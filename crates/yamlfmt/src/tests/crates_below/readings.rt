@@ -1,4 +1,5 @@
-//! Readings: where their nodes and comments are, what they say, and how the house style writes one event of them.
+//! Readings: the positions of their nodes and comments, their content, and how the house style writes one of their
+//! events.
 ghost use Rattle.std.specs.Prelude.{IfOk};
 ghost use Rattle.yf_events.specs.Reading.{ListsFit};
 
@@ -18,28 +19,29 @@ use yf_lines::source_text::Src;
 use yf_props::props::Props;
 use yf_rules::format::format;
 
-/// What is asked of a reading.
+/// A property of a reading, with its expected value.
 #[derive(Clone, Copy)]
 enum Asked {
-    /// Of each event that has a place: where it starts and ends, where its entry and the `:` of that are (0 for none), and
-    /// whether a blank line is before the entry.
+    /// For each event that has a place: its start and end, the offsets of its entry and of the `:` of that entry (0 for
+    /// none), and whether a blank line is before the entry.
     Places(&'static [(usize, usize, usize, usize, bool)]),
-    /// Of each comment: where it is, how many documents and leaves with characters begin before it, and whether it is
-    /// on the line on which the last of these leaves ends.
+    /// For each comment: its offset, the number of documents and of leaves with characters that begin before it, and
+    /// whether it is on the line on which the last of these leaves ends.
     Comments(&'static [(usize, usize, usize, bool)]),
-    /// Whether it has the same content as another text.
+    /// Whether the reading has the same content as another text.
     Same(&'static str, bool),
     /// The style in which the house style writes a scalar.
     Style(usize, ScalarStyle),
-    /// The text on one line of the flow collection that an event begins; nothing where it is not kept.
+    /// The text on one line of the flow collection that an event begins. It is empty if the collection is not kept on
+    /// one line.
     Kept(usize, &'static str),
     /// Whether the key that an event begins is written without `?`.
     Implicit(usize, bool),
-    /// How its text is formatted.
+    /// The formatting of its text.
     Formatted(&'static str),
 }
 
-/// The mark and returns of a text are dropped, and its style is mended.
+/// A text whose byte order mark and carriage returns are dropped, and whose style is corrected.
 const MARKED: &str = "\u{FEFF}a: 'x'  # c \r\nb: |\r\n  y \r\na: 1\r\n";
 
 /// A key with a comment, and its formatting.
@@ -84,13 +86,13 @@ static ROWS: [(&str, Asked); 20] = [
         "# c\n---\na: b # d\n# e\n",
         Asked::Comments(&[(0, 0, 0, false), (13, 1, 2, true), (17, 1, 2, false)]),
     ),
-    // whatever the styles and markers are
+    // the content does not depend on styles and markers
     (
         "---\n'a': >\n b\n...\n",
         Asked::Same("{\"a\": \"b\\n\"}", true),
     ),
     ("'a'", Asked::Same("'b'", false)),
-    // a plain text that is steady is another one when it is quoted
+    // a plain text that is steady differs from the quoted one
     ("12", Asked::Same("\"12\"", false)),
     ("a:: b", Asked::Same("\"a:\": b", true)),
     ("&a {}", Asked::Same("&b {}", false)),
@@ -112,7 +114,7 @@ static ROWS: [(&str, Asked); 20] = [
     ),
 ];
 
-/// Whether a reading has these places, and no more.
+/// Returns whether a reading has exactly these places.
 fn has_places(reading: &Reading, wanted: &[(usize, usize, usize, usize, bool)]) -> bool {
     let mut rest = wanted;
     for i in 0..reading.len() {
@@ -136,7 +138,7 @@ fn has_places(reading: &Reading, wanted: &[(usize, usize, usize, usize, bool)]) 
     rest.is_empty()
 }
 
-/// Whether a reading has comments at these places, and no more.
+/// Returns whether a reading has comments at exactly these places.
 fn has_comments(reading: &Reading, wanted: &[(usize, usize, usize, bool)]) -> bool {
     let count = reading.comments().len();
     if count != wanted.len() {
@@ -157,10 +159,10 @@ fn has_comments(reading: &Reading, wanted: &[(usize, usize, usize, bool)]) -> bo
     true
 }
 
-/// What was read, or made of what was read.
+/// The result of reading a text.
 type Read<'a> = Result<Reading<'a>, Fault>;
 
-/// Whether there is another reading that has the same content, or has not.
+/// Returns whether the other text has a reading, and whether its content is the same, as expected.
 fn is_same(alloc: Global, reading: &Reading, other: &Read, wanted: bool) -> bool {
     match other {
         Ok(other) => has_same_content(alloc, reading, other) == Some(wanted),
@@ -168,7 +170,7 @@ fn is_same(alloc: Global, reading: &Reading, other: &Read, wanted: bool) -> bool
     }
 }
 
-/// Whether that is the text on one line of a flow collection.
+/// Returns whether this is the text of a flow collection on one line.
 fn is_kept(kept: &Result<Option<String>, Fault>, wanted: &str) -> bool {
     match kept {
         Ok(Some(text)) => text.as_str() == wanted,
@@ -177,7 +179,7 @@ fn is_kept(kept: &Result<Option<String>, Fault>, wanted: &str) -> bool {
     }
 }
 
-/// Whether that is the formatting of a text.
+/// Returns whether this is the formatting of a text.
 fn is_formatting(formatted: &Result<String, Fault>, wanted: &str) -> bool {
     match formatted {
         Ok(text) => text.as_str() == wanted,
@@ -185,7 +187,7 @@ fn is_formatting(formatted: &Result<String, Fault>, wanted: &str) -> bool {
     }
 }
 
-/// Whether that is told of a reading.
+/// Returns whether a reading has the expected property.
 fn is_told_of(alloc: Global, src: &Src, reading: &Reading, asked: Asked) -> bool {
     let style = Style::house();
     match asked {
@@ -201,7 +203,7 @@ fn is_told_of(alloc: Global, src: &Src, reading: &Reading, asked: Asked) -> bool
     }
 }
 
-/// Whether there is a reading, and that is told of it.
+/// Returns whether there is a reading, and it has the expected property.
 fn is_told_in(alloc: Global, src: &Src, read: &Read, asked: Asked) -> bool {
     match read {
         Ok(reading) => is_told_of(alloc, src, reading, asked),
@@ -209,7 +211,7 @@ fn is_told_in(alloc: Global, src: &Src, read: &Read, asked: Asked) -> bool {
     }
 }
 
-/// Whether that is told of a text.
+/// Returns whether the reading of a text has the expected property.
 fn is_told(alloc: Global, text: &str, asked: Asked) -> bool {
     match &Src::new(alloc, text) {
         Ok(src) => is_told_in(alloc, src, &reading_of(alloc, src.text()), asked),
@@ -239,7 +241,7 @@ fn add<'a>(alloc: Global, lists: &mut Lists<'a>, event: NewEvent<'a>) -> Result<
     lists.push_event(placed, None)
 }
 
-/// Adds the events of a stream of one document whose sequence does not end.
+/// Adds the events of a stream with one document. The sequence in the document has no end.
 fn fill(alloc: Global, lists: &mut Lists<'_>) -> Result<(), AllocError>
     requires { ListsFit lists.old }
     ensures { IfOk result (λ _. ListsFit lists.new) }
@@ -255,12 +257,12 @@ fn fill(alloc: Global, lists: &mut Lists<'_>) -> Result<(), AllocError>
     add(alloc, lists, NewEvent::StreamEnd)
 }
 
-/// Whether nothing was built.
+/// Returns whether no reading was built.
 fn is_nothing(built: &Result<Option<Reading>, Fault>) -> bool {
     matches!(built, Ok(None))
 }
 
-/// Whether no reading is built of that stream.
+/// Returns whether no reading of that stream is built.
 fn refuses_open_sequences(alloc: Global) -> bool {
     let mut lists = Lists::new(alloc);
     match fill(alloc, &mut lists) {

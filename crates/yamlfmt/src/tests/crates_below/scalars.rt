@@ -1,4 +1,4 @@
-//! Plain and quoted scalars that begin at a place of a text, and how texts are written in quotes. What they mean follows from the
+//! Plain and quoted scalars that begin at an offset of a text, and texts written in quotes. The values follow from the
 //! productions.
 
 use std::alloc::{AllocError, Global};
@@ -14,34 +14,34 @@ use yf_quoted::double::{read_double, scan_double};
 use yf_quoted::single::read_single;
 use yf_quoted::write::{choose, write_double, write_single};
 
-/// What is read.
+/// The reader.
 #[derive(Clone, Copy)]
 enum Reader {
     Plain,
     Single,
     Double,
-    /// A double-quoted scalar past escapes that are no character.
+    /// A double-quoted scalar. The scan goes past escapes that are not characters.
     Scan,
 }
 
-/// How a scalar is read.
+/// The expected result.
 #[derive(Clone, Copy)]
 enum Wanted {
-    /// What it means and where it ends.
+    /// The value of the scalar, and the offset at which it ends.
     Value(&'static str, usize),
-    /// The same of a scalar that is a slice of its line.
+    /// The value and the end of a scalar that is a slice of its line.
     Slice(&'static str, usize),
-    /// The same of one that is a text of its own.
+    /// The value and the end of a scalar that has its own text.
     Own(&'static str, usize),
-    /// There is none.
+    /// There is no scalar.
     Nothing,
-    /// An escape of the first line that is no character, by its column.
+    /// The column of the first line at which an escape is not a character.
     BadEscape(usize),
-    /// The same with what is meant past it, and where the scalar ends.
+    /// That column, and the value and the end of the scalar with such escapes.
     Past(&'static str, usize, usize),
 }
 
-/// A text, a place, the indentation, the context, and what is read there.
+/// A reader, a text, an offset, the indentation, the context, and the expected result.
 type Row = (Reader, &'static str, usize, i32, Ctx, Wanted);
 
 /// Two scalars that are slices of their line, and one that is not.
@@ -115,7 +115,7 @@ static SCALARS: [Row; 27] = [
         Ctx::FlowOut,
         Wanted::Value("it's", 7),
     ),
-    // where no quote is left, the last pair closes
+    // if no closing quote follows, the last pair closes the scalar
     (
         Reader::Single,
         "'a''b",
@@ -189,7 +189,7 @@ static SCALARS: [Row; 27] = [
         Ctx::FlowOut,
         Wanted::Value("a b", 8),
     ),
-    // two halves of a pair
+    // two halves of a surrogate pair
     (
         Reader::Double,
         "\"\\ud83d\\ude00 \\x41\"",
@@ -232,7 +232,7 @@ static SCALARS: [Row; 27] = [
         Ctx::FlowOut,
         Wanted::Nothing,
     ),
-    // two halves in the other order
+    // two halves of a surrogate pair in the wrong order
     (
         Reader::Double,
         "\"\\ude00\\ud83d\"",
@@ -249,7 +249,7 @@ static SCALARS: [Row; 27] = [
         Ctx::FlowOut,
         Wanted::BadEscape(4),
     ),
-    // two halves by eight digits each
+    // two halves of a surrogate pair with eight digits each
     (
         Reader::Double,
         "- \"\\U0000d83d\\U0000de00\"",
@@ -268,7 +268,7 @@ static SCALARS: [Row; 27] = [
     ),
 ];
 
-/// Whether a scalar was read as it is wanted.
+/// Returns whether the scalar is as expected.
 fn is_wanted(read: &FoundText, wanted: Wanted) -> bool {
     match read {
         Ok(Some((text, end))) => match wanted {
@@ -289,10 +289,10 @@ fn is_wanted(read: &FoundText, wanted: Wanted) -> bool {
     }
 }
 
-/// What `scan_double` answers.
+/// The result of `scan_double`.
 type Scanned<'a> = Result<Option<(Text<'a>, Option<Position>, usize)>, Fault>;
 
-/// Whether a scalar is found whole, and its first bad escape is told.
+/// Returns whether a scalar is found whole, with its first bad escape.
 fn is_whole(found: &Scanned, wanted: Wanted) -> bool {
     match (found, wanted) {
         (Ok(Some((text, Some(place), end))), Wanted::Past(value, at, column)) => {
@@ -302,7 +302,7 @@ fn is_whole(found: &Scanned, wanted: Wanted) -> bool {
     }
 }
 
-/// Whether that is read at the place of a source.
+/// Returns whether the result at the offset of a source is as expected.
 fn is_read(alloc: Global, src: &Src, row: &Row) -> bool {
     let (reader, _, at, n, ctx, wanted) = *row;
     if !src.text().is_char_boundary(at) {
@@ -316,7 +316,7 @@ fn is_read(alloc: Global, src: &Src, row: &Row) -> bool {
     }
 }
 
-/// The same of a text.
+/// Returns whether the result for the row's text is as expected.
 fn reads(alloc: Global, row: &Row) -> bool {
     match &Src::new(alloc, row.1) {
         Ok(src) => is_read(alloc, src, row),
@@ -324,7 +324,7 @@ fn reads(alloc: Global, row: &Row) -> bool {
     }
 }
 
-/// Whether characters and texts are written as in quotes.
+/// Returns whether characters and texts are written in quotes as expected.
 fn writes(alloc: Global) -> bool {
     let mut escaped = String::new(alloc);
     let mut double = String::new(alloc);

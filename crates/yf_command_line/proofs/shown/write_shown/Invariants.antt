@@ -1,4 +1,4 @@
--- What is shown for the bytes that are left is what is still to be written.
+-- The bytes still to be written are those that show the remaining bytes of the text.
 use Rattle.std.proofs.Common.{drop}
 use Rattle.yf_lines.proofs.OutputLemmas.{Progress}
 use Rattle.yf_command_line.specs.Shown.{shown, shown_after}

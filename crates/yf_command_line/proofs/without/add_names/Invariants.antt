@@ -1,4 +1,4 @@
--- The names so far and the parts that are left are the names before and all parts.
+-- The names so far, followed by the remaining parts, are the names before, followed by all parts.
 use Rattle.std.proofs.Common.{◌≡◌, ◌++◌, drop, map}
 use Rattle.yf_command_line.specs.Without.{between_commas}
 use Rattle.yf_command_line.proofs.without.add_names.Given as goal

@@ -1,4 +1,4 @@
--- The names so far and those of the words that are left are those of all words.
+-- The names so far, followed by the names in the remaining words, are the names in all words.
 use Rattle.std.proofs.Common.{◌≡◌, ◌++◌, drop, map}
 use Rattle.yf_command_line.specs.Without.{names_in}
 use Rattle.yf_command_line.proofs.without.names_in.Given as goal

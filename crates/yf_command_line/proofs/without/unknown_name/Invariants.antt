@@ -1,4 +1,4 @@
--- Rules have the names so far.
+-- Each of the names so far is the name of a rule.
 use Rattle.std.proofs.Common.{◌≡◌, true, take, map}
 use Rattle.yf_command_line.specs.Without.{are_rules}
 use Rattle.yf_command_line.proofs.without.unknown_name.Given as goal

@@ -6,7 +6,7 @@ use Rattle.clap.specs.Words.{found_of}
 use Rattle.clap.proofs.WalkLemmas.{raw_values-rows}
 use Rattle.yf_command_line.proofs.words.words_given.Goals as goal
 
--- The values that are found, or none.
+-- The values that the library found, or no values.
 values_or_none : (found : Option (Bor (List (Bor (List ℕ))))) (values : Option (List (List ℕ)))
     (words : Bor (List (Bor (List ℕ)))) → option_map (λ s. map (λ v. v.now) s.now) found ≡ values
     → UnwrapsOrElse found (λ x. x.now ≡ []) words → map (λ w. w.now) words.now ≡ unwrap_or values []

@@ -1,4 +1,5 @@
--- The task was done with the first input and with those up to the index, and what was known of the inputs is still known.
+-- The task was done with the first input and with all inputs up to the index. What was known of the inputs is still
+-- known.
 use Rattle.std.proofs.Common.{◌∷◌, take}
 use Rattle.yf_program.specs.Answer.{DoesEach, DoesInput, host_in}
 use Rattle.yf_program.specs.World.{StillKnown, world_in}

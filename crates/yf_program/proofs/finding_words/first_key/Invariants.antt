@@ -1,4 +1,4 @@
--- The events that are left come before the key, and what was found is one of the reading's.
+-- The remaining events come before the key. If a key was found, it is an event of the reading.
 use Rattle.std.proofs.Common.{◌<◌, ◌≤◌, length}
 use Rattle.std.specs.Prelude.{IfSome}
 use Rattle.yf_program.proofs.finding_words.first_key.Given as goal

@@ -1,4 +1,4 @@
--- What is found among all files is found among those that are left.
+-- A search of the remaining files finds the same file as a search of all files.
 use Rattle.std.proofs.Common.{◌≡◌, drop}
 use Rattle.yf_program.specs.MemoryInputs.{held}
 use Rattle.yf_program.proofs.memory_inputs.found.Given as goal

@@ -1,4 +1,4 @@
--- What there is, and the bytes that are left with what comes before their lines, are all.
+-- The text so far and the remaining bytes, with the prefix before their lines, make up the whole result.
 use Rattle.std.proofs.Common.{◌≡◌, ◌++◌, drop}
 use Rattle.yf_program.specs.Named.{prefixed}
 use Rattle.yf_program.proofs.named.prefixed.Given as goal

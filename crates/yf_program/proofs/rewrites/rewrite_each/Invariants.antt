@@ -1,4 +1,4 @@
--- The first file was rewritten and those up to the index, and the inputs are as they were.
+-- The first file and all files up to the index were rewritten, and the inputs are as they were.
 use Rattle.std.proofs.Common.{◌≡◌, ◌∷◌, take}
 use Rattle.std.specs.Prelude.{map}
 use Rattle.yf_command_line.specs.declared.command.Input.TheVariants.{File}
