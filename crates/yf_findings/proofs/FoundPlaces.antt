@@ -1,5 +1,5 @@
 -- Each finding of a check is at a position in the text.
-use Rattle.std.proofs.Common.{◌≡◌, ℕ, Bool, List, [], ◌∷◌, ◌++◌, map, sym, subst, ⊎_elim}
+use Rattle.std.proofs.Common.{◌≡◌, ℕ, Bool, List, [], ◌∷◌, map, sym, subst, ⊎_elim}
 use Rattle.std.specs.Borrow.{Bor}
 use Rattle.std.specs.List.{Contains}
 use Rattle.std.proofs.lemmas.List.Elements.{Contains-append_cases}
@@ -10,13 +10,11 @@ use Rattle.yf_lines.specs.FaultPlaces.{InText}
 use Rattle.yf_lines.specs.Lines.{Table}
 use Rattle.yf_lines.specs.declared.place.Position.{Position}
 use Rattle.yf_rule_sets.proofs.RuleSets.KeySetLemmas.{head_or_later, is_head, is_later, nothing_in}
-use Rattle.yf_rule_sets.specs.Definition.{RuleDefinition}
 use Rattle.yf_rule_sets.specs.RuleOf.{definition_of}
-use Rattle.yf_rule_sets.specs.RuleSets.Places.{PlacesOf}
 use Rattle.yf_rule_sets.specs.RuleSets.Places.FoundAt.{found_at}
 use Rattle.yf_rule_sets.specs.declared.rules.StyleRule.{StyleRule}
 use Rattle.yf_rules.specs.AllRules.{FoundWithout, rules_without}
-use Rattle.yf_rules.specs.Check.{InOrder, RuleFindings, SortedFrom, finding_at}
+use Rattle.yf_rules.specs.Check.{InOrder, RuleFindings, finding_at}
 use Rattle.yf_rules.specs.Check.CheckAnswer.{checked}
 use Rattle.yf_rules.specs.Check.FindingsOf.{at_places}
 use Rattle.yf_rules.specs.Check.InOrder.{no_rules, one_more}

@@ -1,5 +1,5 @@
 -- The problem that a report lists for a finding.
-use Rattle.std.specs.Prelude.{◌≡◌, ℕ, ◌+◌, ◌-◌, ◌≤◌, List, [], ◌∷◌, ◌++◌, length, slice_get, slice_range, Some}
+use Rattle.std.specs.Prelude.{◌≡◌, ℕ, ◌+◌, ◌≤◌, List, [], ◌∷◌, ◌++◌, length, slice_get, slice_range, Some}
 use Rattle.std.specs.Str.{IsCharBoundary}
 use Rattle.yf_findings.specs.Ranges.{IsLocated}
 use Rattle.yf_findings.specs.declared.owned.OwnedProblem.{OwnedProblem}

@@ -1,5 +1,5 @@
 -- Where the fault of a finding begins and ends, and what is wrong there.
-use Rattle.std.specs.Prelude.{◌≡◌, ◌&&◌, ℕ, ◌+◌, ◌<◌, ◌≤◌, ◌==◌, Bool, true, false, if◌then◌else◌, List, length, slice_get, Some}
+use Rattle.std.specs.Prelude.{◌≡◌, ◌&&◌, ℕ, ◌+◌, ◌==◌, Bool, true, false, if◌then◌else◌, List, length, slice_get, Some}
 use Rattle.std.specs.Str.{IsCharBoundary}
 use Rattle.yf_forms.specs.declared.style.Style.{Style}
 use Rattle.yf_lines.specs.Lines.{PlaceOf, Table}

@@ -1,4 +1,4 @@
-use Rattle.std.proofs.Common.{◌≡◌, ◌<◌, ◌≤◌, Some, subst, arith}
+use Rattle.std.proofs.Common.{◌≡◌, ◌<◌, Some, subst, arith}
 use Rattle.std.specs.Prelude.{IfSome, slice_get}
 use Rattle.yf_chars.specs.Chain.{Many}
 use Rattle.yf_chars.proofs.ChainLemmas.{chain_forward, one_functional}

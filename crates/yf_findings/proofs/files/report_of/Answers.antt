@@ -1,4 +1,4 @@
-use Rattle.std.proofs.Common.{◌≡◌, List, ℕ, map, refl, subst, sym}
+use Rattle.std.proofs.Common.{refl}
 use Rattle.std.proofs.lemmas.Result.{IfOk-weaker}
 use Rattle.yf_findings.proofs.FileLemmas.{one_report}
 use Rattle.yf_findings.proofs.files.report_of.Goals as goal

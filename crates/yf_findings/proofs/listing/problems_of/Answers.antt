@@ -1,4 +1,3 @@
-use Rattle.std.proofs.Common.{◌≡◌, ◌<◌, ◌≤◌, ◌∙◌, length, get_or, refl, subst, sym, arith}
 use Rattle.std.proofs.lemmas.List.Elements.{Contains-get_or}
 use Rattle.yf_findings.specs.Problems.{FindingProblem}
 use Rattle.yf_findings.proofs.ListLemmas.{all_problems, more_problems, no_problems}

@@ -1,9 +1,8 @@
-use Rattle.std.proofs.Common.{◌≡◌, ◌<◌, ◌≤◌, length, Some, sym, subst, ap, arith}
+use Rattle.std.proofs.Common.{◌≡◌, length, Some, sym, subst}
 use Rattle.std.specs.Prelude.{slice_get}
 use Rattle.std.specs.Str.{IsCharBoundary}
 use Rattle.yf_chars.specs.Chain.{Many}
 use Rattle.yf_lines.specs.Lines.{AreLines, is_char}
-use Rattle.yf_rule_sets.specs.RuleSets.Places.{HasColumn}
 use Rattle.yf_rule_sets.proofs.Findings.CursorLemmas.{cursor_of, reached_in, reached_more}
 use Rattle.yf_findings.proofs.StartLemmas.{counts_from_one, reaches}
 use Rattle.yf_findings.proofs.starts.cursor_at.Goals as goal

@@ -1,4 +1,4 @@
-use Rattle.std.proofs.Common.{◌≡◌, ◌-◌, ◌≤◌, length, ap, subst, arith}
+use Rattle.std.proofs.Common.{◌-◌, ◌≤◌, length, ap, subst, arith}
 use Rattle.yf_lines.specs.Lines.{AreLines}
 use Rattle.yf_findings.specs.Ranges.StartOf.{after_lines}
 use Rattle.yf_findings.proofs.StartLemmas.{after_last}

@@ -1,4 +1,4 @@
-use Rattle.std.proofs.Common.{◌≡◌, IfErr, List, ℕ, rules, subst, sym}
+use Rattle.std.proofs.Common.{◌≡◌, IfErr, List, rules, subst, sym}
 use Rattle.std.proofs.lemmas.Result.{IfErr-weaker}
 use Rattle.std.specs.List.{Contains}
 use Rattle.yf_findings.specs.Problems.{EachProblem, FindingProblem}
