@@ -23,7 +23,7 @@ pub struct OwnedProblem {
     /// A rule's id or a refusal's kind.
     pub rule: &'static str,
     pub severity: Severity,
-    /// What was found and what is expected.
+    /// What was found, and for some rules what is expected.
     pub message: OwnedText,
     /// Whether `fmt` mends it.
     pub fixable: bool,

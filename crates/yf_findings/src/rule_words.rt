@@ -12,12 +12,12 @@ pub const RULES: [Rule<'static>; 14] = [
     Rule {
         id: "indentation",
         summary: "The entries of a collection, or the lines of a block scalar, are not indented as in the house style.",
-        help: "Indent them by two columns for each level, or let `yamlfmt fmt` do it.",
+        help: "Indent them by the columns that the setting `indent` gives, or let `yamlfmt fmt` do it.",
     },
     Rule {
         id: "quoting",
         summary: "A scalar is not quoted as in the house style.",
-        help: "Write the scalar in the style that the message expects, or let `yamlfmt fmt` do it.",
+        help: "Write the scalar in the style that the setting `quotes` gives, or let `yamlfmt fmt` do it.",
     },
     Rule {
         id: "document-start",

@@ -113,8 +113,8 @@ fn hunks_of(
     Ok(hunks)
 }
 
-/// Returns the hunks by which a text and its formatting differ, in order. Together they cover each line that an edit
-/// script between the two doesn't keep, and a line that it keeps is between two hunks.
+/// Returns the hunks by which a text and its formatting differ, in order. They are the runs of changes of an edit script
+/// between the two; the contract says only that the lines between them are equal.
 ///
 /// # Errors
 ///

@@ -164,7 +164,8 @@ fn part_of(
 ///
 /// With each hunk that touches a line that is asked for its neighbours are applied, 0, 1, 3, 7 and so on to both sides,
 /// until the formatting of the result is that of the text. Each smaller number of neighbours fails. It is not proved
-/// that no other choice of fewer hunks would do. For k hunks the text is formatted at most log2(k) + 2 times.
+/// that no other choice of fewer hunks would do, nor that a hunk is small: one hunk over the whole text would meet
+/// `PartKept` too. For k hunks the text is formatted at most log2(k) + 2 times.
 ///
 /// # Errors
 ///

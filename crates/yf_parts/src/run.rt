@@ -42,8 +42,10 @@ pub fn with_lines_formatted(
     }
 }
 
-/// Reads all bytes, formats the lines that are asked for, and shows the result. Returns false if the text differs from
-/// it and that is what is shown. The bytes are kept for the caller.
+/// Reads all bytes, formats the lines that are asked for, and shows the result. Returns true if it shows the result
+/// itself. For a place or a diff, returns whether the text equals the result. The bytes are kept for the caller.
+///
+/// Lines end after a line feed, as in Git, so a lone carriage return ends no line.
 ///
 /// # Errors
 ///

@@ -1,6 +1,7 @@
 -- What yamlfmt promises. `Promises` is the statement for readers: it says what a tool does that accepts, prints, formats
--- and checks texts, over the productions of YAML 1.2.2 only. It doesn't say how the tool lays out a text, nor what each
--- rule finds. `yamlfmt` is the tool of this repository.
+-- and checks texts, over the productions of YAML 1.2.2 with our reading rules. It doesn't say how the tool lays out a
+-- text, nor what each rule finds. `yamlfmt` is the tool of this repository. (A command refuses a text of more than 1 GiB,
+-- and one whose formatting would be longer; and memory may be refused.)
 use Rattle.std.specs.Prelude.{◌≡◌, ℕ, Bool, true, List, []}
 use Rattle.std.specs.Str.{IsUtf8}
 use Rattle.yf_lines.specs.Lines.{AreLines, Table}
@@ -19,18 +20,19 @@ use Rattle.yf_promises.specs.Said.{ContentSaid, IsAccepted, SameComments, SameCo
 
 -- A tool for texts.
 pub record Tool : Type 1 where
-  -- it prints these events of a text
+  -- these are the events of a text that it prints. (How it writes an event, with its resolved tag, is not part of this.)
   pub Prints : List ℕ → List EventValue → Type 0
   -- in a style it gives a second text for a text
   pub Formats : List ℕ → Style → List ℕ → Type 0
-  -- a rule finds faults in a text, in a style, at these offsets
+  -- in a text, in a style, a rule finds faults at these offsets and at no others
   pub Finds : StyleRule → List ℕ → Style → List ℕ → Type 0
   -- formatting mends what the rule finds
   pub fixes : StyleRule → Bool
 
 -- What the tool promises for every UTF-8 text and every style.
 pub record Promises (tool : Tool) : Type 0 where
-  -- It prints the events of each accepted text, and of no other: those that each derivation says, and no others.
+  -- It prints the events of each accepted text, and of no other: those that each derivation says, in order. The mark of
+  -- a document's end is free.
   pub prints : (t : List ℕ) → IsUtf8 t → IsAccepted t → (es : List EventValue) × tool.Prints t es
   pub prints_accepted : (t : List ℕ) (es : List EventValue) → IsUtf8 t → tool.Prints t es → IsAccepted t
   pub prints_events : (t : List ℕ) (es : List EventValue) → IsUtf8 t → tool.Prints t es
@@ -47,7 +49,7 @@ pub record Promises (tool : Tool) : Type 0 where
   pub comments : (t : List ℕ) (s : Style) (u : List ℕ) → IsUtf8 t → tool.Formats t s u → SameComments t u
   -- Formatting it again changes nothing.
   pub again : (t : List ℕ) (s : Style) (u : List ℕ) → IsUtf8 t → tool.Formats t s u → tool.Formats u s u
-  -- No rule finds anything in it that formatting mends.
+  -- No rule finds anything in it that formatting mends. (That a check prints what the rules find is its own contract.)
   pub clean : (t : List ℕ) (s : Style) (u : List ℕ) → IsUtf8 t → tool.Formats t s u
       → (rule : StyleRule) → tool.fixes rule ≡ true → (offsets : List ℕ) → tool.Finds rule u s offsets → offsets ≡ []
 

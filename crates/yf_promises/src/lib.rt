@@ -1,6 +1,7 @@
-//! What yamlfmt promises, over the productions of YAML 1.2.2, in definitions that name no layout and no rule's set.
+//! What yamlfmt promises, over the productions of YAML 1.2.2 with our reading rules.
 //!
-//! It is a statement for readers. No other crate uses it, and it must not know the program.
+//! `Promises` is a statement for readers: it names no layout and no rule's set. No other crate uses it, and it must not
+//! know the program.
 #![tactic(auto)]
 
 pub mod promises;

@@ -5,9 +5,9 @@ use yf_rules::headline::headline;
 
 /// What holds of every text and every style. The function does nothing; its contract is what it is for.
 ///
-/// `yamlfmt` is what the commands do: `events` prints by it, `fmt` formats by it, and `check` finds by it. `promises`
-/// says what that means for a user. The other clauses say that a text has one meaning, so that the promises say
-/// something: all derivations of a text say one list of documents, and documents say one content.
+/// `yamlfmt` has the relations that the contracts of the commands `events`, `fmt` and `check` name, and `promises` says
+/// what they mean for a user. A text is accepted if some derivation keeps the further rules, and the promises speak of
+/// all derivations of it; the clause `meaning` says that these agree. By the clause `content`, documents say one content.
 pub fn promises()
     ensures promises { Promises yamlfmt }
     ensures meaning { StreamsSayOne }

@@ -51,10 +51,8 @@ fn has_ranges(found: &[LineRange], wanted: &[[usize; 2]]) -> bool {
     nine.first == 9
         && nine.last == 9
         && ranges.len() == wanted.len()
-        && ranges
-            .iter()
-            .zip(wanted)
-            .all(|(range, ends)| range.first == ends[0] && range.last == ends[1])
+        && ranges.iter().zip(wanted).all(|(range, ends)| range.first == ends[0]
+            && range.last == ends[1])
 }
 
 /// Returns whether a text adds exactly its ranges to a list, or is refused if it has none.
