@@ -4,6 +4,8 @@ pub mod Rewriting
 pub mod Answer
 -- the lines that are written
 pub mod Report
+pub mod Problems
+pub mod Server
 pub mod Named
 pub mod Quoted
 -- inputs in memory

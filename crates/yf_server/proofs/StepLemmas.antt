@@ -7,7 +7,7 @@ use Rattle.serde_json.specs.View.{view}
 use Rattle.yf_json_rpc.specs.Messages.{Kind, request, notification, response, invalid, kind_of}
 use Rattle.yf_positions.specs.declared.encoding.Encoding.{Encoding}
 use Rattle.yf_server.proofs.LifecycleLemmas.{each_is_answered}
-use Rattle.yf_server.proofs.RespondLemmas.{request_once}
+use Rattle.yf_server.proofs.RespondLemmas.{by_test, request_once}
 use Rattle.yf_server.specs.declared.documents.OpenDocument.{OpenDocument}
 use Rattle.yf_server.specs.declared.documents.Outcome.{Outcome}
 use Rattle.yf_server.specs.declared.lifecycle.Phase.{Phase}
@@ -15,11 +15,12 @@ use Rattle.yf_server.specs.declared.lifecycle.Task.{Task}
 use Rattle.yf_server.specs.declared.lifecycle.Task.TheVariants.{Initialize, Shutdown, Request, Fail, Notification, Ignore, Exit}
 use Rattle.yf_server.specs.declared.step.Reaction.{Reaction}
 use Rattle.yf_server.specs.declared.step.Server.{Server}
+use Rattle.yf_server.specs.Analysis.{TextClaim}
 use Rattle.yf_server.specs.Documents.{Event, OpenText, find, outcome_of}
 use Rattle.yf_server.specs.Edits.{AnswersRequest}
 use Rattle.yf_server.specs.Laws.{is_answer, wants_answer}
 use Rattle.yf_server.specs.Lifecycle.{step_of}
-use Rattle.yf_server.specs.Steps.{IsAnswer, IsNote, IsNoteOf, Knows, Steps, StepsTo, no_step, one_step, after_any, after_message, after_messages, encoding_after, event_of, id_of, is_notification, is_request, knows, method_of, response_id, response_ids, wanted_id, wanted_ids}
+use Rattle.yf_server.specs.Steps.{IsAnswer, IsLogged, IsNote, IsNoteOf, Knows, Steps, StepsTo, no_step, one_step, after_any, after_message, after_messages, encoding_after, event_of, id_of, is_notification, is_of_document, is_request, knows, method_of, response_id, response_ids, wanted_id, wanted_ids}
 
 sent_ids : (task : Task) (id : Data) (e : Encoding) (sent : Option Data) → IsAnswer id e task sent
     → response_ids (option_to_list sent) ≡ (if is_answer task then id ∷ [] else [])
@@ -50,10 +51,17 @@ notes Outcome.NotOpen sent h = rw h.is refl
 notes Outcome.OldVersion sent h = rw h.is refl
 notes Outcome.ReversedRange sent h = rw h.is refl
 
-note_none : (e : Encoding) (documents : List OpenDocument) (event : Option Event) (sent : Option Data)
-    → IsNoteOf e documents event sent → response_ids (option_to_list sent) ≡ []
-note_none e documents None sent h = rw h refl
-note_none e documents (Some event) sent h = notes (outcome_of e (find event.uri documents) event.act) sent h
+logged_none : (sent : Option Data) → IsLogged sent → response_ids (option_to_list sent) ≡ []
+logged_none sent h = rw h.is refl
+
+silent_none : (sent : Option Data) → sent ≡ None → response_ids (option_to_list sent) ≡ []
+silent_none sent h = rw h refl
+
+note_none : (e : Encoding) (documents : List OpenDocument) (method : List ℕ) (event : Option Event)
+    (sent : Option Data) → IsNoteOf e documents method event sent → response_ids (option_to_list sent) ≡ []
+note_none e documents method None sent h =
+    by_test (is_of_document method) (IsLogged sent) (sent ≡ None) (logged_none sent) (silent_none sent) h
+note_none e documents method (Some event) sent h = notes (outcome_of e (find event.uri documents) event.act) sent h
 
 no_answer : (task : Task) → is_notification task ≡ true → is_answer task ≡ false
 no_answer Initialize h = sym h
@@ -77,25 +85,25 @@ knows_is : (uri : List ℕ) (before after : Server) (d : Data) (document : Optio
     → knows uri after ≡ after_message uri (knows uri before) d
 knows_is uri before after d document p e f g = rw (p, e, f, g) refl
 
-pub steps_notified : (format : List ℕ → Option (List ℕ)) (before after : Server) (d : Data) (reaction : Reaction)
+pub steps_notified : (claim : TextClaim) (before after : Server) (d : Data) (reaction : Reaction)
     → reaction.task ≡ (step_of before.phase (kind_of d)).task
     → after.phase ≡ (step_of before.phase (kind_of d)).phase
     → after.encoding ≡ encoding_after before.encoding (step_of before.phase (kind_of d)).task d
     → is_notification (step_of before.phase (kind_of d)).task ≡ true
     → ((uri : List ℕ) → find uri after.documents.items ≡ after_any before.encoding uri
     (find uri before.documents.items) (event_of (method_of (kind_of d)) d))
-    → IsNoteOf before.encoding before.documents.items (event_of (method_of (kind_of d)) d)
-    (option_map view reaction.message) → StepsTo format before after d reaction
-steps_notified format before after d reaction t p e is docs note =
+    → IsNoteOf before.encoding before.documents.items (method_of (kind_of d)) (event_of (method_of (kind_of d)) d)
+    (option_map view reaction.message) → StepsTo claim before after d reaction
+steps_notified claim before after d reaction t p e is docs note =
     record {
       task = t;
       knows = λ uri. knows_is uri before after d _ p e (docs uri) (rw is refl);
       sends = rw is note;
-      answers = note_none before.encoding before.documents.items (event_of (method_of (kind_of d)) d)
+      answers = note_none before.encoding before.documents.items (method_of (kind_of d)) (event_of (method_of (kind_of d)) d)
           (option_map view reaction.message) note ∙ sym (none_wanted before.phase (kind_of d) is);
     }
 
-pub steps_answered : (format : List ℕ → Option (List ℕ)) (before after : Server) (d : Data) (reaction : Reaction)
+pub steps_answered : (claim : TextClaim) (before after : Server) (d : Data) (reaction : Reaction)
     → reaction.task ≡ (step_of before.phase (kind_of d)).task
     → after.phase ≡ (step_of before.phase (kind_of d)).phase
     → after.encoding ≡ encoding_after before.encoding (step_of before.phase (kind_of d)).task d
@@ -103,8 +111,8 @@ pub steps_answered : (format : List ℕ → Option (List ℕ)) (before after : S
     → is_request (step_of before.phase (kind_of d)).task ≡ false
     → after.documents.items ≡ before.documents.items
     → IsAnswer (id_of (kind_of d)) (encoding_after before.encoding (step_of before.phase (kind_of d)).task d)
-    (step_of before.phase (kind_of d)).task (option_map view reaction.message) → StepsTo format before after d reaction
-steps_answered format before after d reaction t p e is own docs answer =
+    (step_of before.phase (kind_of d)).task (option_map view reaction.message) → StepsTo claim before after d reaction
+steps_answered claim before after d reaction t p e is own docs answer =
     record {
       task = t;
       knows = λ uri. knows_is uri before after d _ p e (ap (find uri) docs) (rw is refl);
@@ -139,21 +147,21 @@ id_wanted phase kind h =
     ∙ ap (λ b. if b then id_of kind ∷ [] else [])
     (sym (each_is_answered phase kind) ∙ is_answered (step_of phase kind).task h)
 
-pub steps_requested : (format : List ℕ → Option (List ℕ)) (before after : Server) (d : Data) (reaction : Reaction)
+pub steps_requested : (claim : TextClaim) (before after : Server) (d : Data) (reaction : Reaction)
     → reaction.task ≡ (step_of before.phase (kind_of d)).task
     → after.phase ≡ (step_of before.phase (kind_of d)).phase
     → after.encoding ≡ encoding_after before.encoding (step_of before.phase (kind_of d)).task d
     → is_request (step_of before.phase (kind_of d)).task ≡ true
     → after.documents.items ≡ before.documents.items
-    → AnswersRequest format before.encoding before.documents.items (id_of (kind_of d)) (method_of (kind_of d)) d
-    (option_map view reaction.message) → StepsTo format before after d reaction
-steps_requested format before after d reaction t p e is docs answer =
+    → AnswersRequest claim before.encoding before.documents.items (id_of (kind_of d)) (method_of (kind_of d)) d
+    (option_map view reaction.message) → StepsTo claim before after d reaction
+steps_requested claim before after d reaction t p e is docs answer =
     let other = not_notification (step_of before.phase (kind_of d)).task is in
     record {
       task = t;
       knows = λ uri. knows_is uri before after d _ p e (ap (find uri) docs) (rw other refl);
       sends = rw (other, is) answer;
-      answers = request_once format before.encoding before.documents.items (id_of (kind_of d)) (method_of (kind_of d)) d
+      answers = request_once claim before.encoding before.documents.items (id_of (kind_of d)) (method_of (kind_of d)) d
           (option_map view reaction.message) answer ∙ sym (id_wanted before.phase (kind_of d) is);
     }
 
@@ -210,40 +218,40 @@ all_answered sent all vs i l h =
     ∙ sym (ap (λ z. response_ids (map view sent) ++ wanted_ids (map view z)) (drop_all i vs l)) ∙ h
 
 -- one more step, and one more message
-steps_push : {format : List ℕ → Option (List ℕ)} {before middle : Server} {xs sent : List Data} (after : Server)
-    (d : Data) (reaction : Reaction) → Steps format before xs sent middle → StepsTo format middle after d reaction
-    → Steps format before (xs ++ d ∷ []) (sent ++ option_to_list (option_map view reaction.message)) after
-steps_push {format} after d reaction (no_step {server}) step =
-    subst (λ z. Steps format server (d ∷ []) z after) (append-nil (option_to_list (option_map view reaction.message)))
+steps_push : {claim : TextClaim} {before middle : Server} {xs sent : List Data} (after : Server)
+    (d : Data) (reaction : Reaction) → Steps claim before xs sent middle → StepsTo claim middle after d reaction
+    → Steps claim before (xs ++ d ∷ []) (sent ++ option_to_list (option_map view reaction.message)) after
+steps_push {claim} after d reaction (no_step {server}) step =
+    subst (λ z. Steps claim server (d ∷ []) z after) (append-nil (option_to_list (option_map view reaction.message)))
     (one_step reaction step no_step)
-steps_push {format} after d reaction (one_step {before} {d = first} {rest} {sent} own own_step later) step =
-    subst (λ z. Steps format before (first ∷ rest ++ d ∷ []) z after)
+steps_push {claim} after d reaction (one_step {before} {d = first} {rest} {sent} own own_step later) step =
+    subst (λ z. Steps claim before (first ∷ rest ++ d ∷ []) z after)
     (sym (append_assoc (option_to_list (option_map view own.message)) sent
     (option_to_list (option_map view reaction.message))))
     (one_step own own_step (steps_push after d reaction later step))
 
-pub steps_none : (format : List ℕ → Option (List ℕ)) (server : Server) (sent : List Value) → sent ≡ []
-    → Steps format server [] (map view sent) server
-steps_none format server sent none = subst (λ z. Steps format server [] (map view z) server) (sym none) no_step
+pub steps_none : (claim : TextClaim) (server : Server) (sent : List Value) → sent ≡ []
+    → Steps claim server [] (map view sent) server
+steps_none claim server sent none = subst (λ z. Steps claim server [] (map view z) server) (sym none) no_step
 
-pub steps_more : (format : List ℕ → Option (List ℕ)) (before middle after : Server) (vs sent now : List Value) (i : ℕ)
+pub steps_more : (claim : TextClaim) (before middle after : Server) (vs sent now : List Value) (i : ℕ)
     (x : Value) (reaction : Reaction) → i < length vs → x ≡ get_or vs i x
-    → Steps format before (map view (take i vs)) (map view sent) middle
-    → StepsTo format middle after (view x) reaction → now ≡ sent ++ option_to_list reaction.message
-    → Steps format before (map view (take (i + 1) vs)) (map view now) after
-steps_more format before middle after vs sent now i x reaction l is steps step made =
+    → Steps claim before (map view (take i vs)) (map view sent) middle
+    → StepsTo claim middle after (view x) reaction → now ≡ sent ++ option_to_list reaction.message
+    → Steps claim before (map view (take (i + 1) vs)) (map view now) after
+steps_more claim before middle after vs sent now i x reaction l is steps step made =
     let front : map view (take i vs) ++ view x ∷ [] ≡ map view (take (i + 1) vs) =
     sym (map-append view (take i vs) (x ∷ []))
     ∙ ap (λ z. map view (take i vs ++ z ∷ [])) is ∙ ap (map view) (sym (take_more vs i x l)) in
     let all : map view sent ++ option_to_list (option_map view reaction.message) ≡ map view now =
     ap (λ z. map view sent ++ z) (sym (as_list reaction.message))
     ∙ sym (map-append view sent (option_to_list reaction.message)) ∙ ap (map view) (sym made) in
-    subst (λ z. Steps format before (map view (take (i + 1) vs)) z after) all
-    (subst (λ z. Steps format before z (map view sent ++ option_to_list (option_map view reaction.message)) after) front
+    subst (λ z. Steps claim before (map view (take (i + 1) vs)) z after) all
+    (subst (λ z. Steps claim before z (map view sent ++ option_to_list (option_map view reaction.message)) after) front
     (steps_push after (view x) reaction steps step))
 
-pub steps_all : (format : List ℕ → Option (List ℕ)) (before after : Server) (vs : List Value) (sent : List Data) (i : ℕ)
-    → length vs ≤ i → Steps format before (map view (take i vs)) sent after
-    → Steps format before (map view vs) sent after
-steps_all format before after vs sent i l h =
-    subst (λ z. Steps format before (map view z) sent after) (take_all i vs l) h
+pub steps_all : (claim : TextClaim) (before after : Server) (vs : List Value) (sent : List Data) (i : ℕ)
+    → length vs ≤ i → Steps claim before (map view (take i vs)) sent after
+    → Steps claim before (map view vs) sent after
+steps_all claim before after vs sent i l h =
+    subst (λ z. Steps claim before (map view z) sent after) (take_all i vs l) h

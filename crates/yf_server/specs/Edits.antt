@@ -11,6 +11,7 @@ use Rattle.yf_positions.specs.declared.position.LspPosition.{LspPosition}
 use Rattle.yf_positions.specs.declared.position.LspRange.{LspRange}
 use Rattle.yf_positions.specs.Edits.{EditsOfScript, RangeEdit, edited, in_order}
 use Rattle.yf_server.specs.declared.documents.OpenDocument.{OpenDocument}
+use Rattle.yf_server.specs.Analysis.{TextClaim}
 use Rattle.yf_server.specs.Documents.{OpenText, find}
 use Rattle.yf_server.specs.Parameters.{string_in}
 
@@ -47,10 +48,16 @@ pub record AreEditsTo (e : Encoding) (old new : List ℕ) (value : Data) : Type 
   pub text : edited e old 0 edits ≡ new
   pub script : EditsOfScript e old new edits
 
--- the result of `textDocument/formatting` for an old text and what the formatting of it gives, if anything
-abbrev pub IsFormatting : Encoding → List ℕ → Option (List ℕ) → Data → Type 0
-IsFormatting e old None value = value ≡ null
-IsFormatting e old (Some new) value = AreEditsTo e old new value
+-- the edits that lead from an old text to what its formatting gave; null if it gave nothing
+abbrev pub AreEditsFor : Encoding → List ℕ → Option (List ℕ) → Data → Type 0
+AreEditsFor e old None value = value ≡ null
+AreEditsFor e old (Some new) value = AreEditsTo e old new value
+
+-- the result of `textDocument/formatting` for a text
+pub record IsFormatting (claim : TextClaim) (e : Encoding) (old : List ℕ) (value : Data) : Type 0 where
+  pub new : Option (List ℕ)
+  pub formats : claim.Formats old new
+  pub edits : AreEditsFor e old new value
 
 -- one message is the response with this result
 pub record Replies (P : Data → Type 0) (id : Data) (sent : Option Data) : Type 0 where
@@ -59,15 +66,15 @@ pub record Replies (P : Data → Type 0) (id : Data) (sent : Option Data) : Type
   pub holds : P value
 
 -- the answer for a document: that of its formatting, or an error if it is not open
-abbrev pub AnswersFor : (List ℕ → Option (List ℕ)) → Encoding → Data → Option OpenText → Option Data → Type 0
-AnswersFor format e id None sent = FailsWith id InvalidParams sent
-AnswersFor format e id (Some was) sent = Replies (IsFormatting e was.text (format was.text)) id sent
+abbrev pub AnswersFor : TextClaim → Encoding → Data → Option OpenText → Option Data → Type 0
+AnswersFor claim e id None sent = FailsWith id InvalidParams sent
+AnswersFor claim e id (Some was) sent = Replies (IsFormatting claim e was.text) id sent
 
 -- the answer for the document of a URI, or an error if the parameters have none
-abbrev pub AnswersUri : (List ℕ → Option (List ℕ)) → Encoding → List OpenDocument → Data → Option (List ℕ)
+abbrev pub AnswersUri : TextClaim → Encoding → List OpenDocument → Data → Option (List ℕ)
     → Option Data → Type 0
-AnswersUri format e documents id None sent = FailsWith id InvalidParams sent
-AnswersUri format e documents id (Some uri) sent = AnswersFor format e id (find uri documents) sent
+AnswersUri claim e documents id None sent = FailsWith id InvalidParams sent
+AnswersUri claim e documents id (Some uri) sent = AnswersFor claim e id (find uri documents) sent
 
 -- the URI that parameters name
 abbrev pub named_uri : Data → Option (List ℕ)
@@ -75,7 +82,7 @@ named_uri d = option_and_then (string_in (codes "uri"))
     (option_and_then (get (codes "textDocument")) (get (codes "params") d))
 
 -- the answer to a request that is not of the life cycle
-abbrev pub AnswersRequest : (List ℕ → Option (List ℕ)) → Encoding → List OpenDocument → Data → List ℕ → Data
+abbrev pub AnswersRequest : TextClaim → Encoding → List OpenDocument → Data → List ℕ → Data
     → Option Data → Type 0
-AnswersRequest format e documents id method d sent = MatchBool (bytes_eq method (codes "textDocument/formatting"))
-    (AnswersUri format e documents id (named_uri d) sent) (FailsWith id MethodNotFound sent)
+AnswersRequest claim e documents id method d sent = MatchBool (bytes_eq method (codes "textDocument/formatting"))
+    (AnswersUri claim e documents id (named_uri d) sent) (FailsWith id MethodNotFound sent)

@@ -4,4 +4,6 @@ pub mod Documents
 pub mod Parameters
 pub mod Handshake
 pub mod Steps
+pub mod Analysis
 pub mod Edits
+pub mod Publish

@@ -1,5 +1,5 @@
 -- What a server does with a message: what it knows then, and what it sends.
-use Rattle.std.specs.Prelude.{◌≡◌, ℕ, List, [], ◌∷◌, ◌++◌, codes, bytes_eq, Bool, true, false, MatchBool, Option, None, Some, option_and_then, option_map, option_to_list, if◌then◌else◌}
+use Rattle.std.specs.Prelude.{◌≡◌, ◌||◌, ℕ, List, [], ◌∷◌, ◌++◌, codes, bytes_eq, Bool, true, false, MatchBool, Option, None, Some, option_and_then, option_map, option_to_list, if◌then◌else◌}
 use Rattle.serde_json.specs.Data.{Data, null, boolean, number, string, object, no_members, member, unsigned}
 use Rattle.serde_json.specs.Find.{get}
 use Rattle.serde_json.specs.View.{view}
@@ -14,6 +14,7 @@ use Rattle.yf_server.specs.declared.lifecycle.Task.{Task}
 use Rattle.yf_server.specs.declared.lifecycle.Task.TheVariants.{Initialize, Shutdown, Request, Fail, Notification, Ignore, Exit}
 use Rattle.yf_server.specs.declared.step.Reaction.{Reaction}
 use Rattle.yf_server.specs.declared.step.Server.{Server}
+use Rattle.yf_server.specs.Analysis.{TextClaim}
 use Rattle.yf_server.specs.Documents.{Event, OpenText, after_event, find, outcome_of}
 use Rattle.yf_server.specs.Edits.{AnswersRequest, FailsWith}
 use Rattle.yf_server.specs.Handshake.{name_of, negotiated}
@@ -32,6 +33,11 @@ method_of (request id method) = method
 method_of (notification method) = method
 method_of (response id) = []
 method_of invalid = []
+
+-- the notifications on documents
+abbrev pub is_of_document : List ℕ → Bool
+is_of_document method = bytes_eq method (codes "textDocument/didOpen")
+    || (bytes_eq method (codes "textDocument/didChange") || bytes_eq method (codes "textDocument/didClose"))
 
 -- the event of a notification on a document
 abbrev pub event_named : List ℕ → Data → Option Event
@@ -149,16 +155,17 @@ IsNote Outcome.NotOpen sent = IsLogged sent
 IsNote Outcome.OldVersion sent = IsLogged sent
 IsNote Outcome.ReversedRange sent = IsLogged sent
 
-abbrev pub IsNoteOf : Encoding → List OpenDocument → Option Event → Option Data → Type 0
-IsNoteOf e documents None sent = sent ≡ None
-IsNoteOf e documents (Some event) sent = IsNote (outcome_of e (find event.uri documents) event.act) sent
+-- a client hears of what could not be done with a notification, and of one on a document whose parameters are malformed
+abbrev pub IsNoteOf : Encoding → List OpenDocument → List ℕ → Option Event → Option Data → Type 0
+IsNoteOf e documents method None sent = MatchBool (is_of_document method) (IsLogged sent) (sent ≡ None)
+IsNoteOf e documents method (Some event) sent = IsNote (outcome_of e (find event.uri documents) event.act) sent
 
 -- what is sent, by what the formatting of a text gives
-abbrev pub Sends : (List ℕ → Option (List ℕ)) → Server → Data → Option Data → Type 0
-Sends format server d sent = MatchBool (is_notification (step_of server.phase (kind_of d)).task)
-    (IsNoteOf server.encoding server.documents.items (event_of (method_of (kind_of d)) d) sent)
+abbrev pub Sends : TextClaim → Server → Data → Option Data → Type 0
+Sends claim server d sent = MatchBool (is_notification (step_of server.phase (kind_of d)).task)
+    (IsNoteOf server.encoding server.documents.items (method_of (kind_of d)) (event_of (method_of (kind_of d)) d) sent)
     (MatchBool (is_request (step_of server.phase (kind_of d)).task)
-    (AnswersRequest format server.encoding server.documents.items (id_of (kind_of d)) (method_of (kind_of d)) d sent)
+    (AnswersRequest claim server.encoding server.documents.items (id_of (kind_of d)) (method_of (kind_of d)) d sent)
     (IsAnswer (id_of (kind_of d)) (encoding_after server.encoding (step_of server.phase (kind_of d)).task d)
     (step_of server.phase (kind_of d)).task sent))
 
@@ -186,11 +193,11 @@ wanted_ids (d ∷ rest) = wanted_id (kind_of d) ++ wanted_ids rest
 
 -- what a server does with one message: what it knows of each document is what the message makes of it, one answer is
 -- sent to a request and none to a notification, and no answer has another id
-pub record StepsTo (format : List ℕ → Option (List ℕ)) (before after : Server) (d : Data) (reaction : Reaction)
+pub record StepsTo (claim : TextClaim) (before after : Server) (d : Data) (reaction : Reaction)
     : Type 0 where
   pub task : reaction.task ≡ (step_of before.phase (kind_of d)).task
   pub knows : (uri : List ℕ) → knows uri after ≡ after_message uri (knows uri before) d
-  pub sends : Sends format before d (option_map view reaction.message)
+  pub sends : Sends claim before d (option_map view reaction.message)
   pub answers : response_ids (option_to_list (option_map view reaction.message)) ≡ wanted_id (kind_of d)
 
 -- nothing has changed
@@ -200,15 +207,15 @@ pub record IsSame (before after : Server) : Type 0 where
   pub documents : after.documents.items ≡ before.documents.items
 
 -- what a server sends for messages, and what it is then: one step for each message, in order
-pub data Steps (format : List ℕ → Option (List ℕ)) : Server → List Data → List Data → Server → Type 0 where
-  no_step : {server : Server} → Steps format server [] [] server
+pub data Steps (claim : TextClaim) : Server → List Data → List Data → Server → Type 0 where
+  no_step : {server : Server} → Steps claim server [] [] server
   one_step : {before middle after : Server} {d : Data} {rest sent : List Data} (reaction : Reaction)
-      → StepsTo format before middle d reaction → Steps format middle rest sent after
-      → Steps format before (d ∷ rest) (option_to_list (option_map view reaction.message) ++ sent) after
+      → StepsTo claim before middle d reaction → Steps claim middle rest sent after
+      → Steps claim before (d ∷ rest) (option_to_list (option_map view reaction.message) ++ sent) after
 
 -- what a server does with messages
-pub record RunsTo (format : List ℕ → Option (List ℕ)) (before after : Server) (received sent : List Data)
+pub record RunsTo (claim : TextClaim) (before after : Server) (received sent : List Data)
     : Type 0 where
-  pub steps : Steps format before received sent after
+  pub steps : Steps claim before received sent after
   pub knows : (uri : List ℕ) → knows uri after ≡ after_messages uri (knows uri before) received
   pub answers : response_ids sent ≡ wanted_ids received

@@ -1,18 +1,64 @@
 //! What a server asks about the text of a document.
-ghost use Rattle.std.specs.Prelude.{◌≡◌, List, ℕ, Option, IfOk, option_map, string_bytes};
+ghost use Rattle.std.specs.Prelude.{◌≡◌, IfOk, map, option_map, string_bytes};
+ghost use Rattle.yf_server.specs.Analysis.{TextClaim, problem_read, severity_number};
 
 use std::alloc::{AllocError, Global};
 
-/// What is known of texts: how they are formatted.
-pub trait Analysis {
-    /// What the formatting of a text gives; `None` if the text cannot be formatted.
-    ghost formatting: { Self → List ℕ → Option (List ℕ) };
+/// How severe a problem is (`DiagnosticSeverity` of LSP 3.17).
+#[derive(Clone, Copy)]
+pub enum Severity {
+    Error,
+    Warning,
+    Information,
+    Hint,
+}
 
-    /// Returns what the formatting of a text gives.
+impl Severity {
+    /// The number that the protocol gives it.
+    pub fn number(self) -> u64
+        ensures { result ≡ severity_number self }
+    {
+        match self {
+            Severity::Error => 1,
+            Severity::Warning => 2,
+            Severity::Information => 3,
+            Severity::Hint => 4,
+        }
+    }
+}
+
+/// A problem of a text.
+#[derive(Drop)]
+pub struct Problem {
+    /// The byte offset at which it starts.
+    pub start: usize,
+    /// The byte offset at which it ends.
+    pub end: usize,
+    pub severity: Severity,
+    /// What it is called, for example the name of a rule.
+    pub code: &'static str,
+    /// What a client shows of it.
+    pub message: String,
+}
+
+/// What is known of texts: how they are formatted, and which problems they have.
+pub trait Analysis {
+    /// What is known of texts.
+    ghost claim: { Self → TextClaim };
+
+    /// Returns what the formatting of a text gives; `None` if the text cannot be formatted.
     ///
     /// # Errors
     ///
     /// `AllocError` if memory was refused.
     fn formatted(&self, alloc: Global, text: &str) -> Result<Option<String>, AllocError>
-        ensures { IfOk result (λ new. option_map string_bytes new ≡ formatting self.now text.now) };
+        ensures { IfOk result (λ new. (claim self.now).Formats text.now (option_map string_bytes new)) };
+
+    /// Returns the problems of a text, in order.
+    ///
+    /// # Errors
+    ///
+    /// `AllocError` if memory was refused.
+    fn problems(&self, alloc: Global, text: &str) -> Result<Vec<Problem>, AllocError>
+        ensures { IfOk result (λ problems. (claim self.now).Finds text.now (map problem_read problems.items)) };
 }

@@ -28,7 +28,7 @@ fn range_between(alloc: Global, start: &Value, end: &Value) -> Result<Value, All
 }
 
 /// Returns a range as JSON.
-fn range_value(alloc: Global, range: LspRange) -> Result<Value, AllocError>
+pub fn range_value(alloc: Global, range: LspRange) -> Result<Value, AllocError>
     ensures { IfOk result (λ value. view value ≡ range_data range) }
 {
     let start = position_value(alloc, range.start)?;

@@ -9,5 +9,6 @@ pub mod laws;
 pub mod lifecycle;
 pub mod notify;
 pub mod parameters;
+pub mod publish;
 pub mod respond;
 pub mod step;

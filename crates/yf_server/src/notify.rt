@@ -1,8 +1,8 @@
 //! What a server does with notifications on documents.
-ghost use Rattle.std.specs.Prelude.{◌≡◌, ◌≢◌, ℕ, List, IfOk, OnErr, OnOk, option_map};
+ghost use Rattle.std.specs.Prelude.{◌≡◌, ◌≢◌, ℕ, List, None, MatchBool, IfOk, OnErr, OnOk, option_map};
 ghost use Rattle.serde_json.specs.View.{view};
 ghost use Rattle.yf_server.specs.Documents.{FollowsEvent, act_read, event_read, find, outcome_of};
-ghost use Rattle.yf_server.specs.Steps.{IsNote, IsNoteOf, after_any, event_named, event_of, log_message, warning_params};
+ghost use Rattle.yf_server.specs.Steps.{IsLogged, IsNote, IsNoteOf, after_any, event_named, event_of, is_of_document, log_message, warning_params};
 
 use crate::documents::{DocumentEvent, OpenDocument, Outcome, act};
 use crate::parameters::{changed, closed, opened};
@@ -112,6 +112,30 @@ fn act_on(
     note_of(alloc, outcome)
 }
 
+/// Returns whether a notification with this method is on a document.
+pub fn is_of_document(method: &str) -> bool
+    ensures { result ≡ is_of_document method.now }
+{
+    method == "textDocument/didOpen"
+        || method == "textDocument/didChange"
+        || method == "textDocument/didClose"
+}
+
+/// Returns the warning for a notification on a document whose parameters are malformed; `None` for any other method.
+fn malformed(alloc: Global, method: &str) -> Result<Option<Value>, AllocError>
+    ensures { IfOk result (λ note. MatchBool (is_of_document method.now) (IsLogged (option_map view note))
+        (option_map view note ≡ None)) }
+{
+    if !is_of_document(method) {
+        return Ok(None);
+    }
+    let note = log_message(
+        alloc,
+        "the parameters are not those of the method, so nothing was changed",
+    )?;
+    Ok(Some(note))
+}
+
 /// Acts on a notification.
 pub fn notify(
     alloc: Global,
@@ -122,12 +146,12 @@ pub fn notify(
 ) -> Result<Option<Value>, AllocError>
     ensures done { OnOk result ((uri : List ℕ) → find uri documents.new.items ≡
         after_any encoding uri (find uri documents.old.items) (event_of method.now (view value.now))) }
-    ensures note { IfOk result (λ note. IsNoteOf encoding documents.old.items (event_of method.now (view value.now))
-        (option_map view note)) }
+    ensures note { IfOk result (λ note. IsNoteOf encoding documents.old.items method.now
+        (event_of method.now (view value.now)) (option_map view note)) }
     ensures kept { OnErr result (documents.new.items ≡ documents.old.items) }
 {
     match event_of(alloc, method, value)? {
-        None => Ok(None),
+        None => malformed(alloc, method),
         Some(event) => act_on(alloc, documents, &event, encoding),
     }
 }

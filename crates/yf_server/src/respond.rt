@@ -39,7 +39,7 @@ pub fn failure_of(alloc: Global, id: &Value, code: ErrorCode) -> Result<Value, A
 }
 
 /// Returns the URI that the parameters of a request name.
-fn named_uri(value: &Value) -> Option<&str>
+pub fn named_uri(value: &Value) -> Option<&str>
     ensures { option_map (λ uri. uri.now) result ≡ named_uri (view value.now) }
 {
     match value.get("params") {
@@ -58,8 +58,7 @@ fn formatting<A: Analysis>(
     document: &Document,
     encoding: Encoding,
 ) -> Result<Value, AllocError>
-    ensures { IfOk result (λ value. IsFormatting encoding document.now
-        (A.formatting analysis.now document.now) (view value)) }
+    ensures { IfOk result (λ value. IsFormatting (A.claim analysis.now) encoding document.now (view value)) }
 {
     match analysis.formatted(alloc, document.text())? {
         None => Ok(Value::Null),
@@ -76,7 +75,7 @@ fn answer_for<A: Analysis>(
     uri: &str,
     encoding: Encoding,
 ) -> Result<Value, AllocError>
-    ensures { IfOk result (λ answer. AnswersFor (A.formatting analysis.now) encoding (view id.now)
+    ensures { IfOk result (λ answer. AnswersFor (A.claim analysis.now) encoding (view id.now)
         (find uri.now documents.now) (Some (view answer))) }
 {
     match place_of(documents, uri) {
@@ -106,7 +105,7 @@ pub fn respond<A: Analysis>(
     value: &Value,
     encoding: Encoding,
 ) -> Result<Value, AllocError>
-    ensures { IfOk result (λ answer. AnswersRequest (A.formatting analysis.now) encoding documents.now (view id.now)
+    ensures { IfOk result (λ answer. AnswersRequest (A.claim analysis.now) encoding documents.now (view id.now)
         method.now (view value.now) (Some (view answer))) }
 {
     if method == "textDocument/formatting" {

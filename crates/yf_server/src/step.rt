@@ -33,7 +33,7 @@ pub struct Reaction {
 }
 
 /// Returns the method of a message, which is empty if it has none.
-fn method_of<'v>(message: Message<'v>) -> &'v str
+pub fn method_of<'v>(message: Message<'v>) -> &'v str
     ensures { result.now ≡ method_of (kind_read message.entry) }
 {
     match message {
@@ -45,7 +45,7 @@ fn method_of<'v>(message: Message<'v>) -> &'v str
 }
 
 /// Returns whether a task is to act on a notification.
-fn is_notification(task: Task) -> bool
+pub fn is_notification(task: Task) -> bool
     ensures { result ≡ is_notification task }
 {
     match task {
@@ -174,7 +174,7 @@ fn respond_to<A: Analysis>(
     value: &Value,
     encoding: Encoding,
 ) -> Result<Value, AllocError>
-    ensures { IfOk result (λ answer. AnswersRequest (A.formatting analysis.now) encoding documents.now
+    ensures { IfOk result (λ answer. AnswersRequest (A.claim analysis.now) encoding documents.now
         (id_of (kind_read message.entry)) (method_of (kind_read message.entry)) (view value.now)
         (Some (view answer))) }
 {
@@ -221,7 +221,7 @@ pub fn step<A: Analysis>(
     value: &Value,
 ) -> Result<Reaction, AllocError>
     ensures done { IfOk result (λ reaction.
-        StepsTo (A.formatting analysis.now) server.old server.new (view value.now) reaction) }
+        StepsTo (A.claim analysis.now) server.old server.new (view value.now) reaction) }
     ensures kept { OnErr result (IsSame server.old server.new) }
 {
     let message = message_of(value);
@@ -286,7 +286,7 @@ pub fn run<A: Analysis>(
     server: &mut Server,
     received: &[Value],
 ) -> Result<Vec<Value>, AllocError>
-    ensures { IfOk result (λ sent. RunsTo (A.formatting analysis.now) server.old server.new
+    ensures { IfOk result (λ sent. RunsTo (A.claim analysis.now) server.old server.new
         (map view received.now) (map view sent.items)) }
 {
     let mut sent = Vec::new(alloc);

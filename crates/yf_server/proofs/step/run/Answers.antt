@@ -6,7 +6,7 @@ use Rattle.yf_server.proofs.step.run.Goals as goal
 
 pub loop-value-init : goal.loop-value-init
 loop-value-init g c = record {
-  steps = steps_none (g.A.Analysis.formatting c.args.analysis.now) c.args.server.now c.new-sent.result.items
+  steps = steps_none (g.A.Analysis.claim c.args.analysis.now) c.args.server.now c.new-sent.result.items
       c.new-sent.ensures.items;
   known = λ uri. refl;
   answered = ap (λ z. response_ids (map view z) ++ wanted_ids (map view c.args.received.now)) c.new-sent.ensures.items;
@@ -14,7 +14,7 @@ loop-value-init g c = record {
 
 pub loop-value-preserved : goal.loop-value-preserved
 loop-value-preserved g c = record {
-  steps = steps_more (g.A.Analysis.formatting c.args.analysis.now) c.args.server.now c.loop-value.server
+  steps = steps_more (g.A.Analysis.claim c.args.analysis.now) c.args.server.now c.loop-value.server
       c.step.new.server c.args.received.now c.loop-value.sent.items c.push_any.new.sent.items c.loop-value.value-index
       c.value-item.result c.in_ok-reaction.reaction c.loop-value-test.true c.value-item.is c.loop-value.invariant.steps
       c.in_ok-reaction.ensures.done c.in_ok-push_any.ensures;
@@ -28,7 +28,7 @@ loop-value-preserved g c = record {
 
 pub returns : goal.returns
 returns g c = record {
-  steps = steps_all (g.A.Analysis.formatting c.args.analysis.now) c.args.server.now c.loop-value.server
+  steps = steps_all (g.A.Analysis.claim c.args.analysis.now) c.args.server.now c.loop-value.server
       c.args.received.now (map view c.loop-value.sent.items) c.loop-value.value-index c.loop-value-test.false
       c.loop-value.invariant.steps;
   knows = λ uri. all_known uri _ _ c.args.received.now c.loop-value.value-index c.loop-value-test.false

@@ -6,7 +6,7 @@ use Rattle.yf_server.proofs.step.run.Given as goal
 
 abbrev pub invariant-loop-value : goal.invariant-loop-value
 invariant-loop-value g l = record {
-  steps : Steps (g.A.Analysis.formatting l.analysis) l.fn.server (map view (take l.value-index l.received))
+  steps : Steps (g.A.Analysis.claim l.analysis) l.fn.server (map view (take l.value-index l.received))
       (map view l.sent.items) l.server;
   known : (uri : List ℕ) → after_messages uri (knows uri l.server) (map view (drop l.value-index l.received))
       ≡ after_messages uri (knows uri l.fn.server) (map view l.received);

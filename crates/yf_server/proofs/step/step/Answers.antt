@@ -16,12 +16,12 @@ returns-then-is_notification-clause-done g c =
     let next = c.next_step-next.ensures ∙ ap (step_of server.phase) kind in
     let task = ap (λ s. s.task) next in
     let method = c.method_of-method.ensures ∙ ap method_of kind in
-    steps_notified (g.A.Analysis.formatting c.args.analysis.now) server _ d _ task (ap (λ s. s.phase) next)
+    steps_notified (g.A.Analysis.claim c.args.analysis.now) server _ d _ task (ap (λ s. s.phase) next)
     (c.encoding_after-encoding.ensures ∙ ap (λ t. encoding_after server.encoding t d) task)
     (ap is_notification (sym task) ∙ sym c.is_notification.ensures ∙ c.if-is_notification.true)
     (λ uri. c.in_ok-note.ensures.done uri
     ∙ ap (λ m. after_any server.encoding uri (find uri server.documents.items) (event_of m d)) method)
-    (subst (λ m. IsNoteOf server.encoding server.documents.items (event_of m d) (option_map view c.in_ok-note.note))
+    (subst (λ m. IsNoteOf server.encoding server.documents.items m (event_of m d) (option_map view c.in_ok-note.note))
     method c.in_ok-note.ensures.note)
 
 pub returns-clause-done : goal.returns-clause-done
@@ -33,7 +33,7 @@ returns-clause-done g c =
     let task = ap (λ s. s.task) next in
     let encoding = c.encoding_after-encoding.ensures ∙ ap (λ t. encoding_after server.encoding t d) task in
     let sent = option_map view c.in_ok-answer.answer in
-    steps_answered (g.A.Analysis.formatting c.args.analysis.now) server _ d _ task (ap (λ s. s.phase) next) encoding
+    steps_answered (g.A.Analysis.claim c.args.analysis.now) server _ d _ task (ap (λ s. s.phase) next) encoding
     (ap is_notification (sym task) ∙ sym c.is_notification.ensures ∙ c.if-is_notification.false)
     (ap is_request (sym task) ∙ sym c.is_request.ensures ∙ c.if-is_request.false)
     refl
@@ -47,16 +47,16 @@ pub returns-then-is_request-clause-done : goal.returns-then-is_request-clause-do
 returns-then-is_request-clause-done g c =
     let server = c.args.server.now in
     let d = view c.args.value.now in
-    let format = g.A.Analysis.formatting c.args.analysis.now in
+    let claim = g.A.Analysis.claim c.args.analysis.now in
     let kind = c.message_of-message.ensures in
     let next = c.next_step-next.ensures ∙ ap (step_of server.phase) kind in
     let task = ap (λ s. s.task) next in
-    steps_requested format server _ d _ task (ap (λ s. s.phase) next)
+    steps_requested claim server _ d _ task (ap (λ s. s.phase) next)
     (c.encoding_after-encoding.ensures ∙ ap (λ t. encoding_after server.encoding t d) task)
     (ap is_request (sym task) ∙ sym c.is_request.ensures ∙ c.if-is_request.true)
     refl
-    (subst (λ k. AnswersRequest format server.encoding server.documents.items (id_of k) (method_of k) d
+    (subst (λ k. AnswersRequest claim server.encoding server.documents.items (id_of k) (method_of k) d
     (Some (view c.in_ok-response.response))) kind
-    (subst (λ xs. AnswersRequest format server.encoding xs (id_of (kind_read c.message_of-message.result))
+    (subst (λ xs. AnswersRequest claim server.encoding xs (id_of (kind_read c.message_of-message.result))
     (method_of (kind_read c.message_of-message.result)) d (Some (view c.in_ok-response.response)))
     c.as_slice.ensures.value c.in_ok-response.ensures))

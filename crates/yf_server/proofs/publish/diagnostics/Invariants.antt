@@ -1,0 +1,10 @@
+-- The problems so far.
+use Rattle.std.proofs.Common.{◌≡◌, map, take}
+use Rattle.serde_json.specs.View.{view}
+use Rattle.yf_server.specs.Analysis.{problem_read}
+use Rattle.yf_server.specs.Publish.{diagnostic}
+use Rattle.yf_server.proofs.publish.diagnostics.Given as goal
+
+abbrev pub invariant-loop-problem : goal.invariant-loop-problem
+invariant-loop-problem l = map view l.values.items
+    ≡ map (diagnostic l.encoding l.document) (map problem_read (take l.problem-index l.problems))

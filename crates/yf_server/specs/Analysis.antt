@@ -1,0 +1,35 @@
+-- What a server knows of texts.
+use Rattle.std.specs.Prelude.{ℕ, List, Option, string_bytes}
+use Rattle.yf_server.specs.declared.analysis.Problem.{Problem}
+use Rattle.yf_server.specs.declared.analysis.Severity.{Severity}
+use Rattle.yf_server.specs.declared.analysis.Severity.TheVariants.{Error, Warning, Information, Hint}
+
+-- a problem of a text: its span in bytes, how severe it is, and what it is called and described by
+pub record Found : Type 0 where
+  pub start : ℕ
+  pub end : ℕ
+  pub severity : Severity
+  pub code : List ℕ
+  pub message : List ℕ
+
+abbrev pub problem_read : Problem → Found
+problem_read p = record {
+  start = p.start;
+  end = p.end;
+  severity = p.severity;
+  code = p.code.now;
+  message = string_bytes p.message;
+}
+
+-- `DiagnosticSeverity`
+abbrev pub severity_number : Severity → ℕ
+severity_number Error = 1
+severity_number Warning = 2
+severity_number Information = 3
+severity_number Hint = 4
+
+pub record TextClaim : Type 1 where
+  -- what the formatting of a text gives: the new text, or none if the text cannot be formatted
+  pub Formats : List ℕ → Option (List ℕ) → Type 0
+  -- the problems of a text, in order
+  pub Finds : List ℕ → List Found → Type 0

@@ -1,0 +1,66 @@
+-- Diagnostics as JSON, and when they are published (`textDocument/publishDiagnostics`).
+use Rattle.std.specs.Prelude.{◌≡◌, ℕ, ℤ, List, map, codes, MatchBool, Option, None, Some}
+use Rattle.serde_json.specs.Data.{Data, number, string, array, object, no_items, no_members, member, unsigned}
+use Rattle.serde_json.specs.Find.{of_integer}
+use Rattle.serde_json.specs.View.{items_of}
+use Rattle.yf_json_rpc.specs.Messages.{call, kind_of}
+use Rattle.yf_positions.specs.declared.encoding.Encoding.{Encoding}
+use Rattle.yf_positions.specs.declared.position.LspRange.{LspRange}
+use Rattle.yf_positions.specs.Offsets.{position_of}
+use Rattle.yf_server.specs.declared.documents.OpenDocument.{OpenDocument}
+use Rattle.yf_server.specs.declared.lifecycle.Task.{Task}
+use Rattle.yf_server.specs.declared.step.Server.{Server}
+use Rattle.yf_server.specs.Analysis.{Found, TextClaim, severity_number}
+use Rattle.yf_server.specs.Documents.{OpenText, find}
+use Rattle.yf_server.specs.Edits.{named_uri, range_data}
+use Rattle.yf_server.specs.Steps.{is_notification, is_of_document, method_of}
+
+-- the range of a problem of a text
+abbrev pub range_of : Encoding → List ℕ → Found → LspRange
+range_of e text f = record { start = position_of e text f.start; end = position_of e text f.end }
+
+-- `Diagnostic`
+abbrev pub diagnostic_of : Data → Found → Data
+diagnostic_of range f = object (member (codes "code") (string f.code) (member (codes "message") (string f.message)
+    (member (codes "range") range (member (codes "severity") (number (unsigned (severity_number f.severity)))
+    (member (codes "source") (string (codes "yamlfmt")) no_members)))))
+
+abbrev pub diagnostic : Encoding → List ℕ → Found → Data
+diagnostic e text f = diagnostic_of (range_data (range_of e text f)) f
+
+abbrev pub diagnostics : Encoding → List ℕ → List Found → Data
+diagnostics e text found = array (items_of (map (diagnostic e text) found))
+
+-- `PublishDiagnosticsParams`
+abbrev pub published : List ℕ → ℤ → Data → Data
+published uri version listed = object (member (codes "diagnostics") listed (member (codes "uri") (string uri)
+    (member (codes "version") (number (of_integer version)) no_members)))
+
+abbrev pub cleared : List ℕ → Data
+cleared uri = object (member (codes "diagnostics") (array no_items) (member (codes "uri") (string uri) no_members))
+
+abbrev pub publication : Data → Data
+publication params = call (codes "textDocument/publishDiagnostics") params
+
+-- the problems of the text of an open document, with its version
+pub record Publishes (claim : TextClaim) (e : Encoding) (uri : List ℕ) (was : OpenText) (sent : Option Data) : Type 0
+    where
+  pub found : List Found
+  pub finds : claim.Finds was.text found
+  pub is : sent ≡ Some (publication (published uri was.version (diagnostics e was.text found)))
+
+-- what is published of the document with a URI: no problems if it is not open
+abbrev pub PublishesFor : TextClaim → Encoding → List ℕ → Option OpenText → Option Data → Type 0
+PublishesFor claim e uri None sent = sent ≡ Some (publication (cleared uri))
+PublishesFor claim e uri (Some was) sent = Publishes claim e uri was sent
+
+abbrev pub PublishesUri : TextClaim → Encoding → List OpenDocument → Option (List ℕ) → Option Data → Type 0
+PublishesUri claim e documents None sent = sent ≡ None
+PublishesUri claim e documents (Some uri) sent = PublishesFor claim e uri (find uri documents) sent
+
+-- What is published after a message: after a notification on a document, what the server knows of it then. (server: the
+-- server after the message; task: its task with the message)
+abbrev pub IsPublished : TextClaim → Server → Task → Data → Option Data → Type 0
+IsPublished claim server task d sent = MatchBool (is_notification task)
+    (MatchBool (is_of_document (method_of (kind_of d)))
+    (PublishesUri claim server.encoding server.documents.items (named_uri d) sent) (sent ≡ None)) (sent ≡ None)

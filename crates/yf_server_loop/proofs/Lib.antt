@@ -1,0 +1,4 @@
+-- what is read
+pub mod ReceiveLemmas
+-- sessions, message by message
+pub mod SessionLemmas
