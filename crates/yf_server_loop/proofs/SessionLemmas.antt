@@ -1,10 +1,11 @@
 -- Sessions, message by message.
-use Rattle.std.proofs.Common.{◌≡◌, ◌∙◌, ◌+◌, ◌≤◌, ◌++◌, ◌∷◌, ◌^◌, ◌-◌, [], List, ℕ, Bool, None, Some, Option, ap, append-nil, append_assoc, length, length-append, refl, subst, sym, arith}
+use Rattle.std.proofs.Common.{◌≡◌, ◌∙◌, ◌+◌, ◌≤◌, ◌++◌, ◌∷◌, ◌^◌, ◌-◌, [], List, ℕ, Bool, None, Some, Option, Err, ap, drop, slice_range, append-nil, append_assoc, length, length-append, refl, subst, sym, arith}
 use Rattle.std.specs.Io.KnownBytes.{Consumes}
 use Rattle.std.proofs.KnownBytes.{Appends-nil, Appends-trans, Consumes-nil, Consumes-trans}
 use Rattle.httparse.specs.Grammar.{print_section}
 use Rattle.httparse.proofs.GrammarLemmas.{ReadsSection-append}
-use Rattle.yf_json_rpc.specs.Frames.{IsFrame}
+use Rattle.yf_json_rpc.specs.declared.frame.Content.{Content}
+use Rattle.yf_json_rpc.specs.Frames.{IsFrame, IsFrameAt}
 use Rattle.yf_json_rpc.specs.Streams.{AreFrames, no_frame, one_frame}
 use Rattle.yf_lines.proofs.OutputLemmas.{broke_second}
 use Rattle.yf_server.specs.declared.step.Server.{Server}
@@ -12,7 +13,8 @@ use Rattle.yf_server.specs.Analysis.{TextClaim}
 use Rattle.yf_server_loop.specs.declared.ended.Ended.{Ended}
 use Rattle.yf_server_loop.specs.declared.ended.Ended.TheVariants as ended
 use Rattle.yf_server_loop.specs.declared.receive.TheConstants.{CONTENT_LIMIT}
-use Rattle.yf_server_loop.specs.Received.{IsNoMessage}
+use Rattle.yf_server_loop.specs.Handled.{Handles}
+use Rattle.yf_server_loop.specs.Received.{Grows, IsNoMessage, Reads}
 use Rattle.yf_server_loop.specs.Sessions.{Advances, BreaksOff, Ends, IsFresh, Moment, Session, SessionRuns, Stays, Turns, Writes}
 use Rattle.yf_server_loop.specs.Sessions.Serves.{none_served, one_more}
 
@@ -230,3 +232,54 @@ module _ (claim : TextClaim) (first : Moment) where
     server = server;
     ends = (s.session, s.writes, s.works, subst (λ n. 2 ^ 64 - 1 ≤ n) (sym s.counts) many);
   }
+
+-- a turn in which no message was handled
+pub turn_ended : (claim : TextClaim) (input left output : Option (List ℕ)) (failed fails broken : Bool)
+    (server next : Server) (inbox rest : List ℕ) (why : Ended) → Grows input left inbox rest (Err why)
+    → IsNoMessage left failed fails rest why
+    → Turns claim (record { input = input; input_failed = failed; output = output; output_failed = broken })
+    (record { input = left; input_failed = fails; output = output; output_failed = broken }) server inbox next rest
+    (Some why)
+turn_ended claim input left output failed fails broken server next inbox rest (ended.Exit is_success) r e = absurd e
+turn_ended claim input left output failed fails broken server next inbox rest ended.WriteFailed r e = absurd e
+turn_ended claim input left output failed fails broken server next inbox rest ended.TooMany r e = absurd e
+turn_ended claim input left output failed fails broken server next inbox rest ended.EndOfInput r e = (
+  rest,
+  record { more = r.more; read = r.consumed; all = r.added; wrote = record { appended = Appends-nil output; same = refl } },
+  e,
+)
+turn_ended claim input left output failed fails broken server next inbox rest (ended.Frame error) r e = (
+  rest,
+  record { more = r.more; read = r.consumed; all = r.added; wrote = record { appended = Appends-nil output; same = refl } },
+  e,
+)
+turn_ended claim input left output failed fails broken server next inbox rest ended.ReadFailed r e = (
+  rest,
+  record { more = r.more; read = r.consumed; all = r.added; wrote = record { appended = Appends-nil output; same = refl } },
+  e,
+)
+turn_ended claim input left output failed fails broken server next inbox rest ended.Memory r e = (
+  inbox ++ r.more,
+  record { more = r.more; read = r.consumed; all = refl; wrote = record { appended = Appends-nil output; same = refl } },
+  e,
+)
+
+-- a turn in which a message was handled
+pub advances_by : (claim : TextClaim) (before after : Moment) (server next : Server) (inbox grown rest answer : List ℕ)
+    (exit : Option Bool) (content : Content) → Reads before.input after.input inbox grown
+    → after.input_failed ≡ before.input_failed → IsFrameAt grown CONTENT_LIMIT content
+    → rest ≡ drop content.end grown
+    → Handles claim server (slice_range grown content.start content.end) answer next exit
+    → Advances claim before after server inbox next rest answer exit
+advances_by claim before after server next inbox grown rest answer exit content r works at left h =
+    let f = front_frame grown (slice_range grown content.start content.end) (drop content.end grown) at.message in
+    record {
+      more = r.more;
+      read = r.consumed;
+      works = works;
+      message = f.message;
+      body = slice_range grown content.start content.end;
+      frame = f.frame;
+      split = sym r.added ∙ f.split ∙ ap (λ l. f.message ++ l) (sym left);
+      handles = h;
+    }
