@@ -56,8 +56,6 @@ pub enum Command {
     },
     /// Format.
     Fmt(Fmt),
-    /// Serve an editor over standard input and output.
-    Server,
 }
 
 /// What the words of a command line ask for.
