@@ -56,6 +56,8 @@ pub enum Command {
     },
     /// Format.
     Fmt(Fmt),
+    /// Serve an editor over standard input and standard output.
+    Server,
 }
 
 /// What the words of a command line ask for.

@@ -7,7 +7,7 @@ ghost use Rattle.yf_command_line.specs.Requests.{IsRequest, RefusedBy, RefusesWo
 use crate::command::{Command, Fmt, Request};
 use crate::inputs::{files_of, first_input, has_standard_input, inputs_of};
 use crate::options::{
-    CHECK, CONFIG, DIFF, EVENTS, EXPLAIN, FILE, FMT, WITHOUT, WRITE, yamlfmt_command,
+    CHECK, CONFIG, DIFF, EVENTS, EXPLAIN, FILE, FMT, SERVER, WITHOUT, WRITE, yamlfmt_command,
 };
 use crate::refused_words::{
     NO_COMMAND, NO_FILE, NO_STANDARD_INPUT, NOT_SHOWN, NOTHING_WRITTEN, SEVERAL_DIFFS,
@@ -28,6 +28,7 @@ use std::alloc::Global;
 /// - `fmt [--config FILE] [--explain] [--write] [--check] [--diff] [FILE..]`. With `--write` there must be a FILE, and
 ///   no FILE may be `-`. It goes with neither `--check` nor `--diff`. Several FILEs need `--write`, or `--check`
 ///   without `--diff`.
+/// - `server [--config FILE] [--stdio]`. It always reads standard input, and `--stdio` changes nothing: editors pass it.
 ///
 /// A FILE `-` is standard input. Without a FILE a command reads standard input.
 ///
@@ -94,6 +95,9 @@ fn command_met(
             Ok(fmt) => Ok(Command::Fmt(fmt)),
             Err(usage) => Err(usage),
         };
+    }
+    if name == SERVER {
+        return Ok(Command::Server);
     }
     Err(refusal(alloc, NO_COMMAND))
 }

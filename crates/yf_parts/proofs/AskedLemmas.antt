@@ -5,9 +5,10 @@ use Rattle.std.specs.Prelude.{map, nat_le}
 use Rattle.std.proofs.lemmas.Bool.{cases_Bool, or_parts}
 use Rattle.std.proofs.Math.Bool.{or-true}
 use Rattle.std.proofs.lemmas.Bool.Decides.{nat_tests}
-use Rattle.yf_parts.specs.Asked.{AllUntouched, Covers, IsUntouched, Settled, has_true, is_asked, meets, touched_by}
+use Rattle.yf_line_ranges.specs.Ranges.{is_asked}
+use Rattle.yf_parts.specs.Asked.{AllUntouched, Covers, IsUntouched, Settled, has_true, meets, touched_by}
 use Rattle.yf_parts.specs.Asked.{touches}
-use Rattle.yf_parts.specs.declared.asked.LineRange.{LineRange}
+use Rattle.yf_line_ranges.specs.declared.range.LineRange.{LineRange}
 use Rattle.yf_parts.specs.declared.hunks.Hunk.{Hunk}
 
 between : (r : LineRange) (n : ℕ) → r.first ≤ n → n ≤ r.last → (nat_le r.first n && nat_le n r.last) ≡ true

@@ -11,7 +11,7 @@ use Rattle.yf_rules.specs.Headline.{Headline}
 use Rattle.yf_parts.specs.Asked.{Covers, has_true, touched_by}
 use Rattle.yf_parts.specs.Hunks.{Differ, Fits, origin, spliced}
 use Rattle.yf_parts.specs.PartKept.{PartKept}
-use Rattle.yf_parts.specs.declared.asked.LineRange.{LineRange}
+use Rattle.yf_line_ranges.specs.declared.range.LineRange.{LineRange}
 use Rattle.yf_parts.specs.declared.hunks.Hunk.{Hunk}
 use Rattle.yf_parts.specs.Tries.{Tried, TryFails, near_all}
 use Rattle.yf_parts.proofs.SpliceLemmas.{all_applied, none_applied}

@@ -3,8 +3,9 @@ use Rattle.std.proofs.Common.{◌≡◌, ℕ, zero, suc, ◌+◌, ◌-◌, ◌<�
 use Rattle.std.proofs.Common.{◌++◌, length, take, drop, drop-cons, get_or, refl, sym, ap, ◌∙◌, append_assoc, arith}
 use Rattle.std.specs.Prelude.{map, nat_le, nat_lt}
 use Rattle.std.proofs.lemmas.Bool.Decides.{nat_tests}
-use Rattle.yf_parts.specs.Asked.{all_before, ascend_after, meets, touched_by}
-use Rattle.yf_parts.specs.declared.asked.LineRange.{LineRange}
+use Rattle.yf_line_ranges.specs.Ranges.{all_before, ascend_after}
+use Rattle.yf_parts.specs.Asked.{meets, touched_by}
+use Rattle.yf_line_ranges.specs.declared.range.LineRange.{LineRange}
 use Rattle.yf_parts.specs.declared.hunks.Hunk.{Hunk}
 
 and_both : (a b : Bool) → (a && b) ≡ true → (a ≡ true) × (b ≡ true)

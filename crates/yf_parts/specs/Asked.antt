@@ -1,7 +1,8 @@
 -- The lines that are asked for, and the hunks that touch them.
 use Rattle.std.specs.Prelude.{◌≡◌, ℕ, ◌+◌, ◌-◌, ◌==◌, Bool, true, false, ◌&&◌, ◌||◌, nat_le, nat_lt, List, [], ◌∷◌}
 use Rattle.std.specs.Prelude.{if◌then◌else◌}
-use Rattle.yf_parts.specs.declared.asked.LineRange.{LineRange}
+use Rattle.yf_line_ranges.specs.Ranges.{is_asked}
+use Rattle.yf_line_ranges.specs.declared.range.LineRange.{LineRange}
 use Rattle.yf_parts.specs.declared.hunks.Hunk.{Hunk}
 
 -- A hunk touches the lines of the text in it. If it has none, it touches the line before it and the line after it.
@@ -9,11 +10,6 @@ use Rattle.yf_parts.specs.declared.hunks.Hunk.{Hunk}
 abbrev pub touches : Hunk → ℕ → Bool
 touches h n = if h.start.lines == h.end.lines then nat_le h.start.lines n && nat_le n (h.start.lines + 1)
     else nat_lt h.start.lines n && nat_le n h.end.lines
-
--- a line is in one of the ranges
-abbrev pub is_asked : List LineRange → ℕ → Bool
-is_asked [] n = false
-is_asked (r ∷ asked) n = (nat_le r.first n && nat_le n r.last) || is_asked asked n
 
 -- the hunk touches no line of the ranges
 abbrev pub IsUntouched : List LineRange → Hunk → Type 0
@@ -39,16 +35,6 @@ meets r h = if nat_lt r.last r.first then false
 abbrev pub touched_by : List LineRange → Hunk → Bool
 touched_by [] h = false
 touched_by (r ∷ asked) h = meets r h || touched_by asked h
-
--- each range ends before the line
-abbrev pub all_before : List LineRange → ℕ → Bool
-all_before [] line = true
-all_before (r ∷ asked) line = nat_lt r.last line && all_before asked line
-
--- no range begins before the line, nor before the range before it
-abbrev pub ascend_after : ℕ → List LineRange → Bool
-ascend_after first [] = true
-ascend_after first (r ∷ asked) = nat_le first r.first && ascend_after r.first asked
 
 abbrev pub has_true : List Bool → Bool
 has_true [] = false

@@ -7,7 +7,7 @@ use Rattle.yf_rules.specs.Headline.{Headline}
 use Rattle.yf_parts.specs.Asked.{AllUntouched, Settled, touched_by}
 use Rattle.yf_parts.specs.Hunks.{Differ, origin, spliced}
 use Rattle.yf_parts.specs.Tries.{Tried, TryFails, near_all}
-use Rattle.yf_parts.specs.declared.asked.LineRange.{LineRange}
+use Rattle.yf_line_ranges.specs.declared.range.LineRange.{LineRange}
 use Rattle.yf_parts.specs.declared.hunks.Hunk.{Hunk}
 
 -- v is the text t with some of the hunks applied by which t and its formatting differ, for the lines that are asked for

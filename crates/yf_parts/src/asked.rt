@@ -4,13 +4,7 @@ ghost use Rattle.yf_parts.specs.Asked.{has_true, meets, touched_by};
 
 use crate::hunks::Hunk;
 use std::alloc::{AllocError, Global};
-
-/// Lines of a text by their numbers, from 1: all from `first` to `last`, and none if `last` is less than `first`.
-#[derive(Clone, Copy)]
-pub struct LineRange {
-    pub first: usize,
-    pub last: usize,
-}
+use yf_line_ranges::range::LineRange;
 
 /// Returns whether a hunk touches a line of a range.
 pub fn meets(range: LineRange, hunk: Hunk) -> bool

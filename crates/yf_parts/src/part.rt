@@ -7,7 +7,7 @@ ghost use Rattle.yf_parts.specs.Tries.{IsOther, Tried, TryFails, near_all};
 ghost use Rattle.yf_rules.specs.Headline.{Headline};
 ghost use Rattle.yf_stream.specs.StreamReader.{StreamFault};
 
-use crate::asked::{LineRange, has_true};
+use crate::asked::has_true;
 use crate::candidates::{chosen, counts};
 use crate::hunks::{Hunk, hunks_between};
 use crate::splice::spliced;
@@ -15,6 +15,7 @@ use crate::touched::touched;
 use std::alloc::{AllocError, Global};
 use yf_forms::style::Style;
 use yf_laws::every_text::{formattings_hold, texts_are_read_and_formatted};
+use yf_line_ranges::range::LineRange;
 use yf_lines::fault::Fault;
 use yf_rules::format::format;
 

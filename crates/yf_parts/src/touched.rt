@@ -1,10 +1,12 @@
 //! Which hunks touch the lines that are asked for.
 ghost use Rattle.std.specs.Prelude.{◌≡◌, ◌≤◌, IfOk, drop, length, map, take, true};
-ghost use Rattle.yf_parts.specs.Asked.{all_before, ascend_after, touched_by};
+ghost use Rattle.yf_line_ranges.specs.Ranges.{all_before, ascend_after};
+ghost use Rattle.yf_parts.specs.Asked.{touched_by};
 
-use crate::asked::{LineRange, meets, touched_by_each};
+use crate::asked::{meets, touched_by_each};
 use crate::hunks::Hunk;
 use std::alloc::{AllocError, Global};
+use yf_line_ranges::range::LineRange;
 
 /// Returns whether no range begins before the one before it.
 fn ascend(asked: &[LineRange]) -> bool

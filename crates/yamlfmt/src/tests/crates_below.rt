@@ -3,6 +3,7 @@
 mod block_scalars;
 mod comments;
 mod explained;
+mod line_ranges;
 mod lines;
 mod mistakes;
 mod nodes;

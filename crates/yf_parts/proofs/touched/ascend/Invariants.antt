@@ -1,6 +1,6 @@
 -- The ranges so far are in order.
 use Rattle.std.proofs.Common.{◌≡◌, drop}
-use Rattle.yf_parts.specs.Asked.{ascend_after}
+use Rattle.yf_line_ranges.specs.Ranges.{ascend_after}
 use Rattle.yf_parts.proofs.touched.ascend.Given as goal
 
 abbrev pub invariant-loop-range : goal.invariant-loop-range

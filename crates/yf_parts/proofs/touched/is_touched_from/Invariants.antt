@@ -1,6 +1,7 @@
 -- The hunk touches none of the ranges so far.
 use Rattle.std.proofs.Common.{◌≡◌, ◌-◌, ◌≤◌, length, drop, true}
-use Rattle.yf_parts.specs.Asked.{ascend_after, touched_by}
+use Rattle.yf_line_ranges.specs.Ranges.{ascend_after}
+use Rattle.yf_parts.specs.Asked.{touched_by}
 use Rattle.yf_parts.proofs.touched.is_touched_from.Given as goal
 
 abbrev pub invariant-loop-at : goal.invariant-loop-at

@@ -1,6 +1,6 @@
 -- The ranges so far end before the line.
 use Rattle.std.proofs.Common.{◌≡◌, ◌-◌, ◌≤◌, length, take, true}
-use Rattle.yf_parts.specs.Asked.{all_before}
+use Rattle.yf_line_ranges.specs.Ranges.{all_before}
 use Rattle.yf_parts.proofs.touched.passed.Given as goal
 
 abbrev pub invariant-loop-at : goal.invariant-loop-at

@@ -1,7 +1,8 @@
 -- The flags so far, and those of the hunks that are left.
 use Rattle.std.proofs.Common.{◌≡◌, ◌++◌, ◌≤◌, drop, take, length, true}
 use Rattle.std.specs.Prelude.{map}
-use Rattle.yf_parts.specs.Asked.{all_before, touched_by}
+use Rattle.yf_line_ranges.specs.Ranges.{all_before}
+use Rattle.yf_parts.specs.Asked.{touched_by}
 use Rattle.yf_parts.proofs.touched.touched_in_order.Given as goal
 
 abbrev pub invariant-loop-hunk : goal.invariant-loop-hunk
