@@ -172,7 +172,8 @@ fn refusal_words(fault: &Fault) -> &'static str
     match fault {
         Fault::Syntax { what, .. } => what,
         Fault::TooDeep { .. } => "more than 1,024 collections would be open here",
-        Fault::UnknownHandle { .. } => "no %TAG directive of this document declares the tag's handle",
+        Fault::UnknownHandle { .. } =>
+            "no %TAG directive of this document declares the tag's handle",
         Fault::UnknownAlias { .. } => "no anchor with this name comes before it in this document",
         Fault::RepeatedDirective { .. } => "a document has one %YAML, and one %TAG for each handle",
         Fault::BadVersion { .. } => "unsupported YAML version: write 1.2",

@@ -44,10 +44,10 @@ publication params = call (codes "textDocument/publishDiagnostics") params
 
 -- the problems of the text of an open document, with its version
 pub record Publishes (claim : TextClaim) (e : Encoding) (uri : List ℕ) (was : OpenText) (sent : Option Data) : Type 0
-    where
-  pub found : List Found
-  pub finds : claim.Finds was.text found
-  pub is : sent ≡ Some (publication (published uri was.version (diagnostics e was.text found)))
+  where
+    pub found : List Found
+    pub finds : claim.Finds was.text found
+    pub is : sent ≡ Some (publication (published uri was.version (diagnostics e was.text found)))
 
 -- what is published of the document with a URI: no problems if it is not open
 abbrev pub PublishesFor : TextClaim → Encoding → List ℕ → Option OpenText → Option Data → Type 0

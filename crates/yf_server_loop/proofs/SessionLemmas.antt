@@ -174,16 +174,23 @@ module _ (claim : TextClaim) (first : Moment) where
     rest = rest;
     sent = s.sent ++ t.0;
     server = next;
-    ends = (session_more middle last s.bodies inbox s.sent rest t.0 server next (Some is_success) s.session t.1,
-        writes_more first middle last s.sent t.0 s.writes t.2, t.1.works ∙ s.works);
+    ends = (
+      session_more middle last s.bodies inbox s.sent rest t.0 server next (Some is_success) s.session t.1,
+      writes_more first middle last s.sent t.0 s.writes t.2,
+      t.1.works ∙ s.works,
+    );
   }
   session_ends middle last server next inbox rest count ended.WriteFailed s t = record {
     bodies = s.bodies ++ t.2.body ∷ [];
     rest = rest;
     sent = s.sent ++ t.0;
     server = next;
-    ends = (t.1, session_more middle last s.bodies inbox s.sent rest t.0 server next t.1 s.session t.2,
-        breaks_more first middle last s.sent t.0 s.writes t.3, t.2.works ∙ s.works);
+    ends = (
+      t.1,
+      session_more middle last s.bodies inbox s.sent rest t.0 server next t.1 s.session t.2,
+      breaks_more first middle last s.sent t.0 s.writes t.3,
+      t.2.works ∙ s.works,
+    );
   }
   session_ends middle last server next inbox rest count ended.TooMany s t = absurd t
   session_ends middle last server next inbox rest count ended.EndOfInput s t = record {
@@ -191,36 +198,44 @@ module _ (claim : TextClaim) (first : Moment) where
     rest = t.0;
     sent = s.sent;
     server = server;
-    ends = (session_stays middle last s.bodies inbox s.sent t.0 server s.session t.1,
-        stays_ends middle last server inbox s.sent t.0 s.writes t.1,
-        ends_first middle last t.0 ended.EndOfInput s.works t.2);
+    ends = (
+      session_stays middle last s.bodies inbox s.sent t.0 server s.session t.1,
+      stays_ends middle last server inbox s.sent t.0 s.writes t.1,
+      ends_first middle last t.0 ended.EndOfInput s.works t.2,
+    );
   }
   session_ends middle last server next inbox rest count (ended.Frame error) s t = record {
     bodies = s.bodies;
     rest = t.0;
     sent = s.sent;
     server = server;
-    ends = (session_stays middle last s.bodies inbox s.sent t.0 server s.session t.1,
-        stays_ends middle last server inbox s.sent t.0 s.writes t.1,
-        ends_first middle last t.0 (ended.Frame error) s.works t.2);
+    ends = (
+      session_stays middle last s.bodies inbox s.sent t.0 server s.session t.1,
+      stays_ends middle last server inbox s.sent t.0 s.writes t.1,
+      ends_first middle last t.0 (ended.Frame error) s.works t.2,
+    );
   }
   session_ends middle last server next inbox rest count ended.ReadFailed s t = record {
     bodies = s.bodies;
     rest = t.0;
     sent = s.sent;
     server = server;
-    ends = (session_stays middle last s.bodies inbox s.sent t.0 server s.session t.1,
-        stays_ends middle last server inbox s.sent t.0 s.writes t.1,
-        ends_first middle last t.0 ended.ReadFailed s.works t.2);
+    ends = (
+      session_stays middle last s.bodies inbox s.sent t.0 server s.session t.1,
+      stays_ends middle last server inbox s.sent t.0 s.writes t.1,
+      ends_first middle last t.0 ended.ReadFailed s.works t.2,
+    );
   }
   session_ends middle last server next inbox rest count ended.Memory s t = record {
     bodies = s.bodies;
     rest = t.0;
     sent = s.sent;
     server = server;
-    ends = (session_stays middle last s.bodies inbox s.sent t.0 server s.session t.1,
-        stays_ends middle last server inbox s.sent t.0 s.writes t.1,
-        ends_first middle last t.0 ended.Memory s.works t.2);
+    ends = (
+      session_stays middle last s.bodies inbox s.sent t.0 server s.session t.1,
+      stays_ends middle last server inbox s.sent t.0 s.writes t.1,
+      ends_first middle last t.0 ended.Memory s.works t.2,
+    );
   }
 
   pub session_full : (now : Moment) (server : Server) (inbox : List ℕ) (count : ℕ) → 2 ^ 64 - 1 ≤ count

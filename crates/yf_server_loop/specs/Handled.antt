@@ -55,15 +55,15 @@ pub record IsRefused (before : Server) (answer : List ℕ) (after : Server) (exi
 
 -- memory for a request was refused: it gets an error, and the server is as it was
 pub record IsUndone (before : Server) (value : Data) (answer : List ℕ) (after : Server) (exit : Option Bool) : Type 0
-    where
-  pub same : IsSame before after
-  pub goes_on : exit ≡ None
-  pub id : Data
-  pub method : List ℕ
-  pub asks : kind_of value ≡ request id method
-  pub sent : Data
-  pub fails : FailsWith id RequestFailed (Some sent)
-  pub written : IsWritten answer sent
+  where
+    pub same : IsSame before after
+    pub goes_on : exit ≡ None
+    pub id : Data
+    pub method : List ℕ
+    pub asks : kind_of value ≡ request id method
+    pub sent : Data
+    pub fails : FailsWith id RequestFailed (Some sent)
+    pub written : IsWritten answer sent
 
 -- the server takes one step with a message, and what it sends is written, and then what it publishes
 pub record IsStep (claim : TextClaim) (before : Server) (value : Data) (answer : List ℕ) (after : Server)

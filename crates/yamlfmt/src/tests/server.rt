@@ -39,9 +39,7 @@ fn is_served(alloc: Global) -> Result<bool, AllocError> {
     let received = framed(alloc, &RECEIVED)?;
     let sent = framed(alloc, &SENT)?;
     let answer = answer_to(alloc, Asked::Serve, &Style::house(), received.as_slice());
-    Ok(answer.status == 0
-        && answer.output.as_slice() == sent.as_slice()
-        && answer.line.is_empty())
+    Ok(answer.status == 0 && answer.output.as_slice() == sent.as_slice() && answer.line.is_empty())
 }
 
 #[test]
