@@ -5,3 +5,5 @@ pub mod SegmentLemmas
 pub mod PatternLemmas
 pub mod PathLemmas
 pub mod OneMeaningLemmas
+pub mod SameTextsLemmas
+pub mod LocatedLemmas

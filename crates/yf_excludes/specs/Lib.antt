@@ -9,4 +9,5 @@ pub mod Classes
 pub mod Segments
 pub mod Patterns
 pub mod Names
+pub mod Located
 pub mod OneMeaning

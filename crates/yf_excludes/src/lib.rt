@@ -4,6 +4,7 @@
 pub mod atom;
 pub mod excluded;
 pub mod laws;
+pub mod located;
 mod parts;
 pub mod path;
 pub mod pattern;

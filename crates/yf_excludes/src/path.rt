@@ -1,7 +1,7 @@
 //! Paths, as the lists of their names.
-ghost use Rattle.std.specs.Prelude.{◌≡◌, IfOk, MatchBool, None, Some};
+ghost use Rattle.std.specs.Prelude.{◌≡◌, [], IfOk, MatchBool, None, Some};
 ghost use Rattle.std.specs.Option.{option_map};
-ghost use Rattle.yf_excludes.specs.Names.{NamesOf, after_part, is_dots, is_nothing, texts};
+ghost use Rattle.yf_excludes.specs.Names.{Leads, NamesOf, after_part, is_dots, is_nothing, texts};
 
 use crate::parts::{after_index, slash_at, up_to};
 use crate::read_pattern::begins_with;
@@ -47,6 +47,15 @@ pub fn normalised<'a>(alloc: Global, path: &'a [u8]) -> Result<Option<Vec<&'a [u
     if begins_with(path, b'/') {
         return Ok(None);
     }
+    names_led(alloc, path)
+}
+
+/// Returns the names to which the parts of a path lead, one after the other. `.` and a slash after another one count
+/// for nothing, also at the beginning, and `..` takes back the name before it. Returns `None` if `..` takes back a name
+/// and there is none.
+pub fn names_led<'a>(alloc: Global, path: &'a [u8]) -> Result<Option<Vec<&'a [u8]>>, AllocError>
+    ensures { IfOk result (λ o. Leads [] path.now (option_map (λ v. texts v.items) o)) }
+{
     let mut names = Vec::new(alloc);
     let mut rest = path;
     'parts: loop {

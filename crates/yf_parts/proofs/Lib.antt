@@ -13,3 +13,7 @@ pub mod AskedLemmas
 pub mod VerifiedLemmas
 -- `part_of`
 pub mod PartLemmas
+-- `run_part`
+pub mod RunLemmas
+-- `show_place` and `show_diff`
+pub mod ShowLemmas

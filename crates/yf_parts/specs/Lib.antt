@@ -6,3 +6,6 @@ pub mod Asked
 pub mod Tries
 -- what is proved of a part
 pub mod PartKept
+-- how a text with some lines formatted is shown, and the run that shows it
+pub mod Shown
+pub mod PartRun

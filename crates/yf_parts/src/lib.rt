@@ -22,5 +22,7 @@ pub mod asked;
 pub mod candidates;
 pub mod hunks;
 pub mod part;
+pub mod run;
+pub mod show;
 pub mod splice;
 pub mod touched;

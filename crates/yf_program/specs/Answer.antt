@@ -35,7 +35,7 @@ use Rattle.yf_rules.specs.Runs.Input.{ReadRefusal}
 use Rattle.yf_rules.specs.Runs.Run as Runs
 use Rattle.yf_rules.specs.Runs.Run.{Gave, NotationWritten, RefusedEvents, RefusedCheck, RefusedFmt, FormattingWritten, FindingsWritten}
 use Rattle.yf_program.specs.Named.{named_lines}
-use Rattle.yf_program.specs.Quoted.{quoted}
+use Rattle.yf_rules.specs.Quoted.{quoted}
 use Rattle.yf_program.specs.Rewriting.{FileRewrite}
 use Rattle.yf_program.specs.Server.{Served}
 use Rattle.yf_program.specs.Report.{check_status, fault_line, fault_status, format_status}

@@ -7,6 +7,5 @@ pub mod Report
 pub mod Problems
 pub mod Server
 pub mod Named
-pub mod Quoted
 -- inputs in memory
 pub mod MemoryInputs

@@ -14,7 +14,6 @@ pub mod memory_inputs;
 pub mod named;
 pub mod problems;
 pub mod program;
-pub mod quoted;
 pub mod replacing;
 pub mod report;
 pub mod reserved;

@@ -5,11 +5,10 @@ ghost use Rattle.yf_rules.specs.Runs.Compare.{IsClean};
 ghost use Rattle.yf_rules.specs.Runs.Diffed.{DiffRun, RefusedDiff};
 ghost use Rattle.yf_rules.specs.Runs.Run.{Gave, Keeps};
 ghost use Rattle.yf_program.specs.Answer.{FileRefused, FileSets, Ran, RanCheck, RanEvents, RanFmt, RanFmtCheck, RanFmtDiff, UsageWritten, WrittenOut, name_of};
-ghost use Rattle.yf_program.specs.Quoted.{quoted};
+ghost use Rattle.yf_rules.specs.Quoted.{quoted};
 
 use crate::each::name_of;
 use crate::further::{report_input, tell_findings};
-use crate::quoted::quoted;
 use crate::report::report;
 use crate::server::run_server;
 use crate::streams::Streams;
@@ -26,6 +25,7 @@ use yf_lines::watched::{Sink, Source};
 use yf_rules::compare::run_fmt_check;
 use yf_rules::diff::run_fmt_diff;
 use yf_rules::input::read_all;
+use yf_rules::quoted::quoted;
 use yf_rules::run::{INPUT_LIMIT, run_check_all, run_events, run_fmt};
 use yf_settings::settings::{no_key, style_from_toml};
 

@@ -7,7 +7,7 @@
 pub mod checkstyle;
 pub mod code_quality;
 pub mod junit;
-mod members;
+pub mod members;
 pub mod problem;
 pub mod problems_json;
 pub mod reports;

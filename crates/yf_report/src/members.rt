@@ -8,7 +8,7 @@ use json::Writer;
 use std::alloc::AllocError;
 
 /// Adds a member that is a text.
-pub(crate) fn write_text(out: &mut Writer, name: &str, text: &str) -> Result<(), AllocError>
+pub fn write_text(out: &mut Writer, name: &str, text: &str) -> Result<(), AllocError>
     ensures { OnOk result (Adds out.old out.new (member_tokens name.now (string text.now))) }
 {
     out.key(name)?;
@@ -17,7 +17,7 @@ pub(crate) fn write_text(out: &mut Writer, name: &str, text: &str) -> Result<(),
 }
 
 /// Adds a member that is `true` or `false`.
-pub(crate) fn write_flag(out: &mut Writer, name: &str, flag: bool) -> Result<(), AllocError>
+pub fn write_flag(out: &mut Writer, name: &str, flag: bool) -> Result<(), AllocError>
     ensures { OnOk result (Adds out.old out.new (member_tokens name.now (boolean flag))) }
 {
     out.key(name)?;
@@ -26,7 +26,7 @@ pub(crate) fn write_flag(out: &mut Writer, name: &str, flag: bool) -> Result<(),
 }
 
 /// Adds a member that is a number.
-pub(crate) fn write_number(out: &mut Writer, name: &str, value: usize) -> Result<(), AllocError>
+pub fn write_number(out: &mut Writer, name: &str, value: usize) -> Result<(), AllocError>
     ensures { OnOk result (Adds out.old out.new (key name.now ∷ number (decimal value) ∷ [])) }
 {
     out.key(name)?;
@@ -35,7 +35,7 @@ pub(crate) fn write_number(out: &mut Writer, name: &str, value: usize) -> Result
 }
 
 /// Adds a member that is `null`.
-pub(crate) fn write_null(out: &mut Writer, name: &str) -> Result<(), AllocError>
+pub fn write_null(out: &mut Writer, name: &str) -> Result<(), AllocError>
     ensures { OnOk result (Adds out.old out.new (member_tokens name.now null)) }
 {
     out.key(name)?;

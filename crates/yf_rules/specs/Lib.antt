@@ -4,6 +4,7 @@ pub mod Check
 pub mod Findings
 pub mod Headline
 pub mod NothingToFix
+pub mod Quoted
 pub mod TreeSets
 pub mod UniqueFindings
 pub mod CheckAfterFormat

@@ -77,9 +77,9 @@ fn read_difference<R: Source>(
     }
 }
 
-// Returns the position of the first character in which a text differs from another one, or of its end if it is a prefix
-// of that; nothing if they are the same. A table of lines is made only if they differ.
-fn difference(alloc: Global, text: &str, other: &str) -> Result<Option<Position>, AllocError>
+/// Returns the position of the first character in which a text differs from another one, or of its end if it is a prefix
+/// of that; nothing if they are the same. A table of lines is made only if they differ.
+pub fn difference(alloc: Global, text: &str, other: &str) -> Result<Option<Position>, AllocError>
     ensures { IfOk result (λ place. MatchOption place (text.now ≡ other.now) (DiffersFirst text.now other.now)) }
 {
     if text == other {
@@ -122,8 +122,8 @@ fn after_same(text: &str, other: &str, at: usize) -> Option<usize>
     }
 }
 
-// Writes the line for a text that is not its own formatting.
-fn write_difference<W: Sink>(place: Position, writer: &mut W) -> Result<(), Fault>
+/// Writes the line `L:C not formatted`.
+pub fn write_difference<W: Sink>(place: Position, writer: &mut W) -> Result<(), Fault>
     ensures { WriteEnds (stream_of W.contents W.has_failed writer.old) (stream_of W.contents W.has_failed writer.new)
         (difference_line place) result }
 {

@@ -12,6 +12,7 @@ pub mod finding;
 pub mod format;
 pub mod headline;
 pub mod input;
+pub mod quoted;
 pub mod rule;
 pub mod rules;
 pub mod run;

@@ -1,2 +1,6 @@
--- `style_from_toml`
+-- `least_wrong_key`
 pub mod SettingsLemmas
+-- `settings_from_toml`
+pub mod FileSettingsLemmas
+-- `patterns_at`, `required_at`
+pub mod TextsLemmas

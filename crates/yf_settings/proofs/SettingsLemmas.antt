@@ -16,17 +16,14 @@ use Rattle.std.specs.Ordering.{match_ordering, ordering_reverse}
 use Rattle.std.specs.String.{string_cmp}
 use Rattle.toml.specs.Data.{Data, Members, no_members, member, get_member}
 use Rattle.toml.specs.View.{view, members_view}
-use Rattle.toml.specs.Errors.{IsBlank}
-use Rattle.toml.specs.Parse.{parse_document, lines}
 use Rattle.toml.proofs.Views.{Entry}
-use Rattle.yf_settings.specs.Settings.{is_right, IsRight, IsLeastWrong, RefusesSettings}
-use Rattle.yf_lines.specs.declared.fault.Fault.{Fault}
-use Rattle.yf_lines.specs.declared.fault.Fault.TheVariants.{Config, Memory}
+use Rattle.yf_settings.specs.Settings.{is_right, IsRight, IsLeastWrong}
 
 -- The first key whose value is wrong.
-abbrev pub first_wrong : Members → Option (List ℕ)
-first_wrong no_members = None
-first_wrong (member key value rest) = if is_right key value then first_wrong rest else Some key
+abbrev pub first_wrong : Bool → Bool → Members → Option (List ℕ)
+first_wrong version patterns no_members = None
+first_wrong version patterns (member key value rest) =
+    if is_right version patterns key value then first_wrong version patterns rest else Some key
 
 -- Each key has P.
 abbrev pub KeysHave : (List ℕ → Type 0) → Members → Type 0
@@ -72,86 +69,73 @@ key_has P k v (member l d rest) all found = elim (found_cases k l d v rest found
   | inr f ↦ key_has P k v rest all.1 f
 ]
 
-right_by : (b : Bool) (l : List ℕ) (d : Data) (rest : Members) → is_right l d ≡ b
-    → (if b then first_wrong rest else Some l) ≡ None
-    → (first_wrong rest ≡ None → (key : List ℕ) → IsRight rest key) → (key : List ℕ) → IsRight (member l d rest) key
-right_by true l d rest right none more key value found = elim (found_cases key l d value rest found) [
-  | inl e ↦ rw (e.0, ← e.1) right
-  | inr f ↦ more none key value f
-]
-right_by false l d rest right none more key value found = cc
+module _ (version patterns : Bool) where
+  right_by : (b : Bool) (l : List ℕ) (d : Data) (rest : Members) → is_right version patterns l d ≡ b
+      → (if b then first_wrong version patterns rest else Some l) ≡ None
+      → (first_wrong version patterns rest ≡ None → (key : List ℕ) → IsRight version patterns rest key)
+      → (key : List ℕ) → IsRight version patterns (member l d rest) key
+  right_by true l d rest right none more key value found = elim (found_cases key l d value rest found) [
+    | inl e ↦ rw (e.0, ← e.1) right
+    | inr f ↦ more none key value f
+  ]
+  right_by false l d rest right none more key value found = cc
 
--- If there is no first wrong key, each key is right.
-pub all_right : (ms : Members) → first_wrong ms ≡ None → (key : List ℕ) → IsRight ms key
-all_right no_members none key value found = cc
-all_right (member l d rest) none key value found =
-    right_by (is_right l d) l d rest refl none (all_right rest) key value found
+  -- If there is no first wrong key, each key is right.
+  pub all_right : (ms : Members) → first_wrong version patterns ms ≡ None → (key : List ℕ)
+      → IsRight version patterns ms key
+  all_right no_members none key value found = cc
+  all_right (member l d rest) none key value found =
+      right_by (is_right version patterns l d) l d rest refl none (all_right rest) key value found
 
--- A key above the first one is found in the rest.
-found_past : (k l : List ℕ) (d : Data) (rest : Members) → slice_cmp nat_cmp l k ≡ Less
-    → get_member k (member l d rest) ≡ get_member k rest
-found_past k l d rest less =
-    let more : slice_cmp nat_cmp k l ≡ Greater = nat_list_cmp_total.antisymm k l ∙ ap ordering_reverse less in
-    rw more
+  -- A key above the first one is found in the rest.
+  found_past : (k l : List ℕ) (d : Data) (rest : Members) → slice_cmp nat_cmp l k ≡ Less
+      → get_member k (member l d rest) ≡ get_member k rest
+  found_past k l d rest less =
+      let more : slice_cmp nat_cmp k l ≡ Greater = nat_list_cmp_total.antisymm k l ∙ ap ordering_reverse less in
+      rw more
 
-least_more : (l : List ℕ) (d : Data) (rest : Members) (key : List ℕ) → is_right l d ≡ true
-    → KeysHave (λ k. slice_cmp nat_cmp l k ≡ Less) rest
-    → IsLeastWrong rest key → IsLeastWrong (member l d rest) key
-least_more l d rest key right above below =
-    let less : slice_cmp nat_cmp l key ≡ Less =
-    key_has (λ k. slice_cmp nat_cmp l k ≡ Less) key below.wrong.0 rest above below.wrong.1 in
-    record {
-      wrong = (below.wrong.0, found_past key l d rest less ∙ below.wrong.1, below.wrong.2);
-      least = λ other w. elim (found_cases other l d w.0 rest w.1) [
-        | inl e ↦ let bad : is_right l d ≡ false = rw (← e.0, e.1) (w.2) in cc
-        | inr f ↦ below.least other (w.0, f, w.2)
-      ];
-    }
+  least_more : (l : List ℕ) (d : Data) (rest : Members) (key : List ℕ) → is_right version patterns l d ≡ true
+      → KeysHave (λ k. slice_cmp nat_cmp l k ≡ Less) rest
+      → IsLeastWrong version patterns rest key → IsLeastWrong version patterns (member l d rest) key
+  least_more l d rest key right above below =
+      let less : slice_cmp nat_cmp l key ≡ Less =
+      key_has (λ k. slice_cmp nat_cmp l k ≡ Less) key below.wrong.0 rest above below.wrong.1 in
+      record {
+        wrong = (below.wrong.0, found_past key l d rest less ∙ below.wrong.1, below.wrong.2);
+        least = λ other w. elim (found_cases other l d w.0 rest w.1) [
+          | inl e ↦ let bad : is_right version patterns l d ≡ false = rw (← e.0, e.1) (w.2) in cc
+          | inr f ↦ below.least other (w.0, f, w.2)
+        ];
+      }
 
-least_here : (l : List ℕ) (d : Data) (rest : Members) → is_right l d ≡ false
-    → KeysHave (λ k. slice_cmp nat_cmp l k ≡ Less) rest
-    → IsLeastWrong (member l d rest) l
-least_here l d rest wrong above = record {
-  wrong = (d, rw (tied_itself nat_list_cmp_total l) refl, wrong);
-  least = λ other w. elim (found_cases other l d w.0 rest w.1) [
-    | inl e ↦ rw (e.0, tied_itself nat_list_cmp_total l) refl
-    | inr f ↦ rw (key_has (λ k. slice_cmp nat_cmp l k ≡ Less) other w.0 rest above f) refl
-  ];
-}
+  least_here : (l : List ℕ) (d : Data) (rest : Members) → is_right version patterns l d ≡ false
+      → KeysHave (λ k. slice_cmp nat_cmp l k ≡ Less) rest
+      → IsLeastWrong version patterns (member l d rest) l
+  least_here l d rest wrong above = record {
+    wrong = (d, rw (tied_itself nat_list_cmp_total l) refl, wrong);
+    least = λ other w. elim (found_cases other l d w.0 rest w.1) [
+      | inl e ↦ rw (e.0, tied_itself nat_list_cmp_total l) refl
+      | inr f ↦ rw (key_has (λ k. slice_cmp nat_cmp l k ≡ Less) other w.0 rest above f) refl
+    ];
+  }
 
-least_by : (b : Bool) (l : List ℕ) (d : Data) (rest : Members) (key : List ℕ) → is_right l d ≡ b
-    → (if b then first_wrong rest else Some l) ≡ Some key → KeysHave (λ k. slice_cmp nat_cmp l k ≡ Less) rest
-    → (first_wrong rest ≡ Some key → IsLeastWrong rest key) → IsLeastWrong (member l d rest) key
-least_by true l d rest key right first above more = least_more l d rest key right above (more first)
-least_by false l d rest key wrong first above more =
-    subst (λ k. IsLeastWrong (member l d rest) k) (same_Some _ _ first) (least_here l d rest wrong above)
+  least_by : (b : Bool) (l : List ℕ) (d : Data) (rest : Members) (key : List ℕ) → is_right version patterns l d ≡ b
+      → (if b then first_wrong version patterns rest else Some l) ≡ Some key
+      → KeysHave (λ k. slice_cmp nat_cmp l k ≡ Less) rest
+      → (first_wrong version patterns rest ≡ Some key → IsLeastWrong version patterns rest key)
+      → IsLeastWrong version patterns (member l d rest) key
+  least_by true l d rest key right first above more = least_more l d rest key right above (more first)
+  least_by false l d rest key wrong first above more =
+      subst (λ k. IsLeastWrong version patterns (member l d rest) k) (same_Some _ _ first) (least_here l d rest wrong
+      above)
 
--- The first wrong key is the least one.
-pub first_is_least : (ms : Members) (key : List ℕ) → Ascend ms → first_wrong ms ≡ Some key → IsLeastWrong ms key
-first_is_least no_members key ascend first = cc
-first_is_least (member l d rest) key ascend first =
-    least_by (is_right l d) l d rest key refl first ascend.0 (first_is_least rest key ascend.1)
+  -- The first wrong key is the least one.
+  pub first_is_least : (ms : Members) (key : List ℕ) → Ascend ms → first_wrong version patterns ms ≡ Some key
+      → IsLeastWrong version patterns ms key
+  first_is_least no_members key ascend first = cc
+  first_is_least (member l d rest) key ascend first =
+      least_by (is_right version patterns l d) l d rest key refl first ascend.0 (first_is_least rest key ascend.1)
 
-pub first_found : (e : Entry) (es : List Entry) → is_right (string_bytes e.0) (view e.1) ≡ false
-    → first_wrong (members_view (e ∷ es)) ≡ Some (string_bytes e.0)
-first_found e es wrong = rw wrong refl
-
--- A text without a key has the empty table.
-blank_is_empty : (text : List ℕ) → IsBlank text → parse_document text ≡ Some no_members
-unfolding parse_document lines
-blank_is_empty text blank = rw blank refl
-
--- A text with a wrong key has a key.
-pub wrong_is_not_blank : (text : List ℕ) (table : Members) (key : List ℕ) → parse_document text ≡ Some table
-    → IsLeastWrong table key → IsBlank text → ⊥
-wrong_is_not_blank text table key read least blank =
-    let empty : table ≡ no_members = same_Some _ _ (sym read ∙ blank_is_empty text blank) in
-    let found : get_member key no_members ≡ Some least.wrong.0 =
-    subst (λ (t : Members). get_member key t ≡ Some least.wrong.0) empty least.wrong.1 in
-    cc
-
--- The fault names a wrong key, or memory was refused.
-pub refuses_key : (text : List ℕ) (table : Members) (key : List ℕ) (fault : Fault) → parse_document text ≡ Some table
-    → IsLeastWrong table key → (fault ≡ Config key) ⊎ (fault ≡ Memory) → RefusesSettings text fault
-refuses_key text table key fault read least (inl e) = rw (e, read) least
-refuses_key text table key fault read least (inr e) = rw e (λ blank. wrong_is_not_blank text table key read least blank)
+  pub first_found : (e : Entry) (es : List Entry) → is_right version patterns (string_bytes e.0) (view e.1) ≡ false
+      → first_wrong version patterns (members_view (e ∷ es)) ≡ Some (string_bytes e.0)
+  first_found e es wrong = rw wrong refl

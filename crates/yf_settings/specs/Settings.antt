@@ -66,8 +66,9 @@ invisible_of (string word) =
 invisible_of _ = None
 
 -- Whether the key is one of the settings, and the value is one that the setting can have.
-abbrev pub is_right : List ℕ → Data → Bool
-is_right key value =
+-- (version, patterns: whether the values of `required_version` and `exclude` are right)
+abbrev pub is_right : Bool → Bool → List ℕ → Data → Bool
+is_right version patterns key value =
     if bytes_eq key (codes "indent") then is_some (indent_of value)
     else if bytes_eq key (codes "max_line") then is_some (max_line_of value)
     else if bytes_eq key (codes "quotes") then is_some (quotes_of value)
@@ -75,28 +76,31 @@ is_right key value =
     else if bytes_eq key (codes "document_start") then is_some (document_start_of value)
     else if bytes_eq key (codes "comments") then is_some (comments_of value)
     else if bytes_eq key (codes "invisible") then is_some (invisible_of value)
+    else if bytes_eq key (codes "required_version") then version
+    else if bytes_eq key (codes "exclude") then patterns
     else false
 
 -- A key that the table does not have, or whose value is right.
-abbrev pub IsRight : Members → List ℕ → Type 0
-IsRight table key = (value : Data) → get_member key table ≡ Some value → is_right key value ≡ true
+abbrev pub IsRight : Bool → Bool → Members → List ℕ → Type 0
+IsRight version patterns table key =
+    (value : Data) → get_member key table ≡ Some value → is_right version patterns key value ≡ true
 
 -- A key of the table that is no setting, or whose value the setting cannot have.
-abbrev pub IsWrong : Members → List ℕ → Type 0
-IsWrong table key = (value : Data) × (get_member key table ≡ Some value) × (is_right key value ≡ false)
+abbrev pub IsWrong : Bool → Bool → Members → List ℕ → Type 0
+IsWrong version patterns table key =
+    (value : Data) × (get_member key table ≡ Some value) × (is_right version patterns key value ≡ false)
 
 -- The least wrong key, by its bytes.
-pub record IsLeastWrong (table : Members) (key : List ℕ) : Type 0 where
-  pub wrong : IsWrong table key
-  pub least : (other : List ℕ) → IsWrong table other → is_le (slice_cmp nat_cmp key other) ≡ true
+pub record IsLeastWrong (version patterns : Bool) (table : Members) (key : List ℕ) : Type 0 where
+  pub wrong : IsWrong version patterns table key
+  pub least : (other : List ℕ) → IsWrong version patterns table other → is_le (slice_cmp nat_cmp key other) ≡ true
 
 -- The value at a key. If the table has none, it is the value of the house style.
 abbrev pub setting : {X : Type 0} → (Data → Option X) → List ℕ → X → Members → X
 setting read key house table = unwrap_or (option_and_then read (get_member key table)) house
 
--- All keys of the table are right, and it sets this style.
+-- The table sets this style, if its keys are right.
 pub record StyleOfTable (table : Members) (style : Style) : Type 0 where
-  pub right : (key : List ℕ) → IsRight table key
   pub indent : style.indent ≡ setting indent_of (codes "indent") 2 table
   pub max_line : style.max_line ≡ setting max_line_of (codes "max_line") 100 table
   pub quotes : style.quotes ≡ setting quotes_of (codes "quotes") Double table
@@ -115,14 +119,16 @@ pub record IsHouse (style : Style) : Type 0 where
   pub comments : style.comments ≡ Next
   pub invisible : style.invisible ≡ Plain
 
--- The text is TOML, and its table sets the style.
+-- The text is TOML, all keys of its table are right, and it sets the style. `required_version` and `exclude` are no
+-- keys.
 abbrev pub SetsStyle : List ℕ → Style → Type 0
-SetsStyle text style = IsSomeAnd (parse_document text) (λ table. StyleOfTable table style)
+SetsStyle text style = IsSomeAnd (parse_document text)
+    (λ table. ((key : List ℕ) → IsRight false false table key) × StyleOfTable table style)
 
 -- The key is empty if the text is no TOML, and the least wrong key if it is. Memory is refused only if the text has a
 -- key.
 abbrev pub RefusesSettings : List ℕ → Fault → Type 0
 RefusesSettings text (Config key) =
-    MatchOption (parse_document text) (key ≡ []) (λ table. IsLeastWrong table key)
+    MatchOption (parse_document text) (key ≡ []) (λ table. IsLeastWrong false false table key)
 RefusesSettings text Memory = IsBlank text → ⊥
 RefusesSettings text _ = ⊥

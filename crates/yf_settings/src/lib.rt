@@ -1,5 +1,7 @@
-//! The settings file: which style its text sets, and the explanation of a text that sets none.
+//! The settings file: what its text sets, and the explanation of a text that is refused.
 #![tactic(auto)]
 
+pub mod file_settings;
 pub mod settings;
 pub mod settings_words;
+pub mod texts;

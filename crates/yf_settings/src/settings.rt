@@ -1,4 +1,4 @@
-//! Which style the TOML text of a settings file sets.
+//! Which style the TOML text of a settings file sets, and which of its keys are wrong.
 ghost use Rattle.std.specs.Prelude.{◌≡◌, ◌⊎◌, ℕ, ◌≤◌, [], Some, codes, true, MatchOption, MatchResult};
 ghost use Rattle.std.specs.Prelude.{List, option_map};
 ghost use Rattle.toml.specs.Data.{get_member};
@@ -11,6 +11,7 @@ ghost use Rattle.yf_forms.specs.declared.style.DocumentStart.TheVariants.{Always
 ghost use Rattle.yf_lines.specs.declared.invisible.Invisible.TheVariants.{Plain};
 ghost use Rattle.yf_lines.specs.declared.quotes.Quotes.TheVariants.{Double};
 
+use crate::texts::{EXCLUDE, REQUIRED_VERSION};
 use std::alloc::Global;
 use toml::{Table, Value};
 use yf_forms::style::{CommentColumns, DocumentStart, Style};
@@ -36,7 +37,8 @@ const INVISIBLE: &str = "invisible";
 /// Returns the style that a settings text sets. The text is a TOML document with the keys `indent` (an integer from 2
 /// to 8), `max_line` (an integer from 40 to 1000), `quotes` (`"double"` or `"single"`), `seq_indent` (a boolean),
 /// `document_start` (`"always"` or `"keep"`), `comments` (`"next"` or `"block"`) and `invisible` (`"plain"` or
-/// `"escaped"`). A key that the text does not set has the value of the house style.
+/// `"escaped"`). A key that the text does not set has the value of the house style. `required_version` and `exclude`
+/// are no keys here (`settings_from_toml`).
 ///
 /// # Errors
 ///
@@ -47,7 +49,7 @@ pub fn style_from_toml(alloc: Global, text: &str) -> Result<Style, Fault>
     ensures { MatchResult result (λ style. SetsStyle text.now style) (λ fault. RefusesSettings text.now fault) }
 {
     match toml::table_from_str(alloc, text) {
-        Ok(table) => match least_wrong_key(&table) {
+        Ok(table) => match least_wrong_key(&table, false, false) {
             Some(key) => Err(wrong_key(alloc, key)),
             None => Ok(style_of(&table)),
         },
@@ -70,7 +72,7 @@ pub fn no_key(alloc: Global) -> Fault
 }
 
 // The fault of a key.
-fn wrong_key(alloc: Global, key: &str) -> Fault
+pub(crate) fn wrong_key(alloc: Global, key: &str) -> Fault
     ensures { (result ≡ Fault.Config key.now) ⊎ (result ≡ Fault.Memory) }
 {
     match String::from_str(alloc, key) {
@@ -81,13 +83,18 @@ fn wrong_key(alloc: Global, key: &str) -> Fault
     }
 }
 
-// The least key of the table that is no setting, or whose value the setting cannot have.
-fn least_wrong_key<'t>(table: &'t Table) -> Option<&'t str>
-    ensures { MatchOption result ((key : List ℕ) → IsRight (table_view table.now) key)
-        (λ key. IsLeastWrong (table_view table.now) key.now) }
+// The least key of the table that is no setting, or whose value the setting cannot have. (version, patterns: whether
+// the values of `required_version` and `exclude` are right)
+pub(crate) fn least_wrong_key<'t>(
+    table: &'t Table,
+    version: bool,
+    patterns: bool,
+) -> Option<&'t str>
+    ensures { MatchOption result ((key : List ℕ) → IsRight version patterns (table_view table.now) key)
+        (λ key. IsLeastWrong version patterns (table_view table.now) key.now) }
 {
     for (key, value) in table {
-        if !is_right(key.as_str(), value) {
+        if !is_right(version, patterns, key.as_str(), value) {
             return Some(key.as_str());
         }
     }
@@ -95,8 +102,8 @@ fn least_wrong_key<'t>(table: &'t Table) -> Option<&'t str>
 }
 
 // Whether the key is a setting, and the value is one that the setting can have.
-fn is_right(key: &str, value: &Value) -> bool
-    ensures { result ≡ is_right key.now (view value.now) }
+fn is_right(version: bool, patterns: bool, key: &str, value: &Value) -> bool
+    ensures { result ≡ is_right version patterns key.now (view value.now) }
 {
     if key == INDENT {
         return number_between(value, 2, 8).is_some();
@@ -118,6 +125,12 @@ fn is_right(key: &str, value: &Value) -> bool
     }
     if key == INVISIBLE {
         return invisible_of(value).is_some();
+    }
+    if key == REQUIRED_VERSION {
+        return version;
+    }
+    if key == EXCLUDE {
+        return patterns;
     }
     false
 }
@@ -211,15 +224,8 @@ fn invisible_of(value: &Value) -> Option<Invisible>
 }
 
 // The style that the table sets, if its keys are right.
-fn style_of(table: &Table) -> Style
-    ensures indent { result.indent ≡ setting indent_of (codes "indent") 2 (table_view table.now) }
-    ensures max_line { result.max_line ≡ setting max_line_of (codes "max_line") 100 (table_view table.now) }
-    ensures quotes { result.quotes ≡ setting quotes_of (codes "quotes") Double (table_view table.now) }
-    ensures seq_indent { result.seq_indent ≡ setting seq_indent_of (codes "seq_indent") true (table_view table.now) }
-    ensures document_start { result.document_start
-        ≡ setting document_start_of (codes "document_start") Always (table_view table.now) }
-    ensures comments { result.comments ≡ setting comments_of (codes "comments") Next (table_view table.now) }
-    ensures invisible { result.invisible ≡ setting invisible_of (codes "invisible") Plain (table_view table.now) }
+pub(crate) fn style_of(table: &Table) -> Style
+    ensures { StyleOfTable (table_view table.now) result }
 {
     let house = Style::house();
     Style {
@@ -294,7 +300,8 @@ fn invisible_at(table: &Table, house: Invisible) -> Invisible
     }
 }
 
-fn value_at<'t>(table: &'t Table, key: &str) -> Option<&'t Value>
+// The value at a key of the table.
+pub(crate) fn value_at<'t>(table: &'t Table, key: &str) -> Option<&'t Value>
     ensures { option_map (λ v. view v.now) result ≡ get_member key.now (table_view table.now) }
 {
     table.get(key)

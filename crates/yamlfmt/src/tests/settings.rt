@@ -3,9 +3,12 @@
 use crate::tests::answers::{Asked, is_run};
 use std::alloc::Global;
 use yf_forms::style::{CommentColumns, DocumentStart};
+use yf_lines::fault::Fault;
 use yf_lines::invisible::Invisible;
 use yf_lines::quotes::Quotes;
+use yf_settings::file_settings::settings_from_toml;
 use yf_settings::settings::style_from_toml;
+use yf_settings::texts::allows;
 
 /// A settings file, and what it sets: `indent`, `max_line`, `quotes`, `seq_indent`, whether a first document without a `---` stays so,
 /// whether comments keep their blocks, and whether hidden characters are escaped.
@@ -164,6 +167,61 @@ static REFUSED: [(&str, &str); 29] = [
         "config: \u{A0}\u{E9}\\\"\u{2028}\u{1F600}\n",
     ),
 ];
+
+/// Settings files, a version, whether the file is for that version, and the number of its patterns.
+static FURTHER: [(&str, &str, bool, usize); 8] = [
+    ("", "0.2.0", true, 0),
+    ("exclude = []", "0.2.0", true, 0),
+    ("exclude = [\"a\", \"!b/\"]", "0.2.0", true, 2),
+    ("required_version = \">=0.3, <0.4\"", "0.2.0", false, 0),
+    ("required_version = \">=0.3, <0.4\"", "0.3.7", true, 0),
+    ("required_version = \">=0.3, <0.4\"", "0.4.0", false, 0),
+    ("required_version = \"*\"", "0.2.0", true, 0),
+    ("required_version = \"=0.2.0\"", "0.2.0", true, 0),
+];
+
+/// Whether a settings file is for a version and has that many patterns.
+fn is_for(alloc: Global, row: &(&str, &str, bool, usize)) -> bool {
+    match settings_from_toml(alloc, row.0) {
+        Ok(settings) => {
+            allows(alloc, &settings.required, row.1) == Ok(row.2) && settings.exclude.len() == row.3
+        }
+        Err(_) => false,
+    }
+}
+
+/// Settings files whose exclude or required_version is wrong, and the least wrong key.
+static WRONG: [(&str, &str); 11] = [
+    ("exclude = \"a\"", "exclude"),
+    ("exclude = [\"a\", 1]", "exclude"),
+    ("exclude = [\"a\", \"b[\"]", "exclude"),
+    ("exclude = [\"a\\\\\"]", "exclude"),
+    ("indent = 9\nexclude = [1]", "exclude"),
+    ("required_version = 1", "required_version"),
+    ("required_version = \"\"", "required_version"),
+    ("required_version = \"new\"", "required_version"),
+    ("required_version = \">=0.2,\"", "required_version"),
+    ("required_version = \"1\"\nexclude = [[]]", "exclude"),
+    ("a = 1\nexclude = 1", "a"),
+];
+
+/// Whether the fault names this key.
+fn is_wrong(alloc: Global, text: &str, key: &str) -> bool {
+    match settings_from_toml(alloc, text) {
+        Err(Fault::Config { key: found }) => found.as_str() == key,
+        _ => false,
+    }
+}
+
+#[test]
+fn requires_versions_and_excludes(rt: HostRuntime) {
+    for (text, key) in &WRONG {
+        assert!(rt; is_wrong(rt.alloc(), text, key), "{text}");
+    }
+    for row in &FURTHER {
+        assert!(rt; is_for(rt.alloc(), row), "{} {}", row.0, row.1);
+    }
+}
 
 #[test]
 fn sets_what_is_named_or_names_the_least_wrong_key(rt: HostRuntime) {

@@ -1,0 +1,26 @@
+-- The lemmas, each group under the function that it serves.
+
+-- lists that loops make
+pub mod ListLemmas
+-- `count_once_more`
+pub mod CountLemmas
+-- `entries_of`
+pub mod EntryLemmas
+-- `entry_line`
+pub mod LineTextLemmas
+-- `write_baseline`
+pub mod TextLemmas
+-- `read_baseline`, and what is written is read
+pub mod ReadLemmas
+-- `lines_of`, `unlisted` and `missing`
+pub mod ListedLemmas
+-- `sort_entries`
+pub mod SortLemmas
+-- `findings_on_lines`
+pub mod LineLemmas
+-- `entries_go_by_texts`
+pub mod LawLemmas
+-- `entries_come_once`
+pub mod OnceLemmas
+-- `entries_ignore_order`
+pub mod OrderLemmas

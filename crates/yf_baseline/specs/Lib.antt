@@ -1,0 +1,16 @@
+-- texts that were seen
+pub mod SeenTexts
+-- what an entry is, and the entries of findings
+pub mod Entries
+-- how a baseline is written and read
+pub mod Baselines
+-- the order of entries
+pub mod Sorted
+-- those of some things whose flags are set
+pub mod Chosen
+-- which findings a baseline lists, and which entries no longer occur
+pub mod Listed
+-- which ranges have an asked line
+pub mod OnLines
+-- what follows from the definitions
+pub mod Laws

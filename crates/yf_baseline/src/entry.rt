@@ -1,0 +1,25 @@
+//! What a baseline keeps of a finding.
+
+use yf_lines::text::OwnedText;
+
+/// What a baseline keeps of a finding.
+#[derive(Drop)]
+pub struct Entry {
+    /// The file's name as the user wrote it.
+    pub file: OwnedText,
+    /// The rule's id.
+    pub rule: OwnedText,
+    /// The SHA-256 hash of the text of the line, in hexadecimal digits.
+    pub hash: OwnedText,
+    /// How many earlier findings of the file have this rule and this hash.
+    pub ordinal: u64,
+}
+
+/// A finding, as far as an entry depends on it.
+#[derive(Clone, Copy)]
+pub struct Found<'a> {
+    /// The rule's id.
+    pub rule: &'a str,
+    /// The number of the line on which the finding begins, from 1.
+    pub line: usize,
+}

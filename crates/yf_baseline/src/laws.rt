@@ -1,0 +1,23 @@
+//! What follows from the definitions.
+ghost use Rattle.yf_baseline.specs.Laws.{EntriesComeOnce, EntriesGoByTexts, EntriesIgnoreOrder};
+ghost use Rattle.yf_baseline.specs.OnLines.{IsOnTells};
+
+/// Entries go by the texts of lines, and not by their numbers.
+pub fn entries_go_by_texts()
+    ensures { EntriesGoByTexts }
+{}
+
+/// The entries of the findings of a file come once each.
+pub fn entries_come_once()
+    ensures { EntriesComeOnce }
+{}
+
+/// The order of the findings doesn't matter to which entries they have.
+pub fn entries_ignore_order()
+    ensures { EntriesIgnoreOrder }
+{}
+
+/// A range is on asked lines if one of its lines is asked, and only then.
+pub fn is_on_tells()
+    ensures { IsOnTells }
+{}

@@ -1,0 +1,20 @@
+//! Baselines and asked lines: which findings of a check are left.
+//!
+//! A baseline lists the findings that a team has accepted, so that a check reports only what is new. An entry of it is a
+//! finding without its place: the file, the rule, a hash of the text of its line, and the number of earlier findings
+//! that have an equal rule and an equal hash. So an entry stays when lines move. The crate knows no YAML and no rule.
+//! docs/FORMATS.md describes the file for users.
+#![tactic(auto)]
+
+pub mod baseline;
+pub mod chosen;
+pub mod counts;
+pub mod entries;
+pub mod entry;
+pub mod laws;
+pub mod line;
+pub mod listed;
+pub mod on_lines;
+pub mod read;
+pub mod refusal;
+pub mod sorted;

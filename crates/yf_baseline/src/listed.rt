@@ -1,0 +1,121 @@
+//! Which findings a baseline lists, and which of its entries no longer occur.
+ghost use Rattle.std.specs.Prelude.{◌≡◌, ◌≤◌, ◌&&◌, ℕ, List, length, map, not, IfOk};
+ghost use Rattle.std.specs.BTreeSet.{contains_text};
+ghost use Rattle.yf_baseline.specs.Baselines.{entry_line};
+ghost use Rattle.yf_baseline.specs.Listed.{missing, unlisted};
+ghost use Rattle.yf_baseline.specs.SeenTexts.{Holds};
+
+use crate::chosen::chosen;
+use crate::entry::Entry;
+use crate::line::entry_line;
+use std::alloc::{AllocError, Global};
+use std::collections::BTreeSet;
+
+/// A set of texts.
+pub type Texts = BTreeSet<String>;
+
+/// Returns the lines of entries as a set.
+///
+/// # Errors
+///
+/// `AllocError` if memory runs out.
+pub fn lines_of(alloc: Global, entries: &[Entry]) -> Result<Texts, AllocError>
+    ensures { IfOk result (λ set. Holds set (map (λ e. entry_line e) entries.now)) }
+{
+    let mut set = BTreeSet::new(alloc);
+    for entry in entries {
+        let line = entry_line(alloc, entry)?;
+        set.insert(line)?;
+    }
+    Ok(set)
+}
+
+/// Returns the names of files as a set.
+///
+/// # Errors
+///
+/// `AllocError` if memory runs out.
+pub fn names_of(alloc: Global, files: &[&str]) -> Result<Texts, AllocError>
+    ensures { IfOk result (λ set. Holds set (map (λ name. name.now) files.now)) }
+{
+    let mut set = BTreeSet::new(alloc);
+    for name in files {
+        let text = String::from_str(alloc, name)?;
+        set.insert(text)?;
+    }
+    Ok(set)
+}
+
+/// Returns the findings whose entries a baseline doesn't list, in order. The first entry is that of the first finding,
+/// and so on. `listed` has the lines of the baseline's entries.
+///
+/// # Errors
+///
+/// `AllocError` if memory runs out.
+pub fn unlisted<F: Copy + Drop>(
+    alloc: Global,
+    findings: &[F],
+    entries: &[Entry],
+    listed: &Texts,
+) -> Result<Vec<F>, AllocError>
+    requires { length findings.now ≤ length entries.now }
+    ensures { IfOk result (λ found. (lines : List (List ℕ)) → Holds listed.now lines
+        → found.items ≡ unlisted lines findings.now entries.now) }
+{
+    let flags = new_flags(alloc, entries, listed)?;
+    chosen(alloc, findings, flags.as_slice())
+}
+
+// Returns for each entry whether the set doesn't have its line.
+fn new_flags(alloc: Global, entries: &[Entry], listed: &Texts) -> Result<Vec<bool>, AllocError>
+    ensures { IfOk result (λ flags. flags.items
+        ≡ map (λ e. not (contains_text listed.now (entry_line e))) entries.now) }
+{
+    let mut flags = Vec::new(alloc);
+    for entry in entries {
+        let line = entry_line(alloc, entry)?;
+        flags.push(!listed.contains(line.as_str()))?;
+    }
+    Ok(flags)
+}
+
+/// Returns the entries of a baseline that no longer occur, in order, without those of files that were not checked.
+/// `files` has the names of the files that were checked, and `current` has the lines of the entries of their findings.
+///
+/// # Errors
+///
+/// `AllocError` if memory runs out.
+pub fn missing<'a>(
+    alloc: Global,
+    baseline: &'a [Entry],
+    files: &Texts,
+    current: &Texts,
+) -> Result<Vec<&'a Entry>, AllocError>
+    ensures { IfOk result (λ found. (names lines : List (List ℕ)) → Holds files.now names → Holds current.now lines
+        → map (λ e. e.now) found.items ≡ missing names lines baseline.now) }
+{
+    let mut found = Vec::new(alloc);
+    for entry in baseline {
+        if is_missing(alloc, entry, files, current)? {
+            found.push(entry)?;
+        }
+    }
+    Ok(found)
+}
+
+// Whether an entry is one of a file that was checked, and no longer occurs.
+fn is_missing(
+    alloc: Global,
+    entry: &Entry,
+    files: &Texts,
+    current: &Texts,
+) -> Result<bool, AllocError>
+    ensures { IfOk result (λ gone. gone ≡ (contains_text files.now entry.now.file
+        && not (contains_text current.now (entry_line entry.now)))) }
+{
+    if !files.contains(entry.file.as_str()) {
+        return Ok(false);
+    }
+    let line = entry_line(alloc, entry)?;
+    Ok(!current.contains(line.as_str()))
+}

@@ -1,0 +1,29 @@
+//! Why a text is no baseline.
+
+use std::alloc::AllocError;
+
+/// Why a baseline was not read.
+#[derive(Clone, Copy, Debug, Drop, PartialEq, Eq)]
+pub enum Refusal {
+    /// Memory ran out.
+    Memory,
+    /// The text is no JSON.
+    NotJson,
+    /// It is no object whose member `version` is 1.
+    Version,
+    /// The member `findings` is no array of entries.
+    Shape,
+    /// An entry comes twice.
+    Repeated,
+}
+
+impl From<AllocError> for Refusal {
+    ghost use Rattle.std.specs.Prelude.{◌≡◌};
+    ghost use Rattle.yf_baseline.specs.declared.refusal.Refusal.TheVariants.{Memory};
+
+    ghost from_gives = { λ _ e. e ≡ Memory };
+
+    fn from(_refused: AllocError) -> Refusal {
+        Refusal::Memory
+    }
+}

@@ -1,0 +1,4 @@
+-- `nearest_settings`
+pub mod NearestLemmas
+-- `nearest_is_one`
+pub mod OneDiscoveryLemmas

@@ -1,0 +1,4 @@
+-- The search for the nearest settings file.
+
+pub mod Nearest
+pub mod OneDiscovery

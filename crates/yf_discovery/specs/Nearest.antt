@@ -1,0 +1,53 @@
+-- Which settings file is the nearest one at or above the current folder.
+-- (Shows: what a look at a name may show; above: the number of folders above the current one)
+use Rattle.std.specs.Prelude.{◌≡◌, ◌⊎◌, ℕ, zero, suc, ◌<◌, ◌≤◌, List, [], ◌++◌, codes}
+use Rattle.yf_discovery.specs.declared.folders.There.{There}
+use Rattle.yf_discovery.specs.declared.folders.There.TheVariants as there
+use Rattle.yf_discovery.specs.declared.nearest.Discovery.{Discovery}
+use Rattle.yf_discovery.specs.declared.nearest.Discovery.TheVariants as discovery
+
+-- what a look at a name may show
+abbrev pub Looks : Type 1
+Looks = List ℕ → There → Type 0
+
+-- the name of a folder, with a slash at its end: folder 0 is the current one, and each next one is above it
+abbrev pub folder : ℕ → List ℕ
+folder zero = []
+folder (suc k) = folder k ++ codes "../"
+
+-- the settings file of a folder, and what marks the top of a work tree
+abbrev pub settings_in : List ℕ → List ℕ
+settings_in at = at ++ codes ".yamlfmt.toml"
+
+abbrev pub repository_in : List ℕ → List ℕ
+repository_in at = at ++ codes ".git"
+
+-- the folder has no settings file, and the search goes on above it
+pub record Passes (Shows : Looks) (at : List ℕ) : Type 0 where
+  pub settings : Shows (settings_in at) there.Nothing
+  pub repository : Shows (repository_in at) there.Nothing
+
+-- the search ends in the folder
+pub data EndsIn (Shows : Looks) (at : List ℕ) (d : Discovery) : Type 0 where
+  -- the folder has a settings file
+  has_settings : Shows (settings_in at) there.File → d ≡ discovery.Settings (settings_in at) → EndsIn Shows at d
+  -- what has the name of a settings file is a folder
+  is_folder : Shows (settings_in at) there.Folder → d ≡ discovery.Fault (settings_in at) → EndsIn Shows at d
+  -- there may be a settings file
+  is_unknown : Shows (settings_in at) there.Unknown → d ≡ discovery.Fault (settings_in at) → EndsIn Shows at d
+  -- the folder has no settings file, and it is the top of a work tree
+  is_top : Shows (settings_in at) there.Nothing
+      → Shows (repository_in at) there.Folder ⊎ Shows (repository_in at) there.File
+      → d ≡ discovery.Nothing → EndsIn Shows at d
+  -- the folder has no settings file, and may be the top of a work tree
+  may_be_top : Shows (settings_in at) there.Nothing → Shows (repository_in at) there.Unknown
+      → d ≡ discovery.Fault (repository_in at) → EndsIn Shows at d
+
+-- the search passes each of the first k folders
+abbrev pub PassesFirst : Looks → ℕ → Type 0
+PassesFirst Shows k = (j : ℕ) → j < k → Passes Shows (folder j)
+
+-- the search ends in the first folder that it doesn't pass; or it passes all folders, and there is no settings file
+pub data IsNearest (Shows : Looks) (above : ℕ) (d : Discovery) : Type 0 where
+  ends : (k : ℕ) → k ≤ above → PassesFirst Shows k → EndsIn Shows (folder k) d → IsNearest Shows above d
+  passes_all : PassesFirst Shows (suc above) → d ≡ discovery.Nothing → IsNearest Shows above d

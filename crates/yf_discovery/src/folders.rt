@@ -1,0 +1,35 @@
+//! Folders, as the search for a settings file sees them.
+ghost use Rattle.std.specs.Prelude.{ℕ, IfOk, List, Option, option_map};
+ghost use Rattle.yf_discovery.specs.declared.folders.There.{There};
+
+use std::alloc::{AllocError, Global};
+
+/// What is at a name.
+#[derive(Clone, Copy, Drop)]
+pub enum There {
+    /// Nothing.
+    Nothing,
+    /// A file, or anything else that is no folder.
+    File,
+    /// A folder.
+    Folder,
+    /// Something or nothing: it can't be looked at.
+    Unknown,
+}
+
+/// The current folder and those above it.
+pub trait Folders {
+    /// What a look at a name may show. The name is relative to the current folder.
+    ghost shows: { Self → List ℕ → There → Type 0 };
+
+    /// What the path of the current folder may be, if it is known.
+    ghost current: { Self → Option (List ℕ) → Type 0 };
+
+    /// Returns what is at a name. A symbolic link counts as what it leads to.
+    fn look(&self, name: &str) -> There
+        ensures { shows self.now name.now result };
+
+    /// Returns the path of the current folder, from the root on, or `None` if the system doesn't know it.
+    fn current_path(&self, alloc: Global) -> Result<Option<Vec<u8>>, AllocError>
+        ensures { IfOk result (λ o. current self.now (option_map (λ v. v.items) o)) };
+}

@@ -1,0 +1,7 @@
+//! Which settings file a run takes if the command line names none: the nearest one at or above the current folder. The
+//! caller looks at the file system.
+#![tactic(auto)]
+
+pub mod folders;
+pub mod laws;
+pub mod nearest;

@@ -1,0 +1,89 @@
+//! The nearest settings file.
+ghost use Rattle.std.specs.Prelude.{◌≡◌, ◌++◌, IfOk, MatchOption};
+ghost use Rattle.yf_discovery.specs.Nearest.{EndsIn, IsNearest, Passes};
+
+use crate::folders::{Folders, There};
+use std::alloc::{AllocError, Global};
+use yf_lines::text::OwnedText;
+
+/// The name of a settings file, in its folder.
+pub const SETTINGS_NAME: &str = ".yamlfmt.toml";
+
+/// The name of the folder or file that marks the top folder of a Git work tree, in that folder.
+pub const REPOSITORY_NAME: &str = ".git";
+
+/// The way from a folder to the one above it.
+const ABOVE: &str = "../";
+
+/// What the search for a settings file finds.
+#[derive(Drop)]
+pub enum Discovery {
+    /// The settings file of this name. The name is relative to the current folder, as `../.yamlfmt.toml`.
+    Settings(OwnedText),
+    /// No settings file.
+    Nothing,
+    /// What is at this name decides, and it is no file or can't be looked at.
+    Fault(OwnedText),
+}
+
+/// Finds the nearest settings file at or above the current folder. `above` is the number of folders above the current
+/// one.
+///
+/// A folder with `.git`, which may be a folder or a file, is the last one that is searched. The result is a fault if
+/// the nearest settings file is a folder, or if a name that decides can't be looked at.
+///
+/// # Errors
+///
+/// `AllocError` if memory is refused.
+pub fn nearest_settings<F: Folders>(
+    alloc: Global,
+    folders: &F,
+    above: usize,
+) -> Result<Discovery, AllocError>
+    ensures { IfOk result (IsNearest (F.shows folders.now) above) }
+{
+    let mut folder = String::new(alloc);
+    for _depth in 0..above {
+        match look_in(alloc, folders, folder.as_str())? {
+            Some(discovery) => return Ok(discovery),
+            None => folder.push_str(ABOVE)?,
+        }
+    }
+    match look_in(alloc, folders, folder.as_str())? {
+        Some(discovery) => Ok(discovery),
+        None => Ok(Discovery::Nothing),
+    }
+}
+
+// Looks into a folder, whose name is empty or ends with a slash. Returns what the search finds if it ends there.
+fn look_in<F: Folders>(
+    alloc: Global,
+    folders: &F,
+    folder: &str,
+) -> Result<Option<Discovery>, AllocError>
+    ensures { IfOk result (λ o. MatchOption o (Passes (F.shows folders.now) folder.now)
+        (EndsIn (F.shows folders.now) folder.now)) }
+{
+    let settings = name_in(alloc, folder, SETTINGS_NAME)?;
+    let repository = name_in(alloc, folder, REPOSITORY_NAME)?;
+    match folders.look(settings.as_str()) {
+        There::Nothing => match folders.look(repository.as_str()) {
+            There::Nothing => Ok(None),
+            There::File => Ok(Some(Discovery::Nothing)),
+            There::Folder => Ok(Some(Discovery::Nothing)),
+            There::Unknown => Ok(Some(Discovery::Fault(repository))),
+        },
+        There::File => Ok(Some(Discovery::Settings(settings))),
+        There::Folder => Ok(Some(Discovery::Fault(settings))),
+        There::Unknown => Ok(Some(Discovery::Fault(settings))),
+    }
+}
+
+// Returns the name of something in a folder.
+fn name_in(alloc: Global, folder: &str, name: &str) -> Result<OwnedText, AllocError>
+    ensures { IfOk result (λ t. t ≡ folder.now ++ name.now) }
+{
+    let mut full = String::from_str(alloc, folder)?;
+    full.push_str(name)?;
+    Ok(OwnedText::new(full))
+}

@@ -1,0 +1,5 @@
+pub mod StartLemmas
+pub mod ListLemmas
+pub mod FoundPlaces
+pub mod TextLemmas
+pub mod FileLemmas

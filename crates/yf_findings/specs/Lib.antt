@@ -1,0 +1,6 @@
+pub mod Files
+pub mod Ranges
+pub mod Reading
+pub mod Refusals
+pub mod Problems
+pub mod Texts

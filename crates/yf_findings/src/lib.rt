@@ -1,0 +1,15 @@
+//! The problems of a text that a report lists: one for each finding of a check, with the range that is at fault and a
+//! message, or one for the refusal of the text.
+#![tactic(auto)]
+
+mod columns;
+mod ends;
+pub mod files;
+pub mod listing;
+mod located;
+pub mod owned;
+pub mod reading;
+pub mod refusals;
+pub mod rule_words;
+mod starts;
+pub mod texts;

@@ -1,0 +1,60 @@
+//! The problems of the findings of a text.
+ghost use Rattle.std.specs.List.{Contains};
+ghost use Rattle.std.specs.Prelude.{IfOk};
+ghost use Rattle.yf_findings.specs.Problems.{EachProblem, FindingProblem};
+ghost use Rattle.yf_lines.specs.FaultPlaces.{InText};
+ghost use Rattle.yf_rule_sets.specs.RuleSets.Places.{IsCursor};
+ghost use Rattle.yf_rules.specs.declared.finding.Finding.{Finding as AFinding};
+
+use crate::located::locate;
+use crate::owned::{OwnedProblem, owned};
+use crate::starts::line_start;
+use std::alloc::{AllocError, Global};
+use yf_forms::style::Style;
+use yf_lines::source_text::Src;
+use yf_rule_sets::facts::cursor::Cursor;
+use yf_rules::finding::Finding;
+
+/// Returns a problem for each finding of a text, in the order of the findings. It takes one pass over the text if the
+/// positions of the findings ascend.
+///
+/// # Errors
+///
+/// `AllocError` if memory is refused.
+pub fn problems_of(
+    alloc: Global,
+    src: &Src,
+    style: &Style,
+    findings: &[Finding],
+) -> Result<Vec<OwnedProblem>, AllocError>
+    requires { (f : AFinding) → Contains findings.now f → InText src.now.text f.place }
+    ensures { IfOk result (λ ps. EachProblem (FindingProblem src.now style.now) findings.now ps.items) }
+{
+    let mut problems = Vec::new(alloc);
+    let mut cursor = line_start(src, 0);
+    for finding in findings {
+        match next_problem(alloc, src, style, finding, &mut cursor) {
+            Ok(problem) => problems.push(problem)?,
+            Err(AllocError) => return Err(AllocError),
+        }
+    }
+    Ok(problems)
+}
+
+// The problem of a finding. The cursor goes on to the finding.
+fn next_problem(
+    alloc: Global,
+    src: &Src,
+    style: &Style,
+    finding: &Finding,
+    cursor: &mut Cursor,
+) -> Result<OwnedProblem, AllocError>
+    requires cursor { IsCursor src.now.text src.now.lines cursor.old }
+    requires place { InText src.now.text finding.now.place }
+    ensures problem { IfOk result (λ p. FindingProblem src.now style.now finding.now p) }
+    ensures cursor { IsCursor src.now.text src.now.lines cursor.new }
+{
+    let located = locate(src, style, *cursor, finding);
+    *cursor = located.cursor;
+    owned(alloc, src, finding, &located)
+}

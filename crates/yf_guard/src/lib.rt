@@ -1,0 +1,11 @@
+//! Texts that are no YAML data: Ansible Vault files, texts that only look like one long scalar, and templates.
+//!
+//! The reading decides, not the bytes: `name: build {{version}}` is data, since its value is a scalar, and
+//! `vlan: {{ site_vlan }}` is a template, since its value is a mapping in a mapping. `guard` says which text is which.
+//! The crate knows no settings and no house style.
+#![tactic(auto)]
+
+pub mod guarded;
+mod open_collection;
+mod pass;
+pub mod scalars;

@@ -1,0 +1,7 @@
+-- sets of names
+pub mod NameLemmas
+-- one step of the passes over the events
+pub mod NamePasses
+-- keys and items without a value
+pub mod EmptyRuns
+pub mod EmptySteps

@@ -1,0 +1,6 @@
+-- unused and repeated anchors
+pub mod Anchors
+pub mod NameSets
+-- keys and items without a value
+pub mod EmptyValues
+pub mod EmptyPass

@@ -1,7 +1,0 @@
--- No such byte so far.
-use Rattle.std.proofs.Common.{◌≡◌, drop}
-use Rattle.yf_program.specs.Quoted.{has_special}
-use Rattle.yf_program.proofs.quoted.has_special.Given as goal
-
-abbrev pub invariant-loop-byte : goal.invariant-loop-byte
-invariant-loop-byte l = has_special l.before (drop l.byte-index l.name) ≡ has_special 0 l.name

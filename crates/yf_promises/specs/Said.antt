@@ -1,0 +1,102 @@
+-- What the tokens of a text say, besides its documents: whether the further rules of YAML 1.2.2 hold (sections 5.7, 6.8,
+-- 6.9 and 7.1), its events, its content and its comments.
+use Rattle.std.specs.Prelude.{◌≡◌, ⊤, ℕ, Bool, true, false, List, [], ◌∷◌, ◌++◌, Option, Some, None, map}
+use Rattle.std.specs.List.{flat_map, zip}
+use Rattle.yf_props.specs.Handles.{Declaration}
+use Rattle.yf_events.specs.Content.{BeforeValue, ContentOf, ContentValue, a_document, before_document, items_of_directive, items_of_event}
+use Rattle.yf_events.specs.Event.{EventValue, document_ends, document_starts, props_of, stream_ends, stream_starts}
+use Rattle.yf_events.specs.Tree.{unplaced}
+use Rattle.yf_forms.specs.Nodes.Lines.{trimmed}
+use Rattle.yf_stream.specs.ReadingOf.{EventTags}
+use Rattle.yf_stream.specs.WellFormed.{alias_of, declarations, directive_breaches, has_name, is_unknown, with_name}
+use Rattle.yf_standard.specs.Laws.{IsStandardStream}
+use Rattle.yf_standard.specs.Readings.{DocumentSaid, StreamSaid, stream_said}
+use Rattle.yf_standard.specs.Tokens.{tokens}
+
+-- What a derivation of all of a text by production 211 says.
+abbrev pub said_by : {t : List ℕ} → IsStandardStream t → StreamSaid
+said_by d = stream_said [] (tokens d)
+
+-- ---- Which texts are accepted
+
+-- One of these anchors has the name of the alias, if the event is one.
+abbrev pub has_anchor : List (List ℕ) → Option (List ℕ) → Bool
+has_anchor anchors None = true
+has_anchor anchors (Some name) = has_name anchors name
+
+-- Each tag's handle is declared or a default one, and each alias names an anchor before it.
+-- (ds: the declarations of handles; anchors: those before the events)
+abbrev pub NodesFit : List Declaration → List (List ℕ) → List EventValue → Type 0
+NodesFit ds anchors [] = ⊤
+NodesFit ds anchors (e ∷ es) =
+    (is_unknown ds (props_of e).tag ≡ false) × (has_anchor anchors (alias_of e) ≡ true)
+    × NodesFit ds (with_name (props_of e).anchor anchors) es
+
+-- The directives of a document have one version at most, which is 1, and declare each handle once; its nodes fit them;
+-- and each of its escapes is a character.
+pub record DocumentFits (d : DocumentSaid) : Type 0 where
+  pub directives : directive_breaches false [] d.directives ≡ []
+  pub nodes : NodesFit (declarations [] d.directives) [] d.events
+  pub escapes : d.escapes ≡ []
+
+abbrev pub DocumentsFit : List DocumentSaid → Type 0
+DocumentsFit [] = ⊤
+DocumentsFit (d ∷ ds) = DocumentFits d × DocumentsFit ds
+
+-- Production 211, with the reading rules and at most `DEPTH` open collections, derives all of the text, and its
+-- documents keep the further rules.
+pub record IsAccepted (t : List ℕ) : Type 0 where
+  pub derived : IsStandardStream t
+  pub fits : DocumentsFit (said_by derived).documents
+
+-- ---- The events
+
+-- These are the events of documents. The mark of a document's end, `...`, is free.
+pub data EventsSaid : List DocumentSaid → List EventValue → Type 0 where
+  no_events : EventsSaid [] []
+  events_of_one : {ds : List DocumentSaid} {es : List EventValue} (d : DocumentSaid) (closed : Bool) → EventsSaid ds es
+      → EventsSaid (d ∷ ds) (document_starts d.marked ∷ (d.events ++ (document_ends closed ∷ es)))
+
+-- These are the events of a stream.
+pub record StreamEvents (s : StreamSaid) (es : List EventValue) : Type 0 where
+  pub inside : List EventValue
+  pub documents : EventsSaid s.documents inside
+  pub whole : es ≡ stream_starts ∷ (inside ++ (stream_ends ∷ []))
+
+-- ---- The content
+
+-- The words of each document's directives.
+abbrev pub directives_said : DocumentSaid → List BeforeValue
+directives_said d = before_document ∷ flat_map items_of_directive d.directives
+
+-- The nodes that events begin and end, with the resolved tags of the nodes.
+abbrev pub nodes_with : List EventValue → List (Option (List ℕ)) → List ContentValue
+nodes_with es tags = flat_map (λ e. items_of_event e.0 e.1) (zip es tags)
+
+-- The nodes of documents, each with its resolved tag (section 6.9.1).
+pub data NodesSaid : List DocumentSaid → List ContentValue → Type 0 where
+  no_nodes : NodesSaid [] []
+  nodes_of_one : {ds : List DocumentSaid} {tags : List (Option (List ℕ))} {rest : List ContentValue} (d : DocumentSaid)
+      → EventTags (declarations [] d.directives) (map unplaced d.events) tags → NodesSaid ds rest
+      → NodesSaid (d ∷ ds) (a_document ∷ (nodes_with d.events tags ++ rest))
+
+-- A stream says this content: its directives, and its nodes with anchors, resolved tags and texts, without styles.
+pub record ContentSaid (s : StreamSaid) (c : ContentOf) : Type 0 where
+  pub directives : c.directives ≡ flat_map directives_said s.documents
+  pub nodes : NodesSaid s.documents c.nodes
+
+-- Two texts have one content, whichever derivations are taken.
+abbrev pub SameContent : List ℕ → List ℕ → Type 0
+SameContent t u =
+    (d : IsStandardStream t) (e : IsStandardStream u)
+    → (c : ContentOf) × ContentSaid (said_by d) c × ContentSaid (said_by e) c
+
+-- ---- The comments
+
+-- The texts of all comments, in order, without the white space at their ends.
+abbrev pub comments_said : StreamSaid → List (List ℕ)
+comments_said s = map (λ c. trimmed c.text) s.comments
+
+-- Two texts have the same comments in one order, whichever derivations are taken.
+abbrev pub SameComments : List ℕ → List ℕ → Type 0
+SameComments t u = (d : IsStandardStream t) (e : IsStandardStream u) → comments_said (said_by d) ≡ comments_said (said_by e)
