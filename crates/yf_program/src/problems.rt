@@ -95,21 +95,39 @@ fn add_all(
 fn add_rule(
     alloc: Global,
     problems: &mut Vec<Problem>,
-    rule: StyleRule,
+    rule: &StyleRule,
     src: &Src,
     reading: &Reading,
     style: &Style,
 ) -> Result<(), AllocError>
     ensures { (rules : List ARule) → OnOk result (FoundBy src.now reading.now style.now rules
-        (map problem_read problems.old.items) → FoundBy src.now reading.now style.now (rules ++ rule ∷ [])
+        (map problem_read problems.old.items) → FoundBy src.now reading.now style.now (rules ++ rule.now ∷ [])
         (map problem_read problems.new.items)) }
 {
-    let details = details_by(rule, alloc, src, reading, style)?;
+    let details = details_by(*rule, alloc, src, reading, style)?;
     add_all(alloc, problems, rule.id(), details.as_slice())
 }
 
-// Returns the problems that all rules find.
+// Returns the problems that rules find.
 fn found_by_rules(
+    alloc: Global,
+    rules: &[StyleRule],
+    src: &Src,
+    reading: &Reading,
+    style: &Style,
+) -> Result<Vec<Problem>, AllocError>
+    ensures { IfOk result (λ problems. FoundBy src.now reading.now style.now rules.now
+        (map problem_read problems.items)) }
+{
+    let mut problems = Vec::new(alloc);
+    for rule in rules {
+        add_rule(alloc, &mut problems, rule, src, reading, style)?;
+    }
+    Ok(problems)
+}
+
+// Returns the problems that all rules find.
+fn found_by_all(
     alloc: Global,
     src: &Src,
     reading: &Reading,
@@ -118,11 +136,7 @@ fn found_by_rules(
     ensures { IfOk result (λ problems. FoundBy src.now reading.now style.now all_rules
         (map problem_read problems.items)) }
 {
-    let mut problems = Vec::new(alloc);
-    for rule in &RULES {
-        add_rule(alloc, &mut problems, *rule, src, reading, style)?;
-    }
-    Ok(problems)
+    found_by_rules(alloc, &RULES, src, reading, style)
 }
 
 // Returns the position of a refusal.
@@ -272,7 +286,7 @@ pub fn problems_in(alloc: Global, text: &str, style: &Style) -> Result<Vec<Probl
     }
     let src = Src::new(alloc, text)?;
     match read_stream(alloc, text) {
-        Ok(reading) => found_by_rules(alloc, &src, &reading, style),
+        Ok(reading) => found_by_all(alloc, &src, &reading, style),
         Err(fault) => refused(alloc, &src, &fault),
     }
 }

@@ -9,6 +9,6 @@ use Rattle.yf_program.proofs.problems.add_rule.Goals as goal
 
 pub returns : goal.returns
 returns c =
-    let read = subst (λ (d : List Detail). RuleDetails c.args.rule c.args.src.now c.args.reading.now c.args.style.now d) (sym c.as_slice.ensures.value) c.in_ok-details.ensures in
-    λ rules. on_ok_weaker c.add_all.result (λ more. found_more c.args.src.now c.args.reading.now c.args.style.now c.args.rule c.as_slice.result.now c.id.result.now
+    let read = subst (λ (d : List Detail). RuleDetails c.args.rule.now c.args.src.now c.args.reading.now c.args.style.now d) (sym c.as_slice.ensures.value) c.in_ok-details.ensures in
+    λ rules. on_ok_weaker c.add_all.result (λ more. found_more c.args.src.now c.args.reading.now c.args.style.now c.args.rule.now c.as_slice.result.now c.id.result.now
     (map problem_read c.args.problems.now.items) (map problem_read c.add_all.new.problems.items) c.id.ensures read more rules) c.add_all.ensures

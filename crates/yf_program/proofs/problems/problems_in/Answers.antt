@@ -7,14 +7,14 @@ use Rattle.yf_program.specs.Problems.{IsRefused}
 use Rattle.yf_program.proofs.problems.problems_in.Goals as goal
 
 pub returns-in-Ok : goal.returns-in-Ok
-returns-in-Ok c = IfOk-weaker c.found_by_rules.result _ _ (λ problems found. inr (inr (record {
+returns-in-Ok c = IfOk-weaker c.found_by_all.result _ _ (λ problems found. inr (inr (record {
   src = c.in_ok-src.src;
   of_text = c.in_ok-src.ensures.text;
   lines = subst (λ (t : List ℕ). AreLines t c.in_ok-src.src.lines) (sym c.in_ok-src.ensures.text) c.in_ok-src.ensures.lines;
   reading = c.in-Ok.reading;
   reads = c.in-Ok.ensures.reads;
   rules = found;
-}))) c.found_by_rules.ensures
+}))) c.found_by_all.ensures
 
 pub returns : goal.returns
 returns c = IfOk-weaker c.refused.result _ _ (λ problems is. inr (inl
