@@ -21,5 +21,6 @@ mod memory;
 mod owner;
 mod program;
 mod replacing;
+mod server;
 mod settings;
 mod system;

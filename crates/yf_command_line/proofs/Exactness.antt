@@ -2,6 +2,7 @@
 -- The only refusal that is possible for any words is that of memory.
 use Rattle.std.proofs.Common.{◌≡◌, ◌≢◌, ◌⊎◌, ◌<◌, ◌||◌, ℕ, Bool, true, false, List, [], ◌∷◌, map, length, codes}
 use Rattle.std.proofs.Common.{Vec, Some, None, refl, sym, ap, subst, ◌∙◌, inl, inr, arith}
+use Rattle.std.proofs.Common.{slice_index}
 use Rattle.std.proofs.lemmas.Bool.{false≢true}
 use Rattle.std.proofs.lemmas.Option.{same_Some}
 use Rattle.std.proofs.lemmas.Slice.Eq.{bytes_eq-Decides}
@@ -45,6 +46,7 @@ abbrev pub SameCommand : Command → Command → Type 0
 SameCommand (command.Events a) (command.Events b) = a ≡ b
 SameCommand (command.Check a v) (command.Check b w) = (all_inputs a ≡ all_inputs b) × (v.items ≡ w.items)
 SameCommand (command.Fmt a) (command.Fmt b) = SameFmt a b
+SameCommand command.Server command.Server = Unit {0}
 SameCommand _ _ = ⊥
 
 fmt_once : (given : List Row) (a b : Fmt) → IsFmt given a → IsFmt given b → SameFmt a b
@@ -65,9 +67,21 @@ fmt_once given (fmt.Write a) (fmt.Print b) p q = cc
 fmt_once given (fmt.Write a) (fmt.Check b) p q = cc
 fmt_once given (fmt.Write a) (fmt.Diff b) p q = cc
 
+-- Two texts differ if they differ at an index.
+other_at : (k : ℕ) (a b : Text) → slice_index a k ≢ slice_index b k → a ≢ b
+other_at k a b differ e = differ (ap (λ (l : Text). slice_index l k) e)
+
 -- The names of two commands differ.
 other_names : (codes "events" ≢ codes "check") × (codes "events" ≢ codes "fmt") × (codes "check" ≢ codes "fmt")
-other_names = (λ e. cc, λ e. cc, λ e. cc)
+    × (codes "events" ≢ codes "server") × (codes "check" ≢ codes "server") × (codes "fmt" ≢ codes "server")
+other_names = (
+  λ e. cc,
+  λ e. cc,
+  λ e. cc,
+  λ e. other_at 0 (codes "events") (codes "server") (λ h. let bad : 101 ≡ 115 = h in absurd (omega arith)) e,
+  λ e. other_at 0 (codes "check") (codes "server") (λ h. let bad : 99 ≡ 115 = h in absurd (omega arith)) e,
+  λ e. other_at 0 (codes "fmt") (codes "server") (λ h. let bad : 102 ≡ 115 = h in absurd (omega arith)) e,
+)
 
 command_once : (rules : List Text) (name : Text) (given : List Row) (a b : Command)
     → IsCommand rules name given a → IsCommand rules name given b → SameCommand a b
@@ -80,6 +94,13 @@ command_once rules name given (command.Check a v) (command.Events b) p q = absur
 command_once rules name given (command.Check a v) (command.Fmt b) p q = absurd (other_names.2 (sym p.0 ∙ q.0))
 command_once rules name given (command.Fmt a) (command.Events b) p q = absurd (other_names.1 (sym q.0 ∙ p.0))
 command_once rules name given (command.Fmt a) (command.Check b w) p q = absurd (other_names.2 (sym q.0 ∙ p.0))
+command_once rules name given command.Server command.Server p q = tt
+command_once rules name given (command.Events a) command.Server p q = absurd (other_names.3 (sym p.0 ∙ q))
+command_once rules name given (command.Check a v) command.Server p q = absurd (other_names.4 (sym p.0 ∙ q))
+command_once rules name given (command.Fmt a) command.Server p q = absurd (other_names.5 (sym p.0 ∙ q))
+command_once rules name given command.Server (command.Events b) p q = absurd (other_names.3 (sym q.0 ∙ p))
+command_once rules name given command.Server (command.Check b w) p q = absurd (other_names.4 (sym q.0 ∙ p))
+command_once rules name given command.Server (command.Fmt b) p q = absurd (other_names.5 (sym q.0 ∙ p))
 
 -- ---- not both
 
@@ -117,15 +138,18 @@ fmt_not_both given (fmt.Write a) p (several_printed w c m) = cc
 
 command_not_both : (rules : List Text) (name : Text) (given : List Row) (a : Command)
     → IsCommand rules name given a → IsNoCommand rules name given → ⊥
-command_not_both rules name given (command.Events a) p (other_name e c f) = e p.0
+command_not_both rules name given (command.Events a) p (other_name e c f s) = e p.0
 command_not_both rules name given (command.Events a) p (no_rule n r) = other_names.0 (sym p.0 ∙ n)
 command_not_both rules name given (command.Events a) p (no_fmt n r) = other_names.1 (sym p.0 ∙ n)
-command_not_both rules name given (command.Check a v) p (other_name e c f) = c p.0
+command_not_both rules name given (command.Check a v) p (other_name e c f s) = c p.0
 command_not_both rules name given (command.Check a v) p (no_rule n r) = cc
 command_not_both rules name given (command.Check a v) p (no_fmt n r) = other_names.2 (sym p.0 ∙ n)
-command_not_both rules name given (command.Fmt a) p (other_name e c f) = f p.0
+command_not_both rules name given (command.Fmt a) p (other_name e c f s) = f p.0
 command_not_both rules name given (command.Fmt a) p (no_rule n r) = other_names.2 (sym n ∙ p.0)
 command_not_both rules name given (command.Fmt a) p (no_fmt n r) = fmt_not_both given a p.1 r
+command_not_both rules name given command.Server p (other_name e c f s) = s p
+command_not_both rules name given command.Server p (no_rule n r) = other_names.4 (sym n ∙ p)
+command_not_both rules name given command.Server p (no_fmt n r) = other_names.5 (sym n ∙ p)
 
 -- The two are equal, except for the capacity of their vectors.
 pub record SameRequest (a b : Request) : Type 0 where
@@ -213,34 +237,37 @@ module _ (inputs : List Input → Vec Input Global) (inputs_are : (l : List Inpu
     ap (λ l. input_of f ∷ l) (sym (inputs_are (map input_of fs))),
   )
 
-  command_by : (rules : List Text) (name : Text) (given : List Row) (e c f r : Bool)
+  command_by : (rules : List Text) (name : Text) (given : List Row) (e c f s r : Bool)
       → bytes_eq name (codes "events") ≡ e → bytes_eq name (codes "check") ≡ c → bytes_eq name (codes "fmt") ≡ f
-      → are_rules rules (names_given given) ≡ r
+      → bytes_eq name (codes "server") ≡ s → are_rules rules (names_given given) ≡ r
       → ((a : Command) × IsCommand rules name given a) ⊎ IsNoCommand rules name given
-  command_by rules name given true c f r pe pc pf pr =
+  command_by rules name given true c f s r pe pc pf ps pr =
       inl (command.Events (first_input (files_given given)), ((bytes_eq-Decides name (codes "events")).0 pe, refl))
-  command_by rules name given false true f true pe pc pf pr =
+  command_by rules name given false true f s true pe pc pf ps pr =
       let list = check_inputs (files_given given) in
       inl (
         command.Check list.0 (texts (names_given given)),
         ((bytes_eq-Decides name (codes "check")).0 pc, list.1, texts_are (names_given given), pr),
       )
-  command_by rules name given false true f false pe pc pf pr =
+  command_by rules name given false true f s false pe pc pf ps pr =
       inr (no_rule ((bytes_eq-Decides name (codes "check")).0 pc) pr)
-  command_by rules name given false false true r pe pc pf pr =
+  command_by rules name given false false true s r pe pc pf ps pr =
       let named : name ≡ codes "fmt" = (bytes_eq-Decides name (codes "fmt")).0 pf in
       elim (fmt_or_not given) [ inl a ↦ inl (command.Fmt a.0, (named, a.1)) | inr no_way ↦ inr (no_fmt named no_way) ]
-  command_by rules name given false false false r pe pc pf pr =
+  command_by rules name given false false false true r pe pc pf ps pr =
+      inl (command.Server, (bytes_eq-Decides name (codes "server")).0 ps)
+  command_by rules name given false false false false r pe pc pf ps pr =
       inr (other_name
       (λ e. absurd (false≢true (sym pe ∙ (bytes_eq-Decides name (codes "events")).1 e)))
       (λ e. absurd (false≢true (sym pc ∙ (bytes_eq-Decides name (codes "check")).1 e)))
-      (λ e. absurd (false≢true (sym pf ∙ (bytes_eq-Decides name (codes "fmt")).1 e))))
+      (λ e. absurd (false≢true (sym pf ∙ (bytes_eq-Decides name (codes "fmt")).1 e)))
+      (λ e. absurd (false≢true (sym ps ∙ (bytes_eq-Decides name (codes "server")).1 e))))
 
   met_or_not : (rules : List Text) (before : List Row) (met : Met)
       → ((a : Request) × IsRequest rules before met a) ⊎ IsNoRequest rules met
   met_or_not rules before None = inr tt
   met_or_not rules before (Some m) =
-      elim (command_by rules m.0 m.1 _ _ _ _ refl refl refl refl) [
+      elim (command_by rules m.0 m.1 _ _ _ _ _ refl refl refl refl refl) [
         | inl a ↦ inl (
           record {
             config = first_of (codes "config") m.1;

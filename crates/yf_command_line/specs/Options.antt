@@ -33,6 +33,10 @@ abbrev pub without_option : Rule
 without_option =
     record (new_rule (codes "without")) { long = Some (codes "without"); value_names = 1; action = Some Append }
 
+-- `--stdio`
+abbrev pub stdio_flag : Rule
+stdio_flag = record (new_rule (codes "stdio")) { long = Some (codes "stdio"); action = Some SetTrue }
+
 -- `FILE`
 abbrev pub file_word : Rule
 file_word = record (new_rule (codes "file")) { value_names = 1 }
@@ -58,6 +62,10 @@ abbrev pub writing_command : App
 writing_command =
     with_rule (with_rule (with_rule (with_rule (configured (codes "fmt")) write_flag) check_flag) diff_flag) file_words
 
+-- `server [--config FILE] [--stdio]`
+abbrev pub serving_command : App
+serving_command = with_rule (with_rule (new_app (codes "server")) config_option) stdio_flag
+
 -- A command is required. Without any words, the refusal is the help text. The program's name is not among the words.
 -- There is a version.
 abbrev pub wants_command : Shape → Shape
@@ -75,10 +83,11 @@ bare_command = with_rule (on_top wants_command (new_app (codes "yamlfmt"))) expl
 -- `yamlfmt [--explain] COMMAND`
 unfoldable pub yamlfmt : App
 yamlfmt =
-    with_subcommand (with_subcommand (with_subcommand bare_command
+    with_subcommand (with_subcommand (with_subcommand (with_subcommand bare_command
     (reading_command (codes "events")).top)
     checking_command.top)
-    writing_command.top
+    writing_command.top)
+    serving_command.top
 
 -- An option of one command, which no other command inherits.
 abbrev pub IsOption : Arg → Rule → Type 0

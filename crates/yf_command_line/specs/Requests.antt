@@ -115,6 +115,8 @@ IsCommand rules name given (command.Check inputs without) =
     × (without.items ≡ names_given given) × (are_rules rules (names_given given) ≡ true)
 -- `fmt`, with its flags and FILEs
 IsCommand rules name given (command.Fmt what) = (name ≡ codes "fmt") × IsFmt given what
+-- `server`
+IsCommand rules name given command.Server = name ≡ codes "server"
 
 -- The command that the words name, with its rows, or none if they name no command.
 abbrev pub Met : Type 0
@@ -157,7 +159,8 @@ pub data IsNoFmt (given : List Row) : Type 0 where
 -- Why a name and the rows after it are not a command.
 pub data IsNoCommand (rules : List Text) (name : Text) (given : List Row) : Type 0 where
   -- no command has the name
-  other_name : name ≢ codes "events" → name ≢ codes "check" → name ≢ codes "fmt" → IsNoCommand rules name given
+  other_name : name ≢ codes "events" → name ≢ codes "check" → name ≢ codes "fmt" → name ≢ codes "server"
+      → IsNoCommand rules name given
   -- `--without` with a name that no rule has
   no_rule : name ≡ codes "check" → are_rules rules (names_given given) ≡ false → IsNoCommand rules name given
   -- `fmt` refuses its rows

@@ -56,6 +56,8 @@ pub enum Command {
     },
     /// Formats.
     Fmt(Fmt),
+    /// Serve an editor over standard input and standard output.
+    Server,
 }
 
 /// The request that the words of a command line make.

@@ -7,7 +7,7 @@ ghost use Rattle.yf_command_line.specs.Requests.{IsRequest, RefusedBy, RefusesWo
 use crate::command::{Command, Fmt, Request};
 use crate::inputs::{files_of, first_input, has_standard_input, inputs_of};
 use crate::options::{
-    CHECK, CONFIG, DIFF, EVENTS, EXPLAIN, FILE, FMT, WITHOUT, WRITE, yamlfmt_command,
+    CHECK, CONFIG, DIFF, EVENTS, EXPLAIN, FILE, FMT, SERVER, WITHOUT, WRITE, yamlfmt_command,
 };
 use crate::refused_words::{
     NO_COMMAND, NO_FILE, NO_STANDARD_INPUT, NOT_SHOWN, NOTHING_WRITTEN, SEVERAL_DIFFS,
@@ -27,6 +27,7 @@ use std::alloc::Global;
 ///   option may be given more than once.
 /// - `fmt [--config FILE] [--explain] [--write] [--check] [--diff] [FILE..]`. `--write` needs a FILE, and no FILE may
 ///   be `-`. It excludes `--check` and `--diff`. Several FILEs need `--write`, or `--check` without `--diff`.
+/// - `server [--config FILE] [--stdio]`. It always reads standard input, and `--stdio` changes nothing: editors pass it.
 ///
 /// A FILE `-` is standard input. Without a FILE a command reads standard input.
 ///
@@ -93,6 +94,9 @@ fn command_met(
             Ok(fmt) => Ok(Command::Fmt(fmt)),
             Err(usage) => Err(usage),
         };
+    }
+    if name == SERVER {
+        return Ok(Command::Server);
     }
     Err(refusal(alloc, NO_COMMAND))
 }

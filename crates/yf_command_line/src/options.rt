@@ -3,7 +3,8 @@ ghost use Rattle.std.specs.Prelude.{◌≡◌, IfOk};
 ghost use Rattle.clap.specs.Words.{App, Rule, app_of, new_app, with_rule, with_subcommand};
 ghost use Rattle.yf_command_line.specs.Options.{bare_command, check_flag, checking_command, config_option, configured};
 ghost use Rattle.yf_command_line.specs.Options.{diff_flag, explain_flag, file_word, file_words, write_flag};
-ghost use Rattle.yf_command_line.specs.Options.{reading_command, without_option, writing_command, yamlfmt};
+ghost use Rattle.yf_command_line.specs.Options.{reading_command, serving_command, stdio_flag, without_option};
+ghost use Rattle.yf_command_line.specs.Options.{writing_command, yamlfmt};
 ghost use Rattle.yf_command_line.specs.Options.{IsOption, IsPart};
 
 use crate::build::VERSION;
@@ -16,6 +17,8 @@ pub(crate) const CHECK: &str = "check";
 
 pub(crate) const FMT: &str = "fmt";
 
+pub(crate) const SERVER: &str = "server";
+
 pub(crate) const CONFIG: &str = "config";
 
 pub(crate) const EXPLAIN: &str = "explain";
@@ -26,6 +29,8 @@ pub(crate) const WRITE: &str = "write";
 
 pub(crate) const DIFF: &str = "diff";
 
+const STDIO: &str = "stdio";
+
 pub(crate) const FILE: &str = "file";
 
 // The command of the program, with its subcommands.
@@ -35,7 +40,8 @@ pub(crate) fn yamlfmt_command<'a>(alloc: Global) -> Result<Command<'a>, AllocErr
     let events = reading_command(alloc, EVENTS, "Print the events of a YAML stream");
     let with_events = with_part(bare_command(alloc), events);
     let with_check = with_part(with_events, check_command(alloc));
-    with_part(with_check, fmt_command(alloc))
+    let with_fmt = with_part(with_check, fmt_command(alloc));
+    with_part(with_fmt, server_command(alloc))
 }
 
 // The program's command before its subcommands. `--explain` may come before a subcommand too.
@@ -97,6 +103,17 @@ fn fmt_command<'a>(alloc: Global) -> Result<Command<'a>, AllocError>
     let checking = with_arg(writing, check_flag(alloc));
     let telling = with_arg(checking, diff_flag(alloc));
     with_arg(telling, file_words(alloc))
+}
+
+fn server_command<'a>(alloc: Global) -> Result<Command<'a>, AllocError>
+    ensures { IfOk result (λ c. IsPart c serving_command) }
+{
+    let command = with_settings(
+        alloc,
+        SERVER,
+        "Serve an editor by the Language Server Protocol",
+    );
+    with_arg(command, stdio_flag(alloc))
 }
 
 // A command with `--config` and `--explain`.
@@ -185,6 +202,15 @@ fn diff_flag<'a>(alloc: Global) -> Arg<'a>
         .long(DIFF)
         .action(ArgAction::SetTrue)
         .help("Print what would change as a unified diff")
+}
+
+fn stdio_flag<'a>(alloc: Global) -> Arg<'a>
+    ensures { IsOption result stdio_flag }
+{
+    Arg::new(alloc, STDIO)
+        .long(STDIO)
+        .action(ArgAction::SetTrue)
+        .help("Use standard input and standard output, as the server always does")
 }
 
 fn file_word<'a>(alloc: Global) -> Arg<'a>

@@ -71,6 +71,7 @@ module _ {F : Type 0} (earlier later : Host F) (known : StillKnown earlier.input
   pub does_in_before : (what : Command) (explain : Bool) (style : Style) (status : ℕ) (before after : World F) → DoesIn later what explain style status before after
       → DoesIn earlier what explain style status before after
   does_in_before (command.Events input) explain style status before after d = input_before earlier later known (task_of work.Events explain style) input status before after d
+  does_in_before command.Server explain style status before after d = input_before earlier later known (task_of work.Serve explain style) Standard status before after d
   does_in_before (command.Check inputs without) explain style status before after d =
       let task = task_of (work.Check without) explain style in
       all_by (DoesInput later task) (DoesInput earlier task) (input_before earlier later known task) (all_inputs inputs) status before after d

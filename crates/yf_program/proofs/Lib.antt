@@ -8,3 +8,5 @@ pub mod AnswerLemmas
 pub mod FilesLemmas
 -- `report_input`, `tell_file`, `tell_findings`
 pub mod FurtherLemmas
+-- `add_rule`, `found_by_rules`
+pub mod ProblemLemmas

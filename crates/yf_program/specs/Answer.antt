@@ -37,6 +37,7 @@ use Rattle.yf_rules.specs.Runs.Run.{Gave, NotationWritten, RefusedEvents, Refuse
 use Rattle.yf_program.specs.Named.{named_lines}
 use Rattle.yf_rules.specs.Quoted.{quoted}
 use Rattle.yf_program.specs.Rewriting.{FileRewrite}
+use Rattle.yf_program.specs.Server.{Served}
 use Rattle.yf_program.specs.Report.{check_status, fault_line, fault_status, format_status}
 use Rattle.yf_settings.specs.Settings.{IsHouse, SetsStyle, RefusesSettings}
 use Rattle.yf_program.specs.World.{Host, InputClaim, LinkClaim, OutputStreams, WorkClaim, World}
@@ -201,6 +202,7 @@ RanWork (work.Check without) input = RanCheck without.items
 RanWork work.Print input = RanFmt
 RanWork work.Compare input = RanFmtCheck
 RanWork work.Diff input = RanFmtDiff (name_of input)
+RanWork work.Serve input = λ task. Served task.style
 
 abbrev pub Ran : Input → RunClaim
 Ran input task = RanWork task.work input task
@@ -349,6 +351,7 @@ RewritesInput host explain style (File name) status before after =
 -- The command was done in a style.
 abbrev pub DoesIn : {F : Type 0} → Host F → Command → Bool → Style → WorkClaim F
 DoesIn host (command.Events input) explain style = DoesInput host (task_of work.Events explain style) input
+DoesIn host command.Server explain style = DoesInput host (task_of work.Serve explain style) Standard
 DoesIn host (command.Check inputs without) explain style =
     DoesAll (DoesInput host (task_of (work.Check without) explain style)) (all_inputs inputs)
 DoesIn host (command.Fmt (fmt.Print input)) explain style = DoesInput host (task_of work.Print explain style) input

@@ -4,6 +4,8 @@ pub mod Rewriting
 pub mod Answer
 -- the lines that the program prints
 pub mod Report
+pub mod Problems
+pub mod Server
 pub mod Named
 -- inputs in memory
 pub mod MemoryInputs

@@ -14,7 +14,7 @@ use crate::sources::Sources;
 use crate::streams::Streams;
 use crate::task::{Task, Work};
 use std::alloc::Global;
-use yf_command_line::command::{Command, Fmt, Request};
+use yf_command_line::command::{Command, Fmt, Input, Request};
 use yf_command_line::command_line::parse_line;
 use yf_forms::style::Style;
 use yf_lines::fault::Fault;
@@ -150,6 +150,14 @@ fn do_command<I: Inputs, S: Links, W: Sink, E: Sink>(
             do_inputs(alloc, &task, &inputs, sources, streams)
         }
         Command::Fmt(fmt) => do_fmt(alloc, fmt, explain, style, sources, streams),
+        Command::Server => {
+            let task = Task {
+                work: Work::Serve,
+                style,
+                explain,
+            };
+            do_input(alloc, &task, &Input::Standard, sources, streams)
+        }
     }
 }
 

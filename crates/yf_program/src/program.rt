@@ -10,6 +10,7 @@ ghost use Rattle.yf_rules.specs.Quoted.{quoted};
 use crate::each::name_of;
 use crate::further::{report_input, tell_findings};
 use crate::report::report;
+use crate::server::run_server;
 use crate::streams::Streams;
 use crate::task::{Task, Work};
 use std::alloc::Global;
@@ -55,6 +56,7 @@ pub fn run<R: Source, W: Sink, E: Sink>(
         Work::Print => run_writer(alloc, task, reader, streams),
         Work::Compare => run_comparer(alloc, task, reader, streams),
         Work::Diff => run_differ(alloc, task, name_of(input), reader, streams),
+        Work::Serve => run_server(alloc, &task.style, reader, streams),
     }
 }
 

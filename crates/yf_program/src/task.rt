@@ -16,6 +16,8 @@ pub enum Work {
     Compare,
     /// The diff of it and its formatting is printed.
     Diff,
+    /// It is read as the messages of an editor, which are answered.
+    Serve,
 }
 
 /// What is done with an input, and how.

@@ -32,8 +32,7 @@ enum Wanted {
     Version,
 }
 
-pub const OVERVIEW: &str =
-    "Formats YAML in one house style, checks its style and prints its events
+pub const OVERVIEW: &str = "Formats YAML in one house style, checks its style and prints its events
 
 Usage: yamlfmt [OPTIONS] <COMMAND>
 

@@ -8,3 +8,6 @@ returns-in-Check g c = rw c.in-Check.is c.do_inputs.ensures
 
 pub returns-in-Fmt : goal.returns-in-Fmt
 returns-in-Fmt g c = rw c.in-Fmt.is c.do_fmt.ensures
+
+pub returns-in-Server : goal.returns-in-Server
+returns-in-Server g c = rw c.in-Server.is c.do_input-in-Server.ensures.does

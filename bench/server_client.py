@@ -1,0 +1,366 @@
+#!/usr/bin/env python3
+"""Drives `yamlfmt server` as an editor does.
+
+    bench/server_client.py PROGRAM [--times] [--edits N] [--seed N]
+
+PROGRAM is the built program (crates/yamlfmt/out/yamlfmt). The script opens documents, edits them at random, formats
+them, and compares each answer with a model of its own: the text that the edits must give, and what PROGRAM itself prints
+for that text by `fmt` and `check`. Then it sends what a broken client sends. With --times it measures how long an edit in
+a document of 1 MB and of 16 MB takes until its diagnostics are there.
+"""
+import argparse
+import json
+import os
+import random
+import subprocess
+import sys
+import time
+
+NAME = 'file:///tmp/one.yaml'
+
+
+class Server:
+    """A running server, and its pipes."""
+
+    def __init__(self, program, words=('server',)):
+        self.process = subprocess.Popen([program, *words], stdin=subprocess.PIPE, stdout=subprocess.PIPE,
+                                        stderr=subprocess.PIPE)
+        self.next_id = 0
+
+    def write(self, data):
+        self.process.stdin.write(data)
+        self.process.stdin.flush()
+
+    def send(self, message):
+        body = json.dumps(message, ensure_ascii=False).encode()
+        self.write(b'Content-Length: %d\r\n\r\n' % len(body) + body)
+
+    def notify(self, method, params=None):
+        message = {'jsonrpc': '2.0', 'method': method}
+        if params is not None:
+            message['params'] = params
+        self.send(message)
+
+    def receive(self):
+        length = None
+        while True:
+            line = self.process.stdout.readline()
+            if not line:
+                return None
+            if line == b'\r\n':
+                break
+            name, value = line.split(b':', 1)
+            if name.lower() == b'content-length':
+                length = int(value)
+        return json.loads(self.process.stdout.read(length))
+
+    def request(self, method, params=None):
+        """Sends a request and returns its response, and the notifications before it."""
+        self.next_id += 1
+        message = {'jsonrpc': '2.0', 'id': self.next_id, 'method': method}
+        if params is not None:
+            message['params'] = params
+        self.send(message)
+        before = []
+        while True:
+            answer = self.receive()
+            if answer is None or 'id' in answer:
+                return answer, before
+            before.append(answer)
+
+    def end(self):
+        """Closes the input, and returns the status and what was written since."""
+        output, errors = self.process.communicate(timeout=60)
+        return self.process.returncode, output, errors
+
+    def open(self, text, version=1, uri=NAME):
+        self.notify('textDocument/didOpen', {'textDocument': {
+            'uri': uri, 'languageId': 'yaml', 'version': version, 'text': text}})
+
+    def change(self, version, changes, uri=NAME):
+        self.notify('textDocument/didChange', {'textDocument': {'uri': uri, 'version': version},
+                                               'contentChanges': changes})
+
+
+def initialize(server, encodings=None):
+    capabilities = {'general': {'positionEncodings': encodings}} if encodings else {}
+    answer, _ = server.request('initialize', {'processId': None, 'rootUri': None, 'capabilities': capabilities})
+    server.notify('initialized', {})
+    return answer['result']['capabilities']
+
+
+# ---- the model: positions in UTF-16, lines that end with LF, CR LF or CR
+
+def lines_of(text):
+    lines, start, at = [], 0, 0
+    while at < len(text):
+        if text.startswith('\r\n', at):
+            lines.append((start, at))
+            at += 2
+            start = at
+        elif text[at] in '\r\n':
+            lines.append((start, at))
+            at += 1
+            start = at
+        else:
+            at += 1
+    lines.append((start, len(text)))
+    return lines
+
+
+def units(character, encoding):
+    if encoding == 'utf-32':
+        return 1
+    if encoding == 'utf-8':
+        return len(character.encode())
+    return 2 if ord(character) > 0xFFFF else 1
+
+
+def offset_of(text, position, encoding):
+    lines = lines_of(text)
+    if position['line'] >= len(lines):
+        return len(text)
+    start, end = lines[position['line']]
+    left = position['character']
+    at = start
+    while at < end and left >= units(text[at], encoding):
+        left -= units(text[at], encoding)
+        at += 1
+    return at
+
+
+def position_of(text, offset, encoding):
+    lines = lines_of(text)
+    number = max(k for k, line in enumerate(lines) if line[0] <= offset)
+    start, end = lines[number]
+    return {'line': number, 'character': sum(units(c, encoding) for c in text[start:min(offset, end)])}
+
+
+def apply(text, edits, encoding):
+    """The text after text edits, which are all of the same text."""
+    spans = [(offset_of(text, e['range']['start'], encoding), offset_of(text, e['range']['end'], encoding),
+              e['newText']) for e in edits]
+    for before, after in zip(spans, spans[1:]):
+        assert before[1] <= after[0], 'edits overlap'
+    for start, end, new in reversed(spans):
+        text = text[:start] + new + text[end:]
+    return text
+
+
+# ---- what the program says of a text elsewhere
+
+def run(program, command, text):
+    done = subprocess.run([program, *command], input=text.encode(), capture_output=True, check=False)
+    return done.returncode, done.stdout.decode(), done.stderr.decode()
+
+
+def check_document(program, server, text, encoding):
+    """The formatting and the diagnostics of an open document agree with `fmt` and `check`."""
+    answer, before = server.request('textDocument/formatting', {
+        'textDocument': {'uri': NAME}, 'options': {'tabSize': 8, 'insertSpaces': False}})
+    status, formatted, _ = run(program, ['fmt'], text)
+    if status == 0:
+        assert apply(text, answer['result'], encoding) == formatted, 'the edits give another text'
+        if text == formatted:
+            assert answer['result'] == [], 'edits of a formatted text'
+    else:
+        assert answer['result'] is None, 'a refused text is formatted'
+    return before
+
+
+def check_diagnostics(program, published, text, version, encoding):
+    assert published['method'] == 'textDocument/publishDiagnostics', published
+    params = published['params']
+    assert params['uri'] == NAME and params['version'] == version, params
+    status, findings, errors = run(program, ['check'], text)
+    listed = params['diagnostics']
+    if status in (0, 1):
+        wanted = sorted(line.split(' ')[1] for line in findings.splitlines())
+        assert sorted(d['code'] for d in listed) == wanted, (listed, findings)
+        assert all(d['severity'] == 2 for d in listed)
+    else:
+        assert len(listed) == 1 and listed[0]['severity'] == 1, listed
+        assert errors.strip().endswith('refused: ' + listed[0]['code']), (listed, errors)
+    for d in listed:
+        start = offset_of(text, d['range']['start'], encoding)
+        end = offset_of(text, d['range']['end'], encoding)
+        assert start <= end, d
+        assert position_of(text, start, encoding) == d['range']['start'], d
+
+
+# ---- sessions
+
+PIECES = ['a: 1\n', '- x\n', '  b:   2 \r\n', "k: 'v'\n", '# c\n', '\u00e9: \U0001F600\n', '[1,  2]\n', '\r\n', '\n', ' ',
+          'x', '\U0001F600', '---\n', '"q": |\n  text\n', '\t', '{a: b}\r\n', '&a x\n', '*a\n', '\r', '\u2028']
+
+
+def random_edits(program, count, seed, encoding):
+    chance = random.Random(seed)
+    server = Server(program)
+    capabilities = initialize(server, [encoding])
+    assert capabilities['positionEncoding'] == encoding, capabilities
+    text = ''.join(chance.choice(PIECES) for _ in range(20))
+    server.open(text)
+    check_diagnostics(program, server.receive(), text, 1, encoding)
+    for version in range(2, count + 2):
+        changes = []
+        for _ in range(chance.choice((1, 1, 1, 2, 3))):
+            if chance.random() < 0.02:
+                text = ''.join(chance.choice(PIECES) for _ in range(chance.randrange(12)))
+                changes.append({'text': text})
+                continue
+            start = chance.randrange(len(text) + 1)
+            end = min(len(text), start + chance.choice((0, 0, 1, 2, 9)))
+            # no position is between CR and LF
+            while 0 < start < len(text) and text[start - 1:start + 1] == '\r\n':
+                start -= 1
+            while 0 < end < len(text) and text[end - 1:end + 1] == '\r\n':
+                end += 1
+            new = chance.choice(PIECES) if chance.random() < 0.6 else ''
+            changes.append({'range': {'start': position_of(text, start, encoding),
+                                      'end': position_of(text, end, encoding)}, 'text': new})
+            text = text[:start] + new + text[end:]
+            if len(text) > 400:
+                text = text[:100]
+                changes.append({'text': text})
+        server.change(version, changes)
+        check_diagnostics(program, server.receive(), text, version, encoding)
+        if version % 10 == 0:
+            assert check_document(program, server, text, encoding) == []
+    answer, _ = server.request('shutdown')
+    assert answer['result'] is None
+    server.notify('exit')
+    assert server.end() == (0, b'', b''), 'the end of a session'
+
+
+def life_cycle(program):
+    server = Server(program)
+    answer, _ = server.request('textDocument/formatting', {})
+    assert answer['error']['code'] == -32002, answer
+    capabilities = initialize(server)
+    assert capabilities['positionEncoding'] == 'utf-16', capabilities
+    answer, _ = server.request('initialize', {})
+    assert answer['error']['code'] == -32600, answer
+    answer, _ = server.request('workspace/symbol', {})
+    assert answer['error']['code'] == -32601, answer
+    answer, _ = server.request('textDocument/formatting', {'textDocument': {'uri': NAME}})
+    assert answer['error']['code'] == -32602, answer
+    server.write(b'Content-Length: 3\r\n\r\n{{{')
+    answer = server.receive()
+    assert answer['error']['code'] == -32700 and answer['id'] is None, answer
+    server.write(b'Content-Length: 2\r\n\r\n[]')
+    answer = server.receive()
+    assert answer['error']['code'] == -32600 and answer['id'] is None, answer
+    server.open('a:   1\n')
+    assert server.receive()['params']['version'] == 1
+    server.change(1, [{'text': ''}])
+    assert server.receive()['method'] == 'window/logMessage'
+    again = server.receive()
+    check_diagnostics(program, again, 'a:   1\n', 1, 'utf-16')
+    server.change(2, [{'range': {'start': {'line': 1, 'character': 0}, 'end': {'line': 0, 'character': 0}},
+                       'text': ''}])
+    assert server.receive()['method'] == 'window/logMessage'
+    check_diagnostics(program, server.receive(), 'a:   1\n', 1, 'utf-16')
+    check_document(program, server, 'a:   1\n', 'utf-16')
+    server.notify('textDocument/didSave', {'textDocument': {'uri': NAME}})
+    server.notify('$/cancelRequest', {'id': 1})
+    server.notify('textDocument/didClose', {'textDocument': {'uri': NAME}})
+    closed = server.receive()
+    assert closed['params'] == {'uri': NAME, 'diagnostics': []}, closed
+    server.request('shutdown')
+    answer, _ = server.request('textDocument/formatting', {'textDocument': {'uri': NAME}})
+    assert answer['error']['code'] == -32600, answer
+    server.notify('exit')
+    assert server.end() == (0, b'', b'')
+
+
+def broken_clients(program):
+    """Each ends the server with a status, and with one line on the error stream, or none."""
+    body = b'{"jsonrpc":"2.0","method":"exit"}'
+    cases = [
+        (b'', 1, b''),
+        (b'Content-Length: 33\r\n\r\n' + body, 1, b''),
+        (b'content-LENGTH: 33\r\nContent-Type: x\r\n\r\n' + body, 1, b''),
+        (b'Content-Length: 33\r\n\r\n' + body[:20], 1, b''),
+        (b'Content-Le', 1, b''),
+        (b'garbage\x00\x01\r\n\r\n', 3, b'message refused: malformed header\n'),
+        (b'Content-Type: x\r\n\r\n{}', 3, b'message refused: no content length\n'),
+        (b'Content-Length: -1\r\n\r\n{}', 3, b'message refused: no content length\n'),
+        (b'Content-Length: 2, 3\r\n\r\n{}', 3, b'message refused: no content length\n'),
+        (b'Content-Length: 99999999999\r\n\r\n{}', 3, b'message refused: too long\n'),
+        (b'Content-Length: 1073741824\r\n\r\n{}', 1, b''),
+        (b''.join(b'X-%d: y\r\n' % k for k in range(40)) + b'\r\n', 3, b'message refused: malformed header\n'),
+    ]
+    for data, status, line in cases:
+        server = Server(program)
+        try:
+            server.write(data)
+        except BrokenPipeError:
+            pass
+        ended = server.end()
+        assert ended == (status, b'', line), (data, ended)
+    # a length that lies: what follows it is read as the next message
+    server = Server(program)
+    server.write(b'Content-Length: 2\r\n\r\n' + body)
+    ended = server.end()
+    assert ended[0] == 3 and b'-32700' in ended[1], ended
+    deep = b'[' * 100000
+    server = Server(program)
+    server.write(b'Content-Length: %d\r\n\r\n' % len(deep) + deep)
+    assert server.receive()['error']['code'] == -32700
+    server.process.kill()
+    server.process.wait()
+
+
+def one_time(program, size):
+    line = 'key_%07d: some value of a line\n'
+    text = '---\n' + ''.join(line % k for k in range(size // len(line % 0)))
+    server = Server(program)
+    initialize(server)
+    began = time.monotonic()
+    server.open(text)
+    server.receive()
+    opened = time.monotonic() - began
+    best = None
+    middle = text.count('\n') // 2
+    for version in range(2, 7):
+        began = time.monotonic()
+        server.change(version, [{'range': {'start': {'line': middle, 'character': 13},
+                                           'end': {'line': middle, 'character': 13}}, 'text': 'x'}])
+        server.receive()
+        taken = time.monotonic() - began
+        best = taken if best is None else min(best, taken)
+    began = time.monotonic()
+    server.request('textDocument/formatting', {'textDocument': {'uri': NAME}})
+    formatted = time.monotonic() - began
+    server.request('shutdown')
+    server.notify('exit')
+    server.process.stdin.close()
+    _, status, usage = os.wait4(server.process.pid, 0)
+    server.process.returncode = os.waitstatus_to_exitcode(status)
+    print(f'{size:>10} bytes: opened in {opened * 1000:.0f} ms, an edit in {best * 1000:.0f} ms, formatted in '
+          f'{formatted * 1000:.0f} ms, {usage.ru_maxrss * 1024 / size:.1f} bytes of memory a byte')
+
+
+def main():
+    parser = argparse.ArgumentParser()
+    parser.add_argument('program')
+    parser.add_argument('--times', action='store_true')
+    parser.add_argument('--edits', type=int, default=1000)
+    parser.add_argument('--seed', type=int, default=1)
+    given = parser.parse_args()
+    program = os.path.abspath(given.program)
+    life_cycle(program)
+    print('life cycle: as expected')
+    broken_clients(program)
+    print('broken clients: as expected')
+    for encoding in ('utf-16', 'utf-8', 'utf-32'):
+        random_edits(program, given.edits, given.seed, encoding)
+        print(f'{given.edits} random edits in {encoding}: as expected')
+    if given.times:
+        for size in (1_000_000, 16_000_000):
+            one_time(program, size)
+
+
+if __name__ == '__main__':
+    sys.exit(main())

@@ -1,0 +1,48 @@
+//! A session of the editor server, in memory.
+
+use crate::tests::answers::{Asked, answer_to};
+use std::alloc::{AllocError, Global};
+use yf_forms::style::Style;
+
+/// What a client sends.
+static RECEIVED: [&str; 6] = [
+    r#"{"jsonrpc":"2.0","id":1,"method":"initialize","params":{"capabilities":{}}}"#,
+    r#"{"jsonrpc":"2.0","method":"initialized","params":{}}"#,
+    r#"{"jsonrpc":"2.0","method":"textDocument/didOpen","params":{"textDocument":{"uri":"u","languageId":"yaml","version":7,"text":"a: 1\n"}}}"#,
+    r#"{"jsonrpc":"2.0","id":"f","method":"textDocument/formatting","params":{"textDocument":{"uri":"u"},"options":{}}}"#,
+    r#"{"jsonrpc":"2.0","id":3,"method":"shutdown"}"#,
+    r#"{"jsonrpc":"2.0","method":"exit"}"#,
+];
+
+/// What the server sends.
+static SENT: [&str; 4] = [
+    r#"{"id":1,"jsonrpc":"2.0","result":{"capabilities":{"documentFormattingProvider":true,"positionEncoding":"utf-16","textDocumentSync":{"change":2,"openClose":true}}}}"#,
+    r#"{"jsonrpc":"2.0","method":"textDocument/publishDiagnostics","params":{"diagnostics":[{"code":"document-start","message":"no `---` before the document","range":{"end":{"character":0,"line":0},"start":{"character":0,"line":0}},"severity":2,"source":"yamlfmt"}],"uri":"u","version":7}}"#,
+    r#"{"id":"f","jsonrpc":"2.0","result":[{"newText":"---\n","range":{"end":{"character":0,"line":0},"start":{"character":0,"line":0}}}]}"#,
+    r#"{"id":3,"jsonrpc":"2.0","result":null}"#,
+];
+
+/// Messages as they are written.
+fn framed(alloc: Global, contents: &[&str]) -> Result<Vec<u8>, AllocError> {
+    let mut bytes = Vec::new(alloc);
+    for content in contents {
+        let length = content.len();
+        let head = format!(in alloc; "Content-Length: {length}\r\n\r\n")?;
+        bytes.extend_from_slice(head.as_str().as_bytes())?;
+        bytes.extend_from_slice(content.as_bytes())?;
+    }
+    Ok(bytes)
+}
+
+/// Whether the server sends that, and nothing else, and ends well.
+fn is_served(alloc: Global) -> Result<bool, AllocError> {
+    let received = framed(alloc, &RECEIVED)?;
+    let sent = framed(alloc, &SENT)?;
+    let answer = answer_to(alloc, Asked::Serve, &Style::house(), received.as_slice());
+    Ok(answer.status == 0 && answer.output.as_slice() == sent.as_slice() && answer.line.is_empty())
+}
+
+#[test]
+fn serves_a_session(rt: HostRuntime) {
+    assert!(rt; matches!(is_served(rt.alloc()), Ok(true)));
+}

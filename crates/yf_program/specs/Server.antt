@@ -1,0 +1,75 @@
+-- What the editor server does with standard input and the two streams that it writes to.
+use Rattle.std.specs.Prelude.{◌≡◌, ◌≢◌, ◌⊎◌, ◌<◌, ℕ, List, length, Bool, true, false, Option, None, Some, codes}
+use Rattle.yf_forms.specs.declared.style.Style.{Style}
+use Rattle.yf_json_rpc.specs.declared.frame.FrameError.{FrameError}
+use Rattle.yf_json_rpc.specs.declared.frame.FrameError.TheVariants as frame
+use Rattle.yf_lines.specs.declared.fault.Fault.{Fault}
+use Rattle.yf_lines.specs.declared.fault.Fault.TheVariants as fault
+use Rattle.yf_rules.specs.Headline.{Headline}
+use Rattle.yf_rules.specs.Runs.ByteStream.{ByteStream, NothingWritten, WrittenOrFailed}
+use Rattle.yf_rules.specs.declared.run.TheConstants.{INPUT_LIMIT}
+use Rattle.yf_server.specs.Analysis.{TextClaim}
+use Rattle.yf_server_loop.specs.Sessions.{Moment, SessionRuns}
+use Rattle.yf_server_loop.specs.declared.ended.Ended.{Ended}
+use Rattle.yf_server_loop.specs.declared.ended.Ended.TheVariants as ended
+use Rattle.yf_stream.specs.StreamReader.{StreamFault}
+use Rattle.yf_program.specs.Problems.{FindsProblems}
+use Rattle.yf_program.specs.Report.{fault_line, fault_status}
+use Rattle.yf_program.specs.World.{OutputStreams}
+
+-- What the formatting of a text in a style gives: the text of which `Headline` speaks; or none, since the text is too
+-- long, or refused.
+abbrev pub FormatsText : Style → List ℕ → Option (List ℕ) → Type 0
+FormatsText style text (Some new) = Headline text style new
+FormatsText style text None =
+    (INPUT_LIMIT < length text) ⊎ ((why : Fault) × (why ≢ fault.Memory) × StreamFault text why)
+
+-- What the server knows of texts.
+abbrev pub text_claim : Style → TextClaim
+text_claim style = record { Formats = FormatsText style; Finds = FindsProblems style }
+
+-- The fault is that memory was refused.
+abbrev pub is_memory : Fault → Bool
+is_memory fault.Memory = true
+is_memory _ = false
+
+-- The line for bytes that begin with no message.
+abbrev pub frame_line : FrameError → List ℕ
+frame_line frame.Header = codes "message refused: malformed header\n"
+frame_line frame.Length = codes "message refused: no content length\n"
+frame_line frame.TooLong = codes "message refused: too long\n"
+
+-- 0 for `exit` after `shutdown`, else 1
+abbrev pub exit_status : Bool → ℕ
+exit_status true = 0
+exit_status false = 1
+
+-- The line of a fault was written to the stream of faults, and the status is that of the fault.
+abbrev pub EndsAs : Fault → ℕ → ByteStream → ByteStream → Type 0
+EndsAs f status before after = (status ≡ fault_status f) × WrittenOrFailed before after (fault_line f)
+
+-- How a session ended, by the status and by what was written to the stream of faults.
+abbrev pub TellsEnd : Ended → ℕ → ByteStream → ByteStream → Type 0
+TellsEnd (ended.Exit is_success) status before after = (status ≡ exit_status is_success) × NothingWritten before after
+TellsEnd ended.EndOfInput status before after = (status ≡ 1) × NothingWritten before after
+TellsEnd (ended.Frame why) status before after = (status ≡ 3) × WrittenOrFailed before after (frame_line why)
+TellsEnd ended.ReadFailed status before after = EndsAs fault.ReadFailed status before after
+TellsEnd ended.TooMany status before after = EndsAs fault.ReadFailed status before after
+TellsEnd ended.WriteFailed status before after = EndsAs fault.WriteFailed status before after
+TellsEnd ended.Memory status before after = EndsAs fault.Memory status before after
+
+-- A reader and a writer at a moment.
+abbrev pub moment_between : ByteStream → ByteStream → Moment
+moment_between reader writer = record {
+  input = reader.contents;
+  input_failed = reader.failed;
+  output = writer.contents;
+  output_failed = writer.failed;
+}
+
+-- A session was served, in a style.
+pub record Served (style : Style) (status : ℕ) (reader left : ByteStream) (before after : OutputStreams) : Type 0 where
+  pub why : Ended
+  pub session : SessionRuns (text_claim style) (moment_between reader before.output)
+      (moment_between left after.output) why
+  pub told : TellsEnd why status before.errors after.errors

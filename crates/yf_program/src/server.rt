@@ -1,0 +1,112 @@
+//! The editor server, over any reader and any two streams.
+ghost use Rattle.std.specs.Prelude.{◌≡◌};
+ghost use Rattle.yf_rules.specs.Runs.ByteStream.{stream_of};
+ghost use Rattle.yf_program.specs.Server.{Served, TellsEnd, exit_status, frame_line, is_memory};
+
+use crate::problems::problems_in;
+use crate::report::report;
+use crate::streams::Streams;
+use std::alloc::{AllocError, Global};
+use yf_forms::style::Style;
+use yf_json_rpc::frame::FrameError;
+use yf_lines::fault::Fault;
+use yf_lines::output::write_text;
+use yf_lines::watched::{Sink, Source};
+use yf_rules::format::format;
+use yf_rules::run::INPUT_LIMIT;
+use yf_server::analysis::{Analysis, Problem};
+use yf_server_loop::ended::Ended;
+use yf_server_loop::serve::serve;
+
+/// The status if the bytes that were read begin with no message.
+const NO_MESSAGE: u8 = 3;
+
+// What the server knows of texts, in a style.
+#[derive(Clone, Copy)]
+struct StyleAnalysis<'a> {
+    style: &'a Style,
+}
+
+// Returns whether a fault is that memory was refused.
+fn is_memory(fault: &Fault) -> bool
+    ensures { result ≡ is_memory fault.now }
+{
+    matches!(fault, Fault::Memory)
+}
+
+impl Analysis for StyleAnalysis<'_> {
+    ghost use Rattle.yf_program.specs.Server.{text_claim};
+
+    ghost claim = { λ it. text_claim it.style.now };
+
+    fn formatted(&self, alloc: Global, text: &str) -> Result<Option<String>, AllocError> {
+        if text.len() > INPUT_LIMIT {
+            return Ok(None);
+        }
+        match format(alloc, text, self.style) {
+            Ok(new) => Ok(Some(new)),
+            Err(fault) => {
+                if is_memory(&fault) {
+                    return Err(AllocError);
+                }
+                Ok(None)
+            }
+        }
+    }
+
+    fn problems(&self, alloc: Global, text: &str) -> Result<Vec<Problem>, AllocError> {
+        problems_in(alloc, text, self.style)
+    }
+}
+
+/// Serves a client in a style, over a reader of its messages, and returns the status.
+pub fn run_server<R: Source, W: Sink, E: Sink>(
+    alloc: Global,
+    style: &Style,
+    reader: &mut R,
+    streams: &mut Streams<W, E>,
+) -> u8
+    ensures { Served style.now result (stream_of R.remaining R.has_failed reader.old)
+        (stream_of R.remaining R.has_failed reader.new) streams.old streams.new }
+{
+    let analysis = StyleAnalysis { style };
+    let ended = serve(alloc, &analysis, reader, &mut streams.output);
+    tell_end(ended, &mut streams.errors)
+}
+
+// Writes the line of a session that ended with a fault, and returns the status.
+fn tell_end<E: Sink>(ended: Ended, error_stream: &mut E) -> u8
+    ensures { TellsEnd ended result (stream_of E.contents E.has_failed error_stream.old)
+        (stream_of E.contents E.has_failed error_stream.new) }
+{
+    match ended {
+        Ended::Exit { is_success } => exit_status(is_success),
+        Ended::EndOfInput => 1,
+        Ended::Frame(error) => {
+            let _ = write_text(error_stream, frame_line(error).as_bytes());
+            NO_MESSAGE
+        }
+        Ended::ReadFailed => report(&Fault::ReadFailed, error_stream),
+        Ended::TooMany => report(&Fault::ReadFailed, error_stream),
+        Ended::WriteFailed => report(&Fault::WriteFailed, error_stream),
+        Ended::Memory => report(&Fault::Memory, error_stream),
+    }
+}
+
+// Returns the status after `exit`.
+fn exit_status(is_success: bool) -> u8
+    ensures { result ≡ exit_status is_success }
+{
+    if is_success { 0 } else { 1 }
+}
+
+// Returns the line for bytes that begin with no message.
+fn frame_line(error: FrameError) -> &'static str
+    ensures { result.now ≡ frame_line error }
+{
+    match error {
+        FrameError::Header => "message refused: malformed header\n",
+        FrameError::Length => "message refused: no content length\n",
+        FrameError::TooLong => "message refused: too long\n",
+    }
+}
