@@ -14,6 +14,7 @@ enum Verb {
     Events,
     Check,
     Fmt,
+    Server,
 }
 
 /// The expected result of a command line.
@@ -40,6 +41,7 @@ Commands:
   events  Print the events of a YAML stream
   check   Report what is not in the house style
   fmt     Format YAML in the house style
+  server  Serve an editor by the Language Server Protocol
   help    Print this message or the help of the given subcommand(s)
 
 Options:
@@ -48,7 +50,7 @@ Options:
   -V, --version  Print version
 ";
 
-static LINES: [(&str, Wanted); 60] = [
+static LINES: [(&str, Wanted); 66] = [
     (
         "events",
         Wanted::Command(Verb::Events, "", "", false, false, false, 0),
@@ -117,7 +119,18 @@ static LINES: [(&str, Wanted); 60] = [
         "--explain fmt --explain --write a",
         Wanted::Command(Verb::Fmt, "", "a", true, false, false, 0),
     ),
+    (
+        "server",
+        Wanted::Command(Verb::Server, "", "", false, false, false, 0),
+    ),
+    (
+        "--explain server --stdio --config s.toml",
+        Wanted::Command(Verb::Server, "s.toml", "", false, false, false, 0),
+    ),
     ("", Wanted::Wrong),
+    ("server a.yaml", Wanted::Wrong),
+    ("server --explain", Wanted::Wrong),
+    ("server --stdio --stdio", Wanted::Wrong),
     ("--explain", Wanted::Wrong),
     ("--explain --explain check a", Wanted::Wrong),
     ("check --explain --explain a", Wanted::Wrong),
@@ -180,6 +193,20 @@ Options:
       --explain          Explain errors and findings on standard error
       --without <RULES>  Skip these rules (comma-separated)
   -h, --help             Print help
+",
+        ),
+    ),
+    (
+        "server --help",
+        Wanted::Help(
+            "Serve an editor by the Language Server Protocol
+
+Usage: yamlfmt server [OPTIONS]
+
+Options:
+      --config <FILE>  Read the settings from this TOML file
+      --stdio          Use standard input and standard output, as the server always does
+  -h, --help           Print help
 ",
         ),
     ),
@@ -335,6 +362,7 @@ fn shape(command: &Command) -> Shape<'_> {
             let FileList { first, rest } = files;
             (Verb::Fmt, first.as_str(), true, false, false, rest.len())
         }
+        Command::Server => (Verb::Server, "", false, false, false, 0),
     }
 }
 
