@@ -5,13 +5,14 @@
 - the examples of README.md and docs/STYLE.md;
 - whether `--version` prints the newest version of CHANGELOG.md, and the logic of README.md, docs/PROVED.md and
   `rt version`;
-- whether `patch` turns a hundred texts into their formatting by the output of `fmt --diff`.
+- whether `patch` turns a hundred texts into their formatting by the output of `fmt --diff`;
+- the extension for VS Code, in Node (bench/vscode_client.js).
 
 It prints `tried`, `FAILED`, `no TOOL` or `not tried` for each, and returns 1 if one failed.
 
-For VS Code, JetBrains, GitHub and GitLab it runs only the commands and patterns (the matchers by bench/lines.py, the
-workflows by bench/workflows.py, the editors by bench/editors.py): not the programs themselves, how they read their
-settings, nor GitHub's actions and cache. It does not test the Dockerfile.
+For VS Code, JetBrains, Helix, Zed, Kate, Sublime Text, GitHub and GitLab it runs only the commands and patterns (the
+matchers by bench/lines.py, the workflows by bench/workflows.py, the editors by bench/editors.py): not the programs
+themselves, how they read their settings, nor GitHub's actions and cache. It does not test the Dockerfile.
 
 Usage: bench/recipes.py [PROGRAM]     (default: the program that ./yamlfmt builds; build it first)
 
@@ -34,7 +35,7 @@ import faults
 import left
 import lines
 import workflows
-from scratch import BAD, GOOD, NOISE, TOP, read, recipes, repository, script, sh, with_hooks, write
+from scratch import BAD, GOOD, NOISE, NoTool, TOP, read, recipes, repository, script, sh, with_hooks, write
 
 
 def folder(room, text, clone):
@@ -171,6 +172,9 @@ TOOLS = {'folder': ('git', folder), 'changed': ('git', changed), 'make': ('make'
          'pre-commit': ('pre-commit', pre_commit), 'pre-commit-package': ('pre-commit', pre_commit_package),
          'pre-commit-templates': ('pre-commit', pre_commit_templates), 'long-lines': ('git', long_lines),
          'pre-commit-long-lines': ('pre-commit', pre_commit_long_lines), 'vim': ('vim', editors.vim), 'neovim': ('nvim', editors.neovim),
+         'neovim-server': ('nvim', editors.neovim_server), 'neovim-enable': ('nvim', editors.neovim_enable),
+         'neovim-server-save': ('nvim', editors.neovim_server_save), 'emacs-server': ('emacs', editors.emacs_server),
+         **{name + '-server': ('git', editors.server_settings) for name in ('helix', 'zed', 'kate', 'sublime')},
          'neovim-save': ('nvim', editors.neovim_save), 'emacs': ('emacs', editors.emacs), 'emacs-save': ('emacs', editors.emacs_save),
          'vscode': ('git', editors.vscode), 'jetbrains': ('git', editors.jetbrains), 'workflow-build': ('git', workflows.build),
          'workflow': ('git', workflows.check), 'matcher': ('git', lines.matcher), 'gitlab': ('git', workflows.gitlab),
@@ -267,6 +271,17 @@ def patched(program):
     return True
 
 
+def extension(program):
+    """Whether the extension for VS Code works with a stand-in for VS Code's API."""
+    if not shutil.which('node'):
+        print('no node')
+        return True
+    done = sh(['node', TOP + '/bench/vscode_client.js', program], TOP, timeout=120)
+    if done.returncode:
+        print('  ' + done.stdout)
+    return not done.returncode
+
+
 def is_in_style(text, program):
     """Whether a recipe that is YAML is in the house style, so that it passes the check that it sets up."""
     if not text.startswith('---'):
@@ -290,6 +305,9 @@ def is_good(name, text, clone, program):
         script(room + '/bin/yamlfmt', "echo '%s' >&2\nexec '%s' \"$@\"\n" % (NOISE, program))
         try:
             good = tried(room, text, clone) and is_in_style(text, program)
+        except NoTool as tool:
+            print('%s: no %s' % (name, tool))
+            return True
         except Exception as fault:
             print('  %r' % fault)
             good = False
@@ -321,7 +339,7 @@ def main():
     good = all([*style_rows(program)])
     print('docs/STYLE.md: %s' % ('tried' if good else 'FAILED'))
     failed += not good
-    for page, tried in (('README.md', readme), ('CHANGELOG.md', version), ('fmt --diff', patched)):
+    for page, tried in (('README.md', readme), ('CHANGELOG.md', version), ('fmt --diff', patched), ('editors/vscode', extension)):
         good = tried(program)
         print('%s: %s' % (page, 'tried' if good else 'FAILED'))
         failed += not good

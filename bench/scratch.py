@@ -11,6 +11,10 @@ NOISE = 'yamlfmt: building the program'
 VERBS = (['check'], ['fmt', '--check'], ['fmt', '--diff'], ['fmt', '--write'])
 
 
+class NoTool(Exception):
+    """A recipe can't be tried, since this tool is not installed."""
+
+
 def recipes(clone):
     """The recipes of docs/RECIPES.md by name, with the hooks of the clone."""
     found = re.findall(r'<!-- recipe: ([a-z-]+) -->\n```\w+\n(.*?)```', read(TOP + '/docs/RECIPES.md'), re.S)
