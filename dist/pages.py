@@ -36,6 +36,10 @@ class Command:
     options: list
     arguments: list  # pairs of a name and what it is
 
+    def is_help(self):
+        """Whether it is the command `help`, which takes the name of another command."""
+        return self.name == 'help'
+
 
 def said(program, *words):
     return subprocess.run([program, *words], check=True, stdout=subprocess.PIPE, text=True, stdin=subprocess.DEVNULL).stdout
@@ -114,7 +118,7 @@ def synopsis(commands):
     for one in commands:
         words = ['\\fByamlfmt %s\\fR' % one.name]
         words += ['[%s]' % roff_option(dataclasses.replace(option, short='')) for option in one.options if option.long != '--help']
-        words += ['[\\fI%s\\fR]' % name for name, _ in one.arguments] or ['[\\fICOMMAND\\fR]']
+        words += ['[\\fI%s\\fR]' % name for name, _ in one.arguments] + ['[\\fICOMMAND\\fR]'] * one.is_help()
         yield from (' '.join(words), '.br')
     yield '\\fByamlfmt\\fR \\fB\\-\\-version\\fR'
 
@@ -215,7 +219,7 @@ def zsh(program):
     listed = '\n'.join('        ' + quoted('%s:%s' % (one.name, one.about)) for one in commands)
     cases = []
     for one in commands:
-        if not one.arguments:
+        if one.is_help():
             cases.append('                %s) _describe -t commands command commands ;;' % one.name)
             continue
         words = [zsh_option(option) for option in one.options]
@@ -276,7 +280,7 @@ def fish(program):
         lines += [fish_option(when, option) for option in one.options]
         if one.arguments:
             lines.append('complete -c yamlfmt -n %s -F' % fish_quoted(when))
-        else:
+        elif one.is_help():
             others = ' '.join(other.name for other in commands if other is not one)
             lines.append('complete -c yamlfmt -n %s -a %s' % (fish_quoted(when), fish_quoted(others)))
     return '\n'.join(lines) + '\n'
