@@ -132,10 +132,13 @@ async function main() {
   }
   assert.strictEqual(fs.readFileSync(status, 'utf8'), '0\n');
   assert.deepStrictEqual(errors, []);
+  fs.writeFileSync(settings.path, '#!/bin/sh\necho no memory >&2\nexit 3\n');
+  await activate({ subscriptions: [] });
+  assert.match(errors[0], /no memory/);
   settings.path = path.join(room, 'none');
   await activate({ subscriptions: [] });
-  assert.strictEqual(errors.length, 1);
-  await deactivate();
+  assert.match(errors[1], /ENOENT/);
+  assert.strictEqual(errors.length, 2);
 }
 
 main().finally(() => fs.rmSync(room, { recursive: true }));

@@ -42,6 +42,9 @@ class Session {
 
   async start() {
     await this.connection.request('initialize', { processId: process.pid, rootUri: null, capabilities: {} });
+    if (this.isStopping) {
+      return;
+    }
     this.connection.notify('initialized', {});
     const { workspace, languages } = vscode;
     workspace.textDocuments.forEach((document) => this.open(document));
@@ -117,9 +120,9 @@ class Session {
   }
 
   async stop() {
-    const isRunning = !this.isStopping;
-    this.dispose();
-    if (isRunning) {
+    if (!this.isStopping) {
+      this.dispose();
+      setTimeout(() => this.server.kill(), 2000).unref();
       await this.connection.request('shutdown').catch(() => {});
       this.connection.notify('exit');
       this.server.stdin.end();
@@ -128,18 +131,19 @@ class Session {
 }
 
 async function restart() {
-  await deactivate();
+  const ending = session;
   const started = new Session();
   session = started;
+  if (ending) {
+    ending.stop();
+  }
   // If the server does not start, `ended` shows why.
   await started.start().catch(() => {});
 }
 
 async function deactivate() {
-  const ending = session;
-  session = undefined;
-  if (ending) {
-    await ending.stop();
+  if (session) {
+    await session.stop();
   }
 }
 
