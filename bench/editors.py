@@ -192,7 +192,8 @@ def sessions(room, words, session):
         write(room + '/found', '')
         said = sh(words(name), room, timeout=120).stdout
         found = [[tuple(one) for one in json.loads(line) or []] for line in read(room + '/found').splitlines()]
-        if (read(room + '/' + name), [sorted(one) for one in found]) != (after, [[tuple(one) for one in some] for some in problems]):
+        wanted = [[tuple(one) for one in some] for some in problems]
+        if read(room + '/' + name) != after or [sorted(one) for one in found] != wanted:
             print('  %s: %r, %r: %s' % (name, read(room + '/' + name), found, said))
             good = False
     return good

@@ -44,8 +44,12 @@ const vscode = {
   Uri: { parse: (text) => ({ scheme: 'file', toString: () => text }) },
   commands: { registerCommand: () => ({ dispose() {} }) },
   languages: {
-    createDiagnosticCollection: () => ({ set: (uri, found) => shown.set(String(uri), found), dispose: () => shown.clear() }),
-    match: (filters, { languageId, uri }) => filters.some((one) => one.language === languageId && one.scheme === uri.scheme),
+    createDiagnosticCollection: () => ({
+      set: (uri, found) => shown.set(String(uri), found),
+      dispose: () => shown.clear(),
+    }),
+    match: (filters, { languageId, uri }) => filters
+      .some(({ language, scheme }) => language === languageId && scheme === uri.scheme),
     registerDocumentFormattingEditProvider: (_, given) => {
       provider = given;
       return { dispose() { provider = undefined; } };
@@ -69,7 +73,8 @@ const { activate, deactivate } = require('../editors/vscode/client.js');
 
 // A document whose lines end with LF, so JavaScript's units are those of the protocol.
 function documentOf(text) {
-  return { uri: vscode.Uri.parse('file:///tmp/a%20b.yaml'), languageId: 'yaml', version: 1, text, getText() { return this.text; } };
+  const uri = vscode.Uri.parse('file:///tmp/a%20b.yaml');
+  return { uri, languageId: 'yaml', version: 1, text, getText() { return this.text; } };
 }
 
 function offsetOf(text, { line, character }) {
@@ -81,8 +86,8 @@ function offsetOf(text, { line, character }) {
 }
 
 function edited(text, edits) {
-  return edits.filter((edit) => edit.range).reverse().reduce((rest, { range, newText }) => rest.slice(0, offsetOf(text, range.start))
-    + newText + rest.slice(offsetOf(text, range.end)), text);
+  return edits.filter((edit) => edit.range).reverse().reduce((rest, { range: { start, end }, newText }) => (
+    rest.slice(0, offsetOf(text, start)) + newText + rest.slice(offsetOf(text, end))), text);
 }
 
 function change(document, start, text) {
@@ -95,7 +100,8 @@ const printed = (words, input) => spawnSync(program, words, { input, encoding: '
 
 // Waits until the extension shows what `check` finds in the document.
 async function agreed(document) {
-  const wanted = printed(['check'], document.text).trim().split('\n').filter(Boolean).map((line) => line.split(' ').slice(0, 2).join(' '));
+  const lines = printed(['check'], document.text).trim().split('\n').filter(Boolean);
+  const wanted = lines.map((line) => line.split(' ').slice(0, 2).join(' '));
   let found;
   for (let left = 200; left > 0; left--) {
     found = (shown.get(String(document.uri)) || [])
