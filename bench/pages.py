@@ -161,7 +161,7 @@ def options():
     """The options of the command line, from the constants of the file that declares them."""
     for path in glob.glob(TOP + '/crates/*/src/options.rt'):
         found = re.findall(r'const ([A-Z_]+): &str = "([a-z-]+)";', read(path))
-        names = [word for _, word in found if word not in ('events', 'check', 'fmt', 'yamlfmt', 'file')]
+        names = [word for _, word in found if word not in ('events', 'check', 'fmt', 'server', 'stdio', 'yamlfmt', 'file')]
         if 'write' in names:
             return sorted({'--' + word for word in names} | {'--check'})
     return []
