@@ -18,6 +18,7 @@ mod hostile;
 mod laws;
 mod limits;
 mod memory;
+mod overview;
 mod owner;
 mod program;
 mod replacing;

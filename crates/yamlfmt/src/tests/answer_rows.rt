@@ -1,6 +1,6 @@
 //! Command lines, and the results of the whole program.
 
-use crate::tests::command_line::OVERVIEW;
+use crate::tests::overview::OVERVIEW;
 
 /// The contents of the file before the run.
 pub const BEFORE: &str = "- 'a'\n";

@@ -1,6 +1,7 @@
 //! Command lines: their requests, and the texts of help and of refusals.
 
 use crate::tests::answers::words_of;
+use crate::tests::overview::OVERVIEW;
 use std::alloc::Global;
 use yf_command_line::command::{Command, FileList, Fmt, Input, InputList, Request};
 use yf_command_line::command_line::parse_line;
@@ -32,23 +33,6 @@ enum Wanted {
     /// The version and the lines about the build.
     Version,
 }
-
-pub const OVERVIEW: &str = "Formats YAML in one house style, checks its style and prints its events
-
-Usage: yamlfmt [OPTIONS] <COMMAND>
-
-Commands:
-  events  Print the events of a YAML stream
-  check   Report what is not in the house style
-  fmt     Format YAML in the house style
-  server  Serve an editor by the Language Server Protocol
-  help    Print this message or the help of the given subcommand(s)
-
-Options:
-      --explain  Explain errors and findings on standard error
-  -h, --help     Print help
-  -V, --version  Print version
-";
 
 static LINES: [(&str, Wanted); 66] = [
     (

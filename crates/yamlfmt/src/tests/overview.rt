@@ -1,0 +1,18 @@
+//! What `yamlfmt --help` prints.
+
+pub const OVERVIEW: &str = "Formats YAML in one house style, checks its style and prints its events
+
+Usage: yamlfmt [OPTIONS] <COMMAND>
+
+Commands:
+  events  Print the events of a YAML stream
+  check   Report what is not in the house style
+  fmt     Format YAML in the house style
+  server  Serve an editor by the Language Server Protocol
+  help    Print this message or the help of the given subcommand(s)
+
+Options:
+      --explain  Explain errors and findings on standard error
+  -h, --help     Print help
+  -V, --version  Print version
+";
