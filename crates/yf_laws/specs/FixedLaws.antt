@@ -12,7 +12,7 @@ use Rattle.yf_forms.specs.NormalForms.Normal.{Normal}
 abbrev pub IsNormalText : Style → List ℕ → Type 0
 IsNormalText s u = (q : Lists) → ReadingOf u q → Normal u q s q
 
--- The reading of what formatting gives is in normal form: a second run changes no style, no bracket and no property of it.
+-- The reading of a formatted text is in normal form: a second run changes no style, bracket or property.
 abbrev pub FormatsAreNormal : Type 0
 FormatsAreNormal = (t u : List ℕ) (s : Style) → IsUtf8 t → IsFormatting t s u → IsNormalText s u
 

@@ -1,4 +1,4 @@
--- What formatting a text gives.
+-- The formatting of a text.
 use Rattle.std.specs.Prelude.{ℕ, List}
 use Rattle.yf_events.specs.declared.lists.Lists.{Lists}
 use Rattle.yf_forms.specs.declared.style.Style.{Style}

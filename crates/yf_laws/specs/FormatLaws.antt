@@ -1,5 +1,6 @@
--- The laws of what formatting gives, each with the plain sentence that it says. `proofs/SameReading/FormatLawsHold.antt`, `proofs/Trails/FormatTrails.antt`,
--- `proofs/Derived/FormatsRead.antt`, `proofs/SameReading/SameContent.antt` and `proofs/SameReading/SameComments.antt` prove them.
+-- The laws of formatted texts, each with a plain sentence. `proofs/SameReading/FormatLawsHold.antt`,
+-- `proofs/Trails/FormatTrails.antt`, `proofs/Derived/FormatsRead.antt`, `proofs/SameReading/SameContent.antt` and
+-- `proofs/SameReading/SameComments.antt` prove them.
 use Rattle.std.specs.Prelude.{◌≡◌, ℕ, List}
 use Rattle.std.specs.Str.{IsUtf8}
 use Rattle.yf_events.specs.declared.lists.Lists.{Lists}
@@ -19,15 +20,15 @@ use Rattle.yf_laws.specs.Layouts.Layout.{source_of}
 abbrev pub FormatsExist : Type 0
 FormatsExist = (t : List ℕ) (s : Style) (r : Lists) → ReadingOf t r → (u : List ℕ) × IsFormatting t s u
 
--- It gives one alone.
+-- A text has at most one formatting.
 abbrev pub FormatsAreOne : Type 0
 FormatsAreOne = (t u v : List ℕ) (s : Style) → IsFormatting t s u → IsFormatting t s v → u ≡ v
 
--- one comment at most trails each row of the layout
+-- at most one comment trails each row of the layout
 abbrev pub TrailsFitIn : {t : List ℕ} {s : Style} {u : List ℕ} → IsFormatting t s u → Type 0
 TrailsFitIn {s = s} f = TrailsFit (source_of f.normal (rows_of f.normal s f.writes.trees)) (rows_of f.normal s f.writes.trees)
 
--- One comment at most trails each row of what formatting gives.
+-- At most one comment trails each row of a formatted text.
 abbrev pub FormatsTrailOnce : Type 0
 FormatsTrailOnce = (t u : List ℕ) (s : Style) → IsUtf8 t → (f : IsFormatting t s u) → TrailsFitIn f
 
@@ -39,7 +40,7 @@ pub record WellFormed {t : List ℕ} {s : Style} {u : List ℕ} (f : IsFormattin
   pub reads : ReadsWithoutBreach u documents
   pub meant : DocumentsMeant (is_bare f.normal s) f.normal.documents f.writes.trees documents.documents
 
--- What formatting gives is a well-formed stream.
+-- A formatted text is a well-formed stream.
 abbrev pub FormatsAreWellFormed : Type 0
 FormatsAreWellFormed = (t u : List ℕ) (s : Style) → IsUtf8 t → (f : IsFormatting t s u) → WellFormed f
 
@@ -47,11 +48,11 @@ FormatsAreWellFormed = (t u : List ℕ) (s : Style) → IsUtf8 t → (f : IsForm
 abbrev pub FormatsAreAccepted : Type 0
 FormatsAreAccepted = (t u : List ℕ) (s : Style) → IsUtf8 t → IsFormatting t s u → IsAccepted u
 
--- And it has the same content.
+-- It has the same content as the text.
 abbrev pub FormatsKeepContent : Type 0
 FormatsKeepContent = (t u : List ℕ) (s : Style) → IsUtf8 t → IsFormatting t s u → HasSameContent t u
 
--- And it has the same comments at the same places: as many, in order, each with the same text but for the white space that ended it, after the same
--- number of documents and of leaves.
+-- It has the same comments at the same places: as many, in order, each with the same text except for the white space
+-- that ended it, after as many documents and leaves.
 abbrev pub FormatsKeepComments : Type 0
 FormatsKeepComments = (t u : List ℕ) (s : Style) → IsUtf8 t → IsFormatting t s u → HasSameComments t u

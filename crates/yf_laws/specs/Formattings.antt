@@ -1,4 +1,4 @@
--- What is proved of a text that has a formatting, and for every text.
+-- What is proved about a text that has a formatting, and about every text.
 use Rattle.std.specs.Prelude.{◌≢◌, ℕ, List}
 use Rattle.std.specs.Str.{IsUtf8}
 use Rattle.yf_lines.specs.declared.fault.Fault.{Fault}
@@ -14,9 +14,9 @@ use Rattle.yf_forms.specs.declared.style.Style.{Style}
 use Rattle.yf_laws.specs.FormatPromises.{FormatKept}
 use Rattle.yf_laws.specs.Mended.{IsMended}
 
--- A text t with a formatting u: the standard's productions derive t as a stream that breaches nothing, and it is accepted with its only reading,
--- whose events are a well nested stream within the limit of open collections; u is such a text too; and nothing in it is at fault that the house
--- style fixes.
+-- A text t with a formatting u. The standard's productions derive t as a stream that breaks no rule. It is accepted
+-- with its only reading, whose events are a well nested stream within the limit of open collections. u is such a text
+-- too, and has no fixable finding.
 pub record FormattingHolds (t : List ℕ) (s : Style) (u : List ℕ) : Type 0 where
   pub standard : IsStandardText t
   pub reading : Lists
@@ -25,17 +25,17 @@ pub record FormattingHolds (t : List ℕ) (s : Style) (u : List ℕ) : Type 0 wh
   pub still_standard : IsStandardText u
   pub mended : IsMended u s
 
--- The same of each text that has one.
+-- This holds for each text that has one.
 abbrev pub FormattingsHold : Type 0
 FormattingsHold = (t u : List ℕ) (s : Style) → IsUtf8 t → FormatKept t s u → FormattingHolds t s u
 
--- What holds of every text, each law with its sentence.
+-- The laws of every text, each with a sentence.
 
--- A text that may be refused for another cause than want of memory has no reading.
+-- A text that may be refused for a reason other than lack of memory has no reading.
 abbrev pub RefusedTextsHaveNoReading : Type 0
 RefusedTextsHaveNoReading = (t : List ℕ) (fault : Fault) → StreamFault t fault → fault ≢ Memory → (r : Lists) → ReadingOf t r → ⊥
 
--- A text that the standard derives as a stream that breaches nothing has a formatting in each style, which is kept as `FormatKept` says, which is such
--- a text too, and in which nothing is at fault that the house style fixes.
+-- A text that the standard derives as a stream that breaks no rule has a formatting in each style, with the properties
+-- of `FormatKept`. The formatting is such a text too, and has no fixable finding.
 abbrev pub StandardTextsAreFormatted : Type 0
 StandardTextsAreFormatted = (t : List ℕ) (s : Style) → IsStandardText t → (u : List ℕ) × FormatKept t s u × IsStandardText u × IsMended u s

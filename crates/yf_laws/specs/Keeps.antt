@@ -1,4 +1,4 @@
--- What formatting leaves as it was, said as people mean it: u is a formatting of the text t.
+-- What formatting leaves unchanged, in users' terms: u is a formatting of the text t.
 use Rattle.std.specs.Prelude.{ℕ, List}
 use Rattle.yf_forms.specs.declared.style.Style.{Style}
 use Rattle.yf_laws.specs.Preservation.CommentsPlaced.{CommentsPlaced}
@@ -18,7 +18,7 @@ pub record Keeps (t : List ℕ) (s : Style) (u : List ℕ) : Type 0 where
   pub empty : IsEmptyAlike t u
   pub blanks : SameBlanks t s u
   pub key : DependsOnKey t s u
-  -- the same by the texts' readings
+  -- the dependence in terms of the texts' readings
   pub reading : DependsOnReading t s u
   pub comments : CommentsPlaced t s u
   pub size : SizeKept t s u

@@ -1,5 +1,6 @@
--- What is said of the readings of texts, and of a formatted text beside the text that it was made of, each with the plain sentence that it is
--- for. `proofs/OfTexts/ReadingsOfTexts.antt` proves the first; the others are parts of `FormatKept`, which the clause of `format` names.
+-- Statements on the readings of texts, and on a formatted text and its source, each with a plain sentence.
+-- `proofs/OfTexts/ReadingsOfTexts.antt` proves the first. The others are parts of `FormatKept`, which the clause of
+-- `format` names.
 use Rattle.std.specs.Prelude.{◌≡◌, ℕ, List}
 use Rattle.std.specs.Str.{IsUtf8}
 use Rattle.yf_events.specs.Content.{content_of}
@@ -19,11 +20,11 @@ ReadingsAreOfTexts = (t : List ℕ) (r : Lists) → IsUtf8 t → ReadingOf t r �
 abbrev pub IsAccepted : List ℕ → Type 0
 IsAccepted u = (q : Lists) × ReadingOf u q
 
--- It has the same content as the text.
+-- The formatted text has the same content as the text.
 abbrev pub HasSameContent : List ℕ → List ℕ → Type 0
 HasSameContent t u = (r q : Lists) → ReadingOf t r → ReadingOf u q → content_of q ≡ content_of r
 
--- It has the same comments at the same places.
+-- The formatted text has the same comments at the same places.
 abbrev pub HasSameComments : List ℕ → List ℕ → Type 0
 HasSameComments t u = (r q : Lists) → ReadingOf t r → ReadingOf u q → kept q ≡ kept r
 

@@ -1,5 +1,5 @@
 -- The definitions, in folders.
--- what formatting gives, and what is proved of it
+-- formattings, and what is proved about them
 pub mod Format
 pub mod FormatPromises
 pub mod FormatLaws
@@ -13,12 +13,12 @@ pub mod Nodes
 pub mod NormalForms
 -- the lines of a normal reading, its comments and its blank lines
 pub mod Layouts
--- what printing gives, and does to a writer; that the passes give what the definitions say
+-- the text that printing gives and what it writes to a writer; the passes give what the definitions state
 pub mod Passes
 pub mod PassLaws
 -- what formatting keeps: content, comments, lines, spellings
 pub mod Preservation
--- in what formatting gives nothing is at fault that the house style fixes; what is proved of every text
+-- a formatted text has no fixable finding; what is proved about every text
 pub mod Mended
 pub mod Formattings
 -- what a setting promises

@@ -1,3 +1,3 @@
--- what printing gives, and does to a writer
+-- the text that printing gives, and what it writes to a writer
 pub mod WriterAfterPrint
 pub mod PrintedText

@@ -1,4 +1,5 @@
--- What a function that gives each node a type may ask of a node (YAML 1.2.2, 3.3.2 and 10.3.2), and that formatting changes nothing of it.
+-- What a function that gives each node a type may depend on (YAML 1.2.2, 3.3.2 and 10.3.2); formatting changes none of
+-- it.
 use Rattle.std.specs.Prelude.{◌≡◌, ℕ, Bool, true, false, ◌&&◌, List, [], ◌∷◌, Option, zip}
 use Rattle.std.specs.List.{flat_map}
 use Rattle.yf_lines.specs.CoreSchema.{CoreTextsAreSteady}
@@ -10,7 +11,7 @@ use Rattle.yf_events.specs.declared.event.ScalarStyle.TheVariants.{Plain}
 use Rattle.yf_events.specs.declared.lists.Lists.{Lists}
 use Rattle.yf_stream.specs.ReadingOf.{ReadingOf}
 
--- a node as such a function sees it, where the tag is the resolved one
+-- a node as such a function sees it; the tag is the resolved one
 pub data TypedNode : Type 0 where
   -- tag, whether it is plain with a steady text, text
   typed_scalar : Option (List ℕ) → Bool → List ℕ → TypedNode
@@ -35,8 +36,9 @@ typed_of_event e tag = []
 abbrev pub typed_nodes : Lists → List TypedNode
 typed_nodes r = flat_map (λ e. typed_of_event e.0 e.1) (zip (events_of r) r.resolved)
 
--- So each function of kind, tag, text and whether a scalar is plain and steady gives every node of u what it gave the node of t. None asks more that
--- gives types by the core schema: a text that it takes for null, a boolean or a number is steady, and a plain text that is not steady is a string.
+-- So each function of kind, tag, text and whether a scalar is plain and steady gives each node of u what it gave the
+-- node of t. A function that gives types by the core schema depends on no more: a text that it takes for null, a
+-- boolean or a number is steady, and a plain text that is not steady is a string.
 pub record SameTypes (t u : List ℕ) : Type 0 where
   pub nodes : (r q : Lists) → ReadingOf t r → ReadingOf u q → typed_nodes q ≡ typed_nodes r
   pub core : CoreTextsAreSteady

@@ -10,14 +10,15 @@ ghost use Rattle.yf_standard.specs.Laws.{ReadTextsAreStandard};
 ghost use Rattle.yf_stream.specs.HasReading.{WellFormedTextsHaveReadings};
 ghost use Rattle.yf_stream.specs.Laws.{ReadTextsHaveNoFault, ReadingsAreOne};
 
-/// A text has a reading exactly where the standard's productions (YAML 1.2.2, chapters 5 to 9), with the reading rules, derive
-/// all of it as `l-yaml-stream` with at most `DEPTH` collections open at once, and what it means, which is one thing, breaches nothing
-/// that must hold besides (sections 5.7, 6.8, 6.9 and 7.1). Without the reading rules they derive it too. A refusal tells which
-/// of the two is wanting. A text has one reading alone. Where it has one, `read_stream` refuses it for want of memory alone; where
-/// that refuses it for another cause, it has none. Each such text has a formatting in each style, which is such a text too, keeps
-/// content and comments, is its own formatting, and has nothing at fault that the house style fixes.
+/// A text has a reading if and only if the standard's productions (YAML 1.2.2, chapters 5 to 9), with the reading
+/// rules, derive all of it as `l-yaml-stream` with at most `DEPTH` collections open at once, and its meaning, which is
+/// unique, breaks none of the standard's other rules (sections 5.7, 6.8, 6.9 and 7.1). Without the reading rules the
+/// productions derive it too. A fault says which of these conditions fails. A text has at most one reading. If it has
+/// one, `read_stream` fails only for lack of memory. If `read_stream` fails for another reason, the text has none. Each
+/// such text has a formatting in each style. The formatting is such a text too, keeps content and comments, is its own
+/// formatting, and has no fixable finding.
 ///
-/// Each reading of a text has trees, its comments and its offsets are in the order of the text, and its scalars can be
+/// Each reading of a text has trees. Its comments and its offsets are in the order of the text, and its scalars can be
 /// spelled in their styles.
 #[inline(always)]
 pub fn texts_are_read_and_formatted()
@@ -33,24 +34,24 @@ pub fn texts_are_read_and_formatted()
     ensures formatted { StandardTextsAreFormatted }
 {}
 
-/// In what formatting gives, no rule finds what the house style fixes.
+/// No rule whose findings the house style fixes finds anything in a formatted text.
 #[inline(always)]
 pub fn rules_are_mended()
     ensures { RulesAreMended }
 {}
 
-/// A text that has a formatting is one of the standard, with one reading; its formatting is such a text too, and has nothing at fault
-/// that the house style fixes.
+/// A text that has a formatting is one of the standard, with one reading. Its formatting is such a text too, and has no
+/// fixable finding.
 #[inline(always)]
 pub fn formattings_hold()
     ensures { FormattingsHold }
 {}
 
-/// What settings promise of the readings of a text and of its formatting. Each document of the formatting begins with a `---`, but for a
-/// first one that is left without it as `document_start` says. Each quoted scalar of it is, from quote to quote, spelled as the house
-/// style spells it. Under `invisible = "escaped"` none of them holds a hidden character as itself, so the rule hidden-character finds
-/// each one that is left. Under `comments = "block"` a comment that is alone on its line at the column of an open collection stays at that
-/// of the collection.
+/// What the settings promise about the readings of a text and of its formatting. Each document of the formatting begins
+/// with a `---`, except for a first one that `document_start` leaves without. Each quoted scalar is, from quote to
+/// quote, spelled as the house style spells it. Under `invisible = "escaped"` no quoted scalar holds a hidden character
+/// unescaped, so the rule hidden-character finds each one that is left, except for byte order marks. Under `comments =
+/// "block"` a comment on its own line at the column of an open collection stays at the column of that collection.
 #[inline(always)]
 pub fn settings_are_kept()
     ensures starts { StartsAreKept }

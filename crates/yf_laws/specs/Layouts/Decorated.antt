@@ -29,7 +29,7 @@ abbrev pub after : List Deco → List Deco
 after [] = []
 after (d ∷ ds) = ds
 
--- what is carried by the rows after these
+-- what the rows after these carry
 abbrev pub past : List Row → List Deco → List Deco
 past [] ds = ds
 past (x ∷ xs) ds = past xs (after ds)
@@ -54,7 +54,7 @@ abbrev pub lines_then : List Row → List Deco → List ℕ → List ℕ
 lines_then [] ds r = r
 lines_then (x ∷ xs) ds r = replicate x.column 32 ++ (x.text ++ end_then (first ds) x.body (lines_then xs (after ds) r))
 
--- the same where the first row's text follows what is on its line
+-- rows with what they carry, if the first row's text follows other text on its line
 abbrev pub inline_then : List Row → List Deco → List ℕ → List ℕ
 inline_then [] ds r = r
 inline_then (x ∷ xs) ds r = x.text ++ end_then (first ds) x.body (lines_then xs (after ds) r)

@@ -1,4 +1,4 @@
--- Documents whose rows are read again, and what a stream of them means.
+-- Documents whose rows can be read again, and the meaning of a stream of them.
 use Rattle.std.specs.Prelude.{◌≡◌, ℕ, ◌+◌, max, Bool, true, false, not, is_some, ◌==◌, ◌||◌, List, [], ◌∷◌, ◌++◌, map, length, slice_range}
 use Rattle.std.specs.Str.{IsUtf8}
 use Rattle.yf_chars.specs.Chain.{One}
@@ -28,7 +28,7 @@ pub record DirectiveAt (t : List ℕ) (q l : ℕ) (words : List (List ℕ)) : Ty
   pub parameters : Parameters t (slice_range t (q + 1) middle) middle l others
   pub are : slice_range t (q + 1) middle ∷ others ≡ words
 
--- a directive that is written with one space between its words is one wherever it is
+-- a directive that is written with one space between its words reads back at any offset
 pub record FitDirective (words : List (List ℕ)) : Type 0 where
   pub line : IsLineText (joined_words words)
   pub made : {t : List ℕ} (q : ℕ) (r : List ℕ) → IsUtf8 t → Follows is_apart r → Rest t q (37 ∷ (joined_words words ++ r))
@@ -38,7 +38,7 @@ pub data FitDirectives : List Directive → Type 0 where
   fit_no_directives : FitDirectives []
   fit_directive : {d : Directive} {ds : List Directive} → FitDirective d.words → FitDirectives ds → FitDirectives (d ∷ ds)
 
--- as many documents as trees, which are read again where they are laid out in that style
+-- as many documents as trees, which read back if they are laid out in that style
 pub data FitDocuments (s : Style) : List Doc → List DocumentTree → Type 0 where
   fit_no_documents : FitDocuments s [] []
   fit_document : {d : Doc} {ds : List Doc} {x : DocumentTree} {xs : List DocumentTree} → FitDirectives d.directives → Fit s x.root → FitDocuments s ds xs
@@ -58,7 +58,7 @@ pub record DocumentMeant (mark : Bool) (d : Doc) (x : DocumentTree) (m : Documen
   pub events : m.events ≡ flat node
   pub escapes : m.escapes ≡ []
 
--- each with a `---`, but for the first one where the flag says so
+-- each with a `---`, except for the first one if the flag says so
 pub data DocumentsMeant : Bool → List Doc → List DocumentTree → List Document → Type 0 where
   no_documents_meant : {bare : Bool} → DocumentsMeant bare [] [] []
   document_meant : {bare : Bool} {d : Doc} {ds : List Doc} {x : DocumentTree} {xs : List DocumentTree} {m : Document} {ms : List Document} → DocumentMeant (not bare) d x m → DocumentsMeant false ds xs ms

@@ -1,4 +1,4 @@
--- The layout of a normal reading: where its comments are among the lines, which blank lines are printed, and the bytes.
+-- The layout of a normal reading: the lines on which its comments are, the blank lines that are printed, and the bytes.
 use Rattle.std.specs.Prelude.{◌≡◌, ℕ, Bool, true, false, not, ◌==◌, ◌&&◌, ◌||◌, nat_lt, if◌then◌else◌, List, [], ◌∷◌, ◌++◌, map, flat_map, filter, find, zip, replicate, option_to_list, option_map, Option, Some, None}
 use Rattle.std.specs.List.{list_any}
 use Rattle.yf_comments.specs.Comment.{CommentValue}
@@ -16,7 +16,7 @@ use Rattle.yf_forms.specs.Nodes.Lines.{ended, trimmed, after_two_spaces}
 abbrev pub Remark : Type 0
 Remark = CommentValue × Bool
 
--- what decides where a comment is: all comments, all leaves with characters, and the comments that trail a key
+-- what decides the lines of comments: all comments, all leaves with characters, and the comments that trail a key
 pub record Source : Type 0 where
   pub remarks : List Remark
   pub leaves : List Span
@@ -27,7 +27,7 @@ is_among cs c = list_any (λ d. d.offset == c.offset) cs
 
 -- Comments after a line.
 
--- where the next leaf begins after an offset; a comment is before it, or anywhere where there is none
+-- the start of the next leaf after an offset; a comment is before it, or anywhere if no leaf follows
 abbrev pub next_leaf : List Span → ℕ → Option ℕ
 next_leaf leaves from = option_map (λ s. s.start) (find (λ s. nat_lt from s.start) leaves)
 
@@ -40,7 +40,7 @@ abbrev pub first_comment : Source → Span → Option Remark
 first_comment c leaf =
     find (λ r. nat_lt leaf.start r.0.offset && is_before r.0.offset (next_leaf c.leaves leaf.start)) c.remarks
 
--- it trails the leaf where it is inside the leaf or on the line on which the leaf ends, unless it trails a key
+-- it trails the leaf if it is inside the leaf or on the line on which the leaf ends, unless it trails a key
 abbrev pub trailing_leaf : Source → Span → Option Remark → List CommentValue
 trailing_leaf c leaf None = []
 trailing_leaf c leaf (Some r) =
@@ -78,16 +78,17 @@ row_line c row = record {
   body = row.body;
 }
 
--- each comment on a line of its own is directly before the line that holds the first item after it, at that line's column or where it keeps its block;
--- where no item follows it is at the end, where the column is 0. Items are in the order of the source.
+-- Each comment on a line of its own is directly before the line that holds the first item after it, at that line's
+-- column or at the column that keeps it in its block. If no item follows, it is at the end, and the next line's column
+-- counts as 0. Items are in the order of the source.
 abbrev pub lines_of : Columns → Source → List CommentValue → List Row → List Line
 lines_of columns c comments [] = map (comment_line columns 0) comments
 lines_of columns c comments (row ∷ rows) =
     map (comment_line columns row.column) (filter (precedes_item row) comments)
     ++ (row_line c row ∷ lines_of columns c (filter (λ d. not (precedes_item row d)) comments) rows)
 
--- a blank line is not repeated at the beginning, after a document's `---` line or a kept tail, and where a node's text is still
--- to come
+-- a blank line is not repeated at the beginning, after a document's `---` line or a kept tail, and before the text of a
+-- node that has begun
 abbrev pub may_be_blank_after : Ending → Bool
 may_be_blank_after at_text_start = false
 may_be_blank_after at_document_start = false

@@ -1,4 +1,4 @@
--- Trees whose rows are read again: each node that is written on one line is, wherever it is.
+-- Trees whose rows can be read again: each node that is written on one line reads back at any offset.
 use Rattle.std.specs.Prelude.{◌≡◌, ◌≢◌, ℕ, ◌≤◌, Bool, true, false, is_some, List, [], ◌∷◌, ◌++◌, ◌-◌}
 use Rattle.std.specs.Str.{IsUtf8}
 use Rattle.yf_chars.specs.declared.context.Ctx.{Ctx}
@@ -22,7 +22,7 @@ use Rattle.yf_laws.specs.Nodes.BlockValues.{is_folded, header_of}
 use Rattle.yf_forms.specs.declared.style.Style.{Style}
 use Rattle.yf_forms.specs.Nodes.OneLine.{written, colon_after}
 
--- a node on one line is derived wherever its text is in that style, and means the same node
+-- a node on one line is derived at any offset from its text in that style, and means the same node
 pub record LineNode (s : Style) (c : Ctx) (x : Node) : Type 0 where
   pub json : Bool
   pub colon : Bool
@@ -33,10 +33,10 @@ pub record LineNode (s : Style) (c : Ctx) (x : Node) : Type 0 where
   pub low : height ≤ tall x
   pub meant : (q : ℕ) → MeansTrees x (mean q)
   pub silent : (q : ℕ) → (mean q).comments ≡ []
-  -- and its quoted scalars are there as they are written
+  -- its quoted scalars are there as they are written
   pub quoted : (t : List ℕ) (q : ℕ) (r : List ℕ) → IsUtf8 t → Rest t q (written s x ++ r) → QuotesWritten s t (mean q).events
 
--- the `:` after a key: at once, where it may be there, or after a space
+-- the `:` after a key: directly after it if this is allowed, or after a space
 pub data ColonFits (at_once : Bool) : List ℕ → Type 0 where
   colon_at_once : at_once ≡ true → ColonFits at_once (58 ∷ [])
   colon_apart : ColonFits at_once (32 ∷ 58 ∷ [])
@@ -48,7 +48,7 @@ pub record InlineNode (s : Style) (c : Ctx) (x : Node) : Type 0 where
 abbrev pub KeyNode : Style → Node → Type 0
 KeyNode s = InlineNode s BlockKey
 
--- whether a node is written on one line wherever it is
+-- whether a node is written on one line, whatever its column
 abbrev pub is_inline : Node → Bool
 is_inline (scalar at props Plain text lines) = true
 is_inline (scalar at props Single text lines) = true
@@ -72,7 +72,7 @@ pub data FitProps : PropsValue → Type 0 where
   no_fit_props : FitProps no_props
   some_fit_props : {p : PropsValue} → IsProps p → p ≢ no_props → FitProps p
 
--- a scalar whose lines are those of its text: so it is read again from its lines at any column
+-- a scalar whose lines are those of its text, so it is read again from its lines at any column
 pub record FitScalar (style : ScalarStyle) (text : List ℕ) (lines : List (List ℕ)) : Type 0 where
   pub block : is_block_style style ≡ true
   pub content : (indent : ℕ) → content_of (header_of style indent text) (content_lines style text lines) (final_feeds text - 1) false ≡ text

@@ -31,8 +31,8 @@ abbrev pub comments_in : List Row → List Deco → List (List ℕ)
 comments_in [] ds = []
 comments_in (x ∷ xs) ds = carried_texts (first ds) ++ comments_in xs (after ds)
 
--- After the lines of a block scalar at the column, comments and the next line are further left, and where its tail is kept no blank
--- line is; r is what is after the gap.
+-- After the lines of a block scalar at the column, comments and the next line are further left, and no blank line
+-- follows a kept tail; r is what follows the gap.
 abbrev pub CalmBody : List (List ℕ) → ℕ → Ending → List GapLine → List ℕ → Type 0
 CalmBody [] column ending gap r = Unit {0}
 CalmBody (l ∷ ls) column ending gap r = AllLeft column gap × (Below column r × (may_be_blank_after ending ≡ false → KeptGap Keep gap))
@@ -42,7 +42,7 @@ abbrev pub Calm : List Row → List Deco → List ℕ → Type 0
 Calm [] ds r = Unit {0}
 Calm (x ∷ xs) ds r = CalmBody x.body x.lines x.ending (first ds).gap (lines_then xs (after ds) r) × Calm xs (after ds) r
 
--- the comments are texts of comments, and what trails each row is one of them at most
+-- the comments are texts of comments, and at most one of them trails each row
 pub data AreRemarks : List CommentValue → Type 0 where
   no_remark : AreRemarks []
   one_remark : {c : CommentValue} {cs : List CommentValue} → IsRemark (trimmed c.text) → AreRemarks cs → AreRemarks (c ∷ cs)

@@ -1,4 +1,4 @@
--- What of a row does not depend on where the nodes are in the text.
+-- The part of a row that does not depend on the offsets of nodes in the text.
 use Rattle.std.specs.Prelude.{◌≡◌, ℕ, ◌+◌, Bool, true, false, is_some, List, [], ◌∷◌, ◌++◌, length, map, replicate}
 use Rattle.yf_comments.specs.Comment.{CommentValue}
 use Rattle.yf_events.specs.Tree.{Node}
@@ -10,7 +10,7 @@ use Rattle.yf_print.specs.Layouts.Rows.{Row, Ending, Start, before_node}
 pub record RowShape : Type 0 where
   pub column : ℕ
   pub text : List ℕ
-  -- the columns of the entries that begin on it, and whether these are those of sequences
+  -- the columns of the entries that begin on it, and whether these are entries of sequences
   pub starts : List (ℕ × Bool)
   pub leaves : ℕ
   pub is_commented : Bool
@@ -50,6 +50,6 @@ shapes_after_key head true below rows = record head { is_commented = true; endin
 shapes_after_key head false true rows = record head { ending = before_node } ∷ rows
 shapes_after_key head false false rows = joined_shapes head 1 rows
 
--- All that rows take of comments: where the key is implicit, a comment trails it in both or in neither.
+-- What rows depend on in the comments: if the key is implicit, a comment trails it in both or in neither.
 pub record KeysAgree (s : Style) (cs ds : List CommentValue) (k v l w : Node) : Type 0 where
   pub comment : (column : ℕ) → is_implicit s column k ≡ true → is_some (key_comment cs k v) ≡ is_some (key_comment ds l w)

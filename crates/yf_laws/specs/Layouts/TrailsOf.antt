@@ -29,6 +29,6 @@ pub record LayoutTrails (m : Lists) (s : Style) (ds : List DocumentTree) (f : Tr
   pub of_comment : (k : ℕ) (d : CommentValue) → slice_get m.comments k ≡ Some d
       → get_or f.trailing k false ≡ is_among (flat_map (trailing (source_of m (rows_of m s ds))) (rows_of m s ds)) d
 
--- the same of the normal form of a text's reading, whatever its trees
+-- this holds for the normal form of a text's reading, whatever its trees
 pub record FindsTrails (m : Lists) (ms : List Measure) (fs : List Form) (f : TrailsSoFar) : Type 0 where
   pub finds : (s : Style) → NormalForm m s → AreMeasures [] (setting s []) m.events ms → AreForms m s ms fs → (ds : List DocumentTree) → TreesOf m ds → LayoutTrails m s ds f

@@ -8,7 +8,7 @@ use Rattle.yf_forms.specs.Nodes.OneLine.{scalar_text}
 use Rattle.yf_forms.specs.declared.style.Style.{Style}
 use Rattle.yf_rule_sets.specs.RuleSets.HiddenCharacters.{is_quoted}
 
--- of a quoted scalar, whose content is UTF-8, the text has from quote to quote what is written of it in the style
+-- for a quoted scalar with UTF-8 content, the text from quote to quote is the scalar's text in that style
 abbrev pub IsQuoteWritten : Style → List ℕ → EventValue → Option Span → Type 0
 IsQuoteWritten s t (scalar_node props style text) (Some span) = is_quoted style ≡ true → IsUtf8 text × (slice_range t (content_start t span props) span.end ≡ scalar_text s style text)
 IsQuoteWritten s t event span = Unit {0}

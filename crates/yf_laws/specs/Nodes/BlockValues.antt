@@ -1,5 +1,6 @@
--- The header of a scalar as the value of which yf_block_scalar says how it is written. It is there that of `BlockLines`, and so are its lines
--- (`proofs/Derived/BlockTexts.antt`, `ScalarBytes.antt`), so that what is read again is what is laid out.
+-- The header of a block scalar, as the value from which yf_block_scalar defines its text. That text is the header text
+-- of `BlockLines`, and the lines agree too (`proofs/Derived/BlockTexts.antt`, `ScalarBytes.antt`), so that the layout
+-- is what is read again.
 use Rattle.std.specs.Prelude.{ℕ, zero, suc, Bool, true, false, List, Option, Some, None, if◌then◌else◌}
 use Rattle.yf_block_scalar.specs.declared.header.Chomp.{Chomp}
 use Rattle.yf_block_scalar.specs.declared.header.Chomp.TheVariants.{Strip, Clip, Keep}
@@ -18,7 +19,7 @@ chomp_of zero = Strip
 chomp_of (suc zero) = Clip
 chomp_of (suc (suc n)) = Keep
 
--- the digit is that of the indentation
+-- the digit of the indentation
 abbrev pub digit_of : ℕ → List ℕ → Option ℕ
 digit_of indent text = if begins_with_space text then Some indent else None
 

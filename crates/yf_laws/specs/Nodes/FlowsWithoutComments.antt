@@ -1,4 +1,4 @@
--- Nodes within whose flow collections no comment is, where cs are the comments of the text u.
+-- Nodes with no comment within their flow collections; cs are the comments of the text u.
 use Rattle.std.specs.Prelude.{◌≡◌, ℕ, Bool, true, false, List}
 use Rattle.yf_comments.specs.Comment.{CommentValue}
 use Rattle.yf_props.specs.Props.{PropsValue}

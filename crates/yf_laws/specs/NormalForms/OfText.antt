@@ -14,8 +14,8 @@ use Rattle.yf_grammar.specs.Productions.SpellableTexts.{IsSpelled}
 use Rattle.yf_print.specs.Layouts.Rows.{colon_offset}
 use Rattle.yf_forms.specs.NormalForms.Textual.{IsTextual}
 
--- Places in order: of each node its beginning, what is in it, and its end; of each entry its beginning, and its `:` between the key
--- and the value; of each document its directives and its beginning.
+-- Offsets in order: for each node its start, what is in it, and its end; for each entry its start, and its `:` between
+-- the key and the value; for each document its directives and its start.
 
 abbrev pub around : Option Span → List ℕ → List ℕ
 around None inner = inner

@@ -13,7 +13,7 @@ use Rattle.yf_print.specs.Passes.PrintPass.{printed}
 use Rattle.yf_print.specs.Passes.PrintWork.{work_of}
 use Rattle.yf_print.specs.Passes.TrailPass.{all_found}
 
--- u is the text that is printed of the reading m, where t is the text that was read
+-- u is the text printed for the reading m of the text t
 pub record Printout (t : List ℕ) (m : Lists) (s : Style) (u : List ℕ) : Type 0 where
   pub measures : List Measure
   pub forms : List Form
@@ -21,7 +21,7 @@ pub record Printout (t : List ℕ) (m : Lists) (s : Style) (u : List ℕ) : Type
   pub decided : AreForms m s measures forms
   pub is : u ≡ printed (work_of t m s measures forms (all_found m measures forms))
 
--- and it is the layout of m by the columns of t, where m is the normal form of a text's reading
+-- and it is the layout of m with the columns of t, if m is the normal form of a text's reading
 pub record IsPrinted (t : List ℕ) (m : Lists) (s : Style) (u : List ℕ) : Type 0 where
   pub printout : Printout t m s u
   pub writes : NormalForm m s → IsLayout t m s u

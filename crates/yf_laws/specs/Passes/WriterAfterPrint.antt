@@ -1,5 +1,5 @@
--- What printing a reading does to a writer: the text that the pass prints of it is written, all of it or a prefix. Of the normal form of a
--- text's reading, this text is its layout.
+-- What printing a reading writes to a writer: the text that the pass prints, all of it or a prefix. For the normal form
+-- of a text's reading, this text is its layout.
 use Rattle.std.specs.Prelude.{◌≡◌, ℕ, List, Bool, Option}
 use Rattle.std.specs.Str.{IsUtf8}
 use Rattle.yf_lines.specs.Output.{Wrote, Broke}
@@ -9,7 +9,7 @@ use Rattle.yf_events.specs.declared.lists.Lists.{Lists}
 use Rattle.yf_forms.specs.declared.style.Style.{Style}
 use Rattle.yf_laws.specs.Passes.PrintedText.{IsPrinted}
 
--- the text of the reading m was made, where t is the text that was read, and all of it was written
+-- the text of the reading m of the text t was made, and all of it was written
 -- (old, new: what the writer holds; before, after: the note that it has failed)
 pub record WroteMade (t : List ℕ) (m : Lists) (s : Style) (old new : Option (List ℕ)) (before after : Bool) : Type 0 where
   pub text : List ℕ

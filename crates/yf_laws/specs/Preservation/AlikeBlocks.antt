@@ -1,4 +1,5 @@
--- Two trees that differ by nothing but places, and of whose block mappings a comment trails a key in both or in neither, where the key is implicit.
+-- Two trees that differ only in offsets, and in whose block mappings a comment trails an implicit key in both or in
+-- neither.
 use Rattle.std.specs.Prelude.{◌≡◌, false, is_some, List}
 use Rattle.yf_comments.specs.Comment.{CommentValue}
 use Rattle.yf_props.specs.Props.{PropsValue}

@@ -1,4 +1,4 @@
--- Which comments are at the end of a line of what formatting gives, and which on a line of their own.
+-- Which comments end a line of a formatted text, and which are on a line of their own.
 use Rattle.std.specs.Prelude.{◌≡◌, ℕ, Bool, true, false, slice_get, ◌||◌, nat_lt, if◌then◌else◌, List, [], ◌∷◌, Option, Some, None}
 use Rattle.std.specs.List.{flat_map, list_any}
 use Rattle.yf_comments.specs.Comment.{CommentValue}
@@ -15,7 +15,8 @@ use Rattle.yf_laws.specs.Layouts.Layout.{Columns, Remark, Source, columns_of, fi
 use Rattle.yf_forms.specs.NormalForms.Normal.{setting_of}
 use Rattle.yf_print.specs.Layouts.Rows.{Row}
 
--- the first comment since a leaf began, and before the next one begins, where it is within the leaf or on the line on which the leaf ends
+-- the first comment after the start of a leaf and before the next leaf, if it is within the leaf or on the line on
+-- which the leaf ends
 abbrev pub at_leaf : Span → Option Remark → List CommentValue
 at_leaf leaf None = []
 at_leaf leaf (Some r) = if nat_lt r.0.offset leaf.end || r.1 then r.0 ∷ [] else []
@@ -24,7 +25,7 @@ at_leaf leaf (Some r) = if nat_lt r.0.offset leaf.end || r.1 then r.0 ∷ [] els
 abbrev pub ends_line : Source → CommentValue → Bool
 ends_line c d = is_among c.key_comments d || list_any (λ leaf. is_among (at_leaf leaf (first_comment c leaf)) d) c.leaves
 
--- what is laid out of the text, and by what its comments are placed
+-- the rows that are laid out for the text, and what places its comments
 abbrev pub rows_in : {t u : List ℕ} {s : Style} → IsFormatting t s u → List Row
 rows_in {s = s} f = rows_of f.normal s f.writes.trees
 
@@ -35,9 +36,9 @@ abbrev pub source_in : {t u : List ℕ} {s : Style} → IsFormatting t s u → S
 source_in f = source_of f.normal (rows_in f)
 
 pub record CommentsPlaced (t : List ℕ) (s : Style) (u : List ℕ) : Type 0 where
-  -- the leaves that count are those of the text, in its order
+  -- the leaves are those of the text, in its order
   pub leaves : (f : IsFormatting t s u) → (source_in f).leaves ≡ flat_map (λ d. leaves d.root) f.is_normal.trees
-  -- and the comments that count as those of keys are those of the entries of block mappings, in its order
+  -- and the comments that trail keys are those of the entries of block mappings, in its order
   pub keys : (f : IsFormatting t s u) → (source_in f).key_comments ≡ keyed_in_documents (setting_of f.normal s) f.writes.trees
   -- those comments end a line of u, and no others
   pub exact : (f : IsFormatting t s u) (d : CommentValue) → is_among (flat_map (trailing (source_in f)) (rows_in f)) d ≡ ends_line (source_in f) d
@@ -52,6 +53,6 @@ pub record CommentsPlaced (t : List ℕ) (s : Style) (u : List ℕ) : Type 0 whe
   pub once : (f : IsFormatting t s u) → TrailsFitIn f
   -- u are its rows, each with the comment that ends it and those on lines of their own after it
   pub printed : (f : IsFormatting t s u) → u ≡ decorated (columns_in f) f.normal (rows_in f)
-  -- and its own reading finds them there: the same between the lines, and at the end of each
+  -- and its own reading finds them there: the lines between rows, and what ends each row, are equal
   pub before : (f : IsFormatting t s u) (q : Lists) (b : ReadingOf u q) → first_gap (columns_of u s (rows_of q s b.trees)) q (rows_of q s b.trees) ≡ first_gap (columns_in f) f.normal (rows_in f)
   pub follows : (f : IsFormatting t s u) (q : Lists) (b : ReadingOf u q) → row_decos (columns_of u s (rows_of q s b.trees)) q (rows_of q s b.trees) ≡ row_decos (columns_in f) f.normal (rows_in f)

@@ -1,5 +1,5 @@
--- The documents of a text u that was laid out, as they are found when it is read: its trees differ from those that were laid out by places
--- alone, a comment trails a key in both or in neither, and no comment is within a flow collection.
+-- The documents found when a laid-out text u is read. Its trees differ from those that were laid out only in offsets, a
+-- comment trails a key in both or in neither, and no comment is within a flow collection.
 use Rattle.std.specs.Prelude.{◌≡◌, ℕ, List, [], ◌∷◌, map}
 use Rattle.yf_comments.specs.Comment.{CommentValue}
 use Rattle.yf_events.specs.Tree.{DocumentTree, TreesOf}
@@ -22,7 +22,7 @@ pub data FoundTrees (s : Style) (cs : List CommentValue) (u : List ℕ) (es : Li
   one_found : {d e : Doc} {ds fs : List Doc} {x y : DocumentTree} {xs ys : List DocumentTree} → words_of d.directives ≡ words_of e.directives
       → AlikeBlocks s cs es x.root y.root → Undisturbed u es y.root → FoundTrees s cs u es ds xs fs ys → FoundTrees s cs u es (d ∷ ds) (x ∷ xs) (e ∷ fs) (y ∷ ys)
 
--- a normal reading m of t with its trees, and what is found in the text u that it is laid out as: each row carries what it carried
+-- a normal reading m of t with its trees, and the trees found in its layout u: each row carries what it carried
 pub record FoundSame (t : List ℕ) (m : Lists) (s : Style) (trees : List DocumentTree) (u : List ℕ) (q : Lists) (found : List DocumentTree) : Type 0 where
   pub of_reading : TreesOf q found
   pub alike : FoundTrees s m.comments u q.comments m.documents trees q.documents found

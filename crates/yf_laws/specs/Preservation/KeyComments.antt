@@ -1,6 +1,7 @@
--- The comments that trail a key, by the trees alone: of each entry of a block mapping whose key is implicit the first comment after the beginning
--- of the key's last leaf (of the entry, where the key is empty) and before the value's first leaf, where the value is a leaf with characters or a flow
--- collection on one line (`key_comment`); in the order of the entries.
+-- The comments that trail a key, defined by the trees, in the order of the entries. For each entry of a block mapping
+-- with an implicit key: the first comment after the start of the key's last leaf (of the entry, if the key is empty)
+-- and before the value's first leaf, if the value is a leaf with characters or a flow collection on one line
+-- (`key_comment`).
 use Rattle.std.specs.Prelude.{ℕ, true, false, if◌then◌else◌, List, [], ◌++◌, flat_map, option_to_list}
 use Rattle.yf_comments.specs.Comment.{CommentValue}
 use Rattle.yf_events.specs.Tree.{DocumentTree, Node, scalar, alias, sequence, mapping, Items, no_items, item, Pairs, no_pairs, pair}

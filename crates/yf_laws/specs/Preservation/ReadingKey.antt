@@ -1,5 +1,6 @@
--- What of a text its formatting depends on, by its reading: the nodes in the styles of the house, the words of directives, and the order of comments
--- and of the places of nodes. How far apart these are, and where lines end, is no part of it.
+-- What the formatting of a text depends on in its reading: the nodes in the house style, the words of directives, and
+-- the order of comments and of the offsets of nodes. It does not depend on how far apart these are, or on where lines
+-- end.
 use Rattle.std.specs.Prelude.{◌≡◌, ℕ, Bool, true, false, nat_le, nat_lt, is_some, List, [], ◌∷◌, Option, Some, None, zip}
 use Rattle.yf_comments.specs.Comment.{CommentValue}
 use Rattle.yf_props.specs.Props.{PropsValue}
@@ -40,19 +41,19 @@ pub data HasPair (m n : ℕ) : List (ℕ × ℕ) → Type 0 where
   first_pair : {p : ℕ × ℕ} {ps : List (ℕ × ℕ)} → p.0 ≡ m → p.1 ≡ n → HasPair m n (p ∷ ps)
   later_pair : {p : ℕ × ℕ} {ps : List (ℕ × ℕ)} → HasPair m n ps → HasPair m n (p ∷ ps)
 
--- a is before, at or after the first of each pair where b is so of the second
+-- a is before, at or after the first offset of each pair if and only if b is so for the second
 pub record SameSide (ps : List (ℕ × ℕ)) (a b : ℕ) : Type 0 where
   pub before : (m n : ℕ) → HasPair m n ps → nat_lt a m ≡ nat_lt b n
   pub after : (m n : ℕ) → HasPair m n ps → nat_lt m a ≡ nat_lt n b
 
--- a leaf is on the same sides of the comments, and of the beginnings of leaves
+-- a leaf is on the same sides of the comments and of the starts of leaves
 pub record SameSpan (ps : PairedOffsets) (a b : Span) : Type 0 where
   pub paired : HasPair a.start b.start ps.leaves
   pub among : SameSide ps.leaves a.start b.start
   pub start : SameSide ps.comments a.start b.start
   pub end : SameSide ps.comments a.end b.end
 
--- all other offsets are so of the comments alone
+-- all other offsets are on the same sides of the comments
 pub record SameEntry (ps : PairedOffsets) (a b : Entry) : Type 0 where
   pub start : SameSide ps.comments a.start b.start
   pub blank : a.blank_before ≡ b.blank_before
@@ -79,7 +80,7 @@ pub record SameKeys (ps : PairedOffsets) (s : Style) (k l : Node) : Type 0 where
   pub begins : is_some (standing k).entry ≡ true
   pub colon : SameColons ps s k l
 
--- Nodes in the styles of the house that differ by offsets alone, and whose leaves and entries are on the same sides.
+-- Nodes in the house style that differ only in offsets, and whose leaves and entries are on the same sides.
 mutual
   pub data NodesMatch (ps : PairedOffsets) (s : Style) : Node → Node → Type 0 where
     matched_scalars : {at bt : NodeOffsets} {props : PropsValue} {style : ScalarStyle} {text : List ℕ} {lines : List (List ℕ)} → Either (SameSpan ps) at.span bt.span → Either (SameEntry ps) at.entry bt.entry
@@ -102,7 +103,7 @@ mutual
     no_matched_pairs : PairsMatch ps s no_pairs no_pairs
     matched_pair : {k v l w : Node} {qs rs : Pairs} → SameKeys ps s k l → NodesMatch ps s k l → NodesMatch ps s v w → PairsMatch ps s qs rs → PairsMatch ps s (pair k v qs) (pair l w rs)
 
--- a comment, with the same text but for the white space at its end, and the same note on a blank line before it
+-- a comment with the same text, except for the white space at its end, and the same note on a blank line before it
 pub record SameComment (ps : PairedOffsets) (c d : CommentValue) : Type 0 where
   pub paired : HasPair c.offset d.offset ps.comments
   pub side : SameSide ps.comments c.offset d.offset
@@ -125,17 +126,17 @@ pub data DocumentsMatch (ps : PairedOffsets) (s : Style) (t : List ℕ) (r : Lis
 pub record SameColumn (p q : Columns) (c d : CommentValue) : Type 0 where
   pub is : (next : ℕ) → p c next ≡ q d next
 
--- The readings of two texts match: all comments are pairs, and each offset of a node is on the same side of all of these; the beginnings of leaves are pairs, too,
--- and are on the same side of one another.
+-- The readings of two texts match: all comments are pairs, and each offset of a node is on the same side of them all.
+-- The starts of leaves are pairs too, and each is on the same side of the others.
 pub record SameReadings {t u v w : List ℕ} {s : Style} (f : IsFormatting t s u) (g : IsFormatting v s w) : Type 0 where
   pub pairs : PairedOffsets
   -- the `---` of the first document is left out in both or in neither: the style keeps it so, and it is missing
   pub bare : is_bare f.normal s ≡ is_bare g.normal s
   pub documents : DocumentsMatch pairs s t f.reading v g.reading f.reading.documents f.is_normal.trees g.reading.documents g.is_normal.trees
   pub remarks : Each (SameRemark pairs) (zip f.reading.comments f.reading.on_leaf_line) (zip g.reading.comments g.reading.on_leaf_line)
-  -- where comments keep the blocks that they were written in, they are laid out at the same columns
+  -- if comments keep the blocks that they were written in, they are laid out at the same columns
   pub columns : keeps_blocks s ≡ true → Each (SameColumn (columns_in f) (columns_in g)) f.normal.comments g.normal.comments
 
--- u is what formatting gives of each text whose reading matches that of t
+-- u is the formatting of each text whose reading matches that of t
 abbrev pub DependsOnReading : List ℕ → Style → List ℕ → Type 0
 DependsOnReading t s u = (v w : List ℕ) (f : IsFormatting t s u) (g : IsFormatting v s w) → SameReadings f g → w ≡ u

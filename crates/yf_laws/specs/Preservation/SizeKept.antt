@@ -6,7 +6,7 @@ use Rattle.yf_stream.specs.ReadingOf.{ReadingOf}
 use Rattle.yf_forms.specs.declared.style.Style.{Style}
 use Rattle.yf_laws.specs.Layouts.FitDocuments.{tall_documents}
 
--- each byte of t, and one more, stands for the greatest column that a line of u may begin at, and eight bytes
+-- u has at most as many bytes as t, plus one, times the greatest column at which a line of u may begin, plus eight
 pub record SizeKept (t : List ℕ) (s : Style) (u : List ℕ) : Type 0 where
   -- by the most collections that are open at once in t
   pub by_depth : (r : Lists) (a : ReadingOf t r) → length u ≤ suc (length t) * (s.indent * suc (tall_documents a.trees) + 8)

@@ -1,4 +1,4 @@
--- What formatting leaves as it is spelled.
+-- The spellings that formatting leaves unchanged.
 use Rattle.std.specs.Prelude.{◌≡◌, ℕ, false, List, map}
 use Rattle.yf_events.specs.Event.{EventValue, EventInText, document_starts, document_ends, sequence_starts, mapping_starts, scalar_node}
 use Rattle.yf_events.specs.Reading.{events_of, folded_of}
@@ -12,8 +12,8 @@ use Rattle.yf_laws.specs.Preservation.FoundTrees.{words_of}
 use Rattle.yf_forms.specs.NormalForms.Restyled.{lines_of, restyled_event}
 use Rattle.yf_forms.specs.Nodes.ScalarStyles.{wanted_of_event}
 
--- an event but for what the house chooses: markers of documents, brackets, styles of scalars. It has the name of an alias, an anchor, a tag
--- with the handle and the suffix as they are spelled, and the text.
+-- an event without what the house style chooses: markers of documents, brackets, styles of scalars. It keeps the name
+-- of an alias, the anchor, the tag with its handle and suffix as spelled, and the text.
 abbrev pub unstyled : EventValue → EventValue
 unstyled (document_starts marked) = document_starts false
 unstyled (document_ends marked) = document_ends false
@@ -27,7 +27,7 @@ abbrev pub style_of_event : EventValue → ScalarStyle
 style_of_event (scalar_node props style text) = style
 style_of_event e = Plain
 
--- the lines of a folded scalar, where it stays one
+-- the lines of a folded scalar, if it stays folded
 abbrev pub folded_lines : Style → EventInText → List (List ℕ)
 folded_lines house e = lines_of (restyled_event house false e.event) e.folded
 
@@ -37,8 +37,8 @@ directive_words r = map (λ (d : Doc). words_of d.directives) r.documents
 pub record SameSpellings (s : Style) (t u : List ℕ) : Type 0 where
   -- kinds, anchors, tags as they are spelled, names of aliases, texts
   pub events : (r q : Lists) → ReadingOf t r → ReadingOf u q → map unstyled (events_of q) ≡ map unstyled (events_of r)
-  -- a plain scalar stays plain exactly where its text is steady, a literal or folded one what it is exactly where it has a character other than space
-  -- and line feed, and all others are quoted
+  -- a plain scalar stays plain if and only if its text is steady; a literal or folded scalar keeps its style if and
+  -- only if it has a character other than space and line feed; all others are quoted
   pub styles : (r q : Lists) → ReadingOf t r → ReadingOf u q → map style_of_event (events_of q) ≡ map (λ e. wanted_of_event e s) (events_of r)
   -- the lines of folded scalars; those of literal ones are lines of their texts
   pub lines : (r q : Lists) → ReadingOf t r → ReadingOf u q → folded_of q ≡ map (folded_lines s) r.events

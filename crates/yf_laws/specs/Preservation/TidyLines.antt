@@ -14,7 +14,7 @@ use Rattle.yf_laws.specs.Layouts.FitDocuments.{tall_documents}
 use Rattle.yf_laws.specs.Layouts.ReadableTrees.{is_block_style}
 use Rattle.yf_laws.specs.Preservation.Tokens.{IsToken, TabsWithin}
 
--- a literal or folded scalar, with its lines where it is folded
+-- a literal or folded scalar, with its lines if it is folded
 pub record BlockScalar : Type 0 where
   pub style : ScalarStyle
   pub text : List ℕ
@@ -48,9 +48,10 @@ pub record EndsWithHeader (header x : List ℕ) : Type 0 where
   pub is : x ≡ before ++ (header ++ after)
   pub comment : CommentAfter after
 
--- blank lines have no character; each other line is indented by spaces alone, as many as a multiple of the style's indentation, which is no greater
--- than the limit, ends with no white space, and has no tab but in tokens and in a comment; but that the lines of each of these block scalars, in this
--- order and each once, are together at such a column, with their own white space, directly below the line that ends with its header
+-- Blank lines have no character. Each other line is indented only by spaces, in a multiple of the style's indentation
+-- up to the limit, ends with no white space, and has tabs only in tokens and in a comment. Exempt are the lines of
+-- these block scalars: those of each, in this order and each once, are together at such a column, with their own white
+-- space, directly below the line that ends with its header.
 pub data TidyLines (indent limit : ℕ) (Token : List ℕ → Type 0) : List BlockScalar → List (List ℕ) → Type 0 where
   no_more_lines : TidyLines indent limit Token [] []
   a_blank_line : {bs : List BlockScalar} {xs : List (List ℕ)} → TidyLines indent limit Token bs xs → TidyLines indent limit Token bs ([] ∷ xs)
@@ -67,7 +68,7 @@ pub data LineTexts : List (List ℕ) → Type 0 where
 
 pub record IsTidyText (s : Style) (u : List ℕ) : Type 0 where
   pub lines : List (List ℕ)
-  -- a line feed ends each, and there is no other break
+  -- a line feed ends each, and they have no other break
   pub is : u ≡ body_then lines []
   pub texts : LineTexts lines
   -- none is indented more than the most collections that are open at once, and one more, times the style's indentation

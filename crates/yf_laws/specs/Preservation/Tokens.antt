@@ -1,4 +1,4 @@
--- Where a tab may be in a line of a formatted text that is none of a block scalar's lines.
+-- Where tabs may be in a line of a formatted text that is not a line of a block scalar.
 use Rattle.std.specs.Prelude.{◌≡◌, ◌≢◌, ℕ, List, [], ◌∷◌, ◌++◌, chars, flat_map, map}
 use Rattle.yf_quoted.specs.Written.{single_bytes}
 use Rattle.yf_events.specs.Event.{EventValue, EventInText, scalar_node}
@@ -27,7 +27,7 @@ comment_texts q = map (λ c. trimmed c.text) q.comments
 abbrev pub IsToken : Lists → List ℕ → Type 0
 IsToken q w = HasText w (tokens_in q.events ++ comment_texts q)
 
--- a line's text is made of tokens and of other bytes, of which none is a tab
+-- a line's text consists of tokens and of other bytes, none of them a tab
 pub data TabsWithin (Token : List ℕ → Type 0) : List ℕ → Type 0 where
   at_end : TabsWithin Token []
   no_tab : {b : ℕ} {x : List ℕ} → b ≢ 9 → TabsWithin Token x → TabsWithin Token (b ∷ x)

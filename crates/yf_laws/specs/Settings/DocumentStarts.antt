@@ -1,4 +1,4 @@
--- Which documents of what formatting gives begin with a `---`, said by the readings of the text and of its formatting.
+-- Which documents of a formatted text begin with a `---`, in terms of the readings of the text and of its formatting.
 use Rattle.std.specs.Prelude.{◌≡◌, ℕ, Bool, true, not, ◌||◌, List, [], ◌∷◌, map}
 use Rattle.std.specs.Str.{IsUtf8}
 use Rattle.yf_events.specs.Reading.{events_of}
@@ -9,9 +9,9 @@ use Rattle.yf_forms.specs.declared.style.Style.{Style}
 use Rattle.yf_rule_sets.specs.RuleSets.Documents.{markers_in}
 use Rattle.yf_laws.specs.Format.{IsFormatting}
 
--- Of each document of a formatting, whether it has a `---`, by the same of the documents of the text: each has one, but for the first. That one has
--- one if it has one in the text, or if a comment is after its beginning and before its first leaf with characters (`leads`), or if the setting
--- doesn't keep the beginning as it is.
+-- Whether each document of a formatting has a `---`, from whether the documents of the text have one: each has one,
+-- except for the first. The first has one if it has one in the text, or if a comment is between its start and its first
+-- leaf with characters (`leads`), or if the setting doesn't keep its start.
 abbrev pub kept_markers : Bool → Bool → List Bool → List Bool
 kept_markers keeps leads [] = []
 kept_markers keeps leads (marked ∷ others) = (not keeps || (marked || leads)) ∷ map (λ (other : Bool). true) others

@@ -1,4 +1,4 @@
--- How the quoted scalars of what formatting gives are spelled, said by the bytes of the formatting and by its reading.
+-- How the quoted scalars of a formatted text are spelled, in terms of the bytes of the formatting and of its reading.
 use Rattle.std.specs.Prelude.{◌≡◌, ◌≢◌, ◌<◌, ℕ, true, false, List, slice_range}
 use Rattle.std.specs.Str.{IsUtf8}
 use Rattle.yf_chars.specs.Hidden.{is_hidden}
@@ -17,8 +17,8 @@ use Rattle.yf_rule_sets.specs.RuleSets.HiddenCharacters.{HiddenCharacter, Quoted
 use Rattle.yf_rule_sets.specs.RuleSets.Scalars.{IsScalar, IsWithin}
 use Rattle.yf_laws.specs.Format.{IsFormatting}
 
--- Each quoted scalar of a formatting is from quote to quote as the house style spells it: in double quotes with the escapes that the style lists and no
--- others.
+-- Each quoted scalar of a formatting is, from quote to quote, spelled as the house style spells it: in double quotes
+-- with exactly the escapes that the style lists.
 abbrev pub QuotesAreSpelled : Type 0
 QuotesAreSpelled = (t u : List ℕ) (s : Style) (q : Lists) → IsUtf8 t → IsFormatting t s u → ReadingOf u q → (i : ℕ) (props : PropsValue) (style : ScalarStyle) (text : List ℕ) (span : Span)
     → IsScalar q i props style text span → is_quoted style ≡ true → slice_range u (content_start u span props) span.end ≡ scalar_text s style text
