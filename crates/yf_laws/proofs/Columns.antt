@@ -1,4 +1,4 @@
--- at which columns entries and outer flow collections are in what formatting gives
+-- the columns of entries and of outer flow collections in a formatted text
 pub mod SetNodes
 pub mod SetMeant
 pub mod SetStreams

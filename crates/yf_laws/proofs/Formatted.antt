@@ -1,4 +1,4 @@
--- in what formatting gives nothing is at fault that the house style fixes (`FormatsAreMended`)
+-- a formatted text has no fixable finding (`FormatsAreMended`)
 pub mod MendedTrailingBlanks
 pub mod MendedFlowLayout
 pub mod MendedColumns

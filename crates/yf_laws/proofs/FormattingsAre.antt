@@ -1,4 +1,4 @@
--- What is proved of a text that has a formatting, and of every text, holds.
+-- The statements on a text that has a formatting, and on every text, hold.
 use Rattle.std.proofs.Common.{List, ℕ, sym, subst}
 use Rattle.std.specs.Str.{IsUtf8}
 use Rattle.yf_lines.specs.Lines.{AreLines}
@@ -17,7 +17,7 @@ use Rattle.yf_laws.specs.Formattings.{FormattingsHold, RefusedTextsHaveNoReading
 use Rattle.yf_laws.specs.Mended.{IsMended}
 use Rattle.yf_laws.proofs.RulesMended.{rule_mended}
 
--- nothing in what formatting gives is at fault that the house style fixes
+-- a formatted text has no fixable finding
 formats_are_mended : (t u : List ℕ) (s : Style) → IsUtf8 t → IsFormatting t s u → IsMended u s
 formats_are_mended t u s utf8 formats = λ rule fixable src q same lines reads offsets at.
     rule_mended rule fixable src q s (record {
@@ -28,7 +28,7 @@ formats_are_mended t u s utf8 formats = λ rule fixable src q same lines reads o
       reads = subst (λ v. ReadingOf v q) (sym same) reads;
     }) offsets at
 
--- what formatting gives is a stream of the standard
+-- a formatted text is a stream of the standard
 formats_are_standard : (t u : List ℕ) (s : Style) → IsUtf8 t → FormatKept t s u → IsStandardText u
 formats_are_standard t u s utf8 kept = reading_is_standard (formats_well t u s utf8 kept.formats).utf8 kept.accepted.1
 

@@ -1,4 +1,4 @@
--- what formatting leaves as it was (`Keeps`)
+-- what formatting leaves unchanged (`Keeps`)
 pub mod KeepsHold
 pub mod BlanksKept
 pub mod CommentsStay

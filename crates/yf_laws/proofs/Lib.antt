@@ -1,5 +1,5 @@
--- The lemmas, a folder for each theorem or for what several rest on.
--- what is proved of `format` (`FormatKept`)
+-- The lemmas, a folder for each theorem or for what several theorems use.
+-- what is proved about `format` (`FormatKept`)
 pub mod FormatKeeps
 -- the bytes of lines, and that styles stay as they are wanted
 pub mod Texts
@@ -9,7 +9,7 @@ pub mod NormalForms
 pub mod Printer
 -- `trails_of`: the comments that trail are those of the layout
 pub mod Trails
--- the reading of a text is one of a text (`ReadingsAreOfTexts`)
+-- the reading of a text satisfies `ReadingsAreOfTexts`
 pub mod OfTexts
 -- what is read can be written and is read again (`Fits`, `ReadTrees`)
 pub mod Writable
@@ -17,28 +17,28 @@ pub mod Writable
 pub mod Derived
 -- a formatted text has the same content, and the same comments at the same leaves
 pub mod SameReading
--- the lines of what formatting gives, which the rules of style look at
+-- the lines of a formatted text, which the rules of style inspect
 pub mod OutputLines
--- at which columns entries and outer flow collections are in what formatting gives
+-- the columns of entries and of outer flow collections in a formatted text
 pub mod Columns
--- nodes are found where their rows were laid out
+-- nodes are found on their laid-out rows
 pub mod RowNodes
--- what is read in a formatted text is laid out as it was: comments, notes on blank lines, rows
+-- the reading of a formatted text is laid out as that text: comments, notes on blank lines, rows
 pub mod ReadAgain
 -- a second run changes nothing (`FixedLaws`): trees that are alike up to offsets are laid out alike
 pub mod SecondRun
--- what formatting leaves as it was (`Keeps`)
+-- what formatting leaves unchanged (`Keeps`)
 pub mod Keeps
--- what formatting gives is longer by a bound alone (`SizeKept`)
+-- a bound on the length of a formatted text (`SizeKept`)
 pub mod Size
--- in what formatting gives no tab is outside of contents
+-- in a formatted text tabs are only in contents
 pub mod Tabs
 -- the definitions by small readings
 pub mod Shown
 -- what holds of a text and its formatting, and of every text (`Formattings`)
 pub mod FormattingsAre
 pub mod RulesMended
--- in what formatting gives nothing is at fault that the house style fixes (`FormatsAreMended`)
+-- a formatted text has no fixable finding (`FormatsAreMended`)
 pub mod Formatted
 -- what a setting promises (`StartsAreKept`)
 pub mod Settings

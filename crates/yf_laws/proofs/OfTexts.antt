@@ -1,4 +1,4 @@
--- the reading of a text is one of a text (`ReadingsAreOfTexts`)
+-- the reading of a text satisfies `ReadingsAreOfTexts`
 pub mod MarksOrder
 pub mod PlacedTrees
 pub mod ReadingsOfTexts

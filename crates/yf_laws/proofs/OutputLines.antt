@@ -1,4 +1,4 @@
--- the lines of what formatting gives, which the rules of style look at
+-- the lines of a formatted text, which the rules of style inspect
 pub mod LaidLines
 pub mod FormattedLines
 pub mod WellSet

@@ -1,4 +1,4 @@
--- what is read in a formatted text is laid out as it was: comments, notes on blank lines, rows
+-- the reading of a formatted text is laid out as that text: comments, notes on blank lines, rows
 pub mod GapsAgain
 pub mod GapsInText
 pub mod GapNotes

@@ -1,4 +1,4 @@
--- nodes are found where their rows were laid out
+-- nodes are found on their laid-out rows
 pub mod HeadRows
 pub mod PlacedRows
 pub mod FoundNodes

@@ -1,6 +1,6 @@
--- how long what formatting gives may be (`SizeKept`)
+-- how long a formatted text may be (`SizeKept`)
 pub mod SizesKept
--- how many bytes what is read has in the text: events, comments, documents
+-- the number of bytes of events, comments and documents in the text
 pub mod Weights
 pub mod CommentBytes
 pub mod NameBytes

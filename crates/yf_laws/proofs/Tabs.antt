@@ -1,4 +1,4 @@
--- in what formatting gives no tab is outside of contents
+-- in a formatted text tabs are only in contents
 pub mod DirectiveTabs
 pub mod TokenTabs
 pub mod RowTokens

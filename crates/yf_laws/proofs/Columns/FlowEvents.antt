@@ -1,4 +1,4 @@
--- A flow node means flow collections and scalars of no block style alone, so its tree is one without blocks.
+-- A flow node means only flow collections and scalars that are not in a block style, so its tree has no blocks.
 use Rattle.std.proofs.Common.{◌≡◌, ℕ, Bool, true, false, List, [], ◌∷◌, ◌++◌, Option, Some, None, refl}
 use Rattle.yf_comments.specs.Comment.{CommentValue}
 use Rattle.yf_props.specs.Props.{PropsValue}

@@ -16,7 +16,7 @@ use Rattle.yf_grammar.proofs.NodesInText.MeantLemmas.{entered}
 use Rattle.yf_laws.specs.Layouts.ReadableTrees.{FitProps, no_fit_props, some_fit_props}
 use Rattle.yf_laws.proofs.Writable.PropsFits.{props_some}
 
--- whether a flow collection begins with the event, and with which properties
+-- whether a flow collection begins with the event, and its properties
 abbrev pub opens_flow : EventValue → Bool
 opens_flow (sequence_starts flow props) = flow
 opens_flow (mapping_starts flow props) = flow

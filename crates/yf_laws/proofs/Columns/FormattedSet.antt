@@ -1,4 +1,5 @@
--- The trees of the reading of a formatted text are set: the entries of each block collection and the content of each block scalar are where they are to.
+-- The trees of the reading of a formatted text are set: the entries of each block collection and the content of each
+-- block scalar are at their columns.
 use Rattle.std.proofs.Common.{◌≡◌, ℕ, suc, ◌+◌, List, [], ◌∷◌, ◌++◌, length, flat_map, Option, Some, None, refl, sym, ap, ◌∙◌, subst}
 use Rattle.std.specs.Str.{IsUtf8}
 use Rattle.yf_chars.specs.Class.{is_white_or_end}

@@ -1,4 +1,4 @@
--- Offsets on a line with so many characters before them, counted from where the line starts.
+-- Offsets on a line, and the number of characters before each, counted from the start of the line.
 use Rattle.std.proofs.Common.{◌≡◌, ℕ, zero, suc, ◌+◌, ◌<◌, ◌≤◌, true, List, [], ◌∷◌, ◌++◌, length, replicate, refl, sym, ap, ◌∙◌, subst, arith, add-zero, append_assoc, length-append}
 use Rattle.std.specs.Char.{len_utf8}
 use Rattle.std.specs.Str.{IsUtf8}

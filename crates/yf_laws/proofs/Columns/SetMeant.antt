@@ -1,4 +1,4 @@
--- What a production means of rows that were laid out is a set node, with its entries at their column and the content of its block scalars as far in.
+-- The meaning of laid-out rows is a set node, with its entries and the content of its block scalars at their columns.
 use Rattle.std.proofs.Common.{zero-add, ◌≡◌, ℕ, ◌+◌, ◌-◌, ◌<◌, ◌≤◌, ⊎_elim, Bool, true, false, true≢false, not, List, [], ◌∷◌, ◌++◌, Option, Some, None, refl, sym, ap, ◌∙◌, subst, arith, append_assoc, append-nil}
 use Rattle.std.specs.Prelude.{◌&&◌, if◌then◌else◌}
 use Rattle.std.proofs.lemmas.Bool.{cases_lt}
@@ -94,15 +94,15 @@ set_entered e (set_scalar f (block_at body z n a)) = set_scalar f (block_at body
 set_entered e (set_sequence o a) = set_sequence o a
 set_entered e (set_mapping o a) = set_mapping o a
 
--- What is meant.
+-- Meanings.
 
--- a node with its entries at m and its lines at l; where it begins with an entry, that is at q
+-- a node with its entries at m and its lines at l; if it begins with an entry, that entry is at q
 pub record SetMeant (t : List ℕ) (s : Style) (m l : ℕ) (below : Bool) (q : ℕ) (x : Meaning) : Type 0 where
   pub node : Node
   pub events : x.events ≡ flat node
   pub set : (below ≡ true → ColumnAt t m q) → SetAt t s m l node
 
--- the node of events, wherever it is
+-- the node of events, at any offset
 pub record SetDone (t : List ℕ) (s : Style) (m l : ℕ) (es : List EventInText) : Type 0 where
   pub node : Node
   pub events : es ≡ flat node

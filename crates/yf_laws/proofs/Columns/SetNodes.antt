@@ -1,4 +1,4 @@
--- Trees whose block collections have their entries at the columns of the layout: so the trees of what is laid out are to be found.
+-- Trees whose block collections have their entries at the columns of the layout, as the trees of a layout have.
 use Rattle.std.proofs.Common.{◌≡◌, ℕ, ◌+◌, ◌<◌, ◌≤◌, Bool, true, false, true≢false, List, [], ◌∷◌, Some, refl, sym, ◌∙◌, subst}
 use Rattle.std.specs.Prelude.{◌&&◌, not, if◌then◌else◌}
 use Rattle.std.proofs.lemmas.Option.{same_Some}
@@ -14,14 +14,14 @@ use Rattle.yf_forms.specs.NormalForms.Normal.{is_implicit, value_entries}
 use Rattle.yf_forms.specs.declared.style.Style.{Style}
 use Rattle.yf_print.specs.Layouts.SourceColumns.{column_by, is_white_or_sign}
 
--- the offset is so many columns right of where a line starts, after signs and spaces of one byte
+-- the offset is that many columns right of the start of a line, after signs and spaces of one byte
 pub record ColumnAt (t : List ℕ) (m i : ℕ) : Type 0 where
   pub line : ℕ
   pub start : LineStart t line
   pub is : i ≡ line + m
   pub least : (k : ℕ) → k < m → 32 ≤ code t (line + k)
   pub most : (k : ℕ) → k < m → code t (line + k) < 127
-  -- and nothing else
+  -- and after nothing else
   pub source : column_by is_white_or_sign t i ≡ Some m
 
 -- the entry of the node begins at the column, counted from 0
@@ -89,7 +89,8 @@ pub data SetDocuments (t : List ℕ) (s : Style) (Content : ℕ → Node → Typ
   no_set_documents : SetDocuments t s Content []
   set_document : {d : DocumentTree} {ds : List DocumentTree} → SetNode t s Content 0 s.indent d.root → SetDocuments t s Content ds → SetDocuments t s Content (d ∷ ds)
 
--- What is wanted of a value: a sequence beside its key without `?`, where the style has it so, and else further in.
+-- The condition on a value: a sequence is at the column of its key without `?` if the style has it so, and otherwise
+-- further in.
 
 pub data SetValue (t : List ℕ) (s : Style) (Content : ℕ → Node → Type 0) (m : ℕ) (k v : Node) : Type 0 where
   beside : s.seq_indent ≡ false → is_block_collection v ≡ true → is_sequence v ≡ true → Unquestioned t k → SetNode t s Content m (m + s.indent) v → SetValue t s Content m k v
@@ -101,7 +102,7 @@ questioned_not {t} a b =
     let one : a.entry ≡ b.entry = same_Some _ _ (sym a.is ∙ b.is) in
     b.none (subst (λ (e : Entry). code t e.start ≡ 63) one a.sign) (subst (λ (e : Entry). is_white_or_end (code t (e.start + 1)) ≡ true) one a.white)
 
--- a node that is no block collection has no entries at a column
+-- a node that isn't a block collection has no entries at a column
 set_moved : {t : List ℕ} {s : Style} {Content : ℕ → Node → Type 0} {m l : ℕ} {x : Node} (n : ℕ) → is_block_collection x ≡ false → SetNode t s Content m l x → SetNode t s Content n l x
 set_moved n e (set_line b) = set_line b
 set_moved n e (set_scalar f c) = set_scalar f c
@@ -127,7 +128,7 @@ value_set {t} {s} {Content} {m} {k} {v} free marked a = by_key (is_implicit s m 
   by_key true e = by_sequence (is_sequence v) s.seq_indent refl refl (free e) (subst (λ b. Here (if b then value_entries s m v else m + s.indent)) e a)
   by_key false e = inside (λ x y z w. questioned_not (marked e) w) (subst (λ b. Here (if b then value_entries s m v else m + s.indent)) e a)
 
--- Entries of which the first is at the column.
+-- Entries, the first of them at the column.
 
 pub data SetFirst (t : List ℕ) (s : Style) (Content : ℕ → Node → Type 0) (m : ℕ) : Items → Type 0 where
   set_first : {x : Node} {xs : Items} → EntryOn t m x → SetItems t s Content m (item x xs) → SetFirst t s Content m (item x xs)

@@ -1,4 +1,4 @@
--- The columns of what is after spaces, or after spaces and signs, on its line.
+-- The columns of offsets after spaces, or after spaces and signs, on their line.
 use Rattle.std.proofs.Common.{◌≡◌, ℕ, zero, suc, ◌+◌, ◌-◌, ◌<◌, ◌≤◌, Bool, true, false, List, Option, Some, None, refl, sym, ap, ◌∙◌, arith, add-one, add-zero}
 use Rattle.std.proofs.lemmas.Bool.Decides.{nat_tests}
 use Rattle.std.specs.Char.{len_utf8}
@@ -47,7 +47,7 @@ class_column p c mark n e f =
     ap (λ b. if b then Some 0 else if p c then Some (suc n) else if mark == BYTE_ORDER_MARK then Some 0 else None) e
     ∙ ap (λ b. if b then Some (suc n) else if mark == BYTE_ORDER_MARK then Some 0 else None) f
 
--- after so many characters of the class
+-- after that many characters of the class
 pub column_run : (t : List ℕ) (p : ℕ → Bool) (i m n : ℕ) → ((k : ℕ) → k < n → (is_break_char (code t (i + k)) ≡ false) × (p (code t (i + k)) ≡ true)) → column_by p t i ≡ Some m → column_by p t (i + n) ≡ Some (m + n)
 column_run t p i m zero f e = ap (column_by p t) (add-zero i) ∙ (e ∙ ap Some (sym (add-zero m)))
 column_run t p i m (suc n) f e =

@@ -48,7 +48,7 @@ opened house (mapping at flow props (pair k v ps)) f = record { sign = 123; more
 sign_low : (c : ℕ) → (c ≡ 91) ⊎ (c ≡ 123) → (39 ≤ c) × (c < 127)
 sign_low c f = ⊎_elim (λ (e : c ≡ 91). (omega (arith, e), omega (arith, e))) (λ (e : c ≡ 123). (omega (arith, e), omega (arith, e))) f
 
--- where its content begins, after its properties
+-- the start of its content, after its properties
 content_at : {t : List ℕ} {i : ℕ} {p : PropsValue} (c : ℕ) (w r : List ℕ) → IsUtf8 t → FitProps p → (c ≡ 91) ⊎ (c ≡ 123) → Rest t i (spaced (props_text p) (c ∷ w) ++ r)
     → slice_range t (content_start t (record { start = i; end = i + length (spaced (props_text p) (c ∷ w)) }) p) (i + length (spaced (props_text p) (c ∷ w))) ≡ c ∷ w
 content_at {t} {i} c w r u no_fit_props f s =

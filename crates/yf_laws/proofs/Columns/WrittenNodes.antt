@@ -1,5 +1,5 @@
--- Trees in whose text each flow collection that is in no other one is at its column as it is written on one line: so the trees of
--- what is laid out are to be found.
+-- Trees in whose text each outermost flow collection is at its column as it is written on one line, as in the trees of
+-- a layout.
 use Rattle.std.proofs.Common.{◌≡◌, ℕ, ◌+◌, ◌-◌, ◌<◌, true, false, List, [], ◌∷◌, Some}
 use Rattle.std.specs.Prelude.{slice_range}
 use Rattle.yf_chars.specs.Text.{code}

@@ -1,4 +1,4 @@
--- In each reading of what formatting gives, each flow collection that is in no other one is as it is written, at the column of the layout.
+-- In each reading of a formatted text, each outermost flow collection is as it is written, at the column of the layout.
 use Rattle.std.proofs.Common.{◌≡◌, ℕ, Bool, List, [], ◌∷◌, ◌++◌, map, refl, ap}
 use Rattle.std.specs.Str.{IsUtf8}
 use Rattle.yf_lines.specs.Basic.{LineStart}

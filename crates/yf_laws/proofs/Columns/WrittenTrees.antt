@@ -1,4 +1,4 @@
--- In the trees that are found where rows were laid out, each flow collection that is in no other one is at its column as it is written.
+-- In the trees found on laid-out rows, each outermost flow collection is at its column as it is written.
 use Rattle.std.proofs.Common.{◌≡◌, ℕ, ◌+◌, Bool, true, false, true≢false, List, [], ◌∷◌, ◌++◌, refl, sym, ap, ◌∙◌, subst}
 use Rattle.std.specs.Prelude.{is_some, if◌then◌else◌, slice_range}
 use Rattle.std.specs.Str.{IsUtf8}

@@ -1,4 +1,5 @@
--- Whether the `---` of the first document is left out is found by the first comment after its beginning alone: no later one is there if that one does not.
+-- The first comment after the start of the first document decides whether its `---` is left out: if that comment isn't
+-- before the first leaf, no later one is.
 use Rattle.std.proofs.Common.{◌≡◌, ◌≢◌, ℕ, suc, ◌+◌, ◌<◌, ◌≤◌, Bool, true, false, true≢false, ◌&&◌, ◌||◌, List, [], ◌∷◌, refl, sym, ap, ◌∙◌, subst, arith}
 use Rattle.std.specs.Prelude.{◌==◌, count_by, is_some, nat_lt, not, option_map, slice_get, if◌then◌else◌}
 use Rattle.std.specs.List.{list_any}

@@ -90,7 +90,7 @@ marked_first a = record {
   set = a.set;
 }
 
--- Without a `---`: the rows of the node, on the first of which the document begins.
+-- Without a `---`: the rows of the node; the document begins on the first.
 
 begun_row : {x : Row} {p : PlacedRow} {i : ℕ} (start q : ℕ) → q ≡ i → AtRow x i p → AtRow (record x { items = start ∷ x.items; begins = true }) i (record p { items = q ∷ p.items })
 begun_row start q e a = record {

@@ -1,4 +1,4 @@
--- What of a reading tells whether its first document is without a `---`.
+-- The parts of a reading that decide whether its first document has no `---`.
 use Rattle.std.proofs.Common.{◌≡◌, ℕ, Bool, true, false, List, [], ◌∷◌, ◌++◌, map, Option, refl, sym, ap, ◌∙◌}
 use Rattle.std.specs.Prelude.{not, ◌&&◌}
 use Rattle.std.proofs.lemmas.Bool.{and_parts}

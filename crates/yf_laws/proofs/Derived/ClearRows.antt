@@ -1,4 +1,4 @@
--- Rows whose texts are no document markers cover no forbidden line, whatever they carry.
+-- Rows whose texts are not document markers cover no forbidden line, whatever they carry.
 use Rattle.std.proofs.Common.{◌≡◌, ◌≢◌, ℕ, zero, suc, ◌+◌, ◌<◌, List, [], ◌∷◌, ◌++◌, length, replicate, refl, sym, ap, ◌∙◌, subst, arith, append_assoc, append-nil, true, drop, length-drop}
 use Rattle.std.specs.Str.{IsUtf8}
 use Rattle.yf_lines.specs.Basic.{Clear}
@@ -17,7 +17,7 @@ use Rattle.yf_laws.proofs.Derived.RowEnds.{first_deco, after_decos}
 use Rattle.yf_laws.proofs.OutputLines.SeenTexts.{IsSeen}
 use Rattle.yf_chars.proofs.CharFacts.{hash_nb, space_nb}
 
--- Texts that are no markers.
+-- Texts that are not markers.
 
 pub unmarked_first : (c : ℕ) (x : List ℕ) → c < 128 → c ≢ 13 → c ≢ 45 → c ≢ 46 → IsNoMarker (c ∷ x)
 unmarked_first c x l cr dash dot = record {
@@ -156,7 +156,7 @@ rows_clear_after {t} {rs} w k ds r {q} u l some a d s =
     let two = also one (gap_clear (first ds).gap (lines_then rs (after ds) r) u (first_deco d).gap one.rest) in
     also two (rows_clear (after ds) r u a (after_decos d) two.rest)
 
--- what is to the end of a text tells the place
+-- the rest of a text determines its offset
 pub place_of_rest : {t : List ℕ} {i j : ℕ} {r : List ℕ} → Rest t i r → Rest t j r → i ≡ j
 place_of_rest {t} {i} {j} {r} a b =
     let x : length (drop i t) ≡ length r = ap length a.bytes in

@@ -1,5 +1,5 @@
--- A layout is its rows with what each carries, as bytes with anything that follows; how rows one after the other, and rows on the line
--- of a sign or key, are read off such bytes.
+-- A layout is its rows with what each carries, as bytes with anything after them; how rows in sequence, and rows on the
+-- line of a sign or key, are read off such bytes.
 use Rattle.std.proofs.Common.{◌≡◌, ℕ, Bool, true, false, ◌&&◌, List, [], ◌∷◌, ◌++◌, map, flat_map, replicate, refl, sym, ap, ◌∙◌, append_assoc, append-nil, cond}
 use Rattle.std.specs.Prelude.{filter}
 use Rattle.yf_comments.specs.Comment.{CommentValue}

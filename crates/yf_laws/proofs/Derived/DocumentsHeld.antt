@@ -1,4 +1,4 @@
--- What is held of the documents of a stream: their comments are well set, and the lines of block scalars are those of their events.
+-- The documents of a stream: their comments are well set, and the lines of block scalars are those of their events.
 use Rattle.std.proofs.Common.{ℕ, true, List, [], ◌++◌, flat_map}
 use Rattle.yf_comments.specs.Comment.{CommentValue}
 use Rattle.yf_events.specs.Event.{EventInText}

@@ -33,11 +33,11 @@ use Rattle.yf_laws.proofs.Columns.SourceColumns.{colon_sign, dash_sign, question
 use Rattle.yf_chars.proofs.CharFacts.{feed_no_ns, space_no_ns}
 use Rattle.yf_lines.proofs.BasicLemmas.{ends_at_lf}
 
--- rows of which the first is at that column
+-- rows, the first of them at that column
 pub data Begins (column : ℕ) : List Row → Type 0 where
   begins : {r : Row} {rs : List Row} → r.column ≡ column → Begins column (r ∷ rs)
 
--- an entry whose first row's text is at q, of meanings that P tells; and entries
+-- an entry whose first row's text is at q, with a meaning for which P holds; and entries
 pub record EntryMade (s : LayoutSetting) (sequence : Bool) (column bound : ℕ) (P : List ℕ → Meaning → List PlacedRow → Type 0) (t : List ℕ) (rs : List Row) (ds : List Deco) (q : ℕ) (r : List ℕ) : Type 0 where
   pub height : ℕ
   pub place : ℕ

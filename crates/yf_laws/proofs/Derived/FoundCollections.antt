@@ -1,4 +1,4 @@
--- A block collection that is found where the rows of its entries were laid out, with properties or without.
+-- A block collection that is found on the laid-out rows of its entries, with properties or without.
 use Rattle.std.proofs.Common.{◌≡◌, ℕ, true, false, List, [], ◌∷◌, ◌++◌, Option, None, refl, sym, ap, ◌∙◌}
 use Rattle.std.specs.Prelude.{is_some}
 use Rattle.yf_props.specs.Props.{PropsValue, no_props}

@@ -1,4 +1,4 @@
--- What the rows of a reading carry are comments and blank lines, where its comments are texts of comments.
+-- Rows carry comments and blank lines, if the comments are texts of comments.
 use Rattle.std.proofs.Common.{ℕ, Bool, true, false, ◌&&◌, List, [], ◌∷◌, ◌++◌, map}
 use Rattle.std.specs.Prelude.{filter, flat_map, zip, not, if◌then◌else◌}
 use Rattle.yf_comments.specs.Comment.{CommentValue}

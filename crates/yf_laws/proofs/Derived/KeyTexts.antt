@@ -1,4 +1,5 @@
--- An implicit key with its `:`, as it was written: it is derived as a key, so many characters are on its line, and its value begins after them.
+-- A written implicit key with its `:` is derived as a key with its number of characters on its line, and its value
+-- begins after them.
 use Rattle.std.proofs.Common.{◌≡◌, ℕ, ◌+◌, ◌≤◌, pos, Bool, true, false, List, [], ◌∷◌, ◌++◌, length, sym, ap, ◌∙◌, subst, arith, length-append}
 use Rattle.std.specs.Prelude.{is_some, if◌then◌else◌}
 use Rattle.std.specs.Str.{IsUtf8, chars}
@@ -22,7 +23,7 @@ use Rattle.yf_laws.proofs.Columns.LinePlaces.{OnLine, on_more, on_same}
 use Rattle.yf_laws.proofs.Texts.LineUtf8.{space_chars, written_utf8}
 use Rattle.yf_lines.proofs.VisibleLines.{visible_line, visible_at}
 
--- the `:` after a key, and what is after it
+-- the `:` after a key, and what follows it
 pub record KeyMade (t : List ℕ) (h : ℕ) (mean : Meaning) (q : ℕ) (z written_text : List ℕ) : Type 0 where
   pub json : Bool
   pub place : ℕ
@@ -57,7 +58,7 @@ pub colon_line : {b : Bool} {text : List ℕ} → ColonFits b text → IsLineTex
 colon_line (colon_at_once e) = visible_line 58 (omega arith) (omega arith) line_nothing
 colon_line colon_apart = visible_line 32 (omega arith) (omega arith) (visible_line 58 (omega arith) (omega arith) line_nothing)
 
--- so many characters further on the line
+-- that many characters further on the line
 pub over_key : {t : List ℕ} {column q : ℕ} (i : ℕ) (key colon z : List ℕ) → IsUtf8 t → IsLineText key → IsLineText colon → Rest t q (key ++ (colon ++ z)) → q + length (key ++ colon) ≡ i + 1 → OnLine t column q
     → OnLine t (column + (width key + width colon)) (i + 1)
 over_key i key colon z u a b w e on =
@@ -65,7 +66,7 @@ over_key i key colon z u a b w e on =
     let second = on_more colon z u b first (rest_text key u a w).rest in
     on_same (omega arith) (let l = length-append key colon in omega (arith, l, e)) second
 
--- where its value begins
+-- the column at which its value begins
 pub value_right : (s : LayoutSetting) (margins : Margins) (column : ℕ) (k v : Node) (b : Bool) → margins ≡ value_of_implicit s column k v → b ≡ is_some (key_comment s.comments k v) → b ≡ false
     → margins.column ≡ column + (width (written s.style k) + width (colon_after k)) + 1
 value_right s margins column k v b e flag f =

@@ -53,7 +53,7 @@ abbrev pub key_head : ℕ → List ℕ → List ℕ → List ℕ → List Span �
 key_head column text offsets items leaves blank =
     record { column = column; text = text; starts = start_of column false offsets ∷ []; items = items; leaves = leaves; key_comment = None; blank_before = blank; begins = false; ending = anywhere; body = []; lines = 0 }
 
--- what is after the `:`
+-- the bytes after the `:`
 abbrev after_then : Option CommentValue → Bool → List Row → List Deco → List ℕ → List ℕ
 after_then (Some c) below rs ds r = end_then (first ds) [] (lines_then rs (after ds) r)
 after_then None true rs ds r = end_then (first ds) [] (lines_then rs (after ds) r)
@@ -74,7 +74,7 @@ after_begins column text offsets items leaves blank None true rs = begins refl
 after_begins column text offsets items leaves blank None false [] = begins refl
 after_begins column text offsets items leaves blank None false (x ∷ xs) = begins refl
 
--- the steps of what is after the `:`
+-- the steps after the `:`
 abbrev steps_after : Option CommentValue → Bool → List Row → List Deco → List Step
 steps_after (Some c) below rs ds = comment_steps (carried_texts (first ds)) ++ steps_in rs (after ds)
 steps_after None true rs ds = comment_steps (carried_texts (first ds)) ++ steps_in rs (after ds)
@@ -108,7 +108,7 @@ record ValueMade (t : List ℕ) (s : LayoutSetting) (margins : Margins) (column 
   pub keyed : KeyRows t items leaves b below inner found_rows
   pub placed : RowsIn t rs found_rows ds q meaning.comments place r
 
--- the row of a key that begins at q, up to its `:` at i, with what is found on it
+-- the row of a key that begins at q, up to its `:` at i, with the items found on it
 record Head (column : ℕ) (row : Row) (q i a : ℕ) (items : List ℕ) (ls : List Span) (b : Bool) : Type 0 where
   is_there : row.column ≡ column
   width : q + length row.text ≡ i + 1

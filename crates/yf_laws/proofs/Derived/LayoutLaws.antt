@@ -29,14 +29,14 @@ abbrev pub printed_comments : List ℕ → Lists → Style → List DocumentTree
 printed_comments t m s trees =
     remarks_of (first_gap (columns_of t s (rows_of m s trees)) m (rows_of m s trees)) ++ comments_in (rows_of m s trees) (row_decos (columns_of t s (rows_of m s trees)) m (rows_of m s trees))
 
--- The layout is a text: where the texts of its rows are.
+-- The layout is a text: the texts of its rows are.
 abbrev pub LayoutsAreTexts : Type 0
 LayoutsAreTexts = (t : List ℕ) (m : Lists) (s : Style) (trees : List DocumentTree) → FitDocuments s m.documents trees → AreRemarks m.comments
     → TrailsFit (source_of m (rows_of m s trees)) (rows_of m s trees) → IsUtf8 (layout t m s trees)
 
--- What is laid out is derived again: where each node on one line reads back, and the comments are texts of comments of which one at most trails
--- a row, the layout is a stream of documents that mean the same trees up to their places, with the same directives, and its comments are those
--- that were printed, in that order.
+-- A layout is derived again. If each node on one line reads back, the comments are texts of comments, and at most one
+-- of them trails each row, then the layout is a stream of documents that mean the same trees except for offsets, with
+-- the same directives, and its comments are those that were printed, in that order.
 abbrev pub LayoutsAreDerived : Type 0
 LayoutsAreDerived = (t : List ℕ) (m : Lists) (s : Style) (trees : List DocumentTree) → FitDocuments s m.documents trees → FitsBare (is_bare m s) m.documents trees → AreRemarks m.comments
     → TrailsFit (source_of m (rows_of m s trees)) (rows_of m s trees) → StreamMade (layout t m s trees) (is_bare m s) m.documents trees (printed_comments t m s trees)

@@ -1,4 +1,4 @@
--- Leaves with characters and comments as steps, in the order in which they are in a text, and what is told of each comment by them.
+-- Leaves with characters and comments as steps, in the order of a text, and what the steps determine for each comment.
 use Rattle.std.specs.Prelude.{ℕ, ◌+◌, List, [], ◌∷◌, ◌++◌, map}
 use Rattle.yf_comments.specs.GapLines.{remarks_of}
 use Rattle.yf_events.specs.declared.event.Span.{Span}
@@ -27,7 +27,7 @@ steps_in (x ∷ xs) ds = leaf_steps x.leaves ++ (comment_steps (carried_texts (f
 abbrev pub steps_of : Columns → Lists → List Row → List Step
 steps_of g m rows = comment_steps (remarks_of (first_gap g m rows)) ++ steps_in rows (row_decos g m rows)
 
--- each comment's text, and how many leaves come before it, after so many
+-- each comment's text, and the number of leaves before it, counted from a number
 abbrev pub comments_of : ℕ → List Step → List (List ℕ × ℕ)
 comments_of n [] = []
 comments_of n (a_leaf ∷ steps) = comments_of (n + 1) steps

@@ -1,5 +1,5 @@
--- What is at the first character of a node, and how it is derived as a block node there: after a sign, after a `:` and a space, or on
--- the next line.
+-- What is at the first character of a node, and how it is derived as a block node there: after a sign, after a `:` and
+-- a space, or on the next line.
 use Rattle.std.proofs.Common.{◌≡◌, ℕ, suc, ◌+◌, ◌-◌, ◌<◌, ◌≤◌, ℤ, pos, Bool, true, false, List, [], ◌++◌, refl, sym, ap, ◌∙◌, subst, arith, true≢false, append_assoc, append-nil}
 use Rattle.std.specs.Prelude.{◌+ℤ◌, ◌≤ℤ◌}
 use Rattle.yf_chars.specs.declared.context.Ctx.{Ctx}
@@ -22,8 +22,8 @@ use Rattle.yf_grammar.specs.Productions.Meaning.{Meaning, meaning_after, noting,
 use Rattle.yf_grammar.proofs.FlowReader.ParserLemmas.{after_nothing}
 use Rattle.yf_grammar.proofs.BlockOutcomes.BlockGaps.{block_no_key}
 
--- A node's text begins at i and its last line ends before j: after any separation it is a block node at n, or (where the flag says that
--- nothing is before its entries) it is the entries of a collection at the column m.
+-- A node's text begins at i and its last line ends before j: after any separation it is a block node at n, or (if the
+-- flag says that nothing is before its entries) the entries of a collection at the column m.
 pub data NodeAt (t : List ℕ) (n : ℤ) (c : Ctx) (m : ℕ) (beside : Bool) (h i j : ℕ) (x : Meaning) : Type 0 where
   apart_at : beside ≡ true → ((k : ℕ) (cs : List CommentValue) → SeparateLines t (n +ℤ pos 1) k i cs → Derives t h (BlockNode n c) k j (meaning_after cs x))
       → NodeAt t n c m beside h i j x
@@ -47,15 +47,15 @@ propertied_at {t} {n} {c} {h} {i} {g} {k} {m} {j} {sequence} {p} {ds} {x} b prop
     subst (λ z. Derives t (suc h) (BlockNode n c) q j z) (both_after cs ds (with_props p (tag_offset_at i p.anchor p.tag) i g (collection sequence false (k + m) x.finish x)))
     (a_block_collection_with b (in_node (block_no_key c b) sep) props e s l d))
 
--- Where they are.
+-- Offsets of nodes.
 
--- an indentation of so many columns, and spaces after it, are a prefix
+-- an indentation of that many columns, and spaces after it, are a prefix
 prefix_of : {t : List ℕ} {k q : ℕ} (a : ℕ) → LineStart t k → a ≤ q → Spaces t k q → FlowPrefix t (pos a) k (k + q)
 prefix_of {t} {k} {q} a l le s =
     let same : q ≡ k + q - k = omega arith in
     prefix_found (subst (λ z. Spaces t k z) same s) (omega arith) (omega arith) ([], done)
 
--- after a sign and so many spaces
+-- after a sign and that many spaces
 pub after_sign_at : {t : List ℕ} {c : Ctx} {a m h i p j : ℕ} {beside : Bool} {x : Meaning} (l : ℕ) → is_block c ≡ true → 0 < l → m ≡ a + 1 + l → Spaces t i l → p ≡ i + l
     → NodeAt t (pos a) c m beside h p j x → Derives t h (BlockIndented a c) i j x
 after_sign_at {t} {c} {a} {m} {h} {i} {p} {j} {beside} {x} l b some same s place (apart_at e f) =

@@ -1,5 +1,5 @@
--- What it means that the rows of a node, wherever they are with what they carry, are derived as that node; leaves on one line, and nodes
--- after a sign.
+-- What it means that the rows of a node, at any offset and with what they carry, are derived as that node; leaves on
+-- one line, and nodes after a sign.
 use Rattle.std.proofs.Common.{◌≡◌, ◌≢◌, ℕ, ◌+◌, ◌-◌, ◌<◌, ◌≤◌, ℤ, pos, Bool, true, false, List, [], ◌∷◌, ◌++◌, length, replicate, refl, sym, ap, ◌∙◌, subst, arith, append_assoc, append-nil, ◌⊎◌, inl, inr}
 use Rattle.std.specs.Prelude.{◌≤ℤ◌, ◌+ℤ◌, not, is_some, None}
 use Rattle.std.specs.Str.{IsUtf8}
@@ -46,8 +46,8 @@ use Rattle.yf_print.specs.Layouts.SourceColumns.{is_white_or_sign}
 use Rattle.yf_lines.proofs.VisibleLines.{visible_at}
 use Rattle.yf_stream.proofs.Uniqueness.OneDirective.{ascii_ns}
 
--- where a node is in its block: in a block context, its entries at a column at which they may be, and the lines of a block scalar
--- so many columns right of the indentation around it
+-- a node's position in its block: in a block context, with its entries at an allowed column, and the lines of a block
+-- scalar that many columns right of the indentation around it
 pub record Stood (s : LayoutSetting) (x : Node) (n : ℤ) (c : Ctx) (margins : Margins) : Type 0 where
   pub block : is_block c ≡ true
   pub least : least_column (is_sequence x) n c ≤ℤ pos margins.entries
@@ -74,7 +74,7 @@ pub record Makes (s : LayoutSetting) (x : Node) (margins : Margins) (rs : List R
   pub made : {t : List ℕ} (n : ℤ) (c : Ctx) (ds : List Deco) (r : List ℕ) (q : ℕ) → IsUtf8 t → Stood s x n c margins → AreDecos ds → Calm rs ds r
       → Rest t q (inline_then rs ds r) → NodeMade t s n c margins x rs ds q r
 
--- what is shown of a node and its rows: it has none and means nothing, or they are derived as the node
+-- the claim for a node and its rows: it has none and means nothing, or they are derived as the node
 pub record MeansNothing (x : Node) : Type 0 where
   pub meant : (i : ℕ) → MeansTrees x (empty_node i)
 
@@ -167,7 +167,7 @@ rows_after sign column offsets items blank n q e on (row_before {p = p} {ps = ps
   placed = rows_joined (sign_row column sign offsets items blank) n q q [] [] e (one_inside (omega arith) (omega (arith, e)) none_inside) none_inside no_leaf_to (row_before at end w more);
 }
 
--- where the first row of a node is
+-- the column of the first row of a node
 row_column : {k m : ℕ} (b : Bool) → (b ≡ false → k ≡ m) → (b ≡ true → k ≡ m) → k ≡ m
 row_column true f g = g refl
 row_column false f g = f refl

@@ -1,4 +1,5 @@
--- What a row carries after its text is the end of a line with those comments; how such conditions and comments are split among rows.
+-- What a row carries after its text is the end of a line with those comments; how such conditions and comments are
+-- split among rows.
 use Rattle.std.proofs.Common.{◌≡◌, ℕ, ◌+◌, List, [], ◌∷◌, ◌++◌, refl, sym, ap, ◌∙◌, subst, arith, append_assoc}
 use Rattle.std.specs.Str.{IsUtf8}
 use Rattle.yf_lines.specs.Basic.{LineStart}
@@ -46,7 +47,7 @@ trails_at {t} (x ∷ []) r {q} u a s =
     }
 trails_at (x ∷ y ∷ zs) r u a s = absurd a
 
--- from the end of a row's text to the start of the next line that is no comment
+-- from the end of a row's text to the start of the next line that isn't a comment
 pub record RowEnd (t : List ℕ) (q : ℕ) (d : Deco) (r : List ℕ) : Type 0 where
   pub place : ℕ
   pub comments : List CommentValue

@@ -1,5 +1,5 @@
--- The rows of a stream are texts that are no document markers, and the markers of documents, which nothing trails; so the lines of a layout are
--- no markers but for those.
+-- The rows of a stream are texts that are not document markers, and the markers of documents, which nothing trails; so
+-- no other line of a layout is a marker.
 use Rattle.std.proofs.Common.{◌≡◌, ℕ, ◌≤◌, ◌⊎◌, inl, inr, Bool, true, false, List, [], ◌∷◌, ◌++◌, get_or, map, replicate, None, refl, sym, ap, ◌∙◌, subst, arith, append-nil}
 use Rattle.std.specs.Prelude.{option_to_list, flat_map}
 use Rattle.yf_comments.specs.Comment.{CommentValue}

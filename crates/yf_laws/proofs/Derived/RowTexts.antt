@@ -1,4 +1,4 @@
--- The rows of a tree whose one-line nodes read back are texts on lines of their own, and no markers.
+-- The rows of a tree whose one-line nodes read back are texts on lines of their own, and not markers.
 use Rattle.std.proofs.Common.{◌≡◌, ◌≢◌, ℕ, zero, suc, ◌+◌, ◌-◌, ◌<◌, ◌≤◌, Bool, true, false, List, [], ◌∷◌, ◌++◌, replicate, Option, Some, None, refl, sym, ap, ◌∙◌, subst, arith, ⊎_elim, eqb}
 use Rattle.std.specs.Prelude.{◌||◌}
 use Rattle.std.proofs.lemmas.Bool.{and_parts, or_cases, eqb-true}
@@ -141,7 +141,7 @@ question_texts s column k a b =
     (joined_texts {head = colon_row column k} (s.indent - 1) (omega (arith, wide))
     (record { text = ascii_line 58 (omega arith) (omega arith); unmarked = unmarked_first 58 [] (omega arith) (λ e. omega arith) (λ e. omega arith) (λ e. omega arith); seen = seen_ascii 58 [] (omega arith) (omega arith) (λ e. omega arith); body = no_body_text }) b)
 
--- what holds of the rows of a node wherever it is
+-- what holds for the rows of a node, whatever its margins
 pub record TextsEverywhere (c : LayoutSetting) (x : Node) : Type 0 where
   pub texts : (margins : Margins) → 0 < margins.lines → AreRowTexts (rows c margins x)
 

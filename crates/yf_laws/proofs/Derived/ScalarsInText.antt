@@ -27,7 +27,7 @@ use Rattle.yf_laws.proofs.OutputLines.HeldLemmas.{Holds, here, ScalarAt, ScalarH
 use Rattle.yf_laws.proofs.OutputLines.ScalarHeld.{HeaderPassed, ScalarReached, header_char, lines_forward}
 use Rattle.yf_laws.proofs.OutputLines.WellSet.{AllSet}
 
--- a scalar that is made, where its lines begin, and that its comments are well set
+-- a scalar that is derived, the start of its lines, and that its comments are well set
 pub record ScalarMade (t : List ℕ) (n : ℤ) (h : Header) (ls : List (List ℕ)) (count : ℕ) (notes : List (List ℕ)) (q : ℕ) (r z e : List ℕ) : Type 0 where
   pub reached : ScalarReached t n h ls count notes q r
   pub passed : HeaderPassed t q reached.start z

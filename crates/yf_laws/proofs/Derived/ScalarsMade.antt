@@ -94,7 +94,7 @@ pub body_texts : (column n : ℕ) (ls : List (List ℕ)) → 0 < column → AreL
 body_texts column n [] l a = tail_texts column n
 body_texts column n (x ∷ ls) l a = body_text (line_at_text column x a.0) (line_at_unmarked column x l) (body_texts column n ls l a.1)
 
--- where a row with a body ends, a line starts
+-- a line starts at the end of a row with a body
 record Started (t : List ℕ) (r : List ℕ) : Type 0 where
   pub place : ℕ
   pub start : LineStart t place

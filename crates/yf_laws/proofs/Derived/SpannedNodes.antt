@@ -33,7 +33,7 @@ alike_spanned (alike_aliases e) = e
 alike_spanned (alike_sequences e a) = e
 alike_spanned (alike_mappings e a) = e
 
--- what is meant by an empty node has none
+-- the node that an empty node means has no span
 pub meant_none : {x : Node} (i : ℕ) → MeansTrees x (empty_node i) → is_some (standing x).span ≡ false
 unfolding empty_node plain_event
 meant_none i a = alike_spanned a.alike ∙ (sym (spanned_node a.node) ∙ ap has_span (sym a.events))

@@ -17,7 +17,7 @@ use Rattle.yf_grammar.proofs.NodesInText.PlacedNodes.{NodeAt}
 use Rattle.yf_stream.proofs.LeafPass.LeafTrees.{node_goes_on}
 use Rattle.yf_laws.proofs.Derived.LayoutSteps.{Step, a_leaf, a_comment, leaf_steps, comment_steps}
 
--- where leaves begin, and comments, in the order of steps
+-- the starts of leaves, and comments, in the order of steps
 pub data Stand : ℕ → List ℕ → List CommentValue → List Step → ℕ → Type 0 where
   nothing_is_at : {i j : ℕ} → i ≤ j → Stand i [] [] [] j
   leaf_is_at : {i s j : ℕ} {ss : List ℕ} {cs : List CommentValue} {steps : List Step} → i ≤ s → Stand s ss cs steps j → Stand i (s ∷ ss) cs (a_leaf ∷ steps) j
@@ -40,7 +40,7 @@ stand_join (nothing_is_at l) b = stand_after l b
 stand_join (leaf_is_at l a) b = leaf_is_at l (stand_join a b)
 stand_join (comment_is_at l a) b = comment_is_at l (stand_join a b)
 
--- comments alone
+-- only comments
 pub ascend_stand : {t : List ℕ} {i j : ℕ} {cs : List CommentValue} → Ascend t i cs j → Stand i [] cs (comment_steps (texts cs)) j
 ascend_stand (no_more l) = nothing_is_at l
 ascend_stand (one_more l c a) = comment_is_at l (stand_after (omega arith) (ascend_stand a))
@@ -86,7 +86,7 @@ mutual
       leaves_join (leaves k) (leaves v ++ leaves_of_pairs ps) (stand_after l.order (node_stand a))
       (stand_after (colon_order c) (leaves_join (leaves v) (leaves_of_pairs ps) (node_stand d) (pairs_stand g)))
 
--- Where the leaves of events begin.
+-- The starts of the leaves of events.
 
 span_starts : (o : Option Span) → start_in true o ≡ starts_of (spans_of_leaf o)
 span_starts None = refl
@@ -95,7 +95,7 @@ span_starts (Some s) = refl
 starts_join : (xs ys : List Span) (zs : List ℕ) → starts_of xs ++ (starts_of ys ++ zs) ≡ starts_of (xs ++ ys) ++ zs
 starts_join xs ys zs = sym (append_assoc (starts_of xs) (starts_of ys) zs) ∙ ap (λ w. w ++ zs) (sym (map-append (λ (s : Span). s.start) xs ys))
 
--- a collection with entries, whose events are told
+-- a collection with entries, whose events are given
 collected : (o : Option Span) (es : List EventInText) (end : EventInText) (starts : List ℕ) (rest : List EventInText) → leaf_starts (end ∷ rest) ≡ leaf_starts rest
     → ends_next (es ++ (end ∷ rest)) ≡ false → leaf_starts (es ++ (end ∷ rest)) ≡ starts ++ leaf_starts (end ∷ rest)
     → start_in (ends_next ((es ++ (end ∷ [])) ++ rest)) o ++ leaf_starts ((es ++ (end ∷ [])) ++ rest) ≡ starts ++ leaf_starts rest
@@ -132,7 +132,7 @@ mutual
       ∙ (ap (λ w. starts_of (leaves v) ++ w) (pairs_starts ps rest) ∙ starts_join (leaves v) (leaves_of_pairs ps) (leaf_starts rest))))
       ∙ starts_join (leaves k) (leaves v ++ leaves_of_pairs ps) (leaf_starts rest)))
 
--- What a production means, whose leaves and comments are between two places in the order of steps.
+-- The meaning of a production, whose leaves and comments are between two offsets in the order of steps.
 pub record MeaningLaid (i j : ℕ) (m : Meaning) (steps : List Step) : Type 0 where
   pub starts : List ℕ
   pub begun : (rest : List EventInText) → ends_next (m.events ++ rest) ≡ false

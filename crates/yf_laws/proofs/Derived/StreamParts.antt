@@ -21,7 +21,7 @@ use Rattle.yf_laws.proofs.Derived.LayoutSteps.{Step}
 use Rattle.yf_laws.proofs.Derived.StepsInText.{Stand, nothing_is_at, stand_join, MeaningLaid, EventsLaid}
 use Rattle.std.specs.Prelude.{not}
 
--- What is meant.
+-- Meanings.
 
 pub meant_document : {d : Doc} {x : DocumentTree} {m : Meaning} (i : ℕ) (dirs : List Directive) → map (λ (e : Directive). e.words) dirs ≡ map (λ (e : Directive). e.words) d.directives
     → MeansTrees x.root m → DocumentMeant true d x (document_of i true dirs m)
@@ -50,7 +50,7 @@ pub same_documents : (cs : List CommentValue) (rest : Documents) → rest.docume
 unfolding with_comments
 same_documents cs rest = refl
 
--- What is laid out.
+-- Layouts.
 
 pub laid_document : {i j : ℕ} {m : Meaning} {a : List Step} (s : ℕ) (dirs : List Directive) → MeaningLaid i j m a → EventsLaid i j (document_of s true dirs m).events m.comments a
 unfolding document_of
@@ -90,7 +90,7 @@ pub documents_laid : {i k j : ℕ} (d : Document) {cs : List CommentValue} {rest
 unfolding with_document
 documents_laid d x y = record { starts = x.starts ++ y.starts; are = λ rest e. more_starts x.starts y.starts rest x.are (λ fs others z. y.are rest z) e; stand = stand_join x.stand y.stand }
 
--- Where a stream ends, and what is before its documents.
+-- The end of a stream, and the prefix of its documents.
 
 pub prefixes_of : {t : List ℕ} {i j : ℕ} {cs : List CommentValue} → Chain (CommentLine t) i j cs → Prefixes t i j cs
 prefixes_of done = done

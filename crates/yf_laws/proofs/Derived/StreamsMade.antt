@@ -75,7 +75,7 @@ explicit_at : {t : List ℕ} (c : LayoutSetting) (x : DocumentTree) (row : Row) 
     → Rest t q (45 ∷ 45 ∷ 45 ∷ end_then (first ds) [] (lines_then (root_rows c x) (after ds) r)) → ExplicitMade t c x.root (row ∷ root_rows c x) ds q r
 explicit_at c x row ds r q none bare column width key fit u a k w = explicit_made row ds r q none bare column width key (node_claim c (root_margins c.style) fit) (row_texts c (root_margins c.style) (root_deep c) fit) u a k w
 
--- where the first row is given, of any items
+-- for a given first row, with any items
 directed : {t : List ℕ} (c : LayoutSetting) {d : Doc} (x : DocumentTree) {e : Directive} {es : List Directive} (row : Row) (ds : List Deco) (r : List ℕ) (q : ℕ) → row.leaves ≡ [] → row.body ≡ [] → row.text ≡ 37 ∷ joined_words e.words → is_some row.key_comment ≡ false → documents_begin row ≡ [] → d.directives ≡ e ∷ es
     → FitDirective e.words → FitDirectives es → Fit c.style x.root → IsUtf8 t → AreDecos ds → Calm ((row ∷ map directive_row es) ++ (start_row ∷ root_rows c x)) ds r
     → Rest t q (37 ∷ (joined_words e.words ++ end_then (first ds) [] (lines_then (map directive_row es ++ (start_row ∷ root_rows c x)) (after ds) r)))
@@ -145,7 +145,7 @@ first_with {t} c {d} x start (e ∷ es) ds r q same (fit_directive f fs) fit u a
     subst (λ z. AnyMade t c d x z ds q r) (sym shape)
     (directed c x {e = e} row ds r q refl refl refl refl refl same f fs fit u a (subst (λ z. Calm z ds r) shape k) (subst (λ z. Rest t q (lines_then z ds r)) shape w))
 
--- Later documents, each with what is after it.
+-- Later documents, each with what follows it.
 
 record StepMade (t : List ℕ) (s : LayoutSetting) (d : Doc) (x : DocumentTree) (rs : List Row) (ds : List Deco) (q : ℕ) (r : List ℕ) : Type 0 where
   pub height : ℕ

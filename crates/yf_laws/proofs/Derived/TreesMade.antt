@@ -1,4 +1,5 @@
--- The rows of a tree whose one-line nodes read back, wherever they are with what they carry, are derived as the block node.
+-- The rows of a tree whose one-line nodes read back are derived as the block node, at any offset and whatever they
+-- carry.
 use Rattle.std.proofs.Common.{◌≡◌, ◌≢◌, ℕ, max, ◌+◌, ◌≤◌, pos, Bool, true, false, true≢false, List, [], ◌∷◌, ◌++◌, Option, Some, None, refl, sym, ap, ◌∙◌, subst, arith}
 use Rattle.std.specs.Prelude.{not, is_some, ◌&&◌, nat_le, if◌then◌else◌, ◌≤ℤ◌, codes}
 use Rattle.std.proofs.lemmas.Bool.{and_parts}
@@ -60,7 +61,7 @@ line_claim {s} {x} margins (a ∷ w) e some b inline node =
           line_made {r = record (plain_row margins.column (a ∷ w)) { items = items_in x; leaves = leaves x }} margins n c ds r q b inline (λ z. some (e ∙ z)) refl e refl refl refl node u stood k v;
     })
 
--- Where values are.
+-- The columns of values.
 
 pos_at_most : (a b : ℕ) → a ≤ b → pos a ≤ℤ pos b
 pos_at_most a b l = omega (arith, ints)
@@ -81,7 +82,7 @@ commented_column : (b : Bool) (column indent n : ℕ) → 2 ≤ indent → b ≡
 commented_column true column indent n wide e = omega arith
 commented_column false column indent n wide e = absurd (true≢false (sym e))
 
--- What is claimed of a node wherever it is.
+-- The claim for a node, whatever its margins.
 pub record Everywhere (c : LayoutSetting) (x : Node) : Type 0 where
   pub claim : (margins : Margins) → Claim c x margins (rows c margins x)
 
@@ -190,6 +191,6 @@ module _ (c : LayoutSetting) where
     pairs_everywhere column fit f g (fit_pair a b fs) =
         entries_more (λ t m n hs qs a b. found_more_pairs a b) (pair_makes c column fit f g) (pairs_everywhere column a (node_everywhere a) (node_everywhere b) fs)
 
--- the rows of a node are derived as the node, wherever they are
+-- the rows of a node are derived as the node, whatever its margins
 pub node_claim : (c : LayoutSetting) (margins : Margins) {x : Node} → Fit c.style x → Claim c x margins (rows c margins x)
 node_claim c margins f = (node_everywhere c f).claim margins

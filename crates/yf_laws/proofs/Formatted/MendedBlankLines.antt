@@ -1,4 +1,4 @@
--- In what formatting gives, blank lines are between rows alone, where each is right.
+-- In a formatted text, blank lines are only between rows, and each is allowed there.
 use Rattle.std.proofs.Common.{◌≡◌, ◌≢◌, ℕ, zero, suc, ◌+◌, ◌-◌, ◌<◌, true, false, true≢false, List, map, Some, sym, ap, ◌∙◌, subst, arith}
 use Rattle.std.specs.Prelude.{slice_get}
 use Rattle.std.specs.Str.{IsUtf8}
@@ -34,7 +34,7 @@ use Rattle.yf_laws.proofs.Formatted.MendedSorts.{sorted_line}
 use Rattle.yf_laws.proofs.Formatted.MendedDocumentStart.{first_mark, marker_at}
 use Rattle.yf_rule_sets.proofs.Texts.WhitesLemmas.{white_within}
 
--- Lines that are no blank ones.
+-- Lines that are not blank.
 
 not_seen : {src : Table} {r : Lists} (k : ℕ) (l : Line) → slice_get src.lines k ≡ Some l → is_white (code src.text (l.end - 1)) ≡ false → l.start < l.end → IsBlank src r k → ⊥
 not_seen {src} k l e v h b =

@@ -1,4 +1,5 @@
--- An offset that is so many characters of one byte after a line's start has that column, in a text whose lines all end with a break.
+-- An offset that is that many characters of one byte after a line's start has that column, in a text whose lines all
+-- end with a break.
 use Rattle.std.proofs.Common.{◌≡◌, ◌≢◌, ℕ, ◌+◌, ◌-◌, ◌<◌, ◌≤◌, ⊎_elim, true≢false, List, length, Some, sym, ◌∙◌, subst, arith}
 use Rattle.std.specs.Prelude.{slice_get}
 use Rattle.std.specs.Str.{IsUtf8}
@@ -42,7 +43,7 @@ ascii_many {t} {i = i} {o = o} m u (step {y = y} (one p) c) e f =
     let more = ascii_many (m - 1) u c (omega (arith, e, there, some)) (λ k l. let same : i + (k + 1) ≡ next t i + k = omega (arith, there) in subst (λ h. code t h < 127) same (f (k + 1) (omega (arith, l)))) in
     omega (arith, more, some)
 
--- characters after marks begin where those end, or later
+-- characters after marks begin at the end of the marks or later
 pub chars_past : {t : List ℕ} {s j a e : ℕ} {y x : List ℕ} → IsUtf8 t → code t j ≢ 0xFEFF → s ≤ j → Many t is_mark s a y → a ≤ e → Many t is_char j e x → a ≤ j
 chars_past u n l run m done = m
 chars_past {t} {j = j} u n l run m (step (one p) more) = marks_stop j u (char_boundary t j (ltb-true (code t j) no_char p)) n l run

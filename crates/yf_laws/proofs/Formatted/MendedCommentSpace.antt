@@ -1,4 +1,4 @@
--- In what formatting gives, each comment that does not begin its line is two spaces after what is before it.
+-- In a formatted text, two spaces are before each comment that doesn't begin its line.
 use Rattle.std.proofs.Common.{◌≡◌, ◌≢◌, ℕ, ◌-◌, ◌⊎◌, inl, inr, ⊎_elim, true, false, List, sym, ap, ◌∙◌, subst, arith, add-zero}
 use Rattle.std.specs.Str.{IsUtf8}
 use Rattle.std.proofs.lemmas.Bool.{cases_Bool, cases_eq}

@@ -1,5 +1,5 @@
--- The lines of a block scalar of a layout, by its text: so many are empty before the first one with content, which is indented by the column and by the spaces that the
--- text begins with.
+-- The lines of a laid-out block scalar, from its text: the number of empty lines before the first one with content,
+-- which is indented by the column and by the spaces that the text begins with.
 use Rattle.std.proofs.Common.{◌≡◌, ◌≢◌, ℕ, zero, suc, ◌+◌, ◌-◌, ◌<◌, ◌≤◌, ⊎_elim, Bool, true, false, List, [], ◌∷◌, ◌++◌, length, drop, map, replicate, get_or, get_or-drop, Some, refl, sym, ap, ◌∙◌, subst, arith, append_assoc, length-append}
 use Rattle.std.specs.Prelude.{slice_get, ◌==◌, if◌then◌else◌}
 use Rattle.std.specs.Str.{IsUtf8}

@@ -1,4 +1,5 @@
--- In what formatting gives, each document begins with a `---` alone on its line, but for a first one that the style leaves without.
+-- In a formatted text, each document begins with a `---` on its own line, except for a first one that the style leaves
+-- without.
 use Rattle.std.proofs.Common.{◌≡◌, ℕ, zero, suc, ◌+◌, inl, Bool, true, true≢false, List, [], ◌∷◌, ◌++◌, map, Some, refl, sym, ap, ◌∙◌, subst, arith, append_assoc, false, ◌&&◌, append-nil}
 use Rattle.std.specs.Prelude.{slice_get, not, ◌==◌}
 use Rattle.std.specs.Str.{IsUtf8}
@@ -48,7 +49,7 @@ use Rattle.std.proofs.lemmas.Bool.{and_parts}
 use Rattle.std.proofs.lemmas.Option.{same_Some}
 use Rattle.yf_forms.specs.NormalForms.BareStart.{begins_bare, has_lead, is_bare, keeps_starts}
 
--- The events of documents tell their markers alone.
+-- The events of documents determine only their markers.
 
 pub events_joined : (xs ys : List EventInText) (rest : List EventValue) → values (xs ++ ys) ++ rest ≡ values xs ++ (values ys ++ rest)
 events_joined xs ys rest = ap (λ w. w ++ rest) (values_append xs ys) ∙ append_assoc (values xs) (values ys) rest
@@ -82,7 +83,7 @@ documents_marks rest (document_meant b more) (one_document {d = d} {x = x} {clos
     ap markers_in (events_joined d.events (unplaced (document_ends closed) ∷ x) rest) ∙ (ap (λ w. markers_in (values w ++ last)) b.events ∙ node_unmarked b.node last) in
     ap (λ w. d.marked ∷ w) (here ∙ documents_marks rest more others)
 
--- what the events of a formatted text tell of its documents
+-- the markers of documents in the events of a formatted text
 pub reading_marks : {src : Table} {r : Lists} {s : Style} (w : IsFormatted src r s) → markers_in (events_of r) ≡ marks w.reads.derived.documents
 reading_marks {src} {r} {s} w =
     let q : ReadingOf src.text r = w.reads in
@@ -98,7 +99,7 @@ marked_alone zero (document_meant {bare = bare} a more) e = (refl, turned bare (
   turned false f = absurd (true≢false f)
 marked_alone (suc k) (document_meant a more) e = absurd (true≢false (sym (marked_alone k more e).1))
 
--- Where documents begin.
+-- The starts of documents.
 
 kind_at : {xs : List (List ℕ)} (k : ℕ) (x : List ℕ) → LineKinds xs → slice_get xs k ≡ Some x → LineKind x
 kind_at k x no_line e = absurd (no_item k x e)
@@ -111,7 +112,7 @@ formed_kinds {s = s} w a =
     let rows = rows_of m s w.formats.writes.trees in
     laid_kinds (columns_in w.formats) (first_gap (columns_in w.formats) m rows) (source_of m rows) (own_line_comments (source_of m rows) rows) a.gap (all_kinds (setting_of m s) (is_bare m s) a.fit) a.decos
 
--- a line that begins with dashes as a marker is such a marker alone
+-- a line that begins with dashes like a marker is only that marker
 alone_there : {t : List ℕ} {l : Line} {x : List ℕ} → IsUtf8 t → LineIs t l x → LineKind x → ForbiddenLine t l.start → code t l.start ≡ 45 → IsAlone t l.start
 alone_there {t} {l} u a (no_marker n) f e = absurd (n.none l.start (10 ∷ a.follows) u feed_follows a.there f)
 alone_there {t} {l} u a document_start f e =

@@ -1,4 +1,4 @@
--- The law of flow-layout: in what formatting gives no flow collection is displaced.
+-- The law of flow-layout: in a formatted text no flow collection is displaced.
 use Rattle.std.proofs.Common.{◌≡◌, ℕ, ◌<◌, Some, arith}
 use Rattle.std.specs.Prelude.{slice_get}
 use Rattle.yf_lines.specs.declared.line.Line.{Line}

@@ -1,4 +1,5 @@
--- In trees that are their own normal form, whose outer flow collections are as they are written, none is displaced.
+-- In trees that are their own normal form, and whose outer flow collections are as they are written, no flow collection
+-- is displaced.
 use Rattle.std.proofs.Common.{◌≡◌, ℕ, ◌+◌, ◌<◌, ◌≤◌, ⊎_elim, Bool, true, false, true≢false, List, [], ◌∷◌, ◌++◌, Some, length, map, flat_map, refl, sym, ap, ◌∙◌, subst, arith, append-nil, length-append}
 use Rattle.std.specs.Prelude.{◌&&◌, if◌then◌else◌, slice_get}
 use Rattle.std.proofs.lemmas.Bool.{and_parts, cases_lt}
@@ -44,7 +45,7 @@ chosen : (x y z : Node) (b : Bool) → is_flow y ≡ false → is_flow z ≡ tru
 chosen x y z true f g e = (refl, e)
 chosen x y z false f g e = absurd (true≢false (sym g ∙ sym (ap is_flow e) ∙ f))
 
--- What is known of an outer flow collection.
+-- The facts about an outer flow collection.
 
 pub record Fine (t : List ℕ) (c : LayoutSetting) (x : Node) : Type 0 where
   pub column : ℕ
@@ -53,7 +54,7 @@ pub record Fine (t : List ℕ) (c : LayoutSetting) (x : Node) : Type 0 where
   pub same : is_filled_flow x ≡ true → styled t c x ≡ x
   pub fit : is_filled_flow x ≡ true → fits c.style column x ≡ true
 
--- One event, or what is between two, of which none begins a flow collection.
+-- One event, or the events between two, none of which begins a flow collection.
 
 module _ {es : List EventInText} {i : ℕ} {x : Node} (there : NodeAt es i x) (flow : is_flow x ≡ true) where
   not_begun : (e : EventInText) (ys : List EventInText) {k : ℕ} → starts_flow e.event ≡ false → Among es (e ∷ ys) k → k ≡ i → ⊥
@@ -113,7 +114,7 @@ module _ (t : List ℕ) (c : LayoutSetting) where
   pairs_styled at props margins (pair k v ps) e = same_pairs e
 
   module _ {es : List EventInText} {i : ℕ} {x : Node} (there : NodeAt es i x) (flow : is_flow x ≡ true) (outer : IsOutsideFlow es i) where
-    -- a flow collection that holds the event is the one that it begins
+    -- the only flow collection that holds the event is the one that it begins
     on_line : (k : ℕ) (z : Node) {margins : Margins} (other : Margins) → WrittenNode t c margins z → settled c margins z ≡ z → settled c other (styled t c z) ≡ z → is_flow z ≡ true → Among es (flat z) k
         → k ≤ i → i < k + length (flat z) → Fine t c x
     on_line k z other w e f g a l m =

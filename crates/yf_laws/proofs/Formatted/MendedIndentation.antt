@@ -1,4 +1,5 @@
--- In trees whose block collections have their entries at the columns of the layout, and the content of block scalars so many columns in, nothing is misindented.
+-- In trees whose block collections have their entries at the columns of the layout, and whose block scalars have their
+-- content that many columns in, nothing is misindented.
 use Rattle.std.proofs.Common.{◌≡◌, ℕ, ◌+◌, ◌<◌, ⊎_elim, true, false, true≢false, List, [], ◌∷◌, Some, length, sym, ap, ◌∙◌, subst, arith}
 use Rattle.std.specs.List.{Contains}
 use Rattle.std.specs.Prelude.{slice_get}
@@ -229,7 +230,7 @@ module _ (src : Table) (s : Style) (trees : List DocumentTree) (Content : ℕ �
       let there = beside_set x.0 x.1 y holder.set off v in
       column_is y.1 there.1 e ∙ sym (column_is x.1 holder.set f)
 
-  -- Content of block scalars, of which Content says where it is.
+  -- Content of block scalars; Content gives its column.
   module _ (is_there : (l : ℕ) (x : Node) (props : PropsValue) (style : ScalarStyle) (text : List ℕ) (lines : List (List ℕ)) (span : Span) (follows first indent : ℕ) → Content l x
       → x ≡ scalar (standing x) props style text lines → (standing x).span ≡ Some span → LinesBegunAt src.lines (content_start src.text span props) follows
       → BlockContent src.lines text follows first indent → indent ≡ l) where

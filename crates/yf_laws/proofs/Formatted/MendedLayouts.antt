@@ -1,4 +1,5 @@
--- In a text whose reading is its own normal form, and in which each outer flow collection is as it is written, none is displaced.
+-- In a text whose reading is its own normal form, and in which each outer flow collection is as it is written, none is
+-- displaced.
 use Rattle.std.proofs.Common.{◌≡◌, ℕ, ◌+◌, ◌-◌, ◌<◌, ◌≤◌, Bool, true, false, List, Some, None, map, refl, sym, ap, ◌∙◌, subst, arith}
 use Rattle.std.specs.Prelude.{◌&&◌, if◌then◌else◌, slice_get, slice_range}
 use Rattle.std.specs.Str.{IsUtf8}

@@ -1,4 +1,4 @@
--- In what formatting gives, line breaks are line feeds, the last line ends with one, and no byte order mark is.
+-- In a formatted text, line breaks are line feeds, the last line ends with one, and no byte order mark occurs.
 use Rattle.std.proofs.Common.{◌≡◌, ℕ, ◌<◌, ◌≤◌, ◌⊎◌, inl, inr, ⊎_elim, List, [], ◌∷◌, length, refl, sym, ap, ◌∙◌, subst, arith}
 use Rattle.std.specs.Prelude.{◌==◌, if◌then◌else◌}
 use Rattle.std.specs.Str.{IsUtf8}
@@ -22,7 +22,7 @@ use Rattle.yf_rule_sets.specs.RuleSets.Scalars.LooseMark.{in_no_scalar}
 use Rattle.yf_rule_sets.specs.Sets.{WithoutFinalBreak, first_return}
 use Rattle.yf_rule_sets.specs.Sets.WithoutFinalBreak.{has_break, no_break, of_empty_text}
 
--- What is known of a formatted text.
+-- The facts about a formatted text.
 
 pub record LinesOfFormatted (src : Table) : Type 0 where
   pub utf8 : IsUtf8 src.text
@@ -34,7 +34,7 @@ lines_of_formatted {src} w =
     let a = formed w.utf8 w.formats in
     record { utf8 = a.utf8; texts = formed_lines w.formats; are = formed_are src.lines w.formats a w.lines }
 
--- a list that holds exactly what is meant, where nothing is
+-- a list that holds exactly the offsets of a definition that has none
 pub exactly_none : {P : ℕ → ℕ → Type 0} (xs : List ℕ) → ((k x : ℕ) → P k x → ⊥) → Exactly P xs → xs ≡ []
 exactly_none [] n e = refl
 exactly_none (x ∷ xs) n e = let w = e.only x (0, omega arith, refl) in absurd (n w.0 x w.1)

@@ -1,4 +1,4 @@
--- In what formatting gives, each scalar has the style of the house.
+-- In a formatted text, each scalar has the house style.
 use Rattle.std.proofs.Common.{◌≡◌, ℕ, zero, suc, Bool, List, [], ◌∷◌, Some, sym, subst}
 use Rattle.std.specs.Prelude.{slice_get}
 use Rattle.std.specs.Str.{IsUtf8}
@@ -42,7 +42,7 @@ abbrev AreStyled : Style → List EventValue → Type 0
 AreStyled q [] = Unit {0}
 AreStyled q (v ∷ vs) = IsStyled q v × AreStyled q vs
 
--- what is restyled is so, also without its markers
+-- a restyled event is in that style, also without its markers
 restyled_styled : (q : Style) (flow : Bool) (v : EventValue) → IsStyled q (unmarked_value (restyled_event q flow v))
 restyled_styled q flow (scalar_node props style text) = wanted_stays style text q
 restyled_styled q flow stream_starts = tt
@@ -77,7 +77,7 @@ styled_at q [] i v a e = absurd (no_item i v e)
 styled_at q (w ∷ vs) zero v a e = subst (λ z. IsStyled q z) (same_Some _ _ e) (with_marker q w a.0)
 styled_at q (w ∷ vs) (suc i) v a e = styled_at q vs i v a.1 e
 
--- each scalar of what formatting gives has the style of the house
+-- each scalar of a formatted text has the house style
 pub styled_scalar : {t u : List ℕ} {s : Style} {r : Lists} → IsUtf8 t → IsFormatting t s u → ReadingOf u r → (i : ℕ) (props : PropsValue) (style : ScalarStyle) (text : List ℕ)
     → slice_get (events_of r) i ≡ Some (scalar_node props style text) → wanted style text s ≡ style
 styled_scalar {s = s} {r = r} utf8 f a i props style text e =

@@ -59,7 +59,7 @@ chain_past {t} j (a ∷ ms) (suc n) l (step {y = y} (one_line {l = b} made) c) f
     let same : a ≡ b = same_line t a b f.1 made f.0 in
     chain_past j ms n l c (subst (λ k. Follow t k j ms) (ap (λ (w : Line). w.next) same) f.2) (omega (arith, m)) g
 
--- What is known of a line of a scalar.
+-- The facts about a line of a scalar.
 
 pub record LineOfScalar (src : Table) (r : Lists) (k : ℕ) (l : Line) (x : List ℕ) (a : InScalar src.text r.events src.lines k x) : Type 0 where
   pub index : ℕ

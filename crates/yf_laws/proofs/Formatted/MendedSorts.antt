@@ -1,4 +1,5 @@
--- Of each line of what formatting gives: it is a blank one between rows, ends visibly, or is a line of a block scalar of the reading.
+-- Each line of a formatted text is a blank one between rows, ends visibly, or is a line of a block scalar of the
+-- reading.
 use Rattle.std.proofs.Common.{◌≡◌, ℕ, zero, suc, ◌+◌, List, ◌∷◌, Some, refl, sym, ◌∙◌, subst, arith}
 use Rattle.std.specs.Prelude.{slice_get}
 use Rattle.std.specs.Str.{IsUtf8}

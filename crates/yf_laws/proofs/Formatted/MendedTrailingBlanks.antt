@@ -1,4 +1,4 @@
--- In what formatting gives, no line ends with white space but the content lines of block scalars.
+-- In a formatted text, only the content lines of block scalars may end with white space.
 use Rattle.std.proofs.Common.{◌≡◌, ◌≢◌, ℕ, ◌+◌, ◌-◌, ◌<◌, ◌≤◌, ⊎_elim, true, true≢false, List, [], ◌++◌, length, Some, refl, sym, ap, ◌∙◌, subst, arith}
 use Rattle.std.specs.Prelude.{slice_get}
 use Rattle.std.specs.Str.{IsUtf8}

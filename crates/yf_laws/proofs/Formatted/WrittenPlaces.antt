@@ -74,7 +74,7 @@ module _ {t : List ℕ} (u : IsUtf8 t) {house : Style} {m : ℕ} {x : Node} (a :
         no_mark_at : code t j ≢ 0xFEFF
         no_mark_at e = true≢false (sym (code_mark t j e) ∙ marks.stops)
 
-  -- a character before it is there, or it is the first
+  -- a character is before it, or it is the first
   some_wide : 1 ≤ m + width (written house x)
   some_wide = by a.on.run a.on.wide a.some where
     by : {i j : ℕ} {y : List ℕ} → Many t is_nb_char i j y → length y ≡ m + width (written house x) → i < j → 1 ≤ m + width (written house x)

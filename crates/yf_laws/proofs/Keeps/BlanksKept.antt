@@ -1,4 +1,4 @@
--- The notes on blank lines of a formatted text are those of the text, where a blank line may be.
+-- The notes on blank lines of a formatted text are those of the text, if a blank line is allowed there.
 use Rattle.std.proofs.Common.{◌≡◌, ℕ, Bool, false, List, [], ◌∷◌, ◌++◌, map, refl, sym, ap, ◌∙◌, subst}
 use Rattle.std.specs.Prelude.{◌&&◌, filter, not}
 use Rattle.std.specs.Str.{IsUtf8}

@@ -1,4 +1,4 @@
--- A comment ends a line of the layout exactly where it is the first one at a leaf or after an implicit key.
+-- A comment ends a line of the layout if and only if it is the first one at a leaf or after an implicit key.
 use Rattle.std.proofs.Common.{◌≡◌, ℕ, zero, suc, Bool, true, false, List, [], ◌∷◌, ◌++◌, map, flat_map, Option, Some, None, refl, sym, ap, ◌∙◌}
 use Rattle.std.specs.Prelude.{◌&&◌, ◌||◌, ◌==◌, not, nat_lt, slice_get, if◌then◌else◌, option_to_list}
 use Rattle.std.specs.List.{list_any}

@@ -1,4 +1,4 @@
--- What formatting gives is empty exactly where the text has neither a document nor a comment.
+-- A formatted text is empty if and only if the text has neither a document nor a comment.
 use Rattle.std.proofs.Common.{◌≡◌, ℕ, Bool, true, false, List, [], ◌∷◌, ◌++◌, length, length-append, map, flat_map, replicate, refl, sym, ap, ◌∙◌, arith}
 use Rattle.std.specs.Prelude.{filter, not}
 use Rattle.yf_comments.specs.Comment.{CommentValue}
@@ -82,7 +82,7 @@ nothing_laid : (c : LayoutSetting) (bare : Bool) (trees : List DocumentTree) →
 nothing_laid c true trees = refl
 nothing_laid c false trees = refl
 
--- Comments, where there is no row.
+-- Comments without a row.
 
 all_own : (cs : List CommentValue) → filter (λ d. not (is_among [] d)) cs ≡ cs
 all_own [] = refl

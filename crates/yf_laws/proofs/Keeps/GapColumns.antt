@@ -28,7 +28,7 @@ module _ (indent limit : ℕ) where
   gap_steps (blank_holds h) = blank_step (gap_steps h)
   gap_steps (remark_holds a h) = remark_step a (gap_steps h)
 
--- what is open is at such columns, and what is in it too
+-- the open collections are at such columns, and so is their content
 abbrev pub BlockSteps : ℕ → ℕ → List OpenBlock → Type 0
 BlockSteps indent limit bs = AllBlocks (λ k. IsStep indent limit k × IsStep indent limit (k + indent)) bs
 

@@ -1,4 +1,4 @@
--- What formatting leaves as it was.
+-- What formatting leaves unchanged.
 use Rattle.std.proofs.Common.{List, ℕ}
 use Rattle.std.specs.Str.{IsUtf8}
 use Rattle.yf_forms.specs.declared.style.Style.{Style}

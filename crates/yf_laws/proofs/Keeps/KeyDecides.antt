@@ -1,4 +1,4 @@
--- Texts with the same key have the same formatting.
+-- Texts with equal keys have equal formattings.
 use Rattle.std.proofs.Common.{◌≡◌, ℕ, Bool, true, false, List, [], ◌∷◌, ◌++◌, length, map, flat_map, refl, sym, ap, ◌∙◌, subst}
 use Rattle.std.specs.Prelude.{◌&&◌, filter, if◌then◌else◌, not}
 use Rattle.std.proofs.lemmas.List.{length-map}

@@ -1,4 +1,5 @@
--- The lines of what formatting gives: none ends with white space but in a block scalar, and each is indented by a multiple of the style's indentation.
+-- The lines of a formatted text: only those in block scalars may end with white space, and each is indented by a
+-- multiple of the style's indentation.
 use Rattle.std.proofs.Common.{◌≡◌, ◌≢◌, ℕ, suc, ◌*◌, ◌≤◌, max, true, false, ⊎_elim, List, [], ◌∷◌, ◌++◌, replicate, refl, sym, ap, ◌∙◌, subst, arith, flat_map, map, append_assoc}
 use Rattle.std.specs.Prelude.{not}
 use Rattle.std.specs.Str.{IsUtf8}

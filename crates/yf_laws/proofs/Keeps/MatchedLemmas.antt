@@ -1,4 +1,4 @@
--- Nodes that are matched are alike, and have the same comments at their keys.
+-- Matched nodes are alike, and have the same comments at their keys.
 use Rattle.std.proofs.Common.{◌≡◌, ℕ, Bool, true, false, true≢false, List, ◌++◌, map, Option, Some, None, refl, sym, ap, ◌∙◌}
 use Rattle.std.specs.Prelude.{◌&&◌, ◌||◌, if◌then◌else◌, is_some, nat_lt}
 use Rattle.std.specs.List.{find, list_any}

@@ -1,4 +1,4 @@
--- Texts whose readings are matched have the same key, so the same formatting.
+-- Texts whose readings match have equal keys, so equal formattings.
 use Rattle.std.proofs.Common.{◌≡◌, ℕ, Bool, true, false, true≢false, List, [], ◌∷◌, length, map, flat_map, Option, refl, sym, ap, ◌∙◌, subst, arith}
 use Rattle.std.specs.Prelude.{◌&&◌, ◌||◌, ◌==◌, if◌then◌else◌, nat_lt, not, option_map, option_to_list, zip}
 use Rattle.std.specs.List.{list_any}
@@ -35,7 +35,7 @@ record SourcesMatch (ps : PairedOffsets) (b c : Source) : Type 0 where
   keys : Each (SameComment ps) b.key_comments c.key_comments
 
 module _ {ps : PairedOffsets} where
-  -- What is told by the comments of a list, and by their texts.
+  -- What the comments of a list, and their texts, determine.
 
   among_each : {xs ys : List CommentValue} {d e : CommentValue} → Each (SameComment ps) xs ys → SameComment ps d e → is_among xs d ≡ is_among ys e
   among_each {d = d} {e = e} more a =
@@ -184,7 +184,7 @@ rows_are {t} {s = s} f =
 reading_notes : {t u : List ℕ} {s : Style} (f : IsFormatting t s u) → length f.reading.on_leaf_line ≡ length f.reading.comments
 reading_notes f = sym (ap (λ (m : Lists). length m.on_leaf_line) f.is_normal.is) ∙ (as_many_notes f ∙ ap (λ (m : Lists). length m.comments) f.is_normal.is)
 
--- where comments are at the columns of the next lines
+-- if comments are at the columns of the next lines
 columns_same : {ps : PairedOffsets} {cs ds : List CommentValue} (t v : List ℕ) (s : Style) (xs ys : List Row) (b : Bool) → keeps_blocks s ≡ b → (keeps_blocks s ≡ true → Each (SameColumn (columns_of t s xs) (columns_of v s ys)) cs ds) → Each (SameComment ps) cs ds
     → Each (SameColumn (columns_of t s xs) (columns_of v s ys)) cs ds
 columns_same t v s xs ys true e f a = f e

@@ -1,5 +1,5 @@
--- Each row of a layout is at a multiple of the indentation, which the open collections limit, and so are the lines of block scalars: of those of the trees, in
--- order and each once, below its header.
+-- Each row of a layout is at a multiple of the indentation, limited by the number of open collections, and so are the
+-- lines of block scalars: those of the trees, in order and each once, below its header.
 use Rattle.std.proofs.Common.{◌≡◌, ℕ, ◌+◌, ◌*◌, ◌≤◌, suc, Bool, true, false, true≢false, List, [], ◌∷◌, ◌++◌, map, Option, Some, None, refl, sym, ap, ◌∙◌, subst, arith, flat_map, append_assoc, append-nil, replicate}
 use Rattle.std.specs.Prelude.{◌&&◌, ◌-◌, if◌then◌else◌, not, is_some, max}
 use Rattle.std.proofs.Math.Nat.{add-mul, le-max_left, le-max_right}
@@ -59,7 +59,7 @@ entries_step s limit column v a = by (is_sequence v && not s.seq_indent) where
 -- Rows.
 
 module _ (indent limit : ℕ) where
-  -- the entries that begin on a row are at such columns, and what is in them too
+  -- the entries that begin on a row are at such columns, and so is their content
   abbrev pub StartSteps : List Start → Type 0
   StartSteps ss = StartsHold (λ k. IsStep indent limit k × IsStep indent limit (k + indent)) ss
 
@@ -72,7 +72,7 @@ module _ (indent limit : ℕ) where
     pub before : List ℕ
     pub is : text ≡ before ++ header_text b.style indent b.text
 
-  -- no lines of a block scalar, or those of the first of these, of which others are left
+  -- no lines of a block scalar, or those of the first of these, with the others left
   pub data StepBody (text : List ℕ) (rest : List BlockScalar) : List BlockScalar → List (List ℕ) → Type 0 where
     bare_body : StepBody text rest rest []
     step_body : {b : BlockScalar} {column : ℕ} → IsStep indent limit column → HeaderEnds b text → StepBody text rest (b ∷ rest) (block_lines b.style column b.text b.lines)
@@ -81,7 +81,7 @@ module _ (indent limit : ℕ) where
     none_stepped : Stepped [] []
     row_stepped : {rest bs : List BlockScalar} {x : Row} {xs : List Row} → IsStep indent limit x.column → StartSteps x.starts → StepBody x.text rest bs x.body → Stepped rest xs → Stepped bs (x ∷ xs)
 
-  -- the same, where the first row may be anywhere
+  -- rows whose first may be at any column
   data Loose : List BlockScalar → List Row → Type 0 where
     no_loose : Loose [] []
     one_loose : {rest bs : List BlockScalar} {x : Row} {xs : List Row} → StartSteps x.starts → StepBody x.text rest bs x.body → Stepped rest xs → Loose bs (x ∷ xs)
@@ -164,7 +164,7 @@ module _ (c : LayoutSetting) (limit : ℕ) where
   abbrev AtStep : ℕ → ℕ → Type 0
   AtStep n column = IsStep c.style.indent n column
 
-  -- wherever its entries are, n steps at most to the right
+  -- whatever the column of its entries, at most n steps to the right
   record NodeStepped (n : ℕ) (x : Node) : Type 0 where
     room : suc n ≤ limit
     rows_loose : (margins : Margins) → AtStep n margins.entries → AtStep (suc n) margins.lines → AreLoose (block_scalars (flat x)) (rows c margins x)

@@ -29,7 +29,7 @@ use Rattle.yf_laws.proofs.NormalForms.NormalRestyled.{normal_restyled}
 use Rattle.yf_laws.proofs.SameReading.EventsTold.{events_told, folded_in, told_folded}
 use Rattle.yf_laws.proofs.SameReading.SameContent.{formats_tags, formats_values, unmarked, unmarked_value}
 
--- What is asked of each event: g of the formatted text's, h of the text's.
+-- The condition on each event: g for the formatted text's, h for the text's.
 
 module _ {X : Type 0} (s : Style) (g h : EventValue → X) (bare : (v : EventValue) → g (unmarked_value v) ≡ g v) (styled : (flow : Bool) (v : EventValue) → g (restyled_event s flow v) ≡ h v) where
   asked_unmarked : (vs : List EventValue) → map g (unmarked vs) ≡ map g vs

@@ -1,5 +1,5 @@
--- A normal form is printed by the measures and forms of the reading that it is of: its own forms are the same, and its own measures are, as
--- far as the printer asks.
+-- A normal form is printed from the measures and forms of the reading that it comes from: its own forms are equal, and
+-- its own measures agree in what the printer uses.
 use Rattle.std.proofs.Common.{◌≡◌, ℕ, true, List, [], map, sym, ap, ◌∙◌, subst}
 use Rattle.yf_events.specs.declared.lists.Lists.{Lists}
 use Rattle.yf_events.proofs.TreeLemmas.{trees_unique}
@@ -30,7 +30,7 @@ use Rattle.yf_laws.proofs.NormalForms.SettledForms.{stream_stays}
 use Rattle.yf_forms.proofs.Measure.StepLemmas.{measured_in_pass}
 use Rattle.yf_laws.proofs.Printer.MeasureFacts.{MeasuresTell, asked, measured_tells, told_alike}
 
--- the events that are made by measures and forms of a reading are those of its normal form
+-- the events made from the measures and forms of a reading are those of its normal form
 pub normal_made : NormalFormsAreMade
 normal_made t r m s ms fs w measured decided k e =
     let is_measured : AreMeasures t (setting_of r s) r.events ms = measured_in_pass (measured w.comments) in
@@ -80,7 +80,7 @@ module _ {t : List ℕ} {r m : Lists} {s : Style} {ms : List Measure} {fs : List
   lays_out : printed (work_of t m s ms fs (all_found m ms fs)) ≡ layout t m s (trees_in normal)
   lays_out = printed_lays_out t m s ms fs normal (trees_in normal) (trees_of normal) told same_forms
 
-  -- so it is what formatting the text gives
+  -- so it is the formatting of the text
   pub kept_so : (u : List ℕ) → u ≡ printed (work_of t m s ms fs (all_found m ms fs)) → FormatKept t s u
   kept_so u e = format_keeps t s u h.utf8 (record {
     reading = r;

@@ -1,4 +1,4 @@
--- What the printer is given by the normal form of a text's reading: its trees, their nesting, and the order of its places.
+-- What the normal form of a text's reading gives the printer: its trees, their nesting, and the order of its offsets.
 use Rattle.std.proofs.Common.{◌≡◌, ◌≢◌, ℕ, suc, ◌<◌, Bool, true, false, not, List, [], ◌∷◌, ◌++◌, length, map, Option, refl, sym, ap, ◌∙◌, subst, arith}
 use Rattle.std.specs.Prelude.{◌==◌, nat_lt, nat_le, slice_index_or}
 use Rattle.std.specs.List.{list_all}
@@ -70,7 +70,7 @@ ascend_from (c ∷ cs) e =
     let parts = and_parts (list_all (λ (d : CommentValue). nat_lt c.offset d.offset) cs) (strict cs) e in
     and_from _ _ (all_not_above c.offset cs parts.0) (ascend_from cs parts.1)
 
--- No comment begins where a leaf begins.
+-- No comment begins at the start of a leaf.
 
 differ : (n m : ℕ) → (n ≡ m → ⊥) → not (n == m) ≡ true
 differ n m h = by (n == m) refl where

@@ -1,4 +1,4 @@
--- A normal form is the reading with other styles of scalars and other brackets of collections, and nothing else.
+-- A normal form is the reading with other styles of scalars and other brackets of collections, and no other change.
 use Rattle.std.proofs.Common.{◌≡◌, ℕ, Bool, true, false, List, [], ◌∷◌, ◌++◌, map, flat_map, sym, ap, ◌∙◌, subst}
 use Rattle.std.specs.Prelude.{◌&&◌, if◌then◌else◌}
 use Rattle.yf_events.specs.Event.{EventInText}

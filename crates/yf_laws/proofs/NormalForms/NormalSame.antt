@@ -1,4 +1,5 @@
--- What the normal form of a tree leaves as it is: where its leaves are, which of them have characters, and which nodes begin entries.
+-- What the normal form of a tree leaves unchanged: the offsets of its leaves, which of them have characters, and which
+-- nodes begin entries.
 use Rattle.std.proofs.Common.{◌≡◌, ℕ, Bool, true, false, not, ◌&&◌, List, [], ◌∷◌, refl, ap, ◌∙◌}
 use Rattle.std.specs.Prelude.{is_some, if◌then◌else◌}
 use Rattle.std.specs.Str.{chars}

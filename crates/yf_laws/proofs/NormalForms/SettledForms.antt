@@ -1,5 +1,5 @@
--- A settled node has the forms that it had before, where its margins are alike for it; so the pass over a normal reading gives the forms that
--- the pass over the reading gave.
+-- A settled node keeps its forms, if its margins agree in what its forms depend on; so the pass over a normal reading
+-- gives the forms that the pass over the reading gave.
 use Rattle.std.proofs.Common.{◌≡◌, ℕ, Bool, true, false, ◌&&◌, ◌++◌, List, [], ◌∷◌, Option, None, map, flat_map, length, refl, sym, ap, ◌∙◌}
 use Rattle.std.specs.Prelude.{if◌then◌else◌}
 use Rattle.std.proofs.lemmas.Bool.{and_parts}
@@ -24,7 +24,7 @@ either : (c : LayoutSetting) (other : Site) (fs : List Form) (b : Bool) (x y : N
 either c other fs true x y h k = h refl
 either c other fs false x y h k = k refl
 
--- a collection with entries, and where its entries are on lines of their own
+-- a collection with entries, and whether its entries are on lines of their own
 
 abbrev collection : Site → Bool → ℕ → List Form → List Form
 collection site kept count inner =
@@ -35,7 +35,7 @@ opened : (one other : Site) (kept : Bool) (n m : ℕ) (gs fs : List Form) → on
     → one.key_comment ≡ other.key_comment → kept ≡ false → gs ≡ fs → collection other false m gs ≡ collection one kept n fs
 opened one other kept n m gs fs p q r e h = rw (p, q, r, e, h) refl
 
--- the comment that trails a key is the same
+-- the comment that trails a key is unchanged
 comment_stays : (c : LayoutSetting) (column : ℕ) (k v : Node)
     → value_comment c column k v ≡ value_comment c column (settled c (key_margins c.style column k) k) (settled c (value_margins c column k v) v)
 comment_stays c column k v = sym (ap (λ w. comment_by K w) twice ∙ by (is_implicit c.style column k) refl) where

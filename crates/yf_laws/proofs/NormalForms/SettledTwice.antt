@@ -1,4 +1,5 @@
--- A settled node stays as it is, where its entries and, if it is a flow collection, its column are the same; so a normal form is settled.
+-- A settled node stays unchanged, if its entries and, for a flow collection, its column are unchanged; so a normal form
+-- is settled.
 use Rattle.std.proofs.Common.{◌≡◌, ℕ, Bool, true, false, ◌&&◌, ◌+◌, refl, sym, ap, ◌∙◌}
 use Rattle.std.specs.Prelude.{nat_le, if◌then◌else◌}
 use Rattle.std.proofs.lemmas.Bool.{and_parts}

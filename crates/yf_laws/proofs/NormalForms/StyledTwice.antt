@@ -21,7 +21,7 @@ no_comment : (t : List ℕ) (o : Option Span) (props : PropsValue) → has_comme
 no_comment t None props = refl
 no_comment t (Some span) props = refl
 
--- the node x is styled as it is, and where the flag says so it may be kept
+-- the node x is in the house style, and if the flag says so it may be kept
 abbrev pub House : LayoutSetting → Node → Type 0
 House c x = styled [] (setting c.style []) x ≡ x
 
@@ -43,7 +43,7 @@ all_true a b c d e f g h = rw (e, f, g, h) refl
 pub all_five : (a b c d e : Bool) → a ≡ true → b ≡ false → c ≡ true → d ≡ true → e ≡ true → (a && not b && c && d && e) ≡ true
 all_five a b c d e h i j k l = rw (h, i, j, k, l) refl
 
--- Where a node may be kept, it may be kept in the style of the house.
+-- A node that may be kept may also be kept once it is in the house style.
 
 mutual
   pub still_kept : (t : List ℕ) (c : LayoutSetting) (x : Node) → may_be_kept t c.comments x ≡ true → may_be_kept [] [] (styled t c x) ≡ true

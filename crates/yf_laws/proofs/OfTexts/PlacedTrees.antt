@@ -1,4 +1,4 @@
--- In a tree that is in a text a leaf has a place exactly where it has characters.
+-- In a tree that is in a text a leaf has a span if and only if it has characters.
 use Rattle.std.proofs.Common.{◌≡◌, ℕ, ◌<◌, Bool, true, false, not, List, [], ◌∷◌, ◌++◌, length, Option, Some, refl, sym, ap, true≢false, arith}
 use Rattle.std.proofs.lemmas.Bool.{and_from}
 use Rattle.std.specs.Prelude.{is_some}
@@ -12,7 +12,7 @@ use Rattle.yf_grammar.proofs.NodesInText.NodePlaces.{HasText, verbatim_text, sho
 use Rattle.yf_forms.specs.NormalForms.Forms.{agree, is_empty_node, is_nothing, is_placed, items_are_placed, pairs_are_placed}
 use Rattle.yf_forms.specs.Nodes.OneLine.{tag_text, props_text, spaced}
 
--- a scalar with characters is no empty node
+-- a scalar with characters is not an empty node
 
 front_some : (b : ℕ) (x y : List ℕ) → is_nothing (spaced (b ∷ x) y) ≡ false
 front_some b x [] = refl

@@ -1,4 +1,4 @@
--- After the lines of a block scalar, what is in a layout is further left, and is none of it.
+-- In a layout, what follows the lines of a block scalar is further left, and not part of it.
 use Rattle.std.proofs.Common.{◌≡◌, ℕ, ◌+◌, ◌<◌, ◌≤◌, Bool, true, false, ◌&&◌, List, [], ◌∷◌, ◌++◌, map, replicate, Option, Some, None, encode_utf8, true≢false, refl, sym, ap, ◌∙◌, subst, arith, append_assoc}
 use Rattle.std.specs.Prelude.{filter, not, if◌then◌else◌, ◌-◌}
 use Rattle.yf_comments.specs.Comment.{CommentValue}
@@ -32,7 +32,7 @@ use Rattle.yf_laws.proofs.SameReading.CommentsCut.{Each}
 
 -- Columns of rows.
 
--- the column of the next row, or of what is after the rows
+-- the column of the next row, or of what follows the rows
 abbrev next_column : ℕ → List Row → ℕ
 next_column k [] = k
 next_column k (x ∷ xs) = x.column
@@ -42,7 +42,7 @@ abbrev IsLeft : List (List ℕ) → ℕ → ℕ → Type 0
 IsLeft [] column lines = Unit {0}
 IsLeft (l ∷ ls) column lines = column < lines
 
--- each row after a block scalar is left of its lines, and so is what is after all at the column k
+-- each row after a block scalar is left of its lines, and so is the end of the rows, at the column k
 data Steps (k : ℕ) : List Row → Type 0 where
   no_steps : Steps k []
   one_step : {x : Row} {xs : List Row} → IsLeft x.body (next_column k xs) x.lines → Steps k xs → Steps k (x ∷ xs)
@@ -85,7 +85,7 @@ props_steps : {k : ℕ} (column : ℕ) (w : List ℕ) {rs : List Row} → Steps 
 props_steps column [] a = a
 props_steps column (b ∷ w) a = one_step tt a
 
--- the first of joined rows is at the column of what they are joined to
+-- the first of joined rows is at the column of the row that they are joined to
 append_column : (k : ℕ) (xs ys : List Row) → next_column k (xs ++ ys) ≡ next_column (next_column k ys) xs
 append_column k [] ys = refl
 append_column k (x ∷ xs) ys = refl
@@ -101,7 +101,7 @@ after_key_column k head None false rs = joined_column k head 1 rs
 
 -- Trees.
 
--- what holds of the rows of a node, and of entries at a column, wherever they are
+-- the claim for the rows of a node, whatever its margins
 record NodeSteps (c : LayoutSetting) (x : Node) : Type 0 where
   steps : (margins : Margins) (k : ℕ) → k < margins.lines → k ≤ margins.entries → Steps k (rows c margins x)
 
@@ -231,7 +231,7 @@ all_steps c true (d ∷ ds) (x ∷ xs) =
     let root = (node_steps c x.root).steps (root_margins c.style) 0 (omega (arith, wide)) (omega arith) in
     steps_append (subst (λ k. Steps k (begun_at d.start (rows c (root_margins c.style) x.root))) (sym others.1) (begun_steps d.start root)) others.0
 
--- What is after the lines of a block scalar.
+-- After the lines of a block scalar.
 
 gap_left : {k : ℕ} {gs : List GapLine} → GapHolds (λ c. c < k) gs → AllLeft k gs
 gap_left none_holds = tt

@@ -58,7 +58,7 @@ module _ (t : List ℕ) (c : LayoutSetting) where
       let rest = stream_run false ds xs more root.steps in
       record { now = rest.now; rows = chain_append t w (begun_run d.start root.rows) rest.rows; steps = rest.steps; holds = tt }
 
--- of a layout: what is open after its last row
+-- for a layout: the collections open after its last row
 pub record Chain (t : List ℕ) (s : Style) (rs : List Row) : Type 0 where
   pub now : List OpenBlock
   pub rows : Chained t s.indent [] rs now

@@ -1,5 +1,6 @@
--- Which collections are open along the rows of a node: each is at the column of the one that holds it or one indentation further in, a row that begins
--- with an entry is at the column of its collection, and the lines of a block scalar are right of all that are open.
+-- The collections that are open along the rows of a node. Each is at the column of the one that holds it or one
+-- indentation further in, a row that begins with an entry is at the column of its collection, and the lines of a block
+-- scalar are right of all open collections.
 use Rattle.std.proofs.Common.{◌≡◌, ℕ, ◌+◌, ◌-◌, ◌<◌, ◌≤◌, Bool, true, false, true≢false, not, List, [], ◌∷◌, ◌++◌, Option, Some, None, refl, sym, ap, ◌∙◌, subst, arith}
 use Rattle.std.specs.Prelude.{◌&&◌, ◌||◌, if◌then◌else◌}
 use Rattle.std.proofs.lemmas.Bool.{and_parts}
@@ -20,7 +21,7 @@ use Rattle.yf_laws.proofs.OutputLines.ColumnsHold.{AllBlocks, no_blocks}
 use Rattle.yf_laws.proofs.SecondRun.ColumnsAgain.{InSteps, no_step, NextIsAt, next_document, next_node}
 use Rattle.yf_laws.proofs.OutputLines.OpenChains.{Kept, Enters, Where, Opened, opening, kept_around, steps_below, BodyRight, body_right, Chained, Inline, Starting, chain_append, is_filled, inline_append, starting_append, alone, joined_filled, joined_starting, joined_inline, head_inline, line_inline, leaf_alone, line_alone, enters_none, enters_further, enters_same, at_first, at_later, chain_over, chain_row, inline_over, inline_row, none_starting, row_starting}
 
--- Nodes that are no block collections.
+-- Nodes that are not block collections.
 
 pub inline_no_block : (x : Node) → is_inline x ≡ true → is_block_collection x ≡ false
 inline_no_block (scalar at props style text lines) e = refl
@@ -67,7 +68,7 @@ module _ (t : List ℕ) (c : LayoutSetting) where
     there : Where w wide e k bs now
     starting : Starting t w rs
 
-  -- what is open after rows
+  -- the collections open after rows
   pub record After (start : List OpenBlock) (rs : List Row) (Q : List OpenBlock → Type 0) : Type 0 where
     pub now : List OpenBlock
     pub rows : Chained t w start rs now
@@ -184,7 +185,7 @@ module _ (t : List ℕ) (c : LayoutSetting) where
 
   -- Entries.
 
-  -- a pair, of whose collection block is open after it
+  -- a pair, with its collection block open after it
   record PairRun (column : ℕ) (bs start : List OpenBlock) (rs : List Row) : Type 0 where
     block : OpenBlock
     at : block.printed ≡ column

@@ -1,4 +1,4 @@
--- The lines of what formatting gives are those of its rows, with what they carry.
+-- The lines of a formatted text are those of its rows, with what they carry.
 use Rattle.std.proofs.Common.{◌≡◌, ℕ, List, [], ◌∷◌, ◌++◌, sym, ◌∙◌, subst}
 use Rattle.std.specs.Str.{IsUtf8}
 use Rattle.yf_lines.specs.declared.line.Line.{Line}
@@ -43,7 +43,7 @@ row_texts ds (row_more {x = x} {xs = xs} a s b more) k =
     line_more (line_indented x.column (line_append a (trails_line (first ds).trails (first_deco k).trails)))
     (append_lines b (append_lines (gap_texts (first ds).gap (first_deco k).gap) (row_texts (after ds) more (after_decos k))))
 
--- What is known of the rows of what formatting gives.
+-- The facts about the rows of a formatted text.
 
 pub record Formed {t : List ℕ} {s : Style} {u : List ℕ} (f : IsFormatting t s u) : Type 0 where
   pub utf8 : IsUtf8 u

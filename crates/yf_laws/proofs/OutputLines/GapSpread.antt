@@ -1,4 +1,5 @@
--- Where blank lines are between the rows of a layout: not first, no two together, and each before a comment or before a row that begins with an entry.
+-- Blank lines between the rows of a layout: not first, no two in sequence, and each before a comment or before a row
+-- that begins with an entry.
 use Rattle.std.proofs.Common.{◌≡◌, Bool, true, false, ◌&&◌, List, [], ◌∷◌, ◌++◌, ℕ, refl, sym, ap, subst, append_assoc}
 use Rattle.std.specs.Prelude.{filter}
 use Rattle.yf_comments.specs.Comment.{CommentValue}
@@ -9,7 +10,7 @@ use Rattle.yf_forms.specs.Nodes.Lines.{trimmed}
 use Rattle.yf_print.specs.Layouts.Rows.{Row, Ending, anywhere}
 use Rattle.yf_print.specs.Layouts.KeptColumns.{Columns}
 
--- the flags say whether a blank line may be after what is before the lines, and before what is after them
+-- the flags say whether a blank line is allowed directly before the lines, and directly after them
 pub data Spread : Bool → List GapLine → Bool → Type 0 where
   spread_end : {b e : Bool} → Spread b [] e
   spread_remark : {b e : Bool} {column : ℕ} {text : List ℕ} {gs : List GapLine} → Spread true gs e → Spread b (remark column text ∷ gs) e

@@ -1,5 +1,5 @@
--- What a meaning holds of the rows that it is derived from: each of its comments is well set, and the lines of each row with a block scalar are those of
--- a scalar among its events.
+-- The relation of a meaning to the rows that it is derived from: each of its comments is well set, and the lines of
+-- each row with a block scalar are those of a scalar among its events.
 use Rattle.std.proofs.Common.{◌≡◌, ℕ, ◌<◌, ◌≤◌, ◌⊎◌, Bool, false, List, [], ◌∷◌, ◌++◌, length, Option, Some, refl, sym, subst}
 use Rattle.std.specs.Str.{IsUtf8}
 use Rattle.yf_chars.specs.Text.{code}
@@ -70,12 +70,12 @@ pub record ScalarHeld (t : List ℕ) (es : List EventInText) (column : ℕ) (bod
   pub among : Holds event part es
   pub scalar : ScalarAt t event part column body z
 
--- of a row: where it has the lines of a block scalar
+-- of a row: it has the lines of a block scalar of the events, if it has any
 abbrev pub BodyHeld : List ℕ → List EventInText → List (List ℕ) → ℕ → List ℕ → Type 0
 BodyHeld t es [] column z = Unit {0}
 BodyHeld t es (l ∷ ls) column z = ScalarHeld t es column (l ∷ ls) z
 
--- where a row's text ends, with a visible character
+-- the end of a row's text, after a visible character
 pub record SeenEnd (t : List ℕ) (z : List ℕ) : Type 0 where
   pub at : ℕ
   pub follows : ContentBefore t at
@@ -108,7 +108,7 @@ bodies_append t es [] ys ds r a b = b
 bodies_append t es (x ∷ xs) ys ds r a b =
     (subst (λ z. RowHeld t es x (first ds) z) (sym (lines_append xs ys (after ds) r)) a.0, bodies_append t es xs ys (after ds) r a.1 b)
 
--- what a row carries that has no such lines, after its text
+-- what a row without such lines carries after its text
 pub record RowEnded (t : List ℕ) (d : Deco) (r : List ℕ) (cs : List CommentValue) : Type 0 where
   pub seen : SeenEnd t (end_then d [] r)
   pub comments : AllSet t cs
@@ -128,7 +128,7 @@ pub record Held (t : List ℕ) (m : Meaning) (rs : List Row) (ds : List Deco) (r
   pub comments : AllSet t m.comments
   pub bodies : BodiesHeld t m.events rs ds r
 
--- the same of events, with comments beside them
+-- this holds for events, with comments beside them
 pub record EventsHeld (t : List ℕ) (es : List EventInText) (cs : List CommentValue) (rs : List Row) (ds : List Deco) (r : List ℕ) : Type 0 where
   pub comments : AllSet t cs
   pub bodies : BodiesHeld t es rs ds r

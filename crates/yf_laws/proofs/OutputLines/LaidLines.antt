@@ -79,7 +79,7 @@ layout_is gap xs ds =
 
 -- The lines of a text.
 
--- a line with this text, which a line feed ends; what is after it
+-- a line with this text, which a line feed ends, and what follows it
 pub record LineIs (t : List ℕ) (l : Line) (x : List ℕ) : Type 0 where
   pub follows : List ℕ
   pub there : Rest t l.start (x ++ (10 ∷ follows))
@@ -91,7 +91,7 @@ pub data LinesAre (t : List ℕ) : List Line → List (List ℕ) → Type 0 wher
   no_lines : LinesAre t [] []
   more_lines : {l : Line} {ls : List Line} {x : List ℕ} {xs : List (List ℕ)} (a : LineIs t l x) → a.follows ≡ body_then xs [] → LinesAre t ls xs → LinesAre t (l ∷ ls) (x ∷ xs)
 
--- each offset within characters of a line is one of them, or inside of one
+-- each offset within characters of a line is at one of them, or inside one
 pub nb_there : {t : List ℕ} {i j : ℕ} {x : List ℕ} → IsUtf8 t → Many t is_nb_char i j x → (h : ℕ) → i ≤ h → h < j → (is_nb_char (code t h) ≡ true) ⊎ (code t h ≡ no_char)
 nb_there u done h l m = absurd (omega (arith, l, m))
 nb_there {t} {i = i} u (step (one e) c) h l m =

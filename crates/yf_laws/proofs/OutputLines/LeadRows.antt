@@ -28,7 +28,7 @@ abbrev pub first_byte : List ℕ → ℕ
 first_byte [] = 0
 first_byte (c ∷ w) = c
 
--- a row with a text, which begins with no percent sign where a blank line may be before it
+-- a row with a text, which doesn't begin with a percent sign if a blank line may be before it
 pub record IsLead (x : Row) : Type 0 where
   pub none : x.blank_before ≡ true → first_byte x.text ≢ 37
 

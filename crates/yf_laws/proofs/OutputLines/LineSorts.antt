@@ -1,4 +1,5 @@
--- What a line of a layout is: a blank one between rows, one that ends visibly, or one of the lines of a block scalar of the reading.
+-- Each line of a layout is a blank one between rows, one that ends visibly, or one of the lines of a block scalar of
+-- the reading.
 use Rattle.std.proofs.Common.{◌≡◌, ◌≢◌, ℕ, zero, suc, ◌+◌, ◌-◌, ◌<◌, false, List, [], ◌∷◌, ◌++◌, drop, Option, Some, sym, ap, ◌∙◌, arith}
 use Rattle.std.proofs.lemmas.List.{drop-drop}
 use Rattle.std.specs.Prelude.{slice_get}
@@ -11,13 +12,14 @@ use Rattle.yf_events.specs.declared.event.Span.{Span}
 use Rattle.yf_laws.proofs.OutputLines.HeldLemmas.{Holds, ScalarAt}
 use Rattle.yf_laws.proofs.OutputLines.LaidLines.{LinesAre}
 
--- Lines with what is told of each, by its index.
+-- Lines with a property of each, by its index.
 
 pub data Lined (P : ℕ → Line → List ℕ → Type 0) : ℕ → List Line → List (List ℕ) → Type 0 where
   lined_end : {k : ℕ} → Lined P k [] []
   lined_more : {k : ℕ} {l : Line} {ls : List Line} {x : List ℕ} {xs : List (List ℕ)} → P k l x → Lined P (suc k) ls xs → Lined P k (l ∷ ls) (x ∷ xs)
 
--- a line of the scalar: the one of that number of its lines, of which the first has this index, and begins where those of the scalar do
+-- a line of the scalar: the line with that number among its lines, the first of which has this index and begins at the
+-- start of the scalar's lines
 pub record InScalar (t : List ℕ) (es : List EventInText) (all : List Line) (k : ℕ) (x : List ℕ) : Type 0 where
   pub event : EventValue
   pub part : Option Span
@@ -39,7 +41,7 @@ pub record InScalar (t : List ℕ) (es : List EventInText) (all : List Line) (k 
   pub some : lines ≡ line ∷ others
   pub start : line.start ≡ scalar.place
 
--- a line that is no blank one between rows
+-- a line that isn't a blank one between rows
 pub data Solid (t : List ℕ) (es : List EventInText) (all : List Line) (k : ℕ) (l : Line) : Type 0 where
   solid_seen : is_white (code t (l.end - 1)) ≡ false → l.start < l.end → Solid t es all k l
   solid_scalar : {x : List ℕ} → InScalar t es all k x → Solid t es all k l

@@ -1,4 +1,5 @@
--- Each line of a layout is a blank one between rows, ends visibly, or is one of the lines of a block scalar of the reading.
+-- Each line of a layout is a blank one between rows, ends visibly, or is one of the lines of a block scalar of the
+-- reading.
 use Rattle.std.proofs.Common.{◌≡◌, ◌≢◌, ℕ, zero, suc, ◌+◌, ◌-◌, ◌<◌, ◌⊎◌, inl, inr, ⊎_elim, Bool, true, false, true≢false, List, [], ◌∷◌, ◌++◌, length, drop, get_or, get_or-drop, replicate, encode_utf8, Some, refl, sym, ap, ◌∙◌, subst, arith, append_assoc, append-nil, length-append}
 use Rattle.std.proofs.lemmas.Str.{len_utf8_bounds, length-encode}
 use Rattle.std.specs.Prelude.{slice_get}
@@ -49,7 +50,7 @@ own_long x d a some =
     let end = a.end in
     omega (arith, end, some, length-append (replicate x.column 32) (x.text ++ trails_bytes d.trails), length-append x.text (trails_bytes d.trails))
 
--- where nothing trails the text of a row, it ends with the line
+-- if nothing trails the text of a row, it ends with the line
 untrailed : {t : List ℕ} {l : Line} (x : Row) (d : Deco) (r : List ℕ) → IsUtf8 t → (a : LineIs t l (own_line x d)) → a.follows ≡ body_then x.body (gap_then d.gap r) → d.trails ≡ []
     → SeenEnd t (end_then d x.body r) → ContentBefore t l.end
 untrailed {t} {l} x d r u a e f seen =

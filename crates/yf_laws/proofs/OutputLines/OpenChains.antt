@@ -1,5 +1,5 @@
--- Open collections along rows, each at the column of the one that holds it or one indentation further in: what an entry leaves of them, and rows that go on with
--- what is open.
+-- Open collections along rows, each at the column of the one that holds it or one indentation further in; what an entry
+-- leaves open, and rows that continue open collections.
 use Rattle.std.proofs.Common.{◌≡◌, ℕ, ◌+◌, ◌<◌, Bool, true, false, true≢false, not, List, [], ◌∷◌, ◌++◌, refl, sym, ap, ◌∙◌, subst, arith}
 use Rattle.std.specs.Prelude.{◌==◌, ◌&&◌, ◌||◌, nat_lt, if◌then◌else◌}
 use Rattle.std.proofs.lemmas.Bool.Decides.{nat_tests}
@@ -93,7 +93,7 @@ not_same_kind y b e f =
       either true = refl
       either false = refl
 
--- what an entry of b or of one around b leaves of the one is what it leaves of the other
+-- an entry of b, or of a collection around b, leaves the same collections of both lists
 abbrev pub Kept : OpenBlock → List OpenBlock → List OpenBlock → Type 0
 Kept b now bs = (y : OpenBlock) → Over y b → not_ended y now ≡ not_ended y bs
 
@@ -116,7 +116,7 @@ module _ (w : ℕ) (wide : 0 < w) where
     enters_further : {b : OpenBlock} {bs : List OpenBlock} → e ≡ b.printed + w → Enters e k (b ∷ bs)
     enters_same : {b : OpenBlock} {bs : List OpenBlock} → e ≡ b.printed → k ≡ true → b.is_sequence ≡ false → Enters e k (b ∷ bs)
 
-  -- an entry of such a collection, where none has begun yet or others are over
+  -- an entry of such a collection, before the first has begun or after others have ended
   pub data Where (e : ℕ) (k : Bool) (bs : List OpenBlock) : List OpenBlock → Type 0 where
     at_first : Enters e k bs → Where e k bs bs
     at_later : {now : List OpenBlock} {b : OpenBlock} → b.printed ≡ e → b.is_sequence ≡ k → Kept b now (b ∷ bs) → InSteps w (b ∷ bs) → Where e k bs now
@@ -146,7 +146,7 @@ module _ (w : ℕ) (wide : 0 < w) where
         steps = steps;
       }
 
-  -- what is around stays as it is
+  -- the surrounding collections stay unchanged
   pub kept_around : {e : ℕ} {k : Bool} {b : OpenBlock} {bs now : List OpenBlock} → Enters e k (b ∷ bs) → Where e k (b ∷ bs) now → Kept b now (b ∷ bs)
   kept_around enters (at_first other) y over = refl
   kept_around {e} {k} {b} {bs} {now} enters (at_later {b = o} m n kept steps) y over = go enters over where
@@ -185,12 +185,12 @@ pub no_body : {body : List (List ℕ)} (lines : ℕ) (bs : List OpenBlock) → b
 no_body {body} lines bs e = subst (λ z. BodyRight z lines bs) (sym e) tt
 
 module _ (t : List ℕ) (w : ℕ) where
-  -- rows, with what is open before them and after them
+  -- rows, with the collections open before them and after them
   pub data Chained : List OpenBlock → List Row → List OpenBlock → Type 0 where
     chain_over : {bs : List OpenBlock} → Chained bs [] bs
     chain_row : {bs now : List OpenBlock} {x : Row} {xs : List Row} → InSteps w bs → NextIsAt x.column (beginning t x.starts x.leaves) → BodyRight x.body x.lines (after_row t x bs) → Chained (after_row t x bs) xs now → Chained bs (x ∷ xs) now
 
-  -- the same, where the first row's text follows what is on its line
+  -- rows whose first row's text follows other text on its line
   pub data Inline : List OpenBlock → List Row → List OpenBlock → Type 0 where
     inline_over : {bs : List OpenBlock} → Inline bs [] bs
     inline_row : {bs now : List OpenBlock} {x : Row} {xs : List Row} → BodyRight x.body x.lines (after_starts t x.starts bs) → Chained (after_starts t x.starts bs) xs now → Inline bs (x ∷ xs) now

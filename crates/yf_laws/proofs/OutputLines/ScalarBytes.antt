@@ -1,4 +1,4 @@
--- The bytes of a block scalar that is laid out are those of yf_block_scalar.
+-- The bytes of a laid-out block scalar are those of yf_block_scalar.
 use Rattle.std.proofs.Common.{◌≡◌, ℕ, zero, suc, List, [], ◌∷◌, ◌++◌, map, replicate, Option, Some, None, refl, sym, ap, ◌∙◌, append_assoc}
 use Rattle.yf_block_scalar.specs.Content.{feeds}
 use Rattle.yf_block_scalar.specs.Placed.{lines_then as scalar_lines, trail_then, IsTrail, trail_texts}

@@ -1,5 +1,5 @@
--- Where a block scalar is that is derived from its row: its lines begin after the line of its header, it reaches past each of them, and its comments
--- are well set.
+-- A block scalar that is derived from its row: its lines begin after the line of its header, it reaches past each of
+-- them, and its comments are well set.
 use Rattle.std.proofs.Common.{◌≡◌, ◌≢◌, ℕ, ℤ, zero, suc, ◌+◌, ◌<◌, ◌≤◌, ◌⊎◌, inl, inr, ⊎_elim, Bool, true, false, List, [], ◌∷◌, ◌++◌, length, Option, None, refl, sym, ap, ◌∙◌, subst, arith, length-append}
 use Rattle.std.specs.Prelude.{if◌then◌else◌}
 use Rattle.std.specs.Str.{IsUtf8}
@@ -84,7 +84,7 @@ pub feeds_long : (k : ℕ) → length (feeds k) ≡ k
 feeds_long zero = refl
 feeds_long (suc k) = ap suc (feeds_long k)
 
--- of two contents with the same lines, that are the same, the tails are as long
+-- two equal contents with equal lines have tails of equal length
 same_tails : (w : List ℕ) (tail count : ℕ) (o : Bool) → length (w ++ (if o then [] else feeds (tail + 1))) ≡ length (w ++ feeds (count + 1)) → count ≡ tail
 same_tails w tail count true e =
     let l = length-append w (feeds (count + 1)) in
@@ -188,7 +188,7 @@ body_set {t} {h = h} u l (without_content {widths = widths} {x = x} e a s b) = n
 
 -- The line of its header.
 
--- signs, of which a header consists
+-- the signs of a header
 abbrev pub AllSigns : List ℕ → Type 0
 AllSigns [] = Unit {0}
 AllSigns (c ∷ cs) = ((36 ≤ c) × (c < 127)) × AllSigns cs
@@ -258,7 +258,7 @@ unfolding is_white_or_end is_white is_break_char
 stop_at_end [] r u s = ap is_white_or_end (rest_ascii 10 u (omega arith) (λ e. absurd (omega arith)) s).0.char
 stop_at_end (x ∷ xs) r u s = ap is_white_or_end (rest_ascii 32 u (omega arith) (λ e. absurd (omega arith)) s).0.char
 
--- a header of signs ends where its bytes do
+-- a header of signs ends at the end of its bytes
 pub header_ends : {t : List ℕ} {q h k j : ℕ} {f : Bool} {d : Option ℕ} {c : Chomp} {cs : List CommentValue} (w : List ℕ) (xs : List (List ℕ)) (r : List ℕ) → IsUtf8 t → AllSigns w → w ≢ []
     → Rest t q (w ++ trails_then xs (10 ∷ r)) → Rest t (q + length w) (trails_then xs (10 ∷ r)) → Style t q h f → Indicators t h k d c → LineRest t k j cs → k ≡ q + length w
 header_ends {t} {q} {h} {k} w xs r u a some s end style marks rest =
@@ -279,7 +279,7 @@ after_signs {t} (c ∷ w) r q u a some s =
     let place : q + length w + 1 ≡ q + length (c ∷ w) = omega arith in
     subst (λ k. ContentBefore t k) place (after_byte (q + length w) u refl (omega (arith, at.1)) (ascii_ns (code t (q + length w)) (omega (arith, at.0)) at.1))
 
--- where its lines begin
+-- the start of its lines
 pub record HeaderPassed (t : List ℕ) (q place : ℕ) (z : List ℕ) : Type 0 where
   pub rest : Rest t place z
   pub start : LineStart t place

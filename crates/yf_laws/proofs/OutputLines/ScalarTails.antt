@@ -1,4 +1,5 @@
--- The comments after a block scalar that was laid out: those on the line of its header, and those from its end on, where the gap after it begins.
+-- The comments after a laid-out block scalar: those on the line of its header, and those from its end on, where the gap
+-- after it begins.
 use Rattle.std.proofs.Common.{◌≡◌, ℕ, ℤ, zero, suc, ◌+◌, ◌-◌, ◌<◌, ◌≤◌, ◌⊎◌, inl, inr, ⊎_elim, Bool, true≢false, List, [], ◌∷◌, ◌++◌, length, map, replicate, refl, sym, ap, ◌∙◌, subst, arith, length-append, add-zero, zero-add}
 use Rattle.std.proofs.lemmas.Bool.{cases_lt}
 use Rattle.std.proofs.lemmas.List.{length-map, length-replicate}
@@ -67,7 +68,7 @@ ends_of : {t : List ℕ} {h j : ℕ} → EndOfLine t h j → Break t h j ⊎ (h 
 ends_of (at_break b) = inl b
 ends_of (at_end e) = inr e
 
--- a line of which the text is known
+-- a line with a known text
 line_ends : {t : List ℕ} {x : List ℕ} {q j : ℕ} {ls : List Line} (r : List ℕ) → IsUtf8 t → IsLineText x → Rest t q (x ++ (10 ∷ r)) → OneLine t q j ls → j ≡ q + length x + 1
 line_ends {t} {x} {q} {j} r u a w o =
     let made = line_made o in

@@ -80,7 +80,7 @@ module _ {t : List ℕ} where
   end_at_line l (past_rest {x = x} {y = y} r c) = set_append t x y (rest_at_line l r) (lines_set (rest_next r) c)
   end_at_line l (from_start s c) = lines_set (inl s) c
 
--- After a character that is no white.
+-- After a character that isn't white space.
 
 pub after_no_white : {t : List ℕ} {q : ℕ} → IsUtf8 t → ContentBefore t q → is_white (code t (q - 1)) ≡ false
 after_no_white {t} {q} u b = not_true (is_white (code t (q - 1))) (λ e.
@@ -113,7 +113,7 @@ row_set {t} d body r u b a w (past_rest {x = x} {y = y} p c) =
     set_append t x y (trailing_set d.trails (body_then body (gap_then d.gap r)) u (after_no_white u b) (no_start_past u b) a.trails w p) (lines_set (rest_next p) c)
 row_set d body r u b a w (from_start s c) = absurd (no_start_past u b s)
 
--- the same of the rest of the row's own line
+-- this holds for the rest of the row's own line
 pub own_set : {t : List ℕ} {q j : ℕ} {cs : List CommentValue} (d : Deco) (body : List (List ℕ)) (r : List ℕ) → IsUtf8 t → ContentBefore t q → IsDeco d → Rest t q (end_then d body r) → LineRest t q j cs
     → AllSet t cs
 own_set d body r u b a w p = trailing_set d.trails (body_then body (gap_then d.gap r)) u (after_no_white u b) (no_start_past u b) a.trails w p

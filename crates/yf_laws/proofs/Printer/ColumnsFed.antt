@@ -1,4 +1,4 @@
--- The columns of comments, as a draft tells them, are those of the layout.
+-- The columns of comments in a draft are those of the layout.
 use Rattle.std.proofs.Common.{◌≡◌, ℕ, Bool, true, false, List, [], ◌∷◌, ◌++◌, map, flat_map, Option, Some, None, refl, sym, ap, ◌∙◌, subst, append_assoc, append-nil}
 use Rattle.std.specs.Prelude.{if◌then◌else◌}
 use Rattle.yf_comments.specs.Comment.{CommentValue}
@@ -35,7 +35,7 @@ firsts (o ∷ os) first = firsts os (or_first first o)
 -- Columns.
 
 module _ (r : Remarks) {g : Columns} where
-  -- where comments don't keep their blocks, any collections may be open
+  -- if comments don't keep their blocks, any collections may be open
   any_chain : {rows : List Row} {bs ds : List OpenBlock} {may now : Bool} → (keeps_blocks r.style ≡ true → (bs ≡ ds) × (may ≡ now)) → {d : CommentValue} → WalkFrom r.text r.style g bs may rows d → WalkFrom r.text r.style g ds now rows d
   any_chain {rows} {bs} {ds} {may} {now} same {d} w = by (keeps_blocks r.style) refl where
     by : (b : Bool) → keeps_blocks r.style ≡ b → WalkFrom r.text r.style g ds now rows d
@@ -117,7 +117,7 @@ before_same (o ∷ os) offset = ap (λ z. is_before z offset) (kept os) where
   kept [] = refl
   kept (p ∷ ps) = kept ps
 
--- the column of a comment before a row, as the draft tells it
+-- the column of a comment before a row, in the draft
 above_same : (r : Remarks) (row : Row) (bs : List OpenBlock) (may : Bool) (d : Draft) (c : CommentValue) → d.first ≡ firsts row.items None
     → d.marks ≡ leaves_marked row.leaves (starts_marked r row.starts no_marks) → d.chain ≡ bs → d.is_bodyless ≡ may
     → line_column r row.column d c ≡ columns_if (keeps_blocks r.style) (column_above r.text r.style bs may row c) row.column

@@ -33,7 +33,7 @@ use Rattle.yf_laws.specs.Layouts.FitDocuments.{FitsBare, fits_bare}
 use Rattle.yf_events.specs.declared.event.Span.{Span}
 use Rattle.yf_chars.proofs.Tests.{below}
 
--- a document of a normal form, with so many open collections at most
+-- a document of a normal form, with at most n open collections
 pub record IsNormal (c : LayoutSetting) (n : ℕ) (d : DocumentTree) : Type 0 where
   pub house : House c d.root
   pub settled : settled c (root_margins c.style) d.root ≡ d.root
@@ -55,7 +55,7 @@ RootsLaid c false ds = Unit {0}
 RootsLaid c true [] = Unit {0}
 RootsLaid c true (d ∷ ds) = rows c (root_margins c.style) d.root ≡ [] → ⊥
 
--- documents whose events are from an index on
+-- documents whose events begin at an index
 record DocumentsAt (k : Known) (i n : ℕ) (ds : List DocumentTree) : Type 0 where
   are_placed : documents_are_placed ds ≡ true
   begin : keys_begin_in_documents ds ≡ true
@@ -174,7 +174,7 @@ document_added k i n j p is_first x t ds d a l h f o =
     subst (λ e. Added k i j t (state d [] j p) e) (sym (fed_append (remarks_of k.work) k.trail begins mine d))
     (root_added k i n j p t ds d (fed (remarks_of k.work) k.trail begins d) a l (document_looked k i j p is_first x t.marked d h f o))
 
--- rows on the first of which the document begins
+-- rows, with the start of the document on the first
 begun_fed : (g : Work) (t : Span → List ℕ) (from : ℕ) (rs : List Row) → (rs ≡ [] → ⊥) → fed (remarks_of g) t rs (past g.reading.comments from no_draft) ≡ fed (remarks_of g) t (begun_at from rs) no_draft
 begun_fed g t from [] n = absurd (n refl)
 begun_fed g t from (r ∷ rs) n = refl

@@ -1,4 +1,4 @@
--- What is printed round the nodes in an entry are the rows of the entry.
+-- The rows of an entry are printed around the nodes in it.
 use Rattle.std.proofs.Common.{◌≡◌, ℕ, ◌-◌, Bool, true, false, not, ◌&&◌, List, [], ◌∷◌, ◌++◌, flat_map, replicate, Option, Some, None, refl, sym, ap, ◌∙◌, append_assoc, append-nil, true≢false}
 use Rattle.std.specs.Prelude.{is_some}
 use Rattle.yf_comments.specs.Comment.{CommentValue}
@@ -19,7 +19,7 @@ use Rattle.yf_laws.proofs.Printer.LeafFed.{ColumnAt, put, put_value, row_met}
 use Rattle.yf_laws.proofs.Printer.NotedLemmas.{Known, met, met_nothing}
 use Rattle.yf_forms.proofs.Decide.FlagLemmas.{and_false as never}
 
--- rows of which the first one goes on the line that is being made, or on a line of its own
+-- rows, the first of which goes on the current line or on a line of its own
 abbrev pub begun : Known → Bool → List Row → Draft → Draft
 begun k true rows d = fed_on (remarks_of k.work) k.trail rows d
 begun k false rows d = fed (remarks_of k.work) k.trail rows d
@@ -71,7 +71,7 @@ joined_begun k false head n rows d h = joined_fed (remarks_of k.work) k.trail he
 
 -- Keys.
 
--- where an entry begins, whose beginning is not met yet
+-- the start of an entry, if it isn't already printed
 abbrev head_line : Known → Bool → ℕ → Option Entry → Draft → Draft
 head_line k true column entry d = d
 head_line k false column entry d = with_blank (blank_before_entry entry) (opened (remarks_of k.work) column d)
@@ -98,7 +98,7 @@ key_met k column place x [] d h =
     sym (ap (λ w. met k w (leaves x) (with_text [] d)) none.0 ∙ (ap (λ w. met k [] w (with_text [] d)) none.1 ∙ (met_nothing k (with_text [] d) ∙ no_text d)))
 key_met k column place x (b ∷ w) d h = sym (row_met k place (b ∷ w) (items_in x) (leaves x) d)
 
--- an entry's beginning, a text, what is met in it, and the `:`
+-- an entry's start, a text, the items in it, and the `:`
 key_added : (k : Known) (column : ℕ) (x : Node) (d : Draft)
     → with_text (colon_after x) (met k (items_in x) (leaves x) (with_text (written k.work.style x) (all_past k.work.reading.comments (entry_start x) (with_start (remarks_of k.work) (start_of column false (entry_start x)) d))))
     ≡ with_row (remarks_of k.work) k.trail (key_row k.work.style column x) d
@@ -132,7 +132,7 @@ key_begun k inline column place x d h =
 
 -- Values.
 
--- a head whose node's text is still to come
+-- a head before the text of its node
 before_text : (k : Known) (head : Row) (d : Draft)
     → without_blank (with_row (remarks_of k.work) k.trail head d) ≡ with_row (remarks_of k.work) k.trail (record head { ending = before_node }) d
 before_text k head d =
@@ -144,7 +144,7 @@ before_text k head d =
     ∙ (ap (λ b. edited line trails body b (row_marks (remarks_of k.work) head d.marks) (all_past cs head.items d)) (sym (never d.may_follow))
     ∙ sym (past_edited cs head.items line trails body (d.may_follow && false) (row_marks (remarks_of k.work) head d.marks) d))
 
--- a head whose key a comment trails
+-- a head with a comment that trails its key
 before_comment : (k : Known) (head : Row) (j : ℕ) (c : CommentValue) (d : Draft) → IsHead head → trailing_if k.work.reading.comments (Some j) ≡ key_text (Some c)
     → without_blank (with_key_trail k.work.reading.comments (Some j) (with_row (remarks_of k.work) k.trail head d))
     ≡ with_row (remarks_of k.work) k.trail (record head { key_comment = Some c; ending = before_node }) d

@@ -31,7 +31,7 @@ abbrev pub all_past : List CommentValue → List ℕ → Draft → Draft
 all_past cs [] d = d
 all_past cs (o ∷ os) d = all_past cs os (past cs o d)
 
--- the parts of a row are added to the line that is being made; t gives what trails a leaf
+-- adds the parts of a row to the current line; t returns what trails a leaf
 abbrev pub with_row : Remarks → (Span → List ℕ) → Row → Draft → Draft
 with_row r t row d = all_past r.comments row.items (record d {
   line = d.line ++ (row.text ++ key_text row.key_comment);
@@ -83,7 +83,7 @@ own_is marks h k (c ∷ cs) d = by (get_or marks k false) (λ e. own_is marks h 
       ∙ (ap (λ w. record d { text = w; blank_may_follow = may_after true (left marks (k + 1) cs) }) (append_assoc d.text piece (gap_bytes h true (left marks (k + 1) cs)))
       ∙ ap (λ w. record d { text = d.text ++ (piece ++ gap_bytes h true (left marks (k + 1) cs)); blank_may_follow = w }) (still (left marks (k + 1) cs)))
 
--- comments at the same columns
+-- comments at equal columns
 gap_same : {h f : CommentValue → ℕ} (may : Bool) {cs : List CommentValue} → Each (λ c. h c ≡ f c) cs → gap_bytes h may cs ≡ gap_bytes f may cs
 gap_same may each_none = refl
 gap_same {h} {f} may (each_more {d = c} {ds = cs} e more) =
@@ -218,7 +218,7 @@ closed_is r text line trails body column blank follow may met passed first marks
     ∙ ap (λ w. with_line (all_passed w))
     (own_is r.trailing h passed (between passed (min met (length r.comments)) r.comments) (on_row text column line trails body blank follow met passed may first marks bs bodyless))
 
--- what is printed at the end is the same where the line has been printed already
+-- the end prints the same text if the line is already printed
 closing : (r : Remarks) (t : Span → List ℕ) (rows : List Row) (d e : Draft) → closed r d ≡ e → closed r e ≡ e
     → finished r (fed r t rows d) ≡ finished r (fed r t rows e)
 closing r t [] d e h k = ap (λ w. (met_lines r 0 (all_met r w)).text) (h ∙ sym k)
@@ -261,7 +261,7 @@ comments_left r g h before text p l same =
     ∙ (sym (append-nil (gap_bytes (λ c. g c 0) (may_be_blank_after before) cs))
     ∙ (sym (gap_law g before 0 cs []) ∙ ap (bytes_after before) (append-nil (map (comment_line g 0) cs)))))
 
--- text, comments, a row, and what is after them
+-- text, comments, a row, and what follows them
 row_after : (g : Columns) (before : Ending) (text : List ℕ) (column : ℕ) (mine : List CommentValue) (l : Line) (rest : List Line) (bytes : List ℕ)
     → bytes ≡ line_bytes l
     → ((text ++ gap_bytes (λ c. g c column) (may_be_blank_after before) mine)
@@ -326,7 +326,7 @@ fed_bytes c r g a (row ∷ rows) before text column blank follow p bs bodyless l
     ∙ (ap (λ w. ((text ++ w) ++ (blank_text (row.blank_before && may_after may mine) ++ bytes)) ++ bytes_after row.ending (lines_of g c others rows)) (gap_same may columns)
     ∙ row_after g before text row.column mine (row_line c row) (lines_of g c others rows) bytes (row_law c row)))))
 
--- a layout is its rows, added to nothing, where the comments that do not trail are those that it has on lines of their own
+-- a layout is its rows, added to an empty draft, if the comments that do not trail are those on lines of their own
 pub layout_fed : (t : List ℕ) (m : Lists) (s : Style) (trees : List DocumentTree) (marks : List Bool) → ascend m.comments ≡ true
     → left marks 0 m.comments ≡ own_line_comments (source_of m (rows_of m s trees)) (rows_of m s trees)
     → finished (remarks t s m.comments marks) (fed (remarks t s m.comments marks) (trail (source_of m (rows_of m s trees))) (rows_of m s trees) no_draft)

@@ -15,7 +15,7 @@ abbrev pub ascend : List CommentValue → Bool
 ascend [] = true
 ascend (c ∷ cs) = list_all (λ d. nat_le c.offset d.offset) cs && ascend cs
 
--- those that do not trail, where the first one is the one at that index
+-- the comments that do not trail; the first comment has that index
 abbrev pub left : List Bool → ℕ → List CommentValue → List CommentValue
 left trailing k [] = []
 left trailing k (c ∷ cs) = if get_or trailing k false then left trailing (k + 1) cs else c ∷ left trailing (k + 1) cs
@@ -23,7 +23,7 @@ left trailing k (c ∷ cs) = if get_or trailing k false then left trailing (k + 
 abbrev pub precedes : List ℕ → CommentValue → Bool
 precedes items c = list_any (λ item. nat_lt c.offset item) items
 
--- how many are before one of these offsets, up to the first that does not, where each offset is looked for from the last on
+-- the number of comments that the offsets count off: each in turn those at the front that are before it
 abbrev pub counted : List ℕ → List CommentValue → ℕ
 counted [] cs = 0
 counted (o ∷ os) cs = count_to o cs + counted os (drop (count_to o cs) cs)
@@ -78,7 +78,7 @@ ascend_rest zero cs a = a
 ascend_rest (suc n) [] a = refl
 ascend_rest (suc n) (c ∷ cs) a = ascend_rest n cs (and_parts (list_all (λ d. nat_le c.offset d.offset) cs) (ascend cs) a).1
 
--- what is left of those before an offset precedes it, and of those from it on only what precedes another item
+-- The comments left among those before an offset precede it; the others precede only another item.
 
 all_precede : (o : ℕ) (os : List ℕ) (trailing : List Bool) (k : ℕ) (cs : List CommentValue) → before o cs ≡ true
     → filter (precedes (o ∷ os)) (left trailing k cs) ≡ left trailing k cs
@@ -109,7 +109,7 @@ none_stays o os trailing k (c ∷ cs) a = by (get_or trailing k false) (none_sta
       ap (λ w. if not (w || precedes os c) then c ∷ filter (λ c. not (precedes (o ∷ os) c)) (left trailing (k + 1) cs) else filter (λ c. not (precedes (o ∷ os) c)) (left trailing (k + 1) cs)) parts.0
       ∙ h
 
--- a test of those from an offset on that looks at other items alone
+-- for comments from an offset on, a test depends only on the other items
 as_others : (o : ℕ) (os : List ℕ) (f : Bool → Bool) (trailing : List Bool) (k : ℕ) (cs : List CommentValue) → from_on o cs ≡ true
     → filter (λ c. f (precedes (o ∷ os) c)) (left trailing k cs) ≡ filter (λ c. f (precedes os c)) (left trailing k cs)
 as_others o os f trailing k [] a = refl
@@ -161,7 +161,7 @@ take_sum (suc n) m [] = let e : suc n + m ≡ suc (n + m) = omega arith in ap (�
   none (suc m) = refl
 take_sum (suc n) m (c ∷ cs) = let e : suc n + m ≡ suc (n + m) = omega arith in ap (λ w. take w (c ∷ cs)) e ∙ ap (λ w. c ∷ w) (take_sum n m cs)
 
--- Of comments that ascend, those that an item follows are the first so many, and the others stay.
+-- Of ascending comments, those followed by an item come first, and the others stay.
 
 pub first_ones : (items : List ℕ) (trailing : List Bool) (k : ℕ) (cs : List CommentValue) → ascend cs ≡ true
     → filter (precedes items) (left trailing k cs) ≡ left trailing k (take (counted items cs) cs)

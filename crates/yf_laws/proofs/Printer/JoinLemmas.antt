@@ -1,4 +1,4 @@
--- Rows on the line that is being made, and rows whose first one is joined to a row.
+-- Rows on the current line, and rows whose first one is joined to a row.
 use Rattle.std.proofs.Common.{◌≡◌, ℕ, Bool, true, false, ◌&&◌, List, [], ◌∷◌, ◌++◌, flat_map, replicate, Option, Some, None, refl, sym, ap, ◌∙◌, append_assoc, append-nil}
 use Rattle.std.proofs.lemmas.Grind.{flat_map-append}
 use Rattle.yf_comments.specs.Comment.{CommentValue}
@@ -15,12 +15,12 @@ use Rattle.yf_laws.proofs.Printer.ColumnsFed.{leaves_marked, starts_marked}
 use Rattle.yf_laws.proofs.Printer.FedLemmas.{all_past, fed, key_text, with_row}
 use Rattle.yf_forms.proofs.Measure.SumLemmas.{true_right}
 
--- rows of which the first one goes on the line that is being made
+-- rows, the first of which goes on the current line
 abbrev pub fed_on : Remarks → (Span → List ℕ) → List Row → Draft → Draft
 fed_on r t [] d = d
 fed_on r t (row ∷ rows) d = fed r t rows (with_row r t row d)
 
--- the same after so many spaces, where there is a row
+-- and after that many spaces, if there are rows
 abbrev pub fed_after : Remarks → (Span → List ℕ) → ℕ → List Row → Draft → Draft
 fed_after r t n [] d = d
 fed_after r t n (row ∷ rows) d = fed r t rows (with_row r t row (with_text (replicate n 32) d))
@@ -37,7 +37,7 @@ pub past_append : (cs : List CommentValue) (xs ys : List ℕ) (d : Draft) → al
 past_append cs [] ys d = refl
 past_append cs (x ∷ xs) ys d = past_append cs xs ys (past cs x d)
 
--- what is met has nothing to do with what is on the line
+-- passing items doesn't depend on the line
 abbrev pub edited : List ℕ → List ℕ → List ℕ → Bool → LineMarks → Draft → Draft
 edited line trails body follow marks d = record d { line = line; trails = trails; body = body; may_follow = follow; marks = marks }
 
@@ -96,7 +96,7 @@ pub record IsHead (row : Row) : Type 0 where
   pub body : row.body ≡ []
   pub ending : row.ending ≡ anywhere
 
--- a head alone
+-- only a head
 pub head_is : (r : Remarks) (t : Span → List ℕ) (head : Row) (d : Draft) → IsHead head
     → with_row r t head d ≡ edited (d.line ++ head.text) (d.trails ++ flat_map t head.leaves) d.body d.may_follow (row_marks r head d.marks) (all_past r.comments head.items d)
 head_is r t head d h =
@@ -156,7 +156,7 @@ pub joined_on : (r : Remarks) (t : Span → List ℕ) (head : Row) (n : ℕ) (ro
 joined_on r t head n [] d h = refl
 joined_on r t head n (row ∷ rows) d h = ap (fed r t rows) (joined_is r t head n row d h)
 
--- What is before a node in an entry is the row that the entry begins.
+-- The text before a node in an entry is the row that the entry begins.
 
 sign_on : (g : Work) (t : Span → List ℕ) (column : ℕ) (text : List ℕ) (x : Node) (d : Draft)
     → with_row (remarks_of g) t (entry_row column text x) d

@@ -1,4 +1,5 @@
--- The text that is printed of a normal form is its layout, and the comments that are found to trail are those of the layout.
+-- The text printed for a normal form is its layout, and the comments that the pass finds to trail are those of the
+-- layout.
 use Rattle.std.proofs.Common.{◌≡◌, ℕ, ◌≤◌, ◌+◌, List, [], refl, sym, ◌∙◌, subst, arith}
 use Rattle.std.specs.Prelude.{◌-◌, ◌*◌, ◌^◌}
 use Rattle.yf_events.specs.Tree.{DocumentTree, TreesOf}
@@ -48,7 +49,7 @@ trails_are m ms fs g e = record {
 room : 8 * DEPTH + 8 ≤ 2 ^ 64 - 1
 room = let e : DEPTH ≡ 1024 = refl in omega (arith, e)
 
--- what is printed with these forms is the layout, where the measures say of each node where it ends and which is its first leaf
+-- the text printed with these forms is the layout, if the measures give each node's end and first leaf
 pub printed_lays_out : (t : List ℕ) (m : Lists) (s : Style) (ms : List Measure) (fs : List Form) → NormalForm m s → (ds : List DocumentTree) → TreesOf m ds
     → MeasuresTell m.events ms → fs ≡ stream_forms [] (setting s []) (setting_of m s) ds → printed (work_of t m s ms fs (all_found m ms fs)) ≡ layout t m s ds
 printed_lays_out t m s ms fs f ds a told forms =

@@ -1,4 +1,4 @@
--- What the pass of the printer prints of a stream of normal forms is its layout, where the comments that trail are those of the layout.
+-- The printer's pass prints the layout of a stream of normal forms, if the comments that trail are those of the layout.
 use Rattle.std.proofs.Common.{◌≡◌, ℕ, ◌+◌, ◌≤◌, true, List, [], length, flat_map, get_or, None, refl, ap, ◌∙◌}
 use Rattle.std.specs.Prelude.{◌-◌, ◌*◌, ◌^◌}
 use Rattle.yf_events.specs.Tree.{DocumentTree, TreesOf}

@@ -1,4 +1,4 @@
--- What a leaf, or a flow collection on one line, adds is its row: on the line that is being made, after spaces, or on a line of its own.
+-- A leaf, or a flow collection on one line, adds its row: on the current line, after spaces, or on a line of its own.
 use Rattle.std.proofs.Common.{◌≡◌, ℕ, suc, ◌+◌, ◌-◌, ◌≤◌, ◌<◌, Bool, true, false, ◌&&◌, List, [], ◌∷◌, ◌++◌, length, flat_map, drop, Option, Some, None, refl, sym, ap, ◌∙◌, arith, append_assoc, append-nil, true≢false, drop_at}
 use Rattle.yf_props.specs.Props.{PropsValue}
 use Rattle.yf_events.specs.Event.{EventInText}
@@ -28,7 +28,7 @@ use Rattle.yf_print.proofs.Pass.PrintLemmas.{stopped}
 use Rattle.yf_forms.proofs.Decide.FlagLemmas.{and_false}
 use Rattle.yf_forms.proofs.Measure.SumLemmas.{true_right}
 
--- Where rows go.
+-- Where rows are put.
 
 abbrev pub put_value : Known → Option ℕ → Bool → List Row → Draft → Draft
 put_value k None true rows d = fed (remarks_of k.work) k.trail rows (without_blank d)
@@ -49,7 +49,7 @@ with_colon_of x Printer.Role.Root d = d
 with_colon_of x (Printer.Role.After column) d = d
 with_colon_of x (Printer.Role.Value column) d = d
 
--- where a row begins a line, it is at this column
+-- if a row begins a line, it is at this column
 abbrev pub ColumnAt : ℕ → Option ℕ → Printer.Role → ℕ → Type 0
 ColumnAt indent key Printer.Role.Root n = n ≡ 0
 ColumnAt indent key (Printer.Role.After column) n = Unit {0}
@@ -77,7 +77,7 @@ row_put k f (Printer.Role.Value column) row d b c = by f.key_comment c where
 
 -- What is added.
 
--- past what is within a node, without its own entry
+-- past the content of a node, without its own entry
 pub within : (k : Known) (i last : ℕ) (e : EventInText) (tail : List EventInText) (is js : List ℕ) (ss rs : List Span) (d : Draft) → Among k.work.reading.events (e ∷ tail) i
     → last + 1 ≡ i + suc (length tail) → leaf_noted_if (is_leaf k.work i) k.work i e.span d ≡ met k is ss d → EventsPrinted k (i + 1) tail js rs
     → Printing.node_noted k.work i last e d ≡ met k (is ++ js) (ss ++ rs) d
@@ -93,7 +93,7 @@ within k i last e tail is js ss rs d a l h n =
     ∙ (stopped k.work last (i + 1 + length tail) b.after (met k js rs (met k is ss d)) past
     ∙ met_more k is js ss rs d)))
 
--- a row with a text alone
+-- a row that has only a text
 pub row_met : (k : Known) (column : ℕ) (text : List ℕ) (is : List ℕ) (ss : List Span) (d : Draft)
     → met k is ss (with_text text d) ≡ with_row (remarks_of k.work) k.trail (record (plain_row column text) { items = is; leaves = ss }) d
 row_met k column text is ss d =

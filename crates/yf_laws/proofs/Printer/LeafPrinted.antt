@@ -1,4 +1,4 @@
--- What is printed for a leaf, an empty node or a flow collection on one line are its rows, and the `:` after a key.
+-- A leaf, an empty node and a flow collection on one line are printed as their rows, with the `:` after a key.
 use Rattle.std.proofs.Common.{◌≡◌, ℕ, ◌+◌, ◌-◌, Bool, true, false, not, List, [], ◌∷◌, ◌++◌, length, map, Option, Some, None, refl, sym, ap, ◌∙◌, subst, arith, append_assoc, append-nil, true≢false}
 use Rattle.std.specs.Prelude.{is_some, if◌then◌else◌}
 use Rattle.std.proofs.lemmas.Bool.{and_parts}
@@ -40,7 +40,7 @@ use Rattle.yf_forms.proofs.Decide.ValueLemmas.{agreed, event_of}
 abbrev pub setting_in : Known → LayoutSetting
 setting_in k = setting_of k.work.reading k.work.style
 
--- What is within a node.
+-- The content of a node.
 
 abbrev pub tail_of : Node → List EventInText
 tail_of (scalar at props style text lines) = []
@@ -82,7 +82,7 @@ filled_within k i last x e end ys d h a l f t s q n =
     (noted_same k (i + 1) (ys ++ (end ∷ [])) (items_in x ++ []) (items_in x) (leaves x ++ []) (leaves x) (append-nil (items_in x)) (append-nil (leaves x))
     (noted_append k (i + 1) ys (end ∷ []) (items_in x) [] (leaves x) [] n (end_noted k (i + 1 + length ys) end s q)))
 
--- past what is in a node, whose entry was met
+-- past the content of a node whose entry is already passed
 pub node_within : (k : Known) (i last : ℕ) (x : Node) (d : Draft) → is_placed x ≡ true → keys_begin x ≡ true → Among k.work.reading.events (flat x) i
     → last + 1 ≡ i + length (flat x) → Printing.node_noted k.work i last (head_of x) d ≡ met k (items_in x) (leaves x) d
 node_within k i last (scalar at props style text lines) d h b a l =
@@ -186,7 +186,7 @@ colon_part x i Printer.Role.Key d h =
 
 -- Nodes.
 
--- a node of a normal form, whose events are from an index on
+-- a node of a normal form, whose events begin at an index
 pub record Laid (k : Known) (i : ℕ) (x : Node) : Type 0 where
   pub placed : is_placed x ≡ true
   pub begins : keys_begin x ≡ true
@@ -199,7 +199,7 @@ has_lines (scalar at props Literal text lines) = true
 has_lines (scalar at props Folded text lines) = true
 has_lines x = false
 
--- where it goes is where it is in the layout
+-- it is put where it is in the layout
 pub record IsSited (k : Known) (key : Option ℕ) (sp : Printer.Role) (margins : Margins) (x : Node) : Type 0 where
   pub column : ColumnAt k.work.style.indent key sp margins.column
   pub lines : has_lines x ≡ true → lines_column k.work.style.indent sp ≡ margins.lines
@@ -263,7 +263,7 @@ block_printed k i f sp margins at props style text lines d l s n b t w =
     ∙ (node_within k i (measure k i x).last x _ l.placed l.begins l.among (last_of_node i x)
     ∙ (block_met k margins x props style text lines sp before w (s.lines b) ∙ row_put k f sp row d refl s.column)))
 
--- an empty node, and a plain one that has properties alone
+-- an empty node, and a plain one that has only properties
 plain_printed : (k : Known) (i : ℕ) (f : Form) (sp : Printer.Role) (margins : Margins) (at : NodeOffsets) (props : PropsValue) (lines : List (List ℕ)) (d : Draft)
     → Laid k i (scalar at props Plain [] lines) → IsSited k f.key_comment sp margins (scalar at props Plain [] lines) → Printed k i f sp margins (scalar at props Plain [] lines) d
 plain_printed k i f sp margins at props lines d l s = by (props_text props) refl where
@@ -327,7 +327,7 @@ text_printed k i f sp margins (mapping at true props (pair x y ps)) d l s b =
 text_printed k i f sp margins (mapping at false props no_pairs) d l s b = absurd (true≢false (same_flag_of_map l.house))
 text_printed k i f sp margins (mapping at false props (pair x y ps)) d l s b = absurd (true≢false b)
 
--- what is printed for a node that is no block collection
+-- the text printed for a node that isn't a block collection
 pub leaf_printed : (k : Known) (i : ℕ) (f : Form) (sp : Printer.Role) (margins : Margins) (x : Node) (d : Draft) → Laid k i x → IsSited k f.key_comment sp margins x
     → is_block_collection x ≡ false
     → Printing.leaf k.work i (measure k i x) f (head_of x) sp d ≡ with_colon_of x sp (put k f.key_comment false sp (rows (setting_in k) margins x) d)

@@ -1,4 +1,5 @@
--- What the printer and the search for comments that trail ask of measures: where a node ends, and which leaf with characters is its first.
+-- What the printer and the search for trailing comments use of measures: the end of a node, and its first leaf with
+-- characters.
 use Rattle.std.proofs.Common.{◌≡◌, ℕ, zero, suc, ◌+◌, Bool, true, false, List, [], ◌∷◌, map, length, get_or, None, refl, sym, ap, ◌∙◌}
 use Rattle.std.specs.Prelude.{◌-◌, is_some}
 use Rattle.std.proofs.lemmas.Option.{get_or_from_slice_get}
@@ -19,7 +20,7 @@ use Rattle.yf_print.specs.Passes.PrintPass as Printing
 use Rattle.yf_print.specs.Passes.PrintPass.{PrintState}
 use Rattle.yf_print.specs.Passes.PrintWork.{Work}
 
--- what is asked of a measure
+-- the fields of a measure that are used
 abbrev pub asked : Measure → Measure
 asked m = record { last = m.last; width = None; can_be_kept = false; first_leaf = m.first_leaf; last_leaf = None }
 
@@ -41,13 +42,13 @@ asked_at [] i = refl
 asked_at (m ∷ ms) zero = refl
 asked_at (m ∷ ms) (suc i) = asked_at ms i
 
--- so does another list of which the same is asked
+-- another list with equal used fields has this property too
 pub told_alike : {es : List EventInText} {ms ns : List Measure} → map asked ms ≡ map asked ns → MeasuresTell es ns → MeasuresTell es ms
 told_alike {es} {ms} {ns} e told = record {
   each = λ i x n. sym (asked_at ms i) ∙ (ap (λ w. get_or w i no_measure) e ∙ (asked_at ns i ∙ told.each i x n));
 }
 
--- The printer asks nothing else.
+-- The printer uses nothing else.
 
 text_asks : (b : Bool) (g : Work) (i : ℕ) (m : Measure) (f : Form) (e : EventInText) (sp : Role) (d : Draft)
     → Printing.text_if b g i m f e sp d ≡ Printing.text_if b g i (asked m) f e sp d

@@ -25,7 +25,7 @@ use Rattle.yf_forms.proofs.Decide.LeafLemmas.{is_own_leaf}
 use Rattle.yf_laws.proofs.Printer.MeasureFacts.{MeasuresTell, asked, asked_of}
 use Rattle.yf_print.proofs.Pass.PrintLemmas.{at_most}
 
--- what the pass looks at, with what is asked of the measures of a reading, and what trails each leaf
+-- the input of the pass, with the used fields of the measures of a reading, and what trails each leaf
 pub record Known : Type 0 where
   pub work : Work
   pub trail : Span → List ℕ
@@ -73,7 +73,7 @@ leaf_there k i x h n = ap (λ w. Deciding.is_leaf_at i w.first_leaf) (measure_th
 
 -- Events.
 
--- past these events, the first of which is the one at that index
+-- past these events, the first of which has that index
 pub record EventsPrinted (k : Known) (j : ℕ) (ys : List EventInText) (items : List ℕ) (spans : List Span) : Type 0 where
   pub noted : (last : ℕ) (rest : List EventInText) (d : Draft) → j + length ys ≤ last + 1
       → events_noted k.work last j (ys ++ rest) d ≡ events_noted k.work last (j + length ys) rest (met k items spans d)
@@ -120,7 +120,7 @@ entry_is : (k : Known) (o : Option Entry) (d : Draft) → entry_met k.work o d �
 entry_is k None d = sym (met_nothing k d)
 entry_is k (Some e) d = ap (λ w. all_past k.work.reading.comments (e.start ∷ []) w) (sym (met_nothing k d))
 
--- an event that begins no node stands for no text
+-- an event that begins no node has no text
 pub end_noted : (k : Known) (j : ℕ) (e : EventInText) → e.span ≡ None → e.entry ≡ None → EventsPrinted k j (e ∷ []) [] []
 end_noted k j e s n = noted_event k j e [] [] (λ d. ap (λ o. leaf_noted_if (is_leaf k.work j) k.work j o (entry_met k.work e.entry d)) s
     ∙ (by (is_leaf k.work j) (entry_met k.work e.entry d) ∙ (ap (λ o. entry_met k.work o d) n ∙ sym (met_nothing k d)))) where

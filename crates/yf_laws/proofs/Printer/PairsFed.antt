@@ -1,4 +1,4 @@
--- What is printed of a key and its value are the rows of the pair.
+-- The rows of a pair are printed for a key and its value.
 use Rattle.std.proofs.Common.{◌≡◌, ℕ, ◌-◌, Bool, true, false, ◌&&◌, List, [], ◌∷◌, codes, Option, Some, None, refl, sym, ap, ◌∙◌}
 use Rattle.std.specs.Prelude.{◌||◌, is_some, nat_lt, option_map, suc, find, if◌then◌else◌}
 use Rattle.yf_comments.specs.Comment.{CommentValue}
@@ -23,7 +23,7 @@ use Rattle.yf_laws.proofs.Printer.LeafPrinted.{setting_in}
 use Rattle.yf_laws.proofs.Printer.NotedLemmas.{Known}
 use Rattle.yf_laws.proofs.Printer.SignLemmas.{colon_fed}
 
--- The comment at the index of the one that trails a key is that comment.
+-- The comment at the index of the comment that trails a key is that comment.
 
 found_text : (p : CommentValue → Bool) (cs : List CommentValue) → trailing_if cs (first_index p cs) ≡ key_text (find p cs)
 found_text p [] = refl

@@ -28,7 +28,7 @@ use Rattle.yf_laws.proofs.Printer.MeasureFacts.{asked, same_asked}
 use Rattle.yf_forms.proofs.Texts.OneLineRuns.{flat_filled}
 use Rattle.yf_laws.proofs.Printer.Reaching.{Part, Reaches, first_form, reaches_same, reaches_whole}
 
--- so many collections are open at once in a node, or fewer
+-- at most that many collections are open at once in a node
 abbrev mutual
   pub nests : ℕ → Node → Bool
   nests n (scalar at props style text lines) = true
@@ -46,7 +46,7 @@ abbrev mutual
   pairs_nest n no_pairs = true
   pairs_nest n (pair k v ps) = nests n k && (nests n v && pairs_nest n ps)
 
--- a node at its site, where the collections around it are open
+-- a node at its site, with the collections around it open
 abbrev pub form : Known → Site → Node → Form
 form k site x = form_of k.work.style site x
 
@@ -62,7 +62,7 @@ pub record At (k : Known) (i n : ℕ) (site : Site) (x : Node) (levels : List Pr
   pub nests : nests n x ≡ true
   pub room : site.margins.entries + 8 * n + 8 ≤ 2 ^ 64 - 1
 
--- what is printed then
+-- the resulting draft
 abbrev pub node_draft : Known → Site → Node → List PrintFrame → Draft → Draft
 node_draft k site x levels d =
     with_colon_of x (role_of k site x levels)

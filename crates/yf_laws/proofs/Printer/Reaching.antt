@@ -1,4 +1,4 @@
--- How far the pass of the printer comes over some events: what is printed then, and which collections are open.
+-- The state of the printer's pass after some events: the printed text, and the open collections.
 use Rattle.std.proofs.Common.{◌≡◌, ℕ, suc, ◌+◌, ◌<◌, List, [], ◌∷◌, ◌++◌, length, get_or, refl, sym, ap, ◌∙◌, arith, append_assoc}
 use Rattle.std.specs.Prelude.{if◌then◌else◌}
 use Rattle.std.proofs.lemmas.List.{length-append}
@@ -18,7 +18,7 @@ pub record PrinterAt (g : Work) (i : ℕ) (ys : List EventInText) (docs : ℕ) (
   pub within : done < i + length ys
   pub is : pass g i ys w ≡ state e follows docs done
 
--- from one draft and stack to another, where the events that need no look are before these
+-- from one draft and stack to another, if the events that are skipped are before these
 pub record Reaches (g : Work) (i : ℕ) (ys : List EventInText) (docs : ℕ) (d e : Draft) (levels follows : List PrintFrame) : Type 0 where
   pub goes : (p : ℕ) → p < i → PrinterAt g i ys docs (state d levels docs p) e follows
 

@@ -15,7 +15,7 @@ use Rattle.yf_forms.specs.NormalForms.Restyled.{SameButStyles, none_left, one_mo
 use Rattle.yf_forms.specs.Nodes.ScalarStyles.{wanted}
 use Rattle.yf_laws.proofs.Printer.MeasureFacts.{asked}
 
--- open collections that began at the same index, hold a node or none, and have the same first leaf
+-- open collections that began at the same index, both hold a node or neither does, and have equal first leaves
 data AlikeOpen : List Open → List Open → Type 0 where
   none_open : AlikeOpen [] []
   one_open : {o p : Open} {os ps : List Open} → o.start ≡ p.start → o.is_empty ≡ p.is_empty → o.first_leaf ≡ p.first_leaf → AlikeOpen os ps

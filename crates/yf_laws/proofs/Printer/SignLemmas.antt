@@ -1,4 +1,4 @@
--- What is before a node is a row with its sign; what a leaf adds is a row with its text.
+-- A row with a sign is printed before a node; a leaf adds a row with its text.
 use Rattle.std.proofs.Common.{◌≡◌, ℕ, Bool, false, List, [], ◌∷◌, ◌++◌, Option, Some, None, refl, sym, ap, ◌∙◌, append-nil}
 use Rattle.std.specs.Prelude.{codes, option_to_list}
 use Rattle.yf_events.specs.Tree.{Node, entry_start, standing, starts_of_entry}

@@ -55,7 +55,7 @@ lines_fed g t (x ∷ xs) d =
     ∙ ap (fed (remarks_of g) t (map directive_row xs ++ (start_row ∷ [])))
     (sym (sign_added g t 0 (37 ∷ joined_words x.words) [] false (opened (remarks_of g) 0 d)))
 
--- where the document begins on the first of these lines
+-- if the document begins on the first of these lines
 first_fed : (g : Work) (t : Span → List ℕ) (start : ℕ) (xs : List Directive) (d : Draft)
     → marked (directive_lines g xs (past g.reading.comments start (next_line g 0 d)))
     ≡ fed (remarks_of g) t (beginning_at start (map directive_row xs ++ (start_row ∷ []))) d

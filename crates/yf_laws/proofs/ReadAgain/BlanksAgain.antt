@@ -1,4 +1,4 @@
--- In each reading of what formatting gives the notes on blank lines are those of the blank lines that were printed.
+-- In each reading of a formatted text the notes on blank lines are those of the blank lines that were printed.
 use Rattle.std.proofs.Common.{◌≡◌, ℕ, ◌+◌, ◌<◌, Bool, false, List, [], ◌∷◌, ◌++◌, flat_map, length, refl, sym, ap, ◌∙◌, subst, arith, add-zero}
 use Rattle.std.specs.Prelude.{filter}
 use Rattle.std.specs.Str.{IsUtf8}
@@ -68,7 +68,7 @@ first_found g {t} {es} {line} {gap = gap} {firsts = firsts} {own = own} {z = z} 
     subst (λ w. Blanks t false false w own b) (sym shape)
     (gap_noted g at_text_start column hs a u (subst (λ w. GapIsAt t 0 w firsts line) shape is_there) text_begins (omega arith) (λ w. let l = since_later w in omega (arith, l)) over k s head)
 
--- what is at the first row
+-- the head of the first row
 head_of : {t : List ℕ} {f i j : ℕ} {ps : List PlacedRow} {x : Row} {xs ys : List Row} {ds : List Deco} {cs : List CommentValue} {r : List ℕ} {gs : List ℕ} → RowsIn t (x ∷ xs) ps ds i cs j r → RowNotes t f ps (x ∷ xs) ys gs
     → HeadNote t f i x.blank_before (first_blank ys)
 head_of {t} {f} rows (note_kept {x = x} {y = y} h e a) = subst (λ z. HeadNote t f z x.blank_before y.blank_before) (rows_from rows) h

@@ -1,4 +1,4 @@
--- The comments after each row of a text that was laid out, and what is on the next row, carry the notes whether a blank line was printed before them.
+-- The comments after each row of a laid-out text, and the next row, note whether a blank line was printed before them.
 use Rattle.std.proofs.Common.{◌≡◌, ℕ, zero, suc, ◌+◌, ◌<◌, ◌≤◌, Bool, false, List, [], ◌∷◌, ◌++◌, drop, length, refl, sym, ap, ◌∙◌, subst, arith, append-nil}
 use Rattle.std.proofs.lemmas.List.{length-map}
 use Rattle.std.specs.Prelude.{filter}
@@ -119,7 +119,7 @@ ends_over {f = f} (row_before {x = x} {y = next} {xs = xs} at end w more) (note_
 
 -- One row.
 
--- f is the floor for what is after it
+-- f is the floor for what follows it
 record Floored (t : List ℕ) (es : List EventInText) (f gap place : ℕ) : Type 0 where
   low : f ≤ gap
   none : BlankSince t f gap → ⊥

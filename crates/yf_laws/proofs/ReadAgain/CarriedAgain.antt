@@ -1,4 +1,4 @@
--- The comments that are found after each row of a text that was laid out are carried by the same rows of its reading.
+-- The comments that are found after each row of a laid-out text are carried by the same rows of its reading.
 use Rattle.std.proofs.Common.{◌≡◌, ℕ, ◌+◌, ◌<◌, ◌≤◌, Bool, true, false, List, [], ◌∷◌, ◌++◌, drop, flat_map, length, refl, sym, ap, ◌∙◌, subst, arith, append_assoc, append-nil}
 use Rattle.std.specs.Prelude.{nat_lt}
 use Rattle.std.specs.List.{list_any}
@@ -39,18 +39,19 @@ all_standing [] owns = []
 all_standing (d ∷ ds) [] = []
 all_standing (d ∷ ds) (own ∷ owns) = standing_of d own ++ all_standing ds owns
 
--- A comment trails where one did: it is the first of the text after what begins on the row.
+-- A comment trails if one did when the row was laid out: the first comment after the items of the row.
 pub data TrailTied (c : Source) (cs : List CommentValue) (row : Row) (p : PlacedRow) (d : Deco) : Type 0 where
   nothing_trails : trailing c row ≡ [] → d.trails ≡ [] → TrailTied c cs row p d
   first_trails : (e : CommentValue) (x : List ℕ) → trailing c row ≡ e ∷ [] → d.trails ≡ x ∷ [] → trimmed x ≡ x → In e cs → p.upto ≤ e.offset → ((b : CommentValue) → In b cs → p.upto ≤ b.offset → e.offset ≤ b.offset)
       → TrailTied c cs row p d
 
--- the items of a row are where the row is, or no comment is between; before a row without items no comment was laid out on a line of its own
+-- a cut at or after the start of the row parts the comments that precede its items from the others; before a row
+-- without items no comment was laid out on a line of its own
 pub data NextTied (cs : List CommentValue) (next : Row) (o : PlacedRow) (d : Deco) : Type 0 where
   bare_next : next.items ≡ [] → remarks_of d.gap ≡ [] → NextTied cs next o d
   items_next : (cut : ℕ) → ((b : CommentValue) → precedes_item next b ≡ nat_lt b.offset cut) → ((b : CommentValue) → b.offset < o.from → is_before_first next.items b.offset ≡ true) → o.from ≤ cut → ((b : CommentValue) → In b cs → o.upto ≤ b.offset → cut ≤ b.offset) → NextTied cs next o d
 
--- rows of a reading with the comments cs, where the rows with what they carry are
+-- rows of a reading with the comments cs, at the rows with what they carry
 pub data Tied (t : List ℕ) (g : Columns) (c : Source) (cs : List CommentValue) : List Row → List PlacedRow → List Deco → List (List CommentValue) → Type 0 where
   last_tied : {row : Row} {p : PlacedRow} {d : Deco} {own : List CommentValue} (hs : List CommentValue) → TrailTied c cs row p d → d.gap ≡ gap_with g row.ending 0 hs false
       → Blanks t (may_be_blank_after row.ending) false d.gap (standing_of d own) false → Tied t g c cs (row ∷ []) (p ∷ []) (d ∷ []) (own ∷ [])
@@ -141,7 +142,7 @@ next_apart {next = next} here left (bare_next e f) g l u v =
     record { first = subst (λ z. Each (λ d. is_before_first next.items d.offset ≡ true) z) (sym (g f)) each_none; before = subst (λ z. Each (λ d. precedes_item next d ≡ true) z) (sym (g f)) each_none; follows = every (λ d. ap (λ z. list_any (λ i. nat_lt d.offset i) z) e) left }
 next_apart {next = next} here left (items_next cut f h l m) g n u v = record { first = each_map (λ d i z. h d (omega (arith, n, z))) u; before = each_less next f (omega (arith, l, n)) u; follows = each_not {k = cut} next f (omega arith) (v cut m) }
 
--- what follows is from a cut on
+-- what follows begins at or after a cut
 pub cut_over : {ts hs all cs : List CommentValue} {upto : ℕ} (before : List CommentValue) → cs ≡ before ++ all → Merged ts hs all → Over upto all → (cut : ℕ) → ((b : CommentValue) → In b cs → upto ≤ b.offset → cut ≤ b.offset) → Over cut hs
 cut_over {cs = cs} before e m a cut f = standing_over m (each_map (λ b i l. f b (subst (λ z. In b z) (sym e) (in_after before i)) l) a)
 

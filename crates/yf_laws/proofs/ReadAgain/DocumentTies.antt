@@ -87,7 +87,7 @@ no_texts : (own : List CommentValue) → texts own ≡ [] → own ≡ []
 no_texts [] e = refl
 no_texts (c ∷ cs) e = absurd cc
 
--- where no comment is between them
+-- if no comment is between them
 record FreeTo (cs : List CommentValue) (start : ℕ) (p : PlacedRow) : Type 0 where
   from : p.from ≤ start
   free : (b : CommentValue) → In b cs → p.from ≤ b.offset → start ≤ b.offset
@@ -195,7 +195,7 @@ stream_ties {s = s} {ms = ms} {cs = cs} {is_first = is_first} (y ∷ ys) (one_ro
     (head_ties is_first f.start d.start f.directives d.directives words h (left_apart hs bs ax fs gs fx heads inner qs left)
     (λ further. node_ties bs gs inner (same_block_rows s (root_margins s) alike) (node_marks cs (root_margins s) refl alike (rows_renoted y.root root r)) further (λ last. stream_ties ys more rest others last)))
 
--- where the first document is without a `---`
+-- if the first document has no `---`
 
 abbrev begun_marks : ℕ → List Mark → List Mark
 begun_marks start [] = []

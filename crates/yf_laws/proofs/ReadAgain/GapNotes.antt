@@ -1,4 +1,4 @@
--- Each comment of a gap, as it is in a text, and what is after it carry the note whether a blank line was printed before them.
+-- Each comment of a gap in a text, and what follows the gap, note whether a blank line was printed before them.
 use Rattle.std.proofs.Common.{Some, zero-add, ◌≡◌, ℕ, zero, suc, ◌+◌, ◌≤◌, Bool, true, false, List, [], ◌∷◌, ◌++◌, refl, sym, ap, ◌∙◌, subst, arith, add-zero}
 use Rattle.std.specs.Prelude.{◌&&◌}
 use Rattle.std.specs.Str.{IsUtf8}
@@ -31,8 +31,8 @@ pub data NotedOver (t : List ℕ) (f : ℕ) : List CommentValue → List Comment
   none_over : NotedOver t f [] []
   one_over : {c : CommentValue} {cs ns : List CommentValue} {b : Bool} → NotedSince t f c.offset b → NotedOver t f cs ns → NotedOver t f (c ∷ cs) (record c { blank_before = b } ∷ ns)
 
--- of a row that was laid out and the same row as it is found at q, whether a blank line is before each: of the latter as it is noted, where it
--- begins with an entry, and else of neither
+-- for a laid-out row and the row found for it at q, whether a blank line is before each: for the found row as noted if
+-- it begins with an entry, and otherwise for neither
 pub data HeadNote (t : List ℕ) (f q : ℕ) : Bool → Bool → Type 0 where
   bare_head : HeadNote t f q false false
   entry_head : {a b : Bool} → NotedSince t f q b → HeadNote t f q a b

@@ -1,5 +1,5 @@
--- The lines of a gap that was laid out are laid out again, where each comment in it, and what is after it, carries the note whether a blank line
--- is before it.
+-- The lines of a laid-out gap are laid out again, if each comment in it, and what follows it, notes whether a blank
+-- line is before it.
 use Rattle.std.proofs.Common.{◌≡◌, ℕ, Bool, true, false, List, [], ◌∷◌, ◌++◌, Some, refl, sym, ap, ◌∙◌, subst, append_assoc, append-nil}
 use Rattle.std.specs.Prelude.{◌&&◌, if◌then◌else◌}
 use Rattle.std.specs.List.{list_all}
@@ -15,7 +15,7 @@ use Rattle.yf_laws.proofs.SameReading.CommentsCut.{Each, each_at, each_rest, in_
 use Rattle.yf_laws.proofs.OutputLines.ColumnsHold.{GapHolds, blank_holds, remark_holds}
 use Rattle.yf_laws.proofs.OutputLines.GapSpread.{any_after}
 
--- a text without the white space that ends it stays what it is
+-- whether a text is white space doesn't depend on the white space at its end
 whites_left : (x : List ℕ) → list_all is_white (trimmed x) ≡ list_all is_white x
 whites_left [] = refl
 whites_left (b ∷ bs) = go (is_white b && list_all is_white bs) refl (whites_left bs) where
@@ -32,8 +32,8 @@ trimmed_twice (b ∷ bs) = go (is_white b && list_all is_white bs) refl (trimmed
       ap (λ z. if is_white b && z then [] else b ∷ trimmed (trimmed bs)) (whites_left bs)
       ∙ (ap (λ z. if z then [] else b ∷ trimmed (trimmed bs)) e ∙ ap (λ z. b ∷ z) f)
 
--- the lines of a gap, the comments that are found on them in the text t, each at its column, and the note of what is after it. may: whether a blank line
--- may be there; is: whether one is directly before
+-- the lines of a gap, the comments found on them in the text t, each at its column, and the note of what follows. may:
+-- whether a blank line is allowed there; is: whether one is directly before
 pub data Blanks (t : List ℕ) : Bool → Bool → List GapLine → List CommentValue → Bool → Type 0 where
   gap_ends : {may is b : Bool} → b ≡ is → Blanks t may is [] [] b
   gap_blank : {may b : Bool} {gs : List GapLine} {cs : List CommentValue} → Blanks t may true gs cs b → Blanks t may false (blank ∷ gs) cs b
@@ -84,7 +84,7 @@ past_blank false gs h = h
 first_holds : {P : ℕ → Type 0} {column : ℕ} {text : List ℕ} {gs : List GapLine} → GapHolds P (remark column text ∷ gs) → P column × GapHolds P gs
 first_holds (remark_holds p h) = (p, h)
 
--- where what holds of each column in the gap makes the columns of what is found there the same
+-- if the condition on each column in the gap makes the columns of the comments found there equal
 pub gap_again : {t : List ℕ} {P : ℕ → Type 0} (g f : Columns) (e : Ending) (column : ℕ) (cs : List CommentValue) (a : Bool) {b : Bool} {rest : List CommentValue} → Blanks t (may_be_blank_after e) false (gap_with g e column cs a) rest b
     → GapHolds P (gap_with g e column cs a) → Each (λ c. (k : ℕ) → own_column t c.offset ≡ Some k → P k → f c column ≡ k) rest → gap_with f e column rest b ≡ gap_with g e column cs a
 gap_again g f e column [] a {b} w h each =
@@ -104,7 +104,7 @@ gap_again {t} {P} g f e column (c ∷ cs) a {b} {rest} w h each =
     ∙ (ap (λ z. blank_if (may_be_blank_after e && c.blank_before) ++ (remark (g c column) (trimmed c.text) ∷ z)) (gap_again g f anywhere column cs a r.more holds.1 (each_rest all))
     ∙ sym (gap_more g e column c cs a))))))
 
--- where no row follows
+-- if no row follows
 pub gap_at_end : (g : Columns) (e : Ending) (cs : List CommentValue) → gap_of g e cs [] ≡ gap_with g e 0 cs false
 gap_at_end g e cs = sym (append-nil (remarks_after g e 0 cs)) ∙ ap (λ z. remarks_after g e 0 cs ++ blank_if z) (sym (never (may_be_blank_after (ending_after e cs)))) where
   never : (b : Bool) → (b && false) ≡ false

@@ -1,4 +1,4 @@
--- Where the lines of a gap are in a text, each comment at its offset; no blank line is before what follows a comment.
+-- The lines of a gap in a text, each comment at its offset; no blank line is before what follows a comment.
 use Rattle.std.proofs.Common.{Some, ◌≡◌, ℕ, suc, ◌+◌, ◌<◌, ◌≤◌, false, true≢false, ⊎_elim, List, [], ◌∷◌, ◌++◌, length, refl, sym, ap, ◌∙◌, subst, arith}
 use Rattle.std.proofs.lemmas.Bool.{cases_eq}
 use Rattle.std.specs.Str.{IsUtf8}

@@ -1,4 +1,4 @@
--- The rows of the documents of a reading of what formatting gives carry its notes on blank lines.
+-- The rows of the documents of a reading of a formatted text carry its notes on blank lines.
 use Rattle.std.proofs.Common.{◌≡◌, ℕ, suc, Bool, true, false, List, [], ◌∷◌, ◌++◌, flat_map, length, map, refl, sym, ap, ◌∙◌, subst}
 use Rattle.std.proofs.lemmas.List.{length-map}
 use Rattle.yf_comments.specs.Comment.{CommentValue}
@@ -95,7 +95,7 @@ documents_noted {t} {c} cs (y ∷ ys) {is_first} {f} (one_root {z = z} {zs = zs}
     let one = document_made c is_first d b x y cs heads words h inner in
     both_made one (documents_noted cs ys others trees more fits rest one.notes)
 
--- where the first document is without a `---`
+-- if the first document has no `---`
 begun_notes : {t : List ℕ} {f : ℕ} {ps : List PlacedRow} {xs ys : List Row} {gs : List ℕ} (a b q : ℕ) → RowNotes t f ps xs ys gs → RowNotes t f (begun_placed q ps) (begun_at a xs) (begun_at b ys) gs
 begun_notes a b q no_row_notes = no_row_notes
 begun_notes a b q (note_kept h e more) = note_kept h e more

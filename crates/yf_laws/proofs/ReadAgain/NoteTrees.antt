@@ -1,4 +1,4 @@
--- The rows of a node that is found carry its notes on blank lines, and its block scalars end where the rows say.
+-- The rows of a found node carry its notes on blank lines, and its block scalars end where the rows say.
 use Rattle.std.proofs.Common.{◌≡◌, ◌≢◌, ℕ, pos, ◌+◌, ◌-◌, Bool, true, false, true≢false, List, [], ◌∷◌, ◌++◌, codes, Option, Some, None, refl, sym, ap, ◌∙◌, subst, append_assoc, append-nil}
 use Rattle.std.specs.Prelude.{is_some, not, ◌&&◌, if◌then◌else◌}
 use Rattle.std.specs.Str.{IsUtf8}
@@ -42,7 +42,7 @@ use Rattle.yf_laws.proofs.ReadAgain.RowNotes.{AllNoted, EntryNoted, HeadsWith, h
 use Rattle.yf_laws.proofs.Derived.ScalarsMade.{body_some, scalar_rows_are}
 use Rattle.yf_laws.proofs.Derived.TreesMade.{block_is_no_key, either_pair, inline_rows, not_implicit}
 
--- the notes of rows, and those of the events es of which they are; the others follow
+-- the notes of rows, and those of their events es; the other events follow
 pub record NotesMade (t : List ℕ) (f : ℕ) (ps : List PlacedRow) (xs ys : List Row) (es rest : List EventInText) : Type 0 where
   pub ends : List ℕ
   pub rows : RowNotes t f ps xs ys ends
@@ -145,7 +145,7 @@ module _ {t : List ℕ} {f : ℕ} where
     at = λ o g. floor_join o g es fs ∙ (ap (λ z. floor_at o z fs) (a.at o g) ∙ (b.at o (pick o g a.ends) ∙ sym (pick_join o g a.ends b.ends)));
   }
 
-  -- of which the first are those of a flow node
+  -- the first of them are those of a flow node
   flow_made : {ps : List PlacedRow} {xs ys : List Row} {fs rest : List EventInText} (es : List EventInText) → AllFlow es → NotesMade t f ps xs ys fs rest → NotesMade t f ps xs ys (es ++ fs) rest
   flow_made {fs = fs} es a b = record {
     ends = b.ends;
@@ -154,7 +154,7 @@ module _ {t : List ℕ} {f : ℕ} where
     at = λ o g. floor_join o g es fs ∙ (ap (λ z. floor_at o z fs) (flow_at o g es a) ∙ b.at o g);
   }
 
-  -- the same with other rows
+  -- this holds for other rows
   abbrev pub with_rows : {ps qs : List PlacedRow} {xs ys us vs : List Row} {es rest : List EventInText} (a : NotesMade t f ps xs ys es rest) → RowNotes t f qs us vs a.ends → NotesMade t f qs us vs es rest
   with_rows a r = record { ends = a.ends; rows = r; notes = a.notes; at = a.at }
 

@@ -31,7 +31,7 @@ pub decos_beside : (g : Columns) (c : Source) (comments : List CommentValue) (ro
 decos_beside g c comments [] = none_beside
 decos_beside g c comments (row ∷ rows) = one_beside (decos_beside g c (comments_left row comments) rows)
 
--- where the comments after each row are
+-- the extents of the comments after each row
 pub data RowExtents (t : List ℕ) : List PlacedRow → List Deco → List (List CommentValue) → Type 0 where
   last_extent : {p : PlacedRow} {d : Deco} {own : List CommentValue} {j : ℕ} → RowExtent t d p own j → RowExtents t (p ∷ []) (d ∷ []) (own ∷ [])
   row_extent : {p o : PlacedRow} {ps : List PlacedRow} {d : Deco} {ds : List Deco} {own : List CommentValue} {owns : List (List CommentValue)} {k : ℕ} → RowExtent t d p own k → k ≤ o.from

@@ -1,5 +1,5 @@
--- What the rows of a reading carry, where its comments are those of the rows of a text that was laid out: the same before the first row, and the same
--- after each.
+-- What the rows of a reading carry, if its comments are those of the rows of a laid-out text: equal before the first
+-- row, and equal after each.
 use Rattle.std.proofs.Common.{◌≡◌, ℕ, Bool, true, false, List, [], ◌∷◌, ◌++◌, flat_map, map, refl, ap, ◌∙◌, arith}
 use Rattle.std.specs.Prelude.{filter}
 use Rattle.yf_comments.specs.Comment.{CommentValue}
@@ -60,7 +60,7 @@ carried_same {t} {s} {g} f q row rows {p} {ps} {gap = gap} {i} {j} {owns} firsts
       own = rows_carried firsts left own blanks apart again.carry;
     }
 
--- where no row is laid out
+-- if no row is laid out
 pub alone_same : {t : List ℕ} {s : Style} (g f : Columns) (q : Lists) {gap : List GapLine} (firsts hs : List CommentValue) → ((d : CommentValue) → WalkFrom t s f [] true [] d) → AllStay t s [] true [] gap [] → remarks q [] ≡ firsts → Upward 0 firsts
     → gap ≡ gap_with g at_text_start 0 hs false → Blanks t false false gap firsts false → CarriedSame t g f q [] gap []
 alone_same {t} {s} g f q firsts hs walk (stays_end h) all up shape blanks =

@@ -1,4 +1,5 @@
--- Where the comments after a row are: the one that trails it in the row's last leaf or on the row's line, and the others after a line break.
+-- The extents of the comments after a row: the one that trails it is in the row's last leaf or on the row's line, and
+-- the others are after a line break.
 use Rattle.std.proofs.Common.{◌≡◌, ◌≢◌, ℕ, ◌+◌, ◌<◌, ◌≤◌, Bool, false, true≢false, List, [], ◌∷◌, ◌++◌, length, refl, sym, ap, ◌∙◌, subst, arith, append-nil, ⊎_elim}
 use Rattle.std.specs.Str.{IsUtf8}
 use Rattle.yf_chars.specs.Chain.{Many}
@@ -229,7 +230,7 @@ module _ {t : List ℕ} (u : IsUtf8 t) {x : Row} {p : PlacedRow} {i : ℕ} {own 
     go (after_line none end leaves) = line_extent none end leaves
     go (after_scalar b some are is m rest n w leaves last blank broken from to rows) = scalar_extent b are is rest n leaves last broken (rows_ascend rows)
 
--- Notes on blank lines leave them where they are.
+-- Notes on blank lines don't move them.
 
 noted_edge : {t : List ℕ} {es : List EventInText} {h : ℕ} {xs ys : List CommentValue} → Over h xs → NotedComments t es xs ys → Over h ys
 noted_edge each_none no_comment = each_none

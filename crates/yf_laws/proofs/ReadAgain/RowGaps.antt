@@ -1,4 +1,4 @@
--- After each row of a text that was laid out, where the lines of the gap are that it carries, with the comments after the row.
+-- The lines of the gap that each row of a laid-out text carries, with the comments after the row.
 use Rattle.std.proofs.Common.{◌≡◌, ℕ, zero, suc, ◌+◌, ◌≤◌, Bool, true, List, [], ◌∷◌, ◌++◌, drop, length, refl, sym, ap, ◌∙◌, subst, arith, length-append, length-drop, append-nil}
 use Rattle.std.proofs.Math.Seq.{drop-append_seam}
 use Rattle.std.proofs.lemmas.List.{length-map}
@@ -123,7 +123,7 @@ trails_end (x ∷ y ∷ zs) r u a b s = absurd a
 
 -- What a row carries.
 
--- the same comments, of which the first may have another note
+-- equal comments, except for the note of the first
 pub data Renoted : List CommentValue → List CommentValue → Type 0 where
   as_they_are : {cs : List CommentValue} → Renoted cs cs
   first_so : {cs : List CommentValue} (b : Bool) → Renoted cs (first_noted b cs)

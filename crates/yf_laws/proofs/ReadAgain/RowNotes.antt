@@ -1,5 +1,5 @@
--- Of the rows of a text that was laid out, whether a blank line is before each entry that begins a row, as it is noted; and where the block
--- scalars on them end, after which blank lines count.
+-- Whether a blank line is noted before each entry that begins a row of a laid-out text; and the ends of the block
+-- scalars on the rows, after which blank lines count.
 use Rattle.std.proofs.Common.{◌≡◌, ℕ, Bool, true, false, true≢false, List, [], ◌∷◌, ◌++◌, Option, Some, None, refl, sym, ap, ◌∙◌, subst}
 use Rattle.std.specs.Prelude.{is_some}
 use Rattle.yf_comments.specs.Comment.{CommentValue}
@@ -20,7 +20,7 @@ use Rattle.yf_laws.proofs.RowNodes.FoundNodes.{IsHead, KeyRows, key_commented, k
 use Rattle.yf_laws.proofs.ReadAgain.GapNotes.{HeadNote, entry_head}
 use Rattle.yf_laws.proofs.RowNodes.PlacedRows.{LastEnd, last_end_after, PlacedRow}
 
--- the last of some ends, and the last that is no later than a place
+-- the last of some ends, and the last that isn't after an offset
 abbrev pub last_of : ℕ → List ℕ → ℕ
 last_of f [] = f
 last_of f (g ∷ gs) = last_of g gs
@@ -37,7 +37,8 @@ pub pick_join : (o f : ℕ) (gs hs : List ℕ) → pick o f (gs ++ hs) ≡ pick 
 pick_join o f [] hs = refl
 pick_join o f (g ∷ gs) hs = pick_join o (end_before o f g) gs hs
 
--- rows that were laid out, and the same as they are found with the floor f before them; the last list is where block scalars on them end
+-- laid-out rows, and the rows found for them with the floor f before them; the last list has the ends of block scalars
+-- on them
 pub data RowNotes (t : List ℕ) : ℕ → List PlacedRow → List Row → List Row → List ℕ → Type 0 where
   no_row_notes : {f : ℕ} → RowNotes t f [] [] [] []
   note_kept : {f : ℕ} {p : PlacedRow} {ps : List PlacedRow} {x y : Row} {xs ys : List Row} {gs : List ℕ} → HeadNote t f p.from x.blank_before y.blank_before → y.body ≡ [] → RowNotes t f ps xs ys gs
@@ -103,7 +104,7 @@ all_noted no_event = tt
 all_noted {t} {f} (without_entry {e = e} q n) = (no_note t f e.entry q, all_noted n)
 all_noted (with_entry entry q s n) = (s, all_noted n)
 
--- an entry, and where it begins
+-- an entry, and its start
 pub entry_head_of : {t : List ℕ} {f q : ℕ} (o : Option Entry) (a : Bool) → EntryNoted t f o → IsHead (starts_of_entry o) q → HeadNote t f q a (blank_before_entry o)
 entry_head_of None a n h = absurd h
 entry_head_of {t} {f} (Some e) a n h = entry_head (subst (λ z. NotedSince t f z e.blank_before) h n)

@@ -1,4 +1,5 @@
--- The rows of a text that was laid out: row by row as they were laid out, with what each carried, as they are found, and as they are in the text.
+-- The rows of a laid-out text, row by row: as they were laid out, with what each carried, as they are found, and as
+-- they are in the text.
 use Rattle.std.proofs.Common.{◌≡◌, ℕ, max, ◌<◌, ◌≤◌, Bool, true, false, List, [], ◌∷◌, ◌++◌, flat_map, length, Option, Some, None, refl, sym, ap, ◌∙◌, subst, arith}
 use Rattle.std.specs.Prelude.{◌&&◌, filter, is_some, nat_lt, option_to_list}
 use Rattle.std.specs.List.{list_any}
@@ -24,8 +25,8 @@ use Rattle.yf_laws.proofs.ReadAgain.TrailAgain.{LaidRow}
 use Rattle.yf_print.specs.Layouts.KeptColumns.{Columns, is_before_first}
 use Rattle.std.proofs.lemmas.Bool.Decides.{nat_tests}
 
--- A row x that was laid out, as it is found, and as it is: of a node, or before the node of a document. The item of a document is on the first of
--- its rows, and no comment is between.
+-- A row x as it was laid out, as it is found, and as it is in the text: of a node, or before the node of a document.
+-- The item of a document is on the first of its rows, and no comment is between.
 pub data Tie (cs : List CommentValue) (x row : Row) (p : PlacedRow) : Type 0 where
   node_tie : row.items ≡ p.items → row.leaves ≡ p.leaves → (p.items ≡ [] → x.items ≡ []) → Tie cs x row p
   start_tie : (start : ℕ) → row.items ≡ start ∷ [] → row.leaves ≡ [] → p.leaves ≡ [] → row.key_comment ≡ None → p.from ≤ start → ((b : CommentValue) → In b cs → p.upto ≤ b.offset → start ≤ b.offset) → Tie cs x row p
@@ -122,7 +123,7 @@ laid_rows g m comments (x ∷ y ∷ xs) (row ∷ next ∷ rows) e a =
     (λ f. bare_gap g x.ending y.column here y.blank_before (none_precedes y left f))
     (laid_rows g m left (y ∷ xs) (next ∷ rows) (ap other_shapes e) (after_decos a))
 
--- Where a comment is to the items of the next row.
+-- The side of a comment to the items of the next row.
 
 greatest_upto : {i j : ℕ} {is : List ℕ} → Inside i j is → greatest is ≤ j
 greatest_upto none_inside = omega arith

@@ -1,5 +1,5 @@
--- What the rows of a reading carry, where of the comments after each row the first trails it or none is, and the others are before what begins
--- on the next row.
+-- What the rows of a reading carry, if the first comment after each row trails it or none does, and the others are
+-- before what begins on the next row.
 use Rattle.std.proofs.Common.{◌≡◌, ℕ, ◌+◌, ◌≤◌, Bool, true, false, List, Some, [], ◌∷◌, ◌++◌, refl, sym, ap, ◌∙◌, subst, arith, cond, append_assoc, append-nil}
 use Rattle.std.specs.Prelude.{not, ◌||◌, ◌==◌, filter, if◌then◌else◌}
 use Rattle.std.proofs.lemmas.List.Elements.{filter-append}
@@ -40,7 +40,7 @@ merged_over none_merged a = each_none
 merged_over (one_trails m) (each_more l a) = each_more l (merged_over m a)
 merged_over (one_is_at m) (each_more l a) = merged_over m a
 
--- the others are those that are left where the ones that trail are taken out
+-- the others are left if the ones that trail are removed
 pub merged_own : {i : ℕ} {ts hs cs : List CommentValue} (gone : List CommentValue) → Under i gone → Upward i cs → Merged ts hs cs → filter (own_of (gone ++ ts)) cs ≡ hs
 merged_own gone u upward_none none_merged = refl
 merged_own gone u (upward_more {c = e} {cs = cs} l a) (one_trails {ts = ts} {hs = hs} m) =
@@ -92,7 +92,7 @@ apart_left {row} {here} {left} a = kept_others (precedes_item row) here left a.b
 pub apart_gap : {row : Row} {here left : List CommentValue} (g : Columns) (e : Ending) (rows : List Row) → Apart row here left → gap_of g e (here ++ left) (row ∷ rows) ≡ gap_with g e row.column here row.blank_before
 apart_gap {row} {here} {left} g e rows a = ap (λ z. gap_with g e row.column z row.blank_before) (kept_first (precedes_item row) here left a.before a.follows)
 
--- what rows carry; the last list are the comments on lines of their own after the first row
+-- what rows carry; the last list has the comments on lines of their own after the first row
 pub data Carry (t : List ℕ) (g : Columns) (c : Source) : List Row → List Deco → List CommentValue → Type 0 where
   last_carries : {row : Row} {d : Deco} {here : List CommentValue} (hs : List CommentValue) → trimmed_texts (trailing c row) ≡ d.trails → d.gap ≡ gap_with g row.ending 0 hs false
       → Blanks t (may_be_blank_after row.ending) false d.gap here false → Carry t g c (row ∷ []) (d ∷ []) here
@@ -105,7 +105,7 @@ deco_is d gap e f = ap (λ z. record { trails = z; gap = gap }) e ∙ ap (λ z. 
 
 -- Columns that are found again.
 
--- the column C is that of each comment that is found at it, before a row that begins so, where those collections are open on the row before
+-- a comment at the column k stays there, before a row that begins so, if those collections are open on the row before
 abbrev pub StaysAt : Style → Bool → ℕ → Beginning → List OpenBlock → ℕ → Type 0
 StaysAt s may next begin bs k = columns_if (keeps_blocks s) (comment_column s.indent may next (Some k) begin bs) next ≡ k
 

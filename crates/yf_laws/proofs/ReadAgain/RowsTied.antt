@@ -1,4 +1,5 @@
--- Each row of a text that was laid out carries again what it carried, where its comments are those of the text and its notes on blank lines are right.
+-- Each row of a laid-out text carries again what it carried, if its comments are those of the text and its notes on
+-- blank lines are right.
 use Rattle.std.proofs.Common.{◌≡◌, ℕ, ◌<◌, ◌≤◌, true, false, ◌||◌, List, [], ◌∷◌, ◌++◌, flat_map, Option, Some, None, refl, sym, ap, ◌∙◌, subst, arith, append_assoc, ⊎_elim}
 use Rattle.std.specs.Prelude.{option_to_list, zip}
 use Rattle.std.proofs.lemmas.Bool.{cases_lt}

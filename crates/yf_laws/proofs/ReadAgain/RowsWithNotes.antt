@@ -1,4 +1,4 @@
--- The rows of a node that is found are those of the same node with other notes on blank lines.
+-- The rows of a found node are those of the node with other notes on blank lines.
 use Rattle.std.proofs.Common.{◌≡◌, ℕ, ◌+◌, Bool, true, false, List, ◌++◌, length, map, Option, Some, None, refl, sym, ap, ◌∙◌, subst}
 use Rattle.std.specs.Prelude.{is_some}
 use Rattle.std.proofs.lemmas.Option.{same_Some}
@@ -25,7 +25,7 @@ use Rattle.yf_laws.proofs.RowNodes.FoundNodes.{SignRows, KeyRows, KeyOn, key_on,
 use Rattle.yf_laws.proofs.RowNodes.PlacedRows.{Inside, PlacedRow}
 use Rattle.yf_laws.proofs.RowNodes.QuotesKept.{quotes_stay}
 
--- Nodes that are the same without their notes are kept.
+-- Nodes that are equal without their notes are kept.
 
 entry_kept : (o p : Option Entry) → bare_entry o ≡ bare_entry p → SameEntry o p
 entry_kept None None e = no_entry refl refl
@@ -157,7 +157,7 @@ mutual
   pairs_items_same kept_no_pairs = refl
   pairs_items_same (kept_pair a b more) = let c = start_same a in let d = items_same a in let e = items_same b in let f = pairs_items_same more in λ n. c n ++ (d n ++ (e n ++ f n))
 
--- Where nodes are.
+-- The offsets of nodes.
 
 record EntryStays (e : Entry) (o : Option Entry) : Type 0 where
   entry : Entry

@@ -1,4 +1,5 @@
--- What trails a row of a text that was laid out, as the text is read: the comment that was laid out after the row's text, or none.
+-- What trails a row of a laid-out text, when the text is read: the comment that was laid out after the row's text, or
+-- none.
 use Rattle.std.proofs.Common.{◌≡◌, ℕ, ◌+◌, ◌<◌, ◌≤◌, Bool, true, false, not, ◌&&◌, ◌||◌, List, [], ◌∷◌, ◌++◌, length, map, flat_map, Option, Some, None, refl, sym, ap, ◌∙◌, subst, arith, append_assoc, ⊎_elim, ◌⊎◌, inl, inr}
 use Rattle.std.specs.Prelude.{find, nat_le, nat_lt, option_to_list, zip, if◌then◌else◌}
 use Rattle.std.specs.List.{list_any}
@@ -43,7 +44,7 @@ use Rattle.yf_laws.proofs.SameReading.UprightRows.{EndsIn, ends_in_none, ends_in
 use Rattle.yf_chars.proofs.Tests.{below, not_below, is_less, none_some, no_nil}
 use Rattle.yf_forms.proofs.Measure.OffsetLemmas.{or_true}
 
--- A row as it is found, and what it carried where it was laid out.
+-- A row as it is found, and what it carried when it was laid out.
 pub record LaidRow (d : Deco) (row : Row) : Type 0 where
   pub keyless : d.trails ≡ [] → row.key_comment ≡ None
   pub bare : row.leaves ≡ [] → row.key_comment ≡ None → d.trails ≡ []
@@ -128,7 +129,7 @@ module _ {t : List ℕ} (lines : List Line) (are_lines : AreLines t lines) (c : 
         passes : CommentValue → Bool
         passes d = nat_lt s.start d.offset && is_before d.offset (start_of_first post)
 
-  -- a comment that trails a row where none was laid out
+  -- no comment trails a row if none was laid out
   trails_unseen : (row : Row) (rows : List Row) (e : CommentValue) (j : ℕ) → row.key_comment ≡ None → LeavesTo j row.leaves → Broken t j → j ≤ e.offset → In e cs → Near c row e rows → ⊥
   trails_unseen row rows e j none reach broken low i (before_leaf key next more q s has l) = none_some (sym none ∙ key)
   trails_unseen row rows e j none reach broken low i (at_leaf s r has last first same test) = go (nat_lt e.offset s.end) refl test where
@@ -165,7 +166,7 @@ module _ {t : List ℕ} (lines : List Line) (are_lines : AreLines t lines) (c : 
     last_begins [] s (one_inside l m a) = (l, m)
     last_begins (x ∷ ls) s (one_inside l m a) = last_begins ls s a
 
-    -- where one was laid out, one trails the row
+    -- if one was laid out, one trails the row
     seen : (x : List ℕ) → d.trails ≡ x ∷ [] → trailing c row ≡ [] → ⊥
     seen x e none = by_key row.key_comment refl where
       some : d.trails ≡ [] → ⊥

@@ -82,7 +82,7 @@ mutual
       ∙ (ap (λ z. bared (flat k) ++ (bared (flat v) ++ z)) (flat_bare_pairs ps)
       ∙ (ap (λ z. bared (flat k) ++ z) (sym (bared_append (flat v) (flat_pairs ps))) ∙ sym (bared_append (flat k) (flat v ++ flat_pairs ps)))))
 
--- What is the same of a bare node.
+-- What bare nodes have in common.
 
 mutual
   bare_leaves : (x : Node) → leaves (bare x) ≡ leaves x

@@ -1,4 +1,5 @@
--- Nodes that are found on quiet rows: no comment is within a flow collection, and a comment trails a key exactly where one trailed it.
+-- Nodes that are found on quiet rows: no comment is within a flow collection, and a comment trails a key if and only if
+-- one trailed it when it was laid out.
 use Rattle.std.proofs.Common.{◌≡◌, ℕ, ◌<◌, ◌≤◌, Bool, true, false, ◌&&◌, ◌||◌, List, [], ◌∷◌, Option, Some, None, refl, sym, ap, ◌∙◌, arith, ◌⊎◌, inl, inr, ⊎_elim, true≢false}
 use Rattle.std.specs.Prelude.{is_some, nat_lt, nat_le, find, if◌then◌else◌}
 use Rattle.std.specs.List.{list_any}
@@ -172,7 +173,7 @@ some_found from to (in_rest {c = c} {cs = cs} i) l m = by (nat_lt from c.offset 
   by true e = refl
   by false e = e
 
--- where the first leaf of a value begins, that is written on the row
+-- the first leaf of a value that is written on the row begins in it
 pub data OnRow (w : Node) : List PlacedRow → Type 0 where
   on_row : {p : PlacedRow} → Inside p.from p.upto (starts_of (leaves w)) → OnRow w (p ∷ [])
 

@@ -1,4 +1,4 @@
--- Of nodes that are found on quiet rows a comment trails a key exactly where one trailed the key that was laid out.
+-- For nodes that are found on quiet rows, a comment trails a key if and only if one trailed the key that was laid out.
 use Rattle.std.proofs.Common.{◌≡◌, ◌≢◌, ℕ, ◌+◌, ◌≤◌, Bool, true, false, ◌&&◌, ◌||◌, List, [], ◌∷◌, length, None, refl, sym, ap, ◌∙◌, arith, true≢false}
 use Rattle.std.specs.Prelude.{is_some, nat_lt, nat_le, find, if◌then◌else◌}
 use Rattle.std.proofs.lemmas.Bool.{and_parts}
@@ -27,7 +27,7 @@ use Rattle.yf_laws.proofs.OutputLines.ChainedRows.{inline_no_block}
 
 -- The comment of a key.
 
--- a comment trails a key only where the value is a leaf with characters, or a flow collection, with a leaf
+-- if a comment trails a key, the value is a leaf with characters or a filled flow collection, and has a leaf
 some_value : (cs : List CommentValue) (k v : Node) → is_some (key_comment cs k v) ≡ true → ((is_text v || is_filled_flow v) ≡ true) × (leaves v ≢ [])
 some_value cs k v e = by (is_text v || is_filled_flow v) refl where
   by : (b : Bool) → (is_text v || is_filled_flow v) ≡ b → ((is_text v || is_filled_flow v) ≡ true) × (leaves v ≢ [])
@@ -100,7 +100,7 @@ implicit_line s column (mapping at false props (pair k v ps)) e = absurd (true�
 wider_test : (m column indent w most : ℕ) → nat_le (column + w) most ≡ true → nat_le (m + w) most ≡ false → nat_le (m + indent + w) most ≡ false
 wider_test m column indent w most e f = grind (arith, nat_tests)
 
--- a filled flow collection that does not fit where its entry begins is none after a `?`
+-- a filled flow collection that doesn't fit at the start of its entry doesn't fit after a `?`
 flow_test : (flow fit wide : Bool) (a b c : Bool) → ((flow && a) && wide) ≡ true → ((flow && b) && wide) ≡ false → (b ≡ false → c ≡ false) → (flow ≡ true) × (c ≡ false)
 flow_test true fit true true false c e f g = (refl, g refl)
 flow_test true fit true true true c e f g = absurd (true≢false f)

@@ -34,7 +34,7 @@ use Rattle.yf_laws.proofs.RowNodes.FoundNodes.{FoundNode, NodeText, line_rows, f
 use Rattle.yf_laws.proofs.RowNodes.PlacedRows.{Inside, none_inside, one_inside, inside_join, inside_wider, LeavesTo, no_leaf_to, leaf_to, leaves_to_join, leaves_to_wider, after_line, PlacedRow, RowsIn, last_row}
 use Rattle.yf_laws.proofs.Derived.StepsInText.{starts_of, starts_append}
 
--- What is on one line between two places.
+-- On one line between two offsets.
 
 leaf_inside : {i j : ℕ} (a b : ℕ) (o : Option Span) → o ≡ from_to a b → i ≤ a → a ≤ j → Inside i j (starts_of (spans_of_leaf o))
 unfolding from_to
@@ -103,7 +103,7 @@ mutual
       leaves_both (leaves k) (leaves v ++ leaves_of_pairs ps) (inside_wider o (omega (arith, two, three, four)) (leaves_inside a))
       (leaves_both (leaves v) (leaves_of_pairs ps) (inside_wider (omega (arith, o, one, two)) four (leaves_inside d)) (inside_wider (omega (arith, o, one, two, three)) (omega arith) (pairs_leaves g)))
 
--- where they end
+-- the ends of leaves
 
 leaf_end : {j : ℕ} (a b : ℕ) (o : Option Span) → o ≡ from_to a b → a < b → b ≤ j → LeavesTo j (spans_of_leaf o)
 unfolding from_to

@@ -1,4 +1,5 @@
--- A node that is found where rows were laid out: it differs from the one that was by places alone, and its parts are on those rows.
+-- A node that is found on laid-out rows: it differs from the node that was laid out only in offsets, and its parts are
+-- on those rows.
 use Rattle.std.proofs.Common.{◌≡◌, ◌≢◌, ℕ, ◌+◌, ◌<◌, ◌≤◌, Bool, true, false, List, [], ◌∷◌, ◌++◌, length, map, Option, Some, None, refl, sym, ap, ◌∙◌, subst, arith, append_assoc, append-nil}
 use Rattle.std.specs.Prelude.{is_some}
 use Rattle.yf_lines.specs.LineText.{IsLineText}
@@ -35,7 +36,7 @@ abbrev pub IsHead : List ℕ → ℕ → Type 0
 IsHead [] q = ⊥
 IsHead (i ∷ is) q = i ≡ q
 
--- a row that a sign begins, with these items, and the rows of what is after it
+-- a row that begins with a sign, with these items, and the rows of what follows it
 pub data SignRows (t : List ℕ) (items : List ℕ) : List PlacedRow → List PlacedRow → Type 0 where
   sign_alone : {h : PlacedRow} → h.items ≡ items → h.leaves ≡ [] → h.commented ≡ false → IsHead items h.from → SignRows t items [] (h ∷ [])
   sign_joined : {h p : PlacedRow} {ps : List PlacedRow} → h.items ≡ items ++ p.items → h.leaves ≡ p.leaves → h.commented ≡ p.commented → h.from ≤ p.from → p.upto ≡ h.upto
@@ -50,7 +51,7 @@ pub data KeyRows (t : List ℕ) (items : List ℕ) (leaves : List Span) : Bool �
   key_joined : {h p : PlacedRow} {ps : List PlacedRow} → h.items ≡ items ++ p.items → h.leaves ≡ leaves ++ p.leaves → h.commented ≡ p.commented → h.from ≤ p.from
       → p.upto ≡ h.upto → (OnLine t h.column h.from → OnLine t p.column p.from) → KeyRows t items leaves false false (p ∷ ps) (h ∷ ps)
 
--- the first of these rows is at the column m and begins at q, and what is on it has begun before e
+-- the first of these rows is at the column m and begins at q, and its last item has begun before e
 pub data HeadAt (m q e : ℕ) : List PlacedRow → Type 0 where
   head_at : {h : PlacedRow} {hs : List PlacedRow} → h.column ≡ m → h.from ≡ q → e ≤ h.upto → HeadAt m q e (h ∷ hs)
 
@@ -105,7 +106,7 @@ mutual
     no_pair_rows : {m : ℕ} → PairsRows t s m no_pairs no_pairs []
     pair_rows : {m : ℕ} {k v l w : Node} {xs ys : Pairs} {hs rs : List PlacedRow} → PairRows t s m k v l w hs → PairsRows t s m xs ys rs → PairsRows t s m (pair k v xs) (pair l w ys) (hs ++ rs)
 
--- What a production means: the node that is found, on these rows.
+-- The meaning of a production: the node that is found, on these rows.
 
 pub record FoundNode (t : List ℕ) (s : LayoutSetting) (margins : Margins) (x : Node) (meaning : Meaning) (ps : List PlacedRow) : Type 0 where
   pub node : Node
@@ -316,7 +317,7 @@ module _ {t : List ℕ} {s : LayoutSetting} {m : ℕ} where
     rows = pair_rows a.rows b.rows;
   }
 
-  -- a pair whose key is after a `?` at q, and its value after a `:` at colon
+  -- a pair whose key is after a `?` at q, and whose value is after a `:` at colon
   pub found_explicit : {k v : Node} {one two : Meaning} {ps hs qs gs : List PlacedRow} (q colon : ℕ) → is_implicit s.style m k ≡ false → FoundNode t s (key_margins s.style m k) k one ps → SignRows t (q ∷ []) ps hs
       → FoundNode t s (inner_margins s.style m) v two qs → SignRows t (colon ∷ []) qs gs → FoundPair t s m k v (entering q (Some colon) one ⊕ two) (hs ++ gs)
   unfolding entering ◌⊕◌
@@ -334,7 +335,7 @@ module _ {t : List ℕ} {s : LayoutSetting} {m : ℕ} where
             b.rows (subst (λ o. SignRows t (colon_offset o) qs gs) (sym (entered_standing entry a.node)) g);
       }
 
-  -- an implicit key, which begins at q and whose `:` is at colon, and its value
+  -- an implicit key that begins at q and has its `:` at colon, and its value
   pub found_implicit : {k v : Node} {two : Meaning} {ps hs : List PlacedRow} (one : Meaning) (q colon : ℕ) (key : Node) (b : Bool) → b ≡ is_some (key_comment s.comments k v) → is_implicit s.style m k ≡ true → Alike Anywhere k key → one.events ≡ flat key → one.escapes ≡ []
       → NodeIsAt t q colon key → NodeText s.style t q key → HeadAt m q (colon + 1) hs → FoundNode t s (value_of_implicit s m k v) v two ps → KeyRows t (q ∷ items_in key) (leaves key) b (begins_below v) ps hs
       → FoundPair t s m k v (entering q (Some colon) one ⊕ two) hs

@@ -1,4 +1,4 @@
--- The documents of a stream that are found where their rows were laid out.
+-- The documents of a stream that are found on their laid-out rows.
 use Rattle.std.proofs.Common.{◌≡◌, ℕ, ◌+◌, Bool, true, false, List, [], ◌∷◌, ◌++◌, length, map, refl, sym, subst, arith, append-nil}
 use Rattle.yf_comments.specs.Comment.{CommentValue}
 use Rattle.yf_events.specs.Alike.{Alike}

@@ -1,4 +1,4 @@
--- The trees of each reading of what formatting gives are found as they were laid out.
+-- The trees of each reading of a formatted text are found as they were laid out.
 use Rattle.std.proofs.Common.{◌≡◌, ℕ, Bool, false, List, [], ◌∷◌, ◌++◌, length, map, flat_map, Option, refl, sym, ap, ◌∙◌, subst, arith, append_assoc, true}
 use Rattle.yf_comments.specs.Comment.{CommentValue}
 use Rattle.yf_events.specs.Alike.{Alike}
@@ -50,7 +50,7 @@ roots_found {t = t} {c = c} {is_first = is_first} (document_found {x = x} {xs = 
       roots = subst (λ v. FoundRoots t c is_first (doc_of d ∷ map doc_of ms) (x ∷ xs) (z ∷ w.trees) (v ++ qs)) (sym a.are) (one_root a.heads a.head a.alike a.rows w.roots);
     }
 
--- the same of all documents
+-- this holds for all documents
 pub data AllRoots (t : List ℕ) (c : LayoutSetting) : Bool → List Doc → List DocumentTree → List DocumentTree → List PlacedRow → Type 0 where
   marked_roots : {ds : List Doc} {xs zs : List DocumentTree} {ps : List PlacedRow} → FoundRoots t c true ds xs zs ps → AllRoots t c false ds xs zs ps
   bare_root : {d : Doc} {ds : List Doc} {x z : DocumentTree} {xs zs : List DocumentTree} {inner qs : List PlacedRow} → Alike Anywhere x.root z.root → NodeRows t c (root_margins c.style) x.root z.root inner → FoundRoots t c false ds xs zs qs

@@ -1,9 +1,9 @@
--- The rows before the node of a document, where they are found: those before its `---`, and its own.
+-- The rows before the node of a document, as they are found: those before its `---`, and its own.
 use Rattle.std.proofs.Common.{◌≡◌, ℕ, suc, ◌+◌, Bool, true, false, List, [], ◌∷◌, ◌++◌, length, refl, subst, arith}
 use Rattle.yf_events.specs.declared.directive.Directive.{Directive}
 use Rattle.yf_laws.proofs.RowNodes.PlacedRows.{PlacedRow}
 
--- so many rows without a leaf
+-- that many rows without a leaf
 pub data BareRows : ℕ → List PlacedRow → Type 0 where
   no_head_row : BareRows 0 []
   one_head_row : {n : ℕ} {h : PlacedRow} {hs : List PlacedRow} → h.leaves ≡ [] → BareRows n hs → BareRows (suc n) (h ∷ hs)

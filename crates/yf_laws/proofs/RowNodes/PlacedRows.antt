@@ -1,4 +1,4 @@
--- Where rows are in a text: of each what is on it, between where it begins and where its text ends, and the comments after it.
+-- Rows in a text: for each the items and leaves between its start and the end of its text, and the comments after it.
 use Rattle.std.proofs.Common.{◌≡◌, ℕ, ◌+◌, ◌<◌, ◌≤◌, Bool, List, [], ◌∷◌, ◌++◌, length, replicate, refl, sym, ap, ◌∙◌, subst, arith, append_assoc, length-append}
 use Rattle.std.specs.Prelude.{is_some}
 use Rattle.std.proofs.lemmas.List.{length-replicate}
@@ -31,8 +31,8 @@ pub inside_wider : {h i j k : ℕ} {xs : List ℕ} → h ≤ i → j ≤ k → I
 inside_wider l m none_inside = none_inside
 inside_wider l m (one_inside n o a) = one_inside (omega (arith, l, n)) (omega (arith, m, o)) (inside_wider l m a)
 
--- a row in a text: the items and leaves that are found on it, whether a comment trails its key, its column, where it begins, and where what is on it has
--- begun
+-- a row in a text: the items and leaves that are found on it, whether a comment trails its key, its column, its start,
+-- and an offset by which all its items and leaves have begun
 pub record PlacedRow : Type 0 where
   pub items : List ℕ
   pub leaves : List Span
@@ -68,7 +68,7 @@ pub leaves_to_wider : {m n : ℕ} {ss : List Span} → m ≤ n → LeavesTo m ss
 leaves_to_wider l no_leaf_to = no_leaf_to
 leaves_to_wider l (leaf_to m n a) = leaf_to m (omega (arith, l, n)) (leaves_to_wider l a)
 
--- where the last of these leaves ends
+-- the end of the last of these leaves
 pub data LastEnd : List Span → ℕ → Type 0 where
   last_end : {s : Span} → LastEnd (s ∷ []) s.end
   later_end : {s : Span} {ss : List Span} {e : ℕ} → LastEnd ss e → LastEnd (s ∷ ss) e
@@ -91,7 +91,7 @@ pub record EndsRow (t : List ℕ) (body : List (List ℕ)) (d : Deco) (p : Place
   pub start : LineStart t place
   pub tail : OwnTail t body d p own place
 
--- rows of which the first begins at i, with the comments after them, up to j
+-- rows, the first of which begins at i, with the comments after them, up to j
 pub data RowsIn (t : List ℕ) : List Row → List PlacedRow → List Deco → ℕ → List CommentValue → ℕ → List ℕ → Type 0 where
   last_row : {x : Row} {p : PlacedRow} {ds : List Deco} {i j : ℕ} {own : List CommentValue} {r : List ℕ} → AtRow x i p → EndsRow t x.body (first ds) p own j → Rest t j r
       → RowsIn t (x ∷ []) (p ∷ []) ds i own j r

@@ -1,5 +1,5 @@
--- No comment of a text is between where a row that was laid out begins and where what is on it has begun; and the comment that trails a key
--- is between it and the next row.
+-- No comment of a text is between the start of a laid-out row and the offset by which its items have begun; and the
+-- comment that trails a key is between it and the next row.
 use Rattle.std.proofs.Common.{◌≡◌, ◌≢◌, ℕ, ◌<◌, ◌≤◌, true, List, [], ◌∷◌, ◌++◌, map, flat_map, Option, Some, None, refl, sym, ap, ◌∙◌, subst, arith, append_assoc, ◌⊎◌, inl, inr, true≢false}
 use Rattle.std.specs.Prelude.{is_some, option_to_list}
 use Rattle.yf_comments.specs.Comment.{CommentValue}
@@ -33,7 +33,7 @@ under_more l a = each_map (λ d i m. omega (arith, l, m)) a
 over_less : {h k : ℕ} {cs : List CommentValue} → k ≤ h → Over h cs → Over k cs
 over_less l a = each_map (λ d i m. omega (arith, l, m)) a
 
--- each comment is before the row, or after what is on it has begun
+-- each comment is before the row, or after the offset by which its items have begun
 abbrev pub Quiet : List CommentValue → PlacedRow → Type 0
 Quiet cs p = Each (λ d. (d.offset < p.from) ⊎ (p.upto ≤ d.offset)) cs
 
@@ -83,7 +83,7 @@ rows_quiet {i = i} {j = j} before rest a b (row_before {p = p} {ps = ps} {k = k}
     (subst (λ z. Quiet z p) (sym (append_assoc before own (cs ++ rest))) (quiet_of p (subst (λ h. Under h before) (sym at.from) a) (ascend_over p.upto (omega arith) e.ascend)
     (each_join (over_less (omega (arith, n)) (rows_over k (omega arith) more)) (over_less (omega (arith, n, m)) b)))) inner)
 
--- a row whose key a comment trails carries one
+-- a row with a comment that trails its key carries a comment
 pub data Carries : List Row → List Deco → Type 0 where
   carries_none : {ds : List Deco} → Carries [] ds
   carries_row : {x : Row} {xs : List Row} {ds : List Deco} → (is_some x.key_comment ≡ true → (first ds).trails ≢ []) → Carries xs (after ds) → Carries (x ∷ xs) ds
@@ -149,7 +149,7 @@ pub linked_right : {cs : List CommentValue} (xs ys : List PlacedRow) → Linked 
 linked_right [] ys a = a
 linked_right (x ∷ xs) ys (linked_row f a) = linked_right xs ys a
 
--- Notes on comments leave them where they are.
+-- Notes on comments don't move them.
 
 quiet_noted : {t : List ℕ} {es : List EventInText} {x y : List CommentValue} (p : PlacedRow) → NotedComments t es x y → Quiet x p → Quiet y p
 quiet_noted p no_comment each_none = each_none

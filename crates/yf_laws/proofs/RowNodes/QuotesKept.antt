@@ -34,7 +34,7 @@ mutual
       let rest = quotes_right (flat k) (flat v ++ flat_pairs ps) b in
       quotes_both (quotes_stay a (quotes_left (flat k) (flat v ++ flat_pairs ps) b)) (quotes_both (quotes_stay d (quotes_left (flat v) (flat_pairs ps) rest)) (pairs_stay more (quotes_right (flat v) (flat_pairs ps) rest)))
 
--- nor does it where all notes are left out
+-- nor does removing all notes
 pub quotes_bared : {house : Style} {t : List ℕ} (es : List EventInText) → QuotesWritten house t es → QuotesWritten house t (bared es)
 quotes_bared [] a = no_quotes
 quotes_bared (x ∷ xs) (one_quote e a more) = one_quote _ a (quotes_bared xs more)

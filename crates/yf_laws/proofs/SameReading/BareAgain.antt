@@ -1,4 +1,5 @@
--- In each reading of what formatting gives, the `---` of the first document is left out exactly where formatting left it out.
+-- In each reading of a formatted text, the `---` of the first document is left out if and only if formatting left it
+-- out.
 use Rattle.std.proofs.Common.{◌≡◌, ℕ, Bool, true, false, ◌&&◌, ◌||◌, List, [], ◌∷◌, map, refl, sym, ap, ◌∙◌}
 use Rattle.std.specs.Prelude.{◌==◌, count_by, nat_lt, not}
 use Rattle.std.specs.List.{list_any}
@@ -47,7 +48,7 @@ normal_lead {t} {r} {m} {s} n =
     stream_starts_are trees ∙ (ap starts_of (normal_leaves t (setting_of r s) n.trees) ∙ (sym (stream_starts_are n.trees) ∙ ap leaf_starts (sym n.of_reading.events))) in
     ap (λ (w : Lists). lead_by w.documents (leaf_starts w.events) w.comments) n.is ∙ ap (λ ss. lead_by r.documents ss r.comments) starts
 
--- the first document has no `---` where it was left out
+-- the first document has no `---` if it was left out
 twice : (b : Bool) → not (not b) ≡ b
 twice true = refl
 twice false = refl

@@ -1,5 +1,5 @@
--- Rows cut the comments of a text where, of each row, no comment is between what begins on it and the last item on it, and the comment that
--- trails it, if there is one, is the first after its items.
+-- Rows cut the comments of a text if, for each row, no comment is between its first and its last item, and the comment
+-- that trails it, if any, is the first after its items.
 use Rattle.std.proofs.Common.{◌≡◌, ℕ, max, ◌+◌, ◌<◌, ◌≤◌, Bool, true, false, List, [], ◌∷◌, ◌++◌, flat_map, refl, sym, ap, ◌∙◌, subst, arith, cond, append_assoc, append-nil, ⊎_elim}
 use Rattle.std.specs.Prelude.{not, ◌||◌, ◌==◌, nat_lt, filter}
 use Rattle.std.proofs.lemmas.Bool.{cases_lt}
@@ -140,7 +140,7 @@ own_of all d = not (is_among all d)
 
 -- Rows.
 
--- how what begins on a row is to the comments before the last item on it, and to those from its top on
+-- the order of what begins on a row, the comments before the last item on it, and the comments from its top on
 pub record BegunCut (cs : List CommentValue) (ss : List ℕ) (cut top : ℕ) : Type 0 where
   pub still : (d : CommentValue) → In d cs → d.offset < cut → AllFrom d.offset ss
   pub follows : (d : CommentValue) → In d cs → top ≤ d.offset → AllBelow d.offset ss
@@ -151,7 +151,7 @@ pub data TrailCut (c : Source) (cs : List CommentValue) (cut top : ℕ) (row : R
   one_trails : (e : CommentValue) → trailing c row ≡ e ∷ [] → In e cs → top ≤ e.offset → ((d : CommentValue) → In d cs → d.offset < e.offset → d.offset < cut)
       → Over (e.offset + 1) (flat_map (trailing c) rows) → TrailCut c cs cut top row rows
 
--- rows whose items rise from an offset on; f tells what begins on a row, and the list where all of that is
+-- rows whose items rise from an offset on; f returns what begins on a row, and the list has the offsets of all of that
 pub data Flowing (f : Row → List Step) (c : Source) (cs : List CommentValue) : ℕ → List Row → List ℕ → Type 0 where
   no_flow : {it : ℕ} → Flowing f c cs it [] []
   a_flow : {it : ℕ} {row : Row} {rows : List Row} {rs : List ℕ} (cut : ℕ) (ss : List ℕ) → f row ≡ begun ss → ((d : CommentValue) → precedes_item row d ≡ nat_lt d.offset cut)
@@ -219,7 +219,7 @@ module _ (f : Row → List Step) (c : Source) (cs all : List CommentValue) where
   cut_none hi gone up under e =
       keep_all (own_of all) (each_map (λ d i l. owned d gone [] [] e (none_below d l under) refl refl) (upward_over hi (omega arith) up))
 
-  -- wherever the comments that are left begin, and whatever trailed earlier rows
+  -- whatever comments are left, and whatever trailed earlier rows
   abbrev pub CutAnywhere : ℕ → List Row → List ℕ → Type 0
   CutAnywhere it rows starts = (hi : ℕ) (done left gone : List CommentValue) → it ≤ hi → cs ≡ done ++ left → Under hi done → Upward hi left → Under hi gone
       → all ≡ gone ++ flat_map (trailing c) rows → Over hi (flat_map (trailing c) rows) → Cuts f c (own_of all) left rows starts

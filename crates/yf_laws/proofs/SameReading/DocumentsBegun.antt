@@ -1,4 +1,4 @@
--- Where the documents of a layout begin, among its comments.
+-- The starts of the documents of a layout among its comments.
 use Rattle.std.proofs.Common.{◌≡◌, ℕ, true, List, [], ◌∷◌, ◌++◌, map, sym, ap, ◌∙◌, subst, arith, false}
 use Rattle.std.proofs.lemmas.List.{map-append}
 use Rattle.yf_comments.specs.Comment.{CommentValue}

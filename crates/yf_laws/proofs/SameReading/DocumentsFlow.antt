@@ -1,5 +1,5 @@
--- Rows that are upright cut the comments by the documents that begin on them, as they do by their leaves: what trails a row of a document is
--- before the next document.
+-- Upright rows cut the comments by the documents that begin on them, as they do by their leaves: what trails a row of a
+-- document is before the next document.
 use Rattle.std.proofs.Common.{◌≡◌, ◌≢◌, ℕ, max, ◌<◌, ◌≤◌, Bool, true, false, true≢false, ◌&&◌, ◌||◌, List, [], ◌∷◌, ◌++◌, map, Some, None, refl, sym, ap, ◌∙◌, subst, arith, append_assoc, ⊎_elim, ◌+◌}
 use Rattle.std.specs.Prelude.{find, nat_le, nat_lt, zip, if◌then◌else◌}
 use Rattle.std.specs.List.{list_any}
@@ -194,7 +194,7 @@ module _ {t : List ℕ} (lines : List Line) (are_lines : AreLines t lines) (c : 
       (one_later (omega (arith, l)) (later_from (omega (arith, l)) from)) (λ d i. untrailed_row d i) (none_trails refl)
       (directive_flow start free from dirs ys more (omega (arith, l)) (omega (arith, m)) k)
 
-  -- where the first of them is the `---`
+  -- if the first of them is the `---`
   start_flow : (start : ℕ) → Free cs start → {rest : List ℕ} → AllFrom start rest → (ys : List Row) {it : ℕ} → Upright c cs it (record start_row { items = start ∷ [] } ∷ ys) → it ≤ start
       → ((n : ℕ) → n ≤ start → Upright c cs n ys → Flowing documents_begin c cs n ys rest) → Flowing documents_begin c cs it (record start_row { items = start ∷ [] } ∷ ys) (start ∷ rest)
   start_flow start free from ys {it} (an_upright first later fits trail more) l k =
@@ -259,7 +259,8 @@ module _ {t : List ℕ} (lines : List Line) (are_lines : AreLines t lines) (c : 
       (omega (arith, m, within)) (node.rises (root_margins st.style)) (λ s h. steps_has (node_steps b) (subst (λ w. Has s w) leaves_are h))
       (λ k o rest. stream_flow u st same false o more rest)))
 
-  -- Where the first document is without a `---`: it begins on the first row of its root, and no comment is between its beginning and the last item on that row.
+  -- If the first document has no `---`, it begins on the first row of its root, and no comment is between its start and
+  -- the last item on that row.
 
   begun_flow : (start j : ℕ) → start ≤ j → Free cs start → Broken t j → {rest : List ℕ} → AllFrom j rest → (xs ys : List Row) → (xs ≡ [] → ⊥) → Bare ys → {it : ℕ} → Upright c cs it (begun_at start xs ++ ys) → NoStarts xs → it ≤ start
       → Rises start (items_on xs) j → ((s : Span) → Has s (leaves_on xs) → (s.start ≤ j) × (s.end ≤ j)) → ((d : CommentValue) → In d cs → start < d.offset → d.offset < j → AllFrom d.offset (starts_on (begun_at start xs ++ ys)) → ⊥)

@@ -50,7 +50,7 @@ pub told_alike : (m n : ℕ → ℕ) (cs : List CommentValue) → ((o : ℕ) →
 told_alike m n [] e = refl
 told_alike m n (c ∷ cs) e = ap (λ z. (c.text, z) ∷ told_by m cs) (e c.offset) ∙ ap (λ z. (c.text, n c.offset) ∷ z) (told_alike m n cs e)
 
--- of a text whose documents and comments are in the order of steps
+-- for a text whose documents and comments are in the order of steps
 documents_counted : {t : List ℕ} {j : ℕ} {q : Lists} {steps : List Step} → IsUtf8 t → (a : ReadingOf t q) → Stand 0 (map (λ (d : Document). d.start) a.derived.documents) a.derived.comments steps j
     → told_by (documents_before q) q.comments ≡ comments_of 0 steps
 documents_counted {t} {j} {q} {steps} u a stand =
@@ -62,7 +62,7 @@ documents_counted {t} {j} {q} {steps} u a stand =
     told_alike (documents_before q) (λ o. 0 + starts_before (document_starts q.documents) o) q.comments (λ o. documents_are q.documents o ∙ sym (zero-add (starts_before (document_starts q.documents) o)))
     ∙ (sym (noted_told (λ o. 0 + starts_before (document_starts q.documents) o) a.comments) ∙ counted)
 
--- of what formatting gives
+-- for a formatted text
 pub documents_found : (t u : List ℕ) (s : Style) (q : Lists) → IsUtf8 t → (f : IsFormatting t s u) → ReadingOf u q
     → told_by (documents_before q) q.comments ≡ comments_of 0 (document_steps (columns_of t s (rows_of f.normal s f.writes.trees)) f.normal (rows_of f.normal s f.writes.trees))
 documents_found t u s q utf8 f a =

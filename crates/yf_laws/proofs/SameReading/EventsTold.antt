@@ -1,4 +1,5 @@
--- The events of a formatted text's reading are those that were laid out, but for places and markers: each with its lines, where it is a folded scalar.
+-- The events of a formatted text's reading are those that were laid out, except for offsets and markers; each folded
+-- scalar has its lines.
 use Rattle.std.proofs.Common.{◌≡◌, ℕ, false, List, [], ◌∷◌, ◌++◌, map, flat_map, refl, sym, ap, ◌∙◌}
 use Rattle.std.specs.Str.{IsUtf8}
 use Rattle.yf_comments.specs.Comment.{CommentValue}

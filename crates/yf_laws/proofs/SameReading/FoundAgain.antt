@@ -41,7 +41,7 @@ stand_from o l (nothing_is_at m) = none_from
 stand_from o l (leaf_is_at m a) = stand_from o (omega (arith, l, m)) a
 stand_from o l (comment_is_at m a) = one_from (omega (arith, l, m)) (stand_from o (omega (arith, l, m)) a)
 
--- each comment's text, and what is told of its offset
+-- each comment's text, and a number for its offset
 abbrev pub told_by : (ℕ → ℕ) → List CommentValue → List (List ℕ × ℕ)
 told_by n cs = map (λ c. (c.text, n c.offset)) cs
 
@@ -61,7 +61,7 @@ before_each {t} n s ss v (one_from {c = c} {cs = cs} l a) h k (one_more m e b) =
     ap (λ z. (c.text, z) ∷ told_by (λ o. n + starts_before (s ∷ ss) o) cs) same
     ∙ ap (λ z. (c.text, (n + 1) + starts_before ss c.offset) ∷ z) (before_each n s ss v a (c.offset + 1) k b)
 
--- what is told by the steps is how many leaves begin before each comment
+-- the number from the steps is the number of leaves that begin before each comment
 pub stand_told : {t : List ℕ} {i j : ℕ} {ss : List ℕ} {cs : List CommentValue} {steps : List Step} → Stand i ss cs steps j → Unsigned t ss → (h k : ℕ) → Ascend t h cs k → (n : ℕ)
     → told_by (λ o. n + starts_before ss o) cs ≡ comments_of n steps
 stand_told (nothing_is_at l) u h k a n = refl
@@ -112,7 +112,7 @@ starts_unsigned {t} (e ∷ es) a = go (begins_leaf e.event es) e.span refl (star
   go false (Some s) q u = u
   go false None q u = u
 
--- of a text whose documents have their leaves and comments in the order of steps
+-- for a text whose documents have their leaves and comments in the order of steps
 pub reading_told : {t : List ℕ} {j : ℕ} {q : Lists} {steps : List Step} → IsUtf8 t → (a : ReadingOf t q) → DocumentsLaid 0 j a.derived steps
     → told_by (leaves_before q) q.comments ≡ comments_of 0 steps
 reading_told {t} {j} {q} {steps} u a laid =
@@ -132,7 +132,7 @@ reading_told {t} {j} {q} {steps} u a laid =
           ap (λ z. (c.text, z) ∷ told_by (λ o. 0 + starts_before (leaf_starts q.events) o) cs) (zero-add (leaves_before q c.offset))
           ∙ ap (λ z. (c.text, leaves_before q c.offset) ∷ z) (without_zero cs)
 
--- of what formatting gives
+-- for a formatted text
 pub found_again : (t u : List ℕ) (s : Style) (q : Lists) → IsUtf8 t → (f : IsFormatting t s u) → ReadingOf u q
     → told_by (leaves_before q) q.comments ≡ comments_of 0 (steps_of (columns_of t s (rows_of f.normal s f.writes.trees)) f.normal (rows_of f.normal s f.writes.trees))
 found_again t u s q utf8 f a =

@@ -1,4 +1,4 @@
--- No row of a node is the beginning of a document, so the steps of documents are its comments alone.
+-- No row of a node is the start of a document, so the steps of documents are only its comments.
 use Rattle.std.proofs.Common.{◌≡◌, ℕ, ◌-◌, Bool, true, false, List, [], ◌∷◌, ◌++◌, codes, map, Option, Some, None, refl, sym, ap, ◌∙◌, append_assoc}
 use Rattle.std.specs.Prelude.{if◌then◌else◌}
 use Rattle.std.proofs.lemmas.List.{map-append}

@@ -1,5 +1,5 @@
--- What is told of the comments that a layout prints, where each row cuts those that are left into the ones before it, those that trail it,
--- and the rest.
+-- The numbers for the comments that a layout prints, if each row cuts the remaining ones into those before it, those
+-- that trail it, and the rest.
 use Rattle.std.proofs.Common.{◌≡◌, ℕ, suc, ◌+◌, Bool, true, false, List, [], ◌∷◌, ◌++◌, length, map, refl, sym, ap, ◌∙◌, arith, add-zero, append_assoc, append-nil}
 use Rattle.std.specs.Prelude.{◌&&◌, filter}
 use Rattle.std.proofs.lemmas.List.{map-append}
@@ -18,7 +18,7 @@ use Rattle.yf_print.specs.Layouts.KeptColumns.{Columns}
 abbrev pub trimmed_texts : List CommentValue → List (List ℕ)
 trimmed_texts ds = map (λ d. trimmed d.text) ds
 
--- the steps of rows with the comments that are left; f tells what begins on a row
+-- the steps of rows with the comments that are left; f returns what begins on a row
 abbrev pub printed_steps : (Row → List Step) → Source → List CommentValue → List Row → List Step
 printed_steps f c comments [] = comment_steps (trimmed_texts comments)
 printed_steps f c comments (row ∷ rows) =
@@ -70,7 +70,7 @@ steps_printed g f c before comments (row ∷ rows) =
     ∙ ap (λ w. comment_steps (trimmed_texts ahead) ++ (f row ++ w))
     (comments_apart trails gap (steps_with f rows (decos_of g c left rows)) ∙ ap (λ w. comment_steps trails ++ w) (steps_printed g f c row.ending left rows))
 
--- What they tell.
+-- The numbers that they give.
 
 abbrev pub trimmed_by : (ℕ → ℕ) → List CommentValue → List (List ℕ × ℕ)
 trimmed_by n cs = map (λ c. (trimmed c.text, n c.offset)) cs
@@ -82,7 +82,7 @@ told_comments : (n : ℕ) (xs : List (List ℕ)) (rest : List Step) → comments
 told_comments n [] rest = refl
 told_comments n (x ∷ xs) rest = ap (λ w. (x, n) ∷ w) (told_comments n xs rest)
 
--- so many beginnings
+-- that many starts
 abbrev pub begun : List ℕ → List Step
 begun ss = map (λ s. a_leaf) ss
 
@@ -117,7 +117,8 @@ earlier_told n rs (more_earlier {d = d} {ds = ds} {ss = ss} l a) =
     ap (λ w. (trimmed d.text, w) ∷ trimmed_by (λ o. (n + length ss) + starts_before rs o) ds) same
     ∙ ap (λ w. (trimmed d.text, n + starts_before (ss ++ rs) d.offset) ∷ w) (earlier_told n rs a)
 
--- Rows that cut the comments so; own tells which comments trail nothing, f what begins on a row, and the last list where all of that is.
+-- Rows that cut the comments; own says which comments trail nothing, f returns what begins on a row, and the last list
+-- has the offsets of all of that.
 pub data Cuts (f : Row → List Step) (c : Source) (own : CommentValue → Bool) : List CommentValue → List Row → List ℕ → Type 0 where
   none_cut : {left : List CommentValue} → filter own left ≡ left → Cuts f c own left [] []
   row_cut : {left : List CommentValue} {row : Row} {rows : List Row} {rest : List ℕ} (ss : List ℕ) (ahead more : List CommentValue) → f row ≡ begun ss → left ≡ ahead ++ (trailing c row ++ more)

@@ -32,7 +32,7 @@ pub record OneLine (cs : List CommentValue) (i j : ℕ) (x : Node) : Type 0 wher
   pub bare : leaves x ≡ [] → items_in x ≡ []
   pub whole : is_text x || is_filled_flow x ≡ true → (s : Span) × ((ss : List Span) × (leaves x ≡ s ∷ ss))
 
--- the same of where it is
+-- this holds for its span
 record LeafLine (cs : List CommentValue) (i j : ℕ) (o : Option Span) : Type 0 where
   fits : LineFits cs (map (λ s. s.start) (spans_of_leaf o)) (starts_of (spans_of_leaf o))
   rises : Rises i (map (λ s. s.start) (spans_of_leaf o)) j
@@ -115,7 +115,7 @@ line_row_fits : {cs : List CommentValue} (column : ℕ) (x : Node) (w : List ℕ
 line_row_fits column x [] a = no_rows_fit
 line_row_fits column x (b ∷ w) a = row_fits a (no_key refl) no_rows_fit
 
--- what holds of the rows of a node wherever it is
+-- the claim for the rows of a node, whatever its margins
 pub record NodeFlows (c : LayoutSetting) (i j : ℕ) (x : Node) : Type 0 where
   pub rises : (margins : Margins) → Rises i (items_on (rows c margins x)) j
   pub fits : (margins : Margins) → RowsFit c.comments (rows c margins x)

@@ -27,7 +27,7 @@ use Rattle.yf_laws.proofs.SameReading.QuietNodes.{OneLine, one_line, whole_line,
 
 -- Keys and values.
 
--- what is known of a key and its value
+-- the facts about a key and its value
 record PairSits (c : LayoutSetting) (i l m n : ℕ) (k v : Node) : Type 0 where
   entry : Entry
   is : (standing k).entry ≡ Some entry
@@ -53,7 +53,7 @@ module _ (c : LayoutSetting) (column : ℕ) {i l m n : ℕ} (k v : Node) (a : Pa
   value_rises : (margins : Margins) → Rises l (items_on (rows c margins v)) n
   value_rises margins = rises_after (rises_order a.colon) (a.value.rises margins)
 
-  -- where a comment trails the key
+  -- if a comment trails the key
   commented : (margins : Margins) (d : CommentValue) (b : Bool) → is_text v || is_filled_flow v ≡ b → (if b then first_between c.comments (key_start k) (leaves v) else None) ≡ Some d → OneLine c.comments a.entry.start l k
       → RowsFit c.comments (record (key_row c.style column k) { key_comment = Some d; ending = before_node } ∷ rows c margins v)
   commented margins d false h e line = absurd cc

@@ -1,5 +1,6 @@
--- Rows cut the comments where their items rise, each leaf begins at an item of its row, no comment is between the first leaf of a row and
--- its last item, and the comment that trails a row is the first after an item on it and before the leaves of later rows.
+-- Rows cut the comments if their items rise, each leaf begins at an item of its row, no comment is between the first
+-- leaf of a row and its last item, and the comment that trails a row is the first after an item on it and before the
+-- leaves of later rows.
 use Rattle.std.proofs.Common.{◌≡◌, ◌≢◌, ℕ, max, ◌+◌, ◌<◌, ◌≤◌, true, false, true≢false, ◌||◌, List, [], ◌∷◌, ◌++◌, flat_map, Some, None, refl, sym, ap, ◌∙◌, subst, arith, ◌⊎◌, inl, inr, ⊎_elim}
 use Rattle.std.specs.Prelude.{◌==◌, nat_lt}
 use Rattle.std.specs.List.{list_any}
@@ -82,7 +83,7 @@ leaves_cut : {t : List ℕ} {cs : List CommentValue} {row : Row} (it : ℕ) → 
     → BegunCut cs (starts_of row.leaves) (greatest row.items) (max it (greatest row.items))
 leaves_cut it sign u f = record { still = f.still; follows = λ d i l. below_sign d.offset (sign d i) (omega (arith, l)) (sub_below f.among) u }
 
--- where the leaves on rows begin
+-- the starts of the leaves on rows
 abbrev pub starts_on : List Row → List ℕ
 starts_on [] = []
 starts_on (row ∷ rows) = starts_of row.leaves ++ starts_on rows
@@ -104,15 +105,16 @@ pub data Has (s : Span) : List Span → Type 0 where
   has_first : {ss : List Span} → Has s (s ∷ ss)
   has_rest : {r : Span} {ss : List Span} → Has s ss → Has s (r ∷ ss)
 
--- A comment that trails a row is in one of its leaves, or on the line on which that leaf ends, and that leaf is the last before it; or before a
--- leaf of the next row, where it trails the row's key.
+-- A comment that trails a row is in one of its leaves, or on the line on which that leaf ends, and that leaf is the
+-- last before it; or, if it trails the row's key, it is before a leaf of the next row.
 pub data Near (c : Source) (row : Row) (e : CommentValue) : List Row → Type 0 where
   at_leaf : {rows : List Row} (s : Span) (r : Remark) → Has s row.leaves → last_leaf None e.offset c.leaves ≡ Some s → first_comment c s ≡ Some r → r.0 ≡ e
       → (nat_lt e.offset s.end || r.1) ≡ true → Near c row e rows
   before_leaf : {rows : List Row} → row.key_comment ≡ Some e → (next : Row) (more : List Row) → rows ≡ next ∷ more → (s : Span) → Has s next.leaves → e.offset < s.start → Near c row e rows
 
--- What trails a row: nothing, or the first comment after an item on it and before the leaves of later rows. The item begins a leaf; or there
--- is no leaf on the row, and the comment trails its key. A comment that trails a key is before a row with a leaf.
+-- What trails a row: nothing, or the first comment after an item on it and before the leaves of later rows. The item
+-- begins a leaf; or the row has no leaf, and the comment trails its key. A comment that trails a key is before a row
+-- with a leaf.
 pub data RowTrail (c : Source) (cs : List CommentValue) (row : Row) (rows : List Row) : Type 0 where
   untrailed : trailing c row ≡ [] → RowTrail c cs row rows
   trailed_after : (e : CommentValue) (a : ℕ) → trailing c row ≡ e ∷ [] → In e cs → Sub (a ∷ []) row.items → a < e.offset → ((d : CommentValue) → In d cs → d.offset < e.offset → d.offset < a)
@@ -171,7 +173,7 @@ module _ (c : Source) (cs : List CommentValue) where
       let parts = leaves_parts row.leaves (leaves_on rows) later in
       each_both (before_trail e ahead from parts.0 trail) (before_trails e (ahead_more e (omega arith) ahead) parts.1 more)
 
-  -- where the first row has a leaf, whose start is after the comment
+  -- if the first row has a leaf that starts after the comment
   before_next : (e : CommentValue) {it : ℕ} {rows : List Row} → LeafNext rows → AllFrom (e.offset + 1) (starts_of (leaves_on rows)) → Upright c cs it rows
       → Over (e.offset + 1) (flat_map (trailing c) rows)
   before_next e {it} (leaf_next s z) later (an_upright {row = row} {rows = rows} from rest fits trail more) =

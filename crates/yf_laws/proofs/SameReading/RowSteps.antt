@@ -1,4 +1,4 @@
--- Steps of rows by what is counted on each: leaves with characters, or the beginnings of documents.
+-- Steps of rows by what is counted on each: leaves with characters, or the starts of documents.
 use Rattle.std.specs.Prelude.{Bool, true, false, List, [], ◌∷◌, ◌++◌}
 use Rattle.yf_laws.specs.Layouts.RowComments.{carried_texts}
 use Rattle.yf_laws.specs.Layouts.Decorated.{Deco, first, after}
@@ -12,7 +12,7 @@ steps_with f (x ∷ xs) ds = f x ++ (comment_steps (carried_texts (first ds)) ++
 abbrev pub leaves_begin : Row → List Step
 leaves_begin row = leaf_steps row.leaves
 
--- a document begins at its `---`, or where a row says so, which is counted as a leaf is
+-- a document begins at its `---`, or on a row that is marked so; a start is counted as a leaf is
 abbrev pub begins_after : Ending → List Step
 begins_after at_text_start = []
 begins_after at_document_start = a_leaf ∷ []

@@ -70,7 +70,7 @@ pub last_among : (o : ℕ) (k : Span) (ks : List Span) → Sub (last_start o (k 
 last_among o k [] = sub_take sub_none
 last_among o k (l ∷ ks) = sub_skip (last_among k.start l ks)
 
--- a key and its value, between whose leaves no comment is
+-- a key and its value, with no comment between their leaves
 module _ {cs : List CommentValue} {is js : List ℕ} (o : ℕ) (s : Span) (vs : List Span) where
   pub beside_fits : {i m j : ℕ} (ks : List Span) → LineFits cs is (starts_of ks) → LineFits cs js (starts_of (s ∷ vs)) → Rises i is m → Rises m js j
       → ((n : ℕ) → Sub (n ∷ []) (starts_of ks) → Free cs n) → Free cs s.start → find (between (last_start o ks) s.start) cs ≡ None → LineFits cs (is ++ js) (starts_of (ks ++ (s ∷ vs)))
@@ -151,7 +151,7 @@ sign_fits {cs} {i} {m} {j} head n (x ∷ xs) e q a b (row_fits f k more) =
           (⊎_elim (λ (v : Sub (r ∷ []) (starts_of x.leaves)). inl (subst (λ ls. Sub (r ∷ []) (starts_of ls)) (sym same) v))
           (λ (v : (x.leaves ≡ []) × (greatest x.items ≤ r)). inr (same ∙ v.0, top r w v.1)) at) next g
 
--- where the document begins on the first of them
+-- if the document begins on the first of them
 pub begun_fits : {cs : List CommentValue} {start j : ℕ} (rs : List Row) → Rises start (items_on rs) j → RowsFit cs rs → RowsFit cs (begun_at start rs)
 begun_fits [] b no_rows_fit = no_rows_fit
 begun_fits {cs} {start} (x ∷ xs) b (row_fits f k more) =

@@ -1,4 +1,4 @@
--- The reading of a formatted text says what the reading says that was formatted.
+-- The reading of a formatted text has the content of the reading that was formatted.
 use Rattle.std.proofs.Common.{◌≡◌, ℕ, false, List, [], ◌∷◌, ◌++◌, map, flat_map, zip, Option, None, refl, sym, ap, ◌∙◌, subst, append_assoc, Bool}
 use Rattle.yf_events.specs.Content.{ContentValue, BeforeValue, before_document, a_directive, a_word, content_of, nodes_of, items_of_event, items_of_directive, items_of_document}
 use Rattle.yf_events.specs.Event.{EventValue, EventInText, stream_starts, stream_ends, document_starts, document_ends, sequence_starts, sequence_ends, mapping_starts, mapping_ends, scalar_node, alias_node}
@@ -111,7 +111,7 @@ unfolding content_of nodes_of
 content_same q m e f =
     ap (λ w. record { directives = w; nodes = said (values q.events) q.resolved }) e ∙ ap (λ w. record { directives = flat_map items_of_document m.documents; nodes = w }) f
 
--- what is derived of a formatted text has the documents of the normal form
+-- the derivation of a formatted text has the documents of the normal form
 pub formats_meant : {t u : List ℕ} {s : Style} {q : Lists} → IsUtf8 t → (f : IsFormatting t s u) → (b : ReadingOf u q) → DocumentsMeant (is_bare f.normal s) f.normal.documents f.writes.trees b.derived.documents
 formats_meant {t} {u} {s} utf8 f b =
     let well = formats_well t u s utf8 f in

@@ -174,7 +174,7 @@ source_is_at t s r trees u a of_reading =
       upright = rows_upright (source_of (normal_of t s r trees) all) r.comments r.on_leaf_line refl rises order (λ n b. free_at u r.comments sign (unsigned_at unsigned b)) [] [] all refl refl tidy flows.1 flows.0;
     }
 
--- So the layout tells of each comment how many leaves of the reading begin before it.
+-- So the layout determines for each comment the number of leaves of the reading before it.
 pub source_told : (g : Columns) (t : List ℕ) (s : Style) (r : Lists) (trees : List DocumentTree) → IsUtf8 t → ReadingOf t r → TreesOf r trees
     → comments_of 0 (steps_of g (normal_of t s r trees) (normal_rows t s r trees)) ≡ trimmed_by (leaves_before r) r.comments
 source_told g t s r trees u a of_reading =

@@ -1,4 +1,5 @@
--- The steps of a layout whose rows cut the comments tell, of each comment of the reading, in order, how many leaves begin before it.
+-- The steps of a layout whose rows cut the comments determine, for each comment of the reading in order, the number of
+-- leaves that begin before it.
 use Rattle.std.proofs.Common.{◌≡◌, ℕ, ◌+◌, Bool, List, [], ◌∷◌, ◌++◌, length, map, flat_map, refl, sym, ap, ◌∙◌, arith, zero-add, append_assoc, append-nil}
 use Rattle.std.specs.Prelude.{filter, zip}
 use Rattle.yf_comments.specs.Comment.{CommentValue}

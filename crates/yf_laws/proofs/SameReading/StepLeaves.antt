@@ -24,7 +24,7 @@ laid_trees {t} {s} f =
     let n = normal_trees f in
     n.same ∙ ap (map (normal_document t (setting_of f.reading s))) (trees_unique f.reading n.trees f.is_normal.trees n.of_reading f.is_normal.of_reading)
 
--- what a layout tells of the comments is that of the reading
+-- the numbers for comments in a layout are those of the reading
 pub comments_laid : {t u : List ℕ} {s : Style} → IsUtf8 t → (f : IsFormatting t s u)
     → comments_of 0 (steps_of (columns_in f) f.normal (rows_of f.normal s f.writes.trees)) ≡ trimmed_by (leaves_before f.reading) f.reading.comments
 comments_laid {t} {u} {s} utf8 f =

@@ -1,4 +1,4 @@
--- Rows that fit the comments, and whose items rise, are upright: of each it is known which comment trails it.
+-- Rows that fit the comments, and whose items rise, are upright: it is known which comment trails each.
 use Rattle.std.proofs.Common.{◌≡◌, ◌≢◌, ℕ, max, ◌+◌, ◌<◌, ◌≤◌, Bool, true, ◌&&◌, List, [], ◌∷◌, ◌++◌, flat_map, Option, Some, None, refl, sym, ap, ◌∙◌, subst, arith, append_assoc, append-nil, inl, inr, ⊎_elim, ◌⊎◌}
 use Rattle.std.specs.Prelude.{find, nat_lt, option_to_list, zip, if◌then◌else◌}
 use Rattle.std.specs.List.{list_all}
@@ -97,7 +97,7 @@ module _ (c : Source) (cs : List CommentValue) (bs : List Bool) (remarks : c.rem
   beyond row e a f i s l =
       ⊎_elim (λ (w : e.offset < greatest row.items). let z : e.offset ≤ a = sub_one_from s (f.still e i w) in absurd (omega (arith, z, l))) (λ (w : greatest row.items ≤ e.offset). w) (cases_lt e.offset (greatest row.items))
 
-  -- what trails a row whose key no comment trails
+  -- what trails a row without a comment that trails its key
   leaf_row : (pre : List Span) (row : Row) (rows : List Row) → c.leaves ≡ pre ++ (row.leaves ++ leaves_on rows) → LineFits cs row.items (starts_of row.leaves) → Still cs row.leaves → row.key_comment ≡ None
       → RowTrail c cs row rows
   leaf_row pre row rows e f still q = go row.leaves refl (ending_of row.leaves) where
@@ -124,7 +124,7 @@ module _ (c : Source) (cs : List CommentValue) (bs : List Bool) (remarks : c.rem
         by ls s g apart (trails_are ∙ (ap (flat_map (trail_of c)) g ∙ last_trails c cs bs remarks up order pre ls s (leaves_on rows) there (subst (λ w. Still cs w) g still)))
         (leaf_trail c cs bs remarks up order (pre ++ ls) s (leaves_on rows) apart)
 
-  -- and of one whose key one trails
+  -- and a row with one
   key_row : (pre : List Span) (row next : Row) (rows : List Row) → c.leaves ≡ pre ++ (row.leaves ++ leaves_on (next ∷ rows)) → LineFits cs row.items (starts_of row.leaves) → Still cs row.leaves
       → (e : CommentValue) (a : ℕ) (s : Span) (ss : List Span) → row.key_comment ≡ Some e → Sub (a ∷ []) row.items → Free cs a → Sub (a ∷ []) (starts_of row.leaves) ⊎ ((row.leaves ≡ []) × (greatest row.items ≤ a))
       → next.leaves ≡ s ∷ ss → find (between a s.start) cs ≡ Some e → is_among c.key_comments e ≡ true → KeyLast cs e row.leaves (leaves_on (next ∷ rows)) → RowTrail c cs row (next ∷ rows)

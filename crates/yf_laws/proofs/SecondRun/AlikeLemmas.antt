@@ -1,4 +1,4 @@
--- What is written of trees that are alike up to places: the same text on one line, the same columns, rows of the same shape.
+-- The text of trees that are alike except for offsets: equal texts on one line, equal columns, rows of equal shapes.
 use Rattle.std.proofs.Common.{◌≡◌, ℕ, ◌+◌, ◌-◌, Bool, true, false, not, ◌&&◌, List, [], ◌∷◌, ◌++◌, length, map, codes, replicate, Option, Some, None, refl, sym, ap, ◌∙◌}
 use Rattle.std.specs.Prelude.{is_some, if◌then◌else◌, nat_le}
 use Rattle.std.proofs.lemmas.List.{length-append, map-append}
@@ -79,7 +79,7 @@ pub same_written : (house : Style) {K : Node → Node → Node → Node → Type
 same_written house {x = x} {y = y} a =
     ap (λ z. spaced (props_text z) (bare house x)) (same_props a) ∙ ap (λ z. spaced (props_text (props_of y)) z) (same_bare house a)
 
--- Widths, and what is decided by them.
+-- Widths, and what they decide.
 
 pub same_fit : {K : Node → Node → Node → Node → Type 0} {x y : Node} (s : Style) (column : ℕ) → Alike K x y → fits s column x ≡ fits s column y
 same_fit s column a = ap (λ z. nat_le (column + width z) s.max_line) (same_written s a)
@@ -269,7 +269,7 @@ same_after h g c d a b xs ys e k p f =
     ∙ (ap (λ z. shapes_after_key (shape_of g) (is_some d) b z) f
     ∙ sym (after_shape g d b ys)))))
 
--- a row with a text, so many leaves and no more
+-- a row with a text and that many leaves
 text_shape : List (ℕ × Bool) → ℕ → List ℕ → ℕ → RowShape
 text_shape starts column text n = record { column = column; text = text; starts = starts; leaves = n; is_commented = false; ending = anywhere; body = []; lines = 0 }
 

@@ -38,9 +38,9 @@ pub data NextIsAt (next : ℕ) : Beginning → Type 0 where
   next_document : next ≡ 0 → NextIsAt next begins_document
   next_entry : {y : OpenBlock} → y.printed ≡ next → NextIsAt next (begins_entry y)
 
--- Where a column is found.
+-- The column that is found.
 
--- what is found is a column of one of them
+-- it is a column of one of them
 found_in : (k : ℕ) (bs : List OpenBlock) {c : ℕ} → column_at k bs ≡ Some c → HasColumn c bs
 found_in k [] e = absurd (none_some e)
 found_in k (b ∷ bs) {c} e = go (is_source k b.source) (λ f. found_in k bs f) e where
@@ -48,7 +48,7 @@ found_in k (b ∷ bs) {c} e = go (is_source k b.source) (λ f. found_in k bs f) 
   go true rest f = column_here (same_Some b.printed c f)
   go false rest f = column_there (rest f)
 
--- where they are at their columns it is the column that was looked for
+-- if all are at their printed columns, it is the column that was searched for
 found_same : (k : ℕ) (bs : List OpenBlock) {c : ℕ} → column_at k (all_printed bs) ≡ Some c → c ≡ k
 found_same k [] e = absurd (none_some e)
 found_same k (b ∷ bs) {c} e = go (b.printed == k) refl (λ f. found_same k bs f) e where
@@ -64,7 +64,7 @@ found_printed {c} (column_there {b = b} {bs = bs} h) = go (b.printed == c) refl 
   go true f rest = ap Some (eqb-true b.printed c f)
   go false f rest = rest
 
--- what is left of a column is that of one of them, or one indentation right of the innermost
+-- the nearest column to the left is that of one of them, or one indentation right of the innermost
 pub data LeftFound (indent c : ℕ) : Bool → List OpenBlock → Type 0 where
   left_column : {may : Bool} {bs : List OpenBlock} → HasColumn c bs → LeftFound indent c may bs
   right_of_all : {b : OpenBlock} {bs : List OpenBlock} → b.printed + indent ≡ c → LeftFound indent c true (b ∷ bs)
@@ -132,7 +132,7 @@ stays indent next c {all = all} l (stays_right {b = b} {inner = inner} e) =
     (margin_only c (all_printed all) (or_else (column_left indent true c (all_printed (b ∷ inner))) next) (omega (arith, e, l)) ∙ (ap (λ o. or_else o next) left ∙ e))
 stays indent next c l (stays_alone e) = sym e
 
--- the column of the next line, where the comment is nowhere else
+-- the column of the next line, if no collection decides the comment's column
 pub data NextStays (next : ℕ) : List OpenBlock → List OpenBlock → Type 0 where
   next_column : {inner all : List OpenBlock} → HasColumn next all → NextStays next inner all
   next_margin : {b : OpenBlock} {inner bs : List OpenBlock} → next ≡ 0 → NextStays next inner (b ∷ bs)
@@ -214,7 +214,7 @@ printed_goes_on y (b ∷ bs) = refl
 pub goes_on_printed : (y : OpenBlock) (bs : List OpenBlock) → goes_on (as_printed y) (not_ended (as_printed y) (all_printed bs)) ≡ goes_on y (not_ended y bs)
 goes_on_printed y bs = ap (goes_on (as_printed y)) (printed_not_ended y bs) ∙ printed_goes_on y (not_ended y bs)
 
--- a collection that goes on is one of them
+-- a collection that continues is one of them
 column_of_same : (y : OpenBlock) (bs : List OpenBlock) → goes_on y bs ≡ true → HasColumn y.printed bs
 column_of_same y [] e = absurd (true≢false (sym e))
 column_of_same y (b ∷ bs) e =

@@ -61,7 +61,7 @@ block_found t u s r a e f =
     ap (λ z. record { source = z; printed = r.column; is_sequence = r.is_item }) a
     ∙ (ap (λ z. record { source = Some z; printed = z; is_sequence = r.is_item }) (sym e) ∙ ap (λ z. record { source = Some s.column; printed = s.column; is_sequence = z }) (sym f))
 
--- where all are at their columns, none is left of one around it
+-- if all are at their columns, an entry isn't left of the collection around it
 placed_printed : (y : OpenBlock) (bs : List OpenBlock) → placed_in (as_printed y) (all_printed (not_ended y bs)) ≡ as_printed y
 placed_printed y [] = refl
 placed_printed y (b ∷ bs) = go (is_ended_by y b) refl (placed_printed y bs) where
@@ -117,7 +117,7 @@ beginning_found t u (s ∷ ss) (r ∷ rs) ls ms a e f =
     let first : ◌≡◌ {A = ℕ × Bool} (s.column, s.is_item) (r.column, r.is_item) = cc in
     ap begins_entry (block_found t u s r a.0 (ap (λ (z : ℕ × Bool). z.0) first) (ap (λ (z : ℕ × Bool). z.1) first))
 
--- The column at which a comment was laid out stays where all is at its column.
+-- The column at which a comment was laid out stays, if everything is at its column.
 
 wide : (s : Style) → 0 < s.indent
 wide s = let two : 2 ≤ s.indent = s.indent_from in omega (arith, two)
@@ -136,7 +136,7 @@ above_settled t s may x d bs true i n = go (is_before_first x.items d.offset) wh
   go true = column_again s.indent may x.column (own_column t d.offset) (beginning t x.starts x.leaves) bs (wide s) i n
   go false = next_stays s.indent may x.column (beginning t x.starts x.leaves) bs (wide s) i n
 
--- where the same collections are open
+-- if equal collections are open
 stays_with : (s : Style) {may may2 : Bool} {next next2 : ℕ} {begin begin2 : Beginning} {bs bs2 : List OpenBlock} (k : ℕ) → may ≡ may2 → next ≡ next2 → begin ≡ begin2 → bs ≡ bs2 → StaysAt s may next begin bs k → StaysAt s may2 next2 begin2 bs2 k
 stays_with s {may} {may2} {next} {next2} {begin} {begin2} {bs} {bs2} k e f g h a =
     subst (λ z. StaysAt s may2 next2 begin2 z k) h (subst (λ z. StaysAt s may2 next2 z bs k) g (subst (λ z. StaysAt s may2 z begin bs k) f (subst (λ z. StaysAt s z next begin bs k) e a)))
@@ -164,7 +164,7 @@ module _ (t u : List ℕ) (s : Style) {g : Columns} (c : Source) where
       stays_row here
       (stay_found x.ending chain i more rest (ap (after_row u y) opened ∙ after_found t u x y bs a starts leaves) (ap (λ (z : RowShape). is_bodyless z.body) one) (left_walk w))
 
--- What is found of a formatted text: each entry is at its column.
+-- In the trees found for a formatted text, each entry is at its column.
 
 module _ (u : List ℕ) where
   starts_append : (xs ys : List Start) → AtColumns u xs → AtColumns u ys → AtColumns u (xs ++ ys)
@@ -199,7 +199,7 @@ module _ (u : List ℕ) where
     abbrev Set : ℕ → ℕ → Node → Type 0
     Set m l x = SetNode u c.style (BlockAt u) m l x
 
-    -- wherever it is
+    -- whatever its margins
     record NodeAt (x : Node) : Type 0 where
       at : (margins : Margins) (l : ℕ) → Set margins.entries l x → AllAtColumns u (rows c margins x)
 

@@ -1,4 +1,5 @@
--- A node that differs from a settled one by places, with a comment after the same keys, is settled as it is, and has rows of the same shapes.
+-- A node that differs from a settled one only in offsets, with comments after the same keys, is settled as it is, and
+-- has rows of the same shapes.
 use Rattle.std.proofs.Common.{◌≡◌, ℕ, Bool, true, false, not, ◌&&◌, ◌-◌, List, codes, refl, sym, ap, ◌∙◌, true≢false}
 use Rattle.std.specs.Prelude.{if◌then◌else◌}
 use Rattle.yf_comments.specs.Comment.{CommentValue}

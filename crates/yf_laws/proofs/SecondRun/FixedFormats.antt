@@ -1,4 +1,4 @@
--- A text that was laid out, and in which the same is found, is its own formatting.
+-- A laid-out text in which equal trees are found is its own formatting.
 use Rattle.std.proofs.Common.{◌≡◌, ℕ, List, [], ◌∷◌, map, refl, sym, ap, ◌∙◌}
 use Rattle.yf_comments.specs.Comment.{CommentValue}
 use Rattle.yf_events.specs.Tree.{DocumentTree, TreesOf, flat_stream}
@@ -56,14 +56,14 @@ pub roots_fixed : {t u : List ℕ} {s : Style} (f : IsFormatting t s u) (q : Lis
 roots_fixed {t} {u} {s} f q found alike =
     let n = normal_trees f in documents_fixed t n.trees (n.same ∙ ap (λ cs. map (normal_document t (setting s cs)) n.trees) (sym n.comments)) alike
 
--- where the same trees are found the reading is its own normal form
+-- if equal trees are found, the reading is its own normal form
 pub found_normal : {t u : List ℕ} {s : Style} (f : IsFormatting t s u) (q : Lists) (found : List DocumentTree) → TreesOf q found
     → FoundTrees s f.normal.comments u q.comments f.normal.documents f.writes.trees q.documents found → Normal u q s q
 found_normal {u = u} {s = s} f q found of_reading alike =
     let roots : map (normal_document u (setting_of q s)) found ≡ found = roots_fixed f q found alike in
     record { trees = found; of_reading = of_reading; is = ap (λ z. record q { events = z }) of_reading.events ∙ ap (λ z. record q { events = flat_stream z }) (sym roots) }
 
--- the text is the layout of what is found in it
+-- the text is the layout of the trees found in it
 pub found_layout : {t u : List ℕ} {s : Style} (f : IsFormatting t s u) (q : Lists) (found : List DocumentTree) → FoundSame t f.normal s f.writes.trees u q found → u ≡ layout u q s found
 found_layout {t} {u} {s} f q found same =
     let m : Lists = f.normal in

@@ -1,4 +1,4 @@
--- The reading of what formatting gives is in normal form.
+-- The reading of a formatted text is in normal form.
 use Rattle.std.proofs.Common.{◌≡◌, ℕ, ◌<◌, List, [], ◌∷◌, ◌++◌, length, map, sym, ap, ◌∙◌, subst, append-nil, Bool}
 use Rattle.std.specs.Str.{IsUtf8}
 use Rattle.std.proofs.lemmas.List.{length-map}
@@ -41,7 +41,8 @@ stream_linked : {t : List ℕ} {rs : List Row} {ps : List PlacedRow} {ds : List 
 stream_linked before c no_stream = linked_none
 stream_linked before c (stream_in {ps = ps} {cs = cs} b rows) = subst (λ z. Linked (before ++ z) ps) (append-nil cs) (rows_linked before [] c rows)
 
--- Readings of what formatting gives: the trees that are found, those of the reading but for notes on blank lines, and the rows that they are on.
+-- Readings of a formatted text: the trees that are found, which are those of the reading except for notes on blank
+-- lines, and their rows.
 pub record RootsRead (u : List ℕ) (c : LayoutSetting) (bare : Bool) (cs : List CommentValue) (es : List Doc) (trees read : List DocumentTree) (ps : List PlacedRow) : Type 0 where
   pub found : List DocumentTree
   pub roots : AllRoots u c bare es trees found ps
@@ -76,7 +77,7 @@ roots_read t u s utf8 f q a =
       linked = linked_offsets a.comments (subst (λ z. Linked z all.found_rows) comments (stream_linked all.firsts (decos_carry _ _ _ (rows_of m s trees)) all.placed));
     }
 
--- What is found in each reading q of what formatting gives: its trees, as they were laid out, on the rows of the layout.
+-- What is found in each reading q of a formatted text: its trees, as they were laid out, on the rows of the layout.
 pub record FoundReading {t : List ℕ} {s : Style} {u : List ℕ} (f : IsFormatting t s u) (q : Lists) (a : ReadingOf u q) : Type 0 where
   pub laid : FormattedLaid f
   pub derived : a.derived ≡ laid.well.documents

@@ -1,4 +1,4 @@
--- A node that differs from one of a normal form by places alone is in the style of the house as it is.
+-- A node that differs from one of a normal form only in offsets is in the house style as it is.
 use Rattle.std.proofs.Common.{◌≡◌, ℕ, Bool, true, false, not, ◌&&◌, List, [], refl, sym, ap, ◌∙◌, true≢false}
 use Rattle.std.specs.Prelude.{is_some}
 use Rattle.yf_comments.specs.Comment.{CommentValue}
@@ -81,7 +81,7 @@ of_three true true false e = absurd (true≢false (sym e))
 of_three true false c e = absurd (true≢false (sym e))
 of_three false b c e = absurd (true≢false (sym e))
 
--- What may be kept wherever it is may be kept where no comment is within it.
+-- A node that may be kept without its comments may be kept if no comment is within it.
 
 mutual
   pub kept_alike : {K : Node → Node → Node → Node → Type 0} {x y : Node} (u : List ℕ) (cs : List CommentValue) → Alike K x y → may_be_kept [] [] x ≡ true → Undisturbed u cs y

@@ -1,5 +1,5 @@
--- What is laid out of rows is the same for rows of the same shape, with the same after each; and the rows of documents that are found in a layout
--- have the shapes of those that were laid out.
+-- Rows of the same shapes, with the same after each, have the same layout; and the rows of documents that are found in
+-- a layout have the shapes of those that were laid out.
 use Rattle.std.proofs.Common.{◌≡◌, ℕ, Bool, true, false, List, [], ◌∷◌, ◌++◌, map, replicate, refl, sym, ap, ◌∙◌}
 use Rattle.yf_comments.specs.Comment.{CommentValue}
 use Rattle.yf_events.specs.Tree.{DocumentTree}

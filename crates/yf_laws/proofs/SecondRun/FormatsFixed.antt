@@ -1,4 +1,5 @@
--- What formatting gives is its own formatting: the same rows are found in it, and each carries what it carried. So a second run changes nothing.
+-- A formatted text is its own formatting: its rows are found in it, and each carries what it carried. So a second run
+-- changes nothing.
 use Rattle.std.proofs.Common.{◌≡◌, ℕ, true, List, [], ◌∷◌, ◌++◌, length, map, refl, sym, ap, ◌∙◌, subst, arith, append-nil}
 use Rattle.std.specs.Prelude.{filter, zip}
 use Rattle.std.specs.Str.{IsUtf8}
@@ -61,7 +62,7 @@ use Rattle.yf_laws.proofs.ReadAgain.RowsAgain.{AllStay}
 use Rattle.yf_laws.proofs.SecondRun.ColumnsStay.{formatted_stay}
 use Rattle.yf_laws.proofs.OutputLines.ColumnsHold.{WalkFrom}
 
--- What is known of the rows of a reading q of the text u.
+-- The facts about the rows of a reading q of the text u.
 pub record RowsKnown (u : List ℕ) (q : Lists) (rows : List Row) : Type 0 where
   pub lines : List Line
   pub are_lines : AreLines u lines
@@ -88,7 +89,7 @@ rows_known u s q utf8 a fixed =
       upright = w.upright;
     }))
 
--- the first row, where one is laid out
+-- the first row, if one is laid out
 first_again : {u : List ℕ} {s : Style} {q : Lists} (g f : Columns) (mc : Source) (own : List CommentValue) (x row : Row) (xs found : List Row) (p : PlacedRow) (ps : List PlacedRow) {line end : ℕ} {owns : List (List CommentValue)} (known : RowsKnown u q (row ∷ found)) (ones : List CommentValue) → ((d : CommentValue) → WalkFrom u s f [] true (row ∷ found) d)
     → AllStay u s [] true (row ∷ found) (gap_of g at_text_start own (x ∷ xs)) (decos_of g mc own (x ∷ xs))
     → shapes (x ∷ xs) ≡ shapes (row ∷ found) → AreDecos (decos_of g mc own (x ∷ xs)) → q.comments ≡ ones ++ all_of owns → Upward 0 ones → Under line ones → texts ones ≡ remarks_of (gap_of g at_text_start own (x ∷ xs))
@@ -142,7 +143,7 @@ carried_again {u} {es = es} {q = q} g f mc own (x ∷ xs) (row ∷ found) {ps = 
       begin_column : {rs : List Row} → Begins 0 (x ∷ rs) → x.column ≡ 0
       begin_column (begins f) = f
 
--- Where the notes on blank lines are right.
+-- The notes on blank lines are right.
 
 pub again_carried : {t u : List ℕ} {s : Style} (q : Lists) → IsUtf8 t → (f : IsFormatting t s u) → (a : ReadingOf u q) → (w : FoundReading f q a)
     → BlanksFound u q.comments (first_gap (columns_in f) f.normal (rows_of f.normal s f.writes.trees)) (row_decos (columns_in f) f.normal (rows_of f.normal s f.writes.trees)) (rows_of q s a.trees) w.laid.found_rows w.laid.line (length u)

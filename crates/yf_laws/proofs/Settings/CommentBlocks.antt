@@ -43,7 +43,7 @@ use Rattle.yf_laws.proofs.SecondRun.FormatsFixed.{again_carried}
 
 -- Columns.
 
--- the open collection at a column, where it is printed
+-- the open collection at a column, and its printed column
 record BlockFound (k n : ℕ) (bs : List OpenBlock) : Type 0 where
   column : ℕ
   found : column_at k bs ≡ Some column
@@ -82,7 +82,7 @@ no_block k (b ∷ bs) e = go (is_source k b.source) refl (λ f. no_block k bs f)
   go true f rest g = absurd (none_some (sym g))
   go false f rest g = ap (λ p. if p then Some b.printed else column_at k bs) f ∙ rest g
 
--- what goes by what is open is at the column that is found, and else at the margin
+-- a comment that follows the open collections is at the column that is found, and otherwise at the margin
 by_open : (indent : ℕ) (may : Bool) (next k c : ℕ) (begin : Beginning) (bs : List OpenBlock) → ((other : ℕ) → or_else (column_at k bs) (at_margin k bs other) ≡ c) → goes_by_open k begin bs ≡ true → column_in indent may next k begin bs ≡ c
 by_open indent may next k c begins_node bs f e = absurd (true≢false (sym e))
 by_open indent may next k c begins_document bs f e = f (or_else (column_left indent may k bs) next)

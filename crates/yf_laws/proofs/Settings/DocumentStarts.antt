@@ -37,7 +37,7 @@ stream_marks ds =
     ap markers_in (values_append (flat_map flat_document ds) (unplaced stream_ends ∷ []))
     ∙ (documents_marks ds (stream_ends ∷ []) ∙ append-nil (tree_marks ds))
 
--- The markers of a formatting are decided by whether its first document is without one.
+-- Whether its first document has no marker decides the markers of a formatting.
 
 decided : (keeps marked leads : Bool) → not (keeps && (not marked && not leads)) ≡ (not keeps || (marked || leads))
 decided true true leads = refl

@@ -1,4 +1,4 @@
--- Where hidden characters are to be escaped, no quoted scalar of what formatting gives holds one as itself.
+-- If hidden characters are to be escaped, no quoted scalar of a formatted text holds one unescaped.
 use Rattle.std.proofs.Common.{◌≡◌, ℕ, ◌+◌, ◌-◌, ◌<◌, ◌≤◌, Bool, true, false, true≢false, List, [], ◌∷◌, ◌++◌, length, drop, get_or, flat_map, refl, sym, ap, ◌∙◌, subst, arith, take-append-drop, encode_utf8_all}
 use Rattle.std.specs.Prelude.{slice_range, chars, if◌then◌else◌}
 use Rattle.std.specs.List.{list_any}
@@ -63,7 +63,7 @@ in_quotes house Double text q u e w = record {
   shown = all_out_shown (chars text) (scalars-chars text u);
 }
 
--- Where such a text is from one offset to another, no character that begins between them is hidden.
+-- If such a text is between two offsets, no character that begins between them is hidden.
 
 quoted_chars : (quote : ℕ) (inner : List ℕ) → quote < 128 → quote ∷ (encode_utf8_all inner ++ quote ∷ []) ≡ encodes (quote ∷ (inner ++ quote ∷ []))
 quoted_chars quote inner l =

@@ -1,4 +1,4 @@
--- In each reading of what formatting gives, the quoted scalars are as they are written.
+-- In each reading of a formatted text, the quoted scalars are as they are written.
 use Rattle.std.proofs.Common.{◌≡◌, ℕ, zero, suc, Bool, true, false, true≢false, List, [], ◌∷◌, ◌++◌, map, flat_map, Option, Some, None, refl, sym, ap, ◌∙◌, subst}
 use Rattle.std.specs.Prelude.{slice_get, slice_range}
 use Rattle.std.specs.Str.{IsUtf8}

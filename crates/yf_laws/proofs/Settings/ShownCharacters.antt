@@ -1,4 +1,4 @@
--- Where hidden characters are to be escaped, no character of a scalar in quotes, as it is written, is hidden.
+-- If hidden characters are to be escaped, no character of a written quoted scalar is hidden.
 use Rattle.std.proofs.Common.{◌≡◌, ◌≢◌, ℕ, ◌+◌, ◌/◌, ◌%◌, ◌<◌, ◌≤◌, Bool, true, false, true≢false, List, [], ◌∷◌, ◌++◌, length, flat_map, Option, Some, None, refl, sym, ap, ◌∙◌, subst, ⊎_elim, arith, append_assoc}
 use Rattle.std.specs.Prelude.{◌||◌}
 use Rattle.std.specs.Char.{len_utf8}
@@ -116,7 +116,7 @@ all_twice_shown (c ∷ cs) e =
 
 -- In a text.
 
--- no character is hidden that begins where these are
+-- no hidden character begins among these
 pub shown_there : {t : List ℕ} (cs r : List ℕ) {q : ℕ} (k : ℕ) → IsUtf8 t → AllShown cs → IsAt t q (encodes cs ++ r) → q ≤ k → k < q + length (encodes cs) → code t k < no_char → is_hidden (code t k) ≡ false
 shown_there [] r k u a s l m n = absurd (omega (arith, l, m))
 shown_there {t} (c ∷ cs) r {q} k u a s l m n =

@@ -45,7 +45,7 @@ sequences_at_keys = let a : 2 ≤ 2 = omega arith in let b : 2 ≤ 8 = omega ari
 abbrev pub short_lines : Style
 short_lines = let a : 40 ≤ 40 = omega arith in let b : 40 ≤ 1000 = omega arith in record house { max_line = 40; max_line_from = a; max_line_to = b }
 
--- nodes: where one is, and the entry that it begins
+-- nodes: the span of each, and the entry that it begins
 
 abbrev pub at : ℕ → ℕ → Option Entry → NodeOffsets
 at start end entry = record { span = Some (record { start = start; end = end }); tag_offset = None; entry = entry }

@@ -95,7 +95,7 @@ comments_among_entries :
 unfolding formatted
 comments_among_entries = refl
 
--- the first comment between a key and its value trails the key, also where the key is after a `-`
+-- the first comment between a key and its value trails the key, also if the key is after a `-`
 a_comment_below_a_key_after_a_sign :
     formatted house (codes "- k:\n  # c\n  # d\n    v\n")
     (remark 7 (codes "# c") false false ∷ remark 13 (codes "# d") false false ∷ [])
@@ -119,7 +119,7 @@ a_comment_before_directives :
 unfolding formatted
 a_comment_before_directives = refl
 
--- printed once, and neither after a `---` nor after the `:` of a key whose value is still to come
+-- a blank line is printed once, and neither after a `---` nor after the `:` of a key before its value
 blank_lines :
     formatted house (codes "a:\n\n  b: 1\n\n\n  # c\n\n  d: 2\n\n---\n\ne\n")
     (remark 15 (codes "# c") true false ∷ [])
@@ -136,7 +136,7 @@ blank_lines :
 unfolding formatted
 blank_lines = refl
 
--- it counts, since the tail is no content
+-- a blank line counts, since the tail isn't content
 a_blank_line_after_a_clipped_tail :
     formatted house (codes "---\n- |\n  ---\n\n- b\n") [] (one_document 0)
     (root (block_items (at 4 18 None) no_props (

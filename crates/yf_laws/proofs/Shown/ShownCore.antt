@@ -28,7 +28,7 @@ floating = the_other (the_other (the_other (the_one (in_order (given (in_class r
 infinite : Matches core_pattern (codes "-.inf")
 infinite = the_other (the_other (the_other (the_other (the_one (in_order (given (in_class refl)) (the_one as_written))))))
 
--- the end of a document is none of them
+-- the end of a document is not one of them
 points_unsteady : is_steady (codes "...") ≡ false
 unfolding is_steady is_only is_marker_of has_line_feed ends_with_colon
 points_unsteady = refl

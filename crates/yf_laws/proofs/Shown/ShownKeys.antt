@@ -31,7 +31,7 @@ a_kept_key_is_implicit :
 unfolding formatted
 a_kept_key_is_implicit = refl
 
--- a flow mapping with an empty value is no implicit key, and the value's keys follow it
+-- a flow mapping with an empty value is not an implicit key, and the value's keys follow it
 an_explicit_key_before_a_mapping :
     block_keys (codes "? {a: }\n: {b: }\n") (lists_of [] (one_document 0)) house
     (root (block_pairs (at 0 15 None) no_props ((
@@ -42,7 +42,7 @@ an_explicit_key_before_a_mapping :
 unfolding formatted
 an_explicit_key_before_a_mapping = refl
 
--- so many characters may an implicit key have, and no more
+-- an implicit key may have at most that many characters
 a_key_of_1023_characters : is_implicit house 0 (word (at 0 1023 (entry 0)) (replicate 1023 107)) ≡ true
 unfolding formatted
 a_key_of_1023_characters = refl

@@ -1,4 +1,4 @@
--- A small tree written out by hand, that meets what the law of layouts asks, and the text of which it speaks.
+-- A small example tree that meets the premises of the law of layouts, and its text.
 use Rattle.std.proofs.Common.{◌≡◌, ℕ, List, [], ◌∷◌, None, codes, refl, false}
 use Rattle.std.specs.Str.{IsUtf8, chars, is_utf8}
 use Rattle.std.proofs.lemmas.Str.{IsUtf8-from_is_utf8}

@@ -1,4 +1,5 @@
--- The trees of `a: 1` and of `---`, `a: 1` match, and the documents begin on the same sides of all comments, since there is none.
+-- The trees of `a: 1` and of `---`, `a: 1` match, and the documents begin on the same sides of all comments, since they
+-- have none.
 use Rattle.std.proofs.Common.{◌≡◌, ℕ, ◌+◌, List, [], ◌∷◌, false, Some, None, codes, refl, sym, ap, ◌∙◌}
 use Rattle.std.specs.Prelude.{nat_lt}
 use Rattle.yf_props.specs.Props.{no_props}
@@ -28,7 +29,7 @@ sides a b ps h = record { before = λ m n k. before a b m n ps h k; after = λ m
 abbrev pairs : PairedOffsets
 pairs = record { comments = []; leaves = (0, 4) ∷ (3, 7) ∷ [] }
 
--- the two scalars and their mapping, so many bytes later
+-- the two scalars and their mapping, that many bytes later
 abbrev key_at : ℕ → Node
 key_at n = scalar (record { span = Some (record { start = n; end = n + 1 }); tag_offset = None; entry = Some (record { start = n; colon = Some (n + 1); blank_before = false }) }) no_props Plain (codes "a") []
 

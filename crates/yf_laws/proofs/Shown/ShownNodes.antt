@@ -16,7 +16,7 @@ a_sequence_of_plain_scalars :
 unfolding formatted
 a_sequence_of_plain_scalars = refl
 
--- nothing is printed where there is nothing
+-- nothing is printed for nothing
 a_text_without_documents :
     formatted house (codes "") [] ([])
     ([])
@@ -55,7 +55,7 @@ a_literal_without_a_final_feed :
 unfolding formatted
 a_literal_without_a_final_feed = refl
 
--- the sign is `+` where more line feeds than one end the text, and the empty lines are printed
+-- the sign is `+` if more than one line feed ends the text, and the empty lines are printed
 a_kept_tail :
     formatted house (codes "--- |+\n a\n\n") [] (one_document 0)
     (root (scalar (at 4 11 None) no_props Literal (codes "a\n\n") []))
@@ -111,7 +111,7 @@ entries_four_columns_to_the_right :
 unfolding formatted
 entries_four_columns_to_the_right = refl
 
--- a flow collection that is not kept and a block scalar are no implicit keys
+-- a flow collection that isn't kept and a block scalar are not implicit keys
 keys_that_are_explicit :
     formatted house (codes "? [a, {b: }]\n: - c\n  - d\n? |\n  x\n: y\n") [] (one_document 0)
     (root (block_pairs (at 0 36 None) no_props ((
@@ -137,7 +137,7 @@ double_quotes :
 unfolding formatted
 double_quotes = refl
 
--- a character that is no nb-char needs double quotes
+-- a character that is not an nb-char needs double quotes
 single_quotes_where_they_can_be :
     formatted single_quotes (codes "- 'it''s'\n- \"\\r\"\n") [] (one_document 0)
     (root (block_items (at 0 16 None) no_props (
@@ -182,7 +182,7 @@ a_bracket_after_the_last_column :
 unfolding formatted
 a_bracket_after_the_last_column = refl
 
--- wherever the bracket is in the source
+-- at any column of the bracket in the source
 the_column_of_the_output_decides :
     formatted short_lines (codes "k:\n [aaaaaaaaaaaaaaaaaaaaaaaaaaaaaaaaaaaa]\n") [] (one_document 0)
     (root (block_pairs (at 0 42 None) no_props ((
@@ -267,7 +267,7 @@ properties_before_a_root_collection :
 unfolding formatted
 properties_before_a_root_collection = refl
 
--- an empty collection is a leaf, and an empty node as key is the `:` alone
+-- an empty collection is a leaf, and an empty node as key is only the `:`
 an_empty_node_as_key :
     formatted house (codes "? &a []\n: b\n? x\n?\n") [] (one_document 0)
     (root (block_pairs (at 0 17 None) no_props (
@@ -278,7 +278,7 @@ an_empty_node_as_key :
 unfolding formatted
 an_empty_node_as_key = refl
 
--- a key of properties alone has a space before its `:`
+-- a key that has only properties has a space before its `:`
 a_tag_as_key :
     formatted house (codes "{!!str : x, [a]: [[], {}]}\n") [] (one_document 0)
     (root (flow_pairs (at 0 26 None) no_props ((

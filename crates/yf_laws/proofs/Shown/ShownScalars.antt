@@ -1,4 +1,4 @@
--- A folded scalar of spaces alone is quoted. It keeps none of its lines then, and is read again as it is.
+-- A folded scalar that has only spaces is quoted. It then keeps none of its lines, and is read again as it is.
 use Rattle.std.proofs.Common.{◌≡◌, ◌≢◌, [], ◌∷◌, None, codes, refl}
 use Rattle.std.specs.Str.{IsUtf8, chars, is_utf8}
 use Rattle.std.proofs.lemmas.Str.{IsUtf8-from_is_utf8}

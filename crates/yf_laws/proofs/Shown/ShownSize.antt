@@ -1,4 +1,5 @@
--- How long a formatted text may be, in numbers: none of up to 521,739 bytes has more than 1 GiB where `indent` is 2, and none of up to 130,815 anywhere.
+-- How long a formatted text may be, in numbers: a text of up to 521,739 bytes has no formatting of more than 1 GiB if
+-- `indent` is 2, and one of up to 130,815 bytes has none with any `indent`.
 use Rattle.std.proofs.Common.{◌≡◌, ℕ, suc, ◌+◌, ◌*◌, ◌≤◌, List, length, arith}
 use Rattle.std.proofs.Math.Nat.{mul-le-mul}
 use Rattle.yf_events.specs.declared.reading.TheConstants.{DEPTH}

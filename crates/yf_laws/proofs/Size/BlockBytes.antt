@@ -1,4 +1,4 @@
--- A block scalar has a sign, and its text and its lines are no longer than what is after it.
+-- A block scalar has a sign, and its text and its lines are no longer than what follows the sign.
 use Rattle.std.proofs.Common.{◌≡◌, ℕ, ℤ, suc, ◌+◌, ◌-◌, ◌<◌, ◌≤◌, Bool, true, false, List, [], ◌∷◌, ◌++◌, length, refl, arith, length-append}
 use Rattle.std.specs.Prelude.{◌==◌, ◌||◌, drop, if◌then◌else◌, slice_range}
 use Rattle.std.proofs.lemmas.List.{length-drop, length-take}
@@ -50,7 +50,7 @@ joint_short false n = by (n == 0) where
   by true = omega arith
   by false = omega (arith, feeds_long n)
 
--- folded lines are no longer than lines that are joined by line feeds
+-- folded lines are no longer than lines joined by line feeds
 after_short : (s : Bool) (n : ℕ) (ls : List (List ℕ)) → length (folded_after s n ls) ≤ n + length (literal_after ls)
 after_short s n [] = omega arith
 after_short s n ([] ∷ ls) = let l = after_short s (n + 1) ls in omega (arith, l)
@@ -76,7 +76,7 @@ ending_short Strip tail = omega arith
 ending_short Clip tail = omega arith
 ending_short Keep tail = omega (arith, feeds_long (tail + 1))
 
--- the break of the last content line, where it has one
+-- the break of the last content line, if it has one
 abbrev break_of : Bool → ℕ
 break_of true = 0
 break_of false = 1

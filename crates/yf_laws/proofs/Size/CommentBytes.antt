@@ -1,4 +1,4 @@
--- The comments of what separates tokens are within it.
+-- The comments of a separation are within it.
 use Rattle.std.proofs.Common.{ℕ, ℤ, ◌+◌, ◌-◌, ◌≤◌, Bool, true, false, List, length, arith}
 use Rattle.std.specs.Prelude.{drop, slice_range}
 use Rattle.std.proofs.lemmas.List.{length-take}
@@ -22,7 +22,7 @@ use Rattle.yf_grammar.specs.Productions.Grammar.MaySeparate.{unseparated, separa
 use Rattle.yf_grammar.proofs.Ends.Forward.{in_line_forward}
 use Rattle.yf_laws.proofs.Size.Weights.{remark_high, remark_weight, remarks_append, remarks_weight}
 
--- a part of a text is no longer than what is between its ends
+-- a part of a text is no longer than the distance between its ends
 pub slice_short : (t : List ℕ) (i j : ℕ) → i ≤ j → length (slice_range t i j) + i ≤ j
 slice_short t i j l = omega (arith, l, length-take (j - i) (drop i t))
 

@@ -115,7 +115,7 @@ rows_size w g before c comments bound (one_row_low {x = x} {xs = xs} low more) =
     omega (arith, p, q, leaves_cost w x.leaves, texts_append w trails (remarks_of gap))) in
     omega (arith, others, remarks, one, same, two, three, four, carried)
 
--- What is told of comments.
+-- Numbers for comments.
 
 abbrev pub told_cost : ℕ → List (List ℕ × ℕ) → ℕ
 told_cost w [] = 0

@@ -1,4 +1,4 @@
--- What a scalar is written with in the style of the house, by the bytes that it is counted with.
+-- The length of a scalar in the house style, bounded by the bytes that it is counted with.
 use Rattle.std.proofs.Common.{◌≡◌, ℕ, zero, suc, ◌+◌, ◌-◌, ◌*◌, ◌<◌, ◌≤◌, Bool, true, false, ⊎_elim, List, [], ◌∷◌, ◌++◌, length, map, replicate, Option, Some, None, refl, sym, ap, ◌∙◌, arith, length-append, encode_utf8_all, flat_map, true≢false}
 use Rattle.std.specs.Prelude.{◌==◌, ◌/◌, ◌%◌, if◌then◌else◌, max}
 use Rattle.std.specs.List.{list_all}
@@ -259,7 +259,7 @@ header_most style indent text =
     let b = chomp_most (final_feeds text) in
     omega (arith, a, b, sign_one style, length-append (style_sign style) (digit_text indent text ++ chomping_sign (final_feeds text)), length-append (digit_text indent text) (chomping_sign (final_feeds text)))
 
--- its lines, where it has as many characters, and as many line feeds at its end, as are told
+-- its lines, with at most those numbers of characters and of line feeds at its end
 block_most : (w column : ℕ) (ls : List (List ℕ)) (tail n : ℕ) → column ≤ w → chars_in ls ≤ n → length (literal_after ls) ≤ suc n → tail ≤ n
     → body_size (map (line_at column) (ls ++ replicate tail [])) ≤ n * w + (n + n + 1)
 block_most w column ls tail n l a b d =
@@ -267,7 +267,8 @@ block_most w column ls tail n l a b d =
     let two = mul-le-mul_right w a in
     omega (arith, one, two, a, b, d, at_append column ls (replicate tail []), empty_lines column tail)
 
--- What a scalar takes: on one line, or with its lines at a column of w at most, where each of the n bytes stands for w and eight more.
+-- The length of a scalar: on one line, or with its lines at a column of at most w, bounded by w plus eight for each of
+-- the n bytes.
 pub record LeafCost (house : Style) (n : ℕ) (props : PropsValue) (style : ScalarStyle) (text : List ℕ) (lines : List (List ℕ)) : Type 0 where
   pub short : Short n (spaced (props_text props) (scalar_text house style text))
   pub block : is_block_style style ≡ true → (w column : ℕ) → column ≤ w

@@ -1,4 +1,5 @@
--- What a production means has no more bytes than what it derives: its events, with a byte for each entry, and its comments.
+-- The meaning of a production has no more bytes than its derived text: its events, with a byte for each entry, and its
+-- comments.
 use Rattle.std.proofs.Common.{◌≡◌, ℕ, ℤ, suc, ◌+◌, ◌-◌, ◌≤◌, Bool, true, false, List, [], ◌∷◌, ◌++◌, length, Option, Some, None, refl, ap, append_assoc, arith}
 use Rattle.std.specs.Prelude.{encode_utf8_all, max}
 use Rattle.std.proofs.Math.Nat.{max-le}
@@ -121,7 +122,7 @@ begun : {n : ℕ} (entry : Entry) (es : List EventInText) → Weighs n es → We
 begun entry [] a = record { adds = λ after rest. let b = a.adds after rest in omega (arith, b) }
 begun entry (e ∷ es) a = record { adds = λ after rest. let b = a.adds after rest in omega (arith, b) }
 
--- What a production means that derives what is from i to j, with so many bytes more as are given to it.
+-- The meaning of a production that derives the text from i to j, with that many bytes added to it.
 pub record Fills (i j more : ℕ) (x : Meaning) : Type 0 where
   pub weight : ℕ
   pub weighs : Weighs weight x.events
@@ -222,7 +223,7 @@ keyed {i} {k} {j} {m} {x} {y} a b =
     let both : Fills i j 0 (x ⊕ y) = fills_both {m = 0} {n = 0} first b in
     fills_in (omega arith) both
 
--- the same where the value is missing
+-- a key without a value
 unvalued : {i j m : ℕ} {x : Meaning} (f : ℕ) → Fills i j m x → Fills i j m (x ⊕ empty_node f)
 unvalued {j = j} f a = fills_in (omega arith) (fills_both a (fills_nothing {i = j} {j = j} f (omega arith)))
 

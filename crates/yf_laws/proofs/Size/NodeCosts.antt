@@ -1,4 +1,5 @@
--- What is asked of a tree in the styles of the house so that its rows are paid for: a number of bytes, and what a node takes on one line.
+-- The condition on a tree in the house style that bounds its rows: a number of bytes, and the length of a node on one
+-- line.
 use Rattle.std.proofs.Common.{◌≡◌, ℕ, suc, ◌+◌, ◌*◌, ◌≤◌, Bool, true, false, List, [], ◌∷◌, ◌++◌, length, refl, arith, length-append}
 use Rattle.std.specs.Prelude.{if◌then◌else◌, ◌&&◌}
 use Rattle.yf_props.specs.Props.{PropsValue}

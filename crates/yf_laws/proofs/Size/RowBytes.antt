@@ -1,4 +1,4 @@
--- The rows of a tree have no more bytes than it is counted with, each of which stands for the greatest column w and eight more.
+-- The rows of a tree are bounded by the bytes that it is counted with, times the greatest column w plus eight.
 use Rattle.std.proofs.Common.{◌≡◌, ℕ, zero, suc, ◌+◌, ◌-◌, ◌*◌, ◌≤◌, Bool, true, false, true≢false, List, [], ◌∷◌, ◌++◌, length, max, replicate, Option, Some, None, refl, sym, ap, ◌∙◌, arith, length-append}
 use Rattle.std.specs.Prelude.{if◌then◌else◌, is_some, ◌&&◌, nat_le, not}
 use Rattle.std.proofs.Math.Nat.{add-mul, le-max_left, le-max_right, mul-add, mul-le-mul_right, suc-mul}
@@ -18,7 +18,7 @@ use Rattle.yf_laws.proofs.Size.LeafBytes.{Short, body_size, nothing_short, some_
 use Rattle.yf_laws.proofs.Size.NodeCosts.{Costs, scalar_costs, alias_costs, no_items_cost, items_cost, no_pairs_cost, pairs_cost, ItemsCost, no_more_items, more_items_cost, PairsCost, no_more_pairs, more_pairs_cost, colon_most, written_short}
 use Rattle.yf_laws.proofs.Size.Weights.{props_weight}
 
--- What n bytes stand for.
+-- The bound for n bytes.
 
 unfoldable pub price : ℕ → ℕ → ℕ
 price w n = n * (w + 8)
@@ -67,8 +67,8 @@ joined_first head n [] = first_at refl
 joined_first head n (r ∷ rs) = first_at refl
 
 module _ (c : LayoutSetting) (w : ℕ) where
-  -- the rows of the node y: none, where it is a key without `?` in any case; rows of which the first is where the node is, and may be anywhere; or rows of
-  -- which the first is where its entries are
+  -- the rows of the node y: none, if it is a key without `?` at every column; rows whose first is at the column of the
+  -- node; or rows whose first is at the column of its entries
   pub data Laid (n : ℕ) (margins : Margins) (y : Node) : List Row → Type 0 where
     laid_nothing : ((column : ℕ) → is_implicit c.style column y ≡ true) → Laid n margins y []
     laid_line : {r : Row} {rs : List Row} → begins_below y ≡ false → r.column ≡ margins.column → w + (rest_size r + size rs) ≤ price w n → Laid n margins y (r ∷ rs)

@@ -1,4 +1,4 @@
--- A formatted text is no longer than each byte of the text, and one more, stands for: the greatest column of a line, and eight bytes.
+-- A formatted text has at most as many bytes as the text, plus one, times the greatest column of a line, plus eight.
 use Rattle.std.proofs.Common.{◌≡◌, ℕ, suc, ◌+◌, ◌*◌, ◌≤◌, List, [], ◌∷◌, length, map, max, flat_map, refl, sym, ap, ◌∙◌, subst, arith}
 use Rattle.std.proofs.Math.Nat.{mul_comm, mul-le-mul_right, suc-mul}
 use Rattle.std.specs.Prelude.{Bool, true, false, if◌then◌else◌}
@@ -79,7 +79,7 @@ module _ {t u : List ℕ} {s : Style} (utf8 : IsUtf8 t) (f : IsFormatting t s u)
   cost : DocumentsCost t setting f.reads.reads.shapes.height trees
   cost = documents_cost t setting utf8 (stream_derived f.reads.reads.shapes.derived) (reading_is_at utf8 f.reads).meant
 
-  -- where no more collections are open at once
+  -- if at most d collections are open at once
   sized : (d : ℕ) → tall_documents trees ≤ d → length u ≤ suc (length t) * (s.indent * suc d + 8)
   sized d l =
       let w : ℕ = s.indent * suc d in

@@ -1,4 +1,5 @@
--- The text of a plain or quoted scalar is no longer than what it is read from, but that in double quotes two bytes may be three.
+-- The text of a plain or quoted scalar is no longer than its source, except that in double quotes two bytes may become
+-- three.
 use Rattle.std.proofs.Common.{◌≡◌, ℕ, ℤ, ◌+◌, ◌≤◌, Bool, List, [], ◌∷◌, ◌++◌, length, refl, ap, ◌∙◌, arith, length-append, encode_utf8_all}
 use Rattle.std.proofs.lemmas.Str.{encodes-append, length-encode, len_utf8_bounds}
 use Rattle.std.specs.Char.{len_utf8}

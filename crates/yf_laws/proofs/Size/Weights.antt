@@ -36,7 +36,7 @@ text_weight Double text lines = half (length text) + 2
 text_weight Literal text lines = suc (length text)
 text_weight Folded text lines = suc (max (length text) (length (literal lines)))
 
--- properties, without what is between them
+-- properties, without the separation between them
 abbrev pub props_weight : PropsValue → ℕ
 props_weight props = length (anchor_text props.anchor) + length (tag_text props.tag)
 
@@ -52,7 +52,7 @@ value_weight mapping_ends lines = 0
 value_weight (scalar_node props style text) lines = props_weight props + text_weight style text lines
 value_weight (alias_node name) lines = suc (length name)
 
--- an entry has a byte that is none of its node's: its sign, or what is between it and the next one
+-- an entry has a byte that isn't its node's: its sign, or a byte between it and the next entry
 abbrev pub entry_weight : Option Entry → ℕ
 entry_weight None = 0
 entry_weight (Some e) = 1

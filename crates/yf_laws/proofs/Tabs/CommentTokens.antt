@@ -1,4 +1,4 @@
--- What is true of each comment of a reading is true of those that its rows carry.
+-- A property of all comments of a reading holds for those that its rows carry.
 use Rattle.std.proofs.Common.{ℕ, Bool, true, false, List, [], ◌∷◌, ◌++◌, map, flat_map, Option, Some, None}
 use Rattle.std.specs.Prelude.{◌&&◌, ◌||◌, filter, if◌then◌else◌, nat_lt, not, option_to_list, zip}
 use Rattle.std.specs.List.{find}

@@ -1,4 +1,5 @@
--- The text of each row of a layout is made of pieces of its trees, words of its directives, signs and spaces: so no tab is in it but where one is in these.
+-- The text of each row of a layout consists of pieces of its trees, words of its directives, signs and spaces; so it
+-- has tabs only in these pieces and words.
 use Rattle.std.proofs.Common.{◌≡◌, ℕ, zero, suc, ◌+◌, ◌<◌, Bool, true, false, List, [], ◌∷◌, ◌++◌, map, flat_map, replicate, Option, Some, None, refl, sym, ap, ◌∙◌, subst, arith, append_assoc, append-nil}
 use Rattle.std.specs.Prelude.{◌-◌, if◌then◌else◌}
 use Rattle.std.proofs.lemmas.Grind.{flat_map-append}

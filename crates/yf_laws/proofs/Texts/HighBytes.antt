@@ -1,4 +1,4 @@
--- The bytes of a character that is no ASCII are no ASCII.
+-- The bytes of a character outside ASCII are outside ASCII.
 use Rattle.std.proofs.Common.{◌≡◌, ℕ, zero, suc, ◌+◌, ◌<◌, ◌≤◌, ◌/◌, ◌%◌, Bool, true, false, List, [], ◌∷◌, ◌++◌, length, get_or, take, sym, ap, ◌∙◌, arith, ltb, length-append}
 use Rattle.std.specs.Prelude.{if◌then◌else◌}
 use Rattle.std.proofs.lemmas.Bool.{le-ltb}
@@ -24,7 +24,7 @@ high_at [] k a l = absurd (omega arith)
 high_at (x ∷ xs) zero a l = a.0
 high_at (x ∷ xs) (suc k) a l = high_at xs k a.1 (omega (arith, l))
 
--- so are those of one that is in a text
+-- and those of such a character in a text
 pub high_there : {t : List ℕ} {i c j : ℕ} → CharAt t i c j → 128 ≤ c → (k : ℕ) → i + k < j → 128 ≤ get_or t (i + k) 0
 high_there {t} {i} {c} {j} r h k l =
     let back : length (take i t) ≡ i = let a = r.later in let b = r.within in omega (arith, length-take i t, a, b) in

@@ -15,7 +15,7 @@ quoted_stays t q = by (quotes_in q.invisible (chars t) q.quotes) where
   by Quotes.Single = refl
   by Quotes.Double = refl
 
--- a style that is kept where it is chosen, else quotes
+-- a style that is kept if it is chosen, otherwise quotes
 choice_stays : (s : ScalarStyle) (t : List ℕ) (q : Style) (b : Bool) → (b ≡ true → wanted s t q ≡ s)
     → wanted (if b then s else quoted_in t q) t q ≡ (if b then s else quoted_in t q)
 choice_stays s t q true kept = kept refl

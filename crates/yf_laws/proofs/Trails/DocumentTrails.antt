@@ -15,7 +15,7 @@ use Rattle.yf_laws.proofs.Trails.KeyTrails.{given, given_append, given_enclosed,
 use Rattle.yf_laws.proofs.Trails.RowLeaves.{leaves_on, node_leaves, on_append}
 use Rattle.yf_laws.proofs.NormalForms.StyledTwice.{House}
 
--- rows without leaves, and of which no comment trails a key
+-- rows without leaves, and without comments that trail a key
 record Blank (xs : List Row) : Type 0 where
   leaves : leaves_on xs ≡ []
   keys : keys_on xs ≡ []

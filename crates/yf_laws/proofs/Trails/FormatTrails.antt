@@ -24,7 +24,7 @@ use Rattle.yf_laws.proofs.Trails.RowLeaves.{leaves_on}
 use Rattle.yf_laws.proofs.Trails.StillHolds.{trees_kept}
 use Rattle.yf_laws.proofs.Trails.TrailChoice.{rising}
 
--- The trees of what is formatted.
+-- The trees of a normal form.
 
 pub record NormalTrees (t : List ℕ) {s : Style} {u : List ℕ} (f : IsFormatting t s u) : Type 0 where
   pub trees : List DocumentTree

@@ -20,7 +20,7 @@ use Rattle.yf_laws.proofs.Printer.PrintTrees.{item_parts, items_of, pair_parts, 
 use Rattle.yf_laws.proofs.NormalForms.StyledTwice.{House}
 use Rattle.yf_laws.proofs.Trails.TrailOthers.{at_indices}
 
--- The comment at the index of the one that trails a key is that comment.
+-- The comment at the index of the comment that trails a key is that comment.
 
 abbrev at_some : List CommentValue → Option ℕ → List CommentValue
 at_some cs o = at_indices cs (option_to_list o)
@@ -127,7 +127,7 @@ block_given c site f p fs xs e g =
     ∙ ap (λ v. at_some c.comments site.key_comment ++ v)
     (g ∙ (sym (ap (λ w. w ++ keys_on xs) (keys_props site.margins.column p)) ∙ sym (keys_append (props_row site.margins.column p) xs))))
 
--- of a key and its value, whose rows these are
+-- for a key and its value with these rows
 key_given : (c : LayoutSetting) (column : ℕ) (b : Bool) (k v w : Node) (xs ys : List Row) → w ≡ v → (b ≡ true → keys_on xs ≡ [])
     → keys_on xs ++ (at_some c.comments (if b then key_comment_index c.comments k w else None) ++ keys_on ys)
     ≡ keys_on (if b then implicit_pair c column k v ys else explicit_pair c.style column k xs ys)

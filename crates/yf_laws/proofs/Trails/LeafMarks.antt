@@ -1,4 +1,4 @@
--- The pass that finds which comments trail looks at the leaves alone, one after the other.
+-- The pass that finds which comments trail inspects only the leaves, in order.
 use Rattle.std.proofs.Common.{◌≡◌, ℕ, ◌+◌, ◌<◌, Bool, true, false, ◌&&◌, List, [], ◌∷◌, ◌++◌, length, drop, Option, Some, None, refl, sym, ap, ◌∙◌, arith, append_assoc}
 use Rattle.std.specs.Prelude.{nat_lt}
 use Rattle.std.specs.List.{list_all}
@@ -20,7 +20,7 @@ pub record Mark : Type 0 where
 abbrev pub mark : ℕ → Span → Mark
 mark event span = record { event = event; span = span }
 
--- of the event at an index, where it begins a leaf
+-- the mark of the event at an index, if it begins a leaf
 abbrev pub mark_if : Bool → ℕ → Option Span → List Mark
 mark_if true i None = []
 mark_if true i (Some span) = mark i span ∷ []

@@ -43,7 +43,7 @@ joined_spans g i ys zs ss rs e f =
     ap spans (marks_append g.measures i ys zs) ∙ (spans_append (event_marks g.measures i ys) (event_marks g.measures (i + length ys) zs)
     ∙ (ap (λ w. w ++ spans_in g (i + length ys) zs) e ∙ ap (λ w. ss ++ w) f))
 
--- an event that stands for no text, one that begins a leaf, and one that begins a collection with entries
+-- an event without a text, one that begins a leaf, and one that begins a collection with entries
 plain_spans : (g : Seen) (i : ℕ) (e : EventInText) → e.span ≡ None → spans_in g i (e ∷ []) ≡ []
 plain_spans g i e s = ap (λ o. spans (mark_if (is_leaf g.measures i) i o ++ [])) s ∙ by (is_leaf g.measures i) where
   by : (b : Bool) → spans (mark_if b i None ++ []) ≡ []

@@ -1,4 +1,5 @@
--- The rows of a normal form carry one comment each at most after them, where none is between the leaves of a flow collection on one line.
+-- At most one comment trails each row of a normal form, if no comment is between the leaves of a flow collection on one
+-- line.
 use Rattle.std.proofs.Common.{◌≡◌, ℕ, ◌-◌, Bool, true, false, true≢false, ◌&&◌, ◌||◌, List, [], ◌∷◌, ◌++◌, codes, map, Option, Some, None, refl, sym, ap, ◌∙◌, subst, append_assoc, append-nil}
 use Rattle.std.specs.Prelude.{find, is_some, if◌then◌else◌}
 use Rattle.std.proofs.lemmas.Bool.{and_parts}
@@ -32,7 +33,7 @@ use Rattle.yf_laws.proofs.Trails.TrailChoice.{rising}
 use Rattle.yf_laws.proofs.Derived.TreesMade.{either_pair}
 
 module _ (cs : List CommentValue) where
-  -- a row whose key no comment trails
+  -- a row without a comment that trails its key
   keyless : {row : Row} {post : List Span} → Still cs row.leaves → row.key_comment ≡ None → Tidy cs row post
   keyless a e = record { still = a; key = λ d f. absurd cc }
 
@@ -151,7 +152,7 @@ first_value c margins k (mapping at false props (pair x y ps)) e f a h = props_f
 
 -- Trees.
 
--- what holds of the rows of a node wherever it is
+-- the claim for the rows of a node, whatever its margins
 record NodeTidy (c : LayoutSetting) (x : Node) : Type 0 where
   tidy : (margins : Margins) (post : List Span) → TidyRows c.comments (rows c margins x) post
   leaves_are : (margins : Margins) → leaves_on (rows c margins x) ≡ leaves x
@@ -251,7 +252,8 @@ node_rows_tidy c margins x post a p h k = (node_tidy c x a p h k).tidy margins p
 
 -- Documents.
 
--- the roots of documents: in the house style, with places where they have characters, and with no comment within a flow collection
+-- the roots of documents: in the house style, with a span if they have characters, and with no comment within a flow
+-- collection
 abbrev pub TreesKept : LayoutSetting → List DocumentTree → Type 0
 TreesKept c [] = Unit {0}
 TreesKept c (x ∷ xs) = ((is_placed x.root ≡ true) × (House c x.root × KeptStill c.comments x.root)) × TreesKept c xs
@@ -297,7 +299,7 @@ all_tidy c true (d ∷ ds) (x ∷ xs) post a k =
     (begun_tidy c.comments d.start tree (leaves_on rest ++ post) (node_rows_tidy c (root_margins c.style) x.root (leaves_on rest ++ post) a k.0.0 k.0.1.0 k.0.1.1))
     (stream_tidy c false ds xs post a k.1)
 
--- so at most one comment trails a row of the layout, where the leaves begin one after the other
+-- so at most one comment trails a row of the layout, if the starts of leaves rise
 pub trails_fit : (m : Lists) (s : Style) (trees : List DocumentTree) → AreRemarks m.comments → TreesKept (setting_of m s) trees → rising (leaves_on (rows_of m s trees)) ≡ true
     → TrailsFit (source_of m (rows_of m s trees)) (rows_of m s trees)
 trails_fit m s trees a k up = rows_trail m.on_leaf_line [] [] (rows_of m s trees) refl up a refl refl (all_tidy (setting_of m s) (is_bare m s) m.documents trees [] a k)

@@ -1,4 +1,4 @@
--- At most one comment trails a row of a layout, where none is between the leaves that are written together.
+-- At most one comment trails a row of a layout, if none is between the leaves that are written together.
 use Rattle.std.proofs.Common.{◌≡◌, ℕ, Bool, true, false, not, ◌&&◌, ◌||◌, List, [], ◌∷◌, ◌++◌, map, flat_map, Option, Some, None, refl, sym, ap, ◌∙◌, subst, arith, append_assoc, append-nil}
 use Rattle.std.specs.Prelude.{◌==◌, find, zip, nat_lt, option_to_list, if◌then◌else◌}
 use Rattle.std.proofs.lemmas.Bool.Decides.{nat_tests}
@@ -42,7 +42,7 @@ noted_none p (c ∷ cs) (b ∷ bs) e = go (p c) (noted_none p cs bs) e where
   go true rest f = absurd cc
   go false rest f = rest f
 
--- the same comment with its note, or none where notes are missing
+-- that comment with its note, or none if notes are missing
 record SameNoted (d : CommentValue) (o : Option Remark) : Type 0 where
   same : (r : Remark) → o ≡ Some r → r.0 ≡ d
 
@@ -74,7 +74,7 @@ abbrev texts_of : List CommentValue → List (List ℕ)
 texts_of ds = map (λ (d : CommentValue). trimmed d.text) ds
 
 module _ (c : Source) (cs : List CommentValue) (bs : List Bool) (remarks : c.remarks ≡ zip cs bs) (up : rising c.leaves ≡ true) where
-  -- the first comment after a leaf, where another leaf follows
+  -- the first comment after a leaf, if another leaf follows
   first_before : (pre : List Span) (s r : Span) (ys : List Span) → c.leaves ≡ pre ++ (s ∷ r ∷ ys) → first_comment c s ≡ find (noted (between s.start r.start)) (zip cs bs)
   first_before pre s r ys e =
       let next : next_leaf c.leaves s.start ≡ Some r.start = ap (λ w. next_leaf w s.start) e ∙ next_after pre s (r ∷ ys) (subst (λ w. rising w ≡ true) e up) in
@@ -103,7 +103,7 @@ module _ (c : Source) (cs : List CommentValue) (bs : List Bool) (remarks : c.rem
       let rest = leaves_trail (pre ++ (s ∷ [])) (r ∷ ss) post (e ∙ sym (append_assoc pre (s ∷ []) ((r ∷ ss) ++ post))) a k in
       subst (λ w. AreTrails (texts_of (w ++ flat_map (trail_of c) (r ∷ ss)))) (sym (silent pre s r (ss ++ post) e n)) rest
 
-  -- none trails them beside the one that trails their key
+  -- only the comment that trails their key trails them
   key_silent : (d : CommentValue) (pre : List Span) (s r : Span) (ys : List Span) → c.leaves ≡ pre ++ (s ∷ r ∷ ys) → is_among c.key_comments d ≡ true
       → find (between s.start r.start) cs ≡ Some d → trail_of c s ≡ []
   key_silent d pre s r ys e k f = ap (trailing_leaf c s) (first_before pre s r ys e) ∙ go (find (noted (between s.start r.start)) (zip cs bs)) (noted_same (between s.start r.start) cs bs d f) where

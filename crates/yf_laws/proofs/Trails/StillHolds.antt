@@ -1,5 +1,5 @@
--- In the normal form of trees that are in a text no comment is between the leaves of a flow collection on one line: they are between its
--- brackets, where the style of the house lets none are.
+-- In the normal form of trees that are in a text no comment is between the leaves of a flow collection on one line:
+-- those leaves are between its brackets, where the house style allows no comment.
 use Rattle.std.proofs.Common.{◌≡◌, ℕ, ◌≤◌, Bool, true, false, true≢false, not, ◌&&◌, List, [], ◌∷◌, map, Option, None, refl, sym, ap, ◌∙◌, subst, arith}
 use Rattle.std.specs.Prelude.{nat_le, nat_lt, find, if◌then◌else◌}
 use Rattle.std.specs.List.{list_any}
@@ -44,7 +44,7 @@ still_steps cs {k} {b} (s ∷ r ∷ ss) (a_step l w (a_step m v a)) n =
     let rest : Steps k (r ∷ ss) b = a_step (omega (arith, l, w, m)) v a in
     more_still (none_found cs k b s.start r.start l (omega (arith, v, o)) n) (still_steps cs (r ∷ ss) rest n)
 
--- A flow collection in which no comment is.
+-- A flow collection that has no comment in it.
 
 module _ {t : List ℕ} (u : IsUtf8 t) (cs : List CommentValue) where
   flow_still : {flow : Bool} {props : PropsValue} {i a k b : ℕ} {o : Option Span} (ss : List Span) → o ≡ from_to a b → Opens t flow props i a k b → flow ≡ true

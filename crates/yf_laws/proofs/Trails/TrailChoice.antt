@@ -1,4 +1,5 @@
--- The first comment after a leaf, as the layout looks for it and as the pass counts it, is the same where no comment is at the leaf's start.
+-- The first comment after a leaf is the one that the layout finds and that the pass counts, if no comment is at the
+-- leaf's start.
 use Rattle.std.proofs.Common.{◌≡◌, ℕ, suc, Bool, true, false, not, ◌&&◌, List, [], ◌∷◌, ◌++◌, length, Option, Some, None, refl, sym, ap, ◌∙◌, arith}
 use Rattle.std.specs.Prelude.{◌==◌, find, zip, nat_lt, nat_le, option_map, slice_get, if◌then◌else◌}
 use Rattle.std.specs.List.{list_all}
@@ -15,7 +16,7 @@ abbrev pub until : Option ℕ → List CommentValue → ℕ
 until None cs = length cs
 until (Some end) cs = count_to end cs
 
--- the remark at an index, where it is before another index
+-- the remark at an index, if that is before another index
 abbrev pub pick : ℕ → ℕ → List Remark → Option Remark
 pick n u rs = if nat_lt n u then slice_get rs n else None
 
@@ -125,7 +126,7 @@ all_parts s (x ∷ xs) ys e = all_parts s xs ys (and_parts (nat_lt s.start x.sta
 head_later : (n : ℕ) (s : Span) (ys : List Span) → list_all (λ (r : Span). nat_lt n r.start) (s ∷ ys) ≡ true → nat_lt n s.start ≡ true
 head_later n s ys e = (and_parts (nat_lt n s.start) (list_all (λ r. nat_lt n r.start) ys) e).0
 
--- the next leaf after one of them is the one after it
+-- the next leaf after one of them is its successor
 pub next_after : (xs : List Span) (s : Span) (ys : List Span) → rising (xs ++ (s ∷ ys)) ≡ true → next_leaf (xs ++ (s ∷ ys)) s.start ≡ start_of_first ys
 next_after [] s [] r = ap (λ b. option_map (λ (x : Span). x.start) (if b then Some s else None)) (itself s.start)
 next_after [] s (y ∷ ys) r =
@@ -146,7 +147,7 @@ pub rising_after : (xs ys : List Span) → rising (xs ++ ys) ≡ true → rising
 rising_after [] ys r = r
 rising_after (x ∷ xs) ys r = rising_after xs ys (and_parts (list_all (λ z. nat_lt x.start z.start) (xs ++ ys)) (rising (xs ++ ys)) r).1
 
--- So the first comment after a leaf is the one at the index that the pass counts, where it is before the next leaf.
+-- So the first comment after a leaf is the one at the index that the pass counts, if it is before the next leaf.
 pub first_counted : (c : Source) (cs : List CommentValue) (bs : List Bool) (xs : List Span) (s : Span) (ys : List Span) → c.remarks ≡ zip cs bs → c.leaves ≡ xs ++ (s ∷ ys)
     → ascend cs ≡ true → rising (xs ++ (s ∷ ys)) ≡ true → none_at s.start cs ≡ true
     → first_comment c s ≡ pick (count_to s.start cs) (until (start_of_first ys) cs) (zip cs bs)

@@ -1,4 +1,4 @@
--- What trails a leaf is the first comment after its beginning and before the next leaf.
+-- What trails a leaf is the first comment after its start and before the next leaf.
 use Rattle.std.proofs.Common.{◌≡◌, ℕ, ◌+◌, ◌<◌, ◌≤◌, Bool, true, false, true≢false, not, ◌&&◌, ◌||◌, List, [], ◌∷◌, ◌++◌, flat_map, Option, Some, None, refl, sym, ap, ◌∙◌, subst, arith, append_assoc, append-nil}
 use Rattle.std.specs.Prelude.{find, zip, nat_lt, if◌then◌else◌}
 use Rattle.std.proofs.lemmas.Bool.{and_parts, and_from}
@@ -36,7 +36,7 @@ found_first p (c ∷ cs) i e (upward_more l a) h = go (p c) refl (found_first p 
   go true q f k = here q (same_Some c e k)
   go false q f k = let w = f k in record { among = in_rest w.among; passes = w.passes; first = λ d j r. w.first d (skipped d q j r) r }
 
--- the same of comments with their notes
+-- this holds for comments with their notes
 noted_first : (p : CommentValue → Bool) (cs : List CommentValue) (bs : List Bool) (r : Remark) → find (λ (q : Remark). p q.0) (zip cs bs) ≡ Some r → find p cs ≡ Some r.0
 noted_first p [] bs r h = absurd cc
 noted_first p (c ∷ cs) [] r h = absurd cc
@@ -109,7 +109,7 @@ module _ (c : Source) (cs : List CommentValue) (bs : List Bool) (remarks : c.rem
     go None f = nothing_trails
     go (Some r) f = by r f ((nat_lt r.0.offset s.end || r.1) && not (is_among c.key_comments r.0)) refl
 
-  -- of leaves between which no comment is the last alone is trailed
+  -- among leaves with no comment between them, a comment may trail only the last
   pub last_trails : (pre ls : List Span) (s : Span) (post : List Span) → c.leaves ≡ pre ++ ((ls ++ (s ∷ [])) ++ post) → Still cs (ls ++ (s ∷ [])) → flat_map (trail_of c) (ls ++ (s ∷ [])) ≡ trail_of c s
   last_trails pre [] s post e a = append-nil (trail_of c s)
   last_trails pre (l ∷ []) s post e (more_still n a) = ap (λ w. w ++ (trail_of c s ++ [])) (silent c cs bs remarks up pre l s post e n) ∙ append-nil (trail_of c s)

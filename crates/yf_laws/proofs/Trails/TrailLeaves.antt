@@ -32,7 +32,7 @@ both_at (c ∷ cs) (b ∷ bs) (suc n) e l =
     let rest = both_at cs bs n (omega (arith, e)) (omega (arith, l)) in
     record { comment = rest.comment; note = rest.note; both = rest.both; one = rest.one; other = rest.other }
 
--- what the pass knows of comments that trail keys is what the layout has of them
+-- the marks of the pass for comments that trail keys are those of the layout
 pub record KeyMarks (c : Source) (cs : List CommentValue) (keys : List Bool) : Type 0 where
   pub marked : (k : ℕ) (d : CommentValue) → slice_get cs k ≡ Some d → get_or keys k false ≡ is_among c.key_comments d
 
@@ -46,7 +46,7 @@ end_within : (r : Lists) (ls : List Mark) → end_of r ls ≤ length r.comments
 end_within r [] = omega arith
 end_within r (l ∷ ls) = counted_within l.span.start r.comments
 
--- the comment that is found of a leaf is the one that the layout has after it
+-- the comment that is found for a leaf is the one that the layout has after it
 pub chosen_of : (r : Lists) (c : Source) (keys : List Bool) (xs : List Mark) (l : Mark) (ys : List Mark) → c.remarks ≡ zip r.comments r.on_leaf_line
     → length r.on_leaf_line ≡ length r.comments → c.leaves ≡ spans xs ++ (l.span ∷ spans ys) → ascend r.comments ≡ true → rising (spans xs ++ (l.span ∷ spans ys)) ≡ true
     → none_at l.span.start r.comments ≡ true → KeyMarks c r.comments keys
@@ -79,7 +79,7 @@ chosen_of r c keys xs l ys m e lv a u n k =
             whole true j d h = sym (ap option_to_list h)
             whole false j d h = refl
 
--- what is printed of it
+-- its printed text
 pub text_of : (cs : List CommentValue) (o : Option ℕ) → trailing_if cs o ≡ flat_map after_two_spaces (at_index cs o)
 text_of cs None = refl
 text_of cs (Some n) = by (slice_get cs n) where

@@ -23,7 +23,7 @@ shuffled false true false d = refl
 shuffled false false true d = refl
 shuffled false false false d = refl
 
--- what trails the rows are the comments that trail keys and those that trail leaves
+-- the comments that trail the rows are those that trail keys and those that trail leaves
 pub among_rows : (c : Source) (rows : List Row) (d : CommentValue)
     → is_among (flat_map (trailing c) rows) d
     ≡ (is_among (flat_map (λ row. option_to_list row.key_comment) rows) d
@@ -43,7 +43,7 @@ among_rows c (row ∷ rows) d =
     ∙ (ap (λ b. is_among (key ++ keys) d || b) (sym (among_join mine (flat_map of_leaf others) d))
     ∙ ap (λ w. is_among (key ++ keys) d || is_among w d) (sym (flat_map-append of_leaf row.leaves others)))))))
 
--- What is left.
+-- The comments that are left.
 
 pub firsts : (cs : List CommentValue) (bs : List Bool) → length bs ≡ length cs → map (λ (r : Remark). r.0) (zip cs bs) ≡ cs
 firsts [] [] e = refl
@@ -63,7 +63,7 @@ left_is marks p j (c ∷ cs) h =
       by true e = e
       by false e = ap (λ w. c ∷ w) e
 
--- the marks tell of each comment whether it trails a row
+-- the marks say for each comment whether it trails a row
 pub others_left : (c : Source) (cs : List CommentValue) (bs marks : List Bool) (rows : List Row) → c.remarks ≡ zip cs bs → length bs ≡ length cs
     → ((n : ℕ) (d : CommentValue) → slice_get cs n ≡ Some d → get_or marks n false ≡ is_among (flat_map (trailing c) rows) d)
     → left marks 0 cs ≡ own_line_comments c rows
@@ -91,7 +91,7 @@ zero_suc n = grind (arith, nat_tests)
 suc_suc : (n m : ℕ) → (suc n == suc m) ≡ (n == m)
 suc_suc n m = grind (arith, nat_tests)
 
--- comments that begin one after the other are told by their offsets
+-- comments with rising offsets are determined by their offsets
 same_place : (cs : List CommentValue) (n k : ℕ) (a d : CommentValue) → strict cs ≡ true → slice_get cs n ≡ Some a → slice_get cs k ≡ Some d → (a.offset == d.offset) ≡ (n == k)
 same_place [] n k a d s e f = absurd cc
 same_place (c ∷ cs) zero zero a d s e f =

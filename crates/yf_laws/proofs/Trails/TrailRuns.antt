@@ -1,4 +1,5 @@
--- What the pass over leaves finds: of each leaf the comment that is counted after it, where that trails and no key has it.
+-- What the pass over leaves finds: for each leaf the comment that is counted after it, if it trails the leaf and no
+-- key.
 use Rattle.std.proofs.Common.{◌≡◌, ◌≢◌, ℕ, suc, ◌+◌, ◌≤◌, ◌<◌, Bool, true, false, not, ◌&&◌, List, [], ◌∷◌, ◌++◌, length, map, drop, get_or, Option, Some, None, refl, sym, ap, ◌∙◌, arith}
 use Rattle.std.specs.Prelude.{nat_lt, if◌then◌else◌}
 use Rattle.std.specs.List.{list_all}
@@ -61,7 +62,7 @@ run_is r (l ∷ ls) f u =
     let none : 0 + count_to l.span.start r.comments ≡ count_to l.span.start r.comments = omega arith in
     ap (λ n. ended r (past_marks r ls (state f (Some (record { event = l.event; end = l.span.end; first = n }))))) none ∙ run_after r l ls f u
 
--- What is found of one leaf.
+-- The result for one leaf.
 
 -- the comments from an index on are marked alike
 pub record Agree (n : ℕ) (one other : List Bool) : Type 0 where
@@ -86,7 +87,7 @@ given_agrees r l u f other h a = by (trails_leaf r f.trailing l u) refl where
             get_or-set_other f.trailing l.first k true false other_one ∙ a.agree k (omega (arith, low, g));
       }
 
--- what is found of the event at an index stays where other leaves are met
+-- the result for the event at an index isn't changed by other leaves
 
 given_elsewhere : (r : Lists) (l : Leaf) (u : ℕ) (f : TrailsSoFar) (j : ℕ) → j ≢ l.event → get_or (given r (Some l) u f).of_leaf j None ≡ get_or f.of_leaf j None
 given_elsewhere r l u f j n = by (trails_leaf r f.trailing l u) where
@@ -118,7 +119,7 @@ counted_to_end r l (m ∷ ls) u =
     let later : nat_lt l.span.start m.span.start ≡ true = (and_parts (nat_lt l.span.start m.span.start) (list_all (λ (s : Span). nat_lt l.span.start s.start) (spans ls)) parts.0).0 in
     counted_later l.span.start m.span.start r.comments (is_less l.span.start m.span.start later)
 
--- the comment that trails the leaf, where these trail keys
+-- the comment that trails the leaf, if these trail keys
 abbrev pub found_of : Lists → List Bool → Mark → List Mark → Option ℕ
 found_of r keys l ls = if trails_leaf r keys (leaf_in r l) (end_of r ls) then Some (count_to l.span.start r.comments) else None
 

@@ -1,4 +1,4 @@
--- The marks that the pass over leaves ends with tell which comments trail in the layout.
+-- The final marks of the pass over leaves say which comments trail in the layout.
 use Rattle.std.proofs.Common.{◌≡◌, ◌≢◌, ℕ, ◌<◌, Bool, true, false, ◌&&◌, List, [], ◌∷◌, ◌++◌, length, flat_map, get_or, set, Option, Some, None, refl, sym, ap, ◌∙◌, arith, append_assoc}
 use Rattle.std.specs.Prelude.{◌||◌, ◌==◌, nat_lt, option_to_list, slice_get, zip, if◌then◌else◌}
 use Rattle.std.specs.List.{list_all}
@@ -105,7 +105,7 @@ all_chosen r c keys xs (l ∷ ls) m e lv a u n k =
     (all_chosen r c keys (xs ++ (l ∷ [])) ls m e (lv ∙ sym moved) a (ap rising moved ∙ u) parts.1 k)
     ∙ one_chosen r.comments (found_of r keys l ls) (founds r keys ls))
 
--- So a comment is marked where it trails a row.
+-- So a comment is marked if and only if it trails a row.
 pub marks_agree : (r : Lists) (c : Source) (rows : List Row) (ls : List Mark) (f : TrailsSoFar) → c.remarks ≡ zip r.comments r.on_leaf_line → length r.on_leaf_line ≡ length r.comments
     → c.leaves ≡ spans ls → c.leaves ≡ flat_map (λ row. row.leaves) rows → c.key_comments ≡ flat_map (λ row. option_to_list row.key_comment) rows
     → ascend r.comments ≡ true → strict r.comments ≡ true → rising (spans ls) ≡ true → none_at_starts r.comments (spans ls) ≡ true

@@ -1,4 +1,4 @@
--- What the pass over leaves finds of a stream of normal forms are the comments that trail in its layout.
+-- The pass over leaves finds, for a stream of normal forms, the comments that trail in its layout.
 use Rattle.std.proofs.Common.{◌≡◌, ℕ, ◌<◌, Bool, true, false, List, [], ◌∷◌, ◌++◌, length, flat_map, get_or, replicate, Option, Some, None, refl, sym, ap, ◌∙◌, arith}
 use Rattle.std.specs.Prelude.{◌||◌, option_to_list, slice_get}
 use Rattle.std.proofs.lemmas.Bool.{and_parts}
@@ -34,7 +34,7 @@ use Rattle.yf_laws.proofs.Trails.TrailsAgree.{has_append, marked_one, marks_agre
 use Rattle.yf_forms.specs.NormalForms.BareStart.{is_bare}
 use Rattle.yf_forms.proofs.Decide.FlagLemmas.{or_assoc}
 
--- a stream of normal forms, with so many open collections at most, whose places are in order
+-- a stream of normal forms, with at most n open collections and with its offsets in order
 pub record Placing (m : Lists) (s : Style) (n : ℕ) (ds : List DocumentTree) : Type 0 where
   pub of_reading : TreesOf m ds
   pub placed : documents_are_placed ds ≡ true

@@ -1,4 +1,5 @@
--- Block scalars that the house style leaves so can be written: the lines that were read are those of their text.
+-- Block scalars that the house style leaves as they are can be written: the lines that were read are those of their
+-- text.
 use Rattle.std.proofs.Common.{◌≡◌, ◌≢◌, ℕ, zero, suc, ◌+◌, ◌-◌, ◌<◌, ℤ, Bool, true, false, true≢false, ◌&&◌, List, [], ◌∷◌, ◌++◌, length, get_or, refl, sym, ap, ◌∙◌, subst, arith, append-nil}
 use Rattle.std.specs.Prelude.{◌==◌, ◌||◌, if◌then◌else◌}
 use Rattle.std.specs.List.{list_all}
@@ -156,7 +157,7 @@ folded_unspaced ((c ∷ x) ∷ ls) z e h = first_other c (begins_with_space ((x 
 
 -- Scalars.
 
--- so many line feeds end the text
+-- that many line feeds end the text
 ending_written : (n : ℕ) → ending (chomp_of n) (n - 1) ≡ feeds n
 ending_written zero = refl
 ending_written (suc zero) = refl
@@ -215,7 +216,7 @@ block_fits h (x ∷ ls) tail o a e =
     subst (λ w. FitScalar (style_of h.folded) ((if h.folded then folded (x ∷ ls) else literal (x ∷ ls)) ++ w) (kept_lines h.folded (x ∷ ls))) (sym end.1)
     (lines_fit h.folded (x ∷ ls) end.0 a e)
 
--- without a content line there is no character but line feeds
+-- without a content line, all characters are line feeds
 feeds_alone : (n : ℕ) → has_block_content (feeds n) ≡ false
 feeds_alone zero = refl
 feeds_alone (suc n) = feeds_alone n
@@ -225,7 +226,7 @@ lone_content Strip tail = refl
 lone_content Clip tail = refl
 lone_content Keep tail = feeds_alone tail
 
--- as it is read, where the house style leaves it a block scalar
+-- as it is read, if the house style leaves it a block scalar
 pub read_block_fits : {t : List ℕ} {n : ℤ} {h : Header} {i j : ℕ} {v : BodyValue} → IsUtf8 t → Body t n h i j v
     → has_block_content (content_of h v.lines v.tail v.open_end) ≡ true
     → FitScalar (style_of h.folded) (content_of h v.lines v.tail v.open_end) (kept_lines h.folded v.lines)

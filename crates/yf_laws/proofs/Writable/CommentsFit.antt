@@ -24,7 +24,7 @@ use Rattle.yf_laws.proofs.Texts.HighBytes.{AllHigh, all_high}
 use Rattle.yf_chars.proofs.CharBounds.{nb_below}
 use Rattle.yf_chars.proofs.CharFacts.{hash_no_white}
 
--- Bytes of characters that are no ASCII are no white space.
+-- Bytes of characters outside ASCII are not white space.
 
 abbrev NoWhites : List ℕ → Type 0
 NoWhites [] = Unit {0}
@@ -48,7 +48,7 @@ trimmed_past (b ∷ x) y n =
     let first : (is_white b && list_all is_white (x ++ y)) ≡ false = ap (λ p. p && list_all is_white (x ++ y)) n.0 in
     ap (λ p. if p then [] else b ∷ trimmed (x ++ y)) first ∙ ap (λ w. b ∷ w) (trimmed_past x y n.1)
 
--- characters of a line whose bytes are these
+-- characters of a line with these bytes
 record LineChars (w : List ℕ) : Type 0 where
   chars : List ℕ
   bytes : encodes chars ≡ w

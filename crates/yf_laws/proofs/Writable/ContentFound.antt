@@ -1,4 +1,5 @@
--- Where the content of a node was derived to begin is where it is found by the bytes of its properties and of what separates it from them.
+-- The derived start of a node's content is the one found from the bytes of its properties and of the separation after
+-- them.
 use Rattle.std.proofs.Common.{◌≡◌, ◌≢◌, ℕ, ℤ, ◌+◌, ◌-◌, ◌<◌, ◌≤◌, Bool, true, false, List, length, drop, get_or, Some, refl, sym, ap, ◌∙◌, subst, ⊎_elim, arith}
 use Rattle.std.specs.Prelude.{◌==◌, if◌then◌else◌, slice_range}
 use Rattle.std.specs.Str.{IsUtf8}
@@ -31,7 +32,7 @@ use Rattle.yf_forms.proofs.Texts.GapLemmas.{gap_none, gap_over, past_gap_is}
 use Rattle.yf_laws.proofs.Writable.GapPasses.{gap_left, separate_pass}
 use Rattle.yf_laws.proofs.Texts.HighBytes.{high_there}
 
--- A byte with which no gap goes on.
+-- A byte that ends a gap.
 
 record Stops (t : List ℕ) (k : ℕ) : Type 0 where
   within : k < length t
@@ -209,7 +210,7 @@ module _ {t : List ℕ} (u : IsUtf8 t) where
       (gap_to b r (sign_stops o 33 sign signs_begin.1) (omega (arith, l, d, later)))
       ∙ after_second t o b g k p.props (property_is t o g p.props last (omega (arith, within, d))) last.1 (gap_to b s stops l)
 
-  -- the place where content begins is the one that is found
+  -- the offset at which the content begins is the one that is found
   pub content_found : {a k : ℕ} {props : PropsValue} (b : ℕ) → ContentFrom t props a k → k < b → content_start t (record { start = a; end = b }) props ≡ k
   content_found {a = a} b content_alone l = after_none t a b no_props (nothing_written t a)
   content_found {k = k} b (content_after p s e) l = after_properties b p s (content_visible e) (content_no_anchor (code t k) e) (content_no_tag (code t k) e) l

@@ -38,7 +38,7 @@ use Rattle.yf_laws.specs.Layouts.FitDocuments.{is_apart, DirectiveAt, FitDirecti
 use Rattle.yf_print.specs.Layouts.Rows.{joined_words}
 use Rattle.yf_chars.proofs.CharFacts.{space_nb}
 
--- What words are made of.
+-- The parts of words.
 
 -- a first character that begins no comment
 abbrev NoHash : List ℕ → Type 0
@@ -70,7 +70,7 @@ pub data AreWords (name : List ℕ) : List (List ℕ) → Type 0 where
   tag_words : {h w : List ℕ} → name ≡ codes "TAG" → IsHandle h → IsPrefix w → AreWords name (h ∷ w ∷ [])
   other_words : {ws : List (List ℕ)} → name ≢ codes "YAML" → name ≢ codes "TAG" → AreParameters ws → AreWords name ws
 
--- They are found where words are read.
+-- They are found by reading words.
 
 digit_below : (c : ℕ) → is_digit c ≡ true → c < no_char
 unfolding is_digit is_between
@@ -221,7 +221,7 @@ words_follow : (ws : List (List ℕ)) {r : List ℕ} → Follows is_apart r → 
 words_follow [] f = f
 words_follow (w ∷ ws) f = byte_follows (omega arith) refl
 
--- a place is known from what is from there on
+-- the rest of a text determines its offset
 place_back : {t r : List ℕ} {p q : ℕ} → IsAt t p r → IsAt t q r → p ≡ q
 place_back {t} {r} {p} {q} a b =
     let first : length (drop p t) ≡ length r = ap length a.bytes in

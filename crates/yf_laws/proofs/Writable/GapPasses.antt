@@ -29,7 +29,8 @@ use Rattle.yf_forms.specs.Nodes.ContentStart.{gap_len}
 use Rattle.yf_forms.proofs.Texts.GapLemmas.{gap_comment, gap_feed, gap_more, gap_return, gap_sign, gap_space, gap_tab}
 use Rattle.yf_laws.proofs.Texts.HighBytes.{high_there}
 
--- how many bytes of the gap are left from a place on, which is in a comment or not; end: where the part of the text ends
+-- the number of bytes of the gap that are left from an offset on, which is in a comment or not; end: the end of the
+-- part of the text
 abbrev pub gap_left : List ℕ → ℕ → ℕ → Bool → ℕ
 gap_left t end i k = gap_len k (drop i (take (min end (length t)) t))
 
@@ -53,7 +54,7 @@ real : (c : ℕ) → is_nb_char c ≡ true → c < 0x110000
 unfolding is_nb_char is_printable is_between is_break_char
 real c e = grind (arith, nat_tests)
 
--- stop: the place up to which it goes
+-- stop: the offset at which it ends
 module _ {t : List ℕ} (u : IsUtf8 t) (end stop : ℕ) (low : stop < end) (within : stop < length t) where
   one_byte : (i : ℕ) (k d : Bool) → i < stop → ((bs : List ℕ) → gap_len k (get_or t i 0 ∷ bs) ≡ suc (gap_len d bs)) → Passes t end i k (i + 1) d
   one_byte i k d l f = λ m q. gap_more t end i m k d (omega (arith, l, low, within)) q f

@@ -1,4 +1,4 @@
--- Leaves on one line that read back: plain and quoted scalars, aliases, and properties alone.
+-- Leaves on one line that read back: plain and quoted scalars, aliases, and nodes that have only properties.
 use Rattle.std.proofs.Common.{◌≡◌, ◌≢◌, ℕ, ◌+◌, ◌<◌, ◌≤◌, Bool, true, false, true≢false, List, [], ◌∷◌, ◌++◌, length, flat_map, Option, None, refl, sym, ap, ◌∙◌, subst, arith, encode_utf8_all}
 use Rattle.std.specs.Prelude.{is_some}
 use Rattle.std.specs.Str.{IsUtf8, chars}

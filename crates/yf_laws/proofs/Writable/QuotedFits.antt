@@ -18,7 +18,7 @@ use Rattle.yf_laws.specs.Layouts.ReadableTrees.{InlineNode, FitProps, no_fit_pro
 use Rattle.yf_forms.specs.Nodes.ScalarStyles.{quoted_in, style_in}
 use Rattle.yf_laws.proofs.Writable.LeafFits.{single_inline, single_with_inline, double_inline, double_with_inline}
 
--- in single quotes, where they can hold the text, and in double ones
+-- in single quotes, if they can hold the text, and in double quotes
 pub single_fits : (house : Style) {c : Ctx} {at : NodeOffsets} {p : PropsValue} {text : List ℕ} → is_block c ≡ false
     → is_some at.span ≡ true → FitProps p → IsUtf8 text → all_nb (chars text) ≡ true
     → InlineNode house c (scalar at p Single text [])
@@ -31,7 +31,7 @@ pub double_fits : (house : Style) {c : Ctx} {at : NodeOffsets} {p : PropsValue} 
 double_fits house k e no_fit_props u = double_inline house k e u
 double_fits house k e (some_fit_props props some) u = double_with_inline house k e props some u
 
--- single quotes are chosen for texts alone that they can hold
+-- single quotes are chosen only for texts that they can hold
 single_by : (cs : List ℕ) (q : Quotes) → quotes_for cs q ≡ Quotes.Single → all_nb cs ≡ true
 single_by cs Quotes.Single e = nb_chosen cs e
 single_by cs Quotes.Double e = absurd (apart e) where

@@ -64,13 +64,13 @@ no_lines : (q : Quotes) (lines : List (List ℕ)) → lines_in (style_in q) line
 no_lines Quotes.Single lines = refl
 no_lines Quotes.Double lines = refl
 
--- in quotes, where none of its lines are kept
+-- in quotes, if none of its lines are kept
 quoted_inline : {c : Ctx} {at : NodeOffsets} {p : PropsValue} {text : List ℕ} (q : Style) (lines : List (List ℕ)) → is_block c ≡ false → is_some at.span ≡ true
     → FitProps p → IsUtf8 text → InlineNode q c (scalar at p (quoted_in text q) text (lines_in (quoted_in text q) lines))
 quoted_inline {c} {at} {p} {text} q lines k e f u =
     subst (λ ls. InlineNode q c (scalar at p (quoted_in text q) text ls)) (sym (no_lines (quotes_in q.invisible (chars text) q.quotes) lines)) (quoted_fits q k e f u)
 
--- plain where that stays so, and quoted else
+-- plain if it stays plain, otherwise quoted
 plain_inline : {b : Bool} {c : Ctx} {at : NodeOffsets} {p : PropsValue} {text : List ℕ} (q : Style) (lines : List (List ℕ)) → is_block c ≡ false
     → (is_inside c ≡ true → b ≡ true) → is_some at.span ≡ true → FitProps p → IsUtf8 text → ReadPlain b text
     → InlineNode q c (scalar at p (wanted Plain text q) text (lines_in (wanted Plain text q) lines))

@@ -1,4 +1,4 @@
--- The trees that the parts of a production mean make up the tree that it means, and what is known of their texts is known of it.
+-- The trees of the parts of a production make up the tree that it means, and the facts about their texts hold for it.
 use Rattle.std.proofs.Common.{◌≡◌, ◌≢◌, ℕ, suc, max, ◌≤◌, Bool, true, false, List, [], ◌∷◌, ◌++◌, Option, Some, None, refl, sym, ap, ◌∙◌, subst, arith, append_assoc, append-nil}
 use Rattle.std.specs.Prelude.{is_some, ◌||◌}
 use Rattle.yf_comments.specs.Comment.{CommentValue}
@@ -15,7 +15,7 @@ use Rattle.yf_grammar.proofs.NodesInText.MeantLemmas.{entered, entered_events}
 use Rattle.yf_laws.specs.Layouts.ReadableTrees.{no_fit_props, some_fit_props}
 use Rattle.yf_laws.proofs.Writable.ReadTrees.{ReadNode, read_nothing, read_props, read_scalar, read_alias, read_sequence, read_mapping, ReadItems, read_no_items, read_item, ReadPairs, read_no_pairs, read_pair}
 
--- with so many collections open at once at most
+-- with at most h collections open at once
 pub record NodeRead (h : ℕ) (b : Bool) (x : Meaning) : Type 0 where
   pub node : Node
   pub low : tall node ≤ h

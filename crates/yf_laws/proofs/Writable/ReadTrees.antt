@@ -1,5 +1,5 @@
--- Trees as they are read: what is known of the text of each node from how it was derived. The flag says whether a node is within a
--- flow collection.
+-- Trees as they are read: facts about the text of each node from its derivation. The flag says whether a node is within
+-- a flow collection.
 use Rattle.std.specs.Prelude.{◌≡◌, ◌≢◌, ℕ, Bool, true, false, is_some, ◌||◌, List, []}
 use Rattle.std.specs.Str.{IsUtf8}
 use Rattle.yf_chars.specs.declared.context.Ctx.{Ctx}
@@ -14,7 +14,8 @@ use Rattle.yf_events.specs.Tree.{NodeOffsets, Node, scalar, alias, sequence, map
 use Rattle.yf_laws.specs.Layouts.ReadableTrees.{FitProps, FitScalar}
 use Rattle.yf_forms.specs.Nodes.ScalarStyles.{has_block_content}
 
--- the text of a plain scalar: where it is steady, it is one on one line outside of flow collections, and in them where it comes from one
+-- the text of a plain scalar: if it is steady, it is a plain text on one line outside of flow collections, and inside
+-- them if it comes from one
 pub record ReadPlain (inside : Bool) (text : List ℕ) : Type 0 where
   pub stays : (c : Ctx) → is_block c ≡ false → (is_inside c ≡ true → inside ≡ true) → is_steady text ≡ true → IsPlain c text
 

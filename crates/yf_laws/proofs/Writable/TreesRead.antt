@@ -1,4 +1,5 @@
--- The trees of a reading are trees as they are read, so the documents of its normal form can be laid out and are read again.
+-- The trees of a reading are trees as they are read, so the documents of its normal form can be laid out and are read
+-- again.
 use Rattle.std.proofs.Common.{◌≡◌, ℕ, ◌+◌, ◌≤◌, Bool, true, false, List, [], map, sym, ◌∙◌, subst, append-nil, ap, refl, true≢false, ◌∷◌}
 use Rattle.std.specs.Str.{IsUtf8}
 use Rattle.yf_comments.specs.Comment.{CommentValue}
@@ -27,7 +28,7 @@ use Rattle.std.specs.Prelude.{is_some, not}
 use Rattle.yf_laws.proofs.NormalForms.NormalSame.{root_same}
 use Rattle.yf_laws.proofs.Derived.SpannedNodes.{has_span, spanned, spanned_node, alike_spanned}
 
--- What is read of a tree is so of each one alike.
+-- The facts about the reading of a tree hold for each tree alike.
 
 mutual
   pub read_alike : {K : Node → Node → Node → Node → Type 0} {b : Bool} {x y : Node} → Alike K x y → ReadNode b x → ReadNode b y
@@ -52,7 +53,7 @@ abbrev pub first_unmarked : List Document → Bool
 first_unmarked [] = false
 first_unmarked (d ∷ ds) = not d.marked
 
--- what is known of a document that is derived
+-- the facts about a derived document
 pub record DocumentRead (h : ℕ) (d : Document) : Type 0 where
   pub node : Node
   pub low : tall node ≤ h
@@ -62,7 +63,7 @@ pub record DocumentRead (h : ℕ) (d : Document) : Type 0 where
   -- without a `---` it has no directives, and its node has characters
   pub bare : d.marked ≡ false → (d.directives ≡ []) × (is_some (standing node).span ≡ true)
 
--- events are those of one tree at most
+-- events are those of at most one tree
 pub same_node : {es : List EventInText} {x y : Node} → es ≡ flat x → es ≡ flat y → x ≡ y
 same_node {x = x} {y = y} e f = (node_unique x y [] [] (append-nil (flat x) ∙ (sym e ∙ (f ∙ sym (append-nil (flat y)))))).0
 
@@ -92,7 +93,7 @@ module _ {t : List ℕ} (u : IsUtf8 t) where
       let read : ReadNode false x = subst (λ w. ReadNode false w) (same_node d.events e) d.read in
       fit_document d.directives (read_fits s c (root_margins c.style) (read_alike b read)) (documents_fit s c more others)
 
-  -- the first of them, where it has no `---`
+  -- the first of them, if it has no `---`
   first_bare : {h : ℕ} {ds : List Document} {trees : List DocumentTree} (s : List ℕ) (c : LayoutSetting) (b : Bool) → (b ≡ true → first_unmarked ds ≡ true) → DocumentsDerived t h ds → TreesMeant ds trees
       → FitsBare b (map doc_of ds) (map (normal_document s c) trees)
   first_bare s c false f d m = fits_marked
